@@ -1,2 +1,10 @@
 pub mod Plain
 pub mod Views
+pub mod Tokens
+pub mod Grammar
+pub mod Expressions
+pub mod Syntax
+pub mod Heights
+pub mod Readings
+pub mod Machine
+pub mod Productions

@@ -3,10 +3,12 @@
 
 mod expression;
 mod fault;
+mod parsing;
 mod tree;
 
 pub use expression::{BinaryOperator, Expression, Identifier, UnaryOperator};
 pub use fault::ParseFault;
+pub use parsing::parse;
 pub use tree::{
     Action, Assignment, Block, Constant, Declaration, End, Entity, Group, InputPart, Literal,
     NextState, Party, Path, Process, Route, SignalDeclaration, Sort, Start, StateClause, StatePart,
