@@ -131,3 +131,38 @@ pub ◌>>=◌ : {A B : Type 0} {g : Grammar A} {h : A → Grammar B} {p : At A} 
   sound = λ ts y us e. bind_sound g h p q dp dq ts y us (p ts) refl e;
   complete = λ ts y us t. ap (λ r. then_read r q) (dp.complete ts t.value t.between t.before) ∙ (dq t.value).complete t.between y us t.after;
 }
+
+choice_seen : {A B : Type 0} (f : Token → Option B) (p q : At A) (ts : List Token) (b : Bool) → begins f ts ≡ b
+  → Seen p ts → Seen q ts → Seen (choice f p q) ts
+choice_seen f p q ts true e s t = record {
+  result = s.result; is = ap (λ b. either b p q ts) e ∙ s.is; front = s.front; parts = s.parts;
+  again = λ us h.
+    ap (λ b. either b p q (s.front ++ us)) (begins-first f _ _ (first-append s.front us (rest_of s.result) ts s.parts h) ∙ e) ∙ s.again us h;
+}
+choice_seen f p q ts false e t s = record {
+  result = s.result; is = ap (λ b. either b p q ts) e ∙ s.is; front = s.front; parts = s.parts;
+  again = λ us h.
+    ap (λ b. either b p q (s.front ++ us)) (begins-first f _ _ (first-append s.front us (rest_of s.result) ts s.parts h) ∙ e) ∙ s.again us h;
+}
+
+choice_sound : {A : Type 0} (g h : Grammar A) (p q : At A) → Decides g p → Decides h q → (ts : List Token) (x : A) (us : List Token) (b : Bool)
+  → either b p q ts ≡ read x us → MatchBool b (g ts x us) (h ts x us)
+choice_sound g h p q dp dq ts x us true e = dp.sound ts x us e
+choice_sound g h p q dp dq ts x us false e = dq.sound ts x us e
+
+choice_complete : {A : Type 0} (g h : Grammar A) (p q : At A) → Decides g p → Decides h q → (ts : List Token) (x : A) (us : List Token) (b : Bool)
+  → MatchBool b (g ts x us) (h ts x us) → either b p q ts ≡ read x us
+choice_complete g h p q dp dq ts x us true m = dp.complete ts x us m
+choice_complete g h p q dp dq ts x us false m = dq.complete ts x us m
+
+pub choice_decides : {A B : Type 0} {g h : Grammar A} {p q : At A} (f : Token → Option B) → Decides g p → Decides h q
+  → Decides (grammar.choice f g h) (choice f p q)
+choice_decides {A} {B} {g} {h} {p} {q} f dp dq = record {
+  looks = λ ts. choice_seen f p q ts (begins f ts) refl (dp.looks ts) (dq.looks ts);
+  sound = λ ts x us e. choice_sound g h p q dp dq ts x us (begins f ts) e;
+  complete = λ ts x us m. choice_complete g h p q dp dq ts x us (begins f ts) m;
+}
+
+pub optional_decides : {A B : Type 0} {g : Grammar A} {p : At A} (f : Token → Option B) → Decides g p
+  → Decides (grammar.optional f g) (reading.optional f p)
+optional_decides f dp = choice_decides f (dp >>= λ x. give_decides (Some x)) (give_decides None)

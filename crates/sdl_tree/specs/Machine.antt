@@ -123,15 +123,14 @@ unfoldable pub turn : Build → State → Sign → Turn
 turn b (wants ls l) s = want_turn ls l s
 turn b (has ls l x) s = have_turn b ls l x s
 
--- where no token is left
-abbrev pub end_of : Turn → Reading Tree
-end_of (goes s) = fails []
-end_of (done x) = read x []
-end_of stuck = fails []
+abbrev pub after_turn : Turn → (State → Reading Tree) → List Token → Reading Tree
+after_turn (goes s) go_on ts = go_on s
+after_turn (done x) go_on ts = read x ts
+after_turn stuck go_on ts = fails ts
 
 unfoldable pub run : Build → State → List Token → Reading Tree
-run b s [] = end_of (turn b s other)
-run b s (t ∷ ts) = elim (turn b s (sign t)) [ goes s' ↦ run b s' ts | done x ↦ read x (t ∷ ts) | stuck ↦ fails (t ∷ ts) ]
+run b s [] = after_turn (turn b s other) (λ _. fails []) []
+run b s (t ∷ ts) = after_turn (turn b s (sign t)) (λ s'. run b s' ts) (t ∷ ts)
 
 unfoldable pub expression_at : Build → At Tree
 expression_at b = λ ts. run b (wants [] (empty_frame 0)) ts
