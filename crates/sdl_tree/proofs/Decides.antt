@@ -5,7 +5,7 @@ use Rattle.sdl_lex.specs.declared.lexemes.Token.{Token}
 use Rattle.sdl_tree.specs.Tokens.{begins}
 use Rattle.sdl_tree.specs.Grammar as grammar
 use Rattle.sdl_tree.specs.Grammar.{Grammar, Gives, Takes, Then, Many, no_more, one_more}
-use Rattle.sdl_tree.specs.Readings.{Reading, read, fails, At, then_read, stands_for, either, many_for, many, choice, give, token, prepend}
+use Rattle.sdl_tree.specs.Readings.{Reading, read, fails, At, then_read, stands_for, either, many_for, many, choice, give, token, prepend, Shortens}
 use Rattle.sdl_tree.specs.Readings as reading
 
 abbrev pub first : List Token → Option Token
@@ -32,10 +32,6 @@ pub record Decides {A : Type 0} (g : Grammar A) (p : At A) : Type 0 where
   pub looks : (ts : List Token) → Seen p ts
   pub sound : (ts : List Token) (x : A) (us : List Token) → p ts ≡ read x us → g ts x us
   pub complete : (ts : List Token) (x : A) (us : List Token) → g ts x us → p ts ≡ read x us
-
--- what is read takes at least one token
-abbrev pub Shortens : {A : Type 0} → At A → Type 0
-Shortens {A} p = (ts : List Token) (x : A) (us : List Token) → p ts ≡ read x us → length us < length ts
 
 pub first-append : (f us rest vs : List Token) → vs ≡ f ++ rest → first us ≡ first rest → first (f ++ us) ≡ first vs
 first-append [] us rest vs e h = h ∙ ap first (sym e)

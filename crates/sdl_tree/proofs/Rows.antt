@@ -5,9 +5,9 @@ use Rattle.sdl_lex.specs.declared.lexemes.Symbol.TheVariants.{Open, Close, Comma
 use Rattle.sdl_tree.specs.Tokens.{begins, a_symbol}
 use Rattle.sdl_tree.specs.Grammar as grammar
 use Rattle.sdl_tree.specs.Grammar.{Grammar, Many, no_more, one_more}
-use Rattle.sdl_tree.specs.Readings.{Reading, read, fails, At, then_read, stands_for, either, many_for, many, choice, give, token, prepend}
+use Rattle.sdl_tree.specs.Readings.{Reading, read, fails, At, then_read, stands_for, either, many_for, many, choice, give, token, prepend, Shortens}
 use Rattle.sdl_tree.specs.Readings as reading
-use Rattle.sdl_tree.proofs.Decides.{first, rest_of, with_rest, Seen, Decides, Shortens, first-append, begins-first, give_decides, token_decides, ◌>>=◌, choice_decides}
+use Rattle.sdl_tree.proofs.Decides.{first, rest_of, with_rest, Seen, Decides, first-append, begins-first, give_decides, token_decides, ◌>>=◌, choice_decides}
 
 pub shortens_token : {A : Type 0} (f : Token → Option A) → Shortens (token f)
 shortens_token f [] x us h = cc
@@ -153,15 +153,30 @@ cons-prepend : {A : Type 0} (x : A) (r : Reading (List A)) → cons_read x r ≡
 cons-prepend x (read xs us) = refl
 cons-prepend x (fails us) = refl
 
-pub many_goes : {A B : Type 0} (f : Token → Option B) (p : At A) (ts : List Token) (x : A) (us : List Token) → Shortens p → ((ts : List Token) → Seen p ts)
+-- turns beyond the number of tokens change nothing
+many_enough : {A B : Type 0} (f : Token → Option B) (p : At A) → Shortens p → (n m : ℕ) (ts : List Token) → length ts < n → length ts < m → many_for f p n ts ≡ many_for f p m ts
+many_enough f p sp zero m ts h k = absurd (omega arith)
+many_enough f p sp (suc n) zero ts h k = absurd (omega arith)
+many_enough f p sp (suc n) (suc m) ts h k = by_begin f p sp n m ts h k (begins f ts) refl (λ us a b. many_enough f p sp n m us a b)
+  where
+  by_item : {A B : Type 0} (f : Token → Option B) (p : At A) → Shortens p → (n m : ℕ) (ts : List Token) → length ts < suc n → length ts < suc m
+    → ((us : List Token) → length us < n → length us < m → many_for f p n us ≡ many_for f p m us)
+    → (r : Reading A) → p ts ≡ r → then_read r (λ x us. cons_read x (many_for f p n us)) ≡ then_read r (λ x us. cons_read x (many_for f p m us))
+  by_item f p sp n m ts h k ih (fails us) e = refl
+  by_item f p sp n m ts h k ih (read x us) e = let less : length us < length ts = sp ts x us e in ap (cons_read x) (ih us (omega arith) (omega arith))
+  by_begin : {A B : Type 0} (f : Token → Option B) (p : At A) → Shortens p → (n m : ℕ) (ts : List Token) → length ts < suc n → length ts < suc m → (b : Bool) → begins f ts ≡ b
+    → ((us : List Token) → length us < n → length us < m → many_for f p n us ≡ many_for f p m us) → many_for f p (suc n) ts ≡ many_for f p (suc m) ts
+  by_begin f p sp n m ts h k false e ih = many_none f p n ts e ∙ sym (many_none f p m ts e)
+  by_begin f p sp n m ts h k true e ih = many_one f p n ts e ∙ by_item f p sp n m ts h k ih (p ts) refl ∙ sym (many_one f p m ts e)
+
+pub many_goes : {A B : Type 0} (f : Token → Option B) (p : At A) (ts : List Token) (x : A) (us : List Token) → Shortens p
   → begins f ts ≡ true → p ts ≡ read x us → many f p ts ≡ prepend (x ∷ []) (many f p us)
 unfolding many
-many_goes f p ts x us sp lp e h =
+many_goes f p ts x us sp e h =
   let less : length us < length ts = sp ts x us h in
-  let s = row_seen f p (suc (length us)) us (omega arith) sp lp in
   many_one f p (length ts) ts e
   ∙ ap (λ r. then_read r (λ x us. then_read (many_for f p (length ts) us) (λ xs vs. read (x ∷ xs) vs))) h
-  ∙ ap (cons_read x) (s.is (length ts) less ∙ sym (s.is (suc (length us)) (omega arith)))
+  ∙ ap (cons_read x) (many_enough f p sp (length ts) (suc (length us)) us less (omega arith))
   ∙ cons-prepend x (many_for f p (suc (length us)) us)
 
 rest_sound : {A B : Type 0} (f : Token → Option B) (g : Grammar A) (ts us : List Token) (x : A) (r : Reading (List A)) (zs : List A) (vs : List Token)
@@ -199,7 +214,7 @@ many_complete : {A B : Type 0} (f : Token → Option B) (g : Grammar A) (p : At 
   → Many f g ts xs us → many f p ts ≡ read xs us
 many_complete f g p d sp ts xs us (no_more _ e) = many_stops f p ts e
 many_complete f g p d sp ts xs us (one_more _ vs _ x ys e gx rest) =
-  many_goes f p ts x vs sp d.looks e (d.complete ts x vs gx) ∙ ap (prepend (x ∷ [])) (many_complete f g p d sp vs ys us rest)
+  many_goes f p ts x vs sp e (d.complete ts x vs gx) ∙ ap (prepend (x ∷ [])) (many_complete f g p d sp vs ys us rest)
 
 pub many_decides : {A B : Type 0} {g : Grammar A} {p : At A} (f : Token → Option B) → Shortens p → Decides g p → Decides (grammar.many f g) (many f p)
 unfolding many

@@ -8,3 +8,4 @@ pub mod Heights
 pub mod Readings
 pub mod Machine
 pub mod Productions
+pub mod Mirrors

@@ -4,6 +4,9 @@
 mod expression;
 mod fault;
 mod parsing;
+mod production;
+mod stop;
+mod tokens;
 mod tree;
 
 pub use expression::{BinaryOperator, Expression, Identifier, UnaryOperator};
