@@ -9,3 +9,5 @@ pub mod Readings
 pub mod Machine
 pub mod Productions
 pub mod Mirrors
+pub mod Parts
+pub mod Stacks

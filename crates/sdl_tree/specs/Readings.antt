@@ -50,8 +50,16 @@ many_for f p (suc n) = λ ts. either (begins f ts) (p >>= λ x. many_for f p n >
 unfoldable pub many : {A B : Type 0} → (Token → Option B) → At A → At (List A)
 many f p = λ ts. many_for f p (suc (length ts)) ts
 
+-- , p
+abbrev pub behind_comma : {A : Type 0} → At A → At A
+behind_comma p = token (a_symbol Comma) >>= λ _. p
+
+-- {, p} behind a first thing
+abbrev pub separated_from : {A : Type 0} → A → At A → At (List A)
+separated_from x p = many (a_symbol Comma) (behind_comma p) >>= λ xs. give (x ∷ xs)
+
 abbrev pub separated : {A : Type 0} → At A → At (List A)
-separated p = p >>= λ x. many (a_symbol Comma) (token (a_symbol Comma) >>= λ _. p) >>= λ xs. give (x ∷ xs)
+separated p = p >>= λ x. separated_from x p
 
 abbrev pub list_in_parentheses : {A : Type 0} → At A → At (List A)
 list_in_parentheses p = choice (a_symbol Open)

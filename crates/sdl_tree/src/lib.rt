@@ -3,7 +3,10 @@
 
 mod expression;
 mod fault;
+mod operands;
+mod operators;
 mod parsing;
+mod part;
 mod production;
 mod stop;
 mod tokens;

@@ -10,7 +10,7 @@ use crate::tree::{Constant, Literal, Party, Sort};
 use sdl_lex::{Lexeme, Name, Symbol, Token, Word};
 
 /// The greatest number that a token may be.
-const MAX_NUMBER: u32 = 2147483647;
+pub(crate) const MAX_NUMBER: u32 = 2147483647;
 
 fn is_same_word(found: Word, wanted: Word) -> bool
     ensures { result ≡ same_word found wanted }
