@@ -3,7 +3,7 @@ use Rattle.std.proofs.Common.{◌≡◌, ℕ, ◌<◌, ◌≤◌, Bool, true, fa
 use Rattle.sdl_lex.specs.declared.lexemes.Token.{Token}
 use Rattle.sdl_lex.specs.declared.lexemes.Symbol.TheVariants.{Comma}
 use Rattle.sdl_tree.specs.Tokens.{begins, a_symbol}
-use Rattle.sdl_tree.specs.Readings.{Reading, read, fails, At, then_read, stands_for, many, token, give, prepend, Shortens, behind_comma, separated_from}
+use Rattle.sdl_tree.specs.Readings.{Reading, read, fails, At, then_read, stands_for, many, token, give, prepend, Shortens, NeverLonger, behind_comma, separated_from}
 use Rattle.sdl_tree.specs.Mirrors.{Stops}
 use Rattle.sdl_tree.specs.declared.stop.Stop.{Stop}
 use Rattle.sdl_tree.specs.declared.stop.Stop.TheVariants.{Unexpected, NoMemory}
@@ -43,14 +43,14 @@ separated_begins {A} x p ts = by_reading (many (a_symbol Comma) (behind_comma p)
   by_reading (read xs us) = refl
   by_reading (fails us) = refl
 
-pub shortens_behind_comma : {A : Type 0} (p : At A) → Shortens p → Shortens (behind_comma p)
+pub shortens_behind_comma : {A : Type 0} (p : At A) → NeverLonger p → Shortens (behind_comma p)
 shortens_behind_comma p sp ts y us h = by_comma (token (a_symbol Comma) ts) refl h
   where
   by_comma : (r : Reading ℕ) → token (a_symbol Comma) ts ≡ r → then_read r (λ _. p) ≡ read y us → length us < length ts
   by_comma (fails vs) e h = cc
   by_comma (read x vs) e h =
     let a : length vs < length ts = shortens_token (a_symbol Comma) ts x vs e in
-    let b : length us < length vs = sp vs y us h in
+    let b : length us ≤ length vs = sp vs y us h in
     omega arith
 
 -- a thing that doesn't read ends its row

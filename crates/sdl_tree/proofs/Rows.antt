@@ -17,7 +17,7 @@ shortens_token f (t ∷ ts) x us h = by_answer (f t) t ts x us h
   by_answer None t ts x us h = cc
   by_answer (Some y) t ts x us h = let same : ts ≡ us = cc in subst (λ vs. length vs < length (t ∷ ts)) same (omega arith)
 
-rest_shorter : {A : Type 0} (p : At A) (ts : List Token) → Seen p ts → (x : A) (us : List Token) → p ts ≡ read x us → length us ≤ length ts
+pub rest_shorter : {A : Type 0} (p : At A) (ts : List Token) → Seen p ts → (x : A) (us : List Token) → p ts ≡ read x us → length us ≤ length ts
 rest_shorter p ts s x us h =
   let e : us ≡ rest_of s.result = ap rest_of (sym h ∙ s.is) in
   let parts : ts ≡ s.front ++ us = s.parts ∙ ap (λ vs. s.front ++ vs) (sym e) in

@@ -1,5 +1,5 @@
 -- Reading with one token of sight: what a list of tokens reads as, and where a reading stops.
-use Rattle.std.specs.Prelude.{◌≡◌, ℕ, Bool, true, false, List, [], ◌∷◌, ◌++◌, Option, Some, None, length, suc, zero, ◌<◌}
+use Rattle.std.specs.Prelude.{◌≡◌, ℕ, Bool, true, false, List, [], ◌∷◌, ◌++◌, Option, Some, None, length, suc, zero, ◌<◌, ◌≤◌}
 use Rattle.sdl_lex.specs.declared.lexemes.Token.{Token}
 use Rattle.sdl_lex.specs.declared.lexemes.Symbol.TheVariants.{Open, Close, Comma}
 use Rattle.sdl_tree.specs.Tokens.{begins, a_symbol}
@@ -74,3 +74,7 @@ prepend xs (fails us) = fails us
 -- what is read takes at least one token
 abbrev pub Shortens : {A : Type 0} → At A → Type 0
 Shortens {A} p = (ts : List Token) (x : A) (us : List Token) → p ts ≡ read x us → length us < length ts
+
+-- what is left is no longer
+abbrev pub NeverLonger : {A : Type 0} → At A → Type 0
+NeverLonger {A} p = (ts : List Token) (x : A) (us : List Token) → p ts ≡ read x us → length us ≤ length ts

@@ -10,7 +10,13 @@ use Rattle.sdl_tree.specs.declared.operands.Turn.TheVariants as turns
 use Rattle.sdl_tree.specs.declared.part.Part.{Part}
 use Rattle.sdl_tree.specs.Plain.{Tree, number, variable}
 use Rattle.sdl_tree.specs.Expressions.{Sign, leaf, plus, minus, star, opens, closes, other, sign}
-use Rattle.sdl_tree.specs.Machine.{Frame, State, wants, has, Turn, goes, done, stuck}
+use Rattle.std.specs.Prelude.{Result, Ok, Err}
+use Rattle.sdl_tree.specs.declared.operands.Step as the_step
+use Rattle.sdl_tree.specs.declared.operands.Step.TheVariants as steps
+use Rattle.sdl_tree.specs.declared.stop.Stop.{Stop}
+use Rattle.sdl_tree.specs.Readings.{read}
+use Rattle.sdl_tree.specs.Mirrors.{Stops}
+use Rattle.sdl_tree.specs.Machine.{run, low_trees, Frame, State, wants, has, Turn, goes, done, stuck}
 use Rattle.sdl_tree.specs.Parts.{product_view, sum_view}
 use Rattle.sdl_tree.specs.Views.{tree_of}
 
@@ -45,3 +51,9 @@ abbrev pub turn_view : the_turn.Turn → Turn
 turn_view (turns.Goes s) = goes (state_view s)
 turn_view (turns.Done p) = done (tree_of p.tree)
 turn_view turns.Stuck = stuck
+
+-- what one token makes of a state in front of some tokens
+abbrev pub Advances : Result the_step.Step Stop → State → List Token → Type 0
+Advances (Ok (steps.Goes s after)) before ts = (run low_trees before ts ≡ run low_trees (state_view s) after.now) × (length after.now < length ts)
+Advances (Ok (steps.Done e)) before ts = run low_trees before ts ≡ read (tree_of e) ts
+Advances (Err stop) before ts = Stops stop (run low_trees before ts)

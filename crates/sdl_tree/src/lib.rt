@@ -1,6 +1,8 @@
 //! The grammar of SDL process texts: from the tokens of a text to its syntax tree.
 #![tactic(auto)]
 
+mod blocks;
+mod declarations;
 mod expression;
 mod fault;
 mod operands;
@@ -10,6 +12,7 @@ mod part;
 mod production;
 mod stop;
 mod tokens;
+mod transitions;
 mod tree;
 
 pub use expression::{BinaryOperator, Expression, Identifier, UnaryOperator};

@@ -4,7 +4,7 @@ ghost use Rattle.std.specs.Prelude.{◌≡◌, ◌<◌, IfOk, length, map, rever
 ghost use Rattle.sdl_tree.specs.Expressions.{symbol_sign, lexeme_sign};
 ghost use Rattle.sdl_tree.specs.Machine.{wants, empty_frame, low_trees, closed, turn, want_turn, have_turn, close_turn, end_turn, run, expression_at, with_sum, with_product};
 ghost use Rattle.sdl_tree.specs.Mirrors.{Mirrors};
-ghost use Rattle.sdl_tree.specs.Stacks.{frame_view, stack_view, state_view, turn_view, sign_view, next_sign};
+ghost use Rattle.sdl_tree.specs.Stacks.{frame_view, stack_view, state_view, turn_view, sign_view, next_sign, Advances};
 ghost use Rattle.sdl_tree.specs.Views.{tree_of};
 
 use crate::expression::{BinaryOperator, Expression, Identifier};
@@ -272,5 +272,49 @@ fn take_turn(alloc: Global, state: State, sign: Sign) -> Result<Turn, AllocError
     match operand {
         Some(operand) => have(alloc, outer, here, operand, sign),
         None => want(outer, here, sign),
+    }
+}
+
+/// What one token of an expression makes.
+#[derive(Drop)]
+enum Step<'a> {
+    Goes(State, &'a [Token]),
+    Done(Expression),
+}
+
+/// Goes on by one token.
+#[tactic(auto, unfolding(crate::specs::Machine::run))]
+fn make_step<'a>(alloc: Global, state: State, tokens: &'a [Token]) -> Result<Step<'a>, Stop<'a>>
+    ensures { Advances result (state_view state) tokens.now }
+{
+    match take_turn(alloc, state, sign_of(tokens)) {
+        Ok(Turn::Goes(next)) => match tokens.split_first() {
+            Some((_, rest)) => Ok(Step::Goes(next, rest)),
+            None => Err(Stop::Unexpected(tokens)),
+        },
+        Ok(Turn::Done(part)) => Ok(Step::Done(part.tree)),
+        Ok(Turn::Stuck) => Err(Stop::Unexpected(tokens)),
+        Err(_) => Err(Stop::NoMemory),
+    }
+}
+
+/// Reads an expression.
+#[tactic(auto, unfolding(crate::specs::Machine::expression_at))]
+pub(crate) fn expression<'a>(
+    alloc: Global,
+    tokens: &'a [Token],
+) -> Result<(Expression, &'a [Token]), Stop<'a>>
+    ensures { Mirrors tree_of result (expression_at low_trees tokens.now) }
+{
+    let mut state = start(alloc);
+    let mut rest = tokens;
+    'steps: loop {
+        match make_step(alloc, state, rest)? {
+            Step::Goes(next, after) => {
+                state = next;
+                rest = after;
+            }
+            Step::Done(tree) => return Ok((tree, rest)),
+        }
     }
 }

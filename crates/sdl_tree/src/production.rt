@@ -1,7 +1,7 @@
 //! What can be read from tokens, alone and in rows.
 ghost use Rattle.std.specs.Prelude.{◌≡◌, ◌<◌, length, map, IfOk, Option, ℕ};
 ghost use Rattle.sdl_lex.specs.declared.lexemes.Token.{Token};
-ghost use Rattle.sdl_tree.specs.Readings.{At, Shortens, separated, many, list_in_parentheses};
+ghost use Rattle.sdl_tree.specs.Readings.{At, Shortens, NeverLonger, separated, many, list_in_parentheses};
 ghost use Rattle.sdl_tree.specs.Readings.{behind_comma, separated_from};
 ghost use Rattle.sdl_tree.specs.Tokens.{begins};
 ghost use Rattle.sdl_tree.specs.Mirrors.{Mirrors};
@@ -22,7 +22,7 @@ pub(crate) trait Production: Drop {
     fn read<'a>(alloc: Global, tokens: &'a [Token]) -> Result<(Self, &'a [Token]), Stop<'a>>
         ensures { Mirrors view result (reading tokens.now) };
 
-    ghost shortens: { Shortens reading };
+    ghost never_longer: { NeverLonger reading };
 }
 
 /// A part of the tree that may stand in a row, each with a first token that tells that one follows.
@@ -31,6 +31,8 @@ pub(crate) trait Listed: Production {
 
     fn is_next(tokens: &[Token]) -> bool
         ensures { result ≡ begins starts tokens.now };
+
+    ghost shortens: { Shortens Self.reading };
 }
 
 /// Reads a comma and one more thing.

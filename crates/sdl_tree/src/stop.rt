@@ -13,12 +13,36 @@ pub(crate) enum Stop<'a> {
     NoMemory,
 }
 
+/// What was read, or the return of what ended the reading. (`?` does the same, but isn't proved yet
+/// where the value has a name in it beside the tokens.)
+macro_rules! attempt {
+    ($reading:expr) => {
+        match $reading {
+            Ok(found) => found,
+            Err(stop) => return Err(stop),
+        }
+    };
+}
+
+pub(crate) use attempt;
+
 /// Puts an item behind the others.
 pub(crate) fn push<'a, T: Drop>(items: &mut Vec<T>, item: T) -> Result<(), Stop<'a>>
     ensures ok { OnOk result (items.new.items ≡ items.old.items ++ item ∷ []) }
     ensures err { IfErr result (λ stop. stop ≡ Stop.NoMemory) }
 {
     match items.push(item) {
+        Ok(()) => Ok(()),
+        Err(_) => Err(Stop::NoMemory),
+    }
+}
+
+/// Puts further items behind the others.
+pub(crate) fn append<'a, T: Drop>(items: &mut Vec<T>, mut more: Vec<T>) -> Result<(), Stop<'a>>
+    ensures ok { OnOk result (items.new.items ≡ items.old.items ++ more.items) }
+    ensures err { IfErr result (λ stop. stop ≡ Stop.NoMemory) }
+{
+    match items.append(&mut more) {
         Ok(()) => Ok(()),
         Err(_) => Err(Stop::NoMemory),
     }

@@ -13,7 +13,7 @@ returns-in_err-item g c =
 pub rows-preserved : goal.rows-preserved
 rows-preserved g c =
   row_turn g.T.Listed.starts g.T.Production.reading g.T.Production.view _ c.rows.items.items _ c.in_ok-item.item c.rows.rest.now c.in_ok-item.after.now
-    g.met.T.Production.shortens (sym c.is_next.ensures ∙ c.rows-test.true) c.in_ok-item.ensures c.in_ok-push.ensures.ok c.rows.invariant
+    g.met.T.Listed.shortens (sym c.is_next.ensures ∙ c.rows-test.true) c.in_ok-item.ensures c.in_ok-push.ensures.ok c.rows.invariant
 
 pub returns : goal.returns
 returns g c = row_done g.T.Listed.starts g.T.Production.reading _ _ c.rows.rest.now (sym c.is_next.ensures ∙ c.rows-test.false) c.rows.invariant

@@ -16,7 +16,7 @@ returns-in_err-item g c =
 pub rows-preserved : goal.rows-preserved
 rows-preserved g c =
   row_turn (a_symbol Comma) (behind_comma g.T.Production.reading) g.T.Production.view _ c.rows.items.items _ c.in_ok-item.item c.rows.rest.now c.in_ok-item.after.now
-    (shortens_behind_comma g.T.Production.reading g.met.T.Production.shortens) (sym c.is_symbol.ensures ∙ c.rows-test.true) c.in_ok-item.ensures c.in_ok-push-2.ensures.ok c.rows.invariant
+    (shortens_behind_comma g.T.Production.reading g.met.T.Production.never_longer) (sym c.is_symbol.ensures ∙ c.rows-test.true) c.in_ok-item.ensures c.in_ok-push-2.ensures.ok c.rows.invariant
 
 pub returns : goal.returns
 returns g c = row_done (a_symbol Comma) (behind_comma g.T.Production.reading) _ _ c.rows.rest.now (sym c.is_symbol.ensures ∙ c.rows-test.false) c.rows.invariant
