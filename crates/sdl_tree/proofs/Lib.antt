@@ -6,3 +6,6 @@ pub mod MachineLemmas
 pub mod TextDecides
 pub mod SyntaxDecides
 pub mod Lowering
+pub mod HeightLemmas
+pub mod LowHeights
+pub mod ParseLemmas

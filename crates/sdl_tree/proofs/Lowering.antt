@@ -89,7 +89,7 @@ lowered_turn (goes s) = goes (lowered_state s)
 lowered_turn (done x) = done (lowered x)
 lowered_turn stuck = stuck
 
-pub mapped : {A B : Type 0} → (A → B) → Reading A → Reading B
+unfoldable pub mapped : {A B : Type 0} → (A → B) → Reading A → Reading B
 mapped f (read x us) = read (f x) us
 mapped f (fails us) = fails us
 
@@ -143,16 +143,11 @@ low_want ls l closes = refl
 low_want ls l other = refl
 
 low_close : (ls : List Frame) (l : Frame) (x : Tree) → close_turn low_trees (lowered_frames ls) (lowered_frame l) (lowered x) ≡ lowered_turn (close_turn whole_trees ls l x)
-unfolding lowered_turn lowered_state lowered_frames
+unfolding lowered_turn lowered_state lowered_frames lowered_frame
 low_close [] l x = ap done (low_closed l x)
 low_close (o ∷ ls) l x =
-  ap (λ z. goes (has (lowered_frames ls) (lowered_frame o) (placed (lowered_frame l).opened z))) (low_closed l x)
-  ∙ ap (λ z. goes (has (lowered_frames ls) (lowered_frame o) z)) (opened_same l (closed whole_trees l x))
-  where
-  opened_same : (l : Frame) (z : Tree) → placed (lowered_frame l).opened (lowered z) ≡ lowered (placed l.opened z)
-  opened_same l z = same_place l z (lowered-placed l.opened z)
-  same_place : (l : Frame) (z : Tree) → lowered (placed l.opened z) ≡ placed l.opened (lowered z) → placed (lowered_frame l).opened (lowered z) ≡ lowered (placed l.opened z)
-  same_place l z e = sym e
+  ap (λ z. goes (has (lowered_frames ls) (lowered_frame o) (placed l.opened z))) (low_closed l x)
+  ∙ ap (λ z. goes (has (lowered_frames ls) (lowered_frame o) z)) (sym (lowered-placed l.opened (closed whole_trees l x)))
 
 low_end : (ls : List Frame) (l : Frame) (x : Tree) → end_turn low_trees (lowered_frames ls) (lowered_frame l) (lowered x) ≡ lowered_turn (end_turn whole_trees ls l x)
 unfolding lowered_turn lowered_frames
@@ -232,7 +227,7 @@ run_same (t ∷ ts) s =
   ∙ after_same (turn whole_trees s (sign t)) (λ s'. run low_trees s' ts) (λ s'. run whole_trees s' ts) (t ∷ ts) (run_same ts)
 
 -- q reads what p reads, changed by f
-pub Lowers : {A B : Type 0} → (A → B) → At A → At B → Type 0
+unfoldable pub Lowers : {A B : Type 0} → (A → B) → At A → At B → Type 0
 Lowers f p q = (ts : List Token) → q ts ≡ mapped f (p ts)
 
 expression_lowers : Lowers lowered (expression_at whole_trees) (expression_at low_trees)
@@ -289,38 +284,38 @@ separated_lowers f p p' h =
 
 -- the tree without what stands above a tree that is too high
 
-lowered_assignment : PlainAssignment → PlainAssignment
+unfoldable pub lowered_assignment : PlainAssignment → PlainAssignment
 lowered_assignment a = record { variable = a.variable; value = lowered a.value }
 
 lowered_task : PlainTask → PlainTask
 lowered_task t = record { at = t.at; assignments = map lowered_assignment t.assignments }
 
-pub lowered_text : Text → Text
+unfoldable pub lowered_text : Text → Text
 lowered_text falls = falls
 lowered_text (ends e) = ends e
 lowered_text (task at assignments rest) = task at (map lowered_assignment assignments) (lowered_text rest)
 
-lowered_input : PlainInput → PlainInput
+unfoldable pub lowered_input : PlainInput → PlainInput
 lowered_input i = record { at = i.at; stimuli = i.stimuli; text = lowered_text i.text }
 
-lowered_clause : PlainClause → PlainClause
+unfoldable pub lowered_clause : PlainClause → PlainClause
 lowered_clause (input i) = input (lowered_input i)
 
-lowered_start : PlainStart → PlainStart
+unfoldable pub lowered_start : PlainStart → PlainStart
 lowered_start s = record { at = s.at; text = lowered_text s.text }
 
-lowered_part : PlainState → PlainState
+unfoldable pub lowered_part : PlainState → PlainState
 lowered_part s = record { names = s.names; clauses = map lowered_clause s.clauses }
 
-lowered_process : PlainProcess → PlainProcess
+unfoldable pub lowered_process : PlainProcess → PlainProcess
 lowered_process p = record { name = p.name; declarations = p.declarations; start = lowered_start p.start; states = map lowered_part p.states }
 
-lowered_entity : PlainEntity → PlainEntity
+unfoldable pub lowered_entity : PlainEntity → PlainEntity
 lowered_entity (signals declared) = signals declared
 lowered_entity (route r) = route r
 lowered_entity (process p) = process (lowered_process p)
 
-pub lowered_block : PlainBlock → PlainBlock
+unfoldable pub lowered_block : PlainBlock → PlainBlock
 lowered_block b = record { name = b.name; entities = map lowered_entity b.entities }
 
 -- one part after another, of which the first stays as it is

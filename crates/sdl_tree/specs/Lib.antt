@@ -13,3 +13,4 @@ pub mod Parts
 pub mod Stacks
 pub mod Tasks
 pub mod Lengths
+pub mod Settled

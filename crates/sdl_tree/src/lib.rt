@@ -5,6 +5,7 @@ mod blocks;
 mod declarations;
 mod expression;
 mod fault;
+mod height;
 mod operands;
 mod operators;
 mod parsing;
@@ -17,7 +18,7 @@ mod tree;
 
 pub use expression::{BinaryOperator, Expression, Identifier, UnaryOperator};
 pub use fault::ParseFault;
-pub use parsing::parse;
+pub use parsing::{parse, reads_once};
 pub use tree::{
     Action, Assignment, Block, Constant, Declaration, End, Entity, Group, InputPart, Literal,
     NextState, Party, Path, Process, Route, SignalDeclaration, Sort, Start, StateClause, StatePart,
