@@ -139,9 +139,9 @@ unfolding not_due
 deadlines_of-kept table clock =
     let deadlines = deadlines_of table in
     same_map timers_total exact_timers _ _ (λ q.
-      get-deadlines_of (map (kept clock) table) q ∙ found-kept clock q 0 table
-      ∙ ap (kept clock) (sym (get-deadlines_of table q)) ∙ kept_is clock (finite.get deadlines q)
-      ∙ sym (get-retain_keys deadlines (λ t. not (is_due deadlines clock t)) q (λ x e. ap (λ o. not (option_map_or (λ d. nat_le d clock) o false)) (get_tied timers_total deadlines q x e))))
+    get-deadlines_of (map (kept clock) table) q ∙ found-kept clock q 0 table
+    ∙ ap (kept clock) (sym (get-deadlines_of table q)) ∙ kept_is clock (finite.get deadlines q)
+    ∙ sym (get-retain_keys deadlines (λ t. not (is_due deadlines clock t)) q (λ x e. ap (λ o. not (option_map_or (λ d. nat_le d clock) o false)) (get_tied timers_total deadlines q x e))))
 
 no_entries : (n place : ℕ) → entries_from place (replicate n None) ≡ []
 no_entries zero place = refl

@@ -17,7 +17,7 @@ pub use draft::{
 pub use input::{Input, Party, Place};
 pub use instruction::Instruction;
 pub use name::Name;
-pub use numbers::{ProcessNumber, SignalNumber, StateNumber, VariableNumber};
+pub use numbers::{ProcessNumber, SignalNumber, StateNumber, TimerNumber, VariableNumber};
 pub use sequence::Sequence;
 pub use value::{Sort, Value};
 pub use variable_set::VariableSet;
