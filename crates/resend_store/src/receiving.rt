@@ -67,7 +67,6 @@ impl Receiver {
     ///
     /// `BadIndicator` where the bit changed though no negative acknowledgement is out. Nothing changes then.
     pub fn on_unit(&mut self, fsn: u8, fib: u8, has_msu: bool) -> Result<Verdict, UnitError>
-        requires { fsn < 128 }
         ensures verdict { result ≡ (hear self.old fsn fib has_msu).verdict }
         ensures known { self.new ≡ (hear self.old fsn fib has_msu).known }
     {

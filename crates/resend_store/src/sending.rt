@@ -1,5 +1,5 @@
 //! The sending side.
-ghost use Rattle.std.specs.Prelude.{◌≡◌, ◌+◌, ◌-◌, ◌<◌, ◌≤◌, ◌↔◌, length, IfOk, OnOk, OnErr, IfSome, slice_get};
+ghost use Rattle.std.specs.Prelude.{◌≡◌, ◌+◌, ◌-◌, ◌<◌, ◌≤◌, ◌↔◌, length, All, IfOk, OnOk, OnErr, IfSome, slice_get};
 ghost use Rattle.std.specs.Option.{option_copied};
 ghost use Rattle.resend_store.specs.Messages.{IsMessage};
 ghost use Rattle.resend_store.specs.Steps.{settled, gives};
@@ -100,7 +100,7 @@ impl Sender {
     ///
     /// `Full` where `MAX_WAITING` or more wait. Nothing changes then.
     pub fn put(&mut self, msu: Msu) -> Result<(), PutError>
-        requires { IsMessage msu }
+        requires { 2 ≤ length msu.sif.items }
         ensures full { (result ≡ Err PutError.Full) ↔ (MAX_WAITING ≤ length (waiting self.old)) }
         ensures ok { OnOk result (self.new ≡ with_put self.old msu) }
         ensures err { OnErr result (self.new ≡ self.old) }
@@ -116,7 +116,7 @@ impl Sender {
     ///
     /// `Full` where `MAX_KEPT` are unacknowledged or wait. Nothing changes then.
     pub fn put_diverted(&mut self, msu: Msu) -> Result<(), PutError>
-        requires { IsMessage msu }
+        requires { 2 ≤ length msu.sif.items }
         ensures full { (result ≡ Err PutError.Full) ↔ (MAX_KEPT ≤ length self.old.kept) }
         ensures ok { OnOk result (self.new ≡ with_put self.old msu) }
         ensures err { OnErr result (self.new ≡ self.old) }
@@ -170,6 +170,7 @@ impl Sender {
         requires { IfSome accepted (λ fsn. fsn < 128) }
         ensures bad { (result ≡ Err RetrieveError.BadAck) ↔ (self.old.sent < count_known self.old accepted) }
         ensures messages { IfOk result (λ messages. messages.items ≡ retrieved self.old accepted) }
+        ensures whole { IfOk result (λ messages. All IsMessage messages.items) }
         ensures ok { OnOk result (self.new ≡ emptied self.old accepted) }
         ensures err { OnErr result (self.new ≡ self.old) }
     {

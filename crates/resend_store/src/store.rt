@@ -75,10 +75,11 @@ impl Store {
 
     /// One more waits.
     pub(crate) fn push(&mut self, msu: Msu)
-        requires message { IsMessage msu }
+        requires message { 2 ≤ length msu.sif.items }
         requires room { length self.old.kept < MAX_KEPT }
         ensures { self.new ≡ record self.old { kept = self.old.kept ++ msu ∷ [] } }
     {
+        let _fits = msu.sif.len();
         self.kept.push_back_reserved(msu);
     }
 
