@@ -4,5 +4,6 @@ pub mod Stored
 pub mod StoreInside
 pub mod Window
 pub mod Steps
+pub mod Runs
 pub mod SenderInside
 pub mod Intake

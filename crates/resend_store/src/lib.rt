@@ -2,6 +2,7 @@
 //! and which received messages are accepted.
 #![tactic(auto)]
 
+mod laws;
 mod messages;
 mod numbers;
 mod receiving;
@@ -11,6 +12,7 @@ mod store;
 #[cfg(test)]
 mod tests;
 
+pub use laws::new_messages_go_out_in_order;
 pub use messages::{
     FORCED_MESSAGES, FORCED_OCTETS, MAX_KEPT, MAX_UNACKNOWLEDGED, MAX_WAITING, Mode, Msu, Outgoing,
     Verdict,

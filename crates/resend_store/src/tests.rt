@@ -119,8 +119,18 @@ fn refuses_an_acknowledgement_of_what_was_not_sent(rt: HostRuntime) -> Result<()
     let mut sender = Sender::new(rt.alloc(), Mode::Basic)?;
     assert_eq!(rt; sender.on_back(5, 0), Err(AckError::BadAck));
     gives(&rt, &mut sender, 127, 1, false);
-    let printed = format!(in rt.alloc(); "{}, {}, {}, {}, {}", PutError::Full, AckError::BadAck, UnitError::BadIndicator, RetrieveError::BadAck, RetrieveError::NoMemory)?;
-    assert_eq!(rt; printed.as_str(), "E1 Full, E2 BadAck, E3 BadIndicator, E2 BadAck, NoMemory");
+    let printed = format!(in rt.alloc();
+        "{}, {}, {}, {}, {}",
+        PutError::Full,
+        AckError::BadAck,
+        UnitError::BadIndicator,
+        RetrieveError::BadAck,
+        RetrieveError::NoMemory
+    )?;
+    assert_eq!(rt;
+        printed.as_str(),
+        "E1 Full, E2 BadAck, E3 BadIndicator, E2 BadAck, NoMemory"
+    );
     Ok(())
 }
 
