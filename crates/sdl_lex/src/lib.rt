@@ -10,6 +10,8 @@ mod items;
 mod lexemes;
 mod scan;
 mod spelling;
+#[cfg(test)]
+mod tests;
 mod words;
 
 pub use lexemes::{LexFault, Lexeme, Symbol, Token, Word};
