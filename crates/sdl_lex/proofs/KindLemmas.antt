@@ -2,7 +2,7 @@
 use Rattle.std.proofs.Common.{◌≡◌, ℕ, ◌+◌, ◌-◌, ◌<◌, ◌≤◌, ◌⊎◌, inl, inr, Bool, true, false, ◌&&◌, ◌||◌, List, [], ◌∷◌, length, refl, ap, sym, ◌∙◌, get_or, arith, zero, suc, Option, Some, None, cond}
 use Rattle.std.specs.Prelude.{◌==◌, slice_range}
 use Rattle.std.specs.Char.{is_ascii_alphabetic, is_ascii_digit}
-use Rattle.std.proofs.lemmas.Bool.{ne_eqb, and_left, cases_Bool}
+use Rattle.std.proofs.lemmas.Bool.{ne_eqb, and_left}
 use Rattle.std.proofs.lemmas.Grind.{common_steps}
 use Rattle.sdl_lex.specs.declared.lexemes.Symbol.{Symbol}
 use Rattle.sdl_lex.specs.declared.lexemes.Symbol.TheVariants.{Semicolon, Comma, Colon, Assign, Open, Close, Plus, Minus, Star, Slash, Equal, NotEqual, Less, LessEqual, Greater, GreaterEqual}
@@ -205,22 +205,22 @@ symbol_nonzero GreaterEqual = omega arith
 
 -- a token that is a symbol has these bytes
 pub here_from : (text : List ℕ) (start end : ℕ) (s : Symbol) → start ≤ end → end ≤ length text
-  → slice_range text start end ≡ symbol_text s → continues_symbol s (get_or text end 0) ≡ false
-  → SymbolHere s (get_or text start 0) (get_or text (start + 1) 0) × (end ≡ start + length (symbol_text s))
+    → slice_range text start end ≡ symbol_text s → continues_symbol s (get_or text end 0) ≡ false
+    → SymbolHere s (get_or text start 0) (get_or text (start + 1) 0) × (end ≡ start + length (symbol_text s))
 here_from text start end s ordered inside spelled longest =
     let size : end - start ≡ length (symbol_text s) = sym (slice_length text start end inside) ∙ ap (λ (xs : List ℕ). length xs) spelled in
     let some : 0 < length (symbol_text s) = elim (symbol_sizes s) [ inl one ↦ omega arith | inr two ↦ omega arith ] in
-    let same : end ≡ start + length (symbol_text s) = omega arith in
-    ( record {
+    let same : end ≡ start + length (symbol_text s) = omega arith in (
+      record {
         first = sym (symbol_byte text start end s start 0 spelled (omega arith) (omega arith) (omega arith));
         second = λ two. sym (symbol_byte text start end s (start + 1) 1 spelled (omega arith) (omega arith) (omega arith));
         longest = λ one. let next : end ≡ start + 1 = omega arith in rw next at longest;
-      }
-    , same
+      },
+      same,
     )
   where
     symbol_byte : (text : List ℕ) (start end : ℕ) (s : Symbol) (k i : ℕ) → slice_range text start end ≡ symbol_text s
-      → start ≤ k → k < end → k - start ≡ i → get_or (symbol_text s) i 0 ≡ get_or text k 0
+        → start ≤ k → k < end → k - start ≡ i → get_or (symbol_text s) i 0 ≡ get_or text k 0
     symbol_byte text start end s k i spelled from to place =
         let byte : get_or (slice_range text start end) (k - start) 0 ≡ get_or text k 0 = slice_byte text start end k from to in
         ap (λ (xs : List ℕ). get_or xs i 0) (sym spelled) ∙ (ap (λ (j : ℕ). get_or (slice_range text start end) j 0) (sym place) ∙ byte)

@@ -1,8 +1,8 @@
 -- A text has one answer.
-use Rattle.std.proofs.Common.{Vec, ◌≡◌, ℕ, ◌+◌, ◌-◌, ◌<◌, ◌≤◌, ◌⊎◌, inl, inr, Bool, true, false, List, [], ◌∷◌, length, refl, ap, sym, subst, ◌∙◌, get_or, arith, Result, Ok, Err, IfOk, IfErr}
+use Rattle.std.proofs.Common.{Vec, ◌≡◌, ℕ, ◌+◌, ◌≤◌, ◌⊎◌, inl, inr, List, [], ◌∷◌, length, refl, ap, sym, subst, ◌∙◌, get_or, arith, Result, Ok, Err, IfOk, IfErr}
 use Rattle.std.specs.Prelude.{slice_range, nat_le}
 use Rattle.std.proofs.lemmas.Bool.{cases_order, and_parts, leb-true}
-use Rattle.sdl_lex.specs.declared.TheConstants.{MAX_NAME, MAX_NUMBER, MAX_TEXT}
+use Rattle.sdl_lex.specs.declared.TheConstants.{MAX_NUMBER, MAX_TEXT}
 use Rattle.sdl_lex.specs.declared.lexemes.Word.{Word}
 use Rattle.sdl_lex.specs.declared.lexemes.Symbol.{Symbol}
 use Rattle.sdl_lex.specs.declared.lexemes.Lexeme.{Lexeme}
@@ -12,8 +12,7 @@ use Rattle.sdl_lex.specs.declared.lexemes.LexFault.{LexFault}
 use Rattle.sdl_lex.specs.declared.lexemes.LexFault.TheVariants.{BadCharacter, OpenComment, TooLong, NoMemory}
 use Rattle.sdl_lex.specs.Spelling.{SameName, is_spelled_as_name}
 use Rattle.sdl_lex.specs.Texts.{word_text, symbol_text}
-use Rattle.sdl_lex.specs.Lexed.{OpensComment, ClosesComment, IsComment, IsOpenComment, IsNumber, decimal, continues, IsToken, IsBlank, white, comment, Lexes, ended, skipped, taken, Lexed, IsBad, IsLongName, IsLargeNumber, IsFaultAt, place_of, Gives, Answers, over_long, in_room, IsFirstFault, IsAnswer, Agrees}
-use Rattle.sdl_lex.proofs.SliceLemmas.{spelled-first}
+use Rattle.sdl_lex.specs.Lexed.{IsComment, IsOpenComment, decimal, IsToken, IsBlank, white, comment, Lexes, ended, skipped, taken, Lexed, IsBad, IsLongName, IsLargeNumber, IsFaultAt, place_of, Gives, Answers, over_long, in_room, IsFirstFault, IsAnswer, Agrees}
 use Rattle.sdl_lex.proofs.WordLemmas.{one_word}
 use Rattle.sdl_lex.proofs.KindLemmas.{Kind, a_letter, a_digit, a_space, a_comment, a_mark, kind_at, kind-letter, kind-digit, kind-white, kind-comment, kind-bad, kind-end, kind-symbol, get_or-past, SymbolHere, one_symbol, symbol_begins, symbol_nonzero, here_from}
 use Rattle.sdl_lex.proofs.UniqueLemmas.{Wordlike, Numberlike, word_name, slice_letter, slice_digit, wordlike_from, wordlike_end, numberlike_from, numberlike_end, long_no_word, large_no_number}
@@ -40,7 +39,7 @@ number_like text start end n token =
     numberlike_from text start end token.ordered token.inside token.spelled.0 small token.longest
 
 symbol_here : (text : List ℕ) (start end : ℕ) (s : Symbol) → TokenOf text start (a_symbol s) end
-  → SymbolHere s (get_or text start 0) (get_or text (start + 1) 0) × (end ≡ start + length (symbol_text s))
+    → SymbolHere s (get_or text start 0) (get_or text (start + 1) 0) × (end ≡ start + length (symbol_text s))
 symbol_here text start end s token = here_from text start end s token.ordered token.inside token.spelled token.longest
 
 abbrev lexeme_kind : Lexeme → Kind
@@ -113,7 +112,7 @@ one_token : (text : List ℕ) (at : ℕ) (t u : Token) → t.start ≡ at → u.
 one_token text at t u here there one other =
     let starts : t.start ≡ u.start = here ∙ sym there in
     let moved : TokenOf text t.start u.lexeme u.end =
-        let P : ℕ → Type 0 = λ n. TokenOf text n u.lexeme u.end in subst P (sym starts) other in
+    let P : ℕ → Type 0 = λ n. TokenOf text n u.lexeme u.end in subst P (sym starts) other in
     let same = one_lexeme text t.start t.end u.end t.lexeme u.lexeme one moved in
     same_token t u same.0 starts same.1
 
@@ -122,9 +121,9 @@ one_token text at t u here there one other =
 one_comment : (text : List ℕ) (at n m : ℕ) → IsComment text at n → IsComment text at m → n ≡ m
 one_comment text at n m one other =
     elim (cases_order one.last other.last) [
-      inl same ↦ omega (arith, one.ends, other.ends)
-    | inr (inl less) ↦ absurd (other.first one.last one.after less one.closes)
-    | inr (inr more) ↦ absurd (one.first other.last other.after more other.closes)
+      | inl same ↦ omega (arith, one.ends, other.ends)
+      | inr (inl less) ↦ absurd (other.first one.last one.after less one.closes)
+      | inr (inr more) ↦ absurd (one.first other.last other.after more other.closes)
     ]
 
 abbrev IsBlankKind : Kind → Type 0
@@ -249,7 +248,7 @@ stuck_token text at t stuck here token =
 
 -- What was read up to a place where the text cannot go on is all that can be read.
 pub one_chain : (text : List ℕ) (p q at : ℕ) (ts us : List Token) → Lexes text p at ts → Lexes text q at us
-  → Stuck text p → Stuck text q → (p ≡ q) × (ts ≡ us)
+    → Stuck text p → Stuck text q → (p ≡ q) × (ts ≡ us)
 one_chain text p q _ _ _ ended ended sp sq = (refl, refl)
 one_chain text p q _ _ us ended (skipped n b rest) sp sq = absurd (stuck_blank text p n sp b)
 one_chain text p q _ _ _ ended (taken t s i rest) sp sq = absurd (stuck_token text p t sp s i)
@@ -284,8 +283,8 @@ fault_inside text (OpenComment at) here past =
 fault_inside text (TooLong at) here past =
     let e = kind-end text at past in
     elim here [
-      inl long ↦ let k = long_kind text at long in absurd (cc)
-    | inr large ↦ let k = large_kind text at large in absurd (cc)
+      | inl long ↦ let k = long_kind text at long in absurd (cc)
+      | inr large ↦ let k = large_kind text at large in absurd (cc)
     ]
 fault_inside text NoMemory here past = here
 
@@ -348,7 +347,7 @@ one_answer_lem text a b (in_room room h) (in_room more k) = one_given text a b h
 
 -- what the call gives is the one answer
 pub agreed : {A : Type 0} (text : List ℕ) (result : Result (Vec Token A) LexFault) → IfOk result (λ v. Answers text (Ok v.items))
-  → IfErr result (λ e. IsAnswer text e) → (answer : Result (List Token) LexFault) → Answers text answer → Agrees result answer
+    → IfErr result (λ e. IsAnswer text e) → (answer : Result (List Token) LexFault) → Answers text answer → Agrees result answer
 agreed text (Ok v) found fault answer is = one_answer_lem text answer (Ok v.items) is found
 agreed text (Err (BadCharacter at)) found fault answer is = one_answer_lem text answer (Err (BadCharacter at)) is fault
 agreed text (Err (OpenComment at)) found fault answer is = one_answer_lem text answer (Err (OpenComment at)) is fault
@@ -357,12 +356,12 @@ agreed text (Err NoMemory) found fault answer is = tt
 
 -- an answer of a text that isn't over-long
 pub found_in_room : {A : Type 0} (text : List ℕ) (result : Result (Vec Token A) LexFault) → length text ≤ MAX_TEXT
-  → IfOk result (λ v. Lexed text v.items) → IfOk result (λ v. Answers text (Ok v.items))
+    → IfOk result (λ v. Lexed text v.items) → IfOk result (λ v. Answers text (Ok v.items))
 found_in_room text (Ok v) room found = in_room room found
 found_in_room text (Err e) room found = found
 
 pub fault_in_room : {A : Type 0} (text : List ℕ) (result : Result (Vec Token A) LexFault) → length text ≤ MAX_TEXT
-  → IfErr result (λ e. IsFirstFault text e) → IfErr result (λ e. IsAnswer text e)
+    → IfErr result (λ e. IsFirstFault text e) → IfErr result (λ e. IsAnswer text e)
 fault_in_room text (Ok v) room fault = fault
 fault_in_room text (Err (BadCharacter at)) room fault = in_room room fault
 fault_in_room text (Err (OpenComment at)) room fault = in_room room fault

@@ -1,23 +1,18 @@
 -- At each place of a text stands one thing at most.
-use Rattle.std.proofs.Common.{◌≡◌, ℕ, ◌+◌, ◌-◌, ◌<◌, ◌≤◌, ◌⊎◌, inl, inr, Bool, true, false, ◌&&◌, List, [], ◌∷◌, length, take, drop, map, refl, ap, sym, subst, ◌∙◌, get_or, arith, zero, suc}
+use Rattle.std.proofs.Common.{◌≡◌, ℕ, ◌+◌, ◌-◌, ◌<◌, ◌≤◌, inl, inr, true, false, List, [], ◌∷◌, length, take, drop, map, refl, ap, sym, ◌∙◌, get_or, arith, zero, suc}
 use Rattle.std.specs.Prelude.{slice_range, nat_le}
 use Rattle.std.specs.List.{list_all}
 use Rattle.std.specs.Char.{is_ascii_alphabetic, is_ascii_digit, to_ascii_lowercase}
 use Rattle.std.proofs.lemmas.Bool.{both_ways, cases_lt, cases_order, and_parts, and_from, leb-true}
 use Rattle.std.proofs.lemmas.List.{length-map}
 use Rattle.std.proofs.lemmas.Grind.{common_steps}
-use Rattle.sdl_lex.specs.declared.TheConstants.{MAX_NAME, MAX_NUMBER}
+use Rattle.sdl_lex.specs.declared.TheConstants.{MAX_NUMBER}
 use Rattle.sdl_lex.specs.declared.lexemes.Word.{Word}
-use Rattle.sdl_lex.specs.declared.lexemes.Symbol.{Symbol}
-use Rattle.sdl_lex.specs.declared.lexemes.Lexeme.{Lexeme}
-use Rattle.sdl_lex.specs.declared.lexemes.Lexeme.TheVariants.{Name as a_name, Number as a_number, Word as a_word, Symbol as a_symbol}
-use Rattle.sdl_lex.specs.declared.lexemes.Token.{Token}
-use Rattle.sdl_lex.specs.Spelling.{IsName, SameName, folded, is_name_byte, is_spelled_as_name}
-use Rattle.sdl_lex.specs.Texts.{word_text, symbol_text}
-use Rattle.sdl_lex.specs.Lexed.{is_white, OpensComment, ClosesComment, IsComment, IsOpenComment, IsNumber, decimal, Spells, continues, continues_symbol, IsToken, IsBlank, white, comment, IsBad, IsLongName, IsLargeNumber}
+use Rattle.sdl_lex.specs.Spelling.{SameName, folded, is_name_byte, is_spelled_as_name}
+use Rattle.sdl_lex.specs.Texts.{word_text}
+use Rattle.sdl_lex.specs.Lexed.{IsNumber, decimal, IsLongName, IsLargeNumber}
 use Rattle.sdl_lex.proofs.SliceLemmas.{slice_byte, slice_length, slice_length-le, spelled-first, spelled-each, decimal-take}
-use Rattle.sdl_lex.proofs.WordLemmas.{word_is_name, one_word}
-use Rattle.sdl_lex.proofs.KindLemmas.{Kind, a_letter, a_digit, a_space, a_comment, a_mark, kind_at, kind-letter, kind-digit, kind-white, kind-comment, kind-bad, kind-end, kind-symbol, get_or-past, SymbolHere, one_symbol, symbol_begins, symbol_nonzero, here_from}
+use Rattle.sdl_lex.proofs.WordLemmas.{word_is_name}
 
 -- A word or a name.
 
@@ -54,12 +49,12 @@ word_name bytes w same =
     let spelled : is_spelled_as_name (folded bytes) ≡ true = rw same parts.0 in
     let short : length (word_text w) ≤ 32 = leb-true _ _ parts.1 in
     let size : length bytes ≡ length (word_text w) =
-        sym (length-map bytes to_ascii_lowercase) ∙ (ap (λ (xs : List ℕ). length xs) same ∙ length-map (word_text w) to_ascii_lowercase) in
+    sym (length-map bytes to_ascii_lowercase) ∙ (ap (λ (xs : List ℕ). length xs) same ∙ length-map (word_text w) to_ascii_lowercase) in
     (spelled_back bytes spelled, omega arith)
 
 -- a slice that is spelled as a name
 slice_name_byte : (text : List ℕ) (start end k : ℕ) → is_spelled_as_name (slice_range text start end) ≡ true
-  → k < length (slice_range text start end) → is_name_byte (get_or text (start + k) 0) ≡ true
+    → k < length (slice_range text start end) → is_name_byte (get_or text (start + k) 0) ≡ true
 slice_name_byte text start end k spelled below =
     let room = slice_length-le text start end in
     let back : (start + k) - start ≡ k = omega arith in
@@ -68,7 +63,7 @@ slice_name_byte text start end k spelled below =
     rw (← there) (spelled-each (slice_range text start end) spelled k below)
 
 pub slice_letter : (text : List ℕ) (start end : ℕ) → is_spelled_as_name (slice_range text start end) ≡ true
-  → is_ascii_alphabetic (get_or text start 0) ≡ true
+    → is_ascii_alphabetic (get_or text start 0) ≡ true
 slice_letter text start end spelled =
     let first = spelled-first (slice_range text start end) spelled in
     let room = slice_length-le text start end in
@@ -78,8 +73,8 @@ slice_letter text start end spelled =
     rw (← there) first.1
 
 pub wordlike_from : (text : List ℕ) (start end : ℕ) → start ≤ end → end ≤ length text
-  → is_spelled_as_name (slice_range text start end) ≡ true → length (slice_range text start end) ≤ 32
-  → is_name_byte (get_or text end 0) ≡ false → Wordlike text start end
+    → is_spelled_as_name (slice_range text start end) ≡ true → length (slice_range text start end) ≤ 32
+    → is_name_byte (get_or text end 0) ≡ false → Wordlike text start end
 wordlike_from text start end ordered inside spelled short stops =
     let size = slice_length text start end inside in
     let some = (spelled-first (slice_range text start end) spelled).0 in
@@ -88,9 +83,9 @@ wordlike_from text start end ordered inside spelled short stops =
       inside = inside;
       first = slice_letter text start end spelled;
       each = λ k from to.
-        let back : start + (k - start) ≡ k = omega arith in
-        let byte = slice_name_byte text start end (k - start) spelled (omega arith) in
-        rw back at byte;
+          let back : start + (k - start) ≡ k = omega arith in
+          let byte = slice_name_byte text start end (k - start) spelled (omega arith) in
+          rw back at byte;
       stops = stops;
       short = omega arith;
     }
@@ -98,13 +93,13 @@ wordlike_from text start end ordered inside spelled short stops =
 pub wordlike_end : (text : List ℕ) (start e f : ℕ) → Wordlike text start e → Wordlike text start f → e ≡ f
 wordlike_end text start e f one other =
     elim (cases_order e f) [
-      inl same ↦ same
-    | inr (inl less) ↦
-        let from : start ≤ e = omega (arith, one.ordered) in
-        absurd (both_ways (is_name_byte (get_or text e 0)) one.stops (other.each e from less))
-    | inr (inr more) ↦
-        let from : start ≤ f = omega (arith, other.ordered) in
-        absurd (both_ways (is_name_byte (get_or text f 0)) other.stops (one.each f from more))
+      | inl same ↦ same
+      | inr (inl less) ↦
+          let from : start ≤ e = omega (arith, one.ordered) in
+          absurd (both_ways (is_name_byte (get_or text e 0)) one.stops (other.each e from less))
+      | inr (inr more) ↦
+          let from : start ≤ f = omega (arith, other.ordered) in
+          absurd (both_ways (is_name_byte (get_or text f 0)) other.stops (one.each f from more))
     ]
 
 -- A number.
@@ -118,7 +113,7 @@ pub record Numberlike (text : List ℕ) (start end : ℕ) : Type 0 where
 
 -- a digit of a slice that is a number
 pub slice_digit : (text : List ℕ) (start end k : ℕ) → IsNumber (slice_range text start end)
-  → k < length (slice_range text start end) → is_ascii_digit (get_or text (start + k) 0) ≡ true
+    → k < length (slice_range text start end) → is_ascii_digit (get_or text (start + k) 0) ≡ true
 slice_digit text start end k number below =
     let room = slice_length-le text start end in
     let back : (start + k) - start ≡ k = omega arith in
@@ -127,8 +122,8 @@ slice_digit text start end k number below =
     rw (← there) (number.1 k below)
 
 pub numberlike_from : (text : List ℕ) (start end : ℕ) → start ≤ end → end ≤ length text
-  → IsNumber (slice_range text start end) → decimal (slice_range text start end) ≤ MAX_NUMBER
-  → is_ascii_digit (get_or text end 0) ≡ false → Numberlike text start end
+    → IsNumber (slice_range text start end) → decimal (slice_range text start end) ≤ MAX_NUMBER
+    → is_ascii_digit (get_or text end 0) ≡ false → Numberlike text start end
 numberlike_from text start end ordered inside number small stops =
     let size = slice_length text start end inside in
     let some = number.0 in
@@ -136,9 +131,9 @@ numberlike_from text start end ordered inside number small stops =
       ordered = omega arith;
       inside = inside;
       each = λ k from to.
-        let back : start + (k - start) ≡ k = omega arith in
-        let byte = slice_digit text start end (k - start) number (omega arith) in
-        rw back at byte;
+          let back : start + (k - start) ≡ k = omega arith in
+          let byte = slice_digit text start end (k - start) number (omega arith) in
+          rw back at byte;
       stops = stops;
       small = small;
     }
@@ -146,13 +141,13 @@ numberlike_from text start end ordered inside number small stops =
 pub numberlike_end : (text : List ℕ) (start e f : ℕ) → Numberlike text start e → Numberlike text start f → e ≡ f
 numberlike_end text start e f one other =
     elim (cases_order e f) [
-      inl same ↦ same
-    | inr (inl less) ↦
-        let from : start ≤ e = omega (arith, one.ordered) in
-        absurd (both_ways (is_ascii_digit (get_or text e 0)) one.stops (other.each e from less))
-    | inr (inr more) ↦
-        let from : start ≤ f = omega (arith, other.ordered) in
-        absurd (both_ways (is_ascii_digit (get_or text f 0)) other.stops (one.each f from more))
+      | inl same ↦ same
+      | inr (inl less) ↦
+          let from : start ≤ e = omega (arith, one.ordered) in
+          absurd (both_ways (is_ascii_digit (get_or text e 0)) one.stops (other.each e from less))
+      | inr (inr more) ↦
+          let from : start ≤ f = omega (arith, other.ordered) in
+          absurd (both_ways (is_ascii_digit (get_or text f 0)) other.stops (one.each f from more))
     ]
 
 -- Faults.
@@ -175,14 +170,14 @@ take_short (suc m) (suc j) (x ∷ xs) h = ap (λ (ys : List ℕ). x ∷ ys) (tak
 pub large_no_number : (text : List ℕ) (at end : ℕ) → IsLargeNumber text at → Numberlike text at end → ⊥
 large_no_number text at end large number =
     elim (cases_lt (end - at) (length (slice_range text at large.0))) [
-      inl below ↦
-        let after : at + (end - at) ≡ end = omega (arith, number.ordered) in
-        let byte = slice_digit text at large.0 (end - at) large.1 below in
-        both_ways (is_ascii_digit (get_or text end 0)) number.stops (rw after at byte)
-    | inr all ↦
-        let same : slice_range text at large.0 ≡ take (large.0 - at) (slice_range text at end) =
-            take_short (large.0 - at) (end - at) (drop at text) all in
-        let less = decimal-take (large.0 - at) (slice_range text at end) in
-        let more : MAX_NUMBER < decimal (take (large.0 - at) (slice_range text at end)) = rw same at large.2 in
-        omega (arith, number.small)
+      | inl below ↦
+          let after : at + (end - at) ≡ end = omega (arith, number.ordered) in
+          let byte = slice_digit text at large.0 (end - at) large.1 below in
+          both_ways (is_ascii_digit (get_or text end 0)) number.stops (rw after at byte)
+      | inr all ↦
+          let same : slice_range text at large.0 ≡ take (large.0 - at) (slice_range text at end) =
+          take_short (large.0 - at) (end - at) (drop at text) all in
+          let less = decimal-take (large.0 - at) (slice_range text at end) in
+          let more : MAX_NUMBER < decimal (take (large.0 - at) (slice_range text at end)) = rw same at large.2 in
+          omega (arith, number.small)
     ]

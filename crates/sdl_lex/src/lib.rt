@@ -14,10 +14,9 @@ mod spelling;
 mod tests;
 mod words;
 
+use items::{Item, item_at};
 pub use lexemes::{LexFault, Lexeme, Symbol, Token, Word};
 pub use spelling::Name;
-
-use items::{Item, item_at};
 use std::alloc::Global;
 
 /// The greatest number of bytes in a name.
@@ -84,11 +83,9 @@ pub fn line_of(text: &str, place: u32) -> usize
 /// A text has one list of tokens at most.
 pub fn one_reading()
     ensures { (text : List ℕ) (ts us : List TheToken) → Lexed text ts → Lexed text us → ts ≡ us }
-{
-}
+{}
 
 /// A text has one answer at most: its tokens or its first fault.
 pub fn one_answer()
     ensures { (text : List ℕ) (a b : Outcome (List TheToken) TheFault) → Answers text a → Answers text b → a ≡ b }
-{
-}
+{}

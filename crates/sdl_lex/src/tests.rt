@@ -42,7 +42,11 @@ fn counter_text(rt: HostRuntime) -> Result<(), Fail> {
         assert_eq!(rt; slice.ok_or("a place past the end")?, piece.as_bytes());
     }
     assert!(rt; places.next().is_none());
-    let first = found.iter().map(|t| t.lexeme).take(7).collect::<Vec<_>>(rt.alloc())?;
+    let first = found
+        .iter()
+        .map(|t| t.lexeme)
+        .take(7)
+        .collect::<Vec<_>>(rt.alloc())?;
     let want = [
         Lexeme::Word(Word::Block),
         name("B").ok_or("B")?,
@@ -92,7 +96,10 @@ fn symbols(rt: HostRuntime) -> Result<(), Fail> {
 
 #[test]
 fn numbers_and_names(rt: HostRuntime) -> Result<(), Fail> {
-    let found = lexemes(rt.alloc(), "12abc 007 2147483647 00002147483647 eNdBlOcK ENDBLOCKS x_9")?;
+    let found = lexemes(
+        rt.alloc(),
+        "12abc 007 2147483647 00002147483647 eNdBlOcK ENDBLOCKS x_9",
+    )?;
     let want = [
         Lexeme::Number(12),
         name("abc").ok_or("abc")?,
@@ -157,7 +164,14 @@ fn lines(rt: HostRuntime) {
 
 #[test]
 fn names(rt: HostRuntime) -> Result<(), Fail> {
-    for wrong in ["", "9a", "_a", "a-b", "é", "aaaaaaaaaabbbbbbbbbbcccccccccc123"] {
+    for wrong in [
+        "",
+        "9a",
+        "_a",
+        "a-b",
+        "é",
+        "aaaaaaaaaabbbbbbbbbbcccccccccc123",
+    ] {
         assert!(rt; Name::new(wrong.as_bytes()).is_none());
     }
     let total = Name::new(b"Total_1").ok_or("Total_1")?;
@@ -176,7 +190,15 @@ fn names(rt: HostRuntime) -> Result<(), Fail> {
 
 #[test]
 fn printed_faults(rt: HostRuntime) -> Result<(), Fail> {
-    let text = format!(in rt.alloc(); "{}, {}, {}", LexFault::BadCharacter(7), LexFault::OpenComment(0), LexFault::TooLong(9))?;
-    assert_eq!(rt; text.as_str(), "L1 BadCharacter, L2 OpenComment, L3 TooLong");
+    let text = format!(in rt.alloc();
+        "{}, {}, {}",
+        LexFault::BadCharacter(7),
+        LexFault::OpenComment(0),
+        LexFault::TooLong(9)
+    )?;
+    assert_eq!(rt;
+        text.as_str(),
+        "L1 BadCharacter, L2 OpenComment, L3 TooLong"
+    );
     Ok(())
 }

@@ -1,5 +1,5 @@
 -- A text's one answer.
-use Rattle.std.proofs.Common.{◌≡◌, ◌<◌, length, sym}
+use Rattle.std.proofs.Common.{◌<◌, length}
 use Rattle.sdl_lex.specs.declared.TheConstants.{MAX_TEXT}
 use Rattle.sdl_lex.specs.Lexed.{over_long}
 use Rattle.sdl_lex.proofs.OneLemmas.{agreed, found_in_room, fault_in_room, one_answer_lem}
