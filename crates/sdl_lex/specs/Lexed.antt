@@ -151,3 +151,15 @@ abbrev pub Agrees : {A : Type 0} → Result (Vec Token A) LexFault → Result (L
 Agrees (Err NoMemory) answer = Unit {0}
 Agrees (Err fault) answer = answer ≡ Err fault
 Agrees (Ok v) answer = answer ≡ Ok v.items
+
+-- whatever answer the text has is the one that the call gave, or memory ran out
+abbrev pub IsOnlyAnswer : {A : Type 0} → List ℕ → Result (Vec Token A) LexFault → Type 0
+IsOnlyAnswer text result = (answer : Result (List Token) LexFault) → Answers text answer → Agrees result answer
+
+-- a text has one list of tokens at most
+abbrev pub OneReading : Type 0
+OneReading = (text : List ℕ) (ts us : List Token) → Lexed text ts → Lexed text us → ts ≡ us
+
+-- a text has one answer at most
+abbrev pub OneAnswer : Type 0
+OneAnswer = (text : List ℕ) (a b : Result (List Token) LexFault) → Answers text a → Answers text b → a ≡ b
