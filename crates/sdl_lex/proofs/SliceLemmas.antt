@@ -1,8 +1,8 @@
 -- The bytes from a place on, as a slice has them.
-use Rattle.std.proofs.Common.{◌≡◌, ℕ, ◌+◌, ◌-◌, ◌*◌, ◌<◌, ◌≤◌, Bool, true, false, ◌&&◌, List, [], ◌∷◌, length, take, drop, refl, ap, sym, ◌∙◌, get_or, inl, inr, arith, zero, suc, length-take, length-drop}
+use Rattle.std.proofs.Common.{◌≡◌, ℕ, ◌+◌, ◌-◌, ◌*◌, ◌<◌, ◌≤◌, Bool, true, false, List, [], ◌∷◌, length, take, drop, refl, ap, ◌∙◌, get_or, inl, inr, arith, zero, suc, length-take, length-drop}
 use Rattle.std.specs.Prelude.{slice_range, fold}
 use Rattle.std.specs.List.{list_all}
-use Rattle.std.specs.Char.{is_ascii_alphabetic, is_ascii_digit}
+use Rattle.std.specs.Char.{is_ascii_alphabetic}
 use Rattle.std.proofs.lemmas.Bool.{and_from, and_parts, both_ways, cases_lt}
 use Rattle.std.proofs.lemmas.List.{get_or-take, get_or-drop, length-take-le}
 use Rattle.std.proofs.lemmas.Grind.{common_steps}
@@ -42,7 +42,7 @@ letter-name_byte b h = grind (arith, common_steps)
 
 -- a letter and then bytes of names are spelled as a name, and the other way round
 pub spelled-from : (bytes : List ℕ) → 0 < length bytes → is_ascii_alphabetic (get_or bytes 0 0) ≡ true
-  → ((k : ℕ) → k < length bytes → is_name_byte (get_or bytes k 0) ≡ true) → is_spelled_as_name bytes ≡ true
+    → ((k : ℕ) → k < length bytes → is_name_byte (get_or bytes k 0) ≡ true) → is_spelled_as_name bytes ≡ true
 spelled-from [] l first each = absurd (omega arith)
 spelled-from (b ∷ bs) l first each =
     and_from (is_ascii_alphabetic b) (list_all is_name_byte bs) first (list_all-from is_name_byte bs (λ k h. each (suc k) (omega arith)))
@@ -59,7 +59,7 @@ spelled-each (b ∷ bs) h (suc k) l =
 
 -- a slice of bytes that are a name's
 pub spelled-slice : (text : List ℕ) (at end : ℕ) → at < end → end ≤ length text → is_ascii_alphabetic (get_or text at 0) ≡ true
-  → ((k : ℕ) → at ≤ k → k < end → is_name_byte (get_or text k 0) ≡ true) → is_spelled_as_name (slice_range text at end) ≡ true
+    → ((k : ℕ) → at ≤ k → k < end → is_name_byte (get_or text k 0) ≡ true) → is_spelled_as_name (slice_range text at end) ≡ true
 spelled-slice text at end l inside first each =
     let len = slice_length text at end inside in
     spelled-from (slice_range text at end) (omega arith) (slice_first text at end first l) (λ k h.
@@ -69,8 +69,9 @@ spelled-slice text at end l inside first each =
   where
     slice_at : (text : List ℕ) (at end k : ℕ) → k < end - at → get_or (slice_range text at end) k 0 ≡ get_or text (at + k) 0
     slice_at text at end k below = get_or-take (end - at) (drop at text) k 0 below ∙ get_or-drop at text k 0
+
     slice_first : (text : List ℕ) (at end : ℕ) → is_ascii_alphabetic (get_or text at 0) ≡ true → at < end
-      → is_ascii_alphabetic (get_or (slice_range text at end) 0 0) ≡ true
+        → is_ascii_alphabetic (get_or (slice_range text at end) 0 0) ≡ true
     slice_first text at end first l =
         let same : get_or (slice_range text at end) 0 0 ≡ get_or text (at + 0) 0 = slice_at text at end 0 (omega arith) in
         let here : at + 0 ≡ at = omega arith in
@@ -80,15 +81,15 @@ spelled-slice text at end l inside first each =
 run_begins : (text : List ℕ) (at end : ℕ) → IsRun is_name_byte text at end → is_ascii_alphabetic (get_or text at 0) ≡ true → at < end
 run_begins text at end run first =
     elim (cases_lt at end) [
-      inl l ↦ l
-    | inr h ↦
-        let same : end ≡ at = omega (arith, run.ordered) in
-        let stops : is_name_byte (get_or text at 0) ≡ false = rw same at run.stops in
-        absurd (both_ways (is_name_byte (get_or text at 0)) stops (letter-name_byte (get_or text at 0) first))
+      | inl l ↦ l
+      | inr h ↦
+          let same : end ≡ at = omega (arith, run.ordered) in
+          let stops : is_name_byte (get_or text at 0) ≡ false = rw same at run.stops in
+          absurd (both_ways (is_name_byte (get_or text at 0)) stops (letter-name_byte (get_or text at 0) first))
     ]
 
 pub run_spelled : (text : List ℕ) (at end : ℕ) → IsRun is_name_byte text at end → is_ascii_alphabetic (get_or text at 0) ≡ true
-  → is_spelled_as_name (slice_range text at end) ≡ true
+    → is_spelled_as_name (slice_range text at end) ≡ true
 run_spelled text at end run first =
     spelled-slice text at end (run_begins text at end run first) run.inside first run.each
 
@@ -98,7 +99,7 @@ fold-grows n [] = omega arith
 fold-grows n (d ∷ ds) = let h = fold-grows (10 * n + (d - 48)) ds in omega arith
 
 fold-take : (n i : ℕ) (digits : List ℕ)
-  → fold (λ (n digit : ℕ). 10 * n + (digit - 48)) n (take i digits) ≤ fold (λ (n digit : ℕ). 10 * n + (digit - 48)) n digits
+    → fold (λ (n digit : ℕ). 10 * n + (digit - 48)) n (take i digits) ≤ fold (λ (n digit : ℕ). 10 * n + (digit - 48)) n digits
 fold-take n zero digits = fold-grows n digits
 fold-take n (suc i) [] = omega arith
 fold-take n (suc i) (d ∷ ds) = fold-take (10 * n + (d - 48)) i ds

@@ -1,7 +1,6 @@
 -- The reserved words, one by one.
-use Rattle.std.proofs.Common.{◌≡◌, ℕ, ◌<◌, ◌≤◌, Bool, true, IsTrue, ◌&&◌, List, [], ◌∷◌, length, map, refl, ap, sym, ◌∙◌, get_or, arith, Option, Some, None}
+use Rattle.std.proofs.Common.{◌≡◌, ℕ, ◌<◌, true, ◌&&◌, List, [], ◌∷◌, length, refl, ap, sym, ◌∙◌, get_or, arith, Option, Some, None}
 use Rattle.std.specs.Prelude.{IfNone, find, bytes_eq, nat_le}
-use Rattle.std.specs.List.{list_all}
 use Rattle.sdl_lex.specs.declared.lexemes.Word.{Word}
 use Rattle.sdl_lex.specs.declared.lexemes.Word.TheVariants.{Block, EndBlock, Signal, SignalRoute, From, To, With, Env, Connect, Process, EndProcess, Dcl, Timer, Start, State, EndState, Input, Save, Connection, EndConnection, Task, Output, Sender, Set, Reset, Now, Decision, Else, EndDecision, NextState, Stop, Join, Comment, Not, And, Or, Xor, Mod, Rem, Integer, Boolean, True, False, Procedure, EndProcedure, Call, Fpar, In, Return}
 use Rattle.sdl_lex.specs.Spelling.{SameName, folded, is_spelled_as_name}
@@ -280,11 +279,11 @@ one_word bytes v w e f =
 
 -- a word that stands nowhere in the table is none
 pub every_word : (bytes : List ℕ) → ((k : ℕ) → k < length all_words → SameName bytes (word_text (get_or all_words k Block)) → ⊥)
-  → (w : Word) → SameName bytes (word_text w) → ⊥
+    → (w : Word) → SameName bytes (word_text w) → ⊥
 every_word bytes none w h = none (place w) (place_below w) (rw (word_there w) h)
 
 pub IfNone-every : (found : Option Word) (bytes : List ℕ)
-  → IfNone found ((k : ℕ) → k < length all_words → SameName bytes (word_text (get_or all_words k Block)) → ⊥)
-  → IfNone found ((w : Word) → SameName bytes (word_text w) → ⊥)
+    → IfNone found ((k : ℕ) → k < length all_words → SameName bytes (word_text (get_or all_words k Block)) → ⊥)
+    → IfNone found ((w : Word) → SameName bytes (word_text w) → ⊥)
 IfNone-every None bytes none = every_word bytes none
 IfNone-every (Some w) bytes none = none

@@ -88,9 +88,9 @@ pub data IsBlank (text : List ℕ) (at : ℕ) : ℕ → Type 0 where
 pub data Lexes (text : List ℕ) (to : ℕ) : ℕ → List Token → Type 0 where
   ended : Lexes text to to []
   skipped : {at : ℕ} {tokens : List Token} (next : ℕ) → IsBlank text at next
-    → Lexes text to next tokens → Lexes text to at tokens
+      → Lexes text to next tokens → Lexes text to at tokens
   taken : {at : ℕ} {tokens : List Token} (token : Token) → token.start ≡ at → IsToken text token
-    → Lexes text to token.end tokens → Lexes text to at (token ∷ tokens)
+      → Lexes text to token.end tokens → Lexes text to at (token ∷ tokens)
 
 -- these are the tokens of the text
 abbrev pub Lexed : List ℕ → List Token → Type 0
@@ -106,7 +106,7 @@ pub record IsBad (b : ℕ) : Type 0 where
 -- a name of more than 32 bytes begins at a place
 abbrev pub IsLongName : List ℕ → ℕ → Type 0
 IsLongName text at = (end : ℕ) × IsTrue (is_spelled_as_name (slice_range text at end))
-  × (MAX_NAME < length (slice_range text at end))
+    × (MAX_NAME < length (slice_range text at end))
 
 -- a number above 2147483647 begins at a place
 abbrev pub IsLargeNumber : List ℕ → ℕ → Type 0
@@ -151,3 +151,15 @@ abbrev pub Agrees : {A : Type 0} → Result (Vec Token A) LexFault → Result (L
 Agrees (Err NoMemory) answer = Unit {0}
 Agrees (Err fault) answer = answer ≡ Err fault
 Agrees (Ok v) answer = answer ≡ Ok v.items
+
+-- whatever answer the text has is the one that the call gave, or memory ran out
+abbrev pub IsOnlyAnswer : {A : Type 0} → List ℕ → Result (Vec Token A) LexFault → Type 0
+IsOnlyAnswer text result = (answer : Result (List Token) LexFault) → Answers text answer → Agrees result answer
+
+-- a text has one list of tokens at most
+abbrev pub OneReading : Type 0
+OneReading = (text : List ℕ) (ts us : List Token) → Lexed text ts → Lexed text us → ts ≡ us
+
+-- a text has one answer at most
+abbrev pub OneAnswer : Type 0
+OneAnswer = (text : List ℕ) (a b : Result (List Token) LexFault) → Answers text a → Answers text b → a ≡ b

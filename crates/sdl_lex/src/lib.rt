@@ -1,21 +1,20 @@
 //! The lexis of SDL texts: from the bytes of a text to its tokens.
 #![tactic(auto)]
 
-ghost use Rattle.std.specs.Prelude.{◌≡◌, ℕ, ◌+◌, ◌==◌, ◌≤◌, List, length, take, count_by, Ok, Err, Result as Outcome, IfOk, IfErr};
-ghost use Rattle.sdl_lex.specs.declared.lexemes.Token.{Token as TheToken};
-ghost use Rattle.sdl_lex.specs.declared.lexemes.LexFault.{LexFault as TheFault};
-ghost use Rattle.sdl_lex.specs.Lexed.{Lexed, Answers, IsFirstFault, IsAnswer, Agrees};
+ghost use Rattle.std.specs.Prelude.{◌≡◌, ◌+◌, ◌==◌, ◌≤◌, length, take, count_by, Ok, IfOk, IfErr};
+ghost use Rattle.sdl_lex.specs.Lexed.{Lexed, Answers, IsFirstFault, IsAnswer, IsOnlyAnswer, OneReading, OneAnswer};
 
 mod items;
 mod lexemes;
 mod scan;
 mod spelling;
+#[cfg(test)]
+mod tests;
 mod words;
 
+use items::{Item, item_at};
 pub use lexemes::{LexFault, Lexeme, Symbol, Token, Word};
 pub use spelling::Name;
-
-use items::{Item, item_at};
 use std::alloc::Global;
 
 /// The greatest number of bytes in a name.
@@ -35,7 +34,7 @@ pub const MAX_TEXT: usize = 262_144;
 pub fn tokens(alloc: Global, text: &str) -> Result<Vec<Token>, LexFault>
     ensures lexed { IfOk result (λ v. Answers text.now (Ok v.items)) }
     ensures fault { IfErr result (λ e. IsAnswer text.now e) }
-    ensures exact { (answer : Outcome (List TheToken) TheFault) → Answers text.now answer → Agrees result answer }
+    ensures exact { IsOnlyAnswer text.now result }
 {
     let bytes = text.as_bytes();
     if bytes.len() > MAX_TEXT {
@@ -81,12 +80,10 @@ pub fn line_of(text: &str, place: u32) -> usize
 
 /// A text has one list of tokens at most.
 pub fn one_reading()
-    ensures { (text : List ℕ) (ts us : List TheToken) → Lexed text ts → Lexed text us → ts ≡ us }
-{
-}
+    ensures { OneReading }
+{}
 
 /// A text has one answer at most: its tokens or its first fault.
 pub fn one_answer()
-    ensures { (text : List ℕ) (a b : Outcome (List TheToken) TheFault) → Answers text a → Answers text b → a ≡ b }
-{
-}
+    ensures { OneAnswer }
+{}

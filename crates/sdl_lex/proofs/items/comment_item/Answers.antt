@@ -1,6 +1,6 @@
 -- A comment is a blank.
-use Rattle.std.proofs.Common.{◌+◌, ◌≤◌, arith}
-use Rattle.sdl_lex.specs.Lexed.{IsComment, comment}
+use Rattle.std.proofs.Common.{arith}
+use Rattle.sdl_lex.specs.Lexed.{comment}
 use Rattle.sdl_lex.proofs.items.comment_item.Goals as goal
 
 pub returns-in-Some-clause-ok : goal.returns-in-Some-clause-ok
