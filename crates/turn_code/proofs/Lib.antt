@@ -1,4 +1,5 @@
 pub mod Lists
+pub mod Masks
 pub mod Stored
 pub mod Greatest
 pub mod Stands

@@ -1,7 +1,7 @@
 -- A safe run ends, and its count says how many instructions it took.
 use Rattle.std.proofs.Common.{◌≡◌, ℕ, zero, suc, ◌+◌, ◌-◌, ◌<◌, ◌≤◌, ℤ, ◌+ℤ◌, ◌-ℤ◌, ◌*ℤ◌, neg_ℤ, List, [], ◌∷◌, length, Option, Some, None, refl, sym, ap, ◌∙◌, subst, arith}
 use Rattle.std.specs.Prelude.{slice_get}
-use Rattle.turn_code.specs.Run.{Progress, After, goes, ends, stuck, loaded, stored, given, on_two, on_one, on_top, act, act_if, step, tick, Ran, ended, got_stuck, unfinished, go_on, exec}
+use Rattle.turn_code.specs.Run.{Progress, After, goes, ends, stuck, loaded, stored, given, on_two, on_one, on_top, act, act_if, step, tick, Ran, ended, got_stuck, unfinished, go_on, exec, CountIs}
 use Rattle.turn_code.specs.Transitions.{Transition}
 use Rattle.turn_code.specs.Safe.{EndsWell, IsSafeAfter, IsSafe}
 use Rattle.turn_code.specs.declared.value.Value.{Value}
@@ -9,11 +9,6 @@ use Rattle.turn_code.specs.declared.value.Value.TheVariants.{Int, Bool}
 use Rattle.turn_code.specs.declared.instruction.Instruction.{Instruction}
 use Rattle.turn_code.specs.declared.instruction.Instruction.TheVariants.{Int as PutInt, Load, Store, Param, Add, Sub, Mul, Neg, Next}
 use Rattle.turn_code.specs.declared.machine.End.{End}
-
-abbrev pub CountIs : ℕ → After → Type 0
-CountIs c (goes k os s) = s.count ≡ c
-CountIs c (ends e s) = s.count ≡ c
-CountIs c (stuck x) = Unit {0}
 
 loaded_count : (k : ℕ) (os : List Value) (s : Progress) (o : Option (Option Value)) → CountIs s.count (loaded k os s o)
 loaded_count k os s None = tt
@@ -40,7 +35,7 @@ one_count f k [] s = tt
 one_count f k (Int x ∷ os) s = refl
 one_count f k (Bool x ∷ os) s = tt
 
-act_count : (i : Instruction) (ps : List Value) (k : ℕ) (os : List Value) (s : Progress) → CountIs s.count (act i ps k os s)
+pub act_count : (i : Instruction) (ps : List Value) (k : ℕ) (os : List Value) (s : Progress) → CountIs s.count (act i ps k os s)
 act_count (PutInt z) ps k os s = refl
 act_count (Load v) ps k os s = loaded_count k os s (slice_get s.variables v.0)
 act_count (Store v) ps k [] s = tt
@@ -52,7 +47,7 @@ act_count Mul ps k os s = two_count (λ x y. x *ℤ y) k os s
 act_count Neg ps k os s = one_count neg_ℤ k os s
 act_count (Next q) ps k os s = refl
 
-act_if_count : (o : Option Instruction) (ps : List Value) (k : ℕ) (os : List Value) (s : Progress) → CountIs s.count (act_if o ps k os s)
+pub act_if_count : (o : Option Instruction) (ps : List Value) (k : ℕ) (os : List Value) (s : Progress) → CountIs s.count (act_if o ps k os s)
 act_if_count None ps k os s = tt
 act_if_count (Some i) ps k os s = act_count i ps k os s
 

@@ -1,5 +1,5 @@
 -- What code does: one instruction on a list of values with their sorts, and a run of at most 512 of them.
-use Rattle.std.specs.Prelude.{ℕ, zero, suc, ◌+◌, ℤ, ◌+ℤ◌, ◌-ℤ◌, ◌*ℤ◌, neg_ℤ, List, [], ◌∷◌, Option, Some, None, slice_get, slice_set}
+use Rattle.std.specs.Prelude.{◌≡◌, ℕ, zero, suc, ◌+◌, ℤ, ◌+ℤ◌, ◌-ℤ◌, ◌*ℤ◌, neg_ℤ, List, [], ◌∷◌, Option, Some, None, slice_get, slice_set}
 use Rattle.turn_code.specs.Values.{wrap}
 use Rattle.turn_code.specs.declared.value.Value.{Value}
 use Rattle.turn_code.specs.declared.value.Value.TheVariants.{Int, Bool}
@@ -80,6 +80,12 @@ act_if (Some i) ps k os s = act i ps k os s
 -- the instruction at place k of the code, on an input with parameters ps
 abbrev pub step : List Instruction → List Value → ℕ → List Value → Progress → After
 step code ps k os s = act_if (slice_get code k) ps (k + 1) os (tick s)
+
+-- the count that an answer leaves
+abbrev pub CountIs : ℕ → After → Type 0
+CountIs c (goes k os s) = s.count ≡ c
+CountIs c (ends e s) = s.count ≡ c
+CountIs c (stuck x) = Unit {0}
 
 -- how a run of so many instructions ends
 pub data Ran : Type 0 where

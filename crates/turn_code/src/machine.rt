@@ -1,7 +1,7 @@
 //! One instruction at a time, on values with their sorts.
 
-ghost use Rattle.std.specs.Prelude.{◌≡◌, ◌<◌, ◌∷◌, length, slice_get, IsTrue, neg_ℤ};
-ghost use Rattle.turn_code.specs.Run.{step, act, goes, loaded, stored, on_two, on_one, on_top, tick};
+ghost use Rattle.std.specs.Prelude.{◌≡◌, ◌+◌, ◌<◌, ◌∷◌, length, slice_get, IsTrue, neg_ℤ};
+ghost use Rattle.turn_code.specs.Run.{CountIs, step, act, goes, loaded, stored, on_two, on_one, on_top, tick};
 ghost use Rattle.turn_code.specs.Machine.{progress_of, after_of, StaysIfStuck, HasRoom, grows};
 ghost use Rattle.turn_code.specs.Operation.{meaning_of};
 
@@ -45,6 +45,7 @@ pub struct Machine {
     pub count: u32,
 }
 
+#[tactic(auto, using(crate::proofs::Ran::step_count))]
 /// What the instruction at `place` of the code does, on an input with these parameters.
 /// Where it is stuck it leaves the machine as it is.
 pub fn step_plain(
@@ -55,6 +56,7 @@ pub fn step_plain(
 ) -> After
     requires room { HasRoom code.now place machine.old.operands }
     requires count { machine.old.count < 512 }
+    ensures count { CountIs (machine.old.count + 1) (after_of result machine.new) }
     ensures exact { after_of result machine.new ≡ step code.now parameters.now place machine.old.operands (progress_of machine.old) }
     ensures stays { StaysIfStuck result machine.old machine.new }
 {
