@@ -31,7 +31,7 @@ entries_from-sorted place (None ∷ table) = entries_from-sorted (place + 1) tab
 entries_from-sorted place (Some d ∷ table) = both _ _ (below_later place (place + 1) table (omega arith)) (entries_from-sorted (place + 1) table)
 
 -- a timer of an earlier place isn't found
-not_found : (q : TimerId) (i place : ℕ) (table : List (Option ℕ)) → eq_by_cmp timer_cmp q (timer_at i) ≡ true → i < place → found q place table ≡ None
+pub not_found : (q : TimerId) (i place : ℕ) (table : List (Option ℕ)) → eq_by_cmp timer_cmp q (timer_at i) ≡ true → i < place → found q place table ≡ None
 not_found q i place [] e h = refl
 not_found q i place (None ∷ table) e h = not_found q i (place + 1) table e (omega arith)
 not_found q i place (Some d ∷ table) e h = rw (one_place q i place e h) (not_found q i (place + 1) table e (omega arith))

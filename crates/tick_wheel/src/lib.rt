@@ -146,7 +146,7 @@ impl Model for Wheel {
 }
 
 impl Wheel {
-    ghost use Rattle.tick_wheel.specs.Timers.{due, not_due};
+    ghost use Rattle.tick_wheel.specs.Timers.{due, not_due, IsDue};
 
     /// No timer is active, and the clock shows 0.
     pub fn new(alloc: Global) -> Result<Self, AllocError>
@@ -214,6 +214,7 @@ impl Wheel {
         ensures refused { OnErr result (self.new ≡ self.old) }
 
         ensures due { IfOk result (λ answer. answer.items ≡ due self.old.deadlines (self.old.clock + ticks)) }
+        ensures meaning { IfOk result (λ answer. IsDue self.old.deadlines (self.old.clock + ticks) answer.items) }
         ensures clock { OnOk result (self.new.clock ≡ self.old.clock + ticks) }
         ensures rest { OnOk result (self.new.deadlines ≡ not_due self.old.deadlines (self.old.clock + ticks)) }
     {
