@@ -3,7 +3,7 @@
 ghost use Rattle.std.specs.Prelude.{◌≡◌, ℕ, ◌+◌, ◌<◌, ◌≤◌, ◌↔◌, ◌==◌, false, List, [], ◌∷◌, ◌++◌, length, remove, slice_get, vec_len, vec_capacity, IfOk, IfSome, IfNone, OnOk, OnErr, OnSome, IsErrOf};
 ghost use Rattle.std.specs.Option.{option_copied};
 ghost use Rattle.input_port.specs.Saves.{saves};
-ghost use Rattle.input_port.specs.Queue.{is_signal, is_of_timer, signal_count, has_timer, without_timer, first_unsaved, without_first, Takes};
+ghost use Rattle.input_port.specs.Queue.{is_signal, is_of_timer, signal_count, has_timer, without_timer, first_unsaved, without_first, Takes, IsQueue};
 
 use crate::save::{Saved, TIMERS};
 use arrayvec::ArrayVec;
@@ -112,7 +112,8 @@ impl Port {
 
     /// The items, in order.
     pub fn items(&self) -> &[Item]
-        ensures { result.now ≡ self.now.items }
+        ensures value { result.now ≡ self.now.items }
+        ensures sound { IsQueue self.now.capacity self.now.items }
     {
         self.items.as_slice()
     }
