@@ -1,10 +1,10 @@
 -- A sorted permutation of what is due in a table is what is due in its map.
-use Rattle.std.proofs.Common.{◌≡◌, ℕ, zero, suc, ◌<◌, ◌≤◌, ◌+◌, Bool, true, false, ◌||◌, ◌&&◌, cond, T, ◌++◌, take, drop, List, [], ◌∷◌, length, get_or, map, Option, Some, None, refl, sym, ap, subst, ◌∙◌, inl, inr, arith, nat_le, ◌==◌, Decides, Contains, ◌↔◌, Ordering}
+use Rattle.std.proofs.Common.{◌≡◌, ℕ, ◌<◌, ◌≤◌, ◌+◌, Bool, true, false, ◌||◌, ◌&&◌, cond, T, ◌++◌, take, drop, List, [], ◌∷◌, length, get_or, map, Option, Some, None, refl, sym, ap, subst, ◌∙◌, inl, inr, arith, nat_le, ◌==◌, Decides, Ordering}
 use Rattle.std.specs.declared.cmp.Ordering.TheVariants.{Less, Equal, Greater}
 use Rattle.std.specs.Ordering.{eq_by_cmp, is_lt, is_eq, ordering_reverse, ordering_then, nat_cmp}
 use Rattle.std.specs.List.{filter, list_any, IsDistinct, AllByRecursion}
 use Rattle.std.specs.List.Sorted.{IsPermutation, IsSorted, IsStrictlySortedBy}
-use Rattle.std.specs.Cmp.{IsTotalOrder, unsigned_tied}
+use Rattle.std.specs.Cmp.{unsigned_tied}
 use Rattle.std.specs.FinMap as finite
 use Rattle.std.specs.FinMap.{find, is_sorted, get-from_sorted, get-from_entries, entries-from_sorted, same_map}
 use Rattle.std.specs.FinMap.Entries.{below_all}
@@ -182,17 +182,17 @@ is_that-means : (d : Due) (clock : ℕ) (o : Option ℕ) → Decides (is_that d 
 is_that-means d clock None = (λ e. absurd (false≢true e), λ h. let none : None ≡ Some d.deadline = h.0 in cc)
 is_that-means d clock (Some f) =
     Decides-like ((d.deadline == f) && nat_le f clock) (λ (h : (d.deadline ≡ f) × (f ≤ clock)). (ap Some (sym h.0), omega (arith, h.0, h.1))) (λ h. let same : f ≡ d.deadline = same_Some f d.deadline h.0 in (sym same, omega (arith, same, h.1)))
-      (Decides-and (d.deadline == f) (nat_le f clock) (Decides-eqb d.deadline f) (Decides-le f clock))
+    (Decides-and (d.deadline == f) (nat_le f clock) (Decides-eqb d.deadline f) (Decides-le f clock))
 
 -- a sorted permutation of what is due in a table is what is due
 pub IsDue-from_sort : (table : List (Option ℕ)) (clock : ℕ) (ys : List Due) → IsPermutation (due_from clock 0 table) ys → IsSorted due_cmp ys → IsDue (deadlines_of table) clock ys
 IsDue-from_sort table clock ys moved sorted =
     let deadlines = deadlines_of table in
     let among : (d : Due) → list_any (eq_by_cmp due_cmp d) ys ≡ is_that d clock (finite.get deadlines d.timer) = λ d.
-      sym (list_any-IsPermutation (eq_by_cmp due_cmp d) (due_from clock 0 table) ys moved) ∙ due_from-has clock 0 table d ∙ ap (is_that d clock) (sym (get-deadlines_of table d.timer)) in
+    sym (list_any-IsPermutation (eq_by_cmp due_cmp d) (due_from clock 0 table) ys moved) ∙ due_from-has clock 0 table d ∙ ap (is_that d clock) (sym (get-deadlines_of table d.timer)) in
     record {
       exactly = λ d.
-        let means = is_that-means d clock (finite.get deadlines d.timer) in
-        (λ h. means.0 (sym (among d) ∙ list_any-from_Contains (eq_by_cmp_equiv dues_total) d ys h), λ h. Contains-from_any (tells_apart exact_dues) d ys (among d ∙ means.1 h));
+          let means = is_that-means d clock (finite.get deadlines d.timer) in
+          (λ h. means.0 (sym (among d) ∙ list_any-from_Contains (eq_by_cmp_equiv dues_total) d ys h), λ h. Contains-from_any (tells_apart exact_dues) d ys (among d ∙ means.1 h));
       in_order = IsStrictlySortedBy-from_distinct ys sorted (IsDistinct-IsPermutation (eq_by_cmp due_cmp) (eq_by_cmp_equiv dues_total).symm (due_from clock 0 table) ys moved (due_from-distinct clock 0 table));
     }

@@ -1,15 +1,14 @@
 -- What a table stands for, and what a change of one place or of all does to that.
-use Rattle.std.proofs.Common.{◌≡◌, ℕ, zero, suc, ◌<◌, ◌≤◌, ◌+◌, Bool, true, false, not, ◌&&◌, cond, T, List, [], ◌∷◌, length, get_or, set, map, replicate, Option, Some, None, IfSome, refl, sym, ap, subst, ◌∙◌, inl, inr, arith, nat_le}
+use Rattle.std.proofs.Common.{◌≡◌, ℕ, zero, suc, ◌<◌, ◌+◌, Bool, true, false, not, ◌&&◌, cond, T, List, [], ◌∷◌, length, get_or, set, map, replicate, Option, Some, None, IfSome, refl, sym, ap, subst, ◌∙◌, inl, inr, arith, nat_le}
 use Rattle.std.specs.Ordering.{eq_by_cmp, is_lt}
 use Rattle.std.specs.Option.{option_map_or}
 use Rattle.std.specs.FinMap as finite
 use Rattle.std.specs.FinMap.{find, is_sorted, get-from_sorted, entries-from_sorted, get-insert, get-remove, get-retain_keys, get-empty, get_tied, same_map}
 use Rattle.std.specs.FinMap.Entries.{below_all}
 use Rattle.std.proofs.lemmas.Bool.Decides.{nat_tests, leb_tells}
-use Rattle.std.proofs.lemmas.Bool.{false≢true}
 use Rattle.tick_wheel.specs.TimerId.{TimerId, timer_cmp}
 use Rattle.tick_wheel.specs.Table.{timer_at, entries_from, deadlines_of, kept, NoneDue}
-use Rattle.tick_wheel.specs.Timers.{Deadlines, not_due, is_due}
+use Rattle.tick_wheel.specs.Timers.{not_due, is_due}
 use Rattle.tick_wheel.proofs.Orders.{timers_total, exact_timers, timer_at-rises, one_place, same_place, earlier_place}
 
 both : (a b : Bool) → a ≡ true → b ≡ true → (a && b) ≡ true

@@ -2,7 +2,6 @@ use Rattle.std.proofs.Common.{None, refl, ap, ◌∙◌, arith}
 use Rattle.std.proofs.lemmas.List.{length-set}
 use Rattle.std.specs.FinMap as finite
 use Rattle.tick_wheel.proofs.TableLemmas.{deadlines_of-clear, NoneDue-set}
-use Rattle.tick_wheel.specs.Timers.{Timers}
 use Rattle.tick_wheel.proofs.Wheel.reset.Goals as goal
 
 pub returns : goal.returns
