@@ -1,9 +1,9 @@
 -- Sets of numbers as the bits of a number.
-use Rattle.std.proofs.Common.{◌≡◌, ◌≢◌, ℕ, ◌+◌, ◌*◌, ◌/◌, ◌%◌, ◌^◌, ◌<◌, ◌≤◌, Bool, true, false, ◌&&◌, ◌||◌, eqb, ltb, bit_and, bit_or, refl, sym, ap, ◌∙◌, inl, inr, arith}
+use Rattle.std.proofs.Common.{◌≡◌, ℕ, ◌*◌, ◌/◌, ◌%◌, ◌^◌, ◌<◌, ◌≤◌, Bool, true, false, ◌&&◌, ◌||◌, eqb, ltb, bit_and, bit_or, refl, sym, ap, ◌∙◌, inl, inr, arith}
 use Rattle.std.specs.Int.{Width, w8, w128, bit_at}
 use mir.Val.{bits}
 use Rattle.std.proofs.lemmas.Nat.Bits.{bit_at-zero, bit_at_set_same, bit_at_set_other, shr_and_one}
-use Rattle.std.proofs.lemmas.Bool.Decides.{eqb_tells, leb_tells, nat_tests}
+use Rattle.std.proofs.lemmas.Bool.Decides.{eqb_tells, nat_tests}
 use Rattle.input_port.specs.Saves.{has_bit}
 
 none_in : (b : Bool) → (b && false) ≡ false
@@ -27,13 +27,13 @@ has_bit_added w set k number h =
     let new = bit_or set (1 * 2 ^ k % 2 ^ bits w) in
     elim (eqb_tells number k) [
       | inl same ↦
-        ap (λ n. ltb n (bits w) && eqb (bit_at new n) 1) same.1
-        ∙ ap (λ b. b && eqb (bit_at new k) 1) (below k (bits w) h)
-        ∙ ap (λ d. eqb d 1) (bit_at_set_same w set k h)
-        ∙ sym (ap (λ b. b || (ltb number (bits w) && eqb (bit_at set number) 1)) same.0)
+          ap (λ n. ltb n (bits w) && eqb (bit_at new n) 1) same.1
+          ∙ ap (λ b. b && eqb (bit_at new k) 1) (below k (bits w) h)
+          ∙ ap (λ d. eqb d 1) (bit_at_set_same w set k h)
+          ∙ sym (ap (λ b. b || (ltb number (bits w) && eqb (bit_at set number) 1)) same.0)
       | inr other ↦
-        ap (λ d. ltb number (bits w) && eqb d 1) (bit_at_set_other w set k h number other.1)
-        ∙ sym (ap (λ b. b || (ltb number (bits w) && eqb (bit_at set number) 1)) other.0)
+          ap (λ d. ltb number (bits w) && eqb d 1) (bit_at_set_other w set k h number other.1)
+          ∙ sym (ap (λ b. b || (ltb number (bits w) && eqb (bit_at set number) 1)) other.0)
     ]
 
 pub has_bit_added_128 : (set k number : ℕ) → k < 128 → has_bit 128 (bit_or set (1 * 2 ^ k % 340282366920938463463374607431768211456)) number ≡ (eqb number k || has_bit 128 set number)

@@ -1,6 +1,6 @@
 -- What holds of every port, through each change of its items.
-use Rattle.std.proofs.Common.{◌≡◌, ◌≢◌, ℕ, zero, suc, ◌+◌, ◌<◌, ◌≤◌, Bool, true, false, not, ◌||◌, cond, eqb, nat_eq, List, [], ◌∷◌, ◌++◌, length, take, drop, refl, sym, ap, subst, ◌∙◌, inl, inr, arith, length-append}
-use Rattle.std.specs.List.{list_any, remove, filter, count_by, IsDistinct, AllByRecursion}
+use Rattle.std.proofs.Common.{◌≡◌, ◌≢◌, ℕ, zero, suc, ◌+◌, ◌<◌, ◌≤◌, true, false, not, ◌||◌, cond, eqb, nat_eq, List, [], ◌∷◌, ◌++◌, length, refl, sym, ap, subst, ◌∙◌, inl, inr, arith}
+use Rattle.std.specs.List.{list_any, remove, IsDistinct, AllByRecursion}
 use Rattle.std.proofs.lemmas.Bool.Decides.{eqb_tells}
 use Rattle.std.proofs.lemmas.Cmp.{nat_eq_equiv}
 use Rattle.std.proofs.lemmas.Map.Keys.{IsDistinct-push, IsDistinct-head, IsDistinct-tail, IsDistinct-cons}
@@ -10,7 +10,7 @@ use Rattle.input_port.specs.declared.queue.Item.{Item}
 use Rattle.input_port.specs.declared.queue.Item.TheVariants.{Signal, Timer}
 use Rattle.input_port.specs.declared.queue.Arrival.{Arrival}
 use Rattle.turn_code.specs.declared.numbers.TimerNumber.{TimerNumber}
-use Rattle.input_port.specs.Queue.{is_signal, is_of_timer, signal_count, has_timer, without_timer, timers_in, IsQueue}
+use Rattle.input_port.specs.Queue.{is_signal, signal_count, has_timer, without_timer, timers_in, IsQueue}
 
 count_signal : (arrival : Arrival) (items : List Item) → signal_count (Signal arrival ∷ items) ≡ 1 + signal_count items
 count_signal arrival items = sum_by-cons (λ x. cond (is_signal x) 1 0) (Signal arrival) items

@@ -7,4 +7,4 @@ mod save;
 mod tests;
 
 pub use queue::{Arrival, Item, Port, PutError};
-pub use save::Saved;
+pub use save::{SIGNALS, Saved, TIMERS};

@@ -3,7 +3,7 @@
 ghost use Rattle.std.specs.Prelude.{◌≡◌, ℕ, ◌+◌, ◌<◌, ◌≤◌, ◌↔◌, ◌==◌, false, List, [], ◌∷◌, ◌++◌, length, remove, slice_get, vec_len, vec_capacity, IfOk, IfSome, IfNone, OnOk, OnErr, OnSome, IsErrOf};
 ghost use Rattle.std.specs.Option.{option_copied};
 ghost use Rattle.input_port.specs.Saves.{saves};
-ghost use Rattle.input_port.specs.Queue.{is_signal, is_of_timer, signal_count, has_timer, without_timer, first_unsaved, without_first};
+ghost use Rattle.input_port.specs.Queue.{is_signal, is_of_timer, signal_count, has_timer, without_timer, first_unsaved, without_first, Takes, IsQueue};
 
 use crate::save::{Saved, TIMERS};
 use arrayvec::ArrayVec;
@@ -112,7 +112,8 @@ impl Port {
 
     /// The items, in order.
     pub fn items(&self) -> &[Item]
-        ensures { result.now ≡ self.now.items }
+        ensures value { result.now ≡ self.now.items }
+        ensures sound { IsQueue self.now.capacity self.now.items }
     {
         self.items.as_slice()
     }
@@ -183,6 +184,9 @@ impl Port {
     pub fn take(&mut self, saved: &Saved) -> Option<Item>
         ensures item { result ≡ first_unsaved (saves saved.now) self.old.items }
         ensures rest { self.new ≡ record self.old { items = without_first (saves saved.now) self.old.items } }
+
+        // The same, said by places: only saved items stood before it.
+        ensures order { IfSome result (λ item. Takes (saves saved.now) self.old.items item self.new.items) }
     {
         let place = place_of_first(&self.items, saved)?;
         Some(self.items.remove(place))

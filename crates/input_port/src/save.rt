@@ -7,10 +7,10 @@ use crate::queue::Item;
 use turn_code::{SignalNumber, TimerNumber};
 
 /// How many signals a set of processes may have.
-const SIGNALS: u8 = 128;
+pub const SIGNALS: u8 = 128;
 
 /// How many timers a process may have.
-pub(crate) const TIMERS: u8 = 8;
+pub const TIMERS: u8 = 8;
 
 /// The signals and timers that a state saves: a bit for each.
 #[derive(Clone, Copy, PartialEq, Eq, Debug, Default)]

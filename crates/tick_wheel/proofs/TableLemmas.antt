@@ -1,13 +1,14 @@
 -- What a table stands for, and what a change of one place or of all does to that.
-use Rattle.std.proofs.Common.{◌≡◌, ℕ, zero, suc, ◌<◌, ◌≤◌, ◌+◌, Bool, true, false, not, ◌&&◌, cond, T, List, [], ◌∷◌, length, get_or, set, map, replicate, Option, Some, None, refl, sym, ap, subst, ◌∙◌, arith, nat_le}
+use Rattle.std.proofs.Common.{◌≡◌, ℕ, zero, suc, ◌<◌, ◌+◌, Bool, true, false, not, ◌&&◌, cond, T, List, [], ◌∷◌, length, get_or, set, map, replicate, Option, Some, None, IfSome, refl, sym, ap, subst, ◌∙◌, inl, inr, arith, nat_le}
 use Rattle.std.specs.Ordering.{eq_by_cmp, is_lt}
 use Rattle.std.specs.Option.{option_map_or}
 use Rattle.std.specs.FinMap as finite
 use Rattle.std.specs.FinMap.{find, is_sorted, get-from_sorted, entries-from_sorted, get-insert, get-remove, get-retain_keys, get-empty, get_tied, same_map}
 use Rattle.std.specs.FinMap.Entries.{below_all}
+use Rattle.std.proofs.lemmas.Bool.Decides.{nat_tests, leb_tells}
 use Rattle.tick_wheel.specs.TimerId.{TimerId, timer_cmp}
-use Rattle.tick_wheel.specs.Table.{timer_at, entries_from, deadlines_of, kept}
-use Rattle.tick_wheel.specs.Timers.{Deadlines, not_due, is_due}
+use Rattle.tick_wheel.specs.Table.{timer_at, entries_from, deadlines_of, kept, NoneDue}
+use Rattle.tick_wheel.specs.Timers.{not_due, is_due}
 use Rattle.tick_wheel.proofs.Orders.{timers_total, exact_timers, timer_at-rises, one_place, same_place, earlier_place}
 
 both : (a b : Bool) → a ≡ true → b ≡ true → (a && b) ≡ true
@@ -31,7 +32,7 @@ entries_from-sorted place (None ∷ table) = entries_from-sorted (place + 1) tab
 entries_from-sorted place (Some d ∷ table) = both _ _ (below_later place (place + 1) table (omega arith)) (entries_from-sorted (place + 1) table)
 
 -- a timer of an earlier place isn't found
-not_found : (q : TimerId) (i place : ℕ) (table : List (Option ℕ)) → eq_by_cmp timer_cmp q (timer_at i) ≡ true → i < place → found q place table ≡ None
+pub not_found : (q : TimerId) (i place : ℕ) (table : List (Option ℕ)) → eq_by_cmp timer_cmp q (timer_at i) ≡ true → i < place → found q place table ≡ None
 not_found q i place [] e h = refl
 not_found q i place (None ∷ table) e h = not_found q i (place + 1) table e (omega arith)
 not_found q i place (Some d ∷ table) e h = rw (one_place q i place e h) (not_found q i (place + 1) table e (omega arith))
@@ -150,3 +151,47 @@ no_entries (suc n) place = no_entries n (place + 1)
 pub deadlines_of-none : (n : ℕ) → deadlines_of (replicate n None) ≡ finite.empty
 deadlines_of-none n = same_map timers_total exact_timers _ _ (λ q.
     get-deadlines_of (replicate n None) q ∙ ap (find timer_cmp q) (no_entries n 0) ∙ sym (get-empty timer_cmp q))
+
+-- no deadline of a table without deadlines has come
+pub NoneDue-none : (clock n : ℕ) → NoneDue clock (replicate n None)
+NoneDue-none clock zero = refl
+NoneDue-none clock (suc n) = ap (λ xs. None ∷ xs) (NoneDue-none clock n)
+
+same_head : (x y : Option ℕ) (xs ys : List (Option ℕ)) → x ∷ xs ≡ y ∷ ys → x ≡ y
+same_head x y xs ys e = cc
+
+same_tail : (x y : Option ℕ) (xs ys : List (Option ℕ)) → x ∷ xs ≡ y ∷ ys → xs ≡ ys
+same_tail x y xs ys e = cc
+
+-- a place gets what has not come
+pub NoneDue-set : (clock : ℕ) (table : List (Option ℕ)) (k : ℕ) (d : Option ℕ) → kept clock d ≡ d → NoneDue clock table → NoneDue clock (set table k d)
+NoneDue-set clock [] k d e h = refl
+NoneDue-set clock (x ∷ table) zero d e h = λ i. e i ∷ same_tail _ _ _ _ h i
+NoneDue-set clock (x ∷ table) (suc k) d e h = λ i. same_head _ _ _ _ h i ∷ NoneDue-set clock table k d e (same_tail _ _ _ _ h) i
+
+pub kept-later : (clock d : ℕ) → clock < d → kept clock (Some d) ≡ Some d
+kept-later clock d h = let off : nat_le d clock ≡ false = grind (arith, nat_tests) in ap (λ b. cond b None (Some d)) off
+
+kept-kept : (clock : ℕ) (d : Option ℕ) → kept clock (kept clock d) ≡ kept clock d
+kept-kept clock None = refl
+kept-kept clock (Some d) = elim (nat_le d clock) as (λ b. nat_le d clock ≡ b → kept clock (cond b None (Some d)) ≡ cond b None (Some d)) [
+  | true ↦ λ _. refl
+  | false ↦ λ e. ap (λ b. cond b None (Some d)) e
+] refl
+
+-- once what is due has left, nothing is
+pub NoneDue-kept : (clock : ℕ) (table : List (Option ℕ)) → NoneDue clock (map (kept clock) table)
+NoneDue-kept clock [] = refl
+NoneDue-kept clock (d ∷ table) = λ i. kept-kept clock d i ∷ NoneDue-kept clock table i
+
+later-kept : (clock : ℕ) (d : Option ℕ) → kept clock d ≡ d → IfSome d (λ e. clock < e)
+later-kept clock None h = tt
+later-kept clock (Some d) h = elim (leb_tells d clock) [
+  | inl come ↦ (let none : None ≡ Some d = ap (λ b. cond b None (Some d)) (sym come.0) ∙ h in cc)
+  | inr later ↦ later.1
+]
+
+pub later-at : (clock : ℕ) (table : List (Option ℕ)) (k : ℕ) (d : Option ℕ) → k < length table → d ≡ get_or table k d → NoneDue clock table → IfSome d (λ e. clock < e)
+later-at clock [] k d lt e h = absurd (omega arith)
+later-at clock (x ∷ table) zero d lt e h = later-kept clock d (ap (kept clock) e ∙ same_head _ _ _ _ h ∙ sym e)
+later-at clock (x ∷ table) (suc k) d lt e h = later-at clock table k d (omega arith) e (same_tail _ _ _ _ h)

@@ -1,5 +1,5 @@
 -- A table with a place for each timer: eight places for process 0, then eight for process 1, and so on.
-use Rattle.std.specs.Prelude.{ℕ, ◌+◌, ◌/◌, ◌%◌, List, [], ◌∷◌, Option, Some, None, nat_le, if◌then◌else◌}
+use Rattle.std.specs.Prelude.{◌≡◌, ℕ, ◌+◌, ◌/◌, ◌%◌, List, [], ◌∷◌, map, Option, Some, None, nat_le, if◌then◌else◌}
 use Rattle.std.specs.FinMap as finite
 use Rattle.tick_wheel.specs.TimerId.{TimerId}
 use Rattle.tick_wheel.specs.Timers.{Deadlines}
@@ -31,3 +31,7 @@ due_from clock place (Some deadline ∷ table) =
 abbrev pub kept : ℕ → Option ℕ → Option ℕ
 kept clock None = None
 kept clock (Some deadline) = if nat_le deadline clock then None else Some deadline
+
+-- no deadline of the table has come
+abbrev pub NoneDue : ℕ → List (Option ℕ) → Type 0
+NoneDue clock table = map (kept clock) table ≡ table

@@ -1,5 +1,6 @@
 -- The timers of a link: a clock, and the deadline of each timer that is active (Z.100, timers).
-use Rattle.std.specs.Prelude.{ℕ, Bool, false, not, List, map, filter, nat_le, refl}
+use Rattle.std.specs.Prelude.{◌≡◌, ◌↔◌, ◌≤◌, ℕ, Bool, false, not, List, map, filter, nat_le, Contains, Some, refl}
+use Rattle.std.specs.List.Sorted.{IsStrictlySortedBy}
 use Rattle.std.specs.declared.cmp.Ordering.{Ordering}
 use Rattle.std.specs.Coded.{Coded, code_by, coded×, coded_ℕ}
 use Rattle.std.specs.FinMap as finite
@@ -46,3 +47,8 @@ is_due deadlines clock timer = option_map_or (λ d. nat_le d clock) (finite.get 
 -- the map without what is due
 unfoldable pub not_due : Deadlines → ℕ → Deadlines
 not_due deadlines clock = finite.retain_keys deadlines (λ timer. not (is_due deadlines clock timer))
+
+-- the pairs are those that are due at a clock, each once, in order
+pub record IsDue (deadlines : Deadlines) (clock : ℕ) (answer : List Due) : Type 0 where
+  pub exactly : (d : Due) → Contains answer d ↔ ((finite.get deadlines d.timer ≡ Some d.deadline) × (d.deadline ≤ clock))
+  pub in_order : IsStrictlySortedBy due_cmp answer

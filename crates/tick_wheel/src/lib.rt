@@ -1,7 +1,7 @@
 //! The timers of a link: which are active, until when, and which are due as the clock goes on.
 #![tactic(auto)]
 
-ghost use Rattle.std.specs.Prelude.{◌≡◌, ℕ, ◌+◌, ◌*◌, ◌^◌, ◌<◌, ◌≤◌, ◌↔◌, IfOk, OnOk, OnErr, IsErrOf, IsTrue};
+ghost use Rattle.std.specs.Prelude.{◌≡◌, ℕ, ◌+◌, ◌*◌, ◌^◌, ◌<◌, ◌≤◌, ◌↔◌, IfOk, IfSome, OnOk, OnErr, IsErrOf};
 ghost use Rattle.std.specs.Prelude.{length, map as list_map};
 ghost use Rattle.std.specs.FinMap as map;
 ghost use Rattle.tick_wheel.specs.Table.{timer_at, due_from, kept};
@@ -133,7 +133,7 @@ pub struct Wheel {
 impl Model for Wheel {
     ghost use Rattle.std.specs.Prelude.{◌≡◌, ◌≤◌, ◌^◌, length};
     ghost use Rattle.tick_wheel.specs.Timers.{Timers, timers_code};
-    ghost use Rattle.tick_wheel.specs.Table.{deadlines_of};
+    ghost use Rattle.tick_wheel.specs.Table.{deadlines_of, NoneDue};
     ghost use Rattle.tick_wheel.specs.declared.TheConstants.{TIMERS, LAST_CLOCK};
 
     ghost Value = { Timers };
@@ -142,11 +142,11 @@ impl Model for Wheel {
 
     ghost view = { λ w. record { clock = w.clock; deadlines = deadlines_of w.deadlines.items } };
 
-    ghost invariant = { λ w. (length w.deadlines.items ≡ TIMERS) × (w.clock ≤ LAST_CLOCK) };
+    ghost invariant = { λ w. (length w.deadlines.items ≡ TIMERS) × (w.clock ≤ LAST_CLOCK) × NoneDue w.clock w.deadlines.items };
 }
 
 impl Wheel {
-    ghost use Rattle.tick_wheel.specs.Timers.{due, not_due};
+    ghost use Rattle.tick_wheel.specs.Timers.{due, not_due, IsDue};
 
     /// No timer is active, and the clock shows 0.
     pub fn new(alloc: Global) -> Result<Self, AllocError>
@@ -178,7 +178,8 @@ impl Wheel {
 
     /// The deadline of a timer, if it is active.
     pub fn deadline_of(&self, timer: Timer) -> Option<u64>
-        ensures { result ≡ map.get self.now.deadlines timer }
+        ensures value { result ≡ map.get self.now.deadlines timer }
+        ensures later { IfSome result (λ deadline. self.now.clock < deadline) }
     {
         self.deadlines[timer.place()]
     }
@@ -214,6 +215,7 @@ impl Wheel {
         ensures refused { OnErr result (self.new ≡ self.old) }
 
         ensures due { IfOk result (λ answer. answer.items ≡ due self.old.deadlines (self.old.clock + ticks)) }
+        ensures meaning { IfOk result (λ answer. IsDue self.old.deadlines (self.old.clock + ticks) answer.items) }
         ensures clock { OnOk result (self.new.clock ≡ self.old.clock + ticks) }
         ensures rest { OnOk result (self.new.deadlines ≡ not_due self.old.deadlines (self.old.clock + ticks)) }
     {

@@ -1,4 +1,4 @@
-use Rattle.std.proofs.Common.{length, ap, arith}
+use Rattle.std.proofs.Common.{ap, arith}
 use Rattle.input_port.proofs.Queues.{length-IsQueue}
 use Rattle.input_port.proofs.queue.Port.len.Goals as goal
 

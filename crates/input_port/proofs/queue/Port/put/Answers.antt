@@ -1,4 +1,4 @@
-use Rattle.std.proofs.Common.{◌≡◌, ◌≢◌, subst, sym, ◌∙◌, arith, length-append}
+use Rattle.std.proofs.Common.{◌≡◌, subst, sym, ◌∙◌, arith, length-append}
 use Rattle.input_port.specs.Queue.{IsQueue, signal_count}
 use Rattle.input_port.proofs.Queues.{length-IsQueue, IsQueue-signal}
 use Rattle.input_port.proofs.queue.Port.put.Goals as goal
