@@ -2,3 +2,4 @@ pub mod Weights
 pub mod Nexts
 pub mod Given
 pub mod InOrder
+pub mod Stands

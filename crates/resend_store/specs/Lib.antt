@@ -5,5 +5,6 @@ pub mod StoreInside
 pub mod Window
 pub mod Steps
 pub mod Runs
+pub mod Whole
 pub mod SenderInside
 pub mod Intake

@@ -77,7 +77,7 @@ impl Sender {
     pub fn sent(&self) -> usize
         ensures { result ≡ self.now.sent }
     {
-        self.store.sent() as usize
+        usize::from(self.store.sent())
     }
 
     /// The forward sequence number of a unit without a message: the one before that of the next new message.
@@ -150,14 +150,15 @@ impl Sender {
         ensures ok { OnOk result (self.new ≡ after_back self.old bsn bib) }
         ensures err { OnErr result (self.new ≡ self.old) }
     {
+        let sent = self.store.sent();
         let count = self.count_by(bsn);
-        if count > self.store.sent() {
+        if count > sent {
             return Err(AckError::BadAck);
         }
         self.release(count);
         if self.mode == Mode::Basic && bib != self.fib {
             self.fib = 1 - self.fib;
-            self.again = self.store.sent();
+            self.again = sent - count;
         }
         Ok(count as usize)
     }
@@ -176,7 +177,7 @@ impl Sender {
     {
         let sent = self.store.sent();
         let count = accepted.map_or(0, |fsn| self.count_by(fsn));
-        if count > sent {
+        if sent < count {
             return Err(RetrieveError::BadAck);
         }
         let gone = if accepted.is_some() { count } else { sent };
