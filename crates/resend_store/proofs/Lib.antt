@@ -3,3 +3,4 @@ pub mod Nexts
 pub mod Given
 pub mod InOrder
 pub mod Stands
+pub mod InTurn

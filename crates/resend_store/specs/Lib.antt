@@ -6,5 +6,6 @@ pub mod Window
 pub mod Steps
 pub mod Runs
 pub mod Whole
+pub mod Hearings
 pub mod SenderInside
 pub mod Intake

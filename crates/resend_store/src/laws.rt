@@ -1,4 +1,5 @@
 //! Laws over every list of calls.
+ghost use Rattle.resend_store.specs.Hearings.{AcceptsInTurn};
 ghost use Rattle.resend_store.specs.Runs.{NewInOrder};
 ghost use Rattle.resend_store.specs.Whole.{KeptIsEnough};
 
@@ -13,4 +14,10 @@ pub fn new_messages_go_out_in_order()
 /// go on alike, over every list of calls.
 pub fn kept_window_stands_for_all_messages()
     ensures { KeptIsEnough }
+{}
+
+/// Over every list of units, whatever their numbers and bits, those that a receiver accepts carry messages, and their
+/// numbers rise by one modulo 128: from 0 after `Receiver::new` and `fresh`, else from one after the last accepted.
+pub fn accepted_units_are_in_turn()
+    ensures { AcceptsInTurn }
 {}

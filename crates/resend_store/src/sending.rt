@@ -16,7 +16,7 @@ use std::marker::Model;
 /// The messages of one link that are not acknowledged, and the numbers that they go out with.
 ///
 /// All its room is made by `new`. Only `retrieve` takes memory after that.
-#[derive(Drop)]
+#[derive(Debug, Drop)]
 pub struct Sender {
     mode: Mode,
     store: Store,

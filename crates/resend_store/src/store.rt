@@ -11,7 +11,7 @@ use std::marker::Model;
 use std::mem;
 
 /// Messages, oldest first, of which the first are sent.
-#[derive(Drop)]
+#[derive(Debug, Drop)]
 pub(crate) struct Store {
     kept: VecDeque<Msu>,
     sent: u8,
