@@ -11,7 +11,7 @@ use Rattle.resend_store.specs.Runs.{counted}
 use Rattle.resend_store.specs.Hearings.{Heard, hear_unit, is_accept, accepted_units, AcceptsInTurn}
 
 -- what one unit does, where the last number accepted was this
-data HearIs (last fsn : ℕ) (has_msu : Bool) (s : Hearing) : Type 0 where
+pub data HearIs (last fsn : ℕ) (has_msu : Bool) (s : Hearing) : Type 0 where
   taken : is_accept s.verdict ≡ true → has_msu ≡ true → fsn ≡ plus last 1 → s.known.last ≡ fsn → HearIs last fsn has_msu s
   passed : is_accept s.verdict ≡ false → s.known.last ≡ last → HearIs last fsn has_msu s
 
@@ -51,6 +51,9 @@ by_mode_is Basic r fsn fib has_msu =
 by_mode_is Cyclic r fsn fib has_msu =
     let P : Hearing → Type 0 = λ s. HearIs r.last fsn has_msu s in
     by_test P (is_in_turn r fsn has_msu) (accepts r) (discards r) (accepts_is r fsn has_msu) (λ _. passed refl refl)
+
+pub hear_is : (r : Intake) (fsn fib : ℕ) (has_msu : Bool) → HearIs r.last fsn has_msu (hear r fsn fib has_msu)
+hear_is r fsn fib has_msu = by_mode_is r.mode r fsn fib has_msu
 
 -- ---- all units
 

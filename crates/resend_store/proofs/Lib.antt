@@ -4,3 +4,5 @@ pub mod Given
 pub mod InOrder
 pub mod Stands
 pub mod InTurn
+pub mod Sent
+pub mod Delivery

@@ -51,7 +51,7 @@ both_same a b c d e f = rw (e, f) refl
 not_above_zero : (n : ℕ) → nat_lt 0 n ≡ false → n ≡ 0
 not_above_zero n h = grind (arith, nat_tests)
 
-slice_get_drop : (n : ℕ) (ms : List Msu) (i : ℕ) → slice_get (drop n ms) i ≡ slice_get ms (n + i)
+pub slice_get_drop : (n : ℕ) (ms : List Msu) (i : ℕ) → slice_get (drop n ms) i ≡ slice_get ms (n + i)
 slice_get_drop zero ms i = ap (λ (k : ℕ). slice_get ms k) (sym (zero-add i))
 slice_get_drop (suc n) [] i = refl
 slice_get_drop (suc n) (m ∷ ms) i = let e : suc n + i ≡ suc (n + i) = omega arith in rw e (slice_get_drop n ms i)

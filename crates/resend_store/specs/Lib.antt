@@ -7,5 +7,6 @@ pub mod Steps
 pub mod Runs
 pub mod Whole
 pub mod Hearings
+pub mod Exchange
 pub mod SenderInside
 pub mod Intake

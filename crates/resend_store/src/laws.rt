@@ -1,4 +1,5 @@
 //! Laws over every list of calls.
+ghost use Rattle.resend_store.specs.Exchange.{DeliversInOrder};
 ghost use Rattle.resend_store.specs.Hearings.{AcceptsInTurn};
 ghost use Rattle.resend_store.specs.Runs.{NewInOrder};
 ghost use Rattle.resend_store.specs.Whole.{KeptIsEnough};
@@ -20,4 +21,10 @@ pub fn kept_window_stands_for_all_messages()
 /// numbers rise by one modulo 128: from 0 after `Receiver::new` and `fresh`, else from one after the last accepted.
 pub fn accepted_units_are_in_turn()
     ensures { AcceptsInTurn }
+{}
+
+/// Between a sender and a receiver, over lines that may lose and delay units and never change their order, what is accepted
+/// is a beginning of what the sender took: nothing is lost in between, nothing comes twice, and the order stays.
+pub fn messages_are_delivered_in_order()
+    ensures { DeliversInOrder }
 {}
