@@ -5,5 +5,8 @@ pub mod StoreInside
 pub mod Window
 pub mod Steps
 pub mod Runs
+pub mod Whole
+pub mod Hearings
+pub mod Exchange
 pub mod SenderInside
 pub mod Intake

@@ -94,10 +94,6 @@ fill_in w = record { unit = record { fsn = minus (number_at w w.sent) 1; fib = w
 abbrev pub repeats : Window → Sending
 repeats w = record { unit = unit_at w (w.sent - w.again); left = record w { again = w.again - 1 } }
 
--- all unacknowledged messages are to go again, from the first
-abbrev pub from_first : Window → Window
-from_first w = record w { again = w.sent }
-
 -- forced retransmission, at the beginning of a round
 abbrev pub round : Window → Window
 round w = record w { again = w.sent; forced = true }

@@ -6,7 +6,7 @@ use crate::messages::{Mode, Verdict};
 use crate::refusals::UnitError;
 use std::marker::Model;
 
-/// Which messages of the far side were accepted, and what goes back in each unit.
+/// Which messages of the far side were accepted, and what goes back in each unit (Q.703, sections 5 and 6).
 #[derive(Clone, Debug, Drop)]
 pub struct Receiver {
     mode: Mode,
@@ -64,6 +64,10 @@ impl Receiver {
     }
 
     /// Takes the forward number and bit of a unit without errors, and whether it carries a message.
+    ///
+    /// The next message in turn is accepted, and anything that tells of a lost one is refused by inverting the bit to send;
+    /// from then on units are discarded until the far side's bit agrees. With cyclic retransmission bits are ignored, and
+    /// all but the next message is discarded.
     ///
     /// `BadIndicator` where the bit changed though no negative acknowledgement is out. Nothing changes then.
     pub fn on_unit(&mut self, fsn: u8, fib: u8, has_msu: bool) -> Result<Verdict, UnitError>

@@ -13,10 +13,10 @@ use std::alloc::{AllocError, Global};
 use std::collections::VecDeque;
 use std::marker::Model;
 
-/// The messages of one link that are not acknowledged, and the numbers that they go out with.
+/// The messages of one link that are not acknowledged, and the numbers that they go out with (Q.703, sections 5 and 6).
 ///
 /// All its room is made by `new`. Only `retrieve` takes memory after that.
-#[derive(Drop)]
+#[derive(Debug, Drop)]
 pub struct Sender {
     mode: Mode,
     store: Store,
@@ -77,7 +77,7 @@ impl Sender {
     pub fn sent(&self) -> usize
         ensures { result ≡ self.now.sent }
     {
-        self.store.sent() as usize
+        usize::from(self.store.sent())
     }
 
     /// The forward sequence number of a unit without a message: the one before that of the next new message.
@@ -96,9 +96,10 @@ impl Sender {
         self.fib
     }
 
-    /// Takes a message to send.
+    /// Takes a message to send, with a field of 2 octets or more. It waits behind all others.
     ///
-    /// `Full` where `MAX_WAITING` or more wait. Nothing changes then.
+    /// `Full` where `MAX_WAITING` or more wait. Nothing changes then, and the message is dropped: who wants to keep it asks
+    /// `held` and `sent` first.
     pub fn put(&mut self, msu: Msu) -> Result<(), PutError>
         requires { 2 ≤ length msu.sif.items }
         ensures full { (result ≡ Err PutError.Full) ↔ (MAX_WAITING ≤ length (waiting self.old)) }
@@ -112,7 +113,7 @@ impl Sender {
         Ok(())
     }
 
-    /// Takes a message that another link left behind.
+    /// Takes a message that another link left behind (Q.704, changeover), with a field of 2 octets or more.
     ///
     /// `Full` where `MAX_KEPT` are unacknowledged or wait. Nothing changes then.
     pub fn put_diverted(&mut self, msu: Msu) -> Result<(), PutError>
@@ -128,7 +129,11 @@ impl Sender {
         Ok(())
     }
 
-    /// What goes out in the next unit.
+    /// What goes out in the next unit (Q.703, sections 5 and 6).
+    ///
+    /// With basic error correction: while a retransmission is under way its next message; else a new one, where one
+    /// waits and fewer than `MAX_UNACKNOWLEDGED` are unacknowledged; else no message. With cyclic retransmission: a new
+    /// one, or else the unacknowledged ones in turn; but while retransmission is forced, whole rounds of those.
     pub fn next_unit(&mut self) -> Outgoing
         ensures unit { result ≡ (next self.old).unit }
         ensures left { self.new ≡ (next self.old).left }
@@ -140,7 +145,8 @@ impl Sender {
         self.give()
     }
 
-    /// Takes the backward number and bit of a unit without errors, and answers how many messages it acknowledges.
+    /// Takes the backward number, 0 to 127, and bit of a unit without errors, and answers how many messages it acknowledges.
+    /// With basic error correction a bit unlike the forward one asks for all unacknowledged messages again.
     ///
     /// `BadAck` where that is more than are sent and not acknowledged. Nothing changes then.
     pub fn on_back(&mut self, bsn: u8, bib: u8) -> Result<usize, AckError>
@@ -150,20 +156,22 @@ impl Sender {
         ensures ok { OnOk result (self.new ≡ after_back self.old bsn bib) }
         ensures err { OnErr result (self.new ≡ self.old) }
     {
+        let sent = self.store.sent();
         let count = self.count_by(bsn);
-        if count > self.store.sent() {
+        if count > sent {
             return Err(AckError::BadAck);
         }
         self.release(count);
         if self.mode == Mode::Basic && bib != self.fib {
             self.fib = 1 - self.fib;
-            self.again = self.store.sent();
+            self.again = sent - count;
         }
         Ok(count as usize)
     }
 
-    /// Hands out what the far side may lack, in order: what comes after the number that it accepted last, or, where that
-    /// number isn't known, what was never sent. Nothing is kept then, and numbers go on after the last acknowledged one.
+    /// Hands out, in order, what the far side may lack (Q.704, retrieval): what comes after the number, 0 to 127, that it
+    /// accepted last, or, where that number isn't known, what was never sent. Nothing is kept then, and numbers go on after
+    /// the last acknowledged one.
     ///
     /// `BadAck` where the number acknowledges more than is sent, and then `NoMemory`. Nothing changes in either case.
     pub fn retrieve(&mut self, accepted: Option<u8>) -> Result<VecDeque<Msu>, RetrieveError>
@@ -176,7 +184,7 @@ impl Sender {
     {
         let sent = self.store.sent();
         let count = accepted.map_or(0, |fsn| self.count_by(fsn));
-        if count > sent {
+        if sent < count {
             return Err(RetrieveError::BadAck);
         }
         let gone = if accepted.is_some() { count } else { sent };

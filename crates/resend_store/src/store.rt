@@ -11,7 +11,7 @@ use std::marker::Model;
 use std::mem;
 
 /// Messages, oldest first, of which the first are sent.
-#[derive(Drop)]
+#[derive(Debug, Drop)]
 pub(crate) struct Store {
     kept: VecDeque<Msu>,
     sent: u8,
@@ -117,10 +117,12 @@ impl Store {
         ensures emptied { IfOk result (λ _. self.new ≡ record { kept = []; sent = 0 }) }
         ensures err { OnErr result (self.new ≡ self.old) }
     {
-        let empty = VecDeque::with_capacity(*self.kept.allocator(), MAX_KEPT)?;
-        self.sent = 0;
-        self.octets = 0;
-        Ok(mem::replace(&mut self.kept, empty))
+        let empty = Store {
+            kept: VecDeque::with_capacity(*self.kept.allocator(), MAX_KEPT)?,
+            sent: 0,
+            octets: 0,
+        };
+        Ok(mem::replace(self, empty).kept)
     }
 }
 
