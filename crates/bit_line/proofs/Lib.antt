@@ -1,0 +1,3 @@
+pub mod BitLists
+pub mod StuffLaws
+pub mod ContentLaws
