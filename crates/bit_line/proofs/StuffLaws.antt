@@ -71,7 +71,7 @@ with_zero-zero : (h : List Bool) → with_zero (false ∷ h) ≡ false ∷ h
 unfolding with_zero trailing
 with_zero-zero h = refl
 
-stuffed-zero : (h : List Bool) → stuffed (false ∷ h) ≡ false ∷ stuffed h
+pub stuffed-zero : (h : List Bool) → stuffed (false ∷ h) ≡ false ∷ stuffed h
 unfolding stuffed
 stuffed-zero h = with_zero-zero (stuffed h)
 

@@ -2,6 +2,7 @@
 use Rattle.std.specs.Prelude.{◌≡◌, ℕ, ◌+◌, ◌-◌, ◌*◌, ◌%◌, ◌^◌, zero, suc, min, nat_lt, nat_le, Bool, true, false, ◌||◌, if◌then◌else◌, Option, Some, None, unwrap_or, is_some, List, [], ◌∷◌, ◌++◌, length, reverse}
 use Rattle.std.specs.Option.{option_map}
 use Rattle.bit_line.specs.Parts.{Packed}
+use Rattle.bit_line.specs.Counting.{Counts}
 use Rattle.bit_line.specs.Stuffing.{trailing, taken_out}
 use Rattle.bit_line.specs.Flags.{since_flag, inside, MOST_BITS}
 use Rattle.bit_line.specs.Events.{Runs}
@@ -47,11 +48,15 @@ newest (suc k) (b ∷ h) = (if b then 1 else 0) + 2 * newest k h
 pub record Fits (h : List Bool) (mode : Option ℕ) (deframer : Deframer) : Type 0 where
   pub recent : deframer.recent ≡ newest 7 h
   pub gate : LetsIn h deframer.gate
-  pub counting : deframer.counting ≡ option_map (λ n. n % 128) mode
+  pub counting : Counts mode deframer.counter.count
 
 -- a deframer after a history that gave these events
 unfoldable pub StandsAt : List Bool → List LineEvent → Deframer → Type 0
 StandsAt h events deframer = (mode : Option ℕ) × Runs h mode events × Fits h mode deframer
+
+-- the bit seven before the next one; it is taken to be a 1 before the first bit
+unfoldable pub seventh : List Bool → Bool
+seventh h = nat_le 64 (newest 7 h)
 
 -- the deframer stands for these line bits, in order of coming
 unfoldable pub Stands : List Bool → Deframer → Type 0

@@ -3,5 +3,7 @@ pub mod Flags
 pub mod Events
 pub mod Sending
 pub mod Parts
-pub mod Deframing
+pub mod Counting
 pub mod Judging
+pub mod Deframing
+pub mod Stuffers

@@ -21,6 +21,7 @@ pub enum Closed {
 }
 
 /// The bits between two flags so far, as a unit's.
+#[derive(Drop)]
 pub struct Content {
     /// How many 1s in a row came last, up to 6.
     pub ones: u8,
@@ -46,6 +47,16 @@ impl Content {
             ones: 0,
             six: false,
             data_bits: Data::new(),
+        }
+    }
+
+    pub fn copy(&self) -> Self
+        ensures { (h : List Bool) → Holds h self.now → Holds h result }
+    {
+        Content {
+            ones: self.ones,
+            six: self.six,
+            data_bits: self.data_bits.copy(),
         }
     }
 

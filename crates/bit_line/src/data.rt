@@ -7,6 +7,7 @@ use crate::part::Part;
 use arrayvec::ArrayVec;
 
 /// Up to 2,224 bits, as octets. With one more bit only the fact that they are more is kept.
+#[derive(Drop)]
 pub struct Data {
     pub octets: ArrayVec<u8, 278>,
     pub part: Part,
@@ -31,6 +32,27 @@ impl Data {
         self.octets.clear();
         self.part = Part::new();
         self.over = false;
+    }
+
+    /// The whole octets.
+    pub fn octets(&self) -> ArrayVec<u8, 278>
+        ensures { result.items ≡ self.now.octets.items }
+    {
+        let mut octets = ArrayVec::new();
+        octets
+            .try_extend_from_slice(self.octets.as_slice())
+            .unwrap();
+        octets
+    }
+
+    pub fn copy(&self) -> Self
+        ensures { (h : List Bool) → Gathers h self.now → Gathers h result }
+    {
+        Data {
+            octets: self.octets(),
+            part: self.part,
+            over: self.over,
+        }
     }
 
     /// Whether there is no bit.

@@ -6,6 +6,7 @@
 #![tactic(auto)]
 
 mod content;
+mod counter;
 mod data;
 mod deframer;
 mod events;
