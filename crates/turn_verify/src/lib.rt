@@ -3,6 +3,7 @@
 
 mod entry;
 mod fault;
+mod names;
 mod places;
 mod tables;
 mod transition;
