@@ -12,8 +12,10 @@ mod walk;
 
 pub use fault::{Spot, VerifyFault};
 pub use transition::Transition;
+pub use turn_code::{
+    Cert, Draft, Place, ProcessNumber, Rule, SignalNumber, StateNumber, VariableNumber,
+};
 pub use verified::{Verified, verify};
-pub use turn_code::{Cert, Draft, Place, ProcessNumber, Rule, SignalNumber, StateNumber, VariableNumber};
 
 #[cfg(test)]
 mod tests;

@@ -6,7 +6,8 @@ ghost use Rattle.turn_verify.specs.Named.{states_at, variables_at, inputs_at, pr
 
 use crate::verified::Verified;
 use turn_code::{
-    DraftInput, DraftState, DraftVariable, Name, ProcessNumber, SignalNumber, StateNumber, Trigger, VariableNumber,
+    DraftInput, DraftState, DraftVariable, Name, ProcessNumber, SignalNumber, StateNumber, Trigger,
+    VariableNumber,
 };
 
 impl Verified {
@@ -49,7 +50,12 @@ impl Verified {
     pub fn process_name(&self, process: ProcessNumber) -> Option<&Name>
         ensures { option_copied result ≡ slice_get (process_names self.now) process.0 }
     {
-        match self.draft().processes.as_slice().get(usize::from(process.0)) {
+        match self
+            .draft()
+            .processes
+            .as_slice()
+            .get(usize::from(process.0))
+        {
             Some(process) => Some(&process.name),
             None => None,
         }
@@ -86,7 +92,12 @@ impl Verified {
     }
 
     /// What an input of a state waits for; an input is called as its signal.
-    pub fn trigger(&self, process: ProcessNumber, state: StateNumber, input: usize) -> Option<Trigger>
+    pub fn trigger(
+        &self,
+        process: ProcessNumber,
+        state: StateNumber,
+        input: usize,
+    ) -> Option<Trigger>
         ensures { result ≡ option_map (λ (x : DraftInput). x.trigger) (slice_get (inputs_at self.now process.0 state.0) input) }
     {
         match self.inputs(process, state).get(input) {
@@ -98,7 +109,12 @@ impl Verified {
     fn states(&self, process: ProcessNumber) -> &[DraftState]
         ensures { result.now ≡ states_at self.now process.0 }
     {
-        match self.draft().processes.as_slice().get(usize::from(process.0)) {
+        match self
+            .draft()
+            .processes
+            .as_slice()
+            .get(usize::from(process.0))
+        {
             Some(process) => process.states.as_slice(),
             None => &[],
         }
@@ -107,7 +123,12 @@ impl Verified {
     fn variables(&self, process: ProcessNumber) -> &[DraftVariable]
         ensures { result.now ≡ variables_at self.now process.0 }
     {
-        match self.draft().processes.as_slice().get(usize::from(process.0)) {
+        match self
+            .draft()
+            .processes
+            .as_slice()
+            .get(usize::from(process.0))
+        {
             Some(process) => process.variables.as_slice(),
             None => &[],
         }
