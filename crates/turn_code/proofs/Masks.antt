@@ -17,14 +17,14 @@ within_from a b h v one =
 pub within_to : (a b : ℕ) → ((v : ℕ) → bit_at a v ≡ 1 → bit_at b v ≡ 1) → bit_and a b ≡ a
 within_to a b h =
     same_from_bits (bit_and a b) a (λ v.
-      let e : bit_at (bit_and a b) v ≡ min (bit_at a v) (bit_at b v) = bit_at_and a b v in
-      let low = bit_at-lt a v in
-      ⊎_elim
-        (λ (one : (eqb (bit_at a v) 1 ≡ true) × (bit_at a v ≡ 1)).
-          let is : bit_at a v ≡ 1 = one.1 in
-          let other : bit_at b v ≡ 1 = h v is in
-          let goal : bit_at (bit_and a b) v ≡ bit_at a v = omega arith in goal)
-        (λ (zero : (eqb (bit_at a v) 1 ≡ false) × (bit_at a v ≢ 1)).
-          let is : bit_at a v ≡ 0 = omega (arith, zero.1) in
-          let goal : bit_at (bit_and a b) v ≡ bit_at a v = omega arith in goal)
-        (eqb_tells (bit_at a v) 1))
+    let e : bit_at (bit_and a b) v ≡ min (bit_at a v) (bit_at b v) = bit_at_and a b v in
+    let low = bit_at-lt a v in
+    ⊎_elim
+    (λ (one : (eqb (bit_at a v) 1 ≡ true) × (bit_at a v ≡ 1)).
+    let is : bit_at a v ≡ 1 = one.1 in
+    let other : bit_at b v ≡ 1 = h v is in
+    let goal : bit_at (bit_and a b) v ≡ bit_at a v = omega arith in goal)
+    (λ (zero : (eqb (bit_at a v) 1 ≡ false) × (bit_at a v ≢ 1)).
+    let is : bit_at a v ≡ 0 = omega (arith, zero.1) in
+    let goal : bit_at (bit_and a b) v ≡ bit_at a v = omega arith in goal)
+    (eqb_tells (bit_at a v) 1))

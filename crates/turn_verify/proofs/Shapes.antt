@@ -20,7 +20,7 @@ pub shapes_hold : (t : Transition) (js : List ℕ) (i : Instruction) (shape fron
     → IsTrue b ↔ ShapesHold t js i shape
 shapes_hold t js i shape front rest b given left h =
     let same : front ++ rest ≡ shape_after t.process.variables t.parameters i shape =
-      ap (λ u. u ++ rest) given ∙ ap (λ u. gives t.process.variables t.parameters i ++ u) left in
+    ap (λ u. u ++ rest) given ∙ ap (λ u. gives t.process.variables t.parameters i ++ u) left in
     let h' : IsTrue b ↔ AllAre t.piece.facts js (shape_after t.process.variables t.parameters i shape) =
-      subst (λ u. IsTrue b ↔ AllAre t.piece.facts js u) same h in
+    subst (λ u. IsTrue b ↔ AllAre t.piece.facts js u) same h in
     (λ yes. record { each = λ j g c e. h'.0 yes j g c e }, λ holds. h'.1 (λ j g c e. holds.each j g c e))

@@ -99,10 +99,12 @@ input_there d p process q state i x pe qe xe =
     ap (process_at d.signals (InState q) i) pe ∙ rw (qe, xe) refl
 
 pub valid_input : (d : Draft) (p : ℕ) (s : Place) (i : ℕ) (t : Transition) → transition_at d p s i ≡ Some t → IsValidTransition d t → IsValidAt d p s i
-valid_input d p s i t e valid = record { each = λ t' e'.
-  let same : Some t ≡ Some t' = sym e ∙ e' in
-  let same' : t ≡ t' = cc in
-  subst (IsValidTransition d) same' valid }
+valid_input d p s i t e valid = record {
+  each = λ t' e'.
+      let same : Some t ≡ Some t' = sym e ∙ e' in
+      let same' : t ≡ t' = cc in
+      subst (IsValidTransition d) same' valid;
+}
 
 -- nothing is there
 pub valid_none : (d : Draft) (p : ℕ) (s : Place) (i : ℕ) → transition_at d p s i ≡ None → IsValidAt d p s i
@@ -151,16 +153,18 @@ valid_below d t a n long below =
 pub state_below : (d : Draft) (p : ℕ) (process : DraftProcess) (q : StateNumber) (state : DraftState)
     → slice_get d.processes p ≡ Some process → slice_get process.states q.0 ≡ Some state → (n : ℕ) → length state.inputs ≤ n
     → ((i : ℕ) → i < n → IsValidAt d p (InState q) i) → IsValidState d p (InState q)
-state_below d p process q state pe qe n long below = record { each = λ i.
-  either {P = λ i. IsValidAt d p (InState q) i} n i below
-    (λ j h. no_input d p process q state j pe qe (get_past state.inputs j (omega arith))) }
+state_below d p process q state pe qe n long below = record {
+  each = λ i.
+      either {P = λ i. IsValidAt d p (InState q) i} n i below
+      (λ j h. no_input d p process q state j pe qe (get_past state.inputs j (omega arith)));
+}
 
 process_by : (d : Draft) (p : ℕ) (process : DraftProcess) → slice_get d.processes p ≡ Some process → IsValidState d p Start
     → (n : ℕ) → length process.states ≤ n → ((q : ℕ) → q < n → IsValidState d p (InState (record { 0 = q }))) → (s : Place) → IsValidState d p s
 process_by d p process e start n long below Start = start
 process_by d p process e start n long below (InState q) =
     either {P = λ q. IsValidState d p (InState (record { 0 = q }))} n q.0 below
-      (λ j h. no_state d p process (record { 0 = j }) e (get_past process.states j (omega arith)))
+    (λ j h. no_state d p process (record { 0 = j }) e (get_past process.states j (omega arith)))
 
 pub process_below : (d : Draft) (p : ℕ) (process : DraftProcess) → slice_get d.processes p ≡ Some process → IsValidState d p Start
     → (n : ℕ) → length process.states ≤ n → ((q : ℕ) → q < n → IsValidState d p (InState (record { 0 = q }))) → IsValidProcess d p
@@ -170,7 +174,7 @@ pub draft_below : (d : Draft) → KeepsSetLimits d → (n : ℕ) → length d.pr
 draft_below d limits n long below = record {
   limits = limits;
   each = λ p s i t e.
-    (((either {P = λ p. IsValidProcess d p} n p below (λ j h. no_process d j (get_past d.processes j (omega arith)))).each s).each i).each t e;
+      (((either {P = λ p. IsValidProcess d p} n p below (λ j h. no_process d j (get_past d.processes j (omega arith)))).each s).each i).each t e;
 }
 
 -- ---- from what is broken to where it is broken

@@ -3,3 +3,4 @@ pub mod Parts
 pub mod Faults
 pub mod Walk
 pub mod Certified
+pub mod Named

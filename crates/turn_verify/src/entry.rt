@@ -11,7 +11,8 @@ ghost use Rattle.turn_verify.specs.Parts.{Entry, AllEntries, FirstPlace, HasShap
 use crate::places::counts_in;
 use crate::transition::Transition;
 use turn_code::{
-    Draft, DraftPiece, DraftProcess, DraftSignal, DraftVariable, PlaceFacts, Rule, Trigger, VariableSet,
+    Draft, DraftPiece, DraftProcess, DraftSignal, DraftVariable, PlaceFacts, Rule, Trigger,
+    VariableSet,
 };
 
 /// The first rule that is broken by a transition as a whole.

@@ -3,6 +3,7 @@
 
 mod entry;
 mod fault;
+mod names;
 mod places;
 mod tables;
 mod transition;
@@ -11,8 +12,10 @@ mod walk;
 
 pub use fault::{Spot, VerifyFault};
 pub use transition::Transition;
+pub use turn_code::{
+    Cert, Draft, Place, ProcessNumber, Rule, SignalNumber, StateNumber, VariableNumber,
+};
 pub use verified::{Verified, verify};
-pub use turn_code::{Cert, Draft, Place, ProcessNumber, Rule, SignalNumber, StateNumber, VariableNumber};
 
 #[cfg(test)]
 mod tests;

@@ -60,7 +60,12 @@ fn check_successors(
     if !are_inside(nexts.as_slice(), transition.piece.code.len()) {
         return Err(Rule::Jump);
     }
-    if !shapes_are_left(transition, nexts.as_slice(), instruction, facts.shape.as_slice()) {
+    if !shapes_are_left(
+        transition,
+        nexts.as_slice(),
+        instruction,
+        facts.shape.as_slice(),
+    ) {
         return Err(Rule::Shape);
     }
     if !sets_are_left(transition, nexts.as_slice(), instruction, facts.set) {
@@ -152,11 +157,21 @@ fn shapes_are_left(
     let variables = transition.process.variables.as_slice();
     let given = given_sort(instruction, variables, transition.parameters);
     let taken = taken_sorts(instruction, variables).len();
-    places_have_shape(transition.piece.facts.as_slice(), nexts, given, &shape[taken..])
+    places_have_shape(
+        transition.piece.facts.as_slice(),
+        nexts,
+        given,
+        &shape[taken..],
+    )
 }
 
 /// Whether the shape at each of these places is `given` on top of `rest`.
-fn places_have_shape(facts: &[PlaceFacts], nexts: &[usize], given: Option<Sort>, rest: &[Sort]) -> bool
+fn places_have_shape(
+    facts: &[PlaceFacts],
+    nexts: &[usize],
+    given: Option<Sort>,
+    rest: &[Sort],
+) -> bool
     ensures { IsTrue result ↔ ((j : ℕ) (g : PlaceFacts) → Contains nexts.now j → slice_get facts.now j ≡ Some g → g.shape ≡ option_to_list given ++ rest.now) }
 {
     for next in nexts {
@@ -251,7 +266,13 @@ fn greatest_counts(facts: &[PlaceFacts], places: &[usize]) -> (u32, u32)
 }
 
 /// Whether the counts of a place are one more than the greatest of those where the code goes on.
-fn counts_are_right(transition: &Transition<'_>, place: usize, nexts: &[usize], instruction: Instruction, here: &PlaceFacts) -> bool
+fn counts_are_right(
+    transition: &Transition<'_>,
+    place: usize,
+    nexts: &[usize],
+    instruction: Instruction,
+    here: &PlaceFacts,
+) -> bool
     requires { nexts.now ≡ successors instruction place }
     ensures { IsTrue result ↔ CountsPart (seen transition.now) place instruction here.now }
 {

@@ -8,7 +8,10 @@ use arrayvec::ArrayVec;
 use turn_code::{DraftVariable, Instruction, Sort, VariableNumber, VariableSet};
 
 /// The sort of a variable, if there is such a variable.
-pub(crate) fn sort_of_variable(variables: &[DraftVariable], variable: VariableNumber) -> Option<Sort>
+pub(crate) fn sort_of_variable(
+    variables: &[DraftVariable],
+    variable: VariableNumber,
+) -> Option<Sort>
     ensures { option_to_list result ≡ sort_at variables.now variable.0 }
 {
     match variables.get(usize::from(variable.0)) {
@@ -18,7 +21,10 @@ pub(crate) fn sort_of_variable(variables: &[DraftVariable], variable: VariableNu
 }
 
 /// The sorts of the operands that an instruction takes, the topmost first.
-pub(crate) fn taken_sorts(instruction: Instruction, variables: &[DraftVariable]) -> ArrayVec<Sort, 4>
+pub(crate) fn taken_sorts(
+    instruction: Instruction,
+    variables: &[DraftVariable],
+) -> ArrayVec<Sort, 4>
     ensures { result.items ≡ takes variables.now instruction }
 {
     let mut sorts = ArrayVec::new();
@@ -33,13 +39,18 @@ pub(crate) fn taken_sorts(instruction: Instruction, variables: &[DraftVariable])
             sorts.push(Sort::Integer);
         }
         Instruction::Neg => sorts.push(Sort::Integer),
-        Instruction::Int(_) | Instruction::Load(_) | Instruction::Param(_) | Instruction::Next(_) => {}
+        Instruction::Int(_) | Instruction::Load(_) | Instruction::Param(_) | Instruction::Next(_) =>
+            {}
     }
     sorts
 }
 
 /// The sort of the value that it puts on the operands, if it puts one there.
-pub(crate) fn given_sort(instruction: Instruction, variables: &[DraftVariable], parameters: &[Sort]) -> Option<Sort>
+pub(crate) fn given_sort(
+    instruction: Instruction,
+    variables: &[DraftVariable],
+    parameters: &[Sort],
+) -> Option<Sort>
     ensures { option_to_list result ≡ gives variables.now parameters.now instruction }
 {
     match instruction {

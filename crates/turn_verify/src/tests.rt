@@ -3,8 +3,8 @@ use std::alloc::{AllocError, Global};
 use std::process::Abort;
 use std::test::Fail;
 use turn_code::{
-    DraftInput, DraftPiece, DraftProcess, DraftRoute, DraftSignal, DraftState, DraftVariable, Instruction, Name,
-    Party, PlaceFacts, Sequence, Sort, Trigger, VariableSet,
+    DraftInput, DraftPiece, DraftProcess, DraftRoute, DraftSignal, DraftState, DraftVariable,
+    Instruction, Name, Party, PlaceFacts, Sequence, Sort, Trigger, VariableSet,
 };
 
 fn named(text: &str, rt: &impl Abort) -> Name {
@@ -54,7 +54,12 @@ fn piece(
 }
 
 /// The counter: Up(Integer) adds to a total. Variable 0 is n, variable 1 the total.
-fn counter(alloc: Global, start: DraftPiece, up: DraftPiece, rt: &impl Abort) -> Result<Draft, AllocError> {
+fn counter(
+    alloc: Global,
+    start: DraftPiece,
+    up: DraftPiece,
+    rt: &impl Abort,
+) -> Result<Draft, AllocError> {
     let integer = |text: &str| DraftVariable {
         name: named(text, rt),
         sort: Sort::Integer,
@@ -100,11 +105,17 @@ fn counter(alloc: Global, start: DraftPiece, up: DraftPiece, rt: &impl Abort) ->
 }
 
 const N: VariableNumber = VariableNumber(0);
+
 const TOTAL: VariableNumber = VariableNumber(1);
+
 const RUN: StateNumber = StateNumber(0);
 
 fn start(alloc: Global) -> Result<DraftPiece, AllocError> {
-    let code = [Instruction::Int(0), Instruction::Store(TOTAL), Instruction::Next(RUN)];
+    let code = [
+        Instruction::Int(0),
+        Instruction::Store(TOTAL),
+        Instruction::Next(RUN),
+    ];
     piece(alloc, &code, &[(0, 0), (1, 0), (0, 2)], 1)
 }
 
@@ -118,7 +129,12 @@ fn up(alloc: Global) -> Result<DraftPiece, AllocError> {
         Instruction::Store(TOTAL),
         Instruction::Next(RUN),
     ];
-    piece(alloc, &code, &[(0, 2), (1, 2), (0, 3), (1, 3), (2, 3), (1, 3), (0, 3)], 2)
+    piece(
+        alloc,
+        &code,
+        &[(0, 2), (1, 2), (0, 3), (1, 3), (2, 3), (1, 3), (0, 3)],
+        2,
+    )
 }
 
 #[test]
@@ -141,7 +157,10 @@ fn the_counter_is_valid(rt: HostRuntime) -> Result<(), Fail> {
     assert_eq!(rt; set.certificate(process, Place::State(RUN), 0), Some(up));
     assert_eq!(rt; set.certificate(process, Place::Start, 1), None);
     assert_eq!(rt; set.certificate(process, Place::State(RUN), 1), None);
-    assert_eq!(rt; set.certificate(process, Place::State(StateNumber(1)), 0), None);
+    assert_eq!(rt;
+        set.certificate(process, Place::State(StateNumber(1)), 0),
+        None
+    );
     assert_eq!(rt; set.certificate(ProcessNumber(1), Place::Start, 0), None);
     Ok(())
 }
@@ -157,23 +176,46 @@ fn refusal(alloc: Global, start: DraftPiece, rt: &impl Abort) -> Result<String, 
 #[test]
 fn a_broken_rule_is_named(rt: HostRuntime) -> Result<(), Fail> {
     let alloc = rt.alloc();
-    let add = [Instruction::Add, Instruction::Store(N), Instruction::Next(RUN)];
+    let add = [
+        Instruction::Add,
+        Instruction::Store(N),
+        Instruction::Next(RUN),
+    ];
     let under = piece(alloc, &add, &[(0, 0), (1, 0), (0, 1)], 1)?;
-    assert_eq!(rt; refusal(alloc, under, &rt)?.as_str(), "V3 Under process 0 START place 0");
+    assert_eq!(rt;
+        refusal(alloc, under, &rt)?.as_str(),
+        "V3 Under process 0 START place 0"
+    );
 
-    let store = [Instruction::Int(0), Instruction::Store(N), Instruction::Next(RUN)];
+    let store = [
+        Instruction::Int(0),
+        Instruction::Store(N),
+        Instruction::Next(RUN),
+    ];
     let total_unset = piece(alloc, &store, &[(0, 0), (1, 0), (0, 1)], 1)?;
-    assert_eq!(rt; refusal(alloc, total_unset, &rt)?.as_str(), "V5 Unset process 0 START place 2");
+    assert_eq!(rt;
+        refusal(alloc, total_unset, &rt)?.as_str(),
+        "V5 Unset process 0 START place 2"
+    );
 
     let no_end = piece(alloc, &[Instruction::Int(0)], &[(0, 0)], 0)?;
-    assert_eq!(rt; refusal(alloc, no_end, &rt)?.as_str(), "V1 Jump process 0 START place 0");
+    assert_eq!(rt;
+        refusal(alloc, no_end, &rt)?.as_str(),
+        "V1 Jump process 0 START place 0"
+    );
 
     let next = [Instruction::Next(StateNumber(1))];
     let no_state = piece(alloc, &next, &[(0, 0)], 0)?;
-    assert_eq!(rt; refusal(alloc, no_state, &rt)?.as_str(), "V6 State process 0 START place 0");
+    assert_eq!(rt;
+        refusal(alloc, no_state, &rt)?.as_str(),
+        "V6 State process 0 START place 0"
+    );
 
     let mut huge = start(alloc)?;
     huge.certificate.budget = 512;
-    assert_eq!(rt; refusal(alloc, huge, &rt)?.as_str(), "V9 Budget process 0 START place 0");
+    assert_eq!(rt;
+        refusal(alloc, huge, &rt)?.as_str(),
+        "V9 Budget process 0 START place 0"
+    );
     Ok(())
 }

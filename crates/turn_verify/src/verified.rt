@@ -67,20 +67,35 @@ impl Verified {
     }
 
     /// The transition of input `input` at a place of a process; START has the input 0. None where there is none.
-    pub fn transition(&self, number: ProcessNumber, place: Place, input: usize) -> Option<Transition<'_>>
+    pub fn transition(
+        &self,
+        number: ProcessNumber,
+        place: Place,
+        input: usize,
+    ) -> Option<Transition<'_>>
         ensures { option_map seen result ≡ transition_at self.now number.0 place input }
     {
         match self.draft.processes.as_slice().get(usize::from(number.0)) {
             Some(process) => match place {
                 Place::Start => self.start_at(number, process, input),
-                Place::State(state) => input_at(self.draft.signals.as_slice(), process, state, input),
+                Place::State(state) => input_at(
+                    self.draft.signals.as_slice(),
+                    process,
+                    state,
+                    input,
+                ),
             },
             None => None,
         }
     }
 
     /// The START transition of a process, which has the input 0 alone.
-    fn start_at<'a>(&self, number: ProcessNumber, process: &'a DraftProcess, input: usize) -> Option<Transition<'a>>
+    fn start_at<'a>(
+        &self,
+        number: ProcessNumber,
+        process: &'a DraftProcess,
+        input: usize,
+    ) -> Option<Transition<'a>>
         requires { slice_get self.now.processes number.0 ≡ Some process.now }
         ensures { option_map seen result ≡ start_found process.now input }
     {

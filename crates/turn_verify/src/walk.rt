@@ -17,8 +17,8 @@ use crate::fault::{Spot, VerifyFault};
 use crate::places::check_place;
 use crate::transition::Transition;
 use turn_code::{
-    Draft, DraftInput, DraftProcess, DraftSignal, DraftState, DraftVariable, Instruction, Place, PlaceFacts,
-    ProcessNumber, Rule, Sort, StateNumber, Trigger, VariableSet,
+    Draft, DraftInput, DraftProcess, DraftSignal, DraftState, DraftVariable, Instruction, Place,
+    PlaceFacts, ProcessNumber, Rule, Sort, StateNumber, Trigger, VariableSet,
 };
 
 /// A rule that a transition breaks, and at which place of its code.
@@ -67,7 +67,11 @@ fn check_process_at(draft: &Draft, number: ProcessNumber) -> Result<(), VerifyFa
 }
 
 /// The first rule that a process breaks.
-fn check_process(draft: &Draft, number: ProcessNumber, process: &DraftProcess) -> Result<(), VerifyFault>
+fn check_process(
+    draft: &Draft,
+    number: ProcessNumber,
+    process: &DraftProcess,
+) -> Result<(), VerifyFault>
     requires { slice_get draft.now.processes number.0 ≡ Some process.now }
     ensures ok { IfOk result (λ _. IsValidProcess draft.now number.0) }
     ensures err { IfErr result (λ e. IsBroken draft.now e) }
@@ -77,7 +81,11 @@ fn check_process(draft: &Draft, number: ProcessNumber, process: &DraftProcess) -
 }
 
 /// The first rule that a state of a process breaks.
-fn check_states(draft: &Draft, number: ProcessNumber, process: &DraftProcess) -> Result<(), VerifyFault>
+fn check_states(
+    draft: &Draft,
+    number: ProcessNumber,
+    process: &DraftProcess,
+) -> Result<(), VerifyFault>
     requires process { slice_get draft.now.processes number.0 ≡ Some process.now }
     requires limits { KeepsProcessLimits process.now }
     requires start { IsValidState draft.now number.0 Start }
@@ -108,7 +116,11 @@ fn check_state_at(
 }
 
 /// The first rule that the START of a process breaks, or its limits.
-fn check_start(draft: &Draft, number: ProcessNumber, process: &DraftProcess) -> Result<(), VerifyFault>
+fn check_start(
+    draft: &Draft,
+    number: ProcessNumber,
+    process: &DraftProcess,
+) -> Result<(), VerifyFault>
     requires { slice_get draft.now.processes number.0 ≡ Some process.now }
     ensures ok { IfOk result (λ _. IsValidState draft.now number.0 Start) }
     ensures limits { IfOk result (λ _. KeepsProcessLimits process.now) }
@@ -239,7 +251,11 @@ fn check_at(transition: &Transition<'_>, place: usize) -> Result<(), Rule>
 }
 
 /// The first rule that is broken at a place of this instruction, if the place has facts.
-fn check_with(transition: &Transition<'_>, place: usize, instruction: Instruction) -> Result<(), Rule>
+fn check_with(
+    transition: &Transition<'_>,
+    place: usize,
+    instruction: Instruction,
+) -> Result<(), Rule>
     requires place { place < 512 }
     requires variables { length transition.now.process.now.variables ≤ 32 }
     requires code { slice_get transition.now.piece.now.code place ≡ Some instruction }

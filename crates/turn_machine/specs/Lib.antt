@@ -1,0 +1,4 @@
+pub mod Turn
+pub mod Given
+pub mod Fitting
+pub mod Safety

@@ -1,0 +1,72 @@
+-- A turn, as contracts see a job, and a job that ran.
+use Rattle.std.specs.Prelude.{◌≡◌, ℕ, ◌≤◌, List, Option, Some, None}
+use Rattle.turn_code.specs.Run.{Progress, Ran, run, ended, got_stuck, unfinished}
+use Rattle.turn_code.specs.Transitions.{Transition, transition_at}
+use Rattle.turn_code.specs.Valid.{IsValidTransition}
+use Rattle.turn_code.specs.Fits.{FitsTransition}
+use Rattle.turn_code.specs.declared.value.Value.{Value}
+use Rattle.turn_code.specs.declared.effect.Effect.{Effect}
+use Rattle.turn_code.specs.declared.input.Input.{Input}
+use Rattle.turn_code.specs.declared.input.Place.{Place}
+use Rattle.turn_code.specs.declared.numbers.ProcessNumber.{ProcessNumber}
+use Rattle.turn_code.specs.declared.instruction.Instruction.{Instruction}
+use Rattle.turn_code.specs.declared.machine.End.{End}
+use Rattle.turn_code.specs.declared.draft.Cert.{Cert}
+use Rattle.turn_code.specs.declared.draft.Draft.{Draft}
+
+-- who runs, which turn of the set this is, the transition with its code and its counts, and the input
+pub record Turn : Type 0 where
+  pub actor : ℕ
+  pub turn : ℕ
+  pub process : ProcessNumber
+  pub place : Place
+  pub input_number : ℕ
+  pub code : List Instruction
+  pub certificate : Cert
+  pub input : Input
+
+abbrev pub turn_of : ℕ → ℕ → ProcessNumber → Place → ℕ → List Instruction → Cert → Input → Turn
+turn_of actor turn process place input_number code certificate input = record {
+  actor = actor;
+  turn = turn;
+  process = process;
+  place = place;
+  input_number = input_number;
+  code = code;
+  certificate = certificate;
+  input = input;
+}
+
+-- the code is that of a valid transition, and the input fits it
+pub record IsRunnable (j : Turn) : Type 0 where
+  pub draft : Draft
+  pub transition : Transition
+  pub valid : IsValidTransition draft transition
+  pub code : transition.piece.code ≡ j.code
+  pub certificate : transition.piece.certificate ≡ j.certificate
+  pub fits : FitsTransition draft j.process.0 transition j.input
+
+-- how a turn ends: the end and what it leaves
+pub record Outcome : Type 0 where
+  pub end : End
+  pub progress : Progress
+
+abbrev pub outcome_in : Ran → Option Outcome
+outcome_in (ended e s) = Some (record { end = e; progress = s })
+outcome_in (got_stuck x) = None
+outcome_in unfinished = None
+
+-- the outcome of the run of a turn's own code on its own input
+abbrev pub outcome_of : Turn → Option Outcome
+outcome_of j = outcome_in (run j.code j.input)
+
+-- the job is that transition of the draft on that input
+pub record Begins (d : Draft) (actor turn : ℕ) (process : ProcessNumber) (place : Place) (input_number : ℕ) (input : Input) (j : Turn) : Type 0 where
+  pub transition : Transition
+  pub there : transition_at d process.0 place input_number ≡ Some transition
+  pub is : j ≡ turn_of actor turn process place input_number transition.piece.code transition.piece.certificate input
+
+-- the end, variables, effects and count are those of the run of the turn's own code on its own input, within its budget
+pub record IsOutcome (j : Turn) (e : End) (vs : List (Option Value)) (es : List Effect) (count : ℕ) : Type 0 where
+  pub ran : run j.code j.input ≡ ended e (record { variables = vs; effects = es; count = count })
+  pub within : count ≤ j.certificate.budget

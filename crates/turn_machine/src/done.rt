@@ -1,0 +1,113 @@
+//! Jobs that ran.
+
+ghost use Rattle.std.specs.Prelude.{◌≡◌, ◌≤◌, [], option_map};
+ghost use Rattle.turn_code.specs.Run.{begun};
+ghost use Rattle.turn_code.specs.Machine.{progress_of};
+ghost use Rattle.turn_machine.specs.Turn.{Outcome, outcome_of};
+
+use crate::copy::copied_variables;
+use crate::execute::execute;
+use crate::job::Job;
+use arrayvec::ArrayVec;
+use std::marker::Model;
+use turn_code::laws::safe_law;
+use turn_code::{Effect, End, Machine, Operands, Value};
+
+/// A job that ran, with its outcome: the run of its own code on its own input.
+#[derive(Drop)]
+pub struct Done {
+    job: Job,
+    end: End,
+    variables: ArrayVec<Option<Value>, 32>,
+    effects: ArrayVec<Effect, 32>,
+    count: u32,
+}
+
+impl Model for Done {
+    ghost use Rattle.turn_machine.specs.Turn.{Turn, IsOutcome};
+
+    ghost Value = { Turn };
+
+    ghost view = { λ d. d.job };
+
+    ghost invariant = { λ d. IsOutcome d.job d.end d.variables.items d.effects.items d.count };
+}
+
+/// Runs a job to its end. It takes no memory, and it is never refused.
+pub fn run(job: Job) -> Done
+    ensures { result ≡ job }
+{
+    safe_law();
+    let mut machine = begin(&job);
+    let budget = job.certificate().budget;
+    let end = execute(
+        job.code(),
+        job.input().parameters.as_slice(),
+        budget,
+        &mut machine,
+    );
+    let Machine {
+        operands: _,
+        variables,
+        effects,
+        count,
+    } = machine;
+    Done {
+        job,
+        end,
+        variables,
+        effects,
+        count,
+    }
+}
+
+/// The machine as a job begins.
+fn begin(job: &Job) -> Machine
+    ensures operands { result.operands ≡ [] }
+    ensures progress { progress_of result ≡ begun job.now.input }
+{
+    Machine {
+        operands: Operands::new(),
+        variables: copied_variables(&job.input().variables),
+        effects: ArrayVec::new(),
+        count: 0,
+    }
+}
+
+impl Done {
+    /// The job that ran.
+    pub fn job(&self) -> &Job
+        ensures { result.now ≡ self.now }
+    {
+        &self.job
+    }
+
+    /// How it ended.
+    pub fn end(&self) -> End
+        ensures { option_map (λ (o : Outcome). o.end) (outcome_of self.now) ≡ Some result }
+    {
+        self.end
+    }
+
+    /// The variables as it ended.
+    pub fn variables(&self) -> &[Option<Value>]
+        ensures { option_map (λ (o : Outcome). o.progress.variables) (outcome_of self.now) ≡ Some result.now }
+    {
+        self.variables.as_slice()
+    }
+
+    /// Its effects in order.
+    pub fn effects(&self) -> &[Effect]
+        ensures { option_map (λ (o : Outcome). o.progress.effects) (outcome_of self.now) ≡ Some result.now }
+    {
+        self.effects.as_slice()
+    }
+
+    /// How many instructions it took, which is at most the budget of its certificate.
+    pub fn count(&self) -> u32
+        ensures value { option_map (λ (o : Outcome). o.progress.count) (outcome_of self.now) ≡ Some result }
+        ensures within { result ≤ self.now.certificate.budget }
+    {
+        self.count
+    }
+}

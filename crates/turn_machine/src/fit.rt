@@ -1,0 +1,163 @@
+//! The test whether an input fits.
+
+ghost use Rattle.std.specs.Prelude.{◌≡◌, ◌↔◌, IsTrue, map, Any, Contains};
+ghost use Rattle.turn_code.specs.Values.{sort_of};
+ghost use Rattle.turn_code.specs.Fits.{Fits, HasSort, HaveSorts, AreSet, IsProcess, Brings};
+ghost use Rattle.turn_machine.specs.Fitting.{IsSetAt, IsBroughtBy};
+ghost use Rattle.turn_machine.specs.Given.{input_of};
+
+use crate::received::Received;
+use arrayvec::ArrayVec;
+use turn_code::{
+    DraftRoute, DraftVariable, Party, Place, ProcessNumber, SignalNumber, Sort, Trigger, Value,
+    VariableNumber, VariableSet,
+};
+use turn_verify::Verified;
+
+/// Whether an input fits input `input_number` at a place of a process: its parameters and set variables have their
+/// sorts, the variables that are to be set are set, and but for START a route brings the signal from its sender.
+pub fn fits(
+    verified: &Verified,
+    process: ProcessNumber,
+    place: Place,
+    input_number: usize,
+    variables: &ArrayVec<Option<Value>, 32>,
+    received: &Received,
+) -> bool
+    ensures { IsTrue result ↔ Fits verified.now process.0 place input_number (input_of variables.now received.now) }
+{
+    match verified.transition(process, place, input_number) {
+        Some(transition) => {
+            have_those_sorts(received.parameters.as_slice(), transition.parameters)
+                && have_sorts(
+                    transition.process.variables.as_slice(),
+                    variables.as_slice(),
+                )
+                && are_set(transition.entry, variables.as_slice())
+                && is_brought(
+                    verified.draft().routes.as_slice(),
+                    process,
+                    transition.trigger,
+                    received.sender,
+                )
+        }
+        None => false,
+    }
+}
+
+/// Whether the values have these sorts.
+fn have_those_sorts(values: &[Value], sorts: &[Sort]) -> bool
+    ensures { IsTrue result ↔ (map sort_of values.now ≡ sorts.now) }
+{
+    match (values, sorts) {
+        ([], []) => true,
+        ([value, values @ ..], [sort, sorts @ ..]) => value.sort() == *sort
+            && have_those_sorts(values, sorts),
+        _ => false,
+    }
+}
+
+/// Whether there is one value, or none, for each variable, and each value has its variable's sort.
+fn have_sorts(variables: &[DraftVariable], values: &[Option<Value>]) -> bool
+    ensures { IsTrue result ↔ HaveSorts variables.now values.now }
+{
+    match variables {
+        [] => values.is_empty(),
+        [variable, variables @ ..] => match values {
+            [] => false,
+            [value, values @ ..] => has_sort(variable, *value) && have_sorts(variables, values),
+        },
+    }
+}
+
+fn has_sort(variable: &DraftVariable, value: Option<Value>) -> bool
+    ensures { IsTrue result ↔ HasSort variable.now value }
+{
+    match value {
+        Some(value) => value.sort() == variable.sort,
+        None => true,
+    }
+}
+
+/// Whether the variables of the set have values.
+fn are_set(set: VariableSet, values: &[Option<Value>]) -> bool
+    ensures { IsTrue result ↔ AreSet set values.now }
+{
+    for variable in 0..32u8 {
+        if set.has(VariableNumber(variable)) && !has_value(values, variable) {
+            return false;
+        }
+    }
+    true
+}
+
+fn has_value(values: &[Option<Value>], variable: u8) -> bool
+    ensures { IsTrue result ↔ IsSetAt values.now variable }
+{
+    match values.get(usize::from(variable)) {
+        Some(Some(_)) => true,
+        _ => false,
+    }
+}
+
+/// Whether a route brings what the transition waits for from its sender.
+fn is_brought(
+    routes: &[DraftRoute],
+    process: ProcessNumber,
+    trigger: Option<Trigger>,
+    sender: Option<Party>,
+) -> bool
+    ensures { IsTrue result ↔ IsBroughtBy routes.now process.0 trigger sender }
+{
+    match trigger {
+        None => true,
+        Some(Trigger::Signal(signal)) => match sender {
+            Some(sender) => some_route_brings(routes, sender, process, signal),
+            None => false,
+        },
+    }
+}
+
+fn some_route_brings(
+    routes: &[DraftRoute],
+    sender: Party,
+    process: ProcessNumber,
+    signal: SignalNumber,
+) -> bool
+    ensures { IsTrue result ↔ Any (Brings sender process.0 signal) routes.now }
+{
+    for route in routes {
+        if brings(route, sender, process, signal) {
+            return true;
+        }
+    }
+    false
+}
+
+fn brings(route: &DraftRoute, sender: Party, process: ProcessNumber, signal: SignalNumber) -> bool
+    ensures { IsTrue result ↔ Brings sender process.0 signal route.now }
+{
+    route.from == sender
+        && is_process(route.to, process)
+        && carries(route.signals.as_slice(), signal)
+}
+
+fn is_process(party: Party, process: ProcessNumber) -> bool
+    ensures { IsTrue result ↔ IsProcess process.0 party }
+{
+    match party {
+        Party::Environment => false,
+        Party::Process(number) => number.0 == process.0,
+    }
+}
+
+fn carries(signals: &[SignalNumber], signal: SignalNumber) -> bool
+    ensures { IsTrue result ↔ Contains signals.now signal }
+{
+    for other in signals {
+        if *other == signal {
+            return true;
+        }
+    }
+    false
+}

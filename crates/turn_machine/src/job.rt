@@ -1,0 +1,157 @@
+//! Jobs.
+
+ghost use Rattle.std.specs.Prelude.{◌≡◌, ⊤};
+ghost use Rattle.turn_code.specs.Fits.{Fits};
+ghost use Rattle.turn_machine.specs.Given.{input_of};
+ghost use Rattle.turn_machine.specs.Turn.{Begins, IsRunnable};
+
+use crate::copy::{copied_code, copied_input};
+use crate::received::Received;
+use arrayvec::ArrayVec;
+use std::alloc::AllocError;
+use std::marker::Model;
+use turn_code::{Cert, Input, Instruction, Place, ProcessNumber, Value};
+use turn_verify::Verified;
+
+/// A transition that is to run, with all that it needs: its code by value, and an input that fits it.
+#[derive(Drop)]
+pub struct Job {
+    actor: u16,
+    turn: u64,
+    process: ProcessNumber,
+    place: Place,
+    input_number: usize,
+    code: ArrayVec<Instruction, 512>,
+    certificate: Cert,
+    input: Input,
+}
+
+impl Model for Job {
+    ghost use Rattle.turn_machine.specs.Turn.{Turn, IsRunnable, turn_of};
+
+    ghost Value = { Turn };
+
+    ghost view = { λ j. turn_of j.actor j.turn j.process j.place j.input_number j.code.items j.certificate j.input };
+
+    ghost invariant = { λ j. IsRunnable (turn_of j.actor j.turn j.process j.place j.input_number j.code.items j.certificate j.input) };
+}
+
+impl Job {
+    /// The job of an actor in a turn: input `input_number` at a place of a process, on an input that fits it.
+    pub fn new(
+        verified: &Verified,
+        actor: u16,
+        turn: u64,
+        process: ProcessNumber,
+        place: Place,
+        input_number: usize,
+        variables: ArrayVec<Option<Value>, 32>,
+        received: Received,
+    ) -> Job
+        requires { Fits verified.now process.0 place input_number (input_of variables received) }
+        ensures { Begins verified.now actor turn process place input_number (input_of variables received) result }
+    {
+        let input = Input {
+            variables,
+            parameters: received.parameters,
+            sender: received.sender,
+        };
+        let _ = verified.draft();
+        match verified.transition(process, place, input_number) {
+            Some(transition) => Job {
+                actor,
+                turn,
+                process,
+                place,
+                input_number,
+                code: copied_code(transition.piece.code.as_slice()),
+                certificate: transition.piece.certificate,
+                input,
+            },
+            None => unreachable!(),
+        }
+    }
+
+    /// The actor whose turn it is.
+    pub fn actor(&self) -> u16
+        ensures { result ≡ self.now.actor }
+    {
+        self.actor
+    }
+
+    /// The number of the turn.
+    pub fn turn(&self) -> u64
+        ensures { result ≡ self.now.turn }
+    {
+        self.turn
+    }
+
+    /// The process.
+    pub fn process(&self) -> ProcessNumber
+        ensures { result ≡ self.now.process }
+    {
+        self.process
+    }
+
+    /// START, or the state.
+    pub fn place(&self) -> Place
+        ensures { result ≡ self.now.place }
+    {
+        self.place
+    }
+
+    /// The number of the input at that place; 0 at START.
+    pub fn input_number(&self) -> usize
+        ensures { result ≡ self.now.input_number }
+    {
+        self.input_number
+    }
+
+    /// The code of the transition.
+    pub fn code(&self) -> &[Instruction]
+        ensures { result.now ≡ self.now.code }
+    {
+        self.code.as_slice()
+    }
+
+    /// The counts of the transition.
+    pub fn certificate(&self) -> Cert
+        ensures { result ≡ self.now.certificate }
+    {
+        self.certificate
+    }
+
+    /// The input.
+    pub fn input(&self) -> &Input
+        ensures value { result.now ≡ self.now.input }
+        ensures runnable { IsRunnable self.now }
+    {
+        &self.input
+    }
+
+    /// The same job once more. It takes no memory.
+    pub fn copy(&self) -> Job
+        ensures { result ≡ self.now }
+    {
+        Job {
+            actor: self.actor,
+            turn: self.turn,
+            process: self.process,
+            place: self.place,
+            input_number: self.input_number,
+            code: copied_code(self.code.as_slice()),
+            certificate: self.certificate,
+            input: copied_input(&self.input),
+        }
+    }
+}
+
+impl Clone for Job {
+    ghost is_clone = { λ x y. y ≡ x };
+
+    ghost is_infallible = { λ _. ⊤ };
+
+    fn clone(&self) -> Result<Job, AllocError> {
+        Ok(self.copy())
+    }
+}

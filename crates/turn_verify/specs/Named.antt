@@ -1,0 +1,42 @@
+-- The names and the counts of a draft by number, and the numbers of names.
+use Rattle.std.specs.Prelude.{ℕ, List, [], map, Option, Some, None, slice_get}
+use Rattle.turn_code.specs.declared.draft.Draft.{Draft}
+use Rattle.turn_code.specs.declared.draft.DraftSignal.{DraftSignal}
+use Rattle.turn_code.specs.declared.draft.DraftProcess.{DraftProcess}
+use Rattle.turn_code.specs.declared.draft.DraftState.{DraftState}
+use Rattle.turn_code.specs.declared.draft.DraftInput.{DraftInput}
+use Rattle.turn_code.specs.declared.draft.DraftVariable.{DraftVariable}
+
+abbrev pub states_of : Option DraftProcess → List DraftState
+states_of None = []
+states_of (Some p) = p.states
+
+abbrev pub variables_of : Option DraftProcess → List DraftVariable
+variables_of None = []
+variables_of (Some p) = p.variables
+
+abbrev pub inputs_of : Option DraftState → List DraftInput
+inputs_of None = []
+inputs_of (Some q) = q.inputs
+
+-- the states, the variables and the inputs, none where there is no such process or state
+abbrev pub states_at : Draft → ℕ → List DraftState
+states_at d p = states_of (slice_get d.processes p)
+
+abbrev pub variables_at : Draft → ℕ → List DraftVariable
+variables_at d p = variables_of (slice_get d.processes p)
+
+abbrev pub inputs_at : Draft → ℕ → ℕ → List DraftInput
+inputs_at d p q = inputs_of (slice_get (states_at d p) q)
+
+abbrev pub process_names : Draft → List (List ℕ)
+process_names d = map (λ (p : DraftProcess). p.name) d.processes
+
+abbrev pub signal_names : Draft → List (List ℕ)
+signal_names d = map (λ (s : DraftSignal). s.name) d.signals
+
+abbrev pub variable_names : Draft → ℕ → List (List ℕ)
+variable_names d p = map (λ (x : DraftVariable). x.name) (variables_at d p)
+
+abbrev pub state_names : Draft → ℕ → List (List ℕ)
+state_names d p = map (λ (q : DraftState). q.name) (states_at d p)
