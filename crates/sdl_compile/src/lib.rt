@@ -1,0 +1,5 @@
+//! The compiler: from the sound tree of a text to pieces of code and what is claimed of them.
+#![tactic(auto)]
+
+mod emit;
+mod names;
