@@ -1,4 +1,5 @@
 pub mod Act
 pub mod Code
+pub mod Facts
 pub mod Named
 pub mod Scopes

@@ -2,4 +2,5 @@
 #![tactic(auto)]
 
 mod emit;
+mod facts;
 mod names;
