@@ -4,3 +4,4 @@
 mod emit;
 mod facts;
 mod names;
+mod piece;
