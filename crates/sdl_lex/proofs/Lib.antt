@@ -1,1 +1,4 @@
+pub mod ChainLemmas
 pub mod NameLemmas
+pub mod SliceLemmas
+pub mod WordLemmas

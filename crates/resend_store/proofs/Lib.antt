@@ -1,0 +1,4 @@
+pub mod Weights
+pub mod Nexts
+pub mod Given
+pub mod InOrder

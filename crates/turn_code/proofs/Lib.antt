@@ -1,0 +1,7 @@
+pub mod Lists
+pub mod Stored
+pub mod Greatest
+pub mod Stands
+pub mod SafeRuns
+pub mod Ran
+pub mod Longest
