@@ -25,6 +25,7 @@ use Rattle.turn_code.specs.Values.{wrap}
 use Rattle.sdl_rules.specs.Longest.{Piece}
 use Rattle.sdl_compile.specs.Act.{Scope, variable_at, state_at}
 use Rattle.sdl_compile.specs.Named.{NamedTree, NamedTasks, NamedEnd, NamedText, NamedPlaces, NamedPiece}
+use Rattle.sdl_compile.specs.Reads.{ReadTree, ReadTasks, tasks_set, ReadText, places_set}
 use Rattle.sdl_compile.specs.Code.{number_or_zero, load, store, next, unary_code, binary_code, tree_code, tasks_code, end_code, text_code, places_code, piece_code}
 
 -- what an instruction wants of the shape, of the variables that are set and of the numbers that are there
@@ -54,32 +55,6 @@ abbrev pub IsStraight : List Instruction → Type 0
 IsStraight [] = ⊥
 IsStraight (x ∷ []) = IsLast x
 IsStraight (x ∷ y ∷ is) = IsStep x × IsStraight (y ∷ is)
-
--- the variables that a part of a text reads are set
-abbrev pub ReadTree : Scope → VariableSet → Tree → Type 0
-ReadTree c m (number at k) = Unit {0}
-ReadTree c m (variable at n) = Has m (number_or_zero (variable_at c n))
-ReadTree c m (unary at op t) = ReadTree c m t
-ReadTree c m (binary at op t u) = ReadTree c m t × ReadTree c m u
-
-abbrev pub ReadTasks : Scope → VariableSet → List PlainAssignment → Type 0
-ReadTasks c m [] = Unit {0}
-ReadTasks c m (a ∷ rest) = ReadTree c m a.value × ReadTasks c (with_variable m (number_or_zero (variable_at c a.variable))) rest
-
-abbrev pub tasks_set : Scope → VariableSet → List PlainAssignment → VariableSet
-tasks_set c m [] = m
-tasks_set c m (a ∷ rest) = tasks_set c (with_variable m (number_or_zero (variable_at c a.variable))) rest
-
--- and what is said of the state where it ends is so
-abbrev pub ReadText : Scope → List DraftState → VariableSet → Text → Type 0
-ReadText c ss m falls = Unit {0}
-ReadText c ss m (ends (NextState n)) = (s : DraftState) → slice_get ss (number_or_zero (state_at c n.state)) ≡ Some s → IsWithin s.set m
-ReadText c ss m (task at ts rest) = ReadTasks c m ts × ReadText c ss (tasks_set c m ts) rest
-
-abbrev pub places_set : Scope → VariableSet → List (Option Identifier) → VariableSet
-places_set c m [] = m
-places_set c m (None ∷ rest) = places_set c m rest
-places_set c m (Some n ∷ rest) = places_set c (with_variable m (number_or_zero (variable_at c n))) rest
 
 one_of : (P : ℕ → Type 0) (v : ℕ) → P v → All P (v ∷ [])
 one_of P v h = All-cons P v [] h (All-nil P)

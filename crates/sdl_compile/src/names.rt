@@ -8,6 +8,7 @@ use sdl_tree::Identifier;
 use turn_code::{StateNumber, VariableNumber};
 
 /// The variables and the states of a process.
+#[derive(Drop)]
 pub struct Names<'a> {
     pub variables: &'a NameTable,
     pub states: &'a NameTable,

@@ -6,6 +6,8 @@ ghost use Rattle.sdl_compile.specs.Scopes.{scope_in, piece_in};
 ghost use Rattle.sdl_compile.specs.Named.{NamedPiece};
 ghost use Rattle.sdl_compile.specs.Code.{piece_code};
 ghost use Rattle.sdl_compile.specs.Facts.{SetsFew};
+ghost use Rattle.sdl_compile.specs.Reads.{KeepsRules};
+ghost use Rattle.sdl_compile.specs.Drafts.{Means};
 ghost use Rattle.sdl_compile.specs.Made.{AreDrafted, IsPieceOf, IsSmall};
 
 use crate::emit::{emit_places, emit_transition};
@@ -19,6 +21,7 @@ use turn_code::{
 
 /// What comes with a transition: the names that it may use, its process's variables, the sorts of
 /// its parameters, and the variables that are set as it begins.
+#[derive(Drop)]
 pub struct Setting<'a> {
     pub names: &'a Names<'a>,
     pub variables: &'a [DraftVariable],
@@ -42,8 +45,8 @@ fn emit_piece(
     Ok(code)
 }
 
-/// The piece of a transition: INPUT's places (START has none), and then its text.
-pub(crate) fn make_piece(
+// The piece of a transition: INPUT's places (START has none), and then its text.
+fn make_piece(
     alloc: Global,
     setting: &Setting,
     places: &[Option<Identifier>],
@@ -75,4 +78,30 @@ pub(crate) fn make_piece(
         facts: Sequence::from(facts),
         certificate,
     })
+}
+
+/// Compiles a transition: INPUT's places (START has none), and then its text.
+///
+/// On every input the run of the piece is what the transition means: its effects, its variables,
+/// its end and its count. The certificate names the longest path. The piece keeps every rule of a
+/// valid draft, wherever the variables that it reads are set and the variables of the state where
+/// it ends are set too. Want of memory is the only error.
+pub fn compile_transition(
+    alloc: Global,
+    setting: &Setting,
+    places: &[Option<Identifier>],
+    transition: &Transition,
+) -> Result<DraftPiece, AllocError>
+    requires named { NamedPiece (scope_in setting.now.names.now) (piece_in places.now transition.now) }
+    requires few { length places.now ≤ 4 }
+    requires parameters { length places.now ≤ length setting.now.parameters.now }
+    requires integers { All (λ s. s ≡ Integer) setting.now.parameters.now }
+    requires variables { AreDrafted (scope_in setting.now.names.now) setting.now.variables.now }
+    requires small { IsSmall (piece_in places.now transition.now) }
+    ensures means { IfOk result (λ d. Means (scope_in setting.now.names.now) (piece_in places.now transition.now) d) }
+    ensures valid { IfOk result (λ d. KeepsRules (scope_in setting.now.names.now) setting.now.variables.now setting.now.parameters.now setting.now.entry (piece_in places.now transition.now) d) }
+    ensures made { IfOk result (λ d. IsPieceOf (scope_in setting.now.names.now) setting.now.variables.now setting.now.parameters.now setting.now.entry (piece_in places.now transition.now) d) }
+{
+    let piece = make_piece(alloc, setting, places, transition)?;
+    Ok(piece)
 }
