@@ -63,12 +63,15 @@ pub record MatchesInput (c : Scope) (signals : List Identifier) (i : Input) (d :
 abbrev pub MatchesInputs : Scope → List Identifier → List Input → DraftState → Type 0
 MatchesInputs c signals is d = AllZip (MatchesInput c signals) is d.inputs
 
+abbrev pub IsNamedAs : Identifier → DraftState → Type 0
+IsNamedAs id d = d.name ≡ id.name
+
 -- the draft of a process of a block with these signals: variables, states and inputs have their names and numbers in the order of the text
 pub record MatchesProcess (signals : List Identifier) (p : PlainProcess) (d : DraftProcess) : Type 0 where
   pub name : d.name ≡ p.name.name
   pub variables : d.variables ≡ map drafted (variables_of p)
   pub start : Means (scope_of p) (start_piece p) d.start
-  pub states : map (λ (s : DraftState). s.name) d.states ≡ map (λ (id : Identifier). id.name) (states_of p)
+  pub states : AllZip IsNamedAs (states_of p) d.states
   pub inputs : AllZip (MatchesInputs (scope_of p) signals) (inputs_by_state p) d.states
 
 -- ---- what the compiler asks of a process
@@ -91,6 +94,14 @@ AreReady c signals ss (i ∷ is) = IsReadyInput c signals ss i × AreReady c sig
 abbrev pub AllReady : Scope → List Identifier → List DraftSignal → List (List Input) → Type 0
 AllReady c signals ss [] = Unit {0}
 AllReady c signals ss (is ∷ rest) = AreReady c signals ss is × AllReady c signals ss rest
+
+-- a process whose names are all there, within the limits
+pub record IsReadyProcess (signals : List Identifier) (ss : List DraftSignal) (p : PlainProcess) : Type 0 where
+  pub variables : length (variables_of p) ≤ 32
+  pub states : length (states_of p) ≤ 64
+  pub start : NamedPiece (scope_of p) (start_piece p)
+  pub small : IsSmall (start_piece p)
+  pub inputs : AllReady (scope_of p) signals ss (inputs_by_state p)
 
 abbrev pub HasFew : DraftSignal → Type 0
 HasFew s = (length s.parameters ≤ 4) × All (λ x. x ≡ Integer) s.parameters

@@ -1,12 +1,12 @@
 //! The states of a process, with their inputs.
-ghost use Rattle.std.specs.Prelude.{◌≡◌, ◌≤◌, ◌<◌, length, map, IfOk, IsSome};
+ghost use Rattle.std.specs.Prelude.{◌≡◌, ◌≤◌, ◌<◌, length, map, IfOk, IfSome, IsSome, slice_get};
 ghost use Rattle.std.specs.List.{AllZip};
-ghost use Rattle.sdl_rules.specs.Rows.{row_input};
+ghost use Rattle.sdl_rules.specs.Rows.{row_input, rows_inputs};
 ghost use Rattle.sdl_rules.specs.Names.{number_of};
 ghost use Rattle.sdl_compile.specs.Scopes.{scope_in};
 ghost use Rattle.sdl_compile.specs.Code.{number_or_zero};
 ghost use Rattle.sdl_compile.specs.Made.{AreDrafted};
-ghost use Rattle.sdl_compile.specs.Drafts.{AreReady, AreReadySignals, IsReadyInput, IsInputOf, parameters_at, HasFew};
+ghost use Rattle.sdl_compile.specs.Drafts.{AllReady, IsNamedAs, MatchesInputs, AreReady, AreReadySignals, IsReadyInput, IsInputOf, parameters_at, HasFew};
 
 use crate::names::Names;
 use crate::piece::{Setting, compile_transition};
@@ -14,7 +14,8 @@ use sdl_lex::Name;
 use sdl_rules::{InputRow, NameTable};
 use std::alloc::{AllocError, Global};
 use turn_code::{
-    DraftInput, DraftSignal, DraftVariable, SignalNumber, Sort, Trigger, VariableSet,
+    DraftInput, DraftSignal, DraftState, DraftVariable, Sequence, SignalNumber, Sort, Trigger,
+    VariableSet,
 };
 
 /// What the transitions of a process share: its names and variables, and the signals of the block.
@@ -102,4 +103,53 @@ pub fn compile_inputs(
         inputs.push(compile_input(alloc, context, entry, row)?)?;
     }
     Ok(inputs)
+}
+
+// A state, by its number.
+fn make_state(
+    alloc: Global,
+    context: &Context,
+    number: usize,
+    set: VariableSet,
+    rows: &[InputRow],
+) -> Result<DraftState, AllocError>
+    requires there { number < length context.now.names.now.states.now }
+    requires ready { AreReady (scope_in context.now.names.now) context.now.signals.now context.now.drafts.now (map row_input rows.now) }
+    requires signals { AreReadySignals context.now.signals.now context.now.drafts.now }
+    requires variables { AreDrafted (scope_in context.now.names.now) context.now.variables.now }
+    ensures name { IfOk result (λ d. IfSome (slice_get context.now.names.now.states.now number) (λ id. IsNamedAs id d)) }
+    ensures inputs { IfOk result (λ d. MatchesInputs (scope_in context.now.names.now) context.now.signals.now (map row_input rows.now) d) }
+{
+    let name = match context.names.states.get(number) {
+        Some(id) => draft_name(&id.name),
+        None => unreachable!(),
+    };
+    let inputs = compile_inputs(alloc, context, set, rows)?;
+    Ok(DraftState {
+        name,
+        set,
+        inputs: Sequence::from(inputs),
+    })
+}
+
+/// Compiles the states of a process, each entered with its set of variables that are set.
+pub fn compile_states(
+    alloc: Global,
+    context: &Context,
+    inputs: &[Vec<InputRow>],
+    sets: &[VariableSet],
+) -> Result<Vec<DraftState>, AllocError>
+    requires paired { length inputs.now ≡ length context.now.names.now.states.now }
+    requires ready { AllReady (scope_in context.now.names.now) context.now.signals.now context.now.drafts.now (map rows_inputs inputs.now) }
+    requires signals { AreReadySignals context.now.signals.now context.now.drafts.now }
+    requires variables { AreDrafted (scope_in context.now.names.now) context.now.variables.now }
+    ensures names { IfOk result (λ ds. AllZip IsNamedAs context.now.names.now.states.now ds.items) }
+    ensures inputs { IfOk result (λ ds. AllZip (MatchesInputs (scope_in context.now.names.now) context.now.signals.now) (map rows_inputs inputs.now) ds.items) }
+{
+    let mut states = Vec::new(alloc);
+    for (number, rows) in inputs.iter().enumerate() {
+        let set = sets.get(number).copied().unwrap_or(VariableSet(0));
+        states.push(make_state(alloc, context, number, set, rows)?)?;
+    }
+    Ok(states)
 }

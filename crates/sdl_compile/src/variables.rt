@@ -53,3 +53,47 @@ pub fn compile_variables(
     }
     Ok(variables)
 }
+
+#[cfg(test)]
+mod tests {
+    use super::*;
+    use sdl_lex::Name;
+    use sdl_tree::Identifier;
+    use std::test::Fail;
+
+    #[test]
+    fn variables_keep_their_order(rt: HostRuntime) -> Result<(), Fail> {
+        let n = Identifier {
+            name: Name::new(b"n").ok_or("n")?,
+            at: 0,
+        };
+        let total = Identifier {
+            name: Name::new(b"Total").ok_or("Total")?,
+            at: 3,
+        };
+        let five = Constant {
+            at: 17,
+            value: Literal::Integer(-5),
+        };
+        let rows = [
+            Variable {
+                name: n,
+                sort: sdl_tree::Sort::Integer,
+                initial: None,
+            },
+            Variable {
+                name: total,
+                sort: sdl_tree::Sort::Integer,
+                initial: Some(five),
+            },
+        ];
+        let variables = compile_variables(rt.alloc(), &rows)?;
+        assert_eq!(rt; variables.len(), 2);
+        assert_eq!(rt; variables[0].name.as_bytes(), b"n".as_slice());
+        assert_eq!(rt; variables[0].initial, None);
+        assert_eq!(rt; variables[1].name.as_bytes(), b"Total".as_slice());
+        assert_eq!(rt; variables[1].initial, Some(Value::Int(-5)));
+        assert_eq!(rt; variables[1].sort, Sort::Integer);
+        Ok(())
+    }
+}
