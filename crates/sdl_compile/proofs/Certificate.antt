@@ -1,5 +1,5 @@
 -- The certificate of a piece's code is the longest path of its text.
-use Rattle.std.proofs.Common.{◌≡◌, ℕ, ◌+◌, ◌<◌, ◌≤◌, max, List, [], ◌∷◌, ◌++◌, length, drop, Option, Some, None, IsSome, refl, sym, ap, ◌∙◌, subst, arith, append_assoc, length-append}
+use Rattle.std.proofs.Common.{◌≡◌, ℕ, ◌+◌, ◌<◌, ◌≤◌, max, List, [], ◌∷◌, ◌++◌, length, drop, Option, Some, None, IsSome, refl, ap, ◌∙◌, arith, append_assoc, length-append}
 use Rattle.std.specs.Prelude.{slice_get}
 use Rattle.std.specs.Option.{option_to_list}
 use Rattle.std.proofs.lemmas.List.Sums.{sum_by-cons}
@@ -8,7 +8,6 @@ use Rattle.sdl_tree.specs.declared.expression.UnaryOperator.{UnaryOperator}
 use Rattle.sdl_tree.specs.declared.expression.UnaryOperator.TheVariants.{Negate}
 use Rattle.sdl_tree.specs.declared.expression.BinaryOperator.{BinaryOperator}
 use Rattle.sdl_tree.specs.declared.expression.BinaryOperator.TheVariants.{Add, Subtract, Multiply}
-use Rattle.sdl_tree.specs.declared.tree.End.{End}
 use Rattle.sdl_tree.specs.declared.tree.End.TheVariants.{NextState}
 use Rattle.sdl_tree.specs.Plain.{Tree, number, variable, unary, binary, PlainAssignment, Text, falls, ends, task}
 use Rattle.turn_code.specs.declared.value.Sort.{Sort}
@@ -19,10 +18,10 @@ use Rattle.turn_code.specs.declared.variable_set.VariableSet.{VariableSet}
 use Rattle.turn_code.specs.declared.draft.DraftVariable.{DraftVariable}
 use Rattle.turn_code.specs.Code.{sort_at, shape_after, set_after}
 use Rattle.turn_code.specs.Rules.{greatest, depths}
-use Rattle.sdl_rules.specs.Longest.{Piece, cost_of, depth_of, assignment_cost, assignments_cost, assignments_depth, end_cost, budget, depth, place_cost, place_depth, places_cost, places_depth, piece_budget, piece_depth}
-use Rattle.sdl_compile.specs.Act.{Scope, variable_at, state_at}
+use Rattle.sdl_rules.specs.Longest.{Piece, cost_of, depth_of, assignment_cost, assignments_cost, assignments_depth, budget, depth, place_cost, places_cost, places_depth, piece_budget, piece_depth}
+use Rattle.sdl_compile.specs.Act.{Scope, variable_at}
 use Rattle.sdl_compile.specs.Named.{NamedTree, NamedTasks, NamedText, NamedPlaces, NamedPiece}
-use Rattle.sdl_compile.specs.Code.{number_or_zero, load, store, next, unary_code, binary_code, tree_code, tasks_code, end_code, text_code, places_code, piece_code}
+use Rattle.sdl_compile.specs.Code.{number_or_zero, load, store, unary_code, binary_code, tree_code, tasks_code, text_code, places_code, piece_code}
 use Rattle.sdl_compile.specs.Facts.{facts_from}
 
 -- ---- how many instructions there are

@@ -1,6 +1,6 @@
 -- The drafted variables stand for those of the process.
 use Rattle.std.specs.List.{enumerate_from}
-use Rattle.std.proofs.Common.{◌≡◌, ℕ, suc, ◌+◌, List, [], ◌∷◌, length, map, refl, sym, ap, ◌∙◌, subst, arith}
+use Rattle.std.proofs.Common.{◌≡◌, ℕ, suc, ◌+◌, List, [], ◌∷◌, length, map, refl, sym, ap, ◌∙◌, subst}
 use Rattle.std.specs.Prelude.{All}
 use Rattle.std.proofs.lemmas.List.{length-map}
 use Rattle.std.proofs.lemmas.List.Elements.{All-nil, All-cons}
@@ -10,7 +10,7 @@ use Rattle.sdl_tree.specs.declared.tree.Sort.TheVariants as tree_sorts
 use Rattle.turn_code.specs.declared.value.Sort.TheVariants.{Integer}
 use Rattle.turn_code.specs.declared.draft.DraftVariable.{DraftVariable}
 use Rattle.sdl_tree.specs.Plain.{PlainProcess}
-use Rattle.sdl_rules.specs.Names.{Variable, variables_of, variable_names, states_of, inputs_of, inputs_by_state}
+use Rattle.sdl_rules.specs.Names.{Variable, states_of, inputs_of, inputs_by_state}
 use Rattle.sdl_compile.specs.Act.{Scope}
 use Rattle.sdl_compile.specs.Made.{AreDrafted}
 use Rattle.sdl_compile.specs.Drafts.{drafted, sort_of_tree}

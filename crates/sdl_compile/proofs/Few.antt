@@ -1,8 +1,8 @@
 -- The numbers in the code of a piece are small, and its variables are Integers.
-use Rattle.std.proofs.Common.{◌≡◌, ℕ, zero, suc, ◌+◌, ◌<◌, ◌≤◌, Bool, true, false, cond, List, [], ◌∷◌, ◌++◌, length, get_or, Option, Some, None, IsSome, refl, sym, ap, ◌∙◌, subst, arith, nat_lt}
+use Rattle.std.proofs.Common.{◌≡◌, ℕ, zero, suc, ◌+◌, ◌<◌, ◌≤◌, Bool, true, false, cond, List, [], ◌∷◌, ◌++◌, length, Option, Some, None, IsSome, refl, sym, ap, subst, arith, nat_lt}
 use Rattle.std.specs.Prelude.{slice_get, All}
 use Rattle.std.specs.List.{position, position_or_len}
-use Rattle.std.specs.Option.{option_to_list, option_map}
+use Rattle.std.specs.Option.{option_to_list}
 use Rattle.std.proofs.lemmas.List.Elements.{All-nil, All-cons, All-head, All-tail}
 use Rattle.sdl_tree.specs.declared.expression.Identifier.{Identifier}
 use Rattle.turn_code.specs.declared.value.Sort.{Sort}
@@ -10,8 +10,7 @@ use Rattle.turn_code.specs.declared.value.Sort.TheVariants.{Integer}
 use Rattle.turn_code.specs.declared.instruction.Instruction.{Instruction}
 use Rattle.turn_code.specs.declared.draft.DraftVariable.{DraftVariable}
 use Rattle.turn_code.specs.declared.draft.DraftState.{DraftState}
-use Rattle.turn_code.specs.declared.variable_set.VariableSet.{VariableSet}
-use Rattle.turn_code.specs.Code.{sort_at, sets, shape_after, set_after}
+use Rattle.turn_code.specs.Code.{sort_at}
 use Rattle.sdl_compile.specs.Act.{Scope, variable_at, state_at}
 use Rattle.sdl_compile.specs.Code.{number_or_zero, store, unary_code, binary_code, tree_code, tasks_code, text_code, places_code, piece_code}
 use Rattle.std.proofs.lemmas.Bool.Decides.{nat_tests}
@@ -23,7 +22,6 @@ use Rattle.sdl_tree.specs.declared.tree.End.TheVariants.{NextState}
 use Rattle.sdl_tree.specs.Plain.{Tree, number, variable, unary, binary, PlainAssignment, Text, falls, ends, task}
 use Rattle.sdl_rules.specs.Longest.{Piece}
 use Rattle.sdl_compile.specs.Named.{NamedTasks, NamedText, NamedPlaces, NamedPiece}
-use Rattle.sdl_compile.proofs.Straight.{IsRight, AreRight}
 
 -- the number of a name that is there
 number_small : {A : Type 0} (p : A → Bool) (xs : List A) → IsSome (position p xs) → number_or_zero (position p xs) < length xs
@@ -40,7 +38,6 @@ variable_small c xs e n h =
 pub state_small : (c : Scope) (ss : List DraftState) → length ss ≡ length c.states → (n : Identifier) → IsSome (state_at c n) → number_or_zero (state_at c n) < length ss
 state_small c ss e n h =
     subst (λ k. number_or_zero (state_at c n) < k) (sym e) (number_small (λ id. same_name n.name id.name) c.states h)
-
 
 pub variable_integers : (xs : List DraftVariable) → All (λ (x : DraftVariable). x.sort ≡ Integer) xs → (v : ℕ) → v < length xs → sort_at xs v ≡ Integer ∷ []
 variable_integers [] h v lt = absurd (omega arith)
@@ -77,7 +74,7 @@ module _ (c : Scope) (few : length c.variables ≤ 32) where
   tasks_few [] named = tt
   tasks_few (a ∷ ts) named =
       few_append (tree_code c a.value) (store (number_or_zero (variable_at c a.variable)) ∷ tasks_code c ts) (tree_few a.value)
-        (variable_few a.variable named.1, tasks_few ts named.2)
+      (variable_few a.variable named.1, tasks_few ts named.2)
 
   text_few : (t : Text) → NamedText c t → SetsFew (text_code c t)
   text_few falls named = tt

@@ -1,5 +1,5 @@
 -- A text none of whose names is unknown, and that doesn't run off its end, has all its names.
-use Rattle.std.proofs.Common.{◌≡◌, ℕ, suc, ◌+◌, ◌<◌, Bool, true, false, not, cond, ◌||◌, List, [], ◌∷◌, ◌++◌, length, Option, Some, None, IsSome, refl, sym, ap, ◌∙◌, subst, arith, nat_lt}
+use Rattle.std.proofs.Common.{◌≡◌, ℕ, ◌+◌, ◌<◌, Bool, true, false, not, cond, ◌||◌, List, [], ◌∷◌, ◌++◌, length, Option, Some, None, IsSome, refl, sym, subst, arith, nat_lt}
 use Rattle.std.specs.List.{list_any, flat_map, position, position_or_len, prefix_len}
 use Rattle.std.proofs.lemmas.Bool.Decides.{nat_tests}
 use Rattle.sdl_tree.specs.declared.expression.Identifier.{Identifier}
@@ -8,7 +8,7 @@ use Rattle.sdl_tree.specs.Plain.{Tree, number, variable, unary, binary, PlainAss
 use Rattle.sdl_rules.specs.Names.{same_name, is_in, number_of}
 use Rattle.sdl_rules.specs.Sound.{unknown, tree_names, assignment_names, text_names, place_names, strays}
 use Rattle.sdl_rules.specs.Longest.{Piece}
-use Rattle.sdl_compile.specs.Act.{Scope, variable_at, state_at}
+use Rattle.sdl_compile.specs.Act.{Scope, variable_at}
 use Rattle.sdl_compile.specs.Named.{NamedTree, NamedTasks, NamedText, NamedPlaces, NamedPiece}
 
 -- what holds of each item of a list
@@ -57,9 +57,10 @@ known_one among x at e = by_test (is_in among x) refl e
 known : (among ids : List Identifier) → unknown among ids ≡ [] → Each (λ (id : Identifier). IsSome (number_of among id.name)) ids
 known among [] e = tt
 known among (id ∷ ids) e =
-    let f : Identifier → List ℕ = λ id. cond (is_in among id.name) [] (id.at ∷ []) in
-    ( known_one among id.name id.at (nil_front (f id) (unknown among ids) e)
-    , known among ids (nil_back (f id) (unknown among ids) e))
+    let f : Identifier → List ℕ = λ id. cond (is_in among id.name) [] (id.at ∷ []) in (
+      known_one among id.name id.at (nil_front (f id) (unknown among ids) e),
+      known among ids (nil_back (f id) (unknown among ids) e),
+    )
 
 module _ (c : Scope) where
   abbrev IsKnown : Identifier → Type 0

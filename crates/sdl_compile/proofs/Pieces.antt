@@ -1,5 +1,5 @@
 -- What a piece is made of, for the function that makes it.
-use Rattle.std.proofs.Common.{◌≡◌, ℕ, ◌≤◌, List, [], length, Option, refl, sym, ap, ◌∙◌, subst, arith}
+use Rattle.std.proofs.Common.{◌≡◌, ℕ, ◌≤◌, List, [], length, refl, sym, ap, ◌∙◌, subst, arith}
 use Rattle.std.specs.Prelude.{All}
 use Rattle.turn_code.specs.declared.value.Sort.{Sort}
 use Rattle.turn_code.specs.declared.value.Sort.TheVariants.{Integer}
@@ -9,24 +9,21 @@ use Rattle.turn_code.specs.declared.draft.DraftVariable.{DraftVariable}
 use Rattle.turn_code.specs.declared.draft.DraftPiece.{DraftPiece}
 use Rattle.turn_code.specs.declared.draft.PlaceFacts.{PlaceFacts}
 use Rattle.turn_code.specs.Rules.{greatest, depths}
-use Rattle.sdl_rules.specs.Longest.{Piece, piece_budget, piece_depth, piece_effects, effects}
+use Rattle.sdl_rules.specs.Longest.{Piece, piece_depth, effects}
 use Rattle.sdl_tree.specs.Plain.{Text, falls, ends, task}
 use Rattle.turn_code.specs.declared.input.Input.{Input}
-use Rattle.turn_code.specs.declared.draft.Draft.{Draft}
-use Rattle.turn_code.specs.declared.draft.DraftProcess.{DraftProcess}
-use Rattle.turn_code.specs.declared.draft.Trigger.{Trigger}
 use Rattle.turn_code.specs.Run.{run}
 use Rattle.sdl_compile.specs.Act.{Scope, Act}
-use Rattle.sdl_compile.specs.Reads.{IsPlaced, KeepsRules}
+use Rattle.sdl_compile.specs.Reads.{KeepsRules}
 use Rattle.sdl_compile.specs.Named.{NamedPiece}
 use Rattle.sdl_compile.specs.Code.{piece_code}
 use Rattle.sdl_compile.specs.Facts.{facts_from}
-use Rattle.sdl_compile.specs.Made.{AreDrafted, IsPieceOf, IsLongestOf, IsSmall}
+use Rattle.sdl_compile.specs.Made.{AreDrafted, IsPieceOf, IsSmall}
 use Rattle.sdl_compile.proofs.Certificate.{piece_length, piece_deep}
 use Rattle.sdl_compile.proofs.Few.{variable_small, state_small, variable_integers, parameter_integers}
 use Rattle.sdl_compile.proofs.Runs.{run_is_act}
 use Rattle.sdl_compile.proofs.Straight.{IsStraight, AreRight, piece_straight, piece_right}
-use Rattle.sdl_compile.proofs.Validity.{IsMade, valid}
+use Rattle.sdl_compile.proofs.Validity.{valid}
 
 no_effects : (t : Text) → effects t ≡ 0
 no_effects falls = refl
@@ -61,7 +58,7 @@ module _ (c : Scope) (xs : List DraftVariable) (ps : List Sort) (entry : Variabl
       valid draft (record { process = p; trigger = trigger; parameters = ps; entry = entry; piece = made }) (record {
         facts = is'.facts ∙ ap (facts_from p.variables ps [] entry) (sym is'.code);
         right = subst (AreRight p.variables ps p.states [] entry) (sym is'.code)
-          (piece_right c p.variables ps p.states less (state_small c p.states placed.states) ints params q entry named few placed.sets);
+            (piece_right c p.variables ps p.states less (state_small c p.states placed.states) ints params q entry named few placed.sets);
         straight = subst IsStraight (sym is'.code) (piece_straight c q named);
         budget = is'.certificate.budget ∙ sym sizes ∙ ap length (sym is'.code);
         depth = is'.certificate.depth ∙ sym (piece_deep c p.variables ps less ints params q entry named few) ∙ ap (λ fs. greatest (depths fs)) (sym is'.facts);

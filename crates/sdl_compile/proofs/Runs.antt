@@ -1,9 +1,9 @@
 -- The run of a transition's instructions is what the transition means.
-use Rattle.std.proofs.Common.{◌≡◌, ℕ, zero, suc, ◌+◌, ◌-◌, ◌<◌, ◌≤◌, List, [], ◌∷◌, ◌++◌, length, Option, Some, None, IsSome, refl, sym, ap, ◌∙◌, subst, arith, append_assoc, length-append}
+use Rattle.std.proofs.Common.{◌≡◌, ℕ, suc, ◌+◌, ◌-◌, ◌<◌, ◌≤◌, List, [], ◌∷◌, ◌++◌, length, Option, Some, None, IsSome, refl, sym, ap, ◌∙◌, subst, arith, append_assoc, length-append}
 use Rattle.std.specs.Prelude.{slice_get, slice_set, ℤ, pos}
 use Rattle.std.proofs.Math.Seq.{get_or-append_seam}
 use Rattle.std.proofs.lemmas.List.Sums.{sum_by-cons}
-use Rattle.std.proofs.lemmas.Option.{slice_get-get_or, slice_get_past}
+use Rattle.std.proofs.lemmas.Option.{slice_get-get_or}
 use Rattle.sdl_tree.specs.declared.expression.Identifier.{Identifier}
 use Rattle.sdl_tree.specs.declared.expression.UnaryOperator.{UnaryOperator}
 use Rattle.sdl_tree.specs.declared.expression.UnaryOperator.TheVariants.{Negate}
@@ -14,9 +14,7 @@ use Rattle.sdl_tree.specs.declared.tree.End.TheVariants.{NextState}
 use Rattle.sdl_tree.specs.Plain.{Tree, number, variable, unary, binary, PlainAssignment, Text, falls, ends, task}
 use Rattle.turn_code.specs.declared.value.Value.{Value}
 use Rattle.turn_code.specs.declared.value.Value.TheVariants.{Int, Bool}
-use Rattle.turn_code.specs.declared.machine.End.TheVariants.{State}
-use Rattle.turn_code.specs.declared.trouble.Trouble.{Trouble}
-use Rattle.turn_code.specs.declared.trouble.Trouble.TheVariants.{Unset, WrongSort, Underflow, Outside}
+use Rattle.turn_code.specs.declared.trouble.Trouble.TheVariants.{Underflow}
 use Rattle.turn_code.specs.declared.instruction.Instruction.{Instruction}
 use Rattle.turn_code.specs.declared.instruction.Instruction.TheVariants as i
 use Rattle.turn_code.specs.Values.{wrap}
@@ -139,8 +137,8 @@ module _ (ps : List Value) (code : List Instruction) where
       let m = pc + length a in
       let len : m + 1 ≡ end = omega (arith, length-append a last) in
       bind pc m end os s (λ v. v ∷ os) (λ v. v ∷ os) (value_of c t s) (λ x s. apply_one op x (tick s))
-        (tree_does c t pc m os s (has_front code pc a last has) refl named)
-        (λ x v. one m end (x ∷ os) v (λ v. v ∷ os) (unary_code op) (apply_one op x (tick v)) (has_back code pc a last m refl has).0 (unary_fits op x m end os v len))
+      (tree_does c t pc m os s (has_front code pc a last has) refl named)
+      (λ x v. one m end (x ∷ os) v (λ v. v ∷ os) (unary_code op) (apply_one op x (tick v)) (has_back code pc a last m refl has).0 (unary_fits op x m end os v len))
   tree_does c (binary at op t u) pc end os s has e named =
       let a = tree_code c t in
       let b = tree_code c u in
@@ -150,10 +148,10 @@ module _ (ps : List Value) (code : List Instruction) where
       let after_a = has_back code pc a (b ++ last) m refl has in
       let len : n + 1 ≡ end = omega (arith, length-append a (b ++ last), length-append b last) in
       bind pc m end os s (λ v. v ∷ os) (λ v. v ∷ os) (value_of c t s) (λ x s. then_do (value_of c u s) (λ y s. apply_two op x y (tick s)))
-        (tree_does c t pc m os s (has_front code pc a (b ++ last) has) refl named.0)
-        (λ x v. bind m n end (x ∷ os) v (λ v. v ∷ x ∷ os) (λ v. v ∷ os) (value_of c u v) (λ y s. apply_two op x y (tick s))
-          (tree_does c u m n (x ∷ os) v (has_front code m b last after_a) refl named.1)
-          (λ y v. one n end (y ∷ x ∷ os) v (λ v. v ∷ os) (binary_code op) (apply_two op x y (tick v)) (has_back code m b last n refl after_a).0 (binary_fits op x y n end os v len)))
+      (tree_does c t pc m os s (has_front code pc a (b ++ last) has) refl named.0)
+      (λ x v. bind m n end (x ∷ os) v (λ v. v ∷ x ∷ os) (λ v. v ∷ os) (value_of c u v) (λ y s. apply_two op x y (tick s))
+      (tree_does c u m n (x ∷ os) v (has_front code m b last after_a) refl named.1)
+      (λ y v. one n end (y ∷ x ∷ os) v (λ v. v ∷ os) (binary_code op) (apply_two op x y (tick v)) (has_back code m b last n refl after_a).0 (binary_fits op x y n end os v len)))
 
   -- assignments
   tasks_do : (c : Scope) (ts : List PlainAssignment) (pc end : ℕ) (os : List Value) (s : Progress) → HasAt code pc (tasks_code c ts) → pc + length (tasks_code c ts) ≡ end → NamedTasks c ts → Does pc os s end (λ _. os) (assign c ts s)
@@ -167,10 +165,10 @@ module _ (ps : List Value) (code : List Instruction) where
       let after_a = has_back code pc a (store v ∷ rest) m refl has in
       let len : m + 1 + length rest ≡ end = omega (arith, length-append a (store v ∷ rest)) in
       bind pc m end os s (λ x. x ∷ os) (λ _. os) (value_of c t.value s) (λ x s. then_do (write o x s) (λ _ s. assign c ts s))
-        (tree_does c t.value pc m os s (has_front code pc a (store v ∷ rest) has) refl named.0)
-        (λ x u. bind m (m + 1) end (x ∷ os) u (λ _. os) (λ _. os) (write o x u) (λ _ s. assign c ts s)
-          (store_does o x m (m + 1) os u named.1 after_a.0 refl)
-          (λ _ u. tasks_do c ts (m + 1) end os u after_a.1 len named.2))
+      (tree_does c t.value pc m os s (has_front code pc a (store v ∷ rest) has) refl named.0)
+      (λ x u. bind m (m + 1) end (x ∷ os) u (λ _. os) (λ _. os) (write o x u) (λ _ s. assign c ts s)
+      (store_does o x m (m + 1) os u named.1 after_a.0 refl)
+      (λ _ u. tasks_do c ts (m + 1) end os u after_a.1 len named.2))
 
   end_does : (c : Scope) (t : End) (pc end : ℕ) (os : List Value) (s : Progress) → HasAt code pc (end_code c t) → NamedEnd c t → Does pc os s end (λ _. os) (end_with c t s)
   end_does c (NextState n) pc end os s has named = next_does (state_at c n.state) pc end os s named has.0
@@ -185,8 +183,8 @@ module _ (ps : List Value) (code : List Instruction) where
       let m = pc + length a in
       let len : m + length b ≡ end = omega (arith, length-append a b) in
       bind pc m end os s (λ _. os) (λ _. os) (assign c ts s) (λ _ s. act c rest s)
-        (tasks_do c ts pc m os s (has_front code pc a b has) refl named.0)
-        (λ _ u. text_does c rest m end os u (has_back code pc a b m refl has) len named.1)
+      (tasks_do c ts pc m os s (has_front code pc a b has) refl named.0)
+      (λ _ u. text_does c rest m end os u (has_back code pc a b m refl has) len named.1)
 
   parameter_fits : (j pc : ℕ) (os : List Value) (s : Progress) (x : Value) → slice_get ps j ≡ Some x → Fits (run.act (i.Param j) ps (pc + 1) os (tick s)) s (pc + 1) (λ v. v ∷ os) (goes_on x (tick s))
   parameter_fits j pc os s x p = (ap (run.given (pc + 1) os (tick s)) p, refl)
@@ -198,16 +196,16 @@ module _ (ps : List Value) (code : List Instruction) where
   parameter_does j v pc end os s None p named at at2 e = one {A = Value} pc (pc + 1) os s (λ v. v ∷ os) (i.Param j) (over (in_trouble Underflow) (tick s)) at (no_parameter_fits j pc os s p)
   parameter_does j v pc end os s (Some x) p named at at2 e =
       bind pc (pc + 1) end os s (λ x. x ∷ os) (λ _. os) (goes_on x (tick s)) (λ x s. write v x s)
-        (one pc (pc + 1) os s (λ x. x ∷ os) (i.Param j) (goes_on x (tick s)) at (parameter_fits j pc os s x p))
-        (λ x u. store_does v x (pc + 1) end os u named at2 e)
+      (one pc (pc + 1) os s (λ x. x ∷ os) (i.Param j) (goes_on x (tick s)) at (parameter_fits j pc os s x p))
+      (λ x u. store_does v x (pc + 1) end os u named at2 e)
 
   places_do : (c : Scope) (places : List (Option Identifier)) (j pc end : ℕ) (os : List Value) (s : Progress) → HasAt code pc (places_code c j places) → pc + length (places_code c j places) ≡ end → NamedPlaces c places → Does pc os s end (λ _. os) (take_places c ps j places s)
   places_do c [] j pc end os s has e named = λ k. let e' : pc ≡ end = omega arith in (k, refl, ap (λ n. exec code ps k n os s) e')
   places_do c (None ∷ places) j pc end os s has e named = places_do c places (j + 1) pc end os s has e named
   places_do c (Some n ∷ places) j pc end os s has e named =
       bind pc (pc + 1 + 1) end os s (λ _. os) (λ _. os) (pass (slice_get ps j) (variable_at c n) s) (λ _ s. take_places c ps (j + 1) places s)
-        (parameter_does j (variable_at c n) pc (pc + 1 + 1) os s (slice_get ps j) refl named.0 has.0 has.1.0 refl)
-        (λ _ u. places_do c places (j + 1) (pc + 1 + 1) end os u has.1.1 (omega (arith, e)) named.1)
+      (parameter_does j (variable_at c n) pc (pc + 1 + 1) os s (slice_get ps j) refl named.0 has.0 has.1.0 refl)
+      (λ _ u. places_do c places (j + 1) (pc + 1 + 1) end os u has.1.1 (omega (arith, e)) named.1)
 
   -- a whole piece: INPUT's places, and then the text
   piece_does : (c : Scope) (q : Piece) (s : Progress) → code ≡ piece_code c q → NamedPiece c q → Does 0 [] s (length code) (λ _. []) (then_do (take_places c ps 0 q.places s) (λ _ s. act c q.text s))
@@ -217,8 +215,8 @@ module _ (ps : List Value) (code : List Instruction) where
       let has : HasAt code 0 (a ++ b) = subst (λ l. HasAt l 0 (a ++ b)) (sym is) (has_all (a ++ b) []) in
       let len : length a + length b ≡ length code = omega (arith, ap length is, length-append a b) in
       bind 0 (length a) (length code) [] s (λ _. []) (λ _. []) (take_places c ps 0 q.places s) (λ _ s. act c q.text s)
-        (places_do c q.places 0 0 (length a) [] s (has_front code 0 a b has) (omega arith) named.places)
-        (λ _ u. text_does c q.text (length a) (length code) [] u (has_back code 0 a b (length a) (omega arith) has) len named.text)
+      (places_do c q.places 0 0 (length a) [] s (has_front code 0 a b has) (omega arith) named.places)
+      (λ _ u. text_does c q.text (length a) (length code) [] u (has_back code 0 a b (length a) (omega arith) has) len named.text)
 
 -- what a part has cost by its end
 abbrev cost_by : {A : Type 0} → Outcome A → ℕ
@@ -256,18 +254,18 @@ value_cost c (number at k) s = omega arith
 value_cost c (variable at n) s = read_cost (slot (variable_at c n) s) (tick s)
 value_cost c (unary at op t) s =
     cost_bind (s.count + cost_of t) (s.count + cost_of (unary at op t)) (value_of c t s) (λ x s. apply_one op x (tick s)) (omega arith) (value_cost c t s)
-      (λ x v le. let h = one_cost op x (tick v) in omega (arith, h, le))
+    (λ x v le. let h = one_cost op x (tick v) in omega (arith, h, le))
 value_cost c (binary at op t u) s =
     cost_bind (s.count + cost_of t) (s.count + cost_of (binary at op t u)) (value_of c t s) (λ x s. then_do (value_of c u s) (λ y s. apply_two op x y (tick s))) (omega arith) (value_cost c t s)
-      (λ x v le. cost_bind (v.count + cost_of u) (s.count + cost_of (binary at op t u)) (value_of c u v) (λ y s. apply_two op x y (tick s)) (omega (arith, le)) (value_cost c u v)
-        (λ y w le2. let h = two_cost op x y (tick w) in omega (arith, h, le, le2)))
+    (λ x v le. cost_bind (v.count + cost_of u) (s.count + cost_of (binary at op t u)) (value_of c u v) (λ y s. apply_two op x y (tick s)) (omega (arith, le)) (value_cost c u v)
+    (λ y w le2. let h = two_cost op x y (tick w) in omega (arith, h, le, le2)))
 
 assign_cost : (c : Scope) (ts : List PlainAssignment) (s : Progress) → cost_by (assign c ts s) ≤ s.count + assignments_cost ts
 assign_cost c [] s = omega arith
 assign_cost c (t ∷ ts) s =
     cost_bind (s.count + cost_of t.value) (s.count + assignments_cost (t ∷ ts)) (value_of c t.value s) (λ x s. then_do (write (variable_at c t.variable) x s) (λ _ s. assign c ts s)) (omega (arith, sum_by-cons assignment_cost t ts)) (value_cost c t.value s)
-      (λ x v le. cost_bind (v.count + 1) (s.count + assignments_cost (t ∷ ts)) (write (variable_at c t.variable) x v) (λ _ s. assign c ts s) (omega (arith, le, sum_by-cons assignment_cost t ts)) (write_cost (variable_at c t.variable) x v)
-        (λ _ w le2. let h = assign_cost c ts w in omega (arith, h, le, le2, sum_by-cons assignment_cost t ts)))
+    (λ x v le. cost_bind (v.count + 1) (s.count + assignments_cost (t ∷ ts)) (write (variable_at c t.variable) x v) (λ _ s. assign c ts s) (omega (arith, le, sum_by-cons assignment_cost t ts)) (write_cost (variable_at c t.variable) x v)
+    (λ _ w le2. let h = assign_cost c ts w in omega (arith, h, le, le2, sum_by-cons assignment_cost t ts)))
 
 end_in_cost : (o : Option ℕ) (s : Progress) → cost_by (end_in o s) ≤ s.count + 1
 end_in_cost None s = omega arith
@@ -281,7 +279,7 @@ act_cost c falls s = omega arith
 act_cost c (ends e) s = end_cost_by c e s
 act_cost c (task at ts rest) s =
     cost_bind (s.count + assignments_cost ts) (s.count + budget (task at ts rest) 0) (assign c ts s) (λ _ s. act c rest s) (omega arith) (assign_cost c ts s)
-      (λ x v le. let h = act_cost c rest v in omega (arith, h, le))
+    (λ x v le. let h = act_cost c rest v in omega (arith, h, le))
 
 pass_cost : (o : Option Value) (v : Option ℕ) (s : Progress) → cost_by (pass o v s) ≤ s.count + 2
 pass_cost None v s = omega arith
@@ -292,12 +290,12 @@ take_cost c ps j [] s = omega arith
 take_cost c ps j (None ∷ places) s = let h = take_cost c ps (j + 1) places s in omega (arith, h, sum_by-cons place_cost None places)
 take_cost c ps j (Some n ∷ places) s =
     cost_bind (s.count + 2) (s.count + places_cost (Some n ∷ places)) (pass (slice_get ps j) (variable_at c n) s) (λ _ s. take_places c ps (j + 1) places s) (omega (arith, sum_by-cons place_cost (Some n) places)) (pass_cost (slice_get ps j) (variable_at c n) s)
-      (λ _ v le. let h = take_cost c ps (j + 1) places v in omega (arith, h, le, sum_by-cons place_cost (Some n) places))
+    (λ _ v le. let h = take_cost c ps (j + 1) places v in omega (arith, h, le, sum_by-cons place_cost (Some n) places))
 
 piece_cost : (c : Scope) (q : Piece) (ps : List Value) (s : Progress) → cost_by (then_do (take_places c ps 0 q.places s) (λ _ s. act c q.text s)) ≤ s.count + piece_budget q
 piece_cost c q ps s =
     cost_bind (s.count + places_cost q.places) (s.count + piece_budget q) (take_places c ps 0 q.places s) (λ _ s. act c q.text s) (omega arith) (take_cost c ps 0 q.places s)
-      (λ _ v le. let h = act_cost c q.text v in omega (arith, h, le))
+    (λ _ v le. let h = act_cost c q.text v in omega (arith, h, le))
 
 -- a text that doesn't run off its end comes to its end
 abbrev IsOver : {A : Type 0} → Outcome A → Type 0
@@ -338,5 +336,5 @@ run_is_act c q code x is named le =
     let o = then_do (take_places c ps 0 q.places s) (λ _ s. act c q.text s) in
     let cost = piece_cost c q ps s in
     over_run ps code s 512 o refl
-      (over_bind (take_places c ps 0 q.places s) (λ _ s. act c q.text s) (λ _ v. act_over c q.text v named.text))
-      (omega (arith, cost, le)) (piece_does ps code c q s is named)
+    (over_bind (take_places c ps 0 q.places s) (λ _ s. act c q.text s) (λ _ v. act_over c q.text v named.text))
+    (omega (arith, cost, le)) (piece_does ps code c q s is named)

@@ -1,5 +1,5 @@
 -- Straight stretches of code: what is claimed of their places is right.
-use Rattle.std.proofs.Common.{◌≡◌, ℕ, zero, suc, ◌+◌, ◌-◌, ◌<◌, ◌≤◌, max, List, [], ◌∷◌, ◌++◌, length, drop, Option, Some, None, IsSome, refl, sym, ap, ◌∙◌, subst, arith, append_assoc, length-append}
+use Rattle.std.proofs.Common.{◌≡◌, ℕ, ◌+◌, ◌<◌, ◌≤◌, List, [], ◌∷◌, ◌++◌, length, drop, Option, Some, None, IsSome, refl, sym, ap, ◌∙◌, subst, arith, append_assoc}
 use Rattle.std.specs.Prelude.{slice_get, All, Contains, pos}
 use Rattle.std.specs.Option.{option_to_list}
 use Rattle.std.proofs.lemmas.List.Elements.{All-nil, All-cons, All-contains}
@@ -8,7 +8,6 @@ use Rattle.sdl_tree.specs.declared.expression.UnaryOperator.{UnaryOperator}
 use Rattle.sdl_tree.specs.declared.expression.UnaryOperator.TheVariants.{Negate}
 use Rattle.sdl_tree.specs.declared.expression.BinaryOperator.{BinaryOperator}
 use Rattle.sdl_tree.specs.declared.expression.BinaryOperator.TheVariants.{Add, Subtract, Multiply}
-use Rattle.sdl_tree.specs.declared.tree.End.{End}
 use Rattle.sdl_tree.specs.declared.tree.End.TheVariants.{NextState}
 use Rattle.sdl_tree.specs.Plain.{Tree, number, variable, unary, binary, PlainAssignment, Text, falls, ends, task}
 use Rattle.turn_code.specs.declared.value.Sort.{Sort}
@@ -19,14 +18,14 @@ use Rattle.turn_code.specs.declared.variable_set.VariableSet.{VariableSet}
 use Rattle.turn_code.specs.declared.draft.DraftVariable.{DraftVariable}
 use Rattle.turn_code.specs.declared.draft.DraftState.{DraftState}
 use Rattle.turn_code.specs.Sets.{Has, IsWithin, with_variable}
-use Rattle.turn_code.specs.Code.{sort_at, takes, gives, shape_after, reads, sets, set_after, parameters_in, states_in, successors}
+use Rattle.turn_code.specs.Code.{sort_at, takes, shape_after, reads, sets, set_after, parameters_in, states_in, successors}
 use Rattle.turn_code.specs.Rules.{Agree}
 use Rattle.turn_code.specs.Values.{wrap}
 use Rattle.sdl_rules.specs.Longest.{Piece}
 use Rattle.sdl_compile.specs.Act.{Scope, variable_at, state_at}
-use Rattle.sdl_compile.specs.Named.{NamedTree, NamedTasks, NamedEnd, NamedText, NamedPlaces, NamedPiece}
+use Rattle.sdl_compile.specs.Named.{NamedTree, NamedTasks, NamedText, NamedPlaces, NamedPiece}
 use Rattle.sdl_compile.specs.Reads.{ReadTree, ReadTasks, tasks_set, ReadText, places_set}
-use Rattle.sdl_compile.specs.Code.{number_or_zero, load, store, next, unary_code, binary_code, tree_code, tasks_code, end_code, text_code, places_code, piece_code}
+use Rattle.sdl_compile.specs.Code.{number_or_zero, load, store, next, unary_code, binary_code, tree_code, tasks_code, text_code, places_code, piece_code}
 
 -- what an instruction wants of the shape, of the variables that are set and of the numbers that are there
 pub record IsRight (xs : List DraftVariable) (ps : List Sort) (ss : List DraftState) (shape : List Sort) (set : VariableSet) (x : Instruction) : Type 0 where
@@ -127,45 +126,51 @@ module _ (c : Scope) (xs : List DraftVariable) (ps : List Sort) (ss : List Draft
     (parameter_integers : (j : ℕ) → j < length ps → option_to_list (slice_get ps j) ≡ Integer ∷ []) where
   -- a variable that is read
   load_right : (v : ℕ) (shape : List Sort) (m : VariableSet) (rest : List Instruction) → v < length xs → Has m v → AreRight xs ps ss (Integer ∷ shape) m rest → AreRight xs ps ss shape m (load v ∷ rest)
-  load_right v shape m rest lt has h =
-      (record {
-        under = omega arith;
-        sort = tt;
-        reads_set = one_of (Has m) v has;
-        states = λ n st h. none_in n h;
-        states_there = All-nil (λ q. q < length ss);
-        reads_there = one_of (λ v. v < length xs) v lt;
-        sets_there = All-nil (λ v. v < length xs);
-        parameters = All-nil (λ j. j < length ps);
-      }, subst (λ l. AreRight xs ps ss (l ++ shape) m rest) (sym (integers v lt)) h)
+  load_right v shape m rest lt has h = (
+    record {
+      under = omega arith;
+      sort = tt;
+      reads_set = one_of (Has m) v has;
+      states = λ n st h. none_in n h;
+      states_there = All-nil (λ q. q < length ss);
+      reads_there = one_of (λ v. v < length xs) v lt;
+      sets_there = All-nil (λ v. v < length xs);
+      parameters = All-nil (λ j. j < length ps);
+    },
+    subst (λ l. AreRight xs ps ss (l ++ shape) m rest) (sym (integers v lt)) h,
+  )
 
   store_right : (v : ℕ) (shape : List Sort) (m : VariableSet) (rest : List Instruction) → v < length xs → AreRight xs ps ss shape (with_variable m v) rest → AreRight xs ps ss (Integer ∷ shape) m (store v ∷ rest)
   store_right v shape m rest lt h =
       let e = integers v lt in
-      let after : drop (length (sort_at xs v)) (Integer ∷ shape) ≡ shape = ap (λ l. drop (length l) (Integer ∷ shape)) e in
-      (record {
-        under = omega (arith, ap length e);
-        sort = subst (λ l. Agree l (Integer ∷ shape)) (sym e) (refl, tt);
-        reads_set = All-nil (Has m);
-        states = λ n st h. none_in n h;
-        states_there = All-nil (λ q. q < length ss);
-        reads_there = All-nil (λ v. v < length xs);
-        sets_there = one_of (λ v. v < length xs) v lt;
-        parameters = All-nil (λ j. j < length ps);
-      }, subst (λ s. AreRight xs ps ss s (with_variable m v) rest) (sym after) h)
+      let after : drop (length (sort_at xs v)) (Integer ∷ shape) ≡ shape = ap (λ l. drop (length l) (Integer ∷ shape)) e in (
+        record {
+          under = omega (arith, ap length e);
+          sort = subst (λ l. Agree l (Integer ∷ shape)) (sym e) (refl, tt);
+          reads_set = All-nil (Has m);
+          states = λ n st h. none_in n h;
+          states_there = All-nil (λ q. q < length ss);
+          reads_there = All-nil (λ v. v < length xs);
+          sets_there = one_of (λ v. v < length xs) v lt;
+          parameters = All-nil (λ j. j < length ps);
+        },
+        subst (λ s. AreRight xs ps ss s (with_variable m v) rest) (sym after) h,
+      )
 
   param_right : (j : ℕ) (shape : List Sort) (m : VariableSet) (rest : List Instruction) → j < length ps → AreRight xs ps ss (Integer ∷ shape) m rest → AreRight xs ps ss shape m (i.Param j ∷ rest)
-  param_right j shape m rest lt h =
-      (record {
-        under = omega arith;
-        sort = tt;
-        reads_set = All-nil (Has m);
-        states = λ n st h. none_in n h;
-        states_there = All-nil (λ q. q < length ss);
-        reads_there = All-nil (λ v. v < length xs);
-        sets_there = All-nil (λ v. v < length xs);
-        parameters = one_of (λ j. j < length ps) j lt;
-      }, subst (λ l. AreRight xs ps ss (l ++ shape) m rest) (sym (parameter_integers j lt)) h)
+  param_right j shape m rest lt h = (
+    record {
+      under = omega arith;
+      sort = tt;
+      reads_set = All-nil (Has m);
+      states = λ n st h. none_in n h;
+      states_there = All-nil (λ q. q < length ss);
+      reads_there = All-nil (λ v. v < length xs);
+      sets_there = All-nil (λ v. v < length xs);
+      parameters = one_of (λ j. j < length ps) j lt;
+    },
+    subst (λ l. AreRight xs ps ss (l ++ shape) m rest) (sym (parameter_integers j lt)) h,
+  )
 
   unary_right : (op : UnaryOperator) (shape : List Sort) (m : VariableSet) (rest : List Instruction) → AreRight xs ps ss (Integer ∷ shape) m rest → AreRight xs ps ss (Integer ∷ shape) m (unary_code op ∷ rest)
   unary_right Negate shape m rest h = (right_with xs ps ss (Integer ∷ shape) m i.Neg refl refl refl refl (omega arith) (refl, tt), h)
@@ -180,38 +185,40 @@ module _ (c : Scope) (xs : List DraftVariable) (ps : List Sort) (ss : List Draft
   tree_right (variable at n) shape m rest named read h = load_right (number_or_zero (variable_at c n)) shape m rest (small n named) read h
   tree_right (unary at op t) shape m rest named read h =
       subst (AreRight xs ps ss shape m) (sym (append_assoc (tree_code c t) (unary_code op ∷ []) rest))
-        (tree_right t shape m (unary_code op ∷ rest) named read (unary_right op shape m rest h))
+      (tree_right t shape m (unary_code op ∷ rest) named read (unary_right op shape m rest h))
   tree_right (binary at op t u) shape m rest named read h =
       let a = tree_code c t in
       let b = tree_code c u in
       let last = binary_code op ∷ [] in
       let e : (a ++ (b ++ last)) ++ rest ≡ a ++ (b ++ (binary_code op ∷ rest)) = append_assoc a (b ++ last) rest ∙ ap (λ l. a ++ l) (append_assoc b last rest) in
       subst (AreRight xs ps ss shape m) (sym e)
-        (tree_right t shape m (b ++ (binary_code op ∷ rest)) named.0 read.0
-          (tree_right u (Integer ∷ shape) m (binary_code op ∷ rest) named.1 read.1 (binary_right op shape m rest h)))
+      (tree_right t shape m (b ++ (binary_code op ∷ rest)) named.0 read.0
+      (tree_right u (Integer ∷ shape) m (binary_code op ∷ rest) named.1 read.1 (binary_right op shape m rest h)))
 
   tasks_right : (ts : List PlainAssignment) (m : VariableSet) (rest : List Instruction) → NamedTasks c ts → ReadTasks c m ts → AreRight xs ps ss [] (tasks_set c m ts) rest → AreRight xs ps ss [] m (tasks_code c ts ++ rest)
   tasks_right [] m rest named read h = h
   tasks_right (a ∷ ts) m rest named read h =
       let v = number_or_zero (variable_at c a.variable) in
       subst (AreRight xs ps ss [] m) (sym (append_assoc (tree_code c a.value) (store v ∷ tasks_code c ts) rest))
-        (tree_right a.value [] m (store v ∷ (tasks_code c ts ++ rest)) named.0 read.0
-          (store_right v [] m (tasks_code c ts ++ rest) (small a.variable named.1)
-            (tasks_right ts (with_variable m v) rest named.2 read.1 h)))
+      (tree_right a.value [] m (store v ∷ (tasks_code c ts ++ rest)) named.0 read.0
+      (store_right v [] m (tasks_code c ts ++ rest) (small a.variable named.1)
+      (tasks_right ts (with_variable m v) rest named.2 read.1 h)))
 
   next_right : (q : ℕ) (m : VariableSet) → q < length ss → ((s : DraftState) → slice_get ss q ≡ Some s → IsWithin s.set m) → AreRight xs ps ss [] m (next q ∷ [])
   next_right q m lt h =
-      let P : ℕ → Type 0 = λ q. (s : DraftState) → slice_get ss q ≡ Some s → IsWithin s.set m in
-      (record {
-        under = omega arith;
-        sort = tt;
-        reads_set = All-nil (Has m);
-        states = λ n st k. All-contains P (q ∷ []) n (one_of P q h) k st;
-        states_there = one_of (λ q. q < length ss) q lt;
-        reads_there = All-nil (λ v. v < length xs);
-        sets_there = All-nil (λ v. v < length xs);
-        parameters = All-nil (λ j. j < length ps);
-      }, tt)
+      let P : ℕ → Type 0 = λ q. (s : DraftState) → slice_get ss q ≡ Some s → IsWithin s.set m in (
+        record {
+          under = omega arith;
+          sort = tt;
+          reads_set = All-nil (Has m);
+          states = λ n st k. All-contains P (q ∷ []) n (one_of P q h) k st;
+          states_there = one_of (λ q. q < length ss) q lt;
+          reads_there = All-nil (λ v. v < length xs);
+          sets_there = All-nil (λ v. v < length xs);
+          parameters = All-nil (λ j. j < length ps);
+        },
+        tt,
+      )
 
   text_right : (t : Text) (m : VariableSet) → NamedText c t → ReadText c ss m t → AreRight xs ps ss [] m (text_code c t)
   text_right falls m named read = absurd named
@@ -224,8 +231,8 @@ module _ (c : Scope) (xs : List DraftVariable) (ps : List Sort) (ss : List Draft
   places_right (Some n ∷ places) j m rest named le h =
       let v = number_or_zero (variable_at c n) in
       param_right j [] m (store v ∷ (places_code c (j + 1) places ++ rest)) (omega (arith, le))
-        (store_right v [] m (places_code c (j + 1) places ++ rest) (small n named.0)
-          (places_right places (j + 1) (with_variable m v) rest named.1 (omega (arith, le)) h))
+      (store_right v [] m (places_code c (j + 1) places ++ rest) (small n named.0)
+      (places_right places (j + 1) (with_variable m v) rest named.1 (omega (arith, le)) h))
 
   pub piece_right : (q : Piece) (m : VariableSet) → NamedPiece c q → length q.places ≤ length ps → ReadText c ss (places_set c m q.places) q.text → AreRight xs ps ss [] m (piece_code c q)
   piece_right q m named le read = places_right q.places 0 m (text_code c q.text) named.places (omega (arith, le)) (text_right q.text (places_set c m q.places) named.text read)

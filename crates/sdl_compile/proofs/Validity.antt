@@ -1,5 +1,5 @@
 -- A transition whose places have the facts of a straight stretch of code is valid.
-use Rattle.std.proofs.Common.{◌≡◌, ℕ, zero, suc, ◌+◌, ◌-◌, ◌<◌, ◌≤◌, max, List, [], ◌∷◌, ◌++◌, ◌⊎◌, inl, inr, ⊎_elim, length, Option, Some, None, refl, sym, ap, ◌∙◌, subst, arith}
+use Rattle.std.proofs.Common.{◌≡◌, ℕ, zero, suc, ◌+◌, ◌-◌, ◌<◌, max, List, [], ◌∷◌, ◌⊎◌, inl, inr, ⊎_elim, length, Some, None, refl, sym, ap, ◌∙◌, subst, arith}
 use Rattle.std.specs.Prelude.{slice_get, All, Contains, map}
 use Rattle.std.proofs.lemmas.List.Elements.{All-nil, All-cons, All-contains}
 use Rattle.turn_code.specs.declared.value.Sort.{Sort}
@@ -9,10 +9,10 @@ use Rattle.turn_code.specs.declared.draft.Draft.{Draft}
 use Rattle.turn_code.specs.declared.draft.DraftVariable.{DraftVariable}
 use Rattle.turn_code.specs.declared.draft.DraftState.{DraftState}
 use Rattle.turn_code.specs.declared.draft.PlaceFacts.{PlaceFacts}
-use Rattle.turn_code.specs.Sets.{Has, IsWithin}
-use Rattle.turn_code.specs.Code.{shape_after, set_after, successors, states_in, takes, reads, sets, parameters_in}
+use Rattle.turn_code.specs.Sets.{IsWithin}
+use Rattle.turn_code.specs.Code.{shape_after, set_after, successors}
 use Rattle.turn_code.specs.Transitions.{Transition}
-use Rattle.turn_code.specs.Rules.{Agree, StartsRight, HasTrigger, greatest, depths, count_in, effects_in, counts_at, effects_at, JumpsInside, KeepsShapes, HasOperands, KeepsSorts, KeepsSets, HasStates, HasNumbers, KeepsLimits, KeepsCounts, KeepsCertificate, KeepsProcessLimits, KeepsPieceLimits}
+use Rattle.turn_code.specs.Rules.{StartsRight, HasTrigger, greatest, depths, count_in, effects_in, counts_at, effects_at, KeepsCertificate, KeepsProcessLimits, KeepsPieceLimits}
 use Rattle.turn_code.specs.Valid.{IsValidTransition}
 use Rattle.sdl_compile.specs.Facts.{facts_from}
 use Rattle.sdl_compile.proofs.Straight.{IsRight, AreRight, IsStep, IsLast, IsStraight}
@@ -39,9 +39,10 @@ module _ (xs : List DraftVariable) (ps : List Sort) (ss : List DraftState) where
       let first : PlaceFacts = record { shape = shape; set = m; count = length (z ∷ is) + 1; effects = 0 } in
       let second : PlaceFacts = record { shape = shape_after xs ps y shape; set = set_after y m; count = length is + 1; effects = 0 } in
       let e2 : first ≡ f = cc in
-      let e3 : second ≡ g = cc in
-      ( sym (ap (λ (g : PlaceFacts). g.shape) e3) ∙ ap (λ x. shape_after xs ps x shape) e1 ∙ ap (λ (f : PlaceFacts). shape_after xs ps x f.shape) e2
-      , sym (ap (λ (g : PlaceFacts). g.set) e3) ∙ ap (λ x. set_after x m) e1 ∙ ap (λ (f : PlaceFacts). set_after x f.set) e2)
+      let e3 : second ≡ g = cc in (
+        sym (ap (λ (g : PlaceFacts). g.shape) e3) ∙ ap (λ x. shape_after xs ps x shape) e1 ∙ ap (λ (f : PlaceFacts). shape_after xs ps x f.shape) e2,
+        sym (ap (λ (g : PlaceFacts). g.set) e3) ∙ ap (λ x. set_after x m) e1 ∙ ap (λ (f : PlaceFacts). set_after x f.set) e2,
+      )
   next_at shape m (y ∷ is) (suc k) x f g e d h = next_at (shape_after xs ps y shape) (set_after y m) is k x f g e d h
 
   count_at : (shape : List Sort) (m : VariableSet) (code : List Instruction) (k : ℕ) → k < length code → count_in (slice_get (facts_from xs ps shape m code) k) + k ≡ length code

@@ -1,5 +1,5 @@
 -- Lists that are made item by item.
-use Rattle.std.proofs.Common.{◌≡◌, ℕ, zero, suc, ◌+◌, ◌<◌, List, [], ◌∷◌, ◌++◌, length, get_or, take, drop, map, refl, sym, ap, ◌∙◌, subst, arith, drop-cons}
+use Rattle.std.proofs.Common.{ℕ, zero, suc, ◌<◌, List, [], ◌∷◌, ◌++◌, length, get_or, take, drop, map, arith}
 use Rattle.std.specs.List.{AllZip}
 use Rattle.std.specs.Prelude.{slice_get, IfSome}
 use Rattle.turn_code.specs.declared.draft.DraftVariable.{DraftVariable}
@@ -44,11 +44,13 @@ pub inputs_match : (c : Scope) (xs : List DraftVariable) (signals : List Identif
 inputs_match c xs signals ss entry [] [] ready made = tt
 inputs_match c xs signals ss entry [] (d ∷ ds) ready made = absurd made
 inputs_match c xs signals ss entry (i ∷ is) [] ready made = absurd made
-inputs_match c xs signals ss entry (i ∷ is) (d ∷ ds) ready made =
-    (record {
-      trigger = made.0.trigger;
-      means = record {
-        run_is_act = λ x. run_is_act c (input_piece i) d.piece.code x made.0.piece.code ready.0.named ready.0.small.budget;
-        certificate = made.0.piece.certificate;
-      };
-    }, inputs_match c xs signals ss entry is ds ready.1 made.1)
+inputs_match c xs signals ss entry (i ∷ is) (d ∷ ds) ready made = (
+  record {
+    trigger = made.0.trigger;
+    means = record {
+      run_is_act = λ x. run_is_act c (input_piece i) d.piece.code x made.0.piece.code ready.0.named ready.0.small.budget;
+      certificate = made.0.piece.certificate;
+    };
+  },
+  inputs_match c xs signals ss entry is ds ready.1 made.1,
+)

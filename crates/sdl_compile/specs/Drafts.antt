@@ -1,5 +1,5 @@
 -- What a draft says of a process: names and numbers in the order of the text, and pieces that do what the transitions mean.
-use Rattle.std.specs.Prelude.{◌≡◌, ℕ, ◌≤◌, List, [], ◌∷◌, length, map, All, Option, Some, None, IsSome, slice_get, option_map}
+use Rattle.std.specs.Prelude.{◌≡◌, ℕ, ◌≤◌, List, [], ◌∷◌, length, map, All, IsSome, slice_get, option_map}
 use Rattle.std.specs.List.{AllZip}
 use Rattle.std.specs.Option.{option_map_or}
 use Rattle.sdl_tree.specs.declared.expression.Identifier.{Identifier}

@@ -1,5 +1,5 @@
 -- What is claimed of each place of a straight stretch of code.
-use Rattle.std.specs.Prelude.{ℕ, ◌+◌, ◌<◌, List, [], ◌∷◌, length, All}
+use Rattle.std.specs.Prelude.{◌+◌, ◌<◌, List, [], ◌∷◌, length, All}
 use Rattle.turn_code.specs.Code.{shape_after, set_after, sets}
 use Rattle.turn_code.specs.declared.value.Sort.{Sort}
 use Rattle.turn_code.specs.declared.variable_set.VariableSet.{VariableSet}

@@ -1,6 +1,5 @@
 -- What the compiler makes of a transition.
-use Rattle.std.specs.Prelude.{◌≡◌, ℕ, ◌<◌, ◌≤◌, List, [], ◌∷◌, length, All, Option, Some, None, slice_get}
-use Rattle.sdl_tree.specs.declared.expression.Identifier.{Identifier}
+use Rattle.std.specs.Prelude.{◌≡◌, ◌≤◌, List, [], length, All}
 use Rattle.turn_code.specs.declared.value.Sort.{Sort}
 use Rattle.turn_code.specs.declared.value.Sort.TheVariants.{Integer}
 use Rattle.turn_code.specs.declared.variable_set.VariableSet.{VariableSet}

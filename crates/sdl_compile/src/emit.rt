@@ -58,7 +58,9 @@ fn emit_expression(
         Expression::Number { value, .. } => put(code, Instruction::Int(integer(*value))),
         Expression::Variable { name, .. } => put(code, Instruction::Load(names.variable(name))),
         Expression::Unary {
-            operator, operand, ..
+            operator,
+            operand,
+            ..
         } => {
             emit_expression(code, names, operand)?;
             put(code, unary(*operator))
@@ -85,7 +87,10 @@ fn emit_assignment(
     ensures { OnOk result (code.new.items ≡ code.old.items ++ tasks_code (scope_in names.now) (assignment_of assignment.now ∷ [])) }
 {
     emit_expression(code, names, &assignment.value)?;
-    put(code, Instruction::Store(names.variable(&assignment.variable)))
+    put(
+        code,
+        Instruction::Store(names.variable(&assignment.variable)),
+    )
 }
 
 fn emit_assignments(

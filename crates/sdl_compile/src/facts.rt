@@ -7,7 +7,9 @@ ghost use Rattle.sdl_compile.specs.Facts.{facts_from, SetsFew};
 
 use std::alloc::{AllocError, Global};
 use std::mem;
-use turn_code::{DraftVariable, Instruction, PlaceFacts, Sequence, Sort, VariableNumber, VariableSet};
+use turn_code::{
+    DraftVariable, Instruction, PlaceFacts, Sequence, Sort, VariableNumber, VariableSet,
+};
 
 fn sort_at(variables: &[DraftVariable], variable: VariableNumber) -> Option<Sort>
     ensures { option_to_list result ≡ sorts_at variables.now variable.0 }
@@ -20,10 +22,8 @@ fn taken(variables: &[DraftVariable], instruction: Instruction) -> usize
     ensures { result ≡ length (takes variables.now instruction) }
 {
     match instruction {
-        Instruction::Int(_)
-        | Instruction::Load(_)
-        | Instruction::Param(_)
-        | Instruction::Next(_) => 0,
+        Instruction::Int(_) | Instruction::Load(_) | Instruction::Param(_) | Instruction::Next(_) =>
+            0,
         Instruction::Store(variable) => match sort_at(variables, variable) {
             Some(_) => 1,
             None => 0,
@@ -34,11 +34,7 @@ fn taken(variables: &[DraftVariable], instruction: Instruction) -> usize
 }
 
 // The sort of the operand that an instruction gives.
-fn given(
-    variables: &[DraftVariable],
-    parameters: &[Sort],
-    instruction: Instruction,
-) -> Option<Sort>
+fn given(variables: &[DraftVariable], parameters: &[Sort], instruction: Instruction) -> Option<Sort>
     ensures { option_to_list result ≡ gives variables.now parameters.now instruction }
 {
     match instruction {
@@ -56,7 +52,11 @@ fn given(
 fn without_first(shape: &[Sort], count: usize) -> &[Sort]
     ensures { result.now ≡ drop count shape.now }
 {
-    if count < shape.len() { &shape[count..] } else { &[] }
+    if count < shape.len() {
+        &shape[count..]
+    } else {
+        &[]
+    }
 }
 
 // The shape that an instruction leaves.

@@ -15,9 +15,7 @@ use crate::facts::{greatest_depth, place_facts};
 use crate::names::Names;
 use sdl_tree::{Identifier, Transition};
 use std::alloc::{AllocError, Global};
-use turn_code::{
-    Cert, DraftPiece, DraftVariable, Instruction, Sequence, Sort, VariableSet,
-};
+use turn_code::{Cert, DraftPiece, DraftVariable, Instruction, Sequence, Sort, VariableSet};
 
 /// What comes with a transition: the names that it may use, its process's variables, the sorts of
 /// its parameters, and the variables that are set as it begins.

@@ -159,7 +159,11 @@ pub(crate) fn state_sets(
         sets.push(all)?;
     }
     if let Some(to) = target(names, start) {
-        let _ = narrow(&mut sets, to, with_transition(initial_set(variables), names, start));
+        let _ = narrow(
+            &mut sets,
+            to,
+            with_transition(initial_set(variables), names, start),
+        );
     }
     let flows = collect_flows(alloc, names, inputs)?;
     settle(&mut sets, &flows);

@@ -41,10 +41,7 @@ fn make_variable(row: &Variable) -> DraftVariable
 
 /// Compiles the variables of a process, in the order of the text: their names, sorts and initial
 /// values.
-pub fn compile_variables(
-    alloc: Global,
-    rows: &[Variable],
-) -> Result<Vec<DraftVariable>, AllocError>
+pub fn compile_variables(alloc: Global, rows: &[Variable]) -> Result<Vec<DraftVariable>, AllocError>
     ensures { IfOk result (λ v. v.items ≡ map drafted (map variable_of rows.now)) }
 {
     let mut variables = Vec::new(alloc);

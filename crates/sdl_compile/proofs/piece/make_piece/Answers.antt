@@ -1,9 +1,6 @@
-use Rattle.std.proofs.Common.{◌≡◌, ◌≤◌, length, [], ap, ◌∙◌, subst, arith, refl}
-use Rattle.turn_code.specs.Rules.{greatest, depths}
+use Rattle.std.proofs.Common.{length, [], ap, ◌∙◌, arith, refl}
 use Rattle.sdl_compile.specs.Scopes.{scope_in, piece_in}
-use Rattle.sdl_compile.specs.Code.{piece_code}
-use Rattle.sdl_compile.specs.Facts.{SetsFew, facts_from}
-use Rattle.sdl_compile.specs.Made.{AreDrafted, IsPieceOf, IsSmall}
+use Rattle.sdl_compile.specs.Facts.{facts_from}
 use Rattle.sdl_compile.proofs.Certificate.{piece_length}
 use Rattle.sdl_compile.proofs.Few.{piece_few}
 use Rattle.sdl_compile.proofs.Pieces.{depth_is, is_piece}
@@ -13,7 +10,7 @@ pub place_facts-requires-clause-few : goal.place_facts-requires-clause-few
 place_facts-requires-clause-few c =
     let names = c.args.setting.now.names.now in
     rw (c.deref.ensures.value, c.in_ok-code.ensures)
-      (piece_few (scope_in names) names.few_variables (piece_in c.args.places.now c.args.transition.now) c.requires.named)
+    (piece_few (scope_in names) names.few_variables (piece_in c.args.places.now c.args.transition.now) c.requires.named)
 
 pub place_facts-requires-clause-short : goal.place_facts-requires-clause-short
 place_facts-requires-clause-short c =
@@ -45,9 +42,9 @@ returns c =
     let entry = c.args.setting.now.entry in
     let code = c.deref.ensures.value ∙ c.in_ok-code.ensures in
     is_piece (scope_in names) xs ps entry q c.requires.variables c.requires.integers c.requires.named c.requires.parameters
-      (record { code = c.from.result; facts = c.from-2.result; certificate = record { budget = c.len.result; depth = c.greatest_depth.result; effects = 0 } })
-      (c.from.ensures ∙ c.in_ok-code.ensures)
-      (c.from-2.ensures ∙ c.in_ok-facts.ensures ∙ ap (facts_from xs ps [] entry) code)
-      (c.len.ensures ∙ c.in_ok-code.code.ok.0 ∙ ap length c.in_ok-code.ensures)
-      (depth_is (scope_in names) xs ps entry q c.requires.variables c.requires.integers c.requires.named c.requires.parameters c.deref.result.now c.in_ok-facts.facts.items c.deref-2.result.now c.greatest_depth.result code c.in_ok-facts.ensures c.deref-2.ensures.value c.greatest_depth.ensures)
-      refl
+    (record { code = c.from.result; facts = c.from-2.result; certificate = record { budget = c.len.result; depth = c.greatest_depth.result; effects = 0 } })
+    (c.from.ensures ∙ c.in_ok-code.ensures)
+    (c.from-2.ensures ∙ c.in_ok-facts.ensures ∙ ap (facts_from xs ps [] entry) code)
+    (c.len.ensures ∙ c.in_ok-code.code.ok.0 ∙ ap length c.in_ok-code.ensures)
+    (depth_is (scope_in names) xs ps entry q c.requires.variables c.requires.integers c.requires.named c.requires.parameters c.deref.result.now c.in_ok-facts.facts.items c.deref-2.result.now c.greatest_depth.result code c.in_ok-facts.ensures c.deref-2.ensures.value c.greatest_depth.ensures)
+    refl

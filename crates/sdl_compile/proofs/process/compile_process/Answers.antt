@@ -1,4 +1,4 @@
-use Rattle.std.proofs.Common.{length, map, sym, ap, ◌∙◌, arith}
+use Rattle.std.proofs.Common.{length, map, ap, ◌∙◌, arith}
 use Rattle.std.proofs.lemmas.List.{length-map}
 use Rattle.sdl_tree.specs.Views.{process_of}
 use Rattle.sdl_rules.specs.Names.{variables_of}
@@ -10,7 +10,7 @@ use Rattle.sdl_compile.proofs.process.compile_process.Goals as goal
 pub compile_transition-requires-clause-variables : goal.compile_transition-requires-clause-variables
 compile_transition-requires-clause-variables c =
     are_drafted (record { variables = c.variables.result.now; states = c.states.result.now }) (variables_of (process_of c.args.table.now)) c.deref-2.result.now c.variables.ensures
-      (c.deref-2.ensures.value ∙ c.in_ok-variables.ensures ∙ ap (map drafted) c.rows.ensures)
+    (c.deref-2.ensures.value ∙ c.in_ok-variables.ensures ∙ ap (map drafted) c.rows.ensures)
 
 pub compile_states-requires-clause-paired : goal.compile_states-requires-clause-paired
 compile_states-requires-clause-paired c =
@@ -22,4 +22,4 @@ compile_states-requires-clause-paired c =
 pub compile_states-requires-clause-variables : goal.compile_states-requires-clause-variables
 compile_states-requires-clause-variables c =
     are_drafted (record { variables = c.variables.result.now; states = c.states.result.now }) (variables_of (process_of c.args.table.now)) c.deref-4.result.now c.variables.ensures
-      (c.deref-4.ensures.value ∙ c.in_ok-variables.ensures ∙ ap (map drafted) c.rows.ensures)
+    (c.deref-4.ensures.value ∙ c.in_ok-variables.ensures ∙ ap (map drafted) c.rows.ensures)

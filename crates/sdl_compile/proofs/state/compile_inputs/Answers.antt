@@ -1,4 +1,4 @@
-use Rattle.std.proofs.Common.{◌+◌, ◌<◌, length, subst, arith, add-one}
+use Rattle.std.proofs.Common.{◌<◌, length, subst, arith, add-one}
 use Rattle.sdl_rules.specs.declared.process_table.InputRow.{InputRow}
 use Rattle.sdl_rules.specs.Rows.{row_input}
 use Rattle.sdl_compile.specs.Scopes.{scope_in}
@@ -16,7 +16,7 @@ loop-row-preserved c =
     let item = c.in_ok-compile_input.field-0 in
     record {
       made = rw (add-one, c.in_ok-push.ensures.items)
-        (zip_more (IsInputOf names xs signals drafts c.args.entry) row_input c.args.rows.now c.loop-row.row-index c.row-item.result c.loop-row.inputs.items item lt c.loop-row.invariant.made
+          (zip_more (IsInputOf names xs signals drafts c.args.entry) row_input c.args.rows.now c.loop-row.row-index c.row-item.result c.loop-row.inputs.items item lt c.loop-row.invariant.made
           (subst (λ (r : InputRow). IsInputOf names xs signals drafts c.args.entry (row_input r) item) c.row-item.is c.in_ok-compile_input.ensures));
       ready = rw add-one (ready_more names signals drafts row_input c.args.rows.now c.loop-row.row-index c.row-item.result lt c.loop-row.invariant.ready).1;
     }

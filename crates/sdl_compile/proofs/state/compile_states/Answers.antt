@@ -1,4 +1,4 @@
-use Rattle.std.proofs.Common.{◌+◌, ◌<◌, length, map, subst, arith, add-one}
+use Rattle.std.proofs.Common.{◌<◌, length, map, subst, arith, add-one}
 use Rattle.std.specs.Global.{Vec}
 use Rattle.sdl_rules.specs.declared.process_table.InputRow.{InputRow}
 use Rattle.sdl_rules.specs.Rows.{row_input, rows_inputs}
@@ -20,10 +20,10 @@ loop-number-preserved c =
     let row = c.index-inputs-number.result in
     record {
       names = rw (add-one, c.in_ok-push.ensures.items)
-        (zip_some IsNamedAs c.args.context.now.names.now.states.now i old item lt2 c.loop-number.invariant.names c.in_ok-make_state.ensures.name);
+          (zip_some IsNamedAs c.args.context.now.names.now.states.now i old item lt2 c.loop-number.invariant.names c.in_ok-make_state.ensures.name);
       made = rw (add-one, c.in_ok-push.ensures.items)
-        (zip_more (MatchesInputs names signals) rows_inputs c.args.inputs.now i row old item lt c.loop-number.invariant.made
+          (zip_more (MatchesInputs names signals) rows_inputs c.args.inputs.now i row old item lt c.loop-number.invariant.made
           (subst (λ (v : Vec InputRow). MatchesInputs names signals (rows_inputs v) item) c.index-inputs-number.is
-            (subst (λ rows. MatchesInputs names signals (map row_input rows) item) c.deref.ensures.value c.in_ok-make_state.ensures.inputs)));
+          (subst (λ rows. MatchesInputs names signals (map row_input rows) item) c.deref.ensures.value c.in_ok-make_state.ensures.inputs)));
       ready = rw add-one (all_ready_more names signals drafts rows_inputs c.args.inputs.now i row lt c.loop-number.invariant.ready).1;
     }
