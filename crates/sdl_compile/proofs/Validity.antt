@@ -1,0 +1,199 @@
+-- A transition whose places have the facts of a straight stretch of code is valid.
+use Rattle.std.proofs.Common.{◌≡◌, ℕ, zero, suc, ◌+◌, ◌-◌, ◌<◌, max, List, [], ◌∷◌, ◌⊎◌, inl, inr, ⊎_elim, length, Some, None, refl, sym, ap, ◌∙◌, subst, arith}
+use Rattle.std.specs.Prelude.{slice_get, All, Contains, map}
+use Rattle.std.proofs.lemmas.List.Elements.{All-nil, All-cons, All-contains}
+use Rattle.turn_code.specs.declared.value.Sort.{Sort}
+use Rattle.turn_code.specs.declared.instruction.Instruction.{Instruction}
+use Rattle.turn_code.specs.declared.variable_set.VariableSet.{VariableSet}
+use Rattle.turn_code.specs.declared.draft.Draft.{Draft}
+use Rattle.turn_code.specs.declared.draft.DraftVariable.{DraftVariable}
+use Rattle.turn_code.specs.declared.draft.DraftState.{DraftState}
+use Rattle.turn_code.specs.declared.draft.PlaceFacts.{PlaceFacts}
+use Rattle.turn_code.specs.Sets.{IsWithin}
+use Rattle.turn_code.specs.Code.{shape_after, set_after, successors}
+use Rattle.turn_code.specs.Transitions.{Transition}
+use Rattle.turn_code.specs.Rules.{StartsRight, HasTrigger, greatest, depths, count_in, effects_in, counts_at, effects_at, KeepsCertificate, KeepsProcessLimits, KeepsPieceLimits}
+use Rattle.turn_code.specs.Valid.{IsValidTransition}
+use Rattle.sdl_compile.specs.Facts.{facts_from}
+use Rattle.sdl_compile.proofs.Straight.{IsRight, AreRight, IsStep, IsLast, IsStraight}
+
+module _ (xs : List DraftVariable) (ps : List Sort) (ss : List DraftState) where
+  facts_length : (shape : List Sort) (m : VariableSet) (code : List Instruction) → length (facts_from xs ps shape m code) ≡ length code
+  facts_length shape m [] = refl
+  facts_length shape m (x ∷ is) = omega (arith, facts_length (shape_after xs ps x shape) (set_after x m) is)
+
+  right_at : (shape : List Sort) (m : VariableSet) (code : List Instruction) (k : ℕ) (x : Instruction) (f : PlaceFacts) → AreRight xs ps ss shape m code → slice_get code k ≡ Some x → slice_get (facts_from xs ps shape m code) k ≡ Some f → IsRight xs ps ss f.shape f.set x
+  right_at shape m [] k x f h e g = absurd (let k : ⊥ = cc in k)
+  right_at shape m (y ∷ is) zero x f h e g =
+      let e1 : y ≡ x = cc in
+      let first : PlaceFacts = record { shape = shape; set = m; count = length is + 1; effects = 0 } in
+      let e2 : first ≡ f = cc in
+      subst (λ (f : PlaceFacts). IsRight xs ps ss f.shape f.set x) e2 (subst (IsRight xs ps ss shape m) e1 h.0)
+  right_at shape m (y ∷ is) (suc k) x f h e g = right_at (shape_after xs ps y shape) (set_after y m) is k x f h.1 e g
+
+  next_at : (shape : List Sort) (m : VariableSet) (code : List Instruction) (k : ℕ) (x : Instruction) (f g : PlaceFacts) → slice_get code k ≡ Some x → slice_get (facts_from xs ps shape m code) k ≡ Some f → slice_get (facts_from xs ps shape m code) (suc k) ≡ Some g → (g.shape ≡ shape_after xs ps x f.shape) × (g.set ≡ set_after x f.set)
+  next_at shape m [] k x f g e d h = absurd (let k : ⊥ = cc in k)
+  next_at shape m (y ∷ []) zero x f g e d h = absurd (let k : ⊥ = cc in k)
+  next_at shape m (y ∷ z ∷ is) zero x f g e d h =
+      let e1 : y ≡ x = cc in
+      let first : PlaceFacts = record { shape = shape; set = m; count = length (z ∷ is) + 1; effects = 0 } in
+      let second : PlaceFacts = record { shape = shape_after xs ps y shape; set = set_after y m; count = length is + 1; effects = 0 } in
+      let e2 : first ≡ f = cc in
+      let e3 : second ≡ g = cc in (
+        sym (ap (λ (g : PlaceFacts). g.shape) e3) ∙ ap (λ x. shape_after xs ps x shape) e1 ∙ ap (λ (f : PlaceFacts). shape_after xs ps x f.shape) e2,
+        sym (ap (λ (g : PlaceFacts). g.set) e3) ∙ ap (λ x. set_after x m) e1 ∙ ap (λ (f : PlaceFacts). set_after x f.set) e2,
+      )
+  next_at shape m (y ∷ is) (suc k) x f g e d h = next_at (shape_after xs ps y shape) (set_after y m) is k x f g e d h
+
+  count_at : (shape : List Sort) (m : VariableSet) (code : List Instruction) (k : ℕ) → k < length code → count_in (slice_get (facts_from xs ps shape m code) k) + k ≡ length code
+  count_at shape m [] k lt = absurd (omega arith)
+  count_at shape m (y ∷ is) zero lt = omega arith
+  count_at shape m (y ∷ is) (suc k) lt = let h = count_at (shape_after xs ps y shape) (set_after y m) is k (omega arith) in omega (arith, h)
+
+  effects_at_zero : (shape : List Sort) (m : VariableSet) (code : List Instruction) (k : ℕ) → effects_in (slice_get (facts_from xs ps shape m code) k) ≡ 0
+  effects_at_zero shape m [] k = refl
+  effects_at_zero shape m (y ∷ is) zero = refl
+  effects_at_zero shape m (y ∷ is) (suc k) = effects_at_zero (shape_after xs ps y shape) (set_after y m) is k
+
+  first_at : (shape : List Sort) (m : VariableSet) (code : List Instruction) (f : PlaceFacts) → slice_get (facts_from xs ps shape m code) 0 ≡ Some f → (f.shape ≡ shape) × (f.set ≡ m)
+  first_at shape m [] f h = absurd (let k : ⊥ = cc in k)
+  first_at shape m (y ∷ is) f h =
+      let first : PlaceFacts = record { shape = shape; set = m; count = length is + 1; effects = 0 } in
+      let e : f ≡ first = cc in
+      (ap (λ (f : PlaceFacts). f.shape) e, ap (λ (f : PlaceFacts). f.set) e)
+
+-- where a straight stretch goes on from a place
+straight_at : (code : List Instruction) (k : ℕ) (x : Instruction) → IsStraight code → slice_get code k ≡ Some x → (IsLast x × (k + 1 ≡ length code)) ⊎ (IsStep x × (k + 1 < length code))
+straight_at [] k x h e = absurd h
+straight_at (y ∷ []) zero x h e = let e1 : y ≡ x = cc in inl (subst IsLast e1 h, omega arith)
+straight_at (y ∷ []) (suc k) x h e = absurd (let k : ⊥ = cc in k)
+straight_at (y ∷ z ∷ is) zero x h e = let e1 : y ≡ x = cc in inr (subst IsStep e1 h.0, omega arith)
+straight_at (y ∷ z ∷ is) (suc k) x h e =
+    ⊎_elim (λ a. inl (a.0, omega (arith, a.1))) (λ a. inr (a.0, omega (arith, a.1))) (straight_at (z ∷ is) k x h.1 e)
+
+straight_some : (code : List Instruction) → IsStraight code → 0 < length code
+straight_some [] h = absurd h
+straight_some (x ∷ is) h = omega arith
+
+one_at : (P : ℕ → Type 0) (v : ℕ) → P v → All P (v ∷ [])
+one_at P v h = All-cons P v [] h (All-nil P)
+
+-- what holds at the place behind each place where the code goes on holds at each such place
+all_next : (P : ℕ → Type 0) (x : Instruction) (k n : ℕ) → (IsLast x × (k + 1 ≡ n)) ⊎ (IsStep x × (k + 1 < n)) → (k + 1 < n → P (k + 1)) → All P (successors x k)
+all_next P x k n (inl a) h = subst (All P) (sym (a.0 k)) (All-nil P)
+all_next P x k n (inr a) h = subst (All P) (sym (a.0 k)) (one_at P (k + 1) (h a.1))
+
+-- the greatest of the numbers there
+greatest_next : (F : ℕ → ℕ) (x : Instruction) (k n m : ℕ) → (IsLast x × (k + 1 ≡ n)) ⊎ (IsStep x × (k + 1 < n)) → (k + 1 ≡ n → m ≡ 0) → (k + 1 < n → F (k + 1) ≡ m) → greatest (map F (successors x k)) ≡ m
+greatest_next F x k n m (inl a) z h = ap (λ js. greatest (map F js)) (a.0 k) ∙ sym (z a.1)
+greatest_next F x k n m (inr a) z h = let e = h a.1 in ap (λ js. greatest (map F js)) (a.0 k) ∙ (let g : max (F (k + 1)) 0 ≡ m = omega (arith, e) in g)
+
+-- what the compiler knows of a transition
+pub record IsMade (d : Draft) (t : Transition) : Type 0 where
+  pub facts : t.piece.facts ≡ facts_from t.process.variables t.parameters [] t.entry t.piece.code
+  pub right : AreRight t.process.variables t.parameters t.process.states [] t.entry t.piece.code
+  pub straight : IsStraight t.piece.code
+  pub budget : t.piece.certificate.budget ≡ length t.piece.code
+  pub depth : t.piece.certificate.depth ≡ greatest (depths t.piece.facts)
+  pub effects : t.piece.certificate.effects ≡ 0
+  pub initial : t.trigger ≡ None → All StartsRight t.process.variables
+  pub trigger : HasTrigger d.signals t.trigger
+  pub process_limits : t.trigger ≡ None → KeepsProcessLimits t.process
+  pub piece_limits : KeepsPieceLimits t.piece
+
+module _ (d : Draft) (t : Transition) (made : IsMade d t) where
+  abbrev fs : List PlaceFacts
+  fs = facts_from t.process.variables t.parameters [] t.entry t.piece.code
+
+  read_at : (k : ℕ) (f : PlaceFacts) → slice_get t.piece.facts k ≡ Some f → slice_get fs k ≡ Some f
+  read_at k f h = ap (λ l. slice_get l k) (sym made.facts) ∙ h
+
+  right_here : (k : ℕ) (x : Instruction) (f : PlaceFacts) → slice_get t.piece.code k ≡ Some x → slice_get t.piece.facts k ≡ Some f → IsRight t.process.variables t.parameters t.process.states f.shape f.set x
+  right_here k x f e g = right_at t.process.variables t.parameters t.process.states [] t.entry t.piece.code k x f made.right e (read_at k f g)
+
+  goes : (k : ℕ) (x : Instruction) → slice_get t.piece.code k ≡ Some x → (IsLast x × (k + 1 ≡ length t.piece.code)) ⊎ (IsStep x × (k + 1 < length t.piece.code))
+  goes k x e = straight_at t.piece.code k x made.straight e
+
+  -- the facts behind a place
+  next_here : (k j : ℕ) (x : Instruction) (f g : PlaceFacts) → slice_get t.piece.code k ≡ Some x → slice_get t.piece.facts k ≡ Some f → Contains (successors x k) j → slice_get t.piece.facts j ≡ Some g → (g.shape ≡ shape_after t.process.variables t.parameters x f.shape) × (g.set ≡ set_after x f.set)
+  next_here k j x f g e h there at =
+      let P : ℕ → Type 0 = λ j. (g : PlaceFacts) → slice_get t.piece.facts j ≡ Some g → (g.shape ≡ shape_after t.process.variables t.parameters x f.shape) × (g.set ≡ set_after x f.set) in
+      let here : P (k + 1) = λ g at. next_at t.process.variables t.parameters t.process.states [] t.entry t.piece.code k x f g e (read_at k f h) (let n : k + 1 ≡ suc k = omega arith in subst (λ n. slice_get fs n ≡ Some g) n (read_at (k + 1) g at)) in
+      All-contains P (successors x k) j (all_next P x k (length t.piece.code) (goes k x e) (λ _. here)) there g at
+
+  first_here : (j : ℕ) (f : PlaceFacts) → Contains (0 ∷ []) j → slice_get t.piece.facts j ≡ Some f → (f.shape ≡ []) × (f.set ≡ t.entry)
+  first_here j f there at =
+      let P : ℕ → Type 0 = λ j. (f : PlaceFacts) → slice_get t.piece.facts j ≡ Some f → (f.shape ≡ []) × (f.set ≡ t.entry) in
+      All-contains P (0 ∷ []) j (one_at P 0 (λ f at. first_at t.process.variables t.parameters t.process.states [] t.entry t.piece.code f (read_at 0 f at))) there f at
+
+  count_of : (k : ℕ) → k < length t.piece.code → count_in (slice_get t.piece.facts k) + k ≡ length t.piece.code
+  count_of k lt = ap (λ l. count_in (slice_get l k) + k) made.facts ∙ count_at t.process.variables t.parameters t.process.states [] t.entry t.piece.code k lt
+
+  no_effects : (k : ℕ) → effects_in (slice_get t.piece.facts k) ≡ 0
+  no_effects k = ap (λ l. effects_in (slice_get l k)) made.facts ∙ effects_at_zero t.process.variables t.parameters t.process.states [] t.entry t.piece.code k
+
+  within_code : (code : List Instruction) (k : ℕ) (x : Instruction) → slice_get code k ≡ Some x → k < length code
+  within_code [] k x e = absurd (let k : ⊥ = cc in k)
+  within_code (y ∷ is) zero x e = omega arith
+  within_code (y ∷ is) (suc k) x e = let h = within_code is k x e in omega (arith, h)
+
+  counts : (k : ℕ) (x : Instruction) (f : PlaceFacts) → slice_get t.piece.code k ≡ Some x → slice_get t.piece.facts k ≡ Some f → f.count ≡ 1 + greatest (counts_at t.piece (successors x k))
+  counts k x f e h =
+      let n = length t.piece.code in
+      let here : f.count + k ≡ n = subst (λ o. count_in o + k ≡ n) h (count_of k (within_code t.piece.code k x e)) in
+      let le = within_code t.piece.code k x e in
+      let g = greatest_next (λ j. count_in (slice_get t.piece.facts j)) x k n (n - (k + 1)) (goes k x e) (λ z. omega (arith, z)) (λ lt. let c = count_of (k + 1) lt in omega (arith, c)) in
+      omega (arith, g, here, le)
+
+  effects_right : (k : ℕ) (x : Instruction) → slice_get t.piece.code k ≡ Some x → greatest (effects_at t.piece (successors x k)) ≡ 0
+  effects_right k x e = greatest_next (λ j. effects_in (slice_get t.piece.facts j)) x k (length t.piece.code) 0 (goes k x e) (λ z. refl) (λ lt. no_effects (k + 1))
+
+  effects_here : (k : ℕ) (x : Instruction) (f : PlaceFacts) → slice_get t.piece.code k ≡ Some x → slice_get t.piece.facts k ≡ Some f → f.effects ≡ 0
+  effects_here k x f e h = subst (λ o. effects_in o ≡ 0) h (no_effects k)
+
+  certificate_right : KeepsCertificate t.piece
+  certificate_right = record {
+    budget = let c = count_of 0 (straight_some t.piece.code made.straight) in omega (arith, c, made.budget);
+    depth = made.depth;
+    effects = made.effects ∙ sym (no_effects 0);
+  }
+
+  pub valid : IsValidTransition d t
+  valid = record {
+    jump = λ k. record {
+      entry = λ _. straight_some t.piece.code made.straight;
+      each = λ x f e h. all_next (λ j. j < length t.piece.code) x k (length t.piece.code) (goes k x e) (λ lt. lt);
+    };
+    shape = λ k. record {
+      facts = λ _. ap length made.facts ∙ facts_length t.process.variables t.parameters t.process.states [] t.entry t.piece.code;
+      entry = λ _ j f there at. (first_here j f there at).0;
+      each = λ x f e h j g there at. (next_here k j x f g e h there at).0;
+    };
+    under = λ k x f e h. (right_here k x f e h).under;
+    sort = λ k. record {
+      initial = λ _ none. made.initial none;
+      each = λ x f e h. (right_here k x f e h).sort;
+    };
+    unset = λ k. record {
+      entry = λ _ j f there at. subst (λ s. IsWithin s t.entry) (sym (first_here j f there at).1) (λ v has. has);
+      reads_set = λ x f e h. (right_here k x f e h).reads_set;
+      each = λ x f e h j g there at. subst (λ s. IsWithin s (set_after x f.set)) (sym (next_here k j x f g e h there at).1) (λ v has. has);
+      states = λ x f e h. (right_here k x f e h).states;
+    };
+    state = λ k x f e h. (right_here k x f e h).states_there;
+    number = λ k. record {
+      trigger = λ _. made.trigger;
+      reads_there = λ x f e h. (right_here k x f e h).reads_there;
+      sets_there = λ x f e h. (right_here k x f e h).sets_there;
+      parameters = λ x f e h. (right_here k x f e h).parameters;
+    };
+    limit = λ k. record {
+      process = λ _ none. made.process_limits none;
+      piece = λ _. made.piece_limits;
+    };
+    budget = λ k. record {
+      certificate = λ _. certificate_right;
+      counts = λ x f e h. counts k x f e h;
+      effects = λ x f e h. let a = effects_here k x f e h in let b = effects_right k x e in omega (arith, a, b);
+    };
+  }

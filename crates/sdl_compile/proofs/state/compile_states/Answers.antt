@@ -1,0 +1,29 @@
+use Rattle.std.proofs.Common.{◌<◌, length, map, subst, arith, add-one}
+use Rattle.std.specs.Global.{Vec}
+use Rattle.sdl_rules.specs.declared.process_table.InputRow.{InputRow}
+use Rattle.sdl_rules.specs.Rows.{row_input, rows_inputs}
+use Rattle.sdl_compile.specs.Scopes.{scope_in}
+use Rattle.sdl_compile.specs.Drafts.{IsNamedAs, MatchesInputs}
+use Rattle.sdl_compile.proofs.Zips.{zip_more, zip_some, all_ready_more}
+use Rattle.sdl_compile.proofs.state.compile_states.Goals as goal
+
+pub loop-number-preserved : goal.loop-number-preserved
+loop-number-preserved c =
+    let lt : c.loop-number.number < length c.args.inputs.now = omega arith in
+    let lt2 : c.loop-number.number < length c.args.context.now.names.now.states.now = omega (arith, lt, c.requires.paired) in
+    let names = scope_in c.args.context.now.names.now in
+    let signals = c.args.context.now.signals.now in
+    let drafts = c.args.context.now.drafts.now in
+    let item = c.in_ok-make_state.field-0 in
+    let old = c.loop-number.states.items in
+    let i = c.loop-number.number in
+    let row = c.index-inputs-number.result in
+    record {
+      names = rw (add-one, c.in_ok-push.ensures.items)
+          (zip_some IsNamedAs c.args.context.now.names.now.states.now i old item lt2 c.loop-number.invariant.names c.in_ok-make_state.ensures.name);
+      made = rw (add-one, c.in_ok-push.ensures.items)
+          (zip_more (MatchesInputs names signals) rows_inputs c.args.inputs.now i row old item lt c.loop-number.invariant.made
+          (subst (λ (v : Vec InputRow). MatchesInputs names signals (rows_inputs v) item) c.index-inputs-number.is
+          (subst (λ rows. MatchesInputs names signals (map row_input rows) item) c.deref.ensures.value c.in_ok-make_state.ensures.inputs)));
+      ready = rw add-one (all_ready_more names signals drafts rows_inputs c.args.inputs.now i row lt c.loop-number.invariant.ready).1;
+    }
