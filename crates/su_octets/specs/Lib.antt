@@ -5,3 +5,4 @@ pub mod Check
 pub mod Frame
 pub mod Register
 pub mod Laws
+pub mod StatusNames

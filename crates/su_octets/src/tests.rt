@@ -43,6 +43,11 @@ fn known_units(rt: HostRuntime) -> Result<(), Fail> {
         "LSSU bsn 127 bib 1 fsn 127 fib 1 status SIOS"
     );
     assert_eq!(rt; lssu.status_code(), Some(3));
+    let msu = Unit::Msu(first_head(), 0x0a, ArrayVec::new());
+    assert_eq!(rt;
+        format!(in rt.alloc(); "{msu}")?.as_str(),
+        "MSU bsn 127 bib 1 fsn 127 fib 1 sio 0A octets 0"
+    );
     let msu = message(5);
     assert_eq!(rt;
         format!(in rt.alloc(); "{msu}")?.as_str(),

@@ -1,6 +1,7 @@
 //! The three kinds of signal unit.
-ghost use Rattle.std.specs.Prelude.{◌≡◌, ◌↔◌, IsTrue, length};
+ghost use Rattle.std.specs.Prelude.{◌≡◌, ◌↔◌, ◌%◌, IsTrue, length, slice_get, Some};
 ghost use Rattle.su_octets.specs.Frame.{head_of, body_of, status_code_of};
+ghost use Rattle.su_octets.specs.StatusNames.{STATUS_NAMES};
 ghost use Rattle.su_octets.specs.Whole.{IsWhole, IsWholeHead};
 
 use arrayvec::ArrayVec;
@@ -110,7 +111,9 @@ impl Unit {
 
 /// The name of a status indication by its code, the low three bits of `status` (Q.703, 11.1.3). The
 /// codes without a name give their digit.
-pub fn status_name(status: u8) -> &'static str {
+pub fn status_name(status: u8) -> &'static str
+    ensures { slice_get STATUS_NAMES (status % 8) ≡ Some result.now }
+{
     match status % 8 {
         0 => "SIO",
         1 => "SIN",
