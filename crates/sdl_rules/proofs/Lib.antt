@@ -1,3 +1,4 @@
 pub mod Bits
 pub mod Tables
 pub mod Repeats
+pub mod States

@@ -3,4 +3,5 @@ pub mod Names
 pub mod Paths
 pub mod Rows
 pub mod Sound
+pub mod Tables
 pub mod VariableBits

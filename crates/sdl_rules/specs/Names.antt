@@ -119,17 +119,17 @@ clause_inputs (input i) = map (λ s. record { at = i.at; stimulus = s; text = i.
 abbrev pub part_inputs : PlainState → List Input
 part_inputs part = flat_map clause_inputs part.clauses
 
--- whether a name is that of state s
-abbrev pub is_state : PlainProcess → ℕ → List ℕ → Bool
-is_state p s x = option_map_or (λ n. n == s) (number_of (states_of p) x) false
+-- whether a name is that of number s among the states
+abbrev pub is_state : List Identifier → ℕ → List ℕ → Bool
+is_state states s x = option_map_or (λ n. n == s) (number_of states x) false
 
 -- what a part gives to state s: its inputs, as often as it names the state
-abbrev pub given_by : PlainProcess → ℕ → PlainState → List Input
-given_by p s part = flat_map (λ id. if is_state p s id.name then part_inputs part else []) part.names
+abbrev pub given_by : List Identifier → ℕ → PlainState → List Input
+given_by states s part = flat_map (λ id. if is_state states s id.name then part_inputs part else []) part.names
 
 -- the inputs of state s, over all its parts
 abbrev pub inputs_of : PlainProcess → ℕ → List Input
-inputs_of p s = flat_map (given_by p s) p.states
+inputs_of p s = flat_map (given_by (states_of p) s) p.states
 
 -- the inputs of each state, by number
 abbrev pub inputs_by_state : PlainProcess → List (List Input)

@@ -1,6 +1,7 @@
 -- What the rows of the tables stand for.
-use Rattle.std.specs.Prelude.{ℕ, List, map}
+use Rattle.std.specs.Prelude.{ℕ, List, [], map, slice_get, Option}
 use Rattle.std.specs.Global.{Vec}
+use Rattle.std.specs.Option.{option_map_or}
 use Rattle.sdl_tree.specs.Plain.{PlainInput, input}
 use Rattle.sdl_tree.specs.Views.{stimulus_of, text_of}
 use Rattle.sdl_rules.specs.Names as names
@@ -19,3 +20,7 @@ rows_inputs v = map row_input v.items
 -- the inputs of one INPUT
 abbrev pub stimulus_inputs : PlainInput → List names.Input
 stimulus_inputs i = names.clause_inputs (input i)
+
+-- the inputs of state s
+abbrev pub rows_at : List (Vec InputRow) → ℕ → List names.Input
+rows_at states s = option_map_or rows_inputs (slice_get states s) []

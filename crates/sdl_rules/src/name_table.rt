@@ -47,7 +47,8 @@ impl NameTable {
 
     /// The number of a name, from 0.
     pub fn number(&self, name: Name) -> Option<usize>
-        ensures { result ≡ number_of self.now name }
+        ensures number { result ≡ number_of self.now name }
+        ensures within { IfSome result (λ n. n < length self.now) }
     {
         self.entries.get_index_of(&name.folded())
     }
