@@ -11,6 +11,17 @@ use Rattle.sdl_tree.specs.declared.expression.Identifier.{Identifier}
 use Rattle.sdl_rules.specs.Names.{same_name, is_in, number_of, add_name, names_once}
 use Rattle.sdl_rules.specs.Sound.{repeats, Marks}
 
+cons-nil : (x : ℕ) (xs : List ℕ) → x ∷ xs ≡ [] → ⊥
+cons-nil x xs h = cc
+
+pub append-nil_left : (xs ys : List ℕ) → xs ++ ys ≡ [] → xs ≡ []
+append-nil_left [] ys h = refl
+append-nil_left (x ∷ xs) ys h = absurd (cons-nil x (xs ++ ys) h)
+
+pub append-nil_right : (xs ys : List ℕ) → xs ++ ys ≡ [] → ys ≡ []
+append-nil_right [] ys h = h
+append-nil_right (x ∷ xs) ys h = absurd (cons-nil x (xs ++ ys) h)
+
 -- a name is among those where one that is the same is
 is_in-same : (ids : List Identifier) (x y : List ℕ) → same_name x y ≡ true → is_in ids x ≡ is_in ids y
 is_in-same ids x y h =
@@ -75,3 +86,20 @@ marked-push xs id names new double once fresh m =
 
 pub names_once-push : (xs : List Identifier) (id : Identifier) → names_once (xs ++ id ∷ []) ≡ add_name (names_once xs) id
 names_once-push xs id = fold-append add_name [] xs (id ∷ [])
+
+add-distinct : (before : List Identifier) (id : Identifier) (b : Bool) → is_in before id.name ≡ b
+  → (if b then id.at ∷ [] else []) ≡ [] → (if b then before else before ++ id ∷ []) ≡ before ++ id ∷ []
+add-distinct before id true e h = absurd (cons-nil id.at [] h)
+add-distinct before id false e h = refl
+
+fold-distinct : (before ids : List Identifier) → repeats before ids ≡ [] → fold add_name before ids ≡ before ++ ids
+fold-distinct before [] h = sym (append-nil before)
+fold-distinct before (id ∷ ids) h =
+    let here : (if is_in before id.name then id.at ∷ [] else []) ≡ [] = append-nil_left _ _ h in
+    let rest : repeats (before ++ id ∷ []) ids ≡ [] = append-nil_right _ _ h in
+    ap (λ b. fold add_name b ids) (add-distinct before id (is_in before id.name) refl here)
+    ∙ (fold-distinct (before ++ id ∷ []) ids rest ∙ append_assoc before (id ∷ []) ids)
+
+-- where no name is there twice, names once are the names
+pub names_once-distinct : (ids : List Identifier) → repeats [] ids ≡ [] → names_once ids ≡ ids
+names_once-distinct ids h = fold-distinct [] ids h

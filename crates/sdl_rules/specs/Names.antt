@@ -107,6 +107,13 @@ named_states p = flat_map (λ part. part.names) p.states
 abbrev pub states_of : PlainProcess → List Identifier
 states_of p = names_once (named_states p)
 
+-- the INPUTs of a process, each once, in the order of the text
+abbrev pub clause_parts : PlainClause → List PlainInput
+clause_parts (input i) = i ∷ []
+
+abbrev pub input_parts : PlainProcess → List PlainInput
+input_parts p = flat_map (λ part. flat_map clause_parts part.clauses) p.states
+
 -- what a state takes: a signal with its places, the place of the word INPUT, and the transition
 pub record Input : Type 0 where
   pub at : ℕ

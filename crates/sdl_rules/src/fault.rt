@@ -1,5 +1,9 @@
 //! What a text can break, and how it is printed.
+ghost use Rattle.std.specs.Prelude.{◌≡◌};
+ghost use Rattle.sdl_rules.specs.declared.fault.RuleFault.TheVariants.{NoMemory};
+
 use sdl_lex::Name;
+use std::alloc::{AllocError, AllocFailed};
 use std::fmt;
 use thiserror::Error;
 
@@ -92,4 +96,20 @@ pub enum RuleFault {
     /// There was not enough memory.
     #[error("out of memory")]
     NoMemory,
+}
+
+impl From<AllocError> for RuleFault {
+    ghost from_gives = { λ _ e. e ≡ NoMemory };
+
+    fn from(_e: AllocError) -> RuleFault {
+        RuleFault::NoMemory
+    }
+}
+
+impl<T: Drop> From<AllocFailed<T>> for RuleFault {
+    ghost from_gives = { λ _ e. e ≡ NoMemory };
+
+    fn from(_e: AllocFailed<T>) -> RuleFault {
+        RuleFault::NoMemory
+    }
 }

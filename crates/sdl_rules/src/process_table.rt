@@ -1,11 +1,12 @@
 //! The tables of a process.
-ghost use Rattle.std.specs.Prelude.{◌≡◌, ◌++◌, [], ℕ, ◌<◌, ◌==◌, if◌then◌else◌, List, map, fold, length, IfOk, OnOk, IfSome, IfNone, slice_get, vec_len};
+ghost use Rattle.std.specs.Prelude.{◌≡◌, ◌++◌, [], ℕ, ◌<◌, ◌==◌, if◌then◌else◌, List, map, fold, length, IfOk, IfErr, OnOk, IfSome, IfNone, slice_get, vec_len};
 ghost use Rattle.std.specs.List.{flat_map};
 ghost use Rattle.sdl_tree.specs.Views.{group_of, declaration_of, state_of, input_of, process_of};
-ghost use Rattle.sdl_rules.specs.Names.{variable_names, variables_of, group_variables, declared_variables, named_states, states_of, given_by, names_once, add_name, part_inputs, inputs_by_state, number_of, inputs_of};
-ghost use Rattle.sdl_rules.specs.Sound.{Marks, repeats, process_scopes, input_names};
+ghost use Rattle.sdl_rules.specs.Names.{variable_names, variables_of, group_variables, declared_variables, named_states, states_of, given_by, names_once, add_name, part_inputs, inputs_by_state, clause_parts, input_parts};
+ghost use Rattle.sdl_rules.specs.Sound.{Marks, repeats, process_scopes, input_names, IsDouble};
 ghost use Rattle.sdl_rules.specs.Rows.{variable_of, row_input, rows_inputs, stimulus_inputs, rows_at};
 
+use crate::fault::RuleFault;
 use crate::name_table::NameTable;
 use crate::scope::{add_names, earlier, index_names};
 use sdl_lex::Name;
@@ -161,6 +162,29 @@ fn collect_inputs<'a>(
     Ok(inputs)
 }
 
+fn push_parts<'a>(parts: &mut Vec<&'a InputPart>, part: &'a StatePart) -> Result<(), AllocError>
+    ensures { OnOk result (map (λ i. input_of i.now) parts.new.items
+        ≡ map (λ i. input_of i.now) parts.old.items ++ flat_map clause_parts (state_of part.now).clauses) }
+{
+    for clause in &part.clauses {
+        match clause {
+            StateClause::Input(input) => parts.push(input)?,
+        }
+    }
+    Ok(())
+}
+
+fn collect_parts<'a>(alloc: Global, states: &'a [StatePart]) -> Result<Vec<&'a InputPart>, AllocError>
+    ensures { IfOk result (λ parts. map (λ i. input_of i.now) parts.items
+        ≡ flat_map (λ part. flat_map clause_parts part.clauses) (map state_of states.now)) }
+{
+    let mut parts: Vec<&'a InputPart> = Vec::new(alloc);
+    for part in states {
+        push_parts(&mut parts, part)?;
+    }
+    Ok(parts)
+}
+
 fn input_ids(alloc: Global, rows: &[InputRow]) -> Result<Vec<Identifier>, AllocError>
     ensures { IfOk result (λ ids. ids.items ≡ map (λ row. row.stimulus.now.name) rows.now) }
 {
@@ -193,7 +217,7 @@ pub struct ProcessTable<'a> {
     rows: Vec<Variable>,
     states: NameTable,
     inputs: Vec<Vec<InputRow<'a>>>,
-    double: Option<u32>,
+    parts: Vec<&'a InputPart>,
 }
 
 impl<'a> Model for ProcessTable<'a> {
@@ -212,23 +236,28 @@ impl<'a> Model for ProcessTable<'a> {
 }
 
 impl<'a> ProcessTable<'a> {
-    /// The tables of a process.
-    pub(crate) fn new(alloc: Global, process: &'a Process) -> Result<Self, AllocError>
-        ensures { IfOk result (λ t. t ≡ process.now) }
+    /// The tables of a process, unless a name is there twice.
+    pub(crate) fn new(alloc: Global, process: &'a Process) -> Result<Self, RuleFault>
+        ensures table { IfOk result (λ t. t ≡ process.now) }
+        ensures double { IfErr result (λ e. IsDouble e (flat_map (repeats []) (process_scopes (process_of process.now)))) }
     {
         let rows = collect_variables(alloc, &process.declarations)?;
         let names = variable_ids(alloc, &rows)?;
         let variables = index_names(alloc, &names)?;
         let states = collect_states(alloc, &process.states)?;
         let inputs = collect_inputs(alloc, process, &states)?;
+        let parts = collect_parts(alloc, &process.states)?;
         let double = earlier(variables.double, inputs_double(alloc, &inputs)?);
-        Ok(ProcessTable {
-            process,
-            variables: variables.names,
-            rows,
-            states,
-            inputs,
-            double,
-        })
+        match double {
+            Some(at) => Err(RuleFault::DoubleName(at)),
+            None => Ok(ProcessTable {
+                process,
+                variables: variables.names,
+                rows,
+                states,
+                inputs,
+                parts,
+            }),
+        }
     }
 }
