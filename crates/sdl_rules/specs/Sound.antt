@@ -11,8 +11,8 @@ use Rattle.sdl_tree.specs.Plain.{Tree, number, variable, unary, binary, PlainAss
 use Rattle.sdl_rules.specs.Names.{is_in, signals_of, routes_of, processes_of, signal_names, route_names, process_names, signal_named, variables_of, variable_names, timers_of, states_of, input_parts, Input, inputs_of, inputs_by_state}
 use Rattle.sdl_rules.specs.Longest.{Piece, pieces_of, piece_size, piece_depth, piece_effects}
 use Rattle.sdl_rules.specs.declared.fault.Limit.{Limit}
-use Rattle.sdl_rules.specs.declared.fault.RuleFault.{RuleFault}
-use Rattle.sdl_rules.specs.declared.fault.RuleFault.TheVariants.{DoubleName, UnknownName, WrongSort, NoState, Limit as TooMuch, Unset, NoMemory}
+use Rattle.sdl_rules.specs.declared.fault.TableFault.{TableFault}
+use Rattle.sdl_rules.specs.declared.fault.TableFault.TheVariants.{DoubleName, NoMemory}
 use Rattle.sdl_rules.specs.declared.fault.Limit.TheVariants.{Processes, States, Variables, Timers, Signals, Params, Pieces, Piece as PieceSize, Depth, Effects}
 
 -- the first of these places
@@ -46,14 +46,9 @@ abbrev pub double_names : PlainBlock → List ℕ
 double_names b = flat_map (repeats []) (scopes b)
 
 -- the refusal of a double name, at one of these places, or for want of memory
-abbrev pub IsDouble : RuleFault → List ℕ → Type 0
+abbrev pub IsDouble : TableFault → List ℕ → Type 0
 IsDouble (DoubleName at) places = Contains places at
 IsDouble NoMemory places = ⊤
-IsDouble (UnknownName at) places = ⊥
-IsDouble (WrongSort at) places = ⊥
-IsDouble (NoState at) places = ⊥
-IsDouble (TooMuch which) places = ⊥
-IsDouble (Unset x path) places = ⊥
 
 -- ---- S2: a name that its class and scope lack. A state after NEXTSTATE is not asked for here.
 
@@ -68,6 +63,9 @@ party_names (Process id) = id ∷ []
 abbrev pub path_unknown : PlainBlock → PlainPath → List ℕ
 path_unknown b path =
     unknown (process_names b) (party_names path.from ++ party_names path.to) ++ unknown (signal_names b) path.signals
+
+abbrev pub route_unknown : PlainBlock → PlainRoute → List ℕ
+route_unknown b r = flat_map (path_unknown b) r.paths
 
 -- the variables of an expression, in the order of the text
 abbrev pub tree_names : Tree → List Identifier
@@ -99,13 +97,8 @@ abbrev pub process_unknown : PlainBlock → PlainProcess → List ℕ
 process_unknown b p =
     unknown (variable_names p) (text_names p.start.text) ++ flat_map (input_unknown b p) (input_parts p)
 
-abbrev pub entity_unknown : PlainBlock → PlainEntity → List ℕ
-entity_unknown b (signals declared) = []
-entity_unknown b (route r) = flat_map (path_unknown b) r.paths
-entity_unknown b (process p) = process_unknown b p
-
 abbrev pub unknown_names : PlainBlock → List ℕ
-unknown_names b = flat_map (entity_unknown b) b.entities
+unknown_names b = flat_map (route_unknown b) (routes_of b) ++ flat_map (process_unknown b) (processes_of b)
 
 -- ---- S3: a wrong sort; with one sort, more places than the signal has parameters
 
@@ -156,9 +149,14 @@ exceeds b PieceSize = list_any (λ q. nat_lt 512 (piece_size q)) (flat_map piece
 exceeds b Depth = list_any (λ q. nat_lt 16 (piece_depth q)) (flat_map pieces_of (processes_of b))
 exceeds b Effects = list_any (λ q. nat_lt 32 (piece_effects q)) (flat_map pieces_of (processes_of b))
 
+abbrev pub counts : List Limit
+counts = Processes ∷ States ∷ Variables ∷ Timers ∷ Signals ∷ Params ∷ Pieces ∷ []
+
+abbrev pub measures : List Limit
+measures = PieceSize ∷ Depth ∷ Effects ∷ []
+
 abbrev pub limits : List Limit
-limits =
-    Processes ∷ States ∷ Variables ∷ Timers ∷ Signals ∷ Params ∷ Pieces ∷ PieceSize ∷ Depth ∷ Effects ∷ []
+limits = counts ++ measures
 
 -- the first limit that the block passes
 abbrev pub first_limit : PlainBlock → Option Limit

@@ -1,9 +1,9 @@
 //! What a text can break, and how it is printed.
 ghost use Rattle.std.specs.Prelude.{◌≡◌};
-ghost use Rattle.sdl_rules.specs.declared.fault.RuleFault.TheVariants.{NoMemory};
+ghost use Rattle.sdl_rules.specs.declared.fault.TableFault.TheVariants.{NoMemory};
 
 use sdl_lex::Name;
-use std::alloc::{AllocError, AllocFailed};
+use std::alloc::AllocError;
 use std::fmt;
 use thiserror::Error;
 
@@ -98,18 +98,30 @@ pub enum RuleFault {
     NoMemory,
 }
 
-impl From<AllocError> for RuleFault {
+/// Why there are no tables.
+#[derive(Clone, Copy, Debug)]
+pub(crate) enum TableFault {
+    DoubleName(u32),
+    NoMemory,
+}
+
+impl From<AllocError> for TableFault {
     ghost from_gives = { λ _ e. e ≡ NoMemory };
 
-    fn from(_e: AllocError) -> RuleFault {
-        RuleFault::NoMemory
+    fn from(_e: AllocError) -> TableFault {
+        TableFault::NoMemory
     }
 }
 
-impl<T: Drop> From<AllocFailed<T>> for RuleFault {
-    ghost from_gives = { λ _ e. e ≡ NoMemory };
+impl From<TableFault> for RuleFault {
+    ghost use Rattle.sdl_rules.specs.Refusals.{rule_fault};
 
-    fn from(_e: AllocFailed<T>) -> RuleFault {
-        RuleFault::NoMemory
+    ghost from_gives = { λ e f. f ≡ rule_fault e };
+
+    fn from(e: TableFault) -> RuleFault {
+        match e {
+            TableFault::DoubleName(at) => RuleFault::DoubleName(at),
+            TableFault::NoMemory => RuleFault::NoMemory,
+        }
     }
 }

@@ -30,7 +30,7 @@ impl Model for NameTable {
 
 impl NameTable {
     /// A table with no name.
-    pub fn new(alloc: Global) -> Self
+    pub(crate) fn new(alloc: Global) -> Self
         ensures { result ≡ [] }
     {
         NameTable {
@@ -69,7 +69,7 @@ impl NameTable {
     }
 
     /// Adds a name, unless it is there: `false` then. Without memory nothing changes.
-    pub fn add(&mut self, id: Identifier) -> Result<bool, AllocError>
+    pub(crate) fn add(&mut self, id: Identifier) -> Result<bool, AllocError>
         ensures added { IfOk result (λ new. new ≡ not (is_in self.old id.name)) }
         ensures ids { OnOk result (self.new ≡ add_name self.old id) }
         ensures err { OnErr result (self.new ≡ self.old) }

@@ -6,12 +6,13 @@ ghost use Rattle.sdl_rules.specs.Names.{variable_names, variables_of, group_vari
 ghost use Rattle.sdl_rules.specs.Sound.{Marks, repeats, process_scopes, input_names, IsDouble};
 ghost use Rattle.sdl_rules.specs.Rows.{variable_of, row_input, rows_inputs, stimulus_inputs, rows_at};
 
-use crate::fault::RuleFault;
+use crate::fault::TableFault;
 use crate::name_table::NameTable;
 use crate::scope::{add_names, earlier, index_names};
 use sdl_lex::Name;
 use sdl_tree::{
-    Constant, Declaration, Group, Identifier, InputPart, Process, Sort, StateClause, StatePart, Stimulus,
+    Constant, Declaration, Group, Identifier, InputPart, Process, Sort, StateClause, StatePart,
+    Stimulus,
 };
 use std::alloc::{AllocError, Global};
 use std::marker::Model;
@@ -53,7 +54,10 @@ fn push_groups(rows: &mut Vec<Variable>, groups: &[Group]) -> Result<(), AllocEr
     Ok(())
 }
 
-fn collect_variables(alloc: Global, declarations: &[Declaration]) -> Result<Vec<Variable>, AllocError>
+fn collect_variables(
+    alloc: Global,
+    declarations: &[Declaration],
+) -> Result<Vec<Variable>, AllocError>
     ensures { IfOk result (λ rows. map variable_of rows.items ≡ flat_map declared_variables (map declaration_of declarations.now)) }
 {
     let mut rows = Vec::new(alloc);
@@ -174,7 +178,10 @@ fn push_parts<'a>(parts: &mut Vec<&'a InputPart>, part: &'a StatePart) -> Result
     Ok(())
 }
 
-fn collect_parts<'a>(alloc: Global, states: &'a [StatePart]) -> Result<Vec<&'a InputPart>, AllocError>
+fn collect_parts<'a>(
+    alloc: Global,
+    states: &'a [StatePart],
+) -> Result<Vec<&'a InputPart>, AllocError>
     ensures { IfOk result (λ parts. map (λ i. input_of i.now) parts.items
         ≡ flat_map (λ part. flat_map clause_parts part.clauses) (map state_of states.now)) }
 {
@@ -237,8 +244,9 @@ impl<'a> Model for ProcessTable<'a> {
 
 impl<'a> ProcessTable<'a> {
     /// The tables of a process, unless a name is there twice.
-    pub(crate) fn new(alloc: Global, process: &'a Process) -> Result<Self, RuleFault>
+    pub(crate) fn new(alloc: Global, process: &'a Process) -> Result<Self, TableFault>
         ensures table { IfOk result (λ t. t ≡ process.now) }
+        ensures distinct { OnOk result (flat_map (repeats []) (process_scopes (process_of process.now)) ≡ []) }
         ensures double { IfErr result (λ e. IsDouble e (flat_map (repeats []) (process_scopes (process_of process.now)))) }
     {
         let rows = collect_variables(alloc, &process.declarations)?;
@@ -249,7 +257,7 @@ impl<'a> ProcessTable<'a> {
         let parts = collect_parts(alloc, &process.states)?;
         let double = earlier(variables.double, inputs_double(alloc, &inputs)?);
         match double {
-            Some(at) => Err(RuleFault::DoubleName(at)),
+            Some(at) => Err(TableFault::DoubleName(at)),
             None => Ok(ProcessTable {
                 process,
                 variables: variables.names,
@@ -259,5 +267,49 @@ impl<'a> ProcessTable<'a> {
                 parts,
             }),
         }
+    }
+
+    /// The process.
+    pub fn process(&self) -> &'a Process
+        ensures process { result.now ≡ self.now }
+        ensures distinct { flat_map (repeats []) (process_scopes (process_of self.now)) ≡ [] }
+    {
+        let _ = &self.variables;
+        self.process
+    }
+
+    /// The names of its variables, by number.
+    pub fn variables(&self) -> &NameTable
+        ensures { result.now ≡ variable_names (process_of self.now) }
+    {
+        &self.variables
+    }
+
+    /// Its variables, by number.
+    pub fn rows(&self) -> &[Variable]
+        ensures { map variable_of result.now ≡ variables_of (process_of self.now) }
+    {
+        &self.rows
+    }
+
+    /// The names of its states, by number.
+    pub fn states(&self) -> &NameTable
+        ensures { result.now ≡ states_of (process_of self.now) }
+    {
+        &self.states
+    }
+
+    /// The inputs of each of its states, by number; those of a state in the order of the text.
+    pub fn inputs(&self) -> &[Vec<InputRow<'a>>]
+        ensures { map rows_inputs result.now ≡ inputs_by_state (process_of self.now) }
+    {
+        &self.inputs
+    }
+
+    /// Its INPUTs, each once.
+    pub fn parts(&self) -> &[&'a InputPart]
+        ensures { map (λ i. input_of i.now) result.now ≡ input_parts (process_of self.now) }
+    {
+        &self.parts
     }
 }

@@ -8,5 +8,5 @@ use Rattle.sdl_rules.proofs.process_table.input_double.Goals as goal
 pub returns : goal.returns
 returns c =
     let same : c.deref.result.now ≡ input_names (map row_input c.args.rows.now) =
-        c.deref.ensures.value ∙ (c.in_ok-names.ensures ∙ sym (map-map (λ i. i.stimulus.name) row_input c.args.rows.now)) in
+    c.deref.ensures.value ∙ (c.in_ok-names.ensures ∙ sym (map-map (λ i. i.stimulus.name) row_input c.args.rows.now)) in
     subst (λ (ids : List Identifier). Marks c.in_ok-index_names.field-0.double (repeats [] ids)) same c.in_ok-index_names.ensures.double

@@ -7,4 +7,4 @@ use Rattle.sdl_rules.proofs.process_table.push_state.Goals as goal
 pub returns-clause-rows : goal.returns-clause-rows
 returns-clause-rows c =
     rows_at-set c.args.inputs.now.items c.args.number c.index_mut-rows.result.now c.push_part.new.rows
-        (part_inputs (state_of c.args.part.now)) (omega arith) c.index_mut-rows.ensures.value c.in_ok-push_part.ensures
+    (part_inputs (state_of c.args.part.now)) (omega arith) c.index_mut-rows.ensures.value c.in_ok-push_part.ensures
