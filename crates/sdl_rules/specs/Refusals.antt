@@ -9,7 +9,7 @@ use Rattle.sdl_rules.specs.declared.fault.RuleFault.TheVariants.{DoubleName, Unk
 use Rattle.sdl_rules.specs.declared.fault.TableFault.{TableFault}
 use Rattle.sdl_rules.specs.declared.fault.TableFault.TheVariants.{DoubleName as NoTable, NoMemory as NoRoom}
 
--- no rule is broken
+-- None of these rules is broken. That no control path reads an unset variable is no part of it as yet.
 pub record Sound (b : PlainBlock) : Type 0 where
   pub distinct : double_names b ≡ []
   pub known : unknown_names b ≡ []

@@ -39,7 +39,8 @@ impl<'a> Model for Resolved<'a> {
 ///
 /// Of several broken rules the least is named, by the number in its code, and of several places of
 /// one rule the first in the text. Without memory the answer is [`RuleFault::NoMemory`], in place
-/// of any other.
+/// of any other. Whether a control path reads a variable before it is set is not asked as yet, so
+/// [`RuleFault::Unset`] is never answered.
 pub fn resolve<'a>(alloc: Global, block: &'a Block) -> Result<Resolved<'a>, RuleFault>
     ensures block { IfOk result (λ r. r ≡ block.now) }
     ensures sound { IfOk result (λ r. Sound (block_of block.now)) }
