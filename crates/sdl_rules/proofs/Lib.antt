@@ -1,3 +1,6 @@
-pub mod Bits
-pub mod Tables
+pub mod BlockLemmas
+pub mod ProcessTables
 pub mod Repeats
+pub mod States
+pub mod Tables
+pub mod Texts

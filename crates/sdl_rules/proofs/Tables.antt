@@ -39,16 +39,16 @@ abbrev pub Keyed : List (List ℕ × Identifier) → Type 0
 Keyed es = keys_of es ≡ map key_of (values_of es)
 
 pub holds_name : (es : List (List ℕ × Identifier)) (x : List ℕ) → Keyed es
-  → is_some (lookup (bytes_eq (folded x)) es) ≡ is_in (values_of es) x
+    → is_some (lookup (bytes_eq (folded x)) es) ≡ is_in (values_of es) x
 holds_name es x h =
     is_some-lookup (bytes_eq (folded x)) es ∙ (ap (list_any (bytes_eq (folded x))) h ∙ list_any-map (bytes_eq (folded x)) key_of (values_of es))
 
 pub finds_number : (es : List (List ℕ × Identifier)) (x : List ℕ) → Keyed es
-  → position (bytes_eq (folded x)) (keys_of es) ≡ number_of (values_of es) x
+    → position (bytes_eq (folded x)) (keys_of es) ≡ number_of (values_of es) x
 finds_number es x h = ap (position (bytes_eq (folded x))) h ∙ position-map (bytes_eq (folded x)) key_of (values_of es)
 
 pub values-push : (es : List (List ℕ × Identifier)) (k : List ℕ) (id : Identifier)
-  → values_of (es ++ (k, id) ∷ []) ≡ values_of es ++ id ∷ []
+    → values_of (es ++ (k, id) ∷ []) ≡ values_of es ++ id ∷ []
 values-push es k id = map-append (λ e. e.1) es ((k, id) ∷ [])
 
 pub Keyed-push : (es : List (List ℕ × Identifier)) (id : Identifier) → Keyed es → Keyed (es ++ (folded id.name, id) ∷ [])
@@ -65,5 +65,5 @@ add_name-new ids id h = ap (λ b. if b then ids else ids ++ id ∷ []) h
 
 -- a name that the table lacks goes last
 pub entries-new : (es : List (List ℕ × Identifier)) (id : Identifier) → Keyed es → is_in (values_of es) id.name ≡ false
-  → lookup (bytes_eq (folded id.name)) es ≡ None
+    → lookup (bytes_eq (folded id.name)) es ≡ None
 entries-new es id h absent = is_none (lookup (bytes_eq (folded id.name)) es) (holds_name es id.name h ∙ absent)

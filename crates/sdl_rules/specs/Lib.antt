@@ -1,6 +1,8 @@
+pub mod BlockTables
 pub mod Longest
 pub mod Names
 pub mod Paths
+pub mod Refusals
 pub mod Rows
 pub mod Sound
-pub mod VariableBits
+pub mod Tables

@@ -107,6 +107,13 @@ named_states p = flat_map (λ part. part.names) p.states
 abbrev pub states_of : PlainProcess → List Identifier
 states_of p = names_once (named_states p)
 
+-- the INPUTs of a process, each once, in the order of the text
+abbrev pub clause_parts : PlainClause → List PlainInput
+clause_parts (input i) = i ∷ []
+
+abbrev pub input_parts : PlainProcess → List PlainInput
+input_parts p = flat_map (λ part. flat_map clause_parts part.clauses) p.states
+
 -- what a state takes: a signal with its places, the place of the word INPUT, and the transition
 pub record Input : Type 0 where
   pub at : ℕ
@@ -119,17 +126,17 @@ clause_inputs (input i) = map (λ s. record { at = i.at; stimulus = s; text = i.
 abbrev pub part_inputs : PlainState → List Input
 part_inputs part = flat_map clause_inputs part.clauses
 
--- whether a name is that of state s
-abbrev pub is_state : PlainProcess → ℕ → List ℕ → Bool
-is_state p s x = option_map_or (λ n. n == s) (number_of (states_of p) x) false
+-- whether a name is that of number s among the states
+abbrev pub is_state : List Identifier → ℕ → List ℕ → Bool
+is_state states s x = option_map_or (λ n. n == s) (number_of states x) false
 
 -- what a part gives to state s: its inputs, as often as it names the state
-abbrev pub given_by : PlainProcess → ℕ → PlainState → List Input
-given_by p s part = flat_map (λ id. if is_state p s id.name then part_inputs part else []) part.names
+abbrev pub given_by : List Identifier → ℕ → PlainState → List Input
+given_by states s part = flat_map (λ id. if is_state states s id.name then part_inputs part else []) part.names
 
 -- the inputs of state s, over all its parts
 abbrev pub inputs_of : PlainProcess → ℕ → List Input
-inputs_of p s = flat_map (given_by p s) p.states
+inputs_of p s = flat_map (given_by (states_of p) s) p.states
 
 -- the inputs of each state, by number
 abbrev pub inputs_by_state : PlainProcess → List (List Input)

@@ -8,9 +8,11 @@ use Rattle.sdl_tree.specs.declared.tree.Party.TheVariants.{Environment, Process}
 use Rattle.sdl_tree.specs.declared.tree.End.{End}
 use Rattle.sdl_tree.specs.declared.tree.End.TheVariants.{NextState}
 use Rattle.sdl_tree.specs.Plain.{Tree, number, variable, unary, binary, PlainAssignment, Text, falls, ends, task, PlainStimulus, PlainInput, PlainClause, input, PlainState, PlainProcess, PlainPath, PlainRoute, PlainSignal, PlainEntity, signals, route, process, PlainBlock}
-use Rattle.sdl_rules.specs.Names.{is_in, signals_of, routes_of, processes_of, signal_names, route_names, process_names, signal_named, variables_of, variable_names, timers_of, states_of, Input, inputs_of, inputs_by_state}
+use Rattle.sdl_rules.specs.Names.{is_in, signals_of, routes_of, processes_of, signal_names, route_names, process_names, signal_named, variables_of, variable_names, timers_of, states_of, input_parts, Input, inputs_of, inputs_by_state}
 use Rattle.sdl_rules.specs.Longest.{Piece, pieces_of, piece_size, piece_depth, piece_effects}
 use Rattle.sdl_rules.specs.declared.fault.Limit.{Limit}
+use Rattle.sdl_rules.specs.declared.fault.TableFault.{TableFault}
+use Rattle.sdl_rules.specs.declared.fault.TableFault.TheVariants.{DoubleName, NoMemory}
 use Rattle.sdl_rules.specs.declared.fault.Limit.TheVariants.{Processes, States, Variables, Timers, Signals, Params, Pieces, Piece as PieceSize, Depth, Effects}
 
 -- the first of these places
@@ -43,6 +45,11 @@ scopes b = signal_names b ∷ route_names b ∷ process_names b ∷ flat_map pro
 abbrev pub double_names : PlainBlock → List ℕ
 double_names b = flat_map (repeats []) (scopes b)
 
+-- the refusal of a double name, at one of these places, or for want of memory
+abbrev pub IsDouble : TableFault → List ℕ → Type 0
+IsDouble (DoubleName at) places = Contains places at
+IsDouble NoMemory places = ⊤
+
 -- ---- S2: a name that its class and scope lack. A state after NEXTSTATE is not asked for here.
 
 -- the places of the identifiers whose names these lack
@@ -56,6 +63,9 @@ party_names (Process id) = id ∷ []
 abbrev pub path_unknown : PlainBlock → PlainPath → List ℕ
 path_unknown b path =
     unknown (process_names b) (party_names path.from ++ party_names path.to) ++ unknown (signal_names b) path.signals
+
+abbrev pub route_unknown : PlainBlock → PlainRoute → List ℕ
+route_unknown b r = flat_map (path_unknown b) r.paths
 
 -- the variables of an expression, in the order of the text
 abbrev pub tree_names : Tree → List Identifier
@@ -80,21 +90,15 @@ place_names places = flat_map option_to_list places
 abbrev pub stimulus_unknown : PlainBlock → PlainProcess → PlainStimulus → List ℕ
 stimulus_unknown b p s = unknown (signal_names b) (s.name ∷ []) ++ unknown (variable_names p) (place_names s.places)
 
-abbrev pub clause_unknown : PlainBlock → PlainProcess → PlainClause → List ℕ
-clause_unknown b p (input i) = flat_map (stimulus_unknown b p) i.stimuli ++ unknown (variable_names p) (text_names i.text)
+abbrev pub input_unknown : PlainBlock → PlainProcess → PlainInput → List ℕ
+input_unknown b p i = flat_map (stimulus_unknown b p) i.stimuli ++ unknown (variable_names p) (text_names i.text)
 
 abbrev pub process_unknown : PlainBlock → PlainProcess → List ℕ
 process_unknown b p =
-    unknown (variable_names p) (text_names p.start.text)
-    ++ flat_map (λ part. flat_map (clause_unknown b p) part.clauses) p.states
-
-abbrev pub entity_unknown : PlainBlock → PlainEntity → List ℕ
-entity_unknown b (signals declared) = []
-entity_unknown b (route r) = flat_map (path_unknown b) r.paths
-entity_unknown b (process p) = process_unknown b p
+    unknown (variable_names p) (text_names p.start.text) ++ flat_map (input_unknown b p) (input_parts p)
 
 abbrev pub unknown_names : PlainBlock → List ℕ
-unknown_names b = flat_map (entity_unknown b) b.entities
+unknown_names b = flat_map (route_unknown b) (routes_of b) ++ flat_map (process_unknown b) (processes_of b)
 
 -- ---- S3: a wrong sort; with one sort, more places than the signal has parameters
 
@@ -104,11 +108,11 @@ has_too_many b s = option_map_or (λ x. nat_lt (length x.parameters) (length s.p
 abbrev pub stimulus_wrong : PlainBlock → PlainStimulus → List ℕ
 stimulus_wrong b s = if has_too_many b s then s.name.at ∷ [] else []
 
-abbrev pub clause_wrong : PlainBlock → PlainClause → List ℕ
-clause_wrong b (input i) = flat_map (stimulus_wrong b) i.stimuli
+abbrev pub input_wrong : PlainBlock → PlainInput → List ℕ
+input_wrong b i = flat_map (stimulus_wrong b) i.stimuli
 
 abbrev pub process_wrong : PlainBlock → PlainProcess → List ℕ
-process_wrong b p = flat_map (λ part. flat_map (clause_wrong b) part.clauses) p.states
+process_wrong b p = flat_map (input_wrong b) (input_parts p)
 
 abbrev pub wrong_sorts : PlainBlock → List ℕ
 wrong_sorts b = flat_map (process_wrong b) (processes_of b)
@@ -121,12 +125,12 @@ strays states at falls = at ∷ []
 strays states at (ends (NextState n)) = if is_in states n.state.name then [] else n.at ∷ []
 strays states at (task place assignments rest) = strays states at rest
 
-abbrev pub clause_strays : PlainProcess → PlainClause → List ℕ
-clause_strays p (input i) = strays (states_of p) i.at i.text
+abbrev pub input_strays : PlainProcess → PlainInput → List ℕ
+input_strays p i = strays (states_of p) i.at i.text
 
 abbrev pub process_strays : PlainProcess → List ℕ
 process_strays p =
-    strays (states_of p) p.start.at p.start.text ++ flat_map (λ part. flat_map (clause_strays p) part.clauses) p.states
+    strays (states_of p) p.start.at p.start.text ++ flat_map (input_strays p) (input_parts p)
 
 abbrev pub stray_ends : PlainBlock → List ℕ
 stray_ends b = flat_map process_strays (processes_of b)
@@ -145,9 +149,14 @@ exceeds b PieceSize = list_any (λ q. nat_lt 512 (piece_size q)) (flat_map piece
 exceeds b Depth = list_any (λ q. nat_lt 16 (piece_depth q)) (flat_map pieces_of (processes_of b))
 exceeds b Effects = list_any (λ q. nat_lt 32 (piece_effects q)) (flat_map pieces_of (processes_of b))
 
+abbrev pub counts : List Limit
+counts = Processes ∷ States ∷ Variables ∷ Timers ∷ Signals ∷ Params ∷ Pieces ∷ []
+
+abbrev pub measures : List Limit
+measures = PieceSize ∷ Depth ∷ Effects ∷ []
+
 abbrev pub limits : List Limit
-limits =
-    Processes ∷ States ∷ Variables ∷ Timers ∷ Signals ∷ Params ∷ Pieces ∷ PieceSize ∷ Depth ∷ Effects ∷ []
+limits = counts ++ measures
 
 -- the first limit that the block passes
 abbrev pub first_limit : PlainBlock → Option Limit

@@ -1,5 +1,9 @@
 //! What a text can break, and how it is printed.
+ghost use Rattle.std.specs.Prelude.{◌≡◌};
+ghost use Rattle.sdl_rules.specs.declared.fault.TableFault.TheVariants.{NoMemory};
+
 use sdl_lex::Name;
+use std::alloc::AllocError;
 use std::fmt;
 use thiserror::Error;
 
@@ -92,4 +96,32 @@ pub enum RuleFault {
     /// There was not enough memory.
     #[error("out of memory")]
     NoMemory,
+}
+
+/// Why there are no tables.
+#[derive(Clone, Copy, Debug)]
+pub(crate) enum TableFault {
+    DoubleName(u32),
+    NoMemory,
+}
+
+impl From<AllocError> for TableFault {
+    ghost from_gives = { λ _ e. e ≡ NoMemory };
+
+    fn from(_e: AllocError) -> TableFault {
+        TableFault::NoMemory
+    }
+}
+
+impl From<TableFault> for RuleFault {
+    ghost use Rattle.sdl_rules.specs.Refusals.{rule_fault};
+
+    ghost from_gives = { λ e f. f ≡ rule_fault e };
+
+    fn from(e: TableFault) -> RuleFault {
+        match e {
+            TableFault::DoubleName(at) => RuleFault::DoubleName(at),
+            TableFault::NoMemory => RuleFault::NoMemory,
+        }
+    }
 }

@@ -30,7 +30,7 @@ impl Model for NameTable {
 
 impl NameTable {
     /// A table with no name.
-    pub fn new(alloc: Global) -> Self
+    pub(crate) fn new(alloc: Global) -> Self
         ensures { result ≡ [] }
     {
         NameTable {
@@ -47,7 +47,8 @@ impl NameTable {
 
     /// The number of a name, from 0.
     pub fn number(&self, name: Name) -> Option<usize>
-        ensures { result ≡ number_of self.now name }
+        ensures number { result ≡ number_of self.now name }
+        ensures within { IfSome result (λ n. n < length self.now) }
     {
         self.entries.get_index_of(&name.folded())
     }
@@ -68,7 +69,7 @@ impl NameTable {
     }
 
     /// Adds a name, unless it is there: `false` then. Without memory nothing changes.
-    pub fn add(&mut self, id: Identifier) -> Result<bool, AllocError>
+    pub(crate) fn add(&mut self, id: Identifier) -> Result<bool, AllocError>
         ensures added { IfOk result (λ new. new ≡ not (is_in self.old id.name)) }
         ensures ids { OnOk result (self.new ≡ add_name self.old id) }
         ensures err { OnErr result (self.new ≡ self.old) }

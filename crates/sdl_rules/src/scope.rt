@@ -31,13 +31,7 @@ fn marked(double: Option<u32>, new: bool, at: u32) -> Option<u32>
 {
     match double {
         Some(place) => Some(place),
-        None => {
-            if new {
-                None
-            } else {
-                Some(at)
-            }
-        }
+        None => { if new { None } else { Some(at) } }
     }
 }
 

@@ -13,9 +13,10 @@ loop-id-preserved c =
     let id = c.id-item.result in
     let done = take i ids in
     let more : take (i + 1) ids ≡ done ++ id ∷ [] =
-        take_more ids i id c.loop-id-test.true ∙ ap (λ x. done ++ x ∷ []) (sym c.id-item.is) in
-    ( c.in_ok-new.ensures.ids
-      ∙ (ap (λ n. add_name n id) c.loop-id.invariant.0 ∙ (sym (names_once-push done id) ∙ ap names_once (sym more)))
-    , subst (λ (xs : List Identifier). Marks c.marked-double.result (repeats [] xs)) (sym more)
-        (marked-push done id c.loop-id.names c.in_ok-new.new c.marked-double.result c.loop-id.invariant.0
-            c.in_ok-new.ensures.added (c.marked-double.ensures (repeats [] done) c.loop-id.invariant.1)))
+    take_more ids i id c.loop-id-test.true ∙ ap (λ x. done ++ x ∷ []) (sym c.id-item.is) in (
+      c.in_ok-new.ensures.ids
+          ∙ (ap (λ n. add_name n id) c.loop-id.invariant.0 ∙ (sym (names_once-push done id) ∙ ap names_once (sym more))),
+      subst (λ (xs : List Identifier). Marks c.marked-double.result (repeats [] xs)) (sym more)
+          (marked-push done id c.loop-id.names c.in_ok-new.new c.marked-double.result c.loop-id.invariant.0
+          c.in_ok-new.ensures.added (c.marked-double.ensures (repeats [] done) c.loop-id.invariant.1)),
+    )

@@ -12,11 +12,11 @@ absent_then : (c : goal.In_ok-insert) → is_in (values_of c.self.inside.entries
 absent_then c = ap (λ ids. is_in ids c.args.id.name) c.self.view_is ∙ (sym c.contains.ensures ∙ c.if-contains.false)
 
 entries_then : (c : goal.In_ok-insert)
-  → c.insert.new.self.entries ≡ c.self.inside.entries.entries ++ (folded c.args.id.name, c.args.id) ∷ []
+    → c.insert.new.self.entries ≡ c.self.inside.entries.entries ++ (folded c.args.id.name, c.args.id) ∷ []
 entries_then c =
     let es = c.self.inside.entries.entries in
     let none : lookup (bytes_eq c.folded-key.result) es ≡ None =
-        rw c.folded-key.ensures (entries-new es c.args.id c.self.invariant (absent_then c)) in
+    rw c.folded-key.ensures (entries-new es c.args.id c.self.invariant (absent_then c)) in
     c.in_ok-insert.ensures.entries
     ∙ (insert_entry-new bytes_eq c.self.inside.entries c.folded-key.result c.args.id none
     ∙ ap (λ k. es ++ (k, c.args.id) ∷ []) c.folded-key.ensures)

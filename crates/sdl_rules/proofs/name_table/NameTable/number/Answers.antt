@@ -4,8 +4,8 @@ use Rattle.sdl_rules.specs.Names.{number_of}
 use Rattle.sdl_rules.proofs.Tables.{finds_number}
 use Rattle.sdl_rules.proofs.name_table.NameTable.number.Goals as goal
 
-pub returns : goal.returns
-returns c =
+pub returns-clause-number : goal.returns-clause-number
+returns-clause-number c =
     c.get_index_of.ensures.index
     ∙ (ap (λ k. position (bytes_eq k) (keys_of c.self.inside.entries.entries)) c.folded.ensures
     ∙ (finds_number c.self.inside.entries.entries c.args.name c.self.invariant

@@ -1,0 +1,8 @@
+use Rattle.std.proofs.Common.{map, take, []}
+use Rattle.std.specs.List.{flat_map}
+use Rattle.sdl_rules.specs.Sound.{Marks, unknown}
+use Rattle.sdl_rules.proofs.checks.first_unknown.Given as goal
+
+abbrev pub invariant-loop-id : goal.invariant-loop-id
+invariant-loop-id l =
+    Marks l.place (unknown l.names (take l.id-index l.ids))

@@ -1,0 +1,11 @@
+use Rattle.std.proofs.Common.{sym, subst, List, ℕ}
+use Rattle.sdl_tree.specs.Views.{end_text}
+use Rattle.sdl_rules.specs.Sound.{Marks}
+use Rattle.sdl_rules.proofs.Texts.{strays-actions}
+use Rattle.sdl_rules.proofs.checks.stray.Goals as goal
+
+pub returns : goal.returns
+returns c =
+    subst (Marks c.stray_at_end.result)
+    (sym (strays-actions c.args.states.now c.args.at c.args.transition.now.actions.items (end_text c.args.transition.now.end)))
+    c.stray_at_end.ensures

@@ -1,0 +1,9 @@
+use Rattle.std.proofs.Common.{map, take, []}
+use Rattle.std.specs.List.{flat_map}
+use Rattle.sdl_rules.specs.Sound.{Marks, path_unknown}
+use Rattle.sdl_tree.specs.Views.{block_of, path_of}
+use Rattle.sdl_rules.proofs.checks.unknown_in_paths.Given as goal
+
+abbrev pub invariant-loop-path : goal.invariant-loop-path
+invariant-loop-path l =
+    Marks l.place (flat_map (path_unknown (block_of l.block)) (map path_of (take l.path-index l.paths)))

@@ -1,0 +1,9 @@
+use Rattle.std.proofs.Common.{map, take, []}
+use Rattle.std.specs.List.{flat_map}
+use Rattle.sdl_rules.specs.Sound.{Marks, input_wrong}
+use Rattle.sdl_tree.specs.Views.{block_of, input_of}
+use Rattle.sdl_rules.proofs.checks.wrong_in_inputs.Given as goal
+
+abbrev pub invariant-loop-input : goal.invariant-loop-input
+invariant-loop-input l =
+    Marks l.place (flat_map (input_wrong (block_of l.block)) (map (λ i. input_of i.now) (take l.input-index l.inputs)))

@@ -1,0 +1,9 @@
+use Rattle.std.proofs.Common.{map, take, []}
+use Rattle.std.specs.List.{flat_map}
+use Rattle.sdl_rules.specs.Sound.{Marks, stimulus_wrong}
+use Rattle.sdl_tree.specs.Views.{block_of, stimulus_of}
+use Rattle.sdl_rules.proofs.checks.wrong_in_stimuli.Given as goal
+
+abbrev pub invariant-loop-stimulus : goal.invariant-loop-stimulus
+invariant-loop-stimulus l =
+    Marks l.place (flat_map (stimulus_wrong (block_of l.block)) (map stimulus_of (take l.stimulus-index l.stimuli)))

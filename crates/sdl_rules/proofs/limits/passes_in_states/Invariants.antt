@@ -1,0 +1,9 @@
+use Rattle.std.proofs.Common.{◌≡◌, map, take, nat_lt, length}
+use Rattle.std.specs.List.{list_any, flat_map}
+use Rattle.sdl_rules.specs.Longest.{input_piece}
+use Rattle.sdl_rules.specs.Rows.{rows_inputs, piece_passes}
+use Rattle.sdl_rules.proofs.limits.passes_in_states.Given as goal
+
+abbrev pub invariant-loop-rows : goal.invariant-loop-rows
+invariant-loop-rows l =
+    l.any ≡ list_any (piece_passes l.measure) (flat_map (map input_piece) (map rows_inputs (take l.rows-index l.states)))

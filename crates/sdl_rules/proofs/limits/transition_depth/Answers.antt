@@ -1,0 +1,11 @@
+use Rattle.std.proofs.Common.{sym, ap, ◌∙◌, min}
+use Rattle.sdl_rules.specs.Rows.{actions_depth}
+use Rattle.sdl_rules.proofs.Texts.{depth-end}
+use Rattle.sdl_rules.proofs.limits.transition_depth.Goals as goal
+
+pub returns : goal.returns
+returns c =
+    c.actions_depth.ensures
+    ∙ ap (λ n. min n 4294967295)
+    (ap actions_depth c.deref.ensures.value
+    ∙ sym (depth-end c.args.transition.now.actions.items c.args.transition.now.end))

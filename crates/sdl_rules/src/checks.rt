@@ -1,0 +1,345 @@
+//! The rules on names, places and ends: the first place at which a block breaks one.
+ghost use Rattle.std.specs.Prelude.{◌≡◌, ◌++◌, ◌∷◌, [], ℕ, List, Option, map, if◌then◌else◌, nat_lt, length};
+ghost use Rattle.std.specs.List.{flat_map};
+ghost use Rattle.std.specs.Option.{option_to_list};
+ghost use Rattle.sdl_rules.specs.Rows.{action_names};
+ghost use Rattle.sdl_tree.specs.Views.{tree_of, assignment_of, end_text, text_of, stimulus_of, input_of, path_of, route_of, entity_of, process_of, block_of};
+ghost use Rattle.sdl_rules.specs.Names.{is_in, process_names, signal_names, variable_names, states_of, routes_in, input_parts, processes_of};
+ghost use Rattle.sdl_rules.specs.Sound.{Marks, unknown, party_names, path_unknown, route_unknown, tree_names, assignment_names, text_names, place_names, stimulus_unknown, input_unknown, process_unknown, unknown_names, has_too_many, stimulus_wrong, input_wrong, process_wrong, wrong_sorts, strays, input_strays, process_strays, stray_ends};
+
+use crate::block_table::BlockTable;
+use crate::name_table::NameTable;
+use crate::process_table::ProcessTable;
+use crate::scope::earlier;
+use sdl_tree::{
+    Action, Assignment, End, Entity, Expression, Identifier, InputPart, NextState, Party, Path,
+    Stimulus, Transition,
+};
+
+// The place of a name that a table lacks.
+fn missing(names: &NameTable, id: Identifier) -> Option<u32>
+    ensures { Marks result (if is_in names.now id.name then [] else id.at ∷ []) }
+{
+    if names.contains(id.name) {
+        None
+    } else {
+        Some(id.at)
+    }
+}
+
+fn first_unknown(names: &NameTable, ids: &[Identifier]) -> Option<u32>
+    ensures { Marks result (unknown names.now ids.now) }
+{
+    let mut place = None;
+    for id in ids {
+        place = earlier(place, missing(names, *id));
+    }
+    place
+}
+
+fn unknown_party(names: &NameTable, party: Party) -> Option<u32>
+    ensures { Marks result (unknown names.now (party_names party)) }
+{
+    match party {
+        Party::Environment => None,
+        Party::Process(id) => missing(names, id),
+    }
+}
+
+fn unknown_in_path(block: &BlockTable, path: &Path) -> Option<u32>
+    ensures { Marks result (path_unknown (block_of block.now) (path_of path.now)) }
+{
+    let processes = block.processes();
+    let from = unknown_party(processes, path.from);
+    let parties = earlier(from, unknown_party(processes, path.to));
+    earlier(parties, first_unknown(block.signals(), &path.signals))
+}
+
+fn unknown_in_paths(block: &BlockTable, paths: &[Path]) -> Option<u32>
+    ensures { Marks result (flat_map (path_unknown (block_of block.now)) (map path_of paths.now)) }
+{
+    let mut place = None;
+    for path in paths {
+        place = earlier(place, unknown_in_path(block, path));
+    }
+    place
+}
+
+fn unknown_in_routes(block: &BlockTable, entities: &[Entity]) -> Option<u32>
+    ensures { Marks result (flat_map (route_unknown (block_of block.now)) (flat_map routes_in (map entity_of entities.now))) }
+{
+    let mut place = None;
+    for entity in entities {
+        match entity {
+            Entity::Signals(_) => {}
+            Entity::Route(route) => place = earlier(place, unknown_in_paths(block, &route.paths)),
+            Entity::Process(_) => {}
+        }
+    }
+    place
+}
+
+fn unknown_in_expression(names: &NameTable, expression: &Expression) -> Option<u32>
+    ensures { Marks result (unknown names.now (tree_names (tree_of expression.now))) }
+{
+    match expression {
+        Expression::Number { .. } => None,
+        Expression::Variable { name, .. } => missing(names, *name),
+        Expression::Unary { operand, .. } => unknown_in_expression(names, operand),
+        Expression::Binary { left, right, .. } => {
+            let first = unknown_in_expression(names, left);
+            earlier(first, unknown_in_expression(names, right))
+        }
+    }
+}
+
+fn unknown_in_assignment(names: &NameTable, assignment: &Assignment) -> Option<u32>
+    ensures { Marks result (unknown names.now (assignment_names (assignment_of assignment.now))) }
+{
+    let variable = missing(names, assignment.variable);
+    earlier(variable, unknown_in_expression(names, &assignment.value))
+}
+
+fn unknown_in_assignments(names: &NameTable, assignments: &[Assignment]) -> Option<u32>
+    ensures { Marks result (unknown names.now (flat_map assignment_names (map assignment_of assignments.now))) }
+{
+    let mut place = None;
+    for assignment in assignments {
+        place = earlier(place, unknown_in_assignment(names, assignment));
+    }
+    place
+}
+
+fn unknown_in_actions(names: &NameTable, actions: &[Action]) -> Option<u32>
+    ensures { Marks result (unknown names.now (flat_map action_names actions.now)) }
+{
+    let mut place = None;
+    for action in actions {
+        match action {
+            Action::Task(task) => {
+                place = earlier(place, unknown_in_assignments(names, &task.assignments));
+            }
+        }
+    }
+    place
+}
+
+fn unknown_in_transition(names: &NameTable, transition: &Transition) -> Option<u32>
+    ensures { Marks result (unknown names.now (text_names (text_of transition.now))) }
+{
+    unknown_in_actions(names, &transition.actions)
+}
+
+fn unknown_place(names: &NameTable, place: Option<Identifier>) -> Option<u32>
+    ensures { Marks result (unknown names.now (option_to_list place)) }
+{
+    match place {
+        None => None,
+        Some(id) => missing(names, id),
+    }
+}
+
+fn unknown_in_places(names: &NameTable, places: &[Option<Identifier>]) -> Option<u32>
+    ensures { Marks result (unknown names.now (place_names places.now)) }
+{
+    let mut found = None;
+    for place in places {
+        found = earlier(found, unknown_place(names, *place));
+    }
+    found
+}
+
+fn unknown_in_stimulus(
+    block: &BlockTable,
+    process: &ProcessTable,
+    stimulus: &Stimulus,
+) -> Option<u32>
+    ensures { Marks result (stimulus_unknown (block_of block.now) (process_of process.now) (stimulus_of stimulus.now)) }
+{
+    let signal = missing(block.signals(), stimulus.name);
+    earlier(
+        signal,
+        unknown_in_places(process.variables(), &stimulus.places),
+    )
+}
+
+fn unknown_in_stimuli(
+    block: &BlockTable,
+    process: &ProcessTable,
+    stimuli: &[Stimulus],
+) -> Option<u32>
+    ensures { Marks result (flat_map (stimulus_unknown (block_of block.now) (process_of process.now)) (map stimulus_of stimuli.now)) }
+{
+    let mut place = None;
+    for stimulus in stimuli {
+        place = earlier(place, unknown_in_stimulus(block, process, stimulus));
+    }
+    place
+}
+
+fn unknown_in_input(block: &BlockTable, process: &ProcessTable, input: &InputPart) -> Option<u32>
+    ensures { Marks result (input_unknown (block_of block.now) (process_of process.now) (input_of input.now)) }
+{
+    let stimuli = unknown_in_stimuli(block, process, &input.stimuli);
+    earlier(
+        stimuli,
+        unknown_in_transition(process.variables(), &input.transition),
+    )
+}
+
+fn unknown_in_inputs(
+    block: &BlockTable,
+    process: &ProcessTable,
+    inputs: &[&InputPart],
+) -> Option<u32>
+    ensures { Marks result (flat_map (input_unknown (block_of block.now) (process_of process.now)) (map (λ i. input_of i.now) inputs.now)) }
+{
+    let mut place = None;
+    for input in inputs {
+        place = earlier(place, unknown_in_input(block, process, input));
+    }
+    place
+}
+
+fn unknown_in_process(block: &BlockTable, process: &ProcessTable) -> Option<u32>
+    ensures { Marks result (process_unknown (block_of block.now) (process_of process.now)) }
+{
+    let start = unknown_in_transition(process.variables(), &process.process().start.transition);
+    earlier(start, unknown_in_inputs(block, process, process.parts()))
+}
+
+fn unknown_in_processes(block: &BlockTable, processes: &[ProcessTable]) -> Option<u32>
+    ensures { Marks result (flat_map (process_unknown (block_of block.now)) (map process_of processes.now)) }
+{
+    let mut place = None;
+    for process in processes {
+        place = earlier(place, unknown_in_process(block, process));
+    }
+    place
+}
+
+/// The place of a name that its class and scope lack.
+pub(crate) fn unknown_name(block: &BlockTable) -> Option<u32>
+    ensures { Marks result (unknown_names (block_of block.now)) }
+{
+    let routes = unknown_in_routes(block, &block.block().entities);
+    earlier(routes, unknown_in_processes(block, block.tables()))
+}
+
+fn is_wrong(block: &BlockTable, stimulus: &Stimulus) -> bool
+    ensures { result ≡ has_too_many (block_of block.now) (stimulus_of stimulus.now) }
+{
+    match block.signal(stimulus.name.name) {
+        None => false,
+        Some(signal) => signal.parameters.len() < stimulus.places.len(),
+    }
+}
+
+fn wrong_place(block: &BlockTable, stimulus: &Stimulus) -> Option<u32>
+    ensures { Marks result (stimulus_wrong (block_of block.now) (stimulus_of stimulus.now)) }
+{
+    if is_wrong(block, stimulus) {
+        Some(stimulus.name.at)
+    } else {
+        None
+    }
+}
+
+fn wrong_in_stimuli(block: &BlockTable, stimuli: &[Stimulus]) -> Option<u32>
+    ensures { Marks result (flat_map (stimulus_wrong (block_of block.now)) (map stimulus_of stimuli.now)) }
+{
+    let mut place = None;
+    for stimulus in stimuli {
+        place = earlier(place, wrong_place(block, stimulus));
+    }
+    place
+}
+
+fn wrong_in_inputs(block: &BlockTable, inputs: &[&InputPart]) -> Option<u32>
+    ensures { Marks result (flat_map (input_wrong (block_of block.now)) (map (λ i. input_of i.now) inputs.now)) }
+{
+    let mut place = None;
+    for input in inputs {
+        place = earlier(place, wrong_in_stimuli(block, &input.stimuli));
+    }
+    place
+}
+
+fn wrong_in_processes(block: &BlockTable, processes: &[ProcessTable]) -> Option<u32>
+    ensures { Marks result (flat_map (process_wrong (block_of block.now)) (map process_of processes.now)) }
+{
+    let mut place = None;
+    for process in processes {
+        place = earlier(place, wrong_in_inputs(block, process.parts()));
+    }
+    place
+}
+
+/// The place of an INPUT's signal that has fewer parameters than the INPUT has places.
+pub(crate) fn wrong_sort(block: &BlockTable) -> Option<u32>
+    ensures { Marks result (wrong_sorts (block_of block.now)) }
+{
+    wrong_in_processes(block, block.tables())
+}
+
+// Where an end leads to no state, or nothing ends what the START or INPUT at a place begins.
+fn stray_at_end(states: &NameTable, at: u32, end: Option<End>) -> Option<u32>
+    ensures { Marks result (strays states.now at (end_text end)) }
+{
+    match end {
+        None => Some(at),
+        Some(End::NextState(NextState { at, state })) => missing_state(states, at, state),
+    }
+}
+
+fn missing_state(states: &NameTable, at: u32, state: Identifier) -> Option<u32>
+    ensures { Marks result (if is_in states.now state.name then [] else at ∷ []) }
+{
+    if states.contains(state.name) {
+        None
+    } else {
+        Some(at)
+    }
+}
+
+fn stray(states: &NameTable, at: u32, transition: &Transition) -> Option<u32>
+    ensures { Marks result (strays states.now at (text_of transition.now)) }
+{
+    stray_at_end(states, at, transition.end)
+}
+
+fn stray_in_inputs(process: &ProcessTable, inputs: &[&InputPart]) -> Option<u32>
+    ensures { Marks result (flat_map (input_strays (process_of process.now)) (map (λ i. input_of i.now) inputs.now)) }
+{
+    let mut place = None;
+    for input in inputs {
+        place = earlier(place, stray(process.states(), input.at, &input.transition));
+    }
+    place
+}
+
+fn stray_in_process(process: &ProcessTable) -> Option<u32>
+    ensures { Marks result (process_strays (process_of process.now)) }
+{
+    let start = &process.process().start;
+    let first = stray(process.states(), start.at, &start.transition);
+    earlier(first, stray_in_inputs(process, process.parts()))
+}
+
+fn stray_in_processes(processes: &[ProcessTable]) -> Option<u32>
+    ensures { Marks result (flat_map process_strays (map process_of processes.now)) }
+{
+    let mut place = None;
+    for process in processes {
+        place = earlier(place, stray_in_process(process));
+    }
+    place
+}
+
+/// The place of a NEXTSTATE to a state that no STATE names, or of the START or INPUT whose actions
+/// run off their end.
+pub(crate) fn stray_end(block: &BlockTable) -> Option<u32>
+    ensures { Marks result (stray_ends (block_of block.now)) }
+{
+    stray_in_processes(block.tables())
+}

@@ -1,0 +1,101 @@
+//! From a block to the same block with its tables, known to be sound.
+ghost use Rattle.std.specs.Prelude.{◌≡◌, List, map, IfOk, IfErr};
+ghost use Rattle.sdl_tree.specs.Views.{signal_of, process_of, block_of};
+ghost use Rattle.sdl_rules.specs.Names.{signal_names, signals_of, process_names, processes_of};
+ghost use Rattle.sdl_rules.specs.Refusals.{Sound, Refuses};
+
+use crate::block_table::BlockTable;
+use crate::checks::{stray_end, unknown_name, wrong_sort};
+use crate::fault::RuleFault;
+use crate::limits::first_limit;
+use crate::name_table::NameTable;
+use crate::process_table::ProcessTable;
+use sdl_tree::{Block, SignalDeclaration};
+use std::alloc::Global;
+use std::marker::Model;
+
+/// A sound block with its tables. Contracts see the block.
+#[derive(Drop)]
+pub struct Resolved<'a> {
+    table: BlockTable<'a>,
+}
+
+impl<'a> Model for Resolved<'a> {
+    ghost use Rattle.sdl_tree.specs.declared.tree.Block as the_block;
+    ghost use Rattle.sdl_tree.specs.contracts.tree.Block as the_contract;
+    ghost use Rattle.sdl_tree.specs.Views.{block_of};
+    ghost use Rattle.sdl_rules.specs.Refusals.{Sound};
+
+    ghost Value = { the_block.Block };
+
+    ghost coded = { the_contract.the_row.coded };
+
+    ghost view = { λ r. r.table };
+
+    ghost invariant = { λ r. Sound (block_of r.table) };
+}
+
+/// Gives a block its tables if it is sound, and else says which rule it breaks and where.
+///
+/// Of several broken rules the least is named, by the number in its code, and of several places of
+/// one rule the first in the text. Without memory the answer is [`RuleFault::NoMemory`], in place
+/// of any other. Whether a control path reads a variable before it is set is not asked as yet, so
+/// [`RuleFault::Unset`] is never answered.
+pub fn resolve<'a>(alloc: Global, block: &'a Block) -> Result<Resolved<'a>, RuleFault>
+    ensures block { IfOk result (λ r. r ≡ block.now) }
+    ensures sound { IfOk result (λ r. Sound (block_of block.now)) }
+    ensures refused { IfErr result (λ e. Refuses (block_of block.now) e) }
+{
+    let table = BlockTable::new(alloc, block)?;
+    if let Some(at) = unknown_name(&table) {
+        return Err(RuleFault::UnknownName(at));
+    }
+    if let Some(at) = wrong_sort(&table) {
+        return Err(RuleFault::WrongSort(at));
+    }
+    if let Some(at) = stray_end(&table) {
+        return Err(RuleFault::NoState(at));
+    }
+    if let Some(which) = first_limit(&table) {
+        return Err(RuleFault::Limit(which));
+    }
+    Ok(Resolved { table })
+}
+
+impl<'a> Resolved<'a> {
+    /// The block, which is sound.
+    pub fn block(&self) -> &'a Block
+        ensures block { result.now ≡ self.now }
+        ensures sound { Sound (block_of self.now) }
+    {
+        self.table.block()
+    }
+
+    /// The names of its signals, by number.
+    pub fn signals(&self) -> &NameTable
+        ensures { result.now ≡ signal_names (block_of self.now) }
+    {
+        self.table.signals()
+    }
+
+    /// Its signals, by number.
+    pub fn signal_rows(&self) -> &[&'a SignalDeclaration]
+        ensures { map (λ s. signal_of s.now) result.now ≡ signals_of (block_of self.now) }
+    {
+        self.table.rows()
+    }
+
+    /// The names of its processes, by number.
+    pub fn processes(&self) -> &NameTable
+        ensures { result.now ≡ process_names (block_of self.now) }
+    {
+        self.table.processes()
+    }
+
+    /// Its processes with their tables, by number.
+    pub fn tables(&self) -> &[ProcessTable<'a>]
+        ensures { map process_of result.now ≡ processes_of (block_of self.now) }
+    {
+        self.table.tables()
+    }
+}
