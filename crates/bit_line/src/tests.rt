@@ -22,7 +22,9 @@ const LINE: [u8; 9] = [0x7e, 0xdf, 0xf7, 0x05, 0xf8, 0xbe, 0xaf, 0x1f, 0x7e];
 fn known_stuffing(rt: HostRuntime) {
     let mut stuffer = Stuffer::new();
     assert_eq!(rt; stuffer.rest().1, 0);
-    let line = stuffer.put(&first_fisu());
+    let unit = first_fisu();
+    assert!(rt; unit.whole());
+    let line = stuffer.put(&unit);
     assert!(rt; line.as_slice() == [0x7e, 0xdf, 0xf7, 0x05, 0xf8, 0xbe, 0xaf].as_slice());
     assert_eq!(rt; stuffer.rest().1, 6);
 }
