@@ -1,12 +1,14 @@
 //! What a transition does beside its variables.
 
+ghost use Rattle.std.specs.Prelude.{◌≡◌};
+
 use crate::input::Party;
 use crate::numbers::{SignalNumber, TimerNumber};
 use crate::value::Value;
 use arrayvec::ArrayVec;
 
 /// One effect of a transition.
-#[derive(Clone, Drop)]
+#[derive(Drop)]
 pub enum Effect {
     /// A signal goes out.
     Output(Sending),
@@ -17,7 +19,7 @@ pub enum Effect {
 }
 
 /// A signal on its way.
-#[derive(Clone, Drop)]
+#[derive(Drop)]
 pub struct Sending {
     /// The signal.
     pub signal: SignalNumber,
@@ -25,6 +27,40 @@ pub struct Sending {
     pub receiver: Party,
     /// Its parameters.
     pub parameters: ArrayVec<Value, 4>,
+}
+
+impl Effect {
+    /// The same effect once more. It takes no memory.
+    pub fn copy(&self) -> Effect
+        ensures { result ≡ self.now }
+    {
+        match self {
+            Effect::Output(sending) => Effect::Output(sending.copy()),
+            Effect::Set(timer, delay) => Effect::Set(*timer, *delay),
+            Effect::Reset(timer) => Effect::Reset(*timer),
+        }
+    }
+}
+
+impl Sending {
+    fn copy(&self) -> Sending
+        ensures { result ≡ self.now }
+    {
+        Sending {
+            signal: self.signal,
+            receiver: self.receiver,
+            parameters: copied(&self.parameters),
+        }
+    }
+}
+
+fn copied(parameters: &ArrayVec<Value, 4>) -> ArrayVec<Value, 4>
+    ensures { result ≡ parameters.now }
+{
+    match ArrayVec::try_from(parameters.as_slice()) {
+        Ok(copy) => copy,
+        Err(_) => unreachable!(),
+    }
 }
 
 impl Default for Effect {

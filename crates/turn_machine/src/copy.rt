@@ -3,7 +3,7 @@
 ghost use Rattle.std.specs.Prelude.{◌≡◌, ◌≤◌, length};
 
 use arrayvec::ArrayVec;
-use turn_code::{Input, Instruction, Value};
+use turn_code::{Effect, Input, Instruction, Value};
 
 /// The instructions by value.
 pub(crate) fn copied_code(code: &[Instruction]) -> ArrayVec<Instruction, 512>
@@ -47,4 +47,15 @@ pub(crate) fn copied_input(input: &Input) -> Input
         parameters: copied_parameters(&input.parameters),
         sender: input.sender,
     }
+}
+
+/// The effects once more.
+pub(crate) fn copied_effects(effects: &ArrayVec<Effect, 32>) -> ArrayVec<Effect, 32>
+    ensures { result.items ≡ effects.now.items }
+{
+    let mut copy = ArrayVec::new();
+    for effect in effects.as_slice() {
+        copy.push(effect.copy());
+    }
+    copy
 }

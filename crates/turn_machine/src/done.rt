@@ -1,14 +1,15 @@
 //! Jobs that ran.
 
-ghost use Rattle.std.specs.Prelude.{◌≡◌, ◌≤◌, [], option_map};
+ghost use Rattle.std.specs.Prelude.{◌≡◌, ◌≤◌, [], option_map, ⊤};
 ghost use Rattle.turn_code.specs.Run.{begun};
 ghost use Rattle.turn_code.specs.Machine.{progress_of};
 ghost use Rattle.turn_machine.specs.Turn.{Outcome, outcome_of};
 
-use crate::copy::copied_variables;
+use crate::copy::{copied_effects, copied_variables};
 use crate::execute::execute;
 use crate::job::Job;
 use arrayvec::ArrayVec;
+use std::alloc::AllocError;
 use std::marker::Model;
 use turn_code::laws::safe_law;
 use turn_code::{Effect, End, Machine, Operands, Value};
@@ -109,5 +110,28 @@ impl Done {
         ensures within { result ≤ self.now.certificate.budget }
     {
         self.count
+    }
+
+    /// The same once more. It takes no memory.
+    pub fn copy(&self) -> Done
+        ensures { result ≡ self.now }
+    {
+        Done {
+            job: self.job.copy(),
+            end: self.end,
+            variables: copied_variables(&self.variables),
+            effects: copied_effects(&self.effects),
+            count: self.count,
+        }
+    }
+}
+
+impl Clone for Done {
+    ghost is_clone = { λ x y. y ≡ x };
+
+    ghost is_infallible = { λ _. ⊤ };
+
+    fn clone(&self) -> Result<Done, AllocError> {
+        Ok(self.copy())
     }
 }

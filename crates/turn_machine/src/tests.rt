@@ -202,6 +202,7 @@ fn up_adds_to_the_total(rt: HostRuntime) -> Result<(), Fail> {
     assert_eq!(rt; done.effects().len(), 0);
     assert_eq!(rt; done.job().turn(), 9);
     assert_eq!(rt; done.job().copy().input_number(), 0);
+    assert_eq!(rt; done.copy().count(), 7);
     Ok(())
 }
 

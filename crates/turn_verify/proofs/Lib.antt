@@ -1,2 +1,3 @@
 pub mod Shapes
 pub mod Whole
+pub mod NameLists

@@ -1,5 +1,6 @@
 -- The names and the counts of a draft by number, and the numbers of names.
-use Rattle.std.specs.Prelude.{ℕ, List, [], map, Option, Some, None, slice_get}
+use Rattle.std.specs.Prelude.{◌≡◌, ℕ, ◌<◌, List, [], map, Option, Some, None, slice_get}
+use Rattle.std.specs.Char.{to_ascii_lowercase}
 use Rattle.turn_code.specs.declared.draft.Draft.{Draft}
 use Rattle.turn_code.specs.declared.draft.DraftSignal.{DraftSignal}
 use Rattle.turn_code.specs.declared.draft.DraftProcess.{DraftProcess}
@@ -40,3 +41,21 @@ variable_names d p = map (λ (x : DraftVariable). x.name) (variables_at d p)
 
 abbrev pub state_names : Draft → ℕ → List (List ℕ)
 state_names d p = map (λ (q : DraftState). q.name) (states_at d p)
+
+-- the two names differ in the case of letters alone
+abbrev pub SameName : List ℕ → List ℕ → Type 0
+SameName a b = map to_ascii_lowercase a ≡ map to_ascii_lowercase b
+
+-- a name is there, and is that one but for case
+abbrev pub IsNamed : Option (List ℕ) → List ℕ → Type 0
+IsNamed None name = ⊥
+IsNamed (Some found) name = SameName found name
+
+-- the n-th of some names is that name, and none before it is
+pub record IsFirst (names : List (List ℕ)) (n : ℕ) (name : List ℕ) : Type 0 where
+  pub there : IsNamed (slice_get names n) name
+  pub before : (k : ℕ) → k < n → IsNamed (slice_get names k) name → ⊥
+
+-- none of the names is that name
+abbrev pub IsNowhere : List (List ℕ) → List ℕ → Type 0
+IsNowhere names name = (k : ℕ) → IsNamed (slice_get names k) name → ⊥

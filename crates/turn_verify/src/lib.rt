@@ -4,6 +4,7 @@
 mod entry;
 mod fault;
 mod names;
+mod numbers;
 mod places;
 mod tables;
 mod transition;

@@ -162,6 +162,11 @@ fn the_counter_is_valid(rt: HostRuntime) -> Result<(), Fail> {
         None
     );
     assert_eq!(rt; set.certificate(ProcessNumber(1), Place::Start, 0), None);
+    assert_eq!(rt; set.process_of("p"), Some(process));
+    assert_eq!(rt; set.signal_of("UP"), Some(SignalNumber(0)));
+    assert_eq!(rt; set.variable_of(process, "Total"), Some(TOTAL));
+    assert_eq!(rt; set.variable_of(process, "tota"), None);
+    assert_eq!(rt; set.input_count(process, RUN), 1);
     Ok(())
 }
 
