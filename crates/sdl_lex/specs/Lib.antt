@@ -1,0 +1,2 @@
+pub mod NameRoom
+pub mod Spelling

@@ -1,0 +1,26 @@
+-- How names are spelled and compared.
+use Rattle.std.specs.Prelude.{◌≡◌, ℕ, ◌==◌, Bool, false, IsTrue, ◌&&◌, ◌||◌, List, [], ◌∷◌, length, map, nat_le}
+use Rattle.std.specs.List.{list_all}
+use Rattle.std.specs.Char.{is_ascii_alphabetic, is_ascii_alphanumeric, to_ascii_lowercase}
+use Rattle.sdl_lex.specs.declared.TheConstants.{MAX_NAME}
+
+-- a byte that a name may go on with: an ASCII letter, a digit or `_`
+abbrev pub is_name_byte : ℕ → Bool
+is_name_byte b = is_ascii_alphanumeric b || (b == 95)
+
+-- an ASCII letter, and then letters, digits and `_`, however many
+abbrev pub is_spelled_as_name : List ℕ → Bool
+is_spelled_as_name [] = false
+is_spelled_as_name (b ∷ bs) = is_ascii_alphabetic b && list_all is_name_byte bs
+
+-- the spelling of a name: at most 32 bytes
+abbrev pub IsName : List ℕ → Type 0
+IsName bs = IsTrue (is_spelled_as_name bs && nat_le (length bs) MAX_NAME)
+
+-- a spelling in lower case, by which names are told apart
+abbrev pub folded : List ℕ → List ℕ
+folded bs = map to_ascii_lowercase bs
+
+-- two spellings of one name: they differ in case alone
+abbrev pub SameName : List ℕ → List ℕ → Type 0
+SameName a b = folded a ≡ folded b

@@ -1,0 +1,133 @@
+//! Tokens, and what keeps a text from having them.
+use crate::Name;
+use thiserror::Error;
+
+/// A reserved word. It may be written in any case.
+#[derive(Clone, Copy, Debug, PartialEq, Eq)]
+pub enum Word {
+    Block,
+    EndBlock,
+    Signal,
+    SignalRoute,
+    From,
+    To,
+    With,
+    Env,
+    Connect,
+    Process,
+    EndProcess,
+    Dcl,
+    Timer,
+    Start,
+    State,
+    EndState,
+    Input,
+    Save,
+    Connection,
+    EndConnection,
+    Task,
+    Output,
+    Sender,
+    Set,
+    Reset,
+    Now,
+    Decision,
+    Else,
+    EndDecision,
+    NextState,
+    Stop,
+    Join,
+    Comment,
+    Not,
+    And,
+    Or,
+    Xor,
+    Mod,
+    Rem,
+    Integer,
+    Boolean,
+    True,
+    False,
+    Procedure,
+    EndProcedure,
+    Call,
+    Fpar,
+    In,
+    Return,
+}
+
+/// A symbol of one or two characters.
+#[derive(Clone, Copy, Debug, PartialEq, Eq)]
+pub enum Symbol {
+    /// `;`
+    Semicolon,
+    /// `,`
+    Comma,
+    /// `:`
+    Colon,
+    /// `:=`
+    Assign,
+    /// `(`
+    Open,
+    /// `)`
+    Close,
+    /// `+`
+    Plus,
+    /// `-`
+    Minus,
+    /// `*`
+    Star,
+    /// `/`
+    Slash,
+    /// `=`
+    Equal,
+    /// `/=`
+    NotEqual,
+    /// `<`
+    Less,
+    /// `<=`
+    LessEqual,
+    /// `>`
+    Greater,
+    /// `>=`
+    GreaterEqual,
+}
+
+/// What a token is.
+#[derive(Clone, Copy, Debug, PartialEq, Eq)]
+pub enum Lexeme {
+    /// A name that is no reserved word.
+    Name(Name),
+    /// A number from 0 to 2147483647.
+    Number(u32),
+    /// A reserved word.
+    Word(Word),
+    /// A symbol.
+    Symbol(Symbol),
+}
+
+/// A token and its place: it is the text's bytes from `start` up to, but without, `end`.
+#[derive(Clone, Copy, Debug, PartialEq, Eq)]
+pub struct Token {
+    pub lexeme: Lexeme,
+    pub start: u32,
+    pub end: u32,
+}
+
+/// Why a text has no tokens, with the place of the byte where the fault begins, from 0.
+#[derive(Clone, Copy, Debug, PartialEq, Eq, Drop, Error)]
+pub enum LexFault {
+    /// A byte that begins no token, white space or comment.
+    #[error("L1 BadCharacter")]
+    BadCharacter(u32),
+    /// A comment without end.
+    #[error("L2 OpenComment")]
+    OpenComment(u32),
+    /// A name of more than 32 bytes, a number above 2147483647, or the first byte past the
+    /// 262,144 that a text may have.
+    #[error("L3 TooLong")]
+    TooLong(u32),
+    /// There was not enough memory.
+    #[error("out of memory")]
+    NoMemory,
+}

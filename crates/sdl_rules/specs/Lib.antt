@@ -1,0 +1,3 @@
+pub mod Longest
+pub mod Names
+pub mod VariableBits

@@ -1,0 +1,136 @@
+-- The tables of a block: its signals, routes and processes, and of each process the variables, states and inputs,
+-- each in the order of the text. Two names that differ in case alone are one. (Z.100: entity classes and scope units.)
+use Rattle.std.specs.Prelude.{ℕ, Bool, false, ◌==◌, List, [], ◌∷◌, ◌++◌, Option, None, Some, if◌then◌else◌, map, fold, find, position, bytes_eq}
+use Rattle.std.specs.List.{list_any, flat_map, enumerate_from}
+use Rattle.std.specs.Option.{option_map_or}
+use Rattle.sdl_lex.specs.Spelling.{folded}
+use Rattle.sdl_tree.specs.declared.expression.Identifier.{Identifier}
+use Rattle.sdl_tree.specs.declared.tree.Sort.{Sort}
+use Rattle.sdl_tree.specs.declared.tree.Constant.{Constant}
+use Rattle.sdl_tree.specs.Plain.{Text, PlainStimulus, PlainInput, PlainClause, input, PlainState, PlainGroup, PlainDeclaration, variables, PlainProcess, PlainRoute, PlainSignal, PlainEntity, signals, route, process, PlainBlock}
+
+-- two spellings of one name
+abbrev pub same_name : List ℕ → List ℕ → Bool
+same_name x y = bytes_eq (folded x) (folded y)
+
+-- whether one of these identifiers has the name
+abbrev pub is_in : List Identifier → List ℕ → Bool
+is_in ids x = list_any (λ id. same_name x id.name) ids
+
+-- the number of a name: the place of the first that has it, from 0
+abbrev pub number_of : List Identifier → List ℕ → Option ℕ
+number_of ids x = position (λ id. same_name x id.name) ids
+
+-- ---- the block
+
+abbrev pub signals_in : PlainEntity → List PlainSignal
+signals_in (signals declared) = declared
+signals_in (route r) = []
+signals_in (process p) = []
+
+abbrev pub routes_in : PlainEntity → List PlainRoute
+routes_in (signals declared) = []
+routes_in (route r) = r ∷ []
+routes_in (process p) = []
+
+abbrev pub processes_in : PlainEntity → List PlainProcess
+processes_in (signals declared) = []
+processes_in (route r) = []
+processes_in (process p) = p ∷ []
+
+-- the signals, over all SIGNALs
+abbrev pub signals_of : PlainBlock → List PlainSignal
+signals_of b = flat_map signals_in b.entities
+
+abbrev pub routes_of : PlainBlock → List PlainRoute
+routes_of b = flat_map routes_in b.entities
+
+abbrev pub processes_of : PlainBlock → List PlainProcess
+processes_of b = flat_map processes_in b.entities
+
+abbrev pub signal_names : PlainBlock → List Identifier
+signal_names b = map (λ s. s.name) (signals_of b)
+
+abbrev pub route_names : PlainBlock → List Identifier
+route_names b = map (λ r. r.name) (routes_of b)
+
+abbrev pub process_names : PlainBlock → List Identifier
+process_names b = map (λ p. p.name) (processes_of b)
+
+-- the signal with a name
+abbrev pub signal_named : PlainBlock → List ℕ → Option PlainSignal
+signal_named b x = find (λ s. same_name x s.name.name) (signals_of b)
+
+-- ---- variables
+
+-- a variable with its sort, and the initial value that its group gives it
+pub record Variable : Type 0 where
+  pub name : Identifier
+  pub sort : Sort
+  pub initial : Option Constant
+
+-- each name of a group has the group's sort and initial value
+abbrev pub group_variables : PlainGroup → List Variable
+group_variables g = map (λ id. record { name = id; sort = g.sort; initial = g.initial }) g.names
+
+abbrev pub declared_variables : PlainDeclaration → List Variable
+declared_variables (variables groups) = flat_map group_variables groups
+
+abbrev pub variables_of : PlainProcess → List Variable
+variables_of p = flat_map declared_variables p.declarations
+
+abbrev pub variable_names : PlainProcess → List Identifier
+variable_names p = map (λ v. v.name) (variables_of p)
+
+-- the timers: no declaration is one as yet
+abbrev pub timers_in : PlainDeclaration → List Identifier
+timers_in (variables groups) = []
+
+abbrev pub timers_of : PlainProcess → List Identifier
+timers_of p = flat_map timers_in p.declarations
+
+-- ---- states
+
+-- one name more, unless it is there
+abbrev pub add_name : List Identifier → Identifier → List Identifier
+add_name ids id = if is_in ids id.name then ids else ids ++ id ∷ []
+
+-- each name once, where and as it stands first
+abbrev pub names_once : List Identifier → List Identifier
+names_once ids = fold add_name [] ids
+
+-- the names in STATE parts, one as often as it stands there
+abbrev pub named_states : PlainProcess → List Identifier
+named_states p = flat_map (λ part. part.names) p.states
+
+-- the states: parts of one name are one state, spelled and numbered by the first
+abbrev pub states_of : PlainProcess → List Identifier
+states_of p = names_once (named_states p)
+
+-- what a state takes: a signal with its places, the place of the word INPUT, and the transition
+pub record Input : Type 0 where
+  pub at : ℕ
+  pub stimulus : PlainStimulus
+  pub text : Text
+
+abbrev pub clause_inputs : PlainClause → List Input
+clause_inputs (input i) = map (λ s. record { at = i.at; stimulus = s; text = i.text }) i.stimuli
+
+abbrev pub part_inputs : PlainState → List Input
+part_inputs part = flat_map clause_inputs part.clauses
+
+-- whether a name is that of state s
+abbrev pub is_state : PlainProcess → ℕ → List ℕ → Bool
+is_state p s x = option_map_or (λ n. n == s) (number_of (states_of p) x) false
+
+-- what a part gives to state s: its inputs, as often as it names the state
+abbrev pub given_by : PlainProcess → ℕ → PlainState → List Input
+given_by p s part = flat_map (λ id. if is_state p s id.name then part_inputs part else []) part.names
+
+-- the inputs of state s, over all its parts
+abbrev pub inputs_of : PlainProcess → ℕ → List Input
+inputs_of p s = flat_map (given_by p s) p.states
+
+-- the inputs of each state, by number
+abbrev pub inputs_by_state : PlainProcess → List (List Input)
+inputs_by_state p = map (λ s. inputs_of p s.0) (enumerate_from 0 (states_of p))

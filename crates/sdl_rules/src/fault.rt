@@ -1,0 +1,95 @@
+//! What a text can break, and how it is printed.
+use sdl_lex::Name;
+use std::fmt;
+use thiserror::Error;
+
+/// What a text has too many of, or too much of; `S10` names one of them.
+#[derive(Clone, Copy, Debug, PartialEq, Eq)]
+pub enum Limit {
+    /// More than 16 processes.
+    Processes,
+    /// More than 64 states in a process.
+    States,
+    /// More than 32 variables in a process.
+    Variables,
+    /// More than 8 timers in a process.
+    Timers,
+    /// More than 128 signals.
+    Signals,
+    /// More than 4 parameters of a signal.
+    Params,
+    /// More than 4,096 transitions in all processes.
+    Pieces,
+    /// More than 512 instructions in a transition.
+    Piece,
+    /// More than 16 operands at once in a transition.
+    Depth,
+    /// More than 32 outputs, settings and resettings of timers in a turn.
+    Effects,
+}
+
+/// A transition on a control path.
+#[derive(Clone, Copy, Debug, PartialEq, Eq)]
+pub enum Step {
+    /// The transition after START.
+    Start,
+    /// What a state does on an input.
+    Input { state: Name, signal: Name },
+}
+
+impl fmt::Display for Limit {
+    fn fmt<W: fmt::Write>(&self, f: &mut fmt::Formatter<W>) -> fmt::Result {
+        fmt::Debug::fmt(self, f)
+    }
+}
+
+impl fmt::Display for Step {
+    fn fmt<W: fmt::Write>(&self, f: &mut fmt::Formatter<W>) -> fmt::Result {
+        match self {
+            Step::Start => write!(f, "START"),
+            Step::Input { state, signal } => write!(f, "{state}/{signal}"),
+        }
+    }
+}
+
+/// The transitions of a control path, from START on.
+#[derive(Debug, Drop)]
+pub struct ControlPath {
+    pub steps: Vec<Step>,
+}
+
+impl fmt::Display for ControlPath {
+    fn fmt<W: fmt::Write>(&self, f: &mut fmt::Formatter<W>) -> fmt::Result {
+        for step in &self.steps {
+            write!(f, " {step}")?;
+        }
+        Ok(())
+    }
+}
+
+/// Why a text is refused. Places are bytes of the text, from 0.
+#[derive(Debug, Drop, Error)]
+pub enum RuleFault {
+    /// A name that its class and scope have already, or a signal twice among a state's inputs.
+    #[error("S1 DoubleName")]
+    DoubleName(u32),
+    /// A name that its class and scope lack.
+    #[error("S2 UnknownName")]
+    UnknownName(u32),
+    /// An INPUT with more places than its signal has parameters: the place of the signal's name.
+    #[error("S3 WrongSort")]
+    WrongSort(u32),
+    /// A NEXTSTATE to a state that no STATE names, or a START or INPUT whose actions run off their
+    /// end: the place of that word.
+    #[error("S4 NoState")]
+    NoState(u32),
+    /// A limit is passed.
+    #[error("S10 Limit {0}")]
+    Limit(Limit),
+    /// A control path from START reads a variable before it is set.
+    #[error("S11 Unset {variable}{path}")]
+    Unset { variable: Name, path: ControlPath },
+    /// There was not enough memory.
+    #[error("out of memory")]
+    NoMemory,
+}

@@ -1,0 +1,99 @@
+-- The syntax tree as definitions and contracts speak of it: records and lists, with no `Vec` and no `Box`.
+-- Z.100 gives each of its nodes a concrete syntax; the places are the text's, in bytes.
+use Rattle.std.specs.Prelude.{ℕ, List, Option}
+use Rattle.sdl_tree.specs.declared.expression.Identifier.{Identifier}
+use Rattle.sdl_tree.specs.declared.expression.UnaryOperator.{UnaryOperator}
+use Rattle.sdl_tree.specs.declared.expression.BinaryOperator.{BinaryOperator}
+use Rattle.sdl_tree.specs.declared.tree.Sort.{Sort}
+use Rattle.sdl_tree.specs.declared.tree.Party.{Party}
+use Rattle.sdl_tree.specs.declared.tree.Constant.{Constant}
+use Rattle.sdl_tree.specs.declared.tree.End.{End}
+
+-- An expression. The first number is the place of its first token, an opening parenthesis too.
+pub data Tree : Type 0 where
+  number : ℕ → ℕ → Tree
+  variable : ℕ → Identifier → Tree
+  unary : ℕ → UnaryOperator → Tree → Tree
+  binary : ℕ → BinaryOperator → Tree → Tree → Tree
+
+-- `variable := value`
+pub record PlainAssignment : Type 0 where
+  pub variable : Identifier
+  pub value : Tree
+
+-- A transition from some action on: each action carries what follows it.
+pub data Text : Type 0 where
+  -- it runs off its end
+  falls : Text
+  ends : End → Text
+  -- a TASK at a place, its assignments, and what follows
+  task : ℕ → List PlainAssignment → Text → Text
+
+-- A signal, with the variable for each parameter; none where it is thrown away.
+pub record PlainStimulus : Type 0 where
+  pub name : Identifier
+  pub places : List (Option Identifier)
+
+-- An INPUT with its transition.
+pub record PlainInput : Type 0 where
+  pub at : ℕ
+  pub stimuli : List PlainStimulus
+  pub text : Text
+
+-- What stands in a STATE part.
+pub data PlainClause : Type 0 where
+  input : PlainInput → PlainClause
+
+-- A STATE part.
+pub record PlainState : Type 0 where
+  pub names : List Identifier
+  pub clauses : List PlainClause
+
+-- START with its transition.
+pub record PlainStart : Type 0 where
+  pub at : ℕ
+  pub text : Text
+
+-- Variables of one sort, and the initial value of each of them.
+pub record PlainGroup : Type 0 where
+  pub names : List Identifier
+  pub sort : Sort
+  pub initial : Option Constant
+
+-- What a process declares: the groups of a DCL.
+pub data PlainDeclaration : Type 0 where
+  variables : List PlainGroup → PlainDeclaration
+
+-- A PROCESS.
+pub record PlainProcess : Type 0 where
+  pub name : Identifier
+  pub declarations : List PlainDeclaration
+  pub start : PlainStart
+  pub states : List PlainState
+
+-- One direction of a route, with the signals that it brings.
+pub record PlainPath : Type 0 where
+  pub from : Party
+  pub to : Party
+  pub signals : List Identifier
+
+-- A SIGNALROUTE.
+pub record PlainRoute : Type 0 where
+  pub name : Identifier
+  pub paths : List PlainPath
+
+-- The declaration of a signal.
+pub record PlainSignal : Type 0 where
+  pub name : Identifier
+  pub parameters : List Sort
+
+-- What stands in a block: the signals of a SIGNAL, a SIGNALROUTE, a PROCESS.
+pub data PlainEntity : Type 0 where
+  signals : List PlainSignal → PlainEntity
+  route : PlainRoute → PlainEntity
+  process : PlainProcess → PlainEntity
+
+-- A text: a block with its entities.
+pub record PlainBlock : Type 0 where
+  pub name : Identifier
+  pub entities : List PlainEntity

@@ -1,0 +1,58 @@
+//! Names at their places, and expressions.
+use sdl_lex::Name;
+
+/// A name and the place of its first byte in the text.
+#[derive(Clone, Copy, Debug, PartialEq, Eq)]
+pub struct Identifier {
+    /// The name as it is written.
+    pub name: Name,
+    /// Its place in the text, in bytes from 0.
+    pub at: u32,
+}
+
+/// An operator in front of its operand.
+#[derive(Clone, Copy, Debug, PartialEq, Eq)]
+pub enum UnaryOperator {
+    /// `-`
+    Negate,
+}
+
+/// An operator between its operands.
+#[derive(Clone, Copy, Debug, PartialEq, Eq)]
+pub enum BinaryOperator {
+    /// `+`
+    Add,
+    /// `-`
+    Subtract,
+    /// `*`
+    Multiply,
+}
+
+/// An expression. Parentheses leave nothing but their place: `at` is the place in the text, in
+/// bytes, of the expression's first token, which may be an opening parenthesis.
+#[derive(Debug, Drop)]
+pub enum Expression {
+    /// A number.
+    Number {
+        at: u32,
+        value: u32,
+    },
+    /// A variable.
+    Variable {
+        at: u32,
+        name: Identifier,
+    },
+    /// An operator and its operand.
+    Unary {
+        at: u32,
+        operator: UnaryOperator,
+        operand: Box<Expression>,
+    },
+    /// An operator between two operands. Operators of one level group to the left.
+    Binary {
+        at: u32,
+        operator: BinaryOperator,
+        left: Box<Expression>,
+        right: Box<Expression>,
+    },
+}

@@ -1,0 +1,17 @@
+//! The grammar of SDL process texts: from the tokens of a text to its syntax tree.
+#![tactic(auto)]
+
+mod expression;
+mod fault;
+mod tree;
+
+pub use expression::{BinaryOperator, Expression, Identifier, UnaryOperator};
+pub use fault::ParseFault;
+pub use tree::{
+    Action, Assignment, Block, Constant, Declaration, End, Entity, Group, InputPart, Literal,
+    NextState, Party, Path, Process, Route, SignalDeclaration, Sort, Start, StateClause, StatePart,
+    Stimulus, Task, Transition,
+};
+
+/// The greatest height of a tree.
+pub const MAX_HEIGHT: u32 = 32;

@@ -1,0 +1,177 @@
+//! The syntax tree of a text, in the order of the text. Every `at` is the place in the text, in
+//! bytes from 0, of the first token of what it belongs to.
+use crate::expression::{Expression, Identifier};
+
+/// A text: one block with its entities.
+#[derive(Debug, Drop)]
+pub struct Block {
+    pub name: Identifier,
+    pub entities: Vec<Entity>,
+}
+
+/// What stands in a block.
+#[derive(Debug, Drop)]
+pub enum Entity {
+    /// The signals of one SIGNAL.
+    Signals(Vec<SignalDeclaration>),
+    /// A SIGNALROUTE.
+    Route(Route),
+    /// A PROCESS.
+    Process(Process),
+}
+
+/// The declaration of a signal, with the sorts of its parameters.
+#[derive(Debug, Drop)]
+pub struct SignalDeclaration {
+    pub name: Identifier,
+    pub parameters: Vec<Sort>,
+}
+
+/// What values a variable or a parameter has.
+#[derive(Clone, Copy, Debug, PartialEq, Eq)]
+pub enum Sort {
+    /// Whole numbers of 32 bits.
+    Integer,
+}
+
+/// A SIGNALROUTE with its paths.
+#[derive(Debug, Drop)]
+pub struct Route {
+    pub name: Identifier,
+    pub paths: Vec<Path>,
+}
+
+/// One direction of a route, and the signals that it brings.
+#[derive(Debug, Drop)]
+pub struct Path {
+    pub from: Party,
+    pub to: Party,
+    pub signals: Vec<Identifier>,
+}
+
+/// An end of a path.
+#[derive(Clone, Copy, Debug, PartialEq, Eq)]
+pub enum Party {
+    /// What is outside of the block: ENV.
+    Environment,
+    /// The process with this name.
+    Process(Identifier),
+}
+
+/// A PROCESS.
+#[derive(Debug, Drop)]
+pub struct Process {
+    pub name: Identifier,
+    pub declarations: Vec<Declaration>,
+    pub start: Start,
+    pub states: Vec<StatePart>,
+}
+
+/// What a process declares.
+#[derive(Debug, Drop)]
+pub enum Declaration {
+    /// The groups of one DCL.
+    Variables(Vec<Group>),
+}
+
+/// Variables of one sort. An initial value holds for each of them.
+#[derive(Debug, Drop)]
+pub struct Group {
+    pub names: Vec<Identifier>,
+    pub sort: Sort,
+    pub initial: Option<Constant>,
+}
+
+/// A constant and its place.
+#[derive(Clone, Copy, Debug, PartialEq, Eq)]
+pub struct Constant {
+    pub at: u32,
+    pub value: Literal,
+}
+
+/// The value of a constant.
+#[derive(Clone, Copy, Debug, PartialEq, Eq)]
+pub enum Literal {
+    /// A number, with its sign.
+    Integer(i32),
+}
+
+/// START and its transition. The place is that of the word START.
+#[derive(Debug, Drop)]
+pub struct Start {
+    pub at: u32,
+    pub transition: Transition,
+}
+
+/// A STATE part: what the states that it names do.
+#[derive(Debug, Drop)]
+pub struct StatePart {
+    pub names: Vec<Identifier>,
+    pub clauses: Vec<StateClause>,
+}
+
+/// What stands in a STATE part.
+#[derive(Debug, Drop)]
+pub enum StateClause {
+    /// An INPUT with its transition.
+    Input(InputPart),
+}
+
+/// An INPUT with its transition. The place is that of the word INPUT.
+#[derive(Debug, Drop)]
+pub struct InputPart {
+    pub at: u32,
+    pub stimuli: Vec<Stimulus>,
+    pub transition: Transition,
+}
+
+/// A signal that an INPUT takes, and for each of its parameters the variable that gets it, or
+/// nothing where the parameter is thrown away. Without parentheses there are no places; `A()` has
+/// one empty place.
+#[derive(Debug, Drop)]
+pub struct Stimulus {
+    pub name: Identifier,
+    pub places: Vec<Option<Identifier>>,
+}
+
+/// A transition. Without an end it runs off its text.
+#[derive(Debug, Drop)]
+pub struct Transition {
+    pub actions: Vec<Action>,
+    pub end: Option<End>,
+}
+
+/// One step of a transition.
+#[derive(Debug, Drop)]
+pub enum Action {
+    /// A TASK.
+    Task(Task),
+}
+
+/// A TASK. The place is that of the word TASK.
+#[derive(Debug, Drop)]
+pub struct Task {
+    pub at: u32,
+    pub assignments: Vec<Assignment>,
+}
+
+/// An assignment to a variable.
+#[derive(Debug, Drop)]
+pub struct Assignment {
+    pub variable: Identifier,
+    pub value: Expression,
+}
+
+/// How a transition ends.
+#[derive(Clone, Copy, Debug, PartialEq, Eq)]
+pub enum End {
+    /// With a NEXTSTATE.
+    NextState(NextState),
+}
+
+/// A NEXTSTATE. The place is that of the word.
+#[derive(Clone, Copy, Debug, PartialEq, Eq)]
+pub struct NextState {
+    pub at: u32,
+    pub state: Identifier,
+}

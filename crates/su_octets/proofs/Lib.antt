@@ -1,0 +1,5 @@
+pub mod Remainders
+pub mod BitLists
+pub mod Registers
+pub mod CheckLaws
+pub mod FrameLaws

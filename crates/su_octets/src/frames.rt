@@ -1,0 +1,129 @@
+//! Signal units to octets and back.
+ghost use Rattle.std.specs.Prelude.{◌≡◌, ◌↔◌, ◌+◌, ◌*◌, ◌≤◌, ◌<◌, ◌++◌, length, Ok, Err};
+ghost use Rattle.arrayvec.specs.ArrayVec.{array_vec_len};
+ghost use Rattle.su_octets.specs.Frame.{Frame, Refuses, SpareBitsAreZero, head_of, body_of, length_indicator};
+ghost use Rattle.su_octets.specs.Whole.{IsWhole, IsWholeHead};
+ghost use Rattle.su_octets.specs.declared.units.Unit.{Unit};
+ghost use Rattle.su_octets.specs.declared.units.UnitFault.{UnitFault};
+
+use crate::check::check_bits;
+use crate::units::{Head, Unit, UnitFault};
+use arrayvec::ArrayVec;
+
+/// The least number of octets of a unit: a head, the length indicator, two check octets.
+const SHORTEST: usize = 5;
+
+/// The greatest number of octets of a unit.
+const LONGEST: usize = 278;
+
+/// The length indicator that stands for all greater numbers too.
+const LONG: u8 = 63;
+
+/// The length indicator before `n` octets.
+fn indicator(n: usize) -> u8
+    ensures { result ≡ length_indicator n }
+{
+    if n < 63 { n as u8 } else { LONG }
+}
+
+/// Puts the octets between the length indicator and the check octets at the end.
+fn push_body(unit: &Unit, octets: &mut ArrayVec<u8, 278>)
+    requires { array_vec_len octets.old + length (body_of unit.now) ≤ 278 }
+    ensures { octets.new.items ≡ octets.old.items ++ body_of unit.now }
+{
+    match unit {
+        Unit::Fisu(_) => {}
+        Unit::Lssu(_, status, None) => octets.push(*status),
+        Unit::Lssu(_, status, Some(second)) => {
+            octets.push(*status);
+            octets.push(*second);
+        }
+        Unit::Msu(_, sio, sif) => {
+            octets.push(*sio);
+            octets.try_extend_from_slice(sif.as_slice()).unwrap();
+        }
+    }
+}
+
+/// Puts the octets of the unit, without flags, into `octets`, in place of what was there. The spare
+/// bits behind the length indicator are 0 (Q.703, 2.3.3).
+pub fn encode(unit: &Unit, octets: &mut ArrayVec<u8, 278>)
+    requires { IsWhole unit.now }
+    ensures frame { Frame octets.new.items unit.now }
+    ensures spare { SpareBitsAreZero octets.new.items }
+{
+    let head = unit.head();
+    octets.clear();
+    octets.push(head.bsn + 128 * head.bib);
+    octets.push(head.fsn + 128 * head.fib);
+    octets.push(indicator(unit.body_len()));
+    push_body(unit, octets);
+    let [low, high] = check_bits(octets.as_slice());
+    octets.push(low);
+    octets.push(high);
+}
+
+/// The head in the first two octets.
+fn head_at(first: u8, second: u8) -> Head
+    ensures whole { IsWholeHead result }
+    ensures first { first ≡ result.bsn + 128 * result.bib }
+    ensures second { second ≡ result.fsn + 128 * result.fib }
+{
+    Head {
+        bsn: first % 128,
+        bib: first / 128,
+        fsn: second % 128,
+        fib: second / 128,
+    }
+}
+
+/// The unit of this head and these octets behind the length indicator.
+fn unit_of(head: Head, body: &[u8]) -> Unit
+    requires whole { IsWholeHead head }
+    requires fits { length body.now ≤ 273 }
+    ensures whole { IsWhole result }
+    ensures head { head_of result ≡ head }
+    ensures body { body_of result ≡ body.now }
+{
+    match body {
+        [] => Unit::Fisu(head),
+        [status] => Unit::Lssu(head, *status, None),
+        [status, second] => Unit::Lssu(head, *status, Some(*second)),
+        [sio, sif @ ..] => {
+            let mut field = ArrayVec::new();
+            field.try_extend_from_slice(sif).unwrap();
+            Unit::Msu(head, *sio, field)
+        }
+    }
+}
+
+/// The unit that the octets, without flags, are.
+///
+/// # Errors
+///
+/// Of several reasons the first of these counts.
+///
+/// - `TooShort` where there are fewer than 5 octets.
+/// - `TooLong` where there are more than 278.
+/// - `BadCheck` where the last two octets aren't the check octets of the others (Q.703, 2.2.7).
+/// - `BadLength` where the length indicator is wrong (Q.703, 2.3.3).
+pub fn decode(octets: &[u8]) -> Result<Unit, UnitFault>
+    ensures found { (unit : Unit) → (result ≡ Ok unit) ↔ Frame octets.now unit }
+    ensures refused { (fault : UnitFault) → (result ≡ Err fault) ↔ Refuses octets.now fault }
+{
+    if octets.len() < SHORTEST {
+        return Err(UnitFault::TooShort);
+    }
+    if octets.len() > LONGEST {
+        return Err(UnitFault::TooLong);
+    }
+    let (content, check) = octets.split_at(octets.len() - 2);
+    if check_bits(content).as_slice() != check {
+        return Err(UnitFault::BadCheck);
+    }
+    let body = &content[3..];
+    if content[2] % 64 != indicator(body.len()) {
+        return Err(UnitFault::BadLength);
+    }
+    Ok(unit_of(head_at(content[0], content[1]), body))
+}

@@ -1,0 +1,33 @@
+//! Laws over the definitions that the contracts of this crate cite. Each is the contract of a function
+//! that does nothing.
+ghost use Rattle.su_octets.specs.Laws.{RemaindersAdd, CheckIsOneRemainder, OneCheck, OneUnit, OneSpelling, DecodesEncoded};
+
+/// The remainder of a sum of polynomials is the sum of their remainders.
+pub fn remainders_add()
+    ensures { RemaindersAdd }
+{}
+
+/// The two remainders of which the check bits are made are one, of the sum of the two polynomials.
+pub fn check_is_one_remainder()
+    ensures { CheckIsOneRemainder }
+{}
+
+/// A content has one pair of check octets.
+pub fn one_check()
+    ensures { OneCheck }
+{}
+
+/// Octets are those of one unit at most.
+pub fn one_unit()
+    ensures { OneUnit }
+{}
+
+/// A unit has one list of octets whose spare bits are 0.
+pub fn one_spelling()
+    ensures { OneSpelling }
+{}
+
+/// What is encoded decodes to the same unit.
+pub fn decodes_encoded()
+    ensures { DecodesEncoded }
+{}

@@ -1,0 +1,16 @@
+//! Signal units of MTP level 2 (ITU-T Q.703) as octets, and their check bits.
+//!
+//! `encode` gives the octets of a unit between the flags, `decode` the unit of such octets, and
+//! `check_bits` the two check octets of a content. Nothing here takes memory.
+#![tactic(auto)]
+
+mod check;
+mod frames;
+pub mod laws;
+#[cfg(test)]
+mod tests;
+mod units;
+
+pub use check::check_bits;
+pub use frames::{decode, encode};
+pub use units::{Head, Unit, UnitFault, status_name};

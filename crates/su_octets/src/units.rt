@@ -1,0 +1,150 @@
+//! The three kinds of signal unit.
+ghost use Rattle.std.specs.Prelude.{◌≡◌, ◌↔◌, IsTrue, length};
+ghost use Rattle.su_octets.specs.Frame.{head_of, body_of, status_code_of};
+ghost use Rattle.su_octets.specs.Whole.{IsWhole, IsWholeHead};
+
+use arrayvec::ArrayVec;
+use std::fmt;
+use thiserror::Error;
+
+/// The numbers and indicator bits that every signal unit begins with (Q.703, 2.3).
+#[derive(Clone, Copy, Debug, PartialEq, Eq)]
+pub struct Head {
+    /// The backward sequence number, 0 to 127.
+    pub bsn: u8,
+    /// The backward indicator bit, 0 or 1.
+    pub bib: u8,
+    /// The forward sequence number, 0 to 127.
+    pub fsn: u8,
+    /// The forward indicator bit, 0 or 1.
+    pub fib: u8,
+}
+
+/// A signal unit without its flags and check octets (Q.703, 2.2).
+#[derive(Debug, Drop, PartialEq, Eq)]
+pub enum Unit {
+    /// A fill-in signal unit.
+    Fisu(Head),
+    /// A link status signal unit: the first octet of the status field, whose low three bits are the
+    /// status code, and the second one where there is one.
+    Lssu(Head, u8, Option<u8>),
+    /// A message signal unit: the service information octet and the signalling information field,
+    /// of 2 to 272 octets.
+    Msu(Head, u8, ArrayVec<u8, 272>),
+}
+
+/// Why octets are no signal unit.
+#[derive(Clone, Copy, Debug, Drop, Error, PartialEq, Eq)]
+pub enum UnitFault {
+    /// There are fewer than 5 octets.
+    #[error("U1 TooShort")]
+    TooShort,
+    /// There are more than 278 octets.
+    #[error("U2 TooLong")]
+    TooLong,
+    /// The check octets aren't those of the content.
+    #[error("U3 BadCheck")]
+    BadCheck,
+    /// The length indicator isn't the number of octets between it and the check octets, or 63
+    /// where there are 63 or more.
+    #[error("U4 BadLength")]
+    BadLength,
+}
+
+impl Head {
+    /// Whether the numbers have seven bits and the indicators one.
+    pub fn whole(&self) -> bool
+        ensures { IsTrue result ↔ IsWholeHead self.now }
+    {
+        self.bsn < 128 && self.bib < 2 && self.fsn < 128 && self.fib < 2
+    }
+}
+
+impl Unit {
+    /// Whether the unit is in the ranges that `encode` needs: those of its head, and 2 octets or more
+    /// in the signalling information field of a message signal unit.
+    pub fn whole(&self) -> bool
+        ensures { IsTrue result ↔ IsWhole self.now }
+    {
+        match self {
+            Unit::Fisu(head) => head.whole(),
+            Unit::Lssu(head, _, _) => head.whole(),
+            Unit::Msu(head, _, sif) => head.whole() && sif.len() >= 2,
+        }
+    }
+
+    /// The numbers and indicator bits.
+    pub fn head(&self) -> Head
+        ensures { result ≡ head_of self.now }
+    {
+        match self {
+            Unit::Fisu(head) => *head,
+            Unit::Lssu(head, _, _) => *head,
+            Unit::Msu(head, _, _) => *head,
+        }
+    }
+
+    /// The status code of a link status signal unit, the low three bits of its status field
+    /// (Q.703, 11.1.3): 0 SIO, 1 SIN, 2 SIE, 3 SIOS, 4 SIPO, 5 SIB, 6 and 7 without a name.
+    pub fn status_code(&self) -> Option<u8>
+        ensures { result ≡ status_code_of self.now }
+    {
+        match self {
+            Unit::Lssu(_, status, _) => Some(*status % 8),
+            _ => None,
+        }
+    }
+
+    /// How many octets stand between the length indicator and the check octets.
+    pub fn body_len(&self) -> usize
+        ensures { result ≡ length (body_of self.now) }
+    {
+        match self {
+            Unit::Fisu(_) => 0,
+            Unit::Lssu(_, _, None) => 1,
+            Unit::Lssu(_, _, Some(_)) => 2,
+            Unit::Msu(_, _, sif) => sif.len() + 1,
+        }
+    }
+}
+
+/// The name of a status indication by its code, the low three bits of `status` (Q.703, 11.1.3). The
+/// codes without a name give their digit.
+pub fn status_name(status: u8) -> &'static str {
+    match status % 8 {
+        0 => "SIO",
+        1 => "SIN",
+        2 => "SIE",
+        3 => "SIOS",
+        4 => "SIPO",
+        5 => "SIB",
+        6 => "6",
+        _ => "7",
+    }
+}
+
+impl fmt::Display for Head {
+    fn fmt<W: fmt::Write>(&self, f: &mut fmt::Formatter<W>) -> fmt::Result {
+        write!(
+            f,
+            "bsn {} bib {} fsn {} fib {}",
+            self.bsn, self.bib, self.fsn, self.fib
+        )
+    }
+}
+
+/// One line: the kind, the head, and then an LSSU's status or an MSU's service information octet and
+/// the number of octets of its signalling information field.
+impl fmt::Display for Unit {
+    fn fmt<W: fmt::Write>(&self, f: &mut fmt::Formatter<W>) -> fmt::Result {
+        match self {
+            Unit::Fisu(head) => write!(f, "FISU {head}"),
+            Unit::Lssu(head, status, _) => {
+                write!(f, "LSSU {head} status {}", status_name(*status))
+            }
+            Unit::Msu(head, sio, sif) => {
+                write!(f, "MSU {head} sio {sio:02X} octets {}", sif.len())
+            }
+        }
+    }
+}

@@ -1,0 +1,40 @@
+//! Names as the text spells them.
+
+ghost use Rattle.std.specs.Prelude.{◌≡◌, ◌≤◌, ◌↔◌, length, IsSome, IfSome};
+
+use arrayvec::ArrayVec;
+use std::marker::Model;
+
+/// The bytes of a name as it was first written, 32 at most.
+#[derive(Drop)]
+pub struct Name {
+    bytes: ArrayVec<u8, 32>,
+}
+
+impl Model for Name {
+    ghost use Rattle.std.specs.Prelude.{List, ℕ};
+
+    ghost Value = { List ℕ };
+
+    ghost view = { λ n. n.bytes.items };
+}
+
+impl Name {
+    /// The name with these bytes, where they are 32 at most.
+    pub fn from_bytes(bytes: &[u8]) -> Option<Name>
+        ensures fits { IsSome result ↔ (length bytes.now ≤ 32) }
+        ensures value { IfSome result (λ n. n ≡ bytes.now) }
+    {
+        match ArrayVec::try_from(bytes) {
+            Ok(bytes) => Some(Name { bytes }),
+            Err(_) => None,
+        }
+    }
+
+    /// The bytes.
+    pub fn as_bytes(&self) -> &[u8]
+        ensures { result.now ≡ self.now }
+    {
+        self.bytes.as_slice()
+    }
+}

@@ -1,0 +1,17 @@
+//! Numbers that stand for what a set declares.
+
+/// A process of a set, from 0 in text order.
+#[derive(Clone, Copy, PartialEq, Eq, Debug, Default)]
+pub struct ProcessNumber(pub u8);
+
+/// A signal of a set, from 0 in text order.
+#[derive(Clone, Copy, PartialEq, Eq, Debug, Default)]
+pub struct SignalNumber(pub u8);
+
+/// A state of a process, from 0 in the order of first STATE.
+#[derive(Clone, Copy, PartialEq, Eq, Debug, Default)]
+pub struct StateNumber(pub u8);
+
+/// A variable of a process, from 0 in text order.
+#[derive(Clone, Copy, PartialEq, Eq, Debug, Default)]
+pub struct VariableNumber(pub u8);

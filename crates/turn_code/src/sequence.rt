@@ -1,0 +1,58 @@
+//! Lists that contracts can compare.
+
+ghost use Rattle.std.specs.Prelude.{◌≡◌, ◌==◌, length};
+
+use std::marker::Model;
+
+/// A list of values in memory, which contracts see as the list alone.
+#[derive(Drop)]
+pub struct Sequence<T> {
+    items: Vec<T>,
+}
+
+impl<T> Model for Sequence<T> {
+    ghost use Rattle.std.specs.Prelude.{List};
+
+    ghost Value = { List T };
+
+    ghost view = { λ s. s.items.items };
+}
+
+impl<T> Sequence<T> {
+    /// The values as a slice.
+    pub fn as_slice(&self) -> &[T]
+        ensures { result.now ≡ self.now }
+    {
+        self.items.as_slice()
+    }
+
+    /// The number of values.
+    pub fn len(&self) -> usize
+        ensures { result ≡ length self.now }
+    {
+        self.items.len()
+    }
+
+    /// Whether there is no value.
+    pub fn is_empty(&self) -> bool
+        ensures { result ≡ (length self.now == 0) }
+    {
+        self.items.is_empty()
+    }
+
+    /// The values in the memory that they lie in.
+    pub fn into_vec(self) -> Vec<T>
+        ensures { result.items ≡ self }
+    {
+        let Sequence { items } = self;
+        items
+    }
+}
+
+impl<T> From<Vec<T>> for Sequence<T> {
+    ghost from_gives = { λ v s. s ≡ v.items };
+
+    fn from(items: Vec<T>) -> Self {
+        Sequence { items }
+    }
+}
