@@ -1,10 +1,14 @@
 //! The command `frame`: one signal unit, read from hexadecimal digits.
+ghost use Rattle.std.specs.Prelude.{◌≡◌, ◌⊎◌, ◌≤◌, ◌*◌, ◌+◌, ◌^◌, ◌<◌, ℕ, List, length, Ok, Err, IfOk, IfErr, OnErr};
+ghost use Rattle.hex.specs.Hex.{decode_of};
+ghost use Rattle.mtp2_play.specs.Reading.{Spells, IsRefused};
+ghost use Rattle.su_octets.specs.declared.units.Unit.{Unit};
+
 use crate::lines::{FAILED, HELD, REFUSED, write_line};
 use hex::FromHexError;
 use std::alloc::{AllocError, Global};
-use std::fmt;
 use std::io::{self, Write};
-use su_octets::{Head, Unit, UnitFault};
+use su_octets::{Unit, UnitFault};
 use thiserror::Error;
 
 /// Why a word is no signal unit.
@@ -18,7 +22,8 @@ pub enum FrameFault {
     Unit(UnitFault),
 }
 
-/// A unit with its line bits, as `frame` prints it.
+/// A unit with the number of its bits on the line.
+#[derive(Drop)]
 struct Reading {
     unit: Unit,
     line_bits: usize,
@@ -29,31 +34,37 @@ struct Reading {
 ///
 /// Gives the exit status: 0, or 2 after a line `refused CODE Name` (H1 NotHex, then U1 TooShort,
 /// U2 TooLong, U3 BadCheck, U4 BadLength), or 4 where memory or a write fails.
-pub fn frame<W: Write>(alloc: Global, word: &str, writer: &mut W) -> u8 {
-    match print(alloc, word, writer) {
-        Ok(status) => status,
+pub fn frame<W: Write>(alloc: Global, word: &str, writer: &mut W) -> u8
+    ensures held { result ≡ 0 → (unit : Unit) × Spells word.now unit }
+    ensures refused { result ≡ 2 → (unit : Unit) → Spells word.now unit → ⊥ }
+    ensures status { (result ≡ 0) ⊎ (result ≡ 2) ⊎ (result ≡ 4) }
+{
+    match read(alloc, word) {
+        Ok(Ok(reading)) => match write_reading(alloc, writer, &reading) {
+            Ok(()) => HELD,
+            Err(_) => FAILED,
+        },
+        Ok(Err(fault)) => match write_line(alloc, writer, &format_args!("refused {fault}")) {
+            Ok(()) => REFUSED,
+            Err(_) => FAILED,
+        },
         Err(_) => FAILED,
     }
 }
 
-/// Reads the word, and writes what `frame` prints.
-fn print<W: Write>(alloc: Global, word: &str, writer: &mut W) -> io::Result<u8> {
-    match read(alloc, word)? {
-        Ok(reading) => {
-            write_line(alloc, writer, &Fields(&reading.unit))?;
-            let line_bits = reading.line_bits;
-            write_line(alloc, writer, &format_args!("bits {line_bits}"))?;
-            Ok(HELD)
-        }
-        Err(fault) => {
-            write_line(alloc, writer, &format_args!("refused {fault}"))?;
-            Ok(REFUSED)
-        }
-    }
+/// The unit's fields on a line, and its bits on another.
+fn write_reading<W: Write>(alloc: Global, writer: &mut W, reading: &Reading) -> io::Result<()> {
+    write_line(alloc, writer, &reading.unit)?;
+    let line_bits = reading.line_bits;
+    write_line(alloc, writer, &format_args!("bits {line_bits}"))
 }
 
-/// The unit that the word spells.
-fn read(alloc: Global, word: &str) -> Result<Result<Reading, FrameFault>, AllocError> {
+/// The unit that the word spells, or why it spells none.
+fn read(alloc: Global, word: &str) -> Result<Result<Reading, FrameFault>, AllocError>
+    ensures unit { IfOk result (λ r. IfOk r (λ reading. Spells word.now reading.unit)) }
+    ensures fault { IfOk result (λ r. IfErr r (λ fault. IsRefused word.now fault)) }
+    ensures none { IfOk result (λ r. OnErr r ((unit : Unit) → Spells word.now unit → ⊥)) }
+{
     let octets = match hex::decode(alloc, word) {
         Ok(octets) => octets,
         Err(FromHexError::OutOfMemory) => return Err(AllocError),
@@ -68,10 +79,12 @@ fn read(alloc: Global, word: &str) -> Result<Result<Reading, FrameFault>, AllocE
     }
 }
 
-/// How many bits the octets are on the line: a 0 more behind each five 1s in a row.
-fn line_bits(octets: &[u8]) -> usize {
+/// How many bits the octets are on the line: a 0 more behind each five 1s in a row (Q.703, 3.2).
+fn line_bits(octets: &[u8]) -> usize
+    requires { length octets.now < 2 ^ 32 }
+{
     let mut bits = 0;
-    let mut ones = 0;
+    let mut ones = 0u8;
     for octet in octets {
         for place in 0..8u8 {
             bits += 1;
@@ -86,46 +99,4 @@ fn line_bits(octets: &[u8]) -> usize {
         }
     }
     bits
-}
-
-/// A unit as `FISU bsn B bib I fsn F fib J`, with its status or its octets behind.
-struct Fields<'a>(&'a Unit);
-
-impl fmt::Display for Fields<'_> {
-    fn fmt<W: fmt::Write>(&self, f: &mut fmt::Formatter<W>) -> fmt::Result {
-        match self.0 {
-            Unit::Fisu(head) => write_head(f, "FISU", head),
-            Unit::Lssu(head, status, _) => {
-                write_head(f, "LSSU", head)?;
-                let name = status_name(*status);
-                write!(f, " status {name}")
-            }
-            Unit::Msu(head, sio, sif) => {
-                write_head(f, "MSU", head)?;
-                let octets = sif.len();
-                write!(f, " sio {sio:02X} octets {octets}")
-            }
-        }
-    }
-}
-
-/// The kind of a unit, and the numbers and bits that it begins with.
-fn write_head<W: fmt::Write>(f: &mut fmt::Formatter<W>, kind: &str, head: &Head) -> fmt::Result {
-    let Head { bsn, bib, fsn, fib } = *head;
-    write!(f, "{kind} bsn {bsn} bib {bib} fsn {fsn} fib {fib}")
-}
-
-/// The name of the status that the low three bits of a status octet stand for (Q.703, 11.1.3). The
-/// codes 6 and 7 have none.
-fn status_name(status: u8) -> &'static str {
-    match status % 8 {
-        0 => "SIO",
-        1 => "SIN",
-        2 => "SIE",
-        3 => "SIOS",
-        4 => "SIPO",
-        5 => "SIB",
-        6 => "6",
-        _ => "7",
-    }
 }
