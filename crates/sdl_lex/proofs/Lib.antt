@@ -1,1 +1,7 @@
+pub mod ChainLemmas
+pub mod KindLemmas
 pub mod NameLemmas
+pub mod OneLemmas
+pub mod SliceLemmas
+pub mod UniqueLemmas
+pub mod WordLemmas

@@ -1,2 +1,5 @@
+pub mod Lexed
 pub mod NameRoom
+pub mod Scan
 pub mod Spelling
+pub mod Texts

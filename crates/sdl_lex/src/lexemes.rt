@@ -1,5 +1,9 @@
 //! Tokens, and what keeps a text from having them.
+ghost use Rattle.std.specs.Prelude.{◌≡◌};
+ghost use Rattle.sdl_lex.specs.declared.lexemes.LexFault.TheVariants.{NoMemory};
+
 use crate::Name;
+use std::alloc::AllocFailed;
 use thiserror::Error;
 
 /// A reserved word. It may be written in any case.
@@ -130,4 +134,12 @@ pub enum LexFault {
     /// There was not enough memory.
     #[error("out of memory")]
     NoMemory,
+}
+
+impl<T: Drop> From<AllocFailed<T>> for LexFault {
+    ghost from_gives = { λ _ e. e ≡ NoMemory };
+
+    fn from(_failed: AllocFailed<T>) -> LexFault {
+        LexFault::NoMemory
+    }
 }

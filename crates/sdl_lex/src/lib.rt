@@ -1,11 +1,89 @@
 //! The lexis of SDL texts: from the bytes of a text to its tokens.
 #![tactic(auto)]
 
-mod lexemes;
-mod spelling;
+ghost use Rattle.std.specs.Prelude.{◌≡◌, ◌+◌, ◌==◌, ◌≤◌, length, take, count_by, Ok, IfOk, IfErr};
+ghost use Rattle.sdl_lex.specs.Lexed.{Lexed, Answers, IsFirstFault, IsAnswer, IsOnlyAnswer, OneReading, OneAnswer};
 
+mod items;
+mod lexemes;
+mod scan;
+mod spelling;
+#[cfg(test)]
+mod tests;
+mod words;
+
+use items::{Item, item_at};
 pub use lexemes::{LexFault, Lexeme, Symbol, Token, Word};
 pub use spelling::Name;
+use std::alloc::Global;
 
 /// The greatest number of bytes in a name.
 pub const MAX_NAME: usize = 32;
+
+/// The greatest number that a text may have.
+pub const MAX_NUMBER: u32 = 2_147_483_647;
+
+/// The greatest number of bytes in a text.
+pub const MAX_TEXT: usize = 262_144;
+
+/// The tokens of a text: each is the longest that stands at its place, and between them there is
+/// only white space and comments.
+///
+/// A fault is the first in the text, but a text of more than 262,144 bytes is L3 at the first byte
+/// too many, whatever it holds. `LexFault::NoMemory` may stand in place of any answer.
+pub fn tokens(alloc: Global, text: &str) -> Result<Vec<Token>, LexFault>
+    ensures lexed { IfOk result (λ v. Answers text.now (Ok v.items)) }
+    ensures fault { IfErr result (λ e. IsAnswer text.now e) }
+    ensures exact { IsOnlyAnswer text.now result }
+{
+    let bytes = text.as_bytes();
+    if bytes.len() > MAX_TEXT {
+        return Err(LexFault::TooLong(MAX_TEXT as u32));
+    }
+    all_tokens(alloc, bytes)
+}
+
+// The tokens of a text that isn't over-long.
+fn all_tokens(alloc: Global, bytes: &[u8]) -> Result<Vec<Token>, LexFault>
+    requires { length bytes.now ≤ MAX_TEXT }
+    ensures lexed { IfOk result (λ v. Lexed bytes.now v.items) }
+    ensures fault { IfErr result (λ e. IsFirstFault bytes.now e) }
+{
+    let mut tokens = Vec::new(alloc);
+    let mut at = 0;
+    while at < bytes.len() {
+        let Item { lexeme, end } = item_at(bytes, at)?;
+        if let Some(lexeme) = lexeme {
+            tokens.push(Token {
+                lexeme,
+                start: at as u32,
+                end: end as u32,
+            })?;
+        }
+        at = end;
+    }
+    Ok(tokens)
+}
+
+/// The number of the line in which a place of a text stands, from 1. A line ends with its line feed.
+pub fn line_of(text: &str, place: u32) -> usize
+    ensures { result ≡ count_by (λ b. b == 10) (take place text.now) + 1 }
+{
+    let bytes = text.as_bytes();
+    let before = if (place as usize) < bytes.len() {
+        &bytes[..place as usize]
+    } else {
+        bytes
+    };
+    before.iter().filter(|b| **b == b'\n').count() + 1
+}
+
+/// A text has one list of tokens at most.
+pub fn one_reading()
+    ensures { OneReading }
+{}
+
+/// A text has one answer at most: its tokens or its first fault.
+pub fn one_answer()
+    ensures { OneAnswer }
+{}

@@ -46,7 +46,8 @@ impl Model for Name {
     } };
 }
 
-fn is_name_byte(b: u8) -> bool
+/// Whether a name may go on with a byte.
+pub(crate) fn is_name_byte(b: u8) -> bool
     ensures { result ≡ is_name_byte b }
 {
     b.is_ascii_alphanumeric() || b == b'_'
@@ -59,7 +60,7 @@ fn are_name_bytes(bytes: &[u8]) -> bool
 }
 
 /// Whether bytes are a letter, and then letters, digits and `_`, however many.
-pub(crate) fn is_spelled_as_name(bytes: &[u8]) -> bool
+fn is_spelled_as_name(bytes: &[u8]) -> bool
     ensures { result ≡ is_spelled_as_name bytes.now }
 {
     match bytes {

@@ -1,1 +1,3 @@
 pub mod Bits
+pub mod Tables
+pub mod Repeats

@@ -1,2 +1,16 @@
 pub mod Plain
 pub mod Views
+pub mod Tokens
+pub mod Grammar
+pub mod Expressions
+pub mod Syntax
+pub mod Heights
+pub mod Readings
+pub mod Machine
+pub mod Productions
+pub mod Mirrors
+pub mod Parts
+pub mod Stacks
+pub mod Tasks
+pub mod Lengths
+pub mod Settled

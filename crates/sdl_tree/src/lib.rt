@@ -1,12 +1,24 @@
 //! The grammar of SDL process texts: from the tokens of a text to its syntax tree.
 #![tactic(auto)]
 
+mod blocks;
+mod declarations;
 mod expression;
 mod fault;
+mod height;
+mod operands;
+mod operators;
+mod parsing;
+mod part;
+mod production;
+mod stop;
+mod tokens;
+mod transitions;
 mod tree;
 
 pub use expression::{BinaryOperator, Expression, Identifier, UnaryOperator};
 pub use fault::ParseFault;
+pub use parsing::{parse, reads_once};
 pub use tree::{
     Action, Assignment, Block, Constant, Declaration, End, Entity, Group, InputPart, Literal,
     NextState, Party, Path, Process, Route, SignalDeclaration, Sort, Start, StateClause, StatePart,

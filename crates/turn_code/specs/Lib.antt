@@ -1,0 +1,13 @@
+pub mod Values
+pub mod Operation
+pub mod Taken
+pub mod Code
+pub mod Run
+pub mod Machine
+pub mod Sets
+pub mod Transitions
+pub mod Rules
+pub mod Valid
+pub mod Fits
+pub mod Safe
+pub mod Paths

@@ -2,11 +2,18 @@
 #![tactic(auto)]
 
 mod draft;
+mod effect;
 mod input;
 mod instruction;
+pub mod laws;
+mod machine;
 mod name;
 mod numbers;
+mod operands;
+mod operation;
+mod rule;
 mod sequence;
+mod trouble;
 mod value;
 mod variable_set;
 
@@ -14,10 +21,15 @@ pub use draft::{
     Cert, Draft, DraftInput, DraftPiece, DraftProcess, DraftRoute, DraftSignal, DraftState,
     DraftVariable, PlaceFacts, Trigger,
 };
+pub use effect::{Effect, Sending};
 pub use input::{Input, Party, Place};
 pub use instruction::Instruction;
+pub use machine::{After, End, Machine, step_plain};
 pub use name::Name;
-pub use numbers::{ProcessNumber, SignalNumber, StateNumber, VariableNumber};
+pub use numbers::{ProcessNumber, SignalNumber, StateNumber, TimerNumber, VariableNumber};
+pub use operands::Operands;
+pub use rule::Rule;
 pub use sequence::Sequence;
+pub use trouble::Trouble;
 pub use value::{Sort, Value};
 pub use variable_set::VariableSet;

@@ -15,3 +15,7 @@ pub struct StateNumber(pub u8);
 /// A variable of a process, from 0 in text order.
 #[derive(Clone, Copy, PartialEq, Eq, Debug, Default)]
 pub struct VariableNumber(pub u8);
+
+/// A timer of a process, from 0 in text order.
+#[derive(Clone, Copy, PartialEq, Eq, Debug, Default)]
+pub struct TimerNumber(pub u8);

@@ -1,5 +1,7 @@
 //! Values and their sorts.
 
+ghost use Rattle.std.specs.Prelude.{◌≡◌};
+
 /// The sort of a value.
 #[derive(Clone, Copy, PartialEq, Eq, Debug)]
 pub enum Sort {
@@ -16,6 +18,20 @@ pub enum Value {
     Int(i32),
     /// A Boolean.
     Bool(bool),
+}
+
+impl Value {
+    ghost use Rattle.turn_code.specs.Values.{sort_of};
+
+    /// Its sort.
+    pub fn sort(self) -> Sort
+        ensures { result ≡ sort_of self }
+    {
+        match self {
+            Value::Int(_) => Sort::Integer,
+            Value::Bool(_) => Sort::Boolean,
+        }
+    }
 }
 
 impl Default for Sort {

@@ -1,0 +1,280 @@
+//! The port and its items.
+
+ghost use Rattle.std.specs.Prelude.{◌≡◌, ℕ, ◌+◌, ◌<◌, ◌≤◌, ◌↔◌, ◌==◌, false, List, [], ◌∷◌, ◌++◌, length, remove, slice_get, vec_len, vec_capacity, IfOk, IfSome, IfNone, OnOk, OnErr, OnSome, IsErrOf};
+ghost use Rattle.std.specs.Option.{option_copied};
+ghost use Rattle.input_port.specs.Saves.{saves};
+ghost use Rattle.input_port.specs.Queue.{is_signal, is_of_timer, signal_count, has_timer, without_timer, first_unsaved, without_first, Takes, IsQueue};
+
+use crate::save::{Saved, TIMERS};
+use arrayvec::ArrayVec;
+use std::alloc::{AllocError, Global};
+use std::marker::Model;
+use thiserror::Error;
+use turn_code::{Party, SignalNumber, TimerNumber, Value};
+
+/// A signal that has come for a process.
+#[derive(Clone, Debug, Drop)]
+pub struct Arrival {
+    pub signal: SignalNumber,
+    pub parameters: ArrayVec<Value, 4>,
+    pub sender: Party,
+}
+
+/// What waits in a port.
+#[derive(Clone, Debug, Drop)]
+pub enum Item {
+    /// A signal of another process or of the environment.
+    Signal(Arrival),
+    /// The signal of a timer of the process itself.
+    Timer(TimerNumber),
+}
+
+impl Item {
+    fn is_signal(&self) -> bool
+        ensures { result ≡ is_signal self.now }
+    {
+        matches!(self, Item::Signal(_))
+    }
+
+    fn is_of_timer(&self, timer: TimerNumber) -> bool
+        ensures { result ≡ is_of_timer timer.0 self.now }
+    {
+        match self {
+            Item::Signal(_) => false,
+            Item::Timer(own) => *own == timer,
+        }
+    }
+}
+
+/// Why a port did not take a signal.
+#[derive(Clone, Copy, Debug, PartialEq, Eq, Error)]
+pub enum PutError {
+    /// As many signals as the port may have are there.
+    #[error("Q1 Full")]
+    Full,
+}
+
+/// The items that wait for a process, in the order in which they came.
+///
+/// The signals among them are as many as its capacity at most. Each timer has a place of its own beside these.
+/// After `new` only `copy` takes memory.
+#[derive(Debug, Drop)]
+pub struct Port {
+    capacity: usize,
+    items: Vec<Item>,
+}
+
+impl Model for Port {
+    ghost use Rattle.std.specs.Prelude.{◌+◌, ◌≤◌, vec_capacity};
+    ghost use Rattle.input_port.specs.Queue.{Queue, IsQueue};
+
+    ghost Value = { Queue };
+
+    ghost view = { λ p. record { capacity = p.capacity; items = p.items.items } };
+
+    ghost invariant = { λ p. IsQueue p.capacity p.items.items × (p.capacity + 8 ≤ vec_capacity p.items) };
+}
+
+impl Port {
+    /// An empty port for this many signals, from 1 to 64.
+    pub fn new(alloc: Global, capacity: usize) -> Result<Self, AllocError>
+        requires least { 1 ≤ capacity }
+        requires most { capacity ≤ 64 }
+        ensures { IfOk result (λ port. port ≡ record { capacity = capacity; items = [] }) }
+    {
+        Ok(Port {
+            capacity,
+            items: Vec::with_capacity(alloc, capacity + usize::from(TIMERS))?,
+        })
+    }
+
+    /// An equal port.
+    pub fn copy(&self) -> Result<Self, AllocError>
+        ensures { IfOk result (λ port. port ≡ self.now) }
+    {
+        let alloc = *self.items.allocator();
+        let mut items = Vec::with_capacity(alloc, self.capacity + usize::from(TIMERS))?;
+        copy_to(&mut items, &self.items)?;
+        Ok(Port {
+            capacity: self.capacity,
+            items,
+        })
+    }
+
+    /// How many signals the port may have.
+    pub fn capacity(&self) -> usize
+        ensures value { result ≡ self.now.capacity }
+        ensures least { 1 ≤ result }
+        ensures most { result ≤ 64 }
+    {
+        self.capacity
+    }
+
+    /// The items, in order.
+    pub fn items(&self) -> &[Item]
+        ensures value { result.now ≡ self.now.items }
+        ensures sound { IsQueue self.now.capacity self.now.items }
+    {
+        self.items.as_slice()
+    }
+
+    /// How many items there are: 72 at most.
+    pub fn len(&self) -> usize
+        ensures value { result ≡ length self.now.items }
+        ensures in_range { result ≤ self.now.capacity + 8 }
+    {
+        self.items.len()
+    }
+
+    /// Whether there is no item.
+    pub fn is_empty(&self) -> bool
+        ensures { result ≡ (length self.now.items == 0) }
+    {
+        self.items.is_empty()
+    }
+
+    /// How many of the items are signals.
+    pub fn signals(&self) -> usize
+        ensures value { result ≡ signal_count self.now.items }
+        ensures in_range { result ≤ self.now.capacity }
+    {
+        count_signals(&self.items)
+    }
+
+    /// Whether a timer has an item here.
+    pub fn has_timer(&self, timer: TimerNumber) -> bool
+        ensures { result ≡ has_timer self.now.items timer.0 }
+    {
+        any_of_timer(&self.items, timer)
+    }
+
+    /// Puts a signal behind the other items.
+    ///
+    /// `Q1 Full` where as many signals as the port may have are there. Then nothing changes.
+    pub fn put(&mut self, arrival: Arrival) -> Result<(), PutError>
+        ensures full { IsErrOf result PutError.Full ↔ (signal_count self.old.items ≡ self.old.capacity) }
+        ensures ok { OnOk result (self.new ≡ record self.old { items = self.old.items ++ Item.Signal arrival ∷ [] }) }
+        ensures refused { OnErr result (self.new ≡ self.old) }
+    {
+        if self.signals() == self.capacity {
+            return Err(PutError::Full);
+        }
+        push_in_room(&mut self.items, Item::Signal(arrival));
+        Ok(())
+    }
+
+    /// Puts the signal of a timer, which has no item here, behind the other items.
+    pub fn put_timer(&mut self, timer: TimerNumber)
+        requires number { timer.0 < TIMERS }
+        requires absent { has_timer self.old.items timer.0 ≡ false }
+        ensures { self.new ≡ record self.old { items = self.old.items ++ Item.Timer timer ∷ [] } }
+    {
+        push_in_room(&mut self.items, Item::Timer(timer));
+    }
+
+    /// The first item that isn't saved.
+    pub fn first(&self, saved: &Saved) -> Option<&Item>
+        ensures { option_copied result ≡ first_unsaved (saves saved.now) self.now.items }
+    {
+        let place = place_of_first(&self.items, saved)?;
+        Some(&self.items[place])
+    }
+
+    /// Takes the first item that isn't saved out of the port. The others stay, in their order.
+    pub fn take(&mut self, saved: &Saved) -> Option<Item>
+        ensures item { result ≡ first_unsaved (saves saved.now) self.old.items }
+        ensures rest { self.new ≡ record self.old { items = without_first (saves saved.now) self.old.items } }
+
+        // The same, said by places: only saved items stood before it.
+        ensures order { IfSome result (λ item. Takes (saves saved.now) self.old.items item self.new.items) }
+    {
+        let place = place_of_first(&self.items, saved)?;
+        Some(self.items.remove(place))
+    }
+
+    /// Drops the item of a timer, if it has one here.
+    pub fn drop_timer(&mut self, timer: TimerNumber)
+        ensures { self.new ≡ record self.old { items = without_timer self.old.items timer.0 } }
+    {
+        remove_timer(&mut self.items, timer);
+    }
+
+    /// Drops all items, those of timers too.
+    pub fn clear(&mut self)
+        ensures { self.new ≡ record self.old { items = [] } }
+    {
+        self.items.clear();
+    }
+}
+
+// How many of the items are signals.
+fn count_signals(items: &[Item]) -> usize
+    ensures { result ≡ signal_count items.now }
+{
+    items.iter().filter(|item| item.is_signal()).count()
+}
+
+// Whether one of the items is that of a timer.
+fn any_of_timer(items: &[Item], timer: TimerNumber) -> bool
+    ensures { result ≡ has_timer items.now timer.0 }
+{
+    items.iter().any(|item| item.is_of_timer(timer))
+}
+
+// The place of the first item that isn't saved.
+fn place_of_first(items: &[Item], saved: &Saved) -> Option<usize>
+    ensures found { IfSome result (λ place. slice_get items.now place ≡ first_unsaved (saves saved.now) items.now) }
+    ensures in_range { IfSome result (λ place. place < length items.now) }
+    ensures left { IfSome result (λ place. remove items.now place ≡ without_first (saves saved.now) items.now) }
+    ensures none { IfNone result (first_unsaved (saves saved.now) items.now ≡ None) }
+    ensures all_left { IfNone result (without_first (saves saved.now) items.now ≡ items.now) }
+{
+    for (place, item) in items.iter().enumerate() {
+        if !saved.has(item) {
+            return Some(place);
+        }
+    }
+    None
+}
+
+// Appends an item where there is room.
+fn push_in_room(items: &mut Vec<Item>, item: Item)
+    requires { vec_len items.old < vec_capacity items.old }
+    ensures items { items.new.items ≡ items.old.items ++ item ∷ [] }
+    ensures capacity { vec_capacity items.old ≤ vec_capacity items.new }
+{
+    items.push(item).unwrap();
+}
+
+// An equal item.
+fn copy_of(item: &Item) -> Result<Item, AllocError>
+    ensures { IfOk result (λ copy. copy ≡ item.now) }
+{
+    match item {
+        Item::Signal(arrival) => Ok(Item::Signal(Arrival {
+            signal: arrival.signal,
+            parameters: arrival.parameters.clone()?,
+            sender: arrival.sender,
+        })),
+        Item::Timer(timer) => Ok(Item::Timer(*timer)),
+    }
+}
+
+// Appends a copy of each item.
+fn copy_to(copies: &mut Vec<Item>, items: &[Item]) -> Result<(), AllocError>
+    ensures items { OnOk result (copies.new.items ≡ copies.old.items ++ items.now) }
+    ensures capacity { OnOk result (vec_capacity copies.old ≤ vec_capacity copies.new) }
+{
+    for item in items {
+        copies.push(copy_of(item)?)?;
+    }
+    Ok(())
+}
+
+// Removes the item of a timer.
+fn remove_timer(items: &mut Vec<Item>, timer: TimerNumber)
+    ensures items { items.new.items ≡ without_timer items.old.items timer.0 }
+    ensures capacity { vec_capacity items.new ≡ vec_capacity items.old }
+{
+    items.retain(|item| !item.is_of_timer(timer));
+}

@@ -1,0 +1,87 @@
+-- One direction of a link: a sender, a receiver, and a line each way, which may lose units and delay them, and never
+-- changes their order.
+use Rattle.std.specs.Prelude.{◌≡◌, ℕ, Bool, if◌then◌else◌, List, [], ◌∷◌, ◌++◌, Option, is_some}
+use Rattle.std.specs.Option.{option_to_list}
+use Rattle.resend_store.specs.declared.messages.Msu.{Msu}
+use Rattle.resend_store.specs.declared.messages.Mode.{Mode}
+use Rattle.resend_store.specs.declared.messages.Outgoing.{Outgoing}
+use Rattle.resend_store.specs.Window.{Window, start, next}
+use Rattle.resend_store.specs.Intake.{Intake, Hearing, first_intake, hear}
+use Rattle.resend_store.specs.Runs.{Call, put, next_unit, on_back, step, brought}
+use Rattle.resend_store.specs.Hearings.{is_accept}
+
+-- what a unit brings back: the number of the message accepted last, and the bit
+pub record Answer : Type 0 where
+  pub bsn : ℕ
+  pub bib : ℕ
+
+pub record Exchange : Type 0 where
+  pub sender : Window
+  pub receiver : Intake
+  -- under way to the receiver, and back, what arrives first at the front
+  pub forth : List Outgoing
+  pub back : List Answer
+  -- the messages that the sender took, and those that the receiver accepted, in order
+  pub taken : List Msu
+  pub delivered : List Msu
+
+pub data Event : Type 0 where
+  -- the sender is given a message
+  gets : Msu → Event
+  -- the sender sends a unit; the receiver answers
+  sends : Event
+  answers : Event
+  -- the first unit under way arrives, or is lost
+  arrives : Event
+  is_lost : Event
+  -- the same on the way back
+  comes_back : Event
+  is_lost_back : Event
+
+abbrev pub exchange_start : Mode → Exchange
+exchange_start mode = record { sender = start mode; receiver = first_intake mode; forth = []; back = []; taken = []; delivered = [] }
+
+-- a unit arrives at the receiver
+abbrev pub hears : Exchange → Outgoing → Exchange
+hears x u =
+    let heard = hear x.receiver u.fsn u.fib (is_some u.msu) in
+    record x {
+      receiver = heard.known;
+      delivered = x.delivered ++ (if is_accept heard.verdict then option_to_list u.msu else []);
+    }
+
+abbrev pub first_arrives : Exchange → List Outgoing → Exchange
+first_arrives x [] = x
+first_arrives x (u ∷ us) = hears (record x { forth = us }) u
+
+abbrev pub first_is_lost : Exchange → List Outgoing → Exchange
+first_is_lost x [] = x
+first_is_lost x (u ∷ us) = record x { forth = us }
+
+abbrev pub first_comes_back : Exchange → List Answer → Exchange
+first_comes_back x [] = x
+first_comes_back x (b ∷ bs) = record x { back = bs; sender = step x.sender (on_back b.bsn b.bib) }
+
+abbrev pub first_is_lost_back : Exchange → List Answer → Exchange
+first_is_lost_back x [] = x
+first_is_lost_back x (b ∷ bs) = record x { back = bs }
+
+abbrev pub exchange_step : Exchange → Event → Exchange
+exchange_step x (gets m) = record x { sender = step x.sender (put m); taken = x.taken ++ brought x.sender (put m) }
+exchange_step x sends = record x { sender = (next x.sender).left; forth = x.forth ++ (next x.sender).unit ∷ [] }
+exchange_step x answers = record x { back = x.back ++ record { bsn = x.receiver.last; bib = x.receiver.bib } ∷ [] }
+exchange_step x arrives = first_arrives x x.forth
+exchange_step x is_lost = first_is_lost x x.forth
+exchange_step x comes_back = first_comes_back x x.back
+exchange_step x is_lost_back = first_is_lost_back x x.back
+
+abbrev pub exchange_after : Exchange → List Event → Exchange
+exchange_after x [] = x
+exchange_after x (e ∷ es) = exchange_after (exchange_step x e) es
+
+-- Whatever happens, what was accepted is a beginning of what the sender took: nothing is lost between, nothing comes
+-- twice, and the order stays.
+abbrev pub DeliversInOrder : Type 0
+DeliversInOrder = (mode : Mode) (events : List Event) →
+    let x = exchange_after (exchange_start mode) events in
+    (missing : List Msu) × (x.taken ≡ x.delivered ++ missing)

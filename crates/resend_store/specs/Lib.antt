@@ -1,0 +1,12 @@
+pub mod Numbers
+pub mod Messages
+pub mod Stored
+pub mod StoreInside
+pub mod Window
+pub mod Steps
+pub mod Runs
+pub mod Whole
+pub mod Hearings
+pub mod Exchange
+pub mod SenderInside
+pub mod Intake

@@ -1,0 +1,185 @@
+-- What a sender keeps, and what each of its calls makes of it (Q.703: basic error correction, and error correction
+-- by preventive cyclic retransmission).
+use Rattle.std.specs.Prelude.{◌≡◌, ℕ, ◌+◌, ◌-◌, ◌<◌, ◌≤◌, ◌==◌, ◌&&◌, nat_lt, min, Bool, true, false, if◌then◌else◌, List, [], ◌∷◌, ◌++◌, length, take, drop, All, Option, Some, None, slice_get}
+use Rattle.resend_store.specs.declared.messages.Msu.{Msu}
+use Rattle.resend_store.specs.declared.messages.Mode.{Mode}
+use Rattle.resend_store.specs.declared.messages.Mode.TheVariants.{Basic, Cyclic}
+use Rattle.resend_store.specs.declared.messages.Outgoing.{Outgoing}
+use Rattle.resend_store.specs.declared.messages.TheConstants.{MAX_UNACKNOWLEDGED, MAX_KEPT}
+use Rattle.resend_store.specs.Numbers.{plus, minus}
+use Rattle.resend_store.specs.Messages.{IsMessage, reaches_limit}
+
+-- The messages beyond the last acknowledged one, and the numbers that go with them.
+pub record Window : Type 0 where
+  pub mode : Mode
+  -- oldest first: those that are sent and not acknowledged, then those that wait
+  pub kept : List Msu
+  -- how many of them are sent
+  pub sent : ℕ
+  -- the forward sequence number of the first of them
+  pub first : ℕ
+  -- the forward indicator bit that goes out
+  pub fib : ℕ
+  -- so many of the sent ones, the last of them, are still to go again in the retransmission under way
+  pub again : ℕ
+  -- whether that retransmission is a round of forced retransmission
+  pub forced : Bool
+  -- the place of the sent one that the ordinary cycle repeats next
+  pub turn : ℕ
+
+-- those that are sent and not acknowledged
+abbrev pub unacknowledged : Window → List Msu
+unacknowledged w = take w.sent w.kept
+
+-- those that were never sent
+abbrev pub waiting : Window → List Msu
+waiting w = drop w.sent w.kept
+
+-- the forward sequence number of the kept message at a place
+abbrev pub number_at : Window → ℕ → ℕ
+number_at w i = plus w.first i
+
+-- the number of the last message that was acknowledged
+abbrev pub last_acknowledged : Window → ℕ
+last_acknowledged w = minus w.first 1
+
+-- what a mode leaves unused: retransmission on request has no rounds and no cycle; cyclic retransmission has one
+-- indicator, and repeats places by a round alone
+abbrev pub UsesOnly : Mode → Window → Type 0
+UsesOnly Basic w = (w.forced ≡ false) × (w.turn ≡ 0)
+UsesOnly Cyclic w = (w.fib ≡ 1) × (w.forced ≡ false → w.again ≡ 0)
+
+-- what holds of each window that a sender keeps
+pub record IsWindow (w : Window) : Type 0 where
+  pub messages : All IsMessage w.kept
+  pub within_kept : w.sent ≤ length w.kept
+  pub within_window : w.sent ≤ MAX_UNACKNOWLEDGED
+  pub within_store : length w.kept ≤ MAX_KEPT
+  pub number : w.first < 128
+  pub indicator : w.fib < 2
+  pub again_sent : w.again ≤ w.sent
+  pub turn_sent : w.turn ≤ w.sent - 1
+  pub by_mode : UsesOnly w.mode w
+
+-- nothing put yet, and the numbers at their start
+abbrev pub start : Mode → Window
+start mode = record { mode = mode; kept = []; sent = 0; first = 0; fib = 1; again = 0; forced = false; turn = 0 }
+
+-- one more message waits
+abbrev pub with_put : Window → Msu → Window
+with_put w m = record w { kept = w.kept ++ m ∷ [] }
+
+-- Whether a further message may go out for the first time: one waits, and the window is open.
+abbrev pub may_send : Window → Bool
+may_send w = nat_lt w.sent (length w.kept) && nat_lt w.sent MAX_UNACKNOWLEDGED
+
+-- Whether the unacknowledged messages have to go again without being asked for.
+abbrev pub at_limit : Window → Bool
+at_limit w = reaches_limit (unacknowledged w)
+
+-- What a call to send gives: the unit, and what is kept then.
+pub record Sending : Type 0 where
+  pub unit : Outgoing
+  pub left : Window
+
+-- the message unit for the kept message at a place
+abbrev pub unit_at : Window → ℕ → Outgoing
+unit_at w i = record { fsn = number_at w i; fib = w.fib; msu = slice_get w.kept i }
+
+-- A fill-in unit has the number before that of the next new message.
+abbrev pub fill_in : Window → Sending
+fill_in w = record { unit = record { fsn = minus (number_at w w.sent) 1; fib = w.fib; msu = None }; left = w }
+
+-- The next one of the retransmission under way goes again.
+abbrev pub repeats : Window → Sending
+repeats w = record { unit = unit_at w (w.sent - w.again); left = record w { again = w.again - 1 } }
+
+-- forced retransmission, at the beginning of a round
+abbrev pub round : Window → Window
+round w = record w { again = w.sent; forced = true }
+
+-- after a new message: in cyclic retransmission one that reaches a limit begins forced retransmission
+abbrev pub after_new : Mode → Window → Window
+after_new Basic w = w
+after_new Cyclic w = if at_limit w then round w else w
+
+-- The first waiting message goes out for the first time.
+abbrev pub sends_new : Window → Sending
+sends_new w = record { unit = unit_at w w.sent; left = after_new w.mode (record w { sent = w.sent + 1 }) }
+
+-- The ordinary cycle repeats one, and moves on: after the last sent one comes the first.
+abbrev pub cycles : Window → Sending
+cycles w = record {
+  unit = unit_at w w.turn;
+  left = record w { turn = if w.turn + 1 == w.sent then 0 else w.turn + 1 };
+}
+
+-- Basic error correction: what is to be repeated, then new messages, then fill-in units.
+abbrev pub next_basic : Window → Sending
+next_basic w = if nat_lt 0 w.again then repeats w else (if may_send w then sends_new w else fill_in w)
+
+-- Cyclic, while nothing is forced: new messages, then the unacknowledged ones in turn, then fill-in units.
+abbrev pub next_ordinary : Window → Sending
+next_ordinary w = if may_send w then sends_new w else (if nat_lt 0 w.sent then cycles w else fill_in w)
+
+-- Cyclic, while retransmission is forced: the rest of the round; after it another round, while a limit is reached.
+abbrev pub next_forced : Window → Sending
+next_forced w =
+    if nat_lt 0 w.again then repeats w
+    else (if at_limit w then repeats (round w) else next_ordinary (record w { forced = false }))
+
+abbrev pub next_by : Mode → Window → Sending
+next_by Basic w = next_basic w
+next_by Cyclic w = if w.forced then next_forced w else next_ordinary w
+
+-- What goes out next.
+abbrev pub next : Window → Sending
+next w = next_by w.mode w
+
+-- How many messages a backward sequence number acknowledges.
+abbrev pub count_by : Window → ℕ → ℕ
+count_by w bsn = minus bsn (last_acknowledged w)
+
+-- The first so many are acknowledged, and gone from what is kept. Those of them that were still to go again need not.
+abbrev pub without : Window → ℕ → Window
+without w n = record w {
+  kept = drop n w.kept;
+  sent = w.sent - n;
+  first = plus w.first n;
+  again = min w.again (w.sent - n);
+  turn = w.turn - n;
+}
+
+-- A backward indicator bit unlike the forward one that goes out asks for retransmission.
+abbrev pub asked : Mode → ℕ → Window → Window
+asked Basic bib w = if bib == w.fib then w else record w { fib = 1 - w.fib; again = w.sent }
+asked Cyclic bib w = w
+
+-- after a unit whose backward number is accepted
+abbrev pub after_back : Window → ℕ → ℕ → Window
+after_back w bsn bib = asked w.mode bib (without w (count_by w bsn))
+
+-- What stands beyond the message that the far side has last accepted; what was never sent, where that is not known.
+abbrev pub retrieved : Window → Option ℕ → List Msu
+retrieved w (Some fsn) = drop (count_by w fsn) w.kept
+retrieved w None = waiting w
+
+-- how many are acknowledged by that
+abbrev pub count_known : Window → Option ℕ → ℕ
+count_known w (Some fsn) = count_by w fsn
+count_known w None = 0
+
+-- An empty window, where the numbers go on after the last acknowledged message.
+abbrev pub emptied : Window → Option ℕ → Window
+emptied w fsn = record w {
+  kept = [];
+  sent = 0;
+  first = plus w.first (count_known w fsn);
+  again = 0;
+  forced = false;
+  turn = 0;
+}
+
+-- Everything kept waits again, the unacknowledged ones first, and the numbers are at their start.
+abbrev pub refreshed : Window → Window
+refreshed w = record w { sent = 0; first = 0; fib = 1; again = 0; forced = false; turn = 0 }

@@ -1,0 +1,25 @@
+//! Both error corrections of Q.703 for one signalling link: what is sent and not acknowledged yet, what goes out next,
+//! and which received messages are accepted.
+#![tactic(auto)]
+
+mod laws;
+mod messages;
+mod numbers;
+mod receiving;
+mod refusals;
+mod sending;
+mod store;
+#[cfg(test)]
+mod tests;
+
+pub use laws::{
+    accepted_units_are_in_turn, kept_window_stands_for_all_messages,
+    messages_are_delivered_in_order, new_messages_go_out_in_order,
+};
+pub use messages::{
+    FORCED_MESSAGES, FORCED_OCTETS, MAX_KEPT, MAX_UNACKNOWLEDGED, MAX_WAITING, Mode, Msu, Outgoing,
+    Verdict,
+};
+pub use receiving::Receiver;
+pub use refusals::{AckError, PutError, RetrieveError, UnitError};
+pub use sending::Sender;

@@ -1,0 +1,90 @@
+//! Messages, and what a sender and a receiver answer.
+ghost use Rattle.std.specs.Prelude.{◌≡◌, ◌≤◌, ⊤};
+ghost use Rattle.resend_store.specs.Messages.{octets_of};
+
+use arrayvec::ArrayVec;
+use std::alloc::AllocError;
+
+/// The most messages that are sent and not acknowledged.
+pub const MAX_UNACKNOWLEDGED: usize = 127;
+
+/// How many waiting messages leave no room for `Sender::put`.
+pub const MAX_WAITING: usize = 1024;
+
+/// The most messages that a sender keeps, unacknowledged and waiting ones together.
+pub const MAX_KEPT: usize = 1151;
+
+/// How many unacknowledged messages begin forced retransmission (Q.703's N1).
+pub const FORCED_MESSAGES: usize = 127;
+
+/// How many unacknowledged octets of SIO and SIF begin forced retransmission (Q.703's N2).
+pub const FORCED_OCTETS: usize = 8192;
+
+/// Which error correction a link uses.
+#[derive(Clone, Copy, Debug, PartialEq, Eq)]
+pub enum Mode {
+    /// Retransmission on request, by inverted indicator bits (Q.703, basic error correction).
+    Basic,
+    /// Preventive cyclic retransmission (Q.703), for links with a long delay.
+    Cyclic,
+}
+
+/// What a message signal unit carries.
+#[derive(Debug, Drop, PartialEq, Eq)]
+pub struct Msu {
+    /// Service information octet.
+    pub sio: u8,
+    /// Signalling information field, of 2 octets or more where a sender takes it.
+    pub sif: ArrayVec<u8, 272>,
+}
+
+impl Clone for Msu {
+    ghost is_clone = { λ m n. n ≡ m };
+
+    ghost is_infallible = { λ _. ⊤ };
+
+    fn clone(&self) -> Result<Msu, AllocError> {
+        Ok(self.copied())
+    }
+}
+
+impl Msu {
+    /// An equal message, made without memory.
+    pub fn copied(&self) -> Msu
+        ensures { result ≡ self.now }
+    {
+        let mut sif = ArrayVec::new();
+        let _fits = sif.try_extend_from_slice(self.sif.as_slice()).is_ok();
+        Msu { sio: self.sio, sif }
+    }
+
+    /// The octets of SIO and SIF.
+    pub(crate) fn octets(&self) -> u16
+        ensures value { result ≡ octets_of self.now }
+        ensures within { result ≤ 273 }
+    {
+        self.sif.len() as u16 + 1
+    }
+}
+
+/// What goes out in the next unit, beside the backward number and bit.
+#[derive(Debug, Drop, PartialEq, Eq)]
+pub struct Outgoing {
+    /// Forward sequence number, 0 to 127.
+    pub fsn: u8,
+    /// Forward indicator bit, 0 or 1.
+    pub fib: u8,
+    /// The message, new or repeated; none in a fill-in unit.
+    pub msu: Option<Msu>,
+}
+
+/// What a receiver does with a unit.
+#[derive(Clone, Copy, Debug, PartialEq, Eq)]
+pub enum Verdict {
+    /// The message is the next in turn, and is to be delivered.
+    Accept,
+    /// The unit brings nothing new.
+    Discard,
+    /// A message was lost: the far side is asked to repeat.
+    Nack,
+}

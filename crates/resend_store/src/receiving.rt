@@ -1,0 +1,105 @@
+//! The receiving side.
+ghost use Rattle.std.specs.Prelude.{◌≡◌, ◌<◌};
+ghost use Rattle.resend_store.specs.Intake.{first_intake, hear, hear_unlike};
+
+use crate::messages::{Mode, Verdict};
+use crate::refusals::UnitError;
+use std::marker::Model;
+
+/// Which messages of the far side were accepted, and what goes back in each unit (Q.703, sections 5 and 6).
+#[derive(Clone, Debug, Drop)]
+pub struct Receiver {
+    mode: Mode,
+    last: u8,
+    bib: u8,
+    nack_out: bool,
+}
+
+impl Model for Receiver {
+    ghost use Rattle.resend_store.specs.Intake.{Intake, IsIntake};
+
+    ghost Value = { Intake };
+
+    ghost view = { λ r. record { mode = r.mode; last = r.last; bib = r.bib; nack_out = r.nack_out } };
+
+    ghost invariant = { λ r. IsIntake (record { mode = r.mode; last = r.last; bib = r.bib; nack_out = r.nack_out }) };
+}
+
+impl Receiver {
+    /// One that has accepted nothing: it sends the number 127 and the bit 1.
+    pub fn new(mode: Mode) -> Receiver
+        ensures { result ≡ first_intake mode }
+    {
+        Receiver {
+            mode,
+            last: 127,
+            bib: 1,
+            nack_out: false,
+        }
+    }
+
+    /// Begins anew, as when the link is aligned again.
+    pub fn fresh(&mut self)
+        ensures { self.new ≡ first_intake self.old.mode }
+    {
+        self.last = 127;
+        self.bib = 1;
+        self.nack_out = false;
+    }
+
+    /// The backward sequence number to send, 0 to 127: that of the message accepted last.
+    pub fn bsn(&self) -> u8
+        ensures value { result ≡ self.now.last }
+        ensures within { result < 128 }
+    {
+        self.last
+    }
+
+    /// The backward indicator bit to send, 0 or 1.
+    pub fn bib(&self) -> u8
+        ensures value { result ≡ self.now.bib }
+        ensures within { result < 2 }
+    {
+        self.bib
+    }
+
+    /// Takes the forward number and bit of a unit without errors, and whether it carries a message.
+    ///
+    /// The next message in turn is accepted, and anything that tells of a lost one is refused by inverting the bit to send;
+    /// from then on units are discarded until the far side's bit agrees. With cyclic retransmission bits are ignored, and
+    /// all but the next message is discarded.
+    ///
+    /// `BadIndicator` where the bit changed though no negative acknowledgement is out. Nothing changes then.
+    pub fn on_unit(&mut self, fsn: u8, fib: u8, has_msu: bool) -> Result<Verdict, UnitError>
+        ensures verdict { result ≡ (hear self.old fsn fib has_msu).verdict }
+        ensures known { self.new ≡ (hear self.old fsn fib has_msu).known }
+    {
+        if self.mode == Mode::Basic {
+            if fib != self.bib {
+                return self.unlike();
+            }
+            self.nack_out = false;
+        }
+        if has_msu && fsn == (self.last + 1) % 128 {
+            self.last = fsn;
+            return Ok(Verdict::Accept);
+        }
+        if self.mode == Mode::Cyclic || fsn == self.last {
+            return Ok(Verdict::Discard);
+        }
+        self.bib = 1 - self.bib;
+        self.nack_out = true;
+        Ok(Verdict::Nack)
+    }
+
+    /// What a unit gives whose bit differs from the one that goes out.
+    fn unlike(&self) -> Result<Verdict, UnitError>
+        ensures { result ≡ (hear_unlike self.now).verdict }
+    {
+        if self.nack_out {
+            Ok(Verdict::Discard)
+        } else {
+            Err(UnitError::BadIndicator)
+        }
+    }
+}

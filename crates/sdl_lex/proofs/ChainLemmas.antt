@@ -1,0 +1,34 @@
+-- One more item at the end of what was read.
+use Rattle.std.proofs.Common.{◌≡◌, ℕ, List, [], ◌∷◌, ◌++◌, refl, Option, Some, None}
+use Rattle.sdl_lex.specs.declared.lexemes.Token.{Token}
+use Rattle.sdl_lex.specs.declared.lexemes.Lexeme.{Lexeme}
+use Rattle.sdl_lex.specs.Scan.{Stands}
+use Rattle.sdl_lex.specs.Lexed.{IsBlank, IsToken, Lexes, ended, skipped, taken}
+
+pub Lexes-skip : {text : List ℕ} {mid from : ℕ} {tokens : List Token} (next : ℕ)
+    → Lexes text mid from tokens → IsBlank text mid next → Lexes text next from tokens
+Lexes-skip next ended blank = skipped next blank ended
+Lexes-skip next (skipped n b rest) blank = skipped n b (Lexes-skip next rest blank)
+Lexes-skip next (taken t s i rest) blank = taken t s i (Lexes-skip next rest blank)
+
+pub Lexes-take : {text : List ℕ} {mid from : ℕ} {tokens : List Token} (token : Token)
+    → Lexes text mid from tokens → token.start ≡ mid → IsToken text token → Lexes text token.end from (tokens ++ token ∷ [])
+Lexes-take token ended start here = taken token start here ended
+Lexes-take token (skipped n b rest) start here = skipped n b (Lexes-take token rest start here)
+Lexes-take token (taken t s i rest) start here = taken t s i (Lexes-take token rest start here)
+
+-- the same of what the lexer finds
+pub Lexes-found : (text : List ℕ) (mid end : ℕ) (found : Option Lexeme) (lexeme : Lexeme) (tokens more : List Token)
+    → Lexes text mid 0 tokens → Stands text mid found end → found ≡ Some lexeme
+    → more ≡ tokens ++ record { lexeme = lexeme; start = mid; end = end } ∷ [] → Lexes text end 0 more
+Lexes-found text mid end (Some l) lexeme tokens more before here is longer =
+    let same : l ≡ lexeme = cc in
+    let step : Lexes text end 0 (tokens ++ record { lexeme = l; start = mid; end = end } ∷ []) =
+    Lexes-take (record { lexeme = l; start = mid; end = end }) before refl here in
+    rw (longer, ← same) step
+Lexes-found text mid end None lexeme tokens more before here is longer = absurd (cc)
+
+pub Lexes-none : (text : List ℕ) (mid end : ℕ) (found : Option Lexeme) (tokens : List Token)
+    → Lexes text mid 0 tokens → Stands text mid found end → found ≡ None → Lexes text end 0 tokens
+Lexes-none text mid end None tokens before here is = Lexes-skip end before here
+Lexes-none text mid end (Some l) tokens before here is = absurd (cc)

@@ -1,0 +1,165 @@
+-- What the tokens of a text are, and what keeps a text from having them.
+use Rattle.std.specs.Prelude.{Vec, ◌≡◌, ℕ, ◌+◌, ◌-◌, ◌*◌, ◌<◌, ◌≤◌, ◌==◌, ◌⊎◌, Bool, true, false, IsTrue, ◌||◌, List, [], ◌∷◌, length, fold, slice_index, slice_range, EachIndex, Result, Ok, Err}
+use Rattle.std.specs.Char.{is_ascii_alphabetic, is_ascii_digit}
+use Rattle.sdl_lex.specs.declared.TheConstants.{MAX_NAME, MAX_NUMBER, MAX_TEXT}
+use Rattle.sdl_lex.specs.declared.lexemes.Word.{Word}
+use Rattle.sdl_lex.specs.declared.lexemes.Symbol.{Symbol}
+use Rattle.sdl_lex.specs.declared.lexemes.Symbol.TheVariants.{Colon, Slash, Less, Greater}
+use Rattle.sdl_lex.specs.declared.lexemes.Lexeme.{Lexeme}
+use Rattle.sdl_lex.specs.declared.lexemes.Lexeme.TheVariants.{Name as a_name, Number as a_number, Word as a_word, Symbol as a_symbol}
+use Rattle.sdl_lex.specs.declared.lexemes.Token.{Token}
+use Rattle.sdl_lex.specs.declared.lexemes.LexFault.{LexFault}
+use Rattle.sdl_lex.specs.declared.lexemes.LexFault.TheVariants.{BadCharacter, OpenComment, TooLong, NoMemory}
+use Rattle.sdl_lex.specs.Spelling.{IsName, SameName, is_name_byte, is_spelled_as_name}
+use Rattle.sdl_lex.specs.Texts.{word_text, symbol_text}
+
+-- A text is the list of its bytes, and a place is an index into it. Past the end `slice_index` gives 0,
+-- which is no white space and continues no token.
+
+-- space, tab, carriage return and line feed
+abbrev pub is_white : ℕ → Bool
+is_white b = (b == 32) || (b == 9) || (b == 13) || (b == 10)
+
+-- `/*` stands at a place
+abbrev pub OpensComment : List ℕ → ℕ → Type 0
+OpensComment text at = (slice_index text at ≡ 47) × (slice_index text (at + 1) ≡ 42)
+
+-- `*/` stands at a place
+abbrev pub ClosesComment : List ℕ → ℕ → Type 0
+ClosesComment text at = (slice_index text at ≡ 42) × (slice_index text (at + 1) ≡ 47)
+
+-- a comment stands between two places: it ends with the first `*/` after its `/*`
+pub record IsComment (text : List ℕ) (at next : ℕ) : Type 0 where
+  pub opens : OpensComment text at
+  pub last : ℕ
+  pub after : at + 2 ≤ last
+  pub closes : ClosesComment text last
+  pub first : (k : ℕ) → at + 2 ≤ k → k < last → ClosesComment text k → ⊥
+  pub ends : next ≡ last + 2
+
+-- a comment without end begins at a place
+pub record IsOpenComment (text : List ℕ) (at : ℕ) : Type 0 where
+  pub opens : OpensComment text at
+  pub endless : (k : ℕ) → at + 2 ≤ k → ClosesComment text k → ⊥
+
+-- one or more digits
+abbrev pub IsNumber : List ℕ → Type 0
+IsNumber bytes = (0 < length bytes) × EachIndex bytes (λ k. is_ascii_digit (slice_index bytes k) ≡ true)
+
+-- the number that digits stand for
+abbrev pub decimal : List ℕ → ℕ
+decimal digits = fold (λ n digit. 10 * n + (digit - 48)) 0 digits
+
+-- a token's text: a name is no reserved word, in whatever case
+abbrev pub Spells : List ℕ → Lexeme → Type 0
+Spells bytes (a_name n) = (n ≡ bytes) × IsName bytes × ((w : Word) → SameName bytes (word_text w) → ⊥)
+Spells bytes (a_number n) = IsNumber bytes × (n ≡ decimal bytes) × (n ≤ MAX_NUMBER)
+Spells bytes (a_word w) = SameName bytes (word_text w)
+Spells bytes (a_symbol s) = bytes ≡ symbol_text s
+
+-- a byte that makes a longer symbol of the one before it, or of `/` the beginning of a comment
+abbrev pub continues_symbol : Symbol → ℕ → Bool
+continues_symbol Colon b = b == 61
+continues_symbol Slash b = (b == 61) || (b == 42)
+continues_symbol Less b = b == 61
+continues_symbol Greater b = b == 61
+continues_symbol _ b = false
+
+-- a byte that belongs to the token that it follows
+abbrev pub continues : Lexeme → ℕ → Bool
+continues (a_name _) b = is_name_byte b
+continues (a_number _) b = is_ascii_digit b
+continues (a_word _) b = is_name_byte b
+continues (a_symbol s) b = continues_symbol s b
+
+-- a token stands in a text: its slice spells it, and it is the longest
+pub record IsToken (text : List ℕ) (token : Token) : Type 0 where
+  pub ordered : token.start ≤ token.end
+  pub inside : token.end ≤ length text
+  pub spelled : Spells (slice_range text token.start token.end) token.lexeme
+  pub longest : continues token.lexeme (slice_index text token.end) ≡ false
+
+-- white space or a comment stands between two places
+pub data IsBlank (text : List ℕ) (at : ℕ) : ℕ → Type 0 where
+  white : is_white (slice_index text at) ≡ true → IsBlank text at (at + 1)
+  comment : {next : ℕ} → IsComment text at next → IsBlank text at next
+
+-- From a place to another a text is white space, comments and these tokens, by what stands at the place.
+pub data Lexes (text : List ℕ) (to : ℕ) : ℕ → List Token → Type 0 where
+  ended : Lexes text to to []
+  skipped : {at : ℕ} {tokens : List Token} (next : ℕ) → IsBlank text at next
+      → Lexes text to next tokens → Lexes text to at tokens
+  taken : {at : ℕ} {tokens : List Token} (token : Token) → token.start ≡ at → IsToken text token
+      → Lexes text to token.end tokens → Lexes text to at (token ∷ tokens)
+
+-- these are the tokens of the text
+abbrev pub Lexed : List ℕ → List Token → Type 0
+Lexed text tokens = Lexes text (length text) 0 tokens
+
+-- a byte with which no token, white space or comment begins
+pub record IsBad (b : ℕ) : Type 0 where
+  pub no_letter : is_ascii_alphabetic b ≡ false
+  pub no_digit : is_ascii_digit b ≡ false
+  pub no_white : is_white b ≡ false
+  pub no_symbol : (s : Symbol) → symbol_text s ≡ b ∷ [] → ⊥
+
+-- a name of more than 32 bytes begins at a place
+abbrev pub IsLongName : List ℕ → ℕ → Type 0
+IsLongName text at = (end : ℕ) × IsTrue (is_spelled_as_name (slice_range text at end))
+    × (MAX_NAME < length (slice_range text at end))
+
+-- a number above 2147483647 begins at a place
+abbrev pub IsLargeNumber : List ℕ → ℕ → Type 0
+IsLargeNumber text at = (end : ℕ) × IsNumber (slice_range text at end) × (MAX_NUMBER < decimal (slice_range text at end))
+
+-- this fault stands at its place
+abbrev pub IsFaultAt : List ℕ → LexFault → Type 0
+IsFaultAt text (BadCharacter at) = (at < length text) × IsBad (slice_index text at)
+IsFaultAt text (OpenComment at) = IsOpenComment text at
+IsFaultAt text (TooLong at) = IsLongName text at ⊎ IsLargeNumber text at
+IsFaultAt text NoMemory = ⊥
+
+-- where a fault is
+abbrev pub place_of : LexFault → ℕ
+place_of (BadCharacter at) = at
+place_of (OpenComment at) = at
+place_of (TooLong at) = at
+place_of NoMemory = 0
+
+-- a text that isn't over-long has these tokens, or this is its first fault: up to its place it has tokens
+abbrev pub Gives : List ℕ → Result (List Token) LexFault → Type 0
+Gives text (Ok tokens) = Lexed text tokens
+Gives text (Err fault) = IsFaultAt text fault × (tokens : List Token) × Lexes text (place_of fault) 0 tokens
+
+-- the answer that a text has, want of memory aside: of an over-long one it is the first byte too many
+pub data Answers (text : List ℕ) : Result (List Token) LexFault → Type 0 where
+  over_long : MAX_TEXT < length text → Answers text (Err (TooLong MAX_TEXT))
+  in_room : {answer : Result (List Token) LexFault} → length text ≤ MAX_TEXT → Gives text answer → Answers text answer
+
+-- the first fault of a text that isn't over-long; of want of memory nothing is said
+abbrev pub IsFirstFault : List ℕ → LexFault → Type 0
+IsFirstFault text NoMemory = Unit {0}
+IsFirstFault text fault = Gives text (Err fault)
+
+-- the same of any text
+abbrev pub IsAnswer : List ℕ → LexFault → Type 0
+IsAnswer text NoMemory = Unit {0}
+IsAnswer text fault = Answers text (Err fault)
+
+-- the call's result is the answer, or memory ran out
+abbrev pub Agrees : {A : Type 0} → Result (Vec Token A) LexFault → Result (List Token) LexFault → Type 0
+Agrees (Err NoMemory) answer = Unit {0}
+Agrees (Err fault) answer = answer ≡ Err fault
+Agrees (Ok v) answer = answer ≡ Ok v.items
+
+-- whatever answer the text has is the one that the call gave, or memory ran out
+abbrev pub IsOnlyAnswer : {A : Type 0} → List ℕ → Result (Vec Token A) LexFault → Type 0
+IsOnlyAnswer text result = (answer : Result (List Token) LexFault) → Answers text answer → Agrees result answer
+
+-- a text has one list of tokens at most
+abbrev pub OneReading : Type 0
+OneReading = (text : List ℕ) (ts us : List Token) → Lexed text ts → Lexed text us → ts ≡ us
+
+-- a text has one answer at most
+abbrev pub OneAnswer : Type 0
+OneAnswer = (text : List ℕ) (a b : Result (List Token) LexFault) → Answers text a → Answers text b → a ≡ b

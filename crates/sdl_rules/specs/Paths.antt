@@ -1,0 +1,90 @@
+-- Control paths, and what is read on them before it is set. (Z.100: the transitions of a process graph.)
+use Rattle.std.specs.Prelude.{◌≡◌, ℕ, Bool, true, false, not, ◌&&◌, ◌||◌, List, [], ◌∷◌, ◌++◌, Option, None, Some, if◌then◌else◌, map, Contains, is_some}
+use Rattle.std.specs.List.{list_any, flat_map}
+use Rattle.std.specs.Option.{option_map_or, option_to_list}
+use Rattle.sdl_tree.specs.declared.tree.End.{End}
+use Rattle.sdl_tree.specs.declared.tree.End.TheVariants.{NextState}
+use Rattle.sdl_tree.specs.Plain.{Tree, PlainAssignment, Text, falls, ends, task, PlainProcess}
+use Rattle.sdl_rules.specs.Names.{same_name, number_of, Variable, variables_of, states_of, Input, inputs_of}
+use Rattle.sdl_rules.specs.Sound.{tree_names, place_names}
+use Rattle.sdl_rules.specs.declared.fault.Step.{Step}
+use Rattle.sdl_rules.specs.declared.fault.Step.TheVariants.{Start, Input as Takes}
+
+-- a variable is read, or set
+pub data Event : Type 0 where
+  reads : List ℕ → Event
+  sets : List ℕ → Event
+
+-- an assignment reads the variables of its value, and then sets its own
+abbrev pub assignment_events : PlainAssignment → List Event
+assignment_events a = map (λ id. reads id.name) (tree_names a.value) ++ sets a.variable.name ∷ []
+
+-- A walk of a text: its reads and sets in order, and the state by which it ends; none where it runs off its end.
+abbrev pub IsWalk : Text → List Event → Option (List ℕ) → Type 0
+IsWalk falls events end = (events ≡ []) × (end ≡ None)
+IsWalk (ends (NextState n)) events end = (events ≡ []) × (end ≡ Some n.state.name)
+IsWalk (task at assignments rest) events end =
+    (after : List Event) × (events ≡ flat_map assignment_events assignments ++ after) × IsWalk rest after end
+
+-- A transition: what is set before its text, and its text.
+pub record Transition : Type 0 where
+  pub first : List Event
+  pub text : Text
+
+-- START's transition comes after the initial values
+abbrev pub initial_sets : Variable → List Event
+initial_sets v = if is_some v.initial then sets v.name.name ∷ [] else []
+
+abbrev pub start_transition : PlainProcess → Transition
+start_transition p = record { first = flat_map initial_sets (variables_of p); text = p.start.text }
+
+-- that of an input comes after its places got the parameters
+abbrev pub input_transition : Input → Transition
+input_transition i = record { first = map (λ id. sets id.name) (place_names i.stimulus.places); text = i.text }
+
+-- where a process is between two transitions: before START, or in a state with this name
+abbrev pub Place : Type 0
+Place = Option (List ℕ)
+
+-- the inputs of the state with a name
+abbrev pub inputs_in : PlainProcess → List ℕ → List Input
+inputs_in p s = option_map_or (inputs_of p) (number_of (states_of p) s) []
+
+-- a step leads from a place by a transition
+abbrev pub Leads : PlainProcess → Place → Step → Transition → Type 0
+Leads p None Start t = t ≡ start_transition p
+Leads p None (Takes state signal) t = ⊥
+Leads p (Some s) Start t = ⊥
+Leads p (Some s) (Takes state signal) t =
+    (same_name s state ≡ true)
+    × (i : Input) × Contains (inputs_in p s) i × (same_name signal i.stimulus.name.name ≡ true) × (t ≡ input_transition i)
+
+-- whether these events read x, and set it nowhere before
+abbrev pub reads_first : List Event → List ℕ → Bool
+reads_first [] x = false
+reads_first (reads y ∷ events) x = same_name x y || reads_first events x
+reads_first (sets y ∷ events) x = not (same_name x y) && reads_first events x
+
+-- whether these events set x
+abbrev pub sets_in : List Event → List ℕ → Bool
+sets_in [] x = false
+sets_in (reads y ∷ events) x = sets_in events x
+sets_in (sets y ∷ events) x = same_name x y || sets_in events x
+
+-- From a place on, with x not set before, these steps are a control path: some walk of each but the last ends in the
+-- state from which the next one leads, and does not set x; some walk of the last one reads x and sets it nowhere before.
+abbrev pub ReadsFrom : PlainProcess → Place → List Step → List ℕ → Type 0
+ReadsFrom p place [] x = ⊥
+ReadsFrom p place (step ∷ []) x =
+    (t : Transition) × Leads p place step t
+    × (events : List Event) × (end : Option (List ℕ)) × IsWalk t.text events end
+    × (reads_first (t.first ++ events) x ≡ true)
+ReadsFrom p place (step ∷ next ∷ steps) x =
+    (t : Transition) × Leads p place step t
+    × (events : List Event) × (s : List ℕ) × IsWalk t.text events (Some s)
+    × (sets_in (t.first ++ events) x ≡ false)
+    × ReadsFrom p (Some s) (next ∷ steps) x
+
+-- a control path from START, the last transition of which reads x before anything on the path sets it
+abbrev pub ReadsUnset : PlainProcess → List Step → List ℕ → Type 0
+ReadsUnset p path x = ReadsFrom p None path x

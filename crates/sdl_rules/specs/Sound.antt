@@ -1,0 +1,154 @@
+-- What makes a block sound: the rules that it may break, each with the places where it breaks them.
+use Rattle.std.specs.Prelude.{◌≡◌, ℕ, ◌+◌, ◌≤◌, Bool, true, false, not, List, [], ◌∷◌, ◌++◌, Option, None, Some, if◌then◌else◌, map, length, nat_lt, find, sum_by, slice_get, Contains, IsTrue, ⊤}
+use Rattle.std.specs.List.{list_any, flat_map, enumerate_from}
+use Rattle.std.specs.Option.{option_map_or, option_to_list}
+use Rattle.sdl_tree.specs.declared.expression.Identifier.{Identifier}
+use Rattle.sdl_tree.specs.declared.tree.Party.{Party}
+use Rattle.sdl_tree.specs.declared.tree.Party.TheVariants.{Environment, Process}
+use Rattle.sdl_tree.specs.declared.tree.End.{End}
+use Rattle.sdl_tree.specs.declared.tree.End.TheVariants.{NextState}
+use Rattle.sdl_tree.specs.Plain.{Tree, number, variable, unary, binary, PlainAssignment, Text, falls, ends, task, PlainStimulus, PlainInput, PlainClause, input, PlainState, PlainProcess, PlainPath, PlainRoute, PlainSignal, PlainEntity, signals, route, process, PlainBlock}
+use Rattle.sdl_rules.specs.Names.{is_in, signals_of, routes_of, processes_of, signal_names, route_names, process_names, signal_named, variables_of, variable_names, timers_of, states_of, Input, inputs_of, inputs_by_state}
+use Rattle.sdl_rules.specs.Longest.{Piece, pieces_of, piece_size, piece_depth, piece_effects}
+use Rattle.sdl_rules.specs.declared.fault.Limit.{Limit}
+use Rattle.sdl_rules.specs.declared.fault.Limit.TheVariants.{Processes, States, Variables, Timers, Signals, Params, Pieces, Piece as PieceSize, Depth, Effects}
+
+-- the first of these places
+abbrev pub first_of : List ℕ → Option ℕ
+first_of places = slice_get places 0
+
+-- a place is one of these, and none says that there are none
+abbrev pub Marks : Option ℕ → List ℕ → Type 0
+Marks None places = places ≡ []
+Marks (Some at) places = Contains places at
+
+-- ---- S1: a name twice in its class and scope, or a signal twice among a state's inputs
+
+-- the places of the identifiers whose name one before them has, where `before` stand before all of them
+abbrev pub repeats : List Identifier → List Identifier → List ℕ
+repeats before [] = []
+repeats before (id ∷ ids) = (if is_in before id.name then id.at ∷ [] else []) ++ repeats (before ++ id ∷ []) ids
+
+abbrev pub input_names : List Input → List Identifier
+input_names inputs = map (λ i. i.stimulus.name) inputs
+
+-- the names of a process that have to differ: a list for each class, and one for the inputs of each state
+abbrev pub process_scopes : PlainProcess → List (List Identifier)
+process_scopes p = variable_names p ∷ map input_names (inputs_by_state p)
+
+-- those of a block
+abbrev pub scopes : PlainBlock → List (List Identifier)
+scopes b = signal_names b ∷ route_names b ∷ process_names b ∷ flat_map process_scopes (processes_of b)
+
+abbrev pub double_names : PlainBlock → List ℕ
+double_names b = flat_map (repeats []) (scopes b)
+
+-- ---- S2: a name that its class and scope lack. A state after NEXTSTATE is not asked for here.
+
+-- the places of the identifiers whose names these lack
+abbrev pub unknown : List Identifier → List Identifier → List ℕ
+unknown among ids = flat_map (λ id. if is_in among id.name then [] else id.at ∷ []) ids
+
+abbrev pub party_names : Party → List Identifier
+party_names Environment = []
+party_names (Process id) = id ∷ []
+
+abbrev pub path_unknown : PlainBlock → PlainPath → List ℕ
+path_unknown b path =
+    unknown (process_names b) (party_names path.from ++ party_names path.to) ++ unknown (signal_names b) path.signals
+
+-- the variables of an expression, in the order of the text
+abbrev pub tree_names : Tree → List Identifier
+tree_names (number at value) = []
+tree_names (variable at id) = id ∷ []
+tree_names (unary at operator operand) = tree_names operand
+tree_names (binary at operator left right) = tree_names left ++ tree_names right
+
+abbrev pub assignment_names : PlainAssignment → List Identifier
+assignment_names a = a.variable ∷ tree_names a.value
+
+-- the variables of a transition
+abbrev pub text_names : Text → List Identifier
+text_names falls = []
+text_names (ends e) = []
+text_names (task at assignments rest) = flat_map assignment_names assignments ++ text_names rest
+
+-- the variables that get parameters
+abbrev pub place_names : List (Option Identifier) → List Identifier
+place_names places = flat_map option_to_list places
+
+abbrev pub stimulus_unknown : PlainBlock → PlainProcess → PlainStimulus → List ℕ
+stimulus_unknown b p s = unknown (signal_names b) (s.name ∷ []) ++ unknown (variable_names p) (place_names s.places)
+
+abbrev pub clause_unknown : PlainBlock → PlainProcess → PlainClause → List ℕ
+clause_unknown b p (input i) = flat_map (stimulus_unknown b p) i.stimuli ++ unknown (variable_names p) (text_names i.text)
+
+abbrev pub process_unknown : PlainBlock → PlainProcess → List ℕ
+process_unknown b p =
+    unknown (variable_names p) (text_names p.start.text)
+    ++ flat_map (λ part. flat_map (clause_unknown b p) part.clauses) p.states
+
+abbrev pub entity_unknown : PlainBlock → PlainEntity → List ℕ
+entity_unknown b (signals declared) = []
+entity_unknown b (route r) = flat_map (path_unknown b) r.paths
+entity_unknown b (process p) = process_unknown b p
+
+abbrev pub unknown_names : PlainBlock → List ℕ
+unknown_names b = flat_map (entity_unknown b) b.entities
+
+-- ---- S3: a wrong sort; with one sort, more places than the signal has parameters
+
+abbrev pub has_too_many : PlainBlock → PlainStimulus → Bool
+has_too_many b s = option_map_or (λ x. nat_lt (length x.parameters) (length s.places)) (signal_named b s.name.name) false
+
+abbrev pub stimulus_wrong : PlainBlock → PlainStimulus → List ℕ
+stimulus_wrong b s = if has_too_many b s then s.name.at ∷ [] else []
+
+abbrev pub clause_wrong : PlainBlock → PlainClause → List ℕ
+clause_wrong b (input i) = flat_map (stimulus_wrong b) i.stimuli
+
+abbrev pub process_wrong : PlainBlock → PlainProcess → List ℕ
+process_wrong b p = flat_map (λ part. flat_map (clause_wrong b) part.clauses) p.states
+
+abbrev pub wrong_sorts : PlainBlock → List ℕ
+wrong_sorts b = flat_map (process_wrong b) (processes_of b)
+
+-- ---- S4: a NEXTSTATE to a state without STATE, or a list of actions that runs off its end
+
+-- the places in a text whose START or INPUT stands at `at`
+abbrev pub strays : List Identifier → ℕ → Text → List ℕ
+strays states at falls = at ∷ []
+strays states at (ends (NextState n)) = if is_in states n.state.name then [] else n.at ∷ []
+strays states at (task place assignments rest) = strays states at rest
+
+abbrev pub clause_strays : PlainProcess → PlainClause → List ℕ
+clause_strays p (input i) = strays (states_of p) i.at i.text
+
+abbrev pub process_strays : PlainProcess → List ℕ
+process_strays p =
+    strays (states_of p) p.start.at p.start.text ++ flat_map (λ part. flat_map (clause_strays p) part.clauses) p.states
+
+abbrev pub stray_ends : PlainBlock → List ℕ
+stray_ends b = flat_map process_strays (processes_of b)
+
+-- ---- S10: the limits, in this order
+
+abbrev pub exceeds : PlainBlock → Limit → Bool
+exceeds b Processes = nat_lt 16 (length (processes_of b))
+exceeds b States = list_any (λ p. nat_lt 64 (length (states_of p))) (processes_of b)
+exceeds b Variables = list_any (λ p. nat_lt 32 (length (variables_of p))) (processes_of b)
+exceeds b Timers = list_any (λ p. nat_lt 8 (length (timers_of p))) (processes_of b)
+exceeds b Signals = nat_lt 128 (length (signals_of b))
+exceeds b Params = list_any (λ s. nat_lt 4 (length s.parameters)) (signals_of b)
+exceeds b Pieces = nat_lt 4096 (sum_by (λ p. length (pieces_of p)) (processes_of b))
+exceeds b PieceSize = list_any (λ q. nat_lt 512 (piece_size q)) (flat_map pieces_of (processes_of b))
+exceeds b Depth = list_any (λ q. nat_lt 16 (piece_depth q)) (flat_map pieces_of (processes_of b))
+exceeds b Effects = list_any (λ q. nat_lt 32 (piece_effects q)) (flat_map pieces_of (processes_of b))
+
+abbrev pub limits : List Limit
+limits =
+    Processes ∷ States ∷ Variables ∷ Timers ∷ Signals ∷ Params ∷ Pieces ∷ PieceSize ∷ Depth ∷ Effects ∷ []
+
+-- the first limit that the block passes
+abbrev pub first_limit : PlainBlock → Option Limit
+first_limit b = find (exceeds b) limits

@@ -1,0 +1,86 @@
+-- Heights, and the first TASK that is too high.
+use Rattle.std.proofs.Common.{◌≡◌, ℕ, suc, zero, ◌+◌, ◌<◌, ◌≤◌, max, Bool, true, false, List, [], ◌∷◌, Option, Some, None, map, refl, sym, ap, subst, ◌∙◌, arith}
+use Rattle.std.specs.Prelude.{nat_lt, if◌then◌else◌}
+use borrow.Author.Tests.{ltb-true, ltb-false}
+use Rattle.sdl_tree.specs.declared.TheConstants.{MAX_HEIGHT}
+use Rattle.sdl_tree.specs.declared.tree.Action.{Action}
+use Rattle.sdl_tree.specs.declared.tree.Action.TheVariants.{Task}
+use Rattle.sdl_tree.specs.declared.tree.End.{End}
+use Rattle.sdl_tree.specs.Plain.{Tree, number, variable, unary, binary, PlainAssignment, Text, falls, ends, task, PlainInput, PlainClause, input, PlainState, PlainProcess, PlainEntity, signals, route, process, PlainBlock}
+use Rattle.sdl_tree.specs.Views.{assignment_of, end_text, actions_text}
+use Rattle.sdl_tree.specs.Heights.{tree_height, highest, assignments_height, text_height, clause_height, state_height, process_height, entity_height, Height, or_first, first_of, high_in_text, high_in_clause, high_in_state, high_in_process, high_in_entity, first_too_high}
+
+-- a height beside the first place that is too high
+pub Judged : ℕ → Option ℕ → Type 0
+Judged h None = h ≤ MAX_HEIGHT
+Judged h (Some at) = MAX_HEIGHT < h
+
+judged_test : (h at : ℕ) (b : Bool) → nat_lt MAX_HEIGHT h ≡ b → Judged h (if b then Some at else None)
+unfolding Judged
+judged_test h at true e = ltb-true MAX_HEIGHT h e
+judged_test h at false e = ltb-false MAX_HEIGHT h e
+
+judged-max : (h k : ℕ) (p q : Option ℕ) → Judged h p → Judged k q → Judged (max h k) (or_first p q)
+unfolding Judged
+judged-max h k (Some at) (Some other) a b = omega arith
+judged-max h k (Some at) None a b = omega arith
+judged-max h k None (Some other) a b = omega arith
+judged-max h k None None a b = omega arith
+
+judged_list : {A : Type 0} (h : A → ℕ) (f : A → Option ℕ) → ((x : A) → Judged (h x) (f x)) → (xs : List A) → Judged (highest h xs) (first_of f xs)
+unfolding Judged
+judged_list h f each [] = omega arith
+judged_list h f each (x ∷ xs) = judged-max (h x) (highest h xs) (f x) (first_of f xs) (each x) (judged_list h f each xs)
+
+judged_text : (t : Text) → Judged (text_height t) (high_in_text t)
+unfolding Judged
+judged_text falls = omega arith
+judged_text (ends e) = omega arith
+judged_text (task at xs rest) =
+  judged-max (assignments_height xs) (text_height rest) _ (high_in_text rest) (judged_test (assignments_height xs) at (nat_lt MAX_HEIGHT (assignments_height xs)) refl) (judged_text rest)
+
+judged_clause : (c : PlainClause) → Judged (clause_height c) (high_in_clause c)
+judged_clause (input i) = judged_text i.text
+
+judged_process : (p : PlainProcess) → Judged (process_height p) (high_in_process p)
+judged_process p =
+  judged-max (text_height p.start.text) (highest state_height p.states) (high_in_text p.start.text) (first_of high_in_state p.states)
+    (judged_text p.start.text)
+    (judged_list state_height high_in_state (λ s. judged_list clause_height high_in_clause judged_clause s.clauses) p.states)
+
+judged_entity : (e : PlainEntity) → Judged (entity_height e) (high_in_entity e)
+unfolding Judged
+judged_entity (signals declared) = omega arith
+judged_entity (route r) = omega arith
+judged_entity (process p) = judged_process p
+
+judged_block : (b : PlainBlock) → Judged (Height b) (first_too_high b)
+judged_block b = judged_list entity_height high_in_entity judged_entity b.entities
+
+pub low_where_none : (b : PlainBlock) → first_too_high b ≡ None → Height b ≤ MAX_HEIGHT
+unfolding Judged
+low_where_none b e = subst (Judged (Height b)) e (judged_block b)
+
+pub high_where_some : (b : PlainBlock) (at : ℕ) → first_too_high b ≡ Some at → MAX_HEIGHT < Height b
+unfolding Judged
+high_where_some b at e = subst (Judged (Height b)) e (judged_block b)
+
+-- the end of a transition has no height
+pub high_before_end : (actions : List Action) (last : Option End) → high_in_text (actions_text actions (end_text last)) ≡ high_in_text (actions_text actions falls)
+high_before_end [] None = refl
+high_before_end [] (Some e) = refl
+high_before_end (Task t ∷ actions) last =
+  ap (or_first (if nat_lt MAX_HEIGHT (assignments_height (map assignment_of t.assignments.items)) then Some t.at else None)) (high_before_end actions last)
+
+-- no tree is of height 0
+pub above_zero : (x : Tree) → nat_lt 0 (tree_height x) ≡ true
+above_zero x = by_test (nat_lt 0 (tree_height x)) refl
+  where
+  at_least : (x : Tree) → 0 < tree_height x
+  at_least (number at k) = omega arith
+  at_least (variable at n) = omega arith
+  at_least (unary at o y) = omega arith
+  at_least (binary at o y z) = omega arith
+  by_test : (b : Bool) → nat_lt 0 (tree_height x) ≡ b → b ≡ true
+  by_test true e = refl
+  by_test false e = let a = at_least x in let c : tree_height x ≤ 0 = ltb-false 0 (tree_height x) e in absurd (omega arith)

@@ -1,0 +1,447 @@
+-- Readings that build no tree above one that is too high give what is left of the whole tree.
+use Rattle.std.proofs.Common.{◌≡◌, ℕ, suc, zero, ◌+◌, ◌<◌, ◌≤◌, max, Bool, true, false, List, [], ◌∷◌, ◌++◌, Option, Some, None, length, map, refl, sym, ap, subst, ◌∙◌, arith}
+use Rattle.std.specs.Prelude.{nat_lt, if◌then◌else◌}
+use Rattle.sdl_lex.specs.declared.lexemes.Token.{Token}
+use Rattle.sdl_lex.specs.declared.lexemes.Word.TheVariants as words
+use Rattle.sdl_lex.specs.declared.lexemes.Symbol.TheVariants.{Comma}
+use Rattle.sdl_lex.specs.declared.lexemes.Symbol.TheVariants as symbols
+use Rattle.sdl_lex.specs.declared.lexemes.Symbol.{Symbol}
+use Rattle.sdl_lex.specs.declared.lexemes.Lexeme.{Lexeme}
+use Rattle.sdl_lex.specs.declared.lexemes.Lexeme.TheVariants as lexemes
+use Rattle.sdl_tree.specs.Tokens.{begins, a_symbol, a_word, a_name, a_declared}
+use Rattle.sdl_tree.specs.declared.expression.UnaryOperator.TheVariants.{Negate}
+use Rattle.sdl_tree.specs.declared.expression.BinaryOperator.{BinaryOperator}
+use Rattle.sdl_tree.specs.declared.expression.BinaryOperator.TheVariants.{Add, Subtract, Multiply}
+use Rattle.sdl_tree.specs.declared.TheConstants.{MAX_HEIGHT}
+use Rattle.sdl_tree.specs.Plain.{Tree, number, variable, unary, binary, PlainAssignment, Text, falls, ends, task, PlainInput, PlainClause, input, PlainState, PlainStart, PlainProcess, PlainEntity, signals, route, process, PlainBlock}
+use Rattle.sdl_tree.specs.declared.tree.End.{End}
+use Rattle.sdl_tree.specs.declared.expression.Identifier.{Identifier}
+use Rattle.sdl_tree.specs.Productions.{PlainTask, tasks_text, assignment_at, assignments_at, task_at, end_at, text_at, stimulus_at, input_at, clause_at, end_state_at, closing_at, state_at, start_at, one_state_at, process_head_at, declaration_at, process_at, declared_at, block_at, signal_at, signals_at, path_at, route_at}
+use Rattle.sdl_tree.specs.Expressions.{Sign, leaf, plus, minus, star, opens, closes, other, sign, symbol_sign, lexeme_sign, place_of, placed}
+use Rattle.sdl_tree.specs.Heights.{tree_height}
+use Rattle.sdl_tree.specs.Readings.{Reading, read, fails, At, then_read, either, choice, optional, many_for, many, give, token, ◌>>=◌, separated, behind_comma}
+use Rattle.sdl_tree.specs.Machine.{Build, whole_trees, low_trees, low_unary, low_binary, lowered, Frame, empty_frame, factor_of, product_of, sum_of, closed_product, closed, with_sum, with_product, with_minus, State, wants, has, Turn, goes, done, stuck, minus_turn, want_turn, close_turn, end_turn, have_turn, turn, after_turn, run, expression_at}
+
+-- the machine
+
+cond_placed : (b : Bool) (p : ℕ) (x y : Tree) → placed p (if b then x else y) ≡ (if b then placed p x else placed p y)
+cond_placed true p x y = refl
+cond_placed false p x y = refl
+
+placed-placed : (p q : ℕ) (x : Tree) → placed p (placed q x) ≡ placed p x
+placed-placed p q (number at k) = refl
+placed-placed p q (variable at n) = refl
+placed-placed p q (unary at o x) = refl
+placed-placed p q (binary at o x y) = refl
+
+place_of-placed : (p : ℕ) (x : Tree) → place_of (placed p x) ≡ p
+place_of-placed p (number at k) = refl
+place_of-placed p (variable at n) = refl
+place_of-placed p (unary at o x) = refl
+place_of-placed p (binary at o x y) = refl
+
+place_if : (b : Bool) (at : ℕ) (x y : Tree) → place_of x ≡ at → place_of y ≡ at → place_of (if b then x else y) ≡ at
+place_if true at x y e f = e
+place_if false at x y e f = f
+
+pub place_of-lowered : (x : Tree) → place_of (lowered x) ≡ place_of x
+place_of-lowered (number at k) = refl
+place_of-lowered (variable at n) = refl
+place_of-lowered (unary at o x) = place_if (nat_lt MAX_HEIGHT (tree_height (lowered x))) at _ _ (place_of-placed at (lowered x)) refl
+place_of-lowered (binary at o x y) =
+  place_if (nat_lt MAX_HEIGHT (tree_height (lowered x))) at _ _ (place_of-placed at (lowered x))
+    (place_if (nat_lt MAX_HEIGHT (tree_height (lowered y))) at _ _ (place_of-placed at (lowered y)) refl)
+
+placed_if : (b : Bool) (p : ℕ) (x y x' y' : Tree) → placed p x ≡ x' → placed p y ≡ y' → placed p (if b then x else y) ≡ (if b then x' else y')
+placed_if true p x y x' y' e f = e
+placed_if false p x y x' y' e f = f
+
+pub lowered-placed : (p : ℕ) (x : Tree) → lowered (placed p x) ≡ placed p (lowered x)
+lowered-placed p (number at k) = refl
+lowered-placed p (variable at n) = refl
+lowered-placed p (unary at o x) =
+  sym (placed_if (nat_lt MAX_HEIGHT (tree_height (lowered x))) p _ _ _ _ (placed-placed p at (lowered x)) refl)
+lowered-placed p (binary at o x y) =
+  sym (placed_if (nat_lt MAX_HEIGHT (tree_height (lowered x))) p _ _ _ _ (placed-placed p at (lowered x))
+    (placed_if (nat_lt MAX_HEIGHT (tree_height (lowered y))) p _ _ _ _ (placed-placed p at (lowered y)) refl))
+
+lowered_product : Option Tree → Option Tree
+lowered_product None = None
+lowered_product (Some x) = Some (lowered x)
+
+lowered_sum : Option (Tree × BinaryOperator) → Option (Tree × BinaryOperator)
+lowered_sum None = None
+lowered_sum (Some s) = Some (lowered s.0, s.1)
+
+lowered_frame : Frame → Frame
+lowered_frame l = record { opened = l.opened; sum = lowered_sum l.sum; product = lowered_product l.product; minus = l.minus }
+
+lowered_frames : List Frame → List Frame
+lowered_frames [] = []
+lowered_frames (l ∷ ls) = lowered_frame l ∷ lowered_frames ls
+
+lowered_state : State → State
+lowered_state (wants ls l) = wants (lowered_frames ls) (lowered_frame l)
+lowered_state (has ls l x) = has (lowered_frames ls) (lowered_frame l) (lowered x)
+
+lowered_turn : Turn → Turn
+lowered_turn (goes s) = goes (lowered_state s)
+lowered_turn (done x) = done (lowered x)
+lowered_turn stuck = stuck
+
+unfoldable pub mapped : {A B : Type 0} → (A → B) → Reading A → Reading B
+mapped f (read x us) = read (f x) us
+mapped f (fails us) = fails us
+
+low_factor : (m : Option ℕ) (x : Tree) → factor_of low_trees m (lowered x) ≡ lowered (factor_of whole_trees m x)
+low_factor None x = refl
+low_factor (Some at) x = refl
+
+low_join : (o : BinaryOperator) (x y : Tree) → low_trees.join o (lowered x) (lowered y) ≡ lowered (whole_trees.join o x y)
+low_join o x y = ap (λ p. low_binary p o (lowered x) (lowered y)) (place_of-lowered x)
+
+low_product : (q : Option Tree) (x : Tree) → product_of low_trees (lowered_product q) (lowered x) ≡ lowered (product_of whole_trees q x)
+unfolding lowered_product
+low_product None x = refl
+low_product (Some y) x = low_join Multiply y x
+
+low_sum : (s : Option (Tree × BinaryOperator)) (x : Tree) → sum_of low_trees (lowered_sum s) (lowered x) ≡ lowered (sum_of whole_trees s x)
+unfolding lowered_sum
+low_sum None x = refl
+low_sum (Some s) x = low_join s.1 s.0 x
+
+low_closed_product : (l : Frame) (x : Tree) → closed_product low_trees (lowered_frame l) (lowered x) ≡ lowered (closed_product whole_trees l x)
+unfolding lowered_frame
+low_closed_product l x = ap (product_of low_trees (lowered_product l.product)) (low_factor l.minus x) ∙ low_product l.product (factor_of whole_trees l.minus x)
+
+low_closed : (l : Frame) (x : Tree) → closed low_trees (lowered_frame l) (lowered x) ≡ lowered (closed whole_trees l x)
+unfolding lowered_frame
+low_closed l x = ap (sum_of low_trees (lowered_sum l.sum)) (low_closed_product l x) ∙ low_sum l.sum (closed_product whole_trees l x)
+
+low_minus : (ls : List Frame) (l : Frame) (at : ℕ) (m : Option ℕ) → minus_turn (lowered_frames ls) (lowered_frame l) at m ≡ lowered_turn (minus_turn ls l at m)
+unfolding lowered_turn lowered_state lowered_frame
+low_minus ls l at None = refl
+low_minus ls l at (Some earlier) = refl
+
+lowered_sign : Sign → Sign
+lowered_sign (leaf x) = leaf (lowered x)
+lowered_sign plus = plus
+lowered_sign (minus at) = minus at
+lowered_sign star = star
+lowered_sign (opens at) = opens at
+lowered_sign closes = closes
+lowered_sign other = other
+
+low_want : (ls : List Frame) (l : Frame) (g : Sign) → want_turn (lowered_frames ls) (lowered_frame l) (lowered_sign g) ≡ lowered_turn (want_turn ls l g)
+unfolding lowered_turn lowered_state lowered_frame lowered_frames lowered_sign lowered_sum lowered_product
+low_want ls l (leaf x) = refl
+low_want ls l (minus at) = low_minus ls l at l.minus
+low_want ls l (opens at) = refl
+low_want ls l plus = refl
+low_want ls l star = refl
+low_want ls l closes = refl
+low_want ls l other = refl
+
+low_close : (ls : List Frame) (l : Frame) (x : Tree) → close_turn low_trees (lowered_frames ls) (lowered_frame l) (lowered x) ≡ lowered_turn (close_turn whole_trees ls l x)
+unfolding lowered_turn lowered_state lowered_frames lowered_frame
+low_close [] l x = ap done (low_closed l x)
+low_close (o ∷ ls) l x =
+  ap (λ z. goes (has (lowered_frames ls) (lowered_frame o) (placed l.opened z))) (low_closed l x)
+  ∙ ap (λ z. goes (has (lowered_frames ls) (lowered_frame o) z)) (sym (lowered-placed l.opened (closed whole_trees l x)))
+
+low_end : (ls : List Frame) (l : Frame) (x : Tree) → end_turn low_trees (lowered_frames ls) (lowered_frame l) (lowered x) ≡ lowered_turn (end_turn whole_trees ls l x)
+unfolding lowered_turn lowered_frames
+low_end [] l x = ap done (low_closed l x)
+low_end (o ∷ ls) l x = refl
+
+low_have : (ls : List Frame) (l : Frame) (x : Tree) (g : Sign)
+  → have_turn low_trees (lowered_frames ls) (lowered_frame l) (lowered x) (lowered_sign g) ≡ lowered_turn (have_turn whole_trees ls l x g)
+unfolding lowered_turn lowered_state lowered_frame lowered_sign lowered_sum lowered_product
+low_have ls l x plus = ap (λ z. goes (wants (lowered_frames ls) (record { opened = l.opened; sum = Some (z, Add); product = None; minus = None }))) (low_closed l x)
+low_have ls l x (minus at) = ap (λ z. goes (wants (lowered_frames ls) (record { opened = l.opened; sum = Some (z, Subtract); product = None; minus = None }))) (low_closed l x)
+low_have ls l x star = ap (λ z. goes (wants (lowered_frames ls) (record { opened = l.opened; sum = lowered_sum l.sum; product = Some z; minus = None }))) (low_closed_product l x)
+low_have ls l x closes = low_close ls l x
+low_have ls l x (leaf y) = low_end ls l x
+low_have ls l x (opens at) = low_end ls l x
+low_have ls l x other = low_end ls l x
+
+low_turn : (s : State) (g : Sign) → turn low_trees (lowered_state s) (lowered_sign g) ≡ lowered_turn (turn whole_trees s g)
+unfolding turn lowered_state
+low_turn (wants ls l) g = low_want ls l g
+low_turn (has ls l x) g = low_have ls l x g
+
+number_sign : (b : Bool) (x : Tree) → lowered x ≡ x → lowered_sign (if b then leaf x else other) ≡ (if b then leaf x else other)
+unfolding lowered_sign
+number_sign true x e = ap leaf e
+number_sign false x e = refl
+
+symbol_same : (at : ℕ) (s : Symbol) → lowered_sign (symbol_sign at s) ≡ symbol_sign at s
+unfolding lowered_sign
+symbol_same at symbols.Plus = refl
+symbol_same at symbols.Minus = refl
+symbol_same at symbols.Star = refl
+symbol_same at symbols.Open = refl
+symbol_same at symbols.Close = refl
+symbol_same at symbols.Semicolon = refl
+symbol_same at symbols.Comma = refl
+symbol_same at symbols.Colon = refl
+symbol_same at symbols.Assign = refl
+symbol_same at symbols.Slash = refl
+symbol_same at symbols.Equal = refl
+symbol_same at symbols.NotEqual = refl
+symbol_same at symbols.Less = refl
+symbol_same at symbols.LessEqual = refl
+symbol_same at symbols.Greater = refl
+symbol_same at symbols.GreaterEqual = refl
+
+lexeme_same : (at : ℕ) (x : Lexeme) → lowered_sign (lexeme_sign at x) ≡ lexeme_sign at x
+unfolding lowered_sign
+lexeme_same at (lexemes.Name n) = refl
+lexeme_same at (lexemes.Number k) = number_sign (nat_lt k 2147483648) (number at k) refl
+lexeme_same at (lexemes.Word w) = refl
+lexeme_same at (lexemes.Symbol s) = symbol_same at s
+
+sign_same : (t : Token) → lowered_sign (sign t) ≡ sign t
+unfolding sign
+sign_same t = lexeme_same t.start t.lexeme
+
+turn_same : (s : State) (t : Token) → turn low_trees (lowered_state s) (sign t) ≡ lowered_turn (turn whole_trees s (sign t))
+turn_same s t = ap (turn low_trees (lowered_state s)) (sym (sign_same t)) ∙ low_turn s (sign t)
+
+end_same : (s : State) → turn low_trees (lowered_state s) other ≡ lowered_turn (turn whole_trees s other)
+unfolding lowered_sign
+end_same s = low_turn s other
+
+after_same : (a : Turn) (low whole : State → Reading Tree) (ts : List Token) → ((s : State) → low (lowered_state s) ≡ mapped lowered (whole s))
+  → after_turn (lowered_turn a) low ts ≡ mapped lowered (after_turn a whole ts)
+unfolding lowered_turn mapped
+after_same (goes s) low whole ts h = h s
+after_same (done x) low whole ts h = refl
+after_same stuck low whole ts h = refl
+
+run_same : (ts : List Token) (s : State) → run low_trees (lowered_state s) ts ≡ mapped lowered (run whole_trees s ts)
+unfolding run mapped
+run_same [] s = ap (λ a. after_turn a (λ _. fails []) []) (end_same s) ∙ after_same (turn whole_trees s other) (λ _. fails []) (λ _. fails []) [] (λ _. refl)
+run_same (t ∷ ts) s =
+  ap (λ a. after_turn a (λ s'. run low_trees s' ts) (t ∷ ts)) (turn_same s t)
+  ∙ after_same (turn whole_trees s (sign t)) (λ s'. run low_trees s' ts) (λ s'. run whole_trees s' ts) (t ∷ ts) (run_same ts)
+
+-- q reads what p reads, changed by f
+unfoldable pub Lowers : {A B : Type 0} → (A → B) → At A → At B → Type 0
+Lowers f p q = (ts : List Token) → q ts ≡ mapped f (p ts)
+
+expression_lowers : Lowers lowered (expression_at whole_trees) (expression_at low_trees)
+unfolding expression_at Lowers lowered_state lowered_frames lowered_frame lowered_sum lowered_product
+expression_lowers ts = run_same ts (wants [] (empty_frame 0))
+
+same_reads : {A : Type 0} (p : At A) → Lowers (λ x. x) p p
+unfolding Lowers mapped
+same_reads {A} p ts = by_result (p ts)
+  where
+  by_result : (r : Reading A) → r ≡ mapped (λ x. x) r
+  by_result (read x us) = refl
+  by_result (fails us) = refl
+
+give_lowers : {A B : Type 0} (f : A → B) (x : A) → Lowers f (give x) (give (f x))
+unfolding Lowers mapped
+give_lowers f x ts = refl
+
+then_lowers : {A B C D : Type 0} (f : A → C) (g : B → D) (p : At A) (q : A → At B) (p' : At C) (q' : C → At D)
+  → Lowers f p p' → ((x : A) → Lowers g (q x) (q' (f x))) → Lowers g (p >>= q) (p' >>= q')
+unfolding Lowers mapped
+then_lowers {A} {B} {C} {D} f g p q p' q' hp hq ts = ap (λ r. then_read r q') (hp ts) ∙ by_result (p ts)
+  where
+  by_result : (r : Reading A) → then_read (mapped f r) q' ≡ mapped g (then_read r q)
+  by_result (read x us) = hq x us
+  by_result (fails us) = refl
+
+either_lowers : {A C : Type 0} (f : A → C) (b : Bool) (p q : At A) (p' q' : At C) → Lowers f p p' → Lowers f q q' → Lowers f (either b p q) (either b p' q')
+either_lowers f true p q p' q' hp hq = hp
+either_lowers f false p q p' q' hp hq = hq
+
+choice_lowers : {A B C : Type 0} (f : A → C) (test : Token → Option B) (p q : At A) (p' q' : At C) → Lowers f p p' → Lowers f q q' → Lowers f (choice test p q) (choice test p' q')
+unfolding Lowers
+choice_lowers f test p q p' q' hp hq ts = either_lowers f (begins test ts) p q p' q' hp hq ts
+
+many_for_lowers : {A B C : Type 0} (f : A → C) (test : Token → Option B) (p : At A) (p' : At C) → Lowers f p p' → (n : ℕ) → Lowers (map f) (many_for test p n) (many_for test p' n)
+unfolding many_for Lowers mapped
+many_for_lowers f test p p' h zero ts = refl
+many_for_lowers {A} {B} {C} f test p p' h (suc n) ts =
+  either_lowers (map f) (begins test ts) _ _ _ _
+    (then_lowers f (map f) p _ p' _ h (λ x. then_lowers (map f) (map f) (many_for test p n) _ (many_for test p' n) _ (many_for_lowers f test p p' h n) (λ xs. give_lowers (map f) (x ∷ xs))))
+    (give_lowers (map f) []) ts
+
+many_lowers : {A B C : Type 0} (f : A → C) (test : Token → Option B) (p : At A) (p' : At C) → Lowers f p p' → Lowers (map f) (many test p) (many test p')
+unfolding many Lowers
+many_lowers f test p p' h ts = many_for_lowers f test p p' h (suc (length ts)) ts
+
+separated_lowers : {A C : Type 0} (f : A → C) (p : At A) (p' : At C) → Lowers f p p' → Lowers (map f) (separated p) (separated p')
+separated_lowers f p p' h =
+  then_lowers f (map f) p _ p' _ h λ x.
+  then_lowers (map f) (map f) (many (a_symbol Comma) (behind_comma p)) _ (many (a_symbol Comma) (behind_comma p')) _
+    (many_lowers f (a_symbol Comma) (behind_comma p) (behind_comma p') (then_lowers (λ x. x) f (token (a_symbol Comma)) _ (token (a_symbol Comma)) _ (same_reads (token (a_symbol Comma))) (λ _. h))) λ xs.
+  give_lowers (map f) (x ∷ xs)
+
+-- the tree without what stands above a tree that is too high
+
+unfoldable pub lowered_assignment : PlainAssignment → PlainAssignment
+lowered_assignment a = record { variable = a.variable; value = lowered a.value }
+
+lowered_task : PlainTask → PlainTask
+lowered_task t = record { at = t.at; assignments = map lowered_assignment t.assignments }
+
+unfoldable pub lowered_text : Text → Text
+lowered_text falls = falls
+lowered_text (ends e) = ends e
+lowered_text (task at assignments rest) = task at (map lowered_assignment assignments) (lowered_text rest)
+
+unfoldable pub lowered_input : PlainInput → PlainInput
+lowered_input i = record { at = i.at; stimuli = i.stimuli; text = lowered_text i.text }
+
+unfoldable pub lowered_clause : PlainClause → PlainClause
+lowered_clause (input i) = input (lowered_input i)
+
+unfoldable pub lowered_start : PlainStart → PlainStart
+lowered_start s = record { at = s.at; text = lowered_text s.text }
+
+unfoldable pub lowered_part : PlainState → PlainState
+lowered_part s = record { names = s.names; clauses = map lowered_clause s.clauses }
+
+unfoldable pub lowered_process : PlainProcess → PlainProcess
+lowered_process p = record { name = p.name; declarations = p.declarations; start = lowered_start p.start; states = map lowered_part p.states }
+
+unfoldable pub lowered_entity : PlainEntity → PlainEntity
+lowered_entity (signals declared) = signals declared
+lowered_entity (route r) = route r
+lowered_entity (process p) = process (lowered_process p)
+
+unfoldable pub lowered_block : PlainBlock → PlainBlock
+lowered_block b = record { name = b.name; entities = map lowered_entity b.entities }
+
+-- one part after another, of which the first stays as it is
+next_lowers : {A B D : Type 0} (g : B → D) (p : At A) (q : A → At B) (q' : A → At D) → ((x : A) → Lowers g (q x) (q' x)) → Lowers g (p >>= q) (p >>= q')
+next_lowers g p q q' h = then_lowers (λ x. x) g p q p q' (same_reads p) h
+
+abbrev low : At Tree
+low = expression_at low_trees
+
+abbrev whole : At Tree
+whole = expression_at whole_trees
+
+assignment_lowers : Lowers lowered_assignment (assignment_at whole) (assignment_at low)
+unfolding assignment_at lowered_assignment
+assignment_lowers =
+  next_lowers _ (token a_name) _ _ λ v. next_lowers _ (token (a_symbol symbols.Assign)) _ _ λ _.
+  then_lowers lowered lowered_assignment whole _ low _ expression_lowers λ x. give_lowers lowered_assignment (record { variable = v; value = x })
+
+assignments_lowers : Lowers (map lowered_assignment) (assignments_at whole) (assignments_at low)
+unfolding assignments_at
+assignments_lowers =
+  then_lowers (map lowered_assignment) (map lowered_assignment) (separated (assignment_at whole)) _ (separated (assignment_at low)) _
+    (separated_lowers lowered_assignment (assignment_at whole) (assignment_at low) assignment_lowers) λ xs.
+  next_lowers _ (token (a_symbol symbols.Semicolon)) _ _ λ _. give_lowers (map lowered_assignment) xs
+
+task_lowers : Lowers lowered_task (task_at whole) (task_at low)
+unfolding task_at lowered_task
+task_lowers =
+  next_lowers _ (token (a_word words.Task)) _ _ λ at.
+  then_lowers (map lowered_assignment) lowered_task (assignments_at whole) _ (assignments_at low) _ assignments_lowers λ xs.
+  give_lowers lowered_task (record { at = at; assignments = xs })
+
+lowered_tasks : (tasks : List PlainTask) (last : Option End) → tasks_text (map lowered_task tasks) last ≡ lowered_text (tasks_text tasks last)
+unfolding lowered_task lowered_text
+lowered_tasks [] None = refl
+lowered_tasks [] (Some e) = refl
+lowered_tasks (t ∷ tasks) last = ap (task t.at (map lowered_assignment t.assignments)) (lowered_tasks tasks last)
+
+give_text_lowers : (tasks : List PlainTask) (last : Option End) → Lowers lowered_text (give (tasks_text tasks last)) (give (tasks_text (map lowered_task tasks) last))
+unfolding Lowers mapped
+give_text_lowers tasks last ts = ap (λ x. read x ts) (lowered_tasks tasks last)
+
+text_lowers : Lowers lowered_text (text_at whole) (text_at low)
+unfolding text_at
+text_lowers =
+  then_lowers (map lowered_task) lowered_text (many (a_word words.Task) (task_at whole)) _ (many (a_word words.Task) (task_at low)) _
+    (many_lowers lowered_task (a_word words.Task) (task_at whole) (task_at low) task_lowers) λ tasks.
+  next_lowers _ (optional (a_word words.NextState) end_at) _ _ λ last. give_text_lowers tasks last
+
+input_lowers : Lowers lowered_input (input_at whole) (input_at low)
+unfolding input_at lowered_input
+input_lowers =
+  next_lowers _ (token (a_word words.Input)) _ _ λ at. next_lowers _ (separated stimulus_at) _ _ λ stimuli. next_lowers _ (token (a_symbol symbols.Semicolon)) _ _ λ _.
+  then_lowers lowered_text lowered_input (text_at whole) _ (text_at low) _ text_lowers λ text. give_lowers lowered_input (record { at = at; stimuli = stimuli; text = text })
+
+clause_lowers : Lowers lowered_clause (clause_at whole) (clause_at low)
+unfolding clause_at lowered_clause
+clause_lowers = then_lowers lowered_input lowered_clause (input_at whole) _ (input_at low) _ input_lowers λ i. give_lowers lowered_clause (input i)
+
+state_lowers : Lowers lowered_part (state_at whole) (state_at low)
+unfolding state_at lowered_part
+state_lowers =
+  next_lowers _ (token (a_word words.State)) _ _ λ _. next_lowers _ (token a_name) _ _ λ name. next_lowers _ (token (a_symbol symbols.Semicolon)) _ _ λ _.
+  then_lowers (map lowered_clause) lowered_part (many (a_word words.Input) (clause_at whole)) _ (many (a_word words.Input) (clause_at low)) _
+    (many_lowers lowered_clause (a_word words.Input) (clause_at whole) (clause_at low) clause_lowers) λ clauses.
+  next_lowers _ (optional (a_word words.EndState) (end_state_at name.name)) _ _ λ _. give_lowers lowered_part (record { names = name ∷ []; clauses = clauses })
+
+one_state_lowers : Lowers (map lowered_part) (one_state_at whole) (one_state_at low)
+unfolding one_state_at
+one_state_lowers = then_lowers lowered_part (map lowered_part) (state_at whole) _ (state_at low) _ state_lowers λ s. give_lowers (map lowered_part) (s ∷ [])
+
+start_lowers : Lowers lowered_start (start_at whole) (start_at low)
+unfolding start_at lowered_start
+start_lowers =
+  next_lowers _ (token (a_word words.Start)) _ _ λ at. next_lowers _ (token (a_symbol symbols.Semicolon)) _ _ λ _.
+  then_lowers lowered_text lowered_start (text_at whole) _ (text_at low) _ text_lowers λ text. give_lowers lowered_start (record { at = at; text = text })
+
+process_lowers : Lowers lowered_process (process_at whole) (process_at low)
+unfolding process_at lowered_process
+process_lowers =
+  next_lowers _ process_head_at _ _ λ name. next_lowers _ (many (a_word words.Dcl) declaration_at) _ _ λ declarations.
+  then_lowers lowered_start lowered_process (start_at whole) _ (start_at low) _ start_lowers λ start.
+  then_lowers (map lowered_part) lowered_process (choice (a_word words.State) (one_state_at whole) (give [])) _ (choice (a_word words.State) (one_state_at low) (give [])) _
+    (choice_lowers (map lowered_part) (a_word words.State) (one_state_at whole) (give []) (one_state_at low) (give []) one_state_lowers (give_lowers (map lowered_part) [])) λ states.
+  next_lowers _ (token (a_word words.EndProcess)) _ _ λ _. next_lowers _ (closing_at name.name) _ _ λ _.
+  give_lowers lowered_process (record { name = name; declarations = declarations; start = start; states = states })
+
+signals_lowers : Lowers lowered_entity signals_at signals_at
+unfolding signals_at lowered_entity
+signals_lowers =
+  next_lowers _ (token (a_word words.Signal)) _ _ λ _. next_lowers _ (separated signal_at) _ _ λ declared. next_lowers _ (token (a_symbol symbols.Semicolon)) _ _ λ _.
+  give_lowers lowered_entity (signals declared)
+
+route_lowers : Lowers lowered_entity route_at route_at
+unfolding route_at lowered_entity
+route_lowers =
+  next_lowers _ (token (a_word words.SignalRoute)) _ _ λ _. next_lowers _ (token a_name) _ _ λ name. next_lowers _ path_at _ _ λ path.
+  give_lowers lowered_entity (route (record { name = name; paths = path ∷ [] }))
+
+-- a SIGNAL or a SIGNALROUTE has no expression
+declared_lowers : Lowers lowered_entity declared_at declared_at
+unfolding declared_at
+declared_lowers = choice_lowers lowered_entity (a_word words.Signal) signals_at route_at signals_at route_at signals_lowers route_lowers
+
+declared_row_lowers : Lowers (map lowered_entity) (many a_declared declared_at) (many a_declared declared_at)
+declared_row_lowers = many_lowers lowered_entity a_declared declared_at declared_at declared_lowers
+
+map-around : {A B : Type 0} (f : A → B) (xs : List A) (y : A) (zs : List A) → map f xs ++ f y ∷ map f zs ≡ map f (xs ++ y ∷ zs)
+map-around f [] y zs = refl
+map-around f (x ∷ xs) y zs = ap (λ l. f x ∷ l) (map-around f xs y zs)
+
+give_block_lowers : (name : Identifier) (before : List PlainEntity) (body : PlainProcess) (after : List PlainEntity)
+  → Lowers lowered_block (give (record { name = name; entities = before ++ process body ∷ after }))
+      (give (record { name = name; entities = map lowered_entity before ++ process (lowered_process body) ∷ map lowered_entity after }))
+unfolding Lowers mapped lowered_block lowered_entity
+give_block_lowers name before body after ts =
+  ap (λ (es : List PlainEntity). read (block_with name es) ts) (map-around lowered_entity before (process body) after)
+  where
+  block_with : Identifier → List PlainEntity → PlainBlock
+  block_with n es = record { name = n; entities = es }
+
+pub block_lowers : Lowers lowered_block (block_at whole) (block_at low)
+unfolding block_at
+block_lowers =
+  next_lowers _ (token (a_word words.Block)) _ _ λ _. next_lowers _ (token a_name) _ _ λ name. next_lowers _ (token (a_symbol symbols.Semicolon)) _ _ λ _.
+  then_lowers (map lowered_entity) lowered_block (many a_declared declared_at) _ (many a_declared declared_at) _ declared_row_lowers λ before.
+  then_lowers lowered_process lowered_block (process_at whole) _ (process_at low) _ process_lowers λ body.
+  then_lowers (map lowered_entity) lowered_block (many a_declared declared_at) _ (many a_declared declared_at) _ declared_row_lowers λ after.
+  next_lowers _ (token (a_word words.EndBlock)) _ _ λ _. next_lowers _ (closing_at name.name) _ _ λ _. give_block_lowers name before body after

@@ -1,0 +1,154 @@
+-- From the reading of a text to what reads.
+use Rattle.std.proofs.Common.{◌≡◌, ℕ, suc, zero, ◌+◌, ◌-◌, ◌<◌, ◌≤◌, List, [], ◌∷◌, ◌++◌, Option, Some, None, length, take, refl, sym, ap, subst, ◌∙◌, arith, add-one, length-append, Result, Ok, Err}
+use Rattle.sdl_lex.specs.declared.lexemes.Token.{Token}
+use Rattle.sdl_tree.specs.declared.fault.ParseFault.{ParseFault}
+use Rattle.sdl_tree.specs.declared.fault.ParseFault.TheVariants.{Unexpected, TooDeep, NoMemory}
+use Rattle.sdl_tree.specs.declared.tree.Block.{Block}
+use Rattle.sdl_tree.specs.declared.TheConstants.{MAX_HEIGHT}
+use Rattle.sdl_tree.specs.Plain.{PlainBlock}
+use Rattle.sdl_tree.specs.Views.{block_of}
+use Rattle.sdl_tree.specs.Syntax.{block_syntax, Reads}
+use Rattle.sdl_tree.specs.Heights.{Height, first_too_high, NoneAgrees, Refuses, Answers}
+use Rattle.sdl_tree.specs.Readings.{Reading, read, fails}
+use Rattle.sdl_tree.specs.Machine.{whole_trees, low_trees, expression_at}
+use Rattle.sdl_tree.specs.Productions.{block_at}
+use Rattle.sdl_tree.specs.Settled.{stops_at, low_block, Settled}
+use Rattle.sdl_tree.proofs.Decides.{first, rest_of, with_rest, Seen, Decides}
+use Rattle.sdl_tree.proofs.SyntaxDecides.{block_decides}
+use Rattle.sdl_tree.proofs.Lowering.{mapped, Lowers, lowered_block, block_lowers}
+use Rattle.sdl_tree.proofs.HeightLemmas.{low_where_none, high_where_some}
+use Rattle.sdl_tree.proofs.LowHeights.{place_stays, low_stays}
+
+whole_block : List Token → Reading PlainBlock
+whole_block ts = block_at (expression_at whole_trees) ts
+
+low_of_whole : (ts : List Token) → low_block ts ≡ mapped lowered_block (whole_block ts)
+unfolding whole_block Lowers
+low_of_whole ts = block_lowers ts
+
+whole_of_reads : (ts : List Token) (b : PlainBlock) → Reads ts b → whole_block ts ≡ read b []
+unfolding Reads whole_block
+whole_of_reads ts b h = block_decides.complete ts b [] h
+
+reads_of_whole : (ts : List Token) (b : PlainBlock) → whole_block ts ≡ read b [] → Reads ts b
+unfolding Reads whole_block
+reads_of_whole ts b h = block_decides.sound ts b [] h
+
+low_of_reads : (ts : List Token) (b : PlainBlock) → Reads ts b → low_block ts ≡ read (lowered_block b) []
+unfolding mapped
+low_of_reads ts b h = low_of_whole ts ∙ ap (mapped lowered_block) (whole_of_reads ts b h)
+
+-- a text has at most one tree
+pub one_tree : (ts : List Token) (b c : PlainBlock) → Reads ts b → Reads ts c → b ≡ c
+one_tree ts b c h k =
+  let e : read b [] ≡ read c [] = sym (whole_of_reads ts b h) ∙ whole_of_reads ts c k in
+  cc
+
+-- what was read is what is left of a tree that reads
+record FromTree (ts : List Token) (b : PlainBlock) : Type 0 where
+  tree : PlainBlock
+  reads : Reads ts tree
+  is : lowered_block tree ≡ b
+
+from_result : (ts : List Token) (b : PlainBlock) (r : Reading PlainBlock) → whole_block ts ≡ r → mapped lowered_block r ≡ read b [] → FromTree ts b
+unfolding mapped
+from_result ts b (fails us) e k = cc
+from_result ts b (read c us) e k =
+  let none : us ≡ [] = cc in
+  let tree_is : lowered_block c ≡ b = cc in
+  record { tree = c; reads = reads_of_whole ts c (e ∙ ap (λ vs. read c vs) none); is = tree_is }
+
+from_tree : (ts : List Token) (b : PlainBlock) → low_block ts ≡ read b [] → FromTree ts b
+from_tree ts b h = from_result ts b (whole_block ts) refl (sym (low_of_whole ts) ∙ h)
+
+-- what is given is read
+
+pub found_reads : (ts : List Token) (block : Block) → Settled ts (Ok block) → Reads ts (block_of block)
+found_reads ts block s =
+  let f = from_tree ts (block_of block) s.0 in
+  let none : first_too_high f.tree ≡ None = sym (place_stays f.tree) ∙ ap first_too_high f.is ∙ s.1 in
+  subst (λ b. Reads ts b) (sym (low_stays f.tree none) ∙ f.is) f.reads
+
+-- what is read is given
+
+stops_not : (ts us : List Token) (b : PlainBlock) → low_block ts ≡ read b [] → stops_at (low_block ts) ≡ Some us → ⊥
+stops_not ts us b h s = let e : None ≡ Some us = sym (ap stops_at h) ∙ s in cc
+
+pub answers_exactly : (ts : List Token) (r : Result Block ParseFault) (b : PlainBlock) → Settled ts r → Reads ts b → Answers r b
+answers_exactly ts (Ok block) b s h =
+  let e : read (block_of block) [] ≡ read (lowered_block b) [] = sym s.0 ∙ low_of_reads ts b h in
+  let same : block_of block ≡ lowered_block b = cc in
+  let none : first_too_high b ≡ None = sym (place_stays b) ∙ ap first_too_high (sym same) ∙ s.1 in
+  (same ∙ low_stays b none, low_where_none b none)
+answers_exactly ts (Err (TooDeep at)) b s h =
+  let e : read s.0 [] ≡ read (lowered_block b) [] = sym s.1 ∙ low_of_reads ts b h in
+  let same : s.0 ≡ lowered_block b = cc in
+  let place : first_too_high b ≡ Some at = sym (place_stays b) ∙ ap first_too_high (sym same) ∙ s.2 in
+  (high_where_some b at place, place)
+answers_exactly ts (Err (Unexpected at)) b s h = stops_not ts s.0 (lowered_block b) (low_of_reads ts b h) s.1
+answers_exactly ts (Err NoMemory) b s h = tt
+
+-- nothing goes on with the token where the reading stops
+
+stops-mapped : (r : Reading PlainBlock) → stops_at (mapped lowered_block r) ≡ stops_at r
+unfolding mapped
+stops-mapped (read b []) = refl
+stops-mapped (read b (t ∷ us)) = refl
+stops-mapped (fails us) = refl
+
+rest_where_stops : (r : Reading PlainBlock) (us : List Token) → stops_at r ≡ Some us → rest_of r ≡ us
+rest_where_stops (read b []) us e = cc
+rest_where_stops (read b (t ∷ vs)) us e = cc
+rest_where_stops (fails vs) us e = cc
+
+-- what agrees up to and with the first token behind a front begins with the front, and goes on alike
+record Agrees (f us others : List Token) : Type 0 where
+  rest : List Token
+  parts : others ≡ f ++ rest
+  alike : first rest ≡ first us
+
+agrees : (f us others : List Token) → take (suc (length f)) others ≡ take (suc (length f)) (f ++ us) → Agrees f us others
+agrees [] [] [] e = record { rest = []; parts = refl; alike = refl }
+agrees [] [] (o ∷ others) e = cc
+agrees [] (u ∷ us) [] e = cc
+agrees [] (u ∷ us) (o ∷ others) e = record { rest = o ∷ others; parts = refl; alike = (let same : o ≡ u = cc in ap Some same) }
+agrees (t ∷ f) us [] e = cc
+agrees (t ∷ f) us (o ∷ others) e =
+  let same : o ≡ t = cc in
+  let more : take (suc (length f)) others ≡ take (suc (length f)) (f ++ us) = cc in
+  let a = agrees f us others more in
+  record { rest = a.rest; parts = ap (λ x. x ∷ others) same ∙ ap (λ xs. t ∷ xs) a.parts; alike = a.alike }
+
+no_whole : (r : Reading PlainBlock) (us rest : List Token) (b : PlainBlock) → stops_at r ≡ Some us → first rest ≡ first us → with_rest r rest ≡ read b [] → ⊥
+no_whole (fails vs) us rest b s alike e = cc
+no_whole (read c []) us rest b s alike e = cc
+no_whole (read c (t ∷ vs)) us [] b s alike e = (let same : (t ∷ vs) ≡ us = cc in let k : None ≡ Some t = alike ∙ ap first (sym same) in cc)
+no_whole (read c (t ∷ vs)) us (o ∷ rest) b s alike e = cc
+
+front_length : (ts us front : List Token) (at : ℕ) → ts ≡ front ++ us → at ≡ length ts - length us → at ≡ length front
+front_length ts us front at parts e =
+  let sum : length ts ≡ length front + length us = ap length parts ∙ length-append front us in
+  omega arith
+
+pub none_agrees : (ts us : List Token) (at : ℕ) → stops_at (low_block ts) ≡ Some us → at ≡ length ts - length us → NoneAgrees ts at
+unfolding whole_block
+none_agrees ts us at stops place others b same reads =
+  let s = block_decides.looks ts in
+  let stops_whole : stops_at (whole_block ts) ≡ Some us = sym (stops-mapped (whole_block ts)) ∙ ap stops_at (sym (low_of_whole ts)) ∙ stops in
+  let stops_there : stops_at s.result ≡ Some us = ap stops_at (sym s.is) ∙ stops_whole in
+  let rest : rest_of s.result ≡ us = rest_where_stops s.result us stops_there in
+  let parts : ts ≡ s.front ++ us = s.parts ∙ ap (λ vs. s.front ++ vs) rest in
+  let here : at + 1 ≡ suc (length s.front) = (let l : at ≡ length s.front = front_length ts us s.front at parts place in omega arith) in
+  let alike : take (suc (length s.front)) others ≡ take (suc (length s.front)) (s.front ++ us) =
+    subst (λ n. take n others ≡ take n ts) here same ∙ ap (take (suc (length s.front))) parts in
+  let a = agrees s.front us others alike in
+  let again : whole_block (s.front ++ a.rest) ≡ with_rest s.result a.rest = s.again a.rest (a.alike ∙ ap first (sym rest)) in
+  let whole : whole_block (s.front ++ a.rest) ≡ read b [] = ap whole_block (sym a.parts) ∙ whole_of_reads others b reads in
+  no_whole s.result us a.rest b stops_there a.alike (sym again ∙ whole)
+
+pub refuses_rightly : (ts : List Token) (fault : ParseFault) → Settled ts (Err fault) → Refuses ts fault
+refuses_rightly ts (Unexpected at) s = (let p = s.2 in omega arith, none_agrees ts s.0 at s.1 s.2)
+refuses_rightly ts (TooDeep at) s =
+  let f = from_tree ts s.0 s.1 in
+  (f.tree, f.reads, sym (place_stays f.tree) ∙ ap first_too_high f.is ∙ s.2)
+refuses_rightly ts NoMemory s = tt

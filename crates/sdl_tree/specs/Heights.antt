@@ -1,0 +1,99 @@
+-- How high a tree is, and what keeps tokens from having one.
+use Rattle.std.specs.Prelude.{◌≡◌, ℕ, ◌+◌, ◌<◌, ◌≤◌, max, nat_lt, List, [], ◌∷◌, ◌++◌, Option, Some, None, length, take, if◌then◌else◌, Result, Ok, Err}
+use Rattle.sdl_lex.specs.declared.lexemes.Token.{Token}
+use Rattle.sdl_tree.specs.declared.fault.ParseFault.{ParseFault}
+use Rattle.sdl_tree.specs.declared.fault.ParseFault.TheVariants.{Unexpected, TooDeep, NoMemory}
+use Rattle.sdl_tree.specs.declared.tree.Block.{Block}
+use Rattle.sdl_tree.specs.declared.TheConstants.{MAX_HEIGHT}
+use Rattle.sdl_tree.specs.Plain.{Tree, number, variable, unary, binary, PlainAssignment, Text, falls, ends, task, PlainInput, PlainClause, input, PlainState, PlainProcess, PlainEntity, signals, route, process, PlainBlock}
+use Rattle.sdl_tree.specs.Syntax.{Reads}
+use Rattle.sdl_tree.specs.Views.{block_of}
+
+-- 1 for an operand, one more than its highest operand for an operator
+abbrev pub tree_height : Tree → ℕ
+tree_height (number at k) = 1
+tree_height (variable at n) = 1
+tree_height (unary at o x) = tree_height x + 1
+tree_height (binary at o x y) = max (tree_height x) (tree_height y) + 1
+
+-- the height of the highest of several things, 0 for none
+abbrev pub highest : {A : Type 0} → (A → ℕ) → List A → ℕ
+highest f [] = 0
+highest f (x ∷ xs) = max (f x) (highest f xs)
+
+abbrev pub assignments_height : List PlainAssignment → ℕ
+assignments_height assignments = highest (λ a. tree_height a.value) assignments
+
+abbrev pub text_height : Text → ℕ
+text_height falls = 0
+text_height (ends e) = 0
+text_height (task at assignments rest) = max (assignments_height assignments) (text_height rest)
+
+abbrev pub clause_height : PlainClause → ℕ
+clause_height (input i) = text_height i.text
+
+abbrev pub state_height : PlainState → ℕ
+state_height s = highest clause_height s.clauses
+
+abbrev pub process_height : PlainProcess → ℕ
+process_height p = max (text_height p.start.text) (highest state_height p.states)
+
+abbrev pub entity_height : PlainEntity → ℕ
+entity_height (signals declared) = 0
+entity_height (route r) = 0
+entity_height (process p) = process_height p
+
+-- the height of the highest expression of a text
+abbrev pub Height : PlainBlock → ℕ
+Height b = highest entity_height b.entities
+
+-- the first of several things that has an answer
+abbrev pub or_first : Option ℕ → Option ℕ → Option ℕ
+or_first (Some p) other = Some p
+or_first None other = other
+
+abbrev pub first_of : {A : Type 0} → (A → Option ℕ) → List A → Option ℕ
+first_of f [] = None
+first_of f (x ∷ xs) = or_first (f x) (first_of f xs)
+
+-- the place of the first TASK with an expression that is too high
+abbrev pub high_in_text : Text → Option ℕ
+high_in_text falls = None
+high_in_text (ends e) = None
+high_in_text (task at assignments rest) =
+  or_first (if nat_lt MAX_HEIGHT (assignments_height assignments) then Some at else None) (high_in_text rest)
+
+abbrev pub high_in_clause : PlainClause → Option ℕ
+high_in_clause (input i) = high_in_text i.text
+
+abbrev pub high_in_state : PlainState → Option ℕ
+high_in_state s = first_of high_in_clause s.clauses
+
+abbrev pub high_in_process : PlainProcess → Option ℕ
+high_in_process p = or_first (high_in_text p.start.text) (first_of high_in_state p.states)
+
+abbrev pub high_in_entity : PlainEntity → Option ℕ
+high_in_entity (signals declared) = None
+high_in_entity (route r) = None
+high_in_entity (process p) = high_in_process p
+
+abbrev pub first_too_high : PlainBlock → Option ℕ
+first_too_high b = first_of high_in_entity b.entities
+
+-- no text that reads agrees with these tokens up to and with the one at this index, where the end
+-- counts as a token: a text that ends there is another text than one that goes on
+abbrev pub NoneAgrees : List Token → ℕ → Type 0
+NoneAgrees tokens at = (others : List Token) (b : PlainBlock) → take (at + 1) others ≡ take (at + 1) tokens → Reads others b → ⊥
+
+-- what a refusal says of the tokens; want of memory says nothing
+abbrev pub Refuses : List Token → ParseFault → Type 0
+Refuses tokens (Unexpected at) = (at ≤ length tokens) × NoneAgrees tokens at
+Refuses tokens (TooDeep at) = (b : PlainBlock) × Reads tokens b × (first_too_high b ≡ Some at)
+Refuses tokens NoMemory = Unit {0}
+
+-- what an answer says of a tree that the tokens read as
+abbrev pub Answers : Result Block ParseFault → PlainBlock → Type 0
+Answers (Ok block) b = (block_of block ≡ b) × (Height b ≤ MAX_HEIGHT)
+Answers (Err (Unexpected at)) b = ⊥
+Answers (Err (TooDeep at)) b = (MAX_HEIGHT < Height b) × (first_too_high b ≡ Some at)
+Answers (Err NoMemory) b = Unit {0}

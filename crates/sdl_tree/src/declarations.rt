@@ -1,0 +1,272 @@
+//! Signals, routes and variables.
+ghost use Rattle.std.specs.Prelude.{◌≡◌, map, Option, None};
+ghost use Rattle.sdl_tree.specs.Readings.{token, separated, optional};
+ghost use Rattle.sdl_tree.specs.Productions.{signal_at, signals_at, path_at, route_at, negative_at, constant_at, initial_at, group_at, declaration_at, place_at, declared_at};
+ghost use Rattle.sdl_tree.specs.Tokens.{a_name, a_sort, a_word, a_symbol, a_declared};
+ghost use Rattle.sdl_lex.specs.declared.lexemes.Symbol.TheVariants.{Assign};
+ghost use Rattle.sdl_tree.specs.Plain.{PlainSignal, PlainEntity, PlainGroup, PlainDeclaration};
+ghost use Rattle.sdl_tree.specs.Views.{signal_of, path_of, entity_of, group_of, declaration_of};
+ghost use Rattle.sdl_tree.specs.Mirrors.{Mirrors, same};
+ghost use Rattle.sdl_tree.specs.Lengths.{name_keeps, sort_keeps, signal_keeps, group_keeps, place_keeps, declaration_takes, declared_takes, less_never_longer};
+
+use crate::expression::Identifier;
+use crate::production::{Listed, Production, read_in_parentheses, read_separated};
+use crate::stop::{Stop, attempt, push};
+use crate::tokens::{
+    constant, environment, is_declared, is_name, is_symbol, is_word, name, number, party, sort,
+    symbol, word,
+};
+use crate::tree::{
+    Constant, Declaration, Entity, Group, Literal, Path, Route, SignalDeclaration, Sort,
+};
+use sdl_lex::{Symbol, Token, Word};
+use std::alloc::Global;
+
+impl Production for Identifier {
+    ghost use Rattle.sdl_tree.specs.declared.expression.Identifier.{Identifier};
+
+    ghost Plain = { Identifier };
+
+    ghost view = { same };
+
+    ghost reading = { token a_name };
+
+    ghost never_longer = { name_keeps };
+
+    fn read<'a>(_alloc: Global, tokens: &'a [Token]) -> Result<(Identifier, &'a [Token]), Stop<'a>> {
+        name(tokens)
+    }
+}
+
+impl Production for Sort {
+    ghost use Rattle.sdl_tree.specs.declared.tree.Sort.{Sort};
+
+    ghost Plain = { Sort };
+
+    ghost view = { same };
+
+    ghost reading = { token a_sort };
+
+    ghost never_longer = { sort_keeps };
+
+    fn read<'a>(_alloc: Global, tokens: &'a [Token]) -> Result<(Sort, &'a [Token]), Stop<'a>> {
+        sort(tokens)
+    }
+}
+
+impl Production for Option<Identifier> {
+    ghost use Rattle.sdl_tree.specs.declared.expression.Identifier.{Identifier};
+
+    ghost Plain = { Option Identifier };
+
+    ghost view = { same };
+
+    ghost reading = { place_at };
+
+    ghost never_longer = { place_keeps };
+
+    #[tactic(auto, unfolding(crate::specs::Productions::place_at))]
+    fn read<'a>(
+        _alloc: Global,
+        tokens: &'a [Token],
+    ) -> Result<(Option<Identifier>, &'a [Token]), Stop<'a>> {
+        if !is_name(tokens) {
+            return Ok((None, tokens));
+        }
+        let (found, rest) = attempt!(name(tokens));
+        Ok((Some(found), rest))
+    }
+}
+
+impl Production for SignalDeclaration {
+    ghost Plain = { PlainSignal };
+
+    ghost view = { signal_of };
+
+    ghost reading = { signal_at };
+
+    ghost never_longer = { signal_keeps };
+
+    #[tactic(auto, unfolding(crate::specs::Productions::signal_at))]
+    fn read<'a>(
+        alloc: Global,
+        tokens: &'a [Token],
+    ) -> Result<(SignalDeclaration, &'a [Token]), Stop<'a>> {
+        let (name, rest) = attempt!(name(tokens));
+        let (parameters, rest) = attempt!(read_in_parentheses::<Sort>(alloc, rest));
+        Ok((SignalDeclaration { name, parameters }, rest))
+    }
+}
+
+/// Reads `SIGNAL signal {, signal} ;`.
+#[tactic(auto, unfolding(crate::specs::Productions::signals_at))]
+fn read_signals<'a>(
+    alloc: Global,
+    tokens: &'a [Token],
+) -> Result<(Entity, &'a [Token]), Stop<'a>>
+    ensures { Mirrors entity_of result (signals_at tokens.now) }
+{
+    let (_, rest) = attempt!(word(tokens, Word::Signal));
+    let (declared, rest) = attempt!(read_separated::<SignalDeclaration>(alloc, rest));
+    let (_, rest) = attempt!(symbol(rest, Symbol::Semicolon));
+    Ok((Entity::Signals(declared), rest))
+}
+
+/// Reads `FROM ENV TO (name | ENV) WITH name {, name} ;`.
+#[tactic(auto, unfolding(crate::specs::Productions::path_at))]
+fn read_path<'a>(alloc: Global, tokens: &'a [Token]) -> Result<(Path, &'a [Token]), Stop<'a>>
+    ensures { Mirrors path_of result (path_at tokens.now) }
+{
+    let (_, rest) = attempt!(word(tokens, Word::From));
+    let (from, rest) = attempt!(environment(rest));
+    let (_, rest) = attempt!(word(rest, Word::To));
+    let (to, rest) = attempt!(party(rest));
+    let (_, rest) = attempt!(word(rest, Word::With));
+    let (signals, rest) = attempt!(read_separated::<Identifier>(alloc, rest));
+    let (_, rest) = attempt!(symbol(rest, Symbol::Semicolon));
+    Ok((Path { from, to, signals }, rest))
+}
+
+/// Reads `SIGNALROUTE name path`.
+#[tactic(auto, unfolding(crate::specs::Productions::route_at))]
+fn read_route<'a>(alloc: Global, tokens: &'a [Token]) -> Result<(Entity, &'a [Token]), Stop<'a>>
+    ensures { Mirrors entity_of result (route_at tokens.now) }
+{
+    let (_, rest) = attempt!(word(tokens, Word::SignalRoute));
+    let (name, rest) = attempt!(name(rest));
+    let (path, rest) = attempt!(read_path(alloc, rest));
+    let mut paths = Vec::new(alloc);
+    push(&mut paths, path)?;
+    Ok((Entity::Route(Route { name, paths }), rest))
+}
+
+/// A SIGNAL or a SIGNALROUTE.
+impl Production for Entity {
+    ghost Plain = { PlainEntity };
+
+    ghost view = { entity_of };
+
+    ghost reading = { declared_at };
+
+    ghost never_longer = { less_never_longer declared_at declared_takes };
+
+    #[tactic(auto, unfolding(crate::specs::Productions::declared_at))]
+    fn read<'a>(alloc: Global, tokens: &'a [Token]) -> Result<(Entity, &'a [Token]), Stop<'a>> {
+        if is_word(tokens, Word::Signal) {
+            return Ok(attempt!(read_signals(alloc, tokens)));
+        }
+        Ok(attempt!(read_route(alloc, tokens)))
+    }
+}
+
+impl Listed for Entity {
+    ghost starts = { a_declared };
+
+    ghost shortens = { declared_takes };
+
+    fn is_next(tokens: &[Token]) -> bool {
+        is_declared(tokens)
+    }
+}
+
+/// Reads `- number`.
+#[tactic(auto, unfolding(crate::specs::Productions::negative_at))]
+fn read_negative<'a>(tokens: &'a [Token]) -> Result<(Constant, &'a [Token]), Stop<'a>>
+    ensures { Mirrors same result (negative_at tokens.now) }
+{
+    let (at, rest) = attempt!(symbol(tokens, Symbol::Minus));
+    let (value, rest) = attempt!(number(rest));
+    let value = Literal::Integer(-(value as i32));
+    Ok((Constant { at, value }, rest))
+}
+
+/// Reads `[ - ] number`.
+#[tactic(auto, unfolding(crate::specs::Productions::constant_at))]
+fn read_constant<'a>(tokens: &'a [Token]) -> Result<(Constant, &'a [Token]), Stop<'a>>
+    ensures { Mirrors same result (constant_at tokens.now) }
+{
+    if is_symbol(tokens, Symbol::Minus) {
+        return Ok(attempt!(read_negative(tokens)));
+    }
+    Ok(attempt!(constant(tokens)))
+}
+
+/// Reads `:= constant`.
+#[tactic(auto, unfolding(crate::specs::Productions::initial_at))]
+fn read_initial<'a>(tokens: &'a [Token]) -> Result<(Constant, &'a [Token]), Stop<'a>>
+    ensures { Mirrors same result (initial_at tokens.now) }
+{
+    let (_, rest) = attempt!(symbol(tokens, Symbol::Assign));
+    read_constant(rest)
+}
+
+/// Reads `[ := constant ]`.
+fn read_optional_initial<'a>(
+    tokens: &'a [Token],
+) -> Result<(Option<Constant>, &'a [Token]), Stop<'a>>
+    ensures { Mirrors same result (optional (a_symbol Assign) initial_at tokens.now) }
+{
+    if !is_symbol(tokens, Symbol::Assign) {
+        return Ok((None, tokens));
+    }
+    let (initial, rest) = attempt!(read_initial(tokens));
+    Ok((Some(initial), rest))
+}
+
+impl Production for Group {
+    ghost Plain = { PlainGroup };
+
+    ghost view = { group_of };
+
+    ghost reading = { group_at };
+
+    ghost never_longer = { group_keeps };
+
+    #[tactic(auto, unfolding(crate::specs::Productions::group_at))]
+    fn read<'a>(alloc: Global, tokens: &'a [Token]) -> Result<(Group, &'a [Token]), Stop<'a>> {
+        let (names, rest) = attempt!(read_separated::<Identifier>(alloc, tokens));
+        let (sort, rest) = attempt!(sort(rest));
+        let (initial, rest) = attempt!(read_optional_initial(rest));
+        Ok((
+            Group {
+                names,
+                sort,
+                initial,
+            },
+            rest,
+        ))
+    }
+}
+
+impl Production for Declaration {
+    ghost Plain = { PlainDeclaration };
+
+    ghost view = { declaration_of };
+
+    ghost reading = { declaration_at };
+
+    ghost never_longer = { less_never_longer declaration_at declaration_takes };
+
+    #[tactic(auto, unfolding(crate::specs::Productions::declaration_at))]
+    fn read<'a>(
+        alloc: Global,
+        tokens: &'a [Token],
+    ) -> Result<(Declaration, &'a [Token]), Stop<'a>> {
+        let (_, rest) = attempt!(word(tokens, Word::Dcl));
+        let (groups, rest) = attempt!(read_separated::<Group>(alloc, rest));
+        let (_, rest) = attempt!(symbol(rest, Symbol::Semicolon));
+        Ok((Declaration::Variables(groups), rest))
+    }
+}
+
+impl Listed for Declaration {
+    ghost use Rattle.sdl_lex.specs.declared.lexemes.Word.TheVariants as words;
+
+    ghost starts = { a_word words.Dcl };
+
+    ghost shortens = { declaration_takes };
+
+    fn is_next(tokens: &[Token]) -> bool {
+        is_word(tokens, Word::Dcl)
+    }
+}

@@ -1,0 +1,168 @@
+//! Operators put on expressions, while they are read.
+ghost use Rattle.std.specs.Prelude.{◌≡◌, ◌≤◌, ◌+◌, IfOk};
+ghost use Rattle.sdl_tree.specs.Plain.{number, variable};
+ghost use Rattle.sdl_tree.specs.Expressions.{place_of, placed};
+ghost use Rattle.sdl_tree.specs.Machine.{low_unary, low_binary, low_trees, factor_of, product_of, sum_of};
+ghost use Rattle.sdl_tree.specs.Parts.{sum_view, product_view};
+ghost use Rattle.sdl_tree.specs.Views.{tree_of};
+
+use crate::MAX_HEIGHT;
+use crate::expression::{BinaryOperator, Expression, Identifier, UnaryOperator};
+use crate::part::Part;
+use std::alloc::{AllocError, Global};
+
+/// A number.
+pub(crate) fn number_part(at: u32, value: u32) -> Part
+    ensures { tree_of result.tree ≡ number at value }
+{
+    Part {
+        tree: Expression::Number { at, value },
+        height: 1,
+    }
+}
+
+/// A variable.
+pub(crate) fn variable_part(at: u32, name: Identifier) -> Part
+    ensures { tree_of result.tree ≡ variable at name }
+{
+    Part {
+        tree: Expression::Variable { at, name },
+        height: 1,
+    }
+}
+
+fn place(tree: &Expression) -> u32
+    ensures { result ≡ place_of (tree_of tree.now) }
+{
+    match tree {
+        Expression::Number { at, .. } => *at,
+        Expression::Variable { at, .. } => *at,
+        Expression::Unary { at, .. } => *at,
+        Expression::Binary { at, .. } => *at,
+    }
+}
+
+fn moved_tree(tree: Expression, at: u32) -> Expression
+    ensures { tree_of result ≡ placed at (tree_of tree) }
+{
+    match tree {
+        Expression::Number { at: _, value } => Expression::Number { at, value },
+        Expression::Variable { at: _, name } => Expression::Variable { at, name },
+        Expression::Unary {
+            at: _,
+            operator,
+            operand,
+        } => Expression::Unary {
+            at,
+            operator,
+            operand,
+        },
+        Expression::Binary {
+            at: _,
+            operator,
+            left,
+            right,
+        } => Expression::Binary {
+            at,
+            operator,
+            left,
+            right,
+        },
+    }
+}
+
+/// The expression at another place, as that of an opening parenthesis.
+pub(crate) fn moved(part: Part, at: u32) -> Part
+    ensures { tree_of result.tree ≡ placed at (tree_of part.tree) }
+{
+    Part {
+        tree: moved_tree(part.tree, at),
+        height: part.height,
+    }
+}
+
+/// The operand with a minus before it. One that is too high already stays as it is.
+pub(crate) fn negated(alloc: Global, at: u32, operand: Part) -> Result<Part, AllocError>
+    ensures { IfOk result (λ p. tree_of p.tree ≡ low_trees.negate at (tree_of operand.tree)) }
+{
+    if operand.height > MAX_HEIGHT {
+        return Ok(moved(operand, at));
+    }
+    Ok(Part {
+        height: operand.height + 1,
+        tree: Expression::Unary {
+            at,
+            operator: UnaryOperator::Negate,
+            operand: Box::new(alloc, operand.tree)?,
+        },
+    })
+}
+
+/// Two operands with an operator between them, or the one that is too high already.
+pub(crate) fn joined(
+    alloc: Global,
+    operator: BinaryOperator,
+    left: Part,
+    right: Part,
+) -> Result<Part, AllocError>
+    ensures { IfOk result (λ p. tree_of p.tree ≡ low_trees.join operator (tree_of left.tree) (tree_of right.tree)) }
+{
+    let at = place(&left.tree);
+    if left.height > MAX_HEIGHT {
+        return Ok(moved(left, at));
+    }
+    if right.height > MAX_HEIGHT {
+        return Ok(moved(right, at));
+    }
+    Ok(Part {
+        height: left.height.max(right.height) + 1,
+        tree: Expression::Binary {
+            at,
+            operator,
+            left: Box::new(alloc, left.tree)?,
+            right: Box::new(alloc, right.tree)?,
+        },
+    })
+}
+
+/// An operand with the minus that stands before it, if one does.
+pub(crate) fn factor(
+    alloc: Global,
+    minus: Option<u32>,
+    operand: Part,
+) -> Result<Part, AllocError>
+    ensures { IfOk result (λ p. tree_of p.tree ≡ factor_of low_trees minus (tree_of operand.tree)) }
+{
+    match minus {
+        Some(at) => negated(alloc, at, operand),
+        None => Ok(operand),
+    }
+}
+
+/// A factor with the product that stands before it, if one does.
+pub(crate) fn product(
+    alloc: Global,
+    before: Option<Part>,
+    factor: Part,
+) -> Result<Part, AllocError>
+    ensures { IfOk result (λ p. tree_of p.tree ≡ product_of low_trees (product_view before) (tree_of factor.tree)) }
+{
+    match before {
+        Some(left) => joined(alloc, BinaryOperator::Multiply, left, factor),
+        None => Ok(factor),
+    }
+}
+
+/// A product with the sum and the operator that stand before it, if they do.
+pub(crate) fn sum(
+    alloc: Global,
+    before: Option<(Part, BinaryOperator)>,
+    product: Part,
+) -> Result<Part, AllocError>
+    ensures { IfOk result (λ p. tree_of p.tree ≡ sum_of low_trees (sum_view before) (tree_of product.tree)) }
+{
+    match before {
+        Some((left, operator)) => joined(alloc, operator, left, product),
+        None => Ok(product),
+    }
+}

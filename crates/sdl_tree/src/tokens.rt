@@ -1,0 +1,328 @@
+//! One token: a word, a symbol, a name, a number.
+ghost use Rattle.std.specs.Prelude.{◌≡◌, IsTrue};
+ghost use Rattle.sdl_tree.specs.Readings.{token};
+ghost use Rattle.sdl_tree.specs.Tokens.{same_word, same_symbol, begins, a_word, a_symbol, a_number, a_name, a_sort, a_party, environment, a_constant, a_one, a_closing, a_declared};
+ghost use Rattle.sdl_tree.specs.Mirrors.{Mirrors, same};
+
+use crate::expression::Identifier;
+use crate::stop::Stop;
+use crate::tree::{Constant, Literal, Party, Sort};
+use sdl_lex::{Lexeme, Name, Symbol, Token, Word};
+
+/// The greatest number that a token may be.
+pub(crate) const MAX_NUMBER: u32 = 2147483647;
+
+fn is_same_word(found: Word, wanted: Word) -> bool
+    ensures { result ≡ same_word found wanted }
+{
+    found == wanted
+}
+
+fn is_same_symbol(found: Symbol, wanted: Symbol) -> bool
+    ensures { result ≡ same_symbol found wanted }
+{
+    found == wanted
+}
+
+/// The place of a token that is this word.
+fn word_place(token: &Token, wanted: Word) -> Option<u32>
+    ensures { result ≡ a_word wanted token.now }
+{
+    match token.lexeme {
+        Lexeme::Word(found) => is_same_word(found, wanted).then_some(token.start),
+        _ => None,
+    }
+}
+
+/// The place of a token that is this symbol.
+fn symbol_place(token: &Token, wanted: Symbol) -> Option<u32>
+    ensures { result ≡ a_symbol wanted token.now }
+{
+    match token.lexeme {
+        Lexeme::Symbol(found) => is_same_symbol(found, wanted).then_some(token.start),
+        _ => None,
+    }
+}
+
+/// A token that is a name, at its place.
+fn name_of(token: &Token) -> Option<Identifier>
+    ensures { result ≡ a_name token.now }
+{
+    match token.lexeme {
+        Lexeme::Name(name) => Some(Identifier {
+            name,
+            at: token.start,
+        }),
+        _ => None,
+    }
+}
+
+/// A token that is a number.
+fn number_of(token: &Token) -> Option<u32>
+    ensures { result ≡ a_number token.now }
+{
+    match token.lexeme {
+        Lexeme::Number(value) => (value <= MAX_NUMBER).then_some(value),
+        _ => None,
+    }
+}
+
+/// A token that is a sort.
+fn sort_of(token: &Token) -> Option<Sort>
+    ensures { result ≡ a_sort token.now }
+{
+    match token.lexeme {
+        Lexeme::Word(Word::Integer) => Some(Sort::Integer),
+        _ => None,
+    }
+}
+
+/// A token that is ENV.
+fn environment_of(token: &Token) -> Option<Party>
+    ensures { result ≡ environment token.now }
+{
+    match token.lexeme {
+        Lexeme::Word(Word::Env) => Some(Party::Environment),
+        _ => None,
+    }
+}
+
+/// A token that is ENV, or the name of a process.
+fn party_of(token: &Token) -> Option<Party>
+    ensures { result ≡ a_party token.now }
+{
+    match environment_of(token) {
+        Some(party) => Some(party),
+        None => match name_of(token) {
+            Some(name) => Some(Party::Process(name)),
+            None => None,
+        },
+    }
+}
+
+/// A token that is a number, as a constant.
+fn constant_of(token: &Token) -> Option<Constant>
+    ensures { result ≡ a_constant token.now }
+{
+    match number_of(token) {
+        Some(value) => Some(Constant {
+            at: token.start,
+            value: Literal::Integer(value as i32),
+        }),
+        None => None,
+    }
+}
+
+/// A token that is the number 1.
+fn one_of(token: &Token) -> Option<u32>
+    ensures { result ≡ a_one token.now }
+{
+    match number_of(token) {
+        Some(value) => (value == 1).then_some(value),
+        None => None,
+    }
+}
+
+/// A token that is this name, in any case.
+fn closing_of(token: &Token, name: Name) -> Option<Identifier>
+    ensures { result ≡ a_closing name token.now }
+{
+    match name_of(token) {
+        Some(found) => (found.name.folded() == name.folded()).then_some(found),
+        None => None,
+    }
+}
+
+/// The place of a token that begins a SIGNAL or a SIGNALROUTE.
+fn declared_of(token: &Token) -> Option<u32>
+    ensures { result ≡ a_declared token.now }
+{
+    match token.lexeme {
+        Lexeme::Word(Word::Signal) => Some(token.start),
+        Lexeme::Word(Word::SignalRoute) => Some(token.start),
+        _ => None,
+    }
+}
+
+/// Whether this word stands next.
+pub(crate) fn is_word(tokens: &[Token], wanted: Word) -> bool
+    ensures { result ≡ begins (a_word wanted) tokens.now }
+{
+    match tokens.split_first() {
+        Some((token, _)) => word_place(token, wanted).is_some(),
+        None => false,
+    }
+}
+
+/// Whether this symbol stands next.
+pub(crate) fn is_symbol(tokens: &[Token], wanted: Symbol) -> bool
+    ensures { result ≡ begins (a_symbol wanted) tokens.now }
+{
+    match tokens.split_first() {
+        Some((token, _)) => symbol_place(token, wanted).is_some(),
+        None => false,
+    }
+}
+
+/// Reads this word, and gives its place.
+pub(crate) fn word<'a>(tokens: &'a [Token], wanted: Word) -> Result<(u32, &'a [Token]), Stop<'a>>
+    ensures { Mirrors same result (token (a_word wanted) tokens.now) }
+{
+    let Some((token, rest)) = tokens.split_first() else {
+        return Err(Stop::Unexpected(tokens));
+    };
+    match word_place(token, wanted) {
+        Some(at) => Ok((at, rest)),
+        None => Err(Stop::Unexpected(tokens)),
+    }
+}
+
+/// Reads this symbol, and gives its place.
+pub(crate) fn symbol<'a>(
+    tokens: &'a [Token],
+    wanted: Symbol,
+) -> Result<(u32, &'a [Token]), Stop<'a>>
+    ensures { Mirrors same result (token (a_symbol wanted) tokens.now) }
+{
+    let Some((token, rest)) = tokens.split_first() else {
+        return Err(Stop::Unexpected(tokens));
+    };
+    match symbol_place(token, wanted) {
+        Some(at) => Ok((at, rest)),
+        None => Err(Stop::Unexpected(tokens)),
+    }
+}
+
+/// Reads a name.
+pub(crate) fn name<'a>(tokens: &'a [Token]) -> Result<(Identifier, &'a [Token]), Stop<'a>>
+    ensures { Mirrors same result (token a_name tokens.now) }
+{
+    let Some((token, rest)) = tokens.split_first() else {
+        return Err(Stop::Unexpected(tokens));
+    };
+    match name_of(token) {
+        Some(found) => Ok((found, rest)),
+        None => Err(Stop::Unexpected(tokens)),
+    }
+}
+
+/// Reads a number.
+pub(crate) fn number<'a>(tokens: &'a [Token]) -> Result<(u32, &'a [Token]), Stop<'a>>
+    ensures { Mirrors same result (token a_number tokens.now) }
+{
+    let Some((token, rest)) = tokens.split_first() else {
+        return Err(Stop::Unexpected(tokens));
+    };
+    match number_of(token) {
+        Some(found) => Ok((found, rest)),
+        None => Err(Stop::Unexpected(tokens)),
+    }
+}
+
+/// Reads a sort.
+pub(crate) fn sort<'a>(tokens: &'a [Token]) -> Result<(Sort, &'a [Token]), Stop<'a>>
+    ensures { Mirrors same result (token a_sort tokens.now) }
+{
+    let Some((token, rest)) = tokens.split_first() else {
+        return Err(Stop::Unexpected(tokens));
+    };
+    match sort_of(token) {
+        Some(found) => Ok((found, rest)),
+        None => Err(Stop::Unexpected(tokens)),
+    }
+}
+
+/// Reads ENV.
+pub(crate) fn environment<'a>(tokens: &'a [Token]) -> Result<(Party, &'a [Token]), Stop<'a>>
+    ensures { Mirrors same result (token environment tokens.now) }
+{
+    let Some((token, rest)) = tokens.split_first() else {
+        return Err(Stop::Unexpected(tokens));
+    };
+    match environment_of(token) {
+        Some(found) => Ok((found, rest)),
+        None => Err(Stop::Unexpected(tokens)),
+    }
+}
+
+/// Reads ENV or the name of a process.
+pub(crate) fn party<'a>(tokens: &'a [Token]) -> Result<(Party, &'a [Token]), Stop<'a>>
+    ensures { Mirrors same result (token a_party tokens.now) }
+{
+    let Some((token, rest)) = tokens.split_first() else {
+        return Err(Stop::Unexpected(tokens));
+    };
+    match party_of(token) {
+        Some(found) => Ok((found, rest)),
+        None => Err(Stop::Unexpected(tokens)),
+    }
+}
+
+/// Reads a number as a constant.
+pub(crate) fn constant<'a>(tokens: &'a [Token]) -> Result<(Constant, &'a [Token]), Stop<'a>>
+    ensures { Mirrors same result (token a_constant tokens.now) }
+{
+    let Some((token, rest)) = tokens.split_first() else {
+        return Err(Stop::Unexpected(tokens));
+    };
+    match constant_of(token) {
+        Some(found) => Ok((found, rest)),
+        None => Err(Stop::Unexpected(tokens)),
+    }
+}
+
+/// Reads the number 1.
+pub(crate) fn one<'a>(tokens: &'a [Token]) -> Result<(u32, &'a [Token]), Stop<'a>>
+    ensures { Mirrors same result (token a_one tokens.now) }
+{
+    let Some((token, rest)) = tokens.split_first() else {
+        return Err(Stop::Unexpected(tokens));
+    };
+    match one_of(token) {
+        Some(found) => Ok((found, rest)),
+        None => Err(Stop::Unexpected(tokens)),
+    }
+}
+
+/// Reads this name, in any case.
+pub(crate) fn closing<'a>(tokens: &'a [Token], name: Name) -> Result<(Identifier, &'a [Token]), Stop<'a>>
+    ensures { Mirrors same result (token (a_closing name) tokens.now) }
+{
+    let Some((token, rest)) = tokens.split_first() else {
+        return Err(Stop::Unexpected(tokens));
+    };
+    match closing_of(token, name) {
+        Some(found) => Ok((found, rest)),
+        None => Err(Stop::Unexpected(tokens)),
+    }
+}
+
+/// Whether a name stands next.
+pub(crate) fn is_name(tokens: &[Token]) -> bool
+    ensures { result ≡ begins a_name tokens.now }
+{
+    match tokens.split_first() {
+        Some((token, _)) => name_of(token).is_some(),
+        None => false,
+    }
+}
+
+/// Whether a number stands next.
+pub(crate) fn is_number(tokens: &[Token]) -> bool
+    ensures { result ≡ begins a_number tokens.now }
+{
+    match tokens.split_first() {
+        Some((token, _)) => number_of(token).is_some(),
+        None => false,
+    }
+}
+
+/// Whether a SIGNAL or a SIGNALROUTE stands next.
+pub(crate) fn is_declared(tokens: &[Token]) -> bool
+    ensures { result ≡ begins a_declared tokens.now }
+{
+    match tokens.split_first() {
+        Some((token, _)) => declared_of(token).is_some(),
+        None => false,
+    }
+}

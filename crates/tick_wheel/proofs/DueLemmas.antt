@@ -1,0 +1,198 @@
+-- A sorted permutation of what is due in a table is what is due in its map.
+use Rattle.std.proofs.Common.{◌≡◌, ℕ, ◌<◌, ◌≤◌, ◌+◌, Bool, true, false, ◌||◌, ◌&&◌, cond, T, ◌++◌, take, drop, List, [], ◌∷◌, length, get_or, map, Option, Some, None, refl, sym, ap, subst, ◌∙◌, inl, inr, arith, nat_le, ◌==◌, Decides, Ordering}
+use Rattle.std.specs.declared.cmp.Ordering.TheVariants.{Less, Equal, Greater}
+use Rattle.std.specs.Ordering.{eq_by_cmp, is_lt, is_eq, ordering_reverse, ordering_then, nat_cmp}
+use Rattle.std.specs.List.{filter, list_any, IsDistinct, AllByRecursion}
+use Rattle.std.specs.List.Sorted.{IsPermutation, IsSorted, IsStrictlySortedBy}
+use Rattle.std.specs.Cmp.{unsigned_tied}
+use Rattle.std.specs.FinMap as finite
+use Rattle.std.specs.FinMap.{find, is_sorted, get-from_sorted, get-from_entries, entries-from_sorted, same_map}
+use Rattle.std.specs.FinMap.Entries.{below_all}
+use Rattle.std.proofs.lemmas.List.Sorted.{list_any-IsPermutation}
+use Rattle.std.proofs.lemmas.Map.Keys.{sorted_from_all_adjacent, sorted_head, sorted_tail, IsDistinct-cons, IsDistinct-IsPermutation, apart_from_distinct}
+use Rattle.std.proofs.lemmas.Cmp.{eq_by_cmp_equiv}
+use Rattle.std.proofs.Math.Seq.{take-append_seam}
+use Rattle.std.proofs.lemmas.Bool.{false≢true}
+use Rattle.std.proofs.lemmas.Bool.Decides.{Decides-like, Decides-and, Decides-eqb, leb_tells}
+use Rattle.std.proofs.lemmas.Map.Views.{Contains-from_any, list_any-from_Contains, tells_apart}
+use Rattle.std.proofs.lemmas.Option.{same_Some}
+use Rattle.tick_wheel.specs.TimerId.{TimerId, timer_cmp}
+use Rattle.tick_wheel.specs.Table.{timer_at, entries_from, due_from, deadlines_of}
+use Rattle.tick_wheel.specs.Timers.{due, due_cmp, in_order, pairs, IsDue}
+use Rattle.tick_wheel.specs.declared.Due.{Due}
+use Rattle.tick_wheel.proofs.Orders.{dues_total, exact_dues, pairs_apart}
+use Rattle.tick_wheel.proofs.TableLemmas.{entries-deadlines_of, get-deadlines_of, not_found}
+
+both : (a b : Bool) → a ≡ true → b ≡ true → (a && b) ≡ true
+both true true p q = refl
+both true false p q = q
+both false b p q = p
+
+-- the entries of a set
+abbrev marked : List Due → List (Due × Unit {0})
+marked pairs = map (λ d. (d, tt {0})) pairs
+
+-- in a strictly sorted list no pair is below the one in front
+below_marked : (d : Due) (pairs : List Due) → AllByRecursion (λ e. due_cmp d e ≡ Less) pairs → below_all due_cmp d (marked pairs) ≡ true
+below_marked d [] h = refl
+below_marked d (e ∷ pairs) h = both _ _ (ap is_lt h.0) (below_marked d pairs h.1)
+
+marked_sorted : (pairs : List Due) → IsStrictlySortedBy due_cmp pairs → is_sorted due_cmp (marked pairs) ≡ true
+marked_sorted [] h = refl
+marked_sorted (d ∷ pairs) h = both _ _ (below_marked d pairs (sorted_head due_cmp d pairs h)) (marked_sorted pairs (sorted_tail due_cmp d pairs h))
+
+unmarked : (pairs : List Due) → map (λ (e : Due × Unit {0}). e.0) (marked pairs) ≡ pairs
+unmarked [] = refl
+unmarked (d ∷ pairs) = ap (λ ds. d ∷ ds) (unmarked pairs)
+
+find_marked : (q : Due) (pairs : List Due) → find due_cmp q (marked pairs) ≡ cond (list_any (eq_by_cmp due_cmp q) pairs) (Some (tt {0})) None
+find_marked q [] = refl
+find_marked q (d ∷ pairs) = elim (eq_by_cmp due_cmp q d) as (λ b. cond b (Some (tt {0})) (find due_cmp q (marked pairs)) ≡ cond (b || list_any (eq_by_cmp due_cmp q) pairs) (Some (tt {0})) None) [
+  | true ↦ refl
+  | false ↦ find_marked q pairs
+]
+
+-- a strictly sorted list is in order
+in_order-sorted : (pairs : List Due) → IsStrictlySortedBy due_cmp pairs → in_order pairs ≡ pairs
+unfolding in_order
+in_order-sorted pairs h =
+    let sorted : T (is_sorted due_cmp (marked pairs)) = subst T (sym (marked_sorted pairs h)) tt in
+    let same : finite.from_entries {R = due_cmp} (marked pairs) ≡ finite.from_sorted (marked pairs) = same_map dues_total exact_dues _ _ (λ q. get-from_entries dues_total (marked pairs) q ∙ sym (get-from_sorted due_cmp (marked pairs) q sorted)) in
+    ap finite.keys same ∙ ap (map (λ (e : Due × Unit {0}). e.0)) (entries-from_sorted due_cmp (marked pairs) sorted) ∙ unmarked pairs
+
+-- the order doesn't depend on how the list stood
+in_order-IsPermutation : (xs ys : List Due) → IsPermutation xs ys → in_order xs ≡ in_order ys
+unfolding in_order
+in_order-IsPermutation xs ys p = ap finite.keys (same_map dues_total exact_dues _ _ (λ q.
+    get-from_entries dues_total (marked xs) q ∙ find_marked q xs
+    ∙ ap (λ b. cond b (Some (tt {0})) None) (list_any-IsPermutation (eq_by_cmp due_cmp q) xs ys p)
+    ∙ sym (find_marked q ys) ∙ sym (get-from_entries dues_total (marked ys) q)))
+
+-- neighbours that don't fall and differ rise
+rises : (r : Ordering) → is_lt (ordering_reverse r) ≡ false → is_eq r ≡ false → r ≡ Less
+rises Less h e = refl
+rises Equal h e = cc
+rises Greater h e = cc
+
+IsStrictlySortedBy-from_distinct : (xs : List Due) → IsSorted due_cmp xs → IsDistinct (eq_by_cmp due_cmp) xs → IsStrictlySortedBy due_cmp xs
+IsStrictlySortedBy-from_distinct [] s h = sorted_from_all_adjacent dues_total [] (record { deadline = 0; timer = timer_at 0 }) (λ k lt. absurd (omega arith))
+IsStrictlySortedBy-from_distinct (x ∷ xs) s h = sorted_from_all_adjacent dues_total (x ∷ xs) x (λ k lt.
+    let a = get_or (x ∷ xs) k x in
+    let b = get_or (x ∷ xs) (k + 1) x in
+    rises (due_cmp a b) (ap is_lt (sym (dues_total.antisymm b a)) ∙ s k x (omega arith) lt) (apart_from_distinct (eq_by_cmp due_cmp) (x ∷ xs) k (k + 1) x h (omega arith) lt))
+
+-- a sorted permutation of pairs that differ is those in order
+pub in_order-from_sort : (xs ys : List Due) → IsDistinct (eq_by_cmp due_cmp) xs → IsPermutation xs ys → IsSorted due_cmp ys → ys ≡ in_order xs
+in_order-from_sort xs ys distinct moved sorted =
+    sym (in_order-sorted ys (IsStrictlySortedBy-from_distinct ys sorted (IsDistinct-IsPermutation (eq_by_cmp due_cmp) (eq_by_cmp_equiv dues_total).symm xs ys moved distinct)))
+    ∙ sym (in_order-IsPermutation xs ys moved)
+
+-- what is due later in a table differs from a pair in front
+due_apart : (clock d i place : ℕ) (table : List (Option ℕ)) → i < place → AllByRecursion (λ e. eq_by_cmp due_cmp (record { deadline = d; timer = timer_at i }) e ≡ false) (due_from clock place table)
+due_apart clock d i place [] h = tt
+due_apart clock d i place (None ∷ table) h = due_apart clock d i (place + 1) table (omega arith)
+due_apart clock d i place (Some f ∷ table) h =
+    let later = due_apart clock d i (place + 1) table (omega arith) in
+    elim (nat_le f clock) as (λ b. AllByRecursion (λ e. eq_by_cmp due_cmp (record { deadline = d; timer = timer_at i }) e ≡ false) (cond b (record { deadline = f; timer = timer_at place } ∷ due_from clock (place + 1) table) (due_from clock (place + 1) table))) [
+      | true ↦ (pairs_apart d f i place h, later)
+      | false ↦ later
+    ]
+
+pub due_from-distinct : (clock place : ℕ) (table : List (Option ℕ)) → IsDistinct (eq_by_cmp due_cmp) (due_from clock place table)
+unfolding IsDistinct
+due_from-distinct clock place [] = tt
+due_from-distinct clock place (None ∷ table) = due_from-distinct clock (place + 1) table
+due_from-distinct clock place (Some d ∷ table) =
+    let later = due_from-distinct clock (place + 1) table in
+    elim (nat_le d clock) as (λ b. IsDistinct (eq_by_cmp due_cmp) (cond b (record { deadline = d; timer = timer_at place } ∷ due_from clock (place + 1) table) (due_from clock (place + 1) table))) [
+      | true ↦ IsDistinct-cons (eq_by_cmp due_cmp) _ _ (due_apart clock d place (place + 1) table (omega arith)) later
+      | false ↦ later
+    ]
+
+-- the pairs of a map with a deadline that has come, in the order of the table
+due_from-filter : (clock place : ℕ) (table : List (Option ℕ)) → filter (λ d. nat_le d.deadline clock) (map (λ (e : TimerId × ℕ). record { deadline = e.1; timer = e.0 }) (entries_from place table)) ≡ due_from clock place table
+due_from-filter clock place [] = refl
+due_from-filter clock place (None ∷ table) = due_from-filter clock (place + 1) table
+due_from-filter clock place (Some d ∷ table) = rw (due_from-filter clock (place + 1) table) refl
+
+pub due-from_sort : (table : List (Option ℕ)) (clock : ℕ) (ys : List Due) → IsPermutation (due_from clock 0 table) ys → IsSorted due_cmp ys → ys ≡ due (deadlines_of table) clock
+unfolding due
+due-from_sort table clock ys moved sorted =
+    in_order-from_sort (due_from clock 0 table) ys (due_from-distinct clock 0 table) moved sorted
+    ∙ ap in_order (sym (due_from-filter clock 0 table) ∙ ap (λ es. filter (λ d. nat_le d.deadline clock) (map (λ (e : TimerId × ℕ). record { deadline = e.1; timer = e.0 }) es)) (sym (entries-deadlines_of table)))
+
+-- a list that is written back over one as long
+pub written_back : {A : Type 0} (xs ys : List A) (n : ℕ) → length ys ≡ n → take n (ys ++ drop (length ys) xs) ≡ ys
+written_back xs ys n e = rw (← e) (take-append_seam ys (drop (length ys) xs))
+
+-- whether a deadline is the one of a pair, and has come by a clock
+abbrev is_that : Due → ℕ → Option ℕ → Bool
+is_that d clock None = false
+is_that d clock (Some deadline) = (d.deadline == deadline) && nat_le deadline clock
+
+is_eq-then : (r s : Ordering) → is_eq (ordering_then r s) ≡ (is_eq r && is_eq s)
+is_eq-then Less s = refl
+is_eq-then Equal s = refl
+is_eq-then Greater s = refl
+
+same_pair : (d e : Due) → eq_by_cmp due_cmp d e ≡ ((d.deadline == e.deadline) && eq_by_cmp timer_cmp d.timer e.timer)
+same_pair d e = is_eq-then (nat_cmp d.deadline e.deadline) (timer_cmp d.timer e.timer) ∙ ap (λ b. b && eq_by_cmp timer_cmp d.timer e.timer) (unsigned_tied d.deadline e.deadline)
+
+-- by cases on: the pair has this deadline, this timer; the deadline has come
+front_is : (deadline timer come later : Bool) (d : Due) (clock : ℕ) → (timer ≡ true → later ≡ false) → cond come ((deadline && timer) || later) later ≡ cond timer (deadline && come) later
+front_is true true true later d clock none = refl
+front_is true true false later d clock none = none refl
+front_is false true true later d clock none = none refl
+front_is false true false later d clock none = none refl
+front_is true false true later d clock none = refl
+front_is true false false later d clock none = refl
+front_is false false true later d clock none = refl
+front_is false false false later d clock none = refl
+
+any_of : (p : Due → Bool) (b : Bool) (x : Due) (xs : List Due) → list_any p (cond b (x ∷ xs) xs) ≡ cond b (p x || list_any p xs) (list_any p xs)
+any_of p true x xs = refl
+any_of p false x xs = refl
+
+is_that-cond : (d : Due) (clock : ℕ) (b : Bool) (x y : Option ℕ) → is_that d clock (cond b x y) ≡ cond b (is_that d clock x) (is_that d clock y)
+is_that-cond d clock true x y = refl
+is_that-cond d clock false x y = refl
+
+-- a pair is among those of a table where its timer has its deadline there, and that has come
+due_from-has : (clock place : ℕ) (table : List (Option ℕ)) (d : Due) → list_any (eq_by_cmp due_cmp d) (due_from clock place table) ≡ is_that d clock (find timer_cmp d.timer (entries_from place table))
+due_from-has clock place [] d = refl
+due_from-has clock place (None ∷ table) d = due_from-has clock (place + 1) table d
+due_from-has clock place (Some f ∷ table) d =
+    let this = eq_by_cmp timer_cmp d.timer (timer_at place) in
+    let front : Due = record { deadline = f; timer = timer_at place } in
+    let later = due_from clock (place + 1) table in
+    let rest = due_from-has clock (place + 1) table d in
+    any_of (eq_by_cmp due_cmp d) (nat_le f clock) front later
+    ∙ ap (λ b. cond (nat_le f clock) (b || list_any (eq_by_cmp due_cmp d) later) (list_any (eq_by_cmp due_cmp d) later)) (same_pair d front)
+    ∙ front_is (d.deadline == f) this (nat_le f clock) (list_any (eq_by_cmp due_cmp d) later) d clock (λ t. rest ∙ ap (is_that d clock) (not_found d.timer place (place + 1) table t (omega arith)))
+    ∙ ap (cond this ((d.deadline == f) && nat_le f clock)) rest
+    ∙ sym (is_that-cond d clock this (Some f) (find timer_cmp d.timer (entries_from (place + 1) table)))
+
+Decides-le : (a b : ℕ) → Decides (nat_le a b) (a ≤ b)
+Decides-le a b = elim (leb_tells a b) [
+  | inl within ↦ (λ _. within.1, λ _. within.0)
+  | inr above ↦ (λ e. absurd (false≢true (sym above.0 ∙ e)), λ h. absurd (omega (arith, h, above.1)))
+]
+
+is_that-means : (d : Due) (clock : ℕ) (o : Option ℕ) → Decides (is_that d clock o) ((o ≡ Some d.deadline) × (d.deadline ≤ clock))
+is_that-means d clock None = (λ e. absurd (false≢true e), λ h. let none : None ≡ Some d.deadline = h.0 in cc)
+is_that-means d clock (Some f) =
+    Decides-like ((d.deadline == f) && nat_le f clock) (λ (h : (d.deadline ≡ f) × (f ≤ clock)). (ap Some (sym h.0), omega (arith, h.0, h.1))) (λ h. let same : f ≡ d.deadline = same_Some f d.deadline h.0 in (sym same, omega (arith, same, h.1)))
+    (Decides-and (d.deadline == f) (nat_le f clock) (Decides-eqb d.deadline f) (Decides-le f clock))
+
+-- a sorted permutation of what is due in a table is what is due
+pub IsDue-from_sort : (table : List (Option ℕ)) (clock : ℕ) (ys : List Due) → IsPermutation (due_from clock 0 table) ys → IsSorted due_cmp ys → IsDue (deadlines_of table) clock ys
+IsDue-from_sort table clock ys moved sorted =
+    let deadlines = deadlines_of table in
+    let among : (d : Due) → list_any (eq_by_cmp due_cmp d) ys ≡ is_that d clock (finite.get deadlines d.timer) = λ d.
+    sym (list_any-IsPermutation (eq_by_cmp due_cmp d) (due_from clock 0 table) ys moved) ∙ due_from-has clock 0 table d ∙ ap (is_that d clock) (sym (get-deadlines_of table d.timer)) in
+    record {
+      exactly = λ d.
+          let means = is_that-means d clock (finite.get deadlines d.timer) in
+          (λ h. means.0 (sym (among d) ∙ list_any-from_Contains (eq_by_cmp_equiv dues_total) d ys h), λ h. Contains-from_any (tells_apart exact_dues) d ys (among d ∙ means.1 h));
+      in_order = IsStrictlySortedBy-from_distinct ys sorted (IsDistinct-IsPermutation (eq_by_cmp due_cmp) (eq_by_cmp_equiv dues_total).symm (due_from clock 0 table) ys moved (due_from-distinct clock 0 table));
+    }

@@ -1,0 +1,14 @@
+use Rattle.std.proofs.Common.{ap, sym, subst, ◌∙◌, arith, rules}
+use Rattle.tick_wheel.specs.Table.{deadlines_of, NoneDue}
+use Rattle.tick_wheel.proofs.TableLemmas.{deadlines_of-none, NoneDue-none}
+use Rattle.tick_wheel.proofs.Wheel.new.Goals as goal
+
+pub returns : goal.returns
+returns c =
+    let table = c.in_ok-vec.ensures.items_if_clones_equal (λ y h. search rules) in
+    ap (λ m. record { clock = 0; deadlines = m }) (ap deadlines_of table ∙ deadlines_of-none 128)
+
+pub invariant_of-result : goal.invariant_of-result
+invariant_of-result c =
+    let table = c.in_ok-vec.ensures.items_if_clones_equal (λ y h. search rules) in
+    (search rules, omega arith, subst (NoneDue 0) (sym table) (NoneDue-none 0 128))

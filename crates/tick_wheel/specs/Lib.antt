@@ -1,0 +1,3 @@
+pub mod Table
+pub mod TimerId
+pub mod Timers

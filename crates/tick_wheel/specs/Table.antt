@@ -1,0 +1,37 @@
+-- A table with a place for each timer: eight places for process 0, then eight for process 1, and so on.
+use Rattle.std.specs.Prelude.{◌≡◌, ℕ, ◌+◌, ◌/◌, ◌%◌, List, [], ◌∷◌, map, Option, Some, None, nat_le, if◌then◌else◌}
+use Rattle.std.specs.FinMap as finite
+use Rattle.tick_wheel.specs.TimerId.{TimerId}
+use Rattle.tick_wheel.specs.Timers.{Deadlines}
+use Rattle.tick_wheel.specs.declared.Due.{Due}
+
+-- the timer of a place
+abbrev pub timer_at : ℕ → TimerId
+timer_at place = record { process = place / 8; number = place % 8 }
+
+-- the timers with a deadline, of a table that begins at a place
+abbrev pub entries_from : ℕ → List (Option ℕ) → List (TimerId × ℕ)
+entries_from place [] = []
+entries_from place (None ∷ table) = entries_from (place + 1) table
+entries_from place (Some deadline ∷ table) = (timer_at place, deadline) ∷ entries_from (place + 1) table
+
+-- the map that a table stands for
+unfoldable pub deadlines_of : List (Option ℕ) → Deadlines
+deadlines_of table = finite.from_sorted (entries_from 0 table)
+
+-- what is due at a clock, in the order of the places
+abbrev pub due_from : ℕ → ℕ → List (Option ℕ) → List Due
+due_from clock place [] = []
+due_from clock place (None ∷ table) = due_from clock (place + 1) table
+due_from clock place (Some deadline ∷ table) =
+    let later = due_from clock (place + 1) table in
+    if nat_le deadline clock then record { deadline = deadline; timer = timer_at place } ∷ later else later
+
+-- what a place holds once what is due has left it
+abbrev pub kept : ℕ → Option ℕ → Option ℕ
+kept clock None = None
+kept clock (Some deadline) = if nat_le deadline clock then None else Some deadline
+
+-- no deadline of the table has come
+abbrev pub NoneDue : ℕ → List (Option ℕ) → Type 0
+NoneDue clock table = map (kept clock) table ≡ table

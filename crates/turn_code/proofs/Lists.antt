@@ -1,0 +1,77 @@
+-- Lists, place by place.
+use Rattle.std.proofs.Common.{◌≡◌, ◌≢◌, ℕ, zero, suc, ◌+◌, ◌-◌, ◌<◌, ◌≤◌, max, List, [], ◌∷◌, ◌++◌, length, map, take, drop, Option, Some, None, refl, sym, ap, ◌∙◌, subst, arith, take_all, le-add_right, le_refl}
+use Rattle.std.specs.Prelude.{slice_get, slice_set, slice_index_or, Contains, All}
+use Rattle.std.specs.List.{AllZip, refill}
+use Rattle.std.proofs.lemmas.List.{take-append-le}
+use Rattle.std.proofs.Common.{length-set}
+
+-- an element below the length
+pub there : {A : Type 0} (xs : List A) (k : ℕ) → k < length xs → (a : A) × (slice_get xs k ≡ Some a)
+there [] k h = absurd (omega arith)
+there (x ∷ xs) zero h = (x, refl)
+there (x ∷ xs) (suc k) h = there xs k (omega arith)
+
+pub within : {A : Type 0} (xs : List A) (k : ℕ) (a : A) → slice_get xs k ≡ Some a → k < length xs
+within [] k a h = cc
+within (x ∷ xs) zero a h = omega arith
+within (x ∷ xs) (suc k) a h = let r = within xs k a h in omega arith
+
+pub zip_at : {A B : Type 0} (R : A → B → Type 0) (xs : List A) (ys : List B) (k : ℕ) (a : A) (b : B)
+    → AllZip R xs ys → slice_get xs k ≡ Some a → slice_get ys k ≡ Some b → R a b
+zip_at R [] ys k a b h p q = cc
+zip_at R (x ∷ xs) [] k a b h p q = cc
+zip_at R (x ∷ xs) (y ∷ ys) zero a b h p q =
+    let e : x ≡ a = cc in
+    let f : y ≡ b = cc in
+    subst (λ u. R u b) e (subst (λ u. R x u) f h.0)
+zip_at R (x ∷ xs) (y ∷ ys) (suc k) a b h p q = zip_at R xs ys k a b h.1 p q
+
+pub zip_length : {A B : Type 0} (R : A → B → Type 0) (xs : List A) (ys : List B) → AllZip R xs ys → length ys ≡ length xs
+zip_length R [] [] h = refl
+zip_length R [] (y ∷ ys) h = absurd h
+zip_length R (x ∷ xs) [] h = absurd h
+zip_length R (x ∷ xs) (y ∷ ys) h = ap suc (zip_length R xs ys h.1)
+
+pub zip_set : {A B : Type 0} (R : A → B → Type 0) (xs : List A) (ys : List B) (k : ℕ) (a : A) (b : B)
+    → AllZip R xs ys → slice_get xs k ≡ Some a → R a b → AllZip R xs (slice_set ys k b)
+zip_set R [] ys k a b h p r = cc
+zip_set R (x ∷ xs) [] k a b h p r = absurd h
+zip_set R (x ∷ xs) (y ∷ ys) zero a b h p r =
+    let e : a ≡ x = cc in
+    (subst (λ u. R u b) e r, h.1)
+zip_set R (x ∷ xs) (y ∷ ys) (suc k) a b h p r = (h.0, zip_set R xs ys k a b h.1 p r)
+
+pub get_set_same : {A : Type 0} (xs : List A) (k : ℕ) (old a : A) → slice_get xs k ≡ Some old → slice_get (slice_set xs k a) k ≡ Some a
+get_set_same [] k old a h = cc
+get_set_same (x ∷ xs) zero old a h = refl
+get_set_same (x ∷ xs) (suc k) old a h = get_set_same xs k old a h
+
+pub get_set_other : {A : Type 0} (xs : List A) (k j : ℕ) (a : A) → j ≢ k → slice_get (slice_set xs k a) j ≡ slice_get xs j
+get_set_other [] k j a ne = refl
+get_set_other (x ∷ xs) zero zero a ne = absurd (ne refl)
+get_set_other (x ∷ xs) zero (suc j) a ne = refl
+get_set_other (x ∷ xs) (suc k) zero a ne = refl
+get_set_other (x ∷ xs) (suc k) (suc j) a ne = get_set_other xs k j a (λ e. ne (ap suc e))
+
+pub get_map : {A B : Type 0} (f : A → B) (xs : List A) (k : ℕ) (a : A) → slice_get xs k ≡ Some a → slice_get (map f xs) k ≡ Some (f a)
+get_map f [] k a h = cc
+get_map f (x ∷ xs) zero a h = let e : x ≡ a = cc in ap (λ u. Some (f u)) e
+get_map f (x ∷ xs) (suc k) a h = get_map f xs k a h
+
+pub map_length : {A B : Type 0} (f : A → B) (xs : List A) → length (map f xs) ≡ length xs
+map_length f [] = refl
+map_length f (x ∷ xs) = ap suc (map_length f xs)
+
+-- the one element of a list
+pub only : {A : Type 0} (P : A → Type 0) (a : A) → All P (a ∷ []) → P a
+only P a h = h 0 a (omega arith)
+
+pub first_of : {A : Type 0} (a : A) (rest : List A) → Contains (a ∷ rest) a
+first_of a rest = (0, omega arith, refl)
+
+-- a list filled up to its own length, after a write
+pub refill_set : {A : Type 0} (xs ws : List A) (k : ℕ) (a : A) → ws ≡ xs → refill (length xs) xs (slice_set ws k a) ≡ slice_set xs k a
+refill_set xs ws k a e =
+    let long : length (slice_set ws k a) ≡ length xs = length-set ws k a ∙ ap length e in
+    let front = take-append-le {A = _} (length xs) (slice_set ws k a) (drop (length (slice_set ws k a)) xs) (omega arith) in
+    front ∙ take_all (length xs) (slice_set ws k a) (omega arith) ∙ ap (λ u. slice_set u k a) e

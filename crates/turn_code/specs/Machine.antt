@@ -1,0 +1,36 @@
+-- What a machine stands for, and what its next instruction makes of it.
+use Rattle.std.specs.Prelude.{◌≡◌, ℕ, ◌<◌, ◌∷◌, List, length, Bool, true, false, IsTrue, Option, Some, Result, Ok, Err, ℤ, slice_get}
+use Rattle.turn_code.specs.Run.{Progress, After, goes, ends, stuck}
+use Rattle.turn_code.specs.declared.value.Value.{Value}
+use Rattle.turn_code.specs.declared.value.Value.TheVariants.{Int}
+use Rattle.turn_code.specs.declared.instruction.Instruction.{Instruction}
+use Rattle.turn_code.specs.declared.instruction.Instruction.TheVariants.{Int as PutInt, Load, Param}
+use Rattle.turn_code.specs.declared.machine.Machine.{Machine}
+use Rattle.turn_code.specs.declared.machine.After.{After as Next}
+use Rattle.turn_code.specs.declared.machine.After.TheVariants.{Goes, Ends, Stuck}
+
+abbrev pub progress_of : Machine → Progress
+progress_of m = record { variables = m.variables.items; effects = m.effects.items; count = m.count }
+
+-- what an answer says, with the machine as it is then
+abbrev pub after_of : Next → Machine → After
+after_of (Goes k) m = goes k m.operands (progress_of m)
+after_of (Ends e) m = ends e (progress_of m)
+after_of (Stuck x) m = stuck x
+
+-- a machine that is stuck is as it was
+abbrev pub StaysIfStuck : Next → Machine → Machine → Type 0
+StaysIfStuck (Goes k) old new = Unit {0}
+StaysIfStuck (Ends e) old new = Unit {0}
+StaysIfStuck (Stuck x) old new = new ≡ old
+
+-- whether an instruction leaves one operand more
+abbrev pub grows : Instruction → Bool
+grows (PutInt z) = true
+grows (Load v) = true
+grows (Param j) = true
+grows _ = false
+
+-- there is room for what the instruction at place k puts on the operands
+abbrev pub HasRoom : List Instruction → ℕ → List Value → Type 0
+HasRoom code k os = (i : Instruction) → slice_get code k ≡ Some i → IsTrue (grows i) → length os < 16

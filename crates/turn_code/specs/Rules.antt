@@ -1,0 +1,146 @@
+-- What a valid draft keeps, rule by rule, at each place of each transition.
+use Rattle.std.specs.Prelude.{◌≡◌, ℕ, ◌+◌, ◌<◌, ◌≤◌, max, List, [], ◌∷◌, length, map, sum_by, All, Contains, Option, Some, None, IfSome, IsSome, slice_get}
+use Rattle.turn_code.specs.Values.{sort_of}
+use Rattle.turn_code.specs.Sets.{Has, IsWithin}
+use Rattle.turn_code.specs.Code.{takes, shape_after, reads, sets, set_after, parameters_in, states_in, successors, effects_of}
+use Rattle.turn_code.specs.Transitions.{Transition}
+use Rattle.turn_code.specs.declared.value.Sort.{Sort}
+use Rattle.turn_code.specs.declared.value.Value.{Value}
+use Rattle.turn_code.specs.declared.instruction.Instruction.{Instruction}
+use Rattle.turn_code.specs.declared.draft.Draft.{Draft}
+use Rattle.turn_code.specs.declared.draft.DraftSignal.{DraftSignal}
+use Rattle.turn_code.specs.declared.draft.DraftProcess.{DraftProcess}
+use Rattle.turn_code.specs.declared.draft.DraftState.{DraftState}
+use Rattle.turn_code.specs.declared.draft.DraftInput.{DraftInput}
+use Rattle.turn_code.specs.declared.draft.DraftVariable.{DraftVariable}
+use Rattle.turn_code.specs.declared.draft.DraftPiece.{DraftPiece}
+use Rattle.turn_code.specs.declared.draft.PlaceFacts.{PlaceFacts}
+use Rattle.turn_code.specs.declared.draft.Trigger.{Trigger}
+use Rattle.turn_code.specs.declared.draft.Trigger.TheVariants.{Signal}
+
+-- what holds of the instruction at a place and of the facts there
+abbrev pub AtPlace : DraftPiece → ℕ → (Instruction → PlaceFacts → Type 0) → Type 0
+AtPlace piece k P = (i : Instruction) (f : PlaceFacts) → slice_get piece.code k ≡ Some i → slice_get piece.facts k ≡ Some f → P i f
+
+-- what holds of the facts at each of some places that has any
+abbrev pub AtEach : DraftPiece → List ℕ → (PlaceFacts → Type 0) → Type 0
+AtEach piece js P = (j : ℕ) (f : PlaceFacts) → Contains js j → slice_get piece.facts j ≡ Some f → P f
+
+-- ---- V1: each place where the code goes on, its first too, is inside it
+pub record JumpsInside (t : Transition) (k : ℕ) : Type 0 where
+  pub entry : k ≡ 0 → 0 < length t.piece.code
+  pub each : AtPlace t.piece k (λ i f. All (λ j. j < length t.piece.code) (successors i k))
+
+-- ---- V2: each place has facts; no operand is there as the code begins, and each place where it goes on has the shape that is left
+pub record KeepsShapes (t : Transition) (k : ℕ) : Type 0 where
+  pub facts : k ≡ 0 → length t.piece.facts ≡ length t.piece.code
+  pub entry : k ≡ 0 → AtEach t.piece (0 ∷ []) (λ f. f.shape ≡ [])
+  pub each : AtPlace t.piece k
+      (λ i f. AtEach t.piece (successors i k) (λ g. g.shape ≡ shape_after t.process.variables t.parameters i f.shape))
+
+-- ---- V3: the operands that the instruction takes are on the shape
+abbrev pub HasOperands : Transition → ℕ → Type 0
+HasOperands t k = AtPlace t.piece k (λ i f. length (takes t.process.variables i) ≤ length f.shape)
+
+-- two lists of sorts agree as far as both go
+abbrev pub Agree : List Sort → List Sort → Type 0
+Agree [] ys = Unit {0}
+Agree (x ∷ xs) [] = Unit {0}
+Agree (x ∷ xs) (y ∷ ys) = (y ≡ x) × Agree xs ys
+
+-- the initial value of a variable has the variable's sort
+abbrev pub StartsRight : DraftVariable → Type 0
+StartsRight x = IfSome x.initial (λ v. sort_of v ≡ x.sort)
+
+-- ---- V4: those operands have the sorts that it wants; at START each initial value has its variable's sort
+pub record KeepsSorts (t : Transition) (k : ℕ) : Type 0 where
+  pub initial : k ≡ 0 → t.trigger ≡ None → All StartsRight t.process.variables
+  pub each : AtPlace t.piece k (λ i f. Agree (takes t.process.variables i) f.shape)
+
+-- ---- V5: what is said to be set is set on every way: as the code begins, at each place where it goes on, in the state where it ends; a variable that is read is set
+pub record KeepsSets (t : Transition) (k : ℕ) : Type 0 where
+  pub entry : k ≡ 0 → AtEach t.piece (0 ∷ []) (λ f. IsWithin f.set t.entry)
+  pub reads_set : AtPlace t.piece k (λ i f. All (Has f.set) (reads i))
+  pub each : AtPlace t.piece k (λ i f. AtEach t.piece (successors i k) (λ g. IsWithin g.set (set_after i f.set)))
+  pub states : AtPlace t.piece k
+      (λ i f. (q : ℕ) (s : DraftState) → Contains (states_in i) q → slice_get t.process.states q ≡ Some s → IsWithin s.set (set_after i f.set))
+
+-- ---- V6: a state where the code ends is there
+abbrev pub HasStates : Transition → ℕ → Type 0
+HasStates t k = AtPlace t.piece k (λ i f. All (λ q. q < length t.process.states) (states_in i))
+
+-- what a transition waits for is there
+abbrev pub HasTrigger : List DraftSignal → Option Trigger → Type 0
+HasTrigger signals None = Unit {0}
+HasTrigger signals (Some (Signal n)) = n.0 < length signals
+
+-- ---- V7: the variables and the parameters that an instruction names are there, and the signal that the transition waits for
+pub record HasNumbers (signals : List DraftSignal) (t : Transition) (k : ℕ) : Type 0 where
+  pub trigger : k ≡ 0 → HasTrigger signals t.trigger
+  pub reads_there : AtPlace t.piece k (λ i f. All (λ v. v < length t.process.variables) (reads i))
+  pub sets_there : AtPlace t.piece k (λ i f. All (λ v. v < length t.process.variables) (sets i))
+  pub parameters : AtPlace t.piece k (λ i f. All (λ j. j < length t.parameters) (parameters_in i))
+
+-- how many inputs the states of a process have, and how many pieces a process has
+abbrev pub inputs_of : List DraftState → ℕ
+inputs_of qs = sum_by (λ (q : DraftState). length q.inputs) qs
+
+abbrev pub pieces_of : DraftProcess → ℕ
+pieces_of p = 1 + inputs_of p.states
+
+-- the limits of a whole set
+pub record KeepsSetLimits (d : Draft) : Type 0 where
+  pub processes : length d.processes ≤ 16
+  pub signals : length d.signals ≤ 128
+  pub parameters : All (λ (s : DraftSignal). length s.parameters ≤ 4) d.signals
+  pub pieces : sum_by pieces_of d.processes ≤ 4096
+
+-- the limits of a process
+pub record KeepsProcessLimits (p : DraftProcess) : Type 0 where
+  pub states : length p.states ≤ 64
+  pub variables : length p.variables ≤ 32
+
+-- the limits of a piece
+pub record KeepsPieceLimits (piece : DraftPiece) : Type 0 where
+  pub depth : piece.certificate.depth ≤ 16
+  pub effects : piece.certificate.effects ≤ 32
+  pub size : length piece.code ≤ 512
+
+-- ---- V8: what is broken of a process, of a set too, is broken at START, place 0
+pub record KeepsLimits (d : Draft) (t : Transition) (k : ℕ) : Type 0 where
+  pub process : k ≡ 0 → t.trigger ≡ None → KeepsProcessLimits t.process
+  pub piece : k ≡ 0 → KeepsPieceLimits t.piece
+
+-- the greatest of some numbers, 0 where there is none
+abbrev pub greatest : List ℕ → ℕ
+greatest [] = 0
+greatest (n ∷ ns) = max n (greatest ns)
+
+abbrev pub count_in : Option PlaceFacts → ℕ
+count_in None = 0
+count_in (Some f) = f.count
+
+abbrev pub effects_in : Option PlaceFacts → ℕ
+effects_in None = 0
+effects_in (Some f) = f.effects
+
+abbrev pub counts_at : DraftPiece → List ℕ → List ℕ
+counts_at piece js = map (λ j. count_in (slice_get piece.facts j)) js
+
+abbrev pub effects_at : DraftPiece → List ℕ → List ℕ
+effects_at piece js = map (λ j. effects_in (slice_get piece.facts j)) js
+
+abbrev pub depths : List PlaceFacts → List ℕ
+depths fs = map (λ (f : PlaceFacts). length f.shape) fs
+
+-- the certificate: the count and the effects of the first place, and the greatest shape
+pub record KeepsCertificate (piece : DraftPiece) : Type 0 where
+  pub budget : piece.certificate.budget ≡ count_in (slice_get piece.facts 0)
+  pub depth : piece.certificate.depth ≡ greatest (depths piece.facts)
+  pub effects : piece.certificate.effects ≡ effects_in (slice_get piece.facts 0)
+
+-- ---- V9: the count of a place is 1 more than the greatest where the code goes on, and the effects likewise are its own and the greatest there
+pub record KeepsCounts (t : Transition) (k : ℕ) : Type 0 where
+  pub certificate : k ≡ 0 → KeepsCertificate t.piece
+  pub counts : AtPlace t.piece k (λ i f. f.count ≡ 1 + greatest (counts_at t.piece (successors i k)))
+  pub effects : AtPlace t.piece k (λ i f. f.effects ≡ effects_of i + greatest (effects_at t.piece (successors i k)))

@@ -1,0 +1,21 @@
+//! What follows from the definitions alone. Each call costs nothing.
+
+ghost use Rattle.turn_code.specs.Safe.{SafeLaw, RunLaw};
+ghost use Rattle.turn_code.specs.Paths.{PathLaw};
+
+/// The run of a valid transition on an input that fits it never gets stuck, never has more than 16 operands, and
+/// ends well within its budget, which is at most 512.
+pub fn safe_law()
+    ensures { SafeLaw }
+{}
+
+/// The run of a valid transition on an input that fits it is an end within its budget, in a state that is there,
+/// with the variables set that are said to be set there.
+pub fn run_law()
+    ensures { RunLaw }
+{}
+
+/// The budget of a valid transition is the length of its longest path, and its effects are the most of any path.
+pub fn path_law()
+    ensures { PathLaw }
+{}

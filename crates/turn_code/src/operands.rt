@@ -1,0 +1,112 @@
+//! The operands of a run.
+
+ghost use Rattle.std.specs.Prelude.{◌≡◌, ◌<◌, ◌≤◌, ◌==◌, [], ◌∷◌, length, IfSome, IfNone, IfOk, IfErr, OnErr};
+ghost use Rattle.turn_code.specs.declared.value.Value.TheVariants.{Int as IntValue};
+ghost use Rattle.turn_code.specs.Taken.{TroubleAtOne, TroubleAtTwo};
+
+use crate::trouble::Trouble;
+use crate::value::Value;
+use arrayvec::ArrayVec;
+use std::marker::Model;
+
+/// At most 16 values, seen as a list with the topmost first.
+#[derive(Drop)]
+pub struct Operands {
+    values: ArrayVec<Value, 16>,
+}
+
+impl Model for Operands {
+    ghost use Rattle.std.specs.Prelude.{◌≤◌, List, length, reverse};
+    ghost use Rattle.turn_code.specs.declared.value.Value.{Value as Item};
+
+    ghost Value = { List Item };
+
+    ghost view = { λ o. reverse o.values.items };
+
+    ghost invariant = { λ o. length o.values.items ≤ 16 };
+}
+
+impl Operands {
+    /// No operand.
+    pub fn new() -> Self
+        ensures { result ≡ [] }
+    {
+        Operands {
+            values: ArrayVec::new(),
+        }
+    }
+
+    /// The number of operands.
+    pub fn len(&self) -> usize
+        ensures value { result ≡ length self.now }
+        ensures fits { result ≤ 16 }
+    {
+        self.values.len()
+    }
+
+    /// Whether there is none.
+    pub fn is_empty(&self) -> bool
+        ensures { result ≡ (length self.now == 0) }
+    {
+        self.values.is_empty()
+    }
+
+    /// Puts a value on top, where there is room.
+    pub fn push(&mut self, value: Value)
+        requires { length self.old < 16 }
+        ensures { self.new ≡ value ∷ self.old }
+    {
+        self.values.push(value);
+    }
+
+    /// Takes the topmost value, if there is one.
+    pub fn pop(&mut self) -> Option<Value>
+        ensures some { IfSome result (λ x. self.old ≡ x ∷ self.new) }
+        ensures room { IfSome result (λ x. length self.new < 16) }
+        ensures none { IfNone result (self.old ≡ []) }
+        ensures unchanged { IfNone result (self.new ≡ []) }
+    {
+        self.values.pop()
+    }
+
+    /// Takes the topmost value where it is an Integer, and else leaves all.
+    pub fn pop_integer(&mut self) -> Result<i32, Trouble>
+        ensures ok { IfOk result (λ x. self.old ≡ IntValue x ∷ self.new) }
+        ensures room { IfOk result (λ x. length self.new < 16) }
+        ensures trouble { IfErr result (λ e. TroubleAtOne self.old e) }
+        ensures unchanged { OnErr result (self.new ≡ self.old) }
+    {
+        match self.pop() {
+            None => Err(Trouble::Underflow),
+            Some(Value::Int(number)) => Ok(number),
+            Some(other) => {
+                self.push(other);
+                Err(Trouble::WrongSort)
+            }
+        }
+    }
+
+    /// Takes the two topmost values where both are Integers, the topmost as the second, and else leaves all.
+    pub fn pop_integers(&mut self) -> Result<(i32, i32), Trouble>
+        ensures ok { IfOk result (λ p. self.old ≡ IntValue p.1 ∷ IntValue p.0 ∷ self.new) }
+        ensures room { IfOk result (λ p. length self.new < 16) }
+        ensures trouble { IfErr result (λ e. TroubleAtTwo self.old e) }
+        ensures unchanged { OnErr result (self.new ≡ self.old) }
+    {
+        let Some(right) = self.pop() else {
+            return Err(Trouble::Underflow);
+        };
+        let Some(left) = self.pop() else {
+            self.push(right);
+            return Err(Trouble::Underflow);
+        };
+        match (left, right) {
+            (Value::Int(left), Value::Int(right)) => Ok((left, right)),
+            _ => {
+                self.push(left);
+                self.push(right);
+                Err(Trouble::WrongSort)
+            }
+        }
+    }
+}

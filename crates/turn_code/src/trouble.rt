@@ -1,0 +1,20 @@
+//! Why code can't go on.
+
+/// Why code can't go on.
+#[derive(Clone, Copy, PartialEq, Eq, Debug)]
+pub enum Trouble {
+    /// A variable isn't set, or isn't there.
+    Unset,
+    /// An operand has the wrong sort.
+    WrongSort,
+    /// An operand or a parameter isn't there.
+    Underflow,
+    /// A state isn't there.
+    NoState,
+    /// A signal has no receiver.
+    NoReceiver,
+    /// A question has no answer.
+    NoAnswer,
+    /// The place isn't in the code.
+    Outside,
+}

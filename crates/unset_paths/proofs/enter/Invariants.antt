@@ -1,0 +1,10 @@
+use Rattle.std.proofs.Common.{take}
+use Rattle.unset_paths.specs.Visits.{Grows, Covers, Enters, IsBy}
+use Rattle.unset_paths.proofs.enter.Given as goal
+
+abbrev pub invariant-loop-passage : goal.invariant-loop-passage
+invariant-loop-passage l = record {
+  grows : Grows l.initial.seen.items l.initial.visits.items l.seen.items l.visits.items;
+  covers : Covers (take l.passage-index l.passages) l.variable l.seen.items;
+  enters : Enters (IsBy l.passages l.variable l.path) l.initial.visits.items l.visits.items;
+}

@@ -1,0 +1,43 @@
+use Rattle.std.proofs.Common.{◌≡◌, ◌∷◌, [], ◌<◌, rules, arith, refl, sym, ap, ◌∙◌, Option, Some, None, length, List, Bool, false, subst}
+use Rattle.std.specs.Prelude.{IfNone, replicate}
+use Rattle.unset_paths.specs.Graph.{ReadsUnset, has}
+use Rattle.unset_paths.specs.Visits.{Covers, Enters, IsBy, AreVisited, unseen}
+use Rattle.unset_paths.specs.declared.Step.{Step}
+use Rattle.unset_paths.specs.declared.Visit.{Visit}
+use Rattle.unset_paths.proofs.Walking.{ok_none, visited_none, unseen_all, reached_from_start}
+use Rattle.unset_paths.proofs.first_unset.Goals as goal
+
+pub returns-then-contains-clause-found : goal.returns-then-contains-clause-found
+returns-then-contains-clause-found c =
+    let P : List Step → Type 0 = λ l. ReadsUnset c.args.graph.now c.args.variable l in
+    subst P (sym c.in_ok-start.ensures) (c.args.graph.now.start, refl, sym c.if-contains.ensures)
+
+pub search-requires-clause-reached : goal.search-requires-clause-reached
+search-requires-clause-reached c =
+    let enters : Enters (IsBy c.deref.result.now c.args.variable c.deref-2.result.now) [] c.enter.new.visits.items =
+    rw c.new-visits.ensures.items at c.in_ok-enter.ensures.enters in
+    reached_from_start c.args.graph.now c.args.variable c.deref.result.now c.deref-2.result.now c.enter.new.visits.items
+    c.deref.ensures.value (c.deref-2.ensures.value ∙ c.in_ok-start.ensures) enters
+
+pub search-requires-clause-visited : goal.search-requires-clause-visited
+search-requires-clause-visited c =
+    let blank : c.in_ok-seen.seen.items ≡ replicate (length c.args.graph.now.states.items) false = search rules in
+    let P : List Bool → Type 0 = λ l. AreVisited l c.new-visits.result.items in
+    let Q : List Visit → Type 0 = λ l. AreVisited (replicate (length c.args.graph.now.states.items) false) l in
+    c.in_ok-enter.ensures.grows.visited (subst P (sym blank) (subst Q (sym c.new-visits.ensures.items) (visited_none (length c.args.graph.now.states.items))))
+
+pub search-requires-clause-count : goal.search-requires-clause-count
+search-requires-clause-count c =
+    let n = length c.args.graph.now.states.items in
+    let blank : c.in_ok-seen.seen.items ≡ replicate n false = search rules in
+    let all : unseen c.in_ok-seen.seen.items ≡ n = ap unseen blank ∙ unseen_all n in
+    let long : length c.in_ok-seen.seen.items ≡ n = search rules in
+    let none : length c.new-visits.result.items ≡ 0 = ap length c.new-visits.ensures.items in
+    omega (arith, c.in_ok-enter.ensures.grows.count, c.in_ok-enter.ensures.grows.states, all, long, none)
+
+pub returns-clause-none : goal.returns-clause-none
+returns-clause-none c =
+    let quiet : has c.args.graph.now.start.reads c.args.variable ≡ false = sym c.if-contains.ensures in
+    let covers : Covers c.args.graph.now.start.passages.items c.args.variable c.enter.new.seen.items =
+    rw c.deref.ensures.value at c.in_ok-enter.ensures.covers in
+    ok_none c.args.graph.now c.args.variable c.search.result c.enter.new.seen.items c.search.new.seen.items quiet covers c.search.ensures.stays c.search.ensures.none

@@ -1,0 +1,97 @@
+use Rattle.std.proofs.Common.{◌≡◌, ◌<◌, ◌≤◌, ◌∷◌, rules, arith, refl, sym, ap, ◌∙◌, Option, Some, None, length, List}
+use Rattle.std.specs.Prelude.{slice_get, Contains}
+use Rattle.std.proofs.lemmas.Option.{slice_get_read, get_or_from_slice_get, slice_get_within}
+use Rattle.unset_paths.specs.Graph.{Reached}
+use Rattle.unset_paths.specs.Visits.{Enters, IsByInput, AreSafe}
+use Rattle.unset_paths.proofs.Walking.{Progress, progress_on, progress_past, closed_by, found_by, some_weaker, when_none}
+use Rattle.unset_paths.proofs.search.Goals as goal
+use Rattle.unset_paths.proofs.search.Goals.{then-state-len+in_ok-found+else-is_some+in-Some-1, then-state-len+in_ok-found+else-is_some+in-None-1, else-state-len}
+
+pub returns-then-is_some-clause-found : goal.returns-then-is_some-clause-found
+returns-then-is_some-clause-found c =
+    let visits = c.loop-next.visits.items in
+    let v = c.index-visit.result.now in
+    let within : c.loop-next.next < length visits = search rules in
+    let there : slice_get visits c.loop-next.next ≡ Some v = slice_get_read visits (length visits) c.loop-next.next v refl within (search rules) in
+    let inside : v.state < length c.args.graph.now.states.items = search rules in
+    let state : slice_get c.args.graph.now.states.items v.state ≡ Some c.index-inputs.result.now =
+    slice_get_read c.args.graph.now.states.items (length c.args.graph.now.states.items) v.state c.index-inputs.result.now refl inside (search rules) in
+    let here : Reached c.args.graph.now c.args.variable None v.path.items v.state =
+    c.loop-next.invariant.reached v (c.loop-next.next, within, get_or_from_slice_get visits c.loop-next.next v v there) in
+    some_weaker _ _ c.in_ok-found.found (λ longer r. found_by c.args.graph.now c.args.variable v.state v.path.items c.index-inputs.result.now longer.items here state (rw (c.deref.ensures.value, c.deref-then-state-len.ensures.value, c.in_ok-path.ensures.items, c.as_slice.ensures.value) at r)) c.in_ok-found.ensures.found
+
+pub loop-next-preserved : goal.loop-next-preserved
+loop-next-preserved c =
+    let visits = c.loop-next.visits.items in
+    let v = c.index-visit.result.now in
+    let within : c.loop-next.next < length visits = search rules in
+    let there : slice_get visits c.loop-next.next ≡ Some v = slice_get_read visits (length visits) c.loop-next.next v refl within (search rules) in
+    let before : Progress c.args.graph.now c.args.variable c.loop-next.seen.items visits c.loop-next.next = record {
+      states = c.loop-next.invariant.states ∙ search rules;
+      reached = c.loop-next.invariant.reached;
+      visited = c.loop-next.invariant.visited;
+      count = c.loop-next.invariant.count;
+      expanded = c.loop-next.invariant.expanded;
+      within = c.loop-next.invariant.within;
+    } in
+    elim c.if-state-len.branch [
+      | then-state-len+in_ok-found+else-is_some+in-Some-1 w ↦
+          let told = w.in_ok-found.ensures in
+          let inside : v.state < length c.args.graph.now.states.items = search rules in
+          let state : slice_get c.args.graph.now.states.items v.state ≡ Some w.index-inputs.result.now =
+          slice_get_read c.args.graph.now.states.items (length c.args.graph.now.states.items) v.state w.index-inputs.result.now refl inside (search rules) in
+          let path_is : w.deref-then-state-len.result.now ≡ v.path.items =
+          w.deref-then-state-len.ensures.value ∙ c.in_ok-path.ensures.items ∙ c.as_slice.ensures.value in
+          let enters : Enters (IsByInput w.index-inputs.result.now.items c.args.variable v.state w.deref-then-state-len.result.now) visits w.expand.new.visits.items =
+          rw w.deref.ensures.value at told.enters in
+          let none : AreSafe w.index-inputs.result.now.items c.args.variable w.expand.new.seen.items = rw w.deref.ensures.value at (when_none w.in_ok-found.found _ (sym w.if-is_some.ensures) told.none) in
+          let p = progress_on c.args.graph.now c.args.variable c.loop-next.next v w.index-inputs.result.now w.deref-then-state-len.result.now
+          c.loop-next.seen.items visits w.expand.new.seen.items w.expand.new.visits.items before there path_is state told.grows enters none in
+          rw (w.seen-is, w.visits-is) (record {
+            states = told.grows.states ∙ c.loop-next.invariant.states;
+            stays = λ s h. told.grows.stays s (c.loop-next.invariant.stays s h);
+            reached = p.reached;
+            visited = p.visited;
+            count = p.count;
+            expanded = p.expanded;
+            within = p.within;
+          })
+      | then-state-len+in_ok-found+else-is_some+in-None-1 w ↦
+          let told = w.in_ok-found.ensures in
+          let inside : v.state < length c.args.graph.now.states.items = search rules in
+          let state : slice_get c.args.graph.now.states.items v.state ≡ Some w.index-inputs.result.now =
+          slice_get_read c.args.graph.now.states.items (length c.args.graph.now.states.items) v.state w.index-inputs.result.now refl inside (search rules) in
+          let path_is : w.deref-then-state-len.result.now ≡ v.path.items =
+          w.deref-then-state-len.ensures.value ∙ c.in_ok-path.ensures.items ∙ c.as_slice.ensures.value in
+          let enters : Enters (IsByInput w.index-inputs.result.now.items c.args.variable v.state w.deref-then-state-len.result.now) visits w.expand.new.visits.items =
+          rw w.deref.ensures.value at told.enters in
+          let none : AreSafe w.index-inputs.result.now.items c.args.variable w.expand.new.seen.items = rw w.deref.ensures.value at (when_none w.in_ok-found.found _ (sym w.if-is_some.ensures) told.none) in
+          let p = progress_on c.args.graph.now c.args.variable c.loop-next.next v w.index-inputs.result.now w.deref-then-state-len.result.now
+          c.loop-next.seen.items visits w.expand.new.seen.items w.expand.new.visits.items before there path_is state told.grows enters none in
+          rw (w.seen-is, w.visits-is) (record {
+            states = told.grows.states ∙ c.loop-next.invariant.states;
+            stays = λ s h. told.grows.stays s (c.loop-next.invariant.stays s h);
+            reached = p.reached;
+            visited = p.visited;
+            count = p.count;
+            expanded = p.expanded;
+            within = p.within;
+          })
+      | else-state-len w ↦
+          let past : length c.args.graph.now.states.items ≤ v.state = search rules in
+          let p = progress_past c.args.graph.now c.args.variable c.loop-next.next v c.loop-next.seen.items visits before there past in
+          rw (w.seen-is, w.visits-is) (record {
+            states = c.loop-next.invariant.states;
+            stays = c.loop-next.invariant.stays;
+            reached = p.reached;
+            visited = p.visited;
+            count = p.count;
+            expanded = p.expanded;
+            within = p.within;
+          })
+    ]
+
+pub returns-clause-none : goal.returns-clause-none
+returns-clause-none c =
+    closed_by c.args.graph.now c.args.variable c.loop-next.next c.loop-next.seen.items c.loop-next.visits.items
+    (c.loop-next.invariant.states ∙ search rules) (search rules) c.loop-next.invariant.visited c.loop-next.invariant.expanded

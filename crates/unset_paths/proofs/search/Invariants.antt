@@ -1,0 +1,17 @@
+use Rattle.std.proofs.Common.{◌≡◌, ℕ, ◌+◌, ◌-◌, ◌≤◌, length}
+use Rattle.unset_paths.specs.Visits.{IsSeen, unseen, AreReached, AreVisited, AreExpanded}
+use Rattle.unset_paths.proofs.search.Given as goal
+
+abbrev pub invariant-loop-next : goal.invariant-loop-next
+invariant-loop-next l = record {
+  states : length l.seen.items ≡ length l.initial.seen.items;
+  stays : (s : ℕ) → IsSeen l.initial.seen.items s → IsSeen l.seen.items s;
+  reached : AreReached l.graph l.variable l.visits.items;
+  visited : AreVisited l.seen.items l.visits.items;
+  count : length l.visits.items + unseen l.seen.items ≡ length l.seen.items;
+  expanded : AreExpanded l.graph l.variable l.seen.items l.visits.items l.next;
+  within : l.next ≤ length l.visits.items;
+}
+
+abbrev pub decreases-loop-next : goal.decreases-loop-next
+decreases-loop-next l = length l.seen.items - l.next

@@ -1,0 +1,18 @@
+use Rattle.std.proofs.Common.{◌≡◌, ◌<◌, Bool, false, Option, Some, length, rules, arith, refl, sym, ap, ◌∙◌}
+use Rattle.std.specs.Prelude.{slice_get}
+use Rattle.std.proofs.lemmas.Option.{slice_get_read}
+use Rattle.unset_paths.proofs.Seen.{grows_by, get_set_same}
+use Rattle.unset_paths.proofs.see.Goals as goal
+
+pub returns-clause-grows : goal.returns-clause-grows
+returns-clause-grows c =
+    let within : c.args.state < length c.args.seen.now.items = search rules in
+    let there : slice_get c.args.seen.now.items c.args.state ≡ Some c.index.result.now =
+    slice_get_read c.args.seen.now.items (length c.args.seen.now.items) c.args.state c.index.result.now refl within (search rules) in
+    let not_seen : slice_get c.args.seen.now.items c.args.state ≡ Some false = there ∙ ap (λ b. Some b) c.if-index.false in
+    grows_by c.args.seen.now.items c.args.visits.now.items c.args.state (record { state = c.args.state; path = c.in_ok-path.path }) _ _ within not_seen refl refl (search rules)
+
+pub returns-clause-seen : goal.returns-clause-seen
+returns-clause-seen c = λ h.
+    let within : c.args.state < length c.args.seen.now.items = search rules in
+    get_set_same _ _ _ within

@@ -1,0 +1,94 @@
+-- What a search keeps: the states that it saw, and a visit of each with a path to it.
+use Rattle.std.specs.Prelude.{◌≡◌, ℕ, suc, ◌+◌, ◌<◌, Bool, true, false, List, [], ◌∷◌, ◌++◌, length, Option, Some, None, Contains, All, slice_get, ◌⊎◌}
+use Rattle.unset_paths.specs.declared.Passage.{Passage}
+use Rattle.unset_paths.specs.declared.Summary.{Summary}
+use Rattle.unset_paths.specs.declared.Graph.{Graph}
+use Rattle.unset_paths.specs.declared.Step.{Step}
+use Rattle.unset_paths.specs.declared.Step.TheVariants.{Input}
+use Rattle.unset_paths.specs.declared.Visit.{Visit}
+use Rattle.unset_paths.specs.Graph.{has, Reached, Leads}
+
+-- a state was seen, if there is such a state
+abbrev pub IsSeen : List Bool → ℕ → Type 0
+IsSeen seen s = s < length seen → slice_get seen s ≡ Some true
+
+-- how many states were not seen
+unfoldable pub unseen : List Bool → ℕ
+unseen [] = 0
+unseen (true ∷ seen) = unseen seen
+unseen (false ∷ seen) = suc (unseen seen)
+
+-- each state that was seen has a visit
+abbrev pub AreVisited : List Bool → List Visit → Type 0
+AreVisited seen visits = (s : ℕ) → slice_get seen s ≡ Some true → (v : Visit) × Contains visits v × (v.state ≡ s)
+
+-- How a search goes on: what was seen stays seen, visits are added, and what has a visit is what was seen.
+pub record Grows (seen : List Bool) (visits : List Visit) (new_seen : List Bool) (new_visits : List Visit) : Type 0 where
+  pub states : length new_seen ≡ length seen
+  pub stays : (s : ℕ) → IsSeen seen s → IsSeen new_seen s
+  pub added : List Visit
+  pub all : new_visits ≡ visits ++ added
+  pub visited : AreVisited seen visits → AreVisited new_seen new_visits
+  pub count : length new_visits + unseen new_seen ≡ length visits + unseen seen
+
+-- a visit of a state by a path
+pub record IsVisit (state : ℕ) (path : List Step) (v : Visit) : Type 0 where
+  pub by : v.path.items ≡ path
+  pub at : v.state ≡ state
+
+-- what is visited now was visited before, or is of the new kind
+abbrev pub Enters : (Visit → Type 0) → List Visit → List Visit → Type 0
+Enters P old new = (v : Visit) → Contains new v → Contains old v ⊎ P v
+
+abbrev pub Adds : ℕ → List Step → List Visit → List Visit → Type 0
+Adds state path old new = Enters (IsVisit state path) old new
+
+-- the states to which passages lead with x unset were seen
+abbrev pub Covers : List Passage → ℕ → List Bool → Type 0
+Covers passages x seen = All (λ p. has p.keeps x ≡ true → IsSeen seen p.state) passages
+
+-- a visit by one of the passages at the end of a path
+pub record IsBy (passages : List Passage) (x : ℕ) (path : List Step) (v : Visit) : Type 0 where
+  pub passage : Passage
+  pub among : Contains passages passage
+  pub keeps : has passage.keeps x ≡ true
+  pub visit : IsVisit passage.state path v
+
+-- a visit by a passage of one of the inputs of a state
+pub record IsByInput (inputs : List Summary) (x state : ℕ) (path : List Step) (v : Visit) : Type 0 where
+  pub number : ℕ
+  pub summary : Summary
+  pub there : slice_get inputs number ≡ Some summary
+  pub by : IsBy summary.passages.items x (path ++ Input state number ∷ []) v
+
+-- a longer path, by an input that reads x
+pub record ReadsBy (inputs : List Summary) (x state : ℕ) (path longer : List Step) : Type 0 where
+  pub number : ℕ
+  pub summary : Summary
+  pub there : slice_get inputs number ≡ Some summary
+  pub reads : has summary.reads x ≡ true
+  pub all : longer ≡ path ++ Input state number ∷ []
+
+-- none of these transitions reads x, and the states to which they lead with x unset were seen
+pub record IsSafe (t : Summary) (x : ℕ) (seen : List Bool) : Type 0 where
+  pub reads : has t.reads x ≡ false
+  pub covers : Covers t.passages.items x seen
+
+abbrev pub AreSafe : List Summary → ℕ → List Bool → Type 0
+AreSafe inputs x seen = All (λ t. IsSafe t x seen) inputs
+
+-- each visit has a path that leads there with x unset
+abbrev pub AreReached : Graph → ℕ → List Visit → Type 0
+AreReached g x visits = (v : Visit) → Contains visits v → Reached g x None v.path.items v.state
+
+-- all transitions from a state are safe
+abbrev pub IsExpanded : Graph → ℕ → List Bool → ℕ → Type 0
+IsExpanded g x seen s = (step : Step) (t : Summary) → Leads g (Some s) step t → IsSafe t x seen
+
+-- the first so many visits are expanded
+abbrev pub AreExpanded : Graph → ℕ → List Bool → List Visit → ℕ → Type 0
+AreExpanded g x seen visits next = (k : ℕ) (v : Visit) → k < next → slice_get visits k ≡ Some v → IsExpanded g x seen v.state
+
+-- all transitions from each state that was seen are safe
+abbrev pub IsClosed : Graph → ℕ → List Bool → Type 0
+IsClosed g x seen = (s : ℕ) → IsSeen seen s → IsExpanded g x seen s
