@@ -1,0 +1,10 @@
+pub mod BitLists
+pub mod StuffLaws
+pub mod ContentLaws
+pub mod CountLaws
+pub mod Newest
+pub mod FlagLaws
+pub mod GateLaws
+pub mod StandLaws
+pub mod EventLaws
+pub mod SendLaws

@@ -1,0 +1,6 @@
+use Rattle.std.proofs.Common.{◌≡◌, refl, sym, ◌∙◌, arith}
+use Rattle.bit_line.proofs.GateLaws as laws
+use Rattle.bit_line.proofs.gate.Gate.close.Goals as goal
+
+pub returns-clause-closed : goal.returns-clause-closed
+returns-clause-closed c h ends = laws.closes-gate h _ ends refl refl

@@ -1,0 +1,63 @@
+-- What the fields of a deframer say of the line bits so far.
+use Rattle.std.specs.Prelude.{◌≡◌, ℕ, ◌+◌, ◌-◌, ◌*◌, ◌%◌, ◌^◌, zero, suc, min, nat_lt, nat_le, Bool, true, false, ◌||◌, if◌then◌else◌, Option, Some, None, unwrap_or, is_some, List, [], ◌∷◌, ◌++◌, length, reverse}
+use Rattle.std.specs.Option.{option_map}
+use Rattle.bit_line.specs.Parts.{Packed}
+use Rattle.bit_line.specs.Counting.{Counts}
+use Rattle.bit_line.specs.Stuffing.{trailing, taken_out}
+use Rattle.bit_line.specs.Flags.{since_flag, inside, MOST_BITS}
+use Rattle.bit_line.specs.Events.{Runs}
+use Rattle.bit_line.specs.declared.data.Data.{Data}
+use Rattle.bit_line.specs.declared.content.Content.{Content}
+use Rattle.bit_line.specs.declared.gate.Gate.{Gate}
+use Rattle.bit_line.specs.declared.deframer.Deframer.{Deframer}
+use Rattle.bit_line.specs.declared.events.LineEvent.{LineEvent}
+
+-- data has these bits, or only the fact that they are more than a unit has
+pub record Gathers (h : List Bool) (data_bits : Data) : Type 0 where
+  pub over : data_bits.over ≡ nat_lt MOST_BITS (length h)
+  pub bits : data_bits.over ≡ false → Packed data_bits.octets.items data_bits.part.bits data_bits.part.len h
+
+-- somewhere in the history there are six 1s in a row
+unfoldable pub has_six : List Bool → Bool
+has_six [] = false
+has_six (b ∷ h) = nat_le 6 (trailing (b ∷ h)) || has_six h
+
+-- content has these line bits
+pub record Holds (h : List Bool) (content : Content) : Type 0 where
+  pub ones : content.ones ≡ min 6 (trailing h)
+  pub six : content.six ≡ has_six h
+  pub gathers : Gathers (taken_out h) content.data_bits
+
+-- the bits since the last flag
+abbrev pub latest : List Bool → List Bool
+latest h = unwrap_or (since_flag h) []
+
+-- The gate lets in what lies inside, once that is more than nothing.
+pub record LetsIn (h : List Bool) (gate : Gate) : Type 0 where
+  pub seen : gate.seen ≡ is_some (since_flag h)
+  pub wait : gate.wait ≡ 7 - length (latest h)
+  pub content : gate.seen ≡ true → gate.wait ≡ 0 → Holds (inside h) gate.content
+
+-- the newest k bits as a number, the newest one lowest; before the first bit they are taken to be 1s
+unfoldable pub newest : ℕ → List Bool → ℕ
+newest zero h = 0
+newest (suc k) [] = 2 ^ suc k - 1
+newest (suc k) (b ∷ h) = (if b then 1 else 0) + 2 * newest k h
+
+-- the deframer's fields after this history, in this mode
+pub record Fits (h : List Bool) (mode : Option ℕ) (deframer : Deframer) : Type 0 where
+  pub recent : deframer.recent ≡ newest 7 h
+  pub gate : LetsIn h deframer.gate
+  pub counting : Counts mode deframer.counter.count
+
+-- a deframer after a history that gave these events
+unfoldable pub StandsAt : List Bool → List LineEvent → Deframer → Type 0
+StandsAt h events deframer = (mode : Option ℕ) × Runs h mode events × Fits h mode deframer
+
+-- the bit seven before the next one; it is taken to be a 1 before the first bit
+unfoldable pub seventh : List Bool → Bool
+seventh h = nat_le 64 (newest 7 h)
+
+-- the deframer stands for these line bits, in order of coming
+unfoldable pub Stands : List Bool → Deframer → Type 0
+Stands bits deframer = (events : List LineEvent) × StandsAt (reverse bits) events deframer

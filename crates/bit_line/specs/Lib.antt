@@ -1,0 +1,9 @@
+pub mod Stuffing
+pub mod Flags
+pub mod Events
+pub mod Sending
+pub mod Parts
+pub mod Counting
+pub mod Judging
+pub mod Deframing
+pub mod Stuffers

@@ -1,0 +1,17 @@
+-- What a sender of signal units puts on the line (Q.703, 3.1 and 3.2).
+use Rattle.std.specs.Prelude.{ℕ, Bool, true, false, List, [], ◌∷◌, ◌++◌}
+use Rattle.su_octets.specs.Bits.{bits_of}
+use Rattle.bit_line.specs.Stuffing.{stuffing_of}
+
+abbrev pub flag : List Bool
+flag = false ∷ true ∷ true ∷ true ∷ true ∷ true ∷ true ∷ false ∷ []
+
+-- each unit's octets, stuffed, and a flag behind them
+unfoldable pub framed : List (List ℕ) → List Bool
+framed [] = []
+framed (octets ∷ units) = stuffing_of (bits_of octets) ++ flag ++ framed units
+
+-- nothing before the first unit, and then a flag in front
+unfoldable pub line_of : List (List ℕ) → List Bool
+line_of [] = []
+line_of (octets ∷ units) = flag ++ framed (octets ∷ units)

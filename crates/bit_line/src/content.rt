@@ -1,0 +1,129 @@
+//! The line bits between two flags.
+ghost use Rattle.std.specs.Prelude.{◌≡◌, Bool, true, false, List, [], ◌∷◌};
+ghost use Rattle.bit_line.specs.Deframing.{Holds};
+ghost use Rattle.bit_line.specs.Judging.{verdict_of};
+ghost use Rattle.bit_line.specs.Events.{AreUnit, IsJudged};
+ghost use Rattle.std.specs.Bool.{MatchBool};
+ghost use Rattle.su_octets.specs.Bits.{AreOctets};
+
+use crate::data::Data;
+use su_octets::decode;
+
+/// How the content between two flags is judged.
+#[derive(Clone, Copy)]
+pub enum Closed {
+    /// It is that of a signal unit.
+    Correct,
+    /// It isn't.
+    Wrong,
+    /// There is none.
+    Nothing,
+}
+
+/// The bits between two flags so far, as a unit's.
+#[derive(Drop)]
+pub struct Content {
+    /// How many 1s in a row came last, up to 6.
+    pub ones: u8,
+    /// Whether there were six 1s in a row.
+    pub six: bool,
+    /// The bits without the inserted zeros.
+    pub data_bits: Data,
+}
+
+/// Whether the octets are a signal unit's.
+fn is_unit(octets: &[u8]) -> bool
+    ensures octets { AreOctets octets.now }
+    ensures unit { MatchBool result (AreUnit octets.now) (AreUnit octets.now → ⊥) }
+{
+    decode(octets).is_ok()
+}
+
+impl Content {
+    pub fn new() -> Self
+        ensures { Holds [] result }
+    {
+        Content {
+            ones: 0,
+            six: false,
+            data_bits: Data::new(),
+        }
+    }
+
+    pub fn copy(&self) -> Self
+        ensures { (h : List Bool) → Holds h self.now → Holds h result }
+    {
+        Content {
+            ones: self.ones,
+            six: self.six,
+            data_bits: self.data_bits.copy(),
+        }
+    }
+
+    /// Forgets all bits.
+    pub fn clear(&mut self)
+        ensures { Holds [] self.new }
+    {
+        self.ones = 0;
+        self.six = false;
+        self.data_bits.clear();
+    }
+
+    /// Adds a 1.
+    fn push_one(&mut self)
+        ensures { (h : List Bool) → Holds h self.old → Holds (true ∷ h) self.new }
+    {
+        self.ones = self.ones.min(5) + 1;
+        self.six = self.six | (self.ones == 6);
+        self.data_bits.push(true);
+    }
+
+    /// Adds a 0, which is left out where it is an inserted one.
+    fn push_zero(&mut self)
+        ensures { (h : List Bool) → Holds h self.old → Holds (false ∷ h) self.new }
+    {
+        if self.ones == 5 {
+            self.ones = 0;
+        } else {
+            self.ones = 0;
+            self.data_bits.push(false);
+        }
+    }
+
+    /// Adds a line bit.
+    pub fn push(&mut self, bit: bool)
+        ensures { (h : List Bool) → Holds h self.old → Holds (bit ∷ h) self.new }
+    {
+        if bit {
+            self.push_one();
+        } else {
+            self.push_zero();
+        }
+    }
+
+    /// How all the bits are judged, where no more of them come.
+    pub fn judge(&self) -> Closed
+        ensures { (h : List Bool) → Holds h self.now → IsJudged h (verdict_of result self.now) }
+    {
+        if self.data_bits.is_empty() {
+            return Closed::Nothing;
+        }
+        if self.six {
+            return Closed::Wrong;
+        }
+        if self.ones == 5 {
+            return Closed::Wrong;
+        }
+        if self.data_bits.over {
+            return Closed::Wrong;
+        }
+        if self.data_bits.part.len != 0 {
+            return Closed::Wrong;
+        }
+        if is_unit(self.data_bits.octets.as_slice()) {
+            Closed::Correct
+        } else {
+            Closed::Wrong
+        }
+    }
+}

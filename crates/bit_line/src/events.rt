@@ -1,0 +1,39 @@
+//! What a deframer reports.
+use arrayvec::ArrayVec;
+use std::alloc::{AllocError, AllocFailed};
+use thiserror::Error;
+
+/// What a receiver of line bits reports.
+#[derive(Debug, Drop, PartialEq, Eq)]
+pub enum LineEvent {
+    /// The octets of a correct signal unit, without flags.
+    Unit(ArrayVec<u8, 278>),
+    /// What lay between two flags is no correct signal unit.
+    Errored,
+    /// 128 line bits passed in counting mode.
+    SixteenOctets,
+}
+
+/// What fills the unused room of an array of events.
+impl Default for LineEvent {
+    fn default() -> Self {
+        LineEvent::Errored
+    }
+}
+
+/// There is no memory for the events.
+#[derive(Clone, Copy, Debug, Drop, Error, PartialEq, Eq)]
+#[error("NoMemory")]
+pub struct NoMemory;
+
+impl From<AllocError> for NoMemory {
+    fn from(_error: AllocError) -> Self {
+        NoMemory
+    }
+}
+
+impl<T: Drop> From<AllocFailed<T>> for NoMemory {
+    fn from(_error: AllocFailed<T>) -> Self {
+        NoMemory
+    }
+}

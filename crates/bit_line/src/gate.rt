@@ -1,0 +1,108 @@
+//! Which line bits are content.
+ghost use Rattle.std.specs.Prelude.{◌≡◌, ◌≤◌, ◌+◌, ◌*◌, Bool, true, false, List, [], ◌∷◌, not};
+ghost use Rattle.bit_line.specs.Flags.{ends_flag};
+
+use crate::content::{Closed, Content};
+
+/// Lets the bits between flags into the content, each one seven bits late: so those of a flag never
+/// come in.
+#[derive(Drop)]
+pub struct Gate {
+    /// Whether there was a flag.
+    pub seen: bool,
+    /// How many bits of what came since the last flag are missing of seven.
+    pub wait: u8,
+    /// What was let in since the last flag, where nothing is missing.
+    pub content: Content,
+    ghost wait_fits: { wait ≤ 7 },
+}
+
+impl Gate {
+    ghost use Rattle.bit_line.specs.Deframing.{LetsIn, seventh};
+    ghost use Rattle.bit_line.specs.Events.{IsJudged};
+    ghost use Rattle.bit_line.specs.Flags.{inside, MOST_BITS};
+    ghost use Rattle.bit_line.specs.Stuffing.{taken_out};
+    ghost use Rattle.bit_line.specs.Judging.{verdict_of, weight_of};
+    ghost use Rattle.std.specs.Prelude.{nat_lt, length};
+
+    /// Before the first bit.
+    pub fn new() -> Self
+        ensures { LetsIn [] result }
+    {
+        Gate {
+            seen: false,
+            wait: 7,
+            content: Content::new(),
+        }
+    }
+
+    pub fn copy(&self) -> Self
+        ensures { (h : List Bool) → LetsIn h self.now → LetsIn h result }
+    {
+        Gate {
+            seen: self.seen,
+            wait: self.wait,
+            content: self.content.copy(),
+        }
+    }
+
+    /// Takes a bit that ends no flag. `late` is the bit seven before it.
+    pub fn pass(&mut self, late: bool)
+        ensures passed { (h : List Bool) (b : Bool) → ends_flag (b ∷ h) ≡ false → late ≡ seventh h → LetsIn h self.old → LetsIn (b ∷ h) self.new }
+        ensures pace { self.old.wait ≤ self.new.wait + 1 }
+    {
+        if !self.seen {
+            return;
+        }
+        if self.wait == 0 {
+            self.content.push(late);
+            return;
+        }
+        self.wait -= 1;
+        if self.wait == 0 {
+            self.content.clear();
+        }
+    }
+
+    /// How what lies inside is judged, if the next bit ends a flag.
+    fn judge(&self) -> Closed
+        ensures judged { (h : List Bool) → LetsIn h self.now → IsJudged (inside h) (verdict_of result self.now.content) }
+        ensures pace { 8 * weight_of result + self.now.wait ≤ 8 }
+    {
+        if !self.seen {
+            return Closed::Nothing;
+        }
+        if self.wait == 0 {
+            self.content.judge()
+        } else {
+            Closed::Nothing
+        }
+    }
+
+    /// Takes the bit that ends a flag, and judges what lies before the flag. Its octets stay in the
+    /// content.
+    pub fn close(&mut self) -> Closed
+        ensures judged { (h : List Bool) → LetsIn h self.old → IsJudged (inside h) (verdict_of result self.new.content) }
+        ensures closed { (h : List Bool) → ends_flag (false ∷ h) ≡ true → LetsIn (false ∷ h) self.new }
+        ensures pace { 8 * weight_of result + self.old.wait ≤ self.new.wait + 1 }
+    {
+        let closed = self.judge();
+        self.seen = true;
+        self.wait = 7;
+        closed
+    }
+
+    /// Whether more bits than a unit has lie inside.
+    pub fn is_over(&self) -> bool
+        ensures { (h : List Bool) → LetsIn h self.now → result ≡ nat_lt MOST_BITS (length (taken_out (inside h))) }
+    {
+        if !self.seen {
+            return false;
+        }
+        if self.wait == 0 {
+            self.content.data_bits.over
+        } else {
+            false
+        }
+    }
+}

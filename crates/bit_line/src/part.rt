@@ -1,0 +1,56 @@
+//! The octet that is being filled.
+ghost use Rattle.std.specs.Prelude.{◌≡◌, ◌+◌, ◌*◌, ◌^◌, ◌<◌, ℕ, Bool, List, [], ◌∷◌, ◌++◌, length};
+ghost use Rattle.su_octets.specs.Bits.{low_bits};
+ghost use Rattle.std.specs.Option.{option_to_list};
+
+/// Less than eight bits, which fill an octet from its lowest bit on.
+#[derive(Clone, Copy)]
+pub struct Part {
+    /// The bits so far, the first one lowest.
+    pub bits: u8,
+    /// How many they are.
+    pub len: u8,
+    ghost len_fits: { len < 8 },
+    ghost bits_fit: { bits < 2 ^ len },
+}
+
+/// The bits with one more bit behind them.
+fn with_bit(bits: u8, len: u8, bit: bool) -> u8
+    requires len_fits { len < 8 }
+    requires bits_fit { bits < 2 ^ len }
+    ensures bits { low_bits (len + 1) result ≡ low_bits len bits ++ bit ∷ [] }
+    ensures fits { result < 2 ^ (len + 1) }
+{
+    if bit { bits + (1 << len) } else { bits }
+}
+
+impl Part {
+    ghost use Rattle.bit_line.specs.Parts.{Packed};
+
+    /// No bits.
+    pub fn new() -> Self
+        ensures bits { result.bits ≡ 0 }
+        ensures len { result.len ≡ 0 }
+    {
+        Part { bits: 0, len: 0 }
+    }
+
+    /// Adds a bit. The eighth one completes the octet, which is given.
+    pub fn push(&mut self, bit: bool) -> Option<u8>
+        ensures packed { (octets : List ℕ) (h : List Bool) → Packed octets self.old.bits self.old.len h
+            → Packed (octets ++ option_to_list result) self.new.bits self.new.len (bit ∷ h) }
+        ensures len { 8 * length (option_to_list result) + self.new.len ≡ self.old.len + 1 }
+    {
+        let bits = with_bit(self.bits, self.len, bit);
+        if self.len == 7 {
+            *self = Part::new();
+            Some(bits)
+        } else {
+            *self = Part {
+                bits,
+                len: self.len + 1,
+            };
+            None
+        }
+    }
+}

@@ -1,0 +1,169 @@
+//! Signal units to line bits.
+ghost use Rattle.std.specs.Prelude.{◌≡◌, ◌≤◌, ◌<◌, ◌+◌, ◌*◌, ◌^◌, ℕ, Bool, List, [], ◌∷◌, ◌++◌, reverse, length};
+ghost use Rattle.arrayvec.specs.ArrayVec.{array_vec_len};
+ghost use Rattle.su_octets.specs.Bits.{low_bits, bits_of};
+ghost use Rattle.su_octets.specs.Frame.{Frame, SpareBitsAreZero};
+ghost use Rattle.su_octets.specs.Whole.{IsWhole};
+ghost use Rattle.bit_line.specs.Sending.{line_of};
+ghost use Rattle.bit_line.specs.Parts.{Packed, opening};
+ghost use Rattle.bit_line.specs.Stuffing.{trailing, stuffed};
+
+use crate::part::Part;
+use arrayvec::ArrayVec;
+use su_octets::{Unit, encode};
+
+/// The flag's bits, the first one lowest.
+const FLAG: u8 = 0x7e;
+
+/// Line bits that are being put together.
+#[derive(Drop)]
+struct Line {
+    octets: ArrayVec<u8, 352>,
+    part: Part,
+}
+
+impl Line {
+    /// Adds a bit.
+    fn push(&mut self, bit: bool)
+        requires { array_vec_len self.old.octets < 352 }
+        ensures packed { (before : List ℕ) (h : List Bool) → Packed (before ++ self.old.octets.items) self.old.part.bits self.old.part.len h
+            → Packed (before ++ self.new.octets.items) self.new.part.bits self.new.part.len (bit ∷ h) }
+        ensures len { 8 * array_vec_len self.new.octets + self.new.part.len ≡ 8 * array_vec_len self.old.octets + self.old.part.len + 1 }
+    {
+        if let Some(octet) = self.part.push(bit) {
+            self.octets.push(octet);
+        }
+    }
+
+    /// Adds a flag.
+    fn push_flag(&mut self)
+        requires { 8 * array_vec_len self.old.octets + self.old.part.len + 8 ≤ 2816 }
+        ensures packed { (before : List ℕ) (h : List Bool) → Packed (before ++ self.old.octets.items) self.old.part.bits self.old.part.len h
+            → Packed (before ++ self.new.octets.items) self.new.part.bits self.new.part.len (reverse (low_bits 8 126) ++ h) }
+        ensures len { 8 * array_vec_len self.new.octets + self.new.part.len ≡ 8 * array_vec_len self.old.octets + self.old.part.len + 8 }
+    {
+        for i in 0..8u8 {
+            self.push(FLAG >> i & 1 == 1);
+        }
+    }
+
+    /// Adds a flag, if the line wasn't started.
+    fn open(&mut self, started: bool)
+        requires { 8 * array_vec_len self.old.octets + self.old.part.len + 8 ≤ 2816 }
+        ensures packed { (before : List ℕ) (h : List Bool) → Packed (before ++ self.old.octets.items) self.old.part.bits self.old.part.len h
+            → Packed (before ++ self.new.octets.items) self.new.part.bits self.new.part.len (opening started ++ h) }
+        ensures len { 8 * array_vec_len self.new.octets + self.new.part.len ≤ 8 * array_vec_len self.old.octets + self.old.part.len + 8 }
+    {
+        if !started {
+            self.push_flag();
+        }
+    }
+
+    /// Adds a bit of a unit behind so many 1s in a row, and a 0 where it is the fifth. Answers how many
+    /// 1s in a row there are now.
+    fn push_stuffed(&mut self, bit: bool, ones: u8) -> u8
+        requires few { ones < 5 }
+        requires room { 8 * array_vec_len self.old.octets + self.old.part.len + 2 ≤ 2816 }
+        ensures packed { (before : List ℕ) (sent h : List Bool) → ones ≡ trailing (stuffed sent)
+            → Packed (before ++ self.old.octets.items) self.old.part.bits self.old.part.len (stuffed sent ++ h)
+            → Packed (before ++ self.new.octets.items) self.new.part.bits self.new.part.len (stuffed (bit ∷ sent) ++ h) }
+        ensures ones { (sent : List Bool) → ones ≡ trailing (stuffed sent) → result ≡ trailing (stuffed (bit ∷ sent)) }
+        ensures few { result < 5 }
+        ensures len { 5 * (8 * array_vec_len self.new.octets + self.new.part.len) + result
+            ≤ 5 * (8 * array_vec_len self.old.octets + self.old.part.len) + ones + 6 }
+    {
+        self.push(bit);
+        if !bit {
+            return 0;
+        }
+        if ones == 4 {
+            self.push(false);
+            return 0;
+        }
+        ones + 1
+    }
+
+    /// Adds the bits of an octet of a unit behind so many 1s in a row. Answers how many there are now.
+    fn push_octet(&mut self, octet: u8, ones: u8) -> u8
+        requires few { ones < 5 }
+        requires room { 5 * (8 * array_vec_len self.old.octets + self.old.part.len) + ones + 58 ≤ 14080 }
+        ensures packed { (before : List ℕ) (sent h : List Bool) → ones ≡ trailing (stuffed sent)
+            → Packed (before ++ self.old.octets.items) self.old.part.bits self.old.part.len (stuffed sent ++ h)
+            → Packed (before ++ self.new.octets.items) self.new.part.bits self.new.part.len (stuffed (reverse (low_bits 8 octet) ++ sent) ++ h) }
+        ensures ones { (sent : List Bool) → ones ≡ trailing (stuffed sent) → result ≡ trailing (stuffed (reverse (low_bits 8 octet) ++ sent)) }
+        ensures few { result < 5 }
+        ensures len { 5 * (8 * array_vec_len self.new.octets + self.new.part.len) + result
+            ≤ 5 * (8 * array_vec_len self.old.octets + self.old.part.len) + ones + 48 }
+    {
+        let mut count = ones;
+        for i in 0..8u8 {
+            count = self.push_stuffed(octet >> i & 1 == 1, count);
+        }
+        count
+    }
+
+    /// Adds the octets of a unit, stuffed.
+    fn push_unit(&mut self, octets: &[u8])
+        requires fits { length octets.now ≤ 278 }
+        requires room { 8 * array_vec_len self.old.octets + self.old.part.len ≤ 15 }
+        ensures packed { (before : List ℕ) (h : List Bool) → Packed (before ++ self.old.octets.items) self.old.part.bits self.old.part.len h
+            → Packed (before ++ self.new.octets.items) self.new.part.bits self.new.part.len (stuffed (reverse (bits_of octets.now)) ++ h) }
+        ensures len { 5 * (8 * array_vec_len self.new.octets + self.new.part.len) ≤ 75 + 48 * length octets.now }
+    {
+        let mut ones = 0;
+        for octet in octets {
+            ones = self.push_octet(*octet, ones);
+        }
+    }
+}
+
+/// Puts signal units on a line: a flag before the first one and a flag after each, and between the flags
+/// a 0 after every five 1s in a row (Q.703, 3.1 and 3.2).
+#[derive(Drop)]
+pub struct Stuffer {
+    started: bool,
+    part: Part,
+}
+
+impl Stuffer {
+    ghost use Rattle.bit_line.specs.Stuffers.{Gave};
+
+    /// A stuffer before the first unit.
+    pub fn new() -> Self
+        ensures { Gave [] [] result }
+    {
+        Stuffer {
+            started: false,
+            part: Part::new(),
+        }
+    }
+
+    /// Sends a unit and gives the line octets that are whole now, at most 337. Up to 7 bits stay.
+    pub fn put(&mut self, unit: &Unit) -> ArrayVec<u8, 352>
+        requires { IsWhole unit.now }
+        ensures { (octets : List ℕ) × Frame octets unit.now × SpareBitsAreZero octets
+            × ((given : List ℕ) (units : List (List ℕ)) → Gave given units self.old → Gave (given ++ result.items) (units ++ octets ∷ []) self.new) }
+    {
+        let mut octets = ArrayVec::new();
+        encode(unit, &mut octets);
+        let mut line = Line {
+            octets: ArrayVec::new(),
+            part: self.part,
+        };
+        line.open(self.started);
+        line.push_unit(octets.as_slice());
+        line.push_flag();
+        self.started = true;
+        self.part = line.part;
+        line.octets
+    }
+
+    /// The bits that stay for the next call, the first one lowest, and how many they are, up to 7.
+    pub fn rest(&self) -> (u8, u8)
+        ensures bits { (given : List ℕ) (units : List (List ℕ)) → Gave given units self.now → bits_of given ++ low_bits result.1 result.0 ≡ line_of units }
+        ensures few { result.1 < 8 }
+        ensures fits { result.0 < 2 ^ result.1 }
+    {
+        (self.part.bits, self.part.len)
+    }
+}
