@@ -1,9 +1,10 @@
 //! The command `frame`: one signal unit, read from hexadecimal digits.
 ghost use Rattle.std.specs.Prelude.{◌≡◌, ◌⊎◌, ◌≤◌, ◌*◌, ◌+◌, ◌^◌, ◌<◌, ℕ, List, length, Ok, Err, IfOk, IfErr, OnErr};
 ghost use Rattle.hex.specs.Hex.{decode_of};
-ghost use Rattle.mtp2_play.specs.Reading.{Spells, IsRefused};
+ghost use Rattle.mtp2_play.specs.Reading.{Spells, IsReading, IsRefused};
 ghost use Rattle.su_octets.specs.declared.units.Unit.{Unit};
 
+use crate::line_bits::line_bits;
 use crate::lines::{FAILED, HELD, REFUSED, write_line};
 use hex::FromHexError;
 use std::alloc::{AllocError, Global};
@@ -61,7 +62,7 @@ fn write_reading<W: Write>(alloc: Global, writer: &mut W, reading: &Reading) -> 
 
 /// The unit that the word spells, or why it spells none.
 fn read(alloc: Global, word: &str) -> Result<Result<Reading, FrameFault>, AllocError>
-    ensures unit { IfOk result (λ r. IfOk r (λ reading. Spells word.now reading.unit)) }
+    ensures unit { IfOk result (λ r. IfOk r (λ reading. IsReading word.now reading.unit reading.line_bits)) }
     ensures fault { IfOk result (λ r. IfErr r (λ fault. IsRefused word.now fault)) }
     ensures none { IfOk result (λ r. OnErr r ((unit : Unit) → Spells word.now unit → ⊥)) }
 {
@@ -77,26 +78,4 @@ fn read(alloc: Global, word: &str) -> Result<Result<Reading, FrameFault>, AllocE
         }
         Err(fault) => Ok(Err(FrameFault::Unit(fault))),
     }
-}
-
-/// How many bits the octets are on the line: a 0 more behind each five 1s in a row (Q.703, 3.2).
-fn line_bits(octets: &[u8]) -> usize
-    requires { length octets.now < 2 ^ 32 }
-{
-    let mut bits = 0;
-    let mut ones = 0u8;
-    for octet in octets {
-        for place in 0..8u8 {
-            bits += 1;
-            if *octet >> place & 1 == 0 {
-                ones = 0;
-            } else if ones < 4 {
-                ones += 1;
-            } else {
-                bits += 1;
-                ones = 0;
-            }
-        }
-    }
-    bits
 }

@@ -2,6 +2,7 @@
 #![tactic(auto)]
 
 mod frame;
+mod line_bits;
 mod lines;
 mod words;
 
