@@ -199,7 +199,7 @@ pub unit_fits : (octets : List ℕ) → AreUnit octets → (5 ≤ length octets)
 unit_fits octets is =
     let frame : Frame octets is.0 = is.1 in
     let long : length octets ≡ length (content_of is.0 frame.spare) + length frame.check =
-        ap length frame.all ∙ length-append (content_of is.0 frame.spare) frame.check in
+    ap length frame.all ∙ length-append (content_of is.0 frame.spare) frame.check in
     let body : length (body_of is.0) ≤ 273 = body_fits is.0 frame.whole in
     (omega (arith, long, frame.checked.two), omega (arith, long, frame.checked.two, body))
 
@@ -230,7 +230,7 @@ pub not_part : (h : List Bool) (c : Content) (octets : List ℕ) → Holds h c �
     → IsCorrect h octets → ⊥
 not_part h c octets holds over some few correct =
     let whole : 8 * length c.data_bits.octets.items + c.data_bits.part.len ≡ length (taken_out h) =
-        packed-length c.data_bits.octets.items c.data_bits.part.bits c.data_bits.part.len (taken_out h) (holds.gathers.bits over) in
+    packed-length c.data_bits.octets.items c.data_bits.part.bits c.data_bits.part.len (taken_out h) (holds.gathers.bits over) in
     some (omega (arith, whole, correct_length h octets correct, few))
 
 whole_bits : (h : List Bool) (c : Content) → Holds h c → c.data_bits.over ≡ false → c.data_bits.part.len ≡ 0 → bits_of c.data_bits.octets.items ≡ reverse (taken_out h)
@@ -245,9 +245,9 @@ pub not_unit : (h : List Bool) (c : Content) (octets : List ℕ) → Holds h c �
 not_unit h c octets holds over none fit other correct =
     let whole : bits_of c.data_bits.octets.items ≡ reverse (taken_out h) = whole_bits h c holds over none in
     let same_bits : bits_of c.data_bits.octets.items ≡ bits_of octets =
-        whole ∙ ap reverse (correct_shape h octets correct).back ∙ reverse-reverse (bits_of octets) in
+    whole ∙ ap reverse (correct_shape h octets correct).back ∙ reverse-reverse (bits_of octets) in
     let long : length c.data_bits.octets.items ≡ length octets =
-        omega (arith, length-bits_of c.data_bits.octets.items, length-bits_of octets, ap length same_bits) in
+    omega (arith, length-bits_of c.data_bits.octets.items, length-bits_of octets, ap length same_bits) in
     let same : c.data_bits.octets.items ≡ octets = bits_of-same c.data_bits.octets.items octets fit correct.octets_fit long same_bits in
     other (subst AreUnit (sym same) correct.unit)
 

@@ -51,9 +51,10 @@ unfolding Runs
 one_run [] m n es fs x y = (x.0 ∙ sym y.0, x.1 ∙ sym y.1)
 one_run (b ∷ h) m n es fs x y =
     let earlier : (x.0 ≡ y.0) × (x.1 ≡ y.1) = one_run h x.0 y.0 x.1 y.1 x.2 y.2 in
-    let verdict : x.3.verdict ≡ y.3.verdict = one_closing (ends_flag (b ∷ h)) (inside h) x.3.verdict y.3.verdict x.3.closes y.3.closes in
-    (x.3.mode ∙ ap (λ v. mode_after v (begins (b ∷ h)) x.0) verdict ∙ ap (λ k. mode_after y.3.verdict (begins (b ∷ h)) k) earlier.0 ∙ sym y.3.mode,
-        x.3.all ∙ ap (λ l. l ++ reports x.3.verdict x.0) earlier.1 ∙ ap (λ v. y.1 ++ reports v x.0) verdict ∙ ap (λ k. y.1 ++ reports y.3.verdict k) earlier.0 ∙ sym y.3.all)
+    let verdict : x.3.verdict ≡ y.3.verdict = one_closing (ends_flag (b ∷ h)) (inside h) x.3.verdict y.3.verdict x.3.closes y.3.closes in (
+      x.3.mode ∙ ap (λ v. mode_after v (begins (b ∷ h)) x.0) verdict ∙ ap (λ k. mode_after y.3.verdict (begins (b ∷ h)) k) earlier.0 ∙ sym y.3.mode,
+      x.3.all ∙ ap (λ l. l ++ reports x.3.verdict x.0) earlier.1 ∙ ap (λ v. y.1 ++ reports v x.0) verdict ∙ ap (λ k. y.1 ++ reports y.3.verdict k) earlier.0 ∙ sym y.3.all,
+    )
 
 -- a line has one list of events
 pub one_events : (bits : List Bool) (es fs : List LineEvent) → AreEvents bits es → AreEvents bits fs → es ≡ fs
@@ -131,8 +132,8 @@ next_octet : (i : ℕ) (octets : List ℕ) (h : List Bool) → i < length octets
 unfolding bits_of
 next_octet i octets h within =
     ap (λ l. reverse l ++ h)
-        (ap bits_of (take_more octets i 0 within) ∙ bits_of-append (take i octets) (get_or octets i 0 ∷ [])
-        ∙ ap (λ l. bits_of (take i octets) ++ l) (append-nil (low_bits 8 (get_or octets i 0))))
+    (ap bits_of (take_more octets i 0 within) ∙ bits_of-append (take i octets) (get_or octets i 0 ∷ [])
+    ∙ ap (λ l. bits_of (take i octets) ++ l) (append-nil (low_bits 8 (get_or octets i 0))))
     ∙ ap (λ l. l ++ h) (reverse-append (bits_of (take i octets)) (low_bits 8 (get_or octets i 0)))
     ∙ append_assoc (reverse (low_bits 8 (get_or octets i 0))) (reverse (bits_of (take i octets))) h
 

@@ -9,7 +9,6 @@ use Rattle.std.proofs.lemmas.Bool.Decides.{eqb_tells, leb_tells}
 use Rattle.bit_line.specs.Stuffing.{taken_out}
 use Rattle.bit_line.specs.Flags.{six_ones, ends_flag, since_flag, inside, begins, MOST_BITS}
 use Rattle.bit_line.specs.Deframing.{newest, seventh, latest}
-
 use Rattle.bit_line.proofs.Newest.{bit_small, le_by, gt_by}
 
 -- ---- flags

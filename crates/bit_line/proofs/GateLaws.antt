@@ -89,8 +89,8 @@ pass-late b late h old new other is_late some ready same_seen same_wait pushed l
     let enough : 7 ≤ length c = omega (arith, was, ready) in
     let part : (rest : List Bool) × (h ≡ c ++ rest) = part_of h c since.1 in
     let next : inside (b ∷ h) ≡ late ∷ inside h =
-        inside-some (b ∷ h) (b ∷ c) more ∙ seventh-is c part.0 enough
-        ∙ ap (λ x. x ∷ drop 7 c) (ap seventh (sym part.1) ∙ sym is_late) ∙ ap (λ d. late ∷ d) (sym (inside-some h c since.1)) in
+    inside-some (b ∷ h) (b ∷ c) more ∙ seventh-is c part.0 enough
+    ∙ ap (λ x. x ∷ drop 7 c) (ap seventh (sym part.1) ∙ sym is_late) ∙ ap (λ d. late ∷ d) (sym (inside-some h c since.1)) in
     let P : List Bool → Type 0 = λ d. Holds d new.content in
     record {
       seen = seen_still b h c new.seen (same_seen ∙ some) more;

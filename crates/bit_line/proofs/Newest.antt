@@ -88,4 +88,3 @@ six_when h is = six_ones-newest h ∙ ap (λ n. n == 63) is
 
 pub no_six_when : (h : List Bool) → (newest 7 h ≡ 63 → ⊥) → six_ones h ≡ false
 no_six_when h other = six_ones-newest h ∙ differs (newest 7 h) 63 other
-

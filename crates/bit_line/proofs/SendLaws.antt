@@ -61,8 +61,8 @@ pub next_octet : (i : ℕ) (octets : List ℕ) → i < length octets
 unfolding bits_of
 next_octet i octets within =
     sym (ap reverse
-        (ap bits_of (take_more octets i 0 within) ∙ bits_of-append (take i octets) (get_or octets i 0 ∷ [])
-        ∙ ap (λ l. bits_of (take i octets) ++ l) (append-nil (low_bits 8 (get_or octets i 0))))
+    (ap bits_of (take_more octets i 0 within) ∙ bits_of-append (take i octets) (get_or octets i 0 ∷ [])
+    ∙ ap (λ l. bits_of (take i octets) ++ l) (append-nil (low_bits 8 (get_or octets i 0))))
     ∙ reverse-append (bits_of (take i octets)) (low_bits 8 (get_or octets i 0)))
 
 pub no_octets : reverse (bits_of []) ≡ []
@@ -128,9 +128,15 @@ unfolding Packed
 packed_of given units s gave =
     ap (λ l. bits_of l ++ low_bits s.part.len s.part.bits) (append-nil given) ∙ gave.bits ∙ sym (reverse-reverse (line_of units))
 
+pub packed_start : (given items : List ℕ) (units : List (List ℕ)) (s : Stuffer) → items ≡ [] → Gave given units s
+    → Packed (given ++ items) s.part.bits s.part.len (reverse (line_of units))
+packed_start given items units s none gave =
+    let P : List ℕ → Type 0 = λ l. Packed (given ++ l) s.part.bits s.part.len (reverse (line_of units)) in
+    subst P (sym none) (packed_of given units s gave)
+
 pub gave_more : (given items octets : List ℕ) (units : List (List ℕ)) (old new : Stuffer) → new.started ≡ true → Gave given units old
     → Packed (given ++ items) new.part.bits new.part.len
-        (reverse (low_bits 8 126) ++ (stuffed (reverse (bits_of octets)) ++ (opening old.started ++ reverse (line_of units))))
+    (reverse (low_bits 8 126) ++ (stuffed (reverse (bits_of octets)) ++ (opening old.started ++ reverse (line_of units))))
     → Gave (given ++ items) (units ++ octets ∷ []) new
 unfolding Packed
 gave_more given items octets units old new started gave packed =
@@ -138,9 +144,9 @@ gave_more given items octets units old new started gave packed =
     let s : List Bool = stuffed (reverse (bits_of octets)) in
     let h : List Bool = reverse (line_of units) in
     let turned : reverse (reverse (low_bits 8 126) ++ (s ++ (o ++ h))) ≡ ((line_of units ++ reverse o) ++ reverse s) ++ flag =
-        reverse-append (reverse (low_bits 8 126)) (s ++ (o ++ h))
-        ∙ ap (λ l. reverse (s ++ (o ++ h)) ++ l) (reverse-reverse (low_bits 8 126) ∙ flag_bits)
-        ∙ ap (λ l. l ++ flag) (reverse-append s (o ++ h) ∙ ap (λ l. l ++ reverse s) (reverse-append o h ∙ ap (λ l. l ++ reverse o) (reverse-reverse (line_of units)))) in
+    reverse-append (reverse (low_bits 8 126)) (s ++ (o ++ h))
+    ∙ ap (λ l. reverse (s ++ (o ++ h)) ++ l) (reverse-reverse (low_bits 8 126) ∙ flag_bits)
+    ∙ ap (λ l. l ++ flag) (reverse-append s (o ++ h) ∙ ap (λ l. l ++ reverse s) (reverse-append o h ∙ ap (λ l. l ++ reverse o) (reverse-reverse (line_of units)))) in
     record {
       bits = packed ∙ turned ∙ append_assoc (line_of units ++ reverse o) (reverse s) flag ∙ line_more old.started units octets gave.started;
       started = started ∙ some_more units octets;

@@ -25,10 +25,11 @@ stands_first d recent gate count = ([], (Some 0, (refl, refl), record { recent =
 goes_on : (b : Bool) (h : List Bool) (mode : Option ℕ) (events given : List LineEvent) (verdict : Verdict) (new : Deframer) → Runs h mode events → Closes b h verdict
     → given ≡ reports verdict mode → Fits (b ∷ h) (mode_after verdict (begins (b ∷ h)) mode) new → StandsAt (b ∷ h) (events ++ given) new
 unfolding StandsAt Runs
-goes_on b h mode events given verdict new runs closes is fits =
-    (mode_after verdict (begins (b ∷ h)) mode,
-        (mode, events, runs, record { verdict = verdict; closes = closes; mode = refl; all = ap (λ l. events ++ l) is }),
-        fits)
+goes_on b h mode events given verdict new runs closes is fits = (
+  mode_after verdict (begins (b ∷ h)) mode,
+  (mode, events, runs, record { verdict = verdict; closes = closes; mode = refl; all = ap (λ l. events ++ l) is }),
+  fits,
+)
 
 nothing_closes : (b : Bool) (h : List Bool) → ends_flag (b ∷ h) ≡ false → Closes b h Nothing
 nothing_closes b h none = let P : Bool → Type 0 = λ e. MatchBool e (IsJudged (inside h) Nothing) (Nothing ≡ Nothing) in subst P (sym none) refl
@@ -53,12 +54,12 @@ plain-stands b late over s h events content old new other next is_late passes is
     let begin : over ≡ begins (b ∷ h) = is_over (b ∷ h) gate ∙ sym (begins-plain b h no_six) in
     let P : Bool → Type 0 = λ x. Counts (mode_after Nothing x mode) new.counter.count in
     goes_on b h mode events (reports_of (record { sixteen = s; closed = closed.Nothing }) content) Nothing new stands.1 (nothing_closes b h none)
-        (append-nil (sixteen_of s) ∙ full mode fits.counting)
-        (record {
-          recent = next ∙ ap (λ n. (n * 2 + cond b 1 0) % 128) fits.recent ∙ sym (newest-next b h);
-          gate = gate;
-          counting = subst P begin (counts mode fits.counting);
-        })
+    (append-nil (sixteen_of s) ∙ full mode fits.counting)
+    (record {
+      recent = next ∙ ap (λ n. (n * 2 + cond b 1 0) % 128) fits.recent ∙ sym (newest-next b h);
+      gate = gate;
+      counting = subst P begin (counts mode fits.counting);
+    })
 
 pub seventh-stands : (s : Bool) (h : List Bool) (events : List LineEvent) (content : Content) (old new : Deframer) → old.recent ≡ 63 → new.recent ≡ 127
     → ((h2 : List Bool) (b2 : Bool) → ends_flag (b2 ∷ h2) ≡ false → false ≡ seventh h2 → LetsIn h2 old.gate → LetsIn (b2 ∷ h2) new.gate)
@@ -74,12 +75,12 @@ seventh-stands s h events content old new was next passes counts full stands =
     let none : ends_flag (true ∷ h) ≡ false = ends_flag-one h in
     let P : Bool → Type 0 = λ x. Counts (mode_after Nothing x mode) new.counter.count in
     goes_on true h mode events (reports_of (record { sixteen = s; closed = closed.Nothing }) content) Nothing new stands.1 (nothing_closes true h none)
-        (append-nil (sixteen_of s) ∙ full mode fits.counting)
-        (record {
-          recent = next ∙ ap (λ n. (n * 2 + 1) % 128) (sym is) ∙ sym (newest-next true h);
-          gate = passes h true none (ap (λ n. nat_le 64 n) (sym is)) fits.gate;
-          counting = subst P (sym (begins-seventh h six)) (counts mode fits.counting);
-        })
+    (append-nil (sixteen_of s) ∙ full mode fits.counting)
+    (record {
+      recent = next ∙ ap (λ n. (n * 2 + 1) % 128) (sym is) ∙ sym (newest-next true h);
+      gate = passes h true none (ap (λ n. nat_le 64 n) (sym is)) fits.gate;
+      counting = subst P (sym (begins-seventh h six)) (counts mode fits.counting);
+    })
 
 pub flag-stands : (closing : Closed) (given : Given) (h : List Bool) (events : List LineEvent) (content : Content) (old new : Deframer) → old.recent ≡ 63 → new.recent ≡ 126
     → ((h2 : List Bool) → LetsIn h2 old.gate → IsJudged (inside h2) (verdict_of closing content))
@@ -97,9 +98,9 @@ flag-stands closing given h events content old new was next judged closes counts
     let verdict : Verdict = verdict_of closing content in
     let P : Bool → Type 0 = λ x. Counts (mode_after verdict x mode) new.counter.count in
     goes_on false h mode events (reports_of given content) verdict new stands.1 (flag_closes h verdict ends (judged h fits.gate))
-        (gives mode content fits.counting)
-        (record {
-          recent = next ∙ ap (λ n. (n * 2 + 0) % 128) (sym is) ∙ sym (newest-next false h);
-          gate = closes h ends;
-          counting = subst P (sym (begins-flag h six)) (counts mode content fits.counting);
-        })
+    (gives mode content fits.counting)
+    (record {
+      recent = next ∙ ap (λ n. (n * 2 + 0) % 128) (sym is) ∙ sym (newest-next false h);
+      gate = closes h ends;
+      counting = subst P (sym (begins-flag h six)) (counts mode content fits.counting);
+    })

@@ -7,3 +7,4 @@ pub mod Counting
 pub mod Judging
 pub mod Deframing
 pub mod Stuffers
+pub mod Laws

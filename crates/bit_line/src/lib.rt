@@ -11,8 +11,11 @@ mod data;
 mod deframer;
 mod events;
 mod gate;
+pub mod laws;
 mod part;
 mod stuffer;
+#[cfg(test)]
+mod tests;
 
 pub use deframer::Deframer;
 pub use events::{LineEvent, NoMemory};

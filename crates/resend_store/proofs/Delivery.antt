@@ -1,6 +1,6 @@
 -- What a receiver accepts is a beginning of what the sender took.
-use Rattle.std.proofs.Common.{◌≡◌, ℕ, ◌+◌, ◌-◌, ◌%◌, ◌<◌, ◌≤◌, ◌⊎◌, inl, inr, zero, suc, ◌==◌, Bool, true, false, if◌then◌else◌, nat_lt, nat_le, max, min, List, [], ◌∷◌, ◌++◌, length, take, drop, refl, ap, sym, ◌∙◌, subst, arith}
-use Rattle.std.specs.Prelude.{Option, Some, None, slice_get, is_some}
+use Rattle.std.proofs.Common.{◌≡◌, ℕ, ◌+◌, ◌-◌, ◌%◌, ◌<◌, ◌≤◌, zero, suc, ◌==◌, Bool, true, false, if◌then◌else◌, nat_le, max, List, [], ◌∷◌, ◌++◌, length, take, drop, refl, ap, sym, ◌∙◌, subst, arith}
+use Rattle.std.specs.Prelude.{Option, None, slice_get, is_some}
 use Rattle.std.specs.Option.{option_to_list}
 use Rattle.std.proofs.lemmas.Bool.Decides.{nat_tests}
 use Rattle.std.proofs.lemmas.List.{append-nil, drop-drop, drop-append-le, take-append-le, length-drop, length_push, take-append-drop}
@@ -9,14 +9,14 @@ use Rattle.resend_store.specs.declared.messages.Mode.TheVariants.{Basic, Cyclic}
 use Rattle.resend_store.specs.declared.messages.Msu.{Msu}
 use Rattle.resend_store.specs.declared.messages.Outgoing.{Outgoing}
 use Rattle.resend_store.specs.Numbers.{plus, minus}
-use Rattle.resend_store.specs.Window.{Window, Sending, with_put, next, count_by, without, asked, after_back}
-use Rattle.resend_store.specs.Intake.{Intake, Hearing, hear}
-use Rattle.resend_store.specs.Runs.{put, on_back, is_accepted, accepted, message_of, step}
+use Rattle.resend_store.specs.Window.{Window, with_put, next, count_by, without, asked, after_back}
+use Rattle.resend_store.specs.Intake.{Hearing, hear}
+use Rattle.resend_store.specs.Runs.{put, on_back, is_accepted, accepted, step}
 use Rattle.resend_store.specs.Hearings.{is_accept}
 use Rattle.resend_store.specs.Exchange.{Answer, Exchange, Event, gets, sends, answers, arrives, is_lost, comes_back, is_lost_back, exchange_start, hears, first_arrives, first_is_lost, first_comes_back, first_is_lost_back, exchange_step, exchange_after, DeliversInOrder}
-use Rattle.resend_store.proofs.Sent.{Fine, UnitIs, fills, carries, NextFine, SameFine, next_fine}
+use Rattle.resend_store.proofs.Sent.{Fine, UnitIs, fills, carries, SameFine, next_fine}
 use Rattle.resend_store.proofs.Stands.{slice_get_drop}
-use Rattle.resend_store.proofs.InTurn.{HearIs, taken, passed, hear_is}
+use Rattle.resend_store.proofs.InTurn.{taken, passed, hear_is}
 
 -- The units under way, where s of the messages were sent and the receiver wants the message d next. None of them carries a
 -- message so old that its number could be taken for a later one's, also once those before it have been accepted.

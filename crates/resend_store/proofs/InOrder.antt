@@ -1,5 +1,5 @@
 -- New messages go out in order and without a gap, over every list of calls.
-use Rattle.std.proofs.Common.{◌≡◌, ℕ, ◌+◌, ◌-◌, ◌<◌, ◌≤◌, ◌⊎◌, inl, inr, zero, suc, ◌==◌, Bool, true, false, if◌then◌else◌, nat_lt, nat_le, List, [], ◌∷◌, ◌++◌, length, take, drop, map, refl, ap, sym, ◌∙◌, subst, arith, add-one}
+use Rattle.std.proofs.Common.{◌≡◌, ℕ, ◌+◌, ◌-◌, ◌<◌, ◌≤◌, ◌⊎◌, inl, inr, zero, suc, ◌==◌, Bool, true, false, if◌then◌else◌, nat_lt, nat_le, List, [], ◌∷◌, ◌++◌, length, drop, map, refl, ap, sym, ◌∙◌, subst, arith, add-one}
 use Rattle.std.specs.Prelude.{Option, Some, None, slice_get}
 use Rattle.std.proofs.lemmas.Bool.Decides.{nat_tests}
 use Rattle.std.proofs.lemmas.List.{append-nil, append_assoc, drop-drop, drop-append-le, length-drop, length_push, take-append-drop}
@@ -7,10 +7,10 @@ use Rattle.resend_store.specs.declared.messages.Mode.{Mode}
 use Rattle.resend_store.specs.declared.messages.Mode.TheVariants.{Basic, Cyclic}
 use Rattle.resend_store.specs.declared.messages.Msu.{Msu}
 use Rattle.resend_store.specs.declared.messages.Outgoing.{Outgoing}
-use Rattle.resend_store.specs.Numbers.{plus, minus}
-use Rattle.resend_store.specs.Window.{Window, Sending, unacknowledged, waiting, last_acknowledged, start, with_put, next, count_by, without, asked, after_back, count_known, emptied, refreshed}
+use Rattle.resend_store.specs.Numbers.{plus}
+use Rattle.resend_store.specs.Window.{Window, Sending, unacknowledged, waiting, start, with_put, next, count_by, without, asked, after_back, count_known, emptied, refreshed}
 use Rattle.resend_store.specs.Runs.{Call, put, put_diverted, next_unit, on_back, retrieve, fresh, is_accepted, accepted, step, after, message_of, brought, newly_given, all_brought, all_given, is_beginning, NoBeginning, counted, InOrder, number_after, NewInOrder}
-use Rattle.resend_store.proofs.Given.{NextIs, again, new, SameNumbers, next_is}
+use Rattle.resend_store.proofs.Given.{again, new, SameNumbers, next_is}
 
 -- what one call does
 data StepIs (w : Window) (call : Call) : Type 0 where

@@ -1,10 +1,8 @@
 -- A receiver accepts messages in turn, over every list of units.
-use Rattle.std.proofs.Common.{◌≡◌, ℕ, ◌⊎◌, inl, inr, ◌==◌, ◌&&◌, Bool, true, false, if◌then◌else◌, List, [], ◌∷◌, ◌++◌, length, map, refl, ap, sym, ◌∙◌, arith}
-use Rattle.std.specs.Prelude.{Ok}
+use Rattle.std.proofs.Common.{◌≡◌, ℕ, ◌==◌, ◌&&◌, Bool, true, false, if◌then◌else◌, List, [], ◌∷◌, ◌++◌, length, map, refl, ap, sym, ◌∙◌, arith}
 use Rattle.std.proofs.lemmas.Bool.Decides.{nat_tests}
 use Rattle.resend_store.specs.declared.messages.Mode.{Mode}
 use Rattle.resend_store.specs.declared.messages.Mode.TheVariants.{Basic, Cyclic}
-use Rattle.resend_store.specs.declared.messages.Verdict.TheVariants.{Accept}
 use Rattle.resend_store.specs.Numbers.{plus}
 use Rattle.resend_store.specs.Intake.{Intake, Hearing, first_intake, accepts, discards, refuses, is_in_turn, hear_agreeing, hear_unlike, hear_by, hear}
 use Rattle.resend_store.specs.Runs.{counted}

@@ -1,11 +1,11 @@
 -- The two steps of a call to send give what its definition says.
-use Rattle.std.proofs.Common.{◌≡◌, ℕ, ◌+◌, ◌<◌, ◌⊎◌, inl, inr, zero, suc, ◌==◌, Bool, true, false, List, take, nat_lt, refl, arith}
+use Rattle.std.proofs.Common.{◌≡◌, ℕ, ◌<◌, ◌⊎◌, inl, inr, zero, suc, ◌==◌, Bool, true, false, List, take, nat_lt, refl, arith}
 use Rattle.std.proofs.lemmas.Bool.Decides.{nat_tests}
 use Rattle.resend_store.specs.declared.messages.Mode.{Mode}
 use Rattle.resend_store.specs.declared.messages.Mode.TheVariants.{Basic, Cyclic}
 use Rattle.resend_store.specs.declared.messages.Msu.{Msu}
 use Rattle.resend_store.specs.Messages.{reaches_limit}
-use Rattle.resend_store.specs.Window.{Window, IsWindow, UsesOnly, at_limit, next, next_by, next_forced}
+use Rattle.resend_store.specs.Window.{Window, IsWindow, UsesOnly, at_limit, next, next_by}
 use Rattle.resend_store.specs.Steps.{settled, gives}
 
 -- nothing that weighs is sent where a limit is reached by nothing

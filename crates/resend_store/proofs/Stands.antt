@@ -1,5 +1,5 @@
 -- What is kept tells all that the window over all messages does.
-use Rattle.std.proofs.Common.{◌≡◌, ℕ, ◌+◌, ◌-◌, ◌%◌, ◌<◌, ◌≤◌, zero, suc, ◌==◌, ◌&&◌, Bool, true, false, if◌then◌else◌, nat_lt, nat_le, max, min, List, [], ◌∷◌, ◌++◌, length, take, drop, refl, ap, sym, ◌∙◌, subst, arith, zero-add}
+use Rattle.std.proofs.Common.{◌≡◌, ℕ, ◌+◌, ◌-◌, ◌%◌, ◌<◌, ◌≤◌, zero, suc, ◌==◌, ◌&&◌, Bool, true, false, if◌then◌else◌, nat_lt, nat_le, List, [], ◌∷◌, ◌++◌, length, take, drop, refl, ap, sym, ◌∙◌, subst, arith, zero-add}
 use Rattle.std.specs.Prelude.{Option, Some, None, slice_get}
 use Rattle.std.proofs.lemmas.Bool.Decides.{nat_tests}
 use Rattle.std.proofs.lemmas.List.{drop-drop, drop-append-le, length-drop, length-take, length_push, drop-take, drop_all}
@@ -10,9 +10,9 @@ use Rattle.resend_store.specs.declared.messages.Outgoing.{Outgoing}
 use Rattle.resend_store.specs.declared.messages.TheConstants.{MAX_UNACKNOWLEDGED, MAX_WAITING, MAX_KEPT}
 use Rattle.resend_store.specs.Numbers.{plus, minus}
 use Rattle.resend_store.specs.Messages.{reaches_limit}
-use Rattle.resend_store.specs.Window.{Window, Sending, unacknowledged, waiting, number_at, last_acknowledged, start, with_put, may_send, at_limit, unit_at, fill_in, repeats, round, after_new, sends_new, cycles, next_basic, next_ordinary, next_forced, next_by, next, count_by, without, asked, after_back, retrieved, count_known, emptied, refreshed}
+use Rattle.resend_store.specs.Window.{Window, Sending, waiting, number_at, start, with_put, may_send, at_limit, unit_at, fill_in, repeats, round, after_new, sends_new, cycles, next_basic, next_ordinary, next_forced, next_by, next, count_by, without, asked, retrieved, count_known, emptied, refreshed}
 use Rattle.resend_store.specs.Runs.{Call, put, put_diverted, next_unit, on_back, retrieve, fresh, is_accepted, accepted, step, after}
-use Rattle.resend_store.specs.Whole.{Whole, number_of, in_window, whole_start, WholeSending, carries, fills_in, goes_again, forces, forces_by, goes_out, goes_in_turn, is_open, whole_next_basic, whole_next_ordinary, whole_next_forced, whole_next_by, whole_next, whole_count, acknowledges, whole_asked, whole_known, handed, whole_emptied, whole_refreshed, whole_accepts, whole_accepted, whole_step, whole_after, StandsFor, AnswerAlike, KeptIsEnough}
+use Rattle.resend_store.specs.Whole.{Whole, number_of, in_window, whole_start, WholeSending, carries, fills_in, goes_again, forces, forces_by, goes_out, goes_in_turn, is_open, whole_next_basic, whole_next_ordinary, whole_next_forced, whole_next_by, whole_next, whole_count, acknowledges, whole_asked, whole_known, handed, whole_emptied, whole_refreshed, whole_accepts, whole_accepted, whole_step, whole_after, StandsFor, KeptIsEnough}
 
 -- ---- tests and lists
 

@@ -1,6 +1,6 @@
 -- Octets of messages.
 use Rattle.std.proofs.Common.{◌≡◌, ℕ, ◌+◌, ◌-◌, ◌*◌, ◌≤◌, ◌<◌, zero, suc, List, [], ◌∷◌, length, take, drop, get_or, arith, ap, sym, ◌∙◌}
-use Rattle.std.specs.Prelude.{sum_by, All, IfSome, slice_get}
+use Rattle.std.specs.Prelude.{All, IfSome, slice_get}
 use Rattle.std.proofs.lemmas.List.Sums.{sum_by-le, sum_by_more, sum_by-take-drop}
 use Rattle.std.proofs.lemmas.List.Elements.{All-weaker, All-take, All-head, All-tail}
 use Rattle.std.proofs.lemmas.List.{take-take, length-take, drop-take}

@@ -1,13 +1,13 @@
 -- One direction of a link: a sender, a receiver, and a line each way, which may lose units and delay them, and never
 -- changes their order.
-use Rattle.std.specs.Prelude.{◌≡◌, ℕ, Bool, if◌then◌else◌, List, [], ◌∷◌, ◌++◌, Option, is_some}
+use Rattle.std.specs.Prelude.{◌≡◌, ℕ, if◌then◌else◌, List, [], ◌∷◌, ◌++◌, is_some}
 use Rattle.std.specs.Option.{option_to_list}
 use Rattle.resend_store.specs.declared.messages.Msu.{Msu}
 use Rattle.resend_store.specs.declared.messages.Mode.{Mode}
 use Rattle.resend_store.specs.declared.messages.Outgoing.{Outgoing}
 use Rattle.resend_store.specs.Window.{Window, start, next}
-use Rattle.resend_store.specs.Intake.{Intake, Hearing, first_intake, hear}
-use Rattle.resend_store.specs.Runs.{Call, put, next_unit, on_back, step, brought}
+use Rattle.resend_store.specs.Intake.{Intake, first_intake, hear}
+use Rattle.resend_store.specs.Runs.{put, on_back, step, brought}
 use Rattle.resend_store.specs.Hearings.{is_accept}
 
 -- what a unit brings back: the number of the message accepted last, and the bit

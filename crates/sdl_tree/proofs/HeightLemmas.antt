@@ -37,14 +37,14 @@ unfolding Judged
 judged_text falls = omega arith
 judged_text (ends e) = omega arith
 judged_text (task at xs rest) =
-  judged-max (assignments_height xs) (text_height rest) _ (high_in_text rest) (judged_test (assignments_height xs) at (nat_lt MAX_HEIGHT (assignments_height xs)) refl) (judged_text rest)
+    judged-max (assignments_height xs) (text_height rest) _ (high_in_text rest) (judged_test (assignments_height xs) at (nat_lt MAX_HEIGHT (assignments_height xs)) refl) (judged_text rest)
 
 judged_clause : (c : PlainClause) → Judged (clause_height c) (high_in_clause c)
 judged_clause (input i) = judged_text i.text
 
 judged_process : (p : PlainProcess) → Judged (process_height p) (high_in_process p)
 judged_process p =
-  judged-max (text_height p.start.text) (highest state_height p.states) (high_in_text p.start.text) (first_of high_in_state p.states)
+    judged-max (text_height p.start.text) (highest state_height p.states) (high_in_text p.start.text) (first_of high_in_state p.states)
     (judged_text p.start.text)
     (judged_list state_height high_in_state (λ s. judged_list clause_height high_in_clause judged_clause s.clauses) p.states)
 
@@ -70,17 +70,18 @@ pub high_before_end : (actions : List Action) (last : Option End) → high_in_te
 high_before_end [] None = refl
 high_before_end [] (Some e) = refl
 high_before_end (Task t ∷ actions) last =
-  ap (or_first (if nat_lt MAX_HEIGHT (assignments_height (map assignment_of t.assignments.items)) then Some t.at else None)) (high_before_end actions last)
+    ap (or_first (if nat_lt MAX_HEIGHT (assignments_height (map assignment_of t.assignments.items)) then Some t.at else None)) (high_before_end actions last)
 
 -- no tree is of height 0
 pub above_zero : (x : Tree) → nat_lt 0 (tree_height x) ≡ true
 above_zero x = by_test (nat_lt 0 (tree_height x)) refl
   where
-  at_least : (x : Tree) → 0 < tree_height x
-  at_least (number at k) = omega arith
-  at_least (variable at n) = omega arith
-  at_least (unary at o y) = omega arith
-  at_least (binary at o y z) = omega arith
-  by_test : (b : Bool) → nat_lt 0 (tree_height x) ≡ b → b ≡ true
-  by_test true e = refl
-  by_test false e = let a = at_least x in let c : tree_height x ≤ 0 = ltb-false 0 (tree_height x) e in absurd (omega arith)
+    at_least : (x : Tree) → 0 < tree_height x
+    at_least (number at k) = omega arith
+    at_least (variable at n) = omega arith
+    at_least (unary at o y) = omega arith
+    at_least (binary at o y z) = omega arith
+
+    by_test : (b : Bool) → nat_lt 0 (tree_height x) ≡ b → b ≡ true
+    by_test true e = refl
+    by_test false e = let a = at_least x in let c : tree_height x ≤ 0 = ltb-false 0 (tree_height x) e in absurd (omega arith)

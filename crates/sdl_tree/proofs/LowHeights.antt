@@ -24,74 +24,74 @@ record Keeps (x y : Tree) : Type 0 where
   high : MAX_HEIGHT < tree_height x → MAX_HEIGHT < tree_height y
 
 keeps_unary : (at : ℕ) (o : UnaryOperator) (x y : Tree) (b : Bool) → nat_lt MAX_HEIGHT (tree_height y) ≡ b → Keeps x y
-  → Keeps (unary at o x) (if b then placed at y else unary at o y)
+    → Keeps (unary at o x) (if b then placed at y else unary at o y)
 keeps_unary at o x y true e k =
-  let above : MAX_HEIGHT < tree_height y = ltb-true MAX_HEIGHT (tree_height y) e in
-  record {
-    low = λ h. (let same : y ≡ x = k.low (omega arith) in let s : tree_height y ≡ tree_height x = ap tree_height same in absurd (omega arith));
-    high = λ h. subst (λ n. MAX_HEIGHT < n) (sym (height-placed at y)) above;
-  }
+    let above : MAX_HEIGHT < tree_height y = ltb-true MAX_HEIGHT (tree_height y) e in
+    record {
+      low = λ h. (let same : y ≡ x = k.low (omega arith) in let s : tree_height y ≡ tree_height x = ap tree_height same in absurd (omega arith));
+      high = λ h. subst (λ n. MAX_HEIGHT < n) (sym (height-placed at y)) above;
+    }
 keeps_unary at o x y false e k =
-  let below : tree_height y ≤ MAX_HEIGHT = ltb-false MAX_HEIGHT (tree_height y) e in
-  record {
-    low = λ h. ap (unary at o) (k.low (omega arith));
-    high = λ h. high_unary x y k below h;
-  }
+    let below : tree_height y ≤ MAX_HEIGHT = ltb-false MAX_HEIGHT (tree_height y) e in
+    record {
+      low = λ h. ap (unary at o) (k.low (omega arith));
+      high = λ h. high_unary x y k below h;
+    }
   where
-  high_unary : (x y : Tree) → Keeps x y → tree_height y ≤ MAX_HEIGHT → MAX_HEIGHT < tree_height x + 1 → MAX_HEIGHT < tree_height y + 1
-  high_unary x y k below h = by_test (nat_lt MAX_HEIGHT (tree_height x)) refl
-    where
-    by_test : (c : Bool) → nat_lt MAX_HEIGHT (tree_height x) ≡ c → MAX_HEIGHT < tree_height y + 1
-    by_test true f = let above : MAX_HEIGHT < tree_height y = k.high (ltb-true MAX_HEIGHT (tree_height x) f) in omega arith
-    by_test false f =
-      let same : y ≡ x = k.low (ltb-false MAX_HEIGHT (tree_height x) f) in
-      let s : tree_height y ≡ tree_height x = ap tree_height same in
-      omega arith
+    high_unary : (x y : Tree) → Keeps x y → tree_height y ≤ MAX_HEIGHT → MAX_HEIGHT < tree_height x + 1 → MAX_HEIGHT < tree_height y + 1
+    high_unary x y k below h = by_test (nat_lt MAX_HEIGHT (tree_height x)) refl
+      where
+        by_test : (c : Bool) → nat_lt MAX_HEIGHT (tree_height x) ≡ c → MAX_HEIGHT < tree_height y + 1
+        by_test true f = let above : MAX_HEIGHT < tree_height y = k.high (ltb-true MAX_HEIGHT (tree_height x) f) in omega arith
+        by_test false f =
+            let same : y ≡ x = k.low (ltb-false MAX_HEIGHT (tree_height x) f) in
+            let s : tree_height y ≡ tree_height x = ap tree_height same in
+            omega arith
 
 -- a height above the limit that is not: either way
 either_height : {C : Type 0} (x : Tree) → (MAX_HEIGHT < tree_height x → C) → (tree_height x ≤ MAX_HEIGHT → C) → C
 either_height {C} x above below = by_test (nat_lt MAX_HEIGHT (tree_height x)) refl
   where
-  by_test : (c : Bool) → nat_lt MAX_HEIGHT (tree_height x) ≡ c → C
-  by_test true f = above (ltb-true MAX_HEIGHT (tree_height x) f)
-  by_test false f = below (ltb-false MAX_HEIGHT (tree_height x) f)
+    by_test : (c : Bool) → nat_lt MAX_HEIGHT (tree_height x) ≡ c → C
+    by_test true f = above (ltb-true MAX_HEIGHT (tree_height x) f)
+    by_test false f = below (ltb-false MAX_HEIGHT (tree_height x) f)
 
 keeps_binary : (at : ℕ) (o : BinaryOperator) (x y x' y' : Tree) (b c : Bool) → nat_lt MAX_HEIGHT (tree_height x') ≡ b → nat_lt MAX_HEIGHT (tree_height y') ≡ c
-  → Keeps x x' → Keeps y y' → Keeps (binary at o x y) (if b then placed at x' else if c then placed at y' else binary at o x' y')
+    → Keeps x x' → Keeps y y' → Keeps (binary at o x y) (if b then placed at x' else if c then placed at y' else binary at o x' y')
 keeps_binary at o x y x' y' true c e f k m =
-  let above : MAX_HEIGHT < tree_height x' = ltb-true MAX_HEIGHT (tree_height x') e in
-  record {
-    low = λ h. (let same : x' ≡ x = k.low (omega arith) in let s : tree_height x' ≡ tree_height x = ap tree_height same in absurd (omega arith));
-    high = λ h. subst (λ n. MAX_HEIGHT < n) (sym (height-placed at x')) above;
-  }
+    let above : MAX_HEIGHT < tree_height x' = ltb-true MAX_HEIGHT (tree_height x') e in
+    record {
+      low = λ h. (let same : x' ≡ x = k.low (omega arith) in let s : tree_height x' ≡ tree_height x = ap tree_height same in absurd (omega arith));
+      high = λ h. subst (λ n. MAX_HEIGHT < n) (sym (height-placed at x')) above;
+    }
 keeps_binary at o x y x' y' false true e f k m =
-  let above : MAX_HEIGHT < tree_height y' = ltb-true MAX_HEIGHT (tree_height y') f in
-  record {
-    low = λ h. (let same : y' ≡ y = m.low (omega arith) in let s : tree_height y' ≡ tree_height y = ap tree_height same in absurd (omega arith));
-    high = λ h. subst (λ n. MAX_HEIGHT < n) (sym (height-placed at y')) above;
-  }
+    let above : MAX_HEIGHT < tree_height y' = ltb-true MAX_HEIGHT (tree_height y') f in
+    record {
+      low = λ h. (let same : y' ≡ y = m.low (omega arith) in let s : tree_height y' ≡ tree_height y = ap tree_height same in absurd (omega arith));
+      high = λ h. subst (λ n. MAX_HEIGHT < n) (sym (height-placed at y')) above;
+    }
 keeps_binary at o x y x' y' false false e f k m =
-  let below : tree_height x' ≤ MAX_HEIGHT = ltb-false MAX_HEIGHT (tree_height x') e in
-  let under : tree_height y' ≤ MAX_HEIGHT = ltb-false MAX_HEIGHT (tree_height y') f in
-  record {
-    low = λ h. (let p : x' ≡ x = k.low (omega arith) in let q : y' ≡ y = m.low (omega arith) in ap (λ z. binary at o z y') p ∙ ap (λ z. binary at o x z) q);
-    high = λ h.
-      either_height x
-        (λ a. let r : MAX_HEIGHT < tree_height x' = k.high a in omega arith)
-        (λ a. either_height y
+    let below : tree_height x' ≤ MAX_HEIGHT = ltb-false MAX_HEIGHT (tree_height x') e in
+    let under : tree_height y' ≤ MAX_HEIGHT = ltb-false MAX_HEIGHT (tree_height y') f in
+    record {
+      low = λ h. (let p : x' ≡ x = k.low (omega arith) in let q : y' ≡ y = m.low (omega arith) in ap (λ z. binary at o z y') p ∙ ap (λ z. binary at o x z) q);
+      high = λ h.
+          either_height x
+          (λ a. let r : MAX_HEIGHT < tree_height x' = k.high a in omega arith)
+          (λ a. either_height y
           (λ b. let r : MAX_HEIGHT < tree_height y' = m.high b in omega arith)
           (λ b.
-            let p : tree_height x' ≡ tree_height x = ap tree_height (k.low a) in
-            let q : tree_height y' ≡ tree_height y = ap tree_height (m.low b) in
-            omega arith));
-  }
+          let p : tree_height x' ≡ tree_height x = ap tree_height (k.low a) in
+          let q : tree_height y' ≡ tree_height y = ap tree_height (m.low b) in
+          omega arith));
+    }
 
 keeps : (x : Tree) → Keeps x (lowered x)
 keeps (number at k) = record { low = λ h. refl; high = λ h. h }
 keeps (variable at n) = record { low = λ h. refl; high = λ h. h }
 keeps (unary at o x) = keeps_unary at o x (lowered x) (nat_lt MAX_HEIGHT (tree_height (lowered x))) refl (keeps x)
 keeps (binary at o x y) =
-  keeps_binary at o x y (lowered x) (lowered y) (nat_lt MAX_HEIGHT (tree_height (lowered x))) (nat_lt MAX_HEIGHT (tree_height (lowered y))) refl refl (keeps x) (keeps y)
+    keeps_binary at o x y (lowered x) (lowered y) (nat_lt MAX_HEIGHT (tree_height (lowered x))) (nat_lt MAX_HEIGHT (tree_height (lowered y))) refl refl (keeps x) (keeps y)
 
 -- the same of a row of assignments
 record RowKeeps (xs ys : List PlainAssignment) : Type 0 where
@@ -102,36 +102,36 @@ row_keeps : (xs : List PlainAssignment) → RowKeeps xs (map lowered_assignment 
 unfolding lowered_assignment
 row_keeps [] = record { low = λ h. refl; high = λ h. h }
 row_keeps (a ∷ xs) =
-  let k = keeps a.value in
-  let m = row_keeps xs in
-  record {
-    low = λ h.
-      (let p : lowered a.value ≡ a.value = k.low (omega arith) in
-      let q : map lowered_assignment xs ≡ xs = m.low (omega arith) in
-      ap (λ z. with_value a.variable z ∷ map lowered_assignment xs) p ∙ ap (λ l. a ∷ l) q);
-    high = λ h. either_height a.value
-      (λ above. let r : MAX_HEIGHT < tree_height (lowered a.value) = k.high above in omega arith)
-      (λ below. let r : MAX_HEIGHT < assignments_height (map lowered_assignment xs) = m.high (omega arith) in omega arith);
-  }
+    let k = keeps a.value in
+    let m = row_keeps xs in
+    record {
+      low = λ h.
+          (let p : lowered a.value ≡ a.value = k.low (omega arith) in
+          let q : map lowered_assignment xs ≡ xs = m.low (omega arith) in
+          ap (λ z. with_value a.variable z ∷ map lowered_assignment xs) p ∙ ap (λ l. a ∷ l) q);
+      high = λ h. either_height a.value
+          (λ above. let r : MAX_HEIGHT < tree_height (lowered a.value) = k.high above in omega arith)
+          (λ below. let r : MAX_HEIGHT < assignments_height (map lowered_assignment xs) = m.high (omega arith) in omega arith);
+    }
   where
-  with_value : Identifier → Tree → PlainAssignment
-  with_value n z = record { variable = n; value = z }
+    with_value : Identifier → Tree → PlainAssignment
+    with_value n z = record { variable = n; value = z }
 
 same_test : (h k : ℕ) → (h ≤ MAX_HEIGHT → k ≡ h) → (MAX_HEIGHT < h → MAX_HEIGHT < k) → (b c : Bool) → nat_lt MAX_HEIGHT h ≡ b → nat_lt MAX_HEIGHT k ≡ c → c ≡ b
 same_test h k low high true true e f = refl
 same_test h k low high false false e f = refl
 same_test h k low high true false e f =
-  let a : MAX_HEIGHT < k = high (ltb-true MAX_HEIGHT h e) in let b : k ≤ MAX_HEIGHT = ltb-false MAX_HEIGHT k f in absurd (omega arith)
+    let a : MAX_HEIGHT < k = high (ltb-true MAX_HEIGHT h e) in let b : k ≤ MAX_HEIGHT = ltb-false MAX_HEIGHT k f in absurd (omega arith)
 same_test h k low high false true e f =
-  let b : h ≤ MAX_HEIGHT = ltb-false MAX_HEIGHT h e in
-  let a : MAX_HEIGHT < k = ltb-true MAX_HEIGHT k f in
-  let s : k ≡ h = low b in
-  absurd (omega arith)
+    let b : h ≤ MAX_HEIGHT = ltb-false MAX_HEIGHT h e in
+    let a : MAX_HEIGHT < k = ltb-true MAX_HEIGHT k f in
+    let s : k ≡ h = low b in
+    absurd (omega arith)
 
 row_test : (xs : List PlainAssignment) → nat_lt MAX_HEIGHT (assignments_height (map lowered_assignment xs)) ≡ nat_lt MAX_HEIGHT (assignments_height xs)
 row_test xs =
-  let r = row_keeps xs in
-  same_test (assignments_height xs) (assignments_height (map lowered_assignment xs)) (λ h. ap assignments_height (r.low h)) r.high _ _ refl refl
+    let r = row_keeps xs in
+    same_test (assignments_height xs) (assignments_height (map lowered_assignment xs)) (λ h. ap assignments_height (r.low h)) r.high _ _ refl refl
 
 -- the first place that is too high is the same, and where there is none, so is all
 
@@ -151,12 +151,12 @@ right_none (Some a) q e = cc
 list_stays : {A : Type 0} (f : A → Option ℕ) (g : A → A) → ((x : A) → Stays f x (g x)) → (xs : List A) → Stays (first_of f) xs (map g xs)
 list_stays f g each [] = record { place = refl; same = λ e. refl }
 list_stays f g each (x ∷ xs) =
-  let s = each x in
-  let r = list_stays f g each xs in
-  record {
-    place = ap (λ p. or_first p (first_of f (map g xs))) s.place ∙ ap (or_first (f x)) r.place;
-    same = λ e. ap (λ y. y ∷ map g xs) (s.same (left_none (f x) (first_of f xs) e)) ∙ ap (λ ys. x ∷ ys) (r.same (right_none (f x) (first_of f xs) e));
-  }
+    let s = each x in
+    let r = list_stays f g each xs in
+    record {
+      place = ap (λ p. or_first p (first_of f (map g xs))) s.place ∙ ap (or_first (f x)) r.place;
+      same = λ e. ap (λ y. y ∷ map g xs) (s.same (left_none (f x) (first_of f xs) e)) ∙ ap (λ ys. x ∷ ys) (r.same (right_none (f x) (first_of f xs) e));
+    }
 
 test_none : (b : Bool) (at : ℕ) → (if b then Some at else None) ≡ None → b ≡ false
 test_none true at e = cc
@@ -167,18 +167,18 @@ unfolding lowered_text
 text_stays falls = record { place = refl; same = λ e. refl }
 text_stays (ends e) = record { place = refl; same = λ h. refl }
 text_stays (task at xs rest) =
-  let r = text_stays rest in
-  let k = row_keeps xs in
-  record {
-    place =
-      ap (λ b. or_first (if b then Some at else None) (high_in_text (lowered_text rest))) (row_test xs)
-      ∙ ap (or_first (if nat_lt MAX_HEIGHT (assignments_height xs) then Some at else None)) r.place;
-    same = λ e.
-      (let none = left_none (if nat_lt MAX_HEIGHT (assignments_height xs) then Some at else None) (high_in_text rest) e in
-      let low : assignments_height xs ≤ MAX_HEIGHT = ltb-false MAX_HEIGHT (assignments_height xs) (test_none (nat_lt MAX_HEIGHT (assignments_height xs)) at none) in
-      ap (λ ys. task at ys (lowered_text rest)) (k.low low)
-      ∙ ap (task at xs) (r.same (right_none (if nat_lt MAX_HEIGHT (assignments_height xs) then Some at else None) (high_in_text rest) e)));
-  }
+    let r = text_stays rest in
+    let k = row_keeps xs in
+    record {
+      place =
+          ap (λ b. or_first (if b then Some at else None) (high_in_text (lowered_text rest))) (row_test xs)
+          ∙ ap (or_first (if nat_lt MAX_HEIGHT (assignments_height xs) then Some at else None)) r.place;
+      same = λ e.
+          (let none = left_none (if nat_lt MAX_HEIGHT (assignments_height xs) then Some at else None) (high_in_text rest) e in
+          let low : assignments_height xs ≤ MAX_HEIGHT = ltb-false MAX_HEIGHT (assignments_height xs) (test_none (nat_lt MAX_HEIGHT (assignments_height xs)) at none) in
+          ap (λ ys. task at ys (lowered_text rest)) (k.low low)
+          ∙ ap (task at xs) (r.same (right_none (if nat_lt MAX_HEIGHT (assignments_height xs) then Some at else None) (high_in_text rest) e)));
+    }
 
 input_with : PlainInput → Text → PlainInput
 input_with i t = record { at = i.at; stimuli = i.stimuli; text = t }
@@ -186,8 +186,8 @@ input_with i t = record { at = i.at; stimuli = i.stimuli; text = t }
 clause_stays : (c : PlainClause) → Stays high_in_clause c (lowered_clause c)
 unfolding lowered_clause lowered_input input_with
 clause_stays (input i) =
-  let s = text_stays i.text in
-  record { place = s.place; same = λ e. ap (λ t. input (input_with i t)) (s.same e) }
+    let s = text_stays i.text in
+    record { place = s.place; same = λ e. ap (λ t. input (input_with i t)) (s.same e) }
 
 part_with : PlainState → List PlainClause → PlainState
 part_with s cs = record { names = s.names; clauses = cs }
@@ -195,8 +195,8 @@ part_with s cs = record { names = s.names; clauses = cs }
 part_stays : (s : PlainState) → Stays high_in_state s (lowered_part s)
 unfolding lowered_part part_with
 part_stays s =
-  let r = list_stays high_in_clause lowered_clause clause_stays s.clauses in
-  record { place = r.place; same = λ e. ap (part_with s) (r.same e) }
+    let r = list_stays high_in_clause lowered_clause clause_stays s.clauses in
+    record { place = r.place; same = λ e. ap (part_with s) (r.same e) }
 
 process_with : PlainProcess → Text → List PlainState → PlainProcess
 process_with p t ss = record { name = p.name; declarations = p.declarations; start = record { at = p.start.at; text = t }; states = ss }
@@ -204,14 +204,14 @@ process_with p t ss = record { name = p.name; declarations = p.declarations; sta
 process_stays : (p : PlainProcess) → Stays high_in_process p (lowered_process p)
 unfolding lowered_process lowered_start process_with
 process_stays p =
-  let s = text_stays p.start.text in
-  let r = list_stays high_in_state lowered_part part_stays p.states in
-  record {
-    place = ap (λ q. or_first q (first_of high_in_state (map lowered_part p.states))) s.place ∙ ap (or_first (high_in_text p.start.text)) r.place;
-    same = λ e.
-      ap (λ t. process_with p t (map lowered_part p.states)) (s.same (left_none (high_in_text p.start.text) (first_of high_in_state p.states) e))
-      ∙ ap (process_with p p.start.text) (r.same (right_none (high_in_text p.start.text) (first_of high_in_state p.states) e));
-  }
+    let s = text_stays p.start.text in
+    let r = list_stays high_in_state lowered_part part_stays p.states in
+    record {
+      place = ap (λ q. or_first q (first_of high_in_state (map lowered_part p.states))) s.place ∙ ap (or_first (high_in_text p.start.text)) r.place;
+      same = λ e.
+          ap (λ t. process_with p t (map lowered_part p.states)) (s.same (left_none (high_in_text p.start.text) (first_of high_in_state p.states) e))
+          ∙ ap (process_with p p.start.text) (r.same (right_none (high_in_text p.start.text) (first_of high_in_state p.states) e));
+    }
 
 entity_stays : (e : PlainEntity) → Stays high_in_entity e (lowered_entity e)
 unfolding lowered_entity

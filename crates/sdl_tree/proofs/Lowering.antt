@@ -1,6 +1,7 @@
 -- Readings that build no tree above one that is too high give what is left of the whole tree.
 use Rattle.std.proofs.Common.{◌≡◌, ℕ, suc, zero, ◌+◌, ◌<◌, ◌≤◌, max, Bool, true, false, List, [], ◌∷◌, ◌++◌, Option, Some, None, length, map, refl, sym, ap, subst, ◌∙◌, arith}
-use Rattle.std.specs.Prelude.{nat_lt, if◌then◌else◌}
+use Rattle.std.specs.Prelude.{nat_lt, nat_le, if◌then◌else◌}
+use Rattle.sdl_lex.specs.declared.TheConstants.{MAX_NUMBER}
 use Rattle.sdl_lex.specs.declared.lexemes.Token.{Token}
 use Rattle.sdl_lex.specs.declared.lexemes.Word.TheVariants as words
 use Rattle.sdl_lex.specs.declared.lexemes.Symbol.TheVariants.{Comma}
@@ -49,7 +50,7 @@ place_of-lowered (number at k) = refl
 place_of-lowered (variable at n) = refl
 place_of-lowered (unary at o x) = place_if (nat_lt MAX_HEIGHT (tree_height (lowered x))) at _ _ (place_of-placed at (lowered x)) refl
 place_of-lowered (binary at o x y) =
-  place_if (nat_lt MAX_HEIGHT (tree_height (lowered x))) at _ _ (place_of-placed at (lowered x))
+    place_if (nat_lt MAX_HEIGHT (tree_height (lowered x))) at _ _ (place_of-placed at (lowered x))
     (place_if (nat_lt MAX_HEIGHT (tree_height (lowered y))) at _ _ (place_of-placed at (lowered y)) refl)
 
 placed_if : (b : Bool) (p : ℕ) (x y x' y' : Tree) → placed p x ≡ x' → placed p y ≡ y' → placed p (if b then x else y) ≡ (if b then x' else y')
@@ -60,9 +61,9 @@ pub lowered-placed : (p : ℕ) (x : Tree) → lowered (placed p x) ≡ placed p 
 lowered-placed p (number at k) = refl
 lowered-placed p (variable at n) = refl
 lowered-placed p (unary at o x) =
-  sym (placed_if (nat_lt MAX_HEIGHT (tree_height (lowered x))) p _ _ _ _ (placed-placed p at (lowered x)) refl)
+    sym (placed_if (nat_lt MAX_HEIGHT (tree_height (lowered x))) p _ _ _ _ (placed-placed p at (lowered x)) refl)
 lowered-placed p (binary at o x y) =
-  sym (placed_if (nat_lt MAX_HEIGHT (tree_height (lowered x))) p _ _ _ _ (placed-placed p at (lowered x))
+    sym (placed_if (nat_lt MAX_HEIGHT (tree_height (lowered x))) p _ _ _ _ (placed-placed p at (lowered x))
     (placed_if (nat_lt MAX_HEIGHT (tree_height (lowered y))) p _ _ _ _ (placed-placed p at (lowered y)) refl))
 
 lowered_product : Option Tree → Option Tree
@@ -146,8 +147,8 @@ low_close : (ls : List Frame) (l : Frame) (x : Tree) → close_turn low_trees (l
 unfolding lowered_turn lowered_state lowered_frames lowered_frame
 low_close [] l x = ap done (low_closed l x)
 low_close (o ∷ ls) l x =
-  ap (λ z. goes (has (lowered_frames ls) (lowered_frame o) (placed l.opened z))) (low_closed l x)
-  ∙ ap (λ z. goes (has (lowered_frames ls) (lowered_frame o) z)) (sym (lowered-placed l.opened (closed whole_trees l x)))
+    ap (λ z. goes (has (lowered_frames ls) (lowered_frame o) (placed l.opened z))) (low_closed l x)
+    ∙ ap (λ z. goes (has (lowered_frames ls) (lowered_frame o) z)) (sym (lowered-placed l.opened (closed whole_trees l x)))
 
 low_end : (ls : List Frame) (l : Frame) (x : Tree) → end_turn low_trees (lowered_frames ls) (lowered_frame l) (lowered x) ≡ lowered_turn (end_turn whole_trees ls l x)
 unfolding lowered_turn lowered_frames
@@ -155,7 +156,7 @@ low_end [] l x = ap done (low_closed l x)
 low_end (o ∷ ls) l x = refl
 
 low_have : (ls : List Frame) (l : Frame) (x : Tree) (g : Sign)
-  → have_turn low_trees (lowered_frames ls) (lowered_frame l) (lowered x) (lowered_sign g) ≡ lowered_turn (have_turn whole_trees ls l x g)
+    → have_turn low_trees (lowered_frames ls) (lowered_frame l) (lowered x) (lowered_sign g) ≡ lowered_turn (have_turn whole_trees ls l x g)
 unfolding lowered_turn lowered_state lowered_frame lowered_sign lowered_sum lowered_product
 low_have ls l x plus = ap (λ z. goes (wants (lowered_frames ls) (record { opened = l.opened; sum = Some (z, Add); product = None; minus = None }))) (low_closed l x)
 low_have ls l x (minus at) = ap (λ z. goes (wants (lowered_frames ls) (record { opened = l.opened; sum = Some (z, Subtract); product = None; minus = None }))) (low_closed l x)
@@ -197,7 +198,7 @@ symbol_same at symbols.GreaterEqual = refl
 lexeme_same : (at : ℕ) (x : Lexeme) → lowered_sign (lexeme_sign at x) ≡ lexeme_sign at x
 unfolding lowered_sign
 lexeme_same at (lexemes.Name n) = refl
-lexeme_same at (lexemes.Number k) = number_sign (nat_lt k 2147483648) (number at k) refl
+lexeme_same at (lexemes.Number k) = number_sign (nat_le k MAX_NUMBER) (number at k) refl
 lexeme_same at (lexemes.Word w) = refl
 lexeme_same at (lexemes.Symbol s) = symbol_same at s
 
@@ -213,7 +214,7 @@ unfolding lowered_sign
 end_same s = low_turn s other
 
 after_same : (a : Turn) (low whole : State → Reading Tree) (ts : List Token) → ((s : State) → low (lowered_state s) ≡ mapped lowered (whole s))
-  → after_turn (lowered_turn a) low ts ≡ mapped lowered (after_turn a whole ts)
+    → after_turn (lowered_turn a) low ts ≡ mapped lowered (after_turn a whole ts)
 unfolding lowered_turn mapped
 after_same (goes s) low whole ts h = h s
 after_same (done x) low whole ts h = refl
@@ -223,8 +224,8 @@ run_same : (ts : List Token) (s : State) → run low_trees (lowered_state s) ts 
 unfolding run mapped
 run_same [] s = ap (λ a. after_turn a (λ _. fails []) []) (end_same s) ∙ after_same (turn whole_trees s other) (λ _. fails []) (λ _. fails []) [] (λ _. refl)
 run_same (t ∷ ts) s =
-  ap (λ a. after_turn a (λ s'. run low_trees s' ts) (t ∷ ts)) (turn_same s t)
-  ∙ after_same (turn whole_trees s (sign t)) (λ s'. run low_trees s' ts) (λ s'. run whole_trees s' ts) (t ∷ ts) (run_same ts)
+    ap (λ a. after_turn a (λ s'. run low_trees s' ts) (t ∷ ts)) (turn_same s t)
+    ∙ after_same (turn whole_trees s (sign t)) (λ s'. run low_trees s' ts) (λ s'. run whole_trees s' ts) (t ∷ ts) (run_same ts)
 
 -- q reads what p reads, changed by f
 unfoldable pub Lowers : {A B : Type 0} → (A → B) → At A → At B → Type 0
@@ -238,22 +239,22 @@ same_reads : {A : Type 0} (p : At A) → Lowers (λ x. x) p p
 unfolding Lowers mapped
 same_reads {A} p ts = by_result (p ts)
   where
-  by_result : (r : Reading A) → r ≡ mapped (λ x. x) r
-  by_result (read x us) = refl
-  by_result (fails us) = refl
+    by_result : (r : Reading A) → r ≡ mapped (λ x. x) r
+    by_result (read x us) = refl
+    by_result (fails us) = refl
 
 give_lowers : {A B : Type 0} (f : A → B) (x : A) → Lowers f (give x) (give (f x))
 unfolding Lowers mapped
 give_lowers f x ts = refl
 
 then_lowers : {A B C D : Type 0} (f : A → C) (g : B → D) (p : At A) (q : A → At B) (p' : At C) (q' : C → At D)
-  → Lowers f p p' → ((x : A) → Lowers g (q x) (q' (f x))) → Lowers g (p >>= q) (p' >>= q')
+    → Lowers f p p' → ((x : A) → Lowers g (q x) (q' (f x))) → Lowers g (p >>= q) (p' >>= q')
 unfolding Lowers mapped
 then_lowers {A} {B} {C} {D} f g p q p' q' hp hq ts = ap (λ r. then_read r q') (hp ts) ∙ by_result (p ts)
   where
-  by_result : (r : Reading A) → then_read (mapped f r) q' ≡ mapped g (then_read r q)
-  by_result (read x us) = hq x us
-  by_result (fails us) = refl
+    by_result : (r : Reading A) → then_read (mapped f r) q' ≡ mapped g (then_read r q)
+    by_result (read x us) = hq x us
+    by_result (fails us) = refl
 
 either_lowers : {A C : Type 0} (f : A → C) (b : Bool) (p q : At A) (p' q' : At C) → Lowers f p p' → Lowers f q q' → Lowers f (either b p q) (either b p' q')
 either_lowers f true p q p' q' hp hq = hp
@@ -267,7 +268,7 @@ many_for_lowers : {A B C : Type 0} (f : A → C) (test : Token → Option B) (p 
 unfolding many_for Lowers mapped
 many_for_lowers f test p p' h zero ts = refl
 many_for_lowers {A} {B} {C} f test p p' h (suc n) ts =
-  either_lowers (map f) (begins test ts) _ _ _ _
+    either_lowers (map f) (begins test ts) _ _ _ _
     (then_lowers f (map f) p _ p' _ h (λ x. then_lowers (map f) (map f) (many_for test p n) _ (many_for test p' n) _ (many_for_lowers f test p p' h n) (λ xs. give_lowers (map f) (x ∷ xs))))
     (give_lowers (map f) []) ts
 
@@ -277,10 +278,10 @@ many_lowers f test p p' h ts = many_for_lowers f test p p' h (suc (length ts)) t
 
 separated_lowers : {A C : Type 0} (f : A → C) (p : At A) (p' : At C) → Lowers f p p' → Lowers (map f) (separated p) (separated p')
 separated_lowers f p p' h =
-  then_lowers f (map f) p _ p' _ h λ x.
-  then_lowers (map f) (map f) (many (a_symbol Comma) (behind_comma p)) _ (many (a_symbol Comma) (behind_comma p')) _
+    then_lowers f (map f) p _ p' _ h λ x.
+    then_lowers (map f) (map f) (many (a_symbol Comma) (behind_comma p)) _ (many (a_symbol Comma) (behind_comma p')) _
     (many_lowers f (a_symbol Comma) (behind_comma p) (behind_comma p') (then_lowers (λ x. x) f (token (a_symbol Comma)) _ (token (a_symbol Comma)) _ (same_reads (token (a_symbol Comma))) (λ _. h))) λ xs.
-  give_lowers (map f) (x ∷ xs)
+    give_lowers (map f) (x ∷ xs)
 
 -- the tree without what stands above a tree that is too high
 
@@ -331,22 +332,22 @@ whole = expression_at whole_trees
 assignment_lowers : Lowers lowered_assignment (assignment_at whole) (assignment_at low)
 unfolding assignment_at lowered_assignment
 assignment_lowers =
-  next_lowers _ (token a_name) _ _ λ v. next_lowers _ (token (a_symbol symbols.Assign)) _ _ λ _.
-  then_lowers lowered lowered_assignment whole _ low _ expression_lowers λ x. give_lowers lowered_assignment (record { variable = v; value = x })
+    next_lowers _ (token a_name) _ _ λ v. next_lowers _ (token (a_symbol symbols.Assign)) _ _ λ _.
+    then_lowers lowered lowered_assignment whole _ low _ expression_lowers λ x. give_lowers lowered_assignment (record { variable = v; value = x })
 
 assignments_lowers : Lowers (map lowered_assignment) (assignments_at whole) (assignments_at low)
 unfolding assignments_at
 assignments_lowers =
-  then_lowers (map lowered_assignment) (map lowered_assignment) (separated (assignment_at whole)) _ (separated (assignment_at low)) _
+    then_lowers (map lowered_assignment) (map lowered_assignment) (separated (assignment_at whole)) _ (separated (assignment_at low)) _
     (separated_lowers lowered_assignment (assignment_at whole) (assignment_at low) assignment_lowers) λ xs.
-  next_lowers _ (token (a_symbol symbols.Semicolon)) _ _ λ _. give_lowers (map lowered_assignment) xs
+    next_lowers _ (token (a_symbol symbols.Semicolon)) _ _ λ _. give_lowers (map lowered_assignment) xs
 
 task_lowers : Lowers lowered_task (task_at whole) (task_at low)
 unfolding task_at lowered_task
 task_lowers =
-  next_lowers _ (token (a_word words.Task)) _ _ λ at.
-  then_lowers (map lowered_assignment) lowered_task (assignments_at whole) _ (assignments_at low) _ assignments_lowers λ xs.
-  give_lowers lowered_task (record { at = at; assignments = xs })
+    next_lowers _ (token (a_word words.Task)) _ _ λ at.
+    then_lowers (map lowered_assignment) lowered_task (assignments_at whole) _ (assignments_at low) _ assignments_lowers λ xs.
+    give_lowers lowered_task (record { at = at; assignments = xs })
 
 lowered_tasks : (tasks : List PlainTask) (last : Option End) → tasks_text (map lowered_task tasks) last ≡ lowered_text (tasks_text tasks last)
 unfolding lowered_task lowered_text
@@ -361,15 +362,15 @@ give_text_lowers tasks last ts = ap (λ x. read x ts) (lowered_tasks tasks last)
 text_lowers : Lowers lowered_text (text_at whole) (text_at low)
 unfolding text_at
 text_lowers =
-  then_lowers (map lowered_task) lowered_text (many (a_word words.Task) (task_at whole)) _ (many (a_word words.Task) (task_at low)) _
+    then_lowers (map lowered_task) lowered_text (many (a_word words.Task) (task_at whole)) _ (many (a_word words.Task) (task_at low)) _
     (many_lowers lowered_task (a_word words.Task) (task_at whole) (task_at low) task_lowers) λ tasks.
-  next_lowers _ (optional (a_word words.NextState) end_at) _ _ λ last. give_text_lowers tasks last
+    next_lowers _ (optional (a_word words.NextState) end_at) _ _ λ last. give_text_lowers tasks last
 
 input_lowers : Lowers lowered_input (input_at whole) (input_at low)
 unfolding input_at lowered_input
 input_lowers =
-  next_lowers _ (token (a_word words.Input)) _ _ λ at. next_lowers _ (separated stimulus_at) _ _ λ stimuli. next_lowers _ (token (a_symbol symbols.Semicolon)) _ _ λ _.
-  then_lowers lowered_text lowered_input (text_at whole) _ (text_at low) _ text_lowers λ text. give_lowers lowered_input (record { at = at; stimuli = stimuli; text = text })
+    next_lowers _ (token (a_word words.Input)) _ _ λ at. next_lowers _ (separated stimulus_at) _ _ λ stimuli. next_lowers _ (token (a_symbol symbols.Semicolon)) _ _ λ _.
+    then_lowers lowered_text lowered_input (text_at whole) _ (text_at low) _ text_lowers λ text. give_lowers lowered_input (record { at = at; stimuli = stimuli; text = text })
 
 clause_lowers : Lowers lowered_clause (clause_at whole) (clause_at low)
 unfolding clause_at lowered_clause
@@ -378,10 +379,10 @@ clause_lowers = then_lowers lowered_input lowered_clause (input_at whole) _ (inp
 state_lowers : Lowers lowered_part (state_at whole) (state_at low)
 unfolding state_at lowered_part
 state_lowers =
-  next_lowers _ (token (a_word words.State)) _ _ λ _. next_lowers _ (token a_name) _ _ λ name. next_lowers _ (token (a_symbol symbols.Semicolon)) _ _ λ _.
-  then_lowers (map lowered_clause) lowered_part (many (a_word words.Input) (clause_at whole)) _ (many (a_word words.Input) (clause_at low)) _
+    next_lowers _ (token (a_word words.State)) _ _ λ _. next_lowers _ (token a_name) _ _ λ name. next_lowers _ (token (a_symbol symbols.Semicolon)) _ _ λ _.
+    then_lowers (map lowered_clause) lowered_part (many (a_word words.Input) (clause_at whole)) _ (many (a_word words.Input) (clause_at low)) _
     (many_lowers lowered_clause (a_word words.Input) (clause_at whole) (clause_at low) clause_lowers) λ clauses.
-  next_lowers _ (optional (a_word words.EndState) (end_state_at name.name)) _ _ λ _. give_lowers lowered_part (record { names = name ∷ []; clauses = clauses })
+    next_lowers _ (optional (a_word words.EndState) (end_state_at name.name)) _ _ λ _. give_lowers lowered_part (record { names = name ∷ []; clauses = clauses })
 
 one_state_lowers : Lowers (map lowered_part) (one_state_at whole) (one_state_at low)
 unfolding one_state_at
@@ -390,30 +391,30 @@ one_state_lowers = then_lowers lowered_part (map lowered_part) (state_at whole) 
 start_lowers : Lowers lowered_start (start_at whole) (start_at low)
 unfolding start_at lowered_start
 start_lowers =
-  next_lowers _ (token (a_word words.Start)) _ _ λ at. next_lowers _ (token (a_symbol symbols.Semicolon)) _ _ λ _.
-  then_lowers lowered_text lowered_start (text_at whole) _ (text_at low) _ text_lowers λ text. give_lowers lowered_start (record { at = at; text = text })
+    next_lowers _ (token (a_word words.Start)) _ _ λ at. next_lowers _ (token (a_symbol symbols.Semicolon)) _ _ λ _.
+    then_lowers lowered_text lowered_start (text_at whole) _ (text_at low) _ text_lowers λ text. give_lowers lowered_start (record { at = at; text = text })
 
 process_lowers : Lowers lowered_process (process_at whole) (process_at low)
 unfolding process_at lowered_process
 process_lowers =
-  next_lowers _ process_head_at _ _ λ name. next_lowers _ (many (a_word words.Dcl) declaration_at) _ _ λ declarations.
-  then_lowers lowered_start lowered_process (start_at whole) _ (start_at low) _ start_lowers λ start.
-  then_lowers (map lowered_part) lowered_process (choice (a_word words.State) (one_state_at whole) (give [])) _ (choice (a_word words.State) (one_state_at low) (give [])) _
+    next_lowers _ process_head_at _ _ λ name. next_lowers _ (many (a_word words.Dcl) declaration_at) _ _ λ declarations.
+    then_lowers lowered_start lowered_process (start_at whole) _ (start_at low) _ start_lowers λ start.
+    then_lowers (map lowered_part) lowered_process (choice (a_word words.State) (one_state_at whole) (give [])) _ (choice (a_word words.State) (one_state_at low) (give [])) _
     (choice_lowers (map lowered_part) (a_word words.State) (one_state_at whole) (give []) (one_state_at low) (give []) one_state_lowers (give_lowers (map lowered_part) [])) λ states.
-  next_lowers _ (token (a_word words.EndProcess)) _ _ λ _. next_lowers _ (closing_at name.name) _ _ λ _.
-  give_lowers lowered_process (record { name = name; declarations = declarations; start = start; states = states })
+    next_lowers _ (token (a_word words.EndProcess)) _ _ λ _. next_lowers _ (closing_at name.name) _ _ λ _.
+    give_lowers lowered_process (record { name = name; declarations = declarations; start = start; states = states })
 
 signals_lowers : Lowers lowered_entity signals_at signals_at
 unfolding signals_at lowered_entity
 signals_lowers =
-  next_lowers _ (token (a_word words.Signal)) _ _ λ _. next_lowers _ (separated signal_at) _ _ λ declared. next_lowers _ (token (a_symbol symbols.Semicolon)) _ _ λ _.
-  give_lowers lowered_entity (signals declared)
+    next_lowers _ (token (a_word words.Signal)) _ _ λ _. next_lowers _ (separated signal_at) _ _ λ declared. next_lowers _ (token (a_symbol symbols.Semicolon)) _ _ λ _.
+    give_lowers lowered_entity (signals declared)
 
 route_lowers : Lowers lowered_entity route_at route_at
 unfolding route_at lowered_entity
 route_lowers =
-  next_lowers _ (token (a_word words.SignalRoute)) _ _ λ _. next_lowers _ (token a_name) _ _ λ name. next_lowers _ path_at _ _ λ path.
-  give_lowers lowered_entity (route (record { name = name; paths = path ∷ [] }))
+    next_lowers _ (token (a_word words.SignalRoute)) _ _ λ _. next_lowers _ (token a_name) _ _ λ name. next_lowers _ path_at _ _ λ path.
+    give_lowers lowered_entity (route (record { name = name; paths = path ∷ [] }))
 
 -- a SIGNAL or a SIGNALROUTE has no expression
 declared_lowers : Lowers lowered_entity declared_at declared_at
@@ -428,20 +429,20 @@ map-around f [] y zs = refl
 map-around f (x ∷ xs) y zs = ap (λ l. f x ∷ l) (map-around f xs y zs)
 
 give_block_lowers : (name : Identifier) (before : List PlainEntity) (body : PlainProcess) (after : List PlainEntity)
-  → Lowers lowered_block (give (record { name = name; entities = before ++ process body ∷ after }))
-      (give (record { name = name; entities = map lowered_entity before ++ process (lowered_process body) ∷ map lowered_entity after }))
+    → Lowers lowered_block (give (record { name = name; entities = before ++ process body ∷ after }))
+    (give (record { name = name; entities = map lowered_entity before ++ process (lowered_process body) ∷ map lowered_entity after }))
 unfolding Lowers mapped lowered_block lowered_entity
 give_block_lowers name before body after ts =
-  ap (λ (es : List PlainEntity). read (block_with name es) ts) (map-around lowered_entity before (process body) after)
+    ap (λ (es : List PlainEntity). read (block_with name es) ts) (map-around lowered_entity before (process body) after)
   where
-  block_with : Identifier → List PlainEntity → PlainBlock
-  block_with n es = record { name = n; entities = es }
+    block_with : Identifier → List PlainEntity → PlainBlock
+    block_with n es = record { name = n; entities = es }
 
 pub block_lowers : Lowers lowered_block (block_at whole) (block_at low)
 unfolding block_at
 block_lowers =
-  next_lowers _ (token (a_word words.Block)) _ _ λ _. next_lowers _ (token a_name) _ _ λ name. next_lowers _ (token (a_symbol symbols.Semicolon)) _ _ λ _.
-  then_lowers (map lowered_entity) lowered_block (many a_declared declared_at) _ (many a_declared declared_at) _ declared_row_lowers λ before.
-  then_lowers lowered_process lowered_block (process_at whole) _ (process_at low) _ process_lowers λ body.
-  then_lowers (map lowered_entity) lowered_block (many a_declared declared_at) _ (many a_declared declared_at) _ declared_row_lowers λ after.
-  next_lowers _ (token (a_word words.EndBlock)) _ _ λ _. next_lowers _ (closing_at name.name) _ _ λ _. give_block_lowers name before body after
+    next_lowers _ (token (a_word words.Block)) _ _ λ _. next_lowers _ (token a_name) _ _ λ name. next_lowers _ (token (a_symbol symbols.Semicolon)) _ _ λ _.
+    then_lowers (map lowered_entity) lowered_block (many a_declared declared_at) _ (many a_declared declared_at) _ declared_row_lowers λ before.
+    then_lowers lowered_process lowered_block (process_at whole) _ (process_at low) _ process_lowers λ body.
+    then_lowers (map lowered_entity) lowered_block (many a_declared declared_at) _ (many a_declared declared_at) _ declared_row_lowers λ after.
+    next_lowers _ (token (a_word words.EndBlock)) _ _ λ _. next_lowers _ (closing_at name.name) _ _ λ _. give_block_lowers name before body after

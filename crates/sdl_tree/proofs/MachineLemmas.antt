@@ -34,17 +34,19 @@ end_seen b s a e = record {
   again = λ us h. at_end b s a e us (h ∙ ap first (sym (nothing a)));
 }
   where
-  nothing : (a : Turn) → [] ≡ rest_of (after_turn a (λ _. fails []) [])
-  nothing (goes s) = refl
-  nothing (done x) = refl
-  nothing stuck = refl
-  same : (a : Turn) → after_turn a (λ _. fails []) [] ≡ with_rest (after_turn a (λ _. fails []) []) []
-  same (goes s) = refl
-  same (done x) = refl
-  same stuck = refl
-  at_end : (b : Build) (s : State) (a : Turn) → turn b s other ≡ a → (us : List Token) → first us ≡ None → run b s us ≡ with_rest (after_turn a (λ _. fails []) []) us
-  at_end b s a e [] h = ap (λ a. after_turn a (λ _. fails []) []) e ∙ same a
-  at_end b s a e (u ∷ us) h = cc
+    nothing : (a : Turn) → [] ≡ rest_of (after_turn a (λ _. fails []) [])
+    nothing (goes s) = refl
+    nothing (done x) = refl
+    nothing stuck = refl
+
+    same : (a : Turn) → after_turn a (λ _. fails []) [] ≡ with_rest (after_turn a (λ _. fails []) []) []
+    same (goes s) = refl
+    same (done x) = refl
+    same stuck = refl
+
+    at_end : (b : Build) (s : State) (a : Turn) → turn b s other ≡ a → (us : List Token) → first us ≡ None → run b s us ≡ with_rest (after_turn a (λ _. fails []) []) us
+    at_end b s a e [] h = ap (λ a. after_turn a (λ _. fails []) []) e ∙ same a
+    at_end b s a e (u ∷ us) h = cc
 
 turn_seen : (b : Build) (s : State) (t : Token) (ts : List Token) (a : Turn) → turn b s (sign t) ≡ a → ((s' : State) → Seen (run b s') ts) → Seen (run b s) (t ∷ ts)
 turn_seen b s t ts (goes s') e next = let n = next s' in record {
@@ -55,19 +57,27 @@ turn_seen b s t ts (goes s') e next = let n = next s' in record {
   again = λ us h. run_goes b s s' t (n.front ++ us) e ∙ n.again us h;
 }
 turn_seen b s t ts (done x) e next = record {
-  result = read x (t ∷ ts); is = run_done b s x t ts e; front = []; parts = refl; again = same b s t x e;
+  result = read x (t ∷ ts);
+  is = run_done b s x t ts e;
+  front = [];
+  parts = refl;
+  again = same b s t x e;
 }
   where
-  same : (b : Build) (s : State) (t : Token) (x : Tree) → turn b s (sign t) ≡ done x → (us : List Token) → first us ≡ Some t → run b s us ≡ read x us
-  same b s t x e [] h = cc
-  same b s t x e (u ∷ us) h = let k : t ≡ u = cc in run_done b s x u us (subst (λ v. turn b s (sign v) ≡ done x) k e)
+    same : (b : Build) (s : State) (t : Token) (x : Tree) → turn b s (sign t) ≡ done x → (us : List Token) → first us ≡ Some t → run b s us ≡ read x us
+    same b s t x e [] h = cc
+    same b s t x e (u ∷ us) h = let k : t ≡ u = cc in run_done b s x u us (subst (λ v. turn b s (sign v) ≡ done x) k e)
 turn_seen b s t ts stuck e next = record {
-  result = fails (t ∷ ts); is = run_stuck b s t ts e; front = []; parts = refl; again = same b s t e;
+  result = fails (t ∷ ts);
+  is = run_stuck b s t ts e;
+  front = [];
+  parts = refl;
+  again = same b s t e;
 }
   where
-  same : (b : Build) (s : State) (t : Token) → turn b s (sign t) ≡ stuck → (us : List Token) → first us ≡ Some t → run b s us ≡ fails us
-  same b s t e [] h = cc
-  same b s t e (u ∷ us) h = let k : t ≡ u = cc in run_stuck b s u us (subst (λ v. turn b s (sign v) ≡ stuck) k e)
+    same : (b : Build) (s : State) (t : Token) → turn b s (sign t) ≡ stuck → (us : List Token) → first us ≡ Some t → run b s us ≡ fails us
+    same b s t e [] h = cc
+    same b s t e (u ∷ us) h = let k : t ≡ u = cc in run_stuck b s u us (subst (λ v. turn b s (sign v) ≡ stuck) k e)
 
 pub run_seen : (b : Build) (ts : List Token) (s : State) → Seen (run b s) ts
 run_seen b [] s = end_seen b s (turn b s other) refl
@@ -110,71 +120,80 @@ turn_have ls l x t g e = ap (have_turn whole_trees ls l x) e
 mutual
   sum_runs : (ts : List Token) (x : Tree) (us : List Token) → Sum ts x us → (ls : List Frame) (a : ℕ) → SumRuns ls a ts us x
   sum_runs ts x us (one_product _ _ _ h) ls a =
-    let r = product_runs ts x us h ls a None in
-    record { s = None; q = r.q; m = r.m; p = r.p; runs = r.runs; holds = r.holds }
+      let r = product_runs ts x us h ls a None in
+      record { s = None; q = r.q; m = r.m; p = r.p; runs = r.runs; holds = r.holds }
   sum_runs ts z vs (added _ us _ x y t h e k) ls a =
-    let r = sum_runs ts x (t ∷ us) h ls a in
-    let f = frame a r.s r.q r.m in
-    let n = product_runs us y vs k ls a (Some (x, Add)) in
-    record {
-      s = Some (x, Add); q = n.q; m = n.m; p = n.p;
-      runs = r.runs
-        ∙ run_goes whole_trees (has ls f r.p) (wants ls (with_sum whole_trees Add f r.p)) t us (turn_have ls f r.p t plus e)
-        ∙ ap (λ z. run whole_trees (wants ls (frame a (Some (z, Add)) None None)) us) r.holds
-        ∙ n.runs;
-      holds = ap (λ z. binary (place_of x) Add x z) n.holds;
-    }
+      let r = sum_runs ts x (t ∷ us) h ls a in
+      let f = frame a r.s r.q r.m in
+      let n = product_runs us y vs k ls a (Some (x, Add)) in
+      record {
+        s = Some (x, Add);
+        q = n.q;
+        m = n.m;
+        p = n.p;
+        runs = r.runs
+            ∙ run_goes whole_trees (has ls f r.p) (wants ls (with_sum whole_trees Add f r.p)) t us (turn_have ls f r.p t plus e)
+            ∙ ap (λ z. run whole_trees (wants ls (frame a (Some (z, Add)) None None)) us) r.holds
+            ∙ n.runs;
+        holds = ap (λ z. binary (place_of x) Add x z) n.holds;
+      }
   sum_runs ts z vs (subtracted _ us _ x y t at h e k) ls a =
-    let r = sum_runs ts x (t ∷ us) h ls a in
-    let f = frame a r.s r.q r.m in
-    let n = product_runs us y vs k ls a (Some (x, Subtract)) in
-    record {
-      s = Some (x, Subtract); q = n.q; m = n.m; p = n.p;
-      runs = r.runs
-        ∙ run_goes whole_trees (has ls f r.p) (wants ls (with_sum whole_trees Subtract f r.p)) t us (turn_have ls f r.p t (minus at) e)
-        ∙ ap (λ z. run whole_trees (wants ls (frame a (Some (z, Subtract)) None None)) us) r.holds
-        ∙ n.runs;
-      holds = ap (λ z. binary (place_of x) Subtract x z) n.holds;
-    }
+      let r = sum_runs ts x (t ∷ us) h ls a in
+      let f = frame a r.s r.q r.m in
+      let n = product_runs us y vs k ls a (Some (x, Subtract)) in
+      record {
+        s = Some (x, Subtract);
+        q = n.q;
+        m = n.m;
+        p = n.p;
+        runs = r.runs
+            ∙ run_goes whole_trees (has ls f r.p) (wants ls (with_sum whole_trees Subtract f r.p)) t us (turn_have ls f r.p t (minus at) e)
+            ∙ ap (λ z. run whole_trees (wants ls (frame a (Some (z, Subtract)) None None)) us) r.holds
+            ∙ n.runs;
+        holds = ap (λ z. binary (place_of x) Subtract x z) n.holds;
+      }
 
   product_runs : (ts : List Token) (x : Tree) (us : List Token) → Product ts x us → (ls : List Frame) (a : ℕ) (s : Option (Tree × BinaryOperator)) → ProductRuns ls a s ts us x
   product_runs ts x us (one_factor _ _ _ h) ls a s =
-    let r = factor_runs ts x us h ls a s None in
-    record { q = None; m = r.m; p = r.p; runs = r.runs; holds = r.holds }
+      let r = factor_runs ts x us h ls a s None in
+      record { q = None; m = r.m; p = r.p; runs = r.runs; holds = r.holds }
   product_runs ts z vs (multiplied _ us _ x y t h e k) ls a s =
-    let r = product_runs ts x (t ∷ us) h ls a s in
-    let f = frame a s r.q r.m in
-    let n = factor_runs us y vs k ls a s (Some x) in
-    record {
-      q = Some x; m = n.m; p = n.p;
-      runs = r.runs
-        ∙ run_goes whole_trees (has ls f r.p) (wants ls (with_product whole_trees f r.p)) t us (turn_have ls f r.p t star e)
-        ∙ ap (λ z. run whole_trees (wants ls (frame a s (Some z) None)) us) r.holds
-        ∙ n.runs;
-      holds = ap (λ z. binary (place_of x) Multiply x z) n.holds;
-    }
+      let r = product_runs ts x (t ∷ us) h ls a s in
+      let f = frame a s r.q r.m in
+      let n = factor_runs us y vs k ls a s (Some x) in
+      record {
+        q = Some x;
+        m = n.m;
+        p = n.p;
+        runs = r.runs
+            ∙ run_goes whole_trees (has ls f r.p) (wants ls (with_product whole_trees f r.p)) t us (turn_have ls f r.p t star e)
+            ∙ ap (λ z. run whole_trees (wants ls (frame a s (Some z) None)) us) r.holds
+            ∙ n.runs;
+        holds = ap (λ z. binary (place_of x) Multiply x z) n.holds;
+      }
 
   factor_runs : (ts : List Token) (x : Tree) (us : List Token) → Factor ts x us → (ls : List Frame) (a : ℕ) (s : Option (Tree × BinaryOperator)) (q : Option Tree) → FactorRuns ls a s q ts us x
   factor_runs ts x us (bare _ _ _ h) ls a s q = record { m = None; p = x; runs = primary_runs ts x us h ls (frame a s q None); holds = refl }
   factor_runs ts z vs (negated us _ x t at e h) ls a s q =
-    let f = frame a s q None in
-    record {
-      m = Some at; p = x;
-      runs = run_goes whole_trees (wants ls f) (wants ls (with_minus at f)) t us (turn_want ls f t (minus at) e)
-        ∙ primary_runs us x vs h ls (with_minus at f);
-      holds = refl;
-    }
+      let f = frame a s q None in
+      record {
+        m = Some at;
+        p = x;
+        runs = run_goes whole_trees (wants ls f) (wants ls (with_minus at f)) t us (turn_want ls f t (minus at) e)
+            ∙ primary_runs us x vs h ls (with_minus at f);
+        holds = refl;
+      }
 
   primary_runs : (ts : List Token) (x : Tree) (us : List Token) → Primary ts x us → (ls : List Frame) (f : Frame)
-    → run whole_trees (wants ls f) ts ≡ run whole_trees (has ls f x) us
+      → run whole_trees (wants ls f) ts ≡ run whole_trees (has ls f x) us
   primary_runs ts x us (operand _ _ t e) ls f = run_goes whole_trees (wants ls f) (has ls f x) t us (turn_want ls f t (leaf x) e)
   primary_runs ts z vs (in_parentheses us _ x t u at e h k) ls f =
-    let r = sum_runs us x (u ∷ vs) h (f ∷ ls) at in
-    let g = frame at r.s r.q r.m in
-    run_goes whole_trees (wants ls f) (wants (f ∷ ls) (empty_frame at)) t us (turn_want ls f t (opens at) e)
-    ∙ r.runs
-    ∙ run_goes whole_trees (has (f ∷ ls) g r.p) (has ls f (placed at (closed whole_trees g r.p))) u vs (turn_have (f ∷ ls) g r.p u closes k)
-    ∙ ap (λ z. run whole_trees (has ls f (placed at z)) vs) r.holds
+      let r = sum_runs us x (u ∷ vs) h (f ∷ ls) at in
+      let g = frame at r.s r.q r.m in
+      run_goes whole_trees (wants ls f) (wants (f ∷ ls) (empty_frame at)) t us (turn_want ls f t (opens at) e)
+      ∙ r.runs
+      ∙ run_goes whole_trees (has (f ∷ ls) g r.p) (has ls f (placed at (closed whole_trees g r.p))) u vs (turn_have (f ∷ ls) g r.p u closes k)
+      ∙ ap (λ z. run whole_trees (has ls f (placed at z)) vs) r.holds
 
 have_done : (l : Frame) (x : Tree) (g : Sign) → is_operator g ≡ false → have_turn whole_trees [] l x g ≡ done (closed whole_trees l x)
 have_done l x plus e = cc
@@ -193,8 +212,8 @@ run_ends l x (u ∷ us) e = run_done whole_trees (has [] l x) (closed whole_tree
 pub expression_complete : (ts : List Token) (x : Tree) (us : List Token) → Expressed ts x us → expression_at whole_trees ts ≡ read x us
 unfolding expression_at
 expression_complete ts x us e =
-  let r = sum_runs ts x us e.sum [] 0 in
-  r.runs ∙ run_ends (frame 0 r.s r.q r.m) r.p us e.ends ∙ ap (λ z. read z us) r.holds
+    let r = sum_runs ts x us e.sum [] 0 in
+    r.runs ∙ run_ends (frame 0 r.s r.q r.m) r.p us e.ends ∙ ap (λ z. read z us) r.holds
 
 -- what is read is in the grammar: what the stack stands for
 
@@ -262,20 +281,20 @@ TurnHolds (done x) ts t us = Sum ts x (t ∷ us) × (is_operator (sign t) ≡ fa
 TurnHolds stuck ts t us = Unit {0}
 
 minus_holds : (ls : List Frame) (l : Frame) (at : ℕ) (m : Option ℕ) → l.minus ≡ m → (ts : List Token) (t : Token) (us : List Token) → sign t ≡ minus at
-  → Stands (wants ls l) ts (t ∷ us) → TurnHolds (minus_turn ls l at m) ts t us
+    → Stands (wants ls l) ts (t ∷ us) → TurnHolds (minus_turn ls l at m) ts t us
 minus_holds ls l at (Some earlier) h ts t us e s = tt
 minus_holds ls l at None h ts t us e s =
-  let b = s.2 in
-  let here : b.last ≡ t ∷ us = subst (λ m. MinusBefore m b.last (t ∷ us)) h b.minus_before in
-  (s.0, s.1, record { mid = b.mid; last = b.last; sum_before = b.sum_before; product_before = b.product_before; minus_before = (t, here, e) })
+    let b = s.2 in
+    let here : b.last ≡ t ∷ us = subst (λ m. MinusBefore m b.last (t ∷ us)) h b.minus_before in
+    (s.0, s.1, record { mid = b.mid; last = b.last; sum_before = b.sum_before; product_before = b.product_before; minus_before = (t, here, e) })
 
 nothing_before : (ls : List Frame) (l : Frame) (at : ℕ) (ts : List Token) (t : Token) (us : List Token) → sign t ≡ opens at
-  → Stands (wants ls l) ts (t ∷ us) → Stands (wants (l ∷ ls) (empty_frame at)) ts us
+    → Stands (wants ls l) ts (t ∷ us) → Stands (wants (l ∷ ls) (empty_frame at)) ts us
 nothing_before ls l at ts t us e s =
-  (us, (s.0, t, s.1, s.2, e), record { mid = us; last = us; sum_before = refl; product_before = refl; minus_before = refl })
+    (us, (s.0, t, s.1, s.2, e), record { mid = us; last = us; sum_before = refl; product_before = refl; minus_before = refl })
 
 want_holds : (ls : List Frame) (l : Frame) (g : Sign) (ts : List Token) (t : Token) (us : List Token) → sign t ≡ g
-  → Stands (wants ls l) ts (t ∷ us) → TurnHolds (want_turn ls l g) ts t us
+    → Stands (wants ls l) ts (t ∷ us) → TurnHolds (want_turn ls l g) ts t us
 want_holds ls l (leaf x) ts t us e s = (s.0, t ∷ us, s.1, s.2, operand us x t e)
 want_holds ls l (minus at) ts t us e s = minus_holds ls l at l.minus refl ts t us e s
 want_holds ls l (opens at) ts t us e s = nothing_before ls l at ts t us e s
@@ -285,32 +304,32 @@ want_holds ls l closes ts t us e s = tt
 want_holds ls l other ts t us e s = tt
 
 sum_holds : (o : BinaryOperator) (ls : List Frame) (l : Frame) (x : Tree) (ts : List Token) (t : Token) (us : List Token) → IsSumSign o (sign t)
-  → Stands (has ls l x) ts (t ∷ us) → Stands (wants ls (with_sum whole_trees o l x)) ts us
+    → Stands (has ls l x) ts (t ∷ us) → Stands (wants ls (with_sum whole_trees o l x)) ts us
 sum_holds o ls l x ts t us e s =
-  (s.0, s.2, record { mid = us; last = us; sum_before = (t, closed_reads l s.0 s.1 (t ∷ us) x s.3 s.4, e); product_before = refl; minus_before = refl })
+    (s.0, s.2, record { mid = us; last = us; sum_before = (t, closed_reads l s.0 s.1 (t ∷ us) x s.3 s.4, e); product_before = refl; minus_before = refl })
 
 star_holds : (ls : List Frame) (l : Frame) (x : Tree) (ts : List Token) (t : Token) (us : List Token) → sign t ≡ star
-  → Stands (has ls l x) ts (t ∷ us) → Stands (wants ls (with_product whole_trees l x)) ts us
+    → Stands (has ls l x) ts (t ∷ us) → Stands (wants ls (with_product whole_trees l x)) ts us
 star_holds ls l x ts t us e s =
-  let b = s.3 in
-  (s.0, s.2, record { mid = b.mid; last = us; sum_before = b.sum_before; product_before = (t, closed_product_reads l s.0 s.1 (t ∷ us) x b s.4, e); minus_before = refl })
+    let b = s.3 in
+    (s.0, s.2, record { mid = b.mid; last = us; sum_before = b.sum_before; product_before = (t, closed_product_reads l s.0 s.1 (t ∷ us) x b s.4, e); minus_before = refl })
 
 close_holds : (ls : List Frame) (l : Frame) (x : Tree) (ts : List Token) (t : Token) (us : List Token) → sign t ≡ closes
-  → Stands (has ls l x) ts (t ∷ us) → TurnHolds (close_turn whole_trees ls l x) ts t us
+    → Stands (has ls l x) ts (t ∷ us) → TurnHolds (close_turn whole_trees ls l x) ts t us
 close_holds [] l x ts t us e s =
-  (subst (λ vs. Sum vs (closed whole_trees l x) (t ∷ us)) (sym s.2) (closed_reads l s.0 s.1 (t ∷ us) x s.3 s.4), ap is_operator e)
+    (subst (λ vs. Sum vs (closed whole_trees l x) (t ∷ us)) (sym s.2) (closed_reads l s.0 s.1 (t ∷ us) x s.3 s.4), ap is_operator e)
 close_holds (o ∷ ls) l x ts t us e s =
-  let before = s.2 in
-  (before.0, before.1 ∷ s.0, before.2, before.3, in_parentheses s.0 us (closed whole_trees l x) before.1 t l.opened before.4 (closed_reads l s.0 s.1 (t ∷ us) x s.3 s.4) e)
+    let before = s.2 in
+    (before.0, before.1 ∷ s.0, before.2, before.3, in_parentheses s.0 us (closed whole_trees l x) before.1 t l.opened before.4 (closed_reads l s.0 s.1 (t ∷ us) x s.3 s.4) e)
 
 end_holds : (ls : List Frame) (l : Frame) (x : Tree) (ts : List Token) (t : Token) (us : List Token) → is_operator (sign t) ≡ false
-  → Stands (has ls l x) ts (t ∷ us) → TurnHolds (end_turn whole_trees ls l x) ts t us
+    → Stands (has ls l x) ts (t ∷ us) → TurnHolds (end_turn whole_trees ls l x) ts t us
 end_holds [] l x ts t us e s =
-  (subst (λ vs. Sum vs (closed whole_trees l x) (t ∷ us)) (sym s.2) (closed_reads l s.0 s.1 (t ∷ us) x s.3 s.4), e)
+    (subst (λ vs. Sum vs (closed whole_trees l x) (t ∷ us)) (sym s.2) (closed_reads l s.0 s.1 (t ∷ us) x s.3 s.4), e)
 end_holds (o ∷ ls) l x ts t us e s = tt
 
 have_holds : (ls : List Frame) (l : Frame) (x : Tree) (g : Sign) (ts : List Token) (t : Token) (us : List Token) → sign t ≡ g
-  → Stands (has ls l x) ts (t ∷ us) → TurnHolds (have_turn whole_trees ls l x g) ts t us
+    → Stands (has ls l x) ts (t ∷ us) → TurnHolds (have_turn whole_trees ls l x g) ts t us
 unfolding IsSumSign
 have_holds ls l x plus ts t us e s = sum_holds Add ls l x ts t us e s
 have_holds ls l x (minus at) ts t us e s = sum_holds Subtract ls l x ts t us (at, e) s
@@ -326,22 +345,22 @@ turn_holds (wants ls l) ts t us h = want_holds ls l (sign t) ts t us refl h
 turn_holds (has ls l x) ts t us h = have_holds ls l x (sign t) ts t us refl h
 
 after_holds : (a : Turn) (ts : List Token) (t : Token) (us : List Token) (go_on : State → Reading Tree) → TurnHolds a ts t us
-  → ((s : State) (x : Tree) (vs : List Token) → Stands s ts us → go_on s ≡ read x vs → Expressed ts x vs)
-  → (x : Tree) (vs : List Token) → after_turn a go_on (t ∷ us) ≡ read x vs → Expressed ts x vs
+    → ((s : State) (x : Tree) (vs : List Token) → Stands s ts us → go_on s ≡ read x vs → Expressed ts x vs)
+    → (x : Tree) (vs : List Token) → after_turn a go_on (t ∷ us) ≡ read x vs → Expressed ts x vs
 after_holds (goes s) ts t us go_on h ih x vs e = ih s x vs h e
 after_holds (done y) ts t us go_on h ih x vs e =
-  let tree : y ≡ x = cc in
-  let rest : (t ∷ us) ≡ vs = cc in
-  record { sum = subst (λ z. Sum ts z vs) tree (subst (λ z. Sum ts y z) rest h.0); ends = subst (λ z. goes_on z ≡ false) rest h.1 }
+    let tree : y ≡ x = cc in
+    let rest : (t ∷ us) ≡ vs = cc in
+    record { sum = subst (λ z. Sum ts z vs) tree (subst (λ z. Sum ts y z) rest h.0); ends = subst (λ z. goes_on z ≡ false) rest h.1 }
 after_holds stuck ts t us go_on h ih x vs e = cc
 
 end_read : (ls : List Frame) (l : Frame) (y : Tree) (ts : List Token) → Stands (has ls l y) ts [] → (x : Tree) (vs : List Token)
-  → after_turn (end_turn whole_trees ls l y) (λ _. fails []) [] ≡ read x vs → Expressed ts x vs
+    → after_turn (end_turn whole_trees ls l y) (λ _. fails []) [] ≡ read x vs → Expressed ts x vs
 end_read [] l y ts s x vs e =
-  let tree : closed whole_trees l y ≡ x = cc in
-  let rest : [] ≡ vs = cc in
-  let sum = subst (λ us. Sum us (closed whole_trees l y) []) (sym s.2) (closed_reads l s.0 s.1 [] y s.3 s.4) in
-  record { sum = subst (λ z. Sum ts z vs) tree (subst (λ z. Sum ts (closed whole_trees l y) z) rest sum); ends = subst (λ z. goes_on z ≡ false) rest refl }
+    let tree : closed whole_trees l y ≡ x = cc in
+    let rest : [] ≡ vs = cc in
+    let sum = subst (λ us. Sum us (closed whole_trees l y) []) (sym s.2) (closed_reads l s.0 s.1 [] y s.3 s.4) in
+    record { sum = subst (λ z. Sum ts z vs) tree (subst (λ z. Sum ts (closed whole_trees l y) z) rest sum); ends = subst (λ z. goes_on z ≡ false) rest refl }
 end_read (o ∷ ls) l y ts s x vs e = cc
 
 run_sound : (us : List Token) (ts : List Token) (s : State) → Stands s ts us → (x : Tree) (vs : List Token) → run whole_trees s us ≡ read x vs → Expressed ts x vs
@@ -349,7 +368,7 @@ unfolding run turn
 run_sound [] ts (wants ls l) h x vs e = cc
 run_sound [] ts (has ls l y) h x vs e = end_read ls l y ts h x vs e
 run_sound (t ∷ us) ts s h x vs e =
-  after_holds (turn whole_trees s (sign t)) ts t us (λ s'. run whole_trees s' us) (turn_holds s ts t us h) (λ s' y ws k f. run_sound us ts s' k y ws f) x vs e
+    after_holds (turn whole_trees s (sign t)) ts t us (λ s'. run whole_trees s' us) (turn_holds s ts t us h) (λ s' y ws k f. run_sound us ts s' k y ws f) x vs e
 
 pub expression_decides : Decides expression_syntax (expression_at whole_trees)
 unfolding expression_at

@@ -41,8 +41,8 @@ low_of_reads ts b h = low_of_whole ts ∙ ap (mapped lowered_block) (whole_of_re
 -- a text has at most one tree
 pub one_tree : (ts : List Token) (b c : PlainBlock) → Reads ts b → Reads ts c → b ≡ c
 one_tree ts b c h k =
-  let e : read b [] ≡ read c [] = sym (whole_of_reads ts b h) ∙ whole_of_reads ts c k in
-  cc
+    let e : read b [] ≡ read c [] = sym (whole_of_reads ts b h) ∙ whole_of_reads ts c k in
+    cc
 
 -- what was read is what is left of a tree that reads
 record FromTree (ts : List Token) (b : PlainBlock) : Type 0 where
@@ -54,9 +54,9 @@ from_result : (ts : List Token) (b : PlainBlock) (r : Reading PlainBlock) → wh
 unfolding mapped
 from_result ts b (fails us) e k = cc
 from_result ts b (read c us) e k =
-  let none : us ≡ [] = cc in
-  let tree_is : lowered_block c ≡ b = cc in
-  record { tree = c; reads = reads_of_whole ts c (e ∙ ap (λ vs. read c vs) none); is = tree_is }
+    let none : us ≡ [] = cc in
+    let tree_is : lowered_block c ≡ b = cc in
+    record { tree = c; reads = reads_of_whole ts c (e ∙ ap (λ vs. read c vs) none); is = tree_is }
 
 from_tree : (ts : List Token) (b : PlainBlock) → low_block ts ≡ read b [] → FromTree ts b
 from_tree ts b h = from_result ts b (whole_block ts) refl (sym (low_of_whole ts) ∙ h)
@@ -65,9 +65,9 @@ from_tree ts b h = from_result ts b (whole_block ts) refl (sym (low_of_whole ts)
 
 pub found_reads : (ts : List Token) (block : Block) → Settled ts (Ok block) → Reads ts (block_of block)
 found_reads ts block s =
-  let f = from_tree ts (block_of block) s.0 in
-  let none : first_too_high f.tree ≡ None = sym (place_stays f.tree) ∙ ap first_too_high f.is ∙ s.1 in
-  subst (λ b. Reads ts b) (sym (low_stays f.tree none) ∙ f.is) f.reads
+    let f = from_tree ts (block_of block) s.0 in
+    let none : first_too_high f.tree ≡ None = sym (place_stays f.tree) ∙ ap first_too_high f.is ∙ s.1 in
+    subst (λ b. Reads ts b) (sym (low_stays f.tree none) ∙ f.is) f.reads
 
 -- what is read is given
 
@@ -76,15 +76,15 @@ stops_not ts us b h s = let e : None ≡ Some us = sym (ap stops_at h) ∙ s in 
 
 pub answers_exactly : (ts : List Token) (r : Result Block ParseFault) (b : PlainBlock) → Settled ts r → Reads ts b → Answers r b
 answers_exactly ts (Ok block) b s h =
-  let e : read (block_of block) [] ≡ read (lowered_block b) [] = sym s.0 ∙ low_of_reads ts b h in
-  let same : block_of block ≡ lowered_block b = cc in
-  let none : first_too_high b ≡ None = sym (place_stays b) ∙ ap first_too_high (sym same) ∙ s.1 in
-  (same ∙ low_stays b none, low_where_none b none)
+    let e : read (block_of block) [] ≡ read (lowered_block b) [] = sym s.0 ∙ low_of_reads ts b h in
+    let same : block_of block ≡ lowered_block b = cc in
+    let none : first_too_high b ≡ None = sym (place_stays b) ∙ ap first_too_high (sym same) ∙ s.1 in
+    (same ∙ low_stays b none, low_where_none b none)
 answers_exactly ts (Err (TooDeep at)) b s h =
-  let e : read s.0 [] ≡ read (lowered_block b) [] = sym s.1 ∙ low_of_reads ts b h in
-  let same : s.0 ≡ lowered_block b = cc in
-  let place : first_too_high b ≡ Some at = sym (place_stays b) ∙ ap first_too_high (sym same) ∙ s.2 in
-  (high_where_some b at place, place)
+    let e : read s.0 [] ≡ read (lowered_block b) [] = sym s.1 ∙ low_of_reads ts b h in
+    let same : s.0 ≡ lowered_block b = cc in
+    let place : first_too_high b ≡ Some at = sym (place_stays b) ∙ ap first_too_high (sym same) ∙ s.2 in
+    (high_where_some b at place, place)
 answers_exactly ts (Err (Unexpected at)) b s h = stops_not ts s.0 (lowered_block b) (low_of_reads ts b h) s.1
 answers_exactly ts (Err NoMemory) b s h = tt
 
@@ -114,10 +114,10 @@ agrees [] (u ∷ us) [] e = cc
 agrees [] (u ∷ us) (o ∷ others) e = record { rest = o ∷ others; parts = refl; alike = (let same : o ≡ u = cc in ap Some same) }
 agrees (t ∷ f) us [] e = cc
 agrees (t ∷ f) us (o ∷ others) e =
-  let same : o ≡ t = cc in
-  let more : take (suc (length f)) others ≡ take (suc (length f)) (f ++ us) = cc in
-  let a = agrees f us others more in
-  record { rest = a.rest; parts = ap (λ x. x ∷ others) same ∙ ap (λ xs. t ∷ xs) a.parts; alike = a.alike }
+    let same : o ≡ t = cc in
+    let more : take (suc (length f)) others ≡ take (suc (length f)) (f ++ us) = cc in
+    let a = agrees f us others more in
+    record { rest = a.rest; parts = ap (λ x. x ∷ others) same ∙ ap (λ xs. t ∷ xs) a.parts; alike = a.alike }
 
 no_whole : (r : Reading PlainBlock) (us rest : List Token) (b : PlainBlock) → stops_at r ≡ Some us → first rest ≡ first us → with_rest r rest ≡ read b [] → ⊥
 no_whole (fails vs) us rest b s alike e = cc
@@ -127,28 +127,28 @@ no_whole (read c (t ∷ vs)) us (o ∷ rest) b s alike e = cc
 
 front_length : (ts us front : List Token) (at : ℕ) → ts ≡ front ++ us → at ≡ length ts - length us → at ≡ length front
 front_length ts us front at parts e =
-  let sum : length ts ≡ length front + length us = ap length parts ∙ length-append front us in
-  omega arith
+    let sum : length ts ≡ length front + length us = ap length parts ∙ length-append front us in
+    omega arith
 
 pub none_agrees : (ts us : List Token) (at : ℕ) → stops_at (low_block ts) ≡ Some us → at ≡ length ts - length us → NoneAgrees ts at
 unfolding whole_block
 none_agrees ts us at stops place others b same reads =
-  let s = block_decides.looks ts in
-  let stops_whole : stops_at (whole_block ts) ≡ Some us = sym (stops-mapped (whole_block ts)) ∙ ap stops_at (sym (low_of_whole ts)) ∙ stops in
-  let stops_there : stops_at s.result ≡ Some us = ap stops_at (sym s.is) ∙ stops_whole in
-  let rest : rest_of s.result ≡ us = rest_where_stops s.result us stops_there in
-  let parts : ts ≡ s.front ++ us = s.parts ∙ ap (λ vs. s.front ++ vs) rest in
-  let here : at + 1 ≡ suc (length s.front) = (let l : at ≡ length s.front = front_length ts us s.front at parts place in omega arith) in
-  let alike : take (suc (length s.front)) others ≡ take (suc (length s.front)) (s.front ++ us) =
+    let s = block_decides.looks ts in
+    let stops_whole : stops_at (whole_block ts) ≡ Some us = sym (stops-mapped (whole_block ts)) ∙ ap stops_at (sym (low_of_whole ts)) ∙ stops in
+    let stops_there : stops_at s.result ≡ Some us = ap stops_at (sym s.is) ∙ stops_whole in
+    let rest : rest_of s.result ≡ us = rest_where_stops s.result us stops_there in
+    let parts : ts ≡ s.front ++ us = s.parts ∙ ap (λ vs. s.front ++ vs) rest in
+    let here : at + 1 ≡ suc (length s.front) = (let l : at ≡ length s.front = front_length ts us s.front at parts place in omega arith) in
+    let alike : take (suc (length s.front)) others ≡ take (suc (length s.front)) (s.front ++ us) =
     subst (λ n. take n others ≡ take n ts) here same ∙ ap (take (suc (length s.front))) parts in
-  let a = agrees s.front us others alike in
-  let again : whole_block (s.front ++ a.rest) ≡ with_rest s.result a.rest = s.again a.rest (a.alike ∙ ap first (sym rest)) in
-  let whole : whole_block (s.front ++ a.rest) ≡ read b [] = ap whole_block (sym a.parts) ∙ whole_of_reads others b reads in
-  no_whole s.result us a.rest b stops_there a.alike (sym again ∙ whole)
+    let a = agrees s.front us others alike in
+    let again : whole_block (s.front ++ a.rest) ≡ with_rest s.result a.rest = s.again a.rest (a.alike ∙ ap first (sym rest)) in
+    let whole : whole_block (s.front ++ a.rest) ≡ read b [] = ap whole_block (sym a.parts) ∙ whole_of_reads others b reads in
+    no_whole s.result us a.rest b stops_there a.alike (sym again ∙ whole)
 
 pub refuses_rightly : (ts : List Token) (fault : ParseFault) → Settled ts (Err fault) → Refuses ts fault
 refuses_rightly ts (Unexpected at) s = (let p = s.2 in omega arith, none_agrees ts s.0 at s.1 s.2)
 refuses_rightly ts (TooDeep at) s =
-  let f = from_tree ts s.0 s.1 in
-  (f.tree, f.reads, sym (place_stays f.tree) ∙ ap first_too_high f.is ∙ s.2)
+    let f = from_tree ts s.0 s.1 in
+    (f.tree, f.reads, sym (place_stays f.tree) ∙ ap first_too_high f.is ∙ s.2)
 refuses_rightly ts NoMemory s = tt

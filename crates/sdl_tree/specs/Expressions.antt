@@ -1,5 +1,6 @@
 -- Expressions (Z.100, expressions): which tokens read as which tree.
-use Rattle.std.specs.Prelude.{◌≡◌, ◌≢◌, ℕ, Bool, true, false, List, [], ◌∷◌, Option, Some, None, nat_lt, if◌then◌else◌}
+use Rattle.std.specs.Prelude.{◌≡◌, ◌≢◌, ℕ, Bool, true, false, List, [], ◌∷◌, Option, Some, None, nat_le, if◌then◌else◌}
+use Rattle.sdl_lex.specs.declared.TheConstants.{MAX_NUMBER}
 use Rattle.sdl_lex.specs.declared.lexemes.Token.{Token}
 use Rattle.sdl_lex.specs.declared.lexemes.Lexeme.{Lexeme}
 use Rattle.sdl_lex.specs.declared.lexemes.Lexeme.TheVariants as lexemes
@@ -30,7 +31,7 @@ symbol_sign at _ = other
 
 abbrev pub lexeme_sign : ℕ → Lexeme → Sign
 lexeme_sign at (lexemes.Name n) = leaf (variable at (record { name = n; at = at }))
-lexeme_sign at (lexemes.Number k) = if nat_lt k 2147483648 then leaf (number at k) else other
+lexeme_sign at (lexemes.Number k) = if nat_le k MAX_NUMBER then leaf (number at k) else other
 lexeme_sign at (lexemes.Word w) = other
 lexeme_sign at (lexemes.Symbol s) = symbol_sign at s
 
@@ -56,24 +57,24 @@ mutual
   pub data Sum : List Token → Tree → List Token → Type 0 where
     one_product : (ts us : List Token) (x : Tree) → Product ts x us → Sum ts x us
     added : (ts us vs : List Token) (x y : Tree) (t : Token) → Sum ts x (t ∷ us) → sign t ≡ plus → Product us y vs
-      → Sum ts (binary (place_of x) Add x y) vs
+        → Sum ts (binary (place_of x) Add x y) vs
     subtracted : (ts us vs : List Token) (x y : Tree) (t : Token) (at : ℕ) → Sum ts x (t ∷ us) → sign t ≡ minus at → Product us y vs
-      → Sum ts (binary (place_of x) Subtract x y) vs
+        → Sum ts (binary (place_of x) Subtract x y) vs
 
   pub data Product : List Token → Tree → List Token → Type 0 where
     one_factor : (ts us : List Token) (x : Tree) → Factor ts x us → Product ts x us
     multiplied : (ts us vs : List Token) (x y : Tree) (t : Token) → Product ts x (t ∷ us) → sign t ≡ star → Factor us y vs
-      → Product ts (binary (place_of x) Multiply x y) vs
+        → Product ts (binary (place_of x) Multiply x y) vs
 
   pub data Factor : List Token → Tree → List Token → Type 0 where
     bare : (ts us : List Token) (x : Tree) → Primary ts x us → Factor ts x us
     negated : (us vs : List Token) (x : Tree) (t : Token) (at : ℕ) → sign t ≡ minus at → Primary us x vs
-      → Factor (t ∷ us) (unary at Negate x) vs
+        → Factor (t ∷ us) (unary at Negate x) vs
 
   pub data Primary : List Token → Tree → List Token → Type 0 where
     operand : (us : List Token) (x : Tree) (t : Token) → sign t ≡ leaf x → Primary (t ∷ us) x us
     in_parentheses : (us vs : List Token) (x : Tree) (t u : Token) (at : ℕ) → sign t ≡ opens at → Sum us x (u ∷ vs) → sign u ≡ closes
-      → Primary (t ∷ us) (placed at x) vs
+        → Primary (t ∷ us) (placed at x) vs
 
 -- whether an operator stands next
 abbrev pub is_operator : Sign → Bool

@@ -31,7 +31,7 @@ pub record Then {A B : Type 0} (p : Grammar A) (q : A → Grammar B) (tokens : L
 pub data Many {A B : Type 0} (f : Token → Option B) (p : Grammar A) : List Token → List A → List Token → Type 0 where
   no_more : (ts : List Token) → begins f ts ≡ false → Many f p ts [] ts
   one_more : (ts us vs : List Token) (x : A) (xs : List A) → begins f ts ≡ true → p ts x us
-    → Many f p us xs vs → Many f p ts (x ∷ xs) vs
+      → Many f p us xs vs → Many f p ts (x ∷ xs) vs
 
 abbrev pub give : {A : Type 0} → A → Grammar A
 give value = λ tokens x rest. Gives value tokens x rest
@@ -61,5 +61,5 @@ separated p = p >>= λ x. many (a_symbol Comma) (token (a_symbol Comma) >>= λ _
 -- ( p {, p} ), or nothing
 abbrev pub list_in_parentheses : {A : Type 0} → Grammar A → Grammar (List A)
 list_in_parentheses p = choice (a_symbol Open)
-  (token (a_symbol Open) >>= λ _. separated p >>= λ xs. token (a_symbol Close) >>= λ _. give xs)
-  (give [])
+    (token (a_symbol Open) >>= λ _. separated p >>= λ xs. token (a_symbol Close) >>= λ _. give xs)
+    (give [])

@@ -61,7 +61,7 @@ abbrev pub high_in_text : Text → Option ℕ
 high_in_text falls = None
 high_in_text (ends e) = None
 high_in_text (task at assignments rest) =
-  or_first (if nat_lt MAX_HEIGHT (assignments_height assignments) then Some at else None) (high_in_text rest)
+    or_first (if nat_lt MAX_HEIGHT (assignments_height assignments) then Some at else None) (high_in_text rest)
 
 abbrev pub high_in_clause : PlainClause → Option ℕ
 high_in_clause (input i) = high_in_text i.text

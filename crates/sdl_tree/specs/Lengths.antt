@@ -37,9 +37,9 @@ pub shortens_token : {A : Type 0} (f : Token → Option A) → Shortens (token f
 shortens_token f [] x us h = not_read (length us < 0) [] us x h
 shortens_token {A} f (t ∷ ts) x us h = by_answer (f t) h
   where
-  by_answer : (o : Option A) → stands_for (t ∷ ts) ts o ≡ read x us → length us < length (t ∷ ts)
-  by_answer None h = not_read (length us < length (t ∷ ts)) (t ∷ ts) us x h
-  by_answer (Some y) h = subst (λ vs. length vs < length (t ∷ ts)) (same_rest y x ts us h) (lt-suc_self (length ts))
+    by_answer : (o : Option A) → stands_for (t ∷ ts) ts o ≡ read x us → length us < length (t ∷ ts)
+    by_answer None h = not_read (length us < length (t ∷ ts)) (t ∷ ts) us x h
+    by_answer (Some y) h = subst (λ vs. length vs < length (t ∷ ts)) (same_rest y x ts us h) (lt-suc_self (length ts))
 
 keeps_give : {A : Type 0} (x : A) → NeverLonger (give x)
 keeps_give x ts y us h = subst (λ vs. length vs ≤ length ts) (same_rest x y ts us h) (le_refl (length ts))
@@ -51,22 +51,22 @@ infixl 10 ◌>>=◌
 ◌>>=◌ : {A B : Type 0} {p : At A} {q : A → At B} → NeverLonger p → ((x : A) → NeverLonger (q x)) → NeverLonger (reading.◌>>=◌ p q)
 ◌>>=◌ {A} {B} {p} {q} kp kq ts y us h = by_result (p ts) refl h
   where
-  by_result : (r : Reading A) → p ts ≡ r → then_read r q ≡ read y us → length us ≤ length ts
-  by_result (fails vs) e h = not_read (length us ≤ length ts) vs us y h
-  by_result (read x vs) e h = le_trans (kq x vs y us h) (kp ts x vs e)
+    by_result : (r : Reading A) → p ts ≡ r → then_read r q ≡ read y us → length us ≤ length ts
+    by_result (fails vs) e h = not_read (length us ≤ length ts) vs us y h
+    by_result (read x vs) e h = le_trans (kq x vs y us h) (kp ts x vs e)
 
 -- the first part takes a token
 first_takes : {A B : Type 0} {p : At A} {q : A → At B} → Shortens p → ((x : A) → NeverLonger (q x)) → Shortens (reading.◌>>=◌ p q)
 first_takes {A} {B} {p} {q} kp kq ts y us h = by_result (p ts) refl h
   where
-  by_result : (r : Reading A) → p ts ≡ r → then_read r q ≡ read y us → length us < length ts
-  by_result (fails vs) e h = not_read (length us < length ts) vs us y h
-  by_result (read x vs) e h = lt_of_le_of_lt (kq x vs y us h) (kp ts x vs e)
+    by_result : (r : Reading A) → p ts ≡ r → then_read r q ≡ read y us → length us < length ts
+    by_result (fails vs) e h = not_read (length us < length ts) vs us y h
+    by_result (read x vs) e h = lt_of_le_of_lt (kq x vs y us h) (kp ts x vs e)
 
 -- an expression
 keeps_after : (a : Turn) (go_on : State → Reading Tree) (ts rest : List Token) → length rest ≤ length ts
-  → ((s : State) (x : Tree) (us : List Token) → go_on s ≡ read x us → length us ≤ length rest)
-  → (x : Tree) (us : List Token) → after_turn a go_on ts ≡ read x us → length us ≤ length ts
+    → ((s : State) (x : Tree) (us : List Token) → go_on s ≡ read x us → length us ≤ length rest)
+    → (x : Tree) (us : List Token) → after_turn a go_on ts ≡ read x us → length us ≤ length ts
 keeps_after (goes s) go_on ts rest l ih x us h = le_trans (ih s x us h) l
 keeps_after (done y) go_on ts rest l ih x us h = subst (λ vs. length vs ≤ length ts) (same_rest y x ts us h) (le_refl (length ts))
 keeps_after stuck go_on ts rest l ih x us h = not_read (length us ≤ length ts) ts us x h
@@ -75,7 +75,7 @@ keeps_run : (b : Build) (ts : List Token) (s : State) (x : Tree) (us : List Toke
 unfolding run
 keeps_run b [] s x us h = keeps_after (turn b s other) (λ _. fails []) [] [] (le_refl 0) (λ s x us e. not_read (length us ≤ 0) [] us x e) x us h
 keeps_run b (t ∷ ts) s x us h =
-  keeps_after (turn b s (sign t)) (λ s'. run b s' ts) (t ∷ ts) ts (le_of_lt (lt-suc_self (length ts))) (keeps_run b ts) x us h
+    keeps_after (turn b s (sign t)) (λ s'. run b s' ts) (t ∷ ts) ts (le_of_lt (lt-suc_self (length ts))) (keeps_run b ts) x us h
 
 pub expression_keeps : (b : Build) → NeverLonger (expression_at b)
 unfolding expression_at
@@ -102,7 +102,7 @@ keeps_many_for : {A B : Type 0} {p : At A} (f : Token → Option B) → NeverLon
 unfolding many_for
 keeps_many_for f kp zero ts x us h = not_read (length us ≤ length ts) ts us x h
 keeps_many_for {A} {B} {p} f kp (suc n) ts x us h =
-  keeps_either {A = List A} (begins f ts) (kp >>= λ x. keeps_many_for f kp n >>= λ xs. keeps_give (x ∷ xs)) (keeps_give []) ts x us h
+    keeps_either {A = List A} (begins f ts) (kp >>= λ x. keeps_many_for f kp n >>= λ xs. keeps_give (x ∷ xs)) (keeps_give []) ts x us h
 
 keeps_many : {A B : Type 0} {p : At A} (f : Token → Option B) → NeverLonger p → NeverLonger (many f p)
 unfolding many
@@ -113,8 +113,8 @@ keeps_separated kp = kp >>= λ x. keeps_many (a_symbol Comma) (keeps_token (a_sy
 
 keeps_list : {A : Type 0} {p : At A} → NeverLonger p → NeverLonger (list_in_parentheses p)
 keeps_list kp = keeps_choice (a_symbol Open)
-  (keeps_token (a_symbol Open) >>= λ _. keeps_separated kp >>= λ xs. keeps_token (a_symbol Close) >>= λ _. keeps_give xs)
-  (keeps_give [])
+    (keeps_token (a_symbol Open) >>= λ _. keeps_separated kp >>= λ xs. keeps_token (a_symbol Close) >>= λ _. keeps_give xs)
+    (keeps_give [])
 
 pub name_keeps : NeverLonger (token a_name)
 name_keeps = keeps_token a_name
@@ -129,13 +129,13 @@ signal_keeps = name_keeps >>= λ n. keeps_list sort_keeps >>= λ ps. keeps_give 
 pub signals_takes : Shortens signals_at
 unfolding signals_at
 signals_takes = first_takes (shortens_token (a_word words.Signal)) λ _.
-  keeps_separated signal_keeps >>= λ ss. keeps_token (a_symbol Semicolon) >>= λ _. keeps_give _
+    keeps_separated signal_keeps >>= λ ss. keeps_token (a_symbol Semicolon) >>= λ _. keeps_give _
 
 path_keeps : NeverLonger path_at
 unfolding path_at
 path_keeps =
-  keeps_token (a_word words.From) >>= λ _. keeps_token environment >>= λ from. keeps_token (a_word words.To) >>= λ _. keeps_token a_party >>= λ to.
-  keeps_token (a_word words.With) >>= λ _. keeps_separated name_keeps >>= λ brought. keeps_token (a_symbol Semicolon) >>= λ _. keeps_give _
+    keeps_token (a_word words.From) >>= λ _. keeps_token environment >>= λ from. keeps_token (a_word words.To) >>= λ _. keeps_token a_party >>= λ to.
+    keeps_token (a_word words.With) >>= λ _. keeps_separated name_keeps >>= λ brought. keeps_token (a_symbol Semicolon) >>= λ _. keeps_give _
 
 pub route_takes : Shortens route_at
 unfolding route_at
@@ -188,12 +188,12 @@ end_keeps = keeps_token (a_word words.NextState) >>= λ at. name_keeps >>= λ n.
 text_keeps : (e : At Tree) → NeverLonger e → NeverLonger (text_at e)
 unfolding text_at
 text_keeps e k =
-  keeps_many (a_word words.Task) (less_never_longer (task_at e) (task_takes e k)) >>= λ ts. keeps_optional (a_word words.NextState) end_keeps >>= λ l. keeps_give _
+    keeps_many (a_word words.Task) (less_never_longer (task_at e) (task_takes e k)) >>= λ ts. keeps_optional (a_word words.NextState) end_keeps >>= λ l. keeps_give _
 
 input_takes : (e : At Tree) → NeverLonger e → Shortens (input_at e)
 unfolding input_at
 input_takes e k = first_takes (shortens_token (a_word words.Input)) λ at.
-  keeps_separated stimulus_keeps >>= λ ss. keeps_token (a_symbol Semicolon) >>= λ _. text_keeps e k >>= λ t. keeps_give _
+    keeps_separated stimulus_keeps >>= λ ss. keeps_token (a_symbol Semicolon) >>= λ _. text_keeps e k >>= λ t. keeps_give _
 
 pub clause_takes : (e : At Tree) → NeverLonger e → Shortens (clause_at e)
 unfolding clause_at

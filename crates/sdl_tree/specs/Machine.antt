@@ -26,9 +26,9 @@ low_unary at o x = if nat_lt MAX_HEIGHT (tree_height x) then placed at x else un
 
 abbrev pub low_binary : ℕ → BinaryOperator → Tree → Tree → Tree
 low_binary at o x y =
-  if nat_lt MAX_HEIGHT (tree_height x) then placed at x
-  else if nat_lt MAX_HEIGHT (tree_height y) then placed at y
-  else binary at o x y
+    if nat_lt MAX_HEIGHT (tree_height x) then placed at x
+    else if nat_lt MAX_HEIGHT (tree_height y) then placed at y
+    else binary at o x y
 
 abbrev pub low_trees : Build
 low_trees = record { negate = λ at x. low_unary at Negate x; join = λ o x y. low_binary (place_of x) o x y }

@@ -63,8 +63,8 @@ separated p = p >>= λ x. separated_from x p
 
 abbrev pub list_in_parentheses : {A : Type 0} → At A → At (List A)
 list_in_parentheses p = choice (a_symbol Open)
-  (token (a_symbol Open) >>= λ _. separated p >>= λ xs. token (a_symbol Close) >>= λ _. give xs)
-  (give [])
+    (token (a_symbol Open) >>= λ _. separated p >>= λ xs. token (a_symbol Close) >>= λ _. give xs)
+    (give [])
 
 -- a list of things put before those that are read
 abbrev pub prepend : {A : Type 0} → List A → Reading (List A) → Reading (List A)

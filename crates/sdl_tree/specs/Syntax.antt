@@ -124,12 +124,12 @@ end_syntax = do
 -- { TASK assignments } [ NEXTSTATE name ; ], each of them exactly where its word stands next
 pub data TextReads : List Token → Text → List Token → Type 0 where
   runs_off : (ts : List Token) → begins (a_word words.Task) ts ≡ false → begins (a_word words.NextState) ts ≡ false
-    → TextReads ts falls ts
+      → TextReads ts falls ts
   ends_there : (ts us : List Token) (e : End) → begins (a_word words.Task) ts ≡ false → begins (a_word words.NextState) ts ≡ true
-    → end_syntax ts e us → TextReads ts (ends e) us
+      → end_syntax ts e us → TextReads ts (ends e) us
   does_task : (t : Token) (ts us vs : List Token) (at : ℕ) (assignments : List PlainAssignment) (rest : Text)
-    → a_word words.Task t ≡ Some at → assignments_syntax ts assignments us → TextReads us rest vs
-    → TextReads (t ∷ ts) (task at assignments rest) vs
+      → a_word words.Task t ≡ Some at → assignments_syntax ts assignments us → TextReads us rest vs
+      → TextReads (t ∷ ts) (task at assignments rest) vs
 
 abbrev pub text_syntax : Grammar Text
 text_syntax = λ tokens text rest. TextReads tokens text rest

@@ -63,9 +63,7 @@ fn read_instances<'a>(tokens: &'a [Token]) -> Result<(u32, &'a [Token]), Stop<'a
 }
 
 /// Reads `[ ( 1 [ , [1] ] ) ]`.
-fn read_optional_instances<'a>(
-    tokens: &'a [Token],
-) -> Result<(Option<u32>, &'a [Token]), Stop<'a>>
+fn read_optional_instances<'a>(tokens: &'a [Token]) -> Result<(Option<u32>, &'a [Token]), Stop<'a>>
     ensures { Mirrors same result (optional (a_symbol symbols.Open) instances_at tokens.now) }
 {
     if !is_symbol(tokens, Symbol::Open) {
@@ -77,9 +75,7 @@ fn read_optional_instances<'a>(
 
 /// Reads `PROCESS name [ ( 1 [, [1]] ) ] ;`.
 #[tactic(auto, unfolding(crate::specs::Productions::process_head_at))]
-fn read_process_head<'a>(
-    tokens: &'a [Token],
-) -> Result<(Identifier, &'a [Token]), Stop<'a>>
+fn read_process_head<'a>(tokens: &'a [Token]) -> Result<(Identifier, &'a [Token]), Stop<'a>>
     ensures { Mirrors same result (process_head_at tokens.now) }
 {
     let (_, rest) = attempt!(word(tokens, Word::Process));
@@ -91,10 +87,7 @@ fn read_process_head<'a>(
 
 /// Reads a PROCESS.
 #[tactic(auto, unfolding(crate::specs::Productions::process_at))]
-fn read_process<'a>(
-    alloc: Global,
-    tokens: &'a [Token],
-) -> Result<(Process, &'a [Token]), Stop<'a>>
+fn read_process<'a>(alloc: Global, tokens: &'a [Token]) -> Result<(Process, &'a [Token]), Stop<'a>>
     ensures { Mirrors process_of result (process_at (expression_at low_trees) tokens.now) }
 {
     let (name, rest) = attempt!(read_process_head(tokens));

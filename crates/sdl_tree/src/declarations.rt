@@ -33,7 +33,10 @@ impl Production for Identifier {
 
     ghost never_longer = { name_keeps };
 
-    fn read<'a>(_alloc: Global, tokens: &'a [Token]) -> Result<(Identifier, &'a [Token]), Stop<'a>> {
+    fn read<'a>(
+        _alloc: Global,
+        tokens: &'a [Token],
+    ) -> Result<(Identifier, &'a [Token]), Stop<'a>> {
         name(tokens)
     }
 }
@@ -100,10 +103,7 @@ impl Production for SignalDeclaration {
 
 /// Reads `SIGNAL signal {, signal} ;`.
 #[tactic(auto, unfolding(crate::specs::Productions::signals_at))]
-fn read_signals<'a>(
-    alloc: Global,
-    tokens: &'a [Token],
-) -> Result<(Entity, &'a [Token]), Stop<'a>>
+fn read_signals<'a>(alloc: Global, tokens: &'a [Token]) -> Result<(Entity, &'a [Token]), Stop<'a>>
     ensures { Mirrors entity_of result (signals_at tokens.now) }
 {
     let (_, rest) = attempt!(word(tokens, Word::Signal));

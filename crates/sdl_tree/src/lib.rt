@@ -12,6 +12,8 @@ mod parsing;
 mod part;
 mod production;
 mod stop;
+#[cfg(test)]
+mod tests;
 mod tokens;
 mod transitions;
 mod tree;

@@ -11,8 +11,7 @@ use crate::expression::{BinaryOperator, Expression, Identifier};
 use crate::operators::{factor, moved, number_part, product, sum, variable_part};
 use crate::part::Part;
 use crate::stop::Stop;
-use crate::tokens::MAX_NUMBER;
-use sdl_lex::{Lexeme, Symbol, Token};
+use sdl_lex::{Lexeme, MAX_NUMBER, Symbol, Token};
 use std::alloc::{AllocError, Global};
 
 /// What a token is in an expression.
@@ -222,12 +221,7 @@ fn close(
 }
 
 /// A token that goes on with no expression: it ends one where no parenthesis is open.
-fn end(
-    alloc: Global,
-    outer: Vec<Frame>,
-    here: Frame,
-    operand: Part,
-) -> Result<Turn, AllocError>
+fn end(alloc: Global, outer: Vec<Frame>, here: Frame, operand: Part) -> Result<Turn, AllocError>
     ensures { IfOk result (λ t. turn_view t ≡ end_turn low_trees (stack_view outer.items) (frame_view here) (tree_of operand.tree)) }
 {
     if !outer.is_empty() {

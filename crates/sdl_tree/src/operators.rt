@@ -126,11 +126,7 @@ pub(crate) fn joined(
 }
 
 /// An operand with the minus that stands before it, if one does.
-pub(crate) fn factor(
-    alloc: Global,
-    minus: Option<u32>,
-    operand: Part,
-) -> Result<Part, AllocError>
+pub(crate) fn factor(alloc: Global, minus: Option<u32>, operand: Part) -> Result<Part, AllocError>
     ensures { IfOk result (λ p. tree_of p.tree ≡ factor_of low_trees minus (tree_of operand.tree)) }
 {
     match minus {
@@ -140,11 +136,7 @@ pub(crate) fn factor(
 }
 
 /// A factor with the product that stands before it, if one does.
-pub(crate) fn product(
-    alloc: Global,
-    before: Option<Part>,
-    factor: Part,
-) -> Result<Part, AllocError>
+pub(crate) fn product(alloc: Global, before: Option<Part>, factor: Part) -> Result<Part, AllocError>
     ensures { IfOk result (λ p. tree_of p.tree ≡ product_of low_trees (product_view before) (tree_of factor.tree)) }
 {
     match before {

@@ -20,16 +20,12 @@ fn read_text(alloc: Global, tokens: &[Token]) -> Result<Block, ParseFault>
     let (block, rest) = match read_block(alloc, tokens) {
         Ok(found) => found,
         Err(Stop::Unexpected(left)) => {
-            return Err(ParseFault::Unexpected(
-                tokens.len().saturating_sub(left.len()),
-            ));
+            return Err(ParseFault::Unexpected(tokens.len().saturating_sub(left.len())));
         }
         Err(Stop::NoMemory) => return Err(ParseFault::NoMemory),
     };
     if !rest.is_empty() {
-        return Err(ParseFault::Unexpected(
-            tokens.len().saturating_sub(rest.len()),
-        ));
+        return Err(ParseFault::Unexpected(tokens.len().saturating_sub(rest.len())));
     }
     match first_too_high(&block) {
         Some(at) => Err(ParseFault::TooDeep(at)),

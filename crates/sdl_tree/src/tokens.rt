@@ -7,10 +7,7 @@ ghost use Rattle.sdl_tree.specs.Mirrors.{Mirrors, same};
 use crate::expression::Identifier;
 use crate::stop::Stop;
 use crate::tree::{Constant, Literal, Party, Sort};
-use sdl_lex::{Lexeme, Name, Symbol, Token, Word};
-
-/// The greatest number that a token may be.
-pub(crate) const MAX_NUMBER: u32 = 2147483647;
+use sdl_lex::{Lexeme, MAX_NUMBER, Name, Symbol, Token, Word};
 
 fn is_same_word(found: Word, wanted: Word) -> bool
     ensures { result ≡ same_word found wanted }
@@ -285,7 +282,10 @@ pub(crate) fn one<'a>(tokens: &'a [Token]) -> Result<(u32, &'a [Token]), Stop<'a
 }
 
 /// Reads this name, in any case.
-pub(crate) fn closing<'a>(tokens: &'a [Token], name: Name) -> Result<(Identifier, &'a [Token]), Stop<'a>>
+pub(crate) fn closing<'a>(
+    tokens: &'a [Token],
+    name: Name,
+) -> Result<(Identifier, &'a [Token]), Stop<'a>>
     ensures { Mirrors same result (token (a_closing name) tokens.now) }
 {
     let Some((token, rest)) = tokens.split_first() else {

@@ -50,10 +50,7 @@ impl Production for Assignment {
     ghost never_longer = { low_assignment_keeps };
 
     #[tactic(auto, unfolding(crate::specs::Productions::assignment_at))]
-    fn read<'a>(
-        alloc: Global,
-        tokens: &'a [Token],
-    ) -> Result<(Assignment, &'a [Token]), Stop<'a>> {
+    fn read<'a>(alloc: Global, tokens: &'a [Token]) -> Result<(Assignment, &'a [Token]), Stop<'a>> {
         let (variable, rest) = attempt!(name(tokens));
         let (_, rest) = attempt!(symbol(rest, Symbol::Assign));
         let (value, rest) = attempt!(expression(alloc, rest));
@@ -114,9 +111,7 @@ fn read_end<'a>(tokens: &'a [Token]) -> Result<(End, &'a [Token]), Stop<'a>>
 }
 
 /// Reads `[ NEXTSTATE name ; ]`.
-fn read_optional_end<'a>(
-    tokens: &'a [Token],
-) -> Result<(Option<End>, &'a [Token]), Stop<'a>>
+fn read_optional_end<'a>(tokens: &'a [Token]) -> Result<(Option<End>, &'a [Token]), Stop<'a>>
     ensures { Mirrors same result (optional (a_word words.NextState) end_at tokens.now) }
 {
     if !is_word(tokens, Word::NextState) {
@@ -141,10 +136,7 @@ fn read_transition<'a>(
 
 /// Reads `INPUT stimulus {, stimulus} ;` and its transition.
 #[tactic(auto, unfolding(crate::specs::Productions::input_at))]
-fn read_input<'a>(
-    alloc: Global,
-    tokens: &'a [Token],
-) -> Result<(InputPart, &'a [Token]), Stop<'a>>
+fn read_input<'a>(alloc: Global, tokens: &'a [Token]) -> Result<(InputPart, &'a [Token]), Stop<'a>>
     ensures { Mirrors input_of result (input_at (expression_at low_trees) tokens.now) }
 {
     let (at, rest) = attempt!(word(tokens, Word::Input));
@@ -245,10 +237,7 @@ fn read_optional_end_state<'a>(
 
 /// Reads a STATE part.
 #[tactic(auto, unfolding(crate::specs::Productions::state_at))]
-fn read_state<'a>(
-    alloc: Global,
-    tokens: &'a [Token],
-) -> Result<(StatePart, &'a [Token]), Stop<'a>>
+fn read_state<'a>(alloc: Global, tokens: &'a [Token]) -> Result<(StatePart, &'a [Token]), Stop<'a>>
     ensures { Mirrors state_of result (state_at (expression_at low_trees) tokens.now) }
 {
     let (_, rest) = attempt!(word(tokens, Word::State));

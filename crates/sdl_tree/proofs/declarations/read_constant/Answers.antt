@@ -7,11 +7,11 @@ use Rattle.sdl_tree.proofs.declarations.read_constant.Goals as goal
 pub returns-in-Err-constant : goal.returns-in-Err-constant
 unfolding constant_at
 returns-in-Err-constant c =
-  let other : begins (a_symbol Minus) c.args.tokens.now ≡ false = sym c.is_symbol.ensures ∙ c.if-is_symbol.false in
-  rw other c.in-Err-constant.ensures
+    let other : begins (a_symbol Minus) c.args.tokens.now ≡ false = sym c.is_symbol.ensures ∙ c.if-is_symbol.false in
+    rw other c.in-Err-constant.ensures
 
 pub returns : goal.returns
 unfolding constant_at
 returns c =
-  let other : begins (a_symbol Minus) c.args.tokens.now ≡ false = sym c.is_symbol.ensures ∙ c.if-is_symbol.false in
-  rw other c.in-Ok-constant.ensures
+    let other : begins (a_symbol Minus) c.args.tokens.now ≡ false = sym c.is_symbol.ensures ∙ c.if-is_symbol.false in
+    rw other c.in-Ok-constant.ensures

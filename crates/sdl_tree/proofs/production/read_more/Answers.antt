@@ -8,14 +8,14 @@ use Rattle.sdl_tree.proofs.production.read_more.Goals as goal
 
 pub returns-in_err-item : goal.returns-in_err-item
 returns-in_err-item g c =
-  let p = err_from_is_err_and c.from_residual-in_err-item.result c.from_residual-in_err-item.ensures.1 in
-  rw (p.1, p.2)
+    let p = err_from_is_err_and c.from_residual-in_err-item.result c.from_residual-in_err-item.ensures.1 in
+    rw (p.1, p.2)
     (row_stops (a_symbol Comma) (behind_comma g.T.Production.reading) _ _ c.rows.rest.now c.in_err-item.field-0.0
-      (sym c.is_symbol.ensures ∙ c.rows-test.true) c.in_err-item.ensures c.rows.invariant)
+    (sym c.is_symbol.ensures ∙ c.rows-test.true) c.in_err-item.ensures c.rows.invariant)
 
 pub rows-preserved : goal.rows-preserved
 rows-preserved g c =
-  row_turn (a_symbol Comma) (behind_comma g.T.Production.reading) g.T.Production.view _ c.rows.items.items _ c.in_ok-item.item c.rows.rest.now c.in_ok-item.after.now
+    row_turn (a_symbol Comma) (behind_comma g.T.Production.reading) g.T.Production.view _ c.rows.items.items _ c.in_ok-item.item c.rows.rest.now c.in_ok-item.after.now
     (shortens_behind_comma g.T.Production.reading g.met.T.Production.never_longer) (sym c.is_symbol.ensures ∙ c.rows-test.true) c.in_ok-item.ensures c.in_ok-push-2.ensures.ok c.rows.invariant
 
 pub returns : goal.returns

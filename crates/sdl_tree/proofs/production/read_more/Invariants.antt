@@ -6,8 +6,8 @@ use Rattle.sdl_tree.proofs.production.read_more.Given as goal
 
 abbrev pub invariant-rows : goal.invariant-rows
 invariant-rows g l =
-  separated_from (g.T.Production.view l.fn.first) g.T.Production.reading l.tokens
-  ≡ prepend (map g.T.Production.view l.items.items) (many (a_symbol Comma) (behind_comma g.T.Production.reading) l.rest)
+    separated_from (g.T.Production.view l.fn.first) g.T.Production.reading l.tokens
+    ≡ prepend (map g.T.Production.view l.items.items) (many (a_symbol Comma) (behind_comma g.T.Production.reading) l.rest)
 
 abbrev pub decreases-rows : goal.decreases-rows
 decreases-rows g l = length l.rest

@@ -23,7 +23,7 @@ returns-then-self-2 c h holds =
 pub returns-then-self-ne0 : goal.returns-then-self-ne0
 returns-then-self-ne0 c h holds =
     is_wrong h c.args.self.now holds (c.if-is_empty.ensures _ holds.gathers)
-        (λ octets. not_part h c.args.self.now octets holds c.if-self-2.false c.if-self-ne0.true c.args.self.now.data_bits.part.len_fits)
+    (λ octets. not_part h c.args.self.now octets holds c.if-self-2.false c.if-self-ne0.true c.args.self.now.data_bits.part.len_fits)
 
 pub returns-then-is_unit : goal.returns-then-is_unit
 returns-then-is_unit c h holds =
@@ -37,4 +37,4 @@ returns-else-is_unit c h holds =
     let P : List ℕ → Type 0 = λ octets. AreUnit octets → ⊥ in
     let none : AreUnit c.args.self.now.data_bits.octets.items → ⊥ = subst P c.as_slice.ensures.value c.if-is_unit.ensures.unit in
     is_wrong h c.args.self.now holds (c.if-is_empty.ensures _ holds.gathers)
-        (λ octets. not_unit h c.args.self.now octets holds c.if-self-2.false c.if-self-ne0.false fit none)
+    (λ octets. not_unit h c.args.self.now octets holds c.if-self-2.false c.if-self-ne0.false fit none)

@@ -23,4 +23,4 @@ returns-else-is_normal-clause-counts c mode content counts =
 pub returns-else-is_normal-clause-given : goal.returns-else-is_normal-clause-given
 returns-else-is_normal-clause-given c mode content counts =
     laws.given-counting c.args.closed content mode c.args.self.now.count c.tick-else-is_normal.result c.in-Wrong.is (sym c.if-is_normal.false ∙ c.is_normal.ensures) counts
-        (c.tick-else-is_normal.ensures.full mode counts)
+    (c.tick-else-is_normal.ensures.full mode counts)

@@ -11,9 +11,9 @@ loop-octet-preserved c h before stands = laws.at_next c.loop-octet.octet-index c
 pub returns-clause-stands : goal.returns-clause-stands
 returns-clause-stands c bits =
     laws.stands_by bits _ c.loop-octet.events.items c.args.self.now c.loop-octet.next
-        (λ h events stands. laws.at_whole c.loop-octet.octet-index c.args.octets.now h _ c.loop-octet.next (omega arith) (c.loop-octet.invariant h events (c.copy-next.ensures h events stands)))
+    (λ h events stands. laws.at_whole c.loop-octet.octet-index c.args.octets.now h _ c.loop-octet.next (omega arith) (c.loop-octet.invariant h events (c.copy-next.ensures h events stands)))
 
 pub returns-clause-events : goal.returns-clause-events
 returns-clause-events c bits events =
     laws.events_by bits _ c.loop-octet.events.items events c.args.self.now c.loop-octet.next
-        (λ h es stands. laws.at_whole c.loop-octet.octet-index c.args.octets.now h _ c.loop-octet.next (omega arith) (c.loop-octet.invariant h es (c.copy-next.ensures h es stands)))
+    (λ h es stands. laws.at_whole c.loop-octet.octet-index c.args.octets.now h _ c.loop-octet.next (omega arith) (c.loop-octet.invariant h es (c.copy-next.ensures h es stands)))

@@ -11,4 +11,4 @@ loop-i-init c h before stands = laws.at_zero c.args.octet h _ c.args.self.now st
 pub loop-i-preserved : goal.loop-i-preserved
 loop-i-preserved c h before stands =
     laws.at_more c.loop-i.i c.args.octet h before c.loop-i.events.items _ c.push_closed.new.events.items c.take_bit-given.new.self
-        (c.in_ok-push_closed.ensures ∙ ap (λ l. l ++ report_of c.take_bit-given.result.closed c.take_bit-given.new.self.gate.content) c.in_ok-push_sixteen.ensures ∙ append_assoc c.loop-i.events.items (sixteen_of c.take_bit-given.result.sixteen) (report_of c.take_bit-given.result.closed c.take_bit-given.new.self.gate.content)) (c.take_bit-given.ensures.stands _ _ (c.loop-i.invariant h before stands))
+    (c.in_ok-push_closed.ensures ∙ ap (λ l. l ++ report_of c.take_bit-given.result.closed c.take_bit-given.new.self.gate.content) c.in_ok-push_sixteen.ensures ∙ append_assoc c.loop-i.events.items (sixteen_of c.take_bit-given.result.sixteen) (report_of c.take_bit-given.result.closed c.take_bit-given.new.self.gate.content)) (c.take_bit-given.ensures.stands _ _ (c.loop-i.invariant h before stands))

@@ -1,0 +1,230 @@
+use crate::{Action, Block, Entity, Expression, ParseFault, StateClause, parse};
+use sdl_lex::{LexFault, tokens};
+use std::alloc::{AllocError, Global};
+use std::test::Fail;
+
+const COUNTER: &str = "BLOCK B; SIGNAL Up(Integer);
+SIGNALROUTE r FROM ENV TO P WITH Up;
+PROCESS P (1,1); DCL n, total Integer;
+START; TASK total := 0; NEXTSTATE Run;
+STATE Run; INPUT Up(n); TASK total := total + n; NEXTSTATE Run;
+ENDSTATE Run; ENDPROCESS P; ENDBLOCK B;
+";
+
+/// What the tokens of a text read as.
+fn read(alloc: Global, text: &str) -> Result<Result<Block, ParseFault>, LexFault> {
+    let found = tokens(alloc, text)?;
+    Ok(parse(alloc, found.as_slice()))
+}
+
+/// A text with one TASK that assigns this, at byte 26.
+fn text_with(
+    alloc: Global,
+    before: &str,
+    middle: &str,
+    after: &str,
+    times: usize,
+) -> Result<String, AllocError> {
+    let mut text = String::from_str(alloc, "BLOCK B; PROCESS P; START; TASK x := ")?;
+    for _ in 0..times {
+        text.push_str(before)?;
+    }
+    text.push_str(middle)?;
+    for _ in 0..times {
+        text.push_str(after)?;
+    }
+    text.push_str("; ENDPROCESS; ENDBLOCK;")?;
+    Ok(text)
+}
+
+/// The fault of a text whose one TASK assigns this.
+fn fault_of(alloc: Global, value: &str) -> Result<Option<ParseFault>, Fail> {
+    let text = text_with(alloc, "", value, "", 0)?;
+    Ok(read(alloc, text.as_str())?.err())
+}
+
+/// The expression that the first TASK of a text assigns, as `Debug` shows it.
+fn shown_value(alloc: Global, value: &str) -> Result<String, Fail> {
+    let text = text_with(alloc, "", value, "", 0)?;
+    let block = read(alloc, text.as_str())?.ok().ok_or("a tree")?;
+    for entity in &block.entities {
+        if let Entity::Process(process) = entity {
+            for action in &process.start.transition.actions {
+                let Action::Task(task) = action;
+                for assignment in &task.assignments {
+                    let value: &Expression = &assignment.value;
+                    return Ok(format!(in alloc; "{value:?}")?);
+                }
+            }
+        }
+    }
+    Err(Fail::from("no value"))
+}
+
+#[test]
+fn reads_the_counter(rt: HostRuntime) -> Result<(), Fail> {
+    let block = read(rt.alloc(), COUNTER)?.ok().ok_or("a tree")?;
+    assert_eq!(rt; block.name.name.as_str(), "B");
+    assert_eq!(rt; block.name.at, 6);
+    assert_eq!(rt; block.entities.len(), 3);
+    for entity in &block.entities {
+        match entity {
+            Entity::Signals(declared) => {
+                assert_eq!(rt; declared.len(), 1);
+                assert_eq!(rt; declared[0].name.name.as_str(), "Up");
+                assert_eq!(rt; declared[0].parameters.len(), 1);
+            }
+            Entity::Route(route) => {
+                assert_eq!(rt; route.name.name.as_str(), "r");
+                assert_eq!(rt; route.paths.len(), 1);
+            }
+            Entity::Process(process) => {
+                assert_eq!(rt; process.name.name.as_str(), "P");
+                assert_eq!(rt; process.declarations.len(), 1);
+                assert_eq!(rt; process.start.at, 105);
+                assert_eq!(rt; process.start.transition.actions.len(), 1);
+                assert!(rt; process.start.transition.end.is_some());
+                assert_eq!(rt; process.states.len(), 1);
+                assert_eq!(rt; process.states[0].clauses.len(), 1);
+                let StateClause::Input(input) = &process.states[0].clauses[0];
+                assert_eq!(rt; input.stimuli.len(), 1);
+                assert_eq!(rt; input.stimuli[0].places.len(), 1);
+                assert_eq!(rt; input.transition.actions.len(), 1);
+            }
+        }
+    }
+    Ok(())
+}
+
+#[test]
+fn each_shorter_list_ends_too_early(rt: HostRuntime) -> Result<(), Fail> {
+    let found = tokens(rt.alloc(), COUNTER)?;
+    assert_eq!(rt; found.len(), 70);
+    for end in 0..found.len() {
+        let fault = parse(rt.alloc(), &found.as_slice()[..end]).err();
+        assert_eq!(rt; fault, Some(ParseFault::Unexpected(end)));
+    }
+    Ok(())
+}
+
+#[test]
+fn groups_to_the_left(rt: HostRuntime) -> Result<(), Fail> {
+    let shown = shown_value(rt.alloc(), "1 - 2 - 3 * 4")?;
+    assert_eq!(rt;
+        shown.as_str(),
+        "Binary { at: 37, operator: Subtract, \
+left: Binary { at: 37, operator: Subtract, left: Number { at: 37, value: 1 }, right: Number { at: 41, value: 2 } }, \
+right: Binary { at: 45, operator: Multiply, left: Number { at: 45, value: 3 }, right: Number { at: 49, value: 4 } } }"
+    );
+    Ok(())
+}
+
+#[test]
+fn keeps_the_place_of_a_parenthesis(rt: HostRuntime) -> Result<(), Fail> {
+    let shown = shown_value(rt.alloc(), "-((1) + 2)")?;
+    assert_eq!(rt;
+        shown.as_str(),
+        "Unary { at: 37, operator: Negate, \
+operand: Binary { at: 38, operator: Add, left: Number { at: 39, value: 1 }, right: Number { at: 45, value: 2 } } }"
+    );
+    Ok(())
+}
+
+#[test]
+fn thirty_two_levels_are_read(rt: HostRuntime) -> Result<(), Fail> {
+    let text = text_with(rt.alloc(), "-(", "1", ")", 31)?;
+    assert_eq!(rt; read(rt.alloc(), text.as_str())?.err(), None);
+    let text = text_with(rt.alloc(), "-(", "1", ")", 32)?;
+    assert_eq!(rt;
+        read(rt.alloc(), text.as_str())?.err(),
+        Some(ParseFault::TooDeep(27))
+    );
+    Ok(())
+}
+
+#[test]
+fn parentheses_are_no_level(rt: HostRuntime) -> Result<(), Fail> {
+    let text = text_with(rt.alloc(), "(", "1", ")", 100_000)?;
+    assert_eq!(rt; read(rt.alloc(), text.as_str())?.err(), None);
+    let text = text_with(rt.alloc(), "(", "1", "", 100_000)?;
+    assert_eq!(rt;
+        read(rt.alloc(), text.as_str())?.err(),
+        Some(ParseFault::Unexpected(100_012))
+    );
+    let text = text_with(rt.alloc(), "1 +", "1", "", 80_000)?;
+    assert_eq!(rt;
+        read(rt.alloc(), text.as_str())?.err(),
+        Some(ParseFault::TooDeep(27))
+    );
+    Ok(())
+}
+
+#[test]
+fn what_reads_not_is_unexpected_however_deep(rt: HostRuntime) -> Result<(), Fail> {
+    let text = text_with(rt.alloc(), "-(", "1", ")", 40)?;
+    let found = tokens(rt.alloc(), text.as_str())?;
+    let last = found.len().saturating_sub(1);
+    let fault = parse(rt.alloc(), &found.as_slice()[..last]).err();
+    assert_eq!(rt; fault, Some(ParseFault::Unexpected(last)));
+    Ok(())
+}
+
+#[test]
+fn refuses_what_the_grammar_has_not(rt: HostRuntime) -> Result<(), Fail> {
+    assert_eq!(rt; fault_of(rt.alloc(), "1")?, None);
+    assert_eq!(rt;
+        fault_of(rt.alloc(), "- - 1")?,
+        Some(ParseFault::Unexpected(12))
+    );
+    assert_eq!(rt;
+        fault_of(rt.alloc(), "1 / 1")?,
+        Some(ParseFault::Unexpected(12))
+    );
+    assert_eq!(rt;
+        fault_of(rt.alloc(), "1)")?,
+        Some(ParseFault::Unexpected(12))
+    );
+    assert_eq!(rt;
+        fault_of(rt.alloc(), "1; TASK y := (2 3)")?,
+        Some(ParseFault::Unexpected(18))
+    );
+    Ok(())
+}
+
+#[test]
+fn closing_names_and_instances(rt: HostRuntime) -> Result<(), Fail> {
+    let alloc = rt.alloc();
+    let good = "BLOCK b; PROCESS p (1,); START; STATE s; ENDSTATE S; ENDPROCESS P; ENDBLOCK B;";
+    assert_eq!(rt; read(alloc, good)?.err(), None);
+    let state = "BLOCK b; PROCESS p; START; STATE s; ENDSTATE t; ENDPROCESS; ENDBLOCK;";
+    assert_eq!(rt; read(alloc, state)?.err(), Some(ParseFault::Unexpected(12)));
+    let process = "BLOCK b; PROCESS p; START; ENDPROCESS b; ENDBLOCK;";
+    assert_eq!(rt;
+        read(alloc, process)?.err(),
+        Some(ParseFault::Unexpected(9))
+    );
+    let instances = "BLOCK b; PROCESS p (1,3); START; ENDPROCESS; ENDBLOCK;";
+    assert_eq!(rt;
+        read(alloc, instances)?.err(),
+        Some(ParseFault::Unexpected(8))
+    );
+    let none = "BLOCK b; SIGNAL a; ENDBLOCK;";
+    assert_eq!(rt; read(alloc, none)?.err(), Some(ParseFault::Unexpected(6)));
+    let two = "BLOCK b; PROCESS p; START; ENDPROCESS; PROCESS q; START; ENDPROCESS; ENDBLOCK;";
+    assert_eq!(rt; read(alloc, two)?.err(), Some(ParseFault::Unexpected(10)));
+    Ok(())
+}
+
+#[test]
+fn prints_its_faults(rt: HostRuntime) -> Result<(), Fail> {
+    let alloc = rt.alloc();
+    assert_eq!(rt;
+        format!(in alloc; "{}", ParseFault::Unexpected(3))?.as_str(),
+        "P1 Unexpected"
+    );
+    assert_eq!(rt;
+        format!(in alloc; "{}", ParseFault::TooDeep(3))?.as_str(),
+        "P2 TooDeep"
+    );
+    Ok(())
+}

@@ -1,0 +1,5 @@
+pub mod Seen
+pub mod Parts
+pub mod Faults
+pub mod Walk
+pub mod Certified
