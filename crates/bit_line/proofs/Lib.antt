@@ -8,3 +8,4 @@ pub mod GateLaws
 pub mod StandLaws
 pub mod EventLaws
 pub mod SendLaws
+pub mod ThroughLaws

@@ -82,13 +82,13 @@ flag_bits : low_bits 8 126 ≡ flag
 unfolding low_bits
 flag_bits = refl
 
-framed-append : (us vs : List (List ℕ)) → framed (us ++ vs) ≡ framed us ++ framed vs
+pub framed-append : (us vs : List (List ℕ)) → framed (us ++ vs) ≡ framed us ++ framed vs
 unfolding framed
 framed-append [] vs = refl
 framed-append (u ∷ us) vs =
     ap (λ l. (stuffing_of (bits_of u) ++ flag) ++ l) (framed-append us vs) ∙ sym (append_assoc (stuffing_of (bits_of u) ++ flag) (framed us) (framed vs))
 
-framed-one : (octets : List ℕ) → framed (octets ∷ []) ≡ stuffing_of (bits_of octets) ++ flag
+pub framed-one : (octets : List ℕ) → framed (octets ∷ []) ≡ stuffing_of (bits_of octets) ++ flag
 unfolding framed
 framed-one octets = append-nil (stuffing_of (bits_of octets) ++ flag)
 
