@@ -87,7 +87,7 @@ unfolding bits_of
 counts_octet i octets line within held =
     let P : List Bool → Type 0 = λ h. Counts h line in
     let all : reverse (bits_of (take (i + 1) octets)) ≡ reverse (low_bits 8 (get_or octets i 0)) ++ reverse (bits_of (take i octets)) =
-        ap (λ os. reverse (bits_of os)) (take_more octets i 0 within)
-        ∙ ap reverse (bits_of-append (take i octets) (get_or octets i 0 ∷ []) ∙ ap (λ bs. bits_of (take i octets) ++ bs) (append-nil (low_bits 8 (get_or octets i 0))))
-        ∙ reverse-append (bits_of (take i octets)) (low_bits 8 (get_or octets i 0)) in
+    ap (λ os. reverse (bits_of os)) (take_more octets i 0 within)
+    ∙ ap reverse (bits_of-append (take i octets) (get_or octets i 0 ∷ []) ∙ ap (λ bs. bits_of (take i octets) ++ bs) (append-nil (low_bits 8 (get_or octets i 0))))
+    ∙ reverse-append (bits_of (take i octets)) (low_bits 8 (get_or octets i 0)) in
     subst P (sym all) held

@@ -47,3 +47,6 @@ fn main(rt: HostRuntime) -> ExitCode {
     }
     ExitCode::from(status)
 }
+
+#[cfg(test)]
+mod tests;
