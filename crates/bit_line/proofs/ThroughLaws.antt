@@ -26,13 +26,17 @@ use Rattle.bit_line.proofs.FlagLaws.{since_flag-flag, since_flag-other, ends_fla
 quiet : (b : Bool) (h : List Bool) (es : List LineEvent) → Runs h None es → ends_flag (b ∷ h) ≡ false → begins (b ∷ h) ≡ false → Runs (b ∷ h) None es
 unfolding Runs mode_after reports
 quiet b h es runs none calm =
-    let P : Bool → Type 0 = λ e. MatchBool e (IsJudged (inside h) Nothing) (Nothing ≡ Nothing) in
-    (None, es, runs, record {
-      verdict = Nothing;
-      closes = subst P (sym none) refl;
-      mode = sym (ap (λ x. cond x (Some 0) None) calm);
-      all = sym (append-nil es);
-    })
+    let P : Bool → Type 0 = λ e. MatchBool e (IsJudged (inside h) Nothing) (Nothing ≡ Nothing) in (
+      None,
+      es,
+      runs,
+      record {
+        verdict = Nothing;
+        closes = subst P (sym none) refl;
+        mode = sym (ap (λ x. cond x (Some 0) None) calm);
+        all = sym (append-nil es);
+      },
+    )
 
 zero_by : (h : List Bool) → (trailing h ≡ 5) ⊎ (trailing h ≡ 5 → ⊥) → length (taken_out h) ≤ length (taken_out (false ∷ h))
 zero_by h (inl five) = omega (arith, ap length (taken_out-five h five))
@@ -74,9 +78,9 @@ isnt_true false other = refl
 no_six_ahead : (c g : List Bool) → has_six c ≡ false → six_ones (c ++ false ∷ g) ≡ false
 no_six_ahead c g none =
     isnt_true (six_ones (c ++ false ∷ g)) (λ six.
-        let many : 6 ≤ trailing (c ++ false ∷ g) = six_trailing (c ++ false ∷ g) six in
-        let few : trailing c < 6 = few_trailing c none in
-        omega (arith, many, few, trailing-behind c g))
+    let many : 6 ≤ trailing (c ++ false ∷ g) = six_trailing (c ++ false ∷ g) six in
+    let few : trailing c < 6 = few_trailing c none in
+    omega (arith, many, few, trailing-behind c g))
 
 -- ---- behind a flag
 -- c came since a flag that ended h, the mode is the normal one, and nothing was reported
@@ -89,8 +93,8 @@ more_quiet b c h es q none short =
     let ends : ends_flag (b ∷ (c ++ h)) ≡ false = ends_flag-plain b (c ++ h) none in
     let since : since_flag (b ∷ (c ++ h)) ≡ Some (b ∷ c) = since_flag-other b (c ++ h) ends ∙ ap (λ s. option_map (λ d. b ∷ d) s) q.since in
     let calm : begins (b ∷ (c ++ h)) ≡ false =
-        begins-plain b (c ++ h) none ∙ ap (λ d. nat_lt MOST_BITS (length (taken_out d))) (inside-is (b ∷ (c ++ h)) (b ∷ c) since)
-        ∙ le-ltb 2224 (length (taken_out (drop 6 c))) short in
+    begins-plain b (c ++ h) none ∙ ap (λ d. nat_lt MOST_BITS (length (taken_out d))) (inside-is (b ∷ (c ++ h)) (b ∷ c) since)
+    ∙ le-ltb 2224 (length (taken_out (drop 6 c))) short in
     record { runs = quiet b (c ++ h) es q.runs ends calm; since = since }
 
 content_quiet : (c g : List Bool) (es : List LineEvent) → ends_flag (false ∷ g) ≡ true → Runs (false ∷ g) None es → has_six c ≡ false
@@ -100,7 +104,7 @@ content_quiet (b ∷ c) g es ends runs none short =
     let parts : (trailing (b ∷ c) < 6) × (has_six c ≡ false) = no_six-parts b c none in
     let shorter : length (taken_out c) ≤ 2224 = omega (arith, short, length-taken_out b c) in
     more_quiet b c (false ∷ g) es (content_quiet c g es ends runs parts.1 shorter) (no_six_ahead c g parts.1)
-        (omega (arith, shorter, taken_out-drop 6 c))
+    (omega (arith, shorter, taken_out-drop 6 c))
 
 -- the first seven bits of a flag end nothing and begin nothing
 record Front (c h : List Bool) (es : List LineEvent) : Type 0 where
@@ -144,13 +148,17 @@ closed_by c h es verdict given f judged normal gives =
     let six : six_ones (full_flag c h) ≡ true = sym (ends_flag-zero (full_flag c h)) ∙ ends in
     let is : inside (full_flag c h) ≡ c = inside-is (full_flag c h) (true ∷ true ∷ true ∷ true ∷ true ∷ true ∷ false ∷ c) f.q7.since in
     let P : Bool → Type 0 = λ e. MatchBool e (IsJudged (inside (full_flag c h)) verdict) (verdict ≡ Nothing) in
-    let Q : List Bool → Type 0 = λ d. IsJudged d verdict in
-    (None, es, f.q7.runs, record {
-      verdict = verdict;
-      closes = subst P (sym ends) (subst Q (sym is) judged);
-      mode = sym (ap (λ x. mode_after verdict x None) (begins-flag (full_flag c h) six) ∙ normal);
-      all = ap (λ l. es ++ l) (sym gives);
-    })
+    let Q : List Bool → Type 0 = λ d. IsJudged d verdict in (
+      None,
+      es,
+      f.q7.runs,
+      record {
+        verdict = verdict;
+        closes = subst P (sym ends) (subst Q (sym is) judged);
+        mode = sym (ap (λ x. mode_after verdict x None) (begins-flag (full_flag c h) six) ∙ normal);
+        all = ap (λ l. es ++ l) (sym gives);
+      },
+    )
 
 correct_gives : (octets : List ℕ) → (mode_after (Correct octets) false None ≡ None) × (reports (Correct octets) None ≡ events.Unit (record { items = octets }) ∷ [])
 unfolding mode_after reports
@@ -174,7 +182,7 @@ unit_front octets h es unit ends runs =
     let g : (g : List Bool) × (h ≡ false ∷ g) = behind h ends in
     let shape : IsStuffing (stuffed (reverse (bits_of octets))) (reverse (bits_of octets)) = is_stuffing (reverse (bits_of octets)) in
     let short : length (taken_out (stuffed (reverse (bits_of octets)))) ≤ 2224 =
-        omega (arith, ap length shape.back, length-reverse (bits_of octets), length-bits_of octets, unit_fits octets unit) in
+    omega (arith, ap length shape.back, length-reverse (bits_of octets), length-bits_of octets, unit_fits octets unit) in
     let P : List Bool → Type 0 = λ l. Front (stuffed (reverse (bits_of octets))) l es in
     let Q : List Bool → Type 0 = λ l. Runs l None es in
     let R : List Bool → Type 0 = λ l. ends_flag l ≡ true in
@@ -184,7 +192,7 @@ unit_passes : (octets : List ℕ) (h : List Bool) (es : List LineEvent) → AreU
     → Runs (false ∷ full_flag (content_of_unit octets) h) None (es ++ events.Unit (record { items = octets }) ∷ [])
 unit_passes octets h es unit fit ends runs =
     closed_by (stuffed (reverse (bits_of octets))) h es (Correct octets) (events.Unit (record { items = octets }) ∷ []) (unit_front octets h es unit ends runs)
-        (record { unit = unit; octets_fit = fit; stuffing = refl }) (correct_gives octets).0 (correct_gives octets).1
+    (record { unit = unit; octets_fit = fit; stuffing = refl }) (correct_gives octets).0 (correct_gives octets).1
 
 nothing_front : (h : List Bool) (es : List LineEvent) → ends_flag h ≡ true → Runs h None es → Front [] h es
 unfolding has_six taken_out
@@ -287,10 +295,10 @@ whole_line bits given before after units runs ends are some is events =
     let h : List Bool = reverse bits in
     let opened : Runs (false ∷ full_flag [] h) None before = opening_passes h before ends runs in
     let all : Runs (reverse (framed units) ++ (false ∷ full_flag [] h)) None (before ++ unit_events units) =
-        (framed_passes units (false ∷ full_flag [] h) before are (flag_ends [] h) opened).0 in
+    (framed_passes units (false ∷ full_flag [] h) before are (flag_ends [] h) opened).0 in
     let history : reverse (bits ++ given) ≡ reverse (framed units) ++ (false ∷ full_flag [] h) =
-        reverse-append bits given ∙ ap (λ l. reverse l ++ h) (is ∙ line_is units some) ∙ ap (λ l. l ++ h) (reverse-append flag (framed units))
-        ∙ append_assoc (reverse (framed units)) (reverse flag) h ∙ ap (λ l. reverse (framed units) ++ l) (opening_history h) in
+    reverse-append bits given ∙ ap (λ l. reverse l ++ h) (is ∙ line_is units some) ∙ ap (λ l. l ++ h) (reverse-append flag (framed units))
+    ∙ append_assoc (reverse (framed units)) (reverse flag) h ∙ ap (λ l. reverse (framed units) ++ l) (opening_history h) in
     let P : List Bool → Type 0 = λ l. Runs l None (before ++ unit_events units) in
     (one_run (reverse (bits ++ given)) events.0 None after (before ++ unit_events units) events.1 (subst P (sym history) all)).1
 
@@ -309,16 +317,16 @@ part_line bits given rest before after units runs ends are some is missing few e
     let all : Runs (reverse (take k flag) ++ (c ++ g)) None es = partial c g es k (omega arith) (unit_front l.last g es l.unit firsts.1 firsts.0) in
     let x : List Bool = (flag ++ framed l.init) ++ reverse c in
     let line : given ++ rest ≡ x ++ flag =
-        is ∙ line_is units some ∙ ap (λ us. flag ++ framed us) l.same ∙ ap (λ d. flag ++ d) (framed-append l.init (l.last ∷ []) ∙ ap (λ d. framed l.init ++ d) (framed-one l.last))
-        ∙ sym (append_assoc flag (framed l.init) (reverse c ++ flag)) ∙ sym (append_assoc (flag ++ framed l.init) (reverse c) flag) in
+    is ∙ line_is units some ∙ ap (λ us. flag ++ framed us) l.same ∙ ap (λ d. flag ++ d) (framed-append l.init (l.last ∷ []) ∙ ap (λ d. framed l.init ++ d) (framed-one l.last))
+    ∙ sym (append_assoc flag (framed l.init) (reverse c ++ flag)) ∙ sym (append_assoc (flag ++ framed l.init) (reverse c) flag) in
     let front_is : given ≡ x ++ take k flag = suffix given rest x flag line (omega arith) in
     let history : reverse (bits ++ given) ≡ reverse (take k flag) ++ (c ++ g) =
-        reverse-append bits given ∙ ap (λ d. reverse d ++ h) front_is ∙ ap (λ d. d ++ h) (reverse-append x (take k flag)) ∙ append_assoc (reverse (take k flag)) (reverse x) h
-        ∙ ap (λ d. reverse (take k flag) ++ d)
-            (ap (λ d. d ++ h) (reverse-append (flag ++ framed l.init) (reverse c) ∙ ap (λ d. d ++ reverse (flag ++ framed l.init)) (reverse-reverse c))
-            ∙ append_assoc c (reverse (flag ++ framed l.init)) h
-            ∙ ap (λ d. c ++ d) (ap (λ d. d ++ h) (reverse-append flag (framed l.init)) ∙ append_assoc (reverse (framed l.init)) (reverse flag) h
-                ∙ ap (λ d. reverse (framed l.init) ++ d) (opening_history h))) in
+    reverse-append bits given ∙ ap (λ d. reverse d ++ h) front_is ∙ ap (λ d. d ++ h) (reverse-append x (take k flag)) ∙ append_assoc (reverse (take k flag)) (reverse x) h
+    ∙ ap (λ d. reverse (take k flag) ++ d)
+    (ap (λ d. d ++ h) (reverse-append (flag ++ framed l.init) (reverse c) ∙ ap (λ d. d ++ reverse (flag ++ framed l.init)) (reverse-reverse c))
+    ∙ append_assoc c (reverse (flag ++ framed l.init)) h
+    ∙ ap (λ d. c ++ d) (ap (λ d. d ++ h) (reverse-append flag (framed l.init)) ∙ append_assoc (reverse (framed l.init)) (reverse flag) h
+    ∙ ap (λ d. reverse (framed l.init) ++ d) (opening_history h))) in
     let P : List Bool → Type 0 = λ d. Runs d None es in
     (one_run (reverse (bits ++ given)) events.0 None after es events.1 (subst P (sym history) all)).1 ∙ ap (λ us. before ++ unit_events us) (sym l.less)
 

@@ -16,5 +16,4 @@ pub fn stands_have_events()
 /// put on the line behind it.
 pub fn passes_through()
     ensures { PassesThrough }
-{
-}
+{}
