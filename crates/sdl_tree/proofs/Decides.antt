@@ -1,6 +1,6 @@
 -- A reading that looks one token ahead decides a grammar: what it reads is in the grammar, all that is
 -- in the grammar it reads, and it has looked at no token behind the first one that it leaves.
-use Rattle.std.proofs.Common.{◌≡◌, ℕ, ◌+◌, ◌<◌, ◌≤◌, Bool, true, false, List, [], ◌∷◌, ◌++◌, Option, Some, None, length, refl, sym, ap, subst, ◌∙◌, append_assoc, arith, length-append, MatchBool}
+use Rattle.std.proofs.Common.{◌≡◌, Bool, true, false, List, [], ◌∷◌, ◌++◌, Option, Some, None, refl, sym, ap, ◌∙◌, append_assoc, MatchBool}
 use Rattle.sdl_lex.specs.declared.lexemes.Token.{Token}
 use Rattle.sdl_tree.specs.Tokens.{begins}
 use Rattle.sdl_tree.specs.Grammar as grammar

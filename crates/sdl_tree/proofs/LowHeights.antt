@@ -1,15 +1,15 @@
 -- What building no tree above one that is too high leaves of heights.
-use Rattle.std.proofs.Common.{◌≡◌, ℕ, suc, zero, ◌+◌, ◌<◌, ◌≤◌, max, Bool, true, false, List, [], ◌∷◌, Option, Some, None, map, refl, sym, ap, subst, ◌∙◌, arith}
+use Rattle.std.proofs.Common.{◌≡◌, ℕ, ◌+◌, ◌<◌, ◌≤◌, Bool, true, false, List, [], ◌∷◌, Option, Some, None, map, refl, sym, ap, subst, ◌∙◌, arith}
 use Rattle.std.specs.Prelude.{nat_lt, if◌then◌else◌}
 use borrow.Author.Tests.{ltb-true, ltb-false}
 use Rattle.sdl_tree.specs.declared.TheConstants.{MAX_HEIGHT}
 use Rattle.sdl_tree.specs.declared.expression.Identifier.{Identifier}
 use Rattle.sdl_tree.specs.declared.expression.UnaryOperator.{UnaryOperator}
 use Rattle.sdl_tree.specs.declared.expression.BinaryOperator.{BinaryOperator}
-use Rattle.sdl_tree.specs.Plain.{Tree, number, variable, unary, binary, PlainAssignment, Text, falls, ends, task, PlainInput, PlainClause, input, PlainState, PlainStart, PlainProcess, PlainEntity, signals, route, process, PlainBlock}
+use Rattle.sdl_tree.specs.Plain.{Tree, number, variable, unary, binary, PlainAssignment, Text, falls, ends, task, PlainInput, PlainClause, input, PlainState, PlainProcess, PlainEntity, signals, route, process, PlainBlock}
 use Rattle.sdl_tree.specs.Expressions.{placed}
-use Rattle.sdl_tree.specs.Machine.{low_unary, low_binary, lowered}
-use Rattle.sdl_tree.specs.Heights.{tree_height, highest, assignments_height, or_first, first_of, high_in_text, high_in_clause, high_in_state, high_in_process, high_in_entity, first_too_high}
+use Rattle.sdl_tree.specs.Machine.{lowered}
+use Rattle.sdl_tree.specs.Heights.{tree_height, assignments_height, or_first, first_of, high_in_text, high_in_clause, high_in_state, high_in_process, high_in_entity, first_too_high}
 use Rattle.sdl_tree.proofs.Lowering.{lowered_assignment, lowered_text, lowered_input, lowered_clause, lowered_start, lowered_part, lowered_process, lowered_entity, lowered_block}
 
 height-placed : (p : ℕ) (x : Tree) → tree_height (placed p x) ≡ tree_height x

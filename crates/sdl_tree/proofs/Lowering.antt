@@ -1,5 +1,5 @@
 -- Readings that build no tree above one that is too high give what is left of the whole tree.
-use Rattle.std.proofs.Common.{◌≡◌, ℕ, suc, zero, ◌+◌, ◌<◌, ◌≤◌, max, Bool, true, false, List, [], ◌∷◌, ◌++◌, Option, Some, None, length, map, refl, sym, ap, subst, ◌∙◌, arith}
+use Rattle.std.proofs.Common.{◌≡◌, ℕ, suc, zero, Bool, true, false, List, [], ◌∷◌, ◌++◌, Option, Some, None, length, map, refl, sym, ap, ◌∙◌}
 use Rattle.std.specs.Prelude.{nat_lt, nat_le, if◌then◌else◌}
 use Rattle.sdl_lex.specs.declared.TheConstants.{MAX_NUMBER}
 use Rattle.sdl_lex.specs.declared.lexemes.Token.{Token}
@@ -10,7 +10,6 @@ use Rattle.sdl_lex.specs.declared.lexemes.Symbol.{Symbol}
 use Rattle.sdl_lex.specs.declared.lexemes.Lexeme.{Lexeme}
 use Rattle.sdl_lex.specs.declared.lexemes.Lexeme.TheVariants as lexemes
 use Rattle.sdl_tree.specs.Tokens.{begins, a_symbol, a_word, a_name, a_declared}
-use Rattle.sdl_tree.specs.declared.expression.UnaryOperator.TheVariants.{Negate}
 use Rattle.sdl_tree.specs.declared.expression.BinaryOperator.{BinaryOperator}
 use Rattle.sdl_tree.specs.declared.expression.BinaryOperator.TheVariants.{Add, Subtract, Multiply}
 use Rattle.sdl_tree.specs.declared.TheConstants.{MAX_HEIGHT}
@@ -21,7 +20,7 @@ use Rattle.sdl_tree.specs.Productions.{PlainTask, tasks_text, assignment_at, ass
 use Rattle.sdl_tree.specs.Expressions.{Sign, leaf, plus, minus, star, opens, closes, other, sign, symbol_sign, lexeme_sign, place_of, placed}
 use Rattle.sdl_tree.specs.Heights.{tree_height}
 use Rattle.sdl_tree.specs.Readings.{Reading, read, fails, At, then_read, either, choice, optional, many_for, many, give, token, ◌>>=◌, separated, behind_comma}
-use Rattle.sdl_tree.specs.Machine.{Build, whole_trees, low_trees, low_unary, low_binary, lowered, Frame, empty_frame, factor_of, product_of, sum_of, closed_product, closed, with_sum, with_product, with_minus, State, wants, has, Turn, goes, done, stuck, minus_turn, want_turn, close_turn, end_turn, have_turn, turn, after_turn, run, expression_at}
+use Rattle.sdl_tree.specs.Machine.{whole_trees, low_trees, low_binary, lowered, Frame, empty_frame, factor_of, product_of, sum_of, closed_product, closed, State, wants, has, Turn, goes, done, stuck, minus_turn, want_turn, close_turn, end_turn, have_turn, turn, after_turn, run, expression_at}
 
 -- the machine
 

@@ -1,12 +1,12 @@
 -- The machine on expressions decides their grammar.
-use Rattle.std.proofs.Common.{◌≡◌, ℕ, suc, zero, ◌+◌, ◌<◌, ◌≤◌, Bool, true, false, List, [], ◌∷◌, ◌++◌, Option, Some, None, length, refl, sym, ap, subst, ◌∙◌}
+use Rattle.std.proofs.Common.{◌≡◌, ℕ, false, List, [], ◌∷◌, ◌++◌, Option, Some, None, refl, sym, ap, subst, ◌∙◌}
 use Rattle.sdl_lex.specs.declared.lexemes.Token.{Token}
 use Rattle.sdl_tree.specs.declared.expression.UnaryOperator.TheVariants.{Negate}
 use Rattle.sdl_tree.specs.declared.expression.BinaryOperator.{BinaryOperator}
 use Rattle.sdl_tree.specs.declared.expression.BinaryOperator.TheVariants.{Add, Subtract, Multiply}
-use Rattle.sdl_tree.specs.Plain.{Tree, number, variable, unary, binary}
+use Rattle.sdl_tree.specs.Plain.{Tree, unary, binary}
 use Rattle.sdl_tree.specs.Expressions.{Sign, leaf, plus, minus, star, opens, closes, other, sign, place_of, placed, Sum, one_product, added, subtracted, Product, one_factor, multiplied, Factor, bare, negated, Primary, operand, in_parentheses, is_operator, goes_on, Expressed, expression_syntax}
-use Rattle.sdl_tree.specs.Readings.{Reading, read, fails, At}
+use Rattle.sdl_tree.specs.Readings.{Reading, read, fails}
 use Rattle.sdl_tree.specs.Machine.{Build, whole_trees, Frame, empty_frame, factor_of, product_of, sum_of, closed_product, closed, with_sum, with_product, with_minus, State, wants, has, Turn, goes, done, stuck, minus_turn, want_turn, close_turn, end_turn, have_turn, turn, after_turn, run, expression_at}
 use Rattle.sdl_tree.proofs.Decides.{first, rest_of, with_rest, Seen, Decides}
 

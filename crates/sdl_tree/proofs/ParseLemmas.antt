@@ -1,19 +1,18 @@
 -- From the reading of a text to what reads.
-use Rattle.std.proofs.Common.{◌≡◌, ℕ, suc, zero, ◌+◌, ◌-◌, ◌<◌, ◌≤◌, List, [], ◌∷◌, ◌++◌, Option, Some, None, length, take, refl, sym, ap, subst, ◌∙◌, arith, add-one, length-append, Result, Ok, Err}
+use Rattle.std.proofs.Common.{◌≡◌, ℕ, suc, ◌+◌, ◌-◌, List, [], ◌∷◌, ◌++◌, Some, None, length, take, refl, sym, ap, subst, ◌∙◌, arith, length-append, Result, Ok, Err}
 use Rattle.sdl_lex.specs.declared.lexemes.Token.{Token}
 use Rattle.sdl_tree.specs.declared.fault.ParseFault.{ParseFault}
 use Rattle.sdl_tree.specs.declared.fault.ParseFault.TheVariants.{Unexpected, TooDeep, NoMemory}
 use Rattle.sdl_tree.specs.declared.tree.Block.{Block}
-use Rattle.sdl_tree.specs.declared.TheConstants.{MAX_HEIGHT}
 use Rattle.sdl_tree.specs.Plain.{PlainBlock}
 use Rattle.sdl_tree.specs.Views.{block_of}
-use Rattle.sdl_tree.specs.Syntax.{block_syntax, Reads}
-use Rattle.sdl_tree.specs.Heights.{Height, first_too_high, NoneAgrees, Refuses, Answers}
+use Rattle.sdl_tree.specs.Syntax.{Reads}
+use Rattle.sdl_tree.specs.Heights.{first_too_high, NoneAgrees, Refuses, Answers}
 use Rattle.sdl_tree.specs.Readings.{Reading, read, fails}
-use Rattle.sdl_tree.specs.Machine.{whole_trees, low_trees, expression_at}
+use Rattle.sdl_tree.specs.Machine.{whole_trees, expression_at}
 use Rattle.sdl_tree.specs.Productions.{block_at}
 use Rattle.sdl_tree.specs.Settled.{stops_at, low_block, Settled}
-use Rattle.sdl_tree.proofs.Decides.{first, rest_of, with_rest, Seen, Decides}
+use Rattle.sdl_tree.proofs.Decides.{first, rest_of, with_rest}
 use Rattle.sdl_tree.proofs.SyntaxDecides.{block_decides}
 use Rattle.sdl_tree.proofs.Lowering.{mapped, Lowers, lowered_block, block_lowers}
 use Rattle.sdl_tree.proofs.HeightLemmas.{low_where_none, high_where_some}

@@ -1,9 +1,9 @@
 -- What the loops over rows keep.
-use Rattle.std.proofs.Common.{◌≡◌, ℕ, ◌<◌, ◌≤◌, Bool, true, false, List, [], ◌∷◌, ◌++◌, Option, length, map, refl, sym, ap, subst, ◌∙◌, append_assoc, append-nil, arith, MatchBool}
+use Rattle.std.proofs.Common.{◌≡◌, ℕ, ◌<◌, ◌≤◌, true, false, List, [], ◌∷◌, ◌++◌, Option, length, map, refl, sym, ap, ◌∙◌, append_assoc, append-nil, arith}
 use Rattle.sdl_lex.specs.declared.lexemes.Token.{Token}
 use Rattle.sdl_lex.specs.declared.lexemes.Symbol.TheVariants.{Comma}
 use Rattle.sdl_tree.specs.Tokens.{begins, a_symbol}
-use Rattle.sdl_tree.specs.Readings.{Reading, read, fails, At, then_read, stands_for, many, token, give, prepend, Shortens, NeverLonger, behind_comma, separated_from}
+use Rattle.sdl_tree.specs.Readings.{Reading, read, fails, At, then_read, many, token, give, prepend, Shortens, NeverLonger, behind_comma, separated_from}
 use Rattle.sdl_tree.specs.Mirrors.{Stops}
 use Rattle.sdl_tree.specs.declared.stop.Stop.{Stop}
 use Rattle.sdl_tree.specs.declared.stop.Stop.TheVariants.{Unexpected, NoMemory}

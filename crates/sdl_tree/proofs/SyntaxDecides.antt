@@ -1,18 +1,15 @@
 -- Each production is decided by its reading.
-use Rattle.std.specs.Prelude.{◌≡◌, ℕ, List, [], ◌∷◌, ◌++◌, Option, Some, None, pos, ◌-ℤ◌}
-use Rattle.sdl_lex.specs.declared.lexemes.Token.{Token}
+use Rattle.std.specs.Prelude.{ℕ, List, [], ◌∷◌, ◌++◌, pos, ◌-ℤ◌}
 use Rattle.sdl_lex.specs.declared.lexemes.Word.TheVariants as words
 use Rattle.sdl_lex.specs.declared.lexemes.Symbol.TheVariants.{Semicolon, Comma, Assign, Open, Close, Minus}
-use Rattle.sdl_tree.specs.declared.expression.Identifier.{Identifier}
 use Rattle.sdl_tree.specs.declared.tree.Literal.TheVariants as literals
 use Rattle.sdl_tree.specs.declared.tree.End.TheVariants.{NextState}
-use Rattle.sdl_tree.specs.Plain.{Tree, Text, signals, route, process, input, variables}
-use Rattle.sdl_tree.specs.Tokens.{begins, a_word, a_symbol, a_number, a_name, a_sort, a_party, environment, a_constant, a_one, a_closing, a_declared}
-use Rattle.sdl_tree.specs.Grammar as grammar
-use Rattle.sdl_tree.specs.Readings.{At, Shortens, NeverLonger}
+use Rattle.sdl_tree.specs.Plain.{Tree, signals, route, process, input, variables}
+use Rattle.sdl_tree.specs.Tokens.{a_word, a_symbol, a_number, a_name, a_sort, a_party, environment, a_constant, a_one, a_closing, a_declared}
+use Rattle.sdl_tree.specs.Readings.{At, NeverLonger}
 use Rattle.sdl_tree.specs.Machine.{whole_trees, expression_at}
 use Rattle.sdl_tree.specs.Syntax.{names_syntax, signal_syntax, signals_syntax, path_syntax, route_syntax, negative_syntax, constant_syntax, initial_syntax, group_syntax, declaration_syntax, place_syntax, stimulus_syntax, assignment_syntax, assignments_syntax, end_syntax, input_syntax, clause_syntax, closing_syntax, end_state_syntax, state_syntax, start_syntax, second_number_syntax, instances_syntax, one_state_syntax, process_head_syntax, process_syntax, declared_syntax, block_syntax, text_syntax}
-use Rattle.sdl_tree.specs.Productions.{PlainTask, tasks_text, names_at, signal_at, signals_at, path_at, route_at, negative_at, constant_at, initial_at, group_at, declaration_at, place_at, stimulus_at, assignment_at, assignments_at, end_at, task_at, text_at, input_at, clause_at, closing_at, end_state_at, state_at, start_at, second_number_at, instances_at, one_state_at, process_head_at, process_at, declared_at, block_at}
+use Rattle.sdl_tree.specs.Productions.{tasks_text, names_at, signal_at, signals_at, path_at, route_at, negative_at, constant_at, initial_at, group_at, declaration_at, place_at, stimulus_at, assignment_at, assignments_at, end_at, task_at, text_at, input_at, clause_at, closing_at, end_state_at, state_at, start_at, second_number_at, instances_at, one_state_at, process_head_at, process_at, declared_at, block_at}
 use Rattle.sdl_tree.specs.Lengths.{expression_keeps, declaration_takes, declared_takes, clause_takes, task_takes}
 use Rattle.sdl_tree.proofs.Decides.{Decides, give_decides, token_decides, choice_decides, optional_decides, ◌>>=◌}
 use Rattle.sdl_tree.proofs.Rows.{many_decides, separated_decides, list_decides}

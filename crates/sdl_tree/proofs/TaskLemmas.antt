@@ -1,10 +1,10 @@
 -- A transition's text from its tasks.
-use Rattle.std.proofs.Common.{◌≡◌, ℕ, List, [], ◌∷◌, map, Option, refl, ap}
+use Rattle.std.proofs.Common.{◌≡◌, List, [], ◌∷◌, map, Option, refl, ap}
 use Rattle.sdl_tree.specs.declared.tree.Action.{Action}
 use Rattle.sdl_tree.specs.declared.tree.Action.TheVariants.{Task}
 use Rattle.sdl_tree.specs.declared.tree.End.{End}
 use Rattle.sdl_tree.specs.Plain.{task}
-use Rattle.sdl_tree.specs.Productions.{PlainTask, tasks_text}
+use Rattle.sdl_tree.specs.Productions.{tasks_text}
 use Rattle.sdl_tree.specs.Tasks.{task_of}
 use Rattle.sdl_tree.specs.Views.{assignment_of, end_text, actions_text}
 

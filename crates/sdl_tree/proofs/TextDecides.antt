@@ -1,15 +1,15 @@
 -- A transition's grammar, one action after another, as a row of tasks with an end.
-use Rattle.std.proofs.Common.{◌≡◌, ℕ, Bool, true, false, List, [], ◌∷◌, Option, Some, None, refl, sym, ap, subst, ◌∙◌, MatchBool}
+use Rattle.std.proofs.Common.{◌≡◌, ℕ, Bool, true, false, List, [], ◌∷◌, Option, Some, None, refl, sym, ap, subst, MatchBool}
 use Rattle.std.specs.Prelude.{is_some}
 use Rattle.sdl_lex.specs.declared.lexemes.Token.{Token}
 use Rattle.sdl_lex.specs.declared.lexemes.Word.TheVariants as words
 use Rattle.sdl_tree.specs.declared.tree.End.{End}
-use Rattle.sdl_tree.specs.Plain.{Text, falls, ends, task, PlainAssignment}
+use Rattle.sdl_tree.specs.Plain.{Text, falls, ends, task}
 use Rattle.sdl_tree.specs.Views.{end_text}
 use Rattle.sdl_tree.specs.Tokens.{begins, a_word}
-use Rattle.sdl_tree.specs.Grammar.{Grammar, Gives, Takes, Then, Many, no_more, one_more, give, token, ◌>>=◌, many, optional}
+use Rattle.sdl_tree.specs.Grammar.{Grammar, Gives, Then, Many, no_more, one_more, give, token, ◌>>=◌, many, optional}
 use Rattle.sdl_tree.specs.Syntax.{assignments_syntax, end_syntax, TextReads, runs_off, ends_there, does_task, text_syntax}
-use Rattle.sdl_tree.specs.Readings.{At, read}
+use Rattle.sdl_tree.specs.Readings.{At}
 use Rattle.sdl_tree.specs.Productions.{PlainTask, tasks_text}
 use Rattle.sdl_tree.proofs.Decides.{Decides}
 

@@ -1,5 +1,5 @@
 -- Expressions (Z.100, expressions): which tokens read as which tree.
-use Rattle.std.specs.Prelude.{◌≡◌, ◌≢◌, ℕ, Bool, true, false, List, [], ◌∷◌, Option, Some, None, nat_le, if◌then◌else◌}
+use Rattle.std.specs.Prelude.{◌≡◌, ℕ, Bool, true, false, List, [], ◌∷◌, nat_le, if◌then◌else◌}
 use Rattle.sdl_lex.specs.declared.TheConstants.{MAX_NUMBER}
 use Rattle.sdl_lex.specs.declared.lexemes.Token.{Token}
 use Rattle.sdl_lex.specs.declared.lexemes.Lexeme.{Lexeme}

@@ -1,11 +1,11 @@
 -- How high a tree is, and what keeps tokens from having one.
-use Rattle.std.specs.Prelude.{◌≡◌, ℕ, ◌+◌, ◌<◌, ◌≤◌, max, nat_lt, List, [], ◌∷◌, ◌++◌, Option, Some, None, length, take, if◌then◌else◌, Result, Ok, Err}
+use Rattle.std.specs.Prelude.{◌≡◌, ℕ, ◌+◌, ◌<◌, ◌≤◌, max, nat_lt, List, [], ◌∷◌, Option, Some, None, length, take, if◌then◌else◌, Result, Ok, Err}
 use Rattle.sdl_lex.specs.declared.lexemes.Token.{Token}
 use Rattle.sdl_tree.specs.declared.fault.ParseFault.{ParseFault}
 use Rattle.sdl_tree.specs.declared.fault.ParseFault.TheVariants.{Unexpected, TooDeep, NoMemory}
 use Rattle.sdl_tree.specs.declared.tree.Block.{Block}
 use Rattle.sdl_tree.specs.declared.TheConstants.{MAX_HEIGHT}
-use Rattle.sdl_tree.specs.Plain.{Tree, number, variable, unary, binary, PlainAssignment, Text, falls, ends, task, PlainInput, PlainClause, input, PlainState, PlainProcess, PlainEntity, signals, route, process, PlainBlock}
+use Rattle.sdl_tree.specs.Plain.{Tree, number, variable, unary, binary, PlainAssignment, Text, falls, ends, task, PlainClause, input, PlainState, PlainProcess, PlainEntity, signals, route, process, PlainBlock}
 use Rattle.sdl_tree.specs.Syntax.{Reads}
 use Rattle.sdl_tree.specs.Views.{block_of}
 

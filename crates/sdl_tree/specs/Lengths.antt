@@ -1,13 +1,13 @@
 -- No reading gives more tokens back than it got.
 use Rattle.std.specs.Prelude.{◌≡◌, ℕ, suc, zero, ◌<◌, ◌≤◌, Bool, true, false, List, [], ◌∷◌, Option, Some, None, length, refl}
-use Rattle.std.proofs.Common.{sym, ap, subst, ◌∙◌}
+use Rattle.std.proofs.Common.{sym, ap, subst}
 use Rattle.std.proofs.Math.Nat.{le_refl, le_trans, le_of_lt, lt_of_le_of_lt, lt-suc_self}
 use Rattle.sdl_lex.specs.declared.lexemes.Token.{Token}
 use Rattle.sdl_lex.specs.declared.lexemes.Word.TheVariants as words
 use Rattle.sdl_lex.specs.declared.lexemes.Symbol.TheVariants.{Semicolon, Comma, Assign, Open, Close, Minus}
 use Rattle.sdl_tree.specs.Plain.{Tree}
-use Rattle.sdl_tree.specs.Tokens.{begins, a_word, a_symbol, a_number, a_name, a_sort, a_party, environment, a_constant, a_declared}
-use Rattle.sdl_tree.specs.Expressions.{Sign, other, sign}
+use Rattle.sdl_tree.specs.Tokens.{begins, a_word, a_symbol, a_number, a_name, a_sort, a_party, environment, a_constant}
+use Rattle.sdl_tree.specs.Expressions.{other, sign}
 use Rattle.sdl_tree.specs.Machine.{Build, low_trees, State, wants, Turn, goes, done, stuck, turn, after_turn, run, empty_frame, expression_at}
 use Rattle.sdl_tree.specs.Readings.{Reading, read, fails, At, then_read, stands_for, either, many_for, many, choice, optional, give, token, separated, list_in_parentheses, Shortens, NeverLonger}
 use Rattle.sdl_tree.specs.Readings as reading

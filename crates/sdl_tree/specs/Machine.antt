@@ -1,6 +1,6 @@
 -- Expressions token by token, on a stack: each open parenthesis keeps what stands before it, with a
 -- place for each level of precedence.
-use Rattle.std.specs.Prelude.{◌≡◌, ℕ, Bool, true, false, List, [], ◌∷◌, Option, Some, None, nat_lt, if◌then◌else◌}
+use Rattle.std.specs.Prelude.{ℕ, List, [], ◌∷◌, Option, Some, None, nat_lt, if◌then◌else◌}
 use Rattle.sdl_lex.specs.declared.lexemes.Token.{Token}
 use Rattle.sdl_tree.specs.declared.expression.UnaryOperator.{UnaryOperator}
 use Rattle.sdl_tree.specs.declared.expression.UnaryOperator.TheVariants.{Negate}

@@ -1,5 +1,5 @@
 -- What the code's stack of operands stands for.
-use Rattle.std.specs.Prelude.{ℕ, Option, None, Some, List, [], ◌∷◌, map, reverse}
+use Rattle.std.specs.Prelude.{Option, None, Some}
 use Rattle.sdl_tree.specs.declared.expression.BinaryOperator.{BinaryOperator}
 use Rattle.sdl_tree.specs.declared.part.Part.{Part}
 use Rattle.sdl_tree.specs.Plain.{Tree}

@@ -1,18 +1,15 @@
 -- The productions read token by token, in one step each. `e` reads an expression.
-use Rattle.std.specs.Prelude.{◌≡◌, ℕ, Bool, true, false, List, [], ◌∷◌, ◌++◌, Option, Some, None, pos, ◌-ℤ◌, MatchBool}
-use Rattle.sdl_lex.specs.declared.lexemes.Token.{Token}
+use Rattle.std.specs.Prelude.{ℕ, List, [], ◌∷◌, ◌++◌, Option, pos, ◌-ℤ◌}
 use Rattle.sdl_lex.specs.declared.lexemes.Word.TheVariants as words
 use Rattle.sdl_lex.specs.declared.lexemes.Symbol.TheVariants.{Semicolon, Comma, Assign, Open, Close, Minus}
 use Rattle.sdl_tree.specs.declared.expression.Identifier.{Identifier}
-use Rattle.sdl_tree.specs.declared.tree.Sort.{Sort}
 use Rattle.sdl_tree.specs.declared.tree.Constant.{Constant}
 use Rattle.sdl_tree.specs.declared.tree.Literal.TheVariants as literals
-use Rattle.sdl_tree.specs.declared.tree.NextState as the_next_state
 use Rattle.sdl_tree.specs.declared.tree.End.{End}
 use Rattle.sdl_tree.specs.declared.tree.End.TheVariants.{NextState}
-use Rattle.sdl_tree.specs.Plain.{Tree, PlainAssignment, Text, falls, ends, task, PlainStimulus, PlainInput, PlainClause, input, PlainState, PlainStart, PlainGroup, PlainDeclaration, variables, PlainProcess, PlainPath, PlainRoute, PlainSignal, PlainEntity, signals, route, process, PlainBlock}
+use Rattle.sdl_tree.specs.Plain.{Tree, PlainAssignment, Text, task, PlainStimulus, PlainInput, PlainClause, input, PlainState, PlainStart, PlainGroup, PlainDeclaration, variables, PlainProcess, PlainPath, PlainSignal, PlainEntity, signals, route, process, PlainBlock}
 use Rattle.sdl_tree.specs.Views.{end_text}
-use Rattle.sdl_tree.specs.Tokens.{begins, a_word, a_symbol, a_number, a_name, a_sort, a_party, environment, a_constant, a_one, a_closing, a_declared}
+use Rattle.sdl_tree.specs.Tokens.{a_word, a_symbol, a_number, a_name, a_sort, a_party, environment, a_constant, a_one, a_closing, a_declared}
 use Rattle.sdl_tree.specs.Readings.{At, give, token, ◌>>=◌, many, choice, optional, separated, list_in_parentheses}
 
 -- a TASK

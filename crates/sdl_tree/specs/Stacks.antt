@@ -1,5 +1,5 @@
 -- What the code's stack of operands stands for.
-use Rattle.std.specs.Prelude.{◌≡◌, ◌<◌, ℕ, Option, None, Some, List, [], ◌∷◌, map, reverse, length}
+use Rattle.std.specs.Prelude.{◌≡◌, ◌<◌, Option, None, Some, List, [], ◌∷◌, map, reverse, length}
 use Rattle.sdl_lex.specs.declared.lexemes.Token.{Token}
 use Rattle.sdl_tree.specs.declared.operands.Sign as the_sign
 use Rattle.sdl_tree.specs.declared.operands.Sign.TheVariants as signs
@@ -8,7 +8,7 @@ use Rattle.sdl_tree.specs.declared.operands.State as the_state
 use Rattle.sdl_tree.specs.declared.operands.Turn as the_turn
 use Rattle.sdl_tree.specs.declared.operands.Turn.TheVariants as turns
 use Rattle.sdl_tree.specs.declared.part.Part.{Part}
-use Rattle.sdl_tree.specs.Plain.{Tree, number, variable}
+use Rattle.sdl_tree.specs.Plain.{number, variable}
 use Rattle.sdl_tree.specs.Expressions.{Sign, leaf, plus, minus, star, opens, closes, other, sign}
 use Rattle.std.specs.Prelude.{Result, Ok, Err}
 use Rattle.sdl_tree.specs.declared.operands.Step as the_step

@@ -1,16 +1,14 @@
 -- The concrete syntax of process texts (Z.100, concrete textual grammar): which tokens read as which tree.
-use Rattle.std.specs.Prelude.{◌≡◌, ℕ, Bool, true, false, List, [], ◌∷◌, ◌++◌, Option, Some, None, pos, ◌-ℤ◌, MatchBool}
+use Rattle.std.specs.Prelude.{◌≡◌, ℕ, true, false, List, [], ◌∷◌, ◌++◌, Option, Some, pos, ◌-ℤ◌}
 use Rattle.sdl_lex.specs.declared.lexemes.Token.{Token}
 use Rattle.sdl_lex.specs.declared.lexemes.Word.TheVariants as words
 use Rattle.sdl_lex.specs.declared.lexemes.Symbol.TheVariants.{Semicolon, Comma, Assign, Open, Close, Minus}
 use Rattle.sdl_tree.specs.declared.expression.Identifier.{Identifier}
-use Rattle.sdl_tree.specs.declared.tree.Sort.{Sort}
 use Rattle.sdl_tree.specs.declared.tree.Constant.{Constant}
 use Rattle.sdl_tree.specs.declared.tree.Literal.TheVariants as literals
-use Rattle.sdl_tree.specs.declared.tree.NextState as the_next_state
 use Rattle.sdl_tree.specs.declared.tree.End.{End}
 use Rattle.sdl_tree.specs.declared.tree.End.TheVariants.{NextState}
-use Rattle.sdl_tree.specs.Plain.{Tree, PlainAssignment, Text, falls, ends, task, PlainStimulus, PlainInput, PlainClause, input, PlainState, PlainStart, PlainGroup, PlainDeclaration, variables, PlainProcess, PlainPath, PlainRoute, PlainSignal, PlainEntity, signals, route, process, PlainBlock}
+use Rattle.sdl_tree.specs.Plain.{PlainAssignment, Text, falls, ends, task, PlainStimulus, PlainInput, PlainClause, input, PlainState, PlainStart, PlainGroup, PlainDeclaration, variables, PlainProcess, PlainPath, PlainSignal, PlainEntity, signals, route, process, PlainBlock}
 use Rattle.sdl_tree.specs.Tokens.{begins, a_word, a_symbol, a_number, a_name, a_sort, a_party, environment, a_constant, a_one, a_closing, a_declared}
 use Rattle.sdl_tree.specs.Grammar.{Grammar, give, token, ◌>>=◌, many, choice, optional, separated, list_in_parentheses}
 use Rattle.sdl_tree.specs.Expressions.{expression_syntax}

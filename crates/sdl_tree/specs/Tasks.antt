@@ -1,5 +1,5 @@
 -- An action as a task of the plain tree.
-use Rattle.std.specs.Prelude.{ℕ, List, [], ◌∷◌, map}
+use Rattle.std.specs.Prelude.{map}
 use Rattle.sdl_tree.specs.declared.tree.Action.{Action}
 use Rattle.sdl_tree.specs.declared.tree.Action.TheVariants.{Task}
 use Rattle.sdl_tree.specs.Productions.{PlainTask}

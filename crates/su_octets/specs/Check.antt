@@ -1,4 +1,4 @@
--- The check bits of a signal unit (Q.703, 2.2.7).
+-- The check bits of a signal unit (Q.703, 4.2).
 use Rattle.std.specs.Prelude.{◌≡◌, ℕ, Bool, true, false, not, List, ◌++◌, map, reverse, length, replicate}
 use Rattle.su_octets.specs.Bits.{bits_of, AreOctets}
 use Rattle.su_octets.specs.Polynomial.{plus, IsRemainder}

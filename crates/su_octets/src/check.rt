@@ -43,7 +43,7 @@ fn register_of(content: &[u8]) -> u16
     register
 }
 
-/// The two check octets of the content, which are sent behind it (Q.703, 2.2.7).
+/// The two check octets of the content, which are sent behind it (Q.703, 4.2).
 pub fn check_bits(content: &[u8]) -> [u8; 2]
     ensures { Check content.now result }
 {

@@ -105,7 +105,7 @@ fn unit_of(head: Head, body: &[u8]) -> Unit
 ///
 /// - `TooShort` where there are fewer than 5 octets.
 /// - `TooLong` where there are more than 278.
-/// - `BadCheck` where the last two octets aren't the check octets of the others (Q.703, 2.2.7).
+/// - `BadCheck` where the last two octets aren't the check octets of the others (Q.703, 4.2).
 /// - `BadLength` where the length indicator is wrong (Q.703, 2.3.3).
 pub fn decode(octets: &[u8]) -> Result<Unit, UnitFault>
     ensures found { (unit : Unit) → (result ≡ Ok unit) ↔ Frame octets.now unit }

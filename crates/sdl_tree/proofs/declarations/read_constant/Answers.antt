@@ -1,4 +1,4 @@
-use Rattle.std.proofs.Common.{◌≡◌, Bool, false, sym, ◌∙◌}
+use Rattle.std.proofs.Common.{◌≡◌, false, sym, ◌∙◌}
 use Rattle.sdl_lex.specs.declared.lexemes.Symbol.TheVariants.{Minus}
 use Rattle.sdl_tree.specs.Tokens.{begins, a_symbol}
 use Rattle.sdl_tree.specs.Productions.{constant_at}

@@ -1,4 +1,4 @@
-use Rattle.std.proofs.Common.{◌≡◌, sym, ◌∙◌}
+use Rattle.std.proofs.Common.{sym, ◌∙◌}
 use Rattle.std.proofs.lemmas.Result.{err_from_is_err_and}
 use Rattle.sdl_lex.specs.declared.lexemes.Symbol.TheVariants.{Comma}
 use Rattle.sdl_tree.specs.Tokens.{a_symbol}

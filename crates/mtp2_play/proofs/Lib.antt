@@ -1,0 +1,2 @@
+pub mod LineCounts
+pub mod Readings

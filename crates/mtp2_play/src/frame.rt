@@ -1,0 +1,81 @@
+//! The command `frame`: one signal unit, read from hexadecimal digits.
+ghost use Rattle.std.specs.Prelude.{◌≡◌, ◌⊎◌, ◌≤◌, ◌*◌, ◌+◌, ◌^◌, ◌<◌, ℕ, List, length, Ok, Err, IfOk, IfErr, OnErr};
+ghost use Rattle.hex.specs.Hex.{decode_of};
+ghost use Rattle.mtp2_play.specs.Reading.{Spells, IsReading, IsRefused};
+ghost use Rattle.su_octets.specs.declared.units.Unit.{Unit};
+
+use crate::line_bits::line_bits;
+use crate::lines::{FAILED, HELD, REFUSED, write_line};
+use hex::FromHexError;
+use std::alloc::{AllocError, Global};
+use std::io::{self, Write};
+use su_octets::{Unit, UnitFault};
+use thiserror::Error;
+
+/// Why a word is no signal unit.
+#[derive(Clone, Copy, Debug, Drop, Error, PartialEq, Eq)]
+pub enum FrameFault {
+    /// The word isn't an even number of hexadecimal digits.
+    #[error("H1 NotHex")]
+    NotHex,
+    /// The octets are no signal unit, and why.
+    #[error("{0}")]
+    Unit(UnitFault),
+}
+
+/// A unit with the number of its bits on the line.
+#[derive(Drop)]
+struct Reading {
+    unit: Unit,
+    line_bits: usize,
+}
+
+/// Prints the fields of the unit whose octets, check octets included, the word spells in hexadecimal
+/// digits, and then the number of its bits on the line, between the flags. The spare bits count as they are.
+///
+/// Gives the exit status: 0, or 2 after a line `refused CODE Name` (H1 NotHex, then U1 TooShort,
+/// U2 TooLong, U3 BadCheck, U4 BadLength), or 4 where memory or a write fails.
+pub fn frame<W: Write>(alloc: Global, word: &str, writer: &mut W) -> u8
+    ensures held { result ≡ 0 → (unit : Unit) × Spells word.now unit }
+    ensures refused { result ≡ 2 → (unit : Unit) → Spells word.now unit → ⊥ }
+    ensures status { (result ≡ 0) ⊎ (result ≡ 2) ⊎ (result ≡ 4) }
+{
+    match read(alloc, word) {
+        Ok(Ok(reading)) => match write_reading(alloc, writer, &reading) {
+            Ok(()) => HELD,
+            Err(_) => FAILED,
+        },
+        Ok(Err(fault)) => match write_line(alloc, writer, &format_args!("refused {fault}")) {
+            Ok(()) => REFUSED,
+            Err(_) => FAILED,
+        },
+        Err(_) => FAILED,
+    }
+}
+
+/// The unit's fields on a line, and its bits on another.
+fn write_reading<W: Write>(alloc: Global, writer: &mut W, reading: &Reading) -> io::Result<()> {
+    write_line(alloc, writer, &reading.unit)?;
+    let line_bits = reading.line_bits;
+    write_line(alloc, writer, &format_args!("bits {line_bits}"))
+}
+
+/// The unit that the word spells, or why it spells none.
+fn read(alloc: Global, word: &str) -> Result<Result<Reading, FrameFault>, AllocError>
+    ensures unit { IfOk result (λ r. IfOk r (λ reading. IsReading word.now reading.unit reading.line_bits)) }
+    ensures fault { IfOk result (λ r. IfErr r (λ fault. IsRefused word.now fault)) }
+    ensures none { IfOk result (λ r. OnErr r ((unit : Unit) → Spells word.now unit → ⊥)) }
+{
+    let octets = match hex::decode(alloc, word) {
+        Ok(octets) => octets,
+        Err(FromHexError::OutOfMemory) => return Err(AllocError),
+        Err(_) => return Ok(Err(FrameFault::NotHex)),
+    };
+    match su_octets::decode(octets.as_slice()) {
+        Ok(unit) => {
+            let line_bits = line_bits(octets.as_slice());
+            Ok(Ok(Reading { unit, line_bits }))
+        }
+        Err(fault) => Ok(Err(FrameFault::Unit(fault))),
+    }
+}

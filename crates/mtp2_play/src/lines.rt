@@ -1,0 +1,22 @@
+//! Exit statuses, and lines as they are written.
+use std::alloc::Global;
+use std::fmt::Display;
+use std::io::{self, Write};
+
+/// The exit status of a command that did what it was asked.
+pub const HELD: u8 = 0;
+
+/// The exit status where a text, a script or octets were refused.
+pub const REFUSED: u8 = 2;
+
+/// The exit status where the command line is none that the program has.
+pub const USAGE: u8 = 3;
+
+/// The exit status where memory, a file, a read or a write failed.
+pub const FAILED: u8 = 4;
+
+/// Writes one line, whole, in one call of the writer as far as that takes it.
+pub fn write_line<W: Write>(alloc: Global, writer: &mut W, line: &impl Display) -> io::Result<()> {
+    let text = format!(in alloc; "{line}\n")?;
+    writer.write_all(text.as_bytes())
+}

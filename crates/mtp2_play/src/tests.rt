@@ -1,0 +1,120 @@
+use crate::{frame, words};
+use std::alloc::Global;
+use std::io::{self, Write};
+use std::test::Fail;
+
+/// A writer that keeps what it is given, and fails after so many calls.
+#[derive(Drop)]
+struct Paper {
+    text: Vec<u8>,
+    calls_left: u32,
+}
+
+impl Write for Paper {
+    fn write(&mut self, octets: &[u8]) -> io::Result<usize> {
+        if self.calls_left == 0 {
+            return Err(io::Error::from(io::ErrorKind::Other));
+        }
+        self.calls_left -= 1;
+        self.text.extend_from_slice(octets)?;
+        Ok(octets.len())
+    }
+
+    fn flush(&mut self) -> io::Result<()> {
+        Ok(())
+    }
+}
+
+/// What `frame` prints for a word, and its exit status.
+fn printed(alloc: Global, word: &str, calls: u32) -> (Vec<u8>, u8) {
+    let mut paper = Paper {
+        text: Vec::new(alloc),
+        calls_left: calls,
+    };
+    let status = frame(alloc, word, &mut paper);
+    let Paper { text, .. } = paper;
+    (text, status)
+}
+
+/// Words, with what is printed for them and the exit status.
+const WORDS: [(&str, &[u8], u8); 9] = [
+    (
+        "FFFF00FFFF",
+        b"FISU bsn 127 bib 1 fsn 127 fib 1\nbits 46\n",
+        0,
+    ),
+    (
+        "ffff00ffff",
+        b"FISU bsn 127 bib 1 fsn 127 fib 1\nbits 46\n",
+        0,
+    ),
+    (
+        "FFFF0103BCD4",
+        b"LSSU bsn 127 bib 1 fsn 127 fib 1 status SIOS\nbits 51\n",
+        0,
+    ),
+    ("FFFF00FFFE", b"refused U3 BadCheck\n", 2),
+    ("FFFF00FF", b"refused U1 TooShort\n", 2),
+    ("", b"refused U1 TooShort\n", 2),
+    ("F", b"refused H1 NotHex\n", 2),
+    ("FFFF00FFFG", b"refused H1 NotHex\n", 2),
+    ("0x", b"refused H1 NotHex\n", 2),
+];
+
+#[test]
+fn prints_units_and_refusals(rt: HostRuntime) -> Result<(), Fail> {
+    for (word, text, status) in WORDS {
+        let (written, given) = printed(rt.alloc(), word, 9);
+        assert_eq!(rt; written.as_slice(), text, "{word}");
+        assert_eq!(rt; given, status, "{word}");
+    }
+    Ok(())
+}
+
+/// 558 digits are 279 octets.
+#[test]
+fn refuses_octets_that_are_too_many(rt: HostRuntime) -> Result<(), Fail> {
+    let mut word = String::new(rt.alloc());
+    for _ in 0..558 {
+        word.push('F')?;
+    }
+    let (written, status) = printed(rt.alloc(), word.as_str(), 9);
+    assert_eq!(rt; written.as_slice(), b"refused U2 TooLong\n".as_slice());
+    assert_eq!(rt; status, 2);
+    Ok(())
+}
+
+/// Nothing is written after a write that failed.
+#[test]
+fn stops_at_a_failed_write(rt: HostRuntime) -> Result<(), Fail> {
+    let (written, status) = printed(rt.alloc(), "FFFF00FFFF", 1);
+    assert_eq!(rt;
+        written.as_slice(),
+        b"FISU bsn 127 bib 1 fsn 127 fib 1\n".as_slice()
+    );
+    assert_eq!(rt; status, 4);
+    let (written, status) = printed(rt.alloc(), "F", 0);
+    assert_eq!(rt; written.len(), 0);
+    assert_eq!(rt; status, 4);
+    Ok(())
+}
+
+/// Whether the words are a command line of the program.
+fn is_read(alloc: Global, given: &[&str]) -> Result<bool, Fail> {
+    let mut line = Vec::new(alloc);
+    for word in given {
+        line.push(String::from_str(alloc, word)?)?;
+    }
+    Ok(words::read(alloc, line.as_slice()).is_ok())
+}
+
+#[test]
+fn reads_the_command_line(rt: HostRuntime) -> Result<(), Fail> {
+    assert!(rt; is_read(rt.alloc(), &["mtp2_play", "frame", "FF"])?);
+    assert!(rt; is_read(rt.alloc(), &["mtp2_play", "frame", ""])?);
+    assert!(rt; !is_read(rt.alloc(), &["mtp2_play"])?);
+    assert!(rt; !is_read(rt.alloc(), &["mtp2_play", "frame"])?);
+    assert!(rt; !is_read(rt.alloc(), &["mtp2_play", "frame", "-F"])?);
+    assert!(rt; !is_read(rt.alloc(), &["mtp2_play", "soak", "x"])?);
+    Ok(())
+}
