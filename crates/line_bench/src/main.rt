@@ -1,15 +1,17 @@
 //! Sends random message signal units through a stuffer and a deframer, and measures both.
 //!
 //! Without a word it makes one round, and prints how many units came back. With a number of rounds it also prints octets per
-//! second: `out`, octets of units put on the line, and `in`, octets of the line that were read and decoded.
+//! second, `out` of units put on the line and `in` of the line that were read and decoded, and `store`, messages a second that were
+//! put, sent and acknowledged.
 #![tactic(auto)]
 
 ghost use Rattle.std.specs.Prelude.{◌≡◌, ◌<◌};
 
 use arrayvec::ArrayVec;
 use bit_line::{Deframer, LineEvent, Stuffer};
+use resend_store::{Mode, Msu, Sender};
 use std::alloc::{AllocError, Global};
-use std::rt::{Clock, Runtime};
+use std::rt::Runtime;
 use std::time::{Duration, Instant};
 use std::{env, io};
 use su_octets::{Head, Unit, decode};
@@ -110,6 +112,39 @@ fn receive(alloc: Global, line: &[u8]) -> Result<u64, AllocError> {
     Ok(units)
 }
 
+/// Puts each message into a store, sends it and has it acknowledged. Gives how many went out.
+fn store(alloc: Global, units: &[Unit], mode: Mode) -> Result<u64, AllocError> {
+    let mut sender = Sender::new(alloc, mode)?;
+    let mut sent = 0u64;
+    for unit in units {
+        if let Unit::Msu(_, sio, sif) = unit {
+            if sif.len() >= 2 {
+                let _ = sender.put(Msu {
+                    sio: *sio,
+                    sif: copied(sif),
+                });
+                let going = sender.next_unit();
+                if going.fsn < 128 && going.msu.is_some() {
+                    sent = sent.saturating_add(1);
+                }
+                if going.fsn < 128 {
+                    let _ = sender.on_back(going.fsn, going.fib);
+                }
+            }
+        }
+    }
+    Ok(sent)
+}
+
+/// The same octets.
+fn copied(sif: &ArrayVec<u8, 272>) -> ArrayVec<u8, 272>
+    ensures { result.items ≡ sif.now.items }
+{
+    let mut copy = ArrayVec::new();
+    copy.try_extend_from_slice(sif.as_slice()).unwrap();
+    copy
+}
+
 /// How many octets in a second, for so many in each of some rounds.
 fn rate(octets: usize, rounds: u32, time: Duration) -> u64 {
     let micros = u64::try_from(time.as_micros()).unwrap_or(u64::MAX).max(1);
@@ -158,6 +193,14 @@ fn run<R: Runtime + AllocGlobal>(rt: &R) -> io::Result<()> {
         println!(rt; "out {out}")?;
         let into = rate(line.len(), count, receiving);
         println!(rt; "in {into}")?;
+        let start = Instant::now(rt)?;
+        let mut sent = 0u64;
+        for _ in 0..count {
+            sent = sent.saturating_add(store(rt.alloc(), units.as_slice(), Mode::Basic)?);
+        }
+        let kept = start.elapsed(rt)?;
+        let messages = rate(usize::try_from(sent).unwrap_or(0), 1, kept);
+        println!(rt; "store {messages}")?;
     }
     Ok(())
 }
