@@ -1,0 +1,210 @@
+//! Sends random message signal units through a stuffer and a deframer, and measures both.
+//!
+//! Without a word it makes one round, and prints how many units came back. With a number of rounds it also prints octets per
+//! second, `out` of units put on the line and `in` of the line that were read and decoded, and `store`, messages a second that were
+//! put, sent and acknowledged.
+#![tactic(auto)]
+
+ghost use Rattle.std.specs.Prelude.{◌≡◌, ◌<◌};
+
+use arrayvec::ArrayVec;
+use bit_line::{Deframer, LineEvent, Stuffer};
+use resend_store::{Mode, Msu, Sender};
+use std::alloc::{AllocError, Global};
+use std::rt::Runtime;
+use std::time::{Duration, Instant};
+use std::{env, io};
+use su_octets::{Head, Unit, decode};
+
+/// How many units a round has.
+const UNITS: u32 = 2000;
+
+/// Numbers that look random, the same in each run.
+#[derive(Drop)]
+struct Draws {
+    state: u32,
+}
+
+impl Draws {
+    /// The next octet.
+    fn octet(&mut self) -> u8 {
+        self.step();
+        (self.state % 256) as u8
+    }
+
+    /// How long the next signalling information field is.
+    fn length(&mut self) -> u32
+        ensures { result < 273 }
+    {
+        self.step();
+        2 + self.state % 271
+    }
+
+    fn step(&mut self) {
+        self.state ^= self.state.wrapping_mul(1 << 13);
+        self.state ^= self.state / (1 << 17);
+        self.state ^= self.state.wrapping_mul(1 << 5);
+    }
+}
+
+/// The next random message.
+fn message(draws: &mut Draws) -> Unit {
+    let length = draws.length();
+    let first = draws.octet();
+    let second = draws.octet();
+    let head = Head {
+        bsn: first % 128,
+        bib: first / 128,
+        fsn: second % 128,
+        fib: second / 128,
+    };
+    let sio = draws.octet();
+    let mut sif = ArrayVec::new();
+    for _ in 0..length {
+        let octet = draws.octet();
+        if !sif.is_full() {
+            sif.push(octet);
+        }
+    }
+    Unit::Msu(head, sio, sif)
+}
+
+/// The messages of a round.
+fn messages(alloc: Global) -> Result<Vec<Unit>, AllocError> {
+    let mut draws = Draws {
+        state: 2_463_534_242,
+    };
+    let mut units = Vec::with_capacity(alloc, UNITS as usize)?;
+    for _ in 0..UNITS {
+        units.push(message(&mut draws))?;
+    }
+    Ok(units)
+}
+
+/// Puts the units on a new line.
+fn send(units: &[Unit], line: &mut Vec<u8>) -> Result<(), AllocError> {
+    line.clear();
+    let mut stuffer = Stuffer::new();
+    for unit in units {
+        if unit.whole() {
+            line.extend_from_slice(stuffer.put(unit).as_slice())?;
+        }
+    }
+    let (bits, _) = stuffer.rest();
+    line.push(bits)?;
+    Ok(())
+}
+
+/// Reads the line, and counts the units that it has.
+fn receive(alloc: Global, line: &[u8]) -> Result<u64, AllocError> {
+    let mut deframer = Deframer::new();
+    let mut units = 0u64;
+    for piece in line.chunks(1024) {
+        let events = deframer.feed(alloc, piece).map_err(|_| AllocError)?;
+        for event in events.iter() {
+            if let LineEvent::Unit(octets) = event {
+                if decode(octets.as_slice()).is_ok() {
+                    units = units.saturating_add(1);
+                }
+            }
+        }
+    }
+    Ok(units)
+}
+
+/// Puts each message into a store, sends it and has it acknowledged. Gives how many went out.
+fn store(alloc: Global, units: &[Unit], mode: Mode) -> Result<u64, AllocError> {
+    let mut sender = Sender::new(alloc, mode)?;
+    let mut sent = 0u64;
+    for unit in units {
+        if let Unit::Msu(_, sio, sif) = unit {
+            if sif.len() >= 2 {
+                let _ = sender.put(Msu {
+                    sio: *sio,
+                    sif: copied(sif),
+                });
+                let going = sender.next_unit();
+                if going.fsn < 128 && going.msu.is_some() {
+                    sent = sent.saturating_add(1);
+                }
+                if going.fsn < 128 {
+                    let _ = sender.on_back(going.fsn, going.fib);
+                }
+            }
+        }
+    }
+    Ok(sent)
+}
+
+/// The same octets.
+fn copied(sif: &ArrayVec<u8, 272>) -> ArrayVec<u8, 272>
+    ensures { result.items ≡ sif.now.items }
+{
+    let mut copy = ArrayVec::new();
+    copy.try_extend_from_slice(sif.as_slice()).unwrap();
+    copy
+}
+
+/// How many octets in a second, for so many in each of some rounds.
+fn rate(octets: usize, rounds: u32, time: Duration) -> u64 {
+    let micros = u64::try_from(time.as_micros()).unwrap_or(u64::MAX).max(1);
+    let all = (octets as u64).saturating_mul(u64::from(rounds));
+    all.saturating_mul(1_000_000) / micros
+}
+
+/// The number of rounds that the command line asks for.
+fn rounds<R: Runtime + AllocGlobal>(rt: &R) -> io::Result<Option<u32>> {
+    let words: Vec<String> = env::args(rt)?.collect(rt.alloc())?;
+    match words.as_slice() {
+        [_, number] => Ok(number.as_str().parse::<u32>().ok()),
+        _ => Ok(None),
+    }
+}
+
+/// How many octets the units have between the flags.
+fn octets_of(units: &[Unit]) -> usize {
+    let mut octets = 0usize;
+    for unit in units {
+        octets = octets.saturating_add(unit.body_len().saturating_add(5));
+    }
+    octets
+}
+
+/// Makes the rounds, and prints what came of them.
+fn run<R: Runtime + AllocGlobal>(rt: &R) -> io::Result<()> {
+    let asked = rounds(rt)?;
+    let count = asked.unwrap_or(1);
+    let units = messages(rt.alloc())?;
+    let mut line = Vec::with_capacity(rt.alloc(), 700_000)?;
+    let start = Instant::now(rt)?;
+    for _ in 0..count {
+        send(units.as_slice(), &mut line)?;
+    }
+    let sending = start.elapsed(rt)?;
+    let start = Instant::now(rt)?;
+    let mut received = 0;
+    for _ in 0..count {
+        received = receive(rt.alloc(), line.as_slice())?;
+    }
+    let receiving = start.elapsed(rt)?;
+    println!(rt; "units {received}")?;
+    if asked.is_some() {
+        let out = rate(octets_of(units.as_slice()), count, sending);
+        println!(rt; "out {out}")?;
+        let into = rate(line.len(), count, receiving);
+        println!(rt; "in {into}")?;
+        let start = Instant::now(rt)?;
+        let mut sent = 0u64;
+        for _ in 0..count {
+            sent = sent.saturating_add(store(rt.alloc(), units.as_slice(), Mode::Basic)?);
+        }
+        let kept = start.elapsed(rt)?;
+        let messages = rate(usize::try_from(sent).unwrap_or(0), 1, kept);
+        println!(rt; "store {messages}")?;
+    }
+    Ok(())
+}
+
+fn main(rt: HostRuntime) -> io::Result<()> {
+    run(&rt)
+}
