@@ -13,6 +13,3 @@ pub use fault::{ControlPath, Limit, RuleFault, Step};
 pub use name_table::NameTable;
 pub use process_table::{InputRow, ProcessTable, Variable};
 pub use resolved::{Resolved, resolve};
-
-#[cfg(test)]
-mod tests;
