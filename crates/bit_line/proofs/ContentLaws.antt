@@ -1,11 +1,10 @@
 -- The bits of a content: what the fields say of them, and how they are judged.
-use Rattle.std.proofs.Common.{◌≡◌, ℕ, ◌+◌, ◌-◌, ◌*◌, ◌^◌, ◌<◌, ◌≤◌, zero, suc, min, Bool, true, false, cond, Option, Some, None, Result, Ok, Err, List, [], ◌∷◌, ◌++◌, length, get_or, reverse, refl, sym, ap, ◌∙◌, arith, inl, inr, subst, append_assoc, lit≤}
+use Rattle.std.proofs.Common.{◌≡◌, ℕ, ◌+◌, ◌*◌, ◌<◌, ◌≤◌, zero, suc, min, Bool, true, false, Some, None, Result, Ok, Err, List, [], ◌∷◌, ◌++◌, length, get_or, reverse, refl, sym, ap, ◌∙◌, arith, inl, inr, subst, append_assoc, lit≤}
 use Rattle.std.proofs.lemmas.Bool.Decides.{nat_tests, eqb_tells}
 use Rattle.std.specs.Bool.{MatchBool}
 use Rattle.std.specs.Prelude.{is_ok, ◌↔◌, ◌⊎◌, ◌==◌, nat_lt, nat_le, ◌||◌, ◌≢◌}
-use Rattle.std.proofs.lemmas.Bool.{lt-ltb, ltb-true, le-ltb, ltb-false}
+use Rattle.std.proofs.lemmas.Bool.{lt-ltb, ltb-true, le-ltb}
 use Rattle.std.proofs.lemmas.List.{append-nil, length-append, length-reverse, reverse-reverse}
-use Rattle.arrayvec.specs.ArrayVec.{ArrayVec}
 use Rattle.su_octets.specs.Bits.{low_bits, bits_of, AreOctets}
 use Rattle.su_octets.specs.Whole.{IsWhole}
 use Rattle.su_octets.specs.Frame.{Frame, body_of, content_of}
@@ -13,13 +12,13 @@ use Rattle.su_octets.specs.declared.units.Unit as units
 use Rattle.su_octets.specs.declared.units.Unit.TheVariants as kinds
 use Rattle.su_octets.specs.declared.units.UnitFault.{UnitFault}
 use Rattle.bit_line.specs.Parts.{Packed}
-use Rattle.bit_line.specs.Stuffing.{trailing, with_zero, stuffed, taken_out}
+use Rattle.bit_line.specs.Stuffing.{trailing, stuffed, taken_out}
 use Rattle.bit_line.specs.Deframing.{Gathers, Holds, has_six}
 use Rattle.bit_line.specs.Events.{AreUnit, IsCorrect}
 use Rattle.bit_line.specs.declared.data.Data.{Data}
 use Rattle.bit_line.specs.declared.content.Content.{Content}
 use Rattle.bit_line.proofs.BitLists.{bits_of-append, length-bits_of, length-low_bits, reverse-cons, bits_of-same}
-use Rattle.bit_line.proofs.StuffLaws.{IsStuffing, is_stuffing, stuffed-taken_out, with_zero-other, taken_out-none, trailing-one, trailing-zero, taken_out-one, taken_out-five, taken_out-other}
+use Rattle.bit_line.proofs.StuffLaws.{IsStuffing, is_stuffing, stuffed-taken_out, with_zero-other, trailing-one, trailing-zero, taken_out-one, taken_out-five, taken_out-other}
 
 -- ---- packed bits
 pub packed-more : (octets : List ℕ) (bits len v : ℕ) (b : Bool) (h : List Bool) → low_bits (len + 1) v ≡ low_bits len bits ++ b ∷ []

@@ -1,16 +1,14 @@
 -- The counter and the mode.
-use Rattle.std.proofs.Common.{◌≡◌, ℕ, ◌+◌, ◌*◌, ◌%◌, ◌<◌, ◌≤◌, zero, suc, Bool, true, false, cond, Option, Some, None, List, [], ◌∷◌, ◌++◌, refl, sym, ap, ◌∙◌, arith, inl, inr, subst}
+use Rattle.std.proofs.Common.{◌≡◌, ℕ, ◌+◌, ◌%◌, Bool, true, false, cond, Option, Some, None, [], ◌∷◌, ◌++◌, refl, sym, ap, ◌∙◌, arith, inl, inr, subst}
 use Rattle.std.specs.Prelude.{◌⊎◌, ◌==◌, ◌≢◌, is_none}
-use Rattle.std.specs.Option.{option_map}
 use Rattle.std.proofs.lemmas.Bool.Decides.{eqb_tells}
 use Rattle.std.proofs.lemmas.List.{append-nil}
-use Rattle.bit_line.specs.Events.{mode_after, reports, sixteens, Verdict, Correct, Wrong, Nothing}
+use Rattle.bit_line.specs.Events.{mode_after, reports, sixteens, Wrong, Nothing}
 use Rattle.bit_line.specs.Counting.{Counts, sixteen_of}
 use Rattle.bit_line.specs.Judging.{verdict_of, reports_of}
 use Rattle.bit_line.specs.declared.content.Content.{Content}
 use Rattle.bit_line.specs.declared.content.Closed.{Closed}
 use Rattle.bit_line.specs.declared.content.Closed.TheVariants as closed
-use Rattle.bit_line.specs.declared.events.LineEvent.{LineEvent}
 use Rattle.bit_line.specs.declared.events.LineEvent.TheVariants as events
 
 pub same_some : (m n : ℕ) → Some m ≡ Some n → m ≡ n

@@ -1,19 +1,17 @@
 -- A line has one list of events, and what stands for its bits gives them.
-use Rattle.std.proofs.Common.{◌≡◌, ℕ, ◌+◌, ◌-◌, ◌*◌, ◌/◌, ◌%◌, ◌^◌, ◌<◌, ◌≤◌, zero, suc, Bool, true, false, cond, Option, Some, None, List, [], ◌∷◌, ◌++◌, length, reverse, take, get_or, refl, sym, ap, ◌∙◌, arith, subst, append_assoc}
+use Rattle.std.proofs.Common.{◌≡◌, ℕ, ◌+◌, ◌/◌, ◌^◌, ◌<◌, ◌≤◌, Bool, true, false, Option, List, [], ◌∷◌, ◌++◌, length, reverse, take, get_or, refl, sym, ap, ◌∙◌, arith, subst, append_assoc}
 use Rattle.std.specs.Prelude.{◌==◌, bit_and}
 use Rattle.std.specs.Bool.{MatchBool}
 use Rattle.std.proofs.lemmas.List.{append-nil, length-reverse, reverse-reverse, reverse-append, take_more, take_all}
 use Rattle.std.proofs.lemmas.Nat.Bits.{shr_and_one}
 use Rattle.su_octets.specs.Bits.{low_bits, bits_of}
-use Rattle.bit_line.specs.Stuffing.{stuffed, taken_out}
+use Rattle.bit_line.specs.Stuffing.{taken_out}
 use Rattle.bit_line.specs.Flags.{ends_flag, inside, begins}
-use Rattle.bit_line.specs.Events.{Verdict, Correct, Wrong, Nothing, IsCorrect, IsJudged, Closes, Runs, Goes, AreEvents, mode_after, reports}
+use Rattle.bit_line.specs.Events.{Verdict, Correct, Wrong, Nothing, IsCorrect, IsJudged, Runs, AreEvents, mode_after, reports}
 use Rattle.bit_line.specs.Deframing.{LetsIn, Fits, StandsAt, Stands}
-use Rattle.bit_line.specs.Counting.{Counts}
 use Rattle.bit_line.specs.declared.deframer.Deframer.{Deframer}
 use Rattle.bit_line.specs.declared.events.LineEvent.{LineEvent}
 use Rattle.bit_line.proofs.BitLists.{low_bits-split, bits_of-append, bits_of-same, length-bits_of}
-use Rattle.bit_line.proofs.StuffLaws.{IsStuffing}
 use Rattle.bit_line.proofs.ContentLaws.{correct_shape, unit_fits}
 
 -- ---- one verdict

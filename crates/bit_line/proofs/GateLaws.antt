@@ -1,12 +1,11 @@
 -- What the gate lets in.
-use Rattle.std.proofs.Common.{◌≡◌, ℕ, ◌+◌, ◌-◌, ◌*◌, ◌<◌, ◌≤◌, zero, suc, Bool, true, false, cond, Option, Some, None, List, [], ◌∷◌, ◌++◌, length, drop, refl, sym, ap, ◌∙◌, arith, subst}
+use Rattle.std.proofs.Common.{◌≡◌, ℕ, ◌-◌, ◌≤◌, zero, suc, Bool, true, false, Option, Some, None, List, [], ◌∷◌, ◌++◌, length, drop, refl, sym, ap, ◌∙◌, arith, subst}
 use Rattle.std.specs.Prelude.{nat_lt, unwrap_or, is_some}
 use Rattle.std.specs.Option.{option_map}
 use Rattle.bit_line.specs.Stuffing.{taken_out}
 use Rattle.bit_line.specs.Flags.{ends_flag, since_flag, inside, MOST_BITS}
 use Rattle.bit_line.specs.Deframing.{LetsIn, Holds, seventh, latest}
 use Rattle.bit_line.specs.declared.gate.Gate.{Gate}
-use Rattle.bit_line.specs.declared.content.Content.{Content}
 use Rattle.bit_line.proofs.FlagLaws.{since_flag-flag, since_flag-other, part_of, seventh-is}
 
 none_of : (s : Option (List Bool)) → is_some s ≡ false → s ≡ None

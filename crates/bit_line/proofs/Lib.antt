@@ -8,4 +8,5 @@ pub mod GateLaws
 pub mod StandLaws
 pub mod EventLaws
 pub mod SendLaws
+pub mod OctetLaws
 pub mod ThroughLaws

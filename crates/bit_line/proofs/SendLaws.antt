@@ -1,11 +1,11 @@
 -- Stuffing bit by bit, and the line that a stuffer makes.
-use Rattle.std.proofs.Common.{◌≡◌, ℕ, ◌+◌, ◌*◌, ◌/◌, ◌%◌, ◌^◌, ◌<◌, ◌≤◌, zero, suc, Bool, true, false, cond, List, [], ◌∷◌, ◌++◌, length, reverse, take, get_or, refl, sym, ap, ◌∙◌, arith, subst, append_assoc}
+use Rattle.std.proofs.Common.{◌≡◌, ℕ, ◌+◌, ◌/◌, ◌^◌, ◌<◌, suc, Bool, true, false, List, [], ◌∷◌, ◌++◌, length, reverse, take, get_or, refl, sym, ap, ◌∙◌, arith, subst, append_assoc}
 use Rattle.std.specs.Prelude.{◌==◌, bit_and}
-use Rattle.std.proofs.lemmas.List.{append-nil, reverse-reverse, reverse-append, take_more, take_all}
+use Rattle.std.proofs.lemmas.List.{append-nil, reverse-reverse, reverse-append, take_more}
 use Rattle.std.proofs.lemmas.Nat.Bits.{shr_and_one}
 use Rattle.su_octets.specs.Bits.{low_bits, bits_of}
 use Rattle.bit_line.specs.Parts.{Packed, opening}
-use Rattle.bit_line.specs.Stuffing.{trailing, stuffed, with_zero, stuffing_of}
+use Rattle.bit_line.specs.Stuffing.{trailing, stuffed, stuffing_of}
 use Rattle.bit_line.specs.Sending.{flag, framed, line_of}
 use Rattle.bit_line.specs.Stuffers.{Gave, is_some_unit}
 use Rattle.bit_line.specs.declared.stuffer.Stuffer.{Stuffer}

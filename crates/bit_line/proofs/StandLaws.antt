@@ -1,11 +1,11 @@
 -- One more bit, for the deframer as a whole.
-use Rattle.std.proofs.Common.{◌≡◌, ℕ, ◌+◌, ◌*◌, ◌%◌, ◌<◌, ◌≤◌, Bool, true, false, cond, Option, Some, None, List, [], ◌∷◌, ◌++◌, length, reverse, refl, sym, ap, ◌∙◌, arith, subst, append_assoc}
+use Rattle.std.proofs.Common.{◌≡◌, ℕ, ◌+◌, ◌*◌, ◌%◌, Bool, true, false, cond, Option, Some, List, [], ◌∷◌, ◌++◌, length, refl, sym, ap, ◌∙◌, subst}
 use Rattle.std.specs.Prelude.{nat_lt, nat_le}
 use Rattle.std.specs.Bool.{MatchBool}
 use Rattle.std.proofs.lemmas.List.{append-nil}
 use Rattle.bit_line.specs.Stuffing.{taken_out}
 use Rattle.bit_line.specs.Flags.{ends_flag, six_ones, inside, begins, MOST_BITS}
-use Rattle.bit_line.specs.Events.{Verdict, Correct, Wrong, Nothing, Closes, IsJudged, Runs, Goes, mode_after, reports}
+use Rattle.bit_line.specs.Events.{Verdict, Nothing, Closes, IsJudged, Runs, mode_after, reports}
 use Rattle.bit_line.specs.Counting.{Counts, sixteen_of}
 use Rattle.bit_line.specs.Judging.{verdict_of, reports_of}
 use Rattle.bit_line.specs.Deframing.{LetsIn, Fits, StandsAt, Stands, newest, seventh}

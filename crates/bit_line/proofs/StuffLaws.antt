@@ -1,5 +1,5 @@
 -- Inserted zeros: what is stuffed has no six 1s in a row, and taking them out gives the bits back.
-use Rattle.std.proofs.Common.{◌≡◌, ℕ, ◌+◌, ◌<◌, ◌≤◌, zero, suc, Bool, true, false, cond, List, [], ◌∷◌, length, refl, sym, ap, ◌∙◌, arith, inl, inr, subst, lit<}
+use Rattle.std.proofs.Common.{◌≡◌, ℕ, ◌<◌, ◌≤◌, suc, Bool, true, false, cond, List, [], ◌∷◌, refl, sym, ap, ◌∙◌, arith, inl, inr, subst, lit<}
 use Rattle.std.specs.Prelude.{◌⊎◌, ◌==◌, nat_le, ◌||◌}
 use Rattle.std.proofs.lemmas.Bool.Decides.{eqb_tells, leb_tells}
 use Rattle.bit_line.specs.Stuffing.{trailing, with_zero, stuffed, taken_out}

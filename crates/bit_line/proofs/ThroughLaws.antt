@@ -1,5 +1,5 @@
 -- What a stuffer makes, a deframer in normal mode gives back.
-use Rattle.std.proofs.Common.{◌≡◌, ℕ, ◌+◌, ◌-◌, ◌*◌, ◌<◌, ◌≤◌, zero, suc, Bool, true, false, cond, not, ◌&&◌, ◌||◌, Option, Some, None, List, [], ◌∷◌, ◌++◌, length, reverse, take, drop, refl, sym, ap, ◌∙◌, arith, inl, inr, subst, append_assoc}
+use Rattle.std.proofs.Common.{◌≡◌, ℕ, ◌+◌, ◌-◌, ◌<◌, ◌≤◌, zero, suc, Bool, true, false, cond, Some, None, List, [], ◌∷◌, ◌++◌, length, reverse, take, drop, refl, sym, ap, ◌∙◌, arith, inl, inr, subst, append_assoc}
 use Rattle.std.specs.Prelude.{◌⊎◌, ◌≢◌, nat_lt, unwrap_or}
 use Rattle.std.specs.Bool.{MatchBool}
 use Rattle.std.specs.Option.{option_map}
@@ -7,20 +7,20 @@ use Rattle.std.proofs.lemmas.Bool.{le-ltb}
 use Rattle.std.proofs.lemmas.List.{append-nil, reverse-append, reverse-reverse, length-reverse, length-append}
 use Rattle.std.proofs.Math.Seq.{take-append_seam, take-append-add}
 use Rattle.su_octets.specs.Bits.{bits_of, AreOctets}
-use Rattle.bit_line.specs.Stuffing.{trailing, stuffed, taken_out, stuffing_of}
+use Rattle.bit_line.specs.Stuffing.{trailing, stuffed, taken_out}
 use Rattle.bit_line.specs.Flags.{six_ones, ends_flag, since_flag, inside, begins, MOST_BITS}
 use Rattle.bit_line.specs.Sending.{flag, framed, line_of}
-use Rattle.bit_line.specs.Events.{AreUnit, IsCorrect, IsJudged, Verdict, Correct, Wrong, Nothing, Closes, Runs, Goes, AreEvents, mode_after, reports}
+use Rattle.bit_line.specs.Events.{AreUnit, IsJudged, Verdict, Correct, Nothing, Runs, AreEvents, mode_after, reports}
 use Rattle.bit_line.specs.Deframing.{has_six}
 use Rattle.bit_line.specs.Laws.{unit_events, without_last, arrived, AreUnits}
 use Rattle.bit_line.specs.declared.events.LineEvent.{LineEvent}
 use Rattle.bit_line.specs.declared.events.LineEvent.TheVariants as events
 use Rattle.bit_line.proofs.BitLists.{length-bits_of}
-use Rattle.bit_line.proofs.StuffLaws.{IsStuffing, is_stuffing, no_six-parts, trailing-one, trailing-zero, trailing-none, taken_out-one, taken_out-five, taken_out-other, five_or_other}
+use Rattle.bit_line.proofs.StuffLaws.{IsStuffing, is_stuffing, no_six-parts, trailing-none, taken_out-one, taken_out-five, taken_out-other, five_or_other}
 use Rattle.bit_line.proofs.ContentLaws.{unit_fits}
 use Rattle.bit_line.proofs.EventLaws.{one_run}
 use Rattle.bit_line.proofs.SendLaws.{framed-append, framed-one}
-use Rattle.bit_line.proofs.FlagLaws.{since_flag-flag, since_flag-other, ends_flag-plain, ends_flag-one, ends_flag-zero, begins-plain, begins-flag}
+use Rattle.bit_line.proofs.FlagLaws.{since_flag-flag, since_flag-other, ends_flag-plain, ends_flag-zero, begins-plain, begins-flag}
 
 -- ---- bits that end nothing and begin nothing
 quiet : (b : Bool) (h : List Bool) (es : List LineEvent) → Runs h None es → ends_flag (b ∷ h) ≡ false → begins (b ∷ h) ≡ false → Runs (b ∷ h) None es

@@ -1,5 +1,5 @@
 -- What the code's counter says of the mode.
-use Rattle.std.specs.Prelude.{◌≡◌, ℕ, ◌%◌, Bool, true, false, Option, List, [], ◌∷◌, ◌++◌}
+use Rattle.std.specs.Prelude.{◌≡◌, ℕ, ◌%◌, Bool, true, false, Option, List, [], ◌∷◌}
 use Rattle.std.specs.Option.{option_map}
 use Rattle.bit_line.specs.declared.events.LineEvent.{LineEvent}
 use Rattle.bit_line.specs.declared.events.LineEvent.TheVariants as events

@@ -1,6 +1,5 @@
 -- What the fields of a deframer say of the line bits so far.
-use Rattle.std.specs.Prelude.{◌≡◌, ℕ, ◌+◌, ◌-◌, ◌*◌, ◌%◌, ◌^◌, zero, suc, min, nat_lt, nat_le, Bool, true, false, ◌||◌, if◌then◌else◌, Option, Some, None, unwrap_or, is_some, List, [], ◌∷◌, ◌++◌, length, reverse}
-use Rattle.std.specs.Option.{option_map}
+use Rattle.std.specs.Prelude.{◌≡◌, ℕ, ◌+◌, ◌-◌, ◌*◌, ◌^◌, zero, suc, min, nat_lt, nat_le, Bool, true, false, ◌||◌, if◌then◌else◌, Option, unwrap_or, is_some, List, [], ◌∷◌, length, reverse}
 use Rattle.bit_line.specs.Parts.{Packed}
 use Rattle.bit_line.specs.Counting.{Counts}
 use Rattle.bit_line.specs.Stuffing.{trailing, taken_out}

@@ -1,5 +1,5 @@
 -- How the code's answers are read.
-use Rattle.std.specs.Prelude.{ℕ, Bool, List, [], ◌∷◌, ◌++◌}
+use Rattle.std.specs.Prelude.{ℕ, List, [], ◌∷◌, ◌++◌}
 use Rattle.bit_line.specs.Counting.{sixteen_of}
 use Rattle.bit_line.specs.Events.{Verdict, Correct, Wrong, Nothing}
 use Rattle.bit_line.specs.declared.content.Content.{Content}

@@ -1,5 +1,5 @@
 -- Laws over the definitions of this crate, each the contract of a public function.
-use Rattle.std.specs.Prelude.{◌≡◌, ◌≢◌, ℕ, ◌<◌, Bool, true, Option, None, List, [], ◌∷◌, ◌++◌, map, reverse, length}
+use Rattle.std.specs.Prelude.{◌≡◌, ◌≢◌, ℕ, ◌<◌, Bool, true, None, List, [], ◌∷◌, ◌++◌, reverse, length}
 use Rattle.su_octets.specs.Bits.{bits_of, AreOctets}
 use Rattle.bit_line.specs.Events.{AreEvents, AreUnit, Runs}
 use Rattle.bit_line.specs.Flags.{ends_flag}

@@ -16,6 +16,11 @@ pub enum LineEvent {
 
 /// What fills the unused room of an array of events.
 impl Default for LineEvent {
+    ghost use Rattle.std.specs.Prelude.{◌≡◌};
+    ghost use Rattle.bit_line.specs.declared.events.LineEvent.TheVariants.{Errored};
+
+    ghost is_default = { λ event. event ≡ Errored };
+
     fn default() -> Self {
         LineEvent::Errored
     }

@@ -1,5 +1,5 @@
 //! The octet that is being filled.
-ghost use Rattle.std.specs.Prelude.{◌≡◌, ◌+◌, ◌*◌, ◌^◌, ◌<◌, ℕ, Bool, List, [], ◌∷◌, ◌++◌, length};
+ghost use Rattle.std.specs.Prelude.{◌≡◌, ◌+◌, ◌*◌, ◌^◌, ◌<◌, ℕ, Bool, List, [], ◌∷◌, ◌++◌, length, reverse};
 ghost use Rattle.su_octets.specs.Bits.{low_bits};
 ghost use Rattle.std.specs.Option.{option_to_list};
 
@@ -52,5 +52,20 @@ impl Part {
             };
             None
         }
+    }
+
+    /// Adds eight bits, the low one first. They complete the octet, which is given, and leave as many
+    /// bits as there were.
+    pub fn push_eight(&mut self, octet: u8) -> u8
+        ensures packed { (octets : List ℕ) (h : List Bool) → Packed octets self.old.bits self.old.len h
+            → Packed (octets ++ result ∷ []) self.new.bits self.new.len (reverse (low_bits 8 octet) ++ h) }
+        ensures len { self.new.len ≡ self.old.len }
+    {
+        let bits = u16::from(self.bits) + (u16::from(octet) << self.len);
+        *self = Part {
+            bits: (bits / 256) as u8,
+            len: self.len,
+        };
+        (bits % 256) as u8
     }
 }

@@ -1,5 +1,5 @@
 //! Signal units to line bits.
-ghost use Rattle.std.specs.Prelude.{◌≡◌, ◌≤◌, ◌<◌, ◌+◌, ◌*◌, ◌^◌, ℕ, Bool, List, [], ◌∷◌, ◌++◌, reverse, length};
+ghost use Rattle.std.specs.Prelude.{◌≡◌, ◌≤◌, ◌<◌, ◌+◌, ◌*◌, ◌^◌, ℕ, Bool, List, [], ◌∷◌, ◌++◌, reverse, length, IfSome};
 ghost use Rattle.arrayvec.specs.ArrayVec.{array_vec_len};
 ghost use Rattle.su_octets.specs.Bits.{low_bits, bits_of};
 ghost use Rattle.su_octets.specs.Frame.{Frame, SpareBitsAreZero};
@@ -7,6 +7,7 @@ ghost use Rattle.su_octets.specs.Whole.{IsWhole};
 ghost use Rattle.bit_line.specs.Sending.{line_of};
 ghost use Rattle.bit_line.specs.Parts.{Packed, opening};
 ghost use Rattle.bit_line.specs.Stuffing.{trailing, stuffed};
+ghost use Rattle.std.specs.Option.{option_to_list};
 
 use crate::part::Part;
 use arrayvec::ArrayVec;
@@ -14,6 +15,51 @@ use su_octets::{Unit, encode};
 
 /// The flag's bits, the first one lowest.
 const FLAG: u8 = 0x7e;
+
+/// What goes on the line for an octet of a unit.
+#[derive(Clone, Copy)]
+struct Stuffed {
+    /// Its first eight bits.
+    eight: u8,
+    /// The ninth one, where a 0 was put in.
+    ninth: Option<bool>,
+    /// How many 1s in a row they end with.
+    ones: u8,
+}
+
+/// What goes on the line for an octet behind so many 1s in a row, where it is all known at once: none where
+/// two 0s go in.
+fn stuffed_octet(octet: u8, ones: u8) -> Option<Stuffed>
+    requires few { ones < 5 }
+    ensures bits { IfSome result (λ s. (sent : List Bool) → ones ≡ trailing (stuffed sent)
+        → stuffed (reverse (low_bits 8 octet) ++ sent) ≡ option_to_list s.ninth ++ (reverse (low_bits 8 s.eight) ++ stuffed sent)) }
+    ensures ones { IfSome result (λ s. (sent : List Bool) → ones ≡ trailing (stuffed sent)
+        → s.ones ≡ trailing (stuffed (reverse (low_bits 8 octet) ++ sent))) }
+    ensures few { IfSome result (λ s. s.ones < 5) }
+    ensures len { IfSome result (λ s. 5 * length (option_to_list s.ninth) + s.ones ≤ ones + 8) }
+{
+    let window = ((u16::from(octet) + 1) << ones) - 1;
+    let pairs = window & window >> 1;
+    let fives = pairs & pairs >> 2 & window >> 4;
+    if fives == 0 {
+        return Some(Stuffed {
+            eight: octet,
+            ninth: None,
+            ones: octet.leading_ones() as u8,
+        });
+    }
+    let first = fives.trailing_zeros();
+    if fives >> (first + 5) != 0 {
+        return None;
+    }
+    let cut = first + 5 - u32::from(ones);
+    let bits = 2 * u16::from(octet) - u16::from(octet) % (1 << cut);
+    Some(Stuffed {
+        eight: (bits % 256) as u8,
+        ninth: Some(bits >= 256),
+        ones: octet.leading_ones().min(8 - cut) as u8,
+    })
+}
 
 /// Line bits that are being put together.
 #[derive(Drop)]
@@ -35,6 +81,17 @@ impl Line {
         }
     }
 
+    /// Adds eight bits, the low one first.
+    fn push_eight(&mut self, octet: u8)
+        requires { array_vec_len self.old.octets < 352 }
+        ensures packed { (before : List ℕ) (h : List Bool) → Packed (before ++ self.old.octets.items) self.old.part.bits self.old.part.len h
+            → Packed (before ++ self.new.octets.items) self.new.part.bits self.new.part.len (reverse (low_bits 8 octet) ++ h) }
+        ensures len { 8 * array_vec_len self.new.octets + self.new.part.len ≡ 8 * array_vec_len self.old.octets + self.old.part.len + 8 }
+    {
+        let whole = self.part.push_eight(octet);
+        self.octets.push(whole);
+    }
+
     /// Adds a flag.
     fn push_flag(&mut self)
         requires { 8 * array_vec_len self.old.octets + self.old.part.len + 8 ≤ 2816 }
@@ -42,9 +99,7 @@ impl Line {
             → Packed (before ++ self.new.octets.items) self.new.part.bits self.new.part.len (reverse (low_bits 8 126) ++ h) }
         ensures len { 8 * array_vec_len self.new.octets + self.new.part.len ≡ 8 * array_vec_len self.old.octets + self.old.part.len + 8 }
     {
-        for i in 0..8u8 {
-            self.push(FLAG >> i & 1 == 1);
-        }
+        self.push_eight(FLAG);
     }
 
     /// Adds a flag, if the line wasn't started.
@@ -83,8 +138,9 @@ impl Line {
         ones + 1
     }
 
-    /// Adds the bits of an octet of a unit behind so many 1s in a row. Answers how many there are now.
-    fn push_octet(&mut self, octet: u8, ones: u8) -> u8
+    /// Adds the bits of an octet of a unit one by one, behind so many 1s in a row. Answers how many there
+    /// are now.
+    fn push_bits(&mut self, octet: u8, ones: u8) -> u8
         requires few { ones < 5 }
         requires room { 5 * (8 * array_vec_len self.old.octets + self.old.part.len) + ones + 58 ≤ 14080 }
         ensures packed { (before : List ℕ) (sent h : List Bool) → ones ≡ trailing (stuffed sent)
@@ -100,6 +156,28 @@ impl Line {
             count = self.push_stuffed(octet >> i & 1 == 1, count);
         }
         count
+    }
+
+    /// Adds the bits of an octet of a unit behind so many 1s in a row. Answers how many there are now.
+    fn push_octet(&mut self, octet: u8, ones: u8) -> u8
+        requires few { ones < 5 }
+        requires room { 5 * (8 * array_vec_len self.old.octets + self.old.part.len) + ones + 58 ≤ 14080 }
+        ensures packed { (before : List ℕ) (sent h : List Bool) → ones ≡ trailing (stuffed sent)
+            → Packed (before ++ self.old.octets.items) self.old.part.bits self.old.part.len (stuffed sent ++ h)
+            → Packed (before ++ self.new.octets.items) self.new.part.bits self.new.part.len (stuffed (reverse (low_bits 8 octet) ++ sent) ++ h) }
+        ensures ones { (sent : List Bool) → ones ≡ trailing (stuffed sent) → result ≡ trailing (stuffed (reverse (low_bits 8 octet) ++ sent)) }
+        ensures few { result < 5 }
+        ensures len { 5 * (8 * array_vec_len self.new.octets + self.new.part.len) + result
+            ≤ 5 * (8 * array_vec_len self.old.octets + self.old.part.len) + ones + 48 }
+    {
+        let Some(stuffed) = stuffed_octet(octet, ones) else {
+            return self.push_bits(octet, ones);
+        };
+        self.push_eight(stuffed.eight);
+        if let Some(bit) = stuffed.ninth {
+            self.push(bit);
+        }
+        stuffed.ones
     }
 
     /// Adds the octets of a unit, stuffed.

@@ -1,4 +1,4 @@
-use crate::{Deframer, LineEvent, Stuffer};
+use crate::{Deframer, LineEvent, NoMemory, Stuffer};
 use std::test::Fail;
 use su_octets::{Head, Unit};
 
@@ -76,5 +76,21 @@ fn known_events_by_octet(rt: HostRuntime) {
 fn sixteen_octets(rt: HostRuntime) -> Result<(), Fail> {
     let events = Deframer::new().feed(rt.alloc(), &[0xff; 16])?;
     assert!(rt; events.as_slice() == [LineEvent::SixteenOctets].as_slice());
+    Ok(())
+}
+
+/// With ample memory the call succeeds at once. Where memory is refused, no bit was taken: the same octets give all their
+/// events after that.
+#[test]
+fn refused_memory_takes_no_bit(rt: HostRuntime) -> Result<(), Fail> {
+    let mut deframer = Deframer::new();
+    let events = match deframer.feed(rt.alloc(), LINE.as_slice()) {
+        Ok(events) => events,
+        Err(NoMemory) => deframer.feed(rt.alloc(), LINE.as_slice())?,
+    };
+    assert_eq!(rt; events.len(), 2);
+    let unit = events.first().ok_or("the first event is missing")?;
+    assert!(rt; matches!(unit, LineEvent::Unit(octets) if octets.as_slice() == FISU.as_slice()));
+    assert!(rt; events.get(1) == Some(&LineEvent::Errored));
     Ok(())
 }

@@ -1,6 +1,7 @@
 //! Worked cases, the printed text, and that each call that takes memory succeeds where there is some.
 use super::*;
 use arrayvec::ArrayVec;
+use std::alloc::AllocError;
 use std::test::Fail;
 use turn_code::{Party, ProcessNumber, SignalNumber, TimerNumber, Value};
 
@@ -132,5 +133,26 @@ fn a_copy_has_the_same_items(rt: HostRuntime) -> Result<(), Fail> {
             assert_eq!(rt; arrival.sender == sender, number == 9);
         }
     }
+    Ok(())
+}
+
+// With ample memory each call succeeds at once. Where memory is refused, nothing has changed, and the next call succeeds.
+#[test]
+fn refused_memory_changes_nothing(rt: HostRuntime) -> Result<(), Fail> {
+    let mut port = match Port::new(rt.alloc(), 2) {
+        Ok(port) => port,
+        Err(AllocError) => Port::new(rt.alloc(), 2)?,
+    };
+    port.put(arrival(A, 0))?;
+    port.put(arrival(C, 1))?;
+    let copy = match port.copy() {
+        Ok(copy) => copy,
+        Err(AllocError) => {
+            assert_eq!(rt; numbers(&port).as_slice(), [0, 127].as_slice());
+            port.copy()?
+        }
+    };
+    assert_eq!(rt; numbers(&copy).as_slice(), [0, 127].as_slice());
+    assert_eq!(rt; copy.capacity(), 2);
     Ok(())
 }

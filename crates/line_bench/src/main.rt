@@ -1,15 +1,15 @@
 //! Sends random message signal units through a stuffer and a deframer, and measures both.
 //!
 //! Without a word it makes one round, and prints how many units came back. With a number of rounds it also prints octets per
-//! second, `out` of units put on the line and `in` of the line that were read and decoded, and `store`, messages a second that were
-//! put, sent and acknowledged.
+//! second, `out` of units put on the line and `in` of the line that were read and decoded, `store`, messages a second that were
+//! put, sent and acknowledged, and `retrieve`, messages a second that a full store handed out.
 #![tactic(auto)]
 
 ghost use Rattle.std.specs.Prelude.{◌≡◌, ◌<◌};
 
 use arrayvec::ArrayVec;
 use bit_line::{Deframer, LineEvent, Stuffer};
-use resend_store::{Mode, Msu, Sender};
+use resend_store::{MAX_WAITING, Mode, Msu, Sender};
 use std::alloc::{AllocError, Global};
 use std::rt::Runtime;
 use std::time::{Duration, Instant};
@@ -136,6 +136,30 @@ fn store(alloc: Global, units: &[Unit], mode: Mode) -> Result<u64, AllocError> {
     Ok(sent)
 }
 
+/// Fills a store with the messages and has it hand them out, again and again. Gives how many came out, and in what time.
+fn hand_out<R: Runtime + AllocGlobal>(rt: &R, units: &[Unit]) -> io::Result<(u64, Duration)> {
+    let mut sender = Sender::new(rt.alloc(), Mode::Basic)?;
+    let mut count = 0u64;
+    let mut time = Duration::from_micros(0);
+    for group in units.chunks(MAX_WAITING) {
+        for unit in group {
+            if let Unit::Msu(_, sio, sif) = unit {
+                if sif.len() >= 2 {
+                    let _ = sender.put(Msu {
+                        sio: *sio,
+                        sif: copied(sif),
+                    });
+                }
+            }
+        }
+        let start = Instant::now(rt)?;
+        let messages = sender.retrieve(None).map_err(|_| AllocError)?;
+        time = time.saturating_add(start.elapsed(rt)?);
+        count = count.saturating_add(messages.len() as u64);
+    }
+    Ok((count, time))
+}
+
 /// The same octets.
 fn copied(sif: &ArrayVec<u8, 272>) -> ArrayVec<u8, 272>
     ensures { result.items ≡ sif.now.items }
@@ -193,15 +217,29 @@ fn run<R: Runtime + AllocGlobal>(rt: &R) -> io::Result<()> {
         println!(rt; "out {out}")?;
         let into = rate(line.len(), count, receiving);
         println!(rt; "in {into}")?;
-        let start = Instant::now(rt)?;
-        let mut sent = 0u64;
-        for _ in 0..count {
-            sent = sent.saturating_add(store(rt.alloc(), units.as_slice(), Mode::Basic)?);
-        }
-        let kept = start.elapsed(rt)?;
-        let messages = rate(usize::try_from(sent).unwrap_or(0), 1, kept);
-        println!(rt; "store {messages}")?;
+        keep(rt, units.as_slice(), count)?;
     }
+    Ok(())
+}
+
+/// Makes the rounds of a store, and prints messages a second.
+fn keep<R: Runtime + AllocGlobal>(rt: &R, units: &[Unit], rounds: u32) -> io::Result<()> {
+    let start = Instant::now(rt)?;
+    let mut sent = 0u64;
+    for _ in 0..rounds {
+        sent = sent.saturating_add(store(rt.alloc(), units, Mode::Basic)?);
+    }
+    let kept = rate(usize::try_from(sent).unwrap_or(0), 1, start.elapsed(rt)?);
+    println!(rt; "store {kept}")?;
+    let mut handed = 0u64;
+    let mut time = Duration::from_micros(0);
+    for _ in 0..rounds {
+        let (count, more) = hand_out(rt, units)?;
+        handed = handed.saturating_add(count);
+        time = time.saturating_add(more);
+    }
+    let handed = rate(usize::try_from(handed).unwrap_or(0), 1, time);
+    println!(rt; "retrieve {handed}")?;
     Ok(())
 }
 

@@ -95,7 +95,7 @@ unfolding bits_of
 length-bits_of [] = refl
 length-bits_of (x ∷ xs) = length-append (low_bits 8 x) (bits_of xs) ∙ rw (length-low_bits 8 x, length-bits_of xs) (omega arith)
 
-front_same : {A : Type 0} (xs ys us vs : List A) → length xs ≡ length ys → xs ++ us ≡ ys ++ vs → (xs ≡ ys) × (us ≡ vs)
+pub front_same : {A : Type 0} (xs ys us vs : List A) → length xs ≡ length ys → xs ++ us ≡ ys ++ vs → (xs ≡ ys) × (us ≡ vs)
 front_same [] [] us vs long same = (refl, same)
 front_same [] (y ∷ ys) us vs long same = absurd (omega arith)
 front_same (x ∷ xs) [] us vs long same = absurd (omega arith)

@@ -1,15 +1,12 @@
 -- The shift register holds the remainder of what was sent so far.
-use Rattle.std.proofs.Common.{◌≡◌, ℕ, ◌+◌, ◌/◌, ◌%◌, ◌^◌, ◌<◌, zero, suc, Bool, true, false, not, List, [], ◌∷◌, ◌++◌, length, reverse, replicate, get_or, take, refl, sym, ap, ◌∙◌, subst, arith}
-use Rattle.std.specs.Prelude.{bit_and, bit_xor, ◌==◌}
-use Rattle.std.proofs.lemmas.Nat.Bits.{shr_and_one}
+use Rattle.std.proofs.Common.{◌≡◌, ℕ, ◌+◌, ◌<◌, zero, suc, Bool, false, List, [], ◌∷◌, ◌++◌, length, reverse, replicate, get_or, take, refl, sym, ap, ◌∙◌, subst, arith}
 use Rattle.std.proofs.lemmas.List.{reverse-reverse, reverse-append, length-append, append-nil, take_more}
-use Rattle.std.specs.Bool.{beq}
 use Rattle.su_octets.specs.Polynomial.{odd_sum, plus, IsRemainder}
 use Rattle.su_octets.specs.Bits.{low_bits, bits_of}
 use Rattle.su_octets.specs.Check.{raised, raised_ones}
 use Rattle.su_octets.specs.Register.{Register}
 use Rattle.su_octets.proofs.Remainders.{Word, bits, sum_of, push_low, remainder, remainder-plus, remainder-bits, is_remainder, only_remainder, plus_none, plus_comm, plus_assoc, xor_none}
-use Rattle.su_octets.proofs.BitLists.{low_bits-xor, low_bits-split, bits_of-append}
+use Rattle.su_octets.proofs.BitLists.{bits_of-append}
 
 -- the polynomial of which the register holds the remainder
 abbrev pub dividend : List Bool → List Bool
@@ -77,114 +74,6 @@ register_of_bits register sent same =
 pub register_start : Register 65535 []
 unfolding low_bits remainder plus
 register_start = register_of_bits 65535 [] refl
-
-low_of_none : low_bits 1 0 ≡ false ∷ []
-unfolding low_bits
-low_of_none = refl
-
--- the register without its lowest bit
-half_bits : (register : ℕ) → register < 2 ^ 16 → low_bits 16 (register / 2) ≡ low_bits 15 (register / 2) ++ false ∷ []
-half_bits register small = low_bits-split 15 1 (register / 2)
-    ∙ ap (λ n. low_bits 15 (register / 2) ++ low_bits 1 n) (let e : register / 2 / 2 ^ 15 ≡ 0 = omega arith in e)
-    ∙ ap (λ bs. low_bits 15 (register / 2) ++ bs) low_of_none
-
-reverse-bits : (w : Word) → reverse (bits w) ≡ w.c15 ∷ w.c14 ∷ w.c13 ∷ w.c12 ∷ w.c11 ∷ w.c10 ∷ w.c9 ∷ w.c8 ∷ w.c7 ∷ w.c6 ∷ w.c5 ∷ w.c4 ∷ w.c3 ∷ w.c2 ∷ w.c1 ∷ w.c0 ∷ []
-reverse-bits w = refl
-
-first_same : {A : Type 0} (x y : A) (xs ys : List A) → x ∷ xs ≡ y ∷ ys → x ≡ y
-first_same x y xs ys same = cc
-
-others_same : {A : Type 0} (x y : A) (xs ys : List A) → x ∷ xs ≡ y ∷ ys → xs ≡ ys
-others_same x y xs ys same = cc
-
-lowest_bit : (register : ℕ) (w : Word) → low_bits 16 register ≡ reverse (bits w) → (register % 2 == 1) ≡ w.c15
-unfolding low_bits
-lowest_bit register w same = first_same _ _ _ _ same
-
-rest_of : (register : ℕ) (w : Word) → low_bits 16 register ≡ reverse (bits w) → low_bits 15 (register / 2) ≡ w.c14 ∷ w.c13 ∷ w.c12 ∷ w.c11 ∷ w.c10 ∷ w.c9 ∷ w.c8 ∷ w.c7 ∷ w.c6 ∷ w.c5 ∷ w.c4 ∷ w.c3 ∷ w.c2 ∷ w.c1 ∷ w.c0 ∷ []
-unfolding low_bits
-rest_of register w same = others_same _ _ _ _ same
-
-other_bits : (register : ℕ) (w : Word) → register < 2 ^ 16 → low_bits 16 register ≡ reverse (bits w)
-    → low_bits 16 (register / 2) ≡ w.c14 ∷ w.c13 ∷ w.c12 ∷ w.c11 ∷ w.c10 ∷ w.c9 ∷ w.c8 ∷ w.c7 ∷ w.c6 ∷ w.c5 ∷ w.c4 ∷ w.c3 ∷ w.c2 ∷ w.c1 ∷ w.c0 ∷ false ∷ []
-other_bits register w small same = half_bits register small ∙ ap (λ bs. bs ++ false ∷ []) (rest_of register w same)
-
--- the bits that a step leaves, by the sum of the lowest bit and the new one
-abbrev stepped : Bool → Word → List Bool
-stepped f w = w.c14 ∷ w.c13 ∷ w.c12 ∷ odd_sum f w.c11 ∷ w.c10 ∷ w.c9 ∷ w.c8 ∷ w.c7 ∷ w.c6 ∷ w.c5 ∷ odd_sum f w.c4 ∷ w.c3 ∷ w.c2 ∷ w.c1 ∷ w.c0 ∷ f ∷ []
-
-stepped_false : (w : Word) → w.c14 ∷ w.c13 ∷ w.c12 ∷ w.c11 ∷ w.c10 ∷ w.c9 ∷ w.c8 ∷ w.c7 ∷ w.c6 ∷ w.c5 ∷ w.c4 ∷ w.c3 ∷ w.c2 ∷ w.c1 ∷ w.c0 ∷ false ∷ [] ≡ stepped false w
-stepped_false w = refl
-
-odd_sum_true : (a : Bool) → odd_sum a true ≡ not a
-odd_sum_true true = refl
-odd_sum_true false = refl
-
-stepped_true : (w : Word) → plus (w.c14 ∷ w.c13 ∷ w.c12 ∷ w.c11 ∷ w.c10 ∷ w.c9 ∷ w.c8 ∷ w.c7 ∷ w.c6 ∷ w.c5 ∷ w.c4 ∷ w.c3 ∷ w.c2 ∷ w.c1 ∷ w.c0 ∷ false ∷ []) (low_bits 16 33800) ≡ stepped true w
-unfolding plus low_bits
-stepped_true w = simp (xor_none, odd_sum_true)
-
-pub odd_sum_same : (a b : Bool) → a ≡ b → odd_sum a b ≡ false
-odd_sum_same true true same = refl
-odd_sum_same true false same = absurd (let e : true ≡ false = same in cc)
-odd_sum_same false true same = absurd (let e : false ≡ true = same in cc)
-odd_sum_same false false same = refl
-
-pub odd_sum_other : (a b : Bool) → (a ≡ b → ⊥) → odd_sum a b ≡ true
-odd_sum_other true true other = absurd (other refl)
-odd_sum_other true false other = refl
-odd_sum_other false true other = refl
-odd_sum_other false false other = absurd (other refl)
-
-register_goes_on : (sent : List Bool) (bit : Bool) (new : ℕ) → low_bits 16 new ≡ stepped (odd_sum (remainder (dividend sent)).c15 bit) (remainder (dividend sent))
-    → Register new (bit ∷ sent)
-register_goes_on sent bit new same = register_of_bits new (bit ∷ sent) (same ∙ ap (λ w. reverse (bits w)) (sym (remainder-step bit sent)))
-
-pub shift_same : (register : ℕ) (bit : Bool) (sent : List Bool) → register < 2 ^ 16 → (register % 2 == 1) ≡ bit → Register register sent
-    → Register (register / 2) (bit ∷ sent)
-shift_same register bit sent small same holds =
-    let w : Word = remainder (dividend sent) in
-    let old : low_bits 16 register ≡ reverse (bits w) = register_bits register sent holds in
-    let none : odd_sum w.c15 bit ≡ false = odd_sum_same w.c15 bit (sym (lowest_bit register w old) ∙ same) in
-    register_goes_on sent bit (register / 2) (other_bits register w small old ∙ ap (λ f. stepped f w) (sym none))
-
-pub shift_other : (register : ℕ) (bit : Bool) (sent : List Bool) → register < 2 ^ 16 → ((register % 2 == 1) ≡ bit → ⊥) → Register register sent
-    → Register (bit_xor (register / 2) 33800) (bit ∷ sent)
-shift_other register bit sent small other holds =
-    let w : Word = remainder (dividend sent) in
-    let old : low_bits 16 register ≡ reverse (bits w) = register_bits register sent holds in
-    let one : odd_sum w.c15 bit ≡ true = odd_sum_other w.c15 bit (λ same. other (lowest_bit register w old ∙ same)) in
-    register_goes_on sent bit (bit_xor (register / 2) 33800)
-    (low_bits-xor 16 (register / 2) 33800 ∙ ap (λ bs. plus bs (low_bits 16 33800)) (other_bits register w small old) ∙ stepped_true w ∙ ap (λ f. stepped f w) (sym one))
-
--- one more bit of an octet
-pub octet_more : (i octet : ℕ) (sent : List Bool)
-    → reverse (low_bits (i + 1) octet) ++ sent ≡ (bit_and (octet / 2 ^ i) 1 == 1) ∷ (reverse (low_bits i octet) ++ sent)
-unfolding low_bits
-octet_more i octet sent =
-    ap (λ bs. reverse bs ++ sent) (low_bits-split i 1 octet)
-    ∙ ap (λ bs. bs ++ sent) (reverse-append (low_bits i octet) (low_bits 1 (octet / 2 ^ i)))
-    ∙ ap (λ n. (n == 1) ∷ (reverse (low_bits i octet) ++ sent)) (sym (shr_and_one octet i))
-
-pub beq_true : (a b : Bool) → beq a b ≡ true → a ≡ b
-beq_true true true same = refl
-beq_true true false same = absurd (let e : false ≡ true = same in cc)
-beq_true false true same = absurd (let e : false ≡ true = same in cc)
-beq_true false false same = refl
-
-pub beq_false : (a b : Bool) → beq a b ≡ false → a ≡ b → ⊥
-beq_false true true other same = let e : true ≡ false = other in cc
-beq_false true false other same = let e : true ≡ false = same in cc
-beq_false false true other same = let e : false ≡ true = same in cc
-beq_false false false other same = let e : true ≡ false = other in cc
-
-pub register_none : (octet register : ℕ) (sent : List Bool) → Register register sent → Register register (reverse (low_bits 0 octet) ++ sent)
-unfolding low_bits
-register_none octet register sent holds = holds
-
-pub register_more : (i octet register : ℕ) (sent : List Bool)
-    → Register register ((bit_and (octet / 2 ^ i) 1 == 1) ∷ (reverse (low_bits i octet) ++ sent)) → Register register (reverse (low_bits (i + 1) octet) ++ sent)
-register_more i octet register sent holds = let P : List Bool → Type 0 = λ bs. Register register bs in subst P (sym (octet_more i octet sent)) holds
 
 pub register_empty : Register 65535 (reverse (bits_of []))
 unfolding bits_of

@@ -7,29 +7,14 @@ ghost use Rattle.su_octets.specs.Register.{Register};
 /// The register before the first bit.
 const START: u16 = 0xffff;
 
-/// x^12 + x^5 + 1, the lowest bit standing for x^15.
-const GENERATOR: u16 = 0x8408;
-
-/// The register after one more bit.
-fn shift(register: u16, bit: bool) -> u16
-    ensures { (sent : List Bool) → Register register sent → Register result (bit ∷ sent) }
-{
-    if (register % 2 == 1) == bit {
-        register / 2
-    } else {
-        register / 2 ^ GENERATOR
-    }
-}
-
-/// The register after one more octet.
+/// The register after one more octet. Its eight bits go in at once: `fed` has the ones that each of the eight
+/// shifts brings back, and these stand in the register at x^0, x^5 and x^12 (Q.703, 4.2).
 fn shift_octet(register: u16, octet: u8) -> u16
     ensures { (sent : List Bool) → Register register sent → Register result (reverse (low_bits 8 octet) ++ sent) }
 {
-    let mut register = register;
-    for i in 0..8u8 {
-        register = shift(register, octet >> i & 1 == 1);
-    }
-    register
+    let mixed = (register % 256) as u8 ^ octet;
+    let fed = u16::from(mixed << 4 ^ mixed);
+    fed >> 4 ^ fed << 3 ^ fed << 8 ^ register >> 8
 }
 
 /// The register after all octets.

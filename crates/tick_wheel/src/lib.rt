@@ -95,6 +95,10 @@ impl Timer {
 }
 
 impl Default for Timer {
+    ghost use Rattle.std.specs.Prelude.{◌≡◌};
+
+    ghost is_default = { λ timer. timer ≡ record { process = 0; number = 0 } };
+
     /// Timer 0 of process 0.
     fn default() -> Self {
         Timer::new(0, 0)

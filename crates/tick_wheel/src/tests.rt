@@ -114,3 +114,25 @@ fn refusals_change_nothing(rt: HostRuntime) -> Result<(), Fail> {
     assert_eq!(rt; wheel.deadline_of(timer), Some(LAST_CLOCK + 1));
     Ok(())
 }
+
+// With ample memory each call succeeds at once. Where memory is refused, nothing has changed, and the next call succeeds.
+#[test]
+fn refused_memory_changes_nothing(rt: HostRuntime) -> Result<(), Fail> {
+    let mut wheel = match Wheel::new(rt.alloc()) {
+        Ok(wheel) => wheel,
+        Err(AllocError) => Wheel::new(rt.alloc())?,
+    };
+    let timer = Timer::new(3, 4);
+    let now = wheel.clock();
+    assert!(rt; now < 7);
+    wheel.set(timer, 7);
+    let copy = match wheel.copy() {
+        Ok(copy) => copy,
+        Err(AllocError) => {
+            assert_eq!(rt; (wheel.clock(), wheel.deadline_of(timer)), (0, Some(7)));
+            wheel.copy()?
+        }
+    };
+    assert_eq!(rt; (copy.clock(), copy.deadline_of(timer)), (0, Some(7)));
+    Ok(())
+}

@@ -1,4 +1,4 @@
-use Rattle.std.proofs.Common.{◌≡◌, Bool, true, false, List, [], ◌∷◌, ◌++◌, sym, ap, ◌∙◌, ◌+◌, ◌*◌, ◌%◌, ◌^◌}
+use Rattle.std.proofs.Common.{[], ◌∷◌, ◌++◌, sym, ap, ◌∙◌, ◌+◌}
 use Rattle.std.proofs.lemmas.Nat.{one_shl}
 use Rattle.su_octets.specs.Bits.{low_bits}
 use Rattle.bit_line.proofs.BitLists.{low_bits-zero, low_bits-one}

@@ -1,4 +1,4 @@
-use Rattle.std.proofs.Common.{◌≡◌, ℕ, List, subst}
+use Rattle.std.proofs.Common.{ℕ, List, subst}
 use Rattle.su_octets.specs.Bits.{AreOctets}
 use Rattle.bit_line.specs.Events.{AreUnit}
 use Rattle.bit_line.proofs.StuffLaws.{taken_out-none}

@@ -1,4 +1,4 @@
-use Rattle.std.proofs.Common.{◌≡◌, Some, ap, refl, sym, ◌∙◌, arith}
+use Rattle.std.proofs.Common.{Some, ap, sym, ◌∙◌}
 use Rattle.bit_line.proofs.CountLaws as laws
 use Rattle.bit_line.proofs.counter.Counter.tick.Goals as goal
 

@@ -1,4 +1,4 @@
-use Rattle.std.proofs.Common.{ℕ, Bool, List, refl, sym, ◌∙◌, arith, length}
+use Rattle.std.proofs.Common.{refl}
 use Rattle.bit_line.proofs.EventLaws as laws
 use Rattle.bit_line.proofs.deframer.Deframer.copy.Goals as goal
 

@@ -1,4 +1,4 @@
-use Rattle.std.proofs.Common.{ℕ, Bool, List, refl, sym, ◌∙◌, arith, length}
+use Rattle.std.proofs.Common.{arith}
 use Rattle.bit_line.proofs.EventLaws as laws
 use Rattle.bit_line.proofs.deframer.Deframer.feed.Goals as goal
 

@@ -1,4 +1,4 @@
-use Rattle.std.proofs.Common.{ℕ, Bool, List, ◌++◌, reverse, take}
+use Rattle.std.proofs.Common.{Bool, List, ◌++◌, reverse, take}
 use Rattle.su_octets.specs.Bits.{bits_of}
 use Rattle.bit_line.specs.Deframing.{StandsAt}
 use Rattle.bit_line.specs.declared.events.LineEvent.{LineEvent}

@@ -1,4 +1,4 @@
-use Rattle.std.proofs.Common.{ℕ, Bool, List, ap, refl, sym, ◌∙◌, arith, length}
+use Rattle.std.proofs.Common.{ap, arith, length}
 use Rattle.bit_line.proofs.EventLaws as laws
 use Rattle.bit_line.proofs.deframer.Deframer.feed_byte.Goals as goal
 

@@ -1,4 +1,4 @@
-use Rattle.std.proofs.Common.{ℕ, ◌+◌, ◌*◌, ◌≤◌, Bool, List, ◌++◌, reverse}
+use Rattle.std.proofs.Common.{◌+◌, ◌*◌, ◌≤◌, Bool, List, ◌++◌, reverse}
 use Rattle.std.specs.Prelude.{unwrap_or}
 use Rattle.arrayvec.specs.ArrayVec.{array_vec_len}
 use Rattle.su_octets.specs.Bits.{low_bits}

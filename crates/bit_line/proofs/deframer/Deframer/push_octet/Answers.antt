@@ -1,4 +1,4 @@
-use Rattle.std.proofs.Common.{ℕ, Bool, List, refl, sym, ◌∙◌, arith, length}
+use Rattle.std.proofs.Common.{◌∙◌}
 use Rattle.bit_line.proofs.EventLaws as laws
 use Rattle.std.proofs.Common.{append_assoc, ◌++◌, ap}
 use Rattle.bit_line.specs.Counting.{sixteen_of}

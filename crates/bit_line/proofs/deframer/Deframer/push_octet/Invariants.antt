@@ -1,4 +1,4 @@
-use Rattle.std.proofs.Common.{ℕ, Bool, List, ◌++◌, reverse}
+use Rattle.std.proofs.Common.{Bool, List, ◌++◌, reverse}
 use Rattle.su_octets.specs.Bits.{low_bits}
 use Rattle.bit_line.specs.Deframing.{StandsAt}
 use Rattle.bit_line.specs.declared.events.LineEvent.{LineEvent}

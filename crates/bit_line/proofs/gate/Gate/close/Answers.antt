@@ -1,4 +1,4 @@
-use Rattle.std.proofs.Common.{◌≡◌, refl, sym, ◌∙◌, arith}
+use Rattle.std.proofs.Common.{refl}
 use Rattle.bit_line.proofs.GateLaws as laws
 use Rattle.bit_line.proofs.gate.Gate.close.Goals as goal
 

@@ -1,4 +1,3 @@
-use Rattle.std.proofs.Common.{◌≡◌, refl, sym, ◌∙◌, arith}
 use Rattle.bit_line.proofs.GateLaws as laws
 use Rattle.bit_line.proofs.gate.Gate.judge.Goals as goal
 

@@ -1,6 +1,5 @@
-use Rattle.std.proofs.Common.{ℕ, ◌+◌, Bool, List, ◌∷◌, ◌++◌, reverse, refl, sym, ap, ◌∙◌, arith, length, take, append_assoc}
+use Rattle.std.proofs.Common.{◌++◌, sym, ap, ◌∙◌, arith}
 use Rattle.bit_line.specs.Stuffing.{stuffed, trailing}
-use Rattle.su_octets.specs.Bits.{low_bits, bits_of}
 use Rattle.bit_line.proofs.SendLaws as laws
 use Rattle.bit_line.proofs.stuffer.Line.push_unit.Goals as goal
 

@@ -1,4 +1,4 @@
-use Rattle.std.proofs.Common.{ℕ, ◌++◌, reverse, ap, refl}
+use Rattle.std.proofs.Common.{◌++◌, reverse, ap, refl}
 use Rattle.bit_line.specs.Stuffing.{stuffed}
 use Rattle.bit_line.specs.Parts.{opening}
 use Rattle.bit_line.specs.Sending.{line_of}

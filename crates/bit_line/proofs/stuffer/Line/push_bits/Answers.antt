@@ -1,8 +1,7 @@
-use Rattle.std.proofs.Common.{ℕ, ◌+◌, Bool, List, ◌∷◌, ◌++◌, reverse, refl, sym, ap, ◌∙◌, arith, length, take, append_assoc}
+use Rattle.std.proofs.Common.{◌++◌, ap, ◌∙◌, arith}
 use Rattle.bit_line.specs.Stuffing.{stuffed, trailing}
-use Rattle.su_octets.specs.Bits.{low_bits, bits_of}
 use Rattle.bit_line.proofs.SendLaws as laws
-use Rattle.bit_line.proofs.stuffer.Line.push_octet.Goals as goal
+use Rattle.bit_line.proofs.stuffer.Line.push_bits.Goals as goal
 
 pub loop-i-init : goal.loop-i-init
 loop-i-init c = record {

@@ -3,7 +3,7 @@ use Rattle.arrayvec.specs.ArrayVec.{array_vec_len}
 use Rattle.su_octets.specs.Bits.{low_bits}
 use Rattle.bit_line.specs.Parts.{Packed}
 use Rattle.bit_line.specs.Stuffing.{trailing, stuffed}
-use Rattle.bit_line.proofs.stuffer.Line.push_octet.Given as goal
+use Rattle.bit_line.proofs.stuffer.Line.push_bits.Given as goal
 
 abbrev pub invariant-loop-i : goal.invariant-loop-i
 invariant-loop-i l = record {
