@@ -1,24 +1,40 @@
 //! `mtp2_play`: the program. It checks process texts and reads signal units.
 #![tactic(auto)]
 
+mod check;
 mod frame;
 mod line_bits;
 mod lines;
+mod texts;
 mod words;
 
+pub use check::check;
 use clap::Error;
 use clap::error::ErrorKind;
 pub use frame::frame;
 pub use lines::{FAILED, HELD, REFUSED, USAGE};
 use std::process::ExitCode;
 use std::rt::Runtime;
-use std::{env, io};
+use std::{env, fs, io};
+pub use texts::SetWord;
 pub use words::Request;
 
 /// Runs one command, and gives the exit status.
 fn run<R: Runtime + AllocGlobal>(rt: &R, request: &Request<'_>) -> u8 {
     match request {
+        Request::Check { set } => run_check(rt, set),
         Request::Frame { octets } => frame(rt.alloc(), octets, &mut io::writer(rt)),
+    }
+}
+
+/// Runs `check` on the text of a file, or of standard input where the word is `stdin`.
+fn run_check<R: Runtime + AllocGlobal>(rt: &R, set: &str) -> u8 {
+    if set == "stdin" {
+        return check(rt.alloc(), SetWord::Text(rt.reader()), &mut io::writer(rt));
+    }
+    match fs::open(rt, set) {
+        Ok(file) => check(rt.alloc(), SetWord::Text(file), &mut io::writer(rt)),
+        Err(_) => FAILED,
     }
 }
 
@@ -48,5 +64,7 @@ fn main(rt: HostRuntime) -> ExitCode {
     ExitCode::from(status)
 }
 
+#[cfg(test)]
+mod check_tests;
 #[cfg(test)]
 mod tests;

@@ -5,9 +5,25 @@ use std::test::Fail;
 
 /// A writer that keeps what it is given, and fails after so many calls.
 #[derive(Drop)]
-struct Paper {
+pub(crate) struct Paper {
     text: Vec<u8>,
     calls_left: u32,
+}
+
+impl Paper {
+    /// An empty one.
+    pub(crate) fn new(alloc: Global, calls: u32) -> Paper {
+        Paper {
+            text: Vec::new(alloc),
+            calls_left: calls,
+        }
+    }
+
+    /// What was written.
+    pub(crate) fn into_text(self) -> Vec<u8> {
+        let Paper { text, .. } = self;
+        text
+    }
 }
 
 impl Write for Paper {
@@ -27,13 +43,9 @@ impl Write for Paper {
 
 /// What `frame` prints for a word, and its exit status.
 fn printed(alloc: Global, word: &str, calls: u32) -> (Vec<u8>, u8) {
-    let mut paper = Paper {
-        text: Vec::new(alloc),
-        calls_left: calls,
-    };
+    let mut paper = Paper::new(alloc, calls);
     let status = frame(alloc, word, &mut paper);
-    let Paper { text, .. } = paper;
-    (text, status)
+    (paper.into_text(), status)
 }
 
 /// Words, with what is printed for them and the exit status.
@@ -112,6 +124,9 @@ fn is_read(alloc: Global, given: &[&str]) -> Result<bool, Fail> {
 fn reads_the_command_line(rt: HostRuntime) -> Result<(), Fail> {
     assert!(rt; is_read(rt.alloc(), &["mtp2_play", "frame", "FF"])?);
     assert!(rt; is_read(rt.alloc(), &["mtp2_play", "frame", ""])?);
+    assert!(rt; is_read(rt.alloc(), &["mtp2_play", "check", "stdin"])?);
+    assert!(rt; !is_read(rt.alloc(), &["mtp2_play", "check", "standard"])?);
+    assert!(rt; !is_read(rt.alloc(), &["mtp2_play", "check"])?);
     assert!(rt; !is_read(rt.alloc(), &["mtp2_play"])?);
     assert!(rt; !is_read(rt.alloc(), &["mtp2_play", "frame"])?);
     assert!(rt; !is_read(rt.alloc(), &["mtp2_play", "frame", "-F"])?);

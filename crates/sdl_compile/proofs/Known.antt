@@ -1,5 +1,5 @@
 -- A text none of whose names is unknown, and that doesn't run off its end, has all its names.
-use Rattle.std.proofs.Common.{◌≡◌, ℕ, ◌+◌, ◌<◌, Bool, true, false, not, cond, ◌||◌, List, [], ◌∷◌, ◌++◌, length, Option, Some, None, IsSome, refl, sym, subst, arith, nat_lt}
+use Rattle.std.proofs.Common.{◌≡◌, ℕ, ◌+◌, ◌<◌, Bool, true, false, not, cond, ◌||◌, List, [], ◌∷◌, length, Option, Some, None, IsSome, refl, sym, subst, arith, nat_lt}
 use Rattle.std.specs.List.{list_any, flat_map, position, position_or_len, prefix_len}
 use Rattle.std.proofs.lemmas.Bool.Decides.{nat_tests}
 use Rattle.sdl_tree.specs.declared.expression.Identifier.{Identifier}
@@ -10,27 +10,7 @@ use Rattle.sdl_rules.specs.Sound.{unknown, tree_names, assignment_names, text_na
 use Rattle.sdl_rules.specs.Longest.{Piece}
 use Rattle.sdl_compile.specs.Act.{Scope, variable_at}
 use Rattle.sdl_compile.specs.Named.{NamedTree, NamedTasks, NamedText, NamedPlaces, NamedPiece}
-
--- what holds of each item of a list
-abbrev Each : {A : Type 0} → (A → Type 0) → List A → Type 0
-Each P [] = Unit {0}
-Each P (x ∷ xs) = P x × Each P xs
-
-each_front : {A : Type 0} (P : A → Type 0) (a b : List A) → Each P (a ++ b) → Each P a
-each_front P [] b h = tt
-each_front P (x ∷ a) b h = (h.0, each_front P a b h.1)
-
-each_back : {A : Type 0} (P : A → Type 0) (a b : List A) → Each P (a ++ b) → Each P b
-each_back P [] b h = h
-each_back P (x ∷ a) b h = each_back P a b h.1
-
-nil_front : (a b : List ℕ) → a ++ b ≡ [] → a ≡ []
-nil_front [] b e = refl
-nil_front (x ∷ a) b e = absurd (let k : ⊥ = cc in k)
-
-nil_back : (a b : List ℕ) → a ++ b ≡ [] → b ≡ []
-nil_back [] b e = e
-nil_back (x ∷ a) b e = absurd (let k : ⊥ = cc in k)
+use Rattle.sdl_compile.proofs.Items.{Each, each_front, each_back, nil_front, nil_back}
 
 -- a list has an item that passes: the first one has a place
 before_end : {A : Type 0} (p : A → Bool) (xs : List A) → list_any p xs ≡ true → prefix_len (λ x. not (p x)) xs < length xs
@@ -54,7 +34,7 @@ known_one among x at e = by_test (is_in among x) refl e
     by_test true f e = has_place (λ (n : Identifier). same_name x n.name) among f
     by_test false f e = absurd (let k : ⊥ = cc in k)
 
-known : (among ids : List Identifier) → unknown among ids ≡ [] → Each (λ (id : Identifier). IsSome (number_of among id.name)) ids
+pub known : (among ids : List Identifier) → unknown among ids ≡ [] → Each (λ (id : Identifier). IsSome (number_of among id.name)) ids
 known among [] e = tt
 known among (id ∷ ids) e =
     let f : Identifier → List ℕ = λ id. cond (is_in among id.name) [] (id.at ∷ []) in (

@@ -137,6 +137,17 @@ module _ (d : Draft) (t : Transition) (made : IsMade d t) where
   within_code (y ∷ is) zero x e = omega arith
   within_code (y ∷ is) (suc k) x e = let h = within_code is k x e in omega (arith, h)
 
+  there_below : {A : Type 0} (xs : List A) (k : ℕ) → k < length xs → (a : A) × (slice_get xs k ≡ Some a)
+  there_below [] k h = absurd (omega arith)
+  there_below (x ∷ xs) zero h = (x, refl)
+  there_below (x ∷ xs) (suc k) h = there_below xs k (omega arith)
+
+  -- each instruction has facts
+  facts_here : (k : ℕ) (x : Instruction) → slice_get t.piece.code k ≡ Some x → (f : PlaceFacts) × (slice_get t.piece.facts k ≡ Some f)
+  facts_here k x e =
+      let long : length t.piece.facts ≡ length t.piece.code = ap length made.facts ∙ facts_length t.process.variables t.parameters t.process.states [] t.entry t.piece.code in
+      there_below t.piece.facts k (subst (λ n. k < n) (sym long) (within_code t.piece.code k x e))
+
   counts : (k : ℕ) (x : Instruction) (f : PlaceFacts) → slice_get t.piece.code k ≡ Some x → slice_get t.piece.facts k ≡ Some f → f.count ≡ 1 + greatest (counts_at t.piece (successors x k))
   counts k x f e h =
       let n = length t.piece.code in
@@ -162,7 +173,7 @@ module _ (d : Draft) (t : Transition) (made : IsMade d t) where
   valid = record {
     jump = λ k. record {
       entry = λ _. straight_some t.piece.code made.straight;
-      each = λ x f e h. all_next (λ j. j < length t.piece.code) x k (length t.piece.code) (goes k x e) (λ lt. lt);
+      each = λ x e. all_next (λ j. j < length t.piece.code) x k (length t.piece.code) (goes k x e) (λ lt. lt);
     };
     shape = λ k. record {
       facts = λ _. ap length made.facts ∙ facts_length t.process.variables t.parameters t.process.states [] t.entry t.piece.code;
@@ -175,17 +186,17 @@ module _ (d : Draft) (t : Transition) (made : IsMade d t) where
       each = λ x f e h. (right_here k x f e h).sort;
     };
     unset = λ k. record {
-      entry = λ _ j f there at. subst (λ s. IsWithin s t.entry) (sym (first_here j f there at).1) (λ v has. has);
+      entry = λ _ j f there at. (first_here j f there at).1;
       reads_set = λ x f e h. (right_here k x f e h).reads_set;
       each = λ x f e h j g there at. subst (λ s. IsWithin s (set_after x f.set)) (sym (next_here k j x f g e h there at).1) (λ v has. has);
       states = λ x f e h. (right_here k x f e h).states;
     };
-    state = λ k x f e h. (right_here k x f e h).states_there;
+    state = λ k x e. (let f = facts_here k x e in right_here k x f.0 e f.1).states_there;
     number = λ k. record {
       trigger = λ _. made.trigger;
-      reads_there = λ x f e h. (right_here k x f e h).reads_there;
-      sets_there = λ x f e h. (right_here k x f e h).sets_there;
-      parameters = λ x f e h. (right_here k x f e h).parameters;
+      reads_there = λ x e. (let f = facts_here k x e in right_here k x f.0 e f.1).reads_there;
+      sets_there = λ x e. (let f = facts_here k x e in right_here k x f.0 e f.1).sets_there;
+      parameters = λ x e. (let f = facts_here k x e in right_here k x f.0 e f.1).parameters;
     };
     limit = λ k. record {
       process = λ _ none. made.process_limits none;

@@ -1,14 +1,17 @@
 -- Lists that are made item by item.
-use Rattle.std.proofs.Common.{ℕ, zero, suc, ◌<◌, List, [], ◌∷◌, ◌++◌, length, get_or, take, drop, map, arith}
+use Rattle.std.proofs.Common.{◌≡◌, ℕ, zero, suc, ◌<◌, List, [], ◌∷◌, ◌++◌, length, get_or, take, drop, map, sym, ap, ◌∙◌, arith}
+use Rattle.std.proofs.Math.Seq.{take-suc}
+use Rattle.std.proofs.lemmas.List.{map-append}
 use Rattle.std.specs.List.{AllZip}
 use Rattle.std.specs.Prelude.{slice_get, IfSome}
 use Rattle.turn_code.specs.declared.draft.DraftVariable.{DraftVariable}
 use Rattle.turn_code.specs.declared.draft.DraftInput.{DraftInput}
+use Rattle.turn_code.specs.declared.draft.DraftState.{DraftState}
 use Rattle.turn_code.specs.declared.variable_set.VariableSet.{VariableSet}
 use Rattle.sdl_rules.specs.Longest.{input_piece}
 use Rattle.sdl_compile.proofs.Runs.{run_is_act}
 use Rattle.sdl_compile.specs.Act.{Scope}
-use Rattle.sdl_compile.specs.Drafts.{AllReady, AreReady, IsReadyInput, IsInputOf, MatchesInput}
+use Rattle.sdl_compile.specs.Drafts.{AllReady, AreReady, IsReadyInput, IsInputOf, MatchesInput, sets_of}
 use Rattle.sdl_tree.specs.declared.expression.Identifier.{Identifier}
 use Rattle.turn_code.specs.declared.draft.DraftSignal.{DraftSignal}
 use Rattle.sdl_rules.specs.Names.{Input}
@@ -54,3 +57,8 @@ inputs_match c xs signals ss entry (i ∷ is) (d ∷ ds) ready made = (
   },
   inputs_match c xs signals ss entry is ds ready.1 made.1,
 )
+
+-- one more state has its set
+pub sets_more : (ds : List DraftState) (d : DraftState) (sets : List ℕ) (i : ℕ) → i < length sets → sets_of ds ≡ take i sets → d.set.0 ≡ get_or sets i 0 → sets_of (ds ++ d ∷ []) ≡ take (suc i) sets
+sets_more ds d sets i lt e f =
+    map-append (λ (d : DraftState). d.set.0) ds (d ∷ []) ∙ ap (λ l. l ++ d.set.0 ∷ []) e ∙ ap (λ v. take i sets ++ v ∷ []) f ∙ sym (take-suc sets i 0 lt)

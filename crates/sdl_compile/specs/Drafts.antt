@@ -117,3 +117,11 @@ pub record AreReadySignals (signals : List Identifier) (ss : List DraftSignal) :
 pub record IsInputOf (c : Scope) (xs : List DraftVariable) (signals : List Identifier) (ss : List DraftSignal) (entry : VariableSet) (i : Input) (d : DraftInput) : Type 0 where
   pub trigger : d.trigger ≡ waits_for signals i.stimulus.name
   pub piece : IsPieceOf c xs (parameters_at ss (number_or_zero (number_of signals i.stimulus.name.name))) entry (input_piece i) d.piece
+
+-- the inputs of a state that is entered with its set of variables
+abbrev pub AreInputsOf : Scope → List DraftVariable → List Identifier → List DraftSignal → List Input → DraftState → Type 0
+AreInputsOf c xs signals ss is d = AllZip (IsInputOf c xs signals ss d.set) is d.inputs
+
+-- the set of each state
+abbrev pub sets_of : List DraftState → List ℕ
+sets_of ds = map (λ (d : DraftState). d.set.0) ds

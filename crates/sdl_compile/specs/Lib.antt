@@ -1,8 +1,10 @@
 pub mod Act
+pub mod Blocks
 pub mod Code
 pub mod Drafts
 pub mod Facts
 pub mod Made
 pub mod Named
 pub mod Reads
+pub mod Routes
 pub mod Scopes

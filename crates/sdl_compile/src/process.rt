@@ -1,31 +1,36 @@
 //! A process.
 ghost use Rattle.std.specs.Prelude.{◌≡◌, IfOk};
 ghost use Rattle.sdl_tree.specs.Views.{process_of};
+ghost use Rattle.sdl_rules.specs.Settled.{AreSettled};
 ghost use Rattle.sdl_compile.specs.Drafts.{AreReadySignals, IsReadyProcess, MatchesProcess};
+ghost use Rattle.sdl_compile.specs.Blocks.{IsValidProcess};
 
 use crate::names::Names;
 use crate::piece::{Setting, compile_transition};
-use crate::sets::{initial_set, state_sets};
 use crate::state::{Context, compile_states, draft_name};
-use crate::variables::compile_variables;
+use crate::variables::{compile_variables, set_at_start};
 use sdl_rules::{NameTable, ProcessTable};
 use std::alloc::{AllocError, Global};
 use turn_code::{DraftProcess, DraftSignal, Sequence};
 
-/// Compiles a process of a block with these signals.
+/// Compiles a process of a block with these signals. `sets` has for each state the variables that
+/// are set whenever the process is there.
 ///
 /// Its variables, states and inputs have their names and numbers in the order of the text, each
-/// piece does what its transition means, and each certificate names the longest path. Want of
-/// memory is the only error.
+/// piece does what its transition means, and each certificate names the longest path. In a draft
+/// with these signals it keeps every rule of a valid draft. Want of memory is the only error.
 pub fn compile_process(
     alloc: Global,
     table: &ProcessTable,
+    sets: &[u32],
     signals: &NameTable,
     drafts: &[DraftSignal],
 ) -> Result<DraftProcess, AllocError>
     requires ready { IsReadyProcess signals.now drafts.now (process_of table.now) }
     requires signals { AreReadySignals signals.now drafts.now }
-    ensures { IfOk result (λ d. MatchesProcess signals.now (process_of table.now) d) }
+    requires settled { AreSettled (process_of table.now) sets.now }
+    ensures matches { IfOk result (λ d. MatchesProcess signals.now (process_of table.now) d) }
+    ensures valid { IfOk result (λ d. IsValidProcess drafts.now d) }
 {
     let variables = compile_variables(alloc, table.rows())?;
     let names = Names {
@@ -34,12 +39,11 @@ pub fn compile_process(
     };
     let process = table.process();
     let start = &process.start.transition;
-    let sets = state_sets(alloc, &names, &variables, start, table.inputs())?;
     let setting = Setting {
         names: &names,
         variables: &variables,
         parameters: &[],
-        entry: initial_set(&variables),
+        entry: set_at_start(&variables),
     };
     let first = compile_transition(alloc, &setting, &[], start)?;
     let context = Context {
@@ -48,7 +52,7 @@ pub fn compile_process(
         signals,
         drafts,
     };
-    let states = compile_states(alloc, &context, table.inputs(), &sets)?;
+    let states = compile_states(alloc, &context, table.inputs(), sets)?;
     Ok(DraftProcess {
         name: draft_name(&process.name.name),
         variables: Sequence::from(variables),

@@ -6,7 +6,7 @@ ghost use Rattle.sdl_rules.specs.Names.{number_of};
 ghost use Rattle.sdl_compile.specs.Scopes.{scope_in};
 ghost use Rattle.sdl_compile.specs.Code.{number_or_zero};
 ghost use Rattle.sdl_compile.specs.Made.{AreDrafted};
-ghost use Rattle.sdl_compile.specs.Drafts.{AllReady, IsNamedAs, MatchesInputs, AreReady, AreReadySignals, IsReadyInput, IsInputOf, parameters_at, HasFew};
+ghost use Rattle.sdl_compile.specs.Drafts.{AllReady, IsNamedAs, MatchesInputs, AreReady, AreReadySignals, IsReadyInput, IsInputOf, AreInputsOf, sets_of, parameters_at, HasFew};
 
 use crate::names::Names;
 use crate::piece::{Setting, compile_transition};
@@ -119,6 +119,8 @@ fn make_state(
     requires variables { AreDrafted (scope_in context.now.names.now) context.now.variables.now }
     ensures name { IfOk result (λ d. IfSome (slice_get context.now.names.now.states.now number) (λ id. IsNamedAs id d)) }
     ensures inputs { IfOk result (λ d. MatchesInputs (scope_in context.now.names.now) context.now.signals.now (map row_input rows.now) d) }
+    ensures made { IfOk result (λ d. AreInputsOf (scope_in context.now.names.now) context.now.variables.now context.now.signals.now context.now.drafts.now (map row_input rows.now) d) }
+    ensures set { IfOk result (λ d. d.set ≡ set) }
 {
     let name = match context.names.states.get(number) {
         Some(id) => draft_name(&id.name),
@@ -132,23 +134,27 @@ fn make_state(
     })
 }
 
-/// Compiles the states of a process, each entered with its set of variables that are set.
+/// Compiles the states of a process. `sets` has for each of them the variables that are set as it
+/// is entered, bit v for variable v.
 pub fn compile_states(
     alloc: Global,
     context: &Context,
     inputs: &[Vec<InputRow>],
-    sets: &[VariableSet],
+    sets: &[u32],
 ) -> Result<Vec<DraftState>, AllocError>
     requires paired { length inputs.now ≡ length context.now.names.now.states.now }
+    requires sets { length sets.now ≡ length context.now.names.now.states.now }
     requires ready { AllReady (scope_in context.now.names.now) context.now.signals.now context.now.drafts.now (map rows_inputs inputs.now) }
     requires signals { AreReadySignals context.now.signals.now context.now.drafts.now }
     requires variables { AreDrafted (scope_in context.now.names.now) context.now.variables.now }
     ensures names { IfOk result (λ ds. AllZip IsNamedAs context.now.names.now.states.now ds.items) }
     ensures inputs { IfOk result (λ ds. AllZip (MatchesInputs (scope_in context.now.names.now) context.now.signals.now) (map rows_inputs inputs.now) ds.items) }
+    ensures made { IfOk result (λ ds. AllZip (AreInputsOf (scope_in context.now.names.now) context.now.variables.now context.now.signals.now context.now.drafts.now) (map rows_inputs inputs.now) ds.items) }
+    ensures sets { IfOk result (λ ds. sets_of ds.items ≡ sets.now) }
 {
     let mut states = Vec::new(alloc);
     for (number, rows) in inputs.iter().enumerate() {
-        let set = sets.get(number).copied().unwrap_or(VariableSet(0));
+        let set = VariableSet(sets[number]);
         states.push(make_state(alloc, context, number, set, rows)?)?;
     }
     Ok(states)

@@ -1,5 +1,6 @@
 //! The variables of a process.
-ghost use Rattle.std.specs.Prelude.{◌≡◌, map, IfOk};
+ghost use Rattle.std.specs.Prelude.{◌≡◌, ◌<◌, ◌≤◌, ◌^◌, length, map, IfOk};
+ghost use Rattle.turn_code.specs.Sets.{initial_set};
 ghost use Rattle.sdl_rules.specs.Rows.{variable_of};
 ghost use Rattle.sdl_compile.specs.Drafts.{drafted, constant_value, sort_of_tree};
 
@@ -7,7 +8,7 @@ use crate::state::draft_name;
 use sdl_rules::Variable;
 use sdl_tree::{Constant, Literal};
 use std::alloc::{AllocError, Global};
-use turn_code::{DraftVariable, Sort, Value};
+use turn_code::{DraftVariable, Sort, Value, VariableSet};
 
 fn value(constant: Constant) -> Value
     ensures { result ≡ constant_value constant }
@@ -17,8 +18,8 @@ fn value(constant: Constant) -> Value
     }
 }
 
-// The sort of values, as a draft has it.
-fn sort(declared: sdl_tree::Sort) -> Sort
+/// The sort of values, as a draft has it.
+pub(crate) fn sort(declared: sdl_tree::Sort) -> Sort
     ensures { result ≡ sort_of_tree declared }
 {
     match declared {
@@ -49,6 +50,21 @@ pub fn compile_variables(alloc: Global, rows: &[Variable]) -> Result<Vec<DraftVa
         variables.push(make_variable(row))?;
     }
     Ok(variables)
+}
+
+/// The variables that have an initial value.
+pub(crate) fn set_at_start(variables: &[DraftVariable]) -> VariableSet
+    requires { length variables.now ≤ 32 }
+    ensures value { result ≡ initial_set variables.now }
+    ensures small { result.0 < 2 ^ length variables.now }
+{
+    match variables {
+        [] => VariableSet(0),
+        [first, others @ ..] => {
+            let set = set_at_start(others);
+            VariableSet(u32::from(first.initial.is_some()) + 2 * set.0)
+        }
+    }
 }
 
 #[cfg(test)]

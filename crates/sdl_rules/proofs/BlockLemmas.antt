@@ -1,20 +1,21 @@
 -- The tables of a block are the block's.
-use Rattle.std.proofs.Common.{◌≡◌, ℕ, ◌+◌, ◌<◌, ◌≤◌, Bool, true, false, cond, nat_lt, List, [], ◌∷◌, ◌++◌, map, length, Option, None, Some, zero, suc, Contains, slice_get, find, position, refl, sym, ap, ◌∙◌, subst, arith, get_or}
+use Rattle.std.proofs.Common.{◌≡◌, ℕ, ◌<◌, ◌≤◌, Bool, true, false, cond, nat_lt, List, [], ◌∷◌, ◌++◌, map, length, Option, None, Some, zero, suc, Contains, slice_get, find, refl, sym, ap, ◌∙◌, subst, arith, get_or}
 use Rattle.std.specs.List.{flat_map, position_or_len}
 use Rattle.std.specs.Option.{option_map, option_and_then}
 use Rattle.std.proofs.lemmas.List.{append-nil}
 use Rattle.std.proofs.lemmas.Option.{slice_get_past, slice_get-get_or}
 use denote.Ref.{Bor}
 use Rattle.sdl_tree.specs.declared.tree.SignalDeclaration.{SignalDeclaration}
-use Rattle.sdl_tree.specs.Views.{signal_of, process_of}
+use Rattle.sdl_tree.specs.Views.{signal_of, route_of, process_of}
 use Rattle.sdl_tree.specs.declared.tree.Process as the_process
+use Rattle.sdl_tree.specs.declared.tree.Route as the_route
 use Rattle.sdl_rules.proofs.States.{map-map}
 use Rattle.std.proofs.lemmas.List.Folds.{find_at}
 use Rattle.std.proofs.lemmas.Grind.{flat_map-append}
 use Rattle.std.proofs.lemmas.Bool.Decides.{leb_tells}
 use Rattle.sdl_tree.specs.declared.expression.Identifier.{Identifier}
 use Rattle.sdl_tree.specs.Plain.{PlainSignal, PlainProcess, PlainBlock}
-use Rattle.sdl_rules.specs.Names.{same_name, number_of, signal_names, route_names, process_names, signals_of, processes_of, signal_named}
+use Rattle.sdl_rules.specs.Names.{same_name, number_of, signal_names, route_names, process_names, signals_of, routes_of, processes_of, signal_named}
 use Rattle.sdl_rules.specs.Sound.{Marks, repeats, process_scopes, double_names}
 use Rattle.sdl_rules.proofs.Tables.{position-map}
 use Rattle.sdl_rules.proofs.Repeats.{append-nil_right}
@@ -137,3 +138,8 @@ pub process_ids-of_rows : (b : PlainBlock) (rows : List (Bor the_process.Process
     → map (λ p. process_of p.now) rows ≡ processes_of b → ids ≡ map (λ p. p.now.name) rows → ids ≡ process_names b
 process_ids-of_rows b rows ids same h =
     h ∙ (sym (map-map (λ p. p.name) (λ p. process_of p.now) rows) ∙ ap (map (λ p. p.name)) same)
+
+pub route_ids-of_rows : (b : PlainBlock) (rows : List (Bor the_route.Route)) (ids : List Identifier)
+    → map (λ r. route_of r.now) rows ≡ routes_of b → ids ≡ map (λ r. r.now.name) rows → ids ≡ route_names b
+route_ids-of_rows b rows ids same h =
+    h ∙ (sym (map-map (λ r. r.name) (λ r. route_of r.now) rows) ∙ ap (map (λ r. r.name)) same)

@@ -1,6 +1,13 @@
+pub mod Bits
 pub mod BlockLemmas
+pub mod Numbers
+pub mod PathNames
 pub mod ProcessTables
 pub mod Repeats
+pub mod Searches
+pub mod Settling
 pub mod States
+pub mod Surveying
 pub mod Tables
 pub mod Texts
+pub mod Walks

@@ -1,5 +1,5 @@
 -- Names once, and names that repeat.
-use Rattle.std.proofs.Common.{◌≡◌, ℕ, Bool, true, false, not, ◌||◌, List, [], ◌∷◌, ◌++◌, fold, Option, None, Some, if◌then◌else◌, bytes_eq, refl, sym, ap, ◌∙◌, subst, append_assoc}
+use Rattle.std.proofs.Common.{◌≡◌, ℕ, Bool, true, false, not, ◌||◌, List, [], ◌∷◌, ◌++◌, fold, Option, if◌then◌else◌, bytes_eq, refl, sym, ap, ◌∙◌, subst, append_assoc}
 use Rattle.std.specs.List.{list_any}
 use Rattle.std.proofs.lemmas.List.Folds.{list_any-append}
 use Rattle.std.proofs.lemmas.List.{append-nil}
@@ -8,7 +8,7 @@ use Rattle.std.proofs.lemmas.Slice.Eq.{bytes_eq-Decides}
 use Rattle.std.proofs.Math.Bool.{or-true, or-false}
 use Rattle.sdl_lex.specs.Spelling.{folded}
 use Rattle.sdl_tree.specs.declared.expression.Identifier.{Identifier}
-use Rattle.sdl_rules.specs.Names.{same_name, is_in, number_of, add_name, names_once}
+use Rattle.sdl_rules.specs.Names.{same_name, is_in, add_name, names_once}
 use Rattle.sdl_rules.specs.Sound.{repeats, Marks}
 
 cons-nil : (x : ℕ) (xs : List ℕ) → x ∷ xs ≡ [] → ⊥

@@ -1,5 +1,5 @@
 -- The inputs of each state, by number.
-use Rattle.std.proofs.Common.{◌≡◌, ℕ, ◌+◌, ◌<◌, ◌==◌, Bool, true, false, List, [], ◌∷◌, ◌++◌, map, length, Option, None, Some, if◌then◌else◌, slice_get, refl, sym, ap, ◌∙◌, subst, arith, get_or, set, zero, suc, ◌≢◌}
+use Rattle.std.proofs.Common.{◌≡◌, ℕ, ◌+◌, ◌<◌, ◌==◌, Bool, true, false, List, [], ◌∷◌, ◌++◌, map, length, Some, if◌then◌else◌, slice_get, refl, sym, ap, ◌∙◌, subst, arith, get_or, set, zero, suc, ◌≢◌}
 use Rattle.std.specs.List.{flat_map, enumerate_from}
 use Rattle.std.specs.Option.{option_map_or}
 use Rattle.std.specs.Global.{Vec}
@@ -10,7 +10,7 @@ use Rattle.sdl_tree.specs.declared.expression.Identifier.{Identifier}
 use Rattle.sdl_tree.specs.Plain.{PlainState, PlainProcess}
 use Rattle.sdl_rules.specs.Names as names
 use Rattle.sdl_rules.specs.Names.{is_state, number_of, part_inputs, given_by, inputs_of, inputs_by_state, states_of}
-use Rattle.sdl_rules.specs.Rows.{row_input, rows_inputs, rows_at}
+use Rattle.sdl_rules.specs.Rows.{rows_inputs, rows_at}
 use Rattle.sdl_rules.specs.declared.process_table.InputRow.{InputRow}
 
 pub map-map : {A B C : Type 0} (g : B → C) (f : A → B) (xs : List A) → map g (map f xs) ≡ map (λ x. g (f x)) xs

@@ -1,5 +1,5 @@
 -- What the definitions on a text say of the actions that the code goes over.
-use Rattle.std.proofs.Common.{◌≡◌, ℕ, ◌+◌, ◌≤◌, Bool, true, false, List, [], ◌∷◌, ◌++◌, map, max, min, length, Option, None, Some, nat_lt, cond, find, refl, sym, ap, ◌∙◌, arith, append_assoc, if◌then◌else◌}
+use Rattle.std.proofs.Common.{◌≡◌, ℕ, ◌+◌, ◌≤◌, Bool, true, false, List, [], ◌∷◌, ◌++◌, map, max, length, Option, None, Some, nat_lt, cond, find, refl, sym, ap, ◌∙◌, arith, append_assoc}
 use Rattle.std.specs.Prelude.{sum_by}
 use Rattle.std.specs.List.{flat_map, list_any}
 use Rattle.std.proofs.lemmas.List.{append-nil}
@@ -8,9 +8,8 @@ use Rattle.sdl_tree.specs.declared.expression.Identifier.{Identifier}
 use Rattle.sdl_tree.specs.declared.tree.Action.{Action}
 use Rattle.sdl_tree.specs.declared.tree.Action.TheVariants.{Task}
 use Rattle.sdl_tree.specs.declared.tree.End.{End}
-use Rattle.sdl_tree.specs.declared.tree.End.TheVariants.{NextState}
-use Rattle.sdl_tree.specs.Plain.{Tree, PlainAssignment, Text, falls, ends, task, PlainDeclaration, variables, PlainProcess}
-use Rattle.sdl_tree.specs.Views.{assignment_of, action_text, actions_text, end_text}
+use Rattle.sdl_tree.specs.Plain.{PlainAssignment, Text, falls, ends, task, PlainDeclaration, variables, PlainProcess}
+use Rattle.sdl_tree.specs.Views.{assignment_of, actions_text, end_text}
 use Rattle.sdl_rules.specs.Names.{timers_in, timers_of}
 use Rattle.sdl_rules.specs.Longest.{depth_of, assignments_cost, assignments_depth, place_depth, places_depth, size, depth, effects}
 use Rattle.sdl_rules.specs.Sound.{text_names, assignment_names, strays}

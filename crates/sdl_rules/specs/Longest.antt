@@ -1,6 +1,6 @@
 -- The longest path of a transition: how many instructions, how many operands at once, how many effects. Each
 -- instruction counts 1. (The counts are this profile's own.)
-use Rattle.std.specs.Prelude.{ℕ, ◌+◌, List, [], ◌∷◌, ◌++◌, Option, None, Some, max, map, sum_by}
+use Rattle.std.specs.Prelude.{ℕ, ◌+◌, List, [], ◌∷◌, Option, None, Some, max, map, sum_by}
 use Rattle.std.specs.List.{flat_map}
 use Rattle.sdl_tree.specs.declared.expression.Identifier.{Identifier}
 use Rattle.sdl_tree.specs.declared.tree.End.{End}

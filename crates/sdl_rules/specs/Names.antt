@@ -1,6 +1,6 @@
 -- The tables of a block: its signals, routes and processes, and of each process the variables, states and inputs,
 -- each in the order of the text. Two names that differ in case alone are one. (Z.100: entity classes and scope units.)
-use Rattle.std.specs.Prelude.{ℕ, Bool, false, ◌==◌, List, [], ◌∷◌, ◌++◌, Option, None, Some, if◌then◌else◌, map, fold, find, position, bytes_eq}
+use Rattle.std.specs.Prelude.{ℕ, Bool, false, ◌==◌, List, [], ◌∷◌, ◌++◌, Option, if◌then◌else◌, map, fold, find, position, bytes_eq}
 use Rattle.std.specs.List.{list_any, flat_map, enumerate_from}
 use Rattle.std.specs.Option.{option_map_or}
 use Rattle.sdl_lex.specs.Spelling.{folded}

@@ -1,10 +1,9 @@
 -- Control paths, and what is read on them before it is set. (Z.100: the transitions of a process graph.)
 use Rattle.std.specs.Prelude.{◌≡◌, ℕ, Bool, true, false, not, ◌&&◌, ◌||◌, List, [], ◌∷◌, ◌++◌, Option, None, Some, if◌then◌else◌, map, Contains, is_some}
-use Rattle.std.specs.List.{list_any, flat_map}
-use Rattle.std.specs.Option.{option_map_or, option_to_list}
-use Rattle.sdl_tree.specs.declared.tree.End.{End}
+use Rattle.std.specs.List.{flat_map}
+use Rattle.std.specs.Option.{option_map_or}
 use Rattle.sdl_tree.specs.declared.tree.End.TheVariants.{NextState}
-use Rattle.sdl_tree.specs.Plain.{Tree, PlainAssignment, Text, falls, ends, task, PlainProcess}
+use Rattle.sdl_tree.specs.Plain.{PlainAssignment, Text, falls, ends, task, PlainProcess}
 use Rattle.sdl_rules.specs.Names.{same_name, number_of, Variable, variables_of, states_of, Input, inputs_of}
 use Rattle.sdl_rules.specs.Sound.{tree_names, place_names}
 use Rattle.sdl_rules.specs.declared.fault.Step.{Step}
@@ -88,3 +87,7 @@ ReadsFrom p place (step ∷ next ∷ steps) x =
 -- a control path from START, the last transition of which reads x before anything on the path sets it
 abbrev pub ReadsUnset : PlainProcess → List Step → List ℕ → Type 0
 ReadsUnset p path x = ReadsFrom p None path x
+
+-- no control path reads a variable before it is set
+abbrev pub NeverReadsUnset : PlainProcess → Type 0
+NeverReadsUnset p = (path : List Step) (x : List ℕ) → ReadsUnset p path x → ⊥

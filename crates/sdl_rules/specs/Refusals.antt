@@ -1,21 +1,22 @@
 -- Which blocks are sound, and which refusal a block gets.
-use Rattle.std.specs.Prelude.{◌≡◌, ℕ, List, [], Option, None, Some, Contains, ⊤}
+use Rattle.std.specs.Prelude.{◌≡◌, [], None, Some, Contains, All, ⊤}
 use Rattle.sdl_tree.specs.Plain.{PlainBlock, PlainProcess}
 use Rattle.sdl_rules.specs.Names.{processes_of}
 use Rattle.sdl_rules.specs.Sound.{double_names, unknown_names, wrong_sorts, stray_ends, first_limit}
-use Rattle.sdl_rules.specs.Paths.{ReadsUnset}
+use Rattle.sdl_rules.specs.Paths.{ReadsUnset, NeverReadsUnset}
 use Rattle.sdl_rules.specs.declared.fault.RuleFault.{RuleFault}
 use Rattle.sdl_rules.specs.declared.fault.RuleFault.TheVariants.{DoubleName, UnknownName, WrongSort, NoState, Limit, Unset, NoMemory}
 use Rattle.sdl_rules.specs.declared.fault.TableFault.{TableFault}
 use Rattle.sdl_rules.specs.declared.fault.TableFault.TheVariants.{DoubleName as NoTable, NoMemory as NoRoom}
 
--- None of these rules is broken. That no control path reads an unset variable is no part of it as yet.
+-- None of these rules is broken.
 pub record Sound (b : PlainBlock) : Type 0 where
   pub distinct : double_names b ≡ []
   pub known : unknown_names b ≡ []
   pub sorted : wrong_sorts b ≡ []
   pub ended : stray_ends b ≡ []
   pub within : first_limit b ≡ None
+  pub set : All NeverReadsUnset (processes_of b)
 
 -- A refusal names a rule that is broken at its place, and no rule with a lesser number is broken anywhere.
 abbrev pub Refuses : PlainBlock → RuleFault → Type 0

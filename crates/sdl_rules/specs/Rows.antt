@@ -1,5 +1,5 @@
 -- What the rows of the tables stand for.
-use Rattle.std.specs.Prelude.{ℕ, Bool, List, [], ◌∷◌, map, max, nat_lt, slice_get, Option}
+use Rattle.std.specs.Prelude.{ℕ, Bool, List, [], ◌∷◌, map, max, nat_lt, slice_get}
 use Rattle.std.specs.Global.{Vec}
 use Rattle.std.specs.Option.{option_map_or}
 use Rattle.sdl_tree.specs.Plain.{PlainInput, input}

@@ -1,15 +1,14 @@
 -- What makes a block sound: the rules that it may break, each with the places where it breaks them.
-use Rattle.std.specs.Prelude.{◌≡◌, ℕ, ◌+◌, ◌≤◌, Bool, true, false, not, List, [], ◌∷◌, ◌++◌, Option, None, Some, if◌then◌else◌, map, length, nat_lt, find, sum_by, slice_get, Contains, IsTrue, ⊤}
-use Rattle.std.specs.List.{list_any, flat_map, enumerate_from}
+use Rattle.std.specs.Prelude.{◌≡◌, ℕ, Bool, false, List, [], ◌∷◌, ◌++◌, Option, None, Some, if◌then◌else◌, map, length, nat_lt, find, sum_by, slice_get, Contains, ⊤}
+use Rattle.std.specs.List.{list_any, flat_map}
 use Rattle.std.specs.Option.{option_map_or, option_to_list}
 use Rattle.sdl_tree.specs.declared.expression.Identifier.{Identifier}
 use Rattle.sdl_tree.specs.declared.tree.Party.{Party}
 use Rattle.sdl_tree.specs.declared.tree.Party.TheVariants.{Environment, Process}
-use Rattle.sdl_tree.specs.declared.tree.End.{End}
 use Rattle.sdl_tree.specs.declared.tree.End.TheVariants.{NextState}
-use Rattle.sdl_tree.specs.Plain.{Tree, number, variable, unary, binary, PlainAssignment, Text, falls, ends, task, PlainStimulus, PlainInput, PlainClause, input, PlainState, PlainProcess, PlainPath, PlainRoute, PlainSignal, PlainEntity, signals, route, process, PlainBlock}
-use Rattle.sdl_rules.specs.Names.{is_in, signals_of, routes_of, processes_of, signal_names, route_names, process_names, signal_named, variables_of, variable_names, timers_of, states_of, input_parts, Input, inputs_of, inputs_by_state}
-use Rattle.sdl_rules.specs.Longest.{Piece, pieces_of, piece_size, piece_depth, piece_effects}
+use Rattle.sdl_tree.specs.Plain.{Tree, number, variable, unary, binary, PlainAssignment, Text, falls, ends, task, PlainStimulus, PlainInput, PlainProcess, PlainPath, PlainRoute, PlainBlock}
+use Rattle.sdl_rules.specs.Names.{is_in, signals_of, routes_of, processes_of, signal_names, route_names, process_names, signal_named, variables_of, variable_names, timers_of, states_of, input_parts, Input, inputs_by_state}
+use Rattle.sdl_rules.specs.Longest.{pieces_of, piece_size, piece_depth, piece_effects}
 use Rattle.sdl_rules.specs.declared.fault.Limit.{Limit}
 use Rattle.sdl_rules.specs.declared.fault.TableFault.{TableFault}
 use Rattle.sdl_rules.specs.declared.fault.TableFault.TheVariants.{DoubleName, NoMemory}

@@ -1,5 +1,5 @@
 -- What the tables of a process and of a block keep.
-use Rattle.std.specs.Prelude.{◌≡◌, List, [], map, Option}
+use Rattle.std.specs.Prelude.{◌≡◌, [], map}
 use Rattle.std.specs.List.{flat_map}
 use Rattle.sdl_tree.specs.Views.{process_of, input_of}
 use Rattle.sdl_rules.specs.Names.{variable_names, variables_of, states_of, input_parts, inputs_by_state}

@@ -3,7 +3,7 @@ ghost use Rattle.std.specs.Prelude.{◌≡◌, ◌++◌, [], ℕ, List, map, IfO
 ghost use Rattle.std.specs.List.{flat_map};
 ghost use Rattle.std.specs.Option.{option_map};
 ghost use Rattle.sdl_tree.specs.Views.{signal_of, route_of, process_of, entity_of, block_of};
-ghost use Rattle.sdl_rules.specs.Names.{signals_in, routes_in, processes_in, signal_names, process_names, signals_of, processes_of, signal_named, names_once};
+ghost use Rattle.sdl_rules.specs.Names.{signals_in, routes_in, processes_in, signal_names, process_names, signals_of, processes_of, routes_of, signal_named, names_once};
 ghost use Rattle.sdl_rules.specs.Sound.{Marks, repeats, process_scopes, double_names, IsDouble};
 
 use crate::fault::TableFault;
@@ -11,7 +11,7 @@ use crate::name_table::NameTable;
 use crate::process_table::ProcessTable;
 use crate::scope::{Scope, earlier, index_names};
 use sdl_lex::Name;
-use sdl_tree::{Block, Entity, Identifier, Process, SignalDeclaration};
+use sdl_tree::{Block, Entity, Identifier, Process, Route, SignalDeclaration};
 use std::alloc::{AllocError, Global};
 use std::marker::Model;
 
@@ -45,18 +45,18 @@ fn collect_signals<'a>(
     Ok(rows)
 }
 
-fn collect_routes(alloc: Global, entities: &[Entity]) -> Result<Vec<Identifier>, AllocError>
-    ensures { IfOk result (λ names. names.items ≡ map (λ r. r.name) (flat_map routes_in (map entity_of entities.now))) }
+fn collect_routes<'a>(alloc: Global, entities: &'a [Entity]) -> Result<Vec<&'a Route>, AllocError>
+    ensures { IfOk result (λ rows. map (λ r. route_of r.now) rows.items ≡ flat_map routes_in (map entity_of entities.now)) }
 {
-    let mut names = Vec::new(alloc);
+    let mut rows: Vec<&'a Route> = Vec::new(alloc);
     for entity in entities {
         match entity {
             Entity::Signals(_) => {}
-            Entity::Route(route) => names.push(route.name)?,
+            Entity::Route(route) => rows.push(route)?,
             Entity::Process(_) => {}
         }
     }
-    Ok(names)
+    Ok(rows)
 }
 
 fn collect_processes<'a>(
@@ -82,6 +82,12 @@ fn signal_ids(alloc: Global, rows: &[&SignalDeclaration]) -> Result<Vec<Identifi
     rows.iter().map(|row| row.name).collect(alloc)
 }
 
+fn route_ids(alloc: Global, rows: &[&Route]) -> Result<Vec<Identifier>, AllocError>
+    ensures { IfOk result (λ ids. ids.items ≡ map (λ r. r.now.name) rows.now) }
+{
+    rows.iter().map(|row| row.name).collect(alloc)
+}
+
 fn process_ids(alloc: Global, rows: &[&Process]) -> Result<Vec<Identifier>, AllocError>
     ensures { IfOk result (λ ids. ids.items ≡ map (λ p. p.now.name) rows.now) }
 {
@@ -95,6 +101,13 @@ fn index_signals(alloc: Global, rows: &[&SignalDeclaration]) -> Result<Scope, Al
     let ids = signal_ids(alloc, rows)?;
     let scope = index_names(alloc, &ids)?;
     Ok(scope)
+}
+
+fn route_double(alloc: Global, rows: &[&Route]) -> Result<Option<u32>, AllocError>
+    ensures { IfOk result (λ double. Marks double (repeats [] (map (λ r. r.now.name) rows.now))) }
+{
+    let ids = route_ids(alloc, rows)?;
+    Ok(index_names(alloc, &ids)?.double)
 }
 
 fn index_processes(alloc: Global, rows: &[&Process]) -> Result<Scope, AllocError>
@@ -136,6 +149,7 @@ pub(crate) struct BlockTable<'a> {
     block: &'a Block,
     signals: NameTable,
     rows: Vec<&'a SignalDeclaration>,
+    routes: Vec<&'a Route>,
     processes: NameTable,
     tables: Vec<ProcessTable<'a>>,
 }
@@ -165,11 +179,11 @@ impl<'a> BlockTable<'a> {
         let routes = collect_routes(alloc, &block.entities)?;
         let processes = collect_processes(alloc, &block.entities)?;
         let signals = index_signals(alloc, &rows)?;
-        let twice = index_names(alloc, &routes)?;
+        let twice = route_double(alloc, &routes)?;
         let names = index_processes(alloc, &processes)?;
         let built = build_tables(alloc, &processes)?;
         let inside = earlier(names.double, built.double);
-        let beyond = earlier(twice.double, inside);
+        let beyond = earlier(twice, inside);
         let double = earlier(signals.double, beyond);
         match double {
             Some(at) => Err(TableFault::DoubleName(at)),
@@ -177,6 +191,7 @@ impl<'a> BlockTable<'a> {
                 block,
                 signals: signals.names,
                 rows,
+                routes,
                 processes: names.names,
                 tables: built.tables,
             }),
@@ -204,6 +219,13 @@ impl<'a> BlockTable<'a> {
         ensures { map (λ s. signal_of s.now) result.now ≡ signals_of (block_of self.now) }
     {
         &self.rows
+    }
+
+    /// Its routes, in the order of the text.
+    pub(crate) fn routes(&self) -> &[&'a Route]
+        ensures { map (λ r. route_of r.now) result.now ≡ routes_of (block_of self.now) }
+    {
+        &self.routes
     }
 
     /// The names of its processes, by number.

@@ -113,6 +113,16 @@ impl From<AllocError> for TableFault {
     }
 }
 
+impl From<AllocError> for RuleFault {
+    ghost use Rattle.sdl_rules.specs.declared.fault.RuleFault.TheVariants.{NoMemory as Memory};
+
+    ghost from_gives = { λ _ e. e ≡ Memory };
+
+    fn from(_e: AllocError) -> RuleFault {
+        RuleFault::NoMemory
+    }
+}
+
 impl From<TableFault> for RuleFault {
     ghost use Rattle.sdl_rules.specs.Refusals.{rule_fault};
 

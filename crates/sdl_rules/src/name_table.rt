@@ -1,5 +1,5 @@
 //! Names in the order of the text, each once, with their numbers.
-ghost use Rattle.std.specs.Prelude.{◌≡◌, ◌<◌, [], length, IfOk, OnOk, OnErr, IsSome, IfSome, not, slice_get};
+ghost use Rattle.std.specs.Prelude.{◌≡◌, ◌<◌, [], length, IfOk, OnOk, OnErr, IsSome, IfSome, not, slice_get, Some};
 ghost use Rattle.sdl_rules.specs.Names.{is_in, number_of, add_name};
 
 use indexmap::IndexMap;
@@ -66,6 +66,14 @@ impl NameTable {
     {
         let (_, id) = self.entries.get_index(number)?;
         Some(*id)
+    }
+
+    /// The name with a number that there is, as it is first written.
+    pub fn name(&self, number: usize) -> Identifier
+        requires { number < length self.now }
+        ensures { slice_get self.now number ≡ Some result }
+    {
+        self.entries[number]
     }
 
     /// Adds a name, unless it is there: `false` then. Without memory nothing changes.

@@ -6,3 +6,4 @@ pub mod Stands
 pub mod SafeRuns
 pub mod Ran
 pub mod Longest
+pub mod Wrapped

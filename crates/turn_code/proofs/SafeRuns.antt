@@ -43,7 +43,7 @@ module _ (d : Draft) (t : Transition) (valid : IsValidTransition d t) where
   pub next_at : (k : ℕ) (f : PlaceFacts) (i : Instruction) → slice_get t.piece.facts k ≡ Some f → slice_get t.piece.code k ≡ Some i
       → (j : ℕ) → Contains (successors i k) j → (g : PlaceFacts) × (slice_get t.piece.facts j ≡ Some g)
   next_at k f i fe ie j c =
-      facts_at j (all_contains (λ j. j < length t.piece.code) (successors i k) j ((valid.jump k).each i f ie fe) c)
+      facts_at j (all_contains (λ j. j < length t.piece.code) (successors i k) j ((valid.jump k).each i ie) c)
 
   -- the count of a place is above that of each place where the code goes on
   pub count_above : (k : ℕ) (f : PlaceFacts) (i : Instruction) → slice_get t.piece.facts k ≡ Some f → slice_get t.piece.code k ≡ Some i
@@ -73,9 +73,9 @@ module _ (d : Draft) (t : Transition) (valid : IsValidTransition d t) where
       under = subst (λ u. length (takes t.process.variables i) ≤ length u) (sym h.shape) (valid.under k i h.facts ie h.is);
       agree = subst (λ u. Agree (takes t.process.variables i) u) (sym h.shape) ((valid.sort k).each i h.facts ie h.is);
       reads_set = (valid.unset k).reads_set i h.facts ie h.is;
-      reads_there = (valid.number k).reads_there i h.facts ie h.is;
-      sets_there = (valid.number k).sets_there i h.facts ie h.is;
-      parameters = (valid.number k).parameters i h.facts ie h.is;
+      reads_there = (valid.number k).reads_there i ie;
+      sets_there = (valid.number k).sets_there i ie;
+      parameters = (valid.number k).parameters i ie;
     }
 
     goes_on : (k : ℕ) (os : List Value) (s : Progress) (m : ℕ) (h : Stands t k os s.variables (suc m)) (i : Instruction) → slice_get t.piece.code k ≡ Some i
@@ -99,7 +99,7 @@ module _ (d : Draft) (t : Transition) (valid : IsValidTransition d t) where
         → (e : End) (vs : List (Option Value)) → IsIn i e → AreSet (set_after i f.set) vs → EndIsReady t e vs
     ready k f i fe ie (State q) vs named set =
         let q_there = there t.process.states q.0
-        (all_contains (λ q. q < length t.process.states) (states_in i) q.0 (valid.state k i f ie fe) named) in
+        (all_contains (λ q. q < length t.process.states) (states_in i) q.0 (valid.state k i ie) named) in
         let inside = (valid.unset k).states i f ie fe q.0 q_there.0 named q_there.1 in
         record { state = q_there.0; there = q_there.1; set = λ v has. set v (inside v has) }
 
@@ -127,7 +127,7 @@ module _ (d : Draft) (t : Transition) (valid : IsValidTransition d t) where
   safe_at_start p x fits =
       let f = facts_at 0 ((valid.jump 0).entry refl) in
       let empty : f.0.shape ≡ [] = (valid.shape 0).entry refl 0 f.0 (first_of 0 []) f.1 in
-      let inside : IsWithin f.0.set t.entry = (valid.unset 0).entry refl 0 f.0 (first_of 0 []) f.1 in
+      let same : f.0.set ≡ t.entry = (valid.unset 0).entry refl 0 f.0 (first_of 0 []) f.1 in
       let budget : t.piece.certificate.budget ≡ count_in (slice_get t.piece.facts 0) = ((valid.budget 0).certificate refl).budget in
       let budget' : t.piece.certificate.budget ≡ f.0.count = rw f.1 at budget in
       safe x.parameters.items fits.parameters t.piece.certificate.budget 0 [] (begun x) (record {
@@ -135,6 +135,6 @@ module _ (d : Draft) (t : Transition) (valid : IsValidTransition d t) where
         is = f.1;
         shape = sym empty;
         variables = fits.variables;
-        set = λ v has. fits.set v (inside v has);
+        set = subst (λ m. AreSet m x.variables.items) (sym same) fits.set;
         count = omega arith;
       })

@@ -22,6 +22,10 @@ use Rattle.turn_code.specs.declared.draft.Trigger.TheVariants.{Signal}
 abbrev pub AtPlace : DraftPiece → ℕ → (Instruction → PlaceFacts → Type 0) → Type 0
 AtPlace piece k P = (i : Instruction) (f : PlaceFacts) → slice_get piece.code k ≡ Some i → slice_get piece.facts k ≡ Some f → P i f
 
+-- what holds of the instruction at a place, with facts there or without
+abbrev pub AtCode : DraftPiece → ℕ → (Instruction → Type 0) → Type 0
+AtCode piece k P = (i : Instruction) → slice_get piece.code k ≡ Some i → P i
+
 -- what holds of the facts at each of some places that has any
 abbrev pub AtEach : DraftPiece → List ℕ → (PlaceFacts → Type 0) → Type 0
 AtEach piece js P = (j : ℕ) (f : PlaceFacts) → Contains js j → slice_get piece.facts j ≡ Some f → P f
@@ -29,7 +33,7 @@ AtEach piece js P = (j : ℕ) (f : PlaceFacts) → Contains js j → slice_get p
 -- ---- V1: each place where the code goes on, its first too, is inside it
 pub record JumpsInside (t : Transition) (k : ℕ) : Type 0 where
   pub entry : k ≡ 0 → 0 < length t.piece.code
-  pub each : AtPlace t.piece k (λ i f. All (λ j. j < length t.piece.code) (successors i k))
+  pub each : AtCode t.piece k (λ i. All (λ j. j < length t.piece.code) (successors i k))
 
 -- ---- V2: each place has facts; no operand is there as the code begins, and each place where it goes on has the shape that is left
 pub record KeepsShapes (t : Transition) (k : ℕ) : Type 0 where
@@ -57,9 +61,10 @@ pub record KeepsSorts (t : Transition) (k : ℕ) : Type 0 where
   pub initial : k ≡ 0 → t.trigger ≡ None → All StartsRight t.process.variables
   pub each : AtPlace t.piece k (λ i f. Agree (takes t.process.variables i) f.shape)
 
--- ---- V5: what is said to be set is set on every way: as the code begins, at each place where it goes on, in the state where it ends; a variable that is read is set
+-- ---- V5: what is said to be set is set on every way: as the code begins that is what its entry sets, at each place where it goes on and in the
+-- state where it ends not more than is left; a variable that is read is set
 pub record KeepsSets (t : Transition) (k : ℕ) : Type 0 where
-  pub entry : k ≡ 0 → AtEach t.piece (0 ∷ []) (λ f. IsWithin f.set t.entry)
+  pub entry : k ≡ 0 → AtEach t.piece (0 ∷ []) (λ f. f.set ≡ t.entry)
   pub reads_set : AtPlace t.piece k (λ i f. All (Has f.set) (reads i))
   pub each : AtPlace t.piece k (λ i f. AtEach t.piece (successors i k) (λ g. IsWithin g.set (set_after i f.set)))
   pub states : AtPlace t.piece k
@@ -67,7 +72,7 @@ pub record KeepsSets (t : Transition) (k : ℕ) : Type 0 where
 
 -- ---- V6: a state where the code ends is there
 abbrev pub HasStates : Transition → ℕ → Type 0
-HasStates t k = AtPlace t.piece k (λ i f. All (λ q. q < length t.process.states) (states_in i))
+HasStates t k = AtCode t.piece k (λ i. All (λ q. q < length t.process.states) (states_in i))
 
 -- what a transition waits for is there
 abbrev pub HasTrigger : List DraftSignal → Option Trigger → Type 0
@@ -77,9 +82,9 @@ HasTrigger signals (Some (Signal n)) = n.0 < length signals
 -- ---- V7: the variables and the parameters that an instruction names are there, and the signal that the transition waits for
 pub record HasNumbers (signals : List DraftSignal) (t : Transition) (k : ℕ) : Type 0 where
   pub trigger : k ≡ 0 → HasTrigger signals t.trigger
-  pub reads_there : AtPlace t.piece k (λ i f. All (λ v. v < length t.process.variables) (reads i))
-  pub sets_there : AtPlace t.piece k (λ i f. All (λ v. v < length t.process.variables) (sets i))
-  pub parameters : AtPlace t.piece k (λ i f. All (λ j. j < length t.parameters) (parameters_in i))
+  pub reads_there : AtCode t.piece k (λ i. All (λ v. v < length t.process.variables) (reads i))
+  pub sets_there : AtCode t.piece k (λ i. All (λ v. v < length t.process.variables) (sets i))
+  pub parameters : AtCode t.piece k (λ i. All (λ j. j < length t.parameters) (parameters_in i))
 
 -- how many inputs the states of a process have, and how many pieces a process has
 abbrev pub inputs_of : List DraftState → ℕ

@@ -1,5 +1,5 @@
 -- Values, their sorts, and the arithmetic of Integers.
-use Rattle.std.specs.Prelude.{ℤ}
+use Rattle.std.specs.Prelude.{◌≡◌, ℤ, pos, neg_ℤ, ◌+ℤ◌, ◌*ℤ◌, ◌≤ℤ◌}
 use Rattle.std.specs.Int.{int_wrap, w32}
 use Rattle.turn_code.specs.declared.value.Sort.{Sort}
 use Rattle.turn_code.specs.declared.value.Sort.TheVariants.{Integer, Boolean}
@@ -13,3 +13,15 @@ sort_of (Bool b) = Boolean
 -- what is left of a number in an Integer: the number from -2^31 to 2^31 - 1 that differs from it by a multiple of 2^32
 abbrev pub wrap : ℤ → ℤ
 wrap z = int_wrap w32 z
+
+-- w is from -2^31 to 2^31 - 1, and z is w and so many times 2^32
+pub record IsWrapped (z w : ℤ) : Type 0 where
+  pub least : neg_ℤ (pos 2147483648) ≤ℤ w
+  pub most : w ≤ℤ pos 2147483647
+  pub turns : ℤ
+  pub apart : z ≡ w +ℤ turns *ℤ pos 4294967296
+
+-- of each number there is such a one, and it is the only one
+pub record WrapLaw : Type 0 where
+  pub gives : (z : ℤ) → IsWrapped z (wrap z)
+  pub one : (z w : ℤ) → IsWrapped z w → w ≡ wrap z

@@ -2,6 +2,7 @@
 
 ghost use Rattle.turn_code.specs.Safe.{SafeLaw, RunLaw};
 ghost use Rattle.turn_code.specs.Paths.{PathLaw};
+ghost use Rattle.turn_code.specs.Values.{WrapLaw};
 
 /// The run of a valid transition on an input that fits it never gets stuck, never has more than 16 operands, and
 /// ends well within its budget, which is at most 512.
@@ -18,4 +19,10 @@ pub fn run_law()
 /// The budget of a valid transition is the length of its longest path, and its effects are the most of any path.
 pub fn path_law()
     ensures { PathLaw }
+{}
+
+/// What arithmetic leaves of a number is the one number from -2^31 to 2^31 - 1 that differs from it by a multiple of
+/// 2^32.
+pub fn wrap_law()
+    ensures { WrapLaw }
 {}

@@ -1,3 +1,4 @@
 pub mod Shapes
 pub mod Whole
 pub mod NameLists
+pub mod Loads

@@ -18,6 +18,7 @@ use Rattle.turn_code.specs.declared.rule.Rule.{Rule}
 use Rattle.turn_code.specs.declared.rule.Rule.TheVariants.{Jump, Shape, Under, Sort, Unset, State, Number, Limit, Budget}
 use Rattle.turn_verify.specs.Parts.{Part, AllParts, Entry, AllEntries}
 use Rattle.turn_code.specs.Paths.{PathLaw}
+use Rattle.turn_code.specs.Safe.{SafeLaw}
 use Rattle.turn_verify.specs.Walk.{HasParts, IsValidAt, IsValidState, IsValidProcess}
 use Rattle.turn_verify.specs.Certified.{IsCertified}
 
@@ -28,11 +29,29 @@ only_zero j (suc n, low, e) = absurd (omega arith)
 first_facts : (facts : List PlaceFacts) (j : ℕ) (f : PlaceFacts) → Contains {X = ℕ} (0 ∷ []) j → slice_get facts j ≡ Some f → slice_get facts 0 ≡ Some f
 first_facts facts j f c e = ap (slice_get facts) (only_zero j c) ∙ e
 
+within : {A : Type 0} (xs : List A) (k : ℕ) (a : A) → slice_get xs k ≡ Some a → k < length xs
+within [] k a h = cc
+within (x ∷ xs) zero a h = omega arith
+within (x ∷ xs) (suc k) a h = let r = within xs k a h in omega arith
+
+there : {A : Type 0} (xs : List A) (k : ℕ) → k < length xs → (a : A) × (slice_get xs k ≡ Some a)
+there [] k h = absurd (omega arith)
+there (x ∷ xs) zero h = (x, refl)
+there (x ∷ xs) (suc k) h = there xs k (omega arith)
+
+-- where each place has facts, the parts at a place are those of its instruction alone
+parts_of : (t : Transition) → length t.piece.facts ≡ length t.piece.code
+    → ((k : ℕ) (i : Instruction) (f : PlaceFacts) → slice_get t.piece.code k ≡ Some i → slice_get t.piece.facts k ≡ Some f → AllParts t k i f)
+    → (k : ℕ) (i : Instruction) → slice_get t.piece.code k ≡ Some i → (f : PlaceFacts) × AllParts t k i f
+parts_of t long parts k i ie =
+    let f = there t.piece.facts k (subst (λ n. k < n) (sym long) (within t.piece.code k i ie)) in
+    (f.0, parts k i f.0 ie f.1)
+
 pub valid_from : (d : Draft) (t : Transition) → AllEntries d t
     → ((k : ℕ) (i : Instruction) (f : PlaceFacts) → slice_get t.piece.code k ≡ Some i → slice_get t.piece.facts k ≡ Some f → AllParts t k i f)
     → IsValidTransition d t
-valid_from d t a parts = record {
-  jump = λ k. record { entry = λ e. a.jump; each = λ i f ie fe. (parts k i f ie fe).jump };
+valid_from d t a parts = let here = parts_of t a.shape.facts parts in record {
+  jump = λ k. record { entry = λ e. a.jump; each = λ i ie. (here k i ie).1.jump };
   shape = λ k. record {
     facts = λ e. a.shape.facts;
     entry = λ e j f c fe. a.shape.empty f (first_facts t.piece.facts j f c fe);
@@ -46,12 +65,12 @@ valid_from d t a parts = record {
     each = λ i f ie fe. (parts k i f ie fe).unset.each;
     states = λ i f ie fe. (parts k i f ie fe).unset.states;
   };
-  state = λ k i f ie fe. (parts k i f ie fe).state;
+  state = λ k i ie. (here k i ie).1.state;
   number = λ k. record {
     trigger = λ e. a.number;
-    reads_there = λ i f ie fe. (parts k i f ie fe).number.reads_there;
-    sets_there = λ i f ie fe. (parts k i f ie fe).number.sets_there;
-    parameters = λ i f ie fe. (parts k i f ie fe).number.parameters;
+    reads_there = λ i ie. (here k i ie).1.number.reads_there;
+    sets_there = λ i ie. (here k i ie).1.number.sets_there;
+    parameters = λ i ie. (here k i ie).1.number.parameters;
   };
   limit = λ k. record { process = λ e none. a.limit.process none; piece = λ e. a.limit.piece };
   budget = λ k. record {
@@ -77,13 +96,13 @@ keeps_entry Budget d t h = h.certificate refl
 
 pub keeps_part : (rule : Rule) (d : Draft) (t : Transition) (k : ℕ) (i : Instruction) (f : PlaceFacts)
     → slice_get t.piece.code k ≡ Some i → slice_get t.piece.facts k ≡ Some f → Keeps rule d t k → Part rule t k i f
-keeps_part Jump d t k i f ie fe h = h.each i f ie fe
+keeps_part Jump d t k i f ie fe h = h.each i ie
 keeps_part Shape d t k i f ie fe h = h.each i f ie fe
 keeps_part Under d t k i f ie fe h = h i f ie fe
 keeps_part Sort d t k i f ie fe h = h.each i f ie fe
 keeps_part Unset d t k i f ie fe h = record { reads_set = h.reads_set i f ie fe; each = h.each i f ie fe; states = h.states i f ie fe }
-keeps_part State d t k i f ie fe h = h i f ie fe
-keeps_part Number d t k i f ie fe h = record { reads_there = h.reads_there i f ie fe; sets_there = h.sets_there i f ie fe; parameters = h.parameters i f ie fe }
+keeps_part State d t k i f ie fe h = h i ie
+keeps_part Number d t k i f ie fe h = record { reads_there = h.reads_there i ie; sets_there = h.sets_there i ie; parameters = h.parameters i ie }
 keeps_part Limit d t k i f ie fe h = tt
 keeps_part Budget d t k i f ie fe h = record { counts = h.counts i f ie fe; effects = h.effects i f ie fe }
 
@@ -139,11 +158,6 @@ no_process d p h = record { each = λ s. record { each = λ i. valid_none d p s 
 -- ---- from all below an end to all
 either : {P : ℕ → Type 0} (n : ℕ) (k : ℕ) → ((j : ℕ) → j < n → P j) → ((j : ℕ) → n ≤ j → P j) → P k
 either n k below above = ⊎_elim (below k) (above k) (cases_lt k n)
-
-within : {A : Type 0} (xs : List A) (k : ℕ) (a : A) → slice_get xs k ≡ Some a → k < length xs
-within [] k a h = cc
-within (x ∷ xs) zero a h = omega arith
-within (x ∷ xs) (suc k) a h = let r = within xs k a h in omega arith
 
 pub valid_below : (d : Draft) (t : Transition) → AllEntries d t → (n : ℕ) → length t.piece.code ≤ n
     → ((k : ℕ) → k < n → HasParts t k) → IsValidTransition d t
@@ -213,8 +227,8 @@ limits_at d p process e at = (at.each (start_of process) (start_at_0 d p process
 pub start_small : (d : Draft) (p : ℕ) (process : DraftProcess) → IsValid d → slice_get d.processes p ≡ Some process → length process.variables ≤ 32
 start_small d p process valid e = (((valid.each p Start 0 (start_of process) (start_at_0 d p process e)).limit 0).process refl refl).variables
 
-pub certified : (d : Draft) (p : ℕ) (s : Place) (i : ℕ) (t : Transition) → PathLaw → IsValid d → Some t ≡ transition_at d p s i → IsCertified d p s i t.piece.certificate
-certified d p s i t law valid e =
+pub certified : (d : Draft) (p : ℕ) (s : Place) (i : ℕ) (t : Transition) → PathLaw → SafeLaw → IsValid d → Some t ≡ transition_at d p s i → IsCertified d p s i t.piece.certificate
+certified d p s i t law safe valid e =
     let v = valid.each p s i t (sym e) in
     record {
       transition = t;
@@ -222,6 +236,9 @@ certified d p s i t law valid e =
       budget = law.budget d t v;
       depth = ((v.budget 0).certificate refl).depth;
       effects = law.effects d t v;
+      budget_fits = safe.budget d t v;
+      depth_fits = ((v.limit 0).piece refl).depth;
+      effects_fits = ((v.limit 0).piece refl).effects;
     }
 
 -- ---- a place without an instruction or without facts

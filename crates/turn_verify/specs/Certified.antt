@@ -1,5 +1,5 @@
 -- What the certificate of a transition says of its code.
-use Rattle.std.specs.Prelude.{◌≡◌, ℕ, Option, Some}
+use Rattle.std.specs.Prelude.{◌≡◌, ℕ, ◌≤◌, Option, Some}
 use Rattle.turn_code.specs.Transitions.{Transition, transition_at}
 use Rattle.turn_code.specs.Rules.{greatest, depths}
 use Rattle.turn_code.specs.Paths.{IsLongest, IsMostEffects}
@@ -7,10 +7,14 @@ use Rattle.turn_code.specs.declared.input.Place.{Place}
 use Rattle.turn_code.specs.declared.draft.Draft.{Draft}
 use Rattle.turn_code.specs.declared.draft.Cert.{Cert}
 
--- the budget is the length of the longest path, the depth the greatest number of operands at a place, and the effects are the most of any path
+-- the budget is the length of the longest path, the depth the greatest number of operands at a place, and the effects are the most of any path;
+-- each is within its limit
 pub record IsCertified (d : Draft) (p : ℕ) (s : Place) (i : ℕ) (c : Cert) : Type 0 where
   pub transition : Transition
   pub there : transition_at d p s i ≡ Some transition
   pub budget : IsLongest transition.piece.code c.budget
   pub depth : c.depth ≡ greatest (depths transition.piece.facts)
   pub effects : IsMostEffects transition.piece.code c.effects
+  pub budget_fits : c.budget ≤ 512
+  pub depth_fits : c.depth ≤ 16
+  pub effects_fits : c.effects ≤ 32

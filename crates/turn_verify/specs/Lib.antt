@@ -4,3 +4,4 @@ pub mod Faults
 pub mod Walk
 pub mod Certified
 pub mod Named
+pub mod Loaded

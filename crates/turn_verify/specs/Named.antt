@@ -1,5 +1,5 @@
 -- The names and the counts of a draft by number, and the numbers of names.
-use Rattle.std.specs.Prelude.{◌≡◌, ℕ, ◌<◌, List, [], map, Option, Some, None, slice_get}
+use Rattle.std.specs.Prelude.{◌≡◌, ℕ, ◌<◌, List, [], map, Option, Some, None, slice_get, option_map}
 use Rattle.std.specs.Char.{to_ascii_lowercase}
 use Rattle.turn_code.specs.declared.draft.Draft.{Draft}
 use Rattle.turn_code.specs.declared.draft.DraftSignal.{DraftSignal}
@@ -7,6 +7,8 @@ use Rattle.turn_code.specs.declared.draft.DraftProcess.{DraftProcess}
 use Rattle.turn_code.specs.declared.draft.DraftState.{DraftState}
 use Rattle.turn_code.specs.declared.draft.DraftInput.{DraftInput}
 use Rattle.turn_code.specs.declared.draft.DraftVariable.{DraftVariable}
+use Rattle.turn_code.specs.declared.draft.Trigger.{Trigger}
+use Rattle.turn_code.specs.declared.draft.Trigger.TheVariants.{Signal}
 
 abbrev pub states_of : Option DraftProcess → List DraftState
 states_of None = []
@@ -41,6 +43,15 @@ variable_names d p = map (λ (x : DraftVariable). x.name) (variables_at d p)
 
 abbrev pub state_names : Draft → ℕ → List (List ℕ)
 state_names d p = map (λ (q : DraftState). q.name) (states_at d p)
+
+-- what input i of state q waits for
+abbrev pub trigger_at : Draft → ℕ → ℕ → ℕ → Option Trigger
+trigger_at d p q i = option_map (λ (x : DraftInput). x.trigger) (slice_get (inputs_at d p q) i)
+
+-- the name of the signal that is waited for
+abbrev pub trigger_name : Draft → Option Trigger → Option (List ℕ)
+trigger_name d None = None
+trigger_name d (Some (Signal n)) = slice_get (signal_names d) n.0
 
 -- the two names differ in the case of letters alone
 abbrev pub SameName : List ℕ → List ℕ → Type 0

@@ -64,7 +64,7 @@ Entry Jump d t = 0 < length t.piece.code
 Entry Shape d t = HasShapes t.piece
 Entry Under d t = Unit {0}
 Entry Sort d t = t.trigger ≡ None → All StartsRight t.process.variables
-Entry Unset d t = (f : PlaceFacts) → slice_get t.piece.facts 0 ≡ Some f → IsWithin f.set t.entry
+Entry Unset d t = (f : PlaceFacts) → slice_get t.piece.facts 0 ≡ Some f → f.set ≡ t.entry
 Entry State d t = Unit {0}
 Entry Number d t = HasTrigger d.signals t.trigger
 Entry Limit d t = LimitsEntry t
@@ -100,5 +100,5 @@ pub record ShapesHold (t : Transition) (js : List ℕ) (i : Instruction) (shape 
 pub record FirstPlace (t : Transition) : Type 0 where
   pub jump : 0 < length t.piece.code
   pub shape : HasShapes t.piece
-  pub unset : (f : PlaceFacts) → slice_get t.piece.facts 0 ≡ Some f → IsWithin f.set t.entry
+  pub unset : (f : PlaceFacts) → slice_get t.piece.facts 0 ≡ Some f → f.set ≡ t.entry
   pub budget : KeepsCertificate t.piece

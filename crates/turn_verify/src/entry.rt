@@ -1,7 +1,6 @@
 //! The rules of a transition as it begins, and of a whole piece.
 
 ghost use Rattle.std.specs.Prelude.{◌≡◌, ◌<◌, ◌↔◌, length, All, IsTrue, IfOk, IfErr, slice_get};
-ghost use Rattle.turn_code.specs.Sets.{IsWithin};
 ghost use Rattle.turn_code.specs.declared.draft.Draft.{Draft};
 ghost use Rattle.turn_code.specs.declared.draft.PlaceFacts.{PlaceFacts};
 ghost use Rattle.turn_code.specs.Rules.{StartsRight, HasTrigger, KeepsProcessLimits, KeepsPieceLimits, KeepsCertificate, greatest, depths};
@@ -43,7 +42,7 @@ fn check_first_place(transition: &Transition<'_>) -> Result<(), Rule>
     if !has_shapes(transition.piece) {
         return Err(Rule::Shape);
     }
-    if !begins_within(transition.piece.facts.as_slice(), transition.entry) {
+    if !begins_with(transition.piece.facts.as_slice(), transition.entry) {
         return Err(Rule::Unset);
     }
     if !keeps_certificate(transition.piece) {
@@ -64,12 +63,12 @@ fn has_shapes(piece: &DraftPiece) -> bool
         }
 }
 
-/// Whether the first place says of no variable that it is set but of those in `entry`.
-fn begins_within(facts: &[PlaceFacts], entry: VariableSet) -> bool
-    ensures { IsTrue result ↔ ((f : PlaceFacts) → slice_get facts.now 0 ≡ Some f → IsWithin f.set entry) }
+/// Whether the first place says that the variables in `entry` are set, and no other.
+fn begins_with(facts: &[PlaceFacts], entry: VariableSet) -> bool
+    ensures { IsTrue result ↔ ((f : PlaceFacts) → slice_get facts.now 0 ≡ Some f → f.set ≡ entry) }
 {
     match facts.first() {
-        Some(first) => first.set.is_within(entry),
+        Some(first) => first.set == entry,
         None => true,
     }
 }

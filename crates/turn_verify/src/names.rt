@@ -1,8 +1,7 @@
 //! The names and numbers of a valid set.
 
-ghost use Rattle.std.specs.Prelude.{◌≡◌, length, option_map, option_copied, slice_get};
-ghost use Rattle.turn_code.specs.declared.draft.DraftInput.{DraftInput};
-ghost use Rattle.turn_verify.specs.Named.{states_at, variables_at, inputs_at, process_names, signal_names, variable_names, state_names};
+ghost use Rattle.std.specs.Prelude.{◌≡◌, length, option_copied, slice_get};
+ghost use Rattle.turn_verify.specs.Named.{states_at, variables_at, inputs_at, process_names, signal_names, variable_names, state_names, trigger_at, trigger_name};
 
 use crate::verified::Verified;
 use turn_code::{
@@ -98,10 +97,25 @@ impl Verified {
         state: StateNumber,
         input: usize,
     ) -> Option<Trigger>
-        ensures { result ≡ option_map (λ (x : DraftInput). x.trigger) (slice_get (inputs_at self.now process.0 state.0) input) }
+        ensures { result ≡ trigger_at self.now process.0 state.0 input }
     {
         match self.inputs(process, state).get(input) {
             Some(found) => Some(found.trigger),
+            None => None,
+        }
+    }
+
+    /// The name of the signal that an input of a state waits for. None where there is no such input.
+    pub fn input_name(
+        &self,
+        process: ProcessNumber,
+        state: StateNumber,
+        input: usize,
+    ) -> Option<&Name>
+        ensures { option_copied result ≡ trigger_name self.now (trigger_at self.now process.0 state.0 input) }
+    {
+        match self.trigger(process, state, input) {
+            Some(Trigger::Signal(signal)) => self.signal_name(signal),
             None => None,
         }
     }

@@ -167,6 +167,9 @@ fn the_counter_is_valid(rt: HostRuntime) -> Result<(), Fail> {
     assert_eq!(rt; set.variable_of(process, "Total"), Some(TOTAL));
     assert_eq!(rt; set.variable_of(process, "tota"), None);
     assert_eq!(rt; set.input_count(process, RUN), 1);
+    let waits_for = set.input_name(process, RUN, 0).expect(&rt, "an input");
+    assert_eq!(rt; waits_for.as_bytes(), "Up".as_bytes());
+    assert!(rt; set.input_name(process, RUN, 1).is_none());
     Ok(())
 }
 
@@ -222,5 +225,57 @@ fn a_broken_rule_is_named(rt: HostRuntime) -> Result<(), Fail> {
         refusal(alloc, huge, &rt)?.as_str(),
         "V9 Budget process 0 START place 0"
     );
+    Ok(())
+}
+
+#[test]
+fn a_place_of_an_input_is_named(rt: HostRuntime) -> Result<(), Fail> {
+    let alloc = rt.alloc();
+    let code = [
+        Instruction::Param(0),
+        Instruction::Store(VariableNumber(2)),
+        Instruction::Next(RUN),
+    ];
+    let up = piece(alloc, &code, &[(0, 2), (1, 2), (0, 2)], 1)?;
+    match verify(counter(alloc, start(alloc)?, up, &rt)?) {
+        Ok(_) => panic!(rt; "accepted"),
+        Err(fault) => assert_eq!(rt;
+            format!(in alloc; "{fault}")?.as_str(),
+            "V7 Number process 0 state 0 input 0 place 1"
+        ),
+    }
+    Ok(())
+}
+
+#[test]
+fn very_many_states_are_refused(rt: HostRuntime) -> Result<(), Fail> {
+    let alloc = rt.alloc();
+    let mut states = Vec::new(alloc);
+    for _ in 0..100_000 {
+        states.push(DraftState {
+            name: named("S", &rt),
+            set: VariableSet(0),
+            inputs: Sequence::from(Vec::new(alloc)),
+        })?;
+    }
+    let mut processes = Vec::new(alloc);
+    processes.push(DraftProcess {
+        name: named("P", &rt),
+        variables: Sequence::from(Vec::new(alloc)),
+        start: start(alloc)?,
+        states: Sequence::from(states),
+    })?;
+    let draft = Draft {
+        signals: Sequence::from(Vec::new(alloc)),
+        routes: Sequence::from(Vec::new(alloc)),
+        processes: Sequence::from(processes),
+    };
+    match verify(draft) {
+        Ok(_) => panic!(rt; "accepted"),
+        Err(fault) => assert_eq!(rt;
+            format!(in alloc; "{fault}")?.as_str(),
+            "V8 Limit process 0 START place 0"
+        ),
+    }
     Ok(())
 }

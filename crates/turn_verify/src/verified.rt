@@ -10,7 +10,7 @@ use crate::fault::VerifyFault;
 use crate::transition::Transition;
 use crate::walk::{check_draft, input_transition, start_transition};
 use std::marker::Model;
-use turn_code::laws::path_law;
+use turn_code::laws::{path_law, safe_law};
 use turn_code::{Cert, Draft, DraftProcess, DraftSignal, Place, ProcessNumber, StateNumber};
 
 /// A valid draft, seen as that draft. Only `verify` makes one.
@@ -59,6 +59,7 @@ impl Verified {
         ensures longest { IfSome result (λ c. IsCertified self.now process.0 place input c) }
     {
         path_law();
+        safe_law();
         self.keeps();
         match self.transition(process, place, input) {
             Some(transition) => Some(transition.piece.certificate),

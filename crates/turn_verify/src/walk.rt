@@ -382,12 +382,14 @@ fn room_behind(process: &DraftProcess, room: usize) -> Option<usize>
     room_behind_inputs(process.states.as_slice(), room.checked_sub(1)?)
 }
 
+/// What is left of the room behind the inputs of these states, of which there may be any number.
 fn room_behind_inputs(states: &[DraftState], room: usize) -> Option<usize>
     ensures some { IfSome result (λ left. left + inputs_of states.now ≡ room) }
     ensures none { IfNone result (room < inputs_of states.now) }
 {
-    match states {
-        [] => Some(room),
-        [first, others @ ..] => room_behind_inputs(others, room.checked_sub(first.inputs.len())?),
+    let mut left = room;
+    for state in states {
+        left = left.checked_sub(state.inputs.len())?;
     }
+    Some(left)
 }

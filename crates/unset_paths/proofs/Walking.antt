@@ -1,20 +1,19 @@
 -- What a search finds is there, and what it doesn't find isn't.
-use Rattle.std.proofs.Common.{◌≡◌, ℕ, suc, zero, ◌+◌, ◌<◌, ◌≤◌, Bool, true, false, List, [], ◌∷◌, ◌++◌, length, refl, ap, sym, ◌∙◌, subst, arith, inl, inr, ◌⊎◌, Option, Some, None, Result, Ok, Err, Vec, Global, take, get_or, length-append}
-use Rattle.std.specs.Prelude.{slice_get, Contains, All, IfSome, IfNone, IfOk, OnOk, is_some, replicate, option_and_then}
-use Rattle.std.proofs.lemmas.List.Elements.{All-contains, All-more, Contains-get_or}
+use Rattle.std.proofs.Common.{◌≡◌, ℕ, suc, zero, ◌+◌, ◌<◌, ◌≤◌, Bool, true, false, List, [], ◌∷◌, ◌++◌, length, refl, ap, sym, ◌∙◌, subst, arith, inl, inr, Option, Some, None, Vec, Global, take, get_or, length-append}
+use Rattle.std.specs.Prelude.{slice_get, Contains, All, IfSome, IfNone, is_some, replicate, option_and_then}
+use Rattle.std.proofs.lemmas.List.Elements.{All-contains, All-more}
 use Rattle.std.proofs.lemmas.List.{take_all}
 use Rattle.std.proofs.lemmas.Option.{slice_get_within, get_or_from_slice_get, slice_get-get_or, slice_get_past}
 use Rattle.std.proofs.lemmas.Bool.{cases_eq, cases_lt}
 use Rattle.unset_paths.proofs.Seen.{covers_on, grows_not}
 use Rattle.unset_paths.specs.declared.Passage.{Passage}
-use Rattle.std.specs.declared.alloc.AllocError.{AllocError}
 use Rattle.unset_paths.specs.declared.Visit.{Visit}
 use Rattle.unset_paths.specs.declared.Summary.{Summary}
 use Rattle.unset_paths.specs.declared.Graph.{Graph}
 use Rattle.unset_paths.specs.declared.Step.{Step}
 use Rattle.unset_paths.specs.declared.Step.TheVariants.{Start, Input}
-use Rattle.unset_paths.specs.Graph.{has, Place, Leads, Passes, ReadsFrom, ReadsUnset, Reached, input_at}
-use Rattle.unset_paths.specs.Visits.{IsSeen, unseen, Covers, IsSafe, AreSafe, Grows, Enters, IsVisit, IsBy, IsByInput, ReadsBy, AreReached, AreVisited, AreExpanded, IsExpanded, IsClosed}
+use Rattle.unset_paths.specs.Graph.{has, Place, Leads, Passes, ReadsFrom, ReadsUnset, Reached, IsSeen, Covers, IsSafe, IsExpanded, IsClosed, IsClosedSet}
+use Rattle.unset_paths.specs.Visits.{unseen, AreSafe, Grows, Enters, IsBy, IsByInput, ReadsBy, AreReached, AreVisited, AreExpanded}
 
 -- one step more, which reads x
 pub reads_after : (g : Graph) (x : ℕ) (place : Place) (path : List Step) (s : ℕ) (step : Step) (t : Summary)
@@ -253,11 +252,15 @@ none_at_all g x seen quiet covers closed (Start ∷ next ∷ path) (t, s, leads,
     none_from_seen g x seen closed (next ∷ path) s (subst P passes.ends covered) reads
 none_at_all g x seen quiet covers closed (Input q i ∷ next ∷ path) (t, s, leads, passes, reads) = absurd leads
 
--- where the search finds nothing, no path reads x unset
-pub ok_none : (g : Graph) (x : ℕ) (r : Result (Option (Vec Step Global)) AllocError) (seen after : List Bool) → has g.start.reads x ≡ false
-    → Covers g.start.passages.items x seen → OnOk r ((s : ℕ) → IsSeen seen s → IsSeen after s) → IfOk r (λ o. IfNone o (IsClosed g x after))
-    → IfOk r (λ o. IfNone o ((path : List Step) → ReadsUnset g x path → ⊥))
-ok_none g x (Err e) seen after quiet covers stays closed = tt
-ok_none g x (Ok (Some path)) seen after quiet covers stays closed = tt
-ok_none g x (Ok None) seen after quiet covers stays closed =
-    none_at_all g x after quiet (covers_on g.start.passages.items x seen after stays covers) closed
+-- where START's transition is safe, and all that can be reached, the states are a closed set
+pub closed_set : (g : Graph) (x : ℕ) (seen after : List Bool) → length after ≡ length g.states.items → has g.start.reads x ≡ false
+    → Covers g.start.passages.items x seen → ((s : ℕ) → IsSeen seen s → IsSeen after s) → IsClosed g x after → IsClosedSet g x after
+closed_set g x seen after count quiet covers stays closed = record {
+  count = count;
+  start = record { reads = quiet; covers = covers_on g.start.passages.items x seen after stays covers };
+  states = closed;
+}
+
+-- no path reads x unset, where there is a closed set of states
+pub none_with : (g : Graph) (x : ℕ) (marks : List Bool) → IsClosedSet g x marks → (path : List Step) → ReadsUnset g x path → ⊥
+none_with g x marks set = none_at_all g x marks set.start.reads set.start.covers set.states

@@ -1,11 +1,14 @@
 -- Paths through the transitions of a process, and what is read on them before it is set. (Z.100: the transitions of a
 -- process graph.)
-use Rattle.std.specs.Prelude.{◌≡◌, ℕ, ◌==◌, Bool, true, List, [], ◌∷◌, Option, Some, None, Contains, slice_get, if◌then◌else◌, option_and_then}
+use Rattle.std.specs.Prelude.{◌≡◌, ℕ, ◌<◌, ◌==◌, Bool, true, false, length, ⊤, All, List, [], ◌∷◌, Option, Some, None, Contains, slice_get, option_and_then}
 use Rattle.std.specs.Int.{bit_at}
 use Rattle.unset_paths.specs.declared.Passage.{Passage}
 use Rattle.unset_paths.specs.declared.Summary.{Summary}
 use Rattle.unset_paths.specs.declared.Graph.{Graph}
 use Rattle.unset_paths.specs.declared.Step.{Step}
+use Rattle.unset_paths.specs.declared.Fate.{Fate}
+use Rattle.unset_paths.specs.declared.Fate.TheVariants.{Unset, Set}
+use Rattle.std.specs.Global.{Vec}
 use Rattle.unset_paths.specs.declared.Step.TheVariants.{Start, Input}
 
 -- whether a variable is in a set that is kept as the bits of a number
@@ -51,3 +54,43 @@ abbrev pub Reached : Graph → ℕ → Place → List Step → ℕ → Type 0
 Reached g x place [] s = place ≡ Some s
 Reached g x place (step ∷ steps) s =
     (t : Summary) × (q : ℕ) × Leads g place step t × Passes t x q × Reached g x (Some q) steps s
+
+-- ---- a set of states, as a mark for each
+
+-- a state is marked, if there is such a state
+abbrev pub IsSeen : List Bool → ℕ → Type 0
+IsSeen seen s = s < length seen → slice_get seen s ≡ Some true
+
+-- the states to which passages lead with x unset are marked
+abbrev pub Covers : List Passage → ℕ → List Bool → Type 0
+Covers passages x seen = All (λ p. has p.keeps x ≡ true → IsSeen seen p.state) passages
+
+-- no walk of a transition reads x unset, and the states to which it leads with x unset are marked
+pub record IsSafe (t : Summary) (x : ℕ) (seen : List Bool) : Type 0 where
+  pub reads : has t.reads x ≡ false
+  pub covers : Covers t.passages.items x seen
+
+-- all transitions from a state are safe
+abbrev pub IsExpanded : Graph → ℕ → List Bool → ℕ → Type 0
+IsExpanded g x seen s = (step : Step) (t : Summary) → Leads g (Some s) step t → IsSafe t x seen
+
+-- all transitions from each marked state are safe
+abbrev pub IsClosed : Graph → ℕ → List Bool → Type 0
+IsClosed g x seen = (s : ℕ) → IsSeen seen s → IsExpanded g x seen s
+
+-- A mark for each state; START's transition is safe, and so are all those of the marked states. So whatever is entered
+-- with x unset is marked.
+pub record IsClosedSet (g : Graph) (x : ℕ) (marks : List Bool) : Type 0 where
+  pub count : length marks ≡ length g.states.items
+  pub start : IsSafe g.start x marks
+  pub states : IsClosed g x marks
+
+-- ---- what becomes of a variable
+
+abbrev pub IfUnset : Fate → (Vec Step → Type 0) → Type 0
+IfUnset (Unset path) P = P path
+IfUnset (Set marks) P = ⊤
+
+abbrev pub IfSet : Fate → (Vec Bool → Type 0) → Type 0
+IfSet (Unset path) P = ⊤
+IfSet (Set marks) P = P marks

@@ -1,16 +1,12 @@
 -- What a search keeps: the states that it saw, and a visit of each with a path to it.
-use Rattle.std.specs.Prelude.{◌≡◌, ℕ, suc, ◌+◌, ◌<◌, Bool, true, false, List, [], ◌∷◌, ◌++◌, length, Option, Some, None, Contains, All, slice_get, ◌⊎◌}
+use Rattle.std.specs.Prelude.{◌≡◌, ℕ, suc, ◌+◌, ◌<◌, Bool, true, false, List, [], ◌∷◌, ◌++◌, length, Some, None, Contains, All, slice_get, ◌⊎◌}
 use Rattle.unset_paths.specs.declared.Passage.{Passage}
 use Rattle.unset_paths.specs.declared.Summary.{Summary}
 use Rattle.unset_paths.specs.declared.Graph.{Graph}
 use Rattle.unset_paths.specs.declared.Step.{Step}
 use Rattle.unset_paths.specs.declared.Step.TheVariants.{Input}
 use Rattle.unset_paths.specs.declared.Visit.{Visit}
-use Rattle.unset_paths.specs.Graph.{has, Reached, Leads}
-
--- a state was seen, if there is such a state
-abbrev pub IsSeen : List Bool → ℕ → Type 0
-IsSeen seen s = s < length seen → slice_get seen s ≡ Some true
+use Rattle.unset_paths.specs.Graph.{has, Reached, IsSeen, IsSafe, IsExpanded}
 
 -- how many states were not seen
 unfoldable pub unseen : List Bool → ℕ
@@ -43,10 +39,6 @@ Enters P old new = (v : Visit) → Contains new v → Contains old v ⊎ P v
 abbrev pub Adds : ℕ → List Step → List Visit → List Visit → Type 0
 Adds state path old new = Enters (IsVisit state path) old new
 
--- the states to which passages lead with x unset were seen
-abbrev pub Covers : List Passage → ℕ → List Bool → Type 0
-Covers passages x seen = All (λ p. has p.keeps x ≡ true → IsSeen seen p.state) passages
-
 -- a visit by one of the passages at the end of a path
 pub record IsBy (passages : List Passage) (x : ℕ) (path : List Step) (v : Visit) : Type 0 where
   pub passage : Passage
@@ -70,10 +62,6 @@ pub record ReadsBy (inputs : List Summary) (x state : ℕ) (path longer : List S
   pub all : longer ≡ path ++ Input state number ∷ []
 
 -- none of these transitions reads x, and the states to which they lead with x unset were seen
-pub record IsSafe (t : Summary) (x : ℕ) (seen : List Bool) : Type 0 where
-  pub reads : has t.reads x ≡ false
-  pub covers : Covers t.passages.items x seen
-
 abbrev pub AreSafe : List Summary → ℕ → List Bool → Type 0
 AreSafe inputs x seen = All (λ t. IsSafe t x seen) inputs
 
@@ -81,14 +69,6 @@ AreSafe inputs x seen = All (λ t. IsSafe t x seen) inputs
 abbrev pub AreReached : Graph → ℕ → List Visit → Type 0
 AreReached g x visits = (v : Visit) → Contains visits v → Reached g x None v.path.items v.state
 
--- all transitions from a state are safe
-abbrev pub IsExpanded : Graph → ℕ → List Bool → ℕ → Type 0
-IsExpanded g x seen s = (step : Step) (t : Summary) → Leads g (Some s) step t → IsSafe t x seen
-
 -- the first so many visits are expanded
 abbrev pub AreExpanded : Graph → ℕ → List Bool → List Visit → ℕ → Type 0
 AreExpanded g x seen visits next = (k : ℕ) (v : Visit) → k < next → slice_get visits k ≡ Some v → IsExpanded g x seen v.state
-
--- all transitions from each state that was seen are safe
-abbrev pub IsClosed : Graph → ℕ → List Bool → Type 0
-IsClosed g x seen = (s : ℕ) → IsSeen seen s → IsExpanded g x seen s

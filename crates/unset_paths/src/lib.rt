@@ -2,8 +2,8 @@
 #![tactic(auto)]
 
 ghost use Rattle.std.specs.Prelude.{◌≡◌, ℕ, ◌<◌, ◌+◌, List, [], ◌∷◌, ◌++◌, length, IfOk, OnOk, IfSome, IfNone, vec_len};
-ghost use Rattle.unset_paths.specs.Graph.{has, ReadsUnset};
-ghost use Rattle.unset_paths.specs.Visits.{IsSeen, unseen, Grows, Adds, Covers, Enters, IsBy, IsByInput, ReadsBy, AreSafe, AreReached, AreVisited, IsClosed};
+ghost use Rattle.unset_paths.specs.Graph.{has, ReadsUnset, IsSeen, Covers, IsClosed, IsClosedSet, IfUnset, IfSet};
+ghost use Rattle.unset_paths.specs.Visits.{unseen, Grows, Adds, Enters, IsBy, IsByInput, ReadsBy, AreSafe, AreReached, AreVisited};
 
 use std::alloc::{AllocError, Global};
 
@@ -21,7 +21,7 @@ pub struct Passage {
 pub struct Summary {
     /// Bit v says that some walk reads variable v before it sets it.
     pub reads: u32,
-    /// Where walks end, and what they leave unset.
+    /// Where walks end and what they leave unset, in the order of the states.
     pub passages: Vec<Passage>,
 }
 
@@ -34,13 +34,22 @@ pub struct Graph {
     pub states: Vec<Vec<Summary>>,
 }
 
-/// A transition by its place.
-#[derive(Clone, Copy, Debug, PartialEq, Eq)]
+/// A transition by its place. They are in the order of the text.
+#[derive(Clone, Copy, Debug, PartialEq, Eq, PartialOrd, Ord)]
 pub enum Step {
     /// The one after START.
     Start,
     /// That of an input: the number of the state, and the number of the input there.
     Input(usize, usize),
+}
+
+/// What becomes of a variable.
+#[derive(Debug, Drop)]
+pub enum Fate {
+    /// The transitions of this path read it unset.
+    Unset(Vec<Step>),
+    /// No path reads it unset. The marks say of each state, by number, whether a path enters it with the variable unset.
+    Set(Vec<bool>),
 }
 
 /// A state that was reached, and a way to it.
@@ -136,22 +145,19 @@ fn expand(
     Ok(None)
 }
 
-/// The first path by which the variable is read unset, among those with the fewest transitions: a path comes before
-/// another one where its first other transition comes before that of the other one.
+/// Whether some path reads the variable unset: the first one among those with the fewest transitions. A path comes
+/// before another one where its first other transition comes before that of the other one.
 ///
 /// `variable` is below 32. A passage to a state that the graph lacks leads nowhere.
-pub fn first_unset(
-    alloc: Global,
-    graph: &Graph,
-    variable: u32,
-) -> Result<Option<Vec<Step>>, AllocError>
+pub fn first_unset(alloc: Global, graph: &Graph, variable: u32) -> Result<Fate, AllocError>
     requires { variable < 32 }
-    ensures found { IfOk result (λ o. IfSome o (λ path. ReadsUnset graph.now variable path.items)) }
-    ensures none { IfOk result (λ o. IfNone o ((path : List Step) → ReadsUnset graph.now variable path → ⊥)) }
+    ensures found { IfOk result (λ f. IfUnset f (λ path. ReadsUnset graph.now variable path.items)) }
+    ensures none { IfOk result (λ f. IfSet f (λ _. (path : List Step) → ReadsUnset graph.now variable path → ⊥)) }
+    ensures closed { IfOk result (λ f. IfSet f (λ marks. IsClosedSet graph.now variable marks.items)) }
 {
     let start = extended(alloc, &[], Step::Start)?;
     if contains(graph.start.reads, variable) {
-        return Ok(Some(start));
+        return Ok(Fate::Unset(start));
     }
     let mut seen = vec![in alloc; false; graph.states.len()]?;
     let mut visits = Vec::new(alloc);
@@ -163,7 +169,10 @@ pub fn first_unset(
         &mut seen,
         &mut visits,
     )?;
-    search(alloc, graph, variable, &mut seen, &mut visits)
+    match search(alloc, graph, variable, &mut seen, &mut visits)? {
+        Some(path) => Ok(Fate::Unset(path)),
+        None => Ok(Fate::Set(seen)),
+    }
 }
 
 /// Goes on from what was visited until a path is found, or all that can be reached was visited.
@@ -180,6 +189,7 @@ fn search(
     requires visited { AreVisited seen.old.items visits.old.items }
     requires count { length visits.old.items + unseen seen.old.items ≡ length seen.old.items }
     ensures found { IfOk result (λ o. IfSome o (λ path. ReadsUnset graph.now variable path.items)) }
+    ensures states { OnOk result (length seen.new.items ≡ length seen.old.items) }
     ensures stays { OnOk result ((s : ℕ) → IsSeen seen.old.items s → IsSeen seen.new.items s) }
     ensures none { IfOk result (λ o. IfNone o (IsClosed graph.now variable seen.new.items)) }
 {

@@ -1,6 +1,4 @@
-use Rattle.std.proofs.Common.{◌≡◌, true, false, rules, arith, refl, sym, ap, ◌∙◌, List, length, take}
-use Rattle.unset_paths.specs.Graph.{has}
-use Rattle.unset_paths.specs.Visits.{Grows, Covers, Enters, IsBy, IsVisit}
+use Rattle.std.proofs.Common.{◌≡◌, true, false, sym, ◌∙◌}
 use Rattle.unset_paths.proofs.Seen.{grows_on, enters_on, covers_more, by_passage, covers_all}
 use Rattle.unset_paths.proofs.enter.Goals as goal
 use Rattle.unset_paths.proofs.enter.Goals.{then-contains+in_ok-see, else-contains}

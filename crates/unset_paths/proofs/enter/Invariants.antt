@@ -1,5 +1,6 @@
 use Rattle.std.proofs.Common.{take}
-use Rattle.unset_paths.specs.Visits.{Grows, Covers, Enters, IsBy}
+use Rattle.unset_paths.specs.Visits.{Grows, Enters, IsBy}
+use Rattle.unset_paths.specs.Graph.{Covers}
 use Rattle.unset_paths.proofs.enter.Given as goal
 
 abbrev pub invariant-loop-passage : goal.invariant-loop-passage

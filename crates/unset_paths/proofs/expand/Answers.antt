@@ -1,9 +1,9 @@
-use Rattle.std.proofs.Common.{◌≡◌, rules, arith, refl, sym, ◌∙◌, Option, Some, length}
+use Rattle.std.proofs.Common.{◌≡◌, refl, sym, ◌∙◌, Some, length}
 use Rattle.std.specs.Prelude.{slice_get}
 use Rattle.std.proofs.lemmas.Option.{slice_get_read}
-use Rattle.unset_paths.proofs.Seen.{grows_on, enters_on, covers_on}
+use Rattle.unset_paths.specs.Graph.{Covers}
+use Rattle.unset_paths.proofs.Seen.{grows_on, enters_on}
 use Rattle.unset_paths.proofs.Walking.{safe_more, safe_all, by_input}
-use Rattle.unset_paths.specs.Visits.{Covers}
 use Rattle.unset_paths.proofs.expand.Goals as goal
 
 pub returns-then-contains-clause-found : goal.returns-then-contains-clause-found

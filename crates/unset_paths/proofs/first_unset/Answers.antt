@@ -1,10 +1,10 @@
-use Rattle.std.proofs.Common.{◌≡◌, ◌∷◌, [], ◌<◌, rules, arith, refl, sym, ap, ◌∙◌, Option, Some, None, length, List, Bool, false, subst}
+use Rattle.std.proofs.Common.{◌≡◌, [], rules, arith, refl, sym, ap, ◌∙◌, Option, length, List, Bool, false, subst, Vec, Global}
 use Rattle.std.specs.Prelude.{IfNone, replicate}
-use Rattle.unset_paths.specs.Graph.{ReadsUnset, has}
-use Rattle.unset_paths.specs.Visits.{Covers, Enters, IsBy, AreVisited, unseen}
+use Rattle.unset_paths.specs.Graph.{IsClosed, ReadsUnset, has, Covers}
+use Rattle.unset_paths.specs.Visits.{Enters, IsBy, AreVisited, unseen}
 use Rattle.unset_paths.specs.declared.Step.{Step}
 use Rattle.unset_paths.specs.declared.Visit.{Visit}
-use Rattle.unset_paths.proofs.Walking.{ok_none, visited_none, unseen_all, reached_from_start}
+use Rattle.unset_paths.proofs.Walking.{closed_set, none_with, visited_none, unseen_all, reached_from_start}
 use Rattle.unset_paths.proofs.first_unset.Goals as goal
 
 pub returns-then-contains-clause-found : goal.returns-then-contains-clause-found
@@ -35,9 +35,16 @@ search-requires-clause-count c =
     let none : length c.new-visits.result.items ≡ 0 = ap length c.new-visits.ensures.items in
     omega (arith, c.in_ok-enter.ensures.grows.count, c.in_ok-enter.ensures.grows.states, all, long, none)
 
-pub returns-clause-none : goal.returns-clause-none
-returns-clause-none c =
+pub returns-clause-closed : goal.returns-clause-closed
+returns-clause-closed c =
+    let n = length c.args.graph.now.states.items in
     let quiet : has c.args.graph.now.start.reads c.args.variable ≡ false = sym c.if-contains.ensures in
     let covers : Covers c.args.graph.now.start.passages.items c.args.variable c.enter.new.seen.items =
     rw c.deref.ensures.value at c.in_ok-enter.ensures.covers in
-    ok_none c.args.graph.now c.args.variable c.search.result c.enter.new.seen.items c.search.new.seen.items quiet covers c.search.ensures.stays c.search.ensures.none
+    let blank : length c.in_ok-seen.seen.items ≡ n = search rules in
+    let count : length c.search.new.seen.items ≡ n = c.in_ok-path.ensures.states ∙ (c.in_ok-enter.ensures.grows.states ∙ blank) in
+    closed_set c.args.graph.now c.args.variable c.enter.new.seen.items c.search.new.seen.items count quiet covers c.in_ok-path.ensures.stays
+    (subst (λ (o : Option (Vec Step Global)). IfNone o (IsClosed c.args.graph.now c.args.variable c.search.new.seen.items)) c.in-None.is c.in_ok-path.ensures.none)
+
+pub returns-clause-none : goal.returns-clause-none
+returns-clause-none c = none_with c.args.graph.now c.args.variable c.search.new.seen.items (returns-clause-closed c)

@@ -1,6 +1,6 @@
-use Rattle.std.proofs.Common.{◌≡◌, ◌<◌, ◌≤◌, ◌∷◌, rules, arith, refl, sym, ap, ◌∙◌, Option, Some, None, length, List}
-use Rattle.std.specs.Prelude.{slice_get, Contains}
-use Rattle.std.proofs.lemmas.Option.{slice_get_read, get_or_from_slice_get, slice_get_within}
+use Rattle.std.proofs.Common.{◌≡◌, ◌<◌, ◌≤◌, rules, refl, sym, ◌∙◌, Some, None, length}
+use Rattle.std.specs.Prelude.{slice_get}
+use Rattle.std.proofs.lemmas.Option.{slice_get_read, get_or_from_slice_get}
 use Rattle.unset_paths.specs.Graph.{Reached}
 use Rattle.unset_paths.specs.Visits.{Enters, IsByInput, AreSafe}
 use Rattle.unset_paths.proofs.Walking.{Progress, progress_on, progress_past, closed_by, found_by, some_weaker, when_none}

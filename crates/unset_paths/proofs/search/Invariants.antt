@@ -1,5 +1,6 @@
 use Rattle.std.proofs.Common.{◌≡◌, ℕ, ◌+◌, ◌-◌, ◌≤◌, length}
-use Rattle.unset_paths.specs.Visits.{IsSeen, unseen, AreReached, AreVisited, AreExpanded}
+use Rattle.unset_paths.specs.Visits.{unseen, AreReached, AreVisited, AreExpanded}
+use Rattle.unset_paths.specs.Graph.{IsSeen}
 use Rattle.unset_paths.proofs.search.Given as goal
 
 abbrev pub invariant-loop-next : goal.invariant-loop-next

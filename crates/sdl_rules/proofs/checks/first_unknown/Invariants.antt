@@ -1,5 +1,4 @@
-use Rattle.std.proofs.Common.{map, take, []}
-use Rattle.std.specs.List.{flat_map}
+use Rattle.std.proofs.Common.{take}
 use Rattle.sdl_rules.specs.Sound.{Marks, unknown}
 use Rattle.sdl_rules.proofs.checks.first_unknown.Given as goal
 

@@ -1,4 +1,4 @@
-use Rattle.std.proofs.Common.{sym, subst, List, ℕ}
+use Rattle.std.proofs.Common.{sym, subst}
 use Rattle.sdl_tree.specs.Views.{end_text}
 use Rattle.sdl_rules.specs.Sound.{Marks}
 use Rattle.sdl_rules.proofs.Texts.{strays-actions}

@@ -1,4 +1,4 @@
-use Rattle.std.proofs.Common.{map, take, []}
+use Rattle.std.proofs.Common.{map, take}
 use Rattle.std.specs.List.{flat_map}
 use Rattle.sdl_rules.specs.Sound.{Marks, input_unknown}
 use Rattle.sdl_tree.specs.Views.{block_of, process_of, input_of}

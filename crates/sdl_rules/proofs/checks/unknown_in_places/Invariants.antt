@@ -1,5 +1,4 @@
-use Rattle.std.proofs.Common.{map, take, []}
-use Rattle.std.specs.List.{flat_map}
+use Rattle.std.proofs.Common.{take}
 use Rattle.sdl_rules.specs.Sound.{Marks, unknown, place_names}
 use Rattle.sdl_rules.proofs.checks.unknown_in_places.Given as goal
 

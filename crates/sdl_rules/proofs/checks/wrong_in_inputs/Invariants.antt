@@ -1,4 +1,4 @@
-use Rattle.std.proofs.Common.{map, take, []}
+use Rattle.std.proofs.Common.{map, take}
 use Rattle.std.specs.List.{flat_map}
 use Rattle.sdl_rules.specs.Sound.{Marks, input_wrong}
 use Rattle.sdl_tree.specs.Views.{block_of, input_of}

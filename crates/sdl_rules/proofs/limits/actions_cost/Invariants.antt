@@ -1,4 +1,4 @@
-use Rattle.std.proofs.Common.{◌≡◌, map, take, min}
+use Rattle.std.proofs.Common.{◌≡◌, take, min}
 use Rattle.std.specs.Prelude.{sum_by}
 use Rattle.sdl_rules.specs.Rows.{action_cost}
 use Rattle.sdl_rules.proofs.limits.actions_cost.Given as goal

@@ -1,4 +1,4 @@
-use Rattle.std.proofs.Common.{◌≡◌, map, take, nat_lt, length}
+use Rattle.std.proofs.Common.{◌≡◌, map, take}
 use Rattle.std.specs.List.{list_any}
 use Rattle.sdl_rules.specs.Longest.{input_piece}
 use Rattle.sdl_rules.specs.Rows.{row_input, piece_passes}

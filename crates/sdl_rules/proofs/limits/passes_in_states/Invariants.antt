@@ -1,4 +1,4 @@
-use Rattle.std.proofs.Common.{◌≡◌, map, take, nat_lt, length}
+use Rattle.std.proofs.Common.{◌≡◌, map, take}
 use Rattle.std.specs.List.{list_any, flat_map}
 use Rattle.sdl_rules.specs.Longest.{input_piece}
 use Rattle.sdl_rules.specs.Rows.{rows_inputs, piece_passes}

@@ -1,4 +1,4 @@
-use Rattle.std.proofs.Common.{◌≡◌, map, take, min}
+use Rattle.std.proofs.Common.{◌≡◌, take, min}
 use Rattle.sdl_rules.specs.Longest.{places_cost}
 use Rattle.sdl_rules.proofs.limits.places_cost.Given as goal
 

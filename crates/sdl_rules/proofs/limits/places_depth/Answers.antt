@@ -1,5 +1,5 @@
-use Rattle.std.proofs.Common.{◌≡◌, ◌+◌, ◌++◌, ◌∷◌, [], ℕ, List, Option, map, take, max, min, sym, ap, ◌∙◌, arith}
-use Rattle.std.proofs.lemmas.List.{take_more, map-append}
+use Rattle.std.proofs.Common.{◌≡◌, ◌+◌, ◌++◌, ◌∷◌, [], take, max, sym, ap, ◌∙◌, arith}
+use Rattle.std.proofs.lemmas.List.{take_more}
 use Rattle.sdl_rules.specs.Longest.{place_depth, places_depth}
 use Rattle.sdl_rules.proofs.Texts.{places_depth-push, place_depth_le}
 use Rattle.sdl_rules.proofs.limits.places_depth.Goals as goal

@@ -1,4 +1,4 @@
-use Rattle.std.proofs.Common.{◌≡◌, ◌∙◌, ap, map, take, arith}
+use Rattle.std.proofs.Common.{◌∙◌, ap, map, take, arith}
 use Rattle.std.proofs.lemmas.List.{take_all}
 use Rattle.sdl_tree.specs.Views.{process_of, state_of}
 use Rattle.sdl_rules.proofs.States.{rows-collected}

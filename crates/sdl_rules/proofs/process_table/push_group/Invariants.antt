@@ -1,6 +1,4 @@
 use Rattle.std.proofs.Common.{◌≡◌, map, ◌++◌, take}
-use Rattle.sdl_rules.specs.Names.{group_variables}
-use Rattle.sdl_tree.specs.Views.{group_of}
 use Rattle.sdl_rules.specs.Rows.{variable_of}
 use Rattle.sdl_rules.proofs.process_table.push_group.Given as goal
 

@@ -1,6 +1,5 @@
 use Rattle.std.proofs.Common.{◌≡◌, ℕ, ◌<◌, ◌++◌, vec_len, take}
-use Rattle.std.specs.List.{flat_map}
-use Rattle.sdl_rules.specs.Names.{given_by, is_state, part_inputs}
+use Rattle.sdl_rules.specs.Names.{given_by}
 use Rattle.sdl_tree.specs.Views.{state_of}
 use Rattle.sdl_rules.specs.Rows.{rows_at}
 use Rattle.sdl_rules.proofs.process_table.push_states.Given as goal

@@ -1,14 +1,14 @@
-use Rattle.std.proofs.Common.{◌≡◌, ◌∙◌, sym, ap, subst, map, List, [], ◌∷◌, ◌++◌, Option, None, ℕ}
+use Rattle.std.proofs.Common.{◌≡◌, ◌∙◌, ap, subst, map, List, [], Option, None, ℕ}
 use Rattle.std.specs.List.{flat_map}
 use Rattle.std.proofs.lemmas.Result.{err_from_is_err_and}
 use denote.Ref.{Bor}
 use Rattle.sdl_tree.specs.declared.tree.Process as the_process
-use Rattle.sdl_tree.specs.Views.{process_of, entity_of, block_of, signal_of}
-use Rattle.sdl_rules.specs.Names.{signals_in, routes_in, processes_in, signals_of, processes_of, signal_names, route_names, process_names, names_once}
+use Rattle.sdl_tree.specs.Views.{process_of, entity_of, block_of, signal_of, route_of}
+use Rattle.sdl_rules.specs.Names.{signals_in, routes_in, processes_in, signals_of, routes_of, processes_of, signal_names, route_names, process_names, names_once}
 use Rattle.sdl_rules.specs.Sound.{Marks, repeats, process_scopes, double_names}
 use Rattle.sdl_rules.proofs.States.{map-map}
 use Rattle.sdl_rules.proofs.Repeats.{names_once-distinct, append-nil_left, append-nil_right}
-use Rattle.sdl_rules.proofs.BlockLemmas.{Marks-block, Marks-none, inside-processes, signal_ids-of_rows, process_ids-of_rows}
+use Rattle.sdl_rules.proofs.BlockLemmas.{Marks-block, Marks-none, inside-processes, signal_ids-of_rows, route_ids-of_rows, process_ids-of_rows}
 use Rattle.sdl_rules.proofs.block_table.BlockTable.new.Goals as goal
 
 abbrev twice : Bor the_process.Process → List ℕ
@@ -21,9 +21,11 @@ returns-in-Some-clause-double c =
     c.in_ok-rows.ensures ∙ ap (λ es. flat_map signals_in (map entity_of es)) c.deref.ensures.value in
     let processes : map (λ p. process_of p.now) c.in_ok-processes.processes.items ≡ processes_of b =
     c.in_ok-processes.ensures ∙ ap (λ es. flat_map processes_in (map entity_of es)) c.deref-3.ensures.value in
-    let rs : c.deref-5.result.now ≡ route_names b =
-    c.deref-5.ensures.value
-    ∙ (c.in_ok-routes.ensures ∙ ap (λ es. map (λ r. r.name) (flat_map routes_in (map entity_of es))) c.deref-2.ensures.value) in
+    let routes : map (λ r. route_of r.now) c.in_ok-routes.routes.items ≡ routes_of b =
+    c.in_ok-routes.ensures ∙ ap (λ es. flat_map routes_in (map entity_of es)) c.deref-2.ensures.value in
+    let rs : map (λ r. r.now.name) c.deref-5.result.now ≡ route_names b =
+    route_ids-of_rows b c.in_ok-routes.routes.items (map (λ r. r.now.name) c.deref-5.result.now) routes
+    (ap (map (λ r. r.now.name)) c.deref-5.ensures.value) in
     let ss : map (λ s. s.now.name) c.deref-4.result.now ≡ signal_names b =
     signal_ids-of_rows b c.in_ok-rows.rows.items (map (λ s. s.now.name) c.deref-4.result.now) rows
     (ap (map (λ s. s.now.name)) c.deref-4.ensures.value) in
@@ -34,10 +36,10 @@ returns-in-Some-clause-double c =
     ap (flat_map twice) c.deref-7.ensures.value
     ∙ inside-processes (λ p. process_of p.now) c.in_ok-processes.processes.items (processes_of b) processes in
     let both : Marks c.earlier-double.result (double_names b) =
-    Marks-block b (map (λ s. s.now.name) c.deref-4.result.now) c.deref-5.result.now (map (λ p. p.now.name) c.deref-6.result.now) (flat_map twice c.deref-7.result.now)
-    c.in_ok-signals.signals.double c.in_ok-twice.twice.double c.in_ok-names.names.double c.in_ok-built.built.double
+    Marks-block b (map (λ s. s.now.name) c.deref-4.result.now) (map (λ r. r.now.name) c.deref-5.result.now) (map (λ p. p.now.name) c.deref-6.result.now) (flat_map twice c.deref-7.result.now)
+    c.in_ok-signals.signals.double c.in_ok-twice.twice c.in_ok-names.names.double c.in_ok-built.built.double
     c.earlier-inside.result c.earlier-beyond.result c.earlier-double.result ss rs ps places
-    c.in_ok-signals.ensures.double c.in_ok-twice.ensures.double c.in_ok-names.ensures.double
+    c.in_ok-signals.ensures.double c.in_ok-twice.ensures c.in_ok-names.ensures.double
     c.in_ok-built.ensures.double c.earlier-inside.ensures c.earlier-beyond.ensures c.earlier-double.ensures in
     subst (λ (o : Option ℕ). Marks o (double_names b)) c.in-Some.is both
 
@@ -53,9 +55,11 @@ invariant_of-result c =
     c.in_ok-rows.ensures ∙ ap (λ es. flat_map signals_in (map entity_of es)) c.deref.ensures.value in
     let processes : map (λ p. process_of p.now) c.in_ok-processes.processes.items ≡ processes_of b =
     c.in_ok-processes.ensures ∙ ap (λ es. flat_map processes_in (map entity_of es)) c.deref-3.ensures.value in
-    let rs : c.deref-5.result.now ≡ route_names b =
-    c.deref-5.ensures.value
-    ∙ (c.in_ok-routes.ensures ∙ ap (λ es. map (λ r. r.name) (flat_map routes_in (map entity_of es))) c.deref-2.ensures.value) in
+    let routes : map (λ r. route_of r.now) c.in_ok-routes.routes.items ≡ routes_of b =
+    c.in_ok-routes.ensures ∙ ap (λ es. flat_map routes_in (map entity_of es)) c.deref-2.ensures.value in
+    let rs : map (λ r. r.now.name) c.deref-5.result.now ≡ route_names b =
+    route_ids-of_rows b c.in_ok-routes.routes.items (map (λ r. r.now.name) c.deref-5.result.now) routes
+    (ap (map (λ r. r.now.name)) c.deref-5.ensures.value) in
     let ss : map (λ s. s.now.name) c.deref-4.result.now ≡ signal_names b =
     signal_ids-of_rows b c.in_ok-rows.rows.items (map (λ s. s.now.name) c.deref-4.result.now) rows
     (ap (map (λ s. s.now.name)) c.deref-4.ensures.value) in
@@ -66,10 +70,10 @@ invariant_of-result c =
     ap (flat_map twice) c.deref-7.ensures.value
     ∙ inside-processes (λ p. process_of p.now) c.in_ok-processes.processes.items (processes_of b) processes in
     let both : Marks c.earlier-double.result (double_names b) =
-    Marks-block b (map (λ s. s.now.name) c.deref-4.result.now) c.deref-5.result.now (map (λ p. p.now.name) c.deref-6.result.now) (flat_map twice c.deref-7.result.now)
-    c.in_ok-signals.signals.double c.in_ok-twice.twice.double c.in_ok-names.names.double c.in_ok-built.built.double
+    Marks-block b (map (λ s. s.now.name) c.deref-4.result.now) (map (λ r. r.now.name) c.deref-5.result.now) (map (λ p. p.now.name) c.deref-6.result.now) (flat_map twice c.deref-7.result.now)
+    c.in_ok-signals.signals.double c.in_ok-twice.twice c.in_ok-names.names.double c.in_ok-built.built.double
     c.earlier-inside.result c.earlier-beyond.result c.earlier-double.result ss rs ps places
-    c.in_ok-signals.ensures.double c.in_ok-twice.ensures.double c.in_ok-names.ensures.double
+    c.in_ok-signals.ensures.double c.in_ok-twice.ensures c.in_ok-names.ensures.double
     c.in_ok-built.ensures.double c.earlier-inside.ensures c.earlier-beyond.ensures c.earlier-double.ensures in
     let none : double_names b ≡ [] = subst (λ (o : Option ℕ). Marks o (double_names b)) c.in-None.is both in
     let later = append-nil_right _ _ (append-nil_right _ _ none) in
@@ -81,6 +85,7 @@ invariant_of-result c =
           c.in_ok-signals.ensures.names
           ∙ (ap names_once ss ∙ names_once-distinct (signal_names b) (append-nil_left _ _ none));
       rows = rows;
+      routes = routes;
       processes =
           c.in_ok-names.ensures.names
           ∙ (ap names_once ps ∙ names_once-distinct (process_names b) (append-nil_left _ _ later));

@@ -1,11 +1,9 @@
-use Rattle.std.proofs.Common.{◌≡◌, ◌∙◌, sym, ap, ℕ, Bool, false, not, bytes_eq, None, List, ◌∷◌, ◌++◌, []}
+use Rattle.std.proofs.Common.{◌≡◌, ◌∙◌, sym, ap, false, not, bytes_eq, None, ◌∷◌, ◌++◌, []}
 use Rattle.std.specs.Map.{lookup, values_of}
 use Rattle.sdl_lex.specs.Spelling.{folded}
-use Rattle.sdl_tree.specs.declared.expression.Identifier.{Identifier}
-use Rattle.indexmap.specs.IndexMap.{insert_entry}
 use Rattle.indexmap.proofs.CallerLemmas.{insert_entry-new}
-use Rattle.sdl_rules.specs.Names.{is_in, add_name}
-use Rattle.sdl_rules.proofs.Tables.{entries-new, add_name-present, add_name-new, Keyed, Keyed-push, values-push}
+use Rattle.sdl_rules.specs.Names.{is_in}
+use Rattle.sdl_rules.proofs.Tables.{entries-new, add_name-present, add_name-new, Keyed-push, values-push}
 use Rattle.sdl_rules.proofs.name_table.NameTable.add.Goals as goal
 
 absent_then : (c : goal.In_ok-insert) → is_in (values_of c.self.inside.entries.entries) c.args.id.name ≡ false

@@ -1,4 +1,4 @@
-use Rattle.std.proofs.Common.{◌∙◌, sym, ap, is_some, bytes_eq}
+use Rattle.std.proofs.Common.{◌∙◌, ap, is_some, bytes_eq}
 use Rattle.std.specs.Map.{lookup}
 use Rattle.sdl_rules.specs.Names.{is_in}
 use Rattle.sdl_rules.proofs.Tables.{holds_name}

@@ -1,4 +1,4 @@
-use Rattle.std.proofs.Common.{◌∙◌, sym, ap, bytes_eq, position}
+use Rattle.std.proofs.Common.{◌∙◌, ap, bytes_eq, position}
 use Rattle.std.specs.Map.{keys_of}
 use Rattle.sdl_rules.specs.Names.{number_of}
 use Rattle.sdl_rules.proofs.Tables.{finds_number}

@@ -1,9 +1,9 @@
-use Rattle.std.proofs.Common.{◌≡◌, ◌∙◌, sym, ap, subst, map, List, [], ◌∷◌, ◌++◌, Option, ℕ}
+use Rattle.std.proofs.Common.{◌≡◌, ◌∙◌, ap, subst, map, [], Option, ℕ}
 use Rattle.std.specs.List.{flat_map}
-use Rattle.sdl_tree.specs.Views.{process_of, declaration_of, state_of, input_of}
-use Rattle.sdl_rules.specs.Names.{variable_names, variables_of, names_once, states_of, inputs_by_state, declared_variables, clause_parts}
+use Rattle.sdl_tree.specs.Views.{process_of, declaration_of, state_of}
+use Rattle.sdl_rules.specs.Names.{variable_names, variables_of, names_once, inputs_by_state, declared_variables, clause_parts}
 use Rattle.sdl_rules.specs.Rows.{variable_of, rows_inputs}
-use Rattle.sdl_rules.specs.Sound.{Marks, repeats, input_names, process_scopes}
+use Rattle.sdl_rules.specs.Sound.{Marks, repeats, process_scopes}
 use Rattle.sdl_rules.proofs.ProcessTables.{ids-of_rows, Marks-scopes}
 use Rattle.sdl_rules.proofs.Repeats.{names_once-distinct, append-nil_left}
 use Rattle.sdl_rules.proofs.process_table.ProcessTable.new.Goals as goal

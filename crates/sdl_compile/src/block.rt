@@ -1,0 +1,222 @@
+//! A block.
+ghost use Rattle.std.specs.Prelude.{◌≡◌, ◌≤◌, ◌++◌, ℕ, length, map, All, IfOk, OnOk};
+ghost use Rattle.std.specs.List.{flat_map, AllZip};
+ghost use Rattle.std.specs.Global.{Vec};
+ghost use Rattle.sdl_tree.specs.Views.{process_of, signal_of, path_of, route_of, block_of};
+ghost use Rattle.turn_code.specs.Valid.{IsValid};
+ghost use Rattle.sdl_rules.specs.Names.{number_of, processes_of, routes_of};
+ghost use Rattle.sdl_rules.specs.Settled.{AreSettled};
+ghost use Rattle.sdl_rules.specs.Refusals.{Sound};
+ghost use Rattle.sdl_compile.specs.Code.{number_or_zero};
+ghost use Rattle.sdl_compile.specs.Drafts.{sort_of_tree, AreReadySignals, IsReadyProcess, MatchesProcess};
+ghost use Rattle.sdl_compile.specs.Blocks.{drafted_signal, drafted_party, drafted_path, MatchesBlock, IsValidProcess};
+ghost use Rattle.sdl_compile.specs.Routes.{KnownParty, IsKnown, IsKnownPath, HasFewNames, signal_numbered};
+
+use crate::process::compile_process;
+use crate::state::draft_name;
+use crate::variables::sort;
+use sdl_rules::{NameTable, ProcessTable, Resolved};
+use sdl_tree::{Identifier, Path, Route, SignalDeclaration};
+use std::alloc::{AllocError, Global};
+use turn_code::{
+    Draft, DraftProcess, DraftRoute, DraftSignal, Party, ProcessNumber, Sequence, SignalNumber,
+    Sort,
+};
+
+fn compile_sorts(alloc: Global, sorts: &[sdl_tree::Sort]) -> Result<Vec<Sort>, AllocError>
+    ensures { IfOk result (λ v. v.items ≡ map sort_of_tree sorts.now) }
+{
+    let mut compiled = Vec::new(alloc);
+    for declared in sorts {
+        compiled.push(sort(*declared))?;
+    }
+    Ok(compiled)
+}
+
+fn compile_signal(alloc: Global, row: &SignalDeclaration) -> Result<DraftSignal, AllocError>
+    ensures { IfOk result (λ d. d ≡ drafted_signal (signal_of row.now)) }
+{
+    let parameters = compile_sorts(alloc, &row.parameters)?;
+    Ok(DraftSignal {
+        name: draft_name(&row.name.name),
+        parameters: Sequence::from(parameters),
+    })
+}
+
+// The signals with the sorts of their parameters.
+fn compile_signals(
+    alloc: Global,
+    rows: &[&SignalDeclaration],
+) -> Result<Vec<DraftSignal>, AllocError>
+    ensures { IfOk result (λ v. v.items ≡ map drafted_signal (map (λ s. signal_of s.now) rows.now)) }
+{
+    let mut signals = Vec::new(alloc);
+    for row in rows {
+        signals.push(compile_signal(alloc, row)?)?;
+    }
+    Ok(signals)
+}
+
+// The number of a process that is declared.
+fn process_number(processes: &NameTable, id: &Identifier) -> ProcessNumber
+    requires there { IsKnown processes.now id.now }
+    requires few { length processes.now ≤ 16 }
+    ensures { result.0 ≡ number_or_zero (number_of processes.now id.now.name) }
+{
+    match processes.number(id.name) {
+        Some(number) => ProcessNumber(number as u8),
+        None => unreachable!(),
+    }
+}
+
+// The number of a signal that is declared.
+fn signal_number(signals: &NameTable, id: &Identifier) -> SignalNumber
+    requires there { IsKnown signals.now id.now }
+    requires few { length signals.now ≤ 128 }
+    ensures { result ≡ signal_numbered signals.now id.now }
+{
+    match signals.number(id.name) {
+        Some(number) => SignalNumber(number as u8),
+        None => unreachable!(),
+    }
+}
+
+// Who sends or receives.
+fn compile_party(processes: &NameTable, party: &sdl_tree::Party) -> Party
+    requires there { KnownParty processes.now party.now }
+    requires few { length processes.now ≤ 16 }
+    ensures { result ≡ drafted_party processes.now party.now }
+{
+    match party {
+        sdl_tree::Party::Environment => Party::Environment,
+        sdl_tree::Party::Process(id) => Party::Process(process_number(processes, id)),
+    }
+}
+
+fn signal_numbers(
+    alloc: Global,
+    signals: &NameTable,
+    ids: &[Identifier],
+) -> Result<Vec<SignalNumber>, AllocError>
+    requires there { All (IsKnown signals.now) ids.now }
+    requires few { length signals.now ≤ 128 }
+    ensures { IfOk result (λ v. v.items ≡ map (signal_numbered signals.now) ids.now) }
+{
+    let mut numbers = Vec::new(alloc);
+    for id in ids {
+        numbers.push(signal_number(signals, id))?;
+    }
+    Ok(numbers)
+}
+
+// A path with the numbers of its processes and signals.
+fn compile_path(alloc: Global, resolved: &Resolved, path: &Path) -> Result<DraftRoute, AllocError>
+    requires known { IsKnownPath (block_of resolved.now) (path_of path.now) }
+    requires few { HasFewNames (block_of resolved.now) }
+    ensures { IfOk result (λ d. d ≡ drafted_path (block_of resolved.now) (path_of path.now)) }
+{
+    let signals = signal_numbers(alloc, resolved.signals(), &path.signals)?;
+    Ok(DraftRoute {
+        from: compile_party(resolved.processes(), &path.from),
+        to: compile_party(resolved.processes(), &path.to),
+        signals: Sequence::from(signals),
+    })
+}
+
+fn push_paths(
+    compiled: &mut Vec<DraftRoute>,
+    alloc: Global,
+    resolved: &Resolved,
+    paths: &[Path],
+) -> Result<(), AllocError>
+    requires known { All (λ p. IsKnownPath (block_of resolved.now) (path_of p)) paths.now }
+    requires few { HasFewNames (block_of resolved.now) }
+    ensures { OnOk result (compiled.new.items ≡ compiled.old.items ++ map (drafted_path (block_of resolved.now)) (map path_of paths.now)) }
+{
+    for path in paths {
+        compiled.push(compile_path(alloc, resolved, path)?)?;
+    }
+    Ok(())
+}
+
+// The paths of all routes.
+fn compile_routes(
+    alloc: Global,
+    resolved: &Resolved,
+    routes: &[&Route],
+) -> Result<Vec<DraftRoute>, AllocError>
+    requires known { All (λ r. All (λ p. IsKnownPath (block_of resolved.now) (path_of p)) r.now.paths.items) routes.now }
+    requires few { HasFewNames (block_of resolved.now) }
+    ensures { IfOk result (λ v. v.items ≡ map (drafted_path (block_of resolved.now)) (flat_map (λ r. r.paths) (map (λ r. route_of r.now) routes.now))) }
+{
+    let mut compiled = Vec::new(alloc);
+    for route in routes {
+        push_paths(&mut compiled, alloc, resolved, &route.paths)?;
+    }
+    Ok(compiled)
+}
+
+// The processes, each with the sets of its states.
+fn compile_processes(
+    alloc: Global,
+    tables: &[ProcessTable],
+    sets: &[Vec<u32>],
+    signals: &NameTable,
+    drafts: &[DraftSignal],
+) -> Result<Vec<DraftProcess>, AllocError>
+    requires paired { length sets.now ≡ length tables.now }
+    requires ready { All (λ t. IsReadyProcess signals.now drafts.now (process_of t)) tables.now }
+    requires signals { AreReadySignals signals.now drafts.now }
+    requires settled { AllZip (λ t (v : Vec ℕ). AreSettled (process_of t) v.items) tables.now sets.now }
+    ensures matches { IfOk result (λ ds. AllZip (MatchesProcess signals.now) (map process_of tables.now) ds.items) }
+    ensures valid { IfOk result (λ ds. All (IsValidProcess drafts.now) ds.items) }
+{
+    let mut processes = Vec::new(alloc);
+    for (number, table) in tables.iter().enumerate() {
+        processes.push(compile_process(alloc, table, &sets[number], signals, drafts)?)?;
+    }
+    Ok(processes)
+}
+
+// Compiles a block with these routes, whose processes' states have these sets.
+fn compile_block(
+    alloc: Global,
+    resolved: &Resolved,
+    routes: &[&Route],
+    sets: &[Vec<u32>],
+) -> Result<Draft, AllocError>
+    requires sound { Sound (block_of resolved.now) }
+    requires routes { map (λ r. route_of r.now) routes.now ≡ routes_of (block_of resolved.now) }
+    requires sets { AllZip (λ p (v : Vec ℕ). AreSettled p v.items) (processes_of (block_of resolved.now)) sets.now }
+    ensures means { IfOk result (λ d. MatchesBlock (block_of resolved.now) d) }
+    ensures valid { IfOk result (λ d. IsValid d) }
+{
+    let signals = compile_signals(alloc, resolved.signal_rows())?;
+    let paths = compile_routes(alloc, resolved, routes)?;
+    let processes = compile_processes(
+        alloc,
+        resolved.tables(),
+        sets,
+        resolved.signals(),
+        &signals,
+    )?;
+    Ok(Draft {
+        signals: Sequence::from(signals),
+        routes: Sequence::from(paths),
+        processes: Sequence::from(processes),
+    })
+}
+
+/// Compiles a sound block.
+///
+/// The draft has the names and numbers of the block's signals, paths, processes, variables, states
+/// and inputs in the order of the text. On every input the run of each piece is what its transition
+/// means, and its certificate names the longest path. The draft is valid. Want of memory is the only
+/// error.
+pub fn compile(alloc: Global, resolved: &Resolved) -> Result<Draft, AllocError>
+    ensures means { IfOk result (λ d. MatchesBlock (block_of resolved.now) d) }
+    ensures valid { IfOk result (λ d. IsValid d) }
+{
+    let _sound = resolved.block();
+    compile_block(alloc, resolved, resolved.routes(), resolved.sets())
+}

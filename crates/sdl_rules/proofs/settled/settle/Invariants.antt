@@ -1,0 +1,13 @@
+use Rattle.std.proofs.Common.{◌≡◌, None, take}
+use Rattle.std.specs.Prelude.{IfSome, All}
+use Rattle.sdl_rules.specs.Paths.{NeverReadsUnset}
+use Rattle.sdl_rules.specs.Surveys.{AllSettled}
+use Rattle.sdl_rules.proofs.Surveying.{plain, IsUnsetAmong}
+use Rattle.sdl_rules.proofs.settled.settle.Given as goal
+
+abbrev pub invariant-loop-table : goal.invariant-loop-table
+invariant-loop-table l = record {
+  found : IfSome l.best (IsUnsetAmong (plain l.tables));
+  sets : l.best ≡ None → AllSettled (plain (take l.table-index l.tables)) l.sets.items;
+  none : l.best ≡ None → All NeverReadsUnset (plain (take l.table-index l.tables));
+}

@@ -1,0 +1,65 @@
+use Rattle.std.proofs.Common.{◌≡◌, ◌<◌, ℕ, List, Option, Some, length, Vec, Global, arith, sym, ap, ◌∙◌, subst}
+use Rattle.std.specs.Prelude.{IfNone, IfSome, slice_get}
+use Rattle.unset_paths.specs.declared.Fate.{Fate}
+use Rattle.unset_paths.specs.declared.Fate.TheVariants.{Unset as Path}
+use Rattle.unset_paths.specs.declared.Step as number
+use Rattle.sdl_tree.specs.Views.{process_of, block_of}
+use Rattle.sdl_tree.specs.declared.expression.Identifier.{Identifier}
+use Rattle.sdl_rules.specs.Names.{variable_names, states_of}
+use Rattle.sdl_rules.specs.Fates.{AreFates, AreSet, IsUnsetAt}
+use Rattle.sdl_rules.proofs.Surveying.{survey_steps, survey_reads, number_within}
+use Rattle.sdl_rules.proofs.Settling.{settled, never, AreBits}
+use Rattle.sdl_rules.proofs.settled.survey.Goals as goal
+
+pub returns-in-None : goal.returns-in-None
+returns-in-None c =
+    let p = process_of c.args.table.now in
+    let fates = c.in_ok-fates.fates.items in
+    let a : AreFates p fates = c.in_ok-fates.ensures in
+    let shown : AreSet c.deref.result.now =
+    subst (λ (o : Option ℕ). IfNone o (AreSet c.deref.result.now)) c.in-None.is c.find_first.ensures.none in
+    let set : AreSet fates = subst AreSet c.deref.ensures.value shown in
+    let count : length c.in_ok-sets-in-None.sets.items ≡ length (states_of p) =
+    c.in_ok-sets-in-None.ensures.count ∙ (c.len.ensures ∙ ap length c.states.ensures) in
+    let bits : AreBits fates c.in_ok-sets-in-None.sets.items =
+    subst (λ (l : List Fate). AreBits l c.in_ok-sets-in-None.sets.items) c.deref-in-None.ensures.value c.in_ok-sets-in-None.ensures.bits in
+    (settled p fates c.in_ok-sets-in-None.sets.items a set count bits, never (block_of c.args.block.now) p fates c.requires.known a set)
+
+pub name-variable-requires : goal.name-variable-requires
+name-variable-requires c =
+    let p = process_of c.args.table.now in
+    let shown : IsUnsetAt c.deref.result.now c.in-Some.number =
+    subst (λ (o : Option ℕ). IfSome o (IsUnsetAt c.deref.result.now)) c.in-Some.is c.find_first.ensures.found in
+    let unset : IsUnsetAt c.in_ok-fates.fates.items c.in-Some.number =
+    subst (λ (l : List Fate). IsUnsetAt l c.in-Some.number) c.deref.ensures.value shown in
+    let within : c.in-Some.number < length (variable_names p) = number_within p c.in_ok-fates.fates.items c.in-Some.number c.in_ok-fates.ensures unset in
+    omega (arith, within, ap length c.variables.ensures)
+
+pub named_path-requires : goal.named_path-requires
+named_path-requires c =
+    let p = process_of c.args.table.now in
+    let fates = c.in_ok-fates.fates.items in
+    let n = c.in-Some.number in
+    let shown : IsUnsetAt c.deref.result.now n =
+    subst (λ (o : Option ℕ). IfSome o (IsUnsetAt c.deref.result.now)) c.in-Some.is c.find_first.ensures.found in
+    let unset : IsUnsetAt fates n = subst (λ (l : List Fate). IsUnsetAt l n) c.deref.ensures.value shown in
+    let path : (path : Vec number.Step Global) → slice_get fates n ≡ Some (Path path) → c.path_at.result.now ≡ path.items =
+    subst (λ (l : List Fate). (path : Vec number.Step Global) → slice_get l n ≡ Some (Path path) → c.path_at.result.now ≡ path.items)
+    c.deref-in-Some.ensures.value c.path_at.ensures in
+    survey_steps p fates n c.in_ok-fates.ensures unset c.path_at.result.now path
+
+pub returns : goal.returns
+returns c =
+    let p = process_of c.args.table.now in
+    let fates = c.in_ok-fates.fates.items in
+    let n = c.in-Some.number in
+    let shown : IsUnsetAt c.deref.result.now n =
+    subst (λ (o : Option ℕ). IfSome o (IsUnsetAt c.deref.result.now)) c.in-Some.is c.find_first.ensures.found in
+    let unset : IsUnsetAt fates n = subst (λ (l : List Fate). IsUnsetAt l n) c.deref.ensures.value shown in
+    let path : (path : Vec number.Step Global) → slice_get fates n ≡ Some (Path path) → c.path_at.result.now ≡ path.items =
+    subst (λ (l : List Fate). (path : Vec number.Step Global) → slice_get l n ≡ Some (Path path) → c.path_at.result.now ≡ path.items)
+    c.deref-in-Some.ensures.value c.path_at.ensures in
+    let var : slice_get (variable_names p) n ≡ Some c.name-variable.result =
+    ap (λ (ids : List Identifier). slice_get ids n) (sym c.variables.ensures) ∙ c.name-variable.ensures in
+    survey_reads p fates n c.in_ok-fates.ensures unset c.path_at.result.now path c.name-variable.result var
+    c.in_ok-path-in-Some.path.steps.items c.in_ok-path-in-Some.ensures

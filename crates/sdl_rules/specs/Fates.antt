@@ -1,0 +1,58 @@
+-- What becomes of the variables of a process, and how a path by numbers is named.
+use Rattle.std.specs.Prelude.{◌≡◌, ℕ, ◌<◌, Bool, true, false, not, List, Some, length, slice_get, if◌then◌else◌, ⊤}
+use Rattle.std.specs.Option.{option_map_or}
+use Rattle.std.specs.Global.{Vec}
+use Rattle.unset_paths.specs.declared.Graph.{Graph}
+use Rattle.unset_paths.specs.declared.Fate.{Fate}
+use Rattle.unset_paths.specs.declared.Fate.TheVariants.{Unset, Set}
+use Rattle.unset_paths.specs.declared.Step as number
+use Rattle.unset_paths.specs.declared.Step.TheVariants.{Start as First, Input as By}
+use Rattle.unset_paths.specs.Graph.{IsClosedSet, ReadsUnset}
+use Rattle.sdl_tree.specs.Plain.{PlainProcess}
+use Rattle.sdl_tree.specs.declared.expression.Identifier.{Identifier}
+use Rattle.sdl_rules.specs.Names.{same_name, variables_of, states_of, Input, inputs_of}
+use Rattle.sdl_rules.specs.Graphs.{IsGraphOf}
+use Rattle.sdl_rules.specs.declared.fault.Step.{Step}
+use Rattle.sdl_rules.specs.declared.fault.Step.TheVariants.{Start, Input as Takes}
+
+-- variable v of a graph is read unset by the path, or no path reads it unset, and the states are closed
+abbrev pub IsFate : Graph → ℕ → Fate → Type 0
+IsFate g v (Unset path) = ReadsUnset g v path.items
+IsFate g v (Set marks) = ((path : List number.Step) → ReadsUnset g v path → ⊥) × IsClosedSet g v marks.items
+
+-- the fate of each variable of a process
+pub record AreFates (p : PlainProcess) (fates : List Fate) : Type 0 where
+  pub graph : Graph
+  pub is : IsGraphOf p graph
+  pub count : length fates ≡ length (variables_of p)
+  pub each : (v : ℕ) (f : Fate) → slice_get fates v ≡ Some f → IsFate graph v f
+
+-- whether a variable is set in a state
+abbrev pub is_set_in : Fate → ℕ → Bool
+is_set_in (Unset path) q = false
+is_set_in (Set marks) q = option_map_or not (slice_get marks.items q) false
+
+-- the bit of a variable in the set of a state
+abbrev pub set_bit : List Fate → ℕ → ℕ → ℕ
+set_bit fates q v = option_map_or (λ f. if is_set_in f q then 1 else 0) (slice_get fates v) 0
+
+-- there is such a step
+abbrev pub IsStep : PlainProcess → number.Step → Type 0
+IsStep p First = ⊤
+IsStep p (By q i) = (q < length (states_of p)) × (i < length (inputs_of p q))
+
+-- a step by numbers is this one by names
+abbrev pub IsNamed : PlainProcess → number.Step → Step → Type 0
+IsNamed p First n = n ≡ Start
+IsNamed p (By q i) n =
+    (id : Identifier) × (slice_get (states_of p) q ≡ Some id)
+    × (inp : Input) × (slice_get (inputs_of p q) i ≡ Some inp)
+    × (signal : List ℕ) × (same_name signal inp.stimulus.name.name ≡ true) × (n ≡ Takes id.name signal)
+
+-- a path reads this variable unset
+abbrev pub IsUnsetAt : List Fate → ℕ → Type 0
+IsUnsetAt fates v = (path : Vec number.Step) × (slice_get fates v ≡ Some (Unset path))
+
+-- each of these variables is set
+abbrev pub AreSet : List Fate → Type 0
+AreSet fates = (v : ℕ) (path : Vec number.Step) → slice_get fates v ≡ Some (Unset path) → ⊥

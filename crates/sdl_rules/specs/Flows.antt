@@ -1,0 +1,54 @@
+-- What a part of a transition does with the variables, as bits by their numbers.
+use Rattle.std.specs.Prelude.{◌≡◌, ℕ, ◌<◌, Bool, not, List, [], ◌∷◌, map, Option, None, Some, slice_get}
+use Rattle.std.specs.List.{flat_map, AllZip}
+use Rattle.std.specs.Global.{Vec}
+use Rattle.unset_paths.specs.Graph.{has}
+use Rattle.unset_paths.specs.declared.Passage.{Passage}
+use Rattle.unset_paths.specs.declared.Summary.{Summary}
+use Rattle.sdl_tree.specs.declared.expression.Identifier.{Identifier}
+use Rattle.sdl_tree.specs.declared.tree.Action.{Action}
+use Rattle.sdl_tree.specs.declared.tree.Action.TheVariants.{Task}
+use Rattle.sdl_tree.specs.declared.tree.End.{End}
+use Rattle.sdl_tree.specs.declared.tree.End.TheVariants.{NextState}
+use Rattle.sdl_tree.specs.Plain.{Tree, PlainProcess}
+use Rattle.sdl_tree.specs.Views.{assignment_of}
+use Rattle.sdl_rules.specs.Names.{number_of, variable_names, Input}
+use Rattle.sdl_rules.specs.Sound.{tree_names, place_names}
+use Rattle.sdl_rules.specs.Paths.{Event, reads, sets, assignment_events, input_transition, reads_first, sets_in}
+use Rattle.sdl_rules.specs.Graphs.{IsSummaryOf}
+use Rattle.sdl_rules.specs.declared.flows.Flow.{Flow}
+
+-- bit v says whether the name of identifier v passes a test
+pub record Tells (ids : List Identifier) (test : List ℕ → Bool) (bits : ℕ) : Type 0 where
+  pub at : (v : ℕ) (id : Identifier) → v < 32 → slice_get ids v ≡ Some id → has bits v ≡ test id.name
+
+-- what is read by these events before they set it, and what they don't set
+unfoldable pub Does : PlainProcess → List Event → Flow → Type 0
+Does p events flow =
+    Tells (variable_names p) (λ x. reads_first events x) flow.reads
+    × Tells (variable_names p) (λ x. not (sets_in events x)) flow.keeps
+
+-- an expression reads its variables
+abbrev pub tree_events : Tree → List Event
+tree_events t = map (λ id. reads id.name) (tree_names t)
+
+-- an INPUT sets the variables of its places
+abbrev pub place_events : List (Option Identifier) → List Event
+place_events places = map (λ id. sets id.name) (place_names places)
+
+abbrev pub action_events : Action → List Event
+action_events (Task t) = flat_map assignment_events (map assignment_of t.assignments.items)
+
+-- the state in which a transition ends, by its number
+abbrev pub target : List Identifier → Option End → Option ℕ
+target states None = None
+target states (Some (NextState n)) = number_of states n.state.name
+
+-- the passage to that state
+abbrev pub passages_to : ℕ → Option ℕ → List Passage
+passages_to keeps None = []
+passages_to keeps (Some q) = record { state = q; keeps = keeps } ∷ []
+
+-- the summaries of the inputs of a state
+abbrev pub AreSummariesOf : PlainProcess → List Input → Vec Summary → Type 0
+AreSummariesOf p inputs v = AllZip (λ i s. IsSummaryOf p (input_transition i) s) inputs v.items

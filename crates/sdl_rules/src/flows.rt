@@ -1,0 +1,251 @@
+//! What transitions do with the variables: which they read before they set them, and which they leave unset.
+ghost use Rattle.std.specs.Prelude.{◌≡◌, ◌≤◌, ◌++◌, ◌∷◌, [], List, Option, map, length, IfOk};
+ghost use Rattle.std.specs.List.{flat_map, AllZip};
+ghost use Rattle.std.specs.Option.{option_to_list};
+ghost use Rattle.sdl_tree.specs.Plain.{PlainProcess};
+ghost use Rattle.sdl_tree.specs.Views.{tree_of, assignment_of, text_of, process_of};
+ghost use Rattle.sdl_rules.specs.Names.{same_name, variable_names, variables_of, states_of};
+ghost use Rattle.sdl_rules.specs.Rows.{variable_of, row_input, rows_inputs};
+ghost use Rattle.sdl_rules.specs.Paths.{Event, reads, sets, assignment_events, initial_sets, input_transition};
+ghost use Rattle.sdl_rules.specs.Flows.{Tells, Does, tree_events, place_events, action_events, target, passages_to, AreSummariesOf};
+ghost use Rattle.sdl_rules.specs.Graphs.{IsSummaryOf, IsGraphOf};
+
+use crate::process_table::{InputRow, ProcessTable, Variable};
+use sdl_lex::Name;
+use sdl_tree::{Action, Assignment, End, Expression, Identifier, Transition};
+use std::alloc::{AllocError, Global};
+use unset_paths::{Graph, Passage, Summary};
+
+/// What a part of a transition does with the variables. Bit v is that of variable v.
+#[derive(Clone, Copy, Debug)]
+struct Flow {
+    /// What it reads before it sets it.
+    reads: u32,
+    /// What it doesn't set.
+    keeps: u32,
+}
+
+impl Flow {
+    // What nothing at all does.
+    fn empty() -> Flow
+        ensures { (p : PlainProcess) → Does p [] result }
+    {
+        Flow {
+            reads: 0,
+            keeps: u32::MAX,
+        }
+    }
+
+    // What this part and the next one after it do together.
+    fn followed_by(self, next: Flow) -> Flow
+        ensures { (p : PlainProcess) (xs ys : List Event) → Does p xs self → Does p ys next → Does p (xs ++ ys) result }
+    {
+        Flow {
+            reads: self.reads | (self.keeps & next.reads),
+            keeps: self.keeps & next.keeps,
+        }
+    }
+}
+
+// The bit of the variable with a name: none where there is no such variable among the first 32. No two variables have
+// one name, as the process of a table says.
+fn bit(table: &ProcessTable, name: Name) -> u32
+    ensures { Tells (variable_names (process_of table.now)) (λ x. same_name x name) result }
+{
+    let _distinct = table.process();
+    match table.variables().number(name) {
+        None => 0,
+        Some(number) => { if number < 32 { 1 << number } else { 0 } }
+    }
+}
+
+fn read(table: &ProcessTable, name: Name) -> Flow
+    ensures { Does (process_of table.now) (reads name ∷ []) result }
+{
+    Flow {
+        reads: bit(table, name),
+        keeps: u32::MAX,
+    }
+}
+
+fn set(table: &ProcessTable, name: Name) -> Flow
+    ensures { Does (process_of table.now) (sets name ∷ []) result }
+{
+    Flow {
+        reads: 0,
+        keeps: !bit(table, name),
+    }
+}
+
+fn expression_flow(table: &ProcessTable, expression: &Expression) -> Flow
+    ensures { Does (process_of table.now) (tree_events (tree_of expression.now)) result }
+{
+    match expression {
+        Expression::Number { .. } => Flow::empty(),
+        Expression::Variable { name, .. } => read(table, name.name),
+        Expression::Unary { operand, .. } => expression_flow(table, operand),
+        Expression::Binary { left, right, .. } => {
+            expression_flow(table, left).followed_by(expression_flow(table, right))
+        }
+    }
+}
+
+fn assignment_flow(table: &ProcessTable, assignment: &Assignment) -> Flow
+    ensures { Does (process_of table.now) (assignment_events (assignment_of assignment.now)) result }
+{
+    let value = expression_flow(table, &assignment.value);
+    value.followed_by(set(table, assignment.variable.name))
+}
+
+fn assignments_flow(table: &ProcessTable, assignments: &[Assignment]) -> Flow
+    ensures { Does (process_of table.now) (flat_map assignment_events (map assignment_of assignments.now)) result }
+{
+    let mut flow = Flow::empty();
+    for assignment in assignments {
+        flow = flow.followed_by(assignment_flow(table, assignment));
+    }
+    flow
+}
+
+fn action_flow(table: &ProcessTable, action: &Action) -> Flow
+    ensures { Does (process_of table.now) (action_events action.now) result }
+{
+    match action {
+        Action::Task(task) => assignments_flow(table, &task.assignments),
+    }
+}
+
+fn actions_flow(table: &ProcessTable, actions: &[Action]) -> Flow
+    ensures { Does (process_of table.now) (flat_map action_events actions.now) result }
+{
+    let mut flow = Flow::empty();
+    for action in actions {
+        flow = flow.followed_by(action_flow(table, action));
+    }
+    flow
+}
+
+fn initial_flow(table: &ProcessTable, variable: &Variable) -> Flow
+    ensures { Does (process_of table.now) (initial_sets (variable_of variable.now)) result }
+{
+    match variable.initial {
+        None => Flow::empty(),
+        Some(_) => set(table, variable.name.name),
+    }
+}
+
+fn initials_flow(table: &ProcessTable, variables: &[Variable]) -> Flow
+    ensures { Does (process_of table.now) (flat_map initial_sets (map variable_of variables.now)) result }
+{
+    let mut flow = Flow::empty();
+    for variable in variables {
+        flow = flow.followed_by(initial_flow(table, variable));
+    }
+    flow
+}
+
+fn place_flow(table: &ProcessTable, place: Option<Identifier>) -> Flow
+    ensures { Does (process_of table.now) (map (λ id. sets id.name) (option_to_list place)) result }
+{
+    match place {
+        None => Flow::empty(),
+        Some(id) => set(table, id.name),
+    }
+}
+
+fn places_flow(table: &ProcessTable, places: &[Option<Identifier>]) -> Flow
+    ensures { Does (process_of table.now) (place_events places.now) result }
+{
+    let mut flow = Flow::empty();
+    for place in places {
+        flow = flow.followed_by(place_flow(table, *place));
+    }
+    flow
+}
+
+fn target(table: &ProcessTable, end: Option<End>) -> Option<usize>
+    ensures { result ≡ target (states_of (process_of table.now)) end }
+{
+    match end {
+        None => None,
+        Some(End::NextState(next)) => table.states().number(next.state.name),
+    }
+}
+
+fn passages(alloc: Global, keeps: u32, state: Option<usize>) -> Result<Vec<Passage>, AllocError>
+    ensures { IfOk result (λ v. v.items ≡ passages_to keeps state) }
+{
+    let mut passages = Vec::new(alloc);
+    if let Some(state) = state {
+        passages.push(Passage { state, keeps })?;
+    }
+    Ok(passages)
+}
+
+// What a transition does after `first`.
+fn summary(
+    alloc: Global,
+    table: &ProcessTable,
+    first: Flow,
+    transition: &Transition,
+) -> Result<Summary, AllocError>
+    requires few { length (variables_of (process_of table.now)) ≤ 32 }
+    ensures { (events : List Event) → Does (process_of table.now) events first
+        → IfOk result (λ s. IsSummaryOf (process_of table.now) (record { first = events; text = text_of transition.now }) s) }
+{
+    let flow = first.followed_by(actions_flow(table, &transition.actions));
+    let passages = passages(alloc, flow.keeps, target(table, transition.end))?;
+    Ok(Summary {
+        reads: flow.reads,
+        passages,
+    })
+}
+
+fn input_summary(alloc: Global, table: &ProcessTable, row: &InputRow) -> Result<Summary, AllocError>
+    requires few { length (variables_of (process_of table.now)) ≤ 32 }
+    ensures { IfOk result (λ s. IsSummaryOf (process_of table.now) (input_transition (row_input row.now)) s) }
+{
+    let places = places_flow(table, &row.stimulus.places);
+    summary(alloc, table, places, &row.input.transition)
+}
+
+fn input_summaries(
+    alloc: Global,
+    table: &ProcessTable,
+    rows: &[InputRow],
+) -> Result<Vec<Summary>, AllocError>
+    requires few { length (variables_of (process_of table.now)) ≤ 32 }
+    ensures { IfOk result (λ v. AreSummariesOf (process_of table.now) (map row_input rows.now) v) }
+{
+    let mut summaries = Vec::new(alloc);
+    for row in rows {
+        summaries.push(input_summary(alloc, table, row)?)?;
+    }
+    Ok(summaries)
+}
+
+fn state_summaries(
+    alloc: Global,
+    table: &ProcessTable,
+    states: &[Vec<InputRow>],
+) -> Result<Vec<Vec<Summary>>, AllocError>
+    requires few { length (variables_of (process_of table.now)) ≤ 32 }
+    ensures { IfOk result (λ v. AllZip (AreSummariesOf (process_of table.now)) (map rows_inputs states.now) v.items) }
+{
+    let mut states_summaries = Vec::new(alloc);
+    for rows in states {
+        states_summaries.push(input_summaries(alloc, table, rows)?)?;
+    }
+    Ok(states_summaries)
+}
+
+/// The graph of a process: what the walks of each of its transitions do with its variables, by number.
+pub(crate) fn graph_of(alloc: Global, table: &ProcessTable) -> Result<Graph, AllocError>
+    requires few { length (variables_of (process_of table.now)) ≤ 32 }
+    ensures { IfOk result (λ g. IsGraphOf (process_of table.now) g) }
+{
+    let first = initials_flow(table, table.rows());
+    let start = summary(alloc, table, first, &table.process().start.transition)?;
+    let states = state_summaries(alloc, table, table.inputs())?;
+    Ok(Graph { start, states })
+}

@@ -1,0 +1,327 @@
+//! Texts, each with the refusal that the rules give it. The places are bytes of the text.
+use crate::{RuleFault, resolve};
+use sdl_lex::tokens;
+use sdl_tree::parse;
+use std::alloc::Global;
+use std::test::Fail;
+
+/// A refusal as it is printed, and its place where it has one.
+fn printed(alloc: Global, fault: &RuleFault) -> Result<String, Fail> {
+    match fault {
+        RuleFault::DoubleName(at) => Ok(format!(in alloc; "{fault} {at}")?),
+        RuleFault::UnknownName(at) => Ok(format!(in alloc; "{fault} {at}")?),
+        RuleFault::WrongSort(at) => Ok(format!(in alloc; "{fault} {at}")?),
+        RuleFault::NoState(at) => Ok(format!(in alloc; "{fault} {at}")?),
+        RuleFault::Limit(_) => Ok(format!(in alloc; "{fault}")?),
+        RuleFault::Unset { .. } => Ok(format!(in alloc; "{fault}")?),
+        RuleFault::NoMemory => Ok(format!(in alloc; "{fault}")?),
+    }
+}
+
+/// What a text is refused for; `sound` where it isn't.
+fn answer(alloc: Global, text: &str) -> Result<String, Fail> {
+    let found = tokens(alloc, text)?;
+    let block = parse(alloc, found.as_slice())?;
+    match resolve(alloc, &block) {
+        Ok(_) => Ok(String::from_str(alloc, "sound")?),
+        Err(fault) => printed(alloc, &fault),
+    }
+}
+
+/// The texts that have another answer than is wanted, with that answer.
+fn wrong(alloc: Global, rows: &[(&str, &str)]) -> Result<String, Fail> {
+    let mut all = String::new(alloc);
+    for (text, wanted) in rows {
+        let told = answer(alloc, text)?;
+        if told.as_str() != *wanted {
+            all.push_str(text)?;
+            all.push_str(": ")?;
+            all.push_str(told.as_str())?;
+        }
+    }
+    Ok(all)
+}
+
+/// A text with one process, which declares this, and does this after START and in its one state.
+fn process_text(alloc: Global, variables: &str, start: &str, inputs: &str) -> Result<String, Fail> {
+    let mut text = String::from_str(alloc, "BLOCK B; SIGNAL Up(Integer), Down; PROCESS P; ")?;
+    text.push_str(variables)?;
+    text.push_str(" START; ")?;
+    text.push_str(start)?;
+    text.push_str(" NEXTSTATE Run; STATE Run; ")?;
+    text.push_str(inputs)?;
+    text.push_str(" ENDSTATE; ENDPROCESS; ENDBLOCK;")?;
+    Ok(text)
+}
+
+/// The rows of variables, START's actions and inputs that have another answer than is wanted, with that answer.
+fn wrong_in_process(alloc: Global, rows: &[(&str, &str, &str, &str)]) -> Result<String, Fail> {
+    let mut all = String::new(alloc);
+    for (variables, start, inputs, wanted) in rows {
+        let text = process_text(alloc, variables, start, inputs)?;
+        let told = answer(alloc, text.as_str())?;
+        if told.as_str() != *wanted {
+            all.push_str(text.as_str())?;
+            all.push_str(": ")?;
+            all.push_str(told.as_str())?;
+        }
+    }
+    Ok(all)
+}
+
+/// A piece of text so many times, with the numbers from 0 after it, and commas between.
+fn numbered(alloc: Global, piece: &str, count: u32) -> Result<String, Fail> {
+    let mut text = String::new(alloc);
+    for number in 0..count {
+        if number > 0 {
+            text.push_str(", ")?;
+        }
+        text.push_str(format!(in alloc; "{piece}{number}")?.as_str())?;
+    }
+    Ok(text)
+}
+
+/// The answer to a text with so many signals.
+fn signals_answer(alloc: Global, count: u32) -> Result<String, Fail> {
+    let mut text = String::from_str(alloc, "BLOCK B; SIGNAL ")?;
+    text.push_str(numbered(alloc, "s", count)?.as_str())?;
+    text.push_str("; PROCESS P; START; NEXTSTATE A; STATE A; ENDSTATE; ENDPROCESS; ENDBLOCK;")?;
+    answer(alloc, text.as_str())
+}
+
+/// The answer to a text with so many variables.
+fn variables_answer(alloc: Global, count: u32) -> Result<String, Fail> {
+    let mut variables = String::from_str(alloc, "DCL ")?;
+    variables.push_str(numbered(alloc, "v", count)?.as_str())?;
+    variables.push_str(" Integer;")?;
+    let text = process_text(alloc, variables.as_str(), "", "")?;
+    answer(alloc, text.as_str())
+}
+
+/// The answer to a text that does this after START: the first part so many times, `1`, and the second part as often.
+fn start_answer(alloc: Global, first: &str, second: &str, count: u32) -> Result<String, Fail> {
+    let mut start = String::from_str(alloc, "TASK n := 1; TASK n := ")?;
+    for _number in 0..count {
+        start.push_str(first)?;
+    }
+    start.push_str("1")?;
+    for _number in 0..count {
+        start.push_str(second)?;
+    }
+    start.push_str(";")?;
+    let text = process_text(alloc, "DCL n Integer;", start.as_str(), "")?;
+    answer(alloc, text.as_str())
+}
+
+#[test]
+fn each_text_has_its_refusal(rt: HostRuntime) -> Result<(), Fail> {
+    let rows = [
+        (
+            "BLOCK B; SIGNAL Up, uP; PROCESS P; START; NEXTSTATE A; STATE A; ENDSTATE; ENDPROCESS; ENDBLOCK;",
+            "S1 DoubleName 20",
+        ),
+        (
+            "BLOCK B; PROCESS P; DCL k, K Integer; START; NEXTSTATE A; STATE A; ENDSTATE; ENDPROCESS; ENDBLOCK;",
+            "S1 DoubleName 27",
+        ),
+        (
+            "BLOCK B; SIGNAL Up(Integer), Down; PROCESS P; START; NEXTSTATE A; STATE A; INPUT Up; NEXTSTATE A; INPUT Down, UP; NEXTSTATE A; ENDSTATE; ENDPROCESS; ENDBLOCK;",
+            "S1 DoubleName 110",
+        ),
+        (
+            "BLOCK B; SIGNAL Up(Integer), Down; SIGNALROUTE r FROM ENV TO Q WITH Up; PROCESS P; START; NEXTSTATE A; STATE A; ENDSTATE; ENDPROCESS; ENDBLOCK;",
+            "S2 UnknownName 61",
+        ),
+        (
+            "BLOCK B; SIGNAL Up(Integer), Down; PROCESS P; DCL a Integer; START; TASK a := k; NEXTSTATE A; STATE A; ENDSTATE; ENDPROCESS; ENDBLOCK;",
+            "S2 UnknownName 78",
+        ),
+        (
+            "BLOCK B; SIGNAL Up(Integer), Down; PROCESS P; START; NEXTSTATE A; STATE A; INPUT Left; NEXTSTATE A; ENDSTATE; ENDPROCESS; ENDBLOCK;",
+            "S2 UnknownName 81",
+        ),
+        (
+            "BLOCK B; SIGNAL Up(Integer), Down; PROCESS P; START; NEXTSTATE A; STATE A; INPUT Down(k); NEXTSTATE A; ENDSTATE; ENDPROCESS; ENDBLOCK;",
+            "S2 UnknownName 86",
+        ),
+        (
+            "BLOCK B; SIGNAL Up(Integer), Down; PROCESS P; DCL a Integer; START; NEXTSTATE A; STATE A; INPUT Up(a, a); NEXTSTATE A; ENDSTATE; ENDPROCESS; ENDBLOCK;",
+            "S3 WrongSort 96",
+        ),
+        (
+            "BLOCK B; SIGNAL Up(Integer), Down; PROCESS P; START; NEXTSTATE A; STATE A; INPUT Down(); NEXTSTATE A; ENDSTATE; ENDPROCESS; ENDBLOCK;",
+            "S3 WrongSort 81",
+        ),
+        (
+            "BLOCK B; SIGNAL Up(Integer), Down; PROCESS P; START; NEXTSTATE C; STATE A; ENDSTATE; ENDPROCESS; ENDBLOCK;",
+            "S4 NoState 53",
+        ),
+        (
+            "BLOCK B; SIGNAL Up(Integer), Down; PROCESS P; START; STATE A; ENDSTATE; ENDPROCESS; ENDBLOCK;",
+            "S4 NoState 46",
+        ),
+        (
+            "BLOCK B; SIGNAL Up(Integer), Down; PROCESS P; START; NEXTSTATE A; STATE A; INPUT Up; ENDSTATE; ENDPROCESS; ENDBLOCK;",
+            "S4 NoState 75",
+        ),
+        (
+            "BLOCK B; SIGNAL s(Integer, Integer, Integer, Integer, Integer); PROCESS P; START; NEXTSTATE A; STATE A; ENDSTATE; ENDPROCESS; ENDBLOCK;",
+            "S10 Limit Params",
+        ),
+    ];
+    assert_eq!(rt; wrong(rt.alloc(), rows.as_slice())?.as_str(), "");
+    Ok(())
+}
+
+#[test]
+fn variables_that_are_read_unset(rt: HostRuntime) -> Result<(), Fail> {
+    let rows = [
+        (
+            "DCL n, total Integer;",
+            "",
+            "INPUT Up(n); TASK total := total + n; NEXTSTATE Run;",
+            "S11 Unset total START Run/Up",
+        ),
+        (
+            "DCL n, total Integer;",
+            "TASK total := 0;",
+            "INPUT Up(n); TASK total := total + n; NEXTSTATE Run;",
+            "sound",
+        ),
+        (
+            "DCL n Integer, total Integer := 3;",
+            "",
+            "INPUT Up(n); TASK total := total + n; NEXTSTATE Run;",
+            "sound",
+        ),
+        (
+            "DCL n Integer;",
+            "TASK n := n + 1;",
+            "",
+            "S11 Unset n START",
+        ),
+        ("DCL n Integer;", "TASK n := 1, n := n + 1;", "", "sound"),
+        (
+            "DCL m, n Integer;",
+            "",
+            "INPUT Up(n); TASK m := n; NEXTSTATE Run;",
+            "sound",
+        ),
+        (
+            "DCL m, n Integer;",
+            "",
+            "INPUT Up(); TASK m := n; NEXTSTATE Run;",
+            "S11 Unset n START Run/Up",
+        ),
+        (
+            "DCL a, b, c Integer;",
+            "TASK c := b;",
+            "INPUT Down; TASK c := a; NEXTSTATE Run;",
+            "S11 Unset b START",
+        ),
+        (
+            "DCL a, b Integer;",
+            "",
+            "INPUT Down; TASK a := b; NEXTSTATE Run; INPUT Up(b); TASK b := a; NEXTSTATE Run;",
+            "S11 Unset b START Run/Down",
+        ),
+        (
+            "DCL a, b, c Integer;",
+            "TASK c := 1 + b - a;",
+            "",
+            "S11 Unset b START",
+        ),
+        (
+            "DCL a, b, c Integer;",
+            "TASK c := b; TASK c := a;",
+            "",
+            "S11 Unset b START",
+        ),
+        (
+            "DCL n, Total Integer;",
+            "",
+            "INPUT uP(); TASK N := TOTAL; NEXTSTATE RUN;",
+            "S11 Unset Total START Run/Up",
+        ),
+    ];
+    assert_eq!(rt; wrong_in_process(rt.alloc(), rows.as_slice())?.as_str(), "");
+    Ok(())
+}
+
+/// The answer to the block of one text, with the process of another one behind its own.
+fn joined_answer(alloc: Global, text: &str, other: &str) -> Result<String, Fail> {
+    let found = tokens(alloc, text)?;
+    let mut block = parse(alloc, found.as_slice())?;
+    let more = tokens(alloc, other)?;
+    let mut other_block = parse(alloc, more.as_slice())?;
+    let process = other_block.entities.pop().ok_or("a process")?;
+    block.entities.push(process)?;
+    match resolve(alloc, &block) {
+        Ok(_) => Ok(String::from_str(alloc, "sound")?),
+        Err(fault) => printed(alloc, &fault),
+    }
+}
+
+#[test]
+fn over_all_processes(rt: HostRuntime) -> Result<(), Fail> {
+    let alloc = rt.alloc();
+    let first =
+        "BLOCK B; PROCESS P; DCL a Integer; START; TASK a := a; NEXTSTATE A; STATE A; ENDSTATE; ENDPROCESS; ENDBLOCK;";
+    let second =
+        "BLOCK B; PROCESS Q; DCL b Integer; START; TASK b := b; NEXTSTATE A; STATE A; ENDSTATE; ENDPROCESS; ENDBLOCK;";
+    assert_eq!(rt;
+        joined_answer(alloc, first, second)?.as_str(),
+        "S11 Unset a START"
+    );
+    let later = process_text(
+        alloc,
+        "DCL c Integer;",
+        "",
+        "INPUT Up; TASK c := c; NEXTSTATE Run;",
+    )?;
+    assert_eq!(rt;
+        joined_answer(alloc, later.as_str(), second)?.as_str(),
+        "S11 Unset b START"
+    );
+    Ok(())
+}
+
+#[test]
+fn what_the_counter_has_set(rt: HostRuntime) -> Result<(), Fail> {
+    let alloc = rt.alloc();
+    let input = "INPUT Up(n); TASK total := total + n; NEXTSTATE Run;";
+    let text = process_text(alloc, "DCL n, total Integer;", "TASK total := 0;", input)?;
+    let found = tokens(alloc, text.as_str())?;
+    let block = parse(alloc, found.as_slice())?;
+    let resolved = resolve(alloc, &block)?;
+    let sets = resolved.sets().first().ok_or("a process")?;
+    assert_eq!(rt; sets.as_slice(), [2].as_slice());
+    assert_eq!(rt; resolved.routes().len(), 0);
+    Ok(())
+}
+
+#[test]
+fn limits(rt: HostRuntime) -> Result<(), Fail> {
+    let alloc = rt.alloc();
+    assert_eq!(rt; variables_answer(alloc, 32)?.as_str(), "sound");
+    assert_eq!(rt;
+        variables_answer(alloc, 33)?.as_str(),
+        "S10 Limit Variables"
+    );
+    assert_eq!(rt; signals_answer(alloc, 128)?.as_str(), "sound");
+    assert_eq!(rt; signals_answer(alloc, 129)?.as_str(), "S10 Limit Signals");
+    assert_eq!(rt;
+        start_answer(alloc, "1; TASK n := ", "", 253)?.as_str(),
+        "sound"
+    );
+    assert_eq!(rt;
+        start_answer(alloc, "1; TASK n := ", "", 254)?.as_str(),
+        "S10 Limit Piece"
+    );
+    assert_eq!(rt; start_answer(alloc, "1 - (", ")", 15)?.as_str(), "sound");
+    assert_eq!(rt;
+        start_answer(alloc, "1 - (", ")", 16)?.as_str(),
+        "S10 Limit Depth"
+    );
+    Ok(())
+}

@@ -1,0 +1,29 @@
+-- A sound block is refused for want of memory alone.
+use Rattle.std.proofs.Common.{◌≡◌, ℕ, List, [], Option, None, Some, refl, sym, subst, ◌∙◌, arith}
+use Rattle.std.specs.Prelude.{Contains}
+use Rattle.std.proofs.lemmas.List.Elements.{All-contains}
+use Rattle.sdl_tree.specs.Plain.{PlainBlock}
+use Rattle.sdl_rules.specs.Names.{processes_of}
+use Rattle.sdl_rules.specs.Paths.{NeverReadsUnset}
+use Rattle.sdl_rules.specs.Refusals.{Sound, Refuses}
+use Rattle.sdl_rules.specs.declared.fault.Limit.{Limit as limit}
+use Rattle.sdl_rules.specs.declared.fault.RuleFault.{RuleFault}
+use Rattle.sdl_rules.specs.declared.fault.RuleFault.TheVariants.{DoubleName, UnknownName, WrongSort, NoState, Limit, Unset, NoMemory}
+
+-- nothing is in no list
+nowhere : (places : List ℕ) (place : ℕ) → places ≡ [] → Contains places place → ⊥
+nowhere places place none (k, within, is) =
+    let P : List ℕ → Type 0 = λ l. Contains l place in
+    let bad : Contains [] place = subst P none (k, within, is) in
+    omega (arith, bad.1)
+
+pub no_refusal : (b : PlainBlock) (fault : RuleFault) → Sound b → Refuses b fault → fault ≡ NoMemory
+no_refusal b (DoubleName place) sound refuses = absurd (nowhere _ place sound.distinct refuses)
+no_refusal b (UnknownName place) sound refuses = absurd (nowhere _ place sound.known refuses.1)
+no_refusal b (WrongSort place) sound refuses = absurd (nowhere _ place sound.sorted refuses.2)
+no_refusal b (NoState place) sound refuses = absurd (nowhere _ place sound.ended refuses.3)
+no_refusal b (Limit which) sound refuses =
+    let bad : (let none : Option limit = None in none ≡ Some which) = sym sound.within ∙ refuses.4 in absurd (cc)
+no_refusal b (Unset x path) sound refuses =
+    absurd (All-contains NeverReadsUnset (processes_of b) refuses.5 sound.set refuses.6 path.steps.items x refuses.7)
+no_refusal b NoMemory sound refuses = refl

@@ -1,0 +1,101 @@
+-- What loading a text gives: the set of its block, or the refusal of the first layer that refuses.
+use Rattle.std.specs.Prelude.{◌≡◌, ℕ, ◌+◌, ◌-◌, ◌==◌, ◌≤◌, List, length, take, count_by, min, Option, None, Some, option_map, slice_get, Result, Ok, Err}
+use Rattle.std.specs.Option.{option_map_or}
+use Rattle.sdl_lex.specs.Lexed.{Answers, place_of}
+use Rattle.sdl_lex.specs.declared.lexemes.Token.{Token}
+use Rattle.sdl_lex.specs.declared.lexemes.LexFault.{LexFault}
+use Rattle.sdl_tree.specs.Plain.{PlainBlock}
+use Rattle.sdl_tree.specs.Syntax.{Reads}
+use Rattle.sdl_tree.specs.Heights as heights
+use Rattle.sdl_tree.specs.declared.TheConstants.{MAX_HEIGHT}
+use Rattle.sdl_tree.specs.declared.fault.ParseFault.{ParseFault}
+use Rattle.sdl_tree.specs.declared.fault.ParseFault.TheVariants as parsing
+use Rattle.sdl_rules.specs.Refusals.{Sound, Refuses}
+use Rattle.sdl_rules.specs.declared.fault.RuleFault.{RuleFault}
+use Rattle.sdl_rules.specs.declared.fault.RuleFault.TheVariants as rules
+use Rattle.sdl_compile.specs.Blocks.{MatchesBlock}
+use Rattle.turn_code.specs.declared.draft.Draft.{Draft}
+use Rattle.turn_verify.specs.declared.loading.LoadFault.{LoadFault}
+use Rattle.turn_verify.specs.declared.loading.LoadFault.TheVariants.{Lex, Parse, Rule, NoMemory}
+
+-- ---- texts and their blocks
+
+-- the tokens of a text, and the block that they read as, which is low enough
+pub record IsRead (text : List ℕ) (tokens : List Token) (b : PlainBlock) : Type 0 where
+  pub lexed : Answers text (Ok tokens)
+  pub reads : Reads tokens b
+  pub low : heights.Height b ≤ MAX_HEIGHT
+
+-- the text reads as the block, and none of the rules is broken
+pub record IsSoundText (text : List ℕ) (tokens : List Token) (b : PlainBlock) : Type 0 where
+  pub read : IsRead text tokens b
+  pub sound : Sound b
+
+-- the text reads as some block that is sound
+pub record IsSound (text : List ℕ) : Type 0 where
+  pub tokens : List Token
+  pub block : PlainBlock
+  pub is_so : IsSoundText text tokens block
+
+-- The text is sound, and the set is that of its block: names and numbers in the order of the text, each run what its
+-- transition means, each certificate the longest path.
+pub record IsLoaded (text : List ℕ) (d : Draft) : Type 0 where
+  pub tokens : List Token
+  pub block : PlainBlock
+  pub sound : IsSoundText text tokens block
+  pub matches : MatchesBlock block d
+
+-- the result is such a value, or memory ran out
+abbrev pub Gives : {A : Type 0} → Result A LoadFault → (A → Type 0) → Type 0
+Gives (Ok x) P = P x
+Gives (Err (Lex fault line)) P = ⊥
+Gives (Err (Parse fault line)) P = ⊥
+Gives (Err (Rule fault line)) P = ⊥
+Gives (Err NoMemory) P = Unit {0}
+
+-- ---- refusals, and their lines
+
+-- the line in which a place of a text stands, from 1: one more than the line feeds before it
+abbrev pub line_at : List ℕ → ℕ → ℕ
+line_at text place = count_by (λ b. b == 10) (take place text) + 1
+
+-- the place of the token with an index, of the last one where they end before it, 0 where there is none
+abbrev pub token_place : List Token → ℕ → ℕ
+token_place tokens index = option_map_or (λ (t : Token). t.start) (slice_get tokens (min index (length tokens - 1))) 0
+
+-- the text has no tokens, for this fault in this line
+pub record IsUnlexed (text : List ℕ) (fault : LexFault) (line : ℕ) : Type 0 where
+  pub answers : Answers text (Err fault)
+  pub there : line ≡ line_at text (place_of fault)
+
+-- the tokens read as no block, or as one that is too high
+abbrev pub IsUnread : List ℕ → List Token → ParseFault → ℕ → Type 0
+IsUnread text tokens (parsing.Unexpected index) line =
+    heights.Refuses tokens (parsing.Unexpected index) × (line ≡ line_at text (token_place tokens index))
+IsUnread text tokens (parsing.TooDeep place) line =
+    heights.Refuses tokens (parsing.TooDeep place) × (line ≡ line_at text place)
+IsUnread text tokens parsing.NoMemory line = ⊥
+
+-- where a rule is broken; limits, and paths that read an unset variable, have no place
+abbrev pub rule_place : RuleFault → Option ℕ
+rule_place (rules.DoubleName place) = Some place
+rule_place (rules.UnknownName place) = Some place
+rule_place (rules.WrongSort place) = Some place
+rule_place (rules.NoState place) = Some place
+rule_place (rules.Limit which) = None
+rule_place (rules.Unset variable path) = None
+rule_place rules.NoMemory = None
+
+-- the block breaks this rule, and none with a lesser number
+pub record IsUnsound (text : List ℕ) (b : PlainBlock) (fault : RuleFault) (line : Option ℕ) : Type 0 where
+  pub refuses : Refuses b fault
+  pub named : fault ≡ rules.NoMemory → ⊥
+  pub there : line ≡ option_map (line_at text) (rule_place fault)
+
+-- what a refusal says of the text; want of memory says nothing
+abbrev pub IsRefused : List ℕ → LoadFault → Type 0
+IsRefused text (Lex fault line) = IsUnlexed text fault line
+IsRefused text (Parse fault line) = (tokens : List Token) × Answers text (Ok tokens) × IsUnread text tokens fault line
+IsRefused text (Rule fault line) =
+    (tokens : List Token) × (b : PlainBlock) × IsRead text tokens b × IsUnsound text b fault line
+IsRefused text NoMemory = Unit {0}

@@ -1,0 +1,214 @@
+//! From a text to a valid set.
+
+ghost use Rattle.std.specs.Prelude.{◌≡◌, ◌↔◌, List, option_map, IsTrue, Ok, IfOk, IfErr, IsOkUnless};
+ghost use Rattle.sdl_lex.specs.Lexed as lexis;
+ghost use Rattle.sdl_lex.specs.declared.lexemes.Token as lexeme;
+ghost use Rattle.sdl_tree.specs.Plain.{PlainBlock};
+ghost use Rattle.sdl_tree.specs.Views.{block_of};
+ghost use Rattle.sdl_rules.specs.Refusals.{Sound};
+ghost use Rattle.sdl_compile.specs.Blocks.{MatchesBlock};
+ghost use Rattle.turn_verify.specs.Loaded.{IsLoaded, IsSoundText, IsRead, Gives, IsRefused, line_at, token_place, rule_place};
+
+use crate::verified::{Verified, verify};
+use sdl_compile::compile;
+use sdl_lex::{LexFault, Token, line_of, tokens};
+use sdl_rules::{Resolved, RuleFault, resolve};
+use sdl_tree::{Block, ParseFault, parse};
+use std::alloc::Global;
+use std::fmt;
+use thiserror::Error;
+
+/// Why a text is refused, by the first layer that refuses it, with the line of the place, from 1.
+/// A line ends with its line feed.
+#[derive(Debug, Drop, Error)]
+pub enum LoadFault {
+    /// The text has no tokens (L1 to L3). The line is that of the byte where the fault begins.
+    #[error("{fault} line {line}")]
+    Lex {
+        fault: LexFault,
+        line: usize,
+    },
+    /// The tokens read as no tree (P1), or as one that is too high (P2). The line is that of the
+    /// token, of the last one where they end too early, and 1 where there is none; for P2 it is
+    /// that of the TASK.
+    #[error("{fault} line {line}")]
+    Parse {
+        fault: ParseFault,
+        line: usize,
+    },
+    /// The tree breaks a rule (S1 to S11). Limits (S10), and variables that are read before they
+    /// are set (S11), have no line.
+    #[error("{fault}{}", AtLine(*line))]
+    Rule {
+        fault: RuleFault,
+        line: Option<usize>,
+    },
+    /// There was not enough memory.
+    #[error("out of memory")]
+    NoMemory,
+}
+
+impl LoadFault {
+    /// Whether it was memory that was wanting, and the text isn't refused.
+    pub fn wants_memory(&self) -> bool
+        ensures { IsTrue result ↔ (self.now ≡ LoadFault.NoMemory) }
+    {
+        match self {
+            LoadFault::NoMemory => true,
+            LoadFault::Lex { .. } | LoadFault::Parse { .. } | LoadFault::Rule { .. } => false,
+        }
+    }
+}
+
+/// A line as it is printed behind a refusal, if there is one.
+#[derive(Clone, Copy)]
+struct AtLine(Option<usize>);
+
+impl fmt::Display for AtLine {
+    fn fmt<W: fmt::Write>(&self, f: &mut fmt::Formatter<W>) -> fmt::Result {
+        match self.0 {
+            Some(line) => write!(f, " line {line}"),
+            None => Ok(()),
+        }
+    }
+}
+
+/// Loads a text: its tokens, their tree, the rules, the code of its transitions, and the check of
+/// that code.
+///
+/// Accepted is exactly a text that has tokens, reads as a tree that is low enough, and breaks no
+/// rule.
+///
+/// # Errors
+///
+/// The fault of the first layer that has one; of several broken rules the one with the least
+/// number. [`LoadFault::NoMemory`] may stand in place of any answer.
+pub fn load(alloc: Global, text: &str) -> Result<Verified, LoadFault>
+    // what is given is the set of the text, which is sound
+    ensures accepted { IfOk result (λ v. IsLoaded text.now v) }
+    // each sound text is accepted
+    ensures exact { (ts : List lexeme.Token) (b : PlainBlock) → IsSoundText text.now ts b
+        → Gives result (MatchesBlock b) }
+    // a refusal names a fault of the text, and where it is
+    ensures refused { IfErr result (λ e. IsRefused text.now e) }
+{
+    let tokens = tokens_of(alloc, text)?;
+    let block = block_in(alloc, text, &tokens)?;
+    set_of(alloc, text, &block)
+}
+
+/// The tokens of the text.
+fn tokens_of(alloc: Global, text: &str) -> Result<Vec<Token>, LoadFault>
+    ensures lexed { IfOk result (λ v. lexis.Answers text.now (Ok v.items)) }
+    ensures exact { (ts : List lexeme.Token) → lexis.Answers text.now (Ok ts) → Gives result (λ v. ts ≡ v.items) }
+    ensures refused { IfErr result (λ e. IsRefused text.now e) }
+{
+    match tokens(alloc, text) {
+        Ok(tokens) => Ok(tokens),
+        Err(LexFault::NoMemory) => Err(LoadFault::NoMemory),
+        Err(fault) => Err(LoadFault::Lex {
+            fault,
+            line: line_of(text, lex_place(fault)),
+        }),
+    }
+}
+
+/// The tree of the text with these tokens.
+fn block_in(alloc: Global, text: &str, tokens: &[Token]) -> Result<Block, LoadFault>
+    requires { lexis.Answers text.now (Ok tokens.now) }
+    ensures read { IfOk result (λ block. IsRead text.now tokens.now (block_of block)) }
+    ensures exact { (b : PlainBlock) → IsRead text.now tokens.now b → Gives result (λ block. block_of block ≡ b) }
+    ensures refused { IfErr result (λ e. IsRefused text.now e) }
+{
+    match parse(alloc, tokens) {
+        Ok(block) => Ok(block),
+        Err(ParseFault::NoMemory) => Err(LoadFault::NoMemory),
+        Err(ParseFault::Unexpected(index)) => Err(LoadFault::Parse {
+            fault: ParseFault::Unexpected(index),
+            line: line_of(text, token_place(tokens, index)),
+        }),
+        Err(ParseFault::TooDeep(place)) => Err(LoadFault::Parse {
+            fault: ParseFault::TooDeep(place),
+            line: line_of(text, place),
+        }),
+    }
+}
+
+/// The set of a tree of the text.
+fn set_of(alloc: Global, text: &str, block: &Block) -> Result<Verified, LoadFault>
+    ensures sound { IfOk result (λ v. Sound (block_of block.now)) }
+    ensures matches { IfOk result (λ v. MatchesBlock (block_of block.now) v) }
+    ensures exact { Sound (block_of block.now) → Gives result (MatchesBlock (block_of block.now)) }
+    ensures refused { IfErr result (λ e. (ts : List lexeme.Token) → IsRead text.now ts (block_of block.now)
+        → IsRefused text.now e) }
+{
+    match resolve(alloc, block) {
+        Ok(resolved) => verified(alloc, &resolved),
+        Err(fault) => {
+            if wants_memory(&fault) {
+                return Err(LoadFault::NoMemory);
+            }
+            let line = rule_line(text, &fault);
+            Err(LoadFault::Rule { fault, line })
+        }
+    }
+}
+
+/// The set of a sound tree. Want of memory is the only error.
+fn verified(alloc: Global, resolved: &Resolved) -> Result<Verified, LoadFault>
+    ensures matches { IfOk result (λ v. MatchesBlock (block_of resolved.now) v) }
+    ensures memory { IsOkUnless result LoadFault.NoMemory }
+{
+    match compile(alloc, resolved) {
+        Ok(draft) => match verify(draft) {
+            Ok(verified) => Ok(verified),
+            Err(_) => unreachable!(),
+        },
+        Err(_) => Err(LoadFault::NoMemory),
+    }
+}
+
+/// The place of a fault of the lexis.
+fn lex_place(fault: LexFault) -> u32
+    ensures { result ≡ lexis.place_of fault }
+{
+    match fault {
+        LexFault::BadCharacter(place) | LexFault::OpenComment(place) | LexFault::TooLong(place) => {
+            place
+        }
+        LexFault::NoMemory => 0,
+    }
+}
+
+/// The place of the token with an index, of the last one where they end before it, 0 where there is none.
+fn token_place(tokens: &[Token], index: usize) -> u32
+    ensures { result ≡ token_place tokens.now index }
+{
+    match tokens.get(index.min(tokens.len().saturating_sub(1))) {
+        Some(token) => token.start,
+        None => 0,
+    }
+}
+
+/// Whether it was memory that was wanting, and no rule is broken.
+fn wants_memory(fault: &RuleFault) -> bool
+    ensures { IsTrue result ↔ (fault.now ≡ RuleFault.NoMemory) }
+{
+    match fault {
+        RuleFault::NoMemory => true,
+        _ => false,
+    }
+}
+
+/// The line of the place where a rule is broken, if it is broken at a place.
+fn rule_line(text: &str, fault: &RuleFault) -> Option<usize>
+    ensures { result ≡ option_map (line_at text.now) (rule_place fault.now) }
+{
+    match fault {
+        RuleFault::DoubleName(place)
+        | RuleFault::UnknownName(place)
+        | RuleFault::WrongSort(place)
+        | RuleFault::NoState(place) => Some(line_of(text, *place)),
+        RuleFault::Limit(_) | RuleFault::Unset { .. } | RuleFault::NoMemory => None,
+    }
+}
