@@ -1,4 +1,6 @@
 //! Graphs by hand, each with the path that the rule names.
+ghost use Rattle.std.specs.Prelude.{◌<◌};
+
 use crate::{Fate, Graph, Passage, Step, Summary, first_unset};
 use std::alloc::{AllocError, Global};
 use std::test::Fail;
