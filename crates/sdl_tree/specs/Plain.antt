@@ -1,6 +1,6 @@
 -- The syntax tree as definitions and contracts speak of it: records and lists, with no `Vec` and no `Box`.
 -- Z.100 gives each of its nodes a concrete syntax; the places are the text's, in bytes.
-use Rattle.std.specs.Prelude.{ℕ, List, Option}
+use Rattle.std.specs.Prelude.{ℕ, Bool, List, Option}
 use Rattle.sdl_tree.specs.declared.expression.Identifier.{Identifier}
 use Rattle.sdl_tree.specs.declared.expression.UnaryOperator.{UnaryOperator}
 use Rattle.sdl_tree.specs.declared.expression.BinaryOperator.{BinaryOperator}
@@ -12,6 +12,7 @@ use Rattle.sdl_tree.specs.declared.tree.End.{End}
 -- An expression. The first number is the place of its first token, an opening parenthesis too.
 pub data Tree : Type 0 where
   number : ℕ → ℕ → Tree
+  truth : ℕ → Bool → Tree
   variable : ℕ → Identifier → Tree
   unary : ℕ → UnaryOperator → Tree → Tree
   binary : ℕ → BinaryOperator → Tree → Tree → Tree

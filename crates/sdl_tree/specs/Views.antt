@@ -1,7 +1,7 @@
 -- From the tree that the code holds to the plain tree.
 use Rattle.std.specs.Prelude.{List, [], ◌∷◌, map, Option, None, Some}
-use Rattle.sdl_tree.specs.Plain.{Tree, number, variable, unary, binary, PlainAssignment, Text, falls, ends, task, PlainStimulus, PlainInput, PlainClause, input, PlainState, PlainStart, PlainGroup, PlainDeclaration, variables, PlainProcess, PlainPath, PlainRoute, PlainSignal, PlainEntity, signals, route, process, PlainBlock}
-use Rattle.sdl_tree.specs.declared.expression.Expression.{Expression, Number, Variable, Unary', Binary'}
+use Rattle.sdl_tree.specs.Plain.{Tree, number, truth, variable, unary, binary, PlainAssignment, Text, falls, ends, task, PlainStimulus, PlainInput, PlainClause, input, PlainState, PlainStart, PlainGroup, PlainDeclaration, variables, PlainProcess, PlainPath, PlainRoute, PlainSignal, PlainEntity, signals, route, process, PlainBlock}
+use Rattle.sdl_tree.specs.declared.expression.Expression.{Expression, Number, Truth, Variable, Unary', Binary'}
 use Rattle.sdl_tree.specs.declared.tree.Assignment.{Assignment}
 use Rattle.sdl_tree.specs.declared.tree.Action.{Action}
 use Rattle.sdl_tree.specs.declared.tree.Action.TheVariants.{Task}
@@ -26,6 +26,7 @@ use Rattle.sdl_tree.specs.declared.tree.Block.{Block}
 
 abbrev pub tree_of : Expression → Tree
 tree_of (Number at value) = number at value
+tree_of (Truth at value) = truth at value
 tree_of (Variable at name) = variable at name
 tree_of (Unary' at operator p operand) = unary at operator (tree_of operand)
 tree_of (Binary' at operator p left q right) = binary at operator (tree_of left) (tree_of right)

@@ -15,17 +15,43 @@ pub struct Identifier {
 pub enum UnaryOperator {
     /// `-`
     Negate,
+    /// NOT
+    Not,
 }
 
 /// An operator between its operands.
 #[derive(Clone, Copy, Debug, PartialEq, Eq)]
 pub enum BinaryOperator {
+    /// OR
+    Or,
+    /// XOR
+    Xor,
+    /// AND
+    And,
+    /// `=`
+    Equal,
+    /// `/=`
+    NotEqual,
+    /// `<`
+    Less,
+    /// `<=`
+    LessEqual,
+    /// `>`
+    Greater,
+    /// `>=`
+    GreaterEqual,
     /// `+`
     Add,
     /// `-`
     Subtract,
     /// `*`
     Multiply,
+    /// `/`
+    Divide,
+    /// MOD
+    Modulo,
+    /// REM
+    Remainder,
 }
 
 /// An expression. Parentheses leave nothing but their place: `at` is the place in the text, in
@@ -36,6 +62,11 @@ pub enum Expression {
     Number {
         at: u32,
         value: u32,
+    },
+    /// TRUE or FALSE.
+    Truth {
+        at: u32,
+        value: bool,
     },
     /// A variable.
     Variable {
