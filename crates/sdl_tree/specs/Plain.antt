@@ -8,6 +8,7 @@ use Rattle.sdl_tree.specs.declared.tree.Sort.{Sort}
 use Rattle.sdl_tree.specs.declared.tree.Party.{Party}
 use Rattle.sdl_tree.specs.declared.tree.Constant.{Constant}
 use Rattle.sdl_tree.specs.declared.tree.End.{End}
+use Rattle.sdl_tree.specs.declared.tree.Destination.{Destination}
 
 -- An expression. The first number is the place of its first token, an opening parenthesis too.
 pub data Tree : Type 0 where
@@ -22,13 +23,29 @@ pub record PlainAssignment : Type 0 where
   pub variable : Identifier
   pub value : Tree
 
+-- A signal that goes out, with its parameters.
+pub record PlainSending : Type 0 where
+  pub signal : Identifier
+  pub parameters : List Tree
+
+-- One step of a transition, at the place of its word.
+pub data PlainAction : Type 0 where
+  -- a TASK: its assignments, without what is quoted in it
+  task : ℕ → List PlainAssignment → PlainAction
+  -- an OUTPUT: what goes out in order, and to whom if it says so
+  output : ℕ → List PlainSending → Option Destination → PlainAction
+  -- a SET: after how long, and which timer
+  set_timer : ℕ → Tree → Identifier → PlainAction
+  -- a RESET of a timer
+  reset_timer : ℕ → Identifier → PlainAction
+
 -- A transition from some action on: each action carries what follows it.
 pub data Text : Type 0 where
   -- it runs off its end
   falls : Text
   ends : End → Text
-  -- a TASK at a place, its assignments, and what follows
-  task : ℕ → List PlainAssignment → Text → Text
+  -- an action, and what follows
+  does : PlainAction → Text → Text
 
 -- A signal, with the variable for each parameter; none where it is thrown away.
 pub record PlainStimulus : Type 0 where
@@ -44,6 +61,8 @@ pub record PlainInput : Type 0 where
 -- What stands in a STATE part.
 pub data PlainClause : Type 0 where
   input : PlainInput → PlainClause
+  -- a SAVE
+  save : List Identifier → PlainClause
 
 -- A STATE part.
 pub record PlainState : Type 0 where
@@ -61,9 +80,10 @@ pub record PlainGroup : Type 0 where
   pub sort : Sort
   pub initial : Option Constant
 
--- What a process declares: the groups of a DCL.
+-- What a process declares: the groups of a DCL, the timers of a TIMER.
 pub data PlainDeclaration : Type 0 where
   variables : List PlainGroup → PlainDeclaration
+  timers : List Identifier → PlainDeclaration
 
 -- A PROCESS.
 pub record PlainProcess : Type 0 where
@@ -88,10 +108,11 @@ pub record PlainSignal : Type 0 where
   pub name : Identifier
   pub parameters : List Sort
 
--- What stands in a block: the signals of a SIGNAL, a SIGNALROUTE, a PROCESS.
+-- What stands in a block: the signals of a SIGNAL, a SIGNALROUTE, a CONNECT with its channels and routes, a PROCESS.
 pub data PlainEntity : Type 0 where
   signals : List PlainSignal → PlainEntity
   route : PlainRoute → PlainEntity
+  connect : List Identifier → List Identifier → PlainEntity
   process : PlainProcess → PlainEntity
 
 -- A text: a block with its entities.

@@ -22,9 +22,9 @@ pub use expression::{BinaryOperator, Expression, Identifier, UnaryOperator};
 pub use fault::ParseFault;
 pub use parsing::{parse, reads_once};
 pub use tree::{
-    Action, Assignment, Block, Constant, Declaration, End, Entity, Group, InputPart, Literal,
-    NextState, Party, Path, Process, Route, SignalDeclaration, Sort, Start, StateClause, StatePart,
-    Stimulus, Task, Transition,
+    Action, Assignment, Block, Connect, Constant, Declaration, Destination, End, Entity, Group,
+    InputPart, Literal, NextState, Output, Party, Path, Process, ResetTimer, Route, Sending,
+    SetTimer, SignalDeclaration, Sort, Start, StateClause, StatePart, Stimulus, Task, Transition,
 };
 
 /// The greatest height of a tree.

@@ -16,6 +16,8 @@ pub enum Entity {
     Signals(Vec<SignalDeclaration>),
     /// A SIGNALROUTE.
     Route(Route),
+    /// A CONNECT, which has no effect.
+    Connect(Connect),
     /// A PROCESS.
     Process(Process),
 }
@@ -32,6 +34,8 @@ pub struct SignalDeclaration {
 pub enum Sort {
     /// Whole numbers of 32 bits.
     Integer,
+    /// TRUE and FALSE.
+    Boolean,
 }
 
 /// A SIGNALROUTE with its paths.
@@ -39,6 +43,13 @@ pub enum Sort {
 pub struct Route {
     pub name: Identifier,
     pub paths: Vec<Path>,
+}
+
+/// A CONNECT: what channels, and what routes it names. It has no effect.
+#[derive(Debug, Drop)]
+pub struct Connect {
+    pub channels: Vec<Identifier>,
+    pub routes: Vec<Identifier>,
 }
 
 /// One direction of a route, and the signals that it brings.
@@ -72,6 +83,8 @@ pub struct Process {
 pub enum Declaration {
     /// The groups of one DCL.
     Variables(Vec<Group>),
+    /// The timers of one TIMER.
+    Timers(Vec<Identifier>),
 }
 
 /// Variables of one sort. An initial value holds for each of them.
@@ -94,6 +107,8 @@ pub struct Constant {
 pub enum Literal {
     /// A number, with its sign.
     Integer(i32),
+    /// TRUE or FALSE.
+    Boolean(bool),
 }
 
 /// START and its transition. The place is that of the word START.
@@ -115,6 +130,8 @@ pub struct StatePart {
 pub enum StateClause {
     /// An INPUT with its transition.
     Input(InputPart),
+    /// The signals and timers of a SAVE.
+    Save(Vec<Identifier>),
 }
 
 /// An INPUT with its transition. The place is that of the word INPUT.
@@ -146,9 +163,54 @@ pub struct Transition {
 pub enum Action {
     /// A TASK.
     Task(Task),
+    /// An OUTPUT.
+    Output(Output),
+    /// A SET.
+    Set(SetTimer),
+    /// A RESET.
+    Reset(ResetTimer),
 }
 
-/// A TASK. The place is that of the word TASK.
+/// An OUTPUT: what goes out, in order, and to whom if it says so. The place is that of the word OUTPUT.
+#[derive(Debug, Drop)]
+pub struct Output {
+    pub at: u32,
+    pub sendings: Vec<Sending>,
+    pub to: Option<Destination>,
+}
+
+/// A signal that goes out, with its parameters.
+#[derive(Debug, Drop)]
+pub struct Sending {
+    pub signal: Identifier,
+    pub parameters: Vec<Expression>,
+}
+
+/// To whom a signal goes.
+#[derive(Clone, Copy, Debug, PartialEq, Eq)]
+pub enum Destination {
+    /// To who sent the signal of the transition: SENDER, at its place.
+    Sender(u32),
+    /// To the process with this name.
+    Process(Identifier),
+}
+
+/// A SET: the timer runs out so long after now. The place is that of the word SET.
+#[derive(Debug, Drop)]
+pub struct SetTimer {
+    pub at: u32,
+    pub delay: Expression,
+    pub timer: Identifier,
+}
+
+/// A RESET: the timer is stopped. The place is that of the word RESET.
+#[derive(Clone, Copy, Debug, PartialEq, Eq)]
+pub struct ResetTimer {
+    pub at: u32,
+    pub timer: Identifier,
+}
+
+/// A TASK: its assignments; what is quoted in it has no effect and isn't kept. The place is that of the word TASK.
 #[derive(Debug, Drop)]
 pub struct Task {
     pub at: u32,
@@ -167,6 +229,8 @@ pub struct Assignment {
 pub enum End {
     /// With a NEXTSTATE.
     NextState(NextState),
+    /// With a STOP, at its place.
+    Stop(u32),
 }
 
 /// A NEXTSTATE. The place is that of the word.

@@ -46,6 +46,8 @@ pub struct DraftProcess {
     pub name: Name,
     /// Its variables in text order.
     pub variables: Sequence<DraftVariable>,
+    /// The names of its timers in text order.
+    pub timers: Sequence<Name>,
     /// The code of its START transition.
     pub start: DraftPiece,
     /// Its states in the order of first STATE.
@@ -70,6 +72,8 @@ pub struct DraftState {
     pub name: Name,
     /// Variables that are set whenever the process is in this state.
     pub set: VariableSet,
+    /// What it saves, in text order.
+    pub saves: Sequence<Trigger>,
     /// Its inputs in text order.
     pub inputs: Sequence<DraftInput>,
 }
@@ -79,6 +83,8 @@ pub struct DraftState {
 pub enum Trigger {
     /// A signal.
     Signal(SignalNumber),
+    /// A timer of the process.
+    Timer(TimerNumber),
 }
 
 /// An input of a state, with its transition.

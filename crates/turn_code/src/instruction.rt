@@ -1,12 +1,35 @@
 //! The instructions.
 
-use crate::numbers::{StateNumber, VariableNumber};
+use crate::input::Party;
+use crate::numbers::{CodePlace, SignalNumber, StateNumber, TimerNumber, VariableNumber};
+
+/// How two Integers are compared.
+#[derive(Clone, Copy, PartialEq, Eq, Debug)]
+pub enum Relation {
+    Equal,
+    NotEqual,
+    Less,
+    LessEqual,
+    Greater,
+    GreaterEqual,
+}
+
+/// Who gets a signal.
+#[derive(Clone, Copy, PartialEq, Eq, Debug)]
+pub enum Receiver {
+    /// This party.
+    Party(Party),
+    /// Who sent the signal of the transition.
+    Sender,
+}
 
 /// One instruction of a piece. It takes its operands from the top of a list, and puts its value back there.
 #[derive(Clone, Copy, PartialEq, Eq, Debug)]
 pub enum Instruction {
     /// The number itself.
     Int(i32),
+    /// The Boolean itself.
+    Bool(bool),
     /// The value of a variable.
     Load(VariableNumber),
     /// Takes a value, which is the variable's from then on.
@@ -19,10 +42,47 @@ pub enum Instruction {
     Sub,
     /// The product of two Integers.
     Mul,
+    /// An Integer divided by this number of 1 or more, cut towards zero.
+    Div(i32),
+    /// What is left of an Integer by this number k of 1 or more: from 0 to k - 1.
+    Mod(i32),
+    /// What the division by this number of 1 or more leaves, with the dividend's sign.
+    Rem(i32),
     /// An Integer with the other sign.
     Neg,
+    /// The other Boolean.
+    Not,
+    /// Whether both of two Booleans are TRUE.
+    And,
+    /// Whether one of two Booleans is TRUE.
+    Or,
+    /// Whether two Booleans differ.
+    Xor,
+    /// Whether two Booleans are the same.
+    Same,
+    /// Whether two Integers stand so to each other, the topmost on the right.
+    Compare(Relation),
+    /// Whether the topmost Integer stands so to this number: if so, takes it away and goes on at the place, else leaves it
+    /// and goes on behind.
+    Case(Relation, i32, CodePlace),
+    /// The same where the Integer is from the first number to the second one, both included.
+    CaseWithin(i32, i32, CodePlace),
+    /// Takes a Boolean, and goes on at the first place where it is FALSE, at the second one where it is TRUE.
+    Pick(CodePlace, CodePlace),
+    /// Takes an Integer and throws it away.
+    Drop,
+    /// Goes on at the place.
+    Jump(CodePlace),
+    /// Takes the parameters of the signal, the last one topmost, and sends it.
+    Output(SignalNumber, Receiver),
+    /// Takes an Integer, and sets the timer to so long after the clock.
+    Set(TimerNumber),
+    /// Stops the timer.
+    Reset(TimerNumber),
     /// Ends the transition in a state.
     Next(StateNumber),
+    /// Ends the transition and the process.
+    Stop,
 }
 
 impl Default for Instruction {

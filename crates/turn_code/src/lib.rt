@@ -23,10 +23,12 @@ pub use draft::{
 };
 pub use effect::{Effect, Sending};
 pub use input::{Input, Party, Place};
-pub use instruction::Instruction;
+pub use instruction::{Instruction, Receiver, Relation};
 pub use machine::{After, End, Machine, step_plain};
 pub use name::Name;
-pub use numbers::{ProcessNumber, SignalNumber, StateNumber, TimerNumber, VariableNumber};
+pub use numbers::{
+    CodePlace, ProcessNumber, SignalNumber, StateNumber, TimerNumber, VariableNumber,
+};
 pub use operands::Operands;
 pub use rule::Rule;
 pub use sequence::Sequence;

@@ -19,6 +19,8 @@ use arrayvec::ArrayVec;
 pub enum End {
     /// In a state.
     State(StateNumber),
+    /// With a stop of the process.
+    Stop,
 }
 
 /// What follows an instruction.

@@ -19,3 +19,7 @@ pub struct VariableNumber(pub u8);
 /// A timer of a process, from 0 in text order.
 #[derive(Clone, Copy, PartialEq, Eq, Debug, Default)]
 pub struct TimerNumber(pub u8);
+
+/// A place of a piece, from 0.
+#[derive(Clone, Copy, PartialEq, Eq, Debug, Default)]
+pub struct CodePlace(pub u16);
