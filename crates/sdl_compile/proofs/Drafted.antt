@@ -10,7 +10,7 @@ use Rattle.sdl_tree.specs.declared.tree.Sort.TheVariants as tree_sorts
 use Rattle.turn_code.specs.declared.value.Sort.TheVariants.{Integer}
 use Rattle.turn_code.specs.declared.draft.DraftVariable.{DraftVariable}
 use Rattle.sdl_tree.specs.Plain.{PlainProcess}
-use Rattle.sdl_rules.specs.Names.{Variable, states_of, inputs_of, inputs_by_state}
+use Rattle.sdl_tables.specs.Names.{Variable, states_of, inputs_of, inputs_by_state}
 use Rattle.sdl_compile.specs.Act.{Scope}
 use Rattle.sdl_compile.specs.Made.{AreDrafted}
 use Rattle.sdl_compile.specs.Drafts.{drafted, sort_of_tree}

@@ -14,7 +14,7 @@ use Rattle.turn_code.specs.Code.{sort_at}
 use Rattle.sdl_compile.specs.Act.{Scope, variable_at, state_at}
 use Rattle.sdl_compile.specs.Code.{number_or_zero, store, unary_code, binary_code, tree_code, tasks_code, text_code, places_code, piece_code}
 use Rattle.std.proofs.lemmas.Bool.Decides.{nat_tests}
-use Rattle.sdl_rules.specs.Names.{same_name}
+use Rattle.sdl_tables.specs.Names.{same_name}
 use Rattle.sdl_compile.specs.Facts.{SetsFew}
 use Rattle.sdl_tree.specs.declared.expression.UnaryOperator.TheVariants.{Negate}
 use Rattle.sdl_tree.specs.declared.expression.BinaryOperator.TheVariants.{Add, Subtract, Multiply}

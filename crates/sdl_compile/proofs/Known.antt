@@ -5,7 +5,7 @@ use Rattle.std.proofs.lemmas.Bool.Decides.{nat_tests}
 use Rattle.sdl_tree.specs.declared.expression.Identifier.{Identifier}
 use Rattle.sdl_tree.specs.declared.tree.End.TheVariants.{NextState}
 use Rattle.sdl_tree.specs.Plain.{Tree, number, variable, unary, binary, PlainAssignment, Text, falls, ends, task}
-use Rattle.sdl_rules.specs.Names.{same_name, is_in, number_of}
+use Rattle.sdl_tables.specs.Names.{same_name, is_in, number_of}
 use Rattle.sdl_rules.specs.Sound.{unknown, tree_names, assignment_names, text_names, place_names, strays}
 use Rattle.sdl_rules.specs.Longest.{Piece}
 use Rattle.sdl_compile.specs.Act.{Scope, variable_at}

@@ -9,8 +9,8 @@ use Rattle.std.proofs.lemmas.Option.{slice_get-get_or}
 use Rattle.std.proofs.lemmas.Slice.Eq.{bytes_eq-Decides}
 use Rattle.sdl_lex.specs.Spelling.{folded}
 use Rattle.sdl_tree.specs.declared.expression.Identifier.{Identifier}
-use Rattle.sdl_rules.specs.Names.{same_name, is_in, number_of}
-use Rattle.sdl_rules.specs.Sound.{repeats}
+use Rattle.sdl_tables.specs.Names.{same_name, is_in, number_of}
+use Rattle.sdl_tables.specs.Scopes.{repeats}
 
 pub folded_alike : (x y : List ℕ) → same_name x y ≡ true → folded x ≡ folded y
 folded_alike x y h = (bytes_eq-Decides (folded x) (folded y)).0 h

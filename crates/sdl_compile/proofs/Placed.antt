@@ -32,11 +32,12 @@ use Rattle.turn_code.specs.Sets.{Has, initial_bits, initial_set}
 use Rattle.turn_code.specs.Rules.{StartsRight, HasTrigger}
 use Rattle.turn_code.specs.Transitions.{parameters_of, trigger_parameters, start_of, input_of, input_at}
 use Rattle.turn_code.specs.Valid.{IsValidTransition}
-use Rattle.sdl_rules.specs.Names.{Variable, Input, same_name, number_of, variables_of, variable_names, states_of, inputs_by_state}
+use Rattle.sdl_tables.specs.Names.{Variable, Input, same_name, number_of, variables_of, variable_names, states_of, inputs_by_state}
 use Rattle.sdl_rules.specs.Longest.{Piece, start_piece, input_piece}
 use Rattle.sdl_rules.specs.Paths.{sets, sets_in, initial_sets, input_transition}
 use Rattle.sdl_rules.specs.Settled.{IsSettled, AreSettled}
-use Rattle.sdl_rules.specs.Sound.{repeats, place_names}
+use Rattle.sdl_rules.specs.Sound.{place_names}
+use Rattle.sdl_tables.specs.Scopes.{repeats}
 use Rattle.sdl_compile.specs.Act.{Scope, scope_of}
 use Rattle.sdl_compile.specs.Blocks.{IsValidProcess}
 use Rattle.sdl_compile.specs.Code.{number_or_zero}

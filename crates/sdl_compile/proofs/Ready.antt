@@ -12,7 +12,7 @@ use Rattle.sdl_tree.specs.Plain.{Text, falls, ends, task, PlainStimulus, PlainIn
 use Rattle.turn_code.specs.declared.value.Sort.{Sort}
 use Rattle.turn_code.specs.declared.value.Sort.TheVariants.{Integer}
 use Rattle.turn_code.specs.declared.draft.DraftSignal.{DraftSignal}
-use Rattle.sdl_rules.specs.Names.{same_name, is_in, number_of, Input, signals_of, routes_of, processes_of, signal_names, variables_of, variable_names, states_of, clause_parts, clause_inputs, part_inputs, given_by, is_state, input_parts, inputs_of, inputs_by_state}
+use Rattle.sdl_tables.specs.Names.{same_name, is_in, number_of, Input, signals_of, routes_of, processes_of, signal_names, variables_of, variable_names, states_of, clause_parts, clause_inputs, part_inputs, given_by, is_state, input_parts, inputs_of, inputs_by_state}
 use Rattle.sdl_rules.specs.Longest.{Piece, budget, size, piece_size, piece_depth, assignments_cost, start_piece, input_piece, pieces_of}
 use Rattle.sdl_rules.specs.Sound.{unknown, text_names, place_names, stimulus_unknown, input_unknown, process_unknown, route_unknown, has_too_many, stimulus_wrong, input_wrong, process_wrong, strays, input_strays, process_strays, exceeds, limits}
 use Rattle.sdl_rules.specs.Refusals.{Sound}

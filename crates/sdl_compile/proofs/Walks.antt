@@ -14,7 +14,7 @@ use Rattle.sdl_tree.specs.Plain.{Tree, number, variable, unary, binary, PlainAss
 use Rattle.turn_code.specs.declared.variable_set.VariableSet.{VariableSet}
 use Rattle.turn_code.specs.declared.draft.DraftState.{DraftState}
 use Rattle.turn_code.specs.Sets.{Has, IsWithin, with_variable}
-use Rattle.sdl_rules.specs.Names.{same_name, is_in, number_of}
+use Rattle.sdl_tables.specs.Names.{same_name, is_in, number_of}
 use Rattle.sdl_rules.specs.Paths.{Event, reads, sets, assignment_events, IsWalk, reads_first, sets_in}
 use Rattle.sdl_rules.specs.Sound.{tree_names, place_names}
 use Rattle.sdl_compile.specs.Act.{Scope, variable_at, state_at}

@@ -23,7 +23,7 @@ use Rattle.turn_code.specs.declared.draft.DraftProcess.{DraftProcess}
 use Rattle.turn_code.specs.Transitions.{Transition, process_at}
 use Rattle.turn_code.specs.Rules.{inputs_of as state_inputs, pieces_of as draft_pieces}
 use Rattle.turn_code.specs.Valid.{IsValidTransition, IsValid}
-use Rattle.sdl_rules.specs.Names.{Input, signals_of, routes_of, processes_of, signal_names, process_names, inputs_by_state}
+use Rattle.sdl_tables.specs.Names.{Input, signals_of, routes_of, processes_of, signal_names, process_names, inputs_by_state}
 use Rattle.sdl_rules.specs.Sound.{unknown, party_names, path_unknown, route_unknown, process_unknown}
 use Rattle.sdl_rules.specs.Settled.{AreSettled}
 use Rattle.sdl_rules.specs.Longest.{input_piece, pieces_of}

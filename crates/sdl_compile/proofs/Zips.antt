@@ -14,7 +14,7 @@ use Rattle.sdl_compile.specs.Act.{Scope}
 use Rattle.sdl_compile.specs.Drafts.{AllReady, AreReady, IsReadyInput, IsInputOf, MatchesInput, sets_of}
 use Rattle.sdl_tree.specs.declared.expression.Identifier.{Identifier}
 use Rattle.turn_code.specs.declared.draft.DraftSignal.{DraftSignal}
-use Rattle.sdl_rules.specs.Names.{Input}
+use Rattle.sdl_tables.specs.Names.{Input}
 
 -- one more item of both lists
 pub zip_more : {A B C : Type 0} (R : B → C → Type 0) (f : A → B) (xs : List A) (i : ℕ) (d : A) (ys : List C) (y : C) → i < length xs → AllZip R (map f (take i xs)) ys → R (f (get_or xs i d)) y → AllZip R (map f (take (suc i) xs)) (ys ++ y ∷ [])

@@ -16,7 +16,7 @@ use Rattle.turn_code.specs.declared.machine.End.TheVariants.{State}
 use Rattle.turn_code.specs.declared.trouble.Trouble.{Trouble}
 use Rattle.turn_code.specs.declared.trouble.Trouble.TheVariants.{Unset, WrongSort, Underflow, NoState, Outside}
 use Rattle.turn_code.specs.Values.{wrap}
-use Rattle.sdl_rules.specs.Names.{number_of, variable_names, states_of}
+use Rattle.sdl_tables.specs.Names.{number_of, variable_names, states_of}
 use Rattle.sdl_rules.specs.Longest.{Piece}
 use Rattle.turn_code.specs.Run.{Progress, tick, with_variables, begun, Ran, ended, got_stuck}
 

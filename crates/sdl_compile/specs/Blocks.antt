@@ -14,7 +14,7 @@ use Rattle.turn_code.specs.declared.draft.DraftRoute.{DraftRoute}
 use Rattle.turn_code.specs.declared.draft.DraftProcess.{DraftProcess}
 use Rattle.turn_code.specs.Transitions.{Transition, place_at}
 use Rattle.turn_code.specs.Valid.{IsValidTransition}
-use Rattle.sdl_rules.specs.Names.{number_of, signals_of, routes_of, processes_of, signal_names, process_names}
+use Rattle.sdl_tables.specs.Names.{number_of, signals_of, routes_of, processes_of, signal_names, process_names}
 use Rattle.sdl_compile.specs.Code.{number_or_zero}
 use Rattle.sdl_compile.specs.Drafts.{sort_of_tree, MatchesProcess}
 

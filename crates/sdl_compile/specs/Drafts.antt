@@ -24,7 +24,7 @@ use Rattle.turn_code.specs.declared.draft.DraftProcess.{DraftProcess}
 use Rattle.turn_code.specs.declared.draft.Trigger.{Trigger}
 use Rattle.turn_code.specs.declared.draft.Trigger.TheVariants.{Signal}
 use Rattle.turn_code.specs.Run.{run}
-use Rattle.sdl_rules.specs.Names.{Input, Variable, number_of, variables_of, states_of, inputs_by_state}
+use Rattle.sdl_tables.specs.Names.{Input, Variable, number_of, variables_of, states_of, inputs_by_state}
 use Rattle.sdl_rules.specs.Longest.{Piece, start_piece, input_piece}
 use Rattle.sdl_compile.specs.Act.{Scope, Act, scope_of}
 use Rattle.sdl_compile.specs.Code.{number_or_zero}

@@ -4,7 +4,7 @@ ghost use Rattle.std.specs.List.{flat_map, AllZip};
 ghost use Rattle.std.specs.Global.{Vec};
 ghost use Rattle.sdl_tree.specs.Views.{process_of, signal_of, path_of, route_of, block_of};
 ghost use Rattle.turn_code.specs.Valid.{IsValid};
-ghost use Rattle.sdl_rules.specs.Names.{number_of, processes_of, routes_of};
+ghost use Rattle.sdl_tables.specs.Names.{number_of, processes_of, routes_of};
 ghost use Rattle.sdl_rules.specs.Settled.{AreSettled};
 ghost use Rattle.sdl_rules.specs.Refusals.{Sound};
 ghost use Rattle.sdl_compile.specs.Code.{number_or_zero};

@@ -1,8 +1,8 @@
 //! The states of a process, with their inputs.
 ghost use Rattle.std.specs.Prelude.{◌≡◌, ◌≤◌, ◌<◌, length, map, IfOk, IfSome, IsSome, slice_get};
 ghost use Rattle.std.specs.List.{AllZip};
-ghost use Rattle.sdl_rules.specs.Rows.{row_input, rows_inputs};
-ghost use Rattle.sdl_rules.specs.Names.{number_of};
+ghost use Rattle.sdl_tables.specs.Rows.{row_input, rows_inputs};
+ghost use Rattle.sdl_tables.specs.Names.{number_of};
 ghost use Rattle.sdl_compile.specs.Scopes.{scope_in};
 ghost use Rattle.sdl_compile.specs.Code.{number_or_zero};
 ghost use Rattle.sdl_compile.specs.Made.{AreDrafted};

@@ -1,7 +1,7 @@
 //! The variables of a process.
 ghost use Rattle.std.specs.Prelude.{◌≡◌, ◌<◌, ◌≤◌, ◌^◌, length, map, IfOk};
 ghost use Rattle.turn_code.specs.Sets.{initial_set};
-ghost use Rattle.sdl_rules.specs.Rows.{variable_of};
+ghost use Rattle.sdl_tables.specs.Rows.{variable_of};
 ghost use Rattle.sdl_compile.specs.Drafts.{drafted, constant_value, sort_of_tree};
 
 use crate::state::draft_name;

@@ -1,13 +1,8 @@
 pub mod Bits
-pub mod BlockLemmas
 pub mod Numbers
 pub mod PathNames
-pub mod ProcessTables
-pub mod Repeats
 pub mod Searches
 pub mod Settling
-pub mod States
 pub mod Surveying
-pub mod Tables
 pub mod Texts
 pub mod Walks

@@ -15,7 +15,7 @@ use Rattle.unset_paths.specs.Graph.{has, input_at, Passes}
 use Rattle.sdl_tree.specs.Plain.{PlainAssignment, Text, falls, ends, task, PlainProcess, PlainBlock, PlainInput, PlainClause, input, PlainState, PlainStimulus}
 use Rattle.sdl_tree.specs.declared.tree.End.TheVariants.{NextState}
 use Rattle.sdl_tree.specs.declared.expression.Identifier.{Identifier}
-use Rattle.sdl_rules.specs.Names.{same_name, is_in, number_of, variable_names, variables_of, Variable, states_of, Input, inputs_of, part_inputs, clause_inputs, clause_parts, given_by, is_state, input_parts}
+use Rattle.sdl_tables.specs.Names.{same_name, is_in, number_of, variable_names, variables_of, Variable, states_of, Input, inputs_of, part_inputs, clause_inputs, clause_parts, given_by, is_state, input_parts}
 use Rattle.sdl_rules.specs.Sound.{unknown, tree_names, assignment_names, text_names, place_names, input_unknown, process_unknown}
 use Rattle.sdl_rules.specs.Paths.{Event, reads, sets, assignment_events, initial_sets, IsWalk, Transition, Place, start_transition, input_transition, reads_first, sets_in, inputs_in, ReadsFrom, ReadsUnset, NeverReadsUnset}
 use Rattle.sdl_rules.specs.Graphs.{IsSummaryOf, IsGraphOf}

@@ -16,7 +16,7 @@ use Rattle.unset_paths.specs.Graph as graph
 use Rattle.unset_paths.specs.Graph.{has, input_at, Passes}
 use Rattle.sdl_tree.specs.Plain.{PlainProcess}
 use Rattle.sdl_tree.specs.declared.expression.Identifier.{Identifier}
-use Rattle.sdl_rules.specs.Names.{same_name, number_of, variable_names, states_of, Input, inputs_of, inputs_by_state}
+use Rattle.sdl_tables.specs.Names.{same_name, number_of, variable_names, states_of, Input, inputs_of, inputs_by_state}
 use Rattle.sdl_rules.specs.Paths.{Leads, start_transition, input_transition, inputs_in, ReadsFrom, ReadsUnset}
 use Rattle.sdl_rules.specs.Graphs.{IsSummaryOf, IsGraphOf}
 use Rattle.sdl_rules.specs.Fates.{IsStep, IsNamed}

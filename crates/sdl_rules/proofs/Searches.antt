@@ -18,10 +18,10 @@ use Rattle.unset_paths.specs.declared.Step.TheVariants.{Input as By}
 use Rattle.unset_paths.specs.Graph.{IfUnset, IfSet, IsClosedSet, ReadsUnset}
 use Rattle.sdl_tree.specs.Plain.{PlainProcess}
 use Rattle.sdl_tree.specs.declared.expression.Identifier.{Identifier}
-use Rattle.sdl_rules.specs.Names.{same_name, states_of, inputs_of, inputs_by_state}
-use Rattle.sdl_rules.specs.Rows.{row_input, rows_inputs}
+use Rattle.sdl_tables.specs.Names.{same_name, states_of, inputs_of, inputs_by_state}
+use Rattle.sdl_tables.specs.Rows.{row_input, rows_inputs}
 use Rattle.sdl_rules.specs.Fates.{is_set_in, set_bit, IsFate, AreSet, IsUnsetAt, IsNamed}
-use Rattle.sdl_rules.specs.declared.process_table.InputRow.{InputRow}
+use Rattle.sdl_tables.specs.declared.process_table.InputRow.{InputRow}
 use Rattle.sdl_rules.specs.declared.fault.Step.TheVariants.{Input as Takes}
 use Rattle.sdl_rules.proofs.PathNames.{same_folded, folded_same, inputs_back}
 use Rattle.sdl_rules.proofs.Settling.{numbered_length}

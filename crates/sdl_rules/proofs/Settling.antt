@@ -18,7 +18,7 @@ use Rattle.unset_paths.specs.Graph as graph
 use Rattle.unset_paths.specs.Graph.{has, IsSeen, IsSafe, IsClosedSet}
 use Rattle.sdl_tree.specs.Plain.{PlainProcess, PlainBlock}
 use Rattle.sdl_tree.specs.declared.expression.Identifier.{Identifier}
-use Rattle.sdl_rules.specs.Names.{number_of, variable_names, variables_of, states_of, Input, inputs_of, inputs_by_state}
+use Rattle.sdl_tables.specs.Names.{number_of, variable_names, variables_of, states_of, Input, inputs_of, inputs_by_state}
 use Rattle.sdl_rules.specs.Sound.{process_unknown}
 use Rattle.sdl_rules.specs.Paths.{Event, IsWalk, Transition, start_transition, input_transition, reads_first, sets_in, NeverReadsUnset}
 use Rattle.sdl_rules.specs.Graphs.{IsSummaryOf}

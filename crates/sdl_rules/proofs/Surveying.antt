@@ -11,7 +11,7 @@ use Rattle.std.proofs.lemmas.Option.{slice_get-get_or, slice_get_within, slice_g
 use Rattle.sdl_tree.specs.declared.tree.Process as the_process
 use Rattle.sdl_tree.specs.Plain.{PlainProcess, PlainBlock}
 use Rattle.sdl_tree.specs.Views.{process_of}
-use Rattle.sdl_rules.specs.Names.{processes_of, variables_of, variable_names, routes_of}
+use Rattle.sdl_tables.specs.Names.{processes_of, variables_of, variable_names, routes_of}
 use Rattle.sdl_rules.specs.Sound.{exceeds, measures, first_limit, process_unknown, unknown_names, route_unknown}
 use Rattle.sdl_rules.specs.Paths.{ReadsUnset}
 use Rattle.sdl_rules.specs.Surveys.{IsUnset}

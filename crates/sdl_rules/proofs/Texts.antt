@@ -10,7 +10,7 @@ use Rattle.sdl_tree.specs.declared.tree.Action.TheVariants.{Task}
 use Rattle.sdl_tree.specs.declared.tree.End.{End}
 use Rattle.sdl_tree.specs.Plain.{PlainAssignment, Text, falls, ends, task, PlainDeclaration, variables, PlainProcess}
 use Rattle.sdl_tree.specs.Views.{assignment_of, actions_text, end_text}
-use Rattle.sdl_rules.specs.Names.{timers_in, timers_of}
+use Rattle.sdl_tables.specs.Names.{timers_in, timers_of}
 use Rattle.sdl_rules.specs.Longest.{depth_of, assignments_cost, assignments_depth, place_depth, places_depth, size, depth, effects}
 use Rattle.sdl_rules.specs.Sound.{text_names, assignment_names, strays}
 use Rattle.sdl_rules.specs.Rows.{action_names, action_cost, action_depth, actions_depth}

@@ -15,7 +15,7 @@ use Rattle.sdl_tree.specs.declared.tree.End.TheVariants.{NextState}
 use Rattle.sdl_tree.specs.declared.tree.Transition as tree
 use Rattle.sdl_tree.specs.Plain.{PlainProcess}
 use Rattle.sdl_tree.specs.Views.{assignment_of, actions_text, end_text, text_of}
-use Rattle.sdl_rules.specs.Names.{number_of, Variable, variable_names, variables_of, states_of}
+use Rattle.sdl_tables.specs.Names.{number_of, Variable, variable_names, variables_of, states_of}
 use Rattle.sdl_rules.specs.Paths.{Event, IsWalk, Transition, assignment_events, reads_first, sets_in}
 use Rattle.sdl_rules.specs.Graphs.{StandsForWalk, IsSummaryOf}
 use Rattle.sdl_rules.specs.Flows.{Does, action_events, target, passages_to}

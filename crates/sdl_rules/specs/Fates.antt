@@ -10,7 +10,7 @@ use Rattle.unset_paths.specs.declared.Step.TheVariants.{Start as First, Input as
 use Rattle.unset_paths.specs.Graph.{IsClosedSet, ReadsUnset}
 use Rattle.sdl_tree.specs.Plain.{PlainProcess}
 use Rattle.sdl_tree.specs.declared.expression.Identifier.{Identifier}
-use Rattle.sdl_rules.specs.Names.{same_name, variables_of, states_of, Input, inputs_of}
+use Rattle.sdl_tables.specs.Names.{same_name, variables_of, states_of, Input, inputs_of}
 use Rattle.sdl_rules.specs.Graphs.{IsGraphOf}
 use Rattle.sdl_rules.specs.declared.fault.Step.{Step}
 use Rattle.sdl_rules.specs.declared.fault.Step.TheVariants.{Start, Input as Takes}

@@ -12,7 +12,7 @@ use Rattle.sdl_tree.specs.declared.tree.End.{End}
 use Rattle.sdl_tree.specs.declared.tree.End.TheVariants.{NextState}
 use Rattle.sdl_tree.specs.Plain.{Tree, PlainProcess}
 use Rattle.sdl_tree.specs.Views.{assignment_of}
-use Rattle.sdl_rules.specs.Names.{number_of, variable_names, Input}
+use Rattle.sdl_tables.specs.Names.{number_of, variable_names, Input}
 use Rattle.sdl_rules.specs.Sound.{tree_names, place_names}
 use Rattle.sdl_rules.specs.Paths.{Event, reads, sets, assignment_events, input_transition, reads_first, sets_in}
 use Rattle.sdl_rules.specs.Graphs.{IsSummaryOf}

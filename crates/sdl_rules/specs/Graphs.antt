@@ -8,7 +8,7 @@ use Rattle.unset_paths.specs.declared.Graph.{Graph}
 use Rattle.unset_paths.specs.Graph.{has}
 use Rattle.sdl_tree.specs.Plain.{PlainProcess}
 use Rattle.sdl_tree.specs.declared.expression.Identifier.{Identifier}
-use Rattle.sdl_rules.specs.Names.{number_of, variable_names, states_of, Input, inputs_by_state}
+use Rattle.sdl_tables.specs.Names.{number_of, variable_names, states_of, Input, inputs_by_state}
 use Rattle.sdl_rules.specs.Paths.{Event, IsWalk, Transition, start_transition, input_transition, reads_first, sets_in}
 
 -- some walk of the transition reads x, and sets it nowhere before

@@ -1,9 +1,7 @@
-pub mod BlockTables
 pub mod Fates
 pub mod Flows
 pub mod Graphs
 pub mod Longest
-pub mod Names
 pub mod Paths
 pub mod Refusals
 pub mod Resolving
@@ -11,4 +9,3 @@ pub mod Rows
 pub mod Settled
 pub mod Sound
 pub mod Surveys
-pub mod Tables

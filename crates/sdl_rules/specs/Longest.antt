@@ -6,7 +6,7 @@ use Rattle.sdl_tree.specs.declared.expression.Identifier.{Identifier}
 use Rattle.sdl_tree.specs.declared.tree.End.{End}
 use Rattle.sdl_tree.specs.declared.tree.End.TheVariants.{NextState}
 use Rattle.sdl_tree.specs.Plain.{Tree, number, variable, unary, binary, PlainAssignment, Text, falls, ends, task, PlainProcess}
-use Rattle.sdl_rules.specs.Names.{Input, inputs_by_state}
+use Rattle.sdl_tables.specs.Names.{Input, inputs_by_state}
 
 -- the instructions of an expression: one for each number, variable and operator
 abbrev pub cost_of : Tree → ℕ

@@ -4,7 +4,7 @@ use Rattle.std.specs.List.{flat_map}
 use Rattle.std.specs.Option.{option_map_or}
 use Rattle.sdl_tree.specs.declared.tree.End.TheVariants.{NextState}
 use Rattle.sdl_tree.specs.Plain.{PlainAssignment, Text, falls, ends, task, PlainProcess}
-use Rattle.sdl_rules.specs.Names.{same_name, number_of, Variable, variables_of, states_of, Input, inputs_of}
+use Rattle.sdl_tables.specs.Names.{same_name, number_of, Variable, variables_of, states_of, Input, inputs_of}
 use Rattle.sdl_rules.specs.Sound.{tree_names, place_names}
 use Rattle.sdl_rules.specs.declared.fault.Step.{Step}
 use Rattle.sdl_rules.specs.declared.fault.Step.TheVariants.{Start, Input as Takes}

@@ -1,13 +1,14 @@
 -- Which blocks are sound, and which refusal a block gets.
 use Rattle.std.specs.Prelude.{◌≡◌, [], None, Some, Contains, All, ⊤}
 use Rattle.sdl_tree.specs.Plain.{PlainBlock, PlainProcess}
-use Rattle.sdl_rules.specs.Names.{processes_of}
-use Rattle.sdl_rules.specs.Sound.{double_names, unknown_names, wrong_sorts, stray_ends, first_limit}
+use Rattle.sdl_tables.specs.Names.{processes_of}
+use Rattle.sdl_rules.specs.Sound.{unknown_names, wrong_sorts, stray_ends, first_limit}
+use Rattle.sdl_tables.specs.Scopes.{double_names}
 use Rattle.sdl_rules.specs.Paths.{ReadsUnset, NeverReadsUnset}
 use Rattle.sdl_rules.specs.declared.fault.RuleFault.{RuleFault}
 use Rattle.sdl_rules.specs.declared.fault.RuleFault.TheVariants.{DoubleName, UnknownName, WrongSort, NoState, Limit, Unset, NoMemory}
-use Rattle.sdl_rules.specs.declared.fault.TableFault.{TableFault}
-use Rattle.sdl_rules.specs.declared.fault.TableFault.TheVariants.{DoubleName as NoTable, NoMemory as NoRoom}
+use Rattle.sdl_tables.specs.declared.fault.TableFault.{TableFault}
+use Rattle.sdl_tables.specs.declared.fault.TableFault.TheVariants.{DoubleName as NoTable, NoMemory as NoRoom}
 
 -- None of these rules is broken.
 pub record Sound (b : PlainBlock) : Type 0 where

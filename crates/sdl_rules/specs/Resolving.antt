@@ -1,6 +1,6 @@
 -- What a resolved block keeps.
 use Rattle.sdl_tree.specs.Views.{block_of}
-use Rattle.sdl_rules.specs.Names.{processes_of}
+use Rattle.sdl_tables.specs.Names.{processes_of}
 use Rattle.sdl_rules.specs.Refusals.{Sound}
 use Rattle.sdl_rules.specs.Surveys.{AllSettled}
 use Rattle.sdl_rules.specs.declared.resolved.Resolved.TheInside.{Inside}

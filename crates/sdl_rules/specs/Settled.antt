@@ -4,7 +4,7 @@ use Rattle.std.specs.List.{AllZip}
 use Rattle.std.specs.Int.{bit_at}
 use Rattle.sdl_tree.specs.Plain.{PlainProcess}
 use Rattle.sdl_tree.specs.declared.expression.Identifier.{Identifier}
-use Rattle.sdl_rules.specs.Names.{number_of, variable_names, variables_of, states_of, Input, inputs_by_state}
+use Rattle.sdl_tables.specs.Names.{number_of, variable_names, variables_of, states_of, Input, inputs_by_state}
 use Rattle.sdl_rules.specs.Paths.{Event, IsWalk, Transition, start_transition, input_transition, reads_first, sets_in}
 
 -- Where a transition begins with the variables `before` set, and `sets` are those of the states: what a walk reads before

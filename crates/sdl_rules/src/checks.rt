@@ -4,13 +4,14 @@ ghost use Rattle.std.specs.List.{flat_map};
 ghost use Rattle.std.specs.Option.{option_to_list};
 ghost use Rattle.sdl_rules.specs.Rows.{action_names};
 ghost use Rattle.sdl_tree.specs.Views.{tree_of, assignment_of, end_text, text_of, stimulus_of, input_of, path_of, route_of, entity_of, process_of, block_of};
-ghost use Rattle.sdl_rules.specs.Names.{is_in, process_names, signal_names, variable_names, states_of, routes_in, input_parts, processes_of};
-ghost use Rattle.sdl_rules.specs.Sound.{Marks, unknown, party_names, path_unknown, route_unknown, tree_names, assignment_names, text_names, place_names, stimulus_unknown, input_unknown, process_unknown, unknown_names, has_too_many, stimulus_wrong, input_wrong, process_wrong, wrong_sorts, strays, input_strays, process_strays, stray_ends};
+ghost use Rattle.sdl_tables.specs.Names.{is_in, process_names, signal_names, variable_names, states_of, routes_in, input_parts, processes_of};
+ghost use Rattle.sdl_rules.specs.Sound.{unknown, party_names, path_unknown, route_unknown, tree_names, assignment_names, text_names, place_names, stimulus_unknown, input_unknown, process_unknown, unknown_names, has_too_many, stimulus_wrong, input_wrong, process_wrong, wrong_sorts, strays, input_strays, process_strays, stray_ends};
+ghost use Rattle.sdl_tables.specs.Scopes.{Marks};
 
-use crate::block_table::BlockTable;
-use crate::name_table::NameTable;
-use crate::process_table::ProcessTable;
-use crate::scope::earlier;
+use sdl_tables::BlockTable;
+use sdl_tables::NameTable;
+use sdl_tables::ProcessTable;
+use sdl_tables::earlier;
 use sdl_tree::{
     Action, Assignment, End, Entity, Expression, Identifier, InputPart, NextState, Party, Path,
     Stimulus, Transition,

@@ -1,6 +1,6 @@
 //! What a text can break, and how it is printed.
 ghost use Rattle.std.specs.Prelude.{◌≡◌};
-ghost use Rattle.sdl_rules.specs.declared.fault.TableFault.TheVariants.{NoMemory};
+ghost use Rattle.sdl_tables.specs.declared.fault.TableFault.TheVariants.{NoMemory};
 
 use sdl_lex::Name;
 use std::alloc::AllocError;
@@ -96,21 +96,6 @@ pub enum RuleFault {
     /// There was not enough memory.
     #[error("out of memory")]
     NoMemory,
-}
-
-/// Why there are no tables.
-#[derive(Clone, Copy, Debug)]
-pub(crate) enum TableFault {
-    DoubleName(u32),
-    NoMemory,
-}
-
-impl From<AllocError> for TableFault {
-    ghost from_gives = { λ _ e. e ≡ NoMemory };
-
-    fn from(_e: AllocError) -> TableFault {
-        TableFault::NoMemory
-    }
 }
 
 impl From<AllocError> for RuleFault {

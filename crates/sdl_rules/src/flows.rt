@@ -4,13 +4,13 @@ ghost use Rattle.std.specs.List.{flat_map, AllZip};
 ghost use Rattle.std.specs.Option.{option_to_list};
 ghost use Rattle.sdl_tree.specs.Plain.{PlainProcess};
 ghost use Rattle.sdl_tree.specs.Views.{tree_of, assignment_of, text_of, process_of};
-ghost use Rattle.sdl_rules.specs.Names.{same_name, variable_names, variables_of, states_of};
-ghost use Rattle.sdl_rules.specs.Rows.{variable_of, row_input, rows_inputs};
+ghost use Rattle.sdl_tables.specs.Names.{same_name, variable_names, variables_of, states_of};
+ghost use Rattle.sdl_tables.specs.Rows.{variable_of, row_input, rows_inputs};
 ghost use Rattle.sdl_rules.specs.Paths.{Event, reads, sets, assignment_events, initial_sets, input_transition};
 ghost use Rattle.sdl_rules.specs.Flows.{Tells, Does, tree_events, place_events, action_events, target, passages_to, AreSummariesOf};
 ghost use Rattle.sdl_rules.specs.Graphs.{IsSummaryOf, IsGraphOf};
 
-use crate::process_table::{InputRow, ProcessTable, Variable};
+use sdl_tables::{InputRow, ProcessTable, Variable};
 use sdl_lex::Name;
 use sdl_tree::{Action, Assignment, End, Expression, Identifier, Transition};
 use std::alloc::{AllocError, Global};

@@ -2,14 +2,15 @@
 ghost use Rattle.std.specs.Prelude.{◌≡◌, ℕ, ◌+◌, List, map, min, nat_lt, length, sum_by, find};
 ghost use Rattle.std.specs.List.{flat_map, list_any};
 ghost use Rattle.sdl_tree.specs.Views.{tree_of, assignment_of, text_of, process_of, block_of, signal_of};
-ghost use Rattle.sdl_rules.specs.Names.{processes_of, signals_of, states_of, variables_of, timers_of};
+ghost use Rattle.sdl_tables.specs.Names.{processes_of, signals_of, states_of, variables_of, timers_of};
 ghost use Rattle.sdl_rules.specs.Longest.{cost_of, depth_of, assignments_cost, assignments_depth, place_cost, place_depth, places_cost, places_depth, size, depth, pieces_of, input_piece};
-ghost use Rattle.sdl_rules.specs.Rows.{action_cost, action_depth, actions_depth, row_input, rows_inputs, piece_passes};
+ghost use Rattle.sdl_rules.specs.Rows.{action_cost, action_depth, actions_depth, piece_passes};
+ghost use Rattle.sdl_tables.specs.Rows.{row_input, rows_inputs};
 ghost use Rattle.sdl_rules.specs.Sound.{exceeds, counts, measures, first_limit};
 
-use crate::block_table::BlockTable;
+use sdl_tables::BlockTable;
 use crate::fault::Limit;
-use crate::process_table::{InputRow, ProcessTable};
+use sdl_tables::{InputRow, ProcessTable};
 use sdl_tree::{Action, Assignment, End, Expression, Identifier, SignalDeclaration, Transition};
 
 fn cost(expression: &Expression) -> u32

@@ -1,16 +1,16 @@
 //! From a block to the same block with its tables, known to be sound.
 ghost use Rattle.std.specs.Prelude.{◌≡◌, List, map, IfOk, IfErr};
 ghost use Rattle.sdl_tree.specs.Views.{signal_of, route_of, process_of, block_of};
-ghost use Rattle.sdl_rules.specs.Names.{signal_names, signals_of, process_names, processes_of, routes_of};
+ghost use Rattle.sdl_tables.specs.Names.{signal_names, signals_of, process_names, processes_of, routes_of};
 ghost use Rattle.sdl_rules.specs.Surveys.{AllSettled};
 ghost use Rattle.sdl_rules.specs.Refusals.{Sound, Refuses};
 
-use crate::block_table::BlockTable;
+use sdl_tables::BlockTable;
 use crate::checks::{stray_end, unknown_name, wrong_sort};
 use crate::fault::RuleFault;
 use crate::limits::first_limit;
-use crate::name_table::NameTable;
-use crate::process_table::ProcessTable;
+use sdl_tables::NameTable;
+use sdl_tables::ProcessTable;
 use crate::settled::{Unset, settle};
 use sdl_tree::{Block, Route, SignalDeclaration};
 use std::alloc::Global;

@@ -2,17 +2,17 @@
 ghost use Rattle.std.specs.Prelude.{◌≡◌, ◌⊎◌, ℕ, ◌<◌, ◌≤◌, true, List, Option, None, Some, length, slice_get, IfOk, IfSome, IfNone, All};
 ghost use Rattle.std.specs.List.{AllZip};
 ghost use Rattle.sdl_tree.specs.Views.{process_of, block_of};
-ghost use Rattle.sdl_rules.specs.Names.{same_name, variables_of, states_of, inputs_of};
+ghost use Rattle.sdl_tables.specs.Names.{same_name, variables_of, states_of, inputs_of};
 ghost use Rattle.sdl_rules.specs.Fates.{AreFates, AreSet, IsUnsetAt, IsStep, IsNamed};
 ghost use Rattle.std.specs.Global.{Vec};
 ghost use Rattle.unset_paths.specs.declared.Step as number;
 ghost use Rattle.unset_paths.specs.declared.Step.TheVariants.{Input as By};
 ghost use Rattle.unset_paths.specs.declared.Fate.TheVariants.{Unset as Path};
 
-use crate::block_table::BlockTable;
+use sdl_tables::BlockTable;
 use crate::fault::{ControlPath, Step};
 use crate::flows::graph_of;
-use crate::process_table::ProcessTable;
+use sdl_tables::ProcessTable;
 use sdl_lex::Name;
 use sdl_tree::{Action, Expression, Transition};
 use std::alloc::{AllocError, Global};

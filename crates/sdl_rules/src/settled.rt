@@ -1,13 +1,13 @@
 //! Whether control paths read variables before they are set, and if none does, what is set in each state.
 ghost use Rattle.std.specs.Prelude.{◌≡◌, ◌⊎◌, ◌≤◌, [], All, Some, length, IfOk};
 ghost use Rattle.sdl_tree.specs.Views.{process_of, block_of};
-ghost use Rattle.sdl_rules.specs.Names.{variables_of, processes_of};
+ghost use Rattle.sdl_tables.specs.Names.{variables_of, processes_of};
 ghost use Rattle.sdl_rules.specs.Sound.{process_unknown};
 ghost use Rattle.sdl_rules.specs.Surveys.{IsSurvey, AreSurveys};
 
-use crate::block_table::BlockTable;
+use sdl_tables::BlockTable;
 use crate::fault::ControlPath;
-use crate::process_table::ProcessTable;
+use sdl_tables::ProcessTable;
 use crate::search::{find_fates, find_first, named_path, path_at};
 use crate::sets::sets_in;
 use sdl_lex::Name;

@@ -3,7 +3,7 @@ use Rattle.std.proofs.Common.{◌≡◌, ℕ, List, [], Option, None, Some, refl
 use Rattle.std.specs.Prelude.{Contains}
 use Rattle.std.proofs.lemmas.List.Elements.{All-contains}
 use Rattle.sdl_tree.specs.Plain.{PlainBlock}
-use Rattle.sdl_rules.specs.Names.{processes_of}
+use Rattle.sdl_tables.specs.Names.{processes_of}
 use Rattle.sdl_rules.specs.Paths.{NeverReadsUnset}
 use Rattle.sdl_rules.specs.Refusals.{Sound, Refuses}
 use Rattle.sdl_rules.specs.declared.fault.Limit.{Limit as limit}

@@ -5,10 +5,10 @@ use Rattle.sdl_tree.specs.Views.{process_of, text_of}
 use Rattle.sdl_tree.specs.declared.tree.Process.{Process}
 use Rattle.turn_code.specs.Sets.{initial_set}
 use Rattle.sdl_rules.specs.Longest.{Piece, start_piece}
-use Rattle.sdl_rules.specs.Names.{variables_of, variable_names, states_of, inputs_by_state}
-use Rattle.sdl_rules.specs.Sound.{repeats, input_names}
+use Rattle.sdl_tables.specs.Names.{variables_of, variable_names, states_of, inputs_by_state}
+use Rattle.sdl_tables.specs.Scopes.{repeats, input_names}
 use Rattle.sdl_compile.specs.Act.{Scope, scope_of}
-use Rattle.sdl_rules.specs.Rows.{rows_inputs}
+use Rattle.sdl_tables.specs.Rows.{rows_inputs}
 use Rattle.turn_code.specs.declared.draft.DraftProcess.{DraftProcess}
 use Rattle.sdl_compile.specs.Drafts.{drafted, sets_of}
 use Rattle.sdl_compile.proofs.Drafted.{are_drafted, paired}

@@ -1,8 +1,8 @@
 use Rattle.std.proofs.Common.{◌<◌, length, map, subst, ap, arith, add-one}
 use Rattle.std.specs.Global.{Vec}
 use Rattle.turn_code.specs.declared.variable_set.VariableSet.{VariableSet}
-use Rattle.sdl_rules.specs.declared.process_table.InputRow.{InputRow}
-use Rattle.sdl_rules.specs.Rows.{row_input, rows_inputs}
+use Rattle.sdl_tables.specs.declared.process_table.InputRow.{InputRow}
+use Rattle.sdl_tables.specs.Rows.{row_input, rows_inputs}
 use Rattle.sdl_compile.specs.Scopes.{scope_in}
 use Rattle.sdl_compile.specs.Drafts.{IsNamedAs, MatchesInputs, AreInputsOf}
 use Rattle.sdl_compile.proofs.Zips.{zip_more, zip_some, all_ready_more, sets_more}

@@ -1,6 +1,6 @@
 use Rattle.std.proofs.Common.{◌≡◌, map, take, drop}
 use Rattle.std.specs.List.{AllZip}
-use Rattle.sdl_rules.specs.Rows.{rows_inputs}
+use Rattle.sdl_tables.specs.Rows.{rows_inputs}
 use Rattle.sdl_compile.specs.Scopes.{scope_in}
 use Rattle.sdl_compile.specs.Drafts.{AllReady, IsNamedAs, MatchesInputs, AreInputsOf, sets_of}
 use Rattle.sdl_compile.proofs.state.compile_states.Given as goal

@@ -1,5 +1,5 @@
 use Rattle.std.proofs.Common.{map}
-use Rattle.sdl_rules.specs.Rows.{row_input}
+use Rattle.sdl_tables.specs.Rows.{row_input}
 use Rattle.sdl_compile.specs.Scopes.{scope_in}
 use Rattle.sdl_compile.proofs.Zips.{inputs_match}
 use Rattle.sdl_compile.proofs.state.make_state.Goals as goal

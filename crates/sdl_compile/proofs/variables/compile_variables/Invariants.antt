@@ -1,5 +1,5 @@
 use Rattle.std.proofs.Common.{◌≡◌, map, take}
-use Rattle.sdl_rules.specs.Rows.{variable_of}
+use Rattle.sdl_tables.specs.Rows.{variable_of}
 use Rattle.sdl_compile.specs.Drafts.{drafted}
 use Rattle.sdl_compile.proofs.variables.compile_variables.Given as goal
 

@@ -1,5 +1,6 @@
 use Rattle.std.proofs.Common.{take}
-use Rattle.sdl_rules.specs.Sound.{Marks, unknown}
+use Rattle.sdl_rules.specs.Sound.{unknown}
+use Rattle.sdl_tables.specs.Scopes.{Marks}
 use Rattle.sdl_rules.proofs.checks.first_unknown.Given as goal
 
 abbrev pub invariant-loop-id : goal.invariant-loop-id

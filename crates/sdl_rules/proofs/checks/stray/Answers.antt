@@ -1,6 +1,6 @@
 use Rattle.std.proofs.Common.{sym, subst}
 use Rattle.sdl_tree.specs.Views.{end_text}
-use Rattle.sdl_rules.specs.Sound.{Marks}
+use Rattle.sdl_tables.specs.Scopes.{Marks}
 use Rattle.sdl_rules.proofs.Texts.{strays-actions}
 use Rattle.sdl_rules.proofs.checks.stray.Goals as goal
 

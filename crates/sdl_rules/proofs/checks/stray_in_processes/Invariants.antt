@@ -1,6 +1,7 @@
 use Rattle.std.proofs.Common.{map, take}
 use Rattle.std.specs.List.{flat_map}
-use Rattle.sdl_rules.specs.Sound.{Marks, process_strays}
+use Rattle.sdl_rules.specs.Sound.{process_strays}
+use Rattle.sdl_tables.specs.Scopes.{Marks}
 use Rattle.sdl_tree.specs.Views.{process_of}
 use Rattle.sdl_rules.proofs.checks.stray_in_processes.Given as goal
 

@@ -1,6 +1,7 @@
 use Rattle.std.proofs.Common.{take}
 use Rattle.std.specs.List.{flat_map}
-use Rattle.sdl_rules.specs.Sound.{Marks, unknown}
+use Rattle.sdl_rules.specs.Sound.{unknown}
+use Rattle.sdl_tables.specs.Scopes.{Marks}
 use Rattle.sdl_rules.specs.Rows.{action_names}
 use Rattle.sdl_rules.proofs.checks.unknown_in_actions.Given as goal
 

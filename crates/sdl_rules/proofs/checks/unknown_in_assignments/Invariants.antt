@@ -1,6 +1,7 @@
 use Rattle.std.proofs.Common.{map, take}
 use Rattle.std.specs.List.{flat_map}
-use Rattle.sdl_rules.specs.Sound.{Marks, unknown, assignment_names}
+use Rattle.sdl_rules.specs.Sound.{unknown, assignment_names}
+use Rattle.sdl_tables.specs.Scopes.{Marks}
 use Rattle.sdl_tree.specs.Views.{assignment_of}
 use Rattle.sdl_rules.proofs.checks.unknown_in_assignments.Given as goal
 

@@ -1,6 +1,7 @@
 use Rattle.std.proofs.Common.{map, take}
 use Rattle.std.specs.List.{flat_map}
-use Rattle.sdl_rules.specs.Sound.{Marks, path_unknown}
+use Rattle.sdl_rules.specs.Sound.{path_unknown}
+use Rattle.sdl_tables.specs.Scopes.{Marks}
 use Rattle.sdl_tree.specs.Views.{block_of, path_of}
 use Rattle.sdl_rules.proofs.checks.unknown_in_paths.Given as goal
 

@@ -1,5 +1,6 @@
 use Rattle.std.proofs.Common.{take}
-use Rattle.sdl_rules.specs.Sound.{Marks, unknown, place_names}
+use Rattle.sdl_rules.specs.Sound.{unknown, place_names}
+use Rattle.sdl_tables.specs.Scopes.{Marks}
 use Rattle.sdl_rules.proofs.checks.unknown_in_places.Given as goal
 
 abbrev pub invariant-loop-place : goal.invariant-loop-place

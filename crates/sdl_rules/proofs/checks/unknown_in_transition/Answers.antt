@@ -1,7 +1,8 @@
 use Rattle.std.proofs.Common.{◌∙◌, ap, subst, List}
 use Rattle.std.specs.List.{flat_map}
 use Rattle.sdl_tree.specs.declared.expression.Identifier.{Identifier}
-use Rattle.sdl_rules.specs.Sound.{Marks, unknown}
+use Rattle.sdl_rules.specs.Sound.{unknown}
+use Rattle.sdl_tables.specs.Scopes.{Marks}
 use Rattle.sdl_rules.specs.Rows.{action_names}
 use Rattle.sdl_rules.proofs.Texts.{text_names-end}
 use Rattle.sdl_rules.proofs.checks.unknown_in_transition.Goals as goal

@@ -2,8 +2,8 @@ use Rattle.std.proofs.Common.{◌≡◌, ◌∙◌, ap, sym, List, [], map, Some
 use Rattle.std.specs.List.{flat_map}
 use Rattle.sdl_tree.specs.declared.expression.Identifier.{Identifier}
 use Rattle.sdl_tree.specs.Views.{process_of}
-use Rattle.sdl_rules.specs.Names.{variable_names, number_of, inputs_by_state}
-use Rattle.sdl_rules.specs.Sound.{repeats, input_names}
+use Rattle.sdl_tables.specs.Names.{variable_names, number_of, inputs_by_state}
+use Rattle.sdl_tables.specs.Scopes.{repeats, input_names}
 use Rattle.sdl_rules.proofs.Repeats.{append-nil_left}
 use Rattle.sdl_rules.proofs.Bits.{bit_named, bit_past, bit_none}
 use Rattle.sdl_rules.proofs.flows.bit.Goals as goal

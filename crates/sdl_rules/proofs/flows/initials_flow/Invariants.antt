@@ -3,7 +3,7 @@ use Rattle.std.specs.List.{flat_map}
 use Rattle.sdl_tree.specs.Views.{process_of}
 use Rattle.sdl_rules.specs.Flows.{Does}
 use Rattle.sdl_rules.specs.Paths.{initial_sets}
-use Rattle.sdl_rules.specs.Rows.{variable_of}
+use Rattle.sdl_tables.specs.Rows.{variable_of}
 use Rattle.sdl_rules.proofs.flows.initials_flow.Given as goal
 
 abbrev pub invariant-loop-variable : goal.invariant-loop-variable

@@ -2,10 +2,10 @@ use Rattle.std.proofs.Common.{sym, subst, map, take, List, ◌+◌}
 use Rattle.std.specs.List.{AllZip}
 use Rattle.unset_paths.specs.declared.Summary.{Summary}
 use Rattle.sdl_tree.specs.Views.{process_of}
-use Rattle.sdl_rules.specs.Names.{Input}
+use Rattle.sdl_tables.specs.Names.{Input}
 use Rattle.sdl_rules.specs.Paths.{input_transition}
 use Rattle.sdl_rules.specs.Graphs.{IsSummaryOf}
-use Rattle.sdl_rules.specs.Rows.{row_input}
+use Rattle.sdl_tables.specs.Rows.{row_input}
 use Rattle.sdl_rules.proofs.Walks.{zip_more}
 use Rattle.sdl_rules.proofs.flows.input_summaries.Goals as goal
 

@@ -4,8 +4,8 @@ use Rattle.std.specs.Global.{Vec}
 use Rattle.unset_paths.specs.declared.Summary.{Summary}
 use Rattle.sdl_tree.specs.Views.{process_of}
 use Rattle.sdl_rules.specs.Flows.{AreSummariesOf}
-use Rattle.sdl_rules.specs.Rows.{row_input, rows_inputs}
-use Rattle.sdl_rules.specs.declared.process_table.InputRow.{InputRow}
+use Rattle.sdl_tables.specs.Rows.{row_input, rows_inputs}
+use Rattle.sdl_tables.specs.declared.process_table.InputRow.{InputRow}
 use Rattle.sdl_rules.proofs.Walks.{zip_more}
 use Rattle.sdl_rules.proofs.flows.state_summaries.Goals as goal
 

@@ -2,7 +2,7 @@ use Rattle.std.proofs.Common.{◌≡◌, map, take, min}
 use Rattle.std.specs.List.{flat_map}
 use Rattle.std.proofs.Common.{length}
 use Rattle.sdl_rules.specs.Longest.{input_piece}
-use Rattle.sdl_rules.specs.Rows.{rows_inputs}
+use Rattle.sdl_tables.specs.Rows.{rows_inputs}
 use Rattle.sdl_rules.proofs.limits.count_inputs.Given as goal
 
 abbrev pub invariant-loop-rows : goal.invariant-loop-rows

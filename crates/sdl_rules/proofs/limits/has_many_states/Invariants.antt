@@ -1,7 +1,7 @@
 use Rattle.std.proofs.Common.{◌≡◌, map, take, nat_lt, length}
 use Rattle.std.specs.List.{list_any}
 use Rattle.sdl_tree.specs.Views.{process_of}
-use Rattle.sdl_rules.specs.Names.{states_of}
+use Rattle.sdl_tables.specs.Names.{states_of}
 use Rattle.sdl_rules.proofs.limits.has_many_states.Given as goal
 
 abbrev pub invariant-loop-table : goal.invariant-loop-table

@@ -1,7 +1,8 @@
 use Rattle.std.proofs.Common.{◌≡◌, map, take}
 use Rattle.std.specs.List.{list_any, flat_map}
 use Rattle.sdl_rules.specs.Longest.{input_piece}
-use Rattle.sdl_rules.specs.Rows.{rows_inputs, piece_passes}
+use Rattle.sdl_rules.specs.Rows.{piece_passes}
+use Rattle.sdl_tables.specs.Rows.{rows_inputs}
 use Rattle.sdl_rules.proofs.limits.passes_in_states.Given as goal
 
 abbrev pub invariant-loop-rows : goal.invariant-loop-rows

@@ -4,7 +4,7 @@ use denote.Ref.{Bor}
 use Rattle.sdl_tree.specs.declared.tree.SignalDeclaration.{SignalDeclaration}
 use Rattle.sdl_tree.specs.Plain.{PlainSignal}
 use Rattle.sdl_tree.specs.Views.{signal_of, block_of}
-use Rattle.sdl_rules.specs.Names.{same_name, signal_named, signals_of}
+use Rattle.sdl_tables.specs.Names.{same_name, signal_named, signals_of}
 use Rattle.sdl_rules.proofs.Searches.{same_back, find_holds}
 use Rattle.sdl_rules.proofs.search.declared_name.Goals as goal
 

@@ -1,8 +1,8 @@
 use Rattle.std.proofs.Common.{◌≡◌, length, arith, sym, ap, ◌∙◌}
 use Rattle.std.proofs.lemmas.List.{length-map}
 use Rattle.sdl_tree.specs.Views.{process_of}
-use Rattle.sdl_rules.specs.Names.{variables_of}
-use Rattle.sdl_rules.specs.Rows.{variable_of}
+use Rattle.sdl_tables.specs.Names.{variables_of}
+use Rattle.sdl_tables.specs.Rows.{variable_of}
 use Rattle.sdl_rules.proofs.search.find_fates.Goals as goal
 
 pub returns : goal.returns

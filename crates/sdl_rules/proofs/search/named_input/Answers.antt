@@ -3,8 +3,8 @@ use Rattle.std.specs.Prelude.{slice_get}
 use Rattle.std.proofs.lemmas.Option.{slice_get_read}
 use Rattle.sdl_tree.specs.Views.{process_of}
 use Rattle.sdl_tree.specs.declared.expression.Identifier.{Identifier}
-use Rattle.sdl_rules.specs.Names.{states_of, inputs_of}
-use Rattle.sdl_rules.specs.Rows.{row_input}
+use Rattle.sdl_tables.specs.Names.{states_of, inputs_of}
+use Rattle.sdl_tables.specs.Rows.{row_input}
 use Rattle.sdl_rules.proofs.Searches.{rows_there, states_count, rows_count, named_by}
 use Rattle.sdl_rules.proofs.search.named_input.Goals as goal
 

@@ -1,7 +1,7 @@
 use Rattle.std.proofs.Common.{◌≡◌, ◌≤◌, ◌+◌, ◌++◌, ◌∷◌, [], ℕ, List, Ok, Err, Vec, Global, length, take, sym, subst}
 use Rattle.std.proofs.lemmas.List.Elements.{All-push}
 use Rattle.sdl_tree.specs.Views.{process_of, block_of}
-use Rattle.sdl_rules.specs.Names.{variables_of, processes_of}
+use Rattle.sdl_tables.specs.Names.{variables_of, processes_of}
 use Rattle.sdl_rules.specs.Sound.{process_unknown}
 use Rattle.sdl_rules.specs.Paths.{NeverReadsUnset}
 use Rattle.sdl_rules.specs.Settled.{AreSettled}

@@ -5,7 +5,7 @@ use Rattle.unset_paths.specs.declared.Fate.TheVariants.{Unset as Path}
 use Rattle.unset_paths.specs.declared.Step as number
 use Rattle.sdl_tree.specs.Views.{process_of, block_of}
 use Rattle.sdl_tree.specs.declared.expression.Identifier.{Identifier}
-use Rattle.sdl_rules.specs.Names.{variable_names, states_of}
+use Rattle.sdl_tables.specs.Names.{variable_names, states_of}
 use Rattle.sdl_rules.specs.Fates.{AreFates, AreSet, IsUnsetAt}
 use Rattle.sdl_rules.proofs.Surveying.{survey_steps, survey_reads, number_within}
 use Rattle.sdl_rules.proofs.Settling.{settled, never, AreBits}

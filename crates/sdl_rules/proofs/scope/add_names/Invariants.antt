@@ -1,7 +1,0 @@
-use Rattle.std.proofs.Common.{◌≡◌, take, fold}
-use Rattle.sdl_rules.specs.Names.{add_name}
-use Rattle.sdl_rules.proofs.scope.add_names.Given as goal
-
-abbrev pub invariant-loop-id : goal.invariant-loop-id
-invariant-loop-id l =
-    l.names ≡ fold add_name l.initial.names (take l.id-index l.ids)

@@ -1,8 +1,0 @@
-use Rattle.std.proofs.Common.{◌≡◌, take, []}
-use Rattle.sdl_rules.specs.Names.{names_once}
-use Rattle.sdl_rules.specs.Sound.{Marks, repeats}
-use Rattle.sdl_rules.proofs.scope.index_names.Given as goal
-
-abbrev pub invariant-loop-id : goal.invariant-loop-id
-invariant-loop-id l =
-    (l.names ≡ names_once (take l.id-index l.ids)) × Marks l.double (repeats [] (take l.id-index l.ids))

@@ -1,0 +1,145 @@
+-- The tables of a block are the block's.
+use Rattle.std.proofs.Common.{◌≡◌, ℕ, ◌<◌, ◌≤◌, Bool, true, false, cond, nat_lt, List, [], ◌∷◌, ◌++◌, map, length, Option, None, Some, zero, suc, Contains, slice_get, find, refl, sym, ap, ◌∙◌, subst, arith, get_or}
+use Rattle.std.specs.List.{flat_map, position_or_len}
+use Rattle.std.specs.Option.{option_map, option_and_then}
+use Rattle.std.proofs.lemmas.List.{append-nil}
+use Rattle.std.proofs.lemmas.Option.{slice_get_past, slice_get-get_or}
+use denote.Ref.{Bor}
+use Rattle.sdl_tree.specs.declared.tree.SignalDeclaration.{SignalDeclaration}
+use Rattle.sdl_tree.specs.Views.{signal_of, route_of, process_of}
+use Rattle.sdl_tree.specs.declared.tree.Process as the_process
+use Rattle.sdl_tree.specs.declared.tree.Route as the_route
+use Rattle.sdl_tables.proofs.States.{map-map}
+use Rattle.std.proofs.lemmas.List.Folds.{find_at}
+use Rattle.std.proofs.lemmas.Grind.{flat_map-append}
+use Rattle.std.proofs.lemmas.Bool.Decides.{leb_tells}
+use Rattle.sdl_tree.specs.declared.expression.Identifier.{Identifier}
+use Rattle.sdl_tree.specs.Plain.{PlainSignal, PlainProcess, PlainBlock}
+use Rattle.sdl_tables.specs.Names.{same_name, number_of, signal_names, route_names, process_names, signals_of, routes_of, processes_of, signal_named}
+use Rattle.sdl_tables.specs.Scopes.{Marks, repeats, process_scopes, double_names}
+use Rattle.sdl_tables.proofs.Tables.{position-map}
+use Rattle.sdl_tables.proofs.Repeats.{append-nil_right}
+
+pub flat_map-push : {X : Type 0} (f : X → List ℕ) (xs : List X) (x : X) → flat_map f (xs ++ x ∷ []) ≡ flat_map f xs ++ f x
+flat_map-push f xs x = flat_map-append f xs (x ∷ []) ∙ ap (λ r. flat_map f xs ++ r) (append-nil (f x))
+
+-- one more that gives no place
+pub Marks-nothing : {X : Type 0} (f : X → List ℕ) (xs : List X) (x : X) (place : Option ℕ)
+    → Marks place (flat_map f xs) → f x ≡ [] → Marks place (flat_map f (xs ++ x ∷ []))
+Marks-nothing f xs x place m none =
+    subst (Marks place)
+    (sym (append-nil (flat_map f xs)) ∙ (ap (λ r. flat_map f xs ++ r) (sym none) ∙ sym (flat_map-push f xs x))) m
+
+-- one more that gives one
+pub Marks-one : {X : Type 0} (f : X → List ℕ) (xs : List X) (x : X) (one both : Option ℕ) (at : ℕ)
+    → Marks one (flat_map f xs) → Contains (f x) at
+    → ((us vs : List ℕ) → Marks one us → Marks (Some at) vs → Marks both (us ++ vs)) → Marks both (flat_map f (xs ++ x ∷ []))
+Marks-one f xs x one both at m there join = subst (Marks both) (sym (flat_map-push f xs x)) (join (flat_map f xs) (f x) m there)
+
+not_empty : (xs : List ℕ) (at : ℕ) → Contains xs at → xs ≡ [] → ⊥
+not_empty xs at there none =
+    let short : there.0 < 0 = subst (λ (l : List ℕ). there.0 < length l) none there.1 in absurd (omega arith)
+
+pub Marks-some : {X : Type 0} (f : X → List ℕ) (xs : List X) (x : X) (both : Option ℕ) (at : ℕ)
+    → Marks both (flat_map f (xs ++ x ∷ [])) → Contains (f x) at → both ≡ None → ⊥
+Marks-some f xs x both at m there e =
+    let empty : flat_map f (xs ++ x ∷ []) ≡ [] = subst (λ (o : Option ℕ). Marks o (flat_map f (xs ++ x ∷ []))) e m in
+    not_empty (f x) at there (append-nil_right (flat_map f xs) (f x) (sym (flat_map-push f xs x) ∙ empty))
+
+pub slice_get-map : {A B : Type 0} (f : A → B) (xs : List A) (i : ℕ) → slice_get (map f xs) i ≡ option_map f (slice_get xs i)
+slice_get-map f [] i = refl
+slice_get-map f (x ∷ xs) zero = refl
+slice_get-map f (x ∷ xs) (suc i) = slice_get-map f xs i
+
+find-at : {X : Type 0} (p : X → Bool) (xs : List X) (b : Bool) → nat_lt (position_or_len p xs) (length xs) ≡ b
+    → find p xs ≡ option_and_then (slice_get xs) (cond b (Some (position_or_len p xs)) None)
+find-at p xs true e = find_at p xs
+find-at p xs false e = find_at p xs ∙ slice_get_past xs (position_or_len p xs) (grind (arith, leb_tells, e))
+
+-- the signal with a name is the one with its number
+pub signal-by_number : (b : PlainBlock) (x : List ℕ) → signal_named b x ≡ option_and_then (slice_get (signals_of b)) (number_of (signal_names b) x)
+signal-by_number b x =
+    let p = λ (s : PlainSignal). same_name x s.name.name in
+    find-at p (signals_of b) (nat_lt (position_or_len p (signals_of b)) (length (signals_of b))) refl
+    ∙ ap (option_and_then (slice_get (signals_of b))) (sym (position-map (λ (id : Identifier). same_name x id.name) (λ s. s.name) (signals_of b)))
+
+pub signal-none : (b : PlainBlock) (x : List ℕ) (ids : List Identifier) → ids ≡ signal_names b → None ≡ number_of ids x → None ≡ signal_named b x
+signal-none b x ids e n =
+    sym
+    (signal-by_number b x
+    ∙ ap (option_and_then (slice_get (signals_of b))) (ap (λ l. number_of l x) (sym e) ∙ sym n))
+
+by_place : (b : PlainBlock) (x : List ℕ) (ids : List Identifier) (n : ℕ) → ids ≡ signal_names b → Some n ≡ number_of ids x
+    → signal_named b x ≡ slice_get (signals_of b) n
+by_place b x ids n e h =
+    signal-by_number b x ∙ ap (option_and_then (slice_get (signals_of b))) (ap (λ l. number_of l x) (sym e) ∙ sym h)
+
+pub signal-some : (b : PlainBlock) (x : List ℕ) (ids : List Identifier) (n : ℕ) (rows : List (Bor SignalDeclaration)) (row : Bor SignalDeclaration)
+    → ids ≡ signal_names b → Some n ≡ number_of ids x → map (λ s. signal_of s.now) rows ≡ signals_of b → n < length rows
+    → row ≡ get_or rows n row → Some (signal_of row.now) ≡ signal_named b x
+signal-some b x ids n rows row e h same lt read =
+    sym
+    (by_place b x ids n e h
+    ∙ (ap (λ l. slice_get l n) (sym same)
+    ∙ (slice_get-map (λ s. signal_of s.now) rows n
+    ∙ ap (option_map (λ s. signal_of s.now)) (slice_get-get_or rows n row lt ∙ ap Some (sym read)))))
+
+pub signal-past : (b : PlainBlock) (x : List ℕ) (ids : List Identifier) (n : ℕ) (rows : List (Bor SignalDeclaration))
+    → ids ≡ signal_names b → Some n ≡ number_of ids x → map (λ s. signal_of s.now) rows ≡ signals_of b → length rows ≤ n
+    → None ≡ signal_named b x
+signal-past b x ids n rows e h same past =
+    sym
+    (by_place b x ids n e h
+    ∙ (ap (λ l. slice_get l n) (sym same)
+    ∙ (slice_get-map (λ s. signal_of s.now) rows n ∙ ap (option_map (λ s. signal_of s.now)) (slice_get_past rows n past))))
+
+flat_map-flat_map : {A B C : Type 0} (g : B → List C) (f : A → List B) (xs : List A) → flat_map g (flat_map f xs) ≡ flat_map (λ x. flat_map g (f x)) xs
+flat_map-flat_map g f [] = refl
+flat_map-flat_map g f (x ∷ xs) = flat_map-append g (f x) (flat_map f xs) ∙ ap (λ r. flat_map g (f x) ++ r) (flat_map-flat_map g f xs)
+
+flat_map-map : {A B C : Type 0} (g : B → List C) (f : A → B) (xs : List A) → flat_map g (map f xs) ≡ flat_map (λ x. g (f x)) xs
+flat_map-map g f [] = refl
+flat_map-map g f (x ∷ xs) = ap (λ r. g (f x) ++ r) (flat_map-map g f xs)
+
+-- what is twice in the processes, in the way of the code
+pub inside-processes : {A : Type 0} (f : A → PlainProcess) (xs : List A) (ps : List PlainProcess) → map f xs ≡ ps
+    → flat_map (λ x. flat_map (repeats []) (process_scopes (f x))) xs ≡ flat_map (repeats []) (flat_map process_scopes ps)
+inside-processes f xs ps e =
+    sym (flat_map-map (λ p. flat_map (repeats []) (process_scopes p)) f xs)
+    ∙ (ap (flat_map (λ p. flat_map (repeats []) (process_scopes p))) e ∙ sym (flat_map-flat_map (repeats []) process_scopes ps))
+
+abbrev pub Joins : Option ℕ → Option ℕ → Option ℕ → Type 0
+Joins one other both = (xs ys : List ℕ) → Marks one xs → Marks other ys → Marks both (xs ++ ys)
+
+pub Marks-block : (b : PlainBlock) (ss rs ps : List Identifier) (places : List ℕ) (one two three four inside beyond double : Option ℕ)
+    → ss ≡ signal_names b → rs ≡ route_names b → ps ≡ process_names b
+    → places ≡ flat_map (repeats []) (flat_map process_scopes (processes_of b))
+    → Marks one (repeats [] ss) → Marks two (repeats [] rs) → Marks three (repeats [] ps) → Marks four places
+    → Joins three four inside → Joins two inside beyond → Joins one beyond double → Marks double (double_names b)
+Marks-block b ss rs ps places one two three four inside beyond double e f g h m n o p j k l =
+    let rest = flat_map (repeats []) (flat_map process_scopes (processes_of b)) in
+    l (repeats [] (signal_names b)) (repeats [] (route_names b) ++ (repeats [] (process_names b) ++ rest))
+    (subst (λ (x : List Identifier). Marks one (repeats [] x)) e m)
+    (k (repeats [] (route_names b)) (repeats [] (process_names b) ++ rest)
+    (subst (λ (x : List Identifier). Marks two (repeats [] x)) f n)
+    (j (repeats [] (process_names b)) rest
+    (subst (λ (x : List Identifier). Marks three (repeats [] x)) g o) (subst (Marks four) h p)))
+
+pub Marks-none : (o : Option ℕ) (places : List ℕ) → Marks o places → places ≡ [] → o ≡ None
+Marks-none None places m e = refl
+Marks-none (Some at) places m e = absurd (not_empty places at m e)
+
+pub signal_ids-of_rows : (b : PlainBlock) (rows : List (Bor SignalDeclaration)) (ids : List Identifier)
+    → map (λ s. signal_of s.now) rows ≡ signals_of b → ids ≡ map (λ s. s.now.name) rows → ids ≡ signal_names b
+signal_ids-of_rows b rows ids same h =
+    h ∙ (sym (map-map (λ s. s.name) (λ s. signal_of s.now) rows) ∙ ap (map (λ s. s.name)) same)
+
+pub process_ids-of_rows : (b : PlainBlock) (rows : List (Bor the_process.Process)) (ids : List Identifier)
+    → map (λ p. process_of p.now) rows ≡ processes_of b → ids ≡ map (λ p. p.now.name) rows → ids ≡ process_names b
+process_ids-of_rows b rows ids same h =
+    h ∙ (sym (map-map (λ p. p.name) (λ p. process_of p.now) rows) ∙ ap (map (λ p. p.name)) same)
+
+pub route_ids-of_rows : (b : PlainBlock) (rows : List (Bor the_route.Route)) (ids : List Identifier)
+    → map (λ r. route_of r.now) rows ≡ routes_of b → ids ≡ map (λ r. r.now.name) rows → ids ≡ route_names b
+route_ids-of_rows b rows ids same h =
+    h ∙ (sym (map-map (λ r. r.name) (λ r. route_of r.now) rows) ∙ ap (map (λ r. r.name)) same)

@@ -1,0 +1,5 @@
+pub mod BlockLemmas
+pub mod ProcessTables
+pub mod Repeats
+pub mod States
+pub mod Tables

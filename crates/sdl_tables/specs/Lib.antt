@@ -1,0 +1,5 @@
+pub mod BlockTables
+pub mod Names
+pub mod Rows
+pub mod Scopes
+pub mod Tables

@@ -1,0 +1,14 @@
+//! The names of a block and of its processes, each with its number.
+#![tactic(auto)]
+
+mod block_table;
+mod fault;
+mod name_table;
+mod process_table;
+mod scope;
+
+pub use block_table::BlockTable;
+pub use fault::TableFault;
+pub use name_table::NameTable;
+pub use process_table::{InputRow, ProcessTable, Variable};
+pub use scope::earlier;

@@ -1,0 +1,92 @@
+//! Names in the order of the text, each once, with their numbers.
+ghost use Rattle.std.specs.Prelude.{◌≡◌, ◌<◌, [], length, IfOk, OnOk, OnErr, IsSome, IfSome, not, slice_get, Some};
+ghost use Rattle.sdl_tables.specs.Names.{is_in, number_of, add_name};
+
+use indexmap::IndexMap;
+use sdl_lex::Name;
+use sdl_tree::Identifier;
+use std::alloc::{AllocError, Global};
+use std::marker::Model;
+
+/// The names of one class and scope, as first written and in the order of the text. A name is looked
+/// up by what it is in lower case. Contracts see the list of identifiers.
+#[derive(Drop)]
+pub struct NameTable {
+    entries: IndexMap<Name, Identifier>,
+}
+
+impl Model for NameTable {
+    ghost use Rattle.std.specs.Prelude.{◌≡◌, List, map};
+    ghost use Rattle.sdl_lex.specs.Spelling.{folded};
+    ghost use Rattle.sdl_tree.specs.declared.expression.Identifier.{Identifier};
+    ghost use Rattle.indexmap.specs.IndexMap.{keys, values};
+
+    ghost Value = { List Identifier };
+
+    ghost view = { λ t. values t.entries };
+
+    ghost invariant = { λ t. keys t.entries ≡ map (λ id. folded id.name) (values t.entries) };
+}
+
+impl NameTable {
+    /// A table with no name.
+    pub fn new(alloc: Global) -> Self
+        ensures { result ≡ [] }
+    {
+        NameTable {
+            entries: IndexMap::new(alloc),
+        }
+    }
+
+    /// How many names there are.
+    pub fn len(&self) -> usize
+        ensures { result ≡ length self.now }
+    {
+        self.entries.len()
+    }
+
+    /// The number of a name, from 0.
+    pub fn number(&self, name: Name) -> Option<usize>
+        ensures number { result ≡ number_of self.now name }
+        ensures within { IfSome result (λ n. n < length self.now) }
+    {
+        self.entries.get_index_of(&name.folded())
+    }
+
+    /// Whether a name is there.
+    pub fn contains(&self, name: Name) -> bool
+        ensures { result ≡ is_in self.now name }
+    {
+        self.entries.contains_key(&name.folded())
+    }
+
+    /// The name with a number, as it is first written.
+    pub fn get(&self, number: usize) -> Option<Identifier>
+        ensures { result ≡ slice_get self.now number }
+    {
+        let (_, id) = self.entries.get_index(number)?;
+        Some(*id)
+    }
+
+    /// The name with a number that there is, as it is first written.
+    pub fn name(&self, number: usize) -> Identifier
+        requires { number < length self.now }
+        ensures { slice_get self.now number ≡ Some result }
+    {
+        self.entries[number]
+    }
+
+    /// Adds a name, unless it is there: `false` then. Without memory nothing changes.
+    pub fn add(&mut self, id: Identifier) -> Result<bool, AllocError>
+        ensures added { IfOk result (λ new. new ≡ not (is_in self.old id.name)) }
+        ensures ids { OnOk result (self.new ≡ add_name self.old id) }
+        ensures err { OnErr result (self.new ≡ self.old) }
+    {
+        if self.contains(id.name) {
+            return Ok(false);
+        }
+        let key = id.name.folded();
+        self.entries.insert(key, id)?;
+        Ok(true)
+    }
+}

@@ -1,0 +1,315 @@
+//! The tables of a process.
+ghost use Rattle.std.specs.Prelude.{◌≡◌, ◌++◌, [], ℕ, ◌<◌, ◌==◌, if◌then◌else◌, List, map, fold, length, IfOk, IfErr, OnOk, IfSome, IfNone, slice_get, vec_len};
+ghost use Rattle.std.specs.List.{flat_map};
+ghost use Rattle.sdl_tree.specs.Views.{group_of, declaration_of, state_of, input_of, process_of};
+ghost use Rattle.sdl_tables.specs.Names.{variable_names, variables_of, group_variables, declared_variables, named_states, states_of, given_by, names_once, add_name, part_inputs, inputs_by_state, clause_parts, input_parts};
+ghost use Rattle.sdl_tables.specs.Scopes.{Marks, repeats, process_scopes, input_names, IsDouble};
+ghost use Rattle.sdl_tables.specs.Rows.{variable_of, row_input, rows_inputs, stimulus_inputs, rows_at};
+
+use crate::fault::TableFault;
+use crate::name_table::NameTable;
+use crate::scope::{add_names, earlier, index_names};
+use sdl_lex::Name;
+use sdl_tree::{
+    Constant, Declaration, Group, Identifier, InputPart, Process, Sort, StateClause, StatePart,
+    Stimulus,
+};
+use std::alloc::{AllocError, Global};
+use std::marker::Model;
+
+/// A variable of a process: its name as declared, its sort, and the initial value that its group gives it.
+#[derive(Clone, Copy, Debug, PartialEq, Eq)]
+pub struct Variable {
+    pub name: Identifier,
+    pub sort: Sort,
+    pub initial: Option<Constant>,
+}
+
+/// What a state takes: an INPUT, and one of the signals that it names.
+#[derive(Clone, Copy)]
+pub struct InputRow<'a> {
+    pub input: &'a InputPart,
+    pub stimulus: &'a Stimulus,
+}
+
+fn push_group(rows: &mut Vec<Variable>, group: &Group) -> Result<(), AllocError>
+    ensures { OnOk result (map variable_of rows.new.items ≡ map variable_of rows.old.items ++ group_variables (group_of group.now)) }
+{
+    for name in &group.names {
+        rows.push(Variable {
+            name: *name,
+            sort: group.sort,
+            initial: group.initial,
+        })?;
+    }
+    Ok(())
+}
+
+fn push_groups(rows: &mut Vec<Variable>, groups: &[Group]) -> Result<(), AllocError>
+    ensures { OnOk result (map variable_of rows.new.items ≡ map variable_of rows.old.items ++ flat_map group_variables (map group_of groups.now)) }
+{
+    for group in groups {
+        push_group(rows, group)?;
+    }
+    Ok(())
+}
+
+fn collect_variables(
+    alloc: Global,
+    declarations: &[Declaration],
+) -> Result<Vec<Variable>, AllocError>
+    ensures { IfOk result (λ rows. map variable_of rows.items ≡ flat_map declared_variables (map declaration_of declarations.now)) }
+{
+    let mut rows = Vec::new(alloc);
+    for declaration in declarations {
+        match declaration {
+            Declaration::Variables(groups) => push_groups(&mut rows, groups)?,
+        }
+    }
+    Ok(rows)
+}
+
+fn variable_ids(alloc: Global, rows: &[Variable]) -> Result<Vec<Identifier>, AllocError>
+    ensures { IfOk result (λ ids. ids.items ≡ map (λ row. row.name) rows.now) }
+{
+    rows.iter().map(|row| row.name).collect(alloc)
+}
+
+fn collect_states(alloc: Global, parts: &[StatePart]) -> Result<NameTable, AllocError>
+    ensures { IfOk result (λ names. names ≡ names_once (flat_map (λ part. part.names) (map state_of parts.now))) }
+{
+    let mut names = NameTable::new(alloc);
+    for part in parts {
+        add_names(&mut names, &part.names)?;
+    }
+    Ok(names)
+}
+
+fn push_input<'a>(rows: &mut Vec<InputRow<'a>>, input: &'a InputPart) -> Result<(), AllocError>
+    ensures { OnOk result (map row_input rows.new.items ≡ map row_input rows.old.items ++ stimulus_inputs (input_of input.now)) }
+{
+    for stimulus in &input.stimuli {
+        rows.push(InputRow { input, stimulus })?;
+    }
+    Ok(())
+}
+
+fn push_part<'a>(rows: &mut Vec<InputRow<'a>>, part: &'a StatePart) -> Result<(), AllocError>
+    ensures { OnOk result (map row_input rows.new.items ≡ map row_input rows.old.items ++ part_inputs (state_of part.now)) }
+{
+    for clause in &part.clauses {
+        match clause {
+            StateClause::Input(input) => push_input(rows, input)?,
+        }
+    }
+    Ok(())
+}
+
+fn empty_rows<'a>(alloc: Global, count: usize) -> Result<Vec<Vec<InputRow<'a>>>, AllocError>
+    ensures len { IfOk result (λ v. vec_len v ≡ count) }
+    ensures empty { IfOk result (λ v. (s : ℕ) → rows_at v.items s ≡ []) }
+{
+    let mut inputs = Vec::new(alloc);
+    for _i in 0..count {
+        inputs.push(Vec::new(alloc))?;
+    }
+    Ok(inputs)
+}
+
+// Gives the inputs of a part to one state.
+fn push_state<'a>(
+    inputs: &mut Vec<Vec<InputRow<'a>>>,
+    number: usize,
+    part: &'a StatePart,
+) -> Result<(), AllocError>
+    requires { number < vec_len inputs.old }
+    ensures len { OnOk result (vec_len inputs.new ≡ vec_len inputs.old) }
+    ensures rows { OnOk result ((s : ℕ) → rows_at inputs.new.items s
+        ≡ rows_at inputs.old.items s ++ (if number == s then part_inputs (state_of part.now) else [])) }
+{
+    let rows = &mut inputs[number];
+    push_part(rows, part)?;
+    Ok(())
+}
+
+// Gives the inputs of a part to each state that it names.
+fn push_states<'a>(
+    inputs: &mut Vec<Vec<InputRow<'a>>>,
+    states: &NameTable,
+    part: &'a StatePart,
+) -> Result<(), AllocError>
+    requires { vec_len inputs.old ≡ length states.now }
+    ensures len { OnOk result (vec_len inputs.new ≡ vec_len inputs.old) }
+    ensures rows { OnOk result ((s : ℕ) → s < vec_len inputs.old
+        → rows_at inputs.new.items s ≡ rows_at inputs.old.items s ++ given_by states.now s (state_of part.now)) }
+{
+    for id in &part.names {
+        if let Some(number) = states.number(id.name) {
+            push_state(inputs, number, part)?;
+        }
+    }
+    Ok(())
+}
+
+fn collect_inputs<'a>(
+    alloc: Global,
+    process: &'a Process,
+    states: &NameTable,
+) -> Result<Vec<Vec<InputRow<'a>>>, AllocError>
+    requires { states.now ≡ states_of (process_of process.now) }
+    ensures { IfOk result (λ v. map rows_inputs v.items ≡ inputs_by_state (process_of process.now)) }
+{
+    let mut inputs = empty_rows(alloc, states.len())?;
+    for part in &process.states {
+        push_states(&mut inputs, states, part)?;
+    }
+    Ok(inputs)
+}
+
+fn push_parts<'a>(parts: &mut Vec<&'a InputPart>, part: &'a StatePart) -> Result<(), AllocError>
+    ensures { OnOk result (map (λ i. input_of i.now) parts.new.items
+        ≡ map (λ i. input_of i.now) parts.old.items ++ flat_map clause_parts (state_of part.now).clauses) }
+{
+    for clause in &part.clauses {
+        match clause {
+            StateClause::Input(input) => parts.push(input)?,
+        }
+    }
+    Ok(())
+}
+
+fn collect_parts<'a>(
+    alloc: Global,
+    states: &'a [StatePart],
+) -> Result<Vec<&'a InputPart>, AllocError>
+    ensures { IfOk result (λ parts. map (λ i. input_of i.now) parts.items
+        ≡ flat_map (λ part. flat_map clause_parts part.clauses) (map state_of states.now)) }
+{
+    let mut parts: Vec<&'a InputPart> = Vec::new(alloc);
+    for part in states {
+        push_parts(&mut parts, part)?;
+    }
+    Ok(parts)
+}
+
+fn input_ids(alloc: Global, rows: &[InputRow]) -> Result<Vec<Identifier>, AllocError>
+    ensures { IfOk result (λ ids. ids.items ≡ map (λ row. row.stimulus.now.name) rows.now) }
+{
+    rows.iter().map(|row| row.stimulus.name).collect(alloc)
+}
+
+fn input_double(alloc: Global, rows: &[InputRow]) -> Result<Option<u32>, AllocError>
+    ensures { IfOk result (λ double. Marks double (repeats [] (input_names (map row_input rows.now)))) }
+{
+    let names = input_ids(alloc, rows)?;
+    Ok(index_names(alloc, &names)?.double)
+}
+
+fn inputs_double(alloc: Global, inputs: &[Vec<InputRow>]) -> Result<Option<u32>, AllocError>
+    ensures { IfOk result (λ double. Marks double (flat_map (repeats []) (map input_names (map rows_inputs inputs.now)))) }
+{
+    let mut double = None;
+    for rows in inputs {
+        double = earlier(double, input_double(alloc, rows)?);
+    }
+    Ok(double)
+}
+
+/// A process with its tables: its variables and states by name and by number, and the inputs of
+/// each state. Contracts see the process.
+#[derive(Drop)]
+pub struct ProcessTable<'a> {
+    process: &'a Process,
+    variables: NameTable,
+    rows: Vec<Variable>,
+    states: NameTable,
+    inputs: Vec<Vec<InputRow<'a>>>,
+    parts: Vec<&'a InputPart>,
+}
+
+impl<'a> Model for ProcessTable<'a> {
+    ghost use Rattle.sdl_tree.specs.declared.tree.Process as the_process;
+    ghost use Rattle.sdl_tree.specs.contracts.tree.Process as the_contract;
+
+    ghost Value = { the_process.Process };
+
+    ghost coded = { the_contract.the_row.coded };
+
+    ghost use Rattle.sdl_tables.specs.Tables.{HasTables};
+
+    ghost view = { λ t. t.process.now };
+
+    ghost invariant = { HasTables };
+}
+
+impl<'a> ProcessTable<'a> {
+    /// The tables of a process, unless a name is there twice.
+    pub fn new(alloc: Global, process: &'a Process) -> Result<Self, TableFault>
+        ensures table { IfOk result (λ t. t ≡ process.now) }
+        ensures distinct { OnOk result (flat_map (repeats []) (process_scopes (process_of process.now)) ≡ []) }
+        ensures double { IfErr result (λ e. IsDouble e (flat_map (repeats []) (process_scopes (process_of process.now)))) }
+    {
+        let rows = collect_variables(alloc, &process.declarations)?;
+        let names = variable_ids(alloc, &rows)?;
+        let variables = index_names(alloc, &names)?;
+        let states = collect_states(alloc, &process.states)?;
+        let inputs = collect_inputs(alloc, process, &states)?;
+        let parts = collect_parts(alloc, &process.states)?;
+        let double = earlier(variables.double, inputs_double(alloc, &inputs)?);
+        match double {
+            Some(at) => Err(TableFault::DoubleName(at)),
+            None => Ok(ProcessTable {
+                process,
+                variables: variables.names,
+                rows,
+                states,
+                inputs,
+                parts,
+            }),
+        }
+    }
+
+    /// The process.
+    pub fn process(&self) -> &'a Process
+        ensures process { result.now ≡ self.now }
+        ensures distinct { flat_map (repeats []) (process_scopes (process_of self.now)) ≡ [] }
+    {
+        let _ = &self.variables;
+        self.process
+    }
+
+    /// The names of its variables, by number.
+    pub fn variables(&self) -> &NameTable
+        ensures { result.now ≡ variable_names (process_of self.now) }
+    {
+        &self.variables
+    }
+
+    /// Its variables, by number.
+    pub fn rows(&self) -> &[Variable]
+        ensures { map variable_of result.now ≡ variables_of (process_of self.now) }
+    {
+        &self.rows
+    }
+
+    /// The names of its states, by number.
+    pub fn states(&self) -> &NameTable
+        ensures { result.now ≡ states_of (process_of self.now) }
+    {
+        &self.states
+    }
+
+    /// The inputs of each of its states, by number; those of a state in the order of the text.
+    pub fn inputs(&self) -> &[Vec<InputRow<'a>>]
+        ensures { map rows_inputs result.now ≡ inputs_by_state (process_of self.now) }
+    {
+        &self.inputs
+    }
+
+    /// Its INPUTs, each once.
+    pub fn parts(&self) -> &[&'a InputPart]
+        ensures { map (λ i. input_of i.now) result.now ≡ input_parts (process_of self.now) }
+    {
+        &self.parts
+    }
+}

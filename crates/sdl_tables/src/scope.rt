@@ -1,0 +1,60 @@
+//! Names of one scope, and the first that is there twice.
+ghost use Rattle.std.specs.Prelude.{◌≡◌, [], ◌++◌, ◌∷◌, List, ℕ, fold, IfOk, OnOk, if◌then◌else◌};
+ghost use Rattle.sdl_tables.specs.Names.{names_once, add_name};
+ghost use Rattle.sdl_tables.specs.Scopes.{Marks, repeats};
+
+use crate::name_table::NameTable;
+use sdl_tree::Identifier;
+use std::alloc::{AllocError, Global};
+
+/// The names of a scope, and the place of an identifier whose name one before it has.
+#[derive(Drop)]
+pub(crate) struct Scope {
+    pub names: NameTable,
+    pub double: Option<u32>,
+}
+
+/// The first of two places.
+pub fn earlier(one: Option<u32>, other: Option<u32>) -> Option<u32>
+    ensures { (xs ys : List ℕ) → Marks one xs → Marks other ys → Marks result (xs ++ ys) }
+{
+    match (one, other) {
+        (None, place) => place,
+        (place, None) => place,
+        (Some(a), Some(b)) => Some(if a < b { a } else { b }),
+    }
+}
+
+// One identifier more: its place where its name was there, unless there is a place already.
+fn marked(double: Option<u32>, new: bool, at: u32) -> Option<u32>
+    ensures { (xs : List ℕ) → Marks double xs → Marks result (xs ++ (if new then [] else at ∷ [])) }
+{
+    match double {
+        Some(place) => Some(place),
+        None => { if new { None } else { Some(at) } }
+    }
+}
+
+/// The names of a scope, in order.
+pub fn index_names(alloc: Global, ids: &[Identifier]) -> Result<Scope, AllocError>
+    ensures names { IfOk result (λ s. s.names ≡ names_once ids.now) }
+    ensures double { IfOk result (λ s. Marks s.double (repeats [] ids.now)) }
+{
+    let mut names = NameTable::new(alloc);
+    let mut double = None;
+    for id in ids {
+        let new = names.add(*id)?;
+        double = marked(double, new, id.at);
+    }
+    Ok(Scope { names, double })
+}
+
+/// Adds names, each unless it is there.
+pub fn add_names(names: &mut NameTable, ids: &[Identifier]) -> Result<(), AllocError>
+    ensures { OnOk result (names.new ≡ fold add_name names.old ids.now) }
+{
+    for id in ids {
+        names.add(*id)?;
+    }
+    Ok(())
+}
