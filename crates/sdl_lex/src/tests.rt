@@ -115,9 +115,41 @@ fn numbers_and_names(rt: HostRuntime) -> Result<(), Fail> {
 }
 
 #[test]
+fn quoted_texts(rt: HostRuntime) -> Result<(), Fail> {
+    let cases = [
+        ("''", 0, 2),
+        (" 'a''b'", 1, 7),
+        ("''''''", 0, 6),
+        ("'/*\n\u{e9} ? 2147483648''';", 0, 22),
+    ];
+    for (text, start, end) in cases {
+        let found = tokens(rt.alloc(), text)?;
+        let first = found.first().ok_or("no token")?;
+        assert_eq!(rt; first.lexeme, Lexeme::Quoted, "at {text}");
+        assert_eq!(rt; (first.start, first.end), (start, end), "at {text}");
+    }
+    let found = lexemes(rt.alloc(), "TASK 'a' 'b';'it''s /*';/* ' */;")?;
+    let semicolon = Lexeme::Symbol(Symbol::Semicolon);
+    let want = [
+        Lexeme::Word(Word::Task),
+        Lexeme::Quoted,
+        Lexeme::Quoted,
+        semicolon,
+        Lexeme::Quoted,
+        semicolon,
+        semicolon,
+    ];
+    assert_eq!(rt; found.as_slice(), want.as_slice());
+    Ok(())
+}
+
+#[test]
 fn faults(rt: HostRuntime) {
     let cases = [
-        ("x := 'a';", LexFault::BadCharacter(5)),
+        ("x := 'a;", LexFault::OpenComment(5)),
+        ("'''", LexFault::OpenComment(0)),
+        ("'a''' /* ' */ 'b''", LexFault::OpenComment(14)),
+        ("/* ' */ ? '", LexFault::BadCharacter(8)),
         ("x _y", LexFault::BadCharacter(2)),
         ("\u{feff}BLOCK", LexFault::BadCharacter(0)),
         ("a é", LexFault::BadCharacter(2)),
