@@ -17,6 +17,7 @@ fn exceeds(tree: &Expression, limit: u32) -> bool
     }
     match tree {
         Expression::Number { .. } => false,
+        Expression::Truth { .. } => false,
         Expression::Variable { .. } => false,
         Expression::Unary { operand, .. } => exceeds(operand, limit - 1),
         Expression::Binary { left, right, .. } => {

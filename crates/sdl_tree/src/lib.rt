@@ -6,6 +6,7 @@ mod declarations;
 mod expression;
 mod fault;
 mod height;
+mod level;
 mod operands;
 mod operators;
 mod parsing;
