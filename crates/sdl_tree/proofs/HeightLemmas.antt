@@ -6,7 +6,7 @@ use Rattle.sdl_tree.specs.declared.TheConstants.{MAX_HEIGHT}
 use Rattle.sdl_tree.specs.declared.tree.Action.{Action}
 use Rattle.sdl_tree.specs.declared.tree.Action.TheVariants.{Task}
 use Rattle.sdl_tree.specs.declared.tree.End.{End}
-use Rattle.sdl_tree.specs.Plain.{Tree, number, variable, unary, binary, Text, falls, ends, task, PlainClause, input, PlainProcess, PlainEntity, signals, route, process, PlainBlock}
+use Rattle.sdl_tree.specs.Plain.{Tree, number, truth, variable, unary, binary, Text, falls, ends, task, PlainClause, input, PlainProcess, PlainEntity, signals, route, process, PlainBlock}
 use Rattle.sdl_tree.specs.Views.{assignment_of, end_text, actions_text}
 use Rattle.sdl_tree.specs.Heights.{tree_height, highest, assignments_height, text_height, clause_height, state_height, process_height, entity_height, Height, or_first, first_of, high_in_text, high_in_clause, high_in_state, high_in_process, high_in_entity, first_too_high}
 
@@ -78,6 +78,7 @@ above_zero x = by_test (nat_lt 0 (tree_height x)) refl
   where
     at_least : (x : Tree) → 0 < tree_height x
     at_least (number at k) = omega arith
+    at_least (truth at b) = omega arith
     at_least (variable at n) = omega arith
     at_least (unary at o y) = omega arith
     at_least (binary at o y z) = omega arith

@@ -6,7 +6,7 @@ use Rattle.sdl_tree.specs.declared.TheConstants.{MAX_HEIGHT}
 use Rattle.sdl_tree.specs.declared.expression.Identifier.{Identifier}
 use Rattle.sdl_tree.specs.declared.expression.UnaryOperator.{UnaryOperator}
 use Rattle.sdl_tree.specs.declared.expression.BinaryOperator.{BinaryOperator}
-use Rattle.sdl_tree.specs.Plain.{Tree, number, variable, unary, binary, PlainAssignment, Text, falls, ends, task, PlainInput, PlainClause, input, PlainState, PlainProcess, PlainEntity, signals, route, process, PlainBlock}
+use Rattle.sdl_tree.specs.Plain.{Tree, number, truth, variable, unary, binary, PlainAssignment, Text, falls, ends, task, PlainInput, PlainClause, input, PlainState, PlainProcess, PlainEntity, signals, route, process, PlainBlock}
 use Rattle.sdl_tree.specs.Expressions.{placed}
 use Rattle.sdl_tree.specs.Machine.{lowered}
 use Rattle.sdl_tree.specs.Heights.{tree_height, assignments_height, or_first, first_of, high_in_text, high_in_clause, high_in_state, high_in_process, high_in_entity, first_too_high}
@@ -14,6 +14,7 @@ use Rattle.sdl_tree.proofs.Lowering.{lowered_assignment, lowered_text, lowered_i
 
 height-placed : (p : ℕ) (x : Tree) → tree_height (placed p x) ≡ tree_height x
 height-placed p (number at k) = refl
+height-placed p (truth at b) = refl
 height-placed p (variable at n) = refl
 height-placed p (unary at o x) = refl
 height-placed p (binary at o x y) = refl
@@ -88,6 +89,7 @@ keeps_binary at o x y x' y' false false e f k m =
 
 keeps : (x : Tree) → Keeps x (lowered x)
 keeps (number at k) = record { low = λ h. refl; high = λ h. h }
+keeps (truth at b) = record { low = λ h. refl; high = λ h. h }
 keeps (variable at n) = record { low = λ h. refl; high = λ h. h }
 keeps (unary at o x) = keeps_unary at o x (lowered x) (nat_lt MAX_HEIGHT (tree_height (lowered x))) refl (keeps x)
 keeps (binary at o x y) =

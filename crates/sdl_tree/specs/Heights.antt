@@ -5,13 +5,14 @@ use Rattle.sdl_tree.specs.declared.fault.ParseFault.{ParseFault}
 use Rattle.sdl_tree.specs.declared.fault.ParseFault.TheVariants.{Unexpected, TooDeep, NoMemory}
 use Rattle.sdl_tree.specs.declared.tree.Block.{Block}
 use Rattle.sdl_tree.specs.declared.TheConstants.{MAX_HEIGHT}
-use Rattle.sdl_tree.specs.Plain.{Tree, number, variable, unary, binary, PlainAssignment, PlainSending, PlainAction, task, output, set_timer, reset_timer, Text, falls, ends, does, PlainClause, input, save, PlainState, PlainProcess, PlainEntity, signals, route, connect, process, PlainBlock}
+use Rattle.sdl_tree.specs.Plain.{Tree, number, truth, variable, unary, binary, PlainAssignment, PlainSending, PlainAction, task, output, set_timer, reset_timer, Text, falls, ends, does, PlainClause, input, save, PlainState, PlainProcess, PlainEntity, signals, route, connect, process, PlainBlock}
 use Rattle.sdl_tree.specs.Syntax.{Reads}
 use Rattle.sdl_tree.specs.Views.{block_of}
 
 -- 1 for an operand, one more than its highest operand for an operator
 abbrev pub tree_height : Tree → ℕ
 tree_height (number at k) = 1
+tree_height (truth at b) = 1
 tree_height (variable at n) = 1
 tree_height (unary at o x) = tree_height x + 1
 tree_height (binary at o x y) = max (tree_height x) (tree_height y) + 1

@@ -8,6 +8,7 @@ mod endings;
 mod expression;
 mod fault;
 mod height;
+mod level;
 mod operands;
 mod operators;
 mod parsing;

@@ -197,10 +197,11 @@ impl Production for StatePart {
     fn read<'a>(alloc: Global, tokens: &'a [Token]) -> Result<(StatePart, &'a [Token]), Stop<'a>> {
         let (_, rest) = attempt!(word(tokens, Word::State));
         let (name, rest) = attempt!(name(rest));
+        let opened = name.name;
         let (names, rest) = attempt!(read_more::<Identifier>(alloc, name, rest));
         let (_, rest) = attempt!(terminator(rest));
         let (clauses, rest) = attempt!(read_many::<StateClause>(alloc, rest));
-        let (_, rest) = attempt!(read_optional_end_state(rest, name.name));
+        let (_, rest) = attempt!(read_optional_end_state(rest, opened));
         Ok((StatePart { names, clauses }, rest))
     }
 }
