@@ -9,3 +9,4 @@ pub mod LoweredParts
 pub mod HeightLemmas
 pub mod LowHeights
 pub mod ParseLemmas
+pub mod KeptLemmas

@@ -1,7 +1,7 @@
 //! Actions: TASK, OUTPUT, SET and RESET.
-ghost use Rattle.std.specs.Prelude.{◌≡◌, map, Option, IfOk, IfErr};
+ghost use Rattle.std.specs.Prelude.{◌≡◌, ◌++◌, map, Option, OnOk, IfOk, IfErr};
 ghost use Rattle.std.specs.List.{filter_map};
-ghost use Rattle.std.specs.Option.{option_map};
+ghost use Rattle.std.specs.Option.{option_map, option_to_list};
 ghost use Rattle.sdl_lex.specs.declared.lexemes.Word.TheVariants as words;
 ghost use Rattle.sdl_tree.specs.Readings.{optional};
 ghost use Rattle.sdl_tree.specs.Machine.{low_trees, expression_at};
@@ -60,6 +60,17 @@ impl Production for Option<Assignment> {
     }
 }
 
+/// Puts an assignment behind the others; a quoted text leaves nothing.
+fn keep<'a>(assignments: &mut Vec<Assignment>, item: Option<Assignment>) -> Result<(), Stop<'a>>
+    ensures ok { OnOk result (map assignment_of assignments.new.items ≡ map assignment_of assignments.old.items ++ option_to_list (option_map assignment_of item)) }
+    ensures err { IfErr result (λ stop. stop ≡ Stop.NoMemory) }
+{
+    match item {
+        Some(assignment) => push(assignments, assignment),
+        None => Ok(()),
+    }
+}
+
 /// The assignments among the items of a TASK.
 fn kept<'a>(alloc: Global, items: Vec<Option<Assignment>>) -> Result<Vec<Assignment>, Stop<'a>>
     ensures ok { IfOk result (λ v. map assignment_of v.items ≡ filter_map (λ i. i) (map (option_map assignment_of) items.items)) }
@@ -67,9 +78,7 @@ fn kept<'a>(alloc: Global, items: Vec<Option<Assignment>>) -> Result<Vec<Assignm
 {
     let mut assignments = Vec::new(alloc);
     'rows: for item in items {
-        if let Some(assignment) = item {
-            push(&mut assignments, assignment)?;
-        }
+        keep(&mut assignments, item)?;
     }
     Ok(assignments)
 }
