@@ -411,12 +411,15 @@ lead_holds ls l at o (Some earlier) h ts t us e s = tt
 lead_holds ls l at o None h ts t us e s =
     let b = s.2 in
     let n = b.terms_before in
-    let here : n.last ≡ t ∷ us = subst (λ m. LeadBefore m n.last (t ∷ us)) h n.lead_before in
-    (s.0, s.1, record {
-      from = b.from;
-      tests_before = b.tests_before;
-      terms_before = record { mid = n.mid; last = n.last; sum_before = n.sum_before; product_before = n.product_before; lead_before = (t, here, e) };
-    })
+    let here : n.last ≡ t ∷ us = subst (λ m. LeadBefore m n.last (t ∷ us)) h n.lead_before in (
+      s.0,
+      s.1,
+      record {
+        from = b.from;
+        tests_before = b.tests_before;
+        terms_before = record { mid = n.mid; last = n.last; sum_before = n.sum_before; product_before = n.product_before; lead_before = (t, here, e) };
+      },
+    )
 
 nothing_before : (ls : List Frame) (l : Frame) (at : ℕ) (ts : List Token) (t : Token) (us : List Token) → sign t ≡ opens at
     → Stands (wants ls l) ts (t ∷ us) → Stands (wants (l ∷ ls) (empty_frame at)) ts us
@@ -444,48 +447,63 @@ relation_holds ls l x o None h ts t us e s =
     let y = closed_terms whole_trees l.terms x in
     let here : k.last ≡ b.from = subst (λ r. Behind Sum Relations r k.last b.from) h k.relation_before in
     let sum : Sum k.last y (t ∷ us) = subst (λ vs. Sum vs y (t ∷ us)) (sym here) (sum_reads l.terms b.from s.1 (t ∷ us) x b.terms_before s.4) in
-    let left : Sum k.last (closed_relation whole_trees l.tests y) (t ∷ us) = subst (λ r. Sum k.last (joined_to whole_trees r y) (t ∷ us)) (sym h) sum in
-    (s.0, s.2, record {
-      from = us;
-      tests_before = record { mid = k.mid; last = k.last; disjunction_before = k.disjunction_before; conjunction_before = k.conjunction_before; relation_before = (t, left, e) };
-      terms_before = nothing_in_terms us;
-    })
+    let left : Sum k.last (closed_relation whole_trees l.tests y) (t ∷ us) = subst (λ r. Sum k.last (joined_to whole_trees r y) (t ∷ us)) (sym h) sum in (
+      s.0,
+      s.2,
+      record {
+        from = us;
+        tests_before = record { mid = k.mid; last = k.last; disjunction_before = k.disjunction_before; conjunction_before = k.conjunction_before; relation_before = (t, left, e) };
+        terms_before = nothing_in_terms us;
+      },
+    )
 
 join_holds : (level : Level) (o : BinaryOperator) (ls : List Frame) (l : Frame) (x : Tree) (ts : List Token) (t : Token) (us : List Token)
     → between (sign t) ≡ Some (level, o) → Stands (has ls l x) ts (t ∷ us) → TurnHolds (join_turn whole_trees ls l x level o) ts t us
-join_holds Disjunctions o ls l x ts t us e s =
-    (s.0, s.2, record {
-      from = us;
-      tests_before = record { mid = us; last = us; disjunction_before = (t, closed_reads l s.0 s.1 (t ∷ us) x s.3 s.4, e); conjunction_before = refl; relation_before = refl };
-      terms_before = nothing_in_terms us;
-    })
+join_holds Disjunctions o ls l x ts t us e s = (
+  s.0,
+  s.2,
+  record {
+    from = us;
+    tests_before = record { mid = us; last = us; disjunction_before = (t, closed_reads l s.0 s.1 (t ∷ us) x s.3 s.4, e); conjunction_before = refl; relation_before = refl };
+    terms_before = nothing_in_terms us;
+  },
+)
 join_holds Conjunctions o ls l x ts t us e s =
     let b = s.3 in
     let k = b.tests_before in
-    let left = conjunction_reads l.tests s.0 b.from (t ∷ us) _ k (sum_reads l.terms b.from s.1 (t ∷ us) x b.terms_before s.4) in
-    (s.0, s.2, record {
-      from = us;
-      tests_before = record { mid = k.mid; last = us; disjunction_before = k.disjunction_before; conjunction_before = (t, left, e); relation_before = refl };
-      terms_before = nothing_in_terms us;
-    })
+    let left = conjunction_reads l.tests s.0 b.from (t ∷ us) _ k (sum_reads l.terms b.from s.1 (t ∷ us) x b.terms_before s.4) in (
+      s.0,
+      s.2,
+      record {
+        from = us;
+        tests_before = record { mid = k.mid; last = us; disjunction_before = k.disjunction_before; conjunction_before = (t, left, e); relation_before = refl };
+        terms_before = nothing_in_terms us;
+      },
+    )
 join_holds Relations o ls l x ts t us e s = relation_holds ls l x o l.tests.relation refl ts t us e s
 join_holds Sums o ls l x ts t us e s =
     let b = s.3 in
-    let left = sum_reads l.terms b.from s.1 (t ∷ us) x b.terms_before s.4 in
-    (s.0, s.2, record {
-      from = b.from;
-      tests_before = b.tests_before;
-      terms_before = record { mid = us; last = us; sum_before = (t, left, e); product_before = refl; lead_before = refl };
-    })
+    let left = sum_reads l.terms b.from s.1 (t ∷ us) x b.terms_before s.4 in (
+      s.0,
+      s.2,
+      record {
+        from = b.from;
+        tests_before = b.tests_before;
+        terms_before = record { mid = us; last = us; sum_before = (t, left, e); product_before = refl; lead_before = refl };
+      },
+    )
 join_holds Products o ls l x ts t us e s =
     let b = s.3 in
     let n = b.terms_before in
-    let left = product_reads l.terms b.from s.1 (t ∷ us) x n s.4 in
-    (s.0, s.2, record {
-      from = b.from;
-      tests_before = b.tests_before;
-      terms_before = record { mid = n.mid; last = us; sum_before = n.sum_before; product_before = (t, left, e); lead_before = refl };
-    })
+    let left = product_reads l.terms b.from s.1 (t ∷ us) x n s.4 in (
+      s.0,
+      s.2,
+      record {
+        from = b.from;
+        tests_before = b.tests_before;
+        terms_before = record { mid = n.mid; last = us; sum_before = n.sum_before; product_before = (t, left, e); lead_before = refl };
+      },
+    )
 
 close_holds : (ls : List Frame) (l : Frame) (x : Tree) (ts : List Token) (t : Token) (us : List Token) → sign t ≡ closes
     → Stands (has ls l x) ts (t ∷ us) → TurnHolds (close_turn whole_trees ls l x) ts t us

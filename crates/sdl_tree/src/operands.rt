@@ -2,8 +2,9 @@
 //! each level of precedence, so that no depth of parentheses needs more than room on the heap.
 ghost use Rattle.std.specs.Prelude.{◌≡◌, ◌<◌, IfOk, length, map, reverse, List, [], ◌∷◌};
 ghost use Rattle.sdl_tree.specs.Expressions.{symbol_sign, word_sign, lexeme_sign};
-ghost use Rattle.sdl_tree.specs.Machine.{wants, no_terms, empty_frame, low_trees, closed_terms, closed_tests, closed, with_product, with_sum, with_relation, with_conjunction, with_disjunction, with_operator, bars, turn, want_turn, lead_turn, join_turn, have_turn, close_turn, end_turn, run, expression_at};
+ghost use Rattle.sdl_tree.specs.Machine.{wants, led_by, joined_to, no_terms, empty_frame, low_trees, closed_terms, closed_tests, closed, with_product, with_sum, with_relation, with_conjunction, with_disjunction, with_operator, bars, turn, want_turn, lead_turn, join_turn, have_turn, close_turn, end_turn, run, expression_at};
 ghost use Rattle.sdl_tree.specs.Mirrors.{Mirrors};
+ghost use Rattle.sdl_tree.specs.Parts.{slot_view};
 ghost use Rattle.sdl_tree.specs.Stacks.{terms_view, tests_view, frame_view, stack_view, state_view, turn_view, sign_view, next_sign, Advances};
 ghost use Rattle.sdl_tree.specs.Views.{tree_of};
 
@@ -174,13 +175,25 @@ fn start(alloc: Global) -> State
     }
 }
 
+/// What stands inside a product, closed behind an operand.
+fn close_product(
+    alloc: Global,
+    product: Option<(Part, BinaryOperator)>,
+    lead: Option<(u32, UnaryOperator)>,
+    operand: Part,
+) -> Result<Part, AllocError>
+    ensures { IfOk result (λ p. tree_of p.tree ≡ joined_to low_trees (slot_view product) (led_by low_trees lead (tree_of operand.tree))) }
+{
+    let factor = led_by(alloc, lead, operand)?;
+    joined_to(alloc, product, factor)
+}
+
 /// What stands inside a sum, closed behind an operand.
 fn close_terms(alloc: Global, terms: Terms, operand: Part) -> Result<Part, AllocError>
     ensures { IfOk result (λ p. tree_of p.tree ≡ closed_terms low_trees (terms_view terms) (tree_of operand.tree)) }
 {
     let Terms { sum, product, lead } = terms;
-    let last = led_by(alloc, lead, operand)?;
-    let last = joined_to(alloc, product, last)?;
+    let last = close_product(alloc, product, lead, operand)?;
     joined_to(alloc, sum, last)
 }
 
@@ -220,8 +233,7 @@ fn with_product(
     ensures { IfOk result (λ t. terms_view t ≡ with_product low_trees operator (terms_view terms) (tree_of operand.tree)) }
 {
     let Terms { sum, product, lead } = terms;
-    let last = led_by(alloc, lead, operand)?;
-    let last = joined_to(alloc, product, last)?;
+    let last = close_product(alloc, product, lead, operand)?;
     Ok(Terms {
         sum,
         product: Some((last, operator)),

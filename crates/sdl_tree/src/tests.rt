@@ -43,22 +43,62 @@ fn fault_of(alloc: Global, value: &str) -> Result<Option<ParseFault>, Fail> {
     Ok(read(alloc, text.as_str())?.err())
 }
 
-/// The expression that the first TASK of a text assigns, as `Debug` shows it.
-fn shown_value(alloc: Global, value: &str) -> Result<String, Fail> {
-    let text = text_with(alloc, "", value, "", 0)?;
-    let block = read(alloc, text.as_str())?.ok().ok_or("a tree")?;
+/// The expression that the first TASK of a START assigns.
+fn first_value(block: &Block) -> Option<&Expression> {
     for entity in &block.entities {
         if let Entity::Process(process) = entity {
             for action in &process.start.transition.actions {
                 let Action::Task(task) = action;
                 for assignment in &task.assignments {
-                    let value: &Expression = &assignment.value;
-                    return Ok(format!(in alloc; "{value:?}")?);
+                    return Some(&assignment.value);
                 }
             }
         }
     }
-    Err(Fail::from("no value"))
+    None
+}
+
+/// The expression that a text with one TASK assigns, as `Debug` shows it.
+fn shown_value(alloc: Global, value: &str) -> Result<String, Fail> {
+    let text = text_with(alloc, "", value, "", 0)?;
+    let block = read(alloc, text.as_str())?.ok().ok_or("a tree")?;
+    let tree = first_value(&block).ok_or("a value")?;
+    Ok(format!(in alloc; "{tree:?}")?)
+}
+
+/// An expression with a pair of parentheses for each operator.
+fn grouped(alloc: Global, tree: &Expression) -> Result<String, AllocError> {
+    match tree {
+        Expression::Number { value, .. } => format!(in alloc; "{value}"),
+        Expression::Truth { value, .. } => format!(in alloc; "{value}"),
+        Expression::Variable { name, .. } => format!(in alloc; "{}", name.name.as_str()),
+        Expression::Unary {
+            operator,
+            operand,
+            ..
+        } => {
+            let inner = grouped(alloc, operand)?;
+            format!(in alloc; "({operator:?} {})", inner.as_str())
+        }
+        Expression::Binary {
+            operator,
+            left,
+            right,
+            ..
+        } => {
+            let left = grouped(alloc, left)?;
+            let right = grouped(alloc, right)?;
+            format!(in alloc; "({} {operator:?} {})", left.as_str(), right.as_str())
+        }
+    }
+}
+
+/// The expression that a text with one TASK assigns, with its groups.
+fn grouped_value(alloc: Global, value: &str) -> Result<String, Fail> {
+    let text = text_with(alloc, "", value, "", 0)?;
+    let block = read(alloc, text.as_str())?.ok().ok_or("a tree")?;
+    let tree = first_value(&block).ok_or("a value")?;
+    Ok(grouped(alloc, tree)?)
 }
 
 #[test]
@@ -108,14 +148,31 @@ fn each_shorter_list_ends_too_early(rt: HostRuntime) -> Result<(), Fail> {
 }
 
 #[test]
-fn groups_to_the_left(rt: HostRuntime) -> Result<(), Fail> {
-    let shown = shown_value(rt.alloc(), "1 - 2 - 3 * 4")?;
-    assert_eq!(rt;
-        shown.as_str(),
-        "Binary { at: 37, operator: Subtract, \
-left: Binary { at: 37, operator: Subtract, left: Number { at: 37, value: 1 }, right: Number { at: 41, value: 2 } }, \
-right: Binary { at: 45, operator: Multiply, left: Number { at: 45, value: 3 }, right: Number { at: 49, value: 4 } } }"
-    );
+fn groups_as_operators_bind(rt: HostRuntime) -> Result<(), Fail> {
+    let rows = [
+        (
+            "a OR b AND NOT c = d + e * -f",
+            "(a Or (b And ((Not c) Equal (d Add (e Multiply (Negate f))))))",
+        ),
+        (
+            "a * b + c < d AND TRUE XOR FALSE",
+            "(((((a Multiply b) Add c) Less d) And true) Xor false)",
+        ),
+        ("a OR b XOR c OR d", "(((a Or b) Xor c) Or d)"),
+        ("1 - 2 - 3 + 4", "(((1 Subtract 2) Subtract 3) Add 4)"),
+        (
+            "a / b MOD c REM d * e",
+            "((((a Divide b) Modulo c) Remainder d) Multiply e)",
+        ),
+        (
+            "a >= b AND c <= d AND (e > f) /= (g = h)",
+            "(((a GreaterEqual b) And (c LessEqual d)) And ((e Greater f) NotEqual (g Equal h)))",
+        ),
+    ];
+    for (text, wanted) in rows {
+        let found = grouped_value(rt.alloc(), text)?;
+        assert_eq!(rt; found.as_str(), wanted);
+    }
     Ok(())
 }
 
@@ -126,6 +183,11 @@ fn keeps_the_place_of_a_parenthesis(rt: HostRuntime) -> Result<(), Fail> {
         shown.as_str(),
         "Unary { at: 37, operator: Negate, \
 operand: Binary { at: 38, operator: Add, left: Number { at: 39, value: 1 }, right: Number { at: 45, value: 2 } } }"
+    );
+    let shown = shown_value(rt.alloc(), "NOT (TRUE)")?;
+    assert_eq!(rt;
+        shown.as_str(),
+        "Unary { at: 37, operator: Not, operand: Truth { at: 41, value: true } }"
     );
     Ok(())
 }
@@ -171,23 +233,24 @@ fn what_reads_not_is_unexpected_however_deep(rt: HostRuntime) -> Result<(), Fail
 
 #[test]
 fn refuses_what_the_grammar_has_not(rt: HostRuntime) -> Result<(), Fail> {
-    assert_eq!(rt; fault_of(rt.alloc(), "1")?, None);
-    assert_eq!(rt;
-        fault_of(rt.alloc(), "- - 1")?,
-        Some(ParseFault::Unexpected(12))
-    );
-    assert_eq!(rt;
-        fault_of(rt.alloc(), "1 / 1")?,
-        Some(ParseFault::Unexpected(12))
-    );
-    assert_eq!(rt;
-        fault_of(rt.alloc(), "1)")?,
-        Some(ParseFault::Unexpected(12))
-    );
-    assert_eq!(rt;
-        fault_of(rt.alloc(), "1; TASK y := (2 3)")?,
-        Some(ParseFault::Unexpected(18))
-    );
+    let rows = [
+        ("- - 1", 12),
+        ("NOT NOT b", 12),
+        ("- NOT b", 12),
+        ("a NOT b", 12),
+        ("a AND OR b", 13),
+        ("a = b = c", 14),
+        ("a < b + c /= d", 16),
+        ("1)", 12),
+        ("1; TASK y := (2 3)", 18),
+    ];
+    for (value, at) in rows {
+        assert_eq!(rt;
+            fault_of(rt.alloc(), value)?,
+            Some(ParseFault::Unexpected(at))
+        );
+    }
+    assert_eq!(rt; fault_of(rt.alloc(), "1 / 1")?, None);
     Ok(())
 }
 
