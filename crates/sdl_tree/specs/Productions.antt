@@ -303,4 +303,3 @@ block_at e = do
   _ ← token (a_word words.EndBlock)
   _ ← closing_at name.name
   give (record { name = name; entities = entities })
-
