@@ -2,7 +2,7 @@
 use Rattle.std.proofs.Common.{◌≡◌, ◌≢◌, ℕ, zero, suc, ◌+◌, ◌-◌, ◌<◌, ◌≤◌, max, List, [], ◌∷◌, ◌++◌, length, map, take, drop, reverse, Option, Some, None, refl, sym, ap, ◌∙◌, subst, arith, take_all, le-add_right, le_refl}
 use Rattle.std.specs.Prelude.{slice_get, slice_set, slice_index_or, Contains, All}
 use Rattle.std.specs.List.{AllZip, refill}
-use Rattle.std.proofs.lemmas.List.{take-append-le, take-append-drop, length-drop, length-reverse, reverse-append, reverse-reverse}
+use Rattle.std.proofs.lemmas.List.{take-append-le, take-append-drop, length-append, length-drop, length-reverse, reverse-append, reverse-reverse}
 use Rattle.std.proofs.Common.{length-set}
 
 -- an element below the length
@@ -61,6 +61,35 @@ get_map f (x ∷ xs) (suc k) a h = get_map f xs k a h
 pub map_length : {A B : Type 0} (f : A → B) (xs : List A) → length (map f xs) ≡ length xs
 map_length f [] = refl
 map_length f (x ∷ xs) = ap suc (map_length f xs)
+
+pub map_drop : {A B : Type 0} (f : A → B) (n : ℕ) (xs : List A) → map f (drop n xs) ≡ drop n (map f xs)
+map_drop f zero xs = refl
+map_drop f (suc n) [] = refl
+map_drop f (suc n) (x ∷ xs) = map_drop f n xs
+
+pub one_more : {A : Type 0} (xs : List A) (x : A) → length (xs ++ x ∷ []) ≡ length xs + 1
+one_more xs x = length-append xs (x ∷ [])
+
+pub at_place : {A : Type 0} (xs : List A) (k : ℕ) (a : A) → slice_get xs k ≡ Some a → Contains xs a
+at_place [] k a h = cc
+at_place (x ∷ xs) zero a h = (0, omega arith, cc)
+at_place (x ∷ xs) (suc k) a h =
+    let r = at_place xs k a h in
+    (suc r.0, omega (arith, r.1), r.2)
+
+-- an element of two lists one behind the other
+pub in_first : {A : Type 0} (xs ys : List A) (x : A) → Contains xs x → Contains (xs ++ ys) x
+in_first [] ys x c = absurd (omega (arith, c.1))
+in_first (y ∷ xs) ys x (zero, h, e) = (0, omega arith, e)
+in_first (y ∷ xs) ys x (suc i, h, e) =
+    let r = in_first xs ys x (i, omega (arith, h), e) in
+    (suc r.0, omega (arith, r.1), r.2)
+
+pub in_second : {A : Type 0} (xs ys : List A) (x : A) → Contains ys x → Contains (xs ++ ys) x
+in_second [] ys x c = c
+in_second (y ∷ xs) ys x c =
+    let r = in_second xs ys x c in
+    (suc r.0, omega (arith, r.1), r.2)
 
 -- the one element of a list
 pub only : {A : Type 0} (P : A → Type 0) (a : A) → All P (a ∷ []) → P a
