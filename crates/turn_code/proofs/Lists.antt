@@ -1,6 +1,6 @@
 -- Lists, place by place.
-use Rattle.std.proofs.Common.{◌≡◌, ◌≢◌, ℕ, zero, suc, ◌+◌, ◌-◌, ◌<◌, ◌≤◌, max, List, [], ◌∷◌, ◌++◌, length, map, take, drop, reverse, Option, Some, None, refl, sym, ap, ◌∙◌, subst, arith, take_all, le-add_right, le_refl}
-use Rattle.std.specs.Prelude.{slice_get, slice_set, slice_index_or, Contains, All}
+use Rattle.std.proofs.Common.{◌≡◌, ◌≢◌, ℕ, zero, suc, ◌+◌, ◌-◌, ◌<◌, ◌≤◌, List, [], ◌∷◌, ◌++◌, length, map, take, drop, reverse, Some, refl, sym, ap, ◌∙◌, subst, arith, take_all}
+use Rattle.std.specs.Prelude.{slice_get, slice_set, Contains, All}
 use Rattle.std.specs.List.{AllZip, refill}
 use Rattle.std.proofs.lemmas.List.{take-append-le, take-append-drop, length-append, length-drop, length-reverse, reverse-append, reverse-reverse}
 use Rattle.std.proofs.Common.{length-set}

@@ -1,9 +1,9 @@
 -- The counts of a valid transition are those of its longest paths.
-use Rattle.std.proofs.Common.{◌≡◌, ℕ, zero, suc, ◌+◌, ◌-◌, ◌<◌, ◌≤◌, ◌⊎◌, List, [], ◌∷◌, length, map, Option, Some, None, refl, sym, ap, ◌∙◌, subst, arith, ⊎_elim}
+use Rattle.std.proofs.Common.{◌≡◌, ℕ, zero, suc, ◌+◌, ◌<◌, ◌≤◌, List, [], ◌∷◌, length, map, Some, refl, sym, subst, arith, ⊎_elim}
 use Rattle.std.specs.Prelude.{slice_get, Contains}
 use Rattle.std.proofs.Math.Nat.{eq-or-lt_of_le}
-use Rattle.turn_code.proofs.Lists.{map_length, first_of}
-use Rattle.turn_code.proofs.Greatest.{greatest_has, Attained, attained, IsIn, long_enough, in_map}
+use Rattle.turn_code.proofs.Lists.{map_length}
+use Rattle.turn_code.proofs.Greatest.{attained, IsIn, long_enough, in_map}
 use Rattle.turn_code.proofs.SafeRuns.{facts_at, code_at, next_at, count_above, effects_above}
 use Rattle.turn_code.specs.Code.{successors, effects_of}
 use Rattle.turn_code.specs.Transitions.{Transition}

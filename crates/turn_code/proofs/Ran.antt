@@ -1,9 +1,8 @@
 -- A safe run ends, and its count says how many instructions it took.
-use Rattle.std.proofs.Common.{◌≡◌, ℕ, zero, suc, ◌+◌, ◌-◌, ◌<◌, ◌≤◌, ℤ, pos, ◌+ℤ◌, ◌-ℤ◌, ◌*ℤ◌, neg_ℤ, Bool as Truth, true, false, not, ◌&&◌, ◌||◌, if◌then◌else◌, List, [], ◌∷◌, length, take, drop, reverse, Option, Some, None, refl, sym, ap, ◌∙◌, subst, arith}
-use Rattle.std.specs.Prelude.{slice_get, int_lt, int_div, int_rem, nat_le}
-use Rattle.std.specs.Int.{int_rem_euclid}
-use Rattle.turn_code.specs.Values.{wrap, holds, is_between, differ}
-use Rattle.turn_code.specs.Run.{Progress, After, goes, ends, stuck, loaded, stored, given, on_top, on_integer, on_boolean, on_integers, on_booleans, on_operands, sent, party_of, with_effect, act, act_if, step, tick, Ran, ended, got_stuck, unfinished, go_on, exec, CountIs}
+use Rattle.std.proofs.Common.{◌≡◌, ℕ, zero, suc, ◌+◌, ◌≤◌, ℤ, pos, Bool as Truth, true, false, if◌then◌else◌, List, [], ◌∷◌, length, take, drop, reverse, Option, Some, None, refl, arith}
+use Rattle.std.specs.Prelude.{slice_get, int_lt, nat_le}
+use Rattle.turn_code.specs.Values.{holds, is_between}
+use Rattle.turn_code.specs.Run.{Progress, After, goes, ends, stuck, loaded, stored, given, on_top, on_integer, on_boolean, on_integers, on_booleans, on_operands, sent, party_of, act, act_if, step, tick, Ran, ended, go_on, exec, CountIs}
 use Rattle.turn_code.specs.Transitions.{Transition}
 use Rattle.turn_code.specs.Safe.{EndsWell, IsSafeAfter, IsSafe}
 use Rattle.turn_code.specs.declared.value.Value.{Value}

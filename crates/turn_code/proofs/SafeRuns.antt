@@ -1,18 +1,18 @@
 -- A valid transition never gets stuck on an input that fits it.
-use Rattle.std.proofs.Common.{◌≡◌, ℕ, zero, suc, ◌+◌, ◌-◌, ◌<◌, ◌≤◌, ◌⊎◌, inl, inr, List, [], ◌∷◌, length, map, Option, Some, None, refl, sym, ap, ◌∙◌, subst, ⊎_elim, arith}
-use Rattle.std.specs.Prelude.{slice_get, Contains, All}
+use Rattle.std.proofs.Common.{◌≡◌, ℕ, zero, suc, ◌+◌, ◌<◌, ◌≤◌, inl, inr, List, [], length, map, Option, Some, None, refl, sym, ap, ◌∙◌, subst, arith}
+use Rattle.std.specs.Prelude.{slice_get, Contains}
 use Rattle.turn_code.proofs.Lists.{there, within, map_length, first_of, at_place, in_first, in_second}
 use Rattle.turn_code.proofs.Greatest.{all_contains, greatest_has, greatest_in}
-use Rattle.turn_code.proofs.Stands.{IsSent, Before, IsWay, Goes, Over, IsIn, IsFine, act_fine}
+use Rattle.turn_code.proofs.Stands.{IsSent, Before, IsWay, Goes, IsIn, IsFine, act_fine}
 use Rattle.turn_code.specs.Values.{sort_of}
 use Rattle.turn_code.specs.Sets.{IsWithin}
-use Rattle.turn_code.specs.Run.{Progress, After, goes, ends, stuck, party_of, act, act_if, step, tick, begun}
-use Rattle.turn_code.specs.Code.{takes, shape_left, shape_after, set_after, states_in, jumps, behind, successors, effects_of, sends}
-use Rattle.turn_code.specs.Transitions.{Transition, parameters_of}
+use Rattle.turn_code.specs.Run.{Progress, After, goes, ends, stuck, party_of, act, act_if, tick, begun}
+use Rattle.turn_code.specs.Code.{takes, set_after, states_in, jumps, behind, successors, effects_of, sends}
+use Rattle.turn_code.specs.Transitions.{Transition}
 use Rattle.turn_code.specs.Rules.{Agree, KeepsOutput, KeepsPieceLimits, KeepsSetLimits, ReachesReceiver, greatest, count_in, effects_in, counts_at, effects_at, depths}
 use Rattle.turn_code.specs.Valid.{IsValidTransition}
 use Rattle.turn_code.specs.Fits.{HaveSorts, AreSet, IsBrought, FitsTransition}
-use Rattle.turn_code.specs.Safe.{IsReady, EndIsReady, EndsWell, IsSafeAfter, IsSafe, SendsFew}
+use Rattle.turn_code.specs.Safe.{EndIsReady, IsSafeAfter, IsSafe, SendsFew}
 use Rattle.turn_code.specs.declared.value.Sort.{Sort}
 use Rattle.turn_code.specs.declared.value.Value.{Value}
 use Rattle.turn_code.specs.declared.instruction.Receiver.{Receiver}

@@ -1,4 +1,4 @@
-use Rattle.std.proofs.Common.{ℕ, [], arith}
+use Rattle.std.proofs.Common.{[], arith}
 use Rattle.turn_code.proofs.SafeRuns.{safe_at_start}
 use Rattle.turn_code.proofs.Ran.{ran}
 use Rattle.turn_code.proofs.Longest.{budget_small}
