@@ -8,7 +8,7 @@ use Rattle.turn_code.specs.declared.draft.DraftState.{DraftState}
 use Rattle.turn_code.specs.declared.draft.DraftInput.{DraftInput}
 use Rattle.turn_code.specs.declared.draft.DraftVariable.{DraftVariable}
 use Rattle.turn_code.specs.declared.draft.Trigger.{Trigger}
-use Rattle.turn_code.specs.declared.draft.Trigger.TheVariants.{Signal}
+use Rattle.turn_code.specs.declared.draft.Trigger.TheVariants.{Signal, Timer}
 
 abbrev pub states_of : Option DraftProcess → List DraftState
 states_of None = []
@@ -32,6 +32,21 @@ variables_at d p = variables_of (slice_get d.processes p)
 abbrev pub inputs_at : Draft → ℕ → ℕ → List DraftInput
 inputs_at d p q = inputs_of (slice_get (states_at d p) q)
 
+abbrev pub timers_of : Option DraftProcess → List (List ℕ)
+timers_of None = []
+timers_of (Some p) = p.timers
+
+abbrev pub saves_of : Option DraftState → List Trigger
+saves_of None = []
+saves_of (Some q) = q.saves
+
+-- the names of the timers of a process, and what a state saves, none where there is no such process or state
+abbrev pub timer_names : Draft → ℕ → List (List ℕ)
+timer_names d p = timers_of (slice_get d.processes p)
+
+abbrev pub saves_at : Draft → ℕ → ℕ → List Trigger
+saves_at d p q = saves_of (slice_get (states_at d p) q)
+
 abbrev pub process_names : Draft → List (List ℕ)
 process_names d = map (λ (p : DraftProcess). p.name) d.processes
 
@@ -48,10 +63,11 @@ state_names d p = map (λ (q : DraftState). q.name) (states_at d p)
 abbrev pub trigger_at : Draft → ℕ → ℕ → ℕ → Option Trigger
 trigger_at d p q i = option_map (λ (x : DraftInput). x.trigger) (slice_get (inputs_at d p q) i)
 
--- the name of the signal that is waited for
-abbrev pub trigger_name : Draft → Option Trigger → Option (List ℕ)
-trigger_name d None = None
-trigger_name d (Some (Signal n)) = slice_get (signal_names d) n.0
+-- the name of the signal, or of the timer of process p, that is waited for
+abbrev pub trigger_name : Draft → ℕ → Option Trigger → Option (List ℕ)
+trigger_name d p None = None
+trigger_name d p (Some (Signal n)) = slice_get (signal_names d) n.0
+trigger_name d p (Some (Timer n)) = slice_get (timer_names d p) n.0
 
 -- the two names differ in the case of letters alone
 abbrev pub SameName : List ℕ → List ℕ → Type 0

@@ -1,17 +1,17 @@
 //! The rules of a transition as it begins, and of a whole piece.
 
-ghost use Rattle.std.specs.Prelude.{◌≡◌, ◌<◌, ◌↔◌, length, All, IsTrue, IfOk, IfErr, slice_get};
+ghost use Rattle.std.specs.Prelude.{◌≡◌, None, ◌<◌, ◌↔◌, length, All, IsTrue, IfOk, IfErr, slice_get};
 ghost use Rattle.turn_code.specs.declared.draft.Draft.{Draft};
 ghost use Rattle.turn_code.specs.declared.draft.PlaceFacts.{PlaceFacts};
-ghost use Rattle.turn_code.specs.Rules.{StartsRight, HasTrigger, KeepsProcessLimits, KeepsPieceLimits, KeepsCertificate, greatest, depths};
+ghost use Rattle.turn_code.specs.Rules.{StartsRight, HasTrigger, HasSaves, IsThere, KeepsProcessLimits, KeepsPieceLimits, KeepsCertificate, greatest, depths};
 ghost use Rattle.turn_check.specs.Seen.{seen};
 ghost use Rattle.turn_check.specs.Parts.{Entry, AllEntries, FirstPlace, HasShapes, LimitsEntry};
 
 use crate::places::counts_in;
 use crate::transition::Transition;
 use turn_code::{
-    Draft, DraftPiece, DraftProcess, DraftSignal, DraftVariable, PlaceFacts, Rule, Trigger,
-    VariableSet,
+    Draft, DraftPiece, DraftProcess, DraftSignal, DraftState, DraftVariable, PlaceFacts, Rule,
+    Trigger, VariableSet,
 };
 
 /// The first rule that is broken by a transition as a whole.
@@ -22,7 +22,7 @@ pub(crate) fn check_entry(draft: &Draft, transition: &Transition<'_>) -> Result<
     if !keeps_limits(transition) {
         return Err(Rule::Limit);
     }
-    if !has_trigger(draft.signals.as_slice(), transition.trigger) {
+    if !has_names(draft.signals.as_slice(), transition) {
         return Err(Rule::Number);
     }
     if !starts_right(transition) {
@@ -113,17 +113,51 @@ fn piece_keeps_limits(piece: &DraftPiece) -> bool
 pub(crate) fn process_keeps_limits(process: &DraftProcess) -> bool
     ensures { IsTrue result ↔ KeepsProcessLimits process.now }
 {
-    process.states.len() <= 64 && process.variables.len() <= 32
+    process.states.len() <= 64 && process.variables.len() <= 32 && process.timers.len() <= 8
 }
 
-/// Whether what a transition waits for is there.
-fn has_trigger(signals: &[DraftSignal], trigger: Option<Trigger>) -> bool
-    ensures { IsTrue result ↔ HasTrigger signals.now trigger }
+/// Whether what a transition waits for is there, and at START what the states of its process save.
+fn has_names(signals: &[DraftSignal], transition: &Transition<'_>) -> bool
+    ensures { IsTrue result ↔ ((HasTrigger signals.now transition.now.process.now transition.now.trigger)
+        × (transition.now.trigger ≡ None → All (HasSaves signals.now transition.now.process.now) transition.now.process.now.states)) }
+{
+    match transition.trigger {
+        Some(trigger) => is_there(signals, transition.process, trigger),
+        None => have_saves(signals, transition.process, transition.process.states.as_slice()),
+    }
+}
+
+/// Whether a signal, or a timer of a process, is there.
+fn is_there(signals: &[DraftSignal], process: &DraftProcess, trigger: Trigger) -> bool
+    ensures { IsTrue result ↔ IsThere signals.now process.now trigger }
 {
     match trigger {
-        Some(Trigger::Signal(signal)) => usize::from(signal.0) < signals.len(),
-        None => true,
+        Trigger::Signal(signal) => usize::from(signal.0) < signals.len(),
+        Trigger::Timer(timer) => usize::from(timer.0) < process.timers.len(),
     }
+}
+
+/// Whether what each of these states saves is there.
+fn have_saves(signals: &[DraftSignal], process: &DraftProcess, states: &[DraftState]) -> bool
+    ensures { IsTrue result ↔ All (HasSaves signals.now process.now) states.now }
+{
+    for state in states {
+        if !all_there(signals, process, state.saves.as_slice()) {
+            return false;
+        }
+    }
+    true
+}
+
+fn all_there(signals: &[DraftSignal], process: &DraftProcess, triggers: &[Trigger]) -> bool
+    ensures { IsTrue result ↔ All (IsThere signals.now process.now) triggers.now }
+{
+    for trigger in triggers {
+        if !is_there(signals, process, *trigger) {
+            return false;
+        }
+    }
+    true
 }
 
 /// Whether at START each initial value has its variable's sort.

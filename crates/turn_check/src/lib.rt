@@ -6,6 +6,7 @@ mod fault;
 mod names;
 mod numbers;
 mod places;
+mod routes;
 mod tables;
 mod transition;
 mod verified;

@@ -1,12 +1,12 @@
 //! The names and numbers of a valid set.
 
 ghost use Rattle.std.specs.Prelude.{◌≡◌, length, option_copied, slice_get};
-ghost use Rattle.turn_check.specs.Named.{states_at, variables_at, inputs_at, process_names, signal_names, variable_names, state_names, trigger_at, trigger_name};
+ghost use Rattle.turn_check.specs.Named.{states_at, timer_names, saves_at, variables_at, inputs_at, process_names, signal_names, variable_names, state_names, trigger_at, trigger_name};
 
 use crate::verified::Verified;
 use turn_code::{
-    DraftInput, DraftState, DraftVariable, Name, ProcessNumber, SignalNumber, StateNumber, Trigger,
-    VariableNumber,
+    DraftInput, DraftState, DraftVariable, Name, ProcessNumber, SignalNumber, StateNumber,
+    TimerNumber, Trigger, VariableNumber,
 };
 
 impl Verified {
@@ -90,7 +90,45 @@ impl Verified {
         }
     }
 
-    /// What an input of a state waits for; an input is called as its signal.
+    /// The number of timers of a process, 0 where there is no such process.
+    pub fn timer_count(&self, process: ProcessNumber) -> usize
+        ensures { result ≡ length (timer_names self.now process.0) }
+    {
+        self.timers(process).len()
+    }
+
+    /// The name of a timer of a process.
+    pub fn timer_name(&self, process: ProcessNumber, timer: TimerNumber) -> Option<&Name>
+        ensures { option_copied result ≡ slice_get (timer_names self.now process.0) timer.0 }
+    {
+        self.timers(process).get(usize::from(timer.0))
+    }
+
+    /// What a state saves, in text order.
+    pub fn saves(&self, process: ProcessNumber, state: StateNumber) -> &[Trigger]
+        ensures { result.now ≡ saves_at self.now process.0 state.0 }
+    {
+        match self.states(process).get(usize::from(state.0)) {
+            Some(state) => state.saves.as_slice(),
+            None => &[],
+        }
+    }
+
+    fn timers(&self, process: ProcessNumber) -> &[Name]
+        ensures { result.now ≡ timer_names self.now process.0 }
+    {
+        match self
+            .draft()
+            .processes
+            .as_slice()
+            .get(usize::from(process.0))
+        {
+            Some(process) => process.timers.as_slice(),
+            None => &[],
+        }
+    }
+
+    /// What an input of a state waits for; an input is called as its signal or timer.
     pub fn trigger(
         &self,
         process: ProcessNumber,
@@ -105,17 +143,18 @@ impl Verified {
         }
     }
 
-    /// The name of the signal that an input of a state waits for. None where there is no such input.
+    /// The name of the signal or timer that an input of a state waits for. None where there is no such input.
     pub fn input_name(
         &self,
         process: ProcessNumber,
         state: StateNumber,
         input: usize,
     ) -> Option<&Name>
-        ensures { option_copied result ≡ trigger_name self.now (trigger_at self.now process.0 state.0 input) }
+        ensures { option_copied result ≡ trigger_name self.now process.0 (trigger_at self.now process.0 state.0 input) }
     {
         match self.trigger(process, state, input) {
             Some(Trigger::Signal(signal)) => self.signal_name(signal),
+            Some(Trigger::Timer(timer)) => self.timer_name(process, timer),
             None => None,
         }
     }

@@ -1,10 +1,10 @@
 //! The numbers of names.
 
 ghost use Rattle.std.specs.Prelude.{◌≡◌, ◌↔◌, IsTrue, IfSome, IfNone, option_copied};
-ghost use Rattle.turn_check.specs.Named.{process_names, signal_names, variable_names, IsNamed, IsFirst, IsNowhere};
+ghost use Rattle.turn_check.specs.Named.{process_names, signal_names, variable_names, timer_names, IsNamed, IsFirst, IsNowhere};
 
 use crate::verified::Verified;
-use turn_code::{Name, ProcessNumber, SignalNumber, VariableNumber};
+use turn_code::{Name, ProcessNumber, SignalNumber, TimerNumber, VariableNumber};
 
 impl Verified {
     /// The number of the first process of this name; case is ignored.
@@ -44,6 +44,20 @@ impl Verified {
         for number in 0..32u8 {
             if is_named(self.variable_name(process, VariableNumber(number)), name) {
                 return Some(VariableNumber(number));
+            }
+        }
+        None
+    }
+
+    /// The number of the first timer of this name in a process; case is ignored.
+    pub fn timer_of(&self, process: ProcessNumber, name: &str) -> Option<TimerNumber>
+        ensures found { IfSome result (λ n. IsFirst (timer_names self.now process.0) n.0 name.now) }
+        ensures none { IfNone result (IsNowhere (timer_names self.now process.0) name.now) }
+    {
+        let _ = self.draft();
+        for number in 0..8u8 {
+            if is_named(self.timer_name(process, TimerNumber(number)), name) {
+                return Some(TimerNumber(number));
             }
         }
         None

@@ -2,67 +2,77 @@
 
 ghost use Rattle.std.specs.Prelude.{◌≡◌, ◌<◌, ◌≤◌, ◌↔◌, ◌∷◌, ◌++◌, ◌+◌, ℕ, map, length, Contains, option_to_list, All, IsTrue, IfOk, IfErr, Some, slice_get};
 ghost use Rattle.turn_code.specs.Sets.{Has, IsWithin};
-ghost use Rattle.turn_code.specs.Code.{takes, shape_after, reads, states_in, successors};
-ghost use Rattle.turn_code.specs.Rules.{AtEach, Agree, greatest, count_in, effects_in};
+ghost use Rattle.turn_code.specs.Code.{takes, reads, sets, states_in, successors};
+ghost use Rattle.turn_code.specs.Rules.{Agree, KeepsSetLimits, greatest, count_in, effects_in};
 ghost use Rattle.turn_code.specs.declared.draft.PlaceFacts.{PlaceFacts};
 ghost use Rattle.turn_code.specs.declared.draft.DraftState.{DraftState};
+ghost use Rattle.turn_code.specs.declared.draft.DraftSignal.{DraftSignal};
 ghost use Rattle.turn_check.specs.Seen.{seen};
-ghost use Rattle.turn_check.specs.Parts.{Part, AllParts, AllNexts, NumbersPart, CountsPart, SetsHold, ShapesHold};
+ghost use Rattle.turn_check.specs.Parts.{Part, NextPart, AllParts, AllNexts, NumbersPart, CountsPart, SetsHold, ShapesPart};
 
-use crate::tables::{given_sort, next_places, set_behind, taken_sorts};
+use crate::routes::keeps_sending;
+use crate::tables::{
+    effects_given, given_sort, jump_places, next_places, place_behind, set_behind, taken_sorts,
+};
 use crate::transition::Transition;
-use turn_code::{DraftState, Instruction, PlaceFacts, Rule, Sort, VariableSet};
+use turn_code::{Draft, DraftSignal, DraftState, Instruction, PlaceFacts, Rule, Sort, VariableSet};
 
 /// The first rule that is broken at a place, whose instruction and facts are these.
 pub(crate) fn check_place(
+    draft: &Draft,
     transition: &Transition<'_>,
     place: usize,
     instruction: Instruction,
     facts: &PlaceFacts,
 ) -> Result<(), Rule>
+    requires limits { KeepsSetLimits draft.now }
     requires place { place < 512 }
     requires variables { length transition.now.process.now.variables ≤ 32 }
-    ensures ok { IfOk result (λ _. AllParts (seen transition.now) place instruction facts.now) }
-    ensures err { IfErr result (λ rule. Part rule (seen transition.now) place instruction facts.now → ⊥) }
+    ensures ok { IfOk result (λ _. AllParts draft.now (seen transition.now) place instruction facts.now) }
+    ensures err { IfErr result (λ rule. Part rule draft.now (seen transition.now) place instruction facts.now → ⊥) }
 {
-    if !names_what_is_there(transition, instruction) {
+    if !names_what_is_there(draft, transition, instruction) {
         return Err(Rule::Number);
     }
     if !ends_in_a_state(instruction, transition.process.states.as_slice()) {
         return Err(Rule::State);
     }
+    let signals = draft.signals.as_slice();
     let variables = transition.process.variables.as_slice();
-    let taken = taken_sorts(instruction, variables);
+    let taken = taken_sorts(instruction, signals, variables);
     if taken.len() > facts.shape.len() {
         return Err(Rule::Under);
     }
     if !agree(taken.as_slice(), facts.shape.as_slice()) {
         return Err(Rule::Sort);
     }
-    check_successors(transition, place, instruction, facts)
+    check_successors(signals, transition, place, instruction, facts)
 }
 
 /// The rules that speak of the places where the code goes on, and of the state where it ends.
 fn check_successors(
+    signals: &[DraftSignal],
     transition: &Transition<'_>,
     place: usize,
     instruction: Instruction,
     facts: &PlaceFacts,
 ) -> Result<(), Rule>
+    requires few { All (λ (s : DraftSignal). length s.parameters ≤ 4) signals.now }
     requires place { place < 512 }
     requires variables { length transition.now.process.now.variables ≤ 32 }
-    requires number { NumbersPart (seen transition.now) instruction }
-    requires under { length (takes transition.now.process.now.variables instruction) ≤ length facts.now.shape }
-    ensures ok { IfOk result (λ _. AllNexts (seen transition.now) place instruction facts.now) }
-    ensures err { IfErr result (λ rule. Part rule (seen transition.now) place instruction facts.now → ⊥) }
+    requires number { All (λ v. v < length transition.now.process.now.variables) (sets instruction) }
+    requires under { length (takes signals.now transition.now.process.now.variables instruction) ≤ length facts.now.shape }
+    ensures ok { IfOk result (λ _. AllNexts signals.now (seen transition.now) place instruction facts.now) }
+    ensures err { IfErr result (λ rule. NextPart rule signals.now (seen transition.now) place instruction facts.now → ⊥) }
 {
     let nexts = next_places(instruction, place);
     if !are_inside(nexts.as_slice(), transition.piece.code.len()) {
         return Err(Rule::Jump);
     }
     if !shapes_are_left(
+        signals,
         transition,
-        nexts.as_slice(),
+        place,
         instruction,
         facts.shape.as_slice(),
     ) {
@@ -77,15 +87,24 @@ fn check_successors(
     Ok(())
 }
 
-/// Whether the variables and parameters that an instruction names are there.
-fn names_what_is_there(transition: &Transition<'_>, instruction: Instruction) -> bool
-    ensures { IsTrue result ↔ NumbersPart (seen transition.now) instruction }
+/// Whether the variables, parameters, timers and divisors of an instruction are there, and its output reaches somebody.
+fn names_what_is_there(draft: &Draft, transition: &Transition<'_>, instruction: Instruction) -> bool
+    ensures { IsTrue result ↔ NumbersPart draft.now (seen transition.now) instruction }
 {
     match instruction {
         Instruction::Load(variable) | Instruction::Store(variable) => {
             usize::from(variable.0) < transition.process.variables.len()
         }
         Instruction::Param(place) => usize::from(place) < transition.parameters.len(),
+        Instruction::Set(timer) | Instruction::Reset(timer) => {
+            usize::from(timer.0) < transition.process.timers.len()
+        }
+        Instruction::Div(divisor) | Instruction::Mod(divisor) | Instruction::Rem(divisor) => {
+            divisor >= 1
+        }
+        Instruction::Output(signal, receiver, count) => {
+            keeps_sending(draft, transition, signal, receiver, count)
+        }
         _ => true,
     }
 }
@@ -144,25 +163,27 @@ fn is_shape(shape: &[Sort], given: Option<Sort>, rest: &[Sort]) -> bool
     }
 }
 
-/// Whether each place where the code goes on has the shape that the instruction leaves.
+/// Whether the place behind the instruction has the shape that it leaves there, and each place where it jumps to the
+/// shape without its operands.
 fn shapes_are_left(
+    signals: &[DraftSignal],
     transition: &Transition<'_>,
-    nexts: &[usize],
+    place: usize,
     instruction: Instruction,
     shape: &[Sort],
 ) -> bool
-    requires { length (takes transition.now.process.now.variables instruction) ≤ length shape.now }
-    ensures { IsTrue result ↔ ShapesHold (seen transition.now) nexts.now instruction shape.now }
+    requires few { All (λ (s : DraftSignal). length s.parameters ≤ 4) signals.now }
+    requires place { place < 512 }
+    requires under { length (takes signals.now transition.now.process.now.variables instruction) ≤ length shape.now }
+    ensures { IsTrue result ↔ ShapesPart signals.now (seen transition.now) place instruction shape.now }
 {
     let variables = transition.process.variables.as_slice();
+    let facts = transition.piece.facts.as_slice();
     let given = given_sort(instruction, variables, transition.parameters);
-    let taken = taken_sorts(instruction, variables).len();
-    places_have_shape(
-        transition.piece.facts.as_slice(),
-        nexts,
-        given,
-        &shape[taken..],
-    )
+    let taken = taken_sorts(instruction, signals, variables).len();
+    let rest = &shape[taken..];
+    places_have_shape(facts, place_behind(instruction, place).as_slice(), given, rest)
+        && places_have_shape(facts, jump_places(instruction).as_slice(), None, rest)
 }
 
 /// Whether the shape at each of these places is `given` on top of `rest`.
@@ -193,7 +214,7 @@ fn sets_are_left(
     set: VariableSet,
 ) -> bool
     requires variables { length transition.now.process.now.variables ≤ 32 }
-    requires number { NumbersPart (seen transition.now) instruction }
+    requires number { All (λ v. v < length transition.now.process.now.variables) (sets instruction) }
     ensures { IsTrue result ↔ SetsHold (seen transition.now) nexts.now instruction set }
 {
     let behind = set_behind(instruction, set);
@@ -277,5 +298,6 @@ fn counts_are_right(
     ensures { IsTrue result ↔ CountsPart (seen transition.now) place instruction here.now }
 {
     let (count, effects) = greatest_counts(transition.piece.facts.as_slice(), nexts);
-    u64::from(here.count) == u64::from(count) + 1 && here.effects == effects
+    u64::from(here.count) == u64::from(count) + 1
+        && u64::from(here.effects) == u64::from(effects) + u64::from(effects_given(instruction))
 }

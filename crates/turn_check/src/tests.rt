@@ -3,7 +3,7 @@ use std::alloc::{AllocError, Global};
 use std::process::Abort;
 use std::test::Fail;
 use turn_code::{
-    DraftInput, DraftPiece, DraftProcess, DraftRoute, DraftSignal, DraftState, DraftVariable,
+    Cert, Draft, DraftInput, DraftPiece, DraftProcess, DraftRoute, DraftSignal, DraftState, DraftVariable,
     Instruction, Name, Party, PlaceFacts, Sequence, Sort, Trigger, VariableSet,
 };
 

@@ -1,11 +1,13 @@
 //! A transition of a draft.
 
-use turn_code::{DraftPiece, DraftProcess, Sort, Trigger, VariableSet};
+use turn_code::{DraftPiece, DraftProcess, ProcessNumber, Sort, Trigger, VariableSet};
 
 /// One transition of a draft.
 #[derive(Clone, Copy)]
 pub struct Transition<'a> {
-    /// The process that it belongs to.
+    /// The number of the process that it belongs to.
+    pub number: ProcessNumber,
+    /// That process.
     pub process: &'a DraftProcess,
     /// What it waits for, nothing at START.
     pub trigger: Option<Trigger>,

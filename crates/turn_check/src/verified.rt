@@ -81,6 +81,7 @@ impl Verified {
                 Place::Start => self.start_at(number, process, input),
                 Place::State(state) => input_at(
                     self.draft.signals.as_slice(),
+                    number,
                     process,
                     state,
                     input,
@@ -98,7 +99,7 @@ impl Verified {
         input: usize,
     ) -> Option<Transition<'a>>
         requires { slice_get self.now.processes number.0 ≡ Some process.now }
-        ensures { option_map seen result ≡ start_found process.now input }
+        ensures { option_map seen result ≡ start_found number.0 process.now input }
     {
         match input {
             0 => Some(self.start(number, process)),
@@ -109,10 +110,10 @@ impl Verified {
     /// The START transition of a process.
     fn start<'a>(&self, number: ProcessNumber, process: &'a DraftProcess) -> Transition<'a>
         requires { slice_get self.now.processes number.0 ≡ Some process.now }
-        ensures { seen result ≡ start_of process.now }
+        ensures { seen result ≡ start_of number.0 process.now }
     {
         self.keeps();
-        start_transition(process)
+        start_transition(number, process)
     }
 
     fn keeps(&self)
@@ -125,15 +126,16 @@ impl Verified {
 /// The transition of an input of a state.
 fn input_at<'a>(
     signals: &'a [DraftSignal],
+    number: ProcessNumber,
     process: &'a DraftProcess,
     state: StateNumber,
     input: usize,
 ) -> Option<Transition<'a>>
-    ensures { option_map seen result ≡ input_found signals.now process.now input (slice_get process.now.states state.0) }
+    ensures { option_map seen result ≡ input_found signals.now number.0 process.now input (slice_get process.now.states state.0) }
 {
     match process.states.as_slice().get(usize::from(state.0)) {
         Some(state) => match state.inputs.as_slice().get(input) {
-            Some(found) => Some(input_transition(signals, process, state, found)),
+            Some(found) => Some(input_transition(signals, number, process, state, found)),
             None => None,
         },
         None => None,

@@ -57,6 +57,7 @@ fn check_processes(draft: &Draft) -> Result<(), VerifyFault>
 }
 
 fn check_process_at(draft: &Draft, number: ProcessNumber) -> Result<(), VerifyFault>
+    requires set_limits { KeepsSetLimits draft.now }
     ensures ok { IfOk result (λ _. IsValidProcess draft.now number.0) }
     ensures err { IfErr result (λ e. IsBroken draft.now e) }
 {
@@ -72,7 +73,8 @@ fn check_process(
     number: ProcessNumber,
     process: &DraftProcess,
 ) -> Result<(), VerifyFault>
-    requires { slice_get draft.now.processes number.0 ≡ Some process.now }
+    requires set_limits { KeepsSetLimits draft.now }
+    requires process { slice_get draft.now.processes number.0 ≡ Some process.now }
     ensures ok { IfOk result (λ _. IsValidProcess draft.now number.0) }
     ensures err { IfErr result (λ e. IsBroken draft.now e) }
 {
@@ -86,6 +88,7 @@ fn check_states(
     number: ProcessNumber,
     process: &DraftProcess,
 ) -> Result<(), VerifyFault>
+    requires set_limits { KeepsSetLimits draft.now }
     requires process { slice_get draft.now.processes number.0 ≡ Some process.now }
     requires limits { KeepsProcessLimits process.now }
     requires start { IsValidState draft.now number.0 Start }
@@ -104,6 +107,7 @@ fn check_state_at(
     process: &DraftProcess,
     place: StateNumber,
 ) -> Result<(), VerifyFault>
+    requires set_limits { KeepsSetLimits draft.now }
     requires process { slice_get draft.now.processes number.0 ≡ Some process.now }
     requires limits { KeepsProcessLimits process.now }
     ensures ok { IfOk result (λ _. IsValidState draft.now number.0 (State place)) }
@@ -121,7 +125,8 @@ fn check_start(
     number: ProcessNumber,
     process: &DraftProcess,
 ) -> Result<(), VerifyFault>
-    requires { slice_get draft.now.processes number.0 ≡ Some process.now }
+    requires set_limits { KeepsSetLimits draft.now }
+    requires process { slice_get draft.now.processes number.0 ≡ Some process.now }
     ensures ok { IfOk result (λ _. IsValidState draft.now number.0 Start) }
     ensures limits { IfOk result (λ _. KeepsProcessLimits process.now) }
     ensures err { IfErr result (λ e. IsBroken draft.now e) }
@@ -135,7 +140,7 @@ fn check_start(
             place: 0,
         }));
     }
-    let transition = start_transition(process);
+    let transition = start_transition(number, process);
     match check_transition(draft, &transition) {
         Ok(()) => Ok(()),
         Err(Broken { rule, place }) => Err(VerifyFault::new(
@@ -158,6 +163,7 @@ fn check_state(
     place: StateNumber,
     state: &DraftState,
 ) -> Result<(), VerifyFault>
+    requires set_limits { KeepsSetLimits draft.now }
     requires process { slice_get draft.now.processes number.0 ≡ Some process.now }
     requires state { slice_get process.now.states place.0 ≡ Some state.now }
     requires variables { length process.now.variables ≤ 32 }
@@ -178,6 +184,7 @@ fn check_input_at(
     state: &DraftState,
     input: usize,
 ) -> Result<(), VerifyFault>
+    requires set_limits { KeepsSetLimits draft.now }
     requires process { slice_get draft.now.processes number.0 ≡ Some process.now }
     requires state { slice_get process.now.states place.0 ≡ Some state.now }
     requires variables { length process.now.variables ≤ 32 }
@@ -186,7 +193,8 @@ fn check_input_at(
 {
     match state.inputs.as_slice().get(input) {
         Some(found) => {
-            let transition = input_transition(draft.signals.as_slice(), process, state, found);
+            let transition =
+                input_transition(draft.signals.as_slice(), number, process, state, found);
             check_input(draft, number, place, input, &transition)
         }
         None => Ok(()),
@@ -201,6 +209,7 @@ fn check_input(
     input: usize,
     transition: &Transition<'_>,
 ) -> Result<(), VerifyFault>
+    requires set_limits { KeepsSetLimits draft.now }
     requires there { transition_at draft.now number.0 (State place) input ≡ Some (seen transition.now) }
     requires variables { length transition.now.process.now.variables ≤ 32 }
     ensures ok { IfOk result (λ _. IsValidAt draft.now number.0 (State place) input) }
@@ -222,7 +231,8 @@ fn check_input(
 
 /// The first rule that a transition breaks.
 fn check_transition(draft: &Draft, transition: &Transition<'_>) -> Result<(), Broken>
-    requires { length transition.now.process.now.variables ≤ 32 }
+    requires limits { KeepsSetLimits draft.now }
+    requires variables { length transition.now.process.now.variables ≤ 32 }
     ensures ok { IfOk result (λ _. IsValidTransition draft.now (seen transition.now)) }
     ensures err { IfErr result (λ e. Keeps e.rule draft.now (seen transition.now) e.place → ⊥) }
 {
@@ -230,7 +240,7 @@ fn check_transition(draft: &Draft, transition: &Transition<'_>) -> Result<(), Br
         return Err(Broken { rule, place: 0 });
     }
     for place in 0..transition.piece.code.len() {
-        if let Err(rule) = check_at(transition, place) {
+        if let Err(rule) = check_at(draft, transition, place) {
             return Err(Broken { rule, place });
         }
     }
@@ -238,32 +248,35 @@ fn check_transition(draft: &Draft, transition: &Transition<'_>) -> Result<(), Br
 }
 
 /// The first rule that is broken at a place, if the code has it.
-fn check_at(transition: &Transition<'_>, place: usize) -> Result<(), Rule>
+fn check_at(draft: &Draft, transition: &Transition<'_>, place: usize) -> Result<(), Rule>
+    requires limits { KeepsSetLimits draft.now }
     requires place { place < 512 }
     requires variables { length transition.now.process.now.variables ≤ 32 }
-    ensures ok { IfOk result (λ _. HasParts (seen transition.now) place) }
-    ensures err { IfErr result (λ rule. (d : Draft) → Keeps rule d (seen transition.now) place → ⊥) }
+    ensures ok { IfOk result (λ _. HasParts draft.now (seen transition.now) place) }
+    ensures err { IfErr result (λ rule. Keeps rule draft.now (seen transition.now) place → ⊥) }
 {
     match instruction_at(transition, place) {
-        Some(instruction) => check_with(transition, place, instruction),
+        Some(instruction) => check_with(draft, transition, place, instruction),
         None => Ok(()),
     }
 }
 
 /// The first rule that is broken at a place of this instruction, if the place has facts.
 fn check_with(
+    draft: &Draft,
     transition: &Transition<'_>,
     place: usize,
     instruction: Instruction,
 ) -> Result<(), Rule>
+    requires limits { KeepsSetLimits draft.now }
     requires place { place < 512 }
     requires variables { length transition.now.process.now.variables ≤ 32 }
     requires code { slice_get transition.now.piece.now.code place ≡ Some instruction }
-    ensures ok { IfOk result (λ _. HasParts (seen transition.now) place) }
-    ensures err { IfErr result (λ rule. (d : Draft) → Keeps rule d (seen transition.now) place → ⊥) }
+    ensures ok { IfOk result (λ _. HasParts draft.now (seen transition.now) place) }
+    ensures err { IfErr result (λ rule. Keeps rule draft.now (seen transition.now) place → ⊥) }
 {
     match facts_at(transition, place) {
-        Some(facts) => check_place(transition, place, instruction, facts),
+        Some(facts) => check_place(draft, transition, place, instruction, facts),
         None => Ok(()),
     }
 }
@@ -287,11 +300,12 @@ fn facts_at<'a>(transition: &Transition<'a>, place: usize) -> Option<&'a PlaceFa
 }
 
 /// The START transition of a process.
-pub(crate) fn start_transition(process: &DraftProcess) -> Transition<'_>
+pub(crate) fn start_transition(number: ProcessNumber, process: &DraftProcess) -> Transition<'_>
     requires { length process.now.variables ≤ 32 }
-    ensures { seen result ≡ start_of process.now }
+    ensures { seen result ≡ start_of number.0 process.now }
 {
     Transition {
+        number,
         process,
         trigger: None,
         parameters: &[],
@@ -303,13 +317,15 @@ pub(crate) fn start_transition(process: &DraftProcess) -> Transition<'_>
 /// The transition of an input.
 pub(crate) fn input_transition<'a>(
     signals: &'a [DraftSignal],
+    number: ProcessNumber,
     process: &'a DraftProcess,
     state: &'a DraftState,
     input: &'a DraftInput,
 ) -> Transition<'a>
-    ensures { seen result ≡ input_of signals.now process.now state.now input.now }
+    ensures { seen result ≡ input_of signals.now number.0 process.now state.now input.now }
 {
     Transition {
+        number,
         process,
         trigger: Some(input.trigger),
         parameters: parameters_of(signals, input.trigger),
@@ -327,6 +343,7 @@ pub(crate) fn parameters_of(signals: &[DraftSignal], trigger: Trigger) -> &[Sort
             Some(signal) => signal.parameters.as_slice(),
             None => &[],
         },
+        Trigger::Timer(_) => &[],
     }
 }
 
