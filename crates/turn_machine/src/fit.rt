@@ -12,7 +12,7 @@ use turn_code::{
     DraftRoute, DraftVariable, Party, Place, ProcessNumber, SignalNumber, Sort, Trigger, Value,
     VariableNumber, VariableSet,
 };
-use turn_verify::Verified;
+use turn_check::Verified;
 
 /// Whether an input fits input `input_number` at a place of a process: its parameters and set variables have their
 /// sorts, the variables that are to be set are set, and but for START a route brings the signal from its sender.

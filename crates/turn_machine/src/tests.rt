@@ -8,7 +8,7 @@ use turn_code::{
     DraftVariable, End, Instruction, Name, Party, Place, PlaceFacts, ProcessNumber, Sequence,
     SignalNumber, Sort, StateNumber, Trigger, Value, VariableNumber, VariableSet,
 };
-use turn_verify::{Verified, verify};
+use turn_check::{Verified, verify};
 
 fn named(text: &str, rt: &impl Abort) -> Name {
     Name::from_bytes(text.as_bytes()).expect(rt, "a short name")

@@ -1,4 +1,1 @@
-pub mod Shapes
-pub mod Whole
-pub mod NameLists
 pub mod Loads

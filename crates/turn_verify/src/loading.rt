@@ -9,7 +9,7 @@ ghost use Rattle.sdl_rules.specs.Refusals.{Sound};
 ghost use Rattle.sdl_compile.specs.Blocks.{MatchesBlock};
 ghost use Rattle.turn_verify.specs.Loaded.{IsLoaded, IsSoundText, IsRead, Gives, IsRefused, line_at, token_place, rule_place};
 
-use crate::verified::{Verified, verify};
+use turn_check::{Verified, verify};
 use sdl_compile::compile;
 use sdl_lex::{LexFault, Token, line_of, tokens};
 use sdl_rules::{Resolved, RuleFault, resolve};

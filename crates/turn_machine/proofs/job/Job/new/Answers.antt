@@ -1,5 +1,5 @@
 use Rattle.std.proofs.Common.{◌≤◌, length, sym, ◌∙◌, subst}
-use Rattle.turn_verify.specs.Seen.{seen}
+use Rattle.turn_check.specs.Seen.{seen}
 use Rattle.turn_machine.specs.Given.{input_of}
 use Rattle.turn_machine.proofs.Jobs.{code_small, job_runs}
 use Rattle.turn_machine.proofs.job.Job.new.Goals as goal

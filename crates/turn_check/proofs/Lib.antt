@@ -1,0 +1,3 @@
+pub mod NameLists
+pub mod Shapes
+pub mod Whole

@@ -1,0 +1,120 @@
+//! Why a draft is refused.
+
+ghost use Rattle.std.specs.Prelude.{◌≡◌};
+ghost use Rattle.turn_check.specs.Faults.{rule_of, spot_of};
+
+use std::fmt;
+use thiserror::Error;
+use turn_code::{Place, ProcessNumber, Rule};
+
+/// A place of the code of a transition.
+#[derive(Clone, Copy, PartialEq, Eq, Debug)]
+pub struct Spot {
+    /// The process.
+    pub process: ProcessNumber,
+    /// START, or the state.
+    pub state: Place,
+    /// The input of the state, from 0; 0 at START.
+    pub input: usize,
+    /// The place in the code, from 0; 0 too for what is wrong with the transition as a whole.
+    pub place: usize,
+}
+
+impl fmt::Display for Spot {
+    fn fmt<W: fmt::Write>(&self, f: &mut fmt::Formatter<W>) -> fmt::Result {
+        match self.state {
+            Place::Start => write!(f, "process {} START place {}", self.process.0, self.place),
+            Place::State(state) => write!(
+                f,
+                "process {} state {} input {} place {}",
+                self.process.0, state.0, self.input, self.place
+            ),
+        }
+    }
+}
+
+/// The rule that a draft breaks, and where.
+#[derive(Debug, Drop, Error, Clone, Copy, PartialEq, Eq)]
+pub enum VerifyFault {
+    /// A place where the code goes on isn't in it.
+    #[error("V1 Jump {0}")]
+    Jump(Spot),
+    /// Two ways to a place differ in their operands.
+    #[error("V2 Shape {0}")]
+    Shape(Spot),
+    /// Too few operands.
+    #[error("V3 Under {0}")]
+    Under(Spot),
+    /// An operand, or at START an initial value, of the wrong sort.
+    #[error("V4 Sort {0}")]
+    Sort(Spot),
+    /// A variable that is read, or said to be set, isn't set on every way.
+    #[error("V5 Unset {0}")]
+    Unset(Spot),
+    /// A state that isn't there.
+    #[error("V6 State {0}")]
+    State(Spot),
+    /// A variable, parameter or signal that isn't there.
+    #[error("V7 Number {0}")]
+    Number(Spot),
+    /// More than a limit allows. A limit of a process is broken at its START, one of the whole set at the START of process 0.
+    #[error("V8 Limit {0}")]
+    Limit(Spot),
+    /// A cycle, or a count that isn't the longest path.
+    #[error("V9 Budget {0}")]
+    Budget(Spot),
+}
+
+impl VerifyFault {
+    /// The fault of breaking a rule at a spot.
+    pub(crate) fn new(rule: Rule, spot: Spot) -> VerifyFault
+        ensures rule { rule_of result ≡ rule }
+        ensures spot { spot_of result ≡ spot }
+    {
+        match rule {
+            Rule::Jump => VerifyFault::Jump(spot),
+            Rule::Shape => VerifyFault::Shape(spot),
+            Rule::Under => VerifyFault::Under(spot),
+            Rule::Sort => VerifyFault::Sort(spot),
+            Rule::Unset => VerifyFault::Unset(spot),
+            Rule::State => VerifyFault::State(spot),
+            Rule::Number => VerifyFault::Number(spot),
+            Rule::Limit => VerifyFault::Limit(spot),
+            Rule::Budget => VerifyFault::Budget(spot),
+        }
+    }
+
+    /// The rule that is broken.
+    pub fn rule(self) -> Rule
+        ensures { result ≡ rule_of self }
+    {
+        match self {
+            VerifyFault::Jump(_) => Rule::Jump,
+            VerifyFault::Shape(_) => Rule::Shape,
+            VerifyFault::Under(_) => Rule::Under,
+            VerifyFault::Sort(_) => Rule::Sort,
+            VerifyFault::Unset(_) => Rule::Unset,
+            VerifyFault::State(_) => Rule::State,
+            VerifyFault::Number(_) => Rule::Number,
+            VerifyFault::Limit(_) => Rule::Limit,
+            VerifyFault::Budget(_) => Rule::Budget,
+        }
+    }
+
+    /// Where it is broken.
+    pub fn spot(self) -> Spot
+        ensures { result ≡ spot_of self }
+    {
+        match self {
+            VerifyFault::Jump(spot)
+            | VerifyFault::Shape(spot)
+            | VerifyFault::Under(spot)
+            | VerifyFault::Sort(spot)
+            | VerifyFault::Unset(spot)
+            | VerifyFault::State(spot)
+            | VerifyFault::Number(spot)
+            | VerifyFault::Limit(spot)
+            | VerifyFault::Budget(spot) => spot,
+        }
+    }
+}

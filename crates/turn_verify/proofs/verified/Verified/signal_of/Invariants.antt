@@ -1,7 +1,0 @@
-use Rattle.std.proofs.Common.{ℕ, ◌<◌}
-use Rattle.std.specs.Prelude.{slice_get}
-use Rattle.turn_verify.specs.Named.{signal_names, IsNamed}
-use Rattle.turn_verify.proofs.verified.Verified.signal_of.Given as goal
-
-abbrev pub invariant-loop-number : goal.invariant-loop-number
-invariant-loop-number l = (n : ℕ) → n < l.number → IsNamed (slice_get (signal_names l.self) n) l.name → ⊥

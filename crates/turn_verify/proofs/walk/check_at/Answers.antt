@@ -1,7 +1,0 @@
-use Rattle.std.proofs.Common.{sym}
-use Rattle.turn_verify.specs.Seen.{seen}
-use Rattle.turn_verify.proofs.Whole.{no_parts_code}
-use Rattle.turn_verify.proofs.walk.check_at.Goals as goal
-
-pub returns-in-None-clause-ok : goal.returns-in-None-clause-ok
-returns-in-None-clause-ok c = no_parts_code (seen c.args.transition.now) c.args.place (sym c.in-None.ensures)

@@ -1,6 +1,0 @@
-use Rattle.std.proofs.Common.{ℕ, ◌<◌}
-use Rattle.turn_verify.specs.Walk.{IsValidProcess}
-use Rattle.turn_verify.proofs.walk.check_processes.Given as goal
-
-abbrev pub invariant-loop-number : goal.invariant-loop-number
-invariant-loop-number l = (n : ℕ) → n < l.number → IsValidProcess l.draft n
