@@ -1,11 +1,11 @@
-//! The rules on names, places and ends: the first place at which a block breaks one.
-ghost use Rattle.std.specs.Prelude.{◌≡◌, ◌++◌, ◌∷◌, [], ℕ, List, Option, map, if◌then◌else◌, nat_lt, length};
+//! The rules on names and ends: the first place at which a block breaks one.
+ghost use Rattle.std.specs.Prelude.{◌≡◌, ◌++◌, ◌∷◌, [], ℕ, List, Option, map, if◌then◌else◌};
 ghost use Rattle.std.specs.List.{flat_map};
 ghost use Rattle.std.specs.Option.{option_to_list};
 ghost use Rattle.sdl_tree.specs.Plain.{output};
 ghost use Rattle.sdl_tree.specs.Views.{tree_of, assignment_of, sending_of, action_of, clause_of, state_of, end_text, text_of, stimulus_of, input_of, path_of, route_of, entity_of, process_of, block_of};
 ghost use Rattle.sdl_tables.specs.Names.{is_in, process_names, signal_names, variable_names, timers_of, clause_saves, states_of, routes_in, input_parts, processes_of};
-ghost use Rattle.sdl_rules.specs.Sound.{unknown, party_names, path_unknown, route_unknown, tree_names, assignment_names, sending_unknown, destination_names, action_unknown, text_unknown, trigger_names, saves_unknown, place_names, stimulus_unknown, input_unknown, process_unknown, unknown_names, has_too_many, stimulus_wrong, input_wrong, process_wrong, wrong_sorts, strays, input_strays, process_strays, stray_ends};
+ghost use Rattle.sdl_rules.specs.Sound.{unknown, party_names, path_unknown, route_unknown, tree_names, assignment_names, sending_unknown, destination_names, action_unknown, text_unknown, trigger_names, saves_unknown, place_names, stimulus_unknown, input_unknown, process_unknown, unknown_names, strays, input_strays, process_strays, stray_ends};
 ghost use Rattle.sdl_tables.specs.Scopes.{Marks};
 
 use sdl_tables::BlockTable;
@@ -365,62 +365,6 @@ pub(crate) fn unknown_name(block: &BlockTable) -> Option<u32>
 {
     let routes = unknown_in_routes(block, &block.block().entities);
     earlier(routes, unknown_in_processes(block, block.tables()))
-}
-
-fn is_wrong(block: &BlockTable, stimulus: &Stimulus) -> bool
-    ensures { result ≡ has_too_many (block_of block.now) (stimulus_of stimulus.now) }
-{
-    match block.signal(stimulus.name.name) {
-        None => false,
-        Some(signal) => signal.parameters.len() < stimulus.places.len(),
-    }
-}
-
-fn wrong_place(block: &BlockTable, stimulus: &Stimulus) -> Option<u32>
-    ensures { Marks result (stimulus_wrong (block_of block.now) (stimulus_of stimulus.now)) }
-{
-    if is_wrong(block, stimulus) {
-        Some(stimulus.name.at)
-    } else {
-        None
-    }
-}
-
-fn wrong_in_stimuli(block: &BlockTable, stimuli: &[Stimulus]) -> Option<u32>
-    ensures { Marks result (flat_map (stimulus_wrong (block_of block.now)) (map stimulus_of stimuli.now)) }
-{
-    let mut place = None;
-    for stimulus in stimuli {
-        place = earlier(place, wrong_place(block, stimulus));
-    }
-    place
-}
-
-fn wrong_in_inputs(block: &BlockTable, inputs: &[&InputPart]) -> Option<u32>
-    ensures { Marks result (flat_map (input_wrong (block_of block.now)) (map (λ i. input_of i.now) inputs.now)) }
-{
-    let mut place = None;
-    for input in inputs {
-        place = earlier(place, wrong_in_stimuli(block, &input.stimuli));
-    }
-    place
-}
-
-fn wrong_in_processes(block: &BlockTable, processes: &[ProcessTable]) -> Option<u32>
-    ensures { Marks result (flat_map (process_wrong (block_of block.now)) (map process_of processes.now)) }
-{
-    let mut place = None;
-    for process in processes {
-        place = earlier(place, wrong_in_inputs(block, process.parts()));
-    }
-    place
-}
-
-/// The place of an INPUT's signal that has fewer parameters than the INPUT has places.
-pub(crate) fn wrong_sort(block: &BlockTable) -> Option<u32>
-    ensures { Marks result (wrong_sorts (block_of block.now)) }
-{
-    wrong_in_processes(block, block.tables())
 }
 
 // Where an end leads to no state, or nothing ends what the START or INPUT at a place begins.
