@@ -1,6 +1,8 @@
 pub mod Bits
 pub mod Numbers
 pub mod PathNames
+pub mod Places
+pub mod Repeats
 pub mod Searches
 pub mod Settling
 pub mod Surveying
