@@ -1,13 +1,17 @@
 #![tactic(auto)]
 
+mod actions;
 mod checks;
+mod divisors;
 mod fault;
 mod flows;
 mod limits;
+mod receivers;
 mod resolved;
 mod search;
 mod sets;
 mod settled;
+mod sorts;
 
 pub use fault::{ControlPath, Limit, RuleFault, Step};
 pub use resolved::{Resolved, resolve};
