@@ -1,6 +1,6 @@
 //! Whether an output reaches somebody by the routes.
 
-ghost use Rattle.std.specs.Prelude.{◌≡◌, ◌↔◌, ℕ, All, Any, Contains, IsTrue, length, slice_get};
+ghost use Rattle.std.specs.Prelude.{◌≡◌, ◌<◌, ◌↔◌, All, Any, Contains, IsTrue, length, slice_get};
 ghost use Rattle.turn_code.specs.Routes.{IsProcess, IsPartyOf, Takes, Reaches, Answers};
 ghost use Rattle.turn_code.specs.Rules.{KeepsSending, ReachesReceiver, AnswersSender};
 ghost use Rattle.turn_code.specs.Transitions.{parameters_of};
@@ -114,12 +114,9 @@ fn reaches(
 ) -> bool
     ensures { IsTrue result ↔ Reaches routes.now process.0 receiver signal }
 {
-    for route in routes {
-        if takes(route, process, receiver, signal) {
-            return true;
-        }
-    }
-    false
+    routes
+        .iter()
+        .any(|route| takes(route, process, receiver, signal))
 }
 
 /// Whether a signal goes back on each of these routes that bring the one that is taken.
