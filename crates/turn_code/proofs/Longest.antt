@@ -1,10 +1,10 @@
 -- The counts of a valid transition are those of its longest paths.
-use Rattle.std.proofs.Common.{◌≡◌, ℕ, zero, suc, ◌+◌, ◌-◌, ◌<◌, ◌≤◌, ◌⊎◌, List, [], ◌∷◌, length, map, Option, Some, None, refl, sym, ap, ◌∙◌, subst, arith, ⊎_elim}
+use Rattle.std.proofs.Common.{◌≡◌, ℕ, zero, suc, ◌+◌, ◌<◌, ◌≤◌, List, [], ◌∷◌, length, map, Some, refl, sym, subst, arith, ⊎_elim}
 use Rattle.std.specs.Prelude.{slice_get, Contains}
 use Rattle.std.proofs.Math.Nat.{eq-or-lt_of_le}
-use Rattle.turn_code.proofs.Lists.{map_length, first_of}
-use Rattle.turn_code.proofs.Greatest.{greatest_has, Attained, attained, IsIn, long_enough, in_map}
-use Rattle.turn_code.proofs.SafeRuns.{facts_at, code_at, next_at, count_above}
+use Rattle.turn_code.proofs.Lists.{map_length}
+use Rattle.turn_code.proofs.Greatest.{attained, IsIn, long_enough, in_map}
+use Rattle.turn_code.proofs.SafeRuns.{facts_at, code_at, next_at, count_above, effects_above}
 use Rattle.turn_code.specs.Code.{successors, effects_of}
 use Rattle.turn_code.specs.Transitions.{Transition}
 use Rattle.turn_code.specs.Rules.{greatest, count_in, effects_in, counts_at, effects_at}
@@ -23,15 +23,6 @@ module _ (d : Draft) (t : Transition) (valid : IsValidTransition d t) where
       → f.effects ≡ effects_of i + greatest (effects_at t.piece (successors i k))
   effects k f i fe ie = (valid.budget k).effects i f ie fe
 
-  effects_above : (k : ℕ) (f : PlaceFacts) (i : Instruction) → slice_get t.piece.facts k ≡ Some f → slice_get t.piece.code k ≡ Some i
-      → (j : ℕ) (g : PlaceFacts) → Contains (successors i k) j → slice_get t.piece.facts j ≡ Some g → effects_of i + g.effects ≤ f.effects
-  effects_above k f i fe ie j g c ge =
-      let own = effects k f i fe ie in
-      let some : effects_in (slice_get t.piece.facts j) ≤ greatest (effects_at t.piece (successors i k)) =
-      greatest_has (λ j. effects_in (slice_get t.piece.facts j)) (successors i k) j c in
-      let some' : g.effects ≤ greatest (effects_at t.piece (successors i k)) = rw ge at some in
-      omega arith
-
   -- no path is longer, and none has more effects
   most : {k n e : ℕ} → Path t.piece.code k n e → (f : PlaceFacts) → slice_get t.piece.facts k ≡ Some f → (n ≤ f.count) × (e ≤ f.effects)
   most {k} (last i ie none) f fe =
@@ -42,7 +33,7 @@ module _ (d : Draft) (t : Transition) (valid : IsValidTransition d t) where
       let g = next_at d t valid k f i fe ie j c in
       let rest = most path g.0 g.1 in
       let longer = count_above d t valid k f i fe ie j g.0 c g.1 in
-      let richer = effects_above k f i fe ie j g.0 c g.1 in
+      let richer = effects_above d t valid k f i fe ie j g.0 c g.1 in
       (omega (arith, rest.0), omega (arith, rest.1))
 
   record Reached (k : ℕ) (f : PlaceFacts) : Type 0 where

@@ -1,10 +1,9 @@
 -- What arithmetic leaves of a number.
-use Rattle.std.proofs.Common.{◌≡◌, ℕ, ◌+◌, ◌-◌, ◌*◌, ◌/◌, ◌%◌, ◌^◌, ◌<◌, ◌≤◌, ℤ, pos, negsuc, ◌+ℤ◌, ◌-ℤ◌, ◌*ℤ◌, neg_ℤ, refl, sym, ap, ◌∙◌, arith}
-use Rattle.std.specs.Prelude.{◌≤ℤ◌, FitsSigned, Bool, true, false, nat_lt}
+use Rattle.std.proofs.Common.{◌≡◌, ℕ, ◌+◌, ◌-◌, ◌*◌, ◌/◌, ◌%◌, ◌<◌, ℤ, pos, negsuc, ◌+ℤ◌, ◌-ℤ◌, ◌*ℤ◌, refl, sym, ap, ◌∙◌, arith}
+use Rattle.std.specs.Prelude.{FitsSigned, Bool, true, false, nat_lt}
 use Rattle.std.specs.Int.{int_wrap, cast_signed, w32}
 use Rattle.std.proofs.lemmas.Int.{ints, SFits-int_wrap}
-use native.Mathlib.Nat.{div-add-mod', mod-lt}
-use borrow.Author.Differences.{up, down, same_in, same_out, sum_is_lem, neg_is, product_is}
+use borrow.Author.Differences.{same_in, same_out, sum_is_lem, neg_is, product_is}
 use Rattle.turn_code.specs.Values.{wrap, IsWrapped}
 
 -- the signed value of the bits n, and how many times 2^32 it lies below n

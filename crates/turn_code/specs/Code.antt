@@ -1,5 +1,5 @@
 -- What each instruction needs, leaves and names.
-use Rattle.std.specs.Prelude.{ℕ, ◌+◌, ℤ, List, [], ◌∷◌, ◌++◌, length, drop, reverse, Option, Some, None, slice_get, option_map, option_to_list}
+use Rattle.std.specs.Prelude.{ℕ, ◌+◌, ℤ, List, [], ◌∷◌, ◌++◌, length, drop, reverse, slice_get, option_map, option_to_list}
 use Rattle.turn_code.specs.Sets.{with_variable}
 use Rattle.turn_code.specs.Transitions.{parameters_of}
 use Rattle.turn_code.specs.declared.value.Sort.{Sort}

@@ -1,5 +1,5 @@
 -- What a machine stands for, and what its next instruction makes of it.
-use Rattle.std.specs.Prelude.{◌≡◌, ℕ, ◌<◌, ◌≤◌, List, length, Bool, true, false, IsTrue, Option, Some, slice_get}
+use Rattle.std.specs.Prelude.{◌≡◌, ℕ, ◌<◌, ◌≤◌, List, length, Bool, true, false, IsTrue, Some, slice_get}
 use Rattle.turn_code.specs.Code.{effects_of, sends}
 use Rattle.turn_code.specs.Run.{Progress, After, goes, ends, stuck}
 use Rattle.turn_code.specs.declared.value.Value.{Value}

@@ -1,14 +1,12 @@
 -- What a valid draft keeps, rule by rule, at each place of each transition.
-use Rattle.std.specs.Prelude.{◌≡◌, ℕ, ◌+◌, ◌<◌, ◌≤◌, ℤ, pos, ◌≤ℤ◌, max, List, [], ◌∷◌, length, map, sum_by, All, Contains, Option, Some, None, IfSome, slice_get}
+use Rattle.std.specs.Prelude.{◌≡◌, ℕ, ◌+◌, ◌<◌, ◌≤◌, pos, ◌≤ℤ◌, max, List, [], ◌∷◌, length, map, sum_by, All, Contains, Option, Some, None, IfSome, slice_get}
 use Rattle.turn_code.specs.Values.{sort_of}
 use Rattle.turn_code.specs.Sets.{Has, IsWithin}
 use Rattle.turn_code.specs.Routes.{IsPartyOf, Reaches, Answers}
 use Rattle.turn_code.specs.Code.{takes, shape_left, shape_after, reads, sets, set_after, parameters_in, timers_in, divisors_in, states_in, jumps, behind, successors, effects_of}
 use Rattle.turn_code.specs.Transitions.{Transition, parameters_of}
 use Rattle.turn_code.specs.declared.value.Sort.{Sort}
-use Rattle.turn_code.specs.declared.value.Value.{Value}
 use Rattle.turn_code.specs.declared.numbers.SignalNumber.{SignalNumber}
-use Rattle.turn_code.specs.declared.input.Party.{Party}
 use Rattle.turn_code.specs.declared.instruction.Receiver.{Receiver}
 use Rattle.turn_code.specs.declared.instruction.Receiver.TheVariants.{Party as ToParty, Sender as ToSender}
 use Rattle.turn_code.specs.declared.instruction.Instruction.{Instruction}

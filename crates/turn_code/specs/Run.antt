@@ -1,5 +1,5 @@
 -- What code does: one instruction on a list of values with their sorts, and a run of at most 512 of them.
-use Rattle.std.specs.Prelude.{◌≡◌, ℕ, zero, suc, ◌+◌, ℤ, pos, ◌+ℤ◌, ◌-ℤ◌, ◌*ℤ◌, neg_ℤ, int_lt, int_div, int_rem, Bool as Truth, true, false, not, ◌&&◌, ◌||◌, if◌then◌else◌, nat_le, List, [], ◌∷◌, ◌++◌, length, take, drop, reverse, Option, Some, None, slice_get, slice_set}
+use Rattle.std.specs.Prelude.{◌≡◌, ℕ, zero, suc, ◌+◌, ℤ, pos, ◌+ℤ◌, ◌-ℤ◌, ◌*ℤ◌, neg_ℤ, int_lt, int_div, int_rem, Bool as Truth, not, ◌&&◌, ◌||◌, if◌then◌else◌, nat_le, List, [], ◌∷◌, ◌++◌, length, take, drop, reverse, Option, Some, None, slice_get, slice_set}
 use Rattle.std.specs.Int.{int_rem_euclid}
 use Rattle.turn_code.specs.Values.{wrap, holds, is_between, differ}
 use Rattle.turn_code.specs.declared.value.Value.{Value}
@@ -13,7 +13,6 @@ use Rattle.turn_code.specs.declared.input.Input.{Input}
 use Rattle.turn_code.specs.declared.input.Party.{Party}
 use Rattle.turn_code.specs.declared.effect.Effect.{Effect}
 use Rattle.turn_code.specs.declared.effect.Effect.TheVariants as effect
-use Rattle.turn_code.specs.declared.effect.Sending.{Sending}
 use Rattle.turn_code.specs.declared.machine.End.{End}
 use Rattle.turn_code.specs.declared.machine.End.TheVariants as end
 use Rattle.turn_code.specs.declared.trouble.Trouble.{Trouble}

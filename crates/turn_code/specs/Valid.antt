@@ -1,5 +1,5 @@
 -- A valid draft, and where one is broken.
-use Rattle.std.specs.Prelude.{◌≡◌, ℕ, Option, Some}
+use Rattle.std.specs.Prelude.{◌≡◌, ℕ, Some}
 use Rattle.turn_code.specs.Transitions.{Transition, transition_at}
 use Rattle.turn_code.specs.Rules.{JumpsInside, KeepsShapes, HasOperands, KeepsSorts, KeepsSets, HasStates, HasNumbers, KeepsSetLimits, KeepsLimits, KeepsCounts}
 use Rattle.turn_code.specs.declared.input.Place.{Place}

@@ -53,12 +53,7 @@ pub struct Machine {
 
 #[tactic(auto, using(crate::proofs::Ran::step_count))]
 /// What the instruction at `place` of the code does, on an input. Where it is stuck it leaves the machine as it is.
-pub fn step_plain(
-    code: &[Instruction],
-    input: &Input,
-    place: usize,
-    machine: &mut Machine,
-) -> After
+pub fn step_plain(code: &[Instruction], input: &Input, place: usize, machine: &mut Machine) -> After
     requires room { HasRoom code.now place machine.old.operands machine.old.effects.items }
     requires count { machine.old.count < 512 }
     ensures count { CountIs (machine.old.count + 1) (after_of result machine.new) }
@@ -214,7 +209,10 @@ impl Machine {
         ensures stays { StaysIfStuck result self.old self.new }
     {
         match self.operands.pop_integer() {
-            Ok(number) if 0 < divisor => self.put(Value::Int(division.apply(number, divisor)), next),
+            Ok(number) if 0 < divisor => self.put(
+                Value::Int(division.apply(number, divisor)),
+                next,
+            ),
             Ok(number) => {
                 self.operands.push(Value::Int(number));
                 After::Stuck(Trouble::WrongSort)

@@ -1,4 +1,5 @@
-ghost use Rattle.std.specs.Prelude.{◌≡◌};
+ghost use Rattle.std.specs.Prelude.{◌≡◌, ◌≤◌};
+ghost use Rattle.turn_code.specs.Code.{sends};
 
 use super::*;
 use arrayvec::ArrayVec;
@@ -29,6 +30,17 @@ fn operands(values: &[Value]) -> Operands {
     operands
 }
 
+/// An input with the parameter 5 from process 3.
+fn input() -> Input {
+    let mut parameters = ArrayVec::new();
+    parameters.push(int(5));
+    Input {
+        variables: ArrayVec::new(),
+        parameters,
+        sender: Some(Party::Process(ProcessNumber(3))),
+    }
+}
+
 /// What an instruction does on these operands, the topmost last, with the parameter 5: what follows, and the topmost
 /// operand then.
 fn expect(
@@ -37,10 +49,13 @@ fn expect(
     after: After,
     top: Option<Value>,
     rt: &impl Abort,
-) {
+)
+    requires { sends instruction ≤ 4 }
+{
     let mut machine = machine(values);
     assert!(rt; machine.operands.len() < 16);
-    let follows = step_plain(&[instruction], &[Value::Int(5)], 0, &mut machine);
+    assert!(rt; machine.effects.len() < 32);
+    let follows = step_plain(&[instruction], &input(), 0, &mut machine);
     assert_eq!(rt; follows, after);
     assert_eq!(rt; machine.operands.pop(), top);
 }
@@ -76,6 +91,64 @@ fn each_instruction_goes_on(rt: HostRuntime) {
     expect(Instruction::Neg, &[int(3)], GOES, Some(int(-3)), &rt);
     let end = After::Ends(End::State(StateNumber(2)));
     expect(Instruction::Next(StateNumber(2)), &[], end, None, &rt);
+    let stop = After::Ends(End::Stop);
+    expect(Instruction::Stop, &[], stop, None, &rt);
+}
+
+#[test]
+fn divisions_keep_their_signs(rt: HostRuntime) {
+    let seven = [int(-7)];
+    expect(Instruction::Div(2), &seven, GOES, Some(int(-3)), &rt);
+    expect(Instruction::Mod(2), &seven, GOES, Some(int(1)), &rt);
+    expect(Instruction::Rem(2), &seven, GOES, Some(int(-1)), &rt);
+    let wrong = After::Stuck(Trouble::WrongSort);
+    expect(Instruction::Mod(0), &seven, wrong, Some(int(-7)), &rt);
+}
+
+#[test]
+fn truth_values_are_joined(rt: HostRuntime) {
+    let (yes, no) = (Value::Bool(true), Value::Bool(false));
+    expect(Instruction::Not, &[yes], GOES, Some(no), &rt);
+    expect(Instruction::And, &[yes, no], GOES, Some(no), &rt);
+    expect(Instruction::Or, &[yes, no], GOES, Some(yes), &rt);
+    expect(Instruction::Xor, &[yes, yes], GOES, Some(no), &rt);
+    expect(Instruction::Same, &[no, no], GOES, Some(yes), &rt);
+    let less = Instruction::Compare(Relation::Less);
+    expect(less, &[int(-1), int(0)], GOES, Some(yes), &rt);
+}
+
+#[test]
+fn branches_jump(rt: HostRuntime) {
+    let to = CodePlace(9);
+    let over_9 = Instruction::Case(Relation::Greater, 9, to);
+    let there = After::Goes(9);
+    expect(over_9, &[int(10)], there, None, &rt);
+    expect(over_9, &[int(9)], GOES, Some(int(9)), &rt);
+    let from_0_to_3 = Instruction::CaseWithin(to, 0, 3);
+    expect(from_0_to_3, &[int(3)], there, None, &rt);
+    expect(from_0_to_3, &[int(4)], GOES, Some(int(4)), &rt);
+    let pick = Instruction::Pick(CodePlace(8), to);
+    expect(pick, &[Value::Bool(true)], there, None, &rt);
+    expect(Instruction::Drop, &[int(1)], GOES, None, &rt);
+    expect(Instruction::Jump(to), &[int(1)], there, Some(int(1)), &rt);
+}
+
+#[test]
+fn an_answer_goes_to_its_sender(rt: HostRuntime) {
+    let mut machine = machine(&[int(1), int(2), int(3)]);
+    assert!(rt; machine.effects.len() < 32);
+    let output = Instruction::Output(SignalNumber(4), Receiver::Sender, 2);
+    let follows = step_plain(&[output], &input(), 0, &mut machine);
+    assert_eq!(rt; follows, GOES);
+    assert_eq!(rt; machine.operands.pop(), Some(int(1)));
+    let sent = machine.effects.pop();
+    if let Some(Effect::Output(sending)) = sent {
+        assert_eq!(rt; sending.signal, SignalNumber(4));
+        assert_eq!(rt; sending.receiver, Party::Process(ProcessNumber(3)));
+        assert!(rt; sending.parameters.as_slice() == [int(2), int(3)].as_slice());
+    } else {
+        assert!(rt; false, "no output");
+    }
 }
 
 #[test]
@@ -108,7 +181,7 @@ fn each_trouble_is_named(rt: HostRuntime) {
     expect(Instruction::Neg, &[yes], wrong, Some(yes), &rt);
     let mut machine = machine(&[]);
     assert!(rt; machine.operands.is_empty());
-    let outside = step_plain(&[Instruction::Add], &[], 1, &mut machine);
+    let outside = step_plain(&[Instruction::Add], &input(), 1, &mut machine);
     assert_eq!(rt; outside, After::Stuck(Trouble::Outside));
 }
 
@@ -117,7 +190,7 @@ fn a_store_is_kept(rt: HostRuntime) {
     let mut machine = machine(&[int(4)]);
     assert!(rt; machine.operands.len() == 1);
     let store = Instruction::Store(VariableNumber(1));
-    let follows = step_plain(&[store], &[], 0, &mut machine);
+    let follows = step_plain(&[store], &input(), 0, &mut machine);
     assert_eq!(rt; follows, GOES);
     assert!(rt; machine.variables.as_slice() == [Some(int(7)), Some(int(4))].as_slice());
     assert_eq!(rt; machine.count, 1);

@@ -1,4 +1,4 @@
-use Rattle.std.proofs.Common.{◌<◌, ◌≤◌, ◌^◌, arith, rules, ltb-true}
+use Rattle.std.proofs.Common.{◌<◌, ◌^◌, arith, rules, ltb-true}
 use Rattle.turn_code.proofs.Masks.{none_above}
 use Rattle.turn_code.proofs.variable_set.VariableSet.has.Goals as goal
 
