@@ -123,7 +123,11 @@ fn has_names(signals: &[DraftSignal], transition: &Transition<'_>) -> bool
 {
     match transition.trigger {
         Some(trigger) => is_there(signals, transition.process, trigger),
-        None => have_saves(signals, transition.process, transition.process.states.as_slice()),
+        None => have_saves(
+            signals,
+            transition.process,
+            transition.process.states.as_slice(),
+        ),
     }
 }
 
@@ -141,9 +145,7 @@ fn is_there(signals: &[DraftSignal], process: &DraftProcess, trigger: Trigger) -
 fn have_saves(signals: &[DraftSignal], process: &DraftProcess, states: &[DraftState]) -> bool
     ensures { IsTrue result ↔ All (HasSaves signals.now process.now) states.now }
 {
-    states
-        .iter()
-        .all(|state| all_there(signals, process, state.saves.as_slice()))
+    states.iter().all(|state| all_there(signals, process, state.saves.as_slice()))
 }
 
 fn all_there(signals: &[DraftSignal], process: &DraftProcess, triggers: &[Trigger]) -> bool

@@ -23,7 +23,13 @@ pub(crate) fn keeps_sending(
     ensures { IsTrue result ↔ KeepsSending draft.now (seen transition.now) signal receiver count }
 {
     has_parameters(draft.signals.as_slice(), signal, count)
-        && reaches_receiver(draft, transition.number, signal, transition.trigger, receiver)
+        && reaches_receiver(
+            draft,
+            transition.number,
+            signal,
+            transition.trigger,
+            receiver,
+        )
 }
 
 /// Whether there is such a signal, with so many parameters.
@@ -63,12 +69,24 @@ fn answers_sender(
 ) -> bool
     ensures { IsTrue result ↔ AnswersSender draft.now process.0 signal trigger }
 {
-    let routes = draft.routes.as_slice();
     match trigger {
-        Some(Trigger::Signal(taken)) => all_answer(routes, routes, process, taken, signal),
+        Some(Trigger::Signal(taken)) => answers_each(draft, process, taken, signal),
         Some(Trigger::Timer(_)) => false,
         None => false,
     }
+}
+
+/// Whether a signal goes back on each route that brings the one that is taken.
+fn answers_each(
+    draft: &Draft,
+    process: ProcessNumber,
+    taken: SignalNumber,
+    signal: SignalNumber,
+) -> bool
+    ensures { IsTrue result ↔ All (Answers draft.now.routes process.0 taken signal) draft.now.routes }
+{
+    let routes = draft.routes.as_slice();
+    all_answer(routes, routes, process, taken, signal)
 }
 
 /// Whether a party is the environment, or a process that is there.
