@@ -236,8 +236,11 @@ set_small n r h low =
 pub limits_at : (d : Draft) (p : ℕ) (process : DraftProcess) → slice_get d.processes p ≡ Some process → KeepsAt d Limit p Start 0 0 → KeepsProcessLimits process
 limits_at d p process e at = (at.each (start_of p process) (start_at_0 d p process e)).process refl refl
 
+pub process_small : (d : Draft) (p : ℕ) (process : DraftProcess) → IsValid d → slice_get d.processes p ≡ Some process → KeepsProcessLimits process
+process_small d p process valid e = ((valid.each p Start 0 (start_of p process) (start_at_0 d p process e)).limit 0).process refl refl
+
 pub start_small : (d : Draft) (p : ℕ) (process : DraftProcess) → IsValid d → slice_get d.processes p ≡ Some process → length process.variables ≤ 32
-start_small d p process valid e = (((valid.each p Start 0 (start_of p process) (start_at_0 d p process e)).limit 0).process refl refl).variables
+start_small d p process valid e = (process_small d p process valid e).variables
 
 pub certified : (d : Draft) (p : ℕ) (s : Place) (i : ℕ) (t : Transition) → PathLaw → SafeLaw → IsValid d → Some t ≡ transition_at d p s i → IsCertified d p s i t.piece.certificate
 certified d p s i t law safe valid e =
