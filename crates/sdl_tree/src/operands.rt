@@ -223,6 +223,7 @@ fn close_frame(alloc: Global, frame: Frame, operand: Part) -> Result<Part, Alloc
     close_tests(alloc, tests, last)
 }
 
+/// An operator of a product behind an operand.
 fn with_product(
     alloc: Global,
     operator: BinaryOperator,
@@ -240,6 +241,7 @@ fn with_product(
     })
 }
 
+/// An operator of a sum behind an operand.
 fn with_sum(
     alloc: Global,
     operator: BinaryOperator,
@@ -256,6 +258,7 @@ fn with_sum(
     })
 }
 
+/// The sign of a relation behind a sum.
 fn with_relation(
     alloc: Global,
     operator: BinaryOperator,
@@ -277,6 +280,7 @@ fn with_relation(
     })
 }
 
+/// AND behind a relation.
 fn with_conjunction(
     alloc: Global,
     operator: BinaryOperator,
@@ -299,6 +303,7 @@ fn with_conjunction(
     })
 }
 
+/// OR or XOR behind a conjunction.
 fn with_disjunction(
     alloc: Global,
     operator: BinaryOperator,
