@@ -1,5 +1,5 @@
 -- Readings that build no tree above one that is too high give what is left of the whole tree: expressions, and what is put together.
-use Rattle.std.proofs.Common.{◌≡◌, ℕ, suc, zero, Bool, true, false, List, [], ◌∷◌, ◌++◌, Option, Some, None, is_some, length, map, refl, sym, ap, ◌∙◌}
+use Rattle.std.proofs.Common.{◌≡◌, ℕ, suc, zero, Bool, true, false, List, [], ◌∷◌, Option, Some, None, is_some, length, map, refl, sym, ap, ◌∙◌}
 use Rattle.std.specs.Prelude.{nat_lt, nat_le, if◌then◌else◌}
 use Rattle.sdl_lex.specs.declared.TheConstants.{MAX_NUMBER}
 use Rattle.sdl_lex.specs.declared.lexemes.Token.{Token}
@@ -22,7 +22,7 @@ use Rattle.sdl_tree.specs.Plain.{Tree, number, truth, variable, unary, binary}
 use Rattle.sdl_tree.specs.Expressions.{Sign, leaf, joins, minus, denies, opens, closes, other, sign, symbol_sign, word_sign, lexeme_sign, place_of, placed}
 use Rattle.sdl_tree.specs.Heights.{tree_height}
 use Rattle.sdl_tree.specs.Readings.{Reading, read, fails, At, then_read, either, choice, many_for, many, give, token, ◌>>=◌, separated, list_in_parentheses, behind_comma}
-use Rattle.sdl_tree.specs.Machine.{whole_trees, low_trees, low_binary, lowered, Terms, Tests, Frame, no_terms, empty_frame, led_by, joined_to, closed_product, closed_terms, closed_relation, closed_conjunction, closed_tests, closed, with_product, with_sum, with_relation, with_conjunction, with_disjunction, with_operator, with_lead, bars, State, wants, has, Turn, goes, done, stuck, unless, lead_turn, join_turn, want_turn, close_turn, end_turn, have_turn, turn, after_turn, run, expression_at}
+use Rattle.sdl_tree.specs.Machine.{whole_trees, low_trees, low_binary, lowered, Terms, Tests, Frame, no_terms, empty_frame, led_by, joined_to, closed_product, closed_terms, closed_relation, closed_conjunction, closed_tests, closed, with_operator, with_lead, bars, State, wants, has, Turn, goes, done, stuck, unless, lead_turn, join_turn, want_turn, close_turn, end_turn, have_turn, turn, after_turn, run, expression_at}
 
 -- the machine
 
