@@ -224,6 +224,7 @@ fn close_frame(alloc: Global, frame: Frame, operand: Part) -> Result<Part, Alloc
     close_tests(alloc, tests, last)
 }
 
+/// An operator of a product behind an operand.
 fn with_product(
     alloc: Global,
     operator: BinaryOperator,
@@ -241,6 +242,7 @@ fn with_product(
     })
 }
 
+/// An operator of a sum behind an operand.
 fn with_sum(
     alloc: Global,
     operator: BinaryOperator,
@@ -257,6 +259,7 @@ fn with_sum(
     })
 }
 
+/// The sign of a relation behind a sum.
 fn with_relation(
     alloc: Global,
     operator: BinaryOperator,
@@ -278,6 +281,7 @@ fn with_relation(
     })
 }
 
+/// AND behind a relation.
 fn with_conjunction(
     alloc: Global,
     operator: BinaryOperator,
@@ -300,6 +304,7 @@ fn with_conjunction(
     })
 }
 
+/// OR or XOR behind a conjunction.
 fn with_disjunction(
     alloc: Global,
     operator: BinaryOperator,
