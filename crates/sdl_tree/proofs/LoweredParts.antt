@@ -3,13 +3,13 @@ use Rattle.std.proofs.Common.{◌≡◌, ℕ, List, [], ◌∷◌, Option, Some,
 use Rattle.std.specs.List.{filter_map}
 use Rattle.std.specs.Option.{option_to_list}
 use Rattle.sdl_lex.specs.declared.lexemes.Word.TheVariants as words
-use Rattle.sdl_lex.specs.declared.lexemes.Symbol.TheVariants.{Semicolon, Comma, Assign, Open, Close, Plus}
+use Rattle.sdl_lex.specs.declared.lexemes.Symbol.TheVariants.{Comma, Assign, Open, Close, Plus}
 use Rattle.sdl_tree.specs.declared.tree.End.{End}
 use Rattle.sdl_tree.specs.Tokens.{a_symbol, a_word, a_name, a_quoted, an_entity, a_declaration, a_clause, an_action, an_end}
 use Rattle.sdl_tree.specs.Plain.{Tree, PlainAssignment, PlainSending, PlainAction, task, output, set_timer, reset_timer, Text, falls, ends, does, PlainInput, PlainClause, input, save, PlainState, PlainStart, PlainProcess, PlainEntity, signals, route, connect, process, PlainBlock}
 use Rattle.sdl_tree.specs.Views.{does_all, end_text}
 use Rattle.sdl_tree.specs.Productions.{names_at, terminator_at, signal_at, signals_at, path_at, route_at, connect_at, declaration_at, stimulus_at, assignment_at, assigned_at, quoted_at, item_at, task_at, sending_at, destination_at, output_at, delay_at, set_at, reset_at, action_at, end_at, text_at, input_at, save_at, clause_at, closing_at, end_state_at, state_at, start_at, process_head_at, process_at, entity_at, block_at}
-use Rattle.sdl_tree.specs.Readings.{Reading, read, At, choice, optional, many, give, token, separated_from, separated, list_in_parentheses}
+use Rattle.sdl_tree.specs.Readings.{read, At, choice, optional, many, give, token, separated_from, separated, list_in_parentheses}
 use Rattle.sdl_tree.specs.Machine.{whole_trees, low_trees, lowered, expression_at}
 use Rattle.sdl_tree.proofs.Lowering.{mapped, Lowers, expression_lowers, give_lowers, then_lowers, next_lowers, choice_lowers, many_lowers, separated_lowers, list_lowers}
 

@@ -1,5 +1,5 @@
 -- Each production is decided by its reading.
-use Rattle.std.specs.Prelude.{ℕ, List, [], ◌∷◌, Some, None, pos, ◌-ℤ◌}
+use Rattle.std.specs.Prelude.{ℕ, List, ◌∷◌, Some, None, pos, ◌-ℤ◌}
 use Rattle.std.specs.List.{filter_map}
 use Rattle.std.specs.Option.{option_to_list}
 use Rattle.sdl_lex.specs.declared.lexemes.Word.TheVariants as words

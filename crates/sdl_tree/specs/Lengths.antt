@@ -6,7 +6,7 @@ use Rattle.sdl_lex.specs.declared.lexemes.Token.{Token}
 use Rattle.sdl_lex.specs.declared.lexemes.Word.TheVariants as words
 use Rattle.sdl_lex.specs.declared.lexemes.Symbol.TheVariants.{Semicolon, Comma, Assign, Open, Close, Plus, Minus}
 use Rattle.sdl_tree.specs.Plain.{Tree}
-use Rattle.sdl_tree.specs.Tokens.{begins, a_word, a_symbol, a_number, a_name, a_sort, a_party, a_constant, a_one, a_closing, a_quoted, a_destination, an_entity, a_declaration, a_clause, an_action, an_end}
+use Rattle.sdl_tree.specs.Tokens.{begins, a_word, a_symbol, a_number, a_name, a_sort, a_party, a_constant, a_one, a_closing, a_quoted, a_destination, a_declaration, a_clause, an_action, an_end}
 use Rattle.sdl_tree.specs.Expressions.{other, sign}
 use Rattle.sdl_tree.specs.Machine.{Build, low_trees, State, wants, Turn, goes, done, stuck, turn, after_turn, run, empty_frame, expression_at}
 use Rattle.sdl_tree.specs.Readings.{Reading, read, fails, At, then_read, stands_for, either, many_for, many, choice, optional, give, token, separated_from, separated, list_in_parentheses, Shortens, NeverLonger}
