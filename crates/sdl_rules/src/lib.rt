@@ -14,6 +14,7 @@ mod settled;
 mod sorts;
 
 pub use fault::{ControlPath, Limit, RuleFault, Step};
+pub use receivers::{Recipients, find_receivers};
 pub use resolved::{Resolved, resolve};
 pub use sdl_tables::{InputRow, NameTable, ProcessTable, Variable};
 

@@ -211,6 +211,114 @@ fn each_text_has_its_refusal(rt: HostRuntime) -> Result<(), Fail> {
 }
 
 #[test]
+fn sorts_receivers_and_divisors(rt: HostRuntime) -> Result<(), Fail> {
+    let rows = [
+        (
+            "BLOCK B; SIGNAL A(Integer), C; PROCESS P; DCL x Integer, b Boolean; START; TASK x := b; STOP; ENDPROCESS; ENDBLOCK;",
+            "S3 WrongSort 80",
+        ),
+        (
+            "BLOCK B; SIGNAL A(Integer), C; PROCESS P; DCL x Integer; START; TASK x := 1, x := x + (TRUE); STOP; ENDPROCESS; ENDBLOCK;",
+            "S3 WrongSort 86",
+        ),
+        (
+            "BLOCK B; SIGNAL A(Integer), C; PROCESS P; DCL b Boolean; START; TASK b := (b = TRUE) /= NOT b, b := b = 1; STOP; ENDPROCESS; ENDBLOCK;",
+            "S3 WrongSort 104",
+        ),
+        (
+            "BLOCK B; SIGNAL A(Integer), C; PROCESS P; DCL b Boolean; START; TASK b := NOT b AND (2 * 1); STOP; ENDPROCESS; ENDBLOCK;",
+            "S3 WrongSort 84",
+        ),
+        (
+            "BLOCK B; SIGNAL A(Integer), C; PROCESS P; DCL x Integer; START; TASK x := 1 / TRUE; STOP; ENDPROCESS; ENDBLOCK;",
+            "S3 WrongSort 78",
+        ),
+        (
+            "BLOCK B; SIGNAL A(Integer), C; PROCESS P; DCL x Integer, b Boolean := 1; START; STOP; ENDPROCESS; ENDBLOCK;",
+            "S3 WrongSort 70",
+        ),
+        (
+            "BLOCK B; SIGNAL A(Integer), C; PROCESS P; START; OUTPUT A; STOP; ENDPROCESS; ENDBLOCK;",
+            "S3 WrongSort 56",
+        ),
+        (
+            "BLOCK B; SIGNAL A(Integer), C; PROCESS P; START; OUTPUT A(TRUE); STOP; ENDPROCESS; ENDBLOCK;",
+            "S3 WrongSort 58",
+        ),
+        (
+            "BLOCK B; SIGNAL A(Integer), C; PROCESS P; TIMER T; START; SET(NOW + FALSE, T); STOP; ENDPROCESS; ENDBLOCK;",
+            "S3 WrongSort 68",
+        ),
+        (
+            "BLOCK B; SIGNAL A(Integer), C; PROCESS P; START; STOP; STATE S; INPUT C(); STOP; ENDPROCESS; ENDBLOCK;",
+            "S3 WrongSort 70",
+        ),
+        (
+            "BLOCK B; SIGNAL A(Integer), C; PROCESS P; DCL b Boolean; START; STOP; STATE S; INPUT A(b); STOP; ENDPROCESS; ENDBLOCK;",
+            "S3 WrongSort 87",
+        ),
+        (
+            "BLOCK B; SIGNAL A(Integer), C; PROCESS P; TIMER T; DCL x Integer; START; STOP; STATE S; INPUT A(x), T(x); STOP; ENDPROCESS; ENDBLOCK;",
+            "S3 WrongSort 100",
+        ),
+        (
+            "BLOCK B; SIGNAL A(Integer), C; PROCESS P; START; OUTPUT C; STOP; ENDPROCESS; ENDBLOCK;",
+            "S5 NoReceiver 56",
+        ),
+        (
+            "BLOCK B; SIGNAL A, C; SIGNALROUTE r FROM ENV TO P WITH A; FROM P TO ENV WITH C; SIGNALROUTE s FROM Q TO P WITH A; PROCESS Q; START; STOP; ENDPROCESS; PROCESS P; TIMER T; START; OUTPUT C TO P; STOP; ENDPROCESS; ENDBLOCK;",
+            "S5 NoReceiver 184",
+        ),
+        (
+            "BLOCK B; SIGNAL A, C; SIGNALROUTE r FROM ENV TO P WITH A; FROM P TO ENV WITH C; SIGNALROUTE s FROM Q TO P WITH A; PROCESS Q; START; STOP; ENDPROCESS; PROCESS P; TIMER T; START; OUTPUT C TO SENDER; STOP; ENDPROCESS; ENDBLOCK;",
+            "S5 NoReceiver 184",
+        ),
+        (
+            "BLOCK B; SIGNAL A, C; SIGNALROUTE r FROM ENV TO P WITH A; FROM P TO ENV WITH C; SIGNALROUTE s FROM Q TO P WITH A; PROCESS Q; START; STOP; ENDPROCESS; PROCESS P; TIMER T; START; STOP; STATE S; INPUT A; OUTPUT C TO SENDER; STOP; ENDPROCESS; ENDBLOCK;",
+            "S5 NoReceiver 208",
+        ),
+        (
+            "BLOCK B; SIGNAL A, C; SIGNALROUTE r FROM ENV TO P WITH A; FROM P TO ENV WITH C; SIGNALROUTE s FROM Q TO P WITH A; PROCESS Q; START; STOP; ENDPROCESS; PROCESS P; TIMER T; START; STOP; STATE S; INPUT C, T; OUTPUT C TO SENDER; STOP; ENDPROCESS; ENDBLOCK;",
+            "S5 NoReceiver 211",
+        ),
+        (
+            "BLOCK B; SIGNAL A, C; SIGNALROUTE r FROM ENV TO P WITH A; FROM P TO ENV WITH C; SIGNALROUTE s FROM Q TO P WITH A; PROCESS Q; START; STOP; ENDPROCESS; PROCESS P; TIMER T; START; OUTPUT C; STOP; STATE S; INPUT C; OUTPUT C TO SENDER; STOP; ENDPROCESS; ENDBLOCK;",
+            "sound",
+        ),
+        (
+            "BLOCK B; SIGNAL A, C; SIGNALROUTE r FROM ENV TO P WITH A; FROM P TO ENV WITH C; SIGNALROUTE s FROM Q TO P WITH A; FROM P TO Q WITH C; PROCESS Q; START; STOP; ENDPROCESS; PROCESS P; TIMER T; START; OUTPUT C TO q; STOP; STATE S; INPUT A; OUTPUT C TO SENDER; STOP; ENDPROCESS; ENDBLOCK;",
+            "sound",
+        ),
+        (
+            "BLOCK B; SIGNAL A, C; SIGNALROUTE r FROM ENV TO P WITH A; FROM P TO ENV WITH C; SIGNALROUTE s FROM Q TO P WITH A; FROM P TO Q WITH C; PROCESS Q; START; STOP; ENDPROCESS; PROCESS P; TIMER T; START; OUTPUT C; STOP; ENDPROCESS; ENDBLOCK;",
+            "S6 TwoReceivers 204",
+        ),
+        (
+            "BLOCK B; SIGNAL A, C; SIGNALROUTE r FROM ENV TO P WITH A; FROM P TO ENV WITH C; SIGNALROUTE s FROM Q TO P WITH A; FROM P TO ENV WITH c, C; PROCESS Q; START; STOP; ENDPROCESS; PROCESS P; TIMER T; START; OUTPUT C; STOP; ENDPROCESS; ENDBLOCK;",
+            "sound",
+        ),
+        (
+            "BLOCK B; SIGNAL A(Integer), C; PROCESS P; DCL x Integer; START; TASK x := 7 / (1), x := (x / 2) MOD (1 + 1); STOP; ENDPROCESS; ENDBLOCK;",
+            "S9 BadDivisor 100",
+        ),
+        (
+            "BLOCK B; SIGNAL A(Integer), C; PROCESS P; DCL x Integer; START; TASK x := 7 REM 0; STOP; ENDPROCESS; ENDBLOCK;",
+            "S9 BadDivisor 80",
+        ),
+        (
+            "BLOCK B; SIGNAL A(Integer), C; PROCESS P; DCL x Integer; START; TASK x := 7 MOD (-2); STOP; ENDPROCESS; ENDBLOCK;",
+            "S9 BadDivisor 80",
+        ),
+        (
+            "BLOCK B; SIGNAL A(Integer); SIGNALROUTE r FROM P TO ENV WITH A; PROCESS P; DCL m, n Integer; START; TASK m := 1; OUTPUT A(m), A(n); STOP; ENDPROCESS; ENDBLOCK;",
+            "S11 Unset n START",
+        ),
+    ];
+    assert_eq!(rt; wrong(rt.alloc(), rows.as_slice())?.as_str(), "");
+    Ok(())
+}
+
+#[test]
 fn variables_that_are_read_unset(rt: HostRuntime) -> Result<(), Fail> {
     let rows = [
         (
@@ -238,6 +346,12 @@ fn variables_that_are_read_unset(rt: HostRuntime) -> Result<(), Fail> {
             "S11 Unset n START",
         ),
         ("DCL n Integer;", "TASK n := 1, n := n + 1;", "", "sound"),
+        (
+            "DCL n Integer; TIMER T;",
+            "SET(NOW + n, T);",
+            "",
+            "S11 Unset n START",
+        ),
         (
             "DCL m, n Integer;",
             "",
