@@ -1,8 +1,8 @@
 -- From entries and parts to rules, and back.
-use Rattle.std.proofs.Common.{◌≡◌, ℕ, zero, suc, ◌+◌, ◌-◌, ◌*◌, ◌^◌, ◌<◌, ◌≤◌, List, [], ◌∷◌, length, Option, Some, None, Result, Ok, Err, IfErr, refl, sym, ap, ◌∙◌, subst, arith, ⊎_elim, pow_mono, pow-suc}
+use Rattle.std.proofs.Common.{◌≡◌, ℕ, zero, suc, ◌+◌, ◌*◌, ◌^◌, ◌<◌, ◌≤◌, List, [], ◌∷◌, length, Some, None, Result, Ok, Err, IfErr, refl, sym, ap, ◌∙◌, subst, arith, ⊎_elim, pow_mono, pow-suc}
 use Rattle.std.specs.Prelude.{slice_get, Contains}
 use Rattle.std.proofs.lemmas.Bool.{cases_lt}
-use Rattle.turn_code.specs.Transitions.{Transition, transition_at, start_of, input_of, process_at, place_at, input_at}
+use Rattle.turn_code.specs.Transitions.{Transition, transition_at, start_of, input_of, process_at}
 use Rattle.turn_code.specs.Rules.{KeepsSetLimits, KeepsProcessLimits}
 use Rattle.turn_code.specs.Valid.{Keeps, KeepsAt, IsBrokenAt, IsValidTransition, IsValid}
 use Rattle.turn_code.specs.declared.input.Place.{Place}
