@@ -2,30 +2,39 @@
 use Rattle.std.specs.Prelude.{◌≡◌, ℕ, ◌+◌, ◌≤◌, List, []}
 use Rattle.turn_code.specs.Run.{Progress, Ran, exec}
 use Rattle.turn_code.specs.Transitions.{Transition}
-use Rattle.turn_code.specs.Safe.{IsSafe}
+use Rattle.turn_code.specs.Rules.{KeepsPieceLimits}
+use Rattle.turn_code.specs.Safe.{IsSafe, SendsFew}
 use Rattle.turn_code.specs.declared.value.Value.{Value}
+use Rattle.turn_code.specs.declared.input.Input.{Input}
 use Rattle.turn_code.specs.declared.instruction.Instruction.{Instruction}
+use Rattle.turn_code.specs.declared.draft.Cert.{Cert}
 
 -- at most 512 instructions from the first on, with no operand
-unfoldable pub whole_run : List Instruction → List Value → Progress → Ran
-whole_run code ps s = exec code ps 512 0 [] s
+unfoldable pub whole_run : List Instruction → Input → Progress → Ran
+whole_run code x s = exec code x 512 0 [] s
 
--- the code is that of a transition whose run from here is safe within so many instructions, at most 512
-pub record IsSafeWithin (code : List Instruction) (ps : List Value) (budget : ℕ) (s : Progress) : Type 0 where
+-- the code and its counts are those of a transition within the limits, whose run from here is safe within its budget, at most 512
+pub record IsSafeWithin (code : List Instruction) (x : Input) (c : Cert) (s : Progress) : Type 0 where
   pub transition : Transition
   pub code_is : transition.piece.code ≡ code
-  pub small : budget ≤ 512
-  pub safe : IsSafe transition ps budget 0 [] s
+  pub certificate_is : transition.piece.certificate ≡ c
+  pub limits : KeepsPieceLimits transition.piece
+  pub few : SendsFew transition.piece.code
+  pub small : transition.piece.certificate.budget ≤ 512
+  pub safe : IsSafe transition x transition.piece.certificate.budget 0 [] s
 
 -- a run that is at place k, which took so many instructions and goes on as the whole does
-pub record IsUnderWay (code : List Instruction) (ps : List Value) (budget taken : ℕ) (whole : Ran) (k : ℕ) (os : List Value) (s : Progress) : Type 0 where
+pub record IsUnderWay (code : List Instruction) (x : Input) (c : Cert) (taken : ℕ) (whole : Ran) (k : ℕ) (os : List Value) (s : Progress) : Type 0 where
   pub transition : Transition
   pub code_is : transition.piece.code ≡ code
+  pub certificate_is : transition.piece.certificate ≡ c
+  pub limits : KeepsPieceLimits transition.piece
+  pub few : SendsFew transition.piece.code
   pub left : ℕ
   pub fuel : ℕ
-  pub budget_is : taken + left ≡ budget
+  pub budget_is : taken + left ≡ c.budget
   pub fuel_is : taken + fuel ≡ 512
   pub less : left ≤ fuel
   pub count : s.count ≡ taken
-  pub safe : IsSafe transition ps left k os s
-  pub same : exec code ps fuel k os s ≡ whole
+  pub safe : IsSafe transition x left k os s
+  pub same : exec code x fuel k os s ≡ whole

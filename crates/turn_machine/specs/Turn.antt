@@ -1,7 +1,8 @@
 -- A turn, as contracts see a job, and a job that ran.
-use Rattle.std.specs.Prelude.{◌≡◌, ℕ, ◌≤◌, List, Option, Some, None}
+use Rattle.std.specs.Prelude.{◌≡◌, ℕ, ◌≤◌, List, length, Option, Some, None}
 use Rattle.turn_code.specs.Run.{Progress, Ran, run, ended, got_stuck, unfinished}
 use Rattle.turn_code.specs.Transitions.{Transition, transition_at}
+use Rattle.turn_code.specs.Rules.{KeepsSetLimits}
 use Rattle.turn_code.specs.Valid.{IsValidTransition}
 use Rattle.turn_code.specs.Fits.{FitsTransition}
 use Rattle.turn_code.specs.declared.value.Value.{Value}
@@ -37,14 +38,16 @@ turn_of actor turn process place input_number code certificate input = record {
   input = input;
 }
 
--- the code is that of a valid transition, and the input fits it
+-- the code is that of a valid transition of the process, and the input fits it
 pub record IsRunnable (j : Turn) : Type 0 where
   pub draft : Draft
   pub transition : Transition
+  pub limits : KeepsSetLimits draft
   pub valid : IsValidTransition draft transition
+  pub number : transition.number ≡ j.process.0
   pub code : transition.piece.code ≡ j.code
   pub certificate : transition.piece.certificate ≡ j.certificate
-  pub fits : FitsTransition draft j.process.0 transition j.input
+  pub fits : FitsTransition draft transition j.input
 
 -- how a turn ends: the end and what it leaves
 pub record Outcome : Type 0 where
@@ -66,7 +69,8 @@ pub record Begins (d : Draft) (actor turn : ℕ) (process : ProcessNumber) (plac
   pub there : transition_at d process.0 place input_number ≡ Some transition
   pub is : j ≡ turn_of actor turn process place input_number transition.piece.code transition.piece.certificate input
 
--- the end, variables, effects and count are those of the run of the turn's own code on its own input, within its budget
+-- the end, variables, effects and count are those of the run of the turn's own code on its own input, within its certificate
 pub record IsOutcome (j : Turn) (e : End) (vs : List (Option Value)) (es : List Effect) (count : ℕ) : Type 0 where
   pub ran : run j.code j.input ≡ ended e (record { variables = vs; effects = es; count = count })
   pub within : count ≤ j.certificate.budget
+  pub few : length es ≤ j.certificate.effects

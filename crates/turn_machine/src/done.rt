@@ -1,6 +1,6 @@
 //! Jobs that ran.
 
-ghost use Rattle.std.specs.Prelude.{◌≡◌, ◌≤◌, [], option_map, ⊤};
+ghost use Rattle.std.specs.Prelude.{◌≡◌, ◌≤◌, [], length, option_map, ⊤};
 ghost use Rattle.turn_code.specs.Run.{begun};
 ghost use Rattle.turn_code.specs.Machine.{progress_of};
 ghost use Rattle.turn_machine.specs.Turn.{Outcome, outcome_of};
@@ -40,13 +40,7 @@ pub fn run(job: Job) -> Done
 {
     safe_law();
     let mut machine = begin(&job);
-    let budget = job.certificate().budget;
-    let end = execute(
-        job.code(),
-        job.input().parameters.as_slice(),
-        budget,
-        &mut machine,
-    );
+    let end = execute(job.code(), job.input(), job.certificate(), &mut machine);
     let Machine {
         operands: _,
         variables,
@@ -97,9 +91,10 @@ impl Done {
         self.variables.as_slice()
     }
 
-    /// Its effects in order.
+    /// Its effects in order, at most as many as its certificate says.
     pub fn effects(&self) -> &[Effect]
-        ensures { option_map (λ (o : Outcome). o.progress.effects) (outcome_of self.now) ≡ Some result.now }
+        ensures within { length result.now ≤ self.now.certificate.effects }
+        ensures value { option_map (λ (o : Outcome). o.progress.effects) (outcome_of self.now) ≡ Some result.now }
     {
         self.effects.as_slice()
     }

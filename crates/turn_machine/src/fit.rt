@@ -2,7 +2,8 @@
 
 ghost use Rattle.std.specs.Prelude.{◌≡◌, ◌↔◌, IsTrue, map, Any, Contains};
 ghost use Rattle.turn_code.specs.Values.{sort_of};
-ghost use Rattle.turn_code.specs.Fits.{Fits, HasSort, HaveSorts, AreSet, IsProcess, Brings};
+ghost use Rattle.turn_code.specs.Routes.{IsProcess, Brings};
+ghost use Rattle.turn_code.specs.Fits.{Fits, HasSort, HaveSorts, AreSet};
 ghost use Rattle.turn_machine.specs.Fitting.{IsSetAt, IsBroughtBy};
 ghost use Rattle.turn_machine.specs.Given.{input_of};
 
@@ -15,7 +16,8 @@ use turn_code::{
 use turn_check::Verified;
 
 /// Whether an input fits input `input_number` at a place of a process: its parameters and set variables have their
-/// sorts, the variables that are to be set are set, and but for START a route brings the signal from its sender.
+/// sorts, the variables that are to be set are set, and but for START and a timer a route brings the signal from its
+/// sender.
 pub fn fits(
     verified: &Verified,
     process: ProcessNumber,
@@ -36,7 +38,7 @@ pub fn fits(
                 && are_set(transition.entry, variables.as_slice())
                 && is_brought(
                     verified.draft().routes.as_slice(),
-                    process,
+                    transition.number,
                     transition.trigger,
                     received.sender,
                 )
@@ -100,7 +102,7 @@ fn has_value(values: &[Option<Value>], variable: u8) -> bool
     }
 }
 
-/// Whether a route brings what the transition waits for from its sender.
+/// Whether a route brings the signal that the transition waits for from its sender.
 fn is_brought(
     routes: &[DraftRoute],
     process: ProcessNumber,
@@ -110,7 +112,7 @@ fn is_brought(
     ensures { IsTrue result ↔ IsBroughtBy routes.now process.0 trigger sender }
 {
     match trigger {
-        None => true,
+        None | Some(Trigger::Timer(_)) => true,
         Some(Trigger::Signal(signal)) => match sender {
             Some(sender) => some_route_brings(routes, sender, process, signal),
             None => false,

@@ -84,6 +84,7 @@ fn set_with(alloc: Global, up: DraftPiece, rt: &impl Abort) -> Result<Verified, 
     states.push(DraftState {
         name: named("Run", rt),
         set: VariableSet(2),
+        saves: Sequence::from(Vec::new(alloc)),
         inputs: Sequence::from(inputs),
     })?;
     let mut variables = Vec::new(alloc);
@@ -93,6 +94,7 @@ fn set_with(alloc: Global, up: DraftPiece, rt: &impl Abort) -> Result<Verified, 
     processes.push(DraftProcess {
         name: named("P", rt),
         variables: Sequence::from(variables),
+        timers: Sequence::from(Vec::new(alloc)),
         start: piece(alloc, &start, &[(0, 0), (1, 0), (0, 2)], 1)?,
         states: Sequence::from(states),
     })?;

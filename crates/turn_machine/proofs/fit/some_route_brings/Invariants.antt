@@ -1,6 +1,6 @@
 use Rattle.std.proofs.Common.{ℕ, ◌<◌}
 use Rattle.std.specs.Prelude.{slice_index_or}
-use Rattle.turn_code.specs.Fits.{Brings}
+use Rattle.turn_code.specs.Routes.{Brings}
 use Rattle.turn_code.specs.declared.draft.DraftRoute.{DraftRoute}
 use Rattle.turn_machine.proofs.fit.some_route_brings.Given as goal
 
