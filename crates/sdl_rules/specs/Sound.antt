@@ -3,11 +3,13 @@ use Rattle.std.specs.Prelude.{◌≡◌, ℕ, Bool, false, List, [], ◌∷◌, 
 use Rattle.std.specs.List.{list_any, flat_map}
 use Rattle.std.specs.Option.{option_map_or, option_to_list}
 use Rattle.sdl_tree.specs.declared.expression.Identifier.{Identifier}
+use Rattle.sdl_tree.specs.declared.tree.Destination.{Destination}
+use Rattle.sdl_tree.specs.declared.tree.Destination.TheVariants.{Sender, Process as To}
 use Rattle.sdl_tree.specs.declared.tree.Party.{Party}
 use Rattle.sdl_tree.specs.declared.tree.Party.TheVariants.{Environment, Process}
-use Rattle.sdl_tree.specs.declared.tree.End.TheVariants.{NextState}
-use Rattle.sdl_tree.specs.Plain.{Tree, number, variable, unary, binary, PlainAssignment, Text, falls, ends, task, PlainStimulus, PlainInput, PlainProcess, PlainPath, PlainRoute, PlainBlock}
-use Rattle.sdl_tables.specs.Names.{is_in, signals_of, routes_of, processes_of, signal_names, route_names, process_names, signal_named, variables_of, variable_names, timers_of, states_of, input_parts, Input, inputs_by_state}
+use Rattle.sdl_tree.specs.declared.tree.End.TheVariants.{NextState, Stop}
+use Rattle.sdl_tree.specs.Plain.{Tree, number, truth, variable, unary, binary, PlainAssignment, PlainSending, PlainAction, task, output, set_timer, reset_timer, Text, falls, ends, does, PlainStimulus, PlainInput, PlainState, PlainProcess, PlainPath, PlainRoute, PlainBlock}
+use Rattle.sdl_tables.specs.Names.{is_in, signals_of, routes_of, processes_of, signal_names, route_names, process_names, signal_named, variables_of, variable_names, timers_of, states_of, input_parts, part_saves}
 use Rattle.sdl_rules.specs.Longest.{pieces_of, piece_size, piece_depth, piece_effects}
 use Rattle.sdl_rules.specs.declared.fault.Limit.{Limit}
 use Rattle.sdl_tables.specs.declared.fault.TableFault.{TableFault}
@@ -34,6 +36,7 @@ route_unknown b r = flat_map (path_unknown b) r.paths
 -- the variables of an expression, in the order of the text
 abbrev pub tree_names : Tree → List Identifier
 tree_names (number at value) = []
+tree_names (truth at value) = []
 tree_names (variable at id) = id ∷ []
 tree_names (unary at operator operand) = tree_names operand
 tree_names (binary at operator left right) = tree_names left ++ tree_names right
@@ -41,45 +44,58 @@ tree_names (binary at operator left right) = tree_names left ++ tree_names right
 abbrev pub assignment_names : PlainAssignment → List Identifier
 assignment_names a = a.variable ∷ tree_names a.value
 
--- the variables of a transition
-abbrev pub text_names : Text → List Identifier
-text_names falls = []
-text_names (ends e) = []
-text_names (task at assignments rest) = flat_map assignment_names assignments ++ text_names rest
+-- the actions of a transition, in the order of the text
+abbrev pub actions_of : Text → List PlainAction
+actions_of falls = []
+actions_of (ends e) = []
+actions_of (does a rest) = a ∷ actions_of rest
+
+-- a signal that goes out, with the variables of its parameters
+abbrev pub sending_unknown : PlainBlock → PlainProcess → PlainSending → List ℕ
+sending_unknown b p s =
+    unknown (signal_names b) (s.signal ∷ []) ++ unknown (variable_names p) (flat_map tree_names s.parameters)
+
+-- the process to which signals go, if it is named
+abbrev pub destination_names : Option Destination → List Identifier
+destination_names None = []
+destination_names (Some (Sender at)) = []
+destination_names (Some (To id)) = id ∷ []
+
+abbrev pub action_unknown : PlainBlock → PlainProcess → PlainAction → List ℕ
+action_unknown b p (task at list) = unknown (variable_names p) (flat_map assignment_names list)
+action_unknown b p (output at list to) =
+    flat_map (sending_unknown b p) list ++ unknown (process_names b) (destination_names to)
+action_unknown b p (set_timer at delay timer) =
+    unknown (variable_names p) (tree_names delay) ++ unknown (timers_of p) (timer ∷ [])
+action_unknown b p (reset_timer at timer) = unknown (timers_of p) (timer ∷ [])
+
+abbrev pub text_unknown : PlainBlock → PlainProcess → Text → List ℕ
+text_unknown b p t = flat_map (action_unknown b p) (actions_of t)
+
+-- what an INPUT or a SAVE may name: a signal, or a timer of the process
+abbrev pub trigger_names : PlainBlock → PlainProcess → List Identifier
+trigger_names b p = signal_names b ++ timers_of p
 
 -- the variables that get parameters
 abbrev pub place_names : List (Option Identifier) → List Identifier
 place_names places = flat_map option_to_list places
 
 abbrev pub stimulus_unknown : PlainBlock → PlainProcess → PlainStimulus → List ℕ
-stimulus_unknown b p s = unknown (signal_names b) (s.name ∷ []) ++ unknown (variable_names p) (place_names s.places)
+stimulus_unknown b p s = unknown (trigger_names b p) (s.name ∷ []) ++ unknown (variable_names p) (place_names s.places)
 
 abbrev pub input_unknown : PlainBlock → PlainProcess → PlainInput → List ℕ
-input_unknown b p i = flat_map (stimulus_unknown b p) i.stimuli ++ unknown (variable_names p) (text_names i.text)
+input_unknown b p i = flat_map (stimulus_unknown b p) i.stimuli ++ text_unknown b p i.text
+
+-- the names in the SAVEs of a STATE part
+abbrev pub saves_unknown : PlainBlock → PlainProcess → PlainState → List ℕ
+saves_unknown b p part = unknown (trigger_names b p) (part_saves part)
 
 abbrev pub process_unknown : PlainBlock → PlainProcess → List ℕ
 process_unknown b p =
-    unknown (variable_names p) (text_names p.start.text) ++ flat_map (input_unknown b p) (input_parts p)
+    text_unknown b p p.start.text ++ (flat_map (input_unknown b p) (input_parts p) ++ flat_map (saves_unknown b p) p.states)
 
 abbrev pub unknown_names : PlainBlock → List ℕ
 unknown_names b = flat_map (route_unknown b) (routes_of b) ++ flat_map (process_unknown b) (processes_of b)
-
--- ---- S3: a wrong sort; with one sort, more places than the signal has parameters
-
-abbrev pub has_too_many : PlainBlock → PlainStimulus → Bool
-has_too_many b s = option_map_or (λ x. nat_lt (length x.parameters) (length s.places)) (signal_named b s.name.name) false
-
-abbrev pub stimulus_wrong : PlainBlock → PlainStimulus → List ℕ
-stimulus_wrong b s = if has_too_many b s then s.name.at ∷ [] else []
-
-abbrev pub input_wrong : PlainBlock → PlainInput → List ℕ
-input_wrong b i = flat_map (stimulus_wrong b) i.stimuli
-
-abbrev pub process_wrong : PlainBlock → PlainProcess → List ℕ
-process_wrong b p = flat_map (input_wrong b) (input_parts p)
-
-abbrev pub wrong_sorts : PlainBlock → List ℕ
-wrong_sorts b = flat_map (process_wrong b) (processes_of b)
 
 -- ---- S4: a NEXTSTATE to a state without STATE, or a list of actions that runs off its end
 
@@ -87,7 +103,8 @@ wrong_sorts b = flat_map (process_wrong b) (processes_of b)
 abbrev pub strays : List Identifier → ℕ → Text → List ℕ
 strays states at falls = at ∷ []
 strays states at (ends (NextState n)) = if is_in states n.state.name then [] else n.at ∷ []
-strays states at (task place assignments rest) = strays states at rest
+strays states at (ends (Stop place)) = []
+strays states at (does a rest) = strays states at rest
 
 abbrev pub input_strays : PlainProcess → PlainInput → List ℕ
 input_strays p i = strays (states_of p) i.at i.text

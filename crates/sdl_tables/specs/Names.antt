@@ -1,5 +1,5 @@
--- The tables of a block: its signals, routes and processes, and of each process the variables, states and inputs,
--- each in the order of the text. Two names that differ in case alone are one. (Z.100: entity classes and scope units.)
+-- The tables of a block: its signals, routes and processes, and of each process the variables, timers and states, with
+-- what each state takes and saves; each in the order of the text. Two names that differ in case alone are one. (Z.100: entity classes and scope units.)
 use Rattle.std.specs.Prelude.{ℕ, Bool, false, ◌==◌, List, [], ◌∷◌, ◌++◌, Option, if◌then◌else◌, map, fold, find, position, bytes_eq}
 use Rattle.std.specs.List.{list_any, flat_map, enumerate_from}
 use Rattle.std.specs.Option.{option_map_or}
@@ -7,7 +7,7 @@ use Rattle.sdl_lex.specs.Spelling.{folded}
 use Rattle.sdl_tree.specs.declared.expression.Identifier.{Identifier}
 use Rattle.sdl_tree.specs.declared.tree.Sort.{Sort}
 use Rattle.sdl_tree.specs.declared.tree.Constant.{Constant}
-use Rattle.sdl_tree.specs.Plain.{Text, PlainStimulus, PlainInput, PlainClause, input, PlainState, PlainGroup, PlainDeclaration, variables, PlainProcess, PlainRoute, PlainSignal, PlainEntity, signals, route, process, PlainBlock}
+use Rattle.sdl_tree.specs.Plain.{Text, PlainStimulus, PlainInput, PlainClause, input, save, PlainState, PlainGroup, PlainDeclaration, variables, timers, PlainProcess, PlainRoute, PlainSignal, PlainEntity, signals, route, connect, process, PlainBlock}
 
 -- two spellings of one name
 abbrev pub same_name : List ℕ → List ℕ → Bool
@@ -26,16 +26,19 @@ number_of ids x = position (λ id. same_name x id.name) ids
 abbrev pub signals_in : PlainEntity → List PlainSignal
 signals_in (signals declared) = declared
 signals_in (route r) = []
+signals_in (connect channels routes) = []
 signals_in (process p) = []
 
 abbrev pub routes_in : PlainEntity → List PlainRoute
 routes_in (signals declared) = []
 routes_in (route r) = r ∷ []
+routes_in (connect channels routes) = []
 routes_in (process p) = []
 
 abbrev pub processes_in : PlainEntity → List PlainProcess
 processes_in (signals declared) = []
 processes_in (route r) = []
+processes_in (connect channels routes) = []
 processes_in (process p) = p ∷ []
 
 -- the signals, over all SIGNALs
@@ -75,6 +78,7 @@ group_variables g = map (λ id. record { name = id; sort = g.sort; initial = g.i
 
 abbrev pub declared_variables : PlainDeclaration → List Variable
 declared_variables (variables groups) = flat_map group_variables groups
+declared_variables (timers names) = []
 
 abbrev pub variables_of : PlainProcess → List Variable
 variables_of p = flat_map declared_variables p.declarations
@@ -82,10 +86,13 @@ variables_of p = flat_map declared_variables p.declarations
 abbrev pub variable_names : PlainProcess → List Identifier
 variable_names p = map (λ v. v.name) (variables_of p)
 
--- the timers: no declaration is one as yet
+-- ---- timers
+
 abbrev pub timers_in : PlainDeclaration → List Identifier
 timers_in (variables groups) = []
+timers_in (timers names) = names
 
+-- the timers of a process, over all TIMERs
 abbrev pub timers_of : PlainProcess → List Identifier
 timers_of p = flat_map timers_in p.declarations
 
@@ -110,6 +117,7 @@ states_of p = names_once (named_states p)
 -- the INPUTs of a process, each once, in the order of the text
 abbrev pub clause_parts : PlainClause → List PlainInput
 clause_parts (input i) = i ∷ []
+clause_parts (save names) = []
 
 abbrev pub input_parts : PlainProcess → List PlainInput
 input_parts p = flat_map (λ part. flat_map clause_parts part.clauses) p.states
@@ -122,22 +130,60 @@ pub record Input : Type 0 where
 
 abbrev pub clause_inputs : PlainClause → List Input
 clause_inputs (input i) = map (λ s. record { at = i.at; stimulus = s; text = i.text }) i.stimuli
+clause_inputs (save names) = []
 
 abbrev pub part_inputs : PlainState → List Input
 part_inputs part = flat_map clause_inputs part.clauses
+
+-- the signals and timers of the SAVEs
+abbrev pub clause_saves : PlainClause → List Identifier
+clause_saves (input i) = []
+clause_saves (save names) = names
+
+abbrev pub part_saves : PlainState → List Identifier
+part_saves part = flat_map clause_saves part.clauses
+
+-- the signals and timers of the INPUTs and SAVEs together
+abbrev pub clause_triggers : PlainClause → List Identifier
+clause_triggers (input i) = map (λ s. s.name) i.stimuli
+clause_triggers (save names) = names
+
+abbrev pub part_triggers : PlainState → List Identifier
+part_triggers part = flat_map clause_triggers part.clauses
 
 -- whether a name is that of number s among the states
 abbrev pub is_state : List Identifier → ℕ → List ℕ → Bool
 is_state states s x = option_map_or (λ n. n == s) (number_of states x) false
 
--- what a part gives to state s: its inputs, as often as it names the state
-abbrev pub given_by : List Identifier → ℕ → PlainState → List Input
-given_by states s part = flat_map (λ id. if is_state states s id.name then part_inputs part else []) part.names
+-- what a part gives to state s: what is in it, as often as it names the state
+abbrev pub given_to : {X : Type 0} → (PlainState → List X) → List Identifier → ℕ → PlainState → List X
+given_to in_part states s part = flat_map (λ id. if is_state states s id.name then in_part part else []) part.names
 
--- the inputs of state s, over all its parts
+-- what state s has, over all its parts
+abbrev pub of_state : {X : Type 0} → (PlainState → List X) → PlainProcess → ℕ → List X
+of_state in_part p s = flat_map (given_to in_part (states_of p) s) p.states
+
+-- what each state has, by number
+abbrev pub by_state : {X : Type 0} → (PlainState → List X) → PlainProcess → List (List X)
+by_state in_part p = map (λ s. of_state in_part p s.0) (enumerate_from 0 (states_of p))
+
+-- the inputs of state s
 abbrev pub inputs_of : PlainProcess → ℕ → List Input
-inputs_of p s = flat_map (given_by (states_of p) s) p.states
+inputs_of p s = of_state part_inputs p s
 
--- the inputs of each state, by number
 abbrev pub inputs_by_state : PlainProcess → List (List Input)
-inputs_by_state p = map (λ s. inputs_of p s.0) (enumerate_from 0 (states_of p))
+inputs_by_state p = by_state part_inputs p
+
+-- the names that state s saves
+abbrev pub saves_of : PlainProcess → ℕ → List Identifier
+saves_of p s = of_state part_saves p s
+
+abbrev pub saves_by_state : PlainProcess → List (List Identifier)
+saves_by_state p = by_state part_saves p
+
+-- the names that state s takes or saves
+abbrev pub triggers_of : PlainProcess → ℕ → List Identifier
+triggers_of p s = of_state part_triggers p s
+
+abbrev pub triggers_by_state : PlainProcess → List (List Identifier)
+triggers_by_state p = by_state part_triggers p

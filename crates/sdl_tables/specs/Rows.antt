@@ -1,12 +1,16 @@
 -- What the rows of the tables stand for.
 use Rattle.std.specs.Prelude.{ℕ, List, [], map, slice_get}
 use Rattle.std.specs.Global.{Vec}
+use Rattle.std.specs.List.{flat_map}
 use Rattle.std.specs.Option.{option_map_or}
-use Rattle.sdl_tree.specs.Plain.{PlainInput, input}
+use Rattle.sdl_tree.specs.declared.expression.Identifier.{Identifier}
+use Rattle.sdl_tree.specs.Plain.{PlainInput, PlainClause, input, PlainState}
 use Rattle.sdl_tree.specs.Views.{stimulus_of, text_of}
 use Rattle.sdl_tables.specs.Names as names
 use Rattle.sdl_tables.specs.declared.process_table.Variable as row
 use Rattle.sdl_tables.specs.declared.process_table.InputRow.{InputRow}
+use Rattle.sdl_tables.specs.declared.state_names.Which.{Which}
+use Rattle.sdl_tables.specs.declared.state_names.Which.TheVariants.{Saves, Triggers}
 
 abbrev pub variable_of : row.Variable → names.Variable
 variable_of v = record { name = v.name; sort = v.sort; initial = v.initial }
@@ -21,6 +25,25 @@ rows_inputs v = map row_input v.items
 abbrev pub stimulus_inputs : PlainInput → List names.Input
 stimulus_inputs i = names.clause_inputs (input i)
 
+-- What state s has in a table, each row of which is read in the same way: nothing past its end.
+abbrev pub row_at : {R X : Type 0} → (R → List X) → List R → ℕ → List X
+row_at read rows s = option_map_or read (slice_get rows s) []
+
 -- the inputs of state s
 abbrev pub rows_at : List (Vec InputRow) → ℕ → List names.Input
-rows_at states s = option_map_or rows_inputs (slice_get states s) []
+rows_at states s = row_at rows_inputs states s
+
+abbrev pub row_names : Vec Identifier → List Identifier
+row_names v = v.items
+
+-- the names of state s
+abbrev pub names_at : List (Vec Identifier) → ℕ → List Identifier
+names_at states s = row_at row_names states s
+
+-- the names of a clause, and of a STATE part
+abbrev pub clause_names : Which → PlainClause → List Identifier
+clause_names Saves c = names.clause_saves c
+clause_names Triggers c = names.clause_triggers c
+
+abbrev pub part_names : Which → PlainState → List Identifier
+part_names which part = flat_map (clause_names which) part.clauses

@@ -3,12 +3,13 @@ ghost use Rattle.std.specs.Prelude.{◌≡◌, ◌++◌, [], ℕ, List, map, IfO
 ghost use Rattle.std.specs.List.{flat_map};
 ghost use Rattle.std.specs.Option.{option_map};
 ghost use Rattle.sdl_tree.specs.Views.{signal_of, route_of, process_of, entity_of, block_of};
-ghost use Rattle.sdl_tables.specs.Names.{signals_in, routes_in, processes_in, signal_names, process_names, signals_of, processes_of, routes_of, signal_named, names_once};
-ghost use Rattle.sdl_tables.specs.Scopes.{Marks, repeats, process_scopes, double_names, IsDouble};
+ghost use Rattle.sdl_tables.specs.Names.{signals_in, routes_in, processes_in, signal_names, process_names, signals_of, processes_of, routes_of, signal_named, names_once, timers_of};
+ghost use Rattle.sdl_tables.specs.Scopes.{Marks, repeats, process_scopes, shared, double_names, IsDouble};
 
 use crate::fault::TableFault;
 use crate::name_table::NameTable;
 use crate::process_table::ProcessTable;
+use crate::process_table::shared_declared;
 use crate::scope::{Scope, earlier, index_names};
 use sdl_lex::Name;
 use sdl_tree::{Block, Entity, Identifier, Process, Route, SignalDeclaration};
@@ -39,6 +40,7 @@ fn collect_signals<'a>(
         match entity {
             Entity::Signals(declared) => push_signals(&mut rows, declared)?,
             Entity::Route(_) => {}
+            Entity::Connect(_) => {}
             Entity::Process(_) => {}
         }
     }
@@ -53,6 +55,7 @@ fn collect_routes<'a>(alloc: Global, entities: &'a [Entity]) -> Result<Vec<&'a R
         match entity {
             Entity::Signals(_) => {}
             Entity::Route(route) => rows.push(route)?,
+            Entity::Connect(_) => {}
             Entity::Process(_) => {}
         }
     }
@@ -70,6 +73,7 @@ fn collect_processes<'a>(
         match entity {
             Entity::Signals(_) => {}
             Entity::Route(_) => {}
+            Entity::Connect(_) => {}
             Entity::Process(process) => rows.push(process)?,
         }
     }
@@ -119,6 +123,23 @@ fn index_processes(alloc: Global, rows: &[&Process]) -> Result<Scope, AllocError
     Ok(scope)
 }
 
+// The timers of a process that are named as signals.
+fn signal_timers(signals: &NameTable, process: &Process) -> Option<u32>
+    ensures { Marks result (shared signals.now (timers_of (process_of process.now))) }
+{
+    shared_declared(signals, &process.declarations)
+}
+
+fn signal_timers_in(signals: &NameTable, processes: &[&Process]) -> Option<u32>
+    ensures { Marks result (flat_map (λ p. shared signals.now (timers_of (process_of p.now))) processes.now) }
+{
+    let mut place = None;
+    for process in processes {
+        place = earlier(place, signal_timers(signals, process));
+    }
+    place
+}
+
 // The tables of all processes, unless a name is twice in one of them.
 #[derive(Drop)]
 struct Processes<'a> {
@@ -141,6 +162,21 @@ fn build_tables<'a>(alloc: Global, processes: &[&'a Process]) -> Result<Processe
         }
     }
     Ok(Processes { tables, double })
+}
+
+// The first of all places of a block.
+fn first_double(
+    signals: Option<u32>,
+    routes: Option<u32>,
+    processes: Option<u32>,
+    inside: Option<u32>,
+    shared: Option<u32>,
+) -> Option<u32>
+    ensures { (ss rs ps is ts : List ℕ) → Marks signals ss → Marks routes rs → Marks processes ps → Marks inside is → Marks shared ts
+        → Marks result ((ss ++ (rs ++ (ps ++ is))) ++ ts) }
+{
+    let declared = earlier(signals, earlier(routes, earlier(processes, inside)));
+    earlier(declared, shared)
 }
 
 /// A block with its tables: its signals and processes by name and by number. Contracts see the block.
@@ -182,9 +218,8 @@ impl<'a> BlockTable<'a> {
         let twice = route_double(alloc, &routes)?;
         let names = index_processes(alloc, &processes)?;
         let built = build_tables(alloc, &processes)?;
-        let inside = earlier(names.double, built.double);
-        let beyond = earlier(twice, inside);
-        let double = earlier(signals.double, beyond);
+        let shared = signal_timers_in(&signals.names, &processes);
+        let double = first_double(signals.double, twice, names.double, built.double, shared);
         match double {
             Some(at) => Err(TableFault::DoubleName(at)),
             None => Ok(BlockTable {

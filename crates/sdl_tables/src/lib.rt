@@ -6,6 +6,7 @@ mod fault;
 mod name_table;
 mod process_table;
 mod scope;
+mod state_names;
 
 pub use block_table::BlockTable;
 pub use fault::TableFault;

@@ -2,13 +2,14 @@
 ghost use Rattle.std.specs.Prelude.{◌≡◌, ◌++◌, [], ℕ, ◌<◌, ◌==◌, if◌then◌else◌, List, map, fold, length, IfOk, IfErr, OnOk, IfSome, IfNone, slice_get, vec_len};
 ghost use Rattle.std.specs.List.{flat_map};
 ghost use Rattle.sdl_tree.specs.Views.{group_of, declaration_of, state_of, input_of, process_of};
-ghost use Rattle.sdl_tables.specs.Names.{variable_names, variables_of, group_variables, declared_variables, named_states, states_of, given_by, names_once, add_name, part_inputs, inputs_by_state, clause_parts, input_parts};
-ghost use Rattle.sdl_tables.specs.Scopes.{Marks, repeats, process_scopes, input_names, IsDouble};
-ghost use Rattle.sdl_tables.specs.Rows.{variable_of, row_input, rows_inputs, stimulus_inputs, rows_at};
+ghost use Rattle.sdl_tables.specs.Names.{variable_names, variables_of, group_variables, declared_variables, named_states, timers_in, timers_of, states_of, given_to, names_once, add_name, part_inputs, inputs_by_state, saves_by_state, triggers_by_state, clause_parts, input_parts};
+ghost use Rattle.sdl_tables.specs.Scopes.{Marks, repeats, process_scopes, shared, IsDouble};
+ghost use Rattle.sdl_tables.specs.Rows.{variable_of, row_input, rows_inputs, row_names, stimulus_inputs, rows_at};
 
 use crate::fault::TableFault;
 use crate::name_table::NameTable;
-use crate::scope::{add_names, earlier, index_names};
+use crate::scope::{add_names, earlier, first_shared, index_names};
+use crate::state_names::{Which, collect_names, names_double};
 use sdl_lex::Name;
 use sdl_tree::{
     Constant, Declaration, Group, Identifier, InputPart, Process, Sort, StateClause, StatePart,
@@ -64,9 +65,49 @@ fn collect_variables(
     for declaration in declarations {
         match declaration {
             Declaration::Variables(groups) => push_groups(&mut rows, groups)?,
+            Declaration::Timers(_) => {}
         }
     }
     Ok(rows)
+}
+
+fn push_timers(rows: &mut Vec<Identifier>, names: &[Identifier]) -> Result<(), AllocError>
+    ensures { OnOk result (rows.new.items ≡ rows.old.items ++ names.now) }
+{
+    for name in names {
+        rows.push(*name)?;
+    }
+    Ok(())
+}
+
+fn collect_timers(
+    alloc: Global,
+    declarations: &[Declaration],
+) -> Result<Vec<Identifier>, AllocError>
+    ensures { IfOk result (λ rows. rows.items ≡ flat_map timers_in (map declaration_of declarations.now)) }
+{
+    let mut rows = Vec::new(alloc);
+    for declaration in declarations {
+        match declaration {
+            Declaration::Variables(_) => {}
+            Declaration::Timers(names) => push_timers(&mut rows, names)?,
+        }
+    }
+    Ok(rows)
+}
+
+/// The place of a timer that is named as one of these.
+pub(crate) fn shared_declared(among: &NameTable, declarations: &[Declaration]) -> Option<u32>
+    ensures { Marks result (shared among.now (flat_map timers_in (map declaration_of declarations.now))) }
+{
+    let mut place = None;
+    for declaration in declarations {
+        match declaration {
+            Declaration::Variables(_) => {}
+            Declaration::Timers(names) => place = earlier(place, first_shared(among, names)),
+        }
+    }
+    place
 }
 
 fn variable_ids(alloc: Global, rows: &[Variable]) -> Result<Vec<Identifier>, AllocError>
@@ -100,6 +141,7 @@ fn push_part<'a>(rows: &mut Vec<InputRow<'a>>, part: &'a StatePart) -> Result<()
     for clause in &part.clauses {
         match clause {
             StateClause::Input(input) => push_input(rows, input)?,
+            StateClause::Save(_) => {}
         }
     }
     Ok(())
@@ -141,7 +183,7 @@ fn push_states<'a>(
     requires { vec_len inputs.old ≡ length states.now }
     ensures len { OnOk result (vec_len inputs.new ≡ vec_len inputs.old) }
     ensures rows { OnOk result ((s : ℕ) → s < vec_len inputs.old
-        → rows_at inputs.new.items s ≡ rows_at inputs.old.items s ++ given_by states.now s (state_of part.now)) }
+        → rows_at inputs.new.items s ≡ rows_at inputs.old.items s ++ given_to part_inputs states.now s (state_of part.now)) }
 {
     for id in &part.names {
         if let Some(number) = states.number(id.name) {
@@ -173,6 +215,7 @@ fn push_parts<'a>(parts: &mut Vec<&'a InputPart>, part: &'a StatePart) -> Result
     for clause in &part.clauses {
         match clause {
             StateClause::Input(input) => parts.push(input)?,
+            StateClause::Save(_) => {}
         }
     }
     Ok(())
@@ -192,38 +235,31 @@ fn collect_parts<'a>(
     Ok(parts)
 }
 
-fn input_ids(alloc: Global, rows: &[InputRow]) -> Result<Vec<Identifier>, AllocError>
-    ensures { IfOk result (λ ids. ids.items ≡ map (λ row. row.stimulus.now.name) rows.now) }
+// A name that a state takes or saves, and took or saved before.
+fn trigger_double(
+    alloc: Global,
+    process: &Process,
+    states: &NameTable,
+) -> Result<Option<u32>, AllocError>
+    requires { states.now ≡ states_of (process_of process.now) }
+    ensures { IfOk result (λ double. Marks double (flat_map (repeats []) (triggers_by_state (process_of process.now)))) }
 {
-    rows.iter().map(|row| row.stimulus.name).collect(alloc)
-}
-
-fn input_double(alloc: Global, rows: &[InputRow]) -> Result<Option<u32>, AllocError>
-    ensures { IfOk result (λ double. Marks double (repeats [] (input_names (map row_input rows.now)))) }
-{
-    let names = input_ids(alloc, rows)?;
-    Ok(index_names(alloc, &names)?.double)
-}
-
-fn inputs_double(alloc: Global, inputs: &[Vec<InputRow>]) -> Result<Option<u32>, AllocError>
-    ensures { IfOk result (λ double. Marks double (flat_map (repeats []) (map input_names (map rows_inputs inputs.now)))) }
-{
-    let mut double = None;
-    for rows in inputs {
-        double = earlier(double, input_double(alloc, rows)?);
-    }
+    let names = collect_names(alloc, process, states, Which::Triggers)?;
+    let double = names_double(alloc, &names)?;
     Ok(double)
 }
 
-/// A process with its tables: its variables and states by name and by number, and the inputs of
-/// each state. Contracts see the process.
+/// A process with its tables: its variables, timers and states by name and by number, and what each
+/// state takes and saves. Contracts see the process.
 #[derive(Drop)]
 pub struct ProcessTable<'a> {
     process: &'a Process,
     variables: NameTable,
     rows: Vec<Variable>,
+    timers: NameTable,
     states: NameTable,
     inputs: Vec<Vec<InputRow<'a>>>,
+    saves: Vec<Vec<Identifier>>,
     parts: Vec<&'a InputPart>,
 }
 
@@ -252,18 +288,24 @@ impl<'a> ProcessTable<'a> {
         let rows = collect_variables(alloc, &process.declarations)?;
         let names = variable_ids(alloc, &rows)?;
         let variables = index_names(alloc, &names)?;
+        let alarms = collect_timers(alloc, &process.declarations)?;
+        let timers = index_names(alloc, &alarms)?;
         let states = collect_states(alloc, &process.states)?;
         let inputs = collect_inputs(alloc, process, &states)?;
+        let saves = collect_names(alloc, process, &states, Which::Saves)?;
         let parts = collect_parts(alloc, &process.states)?;
-        let double = earlier(variables.double, inputs_double(alloc, &inputs)?);
+        let twice = trigger_double(alloc, process, &states)?;
+        let double = earlier(variables.double, earlier(timers.double, twice));
         match double {
             Some(at) => Err(TableFault::DoubleName(at)),
             None => Ok(ProcessTable {
                 process,
                 variables: variables.names,
                 rows,
+                timers: timers.names,
                 states,
                 inputs,
+                saves,
                 parts,
             }),
         }
@@ -292,6 +334,13 @@ impl<'a> ProcessTable<'a> {
         &self.rows
     }
 
+    /// The names of its timers, by number.
+    pub fn timers(&self) -> &NameTable
+        ensures { result.now ≡ timers_of (process_of self.now) }
+    {
+        &self.timers
+    }
+
     /// The names of its states, by number.
     pub fn states(&self) -> &NameTable
         ensures { result.now ≡ states_of (process_of self.now) }
@@ -304,6 +353,13 @@ impl<'a> ProcessTable<'a> {
         ensures { map rows_inputs result.now ≡ inputs_by_state (process_of self.now) }
     {
         &self.inputs
+    }
+
+    /// The names that each of its states saves, by number; those of a state in the order of the text.
+    pub fn saves(&self) -> &[Vec<Identifier>]
+        ensures { map row_names result.now ≡ saves_by_state (process_of self.now) }
+    {
+        &self.saves
     }
 
     /// Its INPUTs, each once.

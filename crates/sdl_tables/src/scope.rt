@@ -1,7 +1,7 @@
 //! Names of one scope, and the first that is there twice.
 ghost use Rattle.std.specs.Prelude.{◌≡◌, [], ◌++◌, ◌∷◌, List, ℕ, fold, IfOk, OnOk, if◌then◌else◌};
-ghost use Rattle.sdl_tables.specs.Names.{names_once, add_name};
-ghost use Rattle.sdl_tables.specs.Scopes.{Marks, repeats};
+ghost use Rattle.sdl_tables.specs.Names.{names_once, add_name, is_in};
+ghost use Rattle.sdl_tables.specs.Scopes.{Marks, repeats, shared};
 
 use crate::name_table::NameTable;
 use sdl_tree::Identifier;
@@ -47,6 +47,28 @@ pub fn index_names(alloc: Global, ids: &[Identifier]) -> Result<Scope, AllocErro
         double = marked(double, new, id.at);
     }
     Ok(Scope { names, double })
+}
+
+// The place of a name that a scope has.
+fn present(names: &NameTable, id: Identifier) -> Option<u32>
+    ensures { Marks result (if is_in names.now id.name then id.at ∷ [] else []) }
+{
+    if names.contains(id.name) {
+        Some(id.at)
+    } else {
+        None
+    }
+}
+
+/// The first place of a name that a scope has.
+pub(crate) fn first_shared(names: &NameTable, ids: &[Identifier]) -> Option<u32>
+    ensures { Marks result (shared names.now ids.now) }
+{
+    let mut place = None;
+    for id in ids {
+        place = earlier(place, present(names, *id));
+    }
+    place
 }
 
 /// Adds names, each unless it is there.

@@ -1,6 +1,6 @@
 use Rattle.std.proofs.Common.{◌≡◌, ℕ, ◌<◌, vec_len, take, length, map}
 use Rattle.std.specs.List.{flat_map}
-use Rattle.sdl_tables.specs.Names.{given_by}
+use Rattle.sdl_tables.specs.Names.{given_to, part_inputs}
 use Rattle.sdl_tree.specs.Views.{state_of}
 use Rattle.sdl_tables.specs.Rows.{rows_at}
 use Rattle.sdl_tables.proofs.process_table.collect_inputs.Given as goal
@@ -8,4 +8,4 @@ use Rattle.sdl_tables.proofs.process_table.collect_inputs.Given as goal
 abbrev pub invariant-loop-part : goal.invariant-loop-part
 invariant-loop-part l =
     (vec_len l.inputs ≡ length l.states)
-    × ((s : ℕ) → s < length l.states → rows_at l.inputs.items s ≡ flat_map (given_by l.states s) (map state_of (take l.part-index l.part-items)))
+    × ((s : ℕ) → s < length l.states → rows_at l.inputs.items s ≡ flat_map (given_to part_inputs l.states s) (map state_of (take l.part-index l.part-items)))

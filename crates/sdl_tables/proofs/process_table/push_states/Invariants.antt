@@ -1,5 +1,5 @@
 use Rattle.std.proofs.Common.{◌≡◌, ℕ, ◌<◌, ◌++◌, vec_len, take}
-use Rattle.sdl_tables.specs.Names.{given_by}
+use Rattle.sdl_tables.specs.Names.{given_to, part_inputs}
 use Rattle.sdl_tree.specs.Views.{state_of}
 use Rattle.sdl_tables.specs.Rows.{rows_at}
 use Rattle.sdl_tables.proofs.process_table.push_states.Given as goal
@@ -8,4 +8,4 @@ abbrev pub invariant-loop-id : goal.invariant-loop-id
 invariant-loop-id l =
     (vec_len l.inputs ≡ vec_len l.initial.inputs)
     × ((s : ℕ) → s < vec_len l.initial.inputs
-    → rows_at l.inputs.items s ≡ rows_at l.initial.inputs.items s ++ given_by l.states s (record { names = take l.id-index l.id-items; clauses = (state_of l.part).clauses }))
+    → rows_at l.inputs.items s ≡ rows_at l.initial.inputs.items s ++ given_to part_inputs l.states s (record { names = take l.id-index l.id-items; clauses = (state_of l.part).clauses }))

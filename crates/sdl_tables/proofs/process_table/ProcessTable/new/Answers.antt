@@ -1,11 +1,12 @@
 use Rattle.std.proofs.Common.{◌≡◌, ◌∙◌, ap, subst, map, [], Option, ℕ}
 use Rattle.std.specs.List.{flat_map}
+use Rattle.std.proofs.lemmas.Result.{err_from_is_err_and}
 use Rattle.sdl_tree.specs.Views.{process_of, declaration_of, state_of}
-use Rattle.sdl_tables.specs.Names.{variable_names, variables_of, names_once, inputs_by_state, declared_variables, clause_parts}
-use Rattle.sdl_tables.specs.Rows.{variable_of, rows_inputs}
+use Rattle.sdl_tables.specs.Names.{variable_names, variables_of, timers_of, timers_in, names_once, declared_variables, clause_parts}
+use Rattle.sdl_tables.specs.Rows.{variable_of}
 use Rattle.sdl_tables.specs.Scopes.{Marks, repeats, process_scopes}
 use Rattle.sdl_tables.proofs.ProcessTables.{ids-of_rows, Marks-scopes}
-use Rattle.sdl_tables.proofs.Repeats.{names_once-distinct, append-nil_left}
+use Rattle.sdl_tables.proofs.Repeats.{names_once-distinct, append-nil_left, append-nil_right}
 use Rattle.sdl_tables.proofs.process_table.ProcessTable.new.Goals as goal
 
 pub returns-in-Some-clause-double : goal.returns-in-Some-clause-double
@@ -16,12 +17,12 @@ returns-in-Some-clause-double c =
     let named : c.deref-3.result.now ≡ variable_names p =
     ids-of_rows p c.in_ok-rows.rows.items c.deref-3.result.now rows
     (c.deref-3.ensures.value ∙ (c.in_ok-names.ensures ∙ ap (map (λ row. row.name)) c.deref-2.ensures.value)) in
-    let inputs : map rows_inputs c.deref-6.result.now ≡ inputs_by_state p =
-    ap (map rows_inputs) c.deref-6.ensures.value ∙ c.in_ok-inputs.ensures in
+    let alarms : c.deref-5.result.now ≡ timers_of p =
+    c.deref-5.ensures.value ∙ (c.in_ok-alarms.ensures ∙ ap (λ ds. flat_map timers_in (map declaration_of ds)) c.deref-4.ensures.value) in
     let both : Marks c.earlier-double.result (flat_map (repeats []) (process_scopes p)) =
-    Marks-scopes p c.deref-3.result.now (map rows_inputs c.deref-6.result.now) c.in_ok-variables.variables.double
-    c.in_ok-inputs_double.field-0 c.earlier-double.result named inputs c.in_ok-variables.ensures.double
-    c.in_ok-inputs_double.ensures c.earlier-double.ensures in
+    Marks-scopes p c.deref-3.result.now c.deref-5.result.now c.in_ok-variables.variables.double c.in_ok-timers.timers.double
+    c.in_ok-twice.twice c.earlier.result c.earlier-double.result named alarms c.in_ok-variables.ensures.double
+    c.in_ok-timers.ensures.double c.in_ok-twice.ensures c.earlier.ensures c.earlier-double.ensures in
     subst (λ (o : Option ℕ). Marks o (flat_map (repeats []) (process_scopes p))) c.in-Some.is both
 
 pub invariant_of-result : goal.invariant_of-result
@@ -32,12 +33,12 @@ invariant_of-result c =
     let named : c.deref-3.result.now ≡ variable_names p =
     ids-of_rows p c.in_ok-rows.rows.items c.deref-3.result.now rows
     (c.deref-3.ensures.value ∙ (c.in_ok-names.ensures ∙ ap (map (λ row. row.name)) c.deref-2.ensures.value)) in
-    let inputs : map rows_inputs c.deref-6.result.now ≡ inputs_by_state p =
-    ap (map rows_inputs) c.deref-6.ensures.value ∙ c.in_ok-inputs.ensures in
+    let alarms : c.deref-5.result.now ≡ timers_of p =
+    c.deref-5.ensures.value ∙ (c.in_ok-alarms.ensures ∙ ap (λ ds. flat_map timers_in (map declaration_of ds)) c.deref-4.ensures.value) in
     let both : Marks c.earlier-double.result (flat_map (repeats []) (process_scopes p)) =
-    Marks-scopes p c.deref-3.result.now (map rows_inputs c.deref-6.result.now) c.in_ok-variables.variables.double
-    c.in_ok-inputs_double.field-0 c.earlier-double.result named inputs c.in_ok-variables.ensures.double
-    c.in_ok-inputs_double.ensures c.earlier-double.ensures in
+    Marks-scopes p c.deref-3.result.now c.deref-5.result.now c.in_ok-variables.variables.double c.in_ok-timers.timers.double
+    c.in_ok-twice.twice c.earlier.result c.earlier-double.result named alarms c.in_ok-variables.ensures.double
+    c.in_ok-timers.ensures.double c.in_ok-twice.ensures c.earlier.ensures c.earlier-double.ensures in
     let none : flat_map (repeats []) (process_scopes p) ≡ [] =
     subst (λ (o : Option ℕ). Marks o (flat_map (repeats []) (process_scopes p))) c.in-None.is both in
     record {
@@ -45,9 +46,13 @@ invariant_of-result c =
           c.in_ok-variables.ensures.names
           ∙ (ap names_once named ∙ names_once-distinct (variable_names p) (append-nil_left _ _ none));
       rows = rows;
-      states = c.in_ok-states.ensures ∙ ap (λ ps. names_once (flat_map (λ part. part.names) (map state_of ps))) c.deref-4.ensures.value;
+      timers =
+          c.in_ok-timers.ensures.names
+          ∙ (ap names_once alarms ∙ names_once-distinct (timers_of p) (append-nil_left _ _ (append-nil_right _ _ none)));
+      states = c.in_ok-states.ensures ∙ ap (λ ps. names_once (flat_map (λ part. part.names) (map state_of ps))) c.deref-6.ensures.value;
       inputs = c.in_ok-inputs.ensures;
-      parts = c.in_ok-parts.ensures ∙ ap (λ ps. flat_map (λ part. flat_map clause_parts part.clauses) (map state_of ps)) c.deref-5.ensures.value;
+      saves = c.in_ok-saves.ensures;
+      parts = c.in_ok-parts.ensures ∙ ap (λ ps. flat_map (λ part. flat_map clause_parts part.clauses) (map state_of ps)) c.deref-7.ensures.value;
       distinct = none;
     }
 
@@ -59,12 +64,30 @@ returns-clause-distinct c =
     let named : c.deref-3.result.now ≡ variable_names p =
     ids-of_rows p c.in_ok-rows.rows.items c.deref-3.result.now rows
     (c.deref-3.ensures.value ∙ (c.in_ok-names.ensures ∙ ap (map (λ row. row.name)) c.deref-2.ensures.value)) in
-    let inputs : map rows_inputs c.deref-6.result.now ≡ inputs_by_state p =
-    ap (map rows_inputs) c.deref-6.ensures.value ∙ c.in_ok-inputs.ensures in
+    let alarms : c.deref-5.result.now ≡ timers_of p =
+    c.deref-5.ensures.value ∙ (c.in_ok-alarms.ensures ∙ ap (λ ds. flat_map timers_in (map declaration_of ds)) c.deref-4.ensures.value) in
     let both : Marks c.earlier-double.result (flat_map (repeats []) (process_scopes p)) =
-    Marks-scopes p c.deref-3.result.now (map rows_inputs c.deref-6.result.now) c.in_ok-variables.variables.double
-    c.in_ok-inputs_double.field-0 c.earlier-double.result named inputs c.in_ok-variables.ensures.double
-    c.in_ok-inputs_double.ensures c.earlier-double.ensures in
-    let none : flat_map (repeats []) (process_scopes p) ≡ [] =
-    subst (λ (o : Option ℕ). Marks o (flat_map (repeats []) (process_scopes p))) c.in-None.is both in
-    none
+    Marks-scopes p c.deref-3.result.now c.deref-5.result.now c.in_ok-variables.variables.double c.in_ok-timers.timers.double
+    c.in_ok-twice.twice c.earlier.result c.earlier-double.result named alarms c.in_ok-variables.ensures.double
+    c.in_ok-timers.ensures.double c.in_ok-twice.ensures c.earlier.ensures c.earlier-double.ensures in
+    subst (λ (o : Option ℕ). Marks o (flat_map (repeats []) (process_scopes p))) c.in-None.is both
+
+pub returns-in_err-inputs-clause-double : goal.returns-in_err-inputs-clause-double
+returns-in_err-inputs-clause-double c =
+    let p = err_from_is_err_and c.from_residual-in_err-inputs.result c.from_residual-in_err-inputs.ensures.1 in
+    rw (p.1, p.2) tt
+
+pub returns-in_err-saves-clause-double : goal.returns-in_err-saves-clause-double
+returns-in_err-saves-clause-double c =
+    let p = err_from_is_err_and c.from_residual-in_err-saves.result c.from_residual-in_err-saves.ensures.1 in
+    rw (p.1, p.2) tt
+
+pub returns-in_err-parts-clause-double : goal.returns-in_err-parts-clause-double
+returns-in_err-parts-clause-double c =
+    let p = err_from_is_err_and c.from_residual-in_err-parts.result c.from_residual-in_err-parts.ensures.1 in
+    rw (p.1, p.2) tt
+
+pub returns-in_err-twice-clause-double : goal.returns-in_err-twice-clause-double
+returns-in_err-twice-clause-double c =
+    let p = err_from_is_err_and c.from_residual-in_err-twice.result c.from_residual-in_err-twice.ensures.1 in
+    rw (p.1, p.2) tt

@@ -1,0 +1,10 @@
+use Rattle.std.proofs.Common.{map, take}
+use Rattle.std.specs.List.{flat_map}
+use Rattle.sdl_tree.specs.Views.{declaration_of}
+use Rattle.sdl_tables.specs.Names.{timers_in}
+use Rattle.sdl_tables.specs.Scopes.{Marks, shared}
+use Rattle.sdl_tables.proofs.process_table.shared_declared.Given as goal
+
+abbrev pub invariant-loop-declaration : goal.invariant-loop-declaration
+invariant-loop-declaration l =
+    Marks l.place (shared l.among (flat_map timers_in (map declaration_of (take l.declaration-index l.declarations))))

@@ -1,0 +1,151 @@
+//! The names that each state of a process takes or saves.
+ghost use Rattle.std.specs.Prelude.{◌≡◌, ◌++◌, [], ℕ, ◌<◌, ◌==◌, if◌then◌else◌, map, length, IfOk, OnOk, vec_len};
+ghost use Rattle.std.specs.List.{flat_map};
+ghost use Rattle.sdl_tree.specs.Views.{clause_of, state_of, process_of, stimulus_of};
+ghost use Rattle.sdl_tables.specs.Names.{states_of, given_to, by_state};
+ghost use Rattle.sdl_tables.specs.Scopes.{Marks, repeats};
+ghost use Rattle.sdl_tables.specs.Rows.{row_names, names_at, clause_names, part_names};
+
+use crate::name_table::NameTable;
+use crate::scope::{earlier, index_names};
+use sdl_tree::{Identifier, Process, StateClause, StatePart, Stimulus};
+use std::alloc::{AllocError, Global};
+
+/// Which names of a state are meant.
+#[derive(Clone, Copy, Debug)]
+pub(crate) enum Which {
+    /// Those that it saves.
+    Saves,
+    /// Those that it takes or saves.
+    Triggers,
+}
+
+fn push_ids(names: &mut Vec<Identifier>, ids: &[Identifier]) -> Result<(), AllocError>
+    ensures { OnOk result (names.new.items ≡ names.old.items ++ ids.now) }
+{
+    for id in ids {
+        names.push(*id)?;
+    }
+    Ok(())
+}
+
+fn push_stimuli(names: &mut Vec<Identifier>, stimuli: &[Stimulus]) -> Result<(), AllocError>
+    ensures { OnOk result (names.new.items ≡ names.old.items ++ map (λ s. s.name) (map stimulus_of stimuli.now)) }
+{
+    for stimulus in stimuli {
+        names.push(stimulus.name)?;
+    }
+    Ok(())
+}
+
+fn push_clause(
+    names: &mut Vec<Identifier>,
+    which: Which,
+    clause: &StateClause,
+) -> Result<(), AllocError>
+    ensures { OnOk result (names.new.items ≡ names.old.items ++ clause_names which (clause_of clause.now)) }
+{
+    match (which, clause) {
+        (Which::Saves, StateClause::Input(_)) => Ok(()),
+        (Which::Triggers, StateClause::Input(input)) => push_stimuli(names, &input.stimuli),
+        (_, StateClause::Save(ids)) => push_ids(names, ids),
+    }
+}
+
+fn push_part(
+    names: &mut Vec<Identifier>,
+    which: Which,
+    part: &StatePart,
+) -> Result<(), AllocError>
+    ensures { OnOk result (names.new.items ≡ names.old.items ++ part_names which (state_of part.now)) }
+{
+    for clause in &part.clauses {
+        push_clause(names, which, clause)?;
+    }
+    Ok(())
+}
+
+fn empty_names(alloc: Global, count: usize) -> Result<Vec<Vec<Identifier>>, AllocError>
+    ensures len { IfOk result (λ v. vec_len v ≡ count) }
+    ensures empty { IfOk result (λ v. (s : ℕ) → names_at v.items s ≡ []) }
+{
+    let mut states = Vec::new(alloc);
+    for _i in 0..count {
+        states.push(Vec::new(alloc))?;
+    }
+    Ok(states)
+}
+
+// Gives the names of a part to one state.
+fn push_state(
+    states: &mut Vec<Vec<Identifier>>,
+    number: usize,
+    which: Which,
+    part: &StatePart,
+) -> Result<(), AllocError>
+    requires { number < vec_len states.old }
+    ensures len { OnOk result (vec_len states.new ≡ vec_len states.old) }
+    ensures names { OnOk result ((s : ℕ) → names_at states.new.items s
+        ≡ names_at states.old.items s ++ (if number == s then part_names which (state_of part.now) else [])) }
+{
+    let names = &mut states[number];
+    push_part(names, which, part)?;
+    Ok(())
+}
+
+// Gives the names of a part to each state that it names.
+fn push_states(
+    states: &mut Vec<Vec<Identifier>>,
+    ids: &NameTable,
+    which: Which,
+    part: &StatePart,
+) -> Result<(), AllocError>
+    requires { vec_len states.old ≡ length ids.now }
+    ensures len { OnOk result (vec_len states.new ≡ vec_len states.old) }
+    ensures names { OnOk result ((s : ℕ) → s < vec_len states.old
+        → names_at states.new.items s ≡ names_at states.old.items s ++ given_to (part_names which) ids.now s (state_of part.now)) }
+{
+    for id in &part.names {
+        if let Some(number) = ids.number(id.name) {
+            push_state(states, number, which, part)?;
+        }
+    }
+    Ok(())
+}
+
+/// The names of each state.
+pub(crate) fn collect_names(
+    alloc: Global,
+    process: &Process,
+    ids: &NameTable,
+    which: Which,
+) -> Result<Vec<Vec<Identifier>>, AllocError>
+    requires { ids.now ≡ states_of (process_of process.now) }
+    ensures { IfOk result (λ v. map row_names v.items ≡ by_state (part_names which) (process_of process.now)) }
+{
+    let mut states = empty_names(alloc, ids.len())?;
+    for part in &process.states {
+        push_states(&mut states, ids, which, part)?;
+    }
+    Ok(states)
+}
+
+fn one_double(alloc: Global, names: &Vec<Identifier>) -> Result<Option<u32>, AllocError>
+    ensures { IfOk result (λ double. Marks double (repeats [] (row_names names.now))) }
+{
+    Ok(index_names(alloc, names)?.double)
+}
+
+/// The first name that a state has twice.
+pub(crate) fn names_double(
+    alloc: Global,
+    states: &[Vec<Identifier>],
+) -> Result<Option<u32>, AllocError>
+    ensures { IfOk result (λ double. Marks double (flat_map (repeats []) (map row_names states.now))) }
+{
+    let mut double = None;
+    for names in states {
+        double = earlier(double, one_double(alloc, names)?);
+    }
+    Ok(double)
+}
