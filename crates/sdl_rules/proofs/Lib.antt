@@ -1,6 +1,7 @@
 pub mod Bits
 pub mod Numbers
 pub mod PathNames
+pub mod Repeats
 pub mod Searches
 pub mod Settling
 pub mod Surveying

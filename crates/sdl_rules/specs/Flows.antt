@@ -1,20 +1,17 @@
 -- What a part of a transition does with the variables, as bits by their numbers.
 use Rattle.std.specs.Prelude.{◌≡◌, ℕ, ◌<◌, Bool, not, List, [], ◌∷◌, map, Option, None, Some, slice_get}
-use Rattle.std.specs.List.{flat_map, AllZip}
+use Rattle.std.specs.List.{AllZip}
 use Rattle.std.specs.Global.{Vec}
 use Rattle.unset_paths.specs.Graph.{has}
 use Rattle.unset_paths.specs.declared.Passage.{Passage}
 use Rattle.unset_paths.specs.declared.Summary.{Summary}
 use Rattle.sdl_tree.specs.declared.expression.Identifier.{Identifier}
-use Rattle.sdl_tree.specs.declared.tree.Action.{Action}
-use Rattle.sdl_tree.specs.declared.tree.Action.TheVariants.{Task}
 use Rattle.sdl_tree.specs.declared.tree.End.{End}
-use Rattle.sdl_tree.specs.declared.tree.End.TheVariants.{NextState}
-use Rattle.sdl_tree.specs.Plain.{Tree, PlainProcess}
-use Rattle.sdl_tree.specs.Views.{assignment_of}
+use Rattle.sdl_tree.specs.declared.tree.End.TheVariants.{NextState, Stop}
+use Rattle.sdl_tree.specs.Plain.{PlainProcess}
 use Rattle.sdl_tables.specs.Names.{number_of, variable_names, Input}
-use Rattle.sdl_rules.specs.Sound.{tree_names, place_names}
-use Rattle.sdl_rules.specs.Paths.{Event, reads, sets, assignment_events, input_transition, reads_first, sets_in}
+use Rattle.sdl_rules.specs.Sound.{place_names}
+use Rattle.sdl_rules.specs.Paths.{Event, sets, input_transition, reads_first, sets_in}
 use Rattle.sdl_rules.specs.Graphs.{IsSummaryOf}
 use Rattle.sdl_rules.specs.declared.flows.Flow.{Flow}
 
@@ -28,21 +25,15 @@ Does p events flow =
     Tells (variable_names p) (λ x. reads_first events x) flow.reads
     × Tells (variable_names p) (λ x. not (sets_in events x)) flow.keeps
 
--- an expression reads its variables
-abbrev pub tree_events : Tree → List Event
-tree_events t = map (λ id. reads id.name) (tree_names t)
-
 -- an INPUT sets the variables of its places
 abbrev pub place_events : List (Option Identifier) → List Event
 place_events places = map (λ id. sets id.name) (place_names places)
 
-abbrev pub action_events : Action → List Event
-action_events (Task t) = flat_map assignment_events (map assignment_of t.assignments.items)
-
--- the state in which a transition ends, by its number
+-- the state in which a transition ends, by its number; none where it stops
 abbrev pub target : List Identifier → Option End → Option ℕ
 target states None = None
 target states (Some (NextState n)) = number_of states n.state.name
+target states (Some (Stop at)) = None
 
 -- the passage to that state
 abbrev pub passages_to : ℕ → Option ℕ → List Passage

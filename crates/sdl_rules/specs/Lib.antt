@@ -1,11 +1,15 @@
+pub mod Actions
+pub mod Divisors
 pub mod Fates
 pub mod Flows
 pub mod Graphs
 pub mod Longest
 pub mod Paths
+pub mod Receivers
 pub mod Refusals
 pub mod Resolving
 pub mod Rows
 pub mod Settled
+pub mod Sorts
 pub mod Sound
 pub mod Surveys

@@ -2,8 +2,8 @@
 use Rattle.std.specs.Prelude.{◌≡◌, ℕ, Bool, true, false, not, ◌&&◌, ◌||◌, List, [], ◌∷◌, ◌++◌, Option, None, Some, if◌then◌else◌, map, Contains, is_some}
 use Rattle.std.specs.List.{flat_map}
 use Rattle.std.specs.Option.{option_map_or}
-use Rattle.sdl_tree.specs.declared.tree.End.TheVariants.{NextState}
-use Rattle.sdl_tree.specs.Plain.{PlainAssignment, Text, falls, ends, task, PlainProcess}
+use Rattle.sdl_tree.specs.declared.tree.End.TheVariants.{NextState, Stop}
+use Rattle.sdl_tree.specs.Plain.{Tree, PlainAssignment, PlainSending, PlainAction, task, output, set_timer, reset_timer, Text, falls, ends, does, PlainProcess}
 use Rattle.sdl_tables.specs.Names.{same_name, number_of, Variable, variables_of, states_of, Input, inputs_of}
 use Rattle.sdl_rules.specs.Sound.{tree_names, place_names}
 use Rattle.sdl_rules.specs.declared.fault.Step.{Step}
@@ -14,16 +14,32 @@ pub data Event : Type 0 where
   reads : List ℕ → Event
   sets : List ℕ → Event
 
+-- an expression reads its variables
+abbrev pub tree_events : Tree → List Event
+tree_events t = map (λ id. reads id.name) (tree_names t)
+
 -- an assignment reads the variables of its value, and then sets its own
 abbrev pub assignment_events : PlainAssignment → List Event
-assignment_events a = map (λ id. reads id.name) (tree_names a.value) ++ sets a.variable.name ∷ []
+assignment_events a = tree_events a.value ++ sets a.variable.name ∷ []
 
--- A walk of a text: its reads and sets in order, and the state by which it ends; none where it runs off its end.
+-- a signal that goes out reads its parameters, in order
+abbrev pub sending_events : PlainSending → List Event
+sending_events s = flat_map tree_events s.parameters
+
+-- an action; a SET reads its delay
+abbrev pub action_events : PlainAction → List Event
+action_events (task at assignments) = flat_map assignment_events assignments
+action_events (output at sendings to) = flat_map sending_events sendings
+action_events (set_timer at delay timer) = tree_events delay
+action_events (reset_timer at timer) = []
+
+-- A walk of a text: its reads and sets in order, and the state by which it ends; none where it stops or runs off its end.
 abbrev pub IsWalk : Text → List Event → Option (List ℕ) → Type 0
 IsWalk falls events end = (events ≡ []) × (end ≡ None)
 IsWalk (ends (NextState n)) events end = (events ≡ []) × (end ≡ Some n.state.name)
-IsWalk (task at assignments rest) events end =
-    (after : List Event) × (events ≡ flat_map assignment_events assignments ++ after) × IsWalk rest after end
+IsWalk (ends (Stop at)) events end = (events ≡ []) × (end ≡ None)
+IsWalk (does action rest) events end =
+    (after : List Event) × (events ≡ action_events action ++ after) × IsWalk rest after end
 
 -- A transition: what is set before its text, and its text.
 pub record Transition : Type 0 where

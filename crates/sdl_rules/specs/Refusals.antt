@@ -2,11 +2,14 @@
 use Rattle.std.specs.Prelude.{◌≡◌, [], None, Some, Contains, All, ⊤}
 use Rattle.sdl_tree.specs.Plain.{PlainBlock, PlainProcess}
 use Rattle.sdl_tables.specs.Names.{processes_of}
-use Rattle.sdl_rules.specs.Sound.{unknown_names, wrong_sorts, stray_ends, first_limit}
+use Rattle.sdl_rules.specs.Sound.{unknown_names, stray_ends, first_limit}
+use Rattle.sdl_rules.specs.Sorts.{wrong_sorts}
+use Rattle.sdl_rules.specs.Divisors.{bad_divisors}
+use Rattle.sdl_rules.specs.Receivers.{without_receiver, with_two_receivers}
 use Rattle.sdl_tables.specs.Scopes.{double_names}
 use Rattle.sdl_rules.specs.Paths.{ReadsUnset, NeverReadsUnset}
 use Rattle.sdl_rules.specs.declared.fault.RuleFault.{RuleFault}
-use Rattle.sdl_rules.specs.declared.fault.RuleFault.TheVariants.{DoubleName, UnknownName, WrongSort, NoState, Limit, Unset, NoMemory}
+use Rattle.sdl_rules.specs.declared.fault.RuleFault.TheVariants.{DoubleName, UnknownName, WrongSort, NoState, NoReceiver, TwoReceivers, BadDivisor, Limit, Unset, NoMemory}
 use Rattle.sdl_tables.specs.declared.fault.TableFault.{TableFault}
 use Rattle.sdl_tables.specs.declared.fault.TableFault.TheVariants.{DoubleName as NoTable, NoMemory as NoRoom}
 
@@ -16,23 +19,50 @@ pub record Sound (b : PlainBlock) : Type 0 where
   pub known : unknown_names b ≡ []
   pub sorted : wrong_sorts b ≡ []
   pub ended : stray_ends b ≡ []
+  pub received : without_receiver b ≡ []
+  pub single : with_two_receivers b ≡ []
+  pub divided : bad_divisors b ≡ []
   pub within : first_limit b ≡ None
   pub set : All NeverReadsUnset (processes_of b)
+
+-- The rules by number: each of these says that neither its own rule nor one with a lesser number is broken.
+
+abbrev pub IsDistinct : PlainBlock → Type 0
+IsDistinct b = double_names b ≡ []
+
+abbrev pub IsKnown : PlainBlock → Type 0
+IsKnown b = IsDistinct b × (unknown_names b ≡ [])
+
+abbrev pub IsSorted : PlainBlock → Type 0
+IsSorted b = IsKnown b × (wrong_sorts b ≡ [])
+
+abbrev pub IsEnded : PlainBlock → Type 0
+IsEnded b = IsSorted b × (stray_ends b ≡ [])
+
+abbrev pub IsReceived : PlainBlock → Type 0
+IsReceived b = IsEnded b × (without_receiver b ≡ [])
+
+abbrev pub IsSingle : PlainBlock → Type 0
+IsSingle b = IsReceived b × (with_two_receivers b ≡ [])
+
+abbrev pub IsDivided : PlainBlock → Type 0
+IsDivided b = IsSingle b × (bad_divisors b ≡ [])
+
+abbrev pub IsWithin : PlainBlock → Type 0
+IsWithin b = IsDivided b × (first_limit b ≡ None)
 
 -- A refusal names a rule that is broken at its place, and no rule with a lesser number is broken anywhere.
 abbrev pub Refuses : PlainBlock → RuleFault → Type 0
 Refuses b (DoubleName at) = Contains (double_names b) at
-Refuses b (UnknownName at) = (double_names b ≡ []) × Contains (unknown_names b) at
-Refuses b (WrongSort at) = (double_names b ≡ []) × (unknown_names b ≡ []) × Contains (wrong_sorts b) at
-Refuses b (NoState at) =
-    (double_names b ≡ []) × (unknown_names b ≡ []) × (wrong_sorts b ≡ []) × Contains (stray_ends b) at
-Refuses b (Limit which) =
-    (double_names b ≡ []) × (unknown_names b ≡ []) × (wrong_sorts b ≡ []) × (stray_ends b ≡ [])
-    × (first_limit b ≡ Some which)
+Refuses b (UnknownName at) = IsDistinct b × Contains (unknown_names b) at
+Refuses b (WrongSort at) = IsKnown b × Contains (wrong_sorts b) at
+Refuses b (NoState at) = IsSorted b × Contains (stray_ends b) at
+Refuses b (NoReceiver at) = IsEnded b × Contains (without_receiver b) at
+Refuses b (TwoReceivers at) = IsReceived b × Contains (with_two_receivers b) at
+Refuses b (BadDivisor at) = IsSingle b × Contains (bad_divisors b) at
+Refuses b (Limit which) = IsDivided b × (first_limit b ≡ Some which)
 Refuses b (Unset x path) =
-    (double_names b ≡ []) × (unknown_names b ≡ []) × (wrong_sorts b ≡ []) × (stray_ends b ≡ [])
-    × (first_limit b ≡ None)
-    × (p : PlainProcess) × Contains (processes_of b) p × ReadsUnset p path.steps.items x
+    IsWithin b × (p : PlainProcess) × Contains (processes_of b) p × ReadsUnset p path.steps.items x
 Refuses b NoMemory = ⊤
 
 -- why there are no tables, as a refusal

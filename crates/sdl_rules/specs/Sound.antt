@@ -97,23 +97,6 @@ process_unknown b p =
 abbrev pub unknown_names : PlainBlock → List ℕ
 unknown_names b = flat_map (route_unknown b) (routes_of b) ++ flat_map (process_unknown b) (processes_of b)
 
--- ---- S3: a wrong sort; with one sort, more places than the signal has parameters
-
-abbrev pub has_too_many : PlainBlock → PlainStimulus → Bool
-has_too_many b s = option_map_or (λ x. nat_lt (length x.parameters) (length s.places)) (signal_named b s.name.name) false
-
-abbrev pub stimulus_wrong : PlainBlock → PlainStimulus → List ℕ
-stimulus_wrong b s = if has_too_many b s then s.name.at ∷ [] else []
-
-abbrev pub input_wrong : PlainBlock → PlainInput → List ℕ
-input_wrong b i = flat_map (stimulus_wrong b) i.stimuli
-
-abbrev pub process_wrong : PlainBlock → PlainProcess → List ℕ
-process_wrong b p = flat_map (input_wrong b) (input_parts p)
-
-abbrev pub wrong_sorts : PlainBlock → List ℕ
-wrong_sorts b = flat_map (process_wrong b) (processes_of b)
-
 -- ---- S4: a NEXTSTATE to a state without STATE, or a list of actions that runs off its end
 
 -- the places in a text whose START or INPUT stands at `at`

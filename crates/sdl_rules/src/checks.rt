@@ -1,11 +1,11 @@
-//! The rules on names, places and ends: the first place at which a block breaks one.
-ghost use Rattle.std.specs.Prelude.{◌≡◌, ◌++◌, ◌∷◌, [], ℕ, List, Option, map, if◌then◌else◌, nat_lt, length};
+//! The rules on names and ends: the first place at which a block breaks one.
+ghost use Rattle.std.specs.Prelude.{◌≡◌, ◌++◌, ◌∷◌, [], ℕ, List, Option, map, if◌then◌else◌};
 ghost use Rattle.std.specs.List.{flat_map};
 ghost use Rattle.std.specs.Option.{option_to_list};
-ghost use Rattle.sdl_rules.specs.Rows.{action_names};
-ghost use Rattle.sdl_tree.specs.Views.{tree_of, assignment_of, end_text, text_of, stimulus_of, input_of, path_of, route_of, entity_of, process_of, block_of};
-ghost use Rattle.sdl_tables.specs.Names.{is_in, process_names, signal_names, variable_names, states_of, routes_in, input_parts, processes_of};
-ghost use Rattle.sdl_rules.specs.Sound.{unknown, party_names, path_unknown, route_unknown, tree_names, assignment_names, text_names, place_names, stimulus_unknown, input_unknown, process_unknown, unknown_names, has_too_many, stimulus_wrong, input_wrong, process_wrong, wrong_sorts, strays, input_strays, process_strays, stray_ends};
+ghost use Rattle.sdl_tree.specs.Plain.{output};
+ghost use Rattle.sdl_tree.specs.Views.{tree_of, assignment_of, sending_of, action_of, clause_of, state_of, end_text, text_of, stimulus_of, input_of, path_of, route_of, entity_of, process_of, block_of};
+ghost use Rattle.sdl_tables.specs.Names.{is_in, process_names, signal_names, variable_names, timers_of, clause_saves, states_of, routes_in, input_parts, processes_of};
+ghost use Rattle.sdl_rules.specs.Sound.{unknown, party_names, path_unknown, route_unknown, tree_names, assignment_names, sending_unknown, destination_names, action_unknown, text_unknown, trigger_names, saves_unknown, place_names, stimulus_unknown, input_unknown, process_unknown, unknown_names, strays, input_strays, process_strays, stray_ends};
 ghost use Rattle.sdl_tables.specs.Scopes.{Marks};
 
 use sdl_tables::BlockTable;
@@ -13,8 +13,8 @@ use sdl_tables::NameTable;
 use sdl_tables::ProcessTable;
 use sdl_tables::earlier;
 use sdl_tree::{
-    Action, Assignment, End, Entity, Expression, Identifier, InputPart, NextState, Party, Path,
-    Stimulus, Transition,
+    Action, Assignment, Destination, End, Entity, Expression, Identifier, InputPart, NextState,
+    Output, Party, Path, Sending, SetTimer, StateClause, StatePart, Stimulus, Transition,
 };
 
 // The place of a name that a table lacks.
@@ -74,6 +74,7 @@ fn unknown_in_routes(block: &BlockTable, entities: &[Entity]) -> Option<u32>
         match entity {
             Entity::Signals(_) => {}
             Entity::Route(route) => place = earlier(place, unknown_in_paths(block, &route.paths)),
+            Entity::Connect(_) => {}
             Entity::Process(_) => {}
         }
     }
@@ -85,6 +86,7 @@ fn unknown_in_expression(names: &NameTable, expression: &Expression) -> Option<u
 {
     match expression {
         Expression::Number { .. } => None,
+        Expression::Truth { .. } => None,
         Expression::Variable { name, .. } => missing(names, *name),
         Expression::Unary { operand, .. } => unknown_in_expression(names, operand),
         Expression::Binary { left, right, .. } => {
@@ -111,24 +113,160 @@ fn unknown_in_assignments(names: &NameTable, assignments: &[Assignment]) -> Opti
     place
 }
 
-fn unknown_in_actions(names: &NameTable, actions: &[Action]) -> Option<u32>
-    ensures { Marks result (unknown names.now (flat_map action_names actions.now)) }
+fn unknown_in_expressions(names: &NameTable, expressions: &[Expression]) -> Option<u32>
+    ensures { Marks result (unknown names.now (flat_map tree_names (map tree_of expressions.now))) }
+{
+    let mut place = None;
+    for expression in expressions {
+        place = earlier(place, unknown_in_expression(names, expression));
+    }
+    place
+}
+
+fn unknown_in_sending(
+    block: &BlockTable,
+    process: &ProcessTable,
+    sending: &Sending,
+) -> Option<u32>
+    ensures { Marks result (sending_unknown (block_of block.now) (process_of process.now) (sending_of sending.now)) }
+{
+    let signal = missing(block.signals(), sending.signal);
+    earlier(
+        signal,
+        unknown_in_expressions(process.variables(), &sending.parameters),
+    )
+}
+
+fn unknown_in_sendings(
+    block: &BlockTable,
+    process: &ProcessTable,
+    sendings: &[Sending],
+) -> Option<u32>
+    ensures { Marks result (flat_map (sending_unknown (block_of block.now) (process_of process.now)) (map sending_of sendings.now)) }
+{
+    let mut place = None;
+    for sending in sendings {
+        place = earlier(place, unknown_in_sending(block, process, sending));
+    }
+    place
+}
+
+fn unknown_destination(processes: &NameTable, to: Option<Destination>) -> Option<u32>
+    ensures { Marks result (unknown processes.now (destination_names to)) }
+{
+    match to {
+        None => None,
+        Some(Destination::Sender(_)) => None,
+        Some(Destination::Process(id)) => missing(processes, id),
+    }
+}
+
+fn unknown_in_output(block: &BlockTable, process: &ProcessTable, output: &Output) -> Option<u32>
+    ensures { Marks result (action_unknown (block_of block.now) (process_of process.now) (output output.now.at (map sending_of output.now.sendings.items) output.now.to)) }
+{
+    let sendings = unknown_in_sendings(block, process, &output.sendings);
+    earlier(sendings, unknown_destination(block.processes(), output.to))
+}
+
+fn unknown_in_set(process: &ProcessTable, set: &SetTimer) -> Option<u32>
+    ensures { Marks result (unknown (variable_names (process_of process.now)) (tree_names (tree_of set.now.delay))
+        ++ unknown (timers_of (process_of process.now)) (set.now.timer ∷ [])) }
+{
+    let delay = unknown_in_expression(process.variables(), &set.delay);
+    earlier(delay, missing(process.timers(), set.timer))
+}
+
+fn unknown_in_action(block: &BlockTable, process: &ProcessTable, action: &Action) -> Option<u32>
+    ensures { Marks result (action_unknown (block_of block.now) (process_of process.now) (action_of action.now)) }
+{
+    match action {
+        Action::Task(task) => unknown_in_assignments(process.variables(), &task.assignments),
+        Action::Output(output) => unknown_in_output(block, process, output),
+        Action::Set(set) => unknown_in_set(process, set),
+        Action::Reset(reset) => missing(process.timers(), reset.timer),
+    }
+}
+
+fn unknown_in_actions(
+    block: &BlockTable,
+    process: &ProcessTable,
+    actions: &[Action],
+) -> Option<u32>
+    ensures { Marks result (flat_map (action_unknown (block_of block.now) (process_of process.now)) (map action_of actions.now)) }
 {
     let mut place = None;
     for action in actions {
-        match action {
-            Action::Task(task) => {
-                place = earlier(place, unknown_in_assignments(names, &task.assignments));
+        place = earlier(place, unknown_in_action(block, process, action));
+    }
+    place
+}
+
+fn unknown_in_transition(
+    block: &BlockTable,
+    process: &ProcessTable,
+    transition: &Transition,
+) -> Option<u32>
+    ensures { Marks result (text_unknown (block_of block.now) (process_of process.now) (text_of transition.now)) }
+{
+    unknown_in_actions(block, process, &transition.actions)
+}
+
+// The place of a name that is neither a signal nor a timer of the process.
+fn missing_trigger(block: &BlockTable, process: &ProcessTable, id: Identifier) -> Option<u32>
+    ensures { Marks result (if is_in (trigger_names (block_of block.now) (process_of process.now)) id.name then [] else id.at ∷ []) }
+{
+    if process.timers().contains(id.name) {
+        None
+    } else {
+        missing(block.signals(), id)
+    }
+}
+
+fn unknown_in_triggers(
+    block: &BlockTable,
+    process: &ProcessTable,
+    ids: &[Identifier],
+) -> Option<u32>
+    ensures { Marks result (unknown (trigger_names (block_of block.now) (process_of process.now)) ids.now) }
+{
+    let mut place = None;
+    for id in ids {
+        place = earlier(place, missing_trigger(block, process, *id));
+    }
+    place
+}
+
+fn unknown_in_saves(
+    block: &BlockTable,
+    process: &ProcessTable,
+    clauses: &[StateClause],
+) -> Option<u32>
+    ensures { Marks result (unknown (trigger_names (block_of block.now) (process_of process.now)) (flat_map clause_saves (map clause_of clauses.now))) }
+{
+    let mut place = None;
+    for clause in clauses {
+        match clause {
+            StateClause::Input(_) => {}
+            StateClause::Save(ids) => {
+                place = earlier(place, unknown_in_triggers(block, process, ids));
             }
         }
     }
     place
 }
 
-fn unknown_in_transition(names: &NameTable, transition: &Transition) -> Option<u32>
-    ensures { Marks result (unknown names.now (text_names (text_of transition.now))) }
+fn unknown_in_parts(
+    block: &BlockTable,
+    process: &ProcessTable,
+    parts: &[StatePart],
+) -> Option<u32>
+    ensures { Marks result (flat_map (saves_unknown (block_of block.now) (process_of process.now)) (map state_of parts.now)) }
 {
-    unknown_in_actions(names, &transition.actions)
+    let mut place = None;
+    for part in parts {
+        place = earlier(place, unknown_in_saves(block, process, &part.clauses));
+    }
+    place
 }
 
 fn unknown_place(names: &NameTable, place: Option<Identifier>) -> Option<u32>
@@ -157,7 +295,7 @@ fn unknown_in_stimulus(
 ) -> Option<u32>
     ensures { Marks result (stimulus_unknown (block_of block.now) (process_of process.now) (stimulus_of stimulus.now)) }
 {
-    let signal = missing(block.signals(), stimulus.name);
+    let signal = missing_trigger(block, process, stimulus.name);
     earlier(
         signal,
         unknown_in_places(process.variables(), &stimulus.places),
@@ -184,7 +322,7 @@ fn unknown_in_input(block: &BlockTable, process: &ProcessTable, input: &InputPar
     let stimuli = unknown_in_stimuli(block, process, &input.stimuli);
     earlier(
         stimuli,
-        unknown_in_transition(process.variables(), &input.transition),
+        unknown_in_transition(block, process, &input.transition),
     )
 }
 
@@ -205,8 +343,10 @@ fn unknown_in_inputs(
 fn unknown_in_process(block: &BlockTable, process: &ProcessTable) -> Option<u32>
     ensures { Marks result (process_unknown (block_of block.now) (process_of process.now)) }
 {
-    let start = unknown_in_transition(process.variables(), &process.process().start.transition);
-    earlier(start, unknown_in_inputs(block, process, process.parts()))
+    let text = process.process();
+    let start = unknown_in_transition(block, process, &text.start.transition);
+    let inputs = unknown_in_inputs(block, process, process.parts());
+    earlier(start, earlier(inputs, unknown_in_parts(block, process, &text.states)))
 }
 
 fn unknown_in_processes(block: &BlockTable, processes: &[ProcessTable]) -> Option<u32>
@@ -227,62 +367,6 @@ pub(crate) fn unknown_name(block: &BlockTable) -> Option<u32>
     earlier(routes, unknown_in_processes(block, block.tables()))
 }
 
-fn is_wrong(block: &BlockTable, stimulus: &Stimulus) -> bool
-    ensures { result ≡ has_too_many (block_of block.now) (stimulus_of stimulus.now) }
-{
-    match block.signal(stimulus.name.name) {
-        None => false,
-        Some(signal) => signal.parameters.len() < stimulus.places.len(),
-    }
-}
-
-fn wrong_place(block: &BlockTable, stimulus: &Stimulus) -> Option<u32>
-    ensures { Marks result (stimulus_wrong (block_of block.now) (stimulus_of stimulus.now)) }
-{
-    if is_wrong(block, stimulus) {
-        Some(stimulus.name.at)
-    } else {
-        None
-    }
-}
-
-fn wrong_in_stimuli(block: &BlockTable, stimuli: &[Stimulus]) -> Option<u32>
-    ensures { Marks result (flat_map (stimulus_wrong (block_of block.now)) (map stimulus_of stimuli.now)) }
-{
-    let mut place = None;
-    for stimulus in stimuli {
-        place = earlier(place, wrong_place(block, stimulus));
-    }
-    place
-}
-
-fn wrong_in_inputs(block: &BlockTable, inputs: &[&InputPart]) -> Option<u32>
-    ensures { Marks result (flat_map (input_wrong (block_of block.now)) (map (λ i. input_of i.now) inputs.now)) }
-{
-    let mut place = None;
-    for input in inputs {
-        place = earlier(place, wrong_in_stimuli(block, &input.stimuli));
-    }
-    place
-}
-
-fn wrong_in_processes(block: &BlockTable, processes: &[ProcessTable]) -> Option<u32>
-    ensures { Marks result (flat_map (process_wrong (block_of block.now)) (map process_of processes.now)) }
-{
-    let mut place = None;
-    for process in processes {
-        place = earlier(place, wrong_in_inputs(block, process.parts()));
-    }
-    place
-}
-
-/// The place of an INPUT's signal that has fewer parameters than the INPUT has places.
-pub(crate) fn wrong_sort(block: &BlockTable) -> Option<u32>
-    ensures { Marks result (wrong_sorts (block_of block.now)) }
-{
-    wrong_in_processes(block, block.tables())
-}
-
 // Where an end leads to no state, or nothing ends what the START or INPUT at a place begins.
 fn stray_at_end(states: &NameTable, at: u32, end: Option<End>) -> Option<u32>
     ensures { Marks result (strays states.now at (end_text end)) }
@@ -290,6 +374,7 @@ fn stray_at_end(states: &NameTable, at: u32, end: Option<End>) -> Option<u32>
     match end {
         None => Some(at),
         Some(End::NextState(NextState { at, state })) => missing_state(states, at, state),
+        Some(End::Stop(_)) => None,
     }
 }
 

@@ -74,19 +74,29 @@ impl fmt::Display for ControlPath {
 /// Why a text is refused. Places are bytes of the text, from 0.
 #[derive(Debug, Drop, Error)]
 pub enum RuleFault {
-    /// A name that its class and scope have already, or a signal twice among a state's inputs.
+    /// A name that its class and scope have already, a timer named as a signal, or a signal or timer
+    /// twice among what a state takes and saves.
     #[error("S1 DoubleName")]
     DoubleName(u32),
     /// A name that its class and scope lack.
     #[error("S2 UnknownName")]
     UnknownName(u32),
-    /// An INPUT with more places than its signal has parameters: the place of the signal's name.
+    /// A value or a place of an INPUT with the wrong sort, or not as many of them as there have to be.
     #[error("S3 WrongSort")]
     WrongSort(u32),
     /// A NEXTSTATE to a state that no STATE names, or a START or INPUT whose actions run off their
     /// end: the place of that word.
     #[error("S4 NoState")]
     NoState(u32),
+    /// An OUTPUT that no route carries: the place of the signal's name.
+    #[error("S5 NoReceiver")]
+    NoReceiver(u32),
+    /// An OUTPUT that says to nobody, and that routes carry to several: the place of the signal's name.
+    #[error("S6 TwoReceivers")]
+    TwoReceivers(u32),
+    /// Right of `/`, MOD or REM stands no number of 1 or more: the place of what stands there.
+    #[error("S9 BadDivisor")]
+    BadDivisor(u32),
     /// A limit is passed.
     #[error("S10 Limit {0}")]
     Limit(Limit),

@@ -1,27 +1,48 @@
 //! The limits: how long and how deep transitions are, and how many of everything there are.
 ghost use Rattle.std.specs.Prelude.{◌≡◌, ℕ, ◌+◌, List, map, min, nat_lt, length, sum_by, find};
 ghost use Rattle.std.specs.List.{flat_map, list_any};
-ghost use Rattle.sdl_tree.specs.Views.{tree_of, assignment_of, text_of, process_of, block_of, signal_of};
+ghost use Rattle.sdl_tree.specs.Views.{tree_of, assignment_of, sending_of, action_of, text_of, process_of, block_of, signal_of};
 ghost use Rattle.sdl_tables.specs.Names.{processes_of, signals_of, states_of, variables_of, timers_of};
-ghost use Rattle.sdl_rules.specs.Longest.{cost_of, depth_of, assignments_cost, assignments_depth, place_cost, place_depth, places_cost, places_depth, size, depth, pieces_of, input_piece};
-ghost use Rattle.sdl_rules.specs.Rows.{action_cost, action_depth, actions_depth, piece_passes};
+ghost use Rattle.sdl_rules.specs.Longest.{is_division, cost_of, depth_of, assignments_cost, assignments_depth, parameters_depth, sendings_cost, sendings_depth, action_cost, action_depth, action_effects, place_cost, place_depth, places_cost, places_depth, size, depth, effects, pieces_of, input_piece};
+ghost use Rattle.sdl_rules.specs.Rows.{actions_depth, piece_passes};
 ghost use Rattle.sdl_tables.specs.Rows.{row_input, rows_inputs};
 ghost use Rattle.sdl_rules.specs.Sound.{exceeds, counts, measures, first_limit};
 
 use sdl_tables::BlockTable;
 use crate::fault::Limit;
 use sdl_tables::{InputRow, ProcessTable};
-use sdl_tree::{Action, Assignment, End, Expression, Identifier, SignalDeclaration, Transition};
+use sdl_tree::{
+    Action, Assignment, BinaryOperator, Expression, Identifier, Sending, SignalDeclaration, Transition,
+};
+
+// Whether the right operand stands in the instruction itself.
+fn is_division(operator: BinaryOperator) -> bool
+    ensures { result ≡ is_division operator }
+{
+    match operator {
+        BinaryOperator::Divide => true,
+        BinaryOperator::Modulo => true,
+        BinaryOperator::Remainder => true,
+        _ => false,
+    }
+}
 
 fn cost(expression: &Expression) -> u32
     ensures { result ≡ min (cost_of (tree_of expression.now)) 4294967295 }
 {
     match expression {
         Expression::Number { .. } => 1,
+        Expression::Truth { .. } => 1,
         Expression::Variable { .. } => 1,
         Expression::Unary { operand, .. } => cost(operand).saturating_add(1),
-        Expression::Binary { left, right, .. } => {
-            cost(left).saturating_add(cost(right)).saturating_add(1)
+        Expression::Binary {
+            operator,
+            left,
+            right,
+            ..
+        } => {
+            let second = if is_division(*operator) { 0 } else { cost(right) };
+            cost(left).saturating_add(second).saturating_add(1)
         }
     }
 }
@@ -31,9 +52,18 @@ fn depth(expression: &Expression) -> u32
 {
     match expression {
         Expression::Number { .. } => 1,
+        Expression::Truth { .. } => 1,
         Expression::Variable { .. } => 1,
         Expression::Unary { operand, .. } => depth(operand),
-        Expression::Binary { left, right, .. } => depth(left).max(depth(right).saturating_add(1)),
+        Expression::Binary {
+            operator,
+            left,
+            right,
+            ..
+        } => {
+            let second = if is_division(*operator) { 0 } else { depth(right).saturating_add(1) };
+            depth(left).max(second)
+        }
     }
 }
 
@@ -57,34 +87,110 @@ fn assignments_depth(assignments: &[Assignment]) -> u32
     most
 }
 
+fn parameters_cost(parameters: &[Expression]) -> u32
+    ensures { result ≡ min (sum_by cost_of (map tree_of parameters.now)) 4294967295 }
+{
+    let mut total: u32 = 0;
+    for parameter in parameters {
+        total = total.saturating_add(cost(parameter));
+    }
+    total
+}
+
+// Each parameter with those before it, which wait.
+fn parameters_depth(parameters: &[Expression]) -> u32
+    ensures { result ≡ min (parameters_depth 0 (map tree_of parameters.now)) 4294967295 }
+{
+    let mut most: u32 = 0;
+    let mut waiting: u32 = 0;
+    for parameter in parameters {
+        most = most.max(depth(parameter).saturating_add(waiting));
+        waiting = waiting.saturating_add(1);
+    }
+    most
+}
+
+fn sendings_cost(sendings: &[Sending]) -> u32
+    ensures { result ≡ min (sendings_cost (map sending_of sendings.now)) 4294967295 }
+{
+    let mut total: u32 = 0;
+    for sending in sendings {
+        total = total.saturating_add(parameters_cost(&sending.parameters).saturating_add(1));
+    }
+    total
+}
+
+fn sendings_depth(sendings: &[Sending]) -> u32
+    ensures { result ≡ min (sendings_depth (map sending_of sendings.now)) 4294967295 }
+{
+    let mut most: u32 = 0;
+    for sending in sendings {
+        most = most.max(parameters_depth(&sending.parameters));
+    }
+    most
+}
+
+fn action_cost(action: &Action) -> u32
+    ensures { result ≡ min (action_cost (action_of action.now)) 4294967295 }
+{
+    match action {
+        Action::Task(task) => assignments_cost(&task.assignments),
+        Action::Output(output) => sendings_cost(&output.sendings),
+        Action::Set(set) => cost(&set.delay).saturating_add(1),
+        Action::Reset(_) => 1,
+    }
+}
+
 fn actions_cost(actions: &[Action]) -> u32
-    ensures { result ≡ min (sum_by action_cost actions.now) 4294967295 }
+    ensures { result ≡ min (sum_by action_cost (map action_of actions.now)) 4294967295 }
 {
     let mut total: u32 = 0;
     for action in actions {
-        match action {
-            Action::Task(task) => total = total.saturating_add(assignments_cost(&task.assignments)),
-        }
+        total = total.saturating_add(action_cost(action));
     }
     total
 }
 
 fn action_depth(action: &Action) -> u32
-    ensures { result ≡ min (action_depth action.now) 4294967295 }
+    ensures { result ≡ min (action_depth (action_of action.now)) 4294967295 }
 {
     match action {
         Action::Task(task) => assignments_depth(&task.assignments),
+        Action::Output(output) => sendings_depth(&output.sendings),
+        Action::Set(set) => depth(&set.delay),
+        Action::Reset(_) => 0,
     }
 }
 
 fn actions_depth(actions: &[Action]) -> u32
-    ensures { result ≡ min (actions_depth actions.now) 4294967295 }
+    ensures { result ≡ min (actions_depth (map action_of actions.now)) 4294967295 }
 {
     let mut most: u32 = 0;
     for action in actions {
         most = most.max(action_depth(action));
     }
     most
+}
+
+fn action_effects(action: &Action) -> usize
+    ensures { result ≡ action_effects (action_of action.now) }
+{
+    match action {
+        Action::Task(_) => 0,
+        Action::Output(output) => output.sendings.len(),
+        Action::Set(_) => 1,
+        Action::Reset(_) => 1,
+    }
+}
+
+fn actions_effects(actions: &[Action]) -> usize
+    ensures { result ≡ min (sum_by action_effects (map action_of actions.now)) 18446744073709551615 }
+{
+    let mut total: usize = 0;
+    for action in actions {
+        total = total.saturating_add(action_effects(action));
+    }
+    total
 }
 
 #[tactic(auto, using(crate::proofs::Texts::texts))]
@@ -94,7 +200,7 @@ fn transition_size(transition: &Transition) -> u32
     let actions = actions_cost(&transition.actions);
     match &transition.end {
         None => actions,
-        Some(End::NextState(_)) => actions.saturating_add(1),
+        Some(_) => actions.saturating_add(1),
     }
 }
 
@@ -102,6 +208,12 @@ fn transition_depth(transition: &Transition) -> u32
     ensures { result ≡ min (depth (text_of transition.now)) 4294967295 }
 {
     actions_depth(&transition.actions)
+}
+
+fn transition_effects(transition: &Transition) -> usize
+    ensures { result ≡ min (effects (text_of transition.now) 0) 18446744073709551615 }
+{
+    actions_effects(&transition.actions)
 }
 
 fn place_cost(place: Option<Identifier>) -> u32
@@ -156,7 +268,7 @@ fn passes(measure: Measure, places: &[Option<Identifier>], transition: &Transiti
     match measure {
         Measure::Size => places_cost(places).saturating_add(transition_size(transition)) > 512,
         Measure::Depth => places_depth(places).max(transition_depth(transition)) > 16,
-        Measure::Effects => false,
+        Measure::Effects => transition_effects(transition) > 32,
     }
 }
 
@@ -217,11 +329,14 @@ fn has_many_variables(tables: &[ProcessTable]) -> bool
     any
 }
 
-// No declaration is one of timers.
-fn has_many_timers(_tables: &[ProcessTable]) -> bool
-    ensures { result ≡ list_any (λ p. nat_lt 8 (length (timers_of p))) (map process_of _tables.now) }
+fn has_many_timers(tables: &[ProcessTable]) -> bool
+    ensures { result ≡ list_any (λ p. nat_lt 8 (length (timers_of p))) (map process_of tables.now) }
 {
-    false
+    let mut any = false;
+    for table in tables {
+        any |= table.timers().len() > 8;
+    }
+    any
 }
 
 fn has_many_parameters(rows: &[&SignalDeclaration]) -> bool

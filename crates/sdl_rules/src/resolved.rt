@@ -6,9 +6,12 @@ ghost use Rattle.sdl_rules.specs.Surveys.{AllSettled};
 ghost use Rattle.sdl_rules.specs.Refusals.{Sound, Refuses};
 
 use sdl_tables::BlockTable;
-use crate::checks::{stray_end, unknown_name, wrong_sort};
+use crate::checks::{stray_end, unknown_name};
+use crate::divisors::bad_divisor;
 use crate::fault::RuleFault;
 use crate::limits::first_limit;
+use crate::receivers::{doubtful_output, lost_output};
+use crate::sorts::wrong_sort;
 use sdl_tables::NameTable;
 use sdl_tables::ProcessTable;
 use crate::settled::{Unset, settle};
@@ -60,6 +63,15 @@ pub fn resolve<'a>(alloc: Global, block: &'a Block) -> Result<Resolved<'a>, Rule
     }
     if let Some(at) = stray_end(&table) {
         return Err(RuleFault::NoState(at));
+    }
+    if let Some(at) = lost_output(&table) {
+        return Err(RuleFault::NoReceiver(at));
+    }
+    if let Some(at) = doubtful_output(&table) {
+        return Err(RuleFault::TwoReceivers(at));
+    }
+    if let Some(at) = bad_divisor(&table) {
+        return Err(RuleFault::BadDivisor(at));
     }
     if let Some(which) = first_limit(&table) {
         return Err(RuleFault::Limit(which));

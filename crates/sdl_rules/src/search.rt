@@ -14,7 +14,7 @@ use crate::fault::{ControlPath, Step};
 use crate::flows::graph_of;
 use sdl_tables::ProcessTable;
 use sdl_lex::Name;
-use sdl_tree::{Action, Expression, Transition};
+use sdl_tree::{Action, Assignment, Expression, Sending, Transition};
 use std::alloc::{AllocError, Global};
 use std::cmp::Ordering;
 use unset_paths::{Fate, first_unset};
@@ -36,6 +36,7 @@ pub(crate) fn find_fates(alloc: Global, table: &ProcessTable) -> Result<Vec<Fate
 fn read_in_expression(expression: &Expression, name: Name) -> Option<u32> {
     match expression {
         Expression::Number { .. } => None,
+        Expression::Truth { .. } => None,
         Expression::Variable { name: id, .. } => {
             if id.name.folded() == name.folded() {
                 Some(id.at)
@@ -51,17 +52,43 @@ fn read_in_expression(expression: &Expression, name: Name) -> Option<u32> {
     }
 }
 
+// The place of the first read of a variable in some assignments.
+fn read_in_assignments(assignments: &[Assignment], name: Name) -> Option<u32> {
+    for assignment in assignments {
+        if let Some(at) = read_in_expression(&assignment.value, name) {
+            return Some(at);
+        }
+    }
+    None
+}
+
+// The place of the first read of a variable in some parameters.
+fn read_in_parameters(parameters: &[Expression], name: Name) -> Option<u32> {
+    for parameter in parameters {
+        if let Some(at) = read_in_expression(parameter, name) {
+            return Some(at);
+        }
+    }
+    None
+}
+
+// The place of the first read of a variable in some signals that go out.
+fn read_in_sendings(sendings: &[Sending], name: Name) -> Option<u32> {
+    for sending in sendings {
+        if let Some(at) = read_in_parameters(&sending.parameters, name) {
+            return Some(at);
+        }
+    }
+    None
+}
+
 // The place of the first read of a variable in an action.
 fn read_in_action(action: &Action, name: Name) -> Option<u32> {
     match action {
-        Action::Task(task) => {
-            for assignment in &task.assignments {
-                if let Some(at) = read_in_expression(&assignment.value, name) {
-                    return Some(at);
-                }
-            }
-            None
-        }
+        Action::Task(task) => read_in_assignments(&task.assignments, name),
+        Action::Output(output) => read_in_sendings(&output.sendings, name),
+        Action::Set(set) => read_in_expression(&set.delay, name),
+        Action::Reset(_) => None,
     }
 }
 

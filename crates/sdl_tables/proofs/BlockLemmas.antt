@@ -1,5 +1,5 @@
 -- The tables of a block are the block's.
-use Rattle.std.proofs.Common.{◌≡◌, ℕ, ◌<◌, ◌≤◌, Bool, true, false, cond, nat_lt, List, [], ◌∷◌, ◌++◌, map, length, Option, None, Some, zero, suc, Contains, slice_get, find, refl, sym, ap, ◌∙◌, subst, arith, get_or}
+use Rattle.std.proofs.Common.{◌≡◌, ℕ, ◌<◌, ◌≤◌, Bool, true, false, cond, nat_lt, List, [], ◌∷◌, ◌++◌, map, length, Option, None, Some, zero, suc, Contains, slice_get, find, if◌then◌else◌, refl, sym, ap, ◌∙◌, subst, arith, get_or}
 use Rattle.std.specs.List.{flat_map, position_or_len}
 use Rattle.std.specs.Option.{option_map, option_and_then}
 use Rattle.std.proofs.lemmas.List.{append-nil}
@@ -15,10 +15,10 @@ use Rattle.std.proofs.lemmas.Grind.{flat_map-append}
 use Rattle.std.proofs.lemmas.Bool.Decides.{leb_tells}
 use Rattle.sdl_tree.specs.declared.expression.Identifier.{Identifier}
 use Rattle.sdl_tree.specs.Plain.{PlainSignal, PlainProcess, PlainBlock}
-use Rattle.sdl_tables.specs.Names.{same_name, number_of, signal_names, route_names, process_names, signals_of, routes_of, processes_of, signal_named}
-use Rattle.sdl_tables.specs.Scopes.{Marks, repeats, process_scopes, double_names}
+use Rattle.sdl_tables.specs.Names.{same_name, is_in, names_once, number_of, signal_names, route_names, process_names, signals_of, routes_of, processes_of, signal_named, timers_of}
+use Rattle.sdl_tables.specs.Scopes.{Marks, repeats, process_scopes, shared, signal_timers, double_names}
 use Rattle.sdl_tables.proofs.Tables.{position-map}
-use Rattle.sdl_tables.proofs.Repeats.{append-nil_right}
+use Rattle.sdl_tables.proofs.Repeats.{append-nil_right, is_in-names_once}
 
 pub flat_map-push : {X : Type 0} (f : X → List ℕ) (xs : List X) (x : X) → flat_map f (xs ++ x ∷ []) ≡ flat_map f xs ++ f x
 flat_map-push f xs x = flat_map-append f xs (x ∷ []) ∙ ap (λ r. flat_map f xs ++ r) (append-nil (f x))
@@ -108,22 +108,46 @@ inside-processes f xs ps e =
     sym (flat_map-map (λ p. flat_map (repeats []) (process_scopes p)) f xs)
     ∙ (ap (flat_map (λ p. flat_map (repeats []) (process_scopes p))) e ∙ sym (flat_map-flat_map (repeats []) process_scopes ps))
 
-abbrev pub Joins : Option ℕ → Option ℕ → Option ℕ → Type 0
-Joins one other both = (xs ys : List ℕ) → Marks one xs → Marks other ys → Marks both (xs ++ ys)
-
-pub Marks-block : (b : PlainBlock) (ss rs ps : List Identifier) (places : List ℕ) (one two three four inside beyond double : Option ℕ)
+pub Marks-block : (b : PlainBlock) (ss rs ps : List Identifier) (places alarms : List ℕ) (one two three four five double : Option ℕ)
     → ss ≡ signal_names b → rs ≡ route_names b → ps ≡ process_names b
-    → places ≡ flat_map (repeats []) (flat_map process_scopes (processes_of b))
-    → Marks one (repeats [] ss) → Marks two (repeats [] rs) → Marks three (repeats [] ps) → Marks four places
-    → Joins three four inside → Joins two inside beyond → Joins one beyond double → Marks double (double_names b)
-Marks-block b ss rs ps places one two three four inside beyond double e f g h m n o p j k l =
-    let rest = flat_map (repeats []) (flat_map process_scopes (processes_of b)) in
-    l (repeats [] (signal_names b)) (repeats [] (route_names b) ++ (repeats [] (process_names b) ++ rest))
+    → places ≡ flat_map (repeats []) (flat_map process_scopes (processes_of b)) → alarms ≡ signal_timers b
+    → Marks one (repeats [] ss) → Marks two (repeats [] rs) → Marks three (repeats [] ps) → Marks four places → Marks five alarms
+    → ((vs ws xs ys zs : List ℕ) → Marks one vs → Marks two ws → Marks three xs → Marks four ys → Marks five zs
+      → Marks double ((vs ++ (ws ++ (xs ++ ys))) ++ zs))
+    → Marks double (double_names b)
+Marks-block b ss rs ps places alarms one two three four five double e f g h i m n o p q join =
+    join (repeats [] (signal_names b)) (repeats [] (route_names b)) (repeats [] (process_names b))
+    (flat_map (repeats []) (flat_map process_scopes (processes_of b))) (signal_timers b)
     (subst (λ (x : List Identifier). Marks one (repeats [] x)) e m)
-    (k (repeats [] (route_names b)) (repeats [] (process_names b) ++ rest)
     (subst (λ (x : List Identifier). Marks two (repeats [] x)) f n)
-    (j (repeats [] (process_names b)) rest
-    (subst (λ (x : List Identifier). Marks three (repeats [] x)) g o) (subst (Marks four) h p)))
+    (subst (λ (x : List Identifier). Marks three (repeats [] x)) g o)
+    (subst (Marks four) h p) (subst (Marks five) i q)
+
+-- a table has each name once: that changes nothing
+shared-once : (ids xs : List Identifier) → shared (names_once ids) xs ≡ shared ids xs
+shared-once ids [] = refl
+shared-once ids (x ∷ xs) =
+    let here : (if is_in (names_once ids) x.name then x.at ∷ [] else []) ≡ (if is_in ids x.name then x.at ∷ [] else []) =
+    ap (λ b. if b then x.at ∷ [] else []) (is_in-names_once ids x.name) in
+    let there : shared (names_once ids) xs ≡ shared ids xs = shared-once ids xs in
+    cc
+
+shared-inside : {A : Type 0} (f : A → PlainProcess) (ids : List Identifier) (xs : List A)
+    → flat_map (λ x. shared (names_once ids) (timers_of (f x))) xs ≡ flat_map (λ x. shared ids (timers_of (f x))) xs
+shared-inside f ids [] = refl
+shared-inside f ids (x ∷ xs) =
+    let here : shared (names_once ids) (timers_of (f x)) ≡ shared ids (timers_of (f x)) = shared-once ids (timers_of (f x)) in
+    let there : flat_map (λ x. shared (names_once ids) (timers_of (f x))) xs ≡ flat_map (λ x. shared ids (timers_of (f x))) xs = shared-inside f ids xs in
+    cc
+
+-- the timers that are named as signals, in the way of the code
+pub timers-inside : {A : Type 0} (f : A → PlainProcess) (b : PlainBlock) (table ids : List Identifier) (xs : List A) → map f xs ≡ processes_of b
+    → ids ≡ signal_names b → table ≡ names_once ids → flat_map (λ x. shared table (timers_of (f x))) xs ≡ signal_timers b
+timers-inside f b table ids xs e same once =
+    ap (λ t. flat_map (λ x. shared t (timers_of (f x))) xs) (once ∙ ap names_once same)
+    ∙ (shared-inside f (signal_names b) xs
+    ∙ (sym (flat_map-map (λ p. shared (signal_names b) (timers_of p)) f xs)
+    ∙ ap (flat_map (λ p. shared (signal_names b) (timers_of p))) e))
 
 pub Marks-none : (o : Option ℕ) (places : List ℕ) → Marks o places → places ≡ [] → o ≡ None
 Marks-none None places m e = refl

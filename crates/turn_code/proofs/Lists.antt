@@ -1,8 +1,8 @@
 -- Lists, place by place.
-use Rattle.std.proofs.Common.{◌≡◌, ◌≢◌, ℕ, zero, suc, ◌+◌, ◌-◌, ◌<◌, ◌≤◌, max, List, [], ◌∷◌, ◌++◌, length, map, take, drop, Option, Some, None, refl, sym, ap, ◌∙◌, subst, arith, take_all, le-add_right, le_refl}
+use Rattle.std.proofs.Common.{◌≡◌, ◌≢◌, ℕ, zero, suc, ◌+◌, ◌-◌, ◌<◌, ◌≤◌, max, List, [], ◌∷◌, ◌++◌, length, map, take, drop, reverse, Option, Some, None, refl, sym, ap, ◌∙◌, subst, arith, take_all, le-add_right, le_refl}
 use Rattle.std.specs.Prelude.{slice_get, slice_set, slice_index_or, Contains, All}
 use Rattle.std.specs.List.{AllZip, refill}
-use Rattle.std.proofs.lemmas.List.{take-append-le}
+use Rattle.std.proofs.lemmas.List.{take-append-le, take-append-drop, length-drop, length-reverse, reverse-append, reverse-reverse}
 use Rattle.std.proofs.Common.{length-set}
 
 -- an element below the length
@@ -75,3 +75,46 @@ refill_set xs ws k a e =
     let long : length (slice_set ws k a) ≡ length xs = length-set ws k a ∙ ap length e in
     let front = take-append-le {A = _} (length xs) (slice_set ws k a) (drop (length (slice_set ws k a)) xs) (omega arith) in
     front ∙ take_all (length xs) (slice_set ws k a) (omega arith) ∙ ap (λ u. slice_set u k a) e
+
+-- ---- the last of a list, seen from its end
+front : {A : Type 0} (p q : List A) (m : ℕ) → length p ≡ m → take m (p ++ q) ≡ p
+front [] q zero e = refl
+front [] q (suc m) e = absurd (omega arith)
+front (x ∷ p) q zero e = absurd (omega arith)
+front (x ∷ p) q (suc m) e = ap (λ u. x ∷ u) (front p q m (omega arith))
+
+behind_front : {A : Type 0} (p q : List A) (m : ℕ) → length p ≡ m → drop m (p ++ q) ≡ q
+behind_front [] q zero e = refl
+behind_front [] q (suc m) e = absurd (omega arith)
+behind_front (x ∷ p) q zero e = absurd (omega arith)
+behind_front (x ∷ p) q (suc m) e = behind_front p q m (omega arith)
+
+turned : {A : Type 0} (xs : List A) (a : ℕ) → reverse (drop a xs) ++ reverse (take a xs) ≡ reverse xs
+turned xs a = sym (reverse-append (take a xs) (drop a xs)) ∙ ap reverse (take-append-drop a xs)
+
+turned_long : {A : Type 0} (xs : List A) (a m : ℕ) → a + m ≡ length xs → length (reverse (drop a xs)) ≡ m
+turned_long xs a m e = length-reverse (drop a xs) ∙ length-drop a xs ∙ omega (arith, e)
+
+pub last_taken : {A : Type 0} (xs : List A) (a m : ℕ) → a + m ≡ length xs → reverse (take m (reverse xs)) ≡ drop a xs
+last_taken xs a m e =
+    ap (λ u. reverse (take m u)) (sym (turned xs a))
+    ∙ ap reverse (front (reverse (drop a xs)) (reverse (take a xs)) m (turned_long xs a m e))
+    ∙ reverse-reverse (drop a xs)
+
+pub last_dropped : {A : Type 0} (xs : List A) (a m : ℕ) → a + m ≡ length xs → drop m (reverse xs) ≡ reverse (take a xs)
+last_dropped xs a m e =
+    ap (drop m) (sym (turned xs a)) ∙ behind_front (reverse (drop a xs)) (reverse (take a xs)) m (turned_long xs a m e)
+
+pub popped : {A : Type 0} (xs slice ps os : List A) (n m : ℕ) → os ≡ reverse xs → slice ≡ xs → n ≡ length xs → m ≤ length os
+    → ps ≡ take (length slice - (n - m)) (drop (n - m) slice) → ps ≡ reverse (take m os)
+popped xs slice ps os n m o s l h p =
+    let long : length os ≡ length xs = ap length o ∙ length-reverse xs in
+    let whole = take_all (length xs - (n - m)) (drop (n - m) xs) (omega (arith, length-drop (n - m) xs)) in
+    p ∙ ap (λ u. take (length u - (n - m)) (drop (n - m) u)) s ∙ whole
+    ∙ sym (last_taken xs (n - m) m (omega arith)) ∙ ap (λ u. reverse (take m u)) (sym o)
+
+pub left_over : {A : Type 0} (xs ys os : List A) (n m : ℕ) → os ≡ reverse xs → n ≡ length xs → m ≤ length os
+    → ys ≡ take (n - m) xs → reverse ys ≡ drop m os
+left_over xs ys os n m o l h y =
+    let long : length os ≡ length xs = ap length o ∙ length-reverse xs in
+    ap reverse y ∙ sym (last_dropped xs (n - m) m (omega arith)) ∙ ap (drop m) (sym o)

@@ -1,14 +1,20 @@
 -- A safe run ends, and its count says how many instructions it took.
-use Rattle.std.proofs.Common.{◌≡◌, ℕ, zero, suc, ◌+◌, ◌-◌, ◌<◌, ◌≤◌, ℤ, ◌+ℤ◌, ◌-ℤ◌, ◌*ℤ◌, neg_ℤ, List, [], ◌∷◌, length, Option, Some, None, refl, sym, ap, ◌∙◌, subst, arith}
-use Rattle.std.specs.Prelude.{slice_get}
-use Rattle.turn_code.specs.Run.{Progress, After, goes, ends, stuck, loaded, stored, given, on_two, on_one, on_top, act, act_if, step, tick, Ran, ended, got_stuck, unfinished, go_on, exec, CountIs}
+use Rattle.std.proofs.Common.{◌≡◌, ℕ, zero, suc, ◌+◌, ◌-◌, ◌<◌, ◌≤◌, ℤ, pos, ◌+ℤ◌, ◌-ℤ◌, ◌*ℤ◌, neg_ℤ, Bool as Truth, true, false, not, ◌&&◌, ◌||◌, if◌then◌else◌, List, [], ◌∷◌, length, take, drop, reverse, Option, Some, None, refl, sym, ap, ◌∙◌, subst, arith}
+use Rattle.std.specs.Prelude.{slice_get, int_lt, int_div, int_rem, nat_le}
+use Rattle.std.specs.Int.{int_rem_euclid}
+use Rattle.turn_code.specs.Values.{wrap, holds, is_between, differ}
+use Rattle.turn_code.specs.Run.{Progress, After, goes, ends, stuck, loaded, stored, given, on_top, on_integer, on_boolean, on_integers, on_booleans, on_operands, sent, party_of, with_effect, act, act_if, step, tick, Ran, ended, got_stuck, unfinished, go_on, exec, CountIs}
 use Rattle.turn_code.specs.Transitions.{Transition}
 use Rattle.turn_code.specs.Safe.{EndsWell, IsSafeAfter, IsSafe}
 use Rattle.turn_code.specs.declared.value.Value.{Value}
 use Rattle.turn_code.specs.declared.value.Value.TheVariants.{Int, Bool}
+use Rattle.turn_code.specs.declared.numbers.SignalNumber.{SignalNumber}
+use Rattle.turn_code.specs.declared.input.Input.{Input}
+use Rattle.turn_code.specs.declared.input.Party.{Party}
 use Rattle.turn_code.specs.declared.instruction.Instruction.{Instruction}
-use Rattle.turn_code.specs.declared.instruction.Instruction.TheVariants.{Int as PutInt, Load, Store, Param, Add, Sub, Mul, Neg, Next}
+use Rattle.turn_code.specs.declared.instruction.Instruction.TheVariants.{Int as PutInt, Bool as PutBool, Load, Store, Param, Add, Sub, Mul, Div, Mod, Rem, Neg, Not, And, Or, Xor, Same, Compare, Case, CaseWithin, Pick, Drop, Jump, Output, Set, Reset, Next, Stop}
 use Rattle.turn_code.specs.declared.machine.End.{End}
+use Rattle.turn_code.specs.declared.trouble.Trouble.TheVariants.{Underflow}
 
 loaded_count : (k : ℕ) (os : List Value) (s : Progress) (o : Option (Option Value)) → CountIs s.count (loaded k os s o)
 loaded_count k os s None = tt
@@ -23,36 +29,81 @@ given_count : (k : ℕ) (os : List Value) (s : Progress) (o : Option Value) → 
 given_count k os s None = tt
 given_count k os s (Some x) = refl
 
-two_count : (f : ℤ → ℤ → ℤ) (k : ℕ) (os : List Value) (s : Progress) → CountIs s.count (on_two f k os s)
-two_count f k [] s = tt
-two_count f k (y ∷ []) s = tt
-two_count f k (Int y ∷ Int x ∷ os) s = refl
-two_count f k (Int y ∷ Bool x ∷ os) s = tt
-two_count f k (Bool y ∷ x ∷ os) s = tt
+sent_count : (n : SignalNumber) (o : Option Party) (vs : List Value) (k : ℕ) (os : List Value) (s : Progress) → CountIs s.count (sent n o vs k os s)
+sent_count n None vs k os s = tt
+sent_count n (Some p) vs k os s = refl
 
-one_count : (f : ℤ → ℤ) (k : ℕ) (os : List Value) (s : Progress) → CountIs s.count (on_one f k os s)
-one_count f k [] s = tt
-one_count f k (Int x ∷ os) s = refl
-one_count f k (Bool x ∷ os) s = tt
+cond_count : (c : ℕ) (b : Truth) (x y : After) → CountIs c x → CountIs c y → CountIs c (if b then x else y)
+cond_count c true x y h i = h
+cond_count c false x y h i = i
 
-pub act_count : (i : Instruction) (ps : List Value) (k : ℕ) (os : List Value) (s : Progress) → CountIs s.count (act i ps k os s)
-act_count (PutInt z) ps k os s = refl
-act_count (Load v) ps k os s = loaded_count k os s (slice_get s.variables v.0)
-act_count (Store v) ps k [] s = tt
-act_count (Store v) ps k (x ∷ os) s = stored_count k os s v.0 x (slice_get s.variables v.0)
-act_count (Param j) ps k os s = given_count k os s (slice_get ps j)
-act_count Add ps k os s = two_count (λ x y. x +ℤ y) k os s
-act_count Sub ps k os s = two_count (λ x y. x -ℤ y) k os s
-act_count Mul ps k os s = two_count (λ x y. x *ℤ y) k os s
-act_count Neg ps k os s = one_count neg_ℤ k os s
-act_count (Next q) ps k os s = refl
+top_count : (c : ℕ) (os : List Value) (go : Value → List Value → After) → ((x : Value) (rest : List Value) → CountIs c (go x rest)) → CountIs c (on_top os go)
+top_count c [] go h = tt
+top_count c (x ∷ os) go h = h x os
 
-pub act_if_count : (o : Option Instruction) (ps : List Value) (k : ℕ) (os : List Value) (s : Progress) → CountIs s.count (act_if o ps k os s)
-act_if_count None ps k os s = tt
-act_if_count (Some i) ps k os s = act_count i ps k os s
+integer_count : (c : ℕ) (os : List Value) (go : ℤ → List Value → After) → ((x : ℤ) (rest : List Value) → CountIs c (go x rest)) → CountIs c (on_integer os go)
+integer_count c [] go h = tt
+integer_count c (Int x ∷ os) go h = h x os
+integer_count c (Bool x ∷ os) go h = tt
 
-pub step_count : (code : List Instruction) (ps : List Value) (k : ℕ) (os : List Value) (s : Progress) → CountIs (s.count + 1) (step code ps k os s)
-step_count code ps k os s = act_if_count (slice_get code k) ps (k + 1) os (tick s)
+boolean_count : (c : ℕ) (os : List Value) (go : Truth → List Value → After) → ((x : Truth) (rest : List Value) → CountIs c (go x rest)) → CountIs c (on_boolean os go)
+boolean_count c [] go h = tt
+boolean_count c (Int x ∷ os) go h = tt
+boolean_count c (Bool x ∷ os) go h = h x os
+
+integers_count : (c : ℕ) (os : List Value) (go : ℤ → ℤ → List Value → After) → ((x y : ℤ) (rest : List Value) → CountIs c (go x y rest)) → CountIs c (on_integers os go)
+integers_count c [] go h = tt
+integers_count c (y ∷ []) go h = tt
+integers_count c (Int y ∷ Int x ∷ os) go h = h x y os
+integers_count c (Int y ∷ Bool x ∷ os) go h = tt
+integers_count c (Bool y ∷ x ∷ os) go h = tt
+
+booleans_count : (c : ℕ) (os : List Value) (go : Truth → Truth → List Value → After) → ((x y : Truth) (rest : List Value) → CountIs c (go x y rest)) → CountIs c (on_booleans os go)
+booleans_count c [] go h = tt
+booleans_count c (y ∷ []) go h = tt
+booleans_count c (Bool y ∷ Bool x ∷ os) go h = h x y os
+booleans_count c (Bool y ∷ Int x ∷ os) go h = tt
+booleans_count c (Int y ∷ x ∷ os) go h = tt
+
+operands_count : (c n : ℕ) (os : List Value) (go : List Value → List Value → After) → ((vs rest : List Value) → CountIs c (go vs rest)) → CountIs c (on_operands n os go)
+operands_count c n os go h = cond_count c (nat_le n (length os)) (go (reverse (take n os)) (drop n os)) (stuck Underflow) (h (reverse (take n os)) (drop n os)) tt
+
+pub act_count : (i : Instruction) (x : Input) (k : ℕ) (os : List Value) (s : Progress) → CountIs s.count (act i x k os s)
+act_count (PutInt z) x k os s = refl
+act_count (PutBool b) x k os s = refl
+act_count (Load v) x k os s = loaded_count k os s (slice_get s.variables v.0)
+act_count (Store v) x k os s = top_count s.count os _ (λ y rest. stored_count k rest s v.0 y (slice_get s.variables v.0))
+act_count (Param j) x k os s = given_count k os s (slice_get x.parameters.items j)
+act_count Add x k os s = integers_count s.count os _ (λ a b rest. refl)
+act_count Sub x k os s = integers_count s.count os _ (λ a b rest. refl)
+act_count Mul x k os s = integers_count s.count os _ (λ a b rest. refl)
+act_count (Div z) x k os s = integer_count s.count os _ (λ a rest. cond_count s.count (int_lt (pos 0) z) _ _ refl tt)
+act_count (Mod z) x k os s = integer_count s.count os _ (λ a rest. cond_count s.count (int_lt (pos 0) z) _ _ refl tt)
+act_count (Rem z) x k os s = integer_count s.count os _ (λ a rest. cond_count s.count (int_lt (pos 0) z) _ _ refl tt)
+act_count Neg x k os s = integer_count s.count os _ (λ a rest. refl)
+act_count Not x k os s = boolean_count s.count os _ (λ a rest. refl)
+act_count And x k os s = booleans_count s.count os _ (λ a b rest. refl)
+act_count Or x k os s = booleans_count s.count os _ (λ a b rest. refl)
+act_count Xor x k os s = booleans_count s.count os _ (λ a b rest. refl)
+act_count Same x k os s = booleans_count s.count os _ (λ a b rest. refl)
+act_count (Compare r) x k os s = integers_count s.count os _ (λ a b rest. refl)
+act_count (Case r z p) x k os s = integer_count s.count os _ (λ a rest. cond_count s.count (holds r a z) _ _ refl refl)
+act_count (CaseWithin p l m) x k os s = integer_count s.count os _ (λ a rest. cond_count s.count (is_between l m a) _ _ refl refl)
+act_count (Pick p q) x k os s = boolean_count s.count os _ (λ b rest. refl)
+act_count Drop x k os s = integer_count s.count os _ (λ a rest. refl)
+act_count (Jump p) x k os s = refl
+act_count (Output n r c) x k os s = operands_count s.count c os _ (λ vs rest. sent_count n (party_of r x.sender) vs k rest s)
+act_count (Set t) x k os s = integer_count s.count os _ (λ a rest. refl)
+act_count (Reset t) x k os s = refl
+act_count (Next q) x k os s = refl
+act_count Stop x k os s = refl
+
+pub act_if_count : (o : Option Instruction) (x : Input) (k : ℕ) (os : List Value) (s : Progress) → CountIs s.count (act_if o x k os s)
+act_if_count None x k os s = tt
+act_if_count (Some i) x k os s = act_count i x k os s
+
+pub step_count : (code : List Instruction) (x : Input) (k : ℕ) (os : List Value) (s : Progress) → CountIs (s.count + 1) (step code x k os s)
+step_count code x k os s = act_if_count (slice_get code k) x (k + 1) os (tick s)
 
 pub record EndsIn (t : Transition) (most : ℕ) (r : Ran) : Type 0 where
   pub end : End
@@ -61,23 +112,23 @@ pub record EndsIn (t : Transition) (most : ℕ) (r : Ran) : Type 0 where
   pub within : progress.count ≤ most
   pub well : EndsWell t end progress
 
-after_ends : (t : Transition) (ps : List Value) (big n c : ℕ)
-    → ((k : ℕ) (os : List Value) (s : Progress) → IsSafe t ps n k os s → EndsIn t (s.count + n) (exec t.piece.code ps big k os s))
-    → (a : After) → CountIs (c + 1) a → IsSafeAfter t (IsSafe t ps n) a → EndsIn t (c + suc n) (go_on (exec t.piece.code ps big) a)
-after_ends t ps big n c rest (goes k os s) e h =
+after_ends : (t : Transition) (x : Input) (big n c : ℕ)
+    → ((k : ℕ) (os : List Value) (s : Progress) → IsSafe t x n k os s → EndsIn t (s.count + n) (exec t.piece.code x big k os s))
+    → (a : After) → CountIs (c + 1) a → IsSafeAfter t (IsSafe t x n) a → EndsIn t (c + suc n) (go_on (exec t.piece.code x big) a)
+after_ends t x big n c rest (goes k os s) e h =
     let r = rest k os s h in
     let within : r.progress.count ≤ s.count + n = r.within in
     let is_count : s.count ≡ c + 1 = e in
     record { end = r.end; progress = r.progress; is = r.is; within = omega arith; well = r.well }
-after_ends t ps big n c rest (ends q s) e h =
+after_ends t x big n c rest (ends q s) e h =
     let is_count : s.count ≡ c + 1 = e in
     record { end = q; progress = s; is = refl; within = omega arith; well = h }
-after_ends t ps big n c rest (stuck x) e h = absurd h
+after_ends t x big n c rest (stuck z) e h = absurd h
 
-pub ran : (t : Transition) (ps : List Value) (big n k : ℕ) (os : List Value) (s : Progress)
-    → n ≤ big → IsSafe t ps n k os s → EndsIn t (s.count + n) (exec t.piece.code ps big k os s)
-ran t ps zero zero k os s le h = absurd h
-ran t ps (suc big) zero k os s le h = absurd h
-ran t ps zero (suc n) k os s le h = absurd (omega arith)
-ran t ps (suc big) (suc n) k os s le h =
-    after_ends t ps big n s.count (λ k os s g. ran t ps big n k os s (omega arith) g) (step t.piece.code ps k os s) (step_count t.piece.code ps k os s) h.1
+pub ran : (t : Transition) (x : Input) (big n k : ℕ) (os : List Value) (s : Progress)
+    → n ≤ big → IsSafe t x n k os s → EndsIn t (s.count + n) (exec t.piece.code x big k os s)
+ran t x zero zero k os s le h = absurd h
+ran t x (suc big) zero k os s le h = absurd h
+ran t x zero (suc n) k os s le h = absurd (omega arith)
+ran t x (suc big) (suc n) k os s le h =
+    after_ends t x big n s.count (λ k os s g. ran t x big n k os s (omega arith) g) (step t.piece.code x k os s) (step_count t.piece.code x k os s) h.2

@@ -1,21 +1,19 @@
 -- Inputs that fit a transition.
-use Rattle.std.specs.Prelude.{◌≡◌, ℕ, List, map, Any, Contains, Option, Some, None, IfSome, slice_get}
+use Rattle.std.specs.Prelude.{◌≡◌, ℕ, List, map, Any, Option, Some, None, IfSome, slice_get}
 use Rattle.std.specs.List.{AllZip}
 use Rattle.turn_code.specs.Values.{sort_of}
 use Rattle.turn_code.specs.Sets.{Has}
+use Rattle.turn_code.specs.Routes.{Brings}
 use Rattle.turn_code.specs.Transitions.{Transition, transition_at}
 use Rattle.turn_code.specs.declared.value.Value.{Value}
 use Rattle.turn_code.specs.declared.variable_set.VariableSet.{VariableSet}
 use Rattle.turn_code.specs.declared.input.Input.{Input}
 use Rattle.turn_code.specs.declared.input.Place.{Place}
 use Rattle.turn_code.specs.declared.input.Party.{Party}
-use Rattle.turn_code.specs.declared.input.Party.TheVariants.{Environment, Process}
-use Rattle.turn_code.specs.declared.numbers.SignalNumber.{SignalNumber}
 use Rattle.turn_code.specs.declared.draft.Draft.{Draft}
-use Rattle.turn_code.specs.declared.draft.DraftRoute.{DraftRoute}
 use Rattle.turn_code.specs.declared.draft.DraftVariable.{DraftVariable}
 use Rattle.turn_code.specs.declared.draft.Trigger.{Trigger}
-use Rattle.turn_code.specs.declared.draft.Trigger.TheVariants.{Signal}
+use Rattle.turn_code.specs.declared.draft.Trigger.TheVariants.{Signal, Timer}
 
 -- where the variable is set, its value has its sort
 abbrev pub HasSort : DraftVariable → Option Value → Type 0
@@ -29,31 +27,22 @@ HaveSorts xs vs = AllZip HasSort xs vs
 abbrev pub AreSet : VariableSet → List (Option Value) → Type 0
 AreSet s vs = (v : ℕ) → Has s v → (x : Value) × (slice_get vs v ≡ Some (Some x))
 
-abbrev pub IsProcess : ℕ → Party → Type 0
-IsProcess p Environment = ⊥
-IsProcess p (Process q) = q.0 ≡ p
-
--- the route carries signal n from the sender to process p
-pub record Brings (sender : Party) (p : ℕ) (n : SignalNumber) (r : DraftRoute) : Type 0 where
-  pub from : r.from ≡ sender
-  pub to : IsProcess p r.to
-  pub signal : Contains r.signals n
-
--- START comes from nobody; a signal comes from a sender by a route
+-- a signal comes from its sender by a route; START and a timer come by none
 abbrev pub IsBrought : Draft → ℕ → Option Trigger → Option Party → Type 0
 IsBrought d p None sender = Unit {0}
+IsBrought d p (Some (Timer n)) sender = Unit {0}
 IsBrought d p (Some (Signal n)) None = ⊥
 IsBrought d p (Some (Signal n)) (Some sender) = Any (Brings sender p n) d.routes
 
--- the input fits the transition t of process p
-pub record FitsTransition (d : Draft) (p : ℕ) (t : Transition) (x : Input) : Type 0 where
+-- the input fits the transition
+pub record FitsTransition (d : Draft) (t : Transition) (x : Input) : Type 0 where
   pub parameters : map sort_of x.parameters.items ≡ t.parameters
   pub variables : HaveSorts t.process.variables x.variables.items
   pub set : AreSet t.entry x.variables.items
-  pub brought : IsBrought d p t.trigger x.sender
+  pub brought : IsBrought d t.number t.trigger x.sender
 
 -- the input fits input i at place s of process p
 pub record Fits (d : Draft) (p : ℕ) (s : Place) (i : ℕ) (x : Input) : Type 0 where
   pub transition : Transition
   pub there : transition_at d p s i ≡ Some transition
-  pub fits : FitsTransition d p transition x
+  pub fits : FitsTransition d transition x

@@ -5,6 +5,7 @@ pub mod Code
 pub mod Run
 pub mod Machine
 pub mod Sets
+pub mod Routes
 pub mod Transitions
 pub mod Rules
 pub mod Valid

@@ -1,10 +1,11 @@
 -- What a machine stands for, and what its next instruction makes of it.
-use Rattle.std.specs.Prelude.{◌≡◌, ℕ, ◌<◌, ◌∷◌, List, length, Bool, true, false, IsTrue, Option, Some, Result, Ok, Err, ℤ, slice_get}
+use Rattle.std.specs.Prelude.{◌≡◌, ℕ, ◌<◌, ◌≤◌, List, length, Bool, true, false, IsTrue, Option, Some, slice_get}
+use Rattle.turn_code.specs.Code.{effects_of, sends}
 use Rattle.turn_code.specs.Run.{Progress, After, goes, ends, stuck}
 use Rattle.turn_code.specs.declared.value.Value.{Value}
-use Rattle.turn_code.specs.declared.value.Value.TheVariants.{Int}
+use Rattle.turn_code.specs.declared.effect.Effect.{Effect}
 use Rattle.turn_code.specs.declared.instruction.Instruction.{Instruction}
-use Rattle.turn_code.specs.declared.instruction.Instruction.TheVariants.{Int as PutInt, Load, Param}
+use Rattle.turn_code.specs.declared.instruction.Instruction.TheVariants.{Int as PutInt, Bool as PutBool, Load, Param}
 use Rattle.turn_code.specs.declared.machine.Machine.{Machine}
 use Rattle.turn_code.specs.declared.machine.After.{After as Next}
 use Rattle.turn_code.specs.declared.machine.After.TheVariants.{Goes, Ends, Stuck}
@@ -27,10 +28,17 @@ StaysIfStuck (Stuck x) old new = new ≡ old
 -- whether an instruction leaves one operand more
 abbrev pub grows : Instruction → Bool
 grows (PutInt z) = true
+grows (PutBool b) = true
 grows (Load v) = true
 grows (Param j) = true
 grows _ = false
 
--- there is room for what the instruction at place k puts on the operands
-abbrev pub HasRoom : List Instruction → ℕ → List Value → Type 0
-HasRoom code k os = (i : Instruction) → slice_get code k ≡ Some i → IsTrue (grows i) → length os < 16
+-- there is room for what the instruction puts on the operands, for its effect, and for the parameters that it sends
+pub record HasRoomFor (i : Instruction) (os : List Value) (es : List Effect) : Type 0 where
+  pub operands : IsTrue (grows i) → length os < 16
+  pub effects : 0 < effects_of i → length es < 32
+  pub parameters : sends i ≤ 4
+
+-- there is room for what the instruction at place k does
+abbrev pub HasRoom : List Instruction → ℕ → List Value → List Effect → Type 0
+HasRoom code k os es = (i : Instruction) → slice_get code k ≡ Some i → HasRoomFor i os es

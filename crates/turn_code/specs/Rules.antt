@@ -1,22 +1,27 @@
 -- What a valid draft keeps, rule by rule, at each place of each transition.
-use Rattle.std.specs.Prelude.{◌≡◌, ℕ, ◌+◌, ◌<◌, ◌≤◌, max, List, [], ◌∷◌, length, map, sum_by, All, Contains, Option, Some, None, IfSome, IsSome, slice_get}
+use Rattle.std.specs.Prelude.{◌≡◌, ℕ, ◌+◌, ◌<◌, ◌≤◌, ℤ, pos, ◌≤ℤ◌, max, List, [], ◌∷◌, length, map, sum_by, All, Contains, Option, Some, None, IfSome, slice_get}
 use Rattle.turn_code.specs.Values.{sort_of}
 use Rattle.turn_code.specs.Sets.{Has, IsWithin}
-use Rattle.turn_code.specs.Code.{takes, shape_after, reads, sets, set_after, parameters_in, states_in, successors, effects_of}
-use Rattle.turn_code.specs.Transitions.{Transition}
+use Rattle.turn_code.specs.Routes.{IsPartyOf, Reaches, Answers}
+use Rattle.turn_code.specs.Code.{takes, shape_left, shape_after, reads, sets, set_after, parameters_in, timers_in, divisors_in, states_in, jumps, behind, successors, effects_of}
+use Rattle.turn_code.specs.Transitions.{Transition, parameters_of}
 use Rattle.turn_code.specs.declared.value.Sort.{Sort}
 use Rattle.turn_code.specs.declared.value.Value.{Value}
+use Rattle.turn_code.specs.declared.numbers.SignalNumber.{SignalNumber}
+use Rattle.turn_code.specs.declared.input.Party.{Party}
+use Rattle.turn_code.specs.declared.instruction.Receiver.{Receiver}
+use Rattle.turn_code.specs.declared.instruction.Receiver.TheVariants.{Party as ToParty, Sender as ToSender}
 use Rattle.turn_code.specs.declared.instruction.Instruction.{Instruction}
+use Rattle.turn_code.specs.declared.instruction.Instruction.TheVariants.{Output}
 use Rattle.turn_code.specs.declared.draft.Draft.{Draft}
 use Rattle.turn_code.specs.declared.draft.DraftSignal.{DraftSignal}
 use Rattle.turn_code.specs.declared.draft.DraftProcess.{DraftProcess}
 use Rattle.turn_code.specs.declared.draft.DraftState.{DraftState}
-use Rattle.turn_code.specs.declared.draft.DraftInput.{DraftInput}
 use Rattle.turn_code.specs.declared.draft.DraftVariable.{DraftVariable}
 use Rattle.turn_code.specs.declared.draft.DraftPiece.{DraftPiece}
 use Rattle.turn_code.specs.declared.draft.PlaceFacts.{PlaceFacts}
 use Rattle.turn_code.specs.declared.draft.Trigger.{Trigger}
-use Rattle.turn_code.specs.declared.draft.Trigger.TheVariants.{Signal}
+use Rattle.turn_code.specs.declared.draft.Trigger.TheVariants.{Signal, Timer}
 
 -- what holds of the instruction at a place and of the facts there
 abbrev pub AtPlace : DraftPiece → ℕ → (Instruction → PlaceFacts → Type 0) → Type 0
@@ -35,16 +40,19 @@ pub record JumpsInside (t : Transition) (k : ℕ) : Type 0 where
   pub entry : k ≡ 0 → 0 < length t.piece.code
   pub each : AtCode t.piece k (λ i. All (λ j. j < length t.piece.code) (successors i k))
 
--- ---- V2: each place has facts; no operand is there as the code begins, and each place where it goes on has the shape that is left
-pub record KeepsShapes (t : Transition) (k : ℕ) : Type 0 where
+-- ---- V2: each place has facts; no operand is there as the code begins; the place behind an instruction has the shape that is left there, and each
+-- place where it jumps to has the shape without its operands
+pub record KeepsShapes (ss : List DraftSignal) (t : Transition) (k : ℕ) : Type 0 where
   pub facts : k ≡ 0 → length t.piece.facts ≡ length t.piece.code
   pub entry : k ≡ 0 → AtEach t.piece (0 ∷ []) (λ f. f.shape ≡ [])
   pub each : AtPlace t.piece k
-      (λ i f. AtEach t.piece (successors i k) (λ g. g.shape ≡ shape_after t.process.variables t.parameters i f.shape))
+      (λ i f. AtEach t.piece (behind i k) (λ g. g.shape ≡ shape_after ss t.process.variables t.parameters i f.shape))
+  pub jumped : AtPlace t.piece k
+      (λ i f. AtEach t.piece (jumps i) (λ g. g.shape ≡ shape_left ss t.process.variables i f.shape))
 
 -- ---- V3: the operands that the instruction takes are on the shape
-abbrev pub HasOperands : Transition → ℕ → Type 0
-HasOperands t k = AtPlace t.piece k (λ i f. length (takes t.process.variables i) ≤ length f.shape)
+abbrev pub HasOperands : List DraftSignal → Transition → ℕ → Type 0
+HasOperands ss t k = AtPlace t.piece k (λ i f. length (takes ss t.process.variables i) ≤ length f.shape)
 
 -- two lists of sorts agree as far as both go
 abbrev pub Agree : List Sort → List Sort → Type 0
@@ -57,9 +65,9 @@ abbrev pub StartsRight : DraftVariable → Type 0
 StartsRight x = IfSome x.initial (λ v. sort_of v ≡ x.sort)
 
 -- ---- V4: those operands have the sorts that it wants; at START each initial value has its variable's sort
-pub record KeepsSorts (t : Transition) (k : ℕ) : Type 0 where
+pub record KeepsSorts (ss : List DraftSignal) (t : Transition) (k : ℕ) : Type 0 where
   pub initial : k ≡ 0 → t.trigger ≡ None → All StartsRight t.process.variables
-  pub each : AtPlace t.piece k (λ i f. Agree (takes t.process.variables i) f.shape)
+  pub each : AtPlace t.piece k (λ i f. Agree (takes ss t.process.variables i) f.shape)
 
 -- ---- V5: what is said to be set is set on every way: as the code begins that is what its entry sets, at each place where it goes on and in the
 -- state where it ends not more than is left; a variable that is read is set
@@ -74,17 +82,52 @@ pub record KeepsSets (t : Transition) (k : ℕ) : Type 0 where
 abbrev pub HasStates : Transition → ℕ → Type 0
 HasStates t k = AtCode t.piece k (λ i. All (λ q. q < length t.process.states) (states_in i))
 
--- what a transition waits for is there
-abbrev pub HasTrigger : List DraftSignal → Option Trigger → Type 0
-HasTrigger signals None = Unit {0}
-HasTrigger signals (Some (Signal n)) = n.0 < length signals
+-- the signal, or the timer of the process, is there
+abbrev pub IsThere : List DraftSignal → DraftProcess → Trigger → Type 0
+IsThere ss p (Signal n) = n.0 < length ss
+IsThere ss p (Timer n) = n.0 < length p.timers
 
--- ---- V7: the variables and the parameters that an instruction names are there, and the signal that the transition waits for
-pub record HasNumbers (signals : List DraftSignal) (t : Transition) (k : ℕ) : Type 0 where
-  pub trigger : k ≡ 0 → HasTrigger signals t.trigger
+-- what a transition waits for is there
+abbrev pub HasTrigger : List DraftSignal → DraftProcess → Option Trigger → Type 0
+HasTrigger ss p None = Unit {0}
+HasTrigger ss p (Some x) = IsThere ss p x
+
+-- what a state saves is there
+abbrev pub HasSaves : List DraftSignal → DraftProcess → DraftState → Type 0
+HasSaves ss p q = All (IsThere ss p) q.saves
+
+-- Signal n of process p reaches its receiver. A party is there, and a route goes to it. A sender is known where the transition waits for a
+-- signal: then from each route that brings that one, a route goes back to who sent it.
+abbrev pub AnswersSender : Draft → ℕ → SignalNumber → Option Trigger → Type 0
+AnswersSender d p n None = ⊥
+AnswersSender d p n (Some (Timer m)) = ⊥
+AnswersSender d p n (Some (Signal m)) = All (Answers d.routes p m n) d.routes
+
+abbrev pub ReachesReceiver : Draft → ℕ → SignalNumber → Option Trigger → Receiver → Type 0
+ReachesReceiver d p n trigger (ToParty x) = IsPartyOf d.processes x × Reaches d.routes p x n
+ReachesReceiver d p n trigger ToSender = AnswersSender d p n trigger
+
+-- the signal of an output is there and has as many parameters, and it reaches its receiver
+pub record KeepsSending (d : Draft) (t : Transition) (n : SignalNumber) (r : Receiver) (c : ℕ) : Type 0 where
+  pub signal : n.0 < length d.signals
+  pub parameters : c ≡ length (parameters_of (slice_get d.signals n.0))
+  pub receiver : ReachesReceiver d t.number n t.trigger r
+
+abbrev pub KeepsOutput : Draft → Transition → Instruction → Type 0
+KeepsOutput d t (Output n r c) = KeepsSending d t n r c
+KeepsOutput d t _ = Unit {0}
+
+-- ---- V7: what an instruction names is there, its variables, its parameters, its timers, its signal and who gets it; it divides by 1 or more; the
+-- signal or timer that the transition waits for is there, and at START what each state of the process saves
+pub record HasNumbers (d : Draft) (t : Transition) (k : ℕ) : Type 0 where
+  pub trigger : k ≡ 0 → HasTrigger d.signals t.process t.trigger
+  pub saves : k ≡ 0 → t.trigger ≡ None → All (HasSaves d.signals t.process) t.process.states
   pub reads_there : AtCode t.piece k (λ i. All (λ v. v < length t.process.variables) (reads i))
   pub sets_there : AtCode t.piece k (λ i. All (λ v. v < length t.process.variables) (sets i))
   pub parameters : AtCode t.piece k (λ i. All (λ j. j < length t.parameters) (parameters_in i))
+  pub timers : AtCode t.piece k (λ i. All (λ n. n < length t.process.timers) (timers_in i))
+  pub divisors : AtCode t.piece k (λ i. All (λ z. pos 1 ≤ℤ z) (divisors_in i))
+  pub outputs : AtCode t.piece k (λ i. KeepsOutput d t i)
 
 -- how many inputs the states of a process have, and how many pieces a process has
 abbrev pub inputs_of : List DraftState → ℕ
@@ -104,6 +147,7 @@ pub record KeepsSetLimits (d : Draft) : Type 0 where
 pub record KeepsProcessLimits (p : DraftProcess) : Type 0 where
   pub states : length p.states ≤ 64
   pub variables : length p.variables ≤ 32
+  pub timers : length p.timers ≤ 8
 
 -- the limits of a piece
 pub record KeepsPieceLimits (piece : DraftPiece) : Type 0 where

@@ -1,4 +1,4 @@
--- Why one or two Integers can't be taken from the top of the operands.
+-- Why one or two values of a sort can't be taken from the top of the operands.
 use Rattle.std.specs.Prelude.{◌≡◌, List, [], ◌∷◌}
 use Rattle.turn_code.specs.declared.value.Value.{Value}
 use Rattle.turn_code.specs.declared.value.Value.TheVariants.{Int, Bool}
@@ -16,3 +16,15 @@ TroubleAtTwo (y ∷ []) e = e ≡ Underflow
 TroubleAtTwo (Int y ∷ Int x ∷ os) e = ⊥
 TroubleAtTwo (Int y ∷ Bool x ∷ os) e = e ≡ WrongSort
 TroubleAtTwo (Bool y ∷ x ∷ os) e = e ≡ WrongSort
+
+abbrev pub TroubleAtBoolean : List Value → Trouble → Type 0
+TroubleAtBoolean [] e = e ≡ Underflow
+TroubleAtBoolean (Bool x ∷ os) e = ⊥
+TroubleAtBoolean (Int x ∷ os) e = e ≡ WrongSort
+
+abbrev pub TroubleAtBooleans : List Value → Trouble → Type 0
+TroubleAtBooleans [] e = e ≡ Underflow
+TroubleAtBooleans (y ∷ []) e = e ≡ Underflow
+TroubleAtBooleans (Bool y ∷ Bool x ∷ os) e = ⊥
+TroubleAtBooleans (Bool y ∷ Int x ∷ os) e = e ≡ WrongSort
+TroubleAtBooleans (Int y ∷ x ∷ os) e = e ≡ WrongSort

@@ -12,11 +12,12 @@ use Rattle.turn_code.specs.declared.draft.DraftState.{DraftState}
 use Rattle.turn_code.specs.declared.draft.DraftInput.{DraftInput}
 use Rattle.turn_code.specs.declared.draft.DraftPiece.{DraftPiece}
 use Rattle.turn_code.specs.declared.draft.Trigger.{Trigger}
-use Rattle.turn_code.specs.declared.draft.Trigger.TheVariants.{Signal}
+use Rattle.turn_code.specs.declared.draft.Trigger.TheVariants.{Signal, Timer}
 
--- a transition: the process that it belongs to, what it waits for (nothing at START), the sorts of its parameters,
--- the variables that are set as it begins, and its piece
+-- a transition: the number of the process that it belongs to, that process, what it waits for (nothing at START), the
+-- sorts of its parameters, the variables that are set as it begins, and its piece
 pub record Transition : Type 0 where
+  pub number : ℕ
   pub process : DraftProcess
   pub trigger : Option Trigger
   pub parameters : List Sort
@@ -28,14 +29,17 @@ abbrev pub parameters_of : Option DraftSignal → List Sort
 parameters_of None = []
 parameters_of (Some s) = s.parameters
 
+-- a timer has no parameters
 abbrev pub trigger_parameters : List DraftSignal → Trigger → List Sort
 trigger_parameters signals (Signal n) = parameters_of (slice_get signals n.0)
+trigger_parameters signals (Timer t) = []
 
-abbrev pub start_of : DraftProcess → Transition
-start_of p = record { process = p; trigger = None; parameters = []; entry = initial_set p.variables; piece = p.start }
+abbrev pub start_of : ℕ → DraftProcess → Transition
+start_of n p = record { number = n; process = p; trigger = None; parameters = []; entry = initial_set p.variables; piece = p.start }
 
-abbrev pub input_of : List DraftSignal → DraftProcess → DraftState → DraftInput → Transition
-input_of signals p q x = record {
+abbrev pub input_of : List DraftSignal → ℕ → DraftProcess → DraftState → DraftInput → Transition
+input_of signals n p q x = record {
+  number = n;
   process = p;
   trigger = Some x.trigger;
   parameters = trigger_parameters signals x.trigger;
@@ -43,23 +47,23 @@ input_of signals p q x = record {
   piece = x.piece;
 }
 
-abbrev pub input_at : List DraftSignal → DraftProcess → ℕ → Option DraftState → Option Transition
-input_at signals p i None = None
-input_at signals p i (Some q) = option_map (input_of signals p q) (slice_get q.inputs i)
+abbrev pub input_at : List DraftSignal → ℕ → DraftProcess → ℕ → Option DraftState → Option Transition
+input_at signals n p i None = None
+input_at signals n p i (Some q) = option_map (input_of signals n p q) (slice_get q.inputs i)
 
 -- START has the one input 0
-abbrev pub start_at : DraftProcess → ℕ → Option Transition
-start_at p zero = Some (start_of p)
-start_at p (suc i) = None
+abbrev pub start_at : ℕ → DraftProcess → ℕ → Option Transition
+start_at n p zero = Some (start_of n p)
+start_at n p (suc i) = None
 
-abbrev pub place_at : List DraftSignal → DraftProcess → Place → ℕ → Option Transition
-place_at signals p Start i = start_at p i
-place_at signals p (State q) i = input_at signals p i (slice_get p.states q.0)
+abbrev pub place_at : List DraftSignal → ℕ → DraftProcess → Place → ℕ → Option Transition
+place_at signals n p Start i = start_at n p i
+place_at signals n p (State q) i = input_at signals n p i (slice_get p.states q.0)
 
-abbrev pub process_at : List DraftSignal → Place → ℕ → Option DraftProcess → Option Transition
-process_at signals s i None = None
-process_at signals s i (Some p) = place_at signals p s i
+abbrev pub process_at : List DraftSignal → ℕ → Place → ℕ → Option DraftProcess → Option Transition
+process_at signals n s i None = None
+process_at signals n s i (Some p) = place_at signals n p s i
 
 -- the transition of input i at a place of process p
 abbrev pub transition_at : Draft → ℕ → Place → ℕ → Option Transition
-transition_at d p s i = process_at d.signals s i (slice_get d.processes p)
+transition_at d p s i = process_at d.signals p s i (slice_get d.processes p)

@@ -11,24 +11,24 @@ use Rattle.turn_code.specs.declared.rule.Rule.TheVariants.{Jump, Shape, Under, S
 -- a transition keeps a rule at place k of its piece
 abbrev pub Keeps : Rule → Draft → Transition → ℕ → Type 0
 Keeps Jump d t k = JumpsInside t k
-Keeps Shape d t k = KeepsShapes t k
-Keeps Under d t k = HasOperands t k
-Keeps Sort d t k = KeepsSorts t k
+Keeps Shape d t k = KeepsShapes d.signals t k
+Keeps Under d t k = HasOperands d.signals t k
+Keeps Sort d t k = KeepsSorts d.signals t k
 Keeps Unset d t k = KeepsSets t k
 Keeps State d t k = HasStates t k
-Keeps Number d t k = HasNumbers d.signals t k
+Keeps Number d t k = HasNumbers d t k
 Keeps Limit d t k = KeepsLimits d t k
 Keeps Budget d t k = KeepsCounts t k
 
 -- a transition of d keeps every rule at every place
 pub record IsValidTransition (d : Draft) (t : Transition) : Type 0 where
   pub jump : (k : ℕ) → JumpsInside t k
-  pub shape : (k : ℕ) → KeepsShapes t k
-  pub under : (k : ℕ) → HasOperands t k
-  pub sort : (k : ℕ) → KeepsSorts t k
+  pub shape : (k : ℕ) → KeepsShapes d.signals t k
+  pub under : (k : ℕ) → HasOperands d.signals t k
+  pub sort : (k : ℕ) → KeepsSorts d.signals t k
   pub unset : (k : ℕ) → KeepsSets t k
   pub state : (k : ℕ) → HasStates t k
-  pub number : (k : ℕ) → HasNumbers d.signals t k
+  pub number : (k : ℕ) → HasNumbers d t k
   pub limit : (k : ℕ) → KeepsLimits d t k
   pub budget : (k : ℕ) → KeepsCounts t k
 

@@ -3,7 +3,7 @@
 use crate::input::Party;
 use crate::instruction::Instruction;
 use crate::name::Name;
-use crate::numbers::SignalNumber;
+use crate::numbers::{SignalNumber, TimerNumber};
 use crate::sequence::Sequence;
 use crate::value::{Sort, Value};
 use crate::variable_set::VariableSet;

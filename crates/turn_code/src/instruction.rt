@@ -66,15 +66,15 @@ pub enum Instruction {
     /// and goes on behind.
     Case(Relation, i32, CodePlace),
     /// The same where the Integer is from the first number to the second one, both included.
-    CaseWithin(i32, i32, CodePlace),
+    CaseWithin(CodePlace, i32, i32),
     /// Takes a Boolean, and goes on at the first place where it is FALSE, at the second one where it is TRUE.
     Pick(CodePlace, CodePlace),
     /// Takes an Integer and throws it away.
     Drop,
     /// Goes on at the place.
     Jump(CodePlace),
-    /// Takes the parameters of the signal, the last one topmost, and sends it.
-    Output(SignalNumber, Receiver),
+    /// Takes this many parameters, the last one topmost, and sends the signal with them.
+    Output(SignalNumber, Receiver, u8),
     /// Takes an Integer, and sets the timer to so long after the clock.
     Set(TimerNumber),
     /// Stops the timer.
@@ -83,6 +83,21 @@ pub enum Instruction {
     Next(StateNumber),
     /// Ends the transition and the process.
     Stop,
+}
+
+impl Receiver {
+    ghost use Rattle.std.specs.Prelude.{◌≡◌};
+    ghost use Rattle.turn_code.specs.Run.{party_of};
+
+    /// The party, where the sender is this one, or nobody.
+    pub(crate) fn party(self, sender: Option<Party>) -> Option<Party>
+        ensures { result ≡ party_of self sender }
+    {
+        match self {
+            Receiver::Party(party) => Some(party),
+            Receiver::Sender => sender,
+        }
+    }
 }
 
 impl Default for Instruction {

@@ -1,8 +1,8 @@
 //! The operands of a run.
 
-ghost use Rattle.std.specs.Prelude.{◌≡◌, ◌<◌, ◌≤◌, ◌==◌, [], ◌∷◌, length, IfSome, IfNone, IfOk, IfErr, OnErr};
-ghost use Rattle.turn_code.specs.declared.value.Value.TheVariants.{Int as IntValue};
-ghost use Rattle.turn_code.specs.Taken.{TroubleAtOne, TroubleAtTwo};
+ghost use Rattle.std.specs.Prelude.{◌≡◌, ◌<◌, ◌≤◌, ◌==◌, [], ◌∷◌, length, take, drop, reverse, IfSome, IfNone, IfOk, IfErr, OnErr};
+ghost use Rattle.turn_code.specs.declared.value.Value.TheVariants.{Int as IntValue, Bool as BoolValue};
+ghost use Rattle.turn_code.specs.Taken.{TroubleAtOne, TroubleAtTwo, TroubleAtBoolean, TroubleAtBooleans};
 
 use crate::trouble::Trouble;
 use crate::value::Value;
@@ -107,6 +107,64 @@ impl Operands {
                 self.push(right);
                 Err(Trouble::WrongSort)
             }
+        }
+    }
+
+    /// Takes the topmost value where it is a Boolean, and else leaves all.
+    pub fn pop_boolean(&mut self) -> Result<bool, Trouble>
+        ensures ok { IfOk result (λ x. self.old ≡ BoolValue x ∷ self.new) }
+        ensures room { IfOk result (λ x. length self.new < 16) }
+        ensures trouble { IfErr result (λ e. TroubleAtBoolean self.old e) }
+        ensures unchanged { OnErr result (self.new ≡ self.old) }
+    {
+        match self.pop() {
+            None => Err(Trouble::Underflow),
+            Some(Value::Bool(truth)) => Ok(truth),
+            Some(other) => {
+                self.push(other);
+                Err(Trouble::WrongSort)
+            }
+        }
+    }
+
+    /// Takes the two topmost values where both are Booleans, the topmost as the second, and else leaves all.
+    pub fn pop_booleans(&mut self) -> Result<(bool, bool), Trouble>
+        ensures ok { IfOk result (λ p. self.old ≡ BoolValue p.1 ∷ BoolValue p.0 ∷ self.new) }
+        ensures room { IfOk result (λ p. length self.new < 16) }
+        ensures trouble { IfErr result (λ e. TroubleAtBooleans self.old e) }
+        ensures unchanged { OnErr result (self.new ≡ self.old) }
+    {
+        let Some(right) = self.pop() else {
+            return Err(Trouble::Underflow);
+        };
+        let Some(left) = self.pop() else {
+            self.push(right);
+            return Err(Trouble::Underflow);
+        };
+        match (left, right) {
+            (Value::Bool(left), Value::Bool(right)) => Ok((left, right)),
+            _ => {
+                self.push(left);
+                self.push(right);
+                Err(Trouble::WrongSort)
+            }
+        }
+    }
+
+    /// Takes this many values, at most 4 and all there, as a list with the topmost last.
+    pub fn pop_parameters(&mut self, count: usize) -> ArrayVec<Value, 4>
+        requires few { count ≤ 4 }
+        requires there { count ≤ length self.old }
+        ensures value { result.items ≡ reverse (take count self.old) }
+        ensures rest { self.new ≡ drop count self.old }
+    {
+        let left = self.values.len() - count;
+        match ArrayVec::try_from(&self.values.as_slice()[left..]) {
+            Ok(parameters) => {
+                self.values.truncate(left);
+                parameters
+            }
+            Err(_) => unreachable!(),
         }
     }
 }

@@ -1,6 +1,8 @@
-use Rattle.std.proofs.Common.{◌≡◌, ◌+◌, ◌++◌, ◌∷◌, [], take, max, sym, ap, ◌∙◌, arith}
-use Rattle.std.proofs.lemmas.List.{take_more}
-use Rattle.sdl_rules.specs.Rows.{action_depth, actions_depth}
+use Rattle.std.proofs.Common.{◌≡◌, ◌+◌, ◌++◌, ◌∷◌, [], map, take, max, sym, ap, ◌∙◌, arith}
+use Rattle.std.proofs.lemmas.List.{take_more, map-append}
+use Rattle.sdl_tree.specs.Views.{action_of}
+use Rattle.sdl_rules.specs.Longest.{action_depth}
+use Rattle.sdl_rules.specs.Rows.{actions_depth}
 use Rattle.sdl_rules.proofs.Texts.{actions_depth-push}
 use Rattle.sdl_rules.proofs.limits.actions_depth.Goals as goal
 
@@ -12,6 +14,7 @@ loop-action-preserved c =
     let done = take i xs in
     let more : take (i + 1) xs ≡ done ++ x ∷ [] =
     take_more xs i x c.loop-action-test.true ∙ ap (λ y. done ++ y ∷ []) (sym c.action-item.is) in
-    let deeper : actions_depth (take (i + 1) xs) ≡ max (actions_depth done) (action_depth x) =
-    ap actions_depth more ∙ actions_depth-push done x in
+    let deeper : actions_depth (map action_of (take (i + 1) xs)) ≡ max (actions_depth (map action_of done)) (action_depth (action_of x)) =
+    ap actions_depth (ap (map action_of) more ∙ map-append action_of done (x ∷ []))
+    ∙ actions_depth-push (map action_of done) (action_of x) in
     omega (arith, deeper, c.loop-action.invariant, c.max-most.ensures, c.action_depth.ensures)

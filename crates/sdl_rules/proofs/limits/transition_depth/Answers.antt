@@ -1,4 +1,5 @@
-use Rattle.std.proofs.Common.{sym, ap, ◌∙◌, min}
+use Rattle.std.proofs.Common.{sym, ap, ◌∙◌, min, map}
+use Rattle.sdl_tree.specs.Views.{action_of}
 use Rattle.sdl_rules.specs.Rows.{actions_depth}
 use Rattle.sdl_rules.proofs.Texts.{depth-end}
 use Rattle.sdl_rules.proofs.limits.transition_depth.Goals as goal
@@ -7,5 +8,5 @@ pub returns : goal.returns
 returns c =
     c.actions_depth.ensures
     ∙ ap (λ n. min n 4294967295)
-    (ap actions_depth c.deref.ensures.value
-    ∙ sym (depth-end c.args.transition.now.actions.items c.args.transition.now.end))
+    (ap (λ as. actions_depth (map action_of as)) c.deref.ensures.value
+    ∙ sym (depth-end (map action_of c.args.transition.now.actions.items) c.args.transition.now.end))

@@ -4,11 +4,11 @@ use Rattle.std.proofs.lemmas.Result.{err_from_is_err_and}
 use denote.Ref.{Bor}
 use Rattle.sdl_tree.specs.declared.tree.Process as the_process
 use Rattle.sdl_tree.specs.Views.{process_of, entity_of, block_of, signal_of, route_of}
-use Rattle.sdl_tables.specs.Names.{signals_in, routes_in, processes_in, signals_of, routes_of, processes_of, signal_names, route_names, process_names, names_once}
-use Rattle.sdl_tables.specs.Scopes.{Marks, repeats, process_scopes, double_names}
+use Rattle.sdl_tables.specs.Names.{signals_in, routes_in, processes_in, signals_of, routes_of, processes_of, signal_names, route_names, process_names, names_once, timers_of}
+use Rattle.sdl_tables.specs.Scopes.{Marks, repeats, process_scopes, shared, signal_timers, double_names}
 use Rattle.sdl_tables.proofs.States.{map-map}
 use Rattle.sdl_tables.proofs.Repeats.{names_once-distinct, append-nil_left, append-nil_right}
-use Rattle.sdl_tables.proofs.BlockLemmas.{Marks-block, Marks-none, inside-processes, signal_ids-of_rows, route_ids-of_rows, process_ids-of_rows}
+use Rattle.sdl_tables.proofs.BlockLemmas.{Marks-block, timers-inside, Marks-none, inside-processes, signal_ids-of_rows, route_ids-of_rows, process_ids-of_rows}
 use Rattle.sdl_tables.proofs.block_table.BlockTable.new.Goals as goal
 
 abbrev twice : Bor the_process.Process → List ℕ
@@ -35,12 +35,16 @@ returns-in-Some-clause-double c =
     let places : flat_map twice c.deref-7.result.now ≡ flat_map (repeats []) (flat_map process_scopes (processes_of b)) =
     ap (flat_map twice) c.deref-7.ensures.value
     ∙ inside-processes (λ p. process_of p.now) c.in_ok-processes.processes.items (processes_of b) processes in
-    let both : Marks c.earlier-double.result (double_names b) =
+    let alarms : flat_map (λ p. shared c.in_ok-signals.signals.names (timers_of (process_of p.now))) c.deref-8.result.now ≡ signal_timers b =
+    ap (flat_map (λ p. shared c.in_ok-signals.signals.names (timers_of (process_of p.now)))) c.deref-8.ensures.value
+    ∙ timers-inside (λ p. process_of p.now) b c.in_ok-signals.signals.names (map (λ s. s.now.name) c.deref-4.result.now) c.in_ok-processes.processes.items processes ss c.in_ok-signals.ensures.names in
+    let both : Marks c.first_double-double.result (double_names b) =
     Marks-block b (map (λ s. s.now.name) c.deref-4.result.now) (map (λ r. r.now.name) c.deref-5.result.now) (map (λ p. p.now.name) c.deref-6.result.now) (flat_map twice c.deref-7.result.now)
-    c.in_ok-signals.signals.double c.in_ok-twice.twice c.in_ok-names.names.double c.in_ok-built.built.double
-    c.earlier-inside.result c.earlier-beyond.result c.earlier-double.result ss rs ps places
+    (flat_map (λ p. shared c.in_ok-signals.signals.names (timers_of (process_of p.now))) c.deref-8.result.now)
+    c.in_ok-signals.signals.double c.in_ok-twice.twice c.in_ok-names.names.double c.in_ok-built.built.double c.signal_timers_in-shared.result
+    c.first_double-double.result ss rs ps places alarms
     c.in_ok-signals.ensures.double c.in_ok-twice.ensures c.in_ok-names.ensures.double
-    c.in_ok-built.ensures.double c.earlier-inside.ensures c.earlier-beyond.ensures c.earlier-double.ensures in
+    c.in_ok-built.ensures.double c.signal_timers_in-shared.ensures c.first_double-double.ensures in
     subst (λ (o : Option ℕ). Marks o (double_names b)) c.in-Some.is both
 
 pub returns-in_err-built-clause-double : goal.returns-in_err-built-clause-double
@@ -69,21 +73,26 @@ invariant_of-result c =
     let places : flat_map twice c.deref-7.result.now ≡ flat_map (repeats []) (flat_map process_scopes (processes_of b)) =
     ap (flat_map twice) c.deref-7.ensures.value
     ∙ inside-processes (λ p. process_of p.now) c.in_ok-processes.processes.items (processes_of b) processes in
-    let both : Marks c.earlier-double.result (double_names b) =
+    let alarms : flat_map (λ p. shared c.in_ok-signals.signals.names (timers_of (process_of p.now))) c.deref-8.result.now ≡ signal_timers b =
+    ap (flat_map (λ p. shared c.in_ok-signals.signals.names (timers_of (process_of p.now)))) c.deref-8.ensures.value
+    ∙ timers-inside (λ p. process_of p.now) b c.in_ok-signals.signals.names (map (λ s. s.now.name) c.deref-4.result.now) c.in_ok-processes.processes.items processes ss c.in_ok-signals.ensures.names in
+    let both : Marks c.first_double-double.result (double_names b) =
     Marks-block b (map (λ s. s.now.name) c.deref-4.result.now) (map (λ r. r.now.name) c.deref-5.result.now) (map (λ p. p.now.name) c.deref-6.result.now) (flat_map twice c.deref-7.result.now)
-    c.in_ok-signals.signals.double c.in_ok-twice.twice c.in_ok-names.names.double c.in_ok-built.built.double
-    c.earlier-inside.result c.earlier-beyond.result c.earlier-double.result ss rs ps places
+    (flat_map (λ p. shared c.in_ok-signals.signals.names (timers_of (process_of p.now))) c.deref-8.result.now)
+    c.in_ok-signals.signals.double c.in_ok-twice.twice c.in_ok-names.names.double c.in_ok-built.built.double c.signal_timers_in-shared.result
+    c.first_double-double.result ss rs ps places alarms
     c.in_ok-signals.ensures.double c.in_ok-twice.ensures c.in_ok-names.ensures.double
-    c.in_ok-built.ensures.double c.earlier-inside.ensures c.earlier-beyond.ensures c.earlier-double.ensures in
+    c.in_ok-built.ensures.double c.signal_timers_in-shared.ensures c.first_double-double.ensures in
     let none : double_names b ≡ [] = subst (λ (o : Option ℕ). Marks o (double_names b)) c.in-None.is both in
-    let later = append-nil_right _ _ (append-nil_right _ _ none) in
+    let declared = append-nil_left _ _ none in
+    let later = append-nil_right _ _ (append-nil_right _ _ declared) in
     let inside : c.in_ok-built.built.double ≡ None =
     Marks-none c.in_ok-built.built.double (flat_map twice c.deref-7.result.now) c.in_ok-built.ensures.double
     (places ∙ append-nil_right _ _ later) in
     record {
       signals =
           c.in_ok-signals.ensures.names
-          ∙ (ap names_once ss ∙ names_once-distinct (signal_names b) (append-nil_left _ _ none));
+          ∙ (ap names_once ss ∙ names_once-distinct (signal_names b) (append-nil_left _ _ declared));
       rows = rows;
       routes = routes;
       processes =

@@ -1,5 +1,6 @@
 use Rattle.std.proofs.Common.{◌≡◌, ◌∙◌, ap, subst, map, [], Option, ℕ}
 use Rattle.std.specs.List.{flat_map}
+use Rattle.std.proofs.lemmas.Result.{err_from_is_err_and}
 use Rattle.sdl_tree.specs.Views.{process_of, declaration_of, state_of}
 use Rattle.sdl_tables.specs.Names.{variable_names, variables_of, timers_of, timers_in, names_once, declared_variables, clause_parts}
 use Rattle.sdl_tables.specs.Rows.{variable_of}
@@ -70,3 +71,23 @@ returns-clause-distinct c =
     c.in_ok-twice.twice c.earlier.result c.earlier-double.result named alarms c.in_ok-variables.ensures.double
     c.in_ok-timers.ensures.double c.in_ok-twice.ensures c.earlier.ensures c.earlier-double.ensures in
     subst (λ (o : Option ℕ). Marks o (flat_map (repeats []) (process_scopes p))) c.in-None.is both
+
+pub returns-in_err-inputs-clause-double : goal.returns-in_err-inputs-clause-double
+returns-in_err-inputs-clause-double c =
+    let p = err_from_is_err_and c.from_residual-in_err-inputs.result c.from_residual-in_err-inputs.ensures.1 in
+    rw (p.1, p.2) tt
+
+pub returns-in_err-saves-clause-double : goal.returns-in_err-saves-clause-double
+returns-in_err-saves-clause-double c =
+    let p = err_from_is_err_and c.from_residual-in_err-saves.result c.from_residual-in_err-saves.ensures.1 in
+    rw (p.1, p.2) tt
+
+pub returns-in_err-parts-clause-double : goal.returns-in_err-parts-clause-double
+returns-in_err-parts-clause-double c =
+    let p = err_from_is_err_and c.from_residual-in_err-parts.result c.from_residual-in_err-parts.ensures.1 in
+    rw (p.1, p.2) tt
+
+pub returns-in_err-twice-clause-double : goal.returns-in_err-twice-clause-double
+returns-in_err-twice-clause-double c =
+    let p = err_from_is_err_and c.from_residual-in_err-twice.result c.from_residual-in_err-twice.ensures.1 in
+    rw (p.1, p.2) tt

@@ -1,0 +1,104 @@
+-- Who gets what is sent: the parties to which the paths of routes bring a signal, and the OUTPUTs that nobody, or more
+-- than one, would get. A path brings its signals in the direction in which it is written, and no other. (Z.100: signal
+-- routes, output.)
+use Rattle.std.specs.Prelude.{ℕ, Bool, true, false, not, ◌&&◌, List, [], ◌∷◌, ◌++◌, Option, None, Some, if◌then◌else◌, fold, length, nat_lt}
+use Rattle.std.specs.List.{list_any, list_all, flat_map}
+use Rattle.sdl_tree.specs.declared.tree.Party.{Party}
+use Rattle.sdl_tree.specs.declared.tree.Party.TheVariants.{Environment, Process}
+use Rattle.sdl_tree.specs.declared.tree.Destination.{Destination}
+use Rattle.sdl_tree.specs.declared.tree.Destination.TheVariants as address
+use Rattle.sdl_tree.specs.Plain.{PlainSending, PlainAction, task, output, set_timer, reset_timer, PlainStimulus, PlainProcess, PlainPath, PlainBlock}
+use Rattle.sdl_tables.specs.Names.{same_name, is_in, routes_of, processes_of, timers_of}
+use Rattle.sdl_rules.specs.Actions.{in_actions}
+
+-- two ways to write one party
+abbrev pub same_party : Party → Party → Bool
+same_party Environment Environment = true
+same_party Environment (Process y) = false
+same_party (Process x) Environment = false
+same_party (Process x) (Process y) = same_name x.name y.name
+
+-- a process as a party
+abbrev pub party_of : PlainProcess → Party
+party_of p = Process p.name
+
+-- every path of every route, in the order of the text
+abbrev pub paths_of : PlainBlock → List PlainPath
+paths_of b = flat_map (λ r. r.paths) (routes_of b)
+
+-- whether a path brings signal s from one party to another
+abbrev pub brings : Party → Party → List ℕ → PlainPath → Bool
+brings from to s path = same_party from path.from && (same_party to path.to && is_in path.signals s)
+
+-- whether some path does
+abbrev pub carries : PlainBlock → Party → Party → List ℕ → Bool
+carries b from to s = list_any (brings from to s) (paths_of b)
+
+-- to whom a path brings signal s from a party
+abbrev pub path_receivers : Party → List ℕ → PlainPath → List Party
+path_receivers from s path = if same_party from path.from && is_in path.signals s then path.to ∷ [] else []
+
+-- from whom a path brings signal s to a party
+abbrev pub path_senders : Party → List ℕ → PlainPath → List Party
+path_senders to s path = if same_party to path.to && is_in path.signals s then path.from ∷ [] else []
+
+-- one party more, unless it is there
+abbrev pub add_party : List Party → Party → List Party
+add_party parties q = if list_any (same_party q) parties then parties else parties ++ q ∷ []
+
+-- the parties to which some path brings signal s from a party, each once
+abbrev pub receivers : PlainBlock → Party → List ℕ → List Party
+receivers b from s = fold add_party [] (flat_map (path_receivers from s) (paths_of b))
+
+-- the parties from which some path brings signal s to a party, one as often as such a path is there
+abbrev pub senders : PlainBlock → Party → List ℕ → List Party
+senders b to s = flat_map (path_senders to s) (paths_of b)
+
+-- ---- S5: an OUTPUT that nobody would get
+
+-- Whether what the transition of this input sends TO SENDER gets there: each who may have sent the input is reached. A
+-- timer has no sender.
+abbrev pub answers : PlainBlock → PlainProcess → List ℕ → List ℕ → Bool
+answers b p s input =
+    not (is_in (timers_of p) input) && list_all (λ q. carries b (party_of p) q s) (senders b (party_of p) input)
+
+-- the same for all inputs that a transition has; START's has none, and no sender
+abbrev pub answers_all : PlainBlock → PlainProcess → List PlainStimulus → List ℕ → Bool
+answers_all b p [] s = false
+answers_all b p (i ∷ is) s = list_all (λ x. answers b p s x.name.name) (i ∷ is)
+
+-- whether signal s, so addressed, gets to somebody
+abbrev pub arrives : PlainBlock → PlainProcess → List PlainStimulus → Option Destination → List ℕ → Bool
+arrives b p is None s = nat_lt 0 (length (receivers b (party_of p) s))
+arrives b p is (Some (address.Sender at)) s = answers_all b p is s
+arrives b p is (Some (address.Process id)) s = carries b (party_of p) (Process id) s
+
+abbrev pub lost_sending : PlainBlock → PlainProcess → List PlainStimulus → Option Destination → PlainSending → List ℕ
+lost_sending b p is to x = if arrives b p is to x.signal.name then [] else x.signal.at ∷ []
+
+abbrev pub lost_action : PlainBlock → PlainProcess → List PlainStimulus → PlainAction → List ℕ
+lost_action b p is (task at assignments) = []
+lost_action b p is (output at sendings to) = flat_map (lost_sending b p is to) sendings
+lost_action b p is (set_timer at delay timer) = []
+lost_action b p is (reset_timer at timer) = []
+
+abbrev pub without_receiver : PlainBlock → List ℕ
+without_receiver b = flat_map (λ p. in_actions (lost_action b p) p) (processes_of b)
+
+-- ---- S6: an OUTPUT that says to nobody, and that two or more would get
+
+abbrev pub is_doubtful : PlainBlock → PlainProcess → Option Destination → List ℕ → Bool
+is_doubtful b p None s = nat_lt 1 (length (receivers b (party_of p) s))
+is_doubtful b p (Some to) s = false
+
+abbrev pub doubtful_sending : PlainBlock → PlainProcess → Option Destination → PlainSending → List ℕ
+doubtful_sending b p to x = if is_doubtful b p to x.signal.name then x.signal.at ∷ [] else []
+
+abbrev pub doubtful_action : PlainBlock → PlainProcess → PlainAction → List ℕ
+doubtful_action b p (task at assignments) = []
+doubtful_action b p (output at sendings to) = flat_map (doubtful_sending b p to) sendings
+doubtful_action b p (set_timer at delay timer) = []
+doubtful_action b p (reset_timer at timer) = []
+
+abbrev pub with_two_receivers : PlainBlock → List ℕ
+with_two_receivers b = flat_map (λ p. in_actions (λ is. doubtful_action b p) p) (processes_of b)
