@@ -4,7 +4,7 @@ use Rattle.std.specs.List.{flat_map}
 use Rattle.sdl_lex.specs.declared.TheConstants.{MAX_NUMBER}
 use Rattle.sdl_tree.specs.declared.expression.BinaryOperator.{BinaryOperator}
 use Rattle.sdl_tree.specs.declared.expression.BinaryOperator.TheVariants.{Or, Xor, And, Equal, NotEqual, Less, LessEqual, Greater, GreaterEqual, Add, Subtract, Multiply, Divide, Modulo, Remainder}
-use Rattle.sdl_tree.specs.Plain.{Tree, number, truth, variable, unary, binary, PlainAction, task, output, set_timer, reset_timer, PlainBlock}
+use Rattle.sdl_tree.specs.Plain.{Tree, number, truth, variable, unary, binary, PlainAssignment, PlainSending, PlainAction, task, output, set_timer, reset_timer, PlainBlock}
 use Rattle.sdl_tree.specs.Expressions.{place_of}
 use Rattle.sdl_tables.specs.Names.{processes_of}
 use Rattle.sdl_rules.specs.Actions.{in_actions}
@@ -47,9 +47,15 @@ bad_divisors_in (unary at operator operand) = bad_divisors_in operand
 bad_divisors_in (binary at operator left right) =
     bad_divisors_in left ++ (bad_divisors_in right ++ bad_divisor operator right)
 
+abbrev pub assignment_divisors : PlainAssignment → List ℕ
+assignment_divisors a = bad_divisors_in a.value
+
+abbrev pub sending_divisors : PlainSending → List ℕ
+sending_divisors s = flat_map bad_divisors_in s.parameters
+
 abbrev pub action_divisors : PlainAction → List ℕ
-action_divisors (task at assignments) = flat_map (λ a. bad_divisors_in a.value) assignments
-action_divisors (output at sendings to) = flat_map (λ s. flat_map bad_divisors_in s.parameters) sendings
+action_divisors (task at assignments) = flat_map assignment_divisors assignments
+action_divisors (output at sendings to) = flat_map sending_divisors sendings
 action_divisors (set_timer at delay timer) = bad_divisors_in delay
 action_divisors (reset_timer at timer) = []
 

@@ -1,7 +1,9 @@
 pub mod Actions
+pub mod Asked
 pub mod Divisors
 pub mod Fates
 pub mod Flows
+pub mod Founds
 pub mod Graphs
 pub mod Longest
 pub mod Paths

@@ -13,7 +13,7 @@ use Rattle.sdl_tree.specs.declared.tree.Sort.TheVariants.{Integer, Boolean}
 use Rattle.sdl_tree.specs.declared.tree.Constant.{Constant}
 use Rattle.sdl_tree.specs.declared.tree.Literal.{Literal}
 use Rattle.sdl_tree.specs.declared.tree.Literal.TheVariants as literal
-use Rattle.sdl_tree.specs.Plain.{Tree, number, truth, variable, unary, binary, PlainAssignment, PlainSending, PlainAction, task, output, set_timer, reset_timer, PlainStimulus, PlainProcess, PlainBlock}
+use Rattle.sdl_tree.specs.Plain.{Tree, number, truth, variable, unary, binary, PlainAssignment, PlainSending, PlainAction, task, output, set_timer, reset_timer, PlainStimulus, PlainInput, PlainProcess, PlainBlock}
 use Rattle.sdl_tree.specs.Expressions.{place_of}
 use Rattle.sdl_tables.specs.Names.{same_name, processes_of, signal_named, Variable, variables_of, input_parts}
 use Rattle.sdl_rules.specs.Actions.{in_actions}
@@ -169,11 +169,13 @@ wrong_constant want (Some c) = if same_sort want (literal_sort c.value) then [] 
 abbrev pub wrong_initial : Variable → List ℕ
 wrong_initial v = wrong_constant v.sort v.initial
 
+-- the places of an INPUT
+abbrev pub wrong_input : PlainBlock → List Variable → PlainInput → List ℕ
+wrong_input b vs i = flat_map (wrong_stimulus b vs) i.stimuli
+
 -- what a process declares, and the places of its INPUTs
 abbrev pub wrong_declarations : PlainBlock → PlainProcess → List ℕ
-wrong_declarations b p =
-    flat_map wrong_initial (variables_of p)
-    ++ flat_map (λ i. flat_map (wrong_stimulus b (variables_of p)) i.stimuli) (input_parts p)
+wrong_declarations b p = flat_map wrong_initial (variables_of p) ++ flat_map (wrong_input b (variables_of p)) (input_parts p)
 
 abbrev pub wrong_sorts : PlainBlock → List ℕ
 wrong_sorts b =

@@ -161,11 +161,11 @@ fn unknown_destination(processes: &NameTable, to: Option<Destination>) -> Option
     }
 }
 
-fn unknown_in_output(block: &BlockTable, process: &ProcessTable, output: &Output) -> Option<u32>
-    ensures { Marks result (action_unknown (block_of block.now) (process_of process.now) (output output.now.at (map sending_of output.now.sendings.items) output.now.to)) }
+fn unknown_in_output(block: &BlockTable, process: &ProcessTable, sent: &Output) -> Option<u32>
+    ensures { Marks result (action_unknown (block_of block.now) (process_of process.now) (output sent.now.at (map sending_of sent.now.sendings.items) sent.now.to)) }
 {
-    let sendings = unknown_in_sendings(block, process, &output.sendings);
-    earlier(sendings, unknown_destination(block.processes(), output.to))
+    let sendings = unknown_in_sendings(block, process, &sent.sendings);
+    earlier(sendings, unknown_destination(block.processes(), sent.to))
 }
 
 fn unknown_in_set(process: &ProcessTable, set: &SetTimer) -> Option<u32>

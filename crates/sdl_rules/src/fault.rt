@@ -1,8 +1,7 @@
 //! What a text can break, and how it is printed.
-ghost use Rattle.std.specs.Prelude.{◌≡◌};
-ghost use Rattle.sdl_tables.specs.declared.fault.TableFault.TheVariants.{NoMemory};
 
 use sdl_lex::Name;
+use sdl_tables::TableFault;
 use std::alloc::AllocError;
 use std::fmt;
 use thiserror::Error;

@@ -17,5 +17,5 @@ loop-sending-preserved c =
     ap sendings_depth (ap (map sending_of) more ∙ map-append sending_of done (x ∷ []))
     ∙ sendings_depth-push (map sending_of done) (sending_of x) in
     let here : c.parameters_depth.result ≡ min (parameters_depth 0 (sending_of x).parameters) 4294967295 =
-    c.parameters_depth.ensures ∙ ap (λ ps. min (parameters_depth 0 (map tree_of ps)) 4294967295) c.deref-2.ensures.value in
+    c.parameters_depth.ensures ∙ ap (λ ps. min (parameters_depth 0 (map tree_of ps)) 4294967295) c.deref.ensures.value in
     omega (arith, deeper, here, c.loop-sending.invariant, c.max-most.ensures)

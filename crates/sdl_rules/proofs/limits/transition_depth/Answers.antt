@@ -8,5 +8,5 @@ pub returns : goal.returns
 returns c =
     c.actions_depth.ensures
     ∙ ap (λ n. min n 4294967295)
-    (ap (λ as. actions_depth (map action_of as)) c.deref.ensures.value
+    (ap (λ actions. actions_depth (map action_of actions)) c.deref.ensures.value
     ∙ sym (depth-end (map action_of c.args.transition.now.actions.items) c.args.transition.now.end))

@@ -9,5 +9,5 @@ pub returns : goal.returns
 returns c =
     c.actions_effects.ensures
     ∙ ap (λ n. min n 18446744073709551615)
-    (ap (λ as. sum_by action_effects (map action_of as)) c.deref.ensures.value
+    (ap (λ actions. sum_by action_effects (map action_of actions)) c.deref.ensures.value
     ∙ sym (effects-end (map action_of c.args.transition.now.actions.items) c.args.transition.now.end))

@@ -1,0 +1,31 @@
+-- The first place of one list and another, and of one element more.
+use Rattle.std.proofs.Common.{◌≡◌, ℕ, ◌+◌, ◌<◌, Bool, true, false, ◌||◌, List, [], ◌∷◌, ◌++◌, Option, if◌then◌else◌, map, take, length, get_or, refl, sym, ap, ◌∙◌, subst}
+use Rattle.std.specs.List.{flat_map, list_any}
+use Rattle.std.proofs.lemmas.List.{append-nil, take_more, map-append}
+use Rattle.std.proofs.lemmas.List.Folds.{list_any-append}
+use Rattle.std.proofs.lemmas.Grind.{flat_map-append}
+use Rattle.std.proofs.Math.Bool.{or-true}
+use Rattle.sdl_tree.specs.declared.expression.Identifier.{Identifier}
+use Rattle.sdl_tables.specs.Names.{same_name, is_in}
+use Rattle.sdl_tables.specs.Scopes.{Marks}
+
+-- a name of the second list is none that both lack
+pub known-second : (xs ys : List Identifier) (id : Identifier) → is_in ys id.name ≡ true
+    → (if is_in (xs ++ ys) id.name then [] else id.at ∷ []) ≡ []
+known-second xs ys id h =
+    let both : is_in (xs ++ ys) id.name ≡ true =
+    list_any-append (λ i. same_name id.name i.name) xs ys ∙ (ap (λ b. is_in xs id.name || b) h ∙ or-true (is_in xs id.name)) in
+    ap (λ b. if b then [] else id.at ∷ []) both
+
+-- the places of one more
+pub Marks-more : {A X : Type 0} (f : X → List ℕ) (g : A → X) (zs : List A) (i : ℕ) (a : A) (one other both : Option ℕ)
+    → i < length zs → a ≡ get_or zs i a → Marks one (flat_map f (map g (take i zs))) → Marks other (f (g a))
+    → ((xs ys : List ℕ) → Marks one xs → Marks other ys → Marks both (xs ++ ys))
+    → Marks both (flat_map f (map g (take (i + 1) zs)))
+Marks-more f g zs i a one other both lt is m n join =
+    let more : take (i + 1) zs ≡ take i zs ++ a ∷ [] = take_more zs i a lt ∙ ap (λ y. take i zs ++ y ∷ []) (sym is) in
+    let places : flat_map f (map g (take (i + 1) zs)) ≡ flat_map f (map g (take i zs)) ++ f (g a) =
+    ap (λ l. flat_map f (map g l)) more
+    ∙ (ap (flat_map f) (map-append g (take i zs) (a ∷ []))
+    ∙ (flat_map-append f (map g (take i zs)) (g a ∷ []) ∙ ap (λ r. flat_map f (map g (take i zs)) ++ r) (append-nil (f (g a))))) in
+    subst (Marks both) (sym places) (join (flat_map f (map g (take i zs))) (f (g a)) m n)
