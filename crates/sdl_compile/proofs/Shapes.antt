@@ -71,7 +71,7 @@ drop_past zero (x ∷ xs) h = absurd (omega arith)
 drop_past (suc n) [] h = refl
 drop_past (suc n) (x ∷ xs) h = drop_past n xs (omega arith)
 
-length_reverse : (xs : List Sort) → length (reverse xs) ≡ length xs
+pub length_reverse : (xs : List Sort) → length (reverse xs) ≡ length xs
 length_reverse xs = length-reverse xs
 
 -- the sort of an expression; where it has none, some sort
