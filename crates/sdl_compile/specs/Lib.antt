@@ -9,3 +9,4 @@ pub mod Named
 pub mod Reads
 pub mod Routes
 pub mod Scopes
+pub mod Settings

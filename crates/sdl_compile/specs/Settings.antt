@@ -3,9 +3,8 @@ use Rattle.std.specs.Prelude.{◌≡◌, ℕ, ◌≤◌, List, [], ◌∷◌, le
 use Rattle.sdl_tree.specs.Views.{block_of, process_of}
 use Rattle.turn_code.specs.declared.value.Sort.{Sort}
 use Rattle.turn_code.specs.declared.draft.PlaceFacts.{PlaceFacts}
-use Rattle.sdl_tables.specs.Names.{variables_of}
 use Rattle.sdl_rules.specs.Longest.{Piece}
-use Rattle.sdl_rules.specs.Sorts.{wrong_text}
+use Rattle.sdl_compile.specs.Drafts.{AreSorted}
 use Rattle.sdl_compile.specs.declared.piece.Setting.{Setting}
 use Rattle.sdl_compile.specs.Act.{Scope}
 use Rattle.sdl_compile.specs.Named.{NamedPiece}
@@ -20,7 +19,7 @@ pub record IsSetting (s : Setting) : Type 0 where
 -- a transition whose names are all there and whose sorts are right, with places for parameters of these sorts, within the limits
 pub record IsReadyPiece (c : Scope) (q : Piece) (ps : List Sort) : Type 0 where
   pub named : NamedPiece c q
-  pub sorted : wrong_text c.block (variables_of c.process) q.text ≡ []
+  pub sorted : AreSorted c q.text
   pub places : length q.places ≤ length ps
   pub few : length q.places ≤ 4
   pub small : IsSmall q
