@@ -53,7 +53,7 @@ module _ {A : Type 0} (name : A → Identifier) (x : List ℕ) where
       by_test true e = refl
       by_test false e = let f : 1 + place_in xs ≡ suc (place_in xs) = omega arith in e ∙ ap (λ k. slice_get (a ∷ xs) k) (sym f)
 
-slice_map : {A B : Type 0} (f : A → B) (xs : List A) (k : ℕ) → slice_get (map f xs) k ≡ option_map f (slice_get xs k)
+pub slice_map : {A B : Type 0} (f : A → B) (xs : List A) (k : ℕ) → slice_get (map f xs) k ≡ option_map f (slice_get xs k)
 slice_map f [] k = refl
 slice_map f (x ∷ xs) zero = refl
 slice_map f (x ∷ xs) (suc k) = slice_map f xs k
@@ -118,6 +118,26 @@ signal_sorted b x some =
     by_found : (o : Option PlainSignal) → parameters_of (option_map drafted_signal o) ≡ map sort_of_tree (option_map_or (λ (s : PlainSignal). s.parameters) o [])
     by_found None = refl
     by_found (Some s) = refl
+
+none_past : {A : Type 0} (xs : List A) (k : ℕ) → length xs ≤ k → slice_get xs k ≡ None
+none_past [] k h = refl
+none_past (x ∷ xs) zero h = absurd (omega arith)
+none_past (x ∷ xs) (suc k) h = none_past xs k (omega arith)
+
+no_number : (b : Bool) (k : ℕ) → cond b (Some k) None ≡ None → b ≡ false
+no_number true k e = absurd (let k : ⊥ = cc in k)
+no_number false k e = refl
+
+-- what is no signal has no parameters
+pub unsigned_sorts : (b : PlainBlock) (x : List ℕ) → number_of (signal_names b) x ≡ None → parameter_sorts b x ≡ []
+unsigned_sorts b x none =
+    let ss = signals_of b in
+    let k = place_in signal_name x ss in
+    let f = no_number (nat_lt k (length (signal_names b))) k none in
+    let g : length (signal_names b) ≤ k = grind (arith, nat_tests) in
+    let l = length-map ss signal_name in
+    let past = none_past ss k (omega (arith, g, l)) in
+    ap (λ o. option_map_or (λ (s : PlainSignal). s.parameters) o []) (found_at signal_name x ss ∙ past)
 
 -- ---- tests
 

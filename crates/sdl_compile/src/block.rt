@@ -174,7 +174,8 @@ fn compile_processes(
     ensures made { IfOk result (λ ds. AllZip (IsProcessOf (block_of block.now)) (processes_of (block_of block.now)) ds.items) }
 {
     let mut processes = Vec::new(alloc);
-    for (number, table) in block.tables().iter().enumerate() {
+    let tables = block.tables();
+    for (number, table) in tables.iter().enumerate() {
         processes.push(compile_process(alloc, block, table, &sets[number], signals)?)?;
     }
     Ok(processes)

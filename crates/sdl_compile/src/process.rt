@@ -11,18 +11,17 @@ use crate::names::Names;
 use crate::piece::{Setting, compile_transition};
 use crate::state::{Context, compile_states, draft_name};
 use crate::variables::{compile_variables, set_at_start};
-use sdl_tables::{BlockTable, ProcessTable};
-use sdl_tree::Identifier;
+use sdl_tables::{BlockTable, NameTable, ProcessTable};
 use std::alloc::{AllocError, Global};
 use turn_code::{DraftProcess, DraftSignal, Name, Sequence};
 
 // The names of timers.
-fn compile_timers(alloc: Global, ids: &[Identifier]) -> Result<Vec<Name>, AllocError>
-    ensures { IfOk result (λ v. v.items ≡ map (λ id. id.name) ids.now) }
+fn compile_timers(alloc: Global, table: &NameTable) -> Result<Vec<Name>, AllocError>
+    ensures { IfOk result (λ v. v.items ≡ map (λ id. id.name) table.now) }
 {
     let mut timers = Vec::new(alloc);
-    for id in ids {
-        timers.push(draft_name(&id.name))?;
+    for number in 0..table.len() {
+        timers.push(draft_name(&table.name(number).name))?;
     }
     Ok(timers)
 }
@@ -48,7 +47,7 @@ pub fn compile_process(
     ensures made { IfOk result (λ d. IsProcessOf (block_of block.now) (process_of table.now) d) }
 {
     let variables = compile_variables(alloc, table.rows())?;
-    let timers = compile_timers(alloc, table.timers().as_slice())?;
+    let timers = compile_timers(alloc, table.timers())?;
     let names = Names {
         block,
         process: table,
