@@ -22,8 +22,8 @@ use Rattle.sdl_tree.specs.declared.expression.BinaryOperator.{BinaryOperator}
 use Rattle.sdl_tables.specs.Names.{same_name, is_in, number_of, variable_names}
 use Rattle.sdl_rules.specs.Sound.{tree_names}
 use Rattle.sdl_tables.specs.Scopes.{repeats}
-use Rattle.sdl_rules.specs.Paths.{Event, reads, sets, reads_first, sets_in}
-use Rattle.sdl_rules.specs.Flows.{Tells, Does, tree_events}
+use Rattle.sdl_rules.specs.Paths.{Event, reads, sets, tree_events, reads_first, sets_in}
+use Rattle.sdl_rules.specs.Flows.{Tells, Does}
 use Rattle.sdl_rules.specs.declared.flows.Flow.{Flow}
 use Rattle.sdl_rules.proofs.Repeats.{append-nil_left, append-nil_right}
 

@@ -1,6 +1,7 @@
 pub mod Bits
 pub mod Numbers
 pub mod PathNames
+pub mod Pairs
 pub mod Places
 pub mod Repeats
 pub mod Searches

@@ -12,12 +12,12 @@ use Rattle.unset_paths.specs.declared.Step as number
 use Rattle.unset_paths.specs.declared.Step.TheVariants.{Start as First, Input as By}
 use Rattle.unset_paths.specs.Graph as graph
 use Rattle.unset_paths.specs.Graph.{has, input_at, Passes}
-use Rattle.sdl_tree.specs.Plain.{PlainAssignment, Text, falls, ends, task, PlainProcess, PlainBlock, PlainInput, PlainClause, input, PlainState, PlainStimulus}
-use Rattle.sdl_tree.specs.declared.tree.End.TheVariants.{NextState}
+use Rattle.sdl_tree.specs.Plain.{Tree, PlainAssignment, PlainSending, PlainAction, task, output, set_timer, reset_timer, Text, falls, ends, does, PlainProcess, PlainBlock, PlainInput, PlainClause, input, save, PlainState, PlainStimulus}
+use Rattle.sdl_tree.specs.declared.tree.End.TheVariants.{NextState, Stop}
 use Rattle.sdl_tree.specs.declared.expression.Identifier.{Identifier}
-use Rattle.sdl_tables.specs.Names.{same_name, is_in, number_of, variable_names, variables_of, Variable, states_of, Input, inputs_of, part_inputs, clause_inputs, clause_parts, given_by, is_state, input_parts}
-use Rattle.sdl_rules.specs.Sound.{unknown, tree_names, assignment_names, text_names, place_names, input_unknown, process_unknown}
-use Rattle.sdl_rules.specs.Paths.{Event, reads, sets, assignment_events, initial_sets, IsWalk, Transition, Place, start_transition, input_transition, reads_first, sets_in, inputs_in, ReadsFrom, ReadsUnset, NeverReadsUnset}
+use Rattle.sdl_tables.specs.Names.{same_name, is_in, number_of, signal_names, variable_names, variables_of, Variable, states_of, Input, inputs_of, part_inputs, clause_inputs, clause_parts, given_to, is_state, input_parts}
+use Rattle.sdl_rules.specs.Sound.{unknown, tree_names, assignment_names, sending_unknown, action_unknown, text_unknown, place_names, input_unknown, process_unknown}
+use Rattle.sdl_rules.specs.Paths.{Event, reads, sets, tree_events, assignment_events, sending_events, action_events, initial_sets, IsWalk, Transition, Place, start_transition, input_transition, reads_first, sets_in, inputs_in, ReadsFrom, ReadsUnset, NeverReadsUnset}
 use Rattle.sdl_rules.specs.Graphs.{IsSummaryOf, IsGraphOf}
 use Rattle.sdl_rules.specs.declared.fault.Step.{Step}
 use Rattle.sdl_rules.specs.declared.fault.Step.TheVariants.{Start, Input as Takes}
@@ -124,17 +124,6 @@ assignments_read (a ∷ list) x h = elim (reads_some-append (assignment_events a
   | inr there ↦ in_append_right (assignment_names a) (flat_map assignment_names list) x (assignments_read list x there)
 ]
 
--- what a walk reads is named in the text
-walk_reads : (t : Text) (events : List Event) (end : Option (List ℕ)) (x : List ℕ) → IsWalk t events end → reads_some events x ≡ true
-    → is_in (text_names t) x ≡ true
-walk_reads falls events end x (none, e) h = absurd (true≢false (sym (ap (λ es. reads_some es x) (sym none) ∙ h)))
-walk_reads (ends (NextState n)) events end x (none, e) h = absurd (true≢false (sym (ap (λ es. reads_some es x) (sym none) ∙ h)))
-walk_reads (task at list rest) events end x (after, all, walk) h =
-    elim (reads_some-append (flat_map assignment_events list) after x (ap (λ es. reads_some es x) (sym all) ∙ h)) [
-      | inl here ↦ in_append_left (flat_map assignment_names list) (text_names rest) x (assignments_read list x here)
-      | inr there ↦ in_append_right (flat_map assignment_names list) (text_names rest) x (walk_reads rest after end x walk there)
-    ]
-
 -- a name among known ones is known
 cons-not-nil : (n : ℕ) (ns : List ℕ) → n ∷ ns ≡ [] → ⊥
 cons-not-nil n ns h = cc
@@ -154,6 +143,46 @@ known_in among (id ∷ ids) x none h = elim (or_cases (same_name x id.name) (is_
       ∙ known_name among id (is_in among id.name) refl (append-nil_left _ _ none)
   | inr there ↦ known_in among ids x (append-nil_right (if is_in among id.name then [] else id.at ∷ []) _ none) there
 ]
+
+parameters_read : (ts : List Tree) (x : List ℕ) → reads_some (flat_map tree_events ts) x ≡ true → is_in (flat_map tree_names ts) x ≡ true
+parameters_read [] x h = h
+parameters_read (t ∷ ts) x h = elim (reads_some-append (tree_events t) (flat_map tree_events ts) x h) [
+  | inl here ↦ in_append_left (tree_names t) (flat_map tree_names ts) x (sym (reads_of_names (tree_names t) x) ∙ here)
+  | inr there ↦ in_append_right (tree_names t) (flat_map tree_names ts) x (parameters_read ts x there)
+]
+
+sendings_known : (b : PlainBlock) (p : PlainProcess) (ss : List PlainSending) (x : List ℕ) → flat_map (sending_unknown b p) ss ≡ []
+    → reads_some (flat_map sending_events ss) x ≡ true → is_in (variable_names p) x ≡ true
+sendings_known b p [] x none h = absurd (true≢false (sym h))
+sendings_known b p (s ∷ ss) x none h = elim (reads_some-append (sending_events s) (flat_map sending_events ss) x h) [
+  | inl here ↦
+      known_in (variable_names p) (flat_map tree_names s.parameters) x
+      (append-nil_right (unknown (signal_names b) (s.signal ∷ [])) _ (append-nil_left (sending_unknown b p s) _ none))
+      (parameters_read s.parameters x here)
+  | inr there ↦ sendings_known b p ss x (append-nil_right (sending_unknown b p s) _ none) there
+]
+
+-- where an action names nothing unknown, what it reads is declared
+action_known : (b : PlainBlock) (p : PlainProcess) (a : PlainAction) (x : List ℕ) → action_unknown b p a ≡ []
+    → reads_some (action_events a) x ≡ true → is_in (variable_names p) x ≡ true
+action_known b p (task at list) x none h = known_in (variable_names p) (flat_map assignment_names list) x none (assignments_read list x h)
+action_known b p (output at list to) x none h = sendings_known b p list x (append-nil_left (flat_map (sending_unknown b p) list) _ none) h
+action_known b p (set_timer at delay timer) x none h =
+    known_in (variable_names p) (tree_names delay) x (append-nil_left (unknown (variable_names p) (tree_names delay)) _ none)
+    (sym (reads_of_names (tree_names delay) x) ∙ h)
+action_known b p (reset_timer at timer) x none h = absurd (true≢false (sym h))
+
+-- and so is what a walk of a text reads
+walk_known : (b : PlainBlock) (p : PlainProcess) (t : Text) (events : List Event) (end : Option (List ℕ)) (x : List ℕ) → text_unknown b p t ≡ []
+    → IsWalk t events end → reads_some events x ≡ true → is_in (variable_names p) x ≡ true
+walk_known b p falls events end x known (none, e) h = absurd (true≢false (sym (ap (λ es. reads_some es x) (sym none) ∙ h)))
+walk_known b p (ends (NextState n)) events end x known (none, e) h = absurd (true≢false (sym (ap (λ es. reads_some es x) (sym none) ∙ h)))
+walk_known b p (ends (Stop at)) events end x known (none, e) h = absurd (true≢false (sym (ap (λ es. reads_some es x) (sym none) ∙ h)))
+walk_known b p (does a rest) events end x known (after, all, walk) h =
+    elim (reads_some-append (action_events a) after x (ap (λ es. reads_some es x) (sym all) ∙ h)) [
+      | inl here ↦ action_known b p a x (append-nil_left (action_unknown b p a) _ known) here
+      | inr there ↦ walk_known b p rest after end x (append-nil_right (action_unknown b p a) _ known) walk there
+    ]
 
 -- a known name has a number
 has_number : (ids : List Identifier) (x : List ℕ) → is_in ids x ≡ true
@@ -187,6 +216,7 @@ stimuli_none f at text (s ∷ ss) e = nil_append (f text) _ e (stimuli_none f at
 
 clause_none : (f : Text → List ℕ) (c : PlainClause) → none_of_parts f (clause_parts c) ≡ [] → none_of_inputs f (clause_inputs c) ≡ []
 clause_none f (input i) e = stimuli_none f i.at i.text i.stimuli (append-nil_left (f i.text) [] e)
+clause_none f (save names) e = refl
 
 clauses_none : (f : Text → List ℕ) (cs : List PlainClause) → none_of_parts f (flat_map clause_parts cs) ≡ []
     → none_of_inputs f (flat_map clause_inputs cs) ≡ []
@@ -210,12 +240,12 @@ given_none f states q (id ∷ names) is e =
 
 parts_none : (f : Text → List ℕ) (states : List Identifier) (q : ℕ) (parts : List PlainState)
     → none_of_parts f (flat_map (λ part. flat_map clause_parts part.clauses) parts) ≡ []
-    → none_of_inputs f (flat_map (given_by states q) parts) ≡ []
+    → none_of_inputs f (flat_map (given_to part_inputs states q) parts) ≡ []
 parts_none f states q [] e = refl
 parts_none f states q (part ∷ parts) e =
     let both : none_of_parts f (flat_map clause_parts part.clauses) ++ none_of_parts f (flat_map (λ r. flat_map clause_parts r.clauses) parts) ≡ [] =
     sym (flat_map-both (λ i. f i.text) (flat_map clause_parts part.clauses) _) ∙ e in
-    flat_map-both (λ i. f i.text) (given_by states q part) (flat_map (given_by states q) parts)
+    flat_map-both (λ i. f i.text) (given_to part_inputs states q part) (flat_map (given_to part_inputs states q) parts)
     ∙ nil_append _ _ (given_none f states q part.names (part_inputs part) (clauses_none f part.clauses (append-nil_left _ _ both)))
     (parts_none f states q parts (append-nil_right _ _ both))
 
@@ -226,19 +256,20 @@ none_at {A = A} f (y ∷ xs) zero x none e =
     subst (λ (z : A). f z ≡ []) same (append-nil_left (f y) _ none)
 none_at f (y ∷ xs) (suc i) x none e = none_at f xs i x (append-nil_right (f y) _ none) e
 
--- each INPUT's text names known variables
+-- each INPUT's text names nothing unknown
 texts_of_parts : (b : PlainBlock) (p : PlainProcess) (is : List PlainInput) → flat_map (input_unknown b p) is ≡ []
-    → none_of_parts (λ t. unknown (variable_names p) (text_names t)) is ≡ []
+    → none_of_parts (text_unknown b p) is ≡ []
 texts_of_parts b p [] e = refl
 texts_of_parts b p (i ∷ is) e =
     nil_append _ _ (append-nil_right _ _ (append-nil_left _ _ e)) (texts_of_parts b p is (append-nil_right (input_unknown b p i) _ e))
 
 input_known : (b : PlainBlock) (p : PlainProcess) (q i : ℕ) (inp : Input) → process_unknown b p ≡ [] → slice_get (inputs_of p q) i ≡ Some inp
-    → unknown (variable_names p) (text_names inp.text) ≡ []
+    → text_unknown b p inp.text ≡ []
 input_known b p q i inp known e =
-    none_at (λ j. unknown (variable_names p) (text_names j.text)) (inputs_of p q) i inp
-    (parts_none (λ t. unknown (variable_names p) (text_names t)) (states_of p) q p.states
-    (texts_of_parts b p (input_parts p) (append-nil_right (unknown (variable_names p) (text_names p.start.text)) _ known)))
+    none_at (λ j. text_unknown b p j.text) (inputs_of p q) i inp
+    (parts_none (text_unknown b p) (states_of p) q p.states
+    (texts_of_parts b p (input_parts p)
+    (append-nil_left (flat_map (input_unknown b p) (input_parts p)) _ (append-nil_right (text_unknown b p p.start.text) _ known))))
     e
 
 -- ---- the variable that a path reads
@@ -276,7 +307,7 @@ start_declared b p t events end x known is walk first =
     let all : reads_first (s.first ++ events) x ≡ true = ap (λ (u : Transition). reads_first (u.first ++ events) x) (sym is) ∙ first in
     elim (reads_some-append s.first events x (reads_some-first (s.first ++ events) x all)) [
       | inl none ↦ absurd (initial_reads_nothing (variables_of p) x none)
-      | inr there ↦ known_in (variable_names p) (text_names p.start.text) x (append-nil_left _ _ known) (walk_reads p.start.text events end x text there)
+      | inr there ↦ walk_known b p p.start.text events end x (append-nil_left (text_unknown b p p.start.text) _ known) text there
     ]
 
 input_declared : (b : PlainBlock) (p : PlainProcess) (s : List ℕ) (inp : Input) (t : Transition) (events : List Event) (end : Option (List ℕ)) (x : List ℕ)
@@ -289,7 +320,7 @@ input_declared b p s inp t events end x known among is walk first =
     let all : reads_first (u.first ++ events) x ≡ true = ap (λ (w : Transition). reads_first (w.first ++ events) x) (sym is) ∙ first in
     elim (reads_some-append u.first events x (reads_some-first (u.first ++ events) x all)) [
       | inl none ↦ absurd (sets_read_nothing (place_names inp.stimulus.places) x none)
-      | inr there ↦ known_in (variable_names p) (text_names inp.text) x (input_known b p here.0 here.2 inp known here.5) (walk_reads inp.text events end x text there)
+      | inr there ↦ walk_known b p inp.text events end x (input_known b p here.0 here.2 inp known here.5) text there
     ]
 
 -- what is read at the end of a path is declared

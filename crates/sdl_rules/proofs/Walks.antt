@@ -8,38 +8,39 @@ use Rattle.std.proofs.lemmas.Option.{slice_get_within}
 use Rattle.unset_paths.specs.Graph.{has}
 use Rattle.unset_paths.specs.declared.Passage.{Passage}
 use Rattle.sdl_tree.specs.declared.expression.Identifier.{Identifier}
-use Rattle.sdl_tree.specs.declared.tree.Action.{Action}
-use Rattle.sdl_tree.specs.declared.tree.Action.TheVariants.{Task}
 use Rattle.sdl_tree.specs.declared.tree.End.{End}
-use Rattle.sdl_tree.specs.declared.tree.End.TheVariants.{NextState}
+use Rattle.sdl_tree.specs.declared.tree.End.TheVariants.{NextState, Stop}
 use Rattle.sdl_tree.specs.declared.tree.Transition as tree
-use Rattle.sdl_tree.specs.Plain.{PlainProcess}
-use Rattle.sdl_tree.specs.Views.{assignment_of, actions_text, end_text, text_of}
+use Rattle.sdl_tree.specs.Plain.{PlainAction, PlainProcess}
+use Rattle.sdl_tree.specs.Views.{action_of, does_all, end_text, text_of}
 use Rattle.sdl_tables.specs.Names.{number_of, Variable, variable_names, variables_of, states_of}
-use Rattle.sdl_rules.specs.Paths.{Event, IsWalk, Transition, assignment_events, reads_first, sets_in}
+use Rattle.sdl_rules.specs.Paths.{Event, IsWalk, Transition, action_events, reads_first, sets_in}
 use Rattle.sdl_rules.specs.Graphs.{StandsForWalk, IsSummaryOf}
-use Rattle.sdl_rules.specs.Flows.{Does, action_events, target, passages_to}
+use Rattle.sdl_rules.specs.Flows.{Does, target, passages_to}
 use Rattle.sdl_rules.specs.declared.flows.Flow.{Flow}
 
 -- the name of the state in which a transition ends
 pub end_name : Option End → Option (List ℕ)
 end_name None = None
 end_name (Some (NextState n)) = Some n.state.name
+end_name (Some (Stop at)) = None
 
-pub has_walk : (actions : List Action) (e : Option End) → IsWalk (actions_text actions (end_text e)) (flat_map action_events actions) (end_name e)
+pub has_walk : (actions : List PlainAction) (e : Option End) → IsWalk (does_all actions (end_text e)) (flat_map action_events actions) (end_name e)
 unfolding end_name
 has_walk [] None = (refl, refl)
 has_walk [] (Some (NextState n)) = (refl, refl)
-has_walk (Task t ∷ actions) e = (flat_map action_events actions, refl, has_walk actions e)
+has_walk [] (Some (Stop at)) = (refl, refl)
+has_walk (a ∷ actions) e = (flat_map action_events actions, refl, has_walk actions e)
 
-pub one_walk : (actions : List Action) (e : Option End) (events : List Event) (s : Option (List ℕ)) → IsWalk (actions_text actions (end_text e)) events s
+pub one_walk : (actions : List PlainAction) (e : Option End) (events : List Event) (s : Option (List ℕ)) → IsWalk (does_all actions (end_text e)) events s
     → (events ≡ flat_map action_events actions) × (s ≡ end_name e)
 unfolding end_name
 one_walk [] None events s w = w
 one_walk [] (Some (NextState n)) events s w = w
-one_walk (Task t ∷ actions) e events s w =
+one_walk [] (Some (Stop at)) events s w = w
+one_walk (a ∷ actions) e events s w =
     let rest = one_walk actions e w.0 s w.2 in
-    (w.1 ∙ ap (λ es. flat_map assignment_events (map assignment_of t.assignments.items) ++ es) rest.0, rest.1)
+    (w.1 ∙ ap (λ es. action_events a ++ es) rest.0, rest.1)
 
 opposite : (b s : Bool) → b ≡ not s → (b ≡ true) ↔ (s ≡ false)
 opposite b true h = (λ e. cc, λ e. cc)
@@ -67,15 +68,16 @@ contains_one x y c =
     subst (λ k. get_or (x ∷ []) k y ≡ y) first c.2
 
 -- the only passage is to the state in which it ends
-sound_at : (p : PlainProcess) (first : List Event) (actions : List Action) (e : Option End) (flow : Flow) (o : Option ℕ) (passage : Passage)
+sound_at : (p : PlainProcess) (first : List Event) (actions : List PlainAction) (e : Option End) (flow : Flow) (o : Option ℕ) (passage : Passage)
     → length (variables_of p) ≤ 32 → Does p (first ++ flat_map action_events actions) flow
     → target (states_of p) e ≡ o → Contains (passages_to flow.keeps o) passage
-    → (events : List Event) × (s : List ℕ) × StandsForWalk p (record { first = first; text = actions_text actions (end_text e) }) events s passage
+    → (events : List Event) × (s : List ℕ) × StandsForWalk p (record { first = first; text = does_all actions (end_text e) }) events s passage
 unfolding end_name
 sound_at p first actions e flow None passage few d is among = absurd (omega (arith, among.1))
 sound_at p first actions None flow (Some q) passage few d is among = cc
+sound_at p first actions (Some (Stop at)) flow (Some q) passage few d is among = cc
 sound_at p first actions (Some (NextState n)) flow (Some q) passage few d is among =
-    let t : Transition = record { first = first; text = actions_text actions (end_text (Some (NextState n))) } in
+    let t : Transition = record { first = first; text = does_all actions (end_text (Some (NextState n))) } in
     let only : record { state = q; keeps = flow.keeps } ≡ passage = contains_one (record { state = q; keeps = flow.keeps }) passage among in (
       flat_map action_events actions,
       n.state.name,
@@ -83,16 +85,18 @@ sound_at p first actions (Some (NextState n)) flow (Some q) passage few d is amo
           (stands p t (flat_map action_events actions) n.state.name q flow few d (has_walk actions (Some (NextState n))) is),
     )
 
-whole_at : (p : PlainProcess) (first : List Event) (actions : List Action) (e : Option End) (flow : Flow) (events : List Event) (s : List ℕ) (q : ℕ)
+whole_at : (p : PlainProcess) (first : List Event) (actions : List PlainAction) (e : Option End) (flow : Flow) (events : List Event) (s : List ℕ) (q : ℕ)
     → length (variables_of p) ≤ 32 → Does p (first ++ flat_map action_events actions) flow
-    → IsWalk (actions_text actions (end_text e)) events (Some s) → number_of (states_of p) s ≡ Some q
+    → IsWalk (does_all actions (end_text e)) events (Some s) → number_of (states_of p) s ≡ Some q
     → (passage : Passage) × Contains (passages_to flow.keeps (target (states_of p) e)) passage
-    × StandsForWalk p (record { first = first; text = actions_text actions (end_text e) }) events s passage
+    × StandsForWalk p (record { first = first; text = does_all actions (end_text e) }) events s passage
 unfolding end_name
 whole_at p first actions None flow events s q few d walk is =
     let end = (one_walk actions None events (Some s) walk).1 in cc
+whole_at p first actions (Some (Stop at)) flow events s q few d walk is =
+    let end = (one_walk actions (Some (Stop at)) events (Some s) walk).1 in cc
 whole_at p first actions (Some (NextState n)) flow events s q few d walk is =
-    let t : Transition = record { first = first; text = actions_text actions (end_text (Some (NextState n))) } in
+    let t : Transition = record { first = first; text = does_all actions (end_text (Some (NextState n))) } in
     let one = one_walk actions (Some (NextState n)) events (Some s) walk in
     let here : s ≡ n.state.name = cc in
     let there : target (states_of p) (Some (NextState n)) ≡ Some q = ap (number_of (states_of p)) (sym here) ∙ is in
@@ -103,19 +107,19 @@ whole_at p first actions (Some (NextState n)) flow events s q few d walk is =
     )
 
 pub summary_is : (p : PlainProcess) (first : List Event) (t : tree.Transition) (flow : Flow) (passages : Vec Passage) → length (variables_of p) ≤ 32
-    → Does p (first ++ flat_map action_events t.actions.items) flow
+    → Does p (first ++ flat_map action_events (map action_of t.actions.items)) flow
     → passages.items ≡ passages_to flow.keeps (target (states_of p) t.end)
     → IsSummaryOf p (record { first = first; text = text_of t }) (record { reads = flow.reads; passages = passages })
 unfolding Does
 summary_is p first t flow passages few d are = record {
   reads = λ v id there.
-      let told : has flow.reads v ≡ reads_first (first ++ flat_map action_events t.actions.items) id.name = d.0.at v id (below p v id few there) there in (
-        λ h. record { events = flat_map action_events t.actions.items; end = end_name t.end; walk = has_walk t.actions.items t.end; first = sym told ∙ h },
-        λ r. told ∙ (ap (λ es. reads_first (first ++ es) id.name) (sym (one_walk t.actions.items t.end r.events r.end r.walk).0) ∙ r.first),
+      let told : has flow.reads v ≡ reads_first (first ++ flat_map action_events (map action_of t.actions.items)) id.name = d.0.at v id (below p v id few there) there in (
+        λ h. record { events = flat_map action_events (map action_of t.actions.items); end = end_name t.end; walk = has_walk (map action_of t.actions.items) t.end; first = sym told ∙ h },
+        λ r. told ∙ (ap (λ es. reads_first (first ++ es) id.name) (sym (one_walk (map action_of t.actions.items) t.end r.events r.end r.walk).0) ∙ r.first),
       );
-  sound = λ passage among. sound_at p first t.actions.items t.end flow (target (states_of p) t.end) passage few d refl (subst (λ (ps : List Passage). Contains ps passage) are among);
+  sound = λ passage among. sound_at p first (map action_of t.actions.items) t.end flow (target (states_of p) t.end) passage few d refl (subst (λ (ps : List Passage). Contains ps passage) are among);
   whole = λ events s q walk is.
-      let found = whole_at p first t.actions.items t.end flow events s q few d walk is in
+      let found = whole_at p first (map action_of t.actions.items) t.end flow events s q few d walk is in
       (found.0, subst (λ (ps : List Passage). Contains ps found.0) (sym are) found.1, found.2);
 }
 

@@ -1,4 +1,5 @@
 //! What a text can break, and how it is printed.
+ghost use Rattle.std.specs.Prelude.{◌≡◌};
 
 use sdl_lex::Name;
 use sdl_tables::TableFault;

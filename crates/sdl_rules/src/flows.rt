@@ -3,16 +3,16 @@ ghost use Rattle.std.specs.Prelude.{◌≡◌, ◌≤◌, ◌++◌, ◌∷◌, [
 ghost use Rattle.std.specs.List.{flat_map, AllZip};
 ghost use Rattle.std.specs.Option.{option_to_list};
 ghost use Rattle.sdl_tree.specs.Plain.{PlainProcess};
-ghost use Rattle.sdl_tree.specs.Views.{tree_of, assignment_of, text_of, process_of};
+ghost use Rattle.sdl_tree.specs.Views.{tree_of, assignment_of, sending_of, action_of, text_of, process_of};
 ghost use Rattle.sdl_tables.specs.Names.{same_name, variable_names, variables_of, states_of};
 ghost use Rattle.sdl_tables.specs.Rows.{variable_of, row_input, rows_inputs};
-ghost use Rattle.sdl_rules.specs.Paths.{Event, reads, sets, assignment_events, initial_sets, input_transition};
-ghost use Rattle.sdl_rules.specs.Flows.{Tells, Does, tree_events, place_events, action_events, target, passages_to, AreSummariesOf};
+ghost use Rattle.sdl_rules.specs.Paths.{Event, reads, sets, tree_events, assignment_events, sending_events, action_events, initial_sets, input_transition};
+ghost use Rattle.sdl_rules.specs.Flows.{Tells, Does, place_events, target, passages_to, AreSummariesOf};
 ghost use Rattle.sdl_rules.specs.Graphs.{IsSummaryOf, IsGraphOf};
 
-use sdl_tables::{InputRow, ProcessTable, Variable};
 use sdl_lex::Name;
-use sdl_tree::{Action, Assignment, End, Expression, Identifier, Transition};
+use sdl_tables::{InputRow, ProcessTable, Variable};
+use sdl_tree::{Action, Assignment, End, Expression, Identifier, Sending, Transition};
 use std::alloc::{AllocError, Global};
 use unset_paths::{Graph, Passage, Summary};
 
@@ -82,6 +82,7 @@ fn expression_flow(table: &ProcessTable, expression: &Expression) -> Flow
 {
     match expression {
         Expression::Number { .. } => Flow::empty(),
+        Expression::Truth { .. } => Flow::empty(),
         Expression::Variable { name, .. } => read(table, name.name),
         Expression::Unary { operand, .. } => expression_flow(table, operand),
         Expression::Binary { left, right, .. } => {
@@ -107,16 +108,39 @@ fn assignments_flow(table: &ProcessTable, assignments: &[Assignment]) -> Flow
     flow
 }
 
+fn parameters_flow(table: &ProcessTable, parameters: &[Expression]) -> Flow
+    ensures { Does (process_of table.now) (flat_map tree_events (map tree_of parameters.now)) result }
+{
+    let mut flow = Flow::empty();
+    for parameter in parameters {
+        flow = flow.followed_by(expression_flow(table, parameter));
+    }
+    flow
+}
+
+fn sendings_flow(table: &ProcessTable, sendings: &[Sending]) -> Flow
+    ensures { Does (process_of table.now) (flat_map sending_events (map sending_of sendings.now)) result }
+{
+    let mut flow = Flow::empty();
+    for sending in sendings {
+        flow = flow.followed_by(parameters_flow(table, &sending.parameters));
+    }
+    flow
+}
+
 fn action_flow(table: &ProcessTable, action: &Action) -> Flow
-    ensures { Does (process_of table.now) (action_events action.now) result }
+    ensures { Does (process_of table.now) (action_events (action_of action.now)) result }
 {
     match action {
         Action::Task(task) => assignments_flow(table, &task.assignments),
+        Action::Output(output) => sendings_flow(table, &output.sendings),
+        Action::Set(set) => expression_flow(table, &set.delay),
+        Action::Reset(_) => Flow::empty(),
     }
 }
 
 fn actions_flow(table: &ProcessTable, actions: &[Action]) -> Flow
-    ensures { Does (process_of table.now) (flat_map action_events actions.now) result }
+    ensures { Does (process_of table.now) (flat_map action_events (map action_of actions.now)) result }
 {
     let mut flow = Flow::empty();
     for action in actions {
@@ -169,6 +193,7 @@ fn target(table: &ProcessTable, end: Option<End>) -> Option<usize>
     match end {
         None => None,
         Some(End::NextState(next)) => table.states().number(next.state.name),
+        Some(End::Stop(_)) => None,
     }
 }
 

@@ -12,6 +12,9 @@ fn printed(alloc: Global, fault: &RuleFault) -> Result<String, Fail> {
         RuleFault::UnknownName(at) => Ok(format!(in alloc; "{fault} {at}")?),
         RuleFault::WrongSort(at) => Ok(format!(in alloc; "{fault} {at}")?),
         RuleFault::NoState(at) => Ok(format!(in alloc; "{fault} {at}")?),
+        RuleFault::NoReceiver(at) => Ok(format!(in alloc; "{fault} {at}")?),
+        RuleFault::TwoReceivers(at) => Ok(format!(in alloc; "{fault} {at}")?),
+        RuleFault::BadDivisor(at) => Ok(format!(in alloc; "{fault} {at}")?),
         RuleFault::Limit(_) => Ok(format!(in alloc; "{fault}")?),
         RuleFault::Unset { .. } => Ok(format!(in alloc; "{fault}")?),
         RuleFault::NoMemory => Ok(format!(in alloc; "{fault}")?),
@@ -98,6 +101,16 @@ fn variables_answer(alloc: Global, count: u32) -> Result<String, Fail> {
     answer(alloc, text.as_str())
 }
 
+/// The answer to a text that resets a timer so often after START.
+fn resets_answer(alloc: Global, count: u32) -> Result<String, Fail> {
+    let mut start = String::new(alloc);
+    for _number in 0..count {
+        start.push_str("RESET(t); ")?;
+    }
+    let text = process_text(alloc, "TIMER t;", start.as_str(), "")?;
+    answer(alloc, text.as_str())
+}
+
 /// The answer to a text that does this after START: the first part so many times, `1`, and the second part as often.
 fn start_answer(alloc: Global, first: &str, second: &str, count: u32) -> Result<String, Fail> {
     let mut start = String::from_str(alloc, "TASK n := 1; TASK n := ")?;
@@ -116,57 +129,186 @@ fn start_answer(alloc: Global, first: &str, second: &str, count: u32) -> Result<
 #[test]
 fn each_text_has_its_refusal(rt: HostRuntime) -> Result<(), Fail> {
     let rows = [
+        ("BLOCK B; SIGNAL Up, uP; ENDBLOCK;", "S1 DoubleName 20"),
         (
-            "BLOCK B; SIGNAL Up, uP; PROCESS P; START; NEXTSTATE A; STATE A; ENDSTATE; ENDPROCESS; ENDBLOCK;",
-            "S1 DoubleName 20",
-        ),
-        (
-            "BLOCK B; PROCESS P; DCL k, K Integer; START; NEXTSTATE A; STATE A; ENDSTATE; ENDPROCESS; ENDBLOCK;",
+            "BLOCK B; PROCESS P; DCL k, K Integer; START; STOP; ENDPROCESS; ENDBLOCK;",
             "S1 DoubleName 27",
         ),
         (
-            "BLOCK B; SIGNAL Up(Integer), Down; PROCESS P; START; NEXTSTATE A; STATE A; INPUT Up; NEXTSTATE A; INPUT Down, UP; NEXTSTATE A; ENDSTATE; ENDPROCESS; ENDBLOCK;",
-            "S1 DoubleName 110",
+            "BLOCK B; PROCESS P; TIMER k; DCL k Integer; TIMER T, K; START; STOP; ENDPROCESS; ENDBLOCK;",
+            "S1 DoubleName 53",
         ),
         (
-            "BLOCK B; SIGNAL Up(Integer), Down; SIGNALROUTE r FROM ENV TO Q WITH Up; PROCESS P; START; NEXTSTATE A; STATE A; ENDSTATE; ENDPROCESS; ENDBLOCK;",
-            "S2 UnknownName 61",
+            "BLOCK B; PROCESS P; TIMER T; START; STOP; ENDPROCESS; SIGNAL t; ENDBLOCK;",
+            "S1 DoubleName 26",
         ),
         (
-            "BLOCK B; SIGNAL Up(Integer), Down; PROCESS P; DCL a Integer; START; TASK a := k; NEXTSTATE A; STATE A; ENDSTATE; ENDPROCESS; ENDBLOCK;",
-            "S2 UnknownName 78",
+            "BLOCK B; SIGNAL Up, Down; PROCESS P; START; STOP; STATE A; INPUT Up; STOP; SAVE Down, UP; ENDPROCESS; ENDBLOCK;",
+            "S1 DoubleName 86",
         ),
         (
-            "BLOCK B; SIGNAL Up(Integer), Down; PROCESS P; START; NEXTSTATE A; STATE A; INPUT Left; NEXTSTATE A; ENDSTATE; ENDPROCESS; ENDBLOCK;",
-            "S2 UnknownName 81",
+            "BLOCK B; PROCESS P; START; STOP; STATE A, C; SAVE zz; STATE A; SAVE zz; ENDPROCESS; ENDBLOCK;",
+            "S1 DoubleName 68",
         ),
         (
-            "BLOCK B; SIGNAL Up(Integer), Down; PROCESS P; START; NEXTSTATE A; STATE A; INPUT Down(k); NEXTSTATE A; ENDSTATE; ENDPROCESS; ENDBLOCK;",
-            "S2 UnknownName 86",
+            "BLOCK B; SIGNAL Up; PROCESS P; START; STOP; STATE A, A; INPUT Up; STOP; SAVE zz, ZZ; ENDPROCESS; ENDBLOCK;",
+            "S1 DoubleName 62",
         ),
         (
-            "BLOCK B; SIGNAL Up(Integer), Down; PROCESS P; DCL a Integer; START; NEXTSTATE A; STATE A; INPUT Up(a, a); NEXTSTATE A; ENDSTATE; ENDPROCESS; ENDBLOCK;",
-            "S3 WrongSort 96",
+            "BLOCK B; SIGNAL Up; PROCESS P; TIMER T; DCL T Integer; START; NEXTSTATE C; STATE A, A; STATE A, C; INPUT Up; STOP; STATE A; SAVE T; ENDPROCESS; CONNECT c AND d; ENDBLOCK;",
+            "sound",
         ),
         (
-            "BLOCK B; SIGNAL Up(Integer), Down; PROCESS P; START; NEXTSTATE A; STATE A; INPUT Down(); NEXTSTATE A; ENDSTATE; ENDPROCESS; ENDBLOCK;",
-            "S3 WrongSort 81",
+            "BLOCK B; SIGNAL Up; SIGNALROUTE r FROM ENV TO Q WITH Up; PROCESS P; START; STOP; ENDPROCESS; ENDBLOCK;",
+            "S2 UnknownName 46",
         ),
         (
-            "BLOCK B; SIGNAL Up(Integer), Down; PROCESS P; START; NEXTSTATE C; STATE A; ENDSTATE; ENDPROCESS; ENDBLOCK;",
+            "BLOCK B; PROCESS P; DCL a Integer; START; TASK a := k; STOP; ENDPROCESS; ENDBLOCK;",
+            "S2 UnknownName 52",
+        ),
+        (
+            "BLOCK B; SIGNAL Up; PROCESS P; START; STOP; STATE A; SAVE Up, P; ENDPROCESS; ENDBLOCK;",
+            "S2 UnknownName 62",
+        ),
+        (
+            "BLOCK B; SIGNAL Up; PROCESS P; START; STOP; STATE A; INPUT Up(, k); STOP; ENDPROCESS; ENDBLOCK;",
+            "S2 UnknownName 64",
+        ),
+        (
+            "BLOCK B; SIGNAL Up; PROCESS P; START; OUTPUT Up TO Q; STOP; ENDPROCESS; ENDBLOCK;",
+            "S2 UnknownName 51",
+        ),
+        (
+            "BLOCK B; SIGNAL Up(Integer); PROCESS P; START; OUTPUT Up(k), Down; STOP; ENDPROCESS; ENDBLOCK;",
+            "S2 UnknownName 57",
+        ),
+        (
+            "BLOCK B; SIGNAL Up; PROCESS P; TIMER T; START; RESET(T); SET(NOW + 1, Up); STOP; ENDPROCESS; ENDBLOCK;",
+            "S2 UnknownName 70",
+        ),
+        (
+            "BLOCK B; PROCESS P; START; NEXTSTATE C; STATE A; ENDPROCESS; ENDBLOCK;",
+            "S4 NoState 27",
+        ),
+        (
+            "BLOCK B; PROCESS P; TIMER T; START; RESET(T); STATE A; ENDPROCESS; ENDBLOCK;",
+            "S4 NoState 29",
+        ),
+        (
+            "BLOCK B; SIGNAL Up; PROCESS P; START; STOP; STATE A; INPUT Up; ENDPROCESS; ENDBLOCK;",
             "S4 NoState 53",
         ),
         (
-            "BLOCK B; SIGNAL Up(Integer), Down; PROCESS P; START; STATE A; ENDSTATE; ENDPROCESS; ENDBLOCK;",
-            "S4 NoState 46",
-        ),
-        (
-            "BLOCK B; SIGNAL Up(Integer), Down; PROCESS P; START; NEXTSTATE A; STATE A; INPUT Up; ENDSTATE; ENDPROCESS; ENDBLOCK;",
-            "S4 NoState 75",
-        ),
-        (
-            "BLOCK B; SIGNAL s(Integer, Integer, Integer, Integer, Integer); PROCESS P; START; NEXTSTATE A; STATE A; ENDSTATE; ENDPROCESS; ENDBLOCK;",
+            "BLOCK B; SIGNAL s(Integer, Integer, Integer, Integer, Integer); ENDBLOCK;",
             "S10 Limit Params",
+        ),
+    ];
+    assert_eq!(rt; wrong(rt.alloc(), rows.as_slice())?.as_str(), "");
+    Ok(())
+}
+
+#[test]
+fn sorts_receivers_and_divisors(rt: HostRuntime) -> Result<(), Fail> {
+    let rows = [
+        (
+            "BLOCK B; SIGNAL A(Integer), C; PROCESS P; DCL x Integer, b Boolean; START; TASK x := b; STOP; ENDPROCESS; ENDBLOCK;",
+            "S3 WrongSort 80",
+        ),
+        (
+            "BLOCK B; SIGNAL A(Integer), C; PROCESS P; DCL x Integer; START; TASK x := 1, x := x + (TRUE); STOP; ENDPROCESS; ENDBLOCK;",
+            "S3 WrongSort 86",
+        ),
+        (
+            "BLOCK B; SIGNAL A(Integer), C; PROCESS P; DCL b Boolean; START; TASK b := (b = TRUE) /= NOT b, b := b = 1; STOP; ENDPROCESS; ENDBLOCK;",
+            "S3 WrongSort 104",
+        ),
+        (
+            "BLOCK B; SIGNAL A(Integer), C; PROCESS P; DCL b Boolean; START; TASK b := NOT b AND (2 * 1); STOP; ENDPROCESS; ENDBLOCK;",
+            "S3 WrongSort 84",
+        ),
+        (
+            "BLOCK B; SIGNAL A(Integer), C; PROCESS P; DCL x Integer; START; TASK x := 1 / TRUE; STOP; ENDPROCESS; ENDBLOCK;",
+            "S3 WrongSort 78",
+        ),
+        (
+            "BLOCK B; SIGNAL A(Integer), C; PROCESS P; DCL x Integer, b Boolean := 1; START; STOP; ENDPROCESS; ENDBLOCK;",
+            "S3 WrongSort 70",
+        ),
+        (
+            "BLOCK B; SIGNAL A(Integer), C; PROCESS P; START; OUTPUT A; STOP; ENDPROCESS; ENDBLOCK;",
+            "S3 WrongSort 56",
+        ),
+        (
+            "BLOCK B; SIGNAL A(Integer), C; PROCESS P; START; OUTPUT A(TRUE); STOP; ENDPROCESS; ENDBLOCK;",
+            "S3 WrongSort 58",
+        ),
+        (
+            "BLOCK B; SIGNAL A(Integer), C; PROCESS P; TIMER T; START; SET(NOW + FALSE, T); STOP; ENDPROCESS; ENDBLOCK;",
+            "S3 WrongSort 68",
+        ),
+        (
+            "BLOCK B; SIGNAL A(Integer), C; PROCESS P; START; STOP; STATE S; INPUT C(); STOP; ENDPROCESS; ENDBLOCK;",
+            "S3 WrongSort 70",
+        ),
+        (
+            "BLOCK B; SIGNAL A(Integer), C; PROCESS P; DCL b Boolean; START; STOP; STATE S; INPUT A(b); STOP; ENDPROCESS; ENDBLOCK;",
+            "S3 WrongSort 87",
+        ),
+        (
+            "BLOCK B; SIGNAL A(Integer), C; PROCESS P; TIMER T; DCL x Integer; START; STOP; STATE S; INPUT A(x), T(x); STOP; ENDPROCESS; ENDBLOCK;",
+            "S3 WrongSort 100",
+        ),
+        (
+            "BLOCK B; SIGNAL A(Integer), C; PROCESS P; START; OUTPUT C; STOP; ENDPROCESS; ENDBLOCK;",
+            "S5 NoReceiver 56",
+        ),
+        (
+            "BLOCK B; SIGNAL A, C; SIGNALROUTE r FROM ENV TO P WITH A; FROM P TO ENV WITH C; SIGNALROUTE s FROM Q TO P WITH A; PROCESS Q; START; STOP; ENDPROCESS; PROCESS P; TIMER T; START; OUTPUT C TO P; STOP; ENDPROCESS; ENDBLOCK;",
+            "S5 NoReceiver 184",
+        ),
+        (
+            "BLOCK B; SIGNAL A, C; SIGNALROUTE r FROM ENV TO P WITH A; FROM P TO ENV WITH C; SIGNALROUTE s FROM Q TO P WITH A; PROCESS Q; START; STOP; ENDPROCESS; PROCESS P; TIMER T; START; OUTPUT C TO SENDER; STOP; ENDPROCESS; ENDBLOCK;",
+            "S5 NoReceiver 184",
+        ),
+        (
+            "BLOCK B; SIGNAL A, C; SIGNALROUTE r FROM ENV TO P WITH A; FROM P TO ENV WITH C; SIGNALROUTE s FROM Q TO P WITH A; PROCESS Q; START; STOP; ENDPROCESS; PROCESS P; TIMER T; START; STOP; STATE S; INPUT A; OUTPUT C TO SENDER; STOP; ENDPROCESS; ENDBLOCK;",
+            "S5 NoReceiver 208",
+        ),
+        (
+            "BLOCK B; SIGNAL A, C; SIGNALROUTE r FROM ENV TO P WITH A; FROM P TO ENV WITH C; SIGNALROUTE s FROM Q TO P WITH A; PROCESS Q; START; STOP; ENDPROCESS; PROCESS P; TIMER T; START; STOP; STATE S; INPUT C, T; OUTPUT C TO SENDER; STOP; ENDPROCESS; ENDBLOCK;",
+            "S5 NoReceiver 211",
+        ),
+        (
+            "BLOCK B; SIGNAL A, C; SIGNALROUTE r FROM ENV TO P WITH A; FROM P TO ENV WITH C; SIGNALROUTE s FROM Q TO P WITH A; PROCESS Q; START; STOP; ENDPROCESS; PROCESS P; TIMER T; START; OUTPUT C; STOP; STATE S; INPUT C; OUTPUT C TO SENDER; STOP; ENDPROCESS; ENDBLOCK;",
+            "sound",
+        ),
+        (
+            "BLOCK B; SIGNAL A, C; SIGNALROUTE r FROM ENV TO P WITH A; FROM P TO ENV WITH C; SIGNALROUTE s FROM Q TO P WITH A; FROM P TO Q WITH C; PROCESS Q; START; STOP; ENDPROCESS; PROCESS P; TIMER T; START; OUTPUT C TO q; STOP; STATE S; INPUT A; OUTPUT C TO SENDER; STOP; ENDPROCESS; ENDBLOCK;",
+            "sound",
+        ),
+        (
+            "BLOCK B; SIGNAL A, C; SIGNALROUTE r FROM ENV TO P WITH A; FROM P TO ENV WITH C; SIGNALROUTE s FROM Q TO P WITH A; FROM P TO Q WITH C; PROCESS Q; START; STOP; ENDPROCESS; PROCESS P; TIMER T; START; OUTPUT C; STOP; ENDPROCESS; ENDBLOCK;",
+            "S6 TwoReceivers 204",
+        ),
+        (
+            "BLOCK B; SIGNAL A, C; SIGNALROUTE r FROM ENV TO P WITH A; FROM P TO ENV WITH C; SIGNALROUTE s FROM Q TO P WITH A; FROM P TO ENV WITH c, C; PROCESS Q; START; STOP; ENDPROCESS; PROCESS P; TIMER T; START; OUTPUT C; STOP; ENDPROCESS; ENDBLOCK;",
+            "sound",
+        ),
+        (
+            "BLOCK B; SIGNAL A(Integer), C; PROCESS P; DCL x Integer; START; TASK x := 7 / (1), x := (x / 2) MOD (1 + 1); STOP; ENDPROCESS; ENDBLOCK;",
+            "S9 BadDivisor 100",
+        ),
+        (
+            "BLOCK B; SIGNAL A(Integer), C; PROCESS P; DCL x Integer; START; TASK x := 7 REM 0; STOP; ENDPROCESS; ENDBLOCK;",
+            "S9 BadDivisor 80",
+        ),
+        (
+            "BLOCK B; SIGNAL A(Integer), C; PROCESS P; DCL x Integer; START; TASK x := 7 MOD (-2); STOP; ENDPROCESS; ENDBLOCK;",
+            "S9 BadDivisor 80",
+        ),
+        (
+            "BLOCK B; SIGNAL A(Integer); SIGNALROUTE r FROM P TO ENV WITH A; PROCESS P; DCL m, n Integer; START; TASK m := 1; OUTPUT A(m), A(n); STOP; ENDPROCESS; ENDBLOCK;",
+            "S11 Unset n START",
         ),
     ];
     assert_eq!(rt; wrong(rt.alloc(), rows.as_slice())?.as_str(), "");
@@ -201,6 +343,12 @@ fn variables_that_are_read_unset(rt: HostRuntime) -> Result<(), Fail> {
             "S11 Unset n START",
         ),
         ("DCL n Integer;", "TASK n := 1, n := n + 1;", "", "sound"),
+        (
+            "DCL n Integer; TIMER T;",
+            "SET(NOW + n, T);",
+            "",
+            "S11 Unset n START",
+        ),
         (
             "DCL m, n Integer;",
             "",
@@ -248,41 +396,19 @@ fn variables_that_are_read_unset(rt: HostRuntime) -> Result<(), Fail> {
     Ok(())
 }
 
-/// The answer to the block of one text, with the process of another one behind its own.
-fn joined_answer(alloc: Global, text: &str, other: &str) -> Result<String, Fail> {
-    let found = tokens(alloc, text)?;
-    let mut block = parse(alloc, found.as_slice())?;
-    let more = tokens(alloc, other)?;
-    let mut other_block = parse(alloc, more.as_slice())?;
-    let process = other_block.entities.pop().ok_or("a process")?;
-    block.entities.push(process)?;
-    match resolve(alloc, &block) {
-        Ok(_) => Ok(String::from_str(alloc, "sound")?),
-        Err(fault) => printed(alloc, &fault),
-    }
-}
-
 #[test]
 fn over_all_processes(rt: HostRuntime) -> Result<(), Fail> {
-    let alloc = rt.alloc();
-    let first =
-        "BLOCK B; PROCESS P; DCL a Integer; START; TASK a := a; NEXTSTATE A; STATE A; ENDSTATE; ENDPROCESS; ENDBLOCK;";
-    let second =
-        "BLOCK B; PROCESS Q; DCL b Integer; START; TASK b := b; NEXTSTATE A; STATE A; ENDSTATE; ENDPROCESS; ENDBLOCK;";
-    assert_eq!(rt;
-        joined_answer(alloc, first, second)?.as_str(),
-        "S11 Unset a START"
-    );
-    let later = process_text(
-        alloc,
-        "DCL c Integer;",
-        "",
-        "INPUT Up; TASK c := c; NEXTSTATE Run;",
-    )?;
-    assert_eq!(rt;
-        joined_answer(alloc, later.as_str(), second)?.as_str(),
-        "S11 Unset b START"
-    );
+    let rows = [
+        (
+            "BLOCK B; PROCESS P; DCL a Integer; START; TASK a := a; STOP; ENDPROCESS; PROCESS Q; DCL b Integer; START; TASK b := b; STOP; ENDPROCESS; ENDBLOCK;",
+            "S11 Unset a START",
+        ),
+        (
+            "BLOCK B; SIGNAL Up; PROCESS P; DCL a Integer; START; NEXTSTATE A; STATE A; INPUT Up; TASK a := a; STOP; ENDPROCESS; PROCESS Q; DCL b Integer; START; TASK b := b; STOP; ENDPROCESS; ENDBLOCK;",
+            "S11 Unset b START",
+        ),
+    ];
+    assert_eq!(rt; wrong(rt.alloc(), rows.as_slice())?.as_str(), "");
     Ok(())
 }
 
@@ -317,6 +443,12 @@ fn limits(rt: HostRuntime) -> Result<(), Fail> {
     assert_eq!(rt;
         start_answer(alloc, "1; TASK n := ", "", 254)?.as_str(),
         "S10 Limit Piece"
+    );
+    assert_eq!(rt; resets_answer(alloc, 32)?.as_str(), "sound");
+    assert_eq!(rt; resets_answer(alloc, 33)?.as_str(), "S10 Limit Effects");
+    assert_eq!(rt;
+        start_answer(alloc, "1 / 2; TASK n := ", "", 169)?.as_str(),
+        "sound"
     );
     assert_eq!(rt; start_answer(alloc, "1 - (", ")", 15)?.as_str(), "sound");
     assert_eq!(rt;
