@@ -1,5 +1,5 @@
 -- The sort of the variable with a name, pairs of what stands at one place of two lists, and the actions of a text.
-use Rattle.std.proofs.Common.{◌≡◌, ℕ, zero, suc, ◌+◌, ◌<◌, ◌≤◌, Bool, true, false, cond, nat_lt, List, [], ◌∷◌, ◌++◌, map, length, take, zip, Option, None, Some, slice_get, find, get_or, refl, sym, ap, ◌∙◌, subst, arith}
+use Rattle.std.proofs.Common.{◌≡◌, ℕ, zero, suc, ◌+◌, ◌<◌, ◌≤◌, Bool, true, false, cond, nat_lt, List, [], ◌∷◌, ◌++◌, map, length, take, zip, Option, None, Some, slice_get, find, get_or, refl, sym, ap, ◌∙◌, arith}
 use Rattle.std.specs.List.{flat_map, position_or_len, prefix_len}
 use Rattle.std.specs.Option.{option_map, option_map_or, option_and_then}
 use Rattle.std.specs.Prelude.{position, not}
@@ -9,9 +9,8 @@ use Rattle.std.proofs.lemmas.Option.{slice_get_past, slice_get-get_or}
 use Rattle.std.proofs.lemmas.Grind.{flat_map-append}
 use Rattle.std.proofs.lemmas.Bool.Decides.{leb_tells}
 use Rattle.sdl_tree.specs.declared.expression.Identifier.{Identifier}
-use Rattle.sdl_tree.specs.declared.tree.Sort.{Sort}
 use Rattle.sdl_tree.specs.declared.tree.End.{End}
-use Rattle.sdl_tree.specs.Plain.{PlainAction, Text}
+use Rattle.sdl_tree.specs.Plain.{PlainAction}
 use Rattle.sdl_tree.specs.Views.{does_all, end_text}
 use Rattle.sdl_tables.specs.Names.{same_name, number_of, Variable}
 use Rattle.sdl_tables.specs.Rows.{variable_of}

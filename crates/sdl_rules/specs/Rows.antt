@@ -1,5 +1,5 @@
 -- What is measured of a piece, and the actions of a transition as the code has them.
-use Rattle.std.specs.Prelude.{ℕ, Bool, List, [], ◌∷◌, map, max, nat_lt}
+use Rattle.std.specs.Prelude.{ℕ, Bool, List, [], ◌∷◌, max, nat_lt}
 use Rattle.sdl_tree.specs.Plain.{PlainAction}
 use Rattle.sdl_rules.specs.Longest.{action_depth, Piece, piece_size, piece_depth, piece_effects}
 use Rattle.sdl_rules.specs.declared.limits.Measure.{Measure}

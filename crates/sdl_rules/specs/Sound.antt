@@ -1,7 +1,7 @@
 -- What makes a block sound: the rules that it may break, each with the places where it breaks them.
-use Rattle.std.specs.Prelude.{◌≡◌, ℕ, Bool, false, List, [], ◌∷◌, ◌++◌, Option, None, Some, if◌then◌else◌, map, length, nat_lt, find, sum_by, slice_get, Contains, ⊤}
+use Rattle.std.specs.Prelude.{ℕ, Bool, List, [], ◌∷◌, ◌++◌, Option, None, Some, if◌then◌else◌, length, nat_lt, find, sum_by}
 use Rattle.std.specs.List.{list_any, flat_map}
-use Rattle.std.specs.Option.{option_map_or, option_to_list}
+use Rattle.std.specs.Option.{option_to_list}
 use Rattle.sdl_tree.specs.declared.expression.Identifier.{Identifier}
 use Rattle.sdl_tree.specs.declared.tree.Destination.{Destination}
 use Rattle.sdl_tree.specs.declared.tree.Destination.TheVariants.{Sender, Process as To}
@@ -9,11 +9,9 @@ use Rattle.sdl_tree.specs.declared.tree.Party.{Party}
 use Rattle.sdl_tree.specs.declared.tree.Party.TheVariants.{Environment, Process}
 use Rattle.sdl_tree.specs.declared.tree.End.TheVariants.{NextState, Stop}
 use Rattle.sdl_tree.specs.Plain.{Tree, number, truth, variable, unary, binary, PlainAssignment, PlainSending, PlainAction, task, output, set_timer, reset_timer, Text, falls, ends, does, PlainStimulus, PlainInput, PlainState, PlainProcess, PlainPath, PlainRoute, PlainBlock}
-use Rattle.sdl_tables.specs.Names.{is_in, signals_of, routes_of, processes_of, signal_names, route_names, process_names, signal_named, variables_of, variable_names, timers_of, states_of, input_parts, part_saves}
+use Rattle.sdl_tables.specs.Names.{is_in, signals_of, routes_of, processes_of, signal_names, process_names, variables_of, variable_names, timers_of, states_of, input_parts, part_saves}
 use Rattle.sdl_rules.specs.Longest.{pieces_of, piece_size, piece_depth, piece_effects}
 use Rattle.sdl_rules.specs.declared.fault.Limit.{Limit}
-use Rattle.sdl_tables.specs.declared.fault.TableFault.{TableFault}
-use Rattle.sdl_tables.specs.declared.fault.TableFault.TheVariants.{DoubleName, NoMemory}
 use Rattle.sdl_rules.specs.declared.fault.Limit.TheVariants.{Processes, States, Variables, Timers, Signals, Params, Pieces, Piece as PieceSize, Depth, Effects}
 
 -- ---- S2: a name that its class and scope lack. A state after NEXTSTATE is not asked for here.

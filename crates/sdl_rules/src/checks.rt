@@ -8,10 +8,7 @@ ghost use Rattle.sdl_tables.specs.Names.{is_in, process_names, signal_names, var
 ghost use Rattle.sdl_rules.specs.Sound.{unknown, party_names, path_unknown, route_unknown, tree_names, assignment_names, sending_unknown, destination_names, action_unknown, text_unknown, trigger_names, saves_unknown, place_names, stimulus_unknown, input_unknown, process_unknown, unknown_names, strays, input_strays, process_strays, stray_ends};
 ghost use Rattle.sdl_tables.specs.Scopes.{Marks};
 
-use sdl_tables::BlockTable;
-use sdl_tables::NameTable;
-use sdl_tables::ProcessTable;
-use sdl_tables::earlier;
+use sdl_tables::{BlockTable, NameTable, ProcessTable, earlier};
 use sdl_tree::{
     Action, Assignment, Destination, End, Entity, Expression, Identifier, InputPart, NextState,
     Output, Party, Path, Sending, SetTimer, StateClause, StatePart, Stimulus, Transition,
@@ -123,11 +120,7 @@ fn unknown_in_expressions(names: &NameTable, expressions: &[Expression]) -> Opti
     place
 }
 
-fn unknown_in_sending(
-    block: &BlockTable,
-    process: &ProcessTable,
-    sending: &Sending,
-) -> Option<u32>
+fn unknown_in_sending(block: &BlockTable, process: &ProcessTable, sending: &Sending) -> Option<u32>
     ensures { Marks result (sending_unknown (block_of block.now) (process_of process.now) (sending_of sending.now)) }
 {
     let signal = missing(block.signals(), sending.signal);
@@ -187,11 +180,7 @@ fn unknown_in_action(block: &BlockTable, process: &ProcessTable, action: &Action
     }
 }
 
-fn unknown_in_actions(
-    block: &BlockTable,
-    process: &ProcessTable,
-    actions: &[Action],
-) -> Option<u32>
+fn unknown_in_actions(block: &BlockTable, process: &ProcessTable, actions: &[Action]) -> Option<u32>
     ensures { Marks result (flat_map (action_unknown (block_of block.now) (process_of process.now)) (map action_of actions.now)) }
 {
     let mut place = None;
@@ -255,11 +244,7 @@ fn unknown_in_saves(
     place
 }
 
-fn unknown_in_parts(
-    block: &BlockTable,
-    process: &ProcessTable,
-    parts: &[StatePart],
-) -> Option<u32>
+fn unknown_in_parts(block: &BlockTable, process: &ProcessTable, parts: &[StatePart]) -> Option<u32>
     ensures { Marks result (flat_map (saves_unknown (block_of block.now) (process_of process.now)) (map state_of parts.now)) }
 {
     let mut place = None;
@@ -346,7 +331,10 @@ fn unknown_in_process(block: &BlockTable, process: &ProcessTable) -> Option<u32>
     let text = process.process();
     let start = unknown_in_transition(block, process, &text.start.transition);
     let inputs = unknown_in_inputs(block, process, process.parts());
-    earlier(start, earlier(inputs, unknown_in_parts(block, process, &text.states)))
+    earlier(
+        start,
+        earlier(inputs, unknown_in_parts(block, process, &text.states)),
+    )
 }
 
 fn unknown_in_processes(block: &BlockTable, processes: &[ProcessTable]) -> Option<u32>

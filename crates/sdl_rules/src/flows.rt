@@ -10,8 +10,8 @@ ghost use Rattle.sdl_rules.specs.Paths.{Event, reads, sets, tree_events, assignm
 ghost use Rattle.sdl_rules.specs.Flows.{Tells, Does, place_events, target, passages_to, AreSummariesOf};
 ghost use Rattle.sdl_rules.specs.Graphs.{IsSummaryOf, IsGraphOf};
 
-use sdl_tables::{InputRow, ProcessTable, Variable};
 use sdl_lex::Name;
+use sdl_tables::{InputRow, ProcessTable, Variable};
 use sdl_tree::{Action, Assignment, End, Expression, Identifier, Sending, Transition};
 use std::alloc::{AllocError, Global};
 use unset_paths::{Graph, Passage, Summary};

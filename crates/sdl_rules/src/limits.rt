@@ -8,11 +8,11 @@ ghost use Rattle.sdl_rules.specs.Rows.{actions_depth, piece_passes};
 ghost use Rattle.sdl_tables.specs.Rows.{row_input, rows_inputs};
 ghost use Rattle.sdl_rules.specs.Sound.{exceeds, counts, measures, first_limit};
 
-use sdl_tables::BlockTable;
 use crate::fault::Limit;
-use sdl_tables::{InputRow, ProcessTable};
+use sdl_tables::{BlockTable, InputRow, ProcessTable};
 use sdl_tree::{
-    Action, Assignment, BinaryOperator, Expression, Identifier, Sending, SignalDeclaration, Transition,
+    Action, Assignment, BinaryOperator, Expression, Identifier, Sending, SignalDeclaration,
+    Transition,
 };
 
 // Whether the right operand stands in the instruction itself.
@@ -41,7 +41,11 @@ fn cost(expression: &Expression) -> u32
             right,
             ..
         } => {
-            let second = if is_division(*operator) { 0 } else { cost(right) };
+            let second = if is_division(*operator) {
+                0
+            } else {
+                cost(right)
+            };
             cost(left).saturating_add(second).saturating_add(1)
         }
     }
@@ -61,7 +65,11 @@ fn depth(expression: &Expression) -> u32
             right,
             ..
         } => {
-            let second = if is_division(*operator) { 0 } else { depth(right).saturating_add(1) };
+            let second = if is_division(*operator) {
+                0
+            } else {
+                depth(right).saturating_add(1)
+            };
             depth(left).max(second)
         }
     }

@@ -150,13 +150,7 @@ pub fn find_receivers(block: &BlockTable, from: &Party, signal: Name) -> Recipie
 }
 
 // Whether who may have sent an input by a path gets a signal back.
-fn path_answers(
-    block: &BlockTable,
-    own: &Party,
-    signal: Name,
-    input: Name,
-    path: &Path,
-) -> bool
+fn path_answers(block: &BlockTable, own: &Party, signal: Name, input: Name, path: &Path) -> bool
     ensures { result ≡ list_all (λ q. carries (block_of block.now) own.now q signal) (path_senders own.now input (path_of path.now)) }
 {
     if same_party(own, &path.to) && is_among(&path.signals, input) {
@@ -166,13 +160,7 @@ fn path_answers(
     }
 }
 
-fn paths_answer(
-    block: &BlockTable,
-    own: &Party,
-    signal: Name,
-    input: Name,
-    paths: &[Path],
-) -> bool
+fn paths_answer(block: &BlockTable, own: &Party, signal: Name, input: Name, paths: &[Path]) -> bool
     ensures { result ≡ list_all (λ q. carries (block_of block.now) own.now q signal) (flat_map (path_senders own.now input) (map path_of paths.now)) }
 {
     let mut all = true;

@@ -5,14 +5,12 @@ ghost use Rattle.sdl_tables.specs.Names.{signal_names, signals_of, process_names
 ghost use Rattle.sdl_rules.specs.Surveys.{AllSettled};
 ghost use Rattle.sdl_rules.specs.Refusals.{Sound, Refuses};
 
-use sdl_tables::BlockTable;
 use crate::actions::{bad_divisor, doubtful_output, lost_output, wrong_sort};
 use crate::checks::{stray_end, unknown_name};
 use crate::fault::RuleFault;
 use crate::limits::first_limit;
-use sdl_tables::NameTable;
-use sdl_tables::ProcessTable;
 use crate::settled::{Unset, settle};
+use sdl_tables::{BlockTable, NameTable, ProcessTable};
 use sdl_tree::{Block, Route, SignalDeclaration};
 use std::alloc::Global;
 use std::marker::Model;

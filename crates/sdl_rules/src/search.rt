@@ -9,11 +9,10 @@ ghost use Rattle.unset_paths.specs.declared.Step as number;
 ghost use Rattle.unset_paths.specs.declared.Step.TheVariants.{Input as By};
 ghost use Rattle.unset_paths.specs.declared.Fate.TheVariants.{Unset as Path};
 
-use sdl_tables::BlockTable;
 use crate::fault::{ControlPath, Step};
 use crate::flows::graph_of;
-use sdl_tables::ProcessTable;
 use sdl_lex::Name;
+use sdl_tables::{BlockTable, ProcessTable};
 use sdl_tree::{Action, Assignment, Expression, Sending, Transition};
 use std::alloc::{AllocError, Global};
 use std::cmp::Ordering;

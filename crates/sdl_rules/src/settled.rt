@@ -5,12 +5,11 @@ ghost use Rattle.sdl_tables.specs.Names.{variables_of, processes_of};
 ghost use Rattle.sdl_rules.specs.Sound.{process_unknown};
 ghost use Rattle.sdl_rules.specs.Surveys.{IsSurvey, AreSurveys};
 
-use sdl_tables::BlockTable;
 use crate::fault::ControlPath;
-use sdl_tables::ProcessTable;
 use crate::search::{find_fates, find_first, named_path, path_at};
 use crate::sets::sets_in;
 use sdl_lex::Name;
+use sdl_tables::{BlockTable, ProcessTable};
 use std::alloc::{AllocError, Global};
 
 /// A variable that a control path reads before it is set.

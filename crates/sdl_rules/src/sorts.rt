@@ -142,7 +142,9 @@ fn wrong_in(process: &ProcessTable, expression: &Expression) -> Option<u32>
         Expression::Truth { .. } => None,
         Expression::Variable { .. } => None,
         Expression::Unary {
-            operator, operand, ..
+            operator,
+            operand,
+            ..
         } => {
             let inside = wrong_in(process, operand);
             earlier(
@@ -265,11 +267,18 @@ fn wrong_sending(block: &BlockTable, process: &ProcessTable, sending: &Sending) 
     let sorts = parameter_sorts(block, sending.signal.name);
     let number = wrong_number(sorts, sending);
     let inside = wrong_in_all(process, &sending.parameters);
-    let beyond = earlier(inside, wrong_parameters(process, sorts, &sending.parameters));
+    let beyond = earlier(
+        inside,
+        wrong_parameters(process, sorts, &sending.parameters),
+    );
     earlier(number, beyond)
 }
 
-fn wrong_in_sendings(block: &BlockTable, process: &ProcessTable, sendings: &[Sending]) -> Option<u32>
+fn wrong_in_sendings(
+    block: &BlockTable,
+    process: &ProcessTable,
+    sendings: &[Sending],
+) -> Option<u32>
     ensures { Marks result (flat_map (wrong_sending (block_of block.now) (variables_of (process_of process.now))) (map sending_of sendings.now)) }
 {
     let mut place = None;
@@ -280,7 +289,11 @@ fn wrong_in_sendings(block: &BlockTable, process: &ProcessTable, sendings: &[Sen
 }
 
 /// The place of a wrong sort in an action.
-pub(crate) fn wrong_in_action(block: &BlockTable, process: &ProcessTable, action: &Action) -> Option<u32>
+pub(crate) fn wrong_in_action(
+    block: &BlockTable,
+    process: &ProcessTable,
+    action: &Action,
+) -> Option<u32>
     ensures { Marks result (wrong_action (block_of block.now) (variables_of (process_of process.now)) (action_of action.now)) }
 {
     match action {

@@ -129,10 +129,7 @@ fn start_answer(alloc: Global, first: &str, second: &str, count: u32) -> Result<
 #[test]
 fn each_text_has_its_refusal(rt: HostRuntime) -> Result<(), Fail> {
     let rows = [
-        (
-            "BLOCK B; SIGNAL Up, uP; ENDBLOCK;",
-            "S1 DoubleName 20",
-        ),
+        ("BLOCK B; SIGNAL Up, uP; ENDBLOCK;", "S1 DoubleName 20"),
         (
             "BLOCK B; PROCESS P; DCL k, K Integer; START; STOP; ENDPROCESS; ENDBLOCK;",
             "S1 DoubleName 27",
@@ -154,7 +151,7 @@ fn each_text_has_its_refusal(rt: HostRuntime) -> Result<(), Fail> {
             "S1 DoubleName 68",
         ),
         (
-            "BLOCK B; SIGNAL Up; PROCESS P; START; STOP; STATE A, A; INPUT Up; STOP; ENDPROCESS; ENDBLOCK;",
+            "BLOCK B; SIGNAL Up; PROCESS P; START; STOP; STATE A, A; INPUT Up; STOP; SAVE zz, ZZ; ENDPROCESS; ENDBLOCK;",
             "S1 DoubleName 62",
         ),
         (
@@ -449,7 +446,10 @@ fn limits(rt: HostRuntime) -> Result<(), Fail> {
     );
     assert_eq!(rt; resets_answer(alloc, 32)?.as_str(), "sound");
     assert_eq!(rt; resets_answer(alloc, 33)?.as_str(), "S10 Limit Effects");
-    assert_eq!(rt; start_answer(alloc, "1 / 2; TASK n := ", "", 169)?.as_str(), "sound");
+    assert_eq!(rt;
+        start_answer(alloc, "1 / 2; TASK n := ", "", 169)?.as_str(),
+        "sound"
+    );
     assert_eq!(rt; start_answer(alloc, "1 - (", ")", 15)?.as_str(), "sound");
     assert_eq!(rt;
         start_answer(alloc, "1 - (", ")", 16)?.as_str(),

@@ -1,4 +1,3 @@
-use Rattle.std.proofs.Common.{arith}
 use Rattle.sdl_tree.specs.Views.{block_of, process_of}
 use Rattle.sdl_rules.specs.Sound.{process_unknown}
 use Rattle.sdl_rules.proofs.Places.{Marks-more}
