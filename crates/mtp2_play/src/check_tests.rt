@@ -143,7 +143,7 @@ PROCESS P; ";
 #[test]
 fn prints_what_processes_cost(rt: HostRuntime) -> Result<(), Fail> {
     for (body, lines) in BODIES {
-        let text = format!(rt.alloc(), "{HEAD}{body} ENDPROCESS; ENDBLOCK;")?;
+        let text = format!(in rt.alloc(); "{HEAD}{body} ENDPROCESS; ENDBLOCK;")?;
         let (written, _) = checked(rt.alloc(), text.as_bytes(), 9);
         assert_eq!(rt; written.as_slice(), lines.as_bytes(), "{body}");
     }
