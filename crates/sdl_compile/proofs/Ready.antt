@@ -71,7 +71,7 @@ small_piece q e f g =
     let h = at_most 512 (piece_size q) e in
     record { budget = omega (arith, s, h); depth = at_most 16 (piece_depth q) f; effects = at_most 32 (piece_effects q) g }
 
-small_pieces : (qs : List Piece) → Each (λ q. nat_lt 512 (piece_size q) ≡ false) qs → Each (λ q. nat_lt 16 (piece_depth q) ≡ false) qs → Each (λ q. nat_lt 32 (piece_effects q) ≡ false) qs → Each IsSmall qs
+pub small_pieces : (qs : List Piece) → Each (λ q. nat_lt 512 (piece_size q) ≡ false) qs → Each (λ q. nat_lt 16 (piece_depth q) ≡ false) qs → Each (λ q. nat_lt 32 (piece_effects q) ≡ false) qs → Each IsSmall qs
 small_pieces [] e f g = tt
 small_pieces (q ∷ qs) e f g = (small_piece q e.0 f.0 g.0, small_pieces qs e.1 f.1 g.1)
 

@@ -20,7 +20,7 @@ use Rattle.sdl_rules.specs.Sorts.{same_sort, has_sort, have_one_sort, variable_s
 use Rattle.sdl_compile.specs.Act.{Scope, variable_at, signal_at}
 use Rattle.sdl_compile.specs.Code.{number_or_zero}
 use Rattle.sdl_compile.specs.Named.{NamedTree}
-use Rattle.sdl_compile.specs.Declarations.{sort_of_tree, drafted, drafted_signal, drafted_variables, drafted_signals}
+use Rattle.sdl_compile.specs.Declarations.{sort_of_tree, drafted, drafted_signal, drafted_variables, drafted_signals, parameters_by}
 
 -- the number of a name that is there is its place
 pub first_of_some : {A : Type 0} (p : A → Bool) (xs : List A) → IsSome (position p xs) → number_or_zero (position p xs) ≡ position_or_len p xs
@@ -138,6 +138,12 @@ unsigned_sorts b x none =
     let l = length-map ss signal_name in
     let past = none_past ss k (omega (arith, g, l)) in
     ap (λ o. option_map_or (λ (s : PlainSignal). s.parameters) o []) (found_at signal_name x ss ∙ past)
+
+pub sorts_by : (b : PlainBlock) (x : List ℕ) (ss : List DraftSignal) (ids : List Identifier) (o : Option ℕ) → ss ≡ drafted_signals b → ids ≡ signal_names b → o ≡ number_of ids x → parameters_by ss o ≡ map sort_of_tree (parameter_sorts b x)
+sorts_by b x ss ids None e f g = sym (ap (map sort_of_tree) (unsigned_sorts b x (ap (λ ids. number_of ids x) (sym f) ∙ sym g)))
+sorts_by b x ss ids (Some n) e f g =
+    let h : number_of (signal_names b) x ≡ Some n = ap (λ ids. number_of ids x) (sym f) ∙ sym g in
+    ap (λ (ss : List DraftSignal). parameters_of (slice_get ss n)) e ∙ ap (λ o. parameters_of (slice_get (drafted_signals b) (number_or_zero o))) (sym h) ∙ signal_sorted b x (subst IsSome (sym h) refl)
 
 -- ---- tests
 

@@ -292,24 +292,24 @@ zip_at R (x ∷ xs) (y ∷ ys) zero d e lt z = z.0
 zip_at R (x ∷ xs) (y ∷ ys) (suc i) d e lt z = zip_at R xs ys i d e (omega arith) z.1
 
 -- the sets of one process
-pub settled_at : (ps : List PlainProcess) (ts : List the_process.Process) (sets : List (Vec ℕ)) (i : ℕ) (t : the_process.Process) (v : Vec ℕ) (set : List ℕ) → map process_of ts ≡ ps → i < length ts
-    → t ≡ get_or ts i t → v ≡ get_or sets i v → set ≡ v.items → AllZip (λ p (v : Vec ℕ). AreSettled p v.items) ps sets → AreSettled (process_of t) set
-settled_at ps ts sets i t v set m lt e f g zips =
-    let these = zip_unmap (λ p (v : Vec ℕ). AreSettled p v.items) process_of ts sets (subst (λ ps. AllZip (λ p (v : Vec ℕ). AreSettled p v.items) ps sets) (sym m) zips) in
+pub settled_at : (all : List PlainProcess) (ts : List the_process.Process) (sets : List (Vec ℕ)) (i : ℕ) (t : the_process.Process) (v : Vec ℕ) (set : List ℕ) → map process_of ts ≡ all → i < length ts
+    → t ≡ get_or ts i t → v ≡ get_or sets i v → set ≡ v.items → AllZip (λ p (v : Vec ℕ). AreSettled p v.items) all sets → AreSettled (process_of t) set
+settled_at all ts sets i t v set m lt e f g zips =
+    let these = zip_unmap (λ p (v : Vec ℕ). AreSettled p v.items) process_of ts sets (subst (λ all. AllZip (λ p (v : Vec ℕ). AreSettled p v.items) all sets) (sym m) zips) in
     let at = zip_at (λ t (v : Vec ℕ). AreSettled (process_of t) v.items) ts sets i t v lt these in
     let first = subst (λ t. AreSettled (process_of t) (get_or sets i v).items) (sym e) at in
     let second = subst (λ (v : Vec ℕ). AreSettled (process_of t) v.items) (sym f) first in
     subst (AreSettled (process_of t)) (sym g) second
 
-pub paired : (ps : List PlainProcess) (ts : List the_process.Process) (sets : List (Vec ℕ)) → map process_of ts ≡ ps → AllZip (λ p (v : Vec ℕ). AreSettled p v.items) ps sets → length sets ≡ length ts
-paired ps ts sets m zips =
-    let e = zip_length (λ p (v : Vec ℕ). AreSettled p v.items) ps sets zips in
+pub paired : (all : List PlainProcess) (ts : List the_process.Process) (sets : List (Vec ℕ)) → map process_of ts ≡ all → AllZip (λ p (v : Vec ℕ). AreSettled p v.items) all sets → length sets ≡ length ts
+paired all ts sets m zips =
+    let e = zip_length (λ p (v : Vec ℕ). AreSettled p v.items) all sets zips in
     let f = ap length m in
     omega (arith, e, f, length-map ts process_of)
 
 -- what holds of each process holds of that in table i
-pub one_ready : (P : PlainProcess → Type 0) (ps : List PlainProcess) (ts : List the_process.Process) (i : ℕ) (t : the_process.Process) → map process_of ts ≡ ps → i < length ts → t ≡ get_or ts i t → All P ps → P (process_of t)
-one_ready P ps ts i t m lt e h = subst (λ t. P (process_of t)) (sym e) (at_place ts i t lt (subst (All P) (sym m) h))
+pub one_ready : (P : PlainProcess → Type 0) (all : List PlainProcess) (ts : List the_process.Process) (i : ℕ) (t : the_process.Process) → map process_of ts ≡ all → i < length ts → t ≡ get_or ts i t → All P all → P (process_of t)
+one_ready P all ts i t m lt e h = subst (λ t. P (process_of t)) (sym e) (at_place ts i t lt (subst (All P) (sym m) h))
   where
     at_place : (ts : List the_process.Process) (i : ℕ) (d : the_process.Process) → i < length ts → All P (map process_of ts) → P (process_of (get_or ts i d))
     at_place [] i d lt h = absurd (omega arith)

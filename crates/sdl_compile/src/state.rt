@@ -6,7 +6,7 @@ ghost use Rattle.sdl_tables.specs.Rows.{row_input, rows_inputs, row_names};
 ghost use Rattle.sdl_tables.specs.Names.{states_of};
 ghost use Rattle.sdl_tree.specs.Views.{process_of};
 ghost use Rattle.sdl_compile.specs.Scopes.{scope_in};
-ghost use Rattle.sdl_compile.specs.Declarations.{trigger_of, trigger_sorts, drafted_signals};
+ghost use Rattle.sdl_compile.specs.Declarations.{trigger_of, trigger_sorts, parameters_by, drafted_signals};
 ghost use Rattle.sdl_compile.specs.Drafts.{AllReady, IsNamedAs, MatchesInputs, SavesAll, AreReady, IsReadyInput, IsInputOf, AreInputsOf, IsTrigger, AreTriggers, AllTriggers, sets_of};
 ghost use Rattle.sdl_compile.specs.Contexts.{IsContext};
 
@@ -53,18 +53,25 @@ fn trigger(names: &Names, id: &Identifier) -> Trigger
     }
 }
 
-// The sorts of the parameters that come with what a name stands for.
-fn parameters<'a>(names: &Names, signals: &'a [DraftSignal], id: &Identifier) -> &'a [Sort]
-    requires { signals.now ≡ drafted_signals (block_of names.now.block.now) }
-    ensures { result.now ≡ trigger_sorts (scope_in names.now) id.now }
+// The sorts of the parameters of the signal with this number, if it has one.
+fn parameters_at(signals: &[DraftSignal], number: Option<usize>) -> &[Sort]
+    ensures { result.now ≡ parameters_by signals.now number }
 {
-    let Some(number) = names.block.signals().number(id.name) else {
+    let Some(number) = number else {
         return &[];
     };
     match signals.get(number) {
         Some(signal) => signal.parameters.as_slice(),
         None => &[],
     }
+}
+
+// The sorts of the parameters that come with what a name stands for.
+fn parameters<'a>(names: &Names, signals: &'a [DraftSignal], id: &Identifier) -> &'a [Sort]
+    requires { signals.now ≡ drafted_signals (block_of names.now.block.now) }
+    ensures { result.now ≡ trigger_sorts (scope_in names.now) id.now }
+{
+    parameters_at(signals, names.block.signals().number(id.name))
 }
 
 /// Compiles an input of a state that is entered with these variables set: what it waits for, and
