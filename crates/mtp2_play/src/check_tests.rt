@@ -95,6 +95,42 @@ fn prints_what_transitions_cost_and_refusals(rt: HostRuntime) -> Result<(), Fail
     Ok(())
 }
 
+/// A process that sends, sets a timer and stops.
+const KEEPER: &str = "BLOCK B; SIGNAL Up(Integer), Ask, Answer(Boolean);
+SIGNALROUTE r FROM ENV TO P WITH Up, Ask; FROM P TO ENV WITH Answer;
+PROCESS P (1,1); DCL n, total Integer; TIMER T;
+START; TASK total := 0; NEXTSTATE Run;
+STATE Run; INPUT Up(n); TASK total := total + n; SET(NOW + 5, T); NEXTSTATE Run;
+INPUT Ask; OUTPUT Answer(total MOD 2 = 0) TO SENDER; NEXTSTATE Run;
+INPUT T; OUTPUT Answer(NOT TRUE); STOP;
+ENDSTATE Run; ENDPROCESS P; ENDBLOCK B;
+";
+
+const KEPT: &str = "P START budget 3 depth 1 effects 0
+P Run/Up budget 9 depth 2 effects 1
+P Run/Ask budget 6 depth 2 effects 1
+P Run/T budget 4 depth 1 effects 1
+accepted
+";
+
+#[test]
+fn knows_timers_receivers_and_divisors(rt: HostRuntime) -> Result<(), Fail> {
+    for (old, new, lines) in [
+        ("", "", KEPT),
+        (
+            "Answer(NOT TRUE)",
+            "Up(1)",
+            "refused S5 NoReceiver line 7\n",
+        ),
+        ("MOD 2", "MOD 0", "refused S9 BadDivisor line 6\n"),
+    ] {
+        let text = KEEPER.replacen(rt.alloc(), old, new, 1)?;
+        let (written, _) = checked(rt.alloc(), text.as_bytes(), 9);
+        assert_eq!(rt; written.as_slice(), lines.as_bytes(), "{new}");
+    }
+    Ok(())
+}
+
 /// A text that ends early is no block.
 #[test]
 fn refuses_each_prefix(rt: HostRuntime) -> Result<(), Fail> {
