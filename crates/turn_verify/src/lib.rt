@@ -10,7 +10,6 @@ pub use sdl_rules::{ControlPath, Limit, RuleFault, Step};
 pub use sdl_tree::ParseFault;
 pub use turn_check::{Spot, Transition, Verified, VerifyFault, verify};
 pub use turn_code::{
-    Cert, Draft, Name, Place, ProcessNumber, Rule, SignalNumber, StateNumber, Trigger,
+    Cert, Draft, Name, Place, ProcessNumber, Rule, SignalNumber, StateNumber, TimerNumber, Trigger,
     VariableNumber,
 };
-

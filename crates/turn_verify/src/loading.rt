@@ -9,7 +9,6 @@ ghost use Rattle.sdl_rules.specs.Refusals.{Sound};
 ghost use Rattle.sdl_compile.specs.Blocks.{MatchesBlock};
 ghost use Rattle.turn_verify.specs.Loaded.{IsLoaded, IsSoundText, IsRead, Gives, IsRefused, line_at, token_place, rule_place};
 
-use turn_check::{Verified, verify};
 use sdl_compile::compile;
 use sdl_lex::{LexFault, Token, line_of, tokens};
 use sdl_rules::{Resolved, RuleFault, resolve};
@@ -17,6 +16,7 @@ use sdl_tree::{Block, ParseFault, parse};
 use std::alloc::Global;
 use std::fmt;
 use thiserror::Error;
+use turn_check::{Verified, verify};
 
 /// Why a text is refused, by the first layer that refuses it, with the line of the place, from 1.
 /// A line ends with its line feed.
@@ -30,7 +30,7 @@ pub enum LoadFault {
     },
     /// The tokens read as no tree (P1), or as one that is too high (P2). The line is that of the
     /// token, of the last one where they end too early, and 1 where there is none; for P2 it is
-    /// that of the TASK.
+    /// that of the statement.
     #[error("{fault} line {line}")]
     Parse {
         fault: ParseFault,
