@@ -20,7 +20,7 @@ use Rattle.sdl_rules.specs.Sorts.{same_sort, has_sort, have_one_sort, variable_s
 use Rattle.sdl_compile.specs.Act.{Scope, variable_at, signal_at}
 use Rattle.sdl_compile.specs.Code.{number_or_zero}
 use Rattle.sdl_compile.specs.Named.{NamedTree}
-use Rattle.sdl_compile.specs.Declarations.{sort_of_tree, drafted, drafted_signal, drafted_variables, drafted_signals}
+use Rattle.sdl_compile.specs.Declarations.{sort_of_tree, drafted, drafted_signal, drafted_variables, drafted_signals, parameters_by}
 
 -- the number of a name that is there is its place
 pub first_of_some : {A : Type 0} (p : A → Bool) (xs : List A) → IsSome (position p xs) → number_or_zero (position p xs) ≡ position_or_len p xs
@@ -53,7 +53,7 @@ module _ {A : Type 0} (name : A → Identifier) (x : List ℕ) where
       by_test true e = refl
       by_test false e = let f : 1 + place_in xs ≡ suc (place_in xs) = omega arith in e ∙ ap (λ k. slice_get (a ∷ xs) k) (sym f)
 
-slice_map : {A B : Type 0} (f : A → B) (xs : List A) (k : ℕ) → slice_get (map f xs) k ≡ option_map f (slice_get xs k)
+pub slice_map : {A B : Type 0} (f : A → B) (xs : List A) (k : ℕ) → slice_get (map f xs) k ≡ option_map f (slice_get xs k)
 slice_map f [] k = refl
 slice_map f (x ∷ xs) zero = refl
 slice_map f (x ∷ xs) (suc k) = slice_map f xs k
@@ -118,6 +118,32 @@ signal_sorted b x some =
     by_found : (o : Option PlainSignal) → parameters_of (option_map drafted_signal o) ≡ map sort_of_tree (option_map_or (λ (s : PlainSignal). s.parameters) o [])
     by_found None = refl
     by_found (Some s) = refl
+
+none_past : {A : Type 0} (xs : List A) (k : ℕ) → length xs ≤ k → slice_get xs k ≡ None
+none_past [] k h = refl
+none_past (x ∷ xs) zero h = absurd (omega arith)
+none_past (x ∷ xs) (suc k) h = none_past xs k (omega arith)
+
+no_number : (b : Bool) (k : ℕ) → cond b (Some k) None ≡ None → b ≡ false
+no_number true k e = absurd (let k : ⊥ = cc in k)
+no_number false k e = refl
+
+-- what is no signal has no parameters
+pub unsigned_sorts : (b : PlainBlock) (x : List ℕ) → number_of (signal_names b) x ≡ None → parameter_sorts b x ≡ []
+unsigned_sorts b x none =
+    let ss = signals_of b in
+    let k = place_in signal_name x ss in
+    let f = no_number (nat_lt k (length (signal_names b))) k none in
+    let g : length (signal_names b) ≤ k = grind (arith, nat_tests) in
+    let l = length-map ss signal_name in
+    let past = none_past ss k (omega (arith, g, l)) in
+    ap (λ o. option_map_or (λ (s : PlainSignal). s.parameters) o []) (found_at signal_name x ss ∙ past)
+
+pub sorts_by : (b : PlainBlock) (x : List ℕ) (ss : List DraftSignal) (ids : List Identifier) (o : Option ℕ) → ss ≡ drafted_signals b → ids ≡ signal_names b → o ≡ number_of ids x → parameters_by ss o ≡ map sort_of_tree (parameter_sorts b x)
+sorts_by b x ss ids None e f g = sym (ap (map sort_of_tree) (unsigned_sorts b x (ap (λ ids. number_of ids x) (sym f) ∙ sym g)))
+sorts_by b x ss ids (Some n) e f g =
+    let h : number_of (signal_names b) x ≡ Some n = ap (λ ids. number_of ids x) (sym f) ∙ sym g in
+    ap (λ (ss : List DraftSignal). parameters_of (slice_get ss n)) e ∙ ap (λ o. parameters_of (slice_get (drafted_signals b) (number_or_zero o))) (sym h) ∙ signal_sorted b x (subst IsSome (sym h) refl)
 
 -- ---- tests
 

@@ -1,5 +1,5 @@
 -- What a draft says of what a text declares.
-use Rattle.std.specs.Prelude.{ℕ, List, map, Option, None, Some, option_map}
+use Rattle.std.specs.Prelude.{ℕ, List, [], map, Option, None, Some, option_map, slice_get}
 use Rattle.sdl_tree.specs.declared.expression.Identifier.{Identifier}
 use Rattle.sdl_tree.specs.declared.tree.Constant.{Constant}
 use Rattle.sdl_tree.specs.declared.tree.Literal as literal
@@ -15,6 +15,7 @@ use Rattle.turn_code.specs.declared.draft.DraftSignal.{DraftSignal}
 use Rattle.turn_code.specs.declared.draft.DraftVariable.{DraftVariable}
 use Rattle.turn_code.specs.declared.draft.Trigger.{Trigger}
 use Rattle.turn_code.specs.declared.draft.Trigger.TheVariants.{Signal, Timer}
+use Rattle.turn_code.specs.Transitions.{parameters_of}
 use Rattle.sdl_tables.specs.Names.{Variable, number_of, variables_of, timers_of, signals_of, signal_names}
 use Rattle.sdl_rules.specs.Sorts.{parameter_sorts}
 use Rattle.sdl_compile.specs.Act.{Scope}
@@ -54,6 +55,11 @@ trigger_with (Some n) t = Signal (record { 0 = n })
 -- what a name stands for in an INPUT or a SAVE: a signal, else a timer of the process
 abbrev pub trigger_of : Scope → Identifier → Trigger
 trigger_of c id = trigger_with (number_of (signal_names c.block) id.name) (number_or_zero (number_of (timers_of c.process) id.name))
+
+-- the sorts of the parameters of the signal with this number, if it has one
+abbrev pub parameters_by : List DraftSignal → Option ℕ → List Sort
+parameters_by ss None = []
+parameters_by ss (Some n) = parameters_of (slice_get ss n)
 
 -- the sorts of the parameters that come with what a name stands for: none with a timer
 abbrev pub trigger_sorts : Scope → Identifier → List Sort

@@ -10,8 +10,10 @@ use Rattle.turn_code.specs.declared.draft.DraftInput.{DraftInput}
 use Rattle.turn_code.specs.declared.draft.DraftState.{DraftState}
 use Rattle.turn_code.specs.declared.draft.DraftProcess.{DraftProcess}
 use Rattle.turn_code.specs.Run.{run}
+use Rattle.turn_code.specs.Sets.{initial_set}
 use Rattle.sdl_tables.specs.Names.{Input, number_of, variables_of, timers_of, states_of, inputs_by_state, saves_by_state, signal_names}
 use Rattle.sdl_rules.specs.Longest.{Piece, start_piece, input_piece}
+use Rattle.sdl_rules.specs.Settled.{AreSettled}
 use Rattle.sdl_rules.specs.Sound.{actions_of}
 use Rattle.sdl_rules.specs.Sorts.{wrong_action}
 use Rattle.sdl_compile.specs.Act.{Scope, Act, scope_of}
@@ -114,3 +116,14 @@ AreInputsOf c is d = AllZip (IsInputOf c d.set) is d.inputs
 -- the set of each state
 abbrev pub sets_of : List DraftState → List ℕ
 sets_of ds = map (λ (d : DraftState). d.set.0) ds
+
+-- ---- what the compiler makes of a process
+
+-- what its pieces are, which have the sets of their states
+pub record IsProcessOf (b : PlainBlock) (p : PlainProcess) (d : DraftProcess) : Type 0 where
+  pub variables : d.variables ≡ drafted_variables p
+  pub timers : d.timers ≡ map (λ id. id.name) (timers_of p)
+  pub start : IsPieceOf (scope_of b p) [] (initial_set d.variables) (start_piece p) d.start
+  pub saves : AllZip (SavesAll (scope_of b p)) (saves_by_state p) d.states
+  pub inputs : AllZip (AreInputsOf (scope_of b p)) (inputs_by_state p) d.states
+  pub settled : AreSettled p (sets_of d.states)

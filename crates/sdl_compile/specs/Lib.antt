@@ -1,6 +1,7 @@
 pub mod Act
 pub mod Blocks
 pub mod Code
+pub mod Contexts
 pub mod Declarations
 pub mod Drafts
 pub mod Facts
