@@ -29,20 +29,20 @@ unfolding whole_run
 begun_empty code x c s h none =
     let budget : h.transition.piece.certificate.budget ≡ c.budget = ap (λ (c : Cert). c.budget) h.certificate_is in
     record {
-  transition = h.transition;
-  code_is = h.code_is;
-  certificate_is = h.certificate_is;
-  limits = h.limits;
-  few = h.few;
-  left = h.transition.piece.certificate.budget;
-  fuel = 512;
-  budget_is = omega arith;
-  fuel_is = omega arith;
-  less = h.small;
-  count = none;
-  safe = h.safe;
-  same = refl;
-}
+      transition = h.transition;
+      code_is = h.code_is;
+      certificate_is = h.certificate_is;
+      limits = h.limits;
+      few = h.few;
+      left = h.transition.piece.certificate.budget;
+      fuel = 512;
+      budget_is = omega arith;
+      fuel_is = omega arith;
+      less = h.small;
+      count = none;
+      safe = h.safe;
+      same = refl;
+    }
 
 pub begun_safely : (code : List Instruction) (x : Input) (c : Cert) (s : Progress) (os : List Value) → IsSafeWithin code x c s → s.count ≡ 0
     → os ≡ [] → IsUnderWay code x c 0 (whole_run code x s) 0 os s
