@@ -1,5 +1,5 @@
 -- No name past the end of a list, and lists of names that are short.
-use Rattle.std.proofs.Common.{◌≡◌, ℕ, zero, suc, ◌<◌, ◌≤◌, List, [], ◌∷◌, length, map, Option, Some, None, refl, sym, ap, ◌∙◌, subst, ⊎_elim, arith}
+use Rattle.std.proofs.Common.{◌≡◌, ℕ, zero, suc, ◌<◌, ◌≤◌, List, [], ◌∷◌, length, Option, Some, None, refl, subst, ⊎_elim, arith}
 use Rattle.std.specs.Prelude.{slice_get}
 use Rattle.std.proofs.lemmas.Bool.{cases_lt}
 use Rattle.std.proofs.lemmas.List.{length-map}
@@ -8,8 +8,8 @@ use Rattle.turn_code.specs.declared.draft.Draft.{Draft}
 use Rattle.turn_code.specs.declared.draft.DraftSignal.{DraftSignal}
 use Rattle.turn_code.specs.declared.draft.DraftProcess.{DraftProcess}
 use Rattle.turn_code.specs.declared.draft.DraftVariable.{DraftVariable}
-use Rattle.turn_check.specs.Named.{IsNamed, IsNowhere, process_names, signal_names, variable_names, variables_of, variables_at}
-use Rattle.turn_check.proofs.Whole.{start_small}
+use Rattle.turn_check.specs.Named.{IsNamed, IsNowhere, process_names, signal_names, variable_names, variables_of, variables_at, timer_names, timers_of}
+use Rattle.turn_check.proofs.Whole.{process_small, start_small}
 
 past : (names : List (List ℕ)) (k : ℕ) → length names ≤ k → slice_get names k ≡ None
 past [] k h = refl
@@ -45,3 +45,10 @@ few_variables d p valid =
     let same = length-map (variables_at d p) (λ (x : DraftVariable). x.name) in
     let limit = variables_few d p valid (slice_get d.processes p) refl in
     omega arith
+
+timers_few : (d : Draft) (p : ℕ) → IsValid d → (o : Option DraftProcess) → slice_get d.processes p ≡ o → length (timers_of o) ≤ 8
+timers_few d p valid None e = omega arith
+timers_few d p valid (Some process) e = (process_small d p process valid e).timers
+
+pub few_timers : (d : Draft) (p : ℕ) → IsValid d → length (timer_names d p) ≤ 8
+few_timers d p valid = timers_few d p valid (slice_get d.processes p) refl

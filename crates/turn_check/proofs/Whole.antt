@@ -1,8 +1,8 @@
 -- From entries and parts to rules, and back.
-use Rattle.std.proofs.Common.{◌≡◌, ℕ, zero, suc, ◌+◌, ◌-◌, ◌*◌, ◌^◌, ◌<◌, ◌≤◌, List, [], ◌∷◌, length, Option, Some, None, Result, Ok, Err, IfErr, refl, sym, ap, ◌∙◌, subst, arith, ⊎_elim, pow_mono, pow-suc}
+use Rattle.std.proofs.Common.{◌≡◌, ℕ, zero, suc, ◌+◌, ◌*◌, ◌^◌, ◌<◌, ◌≤◌, List, [], ◌∷◌, length, Some, None, Result, Ok, Err, IfErr, refl, sym, ap, ◌∙◌, subst, arith, ⊎_elim, pow_mono, pow-suc}
 use Rattle.std.specs.Prelude.{slice_get, Contains}
 use Rattle.std.proofs.lemmas.Bool.{cases_lt}
-use Rattle.turn_code.specs.Transitions.{Transition, transition_at, start_of, input_of, process_at, place_at, input_at}
+use Rattle.turn_code.specs.Transitions.{Transition, transition_at, start_of, input_of, process_at}
 use Rattle.turn_code.specs.Rules.{KeepsSetLimits, KeepsProcessLimits}
 use Rattle.turn_code.specs.Valid.{Keeps, KeepsAt, IsBrokenAt, IsValidTransition, IsValid}
 use Rattle.turn_code.specs.declared.input.Place.{Place}
@@ -236,8 +236,11 @@ set_small n r h low =
 pub limits_at : (d : Draft) (p : ℕ) (process : DraftProcess) → slice_get d.processes p ≡ Some process → KeepsAt d Limit p Start 0 0 → KeepsProcessLimits process
 limits_at d p process e at = (at.each (start_of p process) (start_at_0 d p process e)).process refl refl
 
+pub process_small : (d : Draft) (p : ℕ) (process : DraftProcess) → IsValid d → slice_get d.processes p ≡ Some process → KeepsProcessLimits process
+process_small d p process valid e = ((valid.each p Start 0 (start_of p process) (start_at_0 d p process e)).limit 0).process refl refl
+
 pub start_small : (d : Draft) (p : ℕ) (process : DraftProcess) → IsValid d → slice_get d.processes p ≡ Some process → length process.variables ≤ 32
-start_small d p process valid e = (((valid.each p Start 0 (start_of p process) (start_at_0 d p process e)).limit 0).process refl refl).variables
+start_small d p process valid e = (process_small d p process valid e).variables
 
 pub certified : (d : Draft) (p : ℕ) (s : Place) (i : ℕ) (t : Transition) → PathLaw → SafeLaw → IsValid d → Some t ≡ transition_at d p s i → IsCertified d p s i t.piece.certificate
 certified d p s i t law safe valid e =

@@ -1,5 +1,5 @@
 -- What each rule wants of an instruction and its facts, and of a transition as it begins.
-use Rattle.std.specs.Prelude.{◌≡◌, ℕ, ◌+◌, ◌<◌, ◌≤◌, ◌≤ℤ◌, pos, ◌∷◌, [], List, length, All, Contains, Option, Some, None, slice_get}
+use Rattle.std.specs.Prelude.{◌≡◌, ℕ, ◌+◌, ◌<◌, ◌≤◌, ◌≤ℤ◌, pos, [], List, length, All, Contains, Some, None, slice_get}
 use Rattle.turn_code.specs.Sets.{Has, IsWithin}
 use Rattle.turn_code.specs.Code.{takes, shape_after, shape_left, reads, sets, set_after, parameters_in, timers_in, divisors_in, states_in, jumps, behind, successors, effects_of}
 use Rattle.turn_code.specs.Transitions.{Transition}

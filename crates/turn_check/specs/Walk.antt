@@ -1,5 +1,5 @@
 -- The parts of a valid draft.
-use Rattle.std.specs.Prelude.{◌≡◌, ℕ, Option, Some, slice_get}
+use Rattle.std.specs.Prelude.{◌≡◌, ℕ, Some, slice_get}
 use Rattle.turn_code.specs.Transitions.{Transition, transition_at}
 use Rattle.turn_code.specs.Valid.{IsValidTransition}
 use Rattle.turn_code.specs.declared.instruction.Instruction.{Instruction}

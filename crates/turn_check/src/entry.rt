@@ -123,7 +123,11 @@ fn has_names(signals: &[DraftSignal], transition: &Transition<'_>) -> bool
 {
     match transition.trigger {
         Some(trigger) => is_there(signals, transition.process, trigger),
-        None => have_saves(signals, transition.process, transition.process.states.as_slice()),
+        None => have_saves(
+            signals,
+            transition.process,
+            transition.process.states.as_slice(),
+        ),
     }
 }
 
@@ -141,23 +145,15 @@ fn is_there(signals: &[DraftSignal], process: &DraftProcess, trigger: Trigger) -
 fn have_saves(signals: &[DraftSignal], process: &DraftProcess, states: &[DraftState]) -> bool
     ensures { IsTrue result ↔ All (HasSaves signals.now process.now) states.now }
 {
-    for state in states {
-        if !all_there(signals, process, state.saves.as_slice()) {
-            return false;
-        }
-    }
-    true
+    states.iter().all(|state| all_there(signals, process, state.saves.as_slice()))
 }
 
 fn all_there(signals: &[DraftSignal], process: &DraftProcess, triggers: &[Trigger]) -> bool
     ensures { IsTrue result ↔ All (IsThere signals.now process.now) triggers.now }
 {
-    for trigger in triggers {
-        if !is_there(signals, process, *trigger) {
-            return false;
-        }
-    }
-    true
+    triggers
+        .iter()
+        .all(|trigger| is_there(signals, process, *trigger))
 }
 
 /// Whether at START each initial value has its variable's sort.

@@ -2,8 +2,8 @@
 
 ghost use Rattle.std.specs.Prelude.{◌≡◌, ◌<◌, ◌≤◌, ◌↔◌, ◌∷◌, ◌++◌, ◌+◌, ℕ, map, length, Contains, option_to_list, All, IsTrue, IfOk, IfErr, Some, slice_get};
 ghost use Rattle.turn_code.specs.Sets.{Has, IsWithin};
-ghost use Rattle.turn_code.specs.Code.{takes, reads, sets, states_in, successors};
-ghost use Rattle.turn_code.specs.Rules.{Agree, KeepsSetLimits, greatest, count_in, effects_in};
+ghost use Rattle.turn_code.specs.Code.{takes, gives, shape_left, reads, sets, states_in, jumps, behind, successors};
+ghost use Rattle.turn_code.specs.Rules.{AtEach, Agree, KeepsSetLimits, greatest, count_in, effects_in};
 ghost use Rattle.turn_code.specs.declared.draft.PlaceFacts.{PlaceFacts};
 ghost use Rattle.turn_code.specs.declared.draft.DraftState.{DraftState};
 ghost use Rattle.turn_code.specs.declared.draft.DraftSignal.{DraftSignal};
@@ -99,9 +99,9 @@ fn names_what_is_there(draft: &Draft, transition: &Transition<'_>, instruction: 
         Instruction::Set(timer) | Instruction::Reset(timer) => {
             usize::from(timer.0) < transition.process.timers.len()
         }
-        Instruction::Div(divisor) | Instruction::Mod(divisor) | Instruction::Rem(divisor) => {
-            divisor >= 1
-        }
+        Instruction::Div(divisor) => divisor >= 1,
+        Instruction::Mod(divisor) => divisor >= 1,
+        Instruction::Rem(divisor) => divisor >= 1,
         Instruction::Output(signal, receiver, count) => {
             keeps_sending(draft, transition, signal, receiver, count)
         }
@@ -177,13 +177,55 @@ fn shapes_are_left(
     requires under { length (takes signals.now transition.now.process.now.variables instruction) ≤ length shape.now }
     ensures { IsTrue result ↔ ShapesPart signals.now (seen transition.now) place instruction shape.now }
 {
+    let rest = operands_left(signals, transition, instruction, shape);
+    shape_is_behind(transition, place, instruction, rest)
+        && shape_is_jumped_to(transition, instruction, rest)
+}
+
+/// The operands that stay where an instruction takes its own.
+fn operands_left<'a>(
+    signals: &[DraftSignal],
+    transition: &Transition<'_>,
+    instruction: Instruction,
+    shape: &'a [Sort],
+) -> &'a [Sort]
+    requires few { All (λ (s : DraftSignal). length s.parameters ≤ 4) signals.now }
+    requires under { length (takes signals.now transition.now.process.now.variables instruction) ≤ length shape.now }
+    ensures { result.now ≡ shape_left signals.now transition.now.process.now.variables instruction shape.now }
+{
     let variables = transition.process.variables.as_slice();
-    let facts = transition.piece.facts.as_slice();
-    let given = given_sort(instruction, variables, transition.parameters);
     let taken = taken_sorts(instruction, signals, variables).len();
-    let rest = &shape[taken..];
-    places_have_shape(facts, place_behind(instruction, place).as_slice(), given, rest)
-        && places_have_shape(facts, jump_places(instruction).as_slice(), None, rest)
+    &shape[taken..]
+}
+
+/// Whether the place behind the instruction has what it gives on top of `rest`.
+fn shape_is_behind(
+    transition: &Transition<'_>,
+    place: usize,
+    instruction: Instruction,
+    rest: &[Sort],
+) -> bool
+    requires { place < 512 }
+    ensures { IsTrue result ↔ AtEach transition.now.piece.now (behind instruction place)
+        (λ g. g.shape ≡ gives transition.now.process.now.variables transition.now.parameters.now instruction ++ rest.now) }
+{
+    let facts = transition.piece.facts.as_slice();
+    let variables = transition.process.variables.as_slice();
+    let given = given_sort(instruction, variables, transition.parameters);
+    places_have_shape(
+        facts,
+        place_behind(instruction, place).as_slice(),
+        given,
+        rest,
+    )
+}
+
+/// Whether each place where the instruction jumps to has the shape `rest`.
+fn shape_is_jumped_to(transition: &Transition<'_>, instruction: Instruction, rest: &[Sort]) -> bool
+    ensures { IsTrue result ↔ AtEach transition.now.piece.now (jumps instruction) (λ g. g.shape ≡ rest.now) }
+{
+    let facts = transition.piece.facts.as_slice();
+    places_have_shape(facts, jump_places(instruction).as_slice(), None, rest)
 }
 
 /// Whether the shape at each of these places is `given` on top of `rest`.

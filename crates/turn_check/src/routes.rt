@@ -1,6 +1,6 @@
 //! Whether an output reaches somebody by the routes.
 
-ghost use Rattle.std.specs.Prelude.{◌≡◌, ◌↔◌, ℕ, All, Any, Contains, IsTrue, length, slice_get};
+ghost use Rattle.std.specs.Prelude.{◌≡◌, ◌<◌, ◌↔◌, All, Any, Contains, IsTrue, length, slice_get};
 ghost use Rattle.turn_code.specs.Routes.{IsProcess, IsPartyOf, Takes, Reaches, Answers};
 ghost use Rattle.turn_code.specs.Rules.{KeepsSending, ReachesReceiver, AnswersSender};
 ghost use Rattle.turn_code.specs.Transitions.{parameters_of};
@@ -23,7 +23,13 @@ pub(crate) fn keeps_sending(
     ensures { IsTrue result ↔ KeepsSending draft.now (seen transition.now) signal receiver count }
 {
     has_parameters(draft.signals.as_slice(), signal, count)
-        && reaches_receiver(draft, transition.number, signal, transition.trigger, receiver)
+        && reaches_receiver(
+            draft,
+            transition.number,
+            signal,
+            transition.trigger,
+            receiver,
+        )
 }
 
 /// Whether there is such a signal, with so many parameters.
@@ -63,12 +69,24 @@ fn answers_sender(
 ) -> bool
     ensures { IsTrue result ↔ AnswersSender draft.now process.0 signal trigger }
 {
-    let routes = draft.routes.as_slice();
     match trigger {
-        Some(Trigger::Signal(taken)) => all_answer(routes, routes, process, taken, signal),
+        Some(Trigger::Signal(taken)) => answers_each(draft, process, taken, signal),
         Some(Trigger::Timer(_)) => false,
         None => false,
     }
+}
+
+/// Whether a signal goes back on each route that brings the one that is taken.
+fn answers_each(
+    draft: &Draft,
+    process: ProcessNumber,
+    taken: SignalNumber,
+    signal: SignalNumber,
+) -> bool
+    ensures { IsTrue result ↔ All (Answers draft.now.routes process.0 taken signal) draft.now.routes }
+{
+    let routes = draft.routes.as_slice();
+    all_answer(routes, routes, process, taken, signal)
 }
 
 /// Whether a party is the environment, or a process that is there.
@@ -114,12 +132,9 @@ fn reaches(
 ) -> bool
     ensures { IsTrue result ↔ Reaches routes.now process.0 receiver signal }
 {
-    for route in routes {
-        if takes(route, process, receiver, signal) {
-            return true;
-        }
-    }
-    false
+    routes
+        .iter()
+        .any(|route| takes(route, process, receiver, signal))
 }
 
 /// Whether a signal goes back on each of these routes that bring the one that is taken.

@@ -6,7 +6,9 @@ ghost use Rattle.turn_code.specs.Transitions.{parameters_of};
 ghost use Rattle.turn_code.specs.declared.draft.DraftSignal.{DraftSignal};
 
 use arrayvec::ArrayVec;
-use turn_code::{DraftSignal, DraftVariable, Instruction, SignalNumber, Sort, VariableNumber, VariableSet};
+use turn_code::{
+    DraftSignal, DraftVariable, Instruction, SignalNumber, Sort, VariableNumber, VariableSet,
+};
 
 /// The sort of a variable, if there is such a variable.
 pub(crate) fn sort_of_variable(
@@ -166,10 +168,8 @@ pub(crate) fn place_behind(instruction: Instruction, place: usize) -> Option<usi
     ensures { option_to_list result ≡ behind instruction place }
 {
     match instruction {
-        Instruction::Pick(_, _)
-        | Instruction::Jump(_)
-        | Instruction::Next(_)
-        | Instruction::Stop => None,
+        Instruction::Pick(_, _) | Instruction::Jump(_) | Instruction::Next(_) | Instruction::Stop =>
+            None,
         _ => Some(place + 1),
     }
 }

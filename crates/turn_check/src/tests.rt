@@ -3,8 +3,10 @@ use std::alloc::{AllocError, Global};
 use std::process::Abort;
 use std::test::Fail;
 use turn_code::{
-    Cert, Draft, DraftInput, DraftPiece, DraftProcess, DraftRoute, DraftSignal, DraftState, DraftVariable,
-    Instruction, Name, Party, PlaceFacts, Sequence, Sort, Trigger, VariableSet,
+    Cert, CodePlace, Draft, DraftInput, DraftPiece, DraftProcess, DraftRoute, DraftSignal,
+    DraftState, DraftVariable, Instruction, Name, Party, Place, PlaceFacts, ProcessNumber,
+    Receiver, Relation, Sequence, SignalNumber, Sort, StateNumber, TimerNumber, Trigger,
+    VariableNumber, VariableSet,
 };
 
 fn named(text: &str, rt: &impl Abort) -> Name {
@@ -74,15 +76,19 @@ fn counter(
     states.push(DraftState {
         name: named("Run", rt),
         set: VariableSet(2),
+        saves: Sequence::from(Vec::from_slice(alloc, &[Trigger::Timer(TimerNumber(0))])?),
         inputs: Sequence::from(inputs),
     })?;
     let mut variables = Vec::new(alloc);
     variables.push(integer("n"))?;
     variables.push(integer("total"))?;
+    let mut timers = Vec::new(alloc);
+    timers.push(named("Tick", rt))?;
     let mut processes = Vec::new(alloc);
     processes.push(DraftProcess {
         name: named("P", rt),
         variables: Sequence::from(variables),
+        timers: Sequence::from(timers),
         start,
         states: Sequence::from(states),
     })?;
@@ -166,6 +172,8 @@ fn the_counter_is_valid(rt: HostRuntime) -> Result<(), Fail> {
     assert_eq!(rt; set.signal_of("UP"), Some(SignalNumber(0)));
     assert_eq!(rt; set.variable_of(process, "Total"), Some(TOTAL));
     assert_eq!(rt; set.variable_of(process, "tota"), None);
+    assert_eq!(rt; set.timer_of(process, "TICK"), Some(TimerNumber(0)));
+    assert_eq!(rt; set.saves(process, RUN).len(), 1);
     assert_eq!(rt; set.input_count(process, RUN), 1);
     let waits_for = set.input_name(process, RUN, 0).expect(&rt, "an input");
     assert_eq!(rt; waits_for.as_bytes(), "Up".as_bytes());
@@ -229,6 +237,51 @@ fn a_broken_rule_is_named(rt: HostRuntime) -> Result<(), Fail> {
 }
 
 #[test]
+fn branches_and_routes_are_checked(rt: HostRuntime) -> Result<(), Fail> {
+    let alloc = rt.alloc();
+    let branch = [
+        Instruction::Int(0),
+        Instruction::Case(Relation::Equal, 0, CodePlace(3)),
+        Instruction::Drop,
+        Instruction::Int(0),
+        Instruction::Store(TOTAL),
+        Instruction::Next(RUN),
+    ];
+    let places = [(0, 0), (1, 0), (1, 0), (0, 0), (1, 0), (0, 2)];
+    let branches = piece(alloc, &branch, &places, 1)?;
+    assert_eq!(rt; refusal(alloc, branches, &rt)?.as_str(), "accepted");
+
+    let cycle = piece(alloc, &[Instruction::Jump(CodePlace(0))], &[(0, 0)], 0)?;
+    assert_eq!(rt;
+        refusal(alloc, cycle, &rt)?.as_str(),
+        "V9 Budget process 0 START place 0"
+    );
+
+    let pick = [
+        Instruction::Int(0),
+        Instruction::Pick(CodePlace(2), CodePlace(2)),
+        Instruction::Stop,
+    ];
+    let no_boolean = piece(alloc, &pick, &[(0, 0), (1, 0), (0, 0)], 1)?;
+    assert_eq!(rt;
+        refusal(alloc, no_boolean, &rt)?.as_str(),
+        "V4 Sort process 0 START place 1"
+    );
+
+    let output = [
+        Instruction::Int(0),
+        Instruction::Output(SignalNumber(0), Receiver::Party(Party::Environment), 1),
+        Instruction::Stop,
+    ];
+    let no_route = piece(alloc, &output, &[(0, 0), (1, 0), (0, 0)], 1)?;
+    assert_eq!(rt;
+        refusal(alloc, no_route, &rt)?.as_str(),
+        "V7 Number process 0 START place 1"
+    );
+    Ok(())
+}
+
+#[test]
 fn a_place_of_an_input_is_named(rt: HostRuntime) -> Result<(), Fail> {
     let alloc = rt.alloc();
     let code = [
@@ -255,6 +308,7 @@ fn very_many_states_are_refused(rt: HostRuntime) -> Result<(), Fail> {
         states.push(DraftState {
             name: named("S", &rt),
             set: VariableSet(0),
+            saves: Sequence::from(Vec::new(alloc)),
             inputs: Sequence::from(Vec::new(alloc)),
         })?;
     }
@@ -262,6 +316,7 @@ fn very_many_states_are_refused(rt: HostRuntime) -> Result<(), Fail> {
     processes.push(DraftProcess {
         name: named("P", &rt),
         variables: Sequence::from(Vec::new(alloc)),
+        timers: Sequence::from(Vec::new(alloc)),
         start: start(alloc)?,
         states: Sequence::from(states),
     })?;

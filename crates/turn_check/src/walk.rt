@@ -193,8 +193,13 @@ fn check_input_at(
 {
     match state.inputs.as_slice().get(input) {
         Some(found) => {
-            let transition =
-                input_transition(draft.signals.as_slice(), number, process, state, found);
+            let transition = input_transition(
+                draft.signals.as_slice(),
+                number,
+                process,
+                state,
+                found,
+            );
             check_input(draft, number, place, input, &transition)
         }
         None => Ok(()),

@@ -8,7 +8,7 @@ use Rattle.sdl_rules.specs.Paths.{NeverReadsUnset}
 use Rattle.sdl_rules.specs.Refusals.{Sound, Refuses}
 use Rattle.sdl_rules.specs.declared.fault.Limit.{Limit as limit}
 use Rattle.sdl_rules.specs.declared.fault.RuleFault.{RuleFault}
-use Rattle.sdl_rules.specs.declared.fault.RuleFault.TheVariants.{DoubleName, UnknownName, WrongSort, NoState, Limit, Unset, NoMemory}
+use Rattle.sdl_rules.specs.declared.fault.RuleFault.TheVariants.{DoubleName, UnknownName, WrongSort, NoState, NoReceiver, TwoReceivers, BadDivisor, Limit, Unset, NoMemory}
 
 -- nothing is in no list
 nowhere : (places : List ℕ) (place : ℕ) → places ≡ [] → Contains places place → ⊥
@@ -20,10 +20,13 @@ nowhere places place none (k, within, is) =
 pub no_refusal : (b : PlainBlock) (fault : RuleFault) → Sound b → Refuses b fault → fault ≡ NoMemory
 no_refusal b (DoubleName place) sound refuses = absurd (nowhere _ place sound.distinct refuses)
 no_refusal b (UnknownName place) sound refuses = absurd (nowhere _ place sound.known refuses.1)
-no_refusal b (WrongSort place) sound refuses = absurd (nowhere _ place sound.sorted refuses.2)
-no_refusal b (NoState place) sound refuses = absurd (nowhere _ place sound.ended refuses.3)
+no_refusal b (WrongSort place) sound refuses = absurd (nowhere _ place sound.sorted refuses.1)
+no_refusal b (NoState place) sound refuses = absurd (nowhere _ place sound.ended refuses.1)
+no_refusal b (NoReceiver place) sound refuses = absurd (nowhere _ place sound.received refuses.1)
+no_refusal b (TwoReceivers place) sound refuses = absurd (nowhere _ place sound.single refuses.1)
+no_refusal b (BadDivisor place) sound refuses = absurd (nowhere _ place sound.divided refuses.1)
 no_refusal b (Limit which) sound refuses =
-    let bad : (let none : Option limit = None in none ≡ Some which) = sym sound.within ∙ refuses.4 in absurd (cc)
+    let bad : (let none : Option limit = None in none ≡ Some which) = sym sound.within ∙ refuses.1 in absurd (cc)
 no_refusal b (Unset x path) sound refuses =
-    absurd (All-contains NeverReadsUnset (processes_of b) refuses.5 sound.set refuses.6 path.steps.items x refuses.7)
+    absurd (All-contains NeverReadsUnset (processes_of b) refuses.1 sound.set refuses.2 path.steps.items x refuses.3)
 no_refusal b NoMemory sound refuses = refl

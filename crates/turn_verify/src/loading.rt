@@ -208,7 +208,10 @@ fn rule_line(text: &str, fault: &RuleFault) -> Option<usize>
         RuleFault::DoubleName(place)
         | RuleFault::UnknownName(place)
         | RuleFault::WrongSort(place)
-        | RuleFault::NoState(place) => Some(line_of(text, *place)),
+        | RuleFault::NoState(place)
+        | RuleFault::NoReceiver(place)
+        | RuleFault::TwoReceivers(place)
+        | RuleFault::BadDivisor(place) => Some(line_of(text, *place)),
         RuleFault::Limit(_) | RuleFault::Unset { .. } | RuleFault::NoMemory => None,
     }
 }

@@ -10,4 +10,4 @@ returns-clause-ok c =
 
 pub loop-place-preserved : goal.loop-place-preserved
 loop-place-preserved c =
-    below_more (λ n. HasParts (seen c.args.transition.now) n) c.loop-place.place c.loop-place.invariant c.in_default-check_at.ensures.ok
+    below_more (λ n. HasParts c.args.draft.now (seen c.args.transition.now) n) c.loop-place.place c.loop-place.invariant c.in_default-check_at.ensures.ok

@@ -4,4 +4,4 @@ use Rattle.turn_check.specs.Walk.{HasParts}
 use Rattle.turn_check.proofs.walk.check_transition.Given as goal
 
 abbrev pub invariant-loop-place : goal.invariant-loop-place
-invariant-loop-place l = (n : ℕ) → n < l.place → HasParts (seen l.transition) n
+invariant-loop-place l = (n : ℕ) → n < l.place → HasParts l.draft (seen l.transition) n

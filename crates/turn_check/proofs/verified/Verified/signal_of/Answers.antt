@@ -1,4 +1,4 @@
-use Rattle.std.proofs.Common.{◌≤◌, length, arith}
+use Rattle.std.proofs.Common.{arith}
 use Rattle.turn_check.specs.Named.{signal_names}
 use Rattle.turn_check.proofs.NameLists.{nowhere, few_signals}
 use Rattle.turn_check.proofs.verified.Verified.signal_of.Goals as goal

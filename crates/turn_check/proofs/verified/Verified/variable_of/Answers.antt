@@ -1,4 +1,4 @@
-use Rattle.std.proofs.Common.{◌≤◌, length, arith}
+use Rattle.std.proofs.Common.{arith}
 use Rattle.turn_check.specs.Named.{variable_names}
 use Rattle.turn_check.proofs.NameLists.{nowhere, few_variables}
 use Rattle.turn_check.proofs.verified.Verified.variable_of.Goals as goal
