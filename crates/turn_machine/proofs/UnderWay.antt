@@ -1,8 +1,8 @@
 -- One instruction more of a safe run.
-use Rattle.std.proofs.Common.{◌≡◌, ℕ, zero, suc, ◌+◌, ◌-◌, ◌<◌, ◌≤◌, Bool as Truth, true, false, if◌then◌else◌, IsTrue, List, [], ◌∷◌, ◌++◌, length, take, drop, reverse, Option, Some, None, refl, sym, ap, ◌∙◌, subst, arith}
+use Rattle.std.proofs.Common.{◌≡◌, ℕ, zero, suc, ◌+◌, ◌<◌, ◌≤◌, Bool as Truth, true, false, if◌then◌else◌, IsTrue, List, [], ◌∷◌, ◌++◌, length, take, drop, reverse, Option, Some, None, refl, sym, ap, ◌∙◌, subst, arith}
 use Rattle.std.proofs.lemmas.List.{length-append}
 use Rattle.std.specs.Prelude.{slice_get, nat_le}
-use Rattle.turn_code.specs.Run.{Progress, After, goes, ends, stuck, step, act, act_if, loaded, given, on_integer, on_operands, sent, sending, party_of, with_effect, tick, Ran, ended, go_on, exec, CountIs}
+use Rattle.turn_code.specs.Run.{Progress, After, goes, ends, stuck, step, act, act_if, loaded, given, sent, sending, party_of, with_effect, tick, Ran, ended, go_on, exec}
 use Rattle.turn_code.specs.Code.{effects_of}
 use Rattle.turn_code.specs.Machine.{grows, HasRoom}
 use Rattle.turn_code.specs.Transitions.{Transition}
