@@ -1,11 +1,10 @@
 -- What a job keeps, from the set that it is made of.
 use Rattle.std.proofs.Common.{◌≡◌, ℕ, zero, suc, ◌≤◌, List, length, Option, Some, None, option_map, slice_get, refl, sym, ap, ◌∙◌, subst}
-use Rattle.turn_code.specs.Run.{Progress, Ran, begun, run, ended}
-use Rattle.turn_code.specs.Transitions.{Transition, transition_at, process_at, place_at, start_of, start_at, input_at, input_of}
+use Rattle.turn_code.specs.Run.{Progress, begun, run, ended}
+use Rattle.turn_code.specs.Transitions.{Transition, transition_at, process_at, start_of, start_at, input_at, input_of}
 use Rattle.turn_code.specs.Valid.{IsValid}
 use Rattle.turn_code.specs.Fits.{Fits, FitsTransition}
 use Rattle.turn_code.specs.Safe.{SafeLaw}
-use Rattle.turn_code.specs.declared.value.Value.{Value}
 use Rattle.turn_code.specs.declared.input.Input.{Input}
 use Rattle.turn_code.specs.declared.input.Place.{Place}
 use Rattle.turn_code.specs.declared.input.Place.TheVariants.{Start, State}

@@ -1,8 +1,8 @@
 -- One instruction more of a safe run.
-use Rattle.std.proofs.Common.{◌≡◌, ℕ, zero, suc, ◌+◌, ◌-◌, ◌<◌, ◌≤◌, Bool as Truth, true, false, if◌then◌else◌, IsTrue, List, [], ◌∷◌, ◌++◌, length, take, drop, reverse, Option, Some, None, refl, sym, ap, ◌∙◌, subst, arith}
+use Rattle.std.proofs.Common.{◌≡◌, ℕ, zero, suc, ◌+◌, ◌<◌, ◌≤◌, Bool as Truth, true, false, if◌then◌else◌, IsTrue, List, [], ◌∷◌, ◌++◌, length, take, drop, reverse, Option, Some, None, refl, sym, ap, ◌∙◌, subst, arith}
 use Rattle.std.proofs.lemmas.List.{length-append}
 use Rattle.std.specs.Prelude.{slice_get, nat_le}
-use Rattle.turn_code.specs.Run.{Progress, After, goes, ends, stuck, step, act, act_if, loaded, given, on_integer, on_operands, sent, sending, party_of, with_effect, tick, Ran, ended, go_on, exec, CountIs}
+use Rattle.turn_code.specs.Run.{Progress, After, goes, ends, stuck, step, act, act_if, loaded, given, sent, sending, party_of, with_effect, tick, Ran, ended, go_on, exec}
 use Rattle.turn_code.specs.Code.{effects_of}
 use Rattle.turn_code.specs.Machine.{grows, HasRoom}
 use Rattle.turn_code.specs.Transitions.{Transition}
@@ -29,20 +29,20 @@ unfolding whole_run
 begun_empty code x c s h none =
     let budget : h.transition.piece.certificate.budget ≡ c.budget = ap (λ (c : Cert). c.budget) h.certificate_is in
     record {
-  transition = h.transition;
-  code_is = h.code_is;
-  certificate_is = h.certificate_is;
-  limits = h.limits;
-  few = h.few;
-  left = h.transition.piece.certificate.budget;
-  fuel = 512;
-  budget_is = omega arith;
-  fuel_is = omega arith;
-  less = h.small;
-  count = none;
-  safe = h.safe;
-  same = refl;
-}
+      transition = h.transition;
+      code_is = h.code_is;
+      certificate_is = h.certificate_is;
+      limits = h.limits;
+      few = h.few;
+      left = h.transition.piece.certificate.budget;
+      fuel = 512;
+      budget_is = omega arith;
+      fuel_is = omega arith;
+      less = h.small;
+      count = none;
+      safe = h.safe;
+      same = refl;
+    }
 
 pub begun_safely : (code : List Instruction) (x : Input) (c : Cert) (s : Progress) (os : List Value) → IsSafeWithin code x c s → s.count ≡ 0
     → os ≡ [] → IsUnderWay code x c 0 (whole_run code x s) 0 os s

@@ -1,5 +1,5 @@
 -- The input that a job is given.
-use Rattle.std.specs.Prelude.{ℕ, List, Option, Some, None}
+use Rattle.std.specs.Prelude.{Option}
 use Rattle.arrayvec.specs.ArrayVec.{ArrayVec}
 use Rattle.turn_code.specs.declared.value.Value.{Value}
 use Rattle.turn_code.specs.declared.input.Input.{Input}

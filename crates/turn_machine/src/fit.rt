@@ -9,11 +9,11 @@ ghost use Rattle.turn_machine.specs.Given.{input_of};
 
 use crate::received::Received;
 use arrayvec::ArrayVec;
+use turn_check::Verified;
 use turn_code::{
     DraftRoute, DraftVariable, Party, Place, ProcessNumber, SignalNumber, Sort, Trigger, Value,
     VariableNumber, VariableSet,
 };
-use turn_check::Verified;
 
 /// Whether an input fits input `input_number` at a place of a process: its parameters and set variables have their
 /// sorts, the variables that are to be set are set, and but for START and a timer a route brings the signal from its

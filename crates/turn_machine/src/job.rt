@@ -10,8 +10,8 @@ use crate::received::Received;
 use arrayvec::ArrayVec;
 use std::alloc::AllocError;
 use std::marker::Model;
-use turn_code::{Cert, Input, Instruction, Place, ProcessNumber, Value};
 use turn_check::Verified;
+use turn_code::{Cert, Input, Instruction, Place, ProcessNumber, Value};
 
 /// A transition that is to run, with all that it needs: its code by value, and an input that fits it.
 #[derive(Drop)]

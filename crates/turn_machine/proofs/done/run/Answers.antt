@@ -1,7 +1,7 @@
-use Rattle.std.proofs.Common.{◌≤◌, length, ap, ◌∙◌, subst}
+use Rattle.std.proofs.Common.{◌≤◌, length, subst}
 use Rattle.turn_code.specs.Machine.{progress_of}
 use Rattle.turn_code.specs.declared.draft.Cert.{Cert}
-use Rattle.turn_machine.proofs.Jobs.{outcome_from, safe_of}
+use Rattle.turn_machine.proofs.Jobs.{outcome_from}
 use Rattle.turn_machine.proofs.done.run.Goals as goal
 
 pub invariant_of-result : goal.invariant_of-result
