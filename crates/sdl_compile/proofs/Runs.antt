@@ -369,8 +369,8 @@ module _ (inp : Input) (code : List Instruction) where
   put_does c to id (Some n) xs count pc end os s named reached e at f =
       let r = receiver_of c inp.sender to id in
       let is : run.act (put n (receiver_code c to id) count) inp (pc + 1) (pushed xs os) (tick s) ≡ sent (record { 0 = n }) r xs (pc + 1) os (tick s) =
-          operands_are xs os count (λ vs rest. sent (record { 0 = n }) (run.party_of (receiver_code c to id) inp.sender) vs (pc + 1) rest (tick s)) e
-          ∙ ap (λ p. sent (record { 0 = n }) p xs (pc + 1) os (tick s)) (receiver_is c to id reached) in
+      operands_are xs os count (λ vs rest. sent (record { 0 = n }) (run.party_of (receiver_code c to id) inp.sender) vs (pc + 1) rest (tick s)) e
+      ∙ ap (λ p. sent (record { 0 = n }) p xs (pc + 1) os (tick s)) (receiver_is c to id reached) in
       one {A = Unit {0}} pc end (pushed xs os) s (λ _. os) (put n (receiver_code c to id) count) (put_out (Some n) r xs (tick s)) at
       (subst (λ st. Fits {A = Unit {0}} st s end (λ _. os) (put_out (Some n) r xs (tick s))) (sym is) (put_fits n r xs pc end os s reached f))
 

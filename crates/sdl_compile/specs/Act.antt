@@ -170,8 +170,8 @@ value_of c (variable at n) s = read (slot (variable_at c n) s) (tick s)
 value_of c (unary at op t) s = then_do (value_of c t s) (λ x s. apply_one op x (tick s))
 value_of c (binary at op t u) s =
     then_do (value_of c t s) (λ x s.
-        if is_division op then divide op (divisor_of u) x (tick s)
-        else then_do (value_of c u s) (λ y s. apply_two (working (is_truth c t) op) x y (tick s)))
+    if is_division op then divide op (divisor_of u) x (tick s)
+    else then_do (value_of c u s) (λ y s. apply_two (working (is_truth c t) op) x y (tick s)))
 
 -- expressions from left to right
 abbrev pub values_of : Scope → List Tree → Progress → Outcome (List Value)

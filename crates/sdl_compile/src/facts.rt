@@ -152,14 +152,7 @@ pub(crate) fn place_facts(
     let mut set = entry;
     let mut effects = count_effects(code);
     for (k, instruction) in code.iter().enumerate() {
-        let next = next_shape(
-            alloc,
-            signals,
-            variables,
-            parameters,
-            *instruction,
-            &shape,
-        )?;
+        let next = next_shape(alloc, signals, variables, parameters, *instruction, &shape)?;
         facts.push(PlaceFacts {
             shape: Sequence::from(mem::replace(&mut shape, next)),
             set,

@@ -28,7 +28,7 @@ pub overflow_cast-certificate-2 : goal.overflow_cast-certificate-2
 overflow_cast-certificate-2 c =
     let s = c.args.setting.now in
     let e = depth_is (scope_in s.names.now) (piece_in c.args.places.now c.args.transition.now) s.parameters.now s.entry c.requires.ready s.signals.now s.variables.now c.deref.result.now c.deref-2.result.now
-        c.requires.setting.signals c.requires.setting.variables (c.deref.ensures.value ∙ c.in_ok-code.ensures) (c.deref-2.ensures.value ∙ c.in_ok-facts.ensures) in
+    c.requires.setting.signals c.requires.setting.variables (c.deref.ensures.value ∙ c.in_ok-code.ensures) (c.deref-2.ensures.value ∙ c.in_ok-facts.ensures) in
     omega (arith, e, c.greatest_depth.ensures, c.requires.ready.small.depth)
 
 pub returns : goal.returns
