@@ -254,10 +254,10 @@ module _ (c : Scope) (n : ℕ) (numbers : AreNumbered (process_names c.block)) (
   carries_alike q r s (path ∷ paths) e h =
       or_split (brings own r s path) (list_any (brings own r s) paths) h
       (λ f.
-        let rest = and_right (same_party own path.from) (same_party r path.to && is_in path.signals s) f in
-        or_one (brings own q s path) (list_any (brings own q s) paths)
-        (and_both (same_party own path.from) (same_party q path.to && is_in path.signals s) (and_left (same_party own path.from) (same_party r path.to && is_in path.signals s) f)
-        (and_both (same_party q path.to) (is_in path.signals s) (trans_party q r path.to e (and_left (same_party r path.to) (is_in path.signals s) rest)) (and_right (same_party r path.to) (is_in path.signals s) rest))))
+      let rest = and_right (same_party own path.from) (same_party r path.to && is_in path.signals s) f in
+      or_one (brings own q s path) (list_any (brings own q s) paths)
+      (and_both (same_party own path.from) (same_party q path.to && is_in path.signals s) (and_left (same_party own path.from) (same_party r path.to && is_in path.signals s) f)
+      (and_both (same_party q path.to) (is_in path.signals s) (trans_party q r path.to e (and_left (same_party r path.to) (is_in path.signals s) rest)) (and_right (same_party r path.to) (is_in path.signals s) rest))))
       (λ f. or_other (brings own q s path) (list_any (brings own q s) paths) (carries_alike q r s paths e f))
 
   carried_back : (q : Party) (x s : List ℕ) (paths : List PlainPath) → Each (λ (path : PlainPath). same_party own path.to && is_in path.signals x ≡ true → carries c.block own path.from s ≡ true) paths
@@ -364,10 +364,10 @@ module _ (c : Scope) (n : ℕ) (numbers : AreNumbered (process_names c.block)) (
     answered x s v e [] k h = tt
     answered x s v e (path ∷ paths) k h = (
       λ to there. (
-        let mine = own_party path.to k.0.to to in
-        let among = All-contains (λ (k : SignalNumber). k ≡ (let m : SignalNumber = record { 0 = v } in m) → is_in path.signals x ≡ true) (map (λ (id : Identifier). sig id.name) path.signals) (let m : SignalNumber = record { 0 = v } in m) (signal_among x v e path.signals k.0.signals) there refl in
-        (carried path.from s (h.0 (and_both (same_party own path.to) (is_in path.signals x) mine among))).1
-      ),
+          let mine = own_party path.to k.0.to to in
+          let among = All-contains (λ (k : SignalNumber). k ≡ (let m : SignalNumber = record { 0 = v } in m) → is_in path.signals x ≡ true) (map (λ (id : Identifier). sig id.name) path.signals) (let m : SignalNumber = record { 0 = v } in m) (signal_among x v e path.signals k.0.signals) there refl in
+          (carried path.from s (h.0 (and_both (same_party own path.to) (is_in path.signals x) mine among))).1
+          ),
       answered x s v e paths k.1 h.1,
     )
 

@@ -200,45 +200,54 @@ module _ (c : Scope) (d : Draft) (t : Transition)
   two_right x w s m h e = (plain_right x (w ∷ w ∷ s) m h (omega (arith, ap length e)) (subst (λ l. Agree l (w ∷ w ∷ s)) (sym e) (refl, (refl, tt))), tt)
 
   divide_right : (op : BinaryOperator) (k : ℤ) (s : List Sort) (m : VariableSet) → is_division op ≡ true → pos 1 ≤ℤ k → R (Integer ∷ s) m (division_code op k ∷ [])
-  divide_right Divide k s m e p = (record {
-    under = omega arith;
-    sort = (refl, tt);
-    reads_set = All-nil (Has m);
-    states = λ n st h. none_in n h;
-    states_there = All-nil (λ q. q < length t.process.states);
-    reads_there = All-nil (λ v. v < length t.process.variables);
-    sets_there = All-nil (λ v. v < length t.process.variables);
-    parameters = All-nil (λ j. j < length t.parameters);
-    timers = All-nil (λ n. n < length t.process.timers);
-    divisors = All-cons (λ z. pos 1 ≤ℤ z) k [] p (All-nil (λ z. pos 1 ≤ℤ z));
-    outputs = tt;
-  }, tt)
-  divide_right Modulo k s m e p = (record {
-    under = omega arith;
-    sort = (refl, tt);
-    reads_set = All-nil (Has m);
-    states = λ n st h. none_in n h;
-    states_there = All-nil (λ q. q < length t.process.states);
-    reads_there = All-nil (λ v. v < length t.process.variables);
-    sets_there = All-nil (λ v. v < length t.process.variables);
-    parameters = All-nil (λ j. j < length t.parameters);
-    timers = All-nil (λ n. n < length t.process.timers);
-    divisors = All-cons (λ z. pos 1 ≤ℤ z) k [] p (All-nil (λ z. pos 1 ≤ℤ z));
-    outputs = tt;
-  }, tt)
-  divide_right Remainder k s m e p = (record {
-    under = omega arith;
-    sort = (refl, tt);
-    reads_set = All-nil (Has m);
-    states = λ n st h. none_in n h;
-    states_there = All-nil (λ q. q < length t.process.states);
-    reads_there = All-nil (λ v. v < length t.process.variables);
-    sets_there = All-nil (λ v. v < length t.process.variables);
-    parameters = All-nil (λ j. j < length t.parameters);
-    timers = All-nil (λ n. n < length t.process.timers);
-    divisors = All-cons (λ z. pos 1 ≤ℤ z) k [] p (All-nil (λ z. pos 1 ≤ℤ z));
-    outputs = tt;
-  }, tt)
+  divide_right Divide k s m e p = (
+    record {
+      under = omega arith;
+      sort = (refl, tt);
+      reads_set = All-nil (Has m);
+      states = λ n st h. none_in n h;
+      states_there = All-nil (λ q. q < length t.process.states);
+      reads_there = All-nil (λ v. v < length t.process.variables);
+      sets_there = All-nil (λ v. v < length t.process.variables);
+      parameters = All-nil (λ j. j < length t.parameters);
+      timers = All-nil (λ n. n < length t.process.timers);
+      divisors = All-cons (λ z. pos 1 ≤ℤ z) k [] p (All-nil (λ z. pos 1 ≤ℤ z));
+      outputs = tt;
+    },
+    tt,
+  )
+  divide_right Modulo k s m e p = (
+    record {
+      under = omega arith;
+      sort = (refl, tt);
+      reads_set = All-nil (Has m);
+      states = λ n st h. none_in n h;
+      states_there = All-nil (λ q. q < length t.process.states);
+      reads_there = All-nil (λ v. v < length t.process.variables);
+      sets_there = All-nil (λ v. v < length t.process.variables);
+      parameters = All-nil (λ j. j < length t.parameters);
+      timers = All-nil (λ n. n < length t.process.timers);
+      divisors = All-cons (λ z. pos 1 ≤ℤ z) k [] p (All-nil (λ z. pos 1 ≤ℤ z));
+      outputs = tt;
+    },
+    tt,
+  )
+  divide_right Remainder k s m e p = (
+    record {
+      under = omega arith;
+      sort = (refl, tt);
+      reads_set = All-nil (Has m);
+      states = λ n st h. none_in n h;
+      states_there = All-nil (λ q. q < length t.process.states);
+      reads_there = All-nil (λ v. v < length t.process.variables);
+      sets_there = All-nil (λ v. v < length t.process.variables);
+      parameters = All-nil (λ j. j < length t.parameters);
+      timers = All-nil (λ n. n < length t.process.timers);
+      divisors = All-cons (λ z. pos 1 ≤ℤ z) k [] p (All-nil (λ z. pos 1 ≤ℤ z));
+      outputs = tt;
+    },
+    tt,
+  )
   divide_right Or k s m e p = absurd (let k : ⊥ = cc in k)
   divide_right Xor k s m e p = absurd (let k : ⊥ = cc in k)
   divide_right And k s m e p = absurd (let k : ⊥ = cc in k)
