@@ -54,7 +54,7 @@ pub enum VerifyFault {
     /// A state that isn't there.
     #[error("V6 State {0}")]
     State(Spot),
-    /// A variable, parameter or signal that isn't there.
+    /// A variable, parameter, timer, signal or receiver that isn't there, or a divisor under 1.
     #[error("V7 Number {0}")]
     Number(Spot),
     /// More than a limit allows. A limit of a process is broken at its START, one of the whole set at the START of process 0.
