@@ -54,14 +54,13 @@ pub enum VerifyFault {
     /// A state that isn't there.
     #[error("V6 State {0}")]
     State(Spot),
-    /// A variable, parameter, timer, signal or receiver that isn't there, a divisor under 1, or another number of parameters
-    /// than the signal has.
+    /// A variable, parameter, timer, signal or receiver that isn't there, or a divisor under 1.
     #[error("V7 Number {0}")]
     Number(Spot),
     /// More than a limit allows. A limit of a process is broken at its START, one of the whole set at the START of process 0.
     #[error("V8 Limit {0}")]
     Limit(Spot),
-    /// A cycle, a count or a number of effects that isn't the longest path's, or a certificate that says otherwise.
+    /// A cycle, or a count that isn't the longest path.
     #[error("V9 Budget {0}")]
     Budget(Spot),
 }
