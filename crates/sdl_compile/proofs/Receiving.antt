@@ -1,5 +1,5 @@
 -- Who gets a signal by the text's routes gets it by the draft's.
-use Rattle.std.proofs.Common.{◌≡◌, ℕ, zero, suc, ◌+◌, ◌<◌, Bool, true, false, not, cond, ◌||◌, ◌&&◌, List, [], ◌∷◌, ◌++◌, length, map, Option, Some, None, IsSome, refl, sym, ap, ◌∙◌, subst, arith, nat_lt}
+use Rattle.std.proofs.Common.{◌≡◌, ℕ, zero, suc, ◌<◌, Bool, true, false, not, cond, ◌||◌, ◌&&◌, List, [], ◌∷◌, ◌++◌, length, map, Option, Some, None, IsSome, refl, sym, ap, ◌∙◌, subst, arith, nat_lt}
 use Rattle.std.specs.Prelude.{slice_get, All, Contains, Any, fold, option_map}
 use Rattle.std.specs.List.{list_any, list_all, flat_map}
 use Rattle.std.proofs.lemmas.Bool.Decides.{nat_tests}
@@ -20,20 +20,19 @@ use Rattle.turn_code.specs.declared.draft.Draft.{Draft}
 use Rattle.turn_code.specs.declared.draft.DraftRoute.{DraftRoute}
 use Rattle.turn_code.specs.declared.draft.DraftProcess.{DraftProcess}
 use Rattle.turn_code.specs.declared.draft.Trigger.{Trigger}
-use Rattle.turn_code.specs.declared.draft.Trigger.TheVariants.{Signal, Timer}
 use Rattle.turn_code.specs.Routes.{IsProcess, IsPartyOf, Takes, Reaches, Answers}
 use Rattle.turn_code.specs.Rules.{ReachesReceiver, AnswersSender}
 use Rattle.sdl_tables.specs.Names.{same_name, is_in, number_of, signal_names, process_names, timers_of}
 use Rattle.sdl_rules.specs.Receivers.{same_party, party_of, paths_of, brings, carries, path_receivers, path_senders, add_party, receivers, senders, answers, answers_all, arrives, is_doubtful}
-use Rattle.sdl_compile.specs.Act.{Scope, signal_at, numbered, the_one, if_named, to_sender}
+use Rattle.sdl_compile.specs.Act.{Scope, numbered, the_one, if_named, to_sender}
 use Rattle.sdl_compile.specs.Code.{number_or_zero, party_or_environment, receiver_code}
 use Rattle.sdl_compile.specs.Named.{HasReceiver, IsSentIf, IsSentTo}
 use Rattle.sdl_compile.specs.Declarations.{trigger_with, trigger_of}
 use Rattle.sdl_compile.specs.Drafts.{IsTrigger}
 use Rattle.sdl_compile.specs.Blocks.{drafted_party, drafted_path}
 use Rattle.sdl_compile.specs.Routes.{KnownParty, IsKnown, IsKnownPath}
-use Rattle.sdl_compile.proofs.Items.{Each, each_append, each_with, each_front, each_back, all_items}
-use Rattle.sdl_compile.proofs.Numbers.{AreNumbered, HasNumber, folded_alike, number_alike, number_there, same_self, same_other_way}
+use Rattle.sdl_compile.proofs.Items.{Each, each_append, each_with, all_items}
+use Rattle.sdl_compile.proofs.Numbers.{AreNumbered, folded_alike, number_alike, number_there, same_self, same_other_way}
 
 and_left : (a b : Bool) → a && b ≡ true → a ≡ true
 and_left true b e = refl

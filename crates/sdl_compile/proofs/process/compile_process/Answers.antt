@@ -3,22 +3,15 @@ use Rattle.std.specs.List.{AllZip}
 use Rattle.std.proofs.lemmas.List.{length-map}
 use Rattle.sdl_tree.specs.declared.expression.Identifier.{Identifier}
 use Rattle.sdl_tree.specs.declared.tree.Process.{Process}
-use Rattle.sdl_tree.specs.Plain.{Text}
 use Rattle.sdl_tree.specs.Views.{block_of, process_of, text_of}
 use Rattle.turn_code.specs.declared.draft.DraftState.{DraftState}
-use Rattle.turn_code.specs.declared.draft.DraftVariable.{DraftVariable}
-use Rattle.turn_code.specs.declared.variable_set.VariableSet.{VariableSet}
-use Rattle.turn_code.specs.Sets.{initial_set}
 use Rattle.sdl_tables.specs.Names.{Input, states_of, part_inputs, part_saves, inputs_by_state, saves_by_state}
 use Rattle.sdl_tables.specs.Rows.{rows_inputs, row_names}
 use Rattle.sdl_rules.specs.Longest.{Piece, start_piece}
-use Rattle.sdl_rules.specs.Settled.{AreSettled}
 use Rattle.sdl_compile.specs.Act.{Scope, scope_of}
 use Rattle.sdl_compile.specs.Declarations.{drafted}
-use Rattle.sdl_compile.specs.Drafts.{AllReady, AllTriggers, IsNamedAs, SavesAll, AreInputsOf, Means, sets_of}
-use Rattle.sdl_compile.specs.Made.{IsPieceOf}
+use Rattle.sdl_compile.specs.Drafts.{IsNamedAs, SavesAll, AreInputsOf, Means}
 use Rattle.sdl_compile.specs.Named.{AnswersSenders}
-use Rattle.sdl_compile.specs.Settings.{IsReadyPiece}
 use Rattle.sdl_compile.proofs.Zips.{paired, states_match}
 use Rattle.sdl_compile.proofs.process.compile_process.Goals as goal
 
