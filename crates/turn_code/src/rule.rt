@@ -15,7 +15,7 @@ pub enum Rule {
     Unset,
     /// V6: a state that isn't there.
     State,
-    /// V7: a variable, parameter or signal that isn't there.
+    /// V7: a variable, parameter, timer, signal or receiver that isn't there, or a divisor under 1.
     Number,
     /// V8: more than a limit allows.
     Limit,
