@@ -4,14 +4,14 @@ ghost use Rattle.turn_code.specs.Safe.{SafeLaw, RunLaw};
 ghost use Rattle.turn_code.specs.Paths.{PathLaw};
 ghost use Rattle.turn_code.specs.Values.{WrapLaw};
 
-/// The run of a valid transition on an input that fits it never gets stuck, never has more than 16 operands, and
-/// ends well within its budget, which is at most 512.
+/// The run of a valid transition on an input that fits it never gets stuck, never has more operands or effects than its
+/// certificate says, and ends well within its budget, which is at most 512.
 pub fn safe_law()
     ensures { SafeLaw }
 {}
 
 /// The run of a valid transition on an input that fits it is an end within its budget, in a state that is there,
-/// with the variables set that are said to be set there.
+/// with the variables set that are said to be set there, or a stop.
 pub fn run_law()
     ensures { RunLaw }
 {}

@@ -15,11 +15,10 @@ pub enum Rule {
     Unset,
     /// V6: a state that isn't there.
     State,
-    /// V7: a variable, parameter, timer, signal or receiver that isn't there, a divisor under 1, or another number of parameters
-    /// than the signal has.
+    /// V7: a variable, parameter, timer, signal or receiver that isn't there, or a divisor under 1.
     Number,
     /// V8: more than a limit allows.
     Limit,
-    /// V9: a cycle, a count or a number of effects that isn't the longest path's, or a certificate that says otherwise.
+    /// V9: a cycle, or a count that isn't the longest path.
     Budget,
 }
