@@ -1,10 +1,10 @@
 -- The actions of a text, its end and INPUT's places: each of their instructions is right.
-use Rattle.std.proofs.Common.{◌≡◌, ℕ, zero, suc, ◌+◌, ◌<◌, ◌≤◌, ◌≤ℤ◌, pos, Bool, true, false, cond, List, [], ◌∷◌, ◌++◌, length, map, reverse, drop, Option, Some, None, IsSome, refl, sym, ap, ◌∙◌, subst, arith, nat_lt, nat_eq}
-use Rattle.std.specs.Prelude.{slice_get, All, Contains, zip}
+use Rattle.std.proofs.Common.{◌≡◌, ℕ, zero, suc, ◌+◌, ◌<◌, ◌≤◌, ◌≤ℤ◌, pos, Bool, true, false, cond, List, [], ◌∷◌, ◌++◌, length, map, reverse, drop, Option, Some, None, IsSome, refl, sym, ap, ◌∙◌, subst, arith, nat_eq}
+use Rattle.std.specs.Prelude.{slice_get, zip}
 use Rattle.std.specs.List.{flat_map}
 use Rattle.std.specs.Option.{option_to_list}
 use Rattle.std.proofs.lemmas.Bool.Decides.{nat_tests}
-use Rattle.std.proofs.lemmas.List.{length-map, length-reverse}
+use Rattle.std.proofs.lemmas.List.{length-map}
 use Rattle.std.proofs.lemmas.List.Elements.{All-nil, All-contains}
 use mathlib.Core.List.{reverse_aux}
 use Rattle.sdl_tree.specs.declared.expression.Identifier.{Identifier}
@@ -28,21 +28,21 @@ use Rattle.turn_code.specs.Transitions.{Transition, parameters_of}
 use Rattle.turn_code.specs.Rules.{Agree, ReachesReceiver}
 use Rattle.sdl_tables.specs.Names.{Variable, variables_of}
 use Rattle.sdl_rules.specs.Sound.{actions_of}
-use Rattle.sdl_rules.specs.Sorts.{variable_sort, has_sort, have_one_sort, sort_in, misfit, wrong_in, wrong_variable, wrong_assignment, wrong_for, parameter_sorts, wrong_parameter, wrong_number, wrong_sending, wrong_action, wrong_place}
+use Rattle.sdl_rules.specs.Sorts.{variable_sort, has_sort, have_one_sort, sort_in, misfit, wrong_in, wrong_variable, wrong_assignment, parameter_sorts, wrong_parameter, wrong_number, wrong_sending, wrong_action, wrong_place}
 use Rattle.sdl_rules.specs.Divisors.{bad_divisors_in, action_divisors}
 use Rattle.sdl_rules.specs.Receivers.{arrives, lost_sending, lost_action, is_doubtful, doubtful_sending, doubtful_action}
 use Rattle.sdl_rules.specs.Longest.{Piece}
 use Rattle.sdl_compile.specs.Act.{Scope, variable_at, state_at, timer_at, signal_at}
-use Rattle.sdl_compile.specs.Code.{number_or_zero, next, set_to, reset, put, store, tree_code, trees_code, tasks_code, receiver_code, sendings_code, action_code, text_code, places_code, piece_code}
-use Rattle.sdl_compile.specs.Named.{NamedTrees, NamedTasks, NamedSendings, NamedAction, NamedText, NamedPlaces, NamedPiece}
+use Rattle.sdl_compile.specs.Code.{number_or_zero, next, set_to, reset, put, store, tasks_code, receiver_code, sendings_code, action_code, text_code, places_code, piece_code}
+use Rattle.sdl_compile.specs.Named.{NamedTasks, NamedSendings, NamedAction, NamedText, NamedPlaces, NamedPiece}
 use Rattle.sdl_compile.specs.Declarations.{sort_of_tree}
 use Rattle.sdl_compile.specs.Reads.{ReadTasks, ReadSendings, ReadAction, ReadText, action_set, places_set}
 use Rattle.sdl_compile.proofs.Items.{nil_front, nil_back}
-use Rattle.sdl_compile.proofs.Sorting.{fits, has_this, passed, tree_has_sort, variable_has_sort}
+use Rattle.sdl_compile.proofs.Sorting.{fits, has_this, passed, variable_has_sort}
 use Rattle.sdl_compile.proofs.Straight.{AreRight}
-use Rattle.sdl_compile.proofs.Stretches.{Leads, right_joined}
-use Rattle.sdl_compile.proofs.Shapes.{Counted, CountedAction, CountedText, sort_given, trees_shape, this_sort, tree_leads, trees_leads, put_out, variable_store, timer_leads, action_leads, param_leads, places_leads}
-use Rattle.sdl_compile.proofs.Rights.{R, one_of, none_in, store_right, tree_right, trees_right}
+use Rattle.sdl_compile.proofs.Stretches.{right_joined}
+use Rattle.sdl_compile.proofs.Shapes.{Counted, CountedAction, CountedText, sort_given, trees_shape, this_sort, tree_leads, trees_leads, put_out, variable_store, action_leads, param_leads, places_leads}
+use Rattle.sdl_compile.proofs.Rights.{one_of, none_in, store_right, tree_right, trees_right}
 
 agree_same : (xs : List Sort) → Agree xs xs
 agree_same [] = tt

@@ -1,7 +1,7 @@
 -- A text none of whose names is unknown, whose sorts and receivers are right, and that doesn't run off its end, has all that the compiler asks of names.
-use Rattle.std.proofs.Common.{◌≡◌, ℕ, ◌+◌, ◌<◌, ◌≤◌, Bool, true, false, not, cond, ◌||◌, List, [], ◌∷◌, ◌++◌, length, Option, Some, None, IsSome, refl, sym, ap, ◌∙◌, subst, arith, nat_lt}
+use Rattle.std.proofs.Common.{◌≡◌, ℕ, ◌+◌, ◌<◌, ◌≤◌, Bool, true, false, not, cond, ◌||◌, List, [], ◌∷◌, ◌++◌, length, Option, Some, None, IsSome, refl, sym, ◌∙◌, subst, arith, nat_lt}
 use Rattle.std.specs.Prelude.{zip}
-use Rattle.std.specs.List.{list_any, list_all, flat_map, position, position_or_len, prefix_len}
+use Rattle.std.specs.List.{list_any, flat_map, position, position_or_len, prefix_len}
 use Rattle.std.proofs.lemmas.Bool.Decides.{nat_tests}
 use Rattle.std.proofs.lemmas.List.Folds.{list_any-append}
 use Rattle.sdl_tree.specs.declared.expression.Identifier.{Identifier}
@@ -14,7 +14,7 @@ use Rattle.sdl_tables.specs.Names.{same_name, is_in, number_of, variables_of, va
 use Rattle.sdl_rules.specs.Sound.{unknown, tree_names, assignment_names, actions_of, sending_unknown, destination_names, action_unknown, trigger_names, place_names, strays}
 use Rattle.sdl_rules.specs.Sorts.{wrong_in, parameter_sorts, wrong_parameter, wrong_number, wrong_sending, wrong_action}
 use Rattle.sdl_rules.specs.Receivers.{arrives, answers_all, lost_sending, lost_action, is_doubtful, doubtful_sending, doubtful_action}
-use Rattle.sdl_compile.specs.Act.{Scope, variable_at, timer_at, signal_at, to_sender}
+use Rattle.sdl_compile.specs.Act.{Scope, variable_at, to_sender}
 use Rattle.sdl_compile.specs.Named.{NamedTree, NamedTrees, NamedTasks, HasReceiver, NamedSendings, NamedAction, NamedText, NamedPlaces, IsSentTo, AnswerAll, AnswersTo, AnswersAction, AnswersSenders}
 use Rattle.sdl_compile.specs.Drafts.{IsTrigger}
 use Rattle.sdl_compile.proofs.Items.{Each, each_front, each_back, nil_front, nil_back}

@@ -1,5 +1,5 @@
 -- What a piece is made of, for the function that makes it.
-use Rattle.std.proofs.Common.{◌≡◌, ℕ, ◌≤◌, List, [], ◌∷◌, length, Option, Some, refl, sym, ap, ◌∙◌, subst, arith}
+use Rattle.std.proofs.Common.{◌≡◌, List, [], ◌∷◌, length, Option, refl, ap, ◌∙◌}
 use Rattle.std.specs.Prelude.{sum_by}
 use Rattle.sdl_tree.specs.declared.expression.Identifier.{Identifier}
 use Rattle.turn_code.specs.declared.value.Sort.{Sort}
@@ -9,19 +9,17 @@ use Rattle.turn_code.specs.declared.draft.DraftSignal.{DraftSignal}
 use Rattle.turn_code.specs.declared.draft.DraftVariable.{DraftVariable}
 use Rattle.turn_code.specs.declared.draft.DraftPiece.{DraftPiece}
 use Rattle.turn_code.specs.declared.draft.PlaceFacts.{PlaceFacts}
-use Rattle.turn_code.specs.declared.input.Input.{Input}
 use Rattle.turn_code.specs.Code.{effects_of}
 use Rattle.turn_code.specs.Rules.{greatest, depths}
-use Rattle.turn_code.specs.Run.{run}
 use Rattle.sdl_tables.specs.Names.{variables_of}
 use Rattle.sdl_rules.specs.Longest.{Piece, piece_budget, piece_depth, piece_effects}
-use Rattle.sdl_compile.specs.Act.{Scope, Act}
+use Rattle.sdl_compile.specs.Act.{Scope}
 use Rattle.sdl_compile.specs.Code.{piece_code}
-use Rattle.sdl_compile.specs.Named.{NamedPiece, AnswersSenders}
+use Rattle.sdl_compile.specs.Named.{AnswersSenders}
 use Rattle.sdl_compile.specs.Declarations.{drafted_signals, drafted_variables}
-use Rattle.sdl_compile.specs.Drafts.{AreSorted, Means}
+use Rattle.sdl_compile.specs.Drafts.{Means}
 use Rattle.sdl_compile.specs.Facts.{facts_from}
-use Rattle.sdl_compile.specs.Made.{IsPieceOf, IsSmall}
+use Rattle.sdl_compile.specs.Made.{IsPieceOf}
 use Rattle.sdl_compile.specs.Settings.{IsReadyPiece, effects_from}
 use Rattle.sdl_compile.proofs.Actions.{counted_text}
 use Rattle.sdl_compile.proofs.Runs.{run_is_act}

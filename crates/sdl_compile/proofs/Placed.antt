@@ -1,9 +1,8 @@
 -- The transitions of a process that the compiler makes keep every rule.
-use Rattle.std.proofs.Common.{◌≡◌, ℕ, zero, suc, ◌+◌, ◌-◌, ◌*◌, ◌^◌, ◌<◌, ◌≤◌, Bool, true, false, ◌||◌, ◌&&◌, cond, List, [], ◌∷◌, ◌++◌, ⊎_elim, length, Option, Some, None, IsSome, map, refl, sym, ap, ◌∙◌, subst, arith, nat_lt}
+use Rattle.std.proofs.Common.{◌≡◌, ℕ, zero, suc, ◌+◌, ◌-◌, ◌*◌, ◌^◌, ◌<◌, ◌≤◌, Bool, true, false, ◌||◌, ◌&&◌, cond, List, [], ◌∷◌, ◌++◌, ⊎_elim, length, Option, Some, None, IsSome, map, refl, sym, ap, ◌∙◌, subst, arith}
 use Rattle.std.specs.Prelude.{slice_get, All, is_some, option_map, IfSome, sum_by, zip}
 use Rattle.std.specs.Int.{bit_at}
 use Rattle.std.specs.List.{AllZip, flat_map}
-use Rattle.std.specs.Option.{option_map_or}
 use Rattle.std.proofs.lemmas.List.{length-map}
 use Rattle.std.proofs.lemmas.List.Elements.{All-nil, All-cons, All-head, All-tail}
 use Rattle.std.proofs.lemmas.Option.{slice_get-map}
@@ -34,31 +33,30 @@ use Rattle.turn_code.specs.Rules.{StartsRight, IsThere, HasTrigger, HasSaves, Ke
 use Rattle.turn_code.specs.Transitions.{Transition, parameters_of, trigger_parameters, start_of, input_of, input_at}
 use Rattle.turn_code.specs.Valid.{IsValidTransition}
 use Rattle.sdl_tables.specs.Names.{Variable, Input, same_name, number_of, variables_of, variable_names, timers_of, states_of, signals_of, signal_names, process_names, processes_of, inputs_by_state, saves_by_state}
-use Rattle.sdl_rules.specs.Longest.{Piece, start_piece, input_piece, piece_effects, piece_depth}
+use Rattle.sdl_rules.specs.Longest.{Piece, start_piece, input_piece}
 use Rattle.sdl_rules.specs.Paths.{sets, sets_in, initial_sets, input_transition}
-use Rattle.sdl_rules.specs.Settled.{IsSettled, AreSettled}
-use Rattle.sdl_rules.specs.Sound.{place_names, actions_of}
-use Rattle.sdl_rules.specs.Sorts.{same_sort, literal_sort, wrong_constant, wrong_initial, wrong_action, wrong_place, too_many_places, variable_sort, parameter_sorts}
-use Rattle.sdl_rules.specs.Divisors.{action_divisors}
-use Rattle.sdl_rules.specs.Receivers.{paths_of, answers, answers_all, lost_action, doubtful_action}
-use Rattle.sdl_compile.specs.Act.{Scope, scope_of, variable_at, state_at, timer_at, signal_at}
+use Rattle.sdl_rules.specs.Settled.{IsSettled}
+use Rattle.sdl_rules.specs.Sound.{place_names}
+use Rattle.sdl_rules.specs.Sorts.{same_sort, literal_sort, wrong_constant, wrong_initial, wrong_place, too_many_places, parameter_sorts}
+use Rattle.sdl_rules.specs.Receivers.{paths_of, answers}
+use Rattle.sdl_compile.specs.Act.{Scope, variable_at, signal_at}
 use Rattle.sdl_compile.specs.Code.{number_or_zero, piece_code}
 use Rattle.sdl_compile.specs.Named.{NamedPiece}
 use Rattle.sdl_compile.specs.Facts.{facts_from}
 use Rattle.sdl_compile.specs.Made.{IsPieceOf, IsSmall}
 use Rattle.sdl_compile.specs.Declarations.{sort_of_tree, literal_value, constant_value, drafted, drafted_signal, drafted_variables, drafted_signals, trigger_with, trigger_of, trigger_sorts}
 use Rattle.sdl_compile.specs.Drafts.{IsTrigger, IsReadyInput, IsReadyProcess, SavesAll, IsInputOf, AreInputsOf, sets_of, IsProcessOf, AreReady, AllReady}
-use Rattle.sdl_compile.specs.Blocks.{drafted_routes, Declares, IsValidProcess}
+use Rattle.sdl_compile.specs.Blocks.{Declares, IsValidProcess}
 use Rattle.sdl_compile.specs.Reads.{ReadText, places_set}
 use Rattle.sdl_compile.specs.Routes.{IsKnownPath}
-use Rattle.sdl_compile.proofs.Items.{Each, nil_front, nil_back, each_nil, all_items, each_map}
+use Rattle.sdl_compile.proofs.Items.{Each, nil_front, nil_back}
 use Rattle.sdl_compile.proofs.Numbers.{AreNumbered, are_numbered, number_alike, number_there}
 use Rattle.sdl_compile.proofs.Sorting.{passed, number_small, variable_sorted, signal_sorted, unsigned_sorts}
 use Rattle.sdl_compile.proofs.Straight.{AreRight, IsStraight}
 use Rattle.sdl_compile.proofs.Shapes.{piece_closes}
 use Rattle.sdl_compile.proofs.Actions.{Stands, Reaching, counted_text, piece_right}
 use Rattle.sdl_compile.proofs.Receiving.{answers_input, arriving}
-use Rattle.sdl_compile.proofs.Ready.{FineText, FineInput, FineProcess, each_at, at_most, not_flagged}
+use Rattle.sdl_compile.proofs.Ready.{FineText, FineInput, FineProcess, each_at}
 use Rattle.sdl_compile.proofs.Validity.{valid}
 use Rattle.sdl_compile.proofs.Walks.{Holds, places_hold, settled_read, by_bool}
 

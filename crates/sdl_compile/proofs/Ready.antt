@@ -1,35 +1,31 @@
 -- The processes of a sound block are ready to be compiled.
-use Rattle.std.proofs.Common.{◌≡◌, ℕ, zero, suc, ◌+◌, ◌≤◌, Bool, true, false, cond, ◌&&◌, List, [], ◌∷◌, ◌++◌, length, map, Option, Some, None, refl, sym, ap, ◌∙◌, subst, arith, nat_lt}
-use Rattle.std.specs.Prelude.{find, sum_by, slice_get, zip}
-use Rattle.std.specs.List.{flat_map, list_any, list_all, enumerate_from}
-use Rattle.std.specs.Option.{option_map_or}
+use Rattle.std.proofs.Common.{◌≡◌, ℕ, zero, suc, ◌+◌, ◌≤◌, Bool, true, false, cond, ◌&&◌, List, [], ◌∷◌, ◌++◌, length, map, Option, Some, None, refl, ap, ◌∙◌, subst, arith, nat_lt}
+use Rattle.std.specs.Prelude.{slice_get, zip}
+use Rattle.std.specs.List.{flat_map, list_all, enumerate_from}
 use Rattle.std.proofs.lemmas.Bool.Decides.{nat_tests}
 use Rattle.std.proofs.lemmas.List.{length-map}
 use Rattle.sdl_tree.specs.declared.expression.Identifier.{Identifier}
 use Rattle.sdl_tree.specs.declared.tree.Destination.{Destination}
 use Rattle.sdl_tree.specs.declared.tree.Destination.TheVariants as address
-use Rattle.sdl_tree.specs.Plain.{PlainSending, PlainAction, task, output, set_timer, reset_timer, Text, falls, ends, does, PlainStimulus, PlainInput, PlainClause, input, save, PlainState, PlainProcess, PlainSignal, PlainPath, PlainRoute, PlainBlock}
-use Rattle.turn_code.specs.declared.draft.DraftSignal.{DraftSignal}
-use Rattle.sdl_tables.specs.Names.{same_name, is_in, Variable, Input, signals_of, routes_of, processes_of, signal_names, process_names, variables_of, variable_names, timers_of, states_of, clause_parts, clause_inputs, part_inputs, clause_saves, part_saves, given_to, of_state, by_state, is_state, input_parts, inputs_by_state, saves_by_state, signal_named}
-use Rattle.sdl_tables.specs.Scopes.{repeats, process_scopes, scopes, signal_timers}
-use Rattle.sdl_rules.specs.Longest.{Piece, budget, size, piece_size, piece_depth, piece_effects, action_cost, start_piece, input_piece, pieces_of}
-use Rattle.sdl_rules.specs.Sound.{unknown, actions_of, action_unknown, text_unknown, trigger_names, place_names, stimulus_unknown, input_unknown, saves_unknown, process_unknown, route_unknown, path_unknown, strays, input_strays, process_strays, exceeds, limits}
+use Rattle.sdl_tree.specs.Plain.{PlainSending, PlainAction, task, output, set_timer, reset_timer, Text, falls, ends, does, PlainStimulus, PlainInput, PlainClause, input, save, PlainState, PlainProcess, PlainBlock}
+use Rattle.sdl_tables.specs.Names.{is_in, Variable, Input, signal_names, process_names, variables_of, variable_names, timers_of, states_of, clause_parts, clause_inputs, part_inputs, part_saves, given_to, of_state, by_state, is_state, input_parts, inputs_by_state, saves_by_state}
+use Rattle.sdl_tables.specs.Scopes.{repeats}
+use Rattle.sdl_rules.specs.Longest.{Piece, budget, size, piece_size, piece_depth, piece_effects, action_cost, input_piece, pieces_of}
+use Rattle.sdl_rules.specs.Sound.{unknown, actions_of, action_unknown, text_unknown, trigger_names, place_names, stimulus_unknown, input_unknown, saves_unknown, process_unknown, strays, input_strays, process_strays}
 use Rattle.sdl_rules.specs.Sorts.{wrong_action, wrong_stimulus, too_many_places, wrong_place, wrong_initial, wrong_declarations, parameter_sorts}
 use Rattle.sdl_rules.specs.Divisors.{action_divisors}
 use Rattle.sdl_rules.specs.Receivers.{paths_of, answers, answers_all, arrives, lost_sending, lost_action, doubtful_action}
 use Rattle.sdl_rules.specs.Actions.{in_actions}
-use Rattle.sdl_rules.specs.Refusals.{Sound}
-use Rattle.sdl_rules.specs.declared.fault.Limit.{Limit}
-use Rattle.sdl_compile.specs.Act.{Scope, scope_of}
+use Rattle.sdl_compile.specs.Act.{Scope}
 use Rattle.sdl_compile.specs.Made.{IsSmall}
-use Rattle.sdl_compile.specs.Declarations.{sort_of_tree, trigger_sorts}
+use Rattle.sdl_compile.specs.Declarations.{sort_of_tree}
 use Rattle.sdl_compile.specs.Drafts.{IsTrigger, IsReadyInput, AreReady, AllReady, AreTriggers, AllTriggers, IsReadyProcess}
 use Rattle.sdl_compile.specs.Routes.{IsKnownPath}
 use Rattle.sdl_compile.proofs.Known.{known, known_in, trigger_known, named_text, named_places, answers_text}
 use Rattle.sdl_compile.proofs.Numbers.{AreNumbered}
 use Rattle.sdl_compile.proofs.Receiving.{has_receiver, answers_sender}
 use Rattle.sdl_compile.proofs.Sorting.{passed}
-use Rattle.sdl_compile.proofs.Items.{Each, each_front, each_back, each_append, each_always, each_with, each_map, each_flat, each_unflat, nil_front, nil_back, each_nil, each_false, each_unfound}
+use Rattle.sdl_compile.proofs.Items.{Each, each_front, each_back, each_append, each_always, each_with, each_map, each_flat, each_unflat, nil_front, nil_back, each_nil}
 
 pub each_both : {A : Type 0} (P Q : A → Type 0) (xs : List A) → Each P xs → Each Q xs → Each (λ x. P x × Q x) xs
 each_both P Q [] h k = tt

@@ -1,5 +1,5 @@
 -- Who gets a signal by the text's routes gets it by the draft's.
-use Rattle.std.proofs.Common.{◌≡◌, ℕ, zero, suc, ◌+◌, ◌<◌, Bool, true, false, not, cond, ◌||◌, ◌&&◌, List, [], ◌∷◌, ◌++◌, length, map, Option, Some, None, IsSome, refl, sym, ap, ◌∙◌, subst, arith, nat_lt}
+use Rattle.std.proofs.Common.{◌≡◌, ℕ, zero, suc, ◌<◌, Bool, true, false, not, cond, ◌||◌, ◌&&◌, List, [], ◌∷◌, ◌++◌, length, map, Option, Some, None, IsSome, refl, sym, ap, ◌∙◌, subst, arith, nat_lt}
 use Rattle.std.specs.Prelude.{slice_get, All, Contains, Any, fold, option_map}
 use Rattle.std.specs.List.{list_any, list_all, flat_map}
 use Rattle.std.proofs.lemmas.Bool.Decides.{nat_tests}
@@ -20,20 +20,19 @@ use Rattle.turn_code.specs.declared.draft.Draft.{Draft}
 use Rattle.turn_code.specs.declared.draft.DraftRoute.{DraftRoute}
 use Rattle.turn_code.specs.declared.draft.DraftProcess.{DraftProcess}
 use Rattle.turn_code.specs.declared.draft.Trigger.{Trigger}
-use Rattle.turn_code.specs.declared.draft.Trigger.TheVariants.{Signal, Timer}
 use Rattle.turn_code.specs.Routes.{IsProcess, IsPartyOf, Takes, Reaches, Answers}
 use Rattle.turn_code.specs.Rules.{ReachesReceiver, AnswersSender}
 use Rattle.sdl_tables.specs.Names.{same_name, is_in, number_of, signal_names, process_names, timers_of}
 use Rattle.sdl_rules.specs.Receivers.{same_party, party_of, paths_of, brings, carries, path_receivers, path_senders, add_party, receivers, senders, answers, answers_all, arrives, is_doubtful}
-use Rattle.sdl_compile.specs.Act.{Scope, signal_at, numbered, the_one, if_named, to_sender}
+use Rattle.sdl_compile.specs.Act.{Scope, numbered, the_one, if_named, to_sender}
 use Rattle.sdl_compile.specs.Code.{number_or_zero, party_or_environment, receiver_code}
 use Rattle.sdl_compile.specs.Named.{HasReceiver, IsSentIf, IsSentTo}
 use Rattle.sdl_compile.specs.Declarations.{trigger_with, trigger_of}
 use Rattle.sdl_compile.specs.Drafts.{IsTrigger}
 use Rattle.sdl_compile.specs.Blocks.{drafted_party, drafted_path}
 use Rattle.sdl_compile.specs.Routes.{KnownParty, IsKnown, IsKnownPath}
-use Rattle.sdl_compile.proofs.Items.{Each, each_append, each_with, each_front, each_back, all_items}
-use Rattle.sdl_compile.proofs.Numbers.{AreNumbered, HasNumber, folded_alike, number_alike, number_there, same_self, same_other_way}
+use Rattle.sdl_compile.proofs.Items.{Each, each_append, each_with, all_items}
+use Rattle.sdl_compile.proofs.Numbers.{AreNumbered, folded_alike, number_alike, number_there, same_self, same_other_way}
 
 and_left : (a b : Bool) → a && b ≡ true → a ≡ true
 and_left true b e = refl
@@ -254,10 +253,10 @@ module _ (c : Scope) (n : ℕ) (numbers : AreNumbered (process_names c.block)) (
   carries_alike q r s (path ∷ paths) e h =
       or_split (brings own r s path) (list_any (brings own r s) paths) h
       (λ f.
-        let rest = and_right (same_party own path.from) (same_party r path.to && is_in path.signals s) f in
-        or_one (brings own q s path) (list_any (brings own q s) paths)
-        (and_both (same_party own path.from) (same_party q path.to && is_in path.signals s) (and_left (same_party own path.from) (same_party r path.to && is_in path.signals s) f)
-        (and_both (same_party q path.to) (is_in path.signals s) (trans_party q r path.to e (and_left (same_party r path.to) (is_in path.signals s) rest)) (and_right (same_party r path.to) (is_in path.signals s) rest))))
+      let rest = and_right (same_party own path.from) (same_party r path.to && is_in path.signals s) f in
+      or_one (brings own q s path) (list_any (brings own q s) paths)
+      (and_both (same_party own path.from) (same_party q path.to && is_in path.signals s) (and_left (same_party own path.from) (same_party r path.to && is_in path.signals s) f)
+      (and_both (same_party q path.to) (is_in path.signals s) (trans_party q r path.to e (and_left (same_party r path.to) (is_in path.signals s) rest)) (and_right (same_party r path.to) (is_in path.signals s) rest))))
       (λ f. or_other (brings own q s path) (list_any (brings own q s) paths) (carries_alike q r s paths e f))
 
   carried_back : (q : Party) (x s : List ℕ) (paths : List PlainPath) → Each (λ (path : PlainPath). same_party own path.to && is_in path.signals x ≡ true → carries c.block own path.from s ≡ true) paths
@@ -364,10 +363,10 @@ module _ (c : Scope) (n : ℕ) (numbers : AreNumbered (process_names c.block)) (
     answered x s v e [] k h = tt
     answered x s v e (path ∷ paths) k h = (
       λ to there. (
-        let mine = own_party path.to k.0.to to in
-        let among = All-contains (λ (k : SignalNumber). k ≡ (let m : SignalNumber = record { 0 = v } in m) → is_in path.signals x ≡ true) (map (λ (id : Identifier). sig id.name) path.signals) (let m : SignalNumber = record { 0 = v } in m) (signal_among x v e path.signals k.0.signals) there refl in
-        (carried path.from s (h.0 (and_both (same_party own path.to) (is_in path.signals x) mine among))).1
-      ),
+          let mine = own_party path.to k.0.to to in
+          let among = All-contains (λ (k : SignalNumber). k ≡ (let m : SignalNumber = record { 0 = v } in m) → is_in path.signals x ≡ true) (map (λ (id : Identifier). sig id.name) path.signals) (let m : SignalNumber = record { 0 = v } in m) (signal_among x v e path.signals k.0.signals) there refl in
+          (carried path.from s (h.0 (and_both (same_party own path.to) (is_in path.signals x) mine among))).1
+          ),
       answered x s v e paths k.1 h.1,
     )
 

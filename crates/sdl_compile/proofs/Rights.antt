@@ -1,12 +1,10 @@
 -- What is claimed of the places of a piece is right: each instruction finds what it takes, and what it names is there.
-use Rattle.std.proofs.Common.{◌≡◌, ℕ, zero, suc, ◌+◌, ◌<◌, ◌≤◌, ℤ, pos, ◌≤ℤ◌, Bool, true, false, not, cond, ◌&&◌, List, [], ◌∷◌, ◌++◌, length, map, reverse, drop, Option, Some, None, IsSome, refl, sym, ap, ◌∙◌, subst, arith, nat_lt, nat_le, nat_eq}
-use Rattle.std.specs.Prelude.{slice_get, All, Contains, FitsSigned}
+use Rattle.std.proofs.Common.{◌≡◌, ℕ, ◌+◌, ◌<◌, ◌≤◌, ℤ, pos, ◌≤ℤ◌, Bool, true, false, not, cond, ◌&&◌, List, [], ◌∷◌, ◌++◌, length, Option, Some, IsSome, refl, sym, ap, ◌∙◌, subst, arith, nat_lt, nat_le}
+use Rattle.std.specs.Prelude.{All, Contains, FitsSigned}
 use Rattle.std.specs.List.{flat_map}
-use Rattle.std.specs.Option.{option_to_list}
 use Rattle.std.proofs.lemmas.Bool.Decides.{nat_tests}
 use Rattle.std.proofs.lemmas.Int.{ints, int_wrap_fits}
 use Rattle.std.specs.Int.{w32}
-use Rattle.std.proofs.lemmas.List.{length-map}
 use Rattle.std.proofs.lemmas.List.Elements.{All-nil, All-cons, All-contains}
 use Rattle.sdl_lex.specs.declared.TheConstants.{MAX_NUMBER}
 use Rattle.sdl_tree.specs.declared.expression.Identifier.{Identifier}
@@ -24,13 +22,13 @@ use Rattle.turn_code.specs.declared.instruction.Instruction.{Instruction}
 use Rattle.turn_code.specs.declared.instruction.Instruction.TheVariants as i
 use Rattle.turn_code.specs.declared.variable_set.VariableSet.{VariableSet}
 use Rattle.turn_code.specs.declared.draft.Draft.{Draft}
-use Rattle.turn_code.specs.Sets.{Has, with_variable}
+use Rattle.turn_code.specs.Sets.{Has}
 use Rattle.turn_code.specs.Values.{wrap}
 use Rattle.turn_code.specs.Code.{sort_at, takes, reads, sets, parameters_in, timers_in, divisors_in, states_in}
 use Rattle.turn_code.specs.Transitions.{Transition}
 use Rattle.turn_code.specs.Rules.{Agree, KeepsOutput}
 use Rattle.sdl_tables.specs.Names.{Variable, variables_of}
-use Rattle.sdl_rules.specs.Sorts.{unary_sort, binary_sort, operand_sort, variable_sort, has_sort, sort_in, misfit, wrong_operands, wrong_in}
+use Rattle.sdl_rules.specs.Sorts.{unary_sort, operand_sort, variable_sort, has_sort, sort_in, misfit, wrong_operands, wrong_in}
 use Rattle.sdl_rules.specs.Divisors.{divides, is_divisor, bad_divisor, bad_divisors_in}
 use Rattle.sdl_rules.specs.Longest.{is_division, cost_of, depth_of}
 use Rattle.sdl_compile.specs.Act.{Scope, variable_at, is_truth, divisor_of}
@@ -39,7 +37,7 @@ use Rattle.sdl_compile.specs.Named.{NamedTree, NamedTrees}
 use Rattle.sdl_compile.specs.Declarations.{sort_of_tree}
 use Rattle.sdl_compile.specs.Reads.{ReadTree, ReadTrees}
 use Rattle.sdl_compile.proofs.Items.{nil_front, nil_back}
-use Rattle.sdl_compile.proofs.Sorting.{fits, tree_has_sort, passed}
+use Rattle.sdl_compile.proofs.Sorting.{fits, tree_has_sort}
 use Rattle.sdl_compile.proofs.Straight.{IsRight, AreRight}
 use Rattle.sdl_compile.proofs.Stretches.{Leads, right_joined}
 use Rattle.sdl_compile.proofs.Shapes.{tree_leads}
@@ -200,45 +198,54 @@ module _ (c : Scope) (d : Draft) (t : Transition)
   two_right x w s m h e = (plain_right x (w ∷ w ∷ s) m h (omega (arith, ap length e)) (subst (λ l. Agree l (w ∷ w ∷ s)) (sym e) (refl, (refl, tt))), tt)
 
   divide_right : (op : BinaryOperator) (k : ℤ) (s : List Sort) (m : VariableSet) → is_division op ≡ true → pos 1 ≤ℤ k → R (Integer ∷ s) m (division_code op k ∷ [])
-  divide_right Divide k s m e p = (record {
-    under = omega arith;
-    sort = (refl, tt);
-    reads_set = All-nil (Has m);
-    states = λ n st h. none_in n h;
-    states_there = All-nil (λ q. q < length t.process.states);
-    reads_there = All-nil (λ v. v < length t.process.variables);
-    sets_there = All-nil (λ v. v < length t.process.variables);
-    parameters = All-nil (λ j. j < length t.parameters);
-    timers = All-nil (λ n. n < length t.process.timers);
-    divisors = All-cons (λ z. pos 1 ≤ℤ z) k [] p (All-nil (λ z. pos 1 ≤ℤ z));
-    outputs = tt;
-  }, tt)
-  divide_right Modulo k s m e p = (record {
-    under = omega arith;
-    sort = (refl, tt);
-    reads_set = All-nil (Has m);
-    states = λ n st h. none_in n h;
-    states_there = All-nil (λ q. q < length t.process.states);
-    reads_there = All-nil (λ v. v < length t.process.variables);
-    sets_there = All-nil (λ v. v < length t.process.variables);
-    parameters = All-nil (λ j. j < length t.parameters);
-    timers = All-nil (λ n. n < length t.process.timers);
-    divisors = All-cons (λ z. pos 1 ≤ℤ z) k [] p (All-nil (λ z. pos 1 ≤ℤ z));
-    outputs = tt;
-  }, tt)
-  divide_right Remainder k s m e p = (record {
-    under = omega arith;
-    sort = (refl, tt);
-    reads_set = All-nil (Has m);
-    states = λ n st h. none_in n h;
-    states_there = All-nil (λ q. q < length t.process.states);
-    reads_there = All-nil (λ v. v < length t.process.variables);
-    sets_there = All-nil (λ v. v < length t.process.variables);
-    parameters = All-nil (λ j. j < length t.parameters);
-    timers = All-nil (λ n. n < length t.process.timers);
-    divisors = All-cons (λ z. pos 1 ≤ℤ z) k [] p (All-nil (λ z. pos 1 ≤ℤ z));
-    outputs = tt;
-  }, tt)
+  divide_right Divide k s m e p = (
+    record {
+      under = omega arith;
+      sort = (refl, tt);
+      reads_set = All-nil (Has m);
+      states = λ n st h. none_in n h;
+      states_there = All-nil (λ q. q < length t.process.states);
+      reads_there = All-nil (λ v. v < length t.process.variables);
+      sets_there = All-nil (λ v. v < length t.process.variables);
+      parameters = All-nil (λ j. j < length t.parameters);
+      timers = All-nil (λ n. n < length t.process.timers);
+      divisors = All-cons (λ z. pos 1 ≤ℤ z) k [] p (All-nil (λ z. pos 1 ≤ℤ z));
+      outputs = tt;
+    },
+    tt,
+  )
+  divide_right Modulo k s m e p = (
+    record {
+      under = omega arith;
+      sort = (refl, tt);
+      reads_set = All-nil (Has m);
+      states = λ n st h. none_in n h;
+      states_there = All-nil (λ q. q < length t.process.states);
+      reads_there = All-nil (λ v. v < length t.process.variables);
+      sets_there = All-nil (λ v. v < length t.process.variables);
+      parameters = All-nil (λ j. j < length t.parameters);
+      timers = All-nil (λ n. n < length t.process.timers);
+      divisors = All-cons (λ z. pos 1 ≤ℤ z) k [] p (All-nil (λ z. pos 1 ≤ℤ z));
+      outputs = tt;
+    },
+    tt,
+  )
+  divide_right Remainder k s m e p = (
+    record {
+      under = omega arith;
+      sort = (refl, tt);
+      reads_set = All-nil (Has m);
+      states = λ n st h. none_in n h;
+      states_there = All-nil (λ q. q < length t.process.states);
+      reads_there = All-nil (λ v. v < length t.process.variables);
+      sets_there = All-nil (λ v. v < length t.process.variables);
+      parameters = All-nil (λ j. j < length t.parameters);
+      timers = All-nil (λ n. n < length t.process.timers);
+      divisors = All-cons (λ z. pos 1 ≤ℤ z) k [] p (All-nil (λ z. pos 1 ≤ℤ z));
+      outputs = tt;
+    },
+    tt,
+  )
   divide_right Or k s m e p = absurd (let k : ⊥ = cc in k)
   divide_right Xor k s m e p = absurd (let k : ⊥ = cc in k)
   divide_right And k s m e p = absurd (let k : ⊥ = cc in k)

@@ -1,7 +1,6 @@
 -- How deep the code of a piece is, how many instructions it has and how many effects: what its text says.
-use Rattle.std.proofs.Common.{◌≡◌, ℕ, zero, suc, ◌+◌, ◌-◌, ◌<◌, ◌≤◌, ℤ, pos, max, Bool, true, false, cond, List, [], ◌∷◌, ◌++◌, length, map, reverse, drop, Option, Some, None, IsSome, refl, sym, ap, ◌∙◌, subst, arith}
+use Rattle.std.proofs.Common.{◌≡◌, ℕ, zero, suc, ◌+◌, ◌<◌, ◌≤◌, ℤ, pos, max, Bool, true, false, cond, List, [], ◌∷◌, ◌++◌, length, reverse, drop, Option, Some, None, IsSome, refl, sym, ap, ◌∙◌, arith}
 use Rattle.std.specs.Prelude.{slice_get, sum_by}
-use Rattle.std.specs.List.{flat_map}
 use Rattle.std.specs.Option.{option_to_list}
 use Rattle.std.proofs.lemmas.List.{length-reverse}
 use Rattle.std.proofs.lemmas.List.Sums.{sum_by-cons}
@@ -13,11 +12,9 @@ use Rattle.sdl_tree.specs.declared.expression.BinaryOperator.TheVariants.{Or, Xo
 use Rattle.sdl_tree.specs.declared.tree.Sort as tree_sort
 use Rattle.sdl_tree.specs.declared.tree.Sort.TheVariants as tree_sorts
 use Rattle.sdl_tree.specs.declared.tree.Destination.{Destination}
-use Rattle.sdl_tree.specs.declared.tree.End.{End}
 use Rattle.sdl_tree.specs.declared.tree.End.TheVariants.{NextState, Stop}
 use Rattle.sdl_tree.specs.Plain.{Tree, number, truth, variable, unary, binary, PlainAssignment, PlainSending, PlainAction, task, output, set_timer, reset_timer, Text, falls, ends, does}
 use Rattle.turn_code.specs.declared.value.Sort.{Sort}
-use Rattle.turn_code.specs.declared.value.Sort.TheVariants.{Integer, Boolean}
 use Rattle.turn_code.specs.declared.instruction.Receiver.{Receiver}
 use Rattle.turn_code.specs.declared.instruction.Instruction.{Instruction}
 use Rattle.turn_code.specs.declared.instruction.Instruction.TheVariants as i
@@ -29,17 +26,15 @@ use Rattle.turn_code.specs.Values.{wrap}
 use Rattle.turn_code.specs.Code.{sort_at, set_after, effects_of}
 use Rattle.turn_code.specs.Transitions.{parameters_of}
 use Rattle.sdl_tables.specs.Names.{variables_of}
-use Rattle.sdl_rules.specs.Sound.{actions_of}
 use Rattle.sdl_rules.specs.Sorts.{unary_sort, binary_sort, variable_sort, sort_in}
 use Rattle.sdl_rules.specs.Longest.{Piece, is_division, cost_of, depth_of, assignment_cost, assignments_cost, assignments_depth, sending_cost, sendings_cost, parameters_depth, sendings_depth, action_cost, action_depth, action_effects, budget, depth, effects, place_cost, places_cost, places_depth, piece_budget, piece_depth, piece_effects}
 use Rattle.sdl_compile.specs.Act.{Scope, variable_at, state_at, timer_at, signal_at, is_truth, divisor_of}
 use Rattle.sdl_compile.specs.Code.{number_or_zero, load, store, next, set_to, reset, put, unary_code, binary_code, division_code, tree_code, trees_code, tasks_code, receiver_code, sendings_code, action_code, text_code, places_code, piece_code}
 use Rattle.sdl_compile.specs.Named.{NamedTree, NamedTrees, NamedTasks, NamedSendings, NamedAction, NamedText, NamedPlaces, NamedPiece}
 use Rattle.sdl_compile.specs.Declarations.{sort_of_tree}
-use Rattle.sdl_compile.specs.Facts.{facts_from}
 use Rattle.sdl_compile.specs.Reads.{tasks_set, action_set, places_set}
 use Rattle.sdl_compile.proofs.Sorting.{tree_has_sort, variable_has_sort}
-use Rattle.sdl_compile.proofs.Straight.{IsStep, IsLast}
+use Rattle.sdl_compile.proofs.Straight.{IsStep}
 use Rattle.sdl_compile.proofs.Stretches.{Leads, Closes, after, joined, none, one, told, closed, last}
 
 pub depth_some : (t : Tree) → 1 ≤ depth_of t

@@ -1,5 +1,5 @@
 -- Sorts as the text has them and as the draft has them.
-use Rattle.std.proofs.Common.{◌≡◌, ℕ, zero, suc, ◌+◌, ◌<◌, ◌≤◌, Bool, true, false, not, cond, ◌||◌, ◌&&◌, List, [], ◌∷◌, ◌++◌, length, map, Option, Some, None, IsSome, refl, sym, ap, ◌∙◌, subst, arith, nat_lt}
+use Rattle.std.proofs.Common.{◌≡◌, ℕ, zero, suc, ◌+◌, ◌<◌, ◌≤◌, Bool, true, false, not, cond, List, [], ◌∷◌, length, map, Option, Some, None, IsSome, refl, sym, ap, ◌∙◌, subst, arith, nat_lt}
 use Rattle.std.specs.Prelude.{slice_get, find, option_map}
 use Rattle.std.specs.List.{position, position_or_len}
 use Rattle.std.specs.Option.{option_to_list, option_map_or}
@@ -10,17 +10,16 @@ use Rattle.sdl_tree.specs.declared.tree.Sort as tree_sort
 use Rattle.sdl_tree.specs.declared.tree.Sort.TheVariants as tree_sorts
 use Rattle.sdl_tree.specs.Plain.{Tree, number, truth, variable, unary, binary, PlainSignal, PlainBlock}
 use Rattle.sdl_tree.specs.Expressions.{place_of}
-use Rattle.turn_code.specs.declared.value.Sort.{Sort}
 use Rattle.turn_code.specs.declared.draft.DraftSignal.{DraftSignal}
 use Rattle.turn_code.specs.declared.draft.DraftVariable.{DraftVariable}
 use Rattle.turn_code.specs.Code.{sort_at}
 use Rattle.turn_code.specs.Transitions.{parameters_of}
-use Rattle.sdl_tables.specs.Names.{Variable, same_name, number_of, variables_of, variable_names, signals_of, signal_names, signal_named}
+use Rattle.sdl_tables.specs.Names.{Variable, same_name, number_of, variables_of, signals_of, signal_names}
 use Rattle.sdl_rules.specs.Sorts.{same_sort, has_sort, have_one_sort, variable_sort, unary_sort, binary_sort, sort_in, misfit, parameter_sorts}
-use Rattle.sdl_compile.specs.Act.{Scope, variable_at, signal_at}
+use Rattle.sdl_compile.specs.Act.{Scope}
 use Rattle.sdl_compile.specs.Code.{number_or_zero}
 use Rattle.sdl_compile.specs.Named.{NamedTree}
-use Rattle.sdl_compile.specs.Declarations.{sort_of_tree, drafted, drafted_signal, drafted_variables, drafted_signals, parameters_by}
+use Rattle.sdl_compile.specs.Declarations.{sort_of_tree, drafted, drafted_signal, drafted_signals, parameters_by}
 
 -- the number of a name that is there is its place
 pub first_of_some : {A : Type 0} (p : A → Bool) (xs : List A) → IsSome (position p xs) → number_or_zero (position p xs) ≡ position_or_len p xs

@@ -1,5 +1,5 @@
 -- The draft of a block, from what its parts are.
-use Rattle.std.proofs.Common.{◌≡◌, ℕ, zero, suc, ◌+◌, ◌<◌, ◌≤◌, Bool, true, false, cond, List, [], ◌∷◌, ◌++◌, length, get_or, map, Option, Some, None, refl, sym, ap, ◌∙◌, subst, arith, nat_lt, length-append}
+use Rattle.std.proofs.Common.{◌≡◌, ℕ, zero, suc, ◌<◌, ◌≤◌, false, List, [], ◌∷◌, ◌++◌, length, get_or, map, Option, Some, None, refl, sym, ap, ◌∙◌, subst, arith, nat_lt, length-append}
 use Rattle.std.specs.Prelude.{slice_get, All, find, sum_by, option_map}
 use Rattle.std.specs.List.{AllZip, flat_map, position_or_len}
 use Rattle.std.specs.Option.{option_map_or}
@@ -24,7 +24,7 @@ use Rattle.turn_code.specs.declared.draft.DraftProcess.{DraftProcess}
 use Rattle.turn_code.specs.Rules.{inputs_of as state_inputs, pieces_of as draft_pieces}
 use Rattle.turn_code.specs.Transitions.{Transition, process_at}
 use Rattle.turn_code.specs.Valid.{IsValid, IsValidTransition}
-use Rattle.sdl_tables.specs.Names.{Input, same_name, number_of, signals_of, signal_names, route_names, routes_of, processes_of, process_names, variables_of, variable_names, timers_of, states_of, inputs_by_state}
+use Rattle.sdl_tables.specs.Names.{Input, same_name, signals_of, signal_names, route_names, routes_of, processes_of, process_names, variables_of, variable_names, timers_of, states_of, inputs_by_state}
 use Rattle.sdl_tables.specs.Scopes.{repeats, process_scopes, scopes, signal_timers}
 use Rattle.sdl_rules.specs.Longest.{Piece, piece_size, piece_depth, piece_effects, input_piece, pieces_of}
 use Rattle.sdl_rules.specs.Sound.{unknown, party_names, path_unknown, route_unknown, process_unknown, process_strays, exceeds, limits}
@@ -38,13 +38,13 @@ use Rattle.sdl_rules.specs.declared.fault.Limit.{Limit}
 use Rattle.sdl_compile.specs.Act.{Scope, scope_of}
 use Rattle.sdl_compile.specs.Made.{IsSmall}
 use Rattle.sdl_compile.specs.Declarations.{sort_of_tree, drafted_signal, drafted_signals}
-use Rattle.sdl_compile.specs.Drafts.{IsReadyProcess, MatchesProcess, IsInputOf, AreInputsOf, IsProcessOf}
+use Rattle.sdl_compile.specs.Drafts.{IsReadyProcess, IsInputOf, AreInputsOf, IsProcessOf}
 use Rattle.sdl_compile.specs.Blocks.{drafted_routes, Declares}
 use Rattle.sdl_compile.specs.Routes.{KnownParty, IsKnown, IsKnownPath, HasFewNames}
-use Rattle.sdl_compile.proofs.Items.{Each, each_front, each_back, each_with, each_map, each_unmap, each_flat, each_unflat, all_items, nil_front, nil_back, each_nil, each_false, each_unfound}
+use Rattle.sdl_compile.proofs.Items.{Each, each_front, each_back, each_with, each_unmap, each_flat, each_unflat, all_items, nil_front, nil_back, each_nil, each_false, each_unfound}
 use Rattle.sdl_compile.proofs.Known.{known}
 use Rattle.sdl_compile.proofs.Numbers.{AreNumbered, are_numbered}
-use Rattle.sdl_compile.proofs.Placed.{Beside, beside, valid_process}
+use Rattle.sdl_compile.proofs.Placed.{beside, valid_process}
 use Rattle.sdl_compile.proofs.Ready.{FineProcess, process_fine, ready_process, small_pieces, at_most, each_both, each_at}
 use Rattle.sdl_compile.proofs.Sorting.{found_at, slice_map}
 

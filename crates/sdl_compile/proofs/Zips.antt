@@ -87,3 +87,9 @@ enumerated n (id ∷ ids) = ap suc (enumerated (n + 1) ids)
 -- each state has what its parts give
 pub paired : {X : Type 0} (in_part : PlainState → List X) (p : PlainProcess) → length (by_state in_part p) ≡ length (states_of p)
 paired in_part p = length-map (enumerate_from 0 (states_of p)) (λ (s : ℕ × Identifier). of_state in_part p s.0) ∙ enumerated 0 (states_of p)
+
+-- one more item of a list that is made of another one
+pub made_more : {A B : Type 0} (f : A → B) (xs : List A) (i : ℕ) (x : A) → slice_get xs i ≡ Some x → map f (take i xs) ++ f x ∷ [] ≡ map f (take (suc i) xs)
+made_more f [] i x e = absurd (let k : ⊥ = cc in k)
+made_more f (y ∷ xs) zero x e = let g : y ≡ x = cc in ap (λ y. f y ∷ []) (sym g)
+made_more f (y ∷ xs) (suc i) x e = ap (λ l. f y ∷ l) (made_more f xs i x e)

@@ -1,5 +1,5 @@
 -- The draft of a block: what it says, and that its transitions keep every rule.
-use Rattle.std.specs.Prelude.{◌≡◌, ◌<◌, ℕ, List, length, map, Some}
+use Rattle.std.specs.Prelude.{◌≡◌, ℕ, List, length, map, Some}
 use Rattle.std.specs.List.{flat_map, AllZip}
 use Rattle.sdl_tree.specs.Plain.{PlainBlock, PlainPath}
 use Rattle.sdl_tree.specs.declared.expression.Identifier.{Identifier}

@@ -182,11 +182,7 @@ fn compile_processes(
 }
 
 // Compiles a block whose processes' states have these sets.
-fn compile_block(
-    alloc: Global,
-    block: &BlockTable,
-    sets: &[Vec<u32>],
-) -> Result<Draft, AllocError>
+fn compile_block(alloc: Global, block: &BlockTable, sets: &[Vec<u32>]) -> Result<Draft, AllocError>
     requires sound { Sound (block_of block.now) }
     requires sets { AllZip (λ p (v : Vec ℕ). AreSettled p v.items) (processes_of (block_of block.now)) sets.now }
     ensures means { IfOk result (λ d. MatchesBlock (block_of block.now) d) }

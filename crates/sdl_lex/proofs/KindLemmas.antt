@@ -14,18 +14,20 @@ pub data Kind : Type 0 where
   a_letter : Kind
   a_digit : Kind
   a_space : Kind
+  a_quote : Kind
   a_comment : Kind
   a_mark : Kind
 
-abbrev pub kind_of : Bool → Bool → Bool → Bool → Kind
-kind_of true _ _ _ = a_letter
-kind_of false true _ _ = a_digit
-kind_of false false true _ = a_space
-kind_of false false false true = a_comment
-kind_of false false false false = a_mark
+abbrev pub kind_of : Bool → Bool → Bool → Bool → Bool → Kind
+kind_of true _ _ _ _ = a_letter
+kind_of false true _ _ _ = a_digit
+kind_of false false true _ _ = a_space
+kind_of false false false true _ = a_quote
+kind_of false false false false true = a_comment
+kind_of false false false false false = a_mark
 
 abbrev pub kind : ℕ → ℕ → Kind
-kind b c = kind_of (is_ascii_alphabetic b) (is_ascii_digit b) (is_white b) ((b == 47) && (c == 42))
+kind b c = kind_of (is_ascii_alphabetic b) (is_ascii_digit b) (is_white b) (b == 39) ((b == 47) && (c == 42))
 
 -- the kind of a place
 abbrev pub kind_at : List ℕ → ℕ → Kind
@@ -40,17 +42,20 @@ white_no_letter b h = grind (arith, common_steps)
 white_no_digit : (b : ℕ) → is_white b ≡ true → is_ascii_digit b ≡ false
 white_no_digit b h = grind (arith, common_steps)
 
-kind_from : (p q r s p' q' r' s' : Bool) → p ≡ p' → q ≡ q' → r ≡ r' → s ≡ s' → kind_of p q r s ≡ kind_of p' q' r' s'
-kind_from p q r s p' q' r' s' a b c d = cc
+kind_from : (p q r s t p' q' r' s' t' : Bool) → p ≡ p' → q ≡ q' → r ≡ r' → s ≡ s' → t ≡ t' → kind_of p q r s t ≡ kind_of p' q' r' s' t'
+kind_from p q r s t p' q' r' s' t' a b c d e = cc
 
 pub kind-letter : (b c : ℕ) → is_ascii_alphabetic b ≡ true → kind b c ≡ a_letter
-kind-letter b c h = kind_from _ _ _ _ true (is_ascii_digit b) (is_white b) ((b == 47) && (c == 42)) h refl refl refl
+kind-letter b c h = kind_from _ _ _ _ _ true (is_ascii_digit b) (is_white b) (b == 39) ((b == 47) && (c == 42)) h refl refl refl refl
 
 pub kind-digit : (b c : ℕ) → is_ascii_digit b ≡ true → kind b c ≡ a_digit
-kind-digit b c h = kind_from _ _ _ _ false true (is_white b) ((b == 47) && (c == 42)) (digit_no_letter b h) h refl refl
+kind-digit b c h = kind_from _ _ _ _ _ false true (is_white b) (b == 39) ((b == 47) && (c == 42)) (digit_no_letter b h) h refl refl refl
 
 pub kind-white : (b c : ℕ) → is_white b ≡ true → kind b c ≡ a_space
-kind-white b c h = kind_from _ _ _ _ false false true ((b == 47) && (c == 42)) (white_no_letter b h) (white_no_digit b h) h refl
+kind-white b c h = kind_from _ _ _ _ _ false false true (b == 39) ((b == 47) && (c == 42)) (white_no_letter b h) (white_no_digit b h) h refl refl
+
+pub kind-quote : (b c : ℕ) → b ≡ 39 → kind b c ≡ a_quote
+kind-quote b c e = rw e refl
 
 pub kind-comment : (b c : ℕ) → b ≡ 47 → c ≡ 42 → kind b c ≡ a_comment
 kind-comment b c e f = rw (e, f) refl
@@ -59,7 +64,7 @@ pub kind-bad : (b c : ℕ) → IsBad b → kind b c ≡ a_mark
 kind-bad b c bad =
     let no_slash : b ≡ 47 → ⊥ = λ (e : b ≡ 47). bad.no_symbol Slash (ap (λ (n : ℕ). n ∷ []) (sym e)) in
     let no_comment : ((b == 47) && (c == 42)) ≡ false = and_left (b == 47) (c == 42) (ne_eqb b 47 no_slash) in
-    kind_from _ _ _ _ false false false false bad.no_letter bad.no_digit bad.no_white no_comment
+    kind_from _ _ _ _ _ false false false false false bad.no_letter bad.no_digit bad.no_white bad.no_quote no_comment
 
 pub get_or-past : (text : List ℕ) (at : ℕ) → length text ≤ at → get_or text at 0 ≡ 0
 get_or-past [] at h = refl

@@ -6,15 +6,16 @@ use Rattle.sdl_lex.specs.declared.TheConstants.{MAX_NUMBER, MAX_TEXT}
 use Rattle.sdl_lex.specs.declared.lexemes.Word.{Word}
 use Rattle.sdl_lex.specs.declared.lexemes.Symbol.{Symbol}
 use Rattle.sdl_lex.specs.declared.lexemes.Lexeme.{Lexeme}
-use Rattle.sdl_lex.specs.declared.lexemes.Lexeme.TheVariants.{Name as a_name, Number as a_number, Word as a_word, Symbol as a_symbol}
+use Rattle.sdl_lex.specs.declared.lexemes.Lexeme.TheVariants.{Name as a_name, Number as a_number, Word as a_word, Symbol as a_symbol, Quoted as a_quoted}
 use Rattle.sdl_lex.specs.declared.lexemes.Token.{Token}
 use Rattle.sdl_lex.specs.declared.lexemes.LexFault.{LexFault}
 use Rattle.sdl_lex.specs.declared.lexemes.LexFault.TheVariants.{BadCharacter, OpenComment, TooLong, NoMemory}
 use Rattle.sdl_lex.specs.Spelling.{SameName, is_spelled_as_name}
 use Rattle.sdl_lex.specs.Texts.{word_text, symbol_text}
-use Rattle.sdl_lex.specs.Lexed.{IsComment, IsOpenComment, decimal, IsToken, IsBlank, white, comment, Lexes, ended, skipped, taken, Lexed, IsBad, IsLongName, IsLargeNumber, IsFaultAt, place_of, Gives, Answers, over_long, in_room, IsFirstFault, IsAnswer, Agrees}
+use Rattle.sdl_lex.specs.Lexed.{IsComment, IsOpenComment, IsOpenQuoted, decimal, IsToken, IsBlank, white, comment, Lexes, ended, skipped, taken, Lexed, IsBad, IsLongName, IsLargeNumber, IsFaultAt, place_of, Gives, Answers, over_long, in_room, IsFirstFault, IsAnswer, Agrees}
 use Rattle.sdl_lex.proofs.WordLemmas.{one_word}
-use Rattle.sdl_lex.proofs.KindLemmas.{Kind, a_letter, a_digit, a_space, a_comment, a_mark, kind_at, kind-letter, kind-digit, kind-white, kind-comment, kind-bad, kind-end, kind-symbol, get_or-past, SymbolHere, one_symbol, symbol_begins, symbol_nonzero, here_from}
+use Rattle.sdl_lex.proofs.KindLemmas.{Kind, a_letter, a_digit, a_space, a_quote, a_comment, a_mark, kind_at, kind-letter, kind-digit, kind-white, kind-quote, kind-comment, kind-bad, kind-end, kind-symbol, get_or-past, SymbolHere, one_symbol, symbol_begins, symbol_nonzero, here_from}
+use Rattle.sdl_lex.proofs.QuoteLemmas.{quoted_here, quoted_end}
 use Rattle.sdl_lex.proofs.UniqueLemmas.{Wordlike, Numberlike, word_name, slice_letter, slice_digit, wordlike_from, wordlike_end, numberlike_from, numberlike_end, long_no_word, large_no_number}
 
 -- Tokens.
@@ -47,6 +48,7 @@ lexeme_kind (a_name n) = a_letter
 lexeme_kind (a_number n) = a_digit
 lexeme_kind (a_word w) = a_letter
 lexeme_kind (a_symbol s) = a_mark
+lexeme_kind a_quoted = a_quote
 
 token_kind : (text : List ℕ) (start end : ℕ) (l : Lexeme) → TokenOf text start l end → kind_at text start ≡ lexeme_kind l
 token_kind text start end (a_name n) token = kind-letter (get_or text start 0) (get_or text (start + 1) 0) (name_like text start end n token).first
@@ -55,6 +57,8 @@ token_kind text start end (a_number n) token =
     let number = number_like text start end n token in
     kind-digit (get_or text start 0) (get_or text (start + 1) 0) (number.each start (omega arith) number.ordered)
 token_kind text start end (a_symbol s) token = kind-symbol s (get_or text start 0) (get_or text (start + 1) 0) (symbol_here text start end s token).0
+token_kind text start end a_quoted token =
+    kind-quote (get_or text start 0) (get_or text (start + 1) 0) (quoted_here text start end token).opens
 
 -- two tokens that begin at one place are one
 one_lexeme : (text : List ℕ) (start e f : ℕ) (l m : Lexeme) → TokenOf text start l e → TokenOf text start m f → (l ≡ m) × (e ≡ f)
@@ -104,6 +108,24 @@ one_lexeme text start e f (a_symbol n) (a_word m) one other =
     let a = token_kind text start e (a_symbol n) one in let b = token_kind text start f (a_word m) other in absurd (cc)
 one_lexeme text start e f (a_symbol n) (a_number m) one other =
     let a = token_kind text start e (a_symbol n) one in let b = token_kind text start f (a_number m) other in absurd (cc)
+one_lexeme text start e f a_quoted a_quoted one other =
+    (refl, quoted_end text start e f (quoted_here text start e one) (quoted_here text start f other))
+one_lexeme text start e f (a_name n) a_quoted one other =
+    let a = token_kind text start e (a_name n) one in let b = token_kind text start f a_quoted other in absurd (cc)
+one_lexeme text start e f (a_number n) a_quoted one other =
+    let a = token_kind text start e (a_number n) one in let b = token_kind text start f a_quoted other in absurd (cc)
+one_lexeme text start e f (a_word n) a_quoted one other =
+    let a = token_kind text start e (a_word n) one in let b = token_kind text start f a_quoted other in absurd (cc)
+one_lexeme text start e f (a_symbol n) a_quoted one other =
+    let a = token_kind text start e (a_symbol n) one in let b = token_kind text start f a_quoted other in absurd (cc)
+one_lexeme text start e f a_quoted (a_name m) one other =
+    let a = token_kind text start e a_quoted one in let b = token_kind text start f (a_name m) other in absurd (cc)
+one_lexeme text start e f a_quoted (a_number m) one other =
+    let a = token_kind text start e a_quoted one in let b = token_kind text start f (a_number m) other in absurd (cc)
+one_lexeme text start e f a_quoted (a_word m) one other =
+    let a = token_kind text start e a_quoted one in let b = token_kind text start f (a_word m) other in absurd (cc)
+one_lexeme text start e f a_quoted (a_symbol m) one other =
+    let a = token_kind text start e a_quoted one in let b = token_kind text start f (a_symbol m) other in absurd (cc)
 
 same_token : (t u : Token) → t.lexeme ≡ u.lexeme → t.start ≡ u.start → t.end ≡ u.end → t ≡ u
 same_token t u l s e i = record { lexeme = l i; start = s i; end = e i }
@@ -148,6 +170,7 @@ blank_no_lexeme k (a_name n) blank e = elim blank [ inl f ↦ absurd (cc) | inr 
 blank_no_lexeme k (a_number n) blank e = elim blank [ inl f ↦ absurd (cc) | inr f ↦ absurd (cc) ]
 blank_no_lexeme k (a_word w) blank e = elim blank [ inl f ↦ absurd (cc) | inr f ↦ absurd (cc) ]
 blank_no_lexeme k (a_symbol s) blank e = elim blank [ inl f ↦ absurd (cc) | inr f ↦ absurd (cc) ]
+blank_no_lexeme k a_quoted blank e = elim blank [ inl f ↦ absurd (cc) | inr f ↦ absurd (cc) ]
 
 blank_no_token : (text : List ℕ) (at next : ℕ) (t : Token) → IsBlank text at next → t.start ≡ at → IsToken text t → ⊥
 blank_no_token text at next t blank here token =
@@ -160,6 +183,7 @@ pub data Stuck (text : List ℕ) (at : ℕ) : Type 0 where
   at_end : length text ≤ at → Stuck text at
   at_bad : IsBad (get_or text at 0) → Stuck text at
   at_open : IsOpenComment text at → Stuck text at
+  at_quote : IsOpenQuoted text at → Stuck text at
   at_long : IsLongName text at → Stuck text at
   at_large : IsLargeNumber text at → Stuck text at
 
@@ -175,10 +199,14 @@ large_kind text at large =
 open_kind : (text : List ℕ) (at : ℕ) → IsOpenComment text at → kind_at text at ≡ a_comment
 open_kind text at open_here = kind-comment (get_or text at 0) (get_or text (at + 1) 0) open_here.opens.0 open_here.opens.1
 
+quote_kind : (text : List ℕ) (at : ℕ) → IsOpenQuoted text at → kind_at text at ≡ a_quote
+quote_kind text at open_here = kind-quote (get_or text at 0) (get_or text (at + 1) 0) open_here.opens
+
 stuck_kind : (text : List ℕ) (at : ℕ) → Stuck text at → kind_at text at ≡ a_space → ⊥
 stuck_kind text at (at_end h) e = let k = kind-end text at h in absurd (cc)
 stuck_kind text at (at_bad h) e = let k = kind-bad (get_or text at 0) (get_or text (at + 1) 0) h in absurd (cc)
 stuck_kind text at (at_open h) e = let k = open_kind text at h in absurd (cc)
+stuck_kind text at (at_quote h) e = let k = quote_kind text at h in absurd (cc)
 stuck_kind text at (at_long h) e = let k = long_kind text at h in absurd (cc)
 stuck_kind text at (at_large h) e = let k = large_kind text at h in absurd (cc)
 
@@ -189,6 +217,7 @@ stuck_comment text at next (at_bad h) c =
     let e = kind-comment (get_or text at 0) (get_or text (at + 1) 0) c.opens.0 c.opens.1 in
     let k = kind-bad (get_or text at 0) (get_or text (at + 1) 0) h in absurd (cc)
 stuck_comment text at next (at_open h) c = h.endless c.last c.after c.closes
+stuck_comment text at next (at_quote h) c = omega (arith, c.opens.0, h.opens)
 stuck_comment text at next (at_long h) c =
     let e = kind-comment (get_or text at 0) (get_or text (at + 1) 0) c.opens.0 c.opens.1 in let k = long_kind text at h in absurd (cc)
 stuck_comment text at next (at_large h) c =
@@ -205,6 +234,8 @@ stuck_word text at end (at_bad h) word =
     let k = kind-bad (get_or text at 0) (get_or text (at + 1) 0) h in absurd (cc)
 stuck_word text at end (at_open h) word =
     let e = kind-letter (get_or text at 0) (get_or text (at + 1) 0) word.first in let k = open_kind text at h in absurd (cc)
+stuck_word text at end (at_quote h) word =
+    let e = kind-letter (get_or text at 0) (get_or text (at + 1) 0) word.first in let k = quote_kind text at h in absurd (cc)
 stuck_word text at end (at_long h) word = long_no_word text at end h word
 stuck_word text at end (at_large h) word =
     let e = kind-letter (get_or text at 0) (get_or text (at + 1) 0) word.first in let k = large_kind text at h in absurd (cc)
@@ -219,6 +250,8 @@ stuck_number text at end (at_bad h) number =
     let k = kind-bad (get_or text at 0) (get_or text (at + 1) 0) h in absurd (cc)
 stuck_number text at end (at_open h) number =
     let e = number_kind text at end number in let k = open_kind text at h in absurd (cc)
+stuck_number text at end (at_quote h) number =
+    let e = number_kind text at end number in let k = quote_kind text at h in absurd (cc)
 stuck_number text at end (at_long h) number =
     let e = number_kind text at end number in let k = long_kind text at h in absurd (cc)
 stuck_number text at end (at_large h) number = large_no_number text at end h number
@@ -230,15 +263,28 @@ stuck_symbol text at s (at_bad h) here =
     h.no_symbol begins.0 (begins.1 ∙ ap (λ (b : ℕ). b ∷ []) (sym here.first))
 stuck_symbol text at s (at_open h) here =
     let e = kind-symbol s (get_or text at 0) (get_or text (at + 1) 0) here in let k = open_kind text at h in absurd (cc)
+stuck_symbol text at s (at_quote h) here =
+    let e = kind-symbol s (get_or text at 0) (get_or text (at + 1) 0) here in let k = quote_kind text at h in absurd (cc)
 stuck_symbol text at s (at_long h) here =
     let e = kind-symbol s (get_or text at 0) (get_or text (at + 1) 0) here in let k = long_kind text at h in absurd (cc)
 stuck_symbol text at s (at_large h) here =
     let e = kind-symbol s (get_or text at 0) (get_or text (at + 1) 0) here in let k = large_kind text at h in absurd (cc)
 
+stuck_quoted : (text : List ℕ) (at end : ℕ) → Stuck text at → TokenOf text at a_quoted end → ⊥
+stuck_quoted text at end (at_end h) token = let e = token_kind text at end a_quoted token in let k = kind-end text at h in absurd (cc)
+stuck_quoted text at end (at_bad h) token =
+    let e = token_kind text at end a_quoted token in
+    let k = kind-bad (get_or text at 0) (get_or text (at + 1) 0) h in absurd (cc)
+stuck_quoted text at end (at_open h) token = let e = token_kind text at end a_quoted token in let k = open_kind text at h in absurd (cc)
+stuck_quoted text at end (at_quote h) token = h.endless end token
+stuck_quoted text at end (at_long h) token = let e = token_kind text at end a_quoted token in let k = long_kind text at h in absurd (cc)
+stuck_quoted text at end (at_large h) token = let e = token_kind text at end a_quoted token in let k = large_kind text at h in absurd (cc)
+
 stuck_lexeme : (text : List ℕ) (at end : ℕ) (l : Lexeme) → Stuck text at → TokenOf text at l end → ⊥
 stuck_lexeme text at end (a_name n) stuck token = stuck_word text at end stuck (name_like text at end n token)
 stuck_lexeme text at end (a_word w) stuck token = stuck_word text at end stuck (word_like text at end w token)
 stuck_lexeme text at end (a_number n) stuck token = stuck_number text at end stuck (number_like text at end n token)
+stuck_lexeme text at end a_quoted stuck token = stuck_quoted text at end stuck token
 stuck_lexeme text at end (a_symbol s) stuck token = stuck_symbol text at s stuck (symbol_here text at end s token).0
 
 stuck_token : (text : List ℕ) (at : ℕ) (t : Token) → Stuck text at → t.start ≡ at → IsToken text t → ⊥
@@ -271,7 +317,7 @@ one_chain text p q at _ _ (taken {tokens = ts} t s i rest) (taken {tokens = us} 
 
 fault_stuck : (text : List ℕ) (fault : LexFault) → IsFaultAt text fault → Stuck text (place_of fault)
 fault_stuck text (BadCharacter at) here = at_bad here.1
-fault_stuck text (OpenComment at) here = at_open here
+fault_stuck text (OpenComment at) here = elim here [ inl open_here ↦ at_open open_here | inr quoted ↦ at_quote quoted ]
 fault_stuck text (TooLong at) here = elim here [ inl long ↦ at_long long | inr large ↦ at_large large ]
 fault_stuck text NoMemory here = absurd here
 
@@ -279,7 +325,11 @@ fault_stuck text NoMemory here = absurd here
 fault_inside : (text : List ℕ) (fault : LexFault) → IsFaultAt text fault → length text ≤ place_of fault → ⊥
 fault_inside text (BadCharacter at) here past = omega (arith, here.0)
 fault_inside text (OpenComment at) here past =
-    let e = kind-end text at past in let k = open_kind text at here in absurd (cc)
+    let e = kind-end text at past in
+    elim here [
+      | inl open_here ↦ let k = open_kind text at open_here in absurd (cc)
+      | inr quoted ↦ let k = quote_kind text at quoted in absurd (cc)
+    ]
 fault_inside text (TooLong at) here past =
     let e = kind-end text at past in
     elim here [
@@ -291,13 +341,13 @@ fault_inside text NoMemory here past = here
 -- the kinds of place where a fault may be
 abbrev IsFaultKind : LexFault → Kind → Type 0
 IsFaultKind (BadCharacter at) k = k ≡ a_mark
-IsFaultKind (OpenComment at) k = k ≡ a_comment
+IsFaultKind (OpenComment at) k = (k ≡ a_comment) ⊎ (k ≡ a_quote)
 IsFaultKind (TooLong at) k = (k ≡ a_letter) ⊎ (k ≡ a_digit)
 IsFaultKind NoMemory k = ⊥
 
 fault_kind : (text : List ℕ) (fault : LexFault) → IsFaultAt text fault → IsFaultKind fault (kind_at text (place_of fault))
 fault_kind text (BadCharacter at) here = kind-bad (get_or text at 0) (get_or text (at + 1) 0) here.1
-fault_kind text (OpenComment at) here = open_kind text at here
+fault_kind text (OpenComment at) here = elim here [ inl open_here ↦ inl (open_kind text at open_here) | inr quoted ↦ inr (quote_kind text at quoted) ]
 fault_kind text (TooLong at) here = elim here [ inl long ↦ inl (long_kind text at long) | inr large ↦ inr (large_kind text at large) ]
 fault_kind text NoMemory here = here
 
@@ -305,12 +355,12 @@ same_fault : (k : Kind) (f g : LexFault) → IsFaultKind f k → IsFaultKind g k
 same_fault k (BadCharacter a) (BadCharacter b) m n e = ap (λ (p : ℕ). BadCharacter p) e
 same_fault k (OpenComment a) (OpenComment b) m n e = ap (λ (p : ℕ). OpenComment p) e
 same_fault k (TooLong a) (TooLong b) m n e = ap (λ (p : ℕ). TooLong p) e
-same_fault k (BadCharacter a) (OpenComment b) m n e = absurd (cc)
-same_fault k (OpenComment a) (BadCharacter b) m n e = absurd (cc)
+same_fault k (BadCharacter a) (OpenComment b) m n e = elim n [ inl x ↦ absurd (cc) | inr x ↦ absurd (cc) ]
+same_fault k (OpenComment a) (BadCharacter b) m n e = elim m [ inl x ↦ absurd (cc) | inr x ↦ absurd (cc) ]
 same_fault k (BadCharacter a) (TooLong b) m n e = elim n [ inl x ↦ absurd (cc) | inr x ↦ absurd (cc) ]
-same_fault k (OpenComment a) (TooLong b) m n e = elim n [ inl x ↦ absurd (cc) | inr x ↦ absurd (cc) ]
+same_fault k (OpenComment a) (TooLong b) m n e = elim m [ inl y ↦ elim n [ inl x ↦ absurd (cc) | inr x ↦ absurd (cc) ] | inr y ↦ elim n [ inl x ↦ absurd (cc) | inr x ↦ absurd (cc) ] ]
 same_fault k (TooLong a) (BadCharacter b) m n e = elim m [ inl x ↦ absurd (cc) | inr x ↦ absurd (cc) ]
-same_fault k (TooLong a) (OpenComment b) m n e = elim m [ inl x ↦ absurd (cc) | inr x ↦ absurd (cc) ]
+same_fault k (TooLong a) (OpenComment b) m n e = elim m [ inl y ↦ elim n [ inl x ↦ absurd (cc) | inr x ↦ absurd (cc) ] | inr y ↦ elim n [ inl x ↦ absurd (cc) | inr x ↦ absurd (cc) ] ]
 same_fault k NoMemory g m n e = absurd m
 same_fault k f NoMemory m n e = absurd n
 

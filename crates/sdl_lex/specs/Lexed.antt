@@ -1,12 +1,12 @@
 -- What the tokens of a text are, and what keeps a text from having them.
-use Rattle.std.specs.Prelude.{Vec, ◌≡◌, ℕ, ◌+◌, ◌-◌, ◌*◌, ◌<◌, ◌≤◌, ◌==◌, ◌⊎◌, Bool, true, false, IsTrue, ◌||◌, List, [], ◌∷◌, length, fold, slice_index, slice_range, EachIndex, Result, Ok, Err}
+use Rattle.std.specs.Prelude.{Vec, ◌≡◌, ℕ, ◌+◌, ◌-◌, ◌*◌, ◌<◌, ◌≤◌, ◌==◌, ◌⊎◌, Bool, true, false, IsTrue, ◌||◌, if◌then◌else◌, List, [], ◌∷◌, ◌++◌, length, fold, slice_index, slice_range, EachIndex, Result, Ok, Err}
 use Rattle.std.specs.Char.{is_ascii_alphabetic, is_ascii_digit}
 use Rattle.sdl_lex.specs.declared.TheConstants.{MAX_NAME, MAX_NUMBER, MAX_TEXT}
 use Rattle.sdl_lex.specs.declared.lexemes.Word.{Word}
 use Rattle.sdl_lex.specs.declared.lexemes.Symbol.{Symbol}
 use Rattle.sdl_lex.specs.declared.lexemes.Symbol.TheVariants.{Colon, Slash, Less, Greater}
 use Rattle.sdl_lex.specs.declared.lexemes.Lexeme.{Lexeme}
-use Rattle.sdl_lex.specs.declared.lexemes.Lexeme.TheVariants.{Name as a_name, Number as a_number, Word as a_word, Symbol as a_symbol}
+use Rattle.sdl_lex.specs.declared.lexemes.Lexeme.TheVariants.{Name as a_name, Number as a_number, Word as a_word, Symbol as a_symbol, Quoted as a_quoted}
 use Rattle.sdl_lex.specs.declared.lexemes.Token.{Token}
 use Rattle.sdl_lex.specs.declared.lexemes.LexFault.{LexFault}
 use Rattle.sdl_lex.specs.declared.lexemes.LexFault.TheVariants.{BadCharacter, OpenComment, TooLong, NoMemory}
@@ -42,6 +42,15 @@ pub record IsOpenComment (text : List ℕ) (at : ℕ) : Type 0 where
   pub opens : OpensComment text at
   pub endless : (k : ℕ) → at + 2 ≤ k → ClosesComment text k → ⊥
 
+-- what a quoted text holds, as it is written between its quotes: with each quote twice
+abbrev pub doubled : List ℕ → List ℕ
+doubled [] = []
+doubled (b ∷ bs) = if b == 39 then 39 ∷ 39 ∷ doubled bs else b ∷ doubled bs
+
+-- a quoted text, with its quotes
+abbrev pub IsQuoted : List ℕ → Type 0
+IsQuoted bytes = (held : List ℕ) × (bytes ≡ 39 ∷ (doubled held ++ 39 ∷ []))
+
 -- one or more digits
 abbrev pub IsNumber : List ℕ → Type 0
 IsNumber bytes = (0 < length bytes) × EachIndex bytes (λ k. is_ascii_digit (slice_index bytes k) ≡ true)
@@ -56,6 +65,7 @@ Spells bytes (a_name n) = (n ≡ bytes) × IsName bytes × ((w : Word) → SameN
 Spells bytes (a_number n) = IsNumber bytes × (n ≡ decimal bytes) × (n ≤ MAX_NUMBER)
 Spells bytes (a_word w) = SameName bytes (word_text w)
 Spells bytes (a_symbol s) = bytes ≡ symbol_text s
+Spells bytes a_quoted = IsQuoted bytes
 
 -- a byte that makes a longer symbol of the one before it, or of `/` the beginning of a comment
 abbrev pub continues_symbol : Symbol → ℕ → Bool
@@ -71,6 +81,7 @@ continues (a_name _) b = is_name_byte b
 continues (a_number _) b = is_ascii_digit b
 continues (a_word _) b = is_name_byte b
 continues (a_symbol s) b = continues_symbol s b
+continues a_quoted b = b == 39
 
 -- a token stands in a text: its slice spells it, and it is the longest
 pub record IsToken (text : List ℕ) (token : Token) : Type 0 where
@@ -78,6 +89,11 @@ pub record IsToken (text : List ℕ) (token : Token) : Type 0 where
   pub inside : token.end ≤ length text
   pub spelled : Spells (slice_range text token.start token.end) token.lexeme
   pub longest : continues token.lexeme (slice_index text token.end) ≡ false
+
+-- a quoted text without end begins at a place: a quote from which on there is no quoted text
+pub record IsOpenQuoted (text : List ℕ) (at : ℕ) : Type 0 where
+  pub opens : slice_index text at ≡ 39
+  pub endless : (end : ℕ) → IsToken text (record { lexeme = a_quoted; start = at; end = end }) → ⊥
 
 -- white space or a comment stands between two places
 pub data IsBlank (text : List ℕ) (at : ℕ) : ℕ → Type 0 where
@@ -101,6 +117,7 @@ pub record IsBad (b : ℕ) : Type 0 where
   pub no_letter : is_ascii_alphabetic b ≡ false
   pub no_digit : is_ascii_digit b ≡ false
   pub no_white : is_white b ≡ false
+  pub no_quote : (b == 39) ≡ false
   pub no_symbol : (s : Symbol) → symbol_text s ≡ b ∷ [] → ⊥
 
 -- a name of more than 32 bytes begins at a place
@@ -115,7 +132,7 @@ IsLargeNumber text at = (end : ℕ) × IsNumber (slice_range text at end) × (MA
 -- this fault stands at its place
 abbrev pub IsFaultAt : List ℕ → LexFault → Type 0
 IsFaultAt text (BadCharacter at) = (at < length text) × IsBad (slice_index text at)
-IsFaultAt text (OpenComment at) = IsOpenComment text at
+IsFaultAt text (OpenComment at) = IsOpenComment text at ⊎ IsOpenQuoted text at
 IsFaultAt text (TooLong at) = IsLongName text at ⊎ IsLargeNumber text at
 IsFaultAt text NoMemory = ⊥
 

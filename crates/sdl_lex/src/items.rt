@@ -1,12 +1,12 @@
 //! The next item of a text: white space, a comment or a token.
-ghost use Rattle.std.specs.Prelude.{◌≡◌, ℕ, ◌+◌, ◌<◌, ◌≤◌, true, false, length, slice_index, IfOk, IfErr};
+ghost use Rattle.std.specs.Prelude.{◌≡◌, ℕ, ◌+◌, ◌==◌, ◌<◌, ◌≤◌, true, false, length, slice_index, IfOk, IfErr};
 ghost use Rattle.std.specs.Char.{is_ascii_digit, is_ascii_alphabetic};
 ghost use Rattle.sdl_lex.specs.Lexed.{is_white, OpensComment};
 ghost use Rattle.sdl_lex.specs.Scan.{Stands, IsFaultThere};
 
 use crate::scan::{
-    byte_at, comment_end, is_white, name_end, number_end, number_of, symbol_of, with_equal,
-    word_or_name,
+    byte_at, comment_end, is_white, name_end, number_end, number_of, quoted_end, symbol_of,
+    with_equal, word_or_name,
 };
 use crate::{LexFault, Lexeme, MAX_TEXT};
 
@@ -64,12 +64,29 @@ fn comment_item(bytes: &[u8], at: usize) -> Result<Item, LexFault>
     }
 }
 
+fn quoted_item(bytes: &[u8], at: usize) -> Result<Item, LexFault>
+    requires room { length bytes.now ≤ MAX_TEXT }
+    requires inside { at < length bytes.now }
+    requires opens { slice_index bytes.now at ≡ 39 }
+    ensures ok { IfOk result (λ i. Stands bytes.now at i.lexeme i.end × (at < i.end) × (i.end ≤ length bytes.now)) }
+    ensures err { IfErr result (λ e. IsFaultThere bytes.now at e) }
+{
+    match quoted_end(bytes, at) {
+        Some(end) => Ok(Item {
+            lexeme: Some(Lexeme::Quoted),
+            end,
+        }),
+        None => Err(LexFault::OpenComment(at as u32)),
+    }
+}
+
 fn symbol_item(bytes: &[u8], at: usize) -> Result<Item, LexFault>
     requires room { length bytes.now ≤ MAX_TEXT }
     requires inside { at < length bytes.now }
     requires no_letter { is_ascii_alphabetic (slice_index bytes.now at) ≡ false }
     requires no_digit { is_ascii_digit (slice_index bytes.now at) ≡ false }
     requires no_white { is_white (slice_index bytes.now at) ≡ false }
+    requires no_quote { (slice_index bytes.now at == 39) ≡ false }
     requires no_comment { OpensComment bytes.now at → ⊥ }
     ensures ok { IfOk result (λ i. Stands bytes.now at i.lexeme i.end × (at < i.end) × (i.end ≤ length bytes.now)) }
     ensures err { IfErr result (λ e. IsFaultThere bytes.now at e) }
@@ -110,6 +127,9 @@ pub(crate) fn item_at(bytes: &[u8], at: usize) -> Result<Item, LexFault>
             lexeme: None,
             end: at + 1,
         });
+    }
+    if first == b'\'' {
+        return quoted_item(bytes, at);
     }
     if first == b'/' && byte_at(bytes, at + 1) == b'*' {
         return comment_item(bytes, at);

@@ -108,6 +108,8 @@ pub enum Lexeme {
     Word(Word),
     /// A symbol.
     Symbol(Symbol),
+    /// A quoted text, with its quotes. It has no effect, so what it holds isn't kept.
+    Quoted,
 }
 
 /// A token and its place: it is the text's bytes from `start` up to, but without, `end`.
@@ -124,7 +126,7 @@ pub enum LexFault {
     /// A byte that begins no token, white space or comment.
     #[error("L1 BadCharacter")]
     BadCharacter(u32),
-    /// A comment without end.
+    /// A comment or a quoted text without end.
     #[error("L2 OpenComment")]
     OpenComment(u32),
     /// A name of more than 32 bytes, a number above 2147483647, or the first byte past the

@@ -4,8 +4,8 @@ ghost use Rattle.std.specs.Char.{is_ascii_digit, is_ascii_alphabetic};
 ghost use Rattle.sdl_lex.specs.Spelling.{is_name_byte, is_spelled_as_name};
 ghost use Rattle.sdl_lex.specs.Texts.{symbol_text};
 ghost use Rattle.sdl_lex.specs.declared.lexemes.Symbol.{Symbol as TheSymbol};
-ghost use Rattle.sdl_lex.specs.Lexed.{is_white, continues, OpensComment, IsComment, IsOpenComment, decimal, Spells, continues_symbol};
-ghost use Rattle.sdl_lex.specs.Scan.{IsRun};
+ghost use Rattle.sdl_lex.specs.Lexed.{is_white, continues, OpensComment, IsComment, IsOpenComment, IsOpenQuoted, decimal, Spells, continues_symbol};
+ghost use Rattle.sdl_lex.specs.Scan.{IsRun, Stands};
 ghost use Rattle.sdl_lex.specs.declared.TheConstants.{MAX_NAME};
 
 use crate::spelling::is_name_byte;
@@ -59,6 +59,24 @@ pub(crate) fn comment_end(bytes: &[u8], at: usize) -> Option<usize>
         if bytes[last] == b'*' && byte_at(bytes, last + 1) == b'/' {
             return Some(last + 2);
         }
+    }
+    None
+}
+
+/// The place after the quoted text that begins at a place, if it has an end.
+pub(crate) fn quoted_end(bytes: &[u8], at: usize) -> Option<usize>
+    requires inside { at < length bytes.now }
+    requires opens { slice_index bytes.now at ≡ 39 }
+    ensures found { IfSome result (λ next. Stands bytes.now at (Some Lexeme.Quoted) next × (at < next) × (next ≤ length bytes.now)) }
+    ensures none { IfNone result (IsOpenQuoted bytes.now at) }
+{
+    let mut place = at + 1;
+    while place < bytes.len() {
+        place = match (bytes[place], byte_at(bytes, place + 1)) {
+            (b'\'', b'\'') => place + 2,
+            (b'\'', _) => return Some(place + 1),
+            _ => place + 1,
+        };
     }
     None
 }

@@ -1,5 +1,5 @@
 //! Texts with the tokens and faults that the lexical rules give them.
-use crate::{LexFault, Lexeme, Name, Symbol, Word, line_of, tokens};
+use crate::{LexFault, Lexeme, Name, Symbol, Token, Word, line_of, tokens};
 use std::alloc::Global;
 use std::collections::HashMap;
 use std::str;
@@ -115,9 +115,45 @@ fn numbers_and_names(rt: HostRuntime) -> Result<(), Fail> {
 }
 
 #[test]
+fn quoted_texts(rt: HostRuntime) -> Result<(), Fail> {
+    let cases = [
+        ("''", 0, 2),
+        (" 'a''b'", 1, 7),
+        ("''''''", 0, 6),
+        ("'/*\n\u{e9} ? 2147483648'''", 0, 22),
+    ];
+    for (text, start, end) in cases {
+        let found = tokens(rt.alloc(), text)?;
+        let lexeme = Lexeme::Quoted;
+        let want = [Token { lexeme, start, end }];
+        assert_eq!(rt; found.as_slice(), want.as_slice(), "at {text}");
+    }
+    Ok(())
+}
+
+#[test]
+fn quoted_texts_among_others(rt: HostRuntime) -> Result<(), Fail> {
+    let found = lexemes(rt.alloc(), "TASK 'a' 'b';'it''s /*';/* ' */;")?;
+    let want = [
+        Lexeme::Word(Word::Task),
+        Lexeme::Quoted,
+        Lexeme::Quoted,
+        Lexeme::Symbol(Symbol::Semicolon),
+        Lexeme::Quoted,
+        Lexeme::Symbol(Symbol::Semicolon),
+        Lexeme::Symbol(Symbol::Semicolon),
+    ];
+    assert_eq!(rt; found.as_slice(), want.as_slice());
+    Ok(())
+}
+
+#[test]
 fn faults(rt: HostRuntime) {
     let cases = [
-        ("x := 'a';", LexFault::BadCharacter(5)),
+        ("x := 'a;", LexFault::OpenComment(5)),
+        ("'''", LexFault::OpenComment(0)),
+        ("'a''' /* ' */ 'b''", LexFault::OpenComment(14)),
+        ("/* ' */ ? '", LexFault::BadCharacter(8)),
         ("x _y", LexFault::BadCharacter(2)),
         ("\u{feff}BLOCK", LexFault::BadCharacter(0)),
         ("a é", LexFault::BadCharacter(2)),

@@ -1,14 +1,12 @@
--- Heights, and the first TASK that is too high.
-use Rattle.std.proofs.Common.{◌≡◌, ℕ, ◌<◌, ◌≤◌, max, Bool, true, false, List, [], ◌∷◌, Option, Some, None, map, refl, ap, subst, arith}
+-- Heights, and the first action that is too high.
+use Rattle.std.proofs.Common.{◌≡◌, ℕ, ◌<◌, ◌≤◌, max, Bool, true, false, List, [], ◌∷◌, Option, Some, None, refl, ap, subst, arith}
 use Rattle.std.specs.Prelude.{nat_lt, if◌then◌else◌}
 use borrow.Author.Tests.{ltb-true, ltb-false}
 use Rattle.sdl_tree.specs.declared.TheConstants.{MAX_HEIGHT}
-use Rattle.sdl_tree.specs.declared.tree.Action.{Action}
-use Rattle.sdl_tree.specs.declared.tree.Action.TheVariants.{Task}
 use Rattle.sdl_tree.specs.declared.tree.End.{End}
-use Rattle.sdl_tree.specs.Plain.{Tree, number, variable, unary, binary, Text, falls, ends, task, PlainClause, input, PlainProcess, PlainEntity, signals, route, process, PlainBlock}
-use Rattle.sdl_tree.specs.Views.{assignment_of, end_text, actions_text}
-use Rattle.sdl_tree.specs.Heights.{tree_height, highest, assignments_height, text_height, clause_height, state_height, process_height, entity_height, Height, or_first, first_of, high_in_text, high_in_clause, high_in_state, high_in_process, high_in_entity, first_too_high}
+use Rattle.sdl_tree.specs.Plain.{Tree, number, truth, variable, unary, binary, PlainAction, Text, falls, ends, does, PlainClause, input, save, PlainProcess, PlainEntity, signals, route, connect, process, PlainBlock}
+use Rattle.sdl_tree.specs.Views.{does_all, end_text}
+use Rattle.sdl_tree.specs.Heights.{tree_height, highest, action_height, text_height, clause_height, state_height, process_height, entity_height, Height, or_first, first_of, place_of_action, high_in_action, high_in_text, high_in_clause, high_in_state, high_in_process, high_in_entity, first_too_high}
 
 -- a height beside the first place that is too high
 pub Judged : ℕ → Option ℕ → Type 0
@@ -32,15 +30,19 @@ unfolding Judged
 judged_list h f each [] = omega arith
 judged_list h f each (x ∷ xs) = judged-max (h x) (highest h xs) (f x) (first_of f xs) (each x) (judged_list h f each xs)
 
+judged_action : (a : PlainAction) → Judged (action_height a) (high_in_action a)
+judged_action a = judged_test (action_height a) (place_of_action a) (nat_lt MAX_HEIGHT (action_height a)) refl
+
 judged_text : (t : Text) → Judged (text_height t) (high_in_text t)
 unfolding Judged
 judged_text falls = omega arith
 judged_text (ends e) = omega arith
-judged_text (task at xs rest) =
-    judged-max (assignments_height xs) (text_height rest) _ (high_in_text rest) (judged_test (assignments_height xs) at (nat_lt MAX_HEIGHT (assignments_height xs)) refl) (judged_text rest)
+judged_text (does a rest) = judged-max (action_height a) (text_height rest) (high_in_action a) (high_in_text rest) (judged_action a) (judged_text rest)
 
 judged_clause : (c : PlainClause) → Judged (clause_height c) (high_in_clause c)
+unfolding Judged
 judged_clause (input i) = judged_text i.text
+judged_clause (save names) = omega arith
 
 judged_process : (p : PlainProcess) → Judged (process_height p) (high_in_process p)
 judged_process p =
@@ -52,6 +54,7 @@ judged_entity : (e : PlainEntity) → Judged (entity_height e) (high_in_entity e
 unfolding Judged
 judged_entity (signals declared) = omega arith
 judged_entity (route r) = omega arith
+judged_entity (connect channels routes) = omega arith
 judged_entity (process p) = judged_process p
 
 judged_block : (b : PlainBlock) → Judged (Height b) (first_too_high b)
@@ -66,11 +69,10 @@ unfolding Judged
 high_where_some b at e = subst (Judged (Height b)) e (judged_block b)
 
 -- the end of a transition has no height
-pub high_before_end : (actions : List Action) (last : Option End) → high_in_text (actions_text actions (end_text last)) ≡ high_in_text (actions_text actions falls)
+pub high_before_end : (actions : List PlainAction) (last : Option End) → high_in_text (does_all actions (end_text last)) ≡ high_in_text (does_all actions falls)
 high_before_end [] None = refl
 high_before_end [] (Some e) = refl
-high_before_end (Task t ∷ actions) last =
-    ap (or_first (if nat_lt MAX_HEIGHT (assignments_height (map assignment_of t.assignments.items)) then Some t.at else None)) (high_before_end actions last)
+high_before_end (a ∷ actions) last = ap (or_first (high_in_action a)) (high_before_end actions last)
 
 -- no tree is of height 0
 pub above_zero : (x : Tree) → nat_lt 0 (tree_height x) ≡ true
@@ -78,6 +80,7 @@ above_zero x = by_test (nat_lt 0 (tree_height x)) refl
   where
     at_least : (x : Tree) → 0 < tree_height x
     at_least (number at k) = omega arith
+    at_least (truth at b) = omega arith
     at_least (variable at n) = omega arith
     at_least (unary at o y) = omega arith
     at_least (binary at o y z) = omega arith

@@ -1,11 +1,12 @@
 pub mod Decides
 pub mod Rows
 pub mod RowLemmas
-pub mod TaskLemmas
 pub mod MachineLemmas
 pub mod TextDecides
 pub mod SyntaxDecides
 pub mod Lowering
+pub mod LoweredParts
 pub mod HeightLemmas
 pub mod LowHeights
 pub mod ParseLemmas
+pub mod KeptLemmas

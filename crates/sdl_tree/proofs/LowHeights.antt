@@ -6,14 +6,15 @@ use Rattle.sdl_tree.specs.declared.TheConstants.{MAX_HEIGHT}
 use Rattle.sdl_tree.specs.declared.expression.Identifier.{Identifier}
 use Rattle.sdl_tree.specs.declared.expression.UnaryOperator.{UnaryOperator}
 use Rattle.sdl_tree.specs.declared.expression.BinaryOperator.{BinaryOperator}
-use Rattle.sdl_tree.specs.Plain.{Tree, number, variable, unary, binary, PlainAssignment, Text, falls, ends, task, PlainInput, PlainClause, input, PlainState, PlainProcess, PlainEntity, signals, route, process, PlainBlock}
+use Rattle.sdl_tree.specs.Plain.{Tree, number, truth, variable, unary, binary, PlainAssignment, PlainSending, PlainAction, task, output, set_timer, reset_timer, Text, falls, ends, does, PlainInput, PlainClause, input, save, PlainState, PlainProcess, PlainEntity, signals, route, connect, process, PlainBlock}
 use Rattle.sdl_tree.specs.Expressions.{placed}
 use Rattle.sdl_tree.specs.Machine.{lowered}
-use Rattle.sdl_tree.specs.Heights.{tree_height, assignments_height, or_first, first_of, high_in_text, high_in_clause, high_in_state, high_in_process, high_in_entity, first_too_high}
-use Rattle.sdl_tree.proofs.Lowering.{lowered_assignment, lowered_text, lowered_input, lowered_clause, lowered_start, lowered_part, lowered_process, lowered_entity, lowered_block}
+use Rattle.sdl_tree.specs.Heights.{tree_height, highest, sending_height, action_height, place_of_action, or_first, first_of, high_in_action, high_in_text, high_in_clause, high_in_state, high_in_process, high_in_entity, first_too_high}
+use Rattle.sdl_tree.proofs.LoweredParts.{lowered_assignment, lowered_sending, lowered_action, lowered_text, lowered_input, lowered_clause, lowered_start, lowered_part, lowered_process, lowered_entity, lowered_block}
 
 height-placed : (p : ℕ) (x : Tree) → tree_height (placed p x) ≡ tree_height x
 height-placed p (number at k) = refl
+height-placed p (truth at b) = refl
 height-placed p (variable at n) = refl
 height-placed p (unary at o x) = refl
 height-placed p (binary at o x y) = refl
@@ -88,34 +89,67 @@ keeps_binary at o x y x' y' false false e f k m =
 
 keeps : (x : Tree) → Keeps x (lowered x)
 keeps (number at k) = record { low = λ h. refl; high = λ h. h }
+keeps (truth at b) = record { low = λ h. refl; high = λ h. h }
 keeps (variable at n) = record { low = λ h. refl; high = λ h. h }
 keeps (unary at o x) = keeps_unary at o x (lowered x) (nat_lt MAX_HEIGHT (tree_height (lowered x))) refl (keeps x)
 keeps (binary at o x y) =
     keeps_binary at o x y (lowered x) (lowered y) (nat_lt MAX_HEIGHT (tree_height (lowered x))) (nat_lt MAX_HEIGHT (tree_height (lowered y))) refl refl (keeps x) (keeps y)
 
--- the same of a row of assignments
-record RowKeeps (xs ys : List PlainAssignment) : Type 0 where
-  low : assignments_height xs ≤ MAX_HEIGHT → ys ≡ xs
-  high : MAX_HEIGHT < assignments_height xs → MAX_HEIGHT < assignments_height ys
+-- the same of any part of a tree, with its height
+record KeepsHeight {A : Type 0} (h : A → ℕ) (x y : A) : Type 0 where
+  low : h x ≤ MAX_HEIGHT → y ≡ x
+  high : MAX_HEIGHT < h x → MAX_HEIGHT < h y
 
-row_keeps : (xs : List PlainAssignment) → RowKeeps xs (map lowered_assignment xs)
-unfolding lowered_assignment
-row_keeps [] = record { low = λ h. refl; high = λ h. h }
-row_keeps (a ∷ xs) =
-    let k = keeps a.value in
-    let m = row_keeps xs in
-    record {
-      low = λ h.
-          (let p : lowered a.value ≡ a.value = k.low (omega arith) in
-          let q : map lowered_assignment xs ≡ xs = m.low (omega arith) in
-          ap (λ z. with_value a.variable z ∷ map lowered_assignment xs) p ∙ ap (λ l. a ∷ l) q);
-      high = λ h. either_height a.value
-          (λ above. let r : MAX_HEIGHT < tree_height (lowered a.value) = k.high above in omega arith)
-          (λ below. let r : MAX_HEIGHT < assignments_height (map lowered_assignment xs) = m.high (omega arith) in omega arith);
-    }
+tree_keeps : (x : Tree) → KeepsHeight tree_height x (lowered x)
+tree_keeps x = let k = keeps x in record { low = k.low; high = k.high }
+
+-- a height above the limit that is not: either way
+either_way : {C : Type 0} (h : ℕ) → (MAX_HEIGHT < h → C) → (h ≤ MAX_HEIGHT → C) → C
+either_way {C} h above below = by_test (nat_lt MAX_HEIGHT h) refl
   where
-    with_value : Identifier → Tree → PlainAssignment
-    with_value n z = record { variable = n; value = z }
+    by_test : (c : Bool) → nat_lt MAX_HEIGHT h ≡ c → C
+    by_test true f = above (ltb-true MAX_HEIGHT h f)
+    by_test false f = below (ltb-false MAX_HEIGHT h f)
+
+row_keeps : {A : Type 0} (h : A → ℕ) (f : A → A) → ((x : A) → KeepsHeight h x (f x)) → (xs : List A) → KeepsHeight (highest h) xs (map f xs)
+row_keeps h f each [] = record { low = λ e. refl; high = λ e. e }
+row_keeps h f each (x ∷ xs) =
+    let k = each x in
+    let m = row_keeps h f each xs in
+    record {
+      low = λ e. ap (λ z. z ∷ map f xs) (k.low (omega arith)) ∙ ap (λ l. x ∷ l) (m.low (omega arith));
+      high = λ e.
+          either_way (h x)
+          (λ above. let r : MAX_HEIGHT < h (f x) = k.high above in omega arith)
+          (λ below. let r : MAX_HEIGHT < highest h (map f xs) = m.high (omega arith) in omega arith);
+    }
+
+assignment_with : Identifier → Tree → PlainAssignment
+assignment_with n z = record { variable = n; value = z }
+
+assignment_keeps : (a : PlainAssignment) → KeepsHeight (λ a. tree_height a.value) a (lowered_assignment a)
+unfolding lowered_assignment assignment_with
+assignment_keeps a = let k = keeps a.value in record { low = λ e. ap (assignment_with a.variable) (k.low e); high = k.high }
+
+sending_with : Identifier → List Tree → PlainSending
+sending_with n ps = record { signal = n; parameters = ps }
+
+sending_keeps : (s : PlainSending) → KeepsHeight sending_height s (lowered_sending s)
+unfolding lowered_sending sending_with
+sending_keeps s =
+    let k = row_keeps tree_height lowered tree_keeps s.parameters in
+    record { low = λ e. ap (sending_with s.signal) (k.low e); high = k.high }
+
+action_keeps : (a : PlainAction) → KeepsHeight action_height a (lowered_action a)
+unfolding lowered_action
+action_keeps (task at xs) =
+    let k = row_keeps (λ a. tree_height a.value) lowered_assignment assignment_keeps xs in
+    record { low = λ e. ap (task at) (k.low e); high = k.high }
+action_keeps (output at ss to) =
+    let k = row_keeps sending_height lowered_sending sending_keeps ss in
+    record { low = λ e. ap (λ l. output at l to) (k.low e); high = k.high }
+action_keeps (set_timer at delay timer) = let k = keeps delay in record { low = λ e. ap (λ d. set_timer at d timer) (k.low e); high = k.high }
+action_keeps (reset_timer at timer) = record { low = λ e. refl; high = λ e. e }
 
 same_test : (h k : ℕ) → (h ≤ MAX_HEIGHT → k ≡ h) → (MAX_HEIGHT < h → MAX_HEIGHT < k) → (b c : Bool) → nat_lt MAX_HEIGHT h ≡ b → nat_lt MAX_HEIGHT k ≡ c → c ≡ b
 same_test h k low high true true e f = refl
@@ -128,10 +162,17 @@ same_test h k low high false true e f =
     let s : k ≡ h = low b in
     absurd (omega arith)
 
-row_test : (xs : List PlainAssignment) → nat_lt MAX_HEIGHT (assignments_height (map lowered_assignment xs)) ≡ nat_lt MAX_HEIGHT (assignments_height xs)
-row_test xs =
-    let r = row_keeps xs in
-    same_test (assignments_height xs) (assignments_height (map lowered_assignment xs)) (λ h. ap assignments_height (r.low h)) r.high _ _ refl refl
+action_test : (a : PlainAction) → nat_lt MAX_HEIGHT (action_height (lowered_action a)) ≡ nat_lt MAX_HEIGHT (action_height a)
+action_test a =
+    let k = action_keeps a in
+    same_test (action_height a) (action_height (lowered_action a)) (λ h. ap action_height (k.low h)) k.high _ _ refl refl
+
+place_lowered : (a : PlainAction) → place_of_action (lowered_action a) ≡ place_of_action a
+unfolding lowered_action
+place_lowered (task at xs) = refl
+place_lowered (output at ss to) = refl
+place_lowered (set_timer at delay timer) = refl
+place_lowered (reset_timer at timer) = refl
 
 -- the first place that is too high is the same, and where there is none, so is all
 
@@ -162,22 +203,26 @@ test_none : (b : Bool) (at : ℕ) → (if b then Some at else None) ≡ None →
 test_none true at e = cc
 test_none false at e = refl
 
+action_stays : (a : PlainAction) → Stays high_in_action a (lowered_action a)
+action_stays a = record {
+  place =
+      ap (λ p. if nat_lt MAX_HEIGHT (action_height (lowered_action a)) then Some p else None) (place_lowered a)
+      ∙ ap (λ b. if b then Some (place_of_action a) else None) (action_test a);
+  same = λ e. (action_keeps a).low (ltb-false MAX_HEIGHT (action_height a) (test_none (nat_lt MAX_HEIGHT (action_height a)) (place_of_action a) e));
+}
+
 text_stays : (t : Text) → Stays high_in_text t (lowered_text t)
 unfolding lowered_text
 text_stays falls = record { place = refl; same = λ e. refl }
 text_stays (ends e) = record { place = refl; same = λ h. refl }
-text_stays (task at xs rest) =
+text_stays (does a rest) =
+    let s = action_stays a in
     let r = text_stays rest in
-    let k = row_keeps xs in
     record {
-      place =
-          ap (λ b. or_first (if b then Some at else None) (high_in_text (lowered_text rest))) (row_test xs)
-          ∙ ap (or_first (if nat_lt MAX_HEIGHT (assignments_height xs) then Some at else None)) r.place;
+      place = ap (λ p. or_first p (high_in_text (lowered_text rest))) s.place ∙ ap (or_first (high_in_action a)) r.place;
       same = λ e.
-          (let none = left_none (if nat_lt MAX_HEIGHT (assignments_height xs) then Some at else None) (high_in_text rest) e in
-          let low : assignments_height xs ≤ MAX_HEIGHT = ltb-false MAX_HEIGHT (assignments_height xs) (test_none (nat_lt MAX_HEIGHT (assignments_height xs)) at none) in
-          ap (λ ys. task at ys (lowered_text rest)) (k.low low)
-          ∙ ap (task at xs) (r.same (right_none (if nat_lt MAX_HEIGHT (assignments_height xs) then Some at else None) (high_in_text rest) e)));
+          ap (λ b. does b (lowered_text rest)) (s.same (left_none (high_in_action a) (high_in_text rest) e))
+          ∙ ap (does a) (r.same (right_none (high_in_action a) (high_in_text rest) e));
     }
 
 input_with : PlainInput → Text → PlainInput
@@ -188,6 +233,7 @@ unfolding lowered_clause lowered_input input_with
 clause_stays (input i) =
     let s = text_stays i.text in
     record { place = s.place; same = λ e. ap (λ t. input (input_with i t)) (s.same e) }
+clause_stays (save names) = record { place = refl; same = λ e. refl }
 
 part_with : PlainState → List PlainClause → PlainState
 part_with s cs = record { names = s.names; clauses = cs }
@@ -217,6 +263,7 @@ entity_stays : (e : PlainEntity) → Stays high_in_entity e (lowered_entity e)
 unfolding lowered_entity
 entity_stays (signals declared) = record { place = refl; same = λ e. refl }
 entity_stays (route r) = record { place = refl; same = λ e. refl }
+entity_stays (connect channels routes) = record { place = refl; same = λ e. refl }
 entity_stays (process p) = let s = process_stays p in record { place = s.place; same = λ e. ap process (s.same e) }
 
 block_with : PlainBlock → List PlainEntity → PlainBlock

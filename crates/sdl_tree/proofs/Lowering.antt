@@ -1,26 +1,28 @@
--- Readings that build no tree above one that is too high give what is left of the whole tree.
-use Rattle.std.proofs.Common.{◌≡◌, ℕ, suc, zero, Bool, true, false, List, [], ◌∷◌, ◌++◌, Option, Some, None, length, map, refl, sym, ap, ◌∙◌}
+-- Readings that build no tree above one that is too high give what is left of the whole tree: expressions, and what is put together.
+use Rattle.std.proofs.Common.{◌≡◌, ℕ, suc, zero, Bool, true, false, List, [], ◌∷◌, Option, Some, None, is_some, length, map, refl, sym, ap, ◌∙◌}
 use Rattle.std.specs.Prelude.{nat_lt, nat_le, if◌then◌else◌}
 use Rattle.sdl_lex.specs.declared.TheConstants.{MAX_NUMBER}
 use Rattle.sdl_lex.specs.declared.lexemes.Token.{Token}
+use Rattle.sdl_lex.specs.declared.lexemes.Word.{Word}
 use Rattle.sdl_lex.specs.declared.lexemes.Word.TheVariants as words
 use Rattle.sdl_lex.specs.declared.lexemes.Symbol.TheVariants.{Comma}
 use Rattle.sdl_lex.specs.declared.lexemes.Symbol.TheVariants as symbols
 use Rattle.sdl_lex.specs.declared.lexemes.Symbol.{Symbol}
 use Rattle.sdl_lex.specs.declared.lexemes.Lexeme.{Lexeme}
 use Rattle.sdl_lex.specs.declared.lexemes.Lexeme.TheVariants as lexemes
-use Rattle.sdl_tree.specs.Tokens.{begins, a_symbol, a_word, a_name, a_declared}
+use Rattle.sdl_tree.specs.Tokens.{begins, a_symbol}
+use Rattle.sdl_tree.specs.declared.expression.UnaryOperator.{UnaryOperator}
+use Rattle.sdl_tree.specs.declared.expression.UnaryOperator.TheVariants.{Negate, Not}
 use Rattle.sdl_tree.specs.declared.expression.BinaryOperator.{BinaryOperator}
-use Rattle.sdl_tree.specs.declared.expression.BinaryOperator.TheVariants.{Add, Subtract, Multiply}
+use Rattle.sdl_tree.specs.declared.expression.BinaryOperator.TheVariants.{Subtract}
+use Rattle.sdl_tree.specs.declared.level.Level.{Level}
+use Rattle.sdl_tree.specs.declared.level.Level.TheVariants.{Disjunctions, Conjunctions, Relations, Sums, Products}
 use Rattle.sdl_tree.specs.declared.TheConstants.{MAX_HEIGHT}
-use Rattle.sdl_tree.specs.Plain.{Tree, number, variable, unary, binary, PlainAssignment, Text, falls, ends, task, PlainInput, PlainClause, input, PlainState, PlainStart, PlainProcess, PlainEntity, signals, route, process, PlainBlock}
-use Rattle.sdl_tree.specs.declared.tree.End.{End}
-use Rattle.sdl_tree.specs.declared.expression.Identifier.{Identifier}
-use Rattle.sdl_tree.specs.Productions.{PlainTask, tasks_text, assignment_at, assignments_at, task_at, end_at, text_at, stimulus_at, input_at, clause_at, end_state_at, closing_at, state_at, start_at, one_state_at, process_head_at, declaration_at, process_at, declared_at, block_at, signal_at, signals_at, path_at, route_at}
-use Rattle.sdl_tree.specs.Expressions.{Sign, leaf, plus, minus, star, opens, closes, other, sign, symbol_sign, lexeme_sign, place_of, placed}
+use Rattle.sdl_tree.specs.Plain.{Tree, number, truth, variable, unary, binary}
+use Rattle.sdl_tree.specs.Expressions.{Sign, leaf, joins, minus, denies, opens, closes, other, sign, symbol_sign, word_sign, lexeme_sign, place_of, placed}
 use Rattle.sdl_tree.specs.Heights.{tree_height}
-use Rattle.sdl_tree.specs.Readings.{Reading, read, fails, At, then_read, either, choice, optional, many_for, many, give, token, ◌>>=◌, separated, behind_comma}
-use Rattle.sdl_tree.specs.Machine.{whole_trees, low_trees, low_binary, lowered, Frame, empty_frame, factor_of, product_of, sum_of, closed_product, closed, State, wants, has, Turn, goes, done, stuck, minus_turn, want_turn, close_turn, end_turn, have_turn, turn, after_turn, run, expression_at}
+use Rattle.sdl_tree.specs.Readings.{Reading, read, fails, At, then_read, either, choice, many_for, many, give, token, ◌>>=◌, separated, list_in_parentheses, behind_comma}
+use Rattle.sdl_tree.specs.Machine.{whole_trees, low_trees, low_binary, lowered, Terms, Tests, Frame, no_terms, empty_frame, led_by, joined_to, closed_product, closed_terms, closed_relation, closed_conjunction, closed_tests, closed, with_operator, with_lead, bars, State, wants, has, Turn, goes, done, stuck, unless, lead_turn, join_turn, want_turn, close_turn, end_turn, have_turn, turn, after_turn, run, expression_at}
 
 -- the machine
 
@@ -30,12 +32,14 @@ cond_placed false p x y = refl
 
 placed-placed : (p q : ℕ) (x : Tree) → placed p (placed q x) ≡ placed p x
 placed-placed p q (number at k) = refl
+placed-placed p q (truth at b) = refl
 placed-placed p q (variable at n) = refl
 placed-placed p q (unary at o x) = refl
 placed-placed p q (binary at o x y) = refl
 
 place_of-placed : (p : ℕ) (x : Tree) → place_of (placed p x) ≡ p
 place_of-placed p (number at k) = refl
+place_of-placed p (truth at b) = refl
 place_of-placed p (variable at n) = refl
 place_of-placed p (unary at o x) = refl
 place_of-placed p (binary at o x y) = refl
@@ -46,6 +50,7 @@ place_if false at x y e f = f
 
 pub place_of-lowered : (x : Tree) → place_of (lowered x) ≡ place_of x
 place_of-lowered (number at k) = refl
+place_of-lowered (truth at b) = refl
 place_of-lowered (variable at n) = refl
 place_of-lowered (unary at o x) = place_if (nat_lt MAX_HEIGHT (tree_height (lowered x))) at _ _ (place_of-placed at (lowered x)) refl
 place_of-lowered (binary at o x y) =
@@ -58,6 +63,7 @@ placed_if false p x y x' y' e f = f
 
 pub lowered-placed : (p : ℕ) (x : Tree) → lowered (placed p x) ≡ placed p (lowered x)
 lowered-placed p (number at k) = refl
+lowered-placed p (truth at b) = refl
 lowered-placed p (variable at n) = refl
 lowered-placed p (unary at o x) =
     sym (placed_if (nat_lt MAX_HEIGHT (tree_height (lowered x))) p _ _ _ _ (placed-placed p at (lowered x)) refl)
@@ -65,16 +71,18 @@ lowered-placed p (binary at o x y) =
     sym (placed_if (nat_lt MAX_HEIGHT (tree_height (lowered x))) p _ _ _ _ (placed-placed p at (lowered x))
     (placed_if (nat_lt MAX_HEIGHT (tree_height (lowered y))) p _ _ _ _ (placed-placed p at (lowered y)) refl))
 
-lowered_product : Option Tree → Option Tree
-lowered_product None = None
-lowered_product (Some x) = Some (lowered x)
+lowered_slot : Option (Tree × BinaryOperator) → Option (Tree × BinaryOperator)
+lowered_slot None = None
+lowered_slot (Some s) = Some (lowered s.0, s.1)
 
-lowered_sum : Option (Tree × BinaryOperator) → Option (Tree × BinaryOperator)
-lowered_sum None = None
-lowered_sum (Some s) = Some (lowered s.0, s.1)
+lowered_terms : Terms → Terms
+lowered_terms n = record { sum = lowered_slot n.sum; product = lowered_slot n.product; lead = n.lead }
+
+lowered_tests : Tests → Tests
+lowered_tests k = record { disjunction = lowered_slot k.disjunction; conjunction = lowered_slot k.conjunction; relation = lowered_slot k.relation }
 
 lowered_frame : Frame → Frame
-lowered_frame l = record { opened = l.opened; sum = lowered_sum l.sum; product = lowered_product l.product; minus = l.minus }
+lowered_frame l = record { opened = l.opened; tests = lowered_tests l.tests; terms = lowered_terms l.terms }
 
 lowered_frames : List Frame → List Frame
 lowered_frames [] = []
@@ -93,52 +101,111 @@ unfoldable pub mapped : {A B : Type 0} → (A → B) → Reading A → Reading B
 mapped f (read x us) = read (f x) us
 mapped f (fails us) = fails us
 
-low_factor : (m : Option ℕ) (x : Tree) → factor_of low_trees m (lowered x) ≡ lowered (factor_of whole_trees m x)
-low_factor None x = refl
-low_factor (Some at) x = refl
+low_led : (m : Option (ℕ × UnaryOperator)) (x : Tree) → led_by low_trees m (lowered x) ≡ lowered (led_by whole_trees m x)
+low_led None x = refl
+low_led (Some p) x = refl
 
 low_join : (o : BinaryOperator) (x y : Tree) → low_trees.join o (lowered x) (lowered y) ≡ lowered (whole_trees.join o x y)
 low_join o x y = ap (λ p. low_binary p o (lowered x) (lowered y)) (place_of-lowered x)
 
-low_product : (q : Option Tree) (x : Tree) → product_of low_trees (lowered_product q) (lowered x) ≡ lowered (product_of whole_trees q x)
-unfolding lowered_product
-low_product None x = refl
-low_product (Some y) x = low_join Multiply y x
+low_slot : (s : Option (Tree × BinaryOperator)) (x : Tree) → joined_to low_trees (lowered_slot s) (lowered x) ≡ lowered (joined_to whole_trees s x)
+unfolding lowered_slot
+low_slot None x = refl
+low_slot (Some s) x = low_join s.1 s.0 x
 
-low_sum : (s : Option (Tree × BinaryOperator)) (x : Tree) → sum_of low_trees (lowered_sum s) (lowered x) ≡ lowered (sum_of whole_trees s x)
-unfolding lowered_sum
-low_sum None x = refl
-low_sum (Some s) x = low_join s.1 s.0 x
+-- behind what is closed already
+low_behind : (s : Option (Tree × BinaryOperator)) (x y : Tree) → y ≡ lowered x → joined_to low_trees (lowered_slot s) y ≡ lowered (joined_to whole_trees s x)
+low_behind s x y e = ap (joined_to low_trees (lowered_slot s)) e ∙ low_slot s x
 
-low_closed_product : (l : Frame) (x : Tree) → closed_product low_trees (lowered_frame l) (lowered x) ≡ lowered (closed_product whole_trees l x)
-unfolding lowered_frame
-low_closed_product l x = ap (product_of low_trees (lowered_product l.product)) (low_factor l.minus x) ∙ low_product l.product (factor_of whole_trees l.minus x)
+low_closed_product : (n : Terms) (x : Tree) → closed_product low_trees (lowered_terms n) (lowered x) ≡ lowered (closed_product whole_trees n x)
+unfolding lowered_terms
+low_closed_product n x = low_behind n.product (led_by whole_trees n.lead x) _ (low_led n.lead x)
+
+low_closed_terms : (n : Terms) (x : Tree) → closed_terms low_trees (lowered_terms n) (lowered x) ≡ lowered (closed_terms whole_trees n x)
+unfolding lowered_terms
+low_closed_terms n x = low_behind n.sum (closed_product whole_trees n x) _ (low_closed_product n x)
+
+low_closed_relation : (k : Tests) (x y : Tree) → y ≡ lowered x → closed_relation low_trees (lowered_tests k) y ≡ lowered (closed_relation whole_trees k x)
+unfolding lowered_tests
+low_closed_relation k x y e = low_behind k.relation x y e
+
+low_closed_conjunction : (k : Tests) (x y : Tree) → y ≡ lowered x → closed_conjunction low_trees (lowered_tests k) y ≡ lowered (closed_conjunction whole_trees k x)
+unfolding lowered_tests
+low_closed_conjunction k x y e = low_behind k.conjunction (closed_relation whole_trees k x) _ (low_closed_relation k x y e)
+
+low_closed_tests : (k : Tests) (x y : Tree) → y ≡ lowered x → closed_tests low_trees (lowered_tests k) y ≡ lowered (closed_tests whole_trees k x)
+unfolding lowered_tests
+low_closed_tests k x y e = low_behind k.disjunction (closed_conjunction whole_trees k x) _ (low_closed_conjunction k x y e)
 
 low_closed : (l : Frame) (x : Tree) → closed low_trees (lowered_frame l) (lowered x) ≡ lowered (closed whole_trees l x)
 unfolding lowered_frame
-low_closed l x = ap (sum_of low_trees (lowered_sum l.sum)) (low_closed_product l x) ∙ low_sum l.sum (closed_product whole_trees l x)
+low_closed l x = low_closed_tests l.tests (closed_terms whole_trees l.terms x) _ (low_closed_terms l.terms x)
 
-low_minus : (ls : List Frame) (l : Frame) (at : ℕ) (m : Option ℕ) → minus_turn (lowered_frames ls) (lowered_frame l) at m ≡ lowered_turn (minus_turn ls l at m)
-unfolding lowered_turn lowered_state lowered_frame
-low_minus ls l at None = refl
-low_minus ls l at (Some earlier) = refl
+low_operator : (level : Level) (o : BinaryOperator) (l : Frame) (x : Tree)
+    → with_operator low_trees level o (lowered_frame l) (lowered x) ≡ lowered_frame (with_operator whole_trees level o l x)
+unfolding lowered_frame lowered_tests lowered_terms lowered_slot
+low_operator Disjunctions o l x =
+    ap (λ z. record { opened = l.opened; tests = record { disjunction = Some (z, o); conjunction = None; relation = None }; terms = no_terms })
+    (low_closed_tests l.tests (closed_terms whole_trees l.terms x) _ (low_closed_terms l.terms x))
+low_operator Conjunctions o l x =
+    ap (λ z. record { opened = l.opened; tests = record { disjunction = lowered_slot l.tests.disjunction; conjunction = Some (z, o); relation = None }; terms = no_terms })
+    (low_closed_conjunction l.tests (closed_terms whole_trees l.terms x) _ (low_closed_terms l.terms x))
+low_operator Relations o l x =
+    ap (λ z. record { opened = l.opened; tests = record { disjunction = lowered_slot l.tests.disjunction; conjunction = lowered_slot l.tests.conjunction; relation = Some (z, o) }; terms = no_terms })
+    (low_closed_relation l.tests (closed_terms whole_trees l.terms x) _ (low_closed_terms l.terms x))
+low_operator Sums o l x =
+    ap (λ z. record { opened = l.opened; tests = lowered_tests l.tests; terms = record { sum = Some (z, o); product = None; lead = None } })
+    (low_closed_terms l.terms x)
+low_operator Products o l x =
+    ap (λ z. record { opened = l.opened; tests = lowered_tests l.tests; terms = record { sum = lowered_slot l.terms.sum; product = Some (z, o); lead = None } })
+    (low_closed_product l.terms x)
+
+low_is_some : (s : Option (Tree × BinaryOperator)) → is_some (lowered_slot s) ≡ is_some s
+unfolding lowered_slot
+low_is_some None = refl
+low_is_some (Some s) = refl
+
+low_bars : (level : Level) (l : Frame) → bars level (lowered_frame l) ≡ bars level l
+unfolding lowered_frame lowered_tests
+low_bars Relations l = low_is_some l.tests.relation
+low_bars Disjunctions l = refl
+low_bars Conjunctions l = refl
+low_bars Sums l = refl
+low_bars Products l = refl
+
+low_unless : (b : Bool) (s : State) → unless b (lowered_state s) ≡ lowered_turn (unless b s)
+unfolding lowered_turn
+low_unless true s = refl
+low_unless false s = refl
+
+low_lead : (ls : List Frame) (l : Frame) (at : ℕ) (o : UnaryOperator) → lead_turn (lowered_frames ls) (lowered_frame l) at o ≡ lowered_turn (lead_turn ls l at o)
+unfolding lowered_state lowered_frame lowered_terms
+low_lead ls l at o = low_unless (is_some l.terms.lead) (wants ls (with_lead at o l))
+
+low_joins : (ls : List Frame) (l : Frame) (x : Tree) (level : Level) (o : BinaryOperator)
+    → join_turn low_trees (lowered_frames ls) (lowered_frame l) (lowered x) level o ≡ lowered_turn (join_turn whole_trees ls l x level o)
+unfolding lowered_state
+low_joins ls l x level o =
+    ap (λ b. unless b (wants (lowered_frames ls) (with_operator low_trees level o (lowered_frame l) (lowered x)))) (low_bars level l)
+    ∙ ap (λ f. unless (bars level l) (wants (lowered_frames ls) f)) (low_operator level o l x)
+    ∙ low_unless (bars level l) (wants ls (with_operator whole_trees level o l x))
 
 lowered_sign : Sign → Sign
 lowered_sign (leaf x) = leaf (lowered x)
-lowered_sign plus = plus
+lowered_sign (joins level o) = joins level o
 lowered_sign (minus at) = minus at
-lowered_sign star = star
+lowered_sign (denies at) = denies at
 lowered_sign (opens at) = opens at
 lowered_sign closes = closes
 lowered_sign other = other
 
 low_want : (ls : List Frame) (l : Frame) (g : Sign) → want_turn (lowered_frames ls) (lowered_frame l) (lowered_sign g) ≡ lowered_turn (want_turn ls l g)
-unfolding lowered_turn lowered_state lowered_frame lowered_frames lowered_sign lowered_sum lowered_product
+unfolding lowered_turn lowered_state lowered_frame lowered_frames lowered_sign lowered_slot lowered_tests lowered_terms
 low_want ls l (leaf x) = refl
-low_want ls l (minus at) = low_minus ls l at l.minus
+low_want ls l (minus at) = low_lead ls l at Negate
+low_want ls l (denies at) = low_lead ls l at Not
 low_want ls l (opens at) = refl
-low_want ls l plus = refl
-low_want ls l star = refl
+low_want ls l (joins level o) = refl
 low_want ls l closes = refl
 low_want ls l other = refl
 
@@ -156,12 +223,12 @@ low_end (o ∷ ls) l x = refl
 
 low_have : (ls : List Frame) (l : Frame) (x : Tree) (g : Sign)
     → have_turn low_trees (lowered_frames ls) (lowered_frame l) (lowered x) (lowered_sign g) ≡ lowered_turn (have_turn whole_trees ls l x g)
-unfolding lowered_turn lowered_state lowered_frame lowered_sign lowered_sum lowered_product
-low_have ls l x plus = ap (λ z. goes (wants (lowered_frames ls) (record { opened = l.opened; sum = Some (z, Add); product = None; minus = None }))) (low_closed l x)
-low_have ls l x (minus at) = ap (λ z. goes (wants (lowered_frames ls) (record { opened = l.opened; sum = Some (z, Subtract); product = None; minus = None }))) (low_closed l x)
-low_have ls l x star = ap (λ z. goes (wants (lowered_frames ls) (record { opened = l.opened; sum = lowered_sum l.sum; product = Some z; minus = None }))) (low_closed_product l x)
+unfolding lowered_sign
+low_have ls l x (joins level o) = low_joins ls l x level o
+low_have ls l x (minus at) = low_joins ls l x Sums Subtract
 low_have ls l x closes = low_close ls l x
 low_have ls l x (leaf y) = low_end ls l x
+low_have ls l x (denies at) = low_end ls l x
 low_have ls l x (opens at) = low_end ls l x
 low_have ls l x other = low_end ls l x
 
@@ -177,29 +244,21 @@ number_sign false x e = refl
 
 symbol_same : (at : ℕ) (s : Symbol) → lowered_sign (symbol_sign at s) ≡ symbol_sign at s
 unfolding lowered_sign
-symbol_same at symbols.Plus = refl
-symbol_same at symbols.Minus = refl
-symbol_same at symbols.Star = refl
 symbol_same at symbols.Open = refl
-symbol_same at symbols.Close = refl
-symbol_same at symbols.Semicolon = refl
-symbol_same at symbols.Comma = refl
-symbol_same at symbols.Colon = refl
-symbol_same at symbols.Assign = refl
-symbol_same at symbols.Slash = refl
-symbol_same at symbols.Equal = refl
-symbol_same at symbols.NotEqual = refl
-symbol_same at symbols.Less = refl
-symbol_same at symbols.LessEqual = refl
-symbol_same at symbols.Greater = refl
-symbol_same at symbols.GreaterEqual = refl
+symbol_same at _ = refl
+
+word_same : (at : ℕ) (w : Word) → lowered_sign (word_sign at w) ≡ word_sign at w
+unfolding lowered_sign
+word_same at words.Not = refl
+word_same at _ = refl
 
 lexeme_same : (at : ℕ) (x : Lexeme) → lowered_sign (lexeme_sign at x) ≡ lexeme_sign at x
 unfolding lowered_sign
 lexeme_same at (lexemes.Name n) = refl
 lexeme_same at (lexemes.Number k) = number_sign (nat_le k MAX_NUMBER) (number at k) refl
-lexeme_same at (lexemes.Word w) = refl
+lexeme_same at (lexemes.Word w) = word_same at w
 lexeme_same at (lexemes.Symbol s) = symbol_same at s
+lexeme_same at lexemes.Quoted = refl
 
 sign_same : (t : Token) → lowered_sign (sign t) ≡ sign t
 unfolding sign
@@ -230,8 +289,8 @@ run_same (t ∷ ts) s =
 unfoldable pub Lowers : {A B : Type 0} → (A → B) → At A → At B → Type 0
 Lowers f p q = (ts : List Token) → q ts ≡ mapped f (p ts)
 
-expression_lowers : Lowers lowered (expression_at whole_trees) (expression_at low_trees)
-unfolding expression_at Lowers lowered_state lowered_frames lowered_frame lowered_sum lowered_product
+pub expression_lowers : Lowers lowered (expression_at whole_trees) (expression_at low_trees)
+unfolding expression_at Lowers lowered_state lowered_frames lowered_frame lowered_tests lowered_terms lowered_slot
 expression_lowers ts = run_same ts (wants [] (empty_frame 0))
 
 same_reads : {A : Type 0} (p : At A) → Lowers (λ x. x) p p
@@ -242,11 +301,11 @@ same_reads {A} p ts = by_result (p ts)
     by_result (read x us) = refl
     by_result (fails us) = refl
 
-give_lowers : {A B : Type 0} (f : A → B) (x : A) → Lowers f (give x) (give (f x))
+pub give_lowers : {A B : Type 0} (f : A → B) (x : A) → Lowers f (give x) (give (f x))
 unfolding Lowers mapped
 give_lowers f x ts = refl
 
-then_lowers : {A B C D : Type 0} (f : A → C) (g : B → D) (p : At A) (q : A → At B) (p' : At C) (q' : C → At D)
+pub then_lowers : {A B C D : Type 0} (f : A → C) (g : B → D) (p : At A) (q : A → At B) (p' : At C) (q' : C → At D)
     → Lowers f p p' → ((x : A) → Lowers g (q x) (q' (f x))) → Lowers g (p >>= q) (p' >>= q')
 unfolding Lowers mapped
 then_lowers {A} {B} {C} {D} f g p q p' q' hp hq ts = ap (λ r. then_read r q') (hp ts) ∙ by_result (p ts)
@@ -259,7 +318,7 @@ either_lowers : {A C : Type 0} (f : A → C) (b : Bool) (p q : At A) (p' q' : At
 either_lowers f true p q p' q' hp hq = hp
 either_lowers f false p q p' q' hp hq = hq
 
-choice_lowers : {A B C : Type 0} (f : A → C) (test : Token → Option B) (p q : At A) (p' q' : At C) → Lowers f p p' → Lowers f q q' → Lowers f (choice test p q) (choice test p' q')
+pub choice_lowers : {A B C : Type 0} (f : A → C) (test : Token → Option B) (p q : At A) (p' q' : At C) → Lowers f p p' → Lowers f q q' → Lowers f (choice test p q) (choice test p' q')
 unfolding Lowers
 choice_lowers f test p q p' q' hp hq ts = either_lowers f (begins test ts) p q p' q' hp hq ts
 
@@ -271,177 +330,25 @@ many_for_lowers {A} {B} {C} f test p p' h (suc n) ts =
     (then_lowers f (map f) p _ p' _ h (λ x. then_lowers (map f) (map f) (many_for test p n) _ (many_for test p' n) _ (many_for_lowers f test p p' h n) (λ xs. give_lowers (map f) (x ∷ xs))))
     (give_lowers (map f) []) ts
 
-many_lowers : {A B C : Type 0} (f : A → C) (test : Token → Option B) (p : At A) (p' : At C) → Lowers f p p' → Lowers (map f) (many test p) (many test p')
+pub many_lowers : {A B C : Type 0} (f : A → C) (test : Token → Option B) (p : At A) (p' : At C) → Lowers f p p' → Lowers (map f) (many test p) (many test p')
 unfolding many Lowers
 many_lowers f test p p' h ts = many_for_lowers f test p p' h (suc (length ts)) ts
 
-separated_lowers : {A C : Type 0} (f : A → C) (p : At A) (p' : At C) → Lowers f p p' → Lowers (map f) (separated p) (separated p')
+pub separated_lowers : {A C : Type 0} (f : A → C) (p : At A) (p' : At C) → Lowers f p p' → Lowers (map f) (separated p) (separated p')
 separated_lowers f p p' h =
     then_lowers f (map f) p _ p' _ h λ x.
     then_lowers (map f) (map f) (many (a_symbol Comma) (behind_comma p)) _ (many (a_symbol Comma) (behind_comma p')) _
     (many_lowers f (a_symbol Comma) (behind_comma p) (behind_comma p') (then_lowers (λ x. x) f (token (a_symbol Comma)) _ (token (a_symbol Comma)) _ (same_reads (token (a_symbol Comma))) (λ _. h))) λ xs.
     give_lowers (map f) (x ∷ xs)
 
--- the tree without what stands above a tree that is too high
-
-unfoldable pub lowered_assignment : PlainAssignment → PlainAssignment
-lowered_assignment a = record { variable = a.variable; value = lowered a.value }
-
-lowered_task : PlainTask → PlainTask
-lowered_task t = record { at = t.at; assignments = map lowered_assignment t.assignments }
-
-unfoldable pub lowered_text : Text → Text
-lowered_text falls = falls
-lowered_text (ends e) = ends e
-lowered_text (task at assignments rest) = task at (map lowered_assignment assignments) (lowered_text rest)
-
-unfoldable pub lowered_input : PlainInput → PlainInput
-lowered_input i = record { at = i.at; stimuli = i.stimuli; text = lowered_text i.text }
-
-unfoldable pub lowered_clause : PlainClause → PlainClause
-lowered_clause (input i) = input (lowered_input i)
-
-unfoldable pub lowered_start : PlainStart → PlainStart
-lowered_start s = record { at = s.at; text = lowered_text s.text }
-
-unfoldable pub lowered_part : PlainState → PlainState
-lowered_part s = record { names = s.names; clauses = map lowered_clause s.clauses }
-
-unfoldable pub lowered_process : PlainProcess → PlainProcess
-lowered_process p = record { name = p.name; declarations = p.declarations; start = lowered_start p.start; states = map lowered_part p.states }
-
-unfoldable pub lowered_entity : PlainEntity → PlainEntity
-lowered_entity (signals declared) = signals declared
-lowered_entity (route r) = route r
-lowered_entity (process p) = process (lowered_process p)
-
-unfoldable pub lowered_block : PlainBlock → PlainBlock
-lowered_block b = record { name = b.name; entities = map lowered_entity b.entities }
-
 -- one part after another, of which the first stays as it is
-next_lowers : {A B D : Type 0} (g : B → D) (p : At A) (q : A → At B) (q' : A → At D) → ((x : A) → Lowers g (q x) (q' x)) → Lowers g (p >>= q) (p >>= q')
+pub next_lowers : {A B D : Type 0} (g : B → D) (p : At A) (q : A → At B) (q' : A → At D) → ((x : A) → Lowers g (q x) (q' x)) → Lowers g (p >>= q) (p >>= q')
 next_lowers g p q q' h = then_lowers (λ x. x) g p q p q' (same_reads p) h
 
-abbrev low : At Tree
-low = expression_at low_trees
-
-abbrev whole : At Tree
-whole = expression_at whole_trees
-
-assignment_lowers : Lowers lowered_assignment (assignment_at whole) (assignment_at low)
-unfolding assignment_at lowered_assignment
-assignment_lowers =
-    next_lowers _ (token a_name) _ _ λ v. next_lowers _ (token (a_symbol symbols.Assign)) _ _ λ _.
-    then_lowers lowered lowered_assignment whole _ low _ expression_lowers λ x. give_lowers lowered_assignment (record { variable = v; value = x })
-
-assignments_lowers : Lowers (map lowered_assignment) (assignments_at whole) (assignments_at low)
-unfolding assignments_at
-assignments_lowers =
-    then_lowers (map lowered_assignment) (map lowered_assignment) (separated (assignment_at whole)) _ (separated (assignment_at low)) _
-    (separated_lowers lowered_assignment (assignment_at whole) (assignment_at low) assignment_lowers) λ xs.
-    next_lowers _ (token (a_symbol symbols.Semicolon)) _ _ λ _. give_lowers (map lowered_assignment) xs
-
-task_lowers : Lowers lowered_task (task_at whole) (task_at low)
-unfolding task_at lowered_task
-task_lowers =
-    next_lowers _ (token (a_word words.Task)) _ _ λ at.
-    then_lowers (map lowered_assignment) lowered_task (assignments_at whole) _ (assignments_at low) _ assignments_lowers λ xs.
-    give_lowers lowered_task (record { at = at; assignments = xs })
-
-lowered_tasks : (tasks : List PlainTask) (last : Option End) → tasks_text (map lowered_task tasks) last ≡ lowered_text (tasks_text tasks last)
-unfolding lowered_task lowered_text
-lowered_tasks [] None = refl
-lowered_tasks [] (Some e) = refl
-lowered_tasks (t ∷ tasks) last = ap (task t.at (map lowered_assignment t.assignments)) (lowered_tasks tasks last)
-
-give_text_lowers : (tasks : List PlainTask) (last : Option End) → Lowers lowered_text (give (tasks_text tasks last)) (give (tasks_text (map lowered_task tasks) last))
-unfolding Lowers mapped
-give_text_lowers tasks last ts = ap (λ x. read x ts) (lowered_tasks tasks last)
-
-text_lowers : Lowers lowered_text (text_at whole) (text_at low)
-unfolding text_at
-text_lowers =
-    then_lowers (map lowered_task) lowered_text (many (a_word words.Task) (task_at whole)) _ (many (a_word words.Task) (task_at low)) _
-    (many_lowers lowered_task (a_word words.Task) (task_at whole) (task_at low) task_lowers) λ tasks.
-    next_lowers _ (optional (a_word words.NextState) end_at) _ _ λ last. give_text_lowers tasks last
-
-input_lowers : Lowers lowered_input (input_at whole) (input_at low)
-unfolding input_at lowered_input
-input_lowers =
-    next_lowers _ (token (a_word words.Input)) _ _ λ at. next_lowers _ (separated stimulus_at) _ _ λ stimuli. next_lowers _ (token (a_symbol symbols.Semicolon)) _ _ λ _.
-    then_lowers lowered_text lowered_input (text_at whole) _ (text_at low) _ text_lowers λ text. give_lowers lowered_input (record { at = at; stimuli = stimuli; text = text })
-
-clause_lowers : Lowers lowered_clause (clause_at whole) (clause_at low)
-unfolding clause_at lowered_clause
-clause_lowers = then_lowers lowered_input lowered_clause (input_at whole) _ (input_at low) _ input_lowers λ i. give_lowers lowered_clause (input i)
-
-state_lowers : Lowers lowered_part (state_at whole) (state_at low)
-unfolding state_at lowered_part
-state_lowers =
-    next_lowers _ (token (a_word words.State)) _ _ λ _. next_lowers _ (token a_name) _ _ λ name. next_lowers _ (token (a_symbol symbols.Semicolon)) _ _ λ _.
-    then_lowers (map lowered_clause) lowered_part (many (a_word words.Input) (clause_at whole)) _ (many (a_word words.Input) (clause_at low)) _
-    (many_lowers lowered_clause (a_word words.Input) (clause_at whole) (clause_at low) clause_lowers) λ clauses.
-    next_lowers _ (optional (a_word words.EndState) (end_state_at name.name)) _ _ λ _. give_lowers lowered_part (record { names = name ∷ []; clauses = clauses })
-
-one_state_lowers : Lowers (map lowered_part) (one_state_at whole) (one_state_at low)
-unfolding one_state_at
-one_state_lowers = then_lowers lowered_part (map lowered_part) (state_at whole) _ (state_at low) _ state_lowers λ s. give_lowers (map lowered_part) (s ∷ [])
-
-start_lowers : Lowers lowered_start (start_at whole) (start_at low)
-unfolding start_at lowered_start
-start_lowers =
-    next_lowers _ (token (a_word words.Start)) _ _ λ at. next_lowers _ (token (a_symbol symbols.Semicolon)) _ _ λ _.
-    then_lowers lowered_text lowered_start (text_at whole) _ (text_at low) _ text_lowers λ text. give_lowers lowered_start (record { at = at; text = text })
-
-process_lowers : Lowers lowered_process (process_at whole) (process_at low)
-unfolding process_at lowered_process
-process_lowers =
-    next_lowers _ process_head_at _ _ λ name. next_lowers _ (many (a_word words.Dcl) declaration_at) _ _ λ declarations.
-    then_lowers lowered_start lowered_process (start_at whole) _ (start_at low) _ start_lowers λ start.
-    then_lowers (map lowered_part) lowered_process (choice (a_word words.State) (one_state_at whole) (give [])) _ (choice (a_word words.State) (one_state_at low) (give [])) _
-    (choice_lowers (map lowered_part) (a_word words.State) (one_state_at whole) (give []) (one_state_at low) (give []) one_state_lowers (give_lowers (map lowered_part) [])) λ states.
-    next_lowers _ (token (a_word words.EndProcess)) _ _ λ _. next_lowers _ (closing_at name.name) _ _ λ _.
-    give_lowers lowered_process (record { name = name; declarations = declarations; start = start; states = states })
-
-signals_lowers : Lowers lowered_entity signals_at signals_at
-unfolding signals_at lowered_entity
-signals_lowers =
-    next_lowers _ (token (a_word words.Signal)) _ _ λ _. next_lowers _ (separated signal_at) _ _ λ declared. next_lowers _ (token (a_symbol symbols.Semicolon)) _ _ λ _.
-    give_lowers lowered_entity (signals declared)
-
-route_lowers : Lowers lowered_entity route_at route_at
-unfolding route_at lowered_entity
-route_lowers =
-    next_lowers _ (token (a_word words.SignalRoute)) _ _ λ _. next_lowers _ (token a_name) _ _ λ name. next_lowers _ path_at _ _ λ path.
-    give_lowers lowered_entity (route (record { name = name; paths = path ∷ [] }))
-
--- a SIGNAL or a SIGNALROUTE has no expression
-declared_lowers : Lowers lowered_entity declared_at declared_at
-unfolding declared_at
-declared_lowers = choice_lowers lowered_entity (a_word words.Signal) signals_at route_at signals_at route_at signals_lowers route_lowers
-
-declared_row_lowers : Lowers (map lowered_entity) (many a_declared declared_at) (many a_declared declared_at)
-declared_row_lowers = many_lowers lowered_entity a_declared declared_at declared_at declared_lowers
-
-map-around : {A B : Type 0} (f : A → B) (xs : List A) (y : A) (zs : List A) → map f xs ++ f y ∷ map f zs ≡ map f (xs ++ y ∷ zs)
-map-around f [] y zs = refl
-map-around f (x ∷ xs) y zs = ap (λ l. f x ∷ l) (map-around f xs y zs)
-
-give_block_lowers : (name : Identifier) (before : List PlainEntity) (body : PlainProcess) (after : List PlainEntity)
-    → Lowers lowered_block (give (record { name = name; entities = before ++ process body ∷ after }))
-    (give (record { name = name; entities = map lowered_entity before ++ process (lowered_process body) ∷ map lowered_entity after }))
-unfolding Lowers mapped lowered_block lowered_entity
-give_block_lowers name before body after ts =
-    ap (λ (es : List PlainEntity). read (block_with name es) ts) (map-around lowered_entity before (process body) after)
-  where
-    block_with : Identifier → List PlainEntity → PlainBlock
-    block_with n es = record { name = n; entities = es }
-
-pub block_lowers : Lowers lowered_block (block_at whole) (block_at low)
-unfolding block_at
-block_lowers =
-    next_lowers _ (token (a_word words.Block)) _ _ λ _. next_lowers _ (token a_name) _ _ λ name. next_lowers _ (token (a_symbol symbols.Semicolon)) _ _ λ _.
-    then_lowers (map lowered_entity) lowered_block (many a_declared declared_at) _ (many a_declared declared_at) _ declared_row_lowers λ before.
-    then_lowers lowered_process lowered_block (process_at whole) _ (process_at low) _ process_lowers λ body.
-    then_lowers (map lowered_entity) lowered_block (many a_declared declared_at) _ (many a_declared declared_at) _ declared_row_lowers λ after.
-    next_lowers _ (token (a_word words.EndBlock)) _ _ λ _. next_lowers _ (closing_at name.name) _ _ λ _. give_block_lowers name before body after
+pub list_lowers : {A C : Type 0} (f : A → C) (p : At A) (p' : At C) → Lowers f p p' → Lowers (map f) (list_in_parentheses p) (list_in_parentheses p')
+list_lowers f p p' h =
+    choice_lowers (map f) (a_symbol symbols.Open) _ _ _ _
+    (next_lowers (map f) (token (a_symbol symbols.Open)) _ _ λ _.
+    then_lowers (map f) (map f) (separated p) _ (separated p') _ (separated_lowers f p p' h) λ xs.
+    next_lowers (map f) (token (a_symbol symbols.Close)) _ _ λ _. give_lowers (map f) xs)
+    (give_lowers (map f) [])

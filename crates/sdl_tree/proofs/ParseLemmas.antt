@@ -14,7 +14,8 @@ use Rattle.sdl_tree.specs.Productions.{block_at}
 use Rattle.sdl_tree.specs.Settled.{stops_at, low_block, Settled}
 use Rattle.sdl_tree.proofs.Decides.{first, rest_of, with_rest}
 use Rattle.sdl_tree.proofs.SyntaxDecides.{block_decides}
-use Rattle.sdl_tree.proofs.Lowering.{mapped, Lowers, lowered_block, block_lowers}
+use Rattle.sdl_tree.proofs.Lowering.{mapped, Lowers}
+use Rattle.sdl_tree.proofs.LoweredParts.{lowered_block, block_lowers}
 use Rattle.sdl_tree.proofs.HeightLemmas.{low_where_none, high_where_some}
 use Rattle.sdl_tree.proofs.LowHeights.{place_stays, low_stays}
 

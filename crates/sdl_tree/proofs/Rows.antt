@@ -228,10 +228,13 @@ many_decides {A} {B} {g} {p} f sp d = record {
   complete = many_complete f g p d sp;
 }
 
-pub separated_decides : {A : Type 0} {g : Grammar A} {p : At A} → Decides g p → Decides (grammar.separated g) (reading.separated p)
-separated_decides {A} {g} {p} d =
-    d >>= λ x. many_decides (a_symbol Comma) (shortens_then (token (a_symbol Comma)) (λ _. p) (shortens_token (a_symbol Comma)) (λ _. d.looks)) (token_decides (a_symbol Comma) >>= λ _. d)
+pub separated_from_decides : {A : Type 0} {g : Grammar A} {p : At A} (x : A) → Decides g p → Decides (grammar.separated_from x g) (reading.separated_from x p)
+separated_from_decides {A} {g} {p} x d =
+    many_decides (a_symbol Comma) (shortens_then (token (a_symbol Comma)) (λ _. p) (shortens_token (a_symbol Comma)) (λ _. d.looks)) (token_decides (a_symbol Comma) >>= λ _. d)
     >>= λ xs. give_decides (x ∷ xs)
+
+pub separated_decides : {A : Type 0} {g : Grammar A} {p : At A} → Decides g p → Decides (grammar.separated g) (reading.separated p)
+separated_decides d = d >>= λ x. separated_from_decides x d
 
 pub list_decides : {A : Type 0} {g : Grammar A} {p : At A} → Decides g p → Decides (grammar.list_in_parentheses g) (reading.list_in_parentheses p)
 list_decides d = choice_decides (a_symbol Open)

@@ -54,9 +54,13 @@ choice f p q = λ tokens x rest. MatchBool (begins f tokens) (p tokens x rest) (
 abbrev pub optional : {A B : Type 0} → (Token → Option B) → Grammar A → Grammar (Option A)
 optional f p = choice f (p >>= λ x. give (Some x)) (give None)
 
+-- { , p } behind a first thing
+abbrev pub separated_from : {A : Type 0} → A → Grammar A → Grammar (List A)
+separated_from x p = many (a_symbol Comma) (token (a_symbol Comma) >>= λ _. p) >>= λ xs. give (x ∷ xs)
+
 -- p { , p }
 abbrev pub separated : {A : Type 0} → Grammar A → Grammar (List A)
-separated p = p >>= λ x. many (a_symbol Comma) (token (a_symbol Comma) >>= λ _. p) >>= λ xs. give (x ∷ xs)
+separated p = p >>= λ x. separated_from x p
 
 -- ( p {, p} ), or nothing
 abbrev pub list_in_parentheses : {A : Type 0} → Grammar A → Grammar (List A)

@@ -5,13 +5,14 @@ use Rattle.sdl_tree.specs.declared.fault.ParseFault.{ParseFault}
 use Rattle.sdl_tree.specs.declared.fault.ParseFault.TheVariants.{Unexpected, TooDeep, NoMemory}
 use Rattle.sdl_tree.specs.declared.tree.Block.{Block}
 use Rattle.sdl_tree.specs.declared.TheConstants.{MAX_HEIGHT}
-use Rattle.sdl_tree.specs.Plain.{Tree, number, variable, unary, binary, PlainAssignment, Text, falls, ends, task, PlainClause, input, PlainState, PlainProcess, PlainEntity, signals, route, process, PlainBlock}
+use Rattle.sdl_tree.specs.Plain.{Tree, number, truth, variable, unary, binary, PlainAssignment, PlainSending, PlainAction, task, output, set_timer, reset_timer, Text, falls, ends, does, PlainClause, input, save, PlainState, PlainProcess, PlainEntity, signals, route, connect, process, PlainBlock}
 use Rattle.sdl_tree.specs.Syntax.{Reads}
 use Rattle.sdl_tree.specs.Views.{block_of}
 
 -- 1 for an operand, one more than its highest operand for an operator
 abbrev pub tree_height : Tree → ℕ
 tree_height (number at k) = 1
+tree_height (truth at b) = 1
 tree_height (variable at n) = 1
 tree_height (unary at o x) = tree_height x + 1
 tree_height (binary at o x y) = max (tree_height x) (tree_height y) + 1
@@ -24,13 +25,24 @@ highest f (x ∷ xs) = max (f x) (highest f xs)
 abbrev pub assignments_height : List PlainAssignment → ℕ
 assignments_height assignments = highest (λ a. tree_height a.value) assignments
 
+abbrev pub sending_height : PlainSending → ℕ
+sending_height s = highest tree_height s.parameters
+
+-- an action adds nothing to its highest expression
+abbrev pub action_height : PlainAction → ℕ
+action_height (task at assignments) = assignments_height assignments
+action_height (output at sendings to) = highest sending_height sendings
+action_height (set_timer at delay timer) = tree_height delay
+action_height (reset_timer at timer) = 0
+
 abbrev pub text_height : Text → ℕ
 text_height falls = 0
 text_height (ends e) = 0
-text_height (task at assignments rest) = max (assignments_height assignments) (text_height rest)
+text_height (does action rest) = max (action_height action) (text_height rest)
 
 abbrev pub clause_height : PlainClause → ℕ
 clause_height (input i) = text_height i.text
+clause_height (save names) = 0
 
 abbrev pub state_height : PlainState → ℕ
 state_height s = highest clause_height s.clauses
@@ -41,6 +53,7 @@ process_height p = max (text_height p.start.text) (highest state_height p.states
 abbrev pub entity_height : PlainEntity → ℕ
 entity_height (signals declared) = 0
 entity_height (route r) = 0
+entity_height (connect channels routes) = 0
 entity_height (process p) = process_height p
 
 -- the height of the highest expression of a text
@@ -56,15 +69,25 @@ abbrev pub first_of : {A : Type 0} → (A → Option ℕ) → List A → Option 
 first_of f [] = None
 first_of f (x ∷ xs) = or_first (f x) (first_of f xs)
 
--- the place of the first TASK with an expression that is too high
+abbrev pub place_of_action : PlainAction → ℕ
+place_of_action (task at assignments) = at
+place_of_action (output at sendings to) = at
+place_of_action (set_timer at delay timer) = at
+place_of_action (reset_timer at timer) = at
+
+-- the place of an action with an expression that is too high
+abbrev pub high_in_action : PlainAction → Option ℕ
+high_in_action a = if nat_lt MAX_HEIGHT (action_height a) then Some (place_of_action a) else None
+
+-- the place of the first TASK, OUTPUT or SET with an expression that is too high
 abbrev pub high_in_text : Text → Option ℕ
 high_in_text falls = None
 high_in_text (ends e) = None
-high_in_text (task at assignments rest) =
-    or_first (if nat_lt MAX_HEIGHT (assignments_height assignments) then Some at else None) (high_in_text rest)
+high_in_text (does action rest) = or_first (high_in_action action) (high_in_text rest)
 
 abbrev pub high_in_clause : PlainClause → Option ℕ
 high_in_clause (input i) = high_in_text i.text
+high_in_clause (save names) = None
 
 abbrev pub high_in_state : PlainState → Option ℕ
 high_in_state s = first_of high_in_clause s.clauses
@@ -75,6 +98,7 @@ high_in_process p = or_first (high_in_text p.start.text) (first_of high_in_state
 abbrev pub high_in_entity : PlainEntity → Option ℕ
 high_in_entity (signals declared) = None
 high_in_entity (route r) = None
+high_in_entity (connect channels routes) = None
 high_in_entity (process p) = high_in_process p
 
 abbrev pub first_too_high : PlainBlock → Option ℕ

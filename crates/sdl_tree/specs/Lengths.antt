@@ -4,14 +4,14 @@ use Rattle.std.proofs.Common.{sym, ap, subst}
 use Rattle.std.proofs.Math.Nat.{le_refl, le_trans, le_of_lt, lt_of_le_of_lt, lt-suc_self}
 use Rattle.sdl_lex.specs.declared.lexemes.Token.{Token}
 use Rattle.sdl_lex.specs.declared.lexemes.Word.TheVariants as words
-use Rattle.sdl_lex.specs.declared.lexemes.Symbol.TheVariants.{Semicolon, Comma, Assign, Open, Close, Minus}
+use Rattle.sdl_lex.specs.declared.lexemes.Symbol.TheVariants.{Semicolon, Comma, Assign, Open, Close, Plus, Minus}
 use Rattle.sdl_tree.specs.Plain.{Tree}
-use Rattle.sdl_tree.specs.Tokens.{begins, a_word, a_symbol, a_number, a_name, a_sort, a_party, environment, a_constant}
+use Rattle.sdl_tree.specs.Tokens.{begins, a_word, a_symbol, a_number, a_name, a_sort, a_party, a_constant, a_one, a_closing, a_quoted, a_destination, a_declaration, a_clause, an_action, an_end}
 use Rattle.sdl_tree.specs.Expressions.{other, sign}
 use Rattle.sdl_tree.specs.Machine.{Build, low_trees, State, wants, Turn, goes, done, stuck, turn, after_turn, run, empty_frame, expression_at}
-use Rattle.sdl_tree.specs.Readings.{Reading, read, fails, At, then_read, stands_for, either, many_for, many, choice, optional, give, token, separated, list_in_parentheses, Shortens, NeverLonger}
+use Rattle.sdl_tree.specs.Readings.{Reading, read, fails, At, then_read, stands_for, either, many_for, many, choice, optional, give, token, separated_from, separated, list_in_parentheses, Shortens, NeverLonger}
 use Rattle.sdl_tree.specs.Readings as reading
-use Rattle.sdl_tree.specs.Productions.{signal_at, signals_at, path_at, route_at, negative_at, constant_at, initial_at, group_at, declaration_at, place_at, stimulus_at, assignment_at, assignments_at, end_at, task_at, text_at, input_at, clause_at, declared_at}
+use Rattle.sdl_tree.specs.Productions.{comment_at, signal_at, signals_at, path_at, route_at, connect_at, negative_at, constant_at, initial_at, group_at, variables_at, timers_at, declaration_at, place_at, stimulus_at, assignment_at, assigned_at, quoted_at, item_at, task_at, sending_at, destination_at, output_at, delay_at, set_at, reset_at, action_at, next_state_at, stop_at, end_at, text_at, input_at, save_at, clause_at, closing_at, end_state_at, state_at, start_at, second_number_at, instances_at, process_head_at, process_at, entity_at, terminator_at}
 
 -- what a failed reading is not, and what a reading leaves
 IsRead : {A : Type 0} → Reading A → Type 0
@@ -108,8 +108,11 @@ keeps_many : {A B : Type 0} {p : At A} (f : Token → Option B) → NeverLonger 
 unfolding many
 keeps_many f kp = λ ts x us h. keeps_many_for f kp (suc (length ts)) ts x us h
 
+keeps_separated_from : {A : Type 0} {p : At A} (x : A) → NeverLonger p → NeverLonger (separated_from x p)
+keeps_separated_from x kp = keeps_many (a_symbol Comma) (keeps_token (a_symbol Comma) >>= λ _. kp) >>= λ xs. keeps_give (x ∷ xs)
+
 keeps_separated : {A : Type 0} {p : At A} → NeverLonger p → NeverLonger (separated p)
-keeps_separated kp = kp >>= λ x. keeps_many (a_symbol Comma) (keeps_token (a_symbol Comma) >>= λ _. kp) >>= λ xs. keeps_give (x ∷ xs)
+keeps_separated kp = kp >>= λ x. keeps_separated_from x kp
 
 keeps_list : {A : Type 0} {p : At A} → NeverLonger p → NeverLonger (list_in_parentheses p)
 keeps_list kp = keeps_choice (a_symbol Open)
@@ -122,44 +125,80 @@ name_keeps = keeps_token a_name
 pub sort_keeps : NeverLonger (token a_sort)
 sort_keeps = keeps_token a_sort
 
+pub comment_keeps : NeverLonger comment_at
+unfolding comment_at
+comment_keeps = keeps_token (a_word words.Comment) >>= λ _. keeps_token a_quoted
+
+pub terminator_keeps : NeverLonger terminator_at
+unfolding terminator_at
+terminator_keeps = keeps_optional (a_word words.Comment) comment_keeps >>= λ _. keeps_token (a_symbol Semicolon)
+
 pub signal_keeps : NeverLonger signal_at
 unfolding signal_at
-signal_keeps = name_keeps >>= λ n. keeps_list sort_keeps >>= λ ps. keeps_give (record { name = n; parameters = ps })
+signal_keeps = name_keeps >>= λ name. keeps_list sort_keeps >>= λ parameters. keeps_give _
 
 pub signals_takes : Shortens signals_at
 unfolding signals_at
-signals_takes = first_takes (shortens_token (a_word words.Signal)) λ _.
-    keeps_separated signal_keeps >>= λ ss. keeps_token (a_symbol Semicolon) >>= λ _. keeps_give _
+signals_takes =
+    first_takes (shortens_token (a_word words.Signal)) λ _.
+    keeps_separated signal_keeps >>= λ declared. terminator_keeps >>= λ _. keeps_give _
 
-path_keeps : NeverLonger path_at
+pub path_keeps : NeverLonger path_at
 unfolding path_at
 path_keeps =
-    keeps_token (a_word words.From) >>= λ _. keeps_token environment >>= λ from. keeps_token (a_word words.To) >>= λ _. keeps_token a_party >>= λ to.
-    keeps_token (a_word words.With) >>= λ _. keeps_separated name_keeps >>= λ brought. keeps_token (a_symbol Semicolon) >>= λ _. keeps_give _
+    keeps_token (a_word words.From) >>= λ _. keeps_token a_party >>= λ from. keeps_token (a_word words.To) >>=
+    λ _. keeps_token a_party >>= λ to. keeps_token (a_word words.With) >>= λ _. keeps_separated name_keeps >>=
+    λ brought. terminator_keeps >>= λ _. keeps_give _
 
 pub route_takes : Shortens route_at
 unfolding route_at
-route_takes = first_takes (shortens_token (a_word words.SignalRoute)) λ _. name_keeps >>= λ n. path_keeps >>= λ p. keeps_give _
+route_takes =
+    first_takes (shortens_token (a_word words.SignalRoute)) λ _.
+    name_keeps >>= λ name. path_keeps >>= λ first. keeps_optional (a_word words.From) path_keeps >>= λ second. keeps_give _
 
-pub declared_takes : Shortens declared_at
-unfolding declared_at
-declared_takes = takes_choice (a_word words.Signal) signals_takes route_takes
+pub connect_takes : Shortens connect_at
+unfolding connect_at
+connect_takes =
+    first_takes (shortens_token (a_word words.Connect)) λ _.
+    keeps_separated name_keeps >>= λ channels. keeps_token (a_word words.And) >>= λ _. keeps_separated name_keeps >>=
+    λ routes. terminator_keeps >>= λ _. keeps_give _
 
-constant_keeps : NeverLonger constant_at
-unfolding constant_at negative_at
-constant_keeps = keeps_choice (a_symbol Minus) (keeps_token (a_symbol Minus) >>= λ at. keeps_token a_number >>= λ k. keeps_give _) (keeps_token a_constant)
+pub negative_keeps : NeverLonger negative_at
+unfolding negative_at
+negative_keeps = keeps_token (a_symbol Minus) >>= λ at. keeps_token a_number >>= λ value. keeps_give _
 
-initial_keeps : NeverLonger initial_at
+pub constant_keeps : NeverLonger constant_at
+unfolding constant_at
+constant_keeps = keeps_choice (a_symbol Minus) negative_keeps (keeps_token a_constant)
+
+pub initial_keeps : NeverLonger initial_at
 unfolding initial_at
 initial_keeps = keeps_token (a_symbol Assign) >>= λ _. constant_keeps
 
 pub group_keeps : NeverLonger group_at
 unfolding group_at
-group_keeps = keeps_separated name_keeps >>= λ ns. sort_keeps >>= λ s. keeps_optional (a_symbol Assign) initial_keeps >>= λ i. keeps_give _
+group_keeps =
+    keeps_separated name_keeps >>= λ names. sort_keeps >>= λ sort. keeps_optional (a_symbol Assign) initial_keeps >>=
+    λ initial. keeps_give _
+
+pub variables_takes : Shortens variables_at
+unfolding variables_at
+variables_takes =
+    first_takes (shortens_token (a_word words.Dcl)) λ _.
+    keeps_separated group_keeps >>= λ groups. terminator_keeps >>= λ _. keeps_give _
+
+pub timers_takes : Shortens timers_at
+unfolding timers_at
+timers_takes =
+    first_takes (shortens_token (a_word words.Timer)) λ _.
+    keeps_separated name_keeps >>= λ names. terminator_keeps >>= λ _. keeps_give _
 
 pub declaration_takes : Shortens declaration_at
 unfolding declaration_at
-declaration_takes = first_takes (shortens_token (a_word words.Dcl)) λ _. keeps_separated group_keeps >>= λ gs. keeps_token (a_symbol Semicolon) >>= λ _. keeps_give _
+declaration_takes = takes_choice (a_word words.Dcl) variables_takes timers_takes
+
+pub declaration_keeps : NeverLonger declaration_at
+declaration_keeps = less_never_longer _ declaration_takes
 
 pub place_keeps : NeverLonger place_at
 unfolding place_at
@@ -167,51 +206,191 @@ place_keeps = keeps_optional a_name name_keeps
 
 pub stimulus_keeps : NeverLonger stimulus_at
 unfolding stimulus_at
-stimulus_keeps = name_keeps >>= λ n. keeps_list place_keeps >>= λ ps. keeps_give _
+stimulus_keeps = name_keeps >>= λ name. keeps_list place_keeps >>= λ places. keeps_give _
 
 pub assignment_keeps : (e : At Tree) → NeverLonger e → NeverLonger (assignment_at e)
 unfolding assignment_at
-assignment_keeps e k = name_keeps >>= λ n. keeps_token (a_symbol Assign) >>= λ _. k >>= λ v. keeps_give _
+assignment_keeps e k = name_keeps >>= λ variable. keeps_token (a_symbol Assign) >>= λ _. k >>= λ value. keeps_give _
 
-assignments_keeps : (e : At Tree) → NeverLonger e → NeverLonger (assignments_at e)
-unfolding assignments_at
-assignments_keeps e k = keeps_separated (assignment_keeps e k) >>= λ found. keeps_token (a_symbol Semicolon) >>= λ _. keeps_give found
+pub assigned_keeps : (e : At Tree) → NeverLonger e → NeverLonger (assigned_at e)
+unfolding assigned_at
+assigned_keeps e k = assignment_keeps e k >>= λ assignment. keeps_give _
+
+pub quoted_keeps : NeverLonger quoted_at
+unfolding quoted_at
+quoted_keeps = keeps_token a_quoted >>= λ _. keeps_give _
+
+pub item_keeps : (e : At Tree) → NeverLonger e → NeverLonger (item_at e)
+unfolding item_at
+item_keeps e k = keeps_choice a_quoted quoted_keeps (assigned_keeps e k)
 
 pub task_takes : (e : At Tree) → NeverLonger e → Shortens (task_at e)
 unfolding task_at
-task_takes e k = first_takes (shortens_token (a_word words.Task)) λ at. assignments_keeps e k >>= λ found. keeps_give _
+task_takes e k =
+    first_takes (shortens_token (a_word words.Task)) λ at.
+    keeps_separated (item_keeps e k) >>= λ items. terminator_keeps >>= λ _. keeps_give _
 
-end_keeps : NeverLonger end_at
+pub sending_keeps : (e : At Tree) → NeverLonger e → NeverLonger (sending_at e)
+unfolding sending_at
+sending_keeps e k = name_keeps >>= λ signal. keeps_list k >>= λ parameters. keeps_give _
+
+pub destination_keeps : NeverLonger destination_at
+unfolding destination_at
+destination_keeps = keeps_token (a_word words.To) >>= λ _. keeps_token a_destination
+
+pub output_takes : (e : At Tree) → NeverLonger e → Shortens (output_at e)
+unfolding output_at
+output_takes e k =
+    first_takes (shortens_token (a_word words.Output)) λ at.
+    keeps_separated (sending_keeps e k) >>= λ sendings. keeps_optional (a_word words.To) destination_keeps >>=
+    λ to. terminator_keeps >>= λ _. keeps_give _
+
+pub delay_keeps : (e : At Tree) → NeverLonger e → NeverLonger (delay_at e)
+unfolding delay_at
+delay_keeps e k =
+    keeps_token (a_symbol Open) >>= λ _. keeps_token (a_word words.Now) >>= λ _. keeps_token (a_symbol Plus) >>= λ _. k >>=
+    λ delay. keeps_token (a_symbol Comma) >>= λ _. keeps_give _
+
+pub set_takes : (e : At Tree) → NeverLonger e → Shortens (set_at e)
+unfolding set_at
+set_takes e k =
+    first_takes (shortens_token (a_word words.Set)) λ at.
+    delay_keeps e k >>= λ delay. name_keeps >>= λ timer. keeps_token (a_symbol Close) >>= λ _. terminator_keeps >>= λ _. keeps_give _
+
+pub reset_takes : Shortens reset_at
+unfolding reset_at
+reset_takes =
+    first_takes (shortens_token (a_word words.Reset)) λ at.
+    keeps_token (a_symbol Open) >>= λ _. name_keeps >>= λ timer. keeps_token (a_symbol Close) >>= λ _. terminator_keeps >>=
+    λ _. keeps_give _
+
+pub action_takes : (e : At Tree) → NeverLonger e → Shortens (action_at e)
+unfolding action_at
+action_takes e k = takes_choice (a_word words.Task) (task_takes e k) (takes_choice (a_word words.Output) (output_takes e k) (takes_choice (a_word words.Set) (set_takes e k) reset_takes))
+
+pub action_keeps : (e : At Tree) → NeverLonger e → NeverLonger (action_at e)
+action_keeps e k = less_never_longer _ (action_takes e k)
+
+pub next_state_keeps : NeverLonger next_state_at
+unfolding next_state_at
+next_state_keeps = keeps_token (a_word words.NextState) >>= λ at. name_keeps >>= λ state. terminator_keeps >>= λ _. keeps_give _
+
+pub stop_keeps : NeverLonger stop_at
+unfolding stop_at
+stop_keeps = keeps_token (a_word words.Stop) >>= λ at. terminator_keeps >>= λ _. keeps_give _
+
+pub end_keeps : NeverLonger end_at
 unfolding end_at
-end_keeps = keeps_token (a_word words.NextState) >>= λ at. name_keeps >>= λ n. keeps_token (a_symbol Semicolon) >>= λ _. keeps_give _
+end_keeps = keeps_choice (a_word words.NextState) next_state_keeps stop_keeps
 
-text_keeps : (e : At Tree) → NeverLonger e → NeverLonger (text_at e)
+pub text_keeps : (e : At Tree) → NeverLonger e → NeverLonger (text_at e)
 unfolding text_at
-text_keeps e k =
-    keeps_many (a_word words.Task) (less_never_longer (task_at e) (task_takes e k)) >>= λ ts. keeps_optional (a_word words.NextState) end_keeps >>= λ l. keeps_give _
+text_keeps e k = keeps_many an_action (action_keeps e k) >>= λ actions. keeps_optional an_end end_keeps >>= λ last. keeps_give _
 
-input_takes : (e : At Tree) → NeverLonger e → Shortens (input_at e)
+pub input_takes : (e : At Tree) → NeverLonger e → Shortens (input_at e)
 unfolding input_at
-input_takes e k = first_takes (shortens_token (a_word words.Input)) λ at.
-    keeps_separated stimulus_keeps >>= λ ss. keeps_token (a_symbol Semicolon) >>= λ _. text_keeps e k >>= λ t. keeps_give _
+input_takes e k =
+    first_takes (shortens_token (a_word words.Input)) λ at.
+    keeps_separated stimulus_keeps >>= λ stimuli. terminator_keeps >>= λ _. text_keeps e k >>= λ text. keeps_give _
+
+pub save_takes : Shortens save_at
+unfolding save_at
+save_takes =
+    first_takes (shortens_token (a_word words.Save)) λ _.
+    keeps_separated name_keeps >>= λ names. terminator_keeps >>= λ _. keeps_give _
 
 pub clause_takes : (e : At Tree) → NeverLonger e → Shortens (clause_at e)
 unfolding clause_at
-clause_takes e k = first_takes (input_takes e k) λ c. keeps_give _
+clause_takes e k = takes_choice (a_word words.Input) (input_takes e k) save_takes
+
+pub clause_keeps : (e : At Tree) → NeverLonger e → NeverLonger (clause_at e)
+clause_keeps e k = less_never_longer _ (clause_takes e k)
+
+pub closing_keeps : (name : List ℕ) → NeverLonger (closing_at name)
+unfolding closing_at
+closing_keeps name = keeps_optional a_name (keeps_token (a_closing name)) >>= λ closing. terminator_keeps >>= λ _. keeps_give _
+
+pub end_state_keeps : (name : List ℕ) → NeverLonger (end_state_at name)
+unfolding end_state_at
+end_state_keeps name = keeps_token (a_word words.EndState) >>= λ _. closing_keeps name
+
+pub state_takes : (e : At Tree) → NeverLonger e → Shortens (state_at e)
+unfolding state_at
+state_takes e k =
+    first_takes (shortens_token (a_word words.State)) λ _.
+    name_keeps >>= λ name. keeps_separated_from name name_keeps >>= λ names. terminator_keeps >>=
+    λ _. keeps_many a_clause (clause_keeps e k) >>= λ clauses. keeps_optional (a_word words.EndState) (end_state_keeps name.name) >>=
+    λ _. keeps_give _
+
+pub state_keeps : (e : At Tree) → NeverLonger e → NeverLonger (state_at e)
+state_keeps e k = less_never_longer _ (state_takes e k)
+
+pub start_keeps : (e : At Tree) → NeverLonger e → NeverLonger (start_at e)
+unfolding start_at
+start_keeps e k = keeps_token (a_word words.Start) >>= λ at. terminator_keeps >>= λ _. text_keeps e k >>= λ text. keeps_give _
+
+pub second_number_keeps : NeverLonger second_number_at
+unfolding second_number_at
+second_number_keeps = keeps_token (a_symbol Comma) >>= λ _. keeps_optional a_number (keeps_token a_one)
+
+pub instances_keeps : NeverLonger instances_at
+unfolding instances_at
+instances_keeps =
+    keeps_token (a_symbol Open) >>= λ _. keeps_token a_one >>= λ first. keeps_optional (a_symbol Comma) second_number_keeps >>=
+    λ _. keeps_token (a_symbol Close) >>= λ _. keeps_give _
+
+pub process_head_takes : Shortens process_head_at
+unfolding process_head_at
+process_head_takes =
+    first_takes (shortens_token (a_word words.Process)) λ _.
+    name_keeps >>= λ name. keeps_optional (a_symbol Open) instances_keeps >>= λ _. terminator_keeps >>= λ _. keeps_give _
+
+pub process_takes : (e : At Tree) → NeverLonger e → Shortens (process_at e)
+unfolding process_at
+process_takes e k =
+    first_takes process_head_takes λ name.
+    keeps_many a_declaration declaration_keeps >>= λ declarations. start_keeps e k >>=
+    λ start. keeps_many (a_word words.State) (state_keeps e k) >>= λ states. keeps_token (a_word words.EndProcess) >>=
+    λ _. closing_keeps name.name >>= λ _. keeps_give _
+
+pub entity_takes : (e : At Tree) → NeverLonger e → Shortens (entity_at e)
+unfolding entity_at
+entity_takes e k = takes_choice (a_word words.Signal) signals_takes (takes_choice (a_word words.SignalRoute) route_takes (takes_choice (a_word words.Connect) connect_takes (process_takes e k)))
+
+pub entity_keeps : (e : At Tree) → NeverLonger e → NeverLonger (entity_at e)
+entity_keeps e k = less_never_longer _ (entity_takes e k)
 
 -- the same where no tree above one that is too high is built
 
-pub low_assignment_keeps : NeverLonger (assignment_at (expression_at low_trees))
-low_assignment_keeps = assignment_keeps (expression_at low_trees) (expression_keeps low_trees)
+pub low_keeps : NeverLonger (expression_at low_trees)
+low_keeps = expression_keeps low_trees
 
-pub low_task_takes : Shortens (task_at (expression_at low_trees))
-low_task_takes = task_takes (expression_at low_trees) (expression_keeps low_trees)
+pub low_item_keeps : NeverLonger (item_at (expression_at low_trees))
+low_item_keeps = item_keeps (expression_at low_trees) low_keeps
 
-pub low_task_keeps : NeverLonger (task_at (expression_at low_trees))
-low_task_keeps = less_never_longer (task_at (expression_at low_trees)) low_task_takes
+pub low_sending_keeps : NeverLonger (sending_at (expression_at low_trees))
+low_sending_keeps = sending_keeps (expression_at low_trees) low_keeps
+
+pub low_action_takes : Shortens (action_at (expression_at low_trees))
+low_action_takes = action_takes (expression_at low_trees) low_keeps
+
+pub low_action_keeps : NeverLonger (action_at (expression_at low_trees))
+low_action_keeps = action_keeps (expression_at low_trees) low_keeps
 
 pub low_clause_takes : Shortens (clause_at (expression_at low_trees))
-low_clause_takes = clause_takes (expression_at low_trees) (expression_keeps low_trees)
+low_clause_takes = clause_takes (expression_at low_trees) low_keeps
 
 pub low_clause_keeps : NeverLonger (clause_at (expression_at low_trees))
-low_clause_keeps = less_never_longer (clause_at (expression_at low_trees)) low_clause_takes
+low_clause_keeps = clause_keeps (expression_at low_trees) low_keeps
+
+pub low_state_takes : Shortens (state_at (expression_at low_trees))
+low_state_takes = state_takes (expression_at low_trees) low_keeps
+
+pub low_state_keeps : NeverLonger (state_at (expression_at low_trees))
+low_state_keeps = state_keeps (expression_at low_trees) low_keeps
+
+pub low_entity_takes : Shortens (entity_at (expression_at low_trees))
+low_entity_takes = entity_takes (expression_at low_trees) low_keeps
+
+pub low_entity_keeps : NeverLonger (entity_at (expression_at low_trees))
+low_entity_keeps = entity_keeps (expression_at low_trees) low_keeps

@@ -11,6 +11,5 @@ pub mod Productions
 pub mod Mirrors
 pub mod Parts
 pub mod Stacks
-pub mod Tasks
 pub mod Lengths
 pub mod Settled

@@ -1,14 +1,10 @@
--- What the code's stack of operands stands for.
+-- What the code keeps of what stands before an operand.
 use Rattle.std.specs.Prelude.{Option, None, Some}
 use Rattle.sdl_tree.specs.declared.expression.BinaryOperator.{BinaryOperator}
 use Rattle.sdl_tree.specs.declared.part.Part.{Part}
 use Rattle.sdl_tree.specs.Plain.{Tree}
 use Rattle.sdl_tree.specs.Views.{tree_of}
 
-abbrev pub product_view : Option Part → Option Tree
-product_view None = None
-product_view (Some p) = Some (tree_of p.tree)
-
-abbrev pub sum_view : Option (Part × BinaryOperator) → Option (Tree × BinaryOperator)
-sum_view None = None
-sum_view (Some s) = Some (tree_of s.0.tree, s.1)
+abbrev pub slot_view : Option (Part × BinaryOperator) → Option (Tree × BinaryOperator)
+slot_view None = None
+slot_view (Some s) = Some (tree_of s.0.tree, s.1)

@@ -3,29 +3,32 @@ use Rattle.std.specs.Prelude.{◌≡◌, ◌<◌, Option, None, Some, List, [], 
 use Rattle.sdl_lex.specs.declared.lexemes.Token.{Token}
 use Rattle.sdl_tree.specs.declared.operands.Sign as the_sign
 use Rattle.sdl_tree.specs.declared.operands.Sign.TheVariants as signs
+use Rattle.sdl_tree.specs.declared.operands.Terms as the_terms
+use Rattle.sdl_tree.specs.declared.operands.Tests as the_tests
 use Rattle.sdl_tree.specs.declared.operands.Frame as the_frame
 use Rattle.sdl_tree.specs.declared.operands.State as the_state
 use Rattle.sdl_tree.specs.declared.operands.Turn as the_turn
 use Rattle.sdl_tree.specs.declared.operands.Turn.TheVariants as turns
 use Rattle.sdl_tree.specs.declared.part.Part.{Part}
-use Rattle.sdl_tree.specs.Plain.{number, variable}
-use Rattle.sdl_tree.specs.Expressions.{Sign, leaf, plus, minus, star, opens, closes, other, sign}
+use Rattle.sdl_tree.specs.Plain.{number, truth, variable}
+use Rattle.sdl_tree.specs.Expressions.{Sign, leaf, joins, minus, denies, opens, closes, other, sign}
 use Rattle.std.specs.Prelude.{Result, Ok, Err}
 use Rattle.sdl_tree.specs.declared.operands.Step as the_step
 use Rattle.sdl_tree.specs.declared.operands.Step.TheVariants as steps
 use Rattle.sdl_tree.specs.declared.stop.Stop.{Stop}
 use Rattle.sdl_tree.specs.Readings.{read}
 use Rattle.sdl_tree.specs.Mirrors.{Stops}
-use Rattle.sdl_tree.specs.Machine.{run, low_trees, Frame, State, wants, has, Turn, goes, done, stuck}
-use Rattle.sdl_tree.specs.Parts.{product_view, sum_view}
+use Rattle.sdl_tree.specs.Machine.{run, low_trees, Terms, Tests, Frame, State, wants, has, Turn, goes, done, stuck}
+use Rattle.sdl_tree.specs.Parts.{slot_view}
 use Rattle.sdl_tree.specs.Views.{tree_of}
 
 abbrev pub sign_view : the_sign.Sign → Sign
 sign_view (signs.Number at value) = leaf (number at value)
+sign_view (signs.Truth at value) = leaf (truth at value)
 sign_view (signs.Variable at name) = leaf (variable at name)
-sign_view signs.Plus = plus
+sign_view (signs.Joins level operator) = joins level operator
 sign_view (signs.Minus at) = minus at
-sign_view signs.Star = star
+sign_view (signs.Denies at) = denies at
 sign_view (signs.Opens at) = opens at
 sign_view signs.Closes = closes
 sign_view signs.Other = other
@@ -34,8 +37,14 @@ abbrev pub next_sign : List Token → Sign
 next_sign [] = other
 next_sign (t ∷ ts) = sign t
 
+abbrev pub terms_view : the_terms.Terms → Terms
+terms_view t = record { sum = slot_view t.sum; product = slot_view t.product; lead = t.lead }
+
+abbrev pub tests_view : the_tests.Tests → Tests
+tests_view k = record { disjunction = slot_view k.disjunction; conjunction = slot_view k.conjunction; relation = slot_view k.relation }
+
 abbrev pub frame_view : the_frame.Frame → Frame
-frame_view f = record { opened = f.opened; sum = sum_view f.sum; product = product_view f.product; minus = f.minus }
+frame_view f = record { opened = f.opened; tests = tests_view f.tests; terms = terms_view f.terms }
 
 abbrev pub stack_view : List the_frame.Frame → List Frame
 stack_view frames = reverse (map frame_view frames)

@@ -1,21 +1,36 @@
 -- The concrete syntax of process texts (Z.100, concrete textual grammar): which tokens read as which tree.
-use Rattle.std.specs.Prelude.{◌≡◌, ℕ, true, false, List, [], ◌∷◌, ◌++◌, Option, Some, pos, ◌-ℤ◌}
+use Rattle.std.specs.Prelude.{◌≡◌, ℕ, true, false, List, [], ◌∷◌, Option, Some, None, pos, ◌-ℤ◌}
+use Rattle.std.specs.List.{filter_map}
+use Rattle.std.specs.Option.{option_to_list}
 use Rattle.sdl_lex.specs.declared.lexemes.Token.{Token}
 use Rattle.sdl_lex.specs.declared.lexemes.Word.TheVariants as words
-use Rattle.sdl_lex.specs.declared.lexemes.Symbol.TheVariants.{Semicolon, Comma, Assign, Open, Close, Minus}
+use Rattle.sdl_lex.specs.declared.lexemes.Symbol.TheVariants.{Semicolon, Comma, Assign, Open, Close, Plus, Minus}
 use Rattle.sdl_tree.specs.declared.expression.Identifier.{Identifier}
 use Rattle.sdl_tree.specs.declared.tree.Constant.{Constant}
+use Rattle.sdl_tree.specs.declared.tree.Destination.{Destination}
 use Rattle.sdl_tree.specs.declared.tree.Literal.TheVariants as literals
 use Rattle.sdl_tree.specs.declared.tree.End.{End}
-use Rattle.sdl_tree.specs.declared.tree.End.TheVariants.{NextState}
-use Rattle.sdl_tree.specs.Plain.{PlainAssignment, Text, falls, ends, task, PlainStimulus, PlainInput, PlainClause, input, PlainState, PlainStart, PlainGroup, PlainDeclaration, variables, PlainProcess, PlainPath, PlainSignal, PlainEntity, signals, route, process, PlainBlock}
-use Rattle.sdl_tree.specs.Tokens.{begins, a_word, a_symbol, a_number, a_name, a_sort, a_party, environment, a_constant, a_one, a_closing, a_declared}
-use Rattle.sdl_tree.specs.Grammar.{Grammar, give, token, ◌>>=◌, many, choice, optional, separated, list_in_parentheses}
+use Rattle.sdl_tree.specs.declared.tree.End.TheVariants.{NextState, Stop}
+use Rattle.sdl_tree.specs.Plain.{PlainAssignment, PlainSending, PlainAction, task, output, set_timer, reset_timer, Text, falls, ends, does, Tree, PlainStimulus, PlainClause, input, save, PlainState, PlainStart, PlainGroup, PlainDeclaration, variables, timers, PlainPath, PlainSignal, PlainEntity, signals, route, connect, process, PlainBlock}
+use Rattle.sdl_tree.specs.Tokens.{begins, a_word, a_symbol, a_number, a_name, a_sort, a_party, a_constant, a_one, a_closing, a_quoted, a_destination, an_entity, a_declaration, a_clause, an_action, an_end}
+use Rattle.sdl_tree.specs.Grammar.{Grammar, give, token, ◌>>=◌, many, choice, optional, separated_from, separated, list_in_parentheses}
 use Rattle.sdl_tree.specs.Expressions.{expression_syntax}
 
 -- name {, name}
 abbrev pub names_syntax : Grammar (List Identifier)
 names_syntax = separated (token a_name)
+
+-- COMMENT quoted
+unfoldable pub comment_syntax : Grammar ℕ
+comment_syntax = do
+  _ ← token (a_word words.Comment)
+  token a_quoted
+
+-- [ COMMENT quoted ] ;
+unfoldable pub terminator_syntax : Grammar ℕ
+terminator_syntax = do
+  _ ← optional (a_word words.Comment) comment_syntax
+  token (a_symbol Semicolon)
 
 -- name [ ( sort {, sort} ) ]
 unfoldable pub signal_syntax : Grammar PlainSignal
@@ -29,28 +44,39 @@ unfoldable pub signals_syntax : Grammar PlainEntity
 signals_syntax = do
   _ ← token (a_word words.Signal)
   declared ← separated signal_syntax
-  _ ← token (a_symbol Semicolon)
+  _ ← terminator_syntax
   give (signals declared)
 
--- FROM ENV TO (name | ENV) WITH name {, name} ;
+-- FROM (name | ENV) TO (name | ENV) WITH name {, name} ;
 unfoldable pub path_syntax : Grammar PlainPath
 path_syntax = do
   _ ← token (a_word words.From)
-  from ← token environment
+  from ← token a_party
   _ ← token (a_word words.To)
   to ← token a_party
   _ ← token (a_word words.With)
   brought ← names_syntax
-  _ ← token (a_symbol Semicolon)
+  _ ← terminator_syntax
   give (record { from = from; to = to; signals = brought })
 
--- SIGNALROUTE name path
+-- SIGNALROUTE name path [path]
 unfoldable pub route_syntax : Grammar PlainEntity
 route_syntax = do
   _ ← token (a_word words.SignalRoute)
   name ← token a_name
-  path ← path_syntax
-  give (route (record { name = name; paths = path ∷ [] }))
+  first ← path_syntax
+  second ← optional (a_word words.From) path_syntax
+  give (route (record { name = name; paths = first ∷ option_to_list second }))
+
+-- CONNECT name {, name} AND name {, name} ;
+unfoldable pub connect_syntax : Grammar PlainEntity
+connect_syntax = do
+  _ ← token (a_word words.Connect)
+  channels ← names_syntax
+  _ ← token (a_word words.And)
+  routes ← names_syntax
+  _ ← terminator_syntax
+  give (connect channels routes)
 
 -- - number
 unfoldable pub negative_syntax : Grammar Constant
@@ -59,7 +85,7 @@ negative_syntax = do
   value ← token a_number
   give (record { at = at; value = literals.Integer (pos 0 -ℤ pos value) })
 
--- [ - ] number
+-- [ - ] number | TRUE | FALSE
 unfoldable pub constant_syntax : Grammar Constant
 constant_syntax = choice (a_symbol Minus) negative_syntax (token a_constant)
 
@@ -78,12 +104,24 @@ group_syntax = do
   give (record { names = names; sort = sort; initial = initial })
 
 -- DCL group {, group} ;
-unfoldable pub declaration_syntax : Grammar PlainDeclaration
-declaration_syntax = do
+unfoldable pub variables_syntax : Grammar PlainDeclaration
+variables_syntax = do
   _ ← token (a_word words.Dcl)
   groups ← separated group_syntax
-  _ ← token (a_symbol Semicolon)
+  _ ← terminator_syntax
   give (variables groups)
+
+-- TIMER name {, name} ;
+unfoldable pub timers_syntax : Grammar PlainDeclaration
+timers_syntax = do
+  _ ← token (a_word words.Timer)
+  names ← names_syntax
+  _ ← terminator_syntax
+  give (timers names)
+
+-- a DCL or a TIMER
+unfoldable pub declaration_syntax : Grammar PlainDeclaration
+declaration_syntax = choice (a_word words.Dcl) variables_syntax timers_syntax
 
 -- [ name ]
 unfoldable pub place_syntax : Grammar (Option Identifier)
@@ -104,53 +142,141 @@ assignment_syntax = do
   value ← expression_syntax
   give (record { variable = variable; value = value })
 
--- assignment {, assignment} ;
-unfoldable pub assignments_syntax : Grammar (List PlainAssignment)
-assignments_syntax = do
-  assignments ← separated assignment_syntax
-  _ ← token (a_symbol Semicolon)
-  give assignments
+-- an assignment among the items of a TASK
+unfoldable pub assigned_syntax : Grammar (Option PlainAssignment)
+assigned_syntax = do
+  assignment ← assignment_syntax
+  give (Some assignment)
+
+-- a quoted text, which leaves nothing
+unfoldable pub quoted_syntax : Grammar (Option PlainAssignment)
+quoted_syntax = do
+  _ ← token a_quoted
+  give None
+
+-- a quoted text or an assignment
+unfoldable pub item_syntax : Grammar (Option PlainAssignment)
+item_syntax = choice a_quoted quoted_syntax assigned_syntax
+
+-- TASK item {, item} ;
+unfoldable pub task_syntax : Grammar PlainAction
+task_syntax = do
+  at ← token (a_word words.Task)
+  items ← separated item_syntax
+  _ ← terminator_syntax
+  give (task at (filter_map (λ i. i) items))
+
+-- name [ ( expression {, expression} ) ]
+unfoldable pub sending_syntax : Grammar PlainSending
+sending_syntax = do
+  signal ← token a_name
+  parameters ← list_in_parentheses expression_syntax
+  give (record { signal = signal; parameters = parameters })
+
+-- TO (SENDER | name)
+unfoldable pub destination_syntax : Grammar Destination
+destination_syntax = do
+  _ ← token (a_word words.To)
+  token a_destination
+
+-- OUTPUT sending {, sending} [ TO (SENDER | name) ] ;
+unfoldable pub output_syntax : Grammar PlainAction
+output_syntax = do
+  at ← token (a_word words.Output)
+  sendings ← separated sending_syntax
+  to ← optional (a_word words.To) destination_syntax
+  _ ← terminator_syntax
+  give (output at sendings to)
+
+-- ( NOW + expression ,
+unfoldable pub delay_syntax : Grammar Tree
+delay_syntax = do
+  _ ← token (a_symbol Open)
+  _ ← token (a_word words.Now)
+  _ ← token (a_symbol Plus)
+  delay ← expression_syntax
+  _ ← token (a_symbol Comma)
+  give delay
+
+-- SET ( NOW + expression , name ) ;
+unfoldable pub set_syntax : Grammar PlainAction
+set_syntax = do
+  at ← token (a_word words.Set)
+  delay ← delay_syntax
+  timer ← token a_name
+  _ ← token (a_symbol Close)
+  _ ← terminator_syntax
+  give (set_timer at delay timer)
+
+-- RESET ( name ) ;
+unfoldable pub reset_syntax : Grammar PlainAction
+reset_syntax = do
+  at ← token (a_word words.Reset)
+  _ ← token (a_symbol Open)
+  timer ← token a_name
+  _ ← token (a_symbol Close)
+  _ ← terminator_syntax
+  give (reset_timer at timer)
+
+-- a TASK, an OUTPUT, a SET or a RESET
+unfoldable pub action_syntax : Grammar PlainAction
+action_syntax = choice (a_word words.Task) task_syntax (choice (a_word words.Output) output_syntax (choice (a_word words.Set) set_syntax reset_syntax))
 
 -- NEXTSTATE name ;
-unfoldable pub end_syntax : Grammar End
-end_syntax = do
+unfoldable pub next_state_syntax : Grammar End
+next_state_syntax = do
   at ← token (a_word words.NextState)
   state ← token a_name
-  _ ← token (a_symbol Semicolon)
+  _ ← terminator_syntax
   give (NextState (record { at = at; state = state }))
 
--- { TASK assignments } [ NEXTSTATE name ; ], each of them exactly where its word stands next
+-- STOP ;
+unfoldable pub stop_syntax : Grammar End
+stop_syntax = do
+  at ← token (a_word words.Stop)
+  _ ← terminator_syntax
+  give (Stop at)
+
+-- a NEXTSTATE or a STOP
+unfoldable pub end_syntax : Grammar End
+end_syntax = choice (a_word words.NextState) next_state_syntax stop_syntax
+
+-- { action } [ NEXTSTATE name ; | STOP ; ], each of them exactly where a word that begins one stands next
 pub data TextReads : List Token → Text → List Token → Type 0 where
-  runs_off : (ts : List Token) → begins (a_word words.Task) ts ≡ false → begins (a_word words.NextState) ts ≡ false
-      → TextReads ts falls ts
-  ends_there : (ts us : List Token) (e : End) → begins (a_word words.Task) ts ≡ false → begins (a_word words.NextState) ts ≡ true
-      → end_syntax ts e us → TextReads ts (ends e) us
-  does_task : (t : Token) (ts us vs : List Token) (at : ℕ) (assignments : List PlainAssignment) (rest : Text)
-      → a_word words.Task t ≡ Some at → assignments_syntax ts assignments us → TextReads us rest vs
-      → TextReads (t ∷ ts) (task at assignments rest) vs
+  runs_off : (ts : List Token) → begins an_action ts ≡ false → begins an_end ts ≡ false → TextReads ts falls ts
+  ends_there : (ts us : List Token) (e : End) → begins an_action ts ≡ false → begins an_end ts ≡ true → end_syntax ts e us → TextReads ts (ends e) us
+  goes_on : (ts us vs : List Token) (action : PlainAction) (rest : Text) → begins an_action ts ≡ true → action_syntax ts action us
+      → TextReads us rest vs → TextReads ts (does action rest) vs
 
 abbrev pub text_syntax : Grammar Text
 text_syntax = λ tokens text rest. TextReads tokens text rest
 
 -- INPUT stimulus {, stimulus} ; transition
-unfoldable pub input_syntax : Grammar PlainInput
+unfoldable pub input_syntax : Grammar PlainClause
 input_syntax = do
   at ← token (a_word words.Input)
   stimuli ← separated stimulus_syntax
-  _ ← token (a_symbol Semicolon)
+  _ ← terminator_syntax
   text ← text_syntax
-  give (record { at = at; stimuli = stimuli; text = text })
+  give (input (record { at = at; stimuli = stimuli; text = text }))
 
+-- SAVE name {, name} ;
+unfoldable pub save_syntax : Grammar PlainClause
+save_syntax = do
+  _ ← token (a_word words.Save)
+  names ← names_syntax
+  _ ← terminator_syntax
+  give (save names)
+
+-- an INPUT or a SAVE
 unfoldable pub clause_syntax : Grammar PlainClause
-clause_syntax = do
-  clause ← input_syntax
-  give (input clause)
+clause_syntax = choice (a_word words.Input) input_syntax save_syntax
 
 -- [name] ; where the name is the given one, in any case
 unfoldable pub closing_syntax : List ℕ → Grammar (Option Identifier)
 closing_syntax name = do
   closing ← optional a_name (token (a_closing name))
-  _ ← token (a_symbol Semicolon)
+  _ ← terminator_syntax
   give closing
 
 -- ENDSTATE [name] ;
@@ -159,21 +285,22 @@ end_state_syntax name = do
   _ ← token (a_word words.EndState)
   closing_syntax name
 
--- STATE name ; { INPUT .. } [ ENDSTATE [name] ; ]
+-- STATE name {, name} ; { INPUT .. | SAVE .. } [ ENDSTATE [name] ; ], the closing name being the first one
 unfoldable pub state_syntax : Grammar PlainState
 state_syntax = do
   _ ← token (a_word words.State)
   name ← token a_name
-  _ ← token (a_symbol Semicolon)
-  clauses ← many (a_word words.Input) clause_syntax
+  names ← separated_from name (token a_name)
+  _ ← terminator_syntax
+  clauses ← many a_clause clause_syntax
   _ ← optional (a_word words.EndState) (end_state_syntax name.name)
-  give (record { names = name ∷ []; clauses = clauses })
+  give (record { names = names; clauses = clauses })
 
 -- START ; transition
 unfoldable pub start_syntax : Grammar PlainStart
 start_syntax = do
   at ← token (a_word words.Start)
-  _ ← token (a_symbol Semicolon)
+  _ ← terminator_syntax
   text ← text_syntax
   give (record { at = at; text = text })
 
@@ -192,47 +319,40 @@ instances_syntax = do
   _ ← token (a_symbol Close)
   give first
 
-unfoldable pub one_state_syntax : Grammar (List PlainState)
-one_state_syntax = do
-  state ← state_syntax
-  give (state ∷ [])
-
 -- what stands between PROCESS and its body: name [ ( 1 [, [1]] ) ] ;
 unfoldable pub process_head_syntax : Grammar Identifier
 process_head_syntax = do
   _ ← token (a_word words.Process)
   name ← token a_name
   _ ← optional (a_symbol Open) instances_syntax
-  _ ← token (a_symbol Semicolon)
+  _ ← terminator_syntax
   give name
 
--- PROCESS name [ ( 1 [, [1]] ) ] ; { DCL .. } START .. [ STATE .. ] ENDPROCESS [name] ;
-unfoldable pub process_syntax : Grammar PlainProcess
+-- PROCESS name [ ( 1 [, [1]] ) ] ; { DCL .. | TIMER .. } START .. { STATE .. } ENDPROCESS [name] ;
+unfoldable pub process_syntax : Grammar PlainEntity
 process_syntax = do
   name ← process_head_syntax
-  declarations ← many (a_word words.Dcl) declaration_syntax
+  declarations ← many a_declaration declaration_syntax
   start ← start_syntax
-  states ← choice (a_word words.State) one_state_syntax (give [])
+  states ← many (a_word words.State) state_syntax
   _ ← token (a_word words.EndProcess)
   _ ← closing_syntax name.name
-  give (record { name = name; declarations = declarations; start = start; states = states })
+  give (process (record { name = name; declarations = declarations; start = start; states = states }))
 
--- a SIGNAL or a SIGNALROUTE
-unfoldable pub declared_syntax : Grammar PlainEntity
-declared_syntax = choice (a_word words.Signal) signals_syntax route_syntax
+-- a SIGNAL, a SIGNALROUTE, a CONNECT or a PROCESS
+unfoldable pub entity_syntax : Grammar PlainEntity
+entity_syntax = choice (a_word words.Signal) signals_syntax (choice (a_word words.SignalRoute) route_syntax (choice (a_word words.Connect) connect_syntax process_syntax))
 
--- BLOCK name ; { SIGNAL .. | SIGNALROUTE .. } PROCESS .. { SIGNAL .. | SIGNALROUTE .. } ENDBLOCK [name] ;
+-- BLOCK name ; { SIGNAL .. | SIGNALROUTE .. | CONNECT .. | PROCESS .. } ENDBLOCK [name] ;
 unfoldable pub block_syntax : Grammar PlainBlock
 block_syntax = do
   _ ← token (a_word words.Block)
   name ← token a_name
-  _ ← token (a_symbol Semicolon)
-  before ← many a_declared declared_syntax
-  body ← process_syntax
-  after ← many a_declared declared_syntax
+  _ ← terminator_syntax
+  entities ← many an_entity entity_syntax
   _ ← token (a_word words.EndBlock)
   _ ← closing_syntax name.name
-  give (record { name = name; entities = before ++ process body ∷ after })
+  give (record { name = name; entities = entities })
 
 -- the tokens of a whole text read as this block
 unfoldable pub Reads : List Token → PlainBlock → Type 0

@@ -1,5 +1,5 @@
 -- What a token can stand for in a text.
-use Rattle.std.specs.Prelude.{ℕ, Bool, false, ◌==◌, nat_le, List, [], ◌∷◌, Option, Some, None, is_some, if◌then◌else◌, bytes_eq, pos}
+use Rattle.std.specs.Prelude.{ℕ, Bool, true, false, ◌==◌, nat_le, List, [], ◌∷◌, Option, Some, None, is_some, if◌then◌else◌, bytes_eq, pos}
 use Rattle.sdl_lex.specs.Spelling.{folded}
 use Rattle.sdl_lex.specs.declared.TheConstants.{MAX_NUMBER}
 use Rattle.sdl_lex.specs.declared.lexemes.Word.{Word}
@@ -14,6 +14,9 @@ use Rattle.sdl_tree.specs.declared.tree.Sort.{Sort}
 use Rattle.sdl_tree.specs.declared.tree.Sort.TheVariants as sorts
 use Rattle.sdl_tree.specs.declared.tree.Party.{Party}
 use Rattle.sdl_tree.specs.declared.tree.Party.TheVariants as parties
+use Rattle.sdl_tree.specs.declared.tree.Destination.{Destination}
+use Rattle.sdl_tree.specs.declared.tree.Destination.TheVariants as destinations
+use Rattle.sdl_tree.specs.declared.tree.Literal.{Literal}
 use Rattle.sdl_tree.specs.declared.tree.Literal.TheVariants as literals
 use Rattle.sdl_tree.specs.declared.tree.Constant.{Constant}
 
@@ -99,12 +102,14 @@ word_place w at (lexemes.Word v) = if same_word v w then Some at else None
 word_place w at (lexemes.Name n) = None
 word_place w at (lexemes.Number k) = None
 word_place w at (lexemes.Symbol s) = None
+word_place w at lexemes.Quoted = None
 
 abbrev pub symbol_place : Symbol → ℕ → Lexeme → Option ℕ
 symbol_place s at (lexemes.Symbol r) = if same_symbol r s then Some at else None
 symbol_place s at (lexemes.Name n) = None
 symbol_place s at (lexemes.Number k) = None
 symbol_place s at (lexemes.Word w) = None
+symbol_place s at lexemes.Quoted = None
 
 -- a number that a text may have
 abbrev pub number_value : Lexeme → Option ℕ
@@ -112,25 +117,66 @@ number_value (lexemes.Number k) = if nat_le k MAX_NUMBER then Some k else None
 number_value (lexemes.Name n) = None
 number_value (lexemes.Word w) = None
 number_value (lexemes.Symbol s) = None
+number_value lexemes.Quoted = None
 
 abbrev pub name_value : Lexeme → Option (List ℕ)
 name_value (lexemes.Name n) = Some n
 name_value (lexemes.Number k) = None
 name_value (lexemes.Word w) = None
 name_value (lexemes.Symbol s) = None
+name_value lexemes.Quoted = None
 
 abbrev pub sort_value : Lexeme → Option Sort
 sort_value (lexemes.Word words.Integer) = Some sorts.Integer
+sort_value (lexemes.Word words.Boolean) = Some sorts.Boolean
 sort_value _ = None
+
+abbrev pub truth_value : Lexeme → Option Bool
+truth_value (lexemes.Word words.True) = Some true
+truth_value (lexemes.Word words.False) = Some false
+truth_value _ = None
+
+abbrev pub quoted_place : ℕ → Lexeme → Option ℕ
+quoted_place at lexemes.Quoted = Some at
+quoted_place at _ = None
 
 abbrev pub environment_value : Lexeme → Option Party
 environment_value (lexemes.Word words.Env) = Some parties.Environment
 environment_value _ = None
 
-abbrev pub declared_place : ℕ → Lexeme → Option ℕ
-declared_place at (lexemes.Word words.Signal) = Some at
-declared_place at (lexemes.Word words.SignalRoute) = Some at
-declared_place at _ = None
+abbrev pub sender_value : ℕ → Lexeme → Option Destination
+sender_value at (lexemes.Word words.Sender) = Some (destinations.Sender at)
+sender_value at _ = None
+
+-- the words that begin an entity of a block, a declaration of a process, a part of a state, an action, the end of a transition
+abbrev pub entity_place : ℕ → Lexeme → Option ℕ
+entity_place at (lexemes.Word words.Signal) = Some at
+entity_place at (lexemes.Word words.SignalRoute) = Some at
+entity_place at (lexemes.Word words.Connect) = Some at
+entity_place at (lexemes.Word words.Process) = Some at
+entity_place at _ = None
+
+abbrev pub declaration_place : ℕ → Lexeme → Option ℕ
+declaration_place at (lexemes.Word words.Dcl) = Some at
+declaration_place at (lexemes.Word words.Timer) = Some at
+declaration_place at _ = None
+
+abbrev pub clause_place : ℕ → Lexeme → Option ℕ
+clause_place at (lexemes.Word words.Input) = Some at
+clause_place at (lexemes.Word words.Save) = Some at
+clause_place at _ = None
+
+abbrev pub action_place : ℕ → Lexeme → Option ℕ
+action_place at (lexemes.Word words.Task) = Some at
+action_place at (lexemes.Word words.Output) = Some at
+action_place at (lexemes.Word words.Set) = Some at
+action_place at (lexemes.Word words.Reset) = Some at
+action_place at _ = None
+
+abbrev pub end_place : ℕ → Lexeme → Option ℕ
+end_place at (lexemes.Word words.NextState) = Some at
+end_place at (lexemes.Word words.Stop) = Some at
+end_place at _ = None
 
 -- how a token may stand for something, and for what: none where it does not
 abbrev pub a_word : Word → Token → Option ℕ
@@ -160,21 +206,58 @@ party_or_name (Some p) n = Some p
 party_or_name None (Some n) = Some (parties.Process n)
 party_or_name None None = None
 
--- the word that begins a SIGNAL or a SIGNALROUTE
-abbrev pub a_declared : Token → Option ℕ
-a_declared t = declared_place t.start t.lexeme
+-- the word that begins an entity of a block
+abbrev pub an_entity : Token → Option ℕ
+an_entity t = entity_place t.start t.lexeme
+
+-- the word that begins a declaration of a process
+abbrev pub a_declaration : Token → Option ℕ
+a_declaration t = declaration_place t.start t.lexeme
+
+-- the word that begins an INPUT or a SAVE
+abbrev pub a_clause : Token → Option ℕ
+a_clause t = clause_place t.start t.lexeme
+
+-- the word that begins an action
+abbrev pub an_action : Token → Option ℕ
+an_action t = action_place t.start t.lexeme
+
+-- the word that begins the end of a transition
+abbrev pub an_end : Token → Option ℕ
+an_end t = end_place t.start t.lexeme
+
+-- a quoted text
+abbrev pub a_quoted : Token → Option ℕ
+a_quoted t = quoted_place t.start t.lexeme
 
 -- ENV, or the name of a process
 abbrev pub a_party : Token → Option Party
 a_party t = party_or_name (environment t) (a_name t)
 
-abbrev pub constant_value : ℕ → Option ℕ → Option Constant
-constant_value at (Some k) = Some (record { at = at; value = literals.Integer (pos k) })
+abbrev pub sender_or_name : Option Destination → Option Identifier → Option Destination
+sender_or_name (Some d) n = Some d
+sender_or_name None (Some n) = Some (destinations.Process n)
+sender_or_name None None = None
+
+-- SENDER, or the name of a process
+abbrev pub a_destination : Token → Option Destination
+a_destination t = sender_or_name (sender_value t.start t.lexeme) (a_name t)
+
+abbrev pub a_truth : Token → Option Bool
+a_truth t = truth_value t.lexeme
+
+abbrev pub literal_value : Option ℕ → Option Bool → Option Literal
+literal_value (Some k) b = Some (literals.Integer (pos k))
+literal_value None (Some b) = Some (literals.Boolean b)
+literal_value None None = None
+
+abbrev pub constant_value : ℕ → Option Literal → Option Constant
+constant_value at (Some v) = Some (record { at = at; value = v })
 constant_value at None = None
 
--- a number as a constant
+-- a number, TRUE or FALSE as a constant
 abbrev pub a_constant : Token → Option Constant
-a_constant t = constant_value t.start (a_number t)
+a_constant t = constant_value t.start (literal_value (a_number t) (a_truth t))
 
 abbrev pub only_one : Option ℕ → Option ℕ
 only_one (Some k) = if k == 1 then Some k else None

@@ -1,19 +1,23 @@
 //! Processes, and the block that holds them.
-ghost use Rattle.std.specs.Prelude.{◌≡◌, ◌++◌, OnOk, IfErr, ℕ};
+ghost use Rattle.std.specs.Prelude.{◌≡◌, ℕ};
 ghost use Rattle.sdl_lex.specs.declared.lexemes.Symbol.TheVariants as symbols;
 ghost use Rattle.sdl_tree.specs.Readings.{token, optional};
 ghost use Rattle.sdl_tree.specs.Machine.{low_trees, expression_at};
-ghost use Rattle.sdl_tree.specs.Productions.{second_number_at, instances_at, process_head_at, process_at, block_at};
-ghost use Rattle.sdl_tree.specs.Tokens.{a_number, a_one, a_symbol};
-ghost use Rattle.sdl_tree.specs.Views.{process_of, block_of};
+ghost use Rattle.sdl_tree.specs.Plain.{PlainEntity};
+ghost use Rattle.sdl_tree.specs.Productions.{second_number_at, instances_at, process_head_at, process_at, entity_at, block_at};
+ghost use Rattle.sdl_tree.specs.Tokens.{a_number, a_one, a_symbol, an_entity};
+ghost use Rattle.sdl_tree.specs.Views.{entity_of, block_of};
 ghost use Rattle.sdl_tree.specs.Mirrors.{Mirrors, same};
+ghost use Rattle.sdl_tree.specs.Lengths.{low_entity_takes, low_entity_keeps};
 
+use crate::declarations::{read_connect, read_route, read_signals};
+use crate::endings::{read_closing, terminator};
 use crate::expression::Identifier;
-use crate::production::read_many;
-use crate::stop::{Stop, append, attempt, push};
-use crate::tokens::{is_number, is_symbol, name, one, symbol, word};
-use crate::transitions::{read_closing, read_start, read_states};
-use crate::tree::{Block, Declaration, Entity, Process};
+use crate::production::{Listed, Production, read_many};
+use crate::stop::{Stop, attempt};
+use crate::tokens::{is_entity, is_number, is_symbol, is_word, name, one, symbol, word};
+use crate::transitions::read_start;
+use crate::tree::{Block, Declaration, Entity, Process, StatePart};
 use sdl_lex::{Symbol, Token, Word};
 use std::alloc::Global;
 
@@ -81,30 +85,62 @@ fn read_process_head<'a>(tokens: &'a [Token]) -> Result<(Identifier, &'a [Token]
     let (_, rest) = attempt!(word(tokens, Word::Process));
     let (name, rest) = attempt!(name(rest));
     let (_, rest) = attempt!(read_optional_instances(rest));
-    let (_, rest) = attempt!(symbol(rest, Symbol::Semicolon));
+    let (_, rest) = attempt!(terminator(rest));
     Ok((name, rest))
 }
 
 /// Reads a PROCESS.
 #[tactic(auto, unfolding(crate::specs::Productions::process_at))]
-fn read_process<'a>(alloc: Global, tokens: &'a [Token]) -> Result<(Process, &'a [Token]), Stop<'a>>
-    ensures { Mirrors process_of result (process_at (expression_at low_trees) tokens.now) }
+fn read_process<'a>(alloc: Global, tokens: &'a [Token]) -> Result<(Entity, &'a [Token]), Stop<'a>>
+    ensures { Mirrors entity_of result (process_at (expression_at low_trees) tokens.now) }
 {
     let (name, rest) = attempt!(read_process_head(tokens));
     let (declarations, rest) = attempt!(read_many::<Declaration>(alloc, rest));
     let (start, rest) = attempt!(read_start(alloc, rest));
-    let (states, rest) = attempt!(read_states(alloc, rest));
+    let (states, rest) = attempt!(read_many::<StatePart>(alloc, rest));
     let (_, rest) = attempt!(word(rest, Word::EndProcess));
     let (_, rest) = attempt!(read_closing(rest, name.name));
-    Ok((
-        Process {
-            name,
-            declarations,
-            start,
-            states,
-        },
-        rest,
-    ))
+    let process = Process {
+        name,
+        declarations,
+        start,
+        states,
+    };
+    Ok((Entity::Process(process), rest))
+}
+
+impl Production for Entity {
+    ghost Plain = { PlainEntity };
+
+    ghost view = { entity_of };
+
+    ghost reading = { entity_at (expression_at low_trees) };
+
+    ghost never_longer = { low_entity_keeps };
+
+    #[tactic(auto, unfolding(crate::specs::Productions::entity_at))]
+    fn read<'a>(alloc: Global, tokens: &'a [Token]) -> Result<(Entity, &'a [Token]), Stop<'a>> {
+        if is_word(tokens, Word::Signal) {
+            return Ok(attempt!(read_signals(alloc, tokens)));
+        }
+        if is_word(tokens, Word::SignalRoute) {
+            return Ok(attempt!(read_route(alloc, tokens)));
+        }
+        if is_word(tokens, Word::Connect) {
+            return Ok(attempt!(read_connect(alloc, tokens)));
+        }
+        Ok(attempt!(read_process(alloc, tokens)))
+    }
+}
+
+impl Listed for Entity {
+    ghost starts = { an_entity };
+
+    ghost shortens = { low_entity_takes };
+
+    fn is_next(tokens: &[Token]) -> bool {
+        is_entity(tokens)
+    }
 }
 
 /// Reads a block.
@@ -117,13 +153,9 @@ pub(crate) fn read_block<'a>(
 {
     let (_, rest) = attempt!(word(tokens, Word::Block));
     let (name, rest) = attempt!(name(rest));
-    let (_, rest) = attempt!(symbol(rest, Symbol::Semicolon));
-    let (mut entities, rest) = attempt!(read_many::<Entity>(alloc, rest));
-    let (process, rest) = attempt!(read_process(alloc, rest));
-    let (more, rest) = attempt!(read_many::<Entity>(alloc, rest));
+    let (_, rest) = attempt!(terminator(rest));
+    let (entities, rest) = attempt!(read_many::<Entity>(alloc, rest));
     let (_, rest) = attempt!(word(rest, Word::EndBlock));
     let (_, rest) = attempt!(read_closing(rest, name.name));
-    attempt!(push(&mut entities, Entity::Process(process)));
-    attempt!(append(&mut entities, more));
     Ok((Block { name, entities }, rest))
 }

@@ -1,23 +1,25 @@
-//! Signals, routes and variables.
-ghost use Rattle.std.specs.Prelude.{◌≡◌, map, Option, None};
+//! Signals, routes, variables and timers.
+ghost use Rattle.std.specs.Prelude.{◌≡◌, ◌∷◌, map, Option, None, IfOk, IfErr};
+ghost use Rattle.std.specs.Option.{option_map, option_to_list};
 ghost use Rattle.sdl_tree.specs.Readings.{token, separated, optional};
-ghost use Rattle.sdl_tree.specs.Productions.{signal_at, signals_at, path_at, route_at, negative_at, constant_at, initial_at, group_at, declaration_at, place_at, declared_at};
-ghost use Rattle.sdl_tree.specs.Tokens.{a_name, a_sort, a_word, a_symbol, a_declared};
+ghost use Rattle.sdl_tree.specs.Productions.{signal_at, signals_at, path_at, route_at, connect_at, negative_at, constant_at, initial_at, group_at, variables_at, timers_at, declaration_at, place_at};
+ghost use Rattle.sdl_tree.specs.Tokens.{a_name, a_sort, a_word, a_symbol, a_declaration};
 ghost use Rattle.sdl_lex.specs.declared.lexemes.Symbol.TheVariants.{Assign};
-ghost use Rattle.sdl_tree.specs.Plain.{PlainSignal, PlainEntity, PlainGroup, PlainDeclaration};
+ghost use Rattle.sdl_lex.specs.declared.lexemes.Word.TheVariants.{From};
+ghost use Rattle.sdl_tree.specs.Plain.{PlainSignal, PlainGroup, PlainDeclaration};
 ghost use Rattle.sdl_tree.specs.Views.{signal_of, path_of, entity_of, group_of, declaration_of};
 ghost use Rattle.sdl_tree.specs.Mirrors.{Mirrors, same};
-ghost use Rattle.sdl_tree.specs.Lengths.{name_keeps, sort_keeps, signal_keeps, group_keeps, place_keeps, declaration_takes, declared_takes, less_never_longer};
+ghost use Rattle.sdl_tree.specs.Lengths.{name_keeps, sort_keeps, signal_keeps, group_keeps, place_keeps, declaration_takes, declaration_keeps};
 
+use crate::endings::terminator;
 use crate::expression::Identifier;
 use crate::production::{Listed, Production, read_in_parentheses, read_separated};
 use crate::stop::{Stop, attempt, push};
 use crate::tokens::{
-    constant, environment, is_declared, is_name, is_symbol, is_word, name, number, party, sort,
-    symbol, word,
+    constant, is_declaration, is_name, is_symbol, is_word, name, number, party, sort, symbol, word,
 };
 use crate::tree::{
-    Constant, Declaration, Entity, Group, Literal, Path, Route, SignalDeclaration, Sort,
+    Connect, Constant, Declaration, Entity, Group, Literal, Path, Route, SignalDeclaration, Sort,
 };
 use sdl_lex::{Symbol, Token, Word};
 use std::alloc::Global;
@@ -103,70 +105,90 @@ impl Production for SignalDeclaration {
 
 /// Reads `SIGNAL signal {, signal} ;`.
 #[tactic(auto, unfolding(crate::specs::Productions::signals_at))]
-fn read_signals<'a>(alloc: Global, tokens: &'a [Token]) -> Result<(Entity, &'a [Token]), Stop<'a>>
+pub(crate) fn read_signals<'a>(
+    alloc: Global,
+    tokens: &'a [Token],
+) -> Result<(Entity, &'a [Token]), Stop<'a>>
     ensures { Mirrors entity_of result (signals_at tokens.now) }
 {
     let (_, rest) = attempt!(word(tokens, Word::Signal));
     let (declared, rest) = attempt!(read_separated::<SignalDeclaration>(alloc, rest));
-    let (_, rest) = attempt!(symbol(rest, Symbol::Semicolon));
+    let (_, rest) = attempt!(terminator(rest));
     Ok((Entity::Signals(declared), rest))
 }
 
-/// Reads `FROM ENV TO (name | ENV) WITH name {, name} ;`.
+/// Reads `FROM (name | ENV) TO (name | ENV) WITH name {, name} ;`.
 #[tactic(auto, unfolding(crate::specs::Productions::path_at))]
 fn read_path<'a>(alloc: Global, tokens: &'a [Token]) -> Result<(Path, &'a [Token]), Stop<'a>>
     ensures { Mirrors path_of result (path_at tokens.now) }
 {
     let (_, rest) = attempt!(word(tokens, Word::From));
-    let (from, rest) = attempt!(environment(rest));
+    let (from, rest) = attempt!(party(rest));
     let (_, rest) = attempt!(word(rest, Word::To));
     let (to, rest) = attempt!(party(rest));
     let (_, rest) = attempt!(word(rest, Word::With));
     let (signals, rest) = attempt!(read_separated::<Identifier>(alloc, rest));
-    let (_, rest) = attempt!(symbol(rest, Symbol::Semicolon));
+    let (_, rest) = attempt!(terminator(rest));
     Ok((Path { from, to, signals }, rest))
 }
 
-/// Reads `SIGNALROUTE name path`.
+/// Reads a path, if one stands next.
+fn read_optional_path<'a>(
+    alloc: Global,
+    tokens: &'a [Token],
+) -> Result<(Option<Path>, &'a [Token]), Stop<'a>>
+    ensures { Mirrors (option_map path_of) result (optional (a_word From) path_at tokens.now) }
+{
+    if !is_word(tokens, Word::From) {
+        return Ok((None, tokens));
+    }
+    let (path, rest) = attempt!(read_path(alloc, tokens));
+    Ok((Some(path), rest))
+}
+
+/// One path or two.
+fn paths_of<'a>(alloc: Global, first: Path, second: Option<Path>) -> Result<Vec<Path>, Stop<'a>>
+    ensures ok { IfOk result (λ v. map path_of v.items ≡ path_of first ∷ option_to_list (option_map path_of second)) }
+    ensures err { IfErr result (λ stop. stop ≡ Stop.NoMemory) }
+{
+    let mut paths = Vec::new(alloc);
+    push(&mut paths, first)?;
+    if let Some(path) = second {
+        push(&mut paths, path)?;
+    }
+    Ok(paths)
+}
+
+/// Reads `SIGNALROUTE name path [path]`.
 #[tactic(auto, unfolding(crate::specs::Productions::route_at))]
-fn read_route<'a>(alloc: Global, tokens: &'a [Token]) -> Result<(Entity, &'a [Token]), Stop<'a>>
+pub(crate) fn read_route<'a>(
+    alloc: Global,
+    tokens: &'a [Token],
+) -> Result<(Entity, &'a [Token]), Stop<'a>>
     ensures { Mirrors entity_of result (route_at tokens.now) }
 {
     let (_, rest) = attempt!(word(tokens, Word::SignalRoute));
     let (name, rest) = attempt!(name(rest));
-    let (path, rest) = attempt!(read_path(alloc, rest));
-    let mut paths = Vec::new(alloc);
-    push(&mut paths, path)?;
+    let (first, rest) = attempt!(read_path(alloc, rest));
+    let (second, rest) = attempt!(read_optional_path(alloc, rest));
+    let paths = attempt!(paths_of(alloc, first, second));
     Ok((Entity::Route(Route { name, paths }), rest))
 }
 
-/// A SIGNAL or a SIGNALROUTE.
-impl Production for Entity {
-    ghost Plain = { PlainEntity };
-
-    ghost view = { entity_of };
-
-    ghost reading = { declared_at };
-
-    ghost never_longer = { less_never_longer declared_at declared_takes };
-
-    #[tactic(auto, unfolding(crate::specs::Productions::declared_at))]
-    fn read<'a>(alloc: Global, tokens: &'a [Token]) -> Result<(Entity, &'a [Token]), Stop<'a>> {
-        if is_word(tokens, Word::Signal) {
-            return Ok(attempt!(read_signals(alloc, tokens)));
-        }
-        Ok(attempt!(read_route(alloc, tokens)))
-    }
-}
-
-impl Listed for Entity {
-    ghost starts = { a_declared };
-
-    ghost shortens = { declared_takes };
-
-    fn is_next(tokens: &[Token]) -> bool {
-        is_declared(tokens)
-    }
+/// Reads `CONNECT name {, name} AND name {, name} ;`.
+#[tactic(auto, unfolding(crate::specs::Productions::connect_at))]
+pub(crate) fn read_connect<'a>(
+    alloc: Global,
+    tokens: &'a [Token],
+) -> Result<(Entity, &'a [Token]), Stop<'a>>
+    ensures { Mirrors entity_of result (connect_at tokens.now) }
+{
+    let (_, rest) = attempt!(word(tokens, Word::Connect));
+    let (channels, rest) = attempt!(read_separated::<Identifier>(alloc, rest));
+    let (_, rest) = attempt!(word(rest, Word::And));
+    let (routes, rest) = attempt!(read_separated::<Identifier>(alloc, rest));
+    let (_, rest) = attempt!(terminator(rest));
+    Ok((Entity::Connect(Connect { channels, routes }), rest))
 }
 
 /// Reads `- number`.
@@ -180,7 +202,7 @@ fn read_negative<'a>(tokens: &'a [Token]) -> Result<(Constant, &'a [Token]), Sto
     Ok((Constant { at, value }, rest))
 }
 
-/// Reads `[ - ] number`.
+/// Reads `[ - ] number`, TRUE or FALSE.
 #[tactic(auto, unfolding(crate::specs::Productions::constant_at))]
 fn read_constant<'a>(tokens: &'a [Token]) -> Result<(Constant, &'a [Token]), Stop<'a>>
     ensures { Mirrors same result (constant_at tokens.now) }
@@ -238,6 +260,34 @@ impl Production for Group {
     }
 }
 
+/// Reads `DCL group {, group} ;`.
+#[tactic(auto, unfolding(crate::specs::Productions::variables_at))]
+fn read_variables<'a>(
+    alloc: Global,
+    tokens: &'a [Token],
+) -> Result<(Declaration, &'a [Token]), Stop<'a>>
+    ensures { Mirrors declaration_of result (variables_at tokens.now) }
+{
+    let (_, rest) = attempt!(word(tokens, Word::Dcl));
+    let (groups, rest) = attempt!(read_separated::<Group>(alloc, rest));
+    let (_, rest) = attempt!(terminator(rest));
+    Ok((Declaration::Variables(groups), rest))
+}
+
+/// Reads `TIMER name {, name} ;`.
+#[tactic(auto, unfolding(crate::specs::Productions::timers_at))]
+fn read_timers<'a>(
+    alloc: Global,
+    tokens: &'a [Token],
+) -> Result<(Declaration, &'a [Token]), Stop<'a>>
+    ensures { Mirrors declaration_of result (timers_at tokens.now) }
+{
+    let (_, rest) = attempt!(word(tokens, Word::Timer));
+    let (names, rest) = attempt!(read_separated::<Identifier>(alloc, rest));
+    let (_, rest) = attempt!(terminator(rest));
+    Ok((Declaration::Timers(names), rest))
+}
+
 impl Production for Declaration {
     ghost Plain = { PlainDeclaration };
 
@@ -245,28 +295,26 @@ impl Production for Declaration {
 
     ghost reading = { declaration_at };
 
-    ghost never_longer = { less_never_longer declaration_at declaration_takes };
+    ghost never_longer = { declaration_keeps };
 
     #[tactic(auto, unfolding(crate::specs::Productions::declaration_at))]
     fn read<'a>(
         alloc: Global,
         tokens: &'a [Token],
     ) -> Result<(Declaration, &'a [Token]), Stop<'a>> {
-        let (_, rest) = attempt!(word(tokens, Word::Dcl));
-        let (groups, rest) = attempt!(read_separated::<Group>(alloc, rest));
-        let (_, rest) = attempt!(symbol(rest, Symbol::Semicolon));
-        Ok((Declaration::Variables(groups), rest))
+        if is_word(tokens, Word::Dcl) {
+            return Ok(attempt!(read_variables(alloc, tokens)));
+        }
+        Ok(attempt!(read_timers(alloc, tokens)))
     }
 }
 
 impl Listed for Declaration {
-    ghost use Rattle.sdl_lex.specs.declared.lexemes.Word.TheVariants as words;
-
-    ghost starts = { a_word words.Dcl };
+    ghost starts = { a_declaration };
 
     ghost shortens = { declaration_takes };
 
     fn is_next(tokens: &[Token]) -> bool {
-        is_word(tokens, Word::Dcl)
+        is_declaration(tokens)
     }
 }

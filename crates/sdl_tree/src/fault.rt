@@ -8,7 +8,8 @@ pub enum ParseFault {
     /// end too early.
     #[error("P1 Unexpected")]
     Unexpected(usize),
-    /// The tree is higher than [`MAX_HEIGHT`](crate::MAX_HEIGHT). The place in the text, in bytes, of the first TASK that is too high.
+    /// The tree is higher than [`MAX_HEIGHT`](crate::MAX_HEIGHT). The place in the text, in bytes,
+    /// of the first TASK, OUTPUT or SET that is too high.
     #[error("P2 TooDeep")]
     TooDeep(u32),
     /// There was not enough memory.

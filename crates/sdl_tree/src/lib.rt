@@ -1,11 +1,14 @@
 //! The grammar of SDL process texts: from the tokens of a text to its syntax tree.
 #![tactic(auto)]
 
+mod actions;
 mod blocks;
 mod declarations;
+mod endings;
 mod expression;
 mod fault;
 mod height;
+mod level;
 mod operands;
 mod operators;
 mod parsing;

@@ -1,9 +1,9 @@
 //! Operators put on expressions, while they are read.
 ghost use Rattle.std.specs.Prelude.{◌≡◌, ◌≤◌, ◌+◌, IfOk};
-ghost use Rattle.sdl_tree.specs.Plain.{number, variable};
+ghost use Rattle.sdl_tree.specs.Plain.{number, truth, variable};
 ghost use Rattle.sdl_tree.specs.Expressions.{place_of, placed};
-ghost use Rattle.sdl_tree.specs.Machine.{low_unary, low_binary, low_trees, factor_of, product_of, sum_of};
-ghost use Rattle.sdl_tree.specs.Parts.{sum_view, product_view};
+ghost use Rattle.sdl_tree.specs.Machine.{low_unary, low_binary, low_trees, led_by, joined_to};
+ghost use Rattle.sdl_tree.specs.Parts.{slot_view};
 ghost use Rattle.sdl_tree.specs.Views.{tree_of};
 
 use crate::MAX_HEIGHT;
@@ -17,6 +17,16 @@ pub(crate) fn number_part(at: u32, value: u32) -> Part
 {
     Part {
         tree: Expression::Number { at, value },
+        height: 1,
+    }
+}
+
+/// TRUE or FALSE.
+pub(crate) fn truth_part(at: u32, value: bool) -> Part
+    ensures { tree_of result.tree ≡ truth at value }
+{
+    Part {
+        tree: Expression::Truth { at, value },
         height: 1,
     }
 }
@@ -36,6 +46,7 @@ fn place(tree: &Expression) -> u32
 {
     match tree {
         Expression::Number { at, .. } => *at,
+        Expression::Truth { at, .. } => *at,
         Expression::Variable { at, .. } => *at,
         Expression::Unary { at, .. } => *at,
         Expression::Binary { at, .. } => *at,
@@ -47,6 +58,7 @@ fn moved_tree(tree: Expression, at: u32) -> Expression
 {
     match tree {
         Expression::Number { at: _, value } => Expression::Number { at, value },
+        Expression::Truth { at: _, value } => Expression::Truth { at, value },
         Expression::Variable { at: _, name } => Expression::Variable { at, name },
         Expression::Unary {
             at: _,
@@ -81,9 +93,14 @@ pub(crate) fn moved(part: Part, at: u32) -> Part
     }
 }
 
-/// The operand with a minus before it. One that is too high already stays as it is.
-pub(crate) fn negated(alloc: Global, at: u32, operand: Part) -> Result<Part, AllocError>
-    ensures { IfOk result (λ p. tree_of p.tree ≡ low_trees.negate at (tree_of operand.tree)) }
+/// The operand with an operator in front of it. One that is too high already stays as it is.
+pub(crate) fn led(
+    alloc: Global,
+    at: u32,
+    operator: UnaryOperator,
+    operand: Part,
+) -> Result<Part, AllocError>
+    ensures { IfOk result (λ p. tree_of p.tree ≡ low_trees.lead at operator (tree_of operand.tree)) }
 {
     if operand.height > MAX_HEIGHT {
         return Ok(moved(operand, at));
@@ -92,7 +109,7 @@ pub(crate) fn negated(alloc: Global, at: u32, operand: Part) -> Result<Part, All
         height: operand.height + 1,
         tree: Expression::Unary {
             at,
-            operator: UnaryOperator::Negate,
+            operator,
             operand: Box::new(alloc, operand.tree)?,
         },
     })
@@ -125,36 +142,30 @@ pub(crate) fn joined(
     })
 }
 
-/// An operand with the minus that stands before it, if one does.
-pub(crate) fn factor(alloc: Global, minus: Option<u32>, operand: Part) -> Result<Part, AllocError>
-    ensures { IfOk result (λ p. tree_of p.tree ≡ factor_of low_trees minus (tree_of operand.tree)) }
+/// An operand with the operator that stands in front of it, if one does.
+pub(crate) fn led_by(
+    alloc: Global,
+    lead: Option<(u32, UnaryOperator)>,
+    operand: Part,
+) -> Result<Part, AllocError>
+    ensures { IfOk result (λ p. tree_of p.tree ≡ led_by low_trees lead (tree_of operand.tree)) }
 {
-    match minus {
-        Some(at) => negated(alloc, at, operand),
+    match lead {
+        Some((at, operator)) => led(alloc, at, operator, operand),
         None => Ok(operand),
     }
 }
 
-/// A factor with the product that stands before it, if one does.
-pub(crate) fn product(alloc: Global, before: Option<Part>, factor: Part) -> Result<Part, AllocError>
-    ensures { IfOk result (λ p. tree_of p.tree ≡ product_of low_trees (product_view before) (tree_of factor.tree)) }
-{
-    match before {
-        Some(left) => joined(alloc, BinaryOperator::Multiply, left, factor),
-        None => Ok(factor),
-    }
-}
-
-/// A product with the sum and the operator that stand before it, if they do.
-pub(crate) fn sum(
+/// An operand with what stands before it and the operator between them, if they do.
+pub(crate) fn joined_to(
     alloc: Global,
     before: Option<(Part, BinaryOperator)>,
-    product: Part,
+    operand: Part,
 ) -> Result<Part, AllocError>
-    ensures { IfOk result (λ p. tree_of p.tree ≡ sum_of low_trees (sum_view before) (tree_of product.tree)) }
+    ensures { IfOk result (λ p. tree_of p.tree ≡ joined_to low_trees (slot_view before) (tree_of operand.tree)) }
 {
     match before {
-        Some((left, operator)) => joined(alloc, operator, left, product),
-        None => Ok(product),
+        Some((left, operator)) => joined(alloc, operator, left, operand),
+        None => Ok(operand),
     }
 }

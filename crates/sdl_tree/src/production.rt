@@ -47,7 +47,7 @@ fn read_behind_comma<'a, T: Production>(
 }
 
 /// Reads what follows the first thing of `p {, p}`.
-fn read_more<'a, T: Production>(
+pub(crate) fn read_more<'a, T: Production>(
     alloc: Global,
     first: T,
     tokens: &'a [Token],

@@ -36,14 +36,3 @@ pub(crate) fn push<'a, T: Drop>(items: &mut Vec<T>, item: T) -> Result<(), Stop<
         Err(_) => Err(Stop::NoMemory),
     }
 }
-
-/// Puts further items behind the others.
-pub(crate) fn append<'a, T: Drop>(items: &mut Vec<T>, mut more: Vec<T>) -> Result<(), Stop<'a>>
-    ensures ok { OnOk result (items.new.items ≡ items.old.items ++ more.items) }
-    ensures err { IfErr result (λ stop. stop ≡ Stop.NoMemory) }
-{
-    match items.append(&mut more) {
-        Ok(()) => Ok(()),
-        Err(_) => Err(Stop::NoMemory),
-    }
-}

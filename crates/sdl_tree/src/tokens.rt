@@ -1,12 +1,12 @@
 //! One token: a word, a symbol, a name, a number.
 ghost use Rattle.std.specs.Prelude.{◌≡◌, IsTrue};
 ghost use Rattle.sdl_tree.specs.Readings.{token};
-ghost use Rattle.sdl_tree.specs.Tokens.{same_word, same_symbol, begins, a_word, a_symbol, a_number, a_name, a_sort, a_party, environment, a_constant, a_one, a_closing, a_declared};
+ghost use Rattle.sdl_tree.specs.Tokens.{same_word, same_symbol, begins, a_word, a_symbol, a_number, a_name, a_sort, a_truth, environment, a_party, a_destination, a_constant, a_one, a_closing, a_quoted, an_entity, a_declaration, a_clause, an_action, an_end, sender_value, literal_value};
 ghost use Rattle.sdl_tree.specs.Mirrors.{Mirrors, same};
 
 use crate::expression::Identifier;
 use crate::stop::Stop;
-use crate::tree::{Constant, Literal, Party, Sort};
+use crate::tree::{Constant, Destination, Literal, Party, Sort};
 use sdl_lex::{Lexeme, MAX_NUMBER, Name, Symbol, Token, Word};
 
 fn is_same_word(found: Word, wanted: Word) -> bool
@@ -70,6 +70,7 @@ fn sort_of(token: &Token) -> Option<Sort>
 {
     match token.lexeme {
         Lexeme::Word(Word::Integer) => Some(Sort::Integer),
+        Lexeme::Word(Word::Boolean) => Some(Sort::Boolean),
         _ => None,
     }
 }
@@ -97,14 +98,61 @@ fn party_of(token: &Token) -> Option<Party>
     }
 }
 
-/// A token that is a number, as a constant.
+/// A token that is SENDER.
+fn sender_of(token: &Token) -> Option<Destination>
+    ensures { result ≡ sender_value token.now.start token.now.lexeme }
+{
+    match token.lexeme {
+        Lexeme::Word(Word::Sender) => Some(Destination::Sender(token.start)),
+        _ => None,
+    }
+}
+
+/// A token that is SENDER, or the name of a process.
+fn destination_of(token: &Token) -> Option<Destination>
+    ensures { result ≡ a_destination token.now }
+{
+    match sender_of(token) {
+        Some(destination) => Some(destination),
+        None => match name_of(token) {
+            Some(name) => Some(Destination::Process(name)),
+            None => None,
+        },
+    }
+}
+
+/// A token that is TRUE or FALSE.
+fn truth_of(token: &Token) -> Option<bool>
+    ensures { result ≡ a_truth token.now }
+{
+    match token.lexeme {
+        Lexeme::Word(Word::True) => Some(true),
+        Lexeme::Word(Word::False) => Some(false),
+        _ => None,
+    }
+}
+
+/// What a token is as a literal.
+fn literal_of(token: &Token) -> Option<Literal>
+    ensures { result ≡ literal_value (a_number token.now) (a_truth token.now) }
+{
+    match number_of(token) {
+        Some(value) => Some(Literal::Integer(value as i32)),
+        None => match truth_of(token) {
+            Some(value) => Some(Literal::Boolean(value)),
+            None => None,
+        },
+    }
+}
+
+/// A token that is a number, TRUE or FALSE, as a constant.
 fn constant_of(token: &Token) -> Option<Constant>
     ensures { result ≡ a_constant token.now }
 {
-    match number_of(token) {
+    match literal_of(token) {
         Some(value) => Some(Constant {
             at: token.start,
-            value: Literal::Integer(value as i32),
+            value,
         }),
         None => None,
     }
@@ -130,13 +178,71 @@ fn closing_of(token: &Token, name: Name) -> Option<Identifier>
     }
 }
 
-/// The place of a token that begins a SIGNAL or a SIGNALROUTE.
-fn declared_of(token: &Token) -> Option<u32>
-    ensures { result ≡ a_declared token.now }
+/// The place of a token that begins an entity of a block.
+fn entity_of(token: &Token) -> Option<u32>
+    ensures { result ≡ an_entity token.now }
 {
     match token.lexeme {
         Lexeme::Word(Word::Signal) => Some(token.start),
         Lexeme::Word(Word::SignalRoute) => Some(token.start),
+        Lexeme::Word(Word::Connect) => Some(token.start),
+        Lexeme::Word(Word::Process) => Some(token.start),
+        _ => None,
+    }
+}
+
+/// The place of a token that begins a DCL or a TIMER.
+fn declaration_of(token: &Token) -> Option<u32>
+    ensures { result ≡ a_declaration token.now }
+{
+    match token.lexeme {
+        Lexeme::Word(Word::Dcl) => Some(token.start),
+        Lexeme::Word(Word::Timer) => Some(token.start),
+        _ => None,
+    }
+}
+
+/// The place of a token that begins an INPUT or a SAVE.
+fn clause_of(token: &Token) -> Option<u32>
+    ensures { result ≡ a_clause token.now }
+{
+    match token.lexeme {
+        Lexeme::Word(Word::Input) => Some(token.start),
+        Lexeme::Word(Word::Save) => Some(token.start),
+        _ => None,
+    }
+}
+
+/// The place of a token that begins an action.
+fn action_of(token: &Token) -> Option<u32>
+    ensures { result ≡ an_action token.now }
+{
+    match token.lexeme {
+        Lexeme::Word(Word::Task) => Some(token.start),
+        Lexeme::Word(Word::Output) => Some(token.start),
+        Lexeme::Word(Word::Set) => Some(token.start),
+        Lexeme::Word(Word::Reset) => Some(token.start),
+        _ => None,
+    }
+}
+
+/// The place of a token that begins the end of a transition.
+fn end_of(token: &Token) -> Option<u32>
+    ensures { result ≡ an_end token.now }
+{
+    match token.lexeme {
+        Lexeme::Word(Word::NextState) => Some(token.start),
+        Lexeme::Word(Word::Stop) => Some(token.start),
+        _ => None,
+    }
+}
+
+/// The place of a token that is a quoted text.
+fn quoted_of(token: &Token) -> Option<u32>
+    ensures { result ≡ a_quoted token.now }
+{
+    match token.lexeme {
+        Lexeme::Quoted => Some(token.start),
         _ => None,
     }
 }
@@ -229,19 +335,6 @@ pub(crate) fn sort<'a>(tokens: &'a [Token]) -> Result<(Sort, &'a [Token]), Stop<
     }
 }
 
-/// Reads ENV.
-pub(crate) fn environment<'a>(tokens: &'a [Token]) -> Result<(Party, &'a [Token]), Stop<'a>>
-    ensures { Mirrors same result (token environment tokens.now) }
-{
-    let Some((token, rest)) = tokens.split_first() else {
-        return Err(Stop::Unexpected(tokens));
-    };
-    match environment_of(token) {
-        Some(found) => Ok((found, rest)),
-        None => Err(Stop::Unexpected(tokens)),
-    }
-}
-
 /// Reads ENV or the name of a process.
 pub(crate) fn party<'a>(tokens: &'a [Token]) -> Result<(Party, &'a [Token]), Stop<'a>>
     ensures { Mirrors same result (token a_party tokens.now) }
@@ -255,7 +348,20 @@ pub(crate) fn party<'a>(tokens: &'a [Token]) -> Result<(Party, &'a [Token]), Sto
     }
 }
 
-/// Reads a number as a constant.
+/// Reads SENDER or the name of a process.
+pub(crate) fn destination<'a>(tokens: &'a [Token]) -> Result<(Destination, &'a [Token]), Stop<'a>>
+    ensures { Mirrors same result (token a_destination tokens.now) }
+{
+    let Some((token, rest)) = tokens.split_first() else {
+        return Err(Stop::Unexpected(tokens));
+    };
+    match destination_of(token) {
+        Some(found) => Ok((found, rest)),
+        None => Err(Stop::Unexpected(tokens)),
+    }
+}
+
+/// Reads a number, TRUE or FALSE as a constant.
 pub(crate) fn constant<'a>(tokens: &'a [Token]) -> Result<(Constant, &'a [Token]), Stop<'a>>
     ensures { Mirrors same result (token a_constant tokens.now) }
 {
@@ -263,6 +369,19 @@ pub(crate) fn constant<'a>(tokens: &'a [Token]) -> Result<(Constant, &'a [Token]
         return Err(Stop::Unexpected(tokens));
     };
     match constant_of(token) {
+        Some(found) => Ok((found, rest)),
+        None => Err(Stop::Unexpected(tokens)),
+    }
+}
+
+/// Reads a quoted text.
+pub(crate) fn quoted<'a>(tokens: &'a [Token]) -> Result<(u32, &'a [Token]), Stop<'a>>
+    ensures { Mirrors same result (token a_quoted tokens.now) }
+{
+    let Some((token, rest)) = tokens.split_first() else {
+        return Err(Stop::Unexpected(tokens));
+    };
+    match quoted_of(token) {
         Some(found) => Ok((found, rest)),
         None => Err(Stop::Unexpected(tokens)),
     }
@@ -317,12 +436,62 @@ pub(crate) fn is_number(tokens: &[Token]) -> bool
     }
 }
 
-/// Whether a SIGNAL or a SIGNALROUTE stands next.
-pub(crate) fn is_declared(tokens: &[Token]) -> bool
-    ensures { result ≡ begins a_declared tokens.now }
+/// Whether an entity of a block stands next.
+pub(crate) fn is_entity(tokens: &[Token]) -> bool
+    ensures { result ≡ begins an_entity tokens.now }
 {
     match tokens.split_first() {
-        Some((token, _)) => declared_of(token).is_some(),
+        Some((token, _)) => entity_of(token).is_some(),
+        None => false,
+    }
+}
+
+/// Whether a DCL or a TIMER stands next.
+pub(crate) fn is_declaration(tokens: &[Token]) -> bool
+    ensures { result ≡ begins a_declaration tokens.now }
+{
+    match tokens.split_first() {
+        Some((token, _)) => declaration_of(token).is_some(),
+        None => false,
+    }
+}
+
+/// Whether an INPUT or a SAVE stands next.
+pub(crate) fn is_clause(tokens: &[Token]) -> bool
+    ensures { result ≡ begins a_clause tokens.now }
+{
+    match tokens.split_first() {
+        Some((token, _)) => clause_of(token).is_some(),
+        None => false,
+    }
+}
+
+/// Whether an action stands next.
+pub(crate) fn is_action(tokens: &[Token]) -> bool
+    ensures { result ≡ begins an_action tokens.now }
+{
+    match tokens.split_first() {
+        Some((token, _)) => action_of(token).is_some(),
+        None => false,
+    }
+}
+
+/// Whether the end of a transition stands next.
+pub(crate) fn is_end(tokens: &[Token]) -> bool
+    ensures { result ≡ begins an_end tokens.now }
+{
+    match tokens.split_first() {
+        Some((token, _)) => end_of(token).is_some(),
+        None => false,
+    }
+}
+
+/// Whether a quoted text stands next.
+pub(crate) fn is_quoted(tokens: &[Token]) -> bool
+    ensures { result ≡ begins a_quoted tokens.now }
+{
+    match tokens.split_first() {
+        Some((token, _)) => quoted_of(token).is_some(),
         None => false,
     }
 }

@@ -1,26 +1,26 @@
 //! Transitions, and the states that have them.
-ghost use Rattle.std.specs.Prelude.{◌≡◌, map, Option, None, List, ◌∷◌, []};
+ghost use Rattle.std.specs.Prelude.{◌≡◌, map, Option, None, List};
 ghost use Rattle.sdl_lex.specs.declared.lexemes.Word.TheVariants as words;
-ghost use Rattle.sdl_tree.specs.Readings.{token, separated, optional, choice, give};
+ghost use Rattle.sdl_tree.specs.Readings.{separated, optional};
 ghost use Rattle.sdl_tree.specs.Machine.{low_trees, expression_at};
-ghost use Rattle.sdl_tree.specs.Productions.{PlainTask, stimulus_at, assignment_at, assignments_at, end_at, task_at, text_at, input_at, clause_at, closing_at, end_state_at, state_at, start_at, one_state_at};
-ghost use Rattle.sdl_tree.specs.Tokens.{a_name, a_word, a_closing};
-ghost use Rattle.sdl_tree.specs.Plain.{PlainStimulus, PlainAssignment, PlainClause};
-ghost use Rattle.sdl_tree.specs.Views.{stimulus_of, assignment_of, text_of, input_of, clause_of, state_of, start_of};
-ghost use Rattle.sdl_tree.specs.Tasks.{task_of};
+ghost use Rattle.sdl_tree.specs.Productions.{stimulus_at, next_state_at, stop_at, end_at, text_at, input_at, save_at, clause_at, end_state_at, state_at, start_at};
+ghost use Rattle.sdl_tree.specs.Tokens.{a_word, a_clause, an_end};
+ghost use Rattle.sdl_tree.specs.Plain.{PlainStimulus, PlainClause, PlainState};
+ghost use Rattle.sdl_tree.specs.Views.{stimulus_of, text_of, clause_of, state_of, start_of};
 ghost use Rattle.sdl_tree.specs.Mirrors.{Mirrors, same};
-ghost use Rattle.sdl_tree.specs.Lengths.{stimulus_keeps, low_assignment_keeps, low_task_takes, low_task_keeps, low_clause_takes, low_clause_keeps};
+ghost use Rattle.sdl_tree.specs.Lengths.{stimulus_keeps, low_clause_takes, low_clause_keeps, low_state_takes, low_state_keeps};
 
+use crate::endings::{read_closing, terminator};
 use crate::expression::Identifier;
-use crate::operands::expression;
-use crate::production::{Listed, Production, read_in_parentheses, read_many, read_separated};
-use crate::stop::{Stop, attempt, push};
-use crate::tokens::{closing, is_name, is_word, name, symbol, word};
-use crate::tree::{
-    Action, Assignment, End, InputPart, NextState, Start, StateClause, StatePart, Stimulus, Task,
-    Transition,
+use crate::production::{
+    Listed, Production, read_in_parentheses, read_many, read_more, read_separated,
 };
-use sdl_lex::{Name, Symbol, Token, Word};
+use crate::stop::{Stop, attempt};
+use crate::tokens::{is_clause, is_end, is_word, name, word};
+use crate::tree::{
+    Action, End, InputPart, NextState, Start, StateClause, StatePart, Stimulus, Transition,
+};
+use sdl_lex::{Name, Token, Word};
 use std::alloc::Global;
 
 impl Production for Stimulus {
@@ -40,89 +40,51 @@ impl Production for Stimulus {
     }
 }
 
-impl Production for Assignment {
-    ghost Plain = { PlainAssignment };
-
-    ghost view = { assignment_of };
-
-    ghost reading = { assignment_at (expression_at low_trees) };
-
-    ghost never_longer = { low_assignment_keeps };
-
-    #[tactic(auto, unfolding(crate::specs::Productions::assignment_at))]
-    fn read<'a>(alloc: Global, tokens: &'a [Token]) -> Result<(Assignment, &'a [Token]), Stop<'a>> {
-        let (variable, rest) = attempt!(name(tokens));
-        let (_, rest) = attempt!(symbol(rest, Symbol::Assign));
-        let (value, rest) = attempt!(expression(alloc, rest));
-        Ok((Assignment { variable, value }, rest))
-    }
-}
-
-/// Reads `assignment {, assignment} ;`.
-#[tactic(auto, unfolding(crate::specs::Productions::assignments_at))]
-fn read_assignments<'a>(
-    alloc: Global,
-    tokens: &'a [Token],
-) -> Result<(Vec<Assignment>, &'a [Token]), Stop<'a>>
-    ensures { Mirrors (λ v. map assignment_of v.items) result (assignments_at (expression_at low_trees) tokens.now) }
-{
-    let (assignments, rest) = attempt!(read_separated::<Assignment>(alloc, tokens));
-    let (_, rest) = attempt!(symbol(rest, Symbol::Semicolon));
-    Ok((assignments, rest))
-}
-
-/// A TASK.
-impl Production for Action {
-    ghost Plain = { PlainTask };
-
-    ghost view = { task_of };
-
-    ghost reading = { task_at (expression_at low_trees) };
-
-    ghost never_longer = { low_task_keeps };
-
-    #[tactic(auto, unfolding(crate::specs::Productions::task_at))]
-    fn read<'a>(alloc: Global, tokens: &'a [Token]) -> Result<(Action, &'a [Token]), Stop<'a>> {
-        let (at, rest) = attempt!(word(tokens, Word::Task));
-        let (assignments, rest) = attempt!(read_assignments(alloc, rest));
-        Ok((Action::Task(Task { at, assignments }), rest))
-    }
-}
-
-impl Listed for Action {
-    ghost starts = { a_word words.Task };
-
-    ghost shortens = { low_task_takes };
-
-    fn is_next(tokens: &[Token]) -> bool {
-        is_word(tokens, Word::Task)
-    }
-}
-
 /// Reads `NEXTSTATE name ;`.
+#[tactic(auto, unfolding(crate::specs::Productions::next_state_at))]
+fn read_next_state<'a>(tokens: &'a [Token]) -> Result<(End, &'a [Token]), Stop<'a>>
+    ensures { Mirrors same result (next_state_at tokens.now) }
+{
+    let (at, rest) = attempt!(word(tokens, Word::NextState));
+    let (state, rest) = attempt!(name(rest));
+    let (_, rest) = attempt!(terminator(rest));
+    Ok((End::NextState(NextState { at, state }), rest))
+}
+
+/// Reads `STOP ;`.
+#[tactic(auto, unfolding(crate::specs::Productions::stop_at))]
+fn read_stop<'a>(tokens: &'a [Token]) -> Result<(End, &'a [Token]), Stop<'a>>
+    ensures { Mirrors same result (stop_at tokens.now) }
+{
+    let (at, rest) = attempt!(word(tokens, Word::Stop));
+    let (_, rest) = attempt!(terminator(rest));
+    Ok((End::Stop(at), rest))
+}
+
+/// Reads a NEXTSTATE or a STOP.
 #[tactic(auto, unfolding(crate::specs::Productions::end_at))]
 fn read_end<'a>(tokens: &'a [Token]) -> Result<(End, &'a [Token]), Stop<'a>>
     ensures { Mirrors same result (end_at tokens.now) }
 {
-    let (at, rest) = attempt!(word(tokens, Word::NextState));
-    let (state, rest) = attempt!(name(rest));
-    let (_, rest) = attempt!(symbol(rest, Symbol::Semicolon));
-    Ok((End::NextState(NextState { at, state }), rest))
+    if is_word(tokens, Word::NextState) {
+        return Ok(attempt!(read_next_state(tokens)));
+    }
+    Ok(attempt!(read_stop(tokens)))
 }
 
-/// Reads `[ NEXTSTATE name ; ]`.
+/// Reads a NEXTSTATE or a STOP, if one stands next.
 fn read_optional_end<'a>(tokens: &'a [Token]) -> Result<(Option<End>, &'a [Token]), Stop<'a>>
-    ensures { Mirrors same result (optional (a_word words.NextState) end_at tokens.now) }
+    ensures { Mirrors same result (optional an_end end_at tokens.now) }
 {
-    if !is_word(tokens, Word::NextState) {
+    if !is_end(tokens) {
         return Ok((None, tokens));
     }
     let (end, rest) = attempt!(read_end(tokens));
     Ok((Some(end), rest))
 }
 
-/// Reads `{ TASK .. } [ NEXTSTATE name ; ]`.
-#[tactic(auto, using(crate::proofs::TaskLemmas::text_of_tasks), unfolding(crate::specs::Productions::text_at))]
+/// Reads actions, and the end of the transition if one stands next.
+#[tactic(auto, unfolding(crate::specs::Productions::text_at))]
 fn read_transition<'a>(
     alloc: Global,
     tokens: &'a [Token],
@@ -136,21 +98,33 @@ fn read_transition<'a>(
 
 /// Reads `INPUT stimulus {, stimulus} ;` and its transition.
 #[tactic(auto, unfolding(crate::specs::Productions::input_at))]
-fn read_input<'a>(alloc: Global, tokens: &'a [Token]) -> Result<(InputPart, &'a [Token]), Stop<'a>>
-    ensures { Mirrors input_of result (input_at (expression_at low_trees) tokens.now) }
+fn read_input<'a>(
+    alloc: Global,
+    tokens: &'a [Token],
+) -> Result<(StateClause, &'a [Token]), Stop<'a>>
+    ensures { Mirrors clause_of result (input_at (expression_at low_trees) tokens.now) }
 {
     let (at, rest) = attempt!(word(tokens, Word::Input));
     let (stimuli, rest) = attempt!(read_separated::<Stimulus>(alloc, rest));
-    let (_, rest) = attempt!(symbol(rest, Symbol::Semicolon));
+    let (_, rest) = attempt!(terminator(rest));
     let (transition, rest) = attempt!(read_transition(alloc, rest));
-    Ok((
-        InputPart {
-            at,
-            stimuli,
-            transition,
-        },
-        rest,
-    ))
+    let part = InputPart {
+        at,
+        stimuli,
+        transition,
+    };
+    Ok((StateClause::Input(part), rest))
+}
+
+/// Reads `SAVE name {, name} ;`.
+#[tactic(auto, unfolding(crate::specs::Productions::save_at))]
+fn read_save<'a>(alloc: Global, tokens: &'a [Token]) -> Result<(StateClause, &'a [Token]), Stop<'a>>
+    ensures { Mirrors clause_of result (save_at tokens.now) }
+{
+    let (_, rest) = attempt!(word(tokens, Word::Save));
+    let (names, rest) = attempt!(read_separated::<Identifier>(alloc, rest));
+    let (_, rest) = attempt!(terminator(rest));
+    Ok((StateClause::Save(names), rest))
 }
 
 impl Production for StateClause {
@@ -167,46 +141,21 @@ impl Production for StateClause {
         alloc: Global,
         tokens: &'a [Token],
     ) -> Result<(StateClause, &'a [Token]), Stop<'a>> {
-        let (part, rest) = attempt!(read_input(alloc, tokens));
-        Ok((StateClause::Input(part), rest))
+        if is_word(tokens, Word::Input) {
+            return Ok(attempt!(read_input(alloc, tokens)));
+        }
+        Ok(attempt!(read_save(alloc, tokens)))
     }
 }
 
 impl Listed for StateClause {
-    ghost starts = { a_word words.Input };
+    ghost starts = { a_clause };
 
     ghost shortens = { low_clause_takes };
 
     fn is_next(tokens: &[Token]) -> bool {
-        is_word(tokens, Word::Input)
+        is_clause(tokens)
     }
-}
-
-/// Reads `[name]`, where the name is the given one in any case.
-fn read_optional_closing<'a>(
-    tokens: &'a [Token],
-    opened: Name,
-) -> Result<(Option<Identifier>, &'a [Token]), Stop<'a>>
-    ensures { Mirrors same result (optional a_name (token (a_closing opened)) tokens.now) }
-{
-    if !is_name(tokens) {
-        return Ok((None, tokens));
-    }
-    let (found, rest) = attempt!(closing(tokens, opened));
-    Ok((Some(found), rest))
-}
-
-/// Reads `[name] ;`, where the name is the given one in any case.
-#[tactic(auto, unfolding(crate::specs::Productions::closing_at))]
-pub(crate) fn read_closing<'a>(
-    tokens: &'a [Token],
-    opened: Name,
-) -> Result<(Option<Identifier>, &'a [Token]), Stop<'a>>
-    ensures { Mirrors same result (closing_at opened tokens.now) }
-{
-    let (found, rest) = attempt!(read_optional_closing(tokens, opened));
-    let (_, rest) = attempt!(symbol(rest, Symbol::Semicolon));
-    Ok((found, rest))
 }
 
 /// Reads `ENDSTATE [name] ;`.
@@ -235,45 +184,36 @@ fn read_optional_end_state<'a>(
     Ok((Some(found), rest))
 }
 
-/// Reads a STATE part.
-#[tactic(auto, unfolding(crate::specs::Productions::state_at))]
-fn read_state<'a>(alloc: Global, tokens: &'a [Token]) -> Result<(StatePart, &'a [Token]), Stop<'a>>
-    ensures { Mirrors state_of result (state_at (expression_at low_trees) tokens.now) }
-{
-    let (_, rest) = attempt!(word(tokens, Word::State));
-    let (name, rest) = attempt!(name(rest));
-    let (_, rest) = attempt!(symbol(rest, Symbol::Semicolon));
-    let (clauses, rest) = attempt!(read_many::<StateClause>(alloc, rest));
-    let (_, rest) = attempt!(read_optional_end_state(rest, name.name));
-    let mut names = Vec::new(alloc);
-    push(&mut names, name)?;
-    Ok((StatePart { names, clauses }, rest))
-}
+impl Production for StatePart {
+    ghost Plain = { PlainState };
 
-#[tactic(auto, unfolding(crate::specs::Productions::one_state_at))]
-fn read_one_state<'a>(
-    alloc: Global,
-    tokens: &'a [Token],
-) -> Result<(Vec<StatePart>, &'a [Token]), Stop<'a>>
-    ensures { Mirrors (λ v. map state_of v.items) result (one_state_at (expression_at low_trees) tokens.now) }
-{
-    let (state, rest) = attempt!(read_state(alloc, tokens));
-    let mut states = Vec::new(alloc);
-    push(&mut states, state)?;
-    Ok((states, rest))
-}
+    ghost view = { state_of };
 
-/// Reads a STATE part, if one stands next.
-pub(crate) fn read_states<'a>(
-    alloc: Global,
-    tokens: &'a [Token],
-) -> Result<(Vec<StatePart>, &'a [Token]), Stop<'a>>
-    ensures { Mirrors (λ v. map state_of v.items) result (choice (a_word words.State) (one_state_at (expression_at low_trees)) (give []) tokens.now) }
-{
-    if !is_word(tokens, Word::State) {
-        return Ok((Vec::new(alloc), tokens));
+    ghost reading = { state_at (expression_at low_trees) };
+
+    ghost never_longer = { low_state_keeps };
+
+    #[tactic(auto, unfolding(crate::specs::Productions::state_at))]
+    fn read<'a>(alloc: Global, tokens: &'a [Token]) -> Result<(StatePart, &'a [Token]), Stop<'a>> {
+        let (_, rest) = attempt!(word(tokens, Word::State));
+        let (name, rest) = attempt!(name(rest));
+        let opened = name.name;
+        let (names, rest) = attempt!(read_more::<Identifier>(alloc, name, rest));
+        let (_, rest) = attempt!(terminator(rest));
+        let (clauses, rest) = attempt!(read_many::<StateClause>(alloc, rest));
+        let (_, rest) = attempt!(read_optional_end_state(rest, opened));
+        Ok((StatePart { names, clauses }, rest))
     }
-    Ok(attempt!(read_one_state(alloc, tokens)))
+}
+
+impl Listed for StatePart {
+    ghost starts = { a_word words.State };
+
+    ghost shortens = { low_state_takes };
+
+    fn is_next(tokens: &[Token]) -> bool {
+        is_word(tokens, Word::State)
+    }
 }
 
 /// Reads `START ;` and its transition.
@@ -285,7 +225,7 @@ pub(crate) fn read_start<'a>(
     ensures { Mirrors start_of result (start_at (expression_at low_trees) tokens.now) }
 {
     let (at, rest) = attempt!(word(tokens, Word::Start));
-    let (_, rest) = attempt!(symbol(rest, Symbol::Semicolon));
+    let (_, rest) = attempt!(terminator(rest));
     let (transition, rest) = attempt!(read_transition(alloc, rest));
     Ok((Start { at, transition }, rest))
 }

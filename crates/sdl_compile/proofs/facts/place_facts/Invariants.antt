@@ -1,4 +1,4 @@
-use Rattle.std.proofs.Common.{◌≡◌, ◌++◌, ◌≤◌, [], drop, length}
+use Rattle.std.proofs.Common.{◌≡◌, ◌++◌, [], drop}
 use Rattle.std.specs.Prelude.{sum_by}
 use Rattle.turn_code.specs.Code.{effects_of}
 use Rattle.sdl_compile.specs.Facts.{facts_from, SetsFew}

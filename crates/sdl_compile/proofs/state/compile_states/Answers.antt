@@ -34,7 +34,7 @@ loop-number-preserved c =
       made = rw (add-one, c.in_ok-push.ensures.items)
           (zip_more (AreInputsOf names) rows_inputs c.args.inputs.now i row old item lt c.loop-number.invariant.made
           (subst (λ (v : Vec InputRow). AreInputsOf names (rows_inputs v) item) c.index-inputs-number.is
-          (subst (λ rows. AreInputsOf names (map row_input rows) item) c.deref-2.ensures.value c.in_ok-make_state.ensures.made)));
+          (subst (λ rows. AreInputsOf names (map row_input rows) item) c.deref-in-loop-number.ensures.value c.in_ok-make_state.ensures.made)));
       sets = rw (add-one, c.in_ok-push.ensures.items) (sets_more old item c.args.sets.now i lt3 c.loop-number.invariant.sets (ap (λ (m : VariableSet). m.0) c.in_ok-make_state.ensures.set));
       ready = rw add-one (all_ready_more names rows_inputs c.args.inputs.now i row lt c.loop-number.invariant.ready).1;
     }

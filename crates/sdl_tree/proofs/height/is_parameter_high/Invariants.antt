@@ -1,0 +1,12 @@
+use Rattle.std.proofs.Common.{◌≡◌, length, map}
+use Rattle.std.specs.Prelude.{nat_lt}
+use Rattle.sdl_tree.specs.declared.TheConstants.{MAX_HEIGHT}
+use Rattle.sdl_tree.specs.Heights.{highest, sending_height}
+use Rattle.sdl_tree.specs.Views.{sending_of}
+use Rattle.sdl_tree.proofs.height.is_parameter_high.Given as goal
+
+abbrev pub invariant-rows : goal.invariant-rows
+invariant-rows l = nat_lt MAX_HEIGHT (highest sending_height (map sending_of l.rest)) ≡ nat_lt MAX_HEIGHT (highest sending_height (map sending_of l.fn.sendings))
+
+abbrev pub decreases-rows : goal.decreases-rows
+decreases-rows l = length l.rest
