@@ -6,6 +6,7 @@ pub mod Declarations
 pub mod Drafts
 pub mod Facts
 pub mod Made
+pub mod Meaning
 pub mod Named
 pub mod Reads
 pub mod Routes
