@@ -4,6 +4,7 @@
 mod block;
 mod emit;
 mod facts;
+pub mod laws;
 mod names;
 mod piece;
 mod process;
