@@ -1,10 +1,10 @@
 -- The run of a draft's transition on an input that fits it is what the text means.
 use Rattle.std.proofs.Common.{◌≡◌, ℕ, zero, suc, List, [], ◌∷◌, map, Option, Some, None, refl, sym, ap, ◌∙◌, subst}
 use Rattle.std.specs.Prelude.{slice_get, Any}
-use Rattle.std.specs.List.{AllZip, flat_map}
+use Rattle.std.specs.List.{AllZip}
 use Rattle.std.specs.Option.{option_map}
 use Rattle.sdl_tree.specs.declared.expression.Identifier.{Identifier}
-use Rattle.sdl_tree.specs.Plain.{PlainPath, PlainProcess, PlainBlock}
+use Rattle.sdl_tree.specs.Plain.{PlainProcess, PlainBlock}
 use Rattle.turn_code.specs.declared.input.Input as code_input
 use Rattle.turn_code.specs.declared.input.Party.{Party}
 use Rattle.turn_code.specs.declared.input.Place.{Place}
@@ -23,14 +23,14 @@ use Rattle.sdl_tables.specs.Names.{Input, processes_of, process_names, inputs_by
 use Rattle.sdl_rules.specs.Longest.{start_piece, input_piece}
 use Rattle.sdl_rules.specs.Receivers.{paths_of}
 use Rattle.sdl_rules.specs.Refusals.{Sound}
-use Rattle.sdl_compile.specs.Act.{Act, scope_of, signal_at}
+use Rattle.sdl_compile.specs.Act.{scope_of, signal_at}
 use Rattle.sdl_compile.specs.Named.{IsSentIf, IsSentTo}
 use Rattle.sdl_compile.specs.Code.{number_or_zero}
 use Rattle.sdl_compile.specs.Declarations.{trigger_with, trigger_of}
 use Rattle.sdl_compile.specs.Drafts.{MatchesProcess, MatchesInputs, MatchesInput}
-use Rattle.sdl_compile.specs.Blocks.{MatchesBlock, drafted_path}
+use Rattle.sdl_compile.specs.Blocks.{MatchesBlock}
 use Rattle.sdl_compile.specs.Routes.{IsKnownPath}
-use Rattle.sdl_compile.specs.Meaning.{input_of_state, piece_at, IsMeant, RunsAsMeant}
+use Rattle.sdl_compile.specs.Meaning.{input_of_state, IsMeant, RunsAsMeant}
 use Rattle.sdl_compile.proofs.Items.{Each}
 use Rattle.sdl_compile.proofs.Sent.{sent_by}
 use Rattle.sdl_compile.proofs.Whole.{known_paths}
