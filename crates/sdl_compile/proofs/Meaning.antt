@@ -1,10 +1,10 @@
 -- The run of a draft's transition on an input that fits it is what the text means.
 use Rattle.std.proofs.Common.{◌≡◌, ℕ, zero, suc, List, [], ◌∷◌, map, Option, Some, None, refl, sym, ap, ◌∙◌, subst}
 use Rattle.std.specs.Prelude.{slice_get, Any}
-use Rattle.std.specs.List.{AllZip, flat_map}
+use Rattle.std.specs.List.{AllZip}
 use Rattle.std.specs.Option.{option_map}
 use Rattle.sdl_tree.specs.declared.expression.Identifier.{Identifier}
-use Rattle.sdl_tree.specs.Plain.{PlainPath, PlainProcess, PlainBlock}
+use Rattle.sdl_tree.specs.Plain.{PlainProcess, PlainBlock}
 use Rattle.turn_code.specs.declared.input.Input as code_input
 use Rattle.turn_code.specs.declared.input.Party.{Party}
 use Rattle.turn_code.specs.declared.input.Place.{Place}
@@ -22,16 +22,18 @@ use Rattle.turn_code.specs.Run.{run}
 use Rattle.sdl_tables.specs.Names.{Input, processes_of, process_names, inputs_by_state, timers_of, number_of}
 use Rattle.sdl_rules.specs.Longest.{start_piece, input_piece}
 use Rattle.sdl_rules.specs.Receivers.{paths_of}
-use Rattle.sdl_compile.specs.Act.{Act, scope_of, signal_at}
+use Rattle.sdl_rules.specs.Refusals.{Sound}
+use Rattle.sdl_compile.specs.Act.{scope_of, signal_at}
 use Rattle.sdl_compile.specs.Named.{IsSentIf, IsSentTo}
 use Rattle.sdl_compile.specs.Code.{number_or_zero}
 use Rattle.sdl_compile.specs.Declarations.{trigger_with, trigger_of}
 use Rattle.sdl_compile.specs.Drafts.{MatchesProcess, MatchesInputs, MatchesInput}
-use Rattle.sdl_compile.specs.Blocks.{MatchesBlock, drafted_path}
+use Rattle.sdl_compile.specs.Blocks.{MatchesBlock}
 use Rattle.sdl_compile.specs.Routes.{IsKnownPath}
-use Rattle.sdl_compile.specs.Meaning.{input_of_state, piece_at, IsMeant}
+use Rattle.sdl_compile.specs.Meaning.{input_of_state, IsMeant, RunsAsMeant}
 use Rattle.sdl_compile.proofs.Items.{Each}
 use Rattle.sdl_compile.proofs.Sent.{sent_by}
+use Rattle.sdl_compile.proofs.Whole.{known_paths}
 
 -- the item of the first list that stands where one of the second does
 record Paired {A B : Type 0} (R : A → B → Type 0) (xs : List A) (n : ℕ) (y : B) : Type 0 where
@@ -100,7 +102,7 @@ module _ (b : PlainBlock) (d : Draft) (matches : MatchesBlock b d) (known : Each
   name_at (q ∷ ps) zero p e = let f : q ≡ p = cc in ap (λ (p : PlainProcess). Some p.name) f
   name_at (q ∷ ps) (suc n) p e = name_at ps n p e
 
-  pub meant : (n : ℕ) (s : Place) (i : ℕ) (t : Transition) (x : code_input.Input) → transition_at d n s i ≡ Some t → FitsTransition d t x → IsMeant b n s i x (run t.piece.code x)
+  meant : (n : ℕ) (s : Place) (i : ℕ) (t : Transition) (x : code_input.Input) → transition_at d n s i ≡ Some t → FitsTransition d t x → IsMeant b n s i x (run t.piece.code x)
   meant n s i t x e fits = by_process (slice_get d.processes n) refl e
     where
       by_process : (o : Option DraftProcess) → slice_get d.processes n ≡ o → process_at d.signals n s i o ≡ Some t → IsMeant b n s i x (run t.piece.code x)
@@ -108,3 +110,7 @@ module _ (b : PlainBlock) (d : Draft) (matches : MatchesBlock b d) (known : Each
       by_process (Some dp) f e =
           let r = paired (MatchesProcess b) (processes_of b) d.processes n dp matches.processes f in
           place_meant n s i t x r.item dp r.there (name_at (processes_of b) n r.item r.there) r.related e fits
+
+-- what matches a sound block runs as the block means
+pub runs_as_meant : (b : PlainBlock) (d : Draft) → Sound b → MatchesBlock b d → RunsAsMeant b d
+runs_as_meant b d sound matches = record { each = meant b d matches (known_paths b sound) }

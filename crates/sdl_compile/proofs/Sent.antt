@@ -1,8 +1,8 @@
 -- Who brings a signal to a process by the draft's routes may have sent it by the text's.
-use Rattle.std.proofs.Common.{◌≡◌, ℕ, zero, suc, ◌<◌, Bool, true, false, not, cond, ◌||◌, ◌&&◌, List, [], ◌∷◌, length, map, Option, Some, None, IsSome, refl, sym, ap, ◌∙◌, subst, arith}
+use Rattle.std.proofs.Common.{◌≡◌, ℕ, zero, suc, Bool, true, false, ◌||◌, ◌&&◌, List, [], ◌∷◌, map, Option, Some, None, IsSome, refl, sym, ap, ◌∙◌, subst, arith}
 use Rattle.std.specs.Prelude.{slice_get, Any, All, Contains}
 use Rattle.std.proofs.lemmas.List.Elements.{All-head, All-tail}
-use Rattle.std.specs.List.{list_any, flat_map}
+use Rattle.std.specs.List.{list_any}
 use Rattle.sdl_lex.specs.Spelling.{folded}
 use Rattle.sdl_tree.specs.declared.expression.Identifier.{Identifier}
 use Rattle.sdl_tree.specs.declared.tree.Party as tree_party
@@ -10,19 +10,16 @@ use Rattle.sdl_tree.specs.declared.tree.Party.TheVariants as tree_parties
 use Rattle.sdl_tree.specs.Plain.{PlainPath, PlainProcess, PlainBlock}
 use Rattle.turn_code.specs.declared.numbers.SignalNumber.{SignalNumber}
 use Rattle.turn_code.specs.declared.input.Party.{Party}
-use Rattle.turn_code.specs.declared.input.Party.TheVariants.{Environment, Process}
-use Rattle.turn_code.specs.declared.draft.DraftRoute.{DraftRoute}
 use Rattle.turn_code.specs.Routes.{IsProcess, Brings}
 use Rattle.sdl_tables.specs.Names.{same_name, is_in, number_of, signal_names, process_names}
-use Rattle.sdl_rules.specs.Receivers.{same_party, party_of, brings, carries, paths_of}
+use Rattle.sdl_rules.specs.Receivers.{same_party, party_of, brings, paths_of}
 use Rattle.sdl_compile.specs.Act.{scope_of, named, signal_at}
 use Rattle.sdl_compile.specs.Code.{number_or_zero}
 use Rattle.sdl_compile.specs.Named.{IsBroughtBy}
 use Rattle.sdl_compile.specs.Blocks.{drafted_party, drafted_path}
 use Rattle.sdl_compile.specs.Routes.{KnownParty, IsKnown, IsKnownPath, signal_numbered}
 use Rattle.sdl_compile.proofs.Items.{Each}
-use Rattle.sdl_compile.proofs.Numbers.{HasNumber, folded_alike, number_there, same_other_way}
-use Rattle.std.proofs.lemmas.Slice.Eq.{bytes_eq-Decides}
+use Rattle.sdl_compile.proofs.Numbers.{folded_alike, number_there, same_other_way}
 use Rattle.std.specs.Prelude.{bytes_eq}
 
 names_alike : (x y z : List ℕ) → same_name x y ≡ true → same_name x z ≡ same_name y z

@@ -12,6 +12,7 @@ ghost use Rattle.sdl_compile.specs.Act.{scope_of};
 ghost use Rattle.sdl_compile.specs.Declarations.{sort_of_tree, drafted_signal, drafted_signals};
 ghost use Rattle.sdl_compile.specs.Drafts.{IsReadyProcess, MatchesProcess, IsProcessOf};
 ghost use Rattle.sdl_compile.specs.Blocks.{drafted_party, drafted_path, MatchesBlock};
+ghost use Rattle.sdl_compile.specs.Meaning.{RunsAsMeant};
 ghost use Rattle.sdl_compile.specs.Routes.{KnownParty, IsKnown, IsKnownPath, HasFewNames, signal_numbered};
 
 use crate::process::compile_process;
@@ -186,6 +187,7 @@ fn compile_block(alloc: Global, block: &BlockTable, sets: &[Vec<u32>]) -> Result
     requires sound { Sound (block_of block.now) }
     requires sets { AllZip (λ p (v : Vec ℕ). AreSettled p v.items) (processes_of (block_of block.now)) sets.now }
     ensures means { IfOk result (λ d. MatchesBlock (block_of block.now) d) }
+    ensures runs { IfOk result (λ d. RunsAsMeant (block_of block.now) d) }
     ensures valid { IfOk result (λ d. IsValid d) }
 {
     let signals = compile_signals(alloc, block.rows())?;
@@ -201,11 +203,12 @@ fn compile_block(alloc: Global, block: &BlockTable, sets: &[Vec<u32>]) -> Result
 /// Compiles a sound block.
 ///
 /// The draft has the names and numbers of the block's signals, paths, processes, variables, states
-/// and inputs in the order of the text. On every input the run of each piece is what its transition
-/// means, and its certificate names the longest path. The draft is valid. Want of memory is the only
-/// error.
+/// and inputs in the order of the text. On every input that fits a transition of the draft, the run
+/// of its piece is what the block's transition at the same place means; its certificate names the
+/// longest path. The draft is valid. Want of memory is the only error.
 pub fn compile(alloc: Global, resolved: &Resolved) -> Result<Draft, AllocError>
     ensures means { IfOk result (λ d. MatchesBlock (block_of resolved.now) d) }
+    ensures runs { IfOk result (λ d. RunsAsMeant (block_of resolved.now) d) }
     ensures valid { IfOk result (λ d. IsValid d) }
 {
     let _sound = resolved.block();

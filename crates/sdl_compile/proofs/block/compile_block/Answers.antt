@@ -5,6 +5,7 @@ use Rattle.sdl_compile.specs.Declarations.{drafted_signal}
 use Rattle.sdl_tables.specs.Names.{processes_of}
 use Rattle.sdl_compile.specs.Drafts.{MatchesProcess}
 use Rattle.sdl_compile.specs.Blocks.{drafted_path}
+use Rattle.sdl_compile.proofs.Meaning.{runs_as_meant}
 use Rattle.sdl_compile.proofs.Whole.{valid, few_names, known_routes, all_ready}
 use Rattle.sdl_compile.proofs.block.compile_block.Goals as goal
 
@@ -29,6 +30,9 @@ returns-clause-means c = record {
   routes = c.from-2.ensures ∙ (c.in_ok-paths.ensures ∙ ap (λ rs. map (drafted_path (block_of c.args.block.now)) (flat_map (λ r. r.paths) rs)) c.routes.ensures);
   processes = subst (AllZip (MatchesProcess (block_of c.args.block.now)) (processes_of (block_of c.args.block.now))) (sym c.from-3.ensures) c.in_ok-processes.ensures.matches;
 }
+
+pub returns-clause-runs : goal.returns-clause-runs
+returns-clause-runs c = runs_as_meant (block_of c.args.block.now) _ c.requires.sound (returns-clause-means c)
 
 pub returns-clause-valid : goal.returns-clause-valid
 returns-clause-valid c =
