@@ -14,6 +14,7 @@ use Rattle.sdl_rules.specs.Refusals.{Sound, Refuses}
 use Rattle.sdl_rules.specs.declared.fault.RuleFault.{RuleFault}
 use Rattle.sdl_rules.specs.declared.fault.RuleFault.TheVariants as rules
 use Rattle.sdl_compile.specs.Blocks.{MatchesBlock}
+use Rattle.sdl_compile.specs.Meaning.{RunsAsMeant}
 use Rattle.turn_code.specs.declared.draft.Draft.{Draft}
 use Rattle.turn_verify.specs.declared.loading.LoadFault.{LoadFault}
 use Rattle.turn_verify.specs.declared.loading.LoadFault.TheVariants.{Lex, Parse, Rule, NoMemory}
@@ -37,13 +38,14 @@ pub record IsSound (text : List ℕ) : Type 0 where
   pub block : PlainBlock
   pub is_so : IsSoundText text tokens block
 
--- The text is sound, and the set is that of its block: names and numbers in the order of the text, each run what its
--- transition means, each certificate the longest path.
+-- The text is sound, and the set is that of its block: names and numbers in the order of the text, each run on an input
+-- that fits what its transition means, each certificate the longest path.
 pub record IsLoaded (text : List ℕ) (d : Draft) : Type 0 where
   pub tokens : List Token
   pub block : PlainBlock
   pub sound : IsSoundText text tokens block
   pub matches : MatchesBlock block d
+  pub runs : RunsAsMeant block d
 
 -- the result is such a value, or memory ran out
 abbrev pub Gives : {A : Type 0} → Result A LoadFault → (A → Type 0) → Type 0

@@ -7,6 +7,7 @@ ghost use Rattle.sdl_tree.specs.Plain.{PlainBlock};
 ghost use Rattle.sdl_tree.specs.Views.{block_of};
 ghost use Rattle.sdl_rules.specs.Refusals.{Sound};
 ghost use Rattle.sdl_compile.specs.Blocks.{MatchesBlock};
+ghost use Rattle.sdl_compile.specs.Meaning.{RunsAsMeant};
 ghost use Rattle.turn_verify.specs.Loaded.{IsLoaded, IsSoundText, IsRead, Gives, IsRefused, line_at, token_place, rule_place};
 
 use sdl_compile::compile;
@@ -77,7 +78,8 @@ impl fmt::Display for AtLine {
 /// that code.
 ///
 /// Accepted is exactly a text that has tokens, reads as a tree that is low enough, and breaks no
-/// rule.
+/// rule. On every input that fits a transition of the set, its run is what the text's transition at
+/// the same place means.
 ///
 /// # Errors
 ///
@@ -138,6 +140,7 @@ fn block_in(alloc: Global, text: &str, tokens: &[Token]) -> Result<Block, LoadFa
 fn set_of(alloc: Global, text: &str, block: &Block) -> Result<Verified, LoadFault>
     ensures sound { IfOk result (λ v. Sound (block_of block.now)) }
     ensures matches { IfOk result (λ v. MatchesBlock (block_of block.now) v) }
+    ensures runs { IfOk result (λ v. RunsAsMeant (block_of block.now) v) }
     ensures exact { Sound (block_of block.now) → Gives result (MatchesBlock (block_of block.now)) }
     ensures refused { IfErr result (λ e. (ts : List lexeme.Token) → IsRead text.now ts (block_of block.now)
         → IsRefused text.now e) }
@@ -157,6 +160,7 @@ fn set_of(alloc: Global, text: &str, block: &Block) -> Result<Verified, LoadFaul
 /// The set of a sound tree. Want of memory is the only error.
 fn verified(alloc: Global, resolved: &Resolved) -> Result<Verified, LoadFault>
     ensures matches { IfOk result (λ v. MatchesBlock (block_of resolved.now) v) }
+    ensures runs { IfOk result (λ v. RunsAsMeant (block_of resolved.now) v) }
     ensures memory { IsOkUnless result LoadFault.NoMemory }
 {
     match compile(alloc, resolved) {
