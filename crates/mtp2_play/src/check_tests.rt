@@ -122,10 +122,7 @@ P W/T budget 1 depth 0 effects 0\naccepted\n",
         "DCL b Boolean := TRUE;\nSTART; TASK b := NOT b = (1 < 2) OR b COMMENT 'it''s a remark', 'and a task'; STOP;",
         "refused P1 Unexpected line 4\n",
     ),
-    (
-        "START;\nOUTPUT A; STOP;",
-        "refused S5 NoReceiver line 4\n",
-    ),
+    ("START;\nOUTPUT A; STOP;", "refused S5 NoReceiver line 4\n"),
     (
         "DCL x Integer := 7;\nSTART; TASK x := x / 0; STOP;",
         "refused S9 BadDivisor line 4\n",
