@@ -8,6 +8,7 @@ use Rattle.sdl_tree.specs.declared.tree.Sort.{Sort}
 use Rattle.sdl_tree.specs.declared.tree.Party.{Party}
 use Rattle.sdl_tree.specs.declared.tree.Constant.{Constant}
 use Rattle.sdl_tree.specs.declared.tree.End.{End}
+use Rattle.sdl_tree.specs.declared.tree.Range.{Range}
 use Rattle.sdl_tree.specs.declared.tree.Destination.{Destination}
 
 -- An expression. The first number is the place of its first token, an opening parenthesis too.
@@ -39,13 +40,30 @@ pub data PlainAction : Type 0 where
   -- a RESET of a timer
   reset_timer : ℕ → Identifier → PlainAction
 
--- A transition from some action on: each action carries what follows it.
-pub data Text : Type 0 where
-  -- it runs off its end
-  falls : Text
-  ends : End → Text
-  -- an action, and what follows
-  does : PlainAction → Text → Text
+mutual
+  -- A transition from some statement on: each statement carries what follows it.
+  pub data Text : Type 0 where
+    -- it runs off its end
+    falls : Text
+    ends : End → Text
+    -- an action, and what follows
+    does : PlainAction → Text → Text
+    -- a DECISION at a place: its question, its answers, and what follows where they go on
+    decides : ℕ → Tree → Choice → Text → Text
+
+  -- The answers of a DECISION from some answer on.
+  pub data Choice : Type 0 where
+    -- there is no ELSE
+    nothing_else : Choice
+    otherwise : Text → Choice
+    -- an answer at a place: the values that it is for, what it does, and the other answers
+    answer : ℕ → List Range → Text → Choice → Choice
+
+-- A CONNECTION at a place, with what a JOIN to it goes on with.
+pub record PlainConnection : Type 0 where
+  pub at : ℕ
+  pub name : Identifier
+  pub text : Text
 
 -- A signal, with the variable for each parameter; none where it is thrown away.
 pub record PlainStimulus : Type 0 where
@@ -91,6 +109,7 @@ pub record PlainProcess : Type 0 where
   pub declarations : List PlainDeclaration
   pub start : PlainStart
   pub states : List PlainState
+  pub connections : List PlainConnection
 
 -- One direction of a route, with the signals that it brings.
 pub record PlainPath : Type 0 where

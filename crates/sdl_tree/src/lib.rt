@@ -25,9 +25,10 @@ pub use expression::{BinaryOperator, Expression, Identifier, UnaryOperator};
 pub use fault::ParseFault;
 pub use parsing::{parse, reads_once};
 pub use tree::{
-    Action, Assignment, Block, Connect, Constant, Declaration, Destination, End, Entity, Group,
-    InputPart, Literal, NextState, Output, Party, Path, Process, ResetTimer, Route, Sending,
-    SetTimer, SignalDeclaration, Sort, Start, StateClause, StatePart, Stimulus, Task, Transition,
+    Action, Answer, Assignment, Block, Connect, Connection, Constant, Decision, Declaration,
+    Destination, End, Entity, Group, InputPart, Join, Literal, NextState, Output, Party, Path,
+    Process, Range, Relation, ResetTimer, Route, Sending, SetTimer, SignalDeclaration, Sort, Start,
+    StateClause, StatePart, Statement, Stimulus, Task, Transition,
 };
 
 /// The greatest height of a tree.
