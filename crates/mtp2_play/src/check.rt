@@ -8,9 +8,7 @@ use std::alloc::Global;
 use std::io::{self, Read, Write};
 use std::{fmt, str};
 use thiserror::Error;
-use turn_verify::{
-    Cert, LoadFault, Name, Place, ProcessNumber, StateNumber, Trigger, Verified, load,
-};
+use turn_verify::{Cert, LoadFault, Name, Place, ProcessNumber, StateNumber, Verified, load};
 
 /// Why a text is no set.
 #[derive(Debug, Drop, Error)]
@@ -196,18 +194,10 @@ fn write_input<W: Write>(
     let costs = Costs(cert);
     let name = printed(set.process_name(process));
     let place = printed(set.state_name(process, state));
-    let signal = trigger_name(set, at);
+    let trigger = printed(set.input_name(process, state, input));
     write_line(
         alloc,
         writer,
-        &format_args!("{name} {place}/{signal} {costs}"),
+        &format_args!("{name} {place}/{trigger} {costs}"),
     )
-}
-
-/// The name of what an input waits for.
-fn trigger_name(set: &Verified, at: InputAt) -> &str {
-    match set.trigger(at.process, at.state, at.input) {
-        Some(Trigger::Signal(signal)) => printed(set.signal_name(signal)),
-        None => "",
-    }
 }

@@ -95,6 +95,85 @@ fn prints_what_transitions_cost_and_refusals(rt: HostRuntime) -> Result<(), Fail
     Ok(())
 }
 
+/// Bodies of process P between its name and ENDPROCESS, and what is printed. Signals A and C (no parameters) come from ENV,
+/// N (an Integer) goes there.
+const BODIES: [(&str, &str); 8] = [
+    (
+        "DCL x Integer; START; TASK x := 1; NEXTSTATE S; STATE S; INPUT A; NEXTSTATE W;
+STATE W; INPUT A; TASK x := x + 1; NEXTSTATE S;",
+        "P START budget 3 depth 1 effects 0\nP S/A budget 1 depth 0 effects 0
+P W/A budget 5 depth 2 effects 0\naccepted\n",
+    ),
+    (
+        "DCL x Integer; START; NEXTSTATE S; STATE S; INPUT A; TASK x := 1; NEXTSTATE W; INPUT C; NEXTSTATE W;
+STATE W; INPUT A; TASK x := x + 1; NEXTSTATE W;",
+        "refused S11 Unset x START S/C W/A\n",
+    ),
+    (
+        "DCL x Integer; START; TASK x := 2147483647 + 1; OUTPUT N(x); TASK x := -1 MOD 128; OUTPUT N(x); STOP;",
+        "P START budget 13 depth 2 effects 2\naccepted\n",
+    ),
+    (
+        "TIMER T; START; SET(NOW + 5, T); NEXTSTATE W; STATE W; INPUT A; RESET(T); NEXTSTATE W; INPUT T; NEXTSTATE W;",
+        "P START budget 3 depth 1 effects 1\nP W/A budget 2 depth 0 effects 1
+P W/T budget 1 depth 0 effects 0\naccepted\n",
+    ),
+    (
+        "DCL b Boolean := TRUE;\nSTART; TASK b := NOT b = (1 < 2) OR b COMMENT 'it''s a remark', 'and a task'; STOP;",
+        "refused P1 Unexpected line 4\n",
+    ),
+    (
+        "START;\nOUTPUT A; STOP;",
+        "refused S5 NoReceiver line 4\n",
+    ),
+    (
+        "DCL x Integer := 7;\nSTART; TASK x := x / 0; STOP;",
+        "refused S9 BadDivisor line 4\n",
+    ),
+    (
+        "DCL x Integer;\nSTART;\nTASK x := TRUE; STOP;",
+        "refused S3 WrongSort line 5\n",
+    ),
+];
+
+const HEAD: &str = "BLOCK B; SIGNAL A, C, N(Integer);
+SIGNALROUTE r FROM ENV TO P WITH A, C; FROM P TO ENV WITH N;
+PROCESS P; ";
+
+#[test]
+fn prints_what_processes_cost(rt: HostRuntime) -> Result<(), Fail> {
+    for (body, lines) in BODIES {
+        let text = format!(in rt.alloc(); "{HEAD}{body} ENDPROCESS; ENDBLOCK;")?;
+        let (written, _) = checked(rt.alloc(), text.as_bytes(), 9);
+        assert_eq!(rt; written.as_slice(), lines.as_bytes(), "{body}");
+    }
+    Ok(())
+}
+
+/// 255 assignments, so many RESETs and a NEXTSTATE: 512 instructions are taken, 513 are not.
+#[test]
+fn takes_a_piece_of_512_instructions(rt: HostRuntime) -> Result<(), Fail> {
+    for (resets, lines) in [
+        (
+            "RESET(T);",
+            "P START budget 1 depth 0 effects 0\nP S/A budget 512 depth 1 effects 1\naccepted\n",
+        ),
+        ("RESET(T); RESET(T);", "refused S10 Limit Piece\n"),
+    ] {
+        let mut text = String::new(rt.alloc());
+        text.push_str(HEAD)?;
+        text.push_str("DCL x Integer; TIMER T; START; NEXTSTATE S; STATE S; INPUT A; ")?;
+        for _ in 0..255 {
+            text.push_str("TASK x := 1; ")?;
+        }
+        text.push_str(resets)?;
+        text.push_str(" NEXTSTATE S; ENDPROCESS; ENDBLOCK;")?;
+        let (written, _) = checked(rt.alloc(), text.as_bytes(), 9);
+        assert_eq!(rt; written.as_slice(), lines.as_bytes(), "{resets}");
+    }
+    Ok(())
+}
+
 /// A text that ends early is no block.
 #[test]
 fn refuses_each_prefix(rt: HostRuntime) -> Result<(), Fail> {

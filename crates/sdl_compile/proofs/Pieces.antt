@@ -1,74 +1,72 @@
 -- What a piece is made of, for the function that makes it.
-use Rattle.std.proofs.Common.{◌≡◌, ℕ, ◌≤◌, List, [], length, refl, sym, ap, ◌∙◌, subst, arith}
-use Rattle.std.specs.Prelude.{All}
+use Rattle.std.proofs.Common.{◌≡◌, ℕ, ◌≤◌, List, [], ◌∷◌, length, Option, Some, refl, sym, ap, ◌∙◌, subst, arith}
+use Rattle.std.specs.Prelude.{sum_by}
+use Rattle.sdl_tree.specs.declared.expression.Identifier.{Identifier}
 use Rattle.turn_code.specs.declared.value.Sort.{Sort}
-use Rattle.turn_code.specs.declared.value.Sort.TheVariants.{Integer}
 use Rattle.turn_code.specs.declared.instruction.Instruction.{Instruction}
 use Rattle.turn_code.specs.declared.variable_set.VariableSet.{VariableSet}
+use Rattle.turn_code.specs.declared.draft.DraftSignal.{DraftSignal}
 use Rattle.turn_code.specs.declared.draft.DraftVariable.{DraftVariable}
 use Rattle.turn_code.specs.declared.draft.DraftPiece.{DraftPiece}
 use Rattle.turn_code.specs.declared.draft.PlaceFacts.{PlaceFacts}
-use Rattle.turn_code.specs.Rules.{greatest, depths}
-use Rattle.sdl_rules.specs.Longest.{Piece, piece_depth, effects}
-use Rattle.sdl_tree.specs.Plain.{Text, falls, ends, task}
 use Rattle.turn_code.specs.declared.input.Input.{Input}
+use Rattle.turn_code.specs.Code.{effects_of}
+use Rattle.turn_code.specs.Rules.{greatest, depths}
 use Rattle.turn_code.specs.Run.{run}
+use Rattle.sdl_tables.specs.Names.{variables_of}
+use Rattle.sdl_rules.specs.Longest.{Piece, piece_budget, piece_depth, piece_effects}
 use Rattle.sdl_compile.specs.Act.{Scope, Act}
-use Rattle.sdl_compile.specs.Reads.{KeepsRules}
-use Rattle.sdl_compile.specs.Named.{NamedPiece}
 use Rattle.sdl_compile.specs.Code.{piece_code}
+use Rattle.sdl_compile.specs.Named.{NamedPiece, AnswersSenders}
+use Rattle.sdl_compile.specs.Declarations.{drafted_signals, drafted_variables}
+use Rattle.sdl_compile.specs.Drafts.{AreSorted, Means}
 use Rattle.sdl_compile.specs.Facts.{facts_from}
-use Rattle.sdl_compile.specs.Made.{AreDrafted, IsPieceOf, IsSmall}
-use Rattle.sdl_compile.proofs.Certificate.{piece_length, piece_deep}
-use Rattle.sdl_compile.proofs.Few.{variable_small, state_small, variable_integers, parameter_integers}
+use Rattle.sdl_compile.specs.Made.{IsPieceOf, IsSmall}
+use Rattle.sdl_compile.specs.Settings.{IsReadyPiece, effects_from}
+use Rattle.sdl_compile.proofs.Actions.{counted_text}
 use Rattle.sdl_compile.proofs.Runs.{run_is_act}
-use Rattle.sdl_compile.proofs.Straight.{IsStraight, AreRight, piece_straight, piece_right}
-use Rattle.sdl_compile.proofs.Validity.{valid}
+use Rattle.sdl_compile.proofs.Shapes.{piece_closes}
+use Rattle.sdl_compile.proofs.Sorting.{variable_sorted, signal_sorted}
+use Rattle.sdl_compile.proofs.Stretches.{Closes}
 
-no_effects : (t : Text) → effects t ≡ 0
-no_effects falls = refl
-no_effects (ends e) = refl
-no_effects (task at ts rest) = no_effects rest
+effects_are : (ss : List DraftSignal) (xs : List DraftVariable) (ps shape : List Sort) (m : VariableSet) (code : List Instruction) → effects_from (facts_from ss xs ps shape m code) ≡ sum_by effects_of code
+effects_are ss xs ps shape m [] = refl
+effects_are ss xs ps shape m (x ∷ is) = refl
 
-module _ (c : Scope) (xs : List DraftVariable) (ps : List Sort) (entry : VariableSet) (q : Piece)
-    (drafted : AreDrafted c xs) (integers : All (λ s. s ≡ Integer) ps) (named : NamedPiece c q) (few : length q.places ≤ length ps) where
-  pub depth_is : (code : List Instruction) (fs seen : List PlaceFacts) (n : ℕ) → code ≡ piece_code c q → fs ≡ facts_from xs ps [] entry code → seen ≡ fs → n ≡ greatest (depths seen) → n ≡ piece_depth q
-  depth_is code fs seen n e f s g =
-      g ∙ ap (λ fs. greatest (depths fs)) (s ∙ f ∙ ap (facts_from xs ps [] entry) e)
-      ∙ piece_deep c xs ps (variable_small c xs drafted.count) (variable_integers xs drafted.sorts) (parameter_integers ps integers) q entry named few
+module _ (c : Scope) (q : Piece) (ps : List Sort) (entry : VariableSet) (ready : IsReadyPiece c q ps) where
+  closes : Closes (drafted_signals c.block) (drafted_variables c.process) ps entry (piece_code c q) (piece_depth q) (piece_budget q) (piece_effects q)
+  closes =
+      piece_closes c (drafted_signals c.block) (drafted_variables c.process) ps (λ n s named e. variable_sorted (variables_of c.process) n.name s named e)
+      q entry ready.named (counted_text c (drafted_signals c.block) (λ n some. signal_sorted c.block n.name some) q.text ready.named.text ready.sorted) ready.places
 
-  pub is_piece : (d : DraftPiece) → d.code ≡ piece_code c q → d.facts ≡ facts_from xs ps [] entry (piece_code c q) → d.certificate.budget ≡ length (piece_code c q) → d.certificate.depth ≡ piece_depth q → d.certificate.effects ≡ 0 → IsPieceOf c xs ps entry q d
-  is_piece d e f b g h = record {
-    code = e;
-    facts = f;
-    certificate = record { budget = b ∙ piece_length c q; depth = g; effects = h ∙ sym (no_effects q.text) };
+  pub code_length : (code : List Instruction) → code ≡ piece_code c q → length code ≡ piece_budget q
+  code_length code e = ap length e ∙ closes.cost_is
+
+  module _ (ss : List DraftSignal) (xs : List DraftVariable) (code : List Instruction) (fs : List PlaceFacts)
+      (signals : ss ≡ drafted_signals c.block) (variables : xs ≡ drafted_variables c.process) (is : code ≡ piece_code c q) (facts : fs ≡ facts_from ss xs ps [] entry code) where
+    facts_are : fs ≡ facts_from (drafted_signals c.block) (drafted_variables c.process) ps [] entry (piece_code c q)
+    facts_are =
+        facts ∙ ap (λ ss. facts_from ss xs ps [] entry code) signals
+        ∙ ap (λ xs. facts_from (drafted_signals c.block) xs ps [] entry code) variables
+        ∙ ap (facts_from (drafted_signals c.block) (drafted_variables c.process) ps [] entry) is
+
+    pub depth_is : greatest (depths fs) ≡ piece_depth q
+    depth_is = ap (λ fs. greatest (depths fs)) facts_are ∙ closes.depth_is
+
+    pub effects_is : effects_from fs ≡ piece_effects q
+    effects_is =
+        ap effects_from facts_are ∙ effects_are (drafted_signals c.block) (drafted_variables c.process) ps [] entry (piece_code c q)
+        ∙ closes.effects_is
+
+    pub is_piece : (d : DraftPiece) → d.code ≡ code → d.facts ≡ fs → d.certificate.budget ≡ length code → d.certificate.depth ≡ greatest (depths fs) → d.certificate.effects ≡ effects_from fs → IsPieceOf c ps entry q d
+    is_piece d e f b g h = record {
+      code = e ∙ is;
+      facts = f ∙ facts_are;
+      certificate = record { budget = b ∙ code_length code is; depth = g ∙ depth_is; effects = h ∙ effects_is };
+    }
+
+  pub means : (d : DraftPiece) → IsPieceOf c ps entry q d → (from : Option Identifier) → AnswersSenders c from q.text → Means c from q d
+  means d made from answers = record {
+    run_is_act = λ x is_sent. run_is_act c from q d.code x made.code ready.named answers ready.small.budget is_sent;
+    certificate = made.certificate;
   }
-
-  pub means : IsSmall q → (d : DraftPiece) → IsPieceOf c xs ps entry q d → (x : Input) → run d.code x ≡ Act c q x
-  means small d made x = run_is_act c q d.code x made.code named small.budget
-
-  pub keeps_rules : IsSmall q → (d : DraftPiece) → IsPieceOf c xs ps entry q d → KeepsRules c xs ps entry q d
-  keeps_rules small made is draft p trigger e placed =
-      let is' : IsPieceOf c p.variables ps entry q made = subst (λ xs. IsPieceOf c xs ps entry q made) (sym e) is in
-      let drafted' : AreDrafted c p.variables = subst (AreDrafted c) (sym e) drafted in
-      let sizes = piece_length c q in
-      let less = variable_small c p.variables drafted'.count in
-      let ints = variable_integers p.variables drafted'.sorts in
-      let params = parameter_integers ps integers in
-      valid draft (record { process = p; trigger = trigger; parameters = ps; entry = entry; piece = made }) (record {
-        facts = is'.facts ∙ ap (facts_from p.variables ps [] entry) (sym is'.code);
-        right = subst (AreRight p.variables ps p.states [] entry) (sym is'.code)
-            (piece_right c p.variables ps p.states less (state_small c p.states placed.states) ints params q entry named few placed.sets);
-        straight = subst IsStraight (sym is'.code) (piece_straight c q named);
-        budget = is'.certificate.budget ∙ sym sizes ∙ ap length (sym is'.code);
-        depth = is'.certificate.depth ∙ sym (piece_deep c p.variables ps less ints params q entry named few) ∙ ap (λ fs. greatest (depths fs)) (sym is'.facts);
-        effects = is'.certificate.effects ∙ no_effects q.text;
-        initial = placed.initial;
-        trigger = placed.signal;
-        process_limits = placed.limits;
-        piece_limits = record {
-          depth = let h = is'.certificate.depth in omega (arith, h, small.depth);
-          effects = let h = is'.certificate.effects in let g = no_effects q.text in omega (arith, h, g);
-          size = let h = ap length is'.code in omega (arith, h, sizes, small.budget);
-        };
-      })

@@ -1,6 +1,6 @@
 -- The transitions of a process that the compiler makes keep every rule.
-use Rattle.std.proofs.Common.{◌≡◌, ℕ, zero, suc, ◌+◌, ◌-◌, ◌*◌, ◌^◌, ◌<◌, Bool, true, false, ◌||◌, cond, List, [], ◌∷◌, ◌++◌, ⊎_elim, length, Option, Some, None, IsSome, map, refl, sym, ap, ◌∙◌, subst, arith}
-use Rattle.std.specs.Prelude.{slice_get, All, is_some, option_map, IfSome}
+use Rattle.std.proofs.Common.{◌≡◌, ℕ, zero, suc, ◌+◌, ◌-◌, ◌*◌, ◌^◌, ◌<◌, ◌≤◌, Bool, true, false, ◌||◌, ◌&&◌, cond, List, [], ◌∷◌, ◌++◌, ⊎_elim, length, Option, Some, None, IsSome, map, refl, sym, ap, ◌∙◌, subst, arith, nat_lt}
+use Rattle.std.specs.Prelude.{slice_get, All, is_some, option_map, IfSome, sum_by, zip}
 use Rattle.std.specs.Int.{bit_at}
 use Rattle.std.specs.List.{AllZip, flat_map}
 use Rattle.std.specs.Option.{option_map_or}
@@ -14,10 +14,10 @@ use Rattle.sdl_tree.specs.declared.tree.Literal as literal
 use Rattle.sdl_tree.specs.declared.tree.Literal.TheVariants as literals
 use Rattle.sdl_tree.specs.declared.tree.Sort as tree_sort
 use Rattle.sdl_tree.specs.declared.tree.Sort.TheVariants as tree_sorts
-use Rattle.sdl_tree.specs.Plain.{PlainProcess}
+use Rattle.sdl_tree.specs.Plain.{PlainStimulus}
 use Rattle.turn_code.specs.declared.value.Sort.{Sort}
-use Rattle.turn_code.specs.declared.value.Sort.TheVariants.{Integer}
 use Rattle.turn_code.specs.declared.variable_set.VariableSet.{VariableSet}
+use Rattle.turn_code.specs.declared.instruction.Instruction.{Instruction}
 use Rattle.turn_code.specs.declared.input.Place.TheVariants.{Start, State}
 use Rattle.turn_code.specs.declared.draft.Draft.{Draft}
 use Rattle.turn_code.specs.declared.draft.DraftSignal.{DraftSignal}
@@ -29,23 +29,37 @@ use Rattle.turn_code.specs.declared.draft.DraftProcess.{DraftProcess}
 use Rattle.turn_code.specs.declared.draft.Trigger.{Trigger}
 use Rattle.turn_code.specs.Values.{sort_of}
 use Rattle.turn_code.specs.Sets.{Has, initial_bits, initial_set}
-use Rattle.turn_code.specs.Rules.{StartsRight, HasTrigger}
-use Rattle.turn_code.specs.Transitions.{parameters_of, trigger_parameters, start_of, input_of, input_at}
+use Rattle.turn_code.specs.Code.{sort_at, effects_of}
+use Rattle.turn_code.specs.Rules.{StartsRight, IsThere, HasTrigger, HasSaves, KeepsProcessLimits, greatest, depths}
+use Rattle.turn_code.specs.Transitions.{Transition, parameters_of, trigger_parameters, start_of, input_of, input_at}
 use Rattle.turn_code.specs.Valid.{IsValidTransition}
-use Rattle.sdl_tables.specs.Names.{Variable, Input, same_name, number_of, variables_of, variable_names, states_of, inputs_by_state}
-use Rattle.sdl_rules.specs.Longest.{Piece, start_piece, input_piece}
+use Rattle.sdl_tables.specs.Names.{Variable, Input, same_name, number_of, variables_of, variable_names, timers_of, states_of, signals_of, signal_names, process_names, processes_of, inputs_by_state, saves_by_state}
+use Rattle.sdl_rules.specs.Longest.{Piece, start_piece, input_piece, piece_effects, piece_depth}
 use Rattle.sdl_rules.specs.Paths.{sets, sets_in, initial_sets, input_transition}
 use Rattle.sdl_rules.specs.Settled.{IsSettled, AreSettled}
-use Rattle.sdl_rules.specs.Sound.{place_names}
-use Rattle.sdl_tables.specs.Scopes.{repeats}
-use Rattle.sdl_compile.specs.Act.{Scope, scope_of}
-use Rattle.sdl_compile.specs.Blocks.{IsValidProcess}
-use Rattle.sdl_compile.specs.Code.{number_or_zero}
-use Rattle.sdl_compile.specs.Drafts.{drafted, sort_of_tree, constant_value, literal_value, waits_for, parameters_at, AreReady, AllReady, IsReadyInput, IsReadyProcess, AreReadySignals, HasFew, IsInputOf, AreInputsOf, sets_of}
-use Rattle.sdl_compile.specs.Reads.{KeepsRules, IsPlaced, places_set}
-use Rattle.sdl_compile.proofs.Drafted.{are_drafted}
+use Rattle.sdl_rules.specs.Sound.{place_names, actions_of}
+use Rattle.sdl_rules.specs.Sorts.{same_sort, literal_sort, wrong_constant, wrong_initial, wrong_action, wrong_place, too_many_places, variable_sort, parameter_sorts}
+use Rattle.sdl_rules.specs.Divisors.{action_divisors}
+use Rattle.sdl_rules.specs.Receivers.{paths_of, answers, answers_all, lost_action, doubtful_action}
+use Rattle.sdl_compile.specs.Act.{Scope, scope_of, variable_at, state_at, timer_at, signal_at}
+use Rattle.sdl_compile.specs.Code.{number_or_zero, piece_code}
+use Rattle.sdl_compile.specs.Named.{NamedPiece}
+use Rattle.sdl_compile.specs.Facts.{facts_from}
+use Rattle.sdl_compile.specs.Made.{IsPieceOf, IsSmall}
+use Rattle.sdl_compile.specs.Declarations.{sort_of_tree, literal_value, constant_value, drafted, drafted_signal, drafted_variables, drafted_signals, trigger_with, trigger_of, trigger_sorts}
+use Rattle.sdl_compile.specs.Drafts.{IsTrigger, IsReadyInput, IsReadyProcess, SavesAll, IsInputOf, AreInputsOf, sets_of, IsProcessOf, AreReady, AllReady}
+use Rattle.sdl_compile.specs.Blocks.{drafted_routes, Declares, IsValidProcess}
+use Rattle.sdl_compile.specs.Reads.{ReadText, places_set}
+use Rattle.sdl_compile.specs.Routes.{IsKnownPath}
+use Rattle.sdl_compile.proofs.Items.{Each, nil_front, nil_back, each_nil, all_items, each_map}
 use Rattle.sdl_compile.proofs.Numbers.{AreNumbered, are_numbered, number_alike, number_there}
-use Rattle.sdl_compile.proofs.Pieces.{keeps_rules}
+use Rattle.sdl_compile.proofs.Sorting.{passed, number_small, variable_sorted, signal_sorted, unsigned_sorts}
+use Rattle.sdl_compile.proofs.Straight.{AreRight, IsStraight}
+use Rattle.sdl_compile.proofs.Shapes.{piece_closes}
+use Rattle.sdl_compile.proofs.Actions.{Stands, Reaching, counted_text, piece_right}
+use Rattle.sdl_compile.proofs.Receiving.{answers_input, arriving}
+use Rattle.sdl_compile.proofs.Ready.{FineText, FineInput, FineProcess, each_at, at_most, not_flagged}
+use Rattle.sdl_compile.proofs.Validity.{valid}
 use Rattle.sdl_compile.proofs.Walks.{Holds, places_hold, settled_read, by_bool}
 
 -- ---- lists by place
@@ -56,12 +70,12 @@ all_at P (y ∷ xs) zero x h e = let f : y ≡ x = cc in subst P f (All-head P y
 all_at P (y ∷ xs) (suc k) x h e = all_at P xs k x (All-tail P y xs h) e
 
 -- what stands beside an item
-record Beside {A B : Type 0} (R : A → B → Type 0) (xs : List A) (k : ℕ) (y : B) : Type 0 where
-  item : A
-  there : slice_get xs k ≡ Some item
-  holds : R item y
+pub record Beside {A B : Type 0} (R : A → B → Type 0) (xs : List A) (k : ℕ) (y : B) : Type 0 where
+  pub item : A
+  pub there : slice_get xs k ≡ Some item
+  pub holds : R item y
 
-beside : {A B : Type 0} (R : A → B → Type 0) (xs : List A) (ys : List B) (k : ℕ) (y : B) → AllZip R xs ys → slice_get ys k ≡ Some y → Beside R xs k y
+pub beside : {A B : Type 0} (R : A → B → Type 0) (xs : List A) (ys : List B) (k : ℕ) (y : B) → AllZip R xs ys → slice_get ys k ≡ Some y → Beside R xs k y
 beside R [] [] k y h e = absurd (let k : ⊥ = cc in k)
 beside R [] (z ∷ ys) k y h e = absurd h
 beside R (x ∷ xs) [] k y h e = absurd h
@@ -70,15 +84,19 @@ beside R (x ∷ xs) (z ∷ ys) (suc k) y h e =
     let r = beside R xs ys k y h.1 e in
     record { item = r.item; there = r.there; holds = r.holds }
 
-ready_at : (c : Scope) (signals : List Identifier) (ss : List DraftSignal) (is : List Input) (k : ℕ) (i : Input) → AreReady c signals ss is → slice_get is k ≡ Some i → IsReadyInput c signals ss i
-ready_at c signals ss [] k i h e = absurd (let k : ⊥ = cc in k)
-ready_at c signals ss (j ∷ is) zero i h e = let f : j ≡ i = cc in subst (IsReadyInput c signals ss) f h.0
-ready_at c signals ss (j ∷ is) (suc k) i h e = ready_at c signals ss is k i h.1 e
+first_of : (b : Bool) → b && true ≡ true → b ≡ true
+first_of true e = refl
+first_of false e = absurd (let k : ⊥ = cc in k)
 
-all_ready_at : (c : Scope) (signals : List Identifier) (ss : List DraftSignal) (iss : List (List Input)) (k : ℕ) (is : List Input) → AllReady c signals ss iss → slice_get iss k ≡ Some is → AreReady c signals ss is
-all_ready_at c signals ss [] k i h e = absurd (let k : ⊥ = cc in k)
-all_ready_at c signals ss (js ∷ iss) zero is h e = let f : js ≡ is = cc in subst (AreReady c signals ss) f h.0
-all_ready_at c signals ss (js ∷ iss) (suc k) is h e = all_ready_at c signals ss iss k is h.1 e
+ready_at : (c : Scope) (is : List Input) (k : ℕ) (i : Input) → AreReady c is → slice_get is k ≡ Some i → IsReadyInput c i
+ready_at c [] k i h e = absurd (let k : ⊥ = cc in k)
+ready_at c (j ∷ is) zero i h e = let f : j ≡ i = cc in subst (IsReadyInput c) f h.0
+ready_at c (j ∷ is) (suc k) i h e = ready_at c is k i h.1 e
+
+all_ready_at : (c : Scope) (iss : List (List Input)) (k : ℕ) (is : List Input) → AllReady c iss → slice_get iss k ≡ Some is → AreReady c is
+all_ready_at c [] k i h e = absurd (let k : ⊥ = cc in k)
+all_ready_at c (js ∷ iss) zero is h e = let f : js ≡ is = cc in subst (AreReady c) f h.0
+all_ready_at c (js ∷ iss) (suc k) is h e = all_ready_at c iss k is h.1 e
 
 -- ---- initial values
 
@@ -130,152 +148,261 @@ starts_set (v ∷ vs) x h = by_initial v.initial refl (λ e. later (starts_set v
         })
         (λ f. more (ap (λ t. t || sets_in (flat_map initial_sets vs) x) (sym f) ∙ ap (λ (o : Option Constant). sets_in (cond (is_some o) (sets v.name.name ∷ []) [] ++ flat_map initial_sets vs) x) (sym e) ∙ h))
 
-literal_sort : (l : literal.Literal) → sort_of (literal_value l) ≡ Integer
-literal_sort (literals.Integer z) = refl
+-- ---- initial values have their sorts
 
-starts_right : (s : tree_sort.Sort) (o : Option Constant) → IfSome (option_map constant_value o) (λ x. sort_of x ≡ sort_of_tree s)
-starts_right s None = tt
-starts_right tree_sorts.Integer (Some k) = literal_sort k.value
+literal_sorted : (l : literal.Literal) → sort_of (literal_value l) ≡ sort_of_tree (literal_sort l)
+literal_sorted (literals.Integer z) = refl
+literal_sorted (literals.Boolean b) = refl
 
-all_start_right : (vs : List Variable) → All StartsRight (map drafted vs)
-all_start_right [] = All-nil StartsRight
-all_start_right (v ∷ vs) = All-cons StartsRight (drafted v) (map drafted vs) (starts_right v.sort v.initial) (all_start_right vs)
+sorts_alike : (s r : tree_sort.Sort) → same_sort s r ≡ true → r ≡ s
+sorts_alike tree_sorts.Integer tree_sorts.Integer e = refl
+sorts_alike tree_sorts.Integer tree_sorts.Boolean e = absurd (let k : ⊥ = cc in k)
+sorts_alike tree_sorts.Boolean tree_sorts.Integer e = absurd (let k : ⊥ = cc in k)
+sorts_alike tree_sorts.Boolean tree_sorts.Boolean e = refl
 
--- ---- signals
+starts_right : (s : tree_sort.Sort) (o : Option Constant) → wrong_constant s o ≡ [] → IfSome (option_map constant_value o) (λ x. sort_of x ≡ sort_of_tree s)
+starts_right s None e = tt
+starts_right s (Some k) e = literal_sorted k.value ∙ ap sort_of_tree (sorts_alike s (literal_sort k.value) (passed (same_sort s (literal_sort k.value)) k.at e))
 
-same_parameters : (o : Option DraftSignal) → parameters_of o ≡ option_map_or (λ (s : DraftSignal). s.parameters) o []
-same_parameters None = refl
-same_parameters (Some s) = refl
+all_start_right : (vs : List Variable) → flat_map wrong_initial vs ≡ [] → All StartsRight (map drafted vs)
+all_start_right [] e = All-nil StartsRight
+all_start_right (v ∷ vs) e =
+    All-cons StartsRight (drafted v) (map drafted vs) (starts_right v.sort v.initial (nil_front (wrong_initial v) (flat_map wrong_initial vs) e)) (all_start_right vs (nil_back (wrong_initial v) (flat_map wrong_initial vs) e))
 
-integers_of : (ss : List DraftSignal) (n : ℕ) → All HasFew ss → All (λ s. s ≡ Integer) (parameters_at ss n)
-integers_of ss n h = by_signal (slice_get ss n) refl
+-- ---- what waits and what is saved is there
+
+trigger_params : (c : Scope) (id : Identifier) → trigger_parameters (drafted_signals c.block) (trigger_of c id) ≡ trigger_sorts c id
+trigger_params c id = by_number (number_of (signal_names c.block) id.name) refl
   where
-    by_signal : (o : Option DraftSignal) → slice_get ss n ≡ o → All (λ s. s ≡ Integer) (option_map_or (λ (s : DraftSignal). s.parameters) o [])
-    by_signal None e = All-nil (λ s. s ≡ Integer)
-    by_signal (Some s) e = (all_at HasFew ss n s h e).1
+    by_number : (o : Option ℕ) → number_of (signal_names c.block) id.name ≡ o → trigger_parameters (drafted_signals c.block) (trigger_with o (number_or_zero (number_of (timers_of c.process) id.name))) ≡ trigger_sorts c id
+    by_number None e = sym (ap (map sort_of_tree) (unsigned_sorts c.block id.name e))
+    by_number (Some v) e = ap (λ o. parameters_of (slice_get (drafted_signals c.block) (number_or_zero o))) (sym e) ∙ signal_sorted c.block id.name (subst IsSome (sym e) refl)
 
-signal_there : (signals : List Identifier) (x : List ℕ) → IsSome (number_of signals x) → number_or_zero (number_of signals x) < length signals
-signal_there signals x h = by_number (number_of signals x) refl h
+is_there : (c : Scope) (ss : List DraftSignal) (d : DraftProcess) (id : Identifier) → length ss ≡ length (signal_names c.block) → length d.timers ≡ length (timers_of c.process) → IsTrigger c id → IsThere ss d (trigger_of c id)
+is_there c ss d id e f trigger = by_number (number_of (signal_names c.block) id.name) refl
   where
-    by_number : (o : Option ℕ) → number_of signals x ≡ o → IsSome o → number_or_zero o < length signals
-    by_number None e k = absurd (let k : ⊥ = cc in k)
-    by_number (Some v) e k = (number_there signals x v e).within
+    by_number : (o : Option ℕ) → number_of (signal_names c.block) id.name ≡ o → IsThere ss d (trigger_with o (number_or_zero (number_of (timers_of c.process) id.name)))
+    by_number None g = let h = number_small (λ (n : Identifier). same_name id.name n.name) (timers_of c.process) (trigger g) in omega (arith, f, h)
+    by_number (Some v) g = let h = (number_there (signal_names c.block) id.name v g).within in omega (arith, e, h)
 
--- ---- the process
+all_there : (c : Scope) (ss : List DraftSignal) (d : DraftProcess) (ids : List Identifier) → length ss ≡ length (signal_names c.block) → length d.timers ≡ length (timers_of c.process) → Each (IsTrigger c) ids → All (IsThere ss d) (map (trigger_of c) ids)
+all_there c ss d [] e f h = All-nil (IsThere ss d)
+all_there c ss d (id ∷ ids) e f h = All-cons (IsThere ss d) (trigger_of c id) (map (trigger_of c) ids) (is_there c ss d id e f h.0) (all_there c ss d ids e f h.1)
 
-module _ (p : PlainProcess) (signals : List Identifier) (ss : List DraftSignal) (ranges : List ℕ) (d : DraftProcess)
-    (ready : IsReadyProcess signals ss p) (few : AreReadySignals signals ss) (settled : AreSettled p ranges)
-    (distinct : repeats [] (variable_names p) ≡ []) (variables : d.variables ≡ map drafted (variables_of p))
-    (start : KeepsRules (scope_of p) d.variables [] (initial_set d.variables) (start_piece p) d.start)
-    (have_sets : sets_of d.states ≡ ranges)
-    (have_inputs : AllZip (AreInputsOf (scope_of p) d.variables signals ss) (inputs_by_state p) d.states) where
-  numbered : AreNumbered (variable_names p)
-  numbered = are_numbered (variable_names p) distinct
+all_saved : (c : Scope) (ss : List DraftSignal) (d : DraftProcess) (idss : List (List Identifier)) (qs : List DraftState) → length ss ≡ length (signal_names c.block) → length d.timers ≡ length (timers_of c.process)
+    → Each (Each (IsTrigger c)) idss → AllZip (SavesAll c) idss qs → All (HasSaves ss d) qs
+all_saved c ss d [] [] e f h z = All-nil (HasSaves ss d)
+all_saved c ss d [] (q ∷ qs) e f h z = absurd z
+all_saved c ss d (ids ∷ idss) [] e f h z = absurd z
+all_saved c ss d (ids ∷ idss) (q ∷ qs) e f h z =
+    All-cons (HasSaves ss d) q qs (subst (All (IsThere ss d)) (sym z.0) (all_there c ss d ids e f h.0)) (all_saved c ss d idss qs e f h.1 z.1)
+
+-- ---- one transition
+
+-- what is known of a transition of a draft
+record IsKnownTransition (c : Scope) (d : Draft) (t : Transition) : Type 0 where
+  signals : d.signals ≡ drafted_signals c.block
+  variables : t.process.variables ≡ drafted_variables c.process
+  timers : length t.process.timers ≡ length (timers_of c.process)
+  states : length t.process.states ≡ length (states_of c.process)
+  trigger : HasTrigger d.signals t.process t.trigger
+  initial : All StartsRight t.process.variables
+  saves : All (HasSaves d.signals t.process) t.process.states
+  limits : KeepsProcessLimits t.process
+
+stands_in : (c : Scope) (d : Draft) (t : Transition) → IsKnownTransition c d t → Stands c d t
+stands_in c d t h = record {
+  sorted = λ n r some e. subst (λ (xs : List DraftVariable). sort_at xs (number_or_zero (variable_at c n)) ≡ sort_of_tree r ∷ []) (sym h.variables) (variable_sorted (variables_of c.process) n.name r some e);
+  variables = λ n some.
+      let l = number_small (λ (id : Identifier). same_name n.name id.name) (variable_names c.process) some in
+      let e = ap length h.variables in
+      let f = length-map (variables_of c.process) drafted in
+      let g = length-map (variables_of c.process) (λ (v : Variable). v.name) in
+      omega (arith, l, e, f, g);
+  states = λ n some.
+      let l = number_small (λ (id : Identifier). same_name n.name id.name) (states_of c.process) some in
+      let e = h.states in
+      omega (arith, l, e);
+  timers = λ n some.
+      let l = number_small (λ (id : Identifier). same_name n.name id.name) (timers_of c.process) some in
+      let e = h.timers in
+      omega (arith, l, e);
+  signals = λ n some.
+      let l = number_small (λ (id : Identifier). same_name n.name id.name) (signal_names c.block) some in
+      let e = ap length h.signals in
+      let f = length-map (signals_of c.block) drafted_signal in
+      let g = length-map (signals_of c.block) (λ s. s.name) in
+      omega (arith, l, e, f, g);
+  parameters = λ n some. ap (λ (ss : List DraftSignal). parameters_of (slice_get ss (number_or_zero (signal_at c n)))) h.signals ∙ signal_sorted c.block n.name some;
+}
+
+transition_valid : (c : Scope) (d : Draft) (t : Transition) (q : Piece) (sorts : List tree_sort.Sort) (is : List PlainStimulus) (at : ℕ) → IsKnownTransition c d t → NamedPiece c q → IsSmall q → t.parameters ≡ map sort_of_tree sorts
+    → length q.places ≤ length sorts → flat_map (wrong_place (variables_of c.process)) (zip sorts q.places) ≡ [] → FineText c is at q.text → Reaching c d t is
+    → ReadText c t.process.states (places_set c t.entry q.places) q.text → IsPieceOf c t.parameters t.entry q t.piece → IsValidTransition d t
+transition_valid c d t q sorts is at known named small params le placed fine reaching read made =
+    let stands = stands_in c d t known in
+    let l = ap length params in
+    let k = length-map sorts sort_of_tree in
+    let counted = counted_text c d.signals stands.parameters q.text named.text fine.sorted in
+    let closes = piece_closes c d.signals t.process.variables t.parameters stands.sorted q t.entry named counted (omega (arith, l, k, le)) in
+    let code = made.code in
+    let facts : t.piece.facts ≡ facts_from d.signals t.process.variables t.parameters [] t.entry (piece_code c q) =
+    made.facts ∙ ap (λ (ss : List DraftSignal). facts_from ss (drafted_variables c.process) t.parameters [] t.entry (piece_code c q)) (sym known.signals)
+    ∙ ap (λ (xs : List DraftVariable). facts_from d.signals xs t.parameters [] t.entry (piece_code c q)) (sym known.variables) in
+    let b = made.certificate.budget in
+    let dp = made.certificate.depth in
+    let ef = made.certificate.effects in
+    let right = piece_right c d t stands is reaching q sorts t.entry named le params placed fine.sorted fine.divided fine.received fine.single read in
+    valid d t (record {
+      facts = facts ∙ ap (λ (code : List Instruction). facts_from d.signals t.process.variables t.parameters [] t.entry code) (sym code);
+      right = subst (λ (code : List Instruction). AreRight d t [] t.entry code) (sym code) right;
+      straight = subst IsStraight (sym code) closes.straight;
+      budget = b ∙ sym closes.cost_is ∙ ap length (sym code);
+      depth = dp ∙ sym closes.depth_is ∙ ap (λ fs. greatest (depths fs)) (sym facts);
+      effects = ef ∙ sym closes.effects_is ∙ ap (sum_by effects_of) (sym code);
+      initial = λ _. known.initial;
+      trigger = known.trigger;
+      saves = λ _. known.saves;
+      process_limits = λ _. known.limits;
+      piece_limits = record {
+        depth = omega (arith, dp, small.depth);
+        effects = omega (arith, ef, small.effects);
+        size = let e = ap length code in omega (arith, e, closes.cost_is, small.budget);
+      };
+    })
+
+-- ---- a process
+
+module _ (c : Scope) (n : ℕ) (d : DraftProcess) (fine : FineProcess c) (ready : IsReadyProcess c) (made : IsProcessOf c.block c.process d)
+    (numbers : AreNumbered (process_names c.block)) (here : slice_get (process_names c.block) n ≡ Some c.process.name) (paths : Each (IsKnownPath c.block) (paths_of c.block)) where
+  numbered : AreNumbered (variable_names c.process)
+  numbered = are_numbered (variable_names c.process) fine.distinct
+
+  abbrev ranges : List ℕ
+  ranges = sets_of d.states
 
   same_set : (q : ℕ) (s : DraftState) → slice_get d.states q ≡ Some s → slice_get ranges q ≡ Some s.set.0
-  same_set q s at =
-      ap (λ l. slice_get l q) (sym have_sets) ∙ slice_get-map (λ (s : DraftState). s.set.0) d.states q ∙ ap (option_map (λ (s : DraftState). s.set.0)) at
+  same_set q s at = slice_get-map (λ (s : DraftState). s.set.0) d.states q ∙ ap (option_map (λ (s : DraftState). s.set.0)) at
 
-  declared : (q set v : ℕ) → slice_get ranges q ≡ Some set → bit_at set v ≡ 1 → v < length (variable_names p)
+  declared : (q set v : ℕ) → slice_get ranges q ≡ Some set → bit_at set v ≡ 1 → v < length (variable_names c.process)
   declared q set v at has =
-      let lt = all_at (λ set. (v : ℕ) → bit_at set v ≡ 1 → v < length (variables_of p)) ranges q set settled.declared at v has in
-      let e = length-map (variables_of p) (λ (v : Variable). v.name) in
+      let lt = all_at (λ set. (v : ℕ) → bit_at set v ≡ 1 → v < length (variables_of c.process)) ranges q set made.settled.declared at v has in
+      let e = length-map (variables_of c.process) (λ (v : Variable). v.name) in
       omega (arith, lt, e)
 
-  count : length d.states ≡ length (states_of p)
-  count = sym (length-map d.states (λ (s : DraftState). s.set.0)) ∙ ap length have_sets ∙ settled.count
+  count : length d.states ≡ length (states_of c.process)
+  count = sym (length-map d.states (λ (s : DraftState). s.set.0)) ∙ made.settled.count
 
-  start_holds : Holds (scope_of p) 0 numbered (flat_map initial_sets (variables_of p)) (initial_set d.variables)
+  timer_count : length d.timers ≡ length (timers_of c.process)
+  timer_count = ap length made.timers ∙ length-map (timers_of c.process) (λ (id : Identifier). id.name)
+
+  signal_count : (draft : Draft) → Declares c.block draft → length draft.signals ≡ length (signal_names c.block)
+  signal_count draft e =
+      let a = ap length e.signals in
+      let f = length-map (signals_of c.block) drafted_signal in
+      let g = length-map (signals_of c.block) (λ s. s.name) in
+      omega (arith, a, f, g)
+
+  abbrev transition : Option Trigger → List Sort → VariableSet → DraftPiece → Transition
+  transition trigger ps entry piece = record { number = n; process = d; trigger = trigger; parameters = ps; entry = entry; piece = piece }
+
+  known_transition : (draft : Draft) (trigger : Option Trigger) (ps : List Sort) (entry : VariableSet) (piece : DraftPiece) → Declares c.block draft → HasTrigger draft.signals d trigger → IsKnownTransition c draft (transition trigger ps entry piece)
+  known_transition draft trigger ps entry piece e waits =
+      let ss = signal_count draft e in
+      let xs = ap length made.variables in
+      let ys = length-map (variables_of c.process) drafted in
+      record {
+        signals = e.signals;
+        variables = made.variables;
+        timers = timer_count;
+        states = count;
+        trigger = waits;
+        initial = subst (All StartsRight) (sym made.variables) (all_start_right (variables_of c.process) fine.initial);
+        saves = all_saved c draft.signals d (saves_by_state c.process) d.states ss timer_count fine.saves made.saves;
+        limits = record {
+          states = omega (arith, count, fine.states);
+          variables = omega (arith, xs, ys, fine.variables);
+          timers = omega (arith, timer_count, fine.timers);
+        };
+      }
+
+  start_holds : Holds c 0 numbered (flat_map initial_sets (variables_of c.process)) (initial_set d.variables)
   start_holds x v at known = ⊎_elim none set known
     where
       none : bit_at 0 v ≡ 1 → Has (initial_set d.variables) v
       none a = absurd (let e = bit_at-zero v in omega (arith, e, a))
 
-      set : sets_in (flat_map initial_sets (variables_of p)) x ≡ true → Has (initial_set d.variables) v
+      set : sets_in (flat_map initial_sets (variables_of c.process)) x ≡ true → Has (initial_set d.variables) v
       set b =
-          let r = starts_set (variables_of p) x b in
-          let e : number_of (variable_names p) r.name.name ≡ Some r.number = numbered r.number r.name r.there in
-          let f : number_of (variable_names p) x ≡ number_of (variable_names p) r.name.name = number_alike (variable_names p) x r.name.name r.same in
+          let r = starts_set (variables_of c.process) x b in
+          let e : number_of (variable_names c.process) r.name.name ≡ Some r.number = numbered r.number r.name r.there in
+          let f : number_of (variable_names c.process) x ≡ number_of (variable_names c.process) r.name.name = number_alike (variable_names c.process) x r.name.name r.same in
           let n : r.number ≡ v = cc in
-          subst (Has (initial_set d.variables)) n (subst (λ xs. Has (initial_set xs) r.number) (sym variables) r.set)
+          subst (Has (initial_set d.variables)) n (subst (λ xs. Has (initial_set xs) r.number) (sym made.variables) r.set)
 
-  start_placed : (draft : Draft) → IsPlaced (scope_of p) (start_piece p) (initial_set d.variables) draft d None
-  start_placed draft = record {
-    states = count;
-    sets = settled_read (scope_of p) 0 numbered ranges d.states declared same_set (flat_map initial_sets (variables_of p)) p.start.text (initial_set d.variables) ready.start.text start_holds
-        (λ events end walk v id. settled.start.reads events end v id walk) settled.start.states;
-    initial = λ _. subst (All StartsRight) (sym variables) (all_start_right (variables_of p));
-    signal = tt;
-    limits = λ _. record {
-      states = omega (arith, count, ready.states);
-      variables = let e = ap length variables in let f = length-map (variables_of p) drafted in omega (arith, e, f, ready.variables);
-    };
-  }
+  process_count : (draft : Draft) → Declares c.block draft → length draft.processes ≡ length (process_names c.block)
+  process_count draft e =
+      let f = e.processes in
+      let g = length-map (processes_of c.block) (λ p. p.name) in
+      omega (arith, f, g)
 
-  -- input i of state q
-  input_placed : (draft : Draft) (st : DraftState) (i : Input) (t : Trigger) → draft.signals ≡ ss → t ≡ waits_for signals i.stimulus.name → IsReadyInput (scope_of p) signals ss i → IsSettled p ranges st.set.0 (input_transition i) → IsPlaced (scope_of p) (input_piece i) st.set draft d (Some t)
-  input_placed draft st i t e w r s =
-      let lt = signal_there signals i.stimulus.name.name r.signal in
-      let n = few.count in
-      let holds : Holds (scope_of p) st.set.0 numbered [] st.set = λ x v at known. ⊎_elim (λ a. a) (λ b. absurd (let k : ⊥ = cc in k)) known in
-      record {
-        states = count;
-        sets = settled_read (scope_of p) st.set.0 numbered ranges d.states declared same_set (map (λ id. sets id.name) (place_names i.stimulus.places)) i.text (places_set (scope_of p) st.set i.stimulus.places) r.named.text
-            (places_hold (scope_of p) st.set.0 numbered i.stimulus.places [] st.set holds)
-            (λ events end walk v id. s.reads events end v id walk) s.states;
-        initial = λ h. absurd (let k : ⊥ = cc in k);
-        signal = subst (λ t. HasTrigger draft.signals (Some t)) (sym w) (subst (λ (l : List DraftSignal). number_or_zero (number_of signals i.stimulus.name.name) < length l) (sym e) (omega (arith, lt, n)));
-        limits = λ h. absurd (let k : ⊥ = cc in k);
-      }
+  start_valid : (draft : Draft) → Declares c.block draft → IsValidTransition draft (start_of n d)
+  start_valid draft e =
+      transition_valid c draft (transition None [] (initial_set d.variables) d.start) (start_piece c.process) [] [] c.process.start.at
+      (known_transition draft None [] (initial_set d.variables) d.start e tt) ready.start ready.small refl (omega arith) refl fine.start
+      (λ to x some arr sure. arriving c n numbers here paths draft e.routes (process_count draft e) [] None (λ s h. absurd (let k : ⊥ = cc in k)) to x arr sure)
+      (settled_read c 0 numbered ranges d.states declared same_set (flat_map initial_sets (variables_of c.process)) c.process.start.text (initial_set d.variables) ready.start.text start_holds
+      (λ events end walk v id. made.settled.start.reads events end v id walk) made.settled.start.states)
+      made.start
 
-  input_valid : (draft : Draft) → draft.signals ≡ ss → (q : ℕ) (st : DraftState) (k : ℕ) (x : DraftInput) → slice_get d.states q ≡ Some st → slice_get st.inputs k ≡ Some x → IsValidTransition draft (input_of draft.signals d st x)
+  -- input i, in a state that is entered with this set
+  one_input : (draft : Draft) → Declares c.block draft → (set : VariableSet) (i : Input) (piece : DraftPiece) → FineInput c i → IsReadyInput c i → IsSettled c.process ranges set.0 (input_transition i)
+      → IsPieceOf c (trigger_sorts c i.stimulus.name) set (input_piece i) piece → IsValidTransition draft (transition (Some (trigger_of c i.stimulus.name)) (trigger_sorts c i.stimulus.name) set piece)
+  one_input draft e set i piece f r settled is =
+      let id = i.stimulus.name in
+      let sorts = parameter_sorts c.block id.name in
+      let l = length-map sorts sort_of_tree in
+      let le = r.places in
+      let holds : Holds c set.0 numbered [] set = λ x v at known. ⊎_elim (λ a. a) (λ b. absurd (let k : ⊥ = cc in k)) known in
+      transition_valid c draft (transition (Some (trigger_of c id)) (trigger_sorts c id) set piece) (input_piece i) sorts (i.stimulus ∷ []) i.at
+      (known_transition draft (Some (trigger_of c id)) (trigger_sorts c id) set piece e (is_there c draft.signals d id (signal_count draft e) timer_count f.trigger)) r.named r.small refl (omega (arith, l, le))
+      (nil_back (too_many_places sorts i.stimulus) (flat_map (wrong_place (variables_of c.process)) (zip sorts i.stimulus.places)) f.placed) f.text
+      (λ to x some arr sure. arriving c n numbers here paths draft e.routes (process_count draft e) (i.stimulus ∷ []) (Some (trigger_of c id))
+      (λ s h. answers_input c n numbers here paths draft e.routes (process_count draft e) i.stimulus s f.trigger (first_of (answers c.block c.process s id.name) h)) to x arr sure)
+      (settled_read c set.0 numbered ranges d.states declared same_set (map (λ id. sets id.name) (place_names i.stimulus.places)) i.text (places_set c set i.stimulus.places) r.named.text
+      (places_hold c set.0 numbered i.stimulus.places [] set holds) (λ events end walk v id. settled.reads events end v id walk) settled.states)
+      is
+
+  input_valid : (draft : Draft) → Declares c.block draft → (q : ℕ) (st : DraftState) (k : ℕ) (x : DraftInput) → slice_get d.states q ≡ Some st → slice_get st.inputs k ≡ Some x → IsValidTransition draft (input_of draft.signals n d st x)
   input_valid draft e q st k x at has =
-      let b = beside (AreInputsOf (scope_of p) d.variables signals ss) (inputs_by_state p) d.states q st have_inputs at in
-      let j = beside (IsInputOf (scope_of p) d.variables signals ss st.set) b.item st.inputs k x b.holds has in
+      let b = beside (AreInputsOf c) (inputs_by_state c.process) d.states q st made.inputs at in
+      let j = beside (IsInputOf c st.set) b.item st.inputs k x b.holds has in
       let i = j.item in
-      let n = number_or_zero (number_of signals i.stimulus.name.name) in
-      let r = ready_at (scope_of p) signals ss b.item k i (all_ready_at (scope_of p) signals ss (inputs_by_state p) q b.item ready.inputs b.there) j.there in
-      let g = beside (λ (set : ℕ) (is : List Input). All (λ i. IsSettled p ranges set (input_transition i)) is) ranges (inputs_by_state p) q b.item settled.inputs b.there in
-      let f = same_set q st at in
-      let same : g.item ≡ st.set.0 = cc (f, g.there) in
-      let s = subst (λ set. IsSettled p ranges set (input_transition i)) same (all_at (λ i. IsSettled p ranges g.item (input_transition i)) b.item k i g.holds j.there) in
-      let params : parameters_at ss n ≡ trigger_parameters draft.signals x.trigger = sym (ap (trigger_parameters draft.signals) j.holds.trigger ∙ ap (λ (l : List DraftSignal). parameters_of (slice_get l n)) e ∙ same_parameters (slice_get ss n)) in
-      let drafted_all = are_drafted (scope_of p) (variables_of p) d.variables refl variables in
-      let valid = keeps_rules (scope_of p) d.variables (parameters_at ss n) st.set (input_piece i) drafted_all (integers_of ss n few.parameters) r.named r.places r.small x.piece j.holds.piece draft d (Some x.trigger) refl (input_placed draft st i x.trigger e j.holds.trigger r s) in
-      subst (λ (ps : List Sort). IsValidTransition draft (record { process = d; trigger = Some x.trigger; parameters = ps; entry = st.set; piece = x.piece })) params valid
+      let id = i.stimulus.name in
+      let r = ready_at c b.item k i (all_ready_at c (inputs_by_state c.process) q b.item ready.inputs b.there) j.there in
+      let f = each_at (FineInput c) b.item k i (each_at (Each (FineInput c)) (inputs_by_state c.process) q b.item fine.inputs b.there) j.there in
+      let g = beside (λ (set : ℕ) (is : List Input). All (λ i. IsSettled c.process ranges set (input_transition i)) is) ranges (inputs_by_state c.process) q b.item made.settled.inputs b.there in
+      let h = same_set q st at in
+      let same : g.item ≡ st.set.0 = cc (h, g.there) in
+      let s = subst (λ set. IsSettled c.process ranges set (input_transition i)) same (all_at (λ i. IsSettled c.process ranges g.item (input_transition i)) b.item k i g.holds j.there) in
+      let valid = one_input draft e st.set i x.piece f r s j.holds.piece in
+      let params : trigger_sorts c id ≡ trigger_parameters draft.signals (trigger_of c id) = sym (ap (λ (ss : List DraftSignal). trigger_parameters ss (trigger_of c id)) e.signals ∙ trigger_params c id) in
+      let counted = subst (λ (ps : List Sort). IsValidTransition draft (transition (Some (trigger_of c id)) ps st.set x.piece)) params valid in
+      subst (λ (w : Trigger). IsValidTransition draft (transition (Some w) (trigger_parameters draft.signals w) st.set x.piece)) (sym j.holds.trigger) counted
 
-  pub valid_process : IsValidProcess ss d
+  pub valid_process : IsValidProcess c.block n d
   valid_process draft Start zero t e at =
-      let f : start_of d ≡ t = cc in
-      subst (IsValidTransition draft) f (start draft d None refl (start_placed draft))
+      let f : start_of n d ≡ t = cc in
+      subst (IsValidTransition draft) f (start_valid draft e)
   valid_process draft Start (suc i) t e at = absurd (let k : ⊥ = cc in k)
   valid_process draft (State q) i t e at = by_state (slice_get d.states q.0) refl at
     where
-      by_state : (o : Option DraftState) → slice_get d.states q.0 ≡ o → input_at draft.signals d i o ≡ Some t → IsValidTransition draft t
+      by_state : (o : Option DraftState) → slice_get d.states q.0 ≡ o → input_at draft.signals n d i o ≡ Some t → IsValidTransition draft t
       by_state None f h = absurd (let k : ⊥ = cc in k)
       by_state (Some st) f h = by_input (slice_get st.inputs i) refl h
         where
-          by_input : (o : Option DraftInput) → slice_get st.inputs i ≡ o → option_map (input_of draft.signals d st) o ≡ Some t → IsValidTransition draft t
+          by_input : (o : Option DraftInput) → slice_get st.inputs i ≡ o → option_map (input_of draft.signals n d st) o ≡ Some t → IsValidTransition draft t
           by_input None g h = absurd (let k : ⊥ = cc in k)
           by_input (Some x) g h =
-              let same : input_of draft.signals d st x ≡ t = cc in
+              let same : input_of draft.signals n d st x ≡ t = cc in
               subst (IsValidTransition draft) same (input_valid draft e q.0 st i x f g)
-
--- ---- the same things, as the compiler has them and as the text has them
-
-pub same_scope : (vs ws ss ts : List Identifier) → vs ≡ ws → ss ≡ ts → (let c : Scope = record { variables = vs; states = ss } in c) ≡ (let c : Scope = record { variables = ws; states = ts } in c)
-same_scope vs ws ss ts e f = cc
-
-pub start_keeps : (c c2 : Scope) (xs xs2 : List DraftVariable) (entry : VariableSet) (q q2 : Piece) (d : DraftPiece) → c ≡ c2 → xs ≡ xs2 → entry ≡ initial_set xs2 → q ≡ q2 → KeepsRules c xs [] entry q d → KeepsRules c2 xs2 [] (initial_set xs2) q2 d
-start_keeps c c2 xs xs2 entry q q2 d e f g h keeps =
-    subst (λ (q : Piece). KeepsRules c2 xs2 [] (initial_set xs2) q d) h
-    (subst (λ (m : VariableSet). KeepsRules c2 xs2 [] m q d) g
-    (subst (λ (xs : List DraftVariable). KeepsRules c2 xs [] entry q d) f
-    (subst (λ (c : Scope). KeepsRules c xs [] entry q d) e keeps)))
-
-pub states_made : (signals : List Identifier) (ss : List DraftSignal) (c c2 : Scope) (xs xs2 : List DraftVariable) (iss jss : List (List Input)) (ds es : List DraftState) → c ≡ c2 → xs ≡ xs2 → iss ≡ jss → ds ≡ es → AllZip (AreInputsOf c xs signals ss) iss ds → AllZip (AreInputsOf c2 xs2 signals ss) jss es
-states_made signals ss c c2 xs xs2 iss jss ds es e f g h made =
-    subst (λ (es : List DraftState). AllZip (AreInputsOf c2 xs2 signals ss) jss es) h
-    (subst (λ (jss : List (List Input)). AllZip (AreInputsOf c2 xs2 signals ss) jss ds) g
-    (subst (λ (xs : List DraftVariable). AllZip (AreInputsOf c2 xs signals ss) iss ds) f
-    (subst (λ (c : Scope). AllZip (AreInputsOf c xs signals ss) iss ds) e made)))

@@ -9,18 +9,19 @@ use Rattle.std.proofs.lemmas.List.Folds.{list_any-append}
 use Rattle.std.proofs.lemmas.Option.{slice_get-get_or}
 use Rattle.std.proofs.lemmas.Nat.Bits.{bit_at_or, bit_at-lt, bit_at-pow_same}
 use Rattle.sdl_tree.specs.declared.expression.Identifier.{Identifier}
-use Rattle.sdl_tree.specs.declared.tree.End.TheVariants.{NextState}
-use Rattle.sdl_tree.specs.Plain.{Tree, number, variable, unary, binary, PlainAssignment, Text, falls, ends, task}
+use Rattle.sdl_tree.specs.declared.tree.Destination.{Destination}
+use Rattle.sdl_tree.specs.declared.tree.End.TheVariants.{NextState, Stop}
+use Rattle.sdl_tree.specs.Plain.{Tree, number, truth, variable, unary, binary, PlainAssignment, PlainSending, PlainAction, task, output, set_timer, reset_timer, Text, falls, ends, does}
 use Rattle.turn_code.specs.declared.variable_set.VariableSet.{VariableSet}
 use Rattle.turn_code.specs.declared.draft.DraftState.{DraftState}
 use Rattle.turn_code.specs.Sets.{Has, IsWithin, with_variable}
-use Rattle.sdl_tables.specs.Names.{same_name, is_in, number_of}
-use Rattle.sdl_rules.specs.Paths.{Event, reads, sets, assignment_events, IsWalk, reads_first, sets_in}
+use Rattle.sdl_tables.specs.Names.{same_name, is_in, number_of, variable_names, states_of}
+use Rattle.sdl_rules.specs.Paths.{Event, reads, sets, tree_events, assignment_events, sending_events, action_events, IsWalk, reads_first, sets_in}
 use Rattle.sdl_rules.specs.Sound.{tree_names, place_names}
 use Rattle.sdl_compile.specs.Act.{Scope, variable_at, state_at}
 use Rattle.sdl_compile.specs.Code.{number_or_zero}
-use Rattle.sdl_compile.specs.Named.{NamedTree, NamedTasks, NamedText}
-use Rattle.sdl_compile.specs.Reads.{ReadTree, ReadTasks, tasks_set, ReadText, places_set}
+use Rattle.sdl_compile.specs.Named.{NamedTree, NamedTrees, NamedTasks, NamedSendings, NamedAction, NamedText}
+use Rattle.sdl_compile.specs.Reads.{ReadTree, ReadTrees, ReadTasks, ReadSendings, ReadAction, tasks_set, action_set, ReadText, places_set}
 use Rattle.sdl_compile.proofs.Numbers.{AreNumbered, number_alike, number_there, same_other_way}
 
 -- ---- sets
@@ -84,9 +85,10 @@ pub record SomeWalk (t : Text) : Type 0 where
 some_walk : (t : Text) → SomeWalk t
 some_walk falls = record { events = []; end = None; walk = (refl, refl) }
 some_walk (ends (NextState n)) = record { events = []; end = Some n.state.name; walk = (refl, refl) }
-some_walk (task at ts rest) =
+some_walk (ends (Stop at)) = record { events = []; end = None; walk = (refl, refl) }
+some_walk (does a rest) =
     let r = some_walk rest in
-    record { events = flat_map assignment_events ts ++ r.events; end = r.end; walk = (r.events, refl, r.walk) }
+    record { events = action_events a ++ r.events; end = r.end; walk = (r.events, refl, r.walk) }
 
 -- of two tests one of which passes, the second does where the first doesn't
 last : (t : Bool) → false || (t || false) ≡ true → t ≡ true
@@ -100,10 +102,10 @@ pub by_bool : {P : Type 0} (b : Bool) → (b ≡ true → P) → (b ≡ false �
 by_bool true f g = f refl
 by_bool false f g = g refl
 
-module _ (c : Scope) (start : ℕ) (numbered : AreNumbered c.variables) where
+module _ (c : Scope) (start : ℕ) (numbered : AreNumbered (variable_names c.process)) where
   -- the set has each variable that was set at the start or that the events set
   abbrev pub Holds : List Event → VariableSet → Type 0
-  Holds before m = (x : List ℕ) (v : ℕ) → number_of c.variables x ≡ Some v → (bit_at start v ≡ 1) ⊎ (sets_in before x ≡ true) → Has m v
+  Holds before m = (x : List ℕ) (v : ℕ) → number_of (variable_names c.process) x ≡ Some v → (bit_at start v ≡ 1) ⊎ (sets_in before x ≡ true) → Has m v
 
   holds_reads : (before : List Event) (m : VariableSet) (ids : List Identifier) → Holds before m → Holds (before ++ map (λ id. reads id.name) ids) m
   holds_reads before m ids h x v at known =
@@ -116,7 +118,7 @@ module _ (c : Scope) (start : ℕ) (numbered : AreNumbered c.variables) where
     where
       same : same_name x n.name ≡ true → Has (with_variable m (number_or_zero (variable_at c n))) v
       same e =
-          let f : number_of c.variables n.name ≡ Some v = sym (number_alike c.variables x n.name e) ∙ at in
+          let f : number_of (variable_names c.process) n.name ≡ Some v = sym (number_alike (variable_names c.process) x n.name e) ∙ at in
           subst (Has (with_variable m (number_or_zero (variable_at c n)))) (ap number_or_zero f) (has_new m (number_or_zero (variable_at c n)))
 
       was_set : sets_in (before ++ sets n.name ∷ []) x ≡ true → Has (with_variable m (number_or_zero (variable_at c n))) v
@@ -127,7 +129,7 @@ module _ (c : Scope) (start : ℕ) (numbered : AreNumbered c.variables) where
 
   -- each of these names that isn't set before was set at the start
   abbrev Wants : List Event → List Identifier → Type 0
-  Wants before ids = (v : ℕ) (id : Identifier) → slice_get c.variables v ≡ Some id → sets_in before id.name ≡ false → is_in ids id.name ≡ true → bit_at start v ≡ 1
+  Wants before ids = (v : ℕ) (id : Identifier) → slice_get (variable_names c.process) v ≡ Some id → sets_in before id.name ≡ false → is_in ids id.name ≡ true → bit_at start v ≡ 1
 
   name_read : (before : List Event) (m : VariableSet) (n : Identifier) → IsSome (variable_at c n) → Holds before m → Wants before (n ∷ []) → Has m (number_or_zero (variable_at c n))
   name_read before m n named h w = by_number (variable_at c n) refl named
@@ -135,7 +137,7 @@ module _ (c : Scope) (start : ℕ) (numbered : AreNumbered c.variables) where
       by_number : (o : Option ℕ) → variable_at c n ≡ o → IsSome o → Has m (number_or_zero o)
       by_number None e k = absurd (let k : ⊥ = cc in k)
       by_number (Some v) e k =
-          let t = number_there c.variables n.name v e in
+          let t = number_there (variable_names c.process) n.name v e in
           let at = numbered v t.id t.there in
           by_bool (sets_in before t.id.name)
           (λ f. h t.id.name v at (inr f))
@@ -143,6 +145,7 @@ module _ (c : Scope) (start : ℕ) (numbered : AreNumbered c.variables) where
 
   tree_read : (t : Tree) (before : List Event) (m : VariableSet) → NamedTree c t → Holds before m → Wants before (tree_names t) → ReadTree c m t
   tree_read (number at k) before m named h w = tt
+  tree_read (truth at b) before m named h w = tt
   tree_read (variable at n) before m named h w = name_read before m n named h w
   tree_read (unary at op t) before m named h w = tree_read t before m named h w
   tree_read (binary at op t u) before m named h w =
@@ -154,7 +157,7 @@ module _ (c : Scope) (start : ℕ) (numbered : AreNumbered c.variables) where
 
   -- what the events read first was set at the start
   abbrev Reads : List Event → Type 0
-  Reads events = (v : ℕ) (id : Identifier) → slice_get c.variables v ≡ Some id → reads_first events id.name ≡ true → bit_at start v ≡ 1
+  Reads events = (v : ℕ) (id : Identifier) → slice_get (variable_names c.process) v ≡ Some id → reads_first events id.name ≡ true → bit_at start v ≡ 1
 
   tasks_read : (ts : List PlainAssignment) (before after : List Event) (m : VariableSet) → NamedTasks c ts → Holds before m → Reads (before ++ (flat_map assignment_events ts ++ after)) → ReadTasks c m ts × Holds (before ++ flat_map assignment_events ts) (tasks_set c m ts)
   tasks_read [] before after m named h r = (tt, subst (λ l. Holds l m) (sym (append-nil before)) h)
@@ -175,6 +178,44 @@ module _ (c : Scope) (start : ℕ) (numbered : AreNumbered c.variables) where
         subst (λ l. Holds l (tasks_set c m2 ts)) (append_assoc before (rs ++ s) fm) rest.1,
       )
 
+  -- an expression reads, and sets nothing
+  one_read : (u : Tree) (before after : List Event) (m : VariableSet) → NamedTree c u → Holds before m → Reads (before ++ (tree_events u ++ after)) → ReadTree c m u
+  one_read u before after m named h r =
+      let names = tree_names u in
+      tree_read u before m named h (λ v id at none among. r v id at (reads_behind before (tree_events u ++ after) id.name none (reads_among names after id.name among)))
+
+  trees_read : (ts : List Tree) (before after : List Event) (m : VariableSet) → NamedTrees c ts → Holds before m → Reads (before ++ (flat_map tree_events ts ++ after)) → ReadTrees c m ts × Holds (before ++ flat_map tree_events ts) m
+  trees_read [] before after m named h r = (tt, subst (λ l. Holds l m) (sym (append-nil before)) h)
+  trees_read (u ∷ ts) before after m named h r =
+      let es = tree_events u in
+      let fm = flat_map tree_events ts in
+      let e : (before ++ es) ++ (fm ++ after) ≡ before ++ ((es ++ fm) ++ after) = append_assoc before es (fm ++ after) ∙ ap (λ l. before ++ l) (sym (append_assoc es fm after)) in
+      let rest = trees_read ts (before ++ es) after m named.1 (holds_reads before m (tree_names u) h) (subst Reads (sym e) r) in (
+        (
+          one_read u before (fm ++ after) m named.0 h (subst Reads (ap (λ l. before ++ l) (append_assoc es fm after)) r),
+          rest.0,
+        ),
+        subst (λ l. Holds l m) (append_assoc before es fm) rest.1,
+      )
+
+  sendings_read : (to : Option Destination) (list : List PlainSending) (before after : List Event) (m : VariableSet) → NamedSendings c to list → Holds before m → Reads (before ++ (flat_map sending_events list ++ after)) → ReadSendings c m list × Holds (before ++ flat_map sending_events list) m
+  sendings_read to [] before after m named h r = (tt, subst (λ l. Holds l m) (sym (append-nil before)) h)
+  sendings_read to (x ∷ list) before after m named h r =
+      let es = sending_events x in
+      let fm = flat_map sending_events list in
+      let e : (before ++ es) ++ (fm ++ after) ≡ before ++ ((es ++ fm) ++ after) = append_assoc before es (fm ++ after) ∙ ap (λ l. before ++ l) (sym (append_assoc es fm after)) in
+      let first = trees_read x.parameters before (fm ++ after) m named.0.parameters h (subst Reads (ap (λ l. before ++ l) (append_assoc es fm after)) r) in
+      let rest = sendings_read to list (before ++ es) after m named.1 first.1 (subst Reads (sym e) r) in (
+        (first.0, rest.0),
+        subst (λ l. Holds l m) (append_assoc before es fm) rest.1,
+      )
+
+  action_read : (a : PlainAction) (before after : List Event) (m : VariableSet) → NamedAction c a → Holds before m → Reads (before ++ (action_events a ++ after)) → ReadAction c m a × Holds (before ++ action_events a) (action_set c m a)
+  action_read (task at ts) before after m named h r = tasks_read ts before after m named h r
+  action_read (output at list to) before after m named h r = sendings_read to list before after m named h r
+  action_read (set_timer at u n) before after m named h r = (one_read u before after m named.0 h r, holds_reads before m (tree_names u) h)
+  action_read (reset_timer at n) before after m named h r = (tt, subst (λ l. Holds l m) (sym (append-nil before)) h)
+
   pub places_hold : (places : List (Option Identifier)) (before : List Event) (m : VariableSet) → Holds before m → Holds (before ++ map (λ id. sets id.name) (place_names places)) (places_set c m places)
   places_hold [] before m h = subst (λ l. Holds l m) (sym (append-nil before)) h
   places_hold (None ∷ places) before m h = places_hold places before m h
@@ -184,17 +225,17 @@ module _ (c : Scope) (start : ℕ) (numbered : AreNumbered c.variables) where
       subst (λ l. Holds l (places_set c m2 places)) (append_assoc before (sets n.name ∷ []) rest) (places_hold places (before ++ sets n.name ∷ []) m2 (holds_sets before m n h))
 
   module _ (ranges : List ℕ) (ss : List DraftState)
-      (declared : (q set v : ℕ) → slice_get ranges q ≡ Some set → bit_at set v ≡ 1 → v < length c.variables)
+      (declared : (q set v : ℕ) → slice_get ranges q ≡ Some set → bit_at set v ≡ 1 → v < length (variable_names c.process))
       (same : (q : ℕ) (s : DraftState) → slice_get ss q ≡ Some s → slice_get ranges q ≡ Some s.set.0) where
     -- what a text reads first was set at the start, and so was what the state where it ends wants and nothing sets
     record Goes (before : List Event) (t : Text) : Type 0 where
       reads : (events : List Event) (end : Option (List ℕ)) → IsWalk t events end → Reads (before ++ events)
       states : (events : List Event) (s : List ℕ) (q set v : ℕ) (id : Identifier) → IsWalk t events (Some s)
-          → number_of c.states s ≡ Some q → slice_get ranges q ≡ Some set → slice_get c.variables v ≡ Some id
+          → number_of (states_of c.process) s ≡ Some q → slice_get ranges q ≡ Some set → slice_get (variable_names c.process) v ≡ Some id
           → bit_at set v ≡ 1 → sets_in (before ++ events) id.name ≡ false → bit_at start v ≡ 1
 
     end_read : (n : Identifier) (before : List Event) (m : VariableSet) → IsSome (state_at c n) → Holds before m
-        → ((q set v : ℕ) (id : Identifier) → number_of c.states n.name ≡ Some q → slice_get ranges q ≡ Some set → slice_get c.variables v ≡ Some id → bit_at set v ≡ 1 → sets_in before id.name ≡ false → bit_at start v ≡ 1)
+        → ((q set v : ℕ) (id : Identifier) → number_of (states_of c.process) n.name ≡ Some q → slice_get ranges q ≡ Some set → slice_get (variable_names c.process) v ≡ Some id → bit_at set v ≡ 1 → sets_in before id.name ≡ false → bit_at start v ≡ 1)
         → (s : DraftState) → slice_get ss (number_or_zero (state_at c n)) ≡ Some s → IsWithin s.set m
     end_read n before m named h g s = by_number (state_at c n) refl named
       where
@@ -203,8 +244,8 @@ module _ (c : Scope) (start : ℕ) (numbered : AreNumbered c.variables) where
         by_number (Some q) e k at = λ v has.
             let set = same q s at in
             let lt = declared q s.set.0 v set has in
-            let id = get_or c.variables v n in
-            let there = slice_get-get_or c.variables v n lt in
+            let id = get_or (variable_names c.process) v n in
+            let there = slice_get-get_or (variable_names c.process) v n lt in
             let number = numbered v id there in
             by_bool (sets_in before id.name)
             (λ f. h id.name v number (inr f))
@@ -214,12 +255,13 @@ module _ (c : Scope) (start : ℕ) (numbered : AreNumbered c.variables) where
     text_read falls before m named h g = tt
     text_read (ends (NextState n)) before m named h g =
         end_read n.state before m named h (λ q set v id at there is has none. g.states [] n.state.name q set v id (refl, refl) at there is has (ap (λ l. sets_in l id.name) (append-nil before) ∙ none))
-    text_read (task at ts rest) before m named h g =
-        let fm = flat_map assignment_events ts in
+    text_read (ends (Stop at)) before m named h g = tt
+    text_read (does a rest) before m named h g =
+        let fm = action_events a in
         let some = some_walk rest in
-        let first = tasks_read ts before some.events m named.0 h (g.reads (fm ++ some.events) some.end (some.events, refl, some.walk)) in (
+        let first = action_read a before some.events m named.0 h (g.reads (fm ++ some.events) some.end (some.events, refl, some.walk)) in (
           first.0,
-          text_read rest (before ++ fm) (tasks_set c m ts) named.1 first.1
+          text_read rest (before ++ fm) (action_set c m a) named.1 first.1
               (record {
                 reads = λ events end walk. subst Reads (sym (append_assoc before fm events)) (g.reads (fm ++ events) end (events, refl, walk));
                 states = λ events s q set v id walk number there is has none. g.states (fm ++ events) s q set v id (events, refl, walk) number there is has (ap (λ l. sets_in l id.name) (sym (append_assoc before fm events)) ∙ none);
@@ -230,7 +272,7 @@ module _ (c : Scope) (start : ℕ) (numbered : AreNumbered c.variables) where
     pub settled_read : (first : List Event) (t : Text) (m : VariableSet) → NamedText c t → Holds first m
         → ((events : List Event) (end : Option (List ℕ)) → IsWalk t events end → Reads (first ++ events))
         → ((events : List Event) (s : List ℕ) (q set v : ℕ) (id : Identifier) → IsWalk t events (Some s)
-        → number_of c.states s ≡ Some q → slice_get ranges q ≡ Some set → slice_get c.variables v ≡ Some id
+        → number_of (states_of c.process) s ≡ Some q → slice_get ranges q ≡ Some set → slice_get (variable_names c.process) v ≡ Some id
         → bit_at set v ≡ 1 → sets_in (first ++ events) id.name ≡ false → bit_at start v ≡ 1)
         → ReadText c ss m t
     settled_read first t m named h r s = text_read t first m named h (record { reads = r; states = s })

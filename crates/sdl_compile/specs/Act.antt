@@ -1,29 +1,43 @@
 -- What a transition does, said on its tree (Z.100, transitions, with the arithmetic of 32 bits that wraps).
-use Rattle.std.specs.Prelude.{ℕ, ◌+◌, ℤ, pos, ◌+ℤ◌, ◌-ℤ◌, ◌*ℤ◌, neg_ℤ, List, [], ◌∷◌, Option, Some, None, slice_get, slice_set}
+use Rattle.std.specs.Prelude.{◌≡◌, ℕ, ◌+◌, ℤ, pos, ◌+ℤ◌, ◌-ℤ◌, ◌*ℤ◌, neg_ℤ, int_lt, int_div, int_rem, Bool, true, false, not, ◌||◌, ◌&&◌, if◌then◌else◌, List, [], ◌∷◌, Option, Some, None, slice_get, slice_set}
+use Rattle.std.specs.Int.{int_rem_euclid}
+use Rattle.std.specs.Option.{option_map}
 use Rattle.sdl_tree.specs.declared.expression.Identifier.{Identifier}
 use Rattle.sdl_tree.specs.declared.expression.UnaryOperator.{UnaryOperator}
-use Rattle.sdl_tree.specs.declared.expression.UnaryOperator.TheVariants.{Negate}
+use Rattle.sdl_tree.specs.declared.expression.UnaryOperator.TheVariants.{Negate, Not}
 use Rattle.sdl_tree.specs.declared.expression.BinaryOperator.{BinaryOperator}
-use Rattle.sdl_tree.specs.declared.expression.BinaryOperator.TheVariants.{Add, Subtract, Multiply}
+use Rattle.sdl_tree.specs.declared.expression.BinaryOperator.TheVariants.{Or, Xor, And, Equal, NotEqual, Less, LessEqual, Greater, GreaterEqual, Add, Subtract, Multiply, Divide, Modulo, Remainder}
+use Rattle.sdl_tree.specs.declared.tree.Sort.TheVariants.{Boolean}
+use Rattle.sdl_tree.specs.declared.tree.Party as tree_party
+use Rattle.sdl_tree.specs.declared.tree.Party.TheVariants as tree_parties
+use Rattle.sdl_tree.specs.declared.tree.Destination.{Destination}
+use Rattle.sdl_tree.specs.declared.tree.Destination.TheVariants as address
 use Rattle.sdl_tree.specs.declared.tree.End.{End}
-use Rattle.sdl_tree.specs.declared.tree.End.TheVariants.{NextState}
-use Rattle.sdl_tree.specs.Plain.{Tree, number, variable, unary, binary, PlainAssignment, Text, falls, ends, task, PlainProcess}
+use Rattle.sdl_tree.specs.declared.tree.End.TheVariants.{NextState, Stop}
+use Rattle.sdl_tree.specs.Plain.{Tree, number, truth, variable, unary, binary, PlainAssignment, PlainSending, PlainAction, task, output, set_timer, reset_timer, Text, falls, ends, does, PlainProcess, PlainBlock}
 use Rattle.turn_code.specs.declared.value.Value.{Value}
-use Rattle.turn_code.specs.declared.value.Value.TheVariants.{Int, Bool}
+use Rattle.turn_code.specs.declared.value.Value.TheVariants.{Int, Bool as Truth}
 use Rattle.turn_code.specs.declared.input.Input.{Input}
+use Rattle.turn_code.specs.declared.input.Party.{Party}
+use Rattle.turn_code.specs.declared.input.Party.TheVariants.{Environment, Process}
 use Rattle.turn_code.specs.declared.machine.End as code_end
-use Rattle.turn_code.specs.declared.machine.End.TheVariants.{State}
+use Rattle.turn_code.specs.declared.machine.End.TheVariants as code_ends
+use Rattle.turn_code.specs.declared.instruction.Relation.{Relation}
+use Rattle.turn_code.specs.declared.instruction.Relation.TheVariants as relations
+use Rattle.turn_code.specs.declared.effect.Effect.TheVariants as effects
 use Rattle.turn_code.specs.declared.trouble.Trouble.{Trouble}
-use Rattle.turn_code.specs.declared.trouble.Trouble.TheVariants.{Unset, WrongSort, Underflow, NoState, Outside}
-use Rattle.turn_code.specs.Values.{wrap}
-use Rattle.sdl_tables.specs.Names.{number_of, variable_names, states_of}
-use Rattle.sdl_rules.specs.Longest.{Piece}
-use Rattle.turn_code.specs.Run.{Progress, tick, with_variables, begun, Ran, ended, got_stuck}
+use Rattle.turn_code.specs.declared.trouble.Trouble.TheVariants.{Unset, WrongSort, Underflow, NoState, NoReceiver, Outside}
+use Rattle.turn_code.specs.Values.{wrap, holds, differ}
+use Rattle.turn_code.specs.Run.{Progress, tick, with_variables, with_effect, sending, begun, Ran, ended, got_stuck}
+use Rattle.sdl_tables.specs.Names.{number_of, variables_of, variable_names, states_of, timers_of, signal_names, process_names}
+use Rattle.sdl_rules.specs.Longest.{Piece, is_division}
+use Rattle.sdl_rules.specs.Sorts.{has_sort, sort_in}
+use Rattle.sdl_rules.specs.Receivers.{party_of, receivers, carries}
 
--- The names that a transition may use: the variables and the states of its process, in the order of their numbers.
+-- Where a transition stands: its names are those of its process and of its block, and their numbers are the places there.
 pub record Scope : Type 0 where
-  pub variables : List Identifier
-  pub states : List Identifier
+  pub block : PlainBlock
+  pub process : PlainProcess
 
 -- How a walk is over: at the transition's end, or stuck.
 pub data Ending : Type 0 where
@@ -31,8 +45,8 @@ pub data Ending : Type 0 where
   in_trouble : Trouble → Ending
 
 -- What a part of a transition does: the walk goes on with something, or is over. What was done so far comes with it;
--- its count is the cost of the walk, where each number, variable, operator and assignment costs 1, each place of INPUT 2
--- and the end 1.
+-- its count is the cost of the walk, where each number, truth value, variable, operator, assignment, signal that goes
+-- out, SET and RESET costs 1 (a divisor nothing), each place of INPUT 2 and the end 1.
 pub data Outcome (A : Type 0) : Type 0 where
   goes_on : A → Progress → Outcome A
   over : Ending → Progress → Outcome A
@@ -40,6 +54,22 @@ pub data Outcome (A : Type 0) : Type 0 where
 abbrev pub then_do : {A B : Type 0} → Outcome A → (A → Progress → Outcome B) → Outcome B
 then_do (goes_on x s) f = f x s
 then_do (over e s) f = over e s
+
+-- ---- names
+
+abbrev pub variable_at : Scope → Identifier → Option ℕ
+variable_at c n = number_of (variable_names c.process) n.name
+
+abbrev pub state_at : Scope → Identifier → Option ℕ
+state_at c n = number_of (states_of c.process) n.name
+
+abbrev pub timer_at : Scope → Identifier → Option ℕ
+timer_at c n = number_of (timers_of c.process) n.name
+
+abbrev pub signal_at : Scope → Identifier → Option ℕ
+signal_at c n = number_of (signal_names c.block) n.name
+
+-- ---- variables
 
 -- what is known of variable v: nothing where there is no such variable, no value where it isn't set
 abbrev pub slot : Option ℕ → Progress → Option (Option Value)
@@ -61,36 +91,133 @@ abbrev pub write : Option ℕ → Value → Progress → Outcome (Unit {0})
 write None x s = over (in_trouble Unset) (tick s)
 write (Some v) x s = written (slice_get s.variables v) v x (tick s)
 
-abbrev pub of_one : UnaryOperator → ℤ → ℤ
-of_one Negate x = neg_ℤ x
+-- ---- expressions
 
-abbrev pub of_two : BinaryOperator → ℤ → ℤ → ℤ
-of_two Add x y = x +ℤ y
-of_two Subtract x y = x -ℤ y
-of_two Multiply x y = x *ℤ y
+-- whether the text makes a Boolean of an expression
+abbrev pub is_truth : Scope → Tree → Bool
+is_truth c t = has_sort Boolean (sort_in (variables_of c.process) t)
 
--- an operator takes Integers, and what it gives is cut to 32 bits
+-- What an operator makes of two operands: of two Integers an Integer, cut to 32 bits, or whether they stand so to each
+-- other; of two Booleans a Boolean.
+pub data Working : Type 0 where
+  reckons : (ℤ → ℤ → ℤ) → Working
+  compares : Relation → Working
+  joins : (Bool → Bool → Bool) → Working
+
+-- `=` and `/=` are two operators each, one of Integers and one of Booleans: the sort of the left operand says which one
+-- the text means
+abbrev pub working : Bool → BinaryOperator → Working
+working b Or = joins (λ x y. x || y)
+working b Xor = joins differ
+working b And = joins (λ x y. x && y)
+working true Equal = joins (λ x y. not (differ x y))
+working false Equal = compares relations.Equal
+working true NotEqual = joins differ
+working false NotEqual = compares relations.NotEqual
+working b Less = compares relations.Less
+working b LessEqual = compares relations.LessEqual
+working b Greater = compares relations.Greater
+working b GreaterEqual = compares relations.GreaterEqual
+working b Add = reckons (λ x y. x +ℤ y)
+working b Subtract = reckons (λ x y. x -ℤ y)
+working b Multiply = reckons (λ x y. x *ℤ y)
+working b Divide = reckons int_div
+working b Modulo = reckons int_rem_euclid
+working b Remainder = reckons int_rem
+
+-- an operand of the wrong sort has no meaning
 abbrev pub apply_one : UnaryOperator → Value → Progress → Outcome Value
-apply_one op (Int x) s = goes_on (Int (wrap (of_one op x))) s
-apply_one op (Bool b) s = over (in_trouble WrongSort) s
+apply_one Negate (Int x) s = goes_on (Int (wrap (neg_ℤ x))) s
+apply_one Negate (Truth b) s = over (in_trouble WrongSort) s
+apply_one Not (Int x) s = over (in_trouble WrongSort) s
+apply_one Not (Truth b) s = goes_on (Truth (not b)) s
 
-abbrev pub apply_two : BinaryOperator → Value → Value → Progress → Outcome Value
-apply_two op (Int x) (Int y) s = goes_on (Int (wrap (of_two op x y))) s
-apply_two op (Int x) (Bool b) s = over (in_trouble WrongSort) s
-apply_two op (Bool b) y s = over (in_trouble WrongSort) s
+abbrev pub apply_two : Working → Value → Value → Progress → Outcome Value
+apply_two (reckons f) (Int x) (Int y) s = goes_on (Int (wrap (f x y))) s
+apply_two (reckons f) (Int x) (Truth y) s = over (in_trouble WrongSort) s
+apply_two (reckons f) (Truth x) y s = over (in_trouble WrongSort) s
+apply_two (compares r) (Int x) (Int y) s = goes_on (Truth (holds r x y)) s
+apply_two (compares r) (Int x) (Truth y) s = over (in_trouble WrongSort) s
+apply_two (compares r) (Truth x) y s = over (in_trouble WrongSort) s
+apply_two (joins f) (Truth x) (Truth y) s = goes_on (Truth (f x y)) s
+apply_two (joins f) (Truth x) (Int y) s = over (in_trouble WrongSort) s
+apply_two (joins f) (Int x) y s = over (in_trouble WrongSort) s
 
-abbrev pub variable_at : Scope → Identifier → Option ℕ
-variable_at c n = number_of c.variables n.name
+-- what may stand right of a division: the number itself, and 0 for all else
+abbrev pub divisor_of : Tree → ℤ
+divisor_of (number at k) = wrap (pos k)
+divisor_of (truth at b) = pos 0
+divisor_of (variable at n) = pos 0
+divisor_of (unary at op t) = pos 0
+divisor_of (binary at op t u) = pos 0
 
-abbrev pub state_at : Scope → Identifier → Option ℕ
-state_at c n = number_of c.states n.name
+-- `/` cuts towards zero, MOD gives 0 to one less than the divisor, REM has the sign of the number that is divided
+abbrev pub quotient : BinaryOperator → ℤ → ℤ → ℤ
+quotient Divide x k = int_div x k
+quotient Modulo x k = int_rem_euclid x k
+quotient op x k = int_rem x k
 
--- an expression, its operands from left to right
+-- a divisor is 1 or more, else the division has no meaning
+abbrev pub divide : BinaryOperator → ℤ → Value → Progress → Outcome Value
+divide op k (Int x) s = if int_lt (pos 0) k then goes_on (Int (quotient op x k)) s else over (in_trouble WrongSort) s
+divide op k (Truth b) s = over (in_trouble WrongSort) s
+
+-- an expression, its operands from left to right; both operands of AND, OR and XOR are read
 abbrev pub value_of : Scope → Tree → Progress → Outcome Value
 value_of c (number at k) s = goes_on (Int (wrap (pos k))) (tick s)
+value_of c (truth at b) s = goes_on (Truth b) (tick s)
 value_of c (variable at n) s = read (slot (variable_at c n) s) (tick s)
 value_of c (unary at op t) s = then_do (value_of c t s) (λ x s. apply_one op x (tick s))
-value_of c (binary at op t u) s = then_do (value_of c t s) (λ x s. then_do (value_of c u s) (λ y s. apply_two op x y (tick s)))
+value_of c (binary at op t u) s =
+    then_do (value_of c t s) (λ x s.
+        if is_division op then divide op (divisor_of u) x (tick s)
+        else then_do (value_of c u s) (λ y s. apply_two (working (is_truth c t) op) x y (tick s)))
+
+-- expressions from left to right
+abbrev pub values_of : Scope → List Tree → Progress → Outcome (List Value)
+values_of c [] s = goes_on [] s
+values_of c (t ∷ ts) s = then_do (value_of c t s) (λ x s. then_do (values_of c ts s) (λ xs s. goes_on (x ∷ xs) s))
+
+-- ---- receivers
+
+-- a party that the text names, by its number
+abbrev pub numbered : Scope → tree_party.Party → Option Party
+numbered c tree_parties.Environment = Some Environment
+numbered c (tree_parties.Process id) =
+    option_map (λ k. Process (record { 0 = k })) (number_of (process_names c.block) id.name)
+
+-- a party as the text names it
+abbrev pub named : Scope → Party → Option tree_party.Party
+named c Environment = Some tree_parties.Environment
+named c (Process k) = option_map (λ id. tree_parties.Process id) (slice_get (process_names c.block) k.0)
+
+-- whether a route carries the signal from this process there
+abbrev pub is_carried : Scope → Identifier → tree_party.Party → Bool
+is_carried c n to = carries c.block (party_of c.process) to n.name
+
+-- where all routes that carry it lead to one party, that party
+abbrev pub the_one : Scope → List tree_party.Party → Option Party
+the_one c [] = None
+the_one c (q ∷ []) = numbered c q
+the_one c (q ∷ r ∷ qs) = None
+
+abbrev pub if_named : Scope → Identifier → Option tree_party.Party → Party → Option Party
+if_named c n None p = None
+if_named c n (Some q) p = if is_carried c n q then Some p else None
+
+-- the sender, if there is one and it can get the signal
+abbrev pub to_sender : Scope → Identifier → Option Party → Option Party
+to_sender c n None = None
+to_sender c n (Some p) = if_named c n (named c p) p
+
+-- who gets a signal that goes out: whom TO names, if a route carries it there; else the one to whom routes carry it
+abbrev pub receiver_of : Scope → Option Party → Option Destination → Identifier → Option Party
+receiver_of c sender None n = the_one c (receivers c.block (party_of c.process) n.name)
+receiver_of c sender (Some (address.Process id)) n =
+    if is_carried c n (tree_parties.Process id) then numbered c (tree_parties.Process id) else None
+receiver_of c sender (Some (address.Sender at)) n = to_sender c n sender
+
+-- ---- actions
 
 -- the assignments of a TASK, one after another
 abbrev pub assign : Scope → List PlainAssignment → Progress → Outcome (Unit {0})
@@ -98,19 +225,55 @@ assign c [] s = goes_on (tt {0}) s
 assign c (a ∷ rest) s =
     then_do (value_of c a.value s) (λ x s. then_do (write (variable_at c a.variable) x s) (λ _ s. assign c rest s))
 
+-- a signal goes out with its parameters, where there is such a signal and somebody gets it
+abbrev pub put_out : Option ℕ → Option Party → List Value → Progress → Outcome (Unit {0})
+put_out None to xs s = over (in_trouble NoReceiver) s
+put_out (Some n) None xs s = over (in_trouble NoReceiver) s
+put_out (Some n) (Some p) xs s = goes_on (tt {0}) (with_effect s (sending (record { 0 = n }) p xs))
+
+abbrev pub send : Scope → Option Party → Option Destination → PlainSending → Progress → Outcome (Unit {0})
+send c sender to x s =
+    then_do (values_of c x.parameters s) (λ xs s. put_out (signal_at c x.signal) (receiver_of c sender to x.signal) xs (tick s))
+
+-- the signals of an OUTPUT, one after another
+abbrev pub send_all : Scope → Option Party → Option Destination → List PlainSending → Progress → Outcome (Unit {0})
+send_all c sender to [] s = goes_on (tt {0}) s
+send_all c sender to (x ∷ rest) s = then_do (send c sender to x s) (λ _ s. send_all c sender to rest s)
+
+-- a timer is set to so long after now
+abbrev pub start_timer : Option ℕ → Value → Progress → Outcome (Unit {0})
+start_timer None x s = over (in_trouble Unset) s
+start_timer (Some t) (Int z) s = goes_on (tt {0}) (with_effect s (effects.Set (record { 0 = t }) z))
+start_timer (Some t) (Truth b) s = over (in_trouble WrongSort) s
+
+-- a timer is stopped
+abbrev pub stop_timer : Option ℕ → Progress → Outcome (Unit {0})
+stop_timer None s = over (in_trouble Unset) s
+stop_timer (Some t) s = goes_on (tt {0}) (with_effect s (effects.Reset (record { 0 = t })))
+
+-- one action, where the signal of the transition came from this sender
+abbrev pub perform : Scope → Option Party → PlainAction → Progress → Outcome (Unit {0})
+perform c sender (task at ts) s = assign c ts s
+perform c sender (output at xs to) s = send_all c sender to xs s
+perform c sender (set_timer at t n) s = then_do (value_of c t s) (λ x s. start_timer (timer_at c n) x (tick s))
+perform c sender (reset_timer at n) s = stop_timer (timer_at c n) (tick s)
+
 -- a next state has to be there
 abbrev pub end_in : Option ℕ → Progress → Outcome (Unit {0})
 end_in None s = over (in_trouble NoState) (tick s)
-end_in (Some q) s = over (at_end (State (record { 0 = q }))) (tick s)
+end_in (Some q) s = over (at_end (code_ends.State (record { 0 = q }))) (tick s)
 
 abbrev pub end_with : Scope → End → Progress → Outcome (Unit {0})
 end_with c (NextState n) s = end_in (state_at c n.state) s
+end_with c (Stop at) s = over (at_end code_ends.Stop) (tick s)
 
 -- a transition from some action on
-abbrev pub act : Scope → Text → Progress → Outcome (Unit {0})
-act c falls s = goes_on (tt {0}) s
-act c (ends e) s = end_with c e s
-act c (task at ts rest) s = then_do (assign c ts s) (λ _ s. act c rest s)
+abbrev pub act : Scope → Option Party → Text → Progress → Outcome (Unit {0})
+act c sender falls s = goes_on (tt {0}) s
+act c sender (ends e) s = end_with c e s
+act c sender (does a rest) s = then_do (perform c sender a s) (λ _ s. act c sender rest s)
+
+-- ---- transitions
 
 -- a parameter goes to a variable
 abbrev pub pass : Option Value → Option ℕ → Progress → Outcome (Unit {0})
@@ -132,7 +295,7 @@ ran (over (in_trouble t) s) = got_stuck t
 
 -- The meaning of a transition on an input: INPUT's places (START has none), and then its text.
 abbrev pub Act : Scope → Piece → Input → Ran
-Act c q x = ran (then_do (take_places c x.parameters.items 0 q.places (begun x)) (λ _ s. act c q.text s))
+Act c q x = ran (then_do (take_places c x.parameters.items 0 q.places (begun x)) (λ _ s. act c x.sender q.text s))
 
-abbrev pub scope_of : PlainProcess → Scope
-scope_of p = record { variables = variable_names p; states = states_of p }
+abbrev pub scope_of : PlainBlock → PlainProcess → Scope
+scope_of b p = record { block = b; process = p }

@@ -1,6 +1,8 @@
 pub mod Act
 pub mod Blocks
 pub mod Code
+pub mod Contexts
+pub mod Declarations
 pub mod Drafts
 pub mod Facts
 pub mod Made
@@ -8,3 +10,4 @@ pub mod Named
 pub mod Reads
 pub mod Routes
 pub mod Scopes
+pub mod Settings

@@ -2,20 +2,23 @@
 ghost use Rattle.std.specs.Prelude.{◌≡◌, ◌≤◌, ◌++◌, ℕ, length, map, All, IfOk, OnOk};
 ghost use Rattle.std.specs.List.{flat_map, AllZip};
 ghost use Rattle.std.specs.Global.{Vec};
-ghost use Rattle.sdl_tree.specs.Views.{process_of, signal_of, path_of, route_of, block_of};
+ghost use Rattle.sdl_tree.specs.Views.{signal_of, path_of, route_of, block_of};
 ghost use Rattle.turn_code.specs.Valid.{IsValid};
 ghost use Rattle.sdl_tables.specs.Names.{number_of, processes_of, routes_of};
 ghost use Rattle.sdl_rules.specs.Settled.{AreSettled};
 ghost use Rattle.sdl_rules.specs.Refusals.{Sound};
 ghost use Rattle.sdl_compile.specs.Code.{number_or_zero};
-ghost use Rattle.sdl_compile.specs.Drafts.{sort_of_tree, AreReadySignals, IsReadyProcess, MatchesProcess};
-ghost use Rattle.sdl_compile.specs.Blocks.{drafted_signal, drafted_party, drafted_path, MatchesBlock, IsValidProcess};
+ghost use Rattle.sdl_compile.specs.Act.{scope_of};
+ghost use Rattle.sdl_compile.specs.Declarations.{sort_of_tree, drafted_signal, drafted_signals};
+ghost use Rattle.sdl_compile.specs.Drafts.{IsReadyProcess, MatchesProcess, IsProcessOf};
+ghost use Rattle.sdl_compile.specs.Blocks.{drafted_party, drafted_path, MatchesBlock};
 ghost use Rattle.sdl_compile.specs.Routes.{KnownParty, IsKnown, IsKnownPath, HasFewNames, signal_numbered};
 
 use crate::process::compile_process;
 use crate::state::draft_name;
 use crate::variables::sort;
-use sdl_rules::{NameTable, ProcessTable, Resolved};
+use sdl_rules::Resolved;
+use sdl_tables::{BlockTable, NameTable};
 use sdl_tree::{Identifier, Path, Route, SignalDeclaration};
 use std::alloc::{AllocError, Global};
 use turn_code::{
@@ -110,15 +113,15 @@ fn signal_numbers(
 }
 
 // A path with the numbers of its processes and signals.
-fn compile_path(alloc: Global, resolved: &Resolved, path: &Path) -> Result<DraftRoute, AllocError>
-    requires known { IsKnownPath (block_of resolved.now) (path_of path.now) }
-    requires few { HasFewNames (block_of resolved.now) }
-    ensures { IfOk result (λ d. d ≡ drafted_path (block_of resolved.now) (path_of path.now)) }
+fn compile_path(alloc: Global, block: &BlockTable, path: &Path) -> Result<DraftRoute, AllocError>
+    requires known { IsKnownPath (block_of block.now) (path_of path.now) }
+    requires few { HasFewNames (block_of block.now) }
+    ensures { IfOk result (λ d. d ≡ drafted_path (block_of block.now) (path_of path.now)) }
 {
-    let signals = signal_numbers(alloc, resolved.signals(), &path.signals)?;
+    let signals = signal_numbers(alloc, block.signals(), &path.signals)?;
     Ok(DraftRoute {
-        from: compile_party(resolved.processes(), &path.from),
-        to: compile_party(resolved.processes(), &path.to),
+        from: compile_party(block.processes(), &path.from),
+        to: compile_party(block.processes(), &path.to),
         signals: Sequence::from(signals),
     })
 }
@@ -126,15 +129,15 @@ fn compile_path(alloc: Global, resolved: &Resolved, path: &Path) -> Result<Draft
 fn push_paths(
     compiled: &mut Vec<DraftRoute>,
     alloc: Global,
-    resolved: &Resolved,
+    block: &BlockTable,
     paths: &[Path],
 ) -> Result<(), AllocError>
-    requires known { All (λ p. IsKnownPath (block_of resolved.now) (path_of p)) paths.now }
-    requires few { HasFewNames (block_of resolved.now) }
-    ensures { OnOk result (compiled.new.items ≡ compiled.old.items ++ map (drafted_path (block_of resolved.now)) (map path_of paths.now)) }
+    requires known { All (λ p. IsKnownPath (block_of block.now) (path_of p)) paths.now }
+    requires few { HasFewNames (block_of block.now) }
+    ensures { OnOk result (compiled.new.items ≡ compiled.old.items ++ map (drafted_path (block_of block.now)) (map path_of paths.now)) }
 {
     for path in paths {
-        compiled.push(compile_path(alloc, resolved, path)?)?;
+        compiled.push(compile_path(alloc, block, path)?)?;
     }
     Ok(())
 }
@@ -142,16 +145,16 @@ fn push_paths(
 // The paths of all routes.
 fn compile_routes(
     alloc: Global,
-    resolved: &Resolved,
+    block: &BlockTable,
     routes: &[&Route],
 ) -> Result<Vec<DraftRoute>, AllocError>
-    requires known { All (λ r. All (λ p. IsKnownPath (block_of resolved.now) (path_of p)) r.now.paths.items) routes.now }
-    requires few { HasFewNames (block_of resolved.now) }
-    ensures { IfOk result (λ v. v.items ≡ map (drafted_path (block_of resolved.now)) (flat_map (λ r. r.paths) (map (λ r. route_of r.now) routes.now))) }
+    requires known { All (λ r. All (λ p. IsKnownPath (block_of block.now) (path_of p)) r.now.paths.items) routes.now }
+    requires few { HasFewNames (block_of block.now) }
+    ensures { IfOk result (λ v. v.items ≡ map (drafted_path (block_of block.now)) (flat_map (λ r. r.paths) (map (λ r. route_of r.now) routes.now))) }
 {
     let mut compiled = Vec::new(alloc);
     for route in routes {
-        push_paths(&mut compiled, alloc, resolved, &route.paths)?;
+        push_paths(&mut compiled, alloc, block, &route.paths)?;
     }
     Ok(compiled)
 }
@@ -159,47 +162,39 @@ fn compile_routes(
 // The processes, each with the sets of its states.
 fn compile_processes(
     alloc: Global,
-    tables: &[ProcessTable],
+    block: &BlockTable,
     sets: &[Vec<u32>],
-    signals: &NameTable,
-    drafts: &[DraftSignal],
+    signals: &[DraftSignal],
 ) -> Result<Vec<DraftProcess>, AllocError>
-    requires paired { length sets.now ≡ length tables.now }
-    requires ready { All (λ t. IsReadyProcess signals.now drafts.now (process_of t)) tables.now }
-    requires signals { AreReadySignals signals.now drafts.now }
-    requires settled { AllZip (λ t (v : Vec ℕ). AreSettled (process_of t) v.items) tables.now sets.now }
-    ensures matches { IfOk result (λ ds. AllZip (MatchesProcess signals.now) (map process_of tables.now) ds.items) }
-    ensures valid { IfOk result (λ ds. All (IsValidProcess drafts.now) ds.items) }
+    requires ready { All (λ p. IsReadyProcess (scope_of (block_of block.now) p)) (processes_of (block_of block.now)) }
+    requires few { HasFewNames (block_of block.now) }
+    requires signals { signals.now ≡ drafted_signals (block_of block.now) }
+    requires settled { AllZip (λ p (v : Vec ℕ). AreSettled p v.items) (processes_of (block_of block.now)) sets.now }
+    ensures matches { IfOk result (λ ds. AllZip (MatchesProcess (block_of block.now)) (processes_of (block_of block.now)) ds.items) }
+    ensures made { IfOk result (λ ds. AllZip (IsProcessOf (block_of block.now)) (processes_of (block_of block.now)) ds.items) }
 {
     let mut processes = Vec::new(alloc);
+    let tables = block.tables();
     for (number, table) in tables.iter().enumerate() {
-        processes.push(compile_process(alloc, table, &sets[number], signals, drafts)?)?;
+        processes.push(compile_process(alloc, block, table, &sets[number], signals)?)?;
     }
     Ok(processes)
 }
 
-// Compiles a block with these routes, whose processes' states have these sets.
+// Compiles a block whose processes' states have these sets.
 fn compile_block(
     alloc: Global,
-    resolved: &Resolved,
-    routes: &[&Route],
+    block: &BlockTable,
     sets: &[Vec<u32>],
 ) -> Result<Draft, AllocError>
-    requires sound { Sound (block_of resolved.now) }
-    requires routes { map (λ r. route_of r.now) routes.now ≡ routes_of (block_of resolved.now) }
-    requires sets { AllZip (λ p (v : Vec ℕ). AreSettled p v.items) (processes_of (block_of resolved.now)) sets.now }
-    ensures means { IfOk result (λ d. MatchesBlock (block_of resolved.now) d) }
+    requires sound { Sound (block_of block.now) }
+    requires sets { AllZip (λ p (v : Vec ℕ). AreSettled p v.items) (processes_of (block_of block.now)) sets.now }
+    ensures means { IfOk result (λ d. MatchesBlock (block_of block.now) d) }
     ensures valid { IfOk result (λ d. IsValid d) }
 {
-    let signals = compile_signals(alloc, resolved.signal_rows())?;
-    let paths = compile_routes(alloc, resolved, routes)?;
-    let processes = compile_processes(
-        alloc,
-        resolved.tables(),
-        sets,
-        resolved.signals(),
-        &signals,
-    )?;
+    let signals = compile_signals(alloc, block.rows())?;
+    let paths = compile_routes(alloc, block, block.routes())?;
+    let processes = compile_processes(alloc, block, sets, &signals)?;
     Ok(Draft {
         signals: Sequence::from(signals),
         routes: Sequence::from(paths),
@@ -218,5 +213,5 @@ pub fn compile(alloc: Global, resolved: &Resolved) -> Result<Draft, AllocError>
     ensures valid { IfOk result (λ d. IsValid d) }
 {
     let _sound = resolved.block();
-    compile_block(alloc, resolved, resolved.routes(), resolved.sets())
+    compile_block(alloc, resolved.table(), resolved.sets())
 }

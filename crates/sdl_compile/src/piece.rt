@@ -1,28 +1,31 @@
 //! The piece of a transition.
-ghost use Rattle.std.specs.Prelude.{◌≡◌, ◌<◌, ◌≤◌, length, All, IfOk};
-ghost use Rattle.turn_code.specs.declared.value.Sort.TheVariants.{Integer};
+ghost use Rattle.std.specs.Prelude.{◌≡◌, ◌≤◌, length, Option, IfOk};
+ghost use Rattle.sdl_tree.specs.declared.expression.Identifier as tree_identifier;
 ghost use Rattle.sdl_tree.specs.Views.{text_of};
 ghost use Rattle.sdl_compile.specs.Scopes.{scope_in, piece_in};
-ghost use Rattle.sdl_compile.specs.Named.{NamedPiece};
+ghost use Rattle.sdl_compile.specs.Named.{NamedPiece, AnswersSenders};
 ghost use Rattle.sdl_compile.specs.Code.{piece_code};
-ghost use Rattle.sdl_compile.specs.Facts.{SetsFew};
-ghost use Rattle.sdl_compile.specs.Reads.{KeepsRules};
 ghost use Rattle.sdl_compile.specs.Drafts.{Means};
-ghost use Rattle.sdl_compile.specs.Made.{AreDrafted, IsPieceOf, IsSmall};
+ghost use Rattle.sdl_compile.specs.Made.{IsPieceOf};
+ghost use Rattle.sdl_compile.specs.Settings.{IsSetting, IsReadyPiece, effects_from};
 
 use crate::emit::{emit_places, emit_transition};
 use crate::facts::{greatest_depth, place_facts};
 use crate::names::Names;
 use sdl_tree::{Identifier, Transition};
 use std::alloc::{AllocError, Global};
-use turn_code::{Cert, DraftPiece, DraftVariable, Instruction, Sequence, Sort, VariableSet};
+use turn_code::{
+    Cert, DraftPiece, DraftSignal, DraftVariable, Instruction, PlaceFacts, Sequence, Sort,
+    VariableSet,
+};
 
-/// What comes with a transition: the names that it may use, its process's variables, the sorts of
-/// its parameters, and the variables that are set as it begins.
+/// What comes with a transition: the names that it may use, its process's variables, its block's
+/// signals, the sorts of its parameters, and the variables that are set as it begins.
 #[derive(Drop)]
 pub struct Setting<'a> {
     pub names: &'a Names<'a>,
     pub variables: &'a [DraftVariable],
+    pub signals: &'a [DraftSignal],
     pub parameters: &'a [Sort],
     pub entry: VariableSet,
 }
@@ -43,6 +46,16 @@ fn emit_piece(
     Ok(code)
 }
 
+// The effects of the first place, and so of the whole.
+fn first_effects(facts: &[PlaceFacts]) -> u32
+    ensures { result ≡ effects_from facts.now }
+{
+    match facts.first() {
+        Some(place) => place.effects,
+        None => 0,
+    }
+}
+
 // The piece of a transition: INPUT's places (START has none), and then its text.
 fn make_piece(
     alloc: Global,
@@ -50,17 +63,14 @@ fn make_piece(
     places: &[Option<Identifier>],
     transition: &Transition,
 ) -> Result<DraftPiece, AllocError>
-    requires named { NamedPiece (scope_in setting.now.names.now) (piece_in places.now transition.now) }
-    requires few { length places.now ≤ 4 }
-    requires parameters { length places.now ≤ length setting.now.parameters.now }
-    requires integers { All (λ s. s ≡ Integer) setting.now.parameters.now }
-    requires variables { AreDrafted (scope_in setting.now.names.now) setting.now.variables.now }
-    requires small { IsSmall (piece_in places.now transition.now) }
-    ensures { IfOk result (λ d. IsPieceOf (scope_in setting.now.names.now) setting.now.variables.now setting.now.parameters.now setting.now.entry (piece_in places.now transition.now) d) }
+    requires setting { IsSetting setting.now }
+    requires ready { IsReadyPiece (scope_in setting.now.names.now) (piece_in places.now transition.now) setting.now.parameters.now }
+    ensures { IfOk result (λ d. IsPieceOf (scope_in setting.now.names.now) setting.now.parameters.now setting.now.entry (piece_in places.now transition.now) d) }
 {
     let code = emit_piece(alloc, setting.names, places, transition)?;
     let facts = place_facts(
         alloc,
+        setting.signals,
         setting.variables,
         setting.parameters,
         setting.entry,
@@ -69,7 +79,7 @@ fn make_piece(
     let certificate = Cert {
         budget: code.len() as u32,
         depth: greatest_depth(&facts) as u32,
-        effects: 0,
+        effects: first_effects(&facts),
     };
     Ok(DraftPiece {
         code: Sequence::from(code),
@@ -80,25 +90,19 @@ fn make_piece(
 
 /// Compiles a transition: INPUT's places (START has none), and then its text.
 ///
-/// On every input the run of the piece is what the transition means: its effects, its variables,
-/// its end and its count. The certificate names the longest path. The piece keeps every rule of a
-/// valid draft, wherever the variables that it reads are set and the variables of the state where
-/// it ends are set too. Want of memory is the only error.
+/// On every input that comes from who may have sent it, the run of the piece is what the transition
+/// means: its effects, its variables, its end and its count. The certificate names the longest path.
+/// Want of memory is the only error.
 pub fn compile_transition(
     alloc: Global,
     setting: &Setting,
     places: &[Option<Identifier>],
     transition: &Transition,
 ) -> Result<DraftPiece, AllocError>
-    requires named { NamedPiece (scope_in setting.now.names.now) (piece_in places.now transition.now) }
-    requires few { length places.now ≤ 4 }
-    requires parameters { length places.now ≤ length setting.now.parameters.now }
-    requires integers { All (λ s. s ≡ Integer) setting.now.parameters.now }
-    requires variables { AreDrafted (scope_in setting.now.names.now) setting.now.variables.now }
-    requires small { IsSmall (piece_in places.now transition.now) }
-    ensures means { IfOk result (λ d. Means (scope_in setting.now.names.now) (piece_in places.now transition.now) d) }
-    ensures valid { IfOk result (λ d. KeepsRules (scope_in setting.now.names.now) setting.now.variables.now setting.now.parameters.now setting.now.entry (piece_in places.now transition.now) d) }
-    ensures made { IfOk result (λ d. IsPieceOf (scope_in setting.now.names.now) setting.now.variables.now setting.now.parameters.now setting.now.entry (piece_in places.now transition.now) d) }
+    requires setting { IsSetting setting.now }
+    requires ready { IsReadyPiece (scope_in setting.now.names.now) (piece_in places.now transition.now) setting.now.parameters.now }
+    ensures means { IfOk result (λ d. (from : Option tree_identifier.Identifier) → AnswersSenders (scope_in setting.now.names.now) from (text_of transition.now) → Means (scope_in setting.now.names.now) from (piece_in places.now transition.now) d) }
+    ensures made { IfOk result (λ d. IsPieceOf (scope_in setting.now.names.now) setting.now.parameters.now setting.now.entry (piece_in places.now transition.now) d) }
 {
     let piece = make_piece(alloc, setting, places, transition)?;
     Ok(piece)

@@ -1,47 +1,63 @@
 //! A process.
-ghost use Rattle.std.specs.Prelude.{◌≡◌, IfOk};
-ghost use Rattle.sdl_tree.specs.Views.{process_of};
+ghost use Rattle.std.specs.Prelude.{◌≡◌, ◌≤◌, length, map, IfOk};
+ghost use Rattle.sdl_tree.specs.Views.{block_of, process_of};
+ghost use Rattle.sdl_tables.specs.Names.{process_names};
 ghost use Rattle.sdl_rules.specs.Settled.{AreSettled};
-ghost use Rattle.sdl_compile.specs.Drafts.{AreReadySignals, IsReadyProcess, MatchesProcess};
-ghost use Rattle.sdl_compile.specs.Blocks.{IsValidProcess};
+ghost use Rattle.sdl_compile.specs.Act.{scope_of};
+ghost use Rattle.sdl_compile.specs.Declarations.{drafted_signals};
+ghost use Rattle.sdl_compile.specs.Drafts.{IsReadyProcess, MatchesProcess, IsProcessOf};
 
 use crate::names::Names;
 use crate::piece::{Setting, compile_transition};
 use crate::state::{Context, compile_states, draft_name};
 use crate::variables::{compile_variables, set_at_start};
-use sdl_rules::{NameTable, ProcessTable};
+use sdl_tables::{BlockTable, NameTable, ProcessTable};
 use std::alloc::{AllocError, Global};
-use turn_code::{DraftProcess, DraftSignal, Sequence};
+use turn_code::{DraftProcess, DraftSignal, Name, Sequence};
+
+// The names of timers.
+fn compile_timers(alloc: Global, table: &NameTable) -> Result<Vec<Name>, AllocError>
+    ensures { IfOk result (λ v. v.items ≡ map (λ id. id.name) table.now) }
+{
+    let mut timers = Vec::new(alloc);
+    for number in 0..table.len() {
+        timers.push(draft_name(&table.name(number).name))?;
+    }
+    Ok(timers)
+}
 
 /// Compiles a process of a block with these signals. `sets` has for each state the variables that
 /// are set whenever the process is there.
 ///
-/// Its variables, states and inputs have their names and numbers in the order of the text, each
-/// piece does what its transition means, and each certificate names the longest path. In a draft
-/// with these signals it keeps every rule of a valid draft. Want of memory is the only error.
+/// Its variables, timers, states, inputs and saves have their names and numbers in the order of the
+/// text, each piece does what its transition means, and each certificate names the longest path. Want
+/// of memory is the only error.
 pub fn compile_process(
     alloc: Global,
+    block: &BlockTable,
     table: &ProcessTable,
     sets: &[u32],
-    signals: &NameTable,
-    drafts: &[DraftSignal],
+    signals: &[DraftSignal],
 ) -> Result<DraftProcess, AllocError>
-    requires ready { IsReadyProcess signals.now drafts.now (process_of table.now) }
-    requires signals { AreReadySignals signals.now drafts.now }
+    requires ready { IsReadyProcess (scope_of (block_of block.now) (process_of table.now)) }
+    requires few { length (process_names (block_of block.now)) ≤ 16 }
+    requires signals { signals.now ≡ drafted_signals (block_of block.now) }
     requires settled { AreSettled (process_of table.now) sets.now }
-    ensures matches { IfOk result (λ d. MatchesProcess signals.now (process_of table.now) d) }
-    ensures valid { IfOk result (λ d. IsValidProcess drafts.now d) }
+    ensures matches { IfOk result (λ d. MatchesProcess (block_of block.now) (process_of table.now) d) }
+    ensures made { IfOk result (λ d. IsProcessOf (block_of block.now) (process_of table.now) d) }
 {
     let variables = compile_variables(alloc, table.rows())?;
+    let timers = compile_timers(alloc, table.timers())?;
     let names = Names {
-        variables: table.variables(),
-        states: table.states(),
+        block,
+        process: table,
     };
     let process = table.process();
     let start = &process.start.transition;
     let setting = Setting {
         names: &names,
         variables: &variables,
+        signals,
         parameters: &[],
         entry: set_at_start(&variables),
     };
@@ -50,12 +66,12 @@ pub fn compile_process(
         names: &names,
         variables: &variables,
         signals,
-        drafts,
     };
-    let states = compile_states(alloc, &context, table.inputs(), sets)?;
+    let states = compile_states(alloc, &context, table.saves(), table.inputs(), sets)?;
     Ok(DraftProcess {
         name: draft_name(&process.name.name),
         variables: Sequence::from(variables),
+        timers: Sequence::from(timers),
         start: first,
         states: Sequence::from(states),
     })

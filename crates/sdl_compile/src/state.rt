@@ -1,21 +1,24 @@
-//! The states of a process, with their inputs.
-ghost use Rattle.std.specs.Prelude.{◌≡◌, ◌≤◌, ◌<◌, length, map, IfOk, IfSome, IsSome, slice_get};
+//! The states of a process, with their inputs and what they save.
+ghost use Rattle.std.specs.Prelude.{◌≡◌, ◌≤◌, ◌<◌, length, map, IfOk, IfSome, slice_get};
 ghost use Rattle.std.specs.List.{AllZip};
-ghost use Rattle.sdl_tables.specs.Rows.{row_input, rows_inputs};
-ghost use Rattle.sdl_tables.specs.Names.{number_of};
+ghost use Rattle.sdl_tree.specs.Views.{block_of};
+ghost use Rattle.sdl_tables.specs.Rows.{row_input, rows_inputs, row_names};
+ghost use Rattle.sdl_tables.specs.Names.{states_of};
+ghost use Rattle.sdl_tree.specs.Views.{process_of};
 ghost use Rattle.sdl_compile.specs.Scopes.{scope_in};
-ghost use Rattle.sdl_compile.specs.Code.{number_or_zero};
-ghost use Rattle.sdl_compile.specs.Made.{AreDrafted};
-ghost use Rattle.sdl_compile.specs.Drafts.{AllReady, IsNamedAs, MatchesInputs, AreReady, AreReadySignals, IsReadyInput, IsInputOf, AreInputsOf, sets_of, parameters_at, HasFew};
+ghost use Rattle.sdl_compile.specs.Declarations.{trigger_of, trigger_sorts, parameters_by, drafted_signals};
+ghost use Rattle.sdl_compile.specs.Drafts.{AllReady, IsNamedAs, MatchesInputs, SavesAll, AreReady, IsReadyInput, IsInputOf, AreInputsOf, IsTrigger, AreTriggers, AllTriggers, sets_of};
+ghost use Rattle.sdl_compile.specs.Contexts.{IsContext};
 
 use crate::names::Names;
 use crate::piece::{Setting, compile_transition};
 use sdl_lex::Name;
-use sdl_rules::{InputRow, NameTable};
+use sdl_tables::InputRow;
+use sdl_tree::Identifier;
 use std::alloc::{AllocError, Global};
 use turn_code::{
-    DraftInput, DraftSignal, DraftState, DraftVariable, Sequence, SignalNumber, Sort, Trigger,
-    VariableSet,
+    DraftInput, DraftSignal, DraftState, DraftVariable, Sequence, SignalNumber, Sort, TimerNumber,
+    Trigger, VariableSet,
 };
 
 /// What the transitions of a process share: its names and variables, and the signals of the block.
@@ -23,8 +26,7 @@ use turn_code::{
 pub struct Context<'a> {
     pub names: &'a Names<'a>,
     pub variables: &'a [DraftVariable],
-    pub signals: &'a NameTable,
-    pub drafts: &'a [DraftSignal],
+    pub signals: &'a [DraftSignal],
 }
 
 /// A name as a draft has it.
@@ -37,26 +39,39 @@ pub fn draft_name(name: &Name) -> turn_code::Name
     }
 }
 
-// The number of a signal that is declared.
-fn signal_number(signals: &NameTable, name: Name) -> usize
-    requires { IsSome (number_of signals.now name) }
-    ensures number { result ≡ number_or_zero (number_of signals.now name) }
-    ensures within { result < length signals.now }
+// What a name stands for: a signal, else a timer.
+fn trigger(names: &Names, id: &Identifier) -> Trigger
+    requires { IsTrigger (scope_in names.now) id.now }
+    ensures { result ≡ trigger_of (scope_in names.now) id.now }
 {
-    match signals.number(name) {
-        Some(number) => number,
-        None => unreachable!(),
+    match names.block.signals().number(id.name) {
+        Some(number) => Trigger::Signal(SignalNumber(number as u8)),
+        None => match names.process.timers().number(id.name) {
+            Some(number) => Trigger::Timer(TimerNumber(number as u8)),
+            None => unreachable!(),
+        },
     }
 }
 
-// The sorts of a signal's parameters.
-fn parameters(drafts: &[DraftSignal], number: usize) -> &[Sort]
-    ensures { result.now ≡ parameters_at drafts.now number }
+// The sorts of the parameters of the signal with this number, if it has one.
+fn parameters_at(signals: &[DraftSignal], number: Option<usize>) -> &[Sort]
+    ensures { result.now ≡ parameters_by signals.now number }
 {
-    match drafts.get(number) {
+    let Some(number) = number else {
+        return &[];
+    };
+    match signals.get(number) {
         Some(signal) => signal.parameters.as_slice(),
         None => &[],
     }
+}
+
+// The sorts of the parameters that come with what a name stands for.
+fn parameters<'a>(names: &Names, signals: &'a [DraftSignal], id: &Identifier) -> &'a [Sort]
+    requires { signals.now ≡ drafted_signals (block_of names.now.block.now) }
+    ensures { result.now ≡ trigger_sorts (scope_in names.now) id.now }
+{
+    parameters_at(signals, names.block.signals().number(id.name))
 }
 
 /// Compiles an input of a state that is entered with these variables set: what it waits for, and
@@ -67,21 +82,21 @@ pub fn compile_input(
     entry: VariableSet,
     row: &InputRow,
 ) -> Result<DraftInput, AllocError>
-    requires ready { IsReadyInput (scope_in context.now.names.now) context.now.signals.now context.now.drafts.now (row_input row.now) }
-    requires signals { AreReadySignals context.now.signals.now context.now.drafts.now }
-    requires variables { AreDrafted (scope_in context.now.names.now) context.now.variables.now }
-    ensures { IfOk result (λ d. IsInputOf (scope_in context.now.names.now) context.now.variables.now context.now.signals.now context.now.drafts.now entry (row_input row.now) d) }
+    requires ready { IsReadyInput (scope_in context.now.names.now) (row_input row.now) }
+    requires context { IsContext context.now }
+    ensures { IfOk result (λ d. IsInputOf (scope_in context.now.names.now) entry (row_input row.now) d) }
 {
-    let number = signal_number(context.signals, row.stimulus.name.name);
+    let id = &row.stimulus.name;
     let setting = Setting {
         names: context.names,
         variables: context.variables,
-        parameters: parameters(context.drafts, number),
+        signals: context.signals,
+        parameters: parameters(context.names, context.signals, id),
         entry,
     };
     let piece = compile_transition(alloc, &setting, &row.stimulus.places, &row.input.transition)?;
     Ok(DraftInput {
-        trigger: Trigger::Signal(SignalNumber(number as u8)),
+        trigger: trigger(context.names, id),
         piece,
     })
 }
@@ -93,10 +108,9 @@ pub fn compile_inputs(
     entry: VariableSet,
     rows: &[InputRow],
 ) -> Result<Vec<DraftInput>, AllocError>
-    requires ready { AreReady (scope_in context.now.names.now) context.now.signals.now context.now.drafts.now (map row_input rows.now) }
-    requires signals { AreReadySignals context.now.signals.now context.now.drafts.now }
-    requires variables { AreDrafted (scope_in context.now.names.now) context.now.variables.now }
-    ensures { IfOk result (λ ds. AllZip (IsInputOf (scope_in context.now.names.now) context.now.variables.now context.now.signals.now context.now.drafts.now entry) (map row_input rows.now) ds.items) }
+    requires ready { AreReady (scope_in context.now.names.now) (map row_input rows.now) }
+    requires context { IsContext context.now }
+    ensures { IfOk result (λ ds. AllZip (IsInputOf (scope_in context.now.names.now) entry) (map row_input rows.now) ds.items) }
 {
     let mut inputs = Vec::new(alloc);
     for row in rows {
@@ -105,31 +119,50 @@ pub fn compile_inputs(
     Ok(inputs)
 }
 
+// What a state saves.
+fn compile_saves(
+    alloc: Global,
+    names: &Names,
+    ids: &[Identifier],
+) -> Result<Vec<Trigger>, AllocError>
+    requires { AreTriggers (scope_in names.now) ids.now }
+    ensures { IfOk result (λ v. v.items ≡ map (trigger_of (scope_in names.now)) ids.now) }
+{
+    let mut saves = Vec::new(alloc);
+    for id in ids {
+        saves.push(trigger(names, id))?;
+    }
+    Ok(saves)
+}
+
 // A state, by its number.
 fn make_state(
     alloc: Global,
     context: &Context,
     number: usize,
     set: VariableSet,
+    saved: &[Identifier],
     rows: &[InputRow],
 ) -> Result<DraftState, AllocError>
-    requires there { number < length context.now.names.now.states.now }
-    requires ready { AreReady (scope_in context.now.names.now) context.now.signals.now context.now.drafts.now (map row_input rows.now) }
-    requires signals { AreReadySignals context.now.signals.now context.now.drafts.now }
-    requires variables { AreDrafted (scope_in context.now.names.now) context.now.variables.now }
-    ensures name { IfOk result (λ d. IfSome (slice_get context.now.names.now.states.now number) (λ id. IsNamedAs id d)) }
-    ensures inputs { IfOk result (λ d. MatchesInputs (scope_in context.now.names.now) context.now.signals.now (map row_input rows.now) d) }
-    ensures made { IfOk result (λ d. AreInputsOf (scope_in context.now.names.now) context.now.variables.now context.now.signals.now context.now.drafts.now (map row_input rows.now) d) }
+    requires there { number < length (states_of (process_of context.now.names.now.process.now)) }
+    requires ready { AreReady (scope_in context.now.names.now) (map row_input rows.now) }
+    requires saved { AreTriggers (scope_in context.now.names.now) saved.now }
+    requires context { IsContext context.now }
+    ensures name { IfOk result (λ d. IfSome (slice_get (states_of (process_of context.now.names.now.process.now)) number) (λ id. IsNamedAs id d)) }
+    ensures saves { IfOk result (λ d. SavesAll (scope_in context.now.names.now) saved.now d) }
+    ensures made { IfOk result (λ d. AreInputsOf (scope_in context.now.names.now) (map row_input rows.now) d) }
     ensures set { IfOk result (λ d. d.set ≡ set) }
 {
-    let name = match context.names.states.get(number) {
+    let name = match context.names.process.states().get(number) {
         Some(id) => draft_name(&id.name),
         None => unreachable!(),
     };
+    let saves = compile_saves(alloc, context.names, saved)?;
     let inputs = compile_inputs(alloc, context, set, rows)?;
     Ok(DraftState {
         name,
         set,
+        saves: Sequence::from(saves),
         inputs: Sequence::from(inputs),
     })
 }
@@ -139,23 +172,25 @@ fn make_state(
 pub fn compile_states(
     alloc: Global,
     context: &Context,
+    saved: &[Vec<Identifier>],
     inputs: &[Vec<InputRow>],
     sets: &[u32],
 ) -> Result<Vec<DraftState>, AllocError>
-    requires paired { length inputs.now ≡ length context.now.names.now.states.now }
-    requires sets { length sets.now ≡ length context.now.names.now.states.now }
-    requires ready { AllReady (scope_in context.now.names.now) context.now.signals.now context.now.drafts.now (map rows_inputs inputs.now) }
-    requires signals { AreReadySignals context.now.signals.now context.now.drafts.now }
-    requires variables { AreDrafted (scope_in context.now.names.now) context.now.variables.now }
-    ensures names { IfOk result (λ ds. AllZip IsNamedAs context.now.names.now.states.now ds.items) }
-    ensures inputs { IfOk result (λ ds. AllZip (MatchesInputs (scope_in context.now.names.now) context.now.signals.now) (map rows_inputs inputs.now) ds.items) }
-    ensures made { IfOk result (λ ds. AllZip (AreInputsOf (scope_in context.now.names.now) context.now.variables.now context.now.signals.now context.now.drafts.now) (map rows_inputs inputs.now) ds.items) }
+    requires paired { length inputs.now ≡ length (states_of (process_of context.now.names.now.process.now)) }
+    requires saves { length saved.now ≡ length (states_of (process_of context.now.names.now.process.now)) }
+    requires sets { length sets.now ≡ length (states_of (process_of context.now.names.now.process.now)) }
+    requires ready { AllReady (scope_in context.now.names.now) (map rows_inputs inputs.now) }
+    requires saved { AllTriggers (scope_in context.now.names.now) (map row_names saved.now) }
+    requires context { IsContext context.now }
+    ensures names { IfOk result (λ ds. AllZip IsNamedAs (states_of (process_of context.now.names.now.process.now)) ds.items) }
+    ensures saves { IfOk result (λ ds. AllZip (SavesAll (scope_in context.now.names.now)) (map row_names saved.now) ds.items) }
+    ensures made { IfOk result (λ ds. AllZip (AreInputsOf (scope_in context.now.names.now)) (map rows_inputs inputs.now) ds.items) }
     ensures sets { IfOk result (λ ds. sets_of ds.items ≡ sets.now) }
 {
     let mut states = Vec::new(alloc);
     for (number, rows) in inputs.iter().enumerate() {
         let set = VariableSet(sets[number]);
-        states.push(make_state(alloc, context, number, set, rows)?)?;
+        states.push(make_state(alloc, context, number, set, &saved[number], rows)?)?;
     }
     Ok(states)
 }

@@ -6,8 +6,8 @@ use sdl_tree::parse;
 use std::alloc::Global;
 use std::test::Fail;
 use turn_code::{
-    Cert, Draft, DraftProcess, Instruction, Party, ProcessNumber, SignalNumber, Sort, StateNumber,
-    Trigger, VariableNumber,
+    Cert, Draft, DraftProcess, Instruction, Party, ProcessNumber, Receiver, SignalNumber, Sort,
+    StateNumber, TimerNumber, Trigger, VariableNumber,
 };
 
 const COUNTER: &str = "BLOCK B; SIGNAL Up(Integer);
@@ -24,6 +24,14 @@ PROCESS P (1,1); DCL n, total Integer;
 START; TASK total := 0; NEXTSTATE Run;
 STATE Run; INPUT Up(n); TASK total := -(n * n) - 1; NEXTSTATE Run;
 ENDSTATE Run; ENDPROCESS P; ENDBLOCK B;
+";
+
+const ALARM: &str = "BLOCK B; SIGNAL Hold, Told(Boolean);
+SIGNALROUTE r FROM ENV TO P WITH Hold; FROM P TO ENV WITH Told;
+PROCESS P (1,1); DCL late Boolean := FALSE; TIMER t;
+START; SET(NOW + 5, t); NEXTSTATE Wait;
+STATE Wait; SAVE Hold; INPUT t; OUTPUT Told(NOT late); STOP;
+ENDSTATE Wait; ENDPROCESS P; ENDBLOCK B;
 ";
 
 /// The draft of a sound text.
@@ -89,6 +97,31 @@ fn the_counter_has_its_certificates(rt: HostRuntime) -> Result<(), Fail> {
         Instruction::Add,
         Instruction::Store(VariableNumber(1)),
         Instruction::Next(StateNumber(0)),
+    ];
+    assert_eq!(rt; input.piece.code.as_slice(), code.as_slice());
+    Ok(())
+}
+
+#[test]
+fn the_alarm_has_its_timer_and_what_it_saves(rt: HostRuntime) -> Result<(), Fail> {
+    let draft = draft_of(rt.alloc(), ALARM)?;
+    let process = the_process(&draft)?;
+    let start = Cert {
+        budget: 3,
+        depth: 1,
+        effects: 1,
+    };
+    assert_eq!(rt; process.start.certificate, start);
+    let state = process.states.as_slice().first().ok_or("a state")?;
+    let saved = [Trigger::Signal(SignalNumber(0))];
+    assert_eq!(rt; state.saves.as_slice(), saved.as_slice());
+    let input = state.inputs.as_slice().first().ok_or("an input")?;
+    assert_eq!(rt; input.trigger, Trigger::Timer(TimerNumber(0)));
+    let code = [
+        Instruction::Load(VariableNumber(0)),
+        Instruction::Not,
+        Instruction::Output(SignalNumber(1), Receiver::Party(Party::Environment), 1),
+        Instruction::Stop,
     ];
     assert_eq!(rt; input.piece.code.as_slice(), code.as_slice());
     Ok(())

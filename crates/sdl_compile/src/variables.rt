@@ -2,10 +2,10 @@
 ghost use Rattle.std.specs.Prelude.{◌≡◌, ◌<◌, ◌≤◌, ◌^◌, length, map, IfOk};
 ghost use Rattle.turn_code.specs.Sets.{initial_set};
 ghost use Rattle.sdl_tables.specs.Rows.{variable_of};
-ghost use Rattle.sdl_compile.specs.Drafts.{drafted, constant_value, sort_of_tree};
+ghost use Rattle.sdl_compile.specs.Declarations.{drafted, constant_value, sort_of_tree};
 
 use crate::state::draft_name;
-use sdl_rules::Variable;
+use sdl_tables::Variable;
 use sdl_tree::{Constant, Literal};
 use std::alloc::{AllocError, Global};
 use turn_code::{DraftVariable, Sort, Value, VariableSet};
@@ -15,6 +15,7 @@ fn value(constant: Constant) -> Value
 {
     match constant.value {
         Literal::Integer(number) => Value::Int(number),
+        Literal::Boolean(truth) => Value::Bool(truth),
     }
 }
 
@@ -24,6 +25,7 @@ pub(crate) fn sort(declared: sdl_tree::Sort) -> Sort
 {
     match declared {
         sdl_tree::Sort::Integer => Sort::Integer,
+        sdl_tree::Sort::Boolean => Sort::Boolean,
     }
 }
 
@@ -84,9 +86,9 @@ mod tests {
             name: Name::new(b"Total").ok_or("Total")?,
             at: 3,
         };
-        let five = Constant {
+        let truth = Constant {
             at: 17,
-            value: Literal::Integer(-5),
+            value: Literal::Boolean(true),
         };
         let rows = [
             Variable {
@@ -96,8 +98,8 @@ mod tests {
             },
             Variable {
                 name: total,
-                sort: sdl_tree::Sort::Integer,
-                initial: Some(five),
+                sort: sdl_tree::Sort::Boolean,
+                initial: Some(truth),
             },
         ];
         let variables = compile_variables(rt.alloc(), &rows)?;
@@ -105,8 +107,8 @@ mod tests {
         assert_eq!(rt; variables[0].name.as_bytes(), b"n".as_slice());
         assert_eq!(rt; variables[0].initial, None);
         assert_eq!(rt; variables[1].name.as_bytes(), b"Total".as_slice());
-        assert_eq!(rt; variables[1].initial, Some(Value::Int(-5)));
-        assert_eq!(rt; variables[1].sort, Sort::Integer);
+        assert_eq!(rt; variables[1].initial, Some(Value::Bool(true)));
+        assert_eq!(rt; variables[1].sort, Sort::Boolean);
         Ok(())
     }
 }

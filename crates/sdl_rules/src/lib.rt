@@ -17,6 +17,7 @@ pub use fault::{ControlPath, Limit, RuleFault, Step};
 pub use receivers::{Recipients, find_receivers};
 pub use resolved::{Resolved, resolve};
 pub use sdl_tables::{InputRow, NameTable, ProcessTable, Variable};
+pub use sorts::sort_in;
 
 #[cfg(test)]
 mod tests;

@@ -87,6 +87,13 @@ impl<'a> Resolved<'a> {
         self.table.block()
     }
 
+    /// The block with its tables.
+    pub fn table(&self) -> &BlockTable<'a>
+        ensures { result.now ≡ self.now }
+    {
+        &self.table
+    }
+
     /// The names of its signals, by number.
     pub fn signals(&self) -> &NameTable
         ensures { result.now ≡ signal_names (block_of self.now) }

@@ -98,7 +98,8 @@ fn operand_sort(operator: BinaryOperator, left: Option<Sort>) -> Option<Sort>
     }
 }
 
-fn sort_in(process: &ProcessTable, expression: &Expression) -> Option<Sort>
+/// The sort of an expression, which its operator tells; of a variable what is declared, and none where it isn't.
+pub fn sort_in(process: &ProcessTable, expression: &Expression) -> Option<Sort>
     ensures { result ≡ sort_in (variables_of (process_of process.now)) (tree_of expression.now) }
 {
     match expression {

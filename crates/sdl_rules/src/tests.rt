@@ -151,7 +151,7 @@ fn each_text_has_its_refusal(rt: HostRuntime) -> Result<(), Fail> {
             "S1 DoubleName 68",
         ),
         (
-            "BLOCK B; SIGNAL Up; PROCESS P; START; STOP; STATE A, A; INPUT Up; STOP; ENDPROCESS; ENDBLOCK;",
+            "BLOCK B; SIGNAL Up; PROCESS P; START; STOP; STATE A, A; INPUT Up; STOP; SAVE zz, ZZ; ENDPROCESS; ENDBLOCK;",
             "S1 DoubleName 62",
         ),
         (

@@ -113,7 +113,7 @@ pub Marks-block : (b : PlainBlock) (ss rs ps : List Identifier) (places alarms :
     → places ≡ flat_map (repeats []) (flat_map process_scopes (processes_of b)) → alarms ≡ signal_timers b
     → Marks one (repeats [] ss) → Marks two (repeats [] rs) → Marks three (repeats [] ps) → Marks four places → Marks five alarms
     → ((vs ws xs ys zs : List ℕ) → Marks one vs → Marks two ws → Marks three xs → Marks four ys → Marks five zs
-      → Marks double ((vs ++ (ws ++ (xs ++ ys))) ++ zs))
+    → Marks double ((vs ++ (ws ++ (xs ++ ys))) ++ zs))
     → Marks double (double_names b)
 Marks-block b ss rs ps places alarms one two three four five double e f g h i m n o p q join =
     join (repeats [] (signal_names b)) (repeats [] (route_names b)) (repeats [] (process_names b))

@@ -8,8 +8,7 @@ ghost use Rattle.sdl_tables.specs.Scopes.{Marks, repeats, process_scopes, shared
 
 use crate::fault::TableFault;
 use crate::name_table::NameTable;
-use crate::process_table::ProcessTable;
-use crate::process_table::shared_declared;
+use crate::process_table::{ProcessTable, shared_declared};
 use crate::scope::{Scope, earlier, index_names};
 use sdl_lex::Name;
 use sdl_tree::{Block, Entity, Identifier, Process, Route, SignalDeclaration};

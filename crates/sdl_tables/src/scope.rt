@@ -25,13 +25,14 @@ pub fn earlier(one: Option<u32>, other: Option<u32>) -> Option<u32>
     }
 }
 
-// One identifier more: its place where its name was there, unless there is a place already.
+// One identifier more: its place too where its name was there.
 fn marked(double: Option<u32>, new: bool, at: u32) -> Option<u32>
     ensures { (xs : List ℕ) → Marks double xs → Marks result (xs ++ (if new then [] else at ∷ [])) }
 {
-    match double {
-        Some(place) => Some(place),
-        None => { if new { None } else { Some(at) } }
+    if new {
+        double
+    } else {
+        earlier(double, Some(at))
     }
 }
 

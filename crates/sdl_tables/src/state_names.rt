@@ -52,11 +52,7 @@ fn push_clause(
     }
 }
 
-fn push_part(
-    names: &mut Vec<Identifier>,
-    which: Which,
-    part: &StatePart,
-) -> Result<(), AllocError>
+fn push_part(names: &mut Vec<Identifier>, which: Which, part: &StatePart) -> Result<(), AllocError>
     ensures { OnOk result (names.new.items ≡ names.old.items ++ part_names which (state_of part.now)) }
 {
     for clause in &part.clauses {

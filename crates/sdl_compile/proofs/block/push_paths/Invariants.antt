@@ -5,4 +5,4 @@ use Rattle.sdl_compile.proofs.block.push_paths.Given as goal
 
 abbrev pub invariant-loop-path : goal.invariant-loop-path
 invariant-loop-path l =
-    l.compiled.items ≡ l.initial.compiled.items ++ map (drafted_path (block_of l.resolved)) (map path_of (take l.path-index l.paths))
+    l.compiled.items ≡ l.initial.compiled.items ++ map (drafted_path (block_of l.block)) (map path_of (take l.path-index l.paths))

@@ -7,6 +7,6 @@ use Rattle.sdl_compile.proofs.state.compile_inputs.Given as goal
 
 abbrev pub invariant-loop-row : goal.invariant-loop-row
 invariant-loop-row l = record {
-  made : AllZip (IsInputOf (scope_in l.context.names.now) l.context.variables.now l.context.signals.now l.context.drafts.now l.entry) (map row_input (take l.row-index l.rows)) l.inputs.items;
-  ready : AreReady (scope_in l.context.names.now) l.context.signals.now l.context.drafts.now (map row_input (drop l.row-index l.rows));
+  made : AllZip (IsInputOf (scope_in l.context.names.now) l.entry) (map row_input (take l.row-index l.rows)) l.inputs.items;
+  ready : AreReady (scope_in l.context.names.now) (map row_input (drop l.row-index l.rows));
 }
