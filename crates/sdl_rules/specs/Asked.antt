@@ -1,15 +1,17 @@
--- What each rule on actions asks of one.
+-- What each rule on statements asks of one.
 use Rattle.std.specs.Prelude.{ℕ, List}
-use Rattle.sdl_tree.specs.Plain.{PlainAction, PlainStimulus, PlainProcess, PlainBlock}
+use Rattle.sdl_tree.specs.Plain.{PlainProcess, PlainBlock}
 use Rattle.sdl_tables.specs.Names.{variables_of}
-use Rattle.sdl_rules.specs.Sorts.{wrong_action}
-use Rattle.sdl_rules.specs.Divisors.{action_divisors}
-use Rattle.sdl_rules.specs.Receivers.{lost_action, doubtful_action}
-use Rattle.sdl_rules.specs.declared.actions.ActionRule.{ActionRule}
-use Rattle.sdl_rules.specs.declared.actions.ActionRule.TheVariants.{Sorts, Receivers, OneReceiver, Divisors}
+use Rattle.sdl_rules.specs.Statements.{Statement}
+use Rattle.sdl_rules.specs.Actions.{Origin}
+use Rattle.sdl_rules.specs.Sorts.{wrong_statement}
+use Rattle.sdl_rules.specs.Divisors.{statement_divisors}
+use Rattle.sdl_rules.specs.Receivers.{lost_statement, doubtful_statement}
+use Rattle.sdl_rules.specs.declared.actions.StatementRule.{StatementRule}
+use Rattle.sdl_rules.specs.declared.actions.StatementRule.TheVariants.{Sorts, Receivers, OneReceiver, Divisors}
 
-abbrev pub asked : ActionRule → PlainBlock → PlainProcess → List PlainStimulus → PlainAction → List ℕ
-asked Sorts b p is a = wrong_action b (variables_of p) a
-asked Receivers b p is a = lost_action b p is a
-asked OneReceiver b p is a = doubtful_action b p a
-asked Divisors b p is a = action_divisors a
+abbrev pub asked : StatementRule → PlainBlock → PlainProcess → List Origin → Statement → List ℕ
+asked Sorts b p from s = wrong_statement b (variables_of p) s
+asked Receivers b p from s = lost_statement b p from s
+asked OneReceiver b p from s = doubtful_statement b p s
+asked Divisors b p from s = statement_divisors s

@@ -1,19 +1,20 @@
 -- What a part of a transition does with the variables, as bits by their numbers.
-use Rattle.std.specs.Prelude.{◌≡◌, ℕ, ◌<◌, Bool, not, List, [], ◌∷◌, map, Option, None, Some, slice_get}
+use Rattle.std.specs.Prelude.{◌≡◌, ◌↔◌, ℕ, ◌<◌, Bool, true, not, List, map, Option, Some, slice_get, Contains}
 use Rattle.std.specs.List.{AllZip}
+use Rattle.std.specs.Option.{option_map_or}
 use Rattle.std.specs.Global.{Vec}
 use Rattle.unset_paths.specs.Graph.{has}
 use Rattle.unset_paths.specs.declared.Passage.{Passage}
 use Rattle.unset_paths.specs.declared.Summary.{Summary}
 use Rattle.sdl_tree.specs.declared.expression.Identifier.{Identifier}
-use Rattle.sdl_tree.specs.declared.tree.End.{End}
-use Rattle.sdl_tree.specs.declared.tree.End.TheVariants.{NextState, Stop}
 use Rattle.sdl_tree.specs.Plain.{PlainProcess}
-use Rattle.sdl_tables.specs.Names.{number_of, variable_names, Input}
+use Rattle.sdl_tables.specs.Names.{variable_names, Input}
 use Rattle.sdl_rules.specs.Sound.{place_names}
 use Rattle.sdl_rules.specs.Paths.{Event, sets, input_transition, reads_first, sets_in}
+use Rattle.sdl_rules.specs.Chances.{Chances}
 use Rattle.sdl_rules.specs.Graphs.{IsSummaryOf}
 use Rattle.sdl_rules.specs.declared.flows.Flow.{Flow}
+use Rattle.sdl_rules.specs.declared.flows.Walker.{Walker}
 
 -- bit v says whether the name of identifier v passes a test
 pub record Tells (ids : List Identifier) (test : List ℕ → Bool) (bits : ℕ) : Type 0 where
@@ -29,16 +30,22 @@ Does p events flow =
 abbrev pub place_events : List (Option Identifier) → List Event
 place_events places = map (λ id. sets id.name) (place_names places)
 
--- the state in which a transition ends, by its number; none where it stops
-abbrev pub target : List Identifier → Option End → Option ℕ
-target states None = None
-target states (Some (NextState n)) = number_of states n.state.name
-target states (Some (Stop at)) = None
+-- ---- what walks may do, as bits for all variables
 
--- the passage to that state
-abbrev pub passages_to : ℕ → Option ℕ → List Passage
-passages_to keeps None = []
-passages_to keeps (Some q) = record { state = q; keeps = keeps } ∷ []
+-- the mask of state q
+abbrev pub mask_at : List ℕ → ℕ → ℕ
+mask_at masks q = option_map_or (λ m. m) (slice_get masks q) 0
+
+-- these bits say what may happen to each variable, and to each with each state
+unfoldable pub Stands : PlainProcess → (List ℕ → ℕ → Chances) → Walker → Type 0
+Stands p f w = (v q : ℕ) (id : Identifier) → v < 32 → slice_get (variable_names p) v ≡ Some id
+    → (has w.reads v ≡ (f id.name q).reads) × (has w.leaves v ≡ (f id.name q).leaves)
+    × (has (mask_at w.enters.items q) v ≡ (f id.name q).enters)
+
+-- a passage for each state in which some variable may be unset
+abbrev pub ArePassages : List ℕ → List Passage → Type 0
+ArePassages masks passages = (v q : ℕ) → v < 32
+    → ((passage : Passage) × Contains passages passage × (has passage.keeps v ≡ true) × (passage.state ≡ q)) ↔ (has (mask_at masks q) v ≡ true)
 
 -- the summaries of the inputs of a state
 abbrev pub AreSummariesOf : PlainProcess → List Input → Vec Summary → Type 0

@@ -1,10 +1,14 @@
 pub mod Actions
 pub mod Asked
+pub mod Chances
+pub mod Decisions
 pub mod Divisors
 pub mod Fates
 pub mod Flows
 pub mod Founds
+pub mod Going
 pub mod Graphs
+pub mod Joins
 pub mod Longest
 pub mod Paths
 pub mod Receivers
@@ -14,4 +18,5 @@ pub mod Rows
 pub mod Settled
 pub mod Sorts
 pub mod Sound
+pub mod Statements
 pub mod Surveys

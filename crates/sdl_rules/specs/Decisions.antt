@@ -1,0 +1,72 @@
+-- Which DECISIONs have no answer for some value, or more than one. (Z.100: decisions; that an Integer one has ELSE is this
+-- profile's own.)
+use Rattle.std.specs.Prelude.{ℕ, ◌+◌, Bool, true, false, not, ◌&&◌, List, [], ◌∷◌, ◌++◌, if◌then◌else◌, nat_eq, nat_lt, sum_by}
+use Rattle.std.specs.List.{flat_map}
+use Rattle.sdl_tree.specs.declared.tree.Literal.{Literal}
+use Rattle.sdl_tree.specs.declared.tree.Literal.TheVariants.{Integer, Boolean}
+use Rattle.sdl_tree.specs.declared.tree.Range.{Range}
+use Rattle.sdl_tree.specs.declared.tree.Range.TheVariants.{Value, Compared, Between}
+use Rattle.sdl_tree.specs.Plain.{Tree, Text, falls, ends, does, decides, Choice, nothing_else, otherwise, answer, PlainProcess, PlainBlock}
+use Rattle.sdl_tables.specs.Names.{Variable, variables_of, input_parts, processes_of}
+use Rattle.sdl_rules.specs.Sorts.{is_truth}
+
+-- ---- S8: an Integer DECISION without ELSE, or a Boolean one in which a value isn't answered exactly once
+
+abbrev pub has_else : Choice → Bool
+has_else nothing_else = false
+has_else (otherwise body) = true
+has_else (answer at ranges body others) = has_else others
+
+-- whether a constant is this truth value
+abbrev pub is_value : Bool → Literal → ℕ
+is_value b (Integer k) = 0
+is_value true (Boolean true) = 1
+is_value true (Boolean false) = 0
+is_value false (Boolean true) = 0
+is_value false (Boolean false) = 1
+
+abbrev pub names_value : Bool → Range → ℕ
+names_value b (Value c) = is_value b c.value
+names_value b (Compared at relation c) = 0
+names_value b (Between low high) = 0
+
+-- how often a truth value is named in the answers
+abbrev pub times_named : Bool → Choice → ℕ
+times_named b nothing_else = 0
+times_named b (otherwise body) = 0
+times_named b (answer at ranges body others) = sum_by (names_value b) ranges + times_named b others
+
+-- Each truth value is answered exactly once: without ELSE each is named once; with ELSE, which answers what is left, one of
+-- them at most, and once.
+abbrev pub answers_both : Choice → Bool
+answers_both c =
+    if has_else c
+    then nat_lt (times_named true c + times_named false c) 2
+    else nat_eq (times_named true c) 1 && nat_eq (times_named false c) 1
+
+-- whether each value that the question may have is answered
+abbrev pub is_answered : List Variable → Tree → Choice → Bool
+is_answered vs q c = if is_truth vs q then answers_both c else has_else c
+
+mutual
+  -- the places of the DECISIONs that don't do so, in bodies too
+  abbrev pub unanswered_in : List Variable → Text → List ℕ
+  unanswered_in vs falls = []
+  unanswered_in vs (ends e) = []
+  unanswered_in vs (does a rest) = unanswered_in vs rest
+  unanswered_in vs (decides at q c rest) =
+      (if is_answered vs q c then [] else at ∷ []) ++ (unanswered_in_choice vs c ++ unanswered_in vs rest)
+
+  abbrev pub unanswered_in_choice : List Variable → Choice → List ℕ
+  unanswered_in_choice vs nothing_else = []
+  unanswered_in_choice vs (otherwise body) = unanswered_in vs body
+  unanswered_in_choice vs (answer at ranges body others) = unanswered_in vs body ++ unanswered_in_choice vs others
+
+abbrev pub process_unanswered : PlainProcess → List ℕ
+process_unanswered p =
+    unanswered_in (variables_of p) p.start.text
+    ++ (flat_map (λ i. unanswered_in (variables_of p) i.text) (input_parts p)
+    ++ flat_map (λ c. unanswered_in (variables_of p) c.text) p.connections)
+
+abbrev pub unanswered : PlainBlock → List ℕ
+unanswered b = flat_map process_unanswered (processes_of b)
