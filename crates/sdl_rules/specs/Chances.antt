@@ -48,15 +48,15 @@ end_chances states join q (NextState n) = record { reads = false; leaves = false
 end_chances states join q (Stop at) = no_chances
 end_chances states join q (Join j) = join j.connector.name
 
-mutual
-  abbrev pub chances : List Identifier → (List ℕ → Chances) → List ℕ → ℕ → Text → Chances
+abbrev mutual
+  pub chances : List Identifier → (List ℕ → Chances) → List ℕ → ℕ → Text → Chances
   chances states join x q falls = leaving
   chances states join x q (ends e) = end_chances states join q e
   chances states join x q (does action rest) = behind (event_chances (action_events action) x) (chances states join x q rest)
   chances states join x q (decides at t c rest) =
       behind (event_chances (tree_events t) x) (behind (choice_chances states join x q c) (chances states join x q rest))
 
-  abbrev pub choice_chances : List Identifier → (List ℕ → Chances) → List ℕ → ℕ → Choice → Chances
+  pub choice_chances : List Identifier → (List ℕ → Chances) → List ℕ → ℕ → Choice → Chances
   choice_chances states join x q nothing_else = no_chances
   choice_chances states join x q (otherwise body) = chances states join x q body
   choice_chances states join x q (answer at ranges body others) =

@@ -48,16 +48,16 @@ answers_both c =
 abbrev pub is_answered : List Variable → Tree → Choice → Bool
 is_answered vs q c = if is_truth vs q then answers_both c else has_else c
 
-mutual
+abbrev mutual
   -- the places of the DECISIONs that don't do so, in bodies too
-  abbrev pub unanswered_in : List Variable → Text → List ℕ
+  pub unanswered_in : List Variable → Text → List ℕ
   unanswered_in vs falls = []
   unanswered_in vs (ends e) = []
   unanswered_in vs (does a rest) = unanswered_in vs rest
   unanswered_in vs (decides at q c rest) =
       (if is_answered vs q c then [] else at ∷ []) ++ (unanswered_in_choice vs c ++ unanswered_in vs rest)
 
-  abbrev pub unanswered_in_choice : List Variable → Choice → List ℕ
+  pub unanswered_in_choice : List Variable → Choice → List ℕ
   unanswered_in_choice vs nothing_else = []
   unanswered_in_choice vs (otherwise body) = unanswered_in vs body
   unanswered_in_choice vs (answer at ranges body others) = unanswered_in vs body ++ unanswered_in_choice vs others

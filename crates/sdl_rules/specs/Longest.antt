@@ -116,10 +116,10 @@ abbrev pub tests_budget : List Range → ℕ → ℕ → ℕ
 tests_budget [] body others = others
 tests_budget (r ∷ ranges) body others = 1 + max body (tests_budget ranges body others)
 
-mutual
+abbrev mutual
   -- the greatest cost of a walk through a text that something of cost k follows: a JOIN, or the question of a DECISION and
   -- what is chosen, each is followed by what it goes on with
-  abbrev pub budget : List Variable → (List ℕ → ℕ) → Text → ℕ → ℕ
+  pub budget : List Variable → (List ℕ → ℕ) → Text → ℕ → ℕ
   budget vs join falls k = k
   budget vs join (ends e) k = end_cost e + end_count join e
   budget vs join (does a rest) k = action_cost a + budget vs join rest k
@@ -128,40 +128,40 @@ mutual
 
   -- of an Integer DECISION behind its question: the tests up to a range, its body, and 1 where the body goes on; for ELSE all
   -- tests, and 1 to drop what was asked
-  abbrev pub case_budget : List Variable → (List ℕ → ℕ) → Choice → ℕ → ℕ
+  pub case_budget : List Variable → (List ℕ → ℕ) → Choice → ℕ → ℕ
   case_budget vs join nothing_else k = 0
   case_budget vs join (otherwise body) k = 1 + budget vs join body (1 + k)
   case_budget vs join (answer at ranges body others) k =
       tests_budget ranges (budget vs join body (1 + k)) (case_budget vs join others k)
 
   -- of a Boolean one behind the choice of the body: the body, and 1 where it goes on
-  abbrev pub pick_budget : List Variable → (List ℕ → ℕ) → Choice → ℕ → ℕ
+  pub pick_budget : List Variable → (List ℕ → ℕ) → Choice → ℕ → ℕ
   pick_budget vs join nothing_else k = 0
   pick_budget vs join (otherwise body) k = budget vs join body (1 + k)
   pick_budget vs join (answer at ranges body others) k = max (budget vs join body (1 + k)) (pick_budget vs join others k)
 
-mutual
+abbrev mutual
   -- the greatest depth on a walk
-  abbrev pub depth : (List ℕ → ℕ) → Text → ℕ
+  pub depth : (List ℕ → ℕ) → Text → ℕ
   depth join falls = 0
   depth join (ends e) = end_count join e
   depth join (does a rest) = max (action_depth a) (depth join rest)
   depth join (decides at q c rest) = max (depth_of q) (max (choice_depth join c) (depth join rest))
 
-  abbrev pub choice_depth : (List ℕ → ℕ) → Choice → ℕ
+  pub choice_depth : (List ℕ → ℕ) → Choice → ℕ
   choice_depth join nothing_else = 0
   choice_depth join (otherwise body) = depth join body
   choice_depth join (answer at ranges body others) = max (depth join body) (choice_depth join others)
 
-mutual
+abbrev mutual
   -- the most effects on a walk through a text that something with k effects follows
-  abbrev pub effects : (List ℕ → ℕ) → Text → ℕ → ℕ
+  pub effects : (List ℕ → ℕ) → Text → ℕ → ℕ
   effects join falls k = k
   effects join (ends e) k = end_count join e
   effects join (does a rest) k = action_effects a + effects join rest k
   effects join (decides at q c rest) k = choice_effects join c (effects join rest k)
 
-  abbrev pub choice_effects : (List ℕ → ℕ) → Choice → ℕ → ℕ
+  pub choice_effects : (List ℕ → ℕ) → Choice → ℕ → ℕ
   choice_effects join nothing_else k = 0
   choice_effects join (otherwise body) k = effects join body k
   choice_effects join (answer at ranges body others) k = max (effects join body k) (choice_effects join others k)
@@ -199,17 +199,17 @@ tests_size nothing_else = 0
 tests_size (otherwise body) = 1
 tests_size (answer at ranges body others) = length ranges + tests_size others
 
-mutual
+abbrev mutual
   -- the code of a text without that of connections: a JOIN is a jump; an Integer DECISION has a test for each range and a
   -- drop before ELSE, a Boolean one has one instruction that chooses
-  abbrev pub size : List Variable → Text → ℕ
+  pub size : List Variable → Text → ℕ
   size vs falls = 0
   size vs (ends e) = end_cost e
   size vs (does a rest) = action_cost a + size vs rest
   size vs (decides at q c rest) =
       cost_of q + (if is_truth vs q then 1 else tests_size c) + bodies_size vs c + size vs rest
 
-  abbrev pub bodies_size : List Variable → Choice → ℕ
+  pub bodies_size : List Variable → Choice → ℕ
   bodies_size vs nothing_else = 0
   bodies_size vs (otherwise body) = size vs body + jump_size body
   bodies_size vs (answer at ranges body others) = size vs body + jump_size body + bodies_size vs others

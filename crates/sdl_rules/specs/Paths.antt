@@ -46,10 +46,10 @@ GoesOn onward rest after way = rest after way
 GoesOn stops rest after way = (after ≡ []) × (way ≡ stops)
 GoesOn (enters s) rest after way = (after ≡ []) × (way ≡ enters s)
 
-mutual
+abbrev mutual
   -- A walk of a text: its reads and sets in order, and how it ends. A DECISION reads its question, and then some one of its
   -- bodies is walked; a JOIN goes on with a walk of its connection, which `join` tells.
-  abbrev pub Walks : (List ℕ → List Event → Way → Type 0) → Text → List Event → Way → Type 0
+  pub Walks : (List ℕ → List Event → Way → Type 0) → Text → List Event → Way → Type 0
   Walks join falls events way = (events ≡ []) × (way ≡ onward)
   Walks join (ends (NextState n)) events way = (events ≡ []) × (way ≡ enters n.state.name)
   Walks join (ends (Stop at)) events way = (events ≡ []) × (way ≡ stops)
@@ -61,7 +61,7 @@ mutual
       × IsChosen join c chosen between × GoesOn between (Walks join rest) after way
 
   -- a walk of one of the bodies; that of an answer may be taken by each of its ranges
-  abbrev pub IsChosen : (List ℕ → List Event → Way → Type 0) → Choice → List Event → Way → Type 0
+  pub IsChosen : (List ℕ → List Event → Way → Type 0) → Choice → List Event → Way → Type 0
   IsChosen join nothing_else events way = ⊥
   IsChosen join (otherwise body) events way = Walks join body events way
   IsChosen join (answer at ranges body others) events way = Walks join body events way ⊎ IsChosen join others events way

@@ -136,10 +136,10 @@ stray_end states (NextState n) = if is_in states n.state.name then [] else n.at 
 stray_end states (Stop at) = []
 stray_end states (Join j) = []
 
-mutual
+abbrev mutual
   -- The places in a text that has `off` where it runs off its end. What stands behind a DECISION none of whose bodies goes on
   -- is named in place of that end.
-  abbrev pub strays : List Identifier → List ℕ → Text → List ℕ
+  pub strays : List Identifier → List ℕ → Text → List ℕ
   strays states off falls = off
   strays states off (ends e) = stray_end states e
   strays states off (does a rest) = strays states off rest
@@ -148,7 +148,7 @@ mutual
       ++ (if choice_goes_on c then strays states off rest else first_place rest ++ strays states [] rest)
 
   -- a body that runs off its end goes on behind its DECISION
-  abbrev pub choice_strays : List Identifier → Choice → List ℕ
+  pub choice_strays : List Identifier → Choice → List ℕ
   choice_strays states nothing_else = []
   choice_strays states (otherwise body) = strays states [] body
   choice_strays states (answer at ranges body others) = strays states [] body ++ choice_strays states others

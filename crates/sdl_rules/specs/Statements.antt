@@ -17,15 +17,15 @@ pub data Statement : Type 0 where
   -- a NEXTSTATE, STOP or JOIN
   finishes : End → Statement
 
-mutual
-  abbrev pub statements_of : Text → List Statement
+abbrev mutual
+  pub statements_of : Text → List Statement
   statements_of falls = []
   statements_of (ends e) = finishes e ∷ []
   statements_of (does a rest) = acts a ∷ statements_of rest
   statements_of (decides at q c rest) = asks q ∷ (choice_statements q c ++ statements_of rest)
 
   -- those of the answers to a question, and of what they do
-  abbrev pub choice_statements : Tree → Choice → List Statement
+  pub choice_statements : Tree → Choice → List Statement
   choice_statements q nothing_else = []
   choice_statements q (otherwise body) = statements_of body
   choice_statements q (answer at ranges body others) = covers q ranges ∷ (statements_of body ++ choice_statements q others)
