@@ -4,14 +4,18 @@ use Rattle.sdl_tree.specs.Plain.{PlainProcess, PlainBlock}
 use Rattle.sdl_tables.specs.Names.{variables_of}
 use Rattle.sdl_rules.specs.Statements.{Statement}
 use Rattle.sdl_rules.specs.Actions.{Origin}
+use Rattle.sdl_rules.specs.Sound.{statement_unknown}
 use Rattle.sdl_rules.specs.Sorts.{wrong_statement}
 use Rattle.sdl_rules.specs.Divisors.{statement_divisors}
 use Rattle.sdl_rules.specs.Receivers.{lost_statement, doubtful_statement}
+use Rattle.sdl_rules.specs.Decisions.{statement_unanswered}
 use Rattle.sdl_rules.specs.declared.actions.StatementRule.{StatementRule}
-use Rattle.sdl_rules.specs.declared.actions.StatementRule.TheVariants.{Sorts, Receivers, OneReceiver, Divisors}
+use Rattle.sdl_rules.specs.declared.actions.StatementRule.TheVariants.{Names, Sorts, Receivers, OneReceiver, Answers, Divisors}
 
 abbrev pub asked : StatementRule → PlainBlock → PlainProcess → List Origin → Statement → List ℕ
+asked Names b p from s = statement_unknown b p s
 asked Sorts b p from s = wrong_statement b (variables_of p) s
 asked Receivers b p from s = lost_statement b p from s
 asked OneReceiver b p from s = doubtful_statement b p s
+asked Answers b p from s = statement_unanswered (variables_of p) s
 asked Divisors b p from s = statement_divisors s

@@ -1,13 +1,15 @@
 -- Which DECISIONs have no answer for some value, or more than one. (Z.100: decisions; that an Integer one has ELSE is this
 -- profile's own.)
-use Rattle.std.specs.Prelude.{ℕ, ◌+◌, Bool, true, false, not, ◌&&◌, List, [], ◌∷◌, ◌++◌, if◌then◌else◌, nat_eq, nat_lt, sum_by}
+use Rattle.std.specs.Prelude.{ℕ, ◌+◌, Bool, true, false, ◌&&◌, List, [], ◌∷◌, if◌then◌else◌, nat_eq, nat_lt, sum_by}
 use Rattle.std.specs.List.{flat_map}
 use Rattle.sdl_tree.specs.declared.tree.Literal.{Literal}
 use Rattle.sdl_tree.specs.declared.tree.Literal.TheVariants.{Integer, Boolean}
 use Rattle.sdl_tree.specs.declared.tree.Range.{Range}
 use Rattle.sdl_tree.specs.declared.tree.Range.TheVariants.{Value, Compared, Between}
-use Rattle.sdl_tree.specs.Plain.{Tree, Text, falls, ends, does, decides, Choice, nothing_else, otherwise, answer, PlainProcess, PlainBlock}
-use Rattle.sdl_tables.specs.Names.{Variable, variables_of, input_parts, processes_of}
+use Rattle.sdl_tree.specs.Plain.{Tree, Choice, nothing_else, otherwise, answer, PlainBlock}
+use Rattle.sdl_tables.specs.Names.{Variable, variables_of, processes_of}
+use Rattle.sdl_rules.specs.Statements.{Statement, acts, asks, covers, finishes}
+use Rattle.sdl_rules.specs.Actions.{in_statements}
 use Rattle.sdl_rules.specs.Sorts.{is_truth}
 
 -- ---- S8: an Integer DECISION without ELSE, or a Boolean one in which a value isn't answered exactly once
@@ -48,25 +50,11 @@ answers_both c =
 abbrev pub is_answered : List Variable → Tree → Choice → Bool
 is_answered vs q c = if is_truth vs q then answers_both c else has_else c
 
-abbrev mutual
-  -- the places of the DECISIONs that don't do so, in bodies too
-  pub unanswered_in : List Variable → Text → List ℕ
-  unanswered_in vs falls = []
-  unanswered_in vs (ends e) = []
-  unanswered_in vs (does a rest) = unanswered_in vs rest
-  unanswered_in vs (decides at q c rest) =
-      (if is_answered vs q c then [] else at ∷ []) ++ (unanswered_in_choice vs c ++ unanswered_in vs rest)
-
-  pub unanswered_in_choice : List Variable → Choice → List ℕ
-  unanswered_in_choice vs nothing_else = []
-  unanswered_in_choice vs (otherwise body) = unanswered_in vs body
-  unanswered_in_choice vs (answer at ranges body others) = unanswered_in vs body ++ unanswered_in_choice vs others
-
-abbrev pub process_unanswered : PlainProcess → List ℕ
-process_unanswered p =
-    unanswered_in (variables_of p) p.start.text
-    ++ (flat_map (λ i. unanswered_in (variables_of p) i.text) (input_parts p)
-    ++ flat_map (λ c. unanswered_in (variables_of p) c.text) p.connections)
+abbrev pub statement_unanswered : List Variable → Statement → List ℕ
+statement_unanswered vs (acts a) = []
+statement_unanswered vs (asks at q c) = if is_answered vs q c then [] else at ∷ []
+statement_unanswered vs (covers q ranges) = []
+statement_unanswered vs (finishes e) = []
 
 abbrev pub unanswered : PlainBlock → List ℕ
-unanswered b = flat_map process_unanswered (processes_of b)
+unanswered b = flat_map (λ p. in_statements (λ from. statement_unanswered (variables_of p)) p) (processes_of b)

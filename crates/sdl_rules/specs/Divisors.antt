@@ -62,7 +62,7 @@ action_divisors (reset_timer at timer) = []
 
 abbrev pub statement_divisors : Statement → List ℕ
 statement_divisors (acts a) = action_divisors a
-statement_divisors (asks q) = bad_divisors_in q
+statement_divisors (asks at q c) = bad_divisors_in q
 statement_divisors (covers q ranges) = []
 statement_divisors (finishes e) = []
 

@@ -89,7 +89,7 @@ lost_action b p from (reset_timer at timer) = []
 
 abbrev pub lost_statement : PlainBlock → PlainProcess → List Origin → Statement → List ℕ
 lost_statement b p from (acts a) = lost_action b p from a
-lost_statement b p from (asks q) = []
+lost_statement b p from (asks at q c) = []
 lost_statement b p from (covers q ranges) = []
 lost_statement b p from (finishes e) = []
 
@@ -113,7 +113,7 @@ doubtful_action b p (reset_timer at timer) = []
 
 abbrev pub doubtful_statement : PlainBlock → PlainProcess → Statement → List ℕ
 doubtful_statement b p (acts a) = doubtful_action b p a
-doubtful_statement b p (asks q) = []
+doubtful_statement b p (asks at q c) = []
 doubtful_statement b p (covers q ranges) = []
 doubtful_statement b p (finishes e) = []
 

@@ -1,5 +1,5 @@
 -- What is measured of a piece.
-use Rattle.std.specs.Prelude.{ℕ, Bool, nat_lt}
+use Rattle.std.specs.Prelude.{Bool, nat_lt}
 use Rattle.sdl_tree.specs.Plain.{PlainProcess}
 use Rattle.sdl_rules.specs.Longest.{Piece, piece_size, piece_depth, piece_effects}
 use Rattle.sdl_rules.specs.declared.limits.Measure.{Measure}

@@ -207,7 +207,7 @@ wrong_answer vs q r = if answers_question vs q r then [] else range_place r ∷ 
 -- a statement; a question may be of either sort
 abbrev pub wrong_statement : PlainBlock → List Variable → Statement → List ℕ
 wrong_statement b vs (acts a) = wrong_action b vs a
-wrong_statement b vs (asks q) = wrong_in vs q
+wrong_statement b vs (asks at q c) = wrong_in vs q
 wrong_statement b vs (covers q ranges) = flat_map (wrong_answer vs q) ranges
 wrong_statement b vs (finishes e) = []
 

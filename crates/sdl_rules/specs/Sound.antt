@@ -11,7 +11,8 @@ use Rattle.sdl_tree.specs.declared.tree.End.{End}
 use Rattle.sdl_tree.specs.declared.tree.End.TheVariants.{NextState, Stop, Join}
 use Rattle.sdl_tree.specs.Plain.{Tree, number, truth, variable, unary, binary, PlainAssignment, PlainSending, PlainAction, task, output, set_timer, reset_timer, Text, falls, ends, does, decides, Choice, nothing_else, otherwise, answer, PlainConnection, PlainStimulus, PlainInput, PlainState, PlainProcess, PlainPath, PlainRoute, PlainBlock}
 use Rattle.sdl_tables.specs.Names.{is_in, signals_of, routes_of, processes_of, signal_names, process_names, variables_of, variable_names, timers_of, connector_names, states_of, input_parts, part_saves}
-use Rattle.sdl_rules.specs.Statements.{Statement, acts, asks, covers, finishes, statements_of}
+use Rattle.sdl_rules.specs.Statements.{Statement, acts, asks, covers, finishes}
+use Rattle.sdl_rules.specs.Actions.{in_statements}
 use Rattle.sdl_rules.specs.Going.{choice_goes_on}
 use Rattle.sdl_rules.specs.Longest.{pieces_of, piece_size, piece_depth, piece_effects}
 use Rattle.sdl_rules.specs.declared.fault.Limit.{Limit}
@@ -72,12 +73,9 @@ end_connectors (Join j) = j.connector ∷ []
 
 abbrev pub statement_unknown : PlainBlock → PlainProcess → Statement → List ℕ
 statement_unknown b p (acts a) = action_unknown b p a
-statement_unknown b p (asks q) = unknown (variable_names p) (tree_names q)
+statement_unknown b p (asks at q c) = unknown (variable_names p) (tree_names q)
 statement_unknown b p (covers q ranges) = []
 statement_unknown b p (finishes e) = unknown (connector_names p) (end_connectors e)
-
-abbrev pub text_unknown : PlainBlock → PlainProcess → Text → List ℕ
-text_unknown b p t = flat_map (statement_unknown b p) (statements_of t)
 
 -- what an INPUT or a SAVE may name: a signal, or a timer of the process
 abbrev pub trigger_names : PlainBlock → PlainProcess → List Identifier
@@ -91,21 +89,17 @@ abbrev pub stimulus_unknown : PlainBlock → PlainProcess → PlainStimulus → 
 stimulus_unknown b p s = unknown (trigger_names b p) (s.name ∷ []) ++ unknown (variable_names p) (place_names s.places)
 
 abbrev pub input_unknown : PlainBlock → PlainProcess → PlainInput → List ℕ
-input_unknown b p i = flat_map (stimulus_unknown b p) i.stimuli ++ text_unknown b p i.text
+input_unknown b p i = flat_map (stimulus_unknown b p) i.stimuli
 
 -- the names in the SAVEs of a STATE part
 abbrev pub saves_unknown : PlainBlock → PlainProcess → PlainState → List ℕ
 saves_unknown b p part = unknown (trigger_names b p) (part_saves part)
 
-abbrev pub connection_unknown : PlainBlock → PlainProcess → PlainConnection → List ℕ
-connection_unknown b p c = text_unknown b p c.text
-
+-- what INPUTs and SAVEs name, and every statement
 abbrev pub process_unknown : PlainBlock → PlainProcess → List ℕ
 process_unknown b p =
-    text_unknown b p p.start.text
-    ++ (flat_map (input_unknown b p) (input_parts p)
-    ++ (flat_map (saves_unknown b p) p.states
-    ++ flat_map (connection_unknown b p) p.connections))
+    flat_map (input_unknown b p) (input_parts p)
+    ++ (flat_map (saves_unknown b p) p.states ++ in_statements (λ from. statement_unknown b p) p)
 
 abbrev pub unknown_names : PlainBlock → List ℕ
 unknown_names b = flat_map (route_unknown b) (routes_of b) ++ flat_map (process_unknown b) (processes_of b)

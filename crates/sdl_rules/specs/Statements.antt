@@ -10,8 +10,8 @@ use Rattle.sdl_tree.specs.Plain.{Tree, PlainAction, Text, falls, ends, does, dec
 
 pub data Statement : Type 0 where
   acts : PlainAction → Statement
-  -- the question of a DECISION
-  asks : Tree → Statement
+  -- a DECISION: its place, the question, and the answers
+  asks : ℕ → Tree → Choice → Statement
   -- an answer: the question, and the values that it is for
   covers : Tree → List Range → Statement
   -- a NEXTSTATE, STOP or JOIN
@@ -22,7 +22,7 @@ abbrev mutual
   statements_of falls = []
   statements_of (ends e) = finishes e ∷ []
   statements_of (does a rest) = acts a ∷ statements_of rest
-  statements_of (decides at q c rest) = asks q ∷ (choice_statements q c ++ statements_of rest)
+  statements_of (decides at q c rest) = asks at q c ∷ (choice_statements q c ++ statements_of rest)
 
   -- those of the answers to a question, and of what they do
   pub choice_statements : Tree → Choice → List Statement
@@ -39,7 +39,7 @@ end_joins (how.Join j) = j ∷ []
 
 abbrev pub statement_joins : Statement → List Join
 statement_joins (acts a) = []
-statement_joins (asks q) = []
+statement_joins (asks at q c) = []
 statement_joins (covers q ranges) = []
 statement_joins (finishes e) = end_joins e
 
