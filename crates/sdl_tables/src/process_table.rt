@@ -122,7 +122,11 @@ fn connector_ids(
 ) -> Result<Vec<Identifier>, AllocError>
     ensures { IfOk result (λ ids. ids.items ≡ map (λ c. c.name) (map connection_of connections.now)) }
 {
-    connections.iter().map(|c| c.name).collect(alloc)
+    let mut ids = Vec::new(alloc);
+    for connection in connections {
+        ids.push(connection.name)?;
+    }
+    Ok(ids)
 }
 
 fn collect_states(alloc: Global, parts: &[StatePart]) -> Result<NameTable, AllocError>
@@ -307,8 +311,8 @@ impl<'a> ProcessTable<'a> {
         let saves = collect_names(alloc, process, &states, Which::Saves)?;
         let parts = collect_parts(alloc, &process.states)?;
         let twice = trigger_double(alloc, process, &states)?;
-        let declared = earlier(variables.double, earlier(timers.double, connectors.double));
-        let double = earlier(declared, twice);
+        let labels_and_triggers = earlier(connectors.double, twice);
+        let double = earlier(variables.double, earlier(timers.double, labels_and_triggers));
         match double {
             Some(at) => Err(TableFault::DoubleName(at)),
             None => Ok(ProcessTable {
