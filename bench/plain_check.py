@@ -3,8 +3,9 @@
 
 usage: bench/plain_check.py FILE ..     prints the lines that check prints for each
 
-It knows the straight language (no DECISION, JOIN or CONNECTION), has no proofs, and takes a Python process for each run."""
+It knows the whole language, has no proofs, and takes a Python process for each run."""
 import sys
+sys.setrecursionlimit(100000)
 RES = set("""BLOCK ENDBLOCK SIGNAL SIGNALROUTE FROM TO WITH ENV CONNECT PROCESS ENDPROCESS DCL TIMER START STATE ENDSTATE INPUT SAVE
 CONNECTION ENDCONNECTION TASK OUTPUT SENDER SET RESET NOW DECISION ELSE ENDDECISION NEXTSTATE STOP JOIN COMMENT NOT AND OR XOR MOD REM
 INTEGER BOOLEAN TRUE FALSE PROCEDURE ENDPROCEDURE CALL FPAR IN RETURN""".split())
@@ -50,7 +51,7 @@ def lex(b):
         raise Refusal('L1 BadCharacter line %d' % line_of(b, i))
     return out
 class P:
-    def __init__(s, b, toks): s.b = b; s.t = toks; s.i = 0; s.high = None
+    def __init__(s, b, toks): s.b = b; s.t = toks; s.i = 0; s.high = None; s.inner = [0]
     def k(s): return s.t[s.i][0] if s.i < len(s.t) else 'end'
     def at(s): return s.t[s.i][2] if s.i < len(s.t) else None
     def fail(s):
@@ -130,8 +131,12 @@ class P:
                 s.end()
             else:
                 s.i += 1; decls.append(('timer', s.names())); s.end()
-        at = s.take('START')[2]; s.end(); start = (at, s.trans()); states = []
-        while s.k() == 'STATE':
+        at = s.take('START')[2]; s.end(); start = (at, s.trans()); states = []; conns = []
+        while s.k() in ('STATE', 'CONNECTION'):
+            if s.k() == 'CONNECTION':
+                at = s.take('CONNECTION')[2]; c = s.name(); s.take(':'); tr = s.trans()
+                if s.opt('ENDCONNECTION'): s.closing(c); s.end()
+                conns.append((at, c, tr)); continue
             s.i += 1; ns = s.names(); s.end(); cl = []
             while s.k() in ('INPUT', 'SAVE'):
                 if s.k() == 'INPUT':
@@ -143,7 +148,7 @@ class P:
             if s.opt('ENDSTATE'): s.closing(ns[0]); s.end()
             states.append((ns, cl))
         s.take('ENDPROCESS'); s.closing(n); s.end()
-        return (n, decls, start, states)
+        return (n, decls, start, states, conns)
     def const(s):
         at = s.at()
         if s.opt('-'): return ('INTEGER', -s.take('num')[1], at)
@@ -157,6 +162,26 @@ class P:
             while s.opt(','): pl.append(s.name() if s.k() == 'name' else None)
             s.take(')')
         return (n, pl)
+    def range(s):
+        at = s.at()
+        if s.k() in ('=', '/=', '<', '<=', '>', '>='): o = s.k(); s.i += 1; return ('rel', o, s.const(), at)
+        c = s.const()
+        if s.opt(':'): return ('to', c, s.const(), at)
+        return ('val', c, at)
+    def decision(s):
+        at = s.take('DECISION')[2]; q = s.expr(); s.end(); ans = []; els = None; h = height(q)
+        # a too high statement inside makes this one too high, and this one stands first
+        keep, s.high = s.high, None; s.inner.append(0)
+        while s.k() == '(':
+            s.i += 1; rs = [s.range()]
+            while s.opt(','): rs.append(s.range())
+            s.take(')'); s.take(':'); ans.append((rs, s.trans()))
+        if not ans and s.k() != 'ELSE': s.fail()
+        if s.opt('ELSE'): s.take(':'); els = s.trans()
+        s.take('ENDDECISION'); s.end()
+        h = 1 + max(h, s.inner.pop()); s.inner[-1] = max(s.inner[-1], h)
+        s.high = keep if keep is not None else at if h > 32 else None
+        return ('decide', at, q, ans, els)
     def trans(s):
         acts = []; e = None
         while True:
@@ -168,7 +193,7 @@ class P:
                     else:
                         n = s.name(); s.take(':='); items.append((n, s.expr()))
                     if not s.opt(','): break
-                s.end(); s.deep(at, [x for _, x in items]); acts.append(('task', items))
+                s.end(); s.deep(at, [x for _, x in items]); acts.append(('task', items, at))
             elif k == 'OUTPUT':
                 s.i += 1; outs = []
                 while True:
@@ -182,19 +207,22 @@ class P:
                 to = None
                 if s.opt('TO'):
                     to = 'SENDER' if s.opt('SENDER') else s.name()
-                s.end(); s.deep(at, [x for _, ps in outs for x in ps]); acts.append(('output', outs, to))
+                s.end(); s.deep(at, [x for _, ps in outs for x in ps]); acts.append(('output', outs, to, at))
             elif k == 'SET':
                 s.i += 1; s.take('('); s.take('NOW'); s.take('+'); x = s.expr(); s.take(','); t = s.name(); s.take(')'); s.end()
-                s.deep(at, [x]); acts.append(('set', x, t))
+                s.deep(at, [x]); acts.append(('set', x, t, at))
             elif k == 'RESET':
-                s.i += 1; s.take('('); t = s.name(); s.take(')'); s.end(); acts.append(('reset', t))
+                s.i += 1; s.take('('); t = s.name(); s.take(')'); s.end(); acts.append(('reset', t, at))
+            elif k == 'DECISION': acts.append(s.decision())
             else: break
         at = s.at()
         if s.opt('NEXTSTATE'): e = ('next', at, s.name()); s.end()
-        elif s.opt('STOP'): e = ('stop',); s.end()
+        elif s.opt('STOP'): e = ('stop', at); s.end()
+        elif s.opt('JOIN'): e = ('join', at, s.name()); s.end()
         return (acts, e)
     def deep(s, at, xs):
-        if s.high is None and any(height(x) > 32 for x in xs): s.high = at
+        h = max([0] + [height(x) for x in xs]); s.inner[-1] = max(s.inner[-1], h)
+        if s.high is None and h > 32: s.high = at
     def expr(s, lvl=0):
         tbl = [('OR', 'XOR'), ('AND',), ('=', '/=', '<', '<=', '>', '>='), ('+', '-'), ('*', '/', 'MOD', 'REM')]
         if lvl == 5: return s.unary()
@@ -232,6 +260,23 @@ def reads(x):
     if x[0] == 'un': return reads(x[2])
     return [x[1]] if x[0] == 'var' else []
 def lo(n): return n[0].lower()
+def place_of(a): return a[1] if a[0] == 'decide' else a[-1]
+def bodies(a): return [b for _, b in a[3]] + ([a[4]] if a[4] is not None else [])
+def runs_on(tr):
+    """whether a list may run off its end, and the first statement in it that nothing reaches"""
+    acts, e = tr; dead = None; alive = True
+    for a in acts:
+        if not alive and dead is None: dead = place_of(a)
+        if a[0] == 'decide' and not any(runs_on(b)[0] for b in bodies(a)): alive = False
+    if e is not None and not alive and dead is None: dead = e[1]
+    return (alive and e is None), dead
+def joins(tr):
+    r = []
+    for a in tr[0]:
+        if a[0] == 'decide':
+            for b in bodies(a): r += joins(b)
+    if tr[1] is not None and tr[1][0] == 'join': r.append(tr[1])
+    return r
 def check(b):
     ps = P(b, lex(b)); ents = ps.block()
     if ps.high is not None: raise Refusal('P2 TooDeep line %d' % line_of(b, ps.high))
@@ -258,7 +303,9 @@ def check(b):
     for p in procs:
         me = lo(p[0])
         vs = [(n, d[2], d[3]) for d in p[1] if d[0] == 'dcl' for n in d[1]]; ts = [n for d in p[1] if d[0] == 'timer' for n in d[1]]
-        twice([v[0] for v in vs]); twice(ts)
+        twice([v[0] for v in vs]); twice(ts); twice([c[1] for c in p[4]])
+        conn = {}
+        for c in reversed(p[4]): conn[lo(c[1])] = c
         for t in ts:
             if lo(t) in S: bad.append((1, t[1]))
         V = {}
@@ -292,10 +339,33 @@ def check(b):
         def want(x, w):
             a = sortof(x)
             if a and a != w: bad.append((3, first(x)))
+        def truth(x, V=V):
+            if x[0] == 'var': return V.get(lo(x[1])) == 'BOOLEAN'
+            return x[0] == 'bool' or x[0] == 'un' and x[1] == 'NOT' or x[0] == 'bin' and x[1] in ('AND', 'OR', 'XOR', '=', '/=', '<', '<=', '>', '>=')
+        def decide(a, froms):
+            _, at, q, ans, els = a; so = sortof(q)
+            for rs, body in ans:
+                for r in rs:
+                    consts = [r[1]] if r[0] == 'val' else [r[2]] if r[0] == 'rel' else [r[1], r[2]]
+                    if so == 'BOOLEAN' and (r[0] != 'val' or consts[0][0] != 'BOOLEAN') or so == 'INTEGER' and any(c[0] != 'INTEGER' for c in consts):
+                        bad.append((3, r[-1]))
+                listed(body, froms)
+            if els is not None: listed(els, froms)
+            if so == 'INTEGER' and els is None: bad.append((8, at))
+            if so == 'BOOLEAN':
+                named = [r[1][1] for rs, _ in ans for r in rs if r[0] == 'val' and r[1][0] == 'BOOLEAN']
+                both = sorted(named) == ['FALSE', 'TRUE']
+                if not (len(named) < 2 if els is not None else both): bad.append((8, at))
         def trans(at, tr, inputs):
+            listed(tr, [inputs])
+            if runs_on(tr)[0]: bad.append((4, at))
+        def listed(tr, froms):
             acts, e = tr
+            dead = runs_on(tr)[1]
+            if dead is not None: bad.append((4, dead))
             for a in acts:
-                if a[0] == 'task':
+                if a[0] == 'decide': decide(a, froms)
+                elif a[0] == 'task':
                     for n, x in a[1]:
                         so = sortof(x)
                         if lo(n) not in V: bad.append((2, n[1]))
@@ -313,8 +383,8 @@ def check(b):
                             if sg and len(rec) == 0: bad.append((5, n[1]))
                             if len(rec) > 1: bad.append((6, n[1]))
                         elif a[2] == 'SENDER':
-                            if inputs is None: bad.append((5, n[1]))
-                            else:
+                            for inputs in froms:
+                                if inputs is None: bad.append((5, n[1])); continue
                                 for s in inputs:
                                     if s in T: bad.append((5, n[1]))
                                     for snd in {f for f, c, g in paths if c == me and g == s}:
@@ -325,8 +395,28 @@ def check(b):
                     want(a[1], 'INTEGER')
                     if lo(a[2]) not in T: bad.append((2, a[2][1]))
                 elif lo(a[1]) not in T: bad.append((2, a[1][1]))
-            if e is None: bad.append((4, at))
-            elif e[0] == 'next' and lo(e[2]) not in names: bad.append((4, e[1]))
+            if e is not None and e[0] == 'next' and lo(e[2]) not in names: bad.append((4, e[1]))
+            if e is not None and e[0] == 'join' and lo(e[2]) not in conn: bad.append((2, e[2][1]))
+        reach = {}
+        def comes(tr):
+            """the connections to which a list comes"""
+            seen = set(); left = [lo(j[2]) for j in joins(tr)]
+            while left:
+                c = left.pop()
+                if c in seen or c not in conn: continue
+                seen.add(c); left += [lo(j[2]) for j in joins(conn[c][2])]
+            return seen
+        origins = {c: [] for c in conn}
+        for c in comes(p[2][1]): origins[c].append(None)
+        for ns, cl in p[3]:
+            for c in cl:
+                if c[0] == 'input':
+                    for d in comes(c[3]): origins[d].append([lo(m) for m, _ in c[2]])
+        for c in p[4]:
+            listed(c[2], origins[lo(c[1])])
+            if runs_on(c[2])[0]: bad.append((4, c[0]))
+            for j in joins(c[2]):
+                if lo(j[2]) in conn and (lo(j[2]) == lo(c[1]) or lo(c[1]) in comes(conn[lo(j[2])][2])): bad.append((7, j[1]))
         trans(p[2][0], p[2][1], None)
         for ns, cl in p[3]:
             for n in ns:
@@ -350,62 +440,124 @@ def check(b):
                             elif so is not None and i < len(so) and so[i] != V[lo(v)]: bad.append((3, v[1]))
                     trans(c[1], c[3], [lo(m) for m, _ in c[2]])
         for s in states: twice(stim[s[0]])
-        info.append((p, vs, ts, states, V))
+        info.append((p, vs, ts, states, V, conn, truth))
     if bad:
         num, at = min(bad)
-        nm = {1: 'DoubleName', 2: 'UnknownName', 3: 'WrongSort', 4: 'NoState', 5: 'NoReceiver', 6: 'TwoReceivers', 9: 'BadDivisor'}[num]
+        nm = {1: 'DoubleName', 2: 'UnknownName', 3: 'WrongSort', 4: 'NoState', 5: 'NoReceiver', 6: 'TwoReceivers', 7: 'JoinCycle',
+              8: 'NoAnswer', 9: 'BadDivisor'}[num]
         raise Refusal('S%d %s line %d' % (num, nm, line_of(b, at)))
     rows = []
-    for p, vs, ts, states, V in info:
+    for number, (p, vs, ts, states, V, conn, truth) in enumerate(info):
         tn = {lo(t): t[0] for t in ts}
-        rows.append((p[0][0], 'START', None, [], p[2][1]))
+        rows.append((p[0][0], 'START', None, [], p[2][1], number))
         for key, shown, ins in states:
             for m, pl, tr in ins:
-                rows.append((p[0][0], shown + '/' + (S[lo(m)][0] if lo(m) in S else tn[lo(m)]), key, pl, tr))
-    def measure(pl, tr):
-        bu = sum(2 for v in pl if v); de = 1 if bu else 0; ef = 0
-        for a in tr[0]:
-            if a[0] == 'task':
-                for n, x in a[1]: bu += cost(x) + 1; de = max(de, depth(x))
-            elif a[0] == 'output':
-                for n, xs in a[1]:
-                    bu += sum(map(cost, xs)) + 1; ef += 1
-                    de = max([de] + [i + depth(x) for i, x in enumerate(xs)])
-            elif a[0] == 'set': bu += cost(a[1]) + 1; de = max(de, depth(a[1])); ef += 1
-            else: bu += 1; ef += 1
-        return bu + 1, de, ef
-    ms = [measure(r[3], r[4]) for r in rows]
+                rows.append((p[0][0], shown + '/' + (S[lo(m)][0] if lo(m) in S else tn[lo(m)]), key, pl, tr, number))
+    def act_cost(a):
+        if a[0] == 'task': return sum(cost(x) + 1 for _, x in a[1])
+        if a[0] == 'output': return sum(sum(map(cost, xs)) + 1 for _, xs in a[1])
+        return cost(a[1]) + 1 if a[0] == 'set' else 1
+    def act_depth(a):
+        if a[0] == 'task': return max([0] + [depth(x) for _, x in a[1]])
+        if a[0] == 'output': return max([0] + [i + depth(x) for _, xs in a[1] for i, x in enumerate(xs)])
+        return depth(a[1]) if a[0] == 'set' else 0
+    def act_effects(a): return 0 if a[0] == 'task' else len(a[1]) if a[0] == 'output' else 1
+    memo = {}
+    def joined(number, name):
+        if (number, name) not in memo: memo[number, name] = follow(info[number][5][name][2], 0, 0, number)
+        return memo[number, name]
+    def follow(tr, k, e, number):
+        """the greatest count and effects where k and e follow, and the greatest depth (of what follows too, in a connection)"""
+        acts, end = tr; d = 0
+        if end is not None:
+            k, e = 1, 0
+            if end[0] == 'join':
+                b, f, dd = joined(number, lo(end[2])); k += b; e += f; d = dd
+        for a in reversed(acts):
+            if a[0] != 'decide':
+                k += act_cost(a); e += act_effects(a); d = max(d, act_depth(a)); continue
+            _, at, q, ans, els = a; d = max(d, depth(q)); ways = []
+            def body(tr, before):
+                b, f, dd = follow(tr, k + 1, e, number); ways.append((before + b, f)); return dd
+            if info[number][6](q):
+                for _, tr in ans: d = max(d, body(tr, 1))
+                if els is not None: d = max(d, body(els, 1))
+            else:
+                tests = 0
+                for rs, tr in ans:
+                    tests += len(rs); d = max(d, body(tr, tests))
+                if els is not None: d = max(d, body(els, tests + 1))
+            k = cost(q) + max(w[0] for w in ways); e = max(w[1] for w in ways)
+        return k, e, d
+    def own_size(tr, number):
+        acts, end = tr; n = 1 if end is not None else 0
+        for a in acts:
+            if a[0] != 'decide': n += act_cost(a); continue
+            _, at, q, ans, els = a; n += cost(q)
+            n += 1 if info[number][6](q) else sum(len(rs) for rs, _ in ans) + (1 if els is not None else 0)
+            for b in bodies(a): n += own_size(b, number) + (1 if runs_on(b)[0] else 0)
+        return n
+    sizes = {}
+    def piece_size(pl, tr, number):
+        conn = info[number][5]; seen = set(); left = [lo(j[2]) for j in joins(tr)]
+        n = own_size(tr, number) + sum(2 for v in pl if v)
+        while left:
+            c = left.pop()
+            if c in seen: continue
+            seen.add(c); left += [lo(j[2]) for j in joins(conn[c][2])]
+            if (number, c) not in sizes: sizes[number, c] = own_size(conn[c][2], number)
+            n += sizes[number, c]
+        return n
+    def measure(pl, tr, number):
+        bu = sum(2 for v in pl if v); k, e, d = follow(tr, 0, 0, number)
+        return bu + k, max(d, 1 if bu else 0), e
+    ms = [measure(r[3], r[4], r[5]) for r in rows]
     for nm, over in [('Processes', len(info) > 16), ('States', any(len(i[3]) > 64 for i in info)), ('Variables', any(len(i[1]) > 32 for i in info)),
                      ('Timers', any(len(i[2]) > 8 for i in info)), ('Signals', len(sigs) > 128), ('Params', any(len(s[1]) > 4 for s in sigs)),
-                     ('Pieces', len(rows) > 4096), ('Piece', any(m[0] > 512 for m in ms)), ('Depth', any(m[1] > 16 for m in ms)),
+                     ('Pieces', len(rows) > 4096), ('Piece', any(piece_size(r[3], r[4], r[5]) > 512 for r in rows)), ('Depth', any(m[1] > 16 for m in ms)),
                      ('Effects', any(m[2] > 32 for m in ms))]:
         if over: raise Refusal('S10 Limit ' + nm)
     best = None
-    for pi, (p, vs, ts, states, V) in enumerate(info):
-        mine = [(i, r) for i, r in enumerate(rows) if r[0] == p[0][0]]
+    for pi, (p, vs, ts, states, V, conn, truth) in enumerate(info):
+        mine = [(i, r) for i, r in enumerate(rows) if r[5] == pi]
         for n, so, c in vs:
             if c: continue
             x = lo(n)
-            def walk(pl, tr):  # (place of the first read while unset or None, unset at the end)
-                unset = not any(v and lo(v) == x for v in pl)
-                for a in tr[0]:
+            memo = {}
+            def walk(tr):  # from where x isn't set: the least place of a read, whether it may be left unset, the states so entered
+                acts, e = tr; unset = True; at = []; ends = set()
+                for a in acts:
+                    if not unset: break
+                    if a[0] == 'decide':
+                        at += [r[1] for r in reads(a[2]) if lo(r) == x]; unset = False
+                        for b in bodies(a):
+                            f, u, g = walk(b); at += f; ends |= g; unset = unset or u
+                        continue
                     xs = [(z, w) for w, z in a[1]] if a[0] == 'task' else [(z, None) for _, ps_ in a[1] for z in ps_] if a[0] == 'output' else \
                          [(a[1], None)] if a[0] == 'set' else []
                     for z, w in xs:
-                        if unset:
-                            for r in reads(z):
-                                if lo(r) == x: return r[1], False
+                        if unset: at += [r[1] for r in reads(z) if lo(r) == x]
                         if w and lo(w) == x: unset = False
-                return None, unset
+                if unset and e is not None:
+                    if e[0] == 'next': ends.add(lo(e[2]))
+                    elif e[0] == 'join':
+                        if lo(e[2]) not in memo: memo[lo(e[2])] = walk(conn[lo(e[2])][2])
+                        f, u, g = memo[lo(e[2])]; at = at + f; ends |= g
+                    unset = False
+                return at, unset, ends
+            def first_read(pl, tr):
+                if any(v and lo(v) == x for v in pl): return None, set()
+                at, _, ends = walk(tr)
+                return (min(at) if at else None), ends
             level = [(mine[0][0],)]; done = set()
             while level:
                 nxt = []; hits = []
                 for path in level:
-                    i = path[-1]; r = rows[i]; at, unset = walk(r[3], r[4])
+                    i = path[-1]; r = rows[i]; at, ends = first_read(r[3], r[4])
                     if at is not None: hits.append((len(path), path, at, n[0]))
-                    elif unset and r[4][1][0] == 'next' and lo(r[4][1][2]) not in done:
-                        done.add(lo(r[4][1][2]))
-                        nxt += [path + (j,) for j, q in mine if q[2] == lo(r[4][1][2])]
+                    for q in ends - done:
+                        done.add(q)
+                        nxt += [path + (j,) for j, w in mine if w[2] == q]
                 if hits:
                     h = min(hits)
                     if best is None or h < best: best = h

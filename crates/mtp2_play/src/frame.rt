@@ -5,11 +5,11 @@ ghost use Rattle.mtp2_play.specs.Reading.{Spells, IsReading, IsRefused};
 ghost use Rattle.su_octets.specs.declared.units.Unit.{Unit};
 
 use crate::line_bits::line_bits;
-use crate::lines::{FAILED, HELD, REFUSED, write_line};
 use hex::FromHexError;
 use std::alloc::{AllocError, Global};
 use std::io::{self, Write};
 use su_octets::{Unit, UnitFault};
+use text_check::{FAILED, HELD, REFUSED, write_line};
 use thiserror::Error;
 
 /// Why a word is no signal unit.

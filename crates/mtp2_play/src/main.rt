@@ -1,22 +1,17 @@
 //! `mtp2_play`: the program. It checks process texts and reads signal units.
 #![tactic(auto)]
 
-mod check;
 mod frame;
 mod line_bits;
-mod lines;
-mod texts;
 mod words;
 
-pub use check::check;
 use clap::Error;
 use clap::error::ErrorKind;
 pub use frame::frame;
-pub use lines::{FAILED, HELD, REFUSED, USAGE};
 use std::process::ExitCode;
 use std::rt::Runtime;
 use std::{env, fs, io};
-pub use texts::SetWord;
+use text_check::{FAILED, HELD, SetWord, USAGE, check};
 pub use words::Request;
 
 /// Runs one command, and gives the exit status.
@@ -64,7 +59,5 @@ fn main(rt: HostRuntime) -> ExitCode {
     ExitCode::from(status)
 }
 
-#[cfg(test)]
-mod check_tests;
 #[cfg(test)]
 mod tests;

@@ -5,14 +5,14 @@ use std::test::Fail;
 
 /// A writer that keeps what it is given, and fails after so many calls.
 #[derive(Drop)]
-pub(crate) struct Paper {
+struct Paper {
     text: Vec<u8>,
     calls_left: u32,
 }
 
 impl Paper {
     /// An empty one.
-    pub(crate) fn new(alloc: Global, calls: u32) -> Paper {
+    fn new(alloc: Global, calls: u32) -> Paper {
         Paper {
             text: Vec::new(alloc),
             calls_left: calls,
@@ -20,7 +20,7 @@ impl Paper {
     }
 
     /// What was written.
-    pub(crate) fn into_text(self) -> Vec<u8> {
+    fn into_text(self) -> Vec<u8> {
         let Paper { text, .. } = self;
         text
     }

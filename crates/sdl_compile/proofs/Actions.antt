@@ -1,4 +1,4 @@
--- The actions of a text, its end and INPUT's places: each of their instructions is right.
+-- Actions, ends and INPUT's places: each of their instructions is right.
 use Rattle.std.proofs.Common.{◌≡◌, ℕ, zero, suc, ◌+◌, ◌<◌, ◌≤◌, ◌≤ℤ◌, pos, Bool, true, false, cond, List, [], ◌∷◌, ◌++◌, length, map, reverse, drop, Option, Some, None, IsSome, refl, sym, ap, ◌∙◌, subst, arith, nat_eq}
 use Rattle.std.specs.Prelude.{slice_get, zip}
 use Rattle.std.specs.List.{flat_map}
@@ -11,8 +11,7 @@ use Rattle.sdl_tree.specs.declared.expression.Identifier.{Identifier}
 use Rattle.sdl_tree.specs.declared.tree.Sort as tree_sort
 use Rattle.sdl_tree.specs.declared.tree.Sort.TheVariants as tree_sorts
 use Rattle.sdl_tree.specs.declared.tree.Destination.{Destination}
-use Rattle.sdl_tree.specs.declared.tree.End.TheVariants.{NextState, Stop}
-use Rattle.sdl_tree.specs.Plain.{Tree, PlainAssignment, PlainSending, PlainAction, task, output, set_timer, reset_timer, PlainStimulus, Text, falls, ends, does}
+use Rattle.sdl_tree.specs.Plain.{Tree, PlainAssignment, PlainSending, PlainAction, task, output, set_timer, reset_timer}
 use Rattle.turn_code.specs.declared.value.Sort.{Sort}
 use Rattle.turn_code.specs.declared.value.Sort.TheVariants.{Integer}
 use Rattle.turn_code.specs.declared.instruction.Receiver.{Receiver}
@@ -27,21 +26,20 @@ use Rattle.turn_code.specs.Code.{sort_at}
 use Rattle.turn_code.specs.Transitions.{Transition, parameters_of}
 use Rattle.turn_code.specs.Rules.{Agree, ReachesReceiver}
 use Rattle.sdl_tables.specs.Names.{Variable, variables_of}
-use Rattle.sdl_rules.specs.Sound.{actions_of}
+use Rattle.sdl_rules.specs.Actions.{Origin}
 use Rattle.sdl_rules.specs.Sorts.{variable_sort, has_sort, have_one_sort, sort_in, misfit, wrong_in, wrong_variable, wrong_assignment, parameter_sorts, wrong_parameter, wrong_number, wrong_sending, wrong_action, wrong_place}
 use Rattle.sdl_rules.specs.Divisors.{bad_divisors_in, action_divisors}
 use Rattle.sdl_rules.specs.Receivers.{arrives, lost_sending, lost_action, is_doubtful, doubtful_sending, doubtful_action}
-use Rattle.sdl_rules.specs.Longest.{Piece}
 use Rattle.sdl_compile.specs.Act.{Scope, variable_at, state_at, timer_at, signal_at}
-use Rattle.sdl_compile.specs.Code.{number_or_zero, next, set_to, reset, put, store, tasks_code, receiver_code, sendings_code, action_code, text_code, places_code, piece_code}
-use Rattle.sdl_compile.specs.Named.{NamedTasks, NamedSendings, NamedAction, NamedText, NamedPlaces, NamedPiece}
+use Rattle.sdl_compile.specs.Code.{number_or_zero, next, set_to, reset, put, store, tasks_code, receiver_code, sendings_code, action_code, places_code}
+use Rattle.sdl_compile.specs.Named.{NamedTasks, NamedSendings, NamedAction, NamedPlaces}
 use Rattle.sdl_compile.specs.Declarations.{sort_of_tree}
-use Rattle.sdl_compile.specs.Reads.{ReadTasks, ReadSendings, ReadAction, ReadText, action_set, places_set}
+use Rattle.sdl_compile.specs.Reads.{ReadTasks, ReadSendings, ReadAction}
 use Rattle.sdl_compile.proofs.Items.{nil_front, nil_back}
 use Rattle.sdl_compile.proofs.Sorting.{fits, has_this, passed, variable_has_sort}
 use Rattle.sdl_compile.proofs.Straight.{AreRight}
 use Rattle.sdl_compile.proofs.Stretches.{right_joined}
-use Rattle.sdl_compile.proofs.Shapes.{Counted, CountedAction, CountedText, sort_given, trees_shape, this_sort, tree_leads, trees_leads, put_out, variable_store, action_leads, param_leads, places_leads}
+use Rattle.sdl_compile.proofs.Shapes.{Counted, CountedAction, sort_given, trees_shape, this_sort, tree_leads, trees_leads, put_out, variable_store, action_leads, param_leads, places_leads}
 use Rattle.sdl_compile.proofs.Rights.{one_of, none_in, store_right, tree_right, trees_right}
 
 agree_same : (xs : List Sort) → Agree xs xs
@@ -84,7 +82,7 @@ pub record Stands (c : Scope) (d : Draft) (t : Transition) : Type 0 where
   pub parameters : (n : Identifier) → IsSome (signal_at c n) → parameters_of (slice_get d.signals (number_or_zero (signal_at c n))) ≡ map sort_of_tree (parameter_sorts c.block n.name)
 
 -- who gets a signal that gets to one party: the receiver in its instruction
-abbrev pub Reaching : Scope → Draft → Transition → List PlainStimulus → Type 0
+abbrev pub Reaching : Scope → Draft → Transition → List Origin → Type 0
 Reaching c d t is =
     (to : Option Destination) (n : Identifier) → IsSome (signal_at c n) → arrives c.block c.process is to n.name ≡ true → is_doubtful c.block c.process to n.name ≡ false
     → ReachesReceiver d t.number (record { 0 = number_or_zero (signal_at c n) }) t.trigger (receiver_code c to n)
@@ -103,20 +101,13 @@ module _ (c : Scope) (ss : List DraftSignal)
       let l = length-map sorts sort_of_tree in
       (omega (arith, many, e, l), counted_sendings to rest named.1 (nil_back (wrong_sending c.block vs x) (flat_map (wrong_sending c.block vs) rest) w))
 
-  counted_action : (a : PlainAction) → NamedAction c a → wrong_action c.block (variables_of c.process) a ≡ [] → CountedAction c ss a
+  pub counted_action : (a : PlainAction) → NamedAction c a → wrong_action c.block (variables_of c.process) a ≡ [] → CountedAction c ss a
   counted_action (task at ts) named w = tt
   counted_action (output at list to) named w = counted_sendings to list named w
   counted_action (set_timer at u n) named w = tt
   counted_action (reset_timer at n) named w = tt
 
-  pub counted_text : (u : Text) → NamedText c u → flat_map (wrong_action c.block (variables_of c.process)) (actions_of u) ≡ [] → CountedText c ss u
-  counted_text falls named w = tt
-  counted_text (ends e) named w = tt
-  counted_text (does a rest) named w =
-      let f = wrong_action c.block (variables_of c.process) in
-      (counted_action a named.0 (nil_front (f a) (flat_map f (actions_of rest)) w), counted_text rest named.1 (nil_back (f a) (flat_map f (actions_of rest)) w))
-
-module _ (c : Scope) (d : Draft) (t : Transition) (stands : Stands c d t) (is : List PlainStimulus) (reaching : Reaching c d t is) where
+module _ (c : Scope) (d : Draft) (t : Transition) (stands : Stands c d t) (is : List Origin) (reaching : Reaching c d t is) where
   abbrev vs : List Variable
   vs = variables_of c.process
 
@@ -241,7 +232,7 @@ module _ (c : Scope) (d : Draft) (t : Transition) (stands : Stands c d t) (is : 
     tt,
   )
 
-  action_right : (a : PlainAction) (m : VariableSet) → NamedAction c a → wrong_action c.block vs a ≡ [] → action_divisors a ≡ [] → lost_action c.block c.process is a ≡ [] → doubtful_action c.block c.process a ≡ [] → ReadAction c m a → S [] m (action_code c a)
+  pub action_right : (a : PlainAction) (m : VariableSet) → NamedAction c a → wrong_action c.block vs a ≡ [] → action_divisors a ≡ [] → lost_action c.block c.process is a ≡ [] → doubtful_action c.block c.process a ≡ [] → ReadAction c m a → S [] m (action_code c a)
   action_right (task at ts) m named w b l two read = tasks_right ts m named w b read
   action_right (output at list to) m named w b l two read = sendings_right to list m named w b l two read
   action_right (set_timer at u n) m named w b l two read =
@@ -251,7 +242,7 @@ module _ (c : Scope) (d : Draft) (t : Transition) (stands : Stands c d t) (is : 
       (set_right (number_or_zero (timer_at c n)) m (stands.timers n named.1))
   action_right (reset_timer at n) m named w b l two read = reset_right (number_or_zero (timer_at c n)) m (stands.timers n named)
 
-  next_right : (q : ℕ) (m : VariableSet) → q < length t.process.states → ((s : DraftState) → slice_get t.process.states q ≡ Some s → IsWithin s.set m) → S [] m (next q ∷ [])
+  pub next_right : (q : ℕ) (m : VariableSet) → q < length t.process.states → ((s : DraftState) → slice_get t.process.states q ≡ Some s → IsWithin s.set m) → S [] m (next q ∷ [])
   next_right q m lt h =
       let P : ℕ → Type 0 = λ q. (s : DraftState) → slice_get t.process.states q ≡ Some s → IsWithin s.set m in (
         record {
@@ -270,7 +261,7 @@ module _ (c : Scope) (d : Draft) (t : Transition) (stands : Stands c d t) (is : 
         tt,
       )
 
-  stop_right : (m : VariableSet) → S [] m (i.Stop ∷ [])
+  pub stop_right : (m : VariableSet) → S [] m (i.Stop ∷ [])
   stop_right m = (
     record {
       under = omega arith;
@@ -287,21 +278,6 @@ module _ (c : Scope) (d : Draft) (t : Transition) (stands : Stands c d t) (is : 
     },
     tt,
   )
-
-  text_right : (u : Text) (m : VariableSet) → NamedText c u → flat_map (wrong_action c.block vs) (actions_of u) ≡ [] → flat_map action_divisors (actions_of u) ≡ []
-      → flat_map (lost_action c.block c.process is) (actions_of u) ≡ [] → flat_map (doubtful_action c.block c.process) (actions_of u) ≡ [] → ReadText c t.process.states m u → S [] m (text_code c u)
-  text_right falls m named w b l two read = absurd named
-  text_right (ends (NextState n)) m named w b l two read = next_right (number_or_zero (state_at c n.state)) m (stands.states n.state named) read
-  text_right (ends (Stop at)) m named w b l two read = stop_right m
-  text_right (does a rest) m named w b l two read =
-      let f = wrong_action c.block vs in
-      let lost = lost_action c.block c.process is in
-      let doubt = doubtful_action c.block c.process in
-      let more = actions_of rest in
-      let wrong = nil_front (f a) (flat_map f more) w in
-      right_joined d t (text_code c rest) (action_leads c d.signals t.process.variables t.parameters stands.sorted a m named.0 (counted_action c d.signals stands.parameters a named.0 wrong))
-      (action_right a m named.0 wrong (nil_front (action_divisors a) (flat_map action_divisors more) b) (nil_front (lost a) (flat_map lost more) l) (nil_front (doubt a) (flat_map doubt more) two) read.0)
-      (text_right rest (action_set c m a) named.1 (nil_back (f a) (flat_map f more) w) (nil_back (action_divisors a) (flat_map action_divisors more) b) (nil_back (lost a) (flat_map lost more) l) (nil_back (doubt a) (flat_map doubt more) two) read.1)
 
   param_right : (j : ℕ) (m : VariableSet) → j < length t.parameters → S [] m (i.Param j ∷ [])
   param_right j m lt = (
@@ -321,7 +297,7 @@ module _ (c : Scope) (d : Draft) (t : Transition) (stands : Stands c d t) (is : 
     tt,
   )
 
-  places_right : (places : List (Option Identifier)) (sorts : List tree_sort.Sort) (j : ℕ) (m : VariableSet) → NamedPlaces c places → length places ≤ length sorts → drop j t.parameters ≡ map sort_of_tree sorts
+  pub places_right : (places : List (Option Identifier)) (sorts : List tree_sort.Sort) (j : ℕ) (m : VariableSet) → NamedPlaces c places → length places ≤ length sorts → drop j t.parameters ≡ map sort_of_tree sorts
       → flat_map (wrong_place vs) (zip sorts places) ≡ [] → S [] m (places_code c j places)
   places_right [] sorts j m named le at w = tt
   places_right (place ∷ places) [] j m named le at w = absurd (omega (arith, le))
@@ -341,13 +317,3 @@ module _ (c : Scope) (d : Draft) (t : Transition) (stands : Stands c d t) (is : 
       (right_joined d t (places_code c (j + 1) places) (variable_store c d.signals t.process.variables t.parameters stands.sorted x s [] m named.0)
       (store_right c d t stands.sorted stands.variables v s [] m (stands.variables x named.0) (stands.sorted x r named.0 here))
       (places_right places sorts (j + 1) (with_variable m v) named.1 (omega (arith, le)) (subst (λ n. drop n t.parameters ≡ map sort_of_tree sorts) n h.1) (nil_back (wrong_place vs (r, Some x)) rest w)))
-
-  pub piece_right : (q : Piece) (sorts : List tree_sort.Sort) (m : VariableSet) → NamedPiece c q → length q.places ≤ length sorts → t.parameters ≡ map sort_of_tree sorts → flat_map (wrong_place vs) (zip sorts q.places) ≡ []
-      → flat_map (wrong_action c.block vs) (actions_of q.text) ≡ [] → flat_map action_divisors (actions_of q.text) ≡ [] → flat_map (lost_action c.block c.process is) (actions_of q.text) ≡ []
-      → flat_map (doubtful_action c.block c.process) (actions_of q.text) ≡ [] → ReadText c t.process.states (places_set c m q.places) q.text → S [] m (piece_code c q)
-  piece_right q sorts m named le params p w b l two read =
-      let e = ap length params in
-      let k = length-map sorts sort_of_tree in
-      right_joined d t (text_code c q.text) (places_leads c d.signals t.process.variables t.parameters stands.sorted q.places 0 m named.places (omega (arith, le, e, k)))
-      (places_right q.places sorts 0 m named.places le params p)
-      (text_right q.text (places_set c m q.places) named.text w b l two read)

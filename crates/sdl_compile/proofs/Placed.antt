@@ -1,6 +1,6 @@
 -- The transitions of a process that the compiler makes keep every rule.
-use Rattle.std.proofs.Common.{◌≡◌, ℕ, zero, suc, ◌+◌, ◌-◌, ◌*◌, ◌^◌, ◌<◌, ◌≤◌, Bool, true, false, ◌||◌, ◌&&◌, cond, List, [], ◌∷◌, ◌++◌, ⊎_elim, length, Option, Some, None, IsSome, map, refl, sym, ap, ◌∙◌, subst, arith}
-use Rattle.std.specs.Prelude.{slice_get, All, is_some, option_map, IfSome, sum_by, zip}
+use Rattle.std.proofs.Common.{◌≡◌, ℕ, zero, suc, ◌+◌, ◌-◌, ◌*◌, ◌^◌, ◌<◌, ◌≤◌, Bool, true, false, ◌||◌, ◌&&◌, cond, List, [], ◌∷◌, ◌++◌, ◌⊎◌, inl, inr, ⊎_elim, length, Option, Some, None, IsSome, map, refl, sym, ap, ◌∙◌, subst, arith}
+use Rattle.std.specs.Prelude.{slice_get, All, Contains, is_some, option_map, IfSome, zip}
 use Rattle.std.specs.Int.{bit_at}
 use Rattle.std.specs.List.{AllZip, flat_map}
 use Rattle.std.proofs.lemmas.List.{length-map}
@@ -13,7 +13,7 @@ use Rattle.sdl_tree.specs.declared.tree.Literal as literal
 use Rattle.sdl_tree.specs.declared.tree.Literal.TheVariants as literals
 use Rattle.sdl_tree.specs.declared.tree.Sort as tree_sort
 use Rattle.sdl_tree.specs.declared.tree.Sort.TheVariants as tree_sorts
-use Rattle.sdl_tree.specs.Plain.{PlainStimulus}
+use Rattle.sdl_tree.specs.Plain.{PlainStimulus, PlainConnection, PlainProcess}
 use Rattle.turn_code.specs.declared.value.Sort.{Sort}
 use Rattle.turn_code.specs.declared.variable_set.VariableSet.{VariableSet}
 use Rattle.turn_code.specs.declared.instruction.Instruction.{Instruction}
@@ -28,37 +28,47 @@ use Rattle.turn_code.specs.declared.draft.DraftProcess.{DraftProcess}
 use Rattle.turn_code.specs.declared.draft.Trigger.{Trigger}
 use Rattle.turn_code.specs.Values.{sort_of}
 use Rattle.turn_code.specs.Sets.{Has, initial_bits, initial_set}
-use Rattle.turn_code.specs.Code.{sort_at, effects_of}
-use Rattle.turn_code.specs.Rules.{StartsRight, IsThere, HasTrigger, HasSaves, KeepsProcessLimits, greatest, depths}
+use Rattle.turn_code.specs.Code.{sort_at}
+use Rattle.turn_code.specs.Rules.{StartsRight, IsThere, HasTrigger, HasSaves, KeepsCounts, KeepsProcessLimits}
 use Rattle.turn_code.specs.Transitions.{Transition, parameters_of, trigger_parameters, start_of, input_of, input_at}
 use Rattle.turn_code.specs.Valid.{IsValidTransition}
 use Rattle.sdl_tables.specs.Names.{Variable, Input, same_name, number_of, variables_of, variable_names, timers_of, states_of, signals_of, signal_names, process_names, processes_of, inputs_by_state, saves_by_state}
-use Rattle.sdl_rules.specs.Longest.{Piece, start_piece, input_piece}
-use Rattle.sdl_rules.specs.Paths.{sets, sets_in, initial_sets, input_transition}
+use Rattle.sdl_rules.specs.Longest.{Piece, piece_size, start_piece, input_piece}
+use Rattle.sdl_rules.specs.Joins.{reaches}
+use Rattle.sdl_rules.specs.Orders.{IsOrder}
+use Rattle.sdl_rules.specs.Actions.{Origin, begins, takes}
+use Rattle.sdl_rules.specs.Chances.{text_chances}
+use Rattle.sdl_rules.specs.Paths as Paths
+use Rattle.sdl_rules.specs.Paths.{sets, sets_in, initial_sets, start_transition, input_transition}
 use Rattle.sdl_rules.specs.Settled.{IsSettled}
 use Rattle.sdl_rules.specs.Sound.{place_names}
 use Rattle.sdl_rules.specs.Sorts.{same_sort, literal_sort, wrong_constant, wrong_initial, wrong_place, too_many_places, parameter_sorts}
 use Rattle.sdl_rules.specs.Receivers.{paths_of, answers}
 use Rattle.sdl_compile.specs.Act.{Scope, variable_at, signal_at}
-use Rattle.sdl_compile.specs.Code.{number_or_zero, piece_code}
-use Rattle.sdl_compile.specs.Named.{NamedPiece}
-use Rattle.sdl_compile.specs.Facts.{facts_from}
+use Rattle.sdl_compile.specs.Code.{number_or_zero}
+use Rattle.sdl_compile.specs.Named.{AreSorted, NamedText, NamedConnections, NamedPiece}
+use Rattle.sdl_compile.specs.Facts.{shapes_from}
 use Rattle.sdl_compile.specs.Made.{IsPieceOf, IsSmall}
 use Rattle.sdl_compile.specs.Declarations.{sort_of_tree, literal_value, constant_value, drafted, drafted_signal, drafted_variables, drafted_signals, trigger_with, trigger_of, trigger_sorts}
 use Rattle.sdl_compile.specs.Drafts.{IsTrigger, IsReadyInput, IsReadyProcess, SavesAll, IsInputOf, AreInputsOf, sets_of, IsProcessOf, AreReady, AllReady}
 use Rattle.sdl_compile.specs.Blocks.{Declares, IsValidProcess}
-use Rattle.sdl_compile.specs.Reads.{ReadText, places_set}
+use Rattle.sdl_compile.specs.Reads.{everything, ReadText, places_set}
+use Rattle.sdl_compile.specs.Entries.{entry_at, met, connections_met, piece_entries}
 use Rattle.sdl_compile.specs.Routes.{IsKnownPath}
 use Rattle.sdl_compile.proofs.Items.{Each, nil_front, nil_back}
 use Rattle.sdl_compile.proofs.Numbers.{AreNumbered, are_numbered, number_alike, number_there}
 use Rattle.sdl_compile.proofs.Sorting.{passed, number_small, variable_sorted, signal_sorted, unsigned_sorts}
-use Rattle.sdl_compile.proofs.Straight.{AreRight, IsStraight}
-use Rattle.sdl_compile.proofs.Shapes.{piece_closes}
-use Rattle.sdl_compile.proofs.Actions.{Stands, Reaching, counted_text, piece_right}
+use Rattle.sdl_compile.proofs.Actions.{Stands, Reaching}
+use Rattle.sdl_compile.proofs.Spots.{Spot, instructions, shapes, piece_spots, piece_instructions}
+use Rattle.sdl_compile.proofs.Setting.{piece_set_at}
+use Rattle.sdl_compile.proofs.Fine.{RightText, chain_shapes}
+use Rattle.sdl_compile.proofs.Standing.{start_enters, piece_made}
+use Rattle.sdl_compile.proofs.Settling.{all_fit, all_read}
+use Rattle.sdl_compile.proofs.Righting.{right_text}
 use Rattle.sdl_compile.proofs.Receiving.{answers_input, arriving}
-use Rattle.sdl_compile.proofs.Ready.{FineText, FineInput, FineProcess, each_at}
-use Rattle.sdl_compile.proofs.Validity.{valid}
-use Rattle.sdl_compile.proofs.Walks.{Holds, places_hold, settled_read, by_bool}
+use Rattle.sdl_compile.proofs.Ready.{FineReached, FineWhole, FineInput, FineProcess, each_at}
+use Rattle.sdl_compile.proofs.Validity.{one_item, valid}
+use Rattle.sdl_compile.proofs.Walks.{Holds, places_hold, by_bool}
 
 -- ---- lists by place
 
@@ -198,15 +208,15 @@ all_saved c ss d (ids ∷ idss) (q ∷ qs) e f h z =
 -- ---- one transition
 
 -- what is known of a transition of a draft
-record IsKnownTransition (c : Scope) (d : Draft) (t : Transition) : Type 0 where
-  signals : d.signals ≡ drafted_signals c.block
-  variables : t.process.variables ≡ drafted_variables c.process
-  timers : length t.process.timers ≡ length (timers_of c.process)
-  states : length t.process.states ≡ length (states_of c.process)
-  trigger : HasTrigger d.signals t.process t.trigger
-  initial : All StartsRight t.process.variables
-  saves : All (HasSaves d.signals t.process) t.process.states
-  limits : KeepsProcessLimits t.process
+pub record IsKnownTransition (c : Scope) (d : Draft) (t : Transition) : Type 0 where
+  pub signals : d.signals ≡ drafted_signals c.block
+  pub variables : t.process.variables ≡ drafted_variables c.process
+  pub timers : length t.process.timers ≡ length (timers_of c.process)
+  pub states : length t.process.states ≡ length (states_of c.process)
+  pub trigger : HasTrigger d.signals t.process t.trigger
+  pub initial : All StartsRight t.process.variables
+  pub saves : All (HasSaves d.signals t.process) t.process.states
+  pub limits : KeepsProcessLimits t.process
 
 stands_in : (c : Scope) (d : Draft) (t : Transition) → IsKnownTransition c d t → Stands c d t
 stands_in c d t h = record {
@@ -234,45 +244,75 @@ stands_in c d t h = record {
   parameters = λ n some. ap (λ (ss : List DraftSignal). parameters_of (slice_get ss (number_or_zero (signal_at c n)))) h.signals ∙ signal_sorted c.block n.name some;
 }
 
-transition_valid : (c : Scope) (d : Draft) (t : Transition) (q : Piece) (sorts : List tree_sort.Sort) (is : List PlainStimulus) (at : ℕ) → IsKnownTransition c d t → NamedPiece c q → IsSmall q → t.parameters ≡ map sort_of_tree sorts
-    → length q.places ≤ length sorts → flat_map (wrong_place (variables_of c.process)) (zip sorts q.places) ≡ [] → FineText c is at q.text → Reaching c d t is
-    → ReadText c t.process.states (places_set c t.entry q.places) q.text → IsPieceOf c t.parameters t.entry q t.piece → IsValidTransition d t
-transition_valid c d t q sorts is at known named small params le placed fine reaching read made =
+-- what is proved elsewhere of a piece: which connections it has, and what it counts
+pub record IsCounted (c : Scope) (t : Transition) (q : Piece) (ns : List ℕ) : Type 0 where
+  pub reached : (n : ℕ) (k : PlainConnection) → Contains ns n → slice_get c.process.connections n ≡ Some k → reaches c.process q.text k.name.name ≡ true
+  pub counts : (k : ℕ) → KeepsCounts t k
+  pub size : length t.piece.code ≡ piece_size c.process q
+
+-- what is set as the transition begins, and what its walks may do
+pub record IsBegun (c : Scope) (t : Transition) (q : Piece) : Type 0 where
+  pub read : (order : List ℕ) → IsOrder c.process order → ReadText c t.process.states (places_set c t.entry q.places) q.text
+      × ((n : ℕ) (k : PlainConnection) → slice_get c.process.connections n ≡ Some k → ReadText c t.process.states (entry_at (piece_entries c t.entry q order) n) k.text)
+
+transition_valid : (c : Scope) (d : Draft) (t : Transition) (q : Piece) (sorts : List tree_sort.Sort) (o : Origin) (at : ℕ) → IsKnownTransition c d t → NamedPiece c q → IsSmall c q → t.parameters ≡ map sort_of_tree sorts
+    → length q.places ≤ length sorts → flat_map (wrong_place (variables_of c.process)) (zip sorts q.places) ≡ [] → FineWhole c o at q.text → Reaching c d t (o ∷ []) → IsBegun c t q
+    → (made : IsPieceOf c t.parameters t.entry q t.piece) → IsCounted c t q made.code.numbers → IsValidTransition d t
+transition_valid c d t q sorts o at known named small params le placed fine reaching begun made counted =
     let stands = stands_in c d t known in
-    let l = ap length params in
-    let k = length-map sorts sort_of_tree in
-    let counted = counted_text c d.signals stands.parameters q.text named.text fine.sorted in
-    let closes = piece_closes c d.signals t.process.variables t.parameters stands.sorted q t.entry named counted (omega (arith, l, k, le)) in
-    let code = made.code in
-    let facts : t.piece.facts ≡ facts_from d.signals t.process.variables t.parameters [] t.entry (piece_code c q) =
-    made.facts ∙ ap (λ (ss : List DraftSignal). facts_from ss (drafted_variables c.process) t.parameters [] t.entry (piece_code c q)) (sym known.signals)
-    ∙ ap (λ (xs : List DraftVariable). facts_from d.signals xs t.parameters [] t.entry (piece_code c q)) (sym known.variables) in
-    let b = made.certificate.budget in
-    let dp = made.certificate.depth in
-    let ef = made.certificate.effects in
-    let right = piece_right c d t stands is reaching q sorts t.entry named le params placed fine.sorted fine.divided fine.received fine.single read in
+    let is = o ∷ [] in
+    let ns = made.code.numbers in
+    let order = made.facts.order in
+    let es = piece_entries c t.entry q order in
+    let m2 = places_set c t.entry q.places in
+    let right = right_text c is q.text fine.text.statements in
+    let rights : (n : ℕ) (k : PlainConnection) → Contains ns n → slice_get c.process.connections n ≡ Some k → RightText c is k.text =
+    λ n k there here. right_text c is k.text (each_at (FineReached c o q.text) c.process.connections n k fine.reached here (counted.reached n k there here)) in
+    let fit = all_fit c order made.facts.ordered named.connections q.text m2 named.text.text in
+    let read = begun.read order made.facts.ordered in
+    let m = piece_made d t c stands is reaching q ns es t.entry named made.code.placed right rights sorts le params placed read.0 read.1 fit.0 fit.1 in
+    let places = piece_spots d.signals t.process.variables t.parameters c t.entry q es ns in
+    let code : t.piece.code ≡ instructions places = made.code.code ∙ sym (piece_instructions d.signals t.process.variables t.parameters c t.entry q es ns) in
+    let shapes_are : shapes places ≡ shapes_from d.signals t.process.variables t.parameters [] (instructions places) = chain_shapes d t places places [] [] m.chain in
     valid d t (record {
-      facts = facts ∙ ap (λ (code : List Instruction). facts_from d.signals t.process.variables t.parameters [] t.entry code) (sym code);
-      right = subst (λ (code : List Instruction). AreRight d t [] t.entry code) (sym code) right;
-      straight = subst IsStraight (sym code) closes.straight;
-      budget = b ∙ sym closes.cost_is ∙ ap length (sym code);
-      depth = dp ∙ sym closes.depth_is ∙ ap (λ fs. greatest (depths fs)) (sym facts);
-      effects = ef ∙ sym closes.effects_is ∙ ap (sum_by effects_of) (sym code);
+      places = places;
+      code = code;
+      shaped =
+          made.facts.shaped ∙ ap (λ (ss : List DraftSignal). shapes_from ss (drafted_variables c.process) t.parameters [] t.piece.code) (sym known.signals)
+          ∙ ap (λ (xs : List DraftVariable). shapes_from d.signals xs t.parameters [] t.piece.code) (sym known.variables)
+          ∙ ap (λ (code : List Instruction). shapes_from d.signals t.process.variables t.parameters [] code) code ∙ sym shapes_are;
+      settled = made.facts.settled ∙ sym (piece_set_at d.signals t.process.variables t.parameters c t.entry q es ns);
+      fine = m.fine;
+      enters = start_enters d t places t.entry 0 m.start;
+      first = λ p here. (let same = one_item (slice_get places 0) p m.start.spot here m.start.there in ap (λ (p : Spot). p.set) same ∙ m.start.set);
+      counts = counted.counts;
       initial = λ _. known.initial;
       trigger = known.trigger;
       saves = λ _. known.saves;
       process_limits = λ _. known.limits;
       piece_limits = record {
-        depth = omega (arith, dp, small.depth);
-        effects = omega (arith, ef, small.effects);
-        size = let e = ap length code in omega (arith, e, closes.cost_is, small.budget);
+        depth = let e = made.certificate.depth in omega (arith, e, small.depth);
+        effects = let e = made.certificate.effects in omega (arith, e, small.effects);
+        size = let e = counted.size in omega (arith, e, small.size);
       };
     })
 
 -- ---- a process
 
+-- START's transition, or that of an input
+abbrev pub IsInProcess : PlainProcess → Paths.Transition → Type 0
+IsInProcess p t = (t ≡ start_transition p) ⊎ ((q : ℕ) × (is : List Input) × (k : ℕ) × (i : Input) × (slice_get (inputs_by_state p) q ≡ Some is) × (slice_get is k ≡ Some i) × (t ≡ input_transition i))
+
+-- what may happen to each variable that isn't set before its text: what is read was set as it began, and what a state wants too
+pub record Tells (c : Scope) (ranges : List ℕ) (before : ℕ) (t : Paths.Transition) : Type 0 where
+  pub reads : (v q : ℕ) (id : Identifier) → slice_get (variable_names c.process) v ≡ Some id → sets_in t.first id.name ≡ false → (text_chances c.process t.text id.name q).reads ≡ true → bit_at before v ≡ 1
+  pub enters : (v q set : ℕ) (id : Identifier) → slice_get (variable_names c.process) v ≡ Some id → sets_in t.first id.name ≡ false → (text_chances c.process t.text id.name q).enters ≡ true
+      → slice_get ranges q ≡ Some set → bit_at set v ≡ 1 → bit_at before v ≡ 1
+
 module _ (c : Scope) (n : ℕ) (d : DraftProcess) (fine : FineProcess c) (ready : IsReadyProcess c) (made : IsProcessOf c.block c.process d)
-    (numbers : AreNumbered (process_names c.block)) (here : slice_get (process_names c.block) n ≡ Some c.process.name) (paths : Each (IsKnownPath c.block) (paths_of c.block)) where
+    (numbers : AreNumbered (process_names c.block)) (here : slice_get (process_names c.block) n ≡ Some c.process.name) (paths : Each (IsKnownPath c.block) (paths_of c.block))
+    (lawful : (order : List ℕ) → IsOrder c.process order → (t : Paths.Transition) (before : ℕ) → IsInProcess c.process t → IsSettled c.process (sets_of d.states) before t → Tells c (sets_of d.states) before t)
+    (counted : (draft : Draft) (t : Transition) (q : Piece) → IsKnownTransition c draft t → NamedPiece c q → AreSorted c q.text → IsSmall c q → length q.places ≤ length t.parameters → (made : IsPieceOf c t.parameters t.entry q t.piece) → IsCounted c t q made.code.numbers) where
   numbered : AreNumbered (variable_names c.process)
   numbered = are_numbered (variable_names c.process) fine.distinct
 
@@ -344,32 +384,49 @@ module _ (c : Scope) (n : ℕ) (d : DraftProcess) (fine : FineProcess c) (ready 
       let g = length-map (processes_of c.block) (λ p. p.name) in
       omega (arith, f, g)
 
+  few : length (variable_names c.process) ≤ 32
+  few = let e = length-map (variables_of c.process) (λ (v : Variable). v.name) in omega (arith, e, fine.variables)
+
+  -- what is read in a piece of the process
+  begins_with : (before : ℕ) (t : Paths.Transition) (places : List (Option Identifier)) (m : VariableSet) (order : List ℕ) → IsOrder c.process order → NamedText c t.text → NamedConnections c → IsInProcess c.process t → IsSettled c.process ranges before t
+      → Holds c before numbered t.first m → ReadText c d.states m t.text
+      × ((i : ℕ) (k : PlainConnection) → slice_get c.process.connections i ≡ Some k
+      → ReadText c d.states (entry_at (connections_met c order (met c m t.text (map (λ (x : PlainConnection). everything) c.process.connections))) i) k.text)
+  begins_with before t places m order ordered text named inside settled holds =
+      let tells = lawful order ordered t before inside settled in
+      all_read c numbered few ranges d.states declared same_set before t.first t.text m order text named holds (record { reads = tells.reads; enters = tells.enters })
+
   start_valid : (draft : Draft) → Declares c.block draft → IsValidTransition draft (start_of n d)
   start_valid draft e =
-      transition_valid c draft (transition None [] (initial_set d.variables) d.start) (start_piece c.process) [] [] c.process.start.at
-      (known_transition draft None [] (initial_set d.variables) d.start e tt) ready.start ready.small refl (omega arith) refl fine.start
-      (λ to x some arr sure. arriving c n numbers here paths draft e.routes (process_count draft e) [] None (λ s h. absurd (let k : ⊥ = cc in k)) to x arr sure)
-      (settled_read c 0 numbered ranges d.states declared same_set (flat_map initial_sets (variables_of c.process)) c.process.start.text (initial_set d.variables) ready.start.text start_holds
-      (λ events end walk v id. made.settled.start.reads events end v id walk) made.settled.start.states)
-      made.start
+      let t = transition None [] (initial_set d.variables) d.start in
+      let q = start_piece c.process in
+      let known = known_transition draft None [] (initial_set d.variables) d.start e tt in
+      transition_valid c draft t q [] begins c.process.start.at known ready.start ready.small refl (omega arith) refl fine.start
+      (λ to x some arr sure. arriving c n numbers here paths draft e.routes (process_count draft e) (begins ∷ []) None (λ s h. absurd (let k : ⊥ = cc in k)) to x arr sure)
+      (record { read = λ order ordered. begins_with 0 (start_transition c.process) [] (initial_set d.variables) order ordered ready.start.text.text ready.start.connections (inl refl) made.settled.start start_holds })
+      made.start (counted draft t q known ready.start ready.sorted ready.small (omega arith) made.start)
 
   -- input i, in a state that is entered with this set
-  one_input : (draft : Draft) → Declares c.block draft → (set : VariableSet) (i : Input) (piece : DraftPiece) → FineInput c i → IsReadyInput c i → IsSettled c.process ranges set.0 (input_transition i)
+  one_input : (draft : Draft) → Declares c.block draft → (set : VariableSet) (i : Input) (piece : DraftPiece) → FineInput c i → IsReadyInput c i → IsSettled c.process ranges set.0 (input_transition i) → IsInProcess c.process (input_transition i)
       → IsPieceOf c (trigger_sorts c i.stimulus.name) set (input_piece i) piece → IsValidTransition draft (transition (Some (trigger_of c i.stimulus.name)) (trigger_sorts c i.stimulus.name) set piece)
-  one_input draft e set i piece f r settled is =
+  one_input draft e set i piece f r settled inside is =
       let id = i.stimulus.name in
+      let t = transition (Some (trigger_of c id)) (trigger_sorts c id) set piece in
+      let q = input_piece i in
       let sorts = parameter_sorts c.block id.name in
       let l = length-map sorts sort_of_tree in
       let le = r.places in
       let holds : Holds c set.0 numbered [] set = λ x v at known. ⊎_elim (λ a. a) (λ b. absurd (let k : ⊥ = cc in k)) known in
-      transition_valid c draft (transition (Some (trigger_of c id)) (trigger_sorts c id) set piece) (input_piece i) sorts (i.stimulus ∷ []) i.at
-      (known_transition draft (Some (trigger_of c id)) (trigger_sorts c id) set piece e (is_there c draft.signals d id (signal_count draft e) timer_count f.trigger)) r.named r.small refl (omega (arith, l, le))
-      (nil_back (too_many_places sorts i.stimulus) (flat_map (wrong_place (variables_of c.process)) (zip sorts i.stimulus.places)) f.placed) f.text
-      (λ to x some arr sure. arriving c n numbers here paths draft e.routes (process_count draft e) (i.stimulus ∷ []) (Some (trigger_of c id))
+      let known = known_transition draft (Some (trigger_of c id)) (trigger_sorts c id) set piece e (is_there c draft.signals d id (signal_count draft e) timer_count f.trigger) in
+      transition_valid c draft t q sorts (takes i.stimulus) i.at known r.named r.small refl (omega (arith, l, le))
+      (nil_back (too_many_places sorts i.stimulus) (flat_map (wrong_place (variables_of c.process)) (zip sorts i.stimulus.places)) f.placed) f.whole
+      (λ to x some arr sure. arriving c n numbers here paths draft e.routes (process_count draft e) (takes i.stimulus ∷ []) (Some (trigger_of c id))
       (λ s h. answers_input c n numbers here paths draft e.routes (process_count draft e) i.stimulus s f.trigger (first_of (answers c.block c.process s id.name) h)) to x arr sure)
-      (settled_read c set.0 numbered ranges d.states declared same_set (map (λ id. sets id.name) (place_names i.stimulus.places)) i.text (places_set c set i.stimulus.places) r.named.text
-      (places_hold c set.0 numbered i.stimulus.places [] set holds) (λ events end walk v id. settled.reads events end v id walk) settled.states)
-      is
+      (record {
+        read = λ order ordered.
+            begins_with set.0 (input_transition i) i.stimulus.places (places_set c set i.stimulus.places) order ordered r.named.text.text r.named.connections inside settled (places_hold c set.0 numbered i.stimulus.places [] set holds);
+      })
+      is (counted draft t q known r.named r.sorted r.small le is)
 
   input_valid : (draft : Draft) → Declares c.block draft → (q : ℕ) (st : DraftState) (k : ℕ) (x : DraftInput) → slice_get d.states q ≡ Some st → slice_get st.inputs k ≡ Some x → IsValidTransition draft (input_of draft.signals n d st x)
   input_valid draft e q st k x at has =
@@ -383,7 +440,8 @@ module _ (c : Scope) (n : ℕ) (d : DraftProcess) (fine : FineProcess c) (ready 
       let h = same_set q st at in
       let same : g.item ≡ st.set.0 = cc (h, g.there) in
       let s = subst (λ set. IsSettled c.process ranges set (input_transition i)) same (all_at (λ i. IsSettled c.process ranges g.item (input_transition i)) b.item k i g.holds j.there) in
-      let valid = one_input draft e st.set i x.piece f r s j.holds.piece in
+      let inside : IsInProcess c.process (input_transition i) = inr (q, b.item, k, i, b.there, j.there, refl) in
+      let valid = one_input draft e st.set i x.piece f r s inside j.holds.piece in
       let params : trigger_sorts c id ≡ trigger_parameters draft.signals (trigger_of c id) = sym (ap (λ (ss : List DraftSignal). trigger_parameters ss (trigger_of c id)) e.signals ∙ trigger_params c id) in
       let counted = subst (λ (ps : List Sort). IsValidTransition draft (transition (Some (trigger_of c id)) ps st.set x.piece)) params valid in
       subst (λ (w : Trigger). IsValidTransition draft (transition (Some w) (trigger_parameters draft.signals w) st.set x.piece)) (sym j.holds.trigger) counted

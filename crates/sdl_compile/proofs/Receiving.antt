@@ -27,6 +27,7 @@ use Rattle.sdl_rules.specs.Receivers.{same_party, party_of, paths_of, brings, ca
 use Rattle.sdl_compile.specs.Act.{Scope, numbered, the_one, if_named, to_sender}
 use Rattle.sdl_compile.specs.Code.{number_or_zero, party_or_environment, receiver_code}
 use Rattle.sdl_compile.specs.Named.{HasReceiver, IsSentIf, IsSentTo}
+use Rattle.sdl_rules.specs.Actions.{Origin}
 use Rattle.sdl_compile.specs.Declarations.{trigger_with, trigger_of}
 use Rattle.sdl_compile.specs.Drafts.{IsTrigger}
 use Rattle.sdl_compile.specs.Blocks.{drafted_party, drafted_path}
@@ -233,7 +234,7 @@ module _ (c : Scope) (n : ℕ) (numbers : AreNumbered (process_names c.block)) (
   one_numbered x (q ∷ []) h e f = some_numbered q (known_reached q x (paths_of c.block) known h.0)
   one_numbered x (q ∷ r ∷ qs) h e f = absurd (let k : length (q ∷ r ∷ qs) < 2 = grind (arith, nat_tests) in omega (arith, k))
 
-  pub has_receiver : (is : List PlainStimulus) (to : Option Destination) (x : Identifier) → arrives c.block c.process is to x.name ≡ true → is_doubtful c.block c.process to x.name ≡ false → HasReceiver c to x
+  pub has_receiver : (is : List Origin) (to : Option Destination) (x : Identifier) → arrives c.block c.process is to x.name ≡ true → is_doubtful c.block c.process to x.name ≡ false → HasReceiver c to x
   has_receiver is None x e f = one_numbered x.name (receivers c.block own x.name) (received c.block own x.name) e f
   has_receiver is (Some (address.Process id)) x e f =
       subst (λ b. IsSome (cond b (numbered c (Process id)) None)) (sym e) (some_numbered (Process id) (known_reached (Process id) x.name (paths_of c.block) known e))
@@ -392,7 +393,7 @@ module _ (c : Scope) (n : ℕ) (numbers : AreNumbered (process_names c.block)) (
             (all_items (Answers d.routes n m (sig s)) (map (drafted_path c.block) (paths_of c.block)) (answered i.name.name s v f (paths_of c.block) known each))
 
     -- what arrives by the text's routes reaches its receiver
-    pub arriving : (is : List PlainStimulus) (trigger : Option Trigger) → ((s : List ℕ) → answers_all c.block c.process is s ≡ true → AnswersSender d n (sig s) trigger)
+    pub arriving : (is : List Origin) (trigger : Option Trigger) → ((s : List ℕ) → answers_all c.block c.process is s ≡ true → AnswersSender d n (sig s) trigger)
         → (to : Option Destination) (x : Identifier) → arrives c.block c.process is to x.name ≡ true → is_doubtful c.block c.process to x.name ≡ false
         → ReachesReceiver d n (sig x.name) trigger (receiver_code c to x)
     arriving is trigger sender None x e f = to_one x.name (receivers c.block own x.name) (received c.block own x.name) e f

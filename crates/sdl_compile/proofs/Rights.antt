@@ -113,7 +113,7 @@ module _ (c : Scope) (d : Draft) (t : Transition)
     pub divisors_none : divisors_in x ≡ []
     pub output_none : KeepsOutput d t x
 
-  plain_right : (x : Instruction) (s : List Sort) (m : VariableSet) → IsPlain x → length (taken x) ≤ length s → Agree (taken x) s → IsRight d t s m x
+  pub plain_right : (x : Instruction) (s : List Sort) (m : VariableSet) → IsPlain x → length (taken x) ≤ length s → Agree (taken x) s → IsRight d t s m x
   plain_right x s m h under sort = record {
     under = under;
     sort = sort;

@@ -1,4 +1,4 @@
--- The run of a transition's instructions is what the transition means.
+-- The run of the instructions of expressions and actions is what they mean.
 use Rattle.std.proofs.Common.{◌≡◌, ℕ, suc, ◌+◌, ◌-◌, ◌<◌, ◌≤◌, Bool, true, false, cond, List, [], ◌∷◌, ◌++◌, length, take, drop, reverse, Option, Some, None, IsSome, refl, sym, ap, ◌∙◌, subst, arith, append_assoc, length-append}
 use Rattle.std.specs.Prelude.{slice_get, slice_set, ℤ, pos, int_lt, nat_le}
 use Rattle.std.proofs.Math.Seq.{get_or-append_seam, take-append_seam, drop-append_seam}
@@ -44,15 +44,15 @@ abbrev pub HasAt : List Instruction → ℕ → List Instruction → Type 0
 HasAt code pc [] = Unit {0}
 HasAt code pc (x ∷ is) = (slice_get code pc ≡ Some x) × HasAt code (pc + 1) is
 
-has_front : (code : List Instruction) (pc : ℕ) (a b : List Instruction) → HasAt code pc (a ++ b) → HasAt code pc a
+pub has_front : (code : List Instruction) (pc : ℕ) (a b : List Instruction) → HasAt code pc (a ++ b) → HasAt code pc a
 has_front code pc [] b h = tt
 has_front code pc (x ∷ a) b h = (h.0, has_front code (pc + 1) a b h.1)
 
-has_back : (code : List Instruction) (pc : ℕ) (a b : List Instruction) (n : ℕ) → pc + length a ≡ n → HasAt code pc (a ++ b) → HasAt code n b
+pub has_back : (code : List Instruction) (pc : ℕ) (a b : List Instruction) (n : ℕ) → pc + length a ≡ n → HasAt code pc (a ++ b) → HasAt code n b
 has_back code pc [] b n e h = let e' : pc ≡ n = omega arith in subst (λ n. HasAt code n b) e' h
 has_back code pc (x ∷ a) b n e h = has_back code (pc + 1) a b n (omega arith) h.1
 
-has_all : (is pre : List Instruction) → HasAt (pre ++ is) (length pre) is
+pub has_all : (is pre : List Instruction) → HasAt (pre ++ is) (length pre) is
 has_all [] pre = tt
 has_all (x ∷ is) pre =
     let within : length pre < length (pre ++ x ∷ is) = omega (arith, length-append pre (x ∷ is)) in
@@ -63,7 +63,7 @@ has_all (x ∷ is) pre =
     (here, subst (λ m. HasAt (pre ++ x ∷ is) m is) n rest')
 
 -- how a run is over
-abbrev over_as : Ending → Progress → Ran
+abbrev pub over_as : Ending → Progress → Ran
 over_as (at_end e) s = ended e s
 over_as (in_trouble t) s = got_stuck t
 
@@ -73,7 +73,7 @@ pushed [] os = os
 pushed (x ∷ xs) os = pushed xs (x ∷ os)
 
 -- what holds of what a part gives
-abbrev Gives : {A : Type 0} → (A → Type 0) → Outcome A → Type 0
+abbrev pub Gives : {A : Type 0} → (A → Type 0) → Outcome A → Type 0
 Gives P (goes_on x s) = P x
 Gives P (over e s) = Unit {0}
 
@@ -121,12 +121,12 @@ operands_are xs os n go e =
 module _ (inp : Input) (code : List Instruction) where
   -- the run from a place does what the outcome says: it comes to the end place, or is over.
   -- What is left of the steps and what is taken has one sum.
-  abbrev Does : {A : Type 0} → ℕ → List Value → Progress → ℕ → (A → List Value) → Outcome A → Type 0
+  abbrev pub Does : {A : Type 0} → ℕ → List Value → Progress → ℕ → (A → List Value) → Outcome A → Type 0
   Does pc os s end left (goes_on x v) = (k : ℕ) → (j : ℕ) × (j + s.count ≡ k + v.count) × (exec code inp j pc os s ≡ exec code inp k end (left x) v)
   Does pc os s end left (over e v) = (k : ℕ) → (j : ℕ) × (j + s.count ≡ k + v.count) × (exec code inp j pc os s ≡ over_as e v)
 
   -- one outcome after another
-  bind_with : {A B : Type 0} (P : A → Type 0) (pc mid end : ℕ) (os : List Value) (s : Progress) (left : A → List Value) (left2 : B → List Value) (o : Outcome A) (f : A → Progress → Outcome B) → Gives P o → Does pc os s mid left o → ((x : A) (v : Progress) → P x → Does mid (left x) v end left2 (f x v)) → Does pc os s end left2 (then_do o f)
+  pub bind_with : {A B : Type 0} (P : A → Type 0) (pc mid end : ℕ) (os : List Value) (s : Progress) (left : A → List Value) (left2 : B → List Value) (o : Outcome A) (f : A → Progress → Outcome B) → Gives P o → Does pc os s mid left o → ((x : A) (v : Progress) → P x → Does mid (left x) v end left2 (f x v)) → Does pc os s end left2 (then_do o f)
   bind_with P pc mid end os s left left2 (goes_on x v) f g a b = joins_up (f x v) (b x v g)
     where
       joins_up : (p : Outcome _) → Does mid (left x) v end left2 p → Does pc os s end left2 p
@@ -134,19 +134,19 @@ module _ (inp : Input) (code : List Instruction) where
       joins_up (over e u) h = λ k. let h1 = h k in let a1 = a h1.0 in (a1.0, omega (arith, a1.1, h1.1), a1.2 ∙ h1.2)
   bind_with P pc mid end os s left left2 (over e v) f g a b = a
 
-  bind : {A B : Type 0} (pc mid end : ℕ) (os : List Value) (s : Progress) (left : A → List Value) (left2 : B → List Value) (o : Outcome A) (f : A → Progress → Outcome B) → Does pc os s mid left o → ((x : A) (v : Progress) → Does mid (left x) v end left2 (f x v)) → Does pc os s end left2 (then_do o f)
+  pub bind : {A B : Type 0} (pc mid end : ℕ) (os : List Value) (s : Progress) (left : A → List Value) (left2 : B → List Value) (o : Outcome A) (f : A → Progress → Outcome B) → Does pc os s mid left o → ((x : A) (v : Progress) → Does mid (left x) v end left2 (f x v)) → Does pc os s end left2 (then_do o f)
   bind pc mid end os s left left2 o f a b = bind_with (λ _. Unit {0}) pc mid end os s left left2 o f (gives_nothing o) a (λ x v _. b x v)
 
   -- what one instruction does is what the outcome says
-  abbrev Fits : {A : Type 0} → After → Progress → ℕ → (A → List Value) → Outcome A → Type 0
+  abbrev pub Fits : {A : Type 0} → After → Progress → ℕ → (A → List Value) → Outcome A → Type 0
   Fits st s end left (goes_on x v) = (st ≡ goes end (left x) v) × (v.count ≡ s.count + 1)
   Fits st s end left (over (at_end e) v) = (st ≡ run.ends e v) × (v.count ≡ s.count + 1)
   Fits st s end left (over (in_trouble t) v) = (st ≡ stuck t) × (v.count ≡ s.count + 1)
 
-  stepped : (pc : ℕ) (os : List Value) (s : Progress) (x : Instruction) (st : After) → slice_get code pc ≡ Some x → run.act x inp (pc + 1) os (tick s) ≡ st → (k : ℕ) → exec code inp (suc k) pc os s ≡ go_on (exec code inp k) st
+  pub stepped : (pc : ℕ) (os : List Value) (s : Progress) (x : Instruction) (st : After) → slice_get code pc ≡ Some x → run.act x inp (pc + 1) os (tick s) ≡ st → (k : ℕ) → exec code inp (suc k) pc os s ≡ go_on (exec code inp k) st
   stepped pc os s x st at e k = ap (λ o. go_on (exec code inp k) (run.act_if o inp (pc + 1) os (tick s))) at ∙ ap (go_on (exec code inp k)) e
 
-  one : {A : Type 0} (pc end : ℕ) (os : List Value) (s : Progress) (left : A → List Value) (x : Instruction) (o : Outcome A) → slice_get code pc ≡ Some x → Fits (run.act x inp (pc + 1) os (tick s)) s end left o → Does pc os s end left o
+  pub one : {A : Type 0} (pc end : ℕ) (os : List Value) (s : Progress) (left : A → List Value) (x : Instruction) (o : Outcome A) → slice_get code pc ≡ Some x → Fits (run.act x inp (pc + 1) os (tick s)) s end left o → Does pc os s end left o
   one pc end os s left x (goes_on y v) at f = λ k. (suc k, omega (arith, f.1), stepped pc os s x _ at f.0 k)
   one pc end os s left x (over (at_end e) v) at f = λ k. (suc k, omega (arith, f.1), stepped pc os s x _ at f.0 k)
   one pc end os s left x (over (in_trouble e) v) at f = λ k. (suc k, omega (arith, f.1), stepped pc os s x _ at f.0 k)
@@ -239,7 +239,7 @@ module _ (inp : Input) (code : List Instruction) where
   load_does None pc end os s named at e = absurd (let h : ⊥ = cc in h)
   load_does (Some v) pc end os s named at e = one pc end os s (λ v. v ∷ os) (load v) (read (slice_get s.variables v) (tick s)) at (load_fits pc end v os s (slice_get s.variables v) refl e)
 
-  next_does : (o : Option ℕ) (pc end : ℕ) (os : List Value) (s : Progress) → IsSome o → slice_get code pc ≡ Some (next (number_or_zero o)) → Does pc os s end (λ _. os) (end_in o s)
+  pub next_does : (o : Option ℕ) (pc end : ℕ) (os : List Value) (s : Progress) → IsSome o → slice_get code pc ≡ Some (next (number_or_zero o)) → Does pc os s end (λ _. os) (end_in o s)
   next_does None pc end os s named at = absurd (let h : ⊥ = cc in h)
   next_does (Some q) pc end os s named at = one {A = Unit {0}} pc end os s (λ _. os) (next q) (end_in (Some q) s) at (refl, refl)
 
@@ -256,7 +256,7 @@ module _ (inp : Input) (code : List Instruction) where
   reset_does (Some t) pc end os s named at e = one {A = Unit {0}} pc end os s (λ _. os) (reset t) (stop_timer (Some t) (tick s)) at (ap (λ n. goes n os (with_effect (tick s) (effects.Reset (record { 0 = t })))) e, refl)
 
   -- an expression's code puts its value on the operands
-  tree_does : (c : Scope) (t : Tree) (pc end : ℕ) (os : List Value) (s : Progress) → HasAt code pc (tree_code c t) → pc + length (tree_code c t) ≡ end → NamedTree c t → Does pc os s end (λ v. v ∷ os) (value_of c t s)
+  pub tree_does : (c : Scope) (t : Tree) (pc end : ℕ) (os : List Value) (s : Progress) → HasAt code pc (tree_code c t) → pc + length (tree_code c t) ≡ end → NamedTree c t → Does pc os s end (λ v. v ∷ os) (value_of c t s)
   tree_does c (number at k) pc end os s has e named = one pc end os s (λ v. v ∷ os) (i.Int (wrap (pos k))) (goes_on (Int (wrap (pos k))) (tick s)) has.0 (value_fits pc end os s (Int (wrap (pos k))) e)
   tree_does c (truth at b) pc end os s has e named = one pc end os s (λ v. v ∷ os) (i.Bool b) (goes_on (Truth b) (tick s)) has.0 (value_fits pc end os s (Truth b) e)
   tree_does c (variable at n) pc end os s has e named = load_does (variable_at c n) pc end os s named has.0 e
@@ -298,7 +298,7 @@ module _ (inp : Input) (code : List Instruction) where
           (λ y v. one n end (y ∷ x ∷ os) v (λ v. v ∷ os) (binary_code (is_truth c t) op) (apply_two (working (is_truth c t) op) x y (tick v)) (has_back code m b last n refl after_a).0 (binary_fits (is_truth c t) op x y n end os v f len)))
 
   -- nothing is done
-  stays : {A : Type 0} (pc end : ℕ) (os : List Value) (s : Progress) (left : A → List Value) (x : A) → pc ≡ end → left x ≡ os → Does pc os s end left (goes_on x s)
+  pub stays : {A : Type 0} (pc end : ℕ) (os : List Value) (s : Progress) (left : A → List Value) (x : A) → pc ≡ end → left x ≡ os → Does pc os s end left (goes_on x s)
   stays pc end os s left x e f = λ k. (k, refl, ap (λ n. exec code inp k n os s) e ∙ ap (λ l. exec code inp k end l s) (sym f))
 
   -- expressions put their values there one after another
@@ -406,7 +406,7 @@ module _ (inp : Input) (code : List Instruction) where
         (λ _ u. sendings_do to xs (m + 1) end os u after_a.1 len named.1 (answers_rest to x xs answers))
 
     -- one action
-    action_does : (a : PlainAction) (pc end : ℕ) (os : List Value) (s : Progress) → HasAt code pc (action_code c a) → pc + length (action_code c a) ≡ end → NamedAction c a → AnswersAction c from a → Does pc os s end (λ _. os) (perform c inp.sender a s)
+    pub action_does : (a : PlainAction) (pc end : ℕ) (os : List Value) (s : Progress) → HasAt code pc (action_code c a) → pc + length (action_code c a) ≡ end → NamedAction c a → AnswersAction c from a → Does pc os s end (λ _. os) (perform c inp.sender a s)
     action_does (task at ts) pc end os s has e named answers = tasks_do c ts pc end os s has e named
     action_does (output at xs to) pc end os s has e named answers = sendings_do to xs pc end os s has e named answers
     action_does (set_timer at t n) pc end os s has e named answers =
@@ -418,23 +418,6 @@ module _ (inp : Input) (code : List Instruction) where
         (tree_does c t pc m os s (has_front code pc a last has) refl named.0)
         (λ x v. set_does (timer_at c n) x m end os v named.1 (has_back code pc a last m refl has).0 len)
     action_does (reset_timer at n) pc end os s has e named answers = reset_does (timer_at c n) pc end os s named has.0 e
-
-    end_does : (t : End) (pc end : ℕ) (os : List Value) (s : Progress) → HasAt code pc (end_code c t) → NamedEnd c t → Does pc os s end (λ _. os) (end_with c t s)
-    end_does (NextState n) pc end os s has named = next_does (state_at c n.state) pc end os s named has.0
-    end_does (Stop at) pc end os s has named = one {A = Unit {0}} pc end os s (λ _. os) i.Stop (end_with c (Stop at) s) has.0 (refl, refl)
-
-    -- a transition from some action on
-    text_does : (t : Text) (pc end : ℕ) (os : List Value) (s : Progress) → HasAt code pc (text_code c t) → pc + length (text_code c t) ≡ end → NamedText c t → AnswersSenders c from t → Does pc os s end (λ _. os) (act c inp.sender t s)
-    text_does falls pc end os s has e named answers = absurd named
-    text_does (ends t) pc end os s has e named answers = end_does t pc end os s has named
-    text_does (does t rest) pc end os s has e named answers =
-        let a = action_code c t in
-        let b = text_code c rest in
-        let m = pc + length a in
-        let len : m + length b ≡ end = omega (arith, length-append a b) in
-        bind pc m end os s (λ _. os) (λ _. os) (perform c inp.sender t s) (λ _ s. act c inp.sender rest s)
-        (action_does t pc m os s (has_front code pc a b has) refl named.0 answers.0)
-        (λ _ u. text_does rest m end os u (has_back code pc a b m refl has) len named.1 answers.1)
 
   parameter_fits : (j pc : ℕ) (os : List Value) (s : Progress) (x : Value) → slice_get inp.parameters.items j ≡ Some x → Fits (run.act (i.Param j) inp (pc + 1) os (tick s)) s (pc + 1) (λ v. v ∷ os) (goes_on x (tick s))
   parameter_fits j pc os s x p = (ap (run.given (pc + 1) os (tick s)) p, refl)
@@ -449,207 +432,10 @@ module _ (inp : Input) (code : List Instruction) where
       (one pc (pc + 1) os s (λ x. x ∷ os) (i.Param j) (goes_on x (tick s)) at (parameter_fits j pc os s x p))
       (λ x u. store_does v x (pc + 1) end os u named at2 e)
 
-  places_do : (c : Scope) (places : List (Option Identifier)) (j pc end : ℕ) (os : List Value) (s : Progress) → HasAt code pc (places_code c j places) → pc + length (places_code c j places) ≡ end → NamedPlaces c places → Does pc os s end (λ _. os) (take_places c inp.parameters.items j places s)
+  pub places_do : (c : Scope) (places : List (Option Identifier)) (j pc end : ℕ) (os : List Value) (s : Progress) → HasAt code pc (places_code c j places) → pc + length (places_code c j places) ≡ end → NamedPlaces c places → Does pc os s end (λ _. os) (take_places c inp.parameters.items j places s)
   places_do c [] j pc end os s has e named = stays pc end os s (λ _. os) (tt {0}) (omega (arith, e)) refl
   places_do c (None ∷ places) j pc end os s has e named = places_do c places (j + 1) pc end os s has e named
   places_do c (Some n ∷ places) j pc end os s has e named =
       bind pc (pc + 1 + 1) end os s (λ _. os) (λ _. os) (pass (slice_get inp.parameters.items j) (variable_at c n) s) (λ _ s. take_places c inp.parameters.items (j + 1) places s)
       (parameter_does j (variable_at c n) pc (pc + 1 + 1) os s (slice_get inp.parameters.items j) refl named.0 has.0 has.1.0 refl)
       (λ _ u. places_do c places (j + 1) (pc + 1 + 1) end os u has.1.1 (omega (arith, e)) named.1)
-
-  -- a whole piece: INPUT's places, and then the text
-  piece_does : (c : Scope) (from : Option Identifier) (q : Piece) (s : Progress) → IsSentTo c from inp.sender → code ≡ piece_code c q → NamedPiece c q → AnswersSenders c from q.text → Does 0 [] s (length code) (λ _. []) (then_do (take_places c inp.parameters.items 0 q.places s) (λ _ s. act c inp.sender q.text s))
-  piece_does c from q s is_sent is named answers =
-      let a = places_code c 0 q.places in
-      let b = text_code c q.text in
-      let has : HasAt code 0 (a ++ b) = subst (λ l. HasAt l 0 (a ++ b)) (sym is) (has_all (a ++ b) []) in
-      let len : length a + length b ≡ length code = omega (arith, ap length is, length-append a b) in
-      bind 0 (length a) (length code) [] s (λ _. []) (λ _. []) (take_places c inp.parameters.items 0 q.places s) (λ _ s. act c inp.sender q.text s)
-      (places_do c q.places 0 0 (length a) [] s (has_front code 0 a b has) (omega arith) named.places)
-      (λ _ u. text_does c from is_sent q.text (length a) (length code) [] u (has_back code 0 a b (length a) (omega arith) has) len named.text answers)
-
--- what a part has cost by its end
-abbrev cost_by : {A : Type 0} → Outcome A → ℕ
-cost_by (goes_on x v) = v.count
-cost_by (over e v) = v.count
-
-cost_bind : {A B : Type 0} (m n : ℕ) (o : Outcome A) (f : A → Progress → Outcome B) → m ≤ n → cost_by o ≤ m → ((x : A) (v : Progress) → v.count ≤ m → cost_by (f x v) ≤ n) → cost_by (then_do o f) ≤ n
-cost_bind m n (goes_on x v) f le a b = b x v a
-cost_bind m n (over e v) f le a b = omega (arith, a)
-
-read_cost : (o : Option (Option Value)) (s : Progress) → cost_by (read o s) ≤ s.count
-read_cost None s = omega arith
-read_cost (Some None) s = omega arith
-read_cost (Some (Some x)) s = omega arith
-
-written_cost : (o : Option (Option Value)) (v : ℕ) (x : Value) (s : Progress) → cost_by (written o v x s) ≤ s.count
-written_cost None v x s = omega arith
-written_cost (Some old) v x s = omega arith
-
-write_cost : (o : Option ℕ) (x : Value) (s : Progress) → cost_by (write o x s) ≤ s.count + 1
-write_cost None x s = omega arith
-write_cost (Some v) x s = written_cost (slice_get s.variables v) v x (tick s)
-
-one_cost : (op : UnaryOperator) (x : Value) (s : Progress) → cost_by (apply_one op x s) ≤ s.count
-one_cost Negate (Int x) s = omega arith
-one_cost Negate (Truth x) s = omega arith
-one_cost Not (Int x) s = omega arith
-one_cost Not (Truth x) s = omega arith
-
-two_cost : (w : Working) (x y : Value) (s : Progress) → cost_by (apply_two w x y s) ≤ s.count
-two_cost (reckons f) (Int x) (Int y) s = omega arith
-two_cost (reckons f) (Int x) (Truth y) s = omega arith
-two_cost (reckons f) (Truth x) y s = omega arith
-two_cost (compares r) (Int x) (Int y) s = omega arith
-two_cost (compares r) (Int x) (Truth y) s = omega arith
-two_cost (compares r) (Truth x) y s = omega arith
-two_cost (joins f) (Truth x) (Truth y) s = omega arith
-two_cost (joins f) (Truth x) (Int y) s = omega arith
-two_cost (joins f) (Int x) y s = omega arith
-
-if_cost : (b : Bool) (x : Value) (s : Progress) → cost_by (cond b (goes_on x s) (over (in_trouble WrongSort) s)) ≤ s.count
-if_cost true x s = omega arith
-if_cost false x s = omega arith
-
-divide_cost : (op : BinaryOperator) (k : ℤ) (x : Value) (s : Progress) → cost_by (divide op k x s) ≤ s.count
-divide_cost op k (Int x) s = if_cost (int_lt (pos 0) k) (Int (quotient op x k)) s
-divide_cost op k (Truth x) s = omega arith
-
-value_cost : (c : Scope) (t : Tree) (s : Progress) → cost_by (value_of c t s) ≤ s.count + cost_of t
-value_cost c (number at k) s = omega arith
-value_cost c (truth at b) s = omega arith
-value_cost c (variable at n) s = read_cost (slot (variable_at c n) s) (tick s)
-value_cost c (unary at op t) s =
-    cost_bind (s.count + cost_of t) (s.count + cost_of (unary at op t)) (value_of c t s) (λ x s. apply_one op x (tick s)) (omega arith) (value_cost c t s)
-    (λ x v le. let h = one_cost op x (tick v) in omega (arith, h, le))
-value_cost c (binary at op t u) s = by_division (is_division op) (value_cost c t s) (λ v. value_cost c u v)
-  where
-    by_division : (d : Bool) → cost_by (value_of c t s) ≤ s.count + cost_of t → ((v : Progress) → cost_by (value_of c u v) ≤ v.count + cost_of u)
-        → cost_by (then_do (value_of c t s) (λ x s. cond d (divide op (divisor_of u) x (tick s)) (then_do (value_of c u s) (λ y s. apply_two (working (is_truth c t) op) x y (tick s))))) ≤ s.count + (cost_of t + cond d 0 (cost_of u) + 1)
-    by_division true left right =
-        cost_bind (s.count + cost_of t) (s.count + (cost_of t + 0 + 1)) (value_of c t s) (λ x s. divide op (divisor_of u) x (tick s)) (omega arith) left
-        (λ x v le. let h = divide_cost op (divisor_of u) x (tick v) in omega (arith, h, le))
-    by_division false left right =
-        cost_bind (s.count + cost_of t) (s.count + (cost_of t + cost_of u + 1)) (value_of c t s) (λ x s. then_do (value_of c u s) (λ y s. apply_two (working (is_truth c t) op) x y (tick s))) (omega arith) left
-        (λ x v le. cost_bind (v.count + cost_of u) (s.count + (cost_of t + cost_of u + 1)) (value_of c u v) (λ y s. apply_two (working (is_truth c t) op) x y (tick s)) (omega (arith, le)) (right v)
-        (λ y w le2. let h = two_cost (working (is_truth c t) op) x y (tick w) in omega (arith, h, le, le2)))
-
-values_cost : (c : Scope) (ts : List Tree) (s : Progress) → cost_by (values_of c ts s) ≤ s.count + sum_by cost_of ts
-values_cost c [] s = omega arith
-values_cost c (t ∷ ts) s =
-    cost_bind (s.count + cost_of t) (s.count + sum_by cost_of (t ∷ ts)) (value_of c t s) (λ x s. then_do (values_of c ts s) (λ xs s. goes_on (x ∷ xs) s)) (omega (arith, sum_by-cons cost_of t ts)) (value_cost c t s)
-    (λ x v le. cost_bind (v.count + sum_by cost_of ts) (s.count + sum_by cost_of (t ∷ ts)) (values_of c ts v) (λ xs s. goes_on (x ∷ xs) s) (omega (arith, le, sum_by-cons cost_of t ts)) (values_cost c ts v)
-    (λ xs w le2. omega (arith, le, le2, sum_by-cons cost_of t ts)))
-
-put_cost : (n : Option ℕ) (p : Option Party) (xs : List Value) (s : Progress) → cost_by (put_out n p xs s) ≤ s.count
-put_cost None p xs s = omega arith
-put_cost (Some n) None xs s = omega arith
-put_cost (Some n) (Some p) xs s = omega arith
-
-send_cost : (c : Scope) (sender : Option Party) (to : Option Destination) (x : PlainSending) (s : Progress) → cost_by (send c sender to x s) ≤ s.count + sending_cost x
-send_cost c sender to x s =
-    cost_bind (s.count + sum_by cost_of x.parameters) (s.count + sending_cost x) (values_of c x.parameters s) (λ xs s. put_out (signal_at c x.signal) (receiver_of c sender to x.signal) xs (tick s)) (omega arith) (values_cost c x.parameters s)
-    (λ xs v le. let h = put_cost (signal_at c x.signal) (receiver_of c sender to x.signal) xs (tick v) in omega (arith, h, le))
-
-send_all_cost : (c : Scope) (sender : Option Party) (to : Option Destination) (xs : List PlainSending) (s : Progress) → cost_by (send_all c sender to xs s) ≤ s.count + sendings_cost xs
-send_all_cost c sender to [] s = omega arith
-send_all_cost c sender to (x ∷ xs) s =
-    cost_bind (s.count + sending_cost x) (s.count + sendings_cost (x ∷ xs)) (send c sender to x s) (λ _ s. send_all c sender to xs s) (omega (arith, sum_by-cons sending_cost x xs)) (send_cost c sender to x s)
-    (λ _ v le. let h = send_all_cost c sender to xs v in omega (arith, h, le, sum_by-cons sending_cost x xs))
-
-assign_cost : (c : Scope) (ts : List PlainAssignment) (s : Progress) → cost_by (assign c ts s) ≤ s.count + assignments_cost ts
-assign_cost c [] s = omega arith
-assign_cost c (t ∷ ts) s =
-    cost_bind (s.count + cost_of t.value) (s.count + assignments_cost (t ∷ ts)) (value_of c t.value s) (λ x s. then_do (write (variable_at c t.variable) x s) (λ _ s. assign c ts s)) (omega (arith, sum_by-cons assignment_cost t ts)) (value_cost c t.value s)
-    (λ x v le. cost_bind (v.count + 1) (s.count + assignments_cost (t ∷ ts)) (write (variable_at c t.variable) x v) (λ _ s. assign c ts s) (omega (arith, le, sum_by-cons assignment_cost t ts)) (write_cost (variable_at c t.variable) x v)
-    (λ _ w le2. let h = assign_cost c ts w in omega (arith, h, le, le2, sum_by-cons assignment_cost t ts)))
-
-end_in_cost : (o : Option ℕ) (s : Progress) → cost_by (end_in o s) ≤ s.count + 1
-end_in_cost None s = omega arith
-end_in_cost (Some q) s = omega arith
-
-end_cost_by : (c : Scope) (t : End) (s : Progress) → cost_by (end_with c t s) ≤ s.count + end_cost t
-end_cost_by c (NextState n) s = end_in_cost (state_at c n.state) s
-end_cost_by c (Stop at) s = omega arith
-
-start_cost : (o : Option ℕ) (x : Value) (s : Progress) → cost_by (start_timer o x s) ≤ s.count
-start_cost None x s = omega arith
-start_cost (Some t) (Int z) s = omega arith
-start_cost (Some t) (Truth b) s = omega arith
-
-stop_cost : (o : Option ℕ) (s : Progress) → cost_by (stop_timer o s) ≤ s.count
-stop_cost None s = omega arith
-stop_cost (Some t) s = omega arith
-
-perform_cost : (c : Scope) (sender : Option Party) (a : PlainAction) (s : Progress) → cost_by (perform c sender a s) ≤ s.count + action_cost a
-perform_cost c sender (task at ts) s = assign_cost c ts s
-perform_cost c sender (output at xs to) s = send_all_cost c sender to xs s
-perform_cost c sender (set_timer at t n) s =
-    cost_bind (s.count + cost_of t) (s.count + (cost_of t + 1)) (value_of c t s) (λ x s. start_timer (timer_at c n) x (tick s)) (omega arith) (value_cost c t s)
-    (λ x v le. let h = start_cost (timer_at c n) x (tick v) in omega (arith, h, le))
-perform_cost c sender (reset_timer at n) s = let h = stop_cost (timer_at c n) (tick s) in omega (arith, h)
-
-act_cost : (c : Scope) (sender : Option Party) (t : Text) (s : Progress) → cost_by (act c sender t s) ≤ s.count + budget t 0
-act_cost c sender falls s = omega arith
-act_cost c sender (ends e) s = end_cost_by c e s
-act_cost c sender (does a rest) s =
-    cost_bind (s.count + action_cost a) (s.count + budget (does a rest) 0) (perform c sender a s) (λ _ s. act c sender rest s) (omega arith) (perform_cost c sender a s)
-    (λ x v le. let h = act_cost c sender rest v in omega (arith, h, le))
-
-pass_cost : (o : Option Value) (v : Option ℕ) (s : Progress) → cost_by (pass o v s) ≤ s.count + 2
-pass_cost None v s = omega arith
-pass_cost (Some x) v s = let h = write_cost v x (tick s) in omega (arith, h)
-
-take_cost : (c : Scope) (ps : List Value) (j : ℕ) (places : List (Option Identifier)) (s : Progress) → cost_by (take_places c ps j places s) ≤ s.count + places_cost places
-take_cost c ps j [] s = omega arith
-take_cost c ps j (None ∷ places) s = let h = take_cost c ps (j + 1) places s in omega (arith, h, sum_by-cons place_cost None places)
-take_cost c ps j (Some n ∷ places) s =
-    cost_bind (s.count + 2) (s.count + places_cost (Some n ∷ places)) (pass (slice_get ps j) (variable_at c n) s) (λ _ s. take_places c ps (j + 1) places s) (omega (arith, sum_by-cons place_cost (Some n) places)) (pass_cost (slice_get ps j) (variable_at c n) s)
-    (λ _ v le. let h = take_cost c ps (j + 1) places v in omega (arith, h, le, sum_by-cons place_cost (Some n) places))
-
-piece_cost : (c : Scope) (sender : Option Party) (q : Piece) (ps : List Value) (s : Progress) → cost_by (then_do (take_places c ps 0 q.places s) (λ _ s. act c sender q.text s)) ≤ s.count + piece_budget q
-piece_cost c sender q ps s =
-    cost_bind (s.count + places_cost q.places) (s.count + piece_budget q) (take_places c ps 0 q.places s) (λ _ s. act c sender q.text s) (omega arith) (take_cost c ps 0 q.places s)
-    (λ _ v le. let h = act_cost c sender q.text v in omega (arith, h, le))
-
--- a text that doesn't run off its end comes to its end
-abbrev IsOver : {A : Type 0} → Outcome A → Type 0
-IsOver (goes_on x v) = ⊥
-IsOver (over e v) = Unit {0}
-
-over_bind : {A B : Type 0} (o : Outcome A) (f : A → Progress → Outcome B) → ((x : A) (v : Progress) → IsOver (f x v)) → IsOver (then_do o f)
-over_bind (goes_on x v) f h = h x v
-over_bind (over e v) f h = tt
-
-end_over : (o : Option ℕ) (s : Progress) → IsOver (end_in o s)
-end_over None s = tt
-end_over (Some q) s = tt
-
-act_over : (c : Scope) (sender : Option Party) (t : Text) (s : Progress) → NamedText c t → IsOver (act c sender t s)
-act_over c sender falls s named = named
-act_over c sender (ends (NextState n)) s named = end_over (state_at c n.state) s
-act_over c sender (ends (Stop at)) s named = tt
-act_over c sender (does a rest) s named = over_bind (perform c sender a s) (λ _ s. act c sender rest s) (λ _ v. act_over c sender rest v named.1)
-
--- what is over within n instructions is so in a run of n
-over_run : (inp : Input) (code : List Instruction) (s : Progress) (n : ℕ) (o : Outcome (Unit {0})) → s.count ≡ 0 → IsOver o → cost_by o ≤ n → Does inp code 0 [] s (length code) (λ _. []) o → exec code inp n 0 [] s ≡ ran o
-over_run inp code s n (goes_on x v) zero_at h le d = absurd h
-over_run inp code s n (over (at_end e) v) zero_at h le d =
-    let a = d (n - v.count) in
-    let j : a.0 ≡ n = omega (arith, a.1, zero_at, le) in
-    subst (λ m. exec code inp m 0 [] s ≡ ended e v) j a.2
-over_run inp code s n (over (in_trouble t) v) zero_at h le d =
-    let a = d (n - v.count) in
-    let j : a.0 ≡ n = omega (arith, a.1, zero_at, le) in
-    subst (λ m. exec code inp m 0 [] s ≡ got_stuck t) j a.2
-
--- the run of a piece's instructions is its meaning, on each input that may come
-pub run_is_act : (c : Scope) (from : Option Identifier) (q : Piece) (code : List Instruction) (x : Input) → code ≡ piece_code c q → NamedPiece c q → AnswersSenders c from q.text → piece_budget q ≤ 512 → IsSentTo c from x.sender → run.run code x ≡ Act c q x
-unfolding run.run
-run_is_act c from q code x is named answers le is_sent =
-    let s = begun x in
-    let o = then_do (take_places c x.parameters.items 0 q.places s) (λ _ s. act c x.sender q.text s) in
-    let cost = piece_cost c x.sender q x.parameters.items s in
-    over_run x code s 512 o refl
-    (over_bind (take_places c x.parameters.items 0 q.places s) (λ _ s. act c x.sender q.text s) (λ _ v. act_over c x.sender q.text v named.text))
-    (omega (arith, cost, le)) (piece_does x code c from q s is_sent is named answers)

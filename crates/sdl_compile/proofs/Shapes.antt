@@ -1,4 +1,4 @@
--- How deep the code of a piece is, how many instructions it has and how many effects: what its text says.
+-- What the code of expressions, actions and INPUT's places leaves, how deep it is, how many instructions it has and how many effects.
 use Rattle.std.proofs.Common.{◌≡◌, ℕ, zero, suc, ◌+◌, ◌<◌, ◌≤◌, ℤ, pos, max, Bool, true, false, cond, List, [], ◌∷◌, ◌++◌, length, reverse, drop, Option, Some, None, IsSome, refl, sym, ap, ◌∙◌, arith}
 use Rattle.std.specs.Prelude.{slice_get, sum_by}
 use Rattle.std.specs.Option.{option_to_list}
@@ -12,8 +12,7 @@ use Rattle.sdl_tree.specs.declared.expression.BinaryOperator.TheVariants.{Or, Xo
 use Rattle.sdl_tree.specs.declared.tree.Sort as tree_sort
 use Rattle.sdl_tree.specs.declared.tree.Sort.TheVariants as tree_sorts
 use Rattle.sdl_tree.specs.declared.tree.Destination.{Destination}
-use Rattle.sdl_tree.specs.declared.tree.End.TheVariants.{NextState, Stop}
-use Rattle.sdl_tree.specs.Plain.{Tree, number, truth, variable, unary, binary, PlainAssignment, PlainSending, PlainAction, task, output, set_timer, reset_timer, Text, falls, ends, does}
+use Rattle.sdl_tree.specs.Plain.{Tree, number, truth, variable, unary, binary, PlainAssignment, PlainSending, PlainAction, task, output, set_timer, reset_timer}
 use Rattle.turn_code.specs.declared.value.Sort.{Sort}
 use Rattle.turn_code.specs.declared.instruction.Receiver.{Receiver}
 use Rattle.turn_code.specs.declared.instruction.Instruction.{Instruction}
@@ -27,15 +26,15 @@ use Rattle.turn_code.specs.Code.{sort_at, set_after, effects_of}
 use Rattle.turn_code.specs.Transitions.{parameters_of}
 use Rattle.sdl_tables.specs.Names.{variables_of}
 use Rattle.sdl_rules.specs.Sorts.{unary_sort, binary_sort, variable_sort, sort_in}
-use Rattle.sdl_rules.specs.Longest.{Piece, is_division, cost_of, depth_of, assignment_cost, assignments_cost, assignments_depth, sending_cost, sendings_cost, parameters_depth, sendings_depth, action_cost, action_depth, action_effects, budget, depth, effects, place_cost, places_cost, places_depth, piece_budget, piece_depth, piece_effects}
-use Rattle.sdl_compile.specs.Act.{Scope, variable_at, state_at, timer_at, signal_at, is_truth, divisor_of}
-use Rattle.sdl_compile.specs.Code.{number_or_zero, load, store, next, set_to, reset, put, unary_code, binary_code, division_code, tree_code, trees_code, tasks_code, receiver_code, sendings_code, action_code, text_code, places_code, piece_code}
-use Rattle.sdl_compile.specs.Named.{NamedTree, NamedTrees, NamedTasks, NamedSendings, NamedAction, NamedText, NamedPlaces, NamedPiece}
+use Rattle.sdl_rules.specs.Longest.{is_division, cost_of, depth_of, assignment_cost, assignments_cost, assignments_depth, sending_cost, sendings_cost, parameters_depth, sendings_depth, action_cost, action_depth, action_effects, place_cost, places_cost, places_depth}
+use Rattle.sdl_compile.specs.Act.{Scope, variable_at, timer_at, signal_at, is_truth, divisor_of}
+use Rattle.sdl_compile.specs.Code.{number_or_zero, load, store, set_to, reset, put, unary_code, binary_code, division_code, tree_code, trees_code, tasks_code, receiver_code, sendings_code, action_code, places_code}
+use Rattle.sdl_compile.specs.Named.{NamedTree, NamedTrees, NamedTasks, NamedSendings, NamedAction, NamedPlaces}
 use Rattle.sdl_compile.specs.Declarations.{sort_of_tree}
 use Rattle.sdl_compile.specs.Reads.{tasks_set, action_set, places_set}
 use Rattle.sdl_compile.proofs.Sorting.{tree_has_sort, variable_has_sort}
 use Rattle.sdl_compile.proofs.Straight.{IsStep}
-use Rattle.sdl_compile.proofs.Stretches.{Leads, Closes, after, joined, none, one, told, closed, last}
+use Rattle.sdl_compile.proofs.Stretches.{Leads, after, joined, none, one, told}
 
 pub depth_some : (t : Tree) → 1 ≤ depth_of t
 depth_some (number at k) = omega arith
@@ -54,11 +53,6 @@ CountedAction c ss (task at ts) = Unit {0}
 CountedAction c ss (output at xs to) = Counted c ss xs
 CountedAction c ss (set_timer at t n) = Unit {0}
 CountedAction c ss (reset_timer at n) = Unit {0}
-
-abbrev pub CountedText : Scope → List DraftSignal → Text → Type 0
-CountedText c ss falls = Unit {0}
-CountedText c ss (ends e) = Unit {0}
-CountedText c ss (does a rest) = CountedAction c ss a × CountedText c ss rest
 
 drop_past : {A : Type 0} (n : ℕ) (xs : List A) → length xs ≤ n → drop n xs ≡ []
 drop_past zero [] h = refl
@@ -276,12 +270,6 @@ module _ (c : Scope) (ss : List DraftSignal) (xs : List DraftVariable) (ps : Lis
       told ss xs ps (joined ss xs ps (tree_leads t h.sort [] m named.0 h.is) (timer_leads (number_or_zero (timer_at c n)) (sort_of_tree h.sort) m)) refl refl (omega (arith, deep)) refl refl
   action_leads (reset_timer at n) m named counted = one ss xs ps (reset (number_or_zero (timer_at c n))) [] m (record { jumping = refl; going = λ k. refl })
 
-  text_closes : (t : Text) (m : VariableSet) → NamedText c t → CountedText c ss t → Closes ss xs ps m (text_code c t) (depth t) (budget t 0) (effects t 0)
-  text_closes falls m named counted = absurd named
-  text_closes (ends (NextState n)) m named counted = last ss xs ps (next (number_or_zero (state_at c n.state))) m (record { jumping = refl; going = λ k. refl })
-  text_closes (ends (Stop at)) m named counted = last ss xs ps i.Stop m (record { jumping = refl; going = λ k. refl })
-  text_closes (does a rest) m named counted = closed ss xs ps (action_leads a m named.0 counted.0) (text_closes rest (action_set c m a) named.1 counted.1)
-
   -- ---- INPUT's places
 
   pub param_leads : (j : ℕ) (m : VariableSet) → (r : Sort) → option_to_list (slice_get ps j) ≡ r ∷ [] → L [] m (i.Param j ∷ []) (r ∷ []) m 1 1 0
@@ -296,9 +284,3 @@ module _ (c : Scope) (ss : List DraftSignal) (xs : List DraftVariable) (ps : Lis
       let rest = places_leads places (j + 1) (with_variable m (number_or_zero (variable_at c n))) named.1 (omega (arith, le)) in
       told ss xs ps (joined ss xs ps (param_leads j m p.0 p.1) (joined ss xs ps (variable_store n p.0 [] m named.0) rest))
       refl refl (omega arith) (omega (arith, sum_by-cons place_cost (Some n) places)) refl
-
-  -- the code of a piece
-  pub piece_closes : (q : Piece) (m : VariableSet) → NamedPiece c q → CountedText c ss q.text → length q.places ≤ length ps → Closes ss xs ps m (piece_code c q) (piece_depth q) (piece_budget q) (piece_effects q)
-  piece_closes q m named counted le =
-      let h = closed ss xs ps (places_leads q.places 0 m named.places (omega (arith, le))) (text_closes q.text (places_set c m q.places) named.text counted) in
-      record { straight = h.straight; depth_is = h.depth_is; cost_is = h.cost_is; effects_is = h.effects_is ∙ omega arith }

@@ -38,10 +38,10 @@ number_small p xs h = by_test (nat_lt (position_or_len p xs) (length xs)) refl h
 
 -- what is found is at its place
 module _ {A : Type 0} (name : A → Identifier) (x : List ℕ) where
-  abbrev IsOf : A → Bool
+  abbrev pub IsOf : A → Bool
   IsOf a = same_name x (name a).name
 
-  abbrev place_in : List A → ℕ
+  abbrev pub place_in : List A → ℕ
   place_in xs = position_or_len (λ (id : Identifier). same_name x id.name) (map name xs)
 
   pub found_at : (xs : List A) → find IsOf xs ≡ slice_get xs (place_in xs)

@@ -36,17 +36,6 @@ pub record IsStep (x : Instruction) : Type 0 where
   pub jumping : jumps x ≡ []
   pub going : (k : ℕ) → behind x k ≡ (k + 1) ∷ []
 
--- it ends there
-pub record IsLast (x : Instruction) : Type 0 where
-  pub jumping : jumps x ≡ []
-  pub going : (k : ℕ) → behind x k ≡ []
-
--- the code goes straight on up to its last instruction, which ends it
-abbrev pub IsStraight : List Instruction → Type 0
-IsStraight [] = ⊥
-IsStraight (x ∷ []) = IsLast x
-IsStraight (x ∷ y ∷ is) = IsStep x × IsStraight (y ∷ is)
-
 -- instructions behind which the code goes on
 abbrev pub AreSteps : List Instruction → Type 0
 AreSteps [] = Unit {0}
@@ -55,9 +44,3 @@ AreSteps (x ∷ is) = IsStep x × AreSteps is
 pub steps_append : (a b : List Instruction) → AreSteps a → AreSteps b → AreSteps (a ++ b)
 steps_append [] b h k = k
 steps_append (x ∷ a) b h k = (h.0, steps_append a b h.1 k)
-
-pub straight_append : (a b : List Instruction) → AreSteps a → IsStraight b → IsStraight (a ++ b)
-straight_append [] b h k = k
-straight_append (x ∷ []) [] h k = absurd k
-straight_append (x ∷ []) (y ∷ b) h k = (h.0, k)
-straight_append (x ∷ z ∷ a) b h k = (h.0, straight_append (z ∷ a) b h.1 k)

@@ -9,10 +9,8 @@ use Rattle.turn_code.specs.declared.draft.DraftSignal.{DraftSignal}
 use Rattle.turn_code.specs.declared.draft.DraftVariable.{DraftVariable}
 use Rattle.turn_code.specs.declared.draft.Draft.{Draft}
 use Rattle.turn_code.specs.Code.{shape_after, set_after, effects_of}
-use Rattle.turn_code.specs.Rules.{greatest, depths}
 use Rattle.turn_code.specs.Transitions.{Transition}
-use Rattle.sdl_compile.specs.Facts.{facts_from}
-use Rattle.sdl_compile.proofs.Straight.{IsStep, IsLast, AreSteps, IsStraight, AreRight, steps_append, straight_append}
+use Rattle.sdl_compile.proofs.Straight.{IsStep, AreSteps, AreRight, steps_append}
 
 -- the set that instructions leave
 abbrev pub left_set : VariableSet → List Instruction → VariableSet
@@ -50,7 +48,7 @@ module _ (ss : List DraftSignal) (xs : List DraftVariable) (ps : List Sort) wher
   least shape [] = omega arith
   least shape (x ∷ is) = omega arith
 
-  shape_joined : (shape : List Sort) (a b : List Instruction) → left_shape shape (a ++ b) ≡ left_shape (left_shape shape a) b
+  pub shape_joined : (shape : List Sort) (a b : List Instruction) → left_shape shape (a ++ b) ≡ left_shape (left_shape shape a) b
   shape_joined shape [] b = refl
   shape_joined shape (x ∷ a) b = shape_joined (after x shape) a b
 
@@ -86,33 +84,8 @@ module _ (ss : List DraftSignal) (xs : List DraftVariable) (ps : List Sort) wher
     effects_is = h.effects_is ∙ i;
   }
 
-  -- code that goes straight on up to its end
-  pub record Closes (m : VariableSet) (code : List Instruction) (d n e : ℕ) : Type 0 where
-    pub straight : IsStraight code
-    pub depth_is : greatest (depths (facts_from ss xs ps [] m code)) ≡ d
-    pub cost_is : length code ≡ n
-    pub effects_is : sum_by effects_of code ≡ e
-
-  facts_joined : (s : List Sort) (m : VariableSet) (a b : List Instruction) → left_shape s a ≡ [] → greatest (depths (facts_from ss xs ps s m (a ++ b))) ≡ max (deepest s a) (greatest (depths (facts_from ss xs ps [] (left_set m a) b)))
-  facts_joined s m [] b e = let f = ap length e in ap (λ s. greatest (depths (facts_from ss xs ps s m b))) e ∙ omega (arith, f)
-  facts_joined s m (x ∷ a) b e = let h = facts_joined (after x s) (set_after x m) a b e in omega (arith, h)
-
-  pub closed : {m m1 : VariableSet} {a b : List Instruction} {d1 d2 n1 n2 e1 e2 : ℕ} → Leads [] m a [] m1 d1 n1 e1 → Closes m1 b d2 n2 e2 → Closes m (a ++ b) (max d1 d2) (n1 + n2) (e1 + e2)
-  closed {m} {m1} {a} {b} {d1} {d2} {n1} {n2} {e1} {e2} h k = record {
-    straight = straight_append a b h.steps k.straight;
-    depth_is =
-        let e = facts_joined [] m a b h.leaves in
-        let f = ap (λ m. greatest (depths (facts_from ss xs ps [] m b))) h.sets_to in
-        omega (arith, e, f, h.depth_is, k.depth_is);
-    cost_is = omega (arith, length-append a b, h.cost_is, k.cost_is);
-    effects_is = omega (arith, sum_by-append effects_of a b, h.effects_is, k.effects_is);
-  }
-
-  pub last : (x : Instruction) (m : VariableSet) → IsLast x → Closes m (x ∷ []) 0 1 (effects_of x)
-  last x m h = record { straight = h; depth_is = refl; cost_is = refl; effects_is = omega (arith, sum_by-cons effects_of x []) }
-
 module _ (d : Draft) (t : Transition) where
-  right_append : (s : List Sort) (m : VariableSet) (a b : List Instruction) → AreRight d t s m a → AreRight d t (left_shape d.signals t.process.variables t.parameters s a) (left_set m a) b → AreRight d t s m (a ++ b)
+  pub right_append : (s : List Sort) (m : VariableSet) (a b : List Instruction) → AreRight d t s m a → AreRight d t (left_shape d.signals t.process.variables t.parameters s a) (left_set m a) b → AreRight d t s m (a ++ b)
   right_append s m [] b h k = k
   right_append s m (x ∷ a) b h k = (h.0, right_append (shape_after d.signals t.process.variables t.parameters x s) (set_after x m) a b h.1 k)
 

@@ -1,4 +1,4 @@
--- Where the sets of the states are settled, each piece reads what is set on the way, and where it ends the state's variables are set.
+-- What actions read is set where their events say so, and what they set is set behind them.
 use Rattle.std.proofs.Common.{◌≡◌, ℕ, ◌<◌, ◌^◌, Bool, true, false, not, ◌||◌, ◌&&◌, max, List, [], ◌∷◌, ◌++◌, ◌⊎◌, inl, inr, ⊎_elim, length, get_or, Option, Some, None, IsSome, map, refl, sym, ap, ◌∙◌, subst, arith, append_assoc}
 use Rattle.std.specs.Prelude.{slice_get, bit_or}
 use Rattle.std.specs.Int.{bit_at}
@@ -10,29 +10,27 @@ use Rattle.std.proofs.lemmas.Option.{slice_get-get_or}
 use Rattle.std.proofs.lemmas.Nat.Bits.{bit_at_or, bit_at-lt, bit_at-pow_same}
 use Rattle.sdl_tree.specs.declared.expression.Identifier.{Identifier}
 use Rattle.sdl_tree.specs.declared.tree.Destination.{Destination}
-use Rattle.sdl_tree.specs.declared.tree.End.TheVariants.{NextState, Stop}
-use Rattle.sdl_tree.specs.Plain.{Tree, number, truth, variable, unary, binary, PlainAssignment, PlainSending, PlainAction, task, output, set_timer, reset_timer, Text, falls, ends, does}
+use Rattle.sdl_tree.specs.Plain.{Tree, number, truth, variable, unary, binary, PlainAssignment, PlainSending, PlainAction, task, output, set_timer, reset_timer}
 use Rattle.turn_code.specs.declared.variable_set.VariableSet.{VariableSet}
-use Rattle.turn_code.specs.declared.draft.DraftState.{DraftState}
-use Rattle.turn_code.specs.Sets.{Has, IsWithin, with_variable}
-use Rattle.sdl_tables.specs.Names.{same_name, is_in, number_of, variable_names, states_of}
-use Rattle.sdl_rules.specs.Paths.{Event, reads, sets, tree_events, assignment_events, sending_events, action_events, IsWalk, reads_first, sets_in}
+use Rattle.turn_code.specs.Sets.{Has, with_variable}
+use Rattle.sdl_tables.specs.Names.{same_name, is_in, number_of, variable_names}
+use Rattle.sdl_rules.specs.Paths.{Event, reads, sets, tree_events, assignment_events, sending_events, action_events, reads_first, sets_in}
 use Rattle.sdl_rules.specs.Sound.{tree_names, place_names}
-use Rattle.sdl_compile.specs.Act.{Scope, variable_at, state_at}
+use Rattle.sdl_compile.specs.Act.{Scope, variable_at}
 use Rattle.sdl_compile.specs.Code.{number_or_zero}
-use Rattle.sdl_compile.specs.Named.{NamedTree, NamedTrees, NamedTasks, NamedSendings, NamedAction, NamedText}
-use Rattle.sdl_compile.specs.Reads.{ReadTree, ReadTrees, ReadTasks, ReadSendings, ReadAction, tasks_set, action_set, ReadText, places_set}
+use Rattle.sdl_compile.specs.Named.{NamedTree, NamedTrees, NamedTasks, NamedSendings, NamedAction}
+use Rattle.sdl_compile.specs.Reads.{ReadTree, ReadTrees, ReadTasks, ReadSendings, ReadAction, tasks_set, action_set, places_set}
 use Rattle.sdl_compile.proofs.Numbers.{AreNumbered, number_alike, number_there, same_other_way}
 
 -- ---- sets
 
-has_more : (m : VariableSet) (v w : ℕ) → Has m w → Has (with_variable m v) w
+pub has_more : (m : VariableSet) (v w : ℕ) → Has m w → Has (with_variable m v) w
 has_more m v w h =
     let e : bit_at (bit_or m.0 (2 ^ v)) w ≡ max (bit_at m.0 w) (bit_at (2 ^ v) w) = bit_at_or m.0 (2 ^ v) w in
     let low = bit_at-lt (2 ^ v) w in
     omega arith
 
-has_new : (m : VariableSet) (v : ℕ) → Has (with_variable m v) v
+pub has_new : (m : VariableSet) (v : ℕ) → Has (with_variable m v) v
 has_new m v =
     let e : bit_at (bit_or m.0 (2 ^ v)) v ≡ max (bit_at m.0 v) (bit_at (2 ^ v) v) = bit_at_or m.0 (2 ^ v) v in
     let f = bit_at-pow_same v in
@@ -41,7 +39,7 @@ has_new m v =
 
 -- ---- events
 
-sets_append : (a b : List Event) (x : List ℕ) → sets_in (a ++ b) x ≡ (sets_in a x || sets_in b x)
+pub sets_append : (a b : List Event) (x : List ℕ) → sets_in (a ++ b) x ≡ (sets_in a x || sets_in b x)
 sets_append [] b x = refl
 sets_append (reads y ∷ a) b x = sets_append a b x
 sets_append (sets y ∷ a) b x = by_test (same_name x y) (sets_append a b x)
@@ -50,12 +48,12 @@ sets_append (sets y ∷ a) b x = by_test (same_name x y) (sets_append a b x)
     by_test true e = refl
     by_test false e = e
 
-reads_set_none : (ids : List Identifier) (x : List ℕ) → sets_in (map (λ id. reads id.name) ids) x ≡ false
+pub reads_set_none : (ids : List Identifier) (x : List ℕ) → sets_in (map (λ id. reads id.name) ids) x ≡ false
 reads_set_none [] x = refl
 reads_set_none (id ∷ ids) x = reads_set_none ids x
 
 -- what isn't set before is read first where it is read first behind
-reads_behind : (a b : List Event) (x : List ℕ) → sets_in a x ≡ false → reads_first b x ≡ true → reads_first (a ++ b) x ≡ true
+pub reads_behind : (a b : List Event) (x : List ℕ) → sets_in a x ≡ false → reads_first b x ≡ true → reads_first (a ++ b) x ≡ true
 reads_behind [] b x s h = h
 reads_behind (reads y ∷ a) b x s h = by_test (same_name x y) (reads_behind a b x s h)
   where
@@ -76,20 +74,6 @@ reads_among (id ∷ ids) after x h = by_test (same_name x id.name) h (reads_amon
     by_test true e more = refl
     by_test false e more = more e
 
--- each text has a walk
-pub record SomeWalk (t : Text) : Type 0 where
-  pub events : List Event
-  pub end : Option (List ℕ)
-  pub walk : IsWalk t events end
-
-some_walk : (t : Text) → SomeWalk t
-some_walk falls = record { events = []; end = None; walk = (refl, refl) }
-some_walk (ends (NextState n)) = record { events = []; end = Some n.state.name; walk = (refl, refl) }
-some_walk (ends (Stop at)) = record { events = []; end = None; walk = (refl, refl) }
-some_walk (does a rest) =
-    let r = some_walk rest in
-    record { events = action_events a ++ r.events; end = r.end; walk = (r.events, refl, r.walk) }
-
 -- of two tests one of which passes, the second does where the first doesn't
 last : (t : Bool) → false || (t || false) ≡ true → t ≡ true
 last true e = refl
@@ -107,7 +91,7 @@ module _ (c : Scope) (start : ℕ) (numbered : AreNumbered (variable_names c.pro
   abbrev pub Holds : List Event → VariableSet → Type 0
   Holds before m = (x : List ℕ) (v : ℕ) → number_of (variable_names c.process) x ≡ Some v → (bit_at start v ≡ 1) ⊎ (sets_in before x ≡ true) → Has m v
 
-  holds_reads : (before : List Event) (m : VariableSet) (ids : List Identifier) → Holds before m → Holds (before ++ map (λ id. reads id.name) ids) m
+  pub holds_reads : (before : List Event) (m : VariableSet) (ids : List Identifier) → Holds before m → Holds (before ++ map (λ id. reads id.name) ids) m
   holds_reads before m ids h x v at known =
       let r = map (λ (id : Identifier). reads id.name) ids in
       let e : sets_in (before ++ r) x ≡ sets_in before x = sets_append before r x ∙ ap (λ b. sets_in before x || b) (reads_set_none ids x) ∙ or-false (sets_in before x) in
@@ -179,7 +163,7 @@ module _ (c : Scope) (start : ℕ) (numbered : AreNumbered (variable_names c.pro
       )
 
   -- an expression reads, and sets nothing
-  one_read : (u : Tree) (before after : List Event) (m : VariableSet) → NamedTree c u → Holds before m → Reads (before ++ (tree_events u ++ after)) → ReadTree c m u
+  pub one_read : (u : Tree) (before after : List Event) (m : VariableSet) → NamedTree c u → Holds before m → Reads (before ++ (tree_events u ++ after)) → ReadTree c m u
   one_read u before after m named h r =
       let names = tree_names u in
       tree_read u before m named h (λ v id at none among. r v id at (reads_behind before (tree_events u ++ after) id.name none (reads_among names after id.name among)))
@@ -210,7 +194,7 @@ module _ (c : Scope) (start : ℕ) (numbered : AreNumbered (variable_names c.pro
         subst (λ l. Holds l m) (append_assoc before es fm) rest.1,
       )
 
-  action_read : (a : PlainAction) (before after : List Event) (m : VariableSet) → NamedAction c a → Holds before m → Reads (before ++ (action_events a ++ after)) → ReadAction c m a × Holds (before ++ action_events a) (action_set c m a)
+  pub action_read : (a : PlainAction) (before after : List Event) (m : VariableSet) → NamedAction c a → Holds before m → Reads (before ++ (action_events a ++ after)) → ReadAction c m a × Holds (before ++ action_events a) (action_set c m a)
   action_read (task at ts) before after m named h r = tasks_read ts before after m named h r
   action_read (output at list to) before after m named h r = sendings_read to list before after m named h r
   action_read (set_timer at u n) before after m named h r = (one_read u before after m named.0 h r, holds_reads before m (tree_names u) h)
@@ -223,56 +207,3 @@ module _ (c : Scope) (start : ℕ) (numbered : AreNumbered (variable_names c.pro
       let m2 = with_variable m (number_or_zero (variable_at c n)) in
       let rest = map (λ (id : Identifier). sets id.name) (place_names places) in
       subst (λ l. Holds l (places_set c m2 places)) (append_assoc before (sets n.name ∷ []) rest) (places_hold places (before ++ sets n.name ∷ []) m2 (holds_sets before m n h))
-
-  module _ (ranges : List ℕ) (ss : List DraftState)
-      (declared : (q set v : ℕ) → slice_get ranges q ≡ Some set → bit_at set v ≡ 1 → v < length (variable_names c.process))
-      (same : (q : ℕ) (s : DraftState) → slice_get ss q ≡ Some s → slice_get ranges q ≡ Some s.set.0) where
-    -- what a text reads first was set at the start, and so was what the state where it ends wants and nothing sets
-    record Goes (before : List Event) (t : Text) : Type 0 where
-      reads : (events : List Event) (end : Option (List ℕ)) → IsWalk t events end → Reads (before ++ events)
-      states : (events : List Event) (s : List ℕ) (q set v : ℕ) (id : Identifier) → IsWalk t events (Some s)
-          → number_of (states_of c.process) s ≡ Some q → slice_get ranges q ≡ Some set → slice_get (variable_names c.process) v ≡ Some id
-          → bit_at set v ≡ 1 → sets_in (before ++ events) id.name ≡ false → bit_at start v ≡ 1
-
-    end_read : (n : Identifier) (before : List Event) (m : VariableSet) → IsSome (state_at c n) → Holds before m
-        → ((q set v : ℕ) (id : Identifier) → number_of (states_of c.process) n.name ≡ Some q → slice_get ranges q ≡ Some set → slice_get (variable_names c.process) v ≡ Some id → bit_at set v ≡ 1 → sets_in before id.name ≡ false → bit_at start v ≡ 1)
-        → (s : DraftState) → slice_get ss (number_or_zero (state_at c n)) ≡ Some s → IsWithin s.set m
-    end_read n before m named h g s = by_number (state_at c n) refl named
-      where
-        by_number : (o : Option ℕ) → state_at c n ≡ o → IsSome o → slice_get ss (number_or_zero o) ≡ Some s → IsWithin s.set m
-        by_number None e k at = absurd (let k : ⊥ = cc in k)
-        by_number (Some q) e k at = λ v has.
-            let set = same q s at in
-            let lt = declared q s.set.0 v set has in
-            let id = get_or (variable_names c.process) v n in
-            let there = slice_get-get_or (variable_names c.process) v n lt in
-            let number = numbered v id there in
-            by_bool (sets_in before id.name)
-            (λ f. h id.name v number (inr f))
-            (λ f. h id.name v number (inl (g q s.set.0 v id e set there has f)))
-
-    text_read : (t : Text) (before : List Event) (m : VariableSet) → NamedText c t → Holds before m → Goes before t → ReadText c ss m t
-    text_read falls before m named h g = tt
-    text_read (ends (NextState n)) before m named h g =
-        end_read n.state before m named h (λ q set v id at there is has none. g.states [] n.state.name q set v id (refl, refl) at there is has (ap (λ l. sets_in l id.name) (append-nil before) ∙ none))
-    text_read (ends (Stop at)) before m named h g = tt
-    text_read (does a rest) before m named h g =
-        let fm = action_events a in
-        let some = some_walk rest in
-        let first = action_read a before some.events m named.0 h (g.reads (fm ++ some.events) some.end (some.events, refl, some.walk)) in (
-          first.0,
-          text_read rest (before ++ fm) (action_set c m a) named.1 first.1
-              (record {
-                reads = λ events end walk. subst Reads (sym (append_assoc before fm events)) (g.reads (fm ++ events) end (events, refl, walk));
-                states = λ events s q set v id walk number there is has none. g.states (fm ++ events) s q set v id (events, refl, walk) number there is has (ap (λ l. sets_in l id.name) (sym (append_assoc before fm events)) ∙ none);
-              }),
-        )
-
-    -- a piece whose transition is settled
-    pub settled_read : (first : List Event) (t : Text) (m : VariableSet) → NamedText c t → Holds first m
-        → ((events : List Event) (end : Option (List ℕ)) → IsWalk t events end → Reads (first ++ events))
-        → ((events : List Event) (s : List ℕ) (q set v : ℕ) (id : Identifier) → IsWalk t events (Some s)
-        → number_of (states_of c.process) s ≡ Some q → slice_get ranges q ≡ Some set → slice_get (variable_names c.process) v ≡ Some id
-        → bit_at set v ≡ 1 → sets_in (first ++ events) id.name ≡ false → bit_at start v ≡ 1)
-        → ReadText c ss m t
-    settled_read first t m named h r s = text_read t first m named h (record { reads = r; states = s })

@@ -13,7 +13,10 @@ use Rattle.sdl_tree.specs.Plain.{PlainState, PlainProcess}
 use Rattle.sdl_tables.specs.Names.{Input, states_of, of_state, by_state}
 use Rattle.sdl_compile.specs.Act.{Scope}
 use Rattle.sdl_compile.specs.Drafts.{AllReady, AreReady, IsReadyInput, IsInputOf, AreInputsOf, MatchesInput, MatchesInputs, IsTrigger, AreTriggers, AllTriggers, sets_of}
-use Rattle.sdl_compile.proofs.Runs.{run_is_act}
+use Rattle.sdl_compile.specs.Declarations.{trigger_sorts}
+use Rattle.sdl_compile.specs.Settings.{IsReadyPiece}
+use Rattle.sdl_compile.proofs.Counted.{size_is}
+use Rattle.sdl_compile.proofs.Pieces.{means}
 
 -- one more item of both lists
 pub zip_more : {A B C : Type 0} (R : B → C → Type 0) (f : A → B) (xs : List A) (i : ℕ) (d : A) (ys : List C) (y : C) → i < length xs → AllZip R (map f (take i xs)) ys → R (f (get_or xs i d)) y → AllZip R (map f (take (suc i) xs)) (ys ++ y ∷ [])
@@ -60,10 +63,11 @@ inputs_match c entry (i ∷ is) [] ready made = absurd made
 inputs_match c entry (i ∷ is) (d ∷ ds) ready made = (
   record {
     trigger = made.0.trigger;
-    means = record {
-      run_is_act = λ x sent. run_is_act c (Some i.stimulus.name) (input_piece i) d.piece.code x made.0.piece.code ready.0.named ready.0.answers ready.0.small.budget sent;
-      certificate = made.0.piece.certificate;
-    };
+    means =
+        let q = input_piece i in
+        let piece = made.0.piece in
+        let whole : IsReadyPiece c q (trigger_sorts c i.stimulus.name) = record { named = ready.0.named; sorted = ready.0.sorted; places = ready.0.places; few = ready.0.few; small = ready.0.small } in
+        means c q (trigger_sorts c i.stimulus.name) entry whole d.piece piece (size_is c q ready.0.named piece.code.numbers piece.code.placed d.piece.code piece.code.code) (Some i.stimulus.name) ready.0.answers;
   },
   inputs_match c entry is ds ready.1 made.1,
 )

@@ -1,5 +1,5 @@
 -- What a transition does, said on its tree (Z.100, transitions, with the arithmetic of 32 bits that wraps).
-use Rattle.std.specs.Prelude.{ℕ, ◌+◌, ℤ, pos, ◌+ℤ◌, ◌-ℤ◌, ◌*ℤ◌, neg_ℤ, int_lt, int_div, int_rem, Bool, true, false, not, ◌||◌, ◌&&◌, if◌then◌else◌, List, [], ◌∷◌, Option, Some, None, slice_get, slice_set}
+use Rattle.std.specs.Prelude.{ℕ, zero, suc, ◌+◌, ℤ, pos, ◌+ℤ◌, ◌-ℤ◌, ◌*ℤ◌, neg_ℤ, int_lt, int_div, int_rem, Bool, true, false, not, ◌||◌, ◌&&◌, if◌then◌else◌, List, [], ◌∷◌, length, Option, Some, None, slice_get, slice_set}
 use Rattle.std.specs.Int.{int_rem_euclid}
 use Rattle.std.specs.Option.{option_map}
 use Rattle.sdl_tree.specs.declared.expression.Identifier.{Identifier}
@@ -13,8 +13,15 @@ use Rattle.sdl_tree.specs.declared.tree.Party.TheVariants as tree_parties
 use Rattle.sdl_tree.specs.declared.tree.Destination.{Destination}
 use Rattle.sdl_tree.specs.declared.tree.Destination.TheVariants as address
 use Rattle.sdl_tree.specs.declared.tree.End.{End}
-use Rattle.sdl_tree.specs.declared.tree.End.TheVariants.{NextState, Stop}
-use Rattle.sdl_tree.specs.Plain.{Tree, number, truth, variable, unary, binary, PlainAssignment, PlainSending, PlainAction, task, output, set_timer, reset_timer, Text, falls, ends, does, PlainProcess, PlainBlock}
+use Rattle.sdl_tree.specs.declared.tree.End.TheVariants.{NextState, Stop, Join}
+use Rattle.sdl_tree.specs.declared.tree.Literal as literal
+use Rattle.sdl_tree.specs.declared.tree.Literal.TheVariants as literals
+use Rattle.sdl_tree.specs.declared.tree.Constant.{Constant}
+use Rattle.sdl_tree.specs.declared.tree.Relation as tree_relation
+use Rattle.sdl_tree.specs.declared.tree.Relation.TheVariants as signs
+use Rattle.sdl_tree.specs.declared.tree.Range.{Range}
+use Rattle.sdl_tree.specs.declared.tree.Range.TheVariants as ranges
+use Rattle.sdl_tree.specs.Plain.{Tree, number, truth, variable, unary, binary, PlainAssignment, PlainSending, PlainAction, task, output, set_timer, reset_timer, Text, falls, ends, does, decides, Choice, nothing_else, otherwise, answer, PlainConnection, PlainProcess, PlainBlock}
 use Rattle.turn_code.specs.declared.value.Value.{Value}
 use Rattle.turn_code.specs.declared.value.Value.TheVariants.{Int, Bool as Truth}
 use Rattle.turn_code.specs.declared.input.Input.{Input}
@@ -26,10 +33,10 @@ use Rattle.turn_code.specs.declared.instruction.Relation.{Relation}
 use Rattle.turn_code.specs.declared.instruction.Relation.TheVariants as relations
 use Rattle.turn_code.specs.declared.effect.Effect.TheVariants as effects
 use Rattle.turn_code.specs.declared.trouble.Trouble.{Trouble}
-use Rattle.turn_code.specs.declared.trouble.Trouble.TheVariants.{Unset, WrongSort, Underflow, NoState, NoReceiver, Outside}
-use Rattle.turn_code.specs.Values.{wrap, holds, differ}
+use Rattle.turn_code.specs.declared.trouble.Trouble.TheVariants.{Unset, WrongSort, Underflow, NoState, NoReceiver, NoAnswer, Outside}
+use Rattle.turn_code.specs.Values.{wrap, holds, is_between, differ}
 use Rattle.turn_code.specs.Run.{Progress, tick, with_variables, with_effect, sending, begun, Ran, ended, got_stuck}
-use Rattle.sdl_tables.specs.Names.{number_of, variables_of, variable_names, states_of, timers_of, signal_names, process_names}
+use Rattle.sdl_tables.specs.Names.{number_of, variables_of, variable_names, states_of, timers_of, connector_names, connection_named, signal_names, process_names}
 use Rattle.sdl_rules.specs.Longest.{Piece, is_division}
 use Rattle.sdl_rules.specs.Sorts.{has_sort, sort_in}
 use Rattle.sdl_rules.specs.Receivers.{party_of, receivers, carries}
@@ -46,7 +53,9 @@ pub data Ending : Type 0 where
 
 -- What a part of a transition does: the walk goes on with something, or is over. What was done so far comes with it;
 -- its count is the cost of the walk, where each number, truth value, variable, operator, assignment, signal that goes
--- out, SET and RESET costs 1 (a divisor nothing), each place of INPUT 2 and the end 1.
+-- out, SET and RESET costs 1 (a divisor nothing), each place of INPUT 2 and the end 1. A DECISION costs its question and
+-- what is asked of it: for an Integer one each range up to the first that holds, or all and 1 for ELSE; for a Boolean one 1.
+-- Then come the body, and 1 where it goes on.
 pub data Outcome (A : Type 0) : Type 0 where
   goes_on : A → Progress → Outcome A
   over : Ending → Progress → Outcome A
@@ -65,6 +74,9 @@ state_at c n = number_of (states_of c.process) n.name
 
 abbrev pub timer_at : Scope → Identifier → Option ℕ
 timer_at c n = number_of (timers_of c.process) n.name
+
+abbrev pub connector_at : Scope → Identifier → Option ℕ
+connector_at c n = number_of (connector_names c.process) n.name
 
 abbrev pub signal_at : Scope → Identifier → Option ℕ
 signal_at c n = number_of (signal_names c.block) n.name
@@ -263,15 +275,126 @@ abbrev pub end_in : Option ℕ → Progress → Outcome (Unit {0})
 end_in None s = over (in_trouble NoState) (tick s)
 end_in (Some q) s = over (at_end (code_ends.State (record { 0 = q }))) (tick s)
 
-abbrev pub end_with : Scope → End → Progress → Outcome (Unit {0})
-end_with c (NextState n) s = end_in (state_at c n.state) s
-end_with c (Stop at) s = over (at_end code_ends.Stop) (tick s)
+-- `join` says what a JOIN to the connection with a name goes on with
+abbrev pub end_with : Scope → (List ℕ → Progress → Outcome (Unit {0})) → End → Progress → Outcome (Unit {0})
+end_with c join (NextState n) s = end_in (state_at c n.state) s
+end_with c join (Stop at) s = over (at_end code_ends.Stop) (tick s)
+end_with c join (Join j) s = join j.connector.name (tick s)
 
--- a transition from some action on
-abbrev pub act : Scope → Option Party → Text → Progress → Outcome (Unit {0})
-act c sender falls s = goes_on (tt {0}) s
-act c sender (ends e) s = end_with c e s
-act c sender (does a rest) s = then_do (perform c sender a s) (λ _ s. act c sender rest s)
+-- ---- answers
+
+abbrev pub relation_of : tree_relation.Relation → Relation
+relation_of signs.Equal = relations.Equal
+relation_of signs.NotEqual = relations.NotEqual
+relation_of signs.Less = relations.Less
+relation_of signs.LessEqual = relations.LessEqual
+relation_of signs.Greater = relations.Greater
+relation_of signs.GreaterEqual = relations.GreaterEqual
+
+-- the Integer that a constant is, if it is one
+abbrev pub integer_in : literal.Literal → Option ℤ
+integer_in (literals.Integer k) = Some k
+integer_in (literals.Boolean b) = None
+
+-- whether a value stands so to a constant
+abbrev pub compared : Relation → ℤ → Option ℤ → Option Bool
+compared r x None = None
+compared r x (Some k) = Some (holds r x k)
+
+-- whether it is from one constant to another, both included
+abbrev pub between : ℤ → Option ℤ → Option ℤ → Option Bool
+between x None high = None
+between x (Some low) None = None
+between x (Some low) (Some high) = Some (is_between low high x)
+
+-- whether a range holds of an Integer; nothing where its constants are of another sort
+abbrev pub covers_integer : Range → ℤ → Option Bool
+covers_integer (ranges.Value k) x = compared relations.Equal x (integer_in k.value)
+covers_integer (ranges.Compared at r k) x = compared (relation_of r) x (integer_in k.value)
+covers_integer (ranges.Between low high) x = between x (integer_in low.value) (integer_in high.value)
+
+abbrev pub is_literal : literal.Literal → Bool → Option Bool
+is_literal (literals.Integer k) b = None
+is_literal (literals.Boolean k) b = Some (not (differ k b))
+
+-- whether a range holds of a truth value: it is that value, and nothing else has the sort
+abbrev pub covers_truth : Range → Bool → Option Bool
+covers_truth (ranges.Value k) b = is_literal k.value b
+covers_truth (ranges.Compared at r k) b = None
+covers_truth (ranges.Between low high) b = None
+
+-- what a test says; a range of the wrong sort has no meaning
+abbrev pub told : Option Bool → Progress → Outcome Bool
+told None s = over (in_trouble WrongSort) s
+told (Some b) s = goes_on b s
+
+-- whether one of the ranges of an answer holds of an Integer: they are tried one after another, up to the first that holds
+abbrev pub try_ranges : List Range → ℤ → Progress → Outcome Bool
+try_ranges [] x s = goes_on false s
+try_ranges (r ∷ rs) x s = then_do (told (covers_integer r x) (tick s)) (λ b s. if b then goes_on true s else try_ranges rs x s)
+
+-- the same for a truth value, which costs nothing
+abbrev pub find_truth : List Range → Bool → Progress → Outcome Bool
+find_truth [] b s = goes_on false s
+find_truth (r ∷ rs) b s = then_do (told (covers_truth r b) s) (λ found s. if found then goes_on true s else find_truth rs b s)
+
+-- a body that goes on does so behind its DECISION
+abbrev pub leave : Outcome (Unit {0}) → Outcome (Unit {0})
+leave o = then_do o (λ _ s. goes_on (tt {0}) (tick s))
+
+-- what is chosen for the value of a question, which has to have the question's sort; the choice by a truth value costs 1
+abbrev pub decide : Bool → Value → Progress → (ℤ → Outcome (Unit {0})) → (Bool → Outcome (Unit {0})) → Outcome (Unit {0})
+decide true (Truth b) s by_integer by_truth = by_truth b
+decide true (Int x) s by_integer by_truth = over (in_trouble WrongSort) (tick s)
+decide false (Int x) s by_integer by_truth = by_integer x
+decide false (Truth b) s by_integer by_truth = over (in_trouble WrongSort) (tick s)
+
+abbrev mutual
+  -- a transition from some statement on
+  pub act : Scope → (List ℕ → Progress → Outcome (Unit {0})) → Option Party → Text → Progress → Outcome (Unit {0})
+  act c join sender falls s = goes_on (tt {0}) s
+  act c join sender (ends e) s = end_with c join e s
+  act c join sender (does a rest) s = then_do (perform c sender a s) (λ _ s. act c join sender rest s)
+  act c join sender (decides at q choice rest) s =
+      then_do (value_of c q s) (λ x s.
+      then_do (decide (is_truth c q) x s (λ x. choose c join sender choice x s) (λ b. pick c join sender choice b (tick s))) (λ _ s.
+      act c join sender rest s))
+
+  -- the answers to an Integer question from some answer on: the first range that holds tells the body; ELSE is for what is left
+  pub choose : Scope → (List ℕ → Progress → Outcome (Unit {0})) → Option Party → Choice → ℤ → Progress → Outcome (Unit {0})
+  choose c join sender nothing_else x s = over (in_trouble NoAnswer) s
+  choose c join sender (otherwise body) x s = leave (act c join sender body (tick s))
+  choose c join sender (answer at rs body others) x s =
+      then_do (try_ranges rs x s) (λ found s. if found then leave (act c join sender body s) else choose c join sender others x s)
+
+  -- the answers to a Boolean question
+  pub pick : Scope → (List ℕ → Progress → Outcome (Unit {0})) → Option Party → Choice → Bool → Progress → Outcome (Unit {0})
+  pick c join sender nothing_else b s = over (in_trouble NoAnswer) s
+  pick c join sender (otherwise body) b s = leave (act c join sender body s)
+  pick c join sender (answer at rs body others) b s =
+      then_do (find_truth rs b s) (λ found s. if found then leave (act c join sender body s) else pick c join sender others b s)
+
+-- ---- connections
+
+-- a text that is run over is stuck
+abbrev pub closed : Outcome (Unit {0}) → Outcome (Unit {0})
+closed (goes_on x s) = over (in_trouble Outside) s
+closed (over e s) = over e s
+
+-- a connection's text, if there is one
+abbrev pub entered : Option PlainConnection → Progress → (Text → Outcome (Unit {0})) → Outcome (Unit {0})
+entered None s go = over (in_trouble Outside) s
+entered (Some k) s go = go k.text
+
+-- what a JOIN to the connection with a name goes on with, where at most so many JOINs are followed
+abbrev pub follow : Scope → Option Party → ℕ → List ℕ → Progress → Outcome (Unit {0})
+follow c sender zero x s = over (in_trouble Outside) s
+follow c sender (suc n) x s =
+    entered (connection_named c.process x) s (λ t. closed (act c (follow c sender n) sender t s))
+
+-- as many JOINs are followed as there are connections
+abbrev pub join_in : Scope → Option Party → List ℕ → Progress → Outcome (Unit {0})
+join_in c sender = follow c sender (length c.process.connections)
 
 -- ---- transitions
 
@@ -295,7 +418,7 @@ ran (over (in_trouble t) s) = got_stuck t
 
 -- The meaning of a transition on an input: INPUT's places (START has none), and then its text.
 abbrev pub Act : Scope → Piece → Input → Ran
-Act c q x = ran (then_do (take_places c x.parameters.items 0 q.places (begun x)) (λ _ s. act c x.sender q.text s))
+Act c q x = ran (then_do (take_places c x.parameters.items 0 q.places (begun x)) (λ _ s. act c (join_in c x.sender) x.sender q.text s))
 
 abbrev pub scope_of : PlainBlock → PlainProcess → Scope
 scope_of b p = record { block = b; process = p }

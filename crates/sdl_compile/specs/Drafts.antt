@@ -12,22 +12,22 @@ use Rattle.turn_code.specs.declared.draft.DraftProcess.{DraftProcess}
 use Rattle.turn_code.specs.Run.{run}
 use Rattle.turn_code.specs.Sets.{initial_set}
 use Rattle.sdl_tables.specs.Names.{Input, number_of, variables_of, timers_of, states_of, inputs_by_state, saves_by_state, signal_names}
-use Rattle.sdl_rules.specs.Longest.{Piece, start_piece, input_piece}
+use Rattle.sdl_rules.specs.Longest.{Piece, piece_size, start_piece, input_piece}
 use Rattle.sdl_rules.specs.Settled.{AreSettled}
-use Rattle.sdl_rules.specs.Sound.{actions_of}
-use Rattle.sdl_rules.specs.Sorts.{wrong_action}
 use Rattle.sdl_compile.specs.Act.{Scope, Act, scope_of}
-use Rattle.sdl_compile.specs.Named.{NamedPiece, IsSentTo, AnswersSenders}
+use Rattle.sdl_compile.specs.Named.{AreSorted, NamedPiece, IsSentTo, AnswersAll}
 use Rattle.sdl_compile.specs.Made.{IsLongestOf, IsPieceOf, IsSmall}
 use Rattle.sdl_compile.specs.Declarations.{drafted_variables, trigger_of, trigger_sorts}
 
 -- ---- what a draft says
 
 -- On every input that comes from who may have sent it, the run of the piece is the meaning of the transition: its effects,
--- its variables, its end and its count. The certificate names the longest path.
+-- its variables, its end and its count. The certificate names the longest path. The code has as many instructions as the text says,
+-- with each connection once.
 pub record Means (c : Scope) (from : Option Identifier) (q : Piece) (d : DraftPiece) : Type 0 where
   pub run_is_act : (x : code_input.Input) → IsSentTo c from x.sender → run d.code x ≡ Act c q x
-  pub certificate : IsLongestOf q d.certificate
+  pub certificate : IsLongestOf c q d.certificate
+  pub size : length d.code ≡ piece_size c.process q
 
 -- an input waits for its signal or timer, and its piece means its transition
 pub record MatchesInput (c : Scope) (i : Input) (d : DraftInput) : Type 0 where
@@ -60,16 +60,12 @@ pub record MatchesProcess (b : PlainBlock) (p : PlainProcess) (d : DraftProcess)
 abbrev pub IsTrigger : Scope → Identifier → Type 0
 IsTrigger c id = number_of (signal_names c.block) id.name ≡ None → IsSome (number_of (timers_of c.process) id.name)
 
--- the operands, values and parameters of a text have their sorts
-abbrev pub AreSorted : Scope → Text → Type 0
-AreSorted c t = flat_map (wrong_action c.block (variables_of c.process)) (actions_of t) ≡ []
-
 -- an input whose names are all there, with places for its parameters, within the limits
 pub record IsReadyInput (c : Scope) (i : Input) : Type 0 where
   pub named : NamedPiece c (input_piece i)
-  pub answers : AnswersSenders c (Some i.stimulus.name) i.text
+  pub answers : AnswersAll c (Some i.stimulus.name) i.text
   pub sorted : AreSorted c i.text
-  pub small : IsSmall (input_piece i)
+  pub small : IsSmall c (input_piece i)
   pub trigger : IsTrigger c i.stimulus.name
   pub places : length i.stimulus.places ≤ length (trigger_sorts c i.stimulus.name)
   pub few : length i.stimulus.places ≤ 4
@@ -97,9 +93,9 @@ pub record IsReadyProcess (c : Scope) : Type 0 where
   pub states : length (states_of c.process) ≤ 64
   pub signals : length (signal_names c.block) ≤ 128
   pub start : NamedPiece c (start_piece c.process)
-  pub answers : AnswersSenders c None c.process.start.text
+  pub answers : AnswersAll c None c.process.start.text
   pub sorted : AreSorted c c.process.start.text
-  pub small : IsSmall (start_piece c.process)
+  pub small : IsSmall c (start_piece c.process)
   pub inputs : AllReady c (inputs_by_state c.process)
   pub saves : AllTriggers c (saves_by_state c.process)
 

@@ -2,12 +2,15 @@ pub mod Act
 pub mod Blocks
 pub mod Code
 pub mod Contexts
+pub mod Counts
 pub mod Declarations
 pub mod Drafts
+pub mod Entries
 pub mod Facts
 pub mod Made
 pub mod Meaning
 pub mod Named
+pub mod Placing
 pub mod Reads
 pub mod Routes
 pub mod Scopes

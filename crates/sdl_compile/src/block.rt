@@ -6,6 +6,8 @@ ghost use Rattle.sdl_tree.specs.Views.{signal_of, path_of, route_of, block_of};
 ghost use Rattle.turn_code.specs.Valid.{IsValid};
 ghost use Rattle.sdl_tables.specs.Names.{number_of, processes_of, routes_of};
 ghost use Rattle.sdl_rules.specs.Settled.{AreSettled};
+ghost use Rattle.sdl_rules.specs.Orders.{AreOrders};
+ghost use Rattle.sdl_rules.specs.Measures.{AllMeasures};
 ghost use Rattle.sdl_rules.specs.Refusals.{Sound};
 ghost use Rattle.sdl_compile.specs.Code.{number_or_zero};
 ghost use Rattle.sdl_compile.specs.Act.{scope_of};
@@ -15,10 +17,10 @@ ghost use Rattle.sdl_compile.specs.Blocks.{drafted_party, drafted_path, MatchesB
 ghost use Rattle.sdl_compile.specs.Meaning.{RunsAsMeant};
 ghost use Rattle.sdl_compile.specs.Routes.{KnownParty, IsKnown, IsKnownPath, HasFewNames, signal_numbered};
 
-use crate::process::compile_process;
+use crate::process::{Survey, compile_process};
 use crate::state::draft_name;
 use crate::variables::sort;
-use sdl_rules::Resolved;
+use sdl_rules::{Measure, Resolved, budget_law, chances_law};
 use sdl_tables::{BlockTable, NameTable};
 use sdl_tree::{Identifier, Path, Route, SignalDeclaration};
 use std::alloc::{AllocError, Global};
@@ -26,6 +28,14 @@ use turn_code::{
     Draft, DraftProcess, DraftRoute, DraftSignal, Party, ProcessNumber, Sequence, SignalNumber,
     Sort,
 };
+
+// What the rules have found of each process, by number.
+#[derive(Drop)]
+struct Surveys<'a> {
+    sets: &'a [Vec<u32>],
+    orders: &'a [Vec<usize>],
+    measures: &'a [Vec<Measure>],
+}
 
 fn compile_sorts(alloc: Global, sorts: &[sdl_tree::Sort]) -> Result<Vec<Sort>, AllocError>
     ensures { IfOk result (λ v. v.items ≡ map sort_of_tree sorts.now) }
@@ -160,39 +170,50 @@ fn compile_routes(
     Ok(compiled)
 }
 
-// The processes, each with the sets of its states.
+// The processes, each with what the rules have found of it.
 fn compile_processes(
     alloc: Global,
     block: &BlockTable,
-    sets: &[Vec<u32>],
+    surveys: &Surveys,
     signals: &[DraftSignal],
 ) -> Result<Vec<DraftProcess>, AllocError>
     requires ready { All (λ p. IsReadyProcess (scope_of (block_of block.now) p)) (processes_of (block_of block.now)) }
     requires few { HasFewNames (block_of block.now) }
     requires signals { signals.now ≡ drafted_signals (block_of block.now) }
-    requires settled { AllZip (λ p (v : Vec ℕ). AreSettled p v.items) (processes_of (block_of block.now)) sets.now }
+    requires settled { AllZip (λ p (v : Vec ℕ). AreSettled p v.items) (processes_of (block_of block.now)) surveys.now.sets.now }
+    requires ordered { AreOrders (processes_of (block_of block.now)) surveys.now.orders.now }
+    requires measured { AllMeasures (processes_of (block_of block.now)) surveys.now.measures.now }
     ensures matches { IfOk result (λ ds. AllZip (MatchesProcess (block_of block.now)) (processes_of (block_of block.now)) ds.items) }
     ensures made { IfOk result (λ ds. AllZip (IsProcessOf (block_of block.now)) (processes_of (block_of block.now)) ds.items) }
 {
     let mut processes = Vec::new(alloc);
     let tables = block.tables();
     for (number, table) in tables.iter().enumerate() {
-        processes.push(compile_process(alloc, block, table, &sets[number], signals)?)?;
+        let survey = Survey {
+            sets: &surveys.sets[number],
+            order: &surveys.orders[number],
+            measures: &surveys.measures[number],
+        };
+        processes.push(compile_process(alloc, block, table, &survey, signals)?)?;
     }
     Ok(processes)
 }
 
-// Compiles a block whose processes' states have these sets.
-fn compile_block(alloc: Global, block: &BlockTable, sets: &[Vec<u32>]) -> Result<Draft, AllocError>
+// Compiles a block of whose processes this is found.
+fn compile_block(alloc: Global, block: &BlockTable, surveys: &Surveys) -> Result<Draft, AllocError>
     requires sound { Sound (block_of block.now) }
-    requires sets { AllZip (λ p (v : Vec ℕ). AreSettled p v.items) (processes_of (block_of block.now)) sets.now }
+    requires settled { AllZip (λ p (v : Vec ℕ). AreSettled p v.items) (processes_of (block_of block.now)) surveys.now.sets.now }
+    requires ordered { AreOrders (processes_of (block_of block.now)) surveys.now.orders.now }
+    requires measured { AllMeasures (processes_of (block_of block.now)) surveys.now.measures.now }
     ensures means { IfOk result (λ d. MatchesBlock (block_of block.now) d) }
     ensures runs { IfOk result (λ d. RunsAsMeant (block_of block.now) d) }
     ensures valid { IfOk result (λ d. IsValid d) }
 {
+    chances_law();
+    budget_law();
     let signals = compile_signals(alloc, block.rows())?;
     let paths = compile_routes(alloc, block, block.routes())?;
-    let processes = compile_processes(alloc, block, sets, &signals)?;
+    let processes = compile_processes(alloc, block, surveys, &signals)?;
     Ok(Draft {
         signals: Sequence::from(signals),
         routes: Sequence::from(paths),
@@ -212,5 +233,10 @@ pub fn compile(alloc: Global, resolved: &Resolved) -> Result<Draft, AllocError>
     ensures valid { IfOk result (λ d. IsValid d) }
 {
     let _sound = resolved.block();
-    compile_block(alloc, resolved.table(), resolved.sets())
+    let surveys = Surveys {
+        sets: resolved.sets(),
+        orders: resolved.orders(),
+        measures: resolved.measures(),
+    };
+    compile_block(alloc, resolved.table(), &surveys)
 }

@@ -1,23 +1,23 @@
-//! The instructions of a transition.
+//! The instructions of expressions, actions and places of an INPUT.
 ghost use Rattle.std.specs.Prelude.{◌≡◌, [], ◌∷◌, ◌++◌, OnOk, IfOk, map, length, ◌≤◌, pos};
 ghost use Rattle.turn_code.specs.Values.{wrap};
-ghost use Rattle.sdl_tree.specs.Views.{tree_of, assignment_of, sending_of, action_of, does_all, end_text, text_of};
+ghost use Rattle.sdl_tree.specs.Views.{tree_of, assignment_of, sending_of, action_of};
 ghost use Rattle.sdl_tree.specs.declared.expression.BinaryOperator.TheVariants.{Equal as EqualSign, NotEqual as NotEqualSign};
 ghost use Rattle.sdl_rules.specs.Longest.{is_division};
 ghost use Rattle.sdl_compile.specs.Scopes.{scope_in};
 ghost use Rattle.sdl_compile.specs.Act.{divisor_of};
-ghost use Rattle.sdl_compile.specs.Named.{NamedTree, NamedTrees, NamedTasks, NamedSending, NamedSendings, NamedAction, NamedEnd, NamedText, NamedPlaces};
-ghost use Rattle.sdl_compile.specs.Code.{tree_code, trees_code, tasks_code, sendings_code, action_code, end_code, text_code, places_code, unary_code, binary_code, division_code};
+ghost use Rattle.sdl_compile.specs.Named.{NamedTree, NamedTrees, NamedTasks, NamedSending, NamedSendings, NamedAction, NamedPlaces};
+ghost use Rattle.sdl_compile.specs.Code.{tree_code, trees_code, tasks_code, sendings_code, action_code, places_code, unary_code, binary_code, division_code};
 
 use crate::names::Names;
 use sdl_tree::{
-    Action, Assignment, BinaryOperator, Destination, End, Expression, Identifier, Sending,
-    Transition, UnaryOperator,
+    Action, Assignment, BinaryOperator, Destination, Expression, Identifier, Sending, UnaryOperator,
 };
 use std::alloc::AllocError;
 use turn_code::{Instruction, Relation};
 
-fn put(code: &mut Vec<Instruction>, instruction: Instruction) -> Result<(), AllocError>
+/// One instruction more.
+pub(crate) fn put(code: &mut Vec<Instruction>, instruction: Instruction) -> Result<(), AllocError>
     ensures { OnOk result (code.new.items ≡ code.old.items ++ instruction ∷ []) }
 {
     code.push(instruction)?;
@@ -78,7 +78,7 @@ fn binary(truth: bool, operator: BinaryOperator) -> Instruction
     }
 }
 
-fn is_division(operator: BinaryOperator) -> bool
+pub(crate) fn is_division(operator: BinaryOperator) -> bool
     ensures { result ≡ is_division operator }
 {
     matches!(
@@ -115,8 +115,8 @@ fn divisor(expression: &Expression) -> i32
     }
 }
 
-// The operands from left to right, each before its operator.
-fn emit_expression(
+/// The operands from left to right, each before its operator.
+pub(crate) fn emit_expression(
     code: &mut Vec<Instruction>,
     names: &Names,
     expression: &Expression,
@@ -228,7 +228,8 @@ fn emit_sendings(
     Ok(())
 }
 
-fn emit_action(
+/// What an action does.
+pub(crate) fn emit_action(
     code: &mut Vec<Instruction>,
     names: &Names,
     action: &Action,
@@ -244,34 +245,6 @@ fn emit_action(
             put(code, Instruction::Set(names.timer(&set.timer)))
         }
         Action::Reset(reset) => put(code, Instruction::Reset(names.timer(&reset.timer))),
-    }
-}
-
-fn emit_end(code: &mut Vec<Instruction>, names: &Names, end: &End) -> Result<(), AllocError>
-    requires { NamedEnd (scope_in names.now) end.now }
-    ensures { OnOk result (code.new.items ≡ code.old.items ++ end_code (scope_in names.now) end.now) }
-{
-    match end {
-        End::NextState(next) => put(code, Instruction::Next(names.state(&next.state))),
-        End::Stop(_) => put(code, Instruction::Stop),
-    }
-}
-
-/// The instructions of a transition from its first action to its end.
-pub(crate) fn emit_transition(
-    code: &mut Vec<Instruction>,
-    names: &Names,
-    transition: &Transition,
-) -> Result<(), AllocError>
-    requires { NamedText (scope_in names.now) (text_of transition.now) }
-    ensures { OnOk result (code.new.items ≡ code.old.items ++ text_code (scope_in names.now) (text_of transition.now)) }
-{
-    for action in &transition.actions {
-        emit_action(code, names, action)?;
-    }
-    match &transition.end {
-        Some(end) => emit_end(code, names, end),
-        None => unreachable!(),
     }
 }
 

@@ -1,12 +1,14 @@
 //! What is claimed of the places of a piece.
-ghost use Rattle.std.specs.Prelude.{◌≡◌, ◌<◌, ◌≤◌, [], ◌∷◌, length, drop, sum_by, All, IfOk};
+ghost use Rattle.std.specs.Prelude.{◌≡◌, [], length, map, drop, IfOk};
 ghost use Rattle.std.specs.Option.{option_to_list};
 ghost use Rattle.turn_code.specs.Transitions.{parameters_of};
-ghost use Rattle.turn_code.specs.Code.{sort_at as sorts_at, takes, gives, shape_after, sets, set_after, effects_of};
+ghost use Rattle.turn_code.specs.Code.{sort_at as sorts_at, takes, gives, shape_after};
 ghost use Rattle.turn_code.specs.Rules.{greatest, depths};
 ghost use Rattle.std.specs.Prelude.{slice_get};
-ghost use Rattle.sdl_compile.specs.Facts.{facts_from, SetsFew};
+ghost use Rattle.sdl_compile.specs.Facts.{shapes_from};
+ghost use Rattle.turn_code.specs.declared.draft.PlaceFacts as place_facts_of;
 
+use crate::piece::Setting;
 use std::alloc::{AllocError, Global};
 use std::mem;
 use turn_code::{
@@ -28,6 +30,15 @@ fn parameter_count(signals: &[DraftSignal], signal: SignalNumber) -> usize
         Some(signal) => signal.parameters.len(),
         None => 0,
     }
+}
+
+/// What is said of each place but its operands: which variables are set, how many instructions may run from there on, and
+/// how many effects they may have.
+#[derive(Drop)]
+pub struct Marks<'a> {
+    pub sets: &'a [VariableSet],
+    pub counts: &'a [u32],
+    pub effects: &'a [u32],
 }
 
 // How many operands an instruction takes.
@@ -100,67 +111,39 @@ fn next_shape(
     Ok(next)
 }
 
-// The variables that are set after an instruction.
-fn next_set(instruction: Instruction, set: VariableSet) -> VariableSet
-    requires { All (λ v. v < 32) (sets instruction) }
-    ensures { result ≡ set_after instruction set }
-{
-    match instruction {
-        Instruction::Store(variable) => VariableSet(set.0 | (1 << variable.0)),
-        _ => set,
-    }
-}
-
-// How many effects an instruction gives.
-fn effects_of(instruction: Instruction) -> u32
-    ensures value { result ≡ effects_of instruction }
-    ensures one { result ≤ 1 }
-{
-    match instruction {
-        Instruction::Output(..) | Instruction::Set(_) | Instruction::Reset(_) => 1,
-        _ => 0,
-    }
-}
-
-// How many effects instructions give, one after another.
-fn count_effects(code: &[Instruction]) -> u32
-    requires { length code.now ≤ 512 }
-    ensures { result ≡ sum_by effects_of code.now }
-{
-    let mut effects = 0;
-    for instruction in code {
-        effects += effects_of(*instruction);
-    }
-    effects
-}
-
-/// The facts of each place, where the code goes straight on to its last instruction.
+/// The facts of each place: the operands that are there, and what is said elsewhere of the variables that are set, the
+/// count and the effects.
 pub(crate) fn place_facts(
     alloc: Global,
-    signals: &[DraftSignal],
-    variables: &[DraftVariable],
-    parameters: &[Sort],
-    entry: VariableSet,
+    setting: &Setting,
     code: &[Instruction],
+    marks: &Marks,
 ) -> Result<Vec<PlaceFacts>, AllocError>
-    requires few { SetsFew code.now }
-    requires short { length code.now ≤ 512 }
-    ensures { IfOk result (λ fs. fs.items ≡ facts_from signals.now variables.now parameters.now [] entry code.now) }
+    requires sets { length marks.now.sets.now ≡ length code.now }
+    requires counts { length marks.now.counts.now ≡ length code.now }
+    requires effects { length marks.now.effects.now ≡ length code.now }
+    ensures shaped { IfOk result (λ fs. map (λ (f : place_facts_of.PlaceFacts). f.shape) fs.items ≡ shapes_from setting.now.signals.now setting.now.variables.now setting.now.parameters.now [] code.now) }
+    ensures settled { IfOk result (λ fs. map (λ (f : place_facts_of.PlaceFacts). f.set) fs.items ≡ marks.now.sets.now) }
+    ensures counted { IfOk result (λ fs. map (λ (f : place_facts_of.PlaceFacts). f.count) fs.items ≡ marks.now.counts.now) }
+    ensures effected { IfOk result (λ fs. map (λ (f : place_facts_of.PlaceFacts). f.effects) fs.items ≡ marks.now.effects.now) }
 {
     let mut facts = Vec::new(alloc);
     let mut shape = Vec::new(alloc);
-    let mut set = entry;
-    let mut effects = count_effects(code);
     for (k, instruction) in code.iter().enumerate() {
-        let next = next_shape(alloc, signals, variables, parameters, *instruction, &shape)?;
+        let next = next_shape(
+            alloc,
+            setting.signals,
+            setting.variables,
+            setting.parameters,
+            *instruction,
+            &shape,
+        )?;
         facts.push(PlaceFacts {
             shape: Sequence::from(mem::replace(&mut shape, next)),
-            set,
-            count: (code.len() - k) as u32,
-            effects,
+            set: marks.sets[k],
+            count: marks.counts[k],
+            effects: marks.effects[k],
         })?;
-        set = next_set(*instruction, set);
-        effects -= effects_of(*instruction);
     }
     Ok(facts)
 }

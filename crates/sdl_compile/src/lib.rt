@@ -2,15 +2,19 @@
 #![tactic(auto)]
 
 mod block;
+mod counts;
 mod emit;
 mod facts;
 pub mod laws;
+mod lengths;
+mod marks;
 mod names;
 mod piece;
+mod placing;
 mod process;
 mod state;
-#[cfg(test)]
-mod tests;
+mod texts;
+mod totals;
 mod variables;
 
 pub use block::compile;

@@ -3,7 +3,7 @@ ghost use Rattle.std.specs.Prelude.{◌≡◌, ◌≤◌, length, IsSome};
 ghost use Rattle.sdl_tree.specs.Views.{tree_of, block_of, process_of};
 ghost use Rattle.sdl_rules.specs.Receivers.{party_of, receivers};
 ghost use Rattle.sdl_tables.specs.Names.{variable_names, states_of, timers_of, signal_names, process_names};
-ghost use Rattle.sdl_compile.specs.Act.{variable_at, state_at, timer_at, signal_at, is_truth, numbered, the_one};
+ghost use Rattle.sdl_compile.specs.Act.{variable_at, state_at, timer_at, connector_at, signal_at, is_truth, numbered, the_one};
 ghost use Rattle.sdl_compile.specs.Named.{HasReceiver};
 ghost use Rattle.sdl_compile.specs.Code.{number_or_zero, party_or_environment, receiver_code};
 
@@ -58,6 +58,17 @@ impl Names<'_> {
     {
         match self.process.timers().number(id.name) {
             Some(number) => TimerNumber(number as u8),
+            None => unreachable!(),
+        }
+    }
+
+    /// The number of a connection that is there.
+    pub fn connector(&self, id: &Identifier) -> usize
+        requires { IsSome (connector_at (scope_in self.now) id.now) }
+        ensures { result ≡ number_or_zero (connector_at (scope_in self.now) id.now) }
+    {
+        match self.process.connectors().number(id.name) {
+            Some(number) => number,
             None => unreachable!(),
         }
     }

@@ -3,24 +3,28 @@ ghost use Rattle.std.specs.Prelude.{◌≡◌, ◌≤◌, length, Option, IfOk};
 ghost use Rattle.sdl_tree.specs.declared.expression.Identifier as tree_identifier;
 ghost use Rattle.sdl_tree.specs.Views.{text_of};
 ghost use Rattle.sdl_compile.specs.Scopes.{scope_in, piece_in};
-ghost use Rattle.sdl_compile.specs.Named.{NamedPiece, AnswersSenders};
-ghost use Rattle.sdl_compile.specs.Code.{piece_code};
+ghost use Rattle.sdl_compile.specs.Named.{NamedPiece, AnswersAll};
+ghost use Rattle.sdl_rules.specs.Longest.{places_cost};
 ghost use Rattle.sdl_compile.specs.Drafts.{Means};
 ghost use Rattle.sdl_compile.specs.Made.{IsPieceOf};
-ghost use Rattle.sdl_compile.specs.Settings.{IsSetting, IsReadyPiece, effects_from};
+ghost use Rattle.sdl_compile.specs.Settings.{IsSetting, IsReadyPiece, count_from, effects_from};
 
-use crate::emit::{emit_places, emit_transition};
-use crate::facts::{greatest_depth, place_facts};
+use crate::facts::{Marks, greatest_depth, place_facts};
+use crate::marks::{Standing, place_sets};
 use crate::names::Names;
+use crate::placing::{connection_places, place_connections};
+use crate::texts::emit_piece;
+use crate::totals::{Layout, piece_counts};
+use sdl_rules::{Measure, code_size};
 use sdl_tree::{Identifier, Transition};
 use std::alloc::{AllocError, Global};
 use turn_code::{
-    Cert, DraftPiece, DraftSignal, DraftVariable, Instruction, PlaceFacts, Sequence, Sort,
-    VariableSet,
+    Cert, DraftPiece, DraftSignal, DraftVariable, PlaceFacts, Sequence, Sort, VariableSet,
 };
 
 /// What comes with a transition: the names that it may use, its process's variables, its block's
-/// signals, the sorts of its parameters, and the variables that are set as it begins.
+/// signals, the sorts of its parameters, the variables that are set as it begins, its process's
+/// connections in an order in which each stands behind all that it joins, and what they measure.
 #[derive(Drop)]
 pub struct Setting<'a> {
     pub names: &'a Names<'a>,
@@ -28,22 +32,32 @@ pub struct Setting<'a> {
     pub signals: &'a [DraftSignal],
     pub parameters: &'a [Sort],
     pub entry: VariableSet,
+    pub order: &'a [usize],
+    pub measures: &'a [Measure],
 }
 
-fn emit_piece(
-    alloc: Global,
-    names: &Names,
-    places: &[Option<Identifier>],
-    transition: &Transition,
-) -> Result<Vec<Instruction>, AllocError>
-    requires named { NamedPiece (scope_in names.now) (piece_in places.now transition.now) }
-    requires few { length places.now ≤ 4 }
-    ensures { IfOk result (λ code. code.items ≡ piece_code (scope_in names.now) (piece_in places.now transition.now)) }
+// How many instructions INPUT's places have.
+fn places_length(places: &[Option<Identifier>]) -> usize
+    requires { length places.now ≤ 4 }
+    ensures { result ≡ places_cost places.now }
 {
-    let mut code = Vec::new(alloc);
-    emit_places(&mut code, names, places)?;
-    emit_transition(&mut code, names, transition)?;
-    Ok(code)
+    let mut length = 0;
+    for place in places {
+        if place.is_some() {
+            length += 2;
+        }
+    }
+    length
+}
+
+// The count of the first place, and so of the whole.
+fn first_count(facts: &[PlaceFacts]) -> u32
+    ensures { result ≡ count_from facts.now }
+{
+    match facts.first() {
+        Some(place) => place.count,
+        None => 0,
+    }
 }
 
 // The effects of the first place, and so of the whole.
@@ -67,17 +81,31 @@ fn make_piece(
     requires ready { IsReadyPiece (scope_in setting.now.names.now) (piece_in places.now transition.now) setting.now.parameters.now }
     ensures { IfOk result (λ d. IsPieceOf (scope_in setting.now.names.now) setting.now.parameters.now setting.now.entry (piece_in places.now transition.now) d) }
 {
-    let code = emit_piece(alloc, setting.names, places, transition)?;
-    let facts = place_facts(
-        alloc,
-        setting.signals,
-        setting.variables,
-        setting.parameters,
-        setting.entry,
-        &code,
-    )?;
+    let names = setting.names;
+    let numbers = place_connections(alloc, names, transition)?;
+    let start = places_length(places) + code_size(names.process, transition) as usize;
+    let targets = connection_places(alloc, names, start, &numbers)?;
+    let code = emit_piece(alloc, names, places, transition, &numbers, &targets)?;
+    let standing = Standing {
+        places,
+        entry: setting.entry,
+        order: setting.order,
+        numbers: &numbers,
+    };
+    let sets = place_sets(alloc, names, &standing, transition)?;
+    let layout = Layout {
+        numbers: &numbers,
+        targets: &targets,
+    };
+    let counted = piece_counts(alloc, setting, places, transition, &layout, &code)?;
+    let marks = Marks {
+        sets: &sets,
+        counts: &counted.counts,
+        effects: &counted.effects,
+    };
+    let facts = place_facts(alloc, setting, &code, &marks)?;
     let certificate = Cert {
-        budget: code.len() as u32,
+        budget: first_count(&facts),
         depth: greatest_depth(&facts) as u32,
         effects: first_effects(&facts),
     };
@@ -101,7 +129,7 @@ pub fn compile_transition(
 ) -> Result<DraftPiece, AllocError>
     requires setting { IsSetting setting.now }
     requires ready { IsReadyPiece (scope_in setting.now.names.now) (piece_in places.now transition.now) setting.now.parameters.now }
-    ensures means { IfOk result (λ d. (from : Option tree_identifier.Identifier) → AnswersSenders (scope_in setting.now.names.now) from (text_of transition.now) → Means (scope_in setting.now.names.now) from (piece_in places.now transition.now) d) }
+    ensures means { IfOk result (λ d. (from : Option tree_identifier.Identifier) → AnswersAll (scope_in setting.now.names.now) from (text_of transition.now) → Means (scope_in setting.now.names.now) from (piece_in places.now transition.now) d) }
     ensures made { IfOk result (λ d. IsPieceOf (scope_in setting.now.names.now) setting.now.parameters.now setting.now.entry (piece_in places.now transition.now) d) }
 {
     let piece = make_piece(alloc, setting, places, transition)?;

@@ -3,6 +3,8 @@ ghost use Rattle.std.specs.Prelude.{◌≡◌, ◌≤◌, length, map, IfOk};
 ghost use Rattle.sdl_tree.specs.Views.{block_of, process_of};
 ghost use Rattle.sdl_tables.specs.Names.{process_names};
 ghost use Rattle.sdl_rules.specs.Settled.{AreSettled};
+ghost use Rattle.sdl_rules.specs.Orders.{IsOrder};
+ghost use Rattle.sdl_rules.specs.Measures.{AreMeasures};
 ghost use Rattle.sdl_compile.specs.Act.{scope_of};
 ghost use Rattle.sdl_compile.specs.Declarations.{drafted_signals};
 ghost use Rattle.sdl_compile.specs.Drafts.{IsReadyProcess, MatchesProcess, IsProcessOf};
@@ -11,6 +13,7 @@ use crate::names::Names;
 use crate::piece::{Setting, compile_transition};
 use crate::state::{Context, compile_states, draft_name};
 use crate::variables::{compile_variables, set_at_start};
+use sdl_rules::Measure;
 use sdl_tables::{BlockTable, NameTable, ProcessTable};
 use std::alloc::{AllocError, Global};
 use turn_code::{DraftProcess, DraftSignal, Name, Sequence};
@@ -26,8 +29,16 @@ fn compile_timers(alloc: Global, table: &NameTable) -> Result<Vec<Name>, AllocEr
     Ok(timers)
 }
 
-/// Compiles a process of a block with these signals. `sets` has for each state the variables that
-/// are set whenever the process is there.
+/// What the rules have found of a process: for each state the variables that are set whenever the process is there, an
+/// order of its connections in which each stands behind all that it joins, and what they measure.
+#[derive(Drop)]
+pub struct Survey<'a> {
+    pub sets: &'a [u32],
+    pub order: &'a [usize],
+    pub measures: &'a [Measure],
+}
+
+/// Compiles a process of a block with these signals.
 ///
 /// Its variables, timers, states, inputs and saves have their names and numbers in the order of the
 /// text, each piece does what its transition means, and each certificate names the longest path. Want
@@ -36,13 +47,15 @@ pub fn compile_process(
     alloc: Global,
     block: &BlockTable,
     table: &ProcessTable,
-    sets: &[u32],
+    survey: &Survey,
     signals: &[DraftSignal],
 ) -> Result<DraftProcess, AllocError>
     requires ready { IsReadyProcess (scope_of (block_of block.now) (process_of table.now)) }
     requires few { length (process_names (block_of block.now)) ≤ 16 }
     requires signals { signals.now ≡ drafted_signals (block_of block.now) }
-    requires settled { AreSettled (process_of table.now) sets.now }
+    requires settled { AreSettled (process_of table.now) survey.now.sets.now }
+    requires ordered { IsOrder (process_of table.now) survey.now.order.now }
+    requires measured { AreMeasures (process_of table.now) survey.now.measures.now }
     ensures matches { IfOk result (λ d. MatchesProcess (block_of block.now) (process_of table.now) d) }
     ensures made { IfOk result (λ d. IsProcessOf (block_of block.now) (process_of table.now) d) }
 {
@@ -60,14 +73,18 @@ pub fn compile_process(
         signals,
         parameters: &[],
         entry: set_at_start(&variables),
+        order: survey.order,
+        measures: survey.measures,
     };
     let first = compile_transition(alloc, &setting, &[], start)?;
     let context = Context {
         names: &names,
         variables: &variables,
         signals,
+        order: survey.order,
+        measures: survey.measures,
     };
-    let states = compile_states(alloc, &context, table.saves(), table.inputs(), sets)?;
+    let states = compile_states(alloc, &context, table.saves(), table.inputs(), survey.sets)?;
     Ok(DraftProcess {
         name: draft_name(&process.name.name),
         variables: Sequence::from(variables),

@@ -13,6 +13,7 @@ ghost use Rattle.sdl_compile.specs.Contexts.{IsContext};
 use crate::names::Names;
 use crate::piece::{Setting, compile_transition};
 use sdl_lex::Name;
+use sdl_rules::Measure;
 use sdl_tables::InputRow;
 use sdl_tree::Identifier;
 use std::alloc::{AllocError, Global};
@@ -21,12 +22,15 @@ use turn_code::{
     Trigger, VariableSet,
 };
 
-/// What the transitions of a process share: its names and variables, and the signals of the block.
+/// What the transitions of a process share: its names and variables, the signals of the block, and what is known of its
+/// connections: an order in which each stands behind all that it joins, and what they measure.
 #[derive(Drop)]
 pub struct Context<'a> {
     pub names: &'a Names<'a>,
     pub variables: &'a [DraftVariable],
     pub signals: &'a [DraftSignal],
+    pub order: &'a [usize],
+    pub measures: &'a [Measure],
 }
 
 /// A name as a draft has it.
@@ -93,6 +97,8 @@ pub fn compile_input(
         signals: context.signals,
         parameters: parameters(context.names, context.signals, id),
         entry,
+        order: context.order,
+        measures: context.measures,
     };
     let piece = compile_transition(alloc, &setting, &row.stimulus.places, &row.input.transition)?;
     Ok(DraftInput {

@@ -1,5 +1,5 @@
 -- From paths by names to paths by numbers.
-use Rattle.std.proofs.Common.{◌≡◌, ℕ, zero, suc, ◌<◌, Bool, true, false, not, ◌&&◌, ◌||◌, List, [], ◌∷◌, ◌++◌, map, length, Option, None, Some, refl, sym, ap, ◌∙◌, subst, arith, append_assoc, bytes_eq, if◌then◌else◌, is_some, true≢false, inl, inr, ◌⊎◌}
+use Rattle.std.proofs.Common.{◌≡◌, ℕ, zero, suc, ◌<◌, Bool, true, false, not, ◌&&◌, ◌||◌, List, [], ◌∷◌, ◌++◌, map, length, Option, None, Some, refl, sym, ap, ◌∙◌, subst, arith, bytes_eq, if◌then◌else◌, is_some, true≢false, inl, inr, ◌⊎◌}
 use Rattle.std.specs.Prelude.{slice_get, Contains}
 use Rattle.std.specs.List.{list_any, flat_map}
 use Rattle.std.specs.Option.{option_map_or}
@@ -12,17 +12,22 @@ use Rattle.unset_paths.specs.declared.Step as number
 use Rattle.unset_paths.specs.declared.Step.TheVariants.{Start as First, Input as By}
 use Rattle.unset_paths.specs.Graph as graph
 use Rattle.unset_paths.specs.Graph.{has, input_at, Passes}
-use Rattle.sdl_tree.specs.Plain.{Tree, PlainAssignment, PlainSending, PlainAction, task, output, set_timer, reset_timer, Text, falls, ends, does, PlainProcess, PlainBlock, PlainInput, PlainClause, input, save, PlainState, PlainStimulus}
-use Rattle.sdl_tree.specs.declared.tree.End.TheVariants.{NextState, Stop}
+use Rattle.sdl_tree.specs.Plain.{Tree, PlainAssignment, PlainSending, PlainAction, task, output, set_timer, reset_timer, Text, falls, ends, does, decides, Choice, nothing_else, otherwise, answer, PlainProcess, PlainBlock}
+use Rattle.sdl_tree.specs.declared.tree.End.TheVariants.{NextState, Stop, Join}
 use Rattle.sdl_tree.specs.declared.expression.Identifier.{Identifier}
-use Rattle.sdl_tables.specs.Names.{same_name, is_in, number_of, signal_names, variable_names, variables_of, Variable, states_of, Input, inputs_of, part_inputs, clause_inputs, clause_parts, given_to, is_state, input_parts}
-use Rattle.sdl_rules.specs.Sound.{unknown, tree_names, assignment_names, sending_unknown, action_unknown, text_unknown, place_names, input_unknown, process_unknown}
-use Rattle.sdl_rules.specs.Paths.{Event, reads, sets, tree_events, assignment_events, sending_events, action_events, initial_sets, IsWalk, Transition, Place, start_transition, input_transition, reads_first, sets_in, inputs_in, ReadsFrom, ReadsUnset, NeverReadsUnset}
+use Rattle.sdl_tables.specs.Names.{same_name, is_in, number_of, signal_names, variable_names, variables_of, Variable, states_of, Input, inputs_of, input_parts}
+use Rattle.sdl_rules.specs.Sound.{unknown, tree_names, assignment_names, sending_unknown, action_unknown, statement_unknown, place_names, input_unknown, saves_unknown, process_unknown}
+use Rattle.sdl_rules.specs.Statements.{Statement, statements_of, choice_statements}
+use Rattle.sdl_rules.specs.Actions.{in_statements}
+use Rattle.sdl_rules.specs.Laws.{IsTextOf}
+use Rattle.sdl_rules.specs.Paths.{Event, reads, sets, tree_events, assignment_events, sending_events, action_events, initial_sets, Way, onward, stops, enters as into, GoesOn, Walks, IsChosen, Follows, IsWalk, Transition, Place, start_transition, input_transition, reads_first, sets_in, inputs_in, ReadsFrom, ReadsUnset, NeverReadsUnset}
 use Rattle.sdl_rules.specs.Graphs.{IsSummaryOf, IsGraphOf}
 use Rattle.sdl_rules.specs.declared.fault.Step.{Step}
 use Rattle.sdl_rules.specs.declared.fault.Step.TheVariants.{Start, Input as Takes}
 use Rattle.sdl_rules.proofs.Repeats.{append-nil_left, append-nil_right}
-use Rattle.sdl_rules.proofs.PathNames.{same_folded, number_names, input_in_graph}
+use Rattle.sdl_rules.proofs.PathNames.{same_folded, number_names, input_in_graph, contains_at}
+use Rattle.sdl_rules.proofs.Items.{Each, each_front, each_back}
+use Rattle.sdl_rules.proofs.Ranks.{HasNone, texts_none, connection_there}
 
 -- ---- spellings of one name
 
@@ -172,17 +177,76 @@ action_known b p (set_timer at delay timer) x none h =
     (sym (reads_of_names (tree_names delay) x) ∙ h)
 action_known b p (reset_timer at timer) x none h = absurd (true≢false (sym h))
 
+-- where a question names nothing unknown, what it reads is declared
+question_known : (p : PlainProcess) (t : Tree) (x : List ℕ) → unknown (variable_names p) (tree_names t) ≡ [] → reads_some (tree_events t) x ≡ true → is_in (variable_names p) x ≡ true
+question_known p t x none h = known_in (variable_names p) (tree_names t) x none (sym (reads_of_names (tree_names t) x) ∙ h)
+
+no_event : (events : List Event) (x : List ℕ) → events ≡ [] → reads_some events x ≡ true → ⊥
+no_event events x none h = true≢false (sym (ap (λ es. reads_some es x) (sym none) ∙ h))
+
+-- where an action, a question or a connection reads nothing but what is declared, a walk doesn't
+abbrev Declares : PlainProcess → List ℕ → (List Event → Way → Type 0) → Type 0
+Declares p x walks = (events : List Event) (way : Way) → walks events way → reads_some events x ≡ true → is_in (variable_names p) x ≡ true
+
+goes_known : (p : PlainProcess) (x : List ℕ) (rest : List Event → Way → Type 0) → Declares p x rest → (between : Way) (after : List Event) (way : Way)
+    → GoesOn between rest after way → reads_some after x ≡ true → is_in (variable_names p) x ≡ true
+goes_known p x rest told onward after way w h = told after way w h
+goes_known p x rest told stops after way w h = absurd (no_event after x w.0 h)
+goes_known p x rest told (into s) after way w h = absurd (no_event after x w.0 h)
+
+mutual
+  walks_known : (b : PlainBlock) (p : PlainProcess) (x : List ℕ) (join : List ℕ → List Event → Way → Type 0) → ((y : List ℕ) → Declares p x (join y))
+      → (t : Text) → HasNone (statement_unknown b p) t → Declares p x (Walks join t)
+  walks_known b p x join told falls known events way w h = absurd (no_event events x w.0 h)
+  walks_known b p x join told (ends (NextState n)) known events way w h = absurd (no_event events x w.0 h)
+  walks_known b p x join told (ends (Stop at)) known events way w h = absurd (no_event events x w.0 h)
+  walks_known b p x join told (ends (Join j)) known events way w h = told j.connector.name events way w h
+  walks_known b p x join told (does a rest) known events way (after, all, walk) h =
+      elim (reads_some-append (action_events a) after x (ap (λ es. reads_some es x) (sym all) ∙ h)) [
+        | inl here ↦ action_known b p a x known.0 here
+        | inr there ↦ walks_known b p x join told rest known.1 after way walk there
+      ]
+  walks_known b p x join told (decides at t c rest) known events way (chosen, after, between, all, one, walk) h =
+      let f = λ (s : Statement). statement_unknown b p s ≡ [] in
+      elim (reads_some-append (tree_events t) (chosen ++ after) x (ap (λ es. reads_some es x) (sym all) ∙ h)) [
+        | inl here ↦ question_known p t x known.0 here
+        | inr there ↦ elim (reads_some-append chosen after x there) [
+          | inl first ↦ chosen_known b p x join told t c (each_front f (choice_statements t c) (statements_of rest) known.1) chosen between one first
+          | inr second ↦ goes_known p x (Walks join rest) (walks_known b p x join told rest (each_back f (choice_statements t c) (statements_of rest) known.1)) between after way walk second
+        ]
+      ]
+
+  chosen_known : (b : PlainBlock) (p : PlainProcess) (x : List ℕ) (join : List ℕ → List Event → Way → Type 0) → ((y : List ℕ) → Declares p x (join y))
+      → (t : Tree) (c : Choice) → Each (λ s. statement_unknown b p s ≡ []) (choice_statements t c) → Declares p x (IsChosen join c)
+  chosen_known b p x join told t nothing_else known events way w h = absurd w
+  chosen_known b p x join told t (otherwise body) known events way w h = walks_known b p x join told body known events way w h
+  chosen_known b p x join told t (answer at ranges body others) known events way w h =
+      let f = λ (s : Statement). statement_unknown b p s ≡ [] in
+      elim w [
+        | inl one ↦ walks_known b p x join told body (each_front f (statements_of body) (choice_statements t others) known.1) events way one h
+        | inr other ↦ chosen_known b p x join told t others (each_back f (statements_of body) (choice_statements t others) known.1) events way other h
+      ]
+
+-- no text of a process names what is unknown
+abbrev AreKnown : PlainBlock → PlainProcess → Type 0
+AreKnown b p = (t : Text) → IsTextOf p t → HasNone (statement_unknown b p) t
+
+are_known : (b : PlainBlock) (p : PlainProcess) → process_unknown b p ≡ [] → AreKnown b p
+are_known b p known =
+    let inputs = flat_map (input_unknown b p) (input_parts p) in
+    let saves = flat_map (saves_unknown b p) p.states in
+    let all = in_statements (λ from. statement_unknown b p) p in
+    texts_none (statement_unknown b p) p (append-nil_right saves all (append-nil_right inputs (saves ++ all) known))
+
+follows_known : (b : PlainBlock) (p : PlainProcess) (x : List ℕ) → AreKnown b p → (n : ℕ) (y : List ℕ) → Declares p x (Follows p n y)
+follows_known b p x known zero y events way w h = absurd w
+follows_known b p x known (suc n) y events way (c, is, inner, w, last) h =
+    walks_known b p x (Follows p n) (follows_known b p x known n) c.text (known c.text (inr (inr (c, connection_there p y c is, refl)))) events inner w h
+
 -- and so is what a walk of a text reads
-walk_known : (b : PlainBlock) (p : PlainProcess) (t : Text) (events : List Event) (end : Option (List ℕ)) (x : List ℕ) → text_unknown b p t ≡ []
-    → IsWalk t events end → reads_some events x ≡ true → is_in (variable_names p) x ≡ true
-walk_known b p falls events end x known (none, e) h = absurd (true≢false (sym (ap (λ es. reads_some es x) (sym none) ∙ h)))
-walk_known b p (ends (NextState n)) events end x known (none, e) h = absurd (true≢false (sym (ap (λ es. reads_some es x) (sym none) ∙ h)))
-walk_known b p (ends (Stop at)) events end x known (none, e) h = absurd (true≢false (sym (ap (λ es. reads_some es x) (sym none) ∙ h)))
-walk_known b p (does a rest) events end x known (after, all, walk) h =
-    elim (reads_some-append (action_events a) after x (ap (λ es. reads_some es x) (sym all) ∙ h)) [
-      | inl here ↦ action_known b p a x (append-nil_left (action_unknown b p a) _ known) here
-      | inr there ↦ walk_known b p rest after end x (append-nil_right (action_unknown b p a) _ known) walk there
-    ]
+walk_known : (b : PlainBlock) (p : PlainProcess) (t : Text) (events : List Event) (end : Option (List ℕ)) (x : List ℕ) → AreKnown b p → IsTextOf p t
+    → IsWalk p t events end → reads_some events x ≡ true → is_in (variable_names p) x ≡ true
+walk_known b p t events end x known text (n, way, w, e) h = walks_known b p x (Follows p n) (follows_known b p x known n) t (known t text) events way w h
 
 -- a known name has a number
 has_number : (ids : List Identifier) (x : List ℕ) → is_in ids x ≡ true
@@ -193,84 +257,12 @@ has_number (id ∷ ids) x h = elim (or_cases (same_name x id.name) (is_in ids x)
   | inr there ↦ let rest = has_number ids x there in (suc rest.0, rest.1, rest.2, rest.3)
 ]
 
--- ---- the texts of a process
-
--- what f gives of each INPUT is nothing, so it is of each input
-abbrev none_of_parts : (Text → List ℕ) → List PlainInput → List ℕ
-none_of_parts f is = flat_map (λ i. f i.text) is
-
-abbrev none_of_inputs : (Text → List ℕ) → List Input → List ℕ
-none_of_inputs f is = flat_map (λ i. f i.text) is
-
-nil_append : (xs ys : List ℕ) → xs ≡ [] → ys ≡ [] → xs ++ ys ≡ []
-nil_append xs ys e f = ap (λ l. l ++ ys) e ∙ f
-
-pub flat_map-both : {A : Type 0} (f : A → List ℕ) (xs ys : List A) → flat_map f (xs ++ ys) ≡ flat_map f xs ++ flat_map f ys
-flat_map-both f [] ys = refl
-flat_map-both f (x ∷ xs) ys = ap (λ r. f x ++ r) (flat_map-both f xs ys) ∙ sym (append_assoc (f x) (flat_map f xs) (flat_map f ys))
-
-stimuli_none : (f : Text → List ℕ) (at : ℕ) (text : Text) (ss : List PlainStimulus) → f text ≡ []
-    → none_of_inputs f (map (λ s. record { at = at; stimulus = s; text = text }) ss) ≡ []
-stimuli_none f at text [] e = refl
-stimuli_none f at text (s ∷ ss) e = nil_append (f text) _ e (stimuli_none f at text ss e)
-
-clause_none : (f : Text → List ℕ) (c : PlainClause) → none_of_parts f (clause_parts c) ≡ [] → none_of_inputs f (clause_inputs c) ≡ []
-clause_none f (input i) e = stimuli_none f i.at i.text i.stimuli (append-nil_left (f i.text) [] e)
-clause_none f (save names) e = refl
-
-clauses_none : (f : Text → List ℕ) (cs : List PlainClause) → none_of_parts f (flat_map clause_parts cs) ≡ []
-    → none_of_inputs f (flat_map clause_inputs cs) ≡ []
-clauses_none f [] e = refl
-clauses_none f (c ∷ cs) e =
-    let both : none_of_parts f (clause_parts c) ++ none_of_parts f (flat_map clause_parts cs) ≡ [] =
-    sym (flat_map-both (λ i. f i.text) (clause_parts c) (flat_map clause_parts cs)) ∙ e in
-    flat_map-both (λ i. f i.text) (clause_inputs c) (flat_map clause_inputs cs)
-    ∙ nil_append _ _ (clause_none f c (append-nil_left _ _ both)) (clauses_none f cs (append-nil_right _ _ both))
-
-chosen_none : (f : Text → List ℕ) (b : Bool) (is : List Input) → none_of_inputs f is ≡ [] → none_of_inputs f (if b then is else []) ≡ []
-chosen_none f true is e = e
-chosen_none f false is e = refl
-
-given_none : (f : Text → List ℕ) (states : List Identifier) (q : ℕ) (names : List Identifier) (is : List Input) → none_of_inputs f is ≡ []
-    → none_of_inputs f (flat_map (λ id. if is_state states q id.name then is else []) names) ≡ []
-given_none f states q [] is e = refl
-given_none f states q (id ∷ names) is e =
-    flat_map-both (λ i. f i.text) (if is_state states q id.name then is else []) _
-    ∙ nil_append _ _ (chosen_none f (is_state states q id.name) is e) (given_none f states q names is e)
-
-parts_none : (f : Text → List ℕ) (states : List Identifier) (q : ℕ) (parts : List PlainState)
-    → none_of_parts f (flat_map (λ part. flat_map clause_parts part.clauses) parts) ≡ []
-    → none_of_inputs f (flat_map (given_to part_inputs states q) parts) ≡ []
-parts_none f states q [] e = refl
-parts_none f states q (part ∷ parts) e =
-    let both : none_of_parts f (flat_map clause_parts part.clauses) ++ none_of_parts f (flat_map (λ r. flat_map clause_parts r.clauses) parts) ≡ [] =
-    sym (flat_map-both (λ i. f i.text) (flat_map clause_parts part.clauses) _) ∙ e in
-    flat_map-both (λ i. f i.text) (given_to part_inputs states q part) (flat_map (given_to part_inputs states q) parts)
-    ∙ nil_append _ _ (given_none f states q part.names (part_inputs part) (clauses_none f part.clauses (append-nil_left _ _ both)))
-    (parts_none f states q parts (append-nil_right _ _ both))
-
 pub none_at : {A : Type 0} (f : A → List ℕ) (xs : List A) (i : ℕ) (x : A) → flat_map f xs ≡ [] → slice_get xs i ≡ Some x → f x ≡ []
 none_at f [] i x none e = let bad : None ≡ Some x = e in absurd (cc)
 none_at {A = A} f (y ∷ xs) zero x none e =
     let same : y ≡ x = let s : Some y ≡ Some x = e in cc in
     subst (λ (z : A). f z ≡ []) same (append-nil_left (f y) _ none)
 none_at f (y ∷ xs) (suc i) x none e = none_at f xs i x (append-nil_right (f y) _ none) e
-
--- each INPUT's text names nothing unknown
-texts_of_parts : (b : PlainBlock) (p : PlainProcess) (is : List PlainInput) → flat_map (input_unknown b p) is ≡ []
-    → none_of_parts (text_unknown b p) is ≡ []
-texts_of_parts b p [] e = refl
-texts_of_parts b p (i ∷ is) e =
-    nil_append _ _ (append-nil_right _ _ (append-nil_left _ _ e)) (texts_of_parts b p is (append-nil_right (input_unknown b p i) _ e))
-
-input_known : (b : PlainBlock) (p : PlainProcess) (q i : ℕ) (inp : Input) → process_unknown b p ≡ [] → slice_get (inputs_of p q) i ≡ Some inp
-    → text_unknown b p inp.text ≡ []
-input_known b p q i inp known e =
-    none_at (λ j. text_unknown b p j.text) (inputs_of p q) i inp
-    (parts_none (text_unknown b p) (states_of p) q p.states
-    (texts_of_parts b p (input_parts p)
-    (append-nil_left (flat_map (input_unknown b p) (input_parts p)) _ (append-nil_right (text_unknown b p p.start.text) _ known))))
-    e
 
 -- ---- the variable that a path reads
 
@@ -300,31 +292,31 @@ taken : (p : PlainProcess) (s : List ℕ) (inp : Input) → Contains (inputs_in 
 taken p s inp among = taken_at p s inp (number_of (states_of p) s) refl among
 
 start_declared : (b : PlainBlock) (p : PlainProcess) (t : Transition) (events : List Event) (end : Option (List ℕ)) (x : List ℕ)
-    → process_unknown b p ≡ [] → t ≡ start_transition p → IsWalk t.text events end → reads_first (t.first ++ events) x ≡ true → IsDeclared p x
+    → AreKnown b p → t ≡ start_transition p → IsWalk p t.text events end → reads_first (t.first ++ events) x ≡ true → IsDeclared p x
 start_declared b p t events end x known is walk first =
     let s = start_transition p in
-    let text : IsWalk p.start.text events end = subst (λ (u : Transition). IsWalk u.text events end) is walk in
+    let text : IsWalk p p.start.text events end = subst (λ (u : Transition). IsWalk p u.text events end) is walk in
     let all : reads_first (s.first ++ events) x ≡ true = ap (λ (u : Transition). reads_first (u.first ++ events) x) (sym is) ∙ first in
     elim (reads_some-append s.first events x (reads_some-first (s.first ++ events) x all)) [
       | inl none ↦ absurd (initial_reads_nothing (variables_of p) x none)
-      | inr there ↦ walk_known b p p.start.text events end x (append-nil_left (text_unknown b p p.start.text) _ known) text there
+      | inr there ↦ walk_known b p p.start.text events end x known (inl refl) text there
     ]
 
 input_declared : (b : PlainBlock) (p : PlainProcess) (s : List ℕ) (inp : Input) (t : Transition) (events : List Event) (end : Option (List ℕ)) (x : List ℕ)
-    → process_unknown b p ≡ [] → Contains (inputs_in p s) inp → t ≡ input_transition inp → IsWalk t.text events end
+    → AreKnown b p → Contains (inputs_in p s) inp → t ≡ input_transition inp → IsWalk p t.text events end
     → reads_first (t.first ++ events) x ≡ true → IsDeclared p x
 input_declared b p s inp t events end x known among is walk first =
     let u = input_transition inp in
     let here = taken p s inp among in
-    let text : IsWalk inp.text events end = subst (λ (w : Transition). IsWalk w.text events end) is walk in
+    let text : IsWalk p inp.text events end = subst (λ (w : Transition). IsWalk p w.text events end) is walk in
     let all : reads_first (u.first ++ events) x ≡ true = ap (λ (w : Transition). reads_first (w.first ++ events) x) (sym is) ∙ first in
     elim (reads_some-append u.first events x (reads_some-first (u.first ++ events) x all)) [
       | inl none ↦ absurd (sets_read_nothing (place_names inp.stimulus.places) x none)
-      | inr there ↦ walk_known b p inp.text events end x (input_known b p here.0 here.2 inp known here.5) text there
+      | inr there ↦ walk_known b p inp.text events end x known (inr (inl (here.0, inp, contains_at (inputs_of p here.0) here.2 inp here.5, refl))) text there
     ]
 
 -- what is read at the end of a path is declared
-pub read_declared : (b : PlainBlock) (p : PlainProcess) → process_unknown b p ≡ [] → (steps : List Step) (place : Place) (x : List ℕ)
+read_declared : (b : PlainBlock) (p : PlainProcess) → AreKnown b p → (steps : List Step) (place : Place) (x : List ℕ)
     → ReadsFrom p place steps x → IsDeclared p x
 read_declared b p known [] place x r = absurd r
 read_declared b p known (Start ∷ []) None x (t, leads, events, end, walk, first) = start_declared b p t events end x known leads walk first
@@ -352,13 +344,13 @@ state_there p s (Takes state signal ∷ next ∷ steps) x r = let here = taken p
 
 -- a walk that reads x unset
 read_by : (p : PlainProcess) (u t : Transition) (sum : Summary) (v : ℕ) (id : Identifier) (x : List ℕ) (events : List Event) (end : Option (List ℕ))
-    → IsSummaryOf p u sum → slice_get (variable_names p) v ≡ Some id → folded x ≡ folded id.name → t ≡ u → IsWalk t.text events end
+    → IsSummaryOf p u sum → slice_get (variable_names p) v ≡ Some id → folded x ≡ folded id.name → t ≡ u → IsWalk p t.text events end
     → reads_first (t.first ++ events) x ≡ true → has sum.reads v ≡ true
 read_by p u t sum v id x events end is var same e walk first =
     (is.reads v id var).1 (record {
       events = events;
       end = end;
-      walk = subst (λ (w : Transition). IsWalk w.text events end) e walk;
+      walk = subst (λ (w : Transition). IsWalk p w.text events end) e walk;
       first =
           sym (reads_first-same (u.first ++ events) x id.name same)
           ∙ ap (λ (w : Transition). reads_first (w.first ++ events) x) (sym e) ∙ first;
@@ -366,19 +358,18 @@ read_by p u t sum v id x events end is var same e walk first =
 
 -- a walk that leaves x unset
 passes_by : (p : PlainProcess) (u t : Transition) (sum : Summary) (v : ℕ) (id : Identifier) (x : List ℕ) (events : List Event) (s : List ℕ) (q : ℕ)
-    → IsSummaryOf p u sum → slice_get (variable_names p) v ≡ Some id → folded x ≡ folded id.name → t ≡ u → IsWalk t.text events (Some s)
+    → IsSummaryOf p u sum → slice_get (variable_names p) v ≡ Some id → folded x ≡ folded id.name → t ≡ u → IsWalk p t.text events (Some s)
     → number_of (states_of p) s ≡ Some q → sets_in (t.first ++ events) x ≡ false → Passes sum v q
 passes_by p u t sum v id x events s q is var same e walk state unset =
-    let found = is.whole events s q (subst (λ (w : Transition). IsWalk w.text events (Some s)) e walk) state in
-    let end : found.0.state ≡ q = let h : Some found.0.state ≡ Some q = sym found.2.state ∙ state in cc in
-    let left : sets_in (u.first ++ events) id.name ≡ false =
-    sym (sets_in-same (u.first ++ events) x id.name same) ∙ ap (λ (w : Transition). sets_in (w.first ++ events) x) (sym e) ∙ unset in
-    record {
-      passage = found.0;
-      among = found.1;
-      keeps = (found.2.keeps v id var).1 left;
-      ends = end;
-    }
+    (is.passes v q id var).1 (record {
+      events = events;
+      state = s;
+      walk = subst (λ (w : Transition). IsWalk p w.text events (Some s)) e walk;
+      number = state;
+      keeps =
+          sym (sets_in-same (u.first ++ events) x id.name same)
+          ∙ ap (λ (w : Transition). sets_in (w.first ++ events) x) (sym e) ∙ unset;
+    })
 
 numbers_from : (p : PlainProcess) (g : Graph) (v : ℕ) (id : Identifier) (x : List ℕ) → IsGraphOf p g → slice_get (variable_names p) v ≡ Some id
     → folded x ≡ folded id.name → (steps : List Step) (s : List ℕ) (q : ℕ) → number_of (states_of p) s ≡ Some q → ReadsFrom p (Some s) steps x
@@ -421,6 +412,6 @@ pub never_reads : (b : PlainBlock) (p : PlainProcess) (g : Graph) → process_un
     → ((v : ℕ) (id : Identifier) → slice_get (variable_names p) v ≡ Some id → (path : List number.Step) → graph.ReadsUnset g v path → ⊥)
     → NeverReadsUnset p
 never_reads b p g known is none steps x r =
-    let named = has_number (variable_names p) x (read_declared b p known steps None x r) in
+    let named = has_number (variable_names p) x (read_declared b p (are_known b p known) steps None x r) in
     let path = numbers_of p g named.0 named.1 x is named.2 named.3 steps r in
     none named.0 named.1 named.2 path.0 path.1

@@ -1,4 +1,4 @@
--- The sort of the variable with a name, pairs of what stands at one place of two lists, and the actions of a text.
+-- The sort of the variable with a name, and pairs of what stands at one place of two lists.
 use Rattle.std.proofs.Common.{◌≡◌, ℕ, zero, suc, ◌+◌, ◌<◌, ◌≤◌, Bool, true, false, cond, nat_lt, List, [], ◌∷◌, ◌++◌, map, length, take, zip, Option, None, Some, slice_get, find, get_or, refl, sym, ap, ◌∙◌, arith}
 use Rattle.std.specs.List.{flat_map, position_or_len, prefix_len}
 use Rattle.std.specs.Option.{option_map, option_map_or, option_and_then}
@@ -9,13 +9,9 @@ use Rattle.std.proofs.lemmas.Option.{slice_get_past, slice_get-get_or}
 use Rattle.std.proofs.lemmas.Grind.{flat_map-append}
 use Rattle.std.proofs.lemmas.Bool.Decides.{leb_tells}
 use Rattle.sdl_tree.specs.declared.expression.Identifier.{Identifier}
-use Rattle.sdl_tree.specs.declared.tree.End.{End}
-use Rattle.sdl_tree.specs.Plain.{PlainAction}
-use Rattle.sdl_tree.specs.Views.{does_all, end_text}
 use Rattle.sdl_tables.specs.Names.{same_name, number_of, Variable}
 use Rattle.sdl_tables.specs.Rows.{variable_of}
 use Rattle.sdl_tables.specs.declared.process_table.Variable as row
-use Rattle.sdl_rules.specs.Sound.{actions_of}
 use Rattle.sdl_rules.specs.Sorts.{variable_sort}
 
 find-at : {X : Type 0} (p : X → Bool) (xs : List X) (b : Bool) → nat_lt (position_or_len p xs) (length xs) ≡ b
@@ -30,7 +26,7 @@ prefix_len-map t f (x ∷ xs) = ap (λ r. cond (t (f x)) (1 + r) 0) (prefix_len-
 position-map : {A B : Type 0} (t : B → Bool) (f : A → B) (xs : List A) → position t (map f xs) ≡ position (λ x. t (f x)) xs
 position-map t f xs = rw (prefix_len-map (λ y. not (t y)) f xs, length-map xs f) refl
 
-slice_get-map : {A B : Type 0} (f : A → B) (xs : List A) (i : ℕ) → slice_get (map f xs) i ≡ option_map f (slice_get xs i)
+pub slice_get-map : {A B : Type 0} (f : A → B) (xs : List A) (i : ℕ) → slice_get (map f xs) i ≡ option_map f (slice_get xs i)
 slice_get-map f [] i = refl
 slice_get-map f (x ∷ xs) zero = refl
 slice_get-map f (x ∷ xs) (suc i) = slice_get-map f xs i
@@ -104,10 +100,3 @@ pairs_more f xs i d ys lt =
     ∙ (flat_map-append f (zip (take i xs) ys) (pair_of x (slice_get ys (length (take i xs))))
     ∙ ap (λ r. flat_map f (zip (take i xs) ys) ++ r)
     (of_pair f x (slice_get ys (length (take i xs))) ∙ ap (λ n. option_map_or (λ y. f (x, y)) (slice_get ys n) []) (length-take xs i lt))))
-
--- ---- the actions of a text
-
-pub actions_of-all : (actions : List PlainAction) (e : Option End) → actions_of (does_all actions (end_text e)) ≡ actions
-actions_of-all [] None = refl
-actions_of-all [] (Some e) = refl
-actions_of-all (a ∷ actions) e = ap (λ r. a ∷ r) (actions_of-all actions e)

@@ -162,15 +162,14 @@ names_from p g v id is var (By k i ∷ []) (n ∷ []) q s state (t, leads, reads
 names_from p g v id is var (By k i ∷ next ∷ path) (n ∷ n2 ∷ steps) q s state (t, r, leads, passes, rest) named =
     let input = input_of_graph p g q i t is leads.1 in
     let step : IsNamed p (By q i) n = subst (λ (m : ℕ). IsNamed p (By m i) n) leads.0 named.0 in
-    let walk = input.3.sound passes.passage passes.among in
-    let there : number_of (states_of p) walk.1 ≡ Some r = walk.2.state ∙ ap Some passes.ends in (
+    let left = (input.3.passes v r id var).0 passes in (
       input_transition input.0,
       leads_named p s q i n state step input.0 input.1,
-      walk.0,
-      walk.1,
-      walk.2.walk,
-      (walk.2.keeps v id var).0 passes.keeps,
-      names_from p g v id is var (next ∷ path) (n2 ∷ steps) r walk.1 there rest named.1,
+      left.events,
+      left.state,
+      left.walk,
+      left.keeps,
+      names_from p g v id is var (next ∷ path) (n2 ∷ steps) r left.state left.number rest named.1,
     )
 
 -- a path by numbers that reads a variable unset is one by names
@@ -189,16 +188,15 @@ named_reads p g v id is var (First ∷ []) (n ∷ []) (t, leads, reads) named =
     (start_transition p, first, told.events, told.end, told.walk, told.first)
 named_reads p g v id is var (First ∷ next ∷ path) (n ∷ n2 ∷ steps) (t, r, leads, passes, rest) named =
     let sum : IsSummaryOf p (start_transition p) t = subst (IsSummaryOf p (start_transition p)) (sym leads) is.start in
-    let walk = sum.sound passes.passage passes.among in
-    let there : number_of (states_of p) walk.1 ≡ Some r = walk.2.state ∙ ap Some passes.ends in
+    let left = (sum.passes v r id var).0 passes in
     let first : Leads p None n (start_transition p) = subst (λ (m : Step). Leads p None m (start_transition p)) (sym named.0) refl in (
       start_transition p,
       first,
-      walk.0,
-      walk.1,
-      walk.2.walk,
-      (walk.2.keeps v id var).0 passes.keeps,
-      names_from p g v id is var (next ∷ path) (n2 ∷ steps) r walk.1 there rest named.1,
+      left.events,
+      left.state,
+      left.walk,
+      left.keeps,
+      names_from p g v id is var (next ∷ path) (n2 ∷ steps) r left.state left.number rest named.1,
     )
 
 -- ---- each step of such a path is there

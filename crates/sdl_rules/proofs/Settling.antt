@@ -120,7 +120,7 @@ IsCovered p g fates before sum = (v : ℕ) (m : IsMarked p g fates v) → (bit_a
 
 settled_reads : (p : PlainProcess) (fates : List Fate) (before : ℕ) (u : Transition) (sum : Summary) (a : AreFates p fates) → AreSet fates
     → IsSummaryOf p u sum → IsCovered p a.graph fates before sum → (events : List Event) (end : Option (List ℕ)) (v : ℕ) (id : Identifier)
-    → IsWalk u.text events end → slice_get (variable_names p) v ≡ Some id → reads_first (u.first ++ events) id.name ≡ true → bit_at before v ≡ 1
+    → IsWalk p u.text events end → slice_get (variable_names p) v ≡ Some id → reads_first (u.first ++ events) id.name ≡ true → bit_at before v ≡ 1
 settled_reads p fates before u sum a set is covered events end v id walk var first =
     let m = marked p fates v id a set var in
     elim (covered v m) [
@@ -132,19 +132,17 @@ settled_reads p fates before u sum a set is covered events end v id walk var fir
 
 settled_states : (p : PlainProcess) (fates : List Fate) (sets : List ℕ) (before : ℕ) (u : Transition) (sum : Summary) (a : AreFates p fates) → AreSet fates
     → AreBits fates sets → IsSummaryOf p u sum → IsCovered p a.graph fates before sum → (events : List Event) (s : List ℕ) (q set v : ℕ) (id : Identifier)
-    → IsWalk u.text events (Some s) → number_of (states_of p) s ≡ Some q → slice_get sets q ≡ Some set → slice_get (variable_names p) v ≡ Some id
+    → IsWalk p u.text events (Some s) → number_of (states_of p) s ≡ Some q → slice_get sets q ≡ Some set → slice_get (variable_names p) v ≡ Some id
     → bit_at set v ≡ 1 → sets_in (u.first ++ events) id.name ≡ false → bit_at before v ≡ 1
 settled_states p fates sets before u sum a all bits is covered events s q set v id walk state there var one left =
     let m = marked p fates v id a all var in
     elim (covered v m) [
       | inl done ↦ done
       | inr safe ↦
-          let found = is.whole events s q walk state in
-          let end : found.0.state ≡ q = let h : Some found.0.state ≡ Some q = sym found.2.state ∙ state in cc in
-          let keeps : has found.0.keeps v ≡ true = (found.2.keeps v id var).1 left in
-          let seen : IsSeen m.marks.items found.0.state =
-          All-contains (λ p. has p.keeps v ≡ true → IsSeen m.marks.items p.state) _ _ safe.covers found.1 keeps in
-          let here : IsSeen m.marks.items q = subst (IsSeen m.marks.items) end seen in
+          let passes = (is.passes v q id var).1 (record { events = events; state = s; walk = walk; number = state; keeps = left }) in
+          let seen : IsSeen m.marks.items passes.passage.state =
+          All-contains (λ p. has p.keeps v ≡ true → IsSeen m.marks.items p.state) _ _ safe.covers passes.among passes.keeps in
+          let here : IsSeen m.marks.items q = subst (IsSeen m.marks.items) passes.ends seen in
           let free : slice_get m.marks.items q ≡ Some false = unmarked fates q v set m.marks m.there (bits q set there v) one in
           let bad : Some true ≡ Some false = sym (here (slice_get_within m.marks.items q false free)) ∙ free in
           absurd (cc)

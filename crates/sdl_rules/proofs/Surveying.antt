@@ -13,13 +13,17 @@ use Rattle.sdl_tree.specs.Plain.{PlainProcess, PlainBlock}
 use Rattle.sdl_tree.specs.Views.{process_of}
 use Rattle.sdl_tables.specs.Names.{processes_of, variables_of, variable_names, routes_of}
 use Rattle.sdl_rules.specs.Sound.{exceeds, measures, first_limit, process_unknown, unknown_names, route_unknown}
+use Rattle.sdl_rules.specs.Actions.{in_statements}
+use Rattle.sdl_rules.specs.Decisions.{statement_unanswered, unanswered}
+use Rattle.sdl_rules.specs.Orders.{IsOrder, AreOrders}
+use Rattle.sdl_rules.specs.Refusals.{IsWithin}
 use Rattle.sdl_rules.specs.Paths.{ReadsUnset}
 use Rattle.sdl_rules.specs.Surveys.{IsUnset}
 use Rattle.sdl_rules.specs.declared.settled.Unset.{Unset}
 use Rattle.sdl_rules.specs.declared.fault.Limit.TheVariants.{Processes, States, Variables, Timers, Signals, Params, Pieces}
 use Rattle.sdl_rules.proofs.Repeats.{append-nil_right}
 use Rattle.sdl_rules.proofs.Numbers.{none_at}
-use Rattle.sdl_rules.proofs.PathNames.{contains_at, named_reads, steps_there}
+use Rattle.sdl_rules.proofs.PathNames.{contains_at, all_zip_at, named_reads, steps_there}
 use Rattle.sdl_rules.specs.Fates.{AreFates, IsUnsetAt, IsStep, IsNamed}
 use Rattle.sdl_rules.specs.declared.fault.Step.{Step}
 use Rattle.sdl_tree.specs.declared.expression.Identifier.{Identifier}
@@ -68,6 +72,38 @@ pub known_names : (b : PlainBlock) → unknown_names b ≡ [] → All (λ p. pro
 known_names b none k d within =
     none_at (process_unknown b) (processes_of b) k (get_or (processes_of b) k d)
     (append-nil_right (flat_map (route_unknown b) (routes_of b)) _ none) (slice_get-get_or (processes_of b) k d within)
+
+-- each process has answers for each value
+pub answered_names : (b : PlainBlock) → unanswered b ≡ [] → All (λ p. in_statements (λ from. statement_unanswered (variables_of p)) p ≡ []) (processes_of b)
+answered_names b none k d within =
+    none_at (λ p. in_statements (λ from. statement_unanswered (variables_of p)) p) (processes_of b) k (get_or (processes_of b) k d) none (slice_get-get_or (processes_of b) k d within)
+
+pub within_few : (b : PlainBlock) → IsWithin b → All (λ p. length (variables_of p) ≤ 32) (processes_of b)
+within_few b w = few_variables b w.1
+
+pub within_known : (b : PlainBlock) → IsWithin b → All (λ p. process_unknown b p ≡ []) (processes_of b)
+within_known b w = known_names b w.0.0.0.0.0.0.0.0.1
+
+pub within_answered : (b : PlainBlock) → IsWithin b → All (λ p. in_statements (λ from. statement_unanswered (variables_of p)) p ≡ []) (processes_of b)
+within_answered b w = answered_names b w.0.0.1
+
+zip_length : {A B : Type 0} (R : A → B → Type 0) (xs : List A) (ys : List B) → AllZip R xs ys → length xs ≡ length ys
+zip_length R [] [] h = refl
+zip_length R [] (y ∷ ys) h = absurd h
+zip_length R (x ∷ xs) [] h = absurd h
+zip_length R (x ∷ xs) (y ∷ ys) h = ap suc (zip_length R xs ys h.1)
+
+pub order_within : (ts : List the_process.Process) (ps : List PlainProcess) (orders : List (Vec ℕ)) (i : ℕ) → map process_of ts ≡ ps → AreOrders ps orders → i < length ts → i < length orders
+order_within ts ps orders i same are within =
+    let count : length ts ≡ length orders = sym (length-map ts process_of) ∙ (ap length same ∙ zip_length (λ p (v : Vec ℕ). IsOrder p v.items) ps orders are) in
+    omega (arith, within, count)
+
+pub order_at : (ts : List the_process.Process) (ps : List PlainProcess) (orders : List (Vec ℕ)) (i : ℕ) (t : the_process.Process) (order : Vec ℕ) → map process_of ts ≡ ps → AreOrders ps orders
+    → i < length ts → t ≡ get_or ts i t → order ≡ get_or orders i order → IsOrder (process_of t) order.items
+order_at ts ps orders i t order same are within read has =
+    all_zip_at (λ p (v : Vec ℕ). IsOrder p v.items) ps orders i (process_of t) order are
+    (ap (λ (l : List PlainProcess). slice_get l i) (sym same) ∙ (slice_get-map process_of ts i ∙ ap (option_map process_of) (slice_get-get_or ts i t within ∙ ap Some (sym read))))
+    (slice_get-get_or orders i order (order_within ts ps orders i same are within) ∙ ap Some (sym has))
 
 -- ---- the processes so far
 

@@ -7,7 +7,8 @@ use Rattle.sdl_tree.specs.declared.expression.BinaryOperator.TheVariants.{Or, Xo
 use Rattle.sdl_tree.specs.Plain.{Tree, number, truth, variable, unary, binary, PlainAssignment, PlainSending, PlainAction, task, output, set_timer, reset_timer, PlainBlock}
 use Rattle.sdl_tree.specs.Expressions.{place_of}
 use Rattle.sdl_tables.specs.Names.{processes_of}
-use Rattle.sdl_rules.specs.Actions.{in_actions}
+use Rattle.sdl_rules.specs.Statements.{Statement, acts, asks, covers, finishes}
+use Rattle.sdl_rules.specs.Actions.{in_statements}
 
 -- ---- S9: right of `/`, MOD or REM anything but a number of 1 or more
 
@@ -59,5 +60,11 @@ action_divisors (output at sendings to) = flat_map sending_divisors sendings
 action_divisors (set_timer at delay timer) = bad_divisors_in delay
 action_divisors (reset_timer at timer) = []
 
+abbrev pub statement_divisors : Statement → List ℕ
+statement_divisors (acts a) = action_divisors a
+statement_divisors (asks at q c) = bad_divisors_in q
+statement_divisors (covers q ranges) = []
+statement_divisors (finishes e) = []
+
 abbrev pub bad_divisors : PlainBlock → List ℕ
-bad_divisors b = flat_map (in_actions (λ is. action_divisors)) (processes_of b)
+bad_divisors b = flat_map (in_statements (λ from. statement_divisors)) (processes_of b)

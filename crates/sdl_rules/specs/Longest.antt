@@ -1,14 +1,19 @@
 -- The longest path of a transition: how many instructions, how many operands at once, how many effects. Each
 -- instruction counts 1. (The counts are this profile's own.)
-use Rattle.std.specs.Prelude.{ℕ, ◌+◌, Bool, true, false, List, [], ◌∷◌, Option, None, Some, if◌then◌else◌, length, max, map, sum_by}
+use Rattle.std.specs.Prelude.{ℕ, zero, suc, ◌+◌, Bool, true, false, List, [], ◌∷◌, Option, None, Some, if◌then◌else◌, length, max, map, sum_by}
 use Rattle.std.specs.List.{flat_map}
+use Rattle.std.specs.Option.{option_map_or}
 use Rattle.sdl_tree.specs.declared.expression.Identifier.{Identifier}
 use Rattle.sdl_tree.specs.declared.expression.BinaryOperator.{BinaryOperator}
 use Rattle.sdl_tree.specs.declared.expression.BinaryOperator.TheVariants.{Or, Xor, And, Equal, NotEqual, Less, LessEqual, Greater, GreaterEqual, Add, Subtract, Multiply, Divide, Modulo, Remainder}
+use Rattle.sdl_tree.specs.declared.tree.Range.{Range}
 use Rattle.sdl_tree.specs.declared.tree.End.{End}
-use Rattle.sdl_tree.specs.declared.tree.End.TheVariants.{NextState, Stop}
-use Rattle.sdl_tree.specs.Plain.{Tree, number, truth, variable, unary, binary, PlainAssignment, PlainSending, PlainAction, task, output, set_timer, reset_timer, Text, falls, ends, does, PlainProcess}
-use Rattle.sdl_tables.specs.Names.{Input, inputs_by_state}
+use Rattle.sdl_tree.specs.declared.tree.End.TheVariants.{NextState, Stop, Join}
+use Rattle.sdl_tree.specs.Plain.{Tree, number, truth, variable, unary, binary, PlainAssignment, PlainSending, PlainAction, task, output, set_timer, reset_timer, Text, falls, ends, does, decides, Choice, nothing_else, otherwise, answer, PlainProcess}
+use Rattle.sdl_tables.specs.Names.{Variable, variables_of, connection_named, Input, inputs_by_state}
+use Rattle.sdl_rules.specs.Going.{goes_on}
+use Rattle.sdl_rules.specs.Joins.{reached}
+use Rattle.sdl_rules.specs.Sorts.{is_truth}
 
 -- `/`, MOD and REM have their divisor in the instruction itself: it is no operand
 abbrev pub is_division : BinaryOperator → Bool
@@ -91,33 +96,127 @@ action_effects (output at list to) = length list
 action_effects (set_timer at delay timer) = 1
 action_effects (reset_timer at timer) = 1
 
+-- what ends a transition: one instruction, a jump where it is a JOIN
 abbrev pub end_cost : End → ℕ
 end_cost (NextState n) = 1
 end_cost (Stop at) = 1
+end_cost (Join j) = 1
 
--- the greatest cost of a walk through a text that something of cost k follows
-abbrev pub budget : Text → ℕ → ℕ
-budget falls k = k
-budget (ends e) k = end_cost e
-budget (does a rest) k = action_cost a + budget rest k
+-- what a JOIN goes on with
+abbrev pub end_count : (List ℕ → ℕ) → End → ℕ
+end_count join (NextState n) = 0
+end_count join (Stop at) = 0
+end_count join (Join j) = join j.connector.name
 
--- the greatest depth on a walk
-abbrev pub depth : Text → ℕ
-depth falls = 0
-depth (ends e) = 0
-depth (does a rest) = max (action_depth a) (depth rest)
+-- ---- with bodies and JOINs: `vs` are the variables, which tell the sort of a question, and `join` says what a connection counts
 
--- the most effects on a walk through a text that something with k effects follows
-abbrev pub effects : Text → ℕ → ℕ
-effects falls k = k
-effects (ends e) k = 0
-effects (does a rest) k = action_effects a + effects rest k
+-- Of an Integer DECISION, each range of an answer is tested in turn; where it holds, the answer's body is next. So a body
+-- that counts so much counts one test more for each of its ranges, and what is left when none of them holds counts all of them.
+abbrev pub tests_budget : List Range → ℕ → ℕ → ℕ
+tests_budget [] body others = others
+tests_budget (r ∷ ranges) body others = 1 + max body (tests_budget ranges body others)
 
--- how many instructions the code of a text has
-abbrev pub size : Text → ℕ
-size falls = 0
-size (ends e) = end_cost e
-size (does a rest) = action_cost a + size rest
+abbrev mutual
+  -- the greatest cost of a walk through a text that something of cost k follows: a JOIN, or the question of a DECISION and
+  -- what is chosen, each is followed by what it goes on with
+  pub budget : List Variable → (List ℕ → ℕ) → Text → ℕ → ℕ
+  budget vs join falls k = k
+  budget vs join (ends e) k = end_cost e + end_count join e
+  budget vs join (does a rest) k = action_cost a + budget vs join rest k
+  budget vs join (decides at q c rest) k =
+      cost_of q + (if is_truth vs q then 1 + pick_budget vs join c (budget vs join rest k) else case_budget vs join c (budget vs join rest k))
+
+  -- of an Integer DECISION behind its question: the tests up to a range, its body, and 1 where the body goes on; for ELSE all
+  -- tests, and 1 to drop what was asked
+  pub case_budget : List Variable → (List ℕ → ℕ) → Choice → ℕ → ℕ
+  case_budget vs join nothing_else k = 0
+  case_budget vs join (otherwise body) k = 1 + budget vs join body (1 + k)
+  case_budget vs join (answer at ranges body others) k =
+      tests_budget ranges (budget vs join body (1 + k)) (case_budget vs join others k)
+
+  -- of a Boolean one behind the choice of the body: the body, and 1 where it goes on
+  pub pick_budget : List Variable → (List ℕ → ℕ) → Choice → ℕ → ℕ
+  pick_budget vs join nothing_else k = 0
+  pick_budget vs join (otherwise body) k = budget vs join body (1 + k)
+  pick_budget vs join (answer at ranges body others) k = max (budget vs join body (1 + k)) (pick_budget vs join others k)
+
+abbrev mutual
+  -- the greatest depth on a walk
+  pub depth : (List ℕ → ℕ) → Text → ℕ
+  depth join falls = 0
+  depth join (ends e) = end_count join e
+  depth join (does a rest) = max (action_depth a) (depth join rest)
+  depth join (decides at q c rest) = max (depth_of q) (max (choice_depth join c) (depth join rest))
+
+  pub choice_depth : (List ℕ → ℕ) → Choice → ℕ
+  choice_depth join nothing_else = 0
+  choice_depth join (otherwise body) = depth join body
+  choice_depth join (answer at ranges body others) = max (depth join body) (choice_depth join others)
+
+abbrev mutual
+  -- the most effects on a walk through a text that something with k effects follows
+  pub effects : (List ℕ → ℕ) → Text → ℕ → ℕ
+  effects join falls k = k
+  effects join (ends e) k = end_count join e
+  effects join (does a rest) k = action_effects a + effects join rest k
+  effects join (decides at q c rest) k = choice_effects join c (effects join rest k)
+
+  pub choice_effects : (List ℕ → ℕ) → Choice → ℕ → ℕ
+  choice_effects join nothing_else k = 0
+  choice_effects join (otherwise body) k = effects join body k
+  choice_effects join (answer at ranges body others) k = max (effects join body k) (choice_effects join others k)
+
+-- What the connection with a name counts, where a connection's text counts `measure` of it: as many JOINs are followed as it
+-- says, and nothing is counted behind them.
+abbrev pub joined_by : (List Variable → (List ℕ → ℕ) → Text → ℕ) → PlainProcess → ℕ → List ℕ → ℕ
+joined_by measure p zero x = 0
+joined_by measure p (suc n) x =
+    option_map_or (λ c. measure (variables_of p) (joined_by measure p n) c.text) (connection_named p x) 0
+
+-- As many JOINs as there are connections are enough where no JOIN comes back: a walk then meets no connection twice.
+abbrev pub joined : (List Variable → (List ℕ → ℕ) → Text → ℕ) → PlainProcess → List ℕ → ℕ
+joined measure p x = joined_by measure p (length p.connections) x
+
+-- a text that nothing follows
+abbrev pub text_budget : PlainProcess → Text → ℕ
+text_budget p t = budget (variables_of p) (joined (λ vs join text. budget vs join text 0) p) t 0
+
+abbrev pub text_depth : PlainProcess → Text → ℕ
+text_depth p t = depth (joined (λ vs. depth) p) t
+
+abbrev pub text_effects : PlainProcess → Text → ℕ
+text_effects p t = effects (joined (λ vs join text. effects join text 0) p) t 0
+
+-- ---- how many instructions the code has
+
+-- a body that goes on ends with a jump
+abbrev pub jump_size : Text → ℕ
+jump_size t = if goes_on t then 1 else 0
+
+-- the tests and the drop of an Integer DECISION
+abbrev pub tests_size : Choice → ℕ
+tests_size nothing_else = 0
+tests_size (otherwise body) = 1
+tests_size (answer at ranges body others) = length ranges + tests_size others
+
+abbrev mutual
+  -- the code of a text without that of connections: a JOIN is a jump; an Integer DECISION has a test for each range and a
+  -- drop before ELSE, a Boolean one has one instruction that chooses
+  pub size : List Variable → Text → ℕ
+  size vs falls = 0
+  size vs (ends e) = end_cost e
+  size vs (does a rest) = action_cost a + size vs rest
+  size vs (decides at q c rest) =
+      cost_of q + (if is_truth vs q then 1 else tests_size c) + bodies_size vs c + size vs rest
+
+  pub bodies_size : List Variable → Choice → ℕ
+  bodies_size vs nothing_else = 0
+  bodies_size vs (otherwise body) = size vs body + jump_size body
+  bodies_size vs (answer at ranges body others) = size vs body + jump_size body + bodies_size vs others
+
+-- the code of a text with that of each connection to which it comes, once
+abbrev pub text_size : PlainProcess → Text → ℕ
+text_size p t = size (variables_of p) t + sum_by (λ c. size (variables_of p) c.text) (reached p t)
 
 -- A transition with what comes before its text: the places of its input, each with the variable that gets the
 -- parameter. START has none.
@@ -141,17 +240,17 @@ abbrev pub places_depth : List (Option Identifier) → ℕ
 places_depth [] = 0
 places_depth (p ∷ ps) = max (place_depth p) (places_depth ps)
 
-abbrev pub piece_budget : Piece → ℕ
-piece_budget q = places_cost q.places + budget q.text 0
+abbrev pub piece_budget : PlainProcess → Piece → ℕ
+piece_budget p q = places_cost q.places + text_budget p q.text
 
-abbrev pub piece_depth : Piece → ℕ
-piece_depth q = max (places_depth q.places) (depth q.text)
+abbrev pub piece_depth : PlainProcess → Piece → ℕ
+piece_depth p q = max (places_depth q.places) (text_depth p q.text)
 
-abbrev pub piece_effects : Piece → ℕ
-piece_effects q = effects q.text 0
+abbrev pub piece_effects : PlainProcess → Piece → ℕ
+piece_effects p q = text_effects p q.text
 
-abbrev pub piece_size : Piece → ℕ
-piece_size q = places_cost q.places + size q.text
+abbrev pub piece_size : PlainProcess → Piece → ℕ
+piece_size p q = places_cost q.places + text_size p q.text
 
 abbrev pub start_piece : PlainProcess → Piece
 start_piece p = record { places = []; text = p.start.text }
@@ -169,6 +268,6 @@ pub record Longest : Type 0 where
   pub depth : ℕ
   pub effects : ℕ
 
--- the certificate of a piece
-abbrev pub longest_of : Piece → Longest
-longest_of q = record { budget = piece_budget q; depth = piece_depth q; effects = piece_effects q }
+-- the certificate of a piece of a process
+abbrev pub longest_of : PlainProcess → Piece → Longest
+longest_of p q = record { budget = piece_budget p q; depth = piece_depth p q; effects = piece_effects p q }

@@ -1,10 +1,10 @@
 -- Control paths, and what is read on them before it is set. (Z.100: the transitions of a process graph.)
-use Rattle.std.specs.Prelude.{◌≡◌, ℕ, Bool, true, false, not, ◌&&◌, ◌||◌, List, [], ◌∷◌, ◌++◌, Option, None, Some, if◌then◌else◌, map, Contains, is_some}
+use Rattle.std.specs.Prelude.{◌≡◌, ◌⊎◌, ℕ, zero, suc, Bool, true, false, not, ◌&&◌, ◌||◌, List, [], ◌∷◌, ◌++◌, Option, None, Some, if◌then◌else◌, map, Contains, is_some}
 use Rattle.std.specs.List.{flat_map}
 use Rattle.std.specs.Option.{option_map_or}
-use Rattle.sdl_tree.specs.declared.tree.End.TheVariants.{NextState, Stop}
-use Rattle.sdl_tree.specs.Plain.{Tree, PlainAssignment, PlainSending, PlainAction, task, output, set_timer, reset_timer, Text, falls, ends, does, PlainProcess}
-use Rattle.sdl_tables.specs.Names.{same_name, number_of, Variable, variables_of, states_of, Input, inputs_of}
+use Rattle.sdl_tree.specs.declared.tree.End.TheVariants.{NextState, Stop, Join}
+use Rattle.sdl_tree.specs.Plain.{Tree, PlainAssignment, PlainSending, PlainAction, task, output, set_timer, reset_timer, Text, falls, ends, does, decides, Choice, nothing_else, otherwise, answer, PlainConnection, PlainProcess}
+use Rattle.sdl_tables.specs.Names.{same_name, number_of, Variable, variables_of, connection_named, states_of, Input, inputs_of}
 use Rattle.sdl_rules.specs.Sound.{tree_names, place_names}
 use Rattle.sdl_rules.specs.declared.fault.Step.{Step}
 use Rattle.sdl_rules.specs.declared.fault.Step.TheVariants.{Start, Input as Takes}
@@ -33,13 +33,61 @@ action_events (output at sendings to) = flat_map sending_events sendings
 action_events (set_timer at delay timer) = tree_events delay
 action_events (reset_timer at timer) = []
 
--- A walk of a text: its reads and sets in order, and the state by which it ends; none where it stops or runs off its end.
-abbrev pub IsWalk : Text → List Event → Option (List ℕ) → Type 0
-IsWalk falls events end = (events ≡ []) × (end ≡ None)
-IsWalk (ends (NextState n)) events end = (events ≡ []) × (end ≡ Some n.state.name)
-IsWalk (ends (Stop at)) events end = (events ≡ []) × (end ≡ None)
-IsWalk (does action rest) events end =
-    (after : List Event) × (events ≡ action_events action ++ after) × IsWalk rest after end
+-- How a walk of a text ends: it runs off the text's end, so that what stands behind the text is next; it stops; or it ends in
+-- the state with a name.
+pub data Way : Type 0 where
+  onward : Way
+  stops : Way
+  enters : List ℕ → Way
+
+-- what stands behind a DECISION is walked where the body runs off its end, and nothing where it doesn't
+abbrev pub GoesOn : Way → (List Event → Way → Type 0) → List Event → Way → Type 0
+GoesOn onward rest after way = rest after way
+GoesOn stops rest after way = (after ≡ []) × (way ≡ stops)
+GoesOn (enters s) rest after way = (after ≡ []) × (way ≡ enters s)
+
+abbrev mutual
+  -- A walk of a text: its reads and sets in order, and how it ends. A DECISION reads its question, and then some one of its
+  -- bodies is walked; a JOIN goes on with a walk of its connection, which `join` tells.
+  pub Walks : (List ℕ → List Event → Way → Type 0) → Text → List Event → Way → Type 0
+  Walks join falls events way = (events ≡ []) × (way ≡ onward)
+  Walks join (ends (NextState n)) events way = (events ≡ []) × (way ≡ enters n.state.name)
+  Walks join (ends (Stop at)) events way = (events ≡ []) × (way ≡ stops)
+  Walks join (ends (Join j)) events way = join j.connector.name events way
+  Walks join (does action rest) events way =
+      (after : List Event) × (events ≡ action_events action ++ after) × Walks join rest after way
+  Walks join (decides at q c rest) events way =
+      (chosen after : List Event) × (between : Way) × (events ≡ tree_events q ++ (chosen ++ after))
+      × IsChosen join c chosen between × GoesOn between (Walks join rest) after way
+
+  -- a walk of one of the bodies; that of an answer may be taken by each of its ranges
+  pub IsChosen : (List ℕ → List Event → Way → Type 0) → Choice → List Event → Way → Type 0
+  IsChosen join nothing_else events way = ⊥
+  IsChosen join (otherwise body) events way = Walks join body events way
+  IsChosen join (answer at ranges body others) events way = Walks join body events way ⊎ IsChosen join others events way
+
+-- nothing stands behind a connection
+abbrev pub last_way : Way → Way
+last_way onward = stops
+last_way stops = stops
+last_way (enters s) = enters s
+
+-- a walk of the connection with a name that follows fewer JOINs than it says
+abbrev pub Follows : PlainProcess → ℕ → List ℕ → List Event → Way → Type 0
+Follows p zero x events way = ⊥
+Follows p (suc n) x events way =
+    (c : PlainConnection) × (connection_named p x ≡ Some c)
+    × (inner : Way) × Walks (Follows p n) c.text events inner × (way ≡ last_way inner)
+
+-- the state in which a walk of a transition ends; none where it stops or runs off its end
+abbrev pub way_state : Way → Option (List ℕ)
+way_state onward = None
+way_state stops = None
+way_state (enters s) = Some s
+
+-- A walk of a transition or of a connection, however many JOINs it follows.
+abbrev pub IsWalk : PlainProcess → Text → List Event → Option (List ℕ) → Type 0
+IsWalk p t events end = (n : ℕ) × (way : Way) × Walks (Follows p n) t events way × (end ≡ way_state way)
 
 -- A transition: what is set before its text, and its text.
 pub record Transition : Type 0 where
@@ -92,11 +140,11 @@ abbrev pub ReadsFrom : PlainProcess → Place → List Step → List ℕ → Typ
 ReadsFrom p place [] x = ⊥
 ReadsFrom p place (step ∷ []) x =
     (t : Transition) × Leads p place step t
-    × (events : List Event) × (end : Option (List ℕ)) × IsWalk t.text events end
+    × (events : List Event) × (end : Option (List ℕ)) × IsWalk p t.text events end
     × (reads_first (t.first ++ events) x ≡ true)
 ReadsFrom p place (step ∷ next ∷ steps) x =
     (t : Transition) × Leads p place step t
-    × (events : List Event) × (s : List ℕ) × IsWalk t.text events (Some s)
+    × (events : List Event) × (s : List ℕ) × IsWalk p t.text events (Some s)
     × (sets_in (t.first ++ events) x ≡ false)
     × ReadsFrom p (Some s) (next ∷ steps) x
 

@@ -7,9 +7,10 @@ use Rattle.sdl_tree.specs.declared.tree.Party.{Party}
 use Rattle.sdl_tree.specs.declared.tree.Party.TheVariants.{Environment, Process}
 use Rattle.sdl_tree.specs.declared.tree.Destination.{Destination}
 use Rattle.sdl_tree.specs.declared.tree.Destination.TheVariants as address
-use Rattle.sdl_tree.specs.Plain.{PlainSending, PlainAction, task, output, set_timer, reset_timer, PlainStimulus, PlainProcess, PlainPath, PlainBlock}
+use Rattle.sdl_tree.specs.Plain.{PlainSending, PlainAction, task, output, set_timer, reset_timer, PlainProcess, PlainPath, PlainBlock}
 use Rattle.sdl_tables.specs.Names.{same_name, is_in, routes_of, processes_of, timers_of}
-use Rattle.sdl_rules.specs.Actions.{in_actions}
+use Rattle.sdl_rules.specs.Statements.{Statement, acts, asks, covers, finishes}
+use Rattle.sdl_rules.specs.Actions.{Origin, begins, takes, in_statements}
 
 -- two ways to write one party
 abbrev pub same_party : Party → Party → Bool
@@ -62,28 +63,38 @@ abbrev pub answers : PlainBlock → PlainProcess → List ℕ → List ℕ → B
 answers b p s input =
     not (is_in (timers_of p) input) && list_all (λ q. carries b (party_of p) q s) (senders b (party_of p) input)
 
--- the same for all inputs that a transition has; START's has none, and no sender
-abbrev pub answers_all : PlainBlock → PlainProcess → List PlainStimulus → List ℕ → Bool
-answers_all b p [] s = false
-answers_all b p (i ∷ is) s = list_all (λ x. answers b p s x.name.name) (i ∷ is)
+-- the same for what a transition begins with; START has no sender
+abbrev pub answers_origin : PlainBlock → PlainProcess → List ℕ → Origin → Bool
+answers_origin b p s begins = false
+answers_origin b p s (takes x) = answers b p s x.name.name
+
+-- The same for all with which the transitions begin that come to a statement: nothing is asked of one to which none comes.
+abbrev pub answers_all : PlainBlock → PlainProcess → List Origin → List ℕ → Bool
+answers_all b p from s = list_all (answers_origin b p s) from
 
 -- whether signal s, so addressed, gets to somebody
-abbrev pub arrives : PlainBlock → PlainProcess → List PlainStimulus → Option Destination → List ℕ → Bool
-arrives b p is None s = nat_lt 0 (length (receivers b (party_of p) s))
-arrives b p is (Some (address.Sender at)) s = answers_all b p is s
-arrives b p is (Some (address.Process id)) s = carries b (party_of p) (Process id) s
+abbrev pub arrives : PlainBlock → PlainProcess → List Origin → Option Destination → List ℕ → Bool
+arrives b p from None s = nat_lt 0 (length (receivers b (party_of p) s))
+arrives b p from (Some (address.Sender at)) s = answers_all b p from s
+arrives b p from (Some (address.Process id)) s = carries b (party_of p) (Process id) s
 
-abbrev pub lost_sending : PlainBlock → PlainProcess → List PlainStimulus → Option Destination → PlainSending → List ℕ
-lost_sending b p is to x = if arrives b p is to x.signal.name then [] else x.signal.at ∷ []
+abbrev pub lost_sending : PlainBlock → PlainProcess → List Origin → Option Destination → PlainSending → List ℕ
+lost_sending b p from to x = if arrives b p from to x.signal.name then [] else x.signal.at ∷ []
 
-abbrev pub lost_action : PlainBlock → PlainProcess → List PlainStimulus → PlainAction → List ℕ
-lost_action b p is (task at assignments) = []
-lost_action b p is (output at sendings to) = flat_map (lost_sending b p is to) sendings
-lost_action b p is (set_timer at delay timer) = []
-lost_action b p is (reset_timer at timer) = []
+abbrev pub lost_action : PlainBlock → PlainProcess → List Origin → PlainAction → List ℕ
+lost_action b p from (task at assignments) = []
+lost_action b p from (output at sendings to) = flat_map (lost_sending b p from to) sendings
+lost_action b p from (set_timer at delay timer) = []
+lost_action b p from (reset_timer at timer) = []
+
+abbrev pub lost_statement : PlainBlock → PlainProcess → List Origin → Statement → List ℕ
+lost_statement b p from (acts a) = lost_action b p from a
+lost_statement b p from (asks at q c) = []
+lost_statement b p from (covers q ranges) = []
+lost_statement b p from (finishes e) = []
 
 abbrev pub without_receiver : PlainBlock → List ℕ
-without_receiver b = flat_map (λ p. in_actions (lost_action b p) p) (processes_of b)
+without_receiver b = flat_map (λ p. in_statements (lost_statement b p) p) (processes_of b)
 
 -- ---- S6: an OUTPUT that says to nobody, and that two or more would get
 
@@ -100,5 +111,11 @@ doubtful_action b p (output at sendings to) = flat_map (doubtful_sending b p to)
 doubtful_action b p (set_timer at delay timer) = []
 doubtful_action b p (reset_timer at timer) = []
 
+abbrev pub doubtful_statement : PlainBlock → PlainProcess → Statement → List ℕ
+doubtful_statement b p (acts a) = doubtful_action b p a
+doubtful_statement b p (asks at q c) = []
+doubtful_statement b p (covers q ranges) = []
+doubtful_statement b p (finishes e) = []
+
 abbrev pub with_two_receivers : PlainBlock → List ℕ
-with_two_receivers b = flat_map (λ p. in_actions (λ is. doubtful_action b p) p) (processes_of b)
+with_two_receivers b = flat_map (λ p. in_statements (λ from. doubtful_statement b p) p) (processes_of b)

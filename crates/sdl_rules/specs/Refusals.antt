@@ -6,10 +6,12 @@ use Rattle.sdl_rules.specs.Sound.{unknown_names, stray_ends, first_limit}
 use Rattle.sdl_rules.specs.Sorts.{wrong_sorts}
 use Rattle.sdl_rules.specs.Divisors.{bad_divisors}
 use Rattle.sdl_rules.specs.Receivers.{without_receiver, with_two_receivers}
+use Rattle.sdl_rules.specs.Joins.{join_cycles}
+use Rattle.sdl_rules.specs.Decisions.{unanswered}
 use Rattle.sdl_tables.specs.Scopes.{double_names}
 use Rattle.sdl_rules.specs.Paths.{ReadsUnset, NeverReadsUnset}
 use Rattle.sdl_rules.specs.declared.fault.RuleFault.{RuleFault}
-use Rattle.sdl_rules.specs.declared.fault.RuleFault.TheVariants.{DoubleName, UnknownName, WrongSort, NoState, NoReceiver, TwoReceivers, BadDivisor, Limit, Unset, NoMemory}
+use Rattle.sdl_rules.specs.declared.fault.RuleFault.TheVariants.{DoubleName, UnknownName, WrongSort, NoState, NoReceiver, TwoReceivers, JoinCycle, NoAnswer, BadDivisor, Limit, Unset, NoMemory}
 use Rattle.sdl_tables.specs.declared.fault.TableFault.{TableFault}
 use Rattle.sdl_tables.specs.declared.fault.TableFault.TheVariants.{DoubleName as NoTable, NoMemory as NoRoom}
 
@@ -21,6 +23,8 @@ pub record Sound (b : PlainBlock) : Type 0 where
   pub ended : stray_ends b ≡ []
   pub received : without_receiver b ≡ []
   pub single : with_two_receivers b ≡ []
+  pub joined : join_cycles b ≡ []
+  pub answered : unanswered b ≡ []
   pub divided : bad_divisors b ≡ []
   pub within : first_limit b ≡ None
   pub set : All NeverReadsUnset (processes_of b)
@@ -45,8 +49,14 @@ IsReceived b = IsEnded b × (without_receiver b ≡ [])
 abbrev pub IsSingle : PlainBlock → Type 0
 IsSingle b = IsReceived b × (with_two_receivers b ≡ [])
 
+abbrev pub IsJoined : PlainBlock → Type 0
+IsJoined b = IsSingle b × (join_cycles b ≡ [])
+
+abbrev pub IsAnswered : PlainBlock → Type 0
+IsAnswered b = IsJoined b × (unanswered b ≡ [])
+
 abbrev pub IsDivided : PlainBlock → Type 0
-IsDivided b = IsSingle b × (bad_divisors b ≡ [])
+IsDivided b = IsAnswered b × (bad_divisors b ≡ [])
 
 abbrev pub IsWithin : PlainBlock → Type 0
 IsWithin b = IsDivided b × (first_limit b ≡ None)
@@ -59,7 +69,9 @@ Refuses b (WrongSort at) = IsKnown b × Contains (wrong_sorts b) at
 Refuses b (NoState at) = IsSorted b × Contains (stray_ends b) at
 Refuses b (NoReceiver at) = IsEnded b × Contains (without_receiver b) at
 Refuses b (TwoReceivers at) = IsReceived b × Contains (with_two_receivers b) at
-Refuses b (BadDivisor at) = IsSingle b × Contains (bad_divisors b) at
+Refuses b (JoinCycle at) = IsSingle b × Contains (join_cycles b) at
+Refuses b (NoAnswer at) = IsJoined b × Contains (unanswered b) at
+Refuses b (BadDivisor at) = IsAnswered b × Contains (bad_divisors b) at
 Refuses b (Limit which) = IsDivided b × (first_limit b ≡ Some which)
 Refuses b (Unset x path) =
     IsWithin b × (p : PlainProcess) × Contains (processes_of b) p × ReadsUnset p path.steps.items x

@@ -1,11 +1,15 @@
 -- What a resolved block keeps.
 use Rattle.sdl_tree.specs.Views.{block_of}
 use Rattle.sdl_tables.specs.Names.{processes_of}
+use Rattle.sdl_rules.specs.Measures.{AllMeasures}
+use Rattle.sdl_rules.specs.Orders.{AreOrders}
 use Rattle.sdl_rules.specs.Refusals.{Sound}
 use Rattle.sdl_rules.specs.Surveys.{AllSettled}
 use Rattle.sdl_rules.specs.declared.resolved.Resolved.TheInside.{Inside}
 
--- it is sound, and the sets are those of its processes
+-- it is sound, and the sets, the orders and what is measured are those of its processes
 pub record IsResolved (r : Inside) : Type 0 where
   pub sound : Sound (block_of r.table)
   pub sets : AllSettled (processes_of (block_of r.table)) r.sets.items
+  pub orders : AreOrders (processes_of (block_of r.table)) r.orders.items
+  pub measures : AllMeasures (processes_of (block_of r.table)) r.measures.items

@@ -10,9 +10,9 @@ use Rattle.sdl_rules.specs.Paths.{Event, IsWalk, Transition, start_transition, i
 -- Where a transition begins with the variables `before` set, and `sets` are those of the states: what a walk reads before
 -- it sets it is set before, and what is set in the state where a walk ends is set before or set on the walk.
 pub record IsSettled (p : PlainProcess) (sets : List ℕ) (before : ℕ) (t : Transition) : Type 0 where
-  pub reads : (events : List Event) (end : Option (List ℕ)) (v : ℕ) (id : Identifier) → IsWalk t.text events end
+  pub reads : (events : List Event) (end : Option (List ℕ)) (v : ℕ) (id : Identifier) → IsWalk p t.text events end
       → slice_get (variable_names p) v ≡ Some id → reads_first (t.first ++ events) id.name ≡ true → bit_at before v ≡ 1
-  pub states : (events : List Event) (s : List ℕ) (q set v : ℕ) (id : Identifier) → IsWalk t.text events (Some s)
+  pub states : (events : List Event) (s : List ℕ) (q set v : ℕ) (id : Identifier) → IsWalk p t.text events (Some s)
       → number_of (states_of p) s ≡ Some q → slice_get sets q ≡ Some set → slice_get (variable_names p) v ≡ Some id
       → bit_at set v ≡ 1 → sets_in (t.first ++ events) id.name ≡ false → bit_at before v ≡ 1
 

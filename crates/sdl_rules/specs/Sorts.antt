@@ -1,6 +1,6 @@
--- Sorts: which one each operand, assigned value, initial value, parameter and place of an INPUT has to have, and the places
--- in the text where it has another one. (Z.100: expressions, sorts of data.)
-use Rattle.std.specs.Prelude.{ℕ, Bool, true, false, List, [], ◌∷◌, ◌++◌, Option, None, Some, if◌then◌else◌, length, nat_eq, nat_lt, find, zip}
+-- Sorts: which one each operand, assigned value, initial value, parameter, answer and place of an INPUT has to have, and the
+-- places in the text where it has another one. (Z.100: expressions, sorts of data.)
+use Rattle.std.specs.Prelude.{ℕ, Bool, true, false, ◌&&◌, List, [], ◌∷◌, ◌++◌, Option, None, Some, if◌then◌else◌, length, nat_eq, nat_lt, find, zip}
 use Rattle.std.specs.List.{flat_map}
 use Rattle.std.specs.Option.{option_map, option_map_or}
 use Rattle.sdl_tree.specs.declared.expression.Identifier.{Identifier}
@@ -11,12 +11,15 @@ use Rattle.sdl_tree.specs.declared.expression.BinaryOperator.TheVariants.{Or, Xo
 use Rattle.sdl_tree.specs.declared.tree.Sort.{Sort}
 use Rattle.sdl_tree.specs.declared.tree.Sort.TheVariants.{Integer, Boolean}
 use Rattle.sdl_tree.specs.declared.tree.Constant.{Constant}
+use Rattle.sdl_tree.specs.declared.tree.Range.{Range}
+use Rattle.sdl_tree.specs.declared.tree.Range.TheVariants.{Value, Compared, Between}
 use Rattle.sdl_tree.specs.declared.tree.Literal.{Literal}
 use Rattle.sdl_tree.specs.declared.tree.Literal.TheVariants as literal
 use Rattle.sdl_tree.specs.Plain.{Tree, number, truth, variable, unary, binary, PlainAssignment, PlainSending, PlainAction, task, output, set_timer, reset_timer, PlainStimulus, PlainInput, PlainProcess, PlainBlock}
 use Rattle.sdl_tree.specs.Expressions.{place_of}
 use Rattle.sdl_tables.specs.Names.{same_name, processes_of, signal_named, Variable, variables_of, input_parts}
-use Rattle.sdl_rules.specs.Actions.{in_actions}
+use Rattle.sdl_rules.specs.Statements.{Statement, acts, asks, covers, finishes}
+use Rattle.sdl_rules.specs.Actions.{in_statements}
 
 abbrev pub same_sort : Sort → Sort → Bool
 same_sort Integer Integer = true
@@ -86,6 +89,10 @@ sort_in vs (truth at value) = Some Boolean
 sort_in vs (variable at id) = variable_sort vs id.name
 sort_in vs (unary at operator operand) = Some (unary_sort operator)
 sort_in vs (binary at operator left right) = Some (binary_sort operator)
+
+-- whether a question is a Boolean one
+abbrev pub is_truth : List Variable → Tree → Bool
+is_truth vs q = has_sort Boolean (sort_in vs q)
 
 -- ---- S3: a wrong sort
 
@@ -161,13 +168,48 @@ abbrev pub literal_sort : Literal → Sort
 literal_sort (literal.Integer k) = Integer
 literal_sort (literal.Boolean b) = Boolean
 
+abbrev pub is_constant : Sort → Constant → Bool
+is_constant want c = same_sort want (literal_sort c.value)
+
 -- an initial value
 abbrev pub wrong_constant : Sort → Option Constant → List ℕ
 wrong_constant want None = []
-wrong_constant want (Some c) = if same_sort want (literal_sort c.value) then [] else c.at ∷ []
+wrong_constant want (Some c) = if is_constant want c then [] else c.at ∷ []
 
 abbrev pub wrong_initial : Variable → List ℕ
 wrong_initial v = wrong_constant v.sort v.initial
+
+-- the answers to a Boolean question are TRUE and FALSE, each alone
+abbrev pub answers_truth : Range → Bool
+answers_truth (Value c) = is_constant Boolean c
+answers_truth (Compared at relation c) = false
+answers_truth (Between low high) = false
+
+-- those to an Integer one are numbers: alone, with a relation, or in a range
+abbrev pub answers_number : Range → Bool
+answers_number (Value c) = is_constant Integer c
+answers_number (Compared at relation c) = is_constant Integer c
+answers_number (Between low high) = is_constant Integer low && is_constant Integer high
+
+-- the place of its first token
+abbrev pub range_place : Range → ℕ
+range_place (Value c) = c.at
+range_place (Compared at relation c) = at
+range_place (Between low high) = low.at
+
+-- whether an answer fits its question
+abbrev pub answers_question : List Variable → Tree → Range → Bool
+answers_question vs q r = if is_truth vs q then answers_truth r else answers_number r
+
+abbrev pub wrong_answer : List Variable → Tree → Range → List ℕ
+wrong_answer vs q r = if answers_question vs q r then [] else range_place r ∷ []
+
+-- a statement; a question may be of either sort
+abbrev pub wrong_statement : PlainBlock → List Variable → Statement → List ℕ
+wrong_statement b vs (acts a) = wrong_action b vs a
+wrong_statement b vs (asks at q c) = wrong_in vs q
+wrong_statement b vs (covers q ranges) = flat_map (wrong_answer vs q) ranges
+wrong_statement b vs (finishes e) = []
 
 -- the places of an INPUT
 abbrev pub wrong_input : PlainBlock → List Variable → PlainInput → List ℕ
@@ -180,4 +222,4 @@ wrong_declarations b p = flat_map wrong_initial (variables_of p) ++ flat_map (wr
 abbrev pub wrong_sorts : PlainBlock → List ℕ
 wrong_sorts b =
     flat_map (wrong_declarations b) (processes_of b)
-    ++ flat_map (λ p. in_actions (λ is. wrong_action b (variables_of p)) p) (processes_of b)
+    ++ flat_map (λ p. in_statements (λ from. wrong_statement b (variables_of p)) p) (processes_of b)

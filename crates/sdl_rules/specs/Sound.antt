@@ -7,9 +7,13 @@ use Rattle.sdl_tree.specs.declared.tree.Destination.{Destination}
 use Rattle.sdl_tree.specs.declared.tree.Destination.TheVariants.{Sender, Process as To}
 use Rattle.sdl_tree.specs.declared.tree.Party.{Party}
 use Rattle.sdl_tree.specs.declared.tree.Party.TheVariants.{Environment, Process}
-use Rattle.sdl_tree.specs.declared.tree.End.TheVariants.{NextState, Stop}
-use Rattle.sdl_tree.specs.Plain.{Tree, number, truth, variable, unary, binary, PlainAssignment, PlainSending, PlainAction, task, output, set_timer, reset_timer, Text, falls, ends, does, PlainStimulus, PlainInput, PlainState, PlainProcess, PlainPath, PlainRoute, PlainBlock}
-use Rattle.sdl_tables.specs.Names.{is_in, signals_of, routes_of, processes_of, signal_names, process_names, variables_of, variable_names, timers_of, states_of, input_parts, part_saves}
+use Rattle.sdl_tree.specs.declared.tree.End.{End}
+use Rattle.sdl_tree.specs.declared.tree.End.TheVariants.{NextState, Stop, Join}
+use Rattle.sdl_tree.specs.Plain.{Tree, number, truth, variable, unary, binary, PlainAssignment, PlainSending, PlainAction, task, output, set_timer, reset_timer, Text, falls, ends, does, decides, Choice, nothing_else, otherwise, answer, PlainConnection, PlainStimulus, PlainInput, PlainState, PlainProcess, PlainPath, PlainRoute, PlainBlock}
+use Rattle.sdl_tables.specs.Names.{is_in, signals_of, routes_of, processes_of, signal_names, process_names, variables_of, variable_names, timers_of, connector_names, states_of, input_parts, part_saves}
+use Rattle.sdl_rules.specs.Statements.{Statement, acts, asks, covers, finishes}
+use Rattle.sdl_rules.specs.Actions.{in_statements}
+use Rattle.sdl_rules.specs.Going.{choice_goes_on}
 use Rattle.sdl_rules.specs.Longest.{pieces_of, piece_size, piece_depth, piece_effects}
 use Rattle.sdl_rules.specs.declared.fault.Limit.{Limit}
 use Rattle.sdl_rules.specs.declared.fault.Limit.TheVariants.{Processes, States, Variables, Timers, Signals, Params, Pieces, Piece as PieceSize, Depth, Effects}
@@ -42,12 +46,6 @@ tree_names (binary at operator left right) = tree_names left ++ tree_names right
 abbrev pub assignment_names : PlainAssignment → List Identifier
 assignment_names a = a.variable ∷ tree_names a.value
 
--- the actions of a transition, in the order of the text
-abbrev pub actions_of : Text → List PlainAction
-actions_of falls = []
-actions_of (ends e) = []
-actions_of (does a rest) = a ∷ actions_of rest
-
 -- a signal that goes out, with the variables of its parameters
 abbrev pub sending_unknown : PlainBlock → PlainProcess → PlainSending → List ℕ
 sending_unknown b p s =
@@ -67,8 +65,17 @@ action_unknown b p (set_timer at delay timer) =
     unknown (variable_names p) (tree_names delay) ++ unknown (timers_of p) (timer ∷ [])
 action_unknown b p (reset_timer at timer) = unknown (timers_of p) (timer ∷ [])
 
-abbrev pub text_unknown : PlainBlock → PlainProcess → Text → List ℕ
-text_unknown b p t = flat_map (action_unknown b p) (actions_of t)
+-- the connector of a JOIN
+abbrev pub end_connectors : End → List Identifier
+end_connectors (NextState n) = []
+end_connectors (Stop at) = []
+end_connectors (Join j) = j.connector ∷ []
+
+abbrev pub statement_unknown : PlainBlock → PlainProcess → Statement → List ℕ
+statement_unknown b p (acts a) = action_unknown b p a
+statement_unknown b p (asks at q c) = unknown (variable_names p) (tree_names q)
+statement_unknown b p (covers q ranges) = []
+statement_unknown b p (finishes e) = unknown (connector_names p) (end_connectors e)
 
 -- what an INPUT or a SAVE may name: a signal, or a timer of the process
 abbrev pub trigger_names : PlainBlock → PlainProcess → List Identifier
@@ -82,34 +89,75 @@ abbrev pub stimulus_unknown : PlainBlock → PlainProcess → PlainStimulus → 
 stimulus_unknown b p s = unknown (trigger_names b p) (s.name ∷ []) ++ unknown (variable_names p) (place_names s.places)
 
 abbrev pub input_unknown : PlainBlock → PlainProcess → PlainInput → List ℕ
-input_unknown b p i = flat_map (stimulus_unknown b p) i.stimuli ++ text_unknown b p i.text
+input_unknown b p i = flat_map (stimulus_unknown b p) i.stimuli
 
 -- the names in the SAVEs of a STATE part
 abbrev pub saves_unknown : PlainBlock → PlainProcess → PlainState → List ℕ
 saves_unknown b p part = unknown (trigger_names b p) (part_saves part)
 
+-- what INPUTs and SAVEs name, and every statement
 abbrev pub process_unknown : PlainBlock → PlainProcess → List ℕ
 process_unknown b p =
-    text_unknown b p p.start.text ++ (flat_map (input_unknown b p) (input_parts p) ++ flat_map (saves_unknown b p) p.states)
+    flat_map (input_unknown b p) (input_parts p)
+    ++ (flat_map (saves_unknown b p) p.states ++ in_statements (λ from. statement_unknown b p) p)
 
 abbrev pub unknown_names : PlainBlock → List ℕ
 unknown_names b = flat_map (route_unknown b) (routes_of b) ++ flat_map (process_unknown b) (processes_of b)
 
--- ---- S4: a NEXTSTATE to a state without STATE, or a list of actions that runs off its end
+-- ---- S4: a NEXTSTATE to a state without STATE, a list of actions that runs off its end, or a statement behind a DECISION
+-- none of whose bodies goes on
 
--- the places in a text whose START or INPUT stands at `at`
-abbrev pub strays : List Identifier → ℕ → Text → List ℕ
-strays states at falls = at ∷ []
-strays states at (ends (NextState n)) = if is_in states n.state.name then [] else n.at ∷ []
-strays states at (ends (Stop place)) = []
-strays states at (does a rest) = strays states at rest
+abbrev pub action_place : PlainAction → ℕ
+action_place (task at assignments) = at
+action_place (output at sendings to) = at
+action_place (set_timer at delay timer) = at
+action_place (reset_timer at timer) = at
 
+abbrev pub end_place : End → ℕ
+end_place (NextState n) = n.at
+end_place (Stop at) = at
+end_place (Join j) = j.at
+
+-- the place of the statement with which a text begins; none where nothing stands there
+abbrev pub first_place : Text → List ℕ
+first_place falls = []
+first_place (ends e) = end_place e ∷ []
+first_place (does a rest) = action_place a ∷ []
+first_place (decides at q c rest) = at ∷ []
+
+abbrev pub stray_end : List Identifier → End → List ℕ
+stray_end states (NextState n) = if is_in states n.state.name then [] else n.at ∷ []
+stray_end states (Stop at) = []
+stray_end states (Join j) = []
+
+abbrev mutual
+  -- The places in a text that has `off` where it runs off its end. What stands behind a DECISION none of whose bodies goes on
+  -- is named in place of that end.
+  pub strays : List Identifier → List ℕ → Text → List ℕ
+  strays states off falls = off
+  strays states off (ends e) = stray_end states e
+  strays states off (does a rest) = strays states off rest
+  strays states off (decides at q c rest) =
+      choice_strays states c
+      ++ (if choice_goes_on c then strays states off rest else first_place rest ++ strays states [] rest)
+
+  -- a body that runs off its end goes on behind its DECISION
+  pub choice_strays : List Identifier → Choice → List ℕ
+  choice_strays states nothing_else = []
+  choice_strays states (otherwise body) = strays states [] body
+  choice_strays states (answer at ranges body others) = strays states [] body ++ choice_strays states others
+
+-- a list that runs off its end is named by its START, INPUT or CONNECTION
 abbrev pub input_strays : PlainProcess → PlainInput → List ℕ
-input_strays p i = strays (states_of p) i.at i.text
+input_strays p i = strays (states_of p) (i.at ∷ []) i.text
+
+abbrev pub connection_strays : PlainProcess → PlainConnection → List ℕ
+connection_strays p c = strays (states_of p) (c.at ∷ []) c.text
 
 abbrev pub process_strays : PlainProcess → List ℕ
 process_strays p =
-    strays (states_of p) p.start.at p.start.text ++ flat_map (input_strays p) (input_parts p)
+    strays (states_of p) (p.start.at ∷ []) p.start.text
+    ++ (flat_map (input_strays p) (input_parts p) ++ flat_map (connection_strays p) p.connections)
 
 abbrev pub stray_ends : PlainBlock → List ℕ
 stray_ends b = flat_map process_strays (processes_of b)
@@ -124,9 +172,9 @@ exceeds b Timers = list_any (λ p. nat_lt 8 (length (timers_of p))) (processes_o
 exceeds b Signals = nat_lt 128 (length (signals_of b))
 exceeds b Params = list_any (λ s. nat_lt 4 (length s.parameters)) (signals_of b)
 exceeds b Pieces = nat_lt 4096 (sum_by (λ p. length (pieces_of p)) (processes_of b))
-exceeds b PieceSize = list_any (λ q. nat_lt 512 (piece_size q)) (flat_map pieces_of (processes_of b))
-exceeds b Depth = list_any (λ q. nat_lt 16 (piece_depth q)) (flat_map pieces_of (processes_of b))
-exceeds b Effects = list_any (λ q. nat_lt 32 (piece_effects q)) (flat_map pieces_of (processes_of b))
+exceeds b PieceSize = list_any (λ p. list_any (λ q. nat_lt 512 (piece_size p q)) (pieces_of p)) (processes_of b)
+exceeds b Depth = list_any (λ p. list_any (λ q. nat_lt 16 (piece_depth p q)) (pieces_of p)) (processes_of b)
+exceeds b Effects = list_any (λ p. list_any (λ q. nat_lt 32 (piece_effects p q)) (pieces_of p)) (processes_of b)
 
 abbrev pub counts : List Limit
 counts = Processes ∷ States ∷ Variables ∷ Timers ∷ Signals ∷ Params ∷ Pieces ∷ []

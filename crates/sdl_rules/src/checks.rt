@@ -1,368 +1,60 @@
-//! The rules on names and ends: the first place at which a block breaks one.
-ghost use Rattle.std.specs.Prelude.{◌≡◌, ◌++◌, ◌∷◌, [], ℕ, List, Option, map, if◌then◌else◌};
+//! The rule on ends: the first place at which a list of actions runs off its end, leads to no state, or goes on behind a
+//! DECISION none of whose bodies does.
+ghost use Rattle.std.specs.Prelude.{◌≡◌, ℕ, List, ◌∷◌, [], map, if◌then◌else◌};
 ghost use Rattle.std.specs.List.{flat_map};
-ghost use Rattle.std.specs.Option.{option_to_list};
-ghost use Rattle.sdl_tree.specs.Plain.{output};
-ghost use Rattle.sdl_tree.specs.Views.{tree_of, assignment_of, sending_of, action_of, clause_of, state_of, end_text, text_of, stimulus_of, input_of, path_of, route_of, entity_of, process_of, block_of};
-ghost use Rattle.sdl_tables.specs.Names.{is_in, process_names, signal_names, variable_names, timers_of, clause_saves, states_of, routes_in, input_parts, processes_of};
-ghost use Rattle.sdl_rules.specs.Sound.{unknown, party_names, path_unknown, route_unknown, tree_names, assignment_names, sending_unknown, destination_names, action_unknown, text_unknown, trigger_names, saves_unknown, place_names, stimulus_unknown, input_unknown, process_unknown, unknown_names, strays, input_strays, process_strays, stray_ends};
+ghost use Rattle.sdl_tree.specs.declared.expression.Identifier as id;
+ghost use Rattle.sdl_tree.specs.Plain.{Text, does, decides, Choice, Tree};
+ghost use Rattle.sdl_tree.specs.Views.{action_of, end_text, text_of, statement_of, choice_of, else_choice, input_of, connection_of, process_of, block_of};
+ghost use Rattle.sdl_tables.specs.Names.{is_in};
 ghost use Rattle.sdl_tables.specs.Scopes.{Marks};
+ghost use Rattle.sdl_rules.specs.Going.{choice_goes_on};
+ghost use Rattle.sdl_rules.specs.Sound.{action_place, end_place, stray_end, strays, choice_strays, input_strays, connection_strays, process_strays, stray_ends};
+ghost use Rattle.sdl_rules.specs.Rests.{IsRest};
 
+use crate::going::a_body_goes_on;
 use sdl_tables::{BlockTable, NameTable, ProcessTable, earlier};
-use sdl_tree::{
-    Action, Assignment, Destination, End, Entity, Expression, Identifier, InputPart, NextState,
-    Output, Party, Path, Sending, SetTimer, StateClause, StatePart, Stimulus, Transition,
-};
+use sdl_tree::{Action, Connection, Decision, End, Identifier, InputPart, Statement, Transition};
 
-// The place of a name that a table lacks.
-fn missing(names: &NameTable, id: Identifier) -> Option<u32>
-    ensures { Marks result (if is_in names.now id.name then [] else id.at ∷ []) }
-{
-    if names.contains(id.name) {
-        None
-    } else {
-        Some(id.at)
-    }
+/// What is stray from some statement of a list on.
+#[derive(Clone, Copy)]
+pub(crate) struct Rest {
+    /// Where what stands first is.
+    first: Option<u32>,
+    /// The first stray place, where what runs off its end is named.
+    named: Option<u32>,
+    /// The first stray place, where it may run off.
+    free: Option<u32>,
 }
 
-fn first_unknown(names: &NameTable, ids: &[Identifier]) -> Option<u32>
-    ensures { Marks result (unknown names.now ids.now) }
-{
-    let mut place = None;
-    for id in ids {
-        place = earlier(place, missing(names, *id));
-    }
-    place
-}
-
-fn unknown_party(names: &NameTable, party: Party) -> Option<u32>
-    ensures { Marks result (unknown names.now (party_names party)) }
-{
-    match party {
-        Party::Environment => None,
-        Party::Process(id) => missing(names, id),
-    }
-}
-
-fn unknown_in_path(block: &BlockTable, path: &Path) -> Option<u32>
-    ensures { Marks result (path_unknown (block_of block.now) (path_of path.now)) }
-{
-    let processes = block.processes();
-    let from = unknown_party(processes, path.from);
-    let parties = earlier(from, unknown_party(processes, path.to));
-    earlier(parties, first_unknown(block.signals(), &path.signals))
-}
-
-fn unknown_in_paths(block: &BlockTable, paths: &[Path]) -> Option<u32>
-    ensures { Marks result (flat_map (path_unknown (block_of block.now)) (map path_of paths.now)) }
-{
-    let mut place = None;
-    for path in paths {
-        place = earlier(place, unknown_in_path(block, path));
-    }
-    place
-}
-
-fn unknown_in_routes(block: &BlockTable, entities: &[Entity]) -> Option<u32>
-    ensures { Marks result (flat_map (route_unknown (block_of block.now)) (flat_map routes_in (map entity_of entities.now))) }
-{
-    let mut place = None;
-    for entity in entities {
-        match entity {
-            Entity::Signals(_) => {}
-            Entity::Route(route) => place = earlier(place, unknown_in_paths(block, &route.paths)),
-            Entity::Connect(_) => {}
-            Entity::Process(_) => {}
-        }
-    }
-    place
-}
-
-fn unknown_in_expression(names: &NameTable, expression: &Expression) -> Option<u32>
-    ensures { Marks result (unknown names.now (tree_names (tree_of expression.now))) }
-{
-    match expression {
-        Expression::Number { .. } => None,
-        Expression::Truth { .. } => None,
-        Expression::Variable { name, .. } => missing(names, *name),
-        Expression::Unary { operand, .. } => unknown_in_expression(names, operand),
-        Expression::Binary { left, right, .. } => {
-            let first = unknown_in_expression(names, left);
-            earlier(first, unknown_in_expression(names, right))
-        }
-    }
-}
-
-fn unknown_in_assignment(names: &NameTable, assignment: &Assignment) -> Option<u32>
-    ensures { Marks result (unknown names.now (assignment_names (assignment_of assignment.now))) }
-{
-    let variable = missing(names, assignment.variable);
-    earlier(variable, unknown_in_expression(names, &assignment.value))
-}
-
-fn unknown_in_assignments(names: &NameTable, assignments: &[Assignment]) -> Option<u32>
-    ensures { Marks result (unknown names.now (flat_map assignment_names (map assignment_of assignments.now))) }
-{
-    let mut place = None;
-    for assignment in assignments {
-        place = earlier(place, unknown_in_assignment(names, assignment));
-    }
-    place
-}
-
-fn unknown_in_expressions(names: &NameTable, expressions: &[Expression]) -> Option<u32>
-    ensures { Marks result (unknown names.now (flat_map tree_names (map tree_of expressions.now))) }
-{
-    let mut place = None;
-    for expression in expressions {
-        place = earlier(place, unknown_in_expression(names, expression));
-    }
-    place
-}
-
-fn unknown_in_sending(block: &BlockTable, process: &ProcessTable, sending: &Sending) -> Option<u32>
-    ensures { Marks result (sending_unknown (block_of block.now) (process_of process.now) (sending_of sending.now)) }
-{
-    let signal = missing(block.signals(), sending.signal);
-    earlier(
-        signal,
-        unknown_in_expressions(process.variables(), &sending.parameters),
-    )
-}
-
-fn unknown_in_sendings(
-    block: &BlockTable,
-    process: &ProcessTable,
-    sendings: &[Sending],
-) -> Option<u32>
-    ensures { Marks result (flat_map (sending_unknown (block_of block.now) (process_of process.now)) (map sending_of sendings.now)) }
-{
-    let mut place = None;
-    for sending in sendings {
-        place = earlier(place, unknown_in_sending(block, process, sending));
-    }
-    place
-}
-
-fn unknown_destination(processes: &NameTable, to: Option<Destination>) -> Option<u32>
-    ensures { Marks result (unknown processes.now (destination_names to)) }
-{
-    match to {
-        None => None,
-        Some(Destination::Sender(_)) => None,
-        Some(Destination::Process(id)) => missing(processes, id),
-    }
-}
-
-fn unknown_in_output(block: &BlockTable, process: &ProcessTable, sent: &Output) -> Option<u32>
-    ensures { Marks result (action_unknown (block_of block.now) (process_of process.now) (output sent.now.at (map sending_of sent.now.sendings.items) sent.now.to)) }
-{
-    let sendings = unknown_in_sendings(block, process, &sent.sendings);
-    earlier(sendings, unknown_destination(block.processes(), sent.to))
-}
-
-fn unknown_in_set(process: &ProcessTable, set: &SetTimer) -> Option<u32>
-    ensures { Marks result (unknown (variable_names (process_of process.now)) (tree_names (tree_of set.now.delay))
-        ++ unknown (timers_of (process_of process.now)) (set.now.timer ∷ [])) }
-{
-    let delay = unknown_in_expression(process.variables(), &set.delay);
-    earlier(delay, missing(process.timers(), set.timer))
-}
-
-fn unknown_in_action(block: &BlockTable, process: &ProcessTable, action: &Action) -> Option<u32>
-    ensures { Marks result (action_unknown (block_of block.now) (process_of process.now) (action_of action.now)) }
+fn action_place(action: &Action) -> u32
+    ensures { result ≡ action_place (action_of action.now) }
 {
     match action {
-        Action::Task(task) => unknown_in_assignments(process.variables(), &task.assignments),
-        Action::Output(output) => unknown_in_output(block, process, output),
-        Action::Set(set) => unknown_in_set(process, set),
-        Action::Reset(reset) => missing(process.timers(), reset.timer),
+        Action::Task(task) => task.at,
+        Action::Output(output) => output.at,
+        Action::Set(set) => set.at,
+        Action::Reset(reset) => reset.at,
     }
 }
 
-fn unknown_in_actions(block: &BlockTable, process: &ProcessTable, actions: &[Action]) -> Option<u32>
-    ensures { Marks result (flat_map (action_unknown (block_of block.now) (process_of process.now)) (map action_of actions.now)) }
-{
-    let mut place = None;
-    for action in actions {
-        place = earlier(place, unknown_in_action(block, process, action));
-    }
-    place
-}
-
-fn unknown_in_transition(
-    block: &BlockTable,
-    process: &ProcessTable,
-    transition: &Transition,
-) -> Option<u32>
-    ensures { Marks result (text_unknown (block_of block.now) (process_of process.now) (text_of transition.now)) }
-{
-    unknown_in_actions(block, process, &transition.actions)
-}
-
-// The place of a name that is neither a signal nor a timer of the process.
-fn missing_trigger(block: &BlockTable, process: &ProcessTable, id: Identifier) -> Option<u32>
-    ensures { Marks result (if is_in (trigger_names (block_of block.now) (process_of process.now)) id.name then [] else id.at ∷ []) }
-{
-    if process.timers().contains(id.name) {
-        None
-    } else {
-        missing(block.signals(), id)
-    }
-}
-
-fn unknown_in_triggers(
-    block: &BlockTable,
-    process: &ProcessTable,
-    ids: &[Identifier],
-) -> Option<u32>
-    ensures { Marks result (unknown (trigger_names (block_of block.now) (process_of process.now)) ids.now) }
-{
-    let mut place = None;
-    for id in ids {
-        place = earlier(place, missing_trigger(block, process, *id));
-    }
-    place
-}
-
-fn unknown_in_saves(
-    block: &BlockTable,
-    process: &ProcessTable,
-    clauses: &[StateClause],
-) -> Option<u32>
-    ensures { Marks result (unknown (trigger_names (block_of block.now) (process_of process.now)) (flat_map clause_saves (map clause_of clauses.now))) }
-{
-    let mut place = None;
-    for clause in clauses {
-        match clause {
-            StateClause::Input(_) => {}
-            StateClause::Save(ids) => {
-                place = earlier(place, unknown_in_triggers(block, process, ids));
-            }
-        }
-    }
-    place
-}
-
-fn unknown_in_parts(block: &BlockTable, process: &ProcessTable, parts: &[StatePart]) -> Option<u32>
-    ensures { Marks result (flat_map (saves_unknown (block_of block.now) (process_of process.now)) (map state_of parts.now)) }
-{
-    let mut place = None;
-    for part in parts {
-        place = earlier(place, unknown_in_saves(block, process, &part.clauses));
-    }
-    place
-}
-
-fn unknown_place(names: &NameTable, place: Option<Identifier>) -> Option<u32>
-    ensures { Marks result (unknown names.now (option_to_list place)) }
-{
-    match place {
-        None => None,
-        Some(id) => missing(names, id),
-    }
-}
-
-fn unknown_in_places(names: &NameTable, places: &[Option<Identifier>]) -> Option<u32>
-    ensures { Marks result (unknown names.now (place_names places.now)) }
-{
-    let mut found = None;
-    for place in places {
-        found = earlier(found, unknown_place(names, *place));
-    }
-    found
-}
-
-fn unknown_in_stimulus(
-    block: &BlockTable,
-    process: &ProcessTable,
-    stimulus: &Stimulus,
-) -> Option<u32>
-    ensures { Marks result (stimulus_unknown (block_of block.now) (process_of process.now) (stimulus_of stimulus.now)) }
-{
-    let signal = missing_trigger(block, process, stimulus.name);
-    earlier(
-        signal,
-        unknown_in_places(process.variables(), &stimulus.places),
-    )
-}
-
-fn unknown_in_stimuli(
-    block: &BlockTable,
-    process: &ProcessTable,
-    stimuli: &[Stimulus],
-) -> Option<u32>
-    ensures { Marks result (flat_map (stimulus_unknown (block_of block.now) (process_of process.now)) (map stimulus_of stimuli.now)) }
-{
-    let mut place = None;
-    for stimulus in stimuli {
-        place = earlier(place, unknown_in_stimulus(block, process, stimulus));
-    }
-    place
-}
-
-fn unknown_in_input(block: &BlockTable, process: &ProcessTable, input: &InputPart) -> Option<u32>
-    ensures { Marks result (input_unknown (block_of block.now) (process_of process.now) (input_of input.now)) }
-{
-    let stimuli = unknown_in_stimuli(block, process, &input.stimuli);
-    earlier(
-        stimuli,
-        unknown_in_transition(block, process, &input.transition),
-    )
-}
-
-fn unknown_in_inputs(
-    block: &BlockTable,
-    process: &ProcessTable,
-    inputs: &[&InputPart],
-) -> Option<u32>
-    ensures { Marks result (flat_map (input_unknown (block_of block.now) (process_of process.now)) (map (λ i. input_of i.now) inputs.now)) }
-{
-    let mut place = None;
-    for input in inputs {
-        place = earlier(place, unknown_in_input(block, process, input));
-    }
-    place
-}
-
-fn unknown_in_process(block: &BlockTable, process: &ProcessTable) -> Option<u32>
-    ensures { Marks result (process_unknown (block_of block.now) (process_of process.now)) }
-{
-    let text = process.process();
-    let start = unknown_in_transition(block, process, &text.start.transition);
-    let inputs = unknown_in_inputs(block, process, process.parts());
-    earlier(
-        start,
-        earlier(inputs, unknown_in_parts(block, process, &text.states)),
-    )
-}
-
-fn unknown_in_processes(block: &BlockTable, processes: &[ProcessTable]) -> Option<u32>
-    ensures { Marks result (flat_map (process_unknown (block_of block.now)) (map process_of processes.now)) }
-{
-    let mut place = None;
-    for process in processes {
-        place = earlier(place, unknown_in_process(block, process));
-    }
-    place
-}
-
-/// The place of a name that its class and scope lack.
-pub(crate) fn unknown_name(block: &BlockTable) -> Option<u32>
-    ensures { Marks result (unknown_names (block_of block.now)) }
-{
-    let routes = unknown_in_routes(block, &block.block().entities);
-    earlier(routes, unknown_in_processes(block, block.tables()))
-}
-
-// Where an end leads to no state, or nothing ends what the START or INPUT at a place begins.
-fn stray_at_end(states: &NameTable, at: u32, end: Option<End>) -> Option<u32>
-    ensures { Marks result (strays states.now at (end_text end)) }
+fn end_place(end: &End) -> u32
+    ensures { result ≡ end_place end.now }
 {
     match end {
-        None => Some(at),
-        Some(End::NextState(NextState { at, state })) => missing_state(states, at, state),
-        Some(End::Stop(_)) => None,
+        End::NextState(next) => next.at,
+        End::Stop(at) => *at,
+        End::Join(join) => join.at,
+    }
+}
+
+// The place of an end that leads to no state.
+fn end_astray(states: &NameTable, end: &End) -> Option<u32>
+    ensures { Marks result (stray_end states.now end.now) }
+{
+    match end {
+        End::NextState(next) => missing_state(states, next.at, next.state),
+        End::Stop(_) => None,
+        End::Join(_) => None,
     }
 }
 
@@ -376,10 +68,109 @@ fn missing_state(states: &NameTable, at: u32, state: Identifier) -> Option<u32>
     }
 }
 
-fn stray(states: &NameTable, at: u32, transition: &Transition) -> Option<u32>
-    ensures { Marks result (strays states.now at (text_of transition.now)) }
+// What stands behind all statements; what runs off is named by a place.
+fn from_end(states: &NameTable, at: u32, end: &Option<End>) -> Rest
+    ensures { IsRest states.now at (end_text end.now) result }
 {
-    stray_at_end(states, at, transition.end)
+    match end {
+        None => Rest {
+            first: None,
+            named: Some(at),
+            free: None,
+        },
+        Some(end) => {
+            let astray = end_astray(states, end);
+            Rest {
+                first: Some(end_place(end)),
+                named: astray,
+                free: astray,
+            }
+        }
+    }
+}
+
+fn from_action(action: &Action, rest: Rest) -> Rest
+    ensures { (ids : List id.Identifier) (at : ℕ) (t : Text) → IsRest ids at t rest → IsRest ids at (does (action_of action.now) t) result }
+{
+    Rest {
+        first: Some(action_place(action)),
+        named: rest.named,
+        free: rest.free,
+    }
+}
+
+// Behind a DECISION one of whose bodies goes on the rest is as it is; behind another one it may not be there.
+fn from_decision(place: u32, bodies: Option<u32>, passes: bool, rest: Rest) -> Rest
+    ensures { (ids : List id.Identifier) (at : ℕ) (q : Tree) (c : Choice) (t : Text) → Marks bodies (choice_strays ids c) → passes ≡ choice_goes_on c → IsRest ids at t rest → IsRest ids at (decides place q c t) result }
+{
+    if passes {
+        Rest {
+            first: Some(place),
+            named: earlier(bodies, rest.named),
+            free: earlier(bodies, rest.free),
+        }
+    } else {
+        let astray = earlier(bodies, earlier(rest.first, rest.free));
+        Rest {
+            first: Some(place),
+            named: astray,
+            free: astray,
+        }
+    }
+}
+
+// What is stray in a transition; what runs off its end is named by a place.
+#[cycle(strays)]
+fn in_transition(states: &NameTable, at: u32, transition: &Transition) -> Rest
+    ensures { IsRest states.now at (text_of transition.now) result }
+{
+    let mut rest = from_end(states, at, &transition.end);
+    let count = transition.statements.len();
+    for behind in 0..count {
+        rest = from_statement(states, &transition.statements[count - 1 - behind], rest);
+    }
+    rest
+}
+
+#[cycle(strays)]
+fn from_statement(states: &NameTable, statement: &Statement, rest: Rest) -> Rest
+    ensures { (at : ℕ) (t : Text) → IsRest states.now at t rest → IsRest states.now at (statement_of statement.now t) result }
+{
+    match statement {
+        Statement::Act(action) => from_action(action, rest),
+        Statement::Decide(decision) => {
+            let bodies = in_bodies(states, decision);
+            from_decision(decision.at, bodies, a_body_goes_on(decision), rest)
+        }
+    }
+}
+
+// What is stray in the bodies of a DECISION, each of which may run off its end.
+#[cycle(strays)]
+fn in_bodies(states: &NameTable, decision: &Decision) -> Option<u32>
+    ensures { Marks result (choice_strays states.now (choice_of decision.now)) }
+{
+    let mut place = None;
+    for answer in &decision.answers {
+        place = earlier(place, in_transition(states, 0, &answer.body).free);
+    }
+    earlier(place, in_else(states, &decision.otherwise))
+}
+
+#[cycle(strays)]
+fn in_else(states: &NameTable, otherwise: &Option<Transition>) -> Option<u32>
+    ensures { Marks result (choice_strays states.now (else_choice otherwise.now)) }
+{
+    match otherwise {
+        None => None,
+        Some(body) => in_transition(states, 0, body).free,
+    }
+}
+
+fn stray(states: &NameTable, at: u32, transition: &Transition) -> Option<u32>
+    ensures { Marks result (strays states.now (at ∷ []) (text_of transition.now)) }
+{
+    in_transition(states, at, transition).named
 }
 
 fn stray_in_inputs(process: &ProcessTable, inputs: &[&InputPart]) -> Option<u32>
@@ -392,12 +183,25 @@ fn stray_in_inputs(process: &ProcessTable, inputs: &[&InputPart]) -> Option<u32>
     place
 }
 
+fn stray_in_connections(process: &ProcessTable, connections: &[Connection]) -> Option<u32>
+    ensures { Marks result (flat_map (connection_strays (process_of process.now)) (map connection_of connections.now)) }
+{
+    let mut place = None;
+    for connection in connections {
+        let transition = &connection.transition;
+        place = earlier(place, stray(process.states(), connection.at, transition));
+    }
+    place
+}
+
 fn stray_in_process(process: &ProcessTable) -> Option<u32>
     ensures { Marks result (process_strays (process_of process.now)) }
 {
-    let start = &process.process().start;
-    let first = stray(process.states(), start.at, &start.transition);
-    earlier(first, stray_in_inputs(process, process.parts()))
+    let text = process.process();
+    let first = stray(process.states(), text.start.at, &text.start.transition);
+    let inputs = stray_in_inputs(process, process.parts());
+    let beyond = earlier(inputs, stray_in_connections(process, &text.connections));
+    earlier(first, beyond)
 }
 
 fn stray_in_processes(processes: &[ProcessTable]) -> Option<u32>
@@ -410,8 +214,8 @@ fn stray_in_processes(processes: &[ProcessTable]) -> Option<u32>
     place
 }
 
-/// The place of a NEXTSTATE to a state that no STATE names, or of the START or INPUT whose actions
-/// run off their end.
+/// The place of a NEXTSTATE to a state that no STATE names, of the START, INPUT or CONNECTION whose actions
+/// run off their end, or of what stands behind a DECISION none of whose bodies goes on.
 pub(crate) fn stray_end(block: &BlockTable) -> Option<u32>
     ensures { Marks result (stray_ends (block_of block.now)) }
 {

@@ -53,7 +53,8 @@ fn bad_divisor(operator: BinaryOperator, right: &Expression) -> Option<u32>
     }
 }
 
-fn bad_in(expression: &Expression) -> Option<u32>
+/// The place of a divisor in an expression that is no literal of 1 or more.
+pub(crate) fn bad_in(expression: &Expression) -> Option<u32>
     ensures { Marks result (bad_divisors_in (tree_of expression.now)) }
 {
     match expression {

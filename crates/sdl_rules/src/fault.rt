@@ -81,11 +81,11 @@ pub enum RuleFault {
     /// A name that its class and scope lack.
     #[error("S2 UnknownName")]
     UnknownName(u32),
-    /// A value or a place of an INPUT with the wrong sort, or not as many of them as there have to be.
+    /// A value, an answer or a place of an INPUT with the wrong sort, or not as many of them as there have to be.
     #[error("S3 WrongSort")]
     WrongSort(u32),
-    /// A NEXTSTATE to a state that no STATE names, or a START or INPUT whose actions run off their
-    /// end: the place of that word.
+    /// A NEXTSTATE to a state that no STATE names, a START, INPUT or CONNECTION whose actions run off their end, or the
+    /// first statement behind a DECISION none of whose bodies goes on: the place of that word.
     #[error("S4 NoState")]
     NoState(u32),
     /// An OUTPUT that no route carries: the place of the signal's name.
@@ -94,6 +94,13 @@ pub enum RuleFault {
     /// An OUTPUT that says to nobody, and that routes carry to several: the place of the signal's name.
     #[error("S6 TwoReceivers")]
     TwoReceivers(u32),
+    /// A JOIN in a connection that comes back to it: the place of the JOIN.
+    #[error("S7 JoinCycle")]
+    JoinCycle(u32),
+    /// An Integer DECISION without ELSE, or a Boolean one in which a value isn't answered exactly once: the place of the
+    /// DECISION.
+    #[error("S8 NoAnswer")]
+    NoAnswer(u32),
     /// Right of `/`, MOD or REM stands no number of 1 or more: the place of what stands there.
     #[error("S9 BadDivisor")]
     BadDivisor(u32),

@@ -1,23 +1,33 @@
 #![tactic(auto)]
 
-mod actions;
 mod checks;
+mod counts;
+mod decisions;
 mod divisors;
 mod fault;
 mod flows;
+mod going;
+mod graph;
+mod joins;
+mod laws;
 mod limits;
+mod measures;
+mod names;
+mod order;
 mod receivers;
 mod resolved;
 mod search;
 mod sets;
 mod settled;
 mod sorts;
+mod sources;
+mod statements;
 
 pub use fault::{ControlPath, Limit, RuleFault, Step};
+pub use going::goes_on;
+pub use laws::{budget_law, chances_law};
+pub use measures::{Measure, code_size};
 pub use receivers::{Recipients, find_receivers};
 pub use resolved::{Resolved, resolve};
 pub use sdl_tables::{InputRow, NameTable, ProcessTable, Variable};
 pub use sorts::sort_in;
-
-#[cfg(test)]
-mod tests;

@@ -6,8 +6,11 @@ ghost use Rattle.sdl_tree.specs.Views.{sending_of, action_of, stimulus_of, path_
 ghost use Rattle.sdl_tables.specs.Names.{same_name, is_in};
 ghost use Rattle.sdl_tables.specs.Scopes.{Marks};
 ghost use Rattle.sdl_rules.specs.Receivers.{same_party, party_of, brings, carries, path_receivers, path_senders, add_party, receivers, senders, answers, answers_all, arrives, lost_sending, lost_action, is_doubtful, doubtful_sending, doubtful_action};
+ghost use Rattle.sdl_rules.specs.Actions.{takes};
+ghost use Rattle.sdl_rules.specs.Sources.{source_origins, origins_of};
 ghost use Rattle.sdl_rules.specs.Founds.{Counts, paths_in};
 
+use crate::sources::Source;
 use sdl_lex::Name;
 use sdl_tables::{BlockTable, ProcessTable, earlier};
 use sdl_tree::{Action, Destination, Identifier, Party, Path, Route, Sending, Stimulus};
@@ -203,7 +206,7 @@ fn answers_each(
     signal: Name,
     stimuli: &[Stimulus],
 ) -> bool
-    ensures { result ≡ list_all (λ x. answers (block_of block.now) (process_of process.now) signal x.name.name) (map stimulus_of stimuli.now) }
+    ensures { result ≡ answers_all (block_of block.now) (process_of process.now) (map takes (map stimulus_of stimuli.now)) signal }
 {
     let mut all = true;
     for stimulus in stimuli {
@@ -212,31 +215,34 @@ fn answers_each(
     all
 }
 
-fn answers_all(
-    block: &BlockTable,
-    process: &ProcessTable,
-    stimuli: &[Stimulus],
-    signal: Name,
-) -> bool
-    ensures { result ≡ answers_all (block_of block.now) (process_of process.now) (map stimulus_of stimuli.now) signal }
+// The same for what a transition begins with; START has no sender.
+fn answers_source(block: &BlockTable, process: &ProcessTable, signal: Name, source: &Source) -> bool
+    ensures { result ≡ answers_all (block_of block.now) (process_of process.now) (source_origins source.now) signal }
 {
-    match stimuli {
-        [] => false,
-        [first, rest @ ..] => {
-            answers(block, process, signal, first.name.name)
-                && answers_each(block, process, signal, rest)
-        }
+    match source {
+        Source::Start => false,
+        Source::Input(input) => answers_each(block, process, signal, &input.stimuli),
     }
+}
+
+fn answers_all(block: &BlockTable, process: &ProcessTable, from: &[Source], signal: Name) -> bool
+    ensures { result ≡ answers_all (block_of block.now) (process_of process.now) (origins_of from.now) signal }
+{
+    let mut all = true;
+    for source in from {
+        all = all && answers_source(block, process, signal, source);
+    }
+    all
 }
 
 fn arrives(
     block: &BlockTable,
     process: &ProcessTable,
-    stimuli: &[Stimulus],
+    from: &[Source],
     to: &Option<Destination>,
     signal: Name,
 ) -> bool
-    ensures { result ≡ arrives (block_of block.now) (process_of process.now) (map stimulus_of stimuli.now) to.now signal }
+    ensures { result ≡ arrives (block_of block.now) (process_of process.now) (origins_of from.now) to.now signal }
 {
     match to {
         None => match find_receivers(block, &party_of(process), signal) {
@@ -244,7 +250,7 @@ fn arrives(
             Recipients::One(_) => true,
             Recipients::Several => true,
         },
-        Some(Destination::Sender(_)) => answers_all(block, process, stimuli, signal),
+        Some(Destination::Sender(_)) => answers_all(block, process, from, signal),
         Some(Destination::Process(id)) => {
             carries(block, &party_of(process), &Party::Process(*id), signal)
         }
@@ -254,13 +260,13 @@ fn arrives(
 fn lost_sending(
     block: &BlockTable,
     process: &ProcessTable,
-    stimuli: &[Stimulus],
+    from: &[Source],
     to: &Option<Destination>,
     sending: &Sending,
 ) -> Option<u32>
-    ensures { Marks result (lost_sending (block_of block.now) (process_of process.now) (map stimulus_of stimuli.now) to.now (sending_of sending.now)) }
+    ensures { Marks result (lost_sending (block_of block.now) (process_of process.now) (origins_of from.now) to.now (sending_of sending.now)) }
 {
-    if arrives(block, process, stimuli, to, sending.signal.name) {
+    if arrives(block, process, from, to, sending.signal.name) {
         None
     } else {
         Some(sending.signal.at)
@@ -270,15 +276,15 @@ fn lost_sending(
 fn lost_sendings(
     block: &BlockTable,
     process: &ProcessTable,
-    stimuli: &[Stimulus],
+    from: &[Source],
     to: &Option<Destination>,
     sendings: &[Sending],
 ) -> Option<u32>
-    ensures { Marks result (flat_map (lost_sending (block_of block.now) (process_of process.now) (map stimulus_of stimuli.now) to.now) (map sending_of sendings.now)) }
+    ensures { Marks result (flat_map (lost_sending (block_of block.now) (process_of process.now) (origins_of from.now) to.now) (map sending_of sendings.now)) }
 {
     let mut place = None;
     for sending in sendings {
-        place = earlier(place, lost_sending(block, process, stimuli, to, sending));
+        place = earlier(place, lost_sending(block, process, from, to, sending));
     }
     place
 }
@@ -287,15 +293,15 @@ fn lost_sendings(
 pub(crate) fn lost_in_action(
     block: &BlockTable,
     process: &ProcessTable,
-    stimuli: &[Stimulus],
+    from: &[Source],
     action: &Action,
 ) -> Option<u32>
-    ensures { Marks result (lost_action (block_of block.now) (process_of process.now) (map stimulus_of stimuli.now) (action_of action.now)) }
+    ensures { Marks result (lost_action (block_of block.now) (process_of process.now) (origins_of from.now) (action_of action.now)) }
 {
     match action {
         Action::Task(_) => None,
         Action::Output(output) => {
-            lost_sendings(block, process, stimuli, &output.to, &output.sendings)
+            lost_sendings(block, process, from, &output.to, &output.sendings)
         }
         Action::Set(_) => None,
         Action::Reset(_) => None,

@@ -2,25 +2,33 @@
 ghost use Rattle.std.specs.Prelude.{◌≡◌, List, map, IfOk, IfErr};
 ghost use Rattle.sdl_tree.specs.Views.{signal_of, route_of, process_of, block_of};
 ghost use Rattle.sdl_tables.specs.Names.{signal_names, signals_of, process_names, processes_of, routes_of};
+ghost use Rattle.sdl_rules.specs.Orders.{AreOrders};
+ghost use Rattle.sdl_rules.specs.Measures.{AllMeasures};
 ghost use Rattle.sdl_rules.specs.Surveys.{AllSettled};
-ghost use Rattle.sdl_rules.specs.Refusals.{Sound, Refuses};
+ghost use Rattle.sdl_rules.specs.Refusals.{Sound, IsDistinct, IsSingle, IsJoined, IsDivided, IsWithin, Refuses};
 
-use crate::actions::{bad_divisor, doubtful_output, lost_output, wrong_sort};
-use crate::checks::{stray_end, unknown_name};
+use crate::checks::stray_end;
 use crate::fault::RuleFault;
 use crate::limits::first_limit;
+use crate::measures::{Measure, measure_all};
+use crate::order::find_orders;
 use crate::settled::{Unset, settle};
+use crate::statements::{
+    bad_divisor, doubtful_output, lost_output, missing_answer, unknown_name, wrong_sort,
+};
 use sdl_tables::{BlockTable, NameTable, ProcessTable};
 use sdl_tree::{Block, Route, SignalDeclaration};
 use std::alloc::Global;
 use std::marker::Model;
 
-/// A sound block with its tables, and for each process the variables that are set in each of its states. Contracts see
-/// the block.
+/// A sound block with its tables; for each process the variables that are set in each of its states, an order of its
+/// connections, and what is measured of each. Contracts see the block.
 #[derive(Drop)]
 pub struct Resolved<'a> {
     table: BlockTable<'a>,
     sets: Vec<Vec<u32>>,
+    orders: Vec<Vec<usize>>,
+    measures: Vec<Vec<Measure>>,
 }
 
 impl<'a> Model for Resolved<'a> {
@@ -37,6 +45,77 @@ impl<'a> Model for Resolved<'a> {
     ghost invariant = { IsResolved };
 }
 
+// The rules on names, sorts, ends and receivers.
+fn check_names(alloc: Global, block: &BlockTable) -> Result<(), RuleFault>
+    requires { IsDistinct (block_of block.now) }
+    ensures kept { IfOk result (λ _. IsSingle (block_of block.now)) }
+    ensures refused { IfErr result (λ e. Refuses (block_of block.now) e) }
+{
+    if let Some(at) = unknown_name(block) {
+        return Err(RuleFault::UnknownName(at));
+    }
+    if let Some(at) = wrong_sort(block) {
+        return Err(RuleFault::WrongSort(at));
+    }
+    if let Some(at) = stray_end(block) {
+        return Err(RuleFault::NoState(at));
+    }
+    if let Some(at) = lost_output(alloc, block)? {
+        return Err(RuleFault::NoReceiver(at));
+    }
+    if let Some(at) = doubtful_output(block) {
+        return Err(RuleFault::TwoReceivers(at));
+    }
+    Ok(())
+}
+
+// The rule on JOINs: an order of the connections of each process.
+fn check_joins(alloc: Global, block: &BlockTable) -> Result<Vec<Vec<usize>>, RuleFault>
+    requires { IsSingle (block_of block.now) }
+    ensures kept { IfOk result (λ orders. IsJoined (block_of block.now)) }
+    ensures orders { IfOk result (λ orders. AreOrders (processes_of (block_of block.now)) orders.items) }
+    ensures refused { IfErr result (λ e. Refuses (block_of block.now) e) }
+{
+    match find_orders(alloc, block)? {
+        Ok(orders) => Ok(orders),
+        Err(at) => Err(RuleFault::JoinCycle(at)),
+    }
+}
+
+// The rules on answers and divisors.
+fn check_answers(block: &BlockTable) -> Result<(), RuleFault>
+    requires { IsJoined (block_of block.now) }
+    ensures kept { IfOk result (λ _. IsDivided (block_of block.now)) }
+    ensures refused { IfErr result (λ e. Refuses (block_of block.now) e) }
+{
+    if let Some(at) = missing_answer(block) {
+        return Err(RuleFault::NoAnswer(at));
+    }
+    if let Some(at) = bad_divisor(block) {
+        return Err(RuleFault::BadDivisor(at));
+    }
+    Ok(())
+}
+
+// The limits: what is measured of the connections of each process.
+fn check_limits(
+    alloc: Global,
+    block: &BlockTable,
+    orders: &[Vec<usize>],
+) -> Result<Vec<Vec<Measure>>, RuleFault>
+    requires kept { IsDivided (block_of block.now) }
+    requires orders { AreOrders (processes_of (block_of block.now)) orders.now }
+    ensures kept { IfOk result (λ measures. IsWithin (block_of block.now)) }
+    ensures measures { IfOk result (λ measures. AllMeasures (processes_of (block_of block.now)) measures.items) }
+    ensures refused { IfErr result (λ e. Refuses (block_of block.now) e) }
+{
+    let measures = measure_all(alloc, block, orders)?;
+    match first_limit(alloc, block, &measures)? {
+        None => Ok(measures),
+        Some(which) => Err(RuleFault::Limit(which)),
+    }
+}
+
 /// Gives a block its tables if it is sound, and else says which rule it breaks and where.
 ///
 /// Of several broken rules the least is named, by the number in its code, and of several places of
@@ -44,36 +123,24 @@ impl<'a> Model for Resolved<'a> {
 /// of any other. Of several control paths that read a variable before it is set the one with the fewest
 /// transitions is named, over all processes and variables; of those the first by the order of its transitions
 /// in the text (START, then the inputs of each state, states in the order of their first STATE), and then the
-/// one whose variable is read first in its last transition.
+/// one with the least place in the text where a walk of the last transition reads the variable unset.
 pub fn resolve<'a>(alloc: Global, block: &'a Block) -> Result<Resolved<'a>, RuleFault>
     ensures block { IfOk result (λ r. r ≡ block.now) }
     ensures sound { IfOk result (λ r. Sound (block_of block.now)) }
     ensures refused { IfErr result (λ e. Refuses (block_of block.now) e) }
 {
     let table = BlockTable::new(alloc, block)?;
-    if let Some(at) = unknown_name(&table) {
-        return Err(RuleFault::UnknownName(at));
-    }
-    if let Some(at) = wrong_sort(&table) {
-        return Err(RuleFault::WrongSort(at));
-    }
-    if let Some(at) = stray_end(&table) {
-        return Err(RuleFault::NoState(at));
-    }
-    if let Some(at) = lost_output(&table) {
-        return Err(RuleFault::NoReceiver(at));
-    }
-    if let Some(at) = doubtful_output(&table) {
-        return Err(RuleFault::TwoReceivers(at));
-    }
-    if let Some(at) = bad_divisor(&table) {
-        return Err(RuleFault::BadDivisor(at));
-    }
-    if let Some(which) = first_limit(&table) {
-        return Err(RuleFault::Limit(which));
-    }
-    match settle(alloc, &table)? {
-        Ok(sets) => Ok(Resolved { table, sets }),
+    check_names(alloc, &table)?;
+    let orders = check_joins(alloc, &table)?;
+    check_answers(&table)?;
+    let measures = check_limits(alloc, &table, &orders)?;
+    match settle(alloc, &table, &orders)? {
+        Ok(sets) => Ok(Resolved {
+            table,
+            sets,
+            orders,
+            measures,
+        }),
         Err(Unset { variable, path }) => Err(RuleFault::Unset { variable, path }),
     }
 }
@@ -135,5 +202,19 @@ impl<'a> Resolved<'a> {
         ensures { AllSettled (processes_of (block_of self.now)) result.now }
     {
         &self.sets
+    }
+
+    /// For each process, by number, an order of its connections, by number: each stands behind all that its JOINs lead to.
+    pub fn orders(&self) -> &[Vec<usize>]
+        ensures { AreOrders (processes_of (block_of self.now)) result.now }
+    {
+        &self.orders
+    }
+
+    /// For each process, by number, what is measured of its connections, by number.
+    pub fn measures(&self) -> &[Vec<Measure>]
+        ensures { AllMeasures (processes_of (block_of self.now)) result.now }
+    {
+        &self.measures
     }
 }

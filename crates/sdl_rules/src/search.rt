@@ -1,7 +1,12 @@
 //! Which variables of a process a control path reads before they are set, and by which path.
-ghost use Rattle.std.specs.Prelude.{◌≡◌, ◌⊎◌, ℕ, ◌<◌, ◌≤◌, true, List, Option, None, Some, length, slice_get, IfOk, IfSome, IfNone, All};
+ghost use Rattle.std.specs.Prelude.{◌≡◌, ◌⊎◌, [], ℕ, ◌<◌, ◌≤◌, true, List, Option, None, Some, length, slice_get, IfOk, IfSome, IfNone, All};
 ghost use Rattle.std.specs.List.{AllZip};
+ghost use Rattle.sdl_tree.specs.Plain.{PlainBlock};
 ghost use Rattle.sdl_tree.specs.Views.{process_of, block_of};
+ghost use Rattle.sdl_rules.specs.Sound.{process_unknown};
+ghost use Rattle.sdl_rules.specs.Actions.{in_statements};
+ghost use Rattle.sdl_rules.specs.Decisions.{statement_unanswered};
+ghost use Rattle.sdl_rules.specs.Orders.{IsOrder};
 ghost use Rattle.sdl_tables.specs.Names.{same_name, variables_of, states_of, inputs_of};
 ghost use Rattle.sdl_rules.specs.Fates.{AreFates, AreSet, IsUnsetAt, IsStep, IsNamed};
 ghost use Rattle.std.specs.Global.{Vec};
@@ -12,23 +17,56 @@ ghost use Rattle.unset_paths.specs.declared.Fate.TheVariants.{Unset as Path};
 use crate::fault::{ControlPath, Step};
 use crate::flows::graph_of;
 use sdl_lex::Name;
-use sdl_tables::{BlockTable, ProcessTable};
-use sdl_tree::{Action, Assignment, Expression, Sending, Transition};
+use sdl_tables::{BlockTable, ProcessTable, earlier};
+use sdl_tree::{Action, Assignment, Decision, End, Expression, Sending, Statement, Transition};
 use std::alloc::{AllocError, Global};
 use std::cmp::Ordering;
 use unset_paths::{Fate, first_unset};
 
-/// What becomes of each variable of a process, by number.
-pub(crate) fn find_fates(alloc: Global, table: &ProcessTable) -> Result<Vec<Fate>, AllocError>
+/// What becomes of each variable of a process, by number. The order is one of its connections, each behind those that it
+/// joins.
+pub(crate) fn find_fates(
+    alloc: Global,
+    table: &ProcessTable,
+    order: &[usize],
+) -> Result<Vec<Fate>, AllocError>
     requires few { length (variables_of (process_of table.now)) ≤ 32 }
+    requires known { (b : PlainBlock) × (process_unknown b (process_of table.now) ≡ []) }
+    requires answered { in_statements (λ from. statement_unanswered (variables_of (process_of table.now))) (process_of table.now) ≡ [] }
+    requires order { IsOrder (process_of table.now) order.now }
     ensures { IfOk result (λ v. AreFates (process_of table.now) v.items) }
 {
-    let graph = graph_of(alloc, table)?;
+    let graph = graph_of(alloc, table, order)?;
     let mut fates = Vec::new(alloc);
     for variable in 0..table.rows().len() {
         fates.push(first_unset(alloc, &graph, variable as u32)?)?;
     }
     Ok(fates)
+}
+
+// What the walks meet that come to some place of a text with a variable unset.
+#[derive(Clone, Copy)]
+struct Sight {
+    // Whether some walk does.
+    is_unset: bool,
+    // The least place where one of them read it.
+    read: Option<u32>,
+}
+
+impl Sight {
+    fn at_start() -> Sight {
+        Sight {
+            is_unset: true,
+            read: None,
+        }
+    }
+
+    // Behind a read at a place, if there is one.
+    fn meet(&mut self, place: Option<u32>) {
+        if self.is_unset {
+            self.read = earlier(self.read, place);
+        }
+    }
 }
 
 // The place of the first read of a variable in an expression.
@@ -51,54 +89,139 @@ fn read_in_expression(expression: &Expression, name: Name) -> Option<u32> {
     }
 }
 
-// The place of the first read of a variable in some assignments.
-fn read_in_assignments(assignments: &[Assignment], name: Name) -> Option<u32> {
+fn see_assignments(sight: &mut Sight, assignments: &[Assignment], name: Name) {
     for assignment in assignments {
-        if let Some(at) = read_in_expression(&assignment.value, name) {
-            return Some(at);
+        sight.meet(read_in_expression(&assignment.value, name));
+        if assignment.variable.name.folded() == name.folded() {
+            sight.is_unset = false;
         }
     }
-    None
 }
 
-// The place of the first read of a variable in some parameters.
-fn read_in_parameters(parameters: &[Expression], name: Name) -> Option<u32> {
+fn see_parameters(sight: &mut Sight, parameters: &[Expression], name: Name) {
     for parameter in parameters {
-        if let Some(at) = read_in_expression(parameter, name) {
-            return Some(at);
-        }
+        sight.meet(read_in_expression(parameter, name));
     }
-    None
 }
 
-// The place of the first read of a variable in some signals that go out.
-fn read_in_sendings(sendings: &[Sending], name: Name) -> Option<u32> {
+fn see_sendings(sight: &mut Sight, sendings: &[Sending], name: Name) {
     for sending in sendings {
-        if let Some(at) = read_in_parameters(&sending.parameters, name) {
-            return Some(at);
-        }
+        see_parameters(sight, &sending.parameters, name);
     }
-    None
 }
 
-// The place of the first read of a variable in an action.
-fn read_in_action(action: &Action, name: Name) -> Option<u32> {
+fn see_action(sight: &mut Sight, action: &Action, name: Name) {
     match action {
-        Action::Task(task) => read_in_assignments(&task.assignments, name),
-        Action::Output(output) => read_in_sendings(&output.sendings, name),
-        Action::Set(set) => read_in_expression(&set.delay, name),
-        Action::Reset(_) => None,
+        Action::Task(task) => see_assignments(sight, &task.assignments, name),
+        Action::Output(output) => see_sendings(sight, &output.sendings, name),
+        Action::Set(set) => sight.meet(read_in_expression(&set.delay, name)),
+        Action::Reset(_) => {}
     }
 }
 
-// The place of the first read of a variable in a transition.
-fn read_in_transition(transition: &Transition, name: Name) -> Option<u32> {
-    for action in &transition.actions {
-        if let Some(at) = read_in_action(action, name) {
-            return Some(at);
+// The least place of an unset read in the connection that an end joins, if it joins one.
+fn place_behind(table: &ProcessTable, places: &[Option<u32>], end: End) -> Option<u32> {
+    match end {
+        End::NextState(_) => None,
+        End::Stop(_) => None,
+        End::Join(join) => {
+            let number = table.connectors().number(join.connector.name)?;
+            *places.get(number)?
         }
     }
-    None
+}
+
+#[cycle(seeing)]
+fn see_transition(
+    table: &ProcessTable,
+    places: &[Option<u32>],
+    sight: &mut Sight,
+    transition: &Transition,
+    name: Name,
+) {
+    for statement in &transition.statements {
+        see_statement(table, places, sight, statement, name);
+    }
+    match transition.end {
+        None => {}
+        Some(end) => {
+            sight.meet(place_behind(table, places, end));
+            sight.is_unset = false;
+        }
+    }
+}
+
+#[cycle(seeing)]
+fn see_statement(
+    table: &ProcessTable,
+    places: &[Option<u32>],
+    sight: &mut Sight,
+    statement: &Statement,
+    name: Name,
+) {
+    match statement {
+        Statement::Act(action) => see_action(sight, action, name),
+        Statement::Decide(decision) => {
+            sight.meet(read_in_expression(&decision.question, name));
+            see_answers(table, places, sight, decision, name);
+        }
+    }
+}
+
+// Each answer begins as the first one does.
+#[cycle(seeing)]
+fn see_answers(
+    table: &ProcessTable,
+    places: &[Option<u32>],
+    sight: &mut Sight,
+    decision: &Decision,
+    name: Name,
+) {
+    let before = sight.is_unset;
+    let mut after = false;
+    for answer in &decision.answers {
+        see_transition(table, places, sight, &answer.body, name);
+        after |= sight.is_unset;
+        sight.is_unset = before;
+    }
+    match &decision.otherwise {
+        None => {}
+        Some(body) => {
+            see_transition(table, places, sight, body, name);
+            after |= sight.is_unset;
+        }
+    }
+    sight.is_unset = after;
+}
+
+fn no_places(alloc: Global, count: usize) -> Result<Vec<Option<u32>>, AllocError> {
+    let mut places = Vec::new(alloc);
+    for _number in 0..count {
+        places.push(None)?;
+    }
+    Ok(places)
+}
+
+// The least place of an unset read in each connection, by number, if a walk comes to it with the variable unset: each
+// connection of the order is joined by later ones alone.
+fn connection_places(
+    alloc: Global,
+    table: &ProcessTable,
+    order: &[usize],
+    name: Name,
+) -> Result<Vec<Option<u32>>, AllocError> {
+    let connections = &table.process().connections;
+    let mut places = no_places(alloc, connections.len())?;
+    for number in order {
+        let mut sight = Sight::at_start();
+        if let Some(connection) = connections.get(*number) {
+            see_transition(table, &places, &mut sight, &connection.transition, name);
+        }
+        if *number < places.len() {
+            places[*number] = sight.read;
+        }
+    }
+    Ok(places)
 }
 
 // The last transition of a path.
@@ -115,11 +238,39 @@ fn last_transition<'a>(
     }
 }
 
-// Where the last transition of a path reads a variable.
-fn read_place(table: &ProcessTable, path: &[unset_paths::Step], variable: usize) -> Option<u32> {
-    let transition = last_transition(table, path)?;
-    let id = table.variables().get(variable)?;
-    read_in_transition(transition, id.name)
+// The least place where the last transition of a path reads a variable unset.
+fn read_place(
+    alloc: Global,
+    table: &ProcessTable,
+    order: &[usize],
+    path: &[unset_paths::Step],
+    name: Name,
+) -> Result<Option<u32>, AllocError> {
+    let places = connection_places(alloc, table, order, name)?;
+    let mut sight = Sight::at_start();
+    if let Some(transition) = last_transition(table, path) {
+        see_transition(table, &places, &mut sight, transition, name);
+    }
+    Ok(sight.read)
+}
+
+/// For each variable, by number, the least place where the path that reads it unset does; none where no path does.
+pub(crate) fn read_places(
+    alloc: Global,
+    table: &ProcessTable,
+    order: &[usize],
+    fates: &[Fate],
+) -> Result<Vec<Option<u32>>, AllocError> {
+    let mut places = Vec::new(alloc);
+    for (variable, row) in table.rows().iter().enumerate() {
+        let path = path_at(fates, variable);
+        if path.is_empty() {
+            places.push(None)?;
+        } else {
+            places.push(read_place(alloc, table, order, path, row.name.name)?)?;
+        }
+    }
+    Ok(places)
 }
 
 /// The path that reads a variable unset; empty where there is none.
@@ -133,27 +284,34 @@ pub(crate) fn path_at(fates: &[Fate], variable: usize) -> &[unset_paths::Step]
     }
 }
 
+fn place_at(places: &[Option<u32>], variable: usize) -> Option<u32> {
+    match places.get(variable) {
+        Some(place) => *place,
+        None => None,
+    }
+}
+
 // Whether the first variable is named before the other: its path has fewer transitions, or its first other transition
-// comes first in the text, or the last transition reads it first.
-fn comes_first(table: &ProcessTable, fates: &[Fate], one: usize, other: usize) -> bool {
+// comes first in the text, or its unset read does.
+fn comes_first(fates: &[Fate], places: &[Option<u32>], one: usize, other: usize) -> bool {
     let path = path_at(fates, one);
     let other_path = path_at(fates, other);
     let order = path.len().cmp(&other_path.len()).then(path.cmp(other_path));
     match order {
         Ordering::Less => true,
         Ordering::Greater => false,
-        Ordering::Equal => { read_place(table, path, one) < read_place(table, other_path, other) }
+        Ordering::Equal => place_at(places, one) < place_at(places, other),
     }
 }
 
 // The one of two variables that is named.
-fn first_of(table: &ProcessTable, fates: &[Fate], best: Option<usize>, other: usize) -> usize
+fn first_of(fates: &[Fate], places: &[Option<u32>], best: Option<usize>, other: usize) -> usize
     ensures { (result ≡ other) ⊎ (best ≡ Some result) }
 {
     match best {
         None => other,
         Some(one) => {
-            if comes_first(table, fates, other, one) {
+            if comes_first(fates, places, other, one) {
                 other
             } else {
                 one
@@ -163,7 +321,7 @@ fn first_of(table: &ProcessTable, fates: &[Fate], best: Option<usize>, other: us
 }
 
 /// The variable that is named, of those that are read unset.
-pub(crate) fn find_first(table: &ProcessTable, fates: &[Fate]) -> Option<usize>
+pub(crate) fn find_first(fates: &[Fate], places: &[Option<u32>]) -> Option<usize>
     ensures found { IfSome result (IsUnsetAt fates.now) }
     ensures none { IfNone result (AreSet fates.now) }
 {
@@ -171,7 +329,7 @@ pub(crate) fn find_first(table: &ProcessTable, fates: &[Fate]) -> Option<usize>
     for (variable, fate) in fates.iter().enumerate() {
         match fate {
             Fate::Set(_) => {}
-            Fate::Unset(_) => best = Some(first_of(table, fates, best, variable)),
+            Fate::Unset(_) => best = Some(first_of(fates, places, best, variable)),
         }
     }
     best

@@ -1,12 +1,16 @@
 //! Whether control paths read variables before they are set, and if none does, what is set in each state.
-ghost use Rattle.std.specs.Prelude.{◌≡◌, ◌⊎◌, ◌≤◌, [], All, Some, length, IfOk};
+ghost use Rattle.std.specs.Prelude.{◌≡◌, ◌⊎◌, ◌≤◌, [], Some, length, IfOk};
 ghost use Rattle.sdl_tree.specs.Views.{process_of, block_of};
 ghost use Rattle.sdl_tables.specs.Names.{variables_of, processes_of};
 ghost use Rattle.sdl_rules.specs.Sound.{process_unknown};
+ghost use Rattle.sdl_rules.specs.Actions.{in_statements};
+ghost use Rattle.sdl_rules.specs.Decisions.{statement_unanswered};
+ghost use Rattle.sdl_rules.specs.Orders.{IsOrder, AreOrders};
+ghost use Rattle.sdl_rules.specs.Refusals.{IsWithin};
 ghost use Rattle.sdl_rules.specs.Surveys.{IsSurvey, AreSurveys};
 
 use crate::fault::ControlPath;
-use crate::search::{find_fates, find_first, named_path, path_at};
+use crate::search::{find_fates, find_first, named_path, path_at, read_places};
 use crate::sets::sets_in;
 use sdl_lex::Name;
 use sdl_tables::{BlockTable, ProcessTable};
@@ -24,13 +28,17 @@ fn survey(
     alloc: Global,
     block: &BlockTable,
     table: &ProcessTable,
+    order: &[usize],
 ) -> Result<Result<Vec<u32>, Unset>, AllocError>
     requires few { length (variables_of (process_of table.now)) ≤ 32 }
     requires known { process_unknown (block_of block.now) (process_of table.now) ≡ [] }
+    requires answered { in_statements (λ from. statement_unanswered (variables_of (process_of table.now))) (process_of table.now) ≡ [] }
+    requires order { IsOrder (process_of table.now) order.now }
     ensures { IfOk result (IsSurvey (process_of table.now)) }
 {
-    let fates = find_fates(alloc, table)?;
-    match find_first(table, &fates) {
+    let fates = find_fates(alloc, table, order)?;
+    let places = read_places(alloc, table, order, &fates)?;
+    match find_first(&fates, &places) {
         None => {
             let sets = sets_in(alloc, &fates, table.states().len())?;
             Ok(Ok(sets))
@@ -59,20 +67,22 @@ fn shorter(best: Option<Unset>, other: Unset) -> Unset
     }
 }
 
-/// The sets of the states of each process, unless a variable is read unset.
+/// The sets of the states of each process, unless a variable is read unset. The orders are those of its connections, each
+/// behind those that it joins.
 pub(crate) fn settle(
     alloc: Global,
     block: &BlockTable,
+    orders: &[Vec<usize>],
 ) -> Result<Result<Vec<Vec<u32>>, Unset>, AllocError>
-    requires few { All (λ p. length (variables_of p) ≤ 32) (processes_of (block_of block.now)) }
-    requires known { All (λ p. process_unknown (block_of block.now) p ≡ []) (processes_of (block_of block.now)) }
+    requires within { IsWithin (block_of block.now) }
+    requires orders { AreOrders (processes_of (block_of block.now)) orders.now }
     ensures { IfOk result (AreSurveys (processes_of (block_of block.now))) }
 {
     let mut sets = Vec::new(alloc);
     let mut best: Option<Unset> = None;
     let tables = block.tables();
-    for table in tables {
-        match survey(alloc, block, table)? {
+    for (number, table) in tables.iter().enumerate() {
+        match survey(alloc, block, table, &orders[number])? {
             Ok(set) => sets.push(set)?,
             Err(unset) => best = Some(shorter(best, unset)),
         }

@@ -6,14 +6,14 @@ ghost use Rattle.sdl_tree.specs.Views.{tree_of, assignment_of, sending_of, actio
 ghost use Rattle.sdl_tables.specs.Names.{variables_of};
 ghost use Rattle.sdl_tables.specs.Rows.{variable_of};
 ghost use Rattle.sdl_tables.specs.Scopes.{Marks};
-ghost use Rattle.sdl_rules.specs.Sorts.{same_sort, has_sort, have_one_sort, variable_sort, unary_sort, binary_sort, operand_sort, sort_in, misfit, wrong_operands, wrong_in, wrong_for, wrong_variable, wrong_assignment, parameter_sorts, wrong_parameter, wrong_number, wrong_sending, wrong_action, wrong_place, too_many_places, wrong_stimulus, wrong_input, literal_sort, wrong_constant, wrong_initial, wrong_declarations};
+ghost use Rattle.sdl_rules.specs.Sorts.{same_sort, has_sort, have_one_sort, variable_sort, unary_sort, binary_sort, operand_sort, sort_in, misfit, wrong_operands, wrong_in, wrong_for, wrong_variable, wrong_assignment, parameter_sorts, wrong_parameter, wrong_number, wrong_sending, wrong_action, wrong_place, too_many_places, wrong_stimulus, wrong_input, literal_sort, is_constant, is_truth, answers_truth, answers_number, range_place, wrong_answer, wrong_constant, wrong_initial, wrong_declarations};
 
 use crate::divisors::place;
 use sdl_lex::Name;
 use sdl_tables::{BlockTable, ProcessTable, Variable, earlier};
 use sdl_tree::{
     Action, Assignment, BinaryOperator, Constant, Expression, Identifier, InputPart, Literal,
-    Sending, Sort, Stimulus, UnaryOperator,
+    Range, Sending, Sort, Stimulus, UnaryOperator,
 };
 
 fn same_sort(one: Sort, other: Sort) -> bool
@@ -135,7 +135,8 @@ fn wrong_operands(
     earlier(first, misfit(process, want, right))
 }
 
-fn wrong_in(process: &ProcessTable, expression: &Expression) -> Option<u32>
+/// The place of a wrong operand in an expression.
+pub(crate) fn wrong_in(process: &ProcessTable, expression: &Expression) -> Option<u32>
     ensures { Marks result (wrong_in (variables_of (process_of process.now)) (tree_of expression.now)) }
 {
     match expression {
@@ -394,6 +395,78 @@ fn literal_sort(literal: Literal) -> Sort
         Literal::Integer(_) => Sort::Integer,
         Literal::Boolean(_) => Sort::Boolean,
     }
+}
+
+fn is_constant(want: Sort, constant: Constant) -> bool
+    ensures { result ≡ is_constant want constant }
+{
+    same_sort(want, literal_sort(constant.value))
+}
+
+// Whether a question is a Boolean one.
+pub(crate) fn is_truth(process: &ProcessTable, question: &Expression) -> bool
+    ensures { result ≡ is_truth (variables_of (process_of process.now)) (tree_of question.now) }
+{
+    has_sort(Sort::Boolean, sort_in(process, question))
+}
+
+fn answers_truth(range: &Range) -> bool
+    ensures { result ≡ answers_truth range.now }
+{
+    match range {
+        Range::Value(constant) => is_constant(Sort::Boolean, *constant),
+        Range::Compared { .. } => false,
+        Range::Between(_, _) => false,
+    }
+}
+
+fn answers_number(range: &Range) -> bool
+    ensures { result ≡ answers_number range.now }
+{
+    match range {
+        Range::Value(constant) => is_constant(Sort::Integer, *constant),
+        Range::Compared { constant, .. } => is_constant(Sort::Integer, *constant),
+        Range::Between(low, high) => {
+            let first = is_constant(Sort::Integer, *low);
+            first && is_constant(Sort::Integer, *high)
+        }
+    }
+}
+
+fn range_place(range: &Range) -> u32
+    ensures { result ≡ range_place range.now }
+{
+    match range {
+        Range::Value(constant) => constant.at,
+        Range::Compared { at, .. } => *at,
+        Range::Between(low, _) => low.at,
+    }
+}
+
+fn wrong_answer(process: &ProcessTable, question: &Expression, range: &Range) -> Option<u32>
+    ensures { Marks result (wrong_answer (variables_of (process_of process.now)) (tree_of question.now) range.now) }
+{
+    let fits = if is_truth(process, question) {
+        answers_truth(range)
+    } else {
+        answers_number(range)
+    };
+    if fits { None } else { Some(range_place(range)) }
+}
+
+/// The place of a value in an answer that doesn't fit its question.
+pub(crate) fn wrong_in_ranges(
+    process: &ProcessTable,
+    question: &Expression,
+    ranges: &[Range],
+) -> Option<u32>
+    ensures { Marks result (flat_map (wrong_answer (variables_of (process_of process.now)) (tree_of question.now)) ranges.now) }
+{
+    let mut place = None;
+    for range in ranges {
+        place = earlier(place, wrong_answer(process, question, range));
+    }
+    place
 }
 
 fn wrong_constant(want: Sort, constant: Option<Constant>) -> Option<u32>

@@ -1,5 +1,5 @@
--- The tables of a block: its signals, routes and processes, and of each process the variables, timers and states, with
--- what each state takes and saves; each in the order of the text. Two names that differ in case alone are one. (Z.100: entity classes and scope units.)
+-- The tables of a block: its signals, routes and processes, and of each process the variables, timers, connectors and states,
+-- with what each state takes and saves; each in the order of the text. Two names that differ in case alone are one. (Z.100: entity classes and scope units.)
 use Rattle.std.specs.Prelude.{ℕ, Bool, false, ◌==◌, List, [], ◌∷◌, ◌++◌, Option, if◌then◌else◌, map, fold, find, position, bytes_eq}
 use Rattle.std.specs.List.{list_any, flat_map, enumerate_from}
 use Rattle.std.specs.Option.{option_map_or}
@@ -7,7 +7,7 @@ use Rattle.sdl_lex.specs.Spelling.{folded}
 use Rattle.sdl_tree.specs.declared.expression.Identifier.{Identifier}
 use Rattle.sdl_tree.specs.declared.tree.Sort.{Sort}
 use Rattle.sdl_tree.specs.declared.tree.Constant.{Constant}
-use Rattle.sdl_tree.specs.Plain.{Text, PlainStimulus, PlainInput, PlainClause, input, save, PlainState, PlainGroup, PlainDeclaration, variables, timers, PlainProcess, PlainRoute, PlainSignal, PlainEntity, signals, route, connect, process, PlainBlock}
+use Rattle.sdl_tree.specs.Plain.{Text, PlainConnection, PlainStimulus, PlainInput, PlainClause, input, save, PlainState, PlainGroup, PlainDeclaration, variables, timers, PlainProcess, PlainRoute, PlainSignal, PlainEntity, signals, route, connect, process, PlainBlock}
 
 -- two spellings of one name
 abbrev pub same_name : List ℕ → List ℕ → Bool
@@ -95,6 +95,16 @@ timers_in (timers names) = names
 -- the timers of a process, over all TIMERs
 abbrev pub timers_of : PlainProcess → List Identifier
 timers_of p = flat_map timers_in p.declarations
+
+-- ---- connections
+
+-- the connectors of a process: the names of its CONNECTIONs
+abbrev pub connector_names : PlainProcess → List Identifier
+connector_names p = map (λ c. c.name) p.connections
+
+-- the connection with a name
+abbrev pub connection_named : PlainProcess → List ℕ → Option PlainConnection
+connection_named p x = find (λ c. same_name x c.name.name) p.connections
 
 -- ---- states
 

@@ -3,7 +3,7 @@ use Rattle.std.specs.Prelude.{◌≡◌, ℕ, List, [], ◌∷◌, ◌++◌, Opt
 use Rattle.std.specs.List.{flat_map}
 use Rattle.sdl_tree.specs.declared.expression.Identifier.{Identifier}
 use Rattle.sdl_tree.specs.Plain.{PlainProcess, PlainBlock}
-use Rattle.sdl_tables.specs.Names.{is_in, processes_of, signal_names, route_names, process_names, variable_names, timers_of, triggers_by_state}
+use Rattle.sdl_tables.specs.Names.{is_in, processes_of, signal_names, route_names, process_names, variable_names, timers_of, connector_names, triggers_by_state}
 use Rattle.sdl_tables.specs.declared.fault.TableFault.{TableFault}
 use Rattle.sdl_tables.specs.declared.fault.TableFault.TheVariants.{DoubleName, NoMemory}
 
@@ -26,7 +26,7 @@ repeats before (id ∷ ids) = (if is_in before id.name then id.at ∷ [] else []
 
 -- the names of a process that have to differ: a list for each class, and one for what each state takes and saves
 abbrev pub process_scopes : PlainProcess → List (List Identifier)
-process_scopes p = variable_names p ∷ timers_of p ∷ triggers_by_state p
+process_scopes p = variable_names p ∷ timers_of p ∷ connector_names p ∷ triggers_by_state p
 
 -- those of a block
 abbrev pub scopes : PlainBlock → List (List Identifier)

@@ -1,8 +1,8 @@
 //! The tables of a process.
 ghost use Rattle.std.specs.Prelude.{◌≡◌, ◌++◌, [], ℕ, ◌<◌, ◌==◌, if◌then◌else◌, List, map, fold, length, IfOk, IfErr, OnOk, IfSome, IfNone, slice_get, vec_len};
 ghost use Rattle.std.specs.List.{flat_map};
-ghost use Rattle.sdl_tree.specs.Views.{group_of, declaration_of, state_of, input_of, process_of};
-ghost use Rattle.sdl_tables.specs.Names.{variable_names, variables_of, group_variables, declared_variables, named_states, timers_in, timers_of, states_of, given_to, names_once, add_name, part_inputs, inputs_by_state, saves_by_state, triggers_by_state, clause_parts, input_parts};
+ghost use Rattle.sdl_tree.specs.Views.{group_of, declaration_of, state_of, input_of, connection_of, process_of};
+ghost use Rattle.sdl_tables.specs.Names.{variable_names, variables_of, group_variables, declared_variables, named_states, timers_in, timers_of, connector_names, states_of, given_to, names_once, add_name, part_inputs, inputs_by_state, saves_by_state, triggers_by_state, clause_parts, input_parts};
 ghost use Rattle.sdl_tables.specs.Scopes.{Marks, repeats, process_scopes, shared, IsDouble};
 ghost use Rattle.sdl_tables.specs.Rows.{variable_of, row_input, rows_inputs, row_names, stimulus_inputs, rows_at};
 
@@ -12,8 +12,8 @@ use crate::scope::{add_names, earlier, first_shared, index_names};
 use crate::state_names::{Which, collect_names, names_double};
 use sdl_lex::Name;
 use sdl_tree::{
-    Constant, Declaration, Group, Identifier, InputPart, Process, Sort, StateClause, StatePart,
-    Stimulus,
+    Connection, Constant, Declaration, Group, Identifier, InputPart, Process, Sort, StateClause,
+    StatePart, Stimulus,
 };
 use std::alloc::{AllocError, Global};
 use std::marker::Model;
@@ -114,6 +114,16 @@ fn variable_ids(alloc: Global, rows: &[Variable]) -> Result<Vec<Identifier>, All
     ensures { IfOk result (λ ids. ids.items ≡ map (λ row. row.name) rows.now) }
 {
     rows.iter().map(|row| row.name).collect(alloc)
+}
+
+fn connector_ids(alloc: Global, connections: &[Connection]) -> Result<Vec<Identifier>, AllocError>
+    ensures { IfOk result (λ ids. ids.items ≡ map (λ c. c.name) (map connection_of connections.now)) }
+{
+    let mut ids = Vec::new(alloc);
+    for connection in connections {
+        ids.push(connection.name)?;
+    }
+    Ok(ids)
 }
 
 fn collect_states(alloc: Global, parts: &[StatePart]) -> Result<NameTable, AllocError>
@@ -249,7 +259,7 @@ fn trigger_double(
     Ok(double)
 }
 
-/// A process with its tables: its variables, timers and states by name and by number, and what each
+/// A process with its tables: its variables, timers, connectors and states by name and by number, and what each
 /// state takes and saves. Contracts see the process.
 #[derive(Drop)]
 pub struct ProcessTable<'a> {
@@ -257,6 +267,7 @@ pub struct ProcessTable<'a> {
     variables: NameTable,
     rows: Vec<Variable>,
     timers: NameTable,
+    connectors: NameTable,
     states: NameTable,
     inputs: Vec<Vec<InputRow<'a>>>,
     saves: Vec<Vec<Identifier>>,
@@ -290,12 +301,18 @@ impl<'a> ProcessTable<'a> {
         let variables = index_names(alloc, &names)?;
         let alarms = collect_timers(alloc, &process.declarations)?;
         let timers = index_names(alloc, &alarms)?;
+        let labels = connector_ids(alloc, &process.connections)?;
+        let connectors = index_names(alloc, &labels)?;
         let states = collect_states(alloc, &process.states)?;
         let inputs = collect_inputs(alloc, process, &states)?;
         let saves = collect_names(alloc, process, &states, Which::Saves)?;
         let parts = collect_parts(alloc, &process.states)?;
         let twice = trigger_double(alloc, process, &states)?;
-        let double = earlier(variables.double, earlier(timers.double, twice));
+        let labels_and_triggers = earlier(connectors.double, twice);
+        let double = earlier(
+            variables.double,
+            earlier(timers.double, labels_and_triggers),
+        );
         match double {
             Some(at) => Err(TableFault::DoubleName(at)),
             None => Ok(ProcessTable {
@@ -303,6 +320,7 @@ impl<'a> ProcessTable<'a> {
                 variables: variables.names,
                 rows,
                 timers: timers.names,
+                connectors: connectors.names,
                 states,
                 inputs,
                 saves,
@@ -339,6 +357,13 @@ impl<'a> ProcessTable<'a> {
         ensures { result.now ≡ timers_of (process_of self.now) }
     {
         &self.timers
+    }
+
+    /// The names of its connections, by number.
+    pub fn connectors(&self) -> &NameTable
+        ensures { result.now ≡ connector_names (process_of self.now) }
+    {
+        &self.connectors
     }
 
     /// The names of its states, by number.

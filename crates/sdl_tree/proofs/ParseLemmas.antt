@@ -9,7 +9,7 @@ use Rattle.sdl_tree.specs.Views.{block_of}
 use Rattle.sdl_tree.specs.Syntax.{Reads}
 use Rattle.sdl_tree.specs.Heights.{first_too_high, NoneAgrees, Refuses, Answers}
 use Rattle.sdl_tree.specs.Readings.{Reading, read, fails}
-use Rattle.sdl_tree.specs.Machine.{whole_trees, expression_at}
+use Rattle.sdl_tree.specs.Machine.{whole_trees}
 use Rattle.sdl_tree.specs.Productions.{block_at}
 use Rattle.sdl_tree.specs.Settled.{stops_at, low_block, Settled}
 use Rattle.sdl_tree.proofs.Decides.{first, rest_of, with_rest}
@@ -20,7 +20,7 @@ use Rattle.sdl_tree.proofs.HeightLemmas.{low_where_none, high_where_some}
 use Rattle.sdl_tree.proofs.LowHeights.{place_stays, low_stays}
 
 whole_block : List Token → Reading PlainBlock
-whole_block ts = block_at (expression_at whole_trees) ts
+whole_block ts = block_at whole_trees ts
 
 low_of_whole : (ts : List Token) → low_block ts ≡ mapped lowered_block (whole_block ts)
 unfolding whole_block Lowers

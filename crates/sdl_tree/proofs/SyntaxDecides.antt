@@ -3,21 +3,21 @@ use Rattle.std.specs.Prelude.{ℕ, List, ◌∷◌, Some, None, pos, ◌-ℤ◌}
 use Rattle.std.specs.List.{filter_map}
 use Rattle.std.specs.Option.{option_to_list}
 use Rattle.sdl_lex.specs.declared.lexemes.Word.TheVariants as words
-use Rattle.sdl_lex.specs.declared.lexemes.Symbol.TheVariants.{Semicolon, Comma, Assign, Open, Close, Plus, Minus}
+use Rattle.sdl_lex.specs.declared.lexemes.Symbol.TheVariants.{Semicolon, Comma, Assign, Open, Close, Plus, Minus, Colon}
 use Rattle.sdl_tree.specs.declared.tree.Literal.TheVariants as literals
-use Rattle.sdl_tree.specs.declared.tree.End.TheVariants.{NextState, Stop}
-use Rattle.sdl_tree.specs.Plain.{Tree, task, output, set_timer, reset_timer, signals, route, connect, process, input, save, variables, timers}
-use Rattle.sdl_tree.specs.Views.{does_all, end_text}
-use Rattle.sdl_tree.specs.Tokens.{a_word, a_symbol, a_number, a_name, a_sort, a_party, a_constant, a_one, a_closing, a_quoted, a_destination, an_entity, a_declaration, a_clause, an_action, an_end}
+use Rattle.sdl_tree.specs.declared.tree.End.TheVariants.{NextState, Stop, Join}
+use Rattle.sdl_tree.specs.declared.tree.Range.TheVariants.{Compared}
+use Rattle.sdl_tree.specs.Plain.{Tree, task, output, set_timer, reset_timer, signals, route, connect, process, input, save, variables, timers, in_state, in_connection, process_from, from_to}
+use Rattle.sdl_tree.specs.Tokens.{a_word, a_symbol, a_number, a_name, a_sort, a_party, a_constant, a_one, a_closing, a_quoted, a_destination, an_entity, a_declaration, a_clause, a_relation, a_section}
 use Rattle.sdl_tree.specs.Readings.{At, NeverLonger}
 use Rattle.sdl_tree.specs.Machine.{whole_trees, expression_at}
-use Rattle.sdl_tree.specs.Syntax.{names_syntax, comment_syntax, terminator_syntax, signal_syntax, signals_syntax, path_syntax, route_syntax, connect_syntax, negative_syntax, constant_syntax, initial_syntax, group_syntax, variables_syntax, timers_syntax, declaration_syntax, place_syntax, stimulus_syntax, assignment_syntax, assigned_syntax, quoted_syntax, item_syntax, task_syntax, sending_syntax, destination_syntax, output_syntax, delay_syntax, set_syntax, reset_syntax, action_syntax, next_state_syntax, stop_syntax, end_syntax, text_syntax, input_syntax, save_syntax, clause_syntax, closing_syntax, end_state_syntax, state_syntax, start_syntax, second_number_syntax, instances_syntax, process_head_syntax, process_syntax, entity_syntax, block_syntax}
-use Rattle.sdl_tree.specs.Productions.{names_at, comment_at, terminator_at, signal_at, signals_at, path_at, route_at, connect_at, negative_at, constant_at, initial_at, group_at, variables_at, timers_at, declaration_at, place_at, stimulus_at, assignment_at, assigned_at, quoted_at, item_at, task_at, sending_at, destination_at, output_at, delay_at, set_at, reset_at, action_at, next_state_at, stop_at, end_at, text_at, input_at, save_at, clause_at, closing_at, end_state_at, state_at, start_at, second_number_at, instances_at, process_head_at, process_at, entity_at, block_at}
-use Rattle.sdl_tree.specs.Lengths.{expression_keeps, declaration_takes, action_takes, clause_takes, state_takes, entity_takes}
+use Rattle.sdl_tree.specs.Syntax.{names_syntax, comment_syntax, terminator_syntax, signal_syntax, signals_syntax, path_syntax, route_syntax, connect_syntax, negative_syntax, constant_syntax, initial_syntax, group_syntax, variables_syntax, timers_syntax, declaration_syntax, place_syntax, stimulus_syntax, assignment_syntax, assigned_syntax, quoted_syntax, item_syntax, task_syntax, sending_syntax, destination_syntax, output_syntax, delay_syntax, set_syntax, reset_syntax, action_syntax, next_state_syntax, stop_syntax, end_syntax, text_syntax, input_syntax, save_syntax, clause_syntax, closing_syntax, end_state_syntax, state_syntax, start_syntax, second_number_syntax, instances_syntax, process_head_syntax, process_syntax, entity_syntax, block_syntax, compared_syntax, upper_syntax, value_syntax, range_syntax, answer_head_syntax, else_head_syntax, some_head_syntax, no_head_syntax, head_syntax, question_syntax, end_decision_syntax, join_syntax, end_connection_syntax, connection_syntax, state_section_syntax, connection_section_syntax, section_syntax}
+use Rattle.sdl_tree.specs.Productions.{names_at, comment_at, terminator_at, signal_at, signals_at, path_at, route_at, connect_at, negative_at, constant_at, initial_at, group_at, variables_at, timers_at, declaration_at, place_at, stimulus_at, assignment_at, assigned_at, quoted_at, item_at, task_at, sending_at, destination_at, output_at, delay_at, set_at, reset_at, action_at, next_state_at, stop_at, end_at, text_at, input_at, save_at, clause_at, closing_at, end_state_at, state_at, start_at, second_number_at, instances_at, process_head_at, process_at, entity_at, block_at, compared_at, upper_at, value_at, range_at, answer_head_at, else_head_at, some_head_at, no_head_at, head_at, question_at, end_decision_at, join_at, end_connection_at, connection_at, state_section_at, connection_section_at, section_at}
+use Rattle.sdl_tree.specs.Lengths.{expression_keeps, declaration_takes, clause_takes, entity_takes, section_takes}
 use Rattle.sdl_tree.proofs.Decides.{Decides, give_decides, token_decides, choice_decides, optional_decides, ◌>>=◌}
 use Rattle.sdl_tree.proofs.Rows.{many_decides, separated_from_decides, separated_decides, list_decides}
 use Rattle.sdl_tree.proofs.MachineLemmas.{expression_decides}
-use Rattle.sdl_tree.proofs.TextDecides.{text_decides_from, row_syntax}
+use Rattle.sdl_tree.proofs.TextDecides.{text_decides_from}
 
 -- expressions with all their trees
 abbrev pub whole : At Tree
@@ -231,6 +231,77 @@ action_decides : Decides action_syntax (action_at whole)
 unfolding action_syntax action_at
 action_decides = choice_decides (a_word words.Task) task_decides (choice_decides (a_word words.Output) output_decides (choice_decides (a_word words.Set) set_decides reset_decides))
 
+compared_decides : Decides compared_syntax compared_at
+unfolding compared_syntax compared_at
+compared_decides = do
+  compared ← token_decides a_relation
+  constant ← constant_decides
+  give_decides (Compared compared.at compared.relation constant)
+
+upper_decides : Decides upper_syntax upper_at
+unfolding upper_syntax upper_at
+upper_decides = do
+  _ ← token_decides (a_symbol Colon)
+  constant_decides
+
+value_decides : Decides value_syntax value_at
+unfolding value_syntax value_at
+value_decides = do
+  low ← constant_decides
+  high ← optional_decides (a_symbol Colon) upper_decides
+  give_decides (from_to low high)
+
+range_decides : Decides range_syntax range_at
+unfolding range_syntax range_at
+range_decides = choice_decides a_relation compared_decides value_decides
+
+pub answer_head_decides : Decides answer_head_syntax answer_head_at
+unfolding answer_head_syntax answer_head_at
+answer_head_decides = do
+  at ← token_decides (a_symbol Open)
+  ranges ← separated_decides range_decides
+  _ ← token_decides (a_symbol Close)
+  _ ← token_decides (a_symbol Colon)
+  give_decides (record { at = at; ranges = ranges })
+
+pub else_head_decides : Decides else_head_syntax else_head_at
+unfolding else_head_syntax else_head_at
+else_head_decides = do
+  at ← token_decides (a_word words.Else)
+  _ ← token_decides (a_symbol Colon)
+  give_decides at
+
+some_head_decides : Decides some_head_syntax some_head_at
+unfolding some_head_syntax some_head_at
+some_head_decides = do
+  head ← answer_head_decides
+  give_decides (Some head)
+
+no_head_decides : Decides no_head_syntax no_head_at
+unfolding no_head_syntax no_head_at
+no_head_decides = do
+  _ ← else_head_decides
+  give_decides None
+
+pub head_decides : Decides head_syntax head_at
+unfolding head_syntax head_at
+head_decides = choice_decides (a_symbol Open) some_head_decides no_head_decides
+
+pub question_decides : Decides question_syntax (question_at whole)
+unfolding question_syntax question_at
+question_decides = do
+  at ← token_decides (a_word words.Decision)
+  question ← expression_decides
+  _ ← terminator_decides
+  give_decides (record { at = at; question = question })
+
+pub end_decision_decides : Decides end_decision_syntax end_decision_at
+unfolding end_decision_syntax end_decision_at
+end_decision_decides = do
+  at ← token_decides (a_word words.EndDecision)
+  _ ← terminator_decides
+  give_decides at
+
 next_state_decides : Decides next_state_syntax next_state_at
 unfolding next_state_syntax next_state_at
 next_state_decides = do
@@ -246,21 +317,22 @@ stop_decides = do
   _ ← terminator_decides
   give_decides (Stop at)
 
-end_decides : Decides end_syntax end_at
+join_decides : Decides join_syntax join_at
+unfolding join_syntax join_at
+join_decides = do
+  at ← token_decides (a_word words.Join)
+  connector ← token_decides a_name
+  _ ← terminator_decides
+  give_decides (Join (record { at = at; connector = connector }))
+
+pub end_decides : Decides end_syntax end_at
 unfolding end_syntax end_at
-end_decides = choice_decides (a_word words.NextState) next_state_decides stop_decides
+end_decides = choice_decides (a_word words.NextState) next_state_decides (choice_decides (a_word words.Stop) stop_decides join_decides)
 
-row_decides : Decides row_syntax (text_at whole)
-unfolding row_syntax text_at
-row_decides = do
-  actions ← many_decides an_action (action_takes whole whole_keeps) action_decides
-  last ← optional_decides an_end end_decides
-  give_decides (does_all actions (end_text last))
+text_decides : Decides text_syntax (text_at whole_trees)
+text_decides = text_decides_from (record { action = action_decides; question = question_decides; head = head_decides; closing = end_decision_decides; last = end_decides })
 
-text_decides : Decides text_syntax (text_at whole)
-text_decides = text_decides_from row_decides
-
-input_decides : Decides input_syntax (input_at whole)
+input_decides : Decides input_syntax (input_at whole_trees)
 unfolding input_syntax input_at
 input_decides = do
   at ← token_decides (a_word words.Input)
@@ -277,7 +349,7 @@ save_decides = do
   _ ← terminator_decides
   give_decides (save names)
 
-clause_decides : Decides clause_syntax (clause_at whole)
+clause_decides : Decides clause_syntax (clause_at whole_trees)
 unfolding clause_syntax clause_at
 clause_decides = choice_decides (a_word words.Input) input_decides save_decides
 
@@ -294,18 +366,50 @@ end_state_decides name = do
   _ ← token_decides (a_word words.EndState)
   closing_decides name
 
-state_decides : Decides state_syntax (state_at whole)
+state_decides : Decides state_syntax (state_at whole_trees)
 unfolding state_syntax state_at
 state_decides = do
   _ ← token_decides (a_word words.State)
   name ← token_decides a_name
   names ← separated_from_decides name (token_decides a_name)
   _ ← terminator_decides
-  clauses ← many_decides a_clause (clause_takes whole whole_keeps) clause_decides
+  clauses ← many_decides a_clause (clause_takes whole_trees) clause_decides
   _ ← optional_decides (a_word words.EndState) (end_state_decides name.name)
   give_decides (record { names = names; clauses = clauses })
 
-start_decides : Decides start_syntax (start_at whole)
+end_connection_decides : (name : List ℕ) → Decides (end_connection_syntax name) (end_connection_at name)
+unfolding end_connection_syntax end_connection_at
+end_connection_decides name = do
+  _ ← token_decides (a_word words.EndConnection)
+  closing_decides name
+
+connection_decides : Decides connection_syntax (connection_at whole_trees)
+unfolding connection_syntax connection_at
+connection_decides = do
+  at ← token_decides (a_word words.Connection)
+  name ← token_decides a_name
+  _ ← token_decides (a_symbol Colon)
+  text ← text_decides
+  _ ← optional_decides (a_word words.EndConnection) (end_connection_decides name.name)
+  give_decides (record { at = at; name = name; text = text })
+
+state_section_decides : Decides state_section_syntax (state_section_at whole_trees)
+unfolding state_section_syntax state_section_at
+state_section_decides = do
+  state ← state_decides
+  give_decides (in_state state)
+
+connection_section_decides : Decides connection_section_syntax (connection_section_at whole_trees)
+unfolding connection_section_syntax connection_section_at
+connection_section_decides = do
+  connection ← connection_decides
+  give_decides (in_connection connection)
+
+section_decides : Decides section_syntax (section_at whole_trees)
+unfolding section_syntax section_at
+section_decides = choice_decides (a_word words.State) state_section_decides connection_section_decides
+
+start_decides : Decides start_syntax (start_at whole_trees)
 unfolding start_syntax start_at
 start_decides = do
   at ← token_decides (a_word words.Start)
@@ -337,28 +441,28 @@ process_head_decides = do
   _ ← terminator_decides
   give_decides name
 
-process_decides : Decides process_syntax (process_at whole)
+process_decides : Decides process_syntax (process_at whole_trees)
 unfolding process_syntax process_at
 process_decides = do
   name ← process_head_decides
   declarations ← many_decides a_declaration declaration_takes declaration_decides
   start ← start_decides
-  states ← many_decides (a_word words.State) (state_takes whole whole_keeps) state_decides
+  sections ← many_decides a_section (section_takes whole_trees) section_decides
   _ ← token_decides (a_word words.EndProcess)
   _ ← closing_decides name.name
-  give_decides (process (record { name = name; declarations = declarations; start = start; states = states }))
+  give_decides (process (process_from name declarations start sections))
 
-entity_decides : Decides entity_syntax (entity_at whole)
+entity_decides : Decides entity_syntax (entity_at whole_trees)
 unfolding entity_syntax entity_at
 entity_decides = choice_decides (a_word words.Signal) signals_decides (choice_decides (a_word words.SignalRoute) route_decides (choice_decides (a_word words.Connect) connect_decides process_decides))
 
-pub block_decides : Decides block_syntax (block_at whole)
+pub block_decides : Decides block_syntax (block_at whole_trees)
 unfolding block_syntax block_at
 block_decides = do
   _ ← token_decides (a_word words.Block)
   name ← token_decides a_name
   _ ← terminator_decides
-  entities ← many_decides an_entity (entity_takes whole whole_keeps) entity_decides
+  entities ← many_decides an_entity (entity_takes whole_trees) entity_decides
   _ ← token_decides (a_word words.EndBlock)
   _ ← closing_decides name.name
   give_decides (record { name = name; entities = entities })

@@ -1,86 +1,533 @@
--- A transition's grammar, one action after another, as a row of actions with an end.
-use Rattle.std.proofs.Common.{◌≡◌, Bool, true, false, List, [], ◌∷◌, Option, Some, None, refl, sym, ap, subst, MatchBool}
+-- Transitions read in steps are those of the grammar, with DECISIONs in each other to any depth.
+use Rattle.std.proofs.Common.{◌≡◌, ℕ, suc, zero, Bool, true, false, List, [], ◌∷◌, ◌++◌, Option, Some, None, length, refl, sym, ap, subst, ◌∙◌, MatchBool}
+use Rattle.std.specs.Prelude.{is_some}
 use Rattle.sdl_lex.specs.declared.lexemes.Token.{Token}
+use Rattle.sdl_lex.specs.declared.lexemes.Lexeme.{Lexeme}
+use Rattle.sdl_lex.specs.declared.lexemes.Lexeme.TheVariants as lexemes
+use Rattle.sdl_lex.specs.declared.lexemes.Word.TheVariants as words
+use Rattle.sdl_lex.specs.declared.lexemes.Symbol.TheVariants.{Open}
 use Rattle.sdl_tree.specs.declared.tree.End.{End}
-use Rattle.sdl_tree.specs.Plain.{PlainAction, Text, falls, ends, does}
-use Rattle.sdl_tree.specs.Views.{does_all, end_text}
-use Rattle.sdl_tree.specs.Tokens.{begins, an_action, an_end}
-use Rattle.sdl_tree.specs.Grammar.{Grammar, Gives, Then, Many, no_more, one_more, give, ◌>>=◌, many, optional}
-use Rattle.sdl_tree.specs.Syntax.{action_syntax, end_syntax, TextReads, runs_off, ends_there, goes_on, text_syntax}
-use Rattle.sdl_tree.specs.Readings.{At}
-use Rattle.sdl_tree.proofs.Decides.{Decides}
+use Rattle.sdl_tree.specs.Plain.{PlainAction, Text, falls, ends, does, decides, Choice, nothing_else, otherwise, answer, PlainStatement, act, decide, PlainAnswer, PlainQuestion, PlainHead, before, all_before, all_answers}
+use Rattle.sdl_tree.specs.Bodies.{Branching, Body, Reached, Move, reaches, closes}
+use Rattle.sdl_tree.specs.Views.{end_text}
+use Rattle.sdl_tree.specs.Tokens.{begins, a_word, a_symbol, an_action, an_end, a_choice, word_place, symbol_place, choice_place}
+use Rattle.sdl_tree.specs.Grammar.{Gives, Then}
+use Rattle.sdl_tree.specs.Grammar as grammar
+use Rattle.sdl_tree.specs.Syntax.{action_syntax, question_syntax, answer_head_syntax, else_head_syntax, some_head_syntax, no_head_syntax, head_syntax, end_decision_syntax, end_syntax, TextReads, ChoiceReads, runs_off, ends_there, goes_on, branches, no_more_answers, else_follows, answer_follows, text_syntax}
+use Rattle.sdl_tree.specs.Machine.{Build, whole_trees, expression_at}
+use Rattle.sdl_tree.specs.Readings.{Reading, read, fails, At, then_read, either, choice, give, optional}
+use Rattle.sdl_tree.specs.Productions.{action_at, question_at, head_at, end_decision_at, end_at, head_step, closing_step, answer_step, with_answer, body_step, behind_step, end_step, decision_step, action_step, step_at, after_move, steps_for, steps_from, at_first, text_at}
+use Rattle.sdl_tree.proofs.Decides.{Seen, Decides, give_decides, choice_decides, optional_decides, ◌>>=◌}
+use Rattle.sdl_tree.proofs.StepLemmas.{from_step, from_reaches, steps_look}
 
-unfoldable pub row_syntax : Grammar Text
-row_syntax = do
-  actions ← many an_action action_syntax
-  last ← optional an_end end_syntax
-  give (does_all actions (end_text last))
+-- what is known of the flat parts
+pub record Leaves : Type 0 where
+  pub action : Decides action_syntax (action_at (expression_at whole_trees))
+  pub question : Decides question_syntax (question_at (expression_at whole_trees))
+  pub head : Decides head_syntax head_at
+  pub closing : Decides end_decision_syntax end_decision_at
+  pub last : Decides end_syntax end_at
 
--- from the row to the grammar
+-- what the steps look at
 
-end_from : (ts us : List Token) (last : Option End) (b : Bool) → begins an_action ts ≡ false → begins an_end ts ≡ b
-    → MatchBool b (Then end_syntax (λ e. give (Some e)) ts last us) (Gives None ts last us) → TextReads ts (end_text last) us
-end_from ts us last true e f m =
+graph_decides : {A : Type 0} (p : At A) → ((ts : List Token) → Seen p ts) → Decides (λ ts x us. p ts ≡ read x us) p
+graph_decides p looks = record { looks = looks; sound = λ ts x us h. h; complete = λ ts x us h. h }
+
+head_step_looks : Leaves → (outer : List Body) (d : Branching) (ts : List Token) → Seen (head_step outer d) ts
+unfolding head_step
+head_step_looks l outer d = (l.head >>= λ head. give_decides _).looks
+
+closing_step_looks : Leaves → (outer : List Body) (d : Branching) (others : Choice) (ts : List Token) → Seen (closing_step whole_trees outer d others) ts
+unfolding closing_step
+closing_step_looks l outer d others = (l.closing >>= λ _. give_decides _).looks
+
+answer_step_looks : Leaves → (outer : List Body) (d : Branching) (ts : List Token) → Seen (answer_step whole_trees outer d) ts
+unfolding answer_step
+answer_step_looks l outer d =
+    (choice_decides a_choice (graph_decides (head_step outer d) (head_step_looks l outer d))
+    (graph_decides (closing_step whole_trees outer d nothing_else) (closing_step_looks l outer d nothing_else))).looks
+
+body_step_looks : Leaves → (outer : List Body) (d : Branching) (head : Option PlainHead) (text : Text) (ts : List Token) → Seen (body_step whole_trees outer d head text) ts
+body_step_looks l outer d (Some h) text = answer_step_looks l outer (with_answer d h text)
+body_step_looks l outer d None text = closing_step_looks l outer d (otherwise text)
+
+behind_step_looks : Leaves → (outer : List Body) (text : Text) (ts : List Token) → Seen (behind_step whole_trees outer text) ts
+behind_step_looks l [] text = (give_decides (closes text)).looks
+behind_step_looks l (body ∷ outer) text = body_step_looks l outer body.branching body.head text
+
+end_step_looks : Leaves → (s : Reached) (ts : List Token) → Seen (end_step whole_trees s) ts
+unfolding end_step
+end_step_looks l s = (optional_decides an_end l.last >>= λ last. graph_decides _ (behind_step_looks l s.outer (all_before s.here (end_text last)))).looks
+
+decision_step_looks : Leaves → (s : Reached) (ts : List Token) → Seen (decision_step whole_trees s) ts
+unfolding decision_step
+decision_step_looks l s = (l.question >>= λ asked. graph_decides _ (head_step_looks l s.outer (record { before = s.here; asked = asked; answers = [] }))).looks
+
+action_step_looks : Leaves → (s : Reached) (ts : List Token) → Seen (action_step whole_trees s) ts
+unfolding action_step
+action_step_looks l s = (l.action >>= λ action. give_decides _).looks
+
+step_looks : Leaves → (s : Reached) (ts : List Token) → Seen (step_at whole_trees s) ts
+unfolding step_at
+step_looks l s =
+    (choice_decides an_action (graph_decides (action_step whole_trees s) (action_step_looks l s))
+    (choice_decides (a_word words.Decision) (graph_decides (decision_step whole_trees s) (decision_step_looks l s))
+    (graph_decides (end_step whole_trees s) (end_step_looks l s)))).looks
+
+-- statements and answers behind others
+
+all_before-more : (ss : List PlainStatement) (s : PlainStatement) (text : Text) → all_before (ss ++ s ∷ []) text ≡ all_before ss (before s text)
+all_before-more [] s text = refl
+all_before-more (x ∷ ss) s text = ap (before x) (all_before-more ss s text)
+
+all_answers-more : (xs : List PlainAnswer) (x : PlainAnswer) (others : Choice) → all_answers (xs ++ x ∷ []) others ≡ all_answers xs (answer x.at x.ranges x.text others)
+all_answers-more [] x others = refl
+all_answers-more (y ∷ xs) x others = ap (answer y.at y.ranges y.text) (all_answers-more xs x others)
+
+-- the two halves of a reading
+record Split {A B : Type 0} (p : At A) (q : A → At B) (ts : List Token) (y : B) (us : List Token) : Type 0 where
+  value : A
+  between : List Token
+  first : p ts ≡ read value between
+  second : q value between ≡ read y us
+
+split : {A B : Type 0} (p : At A) (q : A → At B) (ts : List Token) (y : B) (us : List Token) → then_read (p ts) q ≡ read y us → Split p q ts y us
+split {A} {B} p q ts y us h = by_result p q ts y us (p ts) refl h
+  where
+    by_result : {A B : Type 0} (p : At A) (q : A → At B) (ts : List Token) (y : B) (us : List Token) (r : Reading A) → p ts ≡ r → then_read r q ≡ read y us → Split p q ts y us
+    by_result p q ts y us (fails vs) e h = cc
+    by_result p q ts y us (read x vs) e h = record { value = x; between = vs; first = e; second = h }
+
+-- what is read from a place on the way: the rest of the transition that is being read, and behind it what
+-- closes the bodies that are open, the innermost first, up to the whole
+
+record Closed (K : Text → List Token → Type 0) (d : Branching) (others : Choice) (ts : List Token) : Type 0 where
+  closed : ℕ
+  us : List Token
+  ends : end_decision_syntax ts closed us
+  rest : Text
+  vs : List Token
+  follows : TextReads us rest vs
+  behind : K (all_before d.before (decides d.asked.at d.asked.question (all_answers d.answers others) rest)) vs
+
+record Chosen (K : Text → List Token → Type 0) (d : Branching) (ts : List Token) : Type 0 where
+  others : Choice
+  us : List Token
+  reads : ChoiceReads ts others us
+  closed : Closed K d others us
+
+record Answered (K : Text → List Token → Type 0) (d : Branching) (h : PlainHead) (text : Text) (ts : List Token) : Type 0 where
+  others : Choice
+  us : List Token
+  reads : ChoiceReads ts others us
+  closed : Closed K d (answer h.at h.ranges text others) us
+
+InBody : (Text → List Token → Type 0) → Branching → Option PlainHead → Text → List Token → Type 0
+InBody K d (Some h) text ts = Answered K d h text ts
+InBody K d None text ts = Closed K d (otherwise text) ts
+
+Behind : List Body → Text → List Token → (Text → List Token → Type 0)
+Behind [] whole us text ts = (text ≡ whole) × (ts ≡ us)
+Behind (body ∷ outer) whole us text ts = InBody (Behind outer whole us) body.branching body.head text ts
+
+record Stands (s : Reached) (ts : List Token) (whole : Text) (us : List Token) : Type 0 where
+  text : Text
+  vs : List Token
+  reads : TextReads ts text vs
+  behind : Behind s.outer whole us (all_before s.here text) vs
+
+Follows : Move → List Token → Text → List Token → Type 0
+Follows (reaches s) ts whole us = Stands s ts whole us
+Follows (closes text) ts whole us = (text ≡ whole) × (ts ≡ us)
+
+-- from the steps to the grammar
+
+carried : (next : Reached) (m : Move) (ws between : List Token) (whole : Text) (us : List Token) → m ≡ reaches next → ws ≡ between → Follows m ws whole us → Stands next between whole us
+unfolding Follows
+carried next m ws between whole us e f h = subst (λ vs. Stands next vs whole us) f (subst (λ n. Follows n ws whole us) e h)
+
+closing_sound : Leaves → (outer : List Body) (d : Branching) (others : Choice) (ts : List Token) (m : Move) (ws : List Token) (whole : Text) (us : List Token)
+    → closing_step whole_trees outer d others ts ≡ read m ws → Follows m ws whole us → Closed (Behind outer whole us) d others ts
+unfolding closing_step Follows
+closing_sound l outer d others ts m ws whole us h f =
+    let s = split end_decision_at _ ts m ws h in
+    let next : Reached = record { outer = outer; here = d.before ++ decide d.asked.at d.asked.question (all_answers d.answers others) ∷ [] } in
+    let move : m ≡ reaches next = (let e = s.second in cc) in
+    let rest : ws ≡ s.between = (let e = s.second in cc) in
+    let g : Stands next s.between whole us = carried next m ws s.between whole us move rest f in
+    record {
+      closed = s.value;
+      us = s.between;
+      ends = l.closing.sound ts s.value s.between s.first;
+      rest = g.text;
+      vs = g.vs;
+      follows = g.reads;
+      behind = subst (λ t. Behind outer whole us t g.vs) (all_before-more d.before (decide d.asked.at d.asked.question (all_answers d.answers others)) g.text) g.behind;
+    }
+
+-- a head stands only where a parenthesis or ELSE does
+
+open_is_choice : (at : ℕ) (x : Lexeme) → is_some (symbol_place Open at x) ≡ true → is_some (choice_place at x) ≡ true
+open_is_choice at (lexemes.Symbol Open) e = refl
+open_is_choice at (lexemes.Symbol _) e = cc
+open_is_choice at (lexemes.Name n) e = cc
+open_is_choice at (lexemes.Number k) e = cc
+open_is_choice at (lexemes.Word w) e = cc
+open_is_choice at lexemes.Quoted e = cc
+
+else_is_choice : (at p : ℕ) (x : Lexeme) → word_place words.Else at x ≡ Some p → is_some (choice_place at x) ≡ true
+else_is_choice at p (lexemes.Word words.Else) e = refl
+else_is_choice at p (lexemes.Word _) e = cc
+else_is_choice at p (lexemes.Name n) e = cc
+else_is_choice at p (lexemes.Number k) e = cc
+else_is_choice at p (lexemes.Symbol s) e = cc
+else_is_choice at p lexemes.Quoted e = cc
+
+open_begins : (ts : List Token) → begins (a_symbol Open) ts ≡ true → begins a_choice ts ≡ true
+open_begins [] e = cc
+open_begins (t ∷ ts) e = open_is_choice t.start t.lexeme e
+
+else_begins : (ts us : List Token) (opened : ℕ) → else_head_syntax ts opened us → begins a_choice ts ≡ true
+unfolding else_head_syntax
+else_begins ts us opened h = rw h.before.first (else_is_choice h.before.one.start h.value h.before.one.lexeme h.before.stands)
+
+no_head_begins : (ts us : List Token) (head : Option PlainHead) → no_head_syntax ts head us → begins a_choice ts ≡ true
+unfolding no_head_syntax
+no_head_begins ts us head h = else_begins ts h.between h.value h.before
+
+head_begins_by : (ts us : List Token) (head : Option PlainHead) (b : Bool) → begins (a_symbol Open) ts ≡ b → MatchBool b (some_head_syntax ts head us) (no_head_syntax ts head us)
+    → begins a_choice ts ≡ true
+head_begins_by ts us head true e m = open_begins ts e
+head_begins_by ts us head false e m = no_head_begins ts us head m
+
+head_begins : (ts us : List Token) (head : Option PlainHead) → head_syntax ts head us → begins a_choice ts ≡ true
+unfolding head_syntax
+head_begins ts us head h = head_begins_by ts us head (begins (a_symbol Open) ts) refl h
+
+-- the body behind a head, as part of the answers that are left
+
+some_chosen : (K : Text → List Token → Type 0) (d : Branching) (ts us vs : List Token) (head : Option PlainHead) (text : Text) → begins a_choice ts ≡ true
+    → begins (a_symbol Open) ts ≡ true → some_head_syntax ts head us → TextReads us text vs → InBody K d head text vs → Chosen K d ts
+unfolding some_head_syntax InBody
+some_chosen K d ts us vs head text c e h r k =
+    let head_is : head ≡ Some h.value = h.after.same in
+    let rest_is : us ≡ h.between = h.after.none in
+    let a : Answered K d h.value text vs = subst (λ o. InBody K d o text vs) head_is k in
+    record {
+      others = answer h.value.at h.value.ranges text a.others;
+      us = a.us;
+      reads = answer_follows ts h.between vs a.us h.value text a.others c e h.before (subst (λ ws. TextReads ws text vs) rest_is r) a.reads;
+      closed = a.closed;
+    }
+
+no_chosen : (K : Text → List Token → Type 0) (d : Branching) (ts us vs : List Token) (head : Option PlainHead) (text : Text) → begins a_choice ts ≡ true
+    → begins (a_symbol Open) ts ≡ false → no_head_syntax ts head us → TextReads us text vs → InBody K d head text vs → Chosen K d ts
+unfolding no_head_syntax InBody
+no_chosen K d ts us vs head text c e h r k =
+    let head_is : head ≡ None = h.after.same in
+    let rest_is : us ≡ h.between = h.after.none in
+    let a : Closed K d (otherwise text) vs = subst (λ o. InBody K d o text vs) head_is k in
+    record {
+      others = otherwise text;
+      us = vs;
+      reads = else_follows ts h.between vs h.value text c e h.before (subst (λ ws. TextReads ws text vs) rest_is r);
+      closed = a;
+    }
+
+chosen_by : (K : Text → List Token → Type 0) (d : Branching) (ts us vs : List Token) (head : Option PlainHead) (text : Text) → begins a_choice ts ≡ true
+    → (b : Bool) → begins (a_symbol Open) ts ≡ b → MatchBool b (some_head_syntax ts head us) (no_head_syntax ts head us)
+    → TextReads us text vs → InBody K d head text vs → Chosen K d ts
+chosen_by K d ts us vs head text c true e m r k = some_chosen K d ts us vs head text c e m r k
+chosen_by K d ts us vs head text c false e m r k = no_chosen K d ts us vs head text c e m r k
+
+chosen : (K : Text → List Token → Type 0) (d : Branching) (ts us vs : List Token) (head : Option PlainHead) (text : Text) → head_syntax ts head us
+    → TextReads us text vs → InBody K d head text vs → Chosen K d ts
+unfolding head_syntax
+chosen K d ts us vs head text h r k = chosen_by K d ts us vs head text (head_begins ts us head h) (begins (a_symbol Open) ts) refl h r k
+
+head_sound : Leaves → (outer : List Body) (d : Branching) (ts : List Token) (m : Move) (ws : List Token) (whole : Text) (us : List Token)
+    → head_step outer d ts ≡ read m ws → Follows m ws whole us → Chosen (Behind outer whole us) d ts
+unfolding head_step Follows Behind
+head_sound l outer d ts m ws whole us h f =
+    let s = split head_at _ ts m ws h in
+    let next : Reached = record { outer = record { branching = d; head = s.value } ∷ outer; here = [] } in
+    let move : m ≡ reaches next = (let e = s.second in cc) in
+    let rest : ws ≡ s.between = (let e = s.second in cc) in
+    let g : Stands next s.between whole us = carried next m ws s.between whole us move rest f in
+    chosen (Behind outer whole us) d ts s.between g.vs s.value g.text (l.head.sound ts s.value s.between s.first) g.reads g.behind
+
+answer_sound_by : Leaves → (outer : List Body) (d : Branching) (ts : List Token) (m : Move) (ws : List Token) (whole : Text) (us : List Token)
+    → (b : Bool) → begins a_choice ts ≡ b → either b (head_step outer d) (closing_step whole_trees outer d nothing_else) ts ≡ read m ws
+    → Follows m ws whole us → Chosen (Behind outer whole us) d ts
+answer_sound_by l outer d ts m ws whole us true e h f = head_sound l outer d ts m ws whole us h f
+answer_sound_by l outer d ts m ws whole us false e h f = record {
+  others = nothing_else;
+  us = ts;
+  reads = no_more_answers ts e;
+  closed = closing_sound l outer d nothing_else ts m ws whole us h f;
+}
+
+answer_sound : Leaves → (outer : List Body) (d : Branching) (ts : List Token) (m : Move) (ws : List Token) (whole : Text) (us : List Token)
+    → answer_step whole_trees outer d ts ≡ read m ws → Follows m ws whole us → Chosen (Behind outer whole us) d ts
+unfolding answer_step
+answer_sound l outer d ts m ws whole us h f = answer_sound_by l outer d ts m ws whole us (begins a_choice ts) refl h f
+
+-- one more answer stands with the others
+with_one_more : (K : Text → List Token → Type 0) (d : Branching) (h : PlainHead) (text : Text) (others : Choice) (ts : List Token)
+    → Closed K (with_answer d h text) others ts → Closed K d (answer h.at h.ranges text others) ts
+with_one_more K d h text others ts c = record {
+  closed = c.closed;
+  us = c.us;
+  ends = c.ends;
+  rest = c.rest;
+  vs = c.vs;
+  follows = c.follows;
+  behind = subst (λ x. K (all_before d.before (decides d.asked.at d.asked.question x c.rest)) c.vs)
+      (all_answers-more d.answers (record { at = h.at; ranges = h.ranges; text = text }) others) c.behind;
+}
+
+body_sound : Leaves → (outer : List Body) (d : Branching) (head : Option PlainHead) (text : Text) (ts : List Token) (m : Move) (ws : List Token) (whole : Text) (us : List Token)
+    → body_step whole_trees outer d head text ts ≡ read m ws → Follows m ws whole us → InBody (Behind outer whole us) d head text ts
+unfolding InBody
+body_sound l outer d (Some h) text ts m ws whole us e f =
+    let c = answer_sound l outer (with_answer d h text) ts m ws whole us e f in
+    record { others = c.others; us = c.us; reads = c.reads; closed = with_one_more (Behind outer whole us) d h text c.others c.us c.closed }
+body_sound l outer d None text ts m ws whole us e f = closing_sound l outer d (otherwise text) ts m ws whole us e f
+
+behind_sound : Leaves → (outer : List Body) (text : Text) (ts : List Token) (m : Move) (ws : List Token) (whole : Text) (us : List Token)
+    → behind_step whole_trees outer text ts ≡ read m ws → Follows m ws whole us → Behind outer whole us text ts
+unfolding Behind Follows
+behind_sound l [] text ts m ws whole us e f =
+    let move : m ≡ closes text = cc in
+    let rest : ws ≡ ts = cc in
+    let g : (text ≡ whole) × (ws ≡ us) = subst (λ n. Follows n ws whole us) move f in
+    (g.0, sym rest ∙ g.1)
+behind_sound l (body ∷ outer) text ts m ws whole us e f = body_sound l outer body.branching body.head text ts m ws whole us e f
+
+end_from : (ts us : List Token) (last : Option End) (b : Bool) → begins an_action ts ≡ false → begins (a_word words.Decision) ts ≡ false → begins an_end ts ≡ b
+    → MatchBool b (Then end_syntax (λ e. grammar.give (Some e)) ts last us) (Gives None ts last us) → TextReads ts (end_text last) us
+end_from ts us last true e d f m =
     let last_is : Some m.value ≡ last = sym m.after.same in
     let rest_is : m.between ≡ us = sym m.after.none in
     subst (λ l. TextReads ts (end_text l) us) last_is
-    (subst (λ vs. TextReads ts (ends m.value) vs) rest_is (ends_there ts m.between m.value e f m.before))
-end_from ts us last false e f m =
+    (subst (λ vs. TextReads ts (ends m.value) vs) rest_is (ends_there ts m.between m.value e d f m.before))
+end_from ts us last false e d f m =
     let last_is : None ≡ last = sym m.same in
     let rest_is : ts ≡ us = sym m.none in
-    subst (λ l. TextReads ts (end_text l) us) last_is (subst (λ vs. TextReads ts falls vs) rest_is (runs_off ts e f))
+    subst (λ l. TextReads ts (end_text l) us) last_is (subst (λ vs. TextReads ts falls vs) rest_is (runs_off ts e d f))
 
-actions_from : (ts vs us : List Token) (actions : List PlainAction) (last : Option End) → Many an_action action_syntax ts actions vs
-    → optional an_end end_syntax vs last us → TextReads ts (does_all actions (end_text last)) us
-actions_from ts vs us actions last (no_more _ e) m = end_from ts us last (begins an_end ts) e refl m
-actions_from ts vs us actions last (one_more _ ws _ a more e h rest) m = goes_on ts ws us a (does_all more (end_text last)) e h (actions_from ws vs us more last rest m)
+end_sound : Leaves → (s : Reached) (ts : List Token) (m : Move) (ws : List Token) (whole : Text) (us : List Token) → begins an_action ts ≡ false
+    → begins (a_word words.Decision) ts ≡ false → end_step whole_trees s ts ≡ read m ws → Follows m ws whole us → Stands s ts whole us
+unfolding end_step
+end_sound l s ts m ws whole us a d h f =
+    let p = split (optional an_end end_at) _ ts m ws h in
+    record {
+      text = end_text p.value;
+      vs = p.between;
+      reads = end_from ts p.between p.value (begins an_end ts) a d refl ((optional_decides an_end l.last).sound ts p.value p.between p.first);
+      behind = behind_sound l s.outer (all_before s.here (end_text p.value)) p.between m ws whole us p.second f;
+    }
 
-row_to_text : (ts us : List Token) (text : Text) → row_syntax ts text us → TextReads ts text us
-unfolding row_syntax
-row_to_text ts us text h =
-    let l = h.after in
-    let text_is : does_all h.value (end_text l.value) ≡ text = sym l.after.same in
-    let rest_is : l.between ≡ us = sym l.after.none in
-    subst (λ x. TextReads ts x us) text_is
-    (subst (λ vs. TextReads ts (does_all h.value (end_text l.value)) vs) rest_is (actions_from ts h.between l.between h.value l.value h.before l.before))
+record HeadRead (ts : List Token) : Type 0 where
+  value : Option PlainHead
+  between : List Token
+  first : head_at ts ≡ read value between
 
--- and back
+head_of : (outer : List Body) (d : Branching) (ts : List Token) (m : Move) (ws : List Token) → head_step outer d ts ≡ read m ws → HeadRead ts
+unfolding head_step
+head_of outer d ts m ws h = let s = split head_at _ ts m ws h in record { value = s.value; between = s.between; first = s.first }
+
+decision_sound : Leaves → (s : Reached) (ts : List Token) (m : Move) (ws : List Token) (whole : Text) (us : List Token) → begins an_action ts ≡ false
+    → begins (a_word words.Decision) ts ≡ true → decision_step whole_trees s ts ≡ read m ws → Follows m ws whole us → Stands s ts whole us
+unfolding decision_step
+decision_sound l s ts m ws whole us a d h f =
+    let p = split (question_at (expression_at whole_trees)) _ ts m ws h in
+    let opened : Branching = record { before = s.here; asked = p.value; answers = [] } in
+    let q = head_of s.outer opened p.between m ws p.second in
+    let c = head_sound l s.outer opened p.between m ws whole us p.second f in
+    let k = c.closed in
+    record {
+      text = decides p.value.at p.value.question c.others k.rest;
+      vs = k.vs;
+      reads = branches ts p.between c.us k.us k.vs p.value c.others k.closed k.rest a d (l.question.sound ts p.value p.between p.first)
+          (head_begins p.between q.between q.value (l.head.sound p.between q.value q.between q.first)) c.reads k.ends k.follows;
+      behind = k.behind;
+    }
+
+action_sound : Leaves → (s : Reached) (ts : List Token) (m : Move) (ws : List Token) (whole : Text) (us : List Token) → begins an_action ts ≡ true
+    → action_step whole_trees s ts ≡ read m ws → Follows m ws whole us → Stands s ts whole us
+unfolding action_step Follows
+action_sound l s ts m ws whole us a h f =
+    let p = split (action_at (expression_at whole_trees)) _ ts m ws h in
+    let next : Reached = record { outer = s.outer; here = s.here ++ act p.value ∷ [] } in
+    let move : m ≡ reaches next = (let e = p.second in cc) in
+    let rest : ws ≡ p.between = (let e = p.second in cc) in
+    let g : Stands next p.between whole us = carried next m ws p.between whole us move rest f in
+    record {
+      text = does p.value g.text;
+      vs = g.vs;
+      reads = goes_on ts p.between g.vs p.value g.text a (l.action.sound ts p.value p.between p.first) g.reads;
+      behind = subst (λ t. Behind s.outer whole us t g.vs) (all_before-more s.here (act p.value) g.text) g.behind;
+    }
+
+step_sound_by : Leaves → (s : Reached) (ts : List Token) (m : Move) (ws : List Token) (whole : Text) (us : List Token) (a d : Bool)
+    → begins an_action ts ≡ a → begins (a_word words.Decision) ts ≡ d
+    → either a (action_step whole_trees s) (λ zs. either d (decision_step whole_trees s) (end_step whole_trees s) zs) ts ≡ read m ws
+    → Follows m ws whole us → Stands s ts whole us
+step_sound_by l s ts m ws whole us true d e f h k = action_sound l s ts m ws whole us e h k
+step_sound_by l s ts m ws whole us false true e f h k = decision_sound l s ts m ws whole us e f h k
+step_sound_by l s ts m ws whole us false false e f h k = end_sound l s ts m ws whole us e f h k
+
+-- the choice of a step, with the answers of both tests
+step_is : (b : Build) (s : Reached) (ts : List Token) (a d : Bool) → begins an_action ts ≡ a → begins (a_word words.Decision) ts ≡ d
+    → step_at b s ts ≡ either a (action_step b s) (λ zs. either d (decision_step b s) (end_step b s) zs) ts
+unfolding step_at
+step_is b s ts true d e f = ap (λ c. either c (action_step b s) (choice (a_word words.Decision) (decision_step b s) (end_step b s)) ts) e
+step_is b s ts false d e f =
+    ap (λ c. either c (action_step b s) (choice (a_word words.Decision) (decision_step b s) (end_step b s)) ts) e
+    ∙ ap (λ c. either c (decision_step b s) (end_step b s) ts) f
+
+step_sound : Leaves → (s : Reached) (ts : List Token) (m : Move) (ws : List Token) (whole : Text) (us : List Token)
+    → step_at whole_trees s ts ≡ read m ws → Follows m ws whole us → Stands s ts whole us
+step_sound l s ts m ws whole us h f =
+    step_sound_by l s ts m ws whole us (begins an_action ts) (begins (a_word words.Decision) ts) refl refl
+    (sym (step_is whole_trees s ts (begins an_action ts) (begins (a_word words.Decision) ts) refl refl) ∙ h) f
+
+follows_of : (n : ℕ) → ((s : Reached) (ts : List Token) (whole : Text) (us : List Token) → steps_for whole_trees n s ts ≡ read whole us → Stands s ts whole us)
+    → (m : Move) (ws : List Token) (whole : Text) (us : List Token) → after_move (steps_for whole_trees n) m ws ≡ read whole us → Follows m ws whole us
+unfolding Follows
+follows_of n ih (reaches s) ws whole us h = ih s ws whole us h
+follows_of n ih (closes text) ws whole us h = (let e : text ≡ whole = cc in e, let e : ws ≡ us = cc in e)
+
+steps_sound : Leaves → (n : ℕ) (s : Reached) (ts : List Token) (whole : Text) (us : List Token) → steps_for whole_trees n s ts ≡ read whole us → Stands s ts whole us
+unfolding steps_for
+steps_sound l zero s ts whole us h = cc
+steps_sound l (suc n) s ts whole us h =
+    let p = split (step_at whole_trees s) (after_move (steps_for whole_trees n)) ts whole us h in
+    step_sound l s ts p.value p.between whole us p.first (follows_of n (steps_sound l n) p.value p.between whole us p.second)
+
+-- from the grammar to the steps
+
+go_on : Reading Move → Reading Text
+go_on r = then_read r (after_move (steps_from whole_trees))
+
+head_complete_by : Leaves → (outer : List Body) (d : Branching) (ts us : List Token) (head : Option PlainHead) → head_syntax ts head us
+    → head_step outer d ts ≡ read (reaches (record { outer = record { branching = d; head = head } ∷ outer; here = [] })) us
+unfolding head_step
+head_complete_by l outer d ts us head h = ap (λ r. then_read r (λ x. give (reaches (record { outer = record { branching = d; head = x } ∷ outer; here = [] })))) (l.head.complete ts head us h)
+
+else_is_head : (ts us : List Token) (opened : ℕ) → begins (a_symbol Open) ts ≡ false → else_head_syntax ts opened us → head_syntax ts None us
+unfolding head_syntax no_head_syntax
+else_is_head ts us opened e h =
+    subst (λ c. MatchBool c (some_head_syntax ts None us) (no_head_syntax ts None us)) (sym e)
+    (record { value = opened; between = us; before = h; after = record { same = refl; none = refl } })
+
+answer_is_head : (ts us : List Token) (head : PlainHead) → begins (a_symbol Open) ts ≡ true → answer_head_syntax ts head us → head_syntax ts (Some head) us
+unfolding head_syntax some_head_syntax
+answer_is_head ts us head e h =
+    subst (λ c. MatchBool c (some_head_syntax ts (Some head) us) (no_head_syntax ts (Some head) us)) (sym e)
+    (record { value = head; between = us; before = h; after = record { same = refl; none = refl } })
+
+answer_step_head : (outer : List Body) (d : Branching) (ts : List Token) → begins a_choice ts ≡ true → answer_step whole_trees outer d ts ≡ head_step outer d ts
+unfolding answer_step
+answer_step_head outer d ts e = ap (λ c. either c (head_step outer d) (closing_step whole_trees outer d nothing_else) ts) e
+
+answer_step_closing : (outer : List Body) (d : Branching) (ts : List Token) → begins a_choice ts ≡ false → answer_step whole_trees outer d ts ≡ closing_step whole_trees outer d nothing_else ts
+unfolding answer_step
+answer_step_closing outer d ts e = ap (λ c. either c (head_step outer d) (closing_step whole_trees outer d nothing_else) ts) e
+
+closing_step_more : (outer : List Body) (d : Branching) (h : PlainHead) (text : Text) (others : Choice) (ts : List Token)
+    → closing_step whole_trees outer (with_answer d h text) others ts ≡ closing_step whole_trees outer d (answer h.at h.ranges text others) ts
+unfolding closing_step
+closing_step_more outer d h text others ts =
+    ap (λ c. then_read (end_decision_at ts) (λ _. give (reaches (record { outer = outer; here = d.before ++ decide d.asked.at d.asked.question c ∷ [] }))))
+    (all_answers-more d.answers (record { at = h.at; ranges = h.ranges; text = text }) others)
+
+closing_complete : Leaves → (outer : List Body) (d : Branching) (others : Choice) (ts us : List Token) (closed : ℕ) → end_decision_syntax ts closed us
+    → closing_step whole_trees outer d others ts ≡ read (reaches (record { outer = outer; here = d.before ++ decide d.asked.at d.asked.question (all_answers d.answers others) ∷ [] })) us
+unfolding closing_step
+closing_complete l outer d others ts us closed h =
+    ap (λ r. then_read r (λ _. give (reaches (record { outer = outer; here = d.before ++ decide d.asked.at d.asked.question (all_answers d.answers others) ∷ [] })))) (l.closing.complete ts closed us h)
+
+action_complete : Leaves → (s : Reached) (ts us : List Token) (action : PlainAction) → begins an_action ts ≡ true → action_syntax ts action us
+    → step_at whole_trees s ts ≡ read (reaches (record { outer = s.outer; here = s.here ++ act action ∷ [] })) us
+unfolding action_step
+action_complete l s ts us action e h =
+    step_is whole_trees s ts true (begins (a_word words.Decision) ts) e refl
+    ∙ ap (λ r. then_read r (λ x. give (reaches (record { outer = s.outer; here = s.here ++ act x ∷ [] })))) (l.action.complete ts action us h)
+
+decision_complete : Leaves → (s : Reached) (ts us : List Token) (asked : PlainQuestion) → begins an_action ts ≡ false → begins (a_word words.Decision) ts ≡ true
+    → question_syntax ts asked us → step_at whole_trees s ts ≡ head_step s.outer (record { before = s.here; asked = asked; answers = [] }) us
+unfolding decision_step
+decision_complete l s ts us asked e f h =
+    step_is whole_trees s ts false true e f
+    ∙ ap (λ r. then_read r (λ x. head_step s.outer (record { before = s.here; asked = x; answers = [] }))) (l.question.complete ts asked us h)
 
 MatchBool-at : (b c : Bool) (P Q : Type 0) → b ≡ c → MatchBool c P Q → MatchBool b P Q
 MatchBool-at b c P Q e m = subst (λ d. MatchBool d P Q) (sym e) m
 
-text_to_row : (ts us : List Token) (text : Text) → TextReads ts text us → row_syntax ts text us
-unfolding row_syntax
-text_to_row ts us text (runs_off _ e f) = record {
-  value = [];
-  between = ts;
-  before = no_more ts e;
-  after = record { value = None; between = ts; before = MatchBool-at _ false _ _ f (record { same = refl; none = refl }); after = record { same = refl; none = refl } };
-}
-text_to_row ts us text (ends_there _ _ e k f h) = record {
-  value = [];
-  between = ts;
-  before = no_more ts k;
-  after = record {
-    value = Some e;
-    between = us;
-    before = MatchBool-at _ true _ _ f (record { value = e; between = us; before = h; after = record { same = refl; none = refl } });
-    after = record { same = refl; none = refl };
-  };
-}
-text_to_row ts us text (goes_on _ vs _ a more e h r) =
-    let below = text_to_row vs us more r in
-    let l = below.after in
-    record {
-      value = a ∷ below.value;
-      between = below.between;
-      before = one_more ts vs below.between a below.value e h below.before;
-      after = record { value = l.value; between = l.between; before = l.before; after = record { same = ap (does a) l.after.same; none = l.after.none } };
-    }
+end_complete : Leaves → (s : Reached) (ts us : List Token) (last : Option End) → begins an_action ts ≡ false → begins (a_word words.Decision) ts ≡ false
+    → grammar.optional an_end end_syntax ts last us → step_at whole_trees s ts ≡ behind_step whole_trees s.outer (all_before s.here (end_text last)) us
+unfolding end_step
+end_complete l s ts us last e f h =
+    step_is whole_trees s ts false false e f
+    ∙ ap (λ r. then_read r (λ x. behind_step whole_trees s.outer (all_before s.here (end_text x)))) ((optional_decides an_end l.last).complete ts last us h)
 
-pub text_decides_from : {p : At Text} → Decides row_syntax p → Decides text_syntax p
-text_decides_from d = record {
-  looks = d.looks;
-  sound = λ ts x us h. row_to_text ts us x (d.sound ts x us h);
-  complete = λ ts x us h. d.complete ts x us (text_to_row ts us x h);
-}
+mutual
+  unfolding go_on
+
+  text_complete : Leaves → (ts us : List Token) (text : Text) → TextReads ts text us → (s : Reached)
+      → steps_from whole_trees s ts ≡ go_on (behind_step whole_trees s.outer (all_before s.here text) us)
+  text_complete l ts us text (runs_off _ e d f) s =
+      from_step whole_trees s ts
+      ∙ ap go_on (end_complete l s ts ts None e d (MatchBool-at _ false _ _ f (record { same = refl; none = refl })))
+  text_complete l ts us text (ends_there _ _ last e d f h) s =
+      from_step whole_trees s ts
+      ∙ ap go_on (end_complete l s ts us (Some last) e d (MatchBool-at _ true _ _ f (record { value = last; between = us; before = h; after = record { same = refl; none = refl } })))
+  text_complete l ts us text (goes_on _ vs _ action rest e h r) s =
+      from_reaches whole_trees s (record { outer = s.outer; here = s.here ++ act action ∷ [] }) ts vs (action_complete l s ts vs action e h)
+      ∙ text_complete l vs us rest r (record { outer = s.outer; here = s.here ++ act action ∷ [] })
+      ∙ ap (λ t. go_on (behind_step whole_trees s.outer t us)) (all_before-more s.here (act action) rest)
+  text_complete l ts us text (branches _ vs ws xs _ asked choice closed rest e d q b c h r) s =
+      let opened : Branching = record { before = s.here; asked = asked; answers = [] } in
+      let after : Reached = record { outer = s.outer; here = s.here ++ decide asked.at asked.question choice ∷ [] } in
+      from_step whole_trees s ts
+      ∙ ap go_on (decision_complete l s ts vs asked e d q ∙ sym (answer_step_head s.outer opened vs b))
+      ∙ choice_complete l vs ws choice c s.outer opened
+      ∙ ap go_on (closing_complete l s.outer opened choice ws xs closed h)
+      ∙ text_complete l xs us rest r after
+      ∙ ap (λ t. go_on (behind_step whole_trees s.outer t us)) (all_before-more s.here (decide asked.at asked.question choice) rest)
+
+  choice_complete : Leaves → (ts us : List Token) (others : Choice) → ChoiceReads ts others us → (outer : List Body) (d : Branching)
+      → go_on (answer_step whole_trees outer d ts) ≡ go_on (closing_step whole_trees outer d others us)
+  choice_complete l ts us others (no_more_answers _ e) outer d = ap go_on (answer_step_closing outer d ts e)
+  choice_complete l ts us others (else_follows _ vs _ opened text e f h r) outer d =
+      ap go_on (answer_step_head outer d ts e ∙ head_complete_by l outer d ts vs None (else_is_head ts vs opened f h))
+      ∙ text_complete l vs us text r (record { outer = record { branching = d; head = None } ∷ outer; here = [] })
+  choice_complete l ts us others (answer_follows _ vs ws _ head text more e f h r c) outer d =
+      ap go_on (answer_step_head outer d ts e ∙ head_complete_by l outer d ts vs (Some head) (answer_is_head ts vs head f h))
+      ∙ text_complete l vs ws text r (record { outer = record { branching = d; head = Some head } ∷ outer; here = [] })
+      ∙ choice_complete l ws us more c outer (with_answer d head text)
+      ∙ ap go_on (closing_step_more outer d head text more us)
+
+-- the transition alone
+
+text_sound_at : (ts : List Token) (whole : Text) (us : List Token) → Stands at_first ts whole us → TextReads ts whole us
+unfolding Behind
+text_sound_at ts whole us s =
+    subst (λ vs. TextReads ts whole vs) s.behind.1 (subst (λ t. TextReads ts t s.vs) s.behind.0 s.reads)
+
+text_sound : Leaves → (ts : List Token) (whole : Text) (us : List Token) → text_at whole_trees ts ≡ read whole us → TextReads ts whole us
+unfolding text_at steps_from
+text_sound l ts whole us h = text_sound_at ts whole us (steps_sound l (suc (length ts)) at_first ts whole us h)
+
+text_whole : Leaves → (ts : List Token) (whole : Text) (us : List Token) → TextReads ts whole us → text_at whole_trees ts ≡ read whole us
+unfolding text_at go_on
+text_whole l ts whole us h = text_complete l ts us whole h at_first
+
+text_looks : Leaves → (ts : List Token) → Seen (text_at whole_trees) ts
+unfolding text_at
+text_looks l ts = steps_look whole_trees (step_looks l) at_first ts
+
+pub text_decides_from : Leaves → Decides text_syntax (text_at whole_trees)
+text_decides_from l = record { looks = text_looks l; sound = text_sound l; complete = text_whole l }

@@ -4,14 +4,15 @@ use Rattle.std.proofs.Common.{sym, ap, subst}
 use Rattle.std.proofs.Math.Nat.{le_refl, le_trans, le_of_lt, lt_of_le_of_lt, lt-suc_self}
 use Rattle.sdl_lex.specs.declared.lexemes.Token.{Token}
 use Rattle.sdl_lex.specs.declared.lexemes.Word.TheVariants as words
-use Rattle.sdl_lex.specs.declared.lexemes.Symbol.TheVariants.{Semicolon, Comma, Assign, Open, Close, Plus, Minus}
-use Rattle.sdl_tree.specs.Plain.{Tree}
-use Rattle.sdl_tree.specs.Tokens.{begins, a_word, a_symbol, a_number, a_name, a_sort, a_party, a_constant, a_one, a_closing, a_quoted, a_destination, a_declaration, a_clause, an_action, an_end}
+use Rattle.sdl_lex.specs.declared.lexemes.Symbol.TheVariants.{Semicolon, Comma, Assign, Open, Close, Plus, Minus, Colon}
+use Rattle.sdl_tree.specs.Plain.{Tree, Text, Choice, nothing_else, otherwise, PlainHead}
+use Rattle.sdl_tree.specs.Bodies.{Branching, Body, Reached, Move, reaches, closes}
+use Rattle.sdl_tree.specs.Tokens.{begins, a_word, a_symbol, a_number, a_name, a_sort, a_party, a_constant, a_one, a_closing, a_quoted, a_destination, a_declaration, a_clause, an_action, an_end, a_choice, a_relation, a_section}
 use Rattle.sdl_tree.specs.Expressions.{other, sign}
 use Rattle.sdl_tree.specs.Machine.{Build, low_trees, State, wants, Turn, goes, done, stuck, turn, after_turn, run, empty_frame, expression_at}
 use Rattle.sdl_tree.specs.Readings.{Reading, read, fails, At, then_read, stands_for, either, many_for, many, choice, optional, give, token, separated_from, separated, list_in_parentheses, Shortens, NeverLonger}
 use Rattle.sdl_tree.specs.Readings as reading
-use Rattle.sdl_tree.specs.Productions.{comment_at, signal_at, signals_at, path_at, route_at, connect_at, negative_at, constant_at, initial_at, group_at, variables_at, timers_at, declaration_at, place_at, stimulus_at, assignment_at, assigned_at, quoted_at, item_at, task_at, sending_at, destination_at, output_at, delay_at, set_at, reset_at, action_at, next_state_at, stop_at, end_at, text_at, input_at, save_at, clause_at, closing_at, end_state_at, state_at, start_at, second_number_at, instances_at, process_head_at, process_at, entity_at, terminator_at}
+use Rattle.sdl_tree.specs.Productions.{comment_at, signal_at, signals_at, path_at, route_at, connect_at, negative_at, constant_at, initial_at, group_at, variables_at, timers_at, declaration_at, place_at, stimulus_at, assignment_at, assigned_at, quoted_at, item_at, task_at, sending_at, destination_at, output_at, delay_at, set_at, reset_at, action_at, next_state_at, stop_at, end_at, head_step, closing_step, answer_step, with_answer, body_step, behind_step, end_step, decision_step, action_step, step_at, after_move, steps_for, steps_from, at_first, text_at, input_at, save_at, clause_at, closing_at, end_state_at, state_at, start_at, second_number_at, instances_at, process_head_at, process_at, entity_at, terminator_at, compared_at, upper_at, value_at, range_at, answer_head_at, else_head_at, some_head_at, no_head_at, head_at, question_at, end_decision_at, join_at, end_connection_at, connection_at, state_section_at, connection_section_at, section_at}
 
 -- what a failed reading is not, and what a reading leaves
 IsRead : {A : Type 0} → Reading A → Type 0
@@ -271,6 +272,62 @@ action_takes e k = takes_choice (a_word words.Task) (task_takes e k) (takes_choi
 pub action_keeps : (e : At Tree) → NeverLonger e → NeverLonger (action_at e)
 action_keeps e k = less_never_longer _ (action_takes e k)
 
+pub compared_keeps : NeverLonger compared_at
+unfolding compared_at
+compared_keeps = keeps_token a_relation >>= λ compared. constant_keeps >>= λ constant. keeps_give _
+
+pub upper_keeps : NeverLonger upper_at
+unfolding upper_at
+upper_keeps = keeps_token (a_symbol Colon) >>= λ _. constant_keeps
+
+pub value_keeps : NeverLonger value_at
+unfolding value_at
+value_keeps = constant_keeps >>= λ low. keeps_optional (a_symbol Colon) upper_keeps >>= λ high. keeps_give _
+
+pub range_keeps : NeverLonger range_at
+unfolding range_at
+range_keeps = keeps_choice a_relation compared_keeps value_keeps
+
+pub answer_head_takes : Shortens answer_head_at
+unfolding answer_head_at
+answer_head_takes =
+    first_takes (shortens_token (a_symbol Open)) λ at.
+    keeps_separated range_keeps >>= λ ranges. keeps_token (a_symbol Close) >>= λ _. keeps_token (a_symbol Colon) >>= λ _. keeps_give _
+
+pub else_head_takes : Shortens else_head_at
+unfolding else_head_at
+else_head_takes =
+    first_takes (shortens_token (a_word words.Else)) λ at.
+    keeps_token (a_symbol Colon) >>= λ _. keeps_give _
+
+pub some_head_takes : Shortens some_head_at
+unfolding some_head_at
+some_head_takes =
+    first_takes answer_head_takes λ head.
+    keeps_give _
+
+pub no_head_takes : Shortens no_head_at
+unfolding no_head_at
+no_head_takes =
+    first_takes else_head_takes λ _.
+    keeps_give _
+
+pub head_takes : Shortens head_at
+unfolding head_at
+head_takes = takes_choice (a_symbol Open) some_head_takes no_head_takes
+
+pub question_takes : (e : At Tree) → NeverLonger e → Shortens (question_at e)
+unfolding question_at
+question_takes e k =
+    first_takes (shortens_token (a_word words.Decision)) λ at.
+    k >>= λ question. terminator_keeps >>= λ _. keeps_give _
+
+pub end_decision_takes : Shortens end_decision_at
+unfolding end_decision_at
+end_decision_takes =
+    first_takes (shortens_token (a_word words.EndDecision)) λ at.
+    terminator_keeps >>= λ _. keeps_give _
+
 pub next_state_keeps : NeverLonger next_state_at
 unfolding next_state_at
 next_state_keeps = keeps_token (a_word words.NextState) >>= λ at. name_keeps >>= λ state. terminator_keeps >>= λ _. keeps_give _
@@ -279,19 +336,72 @@ pub stop_keeps : NeverLonger stop_at
 unfolding stop_at
 stop_keeps = keeps_token (a_word words.Stop) >>= λ at. terminator_keeps >>= λ _. keeps_give _
 
+pub join_keeps : NeverLonger join_at
+unfolding join_at
+join_keeps = keeps_token (a_word words.Join) >>= λ at. name_keeps >>= λ connector. terminator_keeps >>= λ _. keeps_give _
+
 pub end_keeps : NeverLonger end_at
 unfolding end_at
-end_keeps = keeps_choice (a_word words.NextState) next_state_keeps stop_keeps
+end_keeps = keeps_choice (a_word words.NextState) next_state_keeps (keeps_choice (a_word words.Stop) stop_keeps join_keeps)
 
-pub text_keeps : (e : At Tree) → NeverLonger e → NeverLonger (text_at e)
-unfolding text_at
-text_keeps e k = keeps_many an_action (action_keeps e k) >>= λ actions. keeps_optional an_end end_keeps >>= λ last. keeps_give _
+-- the steps of a transition
 
-pub input_takes : (e : At Tree) → NeverLonger e → Shortens (input_at e)
+pub last_keeps : NeverLonger (optional an_end end_at)
+last_keeps = keeps_optional an_end end_keeps
+
+pub head_step_takes : (outer : List Body) (d : Branching) → Shortens (head_step outer d)
+unfolding head_step
+head_step_takes outer d = first_takes head_takes λ head. keeps_give _
+
+pub closing_step_takes : (b : Build) (outer : List Body) (d : Branching) (others : Choice) → Shortens (closing_step b outer d others)
+unfolding closing_step
+closing_step_takes b outer d others = first_takes end_decision_takes λ _. keeps_give _
+
+pub body_step_takes : (b : Build) (outer : List Body) (d : Branching) (head : Option PlainHead) (text : Text) → Shortens (body_step b outer d head text)
+unfolding answer_step
+body_step_takes b outer d (Some h) text = takes_choice a_choice (head_step_takes outer (with_answer d h text)) (closing_step_takes b outer (with_answer d h text) nothing_else)
+body_step_takes b outer d None text = closing_step_takes b outer d (otherwise text)
+
+behind_step_keeps : (b : Build) (outer : List Body) (text : Text) → NeverLonger (behind_step b outer text)
+behind_step_keeps b [] text = keeps_give (closes text)
+behind_step_keeps b (body ∷ outer) text = less_never_longer _ (body_step_takes b outer body.branching body.head text)
+
+end_step_keeps : (b : Build) (s : Reached) → NeverLonger (end_step b s)
+unfolding end_step
+end_step_keeps b s = last_keeps >>= λ last. behind_step_keeps b s.outer _
+
+pub decision_step_takes : (b : Build) (s : Reached) → Shortens (decision_step b s)
+unfolding decision_step
+decision_step_takes b s = first_takes (question_takes (expression_at b) (expression_keeps b)) λ asked. less_never_longer _ (head_step_takes s.outer _)
+
+pub action_step_takes : (b : Build) (s : Reached) → Shortens (action_step b s)
+unfolding action_step
+action_step_takes b s = first_takes (action_takes (expression_at b) (expression_keeps b)) λ action. keeps_give _
+
+step_keeps : (b : Build) (s : Reached) → NeverLonger (step_at b s)
+unfolding step_at
+step_keeps b s =
+    keeps_choice an_action (less_never_longer _ (action_step_takes b s))
+    (keeps_choice (a_word words.Decision) (less_never_longer _ (decision_step_takes b s)) (end_step_keeps b s))
+
+move_keeps : (go_on : Reached → At Text) → ((s : Reached) → NeverLonger (go_on s)) → (m : Move) → NeverLonger (after_move go_on m)
+move_keeps go_on k (reaches s) = k s
+move_keeps go_on k (closes text) = keeps_give text
+
+steps_for_keep : (b : Build) (n : ℕ) (s : Reached) → NeverLonger (steps_for b n s)
+unfolding steps_for
+steps_for_keep b zero s = λ ts x us h. not_read (length us ≤ length ts) ts us x h
+steps_for_keep b (suc n) s = step_keeps b s >>= move_keeps (steps_for b n) (steps_for_keep b n)
+
+pub text_keeps : (b : Build) → NeverLonger (text_at b)
+unfolding text_at steps_from
+text_keeps b = λ ts x us h. steps_for_keep b (suc (length ts)) at_first ts x us h
+
+pub input_takes : (b : Build) → Shortens (input_at b)
 unfolding input_at
-input_takes e k =
+input_takes b =
     first_takes (shortens_token (a_word words.Input)) λ at.
-    keeps_separated stimulus_keeps >>= λ stimuli. terminator_keeps >>= λ _. text_keeps e k >>= λ text. keeps_give _
+    keeps_separated stimulus_keeps >>= λ stimuli. terminator_keeps >>= λ _. text_keeps b >>= λ text. keeps_give _
 
 pub save_takes : Shortens save_at
 unfolding save_at
@@ -299,12 +409,12 @@ save_takes =
     first_takes (shortens_token (a_word words.Save)) λ _.
     keeps_separated name_keeps >>= λ names. terminator_keeps >>= λ _. keeps_give _
 
-pub clause_takes : (e : At Tree) → NeverLonger e → Shortens (clause_at e)
+pub clause_takes : (b : Build) → Shortens (clause_at b)
 unfolding clause_at
-clause_takes e k = takes_choice (a_word words.Input) (input_takes e k) save_takes
+clause_takes b = takes_choice (a_word words.Input) (input_takes b) save_takes
 
-pub clause_keeps : (e : At Tree) → NeverLonger e → NeverLonger (clause_at e)
-clause_keeps e k = less_never_longer _ (clause_takes e k)
+pub clause_keeps : (b : Build) → NeverLonger (clause_at b)
+clause_keeps b = less_never_longer _ (clause_takes b)
 
 pub closing_keeps : (name : List ℕ) → NeverLonger (closing_at name)
 unfolding closing_at
@@ -314,20 +424,49 @@ pub end_state_keeps : (name : List ℕ) → NeverLonger (end_state_at name)
 unfolding end_state_at
 end_state_keeps name = keeps_token (a_word words.EndState) >>= λ _. closing_keeps name
 
-pub state_takes : (e : At Tree) → NeverLonger e → Shortens (state_at e)
+pub state_takes : (b : Build) → Shortens (state_at b)
 unfolding state_at
-state_takes e k =
+state_takes b =
     first_takes (shortens_token (a_word words.State)) λ _.
     name_keeps >>= λ name. keeps_separated_from name name_keeps >>= λ names. terminator_keeps >>=
-    λ _. keeps_many a_clause (clause_keeps e k) >>= λ clauses. keeps_optional (a_word words.EndState) (end_state_keeps name.name) >>=
+    λ _. keeps_many a_clause (clause_keeps b) >>= λ clauses. keeps_optional (a_word words.EndState) (end_state_keeps name.name) >>=
     λ _. keeps_give _
 
-pub state_keeps : (e : At Tree) → NeverLonger e → NeverLonger (state_at e)
-state_keeps e k = less_never_longer _ (state_takes e k)
+pub state_keeps : (b : Build) → NeverLonger (state_at b)
+state_keeps b = less_never_longer _ (state_takes b)
 
-pub start_keeps : (e : At Tree) → NeverLonger e → NeverLonger (start_at e)
+pub end_connection_keeps : (name : List ℕ) → NeverLonger (end_connection_at name)
+unfolding end_connection_at
+end_connection_keeps name = keeps_token (a_word words.EndConnection) >>= λ _. closing_keeps name
+
+pub connection_takes : (b : Build) → Shortens (connection_at b)
+unfolding connection_at
+connection_takes b =
+    first_takes (shortens_token (a_word words.Connection)) λ at.
+    name_keeps >>= λ name. keeps_token (a_symbol Colon) >>= λ _. text_keeps b >>= λ text. keeps_optional (a_word words.EndConnection) (end_connection_keeps name.name) >>= λ _. keeps_give _
+
+pub state_section_takes : (b : Build) → Shortens (state_section_at b)
+unfolding state_section_at
+state_section_takes b =
+    first_takes (state_takes b) λ state.
+    keeps_give _
+
+pub connection_section_takes : (b : Build) → Shortens (connection_section_at b)
+unfolding connection_section_at
+connection_section_takes b =
+    first_takes (connection_takes b) λ connection.
+    keeps_give _
+
+pub section_takes : (b : Build) → Shortens (section_at b)
+unfolding section_at
+section_takes b = takes_choice (a_word words.State) (state_section_takes b) (connection_section_takes b)
+
+pub section_keeps : (b : Build) → NeverLonger (section_at b)
+section_keeps b = less_never_longer _ (section_takes b)
+
+pub start_keeps : (b : Build) → NeverLonger (start_at b)
 unfolding start_at
-start_keeps e k = keeps_token (a_word words.Start) >>= λ at. terminator_keeps >>= λ _. text_keeps e k >>= λ text. keeps_give _
+start_keeps b = keeps_token (a_word words.Start) >>= λ at. terminator_keeps >>= λ _. text_keeps b >>= λ text. keeps_give _
 
 pub second_number_keeps : NeverLonger second_number_at
 unfolding second_number_at
@@ -345,20 +484,20 @@ process_head_takes =
     first_takes (shortens_token (a_word words.Process)) λ _.
     name_keeps >>= λ name. keeps_optional (a_symbol Open) instances_keeps >>= λ _. terminator_keeps >>= λ _. keeps_give _
 
-pub process_takes : (e : At Tree) → NeverLonger e → Shortens (process_at e)
+pub process_takes : (b : Build) → Shortens (process_at b)
 unfolding process_at
-process_takes e k =
+process_takes b =
     first_takes process_head_takes λ name.
-    keeps_many a_declaration declaration_keeps >>= λ declarations. start_keeps e k >>=
-    λ start. keeps_many (a_word words.State) (state_keeps e k) >>= λ states. keeps_token (a_word words.EndProcess) >>=
+    keeps_many a_declaration declaration_keeps >>= λ declarations. start_keeps b >>=
+    λ start. keeps_many a_section (section_keeps b) >>= λ sections. keeps_token (a_word words.EndProcess) >>=
     λ _. closing_keeps name.name >>= λ _. keeps_give _
 
-pub entity_takes : (e : At Tree) → NeverLonger e → Shortens (entity_at e)
+pub entity_takes : (b : Build) → Shortens (entity_at b)
 unfolding entity_at
-entity_takes e k = takes_choice (a_word words.Signal) signals_takes (takes_choice (a_word words.SignalRoute) route_takes (takes_choice (a_word words.Connect) connect_takes (process_takes e k)))
+entity_takes b = takes_choice (a_word words.Signal) signals_takes (takes_choice (a_word words.SignalRoute) route_takes (takes_choice (a_word words.Connect) connect_takes (process_takes b)))
 
-pub entity_keeps : (e : At Tree) → NeverLonger e → NeverLonger (entity_at e)
-entity_keeps e k = less_never_longer _ (entity_takes e k)
+pub entity_keeps : (b : Build) → NeverLonger (entity_at b)
+entity_keeps b = less_never_longer _ (entity_takes b)
 
 -- the same where no tree above one that is too high is built
 
@@ -377,20 +516,20 @@ low_action_takes = action_takes (expression_at low_trees) low_keeps
 pub low_action_keeps : NeverLonger (action_at (expression_at low_trees))
 low_action_keeps = action_keeps (expression_at low_trees) low_keeps
 
-pub low_clause_takes : Shortens (clause_at (expression_at low_trees))
-low_clause_takes = clause_takes (expression_at low_trees) low_keeps
+pub low_clause_takes : Shortens (clause_at low_trees)
+low_clause_takes = clause_takes low_trees
 
-pub low_clause_keeps : NeverLonger (clause_at (expression_at low_trees))
-low_clause_keeps = clause_keeps (expression_at low_trees) low_keeps
+pub low_clause_keeps : NeverLonger (clause_at low_trees)
+low_clause_keeps = clause_keeps low_trees
 
-pub low_state_takes : Shortens (state_at (expression_at low_trees))
-low_state_takes = state_takes (expression_at low_trees) low_keeps
+pub low_section_takes : Shortens (section_at low_trees)
+low_section_takes = section_takes low_trees
 
-pub low_state_keeps : NeverLonger (state_at (expression_at low_trees))
-low_state_keeps = state_keeps (expression_at low_trees) low_keeps
+pub low_section_keeps : NeverLonger (section_at low_trees)
+low_section_keeps = section_keeps low_trees
 
-pub low_entity_takes : Shortens (entity_at (expression_at low_trees))
-low_entity_takes = entity_takes (expression_at low_trees) low_keeps
+pub low_entity_takes : Shortens (entity_at low_trees)
+low_entity_takes = entity_takes low_trees
 
-pub low_entity_keeps : NeverLonger (entity_at (expression_at low_trees))
-low_entity_keeps = entity_keeps (expression_at low_trees) low_keeps
+pub low_entity_keeps : NeverLonger (entity_at low_trees)
+low_entity_keeps = entity_keeps low_trees

@@ -7,6 +7,8 @@ pub mod Syntax
 pub mod Heights
 pub mod Readings
 pub mod Machine
+pub mod Bodies
+pub mod BodyViews
 pub mod Productions
 pub mod Mirrors
 pub mod Parts

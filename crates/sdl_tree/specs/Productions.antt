@@ -1,19 +1,23 @@
--- The productions read token by token, in one step each. `e` reads an expression.
-use Rattle.std.specs.Prelude.{ℕ, List, ◌∷◌, Option, Some, None, pos, ◌-ℤ◌}
+-- The productions read token by token, in one step each. `e` reads an expression, `b` says how trees are built.
+use Rattle.std.specs.Prelude.{ℕ, suc, zero, List, [], ◌∷◌, ◌++◌, length, Option, Some, None, pos, ◌-ℤ◌}
 use Rattle.std.specs.List.{filter_map}
 use Rattle.std.specs.Option.{option_to_list}
 use Rattle.sdl_lex.specs.declared.lexemes.Word.TheVariants as words
-use Rattle.sdl_lex.specs.declared.lexemes.Symbol.TheVariants.{Semicolon, Comma, Assign, Open, Close, Plus, Minus}
+use Rattle.sdl_lex.specs.declared.lexemes.Symbol.TheVariants.{Semicolon, Comma, Assign, Open, Close, Plus, Minus, Colon}
 use Rattle.sdl_tree.specs.declared.expression.Identifier.{Identifier}
 use Rattle.sdl_tree.specs.declared.tree.Constant.{Constant}
 use Rattle.sdl_tree.specs.declared.tree.Destination.{Destination}
 use Rattle.sdl_tree.specs.declared.tree.Literal.TheVariants as literals
 use Rattle.sdl_tree.specs.declared.tree.End.{End}
-use Rattle.sdl_tree.specs.declared.tree.End.TheVariants.{NextState, Stop}
-use Rattle.sdl_tree.specs.Plain.{Tree, PlainAssignment, PlainSending, PlainAction, task, output, set_timer, reset_timer, Text, PlainStimulus, PlainClause, input, save, PlainState, PlainStart, PlainGroup, PlainDeclaration, variables, timers, PlainPath, PlainSignal, PlainEntity, signals, route, connect, process, PlainBlock}
-use Rattle.sdl_tree.specs.Views.{does_all, end_text}
-use Rattle.sdl_tree.specs.Tokens.{a_word, a_symbol, a_number, a_name, a_sort, a_party, a_constant, a_one, a_closing, a_quoted, a_destination, an_entity, a_declaration, a_clause, an_action, an_end}
-use Rattle.sdl_tree.specs.Readings.{At, give, token, ◌>>=◌, many, choice, optional, separated_from, separated, list_in_parentheses}
+use Rattle.sdl_tree.specs.declared.tree.End.TheVariants.{NextState, Stop, Join}
+use Rattle.sdl_tree.specs.declared.tree.Range.{Range}
+use Rattle.sdl_tree.specs.declared.tree.Range.TheVariants.{Compared}
+use Rattle.sdl_tree.specs.Plain.{Tree, PlainAssignment, PlainSending, PlainAction, task, output, set_timer, reset_timer, Text, Choice, nothing_else, otherwise, PlainQuestion, PlainHead, act, all_before, all_answers, PlainStimulus, PlainClause, input, save, PlainState, PlainStart, PlainGroup, PlainDeclaration, variables, timers, PlainPath, PlainSignal, PlainEntity, signals, route, connect, process, PlainBlock, PlainConnection, PlainSection, in_state, in_connection, process_from, from_to}
+use Rattle.sdl_tree.specs.Views.{end_text}
+use Rattle.sdl_tree.specs.Tokens.{a_word, a_symbol, a_number, a_name, a_sort, a_party, a_constant, a_one, a_closing, a_quoted, a_destination, an_entity, a_declaration, a_clause, an_action, an_end, a_choice, a_relation, a_section}
+use Rattle.sdl_tree.specs.Machine.{Build, expression_at}
+use Rattle.sdl_tree.specs.Bodies.{Branching, Body, Reached, Move, reaches, closes}
+use Rattle.sdl_tree.specs.Readings.{At, fails, give, token, ◌>>=◌, many, choice, optional, separated_from, separated, list_in_parentheses}
 
 abbrev pub names_at : At (List Identifier)
 names_at = separated (token a_name)
@@ -192,6 +196,66 @@ reset_at = do
 unfoldable pub action_at : At Tree → At PlainAction
 action_at e = choice (a_word words.Task) (task_at e) (choice (a_word words.Output) (output_at e) (choice (a_word words.Set) (set_at e) reset_at))
 
+unfoldable pub compared_at : At Range
+compared_at = do
+  compared ← token a_relation
+  constant ← constant_at
+  give (Compared compared.at compared.relation constant)
+
+unfoldable pub upper_at : At Constant
+upper_at = do
+  _ ← token (a_symbol Colon)
+  constant_at
+
+unfoldable pub value_at : At Range
+value_at = do
+  low ← constant_at
+  high ← optional (a_symbol Colon) upper_at
+  give (from_to low high)
+
+unfoldable pub range_at : At Range
+range_at = choice a_relation compared_at value_at
+
+unfoldable pub answer_head_at : At PlainHead
+answer_head_at = do
+  at ← token (a_symbol Open)
+  ranges ← separated range_at
+  _ ← token (a_symbol Close)
+  _ ← token (a_symbol Colon)
+  give (record { at = at; ranges = ranges })
+
+unfoldable pub else_head_at : At ℕ
+else_head_at = do
+  at ← token (a_word words.Else)
+  _ ← token (a_symbol Colon)
+  give at
+
+unfoldable pub some_head_at : At (Option PlainHead)
+some_head_at = do
+  head ← answer_head_at
+  give (Some head)
+
+unfoldable pub no_head_at : At (Option PlainHead)
+no_head_at = do
+  _ ← else_head_at
+  give None
+
+unfoldable pub head_at : At (Option PlainHead)
+head_at = choice (a_symbol Open) some_head_at no_head_at
+
+unfoldable pub question_at : At Tree → At PlainQuestion
+question_at e = do
+  at ← token (a_word words.Decision)
+  question ← e
+  _ ← terminator_at
+  give (record { at = at; question = question })
+
+unfoldable pub end_decision_at : At ℕ
+end_decision_at = do
+  at ← token (a_word words.EndDecision)
+  _ ← terminator_at
+  give at
+
 unfoldable pub next_state_at : At End
 next_state_at = do
   at ← token (a_word words.NextState)
@@ -205,21 +269,91 @@ stop_at = do
   _ ← terminator_at
   give (Stop at)
 
+unfoldable pub join_at : At End
+join_at = do
+  at ← token (a_word words.Join)
+  connector ← token a_name
+  _ ← terminator_at
+  give (Join (record { at = at; connector = connector }))
+
 unfoldable pub end_at : At End
-end_at = choice (a_word words.NextState) next_state_at stop_at
+end_at = choice (a_word words.NextState) next_state_at (choice (a_word words.Stop) stop_at join_at)
 
-unfoldable pub text_at : At Tree → At Text
-text_at e = do
-  actions ← many an_action (action_at e)
+-- Bodies of a DECISION stand in each other as deep as the text goes, so a transition is read in steps, each
+-- of one action, of a question with the first head, or of an end with the head or ENDDECISION behind it.
+
+-- the head of an answer or ELSE: its body is read next
+unfoldable pub head_step : List Body → Branching → At Move
+head_step outer d = do
+  head ← head_at
+  give (reaches (record { outer = record { branching = d; head = head } ∷ outer; here = [] }))
+
+-- ENDDECISION: what stands behind it is read next
+unfoldable pub closing_step : Build → List Body → Branching → Choice → At Move
+closing_step b outer d others = do
+  _ ← end_decision_at
+  give (reaches (record { outer = outer; here = d.before ++ b.decision d.asked.at d.asked.question (all_answers d.answers others) ∷ [] }))
+
+-- behind the body of an answer: another head, or ENDDECISION
+unfoldable pub answer_step : Build → List Body → Branching → At Move
+answer_step b outer d = choice a_choice (head_step outer d) (closing_step b outer d nothing_else)
+
+abbrev pub with_answer : Branching → PlainHead → Text → Branching
+with_answer d h text = record { before = d.before; asked = d.asked; answers = d.answers ++ record { at = h.at; ranges = h.ranges; text = text } ∷ [] }
+
+-- behind a body; nothing but ENDDECISION stands behind that of ELSE
+abbrev pub body_step : Build → List Body → Branching → Option PlainHead → Text → At Move
+body_step b outer d (Some h) text = answer_step b outer (with_answer d h text)
+body_step b outer d None text = closing_step b outer d (otherwise text)
+
+-- behind a transition
+abbrev pub behind_step : Build → List Body → Text → At Move
+behind_step b [] text = give (closes text)
+behind_step b (body ∷ outer) text = body_step b outer body.branching body.head text
+
+unfoldable pub end_step : Build → Reached → At Move
+end_step b s = do
   last ← optional an_end end_at
-  give (does_all actions (end_text last))
+  behind_step b s.outer (all_before s.here (end_text last))
 
-unfoldable pub input_at : At Tree → At PlainClause
-input_at e = do
+unfoldable pub decision_step : Build → Reached → At Move
+decision_step b s = do
+  asked ← question_at (expression_at b)
+  head_step s.outer (record { before = s.here; asked = asked; answers = [] })
+
+unfoldable pub action_step : Build → Reached → At Move
+action_step b s = do
+  action ← action_at (expression_at b)
+  give (reaches (record { outer = s.outer; here = s.here ++ act action ∷ [] }))
+
+unfoldable pub step_at : Build → Reached → At Move
+step_at b s = choice an_action (action_step b s) (choice (a_word words.Decision) (decision_step b s) (end_step b s))
+
+abbrev pub after_move : (Reached → At Text) → Move → At Text
+after_move go_on (reaches s) = go_on s
+after_move go_on (closes text) = give text
+
+-- steps in a row, at most so many
+unfoldable pub steps_for : Build → ℕ → Reached → At Text
+steps_for b zero s = λ ts. fails ts
+steps_for b (suc n) s = step_at b s >>= after_move (steps_for b n)
+
+-- each step but the last takes a token
+unfoldable pub steps_from : Build → Reached → At Text
+steps_from b s = λ ts. steps_for b (suc (length ts)) s ts
+
+abbrev pub at_first : Reached
+at_first = record { outer = []; here = [] }
+
+unfoldable pub text_at : Build → At Text
+text_at b = steps_from b at_first
+
+unfoldable pub input_at : Build → At PlainClause
+input_at b = do
   at ← token (a_word words.Input)
   stimuli ← separated stimulus_at
   _ ← terminator_at
-  text ← text_at e
+  text ← text_at b
   give (input (record { at = at; stimuli = stimuli; text = text }))
 
 unfoldable pub save_at : At PlainClause
@@ -229,8 +363,8 @@ save_at = do
   _ ← terminator_at
   give (save names)
 
-unfoldable pub clause_at : At Tree → At PlainClause
-clause_at e = choice (a_word words.Input) (input_at e) save_at
+unfoldable pub clause_at : Build → At PlainClause
+clause_at b = choice (a_word words.Input) (input_at b) save_at
 
 unfoldable pub closing_at : List ℕ → At (Option Identifier)
 closing_at name = do
@@ -243,21 +377,48 @@ end_state_at name = do
   _ ← token (a_word words.EndState)
   closing_at name
 
-unfoldable pub state_at : At Tree → At PlainState
-state_at e = do
+unfoldable pub state_at : Build → At PlainState
+state_at b = do
   _ ← token (a_word words.State)
   name ← token a_name
   names ← separated_from name (token a_name)
   _ ← terminator_at
-  clauses ← many a_clause (clause_at e)
+  clauses ← many a_clause (clause_at b)
   _ ← optional (a_word words.EndState) (end_state_at name.name)
   give (record { names = names; clauses = clauses })
 
-unfoldable pub start_at : At Tree → At PlainStart
-start_at e = do
+unfoldable pub end_connection_at : List ℕ → At (Option Identifier)
+end_connection_at name = do
+  _ ← token (a_word words.EndConnection)
+  closing_at name
+
+unfoldable pub connection_at : Build → At PlainConnection
+connection_at b = do
+  at ← token (a_word words.Connection)
+  name ← token a_name
+  _ ← token (a_symbol Colon)
+  text ← text_at b
+  _ ← optional (a_word words.EndConnection) (end_connection_at name.name)
+  give (record { at = at; name = name; text = text })
+
+unfoldable pub state_section_at : Build → At PlainSection
+state_section_at b = do
+  state ← state_at b
+  give (in_state state)
+
+unfoldable pub connection_section_at : Build → At PlainSection
+connection_section_at b = do
+  connection ← connection_at b
+  give (in_connection connection)
+
+unfoldable pub section_at : Build → At PlainSection
+section_at b = choice (a_word words.State) (state_section_at b) (connection_section_at b)
+
+unfoldable pub start_at : Build → At PlainStart
+start_at b = do
   at ← token (a_word words.Start)
   _ ← terminator_at
-  text ← text_at e
+  text ← text_at b
   give (record { at = at; text = text })
 
 unfoldable pub second_number_at : At (Option ℕ)
@@ -281,25 +442,25 @@ process_head_at = do
   _ ← terminator_at
   give name
 
-unfoldable pub process_at : At Tree → At PlainEntity
-process_at e = do
+unfoldable pub process_at : Build → At PlainEntity
+process_at b = do
   name ← process_head_at
   declarations ← many a_declaration declaration_at
-  start ← start_at e
-  states ← many (a_word words.State) (state_at e)
+  start ← start_at b
+  sections ← many a_section (section_at b)
   _ ← token (a_word words.EndProcess)
   _ ← closing_at name.name
-  give (process (record { name = name; declarations = declarations; start = start; states = states }))
+  give (process (process_from name declarations start sections))
 
-unfoldable pub entity_at : At Tree → At PlainEntity
-entity_at e = choice (a_word words.Signal) signals_at (choice (a_word words.SignalRoute) route_at (choice (a_word words.Connect) connect_at (process_at e)))
+unfoldable pub entity_at : Build → At PlainEntity
+entity_at b = choice (a_word words.Signal) signals_at (choice (a_word words.SignalRoute) route_at (choice (a_word words.Connect) connect_at (process_at b)))
 
-unfoldable pub block_at : At Tree → At PlainBlock
-block_at e = do
+unfoldable pub block_at : Build → At PlainBlock
+block_at b = do
   _ ← token (a_word words.Block)
   name ← token a_name
   _ ← terminator_at
-  entities ← many an_entity (entity_at e)
+  entities ← many an_entity (entity_at b)
   _ ← token (a_word words.EndBlock)
   _ ← closing_at name.name
   give (record { name = name; entities = entities })

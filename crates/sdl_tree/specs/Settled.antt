@@ -8,7 +8,7 @@ use Rattle.sdl_tree.specs.Plain.{PlainBlock}
 use Rattle.sdl_tree.specs.Views.{block_of}
 use Rattle.sdl_tree.specs.Heights.{first_too_high}
 use Rattle.sdl_tree.specs.Readings.{Reading, read, fails}
-use Rattle.sdl_tree.specs.Machine.{low_trees, expression_at}
+use Rattle.sdl_tree.specs.Machine.{low_trees}
 use Rattle.sdl_tree.specs.Productions.{block_at}
 
 -- where a reading that doesn't take all tokens stops
@@ -18,7 +18,7 @@ stops_at (read x (t ∷ us)) = Some (t ∷ us)
 stops_at (fails us) = Some us
 
 abbrev pub low_block : List Token → Reading PlainBlock
-low_block tokens = block_at (expression_at low_trees) tokens
+low_block tokens = block_at low_trees tokens
 
 abbrev pub Settled : List Token → Result Block ParseFault → Type 0
 Settled tokens (Ok block) = (low_block tokens ≡ read (block_of block) []) × (first_too_high (block_of block) ≡ None)

@@ -4,15 +4,17 @@ use Rattle.std.specs.List.{filter_map}
 use Rattle.std.specs.Option.{option_to_list}
 use Rattle.sdl_lex.specs.declared.lexemes.Token.{Token}
 use Rattle.sdl_lex.specs.declared.lexemes.Word.TheVariants as words
-use Rattle.sdl_lex.specs.declared.lexemes.Symbol.TheVariants.{Semicolon, Comma, Assign, Open, Close, Plus, Minus}
+use Rattle.sdl_lex.specs.declared.lexemes.Symbol.TheVariants.{Semicolon, Comma, Assign, Open, Close, Plus, Minus, Colon}
 use Rattle.sdl_tree.specs.declared.expression.Identifier.{Identifier}
 use Rattle.sdl_tree.specs.declared.tree.Constant.{Constant}
 use Rattle.sdl_tree.specs.declared.tree.Destination.{Destination}
 use Rattle.sdl_tree.specs.declared.tree.Literal.TheVariants as literals
 use Rattle.sdl_tree.specs.declared.tree.End.{End}
-use Rattle.sdl_tree.specs.declared.tree.End.TheVariants.{NextState, Stop}
-use Rattle.sdl_tree.specs.Plain.{PlainAssignment, PlainSending, PlainAction, task, output, set_timer, reset_timer, Text, falls, ends, does, Tree, PlainStimulus, PlainClause, input, save, PlainState, PlainStart, PlainGroup, PlainDeclaration, variables, timers, PlainPath, PlainSignal, PlainEntity, signals, route, connect, process, PlainBlock}
-use Rattle.sdl_tree.specs.Tokens.{begins, a_word, a_symbol, a_number, a_name, a_sort, a_party, a_constant, a_one, a_closing, a_quoted, a_destination, an_entity, a_declaration, a_clause, an_action, an_end}
+use Rattle.sdl_tree.specs.declared.tree.End.TheVariants.{NextState, Stop, Join}
+use Rattle.sdl_tree.specs.declared.tree.Range.{Range}
+use Rattle.sdl_tree.specs.declared.tree.Range.TheVariants.{Compared}
+use Rattle.sdl_tree.specs.Plain.{PlainAssignment, PlainSending, PlainAction, task, output, set_timer, reset_timer, Text, falls, ends, does, decides, Choice, nothing_else, otherwise, answer, PlainQuestion, PlainHead, Tree, PlainStimulus, PlainClause, input, save, PlainState, PlainStart, PlainGroup, PlainDeclaration, variables, timers, PlainPath, PlainSignal, PlainEntity, signals, route, connect, process, PlainBlock, PlainConnection, PlainSection, in_state, in_connection, process_from, from_to}
+use Rattle.sdl_tree.specs.Tokens.{begins, a_word, a_symbol, a_number, a_name, a_sort, a_party, a_constant, a_one, a_closing, a_quoted, a_destination, an_entity, a_declaration, a_clause, an_action, an_end, a_choice, a_relation, a_section}
 use Rattle.sdl_tree.specs.Grammar.{Grammar, give, token, ◌>>=◌, many, choice, optional, separated_from, separated, list_in_parentheses}
 use Rattle.sdl_tree.specs.Expressions.{expression_syntax}
 
@@ -222,6 +224,77 @@ reset_syntax = do
 unfoldable pub action_syntax : Grammar PlainAction
 action_syntax = choice (a_word words.Task) task_syntax (choice (a_word words.Output) output_syntax (choice (a_word words.Set) set_syntax reset_syntax))
 
+-- a relation, and a constant
+unfoldable pub compared_syntax : Grammar Range
+compared_syntax = do
+  compared ← token a_relation
+  constant ← constant_syntax
+  give (Compared compared.at compared.relation constant)
+
+-- : constant
+unfoldable pub upper_syntax : Grammar Constant
+upper_syntax = do
+  _ ← token (a_symbol Colon)
+  constant_syntax
+
+-- constant [ : constant ]
+unfoldable pub value_syntax : Grammar Range
+value_syntax = do
+  low ← constant_syntax
+  high ← optional (a_symbol Colon) upper_syntax
+  give (from_to low high)
+
+-- [ = | /= | < | <= | > | >= ] constant | constant : constant
+unfoldable pub range_syntax : Grammar Range
+range_syntax = choice a_relation compared_syntax value_syntax
+
+-- ( range {, range} ) :
+unfoldable pub answer_head_syntax : Grammar PlainHead
+answer_head_syntax = do
+  at ← token (a_symbol Open)
+  ranges ← separated range_syntax
+  _ ← token (a_symbol Close)
+  _ ← token (a_symbol Colon)
+  give (record { at = at; ranges = ranges })
+
+-- ELSE :
+unfoldable pub else_head_syntax : Grammar ℕ
+else_head_syntax = do
+  at ← token (a_word words.Else)
+  _ ← token (a_symbol Colon)
+  give at
+
+-- the head of an answer
+unfoldable pub some_head_syntax : Grammar (Option PlainHead)
+some_head_syntax = do
+  head ← answer_head_syntax
+  give (Some head)
+
+-- the head of ELSE, which has no ranges
+unfoldable pub no_head_syntax : Grammar (Option PlainHead)
+no_head_syntax = do
+  _ ← else_head_syntax
+  give None
+
+-- the head of an answer, or that of ELSE
+unfoldable pub head_syntax : Grammar (Option PlainHead)
+head_syntax = choice (a_symbol Open) some_head_syntax no_head_syntax
+
+-- DECISION expression ;
+unfoldable pub question_syntax : Grammar PlainQuestion
+question_syntax = do
+  at ← token (a_word words.Decision)
+  question ← expression_syntax
+  _ ← terminator_syntax
+  give (record { at = at; question = question })
+
+-- ENDDECISION ;
+unfoldable pub end_decision_syntax : Grammar ℕ
+end_decision_syntax = do
+  at ← token (a_word words.EndDecision)
+  _ ← terminator_syntax
+  give at
+
 -- NEXTSTATE name ;
 unfoldable pub next_state_syntax : Grammar End
 next_state_syntax = do
@@ -237,16 +310,42 @@ stop_syntax = do
   _ ← terminator_syntax
   give (Stop at)
 
--- a NEXTSTATE or a STOP
-unfoldable pub end_syntax : Grammar End
-end_syntax = choice (a_word words.NextState) next_state_syntax stop_syntax
+-- JOIN name ;
+unfoldable pub join_syntax : Grammar End
+join_syntax = do
+  at ← token (a_word words.Join)
+  connector ← token a_name
+  _ ← terminator_syntax
+  give (Join (record { at = at; connector = connector }))
 
--- { action } [ NEXTSTATE name ; | STOP ; ], each of them exactly where a word that begins one stands next
-pub data TextReads : List Token → Text → List Token → Type 0 where
-  runs_off : (ts : List Token) → begins an_action ts ≡ false → begins an_end ts ≡ false → TextReads ts falls ts
-  ends_there : (ts us : List Token) (e : End) → begins an_action ts ≡ false → begins an_end ts ≡ true → end_syntax ts e us → TextReads ts (ends e) us
-  goes_on : (ts us vs : List Token) (action : PlainAction) (rest : Text) → begins an_action ts ≡ true → action_syntax ts action us
-      → TextReads us rest vs → TextReads ts (does action rest) vs
+-- a NEXTSTATE, a STOP or a JOIN
+unfoldable pub end_syntax : Grammar End
+end_syntax = choice (a_word words.NextState) next_state_syntax (choice (a_word words.Stop) stop_syntax join_syntax)
+
+-- A transition is { action | decision } [ NEXTSTATE name ; | STOP ; | JOIN name ; ], each of them exactly
+-- where a word that begins one stands next. A decision is DECISION expression ; { answer } [ ELSE : transition ]
+-- ENDDECISION ; with at least one answer or ELSE, an answer ( range {, range} ) : transition.
+mutual
+  pub data TextReads : List Token → Text → List Token → Type 0 where
+    runs_off : (ts : List Token) → begins an_action ts ≡ false → begins (a_word words.Decision) ts ≡ false → begins an_end ts ≡ false
+        → TextReads ts falls ts
+    ends_there : (ts us : List Token) (e : End) → begins an_action ts ≡ false → begins (a_word words.Decision) ts ≡ false → begins an_end ts ≡ true
+        → end_syntax ts e us → TextReads ts (ends e) us
+    goes_on : (ts us vs : List Token) (action : PlainAction) (rest : Text) → begins an_action ts ≡ true → action_syntax ts action us
+        → TextReads us rest vs → TextReads ts (does action rest) vs
+    branches : (ts us vs ws zs : List Token) (asked : PlainQuestion) (choice : Choice) (closed : ℕ) (rest : Text)
+        → begins an_action ts ≡ false → begins (a_word words.Decision) ts ≡ true → question_syntax ts asked us
+        → begins a_choice us ≡ true → ChoiceReads us choice vs → end_decision_syntax vs closed ws
+        → TextReads ws rest zs → TextReads ts (decides asked.at asked.question choice rest) zs
+
+  -- answers, and ELSE behind them, as long as a parenthesis or ELSE stands next
+  pub data ChoiceReads : List Token → Choice → List Token → Type 0 where
+    no_more_answers : (ts : List Token) → begins a_choice ts ≡ false → ChoiceReads ts nothing_else ts
+    else_follows : (ts us vs : List Token) (opened : ℕ) (text : Text) → begins a_choice ts ≡ true → begins (a_symbol Open) ts ≡ false
+        → else_head_syntax ts opened us → TextReads us text vs → ChoiceReads ts (otherwise text) vs
+    answer_follows : (ts us vs ws : List Token) (head : PlainHead) (text : Text) (others : Choice) → begins a_choice ts ≡ true
+        → begins (a_symbol Open) ts ≡ true → answer_head_syntax ts head us → TextReads us text vs
+        → ChoiceReads vs others ws → ChoiceReads ts (answer head.at head.ranges text others) ws
 
 abbrev pub text_syntax : Grammar Text
 text_syntax = λ tokens text rest. TextReads tokens text rest
@@ -296,6 +395,38 @@ state_syntax = do
   _ ← optional (a_word words.EndState) (end_state_syntax name.name)
   give (record { names = names; clauses = clauses })
 
+-- ENDCONNECTION [name] ;
+unfoldable pub end_connection_syntax : List ℕ → Grammar (Option Identifier)
+end_connection_syntax name = do
+  _ ← token (a_word words.EndConnection)
+  closing_syntax name
+
+-- CONNECTION name : transition [ ENDCONNECTION [name] ; ], the closing name being the first one
+unfoldable pub connection_syntax : Grammar PlainConnection
+connection_syntax = do
+  at ← token (a_word words.Connection)
+  name ← token a_name
+  _ ← token (a_symbol Colon)
+  text ← text_syntax
+  _ ← optional (a_word words.EndConnection) (end_connection_syntax name.name)
+  give (record { at = at; name = name; text = text })
+
+-- a STATE part in the body of a process
+unfoldable pub state_section_syntax : Grammar PlainSection
+state_section_syntax = do
+  state ← state_syntax
+  give (in_state state)
+
+-- a CONNECTION in the body of a process
+unfoldable pub connection_section_syntax : Grammar PlainSection
+connection_section_syntax = do
+  connection ← connection_syntax
+  give (in_connection connection)
+
+-- a STATE part or a CONNECTION
+unfoldable pub section_syntax : Grammar PlainSection
+section_syntax = choice (a_word words.State) state_section_syntax connection_section_syntax
+
 -- START ; transition
 unfoldable pub start_syntax : Grammar PlainStart
 start_syntax = do
@@ -328,16 +459,16 @@ process_head_syntax = do
   _ ← terminator_syntax
   give name
 
--- PROCESS name [ ( 1 [, [1]] ) ] ; { DCL .. | TIMER .. } START .. { STATE .. } ENDPROCESS [name] ;
+-- PROCESS name [ ( 1 [, [1]] ) ] ; { DCL .. | TIMER .. } START .. { STATE .. | CONNECTION .. } ENDPROCESS [name] ;
 unfoldable pub process_syntax : Grammar PlainEntity
 process_syntax = do
   name ← process_head_syntax
   declarations ← many a_declaration declaration_syntax
   start ← start_syntax
-  states ← many (a_word words.State) state_syntax
+  sections ← many a_section section_syntax
   _ ← token (a_word words.EndProcess)
   _ ← closing_syntax name.name
-  give (process (record { name = name; declarations = declarations; start = start; states = states }))
+  give (process (process_from name declarations start sections))
 
 -- a SIGNAL, a SIGNALROUTE, a CONNECT or a PROCESS
 unfoldable pub entity_syntax : Grammar PlainEntity

@@ -19,6 +19,9 @@ use Rattle.sdl_tree.specs.declared.tree.Destination.TheVariants as destinations
 use Rattle.sdl_tree.specs.declared.tree.Literal.{Literal}
 use Rattle.sdl_tree.specs.declared.tree.Literal.TheVariants as literals
 use Rattle.sdl_tree.specs.declared.tree.Constant.{Constant}
+use Rattle.sdl_tree.specs.declared.tree.Relation.{Relation}
+use Rattle.sdl_tree.specs.declared.tree.Relation.TheVariants as relations
+use Rattle.sdl_tree.specs.declared.comparison.Comparison.{Comparison}
 
 -- the words and the symbols, numbered in the order of their declaration
 abbrev pub word_number : Word → ℕ
@@ -148,7 +151,17 @@ abbrev pub sender_value : ℕ → Lexeme → Option Destination
 sender_value at (lexemes.Word words.Sender) = Some (destinations.Sender at)
 sender_value at _ = None
 
--- the words that begin an entity of a block, a declaration of a process, a part of a state, an action, the end of a transition
+abbrev pub relation_value : Lexeme → Option Relation
+relation_value (lexemes.Symbol symbols.Equal) = Some relations.Equal
+relation_value (lexemes.Symbol symbols.NotEqual) = Some relations.NotEqual
+relation_value (lexemes.Symbol symbols.Less) = Some relations.Less
+relation_value (lexemes.Symbol symbols.LessEqual) = Some relations.LessEqual
+relation_value (lexemes.Symbol symbols.Greater) = Some relations.Greater
+relation_value (lexemes.Symbol symbols.GreaterEqual) = Some relations.GreaterEqual
+relation_value _ = None
+
+-- the words that begin an entity of a block, a declaration of a process, a part of its body, a part of a state, an action, the end of
+-- a transition; and what begins an answer of a DECISION or its ELSE
 abbrev pub entity_place : ℕ → Lexeme → Option ℕ
 entity_place at (lexemes.Word words.Signal) = Some at
 entity_place at (lexemes.Word words.SignalRoute) = Some at
@@ -160,6 +173,11 @@ abbrev pub declaration_place : ℕ → Lexeme → Option ℕ
 declaration_place at (lexemes.Word words.Dcl) = Some at
 declaration_place at (lexemes.Word words.Timer) = Some at
 declaration_place at _ = None
+
+abbrev pub section_place : ℕ → Lexeme → Option ℕ
+section_place at (lexemes.Word words.State) = Some at
+section_place at (lexemes.Word words.Connection) = Some at
+section_place at _ = None
 
 abbrev pub clause_place : ℕ → Lexeme → Option ℕ
 clause_place at (lexemes.Word words.Input) = Some at
@@ -176,7 +194,13 @@ action_place at _ = None
 abbrev pub end_place : ℕ → Lexeme → Option ℕ
 end_place at (lexemes.Word words.NextState) = Some at
 end_place at (lexemes.Word words.Stop) = Some at
+end_place at (lexemes.Word words.Join) = Some at
 end_place at _ = None
+
+abbrev pub choice_place : ℕ → Lexeme → Option ℕ
+choice_place at (lexemes.Symbol symbols.Open) = Some at
+choice_place at (lexemes.Word words.Else) = Some at
+choice_place at _ = None
 
 -- how a token may stand for something, and for what: none where it does not
 abbrev pub a_word : Word → Token → Option ℕ
@@ -214,6 +238,10 @@ an_entity t = entity_place t.start t.lexeme
 abbrev pub a_declaration : Token → Option ℕ
 a_declaration t = declaration_place t.start t.lexeme
 
+-- the word that begins a STATE part or a CONNECTION
+abbrev pub a_section : Token → Option ℕ
+a_section t = section_place t.start t.lexeme
+
 -- the word that begins an INPUT or a SAVE
 abbrev pub a_clause : Token → Option ℕ
 a_clause t = clause_place t.start t.lexeme
@@ -225,6 +253,18 @@ an_action t = action_place t.start t.lexeme
 -- the word that begins the end of a transition
 abbrev pub an_end : Token → Option ℕ
 an_end t = end_place t.start t.lexeme
+
+-- the parenthesis that begins an answer, or ELSE
+abbrev pub a_choice : Token → Option ℕ
+a_choice t = choice_place t.start t.lexeme
+
+abbrev pub related : ℕ → Option Relation → Option Comparison
+related at (Some r) = Some (record { at = at; relation = r })
+related at None = None
+
+-- a relation at its place
+abbrev pub a_relation : Token → Option Comparison
+a_relation t = related t.start (relation_value t.lexeme)
 
 -- a quoted text
 abbrev pub a_quoted : Token → Option ℕ

@@ -2,7 +2,7 @@
 ghost use Rattle.std.specs.Prelude.{◌≡◌, ℕ};
 ghost use Rattle.sdl_lex.specs.declared.lexemes.Symbol.TheVariants as symbols;
 ghost use Rattle.sdl_tree.specs.Readings.{token, optional};
-ghost use Rattle.sdl_tree.specs.Machine.{low_trees, expression_at};
+ghost use Rattle.sdl_tree.specs.Machine.{low_trees};
 ghost use Rattle.sdl_tree.specs.Plain.{PlainEntity};
 ghost use Rattle.sdl_tree.specs.Productions.{second_number_at, instances_at, process_head_at, process_at, entity_at, block_at};
 ghost use Rattle.sdl_tree.specs.Tokens.{a_number, a_one, a_symbol, an_entity};
@@ -14,10 +14,11 @@ use crate::declarations::{read_connect, read_route, read_signals};
 use crate::endings::{read_closing, terminator};
 use crate::expression::Identifier;
 use crate::production::{Listed, Production, read_many};
+use crate::sections::{Sections, parted};
 use crate::stop::{Stop, attempt};
 use crate::tokens::{is_entity, is_number, is_symbol, is_word, name, one, symbol, word};
-use crate::transitions::read_start;
-use crate::tree::{Block, Declaration, Entity, Process, StatePart};
+use crate::transitions::{Section, read_start};
+use crate::tree::{Block, Declaration, Entity, Process};
 use sdl_lex::{Symbol, Token, Word};
 use std::alloc::Global;
 
@@ -92,19 +93,24 @@ fn read_process_head<'a>(tokens: &'a [Token]) -> Result<(Identifier, &'a [Token]
 /// Reads a PROCESS.
 #[tactic(auto, unfolding(crate::specs::Productions::process_at))]
 fn read_process<'a>(alloc: Global, tokens: &'a [Token]) -> Result<(Entity, &'a [Token]), Stop<'a>>
-    ensures { Mirrors entity_of result (process_at (expression_at low_trees) tokens.now) }
+    ensures { Mirrors entity_of result (process_at low_trees tokens.now) }
 {
     let (name, rest) = attempt!(read_process_head(tokens));
     let (declarations, rest) = attempt!(read_many::<Declaration>(alloc, rest));
     let (start, rest) = attempt!(read_start(alloc, rest));
-    let (states, rest) = attempt!(read_many::<StatePart>(alloc, rest));
+    let (sections, rest) = attempt!(read_many::<Section>(alloc, rest));
     let (_, rest) = attempt!(word(rest, Word::EndProcess));
     let (_, rest) = attempt!(read_closing(rest, name.name));
+    let Sections {
+        states,
+        connections,
+    } = attempt!(parted(alloc, sections));
     let process = Process {
         name,
         declarations,
         start,
         states,
+        connections,
     };
     Ok((Entity::Process(process), rest))
 }
@@ -114,7 +120,7 @@ impl Production for Entity {
 
     ghost view = { entity_of };
 
-    ghost reading = { entity_at (expression_at low_trees) };
+    ghost reading = { entity_at low_trees };
 
     ghost never_longer = { low_entity_keeps };
 
@@ -149,7 +155,7 @@ pub(crate) fn read_block<'a>(
     alloc: Global,
     tokens: &'a [Token],
 ) -> Result<(Block, &'a [Token]), Stop<'a>>
-    ensures { Mirrors block_of result (block_at (expression_at low_trees) tokens.now) }
+    ensures { Mirrors block_of result (block_at low_trees tokens.now) }
 {
     let (_, rest) = attempt!(word(tokens, Word::Block));
     let (name, rest) = attempt!(name(rest));

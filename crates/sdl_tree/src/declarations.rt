@@ -204,7 +204,7 @@ fn read_negative<'a>(tokens: &'a [Token]) -> Result<(Constant, &'a [Token]), Sto
 
 /// Reads `[ - ] number`, TRUE or FALSE.
 #[tactic(auto, unfolding(crate::specs::Productions::constant_at))]
-fn read_constant<'a>(tokens: &'a [Token]) -> Result<(Constant, &'a [Token]), Stop<'a>>
+pub(crate) fn read_constant<'a>(tokens: &'a [Token]) -> Result<(Constant, &'a [Token]), Stop<'a>>
     ensures { Mirrors same result (constant_at tokens.now) }
 {
     if is_symbol(tokens, Symbol::Minus) {

@@ -9,7 +9,7 @@ pub enum ParseFault {
     #[error("P1 Unexpected")]
     Unexpected(usize),
     /// The tree is higher than [`MAX_HEIGHT`](crate::MAX_HEIGHT). The place in the text, in bytes,
-    /// of the first TASK, OUTPUT or SET that is too high.
+    /// of the first TASK, OUTPUT, SET or DECISION that is too high.
     #[error("P2 TooDeep")]
     TooDeep(u32),
     /// There was not enough memory.

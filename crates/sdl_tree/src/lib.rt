@@ -2,7 +2,9 @@
 #![tactic(auto)]
 
 mod actions;
+mod answers;
 mod blocks;
+mod comparison;
 mod declarations;
 mod endings;
 mod expression;
@@ -14,9 +16,9 @@ mod operators;
 mod parsing;
 mod part;
 mod production;
+mod sections;
+mod statements;
 mod stop;
-#[cfg(test)]
-mod tests;
 mod tokens;
 mod transitions;
 mod tree;
@@ -25,9 +27,10 @@ pub use expression::{BinaryOperator, Expression, Identifier, UnaryOperator};
 pub use fault::ParseFault;
 pub use parsing::{parse, reads_once};
 pub use tree::{
-    Action, Assignment, Block, Connect, Constant, Declaration, Destination, End, Entity, Group,
-    InputPart, Literal, NextState, Output, Party, Path, Process, ResetTimer, Route, Sending,
-    SetTimer, SignalDeclaration, Sort, Start, StateClause, StatePart, Stimulus, Task, Transition,
+    Action, Answer, Assignment, Block, Connect, Connection, Constant, Decision, Declaration,
+    Destination, End, Entity, Group, InputPart, Join, Literal, NextState, Output, Party, Path,
+    Process, Range, Relation, ResetTimer, Route, Sending, SetTimer, SignalDeclaration, Sort, Start,
+    StateClause, StatePart, Statement, Stimulus, Task, Transition,
 };
 
 /// The greatest height of a tree.

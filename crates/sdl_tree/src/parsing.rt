@@ -40,9 +40,9 @@ fn read_text(alloc: Global, tokens: &[Token]) -> Result<Block, ParseFault>
 /// - [`ParseFault::Unexpected`] with the index of the first token that no reading has there, the
 ///   number of tokens where they end too early; exactly where the tokens read as no tree, however
 ///   high they go before that.
-/// - [`ParseFault::TooDeep`] with the place in the text, in bytes, of the first TASK, OUTPUT or
-///   SET with an expression higher than [`MAX_HEIGHT`](crate::MAX_HEIGHT); exactly where the tokens
-///   read as a tree that has one.
+/// - [`ParseFault::TooDeep`] with the place in the text, in bytes, of the first TASK, OUTPUT, SET
+///   or DECISION higher than [`MAX_HEIGHT`](crate::MAX_HEIGHT); exactly where the tokens read as a
+///   tree that has one. A DECISION is one higher than its question and what stands in its answers.
 /// - [`ParseFault::NoMemory`] where there was not enough memory, in place of any other answer.
 pub fn parse(alloc: Global, tokens: &[Token]) -> Result<Block, ParseFault>
     // what is given is read

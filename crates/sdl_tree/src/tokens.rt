@@ -1,12 +1,13 @@
 //! One token: a word, a symbol, a name, a number.
 ghost use Rattle.std.specs.Prelude.{◌≡◌, IsTrue};
 ghost use Rattle.sdl_tree.specs.Readings.{token};
-ghost use Rattle.sdl_tree.specs.Tokens.{same_word, same_symbol, begins, a_word, a_symbol, a_number, a_name, a_sort, a_truth, environment, a_party, a_destination, a_constant, a_one, a_closing, a_quoted, an_entity, a_declaration, a_clause, an_action, an_end, sender_value, literal_value};
+ghost use Rattle.sdl_tree.specs.Tokens.{same_word, same_symbol, begins, a_word, a_symbol, a_number, a_name, a_sort, a_truth, environment, a_party, a_destination, a_constant, a_one, a_closing, a_quoted, an_entity, a_declaration, a_clause, an_action, an_end, a_section, a_choice, a_relation, relation_value, sender_value, literal_value};
 ghost use Rattle.sdl_tree.specs.Mirrors.{Mirrors, same};
 
+use crate::comparison::Comparison;
 use crate::expression::Identifier;
 use crate::stop::Stop;
-use crate::tree::{Constant, Destination, Literal, Party, Sort};
+use crate::tree::{Constant, Destination, Literal, Party, Relation, Sort};
 use sdl_lex::{Lexeme, MAX_NUMBER, Name, Symbol, Token, Word};
 
 fn is_same_word(found: Word, wanted: Word) -> bool
@@ -202,6 +203,17 @@ fn declaration_of(token: &Token) -> Option<u32>
     }
 }
 
+/// The place of a token that begins a STATE part or a CONNECTION.
+fn section_of(token: &Token) -> Option<u32>
+    ensures { result ≡ a_section token.now }
+{
+    match token.lexeme {
+        Lexeme::Word(Word::State) => Some(token.start),
+        Lexeme::Word(Word::Connection) => Some(token.start),
+        _ => None,
+    }
+}
+
 /// The place of a token that begins an INPUT or a SAVE.
 fn clause_of(token: &Token) -> Option<u32>
     ensures { result ≡ a_clause token.now }
@@ -233,7 +245,47 @@ fn end_of(token: &Token) -> Option<u32>
     match token.lexeme {
         Lexeme::Word(Word::NextState) => Some(token.start),
         Lexeme::Word(Word::Stop) => Some(token.start),
+        Lexeme::Word(Word::Join) => Some(token.start),
         _ => None,
+    }
+}
+
+/// The place of a token that begins an answer or an ELSE.
+fn choice_of(token: &Token) -> Option<u32>
+    ensures { result ≡ a_choice token.now }
+{
+    match token.lexeme {
+        Lexeme::Symbol(Symbol::Open) => Some(token.start),
+        Lexeme::Word(Word::Else) => Some(token.start),
+        _ => None,
+    }
+}
+
+/// A token that is a relation.
+fn relation_of(token: &Token) -> Option<Relation>
+    ensures { result ≡ relation_value token.now.lexeme }
+{
+    match token.lexeme {
+        Lexeme::Symbol(Symbol::Equal) => Some(Relation::Equal),
+        Lexeme::Symbol(Symbol::NotEqual) => Some(Relation::NotEqual),
+        Lexeme::Symbol(Symbol::Less) => Some(Relation::Less),
+        Lexeme::Symbol(Symbol::LessEqual) => Some(Relation::LessEqual),
+        Lexeme::Symbol(Symbol::Greater) => Some(Relation::Greater),
+        Lexeme::Symbol(Symbol::GreaterEqual) => Some(Relation::GreaterEqual),
+        _ => None,
+    }
+}
+
+/// A token that is a relation, at its place.
+fn comparison_of(token: &Token) -> Option<Comparison>
+    ensures { result ≡ a_relation token.now }
+{
+    match relation_of(token) {
+        Some(relation) => Some(Comparison {
+            at: token.start,
+            relation,
+        }),
+        None => None,
     }
 }
 
@@ -374,6 +426,19 @@ pub(crate) fn constant<'a>(tokens: &'a [Token]) -> Result<(Constant, &'a [Token]
     }
 }
 
+/// Reads a relation.
+pub(crate) fn relation<'a>(tokens: &'a [Token]) -> Result<(Comparison, &'a [Token]), Stop<'a>>
+    ensures { Mirrors same result (token a_relation tokens.now) }
+{
+    let Some((token, rest)) = tokens.split_first() else {
+        return Err(Stop::Unexpected(tokens));
+    };
+    match comparison_of(token) {
+        Some(found) => Ok((found, rest)),
+        None => Err(Stop::Unexpected(tokens)),
+    }
+}
+
 /// Reads a quoted text.
 pub(crate) fn quoted<'a>(tokens: &'a [Token]) -> Result<(u32, &'a [Token]), Stop<'a>>
     ensures { Mirrors same result (token a_quoted tokens.now) }
@@ -456,6 +521,16 @@ pub(crate) fn is_declaration(tokens: &[Token]) -> bool
     }
 }
 
+/// Whether a STATE part or a CONNECTION stands next.
+pub(crate) fn is_section(tokens: &[Token]) -> bool
+    ensures { result ≡ begins a_section tokens.now }
+{
+    match tokens.split_first() {
+        Some((token, _)) => section_of(token).is_some(),
+        None => false,
+    }
+}
+
 /// Whether an INPUT or a SAVE stands next.
 pub(crate) fn is_clause(tokens: &[Token]) -> bool
     ensures { result ≡ begins a_clause tokens.now }
@@ -482,6 +557,26 @@ pub(crate) fn is_end(tokens: &[Token]) -> bool
 {
     match tokens.split_first() {
         Some((token, _)) => end_of(token).is_some(),
+        None => false,
+    }
+}
+
+/// Whether an answer or an ELSE stands next.
+pub(crate) fn is_choice(tokens: &[Token]) -> bool
+    ensures { result ≡ begins a_choice tokens.now }
+{
+    match tokens.split_first() {
+        Some((token, _)) => choice_of(token).is_some(),
+        None => false,
+    }
+}
+
+/// Whether a relation stands next.
+pub(crate) fn is_relation(tokens: &[Token]) -> bool
+    ensures { result ≡ begins a_relation tokens.now }
+{
+    match tokens.split_first() {
+        Some((token, _)) => comparison_of(token).is_some(),
         None => false,
     }
 }

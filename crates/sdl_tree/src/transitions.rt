@@ -2,25 +2,26 @@
 ghost use Rattle.std.specs.Prelude.{◌≡◌, map, Option, None, List};
 ghost use Rattle.sdl_lex.specs.declared.lexemes.Word.TheVariants as words;
 ghost use Rattle.sdl_tree.specs.Readings.{separated, optional};
-ghost use Rattle.sdl_tree.specs.Machine.{low_trees, expression_at};
-ghost use Rattle.sdl_tree.specs.Productions.{stimulus_at, next_state_at, stop_at, end_at, text_at, input_at, save_at, clause_at, end_state_at, state_at, start_at};
-ghost use Rattle.sdl_tree.specs.Tokens.{a_word, a_clause, an_end};
-ghost use Rattle.sdl_tree.specs.Plain.{PlainStimulus, PlainClause, PlainState};
-ghost use Rattle.sdl_tree.specs.Views.{stimulus_of, text_of, clause_of, state_of, start_of};
+ghost use Rattle.sdl_tree.specs.Machine.{low_trees};
+ghost use Rattle.sdl_tree.specs.Productions.{stimulus_at, next_state_at, stop_at, join_at, end_at, input_at, save_at, clause_at, end_state_at, state_at, end_connection_at, connection_at, section_at, start_at};
+ghost use Rattle.sdl_tree.specs.Tokens.{a_word, a_clause, a_section, an_end};
+ghost use Rattle.sdl_tree.specs.Plain.{PlainStimulus, PlainClause, PlainSection};
+ghost use Rattle.sdl_tree.specs.Views.{stimulus_of, clause_of, state_of, connection_of, section_of, start_of};
 ghost use Rattle.sdl_tree.specs.Mirrors.{Mirrors, same};
-ghost use Rattle.sdl_tree.specs.Lengths.{stimulus_keeps, low_clause_takes, low_clause_keeps, low_state_takes, low_state_keeps};
+ghost use Rattle.sdl_tree.specs.Lengths.{stimulus_keeps, low_clause_takes, low_clause_keeps, low_section_takes, low_section_keeps};
 
 use crate::endings::{read_closing, terminator};
 use crate::expression::Identifier;
 use crate::production::{
     Listed, Production, read_in_parentheses, read_many, read_more, read_separated,
 };
+use crate::statements::read_transition;
 use crate::stop::{Stop, attempt};
-use crate::tokens::{is_clause, is_end, is_word, name, word};
+use crate::tokens::{is_clause, is_end, is_section, is_word, name, symbol, word};
 use crate::tree::{
-    Action, End, InputPart, NextState, Start, StateClause, StatePart, Stimulus, Transition,
+    Connection, End, InputPart, Join, NextState, Start, StateClause, StatePart, Stimulus,
 };
-use sdl_lex::{Name, Token, Word};
+use sdl_lex::{Name, Symbol, Token, Word};
 use std::alloc::Global;
 
 impl Production for Stimulus {
@@ -61,7 +62,18 @@ fn read_stop<'a>(tokens: &'a [Token]) -> Result<(End, &'a [Token]), Stop<'a>>
     Ok((End::Stop(at), rest))
 }
 
-/// Reads a NEXTSTATE or a STOP.
+/// Reads `JOIN name ;`.
+#[tactic(auto, unfolding(crate::specs::Productions::join_at))]
+fn read_join<'a>(tokens: &'a [Token]) -> Result<(End, &'a [Token]), Stop<'a>>
+    ensures { Mirrors same result (join_at tokens.now) }
+{
+    let (at, rest) = attempt!(word(tokens, Word::Join));
+    let (connector, rest) = attempt!(name(rest));
+    let (_, rest) = attempt!(terminator(rest));
+    Ok((End::Join(Join { at, connector }), rest))
+}
+
+/// Reads a NEXTSTATE, a STOP or a JOIN.
 #[tactic(auto, unfolding(crate::specs::Productions::end_at))]
 fn read_end<'a>(tokens: &'a [Token]) -> Result<(End, &'a [Token]), Stop<'a>>
     ensures { Mirrors same result (end_at tokens.now) }
@@ -69,11 +81,16 @@ fn read_end<'a>(tokens: &'a [Token]) -> Result<(End, &'a [Token]), Stop<'a>>
     if is_word(tokens, Word::NextState) {
         return Ok(attempt!(read_next_state(tokens)));
     }
-    Ok(attempt!(read_stop(tokens)))
+    if is_word(tokens, Word::Stop) {
+        return Ok(attempt!(read_stop(tokens)));
+    }
+    Ok(attempt!(read_join(tokens)))
 }
 
-/// Reads a NEXTSTATE or a STOP, if one stands next.
-fn read_optional_end<'a>(tokens: &'a [Token]) -> Result<(Option<End>, &'a [Token]), Stop<'a>>
+/// Reads a NEXTSTATE, a STOP or a JOIN, if one stands next.
+pub(crate) fn read_optional_end<'a>(
+    tokens: &'a [Token],
+) -> Result<(Option<End>, &'a [Token]), Stop<'a>>
     ensures { Mirrors same result (optional an_end end_at tokens.now) }
 {
     if !is_end(tokens) {
@@ -83,26 +100,13 @@ fn read_optional_end<'a>(tokens: &'a [Token]) -> Result<(Option<End>, &'a [Token
     Ok((Some(end), rest))
 }
 
-/// Reads actions, and the end of the transition if one stands next.
-#[tactic(auto, unfolding(crate::specs::Productions::text_at))]
-fn read_transition<'a>(
-    alloc: Global,
-    tokens: &'a [Token],
-) -> Result<(Transition, &'a [Token]), Stop<'a>>
-    ensures { Mirrors text_of result (text_at (expression_at low_trees) tokens.now) }
-{
-    let (actions, rest) = attempt!(read_many::<Action>(alloc, tokens));
-    let (end, rest) = attempt!(read_optional_end(rest));
-    Ok((Transition { actions, end }, rest))
-}
-
 /// Reads `INPUT stimulus {, stimulus} ;` and its transition.
 #[tactic(auto, unfolding(crate::specs::Productions::input_at))]
 fn read_input<'a>(
     alloc: Global,
     tokens: &'a [Token],
 ) -> Result<(StateClause, &'a [Token]), Stop<'a>>
-    ensures { Mirrors clause_of result (input_at (expression_at low_trees) tokens.now) }
+    ensures { Mirrors clause_of result (input_at low_trees tokens.now) }
 {
     let (at, rest) = attempt!(word(tokens, Word::Input));
     let (stimuli, rest) = attempt!(read_separated::<Stimulus>(alloc, rest));
@@ -132,7 +136,7 @@ impl Production for StateClause {
 
     ghost view = { clause_of };
 
-    ghost reading = { clause_at (expression_at low_trees) };
+    ghost reading = { clause_at low_trees };
 
     ghost never_longer = { low_clause_keeps };
 
@@ -184,35 +188,104 @@ fn read_optional_end_state<'a>(
     Ok((Some(found), rest))
 }
 
-impl Production for StatePart {
-    ghost Plain = { PlainState };
+/// Reads `STATE name {, name} ;`, what the states do, and `[ ENDSTATE [name] ; ]`.
+#[tactic(auto, unfolding(crate::specs::Productions::state_at))]
+fn read_state<'a>(alloc: Global, tokens: &'a [Token]) -> Result<(StatePart, &'a [Token]), Stop<'a>>
+    ensures { Mirrors state_of result (state_at low_trees tokens.now) }
+{
+    let (_, rest) = attempt!(word(tokens, Word::State));
+    let (name, rest) = attempt!(name(rest));
+    let opened = name.name;
+    let (names, rest) = attempt!(read_more::<Identifier>(alloc, name, rest));
+    let (_, rest) = attempt!(terminator(rest));
+    let (clauses, rest) = attempt!(read_many::<StateClause>(alloc, rest));
+    let (_, rest) = attempt!(read_optional_end_state(rest, opened));
+    Ok((StatePart { names, clauses }, rest))
+}
 
-    ghost view = { state_of };
+/// Reads `ENDCONNECTION [name] ;`.
+#[tactic(auto, unfolding(crate::specs::Productions::end_connection_at))]
+fn read_end_connection<'a>(
+    tokens: &'a [Token],
+    opened: Name,
+) -> Result<(Option<Identifier>, &'a [Token]), Stop<'a>>
+    ensures { Mirrors same result (end_connection_at opened tokens.now) }
+{
+    let (_, rest) = attempt!(word(tokens, Word::EndConnection));
+    read_closing(rest, opened)
+}
 
-    ghost reading = { state_at (expression_at low_trees) };
+/// Reads `[ ENDCONNECTION [name] ; ]`.
+fn read_optional_end_connection<'a>(
+    tokens: &'a [Token],
+    opened: Name,
+) -> Result<(Option<Option<Identifier>>, &'a [Token]), Stop<'a>>
+    ensures { Mirrors same result (optional (a_word words.EndConnection) (end_connection_at opened) tokens.now) }
+{
+    if !is_word(tokens, Word::EndConnection) {
+        return Ok((None, tokens));
+    }
+    let (found, rest) = attempt!(read_end_connection(tokens, opened));
+    Ok((Some(found), rest))
+}
 
-    ghost never_longer = { low_state_keeps };
+/// Reads `CONNECTION name :`, its transition, and `[ ENDCONNECTION [name] ; ]`.
+#[tactic(auto, unfolding(crate::specs::Productions::connection_at))]
+fn read_connection<'a>(
+    alloc: Global,
+    tokens: &'a [Token],
+) -> Result<(Connection, &'a [Token]), Stop<'a>>
+    ensures { Mirrors connection_of result (connection_at low_trees tokens.now) }
+{
+    let (at, rest) = attempt!(word(tokens, Word::Connection));
+    let (name, rest) = attempt!(name(rest));
+    let (_, rest) = attempt!(symbol(rest, Symbol::Colon));
+    let (transition, rest) = attempt!(read_transition(alloc, rest));
+    let (_, rest) = attempt!(read_optional_end_connection(rest, name.name));
+    let connection = Connection {
+        at,
+        name,
+        transition,
+    };
+    Ok((connection, rest))
+}
 
-    #[tactic(auto, unfolding(crate::specs::Productions::state_at))]
-    fn read<'a>(alloc: Global, tokens: &'a [Token]) -> Result<(StatePart, &'a [Token]), Stop<'a>> {
-        let (_, rest) = attempt!(word(tokens, Word::State));
-        let (name, rest) = attempt!(name(rest));
-        let opened = name.name;
-        let (names, rest) = attempt!(read_more::<Identifier>(alloc, name, rest));
-        let (_, rest) = attempt!(terminator(rest));
-        let (clauses, rest) = attempt!(read_many::<StateClause>(alloc, rest));
-        let (_, rest) = attempt!(read_optional_end_state(rest, opened));
-        Ok((StatePart { names, clauses }, rest))
+/// A part of the body of a process.
+#[derive(Drop)]
+pub(crate) enum Section {
+    /// A STATE part.
+    State(StatePart),
+    /// A CONNECTION.
+    Connection(Connection),
+}
+
+impl Production for Section {
+    ghost Plain = { PlainSection };
+
+    ghost view = { section_of };
+
+    ghost reading = { section_at low_trees };
+
+    ghost never_longer = { low_section_keeps };
+
+    #[tactic(auto, unfolding(crate::specs::Productions::section_at, crate::specs::Productions::state_section_at, crate::specs::Productions::connection_section_at))]
+    fn read<'a>(alloc: Global, tokens: &'a [Token]) -> Result<(Section, &'a [Token]), Stop<'a>> {
+        if is_word(tokens, Word::State) {
+            let (state, rest) = attempt!(read_state(alloc, tokens));
+            return Ok((Section::State(state), rest));
+        }
+        let (connection, rest) = attempt!(read_connection(alloc, tokens));
+        Ok((Section::Connection(connection), rest))
     }
 }
 
-impl Listed for StatePart {
-    ghost starts = { a_word words.State };
+impl Listed for Section {
+    ghost starts = { a_section };
 
-    ghost shortens = { low_state_takes };
+    ghost shortens = { low_section_takes };
 
     fn is_next(tokens: &[Token]) -> bool {
-        is_word(tokens, Word::State)
+        is_section(tokens)
     }
 }
 
@@ -222,7 +295,7 @@ pub(crate) fn read_start<'a>(
     alloc: Global,
     tokens: &'a [Token],
 ) -> Result<(Start, &'a [Token]), Stop<'a>>
-    ensures { Mirrors start_of result (start_at (expression_at low_trees) tokens.now) }
+    ensures { Mirrors start_of result (start_at low_trees tokens.now) }
 {
     let (at, rest) = attempt!(word(tokens, Word::Start));
     let (_, rest) = attempt!(terminator(rest));

@@ -76,6 +76,7 @@ pub struct Process {
     pub declarations: Vec<Declaration>,
     pub start: Start,
     pub states: Vec<StatePart>,
+    pub connections: Vec<Connection>,
 }
 
 /// What a process declares.
@@ -152,10 +153,87 @@ pub struct Stimulus {
 }
 
 /// A transition. Without an end it runs off its text.
+#[cycle(tree)]
 #[derive(Debug, Drop)]
 pub struct Transition {
-    pub actions: Vec<Action>,
+    pub statements: Vec<Statement>,
     pub end: Option<End>,
+}
+
+/// What stands in a transition: an action, or a choice between ways to go on.
+#[cycle(tree)]
+#[derive(Debug, Drop)]
+pub enum Statement {
+    /// A TASK, OUTPUT, SET or RESET.
+    Act(Action),
+    /// A DECISION.
+    Decide(Decision),
+}
+
+/// A DECISION: the question, the answers in order, and what ELSE does. The place is that of the word DECISION.
+#[cycle(tree)]
+#[derive(Debug, Drop)]
+pub struct Decision {
+    pub at: u32,
+    pub question: Expression,
+    pub answers: Vec<Answer>,
+    pub otherwise: Option<Transition>,
+}
+
+/// An answer of a DECISION: the values that it is for, and what it does. The place is that of its opening parenthesis.
+#[cycle(tree)]
+#[derive(Debug, Drop)]
+pub struct Answer {
+    pub at: u32,
+    pub ranges: Vec<Range>,
+    pub body: Transition,
+}
+
+/// Values that an answer is for.
+#[derive(Clone, Copy, Debug, PartialEq, Eq)]
+pub enum Range {
+    /// One value.
+    Value(Constant),
+    /// The values that stand so to a constant. The place is that of the relation.
+    Compared {
+        at: u32,
+        relation: Relation,
+        constant: Constant,
+    },
+    /// The values from one constant to another, both included.
+    Between(Constant, Constant),
+}
+
+/// How a value stands to a constant.
+#[derive(Clone, Copy, Debug, PartialEq, Eq)]
+pub enum Relation {
+    /// `=`
+    Equal,
+    /// `/=`
+    NotEqual,
+    /// `<`
+    Less,
+    /// `<=`
+    LessEqual,
+    /// `>`
+    Greater,
+    /// `>=`
+    GreaterEqual,
+}
+
+/// A CONNECTION: a name, and what a JOIN to it goes on with. The place is that of the word CONNECTION.
+#[derive(Debug, Drop)]
+pub struct Connection {
+    pub at: u32,
+    pub name: Identifier,
+    pub transition: Transition,
+}
+
+/// A JOIN to a connection. The place is that of the word.
+#[derive(Clone, Copy, Debug, PartialEq, Eq)]
+pub struct Join {
+    pub at: u32,
+    pub connector: Identifier,
 }
 
 /// One step of a transition.
@@ -231,6 +309,8 @@ pub enum End {
     NextState(NextState),
     /// With a STOP, at its place.
     Stop(u32),
+    /// With a JOIN.
+    Join(Join),
 }
 
 /// A NEXTSTATE. The place is that of the word.

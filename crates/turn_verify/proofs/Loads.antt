@@ -8,7 +8,7 @@ use Rattle.sdl_rules.specs.Paths.{NeverReadsUnset}
 use Rattle.sdl_rules.specs.Refusals.{Sound, Refuses}
 use Rattle.sdl_rules.specs.declared.fault.Limit.{Limit as limit}
 use Rattle.sdl_rules.specs.declared.fault.RuleFault.{RuleFault}
-use Rattle.sdl_rules.specs.declared.fault.RuleFault.TheVariants.{DoubleName, UnknownName, WrongSort, NoState, NoReceiver, TwoReceivers, BadDivisor, Limit, Unset, NoMemory}
+use Rattle.sdl_rules.specs.declared.fault.RuleFault.TheVariants.{DoubleName, UnknownName, WrongSort, NoState, NoReceiver, TwoReceivers, JoinCycle, NoAnswer, BadDivisor, Limit, Unset, NoMemory}
 
 -- nothing is in no list
 nowhere : (places : List ℕ) (place : ℕ) → places ≡ [] → Contains places place → ⊥
@@ -24,6 +24,8 @@ no_refusal b (WrongSort place) sound refuses = absurd (nowhere _ place sound.sor
 no_refusal b (NoState place) sound refuses = absurd (nowhere _ place sound.ended refuses.1)
 no_refusal b (NoReceiver place) sound refuses = absurd (nowhere _ place sound.received refuses.1)
 no_refusal b (TwoReceivers place) sound refuses = absurd (nowhere _ place sound.single refuses.1)
+no_refusal b (JoinCycle place) sound refuses = absurd (nowhere _ place sound.joined refuses.1)
+no_refusal b (NoAnswer place) sound refuses = absurd (nowhere _ place sound.answered refuses.1)
 no_refusal b (BadDivisor place) sound refuses = absurd (nowhere _ place sound.divided refuses.1)
 no_refusal b (Limit which) sound refuses =
     let bad : (let none : Option limit = None in none ≡ Some which) = sym sound.within ∙ refuses.1 in absurd (cc)

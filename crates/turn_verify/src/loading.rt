@@ -215,6 +215,8 @@ fn rule_line(text: &str, fault: &RuleFault) -> Option<usize>
         | RuleFault::NoState(place)
         | RuleFault::NoReceiver(place)
         | RuleFault::TwoReceivers(place)
+        | RuleFault::JoinCycle(place)
+        | RuleFault::NoAnswer(place)
         | RuleFault::BadDivisor(place) => Some(line_of(text, *place)),
         RuleFault::Limit(_) | RuleFault::Unset { .. } | RuleFault::NoMemory => None,
     }

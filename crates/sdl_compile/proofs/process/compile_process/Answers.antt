@@ -11,7 +11,7 @@ use Rattle.sdl_rules.specs.Longest.{Piece, start_piece}
 use Rattle.sdl_compile.specs.Act.{Scope, scope_of}
 use Rattle.sdl_compile.specs.Declarations.{drafted}
 use Rattle.sdl_compile.specs.Drafts.{IsNamedAs, SavesAll, AreInputsOf, Means}
-use Rattle.sdl_compile.specs.Named.{AnswersSenders}
+use Rattle.sdl_compile.specs.Named.{AnswersAll}
 use Rattle.sdl_compile.proofs.Zips.{paired, states_match}
 use Rattle.sdl_compile.proofs.process.compile_process.Goals as goal
 
@@ -43,7 +43,7 @@ returns-clause-matches c =
     let p = process_of c.args.table.now in
     let sc = scope_of (block_of c.args.block.now) p in
     let same = c.process-process.ensures.process in
-    let answers = subst (AnswersSenders sc None) (sym (ap (λ (q : Process). text_of q.start.transition) same)) c.requires.ready.answers in
+    let answers = subst (AnswersAll sc None) (sym (ap (λ (q : Process). text_of q.start.transition) same)) c.requires.ready.answers in
     let made = made_in sc (map rows_inputs c.inputs.result.now) (inputs_by_state p) c.in_ok-states.states.items c.from-3.result c.inputs.ensures (sym c.from-3.ensures) c.in_ok-states.ensures.made in
     record {
       name = c.draft_name.ensures ∙ ap (λ (q : Process). q.name.name) same;

@@ -3,10 +3,10 @@ use Rattle.std.specs.List.{AllZip}
 use Rattle.std.specs.Global.{Vec}
 use Rattle.unset_paths.specs.declared.Summary.{Summary}
 use Rattle.sdl_tree.specs.Views.{process_of}
-use Rattle.sdl_rules.specs.Flows.{AreSummariesOf}
+use Rattle.sdl_rules.specs.Flows.{AreSummariesBy}
 use Rattle.sdl_tables.specs.Rows.{row_input, rows_inputs}
 use Rattle.sdl_tables.specs.declared.process_table.InputRow.{InputRow}
-use Rattle.sdl_rules.proofs.Walks.{zip_more}
+use Rattle.sdl_rules.proofs.Summing.{zip_more}
 use Rattle.sdl_rules.proofs.flows.state_summaries.Goals as goal
 
 pub loop-rows-preserved : goal.loop-rows-preserved
@@ -14,7 +14,7 @@ loop-rows-preserved c =
     let p = process_of c.args.table.now in
     let states = c.args.states.now in
     let i = c.loop-rows.rows-index in
-    let here = subst (λ (rows : List InputRow). AreSummariesOf p (map row_input rows) c.in_ok-input_summaries.field-0) c.deref.ensures.value c.in_ok-input_summaries.ensures in
-    subst (λ (all : List (Vec Summary)). AllZip (AreSummariesOf p) (map rows_inputs (take (i + 1) states)) all) (sym c.in_ok-push.ensures.items)
-    (zip_more (AreSummariesOf p) rows_inputs states i c.rows-item.result c.loop-rows.states_summaries.items c.in_ok-input_summaries.field-0 c.loop-rows-test.true c.rows-item.is
+    let here = subst (λ (rows : List InputRow). AreSummariesBy p (map row_input rows) c.in_ok-input_summaries.field-0) c.deref.ensures.value c.in_ok-input_summaries.ensures in
+    subst (λ (all : List (Vec Summary)). AllZip (AreSummariesBy p) (map rows_inputs (take (i + 1) states)) all) (sym c.in_ok-push.ensures.items)
+    (zip_more (AreSummariesBy p) rows_inputs states i c.rows-item.result c.loop-rows.states_summaries.items c.in_ok-input_summaries.field-0 c.loop-rows-test.true c.rows-item.is
     c.loop-rows.invariant here)

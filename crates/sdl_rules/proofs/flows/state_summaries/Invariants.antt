@@ -1,10 +1,10 @@
 use Rattle.std.proofs.Common.{map, take}
 use Rattle.std.specs.List.{AllZip}
 use Rattle.sdl_tree.specs.Views.{process_of}
-use Rattle.sdl_rules.specs.Flows.{AreSummariesOf}
+use Rattle.sdl_rules.specs.Flows.{AreSummariesBy}
 use Rattle.sdl_tables.specs.Rows.{rows_inputs}
 use Rattle.sdl_rules.proofs.flows.state_summaries.Given as goal
 
 abbrev pub invariant-loop-rows : goal.invariant-loop-rows
 invariant-loop-rows l =
-    AllZip (AreSummariesOf (process_of l.table)) (map rows_inputs (take l.rows-index l.states)) l.states_summaries.items
+    AllZip (AreSummariesBy (process_of l.table)) (map rows_inputs (take l.rows-index l.states)) l.states_summaries.items

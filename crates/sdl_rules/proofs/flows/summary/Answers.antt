@@ -1,17 +1,20 @@
-use Rattle.std.proofs.Common.{◌∙◌, ap, subst, map, List}
-use Rattle.std.specs.List.{flat_map}
-use Rattle.sdl_tree.specs.declared.tree.Action.{Action}
-use Rattle.sdl_tree.specs.Views.{action_of, process_of}
-use Rattle.sdl_rules.specs.Flows.{Does, passages_to}
-use Rattle.sdl_rules.specs.Paths.{action_events}
-use Rattle.sdl_rules.proofs.Walks.{summary_is}
+use Rattle.std.proofs.Common.{◌≡◌, ◌∙◌, ℕ, sym, ap, length, List, subst}
+use Rattle.sdl_tree.specs.Views.{text_of, process_of}
+use Rattle.sdl_tables.specs.Names.{states_of}
+use Rattle.sdl_rules.specs.Paths.{Transition}
+use Rattle.sdl_rules.specs.Chances.{Chances, leaving, event_chances, behind, joined_chances}
+use Rattle.sdl_rules.specs.Flows.{text_doings, ArePassages}
+use Rattle.sdl_rules.proofs.Walkers.{walked_from}
+use Rattle.sdl_rules.proofs.Summing.{summary_by}
 use Rattle.sdl_rules.proofs.flows.summary.Goals as goal
 
 pub returns : goal.returns
-returns c = λ events h.
+returns c = λ events d.
     let p = process_of c.args.table.now in
-    let t = c.args.transition.now in
-    let then = subst (λ (actions : List Action). Does p (flat_map action_events (map action_of actions)) c.actions_flow.result) c.deref.ensures.value c.actions_flow.ensures in
-    summary_is p events t c.followed_by-flow.result c.in_ok-passages.passages c.requires.few
-    (c.followed_by-flow.ensures p events (flat_map action_events (map action_of t.actions.items)) h then)
-    (c.in_ok-passages.ensures ∙ ap (passages_to c.followed_by-flow.result.keeps) c.target.ensures)
+    let t : Transition = record { first = events; text = text_of c.args.transition.now } in
+    let told : List ℕ → ℕ → List ℕ → Chances = λ x q y. joined_chances p x q y in
+    let count : length (states_of p) ≡ c.len.result = sym (c.len.ensures ∙ ap length c.states.ensures) in
+    let start = walked_from p (λ x q. leaving) (λ x q. event_chances events x) c.in_ok-walker.walker c.pass.new.self (c.in_ok-walker.ensures p count) (c.pass.ensures p events d) in
+    let whole = walked_from p (λ x q. behind leaving (event_chances events x)) (text_doings p told t.text) c.pass.new.self c.walk_transition.new.walker start (c.walk_transition.ensures told c.requires.joined) in
+    summary_by p t c.walk_transition.new.walker c.in_ok-passages.passages c.requires.few whole
+    (subst (λ (masks : List ℕ). ArePassages masks c.in_ok-passages.passages.items) c.deref.ensures.value c.in_ok-passages.ensures)

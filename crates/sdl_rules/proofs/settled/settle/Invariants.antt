@@ -5,9 +5,9 @@ use Rattle.sdl_rules.specs.Surveys.{AllSettled}
 use Rattle.sdl_rules.proofs.Surveying.{plain, IsUnsetAmong}
 use Rattle.sdl_rules.proofs.settled.settle.Given as goal
 
-abbrev pub invariant-loop-table : goal.invariant-loop-table
-invariant-loop-table l = record {
+abbrev pub invariant-loop-number : goal.invariant-loop-number
+invariant-loop-number l = record {
   found : IfSome l.best (IsUnsetAmong (plain l.tables));
-  sets : l.best ≡ None → AllSettled (plain (take l.table-index l.tables)) l.sets.items;
-  none : l.best ≡ None → All NeverReadsUnset (plain (take l.table-index l.tables));
+  sets : l.best ≡ None → AllSettled (plain (take l.number l.tables)) l.sets.items;
+  none : l.best ≡ None → All NeverReadsUnset (plain (take l.number l.tables));
 }

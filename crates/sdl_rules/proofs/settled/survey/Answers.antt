@@ -16,9 +16,9 @@ returns-in-None c =
     let p = process_of c.args.table.now in
     let fates = c.in_ok-fates.fates.items in
     let a : AreFates p fates = c.in_ok-fates.ensures in
-    let shown : AreSet c.deref.result.now =
-    subst (λ (o : Option ℕ). IfNone o (AreSet c.deref.result.now)) c.in-None.is c.find_first.ensures.none in
-    let set : AreSet fates = subst AreSet c.deref.ensures.value shown in
+    let shown : AreSet c.deref-2.result.now =
+    subst (λ (o : Option ℕ). IfNone o (AreSet c.deref-2.result.now)) c.in-None.is c.find_first.ensures.none in
+    let set : AreSet fates = subst AreSet c.deref-2.ensures.value shown in
     let count : length c.in_ok-sets-in-None.sets.items ≡ length (states_of p) =
     c.in_ok-sets-in-None.ensures.count ∙ (c.len.ensures ∙ ap length c.states.ensures) in
     let bits : AreBits fates c.in_ok-sets-in-None.sets.items =
@@ -28,10 +28,10 @@ returns-in-None c =
 pub name-variable-requires : goal.name-variable-requires
 name-variable-requires c =
     let p = process_of c.args.table.now in
-    let shown : IsUnsetAt c.deref.result.now c.in-Some.number =
-    subst (λ (o : Option ℕ). IfSome o (IsUnsetAt c.deref.result.now)) c.in-Some.is c.find_first.ensures.found in
+    let shown : IsUnsetAt c.deref-2.result.now c.in-Some.number =
+    subst (λ (o : Option ℕ). IfSome o (IsUnsetAt c.deref-2.result.now)) c.in-Some.is c.find_first.ensures.found in
     let unset : IsUnsetAt c.in_ok-fates.fates.items c.in-Some.number =
-    subst (λ (l : List Fate). IsUnsetAt l c.in-Some.number) c.deref.ensures.value shown in
+    subst (λ (l : List Fate). IsUnsetAt l c.in-Some.number) c.deref-2.ensures.value shown in
     let within : c.in-Some.number < length (variable_names p) = number_within p c.in_ok-fates.fates.items c.in-Some.number c.in_ok-fates.ensures unset in
     omega (arith, within, ap length c.variables.ensures)
 
@@ -40,9 +40,9 @@ named_path-requires c =
     let p = process_of c.args.table.now in
     let fates = c.in_ok-fates.fates.items in
     let n = c.in-Some.number in
-    let shown : IsUnsetAt c.deref.result.now n =
-    subst (λ (o : Option ℕ). IfSome o (IsUnsetAt c.deref.result.now)) c.in-Some.is c.find_first.ensures.found in
-    let unset : IsUnsetAt fates n = subst (λ (l : List Fate). IsUnsetAt l n) c.deref.ensures.value shown in
+    let shown : IsUnsetAt c.deref-2.result.now n =
+    subst (λ (o : Option ℕ). IfSome o (IsUnsetAt c.deref-2.result.now)) c.in-Some.is c.find_first.ensures.found in
+    let unset : IsUnsetAt fates n = subst (λ (l : List Fate). IsUnsetAt l n) c.deref-2.ensures.value shown in
     let path : (path : Vec number.Step Global) → slice_get fates n ≡ Some (Path path) → c.path_at.result.now ≡ path.items =
     subst (λ (l : List Fate). (path : Vec number.Step Global) → slice_get l n ≡ Some (Path path) → c.path_at.result.now ≡ path.items)
     c.deref-in-Some.ensures.value c.path_at.ensures in
@@ -53,9 +53,9 @@ returns c =
     let p = process_of c.args.table.now in
     let fates = c.in_ok-fates.fates.items in
     let n = c.in-Some.number in
-    let shown : IsUnsetAt c.deref.result.now n =
-    subst (λ (o : Option ℕ). IfSome o (IsUnsetAt c.deref.result.now)) c.in-Some.is c.find_first.ensures.found in
-    let unset : IsUnsetAt fates n = subst (λ (l : List Fate). IsUnsetAt l n) c.deref.ensures.value shown in
+    let shown : IsUnsetAt c.deref-2.result.now n =
+    subst (λ (o : Option ℕ). IfSome o (IsUnsetAt c.deref-2.result.now)) c.in-Some.is c.find_first.ensures.found in
+    let unset : IsUnsetAt fates n = subst (λ (l : List Fate). IsUnsetAt l n) c.deref-2.ensures.value shown in
     let path : (path : Vec number.Step Global) → slice_get fates n ≡ Some (Path path) → c.path_at.result.now ≡ path.items =
     subst (λ (l : List Fate). (path : Vec number.Step Global) → slice_get l n ≡ Some (Path path) → c.path_at.result.now ≡ path.items)
     c.deref-in-Some.ensures.value c.path_at.ensures in

@@ -1,8 +1,8 @@
 use Rattle.std.proofs.Common.{◌≡◌, ◌∙◌, ap, subst, map, [], Option, ℕ}
 use Rattle.std.specs.List.{flat_map}
 use Rattle.std.proofs.lemmas.Result.{err_from_is_err_and}
-use Rattle.sdl_tree.specs.Views.{process_of, declaration_of, state_of}
-use Rattle.sdl_tables.specs.Names.{variable_names, variables_of, timers_of, timers_in, names_once, declared_variables, clause_parts}
+use Rattle.sdl_tree.specs.Views.{process_of, declaration_of, state_of, connection_of}
+use Rattle.sdl_tables.specs.Names.{variable_names, variables_of, timers_of, timers_in, connector_names, names_once, declared_variables, clause_parts}
 use Rattle.sdl_tables.specs.Rows.{variable_of}
 use Rattle.sdl_tables.specs.Scopes.{Marks, repeats, process_scopes}
 use Rattle.sdl_tables.proofs.ProcessTables.{ids-of_rows, Marks-scopes}
@@ -19,10 +19,14 @@ returns-in-Some-clause-double c =
     (c.deref-3.ensures.value ∙ (c.in_ok-names.ensures ∙ ap (map (λ row. row.name)) c.deref-2.ensures.value)) in
     let alarms : c.deref-5.result.now ≡ timers_of p =
     c.deref-5.ensures.value ∙ (c.in_ok-alarms.ensures ∙ ap (λ ds. flat_map timers_in (map declaration_of ds)) c.deref-4.ensures.value) in
+    let labels : c.deref-7.result.now ≡ connector_names p =
+    c.deref-7.ensures.value ∙ (c.in_ok-labels.ensures ∙ ap (λ cs. map (λ x. x.name) (map connection_of cs)) c.deref-6.ensures.value) in
     let both : Marks c.earlier-double.result (flat_map (repeats []) (process_scopes p)) =
-    Marks-scopes p c.deref-3.result.now c.deref-5.result.now c.in_ok-variables.variables.double c.in_ok-timers.timers.double
-    c.in_ok-twice.twice c.earlier.result c.earlier-double.result named alarms c.in_ok-variables.ensures.double
-    c.in_ok-timers.ensures.double c.in_ok-twice.ensures c.earlier.ensures c.earlier-double.ensures in
+    Marks-scopes p c.deref-3.result.now c.deref-5.result.now c.deref-7.result.now c.in_ok-variables.variables.double
+    c.in_ok-timers.timers.double c.in_ok-connectors.connectors.double c.in_ok-twice.twice c.earlier-labels_and_triggers.result
+    c.earlier.result c.earlier-double.result named alarms labels c.in_ok-variables.ensures.double c.in_ok-timers.ensures.double
+    c.in_ok-connectors.ensures.double c.in_ok-twice.ensures c.earlier-labels_and_triggers.ensures c.earlier.ensures
+    c.earlier-double.ensures in
     subst (λ (o : Option ℕ). Marks o (flat_map (repeats []) (process_scopes p))) c.in-Some.is both
 
 pub invariant_of-result : goal.invariant_of-result
@@ -35,10 +39,14 @@ invariant_of-result c =
     (c.deref-3.ensures.value ∙ (c.in_ok-names.ensures ∙ ap (map (λ row. row.name)) c.deref-2.ensures.value)) in
     let alarms : c.deref-5.result.now ≡ timers_of p =
     c.deref-5.ensures.value ∙ (c.in_ok-alarms.ensures ∙ ap (λ ds. flat_map timers_in (map declaration_of ds)) c.deref-4.ensures.value) in
+    let labels : c.deref-7.result.now ≡ connector_names p =
+    c.deref-7.ensures.value ∙ (c.in_ok-labels.ensures ∙ ap (λ cs. map (λ x. x.name) (map connection_of cs)) c.deref-6.ensures.value) in
     let both : Marks c.earlier-double.result (flat_map (repeats []) (process_scopes p)) =
-    Marks-scopes p c.deref-3.result.now c.deref-5.result.now c.in_ok-variables.variables.double c.in_ok-timers.timers.double
-    c.in_ok-twice.twice c.earlier.result c.earlier-double.result named alarms c.in_ok-variables.ensures.double
-    c.in_ok-timers.ensures.double c.in_ok-twice.ensures c.earlier.ensures c.earlier-double.ensures in
+    Marks-scopes p c.deref-3.result.now c.deref-5.result.now c.deref-7.result.now c.in_ok-variables.variables.double
+    c.in_ok-timers.timers.double c.in_ok-connectors.connectors.double c.in_ok-twice.twice c.earlier-labels_and_triggers.result
+    c.earlier.result c.earlier-double.result named alarms labels c.in_ok-variables.ensures.double c.in_ok-timers.ensures.double
+    c.in_ok-connectors.ensures.double c.in_ok-twice.ensures c.earlier-labels_and_triggers.ensures c.earlier.ensures
+    c.earlier-double.ensures in
     let none : flat_map (repeats []) (process_scopes p) ≡ [] =
     subst (λ (o : Option ℕ). Marks o (flat_map (repeats []) (process_scopes p))) c.in-None.is both in
     record {
@@ -49,10 +57,15 @@ invariant_of-result c =
       timers =
           c.in_ok-timers.ensures.names
           ∙ (ap names_once alarms ∙ names_once-distinct (timers_of p) (append-nil_left _ _ (append-nil_right _ _ none)));
-      states = c.in_ok-states.ensures ∙ ap (λ ps. names_once (flat_map (λ part. part.names) (map state_of ps))) c.deref-6.ensures.value;
+      connectors =
+          c.in_ok-connectors.ensures.names
+          ∙ (ap names_once labels
+          ∙ names_once-distinct (connector_names p)
+          (append-nil_left _ _ (append-nil_right _ _ (append-nil_right _ _ none))));
+      states = c.in_ok-states.ensures ∙ ap (λ ps. names_once (flat_map (λ part. part.names) (map state_of ps))) c.deref-8.ensures.value;
       inputs = c.in_ok-inputs.ensures;
       saves = c.in_ok-saves.ensures;
-      parts = c.in_ok-parts.ensures ∙ ap (λ ps. flat_map (λ part. flat_map clause_parts part.clauses) (map state_of ps)) c.deref-7.ensures.value;
+      parts = c.in_ok-parts.ensures ∙ ap (λ ps. flat_map (λ part. flat_map clause_parts part.clauses) (map state_of ps)) c.deref-9.ensures.value;
       distinct = none;
     }
 
@@ -66,10 +79,14 @@ returns-clause-distinct c =
     (c.deref-3.ensures.value ∙ (c.in_ok-names.ensures ∙ ap (map (λ row. row.name)) c.deref-2.ensures.value)) in
     let alarms : c.deref-5.result.now ≡ timers_of p =
     c.deref-5.ensures.value ∙ (c.in_ok-alarms.ensures ∙ ap (λ ds. flat_map timers_in (map declaration_of ds)) c.deref-4.ensures.value) in
+    let labels : c.deref-7.result.now ≡ connector_names p =
+    c.deref-7.ensures.value ∙ (c.in_ok-labels.ensures ∙ ap (λ cs. map (λ x. x.name) (map connection_of cs)) c.deref-6.ensures.value) in
     let both : Marks c.earlier-double.result (flat_map (repeats []) (process_scopes p)) =
-    Marks-scopes p c.deref-3.result.now c.deref-5.result.now c.in_ok-variables.variables.double c.in_ok-timers.timers.double
-    c.in_ok-twice.twice c.earlier.result c.earlier-double.result named alarms c.in_ok-variables.ensures.double
-    c.in_ok-timers.ensures.double c.in_ok-twice.ensures c.earlier.ensures c.earlier-double.ensures in
+    Marks-scopes p c.deref-3.result.now c.deref-5.result.now c.deref-7.result.now c.in_ok-variables.variables.double
+    c.in_ok-timers.timers.double c.in_ok-connectors.connectors.double c.in_ok-twice.twice c.earlier-labels_and_triggers.result
+    c.earlier.result c.earlier-double.result named alarms labels c.in_ok-variables.ensures.double c.in_ok-timers.ensures.double
+    c.in_ok-connectors.ensures.double c.in_ok-twice.ensures c.earlier-labels_and_triggers.ensures c.earlier.ensures
+    c.earlier-double.ensures in
     subst (λ (o : Option ℕ). Marks o (flat_map (repeats []) (process_scopes p))) c.in-None.is both
 
 pub returns-in_err-inputs-clause-double : goal.returns-in_err-inputs-clause-double

@@ -1,9 +1,0 @@
-use Rattle.std.proofs.Common.{◌≡◌, map, take, min}
-use Rattle.std.specs.Prelude.{sum_by}
-use Rattle.sdl_tree.specs.Views.{action_of}
-use Rattle.sdl_rules.specs.Longest.{action_effects}
-use Rattle.sdl_rules.proofs.limits.actions_effects.Given as goal
-
-abbrev pub invariant-loop-action : goal.invariant-loop-action
-invariant-loop-action l =
-    l.total ≡ min (sum_by action_effects (map action_of (take l.action-index l.actions))) 18446744073709551615

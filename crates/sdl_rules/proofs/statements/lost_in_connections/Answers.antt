@@ -1,0 +1,34 @@
+use Rattle.std.proofs.Common.{◌≡◌, ◌∙◌, sym, ap, subst, map, slice_get, Some, List}
+use Rattle.std.specs.List.{flat_map}
+use Rattle.std.specs.Option.{option_map}
+use Rattle.std.proofs.lemmas.Option.{slice_get-get_or}
+use Rattle.sdl_tree.specs.Plain.{PlainConnection}
+use Rattle.sdl_tree.specs.Views.{block_of, process_of, connection_of}
+use Rattle.sdl_tables.specs.Scopes.{Marks}
+use Rattle.sdl_rules.specs.Actions.{Origin, in_connection}
+use Rattle.sdl_rules.specs.Asked.{asked}
+use Rattle.sdl_rules.specs.Sources.{Row, origins_of, row_of, origins_at}
+use Rattle.sdl_rules.specs.declared.sources.Reaching.{Reaching}
+use Rattle.sdl_rules.specs.Statements.{statements_of}
+use Rattle.sdl_rules.specs.declared.statements.StatementRule.TheVariants.{Receivers}
+use Rattle.sdl_rules.proofs.Coming.{origins_at-is}
+use Rattle.sdl_rules.proofs.Pairs.{slice_get-map}
+use Rattle.sdl_rules.proofs.Places.{Marks-more}
+use Rattle.sdl_rules.proofs.statements.lost_in_connections.Goals as goal
+
+pub loop-number-preserved : goal.loop-number-preserved
+loop-number-preserved c =
+    let b = block_of c.args.block.now in
+    let p = process_of c.args.process.now in
+    let n = c.loop-number.number in
+    let item = c.index-connections-number.result in
+    let here : slice_get p.connections n ≡ Some (connection_of item) =
+    ap (λ (l : List PlainConnection). slice_get l n) (sym c.requires)
+    ∙ (slice_get-map connection_of c.args.connections.now n
+    ∙ ap (option_map connection_of) (slice_get-get_or c.args.connections.now n item c.loop-number-test.true ∙ ap Some (sym c.index-connections-number.is))) in
+    let rows = ap (λ (rs : List Reaching). origins_at (map row_of rs) n) c.deref.ensures.value ∙ ap (λ (rs : List Row). origins_at rs n) c.in_ok-rows.ensures in
+    let given = ap origins_of c.deref-in-loop-number.ensures.value ∙ c.in_ok-sources.ensures in
+    let from = given ∙ (rows ∙ origins_at-is p n (connection_of item) here) in
+    let lost = subst (λ (from : List Origin). Marks c.in_transition-lost.result (flat_map (asked Receivers b p from) (statements_of (connection_of item).text))) from c.in_transition-lost.ensures in
+    Marks-more (in_connection (asked Receivers b p) p) connection_of c.args.connections.now n item c.loop-number.place c.in_transition-lost.result
+    c.earlier-place.result c.loop-number-test.true c.index-connections-number.is c.loop-number.invariant lost c.earlier-place.ensures

@@ -1,0 +1,49 @@
+-- With what transitions begin, and to which connections they come, as the code keeps it.
+use Rattle.std.specs.Prelude.{ℕ, Bool, false, List, [], ◌∷◌, if◌then◌else◌, map, slice_get}
+use Rattle.std.specs.List.{flat_map}
+use Rattle.std.specs.Option.{option_map_or}
+use Rattle.sdl_tree.specs.Plain.{Text, PlainInput, PlainProcess}
+use Rattle.sdl_tree.specs.Views.{input_of}
+use Rattle.sdl_tables.specs.Names.{input_parts}
+use Rattle.sdl_rules.specs.Joins.{reaches}
+use Rattle.sdl_rules.specs.Actions.{Origin, begins, input_origins}
+use Rattle.sdl_rules.specs.declared.sources.Reaching.{Reaching}
+use Rattle.sdl_rules.specs.declared.sources.Source.{Source}
+use Rattle.sdl_rules.specs.declared.sources.Source.TheVariants.{Start, Input}
+
+-- START, or each signal and timer of an INPUT
+abbrev pub source_origins : Source → List Origin
+source_origins Start = begins ∷ []
+source_origins (Input i) = input_origins (input_of i.now)
+
+abbrev pub origins_of : List Source → List Origin
+origins_of sources = flat_map source_origins sources
+
+-- to which connections a text comes, by number
+abbrev pub reach_row : PlainProcess → Text → List Bool
+reach_row p t = map (λ c. reaches p t c.name.name) p.connections
+
+-- with what a transition begins, and where it comes
+pub record Row : Type 0 where
+  pub origins : List Origin
+  pub reached : List Bool
+
+abbrev pub row_of : Reaching → Row
+row_of r = record { origins = source_origins r.source; reached = r.reached.items }
+
+abbrev pub input_row : PlainProcess → PlainInput → Row
+input_row p i = record { origins = input_origins i; reached = reach_row p i.text }
+
+-- the transitions of a process: that of START, and those of the INPUTs
+abbrev pub process_rows : PlainProcess → List Row
+process_rows p = record { origins = begins ∷ []; reached = reach_row p p.start.text } ∷ map (input_row p) (input_parts p)
+
+abbrev pub is_marked : List Bool → ℕ → Bool
+is_marked marks n = option_map_or (λ b. b) (slice_get marks n) false
+
+abbrev pub row_origins : ℕ → Row → List Origin
+row_origins n r = if is_marked r.reached n then r.origins else []
+
+-- with what the transitions begin that come to connection n
+abbrev pub origins_at : List Row → ℕ → List Origin
+origins_at rows n = flat_map (row_origins n) rows

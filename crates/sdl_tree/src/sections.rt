@@ -1,0 +1,51 @@
+//! The parts of the body of a process: STATE parts and CONNECTIONs apart.
+ghost use Rattle.std.specs.Prelude.{◌≡◌, ◌++◌, map, OnOk, IfOk, IfErr};
+ghost use Rattle.std.specs.List.{filter_map};
+ghost use Rattle.std.specs.Option.{option_to_list};
+ghost use Rattle.sdl_tree.specs.Plain.{state_in, connection_in};
+ghost use Rattle.sdl_tree.specs.Views.{state_of, connection_of, section_of};
+
+use crate::stop::{Stop, push};
+use crate::transitions::Section;
+use crate::tree::{Connection, StatePart};
+use std::alloc::Global;
+
+/// The STATE parts and the CONNECTIONs of a process, each in the order of the text.
+#[derive(Drop)]
+pub(crate) struct Sections {
+    pub(crate) states: Vec<StatePart>,
+    pub(crate) connections: Vec<Connection>,
+}
+
+/// Puts a part behind those of its kind.
+fn file<'a>(
+    states: &mut Vec<StatePart>,
+    connections: &mut Vec<Connection>,
+    section: Section,
+) -> Result<(), Stop<'a>>
+    ensures states { OnOk result (map state_of states.new.items ≡ map state_of states.old.items ++ option_to_list (state_in (section_of section))) }
+    ensures connections { OnOk result (map connection_of connections.new.items ≡ map connection_of connections.old.items ++ option_to_list (connection_in (section_of section))) }
+    ensures err { IfErr result (λ stop. stop ≡ Stop.NoMemory) }
+{
+    match section {
+        Section::State(state) => push(states, state),
+        Section::Connection(connection) => push(connections, connection),
+    }
+}
+
+/// The parts by their kinds.
+pub(crate) fn parted<'a>(alloc: Global, sections: Vec<Section>) -> Result<Sections, Stop<'a>>
+    ensures states { IfOk result (λ found. map state_of found.states.items ≡ filter_map state_in (map section_of sections.items)) }
+    ensures connections { IfOk result (λ found. map connection_of found.connections.items ≡ filter_map connection_in (map section_of sections.items)) }
+    ensures err { IfErr result (λ stop. stop ≡ Stop.NoMemory) }
+{
+    let mut states = Vec::new(alloc);
+    let mut connections = Vec::new(alloc);
+    'rows: for section in sections {
+        file(&mut states, &mut connections, section)?;
+    }
+    Ok(Sections {
+        states,
+        connections,
+    })
+}
