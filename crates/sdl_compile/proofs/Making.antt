@@ -67,20 +67,20 @@ module _ (c : Scope) (q : Piece) (ps : List Sort) (entry : VariableSet) (ready :
       let map_count = λ (fs : List PlaceFacts). map (λ (f : PlaceFacts). f.count) fs in
       let map_effects = λ (fs : List PlaceFacts). map (λ (f : PlaceFacts). f.effects) fs in
       let own : IsPieceOf c ps entry q (record { code = code; facts = fs; certificate = d.certificate }) =
-          record {
-            code = record { numbers = ns; placed = placed; code = is };
-            facts = record { order = order; ordered = ordered; shaped = shaped; settled = settled };
-            counted = record {
-              counts = subst (AreCounts (weight Instructions) code) (sym e) counted_by;
-              effects = subst (AreCounts (weight Effects) code) (sym f) effects_by;
-              longest = ap (λ l. number_at l 0) e ∙ longest;
-              most = ap (λ l. number_at l 0) f ∙ most;
-            };
-            certificate = record {
-              budget = b ∙ first_count_is fs ∙ ap (λ l. number_at l 0) e ∙ longest;
-              depth = dp ∙ is_deep shaped;
-              effects = ef ∙ first_effects_are fs ∙ ap (λ l. number_at l 0) f ∙ most;
-            };
-          } in
+      record {
+        code = record { numbers = ns; placed = placed; code = is };
+        facts = record { order = order; ordered = ordered; shaped = shaped; settled = settled };
+        counted = record {
+          counts = subst (AreCounts (weight Instructions) code) (sym e) counted_by;
+          effects = subst (AreCounts (weight Effects) code) (sym f) effects_by;
+          longest = ap (λ l. number_at l 0) e ∙ longest;
+          most = ap (λ l. number_at l 0) f ∙ most;
+        };
+        certificate = record {
+          budget = b ∙ first_count_is fs ∙ ap (λ l. number_at l 0) e ∙ longest;
+          depth = dp ∙ is_deep shaped;
+          effects = ef ∙ first_effects_are fs ∙ ap (λ l. number_at l 0) f ∙ most;
+        };
+      } in
       subst (λ x. IsPieceOf c ps entry q (let p : DraftPiece = record { code = x; facts = d.facts; certificate = d.certificate } in p)) (sym dc)
       (subst (λ y. IsPieceOf c ps entry q (let p : DraftPiece = record { code = code; facts = y; certificate = d.certificate } in p)) (sym df) own)

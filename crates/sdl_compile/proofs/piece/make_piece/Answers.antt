@@ -61,7 +61,7 @@ overflow_cast-certificate c =
     let code = c.in_ok-code.code.items in
     let is = c.in_ok-code.ensures ∙ ap (λ (ns : List ℕ). piece_code s q ns) c.deref-2.ensures.value in
     let shaped = c.in_ok-facts.ensures.shaped ∙ ap (λ code. shapes_from x.signals.now x.variables.now x.parameters.now [] code) c.deref-11.ensures.value
-        ∙ ap (λ ss. shapes_from ss x.variables.now x.parameters.now [] code) c.requires.setting.signals ∙ ap (λ xs. shapes_from (drafted_signals s.block) xs x.parameters.now [] code) c.requires.setting.variables in
+    ∙ ap (λ ss. shapes_from ss x.variables.now x.parameters.now [] code) c.requires.setting.signals ∙ ap (λ xs. shapes_from (drafted_signals s.block) xs x.parameters.now [] code) c.requires.setting.variables in
     let e = is_deep s q x.parameters.now x.entry c.requires.ready ns c.in_ok-numbers.ensures code is c.in_ok-facts.facts.items shaped in
     let f = ap (λ fs. greatest (depths fs)) c.deref-13.ensures.value in
     omega (arith, e, f, c.greatest_depth.ensures, c.requires.ready.small.depth)
@@ -75,7 +75,7 @@ returns c =
     let code = c.in_ok-code.code.items in
     let is = c.in_ok-code.ensures ∙ ap (λ (ns : List ℕ). piece_code s q ns) c.deref-2.ensures.value in
     let shaped = c.in_ok-facts.ensures.shaped ∙ ap (λ code. shapes_from x.signals.now x.variables.now x.parameters.now [] code) c.deref-11.ensures.value
-        ∙ ap (λ ss. shapes_from ss x.variables.now x.parameters.now [] code) c.requires.setting.signals ∙ ap (λ xs. shapes_from (drafted_signals s.block) xs x.parameters.now [] code) c.requires.setting.variables in
+    ∙ ap (λ ss. shapes_from ss x.variables.now x.parameters.now [] code) c.requires.setting.signals ∙ ap (λ xs. shapes_from (drafted_signals s.block) xs x.parameters.now [] code) c.requires.setting.variables in
     let settled = c.in_ok-facts.ensures.settled ∙ c.deref-8.ensures.value ∙ c.in_ok-sets.ensures ∙ ap (λ (ns : List ℕ). piece_sets s x.entry q x.order.now ns) c.deref-4.ensures.value in
     made s q x.parameters.now x.entry c.requires.ready ns c.in_ok-numbers.ensures code is c.in_ok-facts.facts.items x.order.now c.requires.setting.ordered shaped settled
     c.in_ok-counted.counted.counts.items c.in_ok-counted.counted.effects.items (c.in_ok-facts.ensures.counted ∙ c.deref-9.ensures.value) (c.in_ok-facts.ensures.effected ∙ c.deref-10.ensures.value)
