@@ -51,6 +51,7 @@ module _ (c : Scope) (q : Piece) (ps : List Sort) (entry : VariableSet) (ready :
   pub means : (d : DraftPiece) → IsPieceOf c ps entry q d → length d.code ≡ piece_size c.process q → (from : Option Identifier) → AnswersAll c from q.text → Means c from q d
   means d made size from answers = record {
     run_is_act = λ x is_sent. run_is_act c from q made.code.numbers d.code x made.code.placed made.code.code ready.named is_sent answers.text (others_answer made.code.numbers made.code.placed from answers) ready.small.budget;
+    code = made.code;
     certificate = made.certificate;
     size = size;
   }

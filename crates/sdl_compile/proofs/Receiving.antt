@@ -360,13 +360,13 @@ module _ (c : Scope) (n : ℕ) (numbers : AreNumbered (process_names c.block)) (
 
     answered : (x s : List ℕ) (v : ℕ) → number_of sigs x ≡ Some v → (paths : List PlainPath) → Each (IsKnownPath c.block) paths
         → Each (λ (path : PlainPath). same_party own path.to && is_in path.signals x ≡ true → carries c.block own path.from s ≡ true) paths
-        → Each (Answers d.routes n (let m : SignalNumber = record { 0 = v } in m) (sig s)) (map (drafted_path c.block) paths)
+        → Each (Answers d.processes d.routes n (let m : SignalNumber = record { 0 = v } in m) (sig s)) (map (drafted_path c.block) paths)
     answered x s v e [] k h = tt
     answered x s v e (path ∷ paths) k h = (
       λ to there. (
           let mine = own_party path.to k.0.to to in
           let among = All-contains (λ (k : SignalNumber). k ≡ (let m : SignalNumber = record { 0 = v } in m) → is_in path.signals x ≡ true) (map (λ (id : Identifier). sig id.name) path.signals) (let m : SignalNumber = record { 0 = v } in m) (signal_among x v e path.signals k.0.signals) there refl in
-          (carried path.from s (h.0 (and_both (same_party own path.to) (is_in path.signals x) mine among))).1
+          (carried path.from s (h.0 (and_both (same_party own path.to) (is_in path.signals x) mine among)))
           ),
       answered x s v e paths k.1 h.1,
     )
@@ -389,8 +389,8 @@ module _ (c : Scope) (n : ℕ) (numbers : AreNumbered (process_names c.block)) (
         by_number (Some v) f =
             let each = each_sender (λ q. carries c.block own q s) own i.name.name (paths_of c.block) all in
             let m : SignalNumber = record { 0 = v } in
-            subst (λ (rs : List DraftRoute). All (Answers d.routes n m (sig s)) rs) (sym routes)
-            (all_items (Answers d.routes n m (sig s)) (map (drafted_path c.block) (paths_of c.block)) (answered i.name.name s v f (paths_of c.block) known each))
+            subst (λ (rs : List DraftRoute). All (Answers d.processes d.routes n m (sig s)) rs) (sym routes)
+            (all_items (Answers d.processes d.routes n m (sig s)) (map (drafted_path c.block) (paths_of c.block)) (answered i.name.name s v f (paths_of c.block) known each))
 
     -- what arrives by the text's routes reaches its receiver
     pub arriving : (is : List Origin) (trigger : Option Trigger) → ((s : List ℕ) → answers_all c.block c.process is s ≡ true → AnswersSender d n (sig s) trigger)

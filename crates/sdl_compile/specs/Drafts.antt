@@ -16,16 +16,17 @@ use Rattle.sdl_rules.specs.Longest.{Piece, piece_size, start_piece, input_piece}
 use Rattle.sdl_rules.specs.Settled.{AreSettled}
 use Rattle.sdl_compile.specs.Act.{Scope, Act, scope_of}
 use Rattle.sdl_compile.specs.Named.{AreSorted, NamedPiece, IsSentTo, AnswersAll}
-use Rattle.sdl_compile.specs.Made.{IsLongestOf, IsPieceOf, IsSmall}
+use Rattle.sdl_compile.specs.Made.{IsCodeOf, IsLongestOf, IsPieceOf, IsSmall}
 use Rattle.sdl_compile.specs.Declarations.{drafted_variables, trigger_of, trigger_sorts}
 
 -- ---- what a draft says
 
 -- On every input that comes from who may have sent it, the run of the piece is the meaning of the transition: its effects,
--- its variables, its end and its count. The certificate names the longest path. The code has as many instructions as the text says,
--- with each connection once.
+-- its variables, its end and its count (one that doesn't fit is stuck in the same way). The code stands in its order, the bodies of a DECISION with ELSE first and
+-- the connections behind all, each once. The certificate names the longest path, and the code has as many instructions as the text says.
 pub record Means (c : Scope) (from : Option Identifier) (q : Piece) (d : DraftPiece) : Type 0 where
   pub run_is_act : (x : code_input.Input) → IsSentTo c from x.sender → run d.code x ≡ Act c q x
+  pub code : IsCodeOf c q d.code
   pub certificate : IsLongestOf c q d.certificate
   pub size : length d.code ≡ piece_size c.process q
 

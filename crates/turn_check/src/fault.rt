@@ -39,7 +39,7 @@ pub enum VerifyFault {
     /// A place where the code goes on isn't in it.
     #[error("V1 Jump {0}")]
     Jump(Spot),
-    /// Two ways to a place differ in their operands.
+    /// Ways to a place that leave other operands there than it says, operands at the first place, or a place without facts.
     #[error("V2 Shape {0}")]
     Shape(Spot),
     /// Too few operands.
@@ -48,19 +48,20 @@ pub enum VerifyFault {
     /// An operand, or at START an initial value, of the wrong sort.
     #[error("V4 Sort {0}")]
     Sort(Spot),
-    /// A variable that is read, or said to be set, isn't set on every way.
+    /// A variable that is read, or said to be set, isn't set on every way; or the first place says another set than what comes there.
     #[error("V5 Unset {0}")]
     Unset(Spot),
     /// A state that isn't there.
     #[error("V6 State {0}")]
     State(Spot),
-    /// A variable, parameter, timer, signal or receiver that isn't there, or a divisor under 1.
+    /// Something is named that the set lacks, by an instruction, by what the transition waits for or by what a state saves; an output with
+    /// another number of parameters than its signal; division by less than 1.
     #[error("V7 Number {0}")]
     Number(Spot),
     /// More than a limit allows. A limit of a process is broken at its START, one of the whole set at the START of process 0.
     #[error("V8 Limit {0}")]
     Limit(Spot),
-    /// A cycle, or a count that isn't the longest path.
+    /// Counts that don't fit those of where the code goes on (as on a way that comes back), or a certificate that doesn't fit them.
     #[error("V9 Budget {0}")]
     Budget(Spot),
 }

@@ -83,10 +83,11 @@ fn answers_each(
     taken: SignalNumber,
     signal: SignalNumber,
 ) -> bool
-    ensures { IsTrue result ↔ All (Answers draft.now.routes process.0 taken signal) draft.now.routes }
+    ensures { IsTrue result ↔ All (Answers draft.now.processes draft.now.routes process.0 taken signal) draft.now.routes }
 {
     let routes = draft.routes.as_slice();
-    all_answer(routes, routes, process, taken, signal)
+    let processes = draft.processes.as_slice();
+    all_answer(routes, processes, routes, process, taken, signal)
 }
 
 /// Whether a party is the environment, or a process that is there.
@@ -140,32 +141,34 @@ fn reaches(
 /// Whether a signal goes back on each of these routes that bring the one that is taken.
 fn all_answer(
     among: &[DraftRoute],
+    processes: &[DraftProcess],
     routes: &[DraftRoute],
     process: ProcessNumber,
     taken: SignalNumber,
     signal: SignalNumber,
 ) -> bool
-    ensures { IsTrue result ↔ All (Answers routes.now process.0 taken signal) among.now }
+    ensures { IsTrue result ↔ All (Answers processes.now routes.now process.0 taken signal) among.now }
 {
     for route in among {
-        if !answers(route, routes, process, taken, signal) {
+        if !answers(route, processes, routes, process, taken, signal) {
             return false;
         }
     }
     true
 }
 
-/// Whether a route doesn't bring the signal that is taken, or the other one goes back to who sends it.
+/// Whether a route doesn't bring the signal that is taken, or who sends it is there and the other one goes back to it.
 fn answers(
     route: &DraftRoute,
+    processes: &[DraftProcess],
     routes: &[DraftRoute],
     process: ProcessNumber,
     taken: SignalNumber,
     signal: SignalNumber,
 ) -> bool
-    ensures { IsTrue result ↔ Answers routes.now process.0 taken signal route.now }
+    ensures { IsTrue result ↔ Answers processes.now routes.now process.0 taken signal route.now }
 {
     !is_process(process, route.to)
         || !carries(route.signals.as_slice(), taken)
-        || reaches(routes, process, route.from, signal)
+        || (is_party(processes, route.from) && reaches(routes, process, route.from, signal))
 }

@@ -31,6 +31,6 @@ pub record Takes (p : ℕ) (receiver : Party) (n : SignalNumber) (r : DraftRoute
 abbrev pub Reaches : List DraftRoute → ℕ → Party → SignalNumber → Type 0
 Reaches routes p receiver n = Any (Takes p receiver n) routes
 
--- where the route brings signal m to process p, some route carries signal n from there to who sent it
-abbrev pub Answers : List DraftRoute → ℕ → SignalNumber → SignalNumber → DraftRoute → Type 0
-Answers routes p m n r = IsProcess p r.to → Contains r.signals m → Reaches routes p r.from n
+-- where the route brings signal m to process p, who sent it is there, and some route carries signal n to it
+abbrev pub Answers : List DraftProcess → List DraftRoute → ℕ → SignalNumber → SignalNumber → DraftRoute → Type 0
+Answers ps routes p m n r = IsProcess p r.to → Contains r.signals m → IsPartyOf ps r.from × Reaches routes p r.from n

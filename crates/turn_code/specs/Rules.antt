@@ -95,11 +95,11 @@ abbrev pub HasSaves : List DraftSignal → DraftProcess → DraftState → Type 
 HasSaves ss p q = All (IsThere ss p) q.saves
 
 -- Signal n of process p reaches its receiver. A party is there, and a route goes to it. A sender is known where the transition waits for a
--- signal: then from each route that brings that one, a route goes back to who sent it.
+-- signal: then for each route that brings that one, who sent it is there, and a route goes back to it.
 abbrev pub AnswersSender : Draft → ℕ → SignalNumber → Option Trigger → Type 0
 AnswersSender d p n None = ⊥
 AnswersSender d p n (Some (Timer m)) = ⊥
-AnswersSender d p n (Some (Signal m)) = All (Answers d.routes p m n) d.routes
+AnswersSender d p n (Some (Signal m)) = All (Answers d.processes d.routes p m n) d.routes
 
 abbrev pub ReachesReceiver : Draft → ℕ → SignalNumber → Option Trigger → Receiver → Type 0
 ReachesReceiver d p n trigger (ToParty x) = IsPartyOf d.processes x × Reaches d.routes p x n

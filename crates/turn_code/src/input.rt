@@ -29,6 +29,6 @@ pub struct Input {
     pub variables: ArrayVec<Option<Value>, 32>,
     /// The parameters of the signal.
     pub parameters: ArrayVec<Value, 4>,
-    /// Who sent the signal; nobody for START and for a timer.
+    /// Who sent the signal; not looked at for START and for a timer.
     pub sender: Option<Party>,
 }

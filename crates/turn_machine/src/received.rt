@@ -8,6 +8,6 @@ use turn_code::{Party, Value};
 pub struct Received {
     /// The parameters of the signal; none at START.
     pub parameters: ArrayVec<Value, 4>,
-    /// Who sent the signal; nobody at START.
+    /// Who sent the signal; not looked at for START and for a timer.
     pub sender: Option<Party>,
 }
