@@ -3,7 +3,7 @@ use Rattle.std.proofs.Common.{◌≡◌, ℕ, zero, suc, ◌+◌, ◌<◌, ◌�
 use Rattle.std.specs.List.{flat_map, position_or_len, prefix_len}
 use Rattle.std.specs.Option.{option_map, option_map_or, option_and_then}
 use Rattle.std.specs.Prelude.{position, not}
-use Rattle.std.proofs.lemmas.List.{append-nil, length-map, take_more}
+use Rattle.std.proofs.lemmas.List.{append-nil, length-map, map-append, take_more}
 use Rattle.std.proofs.lemmas.List.Folds.{find_at}
 use Rattle.std.proofs.lemmas.Option.{slice_get_past, slice_get-get_or}
 use Rattle.std.proofs.lemmas.Grind.{flat_map-append}
@@ -100,3 +100,51 @@ pairs_more f xs i d ys lt =
     ∙ (flat_map-append f (zip (take i xs) ys) (pair_of x (slice_get ys (length (take i xs))))
     ∙ ap (λ r. flat_map f (zip (take i xs) ys) ++ r)
     (of_pair f x (slice_get ys (length (take i xs))) ∙ ap (λ n. option_map_or (λ y. f (x, y)) (slice_get ys n) []) (length-take xs i lt))))
+
+-- ---- pairs along the second list
+
+zip-none : {A B : Type 0} (xs : List A) (ys : List B) → ys ≡ [] → zip xs ys ≡ []
+zip-none [] ys h = refl
+zip-none (x ∷ xs) [] h = refl
+zip-none (x ∷ xs) (y ∷ ys) h = absurd (cc)
+
+pair_with : {A B : Type 0} → Option A → B → List (A × B)
+pair_with None y = []
+pair_with (Some x) y = (x, y) ∷ []
+
+zip-beside : {A B : Type 0} (xs : List A) (ys : List B) (y : B) → zip xs (ys ++ y ∷ []) ≡ zip xs ys ++ pair_with (slice_get xs (length ys)) y
+unfolding pair_with
+zip-beside [] [] y = refl
+zip-beside [] (b ∷ ys) y = refl
+zip-beside (x ∷ xs) [] y = ap (λ l. (x, y) ∷ l) (zip-none xs [] refl)
+zip-beside (x ∷ xs) (b ∷ ys) y = ap (λ r. (x, b) ∷ r) (zip-beside xs ys y)
+
+of_pair_with : {A B : Type 0} (f : A × B → List ℕ) (o : Option A) (y : B) → flat_map f (pair_with o y) ≡ option_map_or (λ x. f (x, y)) o []
+unfolding pair_with
+of_pair_with f None y = refl
+of_pair_with f (Some x) y = append-nil (f (x, y))
+
+-- nothing stands beside nothing
+pub nothing_beside : {A B : Type 0} (f : A × B → List ℕ) (xs : List A) → flat_map f (zip xs []) ≡ []
+nothing_beside f xs = ap (flat_map f) (zip-none xs [] refl)
+
+-- one more of the second list
+pub beside_more : {A B : Type 0} (f : A × B → List ℕ) (xs : List A) (ys : List B) (i : ℕ) (y : B) → length ys ≡ i
+    → flat_map f (zip xs (ys ++ y ∷ [])) ≡ flat_map f (zip xs ys) ++ option_map_or (λ x. f (x, y)) (slice_get xs i) []
+beside_more f xs ys i y long =
+    ap (flat_map f) (zip-beside xs ys y)
+    ∙ (flat_map-append f (zip xs ys) (pair_with (slice_get xs (length ys)) y)
+    ∙ ap (λ r. flat_map f (zip xs ys) ++ r)
+    (of_pair_with f (slice_get xs (length ys)) y ∙ ap (λ n. option_map_or (λ x. f (x, y)) (slice_get xs n) []) long))
+
+pub beside_taken : {A B : Type 0} (f : A × B → List ℕ) (xs : List A) (ys : List B) (i : ℕ) (y : B) → i < length ys → y ≡ get_or ys i y
+    → flat_map f (zip xs (take (i + 1) ys)) ≡ flat_map f (zip xs (take i ys)) ++ option_map_or (λ x. f (x, y)) (slice_get xs i) []
+beside_taken f xs ys i y within is =
+    ap (λ l. flat_map f (zip xs l)) (take_more ys i y within ∙ ap (λ z. take i ys ++ z ∷ []) (sym is))
+    ∙ beside_more f xs (take i ys) i y (length-take ys i within)
+
+pub beside_mapped : {A B C : Type 0} (f : A × B → List ℕ) (xs : List A) (g : C → B) (ys : List C) (i : ℕ) (y : C) → i < length ys → y ≡ get_or ys i y
+    → flat_map f (zip xs (map g (take (i + 1) ys))) ≡ flat_map f (zip xs (map g (take i ys))) ++ option_map_or (λ x. f (x, g y)) (slice_get xs i) []
+beside_mapped f xs g ys i y within is =
+    ap (λ l. flat_map f (zip xs l)) (ap (map g) (take_more ys i y within ∙ ap (λ z. take i ys ++ z ∷ []) (sym is)) ∙ map-append g (take i ys) (y ∷ []))
+    ∙ beside_more f xs (map g (take i ys)) i (g y) (length-map (take i ys) g ∙ length-take ys i within)

@@ -1,7 +1,9 @@
 -- The first place of one list and another, and of one element more.
-use Rattle.std.proofs.Common.{◌≡◌, ℕ, ◌+◌, ◌<◌, true, ◌||◌, List, [], ◌∷◌, ◌++◌, Option, if◌then◌else◌, map, take, length, get_or, sym, ap, ◌∙◌, subst}
+use Rattle.std.proofs.Common.{◌≡◌, ℕ, zero, suc, ◌+◌, ◌<◌, true, ◌||◌, List, [], ◌∷◌, ◌++◌, Option, Some, None, if◌then◌else◌, map, take, length, get_or, sym, ap, ◌∙◌, subst}
+use Rattle.std.specs.Prelude.{slice_get, Contains}
 use Rattle.std.specs.List.{flat_map}
 use Rattle.std.proofs.lemmas.List.{append-nil, take_more, map-append}
+use Rattle.std.proofs.lemmas.List.Elements.{Contains-append_left, Contains-append_right}
 use Rattle.std.proofs.lemmas.List.Folds.{list_any-append}
 use Rattle.std.proofs.lemmas.Grind.{flat_map-append}
 use Rattle.std.proofs.Math.Bool.{or-true}
@@ -29,3 +31,22 @@ Marks-more f g zs i a one other both lt is m n join =
     ∙ (ap (flat_map f) (map-append g (take i zs) (a ∷ []))
     ∙ (flat_map-append f (map g (take i zs)) (g a ∷ []) ∙ ap (λ r. flat_map f (map g (take i zs)) ++ r) (append-nil (f (g a))))) in
     subst (Marks both) (sym places) (join (flat_map f (map g (take i zs))) (f (g a)) m n)
+
+-- none of one more
+pub none-more : {A X : Type 0} (f : X → List ℕ) (g : A → X) (zs : List A) (i : ℕ) (a : A) → i < length zs → a ≡ get_or zs i a
+    → flat_map f (map g (take i zs)) ≡ [] → f (g a) ≡ [] → flat_map f (map g (take (i + 1) zs)) ≡ []
+none-more f g zs i a lt is m n =
+    let more : take (i + 1) zs ≡ take i zs ++ a ∷ [] = take_more zs i a lt ∙ ap (λ y. take i zs ++ y ∷ []) (sym is) in
+    ap (λ l. flat_map f (map g l)) more
+    ∙ (ap (flat_map f) (map-append g (take i zs) (a ∷ []))
+    ∙ (flat_map-append f (map g (take i zs)) (g a ∷ []) ∙ ap (λ r. r ++ (f (g a) ++ [])) m ∙ ap (λ r. r ++ []) n))
+
+-- a place of one of them is a place of all
+pub place-among : {X : Type 0} (f : X → List ℕ) (xs : List X) (i : ℕ) (x : X) (at : ℕ) → slice_get xs i ≡ Some x → Contains (f x) at
+    → Contains (flat_map f xs) at
+place-among f [] i x at there h = let bad : None ≡ Some x = there in absurd (cc)
+place-among f (y ∷ xs) zero x at there h =
+    let is : Some y ≡ Some x = there in
+    let same : y ≡ x = cc in
+    Contains-append_left (f y) (flat_map f xs) at (subst (λ z. Contains (f z) at) (sym same) h)
+place-among f (y ∷ xs) (suc i) x at there h = Contains-append_right (f y) (flat_map f xs) at (place-among f xs i x at there h)

@@ -43,6 +43,7 @@ fn place_back(
     }
 }
 
+// The place of the first of these JOINs of a connection that comes back to it: they stand in the order of the text.
 fn place_in_joins(
     alloc: Global,
     process: &ProcessTable,
@@ -56,14 +57,15 @@ fn place_in_joins(
     ensures { IfOk result (λ place. (c : PlainConnection) → number_of (connector_names (process_of process.now)) c.name.name ≡ Some own
         → Marks place (flat_map (comes_back (process_of process.now) c) joins.now)) }
 {
-    let mut place = None;
     for join in joins {
-        place = earlier(place, place_back(alloc, process, links, own, *join)?);
+        if let Some(at) = place_back(alloc, process, links, own, *join)? {
+            return Ok(Some(at));
+        }
     }
-    Ok(place)
+    Ok(None)
 }
 
-// The place of a JOIN that comes back to its connection.
+// The place of the first JOIN that comes back to its connection: the connections stand in the order of the text.
 fn place_in_process(
     alloc: Global,
     process: &ProcessTable,
@@ -73,12 +75,15 @@ fn place_in_process(
     requires graph { IsGraph (graph_in links.now) }
     ensures { IfOk result (λ place. Marks place (process_cycles (process_of process.now))) }
 {
-    let mut place = None;
     for (own, connection) in process.process().connections.iter().enumerate() {
         let joins = find_joins(alloc, &connection.transition)?;
-        place = earlier(place, place_in_joins(alloc, process, links, own, &joins)?);
+        let place = place_in_joins(alloc, process, links, own, &joins)?;
+        match place {
+            None => {}
+            Some(at) => return Ok(Some(at)),
+        }
     }
-    Ok(place)
+    Ok(None)
 }
 
 // An order of the connections of a process, or the place of a JOIN that comes back to its connection.

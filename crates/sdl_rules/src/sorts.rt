@@ -233,22 +233,23 @@ fn wrong_in_all(process: &ProcessTable, parameters: &[Expression]) -> Option<u32
     place
 }
 
-// The place of the parameter with a number, where it has another sort.
+// The place of the parameter with a number, where it has another sort than stands there.
 fn wrong_parameter(
     process: &ProcessTable,
-    want: Sort,
-    parameters: &[Expression],
+    sorts: &[Sort],
     number: usize,
+    parameter: &Expression,
 ) -> Option<u32>
-    ensures { Marks result (option_map_or (λ t. wrong_parameter (variables_of (process_of process.now)) (want, t)) (slice_get (map tree_of parameters.now) number) []) }
+    ensures { Marks result (option_map_or (λ want. wrong_parameter (variables_of (process_of process.now)) (want, tree_of parameter.now)) (slice_get sorts.now number) []) }
 {
-    if number < parameters.len() {
-        misfit(process, Some(want), &parameters[number])
+    if number < sorts.len() {
+        misfit(process, Some(sorts[number]), parameter)
     } else {
         None
     }
 }
 
+// It goes over the parameters that are there: a signal may have far more.
 fn wrong_parameters(
     process: &ProcessTable,
     sorts: &[Sort],
@@ -257,8 +258,8 @@ fn wrong_parameters(
     ensures { Marks result (flat_map (wrong_parameter (variables_of (process_of process.now))) (zip sorts.now (map tree_of parameters.now))) }
 {
     let mut place = None;
-    for (number, want) in sorts.iter().enumerate() {
-        place = earlier(place, wrong_parameter(process, *want, parameters, number));
+    for (number, parameter) in parameters.iter().enumerate() {
+        place = earlier(place, wrong_parameter(process, sorts, number, parameter));
     }
     place
 }
@@ -321,16 +322,17 @@ fn wrong_place(process: &ProcessTable, want: Sort, place: Option<Identifier>) ->
     }
 }
 
+// The place with a number, where its variable has another sort than stands there.
 fn wrong_place_at(
     process: &ProcessTable,
-    want: Sort,
-    places: &[Option<Identifier>],
+    sorts: &[Sort],
     number: usize,
+    place: Option<Identifier>,
 ) -> Option<u32>
-    ensures { Marks result (option_map_or (λ place. wrong_place (variables_of (process_of process.now)) (want, place)) (slice_get places.now number) []) }
+    ensures { Marks result (option_map_or (λ want. wrong_place (variables_of (process_of process.now)) (want, place)) (slice_get sorts.now number) []) }
 {
-    if number < places.len() {
-        wrong_place(process, want, places[number])
+    if number < sorts.len() {
+        wrong_place(process, sorts[number], place)
     } else {
         None
     }
@@ -344,8 +346,8 @@ fn wrong_places(
     ensures { Marks result (flat_map (wrong_place (variables_of (process_of process.now))) (zip sorts.now places.now)) }
 {
     let mut found = None;
-    for (number, want) in sorts.iter().enumerate() {
-        found = earlier(found, wrong_place_at(process, *want, places, number));
+    for (number, place) in places.iter().enumerate() {
+        found = earlier(found, wrong_place_at(process, sorts, number, *place));
     }
     found
 }

@@ -9,4 +9,4 @@ use Rattle.sdl_rules.proofs.sorts.wrong_parameters.Given as goal
 
 abbrev pub invariant-loop-number : goal.invariant-loop-number
 invariant-loop-number l =
-    Marks l.place (flat_map (wrong_parameter (variables_of (process_of l.process))) (zip (take l.number l.sorts) (map tree_of l.parameters)))
+    Marks l.place (flat_map (wrong_parameter (variables_of (process_of l.process))) (zip l.sorts (map tree_of (take l.number l.parameters))))

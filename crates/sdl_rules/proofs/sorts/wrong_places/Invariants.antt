@@ -9,4 +9,4 @@ use Rattle.sdl_rules.proofs.sorts.wrong_places.Given as goal
 
 abbrev pub invariant-loop-number : goal.invariant-loop-number
 invariant-loop-number l =
-    Marks l.found (flat_map (wrong_place (variables_of (process_of l.process))) (zip (take l.number l.sorts) l.places))
+    Marks l.found (flat_map (wrong_place (variables_of (process_of l.process))) (zip l.sorts (take l.number l.places)))
