@@ -1,5 +1,5 @@
 -- The variables that are set as a connection begins: those that are set at every JOIN to it in a piece.
-use Rattle.std.specs.Prelude.{ℕ, Bool, if◌then◌else◌, List, [], ◌∷◌, map, slice_get, slice_set}
+use Rattle.std.specs.Prelude.{◌≡◌, ℕ, Bool, if◌then◌else◌, List, [], ◌∷◌, map, slice_get, slice_set}
 use Rattle.std.specs.Option.{option_map_or}
 use Rattle.sdl_tree.specs.declared.tree.End.{End}
 use Rattle.sdl_tree.specs.declared.tree.End.TheVariants.{NextState, Stop, Join}
@@ -13,6 +13,10 @@ use Rattle.sdl_compile.specs.Reads.{everything, meet, action_set, choice_left, p
 -- the set of a connection, by its number
 abbrev pub entry_at : List VariableSet → ℕ → VariableSet
 entry_at es n = option_map_or (λ (e : VariableSet). e) (slice_get es n) everything
+
+-- each set is one of the variables that there may be
+abbrev pub AreOfAll : List VariableSet → Type 0
+AreOfAll es = (k : ℕ) → meet (entry_at es k) everything ≡ entry_at es k
 
 -- one JOIN more, at which these variables are set
 abbrev pub met_at : List VariableSet → ℕ → VariableSet → List VariableSet

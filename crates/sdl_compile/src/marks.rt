@@ -1,5 +1,5 @@
 //! Which variables are set at each place of a piece, and as each of its connections begins.
-ghost use Rattle.std.specs.Prelude.{◌≡◌, ◌<◌, [], ◌∷◌, ◌++◌, OnOk, IfOk, map};
+ghost use Rattle.std.specs.Prelude.{◌≡◌, ◌<◌, [], ◌∷◌, ◌++◌, true, OnOk, IfOk, map};
 ghost use Rattle.sdl_tree.specs.Plain.{falls};
 ghost use Rattle.sdl_tree.specs.Views.{tree_of, assignment_of, sending_of, action_of, text_of, statement_of, choice_of, else_choice, connection_of};
 ghost use Rattle.sdl_rules.specs.Longest.{is_division};
@@ -8,7 +8,7 @@ ghost use Rattle.sdl_compile.specs.Act.{is_truth};
 ghost use Rattle.sdl_compile.specs.Named.{NamedTasks, NamedAction, NamedEnd, NamedText, NamedChoice, NamedConnections, NamedPlaces, NamedPiece};
 ghost use Rattle.turn_code.specs.Sets.{with_variable};
 ghost use Rattle.sdl_compile.specs.Reads.{tasks_set, action_set, everything, meet, left, answers_left, else_left, choice_left, places_set};
-ghost use Rattle.sdl_compile.specs.Entries.{entry_at, met_at, end_met, met, answers_met, else_met, choice_met, connection_met, connections_met};
+ghost use Rattle.sdl_compile.specs.Entries.{entry_at, AreOfAll, met_at, end_met, met, answers_met, else_met, choice_met, connection_met, connections_met};
 ghost use Rattle.sdl_compile.specs.Facts.{tree_sets, trees_sets, sendings_sets, tasks_sets, action_sets, ranges_sets, tests_sets, leave_sets, text_sets, else_sets, answers_sets, decision_sets, places_sets, connections_sets, piece_sets};
 ghost use Rattle.sdl_compile.specs.Code.{text_at};
 
@@ -417,6 +417,32 @@ fn meet_connection(
     Ok(())
 }
 
+// Whether these are all variables.
+fn is_everything(set: VariableSet) -> bool
+    ensures { result ≡ true → set ≡ everything }
+{
+    set.0 == u32::MAX
+}
+
+// A connection that begins with every variable is passed over, since its JOINs change nothing: nothing joined it so far, or all
+// variables are set at each JOIN to it.
+fn meet_if_joined(
+    alloc: Global,
+    entries: &mut Vec<VariableSet>,
+    names: &Names,
+    number: usize,
+) -> Result<(), AllocError>
+    requires connections { NamedConnections (scope_in names.now) }
+    requires all { AreOfAll entries.old.items }
+    ensures { OnOk result (entries.new.items ≡ connection_met (scope_in names.now) number entries.old.items) }
+{
+    let set = entry_of(entries, number);
+    if is_everything(set) {
+        return Ok(());
+    }
+    meet_connection(alloc, entries, names, number)
+}
+
 // The JOINs of all connections: each is joined only from those behind it in the order.
 fn meet_connections(
     alloc: Global,
@@ -424,13 +450,14 @@ fn meet_connections(
     names: &Names,
     order: &[usize],
 ) -> Result<(), AllocError>
-    requires { NamedConnections (scope_in names.now) }
+    requires connections { NamedConnections (scope_in names.now) }
+    requires all { AreOfAll entries.old.items }
     ensures { OnOk result (entries.new.items ≡ connections_met (scope_in names.now) order.now entries.old.items) }
 {
     let mut left = order.len();
     while left > 0 {
         left -= 1;
-        meet_connection(alloc, entries, names, order[left])?;
+        meet_if_joined(alloc, entries, names, order[left])?;
     }
     Ok(())
 }

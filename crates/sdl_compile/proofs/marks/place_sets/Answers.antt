@@ -1,11 +1,19 @@
-use Rattle.std.proofs.Common.{map, sym, ap, ◌∙◌}
+use Rattle.std.proofs.Common.{map, sym, ap, ◌∙◌, subst}
 use Rattle.sdl_tree.specs.declared.tree.Process.{Process}
 use Rattle.sdl_tree.specs.Plain.{PlainConnection}
 use Rattle.sdl_tree.specs.Views.{connection_of, text_of}
 use Rattle.sdl_compile.specs.Scopes.{scope_in}
 use Rattle.sdl_compile.specs.Reads.{everything}
+use Rattle.sdl_compile.specs.Entries.{AreOfAll}
 use Rattle.sdl_compile.proofs.Marking.{piece_whole}
+use Rattle.sdl_compile.proofs.Unchanged.{start_kept, met_kept}
 use Rattle.sdl_compile.proofs.marks.place_sets.Goals as goal
+
+pub meet_connections-requires-clause-all : goal.meet_connections-requires-clause-all
+meet_connections-requires-clause-all c =
+    subst AreOfAll (sym c.in_ok-mark_text.ensures.entries)
+    (met_kept (scope_in c.args.names.now) c.in_ok-set.set (text_of c.args.transition.now) c.in_ok-entries.entries.items
+    (subst AreOfAll (sym c.in_ok-entries.ensures) (start_kept (map connection_of c.deref.result.now))))
 
 pub returns : goal.returns
 returns c =
