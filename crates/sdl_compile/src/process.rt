@@ -84,7 +84,9 @@ pub fn compile_process(
         order: survey.order,
         measures: survey.measures,
     };
-    let states = compile_states(alloc, &context, table.saves(), table.inputs(), survey.sets)?;
+    let saves = table.saves(alloc)?;
+    let inputs = table.inputs(alloc)?;
+    let states = compile_states(alloc, &context, &saves, &inputs, survey.sets)?;
     Ok(DraftProcess {
         name: draft_name(&process.name.name),
         variables: Sequence::from(variables),
