@@ -290,7 +290,8 @@ pub(crate) fn first_limit(
     requires { AllMeasures (processes_of (block_of block.now)) measures.now }
     ensures { IfOk result (λ o. o ≡ first_limit (block_of block.now)) }
 {
-    match first_count(alloc, block)? {
+    let counted = first_count(alloc, block)?;
+    match counted {
         Some(which) => Ok(Some(which)),
         None => {
             let passed = pass_processes(alloc, block.tables(), measures)?;

@@ -1,6 +1,7 @@
 //! Which variables of a process a control path reads before they are set, and by which path.
 ghost use Rattle.std.specs.Prelude.{◌≡◌, ◌⊎◌, [], ℕ, ◌<◌, ◌≤◌, true, List, Option, None, Some, length, map, slice_get, IfOk, IfSome, IfNone, All};
 ghost use Rattle.std.specs.List.{AllZip};
+ghost use Rattle.std.specs.Option.{option_map_or};
 ghost use Rattle.sdl_tree.specs.Plain.{PlainBlock};
 ghost use Rattle.sdl_tree.specs.Views.{process_of, block_of};
 ghost use Rattle.sdl_rules.specs.Sound.{process_unknown};
@@ -9,7 +10,7 @@ ghost use Rattle.sdl_rules.specs.Decisions.{statement_unanswered};
 ghost use Rattle.sdl_rules.specs.Orders.{IsOrder};
 ghost use Rattle.sdl_tables.specs.Names.{same_name, variables_of, states_of, inputs_of, inputs_by_state};
 ghost use Rattle.sdl_tables.specs.Rows.{rows_inputs};
-ghost use Rattle.sdl_rules.specs.Fates.{AreFates, AreSet, IsUnsetAt, IsStep, IsNamed};
+ghost use Rattle.sdl_rules.specs.Fates.{AreFates, AreSet, IsUnsetAt, IsStep, IsNamed, timer_named, declared_name, IsSpelled};
 ghost use Rattle.std.specs.Global.{Vec};
 ghost use Rattle.unset_paths.specs.declared.Step as number;
 ghost use Rattle.unset_paths.specs.declared.Step.TheVariants.{Input as By};
@@ -340,12 +341,25 @@ pub(crate) fn find_first(fates: &[Fate], places: &[Option<u32>]) -> Option<usize
     best
 }
 
-// A signal's name as it is declared.
-fn declared_name(block: &BlockTable, name: Name) -> Name
-    ensures { same_name result name ≡ true }
+// A timer's name as it is declared.
+fn timer_name(table: &ProcessTable, name: Name) -> Name
+    ensures same { same_name result name ≡ true }
+    ensures declared { result ≡ option_map_or (λ id. id.name) (timer_named (process_of table.now) name) name }
+{
+    let timers = table.timers();
+    match timers.number(name) {
+        None => name,
+        Some(number) => timers.name(number).name,
+    }
+}
+
+// The name of a signal or timer as it is declared.
+fn declared_name(block: &BlockTable, table: &ProcessTable, name: Name) -> Name
+    ensures same { same_name result name ≡ true }
+    ensures declared { result ≡ declared_name (block_of block.now) (process_of table.now) name }
 {
     match block.signal(name) {
-        None => name,
+        None => timer_name(table, name),
         Some(signal) => signal.name.name,
     }
 }
@@ -359,13 +373,15 @@ fn named_input(
     number: usize,
 ) -> Step
     requires inputs { map rows_inputs inputs.now ≡ inputs_by_state (process_of table.now) }
+    requires within { state < length inputs.now }
     requires step { IsStep (process_of table.now) (By state number) }
-    ensures { IsNamed (process_of table.now) (By state number) result }
+    ensures named { IsNamed (process_of table.now) (By state number) result }
+    ensures spelled { IsSpelled (block_of block.now) (process_of table.now) (By state number) result }
 {
     let name = table.states().name(state).name;
     let rows = &inputs[state];
     let row = rows[number];
-    let signal = declared_name(block, row.stimulus.name.name);
+    let signal = declared_name(block, table, row.stimulus.name.name);
     Step::Input {
         state: name,
         signal,
@@ -380,7 +396,8 @@ fn named_step(
 ) -> Step
     requires inputs { map rows_inputs inputs.now ≡ inputs_by_state (process_of table.now) }
     requires step { IsStep (process_of table.now) step }
-    ensures { IsNamed (process_of table.now) step result }
+    ensures named { IsNamed (process_of table.now) step result }
+    ensures spelled { IsSpelled (block_of block.now) (process_of table.now) step result }
 {
     match step {
         unset_paths::Step::Start => Step::Start,
@@ -398,7 +415,8 @@ pub(crate) fn named_path(
     path: &[unset_paths::Step],
 ) -> Result<ControlPath, AllocError>
     requires { All (IsStep (process_of table.now)) path.now }
-    ensures { IfOk result (λ c. AllZip (IsNamed (process_of table.now)) path.now c.steps.items) }
+    ensures named { IfOk result (λ c. AllZip (IsNamed (process_of table.now)) path.now c.steps.items) }
+    ensures spelled { IfOk result (λ c. AllZip (IsSpelled (block_of block.now) (process_of table.now)) path.now c.steps.items) }
 {
     let inputs = table.inputs(alloc)?;
     let mut steps = Vec::new(alloc);
