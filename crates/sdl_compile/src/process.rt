@@ -1,13 +1,16 @@
 //! A process.
 ghost use Rattle.std.specs.Prelude.{◌≡◌, ◌≤◌, length, map, IfOk};
 ghost use Rattle.sdl_tree.specs.Views.{block_of, process_of};
-ghost use Rattle.sdl_tables.specs.Names.{process_names};
+ghost use Rattle.std.specs.List.{AllZip};
+ghost use Rattle.sdl_tables.specs.Names.{process_names, states_of, inputs_by_state, saves_by_state};
 ghost use Rattle.sdl_rules.specs.Settled.{AreSettled};
 ghost use Rattle.sdl_rules.specs.Orders.{IsOrder};
 ghost use Rattle.sdl_rules.specs.Measures.{AreMeasures};
 ghost use Rattle.sdl_compile.specs.Act.{scope_of};
+ghost use Rattle.sdl_compile.specs.Scopes.{scope_in};
+ghost use Rattle.sdl_compile.specs.Contexts.{IsContext};
 ghost use Rattle.sdl_compile.specs.Declarations.{drafted_signals};
-ghost use Rattle.sdl_compile.specs.Drafts.{IsReadyProcess, MatchesProcess, IsProcessOf};
+ghost use Rattle.sdl_compile.specs.Drafts.{IsReadyProcess, MatchesProcess, IsProcessOf, AllReady, AllTriggers, IsNamedAs, SavesAll, AreInputsOf, sets_of};
 
 use crate::names::Names;
 use crate::piece::{Setting, compile_transition};
@@ -16,7 +19,7 @@ use crate::variables::{compile_variables, set_at_start};
 use sdl_rules::Measure;
 use sdl_tables::{BlockTable, NameTable, ProcessTable};
 use std::alloc::{AllocError, Global};
-use turn_code::{DraftProcess, DraftSignal, Name, Sequence};
+use turn_code::{DraftProcess, DraftSignal, DraftState, Name, Sequence};
 
 // The names of timers.
 fn compile_timers(alloc: Global, table: &NameTable) -> Result<Vec<Name>, AllocError>
@@ -27,6 +30,27 @@ fn compile_timers(alloc: Global, table: &NameTable) -> Result<Vec<Name>, AllocEr
         timers.push(draft_name(&table.name(number).name))?;
     }
     Ok(timers)
+}
+
+// The states of a process, with all that they take and save.
+fn compile_all(
+    alloc: Global,
+    context: &Context,
+    sets: &[u32],
+) -> Result<Vec<DraftState>, AllocError>
+    requires sets { length sets.now ≡ length (states_of (process_of context.now.names.now.process.now)) }
+    requires ready { AllReady (scope_in context.now.names.now) (inputs_by_state (process_of context.now.names.now.process.now)) }
+    requires saved { AllTriggers (scope_in context.now.names.now) (saves_by_state (process_of context.now.names.now.process.now)) }
+    requires context { IsContext context.now }
+    ensures names { IfOk result (λ ds. AllZip IsNamedAs (states_of (process_of context.now.names.now.process.now)) ds.items) }
+    ensures saves { IfOk result (λ ds. AllZip (SavesAll (scope_in context.now.names.now)) (saves_by_state (process_of context.now.names.now.process.now)) ds.items) }
+    ensures made { IfOk result (λ ds. AllZip (AreInputsOf (scope_in context.now.names.now)) (inputs_by_state (process_of context.now.names.now.process.now)) ds.items) }
+    ensures sets { IfOk result (λ ds. sets_of ds.items ≡ sets.now) }
+{
+    let process = context.names.process;
+    let saves = process.saves(alloc)?;
+    let inputs = process.inputs(alloc)?;
+    compile_states(alloc, context, &saves, &inputs, sets)
 }
 
 /// What the rules have found of a process: for each state the variables that are set whenever the process is there, an
@@ -84,7 +108,7 @@ pub fn compile_process(
         order: survey.order,
         measures: survey.measures,
     };
-    let states = compile_states(alloc, &context, table.saves(), table.inputs(), survey.sets)?;
+    let states = compile_all(alloc, &context, survey.sets)?;
     Ok(DraftProcess {
         name: draft_name(&process.name.name),
         variables: Sequence::from(variables),

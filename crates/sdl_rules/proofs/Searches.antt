@@ -16,11 +16,11 @@ use Rattle.unset_paths.specs.declared.Fate.TheVariants.{Unset, Set}
 use Rattle.unset_paths.specs.declared.Step as number
 use Rattle.unset_paths.specs.declared.Step.TheVariants.{Input as By}
 use Rattle.unset_paths.specs.Graph.{IfUnset, IfSet, IsClosedSet, ReadsUnset}
-use Rattle.sdl_tree.specs.Plain.{PlainProcess}
+use Rattle.sdl_tree.specs.Plain.{PlainProcess, PlainBlock}
 use Rattle.sdl_tree.specs.declared.expression.Identifier.{Identifier}
-use Rattle.sdl_tables.specs.Names.{same_name, states_of, inputs_of, inputs_by_state}
+use Rattle.sdl_tables.specs.Names.{same_name, states_of, Input, inputs_of, inputs_by_state}
 use Rattle.sdl_tables.specs.Rows.{row_input, rows_inputs}
-use Rattle.sdl_rules.specs.Fates.{is_set_in, set_bit, IsFate, AreSet, IsUnsetAt, IsNamed}
+use Rattle.sdl_rules.specs.Fates.{is_set_in, set_bit, IsFate, AreSet, IsUnsetAt, IsNamed, declared_name, IsSpelled}
 use Rattle.sdl_tables.specs.declared.process_table.InputRow.{InputRow}
 use Rattle.sdl_rules.specs.declared.fault.Step.TheVariants.{Input as Takes}
 use Rattle.sdl_rules.proofs.PathNames.{same_folded, folded_same, inputs_back}
@@ -116,6 +116,16 @@ named_by p q i id rows row signal state same there heard =
     let input : slice_get (inputs_of p q) i ≡ Some (row_input row) =
     ap (λ l. slice_get l i) (sym same) ∙ (slice_get-map row_input rows i ∙ ap (option_map row_input) there) in
     (id, state, row_input row, input, signal, heard, refl)
+
+pub spelled_by : (b : PlainBlock) (p : PlainProcess) (q i : ℕ) (x heard : List ℕ) (rows : List InputRow) (row : InputRow)
+    → map row_input rows ≡ inputs_of p q → slice_get rows i ≡ Some row → heard ≡ declared_name b p row.stimulus.now.name.name
+    → IsSpelled b p (By q i) (Takes x heard)
+spelled_by b p q i x heard rows row same there is inp at state signal e =
+    let input : slice_get (inputs_of p q) i ≡ Some (row_input row) =
+    ap (λ l. slice_get l i) (sym same) ∙ (slice_get-map row_input rows i ∙ ap (option_map row_input) there) in
+    let one : row_input row ≡ inp = some_same (row_input row) inp (sym input ∙ at) in
+    let other : heard ≡ signal = let t : Takes x heard ≡ Takes state signal = e in cc in
+    sym other ∙ (is ∙ ap (λ (j : Input). declared_name b p j.stimulus.name.name) one)
 
 pub all_zip_push : {A B : Type 0} (R : A → B → Type 0) (xs : List A) (ys : List B) (x : A) (y : B) → AllZip R xs ys → R x y → AllZip R (xs ++ x ∷ []) (ys ++ y ∷ [])
 all_zip_push R [] [] x y h r = (r, tt)

@@ -1,6 +1,6 @@
 -- What becomes of the variables of a process, and how a path by numbers is named.
-use Rattle.std.specs.Prelude.{◌≡◌, ℕ, ◌<◌, Bool, true, false, not, List, Some, length, slice_get, if◌then◌else◌, ⊤}
-use Rattle.std.specs.Option.{option_map_or}
+use Rattle.std.specs.Prelude.{◌≡◌, ℕ, ◌<◌, Bool, true, false, not, List, Option, Some, length, slice_get, if◌then◌else◌, ⊤}
+use Rattle.std.specs.Option.{option_map_or, option_and_then}
 use Rattle.std.specs.Global.{Vec}
 use Rattle.unset_paths.specs.declared.Graph.{Graph}
 use Rattle.unset_paths.specs.declared.Fate.{Fate}
@@ -8,9 +8,9 @@ use Rattle.unset_paths.specs.declared.Fate.TheVariants.{Unset, Set}
 use Rattle.unset_paths.specs.declared.Step as number
 use Rattle.unset_paths.specs.declared.Step.TheVariants.{Start as First, Input as By}
 use Rattle.unset_paths.specs.Graph.{IsClosedSet, ReadsUnset}
-use Rattle.sdl_tree.specs.Plain.{PlainProcess}
+use Rattle.sdl_tree.specs.Plain.{PlainProcess, PlainBlock}
 use Rattle.sdl_tree.specs.declared.expression.Identifier.{Identifier}
-use Rattle.sdl_tables.specs.Names.{same_name, variables_of, states_of, Input, inputs_of}
+use Rattle.sdl_tables.specs.Names.{same_name, number_of, variables_of, timers_of, states_of, Input, inputs_of, signal_named}
 use Rattle.sdl_rules.specs.Graphs.{IsGraphOf}
 use Rattle.sdl_rules.specs.declared.fault.Step.{Step}
 use Rattle.sdl_rules.specs.declared.fault.Step.TheVariants.{Start, Input as Takes}
@@ -48,6 +48,21 @@ IsNamed p (By q i) n =
     (id : Identifier) × (slice_get (states_of p) q ≡ Some id)
     × (inp : Input) × (slice_get (inputs_of p q) i ≡ Some inp)
     × (signal : List ℕ) × (same_name signal inp.stimulus.name.name ≡ true) × (n ≡ Takes id.name signal)
+
+-- the timer with a name
+abbrev pub timer_named : PlainProcess → List ℕ → Option Identifier
+timer_named p x = option_and_then (slice_get (timers_of p)) (number_of (timers_of p) x)
+
+-- the name of a signal or timer as it is declared; where neither is declared, as it is written
+abbrev pub declared_name : PlainBlock → PlainProcess → List ℕ → List ℕ
+declared_name b p x = option_map_or (λ s. s.name.name) (signal_named b x) (option_map_or (λ id. id.name) (timer_named p x) x)
+
+-- a step by names spells what it takes as that is declared
+abbrev pub IsSpelled : PlainBlock → PlainProcess → number.Step → Step → Type 0
+IsSpelled b p First n = ⊤
+IsSpelled b p (By q i) n =
+    (inp : Input) → slice_get (inputs_of p q) i ≡ Some inp → (state signal : List ℕ) → n ≡ Takes state signal
+    → signal ≡ declared_name b p inp.stimulus.name.name
 
 -- a path reads this variable unset
 abbrev pub IsUnsetAt : List Fate → ℕ → Type 0

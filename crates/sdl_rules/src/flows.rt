@@ -562,6 +562,7 @@ pub(crate) fn graph_of(
         first,
         &table.process().start.transition,
     )?;
-    let states = state_summaries(alloc, table, &walkers, table.inputs())?;
+    let inputs = table.inputs(alloc)?;
+    let states = state_summaries(alloc, table, &walkers, &inputs)?;
     Ok(Graph { start, states })
 }

@@ -155,7 +155,8 @@ fn pass_process(
     let links = find_links(alloc, process)?;
     let start = &process.process().start.transition;
     let first = pass_piece(alloc, process, &links, measures, &[], start)?;
-    let others = pass_states(alloc, process, &links, measures, process.inputs())?;
+    let inputs = process.inputs(alloc)?;
+    let others = pass_states(alloc, process, &links, measures, &inputs)?;
     Ok(either(first, others))
 }
 
@@ -224,43 +225,44 @@ fn count_inputs(states: &[Vec<InputRow>]) -> usize
     count
 }
 
-fn count_pieces(tables: &[ProcessTable]) -> usize
-    ensures { result ≡ min (sum_by (λ p. length (pieces_of p)) (map process_of tables.now)) 18446744073709551615 }
+fn count_pieces(alloc: Global, tables: &[ProcessTable]) -> Result<usize, AllocError>
+    ensures { IfOk result (λ n. n ≡ min (sum_by (λ p. length (pieces_of p)) (map process_of tables.now)) 18446744073709551615) }
 {
     let mut count: usize = 0;
     for table in tables {
-        count = count.saturating_add(count_inputs(table.inputs()).saturating_add(1));
+        let inputs = table.inputs(alloc)?;
+        count = count.saturating_add(count_inputs(&inputs).saturating_add(1));
     }
-    count
+    Ok(count)
 }
 
-// The first limit on how many there are.
-fn first_count(block: &BlockTable) -> Option<Limit>
-    ensures { result ≡ find (exceeds (block_of block.now)) counts }
+// The first limit on how many there are. The pieces come last: a state then takes few signals, and there are few states.
+fn first_count(alloc: Global, block: &BlockTable) -> Result<Option<Limit>, AllocError>
+    ensures { IfOk result (λ o. o ≡ find (exceeds (block_of block.now)) counts) }
 {
     let tables = block.tables();
     if tables.len() > 16 {
-        return Some(Limit::Processes);
+        return Ok(Some(Limit::Processes));
     }
     if has_many_states(tables) {
-        return Some(Limit::States);
+        return Ok(Some(Limit::States));
     }
     if has_many_variables(tables) {
-        return Some(Limit::Variables);
+        return Ok(Some(Limit::Variables));
     }
     if has_many_timers(tables) {
-        return Some(Limit::Timers);
+        return Ok(Some(Limit::Timers));
     }
     if block.rows().len() > 128 {
-        return Some(Limit::Signals);
+        return Ok(Some(Limit::Signals));
     }
     if has_many_parameters(block.rows()) {
-        return Some(Limit::Params);
+        return Ok(Some(Limit::Params));
     }
-    if count_pieces(tables) > 4096 {
-        return Some(Limit::Pieces);
+    if count_pieces(alloc, tables)? > 4096 {
+        return Ok(Some(Limit::Pieces));
     }
-    None
+    Ok(None)
 }
 
 // The first limit on a transition.
@@ -288,7 +290,8 @@ pub(crate) fn first_limit(
     requires { AllMeasures (processes_of (block_of block.now)) measures.now }
     ensures { IfOk result (λ o. o ≡ first_limit (block_of block.now)) }
 {
-    match first_count(block) {
+    let counted = first_count(alloc, block)?;
+    match counted {
         Some(which) => Ok(Some(which)),
         None => {
             let passed = pass_processes(alloc, block.tables(), measures)?;

@@ -1,14 +1,16 @@
 //! Which variables of a process a control path reads before they are set, and by which path.
-ghost use Rattle.std.specs.Prelude.{◌≡◌, ◌⊎◌, [], ℕ, ◌<◌, ◌≤◌, true, List, Option, None, Some, length, slice_get, IfOk, IfSome, IfNone, All};
+ghost use Rattle.std.specs.Prelude.{◌≡◌, ◌⊎◌, [], ℕ, ◌<◌, ◌≤◌, true, List, Option, None, Some, length, map, slice_get, IfOk, IfSome, IfNone, All};
 ghost use Rattle.std.specs.List.{AllZip};
+ghost use Rattle.std.specs.Option.{option_map_or};
 ghost use Rattle.sdl_tree.specs.Plain.{PlainBlock};
 ghost use Rattle.sdl_tree.specs.Views.{process_of, block_of};
 ghost use Rattle.sdl_rules.specs.Sound.{process_unknown};
 ghost use Rattle.sdl_rules.specs.Actions.{in_statements};
 ghost use Rattle.sdl_rules.specs.Decisions.{statement_unanswered};
 ghost use Rattle.sdl_rules.specs.Orders.{IsOrder};
-ghost use Rattle.sdl_tables.specs.Names.{same_name, variables_of, states_of, inputs_of};
-ghost use Rattle.sdl_rules.specs.Fates.{AreFates, AreSet, IsUnsetAt, IsStep, IsNamed};
+ghost use Rattle.sdl_tables.specs.Names.{same_name, variables_of, states_of, inputs_of, inputs_by_state};
+ghost use Rattle.sdl_tables.specs.Rows.{rows_inputs};
+ghost use Rattle.sdl_rules.specs.Fates.{AreFates, AreSet, IsUnsetAt, IsStep, IsNamed, timer_named, declared_name, IsSpelled};
 ghost use Rattle.std.specs.Global.{Vec};
 ghost use Rattle.unset_paths.specs.declared.Step as number;
 ghost use Rattle.unset_paths.specs.declared.Step.TheVariants.{Input as By};
@@ -17,7 +19,7 @@ ghost use Rattle.unset_paths.specs.declared.Fate.TheVariants.{Unset as Path};
 use crate::fault::{ControlPath, Step};
 use crate::flows::graph_of;
 use sdl_lex::Name;
-use sdl_tables::{BlockTable, ProcessTable, earlier};
+use sdl_tables::{BlockTable, InputRow, ProcessTable, earlier};
 use sdl_tree::{Action, Assignment, Decision, End, Expression, Sending, Statement, Transition};
 use std::alloc::{AllocError, Global};
 use std::cmp::Ordering;
@@ -224,15 +226,16 @@ fn connection_places(
     Ok(places)
 }
 
-// The last transition of a path.
+// The last transition of a path, where these are the inputs of the states.
 fn last_transition<'a>(
     table: &ProcessTable<'a>,
+    inputs: &[Vec<InputRow<'a>>],
     path: &[unset_paths::Step],
 ) -> Option<&'a Transition> {
     match path.last()? {
         unset_paths::Step::Start => Some(&table.process().start.transition),
         unset_paths::Step::Input(state, number) => {
-            let row = table.inputs().get(*state)?.get(*number)?;
+            let row = inputs.get(*state)?.get(*number)?;
             Some(&row.input.transition)
         }
     }
@@ -242,13 +245,14 @@ fn last_transition<'a>(
 fn read_place(
     alloc: Global,
     table: &ProcessTable,
+    inputs: &[Vec<InputRow>],
     order: &[usize],
     path: &[unset_paths::Step],
     name: Name,
 ) -> Result<Option<u32>, AllocError> {
     let places = connection_places(alloc, table, order, name)?;
     let mut sight = Sight::at_start();
-    if let Some(transition) = last_transition(table, path) {
+    if let Some(transition) = last_transition(table, inputs, path) {
         see_transition(table, &places, &mut sight, transition, name);
     }
     Ok(sight.read)
@@ -261,13 +265,15 @@ pub(crate) fn read_places(
     order: &[usize],
     fates: &[Fate],
 ) -> Result<Vec<Option<u32>>, AllocError> {
+    let inputs = table.inputs(alloc)?;
     let mut places = Vec::new(alloc);
     for (variable, row) in table.rows().iter().enumerate() {
         let path = path_at(fates, variable);
         if path.is_empty() {
             places.push(None)?;
         } else {
-            places.push(read_place(alloc, table, order, path, row.name.name)?)?;
+            let place = read_place(alloc, table, &inputs, order, path, row.name.name)?;
+            places.push(place)?;
         }
     }
     Ok(places)
@@ -335,38 +341,69 @@ pub(crate) fn find_first(fates: &[Fate], places: &[Option<u32>]) -> Option<usize
     best
 }
 
-// A signal's name as it is declared.
-fn declared_name(block: &BlockTable, name: Name) -> Name
-    ensures { same_name result name ≡ true }
+// A timer's name as it is declared.
+fn timer_name(table: &ProcessTable, name: Name) -> Name
+    ensures same { same_name result name ≡ true }
+    ensures declared { result ≡ option_map_or (λ id. id.name) (timer_named (process_of table.now) name) name }
+{
+    let timers = table.timers();
+    match timers.number(name) {
+        None => name,
+        Some(number) => timers.name(number).name,
+    }
+}
+
+// The name of a signal or timer as it is declared.
+fn declared_name(block: &BlockTable, table: &ProcessTable, name: Name) -> Name
+    ensures same { same_name result name ≡ true }
+    ensures declared { result ≡ declared_name (block_of block.now) (process_of table.now) name }
 {
     match block.signal(name) {
-        None => name,
+        None => timer_name(table, name),
         Some(signal) => signal.name.name,
     }
 }
 
 // The transition of an input, with the names as they are declared.
-fn named_input(block: &BlockTable, table: &ProcessTable, state: usize, number: usize) -> Step
-    requires { IsStep (process_of table.now) (By state number) }
-    ensures { IsNamed (process_of table.now) (By state number) result }
+fn named_input(
+    block: &BlockTable,
+    table: &ProcessTable,
+    inputs: &[Vec<InputRow>],
+    state: usize,
+    number: usize,
+) -> Step
+    requires inputs { map rows_inputs inputs.now ≡ inputs_by_state (process_of table.now) }
+    requires within { state < length inputs.now }
+    requires step { IsStep (process_of table.now) (By state number) }
+    ensures named { IsNamed (process_of table.now) (By state number) result }
+    ensures spelled { IsSpelled (block_of block.now) (process_of table.now) (By state number) result }
 {
     let name = table.states().name(state).name;
-    let rows = &table.inputs()[state];
+    let rows = &inputs[state];
     let row = rows[number];
-    let signal = declared_name(block, row.stimulus.name.name);
+    let signal = declared_name(block, table, row.stimulus.name.name);
     Step::Input {
         state: name,
         signal,
     }
 }
 
-fn named_step(block: &BlockTable, table: &ProcessTable, step: unset_paths::Step) -> Step
-    requires { IsStep (process_of table.now) step }
-    ensures { IsNamed (process_of table.now) step result }
+fn named_step(
+    block: &BlockTable,
+    table: &ProcessTable,
+    inputs: &[Vec<InputRow>],
+    step: unset_paths::Step,
+) -> Step
+    requires inputs { map rows_inputs inputs.now ≡ inputs_by_state (process_of table.now) }
+    requires step { IsStep (process_of table.now) step }
+    ensures named { IsNamed (process_of table.now) step result }
+    ensures spelled { IsSpelled (block_of block.now) (process_of table.now) step result }
 {
     match step {
         unset_paths::Step::Start => Step::Start,
-        unset_paths::Step::Input(state, number) => named_input(block, table, state, number),
+        unset_paths::Step::Input(state, number) => {
+            named_input(block, table, inputs, state, number)
+        }
     }
 }
 
@@ -378,11 +415,13 @@ pub(crate) fn named_path(
     path: &[unset_paths::Step],
 ) -> Result<ControlPath, AllocError>
     requires { All (IsStep (process_of table.now)) path.now }
-    ensures { IfOk result (λ c. AllZip (IsNamed (process_of table.now)) path.now c.steps.items) }
+    ensures named { IfOk result (λ c. AllZip (IsNamed (process_of table.now)) path.now c.steps.items) }
+    ensures spelled { IfOk result (λ c. AllZip (IsSpelled (block_of block.now) (process_of table.now)) path.now c.steps.items) }
 {
+    let inputs = table.inputs(alloc)?;
     let mut steps = Vec::new(alloc);
     for step in path {
-        steps.push(named_step(block, table, *step))?;
+        steps.push(named_step(block, table, &inputs, *step))?;
     }
     Ok(ControlPath { steps })
 }

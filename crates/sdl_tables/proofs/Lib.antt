@@ -1,4 +1,5 @@
 pub mod BlockLemmas
+pub mod Numbers
 pub mod ProcessTables
 pub mod Repeats
 pub mod States

@@ -3,3 +3,4 @@ pub mod Names
 pub mod Rows
 pub mod Scopes
 pub mod Tables
+pub mod Triggers

@@ -7,6 +7,7 @@ mod name_table;
 mod process_table;
 mod scope;
 mod state_names;
+mod triggers;
 
 pub use block_table::BlockTable;
 pub use fault::TableFault;

@@ -4,12 +4,14 @@ ghost use Rattle.std.specs.List.{flat_map};
 ghost use Rattle.sdl_tree.specs.Views.{group_of, declaration_of, state_of, input_of, connection_of, process_of};
 ghost use Rattle.sdl_tables.specs.Names.{variable_names, variables_of, group_variables, declared_variables, named_states, timers_in, timers_of, connector_names, states_of, given_to, names_once, add_name, part_inputs, inputs_by_state, saves_by_state, triggers_by_state, clause_parts, input_parts};
 ghost use Rattle.sdl_tables.specs.Scopes.{Marks, repeats, process_scopes, shared, IsDouble};
+ghost use Rattle.sdl_tables.specs.Tables.{HasDeclared, HasStanding};
 ghost use Rattle.sdl_tables.specs.Rows.{variable_of, row_input, rows_inputs, row_names, stimulus_inputs, rows_at};
 
 use crate::fault::TableFault;
 use crate::name_table::NameTable;
-use crate::scope::{add_names, earlier, first_shared, index_names};
-use crate::state_names::{Which, collect_names, names_double};
+use crate::scope::{Scope, add_names, earlier, first_shared, index_names};
+use crate::state_names::{Which, collect_names};
+use crate::triggers::trigger_double;
 use sdl_lex::Name;
 use sdl_tree::{
     Connection, Constant, Declaration, Group, Identifier, InputPart, Process, Sort, StateClause,
@@ -245,22 +247,100 @@ fn collect_parts<'a>(
     Ok(parts)
 }
 
-// A name that a state takes or saves, and took or saved before.
-fn trigger_double(
-    alloc: Global,
-    process: &Process,
-    states: &NameTable,
-) -> Result<Option<u32>, AllocError>
-    requires { states.now ≡ states_of (process_of process.now) }
-    ensures { IfOk result (λ double. Marks double (flat_map (repeats []) (triggers_by_state (process_of process.now)))) }
-{
-    let names = collect_names(alloc, process, states, Which::Triggers)?;
-    let double = names_double(alloc, &names)?;
-    Ok(double)
+// The variables of a process, and the place of one whose name is there twice.
+#[derive(Drop)]
+struct Variables {
+    names: NameTable,
+    rows: Vec<Variable>,
+    double: Option<u32>,
 }
 
-/// A process with its tables: its variables, timers, connectors and states by name and by number, and what each
-/// state takes and saves. Contracts see the process.
+fn index_variables(alloc: Global, process: &Process) -> Result<Variables, AllocError>
+    ensures names { IfOk result (λ v. v.names ≡ names_once (variable_names (process_of process.now))) }
+    ensures rows { IfOk result (λ v. map variable_of v.rows.items ≡ variables_of (process_of process.now)) }
+    ensures double { IfOk result (λ v. Marks v.double (repeats [] (variable_names (process_of process.now)))) }
+{
+    let rows = collect_variables(alloc, &process.declarations)?;
+    let ids = variable_ids(alloc, &rows)?;
+    let Scope { names, double } = index_names(alloc, &ids)?;
+    Ok(Variables {
+        names,
+        rows,
+        double,
+    })
+}
+
+fn index_timers(alloc: Global, process: &Process) -> Result<Scope, AllocError>
+    ensures names { IfOk result (λ s. s.names ≡ names_once (timers_of (process_of process.now))) }
+    ensures double { IfOk result (λ s. Marks s.double (repeats [] (timers_of (process_of process.now)))) }
+{
+    let ids = collect_timers(alloc, &process.declarations)?;
+    let scope = index_names(alloc, &ids)?;
+    Ok(scope)
+}
+
+fn index_connectors(alloc: Global, process: &Process) -> Result<Scope, AllocError>
+    ensures names { IfOk result (λ s. s.names ≡ names_once (connector_names (process_of process.now))) }
+    ensures double { IfOk result (λ s. Marks s.double (repeats [] (connector_names (process_of process.now)))) }
+{
+    let ids = connector_ids(alloc, &process.connections)?;
+    let scope = index_names(alloc, &ids)?;
+    Ok(scope)
+}
+
+// The variables, timers and connections of a process, and the first place of a name that is there twice.
+#[derive(Drop)]
+struct Declared {
+    variables: NameTable,
+    rows: Vec<Variable>,
+    timers: NameTable,
+    connectors: NameTable,
+    double: Option<u32>,
+}
+
+fn index_declared(alloc: Global, process: &Process) -> Result<Declared, AllocError>
+    ensures declared { IfOk result (λ d. HasDeclared (process_of process.now) d) }
+{
+    let Variables {
+        names,
+        rows,
+        double,
+    } = index_variables(alloc, process)?;
+    let timers = index_timers(alloc, process)?;
+    let connectors = index_connectors(alloc, process)?;
+    Ok(Declared {
+        variables: names,
+        rows,
+        timers: timers.names,
+        connectors: connectors.names,
+        double: earlier(double, earlier(timers.double, connectors.double)),
+    })
+}
+
+// The states and INPUTs of a process, and the first place of a name that a state takes or saves, and took or saved
+// before.
+#[derive(Drop)]
+struct Standing<'a> {
+    states: NameTable,
+    parts: Vec<&'a InputPart>,
+    double: Option<u32>,
+}
+
+fn index_standing<'a>(alloc: Global, process: &'a Process) -> Result<Standing<'a>, AllocError>
+    ensures standing { IfOk result (λ t. HasStanding (process_of process.now) t) }
+{
+    let states = collect_states(alloc, &process.states)?;
+    let double = trigger_double(alloc, process, &states)?;
+    let parts = collect_parts(alloc, &process.states)?;
+    Ok(Standing {
+        states,
+        parts,
+        double,
+    })
+}
+
+/// A process with its tables: its variables, timers, connectors and states by name and by number. Contracts see the
+/// process.
 #[derive(Drop)]
 pub struct ProcessTable<'a> {
     process: &'a Process,
@@ -269,8 +349,6 @@ pub struct ProcessTable<'a> {
     timers: NameTable,
     connectors: NameTable,
     states: NameTable,
-    inputs: Vec<Vec<InputRow<'a>>>,
-    saves: Vec<Vec<Identifier>>,
     parts: Vec<&'a InputPart>,
 }
 
@@ -296,35 +374,18 @@ impl<'a> ProcessTable<'a> {
         ensures distinct { OnOk result (flat_map (repeats []) (process_scopes (process_of process.now)) ≡ []) }
         ensures double { IfErr result (λ e. IsDouble e (flat_map (repeats []) (process_scopes (process_of process.now)))) }
     {
-        let rows = collect_variables(alloc, &process.declarations)?;
-        let names = variable_ids(alloc, &rows)?;
-        let variables = index_names(alloc, &names)?;
-        let alarms = collect_timers(alloc, &process.declarations)?;
-        let timers = index_names(alloc, &alarms)?;
-        let labels = connector_ids(alloc, &process.connections)?;
-        let connectors = index_names(alloc, &labels)?;
-        let states = collect_states(alloc, &process.states)?;
-        let inputs = collect_inputs(alloc, process, &states)?;
-        let saves = collect_names(alloc, process, &states, Which::Saves)?;
-        let parts = collect_parts(alloc, &process.states)?;
-        let twice = trigger_double(alloc, process, &states)?;
-        let labels_and_triggers = earlier(connectors.double, twice);
-        let double = earlier(
-            variables.double,
-            earlier(timers.double, labels_and_triggers),
-        );
-        match double {
+        let declared = index_declared(alloc, process)?;
+        let standing = index_standing(alloc, process)?;
+        match earlier(declared.double, standing.double) {
             Some(at) => Err(TableFault::DoubleName(at)),
             None => Ok(ProcessTable {
                 process,
-                variables: variables.names,
-                rows,
-                timers: timers.names,
-                connectors: connectors.names,
-                states,
-                inputs,
-                saves,
-                parts,
+                variables: declared.variables,
+                rows: declared.rows,
+                timers: declared.timers,
+                connectors: declared.connectors,
+                states: standing.states,
+                parts: standing.parts,
             }),
         }
     }
@@ -373,18 +434,20 @@ impl<'a> ProcessTable<'a> {
         &self.states
     }
 
-    /// The inputs of each of its states, by number; those of a state in the order of the text.
-    pub fn inputs(&self) -> &[Vec<InputRow<'a>>]
-        ensures { map rows_inputs result.now ≡ inputs_by_state (process_of self.now) }
+    /// The inputs of each of its states, by number; those of a state in the order of the text. They are made here: a
+    /// row for each state and each signal that it takes, so many more than the text is long.
+    pub fn inputs(&self, alloc: Global) -> Result<Vec<Vec<InputRow<'a>>>, AllocError>
+        ensures { IfOk result (λ v. map rows_inputs v.items ≡ inputs_by_state (process_of self.now)) }
     {
-        &self.inputs
+        collect_inputs(alloc, self.process, &self.states)
     }
 
-    /// The names that each of its states saves, by number; those of a state in the order of the text.
-    pub fn saves(&self) -> &[Vec<Identifier>]
-        ensures { map row_names result.now ≡ saves_by_state (process_of self.now) }
+    /// The names that each of its states saves, by number; those of a state in the order of the text. They are made
+    /// here, as many as there are inputs at most.
+    pub fn saves(&self, alloc: Global) -> Result<Vec<Vec<Identifier>>, AllocError>
+        ensures { IfOk result (λ v. map row_names v.items ≡ saves_by_state (process_of self.now)) }
     {
-        &self.saves
+        collect_names(alloc, self.process, &self.states, Which::Saves)
     }
 
     /// Its INPUTs, each once.

@@ -25,8 +25,8 @@ pub fn earlier(one: Option<u32>, other: Option<u32>) -> Option<u32>
     }
 }
 
-// One identifier more: its place too where its name was there.
-fn marked(double: Option<u32>, new: bool, at: u32) -> Option<u32>
+/// One identifier more: its place too where its name was there.
+pub(crate) fn marked(double: Option<u32>, new: bool, at: u32) -> Option<u32>
     ensures { (xs : List ℕ) → Marks double xs → Marks result (xs ++ (if new then [] else at ∷ [])) }
 {
     if new {

@@ -2,12 +2,10 @@
 ghost use Rattle.std.specs.Prelude.{◌≡◌, ◌++◌, [], ℕ, ◌<◌, ◌==◌, if◌then◌else◌, map, length, IfOk, OnOk, vec_len};
 ghost use Rattle.std.specs.List.{flat_map};
 ghost use Rattle.sdl_tree.specs.Views.{clause_of, state_of, process_of, stimulus_of};
-ghost use Rattle.sdl_tables.specs.Names.{states_of, given_to, by_state};
-ghost use Rattle.sdl_tables.specs.Scopes.{Marks, repeats};
+ghost use Rattle.sdl_tables.specs.Names.{states_of, given_to, by_state, part_triggers};
 ghost use Rattle.sdl_tables.specs.Rows.{row_names, names_at, clause_names, part_names};
 
 use crate::name_table::NameTable;
-use crate::scope::{earlier, index_names};
 use sdl_tree::{Identifier, Process, StateClause, StatePart, Stimulus};
 use std::alloc::{AllocError, Global};
 
@@ -126,22 +124,11 @@ pub(crate) fn collect_names(
     Ok(states)
 }
 
-fn one_double(alloc: Global, names: &Vec<Identifier>) -> Result<Option<u32>, AllocError>
-    ensures { IfOk result (λ double. Marks double (repeats [] (row_names names.now))) }
+/// What a STATE part takes and saves.
+pub(crate) fn part_triggers(alloc: Global, part: &StatePart) -> Result<Vec<Identifier>, AllocError>
+    ensures { IfOk result (λ v. v.items ≡ part_triggers (state_of part.now)) }
 {
-    Ok(index_names(alloc, names)?.double)
-}
-
-/// The first name that a state has twice.
-pub(crate) fn names_double(
-    alloc: Global,
-    states: &[Vec<Identifier>],
-) -> Result<Option<u32>, AllocError>
-    ensures { IfOk result (λ double. Marks double (flat_map (repeats []) (map row_names states.now))) }
-{
-    let mut double = None;
-    for names in states {
-        double = earlier(double, one_double(alloc, names)?);
-    }
-    Ok(double)
+    let mut names = Vec::new(alloc);
+    push_part(&mut names, Which::Triggers, part)?;
+    Ok(names)
 }

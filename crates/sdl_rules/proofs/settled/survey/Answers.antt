@@ -62,4 +62,4 @@ returns c =
     let var : slice_get (variable_names p) n ≡ Some c.name-variable.result =
     ap (λ (ids : List Identifier). slice_get ids n) (sym c.variables.ensures) ∙ c.name-variable.ensures in
     survey_reads p fates n c.in_ok-fates.ensures unset c.path_at.result.now path c.name-variable.result var
-    c.in_ok-path-in-Some.path.steps.items c.in_ok-path-in-Some.ensures
+    c.in_ok-path-in-Some.path.steps.items c.in_ok-path-in-Some.ensures.named
