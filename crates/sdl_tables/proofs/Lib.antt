@@ -1,5 +1,9 @@
 pub mod BlockLemmas
+pub mod Indexing
+pub mod Mentions
+pub mod Parties
 pub mod ProcessTables
 pub mod Repeats
+pub mod RouteKeys
 pub mod States
 pub mod Tables

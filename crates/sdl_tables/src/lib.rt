@@ -4,12 +4,15 @@
 mod block_table;
 mod fault;
 mod name_table;
+mod party_table;
 mod process_table;
+mod route_index;
 mod scope;
 mod state_names;
 
 pub use block_table::BlockTable;
 pub use fault::TableFault;
 pub use name_table::NameTable;
+pub use party_table::PartyTable;
 pub use process_table::{InputRow, ProcessTable, Variable};
 pub use scope::earlier;
