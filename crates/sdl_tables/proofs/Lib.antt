@@ -1,6 +1,10 @@
 pub mod BlockLemmas
 pub mod Numbers
+pub mod Indexing
+pub mod Mentions
+pub mod Parties
 pub mod ProcessTables
 pub mod Repeats
+pub mod RouteKeys
 pub mod States
 pub mod Tables

@@ -4,14 +4,16 @@ ghost use Rattle.std.specs.List.{flat_map};
 ghost use Rattle.std.specs.Option.{option_map};
 ghost use Rattle.sdl_tree.specs.Views.{signal_of, route_of, process_of, entity_of, block_of};
 ghost use Rattle.sdl_tables.specs.Names.{signals_in, routes_in, processes_in, signal_names, process_names, signals_of, processes_of, routes_of, signal_named, names_once, timers_of};
+ghost use Rattle.sdl_tables.specs.Routes.{carries, receivers, senders, parties_once};
 ghost use Rattle.sdl_tables.specs.Scopes.{Marks, repeats, process_scopes, shared, double_names, IsDouble};
 
 use crate::fault::TableFault;
 use crate::name_table::NameTable;
 use crate::process_table::{ProcessTable, shared_declared};
+use crate::route_index::RouteIndex;
 use crate::scope::{Scope, earlier, index_names};
 use sdl_lex::Name;
-use sdl_tree::{Block, Entity, Identifier, Process, Route, SignalDeclaration};
+use sdl_tree::{Block, Entity, Identifier, Party, Process, Route, SignalDeclaration};
 use std::alloc::{AllocError, Global};
 use std::marker::Model;
 
@@ -178,13 +180,15 @@ fn first_double(
     earlier(declared, shared)
 }
 
-/// A block with its tables: its signals and processes by name and by number. Contracts see the block.
+/// A block with its tables: its signals and processes by name and by number, and who sends what to whom. Contracts see
+/// the block.
 #[derive(Drop)]
 pub struct BlockTable<'a> {
     block: &'a Block,
     signals: NameTable,
     rows: Vec<&'a SignalDeclaration>,
     routes: Vec<&'a Route>,
+    index: RouteIndex,
     processes: NameTable,
     tables: Vec<ProcessTable<'a>>,
 }
@@ -219,6 +223,7 @@ impl<'a> BlockTable<'a> {
         let built = build_tables(alloc, &processes)?;
         let shared = signal_timers_in(&signals.names, &processes);
         let double = first_double(signals.double, twice, names.double, built.double, shared);
+        let index = RouteIndex::new(alloc, &routes)?;
         match double {
             Some(at) => Err(TableFault::DoubleName(at)),
             None => Ok(BlockTable {
@@ -226,6 +231,7 @@ impl<'a> BlockTable<'a> {
                 signals: signals.names,
                 rows,
                 routes,
+                index,
                 processes: names.names,
                 tables: built.tables,
             }),
@@ -260,6 +266,27 @@ impl<'a> BlockTable<'a> {
         ensures { map (λ r. route_of r.now) result.now ≡ routes_of (block_of self.now) }
     {
         &self.routes
+    }
+
+    /// Whether some path of its routes brings a signal from one party to another.
+    pub fn carries(&self, from: &Party, to: &Party, signal: Name) -> bool
+        ensures { result ≡ carries (block_of self.now) from.now to.now signal }
+    {
+        self.index.carries(from, to, signal)
+    }
+
+    /// The parties to which the paths of its routes bring a signal from one, each once and in the order of the text.
+    pub fn receivers(&self, from: &Party, signal: Name) -> &[Party]
+        ensures { result.now ≡ receivers (block_of self.now) from.now signal }
+    {
+        self.index.receivers(from, signal)
+    }
+
+    /// The parties from which the paths of its routes bring a signal to one, each once and in the order of the text.
+    pub fn senders(&self, to: &Party, signal: Name) -> &[Party]
+        ensures { result.now ≡ parties_once (senders (block_of self.now) to.now signal) }
+    {
+        self.index.senders(to, signal)
     }
 
     /// The names of its processes, by number.

@@ -4,7 +4,9 @@
 mod block_table;
 mod fault;
 mod name_table;
+mod party_table;
 mod process_table;
+mod route_index;
 mod scope;
 mod state_names;
 mod triggers;
@@ -12,5 +14,6 @@ mod triggers;
 pub use block_table::BlockTable;
 pub use fault::TableFault;
 pub use name_table::NameTable;
+pub use party_table::PartyTable;
 pub use process_table::{InputRow, ProcessTable, Variable};
 pub use scope::earlier;

@@ -5,6 +5,8 @@ use denote.Ref.{Bor}
 use Rattle.sdl_tree.specs.declared.tree.Process as the_process
 use Rattle.sdl_tree.specs.Views.{process_of, entity_of, block_of, signal_of, route_of}
 use Rattle.sdl_tables.specs.Names.{signals_in, routes_in, processes_in, signals_of, routes_of, processes_of, signal_names, route_names, process_names, names_once, timers_of}
+use Rattle.sdl_tree.specs.Plain.{PlainRoute}
+use Rattle.sdl_tables.specs.RouteIndexes.{mentions_of, Indexes}
 use Rattle.sdl_tables.specs.Scopes.{Marks, repeats, process_scopes, shared, signal_timers, double_names}
 use Rattle.sdl_tables.proofs.States.{map-map}
 use Rattle.sdl_tables.proofs.Repeats.{names_once-distinct, append-nil_left, append-nil_right}
@@ -95,6 +97,9 @@ invariant_of-result c =
           ∙ (ap names_once ss ∙ names_once-distinct (signal_names b) (append-nil_left _ _ declared));
       rows = rows;
       routes = routes;
+      index =
+          subst (λ (rs : List PlainRoute). Indexes c.in_ok-index.index (flat_map mentions_of (flat_map (λ r. r.paths) rs)))
+          (ap (map (λ r. route_of r.now)) c.deref-9.ensures.value ∙ routes) c.in_ok-index.ensures;
       processes =
           c.in_ok-names.ensures.names
           ∙ (ap names_once ps ∙ names_once-distinct (process_names b) (append-nil_left _ _ later));

@@ -1,0 +1,68 @@
+//! Parties, each once.
+ghost use Rattle.std.specs.Prelude.{◌≡◌, [], length, IfOk, OnOk, not, slice_get};
+ghost use Rattle.std.specs.List.{list_any};
+ghost use Rattle.sdl_tables.specs.Routes.{same_party, add_party};
+
+use crate::route_index::{Side, side_of};
+use indexmap::IndexMap;
+use sdl_tree::Party;
+use std::alloc::{AllocError, Global};
+use std::marker::Model;
+
+/// Parties in the order in which they came, each once. Contracts see their list.
+#[derive(Drop)]
+pub struct PartyTable {
+    entries: IndexMap<Side, Party>,
+}
+
+impl Model for PartyTable {
+    ghost use Rattle.std.specs.Prelude.{◌≡◌, List, map};
+    ghost use Rattle.sdl_tree.specs.declared.tree.Party as tree;
+    ghost use Rattle.sdl_tables.specs.RouteIndexes.{side_of};
+    ghost use Rattle.indexmap.specs.IndexMap.{keys, values};
+
+    ghost Value = { List tree.Party };
+
+    ghost view = { λ t. values t.entries };
+
+    ghost invariant = { λ t. keys t.entries ≡ map side_of (values t.entries) };
+}
+
+impl PartyTable {
+    /// A table with no party.
+    pub fn new(alloc: Global) -> Self
+        ensures { result ≡ [] }
+    {
+        PartyTable {
+            entries: IndexMap::new(alloc),
+        }
+    }
+
+    /// How many parties there are.
+    pub fn len(&self) -> usize
+        ensures { result ≡ length self.now }
+    {
+        self.entries.len()
+    }
+
+    /// The party with a number, from 0.
+    pub fn get(&self, number: usize) -> Option<Party>
+        ensures { result ≡ slice_get self.now number }
+    {
+        let (_, party) = self.entries.get_index(number)?;
+        Some(*party)
+    }
+
+    /// Adds a party, unless it is there: `false` then.
+    pub fn add(&mut self, party: Party) -> Result<bool, AllocError>
+        ensures added { IfOk result (λ new. new ≡ not (list_any (same_party party) self.old)) }
+        ensures parties { OnOk result (self.new ≡ add_party self.old party) }
+    {
+        let side: Side = side_of(&party);
+        if self.entries.contains_key(&side) {
+            return Ok(false);
+        }
+        self.entries.insert(side, party)?;
+        Ok(true)
+    }
+}
