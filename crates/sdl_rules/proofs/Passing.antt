@@ -1,17 +1,16 @@
 -- What transitions pass, and the sizes of the connections to which one comes.
-use Rattle.std.proofs.Common.{◌≡◌, ℕ, zero, suc, ◌+◌, ◌<◌, ◌≤◌, max, min, Bool, true, false, ◌||◌, List, [], ◌∷◌, ◌++◌, length, take, map, get_or, refl, ap, sym, ◌∙◌, subst, arith, if◌then◌else◌, inl, inr, ◌⊎◌, Option, Some, None, cond}
+use Rattle.std.proofs.Common.{◌≡◌, ℕ, suc, ◌+◌, ◌<◌, Bool, true, false, ◌||◌, List, [], ◌∷◌, ◌++◌, length, take, map, get_or, refl, ap, sym, ◌∙◌, arith, if◌then◌else◌, inl, inr, Some, cond, true≢false}
 use Rattle.std.specs.Prelude.{slice_get, sum_by, filter, nat_lt}
-use Rattle.std.specs.List.{list_any, flat_map}
+use Rattle.std.specs.List.{list_any}
 use Rattle.std.proofs.lemmas.Bool.{cases_Bool, cases_lt, lt-ltb, le-ltb}
 use Rattle.std.proofs.lemmas.List.{take_more, map-append, length-take-le}
 use Rattle.std.proofs.lemmas.List.Sums.{sum_by-cons}
 use Rattle.std.proofs.lemmas.List.Folds.{list_any-append}
 use Rattle.std.proofs.Math.Bool.{or-false}
 use Rattle.sdl_tree.specs.Plain.{Text, PlainConnection, PlainProcess}
-use Rattle.sdl_tables.specs.Names.{variables_of, connector_names}
-use Rattle.sdl_tables.specs.Scopes.{repeats}
+use Rattle.sdl_tables.specs.Names.{variables_of}
 use Rattle.sdl_rules.specs.Joins.{reaches, reached}
-use Rattle.sdl_rules.specs.Longest.{size, text_size, Piece, pieces_of}
+use Rattle.sdl_rules.specs.Longest.{size, Piece, pieces_of}
 use Rattle.sdl_rules.specs.Measures.{capped, AreMeasures}
 use Rattle.sdl_rules.specs.Counting.{measure_at}
 use Rattle.sdl_rules.specs.Rows.{marked_from, marked_size, is_long, is_deep, is_busy, IsPassed, ArePassed, AllPassed, IsEither}
@@ -72,36 +71,53 @@ any_push test xs x a b c ha hb hc =
 any_both : {A : Type 0} (test : A → Bool) (xs ys : List A) (a b c : Bool) → a ≡ list_any test xs → b ≡ list_any test ys → c ≡ (a || b) → c ≡ list_any test (xs ++ ys)
 any_both test xs ys a b c ha hb hc = hc ∙ ap (λ y. y || b) ha ∙ ap (λ y. list_any test xs || y) hb ∙ sym (list_any-append test xs ys)
 
+-- neither of two is too long where no one of them is
+first_short : (a b c : Bool) → c ≡ (a || b) → c ≡ false → a ≡ false
+first_short true b c e short = absurd (true≢false (sym e ∙ short))
+first_short false b c e short = refl
+
+other_short : (a b c : Bool) → c ≡ (a || b) → c ≡ false → b ≡ false
+other_short true b c e short = absurd (true≢false (sym e ∙ short))
+other_short false b c e short = sym e ∙ short
+
 pub passed_push : (p : PlainProcess) (qs : List Piece) (q : Piece) (a b c : Passed) → ArePassed p qs a → IsPassed p q b → IsEither a b c → ArePassed p (qs ++ q ∷ []) c
 passed_push p qs q a b c h k e = record {
   size = any_push (is_long p) qs q a.size b.size c.size h.size k.size e.size;
-  depth = any_push (is_deep p) qs q a.depth b.depth c.depth h.depth k.depth e.depth;
-  effects = any_push (is_busy p) qs q a.effects b.effects c.effects h.effects k.effects e.effects;
+  depth = λ short. any_push (is_deep p) qs q a.depth b.depth c.depth (h.depth (first_short a.size b.size c.size e.size short)) k.depth e.depth;
+  effects = λ short. any_push (is_busy p) qs q a.effects b.effects c.effects (h.effects (first_short a.size b.size c.size e.size short)) k.effects e.effects;
+}
+
+-- where one is too long, one more changes nothing
+pub passed_long : (p : PlainProcess) (qs : List Piece) (q : Piece) (a : Passed) → a.size ≡ true → ArePassed p qs a → ArePassed p (qs ++ q ∷ []) a
+passed_long p qs q a long h = record {
+  size = any_push (is_long p) qs q a.size (is_long p q) a.size h.size refl (long ∙ ap (λ y. y || is_long p q) (sym long));
+  depth = λ short. absurd (true≢false (sym long ∙ short));
+  effects = λ short. absurd (true≢false (sym long ∙ short));
 }
 
 pub passed_both : (p : PlainProcess) (qs rs : List Piece) (a b c : Passed) → ArePassed p qs a → ArePassed p rs b → IsEither a b c → ArePassed p (qs ++ rs) c
 passed_both p qs rs a b c h k e = record {
   size = any_both (is_long p) qs rs a.size b.size c.size h.size k.size e.size;
-  depth = any_both (is_deep p) qs rs a.depth b.depth c.depth h.depth k.depth e.depth;
-  effects = any_both (is_busy p) qs rs a.effects b.effects c.effects h.effects k.effects e.effects;
+  depth = λ short. any_both (is_deep p) qs rs a.depth b.depth c.depth (h.depth (first_short a.size b.size c.size e.size short)) (k.depth (other_short a.size b.size c.size e.size short)) e.depth;
+  effects = λ short. any_both (is_busy p) qs rs a.effects b.effects c.effects (h.effects (first_short a.size b.size c.size e.size short)) (k.effects (other_short a.size b.size c.size e.size short)) e.effects;
 }
 
 pub passed_first : (p : PlainProcess) (q : Piece) (rs : List Piece) (a b c : Passed) → IsPassed p q a → ArePassed p rs b → IsEither a b c → ArePassed p (q ∷ rs) c
 passed_first p q rs a b c h k e = record {
   size = e.size ∙ ap (λ y. y || b.size) h.size ∙ ap (λ y. is_long p q || y) k.size;
-  depth = e.depth ∙ ap (λ y. y || b.depth) h.depth ∙ ap (λ y. is_deep p q || y) k.depth;
-  effects = e.effects ∙ ap (λ y. y || b.effects) h.effects ∙ ap (λ y. is_busy p q || y) k.effects;
+  depth = λ short. e.depth ∙ ap (λ y. y || b.depth) h.depth ∙ ap (λ y. is_deep p q || y) (k.depth (other_short a.size b.size c.size e.size short));
+  effects = λ short. e.effects ∙ ap (λ y. y || b.effects) h.effects ∙ ap (λ y. is_busy p q || y) (k.effects (other_short a.size b.size c.size e.size short));
 }
 
 pub all_push : (ps : List PlainProcess) (p : PlainProcess) (a b c : Passed) → AllPassed ps a → ArePassed p (pieces_of p) b → IsEither a b c → AllPassed (ps ++ p ∷ []) c
 all_push ps p a b c h k e = record {
   size = any_push (λ p. list_any (is_long p) (pieces_of p)) ps p a.size b.size c.size h.size k.size e.size;
-  depth = any_push (λ p. list_any (is_deep p) (pieces_of p)) ps p a.depth b.depth c.depth h.depth k.depth e.depth;
-  effects = any_push (λ p. list_any (is_busy p) (pieces_of p)) ps p a.effects b.effects c.effects h.effects k.effects e.effects;
+  depth = λ short. any_push (λ p. list_any (is_deep p) (pieces_of p)) ps p a.depth b.depth c.depth (h.depth (first_short a.size b.size c.size e.size short)) (k.depth (other_short a.size b.size c.size e.size short)) e.depth;
+  effects = λ short. any_push (λ p. list_any (is_busy p) (pieces_of p)) ps p a.effects b.effects c.effects (h.effects (first_short a.size b.size c.size e.size short)) (k.effects (other_short a.size b.size c.size e.size short)) e.effects;
 }
 
 pub none_passed : (p : PlainProcess) → ArePassed p [] (record { size = false; depth = false; effects = false })
-none_passed p = record { size = refl; depth = refl; effects = refl }
+none_passed p = record { size = refl; depth = λ short. refl; effects = λ short. refl }
 
 over_by : (most b : ℕ) → most < 4294967295 → nat_lt most (capped b) ≡ nat_lt most b
 over_by most b small = elim (cases_lt most b) [

@@ -1,5 +1,5 @@
 -- What the transitions of a process pass.
-use Rattle.std.specs.Prelude.{◌≡◌, ℕ, ◌+◌, Bool, ◌||◌, List, [], ◌∷◌, if◌then◌else◌, nat_lt}
+use Rattle.std.specs.Prelude.{◌≡◌, ℕ, ◌+◌, Bool, false, ◌||◌, List, [], ◌∷◌, if◌then◌else◌, nat_lt}
 use Rattle.std.specs.List.{list_any}
 use Rattle.sdl_tree.specs.Plain.{PlainProcess}
 use Rattle.sdl_rules.specs.Longest.{Piece, pieces_of, piece_size, piece_depth, piece_effects}
@@ -23,17 +23,17 @@ pub record IsPassed (p : PlainProcess) (q : Piece) (x : Passed) : Type 0 where
   pub depth : x.depth ≡ is_deep p q
   pub effects : x.effects ≡ is_busy p q
 
--- of some pieces of a process
+-- of some pieces of a process; where one is too long nothing is said of the others
 pub record ArePassed (p : PlainProcess) (qs : List Piece) (x : Passed) : Type 0 where
   pub size : x.size ≡ list_any (is_long p) qs
-  pub depth : x.depth ≡ list_any (is_deep p) qs
-  pub effects : x.effects ≡ list_any (is_busy p) qs
+  pub depth : x.size ≡ false → x.depth ≡ list_any (is_deep p) qs
+  pub effects : x.size ≡ false → x.effects ≡ list_any (is_busy p) qs
 
--- of all pieces of some processes
+-- of all pieces of some processes, in the same way
 pub record AllPassed (ps : List PlainProcess) (x : Passed) : Type 0 where
   pub size : x.size ≡ list_any (λ p. list_any (is_long p) (pieces_of p)) ps
-  pub depth : x.depth ≡ list_any (λ p. list_any (is_deep p) (pieces_of p)) ps
-  pub effects : x.effects ≡ list_any (λ p. list_any (is_busy p) (pieces_of p)) ps
+  pub depth : x.size ≡ false → x.depth ≡ list_any (λ p. list_any (is_deep p) (pieces_of p)) ps
+  pub effects : x.size ≡ false → x.effects ≡ list_any (λ p. list_any (is_busy p) (pieces_of p)) ps
 
 -- the sizes of the marked connections, from a number on
 abbrev pub marked_from : ℕ → List Bool → List Measure → ℕ

@@ -1,5 +1,5 @@
 //! The limits: how long and how deep transitions are, and how many of everything there are.
-ghost use Rattle.std.specs.Prelude.{◌≡◌, [], ℕ, List, map, min, nat_lt, length, sum_by, find, IfOk};
+ghost use Rattle.std.specs.Prelude.{◌≡◌, ◌++◌, ◌∷◌, [], ℕ, List, map, min, nat_lt, length, sum_by, find, IfOk};
 ghost use Rattle.std.specs.List.{flat_map, list_any};
 ghost use Rattle.sdl_tree.specs.Views.{text_of, process_of, block_of, signal_of};
 ghost use Rattle.sdl_tables.specs.Names.{connector_names, processes_of, signals_of, states_of, variables_of, timers_of};
@@ -7,7 +7,7 @@ ghost use Rattle.sdl_tables.specs.Rows.{row_input, rows_inputs};
 ghost use Rattle.sdl_tables.specs.Scopes.{repeats};
 ghost use Rattle.sdl_rules.specs.Links.{graph_in, IsGraph};
 ghost use Rattle.sdl_rules.specs.Orders.{links_of};
-ghost use Rattle.sdl_rules.specs.Longest.{pieces_of, input_piece};
+ghost use Rattle.sdl_rules.specs.Longest.{Piece, pieces_of, input_piece};
 ghost use Rattle.sdl_rules.specs.Measures.{capped, AreMeasures, AllMeasures};
 ghost use Rattle.sdl_rules.specs.Rows.{marked_size, IsPassed, ArePassed, AllPassed, IsEither};
 ghost use Rattle.sdl_tree.specs.Plain.{PlainBlock};
@@ -94,6 +94,31 @@ fn pass_piece(
     })
 }
 
+// One input more, unless a transition was too long: that is named first, whatever the others are.
+fn pass_row(
+    alloc: Global,
+    process: &ProcessTable,
+    links: &[Vec<usize>],
+    measures: &[Measure],
+    passed: Passed,
+    row: &InputRow,
+) -> Result<Passed, AllocError>
+    requires links { graph_in links.now ≡ links_of (process_of process.now) }
+    requires graph { IsGraph (graph_in links.now) }
+    requires distinct { repeats [] (connector_names (process_of process.now)) ≡ [] }
+    requires measures { AreMeasures (process_of process.now) measures.now }
+    ensures { (qs : List Piece) → ArePassed (process_of process.now) qs passed
+        → IfOk result (ArePassed (process_of process.now) (qs ++ input_piece (row_input row.now) ∷ [])) }
+{
+    if passed.size {
+        return Ok(passed);
+    }
+    let places = &row.stimulus.places;
+    let transition = &row.input.transition;
+    let here = pass_piece(alloc, process, links, measures, places, transition)?;
+    Ok(either(passed, here))
+}
+
 fn pass_rows(
     alloc: Global,
     process: &ProcessTable,
@@ -109,16 +134,7 @@ fn pass_rows(
 {
     let mut passed = NONE_PASSED;
     for row in rows {
-        let places = &row.stimulus.places;
-        let here = pass_piece(
-            alloc,
-            process,
-            links,
-            measures,
-            places,
-            &row.input.transition,
-        )?;
-        passed = either(passed, here);
+        passed = pass_row(alloc, process, links, measures, passed, row)?;
     }
     Ok(passed)
 }

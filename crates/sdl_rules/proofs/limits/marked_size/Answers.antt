@@ -1,8 +1,6 @@
-use Rattle.std.proofs.Common.{rules, arith, ◌≡◌, ◌+◌, ◌<◌, ℕ, Bool, true, false, take, length, get_or, if◌then◌else◌, refl, ap, sym, ◌∙◌}
+use Rattle.std.proofs.Common.{rules, arith, ◌≡◌, Bool, true, false, get_or, if◌then◌else◌, ap, sym}
 use Rattle.std.proofs.lemmas.Option.{get_or_from_slice_get, slice_get-get_or}
 use Rattle.sdl_rules.specs.Counting.{measure_at}
-use Rattle.sdl_rules.specs.Measures.{capped}
-use Rattle.sdl_rules.specs.Rows.{marked_size}
 use Rattle.sdl_rules.proofs.Passing.{marked_more}
 use Rattle.sdl_rules.proofs.limits.marked_size.Goals as goal
 use Rattle.sdl_rules.proofs.limits.marked_size.Goals.{then-mark, else-mark}

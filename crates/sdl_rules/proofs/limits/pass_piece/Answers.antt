@@ -1,5 +1,5 @@
-use Rattle.std.proofs.Common.{rules, arith, ◌≡◌, ◌+◌, ◌<◌, ℕ, List, Bool, max, min, refl, ap, sym, ◌∙◌, subst}
-use Rattle.std.specs.Prelude.{nat_lt, sum_by}
+use Rattle.std.proofs.Common.{arith, ◌≡◌, ◌+◌, max, refl, ◌∙◌}
+use Rattle.std.specs.Prelude.{sum_by}
 use Rattle.sdl_tree.specs.Views.{text_of, process_of}
 use Rattle.sdl_tables.specs.Names.{variables_of}
 use Rattle.sdl_rules.specs.Joins.{reached}

@@ -2,7 +2,7 @@ use Rattle.std.proofs.Common.{◌≡◌, true, List, ℕ, Option, None, Some, sy
 use Rattle.std.specs.Prelude.{slice_get}
 use Rattle.std.specs.Option.{option_map_or, option_and_then}
 use Rattle.sdl_tree.specs.declared.expression.Identifier.{Identifier}
-use Rattle.sdl_tables.specs.Names.{same_name, number_of, timers_of}
+use Rattle.sdl_tables.specs.Names.{same_name, number_of}
 use Rattle.sdl_tree.specs.Views.{process_of}
 use Rattle.sdl_rules.specs.Fates.{timer_named}
 use Rattle.sdl_rules.proofs.PathNames.{number_names}
