@@ -1,5 +1,5 @@
 -- Counts of a text, one construct at a time, up to the greatest that is told.
-use Rattle.std.proofs.Common.{◌≡◌, ℕ, zero, suc, ◌+◌, ◌<◌, ◌≤◌, max, min, Bool, true, false, not, List, [], ◌∷◌, ◌++◌, length, take, drop, map, get_or, refl, ap, sym, ◌∙◌, subst, arith, if◌then◌else◌}
+use Rattle.std.proofs.Common.{◌≡◌, ℕ, zero, suc, ◌+◌, ◌<◌, ◌≤◌, max, min, Bool, true, false, not, ◌&&◌, ◌||◌, List, [], ◌∷◌, ◌++◌, length, take, drop, map, get_or, refl, ap, sym, ◌∙◌, subst, arith, if◌then◌else◌}
 use Rattle.std.proofs.lemmas.List.{take_more}
 use Rattle.sdl_tree.specs.declared.tree.Range.{Range}
 use Rattle.sdl_tree.specs.declared.tree.Statement.{Statement}
@@ -8,6 +8,7 @@ use Rattle.sdl_tree.specs.Plain.{Tree, Text, falls, ends, does, decides, Choice,
 use Rattle.sdl_tree.specs.Views.{statement_of, answer_of, statements_before, answers_before}
 use Rattle.sdl_tables.specs.Names.{variables_of}
 use Rattle.sdl_rules.specs.Longest.{cost_of, depth_of, action_cost, action_depth, action_effects, tests_budget, budget, case_budget, pick_budget, depth, choice_depth, effects, choice_effects, size, bodies_size, tests_size, jump_size}
+use Rattle.sdl_rules.specs.Going.{goes_on, choice_goes_on}
 use Rattle.sdl_rules.specs.Sorts.{is_truth}
 use Rattle.sdl_rules.specs.Measures.{capped}
 use Rattle.sdl_rules.specs.Counting.{IsBehind, IsMeasured, AreMeasured, budget_named, depth_named, effects_named, no_measure, answers_budget, answers_tests}
@@ -26,13 +27,14 @@ tests_more ranges i d b o within = ap (λ l. tests_budget l b o) (take_more rang
 
 pub action_measured : (p : PlainProcess) (ms : List Measure) (a : PlainAction) (t : Text) (k e : ℕ) (m : Measure) (cost deep eff : ℕ) (r : Measure)
     → cost ≡ capped (action_cost a) → deep ≡ capped (action_depth a) → eff ≡ capped (action_effects a)
-    → r.budget ≡ capped (cost + m.budget) → r.depth ≡ max deep m.depth → r.effects ≡ capped (eff + m.effects) → r.size ≡ capped (cost + m.size)
+    → r.budget ≡ capped (cost + m.budget) → r.depth ≡ max deep m.depth → r.effects ≡ capped (eff + m.effects) → r.size ≡ capped (cost + m.size) → r.goes_on ≡ m.goes_on
     → IsMeasured p ms t k e m → IsMeasured p ms (does a t) k e r
-action_measured p ms a t k e m cost deep eff r c d f rb rd re rs h = record {
+action_measured p ms a t k e m cost deep eff r c d f rb rd re rs rg h = record {
   budget = omega (arith, c, rb, h.budget);
   depth = omega (arith, d, rd, h.depth);
   effects = omega (arith, f, re, h.effects);
   size = omega (arith, c, rs, h.size);
+  goes_on = rg ∙ h.goes_on;
 }
 
 -- a DECISION: `choice` is 1 for a Boolean question, whose choice is an instruction of its own
@@ -40,10 +42,10 @@ pub decision_measured : (p : PlainProcess) (ms : List Measure) (at : ℕ) (q : T
     → truth ≡ is_truth (variables_of p) q → choice ≡ (if truth then 1 else 0)
     → cost ≡ capped (cost_of q) → deep ≡ capped (depth_of q)
     → r.budget ≡ capped (capped (cost + choice) + bodies.budget) → r.depth ≡ max deep (max bodies.depth rest.depth) → r.effects ≡ bodies.effects
-    → r.size ≡ capped (capped (capped (cost + choice) + bodies.size) + rest.size)
+    → r.size ≡ capped (capped (capped (cost + choice) + bodies.size) + rest.size) → r.goes_on ≡ (bodies.goes_on && rest.goes_on)
     → AreMeasured p ms truth c (budget (variables_of p) (budget_named p ms) t k) (effects (effects_named p ms) t e) bodies
     → IsMeasured p ms t k e rest → IsMeasured p ms (decides at q c t) k e r
-decision_measured p ms at q c t k e true rest bodies cost deep choice r tr ch co de rb rd re rs b h = record {
+decision_measured p ms at q c t k e true rest bodies cost deep choice r tr ch co de rb rd re rs rg b h = record {
   budget =
       let is : budget (variables_of p) (budget_named p ms) (decides at q c t) k ≡ cost_of q + (1 + pick_budget (variables_of p) (budget_named p ms) c (budget (variables_of p) (budget_named p ms) t k)) =
       ap (λ x. cost_of q + (if x then 1 + pick_budget (variables_of p) (budget_named p ms) c (budget (variables_of p) (budget_named p ms) t k) else case_budget (variables_of p) (budget_named p ms) c (budget (variables_of p) (budget_named p ms) t k))) (sym tr) in
@@ -54,8 +56,9 @@ decision_measured p ms at q c t k e true rest bodies cost deep choice r tr ch co
       let is : size (variables_of p) (decides at q c t) ≡ cost_of q + 1 + bodies_size (variables_of p) c + size (variables_of p) t =
       ap (λ x. cost_of q + (if x then 1 else tests_size c) + bodies_size (variables_of p) c + size (variables_of p) t) (sym tr) in
       omega (arith, is, ch, co, rs, b.size, h.size);
+  goes_on = rg ∙ ap (λ x. x && rest.goes_on) b.goes_on ∙ ap (λ x. choice_goes_on c && x) h.goes_on;
 }
-decision_measured p ms at q c t k e false rest bodies cost deep choice r tr ch co de rb rd re rs b h = record {
+decision_measured p ms at q c t k e false rest bodies cost deep choice r tr ch co de rb rd re rs rg b h = record {
   budget =
       let is : budget (variables_of p) (budget_named p ms) (decides at q c t) k ≡ cost_of q + case_budget (variables_of p) (budget_named p ms) c (budget (variables_of p) (budget_named p ms) t k) =
       ap (λ x. cost_of q + (if x then 1 + pick_budget (variables_of p) (budget_named p ms) c (budget (variables_of p) (budget_named p ms) t k) else case_budget (variables_of p) (budget_named p ms) c (budget (variables_of p) (budget_named p ms) t k))) (sym tr) in
@@ -66,47 +69,55 @@ decision_measured p ms at q c t k e false rest bodies cost deep choice r tr ch c
       let is : size (variables_of p) (decides at q c t) ≡ cost_of q + tests_size c + bodies_size (variables_of p) c + size (variables_of p) t =
       ap (λ x. cost_of q + (if x then 1 else tests_size c) + bodies_size (variables_of p) c + size (variables_of p) t) (sym tr) in
       omega (arith, is, ch, co, rs, b.size, h.size);
+  goes_on = rg ∙ ap (λ x. x && rest.goes_on) b.goes_on ∙ ap (λ x. choice_goes_on c && x) h.goes_on;
 }
 
+jump_is : (body : Text) (on : Bool) (jump : ℕ) → jump ≡ (if on then 1 else 0) → on ≡ goes_on body → jump ≡ jump_size body
+jump_is body on jump j h = j ∙ ap (λ b. if b then 1 else 0) h
+
 pub else_measured : (p : PlainProcess) (ms : List Measure) (body : Text) (k e : ℕ) (truth : Bool) (inside : Measure) (jump away : ℕ) (r : Measure)
-    → jump ≡ jump_size body → away ≡ (if not truth then 1 else 0)
+    → jump ≡ (if inside.goes_on then 1 else 0) → away ≡ (if not truth then 1 else 0)
     → r.budget ≡ capped (inside.budget + away) → r.depth ≡ inside.depth → r.effects ≡ inside.effects
-    → r.size ≡ capped (capped (inside.size + jump) + away)
+    → r.size ≡ capped (capped (inside.size + jump) + away) → r.goes_on ≡ inside.goes_on
     → IsMeasured p ms body (1 + k) e inside → AreMeasured p ms truth (otherwise body) k e r
-else_measured p ms body k e true inside jump away r j a rb rd re rs h = record {
+else_measured p ms body k e true inside jump away r j a rb rd re rs rg h = record {
   budget = omega (arith, a, rb, h.budget);
   depth = rd ∙ h.depth;
   effects = re ∙ h.effects;
-  size = omega (arith, j, a, rs, h.size);
+  size = let jumps = jump_is body inside.goes_on jump j h.goes_on in omega (arith, jumps, a, rs, h.size);
+  goes_on = rg ∙ h.goes_on;
 }
-else_measured p ms body k e false inside jump away r j a rb rd re rs h = record {
+else_measured p ms body k e false inside jump away r j a rb rd re rs rg h = record {
   budget = omega (arith, a, rb, h.budget);
   depth = rd ∙ h.depth;
   effects = re ∙ h.effects;
-  size = omega (arith, j, a, rs, h.size);
+  size = let jumps = jump_is body inside.goes_on jump j h.goes_on in omega (arith, jumps, a, rs, h.size);
+  goes_on = rg ∙ h.goes_on;
 }
 
 pub none_measured : (p : PlainProcess) (ms : List Measure) (k e : ℕ) (truth : Bool) → AreMeasured p ms truth nothing_else k e no_measure
-none_measured p ms k e true = record { budget = refl; depth = refl; effects = refl; size = refl }
-none_measured p ms k e false = record { budget = refl; depth = refl; effects = refl; size = refl }
+none_measured p ms k e true = record { budget = refl; depth = refl; effects = refl; size = refl; goes_on = refl }
+none_measured p ms k e false = record { budget = refl; depth = refl; effects = refl; size = refl; goes_on = refl }
 
 pub answer_measured : (p : PlainProcess) (ms : List Measure) (at : ℕ) (ranges : List Range) (body : Text) (c : Choice) (k e : ℕ) (truth : Bool) (inside others : Measure) (jump tests : ℕ) (r : Measure)
-    → jump ≡ jump_size body → tests ≡ capped (if truth then 0 else length ranges)
+    → jump ≡ (if inside.goes_on then 1 else 0) → tests ≡ capped (if truth then 0 else length ranges)
     → ((b o : ℕ) → inside.budget ≡ capped b → others.budget ≡ capped o → r.budget ≡ capped (if truth then max b o else tests_budget ranges b o))
     → r.depth ≡ max inside.depth others.depth → r.effects ≡ max inside.effects others.effects
-    → r.size ≡ capped (capped (capped (inside.size + jump) + tests) + others.size)
+    → r.size ≡ capped (capped (capped (inside.size + jump) + tests) + others.size) → r.goes_on ≡ (inside.goes_on || others.goes_on)
     → IsMeasured p ms body (1 + k) e inside → AreMeasured p ms truth c k e others → AreMeasured p ms truth (answer at ranges body c) k e r
-answer_measured p ms at ranges body c k e true inside others jump tests r j t rb rd re rs h o = record {
+answer_measured p ms at ranges body c k e true inside others jump tests r j t rb rd re rs rg h o = record {
   budget = rb _ _ h.budget o.budget;
   depth = omega (arith, rd, h.depth, o.depth);
   effects = omega (arith, re, h.effects, o.effects);
-  size = omega (arith, j, t, rs, h.size, o.size);
+  size = let jumps = jump_is body inside.goes_on jump j h.goes_on in omega (arith, jumps, t, rs, h.size, o.size);
+  goes_on = rg ∙ ap (λ x. x || others.goes_on) h.goes_on ∙ ap (λ x. goes_on body || x) o.goes_on;
 }
-answer_measured p ms at ranges body c k e false inside others jump tests r j t rb rd re rs h o = record {
+answer_measured p ms at ranges body c k e false inside others jump tests r j t rb rd re rs rg h o = record {
   budget = rb _ _ h.budget o.budget;
   depth = omega (arith, rd, h.depth, o.depth);
   effects = omega (arith, re, h.effects, o.effects);
-  size = omega (arith, j, t, rs, h.size, o.size);
+  size = let jumps = jump_is body inside.goes_on jump j h.goes_on in omega (arith, jumps, t, rs, h.size, o.size);
+  goes_on = rg ∙ ap (λ x. x || others.goes_on) h.goes_on ∙ ap (λ x. goes_on body || x) o.goes_on;
 }
 
 -- ---- lists

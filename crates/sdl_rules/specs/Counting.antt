@@ -4,11 +4,12 @@ use Rattle.std.specs.Option.{option_map_or}
 use Rattle.sdl_tree.specs.Plain.{Text, Choice, PlainProcess}
 use Rattle.sdl_tables.specs.Names.{number_of, connector_names, Variable, variables_of}
 use Rattle.sdl_rules.specs.Longest.{budget, case_budget, pick_budget, depth, choice_depth, effects, choice_effects, size, bodies_size, tests_size}
+use Rattle.sdl_rules.specs.Going.{goes_on, choice_goes_on}
 use Rattle.sdl_rules.specs.Measures.{capped}
 use Rattle.sdl_rules.specs.declared.measures.Measure.{Measure}
 
 abbrev pub no_measure : Measure
-no_measure = record { budget = 0; depth = 0; effects = 0; size = 0 }
+no_measure = record { budget = 0; depth = 0; effects = 0; size = 0; goes_on = false }
 
 -- that of the connection with a number, and that of the one with a name; nothing where there is none
 abbrev pub measure_at : List Measure → ℕ → Measure
@@ -39,6 +40,7 @@ pub record IsMeasured (p : PlainProcess) (ms : List Measure) (t : Text) (k e : �
   pub depth : m.depth ≡ capped (depth (depth_named p ms) t)
   pub effects : m.effects ≡ capped (effects (effects_named p ms) t e)
   pub size : m.size ≡ capped (size (variables_of p) t)
+  pub goes_on : m.goes_on ≡ goes_on t
 
 -- the budget of the answers to a question, a Boolean or an Integer one
 abbrev pub answers_budget : Bool → List Variable → (List ℕ → ℕ) → Choice → ℕ → ℕ
@@ -56,3 +58,4 @@ pub record AreMeasured (p : PlainProcess) (ms : List Measure) (truth : Bool) (c 
   pub depth : m.depth ≡ capped (choice_depth (depth_named p ms) c)
   pub effects : m.effects ≡ capped (choice_effects (effects_named p ms) c e)
   pub size : m.size ≡ capped (answers_tests truth c + bodies_size (variables_of p) c)
+  pub goes_on : m.goes_on ≡ choice_goes_on c

@@ -1,15 +1,14 @@
 //! What is measured of connections, and of transitions: how many instructions, operands and effects there are on a walk, and in all.
-ghost use Rattle.std.specs.Prelude.{◌≡◌, ◌+◌, ℕ, max, if◌then◌else◌, length, IfOk};
+ghost use Rattle.std.specs.Prelude.{◌≡◌, ◌+◌, ◌&&◌, ◌||◌, ℕ, max, if◌then◌else◌, length, IfOk};
 ghost use Rattle.sdl_tree.specs.Plain.{Text, Choice, does, otherwise};
 ghost use Rattle.sdl_tree.specs.Views.{action_of, end_text, text_of, statement_of, decision_of, choice_of, answer_of, process_of, block_of};
-ghost use Rattle.sdl_rules.specs.Longest.{jump_size, tests_budget, size};
+ghost use Rattle.sdl_rules.specs.Longest.{tests_budget, size};
 ghost use Rattle.sdl_rules.specs.Counting.{measure_named, IsBehind, IsMeasured, AreMeasured};
 ghost use Rattle.sdl_tables.specs.Names.{variables_of, processes_of};
 ghost use Rattle.sdl_rules.specs.Measures.{capped, AreMeasures, AllMeasures};
 ghost use Rattle.sdl_rules.specs.Orders.{IsOrder, AreOrders};
 
 use crate::counts;
-use crate::going::goes_on;
 use crate::sorts::is_truth;
 use sdl_tables::{BlockTable, ProcessTable};
 use sdl_tree::{Action, Answer, Decision, End, Identifier, Range, Statement, Transition};
@@ -27,6 +26,8 @@ pub struct Measure {
     pub effects: u32,
     /// How many instructions the text has.
     pub size: u32,
+    /// Whether the text may run off its end.
+    pub goes_on: bool,
 }
 
 /// Where nothing is.
@@ -35,6 +36,7 @@ pub(crate) const NOTHING: Measure = Measure {
     depth: 0,
     effects: 0,
     size: 0,
+    goes_on: false,
 };
 
 // What ends a transition, but for a JOIN.
@@ -43,6 +45,7 @@ const LAST: Measure = Measure {
     depth: 0,
     effects: 0,
     size: 1,
+    goes_on: false,
 };
 
 // That of the connection with a name.
@@ -73,6 +76,7 @@ fn measure_end(
             depth: 0,
             effects: behind.effects,
             size: 0,
+            goes_on: true,
         },
         Some(End::NextState(_)) => LAST,
         Some(End::Stop(_)) => LAST,
@@ -83,6 +87,7 @@ fn measure_end(
                 depth: joined.depth,
                 effects: joined.effects,
                 size: 1,
+                goes_on: false,
             }
         }
     }
@@ -103,6 +108,7 @@ fn measure_action(
         depth: counts::action_depth(action).max(rest.depth),
         effects: counts::action_effects(action).saturating_add(rest.effects),
         size: cost.saturating_add(rest.size),
+        goes_on: rest.goes_on,
     }
 }
 
@@ -112,11 +118,25 @@ fn one_if(test: bool) -> u32
     if test { 1 } else { 0 }
 }
 
-// The jump at the end of a body that goes on.
-fn jump_size(body: &Transition) -> u32
-    ensures { result ≡ jump_size (text_of body.now) }
+// The jump at the end of a body, if it goes on.
+fn jump_size(goes_on: bool) -> u32
+    ensures { result ≡ (if goes_on then 1 else 0) }
 {
-    one_if(goes_on(body))
+    one_if(goes_on)
+}
+
+// Behind a DECISION a text goes on where both do.
+fn both(one: bool, other: bool) -> bool
+    ensures { result ≡ (one && other) }
+{
+    one && other
+}
+
+// A DECISION goes on where one of its bodies does.
+fn one_of(one: bool, other: bool) -> bool
+    ensures { result ≡ (one || other) }
+{
+    one || other
 }
 
 // Each range is tested in turn; where it holds, the body is next.
@@ -211,6 +231,7 @@ fn measure_decision(
         depth: 0,
         effects: rest.effects,
         size: 0,
+        goes_on: true,
     };
     let answers = measure_answers(process, measures, truth, decision, behind);
     let question = counts::cost(&decision.question).saturating_add(one_if(truth));
@@ -221,6 +242,7 @@ fn measure_decision(
         size: question
             .saturating_add(answers.size)
             .saturating_add(rest.size),
+        goes_on: both(answers.goes_on, rest.goes_on),
     }
 }
 
@@ -272,8 +294,9 @@ fn measure_else(
         effects: inside.effects,
         size: inside
             .size
-            .saturating_add(jump_size(body))
+            .saturating_add(jump_size(inside.goes_on))
             .saturating_add(drop),
+        goes_on: inside.goes_on,
     }
 }
 
@@ -291,13 +314,14 @@ fn measure_answer(
         → AreMeasured (process_of process.now) measures.now truth (answer_of answer.now c) k e result }
 {
     let inside = measure_transition(process, measures, &answer.body, behind);
-    let size = inside.size.saturating_add(jump_size(&answer.body));
+    let size = inside.size.saturating_add(jump_size(inside.goes_on));
     let tests = answer_tests(truth, &answer.ranges);
     Measure {
         budget: answer_budget(truth, &answer.ranges, inside.budget, others.budget),
         depth: inside.depth.max(others.depth),
         effects: inside.effects.max(others.effects),
         size: size.saturating_add(tests).saturating_add(others.size),
+        goes_on: one_of(inside.goes_on, others.goes_on),
     }
 }
 

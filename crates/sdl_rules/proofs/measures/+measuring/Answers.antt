@@ -71,30 +71,30 @@ measure_decision-returns t c = λ u k e h.
     let d = out-Decision c.args.decision.now in
     let bodies = c.measure_answers-answers.ensures (budget (variables_of p) (budget_named p ms) u k) (effects (effects_named p ms) u e)
     (record { budget = omega (arith, c.saturating_add.ensures, h.budget); effects = h.effects }) in
-    let r : Measure = record { budget = c.saturating_add-2.result; depth = c.max-2.result; effects = c.measure_answers-answers.result.effects; size = c.saturating_add-4.result } in
+    let r : Measure = record { budget = c.saturating_add-2.result; depth = c.max-2.result; effects = c.measure_answers-answers.result.effects; size = c.saturating_add-4.result; goes_on = c.both.result } in
     subst (λ (x : Text). IsMeasured p ms x k e r) (sym (decision_of-is c.args.decision.now u))
     (decision_measured p ms d.at (tree_of d.question) (choice_of c.args.decision.now) u k e c.is_truth-truth.result c.args.rest c.measure_answers-answers.result c.cost.result c.depth.result c.one_if.result r
     c.is_truth-truth.ensures c.one_if.ensures c.cost.ensures c.depth.ensures
-    (omega (arith, c.saturating_add-question.ensures, c.saturating_add-2.ensures)) (omega (arith, c.max.ensures, c.max-2.ensures)) refl (omega (arith, c.saturating_add-question.ensures, c.saturating_add-3.ensures, c.saturating_add-4.ensures)) bodies h)
+    (omega (arith, c.saturating_add-question.ensures, c.saturating_add-2.ensures)) (omega (arith, c.max.ensures, c.max-2.ensures)) refl (omega (arith, c.saturating_add-question.ensures, c.saturating_add-3.ensures, c.saturating_add-4.ensures)) c.both.ensures bodies h)
 
 pub measure_else-returns : goal.measure_else-returns
 measure_else-returns t c = λ k e b.
     else_measured (process_of c.args.process.now) c.args.measures.now (text_of c.args.body.now) k e c.args.truth c.measure_transition-inside.result c.jump_size.result c.one_if-drop.result
-    (record { budget = c.saturating_add.result; depth = c.measure_transition-inside.result.depth; effects = c.measure_transition-inside.result.effects; size = c.saturating_add-3.result })
-    c.jump_size.ensures c.one_if-drop.ensures c.saturating_add.ensures refl refl (omega (arith, c.saturating_add-2.ensures, c.saturating_add-3.ensures)) (c.measure_transition-inside.ensures (1 + k) e b)
+    (record { budget = c.saturating_add.result; depth = c.measure_transition-inside.result.depth; effects = c.measure_transition-inside.result.effects; size = c.saturating_add-3.result; goes_on = c.measure_transition-inside.result.goes_on })
+    c.jump_size.ensures c.one_if-drop.ensures c.saturating_add.ensures refl refl (omega (arith, c.saturating_add-2.ensures, c.saturating_add-3.ensures)) refl (c.measure_transition-inside.ensures (1 + k) e b)
 
 pub measure_answer-returns : goal.measure_answer-returns
 measure_answer-returns t c = λ ch k e b o.
     let p = process_of c.args.process.now in
     let a = c.args.answer.now in
-    let r : Measure = record { budget = c.answer_budget.result; depth = c.max.result; effects = c.max-2.result; size = c.saturating_add-2.result } in
+    let r : Measure = record { budget = c.answer_budget.result; depth = c.max.result; effects = c.max-2.result; size = c.saturating_add-2.result; goes_on = c.one_of.result } in
     let tests : c.answer_tests-tests.result ≡ capped (if c.args.truth then 0 else length a.ranges.items) =
     c.answer_tests-tests.ensures ∙ ap (λ (l : List Range). capped (if c.args.truth then 0 else length l)) c.deref.ensures.value in
     subst (λ (x : Choice). AreMeasured p c.args.measures.now c.args.truth x k e r) (sym (answer_of-is a ch))
     (answer_measured p c.args.measures.now a.at a.ranges.items (text_of a.body) ch k e c.args.truth c.measure_transition-inside.result c.args.others c.jump_size.result c.answer_tests-tests.result r
     c.jump_size.ensures tests
     (λ x y h o. subst (λ (l : List Range). c.answer_budget.result ≡ capped (if c.args.truth then max x y else tests_budget l x y)) c.deref-2.ensures.value (c.answer_budget.ensures x y h o))
-    c.max.ensures c.max-2.ensures (omega (arith, c.saturating_add-size.ensures, c.saturating_add.ensures, c.saturating_add-2.ensures)) (c.measure_transition-inside.ensures (1 + k) e b) o)
+    c.max.ensures c.max-2.ensures (omega (arith, c.saturating_add-size.ensures, c.saturating_add.ensures, c.saturating_add-2.ensures)) c.one_of.ensures (c.measure_transition-inside.ensures (1 + k) e b) o)
 
 pub measure_answers-loop-left-init : goal.measure_answers-loop-left-init
 measure_answers-loop-left-init t c =
