@@ -1,5 +1,5 @@
 -- Marks of the connections that are placed.
-use Rattle.std.proofs.Common.{◌≡◌, ℕ, zero, suc, ◌<◌, ◌≤◌, inl, inr, Bool, true, false, cond, ◌||◌, List, [], ◌∷◌, ◌++◌, length, replicate, Some, IsSome, refl, sym, ap, ◌∙◌, subst, arith}
+use Rattle.std.proofs.Common.{◌≡◌, ℕ, zero, suc, ◌+◌, ◌<◌, inl, inr, Bool, true, false, cond, ◌||◌, List, [], ◌∷◌, ◌++◌, length, drop, get_or, replicate, Some, IsSome, refl, sym, ap, ◌∙◌, subst, arith}
 use Rattle.std.specs.Prelude.{slice_get, slice_set, nat_eq}
 use Rattle.std.specs.List.{list_any}
 use Rattle.std.proofs.lemmas.Bool.{cases_eq, cases_Bool, eqb-true, eq-eqb}
@@ -84,3 +84,12 @@ module _ (c : Scope) where
     count = length-replicate size false ∙ is;
     each = λ n lt. free_at size n (omega (arith, lt, length-replicate size false));
   }
+
+-- ---- a JOIN more
+
+pub next_first : {A : Type 0} (xs : List A) (i : ℕ) (x : A) → i < length xs → x ≡ get_or xs i x → drop i xs ≡ x ∷ drop (i + 1) xs
+next_first [] i x lt e = absurd (omega (arith, lt))
+next_first (y ∷ xs) zero x lt e = ap (λ z. z ∷ xs) (sym e)
+next_first (y ∷ xs) (suc i) x lt e =
+    let f : suc (i + 1) ≡ suc i + 1 = omega arith in
+    next_first xs i x (omega (arith, lt)) e ∙ ap (λ n. x ∷ drop n (y ∷ xs)) f
