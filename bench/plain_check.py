@@ -240,13 +240,13 @@ class P:
         if k == 'num': s.i += 1; return ('num', s.t[s.i-1][1], at)
         if k in ('TRUE', 'FALSE'): s.i += 1; return ('bool', k, at)
         if k == 'name': n = s.name(); return ('var', n, at)
-        if k == '(': s.i += 1; x = s.expr(); s.take(')'); return x
+        if k == '(': s.i += 1; x = s.expr(); s.take(')'); return x[:4] + (at,) if x[0] == 'bin' else x[:3] + (at,) if x[0] == 'un' else x[:2] + (at,)
         s.fail()
 def height(x):
     if x[0] == 'bin': return 1 + max(height(x[2]), height(x[3]))
     if x[0] == 'un': return 1 + height(x[2])
     return 1
-def first(x): return first(x[2]) if x[0] == 'bin' else x[3] if x[0] == 'un' else x[2]
+def first(x): return (x[4] if len(x) > 4 else first(x[2])) if x[0] == 'bin' else x[3] if x[0] == 'un' else x[2]
 def cost(x):
     if x[0] == 'bin': return cost(x[2]) + 1 + (0 if x[1] in ('/', 'MOD', 'REM') else cost(x[3]))
     if x[0] == 'un': return cost(x[2]) + 1

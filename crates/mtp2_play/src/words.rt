@@ -17,7 +17,7 @@ fn commands<'a>(alloc: Global) -> Result<Command<'a>, AllocError> {
     Command::new(alloc, "mtp2_play")
         .about("Checks SDL process texts of signalling links, and reads signal units")
         .after_help(
-            "Exit statuses: 0 done, 1 an expectation failed, 2 refused, 3 usage, 4 memory or a file failed.",
+            "Exit statuses: 0 done, 2 refused, 3 usage, 4 memory or a file failed (1 is kept for scripts).",
         )
         .subcommand_required(true)
         .subcommand(check_command(alloc)?)?
@@ -56,7 +56,10 @@ pub fn read<'a>(alloc: Global, given: &'a [String]) -> Result<Request<'a>, Error
     let matches = commands.try_get_matches_from_mut(given)?;
     match request_of(&matches) {
         Some(request) => Ok(request),
-        None => Err(commands.error(ErrorKind::InvalidSubcommand, "no such command")?),
+        None => Err(commands.error(
+            ErrorKind::InvalidSubcommand,
+            "no such command, or a set that is not there yet (a file of that name is ./standard or ./monitors)",
+        )?),
     }
 }
 

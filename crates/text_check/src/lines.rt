@@ -1,4 +1,7 @@
 //! Exit statuses, and lines as they are written.
+ghost use Rattle.std.specs.Prelude.{◌≡◌, ◌++◌, ◌∷◌, [], OnOk, IfSome};
+ghost use Rattle.std.specs.Io.KnownBytes.{Appends};
+
 use std::alloc::Global;
 use std::fmt::Display;
 use std::io::{self, Write};
@@ -15,8 +18,11 @@ pub const USAGE: u8 = 3;
 /// The exit status where memory, a file, a read or a write failed.
 pub const FAILED: u8 = 4;
 
-/// Writes one line, whole, in one call of the writer as far as that takes it.
-pub fn write_line<W: Write>(alloc: Global, writer: &mut W, line: &impl Display) -> io::Result<()> {
+/// Writes one line, whole, in one call of the writer as far as that takes it. Where it is known what the line prints,
+/// what the writer holds grows by that and a line feed.
+pub fn write_line<W: Write, L: Display>(alloc: Global, writer: &mut W, line: &L) -> io::Result<()>
+    ensures { OnOk result (IfSome (L.output line.now) (λ text. Appends (W.contents writer.old) (W.contents writer.new) (text ++ 10 ∷ []))) }
+{
     let text = format!(in alloc; "{line}\n")?;
     writer.write_all(text.as_bytes())
 }

@@ -64,6 +64,10 @@ fn copied(parameters: &ArrayVec<Value, 4>) -> ArrayVec<Value, 4>
 }
 
 impl Default for Effect {
+    ghost use Rattle.turn_code.specs.declared.effect.Effect.TheVariants.{Reset};
+
+    ghost is_default = { λ effect. effect ≡ Reset (record { 0 = 0 }) };
+
     fn default() -> Self {
         Effect::Reset(TimerNumber(0))
     }

@@ -101,6 +101,11 @@ impl Receiver {
 }
 
 impl Default for Instruction {
+    ghost use Rattle.std.specs.Prelude.{◌≡◌, pos};
+    ghost use Rattle.turn_code.specs.declared.instruction.Instruction.TheVariants.{Int};
+
+    ghost is_default = { λ instruction. instruction ≡ Int (pos 0) };
+
     fn default() -> Self {
         Instruction::Int(0)
     }

@@ -35,12 +35,21 @@ impl Value {
 }
 
 impl Default for Sort {
+    ghost use Rattle.turn_code.specs.declared.value.Sort.TheVariants.{Integer};
+
+    ghost is_default = { λ sort. sort ≡ Integer };
+
     fn default() -> Self {
         Sort::Integer
     }
 }
 
 impl Default for Value {
+    ghost use Rattle.std.specs.Prelude.{pos};
+    ghost use Rattle.turn_code.specs.declared.value.Value.TheVariants.{Int};
+
+    ghost is_default = { λ value. value ≡ Int (pos 0) };
+
     fn default() -> Self {
         Value::Int(0)
     }

@@ -117,6 +117,24 @@ fn the_variable_that_is_read_first(rt: HostRuntime) -> Result<(), Fail> {
 }
 
 #[test]
+fn the_path_that_is_named(rt: HostRuntime) -> Result<(), Fail> {
+    let rows = [
+        // the one of fewer transitions, though the other's come first in the text
+        (
+            "START; DECISION x; (0): NEXTSTATE Q; ELSE: NEXTSTATE S; ENDDECISION; STATE Q; INPUT A; NEXTSTATE R; ENDSTATE; STATE R; INPUT A; TASK x := n; STOP; ENDSTATE; STATE S; INPUT A; TASK x := m; STOP; ENDSTATE;",
+            "S11 Unset m START S/A",
+        ),
+        // of two of one length the one whose transitions come first, though the other's read does
+        (
+            "START; DECISION x; (0): NEXTSTATE Q; ELSE: NEXTSTATE S; ENDDECISION; CONNECTION c: TASK x := n; STOP; ENDCONNECTION; STATE Q; INPUT A; TASK x := m; STOP; ENDSTATE; STATE S; INPUT A; JOIN c; ENDSTATE;",
+            "S11 Unset m START Q/A",
+        ),
+    ];
+    assert_eq!(rt; wrong_from_start(rt.alloc(), rows.as_slice())?.as_str(), "");
+    Ok(())
+}
+
+#[test]
 fn what_each_path_to_a_state_has_set(rt: HostRuntime) -> Result<(), Fail> {
     let alloc = rt.alloc();
     let mut text = String::from_str(alloc, FRONT)?;
