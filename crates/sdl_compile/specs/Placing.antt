@@ -1,5 +1,5 @@
 -- The JOINs of a text in the order of its code, and the numbers of the connections to which they lead.
-use Rattle.std.specs.Prelude.{ℕ, ◌++◌, Bool, nat_eq, List, map, if◌then◌else◌, All, IsSome}
+use Rattle.std.specs.Prelude.{◌≡◌, ◌<◌, ℕ, ◌++◌, Bool, nat_eq, List, length, map, if◌then◌else◌, All, IsSome, Some, slice_get}
 use Rattle.std.specs.List.{list_any}
 use Rattle.sdl_tree.specs.declared.tree.Join.{Join}
 use Rattle.sdl_tree.specs.declared.tree.Decision.{Decision, out-Decision}
@@ -25,3 +25,8 @@ numbers_of c js = map (λ j. number_or_zero (connector_at c j.connector)) js
 -- each leads to a connection that is there
 abbrev pub HaveNumbers : Scope → List Join → Type 0
 HaveNumbers c js = All (λ (j : Join). IsSome (connector_at c j.connector)) js
+
+-- a mark for each connection: whether its number is among these
+pub record AreMarked (c : Scope) (ns : List ℕ) (marks : List Bool) : Type 0 where
+  pub count : length marks ≡ length c.process.connections
+  pub each : (n : ℕ) → n < length marks → slice_get marks n ≡ Some (has ns n)

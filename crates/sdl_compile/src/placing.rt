@@ -1,11 +1,12 @@
 //! Which connections stand behind the text of a piece, and where.
-ghost use Rattle.std.specs.Prelude.{◌≡◌, ◌+◌, ◌≤◌, ◌<◌, ◌++◌, ℕ, [], fold, length, replicate, All, OnOk, IfOk};
+ghost use Rattle.std.specs.Prelude.{◌≡◌, ◌+◌, ◌≤◌, ◌<◌, ◌++◌, ℕ, [], fold, length, replicate, All, IsSome, OnOk, IfOk};
 ghost use Rattle.std.specs.List.{list_any, sum_by};
 ghost use Rattle.sdl_tree.specs.Views.{text_of, statement_of, choice_of, else_choice, process_of};
 ghost use Rattle.sdl_compile.specs.Scopes.{scope_in, places_by};
-ghost use Rattle.sdl_compile.specs.Placing.{decision_joins, has, numbers_of, HaveNumbers};
+ghost use Rattle.sdl_compile.specs.Placing.{decision_joins, numbers_of, HaveNumbers, AreMarked};
 ghost use Rattle.sdl_compile.specs.Named.{NamedText, NamedConnections};
-ghost use Rattle.sdl_compile.specs.Code.{code_joins, else_joins, answers_joins, add_number, joined, text_at, size_at, place_in, ArePlaced};
+ghost use Rattle.sdl_compile.specs.Act.{connector_at};
+ghost use Rattle.sdl_compile.specs.Code.{number_or_zero, code_joins, else_joins, answers_joins, add_number, joined, text_at, size_at, place_in, ArePlaced};
 
 use crate::names::Names;
 use sdl_rules::code_size;
@@ -90,34 +91,39 @@ fn collect_joins(
     Ok(())
 }
 
-// Whether a connection is placed already.
-fn is_placed(placed: &[usize], number: usize) -> bool
-    ensures { result ≡ has placed.now number }
+// One more connection, unless it is placed already, which its mark tells.
+fn place_one(
+    placed: &mut Vec<usize>,
+    marks: &mut Vec<bool>,
+    names: &Names,
+    join: &Join,
+) -> Result<(), AllocError>
+    requires named { IsSome (connector_at (scope_in names.now) join.now.connector) }
+    requires marks { AreMarked (scope_in names.now) placed.old.items marks.old.items }
+    ensures placed { OnOk result (placed.new.items ≡ add_number placed.old.items (number_or_zero (connector_at (scope_in names.now) join.now.connector))) }
+    ensures marks { OnOk result (AreMarked (scope_in names.now) placed.new.items marks.new.items) }
 {
-    for other in placed {
-        if *other == number {
-            return true;
-        }
-    }
-    false
-}
-
-// One more connection, unless it is placed already.
-fn place_one(placed: &mut Vec<usize>, number: usize) -> Result<(), AllocError>
-    ensures { OnOk result (placed.new.items ≡ add_number placed.old.items number) }
-{
-    if !is_placed(placed, number) {
+    let number = names.connector(&join.connector);
+    if !marks[number] {
+        marks[number] = true;
         placed.push(number)?;
     }
     Ok(())
 }
 
-fn place_each(placed: &mut Vec<usize>, names: &Names, joins: &[Join]) -> Result<(), AllocError>
-    requires { HaveNumbers (scope_in names.now) joins.now }
-    ensures { OnOk result (placed.new.items ≡ fold add_number placed.old.items (numbers_of (scope_in names.now) joins.now)) }
+fn place_each(
+    placed: &mut Vec<usize>,
+    marks: &mut Vec<bool>,
+    names: &Names,
+    joins: &[Join],
+) -> Result<(), AllocError>
+    requires named { HaveNumbers (scope_in names.now) joins.now }
+    requires marks { AreMarked (scope_in names.now) placed.old.items marks.old.items }
+    ensures placed { OnOk result (placed.new.items ≡ fold add_number placed.old.items (numbers_of (scope_in names.now) joins.now)) }
+    ensures marks { OnOk result (AreMarked (scope_in names.now) placed.new.items marks.new.items) }
 {
     for join in joins {
-        place_one(placed, names.connector(&join.connector))?;
+        place_one(placed, marks, names, join)?;
     }
     Ok(())
 }
@@ -126,30 +132,45 @@ fn place_each(placed: &mut Vec<usize>, names: &Names, joins: &[Join]) -> Result<
 fn place_joined(
     alloc: Global,
     placed: &mut Vec<usize>,
+    marks: &mut Vec<bool>,
     names: &Names,
     transition: &Transition,
 ) -> Result<(), AllocError>
-    requires { NamedText (scope_in names.now) (text_of transition.now) }
-    ensures { OnOk result (placed.new.items ≡ fold add_number placed.old.items (joined (scope_in names.now) (text_of transition.now))) }
+    requires text { NamedText (scope_in names.now) (text_of transition.now) }
+    requires marks { AreMarked (scope_in names.now) placed.old.items marks.old.items }
+    ensures placed { OnOk result (placed.new.items ≡ fold add_number placed.old.items (joined (scope_in names.now) (text_of transition.now))) }
+    ensures marks { OnOk result (AreMarked (scope_in names.now) placed.new.items marks.new.items) }
 {
     let mut found = Vec::new(alloc);
     collect_joins(&mut found, names, transition)?;
-    place_each(placed, names, &found)
+    place_each(placed, marks, names, &found)
 }
 
 // The connections that one of them joins.
 fn place_more(
     alloc: Global,
     placed: &mut Vec<usize>,
+    marks: &mut Vec<bool>,
     names: &Names,
     number: usize,
 ) -> Result<(), AllocError>
     requires connections { NamedConnections (scope_in names.now) }
     requires there { number < length (process_of names.now.process.now).connections }
-    ensures { OnOk result (placed.new.items ≡ fold add_number placed.old.items (joined (scope_in names.now) (text_at (scope_in names.now) number))) }
+    requires marks { AreMarked (scope_in names.now) placed.old.items marks.old.items }
+    ensures placed { OnOk result (placed.new.items ≡ fold add_number placed.old.items (joined (scope_in names.now) (text_at (scope_in names.now) number))) }
+    ensures marks { OnOk result (AreMarked (scope_in names.now) placed.new.items marks.new.items) }
 {
     let connection = &names.process.process().connections[number];
-    place_joined(alloc, placed, names, &connection.transition)
+    place_joined(alloc, placed, marks, names, &connection.transition)
+}
+
+// No connection is placed so far.
+fn no_marks(alloc: Global, names: &Names) -> Result<Vec<bool>, AllocError>
+    ensures { IfOk result (λ marks. AreMarked (scope_in names.now) [] marks.items) }
+{
+    let count = names.process.process().connections.len();
+    let marks = vec![in alloc; false; count]?;
+    Ok(marks)
 }
 
 /// The connections that a text joins or one of them does, by number, in the order in which the code
@@ -164,11 +185,12 @@ pub(crate) fn place_connections(
     ensures { IfOk result (λ ns. ArePlaced (scope_in names.now) (text_of transition.now) ns.items) }
 {
     let mut placed = Vec::new(alloc);
-    place_joined(alloc, &mut placed, names, transition)?;
+    let mut marks = no_marks(alloc, names)?;
+    place_joined(alloc, &mut placed, &mut marks, names, transition)?;
     let mut next = 0;
     while next < placed.len() {
         let number = placed[next];
-        place_more(alloc, &mut placed, names, number)?;
+        place_more(alloc, &mut placed, &mut marks, names, number)?;
         next += 1;
     }
     Ok(placed)
