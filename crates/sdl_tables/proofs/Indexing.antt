@@ -23,7 +23,6 @@ module _ (i n : RouteIndex) (ms : List Mention) (m : Mention) (key : Passage) (a
     (old : Indexes i ms)
     (told : added ≡ not (contains same_passage i.carried key))
     (puts : (q : Passage) → contains same_passage n.carried q ≡ cond (same_passage key q) true (contains same_passage i.carried q)) where
-
   before : (b : Bool) → contains same_passage i.carried key ≡ b → list_any (is_mention m.from m.to m.signal) ms ≡ b
   before b h = sym (old.carried m.from m.to m.signal) ∙ (ap (contains same_passage i.carried) (sym way) ∙ h)
 
