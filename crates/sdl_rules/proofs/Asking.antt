@@ -1,5 +1,5 @@
 -- What is asked of the statements of a transition, over the lists in which the code keeps them.
-use Rattle.std.proofs.Common.{◌≡◌, ℕ, List, [], ◌∷◌, ◌++◌, Option, None, Some, refl, sym, ap, ◌∙◌}
+use Rattle.std.proofs.Common.{◌≡◌, ℕ, false, true≢false, List, [], ◌∷◌, ◌++◌, Option, None, Some, refl, sym, ap, ◌∙◌}
 use Rattle.std.specs.List.{flat_map}
 use Rattle.std.proofs.lemmas.List.{append-nil, append_assoc}
 use Rattle.std.proofs.lemmas.Grind.{flat_map-append}
@@ -7,9 +7,13 @@ use Rattle.sdl_tree.specs.declared.tree.End.{End}
 use Rattle.sdl_tree.specs.declared.tree.Answer.{Answer}
 use Rattle.sdl_tree.specs.declared.tree.Transition.{Transition}
 use Rattle.sdl_tree.specs.declared.tree.Statement as the_statement
-use Rattle.sdl_tree.specs.Plain.{Tree, Text, falls, Choice, PlainStatement, act, decide, before}
+use Rattle.sdl_tree.specs.Plain.{Tree, Text, falls, Choice, PlainStatement, act, decide, before, PlainProcess, PlainBlock}
 use Rattle.sdl_tree.specs.Views.{text_of, statements_before, answers_before, else_choice, end_text, plain_statement}
 use Rattle.sdl_rules.specs.Statements.{Statement, asks, covers, finishes, statements_of, choice_statements}
+use Rattle.sdl_rules.specs.Actions.{Origin}
+use Rattle.sdl_rules.specs.Asked.{asked_all, asks_origin}
+use Rattle.sdl_rules.specs.declared.statements.StatementRule.{StatementRule}
+use Rattle.sdl_rules.specs.declared.statements.StatementRule.TheVariants.{Names, Sorts, Receivers, OneReceiver, Answers, Divisors}
 use Rattle.sdl_rules.specs.Parts.{statement_parts, answer_parts, end_parts}
 use Rattle.sdl_rules.proofs.Views.{text_of-is, answer_of-is}
 
@@ -50,3 +54,13 @@ answers_asked ask q (a ∷ xs) others =
     ∙ (flat_map-append ask (answer_parts q a) (choice_statements q more)
     ∙ (ap (λ l. flat_map ask (answer_parts q a) ++ l) (answers_asked ask q xs others)
     ∙ sym (append_assoc (flat_map ask (answer_parts q a)) (flat_map (λ a. flat_map ask (answer_parts q a)) xs) (flat_map ask (choice_statements q others)))))
+
+-- what doesn't look at with what transitions begin
+pub asked_without : (rule : StatementRule) (b : PlainBlock) (p : PlainProcess) (from : List Origin) (xs : List Statement) → asks_origin rule ≡ false
+    → asked_all rule b p [] xs ≡ asked_all rule b p from xs
+asked_without Names b p from xs h = refl
+asked_without Sorts b p from xs h = refl
+asked_without Receivers b p from xs h = absurd (true≢false h)
+asked_without OneReceiver b p from xs h = refl
+asked_without Answers b p from xs h = refl
+asked_without Divisors b p from xs h = refl

@@ -5,6 +5,7 @@ pub mod Budgets
 pub mod Chancing
 pub mod Coming
 pub mod Connectors
+pub mod Gathering
 pub mod Items
 pub mod Joined
 pub mod Joiners

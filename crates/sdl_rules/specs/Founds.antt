@@ -1,8 +1,6 @@
 -- What a search for receivers tells.
 use Rattle.std.specs.Prelude.{◌≡◌, ◌<◌, List, [], ◌∷◌, length}
-use Rattle.std.specs.List.{flat_map}
 use Rattle.sdl_tree.specs.declared.tree.Party.{Party}
-use Rattle.sdl_tree.specs.Plain.{PlainPath, PlainRoute}
 use Rattle.sdl_rules.specs.declared.receivers.Recipients.{Recipients}
 use Rattle.sdl_rules.specs.declared.receivers.Recipients.TheVariants.{Nobody, One, Several}
 
@@ -11,7 +9,3 @@ abbrev pub Counts : Recipients → List Party → Type 0
 Counts Nobody parties = parties ≡ []
 Counts (One q) parties = parties ≡ q ∷ []
 Counts Several parties = 1 < length parties
-
--- the paths of some routes
-abbrev pub paths_in : List PlainRoute → List PlainPath
-paths_in routes = flat_map (λ r. r.paths) routes

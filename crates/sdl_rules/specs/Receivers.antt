@@ -1,59 +1,19 @@
--- Who gets what is sent: the parties to which the paths of routes bring a signal, and the OUTPUTs that nobody, or more
--- than one, would get. A path brings its signals in the direction in which it is written, and no other. (Z.100: signal
--- routes, output.)
-use Rattle.std.specs.Prelude.{ℕ, Bool, true, false, not, ◌&&◌, List, [], ◌∷◌, ◌++◌, Option, None, Some, if◌then◌else◌, fold, length, nat_lt}
-use Rattle.std.specs.List.{list_any, list_all, flat_map}
+-- Who gets what is sent: the OUTPUTs that nobody, or more than one, would get. (Z.100: signal routes, output.)
+use Rattle.std.specs.Prelude.{ℕ, Bool, false, not, ◌&&◌, List, [], ◌∷◌, Option, None, Some, if◌then◌else◌, length, nat_lt}
+use Rattle.std.specs.List.{list_all, flat_map}
 use Rattle.sdl_tree.specs.declared.tree.Party.{Party}
-use Rattle.sdl_tree.specs.declared.tree.Party.TheVariants.{Environment, Process}
+use Rattle.sdl_tree.specs.declared.tree.Party.TheVariants.{Process}
 use Rattle.sdl_tree.specs.declared.tree.Destination.{Destination}
 use Rattle.sdl_tree.specs.declared.tree.Destination.TheVariants as address
-use Rattle.sdl_tree.specs.Plain.{PlainSending, PlainAction, task, output, set_timer, reset_timer, PlainProcess, PlainPath, PlainBlock}
-use Rattle.sdl_tables.specs.Names.{same_name, is_in, routes_of, processes_of, timers_of}
+use Rattle.sdl_tree.specs.Plain.{PlainSending, PlainAction, task, output, set_timer, reset_timer, PlainProcess, PlainBlock}
+pub use Rattle.sdl_tables.specs.Routes.{same_party, paths_of, brings, carries, path_receivers, path_senders, add_party, receivers, senders}
+use Rattle.sdl_tables.specs.Names.{is_in, processes_of, timers_of}
 use Rattle.sdl_rules.specs.Statements.{Statement, acts, asks, covers, finishes}
 use Rattle.sdl_rules.specs.Actions.{Origin, begins, takes, in_statements}
-
--- two ways to write one party
-abbrev pub same_party : Party → Party → Bool
-same_party Environment Environment = true
-same_party Environment (Process y) = false
-same_party (Process x) Environment = false
-same_party (Process x) (Process y) = same_name x.name y.name
 
 -- a process as a party
 abbrev pub party_of : PlainProcess → Party
 party_of p = Process p.name
-
--- every path of every route, in the order of the text
-abbrev pub paths_of : PlainBlock → List PlainPath
-paths_of b = flat_map (λ r. r.paths) (routes_of b)
-
--- whether a path brings signal s from one party to another
-abbrev pub brings : Party → Party → List ℕ → PlainPath → Bool
-brings from to s path = same_party from path.from && (same_party to path.to && is_in path.signals s)
-
--- whether some path does
-abbrev pub carries : PlainBlock → Party → Party → List ℕ → Bool
-carries b from to s = list_any (brings from to s) (paths_of b)
-
--- to whom a path brings signal s from a party
-abbrev pub path_receivers : Party → List ℕ → PlainPath → List Party
-path_receivers from s path = if same_party from path.from && is_in path.signals s then path.to ∷ [] else []
-
--- from whom a path brings signal s to a party
-abbrev pub path_senders : Party → List ℕ → PlainPath → List Party
-path_senders to s path = if same_party to path.to && is_in path.signals s then path.from ∷ [] else []
-
--- one party more, unless it is there
-abbrev pub add_party : List Party → Party → List Party
-add_party parties q = if list_any (same_party q) parties then parties else parties ++ q ∷ []
-
--- the parties to which some path brings signal s from a party, each once
-abbrev pub receivers : PlainBlock → Party → List ℕ → List Party
-receivers b from s = fold add_party [] (flat_map (path_receivers from s) (paths_of b))
-
--- the parties from which some path brings signal s to a party, one as often as such a path is there
-abbrev pub senders : PlainBlock → Party → List ℕ → List Party
-senders b to s = flat_map (path_senders to s) (paths_of b)
 
 -- ---- S5: an OUTPUT that nobody would get
 

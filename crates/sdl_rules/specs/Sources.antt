@@ -1,13 +1,17 @@
 -- With what transitions begin, and to which connections they come, as the code keeps it.
-use Rattle.std.specs.Prelude.{ℕ, Bool, false, List, [], ◌∷◌, if◌then◌else◌, map, slice_get}
-use Rattle.std.specs.List.{flat_map}
+use Rattle.std.specs.Prelude.{◌≡◌, ℕ, Bool, true, false, List, [], ◌∷◌, if◌then◌else◌, map, slice_get}
+use Rattle.std.specs.List.{list_all, flat_map}
 use Rattle.std.specs.Option.{option_map_or}
-use Rattle.sdl_tree.specs.Plain.{Text, PlainInput, PlainProcess}
+use Rattle.sdl_tree.specs.Plain.{Text, PlainInput, PlainProcess, PlainBlock}
 use Rattle.sdl_tree.specs.Views.{input_of}
 use Rattle.sdl_tables.specs.Names.{input_parts}
 use Rattle.sdl_rules.specs.Joins.{reaches}
 use Rattle.sdl_rules.specs.Actions.{Origin, begins, input_origins}
+use Rattle.sdl_rules.specs.Receivers.{party_of, carries, answers_all}
 use Rattle.sdl_rules.specs.declared.sources.Reaching.{Reaching}
+use Rattle.sdl_rules.specs.declared.sources.Sender.{Sender}
+use Rattle.sdl_rules.specs.declared.sources.Sender.TheVariants.{Nobody, Party}
+use Rattle.sdl_rules.specs.declared.sources.Senders.{Senders}
 use Rattle.sdl_rules.specs.declared.sources.Source.{Source}
 use Rattle.sdl_rules.specs.declared.sources.Source.TheVariants.{Start, Input}
 
@@ -18,6 +22,20 @@ source_origins (Input i) = input_origins (input_of i.now)
 
 abbrev pub origins_of : List Source → List Origin
 origins_of sources = flat_map source_origins sources
+
+-- whether a signal gets back to who sent what a transition begins with
+abbrev pub gets_back : PlainBlock → PlainProcess → List ℕ → Sender → Bool
+gets_back b p s Nobody = false
+gets_back b p s (Party q) = carries b (party_of p) q s
+
+-- These senders are all who may have sent one of these: what they all get is what each of these allows.
+unfoldable pub AreSenders : PlainBlock → PlainProcess → List Sender → List Origin → Type 0
+AreSenders b p senders from = (s : List ℕ) → list_all (gets_back b p s) senders ≡ answers_all b p from s
+
+-- What gets back to those who were gathered is what f allows, and each party that was seen is among them.
+pub record Gathers (b : PlainBlock) (p : PlainProcess) (g : Senders) (f : List ℕ → Bool) : Type 0 where
+  pub told : (s : List ℕ) → list_all (gets_back b p s) g.list.items ≡ f s
+  pub seen : (s : List ℕ) → f s ≡ true → list_all (λ q. carries b (party_of p) q s) g.seen ≡ true
 
 -- to which connections a text comes, by number
 abbrev pub reach_row : PlainProcess → Text → List Bool

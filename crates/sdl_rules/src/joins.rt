@@ -131,16 +131,3 @@ pub(crate) fn reached_in(
     let marks = marks_from(alloc, links, &starts)?;
     Ok(marks)
 }
-
-/// The same, without the links.
-pub(crate) fn reached_by(
-    alloc: Global,
-    process: &ProcessTable,
-    transition: &Transition,
-) -> Result<Vec<bool>, AllocError>
-    ensures { IfOk result (λ marks. marks.items ≡ map (λ c. reaches (process_of process.now) (text_of transition.now) c.name.name) (process_of process.now).connections) }
-{
-    let links = find_links(alloc, process)?;
-    let marks = reached_in(alloc, process, &links, transition)?;
-    Ok(marks)
-}

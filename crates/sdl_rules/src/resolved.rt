@@ -116,6 +116,37 @@ fn check_limits(
     }
 }
 
+// What is found of a sound block.
+#[derive(Drop)]
+struct Findings {
+    sets: Vec<Vec<u32>>,
+    orders: Vec<Vec<usize>>,
+    measures: Vec<Vec<Measure>>,
+}
+
+// All rules, one after another.
+fn check_rules(alloc: Global, block: &BlockTable) -> Result<Findings, RuleFault>
+    requires { IsDistinct (block_of block.now) }
+    ensures sound { IfOk result (λ _. Sound (block_of block.now)) }
+    ensures sets { IfOk result (λ f. AllSettled (processes_of (block_of block.now)) f.sets.items) }
+    ensures orders { IfOk result (λ f. AreOrders (processes_of (block_of block.now)) f.orders.items) }
+    ensures measures { IfOk result (λ f. AllMeasures (processes_of (block_of block.now)) f.measures.items) }
+    ensures refused { IfErr result (λ e. Refuses (block_of block.now) e) }
+{
+    check_names(alloc, block)?;
+    let orders = check_joins(alloc, block)?;
+    check_answers(block)?;
+    let measures = check_limits(alloc, block, &orders)?;
+    match settle(alloc, block, &orders)? {
+        Ok(sets) => Ok(Findings {
+            sets,
+            orders,
+            measures,
+        }),
+        Err(Unset { variable, path }) => Err(RuleFault::Unset { variable, path }),
+    }
+}
+
 /// Gives a block its tables if it is sound, and else says which rule it breaks and where.
 ///
 /// Of several broken rules the least is named, by the number in its code, and of several places of
@@ -130,18 +161,20 @@ pub fn resolve<'a>(alloc: Global, block: &'a Block) -> Result<Resolved<'a>, Rule
     ensures refused { IfErr result (λ e. Refuses (block_of block.now) e) }
 {
     let table = BlockTable::new(alloc, block)?;
-    check_names(alloc, &table)?;
-    let orders = check_joins(alloc, &table)?;
-    check_answers(&table)?;
-    let measures = check_limits(alloc, &table, &orders)?;
-    match settle(alloc, &table, &orders)? {
-        Ok(sets) => Ok(Resolved {
+    match check_rules(alloc, &table) {
+        Ok(
+            Findings {
+                sets,
+                orders,
+                measures,
+            },
+        ) => Ok(Resolved {
             table,
             sets,
             orders,
             measures,
         }),
-        Err(Unset { variable, path }) => Err(RuleFault::Unset { variable, path }),
+        Err(fault) => Err(fault),
     }
 }
 

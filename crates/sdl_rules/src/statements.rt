@@ -12,7 +12,7 @@ ghost use Rattle.sdl_rules.specs.Divisors.{bad_divisors};
 ghost use Rattle.sdl_rules.specs.declared.statements.StatementRule.TheVariants.{Receivers};
 ghost use Rattle.sdl_rules.specs.Statements.{acts, covers, finishes, statements_of, choice_statements};
 ghost use Rattle.sdl_rules.specs.Actions.{Origin, begins, in_input, in_connection, in_statements};
-ghost use Rattle.sdl_rules.specs.Sources.{origins_of};
+ghost use Rattle.sdl_rules.specs.Sources.{AreSenders};
 ghost use Rattle.sdl_rules.specs.Parts.{statement_parts, question_of, decision_parts, answer_parts, end_parts};
 ghost use Rattle.sdl_rules.specs.Asked.{asked, asked_all, asks_origin};
 
@@ -24,7 +24,7 @@ use crate::names::{
 };
 use crate::receivers::{doubtful_in_action, lost_in_action};
 use crate::sorts::{wrong_declaration, wrong_in, wrong_in_action, wrong_in_ranges};
-use crate::sources::{Source, find_reaching, sources_at};
+use crate::sources::{Sender, find_reaching, input_senders, senders_at};
 use sdl_tables::{BlockTable, ProcessTable, earlier};
 use sdl_tree::{
     Action, Connection, Decision, End, Expression, InputPart, Range, Statement, Transition,
@@ -52,10 +52,11 @@ fn in_action(
     rule: StatementRule,
     block: &BlockTable,
     process: &ProcessTable,
-    from: &[Source],
+    from: &[Sender],
     action: &Action,
 ) -> Option<u32>
-    ensures { Marks result (asked rule (block_of block.now) (process_of process.now) (origins_of from.now) (acts (action_of action.now))) }
+    ensures { (os : List Origin) → AreSenders (block_of block.now) (process_of process.now) from.now os
+        → Marks result (asked rule (block_of block.now) (process_of process.now) os (acts (action_of action.now))) }
 {
     match rule {
         StatementRule::Names => unknown_in_action(block, process, action),
@@ -127,10 +128,11 @@ fn in_transition(
     rule: StatementRule,
     block: &BlockTable,
     process: &ProcessTable,
-    from: &[Source],
+    from: &[Sender],
     transition: &Transition,
 ) -> Option<u32>
-    ensures { Marks result (asked_all rule (block_of block.now) (process_of process.now) (origins_of from.now) (statements_of (text_of transition.now))) }
+    ensures { (os : List Origin) → AreSenders (block_of block.now) (process_of process.now) from.now os
+        → Marks result (asked_all rule (block_of block.now) (process_of process.now) os (statements_of (text_of transition.now))) }
 {
     let mut place = None;
     for statement in &transition.statements {
@@ -144,10 +146,11 @@ fn in_statement(
     rule: StatementRule,
     block: &BlockTable,
     process: &ProcessTable,
-    from: &[Source],
+    from: &[Sender],
     statement: &Statement,
 ) -> Option<u32>
-    ensures { Marks result (asked_all rule (block_of block.now) (process_of process.now) (origins_of from.now) (statement_parts statement.now)) }
+    ensures { (os : List Origin) → AreSenders (block_of block.now) (process_of process.now) from.now os
+        → Marks result (asked_all rule (block_of block.now) (process_of process.now) os (statement_parts statement.now)) }
 {
     match statement {
         Statement::Act(action) => in_action(rule, block, process, from, action),
@@ -160,10 +163,11 @@ fn in_decision(
     rule: StatementRule,
     block: &BlockTable,
     process: &ProcessTable,
-    from: &[Source],
+    from: &[Sender],
     decision: &Decision,
 ) -> Option<u32>
-    ensures { Marks result (asked_all rule (block_of block.now) (process_of process.now) (origins_of from.now) (decision_parts decision.now)) }
+    ensures { (os : List Origin) → AreSenders (block_of block.now) (process_of process.now) from.now os
+        → Marks result (asked_all rule (block_of block.now) (process_of process.now) os (decision_parts decision.now)) }
 {
     let question = in_question(rule, process, decision);
     let mut place = None;
@@ -184,10 +188,11 @@ fn in_else(
     rule: StatementRule,
     block: &BlockTable,
     process: &ProcessTable,
-    from: &[Source],
+    from: &[Sender],
     otherwise: &Option<Transition>,
 ) -> Option<u32>
-    ensures { (q : Tree) → Marks result (asked_all rule (block_of block.now) (process_of process.now) (origins_of from.now) (choice_statements q (else_choice otherwise.now))) }
+    ensures { (q : Tree) (os : List Origin) → AreSenders (block_of block.now) (process_of process.now) from.now os
+        → Marks result (asked_all rule (block_of block.now) (process_of process.now) os (choice_statements q (else_choice otherwise.now))) }
 {
     match otherwise {
         None => None,
@@ -199,19 +204,20 @@ fn in_start(rule: StatementRule, block: &BlockTable, process: &ProcessTable) -> 
     ensures { Marks result (flat_map (asked rule (block_of block.now) (process_of process.now) (begins ∷ [])) (statements_of (process_of process.now).start.text)) }
 {
     let transition = &process.process().start.transition;
-    in_transition(rule, block, process, &[Source::Start], transition)
+    in_transition(rule, block, process, &[Sender::Nobody], transition)
 }
 
+// What a rule asks that doesn't look at with what transitions begin.
 fn in_input(
     rule: StatementRule,
     block: &BlockTable,
     process: &ProcessTable,
     input: &InputPart,
 ) -> Option<u32>
+    requires { asks_origin rule ≡ false }
     ensures { Marks result (in_input (asked rule (block_of block.now) (process_of process.now)) (input_of input.now)) }
 {
-    let from = [Source::Input(input)];
-    in_transition(rule, block, process, &from, &input.transition)
+    in_transition(rule, block, process, &[], &input.transition)
 }
 
 fn in_inputs(
@@ -220,6 +226,7 @@ fn in_inputs(
     process: &ProcessTable,
     inputs: &[&InputPart],
 ) -> Option<u32>
+    requires { asks_origin rule ≡ false }
     ensures { Marks result (flat_map (in_input (asked rule (block_of block.now) (process_of process.now))) (map (λ i. input_of i.now) inputs.now)) }
 {
     let mut place = None;
@@ -229,7 +236,6 @@ fn in_inputs(
     place
 }
 
-// What a rule asks that doesn't look at with what transitions begin.
 fn in_connection(
     rule: StatementRule,
     block: &BlockTable,
@@ -280,6 +286,35 @@ fn in_processes(rule: StatementRule, block: &BlockTable, processes: &[ProcessTab
     place
 }
 
+// The place of a signal in an INPUT's transition that nobody gets.
+fn lost_in_input(
+    alloc: Global,
+    block: &BlockTable,
+    process: &ProcessTable,
+    input: &InputPart,
+) -> Result<Option<u32>, AllocError>
+    ensures { IfOk result (λ place. Marks place (in_input (asked Receivers (block_of block.now) (process_of process.now)) (input_of input.now))) }
+{
+    let senders = input_senders(alloc, block, process, input)?;
+    let rule = StatementRule::Receivers;
+    Ok(in_transition(rule, block, process, &senders, &input.transition))
+}
+
+fn lost_in_inputs(
+    alloc: Global,
+    block: &BlockTable,
+    process: &ProcessTable,
+    inputs: &[&InputPart],
+) -> Result<Option<u32>, AllocError>
+    ensures { IfOk result (λ place. Marks place (flat_map (in_input (asked Receivers (block_of block.now) (process_of process.now))) (map (λ i. input_of i.now) inputs.now))) }
+{
+    let mut place = None;
+    for input in inputs {
+        place = earlier(place, lost_in_input(alloc, block, process, input)?);
+    }
+    Ok(place)
+}
+
 // The place of a signal in a connection that nobody gets: TO SENDER is asked with every transition that comes there.
 fn lost_in_connections(
     alloc: Global,
@@ -293,9 +328,9 @@ fn lost_in_connections(
     let rows = find_reaching(alloc, process)?;
     let mut place = None;
     for (number, connection) in connections.iter().enumerate() {
-        let sources = sources_at(alloc, &rows, number)?;
+        let senders = senders_at(alloc, block, process, &rows, number)?;
         let rule = StatementRule::Receivers;
-        let lost = in_transition(rule, block, process, &sources, &connection.transition);
+        let lost = in_transition(rule, block, process, &senders, &connection.transition);
         place = earlier(place, lost);
     }
     Ok(place)
@@ -309,7 +344,7 @@ fn lost_in_process(
     ensures { IfOk result (λ place. Marks place (in_statements (asked Receivers (block_of block.now) (process_of process.now)) (process_of process.now))) }
 {
     let start = in_start(StatementRule::Receivers, block, process);
-    let inputs = in_inputs(StatementRule::Receivers, block, process, process.parts());
+    let inputs = lost_in_inputs(alloc, block, process, process.parts())?;
     let connections = &process.process().connections;
     let beyond = earlier(
         inputs,

@@ -1,11 +1,13 @@
-use Rattle.std.proofs.Common.{map, take}
+use Rattle.std.proofs.Common.{List, map, take}
 use Rattle.std.specs.List.{flat_map}
+use Rattle.sdl_rules.specs.Actions.{Origin}
 use Rattle.sdl_rules.specs.Receivers.{lost_sending}
 use Rattle.sdl_tables.specs.Scopes.{Marks}
 use Rattle.sdl_tree.specs.Views.{block_of, process_of, sending_of}
-use Rattle.sdl_rules.specs.Sources.{origins_of}
+use Rattle.sdl_rules.specs.Sources.{AreSenders}
 use Rattle.sdl_rules.proofs.receivers.lost_sendings.Given as goal
 
 abbrev pub invariant-loop-sending : goal.invariant-loop-sending
 invariant-loop-sending l =
-    Marks l.place (flat_map (lost_sending (block_of l.block) (process_of l.process) (origins_of l.from) l.to) (map sending_of (take l.sending-index l.sendings)))
+    (os : List Origin) → AreSenders (block_of l.block) (process_of l.process) l.from os
+    → Marks l.place (flat_map (lost_sending (block_of l.block) (process_of l.process) os l.to) (map sending_of (take l.sending-index l.sendings)))
