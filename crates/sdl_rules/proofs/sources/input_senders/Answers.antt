@@ -1,4 +1,4 @@
-use Rattle.std.proofs.Common.{◌≡◌, ◌∙◌, List, map, ap}
+use Rattle.std.proofs.Common.{◌∙◌, List, map, ap}
 use Rattle.sdl_tree.specs.declared.tree.Stimulus.{Stimulus}
 use Rattle.sdl_tree.specs.Views.{block_of, process_of, stimulus_of}
 use Rattle.sdl_rules.specs.Actions.{takes}

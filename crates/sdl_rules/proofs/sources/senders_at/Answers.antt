@@ -1,4 +1,4 @@
-use Rattle.std.proofs.Common.{◌≡◌, ◌∙◌, ◌&&◌, ◌+◌, true, false, map, take, ap, sym, subst, take_all, Bool, List, []}
+use Rattle.std.proofs.Common.{◌≡◌, ◌∙◌, ◌&&◌, ◌+◌, true, false, map, take, ap, sym, subst, take_all, Bool, List}
 use Rattle.sdl_tree.specs.Views.{block_of, process_of}
 use Rattle.sdl_rules.specs.Receivers.{answers_all}
 use Rattle.sdl_rules.specs.Sources.{AreSenders, Gathers, row_of, origins_at, source_origins, is_marked}

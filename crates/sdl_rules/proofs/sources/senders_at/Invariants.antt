@@ -1,4 +1,4 @@
-use Rattle.std.proofs.Common.{◌&&◌, true, map, take}
+use Rattle.std.proofs.Common.{map, take}
 use Rattle.sdl_tree.specs.Views.{block_of, process_of}
 use Rattle.sdl_rules.specs.Receivers.{answers_all}
 use Rattle.sdl_rules.specs.Sources.{Gathers, row_of, origins_at}

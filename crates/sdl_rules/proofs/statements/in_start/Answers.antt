@@ -1,4 +1,4 @@
-use Rattle.std.proofs.Common.{[], ◌∷◌, refl, subst, List}
+use Rattle.std.proofs.Common.{[], ◌∷◌, refl, subst}
 use Rattle.sdl_tree.specs.declared.tree.Process as the_process
 use Rattle.sdl_tree.specs.Views.{block_of, process_of}
 use Rattle.sdl_tables.specs.Scopes.{Marks}

@@ -1,9 +1,9 @@
-use Rattle.std.proofs.Common.{◌≡◌, ◌∙◌, ◌&&◌, sym, ap, true≢false}
+use Rattle.std.proofs.Common.{◌∙◌, ◌&&◌, sym, ap, true≢false}
 use Rattle.std.specs.List.{list_any}
 use Rattle.sdl_rules.specs.declared.sources.Senders.{Senders}
 use Rattle.sdl_rules.specs.declared.sources.Sender.{Sender}
 use Rattle.sdl_rules.specs.Receivers.{same_party, party_of, carries}
-use Rattle.sdl_rules.specs.Sources.{Gathers, gets_back}
+use Rattle.sdl_rules.specs.Sources.{gets_back}
 use Rattle.sdl_rules.proofs.Gathering.{gather_same, gather_there, not_is}
 use Rattle.sdl_rules.proofs.sources.Senders.add.Goals as goal
 use Rattle.sdl_rules.proofs.sources.Senders.add.Goals.{in-Nobody, in-Party+in_ok-new-in-Party}
