@@ -1,7 +1,8 @@
--- A sound block is refused for want of memory alone.
+-- A sound block is refused for want of memory alone, and its set too.
 use Rattle.std.proofs.Common.{◌≡◌, ℕ, List, [], Option, None, Some, refl, sym, subst, ◌∙◌, arith}
-use Rattle.std.specs.Prelude.{Contains}
+use Rattle.std.specs.Prelude.{Contains, Result, Ok, Err, IfOk, IfErr, IsOkUnless}
 use Rattle.std.proofs.lemmas.List.Elements.{All-contains}
+use Rattle.sdl_lex.specs.declared.lexemes.Token.{Token}
 use Rattle.sdl_tree.specs.Plain.{PlainBlock}
 use Rattle.sdl_tables.specs.Names.{processes_of}
 use Rattle.sdl_rules.specs.Paths.{NeverReadsUnset}
@@ -9,6 +10,9 @@ use Rattle.sdl_rules.specs.Refusals.{Sound, Refuses}
 use Rattle.sdl_rules.specs.declared.fault.Limit.{Limit as limit}
 use Rattle.sdl_rules.specs.declared.fault.RuleFault.{RuleFault}
 use Rattle.sdl_rules.specs.declared.fault.RuleFault.TheVariants.{DoubleName, UnknownName, WrongSort, NoState, NoReceiver, TwoReceivers, JoinCycle, NoAnswer, BadDivisor, Limit, Unset, NoMemory}
+use Rattle.turn_verify.specs.Loaded.{Gives, IsRead, IsRefused}
+use Rattle.turn_verify.specs.declared.loading.LoadFault.{LoadFault}
+use Rattle.turn_verify.specs.declared.loading.LoadFault.TheVariants as loading
 
 -- nothing is in no list
 nowhere : (places : List ℕ) (place : ℕ) → places ≡ [] → Contains places place → ⊥
@@ -32,3 +36,12 @@ no_refusal b (Limit which) sound refuses =
 no_refusal b (Unset x path) sound refuses =
     absurd (All-contains NeverReadsUnset (processes_of b) refuses.1 sound.set refuses.2 path.steps.items x refuses.3)
 no_refusal b NoMemory sound refuses = refl
+
+-- what is given unless memory is wanting
+pub gives_unless : {A : Type 0} (r : Result A LoadFault) (P : A → Type 0) → IfOk r P → IsOkUnless r loading.NoMemory → Gives r P
+gives_unless (Ok x) P given memory = given
+gives_unless (Err e) P given memory = subst (λ f. Gives (Err f) P) (sym memory) tt
+
+pub refused_unless : {A : Type 0} (r : Result A LoadFault) (text : List ℕ) (b : PlainBlock) → IsOkUnless r loading.NoMemory → IfErr r (λ e. (ts : List Token) → IsRead text ts b → IsRefused text e)
+refused_unless (Ok x) text b memory = tt
+refused_unless (Err e) text b memory = λ ts read. subst (IsRefused text) (sym memory) tt
