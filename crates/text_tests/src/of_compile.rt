@@ -7,7 +7,7 @@ use std::alloc::Global;
 use std::test::Fail;
 use turn_code::{
     Cert, Draft, DraftProcess, Instruction, Party, ProcessNumber, Receiver, SignalNumber, Sort,
-    StateNumber, TimerNumber, Trigger, VariableNumber,
+    StateNumber, TimerNumber, Trigger, Value, VariableNumber,
 };
 
 const COUNTER: &str = "BLOCK B; SIGNAL Up(Integer);
@@ -106,6 +106,12 @@ fn the_counter_has_its_certificates(rt: HostRuntime) -> Result<(), Fail> {
 fn the_alarm_has_its_timer_and_what_it_saves(rt: HostRuntime) -> Result<(), Fail> {
     let draft = draft_of(rt.alloc(), ALARM)?;
     let process = the_process(&draft)?;
+    let [late] = process.variables.as_slice() else {
+        return Err(Fail::from("one variable"));
+    };
+    assert_eq!(rt; late.name.as_bytes(), b"late".as_slice());
+    assert_eq!(rt; late.sort, Sort::Boolean);
+    assert_eq!(rt; late.initial, Some(Value::Bool(false)));
     let start = Cert {
         budget: 3,
         depth: 1,
