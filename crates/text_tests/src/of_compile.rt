@@ -34,6 +34,12 @@ STATE Wait; SAVE Hold; INPUT t; OUTPUT Told(NOT late); STOP;
 ENDSTATE Wait; ENDPROCESS P; ENDBLOCK B;
 ";
 
+/// Both answers of a question lead to one connection.
+const TWICE: &str = "BLOCK B; PROCESS P; DCL b Boolean := TRUE;
+START; DECISION b; (TRUE): JOIN c; (FALSE): JOIN c; ENDDECISION;
+CONNECTION c: STOP; ENDCONNECTION; ENDPROCESS; ENDBLOCK;
+";
+
 /// The draft of a sound text.
 fn draft_of(alloc: Global, text: &str) -> Result<Draft, Fail> {
     let found = tokens(alloc, text)?;
@@ -145,5 +151,19 @@ fn operators_count_on_the_longest_path(rt: HostRuntime) -> Result<(), Fail> {
         effects: 0,
     };
     assert_eq!(rt; input.piece.certificate, up);
+    Ok(())
+}
+
+#[test]
+fn a_connection_stands_once_behind_both_answers(rt: HostRuntime) -> Result<(), Fail> {
+    let draft = draft_of(rt.alloc(), TWICE)?;
+    let piece = &the_process(&draft)?.start;
+    assert_eq!(rt; piece.code.len(), 5);
+    let start = Cert {
+        budget: 4,
+        depth: 1,
+        effects: 0,
+    };
+    assert_eq!(rt; piece.certificate, start);
     Ok(())
 }
