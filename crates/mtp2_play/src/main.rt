@@ -42,13 +42,18 @@ fn answer<R: Runtime + AllocGlobal>(rt: &R, error: &Error) -> u8 {
     if error.use_stderr() { USAGE } else { HELD }
 }
 
+/// Does what the words of a command line say, the program's own name first. Gives the exit status.
+fn serve<R: Runtime + AllocGlobal>(rt: &R, given: &[String]) -> u8 {
+    match words::read(rt.alloc(), given) {
+        Ok(request) => run(rt, &request),
+        Err(error) => answer(rt, &error),
+    }
+}
+
 /// Reads the command line, and does what it says.
 fn start<R: Runtime + AllocGlobal>(rt: &R) -> io::Result<u8> {
     let given: Vec<String> = env::args(rt)?.collect(rt.alloc())?;
-    match words::read(rt.alloc(), given.as_slice()) {
-        Ok(request) => Ok(run(rt, &request)),
-        Err(error) => Ok(answer(rt, &error)),
-    }
+    Ok(serve(rt, given.as_slice()))
 }
 
 fn main(rt: HostRuntime) -> ExitCode {

@@ -1,5 +1,6 @@
-use crate::{frame, words};
+use crate::{Request, frame, serve, words};
 use std::alloc::Global;
+use std::fs;
 use std::io::{self, Write};
 use std::test::Fail;
 
@@ -111,25 +112,95 @@ fn stops_at_a_failed_write(rt: HostRuntime) -> Result<(), Fail> {
     Ok(())
 }
 
-/// Whether the words are a command line of the program.
-fn is_read(alloc: Global, given: &[&str]) -> Result<bool, Fail> {
+/// The words of a command line.
+fn line(alloc: Global, given: &[&str]) -> Result<Vec<String>, Fail> {
     let mut line = Vec::new(alloc);
     for word in given {
         line.push(String::from_str(alloc, word)?)?;
     }
-    Ok(words::read(alloc, line.as_slice()).is_ok())
+    Ok(line)
+}
+
+/// What a command line asks for, with its command in front; nothing where it is none.
+fn asked(alloc: Global, given: &[&str]) -> Result<String, Fail> {
+    let line = line(alloc, given)?;
+    match words::read(alloc, line.as_slice()) {
+        Ok(Request::Check { set }) => Ok(format!(in alloc; "check {set}")?),
+        Ok(Request::Frame { octets }) => Ok(format!(in alloc; "frame {octets}")?),
+        Err(_) => Ok(String::new(alloc)),
+    }
 }
 
 #[test]
 fn reads_the_command_line(rt: HostRuntime) -> Result<(), Fail> {
-    assert!(rt; is_read(rt.alloc(), &["mtp2_play", "frame", "FF"])?);
-    assert!(rt; is_read(rt.alloc(), &["mtp2_play", "frame", ""])?);
-    assert!(rt; is_read(rt.alloc(), &["mtp2_play", "check", "stdin"])?);
-    assert!(rt; !is_read(rt.alloc(), &["mtp2_play", "check", "standard"])?);
-    assert!(rt; !is_read(rt.alloc(), &["mtp2_play", "check"])?);
-    assert!(rt; !is_read(rt.alloc(), &["mtp2_play"])?);
-    assert!(rt; !is_read(rt.alloc(), &["mtp2_play", "frame"])?);
-    assert!(rt; !is_read(rt.alloc(), &["mtp2_play", "frame", "-F"])?);
-    assert!(rt; !is_read(rt.alloc(), &["mtp2_play", "soak", "x"])?);
+    let alloc = rt.alloc();
+    assert_eq!(rt;
+        asked(alloc, &["mtp2_play", "frame", "FF"])?.as_str(),
+        "frame FF"
+    );
+    assert_eq!(rt;
+        asked(alloc, &["mtp2_play", "frame", ""])?.as_str(),
+        "frame "
+    );
+    assert_eq!(rt;
+        asked(alloc, &["mtp2_play", "check", "stdin"])?.as_str(),
+        "check stdin"
+    );
+    assert_eq!(rt;
+        asked(alloc, &["mtp2_play", "check", "./standard"])?.as_str(),
+        "check ./standard"
+    );
+    assert_eq!(rt;
+        asked(alloc, &["mtp2_play", "check", "standard"])?.as_str(),
+        ""
+    );
+    assert_eq!(rt;
+        asked(alloc, &["mtp2_play", "check", "monitors"])?.as_str(),
+        ""
+    );
+    assert_eq!(rt; asked(alloc, &["mtp2_play", "check"])?.as_str(), "");
+    assert_eq!(rt;
+        asked(alloc, &["mtp2_play", "check", "a", "b"])?.as_str(),
+        ""
+    );
+    assert_eq!(rt; asked(alloc, &["mtp2_play"])?.as_str(), "");
+    assert_eq!(rt; asked(alloc, &["mtp2_play", "frame"])?.as_str(), "");
+    assert_eq!(rt; asked(alloc, &["mtp2_play", "frame", "-F"])?.as_str(), "");
+    assert_eq!(rt; asked(alloc, &["mtp2_play", "soak", "x"])?.as_str(), "");
+    Ok(())
+}
+
+/// The exit status of a command line.
+fn status(rt: &HostRuntime, given: &[&str]) -> Result<u8, Fail> {
+    let line = line(rt.alloc(), given)?;
+    Ok(serve(rt, line.as_slice()))
+}
+
+#[test]
+fn ends_with_the_status_of_what_was_asked(rt: HostRuntime) -> Result<(), Fail> {
+    assert_eq!(rt; status(&rt, &["mtp2_play", "--help"])?, 0);
+    assert_eq!(rt; status(&rt, &["mtp2_play", "check", "--help"])?, 0);
+    assert_eq!(rt; status(&rt, &["mtp2_play"])?, 3);
+    assert_eq!(rt; status(&rt, &["mtp2_play", "check"])?, 3);
+    assert_eq!(rt; status(&rt, &["mtp2_play", "check", "standard"])?, 3);
+    assert_eq!(rt; status(&rt, &["mtp2_play", "play", "x"])?, 3);
+    assert_eq!(rt; status(&rt, &["mtp2_play", "frame", "FFFF00FFFF"])?, 0);
+    assert_eq!(rt; status(&rt, &["mtp2_play", "frame", "FFFF00FFFE"])?, 2);
+    assert_eq!(rt;
+        status(&rt, &["mtp2_play", "check", "nowhere/none.sdl"])?,
+        4
+    );
+    Ok(())
+}
+
+/// Standard input has no text here, so that a status 0 is that of the file.
+#[test]
+fn checks_the_file_that_is_named(rt: HostRuntime) -> Result<(), Fail> {
+    let text = "BLOCK B; PROCESS P; START; STOP; ENDPROCESS; ENDBLOCK;";
+    fs::write(&rt, "least.sdl", text)?;
+    assert_eq!(rt; status(&rt, &["mtp2_play", "check", "least.sdl"])?, 0);
+    fs::write(&rt, "least.sdl", "BLOCK B;")?;
+    assert_eq!(rt; status(&rt, &["mtp2_play", "check", "least.sdl"])?, 2);
+    assert_eq!(rt; status(&rt, &["mtp2_play", "check", "stdin"])?, 2);
     Ok(())
 }

@@ -21,9 +21,9 @@ use Rattle.sdl_compile.specs.Declarations.{drafted_variables, trigger_of, trigge
 
 -- ---- what a draft says
 
--- On every input that comes from who may have sent it, the run of the piece is the meaning of the transition: its effects,
--- its variables, its end and its count (one that doesn't fit is stuck in the same way). The code stands in its order, the bodies of a DECISION with ELSE first and
--- the connections behind all, each once. The certificate names the longest path, and the code has as many instructions as the text says.
+-- On every input that comes from who may have sent it (where no route brings it there is none), the run of the piece is the meaning of the transition: its
+-- effects, its variables, its end and its count (one that doesn't fit is stuck in the same way). The code stands in its order: of an Integer DECISION the body of ELSE
+-- before the answers', and the connections behind all, each once. The certificate names the longest path, and the code has as many instructions as the text says.
 pub record Means (c : Scope) (from : Option Identifier) (q : Piece) (d : DraftPiece) : Type 0 where
   pub run_is_act : (x : code_input.Input) → IsSentTo c from x.sender → run d.code x ≡ Act c q x
   pub code : IsCodeOf c q d.code

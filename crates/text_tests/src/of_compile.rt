@@ -7,7 +7,7 @@ use std::alloc::Global;
 use std::test::Fail;
 use turn_code::{
     Cert, Draft, DraftProcess, Instruction, Party, ProcessNumber, Receiver, SignalNumber, Sort,
-    StateNumber, TimerNumber, Trigger, VariableNumber,
+    StateNumber, TimerNumber, Trigger, Value, VariableNumber,
 };
 
 const COUNTER: &str = "BLOCK B; SIGNAL Up(Integer);
@@ -32,6 +32,12 @@ PROCESS P (1,1); DCL late Boolean := FALSE; TIMER t;
 START; SET(NOW + 5, t); NEXTSTATE Wait;
 STATE Wait; SAVE Hold; INPUT t; OUTPUT Told(NOT late); STOP;
 ENDSTATE Wait; ENDPROCESS P; ENDBLOCK B;
+";
+
+/// Both answers of a question lead to one connection.
+const TWICE: &str = "BLOCK B; PROCESS P; DCL b Boolean := TRUE;
+START; DECISION b; (TRUE): JOIN c; (FALSE): JOIN c; ENDDECISION;
+CONNECTION c: STOP; ENDCONNECTION; ENDPROCESS; ENDBLOCK;
 ";
 
 /// The draft of a sound text.
@@ -106,6 +112,12 @@ fn the_counter_has_its_certificates(rt: HostRuntime) -> Result<(), Fail> {
 fn the_alarm_has_its_timer_and_what_it_saves(rt: HostRuntime) -> Result<(), Fail> {
     let draft = draft_of(rt.alloc(), ALARM)?;
     let process = the_process(&draft)?;
+    let [late] = process.variables.as_slice() else {
+        return Err(Fail::from("one variable"));
+    };
+    assert_eq!(rt; late.name.as_bytes(), b"late".as_slice());
+    assert_eq!(rt; late.sort, Sort::Boolean);
+    assert_eq!(rt; late.initial, Some(Value::Bool(false)));
     let start = Cert {
         budget: 3,
         depth: 1,
@@ -139,5 +151,19 @@ fn operators_count_on_the_longest_path(rt: HostRuntime) -> Result<(), Fail> {
         effects: 0,
     };
     assert_eq!(rt; input.piece.certificate, up);
+    Ok(())
+}
+
+#[test]
+fn a_connection_stands_once_behind_both_answers(rt: HostRuntime) -> Result<(), Fail> {
+    let draft = draft_of(rt.alloc(), TWICE)?;
+    let piece = &the_process(&draft)?.start;
+    assert_eq!(rt; piece.code.len(), 5);
+    let start = Cert {
+        budget: 4,
+        depth: 1,
+        effects: 0,
+    };
+    assert_eq!(rt; piece.certificate, start);
     Ok(())
 }

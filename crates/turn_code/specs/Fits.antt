@@ -27,7 +27,7 @@ HaveSorts xs vs = AllZip HasSort xs vs
 abbrev pub AreSet : VariableSet → List (Option Value) → Type 0
 AreSet s vs = (v : ℕ) → Has s v → (x : Value) × (slice_get vs v ≡ Some (Some x))
 
--- a signal comes from its sender by a route; START and a timer come by none
+-- a signal comes from its sender by a route; nothing is asked of START and of a timer
 abbrev pub IsBrought : Draft → ℕ → Option Trigger → Option Party → Type 0
 IsBrought d p None sender = Unit {0}
 IsBrought d p (Some (Timer n)) sender = Unit {0}
