@@ -12,7 +12,7 @@ use Rattle.unset_paths.specs.declared.Summary.{Summary}
 use Rattle.unset_paths.specs.declared.Graph.{Graph}
 use Rattle.unset_paths.specs.declared.Step.{Step}
 use Rattle.unset_paths.specs.declared.Step.TheVariants.{Start, Input}
-use Rattle.unset_paths.specs.Graph.{has, Place, Leads, Passes, ReadsFrom, ReadsUnset, Reached, IsSeen, Covers, IsSafe, IsExpanded, IsClosed, IsClosedSet}
+use Rattle.unset_paths.specs.Graph.{has, Place, Leads, Passes, ReadsFrom, ReadsUnset, Reached, IsSeen, Covers, IsSafe, IsExpanded, IsClosed, IsClosedSet, AreEntered}
 use Rattle.unset_paths.specs.Visits.{unseen, AreSafe, Grows, Enters, IsBy, IsByInput, ReadsBy, AreReached, AreVisited, AreExpanded}
 
 -- one step more, which reads x
@@ -160,6 +160,13 @@ closed_by g x next seen visits states past visited expanded s here = elim (cases
       subst P found.2 (expanded k found.0 (omega (arith, within, past)) at)
   | inr ge ↦ expanded_past g x s seen (omega (arith, ge, states))
 ]
+
+-- a state that was seen has a visit, and so a path to it
+pub entered_by : (g : Graph) (x : ℕ) (seen : List Bool) (visits : List Visit) → AreReached g x visits → AreVisited seen visits → AreEntered g x seen
+entered_by g x seen visits reached visited s here =
+    let found = visited s here in
+    let P : ℕ → Type 0 = λ q. Reached g x None found.0.path.items q in
+    (found.0.path.items, subst P found.2 (reached found.0 found.1))
 
 -- what stands at a place is in the list
 reached_place : {A : Type 0} (xs : List A) (k : ℕ) (a : A) → slice_get xs k ≡ Some a → Contains xs a

@@ -85,6 +85,10 @@ pub record IsClosedSet (g : Graph) (x : ℕ) (marks : List Bool) : Type 0 where
   pub start : IsSafe g.start x marks
   pub states : IsClosed g x marks
 
+-- A path leads to each marked state, and doesn't set x on the way.
+abbrev pub AreEntered : Graph → ℕ → List Bool → Type 0
+AreEntered g x marks = (s : ℕ) → slice_get marks s ≡ Some true → (path : List Step) × Reached g x None path s
+
 -- ---- what becomes of a variable
 
 abbrev pub IfUnset : Fate → (Vec Step → Type 0) → Type 0

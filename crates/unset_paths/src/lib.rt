@@ -2,7 +2,7 @@
 #![tactic(auto)]
 
 ghost use Rattle.std.specs.Prelude.{◌≡◌, ℕ, ◌<◌, ◌+◌, List, [], ◌∷◌, ◌++◌, length, IfOk, OnOk, IfSome, IfNone, vec_len};
-ghost use Rattle.unset_paths.specs.Graph.{has, ReadsUnset, IsSeen, Covers, IsClosed, IsClosedSet, IfUnset, IfSet};
+ghost use Rattle.unset_paths.specs.Graph.{has, ReadsUnset, IsSeen, Covers, IsClosed, IsClosedSet, AreEntered, IfUnset, IfSet};
 ghost use Rattle.unset_paths.specs.Visits.{unseen, Grows, Adds, Enters, IsBy, IsByInput, ReadsBy, AreSafe, AreReached, AreVisited};
 
 use std::alloc::{AllocError, Global};
@@ -154,6 +154,7 @@ pub fn first_unset(alloc: Global, graph: &Graph, variable: u32) -> Result<Fate, 
     ensures found { IfOk result (λ f. IfUnset f (λ path. ReadsUnset graph.now variable path.items)) }
     ensures none { IfOk result (λ f. IfSet f (λ _. (path : List Step) → ReadsUnset graph.now variable path → ⊥)) }
     ensures closed { IfOk result (λ f. IfSet f (λ marks. IsClosedSet graph.now variable marks.items)) }
+    ensures entered { IfOk result (λ f. IfSet f (λ marks. AreEntered graph.now variable marks.items)) }
 {
     let start = extended(alloc, &[], Step::Start)?;
     if contains(graph.start.reads, variable) {
@@ -192,6 +193,7 @@ fn search(
     ensures states { OnOk result (length seen.new.items ≡ length seen.old.items) }
     ensures stays { OnOk result ((s : ℕ) → IsSeen seen.old.items s → IsSeen seen.new.items s) }
     ensures none { IfOk result (λ o. IfNone o (IsClosed graph.now variable seen.new.items)) }
+    ensures entered { IfOk result (λ o. IfNone o (AreEntered graph.now variable seen.new.items)) }
 {
     let mut next = 0;
     while next < visits.len() {

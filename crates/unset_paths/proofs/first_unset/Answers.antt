@@ -1,6 +1,6 @@
 use Rattle.std.proofs.Common.{◌≡◌, [], rules, arith, refl, sym, ap, ◌∙◌, Option, length, List, Bool, false, subst, Vec, Global}
 use Rattle.std.specs.Prelude.{IfNone, replicate}
-use Rattle.unset_paths.specs.Graph.{IsClosed, ReadsUnset, has, Covers}
+use Rattle.unset_paths.specs.Graph.{IsClosed, AreEntered, ReadsUnset, has, Covers}
 use Rattle.unset_paths.specs.Visits.{Enters, IsBy, AreVisited, unseen}
 use Rattle.unset_paths.specs.declared.Step.{Step}
 use Rattle.unset_paths.specs.declared.Visit.{Visit}
@@ -48,3 +48,7 @@ returns-clause-closed c =
 
 pub returns-clause-none : goal.returns-clause-none
 returns-clause-none c = none_with c.args.graph.now c.args.variable c.search.new.seen.items (returns-clause-closed c)
+
+pub returns-clause-entered : goal.returns-clause-entered
+returns-clause-entered c =
+    subst (λ (o : Option (Vec Step Global)). IfNone o (AreEntered c.args.graph.now c.args.variable c.search.new.seen.items)) c.in-None.is c.in_ok-path.ensures.entered

@@ -3,7 +3,7 @@ use Rattle.std.specs.Prelude.{slice_get}
 use Rattle.std.proofs.lemmas.Option.{slice_get_read, get_or_from_slice_get}
 use Rattle.unset_paths.specs.Graph.{Reached}
 use Rattle.unset_paths.specs.Visits.{Enters, IsByInput, AreSafe}
-use Rattle.unset_paths.proofs.Walking.{Progress, progress_on, progress_past, closed_by, found_by, some_weaker, when_none}
+use Rattle.unset_paths.proofs.Walking.{Progress, progress_on, progress_past, closed_by, entered_by, found_by, some_weaker, when_none}
 use Rattle.unset_paths.proofs.search.Goals as goal
 use Rattle.unset_paths.proofs.search.Goals.{then-state-len+in_ok-found+else-is_some+in-Some-1, then-state-len+in_ok-found+else-is_some+in-None-1, else-state-len}
 
@@ -95,3 +95,7 @@ pub returns-clause-none : goal.returns-clause-none
 returns-clause-none c =
     closed_by c.args.graph.now c.args.variable c.loop-next.next c.loop-next.seen.items c.loop-next.visits.items
     (c.loop-next.invariant.states ∙ search rules) (search rules) c.loop-next.invariant.visited c.loop-next.invariant.expanded
+
+pub returns-clause-entered : goal.returns-clause-entered
+returns-clause-entered c =
+    entered_by c.args.graph.now c.args.variable c.loop-next.seen.items c.loop-next.visits.items c.loop-next.invariant.reached c.loop-next.invariant.visited
