@@ -1,5 +1,5 @@
 //! Parties, each once.
-ghost use Rattle.std.specs.Prelude.{◌≡◌, [], length, IfOk, OnOk, not, slice_get};
+ghost use Rattle.std.specs.Prelude.{◌≡◌, [], length, IfOk, OnOk, OnErr, not, slice_get};
 ghost use Rattle.std.specs.List.{list_any};
 ghost use Rattle.sdl_tables.specs.Routes.{same_party, add_party};
 
@@ -53,10 +53,11 @@ impl PartyTable {
         Some(*party)
     }
 
-    /// Adds a party, unless it is there: `false` then.
+    /// Adds a party, unless it is there: `false` then. Without memory nothing changes.
     pub fn add(&mut self, party: Party) -> Result<bool, AllocError>
         ensures added { IfOk result (λ new. new ≡ not (list_any (same_party party) self.old)) }
         ensures parties { OnOk result (self.new ≡ add_party self.old party) }
+        ensures err { OnErr result (self.new ≡ self.old) }
     {
         let side: Side = side_of(&party);
         if self.entries.contains_key(&side) {
