@@ -235,6 +235,7 @@ measured_is p order ms i n c m is distinct at there done h = record {
   depth = h.depth ∙ counted_is count_depth (λ m. m.depth) p order ms i n c depth_local is distinct refl (λ n d told. told.depth) at there done;
   effects = h.effects ∙ counted_is count_effects (λ m. m.effects) p order ms i n c effects_local is distinct refl (λ n d told. told.effects) at there done;
   size = h.size;
+  goes_on = h.goes_on;
 }
 
 measure_set_same : (ms : List Measure) (n : ℕ) (m : Measure) → n < length ms → measure_at (slice_set ms n m) n ≡ m

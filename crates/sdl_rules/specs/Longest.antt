@@ -261,13 +261,3 @@ input_piece i = record { places = i.stimulus.places; text = i.text }
 -- the pieces of a process: START, then the inputs of each state by number
 abbrev pub pieces_of : PlainProcess → List Piece
 pieces_of p = start_piece p ∷ flat_map (map input_piece) (inputs_by_state p)
-
--- what a certificate says of a piece
-pub record Longest : Type 0 where
-  pub budget : ℕ
-  pub depth : ℕ
-  pub effects : ℕ
-
--- the certificate of a piece of a process
-abbrev pub longest_of : PlainProcess → Piece → Longest
-longest_of p q = record { budget = piece_budget p q; depth = piece_depth p q; effects = piece_effects p q }

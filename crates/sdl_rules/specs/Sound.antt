@@ -176,14 +176,16 @@ exceeds b PieceSize = list_any (λ p. list_any (λ q. nat_lt 512 (piece_size p q
 exceeds b Depth = list_any (λ p. list_any (λ q. nat_lt 16 (piece_depth p q)) (pieces_of p)) (processes_of b)
 exceeds b Effects = list_any (λ p. list_any (λ q. nat_lt 32 (piece_effects p q)) (pieces_of p)) (processes_of b)
 
-abbrev pub counts : List Limit
-counts = Processes ∷ States ∷ Variables ∷ Timers ∷ Signals ∷ Params ∷ Pieces ∷ []
+-- those on how many there are
+abbrev pub number_limits : List Limit
+number_limits = Processes ∷ States ∷ Variables ∷ Timers ∷ Signals ∷ Params ∷ Pieces ∷ []
 
-abbrev pub measures : List Limit
-measures = PieceSize ∷ Depth ∷ Effects ∷ []
+-- those on a transition
+abbrev pub transition_limits : List Limit
+transition_limits = PieceSize ∷ Depth ∷ Effects ∷ []
 
 abbrev pub limits : List Limit
-limits = counts ++ measures
+limits = number_limits ++ transition_limits
 
 -- the first limit that the block passes
 abbrev pub first_limit : PlainBlock → Option Limit

@@ -20,9 +20,6 @@ abbrev pub source_origins : Source → List Origin
 source_origins Start = begins ∷ []
 source_origins (Input i) = input_origins (input_of i.now)
 
-abbrev pub origins_of : List Source → List Origin
-origins_of sources = flat_map source_origins sources
-
 -- whether a signal gets back to who sent what a transition begins with
 abbrev pub gets_back : PlainBlock → PlainProcess → List ℕ → Sender → Bool
 gets_back b p s Nobody = false
@@ -32,7 +29,7 @@ gets_back b p s (Party q) = carries b (party_of p) q s
 unfoldable pub AreSenders : PlainBlock → PlainProcess → List Sender → List Origin → Type 0
 AreSenders b p senders from = (s : List ℕ) → list_all (gets_back b p s) senders ≡ answers_all b p from s
 
--- What gets back to those who were gathered is what f allows, and each party that was seen is among them.
+-- What gets back to those who were gathered is what f allows, and whatever f allows gets back to each party that was seen.
 pub record Gathers (b : PlainBlock) (p : PlainProcess) (g : Senders) (f : List ℕ → Bool) : Type 0 where
   pub told : (s : List ℕ) → list_all (gets_back b p s) g.list.items ≡ f s
   pub seen : (s : List ℕ) → f s ≡ true → list_all (λ q. carries b (party_of p) q s) g.seen ≡ true

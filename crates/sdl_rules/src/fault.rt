@@ -88,7 +88,8 @@ pub enum RuleFault {
     /// first statement behind a DECISION none of whose bodies goes on: the place of that word.
     #[error("S4 NoState")]
     NoState(u32),
-    /// An OUTPUT that no route carries: the place of the signal's name.
+    /// An OUTPUT that no route carries, or one TO SENDER where there is no sender (after START and for a timer) or no way
+    /// back to each who may have sent: the place of the signal's name.
     #[error("S5 NoReceiver")]
     NoReceiver(u32),
     /// An OUTPUT that says to nobody, and that routes carry to several: the place of the signal's name.
@@ -97,8 +98,8 @@ pub enum RuleFault {
     /// A JOIN in a connection that comes back to it: the place of the JOIN.
     #[error("S7 JoinCycle")]
     JoinCycle(u32),
-    /// An Integer DECISION without ELSE, or a Boolean one in which a value isn't answered exactly once: the place of the
-    /// DECISION.
+    /// An Integer DECISION without ELSE, a Boolean one in which a value isn't answered exactly once, or one with an answer
+    /// without values: the place of the DECISION.
     #[error("S8 NoAnswer")]
     NoAnswer(u32),
     /// Right of `/`, MOD or REM stands no number of 1 or more: the place of what stands there.

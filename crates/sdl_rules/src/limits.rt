@@ -12,7 +12,7 @@ ghost use Rattle.sdl_rules.specs.Measures.{capped, AreMeasures, AllMeasures};
 ghost use Rattle.sdl_rules.specs.Rows.{marked_size, IsPassed, ArePassed, AllPassed, IsEither};
 ghost use Rattle.sdl_tree.specs.Plain.{PlainBlock};
 ghost use Rattle.sdl_rules.specs.Counting.{measure_at};
-ghost use Rattle.sdl_rules.specs.Sound.{exceeds, counts, measures, first_limit};
+ghost use Rattle.sdl_rules.specs.Sound.{exceeds, number_limits, transition_limits, first_limit};
 
 use crate::counts::{places_cost, places_depth};
 use crate::fault::Limit;
@@ -254,7 +254,7 @@ fn count_pieces(alloc: Global, tables: &[ProcessTable]) -> Result<usize, AllocEr
 
 // The first limit on how many there are. The pieces come last: a state then takes few signals, and there are few states.
 fn first_count(alloc: Global, block: &BlockTable) -> Result<Option<Limit>, AllocError>
-    ensures { IfOk result (λ o. o ≡ find (exceeds (block_of block.now)) counts) }
+    ensures { IfOk result (λ o. o ≡ find (exceeds (block_of block.now)) number_limits) }
 {
     let tables = block.tables();
     if tables.len() > 16 {
@@ -283,7 +283,7 @@ fn first_count(alloc: Global, block: &BlockTable) -> Result<Option<Limit>, Alloc
 
 // The first limit on a transition.
 fn first_passed(passed: Passed) -> Option<Limit>
-    ensures { (b : PlainBlock) → AllPassed (processes_of b) passed → result ≡ find (exceeds b) measures }
+    ensures { (b : PlainBlock) → AllPassed (processes_of b) passed → result ≡ find (exceeds b) transition_limits }
 {
     if passed.size {
         return Some(Limit::Piece);

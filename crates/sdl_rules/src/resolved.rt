@@ -21,7 +21,7 @@ use sdl_tree::{Block, Route, SignalDeclaration};
 use std::alloc::Global;
 use std::marker::Model;
 
-/// A sound block with its tables; for each process the variables that are set in each of its states, an order of its
+/// A sound block with its tables; for each process variables that are set in each of its states, an order of its
 /// connections, and what is measured of each. Contracts see the block.
 #[derive(Drop)]
 pub struct Resolved<'a> {
@@ -149,10 +149,10 @@ fn check_rules(alloc: Global, block: &BlockTable) -> Result<Findings, RuleFault>
 
 /// Gives a block its tables if it is sound, and else says which rule it breaks and where.
 ///
-/// Of several broken rules the least is named, by the number in its code, and of several places of
-/// one rule the first in the text. Without memory the answer is [`RuleFault::NoMemory`], in place
-/// of any other. Of several control paths that read a variable before it is set the one with the fewest
-/// transitions is named, over all processes and variables; of those the first by the order of its transitions
+/// Of several broken rules the least is named, by the number in its code. Without memory the answer is
+/// [`RuleFault::NoMemory`], in place of any other. Shown by tests alone: of several places of one rule the first
+/// in the text is named; of several control paths that read a variable before it is set the one with the fewest
+/// transitions, over all processes and variables; of those the first by the order of its transitions
 /// in the text (START, then the inputs of each state, states in the order of their first STATE), and then the
 /// one with the least place in the text where a walk of the last transition reads the variable unset.
 pub fn resolve<'a>(alloc: Global, block: &'a Block) -> Result<Resolved<'a>, RuleFault>
@@ -229,7 +229,7 @@ impl<'a> Resolved<'a> {
         self.table.routes()
     }
 
-    /// For each process, by number, the variables that are set whenever it is in a state: a number for each state, in
+    /// For each process, by number, variables that are set whenever it is in a state: a number for each state, in
     /// which bit v stands for variable v.
     pub fn sets(&self) -> &[Vec<u32>]
         ensures { AllSettled (processes_of (block_of self.now)) result.now }

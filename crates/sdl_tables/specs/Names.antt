@@ -191,9 +191,6 @@ saves_of p s = of_state part_saves p s
 abbrev pub saves_by_state : PlainProcess → List (List Identifier)
 saves_by_state p = by_state part_saves p
 
--- the names that state s takes or saves
-abbrev pub triggers_of : PlainProcess → ℕ → List Identifier
-triggers_of p s = of_state part_triggers p s
-
+-- the names that each state takes or saves
 abbrev pub triggers_by_state : PlainProcess → List (List Identifier)
 triggers_by_state p = by_state part_triggers p

@@ -48,7 +48,7 @@ pub enum Step {
 pub enum Fate {
     /// The transitions of this path read it unset.
     Unset(Vec<Step>),
-    /// No path reads it unset. The marks say of each state, by number, whether a path enters it with the variable unset.
+    /// No path reads it unset. A mark for each state, by number: no path enters a state without one with the variable unset.
     Set(Vec<bool>),
 }
 
@@ -145,8 +145,9 @@ fn expand(
     Ok(None)
 }
 
-/// Whether some path reads the variable unset: the first one among those with the fewest transitions. A path comes
-/// before another one where its first other transition comes before that of the other one.
+/// Whether some path reads the variable unset. Of several it is the first one among those with the fewest transitions,
+/// which is shown by tests alone: a path comes before another one where its first other transition comes before that of
+/// the other one.
 ///
 /// `variable` is below 32. A passage to a state that the graph lacks leads nowhere.
 pub fn first_unset(alloc: Global, graph: &Graph, variable: u32) -> Result<Fate, AllocError>
