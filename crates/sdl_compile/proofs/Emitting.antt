@@ -98,7 +98,7 @@ module _ (c : Scope) (to : ℕ → ℕ) where
 
   module _ (at : ℕ) (rs : List Range) (body : Text) (choice others : Choice) (is : choice ≡ answer at rs body others) (after : ℕ) (old new : List Instruction)
       (made : new ≡ old ++ (text_code c to (length old) body ++ leave_code after body)) where
-    body_length : length new ≡ length old + body_size c body
+    pub body_length : length new ≡ length old + body_size c body
     body_length =
         let x = text_code c to (length old) body in
         omega (arith, ap length made, length-append old (x ++ leave_code after body), length-append x (leave_code after body), text_size_is c to (length old) body, leave_size after body)
@@ -151,7 +151,7 @@ module _ (c : Scope) (to : ℕ → ℕ) where
   bodies_size_parts (otherwise body) = omega arith
   bodies_size_parts (answer at rs body others) = let h = bodies_size_parts others in omega (arith, h)
 
-  answers_length : (choice : Choice) (n after : ℕ) → length (answers_code c to n after choice) ≡ answers_size c choice
+  pub answers_length : (choice : Choice) (n after : ℕ) → length (answers_code c to n after choice) ≡ answers_size c choice
   answers_length choice n after =
       let h = answers_size_is c to n n after choice in
       let k = else_size_is c to n after choice in
