@@ -28,10 +28,11 @@ emit_answers-loop-answer-preserved t c =
     let old = c.loop-answer.code.items in
     let new = c.emit_body.new.code.items in
     let all = c.args.code.now.items ++ answers_code s to (length c.args.code.now.items) 0 (choice_of c.args.decision.now) in
+    let here : c.code_place.result.0 ≡ length old = omega (arith, c.code_place.ensures, c.len.ensures) in
     record {
       code = others_code s to a.at a.ranges.items (text_of a.body) whole rest is 0 old new c.in_ok-emit_body.ensures.code all c.loop-answer.invariant.code;
       jumps = jumps_more s to a.at a.ranges.items (text_of a.body) whole rest is old new c.in_ok-emit_body.ensures.code c.loop-answer.jumps.items c.emit_body.new.jumps.items _ c.in_ok-emit_body.ensures.jumps c.loop-answer.invariant.jumps;
-      starts = starts_more s to a.at a.ranges.items (text_of a.body) whole rest is old new c.in_ok-emit_body.ensures.code c.loop-answer.starts.items c.push.new.self.items _ (c.in_ok-push.ensures.items ∙ ap (λ p. c.loop-answer.starts.items ++ p ∷ []) (ap code_place (c.code_place.ensures ∙ c.len.ensures))) c.loop-answer.invariant.starts;
+      starts = starts_more s to a.at a.ranges.items (text_of a.body) whole rest is old new c.in_ok-emit_body.ensures.code c.loop-answer.starts.items c.push.new.self.items _ (c.in_ok-push.ensures.items ∙ ap (λ p. c.loop-answer.starts.items ++ p ∷ []) (place_is c.code_place.result (length old) here)) c.loop-answer.invariant.starts;
       named = others_named s to (question_in c.args.decision.now) a.at a.ranges.items (text_of a.body) whole rest is c.loop-answer.invariant.named;
       fits = others_fit s to a.at a.ranges.items (text_of a.body) whole rest is 0 old new c.in_ok-emit_body.ensures.code c.loop-answer.invariant.fits;
     }
@@ -196,11 +197,14 @@ emit_truth-returns-clause-code t c =
     let three = c.emit_else.new.code.items in
     let jumps = c.in_ok-emit_else.ensures.jumps ∙ ap (λ l. l ++ else_leave s to (length two) all) (c.in_ok-emit_answers.ensures.jumps ∙ ap (λ l. l ++ answers_leave s to (length one) all) c.new-jumps.ensures.items) in
     let starts = c.in_ok-emit_answers.ensures.starts ∙ ap (λ l. l ++ starts_from s (length one) all) c.new-starts.ensures.items in
-    let behind = place_is c.code_place-otherwise.result (length two) (c.code_place-otherwise.ensures ∙ c.len.ensures) in
-    let after = place_is c.code_place.result (length three) (c.code_place.ensures ∙ c.len-2.ensures) in
+    let behind_is : c.code_place-otherwise.result.0 ≡ length two = omega (arith, c.code_place-otherwise.ensures, c.len.ensures) in
+    let after_is : c.code_place.result.0 ≡ length three = omega (arith, c.code_place.ensures, c.len-2.ensures) in
+    let here : c.len-choice.result ≡ length old = omega (arith, c.len-choice.ensures) in
+    let behind = place_is c.code_place-otherwise.result (length two) behind_is in
+    let after = place_is c.code_place.result (length three) after_is in
     let pick = i.Pick c.picked_place-falsity.result c.picked_place-truth.result in
     c.set_at.ensures
-    ∙ ap (λ n. slice_set c.land_jumps.new.code.items n pick) c.len-choice.ensures
+    ∙ ap (λ n. slice_set c.land_jumps.new.code.items n pick) here
     ∙ ap (λ l. slice_set l (length old) pick) (c.land_jumps.ensures ∙ ap (landed c.code_place.result three) c.deref.ensures.value ∙ ap (λ p. landed p three c.emit_else.new.jumps.items) after)
     ∙ truth_lands s to all old c.requires.fits _ one c.in_ok-put.ensures two c.in_ok-emit_answers.ensures.code three c.in_ok-emit_else.ensures.code c.emit_else.new.jumps.items jumps c.emit_answers.new.starts.items starts
     c.picked_place-falsity.result c.picked_place-truth.result
@@ -256,11 +260,13 @@ emit_integer-returns-clause-code t c =
     let three = c.emit_answers.new.code.items in
     let jumps = c.in_ok-emit_answers.ensures.jumps ∙ ap (λ l. l ++ answers_leave s to (length two) all) (c.in_ok-emit_else.ensures.jumps ∙ ap (λ l. l ++ else_leave s to (length one) all) c.new-jumps.ensures.items) in
     let starts = c.in_ok-emit_answers.ensures.starts ∙ ap (λ l. l ++ starts_from s (length two) all) c.new-starts.ensures.items in
-    let after = place_is c.code_place.result (length three) (c.code_place.ensures ∙ c.len.ensures) in
+    let after_is : c.code_place.result.0 ≡ length three = omega (arith, c.code_place.ensures, c.len.ensures) in
+    let here : c.len-first.result ≡ length old = omega (arith, c.len-first.ensures) in
+    let after = place_is c.code_place.result (length three) after_is in
     let tests = c.in_ok-emit_tests.ensures ∙ ap (λ l. c.new-tests.result.items ++ tests_by l all) c.deref-2.ensures.value ∙ ap (λ l. l ++ tests_by c.emit_answers.new.starts.items all) c.new-tests.ensures.items in
     c.fill_places.ensures
     ∙ ap (filled c.land_jumps.new.code.items c.len-first.result) c.deref-3.ensures.value
-    ∙ ap (λ n. filled c.land_jumps.new.code.items n c.emit_tests.new.code.items) c.len-first.ensures
+    ∙ ap (λ n. filled c.land_jumps.new.code.items n c.emit_tests.new.code.items) here
     ∙ ap (λ l. filled l (length old) c.emit_tests.new.code.items) (c.land_jumps.ensures ∙ ap (landed c.code_place.result three) c.deref.ensures.value ∙ ap (λ p. landed p three c.emit_answers.new.jumps.items) after)
     ∙ integer_lands s to all old c.requires.fits _ c.tests_length.result c.tests_length.ensures one c.in_ok-keep_places.ensures two c.in_ok-emit_else.ensures.code three c.in_ok-emit_answers.ensures.code
     c.emit_answers.new.starts.items starts c.emit_tests.new.code.items tests c.emit_answers.new.jumps.items jumps
