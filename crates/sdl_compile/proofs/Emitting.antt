@@ -12,9 +12,7 @@ use Rattle.sdl_tree.specs.declared.tree.Transition.{Transition}
 use Rattle.sdl_tree.specs.declared.tree.Connection.{Connection}
 use Rattle.sdl_tree.specs.Plain.{Tree, Text, falls, ends, does, decides, Choice, nothing_else, otherwise, answer, PlainStatement, act, decide, before, PlainAnswer, all_answers, PlainConnection}
 use Rattle.sdl_tree.specs.Views.{text_of, plain_statement, plain_answer, statement_of, statements_before, answers_before, else_choice, connection_of}
-use Rattle.turn_code.specs.declared.numbers.CodePlace.{CodePlace}
 use Rattle.turn_code.specs.declared.instruction.Instruction.{Instruction}
-use Rattle.turn_code.specs.declared.instruction.Instruction.TheVariants as i
 use Rattle.sdl_tables.specs.Names.{Variable, variables_of}
 use Rattle.sdl_rules.specs.Longest.{Piece, cost_of, action_cost, size, tests_size, bodies_size}
 use Rattle.sdl_compile.specs.Act.{Scope, is_truth}
@@ -23,9 +21,6 @@ use Rattle.sdl_compile.specs.Code.{tree_code, action_code, leave_code, body_size
 use Rattle.sdl_compile.proofs.Sizes.{places_size, tree_size, action_size, leave_size, tests_are, text_size_is, bodies_size_is, answers_size_is, else_size_is}
 use Rattle.sdl_compile.proofs.Sorting.{slice_map}
 use Rattle.sdl_compile.proofs.Views.{answer_of-is}
-
-pub pick_is : (p q : CodePlace) (m n : ℕ) → p.0 ≡ m → q.0 ≡ n → i.Pick p q ≡ i.Pick (record { 0 = m }) (record { 0 = n })
-pick_is p q m n e f = ap (λ k. i.Pick (record { 0 = k }) q) e ∙ ap (λ k. i.Pick (record { 0 = m }) (record { 0 = k })) f
 
 -- ---- one more item of a list
 
@@ -98,7 +93,7 @@ module _ (c : Scope) (to : ℕ → ℕ) where
 
   module _ (at : ℕ) (rs : List Range) (body : Text) (choice others : Choice) (is : choice ≡ answer at rs body others) (after : ℕ) (old new : List Instruction)
       (made : new ≡ old ++ (text_code c to (length old) body ++ leave_code after body)) where
-    body_length : length new ≡ length old + body_size c body
+    pub body_length : length new ≡ length old + body_size c body
     body_length =
         let x = text_code c to (length old) body in
         omega (arith, ap length made, length-append old (x ++ leave_code after body), length-append x (leave_code after body), text_size_is c to (length old) body, leave_size after body)
@@ -151,7 +146,7 @@ module _ (c : Scope) (to : ℕ → ℕ) where
   bodies_size_parts (otherwise body) = omega arith
   bodies_size_parts (answer at rs body others) = let h = bodies_size_parts others in omega (arith, h)
 
-  answers_length : (choice : Choice) (n after : ℕ) → length (answers_code c to n after choice) ≡ answers_size c choice
+  pub answers_length : (choice : Choice) (n after : ℕ) → length (answers_code c to n after choice) ≡ answers_size c choice
   answers_length choice n after =
       let h = answers_size_is c to n n after choice in
       let k = else_size_is c to n after choice in
@@ -199,15 +194,9 @@ module _ (c : Scope) (to : ℕ → ℕ) where
       picked_length : length new ≡ length old + 1
       picked_length = omega (arith, ap length made, length-append old (x ∷ []))
 
-      pub truth_answers_fit : length new + answers_size c all ≤ 512
-      truth_answers_fit = omega (arith, fits, picked_length, bodies_size_parts all)
-
       module _ (new2 : List Instruction) (made2 : new2 ≡ new ++ answers_code c to (length new) after all) where
         bodies_length : length new2 ≡ length new + answers_size c all
         bodies_length = omega (arith, ap length made2, length-append new (answers_code c to (length new) after all), answers_length all (length new) after)
-
-        pub truth_else_fits : length new2 + else_size c all ≤ 512
-        truth_else_fits = omega (arith, fits, picked_length, bodies_length, bodies_size_parts all)
 
         pub truth_whole : (last : List Instruction) → x ≡ pick_code c (bodies_place (length old)) all → last ≡ new2 ++ else_code c to (length new2) after all → last ≡ old ++ truth_code c to (length old) all
         truth_whole last e f =
@@ -223,27 +212,15 @@ module _ (c : Scope) (to : ℕ → ℕ) where
 
     -- and of an Integer one
     module _ (here : after ≡ after_choice c false (length old) all) (fits : after_choice c false (length old) all ≤ 512) where
-      pub integer_else_fits : else_size c all ≤ 512
-      integer_else_fits = omega (arith, fits, bodies_size_parts all)
-
-      pub integer_tests_fit : length old + tests_size all + else_size c all + answers_size c all ≤ 512
-      integer_tests_fit = omega (arith, fits, bodies_size_parts all)
-
       module _ (first : ℕ) (there : first ≡ answers_place c (length old) all) (new : List Instruction) (made : new ≡ old ++ tests_code c first all) where
         tests_length_is : length new ≡ else_place (length old) all
         tests_length_is = omega (arith, ap length made, length-append old (tests_code c first all), tests_are c first all)
-
-        pub integer_body_fits : length new + else_size c all ≤ 512
-        integer_body_fits = omega (arith, fits, tests_length_is, bodies_size_parts all)
 
         module _ (new2 : List Instruction) (made2 : new2 ≡ new ++ else_code c to (length new) after all) where
           else_length_is : length new2 ≡ answers_place c (length old) all
           else_length_is =
               let k = else_size_is c to (length new) after all in
               omega (arith, ap length made2, length-append new (else_code c to (length new) after all), k, tests_length_is)
-
-          pub integer_answers_fit : length new2 + answers_size c all ≤ 512
-          integer_answers_fit = omega (arith, fits, else_length_is, bodies_size_parts all)
 
           pub integer_whole : (last : List Instruction) → last ≡ new2 ++ answers_code c to (length new2) after all → last ≡ old ++ integer_code c to (length old) all
           integer_whole last f =

@@ -7,6 +7,7 @@ pub mod Declarations
 pub mod Drafts
 pub mod Entries
 pub mod Facts
+pub mod Landing
 pub mod Made
 pub mod Meaning
 pub mod Named

@@ -1,19 +1,23 @@
-//! The instructions of transitions with their DECISIONs and JOINs. Targets are places in the whole piece; they are known
-//! beforehand, from the lengths of the bodies.
-ghost use Rattle.std.specs.Prelude.{◌≡◌, ◌+◌, ◌≤◌, ◌++◌, ◌∷◌, [], true, false, ℕ, OnOk, IfOk, All, length, sum_by};
-ghost use Rattle.sdl_tree.specs.Plain.{falls};
+//! The instructions of transitions with their DECISIONs and JOINs. Targets are places in the whole piece. Those of connections
+//! are known beforehand; those within a DECISION once its bodies stand, so each body is gone through once.
+ghost use Rattle.std.specs.Prelude.{◌≡◌, ◌+◌, ◌≤◌, ◌++◌, ◌∷◌, ◌&&◌, [], true, false, ℕ, OnOk, IfOk, All, length, sum_by};
+ghost use Rattle.sdl_tree.specs.Plain.{Text, falls};
 ghost use Rattle.sdl_tree.specs.Views.{text_of, statement_of, decision_of, choice_of};
 ghost use Rattle.sdl_tables.specs.Names.{variables_of};
 ghost use Rattle.sdl_rules.specs.Longest.{size};
+ghost use Rattle.sdl_rules.specs.Going.{goes_on, choice_goes_on};
 ghost use Rattle.sdl_compile.specs.Act.{relation_of, integer_in};
 ghost use Rattle.sdl_compile.specs.Scopes.{scope_in, places_by, question_in, piece_in};
 ghost use Rattle.sdl_compile.specs.Named.{NamedEnd, NamedText, NamedChoice, NamedPiece};
-ghost use Rattle.sdl_compile.specs.Code.{constant_or_zero, end_code, leave_code, body_size, else_size, answers_size, range_code, ranges_code, tests_code, after_choice, text_code, else_code, answers_code, truth_code, integer_code, text_at, size_at, connections_place, place_in, connections_code, piece_code};
+ghost use Rattle.sdl_compile.specs.Code.{constant_or_zero, end_code, leave_code, body_size, else_size, answers_size, range_code, ranges_code, after_choice, text_code, else_code, answers_code, truth_code, integer_code, text_at, size_at, connections_place, place_in, connections_code, piece_code};
+ghost use Rattle.sdl_compile.specs.Landing.{leave_place, answers_leave, else_leave, starts_from, tests_by};
 
 use crate::emit::{emit_action, emit_expression, emit_places, put};
-use crate::lengths::{bodies_length, body_length, else_length, picked_place, tests_length};
+use crate::landing::{
+    both, fill_places, has_any, keep_places, land_jumps, picked_place, set_at, start_at,
+    tests_length,
+};
 use crate::names::Names;
-use sdl_rules::goes_on;
 use sdl_tree::{Constant, Decision, End, Identifier, Literal, Range, Statement, Transition};
 use std::alloc::{AllocError, Global};
 use turn_code::{CodePlace, Instruction, Relation};
@@ -82,32 +86,26 @@ fn integer(constant: &Constant) -> i32
 }
 
 // The test of a range, where the body of its answer stands at a place.
-fn range_test(place: usize, range: &Range) -> Instruction
-    requires { place ≤ 512 }
-    ensures { result ≡ range_code place range.now }
+fn range_test(place: CodePlace, range: &Range) -> Instruction
+    ensures { result ≡ range_code place.0 range.now }
 {
     match range {
-        Range::Value(constant) => {
-            Instruction::Case(Relation::Equal, integer(constant), code_place(place))
-        }
+        Range::Value(constant) => Instruction::Case(Relation::Equal, integer(constant), place),
         Range::Compared {
             relation: sign,
             constant,
             ..
-        } => Instruction::Case(relation(*sign), integer(constant), code_place(place)),
-        Range::Between(low, high) => {
-            Instruction::CaseWithin(code_place(place), integer(low), integer(high))
-        }
+        } => Instruction::Case(relation(*sign), integer(constant), place),
+        Range::Between(low, high) => Instruction::CaseWithin(place, integer(low), integer(high)),
     }
 }
 
 fn emit_ranges(
     code: &mut Vec<Instruction>,
-    place: usize,
+    place: CodePlace,
     ranges: &[Range],
 ) -> Result<(), AllocError>
-    requires { place ≤ 512 }
-    ensures { OnOk result (code.new.items ≡ code.old.items ++ ranges_code place ranges.now) }
+    ensures { OnOk result (code.new.items ≡ code.old.items ++ ranges_code place.0 ranges.now) }
 {
     for range in ranges {
         put(code, range_test(place, range))?;
@@ -115,20 +113,16 @@ fn emit_ranges(
     Ok(())
 }
 
-// The tests of an Integer DECISION, whose answers' bodies stand from a place on.
+// The tests of an Integer DECISION, whose answers' bodies begin at these places.
 fn emit_tests(
     code: &mut Vec<Instruction>,
-    names: &Names,
     decision: &Decision,
-    first: usize,
+    starts: &[CodePlace],
 ) -> Result<(), AllocError>
-    requires { first + answers_size (scope_in names.now) (choice_of decision.now) ≤ 512 }
-    ensures { OnOk result (code.new.items ≡ code.old.items ++ tests_code (scope_in names.now) first (choice_of decision.now)) }
+    ensures { OnOk result (code.new.items ≡ code.old.items ++ tests_by starts.now (choice_of decision.now)) }
 {
-    let mut place = first;
-    for answer in &decision.answers {
-        emit_ranges(code, place, &answer.ranges)?;
-        place += body_length(names, &answer.body);
+    for (number, answer) in decision.answers.iter().enumerate() {
+        emit_ranges(code, start_at(starts, number, CodePlace(0)), &answer.ranges)?;
     }
     match decision.otherwise {
         Some(_) => put(code, Instruction::Drop),
@@ -136,24 +130,25 @@ fn emit_tests(
     }
 }
 
-// A body, with its jump to what follows the DECISION where it goes on.
+// A body, with its jump where it goes on. The jump's place is told, since what follows the DECISION has none so far.
 #[cycle(texts)]
 fn emit_body(
+    alloc: Global,
     code: &mut Vec<Instruction>,
+    jumps: &mut Vec<usize>,
     names: &Names,
     places: &[usize],
     body: &Transition,
-    after: usize,
 ) -> Result<(), AllocError>
     requires named { NamedText (scope_in names.now) (text_of body.now) }
     requires fits { length code.now.items + body_size (scope_in names.now) (text_of body.now) ≤ 512 }
     requires low { All (λ p. p ≤ 512) places.now }
-    requires later { after ≤ 512 }
-    ensures { OnOk result (code.new.items ≡ code.old.items ++ (text_code (scope_in names.now) (places_by places.now) (length code.old.items) (text_of body.now) ++ leave_code after (text_of body.now))) }
+    ensures code { OnOk result (code.new.items ≡ code.old.items ++ (text_code (scope_in names.now) (places_by places.now) (length code.old.items) (text_of body.now) ++ leave_code 0 (text_of body.now))) }
+    ensures jumps { OnOk result (jumps.new.items ≡ jumps.old.items ++ leave_place (scope_in names.now) (places_by places.now) (length code.old.items) (text_of body.now)) }
 {
-    emit_text(code, names, places, body)?;
-    if goes_on(body) {
-        put(code, Instruction::Jump(code_place(after)))?;
+    if emit_text(alloc, code, names, places, body)? {
+        jumps.push(code.len())?;
+        put(code, Instruction::Jump(CodePlace(0)))?;
     }
     Ok(())
 }
@@ -161,41 +156,46 @@ fn emit_body(
 // The body of ELSE, if there is one.
 #[cycle(texts)]
 fn emit_else(
+    alloc: Global,
     code: &mut Vec<Instruction>,
+    jumps: &mut Vec<usize>,
     names: &Names,
     places: &[usize],
     decision: &Decision,
-    after: usize,
 ) -> Result<(), AllocError>
     requires named { NamedChoice (scope_in names.now) (question_in decision.now) (choice_of decision.now) }
     requires fits { length code.now.items + else_size (scope_in names.now) (choice_of decision.now) ≤ 512 }
     requires low { All (λ p. p ≤ 512) places.now }
-    requires later { after ≤ 512 }
-    ensures { OnOk result (code.new.items ≡ code.old.items ++ else_code (scope_in names.now) (places_by places.now) (length code.old.items) after (choice_of decision.now)) }
+    ensures code { OnOk result (code.new.items ≡ code.old.items ++ else_code (scope_in names.now) (places_by places.now) (length code.old.items) 0 (choice_of decision.now)) }
+    ensures jumps { OnOk result (jumps.new.items ≡ jumps.old.items ++ else_leave (scope_in names.now) (places_by places.now) (length code.old.items) (choice_of decision.now)) }
 {
     match &decision.otherwise {
-        Some(body) => emit_body(code, names, places, body, after),
+        Some(body) => emit_body(alloc, code, jumps, names, places, body),
         None => Ok(()),
     }
 }
 
-// The bodies of the answers, one behind another.
+// The bodies of the answers, one behind another, and where they begin.
 #[cycle(texts)]
 fn emit_answers(
+    alloc: Global,
     code: &mut Vec<Instruction>,
+    jumps: &mut Vec<usize>,
+    starts: &mut Vec<CodePlace>,
     names: &Names,
     places: &[usize],
     decision: &Decision,
-    after: usize,
 ) -> Result<(), AllocError>
     requires named { NamedChoice (scope_in names.now) (question_in decision.now) (choice_of decision.now) }
     requires fits { length code.now.items + answers_size (scope_in names.now) (choice_of decision.now) ≤ 512 }
     requires low { All (λ p. p ≤ 512) places.now }
-    requires later { after ≤ 512 }
-    ensures { OnOk result (code.new.items ≡ code.old.items ++ answers_code (scope_in names.now) (places_by places.now) (length code.old.items) after (choice_of decision.now)) }
+    ensures code { OnOk result (code.new.items ≡ code.old.items ++ answers_code (scope_in names.now) (places_by places.now) (length code.old.items) 0 (choice_of decision.now)) }
+    ensures jumps { OnOk result (jumps.new.items ≡ jumps.old.items ++ answers_leave (scope_in names.now) (places_by places.now) (length code.old.items) (choice_of decision.now)) }
+    ensures starts { OnOk result (starts.new.items ≡ starts.old.items ++ starts_from (scope_in names.now) (length code.old.items) (choice_of decision.now)) }
 {
     for answer in &decision.answers {
-        emit_body(code, names, places, &answer.body, after)?;
+        starts.push(code_place(code.len()))?;
+        emit_body(alloc, code, jumps, names, places, &answer.body)?;
     }
     Ok(())
 }
@@ -203,112 +203,154 @@ fn emit_answers(
 // A Boolean DECISION behind its question: the choice, and the bodies in the order of the text.
 #[cycle(texts)]
 fn emit_truth(
+    alloc: Global,
     code: &mut Vec<Instruction>,
     names: &Names,
     places: &[usize],
     decision: &Decision,
-) -> Result<(), AllocError>
+) -> Result<bool, AllocError>
     requires named { NamedChoice (scope_in names.now) (question_in decision.now) (choice_of decision.now) }
     requires fits { after_choice (scope_in names.now) true (length code.now.items) (choice_of decision.now) ≤ 512 }
     requires low { All (λ p. p ≤ 512) places.now }
-    ensures { OnOk result (code.new.items ≡ code.old.items ++ truth_code (scope_in names.now) (places_by places.now) (length code.old.items) (choice_of decision.now)) }
+    ensures code { OnOk result (code.new.items ≡ code.old.items ++ truth_code (scope_in names.now) (places_by places.now) (length code.old.items) (choice_of decision.now)) }
+    ensures goes { IfOk result (λ b. b ≡ choice_goes_on (choice_of decision.now)) }
 {
-    let first = code.len() + 1;
-    let after = first + bodies_length(names, decision);
-    let falsity = picked_place(names, decision, false, first);
-    let truth = picked_place(names, decision, true, first);
-    put(
+    let mut jumps = Vec::new(alloc);
+    let mut starts = Vec::new(alloc);
+    let choice = code.len();
+    put(code, Instruction::Drop)?;
+    emit_answers(
+        alloc,
         code,
-        Instruction::Pick(code_place(falsity), code_place(truth)),
+        &mut jumps,
+        &mut starts,
+        names,
+        places,
+        decision,
     )?;
-    emit_answers(code, names, places, decision, after)?;
-    emit_else(code, names, places, decision, after)
+    let otherwise = code_place(code.len());
+    emit_else(alloc, code, &mut jumps, names, places, decision)?;
+    land_jumps(code, &jumps, code_place(code.len()));
+    let falsity = picked_place(decision, &starts, false, otherwise);
+    let truth = picked_place(decision, &starts, true, otherwise);
+    set_at(code, choice, Instruction::Pick(falsity, truth));
+    Ok(has_any(&jumps))
 }
 
 // An Integer DECISION behind its question: the tests, the drop, the body of ELSE, and the bodies of the answers.
 #[cycle(texts)]
 fn emit_integer(
+    alloc: Global,
     code: &mut Vec<Instruction>,
     names: &Names,
     places: &[usize],
     decision: &Decision,
-) -> Result<(), AllocError>
+) -> Result<bool, AllocError>
     requires named { NamedChoice (scope_in names.now) (question_in decision.now) (choice_of decision.now) }
     requires fits { after_choice (scope_in names.now) false (length code.now.items) (choice_of decision.now) ≤ 512 }
     requires low { All (λ p. p ≤ 512) places.now }
-    ensures { OnOk result (code.new.items ≡ code.old.items ++ integer_code (scope_in names.now) (places_by places.now) (length code.old.items) (choice_of decision.now)) }
+    ensures code { OnOk result (code.new.items ≡ code.old.items ++ integer_code (scope_in names.now) (places_by places.now) (length code.old.items) (choice_of decision.now)) }
+    ensures goes { IfOk result (λ b. b ≡ choice_goes_on (choice_of decision.now)) }
 {
-    let otherwise = code.len() + tests_length(decision);
-    let first = otherwise + else_length(names, &decision.otherwise);
-    let after = otherwise + bodies_length(names, decision);
-    emit_tests(code, names, decision, first)?;
-    emit_else(code, names, places, decision, after)?;
-    emit_answers(code, names, places, decision, after)
+    let mut jumps = Vec::new(alloc);
+    let mut starts = Vec::new(alloc);
+    let mut tests = Vec::new(alloc);
+    let first = code.len();
+    keep_places(code, tests_length(decision))?;
+    emit_else(alloc, code, &mut jumps, names, places, decision)?;
+    emit_answers(
+        alloc,
+        code,
+        &mut jumps,
+        &mut starts,
+        names,
+        places,
+        decision,
+    )?;
+    land_jumps(code, &jumps, code_place(code.len()));
+    emit_tests(&mut tests, decision, &starts)?;
+    fill_places(code, first, &tests);
+    Ok(has_any(&jumps))
 }
 
 #[cycle(texts)]
 fn emit_decision(
+    alloc: Global,
     code: &mut Vec<Instruction>,
     names: &Names,
     places: &[usize],
     decision: &Decision,
-) -> Result<(), AllocError>
+) -> Result<bool, AllocError>
     requires named { NamedText (scope_in names.now) (decision_of decision.now falls) }
     requires fits { length code.now.items + size (variables_of (scope_in names.now).process) (decision_of decision.now falls) ≤ 512 }
     requires low { All (λ p. p ≤ 512) places.now }
-    ensures { OnOk result (code.new.items ≡ code.old.items ++ text_code (scope_in names.now) (places_by places.now) (length code.old.items) (decision_of decision.now falls)) }
+    ensures code { OnOk result (code.new.items ≡ code.old.items ++ text_code (scope_in names.now) (places_by places.now) (length code.old.items) (decision_of decision.now falls)) }
+    ensures goes { IfOk result (λ b. b ≡ choice_goes_on (choice_of decision.now)) }
 {
     emit_expression(code, names, &decision.question)?;
     if names.is_truth(&decision.question) {
-        emit_truth(code, names, places, decision)
+        emit_truth(alloc, code, names, places, decision)
     } else {
-        emit_integer(code, names, places, decision)
+        emit_integer(alloc, code, names, places, decision)
     }
 }
 
-// One statement, alone.
+// One statement, alone, and whether what stands behind it may follow.
 #[cycle(texts)]
 fn emit_statement(
+    alloc: Global,
     code: &mut Vec<Instruction>,
     names: &Names,
     places: &[usize],
     statement: &Statement,
-) -> Result<(), AllocError>
+) -> Result<bool, AllocError>
     requires named { NamedText (scope_in names.now) (statement_of statement.now falls) }
     requires fits { length code.now.items + size (variables_of (scope_in names.now).process) (statement_of statement.now falls) ≤ 512 }
     requires low { All (λ p. p ≤ 512) places.now }
-    ensures { OnOk result (code.new.items ≡ code.old.items ++ text_code (scope_in names.now) (places_by places.now) (length code.old.items) (statement_of statement.now falls)) }
+    ensures code { OnOk result (code.new.items ≡ code.old.items ++ text_code (scope_in names.now) (places_by places.now) (length code.old.items) (statement_of statement.now falls)) }
+    ensures goes { IfOk result (λ b. (rest : Text) → goes_on (statement_of statement.now rest) ≡ (b && goes_on rest)) }
 {
     match statement {
-        Statement::Act(action) => emit_action(code, names, action),
-        Statement::Decide(decision) => emit_decision(code, names, places, decision),
+        Statement::Act(action) => {
+            emit_action(code, names, action)?;
+            Ok(true)
+        }
+        Statement::Decide(decision) => emit_decision(alloc, code, names, places, decision),
     }
 }
 
-/// The instructions of a transition, at the end of the code so far.
+/// The instructions of a transition, at the end of the code so far, and whether it may run off its end.
 #[cycle(texts)]
 pub(crate) fn emit_text(
+    alloc: Global,
     code: &mut Vec<Instruction>,
     names: &Names,
     places: &[usize],
     transition: &Transition,
-) -> Result<(), AllocError>
+) -> Result<bool, AllocError>
     requires named { NamedText (scope_in names.now) (text_of transition.now) }
     requires fits { length code.now.items + size (variables_of (scope_in names.now).process) (text_of transition.now) ≤ 512 }
     requires low { All (λ p. p ≤ 512) places.now }
-    ensures { OnOk result (code.new.items ≡ code.old.items ++ text_code (scope_in names.now) (places_by places.now) (length code.old.items) (text_of transition.now)) }
+    ensures code { OnOk result (code.new.items ≡ code.old.items ++ text_code (scope_in names.now) (places_by places.now) (length code.old.items) (text_of transition.now)) }
+    ensures goes { IfOk result (λ b. b ≡ goes_on (text_of transition.now)) }
 {
+    let mut goes = true;
     for statement in &transition.statements {
-        emit_statement(code, names, places, statement)?;
+        let passes = emit_statement(alloc, code, names, places, statement)?;
+        goes = both(goes, passes);
     }
     match &transition.end {
-        Some(end) => emit_end(code, names, places, end),
-        None => Ok(()),
+        Some(end) => {
+            emit_end(code, names, places, end)?;
+            Ok(false)
+        }
+        None => Ok(goes),
     }
 }
 
 // The text of the connection with a number.
 fn emit_connection(
+    alloc: Global,
     code: &mut Vec<Instruction>,
     names: &Names,
     places: &[usize],
@@ -320,13 +362,17 @@ fn emit_connection(
     ensures { OnOk result (code.new.items ≡ code.old.items ++ text_code (scope_in names.now) (places_by places.now) (length code.old.items) (text_at (scope_in names.now) number)) }
 {
     match names.process.process().connections.get(number) {
-        Some(connection) => emit_text(code, names, places, &connection.transition),
+        Some(connection) => {
+            emit_text(alloc, code, names, places, &connection.transition)?;
+            Ok(())
+        }
         None => Ok(()),
     }
 }
 
 /// The texts of connections by number, one behind another.
 pub(crate) fn emit_connections(
+    alloc: Global,
     code: &mut Vec<Instruction>,
     names: &Names,
     places: &[usize],
@@ -338,7 +384,7 @@ pub(crate) fn emit_connections(
     ensures { OnOk result (code.new.items ≡ code.old.items ++ connections_code (scope_in names.now) (places_by places.now) (length code.old.items) numbers.now) }
 {
     for number in numbers {
-        emit_connection(code, names, places, *number)?;
+        emit_connection(alloc, code, names, places, *number)?;
     }
     Ok(())
 }
@@ -362,7 +408,7 @@ pub(crate) fn emit_piece(
 {
     let mut code = Vec::new(alloc);
     emit_places(&mut code, names, places)?;
-    emit_text(&mut code, names, targets, transition)?;
-    emit_connections(&mut code, names, targets, numbers)?;
+    emit_text(alloc, &mut code, names, targets, transition)?;
+    emit_connections(alloc, &mut code, names, targets, numbers)?;
     Ok(code)
 }

@@ -7,7 +7,7 @@ use Rattle.sdl_compile.proofs.texts.emit_piece.Goals as goal
 pub returns : goal.returns
 returns c =
     piece_whole (scope_in c.args.names.now) (piece_in c.args.places.now c.args.transition.now) (places_by c.args.targets.now) c.args.numbers.now c.requires.placed c.requires.fits c.emit_places.new.code.items (c.in_ok-emit_places.ensures ∙ ap (λ l. l ++ places_code (scope_in c.args.names.now) 0 c.args.places.now) c.new-code.ensures.items)
-    c.emit_text.new.code.items c.in_ok-emit_text.ensures c.emit_connections.new.code.items c.in_ok-emit_connections.ensures
+    c.emit_text.new.code.items c.in_ok-emit_text.ensures.code c.emit_connections.new.code.items c.in_ok-emit_connections.ensures
 
 pub emit_text-requires-clause-fits : goal.emit_text-requires-clause-fits
 emit_text-requires-clause-fits c =
@@ -19,4 +19,4 @@ emit_connections-requires-clause-named c = each_named (scope_in c.args.names.now
 pub emit_connections-requires-clause-fits : goal.emit_connections-requires-clause-fits
 emit_connections-requires-clause-fits c =
     connections_follow (scope_in c.args.names.now) (piece_in c.args.places.now c.args.transition.now) (places_by c.args.targets.now) c.args.numbers.now c.requires.placed c.requires.fits c.emit_places.new.code.items (c.in_ok-emit_places.ensures ∙ ap (λ l. l ++ places_code (scope_in c.args.names.now) 0 c.args.places.now) c.new-code.ensures.items)
-    c.emit_text.new.code.items c.in_ok-emit_text.ensures
+    c.emit_text.new.code.items c.in_ok-emit_text.ensures.code
