@@ -1,3 +1,5 @@
 pub mod NameLists
+pub mod PartySets
+pub mod RouteTables
 pub mod Shapes
 pub mod Whole

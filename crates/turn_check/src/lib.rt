@@ -3,9 +3,12 @@
 
 mod entry;
 mod fault;
+mod indexed;
 mod names;
 mod numbers;
+mod party_set;
 mod places;
+mod route_table;
 mod routes;
 mod tables;
 mod transition;

@@ -10,22 +10,24 @@ ghost use Rattle.turn_code.specs.declared.draft.DraftSignal.{DraftSignal};
 ghost use Rattle.turn_check.specs.Seen.{seen};
 ghost use Rattle.turn_check.specs.Parts.{Part, NextPart, AllParts, AllNexts, NumbersPart, CountsPart, SetsHold, ShapesPart};
 
+use crate::indexed::IndexedDraft;
 use crate::routes::keeps_sending;
 use crate::tables::{
     effects_given, given_sort, jump_places, next_places, place_behind, set_behind, taken_sorts,
 };
 use crate::transition::Transition;
-use turn_code::{Draft, DraftSignal, DraftState, Instruction, PlaceFacts, Rule, Sort, VariableSet};
+use turn_code::{DraftSignal, DraftState, Instruction, PlaceFacts, Rule, Sort, VariableSet};
 
 /// The first rule that is broken at a place, whose instruction and facts are these.
 pub(crate) fn check_place(
-    draft: &Draft,
+    draft: &IndexedDraft<'_>,
     transition: &Transition<'_>,
     place: usize,
     instruction: Instruction,
     facts: &PlaceFacts,
 ) -> Result<(), Rule>
     requires limits { KeepsSetLimits draft.now }
+    requires process { transition.now.number.0 < length draft.now.processes }
     requires place { place < 512 }
     requires variables { length transition.now.process.now.variables ≤ 32 }
     ensures ok { IfOk result (λ _. AllParts draft.now (seen transition.now) place instruction facts.now) }
@@ -37,7 +39,7 @@ pub(crate) fn check_place(
     if !ends_in_a_state(instruction, transition.process.states.as_slice()) {
         return Err(Rule::State);
     }
-    let signals = draft.signals.as_slice();
+    let signals = draft.plain().signals.as_slice();
     let variables = transition.process.variables.as_slice();
     let taken = taken_sorts(instruction, signals, variables);
     if taken.len() > facts.shape.len() {
@@ -88,7 +90,13 @@ fn check_successors(
 }
 
 /// Whether the variables, parameters, timers and divisors of an instruction are there, and its output reaches somebody.
-fn names_what_is_there(draft: &Draft, transition: &Transition<'_>, instruction: Instruction) -> bool
+fn names_what_is_there(
+    draft: &IndexedDraft<'_>,
+    transition: &Transition<'_>,
+    instruction: Instruction,
+) -> bool
+    requires limits { KeepsSetLimits draft.now }
+    requires process { transition.now.number.0 < length draft.now.processes }
     ensures { IsTrue result ↔ NumbersPart draft.now (seen transition.now) instruction }
 {
     match instruction {

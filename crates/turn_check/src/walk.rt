@@ -14,6 +14,7 @@ ghost use Rattle.turn_check.specs.Walk.{HasParts, IsValidAt, IsValidState, IsVal
 
 use crate::entry::{check_entry, process_keeps_limits};
 use crate::fault::{Spot, VerifyFault};
+use crate::indexed::IndexedDraft;
 use crate::places::check_place;
 use crate::transition::Transition;
 use turn_code::{
@@ -33,7 +34,7 @@ pub(crate) fn check_draft(draft: &Draft) -> Result<(), VerifyFault>
     ensures err { IfErr result (λ e. IsBroken draft.now e) }
 {
     if keeps_set_limits(draft) {
-        check_processes(draft)
+        check_processes(&IndexedDraft::new(draft))
     } else {
         Err(VerifyFault::Limit(Spot {
             process: ProcessNumber(0),
@@ -45,23 +46,28 @@ pub(crate) fn check_draft(draft: &Draft) -> Result<(), VerifyFault>
 }
 
 /// The first rule that a process of the draft breaks.
-fn check_processes(draft: &Draft) -> Result<(), VerifyFault>
+fn check_processes(draft: &IndexedDraft<'_>) -> Result<(), VerifyFault>
     requires { KeepsSetLimits draft.now }
     ensures ok { IfOk result (λ _. IsValid draft.now) }
     ensures err { IfErr result (λ e. IsBroken draft.now e) }
 {
-    for number in 0..draft.processes.len() {
+    for number in 0..draft.plain().processes.len() {
         check_process_at(draft, ProcessNumber(number as u8))?;
     }
     Ok(())
 }
 
-fn check_process_at(draft: &Draft, number: ProcessNumber) -> Result<(), VerifyFault>
+fn check_process_at(draft: &IndexedDraft<'_>, number: ProcessNumber) -> Result<(), VerifyFault>
     requires set_limits { KeepsSetLimits draft.now }
     ensures ok { IfOk result (λ _. IsValidProcess draft.now number.0) }
     ensures err { IfErr result (λ e. IsBroken draft.now e) }
 {
-    match draft.processes.as_slice().get(usize::from(number.0)) {
+    match draft
+        .plain()
+        .processes
+        .as_slice()
+        .get(usize::from(number.0))
+    {
         Some(process) => check_process(draft, number, process),
         None => Ok(()),
     }
@@ -69,7 +75,7 @@ fn check_process_at(draft: &Draft, number: ProcessNumber) -> Result<(), VerifyFa
 
 /// The first rule that a process breaks.
 fn check_process(
-    draft: &Draft,
+    draft: &IndexedDraft<'_>,
     number: ProcessNumber,
     process: &DraftProcess,
 ) -> Result<(), VerifyFault>
@@ -84,7 +90,7 @@ fn check_process(
 
 /// The first rule that a state of a process breaks.
 fn check_states(
-    draft: &Draft,
+    draft: &IndexedDraft<'_>,
     number: ProcessNumber,
     process: &DraftProcess,
 ) -> Result<(), VerifyFault>
@@ -102,7 +108,7 @@ fn check_states(
 }
 
 fn check_state_at(
-    draft: &Draft,
+    draft: &IndexedDraft<'_>,
     number: ProcessNumber,
     process: &DraftProcess,
     place: StateNumber,
@@ -121,7 +127,7 @@ fn check_state_at(
 
 /// The first rule that the START of a process breaks, or its limits.
 fn check_start(
-    draft: &Draft,
+    draft: &IndexedDraft<'_>,
     number: ProcessNumber,
     process: &DraftProcess,
 ) -> Result<(), VerifyFault>
@@ -157,7 +163,7 @@ fn check_start(
 
 /// The first rule that a state breaks.
 fn check_state(
-    draft: &Draft,
+    draft: &IndexedDraft<'_>,
     number: ProcessNumber,
     process: &DraftProcess,
     place: StateNumber,
@@ -177,7 +183,7 @@ fn check_state(
 }
 
 fn check_input_at(
-    draft: &Draft,
+    draft: &IndexedDraft<'_>,
     number: ProcessNumber,
     process: &DraftProcess,
     place: StateNumber,
@@ -194,7 +200,7 @@ fn check_input_at(
     match state.inputs.as_slice().get(input) {
         Some(found) => {
             let transition = input_transition(
-                draft.signals.as_slice(),
+                draft.plain().signals.as_slice(),
                 number,
                 process,
                 state,
@@ -208,7 +214,7 @@ fn check_input_at(
 
 /// The first rule that an input of a state breaks.
 fn check_input(
-    draft: &Draft,
+    draft: &IndexedDraft<'_>,
     number: ProcessNumber,
     place: StateNumber,
     input: usize,
@@ -235,13 +241,14 @@ fn check_input(
 }
 
 /// The first rule that a transition breaks.
-fn check_transition(draft: &Draft, transition: &Transition<'_>) -> Result<(), Broken>
+fn check_transition(draft: &IndexedDraft<'_>, transition: &Transition<'_>) -> Result<(), Broken>
     requires limits { KeepsSetLimits draft.now }
+    requires process { transition.now.number.0 < length draft.now.processes }
     requires variables { length transition.now.process.now.variables ≤ 32 }
     ensures ok { IfOk result (λ _. IsValidTransition draft.now (seen transition.now)) }
     ensures err { IfErr result (λ e. Keeps e.rule draft.now (seen transition.now) e.place → ⊥) }
 {
-    if let Err(rule) = check_entry(draft, transition) {
+    if let Err(rule) = check_entry(draft.plain(), transition) {
         return Err(Broken { rule, place: 0 });
     }
     for place in 0..transition.piece.code.len() {
@@ -253,8 +260,9 @@ fn check_transition(draft: &Draft, transition: &Transition<'_>) -> Result<(), Br
 }
 
 /// The first rule that is broken at a place, if the code has it.
-fn check_at(draft: &Draft, transition: &Transition<'_>, place: usize) -> Result<(), Rule>
+fn check_at(draft: &IndexedDraft<'_>, transition: &Transition<'_>, place: usize) -> Result<(), Rule>
     requires limits { KeepsSetLimits draft.now }
+    requires process { transition.now.number.0 < length draft.now.processes }
     requires place { place < 512 }
     requires variables { length transition.now.process.now.variables ≤ 32 }
     ensures ok { IfOk result (λ _. HasParts draft.now (seen transition.now) place) }
@@ -268,12 +276,13 @@ fn check_at(draft: &Draft, transition: &Transition<'_>, place: usize) -> Result<
 
 /// The first rule that is broken at a place of this instruction, if the place has facts.
 fn check_with(
-    draft: &Draft,
+    draft: &IndexedDraft<'_>,
     transition: &Transition<'_>,
     place: usize,
     instruction: Instruction,
 ) -> Result<(), Rule>
     requires limits { KeepsSetLimits draft.now }
+    requires process { transition.now.number.0 < length draft.now.processes }
     requires place { place < 512 }
     requires variables { length transition.now.process.now.variables ≤ 32 }
     requires code { slice_get transition.now.piece.now.code place ≡ Some instruction }

@@ -1,4 +1,14 @@
+use Rattle.turn_check.proofs.RouteTables.{answered_from, answered_to}
 use Rattle.turn_check.proofs.routes.answers_each.Goals as goal
 
 pub returns : goal.returns
-returns c = rw c.as_slice-routes.ensures at (rw c.as_slice-processes.ensures at c.all_answer.ensures)
+returns c =
+    let ps = c.args.draft.now.processes in
+    let rs = c.args.draft.now.routes in (
+      λ t.
+          answered_from ps rs c.args.process.0 c.args.taken c.args.signal c.senders.result c.reached.result c.senders.ensures c.reached.ensures
+          (c.is_within.ensures.0 t),
+      λ all.
+          c.is_within.ensures.1
+          (answered_to ps rs c.args.process.0 c.args.taken c.args.signal c.senders.result c.reached.result c.senders.ensures c.reached.ensures all),
+    )

@@ -6,7 +6,7 @@ use Rattle.turn_check.proofs.walk.check_transition.Goals as goal
 
 pub returns-clause-ok : goal.returns-clause-ok
 returns-clause-ok c =
-    valid_below c.args.draft.now (seen c.args.transition.now) c.in_default.ensures.ok c.loop-place.place (omega arith) c.loop-place.invariant
+    valid_below c.args.draft.now (seen c.args.transition.now) (rw c.plain.ensures at c.in_default.ensures.ok) c.loop-place.place (omega arith) c.loop-place.invariant
 
 pub loop-place-preserved : goal.loop-place-preserved
 loop-place-preserved c =
