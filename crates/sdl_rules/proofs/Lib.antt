@@ -24,6 +24,7 @@ pub mod Repeats
 pub mod Returning
 pub mod Searches
 pub mod Settling
+pub mod Spelling
 pub mod Straying
 pub mod Summing
 pub mod Surveying

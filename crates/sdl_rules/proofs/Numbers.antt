@@ -249,7 +249,7 @@ walk_known : (b : PlainBlock) (p : PlainProcess) (t : Text) (events : List Event
 walk_known b p t events end x known text (n, way, w, e) h = walks_known b p x (Follows p n) (follows_known b p x known n) t (known t text) events way w h
 
 -- a known name has a number
-has_number : (ids : List Identifier) (x : List ℕ) → is_in ids x ≡ true
+pub has_number : (ids : List Identifier) (x : List ℕ) → is_in ids x ≡ true
     → (v : ℕ) × (id : Identifier) × (slice_get ids v ≡ Some id) × (folded x ≡ folded id.name)
 has_number [] x h = absurd (true≢false (sym h))
 has_number (id ∷ ids) x h = elim (or_cases (same_name x id.name) (is_in ids x) h) [

@@ -199,31 +199,39 @@ below_all p order y c is named =
 abbrev pub HasNone : (Statement → List ℕ) → Text → Type 0
 HasNone f t = Each (λ s. f s ≡ []) (statements_of t)
 
--- what holds of the text of each INPUT holds of those of the states
+-- what each INPUT tells of what it takes holds of what the states take
 
-clause_each : (P : Text → Type 0) (c : PlainClause) → Each (λ (i : PlainInput). P i.text) (clause_parts c) → Each (λ (i : Input). P i.text) (clause_inputs c)
-clause_each P (input i) h =
-    each_map (λ (u : Input). P u.text) (λ (s : PlainStimulus). record { at = i.at; stimulus = s; text = i.text }) i.stimuli (each_always (λ (s : PlainStimulus). P i.text) (λ s. h.0) i.stimuli)
-clause_each P (save names) h = tt
+clause_each : (Q : PlainInput → Type 0) (P : Input → Type 0) → ((i : PlainInput) → Q i → Each P (clause_inputs (input i))) → (c : PlainClause)
+    → Each Q (clause_parts c) → Each P (clause_inputs c)
+clause_each Q P f (input i) h = f i h.0
+clause_each Q P f (save names) h = tt
 
-part_each : (P : Text → Type 0) (s : PlainState) → Each (λ (i : PlainInput). P i.text) (flat_map clause_parts s.clauses) → Each (λ (i : Input). P i.text) (part_inputs s)
-part_each P s h =
-    each_flat (λ (i : Input). P i.text) clause_inputs s.clauses
-    (each_with (λ c. Each (λ (i : PlainInput). P i.text) (clause_parts c)) (λ c. Each (λ (i : Input). P i.text) (clause_inputs c)) (clause_each P) s.clauses
-    (each_unflat (λ (i : PlainInput). P i.text) clause_parts s.clauses h))
+part_each : (Q : PlainInput → Type 0) (P : Input → Type 0) → ((i : PlainInput) → Q i → Each P (clause_inputs (input i))) → (s : PlainState)
+    → Each Q (flat_map clause_parts s.clauses) → Each P (part_inputs s)
+part_each Q P f s h =
+    each_flat P clause_inputs s.clauses
+    (each_with (λ c. Each Q (clause_parts c)) (λ c. Each P (clause_inputs c)) (clause_each Q P f) s.clauses (each_unflat Q clause_parts s.clauses h))
 
 given_each : {A : Type 0} (P : A → Type 0) (b : Bool) (xs : List A) → Each P xs → Each P (if b then xs else [])
 given_each P true xs h = h
 given_each P false xs h = tt
 
+pub inputs_by : (Q : PlainInput → Type 0) (P : Input → Type 0) → ((i : PlainInput) → Q i → Each P (clause_inputs (input i))) → (p : PlainProcess) (s : ℕ)
+    → Each Q (input_parts p) → Each P (inputs_of p s)
+inputs_by Q P f p s h =
+    each_flat P (given_to part_inputs (states_of p) s) p.states
+    (each_with (λ (part : PlainState). Each Q (flat_map clause_parts part.clauses)) (λ (part : PlainState). Each P (given_to part_inputs (states_of p) s part))
+    (λ part e. each_flat P (λ (id : Identifier). if is_state (states_of p) s id.name then part_inputs part else []) part.names
+    (each_always (λ (id : Identifier). Each P (if is_state (states_of p) s id.name then part_inputs part else []))
+    (λ id. given_each P (is_state (states_of p) s id.name) (part_inputs part) (part_each Q P f part e)) part.names)) p.states
+    (each_unflat Q (λ (part : PlainState). flat_map clause_parts part.clauses) p.states h))
+
+-- what holds of the text of each INPUT holds of those of the states
 pub inputs_each : (P : Text → Type 0) (p : PlainProcess) (s : ℕ) → Each (λ (i : PlainInput). P i.text) (input_parts p) → Each (λ (i : Input). P i.text) (inputs_of p s)
-inputs_each P p s h =
-    each_flat (λ (i : Input). P i.text) (given_to part_inputs (states_of p) s) p.states
-    (each_with (λ (part : PlainState). Each (λ (i : PlainInput). P i.text) (flat_map clause_parts part.clauses)) (λ (part : PlainState). Each (λ (i : Input). P i.text) (given_to part_inputs (states_of p) s part))
-    (λ part e. each_flat (λ (i : Input). P i.text) (λ (id : Identifier). if is_state (states_of p) s id.name then part_inputs part else []) part.names
-    (each_always (λ (id : Identifier). Each (λ (i : Input). P i.text) (if is_state (states_of p) s id.name then part_inputs part else []))
-    (λ id. given_each (λ (i : Input). P i.text) (is_state (states_of p) s id.name) (part_inputs part) (part_each P part e)) part.names)) p.states
-    (each_unflat (λ (i : PlainInput). P i.text) (λ (part : PlainState). flat_map clause_parts part.clauses) p.states h))
+inputs_each P =
+    inputs_by (λ (i : PlainInput). P i.text) (λ (i : Input). P i.text)
+    (λ i h. each_map (λ (u : Input). P u.text) (λ (s : PlainStimulus). record { at = i.at; stimulus = s; text = i.text }) i.stimuli
+    (each_always (λ (s : PlainStimulus). P i.text) (λ s. h) i.stimuli))
 
 pub texts_none : (f : Statement → List ℕ) (p : PlainProcess) → in_statements (λ from. f) p ≡ [] → (t : Text) → IsTextOf p t → HasNone f t
 texts_none f p h t among =

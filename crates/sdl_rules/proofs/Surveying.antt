@@ -24,7 +24,9 @@ use Rattle.sdl_rules.specs.declared.fault.Limit.TheVariants.{Processes, States, 
 use Rattle.sdl_rules.proofs.Repeats.{append-nil_right}
 use Rattle.sdl_rules.proofs.Numbers.{none_at}
 use Rattle.sdl_rules.proofs.PathNames.{contains_at, all_zip_at, named_reads, steps_there}
-use Rattle.sdl_rules.specs.Fates.{AreFates, IsUnsetAt, IsStep, IsNamed}
+use Rattle.sdl_rules.proofs.Spelling.{spelling_at, declared_steps}
+use Rattle.sdl_rules.specs.Fates.{AreFates, IsUnsetAt, IsStep, IsNamed, IsSpelled}
+use Rattle.sdl_rules.specs.Spellings.{AreDeclared}
 use Rattle.sdl_rules.specs.declared.fault.Step.{Step}
 use Rattle.sdl_tree.specs.declared.expression.Identifier.{Identifier}
 use Rattle.unset_paths.specs.declared.Fate.{Fate}
@@ -116,19 +118,19 @@ plain_more ts i t within read =
     ap plain (take_more ts i t within) ∙ (map-append process_of (take i ts) (get_or ts i t ∷ [])
     ∙ ap (λ (u : the_process.Process). plain (take i ts) ++ process_of u ∷ []) (sym read))
 
-abbrev pub IsUnsetAmong : List PlainProcess → Unset → Type 0
-IsUnsetAmong ps u = (p : PlainProcess) × Contains ps p × IsUnset p u
+abbrev pub IsUnsetAmong : PlainBlock → List PlainProcess → Unset → Type 0
+IsUnsetAmong b ps u = (p : PlainProcess) × Contains ps p × IsUnset b p u
 
 pub contains_process : (ts : List the_process.Process) (i : ℕ) (t : the_process.Process) → i < length ts → t ≡ get_or ts i t → Contains (plain ts) (process_of t)
 contains_process ts i t within read =
     contains_at (plain ts) i (process_of t)
     (slice_get-map process_of ts i ∙ ap (option_map process_of) (slice_get-get_or ts i t within ∙ ap Some (sym read)))
 
-pub shorter_is : (ps : List PlainProcess) (best : Option Unset) (other r : Unset) → (r ≡ other) ⊎ (best ≡ Some r) → IfSome best (IsUnsetAmong ps)
-    → IsUnsetAmong ps other → IsUnsetAmong ps r
-shorter_is ps best other r one found last = elim one [
-  | inl e ↦ subst (IsUnsetAmong ps) (sym e) last
-  | inr e ↦ subst (λ (o : Option Unset). IfSome o (IsUnsetAmong ps)) e found
+pub shorter_is : (b : PlainBlock) (ps : List PlainProcess) (best : Option Unset) (other r : Unset) → (r ≡ other) ⊎ (best ≡ Some r)
+    → IfSome best (IsUnsetAmong b ps) → IsUnsetAmong b ps other → IsUnsetAmong b ps r
+shorter_is b ps best other r one found last = elim one [
+  | inl e ↦ subst (IsUnsetAmong b ps) (sym e) last
+  | inr e ↦ subst (λ (o : Option Unset). IfSome o (IsUnsetAmong b ps)) e found
 ]
 
 -- what holds of each process holds of the one at a place
@@ -155,6 +157,12 @@ pub survey_reads : (p : PlainProcess) (fates : List Fate) (n : ℕ) → AreFates
     → (steps : List Step) → AllZip (IsNamed p) shown steps → ReadsUnset p steps id.name
 survey_reads p fates n a u shown is id var steps named =
     named_reads p a.graph n id a.is var shown steps (unset_fate p fates n a u shown is) named
+
+-- and its names are spelled as they are declared
+pub survey_names : (b : PlainBlock) (p : PlainProcess) (n : ℕ) (id : Identifier) (shown : List number.Step) (steps : List Step) → process_unknown b p ≡ []
+    → slice_get (variable_names p) n ≡ Some id → AllZip (IsNamed p) shown steps → AllZip (IsSpelled b p) shown steps → AreDeclared b p id.name steps
+survey_names b p n id shown steps known var named spelled =
+    (spelling_at (variable_names p) n id var, declared_steps b p shown steps known named spelled)
 
 pub number_within : (p : PlainProcess) (fates : List Fate) (n : ℕ) → AreFates p fates → IsUnsetAt fates n → n < length (variable_names p)
 number_within p fates n a u =

@@ -28,6 +28,7 @@ pub mod Settled
 pub mod Sorts
 pub mod Sound
 pub mod Sources
+pub mod Spellings
 pub mod Statements
 pub mod Surveys
 pub mod Times

@@ -108,7 +108,8 @@ pub enum RuleFault {
     /// A limit is passed.
     #[error("S10 Limit {0}")]
     Limit(Limit),
-    /// A control path from START reads a variable before it is set.
+    /// A control path from START reads a variable before it is set. Names are spelled as they are declared, a state as the
+    /// first STATE names it.
     #[error("S11 Unset {variable}{path}")]
     Unset { variable: Name, path: ControlPath },
     /// There was not enough memory.

@@ -34,7 +34,7 @@ fn survey(
     requires known { process_unknown (block_of block.now) (process_of table.now) ≡ [] }
     requires answered { in_statements (λ from. statement_unanswered (variables_of (process_of table.now))) (process_of table.now) ≡ [] }
     requires order { IsOrder (process_of table.now) order.now }
-    ensures { IfOk result (IsSurvey (process_of table.now)) }
+    ensures { IfOk result (IsSurvey (block_of block.now) (process_of table.now)) }
 {
     let fates = find_fates(alloc, table, order)?;
     let places = read_places(alloc, table, order, &fates)?;
@@ -76,7 +76,7 @@ pub(crate) fn settle(
 ) -> Result<Result<Vec<Vec<u32>>, Unset>, AllocError>
     requires within { IsWithin (block_of block.now) }
     requires orders { AreOrders (processes_of (block_of block.now)) orders.now }
-    ensures { IfOk result (AreSurveys (processes_of (block_of block.now))) }
+    ensures { IfOk result (AreSurveys (block_of block.now)) }
 {
     let mut sets = Vec::new(alloc);
     let mut best: Option<Unset> = None;

@@ -44,10 +44,11 @@ loop-number-preserved c =
     let ts = c.tables-tables.result.now in
     let k = c.loop-number.number in
     let t = c.index-tables-number.result in
+    let b = block_of c.args.block.now in
     let more : plain (take (k + 1) ts) ≡ plain (take k ts) ++ process_of t ∷ [] = plain_more ts k t c.loop-number-test.true c.index-tables-number.is in
     elim c.match-branch-2.branch [
       | in-Ok+in_ok-push-in-Ok w ↦
-          let told : IsSurvey (process_of t) (Ok w.in-Ok.set) = subst (IsSurvey (process_of t)) w.in-Ok.is c.in_ok-set.ensures in
+          let told : IsSurvey b (process_of t) (Ok w.in-Ok.set) = subst (IsSurvey b (process_of t)) w.in-Ok.is c.in_ok-set.ensures in
           rw (w.best-is, w.sets-is, more) (record {
             found = c.loop-number.invariant.found;
             sets = λ e.
@@ -57,11 +58,11 @@ loop-number-preserved c =
             none = λ e. All-push NeverReadsUnset (plain (take k ts)) (process_of t) (c.loop-number.invariant.none e) told.1;
           })
       | in-Err w ↦
-          let told : IsSurvey (process_of t) (Err w.in-Err.unset) = subst (IsSurvey (process_of t)) w.in-Err.is c.in_ok-set.ensures in
-          let last : IsUnsetAmong (plain ts) w.in-Err.unset =
+          let told : IsSurvey b (process_of t) (Err w.in-Err.unset) = subst (IsSurvey b (process_of t)) w.in-Err.is c.in_ok-set.ensures in
+          let last : IsUnsetAmong b (plain ts) w.in-Err.unset =
           (process_of t, contains_process ts k t c.loop-number-test.true c.index-tables-number.is, told) in
           rw (w.best-is, w.sets-is) (record {
-            found = shorter_is (plain ts) c.loop-number.best w.in-Err.unset w.shorter.result w.shorter.ensures c.loop-number.invariant.found last;
+            found = shorter_is b (plain ts) c.loop-number.best w.in-Err.unset w.shorter.result w.shorter.ensures c.loop-number.invariant.found last;
             sets = λ e. absurd (some_unset w.shorter.result e);
             none = λ e. absurd (some_unset w.shorter.result e);
           })

@@ -7,7 +7,7 @@ use Rattle.sdl_tree.specs.Views.{process_of, block_of}
 use Rattle.sdl_tree.specs.declared.expression.Identifier.{Identifier}
 use Rattle.sdl_tables.specs.Names.{variable_names, states_of}
 use Rattle.sdl_rules.specs.Fates.{AreFates, AreSet, IsUnsetAt}
-use Rattle.sdl_rules.proofs.Surveying.{survey_steps, survey_reads, number_within}
+use Rattle.sdl_rules.proofs.Surveying.{survey_steps, survey_reads, survey_names, number_within}
 use Rattle.sdl_rules.proofs.Settling.{settled, never, AreBits}
 use Rattle.sdl_rules.proofs.settled.survey.Goals as goal
 
@@ -61,5 +61,8 @@ returns c =
     c.deref-in-Some.ensures.value c.path_at.ensures in
     let var : slice_get (variable_names p) n ≡ Some c.name-variable.result =
     ap (λ (ids : List Identifier). slice_get ids n) (sym c.variables.ensures) ∙ c.name-variable.ensures in
-    survey_reads p fates n c.in_ok-fates.ensures unset c.path_at.result.now path c.name-variable.result var
-    c.in_ok-path-in-Some.path.steps.items c.in_ok-path-in-Some.ensures.named
+    let steps = c.in_ok-path-in-Some.path.steps.items in
+    let named = c.in_ok-path-in-Some.ensures.named in (
+      survey_reads p fates n c.in_ok-fates.ensures unset c.path_at.result.now path c.name-variable.result var steps named,
+      survey_names (block_of c.args.block.now) p n c.name-variable.result c.path_at.result.now steps c.requires.known var named c.in_ok-path-in-Some.ensures.spelled,
+    )
