@@ -8,7 +8,6 @@ use Rattle.turn_code.specs.declared.draft.DraftRoute.{DraftRoute}
 use Rattle.turn_code.specs.Routes.{IsProcess}
 use Rattle.turn_check.specs.Parties.{seat, holds}
 use Rattle.turn_check.specs.declared.party_set.PartySet.{PartySet}
-use Rattle.turn_check.specs.declared.route_table.Row.{Row}
 use Rattle.turn_check.specs.declared.route_table.Ends.{Ends}
 use Rattle.turn_check.specs.declared.route_table.RouteTable.{RouteTable}
 
