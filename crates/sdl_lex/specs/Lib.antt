@@ -1,5 +1,6 @@
 pub mod Lexed
 pub mod NameRoom
+pub mod Printed
 pub mod Scan
 pub mod Spelling
 pub mod Texts

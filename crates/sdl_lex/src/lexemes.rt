@@ -4,6 +4,7 @@ ghost use Rattle.sdl_lex.specs.declared.lexemes.LexFault.TheVariants.{NoMemory};
 
 use crate::Name;
 use std::alloc::AllocFailed;
+use std::fmt;
 use thiserror::Error;
 
 /// A reserved word. It may be written in any case.
@@ -124,18 +125,30 @@ pub struct Token {
 #[derive(Clone, Copy, Debug, PartialEq, Eq, Drop, Error)]
 pub enum LexFault {
     /// A byte that begins no token, white space or comment.
-    #[error("L1 BadCharacter")]
     BadCharacter(u32),
     /// A comment or a quoted text without end.
-    #[error("L2 OpenComment")]
     OpenComment(u32),
     /// A name of more than 32 bytes, a number above 2147483647, or the first byte past the
     /// 262,144 that a text may have.
-    #[error("L3 TooLong")]
     TooLong(u32),
     /// There was not enough memory.
-    #[error("out of memory")]
     NoMemory,
+}
+
+impl fmt::Display for LexFault {
+    ghost use Rattle.std.specs.Prelude.{Some};
+    ghost use Rattle.sdl_lex.specs.Printed.{fault_text};
+
+    ghost output = { λ e. Some (fault_text e) };
+
+    fn fmt<W: fmt::Write>(&self, f: &mut fmt::Formatter<W>) -> fmt::Result {
+        f.write_str(match self {
+            Self::BadCharacter(_) => "L1 BadCharacter",
+            Self::OpenComment(_) => "L2 OpenComment",
+            Self::TooLong(_) => "L3 TooLong",
+            Self::NoMemory => "out of memory",
+        })
+    }
 }
 
 impl<T: Drop> From<AllocFailed<T>> for LexFault {

@@ -18,6 +18,7 @@ pub mod Measures
 pub mod Orders
 pub mod Parts
 pub mod Paths
+pub mod Printed
 pub mod Receivers
 pub mod Refusals
 pub mod Resolving

@@ -1,5 +1,6 @@
 //! What a text can break, and how it is printed.
-ghost use Rattle.std.specs.Prelude.{◌≡◌};
+ghost use Rattle.std.specs.Prelude.{◌≡◌, Some};
+ghost use Rattle.sdl_rules.specs.Printed.{limit_text, step_text, path_text, fault_text};
 
 use sdl_lex::Name;
 use sdl_tables::TableFault;
@@ -42,12 +43,27 @@ pub enum Step {
 }
 
 impl fmt::Display for Limit {
+    ghost output = { λ l. Some (limit_text l) };
+
     fn fmt<W: fmt::Write>(&self, f: &mut fmt::Formatter<W>) -> fmt::Result {
-        fmt::Debug::fmt(self, f)
+        f.write_str(match self {
+            Self::Processes => "Processes",
+            Self::States => "States",
+            Self::Variables => "Variables",
+            Self::Timers => "Timers",
+            Self::Signals => "Signals",
+            Self::Params => "Params",
+            Self::Pieces => "Pieces",
+            Self::Piece => "Piece",
+            Self::Depth => "Depth",
+            Self::Effects => "Effects",
+        })
     }
 }
 
 impl fmt::Display for Step {
+    ghost output = { λ s. Some (step_text s) };
+
     fn fmt<W: fmt::Write>(&self, f: &mut fmt::Formatter<W>) -> fmt::Result {
         match self {
             Step::Start => write!(f, "START"),
@@ -63,6 +79,8 @@ pub struct ControlPath {
 }
 
 impl fmt::Display for ControlPath {
+    ghost output = { λ p. Some (path_text p) };
+
     fn fmt<W: fmt::Write>(&self, f: &mut fmt::Formatter<W>) -> fmt::Result {
         for step in &self.steps {
             write!(f, " {step}")?;
@@ -76,45 +94,54 @@ impl fmt::Display for ControlPath {
 pub enum RuleFault {
     /// A name that its class and scope have already, a timer named as a signal, or a signal or timer
     /// twice among what a state takes and saves.
-    #[error("S1 DoubleName")]
     DoubleName(u32),
     /// A name that its class and scope lack.
-    #[error("S2 UnknownName")]
     UnknownName(u32),
     /// A value, an answer or a place of an INPUT with the wrong sort, or not as many of them as there have to be.
-    #[error("S3 WrongSort")]
     WrongSort(u32),
     /// A NEXTSTATE to a state that no STATE names, a START, INPUT or CONNECTION whose actions run off their end, or the
     /// first statement behind a DECISION none of whose bodies goes on: the place of that word.
-    #[error("S4 NoState")]
     NoState(u32),
     /// An OUTPUT that no route carries, or one TO SENDER where there is no sender (after START and for a timer) or no way
     /// back to each who may have sent: the place of the signal's name.
-    #[error("S5 NoReceiver")]
     NoReceiver(u32),
     /// An OUTPUT that says to nobody, and that routes carry to several: the place of the signal's name.
-    #[error("S6 TwoReceivers")]
     TwoReceivers(u32),
     /// A JOIN in a connection that comes back to it: the place of the JOIN.
-    #[error("S7 JoinCycle")]
     JoinCycle(u32),
     /// An Integer DECISION without ELSE, a Boolean one in which a value isn't answered exactly once, or one with an answer
     /// without values: the place of the DECISION.
-    #[error("S8 NoAnswer")]
     NoAnswer(u32),
     /// Right of `/`, MOD or REM stands no number of 1 or more: the place of what stands there.
-    #[error("S9 BadDivisor")]
     BadDivisor(u32),
     /// A limit is passed.
-    #[error("S10 Limit {0}")]
     Limit(Limit),
     /// A control path from START reads a variable before it is set. Names are spelled as they are declared, a state as the
     /// first STATE names it.
-    #[error("S11 Unset {variable}{path}")]
     Unset { variable: Name, path: ControlPath },
     /// There was not enough memory.
-    #[error("out of memory")]
     NoMemory,
+}
+
+impl fmt::Display for RuleFault {
+    ghost output = { λ e. Some (fault_text e) };
+
+    fn fmt<W: fmt::Write>(&self, f: &mut fmt::Formatter<W>) -> fmt::Result {
+        match self {
+            Self::DoubleName(_) => f.write_str("S1 DoubleName"),
+            Self::UnknownName(_) => f.write_str("S2 UnknownName"),
+            Self::WrongSort(_) => f.write_str("S3 WrongSort"),
+            Self::NoState(_) => f.write_str("S4 NoState"),
+            Self::NoReceiver(_) => f.write_str("S5 NoReceiver"),
+            Self::TwoReceivers(_) => f.write_str("S6 TwoReceivers"),
+            Self::JoinCycle(_) => f.write_str("S7 JoinCycle"),
+            Self::NoAnswer(_) => f.write_str("S8 NoAnswer"),
+            Self::BadDivisor(_) => f.write_str("S9 BadDivisor"),
+            Self::Limit(limit) => write!(f, "S10 Limit {limit}"),
+            Self::Unset { variable, path } => write!(f, "S11 Unset {variable}{path}"),
+            Self::NoMemory => f.write_str("out of memory"),
+        }
+    }
 }
 
 impl From<AllocError> for RuleFault {

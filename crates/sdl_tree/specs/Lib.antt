@@ -12,6 +12,7 @@ pub mod BodyViews
 pub mod Productions
 pub mod Mirrors
 pub mod Parts
+pub mod Printed
 pub mod Stacks
 pub mod Lengths
 pub mod Settled

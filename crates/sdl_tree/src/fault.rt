@@ -1,4 +1,5 @@
 //! What keeps tokens from having a tree.
+use std::fmt;
 use thiserror::Error;
 
 /// Why tokens have no tree.
@@ -6,13 +7,25 @@ use thiserror::Error;
 pub enum ParseFault {
     /// The index of the first token with which no reading begins; the number of tokens where they
     /// end too early.
-    #[error("P1 Unexpected")]
     Unexpected(usize),
     /// The tree is higher than [`MAX_HEIGHT`](crate::MAX_HEIGHT). The place in the text, in bytes,
     /// of the first TASK, OUTPUT, SET or DECISION that is too high.
-    #[error("P2 TooDeep")]
     TooDeep(u32),
     /// There was not enough memory.
-    #[error("out of memory")]
     NoMemory,
+}
+
+impl fmt::Display for ParseFault {
+    ghost use Rattle.std.specs.Prelude.{Some};
+    ghost use Rattle.sdl_tree.specs.Printed.{fault_text};
+
+    ghost output = { λ e. Some (fault_text e) };
+
+    fn fmt<W: fmt::Write>(&self, f: &mut fmt::Formatter<W>) -> fmt::Result {
+        f.write_str(match self {
+            Self::Unexpected(_) => "P1 Unexpected",
+            Self::TooDeep(_) => "P2 TooDeep",
+            Self::NoMemory => "out of memory",
+        })
+    }
 }

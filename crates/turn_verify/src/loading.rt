@@ -1,6 +1,6 @@
 //! From a text to a valid set.
 
-ghost use Rattle.std.specs.Prelude.{◌≡◌, ◌↔◌, List, option_map, IsTrue, Ok, IfOk, IfErr, IsOkUnless};
+ghost use Rattle.std.specs.Prelude.{◌≡◌, ◌↔◌, List, Some, option_map, IsTrue, Ok, IfOk, IfErr, IsOkUnless};
 ghost use Rattle.sdl_lex.specs.Lexed as lexis;
 ghost use Rattle.sdl_lex.specs.declared.lexemes.Token as lexeme;
 ghost use Rattle.sdl_tree.specs.Plain.{PlainBlock};
@@ -8,6 +8,7 @@ ghost use Rattle.sdl_tree.specs.Views.{block_of};
 ghost use Rattle.sdl_rules.specs.Refusals.{Sound};
 ghost use Rattle.sdl_compile.specs.Blocks.{MatchesBlock};
 ghost use Rattle.sdl_compile.specs.Meaning.{RunsAsMeant};
+ghost use Rattle.turn_verify.specs.Printed.{fault_text, place_text};
 ghost use Rattle.turn_verify.specs.Loaded.{IsLoaded, IsSoundText, IsRead, Gives, IsRefused, line_at, token_place, rule_place};
 
 use sdl_compile::compile;
@@ -24,7 +25,6 @@ use turn_check::{Verified, verify};
 #[derive(Debug, Drop, Error)]
 pub enum LoadFault {
     /// The text has no tokens (L1 to L3). The line is that of the byte where the fault begins.
-    #[error("{fault} line {line}")]
     Lex {
         fault: LexFault,
         line: usize,
@@ -32,20 +32,17 @@ pub enum LoadFault {
     /// The tokens read as no tree (P1), or as one that is too high (P2). The line is that of the
     /// token, of the last one where they end too early, and 1 where there is none; for P2 it is
     /// that of the statement.
-    #[error("{fault} line {line}")]
     Parse {
         fault: ParseFault,
         line: usize,
     },
     /// The tree breaks a rule (S1 to S11). Limits (S10), and variables that are read before they
     /// are set (S11), have no line.
-    #[error("{fault}{}", AtLine(*line))]
     Rule {
         fault: RuleFault,
         line: Option<usize>,
     },
     /// There was not enough memory.
-    #[error("out of memory")]
     NoMemory,
 }
 
@@ -66,10 +63,28 @@ impl LoadFault {
 struct AtLine(Option<usize>);
 
 impl fmt::Display for AtLine {
+    ghost output = { λ l. Some (place_text l.0) };
+
     fn fmt<W: fmt::Write>(&self, f: &mut fmt::Formatter<W>) -> fmt::Result {
         match self.0 {
             Some(line) => write!(f, " line {line}"),
             None => Ok(()),
+        }
+    }
+}
+
+impl fmt::Display for LoadFault {
+    ghost output = { λ e. Some (fault_text e) };
+
+    fn fmt<W: fmt::Write>(&self, f: &mut fmt::Formatter<W>) -> fmt::Result {
+        match self {
+            Self::Lex { fault, line } => write!(f, "{fault} line {line}"),
+            Self::Parse { fault, line } => write!(f, "{fault} line {line}"),
+            Self::Rule { fault, line } => {
+                let place = AtLine(*line);
+                write!(f, "{fault}{place}")
+            }
+            Self::NoMemory => f.write_str("out of memory"),
         }
     }
 }

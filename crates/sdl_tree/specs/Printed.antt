@@ -1,0 +1,10 @@
+-- How the faults of the parser are printed.
+use Rattle.std.specs.Prelude.{ℕ, List, codes}
+use Rattle.sdl_tree.specs.declared.fault.ParseFault.{ParseFault}
+use Rattle.sdl_tree.specs.declared.fault.ParseFault.TheVariants.{Unexpected, TooDeep, NoMemory}
+
+-- the code of a fault and its name
+abbrev pub fault_text : ParseFault → List ℕ
+fault_text (Unexpected index) = codes "P1 Unexpected"
+fault_text (TooDeep place) = codes "P2 TooDeep"
+fault_text NoMemory = codes "out of memory"

@@ -1,0 +1,24 @@
+-- How the refusal of a text is printed.
+use Rattle.std.specs.Prelude.{ℕ, List, [], ◌++◌, Option, None, Some, codes}
+use Rattle.std.specs.Fmt.{decimal}
+use Rattle.sdl_lex.specs.Printed as lexis
+use Rattle.sdl_tree.specs.Printed as parser
+use Rattle.sdl_rules.specs.Printed as rules
+use Rattle.turn_verify.specs.declared.loading.LoadFault.{LoadFault}
+use Rattle.turn_verify.specs.declared.loading.LoadFault.TheVariants.{Lex, Parse, Rule, NoMemory}
+
+-- the line where a fault is
+abbrev pub line_text : ℕ → List ℕ
+line_text line = codes " line " ++ decimal line
+
+-- the same, where there is one
+abbrev pub place_text : Option ℕ → List ℕ
+place_text None = []
+place_text (Some line) = line_text line
+
+-- what is wrong, and then its line
+abbrev pub fault_text : LoadFault → List ℕ
+fault_text (Lex fault line) = lexis.fault_text fault ++ line_text line
+fault_text (Parse fault line) = parser.fault_text fault ++ line_text line
+fault_text (Rule fault line) = rules.fault_text fault ++ place_text line
+fault_text NoMemory = codes "out of memory"
