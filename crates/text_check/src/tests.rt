@@ -283,17 +283,19 @@ fn refuses_long_texts_and_bytes_that_are_none(rt: HostRuntime) -> Result<(), Fai
     Ok(())
 }
 
-/// A reader that gives its text in parts of 9 bytes, and fails after so many calls.
+/// A reader that gives its text in parts of 9 bytes. After so many calls it fails once, and then goes on.
 #[derive(Drop)]
 struct Source<'a> {
     rest: &'a [u8],
     calls_left: u32,
+    failure: io::ErrorKind,
 }
 
 impl Read for Source<'_> {
     fn read(&mut self, part: &mut [u8]) -> io::Result<usize> {
         if self.calls_left == 0 {
-            return Err(io::Error::from(io::ErrorKind::Other));
+            self.calls_left = u32::MAX;
+            return Err(io::Error::from(self.failure));
         }
         self.calls_left -= 1;
         let room = part.len().min(9);
@@ -320,12 +322,18 @@ impl Read for Spaces {
     }
 }
 
+/// A call that was interrupted is made again, one that failed isn't.
 #[test]
 fn stops_at_a_failed_read(rt: HostRuntime) -> Result<(), Fail> {
-    for (calls_left, lines, status) in [(1, "", 4), (90, ACCEPTED, 0)] {
+    for (calls_left, failure, lines, status) in [
+        (1, io::ErrorKind::Other, "", 4),
+        (1, io::ErrorKind::Interrupted, ACCEPTED, 0),
+        (90, io::ErrorKind::Other, ACCEPTED, 0),
+    ] {
         let source = Source {
             rest: COUNTER.as_bytes(),
             calls_left,
+            failure,
         };
         let (written, given) = checked(rt.alloc(), source, 9);
         assert_eq!(rt; written.as_slice(), lines.as_bytes());
@@ -344,12 +352,22 @@ fn gives_up_on_a_reader_without_end(rt: HostRuntime) {
     assert_eq!(rt; spaces.calls, 1_000_000);
 }
 
+/// Neither an accepted text nor a refused one is answered where a line can't be written.
 #[test]
-fn stops_at_a_failed_line(rt: HostRuntime) {
-    let (written, status) = checked(rt.alloc(), COUNTER.as_bytes(), 1);
-    assert_eq!(rt;
-        written.as_slice(),
-        b"P START budget 3 depth 1 effects 0\n".as_slice()
-    );
-    assert_eq!(rt; status, 4);
+fn stops_at_a_failed_line(rt: HostRuntime) -> Result<(), Fail> {
+    for (text, calls, lines) in [
+        (COUNTER, 0, ""),
+        (COUNTER, 1, "P START budget 3 depth 1 effects 0\n"),
+        (
+            COUNTER,
+            2,
+            "P START budget 3 depth 1 effects 0\nP Run/Up budget 7 depth 2 effects 0\n",
+        ),
+        ("", 0, ""),
+    ] {
+        let (written, status) = checked(rt.alloc(), text.as_bytes(), calls);
+        assert_eq!(rt; written.as_slice(), lines.as_bytes(), "{calls}");
+        assert_eq!(rt; status, 4, "{calls}");
+    }
+    Ok(())
 }
