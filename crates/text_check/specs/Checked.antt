@@ -1,15 +1,24 @@
--- What the status of a check says of the text that was read.
-use Rattle.std.specs.Prelude.{◌≡◌, ℕ, List, Option, IsUtf8}
-use Rattle.turn_verify.specs.Loaded.{IsSound}
+-- What the status of a check says of the text that was read, and of what was written.
+use Rattle.std.specs.Prelude.{◌≡◌, ℕ, List, Option, IfSome, IsUtf8}
+use Rattle.std.specs.Io.KnownBytes.{Appends}
+use Rattle.turn_code.specs.declared.draft.Draft.{Draft}
+use Rattle.turn_verify.specs.Loaded.{IsSound, IsLoaded, IsRefused}
 use Rattle.turn_verify.specs.declared.loading.LoadFault.TheVariants.{NoMemory}
 use Rattle.text_check.specs.declared.checking.SetFault.{SetFault}
-use Rattle.text_check.specs.declared.checking.SetFault.TheVariants.{Load}
+use Rattle.text_check.specs.declared.checking.SetFault.TheVariants.{NotText, Load}
 use Rattle.text_check.specs.declared.texts.SetWord.{SetWord}
 use Rattle.text_check.specs.declared.texts.SetWord.TheVariants.{Text}
+use Rattle.text_check.specs.Printed.{refusal_line, set_lines}
 
 -- the bytes that a set's reader has to give, where they are known
 abbrev pub given : {R : Type 0} → (R → Option (List ℕ)) → SetWord R → Option (List ℕ)
 given remaining (Text reader) = remaining reader
+
+-- P holds of some bytes, which are those that are given where these are known
+pub record IsGiven (known : Option (List ℕ)) (P : List ℕ → Type 0) : Type 0 where
+  pub bytes : List ℕ
+  pub are_known : IfSome known (λ all. bytes ≡ all)
+  pub holds : P bytes
 
 -- the bytes are a text that is sound
 pub record IsAccepted (bytes : List ℕ) : Type 0 where
@@ -23,3 +32,26 @@ IsNotAccepted bytes = IsAccepted bytes → ⊥
 -- the text was judged, and memory was not what was wanting
 abbrev pub IsRefusal : SetFault → Type 0
 IsRefusal fault = fault ≡ Load NoMemory → ⊥
+
+-- the bytes are a text, and the set is that of its block
+pub record IsSetOf (bytes : List ℕ) (d : Draft) : Type 0 where
+  pub utf8 : IsUtf8 bytes
+  pub loaded : IsLoaded bytes d
+
+-- the bytes are no text, or their text has this fault; want of memory says nothing
+abbrev pub IsFaultOf : List ℕ → SetFault → Type 0
+IsFaultOf bytes NotText = IsUtf8 bytes → ⊥
+IsFaultOf bytes (Load fault) = IsUtf8 bytes × IsRefused bytes fault
+
+-- what is written grows by the lines of the set of the bytes, all of them
+pub record PrintsCosts (old new : Option (List ℕ)) (bytes : List ℕ) : Type 0 where
+  pub draft : Draft
+  pub is_set : IsSetOf bytes draft
+  pub printed : Appends old new (set_lines draft)
+
+-- what is written grows by the line of a fault that the bytes have, and by nothing else
+pub record PrintsRefusal (old new : Option (List ℕ)) (bytes : List ℕ) : Type 0 where
+  pub fault : SetFault
+  pub judged : IsRefusal fault
+  pub is_so : IsFaultOf bytes fault
+  pub printed : Appends old new (refusal_line fault)

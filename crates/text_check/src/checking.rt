@@ -1,24 +1,39 @@
 //! The command `check`: whether a text is accepted, and what its transitions cost.
 ghost use Rattle.std.specs.Prelude.{◌≡◌, ◌⊎◌, IfSome, IfOk, IfErr, IsFalse};
-ghost use Rattle.text_check.specs.Checked.{given, IsAccepted, IsNotAccepted, IsRefusal};
+ghost use Rattle.std.specs.Io.KnownBytes.{Appends};
+ghost use Rattle.text_check.specs.Checked.{given, IsGiven, IsAccepted, IsNotAccepted, IsRefusal, IsFaultOf, IsSetOf, PrintsCosts, PrintsRefusal};
+ghost use Rattle.text_check.specs.Printed.{refusal_line};
 
+use crate::costs::write_set;
 use crate::lines::{FAILED, HELD, REFUSED, write_line};
 use crate::texts::{SetWord, read_whole};
 use std::alloc::Global;
-use std::io::{self, Read, Write};
+use std::io::{Read, Write};
 use std::{fmt, str};
 use thiserror::Error;
-use turn_verify::{Cert, LoadFault, Name, Place, ProcessNumber, StateNumber, Verified, load};
+use turn_verify::{LoadFault, Verified, load};
 
 /// Why a text is no set.
 #[derive(Debug, Drop, Error)]
 pub enum SetFault {
     /// The bytes are not UTF-8.
-    #[error("F1 NotText")]
     NotText,
     /// The text is refused.
-    #[error("{0}")]
     Load(LoadFault),
+}
+
+impl fmt::Display for SetFault {
+    ghost use Rattle.std.specs.Prelude.{Some};
+    ghost use Rattle.text_check.specs.Printed.{fault_text};
+
+    ghost output = { λ e. Some (fault_text e) };
+
+    fn fmt<W: fmt::Write>(&self, f: &mut fmt::Formatter<W>) -> fmt::Result {
+        match self {
+            Self::NotText => f.write_str("F1 NotText"),
+            Self::Load(fault) => fmt::Display::fmt(fault, f),
+        }
+    }
 }
 
 impl SetFault {
@@ -38,11 +53,14 @@ impl SetFault {
 /// input of its states. The text is read whole before anything is written, and a line goes out in one
 /// write.
 ///
-/// Gives the exit status: 0, or 2 after a line `refused CODE Name ..` alone, with ` line N` where the
-/// fault has a place, or 4 where memory, a read or a write fails.
+/// Gives the exit status: 0 where every line was written, or 2 after a line `refused CODE Name ..` alone, with ` line N`
+/// where the fault has a place, or 4 where memory, a read or a write fails. Nothing is written after a write that failed.
+#[tactic(auto, using(crate::proofs::Prints::given_bytes))]
 pub fn check<R: Read + Drop, W: Write>(alloc: Global, set: SetWord<R>, writer: &mut W) -> u8
     ensures held { result ≡ 0 → IfSome (given R.remaining set) IsAccepted }
     ensures refused { result ≡ 2 → IfSome (given R.remaining set) IsNotAccepted }
+    ensures costs { result ≡ 0 → IsGiven (given R.remaining set) (PrintsCosts (W.contents writer.old) (W.contents writer.new)) }
+    ensures refusal { result ≡ 2 → IsGiven (given R.remaining set) (PrintsRefusal (W.contents writer.old) (W.contents writer.new)) }
     ensures status { (result ≡ 0) ⊎ (result ≡ 2) ⊎ (result ≡ 4) }
 {
     let SetWord::Text(mut reader) = set;
@@ -53,9 +71,12 @@ pub fn check<R: Read + Drop, W: Write>(alloc: Global, set: SetWord<R>, writer: &
 }
 
 /// Prints what there is to say of the bytes of a text.
+#[tactic(auto, using(crate::proofs::Prints::costs_printed, crate::proofs::Prints::refusal_printed))]
 fn check_text<W: Write>(alloc: Global, bytes: &[u8], writer: &mut W) -> u8
     ensures held { result ≡ 0 → IsAccepted bytes.now }
     ensures refused { result ≡ 2 → IsNotAccepted bytes.now }
+    ensures costs { result ≡ 0 → PrintsCosts (W.contents writer.old) (W.contents writer.new) bytes.now }
+    ensures refusal { result ≡ 2 → PrintsRefusal (W.contents writer.old) (W.contents writer.new) bytes.now }
     ensures status { (result ≡ 0) ⊎ (result ≡ 2) ⊎ (result ≡ 4) }
 {
     match set_in(alloc, bytes) {
@@ -70,6 +91,7 @@ fn check_text<W: Write>(alloc: Global, bytes: &[u8], writer: &mut W) -> u8
 /// The line of a refusal. Gives the exit status.
 fn write_refusal<W: Write>(alloc: Global, writer: &mut W, fault: &SetFault) -> u8
     ensures refused { result ≡ 2 → IsRefusal fault.now }
+    ensures printed { result ≡ 2 → Appends (W.contents writer.old) (W.contents writer.new) (refusal_line fault.now) }
     ensures status { (result ≡ 2) ⊎ (result ≡ 4) }
 {
     if fault.wants_memory() {
@@ -84,7 +106,9 @@ fn write_refusal<W: Write>(alloc: Global, writer: &mut W, fault: &SetFault) -> u
 /// The set of a text, or why it has none.
 fn set_in(alloc: Global, bytes: &[u8]) -> Result<Verified, SetFault>
     ensures accepted { IfOk result (λ v. IsAccepted bytes.now) }
+    ensures set { IfOk result (IsSetOf bytes.now) }
     ensures refused { IfErr result (λ e. IsRefusal e → IsNotAccepted bytes.now) }
+    ensures fault { IfErr result (IsFaultOf bytes.now) }
 {
     match str::from_utf8(bytes) {
         Ok(text) => match load(alloc, text) {
@@ -93,111 +117,4 @@ fn set_in(alloc: Global, bytes: &[u8]) -> Result<Verified, SetFault>
         },
         Err(_) => Err(SetFault::NotText),
     }
-}
-
-/// What a transition costs, as it is printed.
-#[derive(Clone, Copy)]
-struct Costs(Cert);
-
-impl fmt::Display for Costs {
-    fn fmt<W: fmt::Write>(&self, f: &mut fmt::Formatter<W>) -> fmt::Result {
-        let Cert {
-            budget,
-            depth,
-            effects,
-        } = self.0;
-        write!(f, "budget {budget} depth {depth} effects {effects}")
-    }
-}
-
-/// A name as it is printed, empty where there is none.
-fn printed(name: Option<&Name>) -> &str {
-    match name {
-        Some(name) => str::from_utf8(name.as_bytes()).unwrap_or(""),
-        None => "",
-    }
-}
-
-/// A count of what has numbers of one octet.
-fn octet(count: usize) -> u8 {
-    u8::try_from(count).unwrap_or(u8::MAX)
-}
-
-/// The lines of an accepted set.
-fn write_set<W: Write>(alloc: Global, writer: &mut W, set: &Verified) -> io::Result<()> {
-    for process in 0..octet(set.process_count()) {
-        write_process(alloc, writer, set, ProcessNumber(process))?;
-    }
-    write_line(alloc, writer, &"accepted")
-}
-
-/// The lines of a process.
-fn write_process<W: Write>(
-    alloc: Global,
-    writer: &mut W,
-    set: &Verified,
-    process: ProcessNumber,
-) -> io::Result<()> {
-    if let Some(cert) = set.certificate(process, Place::Start, 0) {
-        let name = printed(set.process_name(process));
-        let costs = Costs(cert);
-        write_line(alloc, writer, &format_args!("{name} START {costs}"))?;
-    }
-    for state in 0..octet(set.state_count(process)) {
-        write_state(alloc, writer, set, process, StateNumber(state))?;
-    }
-    Ok(())
-}
-
-/// The lines of a state.
-fn write_state<W: Write>(
-    alloc: Global,
-    writer: &mut W,
-    set: &Verified,
-    process: ProcessNumber,
-    state: StateNumber,
-) -> io::Result<()> {
-    for input in 0..set.input_count(process, state) {
-        let at = InputAt {
-            process,
-            state,
-            input,
-        };
-        write_input(alloc, writer, set, at)?;
-    }
-    Ok(())
-}
-
-/// An input of a set.
-#[derive(Clone, Copy)]
-struct InputAt {
-    process: ProcessNumber,
-    state: StateNumber,
-    input: usize,
-}
-
-/// The line of an input.
-fn write_input<W: Write>(
-    alloc: Global,
-    writer: &mut W,
-    set: &Verified,
-    at: InputAt,
-) -> io::Result<()> {
-    let InputAt {
-        process,
-        state,
-        input,
-    } = at;
-    let Some(cert) = set.certificate(process, Place::State(state), input) else {
-        return Ok(());
-    };
-    let costs = Costs(cert);
-    let name = printed(set.process_name(process));
-    let place = printed(set.state_name(process, state));
-    let trigger = printed(set.input_name(process, state, input));
-    write_line(
-        alloc,
-        writer,
-        &format_args!("{name} {place}/{trigger} {costs}"),
-    )
 }

@@ -2,6 +2,7 @@
 #![tactic(auto)]
 
 mod checking;
+mod costs;
 mod lines;
 mod texts;
 

@@ -3,37 +3,45 @@ use std::alloc::{AllocError, Global};
 use std::io::{self, Read, Write};
 use std::test::Fail;
 
-/// A writer that keeps what it is given, and fails after so many calls.
+/// A writer that keeps what it is given, but for one call, which fails; with 0 none does.
 #[derive(Drop)]
 struct Paper {
     text: Vec<u8>,
-    calls_left: u32,
-}
-
-impl Paper {
-    /// An empty one.
-    fn new(alloc: Global, calls: u32) -> Paper {
-        Paper {
-            text: Vec::new(alloc),
-            calls_left: calls,
-        }
-    }
-
-    /// What was written.
-    fn into_text(self) -> Vec<u8> {
-        let Paper { text, .. } = self;
-        text
-    }
+    calls: u32,
+    failing: u32,
 }
 
 impl Write for Paper {
     fn write(&mut self, octets: &[u8]) -> io::Result<usize> {
-        if self.calls_left == 0 {
+        self.calls = self.calls.saturating_add(1);
+        if self.calls == self.failing {
             return Err(io::Error::from(io::ErrorKind::Other));
         }
-        self.calls_left -= 1;
         self.text.extend_from_slice(octets)?;
         Ok(octets.len())
+    }
+
+    fn flush(&mut self) -> io::Result<()> {
+        Ok(())
+    }
+}
+
+/// A writer with room for so many bytes. It takes what fits, and fails once it is full.
+#[derive(Drop)]
+struct Scrap {
+    text: Vec<u8>,
+    room: usize,
+}
+
+impl Write for Scrap {
+    fn write(&mut self, octets: &[u8]) -> io::Result<usize> {
+        if self.room == 0 {
+            return Err(io::Error::from(io::ErrorKind::Other));
+        }
+        let taken = octets.len().min(self.room);
+        self.room -= taken;
+        self.text.extend_from_slice(&octets[..taken])?;
+        Ok(taken)
     }
 
     fn flush(&mut self) -> io::Result<()> {
@@ -52,11 +60,32 @@ ENDSTATE Run; ENDPROCESS P; ENDBLOCK B;
 const ACCEPTED: &str =
     "P START budget 3 depth 1 effects 0\nP Run/Up budget 7 depth 2 effects 0\naccepted\n";
 
-/// What `check` prints for what a reader gives, and its exit status. So many writes succeed.
-fn checked<R: Read + Drop>(alloc: Global, reader: R, calls: u32) -> (Vec<u8>, u8) {
-    let mut paper = Paper::new(alloc, calls);
+/// What `check` prints for what a reader gives, and its exit status.
+fn checked<R: Read + Drop>(alloc: Global, reader: R) -> (Vec<u8>, u8) {
+    checked_with_failure(alloc, reader, 0)
+}
+
+/// The same where one write fails.
+fn checked_with_failure<R: Read + Drop>(alloc: Global, reader: R, failing: u32) -> (Vec<u8>, u8) {
+    let mut paper = Paper {
+        text: Vec::new(alloc),
+        calls: 0,
+        failing,
+    };
     let status = check(alloc, SetWord::Text(reader), &mut paper);
-    (paper.into_text(), status)
+    let Paper { text, .. } = paper;
+    (text, status)
+}
+
+/// The same where there is room for so many bytes.
+fn checked_in_room(alloc: Global, text: &str, room: usize) -> (Vec<u8>, u8) {
+    let mut scrap = Scrap {
+        text: Vec::new(alloc),
+        room,
+    };
+    let status = check(alloc, SetWord::Text(text.as_bytes()), &mut scrap);
+    let Scrap { text, .. } = scrap;
+    (text, status)
 }
 
 /// The counter, with a part of its text replaced by another, and what is printed.
@@ -125,7 +154,7 @@ const TEXTS: [(&str, &str, &str, u8); 13] = [
 fn prints_what_transitions_cost_and_refusals(rt: HostRuntime) -> Result<(), Fail> {
     for (old, new, lines, status) in TEXTS {
         let text = COUNTER.replacen(rt.alloc(), old, new, 1)?;
-        let (written, given) = checked(rt.alloc(), text.as_bytes(), 9);
+        let (written, given) = checked(rt.alloc(), text.as_bytes());
         assert_eq!(rt; written.as_slice(), lines.as_bytes(), "{new}");
         assert_eq!(rt; given, status, "{new}");
     }
@@ -178,7 +207,7 @@ PROCESS P; ";
 fn prints_what_processes_cost(rt: HostRuntime) -> Result<(), Fail> {
     for (body, lines) in BODIES {
         let text = format!(in rt.alloc(); "{HEAD}{body} ENDPROCESS; ENDBLOCK;")?;
-        let (written, _) = checked(rt.alloc(), text.as_bytes(), 9);
+        let (written, _) = checked(rt.alloc(), text.as_bytes());
         assert_eq!(rt; written.as_slice(), lines.as_bytes(), "{body}");
     }
     Ok(())
@@ -202,7 +231,7 @@ fn takes_a_piece_of_512_instructions(rt: HostRuntime) -> Result<(), Fail> {
         }
         text.push_str(resets)?;
         text.push_str(" NEXTSTATE S; ENDPROCESS; ENDBLOCK;")?;
-        let (written, _) = checked(rt.alloc(), text.as_bytes(), 9);
+        let (written, _) = checked(rt.alloc(), text.as_bytes());
         assert_eq!(rt; written.as_slice(), lines.as_bytes(), "{resets}");
     }
     Ok(())
@@ -213,14 +242,14 @@ fn takes_a_piece_of_512_instructions(rt: HostRuntime) -> Result<(), Fail> {
 fn refuses_each_prefix(rt: HostRuntime) -> Result<(), Fail> {
     let (whole, _) = COUNTER.as_bytes().split_at(COUNTER.len() - 2);
     for end in 0..whole.len() {
-        let (written, status) = checked(rt.alloc(), &whole[..end], 9);
+        let (written, status) = checked(rt.alloc(), &whole[..end]);
         assert!(rt;
             written.starts_with(b"refused P1 Unexpected line "),
             "{end}"
         );
         assert_eq!(rt; status, 2);
     }
-    let (written, _) = checked(rt.alloc(), b"".as_slice(), 9);
+    let (written, _) = checked(rt.alloc(), b"".as_slice());
     assert_eq!(rt;
         written.as_slice(),
         b"refused P1 Unexpected line 1\n".as_slice()
@@ -260,7 +289,7 @@ fn reads_deep_expressions(rt: HostRuntime) -> Result<(), Fail> {
         ("-(", ")", 32, "refused P2 TooDeep line 5\n"),
     ] {
         let text = nested(rt.alloc(), before, after, times)?;
-        let (written, _) = checked(rt.alloc(), text.as_bytes(), 9);
+        let (written, _) = checked(rt.alloc(), text.as_bytes());
         assert_eq!(rt; written.as_slice(), lines.as_bytes(), "{times}");
     }
     Ok(())
@@ -270,20 +299,20 @@ fn reads_deep_expressions(rt: HostRuntime) -> Result<(), Fail> {
 #[test]
 fn refuses_long_texts_and_bytes_that_are_none(rt: HostRuntime) -> Result<(), Fail> {
     let mut long = Vec::from_elem(rt.alloc(), b'\n', 262_145)?;
-    let (written, status) = checked(rt.alloc(), long.as_slice(), 9);
+    let (written, status) = checked(rt.alloc(), long.as_slice());
     assert_eq!(rt;
         written.as_slice(),
         b"refused L3 TooLong line 262145\n".as_slice()
     );
     assert_eq!(rt; status, 2);
     long.push(0xFF)?;
-    let (written, status) = checked(rt.alloc(), long.as_slice(), 9);
+    let (written, status) = checked(rt.alloc(), long.as_slice());
     assert_eq!(rt; written.as_slice(), b"refused F1 NotText\n".as_slice());
     assert_eq!(rt; status, 2);
     Ok(())
 }
 
-/// A reader that gives its text in parts of 9 bytes. After so many calls it fails once, and then goes on.
+/// A reader that gives its text in parts of 9 bytes, and fails once after so many calls.
 #[derive(Drop)]
 struct Source<'a> {
     rest: &'a [u8],
@@ -322,52 +351,97 @@ impl Read for Spaces {
     }
 }
 
-/// A call that was interrupted is made again, one that failed isn't.
+/// Whichever read fails, nothing is written.
 #[test]
-fn stops_at_a_failed_read(rt: HostRuntime) -> Result<(), Fail> {
-    for (calls_left, failure, lines, status) in [
-        (1, io::ErrorKind::Other, "", 4),
-        (1, io::ErrorKind::Interrupted, ACCEPTED, 0),
-        (90, io::ErrorKind::Other, ACCEPTED, 0),
-    ] {
+fn stops_at_a_failed_read(rt: HostRuntime) {
+    let reads = COUNTER.len() as u32 / 9 + 2;
+    for calls_left in 0..reads {
         let source = Source {
             rest: COUNTER.as_bytes(),
             calls_left,
-            failure,
+            failure: io::ErrorKind::Other,
         };
-        let (written, given) = checked(rt.alloc(), source, 9);
-        assert_eq!(rt; written.as_slice(), lines.as_bytes());
-        assert_eq!(rt; given, status);
+        let (written, status) = checked(rt.alloc(), source);
+        assert_eq!(rt; written.len(), 0, "{calls_left}");
+        assert_eq!(rt; status, 4, "{calls_left}");
     }
-    Ok(())
+    let source = Source {
+        rest: COUNTER.as_bytes(),
+        calls_left: reads,
+        failure: io::ErrorKind::Other,
+    };
+    let (written, status) = checked(rt.alloc(), source);
+    assert_eq!(rt; written.as_slice(), ACCEPTED.as_bytes());
+    assert_eq!(rt; status, 0);
+}
+
+/// A read that was interrupted is made again.
+#[test]
+fn asks_again_where_it_was_interrupted(rt: HostRuntime) {
+    let source = Source {
+        rest: COUNTER.as_bytes(),
+        calls_left: 1,
+        failure: io::ErrorKind::Interrupted,
+    };
+    let (written, status) = checked(rt.alloc(), source);
+    assert_eq!(rt; written.as_slice(), ACCEPTED.as_bytes());
+    assert_eq!(rt; status, 0);
 }
 
 /// A reader is asked 1,000,000 times at most.
 #[test]
 fn gives_up_on_a_reader_without_end(rt: HostRuntime) {
     let mut spaces = Spaces { calls: 0 };
-    let (written, status) = checked(rt.alloc(), &mut spaces, 9);
+    let (written, status) = checked(rt.alloc(), &mut spaces);
     assert_eq!(rt; written.len(), 0);
     assert_eq!(rt; status, 4);
     assert_eq!(rt; spaces.calls, 1_000_000);
 }
 
-/// Neither an accepted text nor a refused one is answered where a line can't be written.
+/// What is written where the first, the second, the last line fails, and where none does. The writer would take what comes
+/// behind a line that failed.
 #[test]
-fn stops_at_a_failed_line(rt: HostRuntime) -> Result<(), Fail> {
-    for (text, calls, lines) in [
-        (COUNTER, 0, ""),
-        (COUNTER, 1, "P START budget 3 depth 1 effects 0\n"),
+fn stops_at_a_failed_line(rt: HostRuntime) {
+    for (failing, lines, status) in [
+        (1, "", 4),
+        (2, "P START budget 3 depth 1 effects 0\n", 4),
         (
-            COUNTER,
-            2,
+            3,
             "P START budget 3 depth 1 effects 0\nP Run/Up budget 7 depth 2 effects 0\n",
+            4,
         ),
-        ("", 0, ""),
+        (4, ACCEPTED, 0),
     ] {
-        let (written, status) = checked(rt.alloc(), text.as_bytes(), calls);
-        assert_eq!(rt; written.as_slice(), lines.as_bytes(), "{calls}");
-        assert_eq!(rt; status, 4, "{calls}");
+        let (written, given) = checked_with_failure(rt.alloc(), COUNTER.as_bytes(), failing);
+        assert_eq!(rt; written.as_slice(), lines.as_bytes(), "{failing}");
+        assert_eq!(rt; given, status, "{failing}");
     }
-    Ok(())
+}
+
+/// A refusal whose line isn't written is none.
+#[test]
+fn stops_at_a_failed_refusal(rt: HostRuntime) {
+    for (failing, lines, status) in [(1, "", 4), (2, "refused P1 Unexpected line 1\n", 2)] {
+        let (written, given) = checked_with_failure(rt.alloc(), b"BLOCK".as_slice(), failing);
+        assert_eq!(rt; written.as_slice(), lines.as_bytes(), "{failing}");
+        assert_eq!(rt; given, status, "{failing}");
+    }
+}
+
+/// Only what is written whole counts.
+#[test]
+fn stops_where_the_room_ends(rt: HostRuntime) {
+    for (text, lines, status) in [
+        (COUNTER, ACCEPTED, 0),
+        ("BLOCK", "refused P1 Unexpected line 1\n", 2),
+    ] {
+        for room in 0..lines.len() {
+            let (written, given) = checked_in_room(rt.alloc(), text, room);
+            assert_eq!(rt; written.as_slice(), &lines.as_bytes()[..room], "{room}");
+            assert_eq!(rt; given, 4, "{room}");
+        }
+        let (written, given) = checked_in_room(rt.alloc(), text, lines.len());
+        assert_eq!(rt; written.as_slice(), lines.as_bytes());
+        assert_eq!(rt; given, status);
+    }
 }
