@@ -1,8 +1,10 @@
 //! Which variables are set at each place of a piece, and as each of its connections begins.
-ghost use Rattle.std.specs.Prelude.{◌≡◌, ◌<◌, [], ◌∷◌, ◌++◌, true, OnOk, IfOk, map};
-ghost use Rattle.sdl_tree.specs.Plain.{falls};
+ghost use Rattle.std.specs.Prelude.{◌≡◌, ◌<◌, [], ◌∷◌, ◌++◌, ◌&&◌, ◌||◌, true, OnOk, IfOk, map};
+ghost use Rattle.sdl_tree.specs.Plain.{Text, falls};
 ghost use Rattle.sdl_tree.specs.Views.{tree_of, assignment_of, sending_of, action_of, text_of, statement_of, choice_of, else_choice, connection_of};
 ghost use Rattle.sdl_rules.specs.Longest.{is_division};
+ghost use Rattle.sdl_rules.specs.Going.{goes_on, choice_goes_on};
+ghost use Rattle.sdl_tree.specs.declared.tree.Decision.{out-Decision};
 ghost use Rattle.sdl_compile.specs.Scopes.{scope_in, piece_in, question_in, NamedElse};
 ghost use Rattle.sdl_compile.specs.Act.{is_truth};
 ghost use Rattle.sdl_compile.specs.Named.{NamedTasks, NamedAction, NamedEnd, NamedText, NamedChoice, NamedConnections, NamedPlaces, NamedPiece};
@@ -13,8 +15,8 @@ ghost use Rattle.sdl_compile.specs.Facts.{tree_sets, trees_sets, sendings_sets, 
 ghost use Rattle.sdl_compile.specs.Code.{text_at};
 
 use crate::emit::is_division;
+use crate::landing::both;
 use crate::names::Names;
-use sdl_rules::goes_on;
 use sdl_tree::{
     Action, Assignment, Connection, Decision, End, Expression, Identifier, Range, Sending,
     Statement, Transition,
@@ -220,6 +222,20 @@ fn mark_tests(
     }
 }
 
+/// What is behind a text: the variables that are set there, and whether the text may run off its end.
+#[derive(Clone, Copy, Debug)]
+pub(crate) struct Behind {
+    set: VariableSet,
+    goes_on: bool,
+}
+
+// A DECISION goes on where one of its bodies does.
+fn one_of(one: bool, other: bool) -> bool
+    ensures { result ≡ (one || other) }
+{
+    one || other
+}
+
 // A body with the jump that ends it where it goes on.
 #[cycle(marks)]
 fn mark_body(
@@ -228,17 +244,18 @@ fn mark_body(
     names: &Names,
     body: &Transition,
     set: VariableSet,
-) -> Result<VariableSet, AllocError>
+) -> Result<Behind, AllocError>
     requires { NamedText (scope_in names.now) (text_of body.now) }
     ensures sets { OnOk result (sets.new.items ≡ sets.old.items ++ (text_sets (scope_in names.now) set (text_of body.now) ++ leave_sets (left (scope_in names.now) set (text_of body.now)) (text_of body.now))) }
     ensures entries { OnOk result (entries.new.items ≡ met (scope_in names.now) set (text_of body.now) entries.old.items) }
-    ensures behind { IfOk result (λ m. m ≡ left (scope_in names.now) set (text_of body.now)) }
+    ensures behind { IfOk result (λ m. m.set ≡ left (scope_in names.now) set (text_of body.now)) }
+    ensures goes { IfOk result (λ m. m.goes_on ≡ goes_on (text_of body.now)) }
 {
-    let left = mark_text(sets, entries, names, body, set)?;
-    if goes_on(body) {
-        mark(sets, left)?;
+    let behind = mark_text(sets, entries, names, body, set)?;
+    if behind.goes_on {
+        mark(sets, behind.set)?;
     }
-    Ok(left)
+    Ok(behind)
 }
 
 // The body of ELSE, if there is one, and the set behind it.
@@ -249,15 +266,19 @@ fn mark_else(
     names: &Names,
     otherwise: &Option<Transition>,
     set: VariableSet,
-) -> Result<VariableSet, AllocError>
+) -> Result<Behind, AllocError>
     requires { NamedElse (scope_in names.now) otherwise.now }
     ensures sets { OnOk result (sets.new.items ≡ sets.old.items ++ else_sets (scope_in names.now) set (else_choice otherwise.now)) }
     ensures entries { OnOk result (entries.new.items ≡ else_met (scope_in names.now) set (else_choice otherwise.now) entries.old.items) }
-    ensures behind { IfOk result (λ m. m ≡ else_left (scope_in names.now) set (else_choice otherwise.now)) }
+    ensures behind { IfOk result (λ m. m.set ≡ else_left (scope_in names.now) set (else_choice otherwise.now)) }
+    ensures goes { IfOk result (λ m. m.goes_on ≡ choice_goes_on (else_choice otherwise.now)) }
 {
     match otherwise {
         Some(body) => mark_body(sets, entries, names, body, set),
-        None => Ok(everything()),
+        None => Ok(Behind {
+            set: everything(),
+            goes_on: false,
+        }),
     }
 }
 
@@ -269,21 +290,38 @@ fn mark_answers(
     names: &Names,
     decision: &Decision,
     set: VariableSet,
-) -> Result<VariableSet, AllocError>
+) -> Result<Behind, AllocError>
     requires { NamedChoice (scope_in names.now) (question_in decision.now) (choice_of decision.now) }
     ensures sets { OnOk result (sets.new.items ≡ sets.old.items ++ answers_sets (scope_in names.now) set (choice_of decision.now)) }
     ensures entries { OnOk result (entries.new.items ≡ answers_met (scope_in names.now) set (choice_of decision.now) entries.old.items) }
-    ensures behind { IfOk result (λ m. m ≡ answers_left (scope_in names.now) set everything (choice_of decision.now)) }
+    ensures behind { IfOk result (λ m. m.set ≡ answers_left (scope_in names.now) set everything (choice_of decision.now)) }
+    ensures goes { IfOk result (λ m. (m.goes_on || choice_goes_on (else_choice (out-Decision decision.now).otherwise)) ≡ choice_goes_on (choice_of decision.now)) }
 {
     let mut all = everything();
+    let mut goes = false;
     for answer in &decision.answers {
-        let left = mark_body(sets, entries, names, &answer.body, set)?;
-        all = meet(all, left);
+        let behind = mark_body(sets, entries, names, &answer.body, set)?;
+        all = meet(all, behind.set);
+        goes = one_of(goes, behind.goes_on);
     }
-    Ok(all)
+    Ok(Behind {
+        set: all,
+        goes_on: goes,
+    })
 }
 
-// A DECISION, and what is set behind it.
+// What is behind a DECISION, from what is behind its answers and behind ELSE.
+fn behind_all(answered: Behind, otherwise: Behind) -> Behind
+    ensures set { result.set ≡ meet answered.set otherwise.set }
+    ensures goes { result.goes_on ≡ (answered.goes_on || otherwise.goes_on) }
+{
+    Behind {
+        set: meet(answered.set, otherwise.set),
+        goes_on: one_of(answered.goes_on, otherwise.goes_on),
+    }
+}
+
+// A DECISION, and what is behind it.
 #[cycle(marks)]
 fn mark_decision(
     sets: &mut Vec<VariableSet>,
@@ -291,23 +329,24 @@ fn mark_decision(
     names: &Names,
     decision: &Decision,
     set: VariableSet,
-) -> Result<VariableSet, AllocError>
+) -> Result<Behind, AllocError>
     requires { NamedChoice (scope_in names.now) (question_in decision.now) (choice_of decision.now) }
     ensures sets { OnOk result (sets.new.items ≡ sets.old.items ++ decision_sets (scope_in names.now) set (question_in decision.now) (choice_of decision.now)) }
     ensures entries { OnOk result (entries.new.items ≡ choice_met (scope_in names.now) (is_truth (scope_in names.now) (question_in decision.now)) set (choice_of decision.now) entries.old.items) }
-    ensures behind { IfOk result (λ m. m ≡ choice_left (scope_in names.now) set (choice_of decision.now)) }
+    ensures behind { IfOk result (λ m. m.set ≡ choice_left (scope_in names.now) set (choice_of decision.now)) }
+    ensures goes { IfOk result (λ m. m.goes_on ≡ choice_goes_on (choice_of decision.now)) }
 {
     mark_expression(sets, &decision.question, set)?;
     if names.is_truth(&decision.question) {
         mark(sets, set)?;
         let answered = mark_answers(sets, entries, names, decision, set)?;
         let otherwise = mark_else(sets, entries, names, &decision.otherwise, set)?;
-        Ok(meet(answered, otherwise))
+        Ok(behind_all(answered, otherwise))
     } else {
         mark_tests(sets, decision, set)?;
         let otherwise = mark_else(sets, entries, names, &decision.otherwise, set)?;
         let answered = mark_answers(sets, entries, names, decision, set)?;
-        Ok(meet(answered, otherwise))
+        Ok(behind_all(answered, otherwise))
     }
 }
 
@@ -319,14 +358,18 @@ fn mark_statement(
     names: &Names,
     statement: &Statement,
     set: VariableSet,
-) -> Result<VariableSet, AllocError>
+) -> Result<Behind, AllocError>
     requires { NamedText (scope_in names.now) (statement_of statement.now falls) }
     ensures sets { OnOk result (sets.new.items ≡ sets.old.items ++ text_sets (scope_in names.now) set (statement_of statement.now falls)) }
     ensures entries { OnOk result (entries.new.items ≡ met (scope_in names.now) set (statement_of statement.now falls) entries.old.items) }
-    ensures behind { IfOk result (λ m. m ≡ left (scope_in names.now) set (statement_of statement.now falls)) }
+    ensures behind { IfOk result (λ m. m.set ≡ left (scope_in names.now) set (statement_of statement.now falls)) }
+    ensures goes { IfOk result (λ m. (rest : Text) → goes_on (statement_of statement.now rest) ≡ (m.goes_on && goes_on rest)) }
 {
     match statement {
-        Statement::Act(action) => mark_action(sets, names, action, set),
+        Statement::Act(action) => {
+            let set = mark_action(sets, names, action, set)?;
+            Ok(Behind { set, goes_on: true })
+        }
         Statement::Decide(decision) => mark_decision(sets, entries, names, decision, set),
     }
 }
@@ -340,19 +383,29 @@ pub(crate) fn mark_text(
     names: &Names,
     transition: &Transition,
     set: VariableSet,
-) -> Result<VariableSet, AllocError>
+) -> Result<Behind, AllocError>
     requires { NamedText (scope_in names.now) (text_of transition.now) }
     ensures sets { OnOk result (sets.new.items ≡ sets.old.items ++ text_sets (scope_in names.now) set (text_of transition.now)) }
     ensures entries { OnOk result (entries.new.items ≡ met (scope_in names.now) set (text_of transition.now) entries.old.items) }
-    ensures behind { IfOk result (λ m. m ≡ left (scope_in names.now) set (text_of transition.now)) }
+    ensures behind { IfOk result (λ m. m.set ≡ left (scope_in names.now) set (text_of transition.now)) }
+    ensures goes { IfOk result (λ m. m.goes_on ≡ goes_on (text_of transition.now)) }
 {
     let mut set = set;
+    let mut goes = true;
     for statement in &transition.statements {
-        set = mark_statement(sets, entries, names, statement, set)?;
+        let behind = mark_statement(sets, entries, names, statement, set)?;
+        set = behind.set;
+        goes = both(goes, behind.goes_on);
     }
     match &transition.end {
-        Some(end) => mark_end(sets, entries, names, end, set),
-        None => Ok(set),
+        Some(end) => {
+            let set = mark_end(sets, entries, names, end, set)?;
+            Ok(Behind {
+                set,
+                goes_on: false,
+            })
+        }
+        None => Ok(Behind { set, goes_on: goes }),
     }
 }
 

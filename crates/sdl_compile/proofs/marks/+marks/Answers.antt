@@ -32,8 +32,8 @@ mark_decision-returns-in_ok-otherwise-clause-entries t c =
 pub mark_decision-returns-in_ok-otherwise-clause-behind : goal.mark_decision-returns-in_ok-otherwise-clause-behind
 mark_decision-returns-in_ok-otherwise-clause-behind t c =
     let d = out-Decision c.args.decision.now in
-    c.meet.ensures ∙ behind (scope_in c.args.names.now) (question_in c.args.decision.now) c.args.set (map plain_answer d.answers.items) d.otherwise
-    c.in_ok-answered.answered c.in_ok-otherwise.otherwise c.in_ok-answered.ensures.behind c.in_ok-otherwise.ensures.behind
+    c.behind_all.ensures.set ∙ behind (scope_in c.args.names.now) (question_in c.args.decision.now) c.args.set (map plain_answer d.answers.items) d.otherwise
+    c.in_ok-answered.answered.set c.in_ok-otherwise.otherwise.set c.in_ok-answered.ensures.behind c.in_ok-otherwise.ensures.behind
 
 pub mark_decision-returns-in_ok-answered-2-clause-sets : goal.mark_decision-returns-in_ok-answered-2-clause-sets
 mark_decision-returns-in_ok-answered-2-clause-sets t c =
@@ -52,5 +52,5 @@ mark_decision-returns-in_ok-answered-2-clause-entries t c =
 pub mark_decision-returns-in_ok-answered-2-clause-behind : goal.mark_decision-returns-in_ok-answered-2-clause-behind
 mark_decision-returns-in_ok-answered-2-clause-behind t c =
     let d = out-Decision c.args.decision.now in
-    c.meet-else-is_truth.ensures ∙ behind (scope_in c.args.names.now) (question_in c.args.decision.now) c.args.set (map plain_answer d.answers.items) d.otherwise
-    c.in_ok-answered-2.answered c.in_ok-otherwise-2.otherwise c.in_ok-answered-2.ensures.behind c.in_ok-otherwise-2.ensures.behind
+    c.behind_all-else-is_truth.ensures.set ∙ behind (scope_in c.args.names.now) (question_in c.args.decision.now) c.args.set (map plain_answer d.answers.items) d.otherwise
+    c.in_ok-answered-2.answered.set c.in_ok-otherwise-2.otherwise.set c.in_ok-answered-2.ensures.behind c.in_ok-otherwise-2.ensures.behind
