@@ -1,6 +1,8 @@
 //! `mtp2_play`: the program. It checks process texts and reads signal units.
 #![tactic(auto)]
 
+ghost use Rattle.std.specs.Prelude.{◌≡◌, ◌⊎◌};
+
 mod frame;
 mod line_bits;
 mod words;
@@ -15,7 +17,9 @@ use text_check::{FAILED, HELD, SetWord, USAGE, check};
 pub use words::Request;
 
 /// Runs one command, and gives the exit status.
-fn run<R: Runtime + AllocGlobal>(rt: &R, request: &Request<'_>) -> u8 {
+fn run<R: Runtime + AllocGlobal>(rt: &R, request: &Request<'_>) -> u8
+    ensures { (result ≡ 0) ⊎ (result ≡ 2) ⊎ (result ≡ 4) }
+{
     match request {
         Request::Check { set } => run_check(rt, set),
         Request::Frame { octets } => frame(rt.alloc(), octets, &mut io::writer(rt)),
@@ -23,7 +27,9 @@ fn run<R: Runtime + AllocGlobal>(rt: &R, request: &Request<'_>) -> u8 {
 }
 
 /// Runs `check` on the text of a file, or of standard input where the word is `stdin`.
-fn run_check<R: Runtime + AllocGlobal>(rt: &R, set: &str) -> u8 {
+fn run_check<R: Runtime + AllocGlobal>(rt: &R, set: &str) -> u8
+    ensures { (result ≡ 0) ⊎ (result ≡ 2) ⊎ (result ≡ 4) }
+{
     if set == "stdin" {
         return check(rt.alloc(), SetWord::Text(rt.reader()), &mut io::writer(rt));
     }
@@ -35,7 +41,9 @@ fn run_check<R: Runtime + AllocGlobal>(rt: &R, set: &str) -> u8 {
 
 /// Prints what the command line is answered where it names no command to run: help with status 0,
 /// a fault with status 3, both as the printing goes; want of memory is status 4.
-fn answer<R: Runtime + AllocGlobal>(rt: &R, error: &Error) -> u8 {
+fn answer<R: Runtime + AllocGlobal>(rt: &R, error: &Error) -> u8
+    ensures { (result ≡ 0) ⊎ (result ≡ 3) ⊎ (result ≡ 4) }
+{
     if error.kind() == ErrorKind::OutOfMemory || error.print(rt).is_err() {
         return FAILED;
     }
