@@ -48,7 +48,7 @@ pub enum Step {
 pub enum Fate {
     /// The transitions of this path read it unset.
     Unset(Vec<Step>),
-    /// No path reads it unset. A mark for each state, by number: no path enters a state without one with the variable unset.
+    /// No path reads it unset. The marks say of each state, by number, whether a path enters it with the variable unset.
     Set(Vec<bool>),
 }
 
