@@ -258,7 +258,7 @@ fn mark_body(
     Ok(behind)
 }
 
-// The body of ELSE, if there is one, and the set behind it.
+// The body of ELSE, if there is one, and what is behind it.
 #[cycle(marks)]
 fn mark_else(
     sets: &mut Vec<VariableSet>,
@@ -282,7 +282,7 @@ fn mark_else(
     }
 }
 
-// The bodies of the answers, and what is set behind all of them.
+// The bodies of the answers, and what is behind all of them.
 #[cycle(marks)]
 fn mark_answers(
     sets: &mut Vec<VariableSet>,
@@ -350,7 +350,7 @@ fn mark_decision(
     }
 }
 
-// One statement, alone.
+// One statement, alone, and what is behind it.
 #[cycle(marks)]
 fn mark_statement(
     sets: &mut Vec<VariableSet>,
@@ -374,7 +374,7 @@ fn mark_statement(
     }
 }
 
-/// The sets at each place of a transition that begins with this one, and the one with which it runs off its end. The set
+/// The sets at each place of a transition that begins with this one, and what is behind it. The set
 /// of each connection that it joins is cut down to what is set there.
 #[cycle(marks)]
 pub(crate) fn mark_text(

@@ -26,7 +26,7 @@ pub struct Measure {
     pub effects: u32,
     /// How many instructions the text has.
     pub size: u32,
-    /// Whether the text may run off its end.
+    /// Whether the text may run off its end. No connection's does where the rules hold.
     pub goes_on: bool,
 }
 
