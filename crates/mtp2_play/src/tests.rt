@@ -201,6 +201,8 @@ fn checks_the_file_that_is_named(rt: HostRuntime) -> Result<(), Fail> {
     assert_eq!(rt; status(&rt, &["mtp2_play", "check", "least.sdl"])?, 0);
     fs::write(&rt, "least.sdl", "BLOCK B;")?;
     assert_eq!(rt; status(&rt, &["mtp2_play", "check", "least.sdl"])?, 2);
+    fs::remove_file(&rt, "least.sdl")?;
+    assert_eq!(rt; status(&rt, &["mtp2_play", "check", "least.sdl"])?, 4);
     assert_eq!(rt; status(&rt, &["mtp2_play", "check", "stdin"])?, 2);
     Ok(())
 }

@@ -1,4 +1,8 @@
 //! The command line.
+ghost use Rattle.std.specs.Prelude.{◌≡◌, Some, IfOk, IfSome};
+ghost use Rattle.clap.specs.Words.{subcommand_name_of};
+ghost use Rattle.mtp2_play.specs.Words.{command_of, IsOffered};
+
 use clap::error::ErrorKind;
 use clap::{Arg, ArgMatches, Command, Error};
 use std::alloc::{AllocError, Global};
@@ -51,7 +55,9 @@ fn frame_command<'a>(alloc: Global) -> Result<Command<'a>, AllocError> {
 }
 
 /// Reads the words of the command line, the program's own name first.
-pub fn read<'a>(alloc: Global, given: &'a [String]) -> Result<Request<'a>, Error> {
+pub fn read<'a>(alloc: Global, given: &'a [String]) -> Result<Request<'a>, Error>
+    ensures { IfOk result (λ r. IsOffered r) }
+{
     let mut commands = commands(alloc)?;
     let matches = commands.try_get_matches_from_mut(given)?;
     match request_of(&matches) {
@@ -64,7 +70,10 @@ pub fn read<'a>(alloc: Global, given: &'a [String]) -> Result<Request<'a>, Error
 }
 
 /// The request that the matches stand for.
-fn request_of<'a>(matches: &ArgMatches<'a>) -> Option<Request<'a>> {
+fn request_of<'a>(matches: &ArgMatches<'a>) -> Option<Request<'a>>
+    ensures named { IfSome result (λ r. subcommand_name_of matches.now ≡ Some (command_of r)) }
+    ensures offered { IfSome result (λ r. IsOffered r) }
+{
     let (name, given) = matches.subcommand()?;
     match name {
         "check" => match given.get_str("SET")? {
