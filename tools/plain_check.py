@@ -1,7 +1,7 @@
 #!/usr/bin/env python3
 """A plain checker of process texts, written apart from the program: to hold `mtp2_play check` against.
 
-usage: bench/plain_check.py FILE ..     prints the lines that check prints for each
+usage: tools/plain_check.py FILE ..     prints the lines that check prints for each
 
 It knows the whole language, has no proofs, and takes a Python process for each run."""
 import sys
