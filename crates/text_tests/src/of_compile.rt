@@ -18,14 +18,6 @@ STATE Run; INPUT Up(n); TASK total := total + n; NEXTSTATE Run;
 ENDSTATE Run; ENDPROCESS P; ENDBLOCK B;
 ";
 
-const SQUARE: &str = "BLOCK B; SIGNAL Up(Integer);
-SIGNALROUTE r FROM ENV TO P WITH Up;
-PROCESS P (1,1); DCL n, total Integer;
-START; TASK total := 0; NEXTSTATE Run;
-STATE Run; INPUT Up(n); TASK total := -(n * n) - 1; NEXTSTATE Run;
-ENDSTATE Run; ENDPROCESS P; ENDBLOCK B;
-";
-
 const ALARM: &str = "BLOCK B; SIGNAL Hold, Told(Boolean);
 SIGNALROUTE r FROM ENV TO P WITH Hold; FROM P TO ENV WITH Told;
 PROCESS P (1,1); DCL late Boolean := FALSE; TIMER t;
@@ -136,21 +128,6 @@ fn the_alarm_has_its_timer_and_what_it_saves(rt: HostRuntime) -> Result<(), Fail
         Instruction::Stop,
     ];
     assert_eq!(rt; input.piece.code.as_slice(), code.as_slice());
-    Ok(())
-}
-
-#[test]
-fn operators_count_on_the_longest_path(rt: HostRuntime) -> Result<(), Fail> {
-    let draft = draft_of(rt.alloc(), SQUARE)?;
-    let process = the_process(&draft)?;
-    let state = process.states.as_slice().first().ok_or("a state")?;
-    let input = state.inputs.as_slice().first().ok_or("an input")?;
-    let up = Cert {
-        budget: 10,
-        depth: 2,
-        effects: 0,
-    };
-    assert_eq!(rt; input.piece.certificate, up);
     Ok(())
 }
 

@@ -20,29 +20,11 @@ fn read(alloc: Global, text: &str) -> Result<Result<Block, ParseFault>, LexFault
 }
 
 /// A text with one TASK that assigns this, at byte 26.
-fn text_with(
-    alloc: Global,
-    before: &str,
-    middle: &str,
-    after: &str,
-    times: usize,
-) -> Result<String, AllocError> {
+fn text_with(alloc: Global, value: &str) -> Result<String, AllocError> {
     let mut text = String::from_str(alloc, "BLOCK B; PROCESS P; START; TASK x := ")?;
-    for _ in 0..times {
-        text.push_str(before)?;
-    }
-    text.push_str(middle)?;
-    for _ in 0..times {
-        text.push_str(after)?;
-    }
+    text.push_str(value)?;
     text.push_str("; ENDPROCESS; ENDBLOCK;")?;
     Ok(text)
-}
-
-/// The fault of a text whose one TASK assigns this.
-fn fault_of(alloc: Global, value: &str) -> Result<Option<ParseFault>, Fail> {
-    let text = text_with(alloc, "", value, "", 0)?;
-    Ok(read(alloc, text.as_str())?.err())
 }
 
 /// The expression that the first TASK of a START assigns.
@@ -63,7 +45,7 @@ fn first_value(block: &Block) -> Option<&Expression> {
 
 /// The expression that a text with one TASK assigns, as `Debug` shows it.
 fn shown_value(alloc: Global, value: &str) -> Result<String, Fail> {
-    let text = text_with(alloc, "", value, "", 0)?;
+    let text = text_with(alloc, value)?;
     let block = read(alloc, text.as_str())?.ok().ok_or("a tree")?;
     let tree = first_value(&block).ok_or("a value")?;
     Ok(format!(in alloc; "{tree:?}")?)
@@ -98,7 +80,7 @@ fn grouped(alloc: Global, tree: &Expression) -> Result<String, AllocError> {
 
 /// The expression that a text with one TASK assigns, with its groups.
 fn grouped_value(alloc: Global, value: &str) -> Result<String, Fail> {
-    let text = text_with(alloc, "", value, "", 0)?;
+    let text = text_with(alloc, value)?;
     let block = read(alloc, text.as_str())?.ok().ok_or("a tree")?;
     let tree = first_value(&block).ok_or("a value")?;
     Ok(grouped(alloc, tree)?)
@@ -137,17 +119,6 @@ fn reads_the_counter(rt: HostRuntime) -> Result<(), Fail> {
             }
             Entity::Connect(_) => return Err(Fail::from("no CONNECT stands there")),
         }
-    }
-    Ok(())
-}
-
-#[test]
-fn each_shorter_list_ends_too_early(rt: HostRuntime) -> Result<(), Fail> {
-    let found = tokens(rt.alloc(), COUNTER)?;
-    assert_eq!(rt; found.len(), 70);
-    for end in 0..found.len() {
-        let fault = parse(rt.alloc(), &found.as_slice()[..end]).err();
-        assert_eq!(rt; fault, Some(ParseFault::Unexpected(end)));
     }
     Ok(())
 }
@@ -194,284 +165,6 @@ operand: Binary { at: 38, operator: Add, left: Number { at: 39, value: 1 }, righ
         shown.as_str(),
         "Unary { at: 37, operator: Not, operand: Truth { at: 41, value: true } }"
     );
-    Ok(())
-}
-
-#[test]
-fn thirty_two_levels_are_read(rt: HostRuntime) -> Result<(), Fail> {
-    let text = text_with(rt.alloc(), "-(", "1", ")", 31)?;
-    assert_eq!(rt; read(rt.alloc(), text.as_str())?.err(), None);
-    let text = text_with(rt.alloc(), "-(", "1", ")", 32)?;
-    assert_eq!(rt;
-        read(rt.alloc(), text.as_str())?.err(),
-        Some(ParseFault::TooDeep(27))
-    );
-    Ok(())
-}
-
-#[test]
-fn parentheses_are_no_level(rt: HostRuntime) -> Result<(), Fail> {
-    let text = text_with(rt.alloc(), "(", "1", ")", 100_000)?;
-    assert_eq!(rt; read(rt.alloc(), text.as_str())?.err(), None);
-    let text = text_with(rt.alloc(), "(", "1", "", 100_000)?;
-    assert_eq!(rt;
-        read(rt.alloc(), text.as_str())?.err(),
-        Some(ParseFault::Unexpected(100_012))
-    );
-    let text = text_with(rt.alloc(), "1 +", "1", "", 80_000)?;
-    assert_eq!(rt;
-        read(rt.alloc(), text.as_str())?.err(),
-        Some(ParseFault::TooDeep(27))
-    );
-    Ok(())
-}
-
-#[test]
-fn what_reads_not_is_unexpected_however_deep(rt: HostRuntime) -> Result<(), Fail> {
-    let text = text_with(rt.alloc(), "-(", "1", ")", 40)?;
-    let found = tokens(rt.alloc(), text.as_str())?;
-    let last = found.len().saturating_sub(1);
-    let fault = parse(rt.alloc(), &found.as_slice()[..last]).err();
-    assert_eq!(rt; fault, Some(ParseFault::Unexpected(last)));
-    Ok(())
-}
-
-#[test]
-fn refuses_what_the_grammar_has_not(rt: HostRuntime) -> Result<(), Fail> {
-    let rows = [
-        ("- - 1", 12),
-        ("NOT NOT b", 12),
-        ("- NOT b", 12),
-        ("a NOT b", 12),
-        ("a AND OR b", 13),
-        ("a = b = c", 14),
-        ("a < b + c /= d", 16),
-        ("1)", 12),
-        ("1; TASK y := (2 3)", 18),
-    ];
-    for (value, at) in rows {
-        assert_eq!(rt;
-            fault_of(rt.alloc(), value)?,
-            Some(ParseFault::Unexpected(at))
-        );
-    }
-    assert_eq!(rt; fault_of(rt.alloc(), "1 / 1")?, None);
-    Ok(())
-}
-
-#[test]
-fn closing_names_and_instances(rt: HostRuntime) -> Result<(), Fail> {
-    let alloc = rt.alloc();
-    let good = "BLOCK b; PROCESS p (1,); START; STATE s; ENDSTATE S; ENDPROCESS P; ENDBLOCK B;";
-    assert_eq!(rt; read(alloc, good)?.err(), None);
-    let state = "BLOCK b; PROCESS p; START; STATE s; ENDSTATE t; ENDPROCESS; ENDBLOCK;";
-    assert_eq!(rt; read(alloc, state)?.err(), Some(ParseFault::Unexpected(12)));
-    let process = "BLOCK b; PROCESS p; START; ENDPROCESS b; ENDBLOCK;";
-    assert_eq!(rt;
-        read(alloc, process)?.err(),
-        Some(ParseFault::Unexpected(9))
-    );
-    let instances = "BLOCK b; PROCESS p (1,3); START; ENDPROCESS; ENDBLOCK;";
-    assert_eq!(rt;
-        read(alloc, instances)?.err(),
-        Some(ParseFault::Unexpected(8))
-    );
-    Ok(())
-}
-
-/// The fault of a text that has this between two parts.
-fn fault_between(
-    alloc: Global,
-    before: &str,
-    middle: &str,
-    after: &str,
-) -> Result<Option<ParseFault>, Fail> {
-    let mut text = String::from_str(alloc, before)?;
-    text.push_str(middle)?;
-    text.push_str(after)?;
-    Ok(read(alloc, text.as_str())?.err())
-}
-
-#[test]
-fn reads_each_entity_up_to_its_first_wrong_token(rt: HostRuntime) -> Result<(), Fail> {
-    let rows = [
-        ("", None),
-        ("SIGNAL a(BOOLEAN, Integer), c COMMENT 'x';", None),
-        ("SIGNAL a(b);", Some(6)),
-        ("SIGNAL a COMMENT;", Some(6)),
-        ("SIGNAL a COMMENT 'x' 'y';", Some(7)),
-        (
-            "SIGNALROUTE r FROM p TO q WITH a; FROM q TO ENV WITH c, d;",
-            None,
-        ),
-        (
-            "SIGNALROUTE r FROM ENV TO ENV WITH a; FROM p TO p WITH c; FROM p TO q WITH a;",
-            Some(19),
-        ),
-        ("CONNECT a, c AND r, s;", None),
-        ("CONNECT a;", Some(5)),
-        ("TIMER t;", Some(3)),
-        (
-            "PROCESS p; START; ENDPROCESS; SIGNAL a; PROCESS q; START; ENDPROCESS;",
-            None,
-        ),
-    ];
-    for (entity, at) in rows {
-        assert_eq!(rt;
-            fault_between(rt.alloc(), "BLOCK b; ", entity, " ENDBLOCK;")?,
-            at.map(ParseFault::Unexpected)
-        );
-    }
-    Ok(())
-}
-
-#[test]
-fn reads_each_statement_up_to_its_first_wrong_token(rt: HostRuntime) -> Result<(), Fail> {
-    let rows = [
-        (
-            "TIMER t, u; DCL b Boolean := TRUE, c, d Integer := -1; TIMER v; START;",
-            None,
-        ),
-        ("DCL b Boolean := -TRUE; START;", Some(11)),
-        ("DCL b Integer START;", Some(9)),
-        ("START; TASK 'a', x := 1, 'b'; TASK 'c'; STOP;", None),
-        ("START; TASK; STOP;", Some(9)),
-        (
-            "START; OUTPUT a, c(1, x + 1) TO SENDER; OUTPUT d TO q COMMENT 'x'; STOP COMMENT 'y';",
-            None,
-        ),
-        ("START; OUTPUT a();", Some(11)),
-        ("START; OUTPUT a TO ENV;", Some(11)),
-        ("START; SET(NOW + 5, t); RESET(t); NEXTSTATE s;", None),
-        ("START; SET(5, t);", Some(10)),
-        ("START; SET(NOW - 5, t);", Some(11)),
-        ("START; RESET(5);", Some(10)),
-        ("START; STOP; STOP;", Some(10)),
-        ("START; JOIN a COMMENT 'x';", None),
-        ("START; JOIN;", Some(9)),
-        ("START; JOIN a; STOP;", Some(11)),
-        (
-            "START; STATE s, t; SAVE a, c; INPUT d(x, , y), e; STOP; SAVE f; ENDSTATE S; STATE s;",
-            None,
-        ),
-        ("START; STATE s, t; ENDSTATE t;", Some(14)),
-        ("START; STATE s; SAVE a STOP;", Some(13)),
-        ("START; STATE s; TASK x := 1;", Some(11)),
-    ];
-    for (part, at) in rows {
-        assert_eq!(rt;
-            fault_between(
-                rt.alloc(),
-                "BLOCK b; PROCESS p; ",
-                part,
-                " ENDPROCESS; ENDBLOCK;"
-            )?,
-            at.map(ParseFault::Unexpected)
-        );
-    }
-    Ok(())
-}
-
-/// A text with decisions in one another, and with connections.
-const GATE: &str = "BLOCK B; PROCESS P; DCL n Integer; START; JOIN again;
-CONNECTION again: DECISION n; (0, 2:4, > 9): DECISION n = 1; (TRUE): ELSE: STOP; ENDDECISION; JOIN again;
-(-1): ELSE: NEXTSTATE s; ENDDECISION; TASK n := 1; ENDCONNECTION again;
-STATE s; INPUT a; DECISION n; ELSE: ENDDECISION; STOP; ENDSTATE; ENDPROCESS; ENDBLOCK;";
-
-#[test]
-fn each_shorter_list_with_branches_ends_too_early(rt: HostRuntime) -> Result<(), Fail> {
-    let found = tokens(rt.alloc(), GATE)?;
-    assert_eq!(rt; parse(rt.alloc(), found.as_slice()).err(), None);
-    for end in 0..found.len() {
-        let fault = parse(rt.alloc(), &found.as_slice()[..end]).err();
-        assert_eq!(rt; fault, Some(ParseFault::Unexpected(end)));
-    }
-    Ok(())
-}
-
-#[test]
-fn reads_each_decision_up_to_its_first_wrong_token(rt: HostRuntime) -> Result<(), Fail> {
-    let rows = [
-        ("DECISION x; (1): ENDDECISION;", None),
-        ("DECISION x; ELSE: STOP; ENDDECISION; STOP;", None),
-        (
-            "DECISION x + 1 COMMENT 'q'; (1, -2): STOP; (3:-4): ELSE: ENDDECISION COMMENT 'e'; TASK y := 1;",
-            None,
-        ),
-        (
-            "DECISION x; (= 5, /= -6, < 7, <= 8, > 9, >= 10): JOIN c; ENDDECISION;",
-            None,
-        ),
-        (
-            "DECISION b; (TRUE): DECISION b; (FALSE): ENDDECISION; STOP; ENDDECISION;",
-            None,
-        ),
-        ("DECISION x; ENDDECISION;", Some(11)),
-        ("DECISION x; STOP; ENDDECISION;", Some(11)),
-        ("DECISION; ELSE: ENDDECISION;", Some(9)),
-        ("DECISION 'x'; ELSE: ENDDECISION;", Some(9)),
-        ("DECISION x (1): ENDDECISION;", Some(10)),
-        ("DECISION x; (): ENDDECISION;", Some(12)),
-        ("DECISION x; (y): ENDDECISION;", Some(12)),
-        ("DECISION x; (: 1): ENDDECISION;", Some(12)),
-        ("DECISION x; (-TRUE): ENDDECISION;", Some(13)),
-        ("DECISION x; (1 2): ENDDECISION;", Some(13)),
-        ("DECISION x; (1,): ENDDECISION;", Some(14)),
-        ("DECISION x; (1:): ENDDECISION;", Some(14)),
-        ("DECISION x; (< 1:2): ENDDECISION;", Some(14)),
-        ("DECISION x; (1:2:3): ENDDECISION;", Some(15)),
-        ("DECISION x; (1) STOP; ENDDECISION;", Some(14)),
-        ("DECISION x; ELSE STOP; ENDDECISION;", Some(12)),
-        ("DECISION x; ELSE: ELSE: ENDDECISION;", Some(13)),
-        ("DECISION x; ELSE: (2): ENDDECISION;", Some(13)),
-        ("DECISION x; (1): STOP; TASK y := 1; ENDDECISION;", Some(17)),
-        ("DECISION x; (1): STOP;", Some(17)),
-        ("DECISION x; (1): ENDDECISION", Some(16)),
-        ("ENDDECISION;", Some(8)),
-        ("ELSE: STOP;", Some(8)),
-        ("(1): STOP;", Some(8)),
-    ];
-    for (part, at) in rows {
-        assert_eq!(rt;
-            fault_between(
-                rt.alloc(),
-                "BLOCK b; PROCESS p; START; ",
-                part,
-                " ENDPROCESS; ENDBLOCK;"
-            )?,
-            at.map(ParseFault::Unexpected)
-        );
-    }
-    Ok(())
-}
-
-#[test]
-fn reads_each_connection_up_to_its_first_wrong_token(rt: HostRuntime) -> Result<(), Fail> {
-    let rows = [
-        ("CONNECTION c: CONNECTION d: ENDCONNECTION;", None),
-        (
-            "STATE s; CONNECTION c: STOP; STATE t; CONNECTION d: JOIN c; ENDCONNECTION D COMMENT 'x'; STATE u;",
-            None,
-        ),
-        ("CONNECTION: STOP;", Some(9)),
-        ("CONNECTION c; STOP;", Some(10)),
-        ("CONNECTION c, d: STOP;", Some(10)),
-        ("CONNECTION c: ENDSTATE;", Some(11)),
-        ("CONNECTION c: INPUT a;", Some(11)),
-        ("CONNECTION c: ENDCONNECTION d;", Some(12)),
-        ("CONNECTION c: STOP; ENDCONNECTION C; JOIN c;", Some(16)),
-    ];
-    for (part, at) in rows {
-        assert_eq!(rt;
-            fault_between(
-                rt.alloc(),
-                "BLOCK b; PROCESS p; START; ",
-                part,
-                " ENDPROCESS; ENDBLOCK;"
-            )?,
-            at.map(ParseFault::Unexpected)
-        );
-    }
     Ok(())
 }
 
@@ -624,104 +317,6 @@ fn a_decision_is_one_level(rt: HostRuntime) -> Result<(), Fail> {
     assert_eq!(rt;
         nested_fault(alloc, 2, 3)?,
         Some(ParseFault::Unexpected(26))
-    );
-    Ok(())
-}
-
-/// Puts an expression with 32 operators on a number behind a text.
-fn push_deep(text: &mut String) -> Result<(), AllocError> {
-    for _ in 0..32 {
-        text.push_str("-(")?;
-    }
-    text.push_str("1")?;
-    for _ in 0..32 {
-        text.push_str(")")?;
-    }
-    Ok(())
-}
-
-/// A text with an expression that is too high between two parts of its process.
-fn deep_between(alloc: Global, before: &str, after: &str) -> Result<String, AllocError> {
-    let mut text = String::from_str(alloc, "BLOCK B; PROCESS P; START; ")?;
-    text.push_str(before)?;
-    push_deep(&mut text)?;
-    text.push_str(after)?;
-    text.push_str(" ENDPROCESS; ENDBLOCK;")?;
-    Ok(text)
-}
-
-#[test]
-fn names_the_first_action_that_is_too_high(rt: HostRuntime) -> Result<(), Fail> {
-    let rows = [
-        ("OUTPUT a(1), b(2, ", ");", 27),
-        ("TASK x := 1; SET(NOW + ", ", t);", 40),
-        ("TASK 'a', x := 1; TASK y := 1, x := ", ";", 45),
-        (
-            "DECISION x; ELSE: ENDDECISION; DECISION ",
-            "; (1): ENDDECISION;",
-            58,
-        ),
-        ("DECISION x; (1): ELSE: TASK x := ", "; ENDDECISION;", 27),
-        (
-            "CONNECTION c: TASK x := ",
-            "; STATE s; CONNECTION d: STOP;",
-            41,
-        ),
-        (
-            "STATE s; INPUT a; CONNECTION c: STOP; CONNECTION d: SET(NOW + ",
-            ", t);",
-            79,
-        ),
-    ];
-    for (before, after, at) in rows {
-        let text = deep_between(rt.alloc(), before, after)?;
-        assert_eq!(rt;
-            read(rt.alloc(), text.as_str())?.err(),
-            Some(ParseFault::TooDeep(at))
-        );
-    }
-    Ok(())
-}
-
-#[test]
-fn names_the_first_place_in_the_text(rt: HostRuntime) -> Result<(), Fail> {
-    let rows = [
-        (
-            "CONNECTION c: TASK x := ",
-            "; STATE s; INPUT a; TASK x := ",
-            41,
-        ),
-        (
-            "STATE s; INPUT a; TASK x := ",
-            "; CONNECTION c: TASK x := ",
-            45,
-        ),
-    ];
-    for (before, between, at) in rows {
-        let mut text = String::from_str(rt.alloc(), "BLOCK B; PROCESS P; START; ")?;
-        text.push_str(before)?;
-        push_deep(&mut text)?;
-        text.push_str(between)?;
-        push_deep(&mut text)?;
-        text.push_str("; ENDPROCESS; ENDBLOCK;")?;
-        assert_eq!(rt;
-            read(rt.alloc(), text.as_str())?.err(),
-            Some(ParseFault::TooDeep(at))
-        );
-    }
-    Ok(())
-}
-
-#[test]
-fn prints_its_faults(rt: HostRuntime) -> Result<(), Fail> {
-    let alloc = rt.alloc();
-    assert_eq!(rt;
-        format!(in alloc; "{}", ParseFault::Unexpected(3))?.as_str(),
-        "P1 Unexpected"
-    );
-    assert_eq!(rt;
-        format!(in alloc; "{}", ParseFault::TooDeep(3))?.as_str(),
-        "P2 TooDeep"
     );
     Ok(())
 }
