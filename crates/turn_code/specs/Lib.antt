@@ -10,5 +10,6 @@ pub mod Transitions
 pub mod Rules
 pub mod Valid
 pub mod Fits
+pub mod Outcome
 pub mod Safe
 pub mod Paths

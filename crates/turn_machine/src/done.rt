@@ -3,7 +3,8 @@
 ghost use Rattle.std.specs.Prelude.{◌≡◌, ◌≤◌, [], length, option_map, ⊤};
 ghost use Rattle.turn_code.specs.Run.{begun};
 ghost use Rattle.turn_code.specs.Machine.{progress_of};
-ghost use Rattle.turn_machine.specs.Turn.{Outcome, outcome_of};
+ghost use Rattle.turn_code.specs.Outcome.{Outcome};
+ghost use Rattle.turn_machine.specs.Turn.{outcome_of};
 
 use crate::copy::{copied_effects, copied_variables};
 use crate::execute::execute;
