@@ -36,12 +36,12 @@ use Rattle.sdl_compile.proofs.Sent.{sent_by}
 use Rattle.sdl_compile.proofs.Whole.{known_paths}
 
 -- the item of the first list that stands where one of the second does
-record Paired {A B : Type 0} (R : A → B → Type 0) (xs : List A) (n : ℕ) (y : B) : Type 0 where
-  item : A
-  there : slice_get xs n ≡ Some item
-  related : R item y
+pub record Paired {A B : Type 0} (R : A → B → Type 0) (xs : List A) (n : ℕ) (y : B) : Type 0 where
+  pub item : A
+  pub there : slice_get xs n ≡ Some item
+  pub related : R item y
 
-paired : {A B : Type 0} (R : A → B → Type 0) (xs : List A) (ys : List B) (n : ℕ) (y : B) → AllZip R xs ys → slice_get ys n ≡ Some y → Paired R xs n y
+pub paired : {A B : Type 0} (R : A → B → Type 0) (xs : List A) (ys : List B) (n : ℕ) (y : B) → AllZip R xs ys → slice_get ys n ≡ Some y → Paired R xs n y
 paired R [] [] n y zips e = absurd (let k : ⊥ = cc in k)
 paired R [] (z ∷ ys) n y zips e = absurd zips
 paired R (x ∷ xs) [] n y zips e = absurd zips

@@ -20,7 +20,7 @@ use Rattle.turn_code.specs.declared.draft.Draft.{Draft}
 use Rattle.turn_code.specs.declared.draft.DraftRoute.{DraftRoute}
 use Rattle.turn_code.specs.declared.draft.DraftProcess.{DraftProcess}
 use Rattle.turn_code.specs.declared.draft.Trigger.{Trigger}
-use Rattle.turn_code.specs.Routes.{IsProcess, IsPartyOf, Takes, Reaches, Answers}
+use Rattle.turn_code.specs.Routes.{IsProcess, IsPartyOf, the_process, Takes, Reaches, Answers}
 use Rattle.turn_code.specs.Rules.{ReachesReceiver, AnswersSender}
 use Rattle.sdl_tables.specs.Names.{same_name, is_in, number_of, signal_names, process_names, timers_of}
 use Rattle.sdl_rules.specs.Receivers.{same_party, party_of, paths_of, brings, carries, path_receivers, path_senders, add_party, receivers, senders, answers, answers_all, arrives, is_doubtful}
@@ -163,9 +163,9 @@ module _ (c : Scope) (n : ℕ) (numbers : AreNumbered (process_names c.block)) (
   same_draft (Process x) Environment e = absurd (let k : ⊥ = cc in k)
   same_draft (Process x) (Process y) e = ap (λ o. (let k : ProcessNumber = record { 0 = number_or_zero o } in code_parties.Process k)) (number_alike names x.name y.name e)
 
-  from_here : (q : Party) → same_party own q ≡ true → IsProcess n (drafted_party names q)
+  from_here : (q : Party) → same_party own q ≡ true → drafted_party names q ≡ the_process n
   from_here Environment e = absurd (let k : ⊥ = cc in k)
-  from_here (Process y) e = ap number_or_zero (sym (number_alike names c.process.name.name y.name e) ∙ own_number)
+  from_here (Process y) e = ap (λ o. the_process (number_or_zero o)) (sym (number_alike names c.process.name.name y.name e) ∙ own_number)
 
   contains_signal : (ids : List Identifier) (x : List ℕ) → is_in ids x ≡ true → Contains (map (λ (id : Identifier). sig id.name) ids) (sig x)
   contains_signal [] x e = absurd (let k : ⊥ = cc in k)

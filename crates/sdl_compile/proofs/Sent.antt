@@ -103,7 +103,7 @@ path_brings : (b : PlainBlock) (p : PlainProcess) (n : ℕ) (x : List ℕ) (m : 
     → slice_get (process_names b) n ≡ Some p.name → number_of (signal_names b) x ≡ Some m.0 → IsKnownPath b path → Brings sender n m (drafted_path b path) → IsNamed b p x sender (path ∷ paths)
 path_brings b p n x m sender path paths at e known h =
     let q = name_of b p path.from sender known.from h.from in
-    let own = own_party b p n path.to at known.to h.to in
+    let own = own_party b p n path.to at known.to (subst (IsProcess n) (sym h.to) refl) in
     let signal = in_signals b x m e path.signals known.signals h.signal in
     record {
       party = q.party;

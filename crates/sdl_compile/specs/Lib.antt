@@ -10,6 +10,7 @@ pub mod Facts
 pub mod Landing
 pub mod Made
 pub mod Meaning
+pub mod Meant
 pub mod Named
 pub mod Placing
 pub mod Reads

@@ -154,7 +154,8 @@ impl Wheel {
 
     /// No timer is active, and the clock shows 0.
     pub fn new(alloc: Global) -> Result<Self, AllocError>
-        ensures { IfOk result (λ wheel. wheel ≡ record { clock = 0; deadlines = map.empty }) }
+        ensures clock { IfOk result (λ wheel. wheel.clock ≡ 0) }
+        ensures deadlines { IfOk result (λ wheel. wheel.deadlines ≡ map.empty) }
     {
         Ok(Wheel {
             clock: 0,
@@ -198,14 +199,16 @@ impl Wheel {
     /// Makes a timer active until a deadline above the clock. An active one loses the deadline that it had.
     pub fn set(&mut self, timer: Timer, deadline: u64)
         requires { self.old.clock < deadline }
-        ensures { self.new ≡ record self.old { deadlines = map.insert self.old.deadlines timer deadline } }
+        ensures clock { self.new.clock ≡ self.old.clock }
+        ensures deadlines { self.new.deadlines ≡ map.insert self.old.deadlines timer deadline }
     {
         self.deadlines[timer.place()] = Some(deadline);
     }
 
     /// Makes a timer inactive, if it is active.
     pub fn reset(&mut self, timer: Timer)
-        ensures { self.new ≡ record self.old { deadlines = map.remove self.old.deadlines timer } }
+        ensures clock { self.new.clock ≡ self.old.clock }
+        ensures deadlines { self.new.deadlines ≡ map.remove self.old.deadlines timer }
     {
         self.deadlines[timer.place()] = None;
     }

@@ -10,5 +10,8 @@ pub mod Transitions
 pub mod Rules
 pub mod Valid
 pub mod Fits
+pub mod Outcome
+pub mod Effects
+pub mod Start
 pub mod Safe
 pub mod Paths

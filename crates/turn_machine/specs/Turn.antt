@@ -1,10 +1,11 @@
 -- A turn, as contracts see a job, and a job that ran.
-use Rattle.std.specs.Prelude.{◌≡◌, ℕ, ◌≤◌, List, length, Option, Some, None}
-use Rattle.turn_code.specs.Run.{Progress, Ran, run, ended, got_stuck, unfinished}
+use Rattle.std.specs.Prelude.{◌≡◌, ℕ, ◌≤◌, List, length, Option, Some}
+use Rattle.turn_code.specs.Run.{run, ended}
 use Rattle.turn_code.specs.Transitions.{Transition, transition_at}
 use Rattle.turn_code.specs.Rules.{KeepsSetLimits}
 use Rattle.turn_code.specs.Valid.{IsValidTransition}
 use Rattle.turn_code.specs.Fits.{FitsTransition}
+use Rattle.turn_code.specs.Outcome.{Outcome, outcome_in}
 use Rattle.turn_code.specs.declared.value.Value.{Value}
 use Rattle.turn_code.specs.declared.effect.Effect.{Effect}
 use Rattle.turn_code.specs.declared.input.Input.{Input}
@@ -48,16 +49,6 @@ pub record IsRunnable (j : Turn) : Type 0 where
   pub code : transition.piece.code ≡ j.code
   pub certificate : transition.piece.certificate ≡ j.certificate
   pub fits : FitsTransition draft transition j.input
-
--- how a turn ends: the end and what it leaves
-pub record Outcome : Type 0 where
-  pub end : End
-  pub progress : Progress
-
-abbrev pub outcome_in : Ran → Option Outcome
-outcome_in (ended e s) = Some (record { end = e; progress = s })
-outcome_in (got_stuck x) = None
-outcome_in unfinished = None
 
 -- the outcome of the run of a turn's own code on its own input
 abbrev pub outcome_of : Turn → Option Outcome

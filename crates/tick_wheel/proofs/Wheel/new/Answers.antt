@@ -3,10 +3,10 @@ use Rattle.tick_wheel.specs.Table.{deadlines_of, NoneDue}
 use Rattle.tick_wheel.proofs.TableLemmas.{deadlines_of-none, NoneDue-none}
 use Rattle.tick_wheel.proofs.Wheel.new.Goals as goal
 
-pub returns : goal.returns
-returns c =
+pub returns-clause-deadlines : goal.returns-clause-deadlines
+returns-clause-deadlines c =
     let table = c.in_ok-vec.ensures.items_if_clones_equal (λ y h. search rules) in
-    ap (λ m. record { clock = 0; deadlines = m }) (ap deadlines_of table ∙ deadlines_of-none 128)
+    ap deadlines_of table ∙ deadlines_of-none 128
 
 pub invariant_of-result : goal.invariant_of-result
 invariant_of-result c =

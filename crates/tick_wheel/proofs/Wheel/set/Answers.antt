@@ -5,10 +5,10 @@ use Rattle.tick_wheel.proofs.TableLemmas.{deadlines_of-set, NoneDue-set, kept-la
 use Rattle.tick_wheel.specs.Timers.{Timers}
 use Rattle.tick_wheel.proofs.Wheel.set.Goals as goal
 
-pub returns : goal.returns
-returns c =
-    ap (λ m. record { clock = c.self.inside.clock; deadlines = m }) (deadlines_of-set c.self.inside.deadlines.items c.place.result c.args.deadline (omega (arith, c.self.invariant.0)))
-    ∙ (λ i. record { clock = (c.self.view_is i).clock; deadlines = finite.insert (c.self.view_is i).deadlines (c.place.ensures.timer i) c.args.deadline })
+pub returns-clause-deadlines : goal.returns-clause-deadlines
+returns-clause-deadlines c =
+    deadlines_of-set c.self.inside.deadlines.items c.place.result c.args.deadline (omega (arith, c.self.invariant.0))
+    ∙ (λ i. finite.insert (c.self.view_is i).deadlines (c.place.ensures.timer i) c.args.deadline)
 
 pub invariant_of-self : goal.invariant_of-self
 invariant_of-self c =
