@@ -22,7 +22,7 @@ same_octets c a b of_a of_b =
     let long : length a ≡ length b = omega (arith, length-bits_of a, length-bits_of b, ap length same) in
     bits_of-same a b of_a.octets_fit of_b.octets_fit long same
 
-correct_some : (c : List Bool) (a : List ℕ) → IsCorrect c a → c ≡ [] → ⊥
+pub correct_some : (c : List Bool) (a : List ℕ) → IsCorrect c a → c ≡ [] → ⊥
 unfolding taken_out
 correct_some c a correct none =
     let nothing : reverse (bits_of a) ≡ [] = sym (correct_shape c a correct).back ∙ ap taken_out none in

@@ -9,4 +9,5 @@ pub mod StandLaws
 pub mod EventLaws
 pub mod SendLaws
 pub mod OctetLaws
+pub mod PaceLaws
 pub mod ThroughLaws

@@ -28,7 +28,7 @@ pub struct Deframer {
 
 impl Deframer {
     ghost use Rattle.bit_line.specs.Deframing.{StandsAt, Stands};
-    ghost use Rattle.bit_line.specs.Events.{AreEvents};
+    ghost use Rattle.bit_line.specs.Events.{AreEvents, UnitsDecode, closings};
     ghost use Rattle.bit_line.specs.Flags.{six_ones};
     ghost use Rattle.bit_line.specs.Judging.{report_of, reports_of, weight_of};
 
@@ -147,6 +147,8 @@ impl Deframer {
         ensures stands { (bits : List Bool) → Stands bits self.old → Stands (bits ++ low_bits 8 octet) self.new }
         ensures events { (bits : List Bool) (events : List LineEvent) → Stands bits self.old → AreEvents bits events
             → AreEvents (bits ++ low_bits 8 octet) (events ++ result.items) }
+        ensures decode { (bits : List Bool) → Stands bits self.old → UnitsDecode result.items }
+        ensures one { (bits : List Bool) → Stands bits self.old → closings result.items ≤ 1 }
     {
         let mut events = ArrayVec::new();
         for i in 0..8u8 {
@@ -192,6 +194,7 @@ impl Deframer {
         ensures stands { OnOk result ((bits : List Bool) → Stands bits self.old → Stands (bits ++ bits_of octets.now) self.new) }
         ensures events { IfOk result (λ given. (bits : List Bool) (events : List LineEvent) → Stands bits self.old → AreEvents bits events
             → AreEvents (bits ++ bits_of octets.now) (events ++ given.items)) }
+        ensures decode { IfOk result (λ given. (bits : List Bool) → Stands bits self.old → UnitsDecode given.items) }
         ensures err { OnErr result (self.new ≡ self.old) }
     {
         let mut next = self.copy();
