@@ -35,7 +35,7 @@ low_bits-mod (suc k) n =
     ap (λ m. (m == 1) ∷ low_bits k (n % 2 ^ suc k / 2)) lowest ∙ ap (λ m. (n % 2 == 1) ∷ low_bits k m) rest
     ∙ ap (λ bs. (n % 2 == 1) ∷ bs) (low_bits-mod k (n / 2))
 
-head_same : {A : Type 0} (x y : A) (xs ys : List A) → x ∷ xs ≡ y ∷ ys → x ≡ y
+pub head_same : {A : Type 0} (x y : A) (xs ys : List A) → x ∷ xs ≡ y ∷ ys → x ≡ y
 head_same x y xs ys same = cc
 
 tail_same : {A : Type 0} (x y : A) (xs ys : List A) → x ∷ xs ≡ y ∷ ys → xs ≡ ys
@@ -66,7 +66,7 @@ unfolding bits_of
 length-bits_of [] = refl
 length-bits_of (x ∷ xs) = length-append (low_bits 8 x) (bits_of xs) ∙ rw (length-low_bits 8 x, length-bits_of xs) (omega arith)
 
-front_same : {A : Type 0} (xs ys us vs : List A) → length xs ≡ length ys → xs ++ us ≡ ys ++ vs → (xs ≡ ys) × (us ≡ vs)
+pub front_same : {A : Type 0} (xs ys us vs : List A) → length xs ≡ length ys → xs ++ us ≡ ys ++ vs → (xs ≡ ys) × (us ≡ vs)
 front_same [] [] us vs long same = (refl, same)
 front_same [] (y ∷ ys) us vs long same = absurd (omega arith)
 front_same (x ∷ xs) [] us vs long same = absurd (omega arith)

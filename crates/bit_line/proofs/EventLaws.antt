@@ -22,7 +22,7 @@ same_octets c a b of_a of_b =
     let long : length a ≡ length b = omega (arith, length-bits_of a, length-bits_of b, ap length same) in
     bits_of-same a b of_a.octets_fit of_b.octets_fit long same
 
-correct_some : (c : List Bool) (a : List ℕ) → IsCorrect c a → c ≡ [] → ⊥
+pub correct_some : (c : List Bool) (a : List ℕ) → IsCorrect c a → c ≡ [] → ⊥
 unfolding taken_out
 correct_some c a correct none =
     let nothing : reverse (bits_of a) ≡ [] = sym (correct_shape c a correct).back ∙ ap taken_out none in
@@ -149,4 +149,14 @@ pub copy_stands : (h : List Bool) (events : List LineEvent) (old new : Deframer)
 unfolding StandsAt
 copy_stands h events old new recent gate count stands =
     let fits : Fits h stands.0 old = stands.2 in
-    (stands.0, stands.1, record { recent = recent ∙ fits.recent; gate = gate fits.gate; counting = count ∙ fits.counting })
+    (stands.0, stands.1, record { recent = ap (λ n. low_bits 7 n) recent ∙ fits.recent; gate = gate fits.gate; counting = count ∙ fits.counting })
+
+-- ---- an octet a few bits at a time
+few_more : (i n octet : ℕ) (h : List Bool) → reverse (low_bits n (octet / 2 ^ i)) ++ (reverse (low_bits i octet) ++ h) ≡ reverse (low_bits (i + n) octet) ++ h
+few_more i n octet h =
+    sym (append_assoc (reverse (low_bits n (octet / 2 ^ i))) (reverse (low_bits i octet)) h)
+    ∙ ap (λ bs. bs ++ h) (sym (ap reverse (low_bits-split i n octet) ∙ reverse-append (low_bits i octet) (low_bits n (octet / 2 ^ i))))
+
+pub at_few : (i n octet : ℕ) (h : List Bool) (events : List LineEvent) (d : Deframer) → StandsAt (reverse (low_bits n (octet / 2 ^ i)) ++ (reverse (low_bits i octet) ++ h)) events d
+    → StandsAt (reverse (low_bits (i + n) octet) ++ h) events d
+at_few i n octet h events d stands = let P : List Bool → Type 0 = λ l. StandsAt l events d in subst P (few_more i n octet h) stands

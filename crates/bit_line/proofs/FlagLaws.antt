@@ -1,12 +1,10 @@
 -- Flags by the newest seven bits, and the content between them.
-use Rattle.std.proofs.Common.{◌≡◌, ℕ, ◌+◌, ◌*◌, ◌≤◌, Bool, true, false, cond, not, ◌&&◌, ◌||◌, Option, Some, None, List, [], ◌∷◌, ◌++◌, length, drop, refl, sym, ap, ◌∙◌, arith}
-use Rattle.std.specs.Prelude.{nat_le, nat_lt}
+use Rattle.std.proofs.Common.{◌≡◌, ◌≤◌, Bool, true, false, cond, not, ◌&&◌, ◌||◌, Option, Some, None, List, [], ◌∷◌, ◌++◌, length, drop, refl, sym, ap, ◌∙◌, arith}
+use Rattle.std.specs.Prelude.{nat_lt}
 use Rattle.std.specs.Option.{option_map}
-use Rattle.std.proofs.lemmas.Bool.Decides.{leb_tells}
 use Rattle.bit_line.specs.Stuffing.{taken_out}
 use Rattle.bit_line.specs.Flags.{six_ones, ends_flag, since_flag, inside, begins, MOST_BITS}
-use Rattle.bit_line.specs.Deframing.{newest, seventh}
-use Rattle.bit_line.proofs.Newest.{bit_small, le_by, gt_by}
+use Rattle.bit_line.specs.Deframing.{seventh}
 
 -- ---- flags
 pub ends_flag-zero : (h : List Bool) → ends_flag (false ∷ h) ≡ six_ones h
@@ -65,21 +63,10 @@ unfolding since_flag
 part_of [] c is = absurd (let e : None ≡ Some c = is in cc)
 part_of (b ∷ h) c is = part_by b h c (ends_flag (b ∷ h)) refl (λ d e. part_of h d e) is
 
-top_bit : (x : Bool) (low : ℕ) → low ≤ 63 → x ≡ nat_le 64 (low + 64 * cond x 1 0)
-top_bit true low small = sym (le_by 64 (low + 64) (omega arith) (leb_tells 64 (low + 64)))
-top_bit false low small = sym (gt_by 64 (low + 0) (omega arith) (leb_tells 64 (low + 0)))
-
-seventh_by : (c0 c1 c2 c3 c4 c5 c6 : Bool) (c : List Bool) → c6 ≡ seventh (c0 ∷ c1 ∷ c2 ∷ c3 ∷ c4 ∷ c5 ∷ c6 ∷ c)
-unfolding seventh newest
-seventh_by c0 c1 c2 c3 c4 c5 c6 c =
-    let low : ℕ = cond c0 1 0 + 2 * (cond c1 1 0 + 2 * (cond c2 1 0 + 2 * (cond c3 1 0 + 2 * (cond c4 1 0 + 2 * cond c5 1 0)))) in
-    let small : low ≤ 63 = omega (arith, bit_small c0, bit_small c1, bit_small c2, bit_small c3, bit_small c4, bit_small c5) in
-    let all : low + 64 * cond c6 1 0 ≡ cond c0 1 0 + 2 * (cond c1 1 0 + 2 * (cond c2 1 0 + 2 * (cond c3 1 0 + 2 * (cond c4 1 0 + 2 * (cond c5 1 0 + 2 * (cond c6 1 0 + 2 * 0)))))) = omega arith in
-    top_bit c6 low small ∙ ap (λ n. nat_le 64 n) all
-
 -- where there are seven bits since the last flag, the seventh is the next one to be content
 pub seventh-is : (c rest : List Bool) → 7 ≤ length c → drop 6 c ≡ seventh (c ++ rest) ∷ drop 7 c
-seventh-is (c0 ∷ c1 ∷ c2 ∷ c3 ∷ c4 ∷ c5 ∷ c6 ∷ c) rest long = ap (λ b. b ∷ c) (seventh_by c0 c1 c2 c3 c4 c5 c6 (c ++ rest))
+unfolding seventh
+seventh-is (c0 ∷ c1 ∷ c2 ∷ c3 ∷ c4 ∷ c5 ∷ c6 ∷ c) rest long = refl
 seventh-is ([]) rest long = absurd (let e : 7 ≤ 0 = long in omega arith)
 seventh-is (c0 ∷ []) rest long = absurd (let e : 7 ≤ 1 = long in omega arith)
 seventh-is (c0 ∷ c1 ∷ []) rest long = absurd (let e : 7 ≤ 2 = long in omega arith)

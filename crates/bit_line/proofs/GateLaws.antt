@@ -20,11 +20,11 @@ pub inside-none : (h : List Bool) → since_flag h ≡ None → inside h ≡ []
 unfolding inside
 inside-none h none = ap (λ s. drop 7 (unwrap_or s [])) none
 
-inside-some : (h c : List Bool) → since_flag h ≡ Some c → inside h ≡ drop 7 c
+pub inside-some : (h c : List Bool) → since_flag h ≡ Some c → inside h ≡ drop 7 c
 unfolding inside
 inside-some h c some = ap (λ s. drop 7 (unwrap_or s [])) some
 
-latest-some : (h c : List Bool) → since_flag h ≡ Some c → latest h ≡ c
+pub latest-some : (h c : List Bool) → since_flag h ≡ Some c → latest h ≡ c
 latest-some h c some = ap (λ s. unwrap_or s []) some
 
 abbrev nothing_yet : List Bool
@@ -42,7 +42,7 @@ drop_few (suc n) (b ∷ c) few = drop_few n c (omega arith)
 pub unseen-inside : (h : List Bool) (g : Gate) → LetsIn h g → g.seen ≡ false → inside h ≡ []
 unseen-inside h g lets none = inside-none h (none_of (since_flag h) (sym lets.seen ∙ none))
 
-seen_by : (h : List Bool) (g : Gate) → LetsIn h g → g.seen ≡ true → (c : List Bool) × (since_flag h ≡ Some c)
+pub seen_by : (h : List Bool) (g : Gate) → LetsIn h g → g.seen ≡ true → (c : List Bool) × (since_flag h ≡ Some c)
 seen_by h g lets some = some_of (since_flag h) (sym lets.seen ∙ some)
 
 pub waiting-inside : (h : List Bool) (g : Gate) → LetsIn h g → g.seen ≡ true → (g.wait ≡ 0 → ⊥) → inside h ≡ []

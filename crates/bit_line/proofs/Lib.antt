@@ -9,4 +9,9 @@ pub mod StandLaws
 pub mod EventLaws
 pub mod SendLaws
 pub mod OctetLaws
+pub mod PassLaws
+pub mod PlainLaws
+pub mod FewLaws
+pub mod TakenLaws
+pub mod PaceLaws
 pub mod ThroughLaws

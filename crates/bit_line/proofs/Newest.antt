@@ -1,87 +1,145 @@
--- Flags by the newest seven bits, and the content between them.
-use Rattle.std.proofs.Common.{◌≡◌, ℕ, ◌+◌, ◌*◌, ◌%◌, ◌^◌, ◌<◌, ◌≤◌, zero, suc, Bool, true, false, cond, List, [], ◌∷◌, refl, sym, ap, ◌∙◌, arith, inl, inr, lit<}
-use Rattle.std.specs.Prelude.{◌⊎◌, ◌==◌, ◌≢◌, nat_le}
-use Rattle.std.proofs.lemmas.Nat.{pow_pos}
-use Rattle.std.proofs.Math.Nat.{mul_assoc}
-use Rattle.std.proofs.lemmas.Bool.Decides.{eqb_tells}
+-- The newest seven bits, as a list and as a number with the oldest of them lowest.
+use Rattle.std.proofs.Common.{◌≡◌, ℕ, ◌+◌, ◌*◌, ◌/◌, ◌%◌, ◌^◌, ◌<◌, ◌≤◌, zero, suc, Bool, true, false, cond, List, [], ◌∷◌, ◌++◌, length, reverse, take, drop, refl, sym, ap, ◌∙◌, arith}
+use Rattle.std.specs.Prelude.{◌==◌}
+use Rattle.std.proofs.lemmas.Nat.{shr_high, mod_low}
+use Rattle.std.proofs.lemmas.List.{reverse-append, reverse-reverse, length-reverse, length-append}
+use Rattle.su_octets.specs.Bits.{low_bits}
 use Rattle.bit_line.specs.Flags.{six_ones}
-use Rattle.bit_line.specs.Deframing.{newest}
+use Rattle.bit_line.specs.Deframing.{newest, seventh}
+use Rattle.bit_line.proofs.BitLists.{head_same, front_same, low_bits-split, low_bits-mod, low_bits-same, length-low_bits}
 
--- ---- numbers of a few bits
-pub bit_small : (b : Bool) → cond b 1 0 ≤ 1
-bit_small true = omega arith
-bit_small false = omega arith
-
-differs_by : (m n : ℕ) → (m ≡ n → ⊥) → ((m == n) ≡ true) × (m ≡ n) ⊎ ((m == n) ≡ false) × (m ≢ n) → (m == n) ≡ false
-differs_by m n other (inl t) = absurd (other t.1)
-differs_by m n other (inr t) = t.0
-
-differs : (m n : ℕ) → (m ≡ n → ⊥) → (m == n) ≡ false
-differs m n other = differs_by m n other (eqb_tells m n)
-
-pub le_by : (m n : ℕ) → m ≤ n → ((nat_le m n ≡ true) × (m ≤ n)) ⊎ ((nat_le m n ≡ false) × (n < m)) → nat_le m n ≡ true
-le_by m n le (inl t) = t.0
-le_by m n le (inr t) = absurd (let lt = t.1 in omega (arith, lt, le))
-
-pub gt_by : (m n : ℕ) → n < m → ((nat_le m n ≡ true) × (m ≤ n)) ⊎ ((nat_le m n ≡ false) × (n < m)) → nat_le m n ≡ false
-gt_by m n lt (inl t) = absurd (let le = t.1 in omega (arith, lt, le))
-gt_by m n lt (inr t) = t.0
-
--- ---- the newest bits as a number
-positive : (k : ℕ) → 0 < 2 ^ k
-positive k = pow_pos k
-
-two_more : (b : Bool) (m n p q x : ℕ) → m ≡ n + p * x → q ≡ 2 * p → cond b 1 0 + 2 * m ≡ cond b 1 0 + 2 * n + q * x
-two_more b m n p q x is double = let a : q * x ≡ 2 * (p * x) = ap (λ k. k * x) double ∙ mul_assoc 2 p x in omega (arith, is, a)
-
-pub newest-small : (k : ℕ) (h : List Bool) → newest k h < 2 ^ k
+-- ---- the newest bits behind more bits
+take-newest : (n m : ℕ) (h : List Bool) → n ≤ m → take n (newest m h) ≡ newest n h
 unfolding newest
-newest-small zero h = lit< tt
-newest-small (suc k) [] = let p : 0 < 2 ^ suc k = positive (suc k) in omega (arith, p)
-newest-small (suc k) (b ∷ h) = let less : newest k h < 2 ^ k = newest-small k h in let p : 2 ^ suc k ≡ 2 * 2 ^ k = omega arith in omega (arith, bit_small b, less, p)
+take-newest zero m h few = refl
+take-newest (suc n) zero h few = absurd (omega arith)
+take-newest (suc n) (suc m) [] few = ap (λ l. true ∷ l) (take-newest n m [] (omega arith))
+take-newest (suc n) (suc m) (b ∷ h) few = ap (λ l. b ∷ l) (take-newest n m h (omega arith))
 
-newest-split : (k : ℕ) (h : List Bool) → (x : ℕ) × (x < 2) × (newest (suc k) h ≡ newest k h + 2 ^ k * x)
+pub newest-behind : (n m : ℕ) (k h : List Bool) → n ≤ m → take n (k ++ newest m h) ≡ newest n (k ++ h)
 unfolding newest
-newest-split zero [] = (1, lit< tt, refl)
-newest-split zero (b ∷ h) = (cond b 1 0, omega (arith, bit_small b), omega arith)
-newest-split (suc k) [] =
-    let p : 2 ^ suc (suc k) ≡ 2 * 2 ^ suc k = omega arith in let q : 0 < 2 ^ suc k = positive (suc k) in
-    (1, lit< tt, omega (arith, p, q))
-newest-split (suc k) (b ∷ h) =
-    let rest : (x : ℕ) × (x < 2) × (newest (suc k) h ≡ newest k h + 2 ^ k * x) = newest-split k h in
-    (rest.0, rest.1, two_more b (newest (suc k) h) (newest k h) (2 ^ k) (2 ^ suc k) rest.0 rest.2 (let e : 2 ^ suc k ≡ 2 * 2 ^ k = omega arith in e))
+newest-behind n m [] h few = take-newest n m h few
+newest-behind zero m (b ∷ k) h few = refl
+newest-behind (suc n) m (b ∷ k) h few = ap (λ l. b ∷ l) (newest-behind n m k h (omega arith))
 
-pub newest-next : (b : Bool) (h : List Bool) → newest 7 (b ∷ h) ≡ (newest 7 h * 2 + cond b 1 0) % 128
+pub length-newest : (n : ℕ) (h : List Bool) → length (newest n h) ≡ n
 unfolding newest
-newest-next b h =
-    let split : (x : ℕ) × (x < 2) × (newest 7 h ≡ newest 6 h + 64 * x) = newest-split 6 h in
-    let small : newest 6 h < 64 = newest-small 6 h in
-    let bit : cond b 1 0 ≤ 1 = bit_small b in
-    let all : newest 7 h ≡ newest 6 h + 64 * split.0 = split.2 in
-    let x_small : split.0 < 2 = split.1 in
-    omega (arith, all, x_small, small, bit)
+length-newest zero h = refl
+length-newest (suc n) [] = ap suc (length-newest n [])
+length-newest (suc n) (b ∷ h) = ap suc (length-newest n h)
 
--- six 1s behind a 0 are the number 63
-pub six_ones-newest : (h : List Bool) → six_ones h ≡ (newest 7 h == 63)
+take_drop : (n : ℕ) (l : List Bool) → take n l ++ drop n l ≡ l
+take_drop zero l = refl
+take_drop (suc n) [] = refl
+take_drop (suc n) (b ∷ l) = ap (λ r. b ∷ r) (take_drop n l)
+
+-- ---- a window: seven bits and those behind them
+pub record Window (recent bits m : ℕ) (h : List Bool) : Type 0 where
+  pub late : low_bits m (recent + bits * 128) ≡ reverse (drop 7 (reverse (low_bits m bits) ++ newest 7 h))
+  pub next : low_bits 7 ((recent + bits * 128) / 2 ^ m) ≡ reverse (newest 7 (reverse (low_bits m bits) ++ h))
+
+window_bits : (recent bits m : ℕ) → recent < 128 → low_bits (m + 7) (recent + bits * 128) ≡ low_bits 7 recent ++ low_bits m bits
+window_bits recent bits m small =
+    let w : ℕ = recent + bits * 128 in
+    let swap : w ≡ bits * 2 ^ 7 + recent = omega arith in
+    let high : w / 2 ^ 7 ≡ bits = ap (λ n. n / 2 ^ 7) swap ∙ shr_high bits 7 recent small in
+    let low : w % 2 ^ 7 ≡ recent = ap (λ n. n % 2 ^ 7) swap ∙ mod_low bits 7 recent small in
+    ap (λ n. low_bits n w) (let e : m + 7 ≡ 7 + m = omega arith in e) ∙ low_bits-split 7 m w
+    ∙ ap (λ l. l ++ low_bits m (w / 2 ^ 7)) (sym (low_bits-mod 7 w) ∙ ap (λ n. low_bits 7 n) low)
+    ∙ ap (λ n. low_bits 7 recent ++ low_bits m n) high
+
+pub window : (recent bits m : ℕ) (h : List Bool) → recent < 128 → low_bits 7 recent ≡ reverse (newest 7 h) → Window recent bits m h
+window recent bits m h small is =
+    let w : ℕ = recent + bits * 128 in
+    let k : List Bool = reverse (low_bits m bits) in
+    let x : List Bool = k ++ newest 7 h in
+    let all : low_bits m w ++ low_bits 7 (w / 2 ^ m) ≡ reverse (drop 7 x) ++ reverse (take 7 x) =
+    sym (low_bits-split m 7 w) ∙ window_bits recent bits m small ∙ ap (λ l. l ++ low_bits m bits) is
+    ∙ ap (λ l. reverse (newest 7 h) ++ l) (sym (reverse-reverse (low_bits m bits))) ∙ sym (reverse-append k (newest 7 h))
+    ∙ ap reverse (sym (take_drop 7 x)) ∙ reverse-append (take 7 x) (drop 7 x) in
+    let short : length (take 7 x) ≡ 7 = ap length (newest-behind 7 7 k h (omega arith)) ∙ length-newest 7 (k ++ h) in
+    let sum : length (low_bits m w) + length (low_bits 7 (w / 2 ^ m)) ≡ length (reverse (drop 7 x)) + length (reverse (take 7 x)) =
+    sym (length-append (low_bits m w) (low_bits 7 (w / 2 ^ m))) ∙ ap length all ∙ length-append (reverse (drop 7 x)) (reverse (take 7 x)) in
+    let long : length (low_bits m w) ≡ length (reverse (drop 7 x)) =
+    omega (arith, sum, length-low_bits 7 (w / 2 ^ m), length-reverse (take 7 x), short) in
+    let parts = front_same (low_bits m w) (reverse (drop 7 x)) (low_bits 7 (w / 2 ^ m)) (reverse (take 7 x)) long all in
+    record { late = parts.0; next = parts.1 ∙ ap reverse (newest-behind 7 7 k h (omega arith)) }
+
+one_bit : (b : Bool) → low_bits 1 (cond b 1 0) ≡ b ∷ []
+unfolding low_bits
+one_bit true = refl
+one_bit false = refl
+
+pub newest-next : (recent : ℕ) (b : Bool) (h : List Bool) → recent < 128 → low_bits 7 recent ≡ reverse (newest 7 h)
+    → low_bits 7 (recent / 2 + 64 * cond b 1 0) ≡ reverse (newest 7 (b ∷ h))
+newest-next recent b h small is =
+    ap (λ n. low_bits 7 n) (let e : recent / 2 + 64 * cond b 1 0 ≡ (recent + cond b 1 0 * 128) / 2 ^ 1 = omega arith in e)
+    ∙ (window recent (cond b 1 0) 1 h small is).next ∙ ap (λ l. reverse (newest 7 (reverse l ++ h))) (one_bit b)
+
+-- the oldest of the seven bits
+pub oldest : (recent : ℕ) (h : List Bool) → low_bits 7 recent ≡ reverse (newest 7 h) → (recent % 2 == 1) ≡ seventh h
+unfolding low_bits newest seventh
+oldest recent [] is = head_same _ _ _ _ is
+oldest recent (b0 ∷ []) is = head_same _ _ _ _ is
+oldest recent (b0 ∷ b1 ∷ []) is = head_same _ _ _ _ is
+oldest recent (b0 ∷ b1 ∷ b2 ∷ []) is = head_same _ _ _ _ is
+oldest recent (b0 ∷ b1 ∷ b2 ∷ b3 ∷ []) is = head_same _ _ _ _ is
+oldest recent (b0 ∷ b1 ∷ b2 ∷ b3 ∷ b4 ∷ []) is = head_same _ _ _ _ is
+oldest recent (b0 ∷ b1 ∷ b2 ∷ b3 ∷ b4 ∷ b5 ∷ []) is = head_same _ _ _ _ is
+oldest recent (b0 ∷ b1 ∷ b2 ∷ b3 ∷ b4 ∷ b5 ∷ b6 ∷ h) is = head_same _ _ _ _ is
+
+-- ---- six 1s behind a 0 are the number 126
+abbrev six : List Bool
+six = true ∷ true ∷ true ∷ true ∷ true ∷ true ∷ false ∷ []
+
+six_bits : low_bits 7 126 ≡ reverse six
+unfolding low_bits
+six_bits = refl
+
+six_of : (h : List Bool) → newest 7 h ≡ six → six_ones h ≡ true
 unfolding six_ones newest
-six_ones-newest [] = refl
-six_ones-newest (false ∷ h) = sym (differs (0 + 2 * newest 6 h) 63 (λ e. omega (arith, e)))
-six_ones-newest (true ∷ []) = refl
-six_ones-newest (true ∷ false ∷ h) = sym (differs (1 + 2 * (0 + 2 * newest 5 h)) 63 (λ e. omega (arith, e)))
-six_ones-newest (true ∷ true ∷ []) = refl
-six_ones-newest (true ∷ true ∷ false ∷ h) = sym (differs (1 + 2 * (1 + 2 * (0 + 2 * newest 4 h))) 63 (λ e. omega (arith, e)))
-six_ones-newest (true ∷ true ∷ true ∷ []) = refl
-six_ones-newest (true ∷ true ∷ true ∷ false ∷ h) = sym (differs (1 + 2 * (1 + 2 * (1 + 2 * (0 + 2 * newest 3 h)))) 63 (λ e. omega (arith, e)))
-six_ones-newest (true ∷ true ∷ true ∷ true ∷ []) = refl
-six_ones-newest (true ∷ true ∷ true ∷ true ∷ false ∷ h) = sym (differs (1 + 2 * (1 + 2 * (1 + 2 * (1 + 2 * (0 + 2 * newest 2 h))))) 63 (λ e. omega (arith, e)))
-six_ones-newest (true ∷ true ∷ true ∷ true ∷ true ∷ []) = refl
-six_ones-newest (true ∷ true ∷ true ∷ true ∷ true ∷ false ∷ h) = sym (differs (1 + 2 * (1 + 2 * (1 + 2 * (1 + 2 * (1 + 2 * (0 + 2 * newest 1 h)))))) 63 (λ e. omega (arith, e)))
-six_ones-newest (true ∷ true ∷ true ∷ true ∷ true ∷ true ∷ []) = refl
-six_ones-newest (true ∷ true ∷ true ∷ true ∷ true ∷ true ∷ false ∷ h) = refl
-six_ones-newest (true ∷ true ∷ true ∷ true ∷ true ∷ true ∷ true ∷ h) = refl
+six_of [] is = absurd (let e : true ∷ true ∷ true ∷ true ∷ true ∷ true ∷ true ∷ [] ≡ six = is in cc)
+six_of (false ∷ h) is = absurd (let e : false ∷ newest 6 h ≡ six = is in cc)
+six_of (true ∷ []) is = absurd (let e : true ∷ true ∷ true ∷ true ∷ true ∷ true ∷ true ∷ [] ≡ six = is in cc)
+six_of (true ∷ false ∷ h) is = absurd (let e : true ∷ false ∷ newest 5 h ≡ six = is in cc)
+six_of (true ∷ true ∷ []) is = absurd (let e : true ∷ true ∷ true ∷ true ∷ true ∷ true ∷ true ∷ [] ≡ six = is in cc)
+six_of (true ∷ true ∷ false ∷ h) is = absurd (let e : true ∷ true ∷ false ∷ newest 4 h ≡ six = is in cc)
+six_of (true ∷ true ∷ true ∷ []) is = absurd (let e : true ∷ true ∷ true ∷ true ∷ true ∷ true ∷ true ∷ [] ≡ six = is in cc)
+six_of (true ∷ true ∷ true ∷ false ∷ h) is = absurd (let e : true ∷ true ∷ true ∷ false ∷ newest 3 h ≡ six = is in cc)
+six_of (true ∷ true ∷ true ∷ true ∷ []) is = absurd (let e : true ∷ true ∷ true ∷ true ∷ true ∷ true ∷ true ∷ [] ≡ six = is in cc)
+six_of (true ∷ true ∷ true ∷ true ∷ false ∷ h) is = absurd (let e : true ∷ true ∷ true ∷ true ∷ false ∷ newest 2 h ≡ six = is in cc)
+six_of (true ∷ true ∷ true ∷ true ∷ true ∷ []) is = absurd (let e : true ∷ true ∷ true ∷ true ∷ true ∷ true ∷ true ∷ [] ≡ six = is in cc)
+six_of (true ∷ true ∷ true ∷ true ∷ true ∷ false ∷ h) is = absurd (let e : true ∷ true ∷ true ∷ true ∷ true ∷ false ∷ newest 1 h ≡ six = is in cc)
+six_of (true ∷ true ∷ true ∷ true ∷ true ∷ true ∷ []) is = absurd (let e : true ∷ true ∷ true ∷ true ∷ true ∷ true ∷ true ∷ [] ≡ six = is in cc)
+six_of (true ∷ true ∷ true ∷ true ∷ true ∷ true ∷ false ∷ h) is = refl
+six_of (true ∷ true ∷ true ∷ true ∷ true ∷ true ∷ true ∷ h) is = absurd (let e : true ∷ true ∷ true ∷ true ∷ true ∷ true ∷ true ∷ newest 0 h ≡ six = is in cc)
 
-pub six_when : (h : List Bool) → newest 7 h ≡ 63 → six_ones h ≡ true
-six_when h is = six_ones-newest h ∙ ap (λ n. n == 63) is
+of_six : (h : List Bool) → six_ones h ≡ true → newest 7 h ≡ six
+unfolding six_ones newest
+of_six (true ∷ true ∷ true ∷ true ∷ true ∷ true ∷ false ∷ h) is = refl
+of_six _ is = absurd (let e : false ≡ true = is in cc)
 
-pub no_six_when : (h : List Bool) → (newest 7 h ≡ 63 → ⊥) → six_ones h ≡ false
-no_six_when h other = six_ones-newest h ∙ differs (newest 7 h) 63 other
+isnt_true : (b : Bool) → (b ≡ true → ⊥) → b ≡ false
+isnt_true true other = absurd (other refl)
+isnt_true false other = refl
+
+pub six_when : (recent : ℕ) (h : List Bool) → low_bits 7 recent ≡ reverse (newest 7 h) → recent ≡ 126 → six_ones h ≡ true
+six_when recent h is all =
+    six_of h (sym (reverse-reverse (newest 7 h)) ∙ ap reverse (sym is ∙ ap (λ n. low_bits 7 n) all ∙ six_bits) ∙ reverse-reverse six)
+
+pub no_six_when : (recent : ℕ) (h : List Bool) → recent < 128 → low_bits 7 recent ≡ reverse (newest 7 h) → (recent ≡ 126 → ⊥) → six_ones h ≡ false
+no_six_when recent h small is other =
+    isnt_true (six_ones h) (λ all. other (low_bits-same 7 recent 126 small (omega arith) (is ∙ ap reverse (of_six h all) ∙ sym six_bits)))
+
+pub newest-none : low_bits 7 127 ≡ reverse (newest 7 [])
+unfolding low_bits newest
+newest-none = refl
+
+-- after the flag's last 0, and after a seventh 1
+pub newest-flag : (recent : ℕ) (h : List Bool) → low_bits 7 recent ≡ reverse (newest 7 h) → recent ≡ 126 → low_bits 7 63 ≡ reverse (newest 7 (false ∷ h))
+newest-flag recent h is all =
+    ap (λ n. low_bits 7 n) (let e : 63 ≡ recent / 2 + 64 * 0 = omega (arith, all) in e) ∙ newest-next recent false h (omega (arith, all)) is
+
+pub newest-seven : (recent : ℕ) (h : List Bool) → low_bits 7 recent ≡ reverse (newest 7 h) → recent ≡ 126 → low_bits 7 127 ≡ reverse (newest 7 (true ∷ h))
+newest-seven recent h is all =
+    ap (λ n. low_bits 7 n) (let e : 127 ≡ recent / 2 + 64 * 1 = omega (arith, all) in e) ∙ newest-next recent true h (omega (arith, all)) is

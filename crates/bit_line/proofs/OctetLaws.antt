@@ -72,7 +72,7 @@ record Goes (bs sent on : List Bool) (m : ℕ) : Type 0 where
   pub line : stuffed (reverse bs ++ sent) ≡ reverse on ++ stuffed sent
   pub ones : m ≡ trailing (stuffed (reverse bs ++ sent))
 
-one_later : (b : Bool) (bs h : List Bool) → reverse (b ∷ bs) ++ h ≡ reverse bs ++ (b ∷ h)
+pub one_later : (b : Bool) (bs h : List Bool) → reverse (b ∷ bs) ++ h ≡ reverse bs ++ (b ∷ h)
 one_later b bs h = ap (λ l. l ++ h) (reverse-cons b bs) ∙ append_assoc (reverse bs) (b ∷ []) h
 
 goes_plain : (b : Bool) (bs sent line : List Bool) (m : ℕ) → stuffed (b ∷ sent) ≡ b ∷ stuffed sent → Goes bs (b ∷ sent) line m → Goes (b ∷ bs) sent (b ∷ line) m
@@ -126,7 +126,7 @@ cut_of octet r = first_of octet r + 5 - r
 abbrev pub nine_of : ℕ → ℕ → ℕ
 nine_of octet r = 2 * octet - octet % (1 * 2 ^ cut_of octet r % 65536)
 
-abbrev same_bits : List Bool → List Bool → Bool
+abbrev pub same_bits : List Bool → List Bool → Bool
 same_bits [] [] = true
 same_bits [] (c ∷ cs) = false
 same_bits (b ∷ bs) [] = false
@@ -165,11 +165,11 @@ rest_told r octet = places_told r octet && once_told r octet
 abbrev told : ℕ → ℕ → Bool
 told r octet = cond (fives_of (window_of octet r) == 0) (plain_told r octet) (rest_told r octet)
 
-abbrev all_below : (ℕ → Bool) → ℕ → Bool
+abbrev pub all_below : (ℕ → Bool) → ℕ → Bool
 all_below test zero = true
 all_below test (suc n) = test n && all_below test n
 
-both : (a b : Bool) → (a && b) ≡ true → (a ≡ true) × (b ≡ true)
+pub both : (a b : Bool) → (a && b) ≡ true → (a ≡ true) × (b ≡ true)
 both true b ok = (refl, ok)
 both false b ok = absurd (let e : false ≡ true = ok in cc)
 
@@ -186,7 +186,7 @@ at_one_by : (test : ℕ → Bool) (n c : ℕ) → all_below test (suc n) ≡ tru
 at_one_by test n c ok before (inl same) = ap test same ∙ (both (test n) (all_below test n) ok).0
 at_one_by test n c ok before (inr less) = before (both (test n) (all_below test n) ok).1 less
 
-at_one : (test : ℕ → Bool) (n c : ℕ) → all_below test n ≡ true → c < n → test c ≡ true
+pub at_one : (test : ℕ → Bool) (n c : ℕ) → all_below test n ≡ true → c < n → test c ≡ true
 at_one test zero c ok low = absurd (omega arith)
 at_one test (suc n) c ok low = at_one_by test n c ok (λ all less. at_one test n c all less) (last_or_before c n low)
 
@@ -203,7 +203,7 @@ same_bit true false is = absurd (let e : false ≡ true = is in cc)
 same_bit false true is = absurd (let e : false ≡ true = is in cc)
 same_bit false false is = refl
 
-bits_same : (bs cs : List Bool) → same_bits bs cs ≡ true → bs ≡ cs
+pub bits_same : (bs cs : List Bool) → same_bits bs cs ≡ true → bs ≡ cs
 bits_same [] [] is = refl
 bits_same [] (c ∷ cs) is = absurd (let e : false ≡ true = is in cc)
 bits_same (b ∷ bs) [] is = absurd (let e : false ≡ true = is in cc)
@@ -213,10 +213,10 @@ bits_same (b ∷ bs) (c ∷ cs) is =
     let rest : bs ≡ cs = bits_same bs cs parts.1 in
     cc
 
-if_so : (n : ℕ) (x y : Bool) → n ≡ 0 → cond (n == 0) x y ≡ true → x ≡ true
+pub if_so : (n : ℕ) (x y : Bool) → n ≡ 0 → cond (n == 0) x y ≡ true → x ≡ true
 if_so n x y none is = sym (ap (λ m. cond (m == 0) x y) none) ∙ is
 
-if_not_by : (n : ℕ) (x y : Bool) → (n ≡ 0 → ⊥) → ((n == 0) ≡ true) × (n ≡ 0) ⊎ ((n == 0) ≡ false) × (n ≡ 0 → ⊥) → cond (n == 0) x y ≡ true → y ≡ true
+pub if_not_by : (n : ℕ) (x y : Bool) → (n ≡ 0 → ⊥) → ((n == 0) ≡ true) × (n ≡ 0) ⊎ ((n == 0) ≡ false) × (n ≡ 0 → ⊥) → cond (n == 0) x y ≡ true → y ≡ true
 if_not_by n x y some (inl t) is = absurd (some t.1)
 if_not_by n x y some (inr t) is = sym (ap (λ b. cond b x y) t.0) ∙ is
 

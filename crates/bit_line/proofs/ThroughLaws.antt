@@ -23,7 +23,7 @@ use Rattle.bit_line.proofs.SendLaws.{framed-append, framed-one}
 use Rattle.bit_line.proofs.FlagLaws.{since_flag-flag, since_flag-other, ends_flag-plain, ends_flag-zero, begins-plain, begins-flag}
 
 -- ---- bits that end nothing and begin nothing
-quiet : (b : Bool) (h : List Bool) (es : List LineEvent) → Runs h None es → ends_flag (b ∷ h) ≡ false → begins (b ∷ h) ≡ false → Runs (b ∷ h) None es
+pub quiet : (b : Bool) (h : List Bool) (es : List LineEvent) → Runs h None es → ends_flag (b ∷ h) ≡ false → begins (b ∷ h) ≡ false → Runs (b ∷ h) None es
 unfolding Runs mode_after reports
 quiet b h es runs none calm =
     let P : Bool → Type 0 = λ e. MatchBool e (IsJudged (inside h) Nothing) (Nothing ≡ Nothing) in (

@@ -1,9 +1,10 @@
 -- What the fields of a deframer say of the line bits so far.
-use Rattle.std.specs.Prelude.{◌≡◌, ℕ, ◌+◌, ◌-◌, ◌*◌, ◌^◌, zero, suc, min, nat_lt, nat_le, Bool, true, false, ◌||◌, if◌then◌else◌, Option, unwrap_or, is_some, List, [], ◌∷◌, length, reverse}
+use Rattle.std.specs.Prelude.{◌≡◌, ℕ, ◌-◌, zero, suc, min, nat_lt, nat_le, Bool, true, false, ◌||◌, Option, unwrap_or, is_some, List, [], ◌∷◌, ◌++◌, length, reverse}
+use Rattle.su_octets.specs.Bits.{low_bits}
 use Rattle.bit_line.specs.Parts.{Packed}
 use Rattle.bit_line.specs.Counting.{Counts}
 use Rattle.bit_line.specs.Stuffing.{trailing, taken_out}
-use Rattle.bit_line.specs.Flags.{since_flag, inside, MOST_BITS}
+use Rattle.bit_line.specs.Flags.{ends_flag, since_flag, inside, MOST_BITS}
 use Rattle.bit_line.specs.Events.{Runs}
 use Rattle.bit_line.specs.declared.data.Data.{Data}
 use Rattle.bit_line.specs.declared.content.Content.{Content}
@@ -37,15 +38,15 @@ pub record LetsIn (h : List Bool) (gate : Gate) : Type 0 where
   pub wait : gate.wait ≡ 7 - length (latest h)
   pub content : gate.seen ≡ true → gate.wait ≡ 0 → Holds (inside h) gate.content
 
--- the newest k bits as a number, the newest one lowest; before the first bit they are taken to be 1s
-unfoldable pub newest : ℕ → List Bool → ℕ
-newest zero h = 0
-newest (suc k) [] = 2 ^ suc k - 1
-newest (suc k) (b ∷ h) = (if b then 1 else 0) + 2 * newest k h
+-- the newest k bits, the newest one first; before the first bit they are taken to be 1s
+unfoldable pub newest : ℕ → List Bool → List Bool
+newest zero h = []
+newest (suc k) [] = true ∷ newest k []
+newest (suc k) (b ∷ h) = b ∷ newest k h
 
 -- the deframer's fields after this history, in this mode
 pub record Fits (h : List Bool) (mode : Option ℕ) (deframer : Deframer) : Type 0 where
-  pub recent : deframer.recent ≡ newest 7 h
+  pub recent : low_bits 7 deframer.recent ≡ reverse (newest 7 h)
   pub gate : LetsIn h deframer.gate
   pub counting : Counts mode deframer.counter.count
 
@@ -55,7 +56,13 @@ StandsAt h events deframer = (mode : Option ℕ) × Runs h mode events × Fits h
 
 -- the bit seven before the next one; it is taken to be a 1 before the first bit
 unfoldable pub seventh : List Bool → Bool
-seventh h = nat_le 64 (newest 7 h)
+seventh (b0 ∷ b1 ∷ b2 ∷ b3 ∷ b4 ∷ b5 ∷ b6 ∷ h) = b6
+seventh _ = true
+
+-- none of these bits, the newest one first, ends a flag behind the history
+abbrev pub EndsNone : List Bool → List Bool → Type 0
+EndsNone [] h = Unit {0}
+EndsNone (b ∷ k) h = EndsNone k h × (ends_flag (b ∷ (k ++ h)) ≡ false)
 
 -- the deframer stands for these line bits, in order of coming
 unfoldable pub Stands : List Bool → Deframer → Type 0

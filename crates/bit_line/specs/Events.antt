@@ -1,6 +1,7 @@
 -- What a receiver of line bits reports (Q.703, 4.1): signal units, errored ones, and sixteen octets at a
 -- time while it counts octets.
 use Rattle.std.specs.Prelude.{◌≡◌, ◌≢◌, ℕ, ◌+◌, ◌%◌, ◌==◌, Bool, if◌then◌else◌, Option, Some, None, List, [], ◌∷◌, ◌++◌, reverse}
+use Rattle.std.specs.List.{All}
 use Rattle.std.specs.Bool.{MatchBool}
 use Rattle.su_octets.specs.Bits.{bits_of, AreOctets}
 use Rattle.su_octets.specs.Frame.{Frame}
@@ -72,3 +73,20 @@ Runs (b ∷ h) mode all = (old : Option ℕ) × (before : List LineEvent) × Run
 -- all that is reported for these line bits, given in order of coming
 abbrev pub AreEvents : List Bool → List LineEvent → Type 0
 AreEvents bits events = (mode : Option ℕ) × Runs (reverse bits) mode events
+
+-- what is said of a reported unit: its octets are those of a signal unit
+abbrev pub IsSound : LineEvent → Type 0
+IsSound (events.Unit octets) = AreUnit octets.items × AreOctets octets.items
+IsSound events.Errored = Unit {0}
+IsSound events.SixteenOctets = Unit {0}
+
+-- the octets of each reported unit are those of a signal unit
+abbrev pub UnitsDecode : List LineEvent → Type 0
+UnitsDecode all = All IsSound all
+
+-- how many contents the reports say to be closed, correct ones and wrong ones
+abbrev pub closings : List LineEvent → ℕ
+closings [] = 0
+closings (events.Unit octets ∷ all) = 1 + closings all
+closings (events.Errored ∷ all) = 1 + closings all
+closings (events.SixteenOctets ∷ all) = closings all

@@ -1,7 +1,7 @@
 -- Laws over the definitions of this crate, each the contract of a public function.
-use Rattle.std.specs.Prelude.{◌≡◌, ◌≢◌, ℕ, ◌<◌, Bool, true, None, List, [], ◌∷◌, ◌++◌, reverse, length}
+use Rattle.std.specs.Prelude.{◌≡◌, ◌≢◌, ℕ, ◌+◌, ◌*◌, ◌<◌, ◌≤◌, Bool, true, None, List, [], ◌∷◌, ◌++◌, reverse, length}
 use Rattle.su_octets.specs.Bits.{bits_of, AreOctets}
-use Rattle.bit_line.specs.Events.{AreEvents, AreUnit, Runs}
+use Rattle.bit_line.specs.Events.{AreEvents, AreUnit, Runs, UnitsDecode, closings}
 use Rattle.bit_line.specs.Flags.{ends_flag}
 use Rattle.bit_line.specs.Sending.{line_of}
 use Rattle.bit_line.specs.Deframing.{Stands}
@@ -16,6 +16,16 @@ OneEvents = (bits : List Bool) (es fs : List LineEvent) → AreEvents bits es �
 -- line bits for which a deframer stands have events
 abbrev pub StandsHaveEvents : Type 0
 StandsHaveEvents = (bits : List Bool) (deframer : Deframer) → Stands bits deframer → (events : List LineEvent) × AreEvents bits events
+
+-- each unit that is reported for line bits decodes
+abbrev pub EventsDecode : Type 0
+EventsDecode = (bits : List Bool) (events : List LineEvent) → AreEvents bits events → UnitsDecode events
+
+-- So many more bits close at most one content for each eight of them, and one for up to seven that are left: so eight
+-- bits close at most one.
+abbrev pub ClosingsArePaced : Type 0
+ClosingsArePaced = (bits more : List Bool) (before given : List LineEvent) → AreEvents bits before → AreEvents (bits ++ more) (before ++ given)
+    → 8 * closings given ≤ length more + 7
 
 -- the octets of signal units
 abbrev pub AreUnits : List (List ℕ) → Type 0

@@ -1,12 +1,13 @@
 //! The line bits between two flags.
-ghost use Rattle.std.specs.Prelude.{◌≡◌, Bool, true, false, List, [], ◌∷◌};
+ghost use Rattle.std.specs.Prelude.{◌≡◌, ◌≤◌, ◌<◌, ◌^◌, Bool, true, false, List, [], ◌∷◌, ◌++◌, reverse};
 ghost use Rattle.bit_line.specs.Deframing.{Holds};
 ghost use Rattle.bit_line.specs.Judging.{verdict_of};
 ghost use Rattle.bit_line.specs.Events.{AreUnit, IsJudged};
 ghost use Rattle.std.specs.Bool.{MatchBool};
-ghost use Rattle.su_octets.specs.Bits.{AreOctets};
+ghost use Rattle.su_octets.specs.Bits.{low_bits, AreOctets};
 
 use crate::data::Data;
+use crate::taken::taken_from;
 use su_octets::decode;
 
 /// How the content between two flags is judged.
@@ -98,6 +99,32 @@ impl Content {
             self.push_one();
         } else {
             self.push_zero();
+        }
+    }
+
+    /// Adds up to eight line bits, the low one first.
+    pub fn push_few(&mut self, bits: u8, len: u8)
+        requires few { len ≤ 8 }
+        requires fits { bits < 2 ^ len }
+        ensures { (h : List Bool) → Holds h self.old → Holds (reverse (low_bits len bits) ++ h) self.new }
+    {
+        if self.ones > 5 {
+            self.push_each(bits, len);
+        } else if let Some(taken) = taken_from(bits, len, self.ones) {
+            self.ones = taken.ones;
+            self.data_bits.push_few(taken.bits, taken.len);
+        } else {
+            self.push_each(bits, len);
+        }
+    }
+
+    /// Adds line bits one by one, the low one first.
+    fn push_each(&mut self, bits: u8, len: u8)
+        requires { len ≤ 8 }
+        ensures { (h : List Bool) → Holds h self.old → Holds (reverse (low_bits len bits) ++ h) self.new }
+    {
+        for i in 0..len {
+            self.push(bits >> i & 1 == 1);
         }
     }
 

@@ -1,7 +1,9 @@
 //! The bits of a unit, inserted zeros taken out.
-ghost use Rattle.std.specs.Prelude.{◌≡◌, Bool, List, [], ◌∷◌};
+ghost use Rattle.std.specs.Prelude.{◌≡◌, ◌≤◌, ◌<◌, ◌^◌, ◌+◌, Bool, true, List, [], ◌∷◌, ◌++◌, reverse, length};
+ghost use Rattle.bit_line.specs.Flags.{MOST_BITS};
 ghost use Rattle.std.specs.Bool.{MatchBool};
 ghost use Rattle.bit_line.specs.Deframing.{Gathers};
+ghost use Rattle.su_octets.specs.Bits.{low_bits};
 
 use crate::part::Part;
 use arrayvec::ArrayVec;
@@ -68,6 +70,17 @@ impl Data {
         }
     }
 
+    /// Whether there is room for eight more bits.
+    pub fn has_room(&self) -> bool
+        ensures { result ≡ true → (h : List Bool) → Gathers h self.now → length h + 8 ≤ MOST_BITS }
+    {
+        if self.over {
+            false
+        } else {
+            self.octets.len() < 277
+        }
+    }
+
     /// Adds a bit.
     pub fn push(&mut self, bit: bool)
         ensures { (h : List Bool) → Gathers h self.old → Gathers (bit ∷ h) self.new }
@@ -76,6 +89,29 @@ impl Data {
             self.over = true;
         } else if let Some(octet) = self.part.push(bit) {
             self.octets.push(octet);
+        }
+    }
+
+    /// Adds up to eight bits, the low one first.
+    pub fn push_few(&mut self, bits: u8, len: u8)
+        requires few { len ≤ 8 }
+        requires fits { bits < 2 ^ len }
+        ensures { (h : List Bool) → Gathers h self.old → Gathers (reverse (low_bits len bits) ++ h) self.new }
+    {
+        if self.octets.len() >= 277 {
+            self.push_each(bits, len);
+        } else if let Some(octet) = self.part.push_few(bits, len) {
+            self.octets.push(octet);
+        }
+    }
+
+    /// Adds bits one by one, the low one first.
+    fn push_each(&mut self, bits: u8, len: u8)
+        requires { len ≤ 8 }
+        ensures { (h : List Bool) → Gathers h self.old → Gathers (reverse (low_bits len bits) ++ h) self.new }
+    {
+        for i in 0..len {
+            self.push(bits >> i & 1 == 1);
         }
     }
 }

@@ -1,5 +1,5 @@
 //! Line bits to events.
-ghost use Rattle.std.specs.Prelude.{◌≡◌, ◌≤◌, ◌<◌, ◌+◌, ◌*◌, ◌%◌, ℕ, Bool, true, false, List, [], ◌∷◌, ◌++◌, IfOk, OnOk, OnErr, reverse, if◌then◌else◌, unwrap_or};
+ghost use Rattle.std.specs.Prelude.{◌≡◌, ◌≤◌, ◌<◌, ◌+◌, ◌*◌, ◌/◌, ◌%◌, ◌^◌, ◌≢◌, ℕ, Bool, true, false, List, [], ◌∷◌, ◌++◌, IfOk, OnOk, OnErr, reverse, length, if◌then◌else◌, unwrap_or, None};
 ghost use Rattle.arrayvec.specs.ArrayVec.{array_vec_len};
 ghost use Rattle.su_octets.specs.Bits.{low_bits, bits_of};
 ghost use Rattle.bit_line.specs.Counting.{sixteen_of};
@@ -13,13 +13,13 @@ use arrayvec::ArrayVec;
 use std::alloc::Global;
 
 /// The newest bits of a line on which a flag or a seventh 1 comes next: a 0 and six 1s.
-const SIX_ONES: u8 = 63;
+const SIX_ONES: u8 = 126;
 
 /// Finds signal units in line bits, however they are cut into octets and slices, and counts octets
 /// while it finds none (Q.703, 4.1). It begins in counting mode.
 #[derive(Drop)]
 pub struct Deframer {
-    /// The newest seven bits, the newest one lowest.
+    /// The newest seven bits, the newest one highest.
     recent: u8,
     gate: Gate,
     counter: Counter,
@@ -27,9 +27,10 @@ pub struct Deframer {
 }
 
 impl Deframer {
-    ghost use Rattle.bit_line.specs.Deframing.{StandsAt, Stands};
-    ghost use Rattle.bit_line.specs.Events.{AreEvents};
-    ghost use Rattle.bit_line.specs.Flags.{six_ones};
+    ghost use Rattle.bit_line.specs.Deframing.{StandsAt, Stands, LetsIn};
+    ghost use Rattle.bit_line.specs.Events.{AreEvents, UnitsDecode, closings};
+    ghost use Rattle.bit_line.specs.Flags.{inside, MOST_BITS};
+    ghost use Rattle.bit_line.specs.Stuffing.{taken_out};
     ghost use Rattle.bit_line.specs.Judging.{report_of, reports_of, weight_of};
 
     /// A deframer before the first bit.
@@ -45,21 +46,21 @@ impl Deframer {
 
     /// Takes the bit that ends a flag.
     fn end_flag(&mut self) -> Given
-        requires { self.old.recent ≡ 63 }
+        requires { self.old.recent ≡ 126 }
         ensures stands { (h : List Bool) (events : List LineEvent) → StandsAt h events self.old
             → StandsAt (false ∷ h) (events ++ reports_of result self.new.gate.content) self.new }
         ensures gate_pace { 8 * weight_of result.closed + self.old.gate.wait ≤ self.new.gate.wait + 1 }
         ensures count_pace { unwrap_or self.new.counter.count 0 + 128 * (if result.sixteen then 1 else 0)
             ≤ unwrap_or self.old.counter.count 0 + 1 }
     {
-        self.recent = 126;
+        self.recent = 63;
         let closed = self.gate.close();
         self.counter.close(closed)
     }
 
     /// Takes a 1 that makes seven of them.
     fn seventh_one(&mut self) -> Given
-        requires { self.old.recent ≡ 63 }
+        requires { self.old.recent ≡ 126 }
         ensures stands { (h : List Bool) (events : List LineEvent) → StandsAt h events self.old
             → StandsAt (true ∷ h) (events ++ reports_of result self.new.gate.content) self.new }
         ensures gate_pace { 8 * weight_of result.closed + self.old.gate.wait ≤ self.new.gate.wait + 1 }
@@ -76,14 +77,14 @@ impl Deframer {
 
     /// Takes a bit behind anything but six 1s.
     fn plain_bit(&mut self, bit: bool) -> Given
-        requires { self.old.recent ≡ 63 → ⊥ }
+        requires { self.old.recent ≡ 126 → ⊥ }
         ensures stands { (h : List Bool) (events : List LineEvent) → StandsAt h events self.old
             → StandsAt (bit ∷ h) (events ++ reports_of result self.new.gate.content) self.new }
         ensures gate_pace { 8 * weight_of result.closed + self.old.gate.wait ≤ self.new.gate.wait + 1 }
         ensures count_pace { unwrap_or self.new.counter.count 0 + 128 * (if result.sixteen then 1 else 0)
             ≤ unwrap_or self.old.counter.count 0 + 1 }
     {
-        self.gate.pass(self.recent >= 64);
+        self.gate.pass(self.recent % 2 == 1);
         self.recent = newer(self.recent, bit);
         let over = self.gate.is_over();
         Given {
@@ -107,6 +108,52 @@ impl Deframer {
         } else {
             self.end_flag()
         }
+    }
+
+    /// Whether the mode is the normal one, and eight more bits begin no counting mode if they end no flag and make no seven 1s.
+    fn is_calm(&self) -> bool
+        ensures { result ≡ true → (self.now.counter.count ≡ None)
+            × ((h : List Bool) → LetsIn h self.now.gate → length (taken_out (inside h)) + 8 ≤ MOST_BITS) }
+    {
+        if self.counter.is_normal() {
+            self.gate.has_room()
+        } else {
+            false
+        }
+    }
+
+    /// Takes the first `len` bits at once, the low one first, none of them behind six 1s. They report nothing.
+    fn take_plain(&mut self, bits: u8, len: u8)
+        requires few { len ≤ 8 }
+        requires normal { self.old.counter.count ≡ None }
+        requires room { (h : List Bool) → LetsIn h self.old.gate → length (taken_out (inside h)) + 8 ≤ MOST_BITS }
+        requires plain { (m : ℕ) → m < len → (self.old.recent + bits * 128) / 2 ^ m % 128 ≢ 126 }
+        ensures stands { (h : List Bool) (events : List LineEvent) → StandsAt h events self.old
+            → StandsAt (reverse (low_bits len bits) ++ h) events self.new }
+        ensures gate_pace { self.old.gate.wait ≤ self.new.gate.wait + len }
+        ensures normal { self.new.counter.count ≡ None }
+    {
+        let window = u16::from(self.recent) + u16::from(bits) * 128;
+        self.gate.pass_few((window % (1 << len)) as u8, len);
+        self.recent = ((window >> len) % 128) as u8;
+    }
+
+    /// Takes the first of up to eight bits, the low one first, as far as they can be taken at once and report nothing. Answers how
+    /// many it took.
+    fn take_calm(&mut self, bits: u8, len: u8) -> u8
+        requires { len ≤ 8 }
+        ensures most { result ≤ len }
+        ensures stands { (h : List Bool) (events : List LineEvent) → StandsAt h events self.old
+            → StandsAt (reverse (low_bits result bits) ++ h) events self.new }
+        ensures gate_pace { self.old.gate.wait ≤ self.new.gate.wait + result }
+        ensures count_pace { unwrap_or self.new.counter.count 0 ≤ unwrap_or self.old.counter.count 0 }
+    {
+        if !self.is_calm() {
+            return 0;
+        }
+        let count = plain_count(self.recent, bits, len);
+        self.take_plain(bits, count);
+        count
     }
 
     fn copy(&self) -> Self
@@ -147,11 +194,18 @@ impl Deframer {
         ensures stands { (bits : List Bool) → Stands bits self.old → Stands (bits ++ low_bits 8 octet) self.new }
         ensures events { (bits : List Bool) (events : List LineEvent) → Stands bits self.old → AreEvents bits events
             → AreEvents (bits ++ low_bits 8 octet) (events ++ result.items) }
+        ensures decode { (bits : List Bool) → Stands bits self.old → UnitsDecode result.items }
+        ensures one { (bits : List Bool) → Stands bits self.old → closings result.items ≤ 1 }
     {
         let mut events = ArrayVec::new();
-        for i in 0..8u8 {
-            let given = self.take_bit(octet >> i & 1 == 1);
-            self.put(given, &mut events);
+        let mut taken = 0u8;
+        while taken < 8 {
+            taken += self.take_calm(octet >> taken, 8 - taken);
+            if taken < 8 {
+                let given = self.take_bit(octet >> taken & 1 == 1);
+                self.put(given, &mut events);
+                taken += 1;
+            }
         }
         events
     }
@@ -175,10 +229,15 @@ impl Deframer {
         ensures { OnOk result ((h : List Bool) (before : List LineEvent) → StandsAt h (before ++ events.old.items) self.old
             → StandsAt (reverse (low_bits 8 octet) ++ h) (before ++ events.new.items) self.new) }
     {
-        for i in 0..8u8 {
-            let given = self.take_bit(octet >> i & 1 == 1);
-            push_sixteen(given.sixteen, events)?;
-            self.push_closed(given.closed, events)?;
+        let mut taken = 0u8;
+        while taken < 8 {
+            taken += self.take_calm(octet >> taken, 8 - taken);
+            if taken < 8 {
+                let given = self.take_bit(octet >> taken & 1 == 1);
+                push_sixteen(given.sixteen, events)?;
+                self.push_closed(given.closed, events)?;
+                taken += 1;
+            }
         }
         Ok(())
     }
@@ -192,6 +251,7 @@ impl Deframer {
         ensures stands { OnOk result ((bits : List Bool) → Stands bits self.old → Stands (bits ++ bits_of octets.now) self.new) }
         ensures events { IfOk result (λ given. (bits : List Bool) (events : List LineEvent) → Stands bits self.old → AreEvents bits events
             → AreEvents (bits ++ bits_of octets.now) (events ++ given.items)) }
+        ensures decode { IfOk result (λ given. (bits : List Bool) → Stands bits self.old → UnitsDecode given.items) }
         ensures err { OnErr result (self.new ≡ self.old) }
     {
         let mut next = self.copy();
@@ -225,10 +285,25 @@ fn push_sixteen(full: bool, events: &mut Vec<LineEvent>) -> Result<(), NoMemory>
     Ok(())
 }
 
+/// How many of up to eight bits, the low one first, come behind anything but six 1s, as far as that is known at once: the
+/// newest seven bits before them are given.
+fn plain_count(recent: u8, bits: u8, len: u8) -> u8
+    requires recent { recent < 128 }
+    requires few { len ≤ 8 }
+    ensures most { result ≤ len }
+    ensures plain { (m : ℕ) → m < result → (recent + bits * 128) / 2 ^ m % 128 ≢ 126 }
+{
+    let window = u16::from(recent) + u16::from(bits) * 128;
+    let pairs = window & window >> 1;
+    let sixes = pairs & pairs >> 2 & pairs >> 4;
+    let count = (sixes.trailing_zeros() as u8).saturating_sub(1).min(len);
+    if sixes % (2 << count) == 0 { count } else { 0 }
+}
+
 /// The newest seven bits after one more.
 fn newer(recent: u8, bit: bool) -> u8
     requires { recent < 128 }
-    ensures { result ≡ (recent * 2 + (if bit then 1 else 0)) % 128 }
+    ensures { result ≡ recent / 2 + 64 * (if bit then 1 else 0) }
 {
-    (recent * 2 + bit as u8) % 128
+    recent / 2 + 64 * bit as u8
 }

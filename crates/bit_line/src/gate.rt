@@ -1,5 +1,6 @@
 //! Which line bits are content.
-ghost use Rattle.std.specs.Prelude.{◌≡◌, ◌≤◌, ◌+◌, ◌*◌, Bool, true, false, List, [], ◌∷◌, not};
+ghost use Rattle.std.specs.Prelude.{◌≡◌, ◌≤◌, ◌<◌, ◌+◌, ◌*◌, ◌^◌, Bool, true, false, List, [], ◌∷◌, ◌++◌, not, reverse, drop};
+ghost use Rattle.su_octets.specs.Bits.{low_bits};
 ghost use Rattle.bit_line.specs.Flags.{ends_flag};
 
 use crate::content::{Closed, Content};
@@ -18,7 +19,7 @@ pub struct Gate {
 }
 
 impl Gate {
-    ghost use Rattle.bit_line.specs.Deframing.{LetsIn, seventh};
+    ghost use Rattle.bit_line.specs.Deframing.{LetsIn, seventh, newest, EndsNone};
     ghost use Rattle.bit_line.specs.Events.{IsJudged};
     ghost use Rattle.bit_line.specs.Flags.{inside, MOST_BITS};
     ghost use Rattle.bit_line.specs.Stuffing.{taken_out};
@@ -64,6 +65,30 @@ impl Gate {
         }
     }
 
+    /// Takes up to eight bits that end no flag. `late` are the bits seven before them, the first one lowest.
+    pub fn pass_few(&mut self, late: u8, len: u8)
+        requires few { len ≤ 8 }
+        requires fits { late < 2 ^ len }
+        ensures passed { (h k : List Bool) → length k ≡ len → EndsNone k h → drop 7 (k ++ newest 7 h) ≡ reverse (low_bits len late)
+            → LetsIn h self.old → LetsIn (k ++ h) self.new }
+        ensures pace { self.old.wait ≤ self.new.wait + len }
+    {
+        if !self.seen {
+            return;
+        }
+        if self.wait == 0 {
+            self.content.push_few(late, len);
+            return;
+        }
+        if len < self.wait {
+            self.wait -= len;
+            return;
+        }
+        self.content.clear();
+        self.content.push_few(late >> self.wait, len - self.wait);
+        self.wait = 0;
+    }
+
     /// How what lies inside is judged, if the next bit ends a flag.
     fn judge(&self) -> Closed
         ensures judged { (h : List Bool) → LetsIn h self.now → IsJudged (inside h) (verdict_of result self.now.content) }
@@ -103,6 +128,20 @@ impl Gate {
             self.content.data_bits.over
         } else {
             false
+        }
+    }
+
+    /// Whether eight more bits still are no more than a unit has.
+    pub fn has_room(&self) -> bool
+        ensures { result ≡ true → (h : List Bool) → LetsIn h self.now → length (taken_out (inside h)) + 8 ≤ MOST_BITS }
+    {
+        if !self.seen {
+            return true;
+        }
+        if self.wait == 0 {
+            self.content.data_bits.has_room()
+        } else {
+            true
         }
     }
 }

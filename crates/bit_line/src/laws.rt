@@ -1,6 +1,6 @@
 //! Laws over the definitions that the contracts of this crate cite. Each is the contract of a function
 //! that does nothing.
-ghost use Rattle.bit_line.specs.Laws.{OneEvents, StandsHaveEvents, PassesThrough};
+ghost use Rattle.bit_line.specs.Laws.{OneEvents, StandsHaveEvents, EventsDecode, ClosingsArePaced, PassesThrough};
 
 /// Line bits have one list of events.
 pub fn one_events()
@@ -10,6 +10,16 @@ pub fn one_events()
 /// Line bits for which a deframer stands have events.
 pub fn stands_have_events()
     ensures { StandsHaveEvents }
+{}
+
+/// The octets of each unit that is reported for line bits are those of a signal unit.
+pub fn events_decode()
+    ensures { EventsDecode }
+{}
+
+/// Line bits close at most one content for each eight of them, and one for what is left: an octet closes at most one.
+pub fn closings_are_paced()
+    ensures { ClosingsArePaced }
 {}
 
 /// A deframer in normal mode, whose last bit ended a flag, gives exactly the units that a fresh stuffer

@@ -14,6 +14,7 @@ mod gate;
 pub mod laws;
 mod part;
 mod stuffer;
+mod taken;
 #[cfg(test)]
 mod tests;
 

@@ -1,5 +1,5 @@
 //! The octet that is being filled.
-ghost use Rattle.std.specs.Prelude.{◌≡◌, ◌+◌, ◌*◌, ◌^◌, ◌<◌, ℕ, Bool, List, [], ◌∷◌, ◌++◌, length, reverse};
+ghost use Rattle.std.specs.Prelude.{◌≡◌, ◌+◌, ◌*◌, ◌^◌, ◌<◌, ◌≤◌, ℕ, Bool, List, [], ◌∷◌, ◌++◌, length, reverse};
 ghost use Rattle.su_octets.specs.Bits.{low_bits};
 ghost use Rattle.std.specs.Option.{option_to_list};
 
@@ -51,6 +51,31 @@ impl Part {
                 len: self.len + 1,
             };
             None
+        }
+    }
+
+    /// Adds up to eight bits, the low one first. Where they complete the octet, it is given.
+    pub fn push_few(&mut self, bits: u8, len: u8) -> Option<u8>
+        requires few { len ≤ 8 }
+        requires fits { bits < 2 ^ len }
+        ensures packed { (octets : List ℕ) (h : List Bool) → Packed octets self.old.bits self.old.len h
+            → Packed (octets ++ option_to_list result) self.new.bits self.new.len (reverse (low_bits len bits) ++ h) }
+        ensures len { 8 * length (option_to_list result) + self.new.len ≡ self.old.len + len }
+    {
+        let all = u16::from(self.bits) + (u16::from(bits) << self.len);
+        let count = self.len + len;
+        if count < 8 {
+            *self = Part {
+                bits: (all % 256) as u8,
+                len: count,
+            };
+            None
+        } else {
+            *self = Part {
+                bits: (all / 256) as u8,
+                len: count - 8,
+            };
+            Some((all % 256) as u8)
         }
     }
 

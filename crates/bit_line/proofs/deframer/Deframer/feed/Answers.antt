@@ -1,5 +1,7 @@
 use Rattle.std.proofs.Common.{arith}
+use Rattle.su_octets.specs.Bits.{bits_of}
 use Rattle.bit_line.proofs.EventLaws as laws
+use Rattle.bit_line.proofs.PaceLaws.{decode_by}
 use Rattle.bit_line.proofs.deframer.Deframer.feed.Goals as goal
 
 pub loop-octet-init : goal.loop-octet-init
@@ -16,4 +18,9 @@ returns-clause-stands c bits =
 pub returns-clause-events : goal.returns-clause-events
 returns-clause-events c bits events =
     laws.events_by bits _ c.loop-octet.events.items events c.args.self.now c.loop-octet.next
+    (λ h es stands. laws.at_whole c.loop-octet.octet-index c.args.octets.now h _ c.loop-octet.next (omega arith) (c.loop-octet.invariant h es (c.copy-next.ensures h es stands)))
+
+pub returns-clause-decode : goal.returns-clause-decode
+returns-clause-decode c bits =
+    decode_by bits (bits_of c.args.octets.now) c.loop-octet.events.items c.args.self.now c.loop-octet.next
     (λ h es stands. laws.at_whole c.loop-octet.octet-index c.args.octets.now h _ c.loop-octet.next (omega arith) (c.loop-octet.invariant h es (c.copy-next.ensures h es stands)))

@@ -1,0 +1,61 @@
+//! Inserted zeros among a few line bits.
+ghost use Rattle.std.specs.Prelude.{◌≡◌, ◌≤◌, ◌<◌, ◌^◌, Bool, List, ◌++◌, reverse, IfSome};
+ghost use Rattle.su_octets.specs.Bits.{low_bits};
+ghost use Rattle.bit_line.specs.Stuffing.{trailing, taken_out};
+ghost use Rattle.bit_line.specs.Deframing.{has_six};
+
+/// What is left of a few line bits without inserted zeros.
+#[derive(Clone, Copy)]
+pub struct Taken {
+    /// The bits, the first one lowest.
+    pub bits: u8,
+    /// How many they are.
+    pub len: u8,
+    /// How many 1s in a row the line bits end with, those before them included.
+    pub ones: u8,
+}
+
+/// What is left of up to eight line bits behind so many 1s in a row, where no six 1s are among them and one inserted
+/// zero at most.
+pub fn taken_from(bits: u8, len: u8, ones: u8) -> Option<Taken>
+    requires few { len ≤ 8 }
+    requires fits { bits < 2 ^ len }
+    requires no_six { ones ≤ 5 }
+    ensures bits { IfSome result (λ t. (h : List Bool) → ones ≡ trailing h
+        → taken_out (reverse (low_bits len bits) ++ h) ≡ reverse (low_bits t.len t.bits) ++ taken_out h) }
+    ensures ones { IfSome result (λ t. (h : List Bool) → ones ≡ trailing h → t.ones ≡ trailing (reverse (low_bits len bits) ++ h)) }
+    ensures six { IfSome result (λ t. (h : List Bool) → ones ≡ trailing h → has_six (reverse (low_bits len bits) ++ h) ≡ has_six h) }
+    ensures no_six { IfSome result (λ t. t.ones ≤ 5) }
+    ensures few { IfSome result (λ t. t.len ≤ 8) }
+    ensures fits { IfSome result (λ t. t.bits < 2 ^ t.len) }
+{
+    let window = ((u16::from(bits) + 1) << ones) - 1;
+    let pairs = window & window >> 1;
+    let fives = pairs & pairs >> 2 & window >> 4;
+    let after = (window << (15 - len - ones) << 1).leading_ones() as u8;
+    if fives == 0 {
+        return Some(Taken {
+            bits,
+            len,
+            ones: after,
+        });
+    }
+    let first = fives.trailing_zeros() as u8;
+    if fives >> first != 1 {
+        return None;
+    }
+    let cut = first + 5 - ones;
+    if cut == len {
+        return Some(Taken {
+            bits,
+            len,
+            ones: after,
+        });
+    }
+    let below = bits % (1 << cut);
+    Some(Taken {
+        bits: (bits - below) / 2 + below,
+        len: len - 1,
+        ones: after,
+    })
+}
