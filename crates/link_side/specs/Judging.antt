@@ -57,14 +57,20 @@ pub record Stored : Type 0 where
   pub half : Half
   pub count : ℕ
 
+-- a unit with an abnormal backward number
+abbrev pub refused : Half → Stored
+refused h = record { half = remembered (Some AbnormalBsn) h; count = 0 }
+
+-- one whose backward number is taken
+abbrev pub taken : Half → Head → Option Msu → Stored
+taken h head msu = record {
+  half = received (hears h.receiver head.fsn head.fib (is_some msu)) msu
+      (record h { sender = acknowledged h.sender head.bsn head.bib });
+  count = count_by h.sender head.bsn;
+}
+
 unfoldable pub stored : Half → Head → Option Msu → Stored
-stored h head msu =
-    if is_abnormal h.sender head.bsn then record { half = remembered (Some AbnormalBsn) h; count = 0 }
-    else record {
-      half = received (hears h.receiver head.fsn head.fib (is_some msu)) msu
-          (record h { sender = acknowledged h.sender head.bsn head.bib });
-      count = count_by h.sender head.bsn;
-    }
+stored h head msu = if is_abnormal h.sender head.bsn then refused h else taken h head msu
 
 -- What is left then, and what is offered, in this order.
 pub record Judged : Type 0 where
@@ -80,12 +86,16 @@ acknowledgement_offers h count =
 unfoldable pub fault_offers : Half → List Offer
 fault_offers h = if is_failing h.faults then two_bad ∷ [] else []
 
+-- a unit that isn't taken
+abbrev pub left_aside : Half → Judged
+left_aside h = record { half = h; offers = [] }
+
 abbrev pub through : Stored → Judged
 through s = record { half = s.half; offers = acknowledgement_offers s.half s.count ++ fault_offers s.half }
 
 -- A fill-in or message signal unit goes through the stores where that was asked for, else it is left aside.
 unfoldable pub by_stores : Half → Head → Option Msu → Judged
-by_stores h head msu = if h.take then through (stored h head msu) else record { half = h; offers = [] }
+by_stores h head msu = if h.take then through (stored h head msu) else left_aside h
 
 -- around it: the monitors first, and at last the kind of the unit, the status code or 8
 abbrev pub of_kind : ℕ → Judged → Judged
@@ -94,4 +104,4 @@ of_kind kind j = record { half = j.half; offers = to_monitors notice.Good ++ j.o
 unfoldable pub judged : Half → Unit → Judged
 judged h (unit.Fisu head) = of_kind 8 (by_stores h head None)
 judged h (unit.Msu head sio sif) = of_kind 8 (by_stores h head (Some (record { sio = sio; sif = sif })))
-judged h (unit.Lssu head status second) = of_kind (status % 8) (record { half = h; offers = [] })
+judged h (unit.Lssu head status second) = of_kind (status % 8) (left_aside h)

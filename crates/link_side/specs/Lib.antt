@@ -6,3 +6,4 @@ pub mod Judging
 pub mod Going
 pub mod Reporting
 pub mod Inside
+pub mod Laws

@@ -6,6 +6,7 @@
 
 mod faults;
 mod hearing;
+mod laws;
 mod offers;
 mod sending;
 mod side;
@@ -15,6 +16,9 @@ mod tests;
 
 pub use faults::Fault;
 pub use hearing::Offers;
+pub use laws::{
+    accepted_messages_are_handed_out_in_order, busy_goes_out_once, unacknowledged_messages_are_kept,
+};
 pub use offers::{Notice, Offer, Party, UnitOut, error_offers};
 pub use side::Side;
 pub use signals::{BUSY, EnvSignal, LineKind, LinkStatus, MESSAGES, Report, STATUSES};
