@@ -55,29 +55,29 @@ fn unit(first: u8, second: u8, has_msu: bool) -> Unit {
     }
 }
 
+fn told(to: Party, notice: Notice) -> Offer {
+    Offer { to, notice }
+}
+
 /// What is offered for a unit.
-fn offered(seen: Option<bool>, bad: bool) -> ArrayVec<(Party, Notice), 5> {
-    let mut offers = ArrayVec::from([(Party::Aerm, Notice::Good); 5]);
-    offers.truncate(1);
-    offers.push((Party::Suerm, Notice::Good));
+fn offered(seen: Option<bool>, bad: bool) -> Offers {
+    let mut offers = Offers::new();
+    offers.push(told(Party::Aerm, Notice::Good));
+    offers.push(told(Party::Suerm, Notice::Good));
     if let Some(some_left) = seen {
-        offers.push((Party::Txc, Notice::AckSeen(some_left)));
+        offers.push(told(Party::Txc, Notice::AckSeen(some_left)));
     }
     if bad {
-        offers.push((Party::Rc, Notice::Bad));
+        offers.push(told(Party::Rc, Notice::Bad));
     }
-    offers.push((Party::Rc, Notice::Unit(8)));
+    offers.push(told(Party::Rc, Notice::Unit(8)));
     offers
 }
 
 /// A unit comes.
-fn hear(rt: &impl Abort, side: &mut Side, unit: Unit, offers: &[(Party, Notice)]) {
+fn hear(rt: &impl Abort, side: &mut Side, unit: Unit, offers: &[Offer]) {
     assert!(rt; unit.whole() && side.has_room());
-    let made = side.on_unit(unit);
-    assert_eq!(rt; made.len(), offers.len());
-    for (made, wanted) in made.as_slice().iter().zip(offers) {
-        assert_eq!(rt; (made.to, made.notice), *wanted);
-    }
+    assert_eq!(rt; side.on_unit(unit).as_slice(), offers);
 }
 
 /// The next unit is printed so.
