@@ -1,5 +1,5 @@
 //! Which of the last units were at fault.
-ghost use Rattle.std.specs.Prelude.{◌≡◌, ◌≤◌, ◌∷◌, [], nat_le, count_by};
+ghost use Rattle.std.specs.Prelude.{◌≡◌, ◌≤◌, ◌∷◌, [], count_by};
 ghost use Rattle.link_side.specs.Faults.{no_faults, with_newest, is_failing, is_abnormal_bsn, is_abnormal_fib};
 
 use std::marker::Model;

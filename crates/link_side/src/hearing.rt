@@ -1,5 +1,5 @@
 //! What a received unit leads to.
-ghost use Rattle.std.specs.Prelude.{◌≡◌, ℕ, ◌+◌, ◌<◌, ◌≤◌, ◌++◌, ◌∷◌, [], true, false, length, is_some, IfOk, OnOk, OnErr};
+ghost use Rattle.std.specs.Prelude.{◌≡◌, ◌+◌, ◌<◌, ◌≤◌, ◌++◌, ◌∷◌, [], true, false, length, is_some, IfOk, OnOk, OnErr};
 ghost use Rattle.std.specs.Option.{option_to_list};
 ghost use Rattle.arrayvec.specs.ArrayVec.{array_vec_len};
 ghost use Rattle.resend_store.specs.Window.{count_by};
@@ -22,7 +22,7 @@ const FILL_IN_OR_MESSAGE: u8 = 8;
 pub type Offers = ArrayVec<Offer, 5>;
 
 impl Side {
-    /// Takes a unit without errors, and answers what is to be offered because of it, in this order (Q.703, sections 5 to 8 and
+    /// Takes a unit without errors, and answers what is to be offered because of it, in this order (Q.703, sections 5, 6 and
     /// 10): `Good` to both monitors; `AckSeen` where it acknowledges messages; `Bad` where two of the last three units had an
     /// abnormal backward number, or two an abnormal forward indicator; `Unit` with its kind.
     ///

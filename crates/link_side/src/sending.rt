@@ -1,8 +1,8 @@
 //! What goes out.
-ghost use Rattle.std.specs.Prelude.{◌≡◌, ◌<◌, IfSome, unwrap_or};
+ghost use Rattle.std.specs.Prelude.{◌≡◌, ◌<◌, IfSome};
 ghost use Rattle.resend_store.specs.Messages.{IsMessage};
 ghost use Rattle.su_octets.specs.Whole.{IsWhole, IsWholeHead};
-ghost use Rattle.link_side.specs.Going.{gives, idle_fsn, bsn_out, head_with, idle_head, quiet, filled, status_gone, sender_gone, gone};
+ghost use Rattle.link_side.specs.Going.{gives, bsn_out, head_with, idle_head, quiet, filled, status_gone, sender_gone, gone};
 
 use crate::offers::{Notice, Offer, Party, UnitOut};
 use crate::side::Side;
@@ -15,7 +15,7 @@ impl Side {
     ///
     /// One link status signal unit of congestion goes out first where that was asked for; then by the last other
     /// `EnvSignal::Line`: link status signal units with its code, fill-in units, or what the sender gives (Q.703, 11.1.3 and
-    /// sections 5 and 6). The numbers of a unit without a message are those of a fill-in unit.
+    /// sections 5, 6 and 9). The numbers of a unit without a message are those of a fill-in unit.
     #[tactic(auto, unfolding(crate::specs::Going::gone))]
     pub fn unit_out(&mut self) -> Option<UnitOut>
         ensures out { result ≡ (gone self.old).out }

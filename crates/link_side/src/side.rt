@@ -3,9 +3,9 @@ ghost use Rattle.std.specs.Prelude.{◌≡◌, ◌<◌, ◌≤◌, ◌↔◌, �
 ghost use Rattle.std.specs.Option.{option_copied};
 ghost use Rattle.resend_store.specs.Messages.{IsMessage};
 ghost use Rattle.resend_store.specs.Window.{waiting, with_put, retrieved, emptied, count_known};
-ghost use Rattle.link_side.specs.Effects.{effect, renewed, directed, kind_named, kind_by, is_busy_named, sends, withheld_by, told, latest};
+ghost use Rattle.link_side.specs.Effects.{effect, renewed, directed, kind_named, kind_by, is_busy_named, withheld_by, told, latest};
 ghost use Rattle.link_side.specs.Half.{first_half};
-ghost use Rattle.link_side.specs.Reporting.{reported, status_reported, message_reported};
+ghost use Rattle.link_side.specs.Reporting.{reported};
 
 use crate::faults::LastThree;
 use crate::signals::{EnvSignal, LineKind, LinkStatus, MESSAGES, Report, STATUSES};

@@ -8,26 +8,26 @@ pub const MESSAGES: usize = 256;
 /// How many statuses are kept until they are handed out. The oldest give way to newer ones.
 pub const STATUSES: usize = 64;
 
-/// The status code of congestion (Q.703, 11.1.3).
+/// The status code of congestion (Q.703, 9 and 11.1.3).
 pub const BUSY: u8 = 5;
 
 /// A signal of an actor to the environment of its link.
 #[derive(Clone, Copy, Debug, PartialEq, Eq)]
 pub enum EnvSignal {
-    /// Both stores begin anew: the link is aligned again.
+    /// Both stores begin anew: the link is aligned again (Q.703, 7). A number that is withheld becomes 127.
     Fresh,
     /// Whether fill-in and message signal units go through the stores from now on.
     Take(bool),
     /// What goes out from now on: link status signal units with the code 0 to 4; 5 one with that code, and then as before; 8
     /// fill-in units; 9 what the sender gives. Other numbers change nothing.
     Line(i32),
-    /// Whether the backward sequence number stays where it is.
+    /// Whether the backward sequence number stays where it is from now on (Q.703, 9). The indicator bit moves on.
     Withhold(bool),
     /// The link is in service.
     InServiceNow,
     /// The link is out of service, for the reason that the actor numbers so.
     Down(i32),
-    /// The far side's processor is out.
+    /// The far side's processor is out (Q.703, 8).
     RemoteOut,
     /// It is back.
     RemoteBack,
