@@ -1,0 +1,19 @@
+-- The latest statuses, once one more is put behind so many.
+use Rattle.std.proofs.Common.{◌≡◌, ℕ, ◌-◌, ◌<◌, ◌≤◌, List, [], ◌∷◌, ◌++◌, length, drop, refl, sym, arith, length-append}
+use Rattle.std.proofs.lemmas.List.{drop-append-le}
+use Rattle.std.proofs.lemmas.Grind.{common_steps}
+
+-- where there are as many as fit, the oldest gives way
+pub latest_full : {A : Type 0} (xs : List A) (x : A) (n : ℕ) → length xs ≡ n → 0 < n →
+    drop 1 xs ++ x ∷ [] ≡ drop (length (xs ++ x ∷ []) - n) (xs ++ x ∷ [])
+latest_full xs x n full some =
+    let one : length (xs ++ x ∷ []) - n ≡ 1 = grind (arith, common_steps, length-append) in
+    let le : 1 ≤ length xs = omega arith in
+    rw one (sym (drop-append-le 1 xs (x ∷ []) le))
+
+-- where one more fits, none does
+pub latest_with_room : {A : Type 0} (xs : List A) (x : A) (n : ℕ) → length xs < n →
+    xs ++ x ∷ [] ≡ drop (length (xs ++ x ∷ []) - n) (xs ++ x ∷ [])
+latest_with_room xs x n room =
+    let none : length (xs ++ x ∷ []) - n ≡ 0 = grind (arith, common_steps, length-append) in
+    rw none refl

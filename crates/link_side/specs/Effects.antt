@@ -1,0 +1,74 @@
+-- What the signals that actors send to the environment do.
+use Rattle.std.specs.Prelude.{ℕ, ℤ, pos, negsuc, ◌-◌, ◌==◌, nat_lt, Bool, true, false, if◌then◌else◌, Option, Some, None, List, [], ◌∷◌, ◌++◌, length, drop}
+use Rattle.resend_store.specs.Window.{refreshed}
+use Rattle.resend_store.specs.Intake.{first_intake}
+use Rattle.link_side.specs.declared.signals.EnvSignal.{EnvSignal}
+use Rattle.link_side.specs.declared.signals.EnvSignal.TheVariants as signal
+use Rattle.link_side.specs.declared.signals.LineKind.{LineKind}
+use Rattle.link_side.specs.declared.signals.LineKind.TheVariants as kind
+use Rattle.link_side.specs.declared.signals.LinkStatus.{LinkStatus}
+use Rattle.link_side.specs.declared.signals.LinkStatus.TheVariants as status
+use Rattle.link_side.specs.declared.signals.TheConstants.{STATUSES}
+use Rattle.link_side.specs.Faults.{no_faults}
+use Rattle.link_side.specs.Half.{Half}
+
+-- a number that is withheld becomes that of a receiver that has accepted nothing
+abbrev pub renewed_number : Option ℕ → Option ℕ
+renewed_number (Some number) = Some 127
+renewed_number None = None
+
+-- The link is aligned anew: both stores begin anew, and units before that tell of no fault.
+unfoldable pub renewed : Half → Half
+renewed h = record h {
+  sender = refreshed h.sender;
+  receiver = first_intake h.receiver.mode;
+  withheld = renewed_number h.withheld;
+  faults = no_faults;
+}
+
+-- what goes out from then on, by number; other numbers name nothing
+abbrev pub kind_by : ℕ → Option LineKind
+kind_by number =
+    if nat_lt number 5 then Some (kind.Status number)
+    else (if number == 8 then Some kind.FillIn else (if number == 9 then Some kind.Messages else None))
+
+unfoldable pub kind_named : ℤ → Option LineKind
+kind_named (pos number) = kind_by number
+kind_named (negsuc number) = None
+
+-- whether it is the number of the status 'busy'
+unfoldable pub is_busy_named : ℤ → Bool
+is_busy_named (pos number) = number == 5
+is_busy_named (negsuc number) = false
+
+-- It goes out from now on, and no busy status that was wanted before.
+abbrev pub sends : Option LineKind → Half → Half
+sends (Some k) h = record h { line = Some k; busy = false }
+sends None h = h
+
+-- One busy status goes out first; of any other number the last one counts.
+unfoldable pub directed : ℤ → Half → Half
+directed number h = if is_busy_named number then record h { busy = true } else sends (kind_named number) h
+
+-- the latest so many; those before them give way
+unfoldable pub latest : List LinkStatus → List LinkStatus
+latest statuses = drop (length statuses - STATUSES) statuses
+
+-- one more is told
+unfoldable pub told : LinkStatus → Half → Half
+told s h = record h { statuses = latest (h.statuses ++ s ∷ []) }
+
+-- While it is withheld the number stays that of the message accepted last when that began.
+abbrev pub withheld_by : Bool → Half → Half
+withheld_by true h = record h { withheld = Some h.receiver.last }
+withheld_by false h = record h { withheld = None }
+
+unfoldable pub effect : EnvSignal → Half → Half
+effect signal.Fresh h = renewed h
+effect (signal.Take on) h = record h { take = on }
+effect (signal.Line number) h = directed number h
+effect (signal.Withhold on) h = withheld_by on h
+effect signal.InServiceNow h = told status.InService (record h { in_service = true; came = true })
+effect (signal.Down reason) h = told (status.Down reason) (record h { in_service = false })
+effect signal.RemoteOut h = told status.RemoteOut h
+effect signal.RemoteBack h = told status.RemoteBack h

@@ -1,0 +1,102 @@
+-- What holds of a side over every list of calls.
+use Rattle.std.specs.Prelude.{◌≡◌, ℕ, pos, ◌≤◌, ◌&&◌, not, Bool, true, false, if◌then◌else◌, Option, Some, None, Result, Ok, Err, List, [], ◌∷◌, ◌++◌, drop}
+use Rattle.resend_store.specs.Window.{Window}
+use Rattle.resend_store.specs.declared.messages.Msu.{Msu}
+use Rattle.resend_store.specs.declared.messages.Verdict.{Verdict}
+use Rattle.resend_store.specs.declared.messages.Verdict.TheVariants.{Accept, Discard, Nack}
+use Rattle.resend_store.specs.declared.refusals.UnitError.{UnitError}
+use Rattle.su_octets.specs.declared.units.Head.{Head}
+use Rattle.su_octets.specs.declared.units.Unit.{Unit}
+use Rattle.su_octets.specs.declared.units.Unit.TheVariants as unit
+use Rattle.link_side.specs.declared.signals.EnvSignal.{EnvSignal}
+use Rattle.link_side.specs.declared.signals.EnvSignal.TheVariants as signal
+use Rattle.link_side.specs.declared.signals.Report.{Report}
+use Rattle.link_side.specs.declared.signals.Report.TheVariants as report
+use Rattle.link_side.specs.Half.{Half}
+use Rattle.link_side.specs.Effects.{effect}
+use Rattle.link_side.specs.Judging.{hears, is_abnormal, judged}
+use Rattle.link_side.specs.Going.{gone}
+use Rattle.link_side.specs.Reporting.{reported}
+
+-- The first so many leave what is kept to send, and they were sent.
+pub record LosesSentOnly (before after : Window) : Type 0 where
+  pub count : ℕ
+  pub were_sent : count ≤ before.sent
+  pub left : after.kept ≡ drop count before.kept
+
+-- Of what is kept to send a unit from the far side takes away messages that were sent, the oldest first; a signal, a unit that goes
+-- out and a report take nothing.
+pub record KeepsUnacknowledged : Type 0 where
+  pub on_signal : (s : EnvSignal) (h : Half) → (effect s h).sender.kept ≡ h.sender.kept
+  pub on_unit : (h : Half) (u : Unit) → LosesSentOnly h.sender (judged h u).half.sender
+  pub unit_out : (h : Half) → (gone h).half.sender.kept ≡ h.sender.kept
+  pub report : (h : Half) → (reported h).half.sender.kept ≡ h.sender.kept
+
+unfoldable pub is_accept : Result Verdict UnitError → Bool
+is_accept (Ok Accept) = true
+is_accept (Ok Discard) = false
+is_accept (Ok Nack) = false
+is_accept (Err e) = false
+
+-- whether a unit with a message goes to the receiver, and is accepted there
+abbrev pub is_accepted : Half → Head → Bool
+is_accepted h head =
+    h.take && not (is_abnormal h.sender head.bsn) && is_accept (hears h.receiver head.fsn head.fib true).verdict
+
+-- the message of a unit, where it is accepted
+abbrev pub accepted_of : Half → Unit → List Msu
+accepted_of h (unit.Fisu head) = []
+accepted_of h (unit.Lssu head status second) = []
+accepted_of h (unit.Msu head sio sif) = if is_accepted h head then record { sio = sio; sif = sif } ∷ [] else []
+
+-- what a report hands out of them
+abbrev pub message_of : Option Report → List Msu
+message_of (Some (report.Message msu)) = msu ∷ []
+message_of (Some (report.Status status)) = []
+message_of None = []
+
+pub data Call : Type 0 where
+  Told : EnvSignal → Call
+  Came : Unit → Call
+  Went : Call
+  Asked : Call
+
+abbrev pub after_call : Half → Call → Half
+after_call h (Told s) = effect s h
+after_call h (Came u) = (judged h u).half
+after_call h Went = (gone h).half
+after_call h Asked = (reported h).half
+
+abbrev pub accepted_by : Half → Call → List Msu
+accepted_by h (Told s) = []
+accepted_by h (Came u) = accepted_of h u
+accepted_by h Went = []
+accepted_by h Asked = []
+
+abbrev pub handed_by : Half → Call → List Msu
+handed_by h (Told s) = []
+handed_by h (Came u) = []
+handed_by h Went = []
+handed_by h Asked = message_of (reported h).report
+
+abbrev pub after : Half → List Call → Half
+after h [] = h
+after h (c ∷ cs) = after (after_call h c) cs
+
+-- the messages that were accepted over a list of calls, in order
+abbrev pub accepted : Half → List Call → List Msu
+accepted h [] = []
+accepted h (c ∷ cs) = accepted_by h c ++ accepted (after_call h c) cs
+
+-- those that were handed out
+abbrev pub handed : Half → List Call → List Msu
+handed h [] = []
+handed h (c ∷ cs) = handed_by h c ++ handed (after_call h c) cs
+
+-- What waited and what was accepted is what was handed out, then what waits now: none lost, none twice, all in order.
+abbrev pub HandsOutInOrder : Type 0
+HandsOutInOrder = (h : Half) (cs : List Call) → h.messages ++ accepted h cs ≡ handed h cs ++ (after h cs).messages
+
+-- Once a busy status was asked for, it goes out, and everything is as before: so it goes out once.
+abbrev pub BusyGoesOutOnce : Type 0
+BusyGoesOutOnce = (h : Half) → h.busy ≡ false → (gone (effect (signal.Line (pos 5)) h)).half ≡ h

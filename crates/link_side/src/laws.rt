@@ -1,0 +1,19 @@
+//! Laws over every list of calls.
+ghost use Rattle.link_side.specs.Laws.{KeepsUnacknowledged, HandsOutInOrder, BusyGoesOutOnce};
+
+/// Of the messages that are kept to send only units from the far side take some away, and only such as were sent, the oldest
+/// first. `retrieve` hands out all others.
+pub fn unacknowledged_messages_are_kept()
+    ensures { KeepsUnacknowledged }
+{}
+
+/// Over every list of signals, units and reports the messages that are handed out, and then those that still wait, are the
+/// accepted ones: none is lost, none comes twice, and their order stays.
+pub fn accepted_messages_are_handed_out_in_order()
+    ensures { HandsOutInOrder }
+{}
+
+/// A busy status that is asked for goes out once, and then what went out before.
+pub fn busy_goes_out_once()
+    ensures { BusyGoesOutOnce }
+{}

@@ -1,0 +1,67 @@
+//! What the actors of a link tell its environment, and what the environment hands on.
+
+use resend_store::Msu;
+
+/// How many messages are kept until they are handed out.
+pub const MESSAGES: usize = 256;
+
+/// How many statuses are kept until they are handed out. The oldest give way to newer ones.
+pub const STATUSES: usize = 64;
+
+/// The status code of congestion (Q.703, 9 and 11.1.3).
+pub const BUSY: u8 = 5;
+
+/// A signal of an actor to the environment of its link.
+#[derive(Clone, Copy, Debug, PartialEq, Eq)]
+pub enum EnvSignal {
+    /// Both stores begin anew: the link is aligned again (Q.703, 7). A number that is withheld becomes 127.
+    Fresh,
+    /// Whether fill-in and message signal units go through the stores from now on.
+    Take(bool),
+    /// What goes out from now on: link status signal units with the code 0 to 4; 5 one with that code, and then as before; 8
+    /// fill-in units; 9 what the sender gives. Other numbers change nothing.
+    Line(i32),
+    /// Whether the backward sequence number stays where it is from now on (Q.703, 9). The indicator bit moves on.
+    Withhold(bool),
+    /// The link is in service.
+    InServiceNow,
+    /// The link is out of service, for the reason that the actor numbers so.
+    Down(i32),
+    /// The far side's processor is out (Q.703, 8).
+    RemoteOut,
+    /// It is back.
+    RemoteBack,
+}
+
+/// What goes out on the line, one unit after another.
+#[derive(Clone, Copy, Debug, PartialEq, Eq)]
+pub enum LineKind {
+    /// Link status signal units with this code.
+    Status(u8),
+    /// Fill-in signal units.
+    FillIn,
+    /// What the sender gives: messages, and fill-in units between them.
+    Messages,
+}
+
+/// What was told of a link.
+#[derive(Clone, Copy, Debug, PartialEq, Eq)]
+pub enum LinkStatus {
+    /// It came into service.
+    InService,
+    /// It went out of service, for the reason that the actor numbered so.
+    Down(i32),
+    /// The far side's processor is out.
+    RemoteOut,
+    /// It is back.
+    RemoteBack,
+}
+
+/// What is handed out to whoever uses a link.
+#[derive(Debug, Drop, PartialEq, Eq)]
+pub enum Report {
+    /// A message from the far side.
+    Message(Msu),
+    /// What became of the link.
+    Status(LinkStatus),
+}
