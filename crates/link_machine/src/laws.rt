@@ -1,0 +1,34 @@
+//! What follows from the machine alone. Each call costs nothing.
+
+ghost use Rattle.link_machine.specs.Laws.{KeepsLaw, StateLaw, FitsLaw, TextLaw, FinishLaw, NeverStuckLaw};
+
+/// Each event and each rebase keeps what holds of every book: its state is the replay of its journal, all fits in each
+/// state on the way, its numbers stay within their bounds.
+pub fn keeps_law()
+    ensures { KeepsLaw }
+{}
+
+/// The state after an accepted event is the machine's next one.
+pub fn state_law()
+    ensures { StateLaw }
+{}
+
+/// All fits in the present state of a book.
+pub fn fits_law()
+    ensures { FitsLaw }
+{}
+
+/// Any list of events has the same answers, and leaves the same book, by the code of the set and by what it means.
+pub fn text_law()
+    ensures { TextLaw }
+{}
+
+/// A turn that is out ends by the run of its own code on its own input, within the budget of its certificate.
+pub fn finish_law()
+    ensures { FinishLaw }
+{}
+
+/// No turn ever gets stuck.
+pub fn never_stuck_law()
+    ensures { NeverStuckLaw }
+{}
