@@ -39,7 +39,7 @@ reached a arrival (At s) = record a { port = with_arrival a.port arrival }
 reached a arrival Stopped = a
 
 -- an actor that a signal is sent to; one that has stopped takes none
-unfoldable pub receives : Arrival → Actor → Actor
+abbrev pub receives : Arrival → Actor → Actor
 receives arrival a = reached a arrival a.standing
 
 abbrev pub refusal_at : Queue → Standing → Option Cause
@@ -52,11 +52,11 @@ refusal_in None = Some cause.Stopped
 refusal_in (Some a) = refusal_at a.port a.standing
 
 -- without the signal of a timer
-unfoldable pub drops : ℕ → Actor → Actor
+abbrev pub drops : ℕ → Actor → Actor
 drops timer a = record a { port = record a.port { items = without_timer a.port.items timer } }
 
 -- the signal of a timer behind the other items
-unfoldable pub hears : ℕ → Actor → Actor
+abbrev pub hears : ℕ → Actor → Actor
 hears timer a = record a { port = record a.port { items = without_timer a.port.items timer ++ Timer (record { 0 = timer }) ∷ [] } }
 
 -- ---- the environment
@@ -110,7 +110,7 @@ undelivered w Environment = if has_room w.ring then None else Some cause.EnvFull
 undelivered w (Process m) = refusal_in (slice_get w.actors m.0)
 
 -- what an effect does: an output comes to its receiver; a SET or RESET takes the signal of the timer away, and a SET sets it anew
-unfoldable pub laid : ℕ → Core → Effect → Core
+abbrev pub laid : ℕ → Core → Effect → Core
 laid n w (Output s) = delivered n w s s.receiver
 laid n w (Set t z) = record w { actors = change w.actors n (drops t.0); timers = until w.timers n t.0 (delay z) }
 laid n w (Reset t) = record w { actors = change w.actors n (drops t.0); timers = without w.timers n t.0 }
@@ -120,7 +120,7 @@ lost_for k None = None
 lost_for k (Some c) = Some (record { place = k; cause = c })
 
 -- an output that nobody gets, with its place among the effects
-unfoldable pub lost_by : Core → ℕ → Effect → Option Lost
+abbrev pub lost_by : Core → ℕ → Effect → Option Lost
 lost_by w k (Output s) = lost_for k (undelivered w s.receiver)
 lost_by w k (Set t z) = None
 lost_by w k (Reset t) = None
@@ -139,10 +139,10 @@ losses n w k (e ∷ es) = option_to_list (lost_by w k e) ++ losses n (laid n w e
 -- ---- the end of a turn
 
 -- the actor has the variables that the turn leaves, and no turn out
-unfoldable pub settled : Outcome → Actor → Actor
+abbrev pub settled : Outcome → Actor → Actor
 settled o a = record a { variables = record { items = o.progress.variables }; given = None }
 
-unfoldable pub moved : End → Actor → Actor
+abbrev pub moved : End → Actor → Actor
 moved (State q) a = record a { standing = At (AtState q) }
 moved Stop a = record a { standing = Stopped; port = record a.port { items = [] } }
 
@@ -151,11 +151,11 @@ timers_after (State q) ts n = ts
 timers_after Stop ts n = without_timers ts n
 
 -- the next state; a STOP empties the port and resets the timers
-unfoldable pub ended : ℕ → End → Core → Core
+abbrev pub ended : ℕ → End → Core → Core
 ended n e w = record w { actors = change w.actors n (moved e); timers = timers_after e w.timers n }
 
 -- the variables first, then the effects one after another, then the end; the turn is counted, and its instructions
-unfoldable pub started : ℕ → Outcome → Core → Core
+abbrev pub started : ℕ → Outcome → Core → Core
 started n o w = record w { actors = change w.actors n (settled o); finishes = w.finishes + 1; instructions = w.instructions + o.progress.count }
 
 unfoldable pub finished : ℕ → Outcome → Core → Core

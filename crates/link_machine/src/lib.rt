@@ -5,7 +5,6 @@
 mod actor;
 mod event;
 mod found;
-pub mod laws;
 mod reply;
 
 pub use actor::{Actor, Given, Standing};
