@@ -1,0 +1,2 @@
+pub mod FitsLists
+pub mod FitsActors
