@@ -1,2 +1,3 @@
 pub mod FitsLists
 pub mod FitsActors
+pub mod FitsTimers
