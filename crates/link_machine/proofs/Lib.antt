@@ -1,3 +1,4 @@
 pub mod FitsLists
 pub mod FitsActors
 pub mod FitsTimers
+pub mod FitsFinish
