@@ -3,3 +3,5 @@ pub mod FitsActors
 pub mod FitsTimers
 pub mod FitsFinish
 pub mod FitsBegin
+pub mod FitsOffer
+pub mod FitsSteps
