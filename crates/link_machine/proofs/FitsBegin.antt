@@ -1,6 +1,6 @@
 -- A turn that begins is given an input that fits it, and a signal that is thrown away leaves all fitting.
-use Rattle.std.proofs.Common.{◌≡◌, ℕ, Bool, true, false, cond, if◌then◌else◌, List, [], ◌∷◌, Option, Some, None, refl, sym, ap, ◌∙◌, subst, eqb-true}
-use Rattle.std.specs.Prelude.{slice_get, option_map, position}
+use Rattle.std.proofs.Common.{◌≡◌, ℕ, Bool, true, false, cond, List, [], ◌∷◌, Option, Some, None, refl, sym, ap, ◌∙◌, subst, eqb-true}
+use Rattle.std.specs.Prelude.{slice_get, option_map}
 use Rattle.std.specs.List.{AllByRecursion}
 use Rattle.std.proofs.lemmas.Option.{same_Some, none-some}
 use Rattle.std.proofs.lemmas.Bool.{false≢true}
@@ -8,7 +8,6 @@ use Rattle.turn_code.specs.Transitions.{Transition, transition_at, process_at, i
 use Rattle.turn_code.specs.Valid.{IsValid}
 use Rattle.turn_code.specs.Fits.{HaveSorts, FitsTransition, Fits}
 use Rattle.turn_code.specs.Start.{StartLaw}
-use Rattle.turn_code.specs.declared.value.Value.{Value}
 use Rattle.turn_code.specs.declared.numbers.StateNumber.{StateNumber}
 use Rattle.turn_code.specs.declared.input.Place.TheVariants.{Start, State}
 use Rattle.turn_code.specs.declared.draft.Draft.{Draft}
@@ -21,17 +20,14 @@ use Rattle.turn_check.specs.Named.{states_of, inputs_of, inputs_at}
 use Rattle.input_port.specs.Queue.{first_unsaved, without_first}
 use Rattle.input_port.specs.declared.queue.Item.{Item}
 use Rattle.input_port.specs.declared.queue.Item.TheVariants.{Signal, Timer}
-use Rattle.link_machine.specs.Core.{Core, change, is_out}
 use Rattle.link_machine.specs.Looking.{trigger_of, same_trigger, is_saved, input_for, item_at, left_at, as_input, found_item, found_at, looks, first_input, input_with, number_in, given_now, begun, skipped}
 use Rattle.link_machine.specs.Fits.{ItemFits, IsReadyAt, StandingFits, GivenFits}
 use Rattle.link_machine.specs.Refusals.{is_nothing, is_ignored}
 use Rattle.link_machine.specs.declared.actor.Actor.{Actor}
-use Rattle.link_machine.specs.declared.actor.Given.{Given}
 use Rattle.link_machine.specs.declared.actor.Standing.{Standing}
 use Rattle.link_machine.specs.declared.actor.Standing.TheVariants.{At, Stopped}
-use Rattle.link_machine.specs.declared.found.Found.{Found}
 use Rattle.link_machine.proofs.FitsLists.{found_first}
-use Rattle.link_machine.proofs.FitsActors.{Asked, Sits, Rests, with_items}
+use Rattle.link_machine.proofs.FitsActors.{Sits, Rests, with_items}
 
 -- ---- the item that is taken
 
