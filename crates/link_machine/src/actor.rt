@@ -1,5 +1,7 @@
 //! The actors of a link.
 
+ghost use Rattle.std.specs.Prelude.{◌≡◌};
+
 use arrayvec::ArrayVec;
 use input_port::Port;
 use turn_code::{Input, Place, Value};
@@ -35,4 +37,15 @@ pub struct Actor {
     pub port: Port,
     /// The turn that it has out, if it has one.
     pub given: Option<Given>,
+}
+
+impl Actor {
+    ghost use Rattle.link_machine.specs.Core.{is_out};
+
+    /// Whether it has a turn out.
+    pub fn is_out(&self) -> bool
+        ensures { result ≡ is_out self.now }
+    {
+        self.given.is_some()
+    }
 }

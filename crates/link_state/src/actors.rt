@@ -1,10 +1,10 @@
 //! Changes of one actor, and of one actor among all.
 
 ghost use Rattle.std.specs.Prelude.{◌≡◌, ◌<◌, slice_get};
-ghost use Rattle.link_machine.specs.Core.{change, is_out, outs};
+ghost use Rattle.link_machine.specs.Core.{change, outs};
 ghost use Rattle.link_machine.specs.Effects.{receives, drops, hears, moved, refusal_in, refusal_at};
 ghost use Rattle.link_machine.specs.Effects.{settled};
-ghost use Rattle.link_state.specs.Outcomes.{outcome_with};
+ghost use Rattle.turn_code.specs.Outcome.{Outcome};
 
 use arrayvec::ArrayVec;
 use input_port::{Arrival, TIMERS};
@@ -133,16 +133,9 @@ pub(crate) fn end_turn(actors: &mut [Actor], number: usize, end: End)
     }
 }
 
-/// Whether an actor has a turn out.
-pub(crate) fn is_out(actor: &Actor) -> bool
-    ensures { result ≡ is_out actor.now }
-{
-    actor.given.is_some()
-}
-
 /// How many actors have a turn out.
 pub(crate) fn count_outs(actors: &[Actor]) -> usize
     ensures { result ≡ outs actors.now }
 {
-    actors.iter().filter(|actor| is_out(actor)).count()
+    actors.iter().filter(|actor| actor.is_out()).count()
 }

@@ -3,9 +3,15 @@
 #![tactic(auto)]
 
 mod actors;
+mod clock;
 mod effects;
 mod link;
+mod look;
 mod offer;
+mod open;
+mod refusal;
 mod ring;
+mod turn;
 
 pub use link::Link;
+pub use refusal::with_room;

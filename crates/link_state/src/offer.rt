@@ -1,6 +1,6 @@
 //! Signals of the environment.
 
-ghost use Rattle.std.specs.Prelude.{◌≡◌, ◌≤◌, ◌<◌, ◌&&◌, nat_lt, length, map, Option, Some, None, slice_get};
+ghost use Rattle.std.specs.Prelude.{◌≡◌, ◌≤◌, ◌<◌, ◌&&◌, ◌==◌, nat_lt, length, map, Option, Some, None, slice_get};
 ghost use Rattle.std.specs.List.{list_any};
 ghost use Rattle.turn_code.specs.Values.{sort_of};
 ghost use Rattle.turn_code.specs.Transitions.{parameters_of};
@@ -9,6 +9,7 @@ ghost use Rattle.link_machine.specs.Effects.{receives};
 ghost use Rattle.link_machine.specs.Refusals.{is_offered, offers, same_sort, same_sorts, has_stopped, is_environment, is_process, offer_rows, first_of};
 ghost use Rattle.link_machine.specs.Step.{offered_arrival};
 ghost use Rattle.link_machine.specs.declared.event.Offer.{Offer as PlainOffer};
+ghost use Rattle.turn_code.specs.declared.numbers.SignalNumber.{SignalNumber as PlainSignal};
 
 use crate::actors::deliver;
 use crate::link::Link;
@@ -44,11 +45,14 @@ fn offers(number: u16, signal: SignalNumber, route: &DraftRoute) -> bool
 {
     is_environment(route.from)
         && is_process(number, route.to)
-        && route
-            .signals
-            .as_slice()
-            .iter()
-            .any(|other| other.0 == signal.0)
+        && carries(route.signals.as_slice(), signal)
+}
+
+/// Whether a signal is among some.
+fn carries(signals: &[SignalNumber], signal: SignalNumber) -> bool
+    ensures { result ≡ list_any (λ (x : PlainSignal). x.0 == signal.0) signals.now }
+{
+    signals.iter().any(|other| other.0 == signal.0)
 }
 
 /// Whether the sorts are the same.

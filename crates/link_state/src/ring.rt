@@ -120,3 +120,14 @@ pub(crate) fn copied_values(values: &ArrayVec<turn_code::Value, 4>) -> ArrayVec<
         Err(_) => unreachable!(),
     }
 }
+
+impl crate::link::Link {
+    /// Takes the signal that has waited longest for the environment.
+    pub fn take(&mut self) -> Option<Emitted>
+        ensures link { self.new ≡ record self.old { ring = record self.old.ring { items = tail_of self.old.ring.items } } }
+        ensures first { IfSome result (λ x. self.old.ring.items ≡ x ∷ self.new.ring.items) }
+        ensures none { IfNone result (self.old.ring.items ≡ []) }
+    {
+        self.ring.take()
+    }
+}

@@ -1,0 +1,59 @@
+//! Ticks pass.
+
+ghost use Rattle.std.specs.Prelude.{◌≡◌, ◌≤◌, ◌<◌, ◌+◌, ◌^◌, length};
+ghost use Rattle.link_machine.specs.Refusals.{advance_rows, first_of};
+ghost use Rattle.link_machine.specs.Step.{notified, passed, due_in};
+
+use crate::actors::notify;
+use crate::link::Link;
+use link_machine::{Actor, Refusal};
+use tick_wheel::Due;
+use turn_code::TimerNumber;
+
+/// The most ticks that may pass at once.
+const FARTHEST: u64 = 65_535;
+
+/// The last tick that a clock can show.
+const LAST_CLOCK: u64 = 1 << 62;
+
+/// Why so many ticks can't pass, if they can't.
+pub(crate) fn advance_refusal(clock: u64, ticks: u64) -> Option<Refusal>
+    requires { clock ≤ 2 ^ 62 }
+    ensures { result ≡ first_of (advance_rows clock ticks) }
+{
+    if ticks > FARTHEST {
+        return Some(Refusal::TooFar);
+    }
+    if clock + ticks > LAST_CLOCK {
+        return Some(Refusal::ClockFull);
+    }
+    None
+}
+
+/// Each due timer's signal comes to its process's port, in order.
+fn notify_all(actors: &mut [Actor], due: &[Due])
+    ensures { actors.new ≡ notified actors.old due.now }
+{
+    for one in due {
+        let process = usize::from(one.timer.process());
+        notify(actors, process, TimerNumber(one.timer.number()));
+    }
+}
+
+impl Link {
+    /// So many ticks pass: the clock goes on, and the signals of the timers that are due come to the ports. How many are due.
+    pub fn advance(&mut self, ticks: u64) -> usize
+        requires near { ticks ≤ 65535 }
+        requires clock { self.old.timers.clock + ticks ≤ 2 ^ 62 }
+        ensures link { self.new ≡ passed ticks self.old }
+        ensures due { result ≡ length (due_in self.old ticks) }
+    {
+        match self.wheel.advance(ticks) {
+            Ok(due) => {
+                notify_all(&mut self.actors, due.as_slice());
+                due.len()
+            }
+            Err(_) => unreachable!(),
+        }
+    }
+}
