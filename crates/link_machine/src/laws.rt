@@ -2,6 +2,8 @@
 
 ghost use Rattle.link_machine.specs.Laws.{KeepsLaw, StateLaw, FitsLaw, TextLaw, FinishLaw, NeverStuckLaw};
 
+use turn_code::laws::{run_law, safe_law};
+
 /// Each event and each rebase keeps what holds of every book: its state is the replay of its journal, all fits in each
 /// state on the way, its numbers stay within their bounds.
 pub fn keeps_law()
@@ -26,9 +28,15 @@ pub fn text_law()
 /// A turn that is out ends by the run of its own code on its own input, within the budget of its certificate.
 pub fn finish_law()
     ensures { FinishLaw }
-{}
+{
+    safe_law();
+    run_law();
+}
 
 /// No turn ever gets stuck.
 pub fn never_stuck_law()
     ensures { NeverStuckLaw }
-{}
+{
+    safe_law();
+    run_law();
+}
