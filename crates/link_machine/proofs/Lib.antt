@@ -1,2 +1,4 @@
 pub mod Replays
 pub mod Ends
+pub mod Texts
+pub mod FitsSteps
