@@ -8,7 +8,10 @@ use turn_code::laws::{run_law, safe_law};
 /// state on the way, its numbers stay within their bounds.
 pub fn keeps_law()
     ensures { KeepsLaw }
-{}
+{
+    safe_law();
+    run_law();
+}
 
 /// The state after an accepted event is the machine's next one.
 pub fn state_law()
