@@ -5,3 +5,7 @@ pub mod FitsSteps
 pub mod Counts
 pub mod Bounds
 pub mod Keeping
+pub mod FitsLists
+pub mod FitsActors
+pub mod FitsTimers
+pub mod FitsFinish

@@ -4,6 +4,8 @@ pub mod Stored
 pub mod Greatest
 pub mod Stands
 pub mod SafeRuns
+pub mod RightEffects
+pub mod Started
 pub mod Ran
 pub mod Longest
 pub mod Wrapped

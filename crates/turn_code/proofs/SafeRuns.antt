@@ -121,7 +121,7 @@ module _ (d : Draft) (t : Transition) (valid : IsValidTransition d t) where
         (h.parameters, to.0, to.1)
     sent_at _ h = tt
 
-    before : (k : ℕ) (os : List Value) (s : Progress) (n : ℕ) (h : Stands t k os s n) (i : Instruction) → slice_get t.piece.code k ≡ Some i
+    pub before : (k : ℕ) (os : List Value) (s : Progress) (n : ℕ) (h : Stands t k os s n) (i : Instruction) → slice_get t.piece.code k ≡ Some i
         → Before d.signals t.process.variables t.parameters h.facts.set i x os s.variables
     before k os s n h i ie = record {
       sorts = fits.parameters;
@@ -145,7 +145,7 @@ module _ (d : Draft) (t : Transition) (valid : IsValidTransition d t) where
     on_way k i f ie fe j left (inr (next, e)) =
         (in_first (jumps i) (behind i k) j next, λ g ge. e ∙ sym ((valid.shape k).jumped i f ie fe j g next ge))
 
-    goes_on : (k : ℕ) (os : List Value) (s : Progress) (m : ℕ) (h : Stands t k os s (suc m)) (i : Instruction) → slice_get t.piece.code k ≡ Some i
+    pub goes_on : (k : ℕ) (os : List Value) (s : Progress) (m : ℕ) (h : Stands t k os s (suc m)) (i : Instruction) → slice_get t.piece.code k ≡ Some i
         → (j : ℕ) (os' : List Value) (s' : Progress) → Goes d.signals t.process.variables t.parameters h.facts.set i k os j os' (tick s) s' → Stands t j os' s' m
     goes_on k os s m h i ie j os' s' w =
         let way = on_way k i h.facts ie h.is j (map sort_of os')
@@ -200,8 +200,8 @@ module _ (d : Draft) (t : Transition) (valid : IsValidTransition d t) where
         let rich : length s.effects + h.facts.effects ≤ t.piece.certificate.effects = h.effects in
         (deep k os s (suc m) h, omega arith, subst (λ o. IsSafeAfter t (IsSafe t x m) (act_if o x (k + 1) os (tick s))) (sym i.1) over)
 
-    pub safe_at_start : IsSafe t x t.piece.certificate.budget 0 [] (begun x)
-    safe_at_start =
+    pub stands_at_start : Stands t 0 [] (begun x) t.piece.certificate.budget
+    stands_at_start =
         let f = facts_at 0 ((valid.jump 0).entry refl) in
         let empty : f.0.shape ≡ [] = (valid.shape 0).entry refl 0 f.0 (first_of 0 []) f.1 in
         let same : f.0.set ≡ t.entry = (valid.unset 0).entry refl 0 f.0 (first_of 0 []) f.1 in
@@ -209,7 +209,7 @@ module _ (d : Draft) (t : Transition) (valid : IsValidTransition d t) where
         let budget' : t.piece.certificate.budget ≡ f.0.count = rw f.1 at budget in
         let effects : t.piece.certificate.effects ≡ effects_in (slice_get t.piece.facts 0) = ((valid.budget 0).certificate refl).effects in
         let effects' : t.piece.certificate.effects ≡ f.0.effects = rw f.1 at effects in
-        safe t.piece.certificate.budget 0 [] (begun x) (record {
+        record {
           facts = f.0;
           is = f.1;
           shape = sym empty;
@@ -217,4 +217,7 @@ module _ (d : Draft) (t : Transition) (valid : IsValidTransition d t) where
           set = subst (λ m. AreSet m x.variables.items) (sym same) fits.set;
           count = omega arith;
           effects = omega arith;
-        })
+        }
+
+    pub safe_at_start : IsSafe t x t.piece.certificate.budget 0 [] (begun x)
+    safe_at_start = safe t.piece.certificate.budget 0 [] (begun x) stands_at_start

@@ -11,5 +11,7 @@ pub mod Rules
 pub mod Valid
 pub mod Fits
 pub mod Outcome
+pub mod Effects
+pub mod Start
 pub mod Safe
 pub mod Paths

@@ -1,6 +1,8 @@
 //! What follows from the definitions alone. Each call costs nothing.
 
 ghost use Rattle.turn_code.specs.Safe.{SafeLaw, RunLaw};
+ghost use Rattle.turn_code.specs.Effects.{EffectsLaw};
+ghost use Rattle.turn_code.specs.Start.{StartLaw};
 ghost use Rattle.turn_code.specs.Paths.{PathLaw};
 ghost use Rattle.turn_code.specs.Values.{WrapLaw};
 
@@ -25,4 +27,15 @@ pub fn path_law()
 /// 2^32.
 pub fn wrap_law()
     ensures { WrapLaw }
+{}
+
+/// Each effect of the run of a valid transition on an input that fits it is right: a signal of the set, with values of its
+/// sorts, to a party that a route of the process carries it to, or a timer of the process.
+pub fn effects_law()
+    ensures { EffectsLaw }
+{}
+
+/// The initial values of a process of a valid draft, with no parameters and any sender, fit START.
+pub fn start_law()
+    ensures { StartLaw }
 {}

@@ -1,6 +1,7 @@
 //! Instructions, pieces of code, what one instruction does, and drafts of a set of processes.
 #![tactic(auto)]
 
+mod copy;
 mod draft;
 mod effect;
 mod input;

@@ -37,4 +37,14 @@ impl Name {
     {
         self.bytes.as_slice()
     }
+
+    /// The same name once more. It takes no memory.
+    pub fn copy(&self) -> Name
+        ensures { result ≡ self.now }
+    {
+        match ArrayVec::try_from(self.bytes.as_slice()) {
+            Ok(bytes) => Name { bytes },
+            Err(_) => unreachable!(),
+        }
+    }
 }

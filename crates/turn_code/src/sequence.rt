@@ -1,7 +1,8 @@
 //! Lists that contracts can compare.
 
-ghost use Rattle.std.specs.Prelude.{◌≡◌, ◌==◌, length};
+ghost use Rattle.std.specs.Prelude.{◌≡◌, ◌==◌, [], length, IfOk};
 
+use std::alloc::AllocError;
 use std::marker::Model;
 
 /// A list of values in memory, which contracts see as the list alone.
@@ -46,6 +47,25 @@ impl<T> Sequence<T> {
     {
         let Sequence { items } = self;
         items
+    }
+}
+
+impl<T> Sequence<T> {
+    /// Room for as many values, where these lie, with none in it.
+    pub(crate) fn room(&self) -> Result<Vec<T>, AllocError>
+        ensures { IfOk result (λ room. room.items ≡ []) }
+    {
+        Vec::with_capacity(*self.items.allocator(), self.len())
+    }
+}
+
+impl<T: Copy> Sequence<T> {
+    /// An equal list, where there is memory for it.
+    pub fn copy(&self) -> Result<Self, AllocError>
+        ensures { IfOk result (λ copy. copy ≡ self.now) }
+    {
+        let items = Vec::from_slice(*self.items.allocator(), self.items.as_slice())?;
+        Ok(Sequence { items })
     }
 }
 
