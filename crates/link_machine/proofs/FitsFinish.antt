@@ -67,6 +67,7 @@ transition_of d n s i t e = by (slice_get d.processes n) s e
   where
     of : (p : DraftProcess) → IsOf n p t → (t.number ≡ n) × (Some p ≡ Some t.process)
     of p h = (h.number, ap Some (sym h.process))
+
     by : (o : Option DraftProcess) (s : Place) → process_at d.signals n s i o ≡ Some t → (t.number ≡ n) × (o ≡ Some t.process)
     by None s e = cc
     by (Some p) Start e = of p (started_of n p i t e)
@@ -148,7 +149,7 @@ module _ (d : Draft) (n : ℕ) (t : Transition) (there : slice_get d.processes n
       let mine = h.rest.1 refl in
       let same : t.process ≡ h.process = same_Some t.process h.process (sym there ∙ h.there) in
       let is_ready : IsReadyAt h.process q.0 a.variables.items = subst (λ (p : DraftProcess). IsReadyAt p q.0 a.variables.items) same
-          (subst (IsReadyAt t.process q.0) (sym mine.0) (record { state = ready.state; there = ready.there; set = ready.set })) in
+      (subst (IsReadyAt t.process q.0) (sym mine.0) (record { state = ready.state; there = ready.there; set = ready.set })) in
       record { process = h.process; there = h.there; variables = h.variables; rest = (is_ready, subst (GivenFits d n (At (State q))) (sym mine.1) tt); items = h.items }
 
   ends : (w : Core) (e : End) (now : List (Option Value)) → LinkSits d (Acts d n now) w → EndIsReady t e now → LinkSits d (Rests d) (ended n e w)
@@ -194,6 +195,7 @@ finish_fits runs_well gives_right d w n valid fits = by (slice_get w.actors n) r
     given (At s) (Some g) h = run_fits runs_well gives_right d w n s g valid fits h
     given (At s) None h = fits
     given Stopped g h = fits
+
     by : (o : Option Actor) → slice_get w.actors n ≡ o → CoreFits d (finish_by n w (outcome_at (runs d) n o)).to
     by None e = fits
     by (Some a) e = given a.standing a.given (fits.each n a e).given

@@ -2,7 +2,8 @@
 
 ghost use Rattle.link_machine.specs.Laws.{KeepsLaw, StateLaw, FitsLaw, TextLaw, FinishLaw, NeverStuckLaw};
 
-use turn_code::laws::{run_law, safe_law};
+use tick_wheel::laws::due_law;
+use turn_code::laws::{effects_law, run_law, safe_law, start_law};
 
 /// Each event and each rebase keeps what holds of every book: its state is the replay of its journal, all fits in each
 /// state on the way, its numbers stay within their bounds.
@@ -11,6 +12,9 @@ pub fn keeps_law()
 {
     safe_law();
     run_law();
+    effects_law();
+    start_law();
+    due_law();
 }
 
 /// The state after an accepted event is the machine's next one.
@@ -26,7 +30,12 @@ pub fn fits_law()
 /// Any list of events has the same answers, and leaves the same book, by the code of the set and by what it means.
 pub fn text_law()
     ensures { TextLaw }
-{}
+{
+    run_law();
+    effects_law();
+    start_law();
+    due_law();
+}
 
 /// A turn that is out ends by the run of its own code on its own input, within the budget of its certificate.
 pub fn finish_law()
