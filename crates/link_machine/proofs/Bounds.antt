@@ -1,5 +1,5 @@
 -- The numbers of a link's state stay within their bounds.
-use Rattle.std.proofs.Common.{◌≡◌, ℕ, ◌+◌, ◌-◌, ◌*◌, ◌^◌, ◌<◌, ◌≤◌, ◌⊎◌, inl, inr, ⊎_elim, Bool, true, false, cond, if◌then◌else◌, List, [], ◌∷◌, ◌++◌, length, Option, Some, None, refl, sym, ap, ◌∙◌, subst, arith, ltb-false, leb-false}
+use Rattle.std.proofs.Common.{◌≡◌, ℕ, ◌+◌, ◌-◌, ◌*◌, ◌^◌, ◌<◌, ◌≤◌, ◌⊎◌, inl, inr, ⊎_elim, Bool, true, false, cond, if◌then◌else◌, [], ◌∷◌, ◌++◌, length, Option, Some, None, refl, sym, ap, subst, arith, ltb-false, leb-false}
 use Rattle.std.specs.Prelude.{slice_get, nat_lt, nat_le}
 use Rattle.std.proofs.lemmas.Bool.Decides.{leb_tells}
 use Rattle.std.proofs.lemmas.List.{length-append}
@@ -11,7 +11,7 @@ use Rattle.link_machine.specs.Core.{Core, is_out, outs, change}
 use Rattle.link_machine.specs.Looking.{looks, begun, skipped}
 use Rattle.link_machine.specs.Effects.{receives}
 use Rattle.link_machine.specs.Fits.{CoreFits}
-use Rattle.link_machine.specs.Step.{step, finish_by, outcome_at, offered_arrival, passed}
+use Rattle.link_machine.specs.Step.{step, finish_by, offered_arrival, passed}
 use Rattle.link_machine.specs.Refusals.{refuses, first_of, of_actor, begin_rows, advance_rows, is_nothing, is_ignored, is_counted_out, needs, with_room}
 use Rattle.link_machine.specs.Ledger.{Ledger, runs, next, room}
 use Rattle.link_machine.specs.Kept.{IsBounded, is_finish}

@@ -1,5 +1,5 @@
 -- Each turn that is out ends.
-use Rattle.std.proofs.Common.{◌≡◌, ℕ, ◌≤◌, Bool, true, false, if◌then◌else◌, arith, Option, Some, None, refl, sym, ap, ◌∙◌, subst, le-ltb, le_trans}
+use Rattle.std.proofs.Common.{◌≡◌, ℕ, ◌≤◌, Bool, true, false, if◌then◌else◌, arith, Option, Some, None, refl, ap, ◌∙◌, subst, le-ltb, le_trans}
 use Rattle.std.specs.Prelude.{is_some, slice_get, nat_lt}
 use Rattle.turn_code.specs.Outcome.{Outcome, outcome_in}
 use Rattle.turn_code.specs.Run.{run}
@@ -11,7 +11,7 @@ use Rattle.turn_code.specs.declared.input.Place.{Place}
 use Rattle.turn_machine.specs.Turn.{Turn, turn_of, outcome_of}
 use Rattle.link_machine.specs.Core.{Core, is_out}
 use Rattle.link_machine.specs.Fits.{CoreFits, ActorFits, GivenFits}
-use Rattle.link_machine.specs.Step.{Answer, Says, Stepped, step, finish_by, outcome_given, outcome_at, report_of}
+use Rattle.link_machine.specs.Step.{Says, Stepped, step, finish_by, outcome_given, outcome_at, report_of}
 use Rattle.link_machine.specs.Refusals.{refuses, finish_row, with_room}
 use Rattle.link_machine.specs.Ledger.{Ledger, runs, run_of, state_of, refusal_by, asked, ask, ask_by, room, turn_with, turn_given, turn_at, turn_out}
 use Rattle.link_machine.specs.Kept.{IsKept}

@@ -1,5 +1,5 @@
 -- What holds of every book is kept.
-use Rattle.std.proofs.Common.{◌≡◌, ℕ, ◌+◌, ◌*◌, ◌^◌, ◌≤◌, Bool, cond, List, [], ◌∷◌, ◌++◌, length, map, Option, Some, None, refl, sym, ap, ◌∙◌, subst, arith}
+use Rattle.std.proofs.Common.{◌≡◌, ℕ, ◌+◌, ◌^◌, ◌≤◌, cond, List, [], ◌∷◌, ◌++◌, length, map, Option, Some, None, refl, sym, ap, ◌∙◌, subst, arith}
 use Rattle.std.specs.Prelude.{count_by}
 use Rattle.std.proofs.lemmas.List.Sums.{sum_by-cons, sum_by_push}
 use Rattle.turn_code.specs.Safe.{SafeLaw, RunLaw}
@@ -14,7 +14,7 @@ use Rattle.link_machine.specs.Ledger.{Ledger, runs, state_of, refusal_by, asked,
 use Rattle.link_machine.specs.Kept.{Stands, IsBounded, IsKept, is_finish, opened_actor, opened, opened_book}
 use Rattle.link_machine.specs.declared.event.Event.{Event}
 use Rattle.link_machine.specs.declared.reply.Refusal.{Refusal}
-use Rattle.link_machine.proofs.Replays.{with_event, state_more, fits_last, fits_law}
+use Rattle.link_machine.proofs.Replays.{with_event, state_more, fits_law}
 use Rattle.link_machine.proofs.Ends.{passes_otherwise}
 use Rattle.link_machine.proofs.Texts.{StepFits, fits_next}
 use Rattle.link_machine.proofs.Counts.{weight}

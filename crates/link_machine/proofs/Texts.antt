@@ -1,7 +1,7 @@
 -- A book by the code of its set and by what the set means.
 use Rattle.std.proofs.Common.{◌≡◌, ℕ, List, [], ◌∷◌, ◌++◌, Option, Some, None, refl, sym, ap, ◌∙◌, subst}
 use Rattle.std.specs.Prelude.{slice_get}
-use Rattle.turn_code.specs.Outcome.{Outcome, Meaning, Means}
+use Rattle.turn_code.specs.Outcome.{Meaning, Means}
 use Rattle.turn_code.specs.Transitions.{Transition}
 use Rattle.turn_code.specs.Valid.{IsValid}
 use Rattle.turn_code.specs.declared.draft.Draft.{Draft}
@@ -9,9 +9,9 @@ use Rattle.link_machine.specs.Core.{Core}
 use Rattle.link_machine.specs.Fits.{CoreFits, ActorFits, GivenFits}
 use Rattle.link_machine.specs.Step.{Answer, Stepped, step, finish_by, outcome_given, outcome_at}
 use Rattle.link_machine.specs.Refusals.{refuses, refuses_in}
-use Rattle.link_machine.specs.Ledger.{Ledger, Asked, runs, run_of, replay, state_by, state_of, refusal_by, asked, ask, ask_by, room, answers_by, after_by}
-use Rattle.link_machine.specs.Kept.{FitsAlong, IsKept}
-use Rattle.link_machine.specs.Laws.{SameByText, TextLaw}
+use Rattle.link_machine.specs.Ledger.{Ledger, Asked, runs, run_of, replay, state_by, state_of, refusal_by, asked, ask_by, room, answers_by, after_by}
+use Rattle.link_machine.specs.Kept.{FitsAlong}
+use Rattle.link_machine.specs.Laws.{TextLaw}
 use Rattle.link_machine.specs.declared.actor.Actor.{Actor}
 use Rattle.link_machine.specs.declared.actor.Given.{Given}
 use Rattle.link_machine.specs.declared.actor.Standing.{Standing}
