@@ -1,17 +1,17 @@
 -- Actors of which some things hold: what is sent to them and what timers bring keeps it.
-use Rattle.std.proofs.Common.{◌≡◌, ◌≢◌, ℕ, ◌<◌, Bool, true, false, not, if◌then◌else◌, List, [], ◌∷◌, ◌++◌, length, Option, Some, None, refl, sym, ap, ◌∙◌, subst}
+use Rattle.std.proofs.Common.{◌≡◌, ℕ, ◌<◌, Bool, true, false, not, if◌then◌else◌, List, [], ◌∷◌, ◌++◌, length, Option, Some, ◌∙◌}
 use Rattle.std.specs.Prelude.{slice_get}
 use Rattle.std.specs.List.{AllByRecursion}
 use Rattle.turn_code.specs.Fits.{HaveSorts}
 use Rattle.turn_code.specs.declared.value.Value.{Value}
 use Rattle.turn_code.specs.declared.draft.Draft.{Draft}
 use Rattle.turn_code.specs.declared.draft.DraftProcess.{DraftProcess}
-use Rattle.input_port.specs.Queue.{Queue, is_of_timer, without_timer}
+use Rattle.input_port.specs.Queue.{is_of_timer, without_timer}
 use Rattle.input_port.specs.declared.queue.Arrival.{Arrival}
 use Rattle.input_port.specs.declared.queue.Item.{Item}
 use Rattle.input_port.specs.declared.queue.Item.TheVariants.{Signal, Timer}
 use Rattle.link_machine.specs.Core.{Core, change}
-use Rattle.link_machine.specs.Effects.{is_full, with_arrival, reached, receives, drops, hears}
+use Rattle.link_machine.specs.Effects.{is_full, reached, receives, drops, hears}
 use Rattle.link_machine.specs.Fits.{Arrived, ItemFits, StandingFits, GivenFits, ActorFits, TimersFit, CoreFits}
 use Rattle.link_machine.specs.declared.actor.Actor.{Actor}
 use Rattle.link_machine.specs.declared.actor.Given.{Given}

@@ -1,10 +1,9 @@
 -- A turn that ends leaves all fitting.
-use Rattle.std.proofs.Common.{◌≡◌, ◌≢◌, ℕ, zero, suc, ◌+◌, ◌<◌, List, [], ◌∷◌, length, Option, Some, None, refl, sym, ap, ◌∙◌, subst}
-use Rattle.std.specs.Prelude.{slice_get, option_map, Any, Contains}
+use Rattle.std.proofs.Common.{◌≡◌, ◌≢◌, ℕ, zero, suc, List, [], ◌∷◌, Option, Some, None, refl, sym, ap, ◌∙◌, subst}
+use Rattle.std.specs.Prelude.{slice_get, option_map}
 use Rattle.std.proofs.lemmas.Option.{same_Some}
-use Rattle.turn_code.specs.Run.{run, ended as has_ended}
-use Rattle.turn_code.specs.Routes.{IsProcess, Brings, Takes}
-use Rattle.turn_code.specs.Transitions.{Transition, transition_at, process_at, place_at, input_at, start_at, start_of, input_of}
+use Rattle.turn_code.specs.Routes.{IsProcess, Takes}
+use Rattle.turn_code.specs.Transitions.{Transition, transition_at, process_at, input_at, start_at, start_of, input_of}
 use Rattle.turn_code.specs.Valid.{IsValid}
 use Rattle.turn_code.specs.Fits.{HaveSorts, Fits}
 use Rattle.turn_code.specs.Safe.{EndsWell, EndIsReady, RunLaw}
@@ -29,15 +28,15 @@ use Rattle.turn_code.specs.declared.draft.DraftProcess.{DraftProcess}
 use Rattle.turn_code.specs.declared.draft.DraftState.{DraftState}
 use Rattle.turn_code.specs.declared.draft.DraftInput.{DraftInput}
 use Rattle.link_machine.specs.Core.{Core, change}
-use Rattle.link_machine.specs.Effects.{arrival_of, delivered, receives, drops, laid, laid_all, delay, settled, moved, timers_after, ended, started, finished}
-use Rattle.link_machine.specs.Fits.{Arrived, IsReadyAt, StandingFits, GivenFits, CoreFits}
+use Rattle.link_machine.specs.Effects.{arrival_of, delivered, receives, drops, laid, laid_all, delay, settled, moved, ended, started, finished}
+use Rattle.link_machine.specs.Fits.{Arrived, IsReadyAt, GivenFits, CoreFits}
 use Rattle.link_machine.specs.Step.{outcome_given, outcome_at, finish_by}
 use Rattle.link_machine.specs.Ledger.{run_of, runs}
 use Rattle.link_machine.specs.declared.actor.Actor.{Actor}
 use Rattle.link_machine.specs.declared.actor.Given.{Given}
 use Rattle.link_machine.specs.declared.actor.Standing.{Standing}
 use Rattle.link_machine.specs.declared.actor.Standing.TheVariants.{At, Stopped}
-use Rattle.link_machine.proofs.FitsLists.{EachAt, change_each, change-length}
+use Rattle.link_machine.proofs.FitsLists.{change_each, change-length}
 use Rattle.link_machine.proofs.FitsActors.{Asked, Sits, LinkSits, Rests, link_of, core_of, sits_receives, sits_drops, with_actors}
 use Rattle.link_machine.proofs.FitsTimers.{until_fits, without_fits, after_fits}
 

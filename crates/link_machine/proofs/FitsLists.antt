@@ -1,7 +1,7 @@
 -- Lists of which one element changes, and lists each of whose elements has a property.
-use Rattle.std.proofs.Common.{◌≡◌, ◌≢◌, ℕ, zero, suc, ◌<◌, ◌≤◌, Bool, true, false, cond, if◌then◌else◌, ◌&&◌, List, [], ◌∷◌, ◌++◌, length, map, Option, Some, None, refl, sym, ap, ◌∙◌, subst, inl, inr, arith, length-set}
-use Rattle.std.specs.Prelude.{slice_get, slice_set, position, filter, Any, ◌==◌}
-use Rattle.std.specs.List.{AllByRecursion, list_any}
+use Rattle.std.proofs.Common.{◌≡◌, ◌≢◌, ℕ, zero, suc, Bool, true, false, cond, ◌&&◌, List, [], ◌∷◌, ◌++◌, length, Option, Some, None, refl, sym, ap, ◌∙◌, subst, inl, inr, arith, length-set}
+use Rattle.std.specs.Prelude.{slice_get, slice_set, position, filter, Contains}
+use Rattle.std.specs.List.{AllByRecursion}
 use Rattle.std.proofs.lemmas.Option.{same_Some, none-some, slice_get-get_or}
 use Rattle.std.proofs.lemmas.Bool.Decides.{eqb_tells}
 use Rattle.std.proofs.lemmas.List.Quantifiers.{position-Some}
@@ -71,6 +71,10 @@ all_filter P p (x ∷ xs) all =
       | true ↦ (all.0, rest)
       | false ↦ rest
     ]
+
+pub all_from_each : {A : Type 0} (P : A → Type 0) (xs : List A) → ((x : A) → Contains xs x → P x) → AllByRecursion P xs
+all_from_each P [] each = tt
+all_from_each P (x ∷ xs) each = (each x (zero, omega arith, refl), all_from_each P xs (λ y has. each y (suc has.0, omega (arith, has.1), has.2)))
 
 -- ---- what a test that is passed says
 
