@@ -1,3 +1,9 @@
+pub mod Replays
+pub mod Ends
+pub mod Texts
+pub mod Counts
+pub mod Bounds
+pub mod Keeping
 pub mod FitsLists
 pub mod FitsActors
 pub mod FitsTimers

@@ -5,6 +5,7 @@
 mod actor;
 mod event;
 mod found;
+pub mod laws;
 mod reply;
 
 pub use actor::{Actor, Given, Standing};
