@@ -1,3 +1,4 @@
+pub mod FewVariables
 pub mod NameLists
 pub mod PartySets
 pub mod RouteTables

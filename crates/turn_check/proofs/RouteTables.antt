@@ -13,7 +13,7 @@ use Rattle.turn_code.specs.declared.numbers.SignalNumber.{SignalNumber}
 use Rattle.turn_code.specs.declared.draft.DraftProcess.{DraftProcess}
 use Rattle.turn_code.specs.declared.draft.DraftRoute.{DraftRoute}
 use Rattle.turn_code.specs.declared.draft.Draft.{Draft}
-use Rattle.turn_code.specs.Routes.{IsProcess, IsPartyOf, Takes, Reaches, Answers}
+use Rattle.turn_code.specs.Routes.{IsProcess, IsPartyOf, the_process, Takes, Reaches, Answers}
 use Rattle.turn_code.specs.Rules.{KeepsSetLimits}
 use Rattle.turn_check.specs.Parties.{seat, holds}
 use Rattle.turn_check.specs.RouteTables.{none, listed, is_process, Mention, mentions_of, is_sent, is_brought, Tells, ComesFrom}
@@ -137,6 +137,10 @@ process_to : (p : ℕ) (x : Party) → IsProcess p x → is_process p x ≡ true
 process_to p Environment h = absurd h
 process_to p (Process q) h = eq-eqb q.0 p h
 
+as_the : (p : ℕ) (x : Party) → IsProcess p x → x ≡ the_process p
+as_the p Environment h = absurd h
+as_the p (Process q) h = ap the_process h
+
 -- the parties of the draft that a process reaches
 pub reached_from : (ps : List DraftProcess) (rs : List DraftRoute) (p : ℕ) (n : SignalNumber) (x : Party) → length ps ≤ 16
     → (list_any (is_sent p n.0 (seat x)) (flat_map mentions_of rs) && ltb (seat x) (1 + length ps)) ≡ true
@@ -157,7 +161,7 @@ reached_from ps rs p n x few h =
         found.2,
         found.3,
         record {
-          from = process_from p r.from parts.0;
+          from = as_the p r.from (process_from p r.from parts.0);
           to = same_party x r.to (seat_small ps x few within) (eqb-true (seat r.to) (seat x) parts.2);
           signal = parts.1;
         },
@@ -170,7 +174,7 @@ pub reached_to : (ps : List DraftProcess) (rs : List DraftRoute) (p : ℕ) (n : 
 reached_to ps rs p n x few h =
     let r = h.1.1 in
     let takes : Takes p x n r = h.1.4 in
-    let test = signals_to r.signals n (is_process p r.from) (eqb (seat r.to) (seat x)) (process_to p r.from takes.from) takes.signal
+    let test = signals_to r.signals n (is_process p r.from) (eqb (seat r.to) (seat x)) (process_to p r.from (subst (IsProcess p) (sym takes.from) refl)) takes.signal
     (eq-eqb (seat r.to) (seat x) (ap seat takes.to)) in
     and_both (list_any (is_sent p n.0 (seat x)) (flat_map mentions_of rs)) (ltb (seat x) (1 + length ps))
     (any_paths (is_sent p n.0 (seat x)) rs

@@ -1,3 +1,4 @@
+pub mod Answered
 pub mod Certified
 pub mod Faults
 pub mod Named

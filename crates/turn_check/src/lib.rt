@@ -1,6 +1,7 @@
 //! Valid sets of processes: a draft is checked rule by rule, and what is accepted stays valid by its type.
 #![tactic(auto)]
 
+mod answers;
 mod entry;
 mod fault;
 mod indexed;

@@ -173,7 +173,7 @@ impl Verified {
         }
     }
 
-    fn variables(&self, process: ProcessNumber) -> &[DraftVariable]
+    pub(crate) fn variables(&self, process: ProcessNumber) -> &[DraftVariable]
         ensures { result.now ≡ variables_at self.now process.0 }
     {
         match self
@@ -187,7 +187,7 @@ impl Verified {
         }
     }
 
-    fn inputs(&self, process: ProcessNumber, state: StateNumber) -> &[DraftInput]
+    pub(crate) fn inputs(&self, process: ProcessNumber, state: StateNumber) -> &[DraftInput]
         ensures { result.now ≡ inputs_at self.now process.0 state.0 }
     {
         match self.states(process).get(usize::from(state.0)) {

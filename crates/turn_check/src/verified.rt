@@ -9,6 +9,7 @@ ghost use Rattle.turn_check.specs.Faults.{IsBroken};
 use crate::fault::VerifyFault;
 use crate::transition::Transition;
 use crate::walk::{check_draft, input_transition, start_transition};
+use std::alloc::AllocError;
 use std::marker::Model;
 use turn_code::laws::{path_law, safe_law};
 use turn_code::{Cert, Draft, DraftProcess, DraftSignal, Place, ProcessNumber, StateNumber};
@@ -51,6 +52,16 @@ impl Verified {
         ensures valid { IsValid self.now }
     {
         &self.draft
+    }
+
+    /// An equal set, where there is memory for it.
+    pub fn copy(&self) -> Result<Verified, AllocError>
+        ensures { IfOk result (λ v. v ≡ self.now) }
+    {
+        self.keeps();
+        Ok(Verified {
+            draft: self.draft.copy()?,
+        })
     }
 
     /// The counts of input `input` at a place of a process; START has the input 0. None where there is none.

@@ -8,7 +8,7 @@ use Rattle.turn_code.proofs.SafeRuns.{Stands, code_at, before, goes_on, stands_a
 use Rattle.turn_code.specs.Values.{sort_of, holds, is_between}
 use Rattle.turn_code.specs.Run.{Progress, After, goes, ends, stuck, loaded, stored, given, on_top, on_integer, on_boolean, on_integers, on_booleans, sent, sending, party_of, act, act_if, tick, Ran, ended, got_stuck, unfinished, go_on, exec, run, begun}
 use Rattle.turn_code.specs.Code.{takes, timers_in, successors}
-use Rattle.turn_code.specs.Routes.{Brings, IsPartyOf, Reaches, Answers}
+use Rattle.turn_code.specs.Routes.{IsProcess, Brings, IsPartyOf, Reaches, Answers}
 use Rattle.turn_code.specs.Transitions.{Transition, parameters_of}
 use Rattle.turn_code.specs.Rules.{Agree, ReachesReceiver, KeepsOutput, greatest, counts_at}
 use Rattle.turn_code.specs.Valid.{IsValidTransition}
@@ -161,7 +161,7 @@ answered : (d : Draft) (p : ℕ) (m n : SignalNumber) (sender : Party) → Any (
 answered d p m n sender brings answers =
     let r : DraftRoute = brings.1 in
     let here : Answers d.processes d.routes p m n r = subst (Answers d.processes d.routes p m n) brings.3 (answers brings.0 r brings.2) in
-    subst (IsReached d p n) brings.4.from (here brings.4.to brings.4.signal)
+    subst (IsReached d p n) brings.4.from (here (subst (IsProcess p) (sym brings.4.to) refl) brings.4.signal)
 
 receiver_reached : (d : Draft) (t : Transition) (x : Input) (n : SignalNumber) (r : Receiver) (p : Party) → IsBrought d t.number t.trigger x.sender
     → ReachesReceiver d t.number n t.trigger r → party_of r x.sender ≡ Some p → IsReached d t.number n p

@@ -15,17 +15,23 @@ abbrev pub IsPartyOf : List DraftProcess → Party → Type 0
 IsPartyOf ps Environment = Unit {0}
 IsPartyOf ps (Process q) = q.0 < length ps
 
--- the route carries signal n from the sender to process p
-pub record Brings (sender : Party) (p : ℕ) (n : SignalNumber) (r : DraftRoute) : Type 0 where
-  pub from : r.from ≡ sender
-  pub to : IsProcess p r.to
-  pub signal : Contains r.signals n
+-- the process with this number, as a party
+abbrev pub the_process : ℕ → Party
+the_process p = Process (record { 0 = p })
 
--- the route carries signal n from process p to the receiver
-pub record Takes (p : ℕ) (receiver : Party) (n : SignalNumber) (r : DraftRoute) : Type 0 where
-  pub from : IsProcess p r.from
+-- the route carries signal n from the sender to the receiver
+pub record Carries (sender receiver : Party) (n : SignalNumber) (r : DraftRoute) : Type 0 where
+  pub from : r.from ≡ sender
   pub to : r.to ≡ receiver
   pub signal : Contains r.signals n
+
+-- so to process p
+abbrev pub Brings : Party → ℕ → SignalNumber → DraftRoute → Type 0
+Brings sender p n r = Carries sender (the_process p) n r
+
+-- so from process p
+abbrev pub Takes : ℕ → Party → SignalNumber → DraftRoute → Type 0
+Takes p receiver n r = Carries (the_process p) receiver n r
 
 -- some route carries signal n from process p to the receiver
 abbrev pub Reaches : List DraftRoute → ℕ → Party → SignalNumber → Type 0

@@ -2,7 +2,7 @@
 
 ghost use Rattle.std.specs.Prelude.{◌≡◌};
 
-use crate::input::Party;
+use crate::input::{Party, copied_values};
 use crate::numbers::{SignalNumber, TimerNumber};
 use crate::value::Value;
 use arrayvec::ArrayVec;
@@ -49,17 +49,8 @@ impl Sending {
         Sending {
             signal: self.signal,
             receiver: self.receiver,
-            parameters: copied(&self.parameters),
+            parameters: copied_values(&self.parameters),
         }
-    }
-}
-
-fn copied(parameters: &ArrayVec<Value, 4>) -> ArrayVec<Value, 4>
-    ensures { result ≡ parameters.now }
-{
-    match ArrayVec::try_from(parameters.as_slice()) {
-        Ok(copy) => copy,
-        Err(_) => unreachable!(),
     }
 }
 

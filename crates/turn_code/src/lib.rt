@@ -13,6 +13,7 @@ mod numbers;
 mod operands;
 mod operation;
 mod rule;
+mod same;
 mod sequence;
 mod trouble;
 mod value;
@@ -23,7 +24,7 @@ pub use draft::{
     DraftVariable, PlaceFacts, Trigger,
 };
 pub use effect::{Effect, Sending};
-pub use input::{Input, Party, Place};
+pub use input::{Input, Party, Place, copied_values, copied_variables};
 pub use instruction::{Instruction, Receiver, Relation};
 pub use machine::{After, End, Machine, step_plain};
 pub use name::Name;
@@ -32,6 +33,7 @@ pub use numbers::{
 };
 pub use operands::Operands;
 pub use rule::Rule;
+pub use same::{same_values, same_variables};
 pub use sequence::Sequence;
 pub use trouble::Trouble;
 pub use value::{Sort, Value};

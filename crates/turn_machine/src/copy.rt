@@ -3,7 +3,7 @@
 ghost use Rattle.std.specs.Prelude.{◌≡◌, ◌≤◌, length};
 
 use arrayvec::ArrayVec;
-use turn_code::{Effect, Input, Instruction, Value};
+use turn_code::{Effect, Instruction};
 
 /// The instructions by value.
 pub(crate) fn copied_code(code: &[Instruction]) -> ArrayVec<Instruction, 512>
@@ -13,39 +13,6 @@ pub(crate) fn copied_code(code: &[Instruction]) -> ArrayVec<Instruction, 512>
     match ArrayVec::try_from(code) {
         Ok(copy) => copy,
         Err(_) => unreachable!(),
-    }
-}
-
-/// The variables once more.
-pub(crate) fn copied_variables(
-    variables: &ArrayVec<Option<Value>, 32>,
-) -> ArrayVec<Option<Value>, 32>
-    ensures { result ≡ variables.now }
-{
-    match ArrayVec::try_from(variables.as_slice()) {
-        Ok(copy) => copy,
-        Err(_) => unreachable!(),
-    }
-}
-
-/// The parameters once more.
-fn copied_parameters(parameters: &ArrayVec<Value, 4>) -> ArrayVec<Value, 4>
-    ensures { result ≡ parameters.now }
-{
-    match ArrayVec::try_from(parameters.as_slice()) {
-        Ok(copy) => copy,
-        Err(_) => unreachable!(),
-    }
-}
-
-/// The same input once more.
-pub(crate) fn copied_input(input: &Input) -> Input
-    ensures { result ≡ input.now }
-{
-    Input {
-        variables: copied_variables(&input.variables),
-        parameters: copied_parameters(&input.parameters),
-        sender: input.sender,
     }
 }
 

@@ -6,14 +6,14 @@ ghost use Rattle.turn_code.specs.Machine.{progress_of};
 ghost use Rattle.turn_code.specs.Outcome.{Outcome};
 ghost use Rattle.turn_machine.specs.Turn.{outcome_of};
 
-use crate::copy::{copied_effects, copied_variables};
+use crate::copy::copied_effects;
 use crate::execute::execute;
 use crate::job::Job;
 use arrayvec::ArrayVec;
 use std::alloc::AllocError;
 use std::marker::Model;
 use turn_code::laws::safe_law;
-use turn_code::{Effect, End, Machine, Operands, Value};
+use turn_code::{Effect, End, Machine, Operands, Value, copied_variables};
 
 /// A job that ran, with its outcome: the run of its own code on its own input.
 #[derive(Drop)]

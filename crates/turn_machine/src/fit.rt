@@ -1,8 +1,7 @@
 //! The test whether an input fits.
 
-ghost use Rattle.std.specs.Prelude.{◌≡◌, ◌↔◌, IsTrue, map, Any, Contains};
+ghost use Rattle.std.specs.Prelude.{◌≡◌, ◌↔◌, IsTrue, map};
 ghost use Rattle.turn_code.specs.Values.{sort_of};
-ghost use Rattle.turn_code.specs.Routes.{IsProcess, Brings};
 ghost use Rattle.turn_code.specs.Fits.{Fits, HasSort, HaveSorts, AreSet};
 ghost use Rattle.turn_machine.specs.Fitting.{IsSetAt, IsBroughtBy};
 ghost use Rattle.turn_machine.specs.Given.{input_of};
@@ -11,8 +10,7 @@ use crate::received::Received;
 use arrayvec::ArrayVec;
 use turn_check::Verified;
 use turn_code::{
-    DraftRoute, DraftVariable, Party, Place, ProcessNumber, SignalNumber, Sort, Trigger, Value,
-    VariableNumber, VariableSet,
+    DraftVariable, Party, Place, ProcessNumber, Sort, Trigger, Value, VariableNumber, VariableSet,
 };
 
 /// Whether an input fits input `input_number` at a place of a process: its parameters and set variables have their
@@ -36,12 +34,7 @@ pub fn fits(
                     variables.as_slice(),
                 )
                 && are_set(transition.entry, variables.as_slice())
-                && is_brought(
-                    verified.draft().routes.as_slice(),
-                    transition.number,
-                    transition.trigger,
-                    received.sender,
-                )
+                && is_brought(verified, process, transition.trigger, received.sender)
         }
         None => false,
     }
@@ -104,62 +97,18 @@ fn has_value(values: &[Option<Value>], variable: u8) -> bool
 
 /// Whether a route brings the signal that the transition waits for from its sender.
 fn is_brought(
-    routes: &[DraftRoute],
+    verified: &Verified,
     process: ProcessNumber,
     trigger: Option<Trigger>,
     sender: Option<Party>,
 ) -> bool
-    ensures { IsTrue result ↔ IsBroughtBy routes.now process.0 trigger sender }
+    ensures { IsTrue result ↔ IsBroughtBy verified.now.routes process.0 trigger sender }
 {
     match trigger {
         None | Some(Trigger::Timer(_)) => true,
         Some(Trigger::Signal(signal)) => match sender {
-            Some(sender) => some_route_brings(routes, sender, process, signal),
+            Some(sender) => verified.carries(sender, Party::Process(process), signal),
             None => false,
         },
     }
-}
-
-fn some_route_brings(
-    routes: &[DraftRoute],
-    sender: Party,
-    process: ProcessNumber,
-    signal: SignalNumber,
-) -> bool
-    ensures { IsTrue result ↔ Any (Brings sender process.0 signal) routes.now }
-{
-    for route in routes {
-        if brings(route, sender, process, signal) {
-            return true;
-        }
-    }
-    false
-}
-
-fn brings(route: &DraftRoute, sender: Party, process: ProcessNumber, signal: SignalNumber) -> bool
-    ensures { IsTrue result ↔ Brings sender process.0 signal route.now }
-{
-    route.from == sender
-        && is_process(route.to, process)
-        && carries(route.signals.as_slice(), signal)
-}
-
-fn is_process(party: Party, process: ProcessNumber) -> bool
-    ensures { IsTrue result ↔ IsProcess process.0 party }
-{
-    match party {
-        Party::Environment => false,
-        Party::Process(number) => number.0 == process.0,
-    }
-}
-
-fn carries(signals: &[SignalNumber], signal: SignalNumber) -> bool
-    ensures { IsTrue result ↔ Contains signals.now signal }
-{
-    for other in signals {
-        if *other == signal {
-            return true;
-        }
-    }
-    false
 }

@@ -5,7 +5,7 @@ ghost use Rattle.turn_code.specs.Fits.{Fits};
 ghost use Rattle.turn_machine.specs.Given.{input_of};
 ghost use Rattle.turn_machine.specs.Turn.{Begins, IsRunnable};
 
-use crate::copy::{copied_code, copied_input};
+use crate::copy::copied_code;
 use crate::received::Received;
 use arrayvec::ArrayVec;
 use std::alloc::AllocError;
@@ -141,7 +141,7 @@ impl Job {
             input_number: self.input_number,
             code: copied_code(self.code.as_slice()),
             certificate: self.certificate,
-            input: copied_input(&self.input),
+            input: self.input.copy(),
         }
     }
 }
