@@ -6,13 +6,13 @@ use Rattle.std.specs.FinMap as finite
 use Rattle.turn_code.specs.Values.{sort_of}
 use Rattle.turn_code.specs.Routes.{Brings}
 use Rattle.turn_code.specs.Fits.{HaveSorts, AreSet, Fits}
+use Rattle.turn_code.specs.Start.{initial_values}
 use Rattle.turn_code.specs.Transitions.{parameters_of}
 use Rattle.turn_code.specs.declared.value.Value.{Value}
 use Rattle.turn_code.specs.declared.input.Place.TheVariants.{Start, State}
 use Rattle.turn_code.specs.declared.draft.Draft.{Draft}
 use Rattle.turn_code.specs.declared.draft.DraftProcess.{DraftProcess}
 use Rattle.turn_code.specs.declared.draft.DraftState.{DraftState}
-use Rattle.turn_code.specs.declared.draft.DraftVariable.{DraftVariable}
 use Rattle.input_port.specs.declared.queue.Arrival.{Arrival}
 use Rattle.input_port.specs.declared.queue.Item.{Item}
 use Rattle.input_port.specs.declared.queue.Item.TheVariants.{Signal, Timer}
@@ -35,10 +35,6 @@ abbrev pub ItemFits : Draft → ℕ → DraftProcess → Item → Type 0
 ItemFits d n p (Signal a) = Arrived d n a
 ItemFits d n p (Timer t) = t.0 < length p.timers
 
--- the variables of a process before START
-abbrev pub initial_values : DraftProcess → List (Option Value)
-initial_values p = map (λ (x : DraftVariable). x.initial) p.variables
-
 -- the state is there, and the variables that are said to be set there have values
 pub record IsReadyAt (p : DraftProcess) (q : ℕ) (vs : List (Option Value)) : Type 0 where
   pub state : DraftState
@@ -46,7 +42,7 @@ pub record IsReadyAt (p : DraftProcess) (q : ℕ) (vs : List (Option Value)) : T
   pub set : AreSet state.set vs
 
 abbrev pub StandingFits : DraftProcess → Standing → List (Option Value) → Type 0
-StandingFits p (At Start) vs = vs ≡ initial_values p
+StandingFits p (At Start) vs = vs ≡ initial_values p.variables
 StandingFits p (At (State q)) vs = IsReadyAt p q.0 vs
 StandingFits p Stopped vs = Unit {0}
 

@@ -2,11 +2,12 @@
 use Rattle.std.specs.Prelude.{◌≡◌, ℕ, ◌+◌, ◌*◌, ◌^◌, ◌≤◌, Bool, true, false, List, [], ◌∷◌, length, map, count_by, Option, None, Some}
 use Rattle.std.specs.FinMap as finite
 use Rattle.turn_code.specs.Valid.{IsValid}
+use Rattle.turn_code.specs.Start.{initial_values}
 use Rattle.turn_code.specs.declared.input.Place.TheVariants.{Start}
 use Rattle.turn_code.specs.declared.draft.Draft.{Draft}
 use Rattle.turn_code.specs.declared.draft.DraftProcess.{DraftProcess}
 use Rattle.link_machine.specs.Core.{Core, outs}
-use Rattle.link_machine.specs.Fits.{CoreFits, initial_values}
+use Rattle.link_machine.specs.Fits.{CoreFits}
 use Rattle.link_machine.specs.Step.{step}
 use Rattle.link_machine.specs.Ledger.{Ledger, runs, state_of}
 use Rattle.link_machine.specs.declared.actor.Actor.{Actor}
@@ -53,7 +54,7 @@ pub record IsKept (b : Ledger) : Type 0 where
 abbrev pub opened_actor : ℕ → DraftProcess → Actor
 opened_actor port p = record {
   standing = At Start;
-  variables = record { items = initial_values p };
+  variables = record { items = initial_values p.variables };
   port = record { capacity = port; items = [] };
   given = None;
 }

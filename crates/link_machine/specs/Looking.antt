@@ -4,10 +4,10 @@ use Rattle.std.specs.List.{list_any}
 use Rattle.turn_code.specs.declared.input.Input.{Input}
 use Rattle.turn_code.specs.declared.input.Place.TheVariants.{Start, State}
 use Rattle.turn_code.specs.declared.draft.Draft.{Draft}
-use Rattle.turn_code.specs.declared.draft.DraftInput.{DraftInput}
 use Rattle.turn_code.specs.declared.draft.Trigger.{Trigger}
 use Rattle.turn_code.specs.declared.draft.Trigger.TheVariants.{Signal, Timer}
-use Rattle.turn_check.specs.Named.{inputs_at, saves_at}
+use Rattle.turn_check.specs.Named.{saves_at}
+use Rattle.turn_check.specs.Answered.{same_trigger, input_for as input_waiting}
 use Rattle.input_port.specs.Queue.{first_unsaved, without_first}
 use Rattle.input_port.specs.declared.queue.Item.{Item}
 use Rattle.input_port.specs.declared.queue.Item.TheVariants as item
@@ -23,19 +23,13 @@ abbrev pub trigger_of : Item → Trigger
 trigger_of (item.Signal arrival) = Signal arrival.signal
 trigger_of (item.Timer timer) = Timer timer
 
-abbrev pub same_trigger : Trigger → Trigger → Bool
-same_trigger (Signal m) (Signal n) = m.0 == n.0
-same_trigger (Signal m) (Timer n) = false
-same_trigger (Timer m) (Signal n) = false
-same_trigger (Timer m) (Timer n) = m.0 == n.0
-
 -- whether state q of process n saves the item
 abbrev pub is_saved : Draft → ℕ → ℕ → Item → Bool
 is_saved d n q x = list_any (same_trigger (trigger_of x)) (saves_at d n q)
 
 -- which input of state q the item is, the first in text order
 abbrev pub input_for : Draft → ℕ → ℕ → Item → Option ℕ
-input_for d n q x = position (λ (i : DraftInput). same_trigger (trigger_of x) i.trigger) (inputs_at d n q)
+input_for d n q x = input_waiting d n q (trigger_of x)
 
 -- the first item that isn't saved where the actor is; there is none at START and behind a STOP, where nothing is taken
 abbrev pub item_at : Draft → ℕ → Standing → List Item → Option Item
