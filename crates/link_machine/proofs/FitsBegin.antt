@@ -16,11 +16,12 @@ use Rattle.turn_code.specs.declared.draft.DraftState.{DraftState}
 use Rattle.turn_code.specs.declared.draft.DraftInput.{DraftInput}
 use Rattle.turn_code.specs.declared.draft.Trigger.{Trigger}
 use Rattle.turn_code.specs.declared.draft.Trigger.TheVariants as trigger
+use Rattle.turn_check.specs.Answered.{same_trigger}
 use Rattle.turn_check.specs.Named.{states_of, inputs_of, inputs_at}
 use Rattle.input_port.specs.Queue.{first_unsaved, without_first}
 use Rattle.input_port.specs.declared.queue.Item.{Item}
 use Rattle.input_port.specs.declared.queue.Item.TheVariants.{Signal, Timer}
-use Rattle.link_machine.specs.Looking.{trigger_of, same_trigger, is_saved, input_for, item_at, left_at, as_input, found_item, found_at, looks, first_input, input_with, number_in, given_now, begun, skipped}
+use Rattle.link_machine.specs.Looking.{trigger_of, is_saved, input_for, item_at, left_at, as_input, found_item, found_at, looks, first_input, input_with, number_in, given_now, begun, skipped}
 use Rattle.link_machine.specs.Fits.{ItemFits, IsReadyAt, StandingFits, GivenFits}
 use Rattle.link_machine.specs.Refusals.{is_nothing, is_ignored}
 use Rattle.link_machine.specs.declared.actor.Actor.{Actor}
@@ -84,14 +85,14 @@ module _ (start_fits : StartLaw) (d : Draft) (valid : IsValid d) (n : ℕ) (a : 
   input_given : (q : StateNumber) (ready : IsReadyAt p q.0 a.variables.items) (x : Item) (i : ℕ) → ItemFits d n p x → input_for d n q.0 x ≡ Some i
       → Fits d n (State q) i (input_with a (Some x))
   input_given q ready x i fits e =
-      let found = found_first (λ (y : DraftInput). same_trigger (trigger_of x) y.trigger) (inputs_at d n q.0) i e in
+      let found = found_first (λ (y : DraftInput). same_trigger y.trigger (trigger_of x)) (inputs_at d n q.0) i e in
       let y : DraftInput = found.0 in
       let inputs : inputs_at d n q.0 ≡ ready.state.inputs = ap (λ o. inputs_of (slice_get (states_of o) q.0)) there ∙ ap inputs_of ready.there in
       let at : slice_get ready.state.inputs i ≡ Some y = ap (λ ys. slice_get ys i) (sym inputs) ∙ found.1 in
       record {
         transition = input_of d.signals n p ready.state y;
         there = ap (process_at d.signals n (State q) i) there ∙ ap (input_at d.signals n p i) ready.there ∙ ap (option_map (input_of d.signals n p ready.state)) at;
-        fits = subst (λ z. FitsTransition d (waiting ready.state y z) (input_with a (Some x))) (one_trigger (trigger_of x) y.trigger found.2) (item_given q.0 ready y x fits);
+        fits = subst (λ z. FitsTransition d (waiting ready.state y z) (input_with a (Some x))) (sym (one_trigger y.trigger (trigger_of x) found.2)) (item_given q.0 ready y x fits);
       }
 
   state_given : (q : StateNumber) → IsReadyAt p q.0 a.variables.items → (o : Option Item) → ((x : Item) → o ≡ Some x → ItemFits d n p x)

@@ -1,8 +1,8 @@
 -- A turn that ends leaves all fitting.
 use Rattle.std.proofs.Common.{◌≡◌, ◌≢◌, ℕ, zero, suc, List, [], ◌∷◌, Option, Some, None, refl, sym, ap, ◌∙◌, subst}
-use Rattle.std.specs.Prelude.{slice_get, option_map}
+use Rattle.std.specs.Prelude.{slice_get, option_map, Any}
 use Rattle.std.proofs.lemmas.Option.{same_Some}
-use Rattle.turn_code.specs.Routes.{IsProcess, Takes}
+use Rattle.turn_code.specs.Routes.{the_process, Carries, Brings}
 use Rattle.turn_code.specs.Transitions.{Transition, transition_at, process_at, input_at, start_at, start_of, input_of}
 use Rattle.turn_code.specs.Valid.{IsValid}
 use Rattle.turn_code.specs.Fits.{HaveSorts, Fits}
@@ -11,7 +11,6 @@ use Rattle.turn_code.specs.Effects.{IsRightSending, IsRightEffect, AreRightEffec
 use Rattle.turn_code.specs.Outcome.{Outcome, outcome_in}
 use Rattle.turn_code.specs.declared.value.Value.{Value}
 use Rattle.turn_code.specs.declared.numbers.ProcessNumber.{ProcessNumber}
-use Rattle.turn_code.specs.declared.numbers.SignalNumber.{SignalNumber}
 use Rattle.turn_code.specs.declared.input.Place.{Place}
 use Rattle.turn_code.specs.declared.input.Place.TheVariants.{Start, State}
 use Rattle.turn_code.specs.declared.input.Party.{Party}
@@ -23,7 +22,6 @@ use Rattle.turn_code.specs.declared.machine.End.{End}
 use Rattle.turn_code.specs.declared.machine.End.TheVariants.{State as Next, Stop}
 use Rattle.turn_code.specs.declared.draft.Draft.{Draft}
 use Rattle.turn_code.specs.declared.draft.DraftSignal.{DraftSignal}
-use Rattle.turn_code.specs.declared.draft.DraftRoute.{DraftRoute}
 use Rattle.turn_code.specs.declared.draft.DraftProcess.{DraftProcess}
 use Rattle.turn_code.specs.declared.draft.DraftState.{DraftState}
 use Rattle.turn_code.specs.declared.draft.DraftInput.{DraftInput}
@@ -74,21 +72,14 @@ transition_of d n s i t e = by (slice_get d.processes n) s e
 
 -- ---- the effects
 
-brought_by : (n m : ℕ) (signal : SignalNumber) (r : DraftRoute) (from to : Party) (number : ProcessNumber) → IsProcess n from → to ≡ Process number → number.0 ≡ m
-    → (from ≡ Process (record { 0 = n })) × IsProcess m to
-brought_by n m signal r Environment to number h e same = absurd h
-brought_by n m signal r (Process q) to number h e same = (ap (λ (k : ℕ). Process (record { 0 = k })) h, subst (IsProcess m) (sym e) same)
-
 sending_arrives : (d : Draft) (n : ℕ) (t : Transition) (s : Sending) (m : ProcessNumber) → t.number ≡ n → s.receiver ≡ Process m → IsRightSending d t s
     → Arrived d m.0 (arrival_of n s)
-sending_arrives d n t s m number to right =
-    let takes : Takes t.number s.receiver s.signal right.reaches.1 = right.reaches.4 in
-    let parties = brought_by n m.0 s.signal right.reaches.1 right.reaches.1.from right.reaches.1.to m (subst (λ k. IsProcess k right.reaches.1.from) number takes.from) (takes.to ∙ to) refl in
-    record {
-      there = right.signal;
-      sorts = right.parameters;
-      brought = (right.reaches.0, right.reaches.1, right.reaches.2, right.reaches.3, record { from = parties.0; to = parties.1; signal = takes.signal });
-    }
+sending_arrives d n t s m number to right = record {
+  there = right.signal;
+  sorts = right.parameters;
+  brought = subst (λ (k : ℕ). Any (Brings (the_process k) m.0 s.signal) d.routes) number
+      (subst (λ (p : Party). Any (Carries (the_process t.number) p s.signal) d.routes) to right.reaches);
+}
 
 module _ (d : Draft) (R : Asked) (n : ℕ) (t : Transition) (number : t.number ≡ n) (there : slice_get d.processes n ≡ Some t.process) where
   delivered_sits : (w : Core) (s : Sending) → LinkSits d R w → IsRightSending d t s → LinkSits d R (delivered n w s s.receiver)

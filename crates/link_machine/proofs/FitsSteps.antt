@@ -10,7 +10,7 @@ use Rattle.turn_code.specs.Valid.{IsValid}
 use Rattle.turn_code.specs.Fits.{HaveSorts}
 use Rattle.turn_code.specs.Safe.{RunLaw}
 use Rattle.turn_code.specs.Effects.{EffectsLaw}
-use Rattle.turn_code.specs.Start.{StartLaw}
+use Rattle.turn_code.specs.Start.{initial_values, StartLaw}
 use Rattle.turn_code.specs.declared.input.Input.{Input}
 use Rattle.turn_code.specs.declared.input.Place.TheVariants.{Start}
 use Rattle.turn_code.specs.declared.draft.Draft.{Draft}
@@ -21,7 +21,7 @@ use Rattle.link_machine.specs.Core.{Core, change, is_out}
 use Rattle.link_machine.specs.Looking.{looks, begun, skipped}
 use Rattle.link_machine.specs.Effects.{receives, hears, is_full}
 use Rattle.link_machine.specs.Refusals.{first_of, has_stopped, is_offered, offer_rows, is_nothing, is_ignored, is_counted_out, begin_rows, of_actor, refuses}
-use Rattle.link_machine.specs.Fits.{TimerFits, ActorFits, CoreFits, initial_values}
+use Rattle.link_machine.specs.Fits.{TimerFits, ActorFits, CoreFits}
 use Rattle.link_machine.specs.Kept.{opened_actor, opened}
 use Rattle.link_machine.specs.Ledger.{runs}
 use Rattle.link_machine.specs.Step.{offered_arrival, notified, due_in, passed, step}
@@ -113,9 +113,9 @@ step_fits runs_well gives_right start_fits is_due d w TakeEnv valid fits accepte
 
 -- ---- the beginning
 
-initial_sorts : StartLaw → (d : Draft) → IsValid d → (n : ℕ) (p : DraftProcess) → slice_get d.processes n ≡ Some p → HaveSorts p.variables (initial_values p)
+initial_sorts : StartLaw → (d : Draft) → IsValid d → (n : ℕ) (p : DraftProcess) → slice_get d.processes n ≡ Some p → HaveSorts p.variables (initial_values p.variables)
 initial_sorts start_fits d valid n p there =
-    let first : Input = record { variables = record { items = initial_values p }; parameters = record { items = [] }; sender = None } in
+    let first : Input = record { variables = record { items = initial_values p.variables }; parameters = record { items = [] }; sender = None } in
     (start_fits d n 0 (start_of n p) first valid (ap (process_at d.signals n Start 0) there) (record { variables = refl; parameters = refl })).variables
 
 opened_actor_fits : StartLaw → (d : Draft) (port : ℕ) → IsValid d → (n : ℕ) (p : DraftProcess) → slice_get d.processes n ≡ Some p → ActorFits d n (opened_actor port p)
