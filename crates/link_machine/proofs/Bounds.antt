@@ -27,7 +27,7 @@ use Rattle.link_machine.proofs.Counts.{OneLess, outs_change, outs_more, receives
 -- the bounds that have nothing to do with the journal
 pub record IsCounted (w : Core) : Type 0 where
   pub turns : w.turns ≤ 2 ^ 40
-  pub finishes : w.finishes + outs w.actors ≤ w.turns
+  pub finishes : w.finishes + outs w.actors ≡ w.turns
   pub instructions : w.instructions ≤ 512 * w.finishes
   pub clock : w.timers.clock ≤ 2 ^ 62
 
@@ -42,7 +42,7 @@ moves_on : (e : Event) (v w : Core) → needs e ≡ 1 → is_finish e ≡ false 
     → v.finishes ≡ w.finishes → v.instructions ≡ w.instructions → v.timers.clock ≤ 2 ^ 62 → IsCounted w → Moves e v w
 moves_on e v w single other out turns finishes instructions clock h =
     let least : w.turns ≤ 2 ^ 40 = h.turns in
-    let some : w.finishes + outs w.actors ≤ w.turns = h.finishes in
+    let some : w.finishes + outs w.actors ≡ w.turns = h.finishes in
     let few : w.instructions ≤ 512 * w.finishes = h.instructions in
     let none : cond {A = ℕ} (is_finish e) 1 0 ≡ 0 = ap (λ (b : Bool). cond b 1 0) other in
     record {
@@ -86,7 +86,7 @@ may_advance clock k h =
 moves_finish : (n : ℕ) (w : Core) (count : ℕ) (v : Core) → OneLess count v w → count ≤ 512 → IsCounted w → Moves (Finish n) v w
 moves_finish n w count v less few h =
     let least : w.turns ≤ 2 ^ 40 = h.turns in
-    let some : w.finishes + outs w.actors ≤ w.turns = h.finishes in
+    let some : w.finishes + outs w.actors ≡ w.turns = h.finishes in
     let short : w.instructions ≤ 512 * w.finishes = h.instructions in
     let early : w.timers.clock ≤ 2 ^ 62 = h.clock in
     let out : outs v.actors + 1 ≡ outs w.actors = less.outs in
@@ -103,7 +103,7 @@ moves_finish n w count v less few h =
 moves_begin : (n : ℕ) (d : Draft) (w : Core) → IsCounted w → MayBegin w.turns (slice_get w.actors n) → Moves (Begin n) (step d (runs d) w (Begin n)).to w
 unfolding step
 moves_begin n d w h may =
-    let some : w.finishes + outs w.actors ≤ w.turns = h.finishes in
+    let some : w.finishes + outs w.actors ≡ w.turns = h.finishes in
     let few : w.turns < 2 ^ 40 = may.few in
     let more : outs (change w.actors n (begun d n w.turns)) ≡ outs w.actors + 1 =
     outs_more (begun d n w.turns) w.actors n may.actor may.there may.free (begun_out d n w.turns may.actor) in

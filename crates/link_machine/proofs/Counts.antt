@@ -89,15 +89,15 @@ reached_keeps arrival a (At s) = refl
 reached_keeps arrival a Stopped = refl
 
 pub receives_keeps : (arrival : Arrival) → Keeps (receives arrival)
-unfolding Keeps receives
+unfolding Keeps
 receives_keeps arrival a = reached_keeps arrival a a.standing
 
 pub drops_keeps : (timer : ℕ) → Keeps (drops timer)
-unfolding Keeps drops
+unfolding Keeps
 drops_keeps timer a = refl
 
 pub hears_keeps : (timer : ℕ) → Keeps (hears timer)
-unfolding Keeps hears
+unfolding Keeps
 hears_keeps timer a = refl
 
 pub skipped_keeps : (d : Draft) (n : ℕ) → Keeps (skipped d n)
@@ -105,7 +105,7 @@ unfolding Keeps skipped
 skipped_keeps d n a = refl
 
 pub moved_keeps : (e : End) → Keeps (moved e)
-unfolding Keeps moved
+unfolding Keeps
 moved_keeps (State q) a = refl
 moved_keeps Stop a = refl
 
@@ -114,7 +114,6 @@ unfolding begun
 begun_out d n turn a = refl
 
 pub settled_in : (o : Outcome) (a : Actor) → is_out (settled o a) ≡ false
-unfolding settled
 settled_in o a = refl
 
 -- ---- the effects of a turn, and its end
@@ -138,7 +137,6 @@ same_delivered n w s (Process m) = record {
 }
 
 same_laid : (n : ℕ) (w : Core) (e : Effect) → Same (laid n w e) w
-unfolding laid
 same_laid n w (Output s) = same_delivered n w s s.receiver
 same_laid n w (Set t z) =
     record { outs = outs_change (drops t.0) w.actors n (drops_keeps t.0); turns = refl; finishes = refl; instructions = refl; clock = refl }
@@ -168,7 +166,6 @@ timers_clock (State q) ts n = refl
 timers_clock Stop ts n = first_timers_clock ts n 8
 
 pub same_ended : (n : ℕ) (e : End) (w : Core) → Same (ended n e w) w
-unfolding ended
 same_ended n e w = record {
   outs = outs_change (moved e) w.actors n (moved_keeps e);
   turns = refl;
@@ -187,7 +184,6 @@ pub record OneLess (count : ℕ) (v w : Core) : Type 0 where
 
 less_started : (n : ℕ) (o : Outcome) (w : Core) (a : Actor) → slice_get w.actors n ≡ Some a → is_out a ≡ true
     → OneLess o.progress.count (started n o w) w
-unfolding started
 less_started n o w a h out = record {
   outs = outs_less (settled o) w.actors n a h out (settled_in o a);
   turns = refl;

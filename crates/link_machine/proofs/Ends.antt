@@ -1,6 +1,7 @@
 -- Each turn that is out ends.
-use Rattle.std.proofs.Common.{◌≡◌, ℕ, ◌≤◌, Bool, true, false, if◌then◌else◌, arith, Option, Some, None, refl, ap, ◌∙◌, subst, le-ltb, le_trans}
-use Rattle.std.specs.Prelude.{is_some, slice_get, nat_lt}
+use Rattle.std.proofs.Common.{◌≡◌, ℕ, ◌≤◌, Bool, true, false, if◌then◌else◌, arith, Option, Some, None, refl, sym, ap, ◌∙◌, subst, le-ltb, le_trans}
+use Rattle.std.specs.Prelude.{◌↔◌, is_some, slice_get, nat_lt}
+use Rattle.std.proofs.lemmas.Option.{none-some}
 use Rattle.turn_code.specs.Outcome.{Outcome, outcome_in}
 use Rattle.turn_code.specs.Run.{run}
 use Rattle.turn_code.specs.Safe.{SafeLaw, RunLaw, RunsWell}
@@ -15,7 +16,7 @@ use Rattle.link_machine.specs.Step.{Says, Stepped, step, finish_by, outcome_give
 use Rattle.link_machine.specs.Refusals.{refuses, finish_row, with_room}
 use Rattle.link_machine.specs.Ledger.{Ledger, runs, run_of, state_of, refusal_by, asked, ask, ask_by, room, turn_with, turn_given, turn_at, turn_out}
 use Rattle.link_machine.specs.Kept.{IsKept}
-use Rattle.link_machine.specs.Laws.{FinishesWithin, IsSaid}
+use Rattle.link_machine.specs.Laws.{FinishesWithin, OutLaw, IsSaid}
 use Rattle.link_machine.specs.declared.actor.Actor.{Actor}
 use Rattle.link_machine.specs.declared.actor.Given.{Given}
 use Rattle.link_machine.specs.declared.actor.Standing.{Standing}
@@ -118,6 +119,41 @@ no_room_asked k = rw (le-ltb k 0 (omega arith)) refl
 with_no_room : (k n : ℕ) (o : Option Refusal) → o ≡ None → with_room k (Finish n) o ≡ None
 with_no_room k n None h = no_room_asked k
 with_no_room k n (Some r) h = cc
+
+-- who hasn't is
+
+-- what a finish of an actor comes to: its turn, and why it is refused
+pub record OutOrNot (t : Option Turn) (o : Option Refusal) : Type 0 where
+  pub stranger : (t ≡ None) ↔ (o ≡ Some Stranger)
+  pub own : (x : Turn) → t ≡ Some x → o ≡ None
+
+none_out : (t : Option Turn) (o : Option Refusal) → t ≡ None → o ≡ Some Stranger → OutOrNot t o
+none_out t o none refused = record { stranger = (λ _. refused, λ _. none); own = λ x h. absurd (none-some x (sym none ∙ h)) }
+
+one_out : (t : Option Turn) (o : Option Refusal) (x : Turn) → t ≡ Some x → o ≡ None → OutOrNot t o
+one_out t o x some passes = record {
+  stranger = (λ none. absurd (none-some x (sym none ∙ some)), λ refused. absurd (none-some Stranger (sym passes ∙ refused)));
+  own = λ _ _. passes;
+}
+
+given_row : (k : ℕ) (d : Draft) (n : ℕ) (s : Standing) (g : Option Given) → GivenFits d n s g
+    → OutOrNot (turn_given d n s g) (with_room k (Finish n) (if is_some g then None else Some Stranger))
+given_row k d n (At s) None f = none_out _ _ refl refl
+given_row k d n (At s) (Some g) f = one_out _ _ _ (ap (turn_with n s g) f.there) (no_room_asked k)
+given_row k d n Stopped None f = none_out _ _ refl refl
+given_row k d n Stopped (Some g) f = absurd f
+
+actor_row : (k : ℕ) (d : Draft) (n : ℕ) (o : Option Actor) → ((a : Actor) → o ≡ Some a → ActorFits d n a)
+    → OutOrNot (turn_at d n o) (with_room k (Finish n) (finish_row o))
+actor_row k d n None fits = none_out _ _ refl refl
+actor_row k d n (Some a) fits = given_row k d n a.standing a.given (fits a refl).given
+
+out_or_not : (b : Ledger) (n : ℕ) → IsKept b → OutOrNot (turn_out b n) (refusal_by (runs b.set) b (Finish n))
+unfolding turn_out refuses
+out_or_not b n kept = actor_row (room b (state_of b)) b.set n (slice_get (state_of b).actors n) ((fits_law b kept).each n)
+
+pub out_law : OutLaw
+out_law = record { stranger = λ b n kept. (out_or_not b n kept).stranger; own = λ b n t kept. (out_or_not b n kept).own t }
 
 -- ---- the laws
 

@@ -12,7 +12,7 @@ use Rattle.input_port.specs.declared.queue.Item.{Item}
 use Rattle.input_port.specs.declared.queue.Item.TheVariants.{Signal, Timer}
 use Rattle.link_machine.specs.Core.{Core, change}
 use Rattle.link_machine.specs.Effects.{is_full, reached, receives, drops, hears}
-use Rattle.link_machine.specs.Fits.{Arrived, ItemFits, StandingFits, GivenFits, ActorFits, TimersFit, CoreFits}
+use Rattle.link_machine.specs.Fits.{Arrived, ItemFits, StandingFits, GivenFits, ActorFits, TimersFit, EmittedFits, CoreFits}
 use Rattle.link_machine.specs.declared.actor.Actor.{Actor}
 use Rattle.link_machine.specs.declared.actor.Given.{Given}
 use Rattle.link_machine.specs.declared.actor.Standing.{Standing}
@@ -36,6 +36,7 @@ pub record LinkSits (d : Draft) (R : Asked) (w : Core) : Type 0 where
   pub each : EachAt (Sits d R) w.actors
   pub count : length w.actors ≡ length d.processes
   pub timers : TimersFit d w.timers.deadlines
+  pub ring : AllByRecursion (EmittedFits d) w.ring.items
 
 -- ---- between turns
 
@@ -49,10 +50,10 @@ pub fits_of : (d : Draft) (n : ℕ) (a : Actor) → Sits d (Rests d) n a → Act
 fits_of d n a h = record { process = h.process; there = h.there; variables = h.variables; standing = h.rest.0; items = h.items; given = h.rest.1 }
 
 pub link_of : (d : Draft) (w : Core) → CoreFits d w → LinkSits d (Rests d) w
-link_of d w h = record { each = λ n a e. sits_of d n a (h.each n a e); count = h.count; timers = h.timers }
+link_of d w h = record { each = λ n a e. sits_of d n a (h.each n a e); count = h.count; timers = h.timers; ring = h.ring }
 
 pub core_of : (d : Draft) (w : Core) → LinkSits d (Rests d) w → CoreFits d w
-core_of d w h = record { each = λ n a e. fits_of d n a (h.each n a e); count = h.count; timers = h.timers }
+core_of d w h = record { each = λ n a e. fits_of d n a (h.each n a e); count = h.count; timers = h.timers; ring = h.ring }
 
 -- ---- one actor
 
@@ -67,7 +68,6 @@ module _ (d : Draft) (R : Asked) (n : ℕ) (a : Actor) (sits : Sits d R n a) whe
   received arrival false arrived = with_items (a.port.items ++ Signal arrival ∷ []) (all_push (ItemFits d n sits.process) a.port.items (Signal arrival) sits.items arrived)
 
   pub sits_receives : (arrival : Arrival) → Arrived d n arrival → Sits d R n (receives arrival a)
-  unfolding receives
   sits_receives arrival arrived = by a.standing
     where
       by : (s : Standing) → Sits d R n (reached a arrival s)
@@ -75,11 +75,9 @@ module _ (d : Draft) (R : Asked) (n : ℕ) (a : Actor) (sits : Sits d R n a) whe
       by Stopped = sits
 
   pub sits_drops : (timer : ℕ) → Sits d R n (drops timer a)
-  unfolding drops
   sits_drops timer = with_items (without_timer a.port.items timer) (all_filter (ItemFits d n sits.process) (λ x. not (is_of_timer timer x)) a.port.items sits.items)
 
   pub sits_hears : (timer : ℕ) → timer < length sits.process.timers → Sits d R n (hears timer a)
-  unfolding hears
   sits_hears timer within =
       with_items (without_timer a.port.items timer ++ Timer (record { 0 = timer }) ∷ [])
       (all_push (ItemFits d n sits.process) (without_timer a.port.items timer) (Timer (record { 0 = timer }))
@@ -98,4 +96,5 @@ with_actors d R w n f sits one = record {
   each = change_sits d R w.actors n f sits.each one;
   count = change-length w.actors n f ∙ sits.count;
   timers = sits.timers;
+  ring = sits.ring;
 }

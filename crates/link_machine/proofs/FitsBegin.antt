@@ -16,12 +16,14 @@ use Rattle.turn_code.specs.declared.draft.DraftState.{DraftState}
 use Rattle.turn_code.specs.declared.draft.DraftInput.{DraftInput}
 use Rattle.turn_code.specs.declared.draft.Trigger.{Trigger}
 use Rattle.turn_code.specs.declared.draft.Trigger.TheVariants as trigger
+use Rattle.turn_check.specs.Answered.{same_trigger}
 use Rattle.turn_check.specs.Named.{states_of, inputs_of, inputs_at}
 use Rattle.input_port.specs.Queue.{first_unsaved, without_first}
 use Rattle.input_port.specs.declared.queue.Item.{Item}
 use Rattle.input_port.specs.declared.queue.Item.TheVariants.{Signal, Timer}
-use Rattle.link_machine.specs.Looking.{trigger_of, same_trigger, is_saved, input_for, item_at, left_at, as_input, found_item, found_at, looks, first_input, input_with, number_in, given_now, begun, skipped}
+use Rattle.link_machine.specs.Looking.{trigger_of, is_saved, input_for, item_at, left_at, as_input, found_item, found_at, looks, first_input, input_with, number_in, given_now, begun, skipped}
 use Rattle.link_machine.specs.Fits.{ItemFits, IsReadyAt, StandingFits, GivenFits}
+use Rattle.link_machine.specs.Laws.{ItemLaw}
 use Rattle.link_machine.specs.Refusals.{is_nothing, is_ignored}
 use Rattle.link_machine.specs.declared.actor.Actor.{Actor}
 use Rattle.link_machine.specs.declared.actor.Standing.{Standing}
@@ -61,6 +63,52 @@ one_trigger (trigger.Timer m) (trigger.Timer n) e = ap (λ (k : ℕ). trigger.Ti
 
 -- ---- the input that is given
 
+module _ (d : Draft) (n : ℕ) (a : Actor) (p : DraftProcess) (there : slice_get d.processes n ≡ Some p) (sorts : HaveSorts p.variables a.variables.items) where
+  -- a transition of state q that waits for so much
+  abbrev waiting : DraftState → DraftInput → Trigger → Transition
+  waiting q y x = record { number = n; process = p; trigger = Some x; parameters = trigger_parameters d.signals x; entry = q.set; piece = y.piece }
+
+  item_given : (q : ℕ) (ready : IsReadyAt p q a.variables.items) (y : DraftInput) (x : Item) → ItemFits d n p x
+      → FitsTransition d (waiting ready.state y (trigger_of x)) (input_with a (Some x))
+  item_given q ready y (Signal arrival) arrived = record { parameters = arrived.sorts; variables = sorts; set = ready.set; brought = arrived.brought }
+  item_given q ready y (Timer timer) within = record { parameters = refl; variables = sorts; set = ready.set; brought = tt }
+
+  pub input_given : (q : StateNumber) (ready : IsReadyAt p q.0 a.variables.items) (x : Item) (i : ℕ) → ItemFits d n p x → input_for d n q.0 x ≡ Some i
+      → Fits d n (State q) i (input_with a (Some x))
+  input_given q ready x i fits e =
+      let found = found_first (λ (y : DraftInput). same_trigger y.trigger (trigger_of x)) (inputs_at d n q.0) i e in
+      let y : DraftInput = found.0 in
+      let inputs : inputs_at d n q.0 ≡ ready.state.inputs = ap (λ o. inputs_of (slice_get (states_of o) q.0)) there ∙ ap inputs_of ready.there in
+      let at : slice_get ready.state.inputs i ≡ Some y = ap (λ ys. slice_get ys i) (sym inputs) ∙ found.1 in
+      record {
+        transition = input_of d.signals n p ready.state y;
+        there = ap (process_at d.signals n (State q) i) there ∙ ap (input_at d.signals n p i) ready.there ∙ ap (option_map (input_of d.signals n p ready.state)) at;
+        fits = subst (λ z. FitsTransition d (waiting ready.state y z) (input_with a (Some x))) (sym (one_trigger y.trigger (trigger_of x) found.2)) (item_given q.0 ready y x fits);
+      }
+
+  -- an input of the state that waits for the item
+  pub waiting_given : (q : StateNumber) (ready : IsReadyAt p q.0 a.variables.items) (x : Item) (i : ℕ) (t : Transition) → ItemFits d n p x
+      → transition_at d n (State q) i ≡ Some t → t.trigger ≡ Some (trigger_of x) → FitsTransition d t (input_with a (Some x))
+  waiting_given q ready x i t fits e same =
+      by (slice_get ready.state.inputs i)
+      (sym (ap (input_at d.signals n p i) ready.there) ∙ sym (ap (process_at d.signals n (State q) i) there) ∙ e)
+    where
+      of : (y : DraftInput) → input_of d.signals n p ready.state y ≡ t → FitsTransition d t (input_with a (Some x))
+      of y is =
+          let waits : y.trigger ≡ trigger_of x = same_Some y.trigger (trigger_of x) (ap (λ (u : Transition). u.trigger) is ∙ same) in
+          subst (λ u. FitsTransition d u (input_with a (Some x))) is
+          (subst (λ z. FitsTransition d (waiting ready.state y z) (input_with a (Some x))) (sym waits) (item_given q.0 ready y x fits))
+
+      by : (o : Option DraftInput) → option_map (input_of d.signals n p ready.state) o ≡ Some t → FitsTransition d t (input_with a (Some x))
+      by None h = absurd (none-some t h)
+      by (Some y) h = of y (same_Some (input_of d.signals n p ready.state y) t h)
+
+pub item_law : ItemLaw
+item_law = record {
+  each = λ d n p a x q i t there sorts fits ready e same. waiting_given d n a p there sorts q ready x i t fits e same;
+  first = λ d n p a x q i there sorts fits ready e. input_given d n a p there sorts q ready x i fits e;
+}
+
 module _ (start_fits : StartLaw) (d : Draft) (valid : IsValid d) (n : ℕ) (a : Actor) (p : DraftProcess) (there : slice_get d.processes n ≡ Some p)
     (sorts : HaveSorts p.variables a.variables.items) where
   start_given : StandingFits p (At Start) a.variables.items → Fits d n Start 0 (first_input a)
@@ -72,28 +120,6 @@ module _ (start_fits : StartLaw) (d : Draft) (valid : IsValid d) (n : ℕ) (a : 
         fits = start_fits d n 0 (start_of n p) (first_input a) valid is (record { variables = initial; parameters = refl });
       }
 
-  -- a transition of state q that waits for so much
-  abbrev waiting : DraftState → DraftInput → Trigger → Transition
-  waiting q y x = record { number = n; process = p; trigger = Some x; parameters = trigger_parameters d.signals x; entry = q.set; piece = y.piece }
-
-  item_given : (q : ℕ) (ready : IsReadyAt p q a.variables.items) (y : DraftInput) (x : Item) → ItemFits d n p x
-      → FitsTransition d (waiting ready.state y (trigger_of x)) (input_with a (Some x))
-  item_given q ready y (Signal arrival) arrived = record { parameters = arrived.sorts; variables = sorts; set = ready.set; brought = arrived.brought }
-  item_given q ready y (Timer timer) within = record { parameters = refl; variables = sorts; set = ready.set; brought = tt }
-
-  input_given : (q : StateNumber) (ready : IsReadyAt p q.0 a.variables.items) (x : Item) (i : ℕ) → ItemFits d n p x → input_for d n q.0 x ≡ Some i
-      → Fits d n (State q) i (input_with a (Some x))
-  input_given q ready x i fits e =
-      let found = found_first (λ (y : DraftInput). same_trigger (trigger_of x) y.trigger) (inputs_at d n q.0) i e in
-      let y : DraftInput = found.0 in
-      let inputs : inputs_at d n q.0 ≡ ready.state.inputs = ap (λ o. inputs_of (slice_get (states_of o) q.0)) there ∙ ap inputs_of ready.there in
-      let at : slice_get ready.state.inputs i ≡ Some y = ap (λ ys. slice_get ys i) (sym inputs) ∙ found.1 in
-      record {
-        transition = input_of d.signals n p ready.state y;
-        there = ap (process_at d.signals n (State q) i) there ∙ ap (input_at d.signals n p i) ready.there ∙ ap (option_map (input_of d.signals n p ready.state)) at;
-        fits = subst (λ z. FitsTransition d (waiting ready.state y z) (input_with a (Some x))) (one_trigger (trigger_of x) y.trigger found.2) (item_given q.0 ready y x fits);
-      }
-
   state_given : (q : StateNumber) → IsReadyAt p q.0 a.variables.items → (o : Option Item) → ((x : Item) → o ≡ Some x → ItemFits d n p x)
       → is_nothing (found_item d n q.0 o) ≡ false → is_ignored (found_item d n q.0 o) ≡ false → Fits d n (State q) (number_in (found_item d n q.0 o)) (input_with a o)
   state_given q ready None fits something heard = absurd (false≢true (sym something))
@@ -101,7 +127,7 @@ module _ (start_fits : StartLaw) (d : Draft) (valid : IsValid d) (n : ℕ) (a : 
     where
       by : (o : Option ℕ) → input_for d n q.0 x ≡ o → is_ignored (as_input o) ≡ false → Fits d n (State q) (number_in (as_input o)) (input_with a (Some x))
       by None e heard = absurd (false≢true (sym heard))
-      by (Some i) e heard = input_given q ready x i (fits x refl) e
+      by (Some i) e heard = input_given d n a p there sorts q ready x i (fits x refl) e
 
   turn_given : (turn : ℕ) (xs : List Item) (s : Standing) → AllByRecursion (ItemFits d n p) xs → StandingFits p s a.variables.items
       → is_nothing (found_at d n s xs) ≡ false → is_ignored (found_at d n s xs) ≡ false

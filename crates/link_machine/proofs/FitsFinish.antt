@@ -1,8 +1,9 @@
 -- A turn that ends leaves all fitting.
-use Rattle.std.proofs.Common.{◌≡◌, ◌≢◌, ℕ, zero, suc, List, [], ◌∷◌, Option, Some, None, refl, sym, ap, ◌∙◌, subst}
-use Rattle.std.specs.Prelude.{slice_get, option_map}
-use Rattle.std.proofs.lemmas.Option.{same_Some}
-use Rattle.turn_code.specs.Routes.{IsProcess, Takes}
+use Rattle.std.proofs.Common.{◌≡◌, ◌≢◌, ℕ, zero, suc, Bool, true, false, if◌then◌else◌, List, [], ◌∷◌, ◌++◌, Option, Some, None, refl, sym, ap, ◌∙◌, subst}
+use Rattle.std.specs.Prelude.{slice_get, option_map, Any}
+use Rattle.std.specs.List.{AllByRecursion}
+use Rattle.std.proofs.lemmas.Option.{same_Some, slice_get_within}
+use Rattle.turn_code.specs.Routes.{the_process, Carries, Brings, Reaches}
 use Rattle.turn_code.specs.Transitions.{Transition, transition_at, process_at, input_at, start_at, start_of, input_of}
 use Rattle.turn_code.specs.Valid.{IsValid}
 use Rattle.turn_code.specs.Fits.{HaveSorts, Fits}
@@ -11,7 +12,6 @@ use Rattle.turn_code.specs.Effects.{IsRightSending, IsRightEffect, AreRightEffec
 use Rattle.turn_code.specs.Outcome.{Outcome, outcome_in}
 use Rattle.turn_code.specs.declared.value.Value.{Value}
 use Rattle.turn_code.specs.declared.numbers.ProcessNumber.{ProcessNumber}
-use Rattle.turn_code.specs.declared.numbers.SignalNumber.{SignalNumber}
 use Rattle.turn_code.specs.declared.input.Place.{Place}
 use Rattle.turn_code.specs.declared.input.Place.TheVariants.{Start, State}
 use Rattle.turn_code.specs.declared.input.Party.{Party}
@@ -23,20 +23,20 @@ use Rattle.turn_code.specs.declared.machine.End.{End}
 use Rattle.turn_code.specs.declared.machine.End.TheVariants.{State as Next, Stop}
 use Rattle.turn_code.specs.declared.draft.Draft.{Draft}
 use Rattle.turn_code.specs.declared.draft.DraftSignal.{DraftSignal}
-use Rattle.turn_code.specs.declared.draft.DraftRoute.{DraftRoute}
 use Rattle.turn_code.specs.declared.draft.DraftProcess.{DraftProcess}
 use Rattle.turn_code.specs.declared.draft.DraftState.{DraftState}
 use Rattle.turn_code.specs.declared.draft.DraftInput.{DraftInput}
-use Rattle.link_machine.specs.Core.{Core, change}
-use Rattle.link_machine.specs.Effects.{arrival_of, delivered, receives, drops, laid, laid_all, delay, settled, moved, ended, started, finished}
-use Rattle.link_machine.specs.Fits.{Arrived, IsReadyAt, GivenFits, CoreFits}
+use Rattle.link_machine.specs.Core.{Core, Ring, change}
+use Rattle.link_machine.specs.Effects.{arrival_of, emitted_of, has_room, delivered, receives, drops, laid, laid_all, delay, settled, moved, ended, started, finished}
+use Rattle.link_machine.specs.Fits.{Arrived, IsReadyAt, GivenFits, EmittedFits, CoreFits}
 use Rattle.link_machine.specs.Step.{outcome_given, outcome_at, finish_by}
 use Rattle.link_machine.specs.Ledger.{run_of, runs}
 use Rattle.link_machine.specs.declared.actor.Actor.{Actor}
 use Rattle.link_machine.specs.declared.actor.Given.{Given}
 use Rattle.link_machine.specs.declared.actor.Standing.{Standing}
 use Rattle.link_machine.specs.declared.actor.Standing.TheVariants.{At, Stopped}
-use Rattle.link_machine.proofs.FitsLists.{change_each, change-length}
+use Rattle.link_machine.specs.declared.reply.Emitted.{Emitted}
+use Rattle.link_machine.proofs.FitsLists.{change_each, change-length, all_push}
 use Rattle.link_machine.proofs.FitsActors.{Asked, Sits, LinkSits, Rests, link_of, core_of, sits_receives, sits_drops, with_actors}
 use Rattle.link_machine.proofs.FitsTimers.{until_fits, without_fits, after_fits}
 
@@ -74,42 +74,54 @@ transition_of d n s i t e = by (slice_get d.processes n) s e
 
 -- ---- the effects
 
-brought_by : (n m : ℕ) (signal : SignalNumber) (r : DraftRoute) (from to : Party) (number : ProcessNumber) → IsProcess n from → to ≡ Process number → number.0 ≡ m
-    → (from ≡ Process (record { 0 = n })) × IsProcess m to
-brought_by n m signal r Environment to number h e same = absurd h
-brought_by n m signal r (Process q) to number h e same = (ap (λ (k : ℕ). Process (record { 0 = k })) h, subst (IsProcess m) (sym e) same)
-
 sending_arrives : (d : Draft) (n : ℕ) (t : Transition) (s : Sending) (m : ProcessNumber) → t.number ≡ n → s.receiver ≡ Process m → IsRightSending d t s
     → Arrived d m.0 (arrival_of n s)
-sending_arrives d n t s m number to right =
-    let takes : Takes t.number s.receiver s.signal right.reaches.1 = right.reaches.4 in
-    let parties = brought_by n m.0 s.signal right.reaches.1 right.reaches.1.from right.reaches.1.to m (subst (λ k. IsProcess k right.reaches.1.from) number takes.from) (takes.to ∙ to) refl in
-    record {
-      there = right.signal;
-      sorts = right.parameters;
-      brought = (right.reaches.0, right.reaches.1, right.reaches.2, right.reaches.3, record { from = parties.0; to = parties.1; signal = takes.signal });
-    }
+sending_arrives d n t s m number to right = record {
+  there = right.signal;
+  sorts = right.parameters;
+  brought = subst (λ (k : ℕ). Any (Brings (the_process k) m.0 s.signal) d.routes) number
+      (subst (λ (p : Party). Any (Carries (the_process t.number) p s.signal) d.routes) to right.reaches);
+}
+
+sending_leaves : (d : Draft) (n : ℕ) (t : Transition) (s : Sending) → t.number ≡ n → slice_get d.processes n ≡ Some t.process → s.receiver ≡ Environment
+    → IsRightSending d t s → EmittedFits d (emitted_of n s)
+sending_leaves d n t s number there to right = record {
+  sender = slice_get_within d.processes n t.process there;
+  there = right.signal;
+  sorts = right.parameters;
+  reaches = subst (λ (k : ℕ). Reaches d.routes k Environment s.signal) number (subst (λ (p : Party). Reaches d.routes t.number p s.signal) to right.reaches);
+}
+
+-- the environment's ring with one more, where there is room
+emitted_fits : (d : Draft) (r : Ring) (x : Emitted) (b : Bool) → AllByRecursion (EmittedFits d) r.items → EmittedFits d x
+    → AllByRecursion (EmittedFits d) (if b then record r { items = r.items ++ x ∷ [] } else r).items
+emitted_fits d r x true all one = all_push (EmittedFits d) r.items x all one
+emitted_fits d r x false all one = all
 
 module _ (d : Draft) (R : Asked) (n : ℕ) (t : Transition) (number : t.number ≡ n) (there : slice_get d.processes n ≡ Some t.process) where
   delivered_sits : (w : Core) (s : Sending) → LinkSits d R w → IsRightSending d t s → LinkSits d R (delivered n w s s.receiver)
   delivered_sits w s sits right = by s.receiver refl
     where
       by : (p : Party) → s.receiver ≡ p → LinkSits d R (delivered n w s p)
-      by Environment e = record { each = sits.each; count = sits.count; timers = sits.timers }
+      by Environment e = record {
+        each = sits.each;
+        count = sits.count;
+        timers = sits.timers;
+        ring = emitted_fits d w.ring (emitted_of n s) (has_room w.ring) sits.ring (sending_leaves d n t s number there e right);
+      }
       by (Process m) e = with_actors d R w m.0 (receives (arrival_of n s)) sits (λ a there h. sits_receives d R m.0 a h (arrival_of n s) (sending_arrives d n t s m number e right))
 
   dropped_sits : (w : Core) (timer : ℕ) → LinkSits d R w → LinkSits d R (record w { actors = change w.actors n (drops timer) })
   dropped_sits w timer sits = with_actors d R w n (drops timer) sits (λ a there h. sits_drops d R n a h timer)
 
   laid_sits : (w : Core) (e : Effect) → LinkSits d R w → IsRightEffect d t e → LinkSits d R (laid n w e)
-  unfolding laid
   laid_sits w (Output s) sits right = delivered_sits w s sits right
   laid_sits w (Set timer z) sits right =
       let dropped = dropped_sits w timer.0 sits in
-      record { each = dropped.each; count = dropped.count; timers = until_fits d w.timers n timer.0 (delay z) t.process there right sits.timers }
+      record { each = dropped.each; count = dropped.count; timers = until_fits d w.timers n timer.0 (delay z) t.process there right sits.timers; ring = sits.ring }
   laid_sits w (Reset timer) sits right =
       let dropped = dropped_sits w timer.0 sits in
-      record { each = dropped.each; count = dropped.count; timers = without_fits d w.timers n timer.0 sits.timers }
+      record { each = dropped.each; count = dropped.count; timers = without_fits d w.timers n timer.0 sits.timers; ring = sits.ring }
 
   all_laid_sits : (es : List Effect) (w : Core) → LinkSits d R w → AreRightEffects d t es → LinkSits d R (laid_all n w es)
   all_laid_sits [] w sits right = sits
@@ -124,7 +136,6 @@ Acts d m now n p s vs g = (n ≢ m → Rests d n p s vs g) × (n ≡ m → (vs �
 module _ (d : Draft) (n : ℕ) (t : Transition) (there : slice_get d.processes n ≡ Some t.process) where
   starts : (w : Core) (o : Outcome) → LinkSits d (Rests d) w → HaveSorts t.process.variables o.progress.variables
       → LinkSits d (Acts d n o.progress.variables) (started n o w)
-  unfolding started settled
   starts w o sits sorts = record {
     each = change_each (Sits d (Rests d)) (Sits d (Acts d n o.progress.variables)) w.actors n (settled o) sits.each
         (λ k a other h. record { process = h.process; there = h.there; variables = h.variables; rest = (λ _. h.rest, λ e. absurd (other e)); items = h.items })
@@ -137,10 +148,10 @@ module _ (d : Draft) (n : ℕ) (t : Transition) (there : slice_get d.processes n
         });
     count = change-length w.actors n (settled o) ∙ sits.count;
     timers = sits.timers;
+    ring = sits.ring;
   }
 
   moves : (e : End) (a : Actor) (now : List (Option Value)) → EndIsReady t e now → Sits d (Acts d n now) n a → Sits d (Rests d) n (moved e a)
-  unfolding moved
   moves Stop a now ready h =
       let mine = h.rest.1 refl in
       record { process = h.process; there = h.there; variables = h.variables; rest = (tt, subst (GivenFits d n Stopped) (sym mine.1) tt); items = tt }
@@ -152,13 +163,13 @@ module _ (d : Draft) (n : ℕ) (t : Transition) (there : slice_get d.processes n
       record { process = h.process; there = h.there; variables = h.variables; rest = (is_ready, subst (GivenFits d n (At (State q))) (sym mine.1) tt); items = h.items }
 
   ends : (w : Core) (e : End) (now : List (Option Value)) → LinkSits d (Acts d n now) w → EndIsReady t e now → LinkSits d (Rests d) (ended n e w)
-  unfolding ended
   ends w e now sits ready = record {
     each = change_each (Sits d (Acts d n now)) (Sits d (Rests d)) w.actors n (moved e) sits.each
         (λ k a other h. record { process = h.process; there = h.there; variables = h.variables; rest = h.rest.0 other; items = h.items })
         (λ a _ h. moves e a now ready h);
     count = change-length w.actors n (moved e) ∙ sits.count;
     timers = after_fits d e w.timers n sits.timers;
+    ring = sits.ring;
   }
 
   finishes : (w : Core) (o : Outcome) → t.number ≡ n → LinkSits d (Rests d) w → EndsWell t o.end o.progress → AreRightEffects d t o.progress.effects

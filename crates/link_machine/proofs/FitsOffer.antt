@@ -6,7 +6,7 @@ use Rattle.std.proofs.lemmas.Bool.{false≢true}
 use Rattle.std.proofs.lemmas.Bool.Decides.{Decides-ltb}
 use Rattle.std.proofs.lemmas.List.Folds.{Any-from_list_any}
 use Rattle.turn_code.specs.Values.{sort_of}
-use Rattle.turn_code.specs.Routes.{IsProcess, Brings}
+use Rattle.turn_code.specs.Routes.{the_process, Brings}
 use Rattle.turn_code.specs.Transitions.{parameters_of}
 use Rattle.turn_code.specs.declared.value.Sort.{Sort}
 use Rattle.turn_code.specs.declared.value.Sort.TheVariants.{Integer, Boolean}
@@ -41,9 +41,9 @@ from_environment : (p : Party) → is_environment p ≡ true → p ≡ Environme
 from_environment Environment e = refl
 from_environment (Process m) e = absurd (false≢true e)
 
-to_process : (n : ℕ) (p : Party) → is_process n p ≡ true → IsProcess n p
+to_process : (n : ℕ) (p : Party) → is_process n p ≡ true → p ≡ the_process n
 to_process n Environment e = absurd (false≢true e)
-to_process n (Process m) e = eqb-true m.0 n e
+to_process n (Process m) e = ap the_process (eqb-true m.0 n e)
 
 carried : (s : SignalNumber) (xs : List SignalNumber) → list_any (λ (x : SignalNumber). x.0 == s.0) xs ≡ true → Contains xs s
 carried s xs e =

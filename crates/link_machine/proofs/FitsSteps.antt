@@ -10,7 +10,7 @@ use Rattle.turn_code.specs.Valid.{IsValid}
 use Rattle.turn_code.specs.Fits.{HaveSorts}
 use Rattle.turn_code.specs.Safe.{RunLaw}
 use Rattle.turn_code.specs.Effects.{EffectsLaw}
-use Rattle.turn_code.specs.Start.{StartLaw}
+use Rattle.turn_code.specs.Start.{initial_values, StartLaw}
 use Rattle.turn_code.specs.declared.input.Input.{Input}
 use Rattle.turn_code.specs.declared.input.Place.TheVariants.{Start}
 use Rattle.turn_code.specs.declared.draft.Draft.{Draft}
@@ -21,14 +21,15 @@ use Rattle.link_machine.specs.Core.{Core, change, is_out}
 use Rattle.link_machine.specs.Looking.{looks, begun, skipped}
 use Rattle.link_machine.specs.Effects.{receives, hears, is_full}
 use Rattle.link_machine.specs.Refusals.{first_of, has_stopped, is_offered, offer_rows, is_nothing, is_ignored, is_counted_out, begin_rows, of_actor, refuses}
-use Rattle.link_machine.specs.Fits.{TimerFits, ActorFits, CoreFits, initial_values}
+use Rattle.link_machine.specs.Fits.{TimerFits, ActorFits, EmittedFits, CoreFits}
 use Rattle.link_machine.specs.Kept.{opened_actor, opened}
 use Rattle.link_machine.specs.Ledger.{runs}
-use Rattle.link_machine.specs.Step.{offered_arrival, notified, due_in, passed, step}
+use Rattle.link_machine.specs.Step.{offered_arrival, notified, due_in, passed, tail_of, step}
 use Rattle.link_machine.specs.declared.actor.Actor.{Actor}
 use Rattle.link_machine.specs.declared.event.Event.{Event}
 use Rattle.link_machine.specs.declared.event.Event.TheVariants.{Offer, Begin, Skip, Finish, Advance, TakeEnv}
 use Rattle.link_machine.specs.declared.event.Offer.{Offer as Offered}
+use Rattle.link_machine.specs.declared.reply.Emitted.{Emitted}
 use Rattle.link_machine.specs.declared.reply.Refusal.{Refusal}
 use Rattle.link_machine.specs.declared.reply.Refusal.TheVariants as refusal
 use Rattle.link_machine.proofs.FitsLists.{EachAt, change-length, all_from_each}
@@ -89,7 +90,12 @@ passed_sits is_due d R w k sits =
       each = notified_sits d R (due_in w k) w.actors fit sits.each;
       count = notified-length (due_in w k) w.actors ∙ sits.count;
       timers = retained d w.timers.deadlines clock sits.timers;
+      ring = sits.ring;
     }
+
+tail_fits : (d : Draft) (xs : List Emitted) → AllByRecursion (EmittedFits d) xs → AllByRecursion (EmittedFits d) (tail_of xs)
+tail_fits d [] all = tt
+tail_fits d (x ∷ xs) all = all.1
 
 -- ---- all events
 
@@ -104,18 +110,19 @@ step_fits runs_well gives_right start_fits is_due d w (Begin n) valid fits accep
     let then = with_actors d (Rests d) w n (begun d n w.turns) (link_of d w fits) (λ a e h.
     let found = accepted_begin d n w.turns a (ap (of_actor (λ a. first_of (begin_rows d n w.turns a))) (sym e) ∙ accepted) in
     sits_begun start_fits d valid n w.turns a h found.0 found.1) in
-    core_of d _ (record { each = then.each; count = then.count; timers = then.timers })
+    core_of d _ (record { each = then.each; count = then.count; timers = then.timers; ring = then.ring })
 step_fits runs_well gives_right start_fits is_due d w (Skip n) valid fits accepted =
     core_of d _ (with_actors d (Rests d) w n (skipped d n) (link_of d w fits) (λ a e h. sits_skipped d n a h))
 step_fits runs_well gives_right start_fits is_due d w (Finish n) valid fits accepted = finish_fits runs_well gives_right d w n valid fits
 step_fits runs_well gives_right start_fits is_due d w (Advance k) valid fits accepted = core_of d _ (passed_sits is_due d (Rests d) w k (link_of d w fits))
-step_fits runs_well gives_right start_fits is_due d w TakeEnv valid fits accepted = record { each = fits.each; count = fits.count; timers = fits.timers }
+step_fits runs_well gives_right start_fits is_due d w TakeEnv valid fits accepted =
+    record { each = fits.each; count = fits.count; timers = fits.timers; ring = tail_fits d w.ring.items fits.ring }
 
 -- ---- the beginning
 
-initial_sorts : StartLaw → (d : Draft) → IsValid d → (n : ℕ) (p : DraftProcess) → slice_get d.processes n ≡ Some p → HaveSorts p.variables (initial_values p)
+initial_sorts : StartLaw → (d : Draft) → IsValid d → (n : ℕ) (p : DraftProcess) → slice_get d.processes n ≡ Some p → HaveSorts p.variables (initial_values p.variables)
 initial_sorts start_fits d valid n p there =
-    let first : Input = record { variables = record { items = initial_values p }; parameters = record { items = [] }; sender = None } in
+    let first : Input = record { variables = record { items = initial_values p.variables }; parameters = record { items = [] }; sender = None } in
     (start_fits d n 0 (start_of n p) first valid (ap (process_at d.signals n Start 0) there) (record { variables = refl; parameters = refl })).variables
 
 opened_actor_fits : StartLaw → (d : Draft) (port : ℕ) → IsValid d → (n : ℕ) (p : DraftProcess) → slice_get d.processes n ≡ Some p → ActorFits d n (opened_actor port p)
@@ -128,6 +135,7 @@ opened_fits start_fits d port env valid = record {
   each = λ n a e. by n a (slice_get d.processes n) refl (sym (slice_get-map (opened_actor port) d.processes n) ∙ e);
   count = length-map d.processes (opened_actor port);
   timers = no_timers d;
+  ring = tt;
 }
   where
     by : (n : ℕ) (a : Actor) (o : Option DraftProcess) → slice_get d.processes n ≡ o → option_map (opened_actor port) o ≡ Some a → ActorFits d n a

@@ -2,6 +2,7 @@
 use Rattle.std.proofs.Common.{◌≡◌, ℕ, ◌+◌, ◌^◌, ◌≤◌, cond, List, [], ◌∷◌, ◌++◌, length, map, Option, Some, None, refl, sym, ap, ◌∙◌, subst, arith}
 use Rattle.std.specs.Prelude.{count_by}
 use Rattle.std.proofs.lemmas.List.Sums.{sum_by-cons, sum_by_push}
+use Rattle.turn_code.specs.Outcome.{Meaning}
 use Rattle.turn_code.specs.Safe.{SafeLaw, RunLaw}
 use Rattle.turn_code.specs.Valid.{IsValid}
 use Rattle.turn_code.specs.declared.draft.Draft.{Draft}
@@ -10,12 +11,14 @@ use Rattle.link_machine.specs.Core.{Core, outs}
 use Rattle.link_machine.specs.Fits.{CoreFits}
 use Rattle.link_machine.specs.Step.{Stepped, step}
 use Rattle.link_machine.specs.Refusals.{refuses}
-use Rattle.link_machine.specs.Ledger.{Ledger, runs, state_of, refusal_by, asked, ask, ask_by, room, rebased}
+use Rattle.link_machine.specs.Ledger.{Ledger, runs, state_by, state_of, refusal_by, asked, ask, ask_by, room, rebased, after_by}
 use Rattle.link_machine.specs.Kept.{Stands, IsBounded, IsKept, is_finish, opened_actor, opened, opened_book}
+use Rattle.link_machine.specs.Laws.{WithinAt, AllWithin}
 use Rattle.link_machine.specs.declared.event.Event.{Event}
+use Rattle.link_machine.specs.declared.event.Event.TheVariants.{Offer, Begin, Skip, Finish, Advance, TakeEnv}
 use Rattle.link_machine.specs.declared.reply.Refusal.{Refusal}
 use Rattle.link_machine.proofs.Replays.{with_event, state_more, fits_law}
-use Rattle.link_machine.proofs.Ends.{passes_otherwise}
+use Rattle.link_machine.proofs.Ends.{passes_otherwise, finish_law}
 use Rattle.link_machine.proofs.Texts.{StepFits, fits_next}
 use Rattle.link_machine.proofs.Counts.{weight}
 use Rattle.link_machine.proofs.Bounds.{IsCounted, Moves, moves, room_passes, bounded_next}
@@ -62,6 +65,38 @@ module _ (steps : StepFits) (safe : SafeLaw) (law : RunLaw) where
   pub asks : (b : Ledger) (e : Event) → IsKept b → IsKept (ask b e).book
   unfolding ask_by
   asks b e h = kept_asked b e (step b.set (runs b.set) (state_of b) e) (refusal_by (runs b.set) b e) h (kept_next b e h)
+
+-- ---- a list of events
+
+asked_set : (b : Ledger) (e : Event) (s : Stepped) (o : Option Refusal) → (asked b e s o).book.set ≡ b.set
+asked_set b e s None = refl
+asked_set b e s (Some r) = refl
+
+ask_set : (m : Meaning) (b : Ledger) (e : Event) → (ask_by m b e).book.set ≡ b.set
+unfolding ask_by
+ask_set m b e = asked_set b e (step b.set m (state_by m b) e) (refusal_by m b e)
+
+module _ (steps : StepFits) (safe : SafeLaw) (law : RunLaw) where
+  kept_after : (d : Draft) (b : Ledger) (es : List Event) → b.set ≡ d → IsKept b → IsKept (after_by (runs d) b es)
+  kept_after d b [] same h = h
+  kept_after d b (e ∷ es) same h =
+      kept_after d (ask_by (runs d) b e).book es (ask_set (runs d) b e ∙ same)
+      (subst (λ (x : Draft). IsKept (ask_by (runs x) b e).book) same (asks steps safe law b e h))
+
+  pub lists : (b : Ledger) (es : List Event) → IsKept b → IsKept (after_by (runs b.set) b es)
+  lists b es h = kept_after b.set b es refl h
+
+  within_at : (b : Ledger) (e : Event) → IsKept b → WithinAt b e
+  within_at b (Offer o) h = tt
+  within_at b (Begin n) h = tt
+  within_at b (Skip n) h = tt
+  within_at b (Finish n) h = λ t out. finish_law safe law b n t h out
+  within_at b (Advance k) h = tt
+  within_at b TakeEnv h = tt
+
+  pub within_law : (b : Ledger) (es : List Event) → IsKept b → AllWithin b es
+  within_law b [] h = tt
+  within_law b (e ∷ es) h = (within_at b e h, within_law (ask b e).book es (asks steps safe law b e h))
 
 -- ---- a rebase
 

@@ -11,3 +11,4 @@ pub mod FitsFinish
 pub mod FitsBegin
 pub mod FitsOffer
 pub mod FitsSteps
+pub mod Places

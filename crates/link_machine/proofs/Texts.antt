@@ -77,6 +77,10 @@ same_asked act b e means fits =
     ∙ ap (λ (s : Stepped). asked b e s (refusal_by (runs b.set) b e))
     (same_step act b.set (state_of b) e means (fits_last b.set b.base b.journal fits))
 
+same_state : (act : Meaning) (d : Draft) (b : Ledger) → Means act d → Along d b → state_by act b ≡ state_of b
+same_state act d b means along =
+    same_replay act b.set b.base b.journal (subst (λ (x : Draft). Means act x) (sym along.set) means) along.fits
+
 same_ask : (act : Meaning) (d : Draft) (b : Ledger) (e : Event) → Means act d → Along d b → ask_by act b e ≡ ask_by (runs d) b e
 same_ask act d b e means along =
     same_asked act b e (subst (λ (x : Draft). Means act x) (sym along.set) means) along.fits
@@ -120,10 +124,17 @@ module _ (steps : StepFits) (act : Meaning) (d : Draft) (valid : IsValid d) (mea
       ap (λ (x : Asked). after_by act x.book es) (same_ask act d b e means h)
       ∙ same_after (ask_by (runs d) b e).book es (along_ask steps d valid b e h)
 
+  along_after : (b : Ledger) (es : List Event) → Along d b → Along d (after_by (runs d) b es)
+  along_after b [] h = h
+  along_after b (e ∷ es) h = along_after (ask_by (runs d) b e).book es (along_ask steps d valid b e h)
+
 pub text_law : StepFits → TextLaw
 text_law steps act b es kept means =
     let along : Along b.set b = record { set = refl; fits = kept.stands.along } in
+    let book : after_by act b es ≡ after_by (runs b.set) b es = same_after steps act b.set kept.stands.valid means b es along in
     record {
       answers = same_answers steps act b.set kept.stands.valid means b es along;
-      book = same_after steps act b.set kept.stands.valid means b es along;
+      book = book;
+      state = ap (λ (x : Ledger). state_by act x) book
+          ∙ same_state act b.set (after_by (runs b.set) b es) means (along_after steps act b.set kept.stands.valid means b es along);
     }

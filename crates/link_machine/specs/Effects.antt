@@ -14,7 +14,7 @@ use Rattle.input_port.specs.Queue.{Queue, signal_count, without_timer}
 use Rattle.input_port.specs.declared.queue.Arrival.{Arrival}
 use Rattle.input_port.specs.declared.queue.Item.TheVariants.{Signal, Timer}
 use Rattle.tick_wheel.specs.TimerId.{TimerId}
-use Rattle.tick_wheel.specs.Timers.{Timers, Deadlines}
+use Rattle.tick_wheel.specs.Timers.{Timers}
 use Rattle.link_machine.specs.Core.{Core, Ring, change}
 use Rattle.link_machine.specs.declared.actor.Actor.{Actor}
 use Rattle.link_machine.specs.declared.actor.Standing.{Standing}

@@ -4,11 +4,12 @@ use Rattle.std.specs.Prelude.{◌≡◌, ℕ, ◌<◌, List, length, map, Any, O
 use Rattle.std.specs.List.{AllByRecursion}
 use Rattle.std.specs.FinMap as finite
 use Rattle.turn_code.specs.Values.{sort_of}
-use Rattle.turn_code.specs.Routes.{Brings}
+use Rattle.turn_code.specs.Routes.{Brings, Reaches}
 use Rattle.turn_code.specs.Fits.{HaveSorts, AreSet, Fits}
 use Rattle.turn_code.specs.Start.{initial_values}
 use Rattle.turn_code.specs.Transitions.{parameters_of}
 use Rattle.turn_code.specs.declared.value.Value.{Value}
+use Rattle.turn_code.specs.declared.input.Party.TheVariants.{Environment}
 use Rattle.turn_code.specs.declared.input.Place.TheVariants.{Start, State}
 use Rattle.turn_code.specs.declared.draft.Draft.{Draft}
 use Rattle.turn_code.specs.declared.draft.DraftProcess.{DraftProcess}
@@ -23,6 +24,7 @@ use Rattle.link_machine.specs.declared.actor.Actor.{Actor}
 use Rattle.link_machine.specs.declared.actor.Given.{Given}
 use Rattle.link_machine.specs.declared.actor.Standing.{Standing}
 use Rattle.link_machine.specs.declared.actor.Standing.TheVariants.{At, Stopped}
+use Rattle.link_machine.specs.declared.reply.Emitted.{Emitted}
 
 -- the signal is one of the set's, its parameters have that signal's sorts, and a route brought it from its sender to process n
 pub record Arrived (d : Draft) (n : ℕ) (a : Arrival) : Type 0 where
@@ -71,8 +73,17 @@ pub record TimerFits (d : Draft) (t : TimerId) : Type 0 where
 abbrev pub TimersFit : Draft → Deadlines → Type 0
 TimersFit d deadlines = (t : TimerId) (until : ℕ) → finite.get deadlines t ≡ Some until → TimerFits d t
 
+-- a process of the set sent it, its signal is one of the set's, its parameters have that signal's sorts, and a route carries it to the
+-- environment
+pub record EmittedFits (d : Draft) (x : Emitted) : Type 0 where
+  pub sender : x.sender < length d.processes
+  pub there : x.signal.0 < length d.signals
+  pub sorts : map sort_of x.parameters.items ≡ parameters_of (slice_get d.signals x.signal.0)
+  pub reaches : Reaches d.routes x.sender Environment x.signal
+
 -- all of a link: there is an actor for each process
 pub record CoreFits (d : Draft) (w : Core) : Type 0 where
   pub each : (n : ℕ) (a : Actor) → slice_get w.actors n ≡ Some a → ActorFits d n a
   pub count : length w.actors ≡ length d.processes
   pub timers : TimersFit d w.timers.deadlines
+  pub ring : AllByRecursion (EmittedFits d) w.ring.items

@@ -1,5 +1,5 @@
 -- What holds of every book: its state is the replay of its journal, all fits in each state on the way, and its numbers stay within their bounds.
-use Rattle.std.specs.Prelude.{◌≡◌, ℕ, ◌+◌, ◌*◌, ◌^◌, ◌≤◌, Bool, true, false, List, [], ◌∷◌, length, map, count_by, Option, None, Some}
+use Rattle.std.specs.Prelude.{◌≡◌, ℕ, ◌+◌, ◌*◌, ◌^◌, ◌≤◌, Bool, true, false, List, [], ◌∷◌, length, map, count_by, None}
 use Rattle.std.specs.FinMap as finite
 use Rattle.turn_code.specs.Valid.{IsValid}
 use Rattle.turn_code.specs.Start.{initial_values}
@@ -34,13 +34,13 @@ pub record Stands (b : Ledger) : Type 0 where
   pub along : FitsAlong b.set b.base b.journal
   pub finishes : (state_of b).finishes ≡ b.base.finishes + count_by is_finish b.journal
 
--- the journal keeps a place for each turn that is out, and all numbers stay within their bounds
+-- the journal keeps a place for each turn that is out, each turn that began is out or has ended, and all numbers stay within their bounds
 pub record IsBounded (b : Ledger) (w : Core) : Type 0 where
   pub room : length b.journal + outs w.actors ≤ b.limit
   pub places : b.first + length b.journal + outs w.actors ≤ 2 ^ 56 + b.limit
   pub limit : b.limit ≤ 65536
   pub turns : w.turns ≤ 2 ^ 40
-  pub finishes : w.finishes + outs w.actors ≤ w.turns
+  pub finishes : w.finishes + outs w.actors ≡ w.turns
   pub instructions : w.instructions ≤ 512 * w.finishes
   pub clock : w.timers.clock ≤ 2 ^ 62
 

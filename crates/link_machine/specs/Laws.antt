@@ -1,20 +1,30 @@
 -- What follows from the machine alone, for every book and every list of events.
-use Rattle.std.specs.Prelude.{◌≡◌, ℕ, ◌≤◌, List, [], ◌∷◌, ◌++◌, Option, None, Some}
+use Rattle.std.specs.Prelude.{◌≡◌, ℕ, ◌+◌, ◌^◌, ◌<◌, ◌≤◌, ◌↔◌, List, [], ◌∷◌, None, Some, slice_get}
 use Rattle.turn_code.specs.Outcome.{Outcome, Meaning, Means}
+use Rattle.turn_code.specs.Transitions.{Transition, transition_at}
 use Rattle.turn_code.specs.Valid.{IsValid}
+use Rattle.turn_code.specs.Fits.{HaveSorts, FitsTransition, Fits}
+use Rattle.turn_code.specs.declared.numbers.StateNumber.{StateNumber}
+use Rattle.turn_code.specs.declared.input.Place.TheVariants.{State}
 use Rattle.turn_code.specs.declared.draft.Draft.{Draft}
+use Rattle.turn_code.specs.declared.draft.DraftProcess.{DraftProcess}
 use Rattle.turn_machine.specs.Turn.{Turn, outcome_of}
-use Rattle.link_machine.specs.Fits.{CoreFits}
+use Rattle.input_port.specs.declared.queue.Item.{Item}
+use Rattle.link_machine.specs.Looking.{trigger_of, input_for, input_with}
+use Rattle.link_machine.specs.Fits.{ItemFits, IsReadyAt, CoreFits}
 use Rattle.link_machine.specs.Step.{Answer, Stuck, Says, step, report_of}
-use Rattle.link_machine.specs.Ledger.{Ledger, runs, state_of, refusal_by, ask, rebased, answers_by, after_by, turn_out}
+use Rattle.link_machine.specs.Ledger.{Ledger, runs, state_by, state_of, next, event_at, refusal_by, ask, rebased, answers_by, after_by, turn_out}
 use Rattle.link_machine.specs.Kept.{IsKept, opened_book}
+use Rattle.link_machine.specs.declared.actor.Actor.{Actor}
 use Rattle.link_machine.specs.declared.event.Event.{Event}
-use Rattle.link_machine.specs.declared.event.Event.TheVariants.{Finish}
+use Rattle.link_machine.specs.declared.event.Event.TheVariants.{Offer, Begin, Skip, Finish, Advance, TakeEnv}
+use Rattle.link_machine.specs.declared.reply.Refusal.TheVariants.{Stranger}
 use Rattle.link_machine.specs.declared.reply.Reply.TheVariants as reply
 
--- an event and a rebase keep what holds of every book, and a book begins with it
+-- an event, a list of events and a rebase keep what holds of every book, and a book begins with it
 pub record KeepsLaw : Type 0 where
   pub asks : (b : Ledger) (e : Event) → IsKept b → IsKept (ask b e).book
+  pub lists : (b : Ledger) (es : List Event) → IsKept b → IsKept (after_by (runs b.set) b es)
   pub rebases : (b : Ledger) → IsKept b → IsKept (rebased b)
   pub opens : (d : Draft) (port env journal : ℕ) → IsValid d → journal ≤ 65536 → IsKept (opened_book d port env journal)
 
@@ -26,10 +36,11 @@ StateLaw = (b : Ledger) (e : Event) → refusal_by (runs b.set) b e ≡ None
 abbrev pub FitsLaw : Type 0
 FitsLaw = (b : Ledger) → IsKept b → CoreFits b.set (state_of b)
 
--- a list of events has the same answers and leaves the same book by the code of the set and by anything that the set means
+-- a list of events has the same answers, and leaves the same book in the same state, by the code of the set and by anything that the set means
 pub record SameByText (act : Meaning) (b : Ledger) (es : List Event) : Type 0 where
   pub answers : answers_by act b es ≡ answers_by (runs b.set) b es
   pub book : after_by act b es ≡ after_by (runs b.set) b es
+  pub state : state_by act (after_by act b es) ≡ state_of (after_by (runs b.set) b es)
 
 abbrev pub TextLaw : Type 0
 TextLaw = (act : Meaning) (b : Ledger) (es : List Event) → IsKept b → Means act b.set → SameByText act b es
@@ -43,6 +54,46 @@ pub record FinishesWithin (b : Ledger) (n : ℕ) (t : Turn) : Type 0 where
 
 abbrev pub FinishLaw : Type 0
 FinishLaw = (b : Ledger) (n : ℕ) (t : Turn) → IsKept b → turn_out b n ≡ Some t → FinishesWithin b n t
+
+-- so where the event is the end of a turn
+abbrev pub WithinAt : Ledger → Event → Type 0
+WithinAt b (Offer o) = Unit {0}
+WithinAt b (Begin n) = Unit {0}
+WithinAt b (Skip n) = Unit {0}
+WithinAt b (Finish n) = (t : Turn) → turn_out b n ≡ Some t → FinishesWithin b n t
+WithinAt b (Advance k) = Unit {0}
+WithinAt b TakeEnv = Unit {0}
+
+-- so along a list of events
+abbrev pub AllWithin : Ledger → List Event → Type 0
+AllWithin b [] = Unit {0}
+AllWithin b (e ∷ es) = WithinAt b e × AllWithin (ask b e).book es
+
+abbrev pub WithinLaw : Type 0
+WithinLaw = (b : Ledger) (es : List Event) → IsKept b → AllWithin b es
+
+-- a finish is refused where the actor has no turn out, there alone, and by one name
+pub record OutLaw : Type 0 where
+  pub stranger : (b : Ledger) (n : ℕ) → IsKept b → (turn_out b n ≡ None) ↔ (refusal_by (runs b.set) b (Finish n) ≡ Some Stranger)
+  pub own : (b : Ledger) (n : ℕ) (t : Turn) → IsKept b → turn_out b n ≡ Some t → refusal_by (runs b.set) b (Finish n) ≡ None
+
+-- what may wait for a process fits each input of each of its states that waits for it, the first one too, with any variables that fit the state
+pub record ItemLaw : Type 0 where
+  pub each : (d : Draft) (n : ℕ) (p : DraftProcess) (a : Actor) (x : Item) (q : StateNumber) (i : ℕ) (t : Transition)
+      → slice_get d.processes n ≡ Some p → HaveSorts p.variables a.variables.items → ItemFits d n p x → IsReadyAt p q.0 a.variables.items
+      → transition_at d n (State q) i ≡ Some t → t.trigger ≡ Some (trigger_of x) → FitsTransition d t (input_with a (Some x))
+  pub first : (d : Draft) (n : ℕ) (p : DraftProcess) (a : Actor) (x : Item) (q : StateNumber) (i : ℕ)
+      → slice_get d.processes n ≡ Some p → HaveSorts p.variables a.variables.items → ItemFits d n p x → IsReadyAt p q.0 a.variables.items
+      → input_for d n q.0 x ≡ Some i → Fits d n (State q) i (input_with a (Some x))
+
+-- an accepted event gets the next place and stays there as others come; a rebase takes all away and leaves the next place
+pub record PlaceLaw : Type 0 where
+  pub accepted : (b : Ledger) (e : Event) → refusal_by (runs b.set) b e ≡ None → event_at (ask b e).book (next b) ≡ Some e
+  pub follows : (b : Ledger) (e : Event) → refusal_by (runs b.set) b e ≡ None → next (ask b e).book ≡ next b + 1
+  pub stays : (b : Ledger) (es : List Event) (place : ℕ) (e : Event) → event_at b place ≡ Some e → event_at (after_by (runs b.set) b es) place ≡ Some e
+  pub emptied : (b : Ledger) (place : ℕ) → event_at (rebased b) place ≡ None
+  pub onward : (b : Ledger) → next (rebased b) ≡ next b
+  pub below : (b : Ledger) → IsKept b → next b < 2 ^ 57
 
 abbrev pub IsSaid : Answer → Type 0
 IsSaid Stuck = ⊥

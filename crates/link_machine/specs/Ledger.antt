@@ -1,5 +1,5 @@
 -- The history of a link: a base state, and the events since then. The state at any time is the replay of these.
-use Rattle.std.specs.Prelude.{ℕ, ◌+◌, ◌-◌, ◌^◌, List, [], ◌∷◌, ◌++◌, length, Option, None, Some, slice_get, option_and_then, option_map, nat_le, if◌then◌else◌}
+use Rattle.std.specs.Prelude.{ℕ, ◌+◌, ◌-◌, ◌^◌, List, [], ◌∷◌, ◌++◌, length, Option, None, Some, slice_get, nat_lt, nat_le, if◌then◌else◌}
 use Rattle.turn_code.specs.Outcome.{Outcome, Meaning, outcome_in}
 use Rattle.turn_code.specs.Run.{run}
 use Rattle.turn_code.specs.Transitions.{Transition, transition_at}
@@ -55,6 +55,10 @@ state_of b = state_by (runs b.set) b
 -- the place of the next event
 abbrev pub next : Ledger → ℕ
 next b = b.first + length b.journal
+
+-- the event at a place, none at a place before the first and at one that is still to come
+abbrev pub event_at : Ledger → ℕ → Option Event
+event_at b place = if nat_lt place b.first then None else slice_get b.journal (place - b.first)
 
 -- how many places are free: each turn that is out keeps one, and from place 2^56 on none is
 unfoldable pub room : Ledger → Core → ℕ

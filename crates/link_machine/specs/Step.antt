@@ -1,5 +1,5 @@
 -- The machine of a link: what an accepted event makes of its state, and what is answered (Z.100, the behaviour of a set of processes).
-use Rattle.std.specs.Prelude.{ℕ, ◌+◌, List, [], ◌∷◌, ◌++◌, length, Option, None, Some, slice_get}
+use Rattle.std.specs.Prelude.{ℕ, ◌+◌, List, [], ◌∷◌, length, Option, None, Some, slice_get}
 use Rattle.turn_code.specs.Outcome.{Outcome, Meaning}
 use Rattle.turn_code.specs.declared.input.Place.{Place}
 use Rattle.turn_code.specs.declared.input.Place.TheVariants.{Start}

@@ -1,12 +1,12 @@
 //! What follows from the machine alone. Each call costs nothing.
 
-ghost use Rattle.link_machine.specs.Laws.{KeepsLaw, StateLaw, FitsLaw, TextLaw, FinishLaw, NeverStuckLaw};
+ghost use Rattle.link_machine.specs.Laws.{KeepsLaw, StateLaw, FitsLaw, ItemLaw, TextLaw, FinishLaw, WithinLaw, NeverStuckLaw, OutLaw, PlaceLaw};
 
 use tick_wheel::laws::due_law;
 use turn_code::laws::{effects_law, run_law, safe_law, start_law};
 
-/// Each event and each rebase keeps what holds of every book: its state is the replay of its journal, all fits in each
-/// state on the way, its numbers stay within their bounds.
+/// Each event, each list of events and each rebase keeps what holds of every book: its state is the replay of its journal,
+/// all fits in each state on the way, its numbers stay within their bounds.
 pub fn keeps_law()
     ensures { KeepsLaw }
 {
@@ -27,7 +27,13 @@ pub fn fits_law()
     ensures { FitsLaw }
 {}
 
-/// Any list of events has the same answers, and leaves the same book, by the code of the set and by what it means.
+/// What may wait for a process fits each input that waits for it, in every state of the process.
+pub fn item_law()
+    ensures { ItemLaw }
+{}
+
+/// Any list of events has the same answers, and leaves the same book in the same state, by the code of the set and by what
+/// it means.
 pub fn text_law()
     ensures { TextLaw }
 {
@@ -44,6 +50,27 @@ pub fn finish_law()
     safe_law();
     run_law();
 }
+
+/// Along any list of events each turn that ends does so within the budget of its certificate.
+pub fn within_law()
+    ensures { WithinLaw }
+{
+    safe_law();
+    run_law();
+    effects_law();
+    start_law();
+    due_law();
+}
+
+/// The end of a turn is refused where the actor has no turn out, and there alone.
+pub fn out_law()
+    ensures { OutLaw }
+{}
+
+/// An accepted event gets the next place of the journal, and stays there until a rebase.
+pub fn place_law()
+    ensures { PlaceLaw }
+{}
 
 /// No turn ever gets stuck.
 pub fn never_stuck_law()

@@ -1,8 +1,10 @@
 //! What is answered to the events of a link.
 
+ghost use Rattle.std.specs.Prelude.{◌≡◌};
+
 use arrayvec::ArrayVec;
 use thiserror::Error;
-use turn_code::{End, Place, SignalNumber, Trigger, Value};
+use turn_code::{End, Place, SignalNumber, Trigger, Value, copied_values};
 
 /// Why an event did not happen. Then nothing changes.
 #[derive(Clone, Copy, PartialEq, Eq, Debug, Error)]
@@ -120,8 +122,20 @@ pub enum Reply {
     Refused(Refusal),
 }
 
+impl Emitted {
+    /// The same once more. It takes no memory.
+    pub fn copy(&self) -> Emitted
+        ensures { result ≡ self.now }
+    {
+        Emitted {
+            sender: self.sender,
+            signal: self.signal,
+            parameters: copied_values(&self.parameters),
+        }
+    }
+}
+
 impl Default for Lost {
-    ghost use Rattle.std.specs.Prelude.{◌≡◌};
     ghost use Rattle.link_machine.specs.declared.reply.Cause.TheVariants.{Full};
 
     ghost is_default = { λ lost. lost ≡ record { place = 0; cause = Full } };
