@@ -12,7 +12,7 @@ use Rattle.link_machine.specs.Fits.{CoreFits}
 use Rattle.link_machine.specs.Step.{Stepped, step}
 use Rattle.link_machine.specs.Refusals.{refuses}
 use Rattle.link_machine.specs.Ledger.{Ledger, runs, state_by, state_of, refusal_by, asked, ask, ask_by, room, rebased, after_by}
-use Rattle.link_machine.specs.Kept.{Stands, IsBounded, IsKept, is_finish, opened_actor, opened, opened_book}
+use Rattle.link_machine.specs.Kept.{Stands, IsBounded, AreNumbered, IsKept, is_finish, opened_actor, opened, opened_book}
 use Rattle.link_machine.specs.Laws.{WithinAt, AllWithin}
 use Rattle.link_machine.specs.declared.event.Event.{Event}
 use Rattle.link_machine.specs.declared.event.Event.TheVariants.{Offer, Begin, Skip, Finish, Advance, TakeEnv}
@@ -21,6 +21,7 @@ use Rattle.link_machine.proofs.Replays.{with_event, state_more, fits_law}
 use Rattle.link_machine.proofs.Ends.{passes_otherwise, finish_law}
 use Rattle.link_machine.proofs.Texts.{StepFits, fits_next}
 use Rattle.link_machine.proofs.Counts.{weight}
+use Rattle.link_machine.proofs.Numbers.{numbered_step, numbered_opened}
 use Rattle.link_machine.proofs.Bounds.{IsCounted, Moves, moves, room_passes, bounded_next}
 
 -- ---- an event
@@ -56,6 +57,7 @@ module _ (steps : StepFits) (safe : SafeLaw) (law : RunLaw) where
         bounded = subst (λ (w : Core). IsBounded (with_event b e) w) (sym (state_more b e))
             (bounded_next b e (step b.set (runs b.set) (state_of b) e).to (state_of b) h.bounded m
             (room_passes (room b (state_of b)) e (refuses b.set (state_of b) e) passes));
+        numbered = subst (λ (w : Core). AreNumbered w) (sym (state_more b e)) (numbered_step b.set (state_of b) e h.numbered);
       }
 
   kept_asked : (b : Ledger) (e : Event) (s : Stepped) (o : Option Refusal) → IsKept b → (o ≡ None → IsKept (with_event b e)) → IsKept (asked b e s o).book
@@ -116,6 +118,7 @@ rebases b h =
         instructions = h.bounded.instructions;
         clock = h.bounded.clock;
       };
+      numbered = h.numbered;
     }
 
 -- ---- a book that is opened
@@ -144,4 +147,5 @@ opens fits d port env journal valid small =
         instructions = omega arith;
         clock = omega arith;
       };
+      numbered = numbered_opened d port env;
     }

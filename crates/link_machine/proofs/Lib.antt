@@ -12,3 +12,4 @@ pub mod FitsBegin
 pub mod FitsOffer
 pub mod FitsSteps
 pub mod Places
+pub mod Numbers

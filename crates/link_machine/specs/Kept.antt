@@ -1,5 +1,5 @@
 -- What holds of every book: its state is the replay of its journal, all fits in each state on the way, and its numbers stay within their bounds.
-use Rattle.std.specs.Prelude.{◌≡◌, ℕ, ◌+◌, ◌*◌, ◌^◌, ◌≤◌, Bool, true, false, List, [], ◌∷◌, length, map, count_by, None}
+use Rattle.std.specs.Prelude.{◌≡◌, ℕ, ◌+◌, ◌*◌, ◌^◌, ◌<◌, ◌≤◌, Bool, true, false, List, [], ◌∷◌, length, map, count_by, None, Some, slice_get}
 use Rattle.std.specs.FinMap as finite
 use Rattle.turn_code.specs.Valid.{IsValid}
 use Rattle.turn_code.specs.Start.{initial_values}
@@ -11,6 +11,7 @@ use Rattle.link_machine.specs.Fits.{CoreFits}
 use Rattle.link_machine.specs.Step.{step}
 use Rattle.link_machine.specs.Ledger.{Ledger, runs, state_of}
 use Rattle.link_machine.specs.declared.actor.Actor.{Actor}
+use Rattle.link_machine.specs.declared.actor.Given.{Given}
 use Rattle.link_machine.specs.declared.actor.Standing.TheVariants.{At}
 use Rattle.link_machine.specs.declared.event.Event.{Event}
 use Rattle.link_machine.specs.declared.event.Event.TheVariants.{Offer, Begin, Skip, Finish, Advance, TakeEnv}
@@ -44,9 +45,21 @@ pub record IsBounded (b : Ledger) (w : Core) : Type 0 where
   pub instructions : w.instructions ≤ 512 * w.finishes
   pub clock : w.timers.clock ≤ 2 ^ 62
 
+-- actor n has this turn out
+pub record HasOut (actors : List Actor) (n : ℕ) (g : Given) : Type 0 where
+  pub actor : Actor
+  pub there : slice_get actors n ≡ Some actor
+  pub out : actor.given ≡ Some g
+
+-- each turn that is out has a number of its own, below that of the next turn
+pub record AreNumbered (w : Core) : Type 0 where
+  pub below : (n : ℕ) (g : Given) → HasOut w.actors n g → g.turn < w.turns
+  pub apart : (m n : ℕ) (f g : Given) → HasOut w.actors m f → HasOut w.actors n g → f.turn ≡ g.turn → m ≡ n
+
 pub record IsKept (b : Ledger) : Type 0 where
   pub stands : Stands b
   pub bounded : IsBounded b (state_of b)
+  pub numbered : AreNumbered (state_of b)
 
 -- ---- how a book begins
 

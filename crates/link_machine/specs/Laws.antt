@@ -1,5 +1,5 @@
 -- What follows from the machine alone, for every book and every list of events.
-use Rattle.std.specs.Prelude.{◌≡◌, ℕ, ◌+◌, ◌^◌, ◌<◌, ◌≤◌, ◌↔◌, List, [], ◌∷◌, None, Some, slice_get}
+use Rattle.std.specs.Prelude.{◌≡◌, ◌≢◌, ℕ, ◌+◌, ◌^◌, ◌<◌, ◌≤◌, ◌↔◌, List, [], ◌∷◌, None, Some, slice_get}
 use Rattle.turn_code.specs.Outcome.{Outcome, Meaning, Means}
 use Rattle.turn_code.specs.Transitions.{Transition, transition_at}
 use Rattle.turn_code.specs.Valid.{IsValid}
@@ -10,12 +10,14 @@ use Rattle.turn_code.specs.declared.draft.Draft.{Draft}
 use Rattle.turn_code.specs.declared.draft.DraftProcess.{DraftProcess}
 use Rattle.turn_machine.specs.Turn.{Turn, outcome_of}
 use Rattle.input_port.specs.declared.queue.Item.{Item}
+use Rattle.link_machine.specs.Core.{Core}
 use Rattle.link_machine.specs.Looking.{trigger_of, input_for, input_with}
 use Rattle.link_machine.specs.Fits.{ItemFits, IsReadyAt, CoreFits}
 use Rattle.link_machine.specs.Step.{Answer, Stuck, Says, step, report_of}
 use Rattle.link_machine.specs.Ledger.{Ledger, runs, state_by, state_of, next, event_at, refusal_by, ask, rebased, answers_by, after_by, turn_out}
-use Rattle.link_machine.specs.Kept.{IsKept, opened_book}
+use Rattle.link_machine.specs.Kept.{HasOut, IsKept, opened_book}
 use Rattle.link_machine.specs.declared.actor.Actor.{Actor}
+use Rattle.link_machine.specs.declared.actor.Given.{Given}
 use Rattle.link_machine.specs.declared.event.Event.{Event}
 use Rattle.link_machine.specs.declared.event.Event.TheVariants.{Offer, Begin, Skip, Finish, Advance, TakeEnv}
 use Rattle.link_machine.specs.declared.reply.Refusal.TheVariants.{Stranger}
@@ -76,6 +78,18 @@ WithinLaw = (b : Ledger) (es : List Event) → IsKept b → AllWithin b es
 pub record OutLaw : Type 0 where
   pub stranger : (b : Ledger) (n : ℕ) → IsKept b → (turn_out b n ≡ None) ↔ (refusal_by (runs b.set) b (Finish n) ≡ Some Stranger)
   pub own : (b : Ledger) (n : ℕ) (t : Turn) → IsKept b → turn_out b n ≡ Some t → refusal_by (runs b.set) b (Finish n) ≡ None
+
+-- the turn with this number has begun, and no actor has it out
+pub record IsOver (w : Core) (turn : ℕ) : Type 0 where
+  pub began : turn < w.turns
+  pub nowhere : (n : ℕ) (g : Given) → HasOut w.actors n g → g.turn ≢ turn
+
+-- a turn that has ended is over, and stays so: nobody has a turn with its number out again
+pub record OverLaw : Type 0 where
+  pub ends : (b : Ledger) (n : ℕ) (t : Turn) → IsKept b → turn_out b n ≡ Some t → IsOver (state_of (ask b (Finish n)).book) t.turn
+  pub asks : (b : Ledger) (e : Event) (turn : ℕ) → IsOver (state_of b) turn → IsOver (state_of (ask b e).book) turn
+  pub rebases : (b : Ledger) (turn : ℕ) → IsOver (state_of b) turn → IsOver (state_of (rebased b)) turn
+  pub none : (b : Ledger) (n : ℕ) (t : Turn) → IsOver (state_of b) t.turn → turn_out b n ≢ Some t
 
 -- what may wait for a process fits each input of each of its states that waits for it, the first one too, with any variables that fit the state
 pub record ItemLaw : Type 0 where

@@ -1,6 +1,6 @@
 //! What follows from the machine alone. Each call costs nothing.
 
-ghost use Rattle.link_machine.specs.Laws.{KeepsLaw, StateLaw, FitsLaw, ItemLaw, TextLaw, FinishLaw, WithinLaw, NeverStuckLaw, OutLaw, PlaceLaw};
+ghost use Rattle.link_machine.specs.Laws.{KeepsLaw, StateLaw, FitsLaw, ItemLaw, TextLaw, FinishLaw, WithinLaw, NeverStuckLaw, OutLaw, OverLaw, PlaceLaw};
 
 use tick_wheel::laws::due_law;
 use turn_code::laws::{effects_law, run_law, safe_law, start_law};
@@ -66,6 +66,14 @@ pub fn within_law()
 pub fn out_law()
     ensures { OutLaw }
 {}
+
+/// A turn that has ended never comes back: from then on no actor has a turn with its number out.
+pub fn over_law()
+    ensures { OverLaw }
+{
+    safe_law();
+    run_law();
+}
 
 /// An accepted event gets the next place of the journal, and stays there until a rebase.
 pub fn place_law()
