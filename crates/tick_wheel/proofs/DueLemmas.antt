@@ -1,12 +1,12 @@
 -- A sorted permutation of what is due in a table is what is due in its map.
-use Rattle.std.proofs.Common.{◌≡◌, ℕ, ◌<◌, ◌≤◌, ◌+◌, Bool, true, false, ◌||◌, ◌&&◌, cond, T, ◌++◌, take, drop, List, [], ◌∷◌, length, get_or, map, Option, Some, None, refl, sym, ap, subst, ◌∙◌, inl, inr, arith, nat_le, ◌==◌, Decides, Ordering}
+use Rattle.std.proofs.Common.{◌≡◌, ℕ, ◌<◌, ◌≤◌, ◌+◌, Bool, true, false, ◌||◌, ◌&&◌, cond, T, ◌++◌, take, drop, List, [], ◌∷◌, length, get_or, map, is_some, Option, Some, None, refl, sym, ap, subst, ◌∙◌, inl, inr, arith, nat_le, ◌==◌, Decides, Ordering}
 use Rattle.std.specs.declared.cmp.Ordering.TheVariants.{Less, Equal, Greater}
 use Rattle.std.specs.Ordering.{eq_by_cmp, is_lt, is_eq, ordering_reverse, ordering_then, nat_cmp}
 use Rattle.std.specs.List.{filter, list_any, IsDistinct, AllByRecursion}
 use Rattle.std.specs.List.Sorted.{IsPermutation, IsSorted, IsStrictlySortedBy}
 use Rattle.std.specs.Cmp.{unsigned_tied}
 use Rattle.std.specs.FinMap as finite
-use Rattle.std.specs.FinMap.{find, is_sorted, get-from_sorted, get-from_entries, entries-from_sorted, same_map}
+use Rattle.std.specs.FinMap.{find, is_sorted, get-from_sorted, get-from_entries, get-entries, entries_sorted, contains_key-keys, entries-from_sorted, same_map}
 use Rattle.std.specs.FinMap.Entries.{below_all}
 use Rattle.std.proofs.lemmas.List.Sorted.{list_any-IsPermutation}
 use Rattle.std.proofs.lemmas.Map.Keys.{sorted_from_all_adjacent, sorted_head, sorted_tail, IsDistinct-cons, IsDistinct-IsPermutation, apart_from_distinct}
@@ -18,9 +18,9 @@ use Rattle.std.proofs.lemmas.Map.Views.{Contains-from_any, list_any-from_Contain
 use Rattle.std.proofs.lemmas.Option.{same_Some}
 use Rattle.tick_wheel.specs.TimerId.{TimerId, timer_cmp}
 use Rattle.tick_wheel.specs.Table.{timer_at, entries_from, due_from, deadlines_of}
-use Rattle.tick_wheel.specs.Timers.{due, due_cmp, in_order, pairs, IsDue}
+use Rattle.tick_wheel.specs.Timers.{Deadlines, due, due_cmp, in_order, pairs, IsDue}
 use Rattle.tick_wheel.specs.declared.Due.{Due}
-use Rattle.tick_wheel.proofs.Orders.{dues_total, exact_dues, pairs_apart}
+use Rattle.tick_wheel.proofs.Orders.{dues_total, exact_dues, exact_timers, pairs_apart}
 use Rattle.tick_wheel.proofs.TableLemmas.{entries-deadlines_of, get-deadlines_of, not_found}
 
 both : (a b : Bool) → a ≡ true → b ≡ true → (a && b) ≡ true
@@ -195,4 +195,89 @@ IsDue-from_sort table clock ys moved sorted =
           let means = is_that-means d clock (finite.get deadlines d.timer) in
           (λ h. means.0 (sym (among d) ∙ list_any-from_Contains (eq_by_cmp_equiv dues_total) d ys h), λ h. Contains-from_any (tells_apart exact_dues) d ys (among d ∙ means.1 h));
       in_order = IsStrictlySortedBy-from_distinct ys sorted (IsDistinct-IsPermutation (eq_by_cmp due_cmp) (eq_by_cmp_equiv dues_total).symm (due_from clock 0 table) ys moved (due_from-distinct clock 0 table));
+    }
+
+-- ---- any map
+
+first : (a b : Bool) → T (a && b) → T a
+first true b p = tt
+first false b p = p
+
+second : (a b : Bool) → T (a && b) → T b
+second true b p = p
+second false b p = absurd p
+
+less : (r : Ordering) → T (is_lt r) → r ≡ Less
+less Less p = refl
+less Equal p = absurd p
+less Greater p = absurd p
+
+tied : (r : Ordering) → is_eq r ≡ true → r ≡ Equal
+tied Less e = cc
+tied Equal e = refl
+tied Greater e = cc
+
+-- a timer below each of a list isn't found there
+not_below : (q : TimerId) (es : List (TimerId × ℕ)) → T (below_all timer_cmp q es) → find timer_cmp q es ≡ None
+not_below q [] h = refl
+not_below q (e ∷ es) h = ap (λ r. cond (is_eq r) (Some e.1) (find timer_cmp q es)) (less _ (first _ _ h)) ∙ not_below q es (second _ _ h)
+
+not_later : (q x : TimerId) (es : List (TimerId × ℕ)) → eq_by_cmp timer_cmp q x ≡ true → T (below_all timer_cmp x es) → find timer_cmp q es ≡ None
+not_later q x es t h = not_below q es (subst (λ y. T (below_all timer_cmp y es)) (sym (exact_timers q x (tied _ t))) h)
+
+-- the pairs among some entries with a deadline that has come
+abbrev due_among : ℕ → List (TimerId × ℕ) → List Due
+due_among clock es = filter (λ d. nat_le d.deadline clock) (map (λ (e : TimerId × ℕ). record { deadline = e.1; timer = e.0 }) es)
+
+due_among-has : (clock : ℕ) (es : List (TimerId × ℕ)) (d : Due) → T (is_sorted timer_cmp es) → list_any (eq_by_cmp due_cmp d) (due_among clock es) ≡ is_that d clock (find timer_cmp d.timer es)
+due_among-has clock [] d h = refl
+due_among-has clock (e ∷ es) d h =
+    let this = eq_by_cmp timer_cmp d.timer e.0 in
+    let front : Due = record { deadline = e.1; timer = e.0 } in
+    let later = due_among clock es in
+    let rest = due_among-has clock es d (second _ _ h) in
+    any_of (eq_by_cmp due_cmp d) (nat_le e.1 clock) front later
+    ∙ ap (λ b. cond (nat_le e.1 clock) (b || list_any (eq_by_cmp due_cmp d) later) (list_any (eq_by_cmp due_cmp d) later)) (same_pair d front)
+    ∙ front_is (d.deadline == e.1) this (nat_le e.1 clock) (list_any (eq_by_cmp due_cmp d) later) d clock (λ t. rest ∙ ap (is_that d clock) (not_later d.timer e.0 es t (first _ _ h)))
+    ∙ ap (cond this ((d.deadline == e.1) && nat_le e.1 clock)) rest
+    ∙ sym (is_that-cond d clock this (Some e.1) (find timer_cmp d.timer es))
+
+some_if : (b : Bool) → is_some (cond b (Some (tt {0})) None) ≡ b
+some_if true = refl
+some_if false = refl
+
+in_order-has : (d : Due) (xs : List Due) → list_any (eq_by_cmp due_cmp d) (in_order xs) ≡ list_any (eq_by_cmp due_cmp d) xs
+unfolding in_order
+in_order-has d xs =
+    sym (contains_key-keys (finite.from_entries {R = due_cmp} (marked xs)) d)
+    ∙ ap is_some (get-from_entries dues_total (marked xs) d ∙ find_marked d xs) ∙ some_if (list_any (eq_by_cmp due_cmp d) xs)
+
+keys_above : (d : Due) (es : List (Due × Unit {0})) → T (below_all due_cmp d es) → AllByRecursion (λ e. due_cmp d e ≡ Less) (map (λ (e : Due × Unit {0}). e.0) es)
+keys_above d [] h = tt
+keys_above d (e ∷ es) h = (less _ (first _ _ h), keys_above d es (second _ _ h))
+
+keys_rise : (es : List (Due × Unit {0})) → T (is_sorted due_cmp es) → IsStrictlySortedBy due_cmp (map (λ (e : Due × Unit {0}). e.0) es)
+unfolding IsStrictlySortedBy
+keys_rise [] h = tt
+keys_rise (e ∷ es) h = (keys_above e.0 es (first _ _ h), keys_rise es (second _ _ h))
+
+in_order-rises : (xs : List Due) → IsStrictlySortedBy due_cmp (in_order xs)
+unfolding in_order
+in_order-rises xs =
+    let m = finite.from_entries {R = due_cmp} (marked xs) in
+    keys_rise (finite.entries m) (entries_sorted m)
+
+-- in each map at each clock
+pub all_due : (deadlines : Deadlines) (clock : ℕ) → IsDue deadlines clock (due deadlines clock)
+unfolding due
+all_due deadlines clock =
+    let es = finite.entries deadlines in
+    let ys = in_order (due_among clock es) in
+    let among : (d : Due) → list_any (eq_by_cmp due_cmp d) ys ≡ is_that d clock (finite.get deadlines d.timer) = λ d.
+    in_order-has d (due_among clock es) ∙ due_among-has clock es d (entries_sorted deadlines) ∙ ap (is_that d clock) (sym (get-entries deadlines d.timer)) in
+    record {
+      exactly = λ d.
+          let means = is_that-means d clock (finite.get deadlines d.timer) in
+          (λ h. means.0 (sym (among d) ∙ list_any-from_Contains (eq_by_cmp_equiv dues_total) d ys h), λ h. Contains-from_any (tells_apart exact_dues) d ys (among d ∙ means.1 h));
+      in_order = in_order-rises (due_among clock es);
     }

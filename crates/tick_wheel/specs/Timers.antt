@@ -52,3 +52,7 @@ not_due deadlines clock = finite.retain_keys deadlines (λ timer. not (is_due de
 pub record IsDue (deadlines : Deadlines) (clock : ℕ) (answer : List Due) : Type 0 where
   pub exactly : (d : Due) → Contains answer d ↔ ((finite.get deadlines d.timer ≡ Some d.deadline) × (d.deadline ≤ clock))
   pub in_order : IsStrictlySortedBy due_cmp answer
+
+-- so at each clock, in each map
+abbrev pub DueLaw : Type 0
+DueLaw = (deadlines : Deadlines) (clock : ℕ) → IsDue deadlines clock (due deadlines clock)

@@ -11,6 +11,7 @@ use std::alloc::{AllocError, Global};
 use std::marker::Model;
 use thiserror::Error;
 
+pub mod laws;
 #[cfg(test)]
 mod tests;
 

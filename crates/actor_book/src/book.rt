@@ -1,0 +1,96 @@
+//! The book.
+
+ghost use Rattle.std.specs.Prelude.{◌≡◌, ◌≤◌, ◌<◌, ◌+◌, ◌^◌, [], length, IfOk, OnOk, OnErr, Some, None, Option};
+ghost use Rattle.link_machine.specs.Ledger.{rebased, next, room, state_of};
+ghost use Rattle.link_machine.specs.Kept.{IsKept, opened_book};
+ghost use Rattle.link_machine.specs.Refusals.{with_room, needs};
+ghost use Rattle.link_machine.specs.declared.event.Event.{Event as PlainEvent};
+
+use crate::limits::Limits;
+use link_machine::laws::keeps_law;
+use link_machine::{Event, Refusal};
+use link_state::{Link, with_room};
+use std::alloc::{AllocError, Global};
+use std::marker::Model;
+use turn_check::Verified;
+
+/// The processes of a link as actors, with the journal of what happened to them.
+///
+/// After `open` no call but `rebase` takes memory.
+#[derive(Drop)]
+pub struct Book {
+    pub(crate) set: Verified,
+    pub(crate) base: Link,
+    pub(crate) first: u64,
+    pub(crate) journal: Vec<Event>,
+    pub(crate) limit: usize,
+    pub(crate) link: Link,
+}
+
+impl Model for Book {
+    ghost use Rattle.std.specs.Prelude.{vec_capacity};
+    ghost use Rattle.std.specs.Coded.{codes};
+    ghost use Rattle.tick_wheel.specs.Timers.{timers_code};
+    ghost use Rattle.link_machine.specs.Ledger.{Ledger};
+    ghost use Rattle.actor_book.specs.Inside.{IsBook};
+
+    ghost Value = { Ledger };
+
+    ghost coded = { Prim.hlevel (codes, timers_code) };
+
+    ghost view = { λ b. record { set = b.set; base = b.base; first = b.first; journal = b.journal.items; limit = b.limit } };
+
+    ghost invariant = { λ b. IsBook (record { set = b.set; base = b.base; first = b.first; journal = b.journal.items; limit = b.limit }) b.link (vec_capacity b.journal) };
+}
+
+impl Book {
+    /// The book of a set of processes: each process is an actor, numbered from 0 in text order, before its START. It keeps
+    /// the set, and makes all its room.
+    pub fn open(alloc: Global, set: &Verified, limits: Limits) -> Result<Book, AllocError>
+        ensures { IfOk result (λ b. b ≡ opened_book set.now limits.port limits.env limits.journal) }
+    {
+        keeps_law();
+        let _valid = set.draft();
+        Ok(Book {
+            set: set.copy()?,
+            base: Link::open(alloc, set, limits.port(), limits.env())?,
+            first: 0,
+            journal: Vec::with_capacity(alloc, limits.journal())?,
+            limit: limits.journal(),
+            link: Link::open(alloc, set, limits.port(), limits.env())?,
+        })
+    }
+
+    /// Makes the present state the base, and empties the journal. Actors may have turns out. It makes its room before it
+    /// changes anything.
+    pub fn rebase(&mut self) -> Result<(), AllocError>
+        ensures ok { OnOk result (self.new ≡ rebased self.old) }
+        ensures err { OnErr result (self.new ≡ self.old) }
+    {
+        keeps_law();
+        let base = self.link.copy()?;
+        self.base = base;
+        self.first += self.journal.len() as u64;
+        self.journal.clear();
+        Ok(())
+    }
+
+    /// The place of the next event of the journal. It never comes to 2^57.
+    pub fn next(&self) -> u64
+        ensures value { result ≡ next self.now }
+        ensures in_range { result < 2 ^ 57 }
+    {
+        self.first + self.journal.len() as u64
+    }
+
+    /// How many places of the journal are free: each turn that is out keeps one, and from place 2^56 on none is.
+    pub fn room(&self) -> usize
+        ensures { result ≡ room self.now (state_of self.now) }
+    {
+        if self.next() >= 1 << 56 {
+            0
+        } else {
+            self.limit - (self.journal.len() + self.link.outs())
+        }
+    }
+}

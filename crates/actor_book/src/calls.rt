@@ -1,0 +1,93 @@
+//! What the environment and the clock do to a link.
+
+ghost use Rattle.std.specs.Prelude.{◌≡◌, ◌≤◌, ◌<◌, ◌+◌, ◌^◌, [], length, IfOk, OnOk, OnErr, Some, None, Option};
+ghost use Rattle.link_machine.specs.Ledger.{ask, next};
+ghost use Rattle.link_machine.specs.declared.event.Event.TheVariants.{Offer as Offered, Skip, Advance, TakeEnv};
+ghost use Rattle.link_machine.specs.declared.reply.Reply.TheVariants as reply;
+ghost use Rattle.actor_book.specs.Answered.{answer_by};
+
+use crate::book::Book;
+use link_machine::{Emitted, Event, Offer, Refusal};
+use turn_code::{SignalNumber, Trigger, Value};
+
+/// Ticks that passed.
+#[derive(Clone, Copy, PartialEq, Eq, Debug)]
+pub struct Passed {
+    /// The place of this event in the journal.
+    pub place: u64,
+    /// How many timers were due.
+    pub due: usize,
+}
+
+/// What waited for the environment.
+#[derive(Drop)]
+pub struct Taken {
+    /// The place of this event in the journal.
+    pub place: u64,
+    /// The signal that had waited longest.
+    pub emitted: Emitted,
+}
+
+impl Book {
+    /// A signal of the environment comes to an actor. Its place in the journal.
+    ///
+    /// # Errors
+    ///
+    /// In this order: `B10 NoActor`, `B2 Stopped`, `B3 NoRoute` where no route brings this signal with parameters of these sorts from
+    /// the environment, `B1 Full`, `B8 JournalFull`. Then nothing changes.
+    pub fn offer(&mut self, actor: u16, signal: SignalNumber, values: &[Value]) -> Result<u64, Refusal>
+        ensures book { let e = Offered (record { actor = actor; signal = signal; values = record { items = values.now } }) in self.new ≡ (ask self.old e).book }
+        ensures answer { let e = Offered (record { actor = actor; signal = signal; values = record { items = values.now } }) in
+            answer_by (λ _. reply.Offered) result ≡ (ask self.old e).answer }
+        ensures place { IfOk result (λ place. place ≡ next self.old) }
+        ensures next { OnOk result (next self.new ≡ next self.old + 1) }
+        ensures err { OnErr result (self.new ≡ self.old) }
+    {
+        unimplemented!()
+    }
+
+    /// So many ticks pass: the signals of the timers that are due come to the ports of their processes.
+    ///
+    /// # Errors
+    ///
+    /// In this order: `W1 TooFar` for more than 65,535 ticks, `W2 ClockFull` where the clock would pass 2^62, `B8 JournalFull`.
+    /// Then nothing changes.
+    pub fn advance(&mut self, ticks: u64) -> Result<Passed, Refusal>
+        ensures book { self.new ≡ (ask self.old (Advance ticks)).book }
+        ensures answer { answer_by (λ p. reply.Passed p.due) result ≡ (ask self.old (Advance ticks)).answer }
+        ensures place { IfOk result (λ p. p.place ≡ next self.old) }
+        ensures next { OnOk result (next self.new ≡ next self.old + 1) }
+        ensures err { OnErr result (self.new ≡ self.old) }
+    {
+        unimplemented!()
+    }
+
+    /// The environment takes the signal that has waited longest for it.
+    ///
+    /// # Errors
+    ///
+    /// `B7 Empty`, then `B8 JournalFull`. Then nothing changes.
+    pub fn take_env(&mut self) -> Result<Taken, Refusal>
+        ensures book { self.new ≡ (ask self.old TakeEnv).book }
+        ensures answer { answer_by (λ t. reply.Taken t.emitted) result ≡ (ask self.old TakeEnv).answer }
+        ensures place { IfOk result (λ t. t.place ≡ next self.old) }
+        ensures next { OnOk result (next self.new ≡ next self.old + 1) }
+        ensures err { OnErr result (self.new ≡ self.old) }
+    {
+        unimplemented!()
+    }
+
+    /// An actor throws away the first item that its state doesn't save, which is no input there. The signal or timer of it.
+    ///
+    /// # Errors
+    ///
+    /// In this order: `B10 NoActor`, `B4 Busy`, `B5 Nothing`, `B12 NotIgnored`, `B8 JournalFull`. Then nothing changes.
+    pub fn skip(&mut self, actor: u16) -> Result<Trigger, Refusal>
+        ensures book { self.new ≡ (ask self.old (Skip actor)).book }
+        ensures answer { answer_by reply.Skipped result ≡ (ask self.old (Skip actor)).answer }
+        ensures next { OnOk result (next self.new ≡ next self.old + 1) }
+        ensures err { OnErr result (self.new ≡ self.old) }
+    {
+        unimplemented!()
+    }
+}

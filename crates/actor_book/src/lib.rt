@@ -1,0 +1,20 @@
+//! The book of a link: its processes as actors with their ports, timers, clock and what waits for the environment, and a
+//! journal of what happened to them. Each call is one event of the link, and the state is at any time the replay of the
+//! journal on the state where it begins.
+#![tactic(auto)]
+
+mod book;
+mod calls;
+mod event_runs;
+mod limits;
+mod readers;
+mod turns;
+
+pub use book::Book;
+pub use calls::{Passed, Taken};
+pub use event_runs::run_events;
+pub use limits::Limits;
+pub use link_machine::{
+    Actor, Begun, Cause, Emitted, Event, Lost, Offer, Refusal, Reply, Report, Standing,
+};
+pub use link_state::Link;

@@ -1,0 +1,92 @@
+//! What a book shows.
+
+ghost use Rattle.std.specs.Prelude.{◌≡◌, ◌≤◌, ◌+◌, count_by, Option, Some, None, option_map, option_and_then, slice_get};
+ghost use Rattle.link_machine.specs.Ledger.{state_of};
+ghost use Rattle.link_machine.specs.Kept.{is_finish};
+ghost use Rattle.link_machine.specs.declared.actor.Actor.{Actor as PlainActor};
+
+use crate::book::Book;
+use link_machine::{Emitted, Event, Standing};
+use link_state::Link;
+use turn_check::Verified;
+use turn_code::{Value, VariableNumber};
+
+impl Book {
+    /// The set of processes.
+    pub fn set(&self) -> &Verified
+        ensures { result.now ≡ self.now.set }
+    {
+        &self.set
+    }
+
+    /// The present state, which is the replay of the journal on the base.
+    pub fn state(&self) -> &Link
+        ensures { result.now ≡ state_of self.now }
+    {
+        &self.link
+    }
+
+    /// The state where the journal begins.
+    pub fn base(&self) -> &Link
+        ensures { result.now ≡ self.now.base }
+    {
+        &self.base
+    }
+
+    /// The place of the first event in the journal.
+    pub fn first(&self) -> u64
+        ensures { result ≡ self.now.first }
+    {
+        self.first
+    }
+
+    /// What happened since the base, in order.
+    pub fn journal(&self) -> &[Event]
+        ensures { result.now ≡ self.now.journal }
+    {
+        self.journal.as_slice()
+    }
+
+    /// Where an actor is; while it has a turn out, where it was before. None where there is no such actor.
+    pub fn state_of(&self, actor: u16) -> Option<Standing>
+        ensures { result ≡ option_map (λ (a : PlainActor). a.standing) (slice_get (state_of self.now).actors actor) }
+    {
+        self.link.standing_of(actor)
+    }
+
+    /// The value of a variable of an actor, if it is set; while a turn is out, the one that was before. None where there is no such actor or variable.
+    pub fn variable(&self, actor: u16, variable: VariableNumber) -> Option<Value>
+        ensures { result ≡ variable_of (slice_get (state_of self.now).actors actor) variable.0 }
+    {
+        unimplemented!()
+    }
+
+    /// The clock, in ticks. It is 2^62 at most.
+    pub fn clock(&self) -> u64
+        ensures { result ≡ (state_of self.now).timers.clock }
+    {
+        self.link.clock()
+    }
+
+    /// What waits for the environment, what has waited longest first.
+    pub fn waiting(&self) -> &[Emitted]
+        ensures { result.now ≡ (state_of self.now).ring.items }
+    {
+        self.link.waiting()
+    }
+
+    /// How many turns have ended: those of the base and those of the journal.
+    pub fn finishes(&self) -> u64
+        ensures value { result ≡ (state_of self.now).finishes }
+        ensures counted { result ≡ self.now.base.finishes + count_by is_finish self.now.journal }
+    {
+        self.link.finishes()
+    }
+
+    /// How many instructions the turns that have ended took.
+    pub fn instructions(&self) -> u64
+        ensures { result ≡ (state_of self.now).instructions }
+    {
+        self.link.instructions()
+    }
+}

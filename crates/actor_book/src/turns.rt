@@ -1,0 +1,55 @@
+//! Turns of a link's actors.
+
+ghost use Rattle.std.specs.Prelude.{◌≡◌, ◌↔◌, ◌≤◌, ◌<◌, ◌+◌, ◌^◌, [], length, IsOk, IfOk, IfErr, OnOk, OnErr, Some, None, Option};
+ghost use Rattle.link_machine.specs.Ledger.{ask, next, turn_out};
+ghost use Rattle.link_machine.specs.Step.{Says};
+ghost use Rattle.link_machine.specs.declared.event.Event.TheVariants.{Begin, Finish};
+ghost use Rattle.link_machine.specs.declared.reply.Reply.TheVariants as reply;
+ghost use Rattle.actor_book.specs.Answered.{answer_by, begun_by};
+
+use crate::book::Book;
+use link_machine::{Event, Refusal, Report};
+use turn_machine::{Done, Job};
+
+impl Book {
+    /// An actor begins a turn: it takes the first item that its state doesn't save, or runs START.
+    ///
+    /// # Errors
+    ///
+    /// In this order: `B10 NoActor`, `B4 Busy`, `B5 Nothing`, `B11 SkipFirst`, `B9 CountFull`, `B8 JournalFull` where less than two
+    /// places are free, one of which is kept for the turn's end. Then nothing changes.
+    pub fn begin(&mut self, actor: u16) -> Result<Job, Refusal>
+        ensures book { self.new ≡ (ask self.old (Begin actor)).book }
+        ensures answer { answer_by begun_by result ≡ (ask self.old (Begin actor)).answer }
+        ensures job { IfOk result (λ job. turn_out self.new actor ≡ Some job) }
+        ensures next { OnOk result (next self.new ≡ next self.old + 1) }
+        ensures err { OnErr result (self.new ≡ self.old) }
+    {
+        unimplemented!()
+    }
+
+    /// An actor ends the turn that it has out: its effects take place in text order, and then it comes to its next state, or
+    /// stops. Its end, its count of instructions, and the outputs that reached nobody.
+    ///
+    /// # Errors
+    ///
+    /// `B6 Stranger`: the job that ran isn't the one that this actor has out. It comes back, and nothing changes.
+    pub fn finish(&mut self, done: Done) -> Result<Report, Done>
+        ensures accepted { IsOk result ↔ (turn_out self.old done.actor ≡ Some done) }
+        ensures book { OnOk result (self.new ≡ (ask self.old (Finish done.actor)).book) }
+        ensures report { IfOk result (λ report. (ask self.old (Finish done.actor)).answer ≡ Says (reply.Finished report)) }
+        ensures within { IfOk result (λ report. report.count ≤ done.certificate.budget) }
+        ensures next { OnOk result (next self.new ≡ next self.old + 1) }
+        ensures back { IfErr result (λ d. d ≡ done) }
+        ensures err { OnErr result (self.new ≡ self.old) }
+    {
+        unimplemented!()
+    }
+
+    /// The job of an actor that has a turn out, made once more.
+    pub fn job(&self, actor: u16) -> Option<Job>
+        ensures { result ≡ turn_out self.now actor }
+    {
+        unimplemented!()
+    }
+}

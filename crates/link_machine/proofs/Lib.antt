@@ -1,0 +1,15 @@
+pub mod Replays
+pub mod Ends
+pub mod Texts
+pub mod Counts
+pub mod Bounds
+pub mod Keeping
+pub mod FitsLists
+pub mod FitsActors
+pub mod FitsTimers
+pub mod FitsFinish
+pub mod FitsBegin
+pub mod FitsOffer
+pub mod FitsSteps
+pub mod Places
+pub mod Numbers

@@ -1,0 +1,9 @@
+pub mod Core
+pub mod Effects
+pub mod Fits
+pub mod Kept
+pub mod Laws
+pub mod Ledger
+pub mod Looking
+pub mod Refusals
+pub mod Step

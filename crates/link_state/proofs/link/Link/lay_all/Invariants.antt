@@ -1,0 +1,12 @@
+use Rattle.std.proofs.Common.{◌≡◌, ◌≤◌, ◌++◌, drop, length}
+use Rattle.link_machine.specs.Effects.{laid_all, losses}
+use Rattle.link_state.specs.Outcomes.{HaveTimers}
+use Rattle.link_state.proofs.link.Link.lay_all.Given as goal
+
+abbrev pub invariant-loop-place : goal.invariant-loop-place
+invariant-loop-place l = record {
+  link : laid_all l.sender l.self (drop l.place l.effects) ≡ laid_all l.sender l.initial.self l.effects;
+  lost : l.lost.items ++ losses l.sender l.self l.place (drop l.place l.effects) ≡ losses l.sender l.initial.self 0 l.effects;
+  few : length l.lost.items ≤ l.place;
+  timers : HaveTimers (drop l.place l.effects);
+}

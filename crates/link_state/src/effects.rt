@@ -1,0 +1,203 @@
+//! The effects of a turn as it ends.
+
+ghost use Rattle.std.specs.Prelude.{◌≡◌, ◌≤◌, ◌<◌, ◌+◌, ◌*◌, ◌^◌, [], ◌++◌, length};
+ghost use Rattle.link_machine.specs.Core.{change};
+ghost use Rattle.link_machine.specs.Effects.{laid, laid_all, lost_by, losses, delivered, undelivered, drops, until, without, delay, ended, started, finished, lost_in, without_timers, without_first_timers, arrival_of, timers_after, settled};
+ghost use Rattle.link_machine.specs.Step.{report_of};
+ghost use Rattle.link_state.specs.Outcomes.{outcome_with, with_variables, HasTimer, HaveTimers};
+
+use crate::actors::{deliver, end_turn, forget_timer, refusal_of, settle_at};
+use crate::link::Link;
+use crate::ring::copied_values;
+use arrayvec::ArrayVec;
+use input_port::Arrival;
+use link_machine::{Cause, Emitted, Lost, Report};
+use tick_wheel::{Timer, Wheel};
+use turn_code::{Effect, End, Party, ProcessNumber, Sending, TimerNumber, Value};
+
+impl Link {
+    /// What one effect of a turn does.
+    fn lay(&mut self, sender: u8, effect: &Effect)
+        requires process { sender < 16 }
+        requires timer { HasTimer effect.now }
+        ensures { self.new ≡ laid sender self.old effect.now }
+    {
+        match effect {
+            Effect::Output(sending) => self.send(sender, sending),
+            Effect::Set(timer, ticks) => self.set(sender, *timer, *ticks),
+            Effect::Reset(timer) => self.reset(sender, *timer),
+        }
+    }
+
+    /// An output comes to its receiver, if that takes it.
+    fn send(&mut self, sender: u8, sending: &Sending)
+        ensures { self.new ≡ delivered sender self.old sending.now sending.now.receiver }
+    {
+        match sending.receiver {
+            Party::Environment => self.ring.put(Emitted {
+                sender: u16::from(sender),
+                signal: sending.signal,
+                parameters: copied_values(&sending.parameters),
+            }),
+            Party::Process(receiver) => deliver(
+                &mut self.actors,
+                usize::from(receiver.0),
+                arrival_of(sender, sending),
+            ),
+        }
+    }
+
+    /// A timer waits anew, and its signal leaves the port.
+    fn set(&mut self, sender: u8, timer: TimerNumber, ticks: i32)
+        requires process { sender < 16 }
+        requires timer { timer.0 < 8 }
+        ensures { self.new ≡ record self.old {
+          actors = change self.old.actors sender (drops timer.0);
+          timers = until self.old.timers sender timer.0 (delay ticks);
+        } }
+    {
+        forget_timer(&mut self.actors, usize::from(sender), timer);
+        let deadline = self.wheel.clock() + delay_of(ticks);
+        self.wheel.set(Timer::new(sender, timer.0), deadline);
+    }
+
+    /// A timer waits no longer, and its signal leaves the port.
+    fn reset(&mut self, sender: u8, timer: TimerNumber)
+        requires process { sender < 16 }
+        requires timer { timer.0 < 8 }
+        ensures { self.new ≡ record self.old {
+          actors = change self.old.actors sender (drops timer.0);
+          timers = without self.old.timers sender timer.0;
+        } }
+    {
+        forget_timer(&mut self.actors, usize::from(sender), timer);
+        self.wheel.reset(Timer::new(sender, timer.0));
+    }
+
+    /// The output that nobody gets, if an effect is one.
+    fn loss(&self, place: usize, effect: &Effect) -> Option<Lost>
+        ensures { result ≡ lost_by self.now place effect.now }
+    {
+        match effect {
+            Effect::Output(sending) => match self.cause(sending.receiver) {
+                Some(cause) => Some(Lost { place, cause }),
+                None => None,
+            },
+            Effect::Set(_, _) | Effect::Reset(_) => None,
+        }
+    }
+
+    /// Why a receiver doesn't take a signal, if it doesn't.
+    fn cause(&self, receiver: Party) -> Option<Cause>
+        ensures { result ≡ undelivered self.now receiver }
+    {
+        match receiver {
+            Party::Environment => {
+                if self.ring.has_room() {
+                    None
+                } else {
+                    Some(Cause::EnvFull)
+                }
+            }
+            Party::Process(receiver) => refusal_of(&self.actors, usize::from(receiver.0)),
+        }
+    }
+
+    /// What the effects of a turn do, one after another. The outputs that nobody gets.
+    fn lay_all(&mut self, sender: u8, effects: &[Effect]) -> ArrayVec<Lost, 32>
+        requires process { sender < 16 }
+        requires timers { HaveTimers effects.now }
+        requires few { length effects.now ≤ 32 }
+        ensures link { self.new ≡ laid_all sender self.old effects.now }
+        ensures lost { result.items ≡ losses sender self.old 0 effects.now }
+    {
+        let mut lost = ArrayVec::new();
+        for (place, effect) in effects.iter().enumerate() {
+            if let Some(loss) = self.loss(place, effect) {
+                lost.push(loss);
+            }
+            self.lay(sender, effect);
+        }
+        lost
+    }
+
+    /// A turn of an actor ends with this end, these variables and effects, after so many instructions: the variables come
+    /// first, then the effects one after another, then the end.
+    pub fn finish(
+        &mut self,
+        actor: u8,
+        end: End,
+        variables: ArrayVec<Option<Value>, 32>,
+        effects: &[Effect],
+        count: u32,
+    ) -> Report
+        requires process { actor < 16 }
+        requires timers { HaveTimers effects.now }
+        requires few { length effects.now ≤ 32 }
+        requires finishes { self.old.finishes < 2 ^ 40 }
+        requires instructions { self.old.instructions + count < 2 ^ 64 }
+        ensures link { self.new ≡ finished actor (outcome_with end variables.items effects.now count) self.old }
+        ensures report { result ≡ report_of actor (outcome_with end variables.items effects.now count) self.old }
+    {
+        self.start(actor, variables, count);
+        let lost = self.lay_all(actor, effects);
+        self.end(actor, end);
+        Report { end, count, lost }
+    }
+
+    /// The actor gets the variables that its turn leaves, and the turn is counted.
+    fn start(&mut self, actor: u8, variables: ArrayVec<Option<Value>, 32>, count: u32)
+        requires finishes { self.old.finishes < 2 ^ 40 }
+        requires instructions { self.old.instructions + count < 2 ^ 64 }
+        ensures { self.new ≡ record self.old {
+          actors = change self.old.actors actor (with_variables variables.items);
+          finishes = self.old.finishes + 1;
+          instructions = self.old.instructions + count;
+        } }
+    {
+        settle_at(&mut self.actors, usize::from(actor), variables);
+        self.finishes += 1;
+        self.instructions += u64::from(count);
+    }
+
+    /// A turn ends: the next state comes, or a stop, which empties the port and resets the timers.
+    fn end(&mut self, actor: u8, end: End)
+        requires { actor < 16 }
+        ensures { self.new ≡ ended actor end self.old }
+    {
+        end_turn(&mut self.actors, usize::from(actor), end);
+        if end == End::Stop {
+            reset_all(&mut self.wheel, actor);
+        }
+    }
+}
+
+/// All timers of a process wait no longer.
+fn reset_all(wheel: &mut Wheel, process: u8)
+    requires { process < 16 }
+    ensures { wheel.new ≡ without_timers wheel.old process }
+{
+    for timer in 0..8u8 {
+        wheel.reset(Timer::new(process, timer));
+    }
+}
+
+/// How long a SET waits, which is 1 tick at least.
+fn delay_of(ticks: i32) -> u64
+    ensures value { result ≡ delay ticks }
+    ensures least { 1 ≤ result }
+    ensures most { result < 2 ^ 31 }
+{
+    if ticks < 1 { 1 } else { ticks as u64 }
+}
+
+/// The signal as it comes to its receiver.
+fn arrival_of(sender: u8, sending: &Sending) -> Arrival
+    ensures { result ≡ arrival_of sender sending.now }
+{
+    Arrival {
+        signal: sending.signal,
+        parameters: copied_values(&sending.parameters),
+        sender: Party::Process(ProcessNumber(sender)),
+    }
+}

@@ -1,0 +1,143 @@
+//! How a link begins, and copies of it.
+
+ghost use Rattle.std.specs.Prelude.{◌≡◌, ◌≤◌, ◌<◌, ◌+◌, [], length, map, IfOk};
+ghost use Rattle.std.specs.List.{AllByRecursion};
+ghost use Rattle.turn_code.specs.Start.{initial_values};
+ghost use Rattle.link_machine.specs.Kept.{opened, opened_actor};
+ghost use Rattle.link_state.specs.Opening.{HasFewVariables};
+
+use crate::link::Link;
+use crate::ring::Ring;
+use crate::turn::copied_variables;
+use arrayvec::ArrayVec;
+use input_port::Port;
+use link_machine::{Actor, Given, Standing};
+use std::alloc::{AllocError, Global};
+use tick_wheel::Wheel;
+use turn_check::Verified;
+use turn_code::{DraftProcess, DraftVariable, Input, Place, Value};
+
+/// The initial values of variables.
+fn values_of(variables: &[DraftVariable]) -> ArrayVec<Option<Value>, 32>
+    requires { length variables.now ≤ 32 }
+    ensures { result.items ≡ initial_values variables.now }
+{
+    let mut values = ArrayVec::new();
+    for variable in variables {
+        values.push(variable.initial);
+    }
+    values
+}
+
+/// An actor before its START, with a port for so many signals.
+fn opened_actor(alloc: Global, process: &DraftProcess, port: usize) -> Result<Actor, AllocError>
+    requires least { 1 ≤ port }
+    requires most { port ≤ 64 }
+    requires few { HasFewVariables process.now }
+    ensures { IfOk result (λ actor. actor ≡ opened_actor port process.now) }
+{
+    Ok(Actor {
+        standing: Standing::At(Place::Start),
+        variables: values_of(process.variables.as_slice()),
+        port: Port::new(alloc, port)?,
+        given: None,
+    })
+}
+
+/// The turn of an actor once more, if it has one out.
+fn copied_given(given: &Option<Given>) -> Option<Given>
+    ensures { result ≡ given.now }
+{
+    match given {
+        Some(given) => Some(Given {
+            turn: given.turn,
+            number: given.number,
+            input: given.input.copy(),
+        }),
+        None => None,
+    }
+}
+
+/// An equal actor.
+fn copied_actor(actor: &Actor) -> Result<Actor, AllocError>
+    ensures { IfOk result (λ copy. copy ≡ actor.now) }
+{
+    Ok(Actor {
+        standing: actor.standing,
+        variables: copied_variables(&actor.variables),
+        port: actor.port.copy()?,
+        given: copied_given(&actor.given),
+    })
+}
+
+/// An actor for each process, before its START, with a port for so many signals.
+fn opened_actors(
+    alloc: Global,
+    processes: &[DraftProcess],
+    port: usize,
+) -> Result<Vec<Actor>, AllocError>
+    requires least { 1 ≤ port }
+    requires most { port ≤ 64 }
+    requires few { AllByRecursion HasFewVariables processes.now }
+    ensures { IfOk result (λ actors. actors.items ≡ map (opened_actor port) processes.now) }
+{
+    let mut actors = Vec::with_capacity(alloc, processes.len())?;
+    for process in processes {
+        actors.push(opened_actor(alloc, process, port)?)?;
+    }
+    Ok(actors)
+}
+
+/// The actors once more.
+fn copied_actors(alloc: Global, actors: &[Actor]) -> Result<Vec<Actor>, AllocError>
+    ensures { IfOk result (λ copy. copy.items ≡ actors.now) }
+{
+    let mut copy = Vec::with_capacity(alloc, actors.len())?;
+    for actor in actors {
+        copy.push(copied_actor(actor)?)?;
+    }
+    Ok(copy)
+}
+
+/// The processes of a set.
+fn processes_of(set: &Verified) -> &[DraftProcess]
+    ensures value { result.now ≡ set.now.processes }
+    ensures few { AllByRecursion HasFewVariables result.now }
+    ensures count { length result.now ≤ 16 }
+{
+    set.draft().processes.as_slice()
+}
+
+impl Link {
+    /// The link of a set as it begins: each process is an actor before its START, with a port for so many signals, and there is
+    /// room for so many signals to the environment.
+    pub fn open(alloc: Global, set: &Verified, port: usize, env: usize) -> Result<Link, AllocError>
+        requires least { 1 ≤ port }
+        requires most { port ≤ 64 }
+        ensures { IfOk result (λ link. link ≡ opened set.now port env) }
+    {
+        Ok(Link {
+            actors: opened_actors(alloc, processes_of(set), port)?,
+            wheel: Wheel::new(alloc)?,
+            ring: Ring::new(alloc, env)?,
+            turns: 0,
+            finishes: 0,
+            instructions: 0,
+        })
+    }
+
+    /// An equal link.
+    pub fn copy(&self) -> Result<Link, AllocError>
+        ensures { IfOk result (λ link. link ≡ self.now) }
+    {
+        let alloc = *self.actors.allocator();
+        Ok(Link {
+            actors: copied_actors(alloc, &self.actors)?,
+            wheel: self.wheel.copy()?,
+            ring: self.ring.copy()?,
+            turns: self.turns,
+            finishes: self.finishes,
+            instructions: self.instructions,
+        })
+    }
+}

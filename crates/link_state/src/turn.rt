@@ -1,0 +1,164 @@
+//! Turns begin, and signals are thrown away.
+
+ghost use Rattle.std.specs.Prelude.{◌≡◌, ◌<◌, ◌+◌, ◌^◌, Option, Some, None, option_map, slice_get};
+ghost use Rattle.link_machine.specs.Core.{change, is_out};
+ghost use Rattle.link_machine.specs.Looking.{looks, item_at, number_in, input_with, given_now, begun, skipped};
+ghost use Rattle.link_machine.specs.Refusals.{begin_rows, skip_rows, first_of};
+ghost use Rattle.link_machine.specs.Looking.{trigger_of};
+ghost use Rattle.link_machine.specs.declared.actor.Actor.{Actor as PlainActor};
+ghost use Rattle.link_state.specs.Saving.{skipped_by};
+
+use crate::link::Link;
+use crate::look::{look, take, trigger_of};
+use arrayvec::ArrayVec;
+use input_port::Item;
+use link_machine::{Actor, Found, Given, Refusal};
+use turn_check::Verified;
+use turn_code::{Input, Trigger, Value};
+
+/// How many turns can be counted.
+const TURNS: u64 = 1 << 40;
+
+/// Why an actor can't begin a turn, if it can't.
+pub(crate) fn begin_refusal(
+    set: &Verified,
+    number: u8,
+    turns: u64,
+    actor: &Actor,
+) -> Option<Refusal>
+    ensures { result ≡ first_of (begin_rows set.now number turns actor.now) }
+{
+    if actor.is_out() {
+        return Some(Refusal::Busy);
+    }
+    match look(set, number, actor) {
+        Found::Nothing => Some(Refusal::Nothing),
+        Found::Ignored => Some(Refusal::SkipFirst),
+        Found::Start | Found::Input(_) => {
+            if turns >= TURNS {
+                Some(Refusal::CountFull)
+            } else {
+                None
+            }
+        }
+    }
+}
+
+/// Why an actor can't throw a signal away, if it can't.
+pub(crate) fn skip_refusal(set: &Verified, number: u8, actor: &Actor) -> Option<Refusal>
+    ensures { result ≡ first_of (skip_rows set.now number actor.now) }
+{
+    if actor.is_out() {
+        return Some(Refusal::Busy);
+    }
+    match look(set, number, actor) {
+        Found::Nothing => Some(Refusal::Nothing),
+        Found::Start | Found::Input(_) => Some(Refusal::NotIgnored),
+        Found::Ignored => None,
+    }
+}
+
+/// The number of the input that is found, 0 at START.
+fn number_of(found: Found) -> usize
+    ensures { result ≡ number_in found }
+{
+    match found {
+        Found::Input(number) => number,
+        Found::Nothing | Found::Start | Found::Ignored => 0,
+    }
+}
+
+/// What a turn is given.
+fn input_with(variables: &ArrayVec<Option<Value>, 32>, item: Option<Item>) -> Input
+    ensures { (a : PlainActor) → a.variables ≡ variables.now → result ≡ input_with a item }
+{
+    match item {
+        Some(Item::Signal(arrival)) => Input {
+            variables: copied_variables(variables),
+            parameters: arrival.parameters,
+            sender: Some(arrival.sender),
+        },
+        Some(Item::Timer(_)) | None => Input {
+            variables: copied_variables(variables),
+            parameters: ArrayVec::new(),
+            sender: None,
+        },
+    }
+}
+
+/// The variables once more.
+pub(crate) fn copied_variables(
+    variables: &ArrayVec<Option<Value>, 32>,
+) -> ArrayVec<Option<Value>, 32>
+    ensures { result ≡ variables.now }
+{
+    match ArrayVec::try_from(variables.as_slice()) {
+        Ok(copy) => copy,
+        Err(_) => unreachable!(),
+    }
+}
+
+/// An actor takes the item that it finds, and has a turn out.
+fn begin(set: &Verified, number: u8, turn: u64, actor: &mut Actor)
+    ensures { actor.new ≡ begun set.now number turn actor.old }
+{
+    let found = look(set, number, actor);
+    let item = take(set, number, actor.standing, &mut actor.port);
+    let input = input_with(&actor.variables, item);
+    actor.given = Some(Given {
+        turn,
+        number: number_of(found),
+        input,
+    });
+}
+
+/// An actor throws away the item that it finds.
+fn skip(set: &Verified, number: u8, actor: &mut Actor) -> Option<Trigger>
+    ensures actor { actor.new ≡ skipped set.now number actor.old }
+    ensures skipped { result ≡ option_map trigger_of (item_at set.now number actor.old.standing actor.old.port.items) }
+{
+    match take(set, number, actor.standing, &mut actor.port) {
+        Some(item) => Some(trigger_of(&item)),
+        None => None,
+    }
+}
+
+/// Actor `number` takes the item that it finds, and has a turn out.
+fn begin_at(set: &Verified, number: u8, turn: u64, actors: &mut [Actor])
+    ensures { actors.new ≡ change actors.old number (begun set.now number turn) }
+{
+    if usize::from(number) < actors.len() {
+        begin(set, number, turn, &mut actors[usize::from(number)]);
+    }
+}
+
+/// Actor `number` throws away the item that it finds.
+fn skip_at(set: &Verified, number: u8, actors: &mut [Actor]) -> Option<Trigger>
+    ensures actors { actors.new ≡ change actors.old number (skipped set.now number) }
+    ensures skipped { result ≡ skipped_by set.now number (slice_get actors.old number) }
+{
+    if usize::from(number) < actors.len() {
+        skip(set, number, &mut actors[usize::from(number)])
+    } else {
+        None
+    }
+}
+
+impl Link {
+    /// An actor begins a turn: it takes the item that it finds, and has the turn out.
+    pub fn begin(&mut self, set: &Verified, actor: u8)
+        requires { self.old.turns < 2 ^ 40 }
+        ensures { self.new ≡ record self.old { actors = change self.old.actors actor (begun set.now actor self.old.turns); turns = self.old.turns + 1 } }
+    {
+        begin_at(set, actor, self.turns, &mut self.actors);
+        self.turns += 1;
+    }
+
+    /// An actor throws away the item that it finds.
+    pub fn skip(&mut self, set: &Verified, actor: u8) -> Option<Trigger>
+        ensures link { self.new ≡ record self.old { actors = change self.old.actors actor (skipped set.now actor) } }
+        ensures skipped { result ≡ skipped_by set.now actor (slice_get self.old.actors actor) }
+    {
+        skip_at(set, actor, &mut self.actors)
+    }
+}
