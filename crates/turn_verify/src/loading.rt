@@ -8,10 +8,12 @@ ghost use Rattle.sdl_tree.specs.Views.{block_of};
 ghost use Rattle.sdl_rules.specs.Refusals.{Sound};
 ghost use Rattle.sdl_compile.specs.Blocks.{MatchesBlock};
 ghost use Rattle.sdl_compile.specs.Meaning.{RunsAsMeant};
+ghost use Rattle.sdl_compile.specs.Meant.{IsSetOf};
 ghost use Rattle.turn_verify.specs.Printed.{fault_text, place_text};
 ghost use Rattle.turn_verify.specs.Loaded.{IsLoaded, IsSoundText, IsRead, Gives, IsRefused, line_at, token_place, rule_place};
 
 use sdl_compile::compile;
+use sdl_compile::laws::set_law;
 use sdl_lex::{LexFault, Token, line_of, tokens};
 use sdl_rules::{Resolved, RuleFault, resolve};
 use sdl_tree::{Block, ParseFault, parse};
@@ -94,7 +96,7 @@ impl fmt::Display for LoadFault {
 ///
 /// Accepted is exactly a text that has tokens, reads as a tree that is low enough, and breaks no
 /// rule. On every input that fits a transition of the set, its run is what the text's transition at
-/// the same place means.
+/// the same place means, and each certificate names the longest path of the text's transition.
 ///
 /// # Errors
 ///
@@ -106,6 +108,9 @@ pub fn load(alloc: Global, text: &str) -> Result<Verified, LoadFault>
     // each sound text is accepted
     ensures exact { (ts : List lexeme.Token) (b : PlainBlock) → IsSoundText text.now ts b
         → Gives result (MatchesBlock b) }
+    // however the text is read, what is given is the set of what is read
+    ensures every { (ts : List lexeme.Token) (b : PlainBlock) → IsRead text.now ts b
+        → IfOk result (λ v. IsSetOf b v) }
     // a refusal names a fault of the text, and where it is
     ensures refused { IfErr result (λ e. IsRefused text.now e) }
 {
@@ -156,6 +161,7 @@ fn set_of(alloc: Global, text: &str, block: &Block) -> Result<Verified, LoadFaul
     ensures sound { IfOk result (λ v. Sound (block_of block.now)) }
     ensures matches { IfOk result (λ v. MatchesBlock (block_of block.now) v) }
     ensures runs { IfOk result (λ v. RunsAsMeant (block_of block.now) v) }
+    ensures set { IfOk result (λ v. IsSetOf (block_of block.now) v) }
     ensures exact { Sound (block_of block.now) → Gives result (MatchesBlock (block_of block.now)) }
     ensures refused { IfErr result (λ e. (ts : List lexeme.Token) → IsRead text.now ts (block_of block.now)
         → IsRefused text.now e) }
@@ -176,8 +182,11 @@ fn set_of(alloc: Global, text: &str, block: &Block) -> Result<Verified, LoadFaul
 fn verified(alloc: Global, resolved: &Resolved) -> Result<Verified, LoadFault>
     ensures matches { IfOk result (λ v. MatchesBlock (block_of resolved.now) v) }
     ensures runs { IfOk result (λ v. RunsAsMeant (block_of resolved.now) v) }
+    ensures set { IfOk result (λ v. IsSetOf (block_of resolved.now) v) }
     ensures memory { IsOkUnless result LoadFault.NoMemory }
 {
+    set_law();
+    let _sound = resolved.block();
     match compile(alloc, resolved) {
         Ok(draft) => match verify(draft) {
             Ok(verified) => Ok(verified),
