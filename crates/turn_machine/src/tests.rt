@@ -375,3 +375,12 @@ fn a_wrong_input_does_not_fit(rt: HostRuntime) -> Result<(), Fail> {
     assert!(rt; fits(&set, P, Place::Start, 0, &variables(None, None), &nothing()));
     Ok(())
 }
+
+#[test]
+fn what_comes_is_compared(rt: HostRuntime) {
+    let one = received(1, Party::Environment);
+    assert!(rt; one.same(&one.copy()));
+    assert!(rt; !one.same(&received(2, Party::Environment)));
+    assert!(rt; !one.same(&received(1, Party::Process(P))));
+    assert!(rt; !one.same(&nothing()));
+}
