@@ -156,6 +156,25 @@ impl Deframer {
         count
     }
 
+    /// Takes an octet at once, the low bit first, where none of its bits comes behind six 1s and it reports nothing, as far as that is
+    /// known at once. Answers whether it did.
+    fn take_whole(&mut self, octet: u8) -> bool
+        ensures taken { result ≡ true → (h : List Bool) (events : List LineEvent) → StandsAt h events self.old
+            → StandsAt (reverse (low_bits 8 octet) ++ h) events self.new }
+        ensures left { result ≡ false → self.new ≡ self.old }
+    {
+        if !self.is_calm() {
+            return false;
+        }
+        let window = u16::from(self.recent) + u16::from(octet) * 128;
+        if !is_plain(window) {
+            return false;
+        }
+        self.gate.pass_eight((window % 256) as u8);
+        self.recent = (window / 256) as u8;
+        true
+    }
+
     fn copy(&self) -> Self
         ensures { (h : List Bool) (events : List LineEvent) → StandsAt h events self.now → StandsAt h events result }
     {
@@ -229,6 +248,18 @@ impl Deframer {
         ensures { OnOk result ((h : List Bool) (before : List LineEvent) → StandsAt h (before ++ events.old.items) self.old
             → StandsAt (reverse (low_bits 8 octet) ++ h) (before ++ events.new.items) self.new) }
     {
+        if self.take_whole(octet) {
+            Ok(())
+        } else {
+            self.push_bits(octet, events)
+        }
+    }
+
+    /// Takes the eight bits of an octet in as few steps as may be, and puts what they report at the end.
+    fn push_bits(&mut self, octet: u8, events: &mut Vec<LineEvent>) -> Result<(), NoMemory>
+        ensures { OnOk result ((h : List Bool) (before : List LineEvent) → StandsAt h (before ++ events.old.items) self.old
+            → StandsAt (reverse (low_bits 8 octet) ++ h) (before ++ events.new.items) self.new) }
+    {
         let mut taken = 0u8;
         while taken < 8 {
             taken += self.take_calm(octet >> taken, 8 - taken);
@@ -298,6 +329,15 @@ fn plain_count(recent: u8, bits: u8, len: u8) -> u8
     let sixes = pairs & pairs >> 2 & pairs >> 4;
     let count = (sixes.trailing_zeros() as u8).saturating_sub(1).min(len);
     if sixes % (2 << count) == 0 { count } else { 0 }
+}
+
+/// Whether none of the last eight of fifteen bits comes behind six 1s.
+fn is_plain(window: u16) -> bool
+    ensures { result ≡ true → (m : ℕ) → m < 8 → window / 2 ^ m % 128 ≢ 126 }
+{
+    let pairs = window & window >> 1;
+    let sixes = pairs & pairs >> 2 & pairs >> 4;
+    sixes % 512 == 0
 }
 
 /// The newest seven bits after one more.
