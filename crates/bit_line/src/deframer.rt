@@ -1,5 +1,5 @@
 //! Line bits to events.
-ghost use Rattle.std.specs.Prelude.{◌≡◌, ◌≤◌, ◌<◌, ◌+◌, ◌*◌, ◌/◌, ◌%◌, ◌^◌, ◌≢◌, ℕ, Bool, true, false, List, [], ◌∷◌, ◌++◌, IfOk, OnOk, OnErr, reverse, length, if◌then◌else◌, unwrap_or, None};
+ghost use Rattle.std.specs.Prelude.{◌≡◌, ◌≤◌, ◌<◌, ◌+◌, ◌*◌, ◌/◌, ◌%◌, ◌^◌, ◌≢◌, ℕ, Bool, true, false, List, [], ◌∷◌, ◌++◌, IfOk, OnOk, OnErr, reverse, length, take, if◌then◌else◌, unwrap_or, None};
 ghost use Rattle.arrayvec.specs.ArrayVec.{array_vec_len};
 ghost use Rattle.su_octets.specs.Bits.{low_bits, bits_of};
 ghost use Rattle.bit_line.specs.Counting.{sixteen_of};
@@ -9,6 +9,7 @@ use crate::content::Closed;
 use crate::counter::{Counter, Given};
 use crate::events::{LineEvent, NoMemory};
 use crate::gate::Gate;
+use crate::run::{Run, is_plain};
 use arrayvec::ArrayVec;
 use std::alloc::Global;
 
@@ -29,6 +30,7 @@ pub struct Deframer {
 impl Deframer {
     ghost use Rattle.bit_line.specs.Deframing.{StandsAt, Stands, LetsIn};
     ghost use Rattle.bit_line.specs.Events.{AreEvents, UnitsDecode, closings};
+    ghost use Rattle.bit_line.specs.Running.{IsCalm};
     ghost use Rattle.bit_line.specs.Flags.{inside, MOST_BITS};
     ghost use Rattle.bit_line.specs.Stuffing.{taken_out};
     ghost use Rattle.bit_line.specs.Judging.{report_of, reports_of, weight_of};
@@ -154,6 +156,39 @@ impl Deframer {
         let count = plain_count(self.recent, bits, len);
         self.take_plain(bits, count);
         count
+    }
+
+    /// Takes octets from the front at once, as long as none of their bits comes behind six 1s, and no inserted zero among them. Answers
+    /// how many; they report nothing.
+    fn take_run(&mut self, octets: &[u8]) -> usize
+        ensures most { result ≤ length octets.now }
+        ensures stands { (h : List Bool) (events : List LineEvent) → StandsAt h events self.old
+            → StandsAt (reverse (bits_of (take result octets.now)) ++ h) events self.new }
+    {
+        let content = &self.gate.content;
+        if !self.is_open() || content.ones > 5 {
+            return 0;
+        }
+        let start = Run {
+            recent: self.recent,
+            ones: content.ones,
+            part: content.data_bits.part,
+        };
+        let (taken, run) = start.over(&mut self.gate.content.data_bits.octets, octets);
+        self.recent = run.recent;
+        self.gate.content.ones = run.ones;
+        self.gate.content.data_bits.part = run.part;
+        taken
+    }
+
+    /// Whether the mode is the normal one, and each bit lets one into the content, which has no more bits than a unit.
+    fn is_open(&self) -> bool
+        ensures { result ≡ true → IsCalm self.now }
+    {
+        if !self.counter.is_normal() || !self.gate.seen {
+            return false;
+        }
+        self.gate.wait == 0 && !self.gate.content.data_bits.over
     }
 
     /// Takes an octet at once, the low bit first, where none of its bits comes behind six 1s and it reports nothing, as far as that is
@@ -287,8 +322,13 @@ impl Deframer {
     {
         let mut next = self.copy();
         let mut events = Vec::new(alloc);
-        for octet in octets {
-            next.push_octet(*octet, &mut events)?;
+        let mut taken = 0;
+        while taken < octets.len() {
+            taken += next.take_run(&octets[taken..]);
+            if taken < octets.len() {
+                next.push_octet(octets[taken], &mut events)?;
+                taken += 1;
+            }
         }
         *self = next;
         Ok(events)
@@ -329,15 +369,6 @@ fn plain_count(recent: u8, bits: u8, len: u8) -> u8
     let sixes = pairs & pairs >> 2 & pairs >> 4;
     let count = (sixes.trailing_zeros() as u8).saturating_sub(1).min(len);
     if sixes % (2 << count) == 0 { count } else { 0 }
-}
-
-/// Whether none of the last eight of fifteen bits comes behind six 1s.
-fn is_plain(window: u16) -> bool
-    ensures { result ≡ true → (m : ℕ) → m < 8 → window / 2 ^ m % 128 ≢ 126 }
-{
-    let pairs = window & window >> 1;
-    let sixes = pairs & pairs >> 2 & pairs >> 4;
-    sixes % 512 == 0
 }
 
 /// The newest seven bits after one more.

@@ -13,6 +13,7 @@ mod events;
 mod gate;
 pub mod laws;
 mod part;
+mod run;
 mod stuffer;
 mod taken;
 #[cfg(test)]
