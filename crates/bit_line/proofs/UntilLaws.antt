@@ -1,5 +1,5 @@
 -- Octets in turn up to the first one that reports something.
-use Rattle.std.proofs.Common.{◌≡◌, ℕ, ◌+◌, ◌-◌, ◌<◌, Bool, List, [], ◌∷◌, ◌++◌, length, reverse, take, drop, get_or, sym, ap, ◌∙◌, arith, subst, append_assoc}
+use Rattle.std.proofs.Common.{◌≡◌, ℕ, ◌+◌, ◌-◌, ◌<◌, Bool, List, [], ◌∷◌, ◌++◌, length, reverse, take, drop, get_or, sym, ap, ◌∙◌, arith, subst, append_assoc, refl}
 use Rattle.std.proofs.lemmas.List.{append-nil, take_more, take_all, reverse-append, length-drop}
 use Rattle.std.proofs.Math.Seq.{take-add}
 use Rattle.su_octets.specs.Bits.{low_bits, bits_of}
@@ -8,6 +8,7 @@ use Rattle.bit_line.specs.Deframing.{StandsAt, Stands}
 use Rattle.bit_line.specs.declared.deframer.Deframer.{Deframer}
 use Rattle.bit_line.specs.declared.events.LineEvent.{LineEvent}
 use Rattle.bit_line.proofs.BitLists.{bits_of-append}
+use Rattle.bit_line.proofs.EventLaws.{stands_by, events_by}
 
 pub quiet_step : (more : List Bool) (old new : Deframer) → ((h : List Bool) (es : List LineEvent) → StandsAt h es old → StandsAt (reverse more ++ h) es new)
     → (h : List Bool) (es : List LineEvent) → StandsAt h es old → StandsAt (reverse more ++ h) (es ++ []) new
@@ -16,6 +17,10 @@ quiet_step more old new step h es stands =
 
 pub none_given : (bits : List Bool) (events given : List LineEvent) → given ≡ [] → AreEvents bits (events ++ given) → AreEvents bits (events ++ [])
 none_given bits events given none are = let P : List LineEvent → Type 0 = λ l. AreEvents bits (events ++ l) in subst P none are
+
+pub none_of_length : (given : List LineEvent) → length given ≡ 0 → given ≡ []
+none_of_length [] none = refl
+none_of_length (e ∷ given) none = absurd (omega (arith, none))
 
 -- ---- one octet more
 next_bits : (i : ℕ) (octets : List ℕ) (bits : List Bool) → i < length octets
@@ -59,3 +64,40 @@ at_run i n octets h es d stands =
     subst P
     (sym (append_assoc (reverse run) (reverse (bits_of (take i octets))) h)
     ∙ ap (λ l. l ++ h) (sym (ap reverse (run_bits i n octets) ∙ reverse-append (bits_of (take i octets)) run))) stands
+
+run_line : (i n : ℕ) (octets : List ℕ) (bits : List Bool)
+    → (bits ++ bits_of (take i octets)) ++ bits_of (take n (take (length octets - i) (drop i octets))) ≡ bits ++ bits_of (take (i + n) octets)
+run_line i n octets bits =
+    append_assoc bits (bits_of (take i octets)) (bits_of (take n (take (length octets - i) (drop i octets)))) ∙ ap (λ l. bits ++ l) (sym (run_bits i n octets))
+
+pub run_stands : (i n : ℕ) (octets : List ℕ) (bits : List Bool) (old new : Deframer)
+    → ((h : List Bool) (es : List LineEvent) → StandsAt h es old → StandsAt (reverse (bits_of (take n (take (length octets - i) (drop i octets)))) ++ h) es new)
+    → Stands (bits ++ bits_of (take i octets)) old → Stands (bits ++ bits_of (take (i + n) octets)) new
+run_stands i n octets bits old new step stands =
+    let run : List Bool = bits_of (take n (take (length octets - i) (drop i octets))) in
+    let P : List Bool → Type 0 = λ l. Stands l new in
+    subst P (run_line i n octets bits) (stands_by (bits ++ bits_of (take i octets)) run [] old new (λ h es. quiet_step run old new (λ g fs. step g fs) h es) stands)
+
+pub run_events : (i n : ℕ) (octets : List ℕ) (bits : List Bool) (events : List LineEvent) (old new : Deframer)
+    → ((h : List Bool) (es : List LineEvent) → StandsAt h es old → StandsAt (reverse (bits_of (take n (take (length octets - i) (drop i octets)))) ++ h) es new)
+    → Stands (bits ++ bits_of (take i octets)) old → AreEvents (bits ++ bits_of (take i octets)) events → AreEvents (bits ++ bits_of (take (i + n) octets)) events
+run_events i n octets bits events old new step stands are =
+    let run : List Bool = bits_of (take n (take (length octets - i) (drop i octets))) in
+    let P : List Bool → Type 0 = λ l. AreEvents l events in
+    let Q : List LineEvent → Type 0 = λ l. AreEvents ((bits ++ bits_of (take i octets)) ++ run) l in
+    subst P (run_line i n octets bits)
+    (subst Q (append-nil events) (events_by (bits ++ bits_of (take i octets)) run [] events old new (λ h es. quiet_step run old new (λ g fs. step g fs) h es) stands are))
+
+pub start_stands : (bits : List Bool) (d : Deframer) → Stands bits d → Stands (bits ++ bits_of []) d
+unfolding bits_of
+start_stands bits d stands = let P : List Bool → Type 0 = λ l. Stands l d in subst P (sym (append-nil bits)) stands
+
+pub start_events : (bits : List Bool) (events : List LineEvent) → AreEvents bits events → AreEvents (bits ++ bits_of []) events
+unfolding bits_of
+start_events bits events are = let P : List Bool → Type 0 = λ l. AreEvents l events in subst P (sym (append-nil bits)) are
+
+pub quiet_next : (i : ℕ) (octets : List ℕ) (bits : List Bool) (events : List LineEvent) → i < length octets
+    → AreEvents ((bits ++ bits_of (take i octets)) ++ low_bits 8 (get_or octets i 0)) (events ++ []) → AreEvents (bits ++ bits_of (take (i + 1) octets)) events
+quiet_next i octets bits events within are =
+    let P : List LineEvent → Type 0 = λ l. AreEvents (bits ++ bits_of (take (i + 1) octets)) l in
+    subst P (append-nil events) (events_next i octets bits (events ++ []) within are)

@@ -1,9 +1,10 @@
 //! Octets of a line without flags, inserted zeros or anything else of note.
-ghost use Rattle.std.specs.Prelude.{◌≡◌, ◌≢◌, ◌≤◌, ◌<◌, ◌/◌, ◌%◌, ◌^◌, ℕ, Bool, true, List, ◌++◌, reverse, length, take, IfSome};
+ghost use Rattle.std.specs.Prelude.{◌≤◌, ◌<◌, Bool, List, ◌++◌, reverse, length, take, IfSome};
 ghost use Rattle.su_octets.specs.Bits.{bits_of};
 
 use crate::part::Part;
 use crate::taken::ones_after;
+use crate::window::is_plain;
 use arrayvec::ArrayVec;
 
 /// What changes of a deframer while plain octets come, but for the octets that they leave.
@@ -81,13 +82,4 @@ impl Run {
         }
         (taken, run)
     }
-}
-
-/// Whether none of the last eight of fifteen bits comes behind six 1s.
-pub fn is_plain(window: u16) -> bool
-    ensures { result ≡ true → (m : ℕ) → m < 8 → window / 2 ^ m % 128 ≢ 126 }
-{
-    let pairs = window & window >> 1;
-    let sixes = pairs & pairs >> 2 & pairs >> 4;
-    sixes % 512 == 0
 }
