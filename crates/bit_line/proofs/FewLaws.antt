@@ -5,7 +5,9 @@ use Rattle.std.proofs.lemmas.Nat.{shr_high, mod_low, shl_whole, pow-add, pow_pos
 use Rattle.std.proofs.lemmas.List.{append-nil, reverse-append, reverse-reverse, length-append, length-reverse}
 use Rattle.std.specs.Prelude.{nat_lt}
 use Rattle.std.proofs.lemmas.Bool.{lt-ltb, ltb-true, le-ltb}
-use Rattle.bit_line.specs.Deframing.{Gathers}
+use Rattle.bit_line.specs.Deframing.{Gathers, Holds, has_six}
+use Rattle.bit_line.specs.Stuffing.{trailing, taken_out}
+use Rattle.bit_line.specs.declared.content.Content.{Content}
 use Rattle.bit_line.specs.declared.data.Data.{Data}
 use Rattle.bit_line.proofs.ContentLaws.{packed-length}
 use Rattle.su_octets.specs.Bits.{low_bits, bits_of}
@@ -116,3 +118,10 @@ length-few k x few = omega (arith, length-reverse (low_bits k x), length-low_bit
 pub each_none : (x : ℕ) (h : List Bool) → reverse (low_bits 0 x) ++ h ≡ h
 unfolding low_bits
 each_none x h = refl
+
+-- ---- in a content
+pub holds-few : (k d h : List Bool) (old new : Content) → new.ones ≤ 5 → new.ones ≡ trailing (k ++ h) → new.six ≡ old.six → has_six (k ++ h) ≡ has_six h
+    → taken_out (k ++ h) ≡ d ++ taken_out h → Gathers (d ++ taken_out h) new.data_bits → Holds h old → Holds (k ++ h) new
+holds-few k d h old new few ones six same_six taken gathers holds =
+    let P : List Bool → Type 0 = λ l. Gathers l new.data_bits in
+    record { ones = omega (arith, few, ones); six = six ∙ holds.six ∙ sym same_six; gathers = subst P (sym taken) gathers }

@@ -13,5 +13,7 @@ pub mod PassLaws
 pub mod PlainLaws
 pub mod FewLaws
 pub mod TakenLaws
+pub mod RunLaws
 pub mod PaceLaws
+pub mod UntilLaws
 pub mod ThroughLaws

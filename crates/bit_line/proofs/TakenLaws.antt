@@ -1,7 +1,7 @@
 -- Inserted zeros among a few line bits: what the code's numbers say of them, by trying each.
 use Rattle.std.proofs.Common.{◌≡◌, ℕ, ◌+◌, ◌-◌, ◌*◌, ◌/◌, ◌%◌, ◌^◌, ◌<◌, ◌≤◌, suc, Bool, true, false, cond, not, List, [], ◌∷◌, ◌++◌, reverse, refl, sym, ap, ◌∙◌, arith, subst, inl, inr}
 use Rattle.std.specs.Prelude.{◌==◌, ◌&&◌, ◌||◌, ◌⊎◌, nat_lt, nat_le}
-use Rattle.std.specs.Int.{leading_ones, w16}
+use Rattle.std.specs.Int.{leading_ones, w8, w16}
 use Rattle.std.proofs.lemmas.Nat.{pow_pos, one_shl}
 use Rattle.std.proofs.lemmas.Bool.{eqb-true, ltb-true}
 use Rattle.std.proofs.lemmas.Bool.Decides.{eqb_tells}
@@ -201,3 +201,17 @@ gives_ones r len x n y h is count = sym is.ones ∙ (comes (low_bits len x) h r 
 
 pub gives_six : (r len x n y : ℕ) (h : List Bool) → Gives r len x n y → r ≡ trailing h → has_six (reverse (low_bits len x) ++ h) ≡ has_six h
 gives_six r len x n y h is count = (comes (low_bits len x) h r count).six is.six
+
+-- ---- eight bits without five 1s in a row
+abbrev eight_told : ℕ → ℕ → Bool
+eight_told r x = cond (fives_of (window_of x r) == 0) (leading_ones w8 x == after_of r 8 x) true
+
+eights : all_below (λ r. all_below (λ x. eight_told r x) 256) 6 ≡ true
+unfolding count_leading_zeros
+eights = refl
+
+pub eight_ones : (r x : ℕ) → r ≤ 5 → x < 256 → fives_of (window_of x r) ≡ 0 → leading_ones w8 x ≡ after_of r 8 x
+eight_ones r x few small none =
+    eqb-true (leading_ones w8 x) (after_of r 8 x)
+    (if_so (fives_of (window_of x r)) (leading_ones w8 x == after_of r 8 x) true none
+    (at_one (λ y. eight_told r y) 256 x (at_one (λ q. all_below (λ y. eight_told q y) 256) 6 r eights (omega arith)) small))

@@ -1,5 +1,6 @@
 -- How the code's answers are read.
-use Rattle.std.specs.Prelude.{ℕ, List, [], ◌∷◌, ◌++◌}
+use Rattle.std.specs.Prelude.{ℕ, Option, Some, None, List, [], ◌∷◌, ◌++◌}
+use Rattle.arrayvec.specs.ArrayVec.{ArrayVec}
 use Rattle.bit_line.specs.Counting.{sixteen_of}
 use Rattle.bit_line.specs.Events.{Verdict, Correct, Wrong, Nothing}
 use Rattle.bit_line.specs.declared.content.Content.{Content}
@@ -30,3 +31,8 @@ abbrev pub weight_of : Closed → ℕ
 weight_of closed.Correct = 1
 weight_of closed.Wrong = 1
 weight_of closed.Nothing = 0
+
+-- the reports that were given, or none
+abbrev pub given_of : Option (ArrayVec LineEvent) → List LineEvent
+given_of None = []
+given_of (Some given) = given.items

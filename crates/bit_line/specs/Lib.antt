@@ -6,5 +6,6 @@ pub mod Parts
 pub mod Counting
 pub mod Judging
 pub mod Deframing
+pub mod Running
 pub mod Stuffers
 pub mod Laws

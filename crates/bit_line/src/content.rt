@@ -7,7 +7,7 @@ ghost use Rattle.std.specs.Bool.{MatchBool};
 ghost use Rattle.su_octets.specs.Bits.{low_bits, AreOctets};
 
 use crate::data::Data;
-use crate::taken::taken_from;
+use crate::taken::{ones_after, taken_from};
 use su_octets::decode;
 
 /// How the content between two flags is judged.
@@ -115,6 +115,20 @@ impl Content {
             self.data_bits.push_few(taken.bits, taken.len);
         } else {
             self.push_each(bits, len);
+        }
+    }
+
+    /// Adds eight line bits, the low one first.
+    pub fn push_eight(&mut self, octet: u8)
+        ensures { (h : List Bool) → Holds h self.old → Holds (reverse (low_bits 8 octet) ++ h) self.new }
+    {
+        if self.ones > 5 {
+            self.push_each(octet, 8);
+        } else if let Some(ones) = ones_after(octet, self.ones) {
+            self.ones = ones;
+            self.data_bits.push_eight(octet);
+        } else {
+            self.push_few(octet, 8);
         }
     }
 

@@ -105,6 +105,18 @@ impl Data {
         }
     }
 
+    /// Adds eight bits, the low one first.
+    pub fn push_eight(&mut self, octet: u8)
+        ensures { (h : List Bool) → Gathers h self.old → Gathers (reverse (low_bits 8 octet) ++ h) self.new }
+    {
+        if self.octets.len() >= 277 {
+            self.push_each(octet, 8);
+        } else {
+            let whole = self.part.push_eight(octet);
+            self.octets.push(whole);
+        }
+    }
+
     /// Adds bits one by one, the low one first.
     fn push_each(&mut self, bits: u8, len: u8)
         requires { len ≤ 8 }

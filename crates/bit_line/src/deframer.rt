@@ -1,14 +1,16 @@
 //! Line bits to events.
-ghost use Rattle.std.specs.Prelude.{◌≡◌, ◌≤◌, ◌<◌, ◌+◌, ◌*◌, ◌/◌, ◌%◌, ◌^◌, ◌≢◌, ℕ, Bool, true, false, List, [], ◌∷◌, ◌++◌, IfOk, OnOk, OnErr, reverse, length, if◌then◌else◌, unwrap_or, None};
+ghost use Rattle.std.specs.Prelude.{◌≡◌, ◌≤◌, ◌<◌, ◌+◌, ◌-◌, ◌*◌, ◌/◌, ◌%◌, ◌^◌, ◌≢◌, ℕ, Bool, true, false, List, [], ◌∷◌, ◌++◌, IfOk, OnOk, OnErr, IfSome, reverse, length, take, if◌then◌else◌, unwrap_or, None};
 ghost use Rattle.arrayvec.specs.ArrayVec.{array_vec_len};
 ghost use Rattle.su_octets.specs.Bits.{low_bits, bits_of};
-ghost use Rattle.bit_line.specs.Counting.{sixteen_of};
 ghost use Rattle.bit_line.specs.declared.events.LineEvent.{LineEvent};
 
 use crate::content::Closed;
 use crate::counter::{Counter, Given};
 use crate::events::{LineEvent, NoMemory};
 use crate::gate::Gate;
+use crate::reports::{push_sixteen, put_sixteen};
+use crate::run::Run;
+use crate::window::{is_plain, newer, plain_count};
 use arrayvec::ArrayVec;
 use std::alloc::Global;
 
@@ -29,9 +31,10 @@ pub struct Deframer {
 impl Deframer {
     ghost use Rattle.bit_line.specs.Deframing.{StandsAt, Stands, LetsIn};
     ghost use Rattle.bit_line.specs.Events.{AreEvents, UnitsDecode, closings};
+    ghost use Rattle.bit_line.specs.Running.{IsCalm};
     ghost use Rattle.bit_line.specs.Flags.{inside, MOST_BITS};
     ghost use Rattle.bit_line.specs.Stuffing.{taken_out};
-    ghost use Rattle.bit_line.specs.Judging.{report_of, reports_of, weight_of};
+    ghost use Rattle.bit_line.specs.Judging.{report_of, reports_of, weight_of, given_of};
 
     /// A deframer before the first bit.
     pub fn new() -> Self
@@ -156,6 +159,58 @@ impl Deframer {
         count
     }
 
+    /// Takes octets from the front at once, as long as none of their bits comes behind six 1s, and no inserted zero among them. Answers
+    /// how many; they report nothing.
+    fn take_run(&mut self, octets: &[u8]) -> usize
+        ensures most { result ≤ length octets.now }
+        ensures stands { (h : List Bool) (events : List LineEvent) → StandsAt h events self.old
+            → StandsAt (reverse (bits_of (take result octets.now)) ++ h) events self.new }
+    {
+        let content = &self.gate.content;
+        if !self.is_open() || content.ones > 5 {
+            return 0;
+        }
+        let start = Run {
+            recent: self.recent,
+            ones: content.ones,
+            part: content.data_bits.part,
+        };
+        let (taken, run) = start.over(&mut self.gate.content.data_bits.octets, octets);
+        self.recent = run.recent;
+        self.gate.content.ones = run.ones;
+        self.gate.content.data_bits.part = run.part;
+        taken
+    }
+
+    /// Whether the mode is the normal one, and each bit lets one into the content, which has no more bits than a unit.
+    fn is_open(&self) -> bool
+        ensures { result ≡ true → IsCalm self.now }
+    {
+        if !self.counter.is_normal() || !self.gate.seen {
+            return false;
+        }
+        self.gate.wait == 0 && !self.gate.content.data_bits.over
+    }
+
+    /// Takes an octet at once, the low bit first, where none of its bits comes behind six 1s and it reports nothing, as far as that is
+    /// known at once. Answers whether it did.
+    fn take_whole(&mut self, octet: u8) -> bool
+        ensures taken { result ≡ true → (h : List Bool) (events : List LineEvent) → StandsAt h events self.old
+            → StandsAt (reverse (low_bits 8 octet) ++ h) events self.new }
+        ensures left { result ≡ false → self.new ≡ self.old }
+    {
+        if !self.is_calm() {
+            return false;
+        }
+        let window = u16::from(self.recent) + u16::from(octet) * 128;
+        if !is_plain(window) {
+            return false;
+        }
+        self.gate.pass_eight((window % 256) as u8);
+        self.recent = (window / 256) as u8;
+        true
+    }
+
     fn copy(&self) -> Self
         ensures { (h : List Bool) (events : List LineEvent) → StandsAt h events self.now → StandsAt h events result }
     {
@@ -210,6 +265,53 @@ impl Deframer {
         events
     }
 
+    /// Takes the eight bits of an octet, the low one first, and gives what they report, if they report anything.
+    fn feed_one(&mut self, octet: u8) -> Option<ArrayVec<LineEvent, 8>>
+        ensures some { IfSome result (λ given. given.items ≢ []) }
+        ensures stands { (bits : List Bool) → Stands bits self.old → Stands (bits ++ low_bits 8 octet) self.new }
+        ensures events { (bits : List Bool) (events : List LineEvent) → Stands bits self.old → AreEvents bits events
+            → AreEvents (bits ++ low_bits 8 octet) (events ++ given_of result) }
+        ensures decode { (bits : List Bool) → Stands bits self.old → UnitsDecode (given_of result) }
+        ensures one { (bits : List Bool) → Stands bits self.old → closings (given_of result) ≤ 1 }
+    {
+        if self.take_whole(octet) {
+            return None;
+        }
+        let events = self.feed_byte(octet);
+        if events.is_empty() {
+            None
+        } else {
+            Some(events)
+        }
+    }
+
+    /// Takes octets from the front up to the first one that reports something, the low bit of each first. Gives how many it took,
+    /// and what the last of them reported: nothing where none of the octets reports anything, and then it took all.
+    pub fn feed_until(&mut self, octets: &[u8]) -> (usize, ArrayVec<LineEvent, 8>)
+        ensures most { result.0 ≤ length octets.now }
+        ensures all { result.1.items ≡ [] → result.0 ≡ length octets.now }
+        ensures stands { (bits : List Bool) → Stands bits self.old → Stands (bits ++ bits_of (take result.0 octets.now)) self.new }
+        ensures events { (bits : List Bool) (events : List LineEvent) → Stands bits self.old → AreEvents bits events
+            → AreEvents (bits ++ bits_of (take result.0 octets.now)) (events ++ result.1.items) }
+        ensures before { result.1.items ≢ [] → (bits : List Bool) (events : List LineEvent) → Stands bits self.old → AreEvents bits events
+            → (0 < result.0) × AreEvents (bits ++ bits_of (take (result.0 - 1) octets.now)) events }
+        ensures decode { (bits : List Bool) → Stands bits self.old → UnitsDecode result.1.items }
+        ensures one { (bits : List Bool) → Stands bits self.old → closings result.1.items ≤ 1 }
+    {
+        let mut taken = 0;
+        while taken < octets.len() {
+            taken += self.take_run(&octets[taken..]);
+            if taken < octets.len() {
+                let given = self.feed_one(octets[taken]);
+                taken += 1;
+                if let Some(events) = given {
+                    return (taken, events);
+                }
+            }
+        }
+        (taken, ArrayVec::new())
+    }
+
     /// Puts the report of what a flag closed at the end.
     fn push_closed(&self, closed: Closed, events: &mut Vec<LineEvent>) -> Result<(), NoMemory>
         ensures { OnOk result (events.new.items ≡ events.old.items ++ report_of closed self.now.gate.content) }
@@ -226,6 +328,18 @@ impl Deframer {
 
     /// Takes the eight bits of an octet, and puts what they report at the end.
     fn push_octet(&mut self, octet: u8, events: &mut Vec<LineEvent>) -> Result<(), NoMemory>
+        ensures { OnOk result ((h : List Bool) (before : List LineEvent) → StandsAt h (before ++ events.old.items) self.old
+            → StandsAt (reverse (low_bits 8 octet) ++ h) (before ++ events.new.items) self.new) }
+    {
+        if self.take_whole(octet) {
+            Ok(())
+        } else {
+            self.push_bits(octet, events)
+        }
+    }
+
+    /// Takes the eight bits of an octet in as few steps as may be, and puts what they report at the end.
+    fn push_bits(&mut self, octet: u8, events: &mut Vec<LineEvent>) -> Result<(), NoMemory>
         ensures { OnOk result ((h : List Bool) (before : List LineEvent) → StandsAt h (before ++ events.old.items) self.old
             → StandsAt (reverse (low_bits 8 octet) ++ h) (before ++ events.new.items) self.new) }
     {
@@ -256,54 +370,15 @@ impl Deframer {
     {
         let mut next = self.copy();
         let mut events = Vec::new(alloc);
-        for octet in octets {
-            next.push_octet(*octet, &mut events)?;
+        let mut taken = 0;
+        while taken < octets.len() {
+            taken += next.take_run(&octets[taken..]);
+            if taken < octets.len() {
+                next.push_octet(octets[taken], &mut events)?;
+                taken += 1;
+            }
         }
         *self = next;
         Ok(events)
     }
-}
-
-/// Puts the report of 128 full bits at the end.
-fn put_sixteen(full: bool, events: &mut ArrayVec<LineEvent, 8>)
-    requires { array_vec_len events.old < 8 }
-    ensures items { events.new.items ≡ events.old.items ++ sixteen_of full }
-    ensures len { array_vec_len events.new ≡ array_vec_len events.old + (if full then 1 else 0) }
-{
-    if full {
-        events.push(LineEvent::SixteenOctets);
-    }
-}
-
-/// Puts the report of 128 full bits at the end.
-fn push_sixteen(full: bool, events: &mut Vec<LineEvent>) -> Result<(), NoMemory>
-    ensures { OnOk result (events.new.items ≡ events.old.items ++ sixteen_of full) }
-{
-    if full {
-        events.push(LineEvent::SixteenOctets)?;
-    }
-    Ok(())
-}
-
-/// How many of up to eight bits, the low one first, come behind anything but six 1s, as far as that is known at once: the
-/// newest seven bits before them are given.
-fn plain_count(recent: u8, bits: u8, len: u8) -> u8
-    requires recent { recent < 128 }
-    requires few { len ≤ 8 }
-    ensures most { result ≤ len }
-    ensures plain { (m : ℕ) → m < result → (recent + bits * 128) / 2 ^ m % 128 ≢ 126 }
-{
-    let window = u16::from(recent) + u16::from(bits) * 128;
-    let pairs = window & window >> 1;
-    let sixes = pairs & pairs >> 2 & pairs >> 4;
-    let count = (sixes.trailing_zeros() as u8).saturating_sub(1).min(len);
-    if sixes % (2 << count) == 0 { count } else { 0 }
-}
-
-/// The newest seven bits after one more.
-fn newer(recent: u8, bit: bool) -> u8
-    requires { recent < 128 }
-    ensures { result ≡ recent / 2 + 64 * (if bit then 1 else 0) }
-{
-    recent / 2 + 64 * bit as u8
 }

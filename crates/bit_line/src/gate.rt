@@ -89,6 +89,21 @@ impl Gate {
         self.wait = 0;
     }
 
+    /// Takes eight bits that end no flag. `late` are the bits seven before them, the first one lowest.
+    pub fn pass_eight(&mut self, late: u8)
+        ensures { (h k : List Bool) → length k ≡ 8 → EndsNone k h → drop 7 (k ++ newest 7 h) ≡ reverse (low_bits 8 late)
+            → LetsIn h self.old → LetsIn (k ++ h) self.new }
+    {
+        if !self.seen {
+            return;
+        }
+        if self.wait == 0 {
+            self.content.push_eight(late);
+        } else {
+            self.pass_few(late, 8);
+        }
+    }
+
     /// How what lies inside is judged, if the next bit ends a flag.
     fn judge(&self) -> Closed
         ensures judged { (h : List Bool) → LetsIn h self.now → IsJudged (inside h) (verdict_of result self.now.content) }

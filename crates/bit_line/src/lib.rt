@@ -13,10 +13,13 @@ mod events;
 mod gate;
 pub mod laws;
 mod part;
+mod reports;
+mod run;
 mod stuffer;
 mod taken;
 #[cfg(test)]
 mod tests;
+mod window;
 
 pub use deframer::Deframer;
 pub use events::{LineEvent, NoMemory};

@@ -59,3 +59,23 @@ pub fn taken_from(bits: u8, len: u8, ones: u8) -> Option<Taken>
         ones: after,
     })
 }
+
+/// How many 1s in a row eight line bits end with, where no five 1s in a row are among them and the 1s before them: then all are
+/// left.
+pub fn ones_after(octet: u8, ones: u8) -> Option<u8>
+    requires no_six { ones ≤ 5 }
+    ensures bits { IfSome result (λ n. (h : List Bool) → ones ≡ trailing h
+        → taken_out (reverse (low_bits 8 octet) ++ h) ≡ reverse (low_bits 8 octet) ++ taken_out h) }
+    ensures ones { IfSome result (λ n. (h : List Bool) → ones ≡ trailing h → n ≡ trailing (reverse (low_bits 8 octet) ++ h)) }
+    ensures six { IfSome result (λ n. (h : List Bool) → ones ≡ trailing h → has_six (reverse (low_bits 8 octet) ++ h) ≡ has_six h) }
+    ensures no_six { IfSome result (λ n. n ≤ 5) }
+{
+    let window = ((u16::from(octet) + 1) << ones) - 1;
+    let pairs = window & window >> 1;
+    let fives = pairs & pairs >> 2 & window >> 4;
+    if fives == 0 {
+        Some(octet.leading_ones() as u8)
+    } else {
+        None
+    }
+}

@@ -1,8 +1,9 @@
 //! Sends random message signal units through a stuffer and a deframer, and measures both.
 //!
 //! Without a word it makes one round, and prints how many units came back. With a number of rounds it also prints octets per
-//! second, `out` of units put on the line and `in` of the line that were read and decoded, `store`, messages a second that were
-//! put, sent and acknowledged, and `retrieve`, messages a second that a full store handed out.
+//! second, `out` of units put on the line, `in` of the line that were read and decoded, and `each` of those that were taken one by
+//! one; the same with `fisu_` for a line of fill-in units; `store`, messages a second that were put, sent and acknowledged, and
+//! `retrieve`, messages a second that a full store handed out.
 #![tactic(auto)]
 
 ghost use Rattle.std.specs.Prelude.{◌≡◌, ◌<◌};
@@ -16,8 +17,11 @@ use std::time::{Duration, Instant};
 use std::{env, io};
 use su_octets::{Head, Unit, decode};
 
-/// How many units a round has.
+/// How many messages a round has.
 const UNITS: u32 = 2000;
+
+/// How many fill-in units a round has.
+const FISUS: u32 = 50_000;
 
 /// Numbers that look random, the same in each run.
 #[derive(Drop)]
@@ -70,13 +74,31 @@ fn message(draws: &mut Draws) -> Unit {
 }
 
 /// The messages of a round.
-fn messages(alloc: Global) -> Result<Vec<Unit>, AllocError> {
-    let mut draws = Draws {
-        state: 2_463_534_242,
-    };
+fn messages(alloc: Global, draws: &mut Draws) -> Result<Vec<Unit>, AllocError> {
     let mut units = Vec::with_capacity(alloc, UNITS as usize)?;
     for _ in 0..UNITS {
-        units.push(message(&mut draws))?;
+        units.push(message(draws))?;
+    }
+    Ok(units)
+}
+
+/// The next random fill-in unit.
+fn fill_in(draws: &mut Draws) -> Unit {
+    let first = draws.octet();
+    let second = draws.octet();
+    Unit::Fisu(Head {
+        bsn: first % 128,
+        bib: first / 128,
+        fsn: second % 128,
+        fib: second / 128,
+    })
+}
+
+/// The fill-in units of a round.
+fn fill_ins(alloc: Global, draws: &mut Draws) -> Result<Vec<Unit>, AllocError> {
+    let mut units = Vec::with_capacity(alloc, FISUS as usize)?;
+    for _ in 0..FISUS {
+        units.push(fill_in(draws))?;
     }
     Ok(units)
 }
@@ -102,6 +124,20 @@ fn receive(alloc: Global, line: &[u8]) -> Result<u64, AllocError> {
     for piece in line.chunks(1024) {
         let events = deframer.feed(alloc, piece).map_err(|_| AllocError)?;
         for event in events.iter() {
+            if let LineEvent::Unit(_) = event {
+                units = units.saturating_add(1);
+            }
+        }
+    }
+    Ok(units)
+}
+
+/// Reads the line octet by octet, and counts the units that it has.
+fn receive_each(line: &[u8]) -> u64 {
+    let mut deframer = Deframer::new();
+    let mut units = 0u64;
+    for octet in line {
+        for event in deframer.feed_byte(*octet).iter() {
             if let LineEvent::Unit(octets) = event {
                 if decode(octets.as_slice()).is_ok() {
                     units = units.saturating_add(1);
@@ -109,7 +145,7 @@ fn receive(alloc: Global, line: &[u8]) -> Result<u64, AllocError> {
             }
         }
     }
-    Ok(units)
+    units
 }
 
 /// Puts each message into a store, sends it and has it acknowledged. Gives how many went out.
@@ -194,15 +230,18 @@ fn octets_of(units: &[Unit]) -> usize {
     octets
 }
 
-/// Makes the rounds, and prints what came of them.
-fn run<R: Runtime + AllocGlobal>(rt: &R) -> io::Result<()> {
-    let asked = rounds(rt)?;
+/// Sends and receives the units, and prints what came of them: how many came back, and octets a second where it is asked.
+fn measure<R: Runtime + AllocGlobal>(
+    rt: &R,
+    name: &str,
+    units: &[Unit],
+    asked: Option<u32>,
+) -> io::Result<()> {
     let count = asked.unwrap_or(1);
-    let units = messages(rt.alloc())?;
     let mut line = Vec::with_capacity(rt.alloc(), 700_000)?;
     let start = Instant::now(rt)?;
     for _ in 0..count {
-        send(units.as_slice(), &mut line)?;
+        send(units, &mut line)?;
     }
     let sending = start.elapsed(rt)?;
     let start = Instant::now(rt)?;
@@ -211,12 +250,33 @@ fn run<R: Runtime + AllocGlobal>(rt: &R) -> io::Result<()> {
         received = receive(rt.alloc(), line.as_slice())?;
     }
     let receiving = start.elapsed(rt)?;
-    println!(rt; "units {received}")?;
+    let start = Instant::now(rt)?;
+    let mut each = 0;
+    for _ in 0..count {
+        each = receive_each(line.as_slice());
+    }
+    let by_octet = start.elapsed(rt)?;
+    println!(rt; "{name}units {received} {each}")?;
     if asked.is_some() {
-        let out = rate(octets_of(units.as_slice()), count, sending);
-        println!(rt; "out {out}")?;
+        let out = rate(octets_of(units), count, sending);
         let into = rate(line.len(), count, receiving);
-        println!(rt; "in {into}")?;
+        let one = rate(line.len(), count, by_octet);
+        println!(rt; "{name}out {out}\n{name}in {into}\n{name}each {one}")?;
+    }
+    Ok(())
+}
+
+/// Makes the rounds, and prints what came of them.
+fn run<R: Runtime + AllocGlobal>(rt: &R) -> io::Result<()> {
+    let asked = rounds(rt)?;
+    let mut draws = Draws {
+        state: 2_463_534_242,
+    };
+    let units = messages(rt.alloc(), &mut draws)?;
+    let fisus = fill_ins(rt.alloc(), &mut draws)?;
+    measure(rt, "", units.as_slice(), asked)?;
+    measure(rt, "fisu_", fisus.as_slice(), asked)?;
+    if let Some(count) = asked {
         keep(rt, units.as_slice(), count)?;
     }
     Ok(())

@@ -1,26 +1,43 @@
-use Rattle.std.proofs.Common.{arith}
+use Rattle.std.proofs.Common.{◌+◌, arith}
 use Rattle.su_octets.specs.Bits.{bits_of}
 use Rattle.bit_line.proofs.EventLaws as laws
+use Rattle.bit_line.proofs.UntilLaws.{at_run, tail_length}
 use Rattle.bit_line.proofs.PaceLaws.{decode_by}
 use Rattle.bit_line.proofs.deframer.Deframer.feed.Goals as goal
 
-pub loop-octet-init : goal.loop-octet-init
-loop-octet-init c h before stands = laws.at_start h before c.new-events.result.items c.copy-next.result c.new-events.ensures.items stands
+pub loop-taken-init : goal.loop-taken-init
+loop-taken-init c = record {
+  within = omega arith;
+  stands = λ h before stands. laws.at_start h before c.new-events.result.items c.copy-next.result c.new-events.ensures.items stands;
+}
 
-pub loop-octet-preserved : goal.loop-octet-preserved
-loop-octet-preserved c h before stands = laws.at_next c.loop-octet.octet-index c.args.octets.now h _ c.push_octet.new.self (omega arith) (c.in_ok-push_octet.ensures _ before (c.loop-octet.invariant h before stands))
+pub loop-taken-preserved-then-taken-octets : goal.loop-taken-preserved-then-taken-octets
+loop-taken-preserved-then-taken-octets c = record {
+  within = omega (arith, c.if-taken-octets.true);
+  stands = λ h before stands.
+      laws.at_next (c.loop-taken.taken + c.take_run-taken.result) c.args.octets.now h _ c.push_octet.new.self c.if-taken-octets.true
+      (c.in_ok-push_octet.ensures _ before
+      (at_run c.loop-taken.taken c.take_run-taken.result c.args.octets.now h _ c.take_run-taken.new.self (c.take_run-taken.ensures.stands _ _ (c.loop-taken.invariant.stands h before stands))));
+}
+
+pub loop-taken-preserved : goal.loop-taken-preserved
+loop-taken-preserved c = record {
+  within = omega (arith, c.take_run-taken.ensures.most, tail_length c.loop-taken.taken c.args.octets.now, c.loop-taken.invariant.within);
+  stands = λ h before stands.
+      at_run c.loop-taken.taken c.take_run-taken.result c.args.octets.now h _ c.take_run-taken.new.self (c.take_run-taken.ensures.stands _ _ (c.loop-taken.invariant.stands h before stands));
+}
 
 pub returns-clause-stands : goal.returns-clause-stands
 returns-clause-stands c bits =
-    laws.stands_by bits _ c.loop-octet.events.items c.args.self.now c.loop-octet.next
-    (λ h events stands. laws.at_whole c.loop-octet.octet-index c.args.octets.now h _ c.loop-octet.next (omega arith) (c.loop-octet.invariant h events (c.copy-next.ensures h events stands)))
+    laws.stands_by bits _ c.loop-taken.events.items c.args.self.now c.loop-taken.next
+    (λ h events stands. laws.at_whole c.loop-taken.taken c.args.octets.now h _ c.loop-taken.next (omega (arith, c.loop-taken-test.false)) (c.loop-taken.invariant.stands h events (c.copy-next.ensures h events stands)))
 
 pub returns-clause-events : goal.returns-clause-events
 returns-clause-events c bits events =
-    laws.events_by bits _ c.loop-octet.events.items events c.args.self.now c.loop-octet.next
-    (λ h es stands. laws.at_whole c.loop-octet.octet-index c.args.octets.now h _ c.loop-octet.next (omega arith) (c.loop-octet.invariant h es (c.copy-next.ensures h es stands)))
+    laws.events_by bits _ c.loop-taken.events.items events c.args.self.now c.loop-taken.next
+    (λ h es stands. laws.at_whole c.loop-taken.taken c.args.octets.now h _ c.loop-taken.next (omega (arith, c.loop-taken-test.false)) (c.loop-taken.invariant.stands h es (c.copy-next.ensures h es stands)))
 
 pub returns-clause-decode : goal.returns-clause-decode
 returns-clause-decode c bits =
-    decode_by bits (bits_of c.args.octets.now) c.loop-octet.events.items c.args.self.now c.loop-octet.next
-    (λ h es stands. laws.at_whole c.loop-octet.octet-index c.args.octets.now h _ c.loop-octet.next (omega arith) (c.loop-octet.invariant h es (c.copy-next.ensures h es stands)))
+    decode_by bits (bits_of c.args.octets.now) c.loop-taken.events.items c.args.self.now c.loop-taken.next
+    (λ h es stands. laws.at_whole c.loop-taken.taken c.args.octets.now h _ c.loop-taken.next (omega (arith, c.loop-taken-test.false)) (c.loop-taken.invariant.stands h es (c.copy-next.ensures h es stands)))

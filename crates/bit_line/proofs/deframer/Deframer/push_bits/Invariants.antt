@@ -2,7 +2,7 @@ use Rattle.std.proofs.Common.{◌-◌, ◌≤◌, Bool, List, ◌++◌, reverse}
 use Rattle.su_octets.specs.Bits.{low_bits}
 use Rattle.bit_line.specs.Deframing.{StandsAt}
 use Rattle.bit_line.specs.declared.events.LineEvent.{LineEvent}
-use Rattle.bit_line.proofs.deframer.Deframer.push_octet.Given as goal
+use Rattle.bit_line.proofs.deframer.Deframer.push_bits.Given as goal
 
 abbrev pub invariant-loop-taken : goal.invariant-loop-taken
 invariant-loop-taken l = record {

@@ -2,7 +2,7 @@ use Rattle.std.proofs.Common.{◌+◌, ◌∙◌, ap, arith, append_assoc, ◌++
 use Rattle.bit_line.proofs.EventLaws as laws
 use Rattle.bit_line.specs.Counting.{sixteen_of}
 use Rattle.bit_line.specs.Judging.{report_of}
-use Rattle.bit_line.proofs.deframer.Deframer.push_octet.Goals as goal
+use Rattle.bit_line.proofs.deframer.Deframer.push_bits.Goals as goal
 
 pub loop-taken-init : goal.loop-taken-init
 loop-taken-init c = record { stands = λ h before stands. laws.at_zero c.args.octet h _ c.args.self.now stands; most = omega arith }

@@ -1,6 +1,6 @@
 use Rattle.std.proofs.Common.{◌+◌, ◌*◌, arith}
 use Rattle.bit_line.proofs.PlainLaws.{plain_by}
-use Rattle.bit_line.proofs.deframer.plain_count.Goals as goal
+use Rattle.bit_line.proofs.window.plain_count.Goals as goal
 
 pub returns-then-sixes-count-eq0-clause-plain : goal.returns-then-sixes-count-eq0-clause-plain
 returns-then-sixes-count-eq0-clause-plain c m less =

@@ -1,0 +1,44 @@
+-- What plain octets change of a deframer.
+use Rattle.std.specs.Prelude.{◌≡◌, ◌≢◌, ℕ, ◌+◌, ◌*◌, ◌/◌, ◌%◌, ◌^◌, ◌<◌, Bool, true, false, None, List, [], ◌∷◌, ◌++◌, reverse}
+use Rattle.su_octets.specs.Bits.{low_bits}
+use Rattle.bit_line.specs.Parts.{Packed}
+use Rattle.bit_line.specs.Stuffing.{trailing, taken_out}
+use Rattle.bit_line.specs.Deframing.{has_six}
+use Rattle.bit_line.specs.declared.deframer.Deframer.{Deframer}
+use Rattle.bit_line.specs.declared.run.Run.{Run}
+
+-- the deframer with these in place of its own
+abbrev pub with_run : Deframer → Run → List ℕ → Deframer
+with_run base run octets = record {
+  recent = run.recent;
+  gate = record {
+    seen = base.gate.seen;
+    wait = base.gate.wait;
+    content = record {
+      ones = run.ones;
+      six = base.gate.content.six;
+      data_bits = record { octets = record { items = octets }; part = run.part; over = base.gate.content.data_bits.over };
+    };
+    wait_fits = base.gate.wait_fits;
+  };
+  counter = base.counter;
+  recent_fits = run.recent_fits;
+}
+
+-- a deframer in normal mode that lets bits in
+pub record IsCalm (base : Deframer) : Type 0 where
+  pub normal : base.counter.count ≡ None
+  pub seen : base.gate.seen ≡ true
+  pub wait : base.gate.wait ≡ 0
+  pub over : base.gate.content.data_bits.over ≡ false
+
+-- an octet whose bits come behind no six 1s, and one octet more of content without inserted zeros
+pub record IsPlainStep (run : Run) (octet : ℕ) (next : Run) (whole : ℕ) : Type 0 where
+  pub plain : (m : ℕ) → m < 8 → (run.recent + octet * 128) / 2 ^ m % 128 ≢ 126
+  pub recent : next.recent ≡ (run.recent + octet * 128) / 2 ^ 8 % 128
+  pub data_bits : (h : List Bool) → run.ones ≡ trailing h
+      → taken_out (reverse (low_bits 8 ((run.recent + octet * 128) % 2 ^ 8)) ++ h) ≡ reverse (low_bits 8 ((run.recent + octet * 128) % 2 ^ 8)) ++ taken_out h
+  pub ones : (h : List Bool) → run.ones ≡ trailing h → next.ones ≡ trailing (reverse (low_bits 8 ((run.recent + octet * 128) % 2 ^ 8)) ++ h)
+  pub six : (h : List Bool) → run.ones ≡ trailing h → has_six (reverse (low_bits 8 ((run.recent + octet * 128) % 2 ^ 8)) ++ h) ≡ has_six h
+  pub packed : (octets : List ℕ) (h : List Bool) → Packed octets run.part.bits run.part.len h
+      → Packed (octets ++ whole ∷ []) next.part.bits next.part.len (reverse (low_bits 8 ((run.recent + octet * 128) % 2 ^ 8)) ++ h)

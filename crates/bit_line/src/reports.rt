@@ -1,0 +1,28 @@
+//! Reports of counting mode.
+ghost use Rattle.std.specs.Prelude.{◌≡◌, ◌<◌, ◌+◌, ◌++◌, OnOk, if◌then◌else◌};
+ghost use Rattle.arrayvec.specs.ArrayVec.{array_vec_len};
+ghost use Rattle.bit_line.specs.Counting.{sixteen_of};
+
+use crate::events::{LineEvent, NoMemory};
+use arrayvec::ArrayVec;
+
+/// Puts the report of 128 full bits at the end.
+pub fn put_sixteen(full: bool, events: &mut ArrayVec<LineEvent, 8>)
+    requires { array_vec_len events.old < 8 }
+    ensures items { events.new.items ≡ events.old.items ++ sixteen_of full }
+    ensures len { array_vec_len events.new ≡ array_vec_len events.old + (if full then 1 else 0) }
+{
+    if full {
+        events.push(LineEvent::SixteenOctets);
+    }
+}
+
+/// Puts the report of 128 full bits at the end.
+pub fn push_sixteen(full: bool, events: &mut Vec<LineEvent>) -> Result<(), NoMemory>
+    ensures { OnOk result (events.new.items ≡ events.old.items ++ sixteen_of full) }
+{
+    if full {
+        events.push(LineEvent::SixteenOctets)?;
+    }
+    Ok(())
+}

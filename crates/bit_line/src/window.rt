@@ -1,0 +1,34 @@
+//! The newest bits of a line as a number.
+ghost use Rattle.std.specs.Prelude.{◌≡◌, ◌≢◌, ◌≤◌, ◌<◌, ◌+◌, ◌*◌, ◌/◌, ◌%◌, ◌^◌, ℕ, true, if◌then◌else◌};
+
+/// Whether none of the last eight of fifteen bits comes behind six 1s.
+pub fn is_plain(window: u16) -> bool
+    ensures { result ≡ true → (m : ℕ) → m < 8 → window / 2 ^ m % 128 ≢ 126 }
+{
+    let pairs = window & window >> 1;
+    let sixes = pairs & pairs >> 2 & pairs >> 4;
+    sixes % 512 == 0
+}
+
+/// How many of up to eight bits, the low one first, come behind anything but six 1s, as far as that is known at once: the
+/// newest seven bits before them are given.
+pub fn plain_count(recent: u8, bits: u8, len: u8) -> u8
+    requires recent { recent < 128 }
+    requires few { len ≤ 8 }
+    ensures most { result ≤ len }
+    ensures plain { (m : ℕ) → m < result → (recent + bits * 128) / 2 ^ m % 128 ≢ 126 }
+{
+    let window = u16::from(recent) + u16::from(bits) * 128;
+    let pairs = window & window >> 1;
+    let sixes = pairs & pairs >> 2 & pairs >> 4;
+    let count = (sixes.trailing_zeros() as u8).saturating_sub(1).min(len);
+    if sixes % (2 << count) == 0 { count } else { 0 }
+}
+
+/// The newest seven bits after one more.
+pub fn newer(recent: u8, bit: bool) -> u8
+    requires { recent < 128 }
+    ensures { result ≡ recent / 2 + 64 * (if bit then 1 else 0) }
+{
+    recent / 2 + 64 * bit as u8
+}
