@@ -1,6 +1,4 @@
-use Rattle.std.proofs.Common.{◌≡◌, true, false, sym, ◌∙◌, ap}
-use Rattle.std.specs.List.{list_any}
-use Rattle.link_machine.specs.Refusals.{offers}
+use Rattle.std.proofs.Common.{◌∙◌}
 use Rattle.link_state.proofs.Offering.{offered_both, offered_not}
 use Rattle.link_state.proofs.offer.is_offered.Goals as goal
 
