@@ -24,4 +24,4 @@ unfolding passed timers_with with_both
 same_passed w k actors ts e f g =
     ap (λ x. with_both w x ts) e
     ∙ ap (λ y. with_both w (notified w.actors (due w.timers.deadlines (w.timers.clock + k))) y)
-        (same_timers ts (w.timers.clock + k) (not_due w.timers.deadlines (w.timers.clock + k)) f g)
+    (same_timers ts (w.timers.clock + k) (not_due w.timers.deadlines (w.timers.clock + k)) f g)

@@ -1,9 +1,9 @@
 -- What the states of a valid set save is within the bounds of a set.
-use Rattle.std.proofs.Common.{◌≡◌, ℕ, ◌<◌, ◌≤◌, zero, suc, List, [], ◌∷◌, length, Option, None, Some, refl, subst, arith}
-use Rattle.std.specs.Prelude.{All, slice_get, slice_index_or}
+use Rattle.std.proofs.Common.{◌≡◌, ℕ, ◌≤◌, zero, suc, List, [], ◌∷◌, length, Option, None, Some, refl, subst, arith}
+use Rattle.std.specs.Prelude.{All, slice_get}
 use Rattle.std.specs.List.{AllByRecursion}
 use Rattle.turn_code.specs.Valid.{IsValid, IsValidTransition}
-use Rattle.turn_code.specs.Rules.{IsThere, HasSaves, HasNumbers, KeepsLimits, KeepsProcessLimits, KeepsSetLimits}
+use Rattle.turn_code.specs.Rules.{IsThere, HasSaves}
 use Rattle.turn_code.specs.Transitions.{start_of, transition_at}
 use Rattle.turn_code.specs.declared.input.Place.TheVariants.{Start}
 use Rattle.turn_code.specs.declared.draft.Draft.{Draft}

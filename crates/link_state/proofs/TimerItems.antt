@@ -1,6 +1,5 @@
 -- The items of a port without that of a timer.
-use Rattle.std.proofs.Common.{◌≡◌, ℕ, Bool, true, false, not, List, [], ◌∷◌, filter, cond, refl}
-use Rattle.std.specs.List.{list_any}
+use Rattle.std.proofs.Common.{◌≡◌, ℕ, Bool, true, false, List, [], ◌∷◌, refl}
 use Rattle.input_port.specs.Queue.{is_of_timer, has_timer, without_timer}
 use Rattle.input_port.specs.declared.queue.Item.{Item}
 
