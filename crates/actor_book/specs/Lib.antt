@@ -1,3 +1,5 @@
+pub mod Accepted
 pub mod Answered
 pub mod Inside
 pub mod Limits
+pub mod Shown

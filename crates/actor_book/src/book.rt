@@ -93,4 +93,12 @@ impl Book {
             self.limit - (self.journal.len() + self.link.outs())
         }
     }
+
+    /// What holds of every book.
+    pub(crate) fn keeps(&self)
+        ensures state { self.link ≡ state_of self.now }
+        ensures kept { IsKept self.now }
+    {
+        let _ = &self.limit;
+    }
 }

@@ -6,8 +6,12 @@
 mod book;
 mod calls;
 mod event_runs;
+mod jobs;
 mod limits;
 mod readers;
+mod refused;
+mod replies;
+mod steps;
 mod turns;
 
 pub use book::Book;
