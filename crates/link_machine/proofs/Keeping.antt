@@ -2,7 +2,6 @@
 use Rattle.std.proofs.Common.{◌≡◌, ℕ, ◌+◌, ◌^◌, ◌≤◌, cond, List, [], ◌∷◌, ◌++◌, length, map, Option, Some, None, refl, sym, ap, ◌∙◌, subst, arith}
 use Rattle.std.specs.Prelude.{count_by}
 use Rattle.std.proofs.lemmas.List.Sums.{sum_by-cons, sum_by_push}
-use Rattle.turn_code.specs.Outcome.{Meaning}
 use Rattle.turn_code.specs.Safe.{SafeLaw, RunLaw}
 use Rattle.turn_code.specs.Valid.{IsValid}
 use Rattle.turn_code.specs.declared.draft.Draft.{Draft}
@@ -11,13 +10,13 @@ use Rattle.link_machine.specs.Core.{Core, outs}
 use Rattle.link_machine.specs.Fits.{CoreFits}
 use Rattle.link_machine.specs.Step.{Stepped, step}
 use Rattle.link_machine.specs.Refusals.{refuses}
-use Rattle.link_machine.specs.Ledger.{Ledger, runs, state_by, state_of, refusal_by, asked, ask, ask_by, room, rebased, after_by}
+use Rattle.link_machine.specs.Ledger.{Ledger, runs, state_of, refusal_by, asked, ask, ask_by, room, rebased, after_by}
 use Rattle.link_machine.specs.Kept.{Stands, IsBounded, AreNumbered, IsKept, is_finish, opened_actor, opened, opened_book}
 use Rattle.link_machine.specs.Laws.{WithinAt, AllWithin}
 use Rattle.link_machine.specs.declared.event.Event.{Event}
 use Rattle.link_machine.specs.declared.event.Event.TheVariants.{Offer, Begin, Skip, Finish, Advance, TakeEnv}
 use Rattle.link_machine.specs.declared.reply.Refusal.{Refusal}
-use Rattle.link_machine.proofs.Replays.{with_event, state_more, fits_law}
+use Rattle.link_machine.proofs.Replays.{with_event, ask_set, state_more, fits_law}
 use Rattle.link_machine.proofs.Ends.{passes_otherwise, finish_law}
 use Rattle.link_machine.proofs.Texts.{StepFits, fits_next}
 use Rattle.link_machine.proofs.Counts.{weight}
@@ -69,14 +68,6 @@ module _ (steps : StepFits) (safe : SafeLaw) (law : RunLaw) where
   asks b e h = kept_asked b e (step b.set (runs b.set) (state_of b) e) (refusal_by (runs b.set) b e) h (kept_next b e h)
 
 -- ---- a list of events
-
-asked_set : (b : Ledger) (e : Event) (s : Stepped) (o : Option Refusal) → (asked b e s o).book.set ≡ b.set
-asked_set b e s None = refl
-asked_set b e s (Some r) = refl
-
-ask_set : (m : Meaning) (b : Ledger) (e : Event) → (ask_by m b e).book.set ≡ b.set
-unfolding ask_by
-ask_set m b e = asked_set b e (step b.set m (state_by m b) e) (refusal_by m b e)
 
 module _ (steps : StepFits) (safe : SafeLaw) (law : RunLaw) where
   kept_after : (d : Draft) (b : Ledger) (es : List Event) → b.set ≡ d → IsKept b → IsKept (after_by (runs d) b es)

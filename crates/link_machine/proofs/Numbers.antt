@@ -23,7 +23,7 @@ use Rattle.link_machine.specs.Looking.{begun, skipped, given_now}
 use Rattle.link_machine.specs.Effects.{arrival_of, reached, receives, drops, hears, delivered, laid, laid_all, settled, moved, started, finished}
 use Rattle.link_machine.specs.Refusals.{refuses}
 use Rattle.link_machine.specs.Step.{Stepped, step, finish_by, outcome_at, offered_arrival, notified, due_in, passed}
-use Rattle.link_machine.specs.Ledger.{Ledger, runs, state_of, refusal_by, asked, ask, ask_by, room, rebased, turn_with, turn_given, turn_at, turn_out}
+use Rattle.link_machine.specs.Ledger.{Ledger, runs, state_of, refusal_by, asked, ask, ask_by, room, rebased, after_by, turn_with, turn_given, turn_at, turn_out}
 use Rattle.link_machine.specs.Kept.{HasOut, AreNumbered, IsKept, opened_actor, opened}
 use Rattle.link_machine.specs.Laws.{IsOver, OverLaw}
 use Rattle.link_machine.specs.declared.actor.Actor.{Actor}
@@ -33,7 +33,7 @@ use Rattle.link_machine.specs.declared.actor.Standing.TheVariants.{At, Stopped}
 use Rattle.link_machine.specs.declared.event.Event.{Event}
 use Rattle.link_machine.specs.declared.event.Event.TheVariants.{Offer, Begin, Skip, Finish, Advance, TakeEnv}
 use Rattle.link_machine.specs.declared.reply.Refusal.{Refusal}
-use Rattle.link_machine.proofs.Replays.{with_event, state_more, state_law, fits_law}
+use Rattle.link_machine.proofs.Replays.{with_event, ask_set, state_more, state_law, fits_law}
 use Rattle.link_machine.proofs.Ends.{turn_ends, passes_otherwise, out_law}
 use Rattle.link_machine.proofs.Counts.{same_laid_all, same_ended}
 use Rattle.link_machine.proofs.FitsLists.{change_each}
@@ -271,6 +271,12 @@ over_finish safe law b n t kept h =
     (subst (λ (o : Option Outcome). IsOver (finish_by n w o).to t.turn) (sym e.ended)
     (over_finished n e.outcome w t kept.numbered (turn_is_given b.set w.actors n t h)))
 
+over_by : (d : Draft) (b : Ledger) (es : List Event) (turn : ℕ) → b.set ≡ d → IsOver (state_of b) turn → IsOver (state_of (after_by (runs d) b es)) turn
+over_by d b [] turn same h = h
+over_by d b (e ∷ es) turn same h =
+    over_by d (ask_by (runs d) b e).book es turn (ask_set (runs d) b e ∙ same)
+    (subst (λ (x : Draft). IsOver (state_of (ask_by (runs x) b e).book) turn) same (over_ask b e turn h))
+
 over_rebase : (b : Ledger) (turn : ℕ) → IsOver (state_of b) turn → IsOver (state_of (rebased b)) turn
 unfolding rebased
 over_rebase b turn h = h
@@ -285,6 +291,7 @@ pub over_law : SafeLaw → RunLaw → OverLaw
 over_law safe law = record {
   ends = over_finish safe law;
   asks = over_ask;
+  lists = λ b es turn h. over_by b.set b es turn refl h;
   rebases = over_rebase;
   none = over_turn;
 }

@@ -5,8 +5,9 @@ use Rattle.turn_code.specs.declared.draft.Draft.{Draft}
 use Rattle.link_machine.specs.Core.{Core}
 use Rattle.link_machine.specs.Fits.{CoreFits}
 use Rattle.link_machine.specs.Step.{Stepped, step}
-use Rattle.link_machine.specs.Ledger.{Ledger, runs, replay, state_of, refusal_by, asked, ask, ask_by}
+use Rattle.link_machine.specs.Ledger.{Ledger, runs, replay, state_by, state_of, refusal_by, asked, ask, ask_by, rebased, after_by}
 use Rattle.link_machine.specs.Kept.{FitsAlong, IsKept}
+use Rattle.link_machine.specs.Laws.{SetLaw}
 use Rattle.link_machine.specs.declared.event.Event.{Event}
 use Rattle.link_machine.specs.declared.reply.Refusal.{Refusal}
 
@@ -44,3 +45,36 @@ fits_more d w (x ∷ es) e h k = (h.0, fits_more d (step d (runs d) w x).to es e
 
 pub fits_law : (b : Ledger) → IsKept b → CoreFits b.set (state_of b)
 fits_law b h = fits_last b.set b.base b.journal h.stands.along
+
+-- ---- the set, and how much the journal may hold
+
+abbrev SameSet : Ledger → Ledger → Type 0
+SameSet a b = (a.set ≡ b.set) × (a.limit ≡ b.limit)
+
+asked_same : (b : Ledger) (e : Event) (s : Stepped) (o : Option Refusal) → SameSet (asked b e s o).book b
+asked_same b e s None = (refl, refl)
+asked_same b e s (Some r) = (refl, refl)
+
+ask_same : (m : Meaning) (b : Ledger) (e : Event) → SameSet (ask_by m b e).book b
+unfolding ask_by
+ask_same m b e = asked_same b e (step b.set m (state_by m b) e) (refusal_by m b e)
+
+pub ask_set : (m : Meaning) (b : Ledger) (e : Event) → (ask_by m b e).book.set ≡ b.set
+ask_set m b e = (ask_same m b e).0
+
+after_set : (m : Meaning) (b : Ledger) (es : List Event) → (after_by m b es).set ≡ b.set
+after_set m b [] = refl
+after_set m b (e ∷ es) = after_set m (ask_by m b e).book es ∙ ask_set m b e
+
+after_limit : (m : Meaning) (b : Ledger) (es : List Event) → (after_by m b es).limit ≡ b.limit
+after_limit m b [] = refl
+after_limit m b (e ∷ es) = after_limit m (ask_by m b e).book es ∙ (ask_same m b e).1
+
+pub set_law : SetLaw
+unfolding rebased
+set_law = record {
+  asks = λ b e. ask_set (runs b.set) b e;
+  lists = λ b es. after_set (runs b.set) b es;
+  rebases = λ b. refl;
+  limits = λ b es. after_limit (runs b.set) b es;
+}

@@ -30,6 +30,13 @@ pub record KeepsLaw : Type 0 where
   pub rebases : (b : Ledger) → IsKept b → IsKept (rebased b)
   pub opens : (d : Draft) (port env journal : ℕ) → IsValid d → journal ≤ 65536 → IsKept (opened_book d port env journal)
 
+-- no event and no rebase changes the set of processes, or how many events the journal may hold
+pub record SetLaw : Type 0 where
+  pub asks : (b : Ledger) (e : Event) → (ask b e).book.set ≡ b.set
+  pub lists : (b : Ledger) (es : List Event) → (after_by (runs b.set) b es).set ≡ b.set
+  pub rebases : (b : Ledger) → (rebased b).set ≡ b.set
+  pub limits : (b : Ledger) (es : List Event) → (after_by (runs b.set) b es).limit ≡ b.limit
+
 -- the state after an accepted event is the machine's next one
 abbrev pub StateLaw : Type 0
 StateLaw = (b : Ledger) (e : Event) → refusal_by (runs b.set) b e ≡ None
@@ -88,6 +95,7 @@ pub record IsOver (w : Core) (turn : ℕ) : Type 0 where
 pub record OverLaw : Type 0 where
   pub ends : (b : Ledger) (n : ℕ) (t : Turn) → IsKept b → turn_out b n ≡ Some t → IsOver (state_of (ask b (Finish n)).book) t.turn
   pub asks : (b : Ledger) (e : Event) (turn : ℕ) → IsOver (state_of b) turn → IsOver (state_of (ask b e).book) turn
+  pub lists : (b : Ledger) (es : List Event) (turn : ℕ) → IsOver (state_of b) turn → IsOver (state_of (after_by (runs b.set) b es)) turn
   pub rebases : (b : Ledger) (turn : ℕ) → IsOver (state_of b) turn → IsOver (state_of (rebased b)) turn
   pub none : (b : Ledger) (n : ℕ) (t : Turn) → IsOver (state_of b) t.turn → turn_out b n ≢ Some t
 

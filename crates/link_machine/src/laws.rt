@@ -1,6 +1,6 @@
 //! What follows from the machine alone. Each call costs nothing.
 
-ghost use Rattle.link_machine.specs.Laws.{KeepsLaw, StateLaw, FitsLaw, ItemLaw, TextLaw, FinishLaw, WithinLaw, NeverStuckLaw, OutLaw, OverLaw, PlaceLaw};
+ghost use Rattle.link_machine.specs.Laws.{KeepsLaw, SetLaw, StateLaw, FitsLaw, ItemLaw, TextLaw, FinishLaw, WithinLaw, NeverStuckLaw, OutLaw, OverLaw, PlaceLaw};
 
 use tick_wheel::laws::due_law;
 use turn_code::laws::{effects_law, run_law, safe_law, start_law};
@@ -16,6 +16,11 @@ pub fn keeps_law()
     start_law();
     due_law();
 }
+
+/// No event and no rebase changes the set of processes, or how many events the journal may hold.
+pub fn set_law()
+    ensures { SetLaw }
+{}
 
 /// The state after an accepted event is the machine's next one.
 pub fn state_law()

@@ -1,1 +1,4 @@
+mod Offering
+mod Passing
+mod SmallSaves
 mod TimerItems

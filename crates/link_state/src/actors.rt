@@ -3,8 +3,7 @@
 ghost use Rattle.std.specs.Prelude.{◌≡◌, ◌<◌, slice_get};
 ghost use Rattle.link_machine.specs.Core.{change, outs};
 ghost use Rattle.link_machine.specs.Effects.{receives, drops, hears, moved, refusal_in, refusal_at};
-ghost use Rattle.link_machine.specs.Effects.{settled};
-ghost use Rattle.turn_code.specs.Outcome.{Outcome};
+ghost use Rattle.link_state.specs.Outcomes.{with_variables};
 
 use arrayvec::ArrayVec;
 use input_port::{Arrival, TIMERS};
@@ -96,7 +95,7 @@ pub(crate) fn notify(actors: &mut [Actor], number: usize, timer: TimerNumber)
 
 /// An actor has these variables, and no turn out.
 fn settle(actor: &mut Actor, variables: ArrayVec<Option<Value>, 32>)
-    ensures { (o : Outcome) → o.progress.variables ≡ variables.items → actor.new ≡ settled o actor.old }
+    ensures { actor.new ≡ with_variables variables.items actor.old }
 {
     actor.variables = variables;
     actor.given = None;
@@ -104,7 +103,7 @@ fn settle(actor: &mut Actor, variables: ArrayVec<Option<Value>, 32>)
 
 /// Actor `number` has these variables, and no turn out.
 pub(crate) fn settle_at(actors: &mut [Actor], number: usize, variables: ArrayVec<Option<Value>, 32>)
-    ensures { (o : Outcome) → o.progress.variables ≡ variables.items → actors.new ≡ change actors.old number (settled o) }
+    ensures { actors.new ≡ change actors.old number (with_variables variables.items) }
 {
     if number < actors.len() {
         settle(&mut actors[number], variables);
@@ -137,5 +136,11 @@ pub(crate) fn end_turn(actors: &mut [Actor], number: usize, end: End)
 pub(crate) fn count_outs(actors: &[Actor]) -> usize
     ensures { result ≡ outs actors.now }
 {
-    actors.iter().filter(|actor| actor.is_out()).count()
+    let mut count = 0;
+    for actor in actors {
+        if actor.is_out() {
+            count += 1;
+        }
+    }
+    count
 }

@@ -2,12 +2,14 @@
 
 ghost use Rattle.std.specs.Prelude.{◌≡◌, ◌≤◌, ◌<◌, ◌+◌, ◌^◌, length};
 ghost use Rattle.link_machine.specs.Refusals.{advance_rows, first_of};
+ghost use Rattle.tick_wheel.specs.Timers.{due, not_due};
 ghost use Rattle.link_machine.specs.Step.{notified, passed, due_in};
 
 use crate::actors::notify;
 use crate::link::Link;
+use arrayvec::ArrayVec;
 use link_machine::{Actor, Refusal};
-use tick_wheel::Due;
+use tick_wheel::{Due, TIMERS, Wheel};
 use turn_code::TimerNumber;
 
 /// The most ticks that may pass at once.
@@ -40,6 +42,20 @@ fn notify_all(actors: &mut [Actor], due: &[Due])
     }
 }
 
+/// So many ticks pass. The timers that are due, in order.
+fn pass(wheel: &mut Wheel, ticks: u64) -> ArrayVec<Due, TIMERS>
+    requires near { ticks ≤ 65535 }
+    requires clock { wheel.old.clock + ticks ≤ 2 ^ 62 }
+    ensures clock { wheel.new.clock ≡ wheel.old.clock + ticks }
+    ensures rest { wheel.new.deadlines ≡ not_due wheel.old.deadlines (wheel.old.clock + ticks) }
+    ensures due { result.items ≡ due wheel.old.deadlines (wheel.old.clock + ticks) }
+{
+    match wheel.advance(ticks) {
+        Ok(due) => due,
+        Err(_) => unreachable!(),
+    }
+}
+
 impl Link {
     /// So many ticks pass: the clock goes on, and the signals of the timers that are due come to the ports. How many are due.
     pub fn advance(&mut self, ticks: u64) -> usize
@@ -48,12 +64,8 @@ impl Link {
         ensures link { self.new ≡ passed ticks self.old }
         ensures due { result ≡ length (due_in self.old ticks) }
     {
-        match self.wheel.advance(ticks) {
-            Ok(due) => {
-                notify_all(&mut self.actors, due.as_slice());
-                due.len()
-            }
-            Err(_) => unreachable!(),
-        }
+        let due = pass(&mut self.wheel, ticks);
+        notify_all(&mut self.actors, due.as_slice());
+        due.len()
     }
 }

@@ -4,8 +4,7 @@ ghost use Rattle.std.specs.Prelude.{◌≡◌, ◌≤◌, ◌<◌, ◌+◌, ◌*
 ghost use Rattle.link_machine.specs.Core.{change};
 ghost use Rattle.link_machine.specs.Effects.{laid, laid_all, lost_by, losses, delivered, undelivered, drops, until, without, delay, ended, started, finished, lost_in, without_timers, without_first_timers, arrival_of, timers_after, settled};
 ghost use Rattle.link_machine.specs.Step.{report_of};
-ghost use Rattle.turn_code.specs.Outcome.{Outcome};
-ghost use Rattle.link_state.specs.Outcomes.{outcome_with, HasTimer, HaveTimers};
+ghost use Rattle.link_state.specs.Outcomes.{outcome_with, with_variables, HasTimer, HaveTimers};
 
 use crate::actors::{deliver, end_turn, forget_timer, refusal_of, settle_at};
 use crate::link::Link;
@@ -150,7 +149,11 @@ impl Link {
     fn start(&mut self, actor: u8, variables: ArrayVec<Option<Value>, 32>, count: u32)
         requires finishes { self.old.finishes < 2 ^ 40 }
         requires instructions { self.old.instructions + count < 2 ^ 64 }
-        ensures { (o : Outcome) → o.progress.variables ≡ variables.items → o.progress.count ≡ count → self.new ≡ started actor o self.old }
+        ensures { self.new ≡ record self.old {
+          actors = change self.old.actors actor (with_variables variables.items);
+          finishes = self.old.finishes + 1;
+          instructions = self.old.instructions + count;
+        } }
     {
         settle_at(&mut self.actors, usize::from(actor), variables);
         self.finishes += 1;

@@ -8,7 +8,6 @@ ghost use Rattle.link_machine.specs.Core.{change};
 ghost use Rattle.link_machine.specs.Effects.{receives};
 ghost use Rattle.link_machine.specs.Refusals.{is_offered, offers, same_sort, same_sorts, has_stopped, is_environment, is_process, offer_rows, first_of};
 ghost use Rattle.link_machine.specs.Step.{offered_arrival};
-ghost use Rattle.link_machine.specs.declared.event.Offer.{Offer as PlainOffer};
 ghost use Rattle.turn_code.specs.declared.numbers.SignalNumber.{SignalNumber as PlainSignal};
 
 use crate::actors::deliver;
@@ -69,12 +68,15 @@ fn same_sort(one: Sort, other: Sort) -> bool
 fn have_sorts(values: &[Value], sorts: &[Sort]) -> bool
     ensures { result ≡ same_sorts (map sort_of values.now) sorts.now }
 {
-    match (values, sorts) {
-        ([], []) => true,
-        ([value, values @ ..], [sort, sorts @ ..]) => {
-            same_sort(value.sort(), *sort) && have_sorts(values, sorts)
-        }
-        _ => false,
+    match values {
+        [] => match sorts {
+            [] => true,
+            [_, ..] => false,
+        },
+        [value, values @ ..] => match sorts {
+            [] => false,
+            [sort, sorts @ ..] => same_sort(value.sort(), *sort) && have_sorts(values, sorts),
+        },
     }
 }
 
@@ -92,13 +94,15 @@ fn takes(signals: &[DraftSignal], signal: SignalNumber, values: &[Value]) -> boo
 fn is_offered(set: &Verified, number: u16, signal: SignalNumber, values: &[Value]) -> bool
     ensures { result ≡ is_offered set.now number signal values.now }
 {
-    let draft = set.draft();
-    draft
-        .routes
-        .as_slice()
-        .iter()
-        .any(|route| offers(number, signal, route))
-        && takes(draft.signals.as_slice(), signal, values)
+    some_route_offers(set.draft().routes.as_slice(), number, signal)
+        && takes(set.draft().signals.as_slice(), signal, values)
+}
+
+/// Whether some route brings a signal from the environment to a process.
+fn some_route_offers(routes: &[DraftRoute], number: u16, signal: SignalNumber) -> bool
+    ensures { result ≡ list_any (offers number signal) routes.now }
+{
+    routes.iter().any(|route| offers(number, signal, route))
 }
 
 /// Whether an actor has stopped.
@@ -119,7 +123,7 @@ pub(crate) fn offer_refusal(
     values: &[Value],
     actor: &Actor,
 ) -> Option<Refusal>
-    ensures { (o : PlainOffer) → o ≡ record { actor = number; signal = signal; values = record { items = values.now } } → result ≡ first_of (offer_rows set.now o actor.now) }
+    ensures { result ≡ first_of (offer_rows set.now (record { actor = number; signal = signal; values = record { items = values.now } }) actor.now) }
 {
     if has_stopped(actor.standing) {
         return Some(Refusal::Stopped);
@@ -136,7 +140,7 @@ pub(crate) fn offer_refusal(
 impl Link {
     /// A signal of the environment comes to an actor.
     pub fn offer(&mut self, actor: u16, signal: SignalNumber, values: ArrayVec<Value, 4>)
-        ensures { (o : PlainOffer) → o ≡ record { actor = actor; signal = signal; values = values } → self.new ≡ record self.old { actors = change self.old.actors actor (receives (offered_arrival o)) } }
+        ensures { self.new ≡ record self.old { actors = change self.old.actors actor (receives (offered_arrival (record { actor = actor; signal = signal; values = values }))) } }
     {
         let arrival = Arrival {
             signal,

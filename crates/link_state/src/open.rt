@@ -99,6 +99,15 @@ fn copied_actors(alloc: Global, actors: &[Actor]) -> Result<Vec<Actor>, AllocErr
     Ok(copy)
 }
 
+/// The processes of a set.
+fn processes_of(set: &Verified) -> &[DraftProcess]
+    ensures value { result.now ≡ set.now.processes }
+    ensures few { AllByRecursion HasFewVariables result.now }
+    ensures count { length result.now ≤ 16 }
+{
+    set.draft().processes.as_slice()
+}
+
 impl Link {
     /// The link of a set as it begins: each process is an actor before its START, with a port for so many signals, and there is
     /// room for so many signals to the environment.
@@ -107,9 +116,8 @@ impl Link {
         requires most { port ≤ 64 }
         ensures { IfOk result (λ link. link ≡ opened set.now port env) }
     {
-        let processes = set.draft().processes.as_slice();
         Ok(Link {
-            actors: opened_actors(alloc, processes, port)?,
+            actors: opened_actors(alloc, processes_of(set), port)?,
             wheel: Wheel::new(alloc)?,
             ring: Ring::new(alloc, env)?,
             turns: 0,

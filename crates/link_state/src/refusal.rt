@@ -10,7 +10,7 @@ use crate::clock::advance_refusal;
 use crate::link::Link;
 use crate::offer::offer_refusal;
 use crate::turn::{begin_refusal, skip_refusal};
-use link_machine::Refusal;
+use link_machine::{Actor, Refusal};
 use turn_check::Verified;
 use turn_code::{SignalNumber, Value};
 
@@ -30,6 +30,52 @@ pub fn with_room(room: usize, needed: usize, refusal: Option<Refusal>) -> Option
     }
 }
 
+/// Why actor `actor` refuses a signal of the environment, if it does.
+fn offer_refusal_at(
+    set: &Verified,
+    actor: u16,
+    signal: SignalNumber,
+    values: &[Value],
+    actors: &[Actor],
+) -> Option<Refusal>
+    ensures { result ≡ of_actor (λ a. first_of (offer_rows set.now (record { actor = actor; signal = signal; values = record { items = values.now } }) a)) (slice_get actors.now actor) }
+{
+    match actors.get(usize::from(actor)) {
+        Some(found) => offer_refusal(set, actor, signal, values, found),
+        None => Some(Refusal::NoActor),
+    }
+}
+
+/// The number of an actor in fewer bits.
+fn small(actor: u16) -> u8
+    requires { actor < 16 }
+    ensures { result ≡ actor }
+{
+    actor as u8
+}
+
+/// Why actor `actor` can't begin a turn, if it can't.
+fn begin_refusal_at(set: &Verified, actor: u16, turns: u64, actors: &[Actor]) -> Option<Refusal>
+    requires { length actors.now ≤ 16 }
+    ensures { result ≡ of_actor (λ a. first_of (begin_rows set.now actor turns a)) (slice_get actors.now actor) }
+{
+    match actors.get(usize::from(actor)) {
+        Some(found) => begin_refusal(set, small(actor), turns, found),
+        None => Some(Refusal::NoActor),
+    }
+}
+
+/// Why actor `actor` can't throw a signal away, if it can't.
+fn skip_refusal_at(set: &Verified, actor: u16, actors: &[Actor]) -> Option<Refusal>
+    requires { length actors.now ≤ 16 }
+    ensures { result ≡ of_actor (λ a. first_of (skip_rows set.now actor a)) (slice_get actors.now actor) }
+{
+    match actors.get(usize::from(actor)) {
+        Some(found) => skip_refusal(set, small(actor), found),
+        None => Some(Refusal::NoActor),
+    }
+}
+
 impl Link {
     /// Why the link refuses a signal of the environment, its journal aside.
     pub fn offer_refusal(
@@ -41,30 +87,21 @@ impl Link {
     ) -> Option<Refusal>
         ensures { result ≡ refuses set.now self.now (Offered (record { actor = actor; signal = signal; values = record { items = values.now } })) }
     {
-        match self.actors.get(usize::from(actor)) {
-            Some(found) => offer_refusal(set, actor, signal, values, found),
-            None => Some(Refusal::NoActor),
-        }
+        offer_refusal_at(set, actor, signal, values, &self.actors)
     }
 
     /// Why an actor can't begin a turn, the journal aside.
     pub fn begin_refusal(&self, set: &Verified, actor: u16) -> Option<Refusal>
         ensures { result ≡ refuses set.now self.now (Begin actor) }
     {
-        match self.actors.get(usize::from(actor)) {
-            Some(found) => begin_refusal(set, actor as u8, self.turns, found),
-            None => Some(Refusal::NoActor),
-        }
+        begin_refusal_at(set, actor, self.turns, &self.actors)
     }
 
     /// Why an actor can't throw a signal away, the journal aside.
     pub fn skip_refusal(&self, set: &Verified, actor: u16) -> Option<Refusal>
         ensures { result ≡ refuses set.now self.now (Skip actor) }
     {
-        match self.actors.get(usize::from(actor)) {
-            Some(found) => skip_refusal(set, actor as u8, found),
-            None => Some(Refusal::NoActor),
-        }
+        skip_refusal_at(set, actor, &self.actors)
     }
 
     /// Why so many ticks can't pass, the journal aside.
