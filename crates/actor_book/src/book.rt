@@ -96,8 +96,7 @@ impl Book {
 
     /// What holds of every book.
     pub(crate) fn keeps(&self)
-        ensures state { self.link ≡ state_of self.now }
-        ensures kept { IsKept self.now }
+        ensures { IsKept self.now }
     {
         let _ = &self.limit;
     }
