@@ -3,13 +3,16 @@ use Rattle.std.proofs.Common.{◌≡◌, ℕ, ◌+◌, ◌*◌, ◌^◌, ◌≤�
 use Rattle.std.specs.Prelude.{slice_get, option_map, count_by}
 use Rattle.std.proofs.lemmas.List.Sums.{get_or-le-sum_by}
 use Rattle.std.proofs.lemmas.Option.{slice_get_within, get_or_from_slice_get}
+use Rattle.std.proofs.lemmas.Slice.Zip.{AllZip-long}
 use Rattle.turn_code.specs.Outcome.{Outcome, outcome_in}
 use Rattle.turn_code.specs.Run.{Progress, Ran, run, ended, got_stuck, unfinished}
 use Rattle.turn_code.specs.Effects.{EffectsLaw, IsRightEffect, AreRightEffects}
-use Rattle.turn_code.specs.Rules.{KeepsProcessLimits}
+use Rattle.turn_code.specs.Rules.{KeepsProcessLimits, KeepsPieceLimits}
+use Rattle.turn_code.specs.Safe.{RunLaw, RunsWell}
+use Rattle.turn_code.specs.declared.instruction.Instruction.{Instruction}
 use Rattle.turn_code.specs.Transitions.{Transition, transition_at, place_at, process_at, start_at, input_at, start_of, input_of}
 use Rattle.turn_code.specs.Valid.{IsValid, IsValidTransition}
-use Rattle.turn_code.specs.Fits.{Fits, FitsTransition}
+use Rattle.turn_code.specs.Fits.{HasSort, Fits, FitsTransition}
 use Rattle.turn_code.specs.declared.value.Value.{Value}
 use Rattle.turn_code.specs.declared.effect.Effect.{Effect}
 use Rattle.turn_code.specs.declared.effect.Effect.TheVariants.{Output, Set, Reset}
@@ -22,12 +25,16 @@ use Rattle.turn_code.specs.declared.draft.DraftSignal.{DraftSignal}
 use Rattle.turn_code.specs.declared.draft.DraftProcess.{DraftProcess}
 use Rattle.turn_code.specs.declared.draft.DraftState.{DraftState}
 use Rattle.turn_code.specs.declared.draft.DraftInput.{DraftInput}
-use Rattle.turn_machine.specs.Turn.{Turn, turn_of, outcome_of}
+use Rattle.turn_machine.specs.Turn.{Turn, IsRunnable, turn_of, outcome_of}
 use Rattle.link_state.specs.Outcomes.{outcome_with, HasTimer, HaveTimers}
 use Rattle.link_machine.specs.Core.{Core, is_out, outs}
 use Rattle.link_machine.specs.Effects.{finished}
 use Rattle.link_machine.specs.Fits.{CoreFits, ActorFits, GivenFits}
 use Rattle.link_machine.specs.Kept.{IsKept, IsBounded}
+use Rattle.link_machine.specs.Laws.{OutLaw, FitsLaw}
+use Rattle.actor_book.specs.Accepted.{Takes}
+use Rattle.actor_book.specs.Inside.{IsBook}
+use Rattle.actor_book.proofs.Taking.{after_step}
 use Rattle.link_machine.specs.Ledger.{Ledger, runs, run_of, state_of, turn_with, turn_given, turn_at, turn_out}
 use Rattle.link_machine.specs.Step.{Stepped, Says, step, finish_by, outcome_given, outcome_at, report_of}
 use Rattle.link_machine.specs.declared.actor.Actor.{Actor}
@@ -90,7 +97,7 @@ pub record IsOut (b : Ledger) (n : ℕ) (t : Turn) : Type 0 where
   pub found : transition_at b.set n place given.number ≡ Some transition
   pub turn : t ≡ turn_of n given.turn (record { 0 = n }) place given.number transition.piece.code transition.piece.certificate given.input
 
-record AreOut (d : Draft) (n : ℕ) (s : Standing) (o : Option Given) (t : Turn) : Type 0 where
+pub record AreOut (d : Draft) (n : ℕ) (s : Standing) (o : Option Given) (t : Turn) : Type 0 where
   pub place : Place
   pub standing : s ≡ At place
   pub given : Given
@@ -106,7 +113,7 @@ out_with n s g (Some x) t h =
     let same : turn_of n g.turn (record { 0 = n }) s g.number x.piece.code x.piece.certificate g.input ≡ t = cc in
     (x, refl, sym same)
 
-out_given : (d : Draft) (n : ℕ) (s : Standing) (o : Option Given) (t : Turn) → turn_given d n s o ≡ Some t → AreOut d n s o t
+pub out_given : (d : Draft) (n : ℕ) (s : Standing) (o : Option Given) (t : Turn) → turn_given d n s o ≡ Some t → AreOut d n s o t
 out_given d n (At s) None t h = absurd (cc)
 out_given d n (At s) (Some g) t h =
     let found = out_with n s g (transition_at d n s g.number) t h in
@@ -244,3 +251,77 @@ timers_right law b n t e vs es count kept core h ran =
     let right : AreRightEffects b.set fits.transition es =
     law b.set fits.transition o.given.input e s valid fits.fits (ran_so (run fits.transition.piece.code o.given.input) e s run_is) in
     have_timers b.set fits.transition es (few_timers b.set n o.place o.given.number fits.transition kept.stands.valid fits.there) right
+
+-- ---- the end of a turn, with the link in memory
+
+pub ends_so : (b : Ledger) (w : Core) (n : ℕ) (t : Turn) (o : Outcome) → w ≡ state_of b → turn_out b n ≡ Some t → outcome_of t ≡ Some o
+    → step b.set (runs b.set) w (Finish n) ≡ finish_by n w (Some o)
+ends_so b w n t o same h k =
+    subst (λ (x : Core). step b.set (runs b.set) x (Finish n) ≡ finish_by n x (Some o)) (sym same) (ends_with b n t o h k)
+
+pub few_effects : (b : Ledger) (n : ℕ) (t : Turn) → IsKept b → turn_out b n ≡ Some t → t.certificate.effects ≤ 32
+few_effects b n t kept h =
+    let o = is_turn_out b n t h in
+    let valid : IsValidTransition b.set o.transition = kept.stands.valid.each n o.place o.given.number o.transition o.found in
+    let limits : KeepsPieceLimits o.transition.piece = (valid.limit 0).piece refl in
+    subst (λ (x : Turn). x.certificate.effects ≤ 32) (sym o.turn) limits.effects
+
+pub still_out : (b old : Ledger) (n : ℕ) (t : Turn) → b ≡ old → turn_out old n ≡ Some t → turn_out b n ≡ Some t
+still_out b old n t e h = ap (λ (x : Ledger). turn_out x n) e ∙ h
+
+module _ (b old : Ledger) (w : Core) (n : ℕ) (t : Turn) (view : b ≡ old) where
+  module _ (c : ℕ) (inside : IsBook b w c) (h : turn_out old n ≡ Some t) where
+    pub out_in : n < length w.actors
+    out_in = subst (λ (x : Core). n < length x.actors) (sym inside.state) (out_inside b n t (still_out b old n t view h))
+
+    pub finishes_in : w.finishes < 2 ^ 40
+    finishes_in = subst (λ (x : Core). x.finishes < 2 ^ 40) (sym inside.state) (counts_on b n t inside.kept (still_out b old n t view h))
+
+    pub takes_in : OutLaw → Takes old (Finish n)
+    takes_in law = law.own old n t (subst (λ (x : Ledger). IsKept x) view inside.kept) h
+
+    pub timers_in : EffectsLaw → FitsLaw → (e : End) (vs : List (Option Value)) (es : List Effect) (count : ℕ)
+        → outcome_of t ≡ Some (outcome_with e vs es count) → HaveTimers es
+    timers_in law fits e vs es count ran =
+        timers_right law b n t e vs es count inside.kept (fits b inside.kept) (still_out b old n t view h) ran
+
+    -- the link's own end of the turn is the machine's step
+    pub link_ends : (k : ℕ) (o : Outcome) → k ≡ n → outcome_of t ≡ Some o → finished k o w ≡ after_step b w (Finish n)
+    link_ends k o same ran =
+        ap (λ (j : ℕ). finished j o w) same ∙ sym (ap (λ (s : Stepped). s.to) (ends_so b w n t o inside.state (still_out b old n t view h) ran))
+
+    pub link_reports : (k : ℕ) (o : Outcome) → k ≡ n → outcome_of t ≡ Some o
+        → Says (reply.Finished (report_of k o w)) ≡ (step b.set (runs b.set) w (Finish n)).answer
+    link_reports k o same ran =
+        ap (λ (j : ℕ). Says (reply.Finished (report_of j o w))) same
+        ∙ sym (ap (λ (s : Stepped). s.answer) (ends_so b w n t o inside.state (still_out b old n t view h) ran))
+
+-- ---- how many variables a turn leaves
+
+run_outcome : (r : Ran) (e : End) (s : Progress) → r ≡ ended e s → outcome_in r ≡ Some (as_outcome e s)
+unfolding as_outcome
+run_outcome r e s h = ap outcome_in h
+
+variables_in : (e : End) (s : Progress) (o : Option Outcome) (vs : List (Option Value)) → o ≡ Some (as_outcome e s)
+    → option_map (λ (x : Outcome). x.progress.variables) o ≡ Some vs → s.variables ≡ vs
+unfolding as_outcome
+variables_in e s None vs h k = absurd (cc)
+variables_in e s (Some x) vs h k =
+    let same : x ≡ record { end = e; progress = s } = cc in
+    let is : x.progress.variables ≡ vs = cc in
+    ap (λ (y : Outcome). y.progress.variables) (sym same) ∙ is
+
+pub few_variables : RunLaw → (t : Turn) (vs : List (Option Value)) → IsRunnable t → option_map (λ (o : Outcome). o.progress.variables) (outcome_of t) ≡ Some vs
+    → length t.input.variables.items ≤ 32 → length vs ≤ 32
+few_variables law t vs able h few =
+    let well : RunsWell able.transition t.input = law able.draft able.transition t.input able.valid able.fits in
+    let ran : outcome_of t ≡ Some (as_outcome well.end well.progress) =
+    ap (λ (c : List Instruction). outcome_in (run c t.input)) (sym able.code) ∙ run_outcome (run able.transition.piece.code t.input) well.end well.progress well.ran in
+    let same : well.progress.variables ≡ vs =
+    variables_in well.end well.progress (outcome_of t) vs ran h in
+    let one : length well.progress.variables ≡ length able.transition.process.variables =
+    AllZip-long HasSort able.transition.process.variables well.progress.variables well.well.variables in
+    let two : length t.input.variables.items ≡ length able.transition.process.variables =
+    AllZip-long HasSort able.transition.process.variables t.input.variables.items able.fits.variables in
+    let three : length well.progress.variables ≡ length vs = ap length same in
+    omega arith

@@ -23,11 +23,11 @@ use Rattle.link_machine.specs.declared.reply.Refusal.{Refusal}
 use Rattle.link_machine.specs.declared.reply.Refusal.TheVariants as refusal
 use Rattle.link_machine.specs.declared.reply.Reply.TheVariants as reply
 
-row_passes : (b : Bool) (r : Refusal) (o : Option Refusal) → (if b then Some r else o) ≡ None → (b ≡ false) × (o ≡ None)
+pub row_passes : (b : Bool) (r : Refusal) (o : Option Refusal) → (if b then Some r else o) ≡ None → (b ≡ false) × (o ≡ None)
 row_passes true r o h = absurd (cc)
 row_passes false r o h = (refl, h)
 
-not_true : (b : Bool) → not b ≡ false → b ≡ true
+pub not_true : (b : Bool) → not b ≡ false → b ≡ true
 not_true true h = refl
 not_true false h = absurd (cc)
 
@@ -76,7 +76,7 @@ actor_passes : (f : Actor → Option Refusal) (o : Option Actor) → of_actor f 
 actor_passes f None h = absurd (cc)
 actor_passes f (Some a) h = (a, refl, h)
 
-is_there : (actors : List Actor) (n : ℕ) (f : Actor → Option Refusal) → of_actor f (slice_get actors n) ≡ None → IsThere actors n f
+pub is_there : (actors : List Actor) (n : ℕ) (f : Actor → Option Refusal) → of_actor f (slice_get actors n) ≡ None → IsThere actors n f
 is_there actors n f h =
     let found = actor_passes f (slice_get actors n) h in
     record { actor = found.0; there = found.1; passes = found.2 }

@@ -1,12 +1,16 @@
 -- What an event makes of a book.
 use Rattle.std.proofs.Common.{◌≡◌, ℕ, ◌+◌, ◌≤◌, ◌<◌, List, [], ◌∷◌, ◌++◌, length, Option, Some, None, refl, sym, ap, ◌∙◌, subst, arith, length-append}
-use Rattle.std.specs.Prelude.{nat_lt, if◌then◌else◌}
+use Rattle.std.specs.Prelude.{◌-◌, ◌^◌, Bool, true, false, nat_lt, nat_le, slice_get, if◌then◌else◌}
+use Rattle.turn_code.specs.Valid.{IsValid}
+use Rattle.turn_code.specs.declared.draft.Draft.{Draft}
 use Rattle.link_machine.specs.Core.{Core, outs}
 use Rattle.link_machine.specs.Step.{Answer, Says, Stepped, step}
 use Rattle.link_machine.specs.Refusals.{refuses, needs, with_room}
-use Rattle.link_machine.specs.Ledger.{Ledger, runs, state_of, asked, ask, ask_by, room, next}
-use Rattle.link_machine.specs.Kept.{IsKept}
-use Rattle.link_machine.specs.Laws.{KeepsLaw, StateLaw}
+use Rattle.link_machine.specs.Ledger.{Ledger, runs, state_of, asked, ask, ask_by, room, next, rebased}
+use Rattle.link_machine.specs.Kept.{IsKept, opened, opened_book}
+use Rattle.link_machine.specs.Laws.{KeepsLaw, StateLaw, FitsLaw}
+use Rattle.link_machine.specs.Fits.{CoreFits, ActorFits, GivenFits}
+use Rattle.link_machine.specs.declared.actor.Actor.{Actor}
 use Rattle.link_machine.specs.declared.event.Event.{Event}
 use Rattle.link_machine.specs.declared.reply.Refusal.{Refusal}
 use Rattle.link_machine.specs.declared.reply.Reply.TheVariants as reply
@@ -61,8 +65,11 @@ link_takes b e h = none_first (room b (state_of b)) e (refuses b.set (state_of b
 abbrev pub with_journal : Ledger → List Event → Ledger
 with_journal b js = record { set = b.set; base = b.base; first = b.first; journal = js; limit = b.limit }
 
+abbrev pub link_after : Draft → Core → Event → Core
+link_after d w e = (step d (runs d) w e).to
+
 abbrev pub after_step : Ledger → Core → Event → Core
-after_step b w e = (step b.set (runs b.set) w e).to
+after_step b w e = link_after b.set w e
 
 -- ---- a book, with its link in memory, that takes an event: `old` is the book as callers see it
 module _ (keeps : KeepsLaw) (b old : Ledger) (view : b ≡ old) (w : Core) (c : ℕ) (inside : IsBook b w c) (e : Event) (takes : Takes old e) where
@@ -105,3 +112,81 @@ module _ (keeps : KeepsLaw) (b old : Ledger) (view : b ≡ old) (w : Core) (c : 
         kept = kept_more;
         held = omega arith;
       })
+
+-- ---- free places
+
+at_least : (m n : ℕ) → m ≤ n → nat_le m n ≡ true
+at_least m n h = grind arith
+
+too_few : (m n : ℕ) → n < m → nat_le m n ≡ false
+too_few m n h = grind arith
+
+pub no_room : (b : Ledger) (w : Core) → 2 ^ 56 ≤ next b → 0 ≡ room b w
+unfolding room
+no_room b w h =
+    sym (ap (λ (full : Bool). if full then 0 else b.limit - (length b.journal + outs w.actors)) (at_least (2 ^ 56) (next b) h))
+
+pub some_room : (b : Ledger) (w : Core) → next b < 2 ^ 56 → b.limit - (length b.journal + outs w.actors) ≡ room b w
+unfolding room
+some_room b w h =
+    sym (ap (λ (full : Bool). if full then 0 else b.limit - (length b.journal + outs w.actors)) (too_few (2 ^ 56) (next b) h))
+
+-- ---- a new base, and a new book
+
+abbrev ledger : Draft → Core → ℕ → List Event → ℕ → Ledger
+ledger d w first js limit = record { set = d; base = w; first = first; journal = js; limit = limit }
+
+pub is_rebased : (b : Ledger) (w : Core) (first : ℕ) (js : List Event) → w ≡ state_of b → first ≡ next b → js ≡ []
+    → ledger b.set w first js b.limit ≡ rebased b
+unfolding rebased
+is_rebased b w first js h k l =
+    ap (λ (x : Core). ledger b.set x first js b.limit) h
+    ∙ ap (λ (x : ℕ). ledger b.set (state_of b) x js b.limit) k
+    ∙ ap (λ (x : List Event). ledger b.set (state_of b) (next b) x b.limit) l
+
+same_state : (b : Ledger) → state_of b ≡ state_of (rebased b)
+unfolding rebased
+same_state b = refl
+
+pub inside_rebased : KeepsLaw → (b : Ledger) (base w : Core) (first : ℕ) (js : List Event) (c d : ℕ) → IsBook b w c → base ≡ w → first ≡ next b
+    → js ≡ [] → c ≤ d → IsBook (ledger b.set base first js b.limit) w d
+inside_rebased keeps b base w first js c d inside h k l le =
+    let is : ledger b.set base first js b.limit ≡ rebased b = is_rebased b base first js (h ∙ inside.state) k l in
+    let held : b.limit ≤ c = inside.held in
+    record {
+      state = inside.state ∙ same_state b ∙ sym (ap (λ (x : Ledger). state_of x) is);
+      kept = subst (λ (x : Ledger). IsKept x) (sym is) (keeps.rebases b inside.kept);
+      held = omega arith;
+    }
+
+pub is_opened : (d set : Draft) (port env journal limit : ℕ) (w : Core) (js : List Event) → set ≡ d → w ≡ opened d port env → js ≡ [] → limit ≡ journal
+    → ledger set w 0 js limit ≡ opened_book d port env journal
+unfolding opened_book
+is_opened d set port env journal limit w js h k l m =
+    ap (λ (x : Draft). ledger x w 0 js limit) h
+    ∙ ap (λ (x : Core). ledger d x 0 js limit) k
+    ∙ ap (λ (x : List Event). ledger d (opened d port env) 0 x limit) l
+    ∙ ap (λ (x : ℕ). ledger d (opened d port env) 0 [] x) m
+
+opened_state : (d : Draft) (port env journal : ℕ) → opened d port env ≡ state_of (opened_book d port env journal)
+unfolding opened_book
+opened_state d port env journal = refl
+
+pub inside_opened : KeepsLaw → (d set : Draft) (port env journal limit : ℕ) (base w : Core) (js : List Event) (c : ℕ) → IsValid d → journal ≤ 65536
+    → set ≡ d → base ≡ opened d port env → w ≡ opened d port env → js ≡ [] → limit ≡ journal → limit ≤ c → IsBook (ledger set base 0 js limit) w c
+inside_opened keeps d set port env journal limit base w js c valid most h k v l m le =
+    let is : ledger set base 0 js limit ≡ opened_book d port env journal = is_opened d set port env journal limit base js h k l m in
+    record {
+      state = v ∙ opened_state d port env journal ∙ sym (ap (λ (x : Ledger). state_of x) is);
+      kept = subst (λ (x : Ledger). IsKept x) (sym is) (keeps.opens d port env journal valid most);
+      held = le;
+    }
+
+-- ---- what fits in the link in memory
+
+pub fits_in : FitsLaw → (b : Ledger) (w : Core) (c : ℕ) → IsBook b w c → (xs : List Actor) (n : ℕ) (a : Actor) → xs ≡ w.actors → slice_get xs n ≡ Some a
+    → GivenFits b.set n a.standing a.given
+fits_in fits b w c inside xs n a h k =
+    let same : xs ≡ (state_of b).actors = h ∙ ap (λ (x : Core). x.actors) inside.state in
+    let there : slice_get (state_of b).actors n ≡ Some a = ap (λ (ys : List Actor). slice_get ys n) (sym same) ∙ k in
+    ((fits b inside.kept).each n a there).given

@@ -62,6 +62,7 @@ impl Book {
         if let Some(refusal) = self.offer_refusal(actor, signal, values) {
             return Err(refusal);
         }
+        self.keeps();
         let place = self.next();
         self.take_offer(offer_of(actor, signal, values));
         Ok(place)

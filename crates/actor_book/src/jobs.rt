@@ -1,15 +1,18 @@
-//! Jobs made once more, and compared.
+//! Jobs made once more.
 
-ghost use Rattle.std.specs.Prelude.{◌≡◌, ◌↔◌, IsTrue, Option, Some, None};
+ghost use Rattle.std.specs.Prelude.{◌≡◌, ◌↔◌, ◌≤◌, IsTrue, Option, Some, None, length, slice_get};
 ghost use Rattle.turn_code.specs.Fits.{Fits};
 ghost use Rattle.turn_code.specs.Transitions.{transition_at};
 ghost use Rattle.link_machine.specs.Fits.{GivenFits};
-ghost use Rattle.link_machine.specs.Ledger.{turn_given, turn_with};
+ghost use Rattle.link_machine.specs.Ledger.{turn_at, turn_given, turn_with};
+ghost use Rattle.link_machine.specs.declared.actor.Actor.{Actor as PlainActor};
 
 use link_machine::{Actor, Given, Standing};
 use turn_check::Verified;
-use turn_code::{Cert, Instruction, Place, ProcessNumber};
+use turn_code::{Place, ProcessNumber};
 use turn_machine::{Job, Received};
+
+pub(crate) use same_job::same_job;
 
 /// The job of a turn.
 fn job_with(set: &Verified, number: u8, place: Place, given: &Given) -> Job
@@ -33,7 +36,7 @@ fn job_with(set: &Verified, number: u8, place: Place, given: &Given) -> Job
 }
 
 /// The job of an actor, if it has a turn out.
-pub(crate) fn job_of(set: &Verified, number: u8, actor: &Actor) -> Option<Job>
+fn job_of(set: &Verified, number: u8, actor: &Actor) -> Option<Job>
     requires { GivenFits set.now number actor.now.standing actor.now.given }
     ensures { result ≡ turn_given set.now number actor.now.standing actor.now.given }
 {
@@ -46,54 +49,14 @@ pub(crate) fn job_of(set: &Verified, number: u8, actor: &Actor) -> Option<Job>
     }
 }
 
-fn same_instruction(left: Instruction, right: Instruction) -> bool
-    ensures { IsTrue result ↔ (left ≡ right) }
+/// The job of actor `number`, if there is one that has a turn out.
+pub(crate) fn job_at(set: &Verified, actors: &[Actor], number: u16) -> Option<Job>
+    requires few { length actors.now ≤ 16 }
+    requires fits { (a : PlainActor) → slice_get actors.now number ≡ Some a → GivenFits set.now number a.standing a.given }
+    ensures { result ≡ turn_at set.now number (slice_get actors.now number) }
 {
-    left == right
-}
-
-/// Whether it is the same code.
-fn same_code(left: &[Instruction], right: &[Instruction]) -> bool
-    ensures { IsTrue result ↔ (left.now ≡ right.now) }
-{
-    match (left, right) {
-        ([], []) => true,
-        ([first, left @ ..], [other, right @ ..]) => {
-            same_instruction(*first, *other) && same_code(left, right)
-        }
-        _ => false,
+    match actors.get(usize::from(number)) {
+        Some(found) => job_of(set, number as u8, found),
+        None => None,
     }
-}
-
-fn same_certificate(left: Cert, right: Cert) -> bool
-    ensures { IsTrue result ↔ (left ≡ right) }
-{
-    left == right
-}
-
-fn same_place(left: Place, right: Place) -> bool
-    ensures { IsTrue result ↔ (left ≡ right) }
-{
-    left == right
-}
-
-/// Whether it is the same turn of the same actor at the same place.
-fn same_turn(left: &Job, right: &Job) -> bool
-    ensures { IsTrue result ↔ ((left.now.actor ≡ right.now.actor) × (left.now.turn ≡ right.now.turn) × (left.now.process ≡ right.now.process) × (left.now.place ≡ right.now.place) × (left.now.input_number ≡ right.now.input_number)) }
-{
-    left.actor() == right.actor()
-        && left.turn() == right.turn()
-        && left.process() == right.process()
-        && same_place(left.place(), right.place())
-        && left.input_number() == right.input_number()
-}
-
-/// Whether it is the same job.
-pub(crate) fn same_job(left: &Job, right: &Job) -> bool
-    ensures { IsTrue result ↔ (left.now ≡ right.now) }
-{
-    same_turn(left, right)
-        && left.input().same(right.input())
-        && same_certificate(left.certificate(), right.certificate())
-        && same_code(left.code(), right.code())
 }

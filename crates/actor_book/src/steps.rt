@@ -2,7 +2,7 @@
 
 ghost use Rattle.std.specs.Prelude.{◌≡◌, ◌≤◌, ◌<◌, ◌+◌, ◌++◌, ◌∷◌, [], None, Some, Option, length, option_map, vec_capacity};
 ghost use Rattle.turn_code.specs.Outcome.{Outcome};
-ghost use Rattle.turn_machine.specs.Turn.{outcome_of};
+ghost use Rattle.turn_machine.specs.Turn.{IsRunnable, outcome_of};
 ghost use Rattle.link_machine.specs.Ledger.{ask, next, turn_out};
 ghost use Rattle.link_machine.specs.Step.{Says};
 ghost use Rattle.link_machine.specs.declared.event.Event.TheVariants.{Offer as Offered, Begin, Skip, Finish, Advance, TakeEnv};
@@ -11,12 +11,12 @@ ghost use Rattle.actor_book.specs.Accepted.{Takes};
 
 use crate::book::Book;
 use arrayvec::ArrayVec;
-use link_machine::laws::{finish_law, keeps_law, place_law, state_law};
+use link_machine::laws::{fits_law, keeps_law, out_law, place_law, state_law};
 use link_machine::{Emitted, Event, Offer, Report};
 use link_state::Link;
-use turn_code::laws::effects_law;
+use turn_code::laws::{effects_law, run_law};
 use turn_code::{SignalNumber, Trigger, Value};
-use turn_machine::Done;
+use turn_machine::{Done, Job};
 
 /// One event more, where there is room.
 fn note(journal: &mut Vec<Event>, event: Event)
@@ -37,10 +37,21 @@ fn number_in(link: &Link, actor: u16) -> u8
     actor as u8
 }
 
+/// How many variables a job is given.
+fn input_variables(job: &Job) -> usize
+    ensures value { result ≡ length job.now.input.variables.items }
+    ensures few { result ≤ 32 }
+    ensures runnable { IsRunnable job.now }
+{
+    job.input().variables.len()
+}
+
 /// The variables as a turn ended.
 fn variables_after(done: &Done) -> ArrayVec<Option<Value>, 32>
     ensures { option_map (λ (o : Outcome). o.progress.variables) (outcome_of done.now) ≡ Some result.items }
 {
+    run_law();
+    let _few = input_variables(done.job());
     match ArrayVec::try_from(done.variables()) {
         Ok(variables) => variables,
         Err(_) => unreachable!(),
@@ -131,19 +142,19 @@ impl Book {
     }
 
     /// The end of a turn that is out.
-    pub(crate) fn end(&mut self, done: &Done) -> Report
-        requires { turn_out self.old done.now.actor ≡ Some done.now }
-        ensures book { self.new ≡ (ask self.old (Finish done.now.actor)).book }
-        ensures answer { Says (reply.Finished result) ≡ (ask self.old (Finish done.now.actor)).answer }
+    pub(crate) fn end(&mut self, actor: u16, done: &Done) -> Report
+        requires { turn_out self.old actor ≡ Some done.now }
+        ensures book { self.new ≡ (ask self.old (Finish actor)).book }
+        ensures answer { Says (reply.Finished result) ≡ (ask self.old (Finish actor)).answer }
         ensures next { next self.new ≡ next self.old + 1 }
         ensures within { result.count ≤ done.now.certificate.budget }
     {
         keeps_law();
         state_law();
         place_law();
-        finish_law();
+        out_law();
+        fits_law();
         effects_law();
-        let actor = done.job().actor();
         let number = number_in(&self.link, actor);
         let report = self.link.finish(
             number,

@@ -8,8 +8,8 @@ ghost use Rattle.link_machine.specs.declared.reply.Reply.TheVariants as reply;
 ghost use Rattle.actor_book.specs.Answered.{answer_by, begun_by};
 
 use crate::book::Book;
-use crate::jobs::{job_of, same_job};
-use link_machine::laws::fits_law;
+use crate::jobs::{job_at, same_job};
+use link_machine::laws::{fits_law, keeps_law, set_law, state_law};
 use link_machine::{Event, Refusal, Report};
 use turn_machine::{Done, Job};
 
@@ -30,6 +30,11 @@ impl Book {
         if let Some(refusal) = self.begin_refusal(actor) {
             return Err(refusal);
         }
+        keeps_law();
+        state_law();
+        set_law();
+        fits_law();
+        self.keeps();
         self.start(actor);
         match self.job(actor) {
             Some(job) => Ok(job),
@@ -55,7 +60,8 @@ impl Book {
         if !self.has_out(&done) {
             return Err(done);
         }
-        Ok(self.end(&done))
+        let actor = done.job().actor();
+        Ok(self.end(actor, &done))
     }
 
     /// The job of an actor that has a turn out, made once more.
@@ -63,11 +69,7 @@ impl Book {
         ensures { result ≡ turn_out self.now actor }
     {
         fits_law();
-        self.keeps();
-        match self.link.actors().get(usize::from(actor)) {
-            Some(found) => job_of(&self.set, actor as u8, found),
-            None => None,
-        }
+        job_at(&self.set, self.link.actors(), actor)
     }
 
     /// Whether the job that ran is the one that its actor has out.
