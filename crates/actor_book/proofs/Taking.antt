@@ -58,6 +58,10 @@ none_first : (k : ℕ) (e : Event) (o : Option Refusal) → with_room k e o ≡ 
 none_first k e None h = refl
 none_first k e (Some r) h = cc
 
+pub none_left : (o : Option Refusal) → ((r : Refusal) → o ≡ Some r → ⊥) → o ≡ None
+none_left None h = refl
+none_left (Some r) h = absurd (h r refl)
+
 -- the link doesn't refuse it either
 pub link_takes : (b : Ledger) (e : Event) → Takes b e → refuses b.set (state_of b) e ≡ None
 link_takes b e h = none_first (room b (state_of b)) e (refuses b.set (state_of b) e) h

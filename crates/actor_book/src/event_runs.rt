@@ -8,7 +8,7 @@ ghost use Rattle.link_machine.specs.Ledger.{runs, answers_by, after_by, state_by
 
 use crate::book::Book;
 use crate::replies::reply_to;
-use link_machine::laws::{text_law, within_law};
+use link_machine::laws::{set_law, text_law, within_law};
 use link_machine::{Event, Reply};
 use std::alloc::{AllocError, Global};
 
@@ -40,6 +40,7 @@ fn run_each(book: &mut Book, events: &[Event], replies: &mut Vec<Reply>)
     ensures replies { map Says replies.new.items ≡ map Says replies.old.items ++ answers_by (runs book.old.set) book.old events.now }
     ensures book { book.new ≡ after_by (runs book.old.set) book.old events.now }
 {
+    set_law();
     for event in events {
         let reply = reply_to(book, event);
         put(replies, reply);
