@@ -1,0 +1,6 @@
+pub mod Beginning
+pub mod Ending
+pub mod Following
+pub mod Offering
+pub mod Passing
+pub mod Taking

@@ -3,7 +3,7 @@ use Rattle.std.specs.Prelude.{ℕ, Result, Ok, Err, Option, None, Some}
 use Rattle.turn_code.specs.declared.draft.Trigger.{Trigger}
 use Rattle.turn_machine.specs.Turn.{Turn}
 use Rattle.link_machine.specs.Step.{Answer, Says}
-use Rattle.link_machine.specs.declared.reply.Emitted.{Emitted}
+use Rattle.link_machine.specs.declared.reply.Begun.{Begun as BeginsTurn}
 use Rattle.link_machine.specs.declared.reply.Refusal.{Refusal}
 use Rattle.link_machine.specs.declared.reply.Reply.{Reply}
 use Rattle.link_machine.specs.declared.reply.Reply.TheVariants.{Offered, Begun, Skipped, Passed, Taken, Refused}
@@ -14,5 +14,8 @@ answer_by f (Ok x) = Says (f x)
 answer_by f (Err r) = Says (Refused r)
 
 -- a turn that began
+abbrev pub begun_of : Turn → BeginsTurn
+begun_of t = record { turn = t.turn; place = t.place; number = t.input_number }
+
 abbrev pub begun_by : Turn → Reply
-begun_by t = Begun (record { turn = t.turn; place = t.place; number = t.input_number })
+begun_by t = Begun (begun_of t)

@@ -1,3 +1,6 @@
+pub mod Accepted
 pub mod Answered
 pub mod Inside
 pub mod Limits
+pub mod Running
+pub mod Shown

@@ -93,4 +93,11 @@ impl Book {
             self.limit - (self.journal.len() + self.link.outs())
         }
     }
+
+    /// What holds of every book.
+    pub(crate) fn keeps(&self)
+        ensures { IsKept self.now }
+    {
+        let _ = &self.limit;
+    }
 }

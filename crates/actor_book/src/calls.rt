@@ -7,6 +7,7 @@ ghost use Rattle.link_machine.specs.declared.reply.Reply.TheVariants as reply;
 ghost use Rattle.actor_book.specs.Answered.{answer_by};
 
 use crate::book::Book;
+use arrayvec::ArrayVec;
 use link_machine::{Emitted, Event, Offer, Refusal};
 use turn_code::{SignalNumber, Trigger, Value};
 
@@ -28,6 +29,21 @@ pub struct Taken {
     pub emitted: Emitted,
 }
 
+/// The event of these values, of which there are at most as many as a signal has.
+fn offer_of(actor: u16, signal: SignalNumber, values: &[Value]) -> Offer
+    requires { length values.now ≤ 4 }
+    ensures { result ≡ record { actor = actor; signal = signal; values = record { items = values.now } } }
+{
+    match ArrayVec::try_from(values) {
+        Ok(values) => Offer {
+            actor,
+            signal,
+            values,
+        },
+        Err(_) => unreachable!(),
+    }
+}
+
 impl Book {
     /// A signal of the environment comes to an actor. Its place in the journal.
     ///
@@ -43,7 +59,13 @@ impl Book {
         ensures next { OnOk result (next self.new ≡ next self.old + 1) }
         ensures err { OnErr result (self.new ≡ self.old) }
     {
-        unimplemented!()
+        if let Some(refusal) = self.offer_refusal(actor, signal, values) {
+            return Err(refusal);
+        }
+        self.keeps();
+        let place = self.next();
+        self.take_offer(offer_of(actor, signal, values));
+        Ok(place)
     }
 
     /// So many ticks pass: the signals of the timers that are due come to the ports of their processes.
@@ -59,7 +81,12 @@ impl Book {
         ensures next { OnOk result (next self.new ≡ next self.old + 1) }
         ensures err { OnErr result (self.new ≡ self.old) }
     {
-        unimplemented!()
+        if let Some(refusal) = self.advance_refusal(ticks) {
+            return Err(refusal);
+        }
+        let place = self.next();
+        let due = self.pass(ticks);
+        Ok(Passed { place, due })
     }
 
     /// The environment takes the signal that has waited longest for it.
@@ -74,7 +101,12 @@ impl Book {
         ensures next { OnOk result (next self.new ≡ next self.old + 1) }
         ensures err { OnErr result (self.new ≡ self.old) }
     {
-        unimplemented!()
+        if let Some(refusal) = self.take_refusal() {
+            return Err(refusal);
+        }
+        let place = self.next();
+        let emitted = self.take_waiting();
+        Ok(Taken { place, emitted })
     }
 
     /// An actor throws away the first item that its state doesn't save, which is no input there. The signal or timer of it.
@@ -88,6 +120,9 @@ impl Book {
         ensures next { OnOk result (next self.new ≡ next self.old + 1) }
         ensures err { OnErr result (self.new ≡ self.old) }
     {
-        unimplemented!()
+        if let Some(refusal) = self.skip_refusal(actor) {
+            return Err(refusal);
+        }
+        Ok(self.throw(actor))
     }
 }

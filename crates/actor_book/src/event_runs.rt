@@ -1,11 +1,14 @@
 //! Lists of events.
 
-ghost use Rattle.std.specs.Prelude.{◌≡◌, ◌≤◌, map, IfOk, OnOk, OnErr, Some, None, Option};
+ghost use Rattle.std.specs.Prelude.{◌≡◌, ◌≤◌, ◌<◌, ◌+◌, ◌++◌, ◌∷◌, [], length, vec_capacity, map, IfOk, OnOk, OnErr, Some, None, Option};
+ghost use Rattle.link_machine.specs.Laws.{AllWithin};
 ghost use Rattle.turn_code.specs.Outcome.{Meaning, Means};
 ghost use Rattle.link_machine.specs.Step.{Says};
 ghost use Rattle.link_machine.specs.Ledger.{runs, answers_by, after_by, state_by, state_of};
 
 use crate::book::Book;
+use crate::replies::reply_to;
+use link_machine::laws::{set_law, text_law, within_law};
 use link_machine::{Event, Reply};
 use std::alloc::{AllocError, Global};
 
@@ -23,5 +26,32 @@ pub fn run_events(alloc: Global, book: &mut Book, events: &[Event]) -> Result<Ve
     ensures within { OnOk result (AllWithin book.old events.now) }
     ensures err { OnErr result (book.new ≡ book.old) }
 {
-    unimplemented!()
+    text_law();
+    within_law();
+    book.keeps();
+    let mut replies = Vec::with_capacity(alloc, events.len())?;
+    run_each(book, events, &mut replies);
+    Ok(replies)
+}
+
+/// Lets events happen, and puts each answer behind those before.
+fn run_each(book: &mut Book, events: &[Event], replies: &mut Vec<Reply>)
+    requires { length replies.old.items + length events.now ≤ vec_capacity replies.old }
+    ensures replies { map Says replies.new.items ≡ map Says replies.old.items ++ answers_by (runs book.old.set) book.old events.now }
+    ensures book { book.new ≡ after_by (runs book.old.set) book.old events.now }
+{
+    set_law();
+    for event in events {
+        let reply = reply_to(book, event);
+        put(replies, reply);
+    }
+}
+
+/// One answer more, where there is room.
+fn put(replies: &mut Vec<Reply>, reply: Reply)
+    requires { length replies.old.items < vec_capacity replies.old }
+    ensures items { replies.new.items ≡ replies.old.items ++ reply ∷ [] }
+    ensures capacity { vec_capacity replies.old ≤ vec_capacity replies.new }
+{
+    replies.push_reserved(reply);
 }

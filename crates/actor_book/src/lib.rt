@@ -6,8 +6,12 @@
 mod book;
 mod calls;
 mod event_runs;
+mod jobs;
 mod limits;
 mod readers;
+mod refused;
+mod replies;
+mod steps;
 mod turns;
 
 pub use book::Book;
@@ -18,3 +22,6 @@ pub use link_machine::{
     Actor, Begun, Cause, Emitted, Event, Lost, Offer, Refusal, Reply, Report, Standing,
 };
 pub use link_state::Link;
+
+#[cfg(test)]
+mod tests;

@@ -4,12 +4,23 @@ ghost use Rattle.std.specs.Prelude.{◌≡◌, ◌≤◌, ◌+◌, count_by, Opt
 ghost use Rattle.link_machine.specs.Ledger.{state_of};
 ghost use Rattle.link_machine.specs.Kept.{is_finish};
 ghost use Rattle.link_machine.specs.declared.actor.Actor.{Actor as PlainActor};
+ghost use Rattle.actor_book.specs.Shown.{variable_of};
 
 use crate::book::Book;
-use link_machine::{Emitted, Event, Standing};
+use link_machine::{Actor, Emitted, Event, Standing};
 use link_state::Link;
 use turn_check::Verified;
 use turn_code::{Value, VariableNumber};
+
+/// The value of a variable, if there is one that is set.
+fn variable_in(actor: &Actor, variable: VariableNumber) -> Option<Value>
+    ensures { result ≡ variable_of (Some actor.now) variable.0 }
+{
+    match actor.variables.as_slice().get(usize::from(variable.0)) {
+        Some(value) => *value,
+        None => None,
+    }
+}
 
 impl Book {
     /// The set of processes.
@@ -58,7 +69,10 @@ impl Book {
     pub fn variable(&self, actor: u16, variable: VariableNumber) -> Option<Value>
         ensures { result ≡ variable_of (slice_get (state_of self.now).actors actor) variable.0 }
     {
-        unimplemented!()
+        match self.link.actors().get(usize::from(actor)) {
+            Some(found) => variable_in(found, variable),
+            None => None,
+        }
     }
 
     /// The clock, in ticks. It is 2^62 at most.

@@ -1,6 +1,6 @@
 //! Turns of a link's actors.
 
-ghost use Rattle.std.specs.Prelude.{◌≡◌, ◌↔◌, ◌≤◌, ◌<◌, ◌+◌, ◌^◌, [], length, IsOk, IfOk, IfErr, OnOk, OnErr, Some, None, Option};
+ghost use Rattle.std.specs.Prelude.{◌≡◌, ◌↔◌, ◌≤◌, ◌<◌, ◌+◌, ◌^◌, [], length, IsTrue, IsOk, IfOk, IfErr, OnOk, OnErr, Some, None, Option};
 ghost use Rattle.link_machine.specs.Ledger.{ask, next, turn_out};
 ghost use Rattle.link_machine.specs.Step.{Says};
 ghost use Rattle.link_machine.specs.declared.event.Event.TheVariants.{Begin, Finish};
@@ -8,6 +8,8 @@ ghost use Rattle.link_machine.specs.declared.reply.Reply.TheVariants as reply;
 ghost use Rattle.actor_book.specs.Answered.{answer_by, begun_by};
 
 use crate::book::Book;
+use crate::jobs::{job_at, same_job};
+use link_machine::laws::{fits_law, keeps_law, set_law, state_law};
 use link_machine::{Event, Refusal, Report};
 use turn_machine::{Done, Job};
 
@@ -25,7 +27,19 @@ impl Book {
         ensures next { OnOk result (next self.new ≡ next self.old + 1) }
         ensures err { OnErr result (self.new ≡ self.old) }
     {
-        unimplemented!()
+        if let Some(refusal) = self.begin_refusal(actor) {
+            return Err(refusal);
+        }
+        keeps_law();
+        state_law();
+        set_law();
+        fits_law();
+        self.keeps();
+        self.start(actor);
+        match self.job(actor) {
+            Some(job) => Ok(job),
+            None => unreachable!(),
+        }
     }
 
     /// An actor ends the turn that it has out: its effects take place in text order, and then it comes to its next state, or
@@ -43,13 +57,28 @@ impl Book {
         ensures back { IfErr result (λ d. d ≡ done) }
         ensures err { OnErr result (self.new ≡ self.old) }
     {
-        unimplemented!()
+        if !self.has_out(&done) {
+            return Err(done);
+        }
+        let actor = done.job().actor();
+        Ok(self.end(actor, &done))
     }
 
     /// The job of an actor that has a turn out, made once more.
     pub fn job(&self, actor: u16) -> Option<Job>
         ensures { result ≡ turn_out self.now actor }
     {
-        unimplemented!()
+        fits_law();
+        job_at(&self.set, self.link.actors(), actor)
+    }
+
+    /// Whether the job that ran is the one that its actor has out.
+    fn has_out(&self, done: &Done) -> bool
+        ensures { IsTrue result ↔ (turn_out self.now done.now.actor ≡ Some done.now) }
+    {
+        match self.job(done.job().actor()) {
+            Some(job) => same_job(&job, done.job()),
+            None => false,
+        }
     }
 }

@@ -1,0 +1,10 @@
+use Rattle.std.proofs.Common.{sym, ◌∙◌}
+use Rattle.link_machine.specs.declared.event.Event.TheVariants.{Advance}
+use Rattle.actor_book.proofs.Taking.{stays, says}
+use Rattle.actor_book.proofs.book.Book.advance.Goals as goal
+
+pub returns-in-Some-clause-book : goal.returns-in-Some-clause-book
+returns-in-Some-clause-book c = sym (stays c.args.self.now (Advance c.args.ticks) c.in-Some.refusal (sym c.advance_refusal.ensures ∙ c.in-Some.is))
+
+pub returns-in-Some-clause-answer : goal.returns-in-Some-clause-answer
+returns-in-Some-clause-answer c = sym (says c.args.self.now (Advance c.args.ticks) c.in-Some.refusal (sym c.advance_refusal.ensures ∙ c.in-Some.is))

@@ -1,0 +1,46 @@
+use Rattle.std.proofs.Common.{ap, ◌∙◌, le_trans}
+use Rattle.link_machine.specs.Step.{Says}
+use Rattle.link_machine.specs.declared.reply.Report.{Report}
+use Rattle.link_machine.specs.declared.reply.Reply.TheVariants as reply
+use Rattle.turn_machine.specs.Turn.{outcome_of}
+use Rattle.actor_book.proofs.Taking.{fits, new_book, new_answer, new_inside}
+use Rattle.actor_book.proofs.Ending.{from_parts, still_out, out_in, finishes_in, takes_in, timers_in, few_effects, link_ends, link_reports}
+use Rattle.actor_book.proofs.book.Book.end.Goals as goal
+
+pub number_in-number-requires : goal.number_in-number-requires
+number_in-number-requires c = out_in _ _ _ c.args.actor _ c.self.view_is _ c.self.invariant c.requires
+
+pub finish-report-requires-clause-timers : goal.finish-report-requires-clause-timers
+finish-report-requires-clause-timers c =
+    timers_in _ _ _ c.args.actor _ c.self.view_is _ c.self.invariant c.requires c.effects_law.ensures c.fits_law.ensures _ _ _ _
+    (from_parts (outcome_of c.args.done.now) _ _ _ _ c.end.ensures c.variables_after.ensures c.effects.ensures.value c.count.ensures.value)
+
+pub finish-report-requires-clause-few : goal.finish-report-requires-clause-few
+finish-report-requires-clause-few c =
+    le_trans c.effects.ensures.within (few_effects _ c.args.actor _ c.self.invariant.kept (still_out _ _ _ _ c.self.view_is c.requires))
+
+pub finish-report-requires-clause-finishes : goal.finish-report-requires-clause-finishes
+finish-report-requires-clause-finishes c = finishes_in _ _ _ c.args.actor _ c.self.view_is _ c.self.invariant c.requires
+
+pub note-requires : goal.note-requires
+note-requires c = fits c.keeps_law.ensures _ _ c.self.view_is _ _ c.self.invariant _ (takes_in _ _ _ c.args.actor _ c.self.view_is _ c.self.invariant c.requires c.out_law.ensures)
+
+pub invariant_of-self : goal.invariant_of-self
+invariant_of-self c =
+    new_inside c.keeps_law.ensures _ _ c.self.view_is _ _ c.self.invariant _ (takes_in _ _ _ c.args.actor _ c.self.view_is _ c.self.invariant c.requires c.out_law.ensures)
+    c.state_law.ensures _ _ _ c.note.ensures.items
+    (c.finish-report.ensures.link ∙ link_ends _ _ _ c.args.actor _ c.self.view_is _ c.self.invariant c.requires _ _ c.number_in-number.ensures.value
+    (from_parts (outcome_of c.args.done.now) _ _ _ _ c.end.ensures c.variables_after.ensures c.effects.ensures.value c.count.ensures.value))
+    c.note.ensures.capacity
+
+pub returns-clause-book : goal.returns-clause-book
+returns-clause-book c =
+    new_book c.keeps_law.ensures _ _ c.self.view_is _ _ c.self.invariant _ (takes_in _ _ _ c.args.actor _ c.self.view_is _ c.self.invariant c.requires c.out_law.ensures)
+    _ c.note.ensures.items
+
+pub returns-clause-answer : goal.returns-clause-answer
+returns-clause-answer c =
+    ap (λ (r : Report). Says (reply.Finished r)) c.finish-report.ensures.report
+    ∙ link_reports _ _ _ c.args.actor _ c.self.view_is _ c.self.invariant c.requires _ _ c.number_in-number.ensures.value
+    (from_parts (outcome_of c.args.done.now) _ _ _ _ c.end.ensures c.variables_after.ensures c.effects.ensures.value c.count.ensures.value)
+    ∙ new_answer c.keeps_law.ensures _ _ c.self.view_is _ _ c.self.invariant _ (takes_in _ _ _ c.args.actor _ c.self.view_is _ c.self.invariant c.requires c.out_law.ensures)

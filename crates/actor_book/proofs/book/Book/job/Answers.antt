@@ -1,0 +1,20 @@
+use Rattle.std.proofs.Common.{◌≡◌, ap, ◌∙◌, List}
+use Rattle.std.specs.Prelude.{slice_get}
+use Rattle.link_machine.specs.Core.{Core}
+use Rattle.link_machine.specs.Ledger.{Ledger, state_of, turn_at, turn_out}
+use Rattle.link_machine.specs.declared.actor.Actor.{Actor}
+use Rattle.actor_book.proofs.Beginning as beginning
+use Rattle.actor_book.proofs.Following as following
+use Rattle.actor_book.proofs.Taking.{fits_in}
+use Rattle.actor_book.proofs.book.Book.job.Goals as goal
+
+pub job_at-requires-clause-fits : goal.job_at-requires-clause-fits
+job_at-requires-clause-fits c a h =
+    fits_in c.fits_law.ensures _ _ _ c.self.invariant c.actors.result.now c.args.actor a c.actors.ensures.value h
+
+pub returns : goal.returns
+unfolding turn_out
+returns c =
+    c.job_at.ensures
+    ∙ ap (λ (xs : List Actor). turn_at c.self.inside.set c.args.actor (slice_get xs c.args.actor)) (c.actors.ensures.value ∙ ap (λ (w : Core). w.actors) c.self.invariant.state)
+    ∙ ap (λ (b : Ledger). turn_at b.set c.args.actor (slice_get (state_of b).actors c.args.actor)) c.self.view_is

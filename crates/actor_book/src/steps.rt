@@ -1,0 +1,169 @@
+//! Events that a book takes: the link's step, and the event's place in the journal.
+
+ghost use Rattle.std.specs.Prelude.{◌≡◌, ◌≤◌, ◌<◌, ◌+◌, ◌++◌, ◌∷◌, [], None, Some, Option, length, option_map, vec_capacity};
+ghost use Rattle.turn_code.specs.Outcome.{Outcome};
+ghost use Rattle.turn_machine.specs.Turn.{IsRunnable, outcome_of};
+ghost use Rattle.link_machine.specs.Ledger.{ask, next, turn_out};
+ghost use Rattle.link_machine.specs.Step.{Says};
+ghost use Rattle.link_machine.specs.declared.event.Event.TheVariants.{Offer as Offered, Begin, Skip, Finish, Advance, TakeEnv};
+ghost use Rattle.link_machine.specs.declared.reply.Reply.TheVariants as reply;
+ghost use Rattle.actor_book.specs.Accepted.{Takes};
+
+use crate::book::Book;
+use arrayvec::ArrayVec;
+use link_machine::laws::{fits_law, keeps_law, out_law, place_law, state_law};
+use link_machine::{Emitted, Event, Offer, Report};
+use link_state::Link;
+use turn_code::laws::{effects_law, run_law};
+use turn_code::{SignalNumber, Trigger, Value};
+use turn_machine::{Done, Job};
+
+/// One event more, where there is room.
+fn note(journal: &mut Vec<Event>, event: Event)
+    requires { length journal.old.items < vec_capacity journal.old }
+    ensures items { journal.new.items ≡ journal.old.items ++ event ∷ [] }
+    ensures capacity { vec_capacity journal.old ≤ vec_capacity journal.new }
+{
+    journal.push_reserved(event);
+}
+
+/// The number of an actor that is there, of which a link has 16 at most.
+fn number_in(link: &Link, actor: u16) -> u8
+    requires { actor < length link.now.actors }
+    ensures value { result ≡ actor }
+    ensures few { result < 16 }
+{
+    let _few = link.actors();
+    actor as u8
+}
+
+/// How many variables a job is given.
+fn input_variables(job: &Job) -> usize
+    ensures value { result ≡ length job.now.input.variables.items }
+    ensures few { result ≤ 32 }
+    ensures runnable { IsRunnable job.now }
+{
+    job.input().variables.len()
+}
+
+/// The variables as a turn ended.
+fn variables_after(done: &Done) -> ArrayVec<Option<Value>, 32>
+    ensures { option_map (λ (o : Outcome). o.progress.variables) (outcome_of done.now) ≡ Some result.items }
+{
+    run_law();
+    let _few = input_variables(done.job());
+    match ArrayVec::try_from(done.variables()) {
+        Ok(variables) => variables,
+        Err(_) => unreachable!(),
+    }
+}
+
+impl Book {
+    /// A signal of the environment that is taken.
+    pub(crate) fn take_offer(&mut self, offer: Offer)
+        requires { Takes self.old (Offered offer) }
+        ensures book { self.new ≡ (ask self.old (Offered offer)).book }
+        ensures answer { Says reply.Offered ≡ (ask self.old (Offered offer)).answer }
+        ensures next { next self.new ≡ next self.old + 1 }
+    {
+        keeps_law();
+        state_law();
+        place_law();
+        self.link.offer(offer.actor, offer.signal, offer.copy().values);
+        note(&mut self.journal, Event::Offer(offer));
+    }
+
+    /// Ticks that may pass. How many timers were due.
+    pub(crate) fn pass(&mut self, ticks: u64) -> usize
+        requires { Takes self.old (Advance ticks) }
+        ensures book { self.new ≡ (ask self.old (Advance ticks)).book }
+        ensures answer { Says (reply.Passed result) ≡ (ask self.old (Advance ticks)).answer }
+        ensures next { next self.new ≡ next self.old + 1 }
+    {
+        keeps_law();
+        state_law();
+        place_law();
+        let due = self.link.advance(ticks);
+        note(&mut self.journal, Event::Advance(ticks));
+        due
+    }
+
+    /// What waits for the environment, where something does.
+    pub(crate) fn take_waiting(&mut self) -> Emitted
+        requires { Takes self.old TakeEnv }
+        ensures book { self.new ≡ (ask self.old TakeEnv).book }
+        ensures answer { Says (reply.Taken result) ≡ (ask self.old TakeEnv).answer }
+        ensures next { next self.new ≡ next self.old + 1 }
+    {
+        keeps_law();
+        state_law();
+        place_law();
+        match self.link.take() {
+            Some(emitted) => {
+                note(&mut self.journal, Event::TakeEnv);
+                emitted
+            }
+            None => unreachable!(),
+        }
+    }
+
+    /// An item that may be thrown away.
+    pub(crate) fn throw(&mut self, actor: u16) -> Trigger
+        requires { Takes self.old (Skip actor) }
+        ensures book { self.new ≡ (ask self.old (Skip actor)).book }
+        ensures answer { Says (reply.Skipped result) ≡ (ask self.old (Skip actor)).answer }
+        ensures next { next self.new ≡ next self.old + 1 }
+    {
+        keeps_law();
+        state_law();
+        place_law();
+        let number = number_in(&self.link, actor);
+        match self.link.skip(&self.set, number) {
+            Some(trigger) => {
+                note(&mut self.journal, Event::Skip(actor));
+                trigger
+            }
+            None => unreachable!(),
+        }
+    }
+
+    /// A turn that may begin.
+    pub(crate) fn start(&mut self, actor: u16)
+        requires { Takes self.old (Begin actor) }
+        ensures book { self.new ≡ (ask self.old (Begin actor)).book }
+        ensures next { next self.new ≡ next self.old + 1 }
+    {
+        keeps_law();
+        state_law();
+        place_law();
+        let number = number_in(&self.link, actor);
+        self.link.begin(&self.set, number);
+        note(&mut self.journal, Event::Begin(actor));
+    }
+
+    /// The end of a turn that is out.
+    pub(crate) fn end(&mut self, actor: u16, done: &Done) -> Report
+        requires { turn_out self.old actor ≡ Some done.now }
+        ensures book { self.new ≡ (ask self.old (Finish actor)).book }
+        ensures answer { Says (reply.Finished result) ≡ (ask self.old (Finish actor)).answer }
+        ensures next { next self.new ≡ next self.old + 1 }
+        ensures within { result.count ≤ done.now.certificate.budget }
+    {
+        keeps_law();
+        state_law();
+        place_law();
+        out_law();
+        fits_law();
+        effects_law();
+        let number = number_in(&self.link, actor);
+        let report = self.link.finish(
+            number,
+            done.end(),
+            variables_after(done),
+            done.effects(),
+            done.count(),
+        );
+        note(&mut self.journal, Event::Finish(actor));
+        report
+    }
+}
