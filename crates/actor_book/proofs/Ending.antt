@@ -325,3 +325,20 @@ few_variables law t vs able h few =
     AllZip-long HasSort able.transition.process.variables t.input.variables.items able.fits.variables in
     let three : length well.progress.variables ≡ length vs = ap length same in
     omega arith
+
+-- ---- a job that is made once more
+
+pub own_actor : (b : Ledger) (n : ℕ) (t r : Turn) → turn_out b n ≡ Some t → r ≡ t → r.actor ≡ n
+own_actor b n t r h same =
+    let o = is_turn_out b n t h in
+    ap (λ (x : Turn). x.actor) same ∙ ap (λ (x : Turn). x.actor) o.turn
+
+pub still_own : (b : Ledger) (n : ℕ) (t r : Turn) → turn_out b n ≡ Some t → r ≡ t → turn_out b r.actor ≡ Some r
+still_own b n t r h same = ap (λ (k : ℕ). turn_out b k) (own_actor b n t r h same) ∙ h ∙ ap (λ (x : Turn). Some x) (sym same)
+
+pub no_turn : (o : Option Turn) → ((t : Turn) → o ≡ Some t → ⊥) → o ≡ None
+no_turn None h = refl
+no_turn (Some t) h = absurd (h t refl)
+
+pub not_so : false ≡ true → ⊥
+not_so h = absurd (cc)
