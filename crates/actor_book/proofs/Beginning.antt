@@ -1,14 +1,14 @@
 -- The turn that an actor has out once it has begun.
-use Rattle.std.proofs.Common.{◌≡◌, ℕ, zero, suc, ◌+◌, Bool, true, false, List, [], ◌∷◌, Option, Some, None, refl, sym, ap, ◌∙◌, subst, arith}
+use Rattle.std.proofs.Common.{◌≡◌, ℕ, zero, suc, List, [], ◌∷◌, Option, Some, None, refl, sym, ap, ◌∙◌, subst}
 use Rattle.std.specs.Prelude.{slice_get, slice_set}
 use Rattle.turn_code.specs.Transitions.{Transition, transition_at}
 use Rattle.turn_code.specs.declared.input.Place.{Place}
 use Rattle.turn_code.specs.declared.draft.Draft.{Draft}
-use Rattle.turn_machine.specs.Turn.{Turn, turn_of}
+use Rattle.turn_machine.specs.Turn.{Turn}
 use Rattle.link_machine.specs.Core.{Core, set_at, change}
 use Rattle.link_machine.specs.Fits.{CoreFits, ActorFits, GivenFits}
 use Rattle.link_machine.specs.Kept.{IsKept}
-use Rattle.link_machine.specs.Laws.{FitsLaw, StateLaw, KeepsLaw, SetLaw}
+use Rattle.link_machine.specs.Laws.{FitsLaw, StateLaw, SetLaw}
 use Rattle.link_machine.specs.Ledger.{Ledger, runs, state_of, ask, turn_with, turn_given, turn_at, turn_out}
 use Rattle.link_machine.specs.Looking.{looks, number_in, begun, given_now}
 use Rattle.link_machine.specs.Step.{Says, step, place_of, begin_reply, begun_now}
@@ -80,7 +80,7 @@ module _ (state : StateLaw) (sets : SetLaw) (b : Ledger) (n : ℕ) (takes : Take
       let own : ActorFits b.set n (begun b.set n (state_of b).turns may.actor) =
       subst (λ (d : Draft). ActorFits d n (begun b.set n (state_of b).turns may.actor)) (sets.asks b (Begin n)) actor in
       given_out b.set n may.actor.standing (given_now b.set n (state_of b).turns may.actor) (fits_begun b.set n (state_of b).turns may.actor own)
-          (sym out_after ∙ h)
+      (sym out_after ∙ h)
 
 abbrev begun_at : ℕ → Place → ℕ → Begun
 begun_at turn place number = record { turn = turn; place = place; number = number }

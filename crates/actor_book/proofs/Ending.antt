@@ -1,5 +1,5 @@
 -- The turn that an actor has out, and what its end makes of the link.
-use Rattle.std.proofs.Common.{◌≡◌, ℕ, ◌+◌, ◌*◌, ◌^◌, ◌≤◌, ◌<◌, Bool, true, false, cond, get_or, zero, suc, List, [], ◌∷◌, length, Option, Some, None, refl, sym, ap, ◌∙◌, subst, arith, le_trans}
+use Rattle.std.proofs.Common.{◌≡◌, ℕ, ◌+◌, ◌*◌, ◌^◌, ◌≤◌, ◌<◌, Bool, true, false, cond, get_or, zero, suc, List, [], ◌∷◌, length, Option, Some, None, refl, sym, ap, ◌∙◌, subst, arith}
 use Rattle.std.specs.Prelude.{slice_get, option_map, count_by}
 use Rattle.std.proofs.lemmas.List.Sums.{get_or-le-sum_by}
 use Rattle.std.proofs.lemmas.Option.{slice_get_within, get_or_from_slice_get}
@@ -12,12 +12,11 @@ use Rattle.turn_code.specs.Safe.{RunLaw, RunsWell}
 use Rattle.turn_code.specs.declared.instruction.Instruction.{Instruction}
 use Rattle.turn_code.specs.Transitions.{Transition, transition_at, place_at, process_at, start_at, input_at, start_of, input_of}
 use Rattle.turn_code.specs.Valid.{IsValid, IsValidTransition}
-use Rattle.turn_code.specs.Fits.{HasSort, Fits, FitsTransition}
+use Rattle.turn_code.specs.Fits.{HasSort, Fits}
 use Rattle.turn_code.specs.declared.value.Value.{Value}
 use Rattle.turn_code.specs.declared.effect.Effect.{Effect}
 use Rattle.turn_code.specs.declared.effect.Effect.TheVariants.{Output, Set, Reset}
 use Rattle.turn_code.specs.declared.machine.End.{End}
-use Rattle.turn_code.specs.declared.input.Input.{Input}
 use Rattle.turn_code.specs.declared.input.Place.{Place}
 use Rattle.turn_code.specs.declared.input.Place.TheVariants.{Start, State}
 use Rattle.turn_code.specs.declared.draft.Draft.{Draft}
@@ -29,8 +28,8 @@ use Rattle.turn_machine.specs.Turn.{Turn, IsRunnable, turn_of, outcome_of}
 use Rattle.link_state.specs.Outcomes.{outcome_with, HasTimer, HaveTimers}
 use Rattle.link_machine.specs.Core.{Core, is_out, outs}
 use Rattle.link_machine.specs.Effects.{finished}
-use Rattle.link_machine.specs.Fits.{CoreFits, ActorFits, GivenFits}
-use Rattle.link_machine.specs.Kept.{IsKept, IsBounded}
+use Rattle.link_machine.specs.Fits.{CoreFits, GivenFits}
+use Rattle.link_machine.specs.Kept.{IsKept}
 use Rattle.link_machine.specs.Laws.{OutLaw, FitsLaw}
 use Rattle.actor_book.specs.Accepted.{Takes}
 use Rattle.actor_book.specs.Inside.{IsBook}
@@ -187,6 +186,7 @@ in_process ss n p (State q) i t h = in_state ss n p i (slice_get p.states q.0) t
         → option_map (input_of ss n p q) x ≡ Some t → t.process ≡ p
     in_input ss n p q None t h = absurd (cc)
     in_input ss n p q (Some x) t h = let same : input_of ss n p q x ≡ t = cc in ap (λ (x : Transition). x.process) (sym same)
+
     in_state : (ss : List DraftSignal) (n : ℕ) (p : DraftProcess) (i : ℕ) (q : Option DraftState) (t : Transition)
         → input_at ss n p i q ≡ Some t → t.process ≡ p
     in_state ss n p i None t h = absurd (cc)
@@ -325,3 +325,20 @@ few_variables law t vs able h few =
     AllZip-long HasSort able.transition.process.variables t.input.variables.items able.fits.variables in
     let three : length well.progress.variables ≡ length vs = ap length same in
     omega arith
+
+-- ---- a job that is made once more
+
+pub own_actor : (b : Ledger) (n : ℕ) (t r : Turn) → turn_out b n ≡ Some t → r ≡ t → r.actor ≡ n
+own_actor b n t r h same =
+    let o = is_turn_out b n t h in
+    ap (λ (x : Turn). x.actor) same ∙ ap (λ (x : Turn). x.actor) o.turn
+
+pub still_own : (b : Ledger) (n : ℕ) (t r : Turn) → turn_out b n ≡ Some t → r ≡ t → turn_out b r.actor ≡ Some r
+still_own b n t r h same = ap (λ (k : ℕ). turn_out b k) (own_actor b n t r h same) ∙ h ∙ ap (λ (x : Turn). Some x) (sym same)
+
+pub no_turn : (o : Option Turn) → ((t : Turn) → o ≡ Some t → ⊥) → o ≡ None
+no_turn None h = refl
+no_turn (Some t) h = absurd (h t refl)
+
+pub not_so : false ≡ true → ⊥
+not_so h = absurd (cc)

@@ -1,5 +1,5 @@
 -- Lists of events, one after another.
-use Rattle.std.proofs.Common.{◌≡◌, ℕ, List, [], ◌∷◌, ◌++◌, map, refl, sym, ap, ◌∙◌, ◌+◌, ◌≤◌, ◌<◌, length, subst, append_assoc, length-append, arith}
+use Rattle.std.proofs.Common.{◌≡◌, ℕ, List, [], ◌∷◌, ◌++◌, map, ap, ◌∙◌, ◌+◌, ◌≤◌, ◌<◌, length, append_assoc, length-append, arith}
 use Rattle.std.proofs.lemmas.List.{map-append}
 use Rattle.turn_code.specs.declared.draft.Draft.{Draft}
 use Rattle.actor_book.specs.Running.{IsUnderWay}

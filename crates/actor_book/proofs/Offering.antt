@@ -1,5 +1,5 @@
 -- How many values come with a signal that a link takes.
-use Rattle.std.proofs.Common.{◌≡◌, ℕ, zero, suc, ◌<◌, ◌≤◌, Bool, true, false, not, ◌&&◌, if◌then◌else◌, List, [], ◌∷◌, length, map, Option, Some, None, refl, sym, ap, ◌∙◌, subst, arith}
+use Rattle.std.proofs.Common.{◌≡◌, ℕ, zero, suc, ◌≤◌, Bool, true, false, not, ◌&&◌, if◌then◌else◌, List, [], ◌∷◌, length, map, Option, Some, None, refl, arith}
 use Rattle.std.specs.Prelude.{All, nat_lt, slice_get}
 use Rattle.std.specs.List.{list_any}
 use Rattle.std.proofs.lemmas.List.{length-map}
@@ -22,7 +22,7 @@ use Rattle.link_machine.specs.declared.event.Offer.{Offer as Offered}
 use Rattle.link_machine.specs.declared.reply.Refusal.{Refusal}
 use Rattle.link_machine.specs.declared.reply.Refusal.TheVariants as refusal
 use Rattle.actor_book.specs.Accepted.{Takes}
-use Rattle.actor_book.proofs.Passing.{row_passes, not_true, IsThere, is_there}
+use Rattle.actor_book.proofs.Passing.{row_passes, not_true, is_there}
 use Rattle.actor_book.proofs.Taking.{link_takes}
 
 right_true : (a b : Bool) → (a && b) ≡ true → b ≡ true

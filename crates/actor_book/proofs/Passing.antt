@@ -1,6 +1,6 @@
 -- What is known of an event that a link doesn't refuse.
-use Rattle.std.proofs.Common.{◌≡◌, ℕ, ◌+◌, ◌^◌, ◌≤◌, ◌<◌, Bool, true, false, not, ◌&&◌, ◌==◌, if◌then◌else◌, List, [], ◌∷◌, length, map, Option, Some, None, refl, sym, ap, ◌∙◌, subst, arith}
-use Rattle.std.specs.Prelude.{nat_lt, nat_le, slice_get, slice_set, option_map}
+use Rattle.std.proofs.Common.{◌≡◌, ℕ, ◌+◌, ◌^◌, ◌≤◌, ◌<◌, Bool, true, false, not, ◌==◌, if◌then◌else◌, List, [], ◌∷◌, length, Option, Some, None, refl, sym, ap, ◌∙◌, arith}
+use Rattle.std.specs.Prelude.{nat_lt, nat_le, slice_get, option_map}
 use Rattle.std.proofs.lemmas.Option.{slice_get_within}
 use Rattle.turn_code.specs.declared.draft.Draft.{Draft}
 use Rattle.turn_code.specs.declared.draft.Trigger.{Trigger}
@@ -8,16 +8,14 @@ use Rattle.turn_code.specs.declared.input.Place.TheVariants.{Start, State}
 use Rattle.input_port.specs.Queue.{first_unsaved}
 use Rattle.input_port.specs.declared.queue.Item.{Item}
 use Rattle.link_state.specs.Saving.{skipped_by}
-use Rattle.link_machine.specs.Core.{Core, Ring, is_out}
+use Rattle.link_machine.specs.Core.{Core, is_out}
 use Rattle.link_machine.specs.Looking.{looks, is_saved, trigger_of, found_at, found_item, item_at}
-use Rattle.link_machine.specs.Refusals.{refuses, of_actor, first_of, begin_rows, skip_rows, advance_rows, empty_row, is_nothing, is_ignored, is_counted_out}
+use Rattle.link_machine.specs.Refusals.{refuses, of_actor, first_of, begin_rows, skip_rows, advance_rows, is_nothing, is_ignored, is_counted_out}
 use Rattle.link_machine.specs.Step.{skip_reply, skip_reply_of, take_reply}
 use Rattle.link_machine.specs.declared.actor.Actor.{Actor}
 use Rattle.link_machine.specs.declared.actor.Standing.{Standing}
 use Rattle.link_machine.specs.declared.actor.Standing.TheVariants.{At, Stopped as HasStopped}
-use Rattle.link_machine.specs.declared.event.Event.TheVariants.{Offer, Begin, Skip, Finish, Advance, TakeEnv}
-use Rattle.link_machine.specs.declared.found.Found.{Found}
-use Rattle.link_machine.specs.declared.found.Found.TheVariants as found
+use Rattle.link_machine.specs.declared.event.Event.TheVariants.{Begin, Skip, Advance, TakeEnv}
 use Rattle.link_machine.specs.declared.reply.Emitted.{Emitted}
 use Rattle.link_machine.specs.declared.reply.Refusal.{Refusal}
 use Rattle.link_machine.specs.declared.reply.Refusal.TheVariants as refusal

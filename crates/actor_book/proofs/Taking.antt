@@ -1,15 +1,15 @@
 -- What an event makes of a book.
 use Rattle.std.proofs.Common.{◌≡◌, ℕ, ◌+◌, ◌≤◌, ◌<◌, List, [], ◌∷◌, ◌++◌, length, Option, Some, None, refl, sym, ap, ◌∙◌, subst, arith, length-append}
-use Rattle.std.specs.Prelude.{◌-◌, ◌^◌, Bool, true, false, nat_lt, nat_le, slice_get, if◌then◌else◌}
+use Rattle.std.specs.Prelude.{◌-◌, ◌^◌, Bool, true, false, nat_le, slice_get, if◌then◌else◌}
 use Rattle.turn_code.specs.Valid.{IsValid}
 use Rattle.turn_code.specs.declared.draft.Draft.{Draft}
 use Rattle.link_machine.specs.Core.{Core, outs}
-use Rattle.link_machine.specs.Step.{Answer, Says, Stepped, step}
-use Rattle.link_machine.specs.Refusals.{refuses, needs, with_room}
+use Rattle.link_machine.specs.Step.{Says, Stepped, step}
+use Rattle.link_machine.specs.Refusals.{refuses, with_room}
 use Rattle.link_machine.specs.Ledger.{Ledger, runs, state_of, asked, ask, ask_by, room, next, rebased}
 use Rattle.link_machine.specs.Kept.{IsKept, opened, opened_book}
 use Rattle.link_machine.specs.Laws.{KeepsLaw, StateLaw, FitsLaw}
-use Rattle.link_machine.specs.Fits.{CoreFits, ActorFits, GivenFits}
+use Rattle.link_machine.specs.Fits.{GivenFits}
 use Rattle.link_machine.specs.declared.actor.Actor.{Actor}
 use Rattle.link_machine.specs.declared.event.Event.{Event}
 use Rattle.link_machine.specs.declared.reply.Refusal.{Refusal}

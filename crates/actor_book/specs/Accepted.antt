@@ -1,5 +1,5 @@
 -- Events that a book refuses or takes.
-use Rattle.std.specs.Prelude.{◌≡◌, ℕ, Option, None, Some}
+use Rattle.std.specs.Prelude.{◌≡◌, Option, None}
 use Rattle.link_machine.specs.Ledger.{Ledger, runs, refusal_by}
 use Rattle.link_machine.specs.declared.event.Event.{Event}
 use Rattle.link_machine.specs.declared.reply.Refusal.{Refusal}

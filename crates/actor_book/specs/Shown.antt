@@ -1,5 +1,5 @@
 -- What a book shows of its actors.
-use Rattle.std.specs.Prelude.{ℕ, List, Option, None, Some, slice_get}
+use Rattle.std.specs.Prelude.{ℕ, Option, None, Some, slice_get}
 use Rattle.turn_code.specs.declared.value.Value.{Value}
 use Rattle.link_machine.specs.declared.actor.Actor.{Actor}
 

@@ -51,7 +51,12 @@ impl Book {
     ///
     /// In this order: `B10 NoActor`, `B2 Stopped`, `B3 NoRoute` where no route brings this signal with parameters of these sorts from
     /// the environment, `B1 Full`, `B8 JournalFull`. Then nothing changes.
-    pub fn offer(&mut self, actor: u16, signal: SignalNumber, values: &[Value]) -> Result<u64, Refusal>
+    pub fn offer(
+        &mut self,
+        actor: u16,
+        signal: SignalNumber,
+        values: &[Value],
+    ) -> Result<u64, Refusal>
         ensures book { let e = Offered (record { actor = actor; signal = signal; values = record { items = values.now } }) in self.new ≡ (ask self.old e).book }
         ensures answer { let e = Offered (record { actor = actor; signal = signal; values = record { items = values.now } }) in
             answer_by (λ _. reply.Offered) result ≡ (ask self.old e).answer }

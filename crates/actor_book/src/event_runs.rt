@@ -17,7 +17,11 @@ use std::alloc::{AllocError, Global};
 ///
 /// No turn gets stuck; each does what the set's own code does, and what the code means: by anything that the set means the answers are
 /// the same, and so are the book and the state afterwards.
-pub fn run_events(alloc: Global, book: &mut Book, events: &[Event]) -> Result<Vec<Reply>, AllocError>
+pub fn run_events(
+    alloc: Global,
+    book: &mut Book,
+    events: &[Event],
+) -> Result<Vec<Reply>, AllocError>
     ensures replies { IfOk result (λ rs. map Says rs.items ≡ answers_by (runs book.old.set) book.old events.now) }
     ensures by_text { IfOk result (λ rs. (act : Meaning) → Means act book.old.set → map Says rs.items ≡ answers_by act book.old events.now) }
     ensures book { OnOk result (book.new ≡ after_by (runs book.old.set) book.old events.now) }

@@ -8,11 +8,10 @@ ghost use Rattle.link_machine.specs.Ledger.{turn_at, turn_given, turn_with};
 ghost use Rattle.link_machine.specs.declared.actor.Actor.{Actor as PlainActor};
 
 use link_machine::{Actor, Given, Standing};
+pub(crate) use same_job::same_job;
 use turn_check::Verified;
 use turn_code::{Place, ProcessNumber};
 use turn_machine::{Job, Received};
-
-pub(crate) use same_job::same_job;
 
 /// The job of a turn.
 fn job_with(set: &Verified, number: u8, place: Place, given: &Given) -> Job

@@ -69,7 +69,8 @@ impl Book {
         keeps_law();
         state_law();
         place_law();
-        self.link.offer(offer.actor, offer.signal, offer.copy().values);
+        self.link
+            .offer(offer.actor, offer.signal, offer.copy().values);
         note(&mut self.journal, Event::Offer(offer));
     }
 

@@ -135,7 +135,11 @@ fn a_list_of_events_runs(rt: HostRuntime) -> Result<(), Fail> {
     assert_eq!(rt; replies.len(), 7);
     assert_eq!(rt; book.finishes(), 2);
     assert_eq!(rt; book.instructions(), 3);
-    assert_eq!(rt; book.journal().len(), 6, "the second Up finds the port full");
+    assert_eq!(rt;
+        book.journal().len(),
+        6,
+        "the second Up finds the port full"
+    );
     book.rebase()?;
     assert_eq!(rt; book.first(), 6);
     assert_eq!(rt; book.journal().len(), 0);

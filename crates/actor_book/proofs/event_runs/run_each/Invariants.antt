@@ -1,7 +1,5 @@
-use Rattle.std.proofs.Common.{◌≡◌, ◌≤◌, ◌+◌, ◌++◌, drop, length, map}
+use Rattle.std.proofs.Common.{drop}
 use Rattle.std.specs.Prelude.{vec_capacity}
-use Rattle.link_machine.specs.Step.{Says}
-use Rattle.link_machine.specs.Ledger.{runs, answers_by, after_by}
 use Rattle.actor_book.specs.Running.{IsUnderWay}
 use Rattle.actor_book.proofs.event_runs.run_each.Given as goal
 

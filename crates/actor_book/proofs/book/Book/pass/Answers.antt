@@ -1,9 +1,8 @@
 use Rattle.std.proofs.Common.{ap, ◌∙◌}
 use Rattle.link_machine.specs.Step.{Says, step}
 use Rattle.link_machine.specs.declared.reply.Reply.TheVariants as reply
-use Rattle.actor_book.proofs.Ending as ending
-use Rattle.actor_book.proofs.Taking.{link_passes, fits, new_book, new_answer, new_next, new_inside}
-use Rattle.actor_book.proofs.Passing.{MayPass, may_pass}
+use Rattle.actor_book.proofs.Taking.{link_passes, fits, new_book, new_answer, new_inside}
+use Rattle.actor_book.proofs.Passing.{may_pass}
 use Rattle.actor_book.proofs.book.Book.pass.Goals as goal
 
 pub advance-due-requires-clause-near : goal.advance-due-requires-clause-near

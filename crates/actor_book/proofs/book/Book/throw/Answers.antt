@@ -32,5 +32,5 @@ pub returns-clause-answer : goal.returns-clause-answer
 unfolding step
 returns-clause-answer c =
     let thrown = ap (λ k. skipped_by c.self.inside.set k (slice_get c.self.inside.link.actors k)) (sym c.number_in-number.ensures.value)
-        ∙ sym c.skip.ensures.skipped ∙ c.in-Some.is in
+    ∙ sym c.skip.ensures.skipped ∙ c.in-Some.is in
     ap Says (sym (skip_replies c.self.inside.set c.args.actor c.in-Some.trigger _ thrown)) ∙ new_answer c.keeps_law.ensures _ _ c.self.view_is _ _ c.self.invariant _ c.requires
