@@ -1,8 +1,8 @@
 //! Sends random message signal units through a stuffer and a deframer, and measures both.
 //!
 //! Without a word it makes one round, and prints how many units came back. With a number of rounds it also prints octets per
-//! second, `out` of units put on the line, `in` of the line that were read and decoded, and `each` of those that were taken one by
-//! one; the same with `fisu_` for a line of fill-in units; `store`, messages a second that were put, sent and acknowledged, and
+//! second, `out` of units put on the line, `in` of the line that were read, `until` of those that were taken up to the first event
+//! each time, and `each` of those that were taken one by one; the same with `fisu_` for a line of fill-in units; `store`, messages a second that were put, sent and acknowledged, and
 //! `retrieve`, messages a second that a full store handed out.
 #![tactic(auto)]
 
@@ -15,7 +15,7 @@ use std::alloc::{AllocError, Global};
 use std::rt::Runtime;
 use std::time::{Duration, Instant};
 use std::{env, io};
-use su_octets::{Head, Unit, decode};
+use su_octets::{Head, Unit};
 
 /// How many messages a round has.
 const UNITS: u32 = 2000;
@@ -123,13 +123,36 @@ fn receive(alloc: Global, line: &[u8]) -> Result<u64, AllocError> {
     let mut units = 0u64;
     for piece in line.chunks(1024) {
         let events = deframer.feed(alloc, piece).map_err(|_| AllocError)?;
-        for event in events.iter() {
-            if let LineEvent::Unit(_) = event {
-                units = units.saturating_add(1);
-            }
-        }
+        units = units.saturating_add(units_of(events.as_slice()));
     }
     Ok(units)
+}
+
+/// How many units are among the events.
+fn units_of(events: &[LineEvent]) -> u64 {
+    let mut units = 0u64;
+    for event in events {
+        if let LineEvent::Unit(_) = event {
+            units = units.saturating_add(1);
+        }
+    }
+    units
+}
+
+/// Reads the line up to the first event each time, and counts the units that it has.
+fn receive_until(line: &[u8]) -> u64 {
+    let mut deframer = Deframer::new();
+    let mut units = 0u64;
+    let mut rest = line;
+    for _ in 0..line.len() {
+        if rest.is_empty() {
+            break;
+        }
+        let (taken, events) = deframer.feed_until(rest);
+        units = units.saturating_add(units_of(events.as_slice()));
+        rest = &rest[taken..];
+    }
+    units
 }
 
 /// Reads the line octet by octet, and counts the units that it has.
@@ -137,13 +160,8 @@ fn receive_each(line: &[u8]) -> u64 {
     let mut deframer = Deframer::new();
     let mut units = 0u64;
     for octet in line {
-        for event in deframer.feed_byte(*octet).iter() {
-            if let LineEvent::Unit(octets) = event {
-                if decode(octets.as_slice()).is_ok() {
-                    units = units.saturating_add(1);
-                }
-            }
-        }
+        let events = deframer.feed_byte(*octet);
+        units = units.saturating_add(units_of(events.as_slice()));
     }
     units
 }
@@ -250,18 +268,40 @@ fn measure<R: Runtime + AllocGlobal>(
         received = receive(rt.alloc(), line.as_slice())?;
     }
     let receiving = start.elapsed(rt)?;
-    let start = Instant::now(rt)?;
-    let mut each = 0;
-    for _ in 0..count {
-        each = receive_each(line.as_slice());
-    }
-    let by_octet = start.elapsed(rt)?;
-    println!(rt; "{name}units {received} {each}")?;
+    println!(rt; "{name}units {received}")?;
     if asked.is_some() {
         let out = rate(octets_of(units), count, sending);
         let into = rate(line.len(), count, receiving);
-        let one = rate(line.len(), count, by_octet);
-        println!(rt; "{name}out {out}\n{name}in {into}\n{name}each {one}")?;
+        println!(rt; "{name}out {out}\n{name}in {into}")?;
+    }
+    by_octets(rt, name, line.as_slice(), asked)
+}
+
+/// Receives the line octet by octet in both ways, and prints what came of that.
+fn by_octets<R: Runtime + AllocGlobal>(
+    rt: &R,
+    name: &str,
+    line: &[u8],
+    asked: Option<u32>,
+) -> io::Result<()> {
+    let count = asked.unwrap_or(1);
+    let start = Instant::now(rt)?;
+    let mut until = 0;
+    for _ in 0..count {
+        until = receive_until(line);
+    }
+    let untils = start.elapsed(rt)?;
+    let start = Instant::now(rt)?;
+    let mut each = 0;
+    for _ in 0..count {
+        each = receive_each(line);
+    }
+    let eachs = start.elapsed(rt)?;
+    println!(rt; "{name}octets {until} {each}")?;
+    if asked.is_some() {
+        let until = rate(line.len(), count, untils);
+        let each = rate(line.len(), count, eachs);
+        println!(rt; "{name}until {until}\n{name}each {each}")?;
     }
     Ok(())
 }
