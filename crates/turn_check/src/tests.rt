@@ -181,6 +181,28 @@ fn the_counter_is_valid(rt: HostRuntime) -> Result<(), Fail> {
     Ok(())
 }
 
+#[test]
+fn a_copy_answers_by_number(rt: HostRuntime) -> Result<(), Fail> {
+    let alloc = rt.alloc();
+    let set = verify(counter(alloc, start(alloc)?, up(alloc)?, &rt)?)?.copy()?;
+    let process = ProcessNumber(0);
+    let own = Party::Process(process);
+    let up = SignalNumber(0);
+    assert!(rt; set.carries(Party::Environment, own, up));
+    assert!(rt; !set.carries(own, Party::Environment, up));
+    assert!(rt; !set.carries(Party::Environment, own, SignalNumber(1)));
+    assert!(rt; set.has_party(own));
+    assert!(rt; !set.has_party(Party::Process(ProcessNumber(1))));
+    assert_eq!(rt; set.input_for(process, RUN, Trigger::Signal(up)), Some(0));
+    assert_eq!(rt;
+        set.input_for(process, RUN, Trigger::Timer(TimerNumber(0))),
+        None
+    );
+    assert_eq!(rt; set.parameters(up), [Sort::Integer].as_slice());
+    assert_eq!(rt; set.initial_values(process).len(), 2);
+    Ok(())
+}
+
 /// What `verify` prints of the counter with this START.
 fn refusal(alloc: Global, start: DraftPiece, rt: &impl Abort) -> Result<String, Fail> {
     match verify(counter(alloc, start, up(alloc)?, rt)?) {
