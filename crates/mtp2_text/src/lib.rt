@@ -1,0 +1,58 @@
+//! The process texts that the program has of its own, and the sets that they are.
+#![tactic(auto)]
+
+ghost use Rattle.std.specs.Prelude.{List, IfOk, IfErr, IsUtf8};
+ghost use Rattle.sdl_lex.specs.declared.lexemes.Token as lexeme;
+ghost use Rattle.sdl_tree.specs.Plain.{PlainBlock};
+ghost use Rattle.sdl_compile.specs.Blocks.{MatchesBlock};
+ghost use Rattle.sdl_compile.specs.Meant.{IsSetOf};
+ghost use Rattle.turn_verify.specs.Loaded.{IsLoaded, IsRead, IsSoundText, Gives, IsRefused};
+
+mod monitors_text;
+mod standard_text;
+
+pub use monitors_text::MONITORS;
+pub use standard_text::STANDARD;
+use std::alloc::Global;
+use turn_verify::{LoadFault, Verified, load};
+
+/// The set of a text.
+fn set_of(alloc: Global, text: &str) -> Result<Verified, LoadFault>
+    ensures utf8 { IsUtf8 text.now }
+    ensures accepted { IfOk result (λ v. IsLoaded text.now v) }
+    ensures exact { (ts : List lexeme.Token) (b : PlainBlock) → IsSoundText text.now ts b → Gives result (MatchesBlock b) }
+    ensures every { (ts : List lexeme.Token) (b : PlainBlock) → IsRead text.now ts b → IfOk result (IsSetOf b) }
+    ensures refused { IfErr result (λ e. IsRefused text.now e) }
+{
+    load(alloc, text)
+}
+
+/// The set of the text [`STANDARD`].
+///
+/// # Errors
+///
+/// What `load` answers for the text. It is accepted, so [`LoadFault::NoMemory`] alone comes (shown by a test).
+pub fn standard(alloc: Global) -> Result<Verified, LoadFault>
+    ensures utf8 { IsUtf8 STANDARD.now }
+    ensures accepted { IfOk result (λ v. IsLoaded STANDARD.now v) }
+    ensures exact { (ts : List lexeme.Token) (b : PlainBlock) → IsSoundText STANDARD.now ts b → Gives result (MatchesBlock b) }
+    ensures every { (ts : List lexeme.Token) (b : PlainBlock) → IsRead STANDARD.now ts b → IfOk result (IsSetOf b) }
+    ensures refused { IfErr result (λ e. IsRefused STANDARD.now e) }
+{
+    set_of(alloc, STANDARD)
+}
+
+/// The set of the text [`MONITORS`].
+///
+/// # Errors
+///
+/// What `load` answers for the text. It is accepted, so [`LoadFault::NoMemory`] alone comes (shown by a test).
+pub fn monitors(alloc: Global) -> Result<Verified, LoadFault>
+    ensures utf8 { IsUtf8 MONITORS.now }
+    ensures accepted { IfOk result (λ v. IsLoaded MONITORS.now v) }
+    ensures exact { (ts : List lexeme.Token) (b : PlainBlock) → IsSoundText MONITORS.now ts b → Gives result (MatchesBlock b) }
+    ensures every { (ts : List lexeme.Token) (b : PlainBlock) → IsRead MONITORS.now ts b → IfOk result (IsSetOf b) }
+    ensures refused { IfErr result (λ e. IsRefused MONITORS.now e) }
+{
+    set_of(alloc, MONITORS)
+}

@@ -1,0 +1,93 @@
+-- What a book script reads as: its first lines set numbers, the others are commands.
+use Rattle.std.specs.Prelude.{ℕ, ◌≡◌, Bool, nat_lt, ◌&&◌, if◌then◌else◌, List, [], ◌∷◌, length, map, Option, None, Some, option_map, option_and_then, is_none, find, Result, Ok, Err, codes}
+use Rattle.std.specs.Int.{is_in_range}
+use Rattle.std.specs.List.{filter_map}
+use Rattle.std.specs.Str.{bytes_eq}
+use Rattle.text_reader.specs.declared.reading.TheConstants.{MOST_BYTES}
+use Rattle.script_lines.specs.Numbers.{count_of}
+use Rattle.script_lines.specs.Lines.{PlainLine, lines_of, line_at}
+use Rattle.script_lines.specs.Commands.{PlainCommand, plain_command, command_of}
+use Rattle.script_lines.specs.declared.settings.Setting.{Setting}
+use Rattle.script_lines.specs.declared.settings.Setting.TheVariants.{Ports, Env, Journal}
+use Rattle.script_lines.specs.declared.settings.Settings.{Settings}
+use Rattle.script_lines.specs.declared.script.Said.{Said}
+use Rattle.script_lines.specs.declared.script.Script.{Script}
+use Rattle.script_lines.specs.declared.script.ScriptFault.{ScriptFault}
+use Rattle.script_lines.specs.declared.script.ScriptFault.TheVariants.{BadLine, NoMemory}
+
+-- ---- first lines
+
+abbrev pub setting_at : List ℕ → ℕ → Option Setting
+setting_at word n = if bytes_eq word (codes "ports") && is_in_range 1 64 n then Some (Ports n)
+    else (if bytes_eq word (codes "env") && is_in_range 1 1024 n then Some (Env n)
+    else (if bytes_eq word (codes "journal") && is_in_range 16 65536 n then Some (Journal n) else None))
+
+-- a line that sets a number
+abbrev pub setting_of : List (List ℕ) → Option Setting
+setting_of (word ∷ number ∷ []) = option_and_then (setting_at word) (count_of number)
+setting_of _ = None
+
+abbrev pub set : Setting → Settings → Settings
+set (Ports n) s = record s { ports = n }
+set (Env n) s = record s { env = n }
+set (Journal n) s = record s { journal = n }
+
+-- where no line sets them
+abbrev pub defaults : Settings
+defaults = record { ports = 16; env = 64; journal = 4096 }
+
+-- what the first lines set, the last one of a kind for good, and the lines behind them
+abbrev pub head_by : Settings → List PlainLine → (Settings → Settings × List PlainLine) → Option Setting → Settings × List PlainLine
+head_by s lines go None = (s, lines)
+head_by s lines go (Some setting) = go (set setting s)
+
+abbrev pub after_head : Settings → List PlainLine → Settings × List PlainLine
+after_head s [] = (s, [])
+after_head s (line ∷ more) = head_by s (line ∷ more) (λ t. after_head t more) (setting_of line.words)
+
+-- ---- commands
+
+-- a command and the number of its line
+pub record PlainSaid : Type 0 where
+  pub line : ℕ
+  pub command : PlainCommand
+
+abbrev pub plain_said : Said → PlainSaid
+plain_said s = record { line = s.line; command = plain_command s.command }
+
+abbrev pub is_bad : PlainLine → Bool
+is_bad line = is_none (command_of line.words)
+
+abbrev pub said_of : PlainLine → Option PlainSaid
+said_of line = option_map (λ command. record { line = line.number; command = command }) (command_of line.words)
+
+-- ---- scripts
+
+pub record PlainScript : Type 0 where
+  pub settings : Settings
+  pub commands : List PlainSaid
+
+abbrev pub plain_script : Script → PlainScript
+plain_script s = record { settings = s.settings; commands = map plain_said s.commands.items }
+
+-- commands, or the number of the first line that is none
+abbrev pub commands_by : Settings → List PlainLine → Option PlainLine → Result PlainScript ℕ
+commands_by s lines None = Ok (record { settings = s; commands = filter_map said_of lines })
+commands_by s lines (Some line) = Err line.number
+
+abbrev pub script_by : Settings × List PlainLine → Result PlainScript ℕ
+script_by head = commands_by head.0 head.1 (find is_bad head.1)
+
+-- what a text reads as, or the number of its first bad line; of a text that is too long that of the first byte too many
+unfoldable pub script_of : List ℕ → Result PlainScript ℕ
+script_of text = if nat_lt MOST_BYTES (length text) then Err (line_at text MOST_BYTES) else script_by (after_head defaults (lines_of text))
+
+-- what a refusal says of a text; want of memory says nothing
+abbrev pub IsFaultOf : List ℕ → ScriptFault → Type 0
+IsFaultOf text (BadLine line) = script_of text ≡ Err line
+IsFaultOf text NoMemory = Unit {0}
+
+-- the first line that is no command has this number
+abbrev pub IsBadLine : List PlainLine → ScriptFault → Type 0
+IsBadLine lines (BadLine number) = option_map (λ (line : PlainLine). line.number) (find is_bad lines) ≡ Some number
+IsBadLine lines NoMemory = Unit {0}
