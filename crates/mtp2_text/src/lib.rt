@@ -31,7 +31,7 @@ fn set_of(alloc: Global, text: &str) -> Result<Verified, LoadFault>
 ///
 /// # Errors
 ///
-/// What `load` answers for the text. It is accepted, so [`LoadFault::NoMemory`] alone comes (shown by a test).
+/// What `load` answers for the text. It is accepted, as the table of texts shows, so [`LoadFault::NoMemory`] alone comes.
 pub fn standard(alloc: Global) -> Result<Verified, LoadFault>
     ensures utf8 { IsUtf8 STANDARD.now }
     ensures accepted { IfOk result (λ v. IsLoaded STANDARD.now v) }
@@ -46,7 +46,7 @@ pub fn standard(alloc: Global) -> Result<Verified, LoadFault>
 ///
 /// # Errors
 ///
-/// What `load` answers for the text. It is accepted, so [`LoadFault::NoMemory`] alone comes (shown by a test).
+/// What `load` answers for the text. It is accepted, as the table of texts shows, so [`LoadFault::NoMemory`] alone comes.
 pub fn monitors(alloc: Global) -> Result<Verified, LoadFault>
     ensures utf8 { IsUtf8 MONITORS.now }
     ensures accepted { IfOk result (λ v. IsLoaded MONITORS.now v) }
