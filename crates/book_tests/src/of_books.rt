@@ -8,7 +8,8 @@ use turn_machine::run;
 use turn_verify::load;
 
 /// A process that sends each Up of the environment back.
-const ECHO: &str = "BLOCK B; SIGNAL Up; SIGNALROUTE i FROM ENV TO P WITH Up; SIGNALROUTE o FROM P TO ENV WITH Up; PROCESS P (1,1); START; NEXTSTATE Run; STATE Run; INPUT Up; OUTPUT Up; NEXTSTATE Run; ENDSTATE Run; ENDPROCESS P; ENDBLOCK B;";
+const ECHO: &str =
+    "BLOCK B; SIGNAL Up; SIGNALROUTE i FROM ENV TO P WITH Up; SIGNALROUTE o FROM P TO ENV WITH Up; PROCESS P (1,1); START; NEXTSTATE Run; STATE Run; INPUT Up; OUTPUT Up; NEXTSTATE Run; ENDSTATE Run; ENDPROCESS P; ENDBLOCK B;";
 
 /// The book of a link, with room for one signal and 16 events.
 fn opened(alloc: Global) -> Option<Book> {
