@@ -1,4 +1,4 @@
-//! `mtp2_play`: the program. It checks process texts and reads signal units.
+//! `mtp2_play`: the program. It checks and plays process texts, and reads signal units.
 #![tactic(auto)]
 
 ghost use Rattle.std.specs.Prelude.{◌≡◌, ◌⊎◌};
@@ -7,35 +7,105 @@ mod frame;
 mod line_bits;
 mod words;
 
+use book_play::play;
 use clap::Error;
 use clap::error::ErrorKind;
 pub use frame::frame;
+use std::io::{self, Read};
 use std::process::ExitCode;
 use std::rt::Runtime;
-use std::{env, fs, io};
+use std::{env, fs};
 use text_check::{FAILED, HELD, SetWord, USAGE, check};
-pub use words::Request;
+pub use words::{Named, Request, Source};
 
 /// Runs one command, and gives the exit status.
 fn run<R: Runtime + AllocGlobal>(rt: &R, request: &Request<'_>) -> u8
-    ensures { (result ≡ 0) ⊎ (result ≡ 2) ⊎ (result ≡ 4) }
+    ensures { (result ≡ 0) ⊎ (result ≡ 1) ⊎ (result ≡ 2) ⊎ (result ≡ 4) }
 {
     match request {
-        Request::Check { set } => run_check(rt, set),
+        Request::Check { set } => run_check(rt, *set),
+        Request::Play { set, script } => run_play(rt, *set, *script),
         Request::Frame { octets } => frame(rt.alloc(), octets, &mut io::writer(rt)),
     }
 }
 
-/// Runs `check` on the text of a file, or of standard input where the word is `stdin`.
-fn run_check<R: Runtime + AllocGlobal>(rt: &R, set: &str) -> u8
+/// Runs `check` on a set of the program's own.
+fn check_own<R: Runtime + AllocGlobal>(rt: &R, set: SetWord<&[u8]>) -> u8
     ensures { (result ≡ 0) ⊎ (result ≡ 2) ⊎ (result ≡ 4) }
 {
-    if set == "stdin" {
-        return check(rt.alloc(), SetWord::Text(rt.reader()), &mut io::writer(rt));
-    }
-    match fs::open(rt, set) {
+    check(rt.alloc(), set, &mut io::writer(rt))
+}
+
+/// Runs `check` on the text of a file.
+fn check_file<R: Runtime + AllocGlobal>(rt: &R, path: &str) -> u8
+    ensures { (result ≡ 0) ⊎ (result ≡ 2) ⊎ (result ≡ 4) }
+{
+    match fs::open(rt, path) {
         Ok(file) => check(rt.alloc(), SetWord::Text(file), &mut io::writer(rt)),
         Err(_) => FAILED,
+    }
+}
+
+/// Runs `check` on the set that the command line names.
+fn run_check<R: Runtime + AllocGlobal>(rt: &R, set: Named<'_>) -> u8
+    ensures { (result ≡ 0) ⊎ (result ≡ 2) ⊎ (result ≡ 4) }
+{
+    match set {
+        Named::Standard => check_own(rt, SetWord::Standard),
+        Named::Monitors => check_own(rt, SetWord::Monitors),
+        Named::Stdin => check(rt.alloc(), SetWord::Text(rt.reader()), &mut io::writer(rt)),
+        Named::File(path) => check_file(rt, path),
+    }
+}
+
+/// Runs a script on a set.
+fn play_on<R: Runtime + AllocGlobal, S: Read + Drop, T: Read + Drop>(
+    rt: &R,
+    set: SetWord<S>,
+    script: T,
+) -> u8
+    ensures { (result ≡ 0) ⊎ (result ≡ 1) ⊎ (result ≡ 2) ⊎ (result ≡ 4) }
+{
+    play(rt.alloc(), set, script, &mut io::writer(rt))
+}
+
+/// Runs a script of a file, or of standard input, on a set.
+fn play_source<R: Runtime + AllocGlobal, S: Read + Drop>(
+    rt: &R,
+    set: SetWord<S>,
+    script: Source<'_>,
+) -> u8
+    ensures { (result ≡ 0) ⊎ (result ≡ 1) ⊎ (result ≡ 2) ⊎ (result ≡ 4) }
+{
+    match script {
+        Source::Stdin => play_on(rt, set, rt.reader()),
+        Source::File(path) => match fs::open(rt, path) {
+            Ok(file) => play_on(rt, set, file),
+            Err(_) => FAILED,
+        },
+    }
+}
+
+/// Runs a script on a set of the program's own.
+fn play_own<R: Runtime + AllocGlobal>(rt: &R, set: SetWord<&[u8]>, script: Source<'_>) -> u8
+    ensures { (result ≡ 0) ⊎ (result ≡ 1) ⊎ (result ≡ 2) ⊎ (result ≡ 4) }
+{
+    play_source(rt, set, script)
+}
+
+/// Runs `play` on the set and the script that the command line names. A file that can't be opened is a failure, whatever there is to say
+/// of the other text.
+fn run_play<R: Runtime + AllocGlobal>(rt: &R, set: Named<'_>, script: Source<'_>) -> u8
+    ensures { (result ≡ 0) ⊎ (result ≡ 1) ⊎ (result ≡ 2) ⊎ (result ≡ 4) }
+{
+    match set {
+        Named::Standard => play_own(rt, SetWord::Standard, script),
+        Named::Monitors => play_own(rt, SetWord::Monitors, script),
+        Named::Stdin => play_source(rt, SetWord::Text(rt.reader()), script),
+        Named::File(path) => match fs::open(rt, path) {
+            Ok(file) => play_source(rt, SetWord::Text(file), script),
+            Err(_) => FAILED,
+        },
     }
 }
 

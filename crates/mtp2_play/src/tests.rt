@@ -1,4 +1,4 @@
-use crate::{Request, frame, serve, words};
+use crate::{Named, Request, frame, serve, words};
 use std::alloc::Global;
 use std::fs;
 use std::io::{self, Write};
@@ -125,7 +125,8 @@ fn line(alloc: Global, given: &[&str]) -> Result<Vec<String>, Fail> {
 fn asked(alloc: Global, given: &[&str]) -> Result<String, Fail> {
     let line = line(alloc, given)?;
     match words::read(alloc, line.as_slice()) {
-        Ok(Request::Check { set }) => Ok(format!(in alloc; "check {set}")?),
+        Ok(Request::Check { set }) => Ok(format!(in alloc; "check {set:?}")?),
+        Ok(Request::Play { set, script }) => Ok(format!(in alloc; "play {set:?} {script:?}")?),
         Ok(Request::Frame { octets }) => Ok(format!(in alloc; "frame {octets}")?),
         Err(_) => Ok(String::new(alloc)),
     }
@@ -144,21 +145,33 @@ fn reads_the_command_line(rt: HostRuntime) -> Result<(), Fail> {
     );
     assert_eq!(rt;
         asked(alloc, &["mtp2_play", "check", "stdin"])?.as_str(),
-        "check stdin"
+        "check Stdin"
     );
     assert_eq!(rt;
         asked(alloc, &["mtp2_play", "check", "./standard"])?.as_str(),
-        "check ./standard"
+        "check File(\"./standard\")"
     );
     assert_eq!(rt;
         asked(alloc, &["mtp2_play", "check", "standard"])?.as_str(),
-        ""
+        "check Standard"
     );
     assert_eq!(rt;
         asked(alloc, &["mtp2_play", "check", "monitors"])?.as_str(),
-        ""
+        "check Monitors"
     );
     assert_eq!(rt; asked(alloc, &["mtp2_play", "check"])?.as_str(), "");
+    assert_eq!(rt;
+        asked(alloc, &["mtp2_play", "play", "standard", "stdin"])?.as_str(),
+        "play Standard Stdin"
+    );
+    assert_eq!(rt;
+        asked(alloc, &["mtp2_play", "play", "stdin", "a"])?.as_str(),
+        "play Stdin File(\"a\")"
+    );
+    assert_eq!(rt;
+        asked(alloc, &["mtp2_play", "play", "stdin", "stdin"])?.as_str(),
+        ""
+    );
     assert_eq!(rt;
         asked(alloc, &["mtp2_play", "check", "a", "b"])?.as_str(),
         ""
@@ -182,7 +195,7 @@ fn ends_with_the_status_of_what_was_asked(rt: HostRuntime) -> Result<(), Fail> {
     assert_eq!(rt; status(&rt, &["mtp2_play", "check", "--help"])?, 0);
     assert_eq!(rt; status(&rt, &["mtp2_play"])?, 3);
     assert_eq!(rt; status(&rt, &["mtp2_play", "check"])?, 3);
-    assert_eq!(rt; status(&rt, &["mtp2_play", "check", "standard"])?, 3);
+    assert_eq!(rt; status(&rt, &["mtp2_play", "check", "monitors"])?, 0);
     assert_eq!(rt; status(&rt, &["mtp2_play", "play", "x"])?, 3);
     assert_eq!(rt; status(&rt, &["mtp2_play", "frame", "FFFF00FFFF"])?, 0);
     assert_eq!(rt; status(&rt, &["mtp2_play", "frame", "FFFF00FFFE"])?, 2);

@@ -1,37 +1,105 @@
 //! The command line.
-ghost use Rattle.std.specs.Prelude.{◌≡◌, Some, IfOk, IfSome};
+ghost use Rattle.std.specs.Prelude.{◌≡◌, Some, IfSome};
 ghost use Rattle.clap.specs.Words.{subcommand_name_of};
-ghost use Rattle.mtp2_play.specs.Words.{command_of, IsOffered};
+ghost use Rattle.mtp2_play.specs.Words.{command_of, word_of, source_word, IsPlay};
 
 use clap::error::ErrorKind;
 use clap::{Arg, ArgMatches, Command, Error};
 use std::alloc::{AllocError, Global};
 
+/// A text or a set, as a word of the command line names it.
+#[derive(Clone, Copy, PartialEq, Eq, Debug)]
+pub enum Named<'a> {
+    /// `standard`: a set of the program's own.
+    Standard,
+    /// `monitors`: a set of the program's own.
+    Monitors,
+    /// `stdin`: standard input.
+    Stdin,
+    /// A file.
+    File(&'a str),
+}
+
+/// Where a script stands.
+#[derive(Clone, Copy, PartialEq, Eq, Debug)]
+pub enum Source<'a> {
+    /// `stdin`: standard input.
+    Stdin,
+    /// A file.
+    File(&'a str),
+}
+
 /// What the command line asks for.
 #[derive(Debug, Drop)]
 pub enum Request<'a> {
-    /// `check SET`: a path to the text of a set, or `stdin`.
-    Check { set: &'a str },
+    /// `check SET`: a set of the program's own, a file with the text of a set, or standard input.
+    Check { set: Named<'a> },
+    /// `play SET SCRIPT`: a set as for `check`, and a file with a script, or standard input.
+    Play { set: Named<'a>, script: Source<'a> },
     /// `frame HEX`: the octets of a signal unit in hexadecimal digits, with its check octets.
     Frame { octets: &'a str },
+}
+
+/// The set that a word names.
+fn set_named(word: &str) -> Named<'_>
+    ensures { word_of result ≡ word.now }
+{
+    match word {
+        "standard" => Named::Standard,
+        "monitors" => Named::Monitors,
+        "stdin" => Named::Stdin,
+        path => Named::File(path),
+    }
+}
+
+/// Where the script stands that a word names.
+fn script_named(word: &str) -> Source<'_>
+    ensures { source_word result ≡ word.now }
+{
+    match word {
+        "stdin" => Source::Stdin,
+        path => Source::File(path),
+    }
+}
+
+/// The set and the script that two words name. Standard input can't be both.
+fn played<'a>(set: &'a str, script: &'a str) -> Option<Request<'a>>
+    ensures { IfSome result (IsPlay set.now script.now) }
+{
+    match set_named(set) {
+        Named::Stdin => match script_named(script) {
+            Source::Stdin => None,
+            script => Some(Request::Play {
+                set: Named::Stdin,
+                script,
+            }),
+        },
+        set => Some(Request::Play {
+            set,
+            script: script_named(script),
+        }),
+    }
 }
 
 /// The program's commands.
 fn commands<'a>(alloc: Global) -> Result<Command<'a>, AllocError> {
     Command::new(alloc, "mtp2_play")
-        .about("Checks SDL process texts of signalling links, and reads signal units")
+        .about("Checks and plays SDL process texts of signalling links, and reads signal units")
         .after_help(
-            "Exit statuses: 0 done, 2 refused, 3 usage, 4 memory or a file failed (1 is kept for scripts).",
+            "Exit statuses: 0 done, 1 an expectation of a script failed, 2 refused, 3 usage, 4 memory or a file failed.",
         )
         .subcommand_required(true)
         .subcommand(check_command(alloc)?)?
+        .subcommand(play_command(alloc)?)?
         .subcommand(frame_command(alloc)?)
 }
 
 /// The command `check`.
 fn check_command<'a>(alloc: Global) -> Result<Command<'a>, AllocError> {
     let set = Arg::new(alloc, "SET")
-        .help("A file with the text of a set of processes, or stdin for standard input")
+        .help(
+            "standard, monitors, a file with the text of a set of processes, or stdin for standard input",
+        )
         .required(true);
     Command::new(alloc, "check")
         .about("Checks a set of processes, and prints what each of its transitions costs")
@@ -39,6 +107,25 @@ fn check_command<'a>(alloc: Global) -> Result<Command<'a>, AllocError> {
             "Prints for START and for each input of each process PROCESS START or PROCESS STATE/INPUT, and then\nbudget (the most steps of a turn), depth (the most operands at once) and effects (the most effects of\na turn). Then it prints accepted. Exits with 0, or with 2 after a line refused CODE Name where the text\nis refused (F1, L1 to L3, P1, P2, S1 to S11), 4 where memory, a file, a read or a write fails.",
         )
         .arg(set)
+}
+
+/// The command `play`.
+fn play_command<'a>(alloc: Global) -> Result<Command<'a>, AllocError> {
+    let set = Arg::new(alloc, "SET")
+        .help(
+            "standard, monitors, a file with the text of a set of processes, or stdin for standard input",
+        )
+        .required(true);
+    let script = Arg::new(alloc, "SCRIPT")
+        .help("A file with the script, or stdin for standard input (for one of the two alone)")
+        .required(true);
+    Command::new(alloc, "play")
+        .about("Runs a script on a set of processes")
+        .after_help(
+            "First lines: ports N (1 to 64), env N (1 to 1024), journal N (16 to 65536).\nCommands: offer P SIG v.., begin P, finish P, skip P, tick N, env, rest, flood N P SIG v.., state P, value P x, expect TEXT.\nPrints a line for each command but expect; one that is refused prints refused CODE Name (B1 to B12, W1, W2), and the run goes on.\nExits with 0, or 1 after failed line N where an expect failed, 2 after refused CODE Name where the set or the script is refused\n(F1, L1 to L3, P1, P2, S1 to S11, X1), 4 where memory, a file, a read or a write fails.",
+        )
+        .arg(set)?
+        .arg(script)
 }
 
 /// The command `frame`.
@@ -55,31 +142,28 @@ fn frame_command<'a>(alloc: Global) -> Result<Command<'a>, AllocError> {
 }
 
 /// Reads the words of the command line, the program's own name first.
-pub fn read<'a>(alloc: Global, given: &'a [String]) -> Result<Request<'a>, Error>
-    ensures { IfOk result (λ r. IsOffered r) }
-{
+pub fn read<'a>(alloc: Global, given: &'a [String]) -> Result<Request<'a>, Error> {
     let mut commands = commands(alloc)?;
     let matches = commands.try_get_matches_from_mut(given)?;
     match request_of(&matches) {
         Some(request) => Ok(request),
         None => Err(commands.error(
             ErrorKind::InvalidSubcommand,
-            "no such command, or a set that is not there yet (a file of that name is ./standard or ./monitors)",
+            "no such command, or standard input for the set and for the script",
         )?),
     }
 }
 
 /// The request that the matches stand for.
 fn request_of<'a>(matches: &ArgMatches<'a>) -> Option<Request<'a>>
-    ensures named { IfSome result (λ r. subcommand_name_of matches.now ≡ Some (command_of r)) }
-    ensures offered { IfSome result (λ r. IsOffered r) }
+    ensures { IfSome result (λ r. subcommand_name_of matches.now ≡ Some (command_of r)) }
 {
     let (name, given) = matches.subcommand()?;
     match name {
-        "check" => match given.get_str("SET")? {
-            "standard" | "monitors" => None,
-            set => Some(Request::Check { set }),
-        },
+        "check" => Some(Request::Check {
+            set: set_named(given.get_str("SET")?),
+        }),
+        "play" => played(given.get_str("SET")?, given.get_str("SCRIPT")?),
         "frame" => Some(Request::Frame {
             octets: given.get_str("HEX")?,
         }),

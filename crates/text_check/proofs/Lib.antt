@@ -1,2 +1,3 @@
 mod Prints
 mod Written
+mod Long

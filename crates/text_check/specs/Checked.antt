@@ -1,17 +1,22 @@
 -- What the status of a check says of the text that was read, and of what was written.
-use Rattle.std.specs.Prelude.{◌≡◌, ℕ, List, Option, IfSome, IsUtf8}
+use Rattle.std.specs.Prelude.{◌≡◌, ℕ, ◌+◌, ◌<◌, List, length, take, Option, Some, IfSome, IsUtf8}
 use Rattle.std.specs.Io.KnownBytes.{Appends}
+use Rattle.mtp2_text.specs.declared.standard_text.TheConstants.{STANDARD}
+use Rattle.mtp2_text.specs.declared.monitors_text.TheConstants.{MONITORS}
+use Rattle.text_reader.specs.declared.reading.TheConstants.{MOST_BYTES}
 use Rattle.turn_code.specs.declared.draft.Draft.{Draft}
 use Rattle.turn_verify.specs.Loaded.{IsSound, IsLoaded, IsRefused}
 use Rattle.turn_verify.specs.declared.loading.LoadFault.TheVariants.{NoMemory}
-use Rattle.text_check.specs.declared.checking.SetFault.{SetFault}
-use Rattle.text_check.specs.declared.checking.SetFault.TheVariants.{NotText, Load}
-use Rattle.text_check.specs.declared.texts.SetWord.{SetWord}
-use Rattle.text_check.specs.declared.texts.SetWord.TheVariants.{Text}
+use Rattle.text_check.specs.declared.sets.SetFault.{SetFault}
+use Rattle.text_check.specs.declared.sets.SetFault.TheVariants.{NotRead, NotText, Load}
+use Rattle.text_check.specs.declared.sets.SetWord.{SetWord}
+use Rattle.text_check.specs.declared.sets.SetWord.TheVariants.{Standard, Monitors, Text}
 use Rattle.text_check.specs.Printed.{refusal_line, set_lines}
 
--- the bytes that a set's reader has to give, where they are known
+-- the bytes of a set's text, where they are known
 abbrev pub given : {R : Type 0} → (R → Option (List ℕ)) → SetWord R → Option (List ℕ)
+given remaining Standard = Some STANDARD.now
+given remaining Monitors = Some MONITORS.now
 given remaining (Text reader) = remaining reader
 
 -- P holds of some bytes, which are those that are given where these are known
@@ -29,19 +34,31 @@ pub record IsAccepted (bytes : List ℕ) : Type 0 where
 abbrev pub IsNotAccepted : List ℕ → Type 0
 IsNotAccepted bytes = IsAccepted bytes → ⊥
 
--- the text was judged, and memory was not what was wanting
-abbrev pub IsRefusal : SetFault → Type 0
-IsRefusal fault = fault ≡ Load NoMemory → ⊥
+-- the text was judged: neither memory nor a read failed
+pub record IsRefusal (fault : SetFault) : Type 0 where
+  pub memory : fault ≡ Load NoMemory → ⊥
+  pub read : fault ≡ NotRead → ⊥
 
 -- the bytes are a text, and the set is that of its block
 pub record IsSetOf (bytes : List ℕ) (d : Draft) : Type 0 where
   pub utf8 : IsUtf8 bytes
   pub loaded : IsLoaded bytes d
 
--- the bytes are no text, or their text has this fault; want of memory says nothing
+-- the bytes are no text, or their text has this fault; want of memory, or of a read, says nothing
 abbrev pub IsFaultOf : List ℕ → SetFault → Type 0
+IsFaultOf bytes NotRead = Unit {0}
 IsFaultOf bytes NotText = IsUtf8 bytes → ⊥
 IsFaultOf bytes (Load fault) = IsUtf8 bytes × IsRefused bytes fault
+
+-- the bytes have this fault, and so are not accepted
+pub record IsRefusalOf (bytes : List ℕ) (fault : SetFault) : Type 0 where
+  pub is_so : IsFaultOf bytes fault
+  pub refused : IsNotAccepted bytes
+
+-- there are more bytes than a text may have, and these are the first of them
+pub record IsTooLong (bytes kept : List ℕ) : Type 0 where
+  pub long : MOST_BYTES < length bytes
+  pub first : kept ≡ take (MOST_BYTES + 1) bytes
 
 -- what is written grows by the lines of the set of the bytes, all of them
 pub record PrintsCosts (old new : Option (List ℕ)) (bytes : List ℕ) : Type 0 where

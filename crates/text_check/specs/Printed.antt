@@ -11,8 +11,8 @@ use Rattle.turn_code.specs.declared.draft.DraftInput.{DraftInput}
 use Rattle.turn_code.specs.declared.draft.Trigger.{Trigger}
 use Rattle.turn_code.specs.declared.draft.Trigger.TheVariants.{Signal, Timer}
 use Rattle.turn_verify.specs.Printed as loading
-use Rattle.text_check.specs.declared.checking.SetFault.{SetFault}
-use Rattle.text_check.specs.declared.checking.SetFault.TheVariants.{NotText, Load}
+use Rattle.text_check.specs.declared.sets.SetFault.{SetFault}
+use Rattle.text_check.specs.declared.sets.SetFault.TheVariants.{NotRead, NotText, Load}
 
 -- a text, and the end of its line
 abbrev pub line_of : List ℕ → List ℕ
@@ -22,6 +22,7 @@ line_of text = text ++ 10 ∷ []
 
 -- the code of a fault and its name, what is named with it, and its line where it has one
 abbrev pub fault_text : SetFault → List ℕ
+fault_text NotRead = codes "not read"
 fault_text NotText = codes "F1 NotText"
 fault_text (Load fault) = loading.fault_text fault
 

@@ -4,11 +4,11 @@
 mod checking;
 mod costs;
 mod lines;
-mod texts;
+mod sets;
 
-pub use checking::check;
+pub use checking::{check, write_refusal};
 pub use lines::{FAILED, HELD, REFUSED, USAGE, write_line};
-pub use texts::SetWord;
+pub use sets::{SetFault, SetWord, load_set};
 
 #[cfg(test)]
 mod tests;

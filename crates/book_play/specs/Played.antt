@@ -1,0 +1,40 @@
+-- What a run of a script has printed.
+use Rattle.std.specs.Prelude.{◌≡◌, ℕ, Bool, true, false, List, [], ◌∷◌, ◌++◌, Option, None, Some, option_map, Ok, Err, IfSome, IsUtf8}
+use Rattle.std.specs.List.{flat_map}
+use Rattle.std.specs.Io.KnownBytes.{Appends}
+use Rattle.script_lines.specs.Commands.{PlainCommand, expect}
+use Rattle.script_lines.specs.Scripts.{PlainSaid, PlainScript, script_of}
+use Rattle.text_check.specs.Printed.{line_of}
+use Rattle.book_play.specs.declared.player.Player.{Player}
+
+-- A run: the commands that were obeyed, the lines that they printed, and the last of these. Each command prints one line, whatever it
+-- says, but `expect`, which prints none and holds where the line before is the one that it names.
+pub data Goes : List PlainSaid → List (List ℕ) → Option (List ℕ) → Type 0 where
+  begins : Goes [] [] None
+  prints : {commands : List PlainSaid} {lines : List (List ℕ)} {last : Option (List ℕ)} (said : PlainSaid) (line : List ℕ)
+      → ((text : List ℕ) → said.command ≡ expect text → ⊥) → Goes commands lines last
+      → Goes (commands ++ said ∷ []) (lines ++ line ∷ []) (Some line)
+  holds : {commands : List PlainSaid} {lines : List (List ℕ)} {text : List ℕ} (said : PlainSaid)
+      → said.command ≡ expect text → Goes commands lines (Some text)
+      → Goes (commands ++ said ∷ []) lines (Some text)
+
+-- the line that was printed last
+abbrev pub last_of : Player → Option (List ℕ)
+last_of p = option_map (λ line. line.items) p.last
+
+-- these commands were obeyed, one after another, and what is written grew by their lines, each with its end
+pub record IsRun (commands : List PlainSaid) (old new last : Option (List ℕ)) : Type 0 where
+  pub lines : List (List ℕ)
+  pub goes : Goes commands lines last
+  pub written : Appends old new (flat_map line_of lines)
+
+-- the same, whatever was printed last
+abbrev pub IsWritten : List PlainSaid → Option (List ℕ) → Option (List ℕ) → Type 0
+IsWritten commands old new = (last : Option (List ℕ)) × IsRun commands old new last
+
+-- the bytes are a script, all of whose commands were obeyed
+pub record IsPlayed (old new : Option (List ℕ)) (bytes : List ℕ) : Type 0 where
+  pub utf8 : IsUtf8 bytes
+  pub script : PlainScript
+  pub reads : script_of bytes ≡ Ok script
+  pub run : IsWritten script.commands old new
