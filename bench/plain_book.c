@@ -4,7 +4,10 @@
 #include <stdio.h>
 #include <stdlib.h>
 #include <string.h>
+#include <sys/resource.h>
+#include <sys/wait.h>
 #include <time.h>
+#include <unistd.h>
 
 enum { ENV = -1, SENDER = -2, NONE = 0, INTEGER = 1, BOOLEAN = 2, START = -1, STOPPED = -2 };
 struct value { int sort; int32_t n; };
@@ -326,8 +329,23 @@ static void report(const char *name, uint64_t things, double start, int asked) {
     printf("%s %.0f\n", name, asked ? (double)things / (now() - start) : (double)things);
 }
 
+/* runs a program, and prints the most memory that it had at once */
+static int peak(char **words) {
+    int status;
+    struct rusage used;
+    pid_t child = fork();
+    if (child == 0) {
+        execv(words[0], words);
+        _exit(127);
+    }
+    if (child < 0 || wait4(child, &status, 0, &used) != child || status != 0) return 1;
+    printf("%ld kB\n", used.ru_maxrss);
+    return 0;
+}
+
 int main(int argc, char **argv) {
-    if (argc < 4) { fprintf(stderr, "plain_book COUNTER STANDARD LONG [ROUNDS]\n"); return 1; }
+    if (argc > 2 && !strcmp(argv[1], "peak")) return peak(argv + 2);
+    if (argc < 4) { fprintf(stderr, "plain_book COUNTER STANDARD LONG [ROUNDS], or plain_book peak PROGRAM WORD ..\n"); return 1; }
     struct set *counter = read_set(argv[1]), *standard = read_set(argv[2]), *longs = read_set(argv[3]);
     int asked = argc > 4 ? atoi(argv[4]) : 0, rounds = asked ? asked : 1;
     struct book *b = open_book(counter, 64, 64, 65536);

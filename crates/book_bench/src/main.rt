@@ -2,7 +2,7 @@
 //!
 //! Without a word it makes one small round of each, and prints how many turns and instructions there were. With a number of rounds it also prints
 //! how many there were in a second: `counter`, turns of the counter from offer to finish; `standard`, turns of the profile's processes, a book opened
-//! anew for each power-on and start; `long`, instructions of a piece of 512, and `copies`, copies of a job of such a piece. The word `code` and the
+//! anew for each power-on and start; `long`, instructions of a piece of 512, whose job is copied for each run. The word `code` and the
 //! name of a set print its code as numbers. The words `open` and `full` hold a book of the profile at the greatest limits, and the second one fills its
 //! journal.
 #![tactic(auto)]
@@ -38,7 +38,7 @@ fn request_of(word: &str) -> Request {
 }
 
 /// What the words of the command line ask for.
-fn request<R: Runtime + AllocGlobal>(rt: &R) -> io::Result<Request> {
+fn asked_by<R: Runtime + AllocGlobal>(rt: &R) -> io::Result<Request> {
     let words: Vec<String> = env::args(rt)?.collect(rt.alloc())?;
     match words.as_slice() {
         [_, word] => Ok(request_of(word.as_str())),
@@ -48,7 +48,7 @@ fn request<R: Runtime + AllocGlobal>(rt: &R) -> io::Result<Request> {
 }
 
 fn answer<R: Runtime + AllocGlobal>(rt: &R) -> io::Result<()> {
-    match request(rt)? {
+    match asked_by(rt)? {
         Request::Rounds(asked) => measure(rt, asked),
         Request::Code(set) => match load_set(rt.alloc(), set)? {
             Some(set) => write_set(rt, set.draft()),

@@ -153,16 +153,7 @@ fn run_copies(job: &Job, times: u32) -> u64 {
     instructions
 }
 
-/// Copies of a job. How many instructions they have.
-fn copies_of(job: &Job, times: u32) -> u64 {
-    let mut instructions = 0u64;
-    for _ in 0..times {
-        instructions = instructions.saturating_add(job.copy().code().len() as u64);
-    }
-    instructions
-}
-
-/// Instructions of the long piece, and copies of its job.
+/// Instructions of the long piece, whose job is copied for each run.
 fn long<R: Runtime + AllocGlobal>(rt: &R, asked: Option<u32>) -> io::Result<()> {
     let Some(set) = load_set(rt.alloc(), Set::Long)? else {
         return Ok(());
@@ -177,14 +168,7 @@ fn long<R: Runtime + AllocGlobal>(rt: &R, asked: Option<u32>) -> io::Result<()> 
         instructions = instructions.saturating_add(run_copies(&job, RUNS));
     }
     let time = start.elapsed(rt)?;
-    report(rt, "long", instructions, time, asked)?;
-    let start = Instant::now(rt)?;
-    let mut copied = 0u64;
-    for _ in 0..rounds {
-        copied = copied.saturating_add(copies_of(&job, RUNS));
-    }
-    let time = start.elapsed(rt)?;
-    report(rt, "copies", copied / 512, time, asked)
+    report(rt, "long", instructions, time, asked)
 }
 
 /// Makes the rounds, and prints what came of them.
