@@ -4,7 +4,7 @@ use Rattle.std.specs.Prelude.{◌==◌, ◌⊎◌, bit_and, unwrap_or}
 use Rattle.std.specs.Option.{option_map}
 use Rattle.std.specs.Int.{bit_at}
 use Rattle.std.proofs.lemmas.Bool.{le-ltb}
-use Rattle.std.proofs.lemmas.Nat.{shr-shr, shr_high, shl_whole, one_shl, pow-add, pow_pos}
+use Rattle.std.proofs.lemmas.Nat.{shr-shr, shr_high, one_shl, pow-add, pow_pos}
 use Rattle.std.proofs.lemmas.Nat.Bits.{bit_at_and}
 use Rattle.std.proofs.Math.Nat.{mul_assoc, mul_comm, div-add-mod}
 use Rattle.std.proofs.lemmas.List.{reverse-append, reverse-reverse, length-reverse}

@@ -1,5 +1,5 @@
 -- Plain octets in turn.
-use Rattle.std.proofs.Common.{◌≡◌, ℕ, ◌+◌, ◌*◌, ◌/◌, ◌%◌, ◌^◌, ◌<◌, ◌≤◌, Bool, List, [], ◌∷◌, ◌++◌, length, reverse, take, refl, sym, arith, subst}
+use Rattle.std.proofs.Common.{◌≡◌, ℕ, ◌+◌, ◌*◌, ◌/◌, ◌%◌, ◌^◌, ◌<◌, ◌≤◌, Bool, List, [], ◌++◌, length, reverse, take, refl, sym, arith, subst}
 use Rattle.su_octets.specs.Bits.{low_bits, bits_of}
 use Rattle.bit_line.specs.Stuffing.{trailing, taken_out}
 use Rattle.bit_line.specs.Flags.{inside}

@@ -310,8 +310,7 @@ some_unit octets fit size checked tells =
     let h : Head = record { bsn = get_or octets 0 0 % 128; bib = get_or octets 0 0 / 128; fsn = get_or octets 1 0 % 128; fib = get_or octets 1 0 / 128 } in
     let body : List ℕ = take (length octets - 5) (drop 3 octets) in
     let few : length body ≤ 273 = omega (arith, length-take (length octets - 5) (drop 3 octets), size.1) in
-    let whole : IsWholeHead h = record { bsn = omega arith; bib = omega (arith, fit 0); fsn = omega arith; fib = omega (arith, fit 1) } in
-    (
+    let whole : IsWholeHead h = record { bsn = omega arith; bib = omega (arith, fit 0); fsn = omega arith; fib = omega (arith, fit 1) } in (
       unit_by h body,
       unit_at octets h (unit_by h body) size checked tells (omega arith) (omega arith) (fit 2) (body_by h body) (whole_by h body whole few) (head_by h body),
     )

@@ -1,5 +1,4 @@
-use Rattle.std.proofs.Common.{◌+◌, ◌*◌, ◌∷◌, [], ◌/◌, reverse, refl, arith, ap, ◌∙◌}
-use Rattle.su_octets.specs.Bits.{low_bits}
+use Rattle.std.proofs.Common.{◌+◌, ◌*◌, ◌∷◌, [], refl, arith}
 use Rattle.std.specs.Option.{option_to_list}
 use Rattle.bit_line.proofs.FewLaws.{length-few}
 use Rattle.bit_line.proofs.RunLaws.{plain_step}
