@@ -1,8 +1,8 @@
 -- The bits of a content: what the fields say of them, and how they are judged.
-use Rattle.std.proofs.Common.{◌≡◌, ℕ, ◌+◌, ◌*◌, ◌<◌, ◌≤◌, zero, suc, min, Bool, true, false, Some, None, Result, Ok, Err, List, [], ◌∷◌, ◌++◌, length, get_or, reverse, refl, sym, ap, ◌∙◌, arith, inl, inr, subst, append_assoc, lit≤}
+use Rattle.std.proofs.Common.{◌≡◌, ℕ, ◌+◌, ◌*◌, ◌<◌, ◌≤◌, zero, suc, min, Bool, true, false, Some, None, List, [], ◌∷◌, ◌++◌, length, get_or, reverse, refl, sym, ap, ◌∙◌, arith, inl, inr, subst, append_assoc, lit≤}
 use Rattle.std.proofs.lemmas.Bool.Decides.{nat_tests, eqb_tells}
 use Rattle.std.specs.Bool.{MatchBool}
-use Rattle.std.specs.Prelude.{is_ok, ◌↔◌, ◌⊎◌, ◌==◌, nat_lt, nat_le, ◌||◌, ◌≢◌}
+use Rattle.std.specs.Prelude.{IsTrue, ◌↔◌, ◌⊎◌, ◌==◌, nat_lt, nat_le, ◌||◌, ◌≢◌}
 use Rattle.std.proofs.lemmas.Bool.{lt-ltb, ltb-true, le-ltb}
 use Rattle.std.proofs.lemmas.List.{append-nil, length-append, length-reverse, reverse-reverse}
 use Rattle.su_octets.specs.Bits.{low_bits, bits_of, AreOctets}
@@ -10,7 +10,6 @@ use Rattle.su_octets.specs.Whole.{IsWhole}
 use Rattle.su_octets.specs.Frame.{Frame, body_of, content_of}
 use Rattle.su_octets.specs.declared.units.Unit as units
 use Rattle.su_octets.specs.declared.units.Unit.TheVariants as kinds
-use Rattle.su_octets.specs.declared.units.UnitFault.{UnitFault}
 use Rattle.bit_line.specs.Parts.{Packed}
 use Rattle.bit_line.specs.Stuffing.{trailing, stuffed, taken_out}
 use Rattle.bit_line.specs.Deframing.{Gathers, Holds, has_six}
@@ -272,7 +271,6 @@ pub is_wrong : (h : List Bool) (c : Content) → Holds h c → (taken_out h ≡ 
 unfolding taken_out
 is_wrong h c holds some other = (λ none. some (ap taken_out none), other)
 
-pub unit_when : (octets : List ℕ) (decoded : Result units.Unit UnitFault) → ((unit : units.Unit) → (decoded ≡ Ok unit) ↔ Frame octets unit)
-    → MatchBool (is_ok decoded) (AreUnit octets) (AreUnit octets → ⊥)
-unit_when octets (Ok unit) found = (unit, (found unit).0 refl)
-unit_when octets (Err fault) found = λ is. let e : ◌≡◌ {A = Result units.Unit UnitFault} (Err fault) (Ok is.0) = (found is.0).1 is.1 in cc
+pub unit_when : (octets : List ℕ) (b : Bool) → IsTrue b ↔ AreUnit octets → MatchBool b (AreUnit octets) (AreUnit octets → ⊥)
+unit_when octets true is = is.0 refl
+unit_when octets false is = λ unit. let e : false ≡ true = is.1 unit in cc

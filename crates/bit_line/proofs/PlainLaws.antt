@@ -4,7 +4,7 @@ use Rattle.std.specs.Prelude.{◌==◌, ◌⊎◌, bit_and, unwrap_or}
 use Rattle.std.specs.Option.{option_map}
 use Rattle.std.specs.Int.{bit_at}
 use Rattle.std.proofs.lemmas.Bool.{le-ltb}
-use Rattle.std.proofs.lemmas.Nat.{shr-shr, shr_high, shl_whole, one_shl, pow-add, pow_pos}
+use Rattle.std.proofs.lemmas.Nat.{shr-shr, shr_high, one_shl, pow-add, pow_pos}
 use Rattle.std.proofs.lemmas.Nat.Bits.{bit_at_and}
 use Rattle.std.proofs.Math.Nat.{mul_assoc, mul_comm, div-add-mod}
 use Rattle.std.proofs.lemmas.List.{reverse-append, reverse-reverse, length-reverse}
@@ -68,10 +68,11 @@ ones_of_126 v (suc (suc (suc (suc zero)))) few is = omega (arith, is)
 ones_of_126 v (suc (suc (suc (suc (suc zero))))) few is = omega (arith, is)
 ones_of_126 v (suc (suc (suc (suc (suc (suc s)))))) few is = absurd (omega arith)
 
-pub plain_by : (w m n : ℕ) → m < n → n ≤ 8 → sixes_of w % (2 * 2 ^ n % 65536) ≡ 0 → w / 2 ^ m % 128 ≡ 126 → ⊥
+pub plain_by : (w m n : ℕ) → m < n → n ≤ 8 → sixes_of w / 2 % (1 * 2 ^ n % 65536) ≡ 0 → w / 2 ^ m % 128 ≡ 126 → ⊥
 plain_by w m n less few none is =
-    let power : 2 * 2 ^ n % 65536 ≡ 2 ^ (1 + n) = shl_whole 2 2 n 16 (omega arith) (omega arith) ∙ sym (pow-add 2 1 n) in
-    let clear : bit_at (sixes_of w) (1 + m) ≡ 0 = low_none (sixes_of w) (1 + m) (1 + n) (omega arith) (sym (ap (λ p. sixes_of w % p) power) ∙ none) in
+    let power : 1 * 2 ^ n % 65536 ≡ 2 ^ n = one_shl n 16 (omega arith) in
+    let low : bit_at (sixes_of w / 2) m ≡ 0 = low_none (sixes_of w / 2) m n less (sym (ap (λ p. sixes_of w / 2 % p) power) ∙ none) in
+    let clear : bit_at (sixes_of w) (1 + m) ≡ 0 = sym (at_shifted (sixes_of w) 1 m) ∙ low in
     let set : bit_at (sixes_of w) (1 + m) ≡ 1 =
     sixes_at w (1 + m) (λ s small.
     ap (λ i. bit_at w i) (let e : s + (1 + m) ≡ m + (1 + s) = omega arith in e) ∙ sym (at_shifted w m (1 + s)) ∙ ones_of_126 (w / 2 ^ m) s small is) in

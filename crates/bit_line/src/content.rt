@@ -8,7 +8,6 @@ ghost use Rattle.su_octets.specs.Bits.{low_bits, AreOctets};
 
 use crate::data::Data;
 use crate::taken::{ones_after, taken_from};
-use su_octets::decode;
 
 /// How the content between two flags is judged.
 #[derive(Clone, Copy)]
@@ -37,7 +36,7 @@ fn is_unit(octets: &[u8]) -> bool
     ensures octets { AreOctets octets.now }
     ensures unit { MatchBool result (AreUnit octets.now) (AreUnit octets.now → ⊥) }
 {
-    decode(octets).is_ok()
+    su_octets::is_unit(octets)
 }
 
 impl Content {

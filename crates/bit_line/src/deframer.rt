@@ -159,8 +159,8 @@ impl Deframer {
         count
     }
 
-    /// Takes octets from the front at once, as long as none of their bits comes behind six 1s, and no inserted zero among them. Answers
-    /// how many; they report nothing.
+    /// Takes octets from the front at once, as long as none of their bits comes behind six 1s, and no two inserted zeros stand in one octet.
+    /// Answers how many; they report nothing.
     fn take_run(&mut self, octets: &[u8]) -> usize
         ensures most { result ≤ length octets.now }
         ensures stands { (h : List Bool) (events : List LineEvent) → StandsAt h events self.old

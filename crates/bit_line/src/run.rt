@@ -1,9 +1,11 @@
-//! Octets of a line without flags, inserted zeros or anything else of note.
-ghost use Rattle.std.specs.Prelude.{◌≤◌, ◌<◌, Bool, List, ◌++◌, reverse, length, take, IfSome};
+//! Octets of a line without flags or anything else of note.
+ghost use Rattle.std.specs.Prelude.{◌≡◌, ◌≤◌, ◌<◌, Bool, List, ◌++◌, reverse, length, take, IfSome};
+ghost use Rattle.arrayvec.specs.ArrayVec.{array_vec_len};
+ghost use Rattle.std.specs.Option.{option_to_list};
 ghost use Rattle.su_octets.specs.Bits.{bits_of};
 
 use crate::part::Part;
-use crate::taken::ones_after;
+use crate::taken::{ones_after, taken_from};
 use crate::window::is_plain;
 use arrayvec::ArrayVec;
 
@@ -25,8 +27,18 @@ pub struct Run {
 pub struct Step {
     /// What changes.
     pub run: Run,
-    /// The octet that the content has more.
-    pub whole: u8,
+    /// The octet that the content has more, if its bits filled one.
+    pub whole: Option<u8>,
+}
+
+/// Puts the octet at the end, if there is one.
+fn put(whole: Option<u8>, octets: &mut ArrayVec<u8, 278>)
+    requires { array_vec_len octets.old < 278 }
+    ensures { octets.new.items ≡ octets.old.items ++ option_to_list whole }
+{
+    if let Some(octet) = whole {
+        octets.push(octet);
+    }
 }
 
 impl Run {
@@ -35,24 +47,32 @@ impl Run {
     ghost use Rattle.bit_line.specs.declared.deframer.Deframer.{Deframer};
     ghost use Rattle.bit_line.specs.declared.events.LineEvent.{LineEvent};
 
-    /// One more octet, where no bit comes behind six 1s, and no inserted zero into the content.
+    /// One more octet, where no bit comes behind six 1s, and one inserted zero at most into the content.
     fn step(self, octet: u8) -> Option<Step>
-        ensures { IfSome result (λ s. IsPlainStep self octet s.run s.whole) }
+        ensures { IfSome result (λ s. IsPlainStep self octet s.run (option_to_list s.whole)) }
     {
         let window = u16::from(self.recent) + u16::from(octet) * 128;
         if !is_plain(window) {
             return None;
         }
         let late = (window % 256) as u8;
-        let Some(ones) = ones_after(late, self.ones) else {
+        let recent = (window / 256) as u8;
+        let mut part = self.part;
+        if let Some(ones) = ones_after(late, self.ones) {
+            let whole = part.push_eight(late);
+            return Some(Step {
+                run: Run { recent, ones, part },
+                whole: Some(whole),
+            });
+        }
+        let Some(taken) = taken_from(late, 8, self.ones) else {
             return None;
         };
-        let mut part = self.part;
-        let whole = part.push_eight(late);
+        let whole = part.push_few(taken.bits, taken.len);
         Some(Step {
             run: Run {
-                recent: (window / 256) as u8,
-                ones,
+                recent,
+                ones: taken.ones,
                 part,
             },
             whole,
@@ -73,7 +93,7 @@ impl Run {
             }
             match run.step(*octet) {
                 Some(step) => {
-                    octets.push(step.whole);
+                    put(step.whole, octets);
                     run = step.run;
                 }
                 None => return (taken, run),

@@ -61,137 +61,128 @@ fn stuffed_octet(octet: u8, ones: u8) -> Option<Stuffed>
     })
 }
 
-/// Line bits that are being put together.
-#[derive(Drop)]
-struct Line {
-    octets: ArrayVec<u8, 352>,
-    part: Part,
+/// Adds a bit.
+fn push(line: &mut ArrayVec<u8, 352>, part: &mut Part, bit: bool)
+    requires { array_vec_len line.old < 352 }
+    ensures packed { (before : List ℕ) (h : List Bool) → Packed (before ++ line.old.items) part.old.bits part.old.len h
+        → Packed (before ++ line.new.items) part.new.bits part.new.len (bit ∷ h) }
+    ensures len { 8 * array_vec_len line.new + part.new.len ≡ 8 * array_vec_len line.old + part.old.len + 1 }
+{
+    if let Some(octet) = part.push(bit) {
+        line.push(octet);
+    }
 }
 
-impl Line {
-    /// Adds a bit.
-    fn push(&mut self, bit: bool)
-        requires { array_vec_len self.old.octets < 352 }
-        ensures packed { (before : List ℕ) (h : List Bool) → Packed (before ++ self.old.octets.items) self.old.part.bits self.old.part.len h
-            → Packed (before ++ self.new.octets.items) self.new.part.bits self.new.part.len (bit ∷ h) }
-        ensures len { 8 * array_vec_len self.new.octets + self.new.part.len ≡ 8 * array_vec_len self.old.octets + self.old.part.len + 1 }
-    {
-        if let Some(octet) = self.part.push(bit) {
-            self.octets.push(octet);
-        }
-    }
+/// Adds eight bits, the low one first.
+fn push_eight(line: &mut ArrayVec<u8, 352>, part: &mut Part, octet: u8)
+    requires { array_vec_len line.old < 352 }
+    ensures packed { (before : List ℕ) (h : List Bool) → Packed (before ++ line.old.items) part.old.bits part.old.len h
+        → Packed (before ++ line.new.items) part.new.bits part.new.len (reverse (low_bits 8 octet) ++ h) }
+    ensures len { 8 * array_vec_len line.new + part.new.len ≡ 8 * array_vec_len line.old + part.old.len + 8 }
+{
+    let whole = part.push_eight(octet);
+    line.push(whole);
+}
 
-    /// Adds eight bits, the low one first.
-    fn push_eight(&mut self, octet: u8)
-        requires { array_vec_len self.old.octets < 352 }
-        ensures packed { (before : List ℕ) (h : List Bool) → Packed (before ++ self.old.octets.items) self.old.part.bits self.old.part.len h
-            → Packed (before ++ self.new.octets.items) self.new.part.bits self.new.part.len (reverse (low_bits 8 octet) ++ h) }
-        ensures len { 8 * array_vec_len self.new.octets + self.new.part.len ≡ 8 * array_vec_len self.old.octets + self.old.part.len + 8 }
-    {
-        let whole = self.part.push_eight(octet);
-        self.octets.push(whole);
-    }
+/// Adds a flag.
+fn push_flag(line: &mut ArrayVec<u8, 352>, part: &mut Part)
+    requires { 8 * array_vec_len line.old + part.old.len + 8 ≤ 2816 }
+    ensures packed { (before : List ℕ) (h : List Bool) → Packed (before ++ line.old.items) part.old.bits part.old.len h
+        → Packed (before ++ line.new.items) part.new.bits part.new.len (reverse (low_bits 8 126) ++ h) }
+    ensures len { 8 * array_vec_len line.new + part.new.len ≡ 8 * array_vec_len line.old + part.old.len + 8 }
+{
+    push_eight(line, part, FLAG);
+}
 
-    /// Adds a flag.
-    fn push_flag(&mut self)
-        requires { 8 * array_vec_len self.old.octets + self.old.part.len + 8 ≤ 2816 }
-        ensures packed { (before : List ℕ) (h : List Bool) → Packed (before ++ self.old.octets.items) self.old.part.bits self.old.part.len h
-            → Packed (before ++ self.new.octets.items) self.new.part.bits self.new.part.len (reverse (low_bits 8 126) ++ h) }
-        ensures len { 8 * array_vec_len self.new.octets + self.new.part.len ≡ 8 * array_vec_len self.old.octets + self.old.part.len + 8 }
-    {
-        self.push_eight(FLAG);
+/// Adds a flag, if the line wasn't started.
+fn open(line: &mut ArrayVec<u8, 352>, part: &mut Part, started: bool)
+    requires { 8 * array_vec_len line.old + part.old.len + 8 ≤ 2816 }
+    ensures packed { (before : List ℕ) (h : List Bool) → Packed (before ++ line.old.items) part.old.bits part.old.len h
+        → Packed (before ++ line.new.items) part.new.bits part.new.len (opening started ++ h) }
+    ensures len { 8 * array_vec_len line.new + part.new.len ≤ 8 * array_vec_len line.old + part.old.len + 8 }
+{
+    if !started {
+        push_flag(line, part);
     }
+}
 
-    /// Adds a flag, if the line wasn't started.
-    fn open(&mut self, started: bool)
-        requires { 8 * array_vec_len self.old.octets + self.old.part.len + 8 ≤ 2816 }
-        ensures packed { (before : List ℕ) (h : List Bool) → Packed (before ++ self.old.octets.items) self.old.part.bits self.old.part.len h
-            → Packed (before ++ self.new.octets.items) self.new.part.bits self.new.part.len (opening started ++ h) }
-        ensures len { 8 * array_vec_len self.new.octets + self.new.part.len ≤ 8 * array_vec_len self.old.octets + self.old.part.len + 8 }
-    {
-        if !started {
-            self.push_flag();
-        }
+/// Adds a bit of a unit behind so many 1s in a row, and a 0 where it is the fifth. Answers how many
+/// 1s in a row there are now.
+fn push_stuffed(line: &mut ArrayVec<u8, 352>, part: &mut Part, bit: bool, ones: u8) -> u8
+    requires few { ones < 5 }
+    requires room { 8 * array_vec_len line.old + part.old.len + 2 ≤ 2816 }
+    ensures packed { (before : List ℕ) (sent h : List Bool) → ones ≡ trailing (stuffed sent)
+        → Packed (before ++ line.old.items) part.old.bits part.old.len (stuffed sent ++ h)
+        → Packed (before ++ line.new.items) part.new.bits part.new.len (stuffed (bit ∷ sent) ++ h) }
+    ensures ones { (sent : List Bool) → ones ≡ trailing (stuffed sent) → result ≡ trailing (stuffed (bit ∷ sent)) }
+    ensures few { result < 5 }
+    ensures len { 5 * (8 * array_vec_len line.new + part.new.len) + result
+        ≤ 5 * (8 * array_vec_len line.old + part.old.len) + ones + 6 }
+{
+    push(line, part, bit);
+    if !bit {
+        return 0;
     }
-
-    /// Adds a bit of a unit behind so many 1s in a row, and a 0 where it is the fifth. Answers how many
-    /// 1s in a row there are now.
-    fn push_stuffed(&mut self, bit: bool, ones: u8) -> u8
-        requires few { ones < 5 }
-        requires room { 8 * array_vec_len self.old.octets + self.old.part.len + 2 ≤ 2816 }
-        ensures packed { (before : List ℕ) (sent h : List Bool) → ones ≡ trailing (stuffed sent)
-            → Packed (before ++ self.old.octets.items) self.old.part.bits self.old.part.len (stuffed sent ++ h)
-            → Packed (before ++ self.new.octets.items) self.new.part.bits self.new.part.len (stuffed (bit ∷ sent) ++ h) }
-        ensures ones { (sent : List Bool) → ones ≡ trailing (stuffed sent) → result ≡ trailing (stuffed (bit ∷ sent)) }
-        ensures few { result < 5 }
-        ensures len { 5 * (8 * array_vec_len self.new.octets + self.new.part.len) + result
-            ≤ 5 * (8 * array_vec_len self.old.octets + self.old.part.len) + ones + 6 }
-    {
-        self.push(bit);
-        if !bit {
-            return 0;
-        }
-        if ones == 4 {
-            self.push(false);
-            return 0;
-        }
-        ones + 1
+    if ones == 4 {
+        push(line, part, false);
+        return 0;
     }
+    ones + 1
+}
 
-    /// Adds the bits of an octet of a unit one by one, behind so many 1s in a row. Answers how many there
-    /// are now.
-    fn push_bits(&mut self, octet: u8, ones: u8) -> u8
-        requires few { ones < 5 }
-        requires room { 5 * (8 * array_vec_len self.old.octets + self.old.part.len) + ones + 58 ≤ 14080 }
-        ensures packed { (before : List ℕ) (sent h : List Bool) → ones ≡ trailing (stuffed sent)
-            → Packed (before ++ self.old.octets.items) self.old.part.bits self.old.part.len (stuffed sent ++ h)
-            → Packed (before ++ self.new.octets.items) self.new.part.bits self.new.part.len (stuffed (reverse (low_bits 8 octet) ++ sent) ++ h) }
-        ensures ones { (sent : List Bool) → ones ≡ trailing (stuffed sent) → result ≡ trailing (stuffed (reverse (low_bits 8 octet) ++ sent)) }
-        ensures few { result < 5 }
-        ensures len { 5 * (8 * array_vec_len self.new.octets + self.new.part.len) + result
-            ≤ 5 * (8 * array_vec_len self.old.octets + self.old.part.len) + ones + 48 }
-    {
-        let mut count = ones;
-        for i in 0..8u8 {
-            count = self.push_stuffed(octet >> i & 1 == 1, count);
-        }
-        count
+/// Adds the bits of an octet of a unit one by one, behind so many 1s in a row. Answers how many there
+/// are now.
+fn push_bits(line: &mut ArrayVec<u8, 352>, part: &mut Part, octet: u8, ones: u8) -> u8
+    requires few { ones < 5 }
+    requires room { 5 * (8 * array_vec_len line.old + part.old.len) + ones + 58 ≤ 14080 }
+    ensures packed { (before : List ℕ) (sent h : List Bool) → ones ≡ trailing (stuffed sent)
+        → Packed (before ++ line.old.items) part.old.bits part.old.len (stuffed sent ++ h)
+        → Packed (before ++ line.new.items) part.new.bits part.new.len (stuffed (reverse (low_bits 8 octet) ++ sent) ++ h) }
+    ensures ones { (sent : List Bool) → ones ≡ trailing (stuffed sent) → result ≡ trailing (stuffed (reverse (low_bits 8 octet) ++ sent)) }
+    ensures few { result < 5 }
+    ensures len { 5 * (8 * array_vec_len line.new + part.new.len) + result
+        ≤ 5 * (8 * array_vec_len line.old + part.old.len) + ones + 48 }
+{
+    let mut count = ones;
+    for i in 0..8u8 {
+        count = push_stuffed(line, part, octet >> i & 1 == 1, count);
     }
+    count
+}
 
-    /// Adds the bits of an octet of a unit behind so many 1s in a row. Answers how many there are now.
-    fn push_octet(&mut self, octet: u8, ones: u8) -> u8
-        requires few { ones < 5 }
-        requires room { 5 * (8 * array_vec_len self.old.octets + self.old.part.len) + ones + 58 ≤ 14080 }
-        ensures packed { (before : List ℕ) (sent h : List Bool) → ones ≡ trailing (stuffed sent)
-            → Packed (before ++ self.old.octets.items) self.old.part.bits self.old.part.len (stuffed sent ++ h)
-            → Packed (before ++ self.new.octets.items) self.new.part.bits self.new.part.len (stuffed (reverse (low_bits 8 octet) ++ sent) ++ h) }
-        ensures ones { (sent : List Bool) → ones ≡ trailing (stuffed sent) → result ≡ trailing (stuffed (reverse (low_bits 8 octet) ++ sent)) }
-        ensures few { result < 5 }
-        ensures len { 5 * (8 * array_vec_len self.new.octets + self.new.part.len) + result
-            ≤ 5 * (8 * array_vec_len self.old.octets + self.old.part.len) + ones + 48 }
-    {
-        let Some(stuffed) = stuffed_octet(octet, ones) else {
-            return self.push_bits(octet, ones);
-        };
-        self.push_eight(stuffed.eight);
-        if let Some(bit) = stuffed.ninth {
-            self.push(bit);
-        }
-        stuffed.ones
+/// Adds the bits of an octet of a unit behind so many 1s in a row. Answers how many there are now.
+fn push_octet(line: &mut ArrayVec<u8, 352>, part: &mut Part, octet: u8, ones: u8) -> u8
+    requires few { ones < 5 }
+    requires room { 5 * (8 * array_vec_len line.old + part.old.len) + ones + 58 ≤ 14080 }
+    ensures packed { (before : List ℕ) (sent h : List Bool) → ones ≡ trailing (stuffed sent)
+        → Packed (before ++ line.old.items) part.old.bits part.old.len (stuffed sent ++ h)
+        → Packed (before ++ line.new.items) part.new.bits part.new.len (stuffed (reverse (low_bits 8 octet) ++ sent) ++ h) }
+    ensures ones { (sent : List Bool) → ones ≡ trailing (stuffed sent) → result ≡ trailing (stuffed (reverse (low_bits 8 octet) ++ sent)) }
+    ensures few { result < 5 }
+    ensures len { 5 * (8 * array_vec_len line.new + part.new.len) + result
+        ≤ 5 * (8 * array_vec_len line.old + part.old.len) + ones + 48 }
+{
+    let Some(stuffed) = stuffed_octet(octet, ones) else {
+        return push_bits(line, part, octet, ones);
+    };
+    push_eight(line, part, stuffed.eight);
+    if let Some(bit) = stuffed.ninth {
+        push(line, part, bit);
     }
+    stuffed.ones
+}
 
-    /// Adds the octets of a unit, stuffed.
-    fn push_unit(&mut self, octets: &[u8])
-        requires fits { length octets.now ≤ 278 }
-        requires room { 8 * array_vec_len self.old.octets + self.old.part.len ≤ 15 }
-        ensures packed { (before : List ℕ) (h : List Bool) → Packed (before ++ self.old.octets.items) self.old.part.bits self.old.part.len h
-            → Packed (before ++ self.new.octets.items) self.new.part.bits self.new.part.len (stuffed (reverse (bits_of octets.now)) ++ h) }
-        ensures len { 5 * (8 * array_vec_len self.new.octets + self.new.part.len) ≤ 75 + 48 * length octets.now }
-    {
-        let mut ones = 0;
-        for octet in octets {
-            ones = self.push_octet(*octet, ones);
-        }
+/// Adds the octets of a unit, stuffed.
+fn push_unit(line: &mut ArrayVec<u8, 352>, part: &mut Part, octets: &[u8])
+    requires fits { length octets.now ≤ 278 }
+    requires room { 8 * array_vec_len line.old + part.old.len ≤ 15 }
+    ensures packed { (before : List ℕ) (h : List Bool) → Packed (before ++ line.old.items) part.old.bits part.old.len h
+        → Packed (before ++ line.new.items) part.new.bits part.new.len (stuffed (reverse (bits_of octets.now)) ++ h) }
+    ensures len { 5 * (8 * array_vec_len line.new + part.new.len) ≤ 75 + 48 * length octets.now }
+{
+    let mut ones = 0;
+    for octet in octets {
+        ones = push_octet(line, part, *octet, ones);
     }
 }
 
@@ -224,16 +215,14 @@ impl Stuffer {
     {
         let mut octets = ArrayVec::new();
         encode(unit, &mut octets);
-        let mut line = Line {
-            octets: ArrayVec::new(),
-            part: self.part,
-        };
-        line.open(self.started);
-        line.push_unit(octets.as_slice());
-        line.push_flag();
+        let mut line = ArrayVec::new();
+        let mut part = self.part;
+        open(&mut line, &mut part, self.started);
+        push_unit(&mut line, &mut part, octets.as_slice());
+        push_flag(&mut line, &mut part);
         self.started = true;
-        self.part = line.part;
-        line.octets
+        self.part = part;
+        line
     }
 
     /// The bits that stay for the next call, the first one lowest, and how many they are, up to 7.

@@ -7,7 +7,7 @@ pub fn is_plain(window: u16) -> bool
 {
     let pairs = window & window >> 1;
     let sixes = pairs & pairs >> 2 & pairs >> 4;
-    sixes % 512 == 0
+    (sixes >> 1) % 256 == 0
 }
 
 /// How many of up to eight bits, the low one first, come behind anything but six 1s, as far as that is known at once: the
@@ -21,8 +21,9 @@ pub fn plain_count(recent: u8, bits: u8, len: u8) -> u8
     let window = u16::from(recent) + u16::from(bits) * 128;
     let pairs = window & window >> 1;
     let sixes = pairs & pairs >> 2 & pairs >> 4;
-    let count = (sixes.trailing_zeros() as u8).saturating_sub(1).min(len);
-    if sixes % (2 << count) == 0 { count } else { 0 }
+    let ends = sixes >> 1;
+    let count = (ends.trailing_zeros() as u8).min(len);
+    if ends % (1 << count) == 0 { count } else { 0 }
 }
 
 /// The newest seven bits after one more.

@@ -1,7 +1,7 @@
 -- Octets are those of one unit at most, and then they aren't refused.
 use Rattle.std.proofs.Common.{◌≡◌, ℕ, ◌+◌, ◌-◌, ◌*◌, ◌/◌, ◌%◌, ◌<◌, ◌≤◌, suc, Bool, true, false, not, Some, None, Result, Ok, Err, List, [], ◌∷◌, ◌++◌, length, take, drop, get_or, refl, sym, ap, ◌∙◌, subst, arith, add-zero, append_assoc, lit<, lit≤}
-use Rattle.std.specs.Prelude.{slice_index, slice_index_or, ◌↔◌}
-use Rattle.std.proofs.lemmas.List.{length-append}
+use Rattle.std.specs.Prelude.{slice_index, slice_index_or, ◌↔◌, Option, IfSome, IfNone, IsTrue, is_some}
+use Rattle.std.proofs.lemmas.List.{length-append, length-take, take-append-drop}
 use Rattle.std.proofs.lemmas.Slice.Eq.{bytes_eq-Decides}
 use Rattle.std.specs.Str.{bytes_eq}
 use Rattle.std.proofs.Math.Seq.{take-append_seam, drop-append_seam, take-length}
@@ -253,3 +253,71 @@ framed octets (a ∷ b ∷ x ∷ rest) back given body h unit all same checked l
     let body_is : body ≡ rest = is_body ∙ ap (λ k. take k rest) n ∙ take-length rest in
     let x_small : x < 256 = omega (arith, ap (λ os. get_or os 2 0) all) in
     frame_of_parts octets back given rest a b x h unit all same checked first second (third ∙ ap (λ l. length_indicator (length l)) body_is) x_small whole head (of_body ∙ body_is)
+
+-- ---- octets whose check octets and length indicator are right are those of a unit
+unit_of_parts : (octets front back : List ℕ) (h : Head) (unit : Unit) → octets ≡ front ++ back → Check front back → 3 ≤ length front
+    → get_or octets 0 0 ≡ h.bsn + 128 * h.bib → get_or octets 1 0 ≡ h.fsn + 128 * h.fib → get_or octets 2 0 % 64 ≡ length_indicator (length front - 3) → get_or octets 2 0 < 256
+    → body_of unit ≡ take (length front - 3) (drop 3 octets) → IsWhole unit → head_of unit ≡ h → Frame octets unit
+unit_of_parts octets [] back h unit all checked long first second third fits body whole head = absurd (omega arith)
+unit_of_parts octets (a ∷ []) back h unit all checked long first second third fits body whole head = absurd (omega arith)
+unit_of_parts octets (a ∷ b ∷ []) back h unit all checked long first second third fits body whole head = absurd (omega arith)
+unit_of_parts octets (a ∷ b ∷ x ∷ rest) back h unit all checked long first second third fits body whole head =
+    let n : length (a ∷ b ∷ x ∷ rest) - 3 ≡ length rest = omega arith in
+    let body_is : body_of unit ≡ rest = body ∙ ap (λ os. take (length (a ∷ b ∷ x ∷ rest) - 3) (drop 3 os)) all ∙ ap (λ k. take k (rest ++ back)) n ∙ take-append_seam rest back in
+    let is_a : get_or octets 0 0 ≡ a = ap (λ os. get_or os 0 0) all in
+    let is_b : get_or octets 1 0 ≡ b = ap (λ os. get_or os 1 0) all in
+    let is_x : get_or octets 2 0 ≡ x = ap (λ os. get_or os 2 0) all in
+    let small : x < 256 = omega arith in
+    frame_of_parts octets back back rest a b x h unit all refl checked (sym is_a ∙ first) (sym is_b ∙ second) (ap (λ m. m % 64) (sym is_x) ∙ third ∙ ap length_indicator n) small whole head body_is
+
+pub unit_at : (octets : List ℕ) (h : Head) (unit : Unit) → InSize octets → IsChecked octets → TellsLength octets
+    → get_or octets 0 0 ≡ h.bsn + 128 * h.bib → get_or octets 1 0 ≡ h.fsn + 128 * h.fib → get_or octets 2 0 < 256
+    → body_of unit ≡ take (length octets - 5) (drop 3 octets) → IsWhole unit → head_of unit ≡ h → Frame octets unit
+unit_at octets h unit size checked tells first second fits body whole head =
+    let front : List ℕ = take (length octets - 2) octets in
+    let n : length front ≡ length octets - 2 = length-take (length octets - 2) octets ∙ omega (arith, size.0) in
+    let m : length octets - 5 ≡ length front - 3 = omega arith in
+    unit_of_parts octets front (drop (length octets - 2) octets) h unit (sym (take-append-drop (length octets - 2) octets)) checked (omega (arith, size.0)) first second
+    (tells ∙ ap length_indicator m) fits (body ∙ ap (λ k. take k (drop 3 octets)) m) whole head
+
+-- the unit of a head and what stands behind the length indicator
+abbrev unit_by : Head → List ℕ → Unit
+unit_by h [] = Fisu h
+unit_by h (a ∷ []) = Lssu h a None
+unit_by h (a ∷ b ∷ []) = Lssu h a (Some b)
+unit_by h (a ∷ b ∷ x ∷ rest) = Msu h a (record { items = b ∷ x ∷ rest })
+
+head_by : (h : Head) (body : List ℕ) → head_of (unit_by h body) ≡ h
+head_by h [] = refl
+head_by h (a ∷ []) = refl
+head_by h (a ∷ b ∷ []) = refl
+head_by h (a ∷ b ∷ x ∷ rest) = refl
+
+body_by : (h : Head) (body : List ℕ) → body_of (unit_by h body) ≡ body
+body_by h [] = refl
+body_by h (a ∷ []) = refl
+body_by h (a ∷ b ∷ []) = refl
+body_by h (a ∷ b ∷ x ∷ rest) = refl
+
+whole_by : (h : Head) (body : List ℕ) → IsWholeHead h → length body ≤ 273 → IsWhole (unit_by h body)
+whole_by h [] whole few = whole
+whole_by h (a ∷ []) whole few = whole
+whole_by h (a ∷ b ∷ []) whole few = whole
+whole_by h (a ∷ b ∷ x ∷ rest) whole few = (whole, omega arith, omega arith)
+
+pub some_unit : (octets : List ℕ) → ((i : ℕ) → get_or octets i 0 < 256) → InSize octets → IsChecked octets → TellsLength octets → (unit : Unit) × Frame octets unit
+some_unit octets fit size checked tells =
+    let h : Head = record { bsn = get_or octets 0 0 % 128; bib = get_or octets 0 0 / 128; fsn = get_or octets 1 0 % 128; fib = get_or octets 1 0 / 128 } in
+    let body : List ℕ = take (length octets - 5) (drop 3 octets) in
+    let few : length body ≤ 273 = omega (arith, length-take (length octets - 5) (drop 3 octets), size.1) in
+    let whole : IsWholeHead h = record { bsn = omega arith; bib = omega (arith, fit 0); fsn = omega arith; fib = omega (arith, fit 1) } in (
+      unit_by h body,
+      unit_at octets h (unit_by h body) size checked tells (omega arith) (omega arith) (fit 2) (body_by h body) (whole_by h body whole few) (head_by h body),
+    )
+
+pub unit_when : (octets : List ℕ) (fault : Option UnitFault) (b : Bool) → is_some fault ≡ not b → ((i : ℕ) → get_or octets i 0 < 256) → IfSome fault (λ f. Refuses octets f)
+    → IfNone fault (InSize octets × IsChecked octets × TellsLength octets) → IsTrue b ↔ ((unit : Unit) × Frame octets unit)
+unit_when octets None true is fit refused right = (λ so. some_unit octets fit right.0 right.1 right.2, λ unit. refl)
+unit_when octets None false is fit refused right = absurd (let e : false ≡ true = is in cc)
+unit_when octets (Some fault) true is fit refused right = absurd (let e : true ≡ false = is in cc)
+unit_when octets (Some fault) false is fit refused right = (λ so. absurd (let e : false ≡ true = so in cc), λ unit. absurd (not_refused octets unit.0 fault unit.1 refused))

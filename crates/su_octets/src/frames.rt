@@ -1,7 +1,7 @@
 //! Signal units to octets and back.
-ghost use Rattle.std.specs.Prelude.{◌≡◌, ◌↔◌, ◌+◌, ◌*◌, ◌≤◌, ◌<◌, ◌++◌, length, Ok, Err};
+ghost use Rattle.std.specs.Prelude.{◌≡◌, ◌↔◌, ◌+◌, ◌*◌, ◌≤◌, ◌<◌, ◌++◌, IsTrue, IfSome, IfNone, length, Ok, Err};
 ghost use Rattle.arrayvec.specs.ArrayVec.{array_vec_len};
-ghost use Rattle.su_octets.specs.Frame.{Frame, Refuses, SpareBitsAreZero, head_of, body_of, length_indicator};
+ghost use Rattle.su_octets.specs.Frame.{Frame, Refuses, SpareBitsAreZero, InSize, IsChecked, TellsLength, head_of, body_of, length_indicator};
 ghost use Rattle.su_octets.specs.Whole.{IsWhole, IsWholeHead};
 ghost use Rattle.su_octets.specs.declared.units.Unit.{Unit};
 ghost use Rattle.su_octets.specs.declared.units.UnitFault.{UnitFault};
@@ -97,6 +97,34 @@ fn unit_of(head: Head, body: &[u8]) -> Unit
     }
 }
 
+/// Why the octets, without flags, are those of no signal unit. Of several reasons the first one counts.
+fn fault_of(octets: &[u8]) -> Option<UnitFault>
+    ensures fault { IfSome result (λ fault. Refuses octets.now fault) }
+    ensures none { IfNone result (InSize octets.now × IsChecked octets.now × TellsLength octets.now) }
+{
+    if octets.len() < SHORTEST {
+        return Some(UnitFault::TooShort);
+    }
+    if octets.len() > LONGEST {
+        return Some(UnitFault::TooLong);
+    }
+    let (content, check) = octets.split_at(octets.len() - 2);
+    if check_bits(content).as_slice() != check {
+        return Some(UnitFault::BadCheck);
+    }
+    if content[2] % 64 != indicator(content.len() - 3) {
+        return Some(UnitFault::BadLength);
+    }
+    None
+}
+
+/// Whether the octets, without flags, are those of a signal unit: whether `decode` gives one.
+pub fn is_unit(octets: &[u8]) -> bool
+    ensures { IsTrue result ↔ ((unit : Unit) × Frame octets.now unit) }
+{
+    fault_of(octets).is_none()
+}
+
 /// The unit that the octets, without flags, are.
 ///
 /// # Errors
@@ -111,19 +139,11 @@ pub fn decode(octets: &[u8]) -> Result<Unit, UnitFault>
     ensures found { (unit : Unit) → (result ≡ Ok unit) ↔ Frame octets.now unit }
     ensures refused { (fault : UnitFault) → (result ≡ Err fault) ↔ Refuses octets.now fault }
 {
-    if octets.len() < SHORTEST {
-        return Err(UnitFault::TooShort);
+    match fault_of(octets) {
+        Some(fault) => Err(fault),
+        None => {
+            let body = &octets[3..octets.len() - 2];
+            Ok(unit_of(head_at(octets[0], octets[1]), body))
+        }
     }
-    if octets.len() > LONGEST {
-        return Err(UnitFault::TooLong);
-    }
-    let (content, check) = octets.split_at(octets.len() - 2);
-    if check_bits(content).as_slice() != check {
-        return Err(UnitFault::BadCheck);
-    }
-    let body = &content[3..];
-    if content[2] % 64 != indicator(body.len()) {
-        return Err(UnitFault::BadLength);
-    }
-    Ok(unit_of(head_at(content[0], content[1]), body))
 }

@@ -12,5 +12,5 @@ mod tests;
 mod units;
 
 pub use check::check_bits;
-pub use frames::{decode, encode};
+pub use frames::{decode, encode, is_unit};
 pub use units::{Head, Unit, UnitFault, status_name};

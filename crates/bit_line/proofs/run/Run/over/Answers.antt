@@ -1,4 +1,5 @@
 use Rattle.std.proofs.Common.{ℕ, ◌+◌, ◌++◌, reverse, take, refl, sym, ap, subst, arith}
+use Rattle.std.specs.Option.{option_to_list}
 use Rattle.su_octets.specs.Bits.{bits_of}
 use Rattle.bit_line.specs.Deframing.{StandsAt}
 use Rattle.bit_line.specs.Running.{with_run}
@@ -23,8 +24,8 @@ pub loop-octet-preserved : goal.loop-octet-preserved
 loop-octet-preserved c = record {
   count = ap (λ n. n + 1) c.loop-octet.invariant.count;
   stands = λ base h events calm stands.
-      at_next c.loop-octet.octet-index c.args.line.now h events (with_run base c.in-Some.step.run c.push.new.self.items) c.loop-octet-test.true
-      (laws.run_pushed base c.loop-octet.run c.in-Some.step.run _ c.in-Some.step.whole c.loop-octet.octets.items c.push.new.self.items _ events c.push.ensures.items
+      at_next c.loop-octet.octet-index c.args.line.now h events (with_run base c.in-Some.step.run c.put.new.octets.items) c.loop-octet-test.true
+      (laws.run_pushed base c.loop-octet.run c.in-Some.step.run _ (option_to_list c.in-Some.step.whole) c.loop-octet.octets.items c.put.new.octets.items _ events c.put.ensures
       (omega (arith, c.len.ensures.value, c.if-len-ge277.false)) calm c.in-Some.ensures (c.loop-octet.invariant.stands base h events calm stands));
 }
 

@@ -12,8 +12,8 @@ returns c = (
   c.encode.ensures.frame,
   c.encode.ensures.spare,
   λ given units gave.
-      laws.gave_more given c.push_flag.new.self.octets.items c.encode.new.octets.items units c.args.self.now _ refl gave
+      laws.gave_more given c.push_flag.new.line.items c.encode.new.octets.items units c.args.self.now _ refl gave
       (c.push_flag.ensures.packed given _
       (laws.packed_to _ _ _ _ _ (ap (λ l. stuffed (reverse (bits_of l)) ++ (opening c.args.self.now.started ++ reverse (line_of units))) c.as_slice.ensures.value)
-      (c.push_unit.ensures.packed given _ (c.open.ensures.packed given _ (laws.packed_start given c.new.result.items units c.args.self.now c.new.ensures gave))))),
+      (c.push_unit.ensures.packed given _ (c.open.ensures.packed given _ (laws.packed_start given c.new-line.result.items units c.args.self.now c.new-line.ensures gave))))),
 )

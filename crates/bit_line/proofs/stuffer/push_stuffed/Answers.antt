@@ -1,6 +1,6 @@
 use Rattle.std.proofs.Common.{◌++◌, sym, ap}
 use Rattle.bit_line.proofs.SendLaws as laws
-use Rattle.bit_line.proofs.stuffer.Line.push_stuffed.Goals as goal
+use Rattle.bit_line.proofs.stuffer.push_stuffed.Goals as goal
 
 pub returns-then-not-bit-clause-packed : goal.returns-then-not-bit-clause-packed
 returns-then-not-bit-clause-packed c before sent h count packed =

@@ -1,7 +1,7 @@
 use Rattle.std.proofs.Common.{◌++◌, sym, ap, ◌∙◌, arith}
 use Rattle.bit_line.specs.Stuffing.{stuffed, trailing}
 use Rattle.bit_line.proofs.SendLaws as laws
-use Rattle.bit_line.proofs.stuffer.Line.push_unit.Goals as goal
+use Rattle.bit_line.proofs.stuffer.push_unit.Goals as goal
 
 pub loop-octet-init : goal.loop-octet-init
 loop-octet-init c = record {

@@ -1,7 +1,7 @@
 use Rattle.std.proofs.Common.{◌++◌, ap, ◌∙◌, arith}
 use Rattle.bit_line.specs.Stuffing.{stuffed, trailing}
 use Rattle.bit_line.proofs.SendLaws as laws
-use Rattle.bit_line.proofs.stuffer.Line.push_bits.Goals as goal
+use Rattle.bit_line.proofs.stuffer.push_bits.Goals as goal
 
 pub loop-i-init : goal.loop-i-init
 loop-i-init c = record {
