@@ -13,8 +13,10 @@ use thiserror::Error;
 pub struct Closed {
     /// The books of the links, in order.
     pub books: Vec<Book>,
-    /// How many events each seat made: that of the client, then those of the workers.
-    pub seats: Vec<u64>,
+    /// How many events of their journals the client made.
+    pub client: u64,
+    /// How many each worker made.
+    pub workers: Vec<u64>,
 }
 
 /// A receipt whose event doesn't stand at its place.

@@ -4,7 +4,7 @@
 ghost use Rattle.std.specs.Prelude.{◌≡◌, ◌≤◌, ◌<◌, ◌+◌, ◌^◌};
 
 use std::marker::Model;
-use std::sync::ledger::{Book as Account, Ledger, Share};
+use std::sync::ledger::{Blank, Book as Account, Ledger, Share};
 
 /// How many events of journals a worker or a client made.
 #[derive(Drop)]
@@ -40,6 +40,28 @@ pub struct Totals<L: Ledger> {
 }
 
 impl<L: Ledger> Totals<L> {
+    /// The account, with all of it in one share.
+    pub(crate) fn open(blank: Blank) -> (Totals<L>, Share<L>)
+        requires name { blank.name ≡ L.name }
+        requires parts { blank.parts ≡ L.parts }
+        requires some { 0 < blank.parts }
+        ensures parts { result.1.parts ≡ blank.parts }
+        ensures amount { result.1.amount ≡ 2 ^ 61 }
+    {
+        let (mut account, mut all) = blank.open::<L>();
+        account.add(&mut all, 1 << 61);
+        (Totals { account }, all)
+    }
+
+    /// A share with all parts has all.
+    pub(crate) fn audit(self, all: &mut Share<L>)
+        requires { all.old.parts ≡ L.parts }
+        ensures { all.old.amount ≡ 2 ^ 61 }
+    {
+        let Totals { mut account } = self;
+        account.audit(all);
+    }
+
     /// One moves from a share to another.
     fn transfer(&mut self, from: &mut Share<L>, to: &mut Share<L>)
         requires some { 0 < from.old.amount }
