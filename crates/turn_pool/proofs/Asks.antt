@@ -1,5 +1,5 @@
 -- What an event makes of a book's journal.
-use Rattle.std.proofs.Common.{◌≡◌, List, [], ◌∷◌, ◌++◌, Option, Some, None, refl}
+use Rattle.std.proofs.Common.{◌≡◌, [], ◌∷◌, ◌++◌, Option, Some, None, refl}
 use Rattle.link_machine.specs.Step.{Says, Stepped, step}
 use Rattle.link_machine.specs.Ledger.{Ledger, runs, state_of, refusal_by, asked, ask, ask_by}
 use Rattle.link_machine.specs.declared.event.Event.{Event}

@@ -1,5 +1,5 @@
 -- The steps of a worker.
-use Rattle.std.specs.Prelude.{◌≡◌, ◌↔◌, ℕ, ⊤, Result, Ok, Err, IsOk, IfOk, Option, None, Some}
+use Rattle.std.specs.Prelude.{◌≡◌, ◌↔◌, ℕ, Result, Ok, Err, IsOk, IfOk, Some}
 use Rattle.turn_code.specs.declared.draft.Trigger.{Trigger}
 use Rattle.turn_machine.specs.Turn.{Turn}
 use Rattle.link_machine.specs.Ledger.{Ledger, ask, turn_out}

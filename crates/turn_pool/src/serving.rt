@@ -25,12 +25,7 @@ use std::thread::Threads;
 const MOST: usize = 16;
 
 /// Serves under an account of its own, of which each link, each worker, the client and this function have a part.
-fn serve_by<
-    R: Threads + Wait + Sync,
-    L: Ledger + Send + Sync,
-    G: Gate + Sync,
-    C: Client,
->(
+fn serve_by<R: Threads + Wait + Sync, L: Ledger + Send + Sync, G: Gate + Sync, C: Client>(
     rt: &R,
     alloc: Global,
     blank: Blank,

@@ -178,12 +178,7 @@ fn work_shift<'s, E, R: Threads + Wait + Sync, L: Ledger + Send + Sync, G: Gate 
 }
 
 /// A shift in threads that are all joined again.
-pub(crate) fn drive<
-    R: Threads + Wait + Sync,
-    L: Ledger + Send + Sync,
-    G: Gate + Sync,
-    C: Client,
->(
+pub(crate) fn drive<R: Threads + Wait + Sync, L: Ledger + Send + Sync, G: Gate + Sync, C: Client>(
     pool: &Pool<'_, R, L>,
     gate: &G,
     client: &mut C,

@@ -13,9 +13,9 @@ use turn_machine::{Job, run};
 /// How many begins and skips a worker makes at most after the pool began to close.
 const LAST_STEPS: usize = 1000;
 
-/// What the least actor of a link that can do something does.
+/// What the least actor of a link that can do something does; nothing on a link whose journal is full.
 fn next_step(book: &Book) -> Option<Move> {
-    if book.room() < 2 {
+    if book.room() == 0 {
         return None;
     }
     let set = book.set();
@@ -105,13 +105,14 @@ fn round<R: Wait, L: Ledger, G: Gate>(
     steps
 }
 
-/// Works until the pool closes, and then until nothing is left to do, for at most 1,000 steps.
+/// Works until the pool closes, and then until nothing is left to do, for at most 1,000 begins and skips, those of the round
+/// in which the pool closes among them.
 pub(crate) fn worker<R: Wait, L: Ledger, G: Gate>(
     pool: &Pool<'_, R, L>,
     gate: &G,
     mut seat: Seat<L>,
 ) -> Seat<L> {
-    let mut left = LAST_STEPS;
+    let mut left = LAST_STEPS.saturating_sub(pool.links.len());
     for _ in pool.rt.forever() {
         let closing = pool.is_closing();
         if closing && left < pool.links.len() {

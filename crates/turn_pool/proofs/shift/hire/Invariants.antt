@@ -1,4 +1,4 @@
-use Rattle.std.proofs.Common.{◌≡◌, ◌≤◌, ◌<◌, ◌+◌, sum, vec_len, vec_capacity}
+use Rattle.std.proofs.Common.{◌≡◌, ◌≤◌, ◌+◌, sum, vec_len, vec_capacity}
 use Rattle.turn_pool.proofs.shift.hire.Given as goal
 
 abbrev pub invariant-loop-number : goal.invariant-loop-number
