@@ -1,11 +1,16 @@
 //! What is found once all is over.
 
-ghost use Rattle.std.specs.Prelude.{◌≡◌, ◌+◌, IsTrue, IsSome, IfSome, sum, sum_by};
+ghost use Rattle.std.specs.Prelude.{◌≡◌, ◌⊎◌, ◌↔◌, ◌+◌, IsTrue, IfSome, sum, sum_by};
 ghost use Rattle.link_machine.specs.Ledger.{next};
+ghost use Rattle.pool_soak.specs.declared.findings.Finding.TheVariants.{SeatsAgree, AuditYes};
 
 use actor_book::Book;
 use std::fmt;
+use text_check::HELD;
 use turn_pool::Closed;
+
+/// The exit status where seats or receipts aren't what the journals say.
+pub const DIFFERS: u8 = 1;
 
 /// What is printed at the end.
 #[derive(Clone, Copy, PartialEq, Eq, Debug)]
@@ -62,8 +67,44 @@ fn places(books: &[Book]) -> Option<u64>
 pub fn agree(closed: &Closed) -> bool
     ensures { IsTrue result → closed.now.client + sum closed.now.workers.items ≡ sum_by next closed.now.books.items }
 {
-    match (counted(closed.client, &closed.workers), places(&closed.books)) {
+    match (
+        counted(closed.client, &closed.workers),
+        places(&closed.books),
+    ) {
         (Some(seats), Some(places)) => seats == places,
         _ => false,
+    }
+}
+
+/// What is printed of the seats.
+pub fn seats_of(agree: bool) -> Finding
+    ensures { result ≡ SeatsAgree ↔ IsTrue agree }
+{
+    if agree {
+        Finding::SeatsAgree
+    } else {
+        Finding::SeatsDiffer
+    }
+}
+
+/// What is printed of the receipts.
+pub fn audit_of(stand: bool) -> Finding
+    ensures { result ≡ AuditYes ↔ IsTrue stand }
+{
+    if stand {
+        Finding::AuditYes
+    } else {
+        Finding::AuditNo
+    }
+}
+
+/// The exit status.
+pub fn status_of(seats: Finding, audit: Finding) -> u8
+    ensures held { result ≡ 0 → (seats ≡ SeatsAgree) × (audit ≡ AuditYes) }
+    ensures status { (result ≡ 0) ⊎ (result ≡ 1) }
+{
+    match (seats, audit) {
+        (Finding::SeatsAgree, Finding::AuditYes) => HELD,
+        _ => DIFFERS,
     }
 }

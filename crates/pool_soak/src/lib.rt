@@ -8,6 +8,3 @@ mod soaking;
 
 pub use script::{Soak, Step, soak_script};
 pub use soaking::soak;
-
-#[cfg(test)]
-mod tests;

@@ -119,10 +119,7 @@ fn with_links<'a>(soak: Soak<'a>, number: u32) -> Option<Soak<'a>>
 }
 
 /// With one step more, where there is one.
-fn with_step<'a>(
-    mut soak: Soak<'a>,
-    step: Option<Step<'a>>,
-) -> Result<Option<Soak<'a>>, AllocError>
+fn with_step<'a>(mut soak: Soak<'a>, step: Option<Step<'a>>) -> Result<Option<Soak<'a>>, AllocError>
     ensures { IfOk result (λ r. option_map plain_soak r ≡ with_step (plain_soak soak.entry) (option_map plain_step step.entry)) }
 {
     match step {

@@ -1,15 +1,14 @@
 //! The command `soak`.
 
-ghost use Rattle.std.specs.Prelude.{◌≡◌, ◌⊎◌, ◌++◌, List, ℕ, IfOk, IfSome, OnOk};
+ghost use Rattle.std.specs.Prelude.{◌≡◌, ◌⊎◌, List, ℕ, IfOk, OnOk};
 ghost use Rattle.std.specs.Io.KnownBytes.{Appends};
 ghost use Rattle.text_reader.specs.Reading.{Keeps};
 ghost use Rattle.text_check.specs.Checked.{IsGiven};
-ghost use Rattle.text_check.specs.Printed.{line_of};
-ghost use Rattle.pool_soak.specs.Findings.{IsSoaked, finding_text, lines_with};
+ghost use Rattle.pool_soak.specs.Findings.{IsSoaked, lines_with};
 ghost use Rattle.pool_soak.specs.declared.findings.Finding.TheVariants.{SeatsAgree, AuditYes};
 
 use crate::client::{Open, Script};
-use crate::findings::{Finding, agree};
+use crate::findings::{Finding, agree, audit_of, seats_of, status_of};
 use crate::script::{Soak, soak_script};
 use actor_book::{Book, Limits};
 use mtp2_text::standard;
@@ -20,13 +19,10 @@ use std::io::{self, Read, Write};
 use std::str;
 use std::sync::Wait;
 use std::thread::Threads;
-use text_check::{FAILED, HELD, REFUSED, write_line};
+use text_check::{FAILED, REFUSED, write_line};
 use text_reader::{TextRead, line_at_limit, read_text};
 use turn_check::Verified;
 use turn_pool::{Closed, Receipt, serve};
-
-/// The exit status where seats or receipts aren't what the journals say.
-pub const DIFFERS: u8 = 1;
 
 /// Has links of the set `standard` worked on by threads while what a script says happens to them, and prints two lines:
 /// `seats agree` where what was counted is what happened, else `seats differ`; and `audit yes` where what each receipt names
@@ -163,6 +159,20 @@ fn soak_books<R: Threads + Wait + Sync, W: Write>(
     }
 }
 
+#[tactic(auto, using(crate::proofs::Texts::after))]
+/// Writes two lines.
+fn write_both<W: Write>(
+    alloc: Global,
+    writer: &mut W,
+    seats: Finding,
+    audit: Finding,
+) -> io::Result<()>
+    ensures { OnOk result (Appends (W.contents writer.old) (W.contents writer.new) (lines_with seats audit)) }
+{
+    write_line(alloc, writer, &seats)?;
+    write_line(alloc, writer, &audit)
+}
+
 /// Writes what is found. Gives the exit status.
 fn report<W: Write>(
     alloc: Global,
@@ -173,21 +183,8 @@ fn report<W: Write>(
     ensures held { IfOk result (λ status. status ≡ 0 → Appends (W.contents writer.old) (W.contents writer.new) (lines_with SeatsAgree AuditYes)) }
     ensures status { IfOk result (λ status. (status ≡ 0) ⊎ (status ≡ 1)) }
 {
-    let seats = if agree(closed) {
-        Finding::SeatsAgree
-    } else {
-        Finding::SeatsDiffer
-    };
-    let audit = if closed.audit(receipts).is_ok() {
-        Finding::AuditYes
-    } else {
-        Finding::AuditNo
-    };
-    write_line(alloc, writer, &seats)?;
-    write_line(alloc, writer, &audit)?;
-    if seats == Finding::SeatsAgree && audit == Finding::AuditYes {
-        Ok(HELD)
-    } else {
-        Ok(DIFFERS)
-    }
+    let seats = seats_of(agree(closed));
+    let audit = audit_of(closed.audit(receipts).is_ok());
+    write_both(alloc, writer, seats, audit)?;
+    Ok(status_of(seats, audit))
 }

@@ -5,6 +5,8 @@
 #[cfg(test)]
 mod of_calls;
 #[cfg(test)]
+mod of_soak;
+#[cfg(test)]
 mod of_workers;
 #[cfg(test)]
 mod sets;

@@ -1,0 +1,196 @@
+//! The command `soak`, and the program's own sets at work in a pool.
+use actor_book::{Book, Limits, Refusal, Standing};
+use mtp2_text::{monitors, standard};
+use pool_soak::soak;
+use std::alloc::Global;
+use std::sync::Wait;
+use std::sync::ledger::Ledger;
+use std::test::Fail;
+use std::thread;
+use turn_check::Verified;
+use turn_code::{Place, ProcessNumber, SignalNumber, Value};
+use turn_pool::{Client, Gate, JobName, Pool, Seat, serve};
+
+/// A script, a number of workers, the exit status, and what is printed.
+struct Row {
+    script: &'static [u8],
+    workers: usize,
+    status: u8,
+    printed: &'static [u8],
+}
+
+/// A script that is refused for one of its lines.
+const fn refused(script: &'static [u8], printed: &'static [u8]) -> Row {
+    Row {
+        script,
+        workers: 2,
+        status: 2,
+        printed,
+    }
+}
+
+/// A script that runs.
+const fn agrees(script: &'static [u8], workers: usize) -> Row {
+    Row {
+        script,
+        workers,
+        status: 0,
+        printed: b"seats agree\naudit yes\n",
+    }
+}
+
+/// A script that can't be run by so many workers.
+const fn failed(workers: usize) -> Row {
+    Row {
+        script: b"links 1\n",
+        workers,
+        status: 4,
+        printed: b"",
+    }
+}
+
+const ROWS: [Row; 14] = [
+    agrees(b"links 2\noffer LSC PowerOn\non 1\noffer LSC PowerOn\n", 2),
+    agrees(
+        b"# one link\n\nlinks 3\nlinks 1\noffer lsc poweron\ntick 60000\noffer LSC StartLink",
+        16,
+    ),
+    agrees(
+        b"links 1\non 5\noffer LSC PowerOn\ntick 5\non 0\noffer Nobody PowerOn\noffer LSC Nothing\ntick 65536\n",
+        1,
+    ),
+    agrees(
+        b"links 16\noffer AERM Errored 1 2 3 4 5\non 15\noffer TXC AckSeen true\n",
+        4,
+    ),
+    refused(b"", b"refused X1 BadLine line 1\n"),
+    refused(b"# nothing\n\n", b"refused X1 BadLine line 1\n"),
+    refused(
+        b"\n\noffer LSC PowerOn\nlinks 1\n",
+        b"refused X1 BadLine line 3\n",
+    ),
+    refused(b"links 17\n", b"refused X1 BadLine line 1\n"),
+    refused(b"links 0\n", b"refused X1 BadLine line 1\n"),
+    refused(
+        b"links 1\ntick 1\nlinks 2\n",
+        b"refused X1 BadLine line 3\n",
+    ),
+    refused(
+        b"links 1\ntick 1\nbegin LSC\n",
+        b"refused X1 BadLine line 3\n",
+    ),
+    refused(b"links 1\n\xFF\n", b"refused F1 NotText\n"),
+    failed(0),
+    failed(17),
+];
+
+#[test]
+fn soak_prints_what_it_finds(rt: HostRuntime) -> Result<(), Fail> {
+    for row in &ROWS {
+        let mut printed = Vec::new(rt.alloc());
+        let status = soak(&rt, rt.alloc(), row.script, row.workers, &mut printed);
+        assert_eq!(rt; status, row.status);
+        assert!(rt; printed.as_slice() == row.printed);
+    }
+    Ok(())
+}
+
+/// How often the client asks.
+const ASKS: u32 = 100_000_000;
+
+/// A gate that holds nobody.
+#[derive(Drop)]
+struct Open;
+
+impl Gate for Open {
+    fn enter(&self, _name: JobName) {}
+
+    fn leave(&self, _name: JobName) {}
+}
+
+/// A client that turns a terminal on, and waits until it says what goes out on its line.
+#[derive(Drop)]
+struct TurnsOn {
+    actor: u16,
+    power_on: SignalNumber,
+    line: SignalNumber,
+    sender: u16,
+    has_offered: bool,
+    has_met: bool,
+}
+
+impl Client for TurnsOn {
+    fn drive<R: Wait, L: Ledger>(&mut self, pool: &Pool<'_, R, L>, seat: &mut Seat<L>) {
+        self.has_offered = pool.offer(0, self.actor, self.power_on, &[], seat).is_ok();
+        for _ in 0..ASKS {
+            if let Ok((emitted, _)) = pool.take_env(0, seat) {
+                if emitted.sender == self.sender && emitted.signal == self.line {
+                    self.has_met = emitted.parameters.as_slice() == [Value::Int(3)];
+                    break;
+                }
+            }
+            thread::yield_now();
+        }
+    }
+}
+
+/// The actor of a process.
+fn actor(set: &Verified, name: &str) -> Result<u16, Fail> {
+    Ok(u16::from(set.process_of(name).ok_or("it has the process")?.0))
+}
+
+/// A client for these names of a set.
+fn turns_on(set: &Verified) -> Result<TurnsOn, Fail> {
+    Ok(TurnsOn {
+        actor: actor(set, "LSC")?,
+        power_on: set.signal_of("PowerOn").ok_or("it has the signal")?,
+        line: set.signal_of("Line").ok_or("it has the signal")?,
+        sender: actor(set, "TXC")?,
+        has_offered: false,
+        has_met: false,
+    })
+}
+
+/// A book of a set.
+fn book(alloc: Global, set: &Verified) -> Result<Book, Fail> {
+    let limits = Limits::new(16, 64, 4096).ok_or("they fit")?;
+    Ok(Book::open(alloc, set, limits)?)
+}
+
+/// Whether an actor of a book is in a state of this name.
+fn is_in(book: &Book, actor: u16, name: &[u8]) -> bool {
+    match book.state_of(actor) {
+        Some(Standing::At(Place::State(state))) => {
+            match book.set().state_name(ProcessNumber(actor as u8), state) {
+                Some(found) => found.as_bytes() == name,
+                None => false,
+            }
+        }
+        _ => false,
+    }
+}
+
+#[test]
+fn soak_line(rt: HostRuntime) -> Result<(), Fail> {
+    let (Ok(standard), Ok(monitors)) = (standard(rt.alloc()), monitors(rt.alloc())) else {
+        return Err(Fail::new("the program's own texts are accepted"));
+    };
+    let mut books = Vec::new(rt.alloc());
+    books.push(book(rt.alloc(), &standard)?)?;
+    books.push(book(rt.alloc(), &monitors)?)?;
+    let mut client = turns_on(&standard)?;
+    let Ok(mut closed) = serve(&rt, rt.alloc(), books, 2, &Open, &mut client) else {
+        return Err(Fail::new("nobody was served"));
+    };
+    assert!(rt; client.has_offered);
+    assert!(rt;
+        client.has_met,
+        "the line of a terminal that was turned on is out of service"
+    );
+    let [first, second] = closed.books.as_mut_slice() else {
+        return Err(Fail::new("there are two books"));
+    };
+    assert!(rt; is_in(first, client.actor, b"OutOfService"));
+    assert!(rt; second.offer(2, client.power_on, &[]) == Err(Refusal::NoActor));
+    Ok(())
+}
