@@ -11,86 +11,69 @@ use turn_check::Verified;
 use turn_code::{Place, ProcessNumber, SignalNumber, Value};
 use turn_pool::{Client, Gate, JobName, Pool, Seat, serve};
 
+/// What is printed where all agrees.
+const AGREES: &[u8] = b"seats agree\naudit yes\n";
+
 /// A script, a number of workers, the exit status, and what is printed.
-struct Row {
-    script: &'static [u8],
-    workers: usize,
-    status: u8,
-    printed: &'static [u8],
-}
-
-/// A script that is refused for one of its lines.
-const fn refused(script: &'static [u8], printed: &'static [u8]) -> Row {
-    Row {
-        script,
-        workers: 2,
-        status: 2,
-        printed,
-    }
-}
-
-/// A script that runs.
-const fn agrees(script: &'static [u8], workers: usize) -> Row {
-    Row {
-        script,
-        workers,
-        status: 0,
-        printed: b"seats agree\naudit yes\n",
-    }
-}
-
-/// A script that can't be run by so many workers.
-const fn failed(workers: usize) -> Row {
-    Row {
-        script: b"links 1\n",
-        workers,
-        status: 4,
-        printed: b"",
-    }
-}
-
-const ROWS: [Row; 14] = [
-    agrees(b"links 2\noffer LSC PowerOn\non 1\noffer LSC PowerOn\n", 2),
-    agrees(
+const ROWS: [(&[u8], usize, u8, &[u8]); 14] = [
+    (
+        b"links 2\noffer LSC PowerOn\non 1\noffer LSC PowerOn\n",
+        2,
+        0,
+        AGREES,
+    ),
+    (
         b"# one link\n\nlinks 3\nlinks 1\noffer lsc poweron\ntick 60000\noffer LSC StartLink",
         16,
+        0,
+        AGREES,
     ),
-    agrees(
+    (
         b"links 1\non 5\noffer LSC PowerOn\ntick 5\non 0\noffer Nobody PowerOn\noffer LSC Nothing\ntick 65536\n",
         1,
+        0,
+        AGREES,
     ),
-    agrees(
+    (
         b"links 16\noffer AERM Errored 1 2 3 4 5\non 15\noffer TXC AckSeen true\n",
         4,
+        0,
+        AGREES,
     ),
-    refused(b"", b"refused X1 BadLine line 1\n"),
-    refused(b"# nothing\n\n", b"refused X1 BadLine line 1\n"),
-    refused(
+    (b"", 2, 2, b"refused X1 BadLine line 1\n"),
+    (b"# nothing\n\n", 2, 2, b"refused X1 BadLine line 1\n"),
+    (
         b"\n\noffer LSC PowerOn\nlinks 1\n",
+        2,
+        2,
         b"refused X1 BadLine line 3\n",
     ),
-    refused(b"links 17\n", b"refused X1 BadLine line 1\n"),
-    refused(b"links 0\n", b"refused X1 BadLine line 1\n"),
-    refused(
+    (b"links 17\n", 2, 2, b"refused X1 BadLine line 1\n"),
+    (b"links 0\n", 2, 2, b"refused X1 BadLine line 1\n"),
+    (
         b"links 1\ntick 1\nlinks 2\n",
+        2,
+        2,
         b"refused X1 BadLine line 3\n",
     ),
-    refused(
+    (
         b"links 1\ntick 1\nbegin LSC\n",
+        2,
+        2,
         b"refused X1 BadLine line 3\n",
     ),
-    refused(b"links 1\n\xFF\n", b"refused F1 NotText\n"),
-    failed(0),
-    failed(17),
+    (b"links 1\n\xFF\n", 2, 2, b"refused F1 NotText\n"),
+    (b"links 1\n", 0, 4, b""),
+    (b"links 1\n", 17, 4, b""),
 ];
 
 #[test]
 fn soak_prints_what_it_finds(rt: HostRuntime) -> Result<(), Fail> {
-    for row in &ROWS {
-        let mut printed = Vec::new(rt.alloc());
-        let status = soak(&rt, rt.alloc(), row.script, row.workers, &mut printed);
-        assert_eq!(rt; status, row.status);
-        assert!(rt; printed.as_slice() == row.printed);
+    for (script, workers, status, printed) in ROWS {
+        let mut paper = Vec::new(rt.alloc());
+        let answer = soak(&rt, rt.alloc(), script, workers, &mut paper);
+        assert_eq!(rt; answer, status);
+        assert!(rt; paper.as_slice() == printed);
     }
     Ok(())
 }
@@ -125,7 +108,7 @@ impl Client for TurnsOn {
         for _ in 0..ASKS {
             if let Ok((emitted, _)) = pool.take_env(0, seat) {
                 if emitted.sender == self.sender && emitted.signal == self.line {
-                    self.has_met = emitted.parameters.as_slice() == [Value::Int(3)];
+                    self.has_met = emitted.parameters.as_slice() == [Value::Int(3)].as_slice();
                     break;
                 }
             }
