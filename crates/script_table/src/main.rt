@@ -1,5 +1,6 @@
 //! `script_table`: plays many scripts, one after another. In standard input a line `== NAME` stands before each entry: the text of a set,
-//! a line `--`, and a script. For each the name is printed, what `play` prints, a line `exit N` with its status, and an empty line.
+//! a line `--`, and a script. Where the line `--` comes first the set is that of the entry before. For each the name is printed, what
+//! `play` prints, a line `exit N` with its status, and an empty line.
 #![tactic(auto)]
 
 use book_play::play;
@@ -8,12 +9,24 @@ use std::rt::Runtime;
 use std::str;
 use text_check::{FAILED, SetWord};
 
-/// Plays one entry.
-fn play_entry<R: Runtime + AllocGlobal>(rt: &R, entry: &str) -> io::Result<()> {
+/// The text of an entry's set and its script; the text is that of the entry before where it has none of its own.
+fn parts<'a>(rest: &'a str, before: &'a str) -> Option<(&'a str, &'a str)> {
+    match rest.strip_prefix("--\n") {
+        Some(script) => Some((before, script)),
+        None => rest.split_once("\n--\n"),
+    }
+}
+
+/// Plays one entry. Gives the text of its set.
+fn play_entry<'a, R: Runtime + AllocGlobal>(
+    rt: &R,
+    entry: &'a str,
+    before: &'a str,
+) -> io::Result<&'a str> {
     let Some((name, rest)) = entry.split_once('\n') else {
-        return Ok(());
+        return Ok(before);
     };
-    let Some((text, script)) = rest.split_once("\n--\n") else {
+    let Some((text, script)) = parts(rest, before) else {
         return Err(io::Error::from(ErrorKind::InvalidData));
     };
     println!(rt; "{name}")?;
@@ -27,7 +40,8 @@ fn play_entry<R: Runtime + AllocGlobal>(rt: &R, entry: &str) -> io::Result<()> {
         return Err(io::Error::from(ErrorKind::Other));
     }
     println!(rt; "exit {status}")?;
-    println!(rt; "")
+    println!(rt; "")?;
+    Ok(text)
 }
 
 fn main(rt: HostRuntime) -> io::Result<()> {
@@ -36,8 +50,9 @@ fn main(rt: HostRuntime) -> io::Result<()> {
     let Ok(table) = str::from_utf8(&bytes) else {
         return Err(io::Error::from(ErrorKind::InvalidData));
     };
+    let mut text = "";
     for entry in table.split("\n== ") {
-        play_entry(&rt, entry)?;
+        text = play_entry(&rt, entry, text)?;
     }
     Ok(())
 }
