@@ -1,0 +1,57 @@
+-- What a loop over lines has read, and what texts read as.
+use Rattle.std.proofs.Common.{◌≡◌, ℕ, ◌+◌, ◌<◌, ◌≤◌, List, ◌∷◌, map, length, drop, get_or, Option, None, Some, Ok, Err, refl, sym, ap, ◌∙◌}
+use Rattle.std.proofs.lemmas.List.{drop_more}
+use Rattle.std.proofs.lemmas.Bool.{lt-ltb, le-ltb}
+use Rattle.text_reader.specs.declared.reading.TheConstants.{MOST_BYTES}
+use Rattle.script_lines.specs.declared.lines.Line.{Line}
+use Rattle.script_lines.specs.declared.script.ScriptFault.{ScriptFault}
+use Rattle.script_lines.specs.declared.script.ScriptFault.TheVariants.{BadLine, NoMemory}
+use Rattle.script_lines.specs.Lines.{PlainLine, texts, plain_line, lines_of, line_at}
+use Rattle.pool_soak.specs.Scripts.{PlainSoak, empty, added, read, soak_of, IsFaultOf, IsBadAt}
+
+-- ---- one line more
+
+read_on : (s t : PlainSoak) (line : Line) (more : List Line) → added s (texts line.words.items) ≡ Some t
+    → read s (map plain_line (line ∷ more)) ≡ read t (map plain_line more)
+read_on s t line more is = rw is refl
+
+read_off : (s : PlainSoak) (line : Line) (more : List Line) → added s (texts line.words.items) ≡ None
+    → read s (map plain_line (line ∷ more)) ≡ Err line.number
+read_off s line more none = rw none refl
+
+at_line : (lines : List Line) (i : ℕ) (line : Line) → i < length lines → line ≡ get_or lines i line → drop i lines ≡ line ∷ drop (i + 1) lines
+at_line lines i line within is = drop_more lines i line within ∙ ap (λ l. l ∷ drop (i + 1) lines) (sym is)
+
+pub reads_on : (s t : PlainSoak) (lines : List Line) (i : ℕ) (line : Line) → i < length lines → line ≡ get_or lines i line → added s (texts line.words.items) ≡ Some t
+    → read s (map plain_line (drop i lines)) ≡ read t (map plain_line (drop (i + 1) lines))
+reads_on s t lines i line within is adds =
+    ap (λ ls. read s (map plain_line ls)) (at_line lines i line within is) ∙ read_on s t line (drop (i + 1) lines) adds
+
+pub reads_off : (s : PlainSoak) (lines : List Line) (i : ℕ) (line : Line) → i < length lines → line ≡ get_or lines i line → added s (texts line.words.items) ≡ None
+    → read s (map plain_line (drop i lines)) ≡ Err line.number
+reads_off s lines i line within is none =
+    ap (λ ls. read s (map plain_line ls)) (at_line lines i line within is) ∙ read_off s line (drop (i + 1) lines) none
+
+-- ---- texts
+
+pub long : (text : List ℕ) → MOST_BYTES < length text → soak_of text ≡ Err (line_at text MOST_BYTES)
+unfolding soak_of
+long text more = rw (lt-ltb MOST_BYTES (length text) more) refl
+
+pub good : (text : List ℕ) (lines : List PlainLine) (s : PlainSoak) (n : ℕ) → length text ≤ MOST_BYTES → lines ≡ lines_of text → read empty lines ≡ Ok s
+    → s.links ≡ Some n → soak_of text ≡ Ok s
+unfolding soak_of
+good text lines s n short are reads some = rw (le-ltb MOST_BYTES (length text) short, ← are, reads, some) refl
+
+pub unknown : (text : List ℕ) (lines : List PlainLine) (s : PlainSoak) → length text ≤ MOST_BYTES → lines ≡ lines_of text → read empty lines ≡ Ok s
+    → s.links ≡ None → soak_of text ≡ Err 1
+unfolding soak_of
+unknown text lines s short are reads none = rw (le-ltb MOST_BYTES (length text) short, ← are, reads, none) refl
+
+pub bad : (text : List ℕ) (lines : List PlainLine) (n : ℕ) → length text ≤ MOST_BYTES → lines ≡ lines_of text → read empty lines ≡ Err n → soak_of text ≡ Err n
+unfolding soak_of
+bad text lines n short are reads = rw (le-ltb MOST_BYTES (length text) short, ← are, reads) refl
+
+pub fault : (text : List ℕ) (lines : List PlainLine) (f : ScriptFault) → length text ≤ MOST_BYTES → lines ≡ lines_of text → IsBadAt empty lines f → IsFaultOf text f
+fault text lines (BadLine n) short are reads = bad text lines n short are reads
+fault text lines NoMemory short are reads = tt

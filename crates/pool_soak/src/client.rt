@@ -1,0 +1,79 @@
+//! The client that does what a script says.
+
+use crate::script::Step;
+use script_lines::Offer;
+use std::sync::Wait;
+use std::sync::ledger::Ledger;
+use turn_check::Verified;
+use turn_pool::{Client, Gate, JobName, Pool, Receipt, Seat};
+
+/// A gate that looks at nobody.
+#[derive(Drop)]
+pub struct Open;
+
+impl Gate for Open {
+    fn enter(&self, _name: JobName) {}
+
+    fn leave(&self, _name: JobName) {}
+}
+
+/// A script with the set that its names are of, and the receipts for what was accepted.
+#[derive(Drop)]
+pub struct Script<'a> {
+    pub set: &'a Verified,
+    pub steps: &'a [Step<'a>],
+    pub receipts: Vec<Receipt>,
+}
+
+impl Script<'_> {
+    /// Keeps a receipt. There is room for one of each step.
+    fn keep(&mut self, receipt: Receipt) {
+        let _kept = self.receipts.push(receipt);
+    }
+
+    /// The environment offers a signal on a link. Where a name is unknown, or the pool refuses it, there is no receipt.
+    fn offer<R: Wait, L: Ledger>(
+        &mut self,
+        pool: &Pool<'_, R, L>,
+        seat: &mut Seat<L>,
+        link: usize,
+        offer: &Offer<'_>,
+    ) {
+        let Some(process) = self.set.process_of(offer.process) else {
+            return;
+        };
+        let Some(signal) = self.set.signal_of(offer.signal) else {
+            return;
+        };
+        let actor = u16::from(process.0);
+        if let Ok(receipt) = pool.offer(link, actor, signal, &offer.values, seat) {
+            self.keep(receipt);
+        }
+    }
+
+    /// Time passes on a link.
+    fn tick<R: Wait, L: Ledger>(
+        &mut self,
+        pool: &Pool<'_, R, L>,
+        seat: &mut Seat<L>,
+        link: usize,
+        ticks: u32,
+    ) {
+        if let Ok((_, receipt)) = pool.advance(link, u64::from(ticks), seat) {
+            self.keep(receipt);
+        }
+    }
+}
+
+impl Client for Script<'_> {
+    fn drive<R: Wait, L: Ledger>(&mut self, pool: &Pool<'_, R, L>, seat: &mut Seat<L>) {
+        let mut link = 0;
+        for step in self.steps {
+            match step {
+                Step::On(number) => link = *number as usize,
+                Step::Offer(offer) => self.offer(pool, seat, link, offer),
+                Step::Tick(ticks) => self.tick(pool, seat, link, *ticks),
+            }
+        }
+    }
+}

@@ -1,0 +1,110 @@
+//! What is found once all is over.
+
+ghost use Rattle.std.specs.Prelude.{◌≡◌, ◌⊎◌, ◌↔◌, ◌+◌, IsTrue, IfSome, sum, sum_by};
+ghost use Rattle.link_machine.specs.Ledger.{next};
+ghost use Rattle.pool_soak.specs.declared.findings.Finding.TheVariants.{SeatsAgree, AuditYes};
+
+use actor_book::Book;
+use std::fmt;
+use text_check::HELD;
+use turn_pool::Closed;
+
+/// The exit status where seats or receipts aren't what the journals say.
+pub const DIFFERS: u8 = 1;
+
+/// What is printed at the end.
+#[derive(Clone, Copy, PartialEq, Eq, Debug)]
+pub enum Finding {
+    /// The seats have together what the journals have.
+    SeatsAgree,
+    /// They don't.
+    SeatsDiffer,
+    /// What each receipt names stands at its place.
+    AuditYes,
+    /// It doesn't.
+    AuditNo,
+}
+
+impl fmt::Display for Finding {
+    ghost use Rattle.std.specs.Prelude.{Some};
+    ghost use Rattle.pool_soak.specs.Findings.{finding_text};
+
+    ghost output = { λ f. Some (finding_text f) };
+
+    fn fmt<W: fmt::Write>(&self, f: &mut fmt::Formatter<W>) -> fmt::Result {
+        f.write_str(match self {
+            Self::SeatsAgree => "seats agree",
+            Self::SeatsDiffer => "seats differ",
+            Self::AuditYes => "audit yes",
+            Self::AuditNo => "audit no",
+        })
+    }
+}
+
+/// What all seats have, as far as a number holds it.
+fn counted(client: u64, workers: &[u64]) -> Option<u64>
+    ensures { IfSome result (λ n. n ≡ client + sum workers.now) }
+{
+    let mut all = client;
+    for worker in workers {
+        all = all.checked_add(*worker)?;
+    }
+    Some(all)
+}
+
+/// The next places of all journals, as far as a number holds them.
+fn places(books: &[Book]) -> Option<u64>
+    ensures { IfSome result (λ n. n ≡ sum_by next books.now) }
+{
+    let mut all = 0u64;
+    for book in books {
+        all = all.checked_add(book.next())?;
+    }
+    Some(all)
+}
+
+/// Whether the seats have together what the journals have, of books whose journals began at place 0.
+pub fn agree(closed: &Closed) -> bool
+    ensures { IsTrue result → closed.now.client + sum closed.now.workers.items ≡ sum_by next closed.now.books.items }
+{
+    match (
+        counted(closed.client, &closed.workers),
+        places(&closed.books),
+    ) {
+        (Some(seats), Some(places)) => seats == places,
+        _ => false,
+    }
+}
+
+/// What is printed of the seats.
+pub fn seats_of(agree: bool) -> Finding
+    ensures { result ≡ SeatsAgree ↔ IsTrue agree }
+{
+    if agree {
+        Finding::SeatsAgree
+    } else {
+        Finding::SeatsDiffer
+    }
+}
+
+/// What is printed of the receipts.
+pub fn audit_of(stand: bool) -> Finding
+    ensures { result ≡ AuditYes ↔ IsTrue stand }
+{
+    if stand {
+        Finding::AuditYes
+    } else {
+        Finding::AuditNo
+    }
+}
+
+/// The exit status.
+pub fn status_of(seats: Finding, audit: Finding) -> u8
+    ensures held { result ≡ 0 → (seats ≡ SeatsAgree) × (audit ≡ AuditYes) }
+    ensures status { (result ≡ 0) ⊎ (result ≡ 1) }
+{
+    match (seats, audit) {
+        (Finding::SeatsAgree, Finding::AuditYes) => HELD,
+        _ => DIFFERS,
+    }
+}

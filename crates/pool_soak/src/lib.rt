@@ -1,0 +1,10 @@
+//! The command `soak`: links worked on by threads while a script's signals come to them, with what was counted held against what happened.
+#![tactic(auto)]
+
+mod client;
+mod findings;
+mod script;
+mod soaking;
+
+pub use script::{Soak, Step, soak_script};
+pub use soaking::soak;

@@ -1,0 +1,79 @@
+//! What a pool leaves, and receipts held against its journals.
+
+ghost use Rattle.std.specs.Prelude.{◌≡◌, ◌↔◌, IsTrue, Some, IfErr, OnOk, slice_get};
+ghost use Rattle.link_machine.specs.Ledger.{event_at};
+ghost use Rattle.turn_pool.specs.Receipts.{StandsIn, AllStand, FailsAt};
+
+use crate::receipt::Receipt;
+use actor_book::{Book, Event};
+use thiserror::Error;
+
+/// What a pool leaves.
+#[derive(Drop)]
+pub struct Closed {
+    /// The books of the links, in order.
+    pub books: Vec<Book>,
+    /// How many events of their journals the client made.
+    pub client: u64,
+    /// How many each worker made.
+    pub workers: Vec<u64>,
+}
+
+/// A receipt whose event doesn't stand at its place.
+#[derive(Clone, Copy, PartialEq, Eq, Debug, Error)]
+#[error("G3 Mismatch {position}")]
+pub struct Mismatch {
+    /// Its position in the list, from 0.
+    pub position: usize,
+}
+
+/// Whether an event stands at a place of a book's journal.
+fn has(book: &Book, place: u64, event: &Event) -> bool
+    ensures { IsTrue result ↔ (event_at book.now place ≡ Some event.now) }
+{
+    if place < book.first() {
+        return false;
+    }
+    match book.journal().get((place - book.first()) as usize) {
+        Some(there) => there.same(event),
+        None => false,
+    }
+}
+
+/// Whether the event of a receipt stands at its place.
+fn stands(books: &[Book], receipt: &Receipt) -> bool
+    ensures { IsTrue result ↔ StandsIn books.now receipt.now }
+{
+    match books.get(receipt.link) {
+        Some(book) => has(book, receipt.place, &receipt.event),
+        None => false,
+    }
+}
+
+/// Holds receipts against the journals.
+fn audited(books: &[Book], receipts: &[Receipt]) -> Result<(), Mismatch>
+    ensures ok { OnOk result (AllStand books.now receipts.now) }
+    ensures err { IfErr result (λ e. FailsAt books.now receipts.now e.position) }
+{
+    for position in 0..receipts.len() {
+        if !stands(books, &receipts[position]) {
+            return Err(Mismatch { position });
+        }
+    }
+    Ok(())
+}
+
+impl Closed {
+    /// Holds receipts against the journals.
+    ///
+    /// # Errors
+    ///
+    /// `G3 Mismatch` with the position of a receipt whose event doesn't stand at its place in the journal of its link: an
+    /// event before the base stands nowhere.
+    pub fn audit(&self, receipts: &[Receipt]) -> Result<(), Mismatch>
+        ensures ok { OnOk result (AllStand self.now.books.items receipts.now) }
+        ensures err { IfErr result (λ e. FailsAt self.now.books.items receipts.now e.position) }
+    {
+        audited(self.books.as_slice(), receipts)
+    }
+}

@@ -1,0 +1,27 @@
+//! Workers for the books of links: each event that a worker or a client makes is counted on a seat of its own, and what all
+//! seats have together is what the journals have grown by, over any number of threads.
+#![tactic(auto)]
+
+mod closed;
+mod fault;
+mod gate;
+mod links;
+mod moves;
+mod pool;
+mod receipt;
+mod room;
+mod serving;
+mod shift;
+mod slot;
+mod totals;
+mod worker;
+
+pub use closed::{Closed, Mismatch};
+pub use fault::PoolFault;
+pub use gate::{Client, Gate, JobName};
+pub use moves::{Move, Moved, work};
+pub use pool::Pool;
+pub use receipt::{PoolRefusal, Receipt};
+pub use serving::serve;
+pub use slot::Slot;
+pub use totals::{Seat, Totals};

@@ -1,0 +1,138 @@
+//! Books that threads share.
+
+ghost use Rattle.std.specs.Prelude.{◌≡◌, ◌+◌, ◌↔◌, ◌≤◌, vec_len, Err, IfOk, OnOk, OnErr};
+ghost use Rattle.link_machine.specs.declared.event.Event.TheVariants.{Offer as Offered, Advance, TakeEnv};
+ghost use Rattle.turn_pool.specs.declared.receipt.PoolRefusal.TheVariants.{NoLink};
+
+use crate::receipt::{PoolRefusal, Receipt};
+use crate::slot::Slot;
+use crate::totals::{Seat, Totals};
+use actor_book::Emitted;
+use std::sync::atomic::{AtomicBool, Ordering};
+use std::sync::ledger::Ledger;
+use std::sync::{Mutex, Wait};
+use turn_code::{SignalNumber, Value};
+
+/// The books of links, each under a lock of its own. The account's lock is taken inside these.
+#[derive(Drop)]
+pub struct Pool<'r, R: Wait, L: Ledger> {
+    pub(crate) rt: &'r R,
+    pub(crate) links: Vec<Mutex<Slot<L>>>,
+    pub(crate) totals: Mutex<Totals<L>>,
+    pub(crate) closing: AtomicBool,
+}
+
+impl<'r, R: Wait, L: Ledger> Pool<'r, R, L> {
+    /// From now on clients are refused, and workers come to an end.
+    pub fn close(&self) {
+        self.closing.store(true, Ordering::SeqCst);
+    }
+
+    /// Whether the pool is closing.
+    pub(crate) fn is_closing(&self) -> bool {
+        self.closing.load(Ordering::SeqCst)
+    }
+
+    /// The lock of a link, while the pool is open.
+    fn open_link(&self, link: usize) -> Result<&Mutex<Slot<L>>, PoolRefusal>
+        ensures { (result ≡ Err NoLink) ↔ (vec_len self.now.links ≤ link) }
+    {
+        match self.links.get(link) {
+            None => Err(PoolRefusal::NoLink),
+            Some(_) if self.is_closing() => Err(PoolRefusal::Closing),
+            Some(slot) => Ok(slot),
+        }
+    }
+
+    /// A signal of the environment comes to an actor of a link, as by [`actor_book::Book::offer`]. It is counted on the seat.
+    ///
+    /// # Errors
+    ///
+    /// In this order: `B10 NoActor` for a link that isn't there, `G2 Closing`, those of the book. Then nothing changes.
+    pub fn offer(
+        &self,
+        link: usize,
+        actor: u16,
+        signal: SignalNumber,
+        values: &[Value],
+        seat: &mut Seat<L>,
+    ) -> Result<Receipt, PoolRefusal>
+        ensures counted { OnOk result (seat.new ≡ seat.old + 1) }
+        ensures err { OnErr result (seat.new ≡ seat.old) }
+        ensures no_link { (result ≡ Err NoLink) ↔ (vec_len self.now.links ≤ link) }
+        ensures event { IfOk result (λ r. r.event ≡ Offered (record { actor = actor; signal = signal; values = record { items = values.now } })) }
+    {
+        let mut slot = self.open_link(link)?.lock(self.rt);
+        let mut totals = self.totals.lock(self.rt);
+        match slot.offer(seat, &mut totals, actor, signal, values) {
+            Ok(receipt) => Ok(receipt),
+            Err(refusal) => Err(PoolRefusal::Refused(refusal)),
+        }
+    }
+
+    /// So many ticks pass on a link, as by [`actor_book::Book::advance`]. How many timers were due. It is counted on the seat.
+    ///
+    /// # Errors
+    ///
+    /// In this order: `B10 NoActor` for a link that isn't there, `G2 Closing`, those of the book. Then nothing changes.
+    pub fn advance(
+        &self,
+        link: usize,
+        ticks: u64,
+        seat: &mut Seat<L>,
+    ) -> Result<(usize, Receipt), PoolRefusal>
+        ensures counted { OnOk result (seat.new ≡ seat.old + 1) }
+        ensures err { OnErr result (seat.new ≡ seat.old) }
+        ensures no_link { (result ≡ Err NoLink) ↔ (vec_len self.now.links ≤ link) }
+        ensures event { IfOk result (λ r. r.1.event ≡ Advance ticks) }
+    {
+        let mut slot = self.open_link(link)?.lock(self.rt);
+        let mut totals = self.totals.lock(self.rt);
+        match slot.advance(seat, &mut totals, ticks) {
+            Ok(passed) => Ok(passed),
+            Err(refusal) => Err(PoolRefusal::Refused(refusal)),
+        }
+    }
+
+    /// The environment takes what has waited longest for it on a link, as by [`actor_book::Book::take_env`]. It is counted on
+    /// the seat.
+    ///
+    /// # Errors
+    ///
+    /// In this order: `B10 NoActor` for a link that isn't there, `G2 Closing`, those of the book. Then nothing changes.
+    pub fn take_env(
+        &self,
+        link: usize,
+        seat: &mut Seat<L>,
+    ) -> Result<(Emitted, Receipt), PoolRefusal>
+        ensures counted { OnOk result (seat.new ≡ seat.old + 1) }
+        ensures err { OnErr result (seat.new ≡ seat.old) }
+        ensures no_link { (result ≡ Err NoLink) ↔ (vec_len self.now.links ≤ link) }
+        ensures event { IfOk result (λ r. r.1.event ≡ TakeEnv) }
+    {
+        let mut slot = self.open_link(link)?.lock(self.rt);
+        let mut totals = self.totals.lock(self.rt);
+        match slot.take_env(seat, &mut totals) {
+            Ok(taken) => Ok(taken),
+            Err(refusal) => Err(PoolRefusal::Refused(refusal)),
+        }
+    }
+
+    /// Makes the present state of a link its base, as [`actor_book::Book::rebase`] does. The place of its journal's next event. It is
+    /// no event, and counted nowhere.
+    ///
+    /// # Errors
+    ///
+    /// In this order: `B10 NoActor` for a link that isn't there, `G2 Closing`, `NoMemory`. Then nothing changes.
+    pub fn rebase(&self, link: usize, seat: &mut Seat<L>) -> Result<u64, PoolRefusal>
+        ensures same { seat.new ≡ seat.old }
+        ensures no_link { (result ≡ Err NoLink) ↔ (vec_len self.now.links ≤ link) }
+    {
+        let _seat = seat;
+        let mut slot = self.open_link(link)?.lock(self.rt);
+        match slot.rebase() {
+            Ok(place) => Ok(place),
+            Err(_) => Err(PoolRefusal::NoMemory),
+        }
+    }
+}

@@ -1,0 +1,37 @@
+//! Room for all that a pool holds, made before anything else.
+
+ghost use Rattle.std.specs.Prelude.{◌≡◌, ◌≤◌, ◌<◌, ◌+◌, [], IfOk, vec_len, vec_capacity};
+
+use crate::slot::Slot;
+use crate::totals::Seat;
+use actor_book::Book;
+use std::alloc::{AllocError, Global};
+use std::sync::Mutex;
+use std::sync::ledger::Ledger;
+use std::thread::JoinHandle;
+
+/// Room for the books under their locks and for the same books afterwards, for the workers and for what is counted on their seats.
+#[derive(Drop)]
+pub(crate) struct Room<L: Ledger> {
+    pub(crate) slots: Vec<Mutex<Slot<L>>>,
+    pub(crate) books: Vec<Book>,
+    pub(crate) handles: Vec<JoinHandle<Seat<L>>>,
+    pub(crate) workers: Vec<u64>,
+}
+
+impl<L: Ledger> Room<L> {
+    /// Makes the room.
+    pub(crate) fn make(alloc: Global, links: usize, workers: usize) -> Result<Room<L>, AllocError>
+        ensures slots { IfOk result (λ r. (vec_len r.slots ≡ 0) × (vec_capacity r.slots ≡ links)) }
+        ensures books { IfOk result (λ r. (r.books.items ≡ []) × (vec_capacity r.books ≡ links)) }
+        ensures handles { IfOk result (λ r. (vec_len r.handles ≡ 0) × (vec_capacity r.handles ≡ workers)) }
+        ensures workers { IfOk result (λ r. (r.workers.items ≡ []) × (vec_capacity r.workers ≡ workers)) }
+    {
+        Ok(Room {
+            slots: Vec::with_capacity(alloc, links)?,
+            books: Vec::with_capacity(alloc, links)?,
+            handles: Vec::with_capacity(alloc, workers)?,
+            workers: Vec::with_capacity(alloc, workers)?,
+        })
+    }
+}

@@ -1,0 +1,120 @@
+//! Serving: threads work on the books of links while a client uses them.
+
+ghost use Rattle.std.specs.Prelude.{◌≡◌, ◌+◌, All, Err, IsOk, IfOk, IfErr, sum, sum_by, vec_len};
+ghost use Rattle.link_machine.specs.Ledger.{next};
+ghost use Rattle.turn_pool.specs.Serves.{AreServed, CountsFinishes, HandsBack};
+ghost use Rattle.turn_pool.specs.declared.fault.PoolFault.TheVariants.{NoWorkers};
+
+use crate::closed::Closed;
+use crate::fault::PoolFault;
+use crate::gate::{Client, Gate};
+use crate::links::{put_all_away, take_all_out};
+use crate::pool::Pool;
+use crate::room::Room;
+use crate::shift::{Ended, Shift, drive};
+use crate::totals::Totals;
+use actor_book::Book;
+use std::alloc::Global;
+use std::marker::Brand;
+use std::sync::atomic::AtomicBool;
+use std::sync::ledger::{Blank, Ledger};
+use std::sync::{Mutex, Wait};
+use std::thread::Threads;
+
+/// The most links, and the most workers, that a pool has.
+const MOST: usize = 16;
+
+/// Serves under an account of its own, of which each link, each worker, the client and this function have a part.
+fn serve_by<R: Threads + Wait + Sync, L: Ledger + Send + Sync, G: Gate + Sync, C: Client>(
+    rt: &R,
+    alloc: Global,
+    blank: Blank,
+    links: Vec<Book>,
+    workers: usize,
+    gate: &G,
+    client: &mut C,
+) -> Result<Closed, PoolFault>
+    requires name { blank.name ≡ L.name }
+    requires parts { blank.parts ≡ L.parts }
+    requires many { blank.parts ≡ vec_len links + workers + 2 }
+    requires served { AreServed (vec_len links) workers }
+    ensures totals { IfOk result (λ c. c.client + sum c.workers.items + sum_by next links.items ≡ sum_by next c.books.items) }
+    ensures books { IfOk result (λ c. vec_len c.books ≡ vec_len links) }
+    ensures workers { IfOk result (λ c. vec_len c.workers ≡ workers) }
+    ensures finishes { IfOk result (λ c. All CountsFinishes c.books.items) }
+    ensures back { IfErr result (HandsBack links.items workers) }
+{
+    let Ok(room) = Room::make(alloc, links.len(), workers) else {
+        return Err(PoolFault::NoMemory(links));
+    };
+    let Room {
+        slots,
+        books,
+        handles,
+        workers: counts,
+    } = room;
+    let (account, mut rest) = Totals::<L>::open(blank);
+    let pool = Pool {
+        rt,
+        links: put_all_away(links, slots, &mut rest),
+        totals: Mutex::new(account),
+        closing: AtomicBool::new(false),
+    };
+    let shift = Shift {
+        rest,
+        handles,
+        workers: counts,
+    };
+    let Ended {
+        mut rest,
+        workers,
+        client,
+    } = drive(&pool, gate, client, workers, shift);
+    let Pool {
+        rt: _,
+        links,
+        totals,
+        closing: _,
+    } = pool;
+    let books = take_all_out(links, books, &mut rest);
+    totals.into_inner().audit(&mut rest);
+    match client {
+        Some(client) => Ok(Closed {
+            books,
+            client,
+            workers,
+        }),
+        None => Err(PoolFault::NoWorkers(books)),
+    }
+}
+
+/// Serves links: their books are put under locks, workers go round them and take turns, and the client uses them on this
+/// thread. As the client returns the pool closes; turns that workers began are ended, and the workers are joined. What the
+/// seats have together is what the journals have grown by, over any number of threads.
+///
+/// # Errors
+///
+/// `G1 NoWorkers` where there are no workers or more than 16, or more than 16 links; then `NoMemory`, before any thread is
+/// started; then `G1 NoWorkers` again where no thread could be started. The books come back.
+pub fn serve<R: Threads + Wait + Sync, G: Gate + Sync, C: Client>(
+    rt: &R,
+    alloc: Global,
+    links: Vec<Book>,
+    workers: usize,
+    gate: &G,
+    client: &mut C,
+) -> Result<Closed, PoolFault>
+    ensures totals { IfOk result (λ c. c.client + sum c.workers.items + sum_by next links.items ≡ sum_by next c.books.items) }
+    ensures books { IfOk result (λ c. vec_len c.books ≡ vec_len links) }
+    ensures workers { IfOk result (λ c. vec_len c.workers ≡ workers) }
+    ensures finishes { IfOk result (λ c. All CountsFinishes c.books.items) }
+    ensures served { IsOk result → AreServed (vec_len links) workers }
+    ensures numbers { (AreServed (vec_len links) workers → ⊥) → result ≡ Err (NoWorkers links) }
+    ensures back { IfErr result (HandsBack links.items workers) }
+{
+    if workers == 0 || workers > MOST || links.len() > MOST {
+        return Err(PoolFault::NoWorkers(links));
+    }
+    let parts = links.len() as u64 + workers as u64 + 2;
+    serve_by::<R, Brand, G, C>(rt, alloc, Blank::new(parts), links, workers, gate, client)
+}

@@ -1,0 +1,213 @@
+//! Who works: threads are started, a client uses the pool meanwhile, and the threads are joined again.
+
+ghost use Rattle.std.specs.Prelude.{◌≡◌, ◌≤◌, ◌<◌, ◌+◌, [], IfSome, sum, vec_len, vec_capacity};
+
+use crate::gate::{Client, Gate};
+use crate::pool::Pool;
+use crate::totals::Seat;
+use crate::worker::worker;
+use std::sync::Wait;
+use std::sync::atomic::{AtomicUsize, Ordering};
+use std::sync::ledger::{Ledger, Share};
+use std::thread;
+use std::thread::{JoinHandle, Scope, Threads};
+
+/// Workers, what was counted on the seats that came back from them, and the rest of the account.
+#[derive(Drop)]
+pub(crate) struct Shift<L: Ledger> {
+    pub(crate) rest: Share<L>,
+    pub(crate) handles: Vec<JoinHandle<Seat<L>>>,
+    pub(crate) workers: Vec<u64>,
+}
+
+/// What is left of a shift. There is no client where nobody could be started.
+#[derive(Drop)]
+pub(crate) struct Ended<L: Ledger> {
+    pub(crate) rest: Share<L>,
+    pub(crate) workers: Vec<u64>,
+    pub(crate) client: Option<u64>,
+}
+
+/// A seat on which nothing is counted yet.
+fn take_seat<L: Ledger>(rest: &mut Share<L>) -> Seat<L>
+    requires { 1 < rest.old.parts }
+    ensures seat { result ≡ 0 }
+    ensures parts { rest.new.parts + 1 ≡ rest.old.parts }
+    ensures amount { rest.new.amount ≡ rest.old.amount }
+{
+    let share = rest.split_off(1, 0);
+    Seat { events: 0, share }
+}
+
+/// What was counted on a seat. Its share comes back.
+fn leave_seat<L: Ledger>(rest: &mut Share<L>, seat: Seat<L>) -> u64
+    ensures value { result ≡ seat }
+    ensures parts { rest.new.parts ≡ rest.old.parts + 1 }
+    ensures amount { rest.new.amount ≡ rest.old.amount + seat }
+{
+    let Seat { events, share } = seat;
+    rest.merge(share);
+    events
+}
+
+/// What a worker's thread does. One for whom no thread could be made gives its seat back as it is.
+fn begin<R: Wait, L: Ledger, G: Gate>(
+    pool: &Pool<'_, R, L>,
+    gate: &G,
+    barred: &AtomicUsize,
+    number: usize,
+    seat: Seat<L>,
+) -> Seat<L> {
+    if barred.load(Ordering::SeqCst) == number {
+        return seat;
+    }
+    worker(pool, gate, seat)
+}
+
+/// Starts workers. The seat of one for whom no thread can be made comes back.
+fn hire<'s, E, R: Wait + Sync, L: Ledger + Send + Sync, G: Gate + Sync>(
+    scope: &Scope<'s, E>,
+    pool: &'s Pool<'_, R, L>,
+    gate: &'s G,
+    barred: &'s AtomicUsize,
+    number_of_workers: usize,
+    shift: Shift<L>,
+) -> Shift<L>
+    requires parts { number_of_workers < shift.rest.parts }
+    requires none { vec_len shift.handles ≡ 0 }
+    requires empty { shift.workers.items ≡ [] }
+    requires handles { number_of_workers ≤ vec_capacity shift.handles }
+    requires workers { number_of_workers ≤ vec_capacity shift.workers }
+    ensures parts { result.rest.parts + vec_len result.handles ≡ shift.rest.parts }
+    ensures amount { result.rest.amount ≡ shift.rest.amount + sum result.workers.items }
+    ensures len { vec_len result.handles + vec_len result.workers ≡ number_of_workers }
+    ensures capacity { vec_capacity result.workers ≡ vec_capacity shift.workers }
+{
+    let Shift {
+        mut rest,
+        mut handles,
+        mut workers,
+    } = shift;
+    for number in 0..number_of_workers {
+        let seat = take_seat(&mut rest);
+        match scope.spawn(move || begin(pool, gate, barred, number, seat)) {
+            Ok(handle) => handles.push_reserved(handle),
+            Err(refused) => {
+                barred.store(number, Ordering::SeqCst);
+                workers.push_reserved(leave_seat(&mut rest, (refused.value)()));
+            }
+        }
+    }
+    Shift {
+        rest,
+        handles,
+        workers,
+    }
+}
+
+/// Joins the workers. What was counted on each seat is kept.
+fn dismiss<R: Threads, L: Ledger>(
+    rt: &R,
+    handles: Vec<JoinHandle<Seat<L>>>,
+    mut workers: Vec<u64>,
+    rest: &mut Share<L>,
+) -> Vec<u64>
+    requires room { vec_len handles + vec_len workers ≤ vec_capacity workers }
+    ensures parts { rest.new.parts ≡ rest.old.parts + vec_len handles }
+    ensures amount { rest.new.amount + sum workers.items ≡ rest.old.amount + sum result.items }
+    ensures len { vec_len result ≡ vec_len workers + vec_len handles }
+{
+    for handle in handles {
+        let seat = handle.join(rt);
+        workers.push_reserved(leave_seat(rest, seat));
+    }
+    workers
+}
+
+/// Lets the client use the pool, if there is anybody who works there, and then closes it.
+fn attend<R: Wait, L: Ledger, C: Client>(
+    pool: &Pool<'_, R, L>,
+    client: &mut C,
+    working: bool,
+    rest: &mut Share<L>,
+) -> Option<u64>
+    requires { 1 < rest.old.parts }
+    ensures parts { rest.new.parts ≡ rest.old.parts }
+    ensures amount { IfSome result (λ n. rest.new.amount ≡ rest.old.amount + n) }
+{
+    if !working {
+        return None;
+    }
+    let mut seat = take_seat(rest);
+    client.drive(pool, &mut seat);
+    pool.close();
+    Some(leave_seat(rest, seat))
+}
+
+/// A shift: workers are started, the client uses the pool, the pool closes, the workers are joined.
+fn work_shift<'s, E, R: Threads + Wait + Sync, L: Ledger + Send + Sync, G: Gate + Sync, C: Client>(
+    scope: &Scope<'s, E>,
+    pool: &'s Pool<'_, R, L>,
+    gate: &'s G,
+    barred: &'s AtomicUsize,
+    client: &mut C,
+    number_of_workers: usize,
+    shift: Shift<L>,
+) -> Ended<L>
+    requires parts { number_of_workers + 1 < shift.rest.parts }
+    requires none { vec_len shift.handles ≡ 0 }
+    requires empty { shift.workers.items ≡ [] }
+    requires handles { number_of_workers ≤ vec_capacity shift.handles }
+    requires workers { number_of_workers ≤ vec_capacity shift.workers }
+    ensures parts { result.rest.parts ≡ shift.rest.parts }
+    ensures amount { IfSome result.client (λ n. result.rest.amount ≡ shift.rest.amount + n + sum result.workers.items) }
+    ensures len { vec_len result.workers ≡ number_of_workers }
+{
+    let Shift {
+        mut rest,
+        handles,
+        workers,
+    } = hire(scope, pool, gate, barred, number_of_workers, shift);
+    let client = attend(pool, client, !handles.is_empty(), &mut rest);
+    let workers = dismiss(pool.rt, handles, workers, &mut rest);
+    Ended {
+        rest,
+        workers,
+        client,
+    }
+}
+
+/// A shift in threads that are all joined again.
+pub(crate) fn drive<R: Threads + Wait + Sync, L: Ledger + Send + Sync, G: Gate + Sync, C: Client>(
+    pool: &Pool<'_, R, L>,
+    gate: &G,
+    client: &mut C,
+    number_of_workers: usize,
+    shift: Shift<L>,
+) -> Ended<L>
+    requires parts { number_of_workers + 1 < shift.rest.parts }
+    requires none { vec_len shift.handles ≡ 0 }
+    requires empty { shift.workers.items ≡ [] }
+    requires handles { number_of_workers ≤ vec_capacity shift.handles }
+    requires workers { number_of_workers ≤ vec_capacity shift.workers }
+    ensures parts { result.rest.parts ≡ shift.rest.parts }
+    ensures amount { IfSome result.client (λ n. result.rest.amount ≡ shift.rest.amount + n + sum result.workers.items) }
+    ensures len { vec_len result.workers ≡ number_of_workers }
+{
+    let barred = AtomicUsize::new(usize::MAX);
+    let barred = &barred;
+    thread::scope(
+        thread::scope_env(),
+        pool.rt,
+        move |scope| -> Ended<L>
+            requires parts { number_of_workers + 1 < shift.rest.parts }
+            requires none { vec_len shift.handles ≡ 0 }
+            requires empty { shift.workers.items ≡ [] }
+            requires handles { number_of_workers ≤ vec_capacity shift.handles }
+            requires workers { number_of_workers ≤ vec_capacity shift.workers }
+            ensures parts { result.rest.parts ≡ shift.rest.parts }
+            ensures amount { IfSome result.client (λ n. result.rest.amount ≡ shift.rest.amount + n + sum result.workers.items) }
+            ensures len { vec_len result.workers ≡ number_of_workers }
+        { work_shift(scope, pool, gate, barred, client, number_of_workers, shift) },
+    )
+}

@@ -1,0 +1,228 @@
+//! A link's book with its share of the account.
+
+ghost use Rattle.std.specs.Prelude.{◌≡◌, ◌≤◌, ◌<◌, ◌+◌, ◌^◌, ◌++◌, ◌∷◌, [], List, Option, Some, None, IfOk, IfErr, OnOk, OnErr};
+ghost use Rattle.link_machine.specs.Ledger.{ask, next, rebased, turn_out};
+ghost use Rattle.link_machine.specs.declared.event.Event.{Event as PlainEvent};
+ghost use Rattle.link_machine.specs.declared.event.Event.TheVariants.{Offer as Offered, Advance, TakeEnv};
+ghost use Rattle.link_machine.specs.declared.reply.Reply.TheVariants as reply;
+ghost use Rattle.actor_book.specs.Answered.{answer_by};
+ghost use Rattle.turn_pool.specs.Moves.{Begins, Skips, Finishes};
+
+use crate::receipt::Receipt;
+use crate::totals::{Seat, Totals};
+use actor_book::{Book, Emitted, Event, Refusal, Report};
+use link_machine::laws::place_law;
+use std::alloc::AllocError;
+use std::marker::Model;
+use std::sync::ledger::{Ledger, Share};
+use turn_code::{SignalNumber, Trigger, Value};
+use turn_machine::{Done, Job};
+
+/// A link's book, with the number of the link and its share of the account, which grows smaller by one with each event.
+#[derive(Drop)]
+pub struct Slot<L: Ledger> {
+    pub(crate) book: Book,
+    pub(crate) link: usize,
+    pub(crate) share: Share<L>,
+}
+
+impl<L: Ledger> Model for Slot<L> {
+    ghost use Rattle.std.specs.Prelude.{◌≡◌, ◌+◌, ◌^◌};
+    ghost use Rattle.link_machine.specs.Ledger.{next};
+    ghost use Rattle.std.specs.Coded.{codes};
+    ghost use Rattle.tick_wheel.specs.Timers.{timers_code};
+    ghost use Rattle.turn_pool.specs.Links.{Link};
+
+    ghost Value = { Link };
+
+    ghost coded = { Prim.hlevel (codes, timers_code) };
+
+    ghost view = { λ s. record { number = s.link; book = s.book } };
+
+    ghost invariant = { λ s. (s.share.parts ≡ 1) × (s.share.amount + next s.book ≡ 2 ^ 57) };
+}
+
+/// The last event of a journal.
+fn newest(book: &Book) -> Option<Event>
+    ensures { (es : List PlainEvent) (e : PlainEvent) → book.now.journal ≡ es ++ e ∷ [] → result ≡ Some e }
+{
+    match book.journal().last() {
+        Some(event) => Some(event.copy()),
+        None => None,
+    }
+}
+
+impl<L: Ledger> Slot<L> {
+    /// The book.
+    pub fn book(&self) -> &Book
+        ensures { result.now ≡ self.now.book }
+    {
+        &self.book
+    }
+
+    #[tactic(auto, using(crate::proofs::Asks::offered))]
+    /// A signal of the environment comes to an actor, as by [`Book::offer`].
+    ///
+    /// # Errors
+    ///
+    /// Those of the book. Then nothing changes.
+    pub fn offer(
+        &mut self,
+        seat: &mut Seat<L>,
+        totals: &mut Totals<L>,
+        actor: u16,
+        signal: SignalNumber,
+        values: &[Value],
+    ) -> Result<Receipt, Refusal>
+        ensures book { let e = Offered (record { actor = actor; signal = signal; values = record { items = values.now } }) in self.new.book ≡ (ask self.old.book e).book }
+        ensures answer { let e = Offered (record { actor = actor; signal = signal; values = record { items = values.now } }) in
+            answer_by (λ _. reply.Offered) result ≡ (ask self.old.book e).answer }
+        ensures link { self.new.number ≡ self.old.number }
+        ensures counted { OnOk result (seat.new ≡ seat.old + 1) }
+        ensures seat { seat.new + next self.old.book ≡ seat.old + next self.new.book }
+        ensures receipt { let e = Offered (record { actor = actor; signal = signal; values = record { items = values.now } }) in
+            IfOk result (λ r. r ≡ record { link = self.old.number; place = next self.old.book; event = e }) }
+        ensures err { OnErr result ((self.new ≡ self.old) × (seat.new ≡ seat.old)) }
+    {
+        let place = self.book.next();
+        self.book.offer(actor, signal, values)?;
+        totals.count(&mut self.share, seat);
+        match newest(&self.book) {
+            Some(event) => Ok(Receipt {
+                link: self.link,
+                place,
+                event,
+            }),
+            None => unreachable!(),
+        }
+    }
+
+    /// So many ticks pass, as by [`Book::advance`]. How many timers were due.
+    ///
+    /// # Errors
+    ///
+    /// Those of the book. Then nothing changes.
+    pub fn advance(
+        &mut self,
+        seat: &mut Seat<L>,
+        totals: &mut Totals<L>,
+        ticks: u64,
+    ) -> Result<(usize, Receipt), Refusal>
+        ensures book { self.new.book ≡ (ask self.old.book (Advance ticks)).book }
+        ensures answer { answer_by (λ r. reply.Passed r.0) result ≡ (ask self.old.book (Advance ticks)).answer }
+        ensures link { self.new.number ≡ self.old.number }
+        ensures counted { OnOk result (seat.new ≡ seat.old + 1) }
+        ensures seat { seat.new + next self.old.book ≡ seat.old + next self.new.book }
+        ensures receipt { IfOk result (λ r. r.1 ≡ record { link = self.old.number; place = next self.old.book; event = Advance ticks }) }
+        ensures err { OnErr result ((self.new ≡ self.old) × (seat.new ≡ seat.old)) }
+    {
+        let place = self.book.next();
+        let passed = self.book.advance(ticks)?;
+        totals.count(&mut self.share, seat);
+        let event = Event::Advance(ticks);
+        Ok((
+            passed.due,
+            Receipt {
+                link: self.link,
+                place,
+                event,
+            },
+        ))
+    }
+
+    /// The environment takes what has waited longest for it, as by [`Book::take_env`].
+    ///
+    /// # Errors
+    ///
+    /// Those of the book. Then nothing changes.
+    pub fn take_env(
+        &mut self,
+        seat: &mut Seat<L>,
+        totals: &mut Totals<L>,
+    ) -> Result<(Emitted, Receipt), Refusal>
+        ensures book { self.new.book ≡ (ask self.old.book TakeEnv).book }
+        ensures answer { answer_by (λ r. reply.Taken r.0) result ≡ (ask self.old.book TakeEnv).answer }
+        ensures link { self.new.number ≡ self.old.number }
+        ensures counted { OnOk result (seat.new ≡ seat.old + 1) }
+        ensures seat { seat.new + next self.old.book ≡ seat.old + next self.new.book }
+        ensures receipt { IfOk result (λ r. r.1 ≡ record { link = self.old.number; place = next self.old.book; event = TakeEnv }) }
+        ensures err { OnErr result ((self.new ≡ self.old) × (seat.new ≡ seat.old)) }
+    {
+        let place = self.book.next();
+        let taken = self.book.take_env()?;
+        totals.count(&mut self.share, seat);
+        let event = Event::TakeEnv;
+        Ok((
+            taken.emitted,
+            Receipt {
+                link: self.link,
+                place,
+                event,
+            },
+        ))
+    }
+
+    /// Makes the present state the base, and empties the journal, as [`Book::rebase`] does. The place of the journal's next event.
+    pub fn rebase(&mut self) -> Result<u64, AllocError>
+        ensures book { OnOk result (self.new.book ≡ rebased self.old.book) }
+        ensures place { IfOk result (λ place. place ≡ next self.new.book) }
+        ensures link { self.new.number ≡ self.old.number }
+        ensures next { next self.new.book ≡ next self.old.book }
+        ensures err { OnErr result (self.new ≡ self.old) }
+    {
+        place_law();
+        self.book.rebase()?;
+        Ok(self.book.next())
+    }
+
+    /// A worker begins a turn of an actor.
+    pub(crate) fn begin(
+        &mut self,
+        seat: &mut Seat<L>,
+        totals: &mut Totals<L>,
+        actor: u16,
+    ) -> Result<Job, Refusal>
+        ensures begins { Begins self.old.book actor result self.new.book }
+        ensures link { self.new.number ≡ self.old.number }
+        ensures seat { seat.new + next self.old.book ≡ seat.old + next self.new.book }
+    {
+        let _place = self.book.next();
+        let job = self.book.begin(actor)?;
+        totals.count(&mut self.share, seat);
+        Ok(job)
+    }
+
+    /// A worker throws an item of an actor away.
+    pub(crate) fn skip(
+        &mut self,
+        seat: &mut Seat<L>,
+        totals: &mut Totals<L>,
+        actor: u16,
+    ) -> Result<Trigger, Refusal>
+        ensures skips { Skips self.old.book actor result self.new.book }
+        ensures link { self.new.number ≡ self.old.number }
+        ensures seat { seat.new + next self.old.book ≡ seat.old + next self.new.book }
+    {
+        let _place = self.book.next();
+        let trigger = self.book.skip(actor)?;
+        totals.count(&mut self.share, seat);
+        Ok(trigger)
+    }
+
+    /// A worker ends a turn that is out.
+    pub(crate) fn finish(
+        &mut self,
+        seat: &mut Seat<L>,
+        totals: &mut Totals<L>,
+        done: Done,
+    ) -> Result<Report, Done>
+        ensures finishes { Finishes self.old.book done result self.new.book }
+        ensures link { self.new.number ≡ self.old.number }
+        ensures seat { seat.new + next self.old.book ≡ seat.old + next self.new.book }
+    {
+        let _place = self.book.next();
+        let report = self.book.finish(done)?;
+        totals.count(&mut self.share, seat);
+        Ok(report)
+    }
+}

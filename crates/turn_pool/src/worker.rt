@@ -1,0 +1,132 @@
+//! Workers.
+
+use crate::gate::{Gate, JobName};
+use crate::moves::{Move, Moved, work};
+use crate::pool::Pool;
+use crate::totals::Seat;
+use actor_book::{Book, Refusal};
+use std::sync::Wait;
+use std::sync::ledger::Ledger;
+use std::thread;
+use turn_machine::{Job, run};
+
+/// How many begins and skips a worker makes at most after the pool began to close.
+const LAST_STEPS: usize = 1000;
+
+/// What the least actor of a link that can do something does; nothing on a link whose journal is full.
+fn next_step(book: &Book) -> Option<Move> {
+    if book.room() == 0 {
+        return None;
+    }
+    let set = book.set();
+    let link = book.state();
+    for actor in 0..16 {
+        match link.begin_refusal(set, actor) {
+            None => return Some(Move::Begin(actor)),
+            Some(Refusal::SkipFirst) => return Some(Move::Skip(actor)),
+            Some(Refusal::NoActor) => return None,
+            Some(_) => {}
+        }
+    }
+    None
+}
+
+/// Does one step on a link, under its lock, if an actor there can do something.
+fn step<R: Wait, L: Ledger>(
+    pool: &Pool<'_, R, L>,
+    seat: &mut Seat<L>,
+    link: usize,
+) -> Option<Moved> {
+    let mut slot = pool.links.get(link)?.lock(pool.rt);
+    let step = next_step(slot.book())?;
+    let mut totals = pool.totals.lock(pool.rt);
+    Some(work(&mut slot, seat, &mut totals, step))
+}
+
+/// Ends a turn that is out on a link.
+fn end<R: Wait, L: Ledger>(
+    pool: &Pool<'_, R, L>,
+    seat: &mut Seat<L>,
+    link: usize,
+    step: Move,
+) -> Option<Moved> {
+    let mut slot = pool.links.get(link)?.lock(pool.rt);
+    let mut totals = pool.totals.lock(pool.rt);
+    Some(work(&mut slot, seat, &mut totals, step))
+}
+
+/// Runs a job with no lock held, and ends its turn.
+fn run_job<R: Wait, L: Ledger, G: Gate>(
+    pool: &Pool<'_, R, L>,
+    gate: &G,
+    seat: &mut Seat<L>,
+    link: usize,
+    job: Job,
+) {
+    let name = JobName {
+        link,
+        actor: job.actor(),
+        turn: job.turn(),
+    };
+    gate.enter(name);
+    let _ended = end(pool, seat, link, Move::Finish(run(job)));
+    gate.leave(name);
+}
+
+/// Lets an actor of a link do something, if one can. Whether one did.
+fn turn<R: Wait, L: Ledger, G: Gate>(
+    pool: &Pool<'_, R, L>,
+    gate: &G,
+    seat: &mut Seat<L>,
+    link: usize,
+) -> bool {
+    match step(pool, seat, link) {
+        Some(Moved::Begun(Ok(job))) => {
+            run_job(pool, gate, seat, link, job);
+            true
+        }
+        Some(Moved::Skipped(Ok(_))) => true,
+        _ => false,
+    }
+}
+
+/// Goes round the links once. How many steps it made.
+fn round<R: Wait, L: Ledger, G: Gate>(
+    pool: &Pool<'_, R, L>,
+    gate: &G,
+    seat: &mut Seat<L>,
+) -> usize {
+    let mut steps = 0;
+    for link in 0..pool.links.len() {
+        if turn(pool, gate, seat, link) {
+            steps += 1;
+        }
+    }
+    steps
+}
+
+/// Works until the pool closes, and then until nothing is left to do, for at most 1,000 begins and skips, those of the round
+/// in which the pool closes among them.
+pub(crate) fn worker<R: Wait, L: Ledger, G: Gate>(
+    pool: &Pool<'_, R, L>,
+    gate: &G,
+    mut seat: Seat<L>,
+) -> Seat<L> {
+    let mut left = LAST_STEPS.saturating_sub(pool.links.len());
+    for _ in pool.rt.forever() {
+        let closing = pool.is_closing();
+        if closing && left < pool.links.len() {
+            break;
+        }
+        let steps = round(pool, gate, &mut seat);
+        if closing {
+            if steps == 0 {
+                break;
+            }
+            left = left.saturating_sub(steps);
+        } else if steps == 0 {
+            thread::yield_now();
+        }
+    }
+    seat
+}
