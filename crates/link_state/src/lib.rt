@@ -15,3 +15,6 @@ mod turn;
 
 pub use link::Link;
 pub use refusal::with_room;
+
+#[cfg(test)]
+mod tests;
