@@ -22,6 +22,3 @@ pub use link_machine::{
     Actor, Begun, Cause, Emitted, Event, Lost, Offer, Refusal, Reply, Report, Standing,
 };
 pub use link_state::Link;
-
-#[cfg(test)]
-mod tests;

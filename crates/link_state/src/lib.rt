@@ -15,6 +15,3 @@ mod turn;
 
 pub use link::Link;
 pub use refusal::with_room;
-
-#[cfg(test)]
-mod tests;
