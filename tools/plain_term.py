@@ -8,7 +8,8 @@ SET is `standard`, `monitors` or the file of a text. Its actors are those of pla
 are as Q.703 and the profile say them, on whole lists: no bit of the line and no message is ever forgotten.
 
 A table is written as tools/table says, with these differences: `== SET: NAME` begins an entry, copies are also written out in the wanted lines, and
-comment lines among them are nothing."""
+comment lines among them are nothing. `<UP>` as a line is the way into service, `<STATES>` asks for the states of all processes; among the wanted lines
+they stand for what is printed, where the states follow behind the word."""
 import pathlib
 import re
 import sys
@@ -21,6 +22,9 @@ STATUSES = ["SIO", "SIN", "SIE", "SIOS", "SIPO", "SIB", "6", "7"]
 GENERATOR = 1 << 16 | 1 << 12 | 1 << 5 | 1
 FLAG = [0, 1, 1, 1, 1, 1, 1, 0]
 COPIES = re.compile(r"%(\d+)\{([^}]*)\}")
+UP = ["command power", "command start", "unit FFFF0100", "unit FFFF0101", "tick 8200", "unit FFFF00"]
+IS_UP = ["ok", "ok", "ok", "ok", "ok due 1", "ok"]
+PROCESSES = ["LSC", "IAC", "AERM", "SUERM", "TXC", "RC", "POC", "CC"]
 
 
 # Signal units and the line.
@@ -473,15 +477,27 @@ def copied(text):
     return COPIES.sub(lambda m: "".join(m[2].replace("#", str(n)) for n in range(1, int(m[1]) + 1)), text)
 
 
+def whole(line):
+    """The lines of a script that a line of a table stands for."""
+    return {"<UP>": UP, "<STATES>": [f"state {it}" for it in PROCESSES]}.get(line, [line])
+
+
+def wanted(line):
+    """The lines to print that a line of a table stands for."""
+    if line.startswith("<STATES "):
+        return line[8:-1].split(" ")
+    return IS_UP if line == "<UP>" else [line]
+
+
 def entries(table):
     """The name, the set, the script, the lines and the status of each entry."""
     for part in table.split("\n== ")[1:]:
         name, rest = part.split("\n", 1)
         script, lines = ("\n" + rest).split("\n--\n")
-        lines = [it for it in copied(lines).strip("\n").split("\n") if it and not it.startswith("#")]
+        lines = [it for line in copied(lines).strip("\n").split("\n") for it in wanted(line) if it and not it.startswith("#")]
         status = int(lines.pop()[5:]) if lines and lines[-1].startswith("exit ") else 0
-        script = copied(script[1:]).replace("<CR>", "\r").replace("<TAB>", "\t")
-        yield name, name.split(":")[0], script, lines, status
+        script = "\n".join(it for line in copied(script[1:]).split("\n") for it in whole(line))
+        yield name, name.split(":")[0], script.replace("<CR>", "\r").replace("<TAB>", "\t"), lines, status
 
 
 def played(file):
