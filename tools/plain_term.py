@@ -8,7 +8,7 @@ SET is `standard`, `monitors` or the file of a text. Its actors are those of pla
 are as Q.703 and the profile say them, on whole lists: no bit of the line and no message is ever forgotten.
 
 A table is written as tools/table says, with these differences: `== SET: NAME` begins an entry, copies are also written out in the wanted lines, and
-comment lines among them are nothing. `<UP>` as a line is the way into service, `<STATES>` asks for the states of all processes; among the wanted lines
+comment lines among them are nothing; `%A-B{..}` are copies with the numbers A to B. `<UP>` as a line is the way into service, `<STATES>` asks for the states of all processes; among the wanted lines
 they stand for what is printed, where the states follow behind the word."""
 import pathlib
 import re
@@ -21,7 +21,7 @@ SETS = {"standard": "standard.sdl", "monitors": "monitors.sdl"}
 STATUSES = ["SIO", "SIN", "SIE", "SIOS", "SIPO", "SIB", "6", "7"]
 GENERATOR = 1 << 16 | 1 << 12 | 1 << 5 | 1
 FLAG = [0, 1, 1, 1, 1, 1, 1, 0]
-COPIES = re.compile(r"%(\d+)\{([^}]*)\}")
+COPIES = re.compile(r"%(?:(\d+)-)?(\d+)\{([^}]*)\}")
 UP = ["command power", "command start", "unit FFFF0100", "unit FFFF0101", "tick 8200", "unit FFFF00"]
 IS_UP = ["ok", "ok", "ok", "ok", "ok due 1", "ok"]
 PROCESSES = ["LSC", "IAC", "AERM", "SUERM", "TXC", "RC", "POC", "CC"]
@@ -474,7 +474,7 @@ def play(word, script, say):
 
 
 def copied(text):
-    return COPIES.sub(lambda m: "".join(m[2].replace("#", str(n)) for n in range(1, int(m[1]) + 1)), text)
+    return COPIES.sub(lambda m: "".join(m[3].replace("#", str(n)) for n in range(int(m[1] or 1), int(m[2]) + 1)), text)
 
 
 def whole(line):
