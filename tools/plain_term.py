@@ -8,8 +8,8 @@ SET is `standard`, `monitors` or the file of a text. Its actors are those of pla
 are as Q.703 and the profile say them, on whole lists: no bit of the line and no message is ever forgotten.
 
 A table is written as tools/table says, with these differences: `== SET: NAME` begins an entry, copies are also written out in the wanted lines, and
-comment lines among them are nothing; `%A-B{..}` are copies with the numbers A to B. `<UP>` as a line is the way into service, `<STATES>` asks for the states of all processes; among the wanted lines
-they stand for what is printed, where the states follow behind the word."""
+comment lines among them are nothing; `%A-B{..}` are copies with the numbers A to B. `<UP>` as a line is the way into service, `<STATES>` asks for the
+states of all processes; among the wanted lines they stand for what is printed, where the states follow behind the word."""
 import pathlib
 import re
 import sys
