@@ -1,25 +1,8 @@
--- The texts of scripts, and runs that begin.
-use Rattle.std.proofs.Common.{◌≡◌, ℕ, ◌+◌, ◌<◌, ◌≤◌, nat_lt, false, List, [], length, take, Option, None, inl, inr, refl, sym, ap, ◌∙◌, arith, length-take}
-use Rattle.std.specs.Prelude.{◌⊎◌}
-use borrow.Author.Tests.{ltb-false}
-use Rattle.std.proofs.lemmas.List.{take_all}
+-- Runs that begin.
+use Rattle.std.proofs.Common.{ℕ, List, [], Option, None}
 use Rattle.std.proofs.KnownBytes.{Appends-nil}
-use Rattle.text_reader.specs.Reading.{Keeps}
-use Rattle.text_reader.specs.declared.reading.TextRead.{TextRead}
-use Rattle.text_reader.specs.declared.reading.TheConstants.{MOST_BYTES}
 use Rattle.book_play.specs.Played.{begins, IsRun}
 
 -- nothing was obeyed yet
 pub run_begins : (now : Option (List ℕ)) → IsRun [] now now None
 run_begins now = record { lines = []; goes = begins; written = Appends-nil now }
-
--- what is kept of a script is all of it, or it is too long
-pub all_kept : (bytes : List ℕ) (read : TextRead) → Keeps bytes read → nat_lt MOST_BYTES (length read.kept.items) ≡ false → read.kept.items ≡ bytes
-all_kept bytes read keeps short =
-    let few : length read.kept.items ≤ MOST_BYTES = ltb-false _ _ short in
-    keeps.first ∙ take_all (MOST_BYTES + 1) bytes (omega (arith, ap length keeps.first, length-take (MOST_BYTES + 1) bytes))
-
--- a refusal is no status 0
-pub not_held : (status : ℕ) → (status ≡ 2) ⊎ (status ≡ 4) → status ≡ 0 → ⊥
-not_held status (inl two) zero = omega arith
-not_held status (inr four) zero = omega arith

@@ -1,11 +1,12 @@
 -- What a run of a script has printed.
-use Rattle.std.specs.Prelude.{◌≡◌, ℕ, Bool, true, false, List, [], ◌∷◌, ◌++◌, Option, None, Some, option_map, Ok, Err, IfSome, IsUtf8}
+use Rattle.std.specs.Prelude.{◌≡◌, ℕ, Bool, true, false, List, [], ◌∷◌, ◌++◌, Option, None, Some, option_map}
 use Rattle.std.specs.List.{flat_map}
 use Rattle.std.specs.Io.KnownBytes.{Appends}
 use Rattle.script_lines.specs.Commands.{PlainCommand, expect}
-use Rattle.script_lines.specs.Scripts.{PlainSaid, PlainScript, script_of}
+use Rattle.script_lines.specs.Scripts.{PlainSaid}
 use Rattle.text_check.specs.Printed.{line_of}
 use Rattle.book_play.specs.declared.player.Player.{Player}
+use Rattle.book_play.specs.declared.printer.Printer.{Printer}
 
 -- A run: the commands that were obeyed, the lines that they printed, and the last of these. Each command prints one line, whatever it
 -- says, but `expect`, which prints none and holds where the line before is the one that it names.
@@ -19,8 +20,11 @@ pub data Goes : List PlainSaid → List (List ℕ) → Option (List ℕ) → Typ
       → Goes (commands ++ said ∷ []) lines (Some text)
 
 -- the line that was printed last
+abbrev pub last_in : Printer → Option (List ℕ)
+last_in p = option_map (λ line. line.items) p.last
+
 abbrev pub last_of : Player → Option (List ℕ)
-last_of p = option_map (λ line. line.items) p.last
+last_of p = last_in p.printer
 
 -- these commands were obeyed, one after another, and what is written grew by their lines, each with its end
 pub record IsRun (commands : List PlainSaid) (old new last : Option (List ℕ)) : Type 0 where
@@ -31,10 +35,3 @@ pub record IsRun (commands : List PlainSaid) (old new last : Option (List ℕ)) 
 -- the same, whatever was printed last
 abbrev pub IsWritten : List PlainSaid → Option (List ℕ) → Option (List ℕ) → Type 0
 IsWritten commands old new = (last : Option (List ℕ)) × IsRun commands old new last
-
--- the bytes are a script, all of whose commands were obeyed
-pub record IsPlayed (old new : Option (List ℕ)) (bytes : List ℕ) : Type 0 where
-  pub utf8 : IsUtf8 bytes
-  pub script : PlainScript
-  pub reads : script_of bytes ≡ Ok script
-  pub run : IsWritten script.commands old new

@@ -105,6 +105,14 @@ fn state(alloc: Global, book: &Book, process: ProcessNumber) -> Result<Vec<u8>, 
     }
 }
 
+/// The line of `state P`: the state of a process, by its name; a refusal where there is none.
+pub fn state_line(alloc: Global, book: &Book, name: &str) -> Result<Vec<u8>, AllocError> {
+    match book.set().process_of(name) {
+        Some(process) => state(alloc, book, process),
+        None => refused(alloc, Refusal::NoActor),
+    }
+}
+
 /// A call on a process by its name alone.
 fn call(alloc: Global, book: &mut Book, call: Call, name: &str) -> Result<Vec<u8>, AllocError> {
     let Some(process) = book.set().process_of(name) else {
@@ -137,8 +145,8 @@ fn take_env(alloc: Global, book: &mut Book) -> Result<Vec<u8>, AllocError> {
     }
 }
 
-/// `value P x`.
-fn value(alloc: Global, book: &Book, process: &str, name: &str) -> Result<Vec<u8>, AllocError> {
+/// The line of `value P x`: the value of a variable, by its name, or `unset`; a refusal where there is no such process.
+pub fn value_line(alloc: Global, book: &Book, process: &str, name: &str) -> Result<Vec<u8>, AllocError> {
     let Some(process) = book.set().process_of(process) else {
         return refused(alloc, Refusal::NoActor);
     };
@@ -167,7 +175,7 @@ pub fn answer(
             let made = rest(book);
             text_line(alloc, &format_args!("rest {made}"))
         }
-        Command::Value(process, variable) => value(alloc, book, process, variable),
+        Command::Value(process, variable) => value_line(alloc, book, process, variable),
         Command::Expect(_) => Ok(Vec::new(alloc)),
     }
 }

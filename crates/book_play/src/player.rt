@@ -1,11 +1,10 @@
 //! A script as it runs.
-ghost use Rattle.std.specs.Prelude.{◌≡◌, ◌⊎◌, ◌++◌, ◌∷◌, [], List, ℕ, Option, Some, map, IfOk, OnOk, IsTrue, true};
-ghost use Rattle.std.specs.Io.KnownBytes.{Appends};
+ghost use Rattle.std.specs.Prelude.{◌≡◌, ◌⊎◌, ◌++◌, ◌∷◌, [], List, ℕ, Option, map, IfOk, true};
 ghost use Rattle.script_lines.specs.Scripts.{PlainSaid, plain_said};
-ghost use Rattle.text_check.specs.Printed.{line_of};
 ghost use Rattle.book_play.specs.Played.{last_of, IsRun};
 
 use crate::answers::answer;
+use crate::printer::Printer;
 use actor_book::Book;
 use script_lines::{Command, Said};
 use std::alloc::Global;
@@ -15,37 +14,14 @@ use text_check::{HELD, write_line};
 /// The exit status where an expectation failed.
 pub const MISSED: u8 = 1;
 
-/// A link with the line that was printed last.
+/// A link, and what is printed for it.
 #[derive(Drop)]
 pub struct Player {
     pub book: Book,
-    pub last: Option<Vec<u8>>,
+    pub printer: Printer,
 }
 
 impl Player {
-    /// Whether the line that was printed last is this one.
-    fn has_printed(&self, text: &[u8]) -> bool
-        ensures { result ≡ true → last_of self.now ≡ Some text.now }
-    {
-        match &self.last {
-            Some(last) => last.as_slice() == text,
-            None => false,
-        }
-    }
-
-    /// Writes a line, which is the last one from then on.
-    fn print<W: Write>(&mut self, mut line: Vec<u8>, writer: &mut W) -> io::Result<()>
-        ensures last { OnOk result (last_of self.new ≡ Some line.items) }
-        ensures written { OnOk result (Appends (W.contents writer.old) (W.contents writer.new) (line_of line.items)) }
-    {
-        let length = line.len();
-        line.push(b'\n')?;
-        writer.write_all(&line)?;
-        line.truncate(length);
-        self.last = Some(line);
-        Ok(())
-    }
-
     /// Does what a command says. Whether the run goes on.
     fn obey<W: Write>(&mut self, alloc: Global, said: &Said<'_>, writer: &mut W) -> io::Result<bool>
         ensures { IfOk result (λ on. on ≡ true → (before : List PlainSaid) (first : Option (List ℕ))
@@ -54,7 +30,7 @@ impl Player {
     {
         match &said.command {
             Command::Expect(text) => {
-                if self.has_printed(text) {
+                if self.printer.has_printed(text) {
                     return Ok(true);
                 }
                 let line = said.line;
@@ -63,7 +39,7 @@ impl Player {
             }
             command => {
                 let line = answer(alloc, &mut self.book, command)?;
-                self.print(line, writer)?;
+                self.printer.print(line, writer)?;
                 Ok(true)
             }
         }

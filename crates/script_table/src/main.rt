@@ -1,9 +1,9 @@
 //! `script_table`: plays many scripts, one after another. In standard input a line `== NAME` stands before each entry: the text of a set,
-//! a line `--`, and a script. Where the line `--` comes first the set is that of the entry before. For each the name is printed, what
-//! `play` prints, a line `exit N` with its status, and an empty line.
+//! or `standard` or `monitors`, a line `--`, and a script. Where the line `--` comes first the set is that of the entry before. For each
+//! the name is printed, what `play` prints, a line `exit N` with its status, and an empty line.
 #![tactic(auto)]
 
-use book_play::play;
+use script_play::play;
 use std::io::{self, BufReader, ErrorKind, Read};
 use std::rt::Runtime;
 use std::str;
@@ -14,6 +14,15 @@ fn parts<'a>(rest: &'a str, before: &'a str) -> Option<(&'a str, &'a str)> {
     match rest.strip_prefix("--\n") {
         Some(script) => Some((before, script)),
         None => rest.split_once("\n--\n"),
+    }
+}
+
+/// The set of an entry: one of the program's own, or that of a text.
+fn set_of(text: &str) -> SetWord<&[u8]> {
+    match text {
+        "standard" => SetWord::Standard,
+        "monitors" => SetWord::Monitors,
+        text => SetWord::Text(text.as_bytes()),
     }
 }
 
@@ -32,7 +41,7 @@ fn play_entry<'a, R: Runtime + AllocGlobal>(
     println!(rt; "{name}")?;
     let status = play(
         rt.alloc(),
-        SetWord::Text(text.as_bytes()),
+        set_of(text),
         script.as_bytes(),
         &mut io::writer(rt),
     );

@@ -3,7 +3,7 @@ use Rattle.script_lines.specs.Scripts.{plain_said}
 use Rattle.script_lines.specs.declared.script.Said.{Said}
 use Rattle.book_play.specs.Played.{last_of, IsRun}
 use Rattle.book_play.proofs.Texts.{run_begins}
-use Rattle.book_play.proofs.playing.play_script.Goals as goal
+use Rattle.book_play.proofs.playing.play_book.Goals as goal
 
 pub returns-in-Ok-run-clause-held : goal.returns-in-Ok-run-clause-held
 returns-in-Ok-run-clause-held g c held =

@@ -1,0 +1,2 @@
+mod TermRuns
+mod Texts

@@ -1,0 +1,16 @@
+use Rattle.std.proofs.Common.{subst, Bool}
+use Rattle.script_play.specs.Played.{IsPlayed}
+use Rattle.script_play.proofs.Texts.{not_held}
+use Rattle.script_play.proofs.playing.play.Goals as goal
+
+pub returns-in-Ok-read-clause-held : goal.returns-in-Ok-read-clause-held
+returns-in-Ok-read-clause-held g c zero = record {
+  bytes = c.in-Ok-read.ensures.bytes;
+  are_known = c.in-Ok-read.ensures.are_known;
+  holds =
+      let P : Bool → Type 0 = λ t. IsPlayed t (g.W.Write.contents c.args.writer.now) (g.W.Write.contents c.play_text.new.writer) c.in-Ok-read.ensures.bytes in
+      subst P c.has_terminals-terminals.ensures (c.play_text.ensures.held zero c.in-Ok-read.ensures.bytes c.in-Ok-read.ensures.keeps);
+}
+
+pub returns-clause-held : goal.returns-clause-held
+returns-clause-held g c zero = absurd (not_held _ c.write_refusal.ensures.status zero)

@@ -1,0 +1,2 @@
+pub mod TermRuns
+pub mod Played

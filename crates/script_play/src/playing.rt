@@ -1,0 +1,140 @@
+//! The command `play`.
+ghost use Rattle.std.specs.Prelude.{◌≡◌, ◌⊎◌, List, ℕ, Bool, Ok, IfOk, IfSome};
+ghost use Rattle.text_reader.specs.Reading.{Keeps};
+ghost use Rattle.text_check.specs.Checked.{given, IsGiven, IsAccepted};
+ghost use Rattle.term_lines.specs.TermScripts.{plain_any_script};
+ghost use Rattle.script_play.specs.Played.{has_terminals, reading_of, IsObeyed, IsPlayed};
+
+use crate::terminals::play_terminal;
+use book_play::play_book;
+use script_lines::{ScriptFault, book_script};
+use std::alloc::Global;
+use std::fmt::Display;
+use std::io::{Read, Write};
+use std::str;
+use term_lines::{AnyScript, any_script};
+use text_check::{FAILED, REFUSED, SetWord, load_set, write_line, write_refusal};
+use text_reader::{TextRead, line_at_limit, read_text};
+use turn_check::Verified;
+
+/// Runs a script on a set of processes, or, where its first line is `terminal basic` or `terminal cyclic` and the set is `standard`, on a
+/// signalling link terminal, and prints a line for each command but `expect`, and for each unit that goes out.
+///
+/// Both texts are read whole before anything is written: the set, then the script. A refusal of the set comes before one of
+/// the script, and a line of the script that is none is refused before anything runs. A line goes out in one write.
+///
+/// Gives the exit status: 0 where each command ran and its line was written, 1 after `failed line N` where an expectation
+/// failed, 2 after a line `refused CODE Name ..` alone where the set or the script was refused, or 4 where memory, a read or
+/// a write fails. Nothing is written after a write that failed.
+pub fn play<S: Read + Drop, R: Read + Drop, W: Write>(
+    alloc: Global,
+    set: SetWord<S>,
+    mut script: R,
+    writer: &mut W,
+) -> u8
+    ensures accepted { result ≡ 0 → IfSome (given S.remaining set) IsAccepted }
+    ensures held { result ≡ 0 → IsGiven (R.remaining script) (IsPlayed (has_terminals set) (W.contents writer.old) (W.contents writer.new)) }
+    ensures status { (result ≡ 0) ⊎ (result ≡ 1) ⊎ (result ≡ 2) ⊎ (result ≡ 4) }
+{
+    let terminals = has_terminals(&set);
+    let set = load_set(alloc, set);
+    let read = read_text(alloc, &mut script);
+    match set {
+        Ok(set) => match read {
+            Ok(read) => play_text(alloc, &set, terminals, &read, writer),
+            Err(_) => FAILED,
+        },
+        Err(fault) => write_refusal(alloc, writer, &fault),
+    }
+}
+
+/// Whether a set runs on terminals too.
+fn has_terminals<S>(set: &SetWord<S>) -> bool
+    ensures { result ≡ has_terminals set.now }
+{
+    match set {
+        SetWord::Standard => true,
+        SetWord::Monitors => false,
+        SetWord::Text(_) => false,
+    }
+}
+
+/// Writes why there is no script. Gives the exit status.
+fn refuse<W: Write, L: Display>(alloc: Global, writer: &mut W, fault: &L) -> u8
+    ensures { (result ≡ 2) ⊎ (result ≡ 4) }
+{
+    match write_line(alloc, writer, fault) {
+        Ok(()) => REFUSED,
+        Err(_) => FAILED,
+    }
+}
+
+/// Writes the fault of a script. Gives the exit status.
+fn refuse_script<W: Write>(alloc: Global, writer: &mut W, fault: ScriptFault) -> u8
+    ensures { (result ≡ 2) ⊎ (result ≡ 4) }
+{
+    match fault {
+        ScriptFault::BadLine(_) => refuse(alloc, writer, &format_args!("refused {fault}")),
+        ScriptFault::NoMemory => FAILED,
+    }
+}
+
+/// The script of a text, which is a book's where there are no terminals.
+fn script_in<'a>(
+    alloc: Global,
+    terminals: bool,
+    text: &'a str,
+) -> Result<AnyScript<'a>, ScriptFault>
+    ensures { IfOk result (λ s. reading_of terminals text.now ≡ Ok (plain_any_script s)) }
+{
+    if terminals {
+        return any_script(alloc, text);
+    }
+    match book_script(alloc, text) {
+        Ok(script) => Ok(AnyScript::Book(script)),
+        Err(fault) => Err(fault),
+    }
+}
+
+/// Runs the script of a text that was read.
+fn play_text<W: Write>(
+    alloc: Global,
+    set: &Verified,
+    terminals: bool,
+    read: &TextRead,
+    writer: &mut W,
+) -> u8
+    ensures held { result ≡ 0 → (bytes : List ℕ) → Keeps bytes read.now → IsPlayed terminals (W.contents writer.old) (W.contents writer.new) bytes }
+    ensures status { (result ≡ 0) ⊎ (result ≡ 1) ⊎ (result ≡ 2) ⊎ (result ≡ 4) }
+{
+    if !read.is_text {
+        return refuse(alloc, writer, &"refused F1 NotText");
+    }
+    if read.is_too_long() {
+        let line = line_at_limit(&read.kept);
+        return refuse_script(alloc, writer, ScriptFault::BadLine(line));
+    }
+    match str::from_utf8(&read.kept) {
+        Ok(text) => match script_in(alloc, terminals, text) {
+            Ok(script) => play_script(alloc, set, &script, writer),
+            Err(fault) => refuse_script(alloc, writer, fault),
+        },
+        Err(_) => refuse(alloc, writer, &"refused F1 NotText"),
+    }
+}
+
+/// Runs a script.
+fn play_script<W: Write>(
+    alloc: Global,
+    set: &Verified,
+    script: &AnyScript<'_>,
+    writer: &mut W,
+) -> u8
+    ensures held { result ≡ 0 → IsObeyed (plain_any_script script.now) (W.contents writer.old) (W.contents writer.new) }
+    ensures status { (result ≡ 0) ⊎ (result ≡ 1) ⊎ (result ≡ 4) }
+{
+    match script {
+        AnyScript::Book(script) => play_book(alloc, set, script, writer),
+        AnyScript::Terminal(script) => play_terminal(alloc, script, writer),
+    }
+}

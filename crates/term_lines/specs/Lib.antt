@@ -1,0 +1,4 @@
+pub mod Orders
+pub mod Octets
+pub mod TermCommands
+pub mod TermScripts
