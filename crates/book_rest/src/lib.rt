@@ -1,6 +1,8 @@
 //! What a link does when nothing comes from outside: one turn after another, of the least actor that can.
 #![tactic(auto)]
 
+mod laws;
 mod turn;
 
+pub use laws::{rests_are_runs, turns_are_of_the_least};
 pub use turn::{REST, Turn, one_turn, rest, try_actor};
