@@ -1,0 +1,12 @@
+//! The actors of a signalling link terminal together with what it keeps beside them (Q.703): what the environment offers to the actors,
+//! how they come to rest, and what they tell the environment.
+#![tactic(auto)]
+
+mod commands;
+mod heart;
+mod names;
+mod resting;
+
+pub use commands::Command;
+pub use heart::{Heart, LOW};
+pub use names::{Inputs, Names, Outputs, Parties};
