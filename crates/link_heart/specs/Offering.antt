@@ -15,8 +15,8 @@ use Rattle.link_side.specs.declared.signals.EnvSignal.{EnvSignal}
 use Rattle.link_side.specs.declared.signals.EnvSignal.TheVariants as signal
 use Rattle.link_heart.specs.declared.commands.Command.{Command}
 use Rattle.link_heart.specs.declared.commands.Command.TheVariants as command
-use Rattle.link_heart.specs.declared.names.Inputs.{Inputs}
 use Rattle.link_heart.specs.declared.names.Names.{Names}
+use Rattle.link_heart.specs.declared.names.Notices.{Notices}
 use Rattle.link_heart.specs.declared.names.Outputs.{Outputs}
 use Rattle.link_heart.specs.declared.names.Parties.{Parties}
 
@@ -29,7 +29,7 @@ number_of ps Rc = ps.rc.0
 
 -- ---- notices
 
-abbrev pub notice_signal : Inputs → Notice → SignalNumber
+abbrev pub notice_signal : Notices → Notice → SignalNumber
 notice_signal is notice.Good = is.good
 notice_signal is notice.Errored = is.errored
 notice_signal is (notice.AckSeen left) = is.ack_seen
@@ -49,7 +49,7 @@ abbrev pub event_to : ℕ → SignalNumber → List Value → Event
 event_to n s vs = Offered (record { actor = n; signal = s; values = record { items = vs } })
 
 abbrev pub offer_event : Names → Offer → Event
-offer_event n o = event_to (number_of n.parties o.to) (notice_signal n.inputs o.notice) (notice_values o.notice)
+offer_event n o = event_to (number_of n.parties o.to) (notice_signal n.notices o.notice) (notice_values o.notice)
 
 -- ---- commands
 
@@ -66,15 +66,15 @@ command_number n command.Busy = n.parties.cc.0
 command_number n command.Free = n.parties.cc.0
 
 abbrev pub command_signal : Names → Command → SignalNumber
-command_signal n command.PowerOn = n.inputs.power_on
-command_signal n command.Start = n.inputs.start_link
-command_signal n command.Stop = n.inputs.stop_link
-command_signal n command.Emergency = n.inputs.emergency
-command_signal n command.Calm = n.inputs.calm
-command_signal n command.Outage = n.inputs.local_out
-command_signal n command.Back = n.inputs.local_back
-command_signal n command.Busy = n.inputs.busy
-command_signal n command.Free = n.inputs.free
+command_signal n command.PowerOn = n.orders.power_on
+command_signal n command.Start = n.orders.start_link
+command_signal n command.Stop = n.orders.stop_link
+command_signal n command.Emergency = n.orders.emergency
+command_signal n command.Calm = n.orders.calm
+command_signal n command.Outage = n.orders.local_out
+command_signal n command.Back = n.orders.local_back
+command_signal n command.Busy = n.orders.busy
+command_signal n command.Free = n.orders.free
 
 abbrev pub command_event : Names → Command → Event
 command_event n c = event_to (command_number n c) (command_signal n c) []

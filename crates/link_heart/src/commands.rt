@@ -50,14 +50,14 @@ pub(crate) fn command_signal(names: &Names, command: Command) -> SignalNumber
     ensures { result ≡ command_signal names.now command }
 {
     match command {
-        Command::PowerOn => names.inputs.power_on,
-        Command::Start => names.inputs.start_link,
-        Command::Stop => names.inputs.stop_link,
-        Command::Emergency => names.inputs.emergency,
-        Command::Calm => names.inputs.calm,
-        Command::Outage => names.inputs.local_out,
-        Command::Back => names.inputs.local_back,
-        Command::Busy => names.inputs.busy,
-        Command::Free => names.inputs.free,
+        Command::PowerOn => names.orders.power_on,
+        Command::Start => names.orders.start_link,
+        Command::Stop => names.orders.stop_link,
+        Command::Emergency => names.orders.emergency,
+        Command::Calm => names.orders.calm,
+        Command::Outage => names.orders.local_out,
+        Command::Back => names.orders.local_back,
+        Command::Busy => names.orders.busy,
+        Command::Free => names.orders.free,
     }
 }

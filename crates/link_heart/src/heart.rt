@@ -1,5 +1,5 @@
 //! A terminal's actors, and what it keeps beside them.
-ghost use Rattle.std.specs.Prelude.{◌≡◌, ◌<◌, ◌≤◌, [], length, OnOk, OnErr, IfSome};
+ghost use Rattle.std.specs.Prelude.{◌≡◌, ◌+◌, ◌<◌, ◌≤◌, [], length, OnOk, OnErr, IfSome};
 ghost use Rattle.su_octets.specs.Whole.{IsWhole};
 ghost use Rattle.link_machine.specs.Ledger.{ask};
 ghost use Rattle.link_machine.specs.declared.event.Event.TheVariants.{Advance};
@@ -9,6 +9,7 @@ ghost use Rattle.link_heart.specs.Offering.{command_event, offer_event};
 ghost use Rattle.link_heart.specs.Machine.{with_book, with_side, heard, rested, offered, all_offered, noted_by, unit_taken, error_taken, told_of, sent, places, tidied};
 
 use crate::commands::{Command, command_number, command_signal};
+use crate::laws::accepted_messages_wait_in_order;
 use crate::names::{Names, actor_of, notice_signal, notice_values};
 use actor_book::Book;
 use link_machine::Refusal;
@@ -78,7 +79,7 @@ impl Heart {
         ensures { self.new ≡ offered (offer_event self.old.names offer) self.old }
     {
         let actor = actor_of(&self.names.parties, offer.to);
-        let signal = notice_signal(&self.names.inputs, offer.notice);
+        let signal = notice_signal(&self.names.notices, offer.notice);
         let values = notice_values(offer.notice);
         let _refused = self.book.offer(actor, signal, values.as_slice()).is_err();
         self.rest();
@@ -99,8 +100,10 @@ impl Heart {
     pub fn take_unit(&mut self, unit: Unit)
         requires whole { IsWhole unit }
         requires room { length self.old.side.messages < MESSAGES }
-        ensures { self.new ≡ unit_taken unit self.old }
+        ensures heart { self.new ≡ unit_taken unit self.old }
+        ensures few { length self.new.side.messages ≤ length self.old.side.messages + 1 }
     {
+        accepted_messages_wait_in_order();
         let offers = self.side.on_unit(unit);
         self.offer_all(offers.as_slice());
     }
@@ -108,8 +111,10 @@ impl Heart {
     /// Takes a unit with errors, or sixteen octets without a unit.
     #[tactic(auto, unfolding(crate::specs::Machine::error_taken))]
     pub fn take_error(&mut self)
-        ensures { self.new ≡ error_taken self.old }
+        ensures heart { self.new ≡ error_taken self.old }
+        ensures messages { self.new.side.messages ≡ self.old.side.messages }
     {
+        accepted_messages_wait_in_order();
         self.offer_all(&error_offers());
     }
 

@@ -4,9 +4,15 @@
 
 mod commands;
 mod heart;
+mod known;
+mod laws;
 mod names;
 mod resting;
 
 pub use commands::Command;
 pub use heart::{Heart, LOW};
-pub use names::{Inputs, Names, Outputs, Parties};
+pub use known::{Missing, ProcessName, SignalName};
+pub use laws::{
+    accepted_messages_wait_in_order, rests_are_runs, unacknowledged_messages_stay,
+};
+pub use names::{Names, Notices, Orders, Outputs, Parties};

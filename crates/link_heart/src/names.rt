@@ -24,9 +24,9 @@ pub struct Parties {
     pub cc: ProcessNumber,
 }
 
-/// The signals that the environment sends.
+/// The signals by which the environment hands on commands.
 #[derive(Clone, Copy, PartialEq, Eq, Debug)]
-pub struct Inputs {
+pub struct Orders {
     pub power_on: SignalNumber,
     pub start_link: SignalNumber,
     pub stop_link: SignalNumber,
@@ -36,6 +36,11 @@ pub struct Inputs {
     pub local_back: SignalNumber,
     pub busy: SignalNumber,
     pub free: SignalNumber,
+}
+
+/// The signals by which it tells of units.
+#[derive(Clone, Copy, PartialEq, Eq, Debug)]
+pub struct Notices {
     pub good: SignalNumber,
     pub errored: SignalNumber,
     pub ack_seen: SignalNumber,
@@ -61,7 +66,8 @@ pub struct Outputs {
 #[derive(Clone, Copy, PartialEq, Eq, Debug)]
 pub struct Names {
     pub parties: Parties,
-    pub inputs: Inputs,
+    pub orders: Orders,
+    pub notices: Notices,
     pub outputs: Outputs,
 }
 
@@ -79,16 +85,16 @@ pub(crate) fn actor_of(parties: &Parties, party: Party) -> u16
 }
 
 /// The signal of a notice.
-pub(crate) fn notice_signal(inputs: &Inputs, notice: Notice) -> SignalNumber
-    ensures { result ≡ notice_signal inputs.now notice }
+pub(crate) fn notice_signal(notices: &Notices, notice: Notice) -> SignalNumber
+    ensures { result ≡ notice_signal notices.now notice }
 {
     match notice {
-        Notice::Good => inputs.good,
-        Notice::Errored => inputs.errored,
-        Notice::AckSeen(_) => inputs.ack_seen,
-        Notice::Bad => inputs.bad,
-        Notice::Unit(_) => inputs.unit,
-        Notice::MsuSent => inputs.msu_sent,
+        Notice::Good => notices.good,
+        Notice::Errored => notices.errored,
+        Notice::AckSeen(_) => notices.ack_seen,
+        Notice::Bad => notices.bad,
+        Notice::Unit(_) => notices.unit,
+        Notice::MsuSent => notices.msu_sent,
     }
 }
 
