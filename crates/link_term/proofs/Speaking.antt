@@ -1,0 +1,101 @@
+-- Units out, one after another.
+use Rattle.std.proofs.Common.{◌≡◌, ℕ, ◌+◌, zero, suc, Option, Some, None, List, [], ◌∷◌, ◌++◌, refl, sym, ap, ◌∙◌, subst, append-nil, append_assoc}
+use Rattle.std.specs.Option.{option_to_list}
+use Rattle.su_octets.specs.Frame.{Frame, SpareBitsAreZero}
+use Rattle.su_octets.specs.declared.units.Unit as units
+use Rattle.bit_line.specs.Stuffers.{Gave}
+use Rattle.bit_line.specs.declared.stuffer.Stuffer.{Stuffer}
+use Rattle.link_heart.specs.declared.heart.Heart.{Heart}
+use Rattle.link_heart.specs.Machine.{sent, tidied}
+use Rattle.link_term.specs.Term.{Term}
+use Rattle.link_term.specs.Speaking.{AreFrames, Speaks, given, left, Spoke}
+
+frames_joined : (fs gs : List (List ℕ)) (us vs : List units.Unit) → AreFrames fs us → AreFrames gs vs → AreFrames (fs ++ gs) (us ++ vs)
+frames_joined [] gs [] vs f g = g
+frames_joined [] gs (u ∷ us) vs f g = absurd f
+frames_joined (x ∷ fs) gs [] vs f g = absurd f
+frames_joined (x ∷ fs) gs (u ∷ us) vs f g = (f.0, frames_joined fs gs us vs f.1 g)
+
+pub speaks_nothing : (s : Stuffer) (before : List ℕ) → Speaks s before [] s before
+speaks_nothing s before = record {
+  frames = [];
+  are = tt;
+  more = [];
+  behind = sym (append-nil before);
+  gave = λ gone sent gave.
+      let P : List ℕ → Type 0 = λ xs. Gave xs (sent ++ []) s in
+      let Q : List (List ℕ) → Type 0 = λ xs. Gave gone xs s in
+      subst P (sym (append-nil gone)) (subst Q (sym (append-nil sent)) gave);
+}
+
+pub speaks_joined : (r s t : Stuffer) (a b c : List ℕ) (us vs : List units.Unit) → Speaks r a us s b → Speaks s b vs t c → Speaks r a (us ++ vs) t c
+speaks_joined r s t a b c us vs first second = record {
+  frames = first.frames ++ second.frames;
+  are = frames_joined first.frames second.frames us vs first.are second.are;
+  more = first.more ++ second.more;
+  behind = second.behind ∙ ap (λ (xs : List ℕ). xs ++ second.more) first.behind ∙ append_assoc a first.more second.more;
+  gave = λ gone sent gave.
+      let P : List ℕ → Type 0 = λ xs. Gave xs (sent ++ (first.frames ++ second.frames)) t in
+      let Q : List (List ℕ) → Type 0 = λ xs. Gave ((gone ++ first.more) ++ second.more) xs t in
+      subst P (append_assoc gone first.more second.more)
+      (subst Q (append_assoc sent first.frames second.frames)
+      (second.gave (gone ++ first.more) (sent ++ first.frames) (first.gave gone sent gave)));
+}
+
+pub speaks_one : (s t : Stuffer) (before after more octets : List ℕ) (u : units.Unit) → Frame octets u → SpareBitsAreZero octets
+    → after ≡ before ++ more → ((gone : List ℕ) (sent : List (List ℕ)) → Gave gone sent s → Gave (gone ++ more) (sent ++ octets ∷ []) t)
+    → Speaks s before (u ∷ []) t after
+speaks_one s t before after more octets u frame spare behind gave =
+    record { frames = octets ∷ []; are = ((frame, spare), tt); more = more; behind = behind; gave = gave }
+
+left_next : (k : ℕ) (t : Heart) → left (k + 1) t ≡ left 1 (left k t)
+left_next zero t = refl
+left_next (suc k) t = left_next k (sent (tidied t)).heart
+
+given_next : (k : ℕ) (t : Heart) → given (k + 1) t ≡ given k t ++ given 1 (left k t)
+given_next zero t = refl
+given_next (suc k) t =
+    ap (λ (us : List units.Unit). option_to_list (sent (tidied t)).unit ++ us) (given_next k (sent (tidied t)).heart)
+    ∙ sym (append_assoc (option_to_list (sent (tidied t)).unit) (given k (sent (tidied t)).heart) (given 1 (left k (sent (tidied t)).heart)))
+
+pub spoke_nothing : (t : Term) (before : List ℕ) → Spoke t before 0 t before
+spoke_nothing t before = record { heart = refl; line = refl; speaks = speaks_nothing t.sending before }
+
+pub spoke_more : (t m u : Term) (a b c : List ℕ) (n : ℕ) → Spoke t a n m b → Spoke m b 1 u c → Spoke t a (n + 1) u c
+spoke_more t m u a b c n first second =
+    let P : List units.Unit → Type 0 = λ us. Speaks t.sending a us u.sending c in
+    let next : Speaks m.sending b (given 1 (left n t.heart)) u.sending c =
+    subst (λ (h : Heart). Speaks m.sending b (given 1 h) u.sending c) first.heart second.speaks in
+    record {
+      heart = second.heart ∙ ap (left 1) first.heart ∙ sym (left_next n t.heart);
+      line = second.line ∙ first.line;
+      speaks = subst P (sym (given_next n t.heart))
+          (speaks_joined t.sending m.sending u.sending a b c (given n t.heart) (given 1 (left n t.heart)) first.speaks next);
+    }
+
+list_of_some : (o : Option units.Unit) (u : units.Unit) → o ≡ Some u → u ∷ [] ≡ option_to_list o ++ []
+list_of_some o u h = sym (ap (λ (x : Option units.Unit). option_to_list x ++ []) h)
+
+-- a unit went out
+pub spoke_unit : (t m u : Term) (a b : List ℕ) (x : units.Unit) → Some x ≡ (sent (tidied t.heart)).unit → m.heart ≡ (sent (tidied t.heart)).heart
+    → u.heart ≡ m.heart → u.line ≡ t.line → Speaks t.sending a (x ∷ []) u.sending b → Spoke t a 1 u b
+spoke_unit t m u a b x unit heart same line speaks =
+    let P : List units.Unit → Type 0 = λ us. Speaks t.sending a us u.sending b in
+    record { heart = same ∙ heart; line = line; speaks = subst P (list_of_some (sent (tidied t.heart)).unit x (sym unit)) speaks }
+
+none_given : (o : Option units.Unit) → o ≡ None → [] ≡ option_to_list o ++ []
+none_given o h = sym (ap (λ (x : Option units.Unit). option_to_list x ++ []) h)
+
+-- nothing was said of the line
+pub spoke_none : (t u : Term) (a b : List ℕ) → None ≡ (sent (tidied t.heart)).unit → u.heart ≡ (sent (tidied t.heart)).heart → u.line ≡ t.line
+    → u.sending ≡ t.sending → b ≡ a → Spoke t a 1 u b
+spoke_none t u a b unit heart line sending same =
+    let P : List units.Unit → Type 0 = λ us. Speaks t.sending a us u.sending b in
+    let Q : Stuffer → Type 0 = λ s. Speaks t.sending a [] s b in
+    let R : List ℕ → Type 0 = λ xs. Speaks t.sending a [] t.sending xs in
+    record {
+      heart = heart;
+      line = line;
+      speaks = subst P (none_given (sent (tidied t.heart)).unit (sym unit))
+          (subst Q (sym sending) (subst R (sym same) (speaks_nothing t.sending a)));
+    }

@@ -1,0 +1,5 @@
+pub mod Term
+pub mod Inside
+pub mod Hearing
+pub mod Speaking
+pub mod Laws

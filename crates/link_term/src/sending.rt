@@ -1,0 +1,70 @@
+//! The line out.
+ghost use Rattle.std.specs.Prelude.{◌≡◌, ◌++◌, ◌<◌, ◌≤◌, ◌∷◌, [], length, vec_len, OnOk, OnErr, IfOk, IfSome, Option};
+ghost use Rattle.std.specs.Option.{option_to_list};
+ghost use Rattle.su_octets.specs.Whole.{IsWhole};
+ghost use Rattle.su_octets.specs.declared.units.Unit.{Unit as PlainUnit};
+ghost use Rattle.link_heart.specs.Machine.{sent, tidied};
+ghost use Rattle.link_term.specs.Speaking.{Speaks, Spoke};
+
+use crate::terminal::Terminal;
+use bit_line::Stuffer;
+use std::alloc::AllocError;
+use su_octets::Unit;
+
+/// How many line octets a unit has at most.
+const LONGEST: usize = 352;
+
+/// Puts the line octets of a unit behind the others, for which there is room.
+fn put_unit(sending: &mut Stuffer, octets: &mut Vec<u8>, unit: &Unit)
+    requires whole { IsWhole unit.now }
+    requires room { vec_len octets.old + LONGEST ≤ vec_capacity octets.old }
+    ensures { Speaks sending.old octets.old.items (unit.now ∷ []) sending.new octets.new.items }
+{
+    let line = sending.put(unit);
+    match octets.extend_from_slice(line.as_slice()) {
+        Ok(()) => {}
+        Err(_) => unreachable!(),
+    }
+}
+
+impl Terminal {
+    /// Puts the next unit behind the line octets so far.
+    fn put_next(&mut self, octets: &mut Vec<u8>) -> Result<(), AllocError>
+        ensures ok { OnOk result (Spoke self.old octets.old.items 1 self.new octets.new.items) }
+        ensures err { OnErr result (self.new ≡ self.old) }
+        ensures same { OnErr result (octets.new.items ≡ octets.old.items) }
+    {
+        octets.reserve(LONGEST)?;
+        if let Some(unit) = self.unit_out()? {
+            put_unit(&mut self.sending, octets, &unit);
+        }
+        Ok(())
+    }
+
+    /// The line octets of the next units, so many, as `unit_out` gives them: stuffed, with a flag behind each and one before the first of
+    /// all. Up to 7 bits stay for the next call. Before anything was said of the line there are none.
+    ///
+    /// They are fewer where there is no memory for more.
+    ///
+    /// # Errors
+    ///
+    /// Where there is no memory for the first: nothing changed.
+    pub fn line_out(&mut self, units: usize) -> Result<Vec<u8>, AllocError>
+        ensures ok { IfOk result (λ octets. (n : _) × (n ≤ units) × Spoke self.old [] n self.new octets.items) }
+        ensures err { OnErr result (self.new ≡ self.old) }
+    {
+        let mut octets = Vec::new(self.alloc);
+        for gone in 0..units {
+            match self.put_next(&mut octets) {
+                Ok(()) => {}
+                Err(error) => {
+                    if gone == 0 {
+                        return Err(error);
+                    }
+                    return Ok(octets);
+                }
+            }
+        }
+        Ok(octets)
+    }
+}
