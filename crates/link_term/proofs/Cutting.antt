@@ -33,9 +33,9 @@ next_bits bits x xs = sym (append_assoc bits (low_bits 8 x) (bits_of xs))
 
 hears_joined : (bits : List Bool) (all mid now : List LineEvent) (t m u : Heart) (xs ys : List ℕ) → Hears bits all t xs mid m
     → Hears (bits ++ bits_of xs) mid m ys now u → Hears bits all t (xs ++ ys) now u
-hears_joined bits all mid now t m u _ ys (silent bits all t) h =
+hears_joined _ _ _ now _ _ u _ ys (silent bits all t) h =
     let P : List Bool → Type 0 = λ b. Hears b all t ys now u in subst P (no_bits bits) h
-hears_joined bits all mid now t m u _ ys (octet bits all given t v m x xs mid room are taken hears) h =
+hears_joined _ _ _ now _ _ u _ ys (octet bits all given t v m x xs mid room are taken hears) h =
     let P : List Bool → Type 0 = λ b. Hears b mid m ys now u in
     octet bits all given t v u x (xs ++ ys) now room are taken
     (hears_joined (bits ++ low_bits 8 x) (all ++ given) mid now v m u xs ys hears (subst P (next_bits bits x xs) h))
@@ -85,3 +85,12 @@ pub heard_more : (t m u : Term) (octets : List ℕ) (i d : ℕ) → i < length o
 heard_more t m u octets i d h first second =
     let P : List ℕ → Type 0 = λ xs. Heard t xs u in
     subst P (sym (take_more octets i d h)) (heard_joined t m u (take i octets) (get_or octets i d ∷ []) first second)
+
+pub heard_from : (old inside new : Term) (xs : List ℕ) → inside ≡ old → Heard inside xs new → Heard old xs new
+heard_from old inside new xs h heard = let P : Term → Type 0 = λ t. Heard t xs new in subst P h heard
+
+pub heard_to : (old new same : Term) (xs : List ℕ) → same ≡ new → Heard old xs new → Heard old xs same
+heard_to old new same xs h heard = let P : Term → Type 0 = λ t. Heard old xs t in subst P (sym h) heard
+
+pub heard_all : (old new : Term) (octets : List ℕ) (i : ℕ) → i ≡ length octets → Heard old (take i octets) new → Heard old (take (length octets) octets) new
+heard_all old new octets i h heard = let P : ℕ → Type 0 = λ n. Heard old (take n octets) new in subst P h heard

@@ -2,6 +2,7 @@
 use Rattle.std.proofs.Common.{◌≡◌, ℕ, zero, suc, ◌+◌, nat_lt, Bool, true, false, List, [], ◌∷◌, ◌++◌, drop, refl, sym, ap, ◌∙◌, append-nil, append_assoc, arith}
 use Rattle.std.specs.Prelude.{if◌then◌else◌}
 use Rattle.resend_store.specs.declared.messages.Msu.{Msu}
+use Rattle.su_octets.specs.Bits.{low_bits}
 use Rattle.bit_line.specs.declared.events.LineEvent.{LineEvent}
 use Rattle.link_machine.specs.Ledger.{rebased}
 use Rattle.link_side.specs.Half.{Half}
@@ -24,25 +25,25 @@ joined a b c x y h k = k ∙ ap (λ (ms : List Msu). ms ++ y) h ∙ append_assoc
 
 module _ (law : MessagesLaw) where
   read_delivers : (octets : List ℕ) (t u : Heart) (r : Reads octets t u) → u.side.messages ≡ t.side.messages ++ accepted_read r
-  read_delivers _ t _ (as_unit octets x t frame) = law.units x t
-  read_delivers _ t _ (as_error octets t none) = law.errors t ∙ sym (append-nil t.side.messages)
+  read_delivers _ _ _ (as_unit octets x t frame) = law.units x t
+  read_delivers _ _ _ (as_error octets t none) = law.errors t ∙ sym (append-nil t.side.messages)
 
   taken_delivers : (events : List LineEvent) (t u : Heart) (r : AreTaken events t u) → u.side.messages ≡ t.side.messages ++ accepted_taken r
-  taken_delivers _ t _ (nothing t) = sym (append-nil t.side.messages)
-  taken_delivers _ t v (unit octets left t u v read taken) =
+  taken_delivers _ _ _ (nothing t) = sym (append-nil t.side.messages)
+  taken_delivers _ _ _ (unit octets left t u v read taken) =
       joined t.side.messages u.side.messages v.side.messages (accepted_read read) (accepted_taken taken) (read_delivers octets t u read)
       (taken_delivers left u v taken)
-  taken_delivers _ t v (errored left t v taken) =
+  taken_delivers _ _ _ (errored left t v taken) =
       taken_delivers left (error_taken t) v taken ∙ ap (λ (ms : List Msu). ms ++ accepted_taken taken) (law.errors t)
-  taken_delivers _ t v (sixteen left t v taken) =
+  taken_delivers _ _ _ (sixteen left t v taken) =
       taken_delivers left (error_taken t) v taken ∙ ap (λ (ms : List Msu). ms ++ accepted_taken taken) (law.errors t)
 
   pub delivers : Delivers
-  delivers bits all now t u _ (silent bits all t) = sym (append-nil t.side.messages)
-  delivers bits all now t v _ (octet bits all given t u v first octets now room are taken hears) =
+  delivers _ _ _ _ _ _ (silent bits all t) = sym (append-nil t.side.messages)
+  delivers _ _ _ _ _ _ (octet bits all given t u v first octets now room are taken hears) =
       joined t.side.messages u.side.messages v.side.messages (accepted_taken taken) (accepted_along hears)
       (taken_delivers given (tidied t) u taken ∙ ap (λ (h : Half). h.messages ++ accepted_taken taken) (tidied_side t))
-      (delivers (bits ++ _) (all ++ given) now u v octets hears)
+      (delivers (bits ++ low_bits 8 first) (all ++ given) now u v octets hears)
 
 -- ---- what is kept to send
 
@@ -72,8 +73,8 @@ same_drops a b h = (0, h)
 
 module _ (law : KeptLaw) where
   read_keeps : (octets : List ℕ) (t u : Heart) → Reads octets t u → Drops t.side.sender.kept u.side.sender.kept
-  read_keeps _ t _ (as_unit octets x t frame) = let taken = law.units x t in (taken.0, taken.2)
-  read_keeps _ t _ (as_error octets t none) = same_drops t.side.sender.kept (error_taken t).side.sender.kept (law.errors t)
+  read_keeps _ _ _ (as_unit octets x t frame) = let taken = law.units x t in (taken.0, taken.2)
+  read_keeps _ _ _ (as_error octets t none) = same_drops t.side.sender.kept (error_taken t).side.sender.kept (law.errors t)
 
   error_keeps : (t v : Heart) → Drops (error_taken t).side.sender.kept v.side.sender.kept → Drops t.side.sender.kept v.side.sender.kept
   error_keeps t v h =
@@ -81,17 +82,17 @@ module _ (law : KeptLaw) where
       (same_drops t.side.sender.kept (error_taken t).side.sender.kept (law.errors t)) h
 
   taken_keeps : (events : List LineEvent) (t u : Heart) → AreTaken events t u → Drops t.side.sender.kept u.side.sender.kept
-  taken_keeps _ t _ (nothing t) = same_drops t.side.sender.kept t.side.sender.kept refl
-  taken_keeps _ t v (unit octets left t u v read taken) =
+  taken_keeps _ _ _ (nothing t) = same_drops t.side.sender.kept t.side.sender.kept refl
+  taken_keeps _ _ _ (unit octets left t u v read taken) =
       drops_joined t.side.sender.kept u.side.sender.kept v.side.sender.kept (read_keeps octets t u read) (taken_keeps left u v taken)
-  taken_keeps _ t v (errored left t v taken) = error_keeps t v (taken_keeps left (error_taken t) v taken)
-  taken_keeps _ t v (sixteen left t v taken) = error_keeps t v (taken_keeps left (error_taken t) v taken)
+  taken_keeps _ _ _ (errored left t v taken) = error_keeps t v (taken_keeps left (error_taken t) v taken)
+  taken_keeps _ _ _ (sixteen left t v taken) = error_keeps t v (taken_keeps left (error_taken t) v taken)
 
   pub stays_kept : StaysKept
-  stays_kept bits all now t u _ (silent bits all t) = same_drops t.side.sender.kept t.side.sender.kept refl
-  stays_kept bits all now t v _ (octet bits all given t u v first octets now room are taken hears) =
+  stays_kept _ _ _ _ _ _ (silent bits all t) = same_drops t.side.sender.kept t.side.sender.kept refl
+  stays_kept _ _ _ _ _ _ (octet bits all given t u v first octets now room are taken hears) =
       let tidy : Drops t.side.sender.kept (tidied t).side.sender.kept =
       same_drops t.side.sender.kept (tidied t).side.sender.kept (ap (λ (h : Half). h.sender.kept) (tidied_side t)) in
       drops_joined t.side.sender.kept (tidied t).side.sender.kept v.side.sender.kept tidy
       (drops_joined (tidied t).side.sender.kept u.side.sender.kept v.side.sender.kept (taken_keeps given (tidied t) u taken)
-      (stays_kept (bits ++ _) (all ++ given) now u v octets hears))
+      (stays_kept (bits ++ low_bits 8 first) (all ++ given) now u v octets hears))

@@ -1,5 +1,5 @@
 -- Units out, one after another.
-use Rattle.std.proofs.Common.{◌≡◌, ℕ, ◌+◌, zero, suc, Option, Some, None, List, [], ◌∷◌, ◌++◌, refl, sym, ap, ◌∙◌, subst, append-nil, append_assoc}
+use Rattle.std.proofs.Common.{◌≡◌, ℕ, ◌+◌, zero, suc, Option, Some, None, List, [], ◌∷◌, ◌++◌, refl, sym, ap, ◌∙◌, subst, append-nil, append_assoc, arith}
 use Rattle.std.specs.Option.{option_to_list}
 use Rattle.su_octets.specs.Frame.{Frame, SpareBitsAreZero}
 use Rattle.su_octets.specs.declared.units.Unit as units
@@ -48,14 +48,18 @@ pub speaks_one : (s t : Stuffer) (before after more octets : List ℕ) (u : unit
 speaks_one s t before after more octets u frame spare behind gave =
     record { frames = octets ∷ []; are = ((frame, spare), tt); more = more; behind = behind; gave = gave }
 
+suc_more : (k : ℕ) → suc k + 1 ≡ suc (k + 1)
+suc_more k = omega arith
+
 left_next : (k : ℕ) (t : Heart) → left (k + 1) t ≡ left 1 (left k t)
 left_next zero t = refl
-left_next (suc k) t = left_next k (sent (tidied t)).heart
+left_next (suc k) t = ap (λ (j : ℕ). left j t) (suc_more k) ∙ left_next k (sent (tidied t)).heart
 
 given_next : (k : ℕ) (t : Heart) → given (k + 1) t ≡ given k t ++ given 1 (left k t)
 given_next zero t = refl
 given_next (suc k) t =
-    ap (λ (us : List units.Unit). option_to_list (sent (tidied t)).unit ++ us) (given_next k (sent (tidied t)).heart)
+    ap (λ (j : ℕ). given j t) (suc_more k)
+    ∙ ap (λ (us : List units.Unit). option_to_list (sent (tidied t)).unit ++ us) (given_next k (sent (tidied t)).heart)
     ∙ sym (append_assoc (option_to_list (sent (tidied t)).unit) (given k (sent (tidied t)).heart) (given 1 (left k (sent (tidied t)).heart)))
 
 pub spoke_nothing : (t : Term) (before : List ℕ) → Spoke t before 0 t before
@@ -99,3 +103,27 @@ spoke_none t u a b unit heart line sending same =
       speaks = subst P (none_given (sent (tidied t.heart)).unit (sym unit))
           (subst Q (sym sending) (subst R (sym same) (speaks_nothing t.sending a)));
     }
+
+pub spoke_same : (t m u : Term) (a b c : List ℕ) (n : ℕ) → u ≡ m → c ≡ b → Spoke t a n m b → Spoke t a n u c
+spoke_same t m u a b c n h k spoke =
+    let P : Term → Type 0 = λ x. Spoke t a n x c in
+    let Q : List ℕ → Type 0 = λ xs. Spoke t a n m xs in
+    subst P (sym h) (subst Q (sym k) spoke)
+
+pub spoke_from : (t u : Term) (a b c : List ℕ) (n : ℕ) → a ≡ b → Spoke t a n u c → Spoke t b n u c
+spoke_from t u a b c n h spoke = let P : List ℕ → Type 0 = λ xs. Spoke t xs n u c in subst P h spoke
+
+speaks_from : (r s t : Stuffer) (a b c : List ℕ) (us : List units.Unit) → r ≡ s → a ≡ b → Speaks r a us t c → Speaks s b us t c
+speaks_from r s t a b c us h k speaks =
+    let P : Stuffer → Type 0 = λ x. Speaks x b us t c in
+    let Q : List ℕ → Type 0 = λ xs. Speaks r xs us t c in
+    subst P h (subst Q k speaks)
+
+-- the same where the terminal is taken apart for the stuffer
+pub spoke_apart : (t m inside u : Term) (a before b : List ℕ) (x : units.Unit) → Some x ≡ (sent (tidied t.heart)).unit
+    → m ≡ record t { heart = (sent (tidied t.heart)).heart } → inside ≡ m → u.heart ≡ inside.heart → u.line ≡ inside.line → before ≡ a
+    → Speaks inside.sending before (x ∷ []) u.sending b → Spoke t a 1 u b
+spoke_apart t m inside u a before b x unit h view heart line same speaks =
+    let whole : inside ≡ record t { heart = (sent (tidied t.heart)).heart } = view ∙ h in
+    spoke_unit t inside u a b x unit (ap (λ (y : Term). y.heart) whole) heart (line ∙ ap (λ (y : Term). y.line) whole)
+    (speaks_from inside.sending t.sending u.sending before a b (x ∷ []) (ap (λ (y : Term). y.sending) whole) same speaks)

@@ -2,7 +2,7 @@
 ghost use Rattle.std.specs.Prelude.{◌≡◌, ◌⊎◌, ◌+◌, ◌<◌, ◌≤◌, ◌∷◌, [], true, false, length, take};
 ghost use Rattle.bit_line.specs.Events.{closings};
 ghost use Rattle.link_side.specs.declared.signals.TheConstants.{MESSAGES};
-ghost use Rattle.link_heart.specs.Machine.{places, LOW};
+ghost use Rattle.link_heart.specs.Machine.{places, tidied, LOW};
 ghost use Rattle.link_heart.specs.declared.heart.Heart.{Heart as PlainHeart};
 ghost use Rattle.link_term.specs.Hearing.{Reads, AreTaken, Heard};
 
@@ -47,6 +47,23 @@ fn take_events(heart: &mut Heart, events: &[LineEvent])
     }
 }
 
+/// Makes room in the journal where it is needed, if a message more can be accepted. Whether an octet can be taken then; else nothing
+/// changed.
+fn make_room(heart: &mut Heart) -> bool
+    ensures room { result ≡ true → length heart.old.side.messages < MESSAGES }
+    ensures tidied { result ≡ true → heart.new ≡ tidied heart.old }
+    ensures left { result ≡ false → heart.new ≡ heart.old }
+    ensures stops { result ≡ false → (MESSAGES ≤ length heart.old.side.messages) ⊎ (places heart.old < LOW) }
+{
+    if !heart.side.has_room() {
+        return false;
+    }
+    match heart.tidy() {
+        Ok(()) => true,
+        Err(_) => false,
+    }
+}
+
 impl Terminal {
     /// Takes an octet of the line, unless `MESSAGES` messages wait, or room has to be made in the journal and there is no memory. Whether
     /// it did; else nothing changed.
@@ -55,7 +72,7 @@ impl Terminal {
         ensures left { result ≡ false → self.new ≡ self.old }
         ensures stops { result ≡ false → (MESSAGES ≤ length self.old.heart.side.messages) ⊎ (places self.old.heart < LOW) }
     {
-        if !self.heart.side.has_room() || self.heart.tidy().is_err() {
+        if !make_room(&mut self.heart) {
             return false;
         }
         let events = self.line.feed_byte(octet);

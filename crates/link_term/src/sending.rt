@@ -1,9 +1,6 @@
 //! The line out.
-ghost use Rattle.std.specs.Prelude.{◌≡◌, ◌++◌, ◌<◌, ◌≤◌, ◌∷◌, [], length, vec_len, OnOk, OnErr, IfOk, IfSome, Option};
-ghost use Rattle.std.specs.Option.{option_to_list};
+ghost use Rattle.std.specs.Prelude.{◌≡◌, ◌+◌, ◌≤◌, ◌∷◌, [], vec_len, vec_capacity, OnOk, OnErr, IfOk};
 ghost use Rattle.su_octets.specs.Whole.{IsWhole};
-ghost use Rattle.su_octets.specs.declared.units.Unit.{Unit as PlainUnit};
-ghost use Rattle.link_heart.specs.Machine.{sent, tidied};
 ghost use Rattle.link_term.specs.Speaking.{Speaks, Spoke};
 
 use crate::terminal::Terminal;
@@ -35,8 +32,10 @@ impl Terminal {
         ensures same { OnErr result (octets.new.items ≡ octets.old.items) }
     {
         octets.reserve(LONGEST)?;
-        if let Some(unit) = self.unit_out()? {
-            put_unit(&mut self.sending, octets, &unit);
+        let unit = self.unit_out()?;
+        match unit {
+            Some(unit) => put_unit(&mut self.sending, octets, &unit),
+            None => {}
         }
         Ok(())
     }
@@ -54,15 +53,14 @@ impl Terminal {
         ensures err { OnErr result (self.new ≡ self.old) }
     {
         let mut octets = Vec::new(self.alloc);
-        for gone in 0..units {
+        if units == 0 {
+            return Ok(octets);
+        }
+        self.put_next(&mut octets)?;
+        for _gone in 1..units {
             match self.put_next(&mut octets) {
                 Ok(()) => {}
-                Err(error) => {
-                    if gone == 0 {
-                        return Err(error);
-                    }
-                    return Ok(octets);
-                }
+                Err(_) => return Ok(octets),
             }
         }
         Ok(octets)
