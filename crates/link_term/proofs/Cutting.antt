@@ -6,10 +6,9 @@ use Rattle.bit_line.specs.Deframing.{Stands}
 use Rattle.bit_line.specs.Events.{AreEvents}
 use Rattle.bit_line.specs.declared.deframer.Deframer.{Deframer}
 use Rattle.bit_line.specs.declared.events.LineEvent.{LineEvent}
-use Rattle.link_side.specs.declared.signals.TheConstants.{MESSAGES}
 use Rattle.link_heart.specs.declared.heart.Heart.{Heart}
 use Rattle.link_heart.specs.Machine.{tidied}
-use Rattle.link_term.specs.Term.{Term}
+use Rattle.link_term.specs.Term.{KEPT_MESSAGES, Term}
 use Rattle.link_term.specs.Hearing.{AreTaken, Hears, silent, octet, Heard}
 use Rattle.link_term.specs.Laws.{CuttingsAgree}
 
@@ -68,7 +67,7 @@ one_bits bits x = next_bits bits x [] ∙ no_bits (bits ++ low_bits 8 x)
 pub heard_one : (t u : Term) (x : ℕ) (given : List LineEvent)
     → ((bits : List Bool) → Stands bits t.line → Stands (bits ++ low_bits 8 x) u.line)
     → ((bits : List Bool) (all : List LineEvent) → Stands bits t.line → AreEvents bits all → AreEvents (bits ++ low_bits 8 x) (all ++ given))
-    → length t.heart.side.messages < MESSAGES → AreTaken given (tidied t.heart) u.heart → u.sending ≡ t.sending → Heard t (x ∷ []) u
+    → length t.heart.side.messages < KEPT_MESSAGES → AreTaken given (tidied t.heart) u.heart → u.sending ≡ t.sending → Heard t (x ∷ []) u
 heard_one t u x given stands events room taken sending = record {
   stands = λ bits s. let P : List Bool → Type 0 = λ b. Stands b u.line in subst P (sym (one_bits bits x)) (stands bits s);
   hears = λ bits all s are.

@@ -1,14 +1,14 @@
 -- Units out, one after another.
-use Rattle.std.proofs.Common.{◌≡◌, ℕ, ◌+◌, zero, suc, Option, Some, None, List, [], ◌∷◌, ◌++◌, refl, sym, ap, ◌∙◌, subst, append-nil, append_assoc, arith}
+use Rattle.std.proofs.Common.{◌≡◌, ℕ, ◌+◌, ◌-◌, ◌*◌, ◌<◌, ◌≤◌, zero, suc, Option, Some, None, List, [], ◌∷◌, ◌++◌, refl, sym, ap, ◌∙◌, subst, append-nil, append_assoc, arith}
 use Rattle.std.specs.Option.{option_to_list}
 use Rattle.su_octets.specs.Frame.{Frame, SpareBitsAreZero}
 use Rattle.su_octets.specs.declared.units.Unit as units
 use Rattle.bit_line.specs.Stuffers.{Gave}
 use Rattle.bit_line.specs.declared.stuffer.Stuffer.{Stuffer}
 use Rattle.link_heart.specs.declared.heart.Heart.{Heart}
-use Rattle.link_heart.specs.Machine.{sent, tidied}
+use Rattle.link_heart.specs.Machine.{sent, tidied, places, LOW}
 use Rattle.link_term.specs.Term.{Term}
-use Rattle.link_term.specs.Speaking.{AreFrames, Speaks, given, left, Spoke}
+use Rattle.link_term.specs.Speaking.{AreFrames, Speaks, given, left, Spoke, IsSpoken}
 
 frames_joined : (fs gs : List (List ℕ)) (us vs : List units.Unit) → AreFrames fs us → AreFrames gs vs → AreFrames (fs ++ gs) (us ++ vs)
 frames_joined [] gs [] vs f g = g
@@ -127,3 +127,40 @@ spoke_apart t m inside u a before b x unit h view heart line same speaks =
     let whole : inside ≡ record t { heart = (sent (tidied t.heart)).heart } = view ∙ h in
     spoke_unit t inside u a b x unit (ap (λ (y : Term). y.heart) whole) heart (line ∙ ap (λ (y : Term). y.line) whole)
     (speaks_from inside.sending t.sending u.sending before a b (x ∷ []) (ap (λ (y : Term). y.sending) whole) same speaks)
+
+not_below : (n : ℕ) → n < n → ⊥
+not_below n h = omega (arith, h)
+
+pub spoken : (t u : Term) (n : ℕ) (octets : List ℕ) → Spoke t [] n u octets → IsSpoken t n u octets
+spoken t u n octets spoke = record {
+  count = n;
+  most = omega arith;
+  first = λ h. h;
+  fewer = λ h. let f : ⊥ = not_below n h in absurd f;
+  spoke = spoke;
+}
+
+at_least_one : (n : ℕ) → 1 ≤ n → 0 < n
+at_least_one n h = omega (arith, h)
+
+pub spoken_less : (t m u : Term) (n asked : ℕ) (b octets : List ℕ) → 1 ≤ n → n < asked → Spoke t [] n m b → u ≡ m → octets ≡ b
+    → places m.heart < LOW → IsSpoken t asked u octets
+spoken_less t m u n asked b octets one less spoke h k low = record {
+  count = n;
+  most = omega (arith, less);
+  first = λ some. at_least_one n one;
+  fewer = λ fewer. let P : Term → Type 0 = λ x. places x.heart < LOW in subst P (sym h) low;
+  spoke = spoke_same t m u [] b octets n h k spoke;
+}
+
+pub spoken_all : (t u : Term) (n asked : ℕ) (octets : List ℕ) → n ≡ asked → Spoke t [] n u octets → IsSpoken t asked u octets
+spoken_all t u n asked octets h spoke = let P : ℕ → Type 0 = λ k. IsSpoken t k u octets in subst P h (spoken t u n octets spoke)
+
+pub spoken_none : (t : Term) (units : ℕ) (octets : List ℕ) → units ≡ 0 → octets ≡ [] → IsSpoken t units t octets
+spoken_none t units octets h k =
+    let P : List ℕ → Type 0 = λ xs. Spoke t [] 0 t xs in
+    spoken_all t t 0 units octets (sym h) (subst P (sym k) (spoke_nothing t []))
+
+pub room_left : (len cap new_len new_cap units gone : ℕ) → gone < units → len + (units - gone) * 352 ≤ cap → new_len ≤ len + 352 → cap ≤ new_cap
+    → new_len + (units - (gone + 1)) * 352 ≤ new_cap
+room_left len cap new_len new_cap units gone h room more kept = omega (arith, h, room, more, kept)

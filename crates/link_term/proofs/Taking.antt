@@ -6,9 +6,9 @@ use Rattle.bit_line.specs.Events.{closings}
 use Rattle.bit_line.specs.declared.events.LineEvent.{LineEvent}
 use Rattle.bit_line.specs.declared.events.LineEvent.TheVariants as event
 use Rattle.link_side.specs.Half.{Half}
-use Rattle.link_side.specs.declared.signals.TheConstants.{MESSAGES}
 use Rattle.link_heart.specs.declared.heart.Heart.{Heart}
 use Rattle.link_heart.specs.Machine.{unit_taken, error_taken, tidied}
+use Rattle.link_term.specs.Term.{KEPT_MESSAGES}
 use Rattle.link_term.specs.Hearing.{Reads, as_unit, as_error, AreTaken, nothing, unit, errored, sixteen}
 use Rattle.link_term.proofs.Delivering.{tidied_side}
 
@@ -51,12 +51,12 @@ all_taken es i t h = let P : List LineEvent → Type 0 = λ xs. AreTaken xs t t 
 few : (m k n most : ℕ) → m < most → n ≡ m → k ≤ 1 → n + k ≤ most
 few m k n most h e le = omega (arith, h, e, le)
 
-pub room_for : (t u : Heart) (es gs : List LineEvent) → length t.side.messages < MESSAGES → u ≡ tidied t → gs ≡ es → closings es ≤ 1
-    → length u.side.messages + closings gs ≤ MESSAGES
+pub room_for : (t u : Heart) (es gs : List LineEvent) → length t.side.messages < KEPT_MESSAGES → u ≡ tidied t → gs ≡ es → closings es ≤ 1
+    → length u.side.messages + closings gs ≤ KEPT_MESSAGES
 room_for t u es gs room h same one =
     let side : u.side ≡ t.side = ap (λ (x : Heart). x.side) h ∙ tidied_side t in
     let closed : closings gs ≡ closings es = ap closings same in
-    few (length t.side.messages) (closings gs) (length u.side.messages) MESSAGES room (ap (λ (x : Half). length x.messages) side)
+    few (length t.side.messages) (closings gs) (length u.side.messages) KEPT_MESSAGES room (ap (λ (x : Half). length x.messages) side)
     (omega (arith, one, closed))
 
 pub taken_from : (gs es : List LineEvent) (h t u : Heart) → gs ≡ es → h ≡ tidied t → AreTaken gs h u → AreTaken es (tidied t) u

@@ -7,10 +7,9 @@ use Rattle.bit_line.specs.Deframing.{Stands}
 use Rattle.bit_line.specs.Events.{AreEvents}
 use Rattle.bit_line.specs.declared.events.LineEvent.{LineEvent}
 use Rattle.bit_line.specs.declared.events.LineEvent.TheVariants as event
-use Rattle.link_side.specs.declared.signals.TheConstants.{MESSAGES}
 use Rattle.link_heart.specs.declared.heart.Heart.{Heart}
 use Rattle.link_heart.specs.Machine.{unit_taken, error_taken, tidied}
-use Rattle.link_term.specs.Term.{Term}
+use Rattle.link_term.specs.Term.{KEPT_MESSAGES, Term}
 
 -- octets between two flags: those of a unit are taken as that unit, others as an error
 pub data Reads : List ℕ → Heart → Heart → Type 0 where
@@ -30,7 +29,7 @@ pub data AreTaken : List LineEvent → Heart → Heart → Type 0 where
 pub data Hears : List Bool → List LineEvent → Heart → List ℕ → List LineEvent → Heart → Type 0 where
   silent : (bits : List Bool) (all : List LineEvent) (t : Heart) → Hears bits all t [] all t
   octet : (bits : List Bool) (all given : List LineEvent) (t u v : Heart) (first : ℕ) (octets : List ℕ) (now : List LineEvent)
-      → length t.side.messages < MESSAGES
+      → length t.side.messages < KEPT_MESSAGES
       → AreEvents (bits ++ low_bits 8 first) (all ++ given)
       → AreTaken given (tidied t) u
       → Hears (bits ++ low_bits 8 first) (all ++ given) u octets now v

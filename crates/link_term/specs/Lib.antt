@@ -3,3 +3,4 @@ pub mod Inside
 pub mod Hearing
 pub mod Speaking
 pub mod Laws
+pub mod Opening

@@ -1,12 +1,12 @@
 -- What goes out on the line.
-use Rattle.std.specs.Prelude.{◌≡◌, ℕ, zero, suc, Option, Some, None, List, [], ◌∷◌, ◌++◌}
+use Rattle.std.specs.Prelude.{◌≡◌, ℕ, ◌<◌, ◌≤◌, zero, suc, Option, Some, None, List, [], ◌∷◌, ◌++◌}
 use Rattle.std.specs.Option.{option_to_list}
 use Rattle.su_octets.specs.Frame.{Frame, SpareBitsAreZero}
 use Rattle.su_octets.specs.declared.units.Unit as units
 use Rattle.bit_line.specs.Stuffers.{Gave}
 use Rattle.bit_line.specs.declared.stuffer.Stuffer.{Stuffer}
 use Rattle.link_heart.specs.declared.heart.Heart.{Heart}
-use Rattle.link_heart.specs.Machine.{sent, tidied}
+use Rattle.link_heart.specs.Machine.{sent, tidied, places, LOW}
 use Rattle.link_term.specs.Term.{Term}
 
 -- the octets of units, with spare bits 0
@@ -38,3 +38,11 @@ pub record Spoke (old : Term) (before : List ℕ) (n : ℕ) (new : Term) (after 
   pub heart : new.heart ≡ left n old.heart
   pub line : new.line ≡ old.line
   pub speaks : Speaks old.sending before (given n old.heart) new.sending after
+
+-- So many units were asked for, and went out. They may be fewer where the journal lacks room, but the first isn't missing.
+pub record IsSpoken (old : Term) (asked : ℕ) (new : Term) (octets : List ℕ) : Type 0 where
+  pub count : ℕ
+  pub most : count ≤ asked
+  pub first : 0 < asked → 0 < count
+  pub fewer : count < asked → places new.heart < LOW
+  pub spoke : Spoke old [] count new octets

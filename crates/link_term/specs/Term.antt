@@ -1,5 +1,5 @@
 -- A terminal: its actors with what it keeps beside them, and both directions of the line.
-use Rattle.std.specs.Prelude.{◌≡◌, ◌<◌, Result, Ok, Err}
+use Rattle.std.specs.Prelude.{◌≡◌, ℕ, ◌<◌, Result, Ok, Err}
 use Rattle.bit_line.specs.declared.deframer.Deframer.{Deframer}
 use Rattle.bit_line.specs.declared.stuffer.Stuffer.{Stuffer}
 use Rattle.link_machine.specs.Step.{Answer, Says}
@@ -10,6 +10,10 @@ use Rattle.link_heart.specs.declared.heart.Heart.{Heart}
 use Rattle.link_heart.specs.Machine.{with_side, tidied, places, LOW}
 use Rattle.link_term.specs.declared.answers.CallError.{CallError}
 use Rattle.link_term.specs.declared.answers.CallError.TheVariants.{Refused, NoMemory}
+
+-- how many messages are kept until they are handed out
+abbrev pub KEPT_MESSAGES : ℕ
+KEPT_MESSAGES = 256
 
 pub record Term : Type 0 where
   pub heart : Heart

@@ -7,9 +7,7 @@ ghost use Rattle.bit_line.specs.Deframing.{Stands};
 ghost use Rattle.bit_line.specs.Stuffers.{Gave};
 ghost use Rattle.link_side.specs.Half.{first_half};
 ghost use Rattle.link_side.specs.Reporting.{reported};
-ghost use Rattle.link_side.specs.declared.signals.TheConstants.{MESSAGES};
-ghost use Rattle.link_heart.specs.Machine.{with_side};
-ghost use Rattle.link_term.specs.Term.{with_half};
+ghost use Rattle.link_term.specs.Term.{KEPT_MESSAGES, with_half};
 
 use actor_book::Book;
 use bit_line::{Deframer, Stuffer};
@@ -167,7 +165,7 @@ impl Terminal {
 
     /// Whether a further message can be accepted. `line_in` takes no octet where none can: reports make room.
     pub fn has_room(&self) -> bool
-        ensures { IsTrue result ↔ (length self.now.heart.side.messages < MESSAGES) }
+        ensures { IsTrue result ↔ (length self.now.heart.side.messages < KEPT_MESSAGES) }
     {
         self.heart.side.has_room()
     }
