@@ -18,6 +18,10 @@ pub data IsTurn (b : Ledger) : Tried → Type 0 where
   of_least : (n : ℕ) → IsLeast b n → IsTurn b (tried n b)
   of_none : NoneCan b → IsTurn b (stays b Idle)
 
+-- what comes to nothing leaves the book as it is
+abbrev pub StaysLaw : Type 0
+StaysLaw = (n : ℕ) (b : Ledger) → (tried n b).turn ≢ Made → (tried n b).book ≡ b
+
 abbrev pub TurnLaw : Type 0
 TurnLaw = (b : Ledger) → IsTurn b (least_turn b)
 

@@ -1,5 +1,10 @@
 //! Laws of turns and rests. Each call costs nothing.
-ghost use Rattle.book_rest.specs.Laws.{TurnLaw, RestLaw};
+ghost use Rattle.book_rest.specs.Laws.{StaysLaw, TurnLaw, RestLaw};
+
+/// A try that comes to nothing leaves the book as it is.
+pub fn failed_tries_change_nothing()
+    ensures { StaysLaw }
+{}
 
 /// One turn is that of the least actor that can have one.
 pub fn turns_are_of_the_least()

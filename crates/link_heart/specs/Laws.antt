@@ -1,0 +1,41 @@
+-- What follows from the steps of a terminal.
+use Rattle.std.specs.Prelude.{◌≡◌, ℕ, zero, suc, ◌+◌, ◌++◌, ◌≤◌, List, length, drop}
+use Rattle.su_octets.specs.declared.units.Unit.{Unit}
+use Rattle.book_rest.specs.declared.turn.Turn.TheVariants.{Made, Blocked}
+use Rattle.book_rest.specs.Turns.{MOST_TURNS, tried}
+use Rattle.book_rest.specs.Laws.{IsLeast, NoneCan}
+use Rattle.link_side.specs.declared.offers.Offer.{Offer}
+use Rattle.link_side.specs.Laws.{accepted_of}
+use Rattle.link_heart.specs.declared.heart.Heart.{Heart}
+use Rattle.link_heart.specs.Machine.{with_book, emptied, rested, offered, all_offered, unit_taken, error_taken, sent}
+use Rattle.link_machine.specs.declared.event.Event.{Event}
+
+-- Up to so many turns, each of the least actor that can, come one after another, and behind each all that waits for the environment is
+-- taken. There are less only where no actor can, or where the journal has no room for the least that could.
+pub data IsRun : ℕ → Heart → Heart → Type 0 where
+  spent : (t : Heart) → IsRun zero t t
+  none_can : (k : ℕ) (t : Heart) → NoneCan t.book → IsRun k t t
+  blocked : (k : ℕ) (t : Heart) (n : ℕ) → IsLeast t.book n → (tried n t.book).turn ≡ Blocked → IsRun k t t
+  goes : (k : ℕ) (t u : Heart) (n : ℕ) → IsLeast t.book n → (tried n t.book).turn ≡ Made
+      → IsRun k (emptied (with_book t (tried n t.book).book)) u → IsRun (suc k) t u
+
+abbrev pub RestLaw : Type 0
+RestLaw = (t : Heart) → IsRun MOST_TURNS t (rested t)
+
+-- What waits to be handed out changes by the units that come alone: each puts the message that the receiver accepts of it behind the
+-- others.
+pub record MessagesLaw : Type 0 where
+  pub events : (e : Event) (t : Heart) → (offered e t).side.messages ≡ t.side.messages
+  pub offers : (os : List Offer) (t : Heart) → (all_offered os t).side.messages ≡ t.side.messages
+  pub units : (u : Unit) (t : Heart) → (unit_taken u t).side.messages ≡ t.side.messages ++ accepted_of t.side u
+  pub errors : (t : Heart) → (error_taken t).side.messages ≡ t.side.messages
+  pub sends : (t : Heart) → (sent t).heart.side.messages ≡ t.side.messages
+  pub few : (u : Unit) (t : Heart) → length (unit_taken u t).side.messages ≤ length t.side.messages + 1
+
+-- Of what is kept to send a unit that comes takes away messages that were sent, the oldest first; nothing else takes any away.
+pub record KeptLaw : Type 0 where
+  pub events : (e : Event) (t : Heart) → (offered e t).side.sender.kept ≡ t.side.sender.kept
+  pub offers : (os : List Offer) (t : Heart) → (all_offered os t).side.sender.kept ≡ t.side.sender.kept
+  pub units : (u : Unit) (t : Heart) → (n : ℕ) × (n ≤ t.side.sender.sent) × ((unit_taken u t).side.sender.kept ≡ drop n t.side.sender.kept)
+  pub errors : (t : Heart) → (error_taken t).side.sender.kept ≡ t.side.sender.kept
+  pub sends : (t : Heart) → (sent t).heart.side.sender.kept ≡ t.side.sender.kept

@@ -1,0 +1,4 @@
+pub mod Offering
+pub mod Machine
+pub mod Laws
+pub mod Known

@@ -1,0 +1,4 @@
+pub mod Cutting
+pub mod Speaking
+pub mod Delivering
+pub mod Taking

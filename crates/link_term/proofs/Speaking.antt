@@ -1,0 +1,166 @@
+-- Units out, one after another.
+use Rattle.std.proofs.Common.{◌≡◌, ℕ, ◌+◌, ◌-◌, ◌*◌, ◌<◌, ◌≤◌, zero, suc, Option, Some, None, List, [], ◌∷◌, ◌++◌, refl, sym, ap, ◌∙◌, subst, append-nil, append_assoc, arith}
+use Rattle.std.specs.Option.{option_to_list}
+use Rattle.su_octets.specs.Frame.{Frame, SpareBitsAreZero}
+use Rattle.su_octets.specs.declared.units.Unit as units
+use Rattle.bit_line.specs.Stuffers.{Gave}
+use Rattle.bit_line.specs.declared.stuffer.Stuffer.{Stuffer}
+use Rattle.link_heart.specs.declared.heart.Heart.{Heart}
+use Rattle.link_heart.specs.Machine.{sent, tidied, places, LOW}
+use Rattle.link_term.specs.Term.{Term}
+use Rattle.link_term.specs.Speaking.{AreFrames, Speaks, given, left, Spoke, IsSpoken}
+
+frames_joined : (fs gs : List (List ℕ)) (us vs : List units.Unit) → AreFrames fs us → AreFrames gs vs → AreFrames (fs ++ gs) (us ++ vs)
+frames_joined [] gs [] vs f g = g
+frames_joined [] gs (u ∷ us) vs f g = absurd f
+frames_joined (x ∷ fs) gs [] vs f g = absurd f
+frames_joined (x ∷ fs) gs (u ∷ us) vs f g = (f.0, frames_joined fs gs us vs f.1 g)
+
+pub speaks_nothing : (s : Stuffer) (before : List ℕ) → Speaks s before [] s before
+speaks_nothing s before = record {
+  frames = [];
+  are = tt;
+  more = [];
+  behind = sym (append-nil before);
+  gave = λ gone sent gave.
+      let P : List ℕ → Type 0 = λ xs. Gave xs (sent ++ []) s in
+      let Q : List (List ℕ) → Type 0 = λ xs. Gave gone xs s in
+      subst P (sym (append-nil gone)) (subst Q (sym (append-nil sent)) gave);
+}
+
+pub speaks_joined : (r s t : Stuffer) (a b c : List ℕ) (us vs : List units.Unit) → Speaks r a us s b → Speaks s b vs t c → Speaks r a (us ++ vs) t c
+speaks_joined r s t a b c us vs first second = record {
+  frames = first.frames ++ second.frames;
+  are = frames_joined first.frames second.frames us vs first.are second.are;
+  more = first.more ++ second.more;
+  behind = second.behind ∙ ap (λ (xs : List ℕ). xs ++ second.more) first.behind ∙ append_assoc a first.more second.more;
+  gave = λ gone sent gave.
+      let P : List ℕ → Type 0 = λ xs. Gave xs (sent ++ (first.frames ++ second.frames)) t in
+      let Q : List (List ℕ) → Type 0 = λ xs. Gave ((gone ++ first.more) ++ second.more) xs t in
+      subst P (append_assoc gone first.more second.more)
+      (subst Q (append_assoc sent first.frames second.frames)
+      (second.gave (gone ++ first.more) (sent ++ first.frames) (first.gave gone sent gave)));
+}
+
+pub speaks_one : (s t : Stuffer) (before after more octets : List ℕ) (u : units.Unit) → Frame octets u → SpareBitsAreZero octets
+    → after ≡ before ++ more → ((gone : List ℕ) (sent : List (List ℕ)) → Gave gone sent s → Gave (gone ++ more) (sent ++ octets ∷ []) t)
+    → Speaks s before (u ∷ []) t after
+speaks_one s t before after more octets u frame spare behind gave =
+    record { frames = octets ∷ []; are = ((frame, spare), tt); more = more; behind = behind; gave = gave }
+
+suc_more : (k : ℕ) → suc k + 1 ≡ suc (k + 1)
+suc_more k = omega arith
+
+left_next : (k : ℕ) (t : Heart) → left (k + 1) t ≡ left 1 (left k t)
+left_next zero t = refl
+left_next (suc k) t = ap (λ (j : ℕ). left j t) (suc_more k) ∙ left_next k (sent (tidied t)).heart
+
+given_next : (k : ℕ) (t : Heart) → given (k + 1) t ≡ given k t ++ given 1 (left k t)
+given_next zero t = refl
+given_next (suc k) t =
+    ap (λ (j : ℕ). given j t) (suc_more k)
+    ∙ ap (λ (us : List units.Unit). option_to_list (sent (tidied t)).unit ++ us) (given_next k (sent (tidied t)).heart)
+    ∙ sym (append_assoc (option_to_list (sent (tidied t)).unit) (given k (sent (tidied t)).heart) (given 1 (left k (sent (tidied t)).heart)))
+
+pub spoke_nothing : (t : Term) (before : List ℕ) → Spoke t before 0 t before
+spoke_nothing t before = record { heart = refl; line = refl; speaks = speaks_nothing t.sending before }
+
+pub spoke_more : (t m u : Term) (a b c : List ℕ) (n : ℕ) → Spoke t a n m b → Spoke m b 1 u c → Spoke t a (n + 1) u c
+spoke_more t m u a b c n first second =
+    let P : List units.Unit → Type 0 = λ us. Speaks t.sending a us u.sending c in
+    let next : Speaks m.sending b (given 1 (left n t.heart)) u.sending c =
+    subst (λ (h : Heart). Speaks m.sending b (given 1 h) u.sending c) first.heart second.speaks in
+    record {
+      heart = second.heart ∙ ap (left 1) first.heart ∙ sym (left_next n t.heart);
+      line = second.line ∙ first.line;
+      speaks = subst P (sym (given_next n t.heart))
+          (speaks_joined t.sending m.sending u.sending a b c (given n t.heart) (given 1 (left n t.heart)) first.speaks next);
+    }
+
+list_of_some : (o : Option units.Unit) (u : units.Unit) → o ≡ Some u → u ∷ [] ≡ option_to_list o ++ []
+list_of_some o u h = sym (ap (λ (x : Option units.Unit). option_to_list x ++ []) h)
+
+-- a unit went out
+pub spoke_unit : (t m u : Term) (a b : List ℕ) (x : units.Unit) → Some x ≡ (sent (tidied t.heart)).unit → m.heart ≡ (sent (tidied t.heart)).heart
+    → u.heart ≡ m.heart → u.line ≡ t.line → Speaks t.sending a (x ∷ []) u.sending b → Spoke t a 1 u b
+spoke_unit t m u a b x unit heart same line speaks =
+    let P : List units.Unit → Type 0 = λ us. Speaks t.sending a us u.sending b in
+    record { heart = same ∙ heart; line = line; speaks = subst P (list_of_some (sent (tidied t.heart)).unit x (sym unit)) speaks }
+
+none_given : (o : Option units.Unit) → o ≡ None → [] ≡ option_to_list o ++ []
+none_given o h = sym (ap (λ (x : Option units.Unit). option_to_list x ++ []) h)
+
+-- nothing was said of the line
+pub spoke_none : (t u : Term) (a b : List ℕ) → None ≡ (sent (tidied t.heart)).unit → u.heart ≡ (sent (tidied t.heart)).heart → u.line ≡ t.line
+    → u.sending ≡ t.sending → b ≡ a → Spoke t a 1 u b
+spoke_none t u a b unit heart line sending same =
+    let P : List units.Unit → Type 0 = λ us. Speaks t.sending a us u.sending b in
+    let Q : Stuffer → Type 0 = λ s. Speaks t.sending a [] s b in
+    let R : List ℕ → Type 0 = λ xs. Speaks t.sending a [] t.sending xs in
+    record {
+      heart = heart;
+      line = line;
+      speaks = subst P (none_given (sent (tidied t.heart)).unit (sym unit))
+          (subst Q (sym sending) (subst R (sym same) (speaks_nothing t.sending a)));
+    }
+
+pub spoke_same : (t m u : Term) (a b c : List ℕ) (n : ℕ) → u ≡ m → c ≡ b → Spoke t a n m b → Spoke t a n u c
+spoke_same t m u a b c n h k spoke =
+    let P : Term → Type 0 = λ x. Spoke t a n x c in
+    let Q : List ℕ → Type 0 = λ xs. Spoke t a n m xs in
+    subst P (sym h) (subst Q (sym k) spoke)
+
+pub spoke_from : (t u : Term) (a b c : List ℕ) (n : ℕ) → a ≡ b → Spoke t a n u c → Spoke t b n u c
+spoke_from t u a b c n h spoke = let P : List ℕ → Type 0 = λ xs. Spoke t xs n u c in subst P h spoke
+
+speaks_from : (r s t : Stuffer) (a b c : List ℕ) (us : List units.Unit) → r ≡ s → a ≡ b → Speaks r a us t c → Speaks s b us t c
+speaks_from r s t a b c us h k speaks =
+    let P : Stuffer → Type 0 = λ x. Speaks x b us t c in
+    let Q : List ℕ → Type 0 = λ xs. Speaks r xs us t c in
+    subst P h (subst Q k speaks)
+
+-- the same where the terminal is taken apart for the stuffer
+pub spoke_apart : (t m inside u : Term) (a before b : List ℕ) (x : units.Unit) → Some x ≡ (sent (tidied t.heart)).unit
+    → m ≡ record t { heart = (sent (tidied t.heart)).heart } → inside ≡ m → u.heart ≡ inside.heart → u.line ≡ inside.line → before ≡ a
+    → Speaks inside.sending before (x ∷ []) u.sending b → Spoke t a 1 u b
+spoke_apart t m inside u a before b x unit h view heart line same speaks =
+    let whole : inside ≡ record t { heart = (sent (tidied t.heart)).heart } = view ∙ h in
+    spoke_unit t inside u a b x unit (ap (λ (y : Term). y.heart) whole) heart (line ∙ ap (λ (y : Term). y.line) whole)
+    (speaks_from inside.sending t.sending u.sending before a b (x ∷ []) (ap (λ (y : Term). y.sending) whole) same speaks)
+
+not_below : (n : ℕ) → n < n → ⊥
+not_below n h = omega (arith, h)
+
+pub spoken : (t u : Term) (n : ℕ) (octets : List ℕ) → Spoke t [] n u octets → IsSpoken t n u octets
+spoken t u n octets spoke = record {
+  count = n;
+  most = omega arith;
+  first = λ h. h;
+  fewer = λ h. let f : ⊥ = not_below n h in absurd f;
+  spoke = spoke;
+}
+
+at_least_one : (n : ℕ) → 1 ≤ n → 0 < n
+at_least_one n h = omega (arith, h)
+
+pub spoken_less : (t m u : Term) (n asked : ℕ) (b octets : List ℕ) → 1 ≤ n → n < asked → Spoke t [] n m b → u ≡ m → octets ≡ b
+    → places m.heart < LOW → IsSpoken t asked u octets
+spoken_less t m u n asked b octets one less spoke h k low = record {
+  count = n;
+  most = omega (arith, less);
+  first = λ some. at_least_one n one;
+  fewer = λ fewer. let P : Term → Type 0 = λ x. places x.heart < LOW in subst P (sym h) low;
+  spoke = spoke_same t m u [] b octets n h k spoke;
+}
+
+pub spoken_all : (t u : Term) (n asked : ℕ) (octets : List ℕ) → n ≡ asked → Spoke t [] n u octets → IsSpoken t asked u octets
+spoken_all t u n asked octets h spoke = let P : ℕ → Type 0 = λ k. IsSpoken t k u octets in subst P h (spoken t u n octets spoke)
+
+pub spoken_none : (t : Term) (units : ℕ) (octets : List ℕ) → units ≡ 0 → octets ≡ [] → IsSpoken t units t octets
+spoken_none t units octets h k =
+    let P : List ℕ → Type 0 = λ xs. Spoke t [] 0 t xs in
+    spoken_all t t 0 units octets (sym h) (subst P (sym k) (spoke_nothing t []))
+
+pub room_left : (len cap new_len new_cap units gone : ℕ) → gone < units → len + (units - gone) * 352 ≤ cap → new_len ≤ len + 352 → cap ≤ new_cap
+    → new_len + (units - (gone + 1)) * 352 ≤ new_cap
+room_left len cap new_len new_cap units gone h room more kept = omega (arith, h, room, more, kept)

@@ -1,0 +1,6 @@
+pub mod Term
+pub mod Inside
+pub mod Hearing
+pub mod Speaking
+pub mod Laws
+pub mod Opening

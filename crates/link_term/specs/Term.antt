@@ -1,0 +1,38 @@
+-- A terminal: its actors with what it keeps beside them, and both directions of the line.
+use Rattle.std.specs.Prelude.{◌≡◌, ℕ, ◌<◌, Result, Ok, Err}
+use Rattle.bit_line.specs.declared.deframer.Deframer.{Deframer}
+use Rattle.bit_line.specs.declared.stuffer.Stuffer.{Stuffer}
+use Rattle.link_machine.specs.Step.{Answer, Says}
+use Rattle.link_machine.specs.declared.reply.Reply.{Reply}
+use Rattle.link_machine.specs.declared.reply.Reply.TheVariants as reply
+use Rattle.link_side.specs.Half.{Half}
+use Rattle.link_heart.specs.declared.heart.Heart.{Heart}
+use Rattle.link_heart.specs.Machine.{with_side, tidied, places, LOW}
+use Rattle.link_term.specs.declared.answers.CallError.{CallError}
+use Rattle.link_term.specs.declared.answers.CallError.TheVariants.{Refused, NoMemory}
+
+-- how many messages are kept until they are handed out
+abbrev pub KEPT_MESSAGES : ℕ
+KEPT_MESSAGES = 256
+
+pub record Term : Type 0 where
+  pub heart : Heart
+  pub line : Deframer
+  pub sending : Stuffer
+
+abbrev pub with_heart : Term → Heart → Term
+with_heart t h = record t { heart = h }
+
+abbrev pub with_half : Term → Half → Term
+with_half t h = with_heart t (with_side t.heart h)
+
+-- a call that is one event of the book answers what the book does, unless there is no memory
+abbrev pub IsAnswer : {A : Type 0} → (A → Reply) → Result A CallError → Answer → Type 0
+IsAnswer f (Ok x) a = Says (f x) ≡ a
+IsAnswer f (Err (Refused r)) a = Says (reply.Refused r) ≡ a
+IsAnswer f (Err NoMemory) a = Unit {0}
+
+-- A call that is refused leaves the state. Room may have been made in the journal, if there was memory for that where it was needed.
+abbrev pub Leaves : Term → Term → CallError → Type 0
+Leaves old new (Refused r) = new ≡ with_heart old (tidied old.heart)
+Leaves old new NoMemory = (new ≡ old) × (places old.heart < LOW)

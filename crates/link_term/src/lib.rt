@@ -1,0 +1,20 @@
+//! A signalling link terminal (Q.703): line octets and commands go in, line octets and reports come out.
+#![tactic(auto)]
+
+mod answers;
+mod calls;
+mod laws;
+mod opening;
+mod reading;
+mod sending;
+#[cfg(test)]
+mod tests;
+mod terminal;
+
+pub use answers::CallError;
+pub use laws::{accepted_messages_are_delivered, cuttings_agree, unacknowledged_messages_stay};
+pub use link_heart::{Command, Missing, Names};
+pub use link_side::{LinkStatus, Report};
+pub use opening::NewError;
+pub use resend_store::{Mode, Msu, PutError, RetrieveError};
+pub use terminal::Terminal;

@@ -1,0 +1,100 @@
+//! The line in.
+ghost use Rattle.std.specs.Prelude.{◌≡◌, ◌⊎◌, ◌+◌, ◌<◌, ◌≤◌, ◌∷◌, [], true, false, length, take};
+ghost use Rattle.bit_line.specs.Events.{closings};
+ghost use Rattle.link_heart.specs.Machine.{places, tidied, LOW};
+ghost use Rattle.link_heart.specs.declared.heart.Heart.{Heart as PlainHeart};
+ghost use Rattle.link_term.specs.Term.{KEPT_MESSAGES};
+ghost use Rattle.link_term.specs.Hearing.{Reads, AreTaken, Heard};
+
+use crate::terminal::Terminal;
+use bit_line::LineEvent;
+use link_heart::Heart;
+use su_octets::decode;
+
+/// What the octets of a unit from the line lead to.
+fn take_octets(heart: &mut Heart, octets: &[u8])
+    requires { length heart.old.side.messages < KEPT_MESSAGES }
+    ensures reads { Reads octets.now heart.old heart.new }
+    ensures few { length heart.new.side.messages ≤ length heart.old.side.messages + 1 }
+{
+    match decode(octets) {
+        Ok(unit) => heart.take_unit(unit),
+        Err(_) => heart.take_error(),
+    }
+}
+
+/// What an event of the line leads to.
+fn take_event(heart: &mut Heart, event: &LineEvent)
+    requires { length heart.old.side.messages + closings (event.now ∷ []) ≤ KEPT_MESSAGES }
+    ensures taken { (v : PlainHeart) (left : _) → AreTaken left heart.new v → AreTaken (event.now ∷ left) heart.old v }
+    ensures few { length heart.new.side.messages ≤ length heart.old.side.messages + closings (event.now ∷ []) }
+{
+    match event {
+        LineEvent::Unit(octets) => take_octets(heart, octets.as_slice()),
+        LineEvent::Errored => heart.take_error(),
+        LineEvent::SixteenOctets => heart.take_error(),
+    }
+}
+
+/// What events of the line lead to, in their order.
+fn take_events(heart: &mut Heart, events: &[LineEvent])
+    requires { length heart.old.side.messages + closings events.now ≤ KEPT_MESSAGES }
+    ensures { AreTaken events.now heart.old heart.new }
+{
+    for event in events {
+        take_event(heart, event);
+    }
+}
+
+/// Makes room in the journal where it is needed, if a message more can be accepted. Whether an octet can be taken then; else nothing
+/// changed.
+fn make_room(heart: &mut Heart) -> bool
+    ensures room { result ≡ true → length heart.old.side.messages < KEPT_MESSAGES }
+    ensures tidied { result ≡ true → heart.new ≡ tidied heart.old }
+    ensures left { result ≡ false → heart.new ≡ heart.old }
+    ensures stops { result ≡ false → (KEPT_MESSAGES ≤ length heart.old.side.messages) ⊎ (places heart.old < LOW) }
+{
+    if !heart.side.has_room() {
+        return false;
+    }
+    match heart.tidy() {
+        Ok(()) => true,
+        Err(_) => false,
+    }
+}
+
+impl Terminal {
+    /// Takes an octet of the line, unless 256 messages wait, or room has to be made in the journal and there is no memory. Whether
+    /// it did; else nothing changed.
+    fn take_octet(&mut self, octet: u8) -> bool
+        ensures taken { result ≡ true → Heard self.old (octet ∷ []) self.new }
+        ensures left { result ≡ false → self.new ≡ self.old }
+        ensures stops { result ≡ false → (KEPT_MESSAGES ≤ length self.old.heart.side.messages) ⊎ (places self.old.heart < LOW) }
+    {
+        if !make_room(&mut self.heart) {
+            return false;
+        }
+        let events = self.line.feed_byte(octet);
+        take_events(&mut self.heart, events.as_slice());
+        true
+    }
+
+    /// Takes line octets, the low bit of each first, and answers how many it took: all, unless 256 messages wait to be
+    /// handed out, or room has to be made in the journal and there is no memory. It can be given the others once more, as if they had
+    /// never been given.
+    ///
+    /// Units without errors go through the stores while the actors ask for that, and the actors learn of each unit (Q.703, 4 to 6 and 10).
+    pub fn line_in(&mut self, octets: &[u8]) -> usize
+        ensures few { result ≤ length octets.now }
+        ensures heard { Heard self.old (take result octets.now) self.new }
+        ensures stops { result < length octets.now
+            → (KEPT_MESSAGES ≤ length self.new.heart.side.messages) ⊎ (places self.new.heart < LOW) }
+    {
+        for taken in 0..octets.len() {
+            if !self.take_octet(octets[taken]) {
+                return taken;
+            }
+        }
+        octets.len()
+    }
+}

@@ -1,0 +1,179 @@
+//! The terminal.
+ghost use Rattle.std.specs.Prelude.{◌≡◌, ◌↔◌, ◌<◌, ◌≤◌, [], IsTrue, false, length, All, IfOk, OnOk, OnErr, IfSome, Err, slice_get};
+ghost use Rattle.std.specs.Option.{option_copied};
+ghost use Rattle.resend_store.specs.Messages.{IsMessage};
+ghost use Rattle.resend_store.specs.Window.{waiting, with_put, retrieved, emptied, count_known};
+ghost use Rattle.bit_line.specs.Deframing.{Stands};
+ghost use Rattle.bit_line.specs.Stuffers.{Gave};
+ghost use Rattle.link_side.specs.Half.{first_half};
+ghost use Rattle.link_side.specs.Reporting.{reported};
+ghost use Rattle.link_term.specs.Term.{KEPT_MESSAGES, with_half};
+
+use actor_book::Book;
+use bit_line::{Deframer, Stuffer};
+use link_heart::{Heart, Names};
+use link_side::{Report, Side};
+use resend_store::{MAX_KEPT, MAX_WAITING, Mode, Msu, PutError, RetrieveError};
+use std::alloc::{AllocError, Global};
+use std::collections::VecDeque;
+use std::marker::Model;
+
+/// One end of a signalling link: the processes of a set as actors, the store for retransmission, and both directions of the line.
+///
+/// After it is made only `command`, `tick`, `unit_out`, `line_in` and `line_out` may want memory, to make room in the journal, and
+/// `line_out` and `retrieve`, for what they give.
+#[derive(Drop)]
+pub struct Terminal {
+    pub(crate) alloc: Global,
+    pub(crate) heart: Heart,
+    pub(crate) line: Deframer,
+    pub(crate) sending: Stuffer,
+}
+
+impl Model for Terminal {
+    ghost use Rattle.std.specs.Coded.{codes};
+    ghost use Rattle.tick_wheel.specs.Timers.{timers_code};
+    ghost use Rattle.link_term.specs.Term.{Term};
+    ghost use Rattle.link_term.specs.Inside.{IsTerminal};
+
+    ghost Value = { Term };
+
+    ghost coded = { Prim.hlevel (codes, timers_code) };
+
+    ghost view = { λ t. record { heart = t.heart; line = t.line; sending = t.sending } };
+
+    ghost invariant = { λ t. IsTerminal t.line };
+}
+
+impl Terminal {
+    /// A terminal over the book of a set, in which its signals and processes have these numbers. Nothing has come and nothing goes out.
+    pub fn of_book(
+        alloc: Global,
+        book: Book,
+        names: Names,
+        mode: Mode,
+    ) -> Result<Terminal, AllocError>
+        ensures heart { IfOk result (λ t. t.heart ≡ record { book = book; side = first_half mode; names = names }) }
+        ensures line { IfOk result (λ t. Stands [] t.line) }
+        ensures sending { IfOk result (λ t. Gave [] [] t.sending) }
+    {
+        let side = Side::new(alloc, mode)?;
+        Ok(Terminal {
+            alloc,
+            heart: Heart { book, side, names },
+            line: Deframer::new(),
+            sending: Stuffer::new(),
+        })
+    }
+
+    /// Takes a message to send, with a field of 2 octets or more. It waits behind all others.
+    ///
+    /// # Errors
+    ///
+    /// `E1 Full` where `resend_store::MAX_WAITING` or more wait. Nothing changes then, and the message is dropped.
+    pub fn put(&mut self, msu: Msu) -> Result<(), PutError>
+        requires { 2 ≤ length msu.sif.items }
+        ensures full { (result ≡ Err PutError.Full) ↔ (MAX_WAITING ≤ length (waiting self.old.heart.side.sender)) }
+        ensures ok { OnOk result (self.new ≡ with_half self.old (record self.old.heart.side { sender = with_put self.old.heart.side.sender msu })) }
+        ensures err { OnErr result (self.new ≡ self.old) }
+    {
+        self.heart.side.put(msu)
+    }
+
+    /// Takes a message that another link left behind (Q.704, changeover), with a field of 2 octets or more.
+    ///
+    /// # Errors
+    ///
+    /// `E1 Full` where `resend_store::MAX_KEPT` are unacknowledged or wait. Nothing changes then.
+    pub fn put_diverted(&mut self, msu: Msu) -> Result<(), PutError>
+        requires { 2 ≤ length msu.sif.items }
+        ensures full { (result ≡ Err PutError.Full) ↔ (MAX_KEPT ≤ length self.old.heart.side.sender.kept) }
+        ensures ok { OnOk result (self.new ≡ with_half self.old (record self.old.heart.side { sender = with_put self.old.heart.side.sender msu })) }
+        ensures err { OnErr result (self.new ≡ self.old) }
+    {
+        self.heart.side.put_diverted(msu)
+    }
+
+    /// Hands out, in order, what the far side may lack (Q.704, retrieval): what comes after the number, 0 to 127, that it
+    /// accepted last, or, where that number isn't known, what was never sent. Nothing is kept to send then.
+    ///
+    /// # Errors
+    ///
+    /// `E2 BadAck` where the number acknowledges more than is sent, and then `NoMemory`. Nothing changes in either case.
+    pub fn retrieve(&mut self, accepted: Option<u8>) -> Result<VecDeque<Msu>, RetrieveError>
+        requires { IfSome accepted (λ fsn. fsn < 128) }
+        ensures bad { (result ≡ Err RetrieveError.BadAck) ↔ (self.old.heart.side.sender.sent < count_known self.old.heart.side.sender accepted) }
+        ensures messages { IfOk result (λ messages. messages.items ≡ retrieved self.old.heart.side.sender accepted) }
+        ensures whole { IfOk result (λ messages. All IsMessage messages.items) }
+        ensures ok { OnOk result (self.new ≡ with_half self.old (record self.old.heart.side { sender = emptied self.old.heart.side.sender accepted })) }
+        ensures err { OnErr result (self.new ≡ self.old) }
+    {
+        self.heart.side.retrieve(accepted)
+    }
+
+    /// What is to be handed out next: messages first, then what was told of the link, each in order.
+    pub fn report(&mut self) -> Option<Report>
+        ensures report { result ≡ (reported self.old.heart.side).report }
+        ensures half { self.new ≡ with_half self.old (reported self.old.heart.side).half }
+    {
+        self.heart.side.report()
+    }
+
+    /// Whether the link came into service since this was last asked.
+    pub fn came_into_service(&mut self) -> bool
+        ensures value { result ≡ self.old.heart.side.came }
+        ensures asked { self.new ≡ with_half self.old (record self.old.heart.side { came = false }) }
+    {
+        self.heart.side.came_into_service()
+    }
+
+    /// Whether the link is in service, by what was told last.
+    pub fn in_service(&self) -> bool
+        ensures { result ≡ self.now.heart.side.in_service }
+    {
+        self.heart.side.in_service()
+    }
+
+    /// How many messages are kept to send: unacknowledged and waiting ones.
+    pub fn held(&self) -> usize
+        ensures { result ≡ length self.now.heart.side.sender.kept }
+    {
+        self.heart.side.held()
+    }
+
+    /// The kept message at a place, the oldest at 0.
+    pub fn held_at(&self, place: usize) -> Option<&Msu>
+        ensures { option_copied result ≡ slice_get self.now.heart.side.sender.kept place }
+    {
+        self.heart.side.held_at(place)
+    }
+
+    /// How many messages are sent and not acknowledged.
+    pub fn sent(&self) -> usize
+        ensures { result ≡ self.now.heart.side.sender.sent }
+    {
+        self.heart.side.sent()
+    }
+
+    /// The forward sequence number, 0 to 127, of the message that was accepted last; 127 where there is none.
+    pub fn accepted(&self) -> u8
+        ensures value { result ≡ self.now.heart.side.receiver.last }
+        ensures within { result < 128 }
+    {
+        self.heart.side.accepted()
+    }
+
+    /// Whether a further message can be accepted. `line_in` takes no octet where none can: reports make room.
+    pub fn has_room(&self) -> bool
+        ensures { IsTrue result ↔ (length self.now.heart.side.messages < KEPT_MESSAGES) }
+    {
+        self.heart.side.has_room()
+    }
+
+    /// The actors, with their journal.
+    pub fn book(&self) -> &Book
+        ensures { result.now ≡ self.now.heart.book }
+    {
+        &self.heart.book
+    }
+}
