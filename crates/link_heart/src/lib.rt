@@ -12,7 +12,5 @@ mod resting;
 pub use commands::Command;
 pub use heart::{Heart, LOW};
 pub use known::{Missing, ProcessName, SignalName};
-pub use laws::{
-    accepted_messages_wait_in_order, rests_are_runs, unacknowledged_messages_stay,
-};
+pub use laws::{accepted_messages_wait_in_order, rests_are_runs, unacknowledged_messages_stay};
 pub use names::{Names, Notices, Orders, Outputs, Parties};

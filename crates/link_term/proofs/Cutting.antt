@@ -1,10 +1,9 @@
 -- Octets in several calls.
-use Rattle.std.proofs.Common.{◌≡◌, ℕ, ◌+◌, ◌<◌, ◌≤◌, Bool, List, [], ◌∷◌, ◌++◌, length, take, get_or, refl, sym, ap, ◌∙◌, subst, append-nil, append_assoc, arith}
+use Rattle.std.proofs.Common.{◌≡◌, ℕ, ◌+◌, ◌<◌, Bool, List, [], ◌∷◌, ◌++◌, length, take, get_or, refl, sym, ap, ◌∙◌, subst, append-nil, append_assoc}
 use Rattle.std.proofs.lemmas.List.{take_more}
 use Rattle.su_octets.specs.Bits.{low_bits, bits_of}
 use Rattle.bit_line.specs.Deframing.{Stands}
 use Rattle.bit_line.specs.Events.{AreEvents}
-use Rattle.bit_line.specs.declared.deframer.Deframer.{Deframer}
 use Rattle.bit_line.specs.declared.events.LineEvent.{LineEvent}
 use Rattle.link_heart.specs.declared.heart.Heart.{Heart}
 use Rattle.link_heart.specs.Machine.{tidied}
@@ -71,10 +70,12 @@ pub heard_one : (t u : Term) (x : ℕ) (given : List LineEvent)
 heard_one t u x given stands events room taken sending = record {
   stands = λ bits s. let P : List Bool → Type 0 = λ b. Stands b u.line in subst P (sym (one_bits bits x)) (stands bits s);
   hears = λ bits all s are.
-      let P : List Bool → Type 0 = λ b. AreEvents b (all ++ given) in
-      (all ++ given, subst P (sym (one_bits bits x)) (events bits all s are),
-      octet bits all given t.heart u.heart u.heart x [] (all ++ given) room (events bits all s are) taken
-      (silent (bits ++ low_bits 8 x) (all ++ given) u.heart));
+      let P : List Bool → Type 0 = λ b. AreEvents b (all ++ given) in (
+        all ++ given,
+        subst P (sym (one_bits bits x)) (events bits all s are),
+        octet bits all given t.heart u.heart u.heart x [] (all ++ given) room (events bits all s are) taken
+            (silent (bits ++ low_bits 8 x) (all ++ given) u.heart),
+      );
   sending = sending;
 }
 

@@ -7,9 +7,9 @@ use Rattle.bit_line.specs.declared.events.LineEvent.{LineEvent}
 use Rattle.link_machine.specs.Ledger.{rebased}
 use Rattle.link_side.specs.Half.{Half}
 use Rattle.link_heart.specs.declared.heart.Heart.{Heart}
-use Rattle.link_heart.specs.Machine.{with_book, tidied, places, LOW, unit_taken, error_taken}
+use Rattle.link_heart.specs.Machine.{with_book, tidied, places, LOW, error_taken}
 use Rattle.link_heart.specs.Laws.{MessagesLaw, KeptLaw}
-use Rattle.link_term.specs.Hearing.{Reads, as_unit, as_error, AreTaken, nothing, unit, errored, sixteen, Hears, silent, octet}
+use Rattle.link_term.specs.Hearing.{Reads, as_unit, as_error, AreTaken, nothing, unit, errored, sixteen, silent, octet}
 use Rattle.link_term.specs.Laws.{accepted_read, accepted_taken, accepted_along, Delivers, StaysKept}
 
 side_if : (b : Bool) (x y : Heart) (h : Half) → x.side ≡ h → y.side ≡ h → (if b then x else y).side ≡ h

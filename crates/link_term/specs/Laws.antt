@@ -1,5 +1,5 @@
 -- What follows for every list of octets.
-use Rattle.std.specs.Prelude.{◌≡◌, ℕ, Bool, List, [], ◌∷◌, ◌++◌, drop}
+use Rattle.std.specs.Prelude.{◌≡◌, ℕ, Bool, List, [], ◌++◌, drop}
 use Rattle.resend_store.specs.declared.messages.Msu.{Msu}
 use Rattle.bit_line.specs.declared.events.LineEvent.{LineEvent}
 use Rattle.link_heart.specs.declared.heart.Heart.{Heart}

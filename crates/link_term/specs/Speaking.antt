@@ -1,5 +1,5 @@
 -- What goes out on the line.
-use Rattle.std.specs.Prelude.{◌≡◌, ℕ, ◌<◌, ◌≤◌, zero, suc, Option, Some, None, List, [], ◌∷◌, ◌++◌}
+use Rattle.std.specs.Prelude.{◌≡◌, ℕ, ◌<◌, ◌≤◌, zero, suc, List, [], ◌∷◌, ◌++◌}
 use Rattle.std.specs.Option.{option_to_list}
 use Rattle.su_octets.specs.Frame.{Frame, SpareBitsAreZero}
 use Rattle.su_octets.specs.declared.units.Unit as units

@@ -7,8 +7,6 @@ mod laws;
 mod opening;
 mod reading;
 mod sending;
-#[cfg(test)]
-mod tests;
 mod terminal;
 
 pub use answers::CallError;

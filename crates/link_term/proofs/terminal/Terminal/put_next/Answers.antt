@@ -1,6 +1,6 @@
 use Rattle.std.proofs.Common.{sym, ap, ◌∙◌, refl}
 use Rattle.link_term.specs.Term.{Term}
-use Rattle.link_term.proofs.Speaking.{spoke_none, spoke_apart}
+use Rattle.link_term.proofs.Speaking.{spoke_none}
 use Rattle.link_term.proofs.terminal.Terminal.put_next.Goals as goal
 
 pub returns-in-None-clause-ok : goal.returns-in-None-clause-ok
