@@ -1,7 +1,7 @@
 //! The command line.
-ghost use Rattle.std.specs.Prelude.{◌≡◌, Some, IfSome};
+ghost use Rattle.std.specs.Prelude.{◌≡◌, ◌≤◌, Some, IfSome};
 ghost use Rattle.clap.specs.Words.{subcommand_name_of};
-ghost use Rattle.mtp2_play.specs.Words.{command_of, word_of, source_word, IsPlay};
+ghost use Rattle.mtp2_play.specs.Words.{command_of, word_of, source_word, IsPlay, IsSoak};
 
 use clap::error::ErrorKind;
 use clap::{Arg, ArgMatches, Command, Error};
@@ -36,6 +36,8 @@ pub enum Request<'a> {
     Check { set: Named<'a> },
     /// `play SET SCRIPT`: a set as for `check`, and a file with a script, or standard input.
     Play { set: Named<'a>, script: Source<'a> },
+    /// `soak SCRIPT --workers N`: a file with a script, or standard input, and the number of threads, 1 to 16.
+    Soak { script: Source<'a>, workers: usize },
     /// `frame HEX`: the octets of a signal unit in hexadecimal digits, with its check octets.
     Frame { octets: &'a str },
 }
@@ -81,16 +83,40 @@ fn played<'a>(set: &'a str, script: &'a str) -> Option<Request<'a>>
     }
 }
 
+/// The number of workers that a word says, 1 to 16.
+fn workers_of(word: &str) -> Option<usize>
+    ensures { IfSome result (λ n. (1 ≤ n) × (n ≤ 16)) }
+{
+    match word.parse::<usize>() {
+        Ok(workers) if 1 <= workers && workers <= 16 => Some(workers),
+        _ => None,
+    }
+}
+
+/// The script and the number of workers that two words name.
+fn soaked<'a>(script: &'a str, workers: &str) -> Option<Request<'a>>
+    ensures { IfSome result (IsSoak script.now) }
+{
+    match workers_of(workers) {
+        Some(workers) => Some(Request::Soak {
+            script: script_named(script),
+            workers,
+        }),
+        None => None,
+    }
+}
+
 /// The program's commands.
 fn commands<'a>(alloc: Global) -> Result<Command<'a>, AllocError> {
     Command::new(alloc, "mtp2_play")
         .about("Checks and plays SDL process texts of signalling links, and reads signal units")
         .after_help(
-            "Exit statuses: 0 done, 1 an expectation of a script failed, 2 refused, 3 usage, 4 memory or a file failed.",
+            "Exit statuses: 0 done, 1 an expectation of a script failed or something differs, 2 refused, 3 usage, 4 memory or a file failed.",
         )
         .subcommand_required(true)
         .subcommand(check_command(alloc)?)?
         .subcommand(play_command(alloc)?)?
+        .subcommand(soak_command(alloc)?)?
         .subcommand(frame_command(alloc)?)
 }
 
@@ -128,6 +154,27 @@ fn play_command<'a>(alloc: Global) -> Result<Command<'a>, AllocError> {
         .arg(script)
 }
 
+/// The command `soak`.
+fn soak_command<'a>(alloc: Global) -> Result<Command<'a>, AllocError> {
+    let script = Arg::new(alloc, "SCRIPT")
+        .help("A file with the script, or stdin for standard input")
+        .required(true);
+    let workers = Arg::new(alloc, "workers")
+        .long("workers")
+        .value_name("N")
+        .help("How many threads work on the links, 1 to 16")
+        .required(true);
+    Command::new(alloc, "soak")
+        .about(
+            "Has threads work on links of the set standard while a script's signals come to them",
+        )
+        .after_help(
+            "First line: links N (1 to 16). Then on L, offer P SIG v.., tick N.\nPrints seats agree or seats differ, and audit yes or audit no: whether what was counted is what happened, and whether each event\nthat was accepted stands at its place. Exits with 0, or 1 where something differs, 2 after refused CODE Name where the script is\nrefused (F1, X1), 4 where memory, a file, a read or a write fails or no thread can be started.",
+        )
+        .arg(script)?
+        .arg(workers)
+}
+
 /// The command `frame`.
 fn frame_command<'a>(alloc: Global) -> Result<Command<'a>, AllocError> {
     let octets = Arg::new(alloc, "HEX")
@@ -149,7 +196,7 @@ pub fn read<'a>(alloc: Global, given: &'a [String]) -> Result<Request<'a>, Error
         Some(request) => Ok(request),
         None => Err(commands.error(
             ErrorKind::InvalidSubcommand,
-            "no such command, or standard input for the set and for the script",
+            "no such command, standard input for the set and for the script, or not 1 to 16 workers",
         )?),
     }
 }
@@ -164,6 +211,7 @@ fn request_of<'a>(matches: &ArgMatches<'a>) -> Option<Request<'a>>
             set: set_named(given.get_str("SET")?),
         }),
         "play" => played(given.get_str("SET")?, given.get_str("SCRIPT")?),
+        "soak" => soaked(given.get_str("SCRIPT")?, given.get_str("workers")?),
         "frame" => Some(Request::Frame {
             octets: given.get_str("HEX")?,
         }),
