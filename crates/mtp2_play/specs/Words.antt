@@ -1,37 +1,56 @@
 -- What a command line asks for.
-use Rattle.std.specs.Prelude.{◌≡◌, ℕ, List, codes}
+use Rattle.std.specs.Prelude.{◌≡◌, ◌≤◌, ℕ, List, codes}
 use Rattle.mtp2_play.specs.declared.words.Named.{Named}
 use Rattle.mtp2_play.specs.declared.words.Named.TheVariants.{Standard, Monitors, Stdin, File}
 use Rattle.mtp2_play.specs.declared.words.Source.{Source}
 use Rattle.mtp2_play.specs.declared.words.Source.TheVariants.{Stdin as stdin, File as script_file}
 use Rattle.mtp2_play.specs.declared.words.Request.{Request}
-use Rattle.mtp2_play.specs.declared.words.Request.TheVariants.{Check, Play, Frame}
+use Rattle.mtp2_play.specs.declared.words.Request.TheVariants.{Check, Play, Soak, Frame}
 
--- the word that names a set
-abbrev pub word_of : Named → List ℕ
-word_of Standard = codes "standard"
-word_of Monitors = codes "monitors"
-word_of Stdin = codes "stdin"
-word_of (File path) = path.now
+-- a file may have any name but these
+pub record IsFileName (word : List ℕ) : Type 0 where
+  pub not_standard : word ≡ codes "standard" → ⊥
+  pub not_monitors : word ≡ codes "monitors" → ⊥
+  pub not_stdin : word ≡ codes "stdin" → ⊥
 
--- the word that names where a script stands
-abbrev pub source_word : Source → List ℕ
-source_word stdin = codes "stdin"
-source_word (script_file path) = path.now
+-- the set that a word names
+abbrev pub IsNamed : Named → List ℕ → Type 0
+IsNamed Standard word = word ≡ codes "standard"
+IsNamed Monitors word = word ≡ codes "monitors"
+IsNamed Stdin word = word ≡ codes "stdin"
+IsNamed (File path) word = (path.now ≡ word) × IsFileName word
+
+-- where the script stands that a word names
+abbrev pub IsSource : Source → List ℕ → Type 0
+IsSource stdin word = word ≡ codes "stdin"
+IsSource (script_file path) word = (path.now ≡ word) × (word ≡ codes "stdin" → ⊥)
+
+-- standard input as set and script
+abbrev pub AreStdin : List ℕ → List ℕ → Type 0
+AreStdin set_word script_word = (set_word ≡ codes "stdin") × (script_word ≡ codes "stdin")
 
 -- what `play` asks for by two words; standard input isn't both
 pub record IsPlayOf (set_word script_word : List ℕ) (set : Named) (script : Source) : Type 0 where
-  pub set_is : word_of set ≡ set_word
-  pub script_is : source_word script ≡ script_word
-  pub one_input : set ≡ Stdin → script ≡ stdin → ⊥
+  pub set_is : IsNamed set set_word
+  pub script_is : IsSource script script_word
+  pub one_input : AreStdin set_word script_word → ⊥
 
 abbrev pub IsPlay : List ℕ → List ℕ → Request → Type 0
 IsPlay set_word script_word (Check set) = ⊥
 IsPlay set_word script_word (Play set script) = IsPlayOf set_word script_word set script
+IsPlay set_word script_word (Soak script workers) = ⊥
 IsPlay set_word script_word (Frame octets) = ⊥
+
+-- what `soak` asks for by the word for the script
+abbrev pub IsSoak : List ℕ → Request → Type 0
+IsSoak script_word (Check set) = ⊥
+IsSoak script_word (Play set script) = ⊥
+IsSoak script_word (Soak script workers) = IsSource script script_word × (1 ≤ workers) × (workers ≤ 16)
+IsSoak script_word (Frame octets) = ⊥
 
 -- the word that names the command
 abbrev pub command_of : Request → List ℕ
 command_of (Check set) = codes "check"
 command_of (Play set script) = codes "play"
+command_of (Soak script workers) = codes "soak"
 command_of (Frame octets) = codes "frame"

@@ -1,4 +1,4 @@
-//! `mtp2_play`: the program. It checks and plays process texts, and reads signal units.
+//! `mtp2_play`: the program. It checks and plays process texts, has threads work on links, and reads signal units.
 #![tactic(auto)]
 
 ghost use Rattle.std.specs.Prelude.{◌≡◌, ◌⊎◌};
@@ -7,24 +7,28 @@ mod frame;
 mod line_bits;
 mod words;
 
-use book_play::play;
+use script_play::play;
 use clap::Error;
 use clap::error::ErrorKind;
 pub use frame::frame;
+use pool_soak::soak;
 use std::io::{self, Read};
 use std::process::ExitCode;
 use std::rt::Runtime;
+use std::sync::Wait;
+use std::thread::Threads;
 use std::{env, fs};
 use text_check::{FAILED, HELD, SetWord, USAGE, check};
 pub use words::{Named, Request, Source};
 
 /// Runs one command, and gives the exit status.
-fn run<R: Runtime + AllocGlobal>(rt: &R, request: &Request<'_>) -> u8
+fn run<R: Runtime + AllocGlobal + Threads + Wait + Sync>(rt: &R, request: &Request<'_>) -> u8
     ensures { (result ≡ 0) ⊎ (result ≡ 1) ⊎ (result ≡ 2) ⊎ (result ≡ 4) }
 {
     match request {
         Request::Check { set } => run_check(rt, *set),
         Request::Play { set, script } => run_play(rt, *set, *script),
+        Request::Soak { script, workers } => run_soak(rt, *script, *workers),
         Request::Frame { octets } => frame(rt.alloc(), octets, &mut io::writer(rt)),
     }
 }
@@ -109,6 +113,23 @@ fn run_play<R: Runtime + AllocGlobal>(rt: &R, set: Named<'_>, script: Source<'_>
     }
 }
 
+/// Runs `soak` on the script that the command line names.
+fn run_soak<R: Runtime + AllocGlobal + Threads + Wait + Sync>(
+    rt: &R,
+    script: Source<'_>,
+    workers: usize,
+) -> u8
+    ensures { (result ≡ 0) ⊎ (result ≡ 1) ⊎ (result ≡ 2) ⊎ (result ≡ 4) }
+{
+    match script {
+        Source::Stdin => soak(rt, rt.alloc(), rt.reader(), workers, &mut io::writer(rt)),
+        Source::File(path) => match fs::open(rt, path) {
+            Ok(file) => soak(rt, rt.alloc(), file, workers, &mut io::writer(rt)),
+            Err(_) => FAILED,
+        },
+    }
+}
+
 /// Prints what the command line is answered where it names no command to run: help with status 0,
 /// a fault with status 3, both as the printing goes; want of memory is status 4.
 fn answer<R: Runtime + AllocGlobal>(rt: &R, error: &Error) -> u8
@@ -121,7 +142,7 @@ fn answer<R: Runtime + AllocGlobal>(rt: &R, error: &Error) -> u8
 }
 
 /// Does what the words of a command line say, the program's own name first. Gives the exit status.
-fn serve<R: Runtime + AllocGlobal>(rt: &R, given: &[String]) -> u8 {
+fn serve<R: Runtime + AllocGlobal + Threads + Wait + Sync>(rt: &R, given: &[String]) -> u8 {
     match words::read(rt.alloc(), given) {
         Ok(request) => run(rt, &request),
         Err(error) => answer(rt, &error),
@@ -129,7 +150,7 @@ fn serve<R: Runtime + AllocGlobal>(rt: &R, given: &[String]) -> u8 {
 }
 
 /// Reads the command line, and does what it says.
-fn start<R: Runtime + AllocGlobal>(rt: &R) -> io::Result<u8> {
+fn start<R: Runtime + AllocGlobal + Threads + Wait + Sync>(rt: &R) -> io::Result<u8> {
     let given: Vec<String> = env::args(rt)?.collect(rt.alloc())?;
     Ok(serve(rt, given.as_slice()))
 }

@@ -1,7 +1,7 @@
 //! The command line.
-ghost use Rattle.std.specs.Prelude.{◌≡◌, Some, IfSome};
+ghost use Rattle.std.specs.Prelude.{◌≡◌, ◌↔◌, ◌≤◌, Some, IfSome, IsNone, IsTrue};
 ghost use Rattle.clap.specs.Words.{subcommand_name_of};
-ghost use Rattle.mtp2_play.specs.Words.{command_of, word_of, source_word, IsPlay};
+ghost use Rattle.mtp2_play.specs.Words.{command_of, IsNamed, IsSource, AreStdin, IsPlay, IsSoak};
 
 use clap::error::ErrorKind;
 use clap::{Arg, ArgMatches, Command, Error};
@@ -36,13 +36,15 @@ pub enum Request<'a> {
     Check { set: Named<'a> },
     /// `play SET SCRIPT`: a set as for `check`, and a file with a script, or standard input.
     Play { set: Named<'a>, script: Source<'a> },
+    /// `soak SCRIPT --workers N`: a file with a script, or standard input, and the number of threads, 1 to 16.
+    Soak { script: Source<'a>, workers: usize },
     /// `frame HEX`: the octets of a signal unit in hexadecimal digits, with its check octets.
     Frame { octets: &'a str },
 }
 
 /// The set that a word names.
 fn set_named(word: &str) -> Named<'_>
-    ensures { word_of result ≡ word.now }
+    ensures { IsNamed result word.now }
 {
     match word {
         "standard" => Named::Standard,
@@ -54,7 +56,7 @@ fn set_named(word: &str) -> Named<'_>
 
 /// Where the script stands that a word names.
 fn script_named(word: &str) -> Source<'_>
-    ensures { source_word result ≡ word.now }
+    ensures { IsSource result word.now }
 {
     match word {
         "stdin" => Source::Stdin,
@@ -62,22 +64,47 @@ fn script_named(word: &str) -> Source<'_>
     }
 }
 
-/// The set and the script that two words name. Standard input can't be both.
-fn played<'a>(set: &'a str, script: &'a str) -> Option<Request<'a>>
-    ensures { IfSome result (IsPlay set.now script.now) }
+/// Whether two words both name standard input.
+fn are_stdin(set: &str, script: &str) -> bool
+    ensures { IsTrue result ↔ AreStdin set.now script.now }
 {
-    match set_named(set) {
-        Named::Stdin => match script_named(script) {
-            Source::Stdin => None,
-            script => Some(Request::Play {
-                set: Named::Stdin,
-                script,
-            }),
-        },
-        set => Some(Request::Play {
-            set,
+    set == "stdin" && script == "stdin"
+}
+
+/// The set and the script that two words name; none where standard input is to be both.
+fn played<'a>(set: &'a str, script: &'a str) -> Option<Request<'a>>
+    ensures play { IfSome result (IsPlay set.now script.now) }
+    ensures none { IsNone result → AreStdin set.now script.now }
+{
+    if are_stdin(set, script) {
+        return None;
+    }
+    Some(Request::Play {
+        set: set_named(set),
+        script: script_named(script),
+    })
+}
+
+/// The number of workers that a word says, 1 to 16.
+fn workers_of(word: &str) -> Option<usize>
+    ensures { IfSome result (λ n. (1 ≤ n) × (n ≤ 16)) }
+{
+    match word.parse::<usize>() {
+        Ok(workers) if 1 <= workers && workers <= 16 => Some(workers),
+        _ => None,
+    }
+}
+
+/// The script and the number of workers that two words name.
+fn soaked<'a>(script: &'a str, workers: &str) -> Option<Request<'a>>
+    ensures { IfSome result (IsSoak script.now) }
+{
+    match workers_of(workers) {
+        Some(workers) => Some(Request::Soak {
             script: script_named(script),
+            workers,
         }),
+        None => None,
     }
 }
 
@@ -86,11 +113,12 @@ fn commands<'a>(alloc: Global) -> Result<Command<'a>, AllocError> {
     Command::new(alloc, "mtp2_play")
         .about("Checks and plays SDL process texts of signalling links, and reads signal units")
         .after_help(
-            "Exit statuses: 0 done, 1 an expectation of a script failed, 2 refused, 3 usage, 4 memory or a file failed.",
+            "Exit statuses: 0 done, 1 an expectation of a script failed or something differs, 2 refused, 3 usage, 4 memory or a file failed.",
         )
         .subcommand_required(true)
         .subcommand(check_command(alloc)?)?
         .subcommand(play_command(alloc)?)?
+        .subcommand(soak_command(alloc)?)?
         .subcommand(frame_command(alloc)?)
 }
 
@@ -120,12 +148,33 @@ fn play_command<'a>(alloc: Global) -> Result<Command<'a>, AllocError> {
         .help("A file with the script, or stdin for standard input (for one of the two alone)")
         .required(true);
     Command::new(alloc, "play")
-        .about("Runs a script on a set of processes")
+        .about("Runs a script on a set of processes, or on one end of a signalling link")
         .after_help(
-            "First lines: ports N (1 to 64), env N (1 to 1024), journal N (16 to 65536).\nCommands: offer P SIG v.., begin P, finish P, skip P, tick N, env, rest, flood N P SIG v.., state P, value P x, expect TEXT.\nPrints a line for each command but expect; one that is refused prints refused CODE Name (B1 to B12, W1, W2), and the run goes on.\nExits with 0, or 1 after failed line N where an expect failed, 2 after refused CODE Name where the set or the script is refused\n(F1, L1 to L3, P1, P2, S1 to S11, X1), 4 where memory, a file, a read or a write fails.",
+            "First lines: ports N (1 to 64), env N (1 to 1024), journal N (16 to 65536).\nCommands: offer P SIG v.., begin P, finish P, skip P, tick N, env, rest, flood N P SIG v.., state P, value P x, expect TEXT.\nOn standard a script may begin with terminal basic or terminal cyclic: then one end of a link runs, with the commands\ncommand W (power, start, stop, emergency, calm, outage, back, busy, free), unit HEX, line HEX, msu HEX, out N, tick N, state P, value P x, expect TEXT.\nPrints a line for each command but expect, and for each unit that goes out; one that is refused prints refused CODE Name (B1 to B12, W1, W2, E1), and the run goes on.\nExits with 0, or 1 after failed line N where an expect failed, 2 after refused CODE Name where the set or the script is refused\n(F1, L1 to L3, P1, P2, S1 to S11, X1), 4 where memory, a file, a read or a write fails.",
         )
         .arg(set)?
         .arg(script)
+}
+
+/// The command `soak`.
+fn soak_command<'a>(alloc: Global) -> Result<Command<'a>, AllocError> {
+    let script = Arg::new(alloc, "SCRIPT")
+        .help("A file with the script, or stdin for standard input")
+        .required(true);
+    let workers = Arg::new(alloc, "workers")
+        .long("workers")
+        .value_name("N")
+        .help("How many threads work on the links, 1 to 16")
+        .required(true);
+    Command::new(alloc, "soak")
+        .about(
+            "Has threads work on links of the set standard while a script's signals come to them",
+        )
+        .after_help(
+            "First line: links N (1 to 16). Then on L, offer P SIG v.., tick N.\nPrints seats agree or seats differ, and audit yes or audit no: whether what was counted is what happened, and whether each event\nthat was accepted stands at its place. Exits with 0, or 1 where something differs, 2 after refused CODE Name where the script is\nrefused (F1, X1), 4 where memory, a file, a read or a write fails or no thread can be started.",
+        )
+        .arg(script)?
+        .arg(workers)
 }
 
 /// The command `frame`.
@@ -149,7 +198,7 @@ pub fn read<'a>(alloc: Global, given: &'a [String]) -> Result<Request<'a>, Error
         Some(request) => Ok(request),
         None => Err(commands.error(
             ErrorKind::InvalidSubcommand,
-            "no such command, or standard input for the set and for the script",
+            "no such command, standard input for the set and for the script, or not 1 to 16 workers",
         )?),
     }
 }
@@ -164,6 +213,7 @@ fn request_of<'a>(matches: &ArgMatches<'a>) -> Option<Request<'a>>
             set: set_named(given.get_str("SET")?),
         }),
         "play" => played(given.get_str("SET")?, given.get_str("SCRIPT")?),
+        "soak" => soaked(given.get_str("SCRIPT")?, given.get_str("workers")?),
         "frame" => Some(Request::Frame {
             octets: given.get_str("HEX")?,
         }),

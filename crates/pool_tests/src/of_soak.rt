@@ -94,20 +94,22 @@ impl Gate for Open {
 /// A client that turns a terminal on, and waits until it says what goes out on its line.
 #[derive(Drop)]
 struct TurnsOn {
-    actor: u16,
+    process: ProcessNumber,
     power_on: SignalNumber,
     line: SignalNumber,
-    sender: u16,
+    sender: ProcessNumber,
     has_offered: bool,
     has_met: bool,
 }
 
 impl Client for TurnsOn {
     fn drive<R: Wait, L: Ledger>(&mut self, pool: &Pool<'_, R, L>, seat: &mut Seat<L>) {
-        self.has_offered = pool.offer(0, self.actor, self.power_on, &[], seat).is_ok();
+        self.has_offered = pool
+            .offer(0, u16::from(self.process.0), self.power_on, &[], seat)
+            .is_ok();
         for _ in 0..ASKS {
             if let Ok((emitted, _)) = pool.take_env(0, seat) {
-                if emitted.sender == self.sender && emitted.signal == self.line {
+                if emitted.sender == u16::from(self.sender.0) && emitted.signal == self.line {
                     self.has_met = emitted.parameters.as_slice() == [Value::Int(3)].as_slice();
                     break;
                 }
@@ -117,18 +119,18 @@ impl Client for TurnsOn {
     }
 }
 
-/// The actor of a process.
-fn actor(set: &Verified, name: &str) -> Result<u16, Fail> {
-    Ok(u16::from(set.process_of(name).ok_or("it has the process")?.0))
+/// The process of a name.
+fn process(set: &Verified, name: &str) -> Result<ProcessNumber, Fail> {
+    Ok(set.process_of(name).ok_or("it has the process")?)
 }
 
 /// A client for these names of a set.
 fn turns_on(set: &Verified) -> Result<TurnsOn, Fail> {
     Ok(TurnsOn {
-        actor: actor(set, "LSC")?,
+        process: process(set, "LSC")?,
         power_on: set.signal_of("PowerOn").ok_or("it has the signal")?,
         line: set.signal_of("Line").ok_or("it has the signal")?,
-        sender: actor(set, "TXC")?,
+        sender: process(set, "TXC")?,
         has_offered: false,
         has_met: false,
     })
@@ -140,11 +142,11 @@ fn book(alloc: Global, set: &Verified) -> Result<Book, Fail> {
     Ok(Book::open(alloc, set, limits)?)
 }
 
-/// Whether an actor of a book is in a state of this name.
-fn is_in(book: &Book, actor: u16, name: &[u8]) -> bool {
-    match book.state_of(actor) {
+/// Whether the actor of a process is in a state of this name.
+fn is_in(book: &Book, process: ProcessNumber, name: &[u8]) -> bool {
+    match book.state_of(u16::from(process.0)) {
         Some(Standing::At(Place::State(state))) => {
-            match book.set().state_name(ProcessNumber(actor as u8), state) {
+            match book.set().state_name(process, state) {
                 Some(found) => found.as_bytes() == name,
                 None => false,
             }
@@ -161,7 +163,7 @@ fn ends_well(closed: Closed, client: &TurnsOn) -> bool {
         return false;
     };
     let refused = second.offer(2, client.power_on, &[]).err();
-    is_in(&first, client.actor, b"OutOfService") && refused == Some(Refusal::NoActor)
+    is_in(&first, client.process, b"OutOfService") && refused == Some(Refusal::NoActor)
 }
 
 #[test]
