@@ -107,7 +107,7 @@ class Book:
 
     def offer(self, name, signal, values):
         actor, signal = self.actor(name), signal.lower()
-        if signal not in self.signals or len(values) > 4:
+        if signal not in self.signals:
             raise Refused("B3 NoRoute")
         if actor.place is None:
             raise Refused("B2 Stopped")
