@@ -146,7 +146,12 @@ fn take_env(alloc: Global, book: &mut Book) -> Result<Vec<u8>, AllocError> {
 }
 
 /// The line of `value P x`: the value of a variable, by its name, or `unset`; a refusal where there is no such process.
-pub fn value_line(alloc: Global, book: &Book, process: &str, name: &str) -> Result<Vec<u8>, AllocError> {
+pub fn value_line(
+    alloc: Global,
+    book: &Book,
+    process: &str,
+    name: &str,
+) -> Result<Vec<u8>, AllocError> {
     let Some(process) = book.set().process_of(process) else {
         return refused(alloc, Refusal::NoActor);
     };

@@ -25,12 +25,7 @@ fn limits_of(settings: Settings) -> Option<Limits> {
 ///
 /// Gives the exit status: 0 where each command ran and its line was written, 1 after `failed line N` where an expectation failed, 4 where
 /// memory or a write fails. Nothing is written after a write that failed.
-pub fn play_book<W: Write>(
-    alloc: Global,
-    set: &Verified,
-    script: &Script<'_>,
-    writer: &mut W,
-) -> u8
+pub fn play_book<W: Write>(alloc: Global, set: &Verified, script: &Script<'_>, writer: &mut W) -> u8
     ensures held { result ≡ 0 → IsWritten (plain_script script.now).commands (W.contents writer.old) (W.contents writer.new) }
     ensures status { (result ≡ 0) ⊎ (result ≡ 1) ⊎ (result ≡ 4) }
 {

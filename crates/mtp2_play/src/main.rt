@@ -7,11 +7,11 @@ mod frame;
 mod line_bits;
 mod words;
 
-use script_play::play;
 use clap::Error;
 use clap::error::ErrorKind;
 pub use frame::frame;
 use pool_soak::soak;
+use script_play::play;
 use std::io::{self, Read};
 use std::process::ExitCode;
 use std::rt::Runtime;
