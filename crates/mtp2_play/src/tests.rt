@@ -2,7 +2,10 @@ use crate::{Named, Request, frame, serve, words};
 use std::alloc::Global;
 use std::fs;
 use std::io::{self, Write};
+use std::rt::Runtime;
+use std::sync::Wait;
 use std::test::Fail;
+use std::thread::Threads;
 
 /// A writer that keeps what it is given, and fails after so many calls.
 #[derive(Drop)]
@@ -127,6 +130,9 @@ fn asked(alloc: Global, given: &[&str]) -> Result<String, Fail> {
     match words::read(alloc, line.as_slice()) {
         Ok(Request::Check { set }) => Ok(format!(in alloc; "check {set:?}")?),
         Ok(Request::Play { set, script }) => Ok(format!(in alloc; "play {set:?} {script:?}")?),
+        Ok(Request::Soak { script, workers }) => {
+            Ok(format!(in alloc; "soak {script:?} {workers}")?)
+        }
         Ok(Request::Frame { octets }) => Ok(format!(in alloc; "frame {octets}")?),
         Err(_) => Ok(String::new(alloc)),
     }
@@ -183,8 +189,29 @@ fn reads_the_command_line(rt: HostRuntime) -> Result<(), Fail> {
     Ok(())
 }
 
+/// Numbers of workers, and what is asked for.
+const WORKERS: [(&str, &str); 5] = [
+    ("0", ""),
+    ("1", "soak File(\"x\") 1"),
+    ("16", "soak File(\"x\") 16"),
+    ("17", ""),
+    ("y", ""),
+];
+
+#[test]
+fn reads_the_number_of_workers(rt: HostRuntime) -> Result<(), Fail> {
+    for (number, wanted) in WORKERS {
+        let request = asked(rt.alloc(), &["mtp2_play", "soak", "x", "--workers", number])?;
+        assert_eq!(rt; request.as_str(), wanted, "{number}");
+    }
+    Ok(())
+}
+
 /// The exit status of a command line.
-fn status(rt: &HostRuntime, given: &[&str]) -> Result<u8, Fail> {
+fn status<R: Runtime + AllocGlobal + Threads + Wait + Sync>(
+    rt: &R,
+    given: &[&str],
+) -> Result<u8, Fail> {
     let line = line(rt.alloc(), given)?;
     Ok(serve(rt, line.as_slice()))
 }
@@ -203,6 +230,28 @@ fn ends_with_the_status_of_what_was_asked(rt: HostRuntime) -> Result<(), Fail> {
         status(&rt, &["mtp2_play", "check", "nowhere/none.sdl"])?,
         4
     );
+    Ok(())
+}
+
+/// Words for a set and a script, and the status that `play` ends with. The script asks for the state of a process that `standard` has and
+/// `monitors` hasn't.
+const PLAYED: [(&str, &str, u8); 7] = [
+    ("standard", "lsc.script", 0),
+    ("monitors", "lsc.script", 1),
+    ("standard", "stdin", 0),
+    ("stdin", "lsc.script", 2),
+    ("stdin", "stdin", 3),
+    ("standard", "nowhere", 4),
+    ("nowhere", "lsc.script", 4),
+];
+
+#[test]
+fn plays_the_set_and_the_script_that_are_named(rt: HostRuntime) -> Result<(), Fail> {
+    fs::write(&rt, "lsc.script", "state LSC\nexpect START\n")?;
+    for (set, script, wanted) in PLAYED {
+        let ended = status(&rt, &["mtp2_play", "play", set, script])?;
+        assert_eq!(rt; ended, wanted, "{set} {script}");
+    }
     Ok(())
 }
 
