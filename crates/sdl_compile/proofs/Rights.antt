@@ -6,7 +6,7 @@ use Rattle.std.proofs.lemmas.Bool.Decides.{nat_tests}
 use Rattle.std.proofs.lemmas.Int.{ints, int_wrap_fits}
 use Rattle.std.specs.Int.{w32}
 use Rattle.std.proofs.lemmas.List.Elements.{All-nil, All-cons, All-contains}
-use Rattle.sdl_lex.specs.declared.TheConstants.{MAX_NUMBER}
+use Rattle.sdl_lex.specs.Limits.{GREATEST_NUMBER}
 use Rattle.sdl_tree.specs.declared.expression.Identifier.{Identifier}
 use Rattle.sdl_tree.specs.declared.expression.UnaryOperator.{UnaryOperator}
 use Rattle.sdl_tree.specs.declared.expression.UnaryOperator.TheVariants.{Negate, Not}
@@ -52,7 +52,7 @@ none_in {A} q h = All-contains (λ _. A) [] q (All-nil (λ _. A)) h
 small_number : (k : ℕ) → k ≤ 2147483647 → wrap (pos k) ≡ pos k
 small_number k le = int_wrap_fits w32 (pos k) (let fits : FitsSigned w32 (pos k) = omega (arith, ints, le) in fits)
 
-positive : (k : ℕ) → nat_lt 0 k && nat_le k MAX_NUMBER ≡ true → pos 1 ≤ℤ wrap (pos k)
+positive : (k : ℕ) → nat_lt 0 k && nat_le k GREATEST_NUMBER ≡ true → pos 1 ≤ℤ wrap (pos k)
 positive k e =
     let a : 0 < k = grind (arith, nat_tests) in
     let b : k ≤ 2147483647 = grind (arith, nat_tests) in

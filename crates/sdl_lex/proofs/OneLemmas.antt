@@ -2,7 +2,7 @@
 use Rattle.std.proofs.Common.{Vec, ◌≡◌, ℕ, ◌+◌, ◌≤◌, ◌⊎◌, inl, inr, List, [], ◌∷◌, length, refl, ap, sym, subst, ◌∙◌, get_or, arith, Result, Ok, Err, IfOk, IfErr}
 use Rattle.std.specs.Prelude.{slice_range, nat_le}
 use Rattle.std.proofs.lemmas.Bool.{cases_order, and_parts, leb-true}
-use Rattle.sdl_lex.specs.declared.TheConstants.{MAX_NUMBER, MAX_TEXT}
+use Rattle.sdl_lex.specs.Limits.{GREATEST_NUMBER, LONGEST_TEXT}
 use Rattle.sdl_lex.specs.declared.lexemes.Word.{Word}
 use Rattle.sdl_lex.specs.declared.lexemes.Symbol.{Symbol}
 use Rattle.sdl_lex.specs.declared.lexemes.Lexeme.{Lexeme}
@@ -36,7 +36,7 @@ word_like text start end w token =
 
 number_like : (text : List ℕ) (start end n : ℕ) → TokenOf text start (a_number n) end → Numberlike text start end
 number_like text start end n token =
-    let small : decimal (slice_range text start end) ≤ MAX_NUMBER = rw (← token.spelled.1) token.spelled.2 in
+    let small : decimal (slice_range text start end) ≤ GREATEST_NUMBER = rw (← token.spelled.1) token.spelled.2 in
     numberlike_from text start end token.ordered token.inside token.spelled.0 small token.longest
 
 symbol_here : (text : List ℕ) (start end : ℕ) (s : Symbol) → TokenOf text start (a_symbol s) end
@@ -405,12 +405,12 @@ agreed text (Err (TooLong at)) found fault answer is = one_answer_lem text answe
 agreed text (Err NoMemory) found fault answer is = tt
 
 -- an answer of a text that isn't over-long
-pub found_in_room : {A : Type 0} (text : List ℕ) (result : Result (Vec Token A) LexFault) → length text ≤ MAX_TEXT
+pub found_in_room : {A : Type 0} (text : List ℕ) (result : Result (Vec Token A) LexFault) → length text ≤ LONGEST_TEXT
     → IfOk result (λ v. Lexed text v.items) → IfOk result (λ v. Answers text (Ok v.items))
 found_in_room text (Ok v) room found = in_room room found
 found_in_room text (Err e) room found = found
 
-pub fault_in_room : {A : Type 0} (text : List ℕ) (result : Result (Vec Token A) LexFault) → length text ≤ MAX_TEXT
+pub fault_in_room : {A : Type 0} (text : List ℕ) (result : Result (Vec Token A) LexFault) → length text ≤ LONGEST_TEXT
     → IfErr result (λ e. IsFirstFault text e) → IfErr result (λ e. IsAnswer text e)
 fault_in_room text (Ok v) room fault = fault
 fault_in_room text (Err (BadCharacter at)) room fault = in_room room fault

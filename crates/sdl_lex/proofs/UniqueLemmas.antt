@@ -6,7 +6,7 @@ use Rattle.std.specs.Char.{is_ascii_alphabetic, is_ascii_digit, to_ascii_lowerca
 use Rattle.std.proofs.lemmas.Bool.{both_ways, cases_lt, cases_order, and_parts, and_from, leb-true}
 use Rattle.std.proofs.lemmas.List.{length-map}
 use Rattle.std.proofs.lemmas.Grind.{common_steps}
-use Rattle.sdl_lex.specs.declared.TheConstants.{MAX_NUMBER}
+use Rattle.sdl_lex.specs.Limits.{GREATEST_NUMBER}
 use Rattle.sdl_lex.specs.declared.lexemes.Word.{Word}
 use Rattle.sdl_lex.specs.Spelling.{SameName, folded, is_name_byte, is_spelled_as_name}
 use Rattle.sdl_lex.specs.Texts.{word_text}
@@ -109,7 +109,7 @@ pub record Numberlike (text : List ℕ) (start end : ℕ) : Type 0 where
   pub inside : end ≤ length text
   pub each : (k : ℕ) → start ≤ k → k < end → is_ascii_digit (get_or text k 0) ≡ true
   pub stops : is_ascii_digit (get_or text end 0) ≡ false
-  pub small : decimal (slice_range text start end) ≤ MAX_NUMBER
+  pub small : decimal (slice_range text start end) ≤ GREATEST_NUMBER
 
 -- a digit of a slice that is a number
 pub slice_digit : (text : List ℕ) (start end k : ℕ) → IsNumber (slice_range text start end)
@@ -122,7 +122,7 @@ slice_digit text start end k number below =
     rw (← there) (number.1 k below)
 
 pub numberlike_from : (text : List ℕ) (start end : ℕ) → start ≤ end → end ≤ length text
-    → IsNumber (slice_range text start end) → decimal (slice_range text start end) ≤ MAX_NUMBER
+    → IsNumber (slice_range text start end) → decimal (slice_range text start end) ≤ GREATEST_NUMBER
     → is_ascii_digit (get_or text end 0) ≡ false → Numberlike text start end
 numberlike_from text start end ordered inside number small stops =
     let size = slice_length text start end inside in
@@ -178,6 +178,6 @@ large_no_number text at end large number =
           let same : slice_range text at large.0 ≡ take (large.0 - at) (slice_range text at end) =
           take_short (large.0 - at) (end - at) (drop at text) all in
           let less = decimal-take (large.0 - at) (slice_range text at end) in
-          let more : MAX_NUMBER < decimal (take (large.0 - at) (slice_range text at end)) = rw same at large.2 in
+          let more : GREATEST_NUMBER < decimal (take (large.0 - at) (slice_range text at end)) = rw same at large.2 in
           omega (arith, number.small)
     ]

@@ -1,7 +1,7 @@
 -- What the tokens of a text are, and what keeps a text from having them.
 use Rattle.std.specs.Prelude.{Vec, ◌≡◌, ℕ, ◌+◌, ◌-◌, ◌*◌, ◌<◌, ◌≤◌, ◌==◌, ◌⊎◌, Bool, true, false, IsTrue, ◌||◌, if◌then◌else◌, List, [], ◌∷◌, ◌++◌, length, fold, slice_index, slice_range, EachIndex, Result, Ok, Err}
 use Rattle.std.specs.Char.{is_ascii_alphabetic, is_ascii_digit}
-use Rattle.sdl_lex.specs.declared.TheConstants.{MAX_NAME, MAX_NUMBER, MAX_TEXT}
+use Rattle.sdl_lex.specs.Limits.{LONGEST_NAME, GREATEST_NUMBER, LONGEST_TEXT}
 use Rattle.sdl_lex.specs.declared.lexemes.Word.{Word}
 use Rattle.sdl_lex.specs.declared.lexemes.Symbol.{Symbol}
 use Rattle.sdl_lex.specs.declared.lexemes.Symbol.TheVariants.{Colon, Slash, Less, Greater}
@@ -62,7 +62,7 @@ decimal digits = fold (λ n digit. 10 * n + (digit - 48)) 0 digits
 -- a token's text: a name is no reserved word, in whatever case
 abbrev pub Spells : List ℕ → Lexeme → Type 0
 Spells bytes (a_name n) = (n ≡ bytes) × IsName bytes × ((w : Word) → SameName bytes (word_text w) → ⊥)
-Spells bytes (a_number n) = IsNumber bytes × (n ≡ decimal bytes) × (n ≤ MAX_NUMBER)
+Spells bytes (a_number n) = IsNumber bytes × (n ≡ decimal bytes) × (n ≤ GREATEST_NUMBER)
 Spells bytes (a_word w) = SameName bytes (word_text w)
 Spells bytes (a_symbol s) = bytes ≡ symbol_text s
 Spells bytes a_quoted = IsQuoted bytes
@@ -123,11 +123,11 @@ pub record IsBad (b : ℕ) : Type 0 where
 -- a name of more than 32 bytes begins at a place
 abbrev pub IsLongName : List ℕ → ℕ → Type 0
 IsLongName text at = (end : ℕ) × IsTrue (is_spelled_as_name (slice_range text at end))
-    × (MAX_NAME < length (slice_range text at end))
+    × (LONGEST_NAME < length (slice_range text at end))
 
 -- a number above 2147483647 begins at a place
 abbrev pub IsLargeNumber : List ℕ → ℕ → Type 0
-IsLargeNumber text at = (end : ℕ) × IsNumber (slice_range text at end) × (MAX_NUMBER < decimal (slice_range text at end))
+IsLargeNumber text at = (end : ℕ) × IsNumber (slice_range text at end) × (GREATEST_NUMBER < decimal (slice_range text at end))
 
 -- this fault stands at its place
 abbrev pub IsFaultAt : List ℕ → LexFault → Type 0
@@ -150,8 +150,8 @@ Gives text (Err fault) = IsFaultAt text fault × (tokens : List Token) × Lexes 
 
 -- the answer that a text has, want of memory aside: of an over-long one it is the first byte too many
 pub data Answers (text : List ℕ) : Result (List Token) LexFault → Type 0 where
-  over_long : MAX_TEXT < length text → Answers text (Err (TooLong MAX_TEXT))
-  in_room : {answer : Result (List Token) LexFault} → length text ≤ MAX_TEXT → Gives text answer → Answers text answer
+  over_long : LONGEST_TEXT < length text → Answers text (Err (TooLong LONGEST_TEXT))
+  in_room : {answer : Result (List Token) LexFault} → length text ≤ LONGEST_TEXT → Gives text answer → Answers text answer
 
 -- the first fault of a text that isn't over-long; of want of memory nothing is said
 abbrev pub IsFirstFault : List ℕ → LexFault → Type 0

@@ -1,3 +1,4 @@
+pub mod Limits
 pub mod Lexed
 pub mod NameRoom
 pub mod Printed

@@ -2,7 +2,7 @@
 use Rattle.std.specs.Prelude.{◌≡◌, ℕ, ◌==◌, Bool, false, IsTrue, ◌&&◌, ◌||◌, List, [], ◌∷◌, length, map, nat_le}
 use Rattle.std.specs.List.{list_all}
 use Rattle.std.specs.Char.{is_ascii_alphabetic, is_ascii_alphanumeric, to_ascii_lowercase}
-use Rattle.sdl_lex.specs.declared.TheConstants.{MAX_NAME}
+use Rattle.sdl_lex.specs.Limits.{LONGEST_NAME}
 
 -- a byte that a name may go on with: an ASCII letter, a digit or `_`
 abbrev pub is_name_byte : ℕ → Bool
@@ -15,7 +15,7 @@ is_spelled_as_name (b ∷ bs) = is_ascii_alphabetic b && list_all is_name_byte b
 
 -- the spelling of a name: at most 32 bytes
 abbrev pub IsName : List ℕ → Type 0
-IsName bs = IsTrue (is_spelled_as_name bs && nat_le (length bs) MAX_NAME)
+IsName bs = IsTrue (is_spelled_as_name bs && nat_le (length bs) LONGEST_NAME)
 
 -- a spelling in lower case, by which names are told apart
 abbrev pub folded : List ℕ → List ℕ

@@ -2,6 +2,7 @@
 ghost use Rattle.std.specs.Prelude.{◌≡◌, ℕ, ◌+◌, ◌==◌, ◌<◌, ◌≤◌, true, false, length, slice_index, IfOk, IfErr};
 ghost use Rattle.std.specs.Char.{is_ascii_digit, is_ascii_alphabetic};
 ghost use Rattle.sdl_lex.specs.Lexed.{is_white, OpensComment};
+ghost use Rattle.sdl_lex.specs.Limits.{LONGEST_TEXT};
 ghost use Rattle.sdl_lex.specs.Scan.{Stands, IsFaultThere};
 
 use crate::scan::{
@@ -18,7 +19,7 @@ pub(crate) struct Item {
 }
 
 fn word_item(bytes: &[u8], at: usize) -> Result<Item, LexFault>
-    requires room { length bytes.now ≤ MAX_TEXT }
+    requires room { length bytes.now ≤ LONGEST_TEXT }
     requires inside { at < length bytes.now }
     requires begins { is_ascii_alphabetic (slice_index bytes.now at) ≡ true }
     ensures ok { IfOk result (λ i. Stands bytes.now at i.lexeme i.end × (at < i.end) × (i.end ≤ length bytes.now)) }
@@ -35,7 +36,7 @@ fn word_item(bytes: &[u8], at: usize) -> Result<Item, LexFault>
 }
 
 fn number_item(bytes: &[u8], at: usize) -> Result<Item, LexFault>
-    requires room { length bytes.now ≤ MAX_TEXT }
+    requires room { length bytes.now ≤ LONGEST_TEXT }
     requires inside { at < length bytes.now }
     requires begins { is_ascii_digit (slice_index bytes.now at) ≡ true }
     ensures ok { IfOk result (λ i. Stands bytes.now at i.lexeme i.end × (at < i.end) × (i.end ≤ length bytes.now)) }
@@ -52,7 +53,7 @@ fn number_item(bytes: &[u8], at: usize) -> Result<Item, LexFault>
 }
 
 fn comment_item(bytes: &[u8], at: usize) -> Result<Item, LexFault>
-    requires room { length bytes.now ≤ MAX_TEXT }
+    requires room { length bytes.now ≤ LONGEST_TEXT }
     requires inside { at + 2 ≤ length bytes.now }
     requires opens { OpensComment bytes.now at }
     ensures ok { IfOk result (λ i. Stands bytes.now at i.lexeme i.end × (at < i.end) × (i.end ≤ length bytes.now)) }
@@ -65,7 +66,7 @@ fn comment_item(bytes: &[u8], at: usize) -> Result<Item, LexFault>
 }
 
 fn quoted_item(bytes: &[u8], at: usize) -> Result<Item, LexFault>
-    requires room { length bytes.now ≤ MAX_TEXT }
+    requires room { length bytes.now ≤ LONGEST_TEXT }
     requires inside { at < length bytes.now }
     requires opens { slice_index bytes.now at ≡ 39 }
     ensures ok { IfOk result (λ i. Stands bytes.now at i.lexeme i.end × (at < i.end) × (i.end ≤ length bytes.now)) }
@@ -81,7 +82,7 @@ fn quoted_item(bytes: &[u8], at: usize) -> Result<Item, LexFault>
 }
 
 fn symbol_item(bytes: &[u8], at: usize) -> Result<Item, LexFault>
-    requires room { length bytes.now ≤ MAX_TEXT }
+    requires room { length bytes.now ≤ LONGEST_TEXT }
     requires inside { at < length bytes.now }
     requires no_letter { is_ascii_alphabetic (slice_index bytes.now at) ≡ false }
     requires no_digit { is_ascii_digit (slice_index bytes.now at) ≡ false }
@@ -110,7 +111,7 @@ fn symbol_item(bytes: &[u8], at: usize) -> Result<Item, LexFault>
 
 /// What stands at a place, or the fault that does.
 pub(crate) fn item_at(bytes: &[u8], at: usize) -> Result<Item, LexFault>
-    requires room { length bytes.now ≤ MAX_TEXT }
+    requires room { length bytes.now ≤ LONGEST_TEXT }
     requires inside { at < length bytes.now }
     ensures ok { IfOk result (λ i. Stands bytes.now at i.lexeme i.end × (at < i.end) × (i.end ≤ length bytes.now)) }
     ensures err { IfErr result (λ e. IsFaultThere bytes.now at e) }

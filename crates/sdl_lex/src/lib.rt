@@ -3,6 +3,7 @@
 
 ghost use Rattle.std.specs.Prelude.{◌≡◌, ◌+◌, ◌==◌, ◌≤◌, length, take, count_by, Ok, IfOk, IfErr};
 ghost use Rattle.sdl_lex.specs.Lexed.{Lexed, Answers, IsFirstFault, IsAnswer, IsOnlyAnswer, OneReading, OneAnswer};
+ghost use Rattle.sdl_lex.specs.Limits.{LONGEST_TEXT};
 
 mod items;
 mod lexemes;
@@ -45,7 +46,7 @@ pub fn tokens(alloc: Global, text: &str) -> Result<Vec<Token>, LexFault>
 
 // The tokens of a text that isn't over-long.
 fn all_tokens(alloc: Global, bytes: &[u8]) -> Result<Vec<Token>, LexFault>
-    requires { length bytes.now ≤ MAX_TEXT }
+    requires { length bytes.now ≤ LONGEST_TEXT }
     ensures lexed { IfOk result (λ v. Lexed bytes.now v.items) }
     ensures fault { IfErr result (λ e. IsFirstFault bytes.now e) }
 {

@@ -6,7 +6,7 @@ ghost use Rattle.sdl_lex.specs.Texts.{symbol_text};
 ghost use Rattle.sdl_lex.specs.declared.lexemes.Symbol.{Symbol as TheSymbol};
 ghost use Rattle.sdl_lex.specs.Lexed.{is_white, continues, OpensComment, IsComment, IsOpenComment, IsOpenQuoted, decimal, Spells, continues_symbol};
 ghost use Rattle.sdl_lex.specs.Scan.{IsRun, Stands};
-ghost use Rattle.sdl_lex.specs.declared.TheConstants.{MAX_NAME};
+ghost use Rattle.sdl_lex.specs.Limits.{LONGEST_NAME, GREATEST_NUMBER};
 
 use crate::spelling::is_name_byte;
 use crate::{Lexeme, MAX_NUMBER, Name, Symbol, Word};
@@ -84,8 +84,8 @@ pub(crate) fn quoted_end(bytes: &[u8], at: usize) -> Option<usize>
 /// The number that digits stand for, if it isn't too large.
 pub(crate) fn number_of(digits: &[u8]) -> Option<u32>
     requires { EachIndex digits.now (λ k. is_ascii_digit (slice_index digits.now k) ≡ true) }
-    ensures found { IfSome result (λ n. (n ≡ decimal digits.now) × (n ≤ MAX_NUMBER)) }
-    ensures none { IfNone result (MAX_NUMBER < decimal digits.now) }
+    ensures found { IfSome result (λ n. (n ≡ decimal digits.now) × (n ≤ GREATEST_NUMBER)) }
+    ensures none { IfNone result (GREATEST_NUMBER < decimal digits.now) }
 {
     let mut n: u32 = 0;
     for digit in digits {
@@ -103,7 +103,7 @@ pub(crate) fn word_or_name(spelling: &[u8]) -> Option<Lexeme>
     requires { IsTrue (is_spelled_as_name spelling.now) }
     ensures found { IfSome result (λ lexeme. Spells spelling.now lexeme
         × ((b : ℕ) → continues lexeme b ≡ is_name_byte b)) }
-    ensures none { IfNone result (MAX_NAME < length spelling.now) }
+    ensures none { IfNone result (LONGEST_NAME < length spelling.now) }
 {
     if let Some(word) = Word::reserved(spelling) {
         return Some(Lexeme::Word(word));

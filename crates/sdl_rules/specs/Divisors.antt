@@ -1,7 +1,7 @@
 -- What may stand right of a division. (Z.100: Integer operators; that it is a literal is this profile's own.)
 use Rattle.std.specs.Prelude.{ℕ, Bool, true, false, not, ◌&&◌, List, [], ◌∷◌, ◌++◌, if◌then◌else◌, nat_lt, nat_le}
 use Rattle.std.specs.List.{flat_map}
-use Rattle.sdl_lex.specs.declared.TheConstants.{MAX_NUMBER}
+use Rattle.sdl_lex.specs.Limits.{GREATEST_NUMBER}
 use Rattle.sdl_tree.specs.declared.expression.BinaryOperator.{BinaryOperator}
 use Rattle.sdl_tree.specs.declared.expression.BinaryOperator.TheVariants.{Or, Xor, And, Equal, NotEqual, Less, LessEqual, Greater, GreaterEqual, Add, Subtract, Multiply, Divide, Modulo, Remainder}
 use Rattle.sdl_tree.specs.Plain.{Tree, number, truth, variable, unary, binary, PlainAssignment, PlainSending, PlainAction, task, output, set_timer, reset_timer, PlainBlock}
@@ -31,7 +31,7 @@ divides Remainder = true
 
 -- a number of 1 or more, and none past the greatest; parentheses round it leave it one
 abbrev pub is_divisor : Tree → Bool
-is_divisor (number at value) = nat_lt 0 value && nat_le value MAX_NUMBER
+is_divisor (number at value) = nat_lt 0 value && nat_le value GREATEST_NUMBER
 is_divisor (truth at value) = false
 is_divisor (variable at id) = false
 is_divisor (unary at operator operand) = false

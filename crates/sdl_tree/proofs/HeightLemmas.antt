@@ -2,7 +2,7 @@
 use Rattle.std.proofs.Common.{◌≡◌, ℕ, ◌<◌, ◌≤◌, max, Bool, true, false, List, [], ◌∷◌, Option, Some, None, refl, ap, subst, ◌∙◌, arith}
 use Rattle.std.specs.Prelude.{nat_lt, if◌then◌else◌}
 use borrow.Author.Tests.{ltb-true, ltb-false}
-use Rattle.sdl_tree.specs.declared.TheConstants.{MAX_HEIGHT}
+use Rattle.sdl_tree.specs.Limits.{GREATEST_HEIGHT}
 use Rattle.sdl_tree.specs.Plain.{Tree, number, truth, variable, unary, binary, PlainAction, Text, falls, ends, does, decides, Choice, nothing_else, otherwise, answer, PlainClause, input, save, PlainProcess, PlainEntity, signals, route, connect, process, PlainBlock}
 use Rattle.sdl_tree.specs.declared.tree.Decision.{Decision, out-Decision}
 use Rattle.sdl_tree.specs.declared.tree.Statement.TheVariants.{Decide}
@@ -12,13 +12,13 @@ use Rattle.sdl_tree.specs.Heights.{tree_height, highest, action_height, text_hei
 
 -- a height beside the first place that is too high
 pub Judged : ℕ → Option ℕ → Type 0
-Judged h None = h ≤ MAX_HEIGHT
-Judged h (Some at) = MAX_HEIGHT < h
+Judged h None = h ≤ GREATEST_HEIGHT
+Judged h (Some at) = GREATEST_HEIGHT < h
 
-judged_test : (h at : ℕ) (b : Bool) → nat_lt MAX_HEIGHT h ≡ b → Judged h (if b then Some at else None)
+judged_test : (h at : ℕ) (b : Bool) → nat_lt GREATEST_HEIGHT h ≡ b → Judged h (if b then Some at else None)
 unfolding Judged
-judged_test h at true e = ltb-true MAX_HEIGHT h e
-judged_test h at false e = ltb-false MAX_HEIGHT h e
+judged_test h at true e = ltb-true GREATEST_HEIGHT h e
+judged_test h at false e = ltb-false GREATEST_HEIGHT h e
 
 judged-max : (h k : ℕ) (p q : Option ℕ) → Judged h p → Judged k q → Judged (max h k) (or_first p q)
 unfolding Judged
@@ -33,10 +33,10 @@ judged_list h f each [] = omega arith
 judged_list h f each (x ∷ xs) = judged-max (h x) (highest h xs) (f x) (first_of f xs) (each x) (judged_list h f each xs)
 
 judged_action : (a : PlainAction) → Judged (action_height a) (high_in_action a)
-judged_action a = judged_test (action_height a) (place_of_action a) (nat_lt MAX_HEIGHT (action_height a)) refl
+judged_action a = judged_test (action_height a) (place_of_action a) (nat_lt GREATEST_HEIGHT (action_height a)) refl
 
 judged_decision : (at : ℕ) (question : Tree) (choice : Choice) → Judged (decision_height question choice) (high_in_decision at question choice)
-judged_decision at question choice = judged_test (decision_height question choice) at (nat_lt MAX_HEIGHT (decision_height question choice)) refl
+judged_decision at question choice = judged_test (decision_height question choice) at (nat_lt GREATEST_HEIGHT (decision_height question choice)) refl
 
 -- what stands in a DECISION is lower than it
 judged_inside : (d c h : ℕ) (p i q : Option ℕ) → c < d → Judged d p → Judged c i → Judged h q → Judged (max d h) (or_first p (or_first i q))
@@ -64,20 +64,20 @@ mutual
       judged-max (text_height text) (choice_height others) (high_in_text text) (high_in_choice others) (judged_text text) (judged_choice others)
 
 -- so nothing in it is named
-low_inside : (d c : ℕ) (i q : Option ℕ) → c < d → d ≤ MAX_HEIGHT → Judged c i → or_first i q ≡ q
+low_inside : (d c : ℕ) (i q : Option ℕ) → c < d → d ≤ GREATEST_HEIGHT → Judged c i → or_first i q ≡ q
 unfolding Judged
 low_inside d c None q l a b = refl
 low_inside d c (Some at) q l a b = absurd (omega arith)
 
 pub none_inside : (at : ℕ) (question : Tree) (choice : Choice) (q : Option ℕ)
     → or_first (high_in_decision at question choice) (or_first (high_in_choice choice) q) ≡ or_first (high_in_decision at question choice) q
-none_inside at question choice q = by_test at question choice q (nat_lt MAX_HEIGHT (decision_height question choice)) refl
+none_inside at question choice q = by_test at question choice q (nat_lt GREATEST_HEIGHT (decision_height question choice)) refl
   where
-    by_test : (at : ℕ) (question : Tree) (choice : Choice) (q : Option ℕ) (b : Bool) → nat_lt MAX_HEIGHT (decision_height question choice) ≡ b
+    by_test : (at : ℕ) (question : Tree) (choice : Choice) (q : Option ℕ) (b : Bool) → nat_lt GREATEST_HEIGHT (decision_height question choice) ≡ b
         → or_first (if b then Some at else None) (or_first (high_in_choice choice) q) ≡ or_first (if b then Some at else None) q
     by_test at question choice q true e = refl
     by_test at question choice q false e =
-        low_inside (decision_height question choice) (choice_height choice) (high_in_choice choice) q (omega arith) (ltb-false MAX_HEIGHT (decision_height question choice) e) (judged_choice choice)
+        low_inside (decision_height question choice) (choice_height choice) (high_in_choice choice) q (omega arith) (ltb-false GREATEST_HEIGHT (decision_height question choice) e) (judged_choice choice)
 
 pub high_in_decide : (d : Decision) (rest : Text)
     → high_in_text (statement_of (Decide d) rest) ≡ or_first (high_in_decision (out-Decision d).at (tree_of (out-Decision d).question) (choice_of d)) (high_in_text rest)
@@ -115,11 +115,11 @@ judged_entity (process p) = judged_process p
 judged_block : (b : PlainBlock) → Judged (Height b) (first_too_high b)
 judged_block b = judged_list entity_height high_in_entity judged_entity b.entities
 
-pub low_where_none : (b : PlainBlock) → first_too_high b ≡ None → Height b ≤ MAX_HEIGHT
+pub low_where_none : (b : PlainBlock) → first_too_high b ≡ None → Height b ≤ GREATEST_HEIGHT
 unfolding Judged
 low_where_none b e = subst (Judged (Height b)) e (judged_block b)
 
-pub high_where_some : (b : PlainBlock) (at : ℕ) → first_too_high b ≡ Some at → MAX_HEIGHT < Height b
+pub high_where_some : (b : PlainBlock) (at : ℕ) → first_too_high b ≡ Some at → GREATEST_HEIGHT < Height b
 unfolding Judged
 high_where_some b at e = subst (Judged (Height b)) e (judged_block b)
 

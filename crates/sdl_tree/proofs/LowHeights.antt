@@ -2,7 +2,7 @@
 use Rattle.std.proofs.Common.{◌≡◌, ℕ, zero, suc, max, ◌+◌, ◌<◌, ◌≤◌, Bool, true, false, List, [], ◌∷◌, Option, Some, None, map, refl, sym, ap, subst, ◌∙◌, arith}
 use Rattle.std.specs.Prelude.{nat_lt, if◌then◌else◌}
 use borrow.Author.Tests.{ltb-true, ltb-false}
-use Rattle.sdl_tree.specs.declared.TheConstants.{MAX_HEIGHT}
+use Rattle.sdl_tree.specs.Limits.{GREATEST_HEIGHT}
 use Rattle.sdl_tree.specs.declared.expression.Identifier.{Identifier}
 use Rattle.sdl_tree.specs.declared.expression.UnaryOperator.{UnaryOperator}
 use Rattle.sdl_tree.specs.declared.expression.BinaryOperator.{BinaryOperator}
@@ -24,66 +24,66 @@ height-placed p (binary at o x y) = refl
 
 -- a tree within the limit stays, and one above it stays above it
 record Keeps (x y : Tree) : Type 0 where
-  low : tree_height x ≤ MAX_HEIGHT → y ≡ x
-  high : MAX_HEIGHT < tree_height x → MAX_HEIGHT < tree_height y
+  low : tree_height x ≤ GREATEST_HEIGHT → y ≡ x
+  high : GREATEST_HEIGHT < tree_height x → GREATEST_HEIGHT < tree_height y
 
-keeps_unary : (at : ℕ) (o : UnaryOperator) (x y : Tree) (b : Bool) → nat_lt MAX_HEIGHT (tree_height y) ≡ b → Keeps x y
+keeps_unary : (at : ℕ) (o : UnaryOperator) (x y : Tree) (b : Bool) → nat_lt GREATEST_HEIGHT (tree_height y) ≡ b → Keeps x y
     → Keeps (unary at o x) (if b then placed at y else unary at o y)
 keeps_unary at o x y true e k =
-    let above : MAX_HEIGHT < tree_height y = ltb-true MAX_HEIGHT (tree_height y) e in
+    let above : GREATEST_HEIGHT < tree_height y = ltb-true GREATEST_HEIGHT (tree_height y) e in
     record {
       low = λ h. (let same : y ≡ x = k.low (omega arith) in let s : tree_height y ≡ tree_height x = ap tree_height same in absurd (omega arith));
-      high = λ h. subst (λ n. MAX_HEIGHT < n) (sym (height-placed at y)) above;
+      high = λ h. subst (λ n. GREATEST_HEIGHT < n) (sym (height-placed at y)) above;
     }
 keeps_unary at o x y false e k =
-    let below : tree_height y ≤ MAX_HEIGHT = ltb-false MAX_HEIGHT (tree_height y) e in
+    let below : tree_height y ≤ GREATEST_HEIGHT = ltb-false GREATEST_HEIGHT (tree_height y) e in
     record {
       low = λ h. ap (unary at o) (k.low (omega arith));
       high = λ h. high_unary x y k below h;
     }
   where
-    high_unary : (x y : Tree) → Keeps x y → tree_height y ≤ MAX_HEIGHT → MAX_HEIGHT < tree_height x + 1 → MAX_HEIGHT < tree_height y + 1
-    high_unary x y k below h = by_test (nat_lt MAX_HEIGHT (tree_height x)) refl
+    high_unary : (x y : Tree) → Keeps x y → tree_height y ≤ GREATEST_HEIGHT → GREATEST_HEIGHT < tree_height x + 1 → GREATEST_HEIGHT < tree_height y + 1
+    high_unary x y k below h = by_test (nat_lt GREATEST_HEIGHT (tree_height x)) refl
       where
-        by_test : (c : Bool) → nat_lt MAX_HEIGHT (tree_height x) ≡ c → MAX_HEIGHT < tree_height y + 1
-        by_test true f = let above : MAX_HEIGHT < tree_height y = k.high (ltb-true MAX_HEIGHT (tree_height x) f) in omega arith
+        by_test : (c : Bool) → nat_lt GREATEST_HEIGHT (tree_height x) ≡ c → GREATEST_HEIGHT < tree_height y + 1
+        by_test true f = let above : GREATEST_HEIGHT < tree_height y = k.high (ltb-true GREATEST_HEIGHT (tree_height x) f) in omega arith
         by_test false f =
-            let same : y ≡ x = k.low (ltb-false MAX_HEIGHT (tree_height x) f) in
+            let same : y ≡ x = k.low (ltb-false GREATEST_HEIGHT (tree_height x) f) in
             let s : tree_height y ≡ tree_height x = ap tree_height same in
             omega arith
 
 -- a height above the limit that is not: either way
-either_height : {C : Type 0} (x : Tree) → (MAX_HEIGHT < tree_height x → C) → (tree_height x ≤ MAX_HEIGHT → C) → C
-either_height {C} x above below = by_test (nat_lt MAX_HEIGHT (tree_height x)) refl
+either_height : {C : Type 0} (x : Tree) → (GREATEST_HEIGHT < tree_height x → C) → (tree_height x ≤ GREATEST_HEIGHT → C) → C
+either_height {C} x above below = by_test (nat_lt GREATEST_HEIGHT (tree_height x)) refl
   where
-    by_test : (c : Bool) → nat_lt MAX_HEIGHT (tree_height x) ≡ c → C
-    by_test true f = above (ltb-true MAX_HEIGHT (tree_height x) f)
-    by_test false f = below (ltb-false MAX_HEIGHT (tree_height x) f)
+    by_test : (c : Bool) → nat_lt GREATEST_HEIGHT (tree_height x) ≡ c → C
+    by_test true f = above (ltb-true GREATEST_HEIGHT (tree_height x) f)
+    by_test false f = below (ltb-false GREATEST_HEIGHT (tree_height x) f)
 
-keeps_binary : (at : ℕ) (o : BinaryOperator) (x y x' y' : Tree) (b c : Bool) → nat_lt MAX_HEIGHT (tree_height x') ≡ b → nat_lt MAX_HEIGHT (tree_height y') ≡ c
+keeps_binary : (at : ℕ) (o : BinaryOperator) (x y x' y' : Tree) (b c : Bool) → nat_lt GREATEST_HEIGHT (tree_height x') ≡ b → nat_lt GREATEST_HEIGHT (tree_height y') ≡ c
     → Keeps x x' → Keeps y y' → Keeps (binary at o x y) (if b then placed at x' else if c then placed at y' else binary at o x' y')
 keeps_binary at o x y x' y' true c e f k m =
-    let above : MAX_HEIGHT < tree_height x' = ltb-true MAX_HEIGHT (tree_height x') e in
+    let above : GREATEST_HEIGHT < tree_height x' = ltb-true GREATEST_HEIGHT (tree_height x') e in
     record {
       low = λ h. (let same : x' ≡ x = k.low (omega arith) in let s : tree_height x' ≡ tree_height x = ap tree_height same in absurd (omega arith));
-      high = λ h. subst (λ n. MAX_HEIGHT < n) (sym (height-placed at x')) above;
+      high = λ h. subst (λ n. GREATEST_HEIGHT < n) (sym (height-placed at x')) above;
     }
 keeps_binary at o x y x' y' false true e f k m =
-    let above : MAX_HEIGHT < tree_height y' = ltb-true MAX_HEIGHT (tree_height y') f in
+    let above : GREATEST_HEIGHT < tree_height y' = ltb-true GREATEST_HEIGHT (tree_height y') f in
     record {
       low = λ h. (let same : y' ≡ y = m.low (omega arith) in let s : tree_height y' ≡ tree_height y = ap tree_height same in absurd (omega arith));
-      high = λ h. subst (λ n. MAX_HEIGHT < n) (sym (height-placed at y')) above;
+      high = λ h. subst (λ n. GREATEST_HEIGHT < n) (sym (height-placed at y')) above;
     }
 keeps_binary at o x y x' y' false false e f k m =
-    let below : tree_height x' ≤ MAX_HEIGHT = ltb-false MAX_HEIGHT (tree_height x') e in
-    let under : tree_height y' ≤ MAX_HEIGHT = ltb-false MAX_HEIGHT (tree_height y') f in
+    let below : tree_height x' ≤ GREATEST_HEIGHT = ltb-false GREATEST_HEIGHT (tree_height x') e in
+    let under : tree_height y' ≤ GREATEST_HEIGHT = ltb-false GREATEST_HEIGHT (tree_height y') f in
     record {
       low = λ h. (let p : x' ≡ x = k.low (omega arith) in let q : y' ≡ y = m.low (omega arith) in ap (λ z. binary at o z y') p ∙ ap (λ z. binary at o x z) q);
       high = λ h.
           either_height x
-          (λ a. let r : MAX_HEIGHT < tree_height x' = k.high a in omega arith)
+          (λ a. let r : GREATEST_HEIGHT < tree_height x' = k.high a in omega arith)
           (λ a. either_height y
-          (λ b. let r : MAX_HEIGHT < tree_height y' = m.high b in omega arith)
+          (λ b. let r : GREATEST_HEIGHT < tree_height y' = m.high b in omega arith)
           (λ b.
           let p : tree_height x' ≡ tree_height x = ap tree_height (k.low a) in
           let q : tree_height y' ≡ tree_height y = ap tree_height (m.low b) in
@@ -94,25 +94,25 @@ keeps : (x : Tree) → Keeps x (lowered x)
 keeps (number at k) = record { low = λ h. refl; high = λ h. h }
 keeps (truth at b) = record { low = λ h. refl; high = λ h. h }
 keeps (variable at n) = record { low = λ h. refl; high = λ h. h }
-keeps (unary at o x) = keeps_unary at o x (lowered x) (nat_lt MAX_HEIGHT (tree_height (lowered x))) refl (keeps x)
+keeps (unary at o x) = keeps_unary at o x (lowered x) (nat_lt GREATEST_HEIGHT (tree_height (lowered x))) refl (keeps x)
 keeps (binary at o x y) =
-    keeps_binary at o x y (lowered x) (lowered y) (nat_lt MAX_HEIGHT (tree_height (lowered x))) (nat_lt MAX_HEIGHT (tree_height (lowered y))) refl refl (keeps x) (keeps y)
+    keeps_binary at o x y (lowered x) (lowered y) (nat_lt GREATEST_HEIGHT (tree_height (lowered x))) (nat_lt GREATEST_HEIGHT (tree_height (lowered y))) refl refl (keeps x) (keeps y)
 
 -- the same of any part of a tree, with its height
 record KeepsHeight {A : Type 0} (h : A → ℕ) (x y : A) : Type 0 where
-  low : h x ≤ MAX_HEIGHT → y ≡ x
-  high : MAX_HEIGHT < h x → MAX_HEIGHT < h y
+  low : h x ≤ GREATEST_HEIGHT → y ≡ x
+  high : GREATEST_HEIGHT < h x → GREATEST_HEIGHT < h y
 
 tree_keeps : (x : Tree) → KeepsHeight tree_height x (lowered x)
 tree_keeps x = let k = keeps x in record { low = k.low; high = k.high }
 
 -- a height above the limit that is not: either way
-either_way : {C : Type 0} (h : ℕ) → (MAX_HEIGHT < h → C) → (h ≤ MAX_HEIGHT → C) → C
-either_way {C} h above below = by_test (nat_lt MAX_HEIGHT h) refl
+either_way : {C : Type 0} (h : ℕ) → (GREATEST_HEIGHT < h → C) → (h ≤ GREATEST_HEIGHT → C) → C
+either_way {C} h above below = by_test (nat_lt GREATEST_HEIGHT h) refl
   where
-    by_test : (c : Bool) → nat_lt MAX_HEIGHT h ≡ c → C
-    by_test true f = above (ltb-true MAX_HEIGHT h f)
-    by_test false f = below (ltb-false MAX_HEIGHT h f)
+    by_test : (c : Bool) → nat_lt GREATEST_HEIGHT h ≡ c → C
+    by_test true f = above (ltb-true GREATEST_HEIGHT h f)
+    by_test false f = below (ltb-false GREATEST_HEIGHT h f)
 
 row_keeps : {A : Type 0} (h : A → ℕ) (f : A → A) → ((x : A) → KeepsHeight h x (f x)) → (xs : List A) → KeepsHeight (highest h) xs (map f xs)
 row_keeps h f each [] = record { low = λ e. refl; high = λ e. e }
@@ -123,8 +123,8 @@ row_keeps h f each (x ∷ xs) =
       low = λ e. ap (λ z. z ∷ map f xs) (k.low (omega arith)) ∙ ap (λ l. x ∷ l) (m.low (omega arith));
       high = λ e.
           either_way (h x)
-          (λ above. let r : MAX_HEIGHT < h (f x) = k.high above in omega arith)
-          (λ below. let r : MAX_HEIGHT < highest h (map f xs) = m.high (omega arith) in omega arith);
+          (λ above. let r : GREATEST_HEIGHT < h (f x) = k.high above in omega arith)
+          (λ below. let r : GREATEST_HEIGHT < highest h (map f xs) = m.high (omega arith) in omega arith);
     }
 
 assignment_with : Identifier → Tree → PlainAssignment
@@ -154,18 +154,18 @@ action_keeps (output at ss to) =
 action_keeps (set_timer at delay timer) = let k = keeps delay in record { low = λ e. ap (λ d. set_timer at d timer) (k.low e); high = k.high }
 action_keeps (reset_timer at timer) = record { low = λ e. refl; high = λ e. e }
 
-same_test : (h k : ℕ) → (h ≤ MAX_HEIGHT → k ≡ h) → (MAX_HEIGHT < h → MAX_HEIGHT < k) → (b c : Bool) → nat_lt MAX_HEIGHT h ≡ b → nat_lt MAX_HEIGHT k ≡ c → c ≡ b
+same_test : (h k : ℕ) → (h ≤ GREATEST_HEIGHT → k ≡ h) → (GREATEST_HEIGHT < h → GREATEST_HEIGHT < k) → (b c : Bool) → nat_lt GREATEST_HEIGHT h ≡ b → nat_lt GREATEST_HEIGHT k ≡ c → c ≡ b
 same_test h k low high true true e f = refl
 same_test h k low high false false e f = refl
 same_test h k low high true false e f =
-    let a : MAX_HEIGHT < k = high (ltb-true MAX_HEIGHT h e) in let b : k ≤ MAX_HEIGHT = ltb-false MAX_HEIGHT k f in absurd (omega arith)
+    let a : GREATEST_HEIGHT < k = high (ltb-true GREATEST_HEIGHT h e) in let b : k ≤ GREATEST_HEIGHT = ltb-false GREATEST_HEIGHT k f in absurd (omega arith)
 same_test h k low high false true e f =
-    let b : h ≤ MAX_HEIGHT = ltb-false MAX_HEIGHT h e in
-    let a : MAX_HEIGHT < k = ltb-true MAX_HEIGHT k f in
+    let b : h ≤ GREATEST_HEIGHT = ltb-false GREATEST_HEIGHT h e in
+    let a : GREATEST_HEIGHT < k = ltb-true GREATEST_HEIGHT k f in
     let s : k ≡ h = low b in
     absurd (omega arith)
 
-action_test : (a : PlainAction) → nat_lt MAX_HEIGHT (action_height (lowered_action a)) ≡ nat_lt MAX_HEIGHT (action_height a)
+action_test : (a : PlainAction) → nat_lt GREATEST_HEIGHT (action_height (lowered_action a)) ≡ nat_lt GREATEST_HEIGHT (action_height a)
 action_test a =
     let k = action_keeps a in
     same_test (action_height a) (action_height (lowered_action a)) (λ h. ap action_height (k.low h)) k.high _ _ refl refl
@@ -209,9 +209,9 @@ test_none false at e = refl
 action_stays : (a : PlainAction) → Stays high_in_action a (lowered_action a)
 action_stays a = record {
   place =
-      ap (λ p. if nat_lt MAX_HEIGHT (action_height (lowered_action a)) then Some p else None) (place_lowered a)
+      ap (λ p. if nat_lt GREATEST_HEIGHT (action_height (lowered_action a)) then Some p else None) (place_lowered a)
       ∙ ap (λ b. if b then Some (place_of_action a) else None) (action_test a);
-  same = λ e. (action_keeps a).low (ltb-false MAX_HEIGHT (action_height a) (test_none (nat_lt MAX_HEIGHT (action_height a)) (place_of_action a) e));
+  same = λ e. (action_keeps a).low (ltb-false GREATEST_HEIGHT (action_height a) (test_none (nat_lt GREATEST_HEIGHT (action_height a)) (place_of_action a) e));
 }
 
 -- a statement alone
@@ -239,14 +239,14 @@ unfolding raised_by
 raised_height zero at x = omega arith
 raised_height (suc n) at x = let r = raised_height n at x in omega arith
 
-above_limit : (at : ℕ) (x : Tree) → MAX_HEIGHT < decision_height (raised_by MAX_HEIGHT at x) nothing_else
-above_limit at x = let r = raised_height MAX_HEIGHT at x in omega arith
+above_limit : (at : ℕ) (x : Tree) → GREATEST_HEIGHT < decision_height (raised_by GREATEST_HEIGHT at x) nothing_else
+above_limit at x = let r = raised_height GREATEST_HEIGHT at x in omega arith
 
 decision_keeps_by : (at : ℕ) (q p : Tree) (c d : Choice) → KeepsHeight tree_height q p → KeepsHeight choice_height c d
-    → (b : Bool) → nat_lt MAX_HEIGHT (decision_height p d) ≡ b → KeepsHeight statement_height (decide at q c) (if b then raised at p else decide at p d)
+    → (b : Bool) → nat_lt GREATEST_HEIGHT (decision_height p d) ≡ b → KeepsHeight statement_height (decide at q c) (if b then raised at p else decide at p d)
 unfolding statement_height
 decision_keeps_by at q p c d k m true e =
-    let above : MAX_HEIGHT < decision_height p d = ltb-true MAX_HEIGHT (decision_height p d) e in
+    let above : GREATEST_HEIGHT < decision_height p d = ltb-true GREATEST_HEIGHT (decision_height p d) e in
     record {
       low = λ h.
           (let same : p ≡ q = k.low (omega arith) in
@@ -257,14 +257,14 @@ decision_keeps_by at q p c d k m true e =
       high = λ h. above_limit at p;
     }
 decision_keeps_by at q p c d k m false e =
-    let below : decision_height p d ≤ MAX_HEIGHT = ltb-false MAX_HEIGHT (decision_height p d) e in
+    let below : decision_height p d ≤ GREATEST_HEIGHT = ltb-false GREATEST_HEIGHT (decision_height p d) e in
     record {
       low = λ h. ap (λ x. decide at x d) (k.low (omega arith)) ∙ ap (decide at q) (m.low (omega arith));
       high = λ h.
           either_way (tree_height q)
-          (λ high. let r : MAX_HEIGHT < tree_height p = k.high high in omega arith)
+          (λ high. let r : GREATEST_HEIGHT < tree_height p = k.high high in omega arith)
           (λ low. either_way (choice_height c)
-          (λ high. let r : MAX_HEIGHT < choice_height d = m.high high in omega arith)
+          (λ high. let r : GREATEST_HEIGHT < choice_height d = m.high high in omega arith)
           (λ under.
           let s : tree_height p ≡ tree_height q = ap tree_height (k.low low) in
           let t : choice_height d ≡ choice_height c = ap choice_height (m.low under) in
@@ -272,7 +272,7 @@ decision_keeps_by at q p c d k m false e =
     }
 
 decision_keeps : (at : ℕ) (q : Tree) (c d : Choice) → KeepsHeight choice_height c d → KeepsHeight statement_height (decide at q c) (low_decision at (lowered q) d)
-decision_keeps at q c d m = decision_keeps_by at q (lowered q) c d (tree_keeps q) m (nat_lt MAX_HEIGHT (decision_height (lowered q) d)) refl
+decision_keeps at q c d m = decision_keeps_by at q (lowered q) c d (tree_keeps q) m (nat_lt GREATEST_HEIGHT (decision_height (lowered q) d)) refl
 
 decides_keeps : (at : ℕ) (q : Tree) (c : Choice) (s : PlainStatement) (rest low : Text) → KeepsHeight statement_height (decide at q c) s → KeepsHeight text_height rest low
     → KeepsHeight text_height (decides at q c rest) (before s low)
@@ -283,8 +283,8 @@ decides_keeps at q c s rest low k m =
       low = λ e. ap (λ x. before x low) (k.low (omega arith)) ∙ ap (decides at q c) (m.low (omega arith));
       high = λ e.
           either_way (decision_height q c)
-          (λ above. let r : MAX_HEIGHT < statement_height s = k.high above in omega arith)
-          (λ below. let r : MAX_HEIGHT < text_height low = m.high (omega arith) in omega arith);
+          (λ above. let r : GREATEST_HEIGHT < statement_height s = k.high above in omega arith)
+          (λ below. let r : GREATEST_HEIGHT < text_height low = m.high (omega arith) in omega arith);
     }
 
 mutual
@@ -300,8 +300,8 @@ mutual
         low = λ e. ap (λ x. does x (lowered_text rest)) (k.low (omega arith)) ∙ ap (does a) (m.low (omega arith));
         high = λ e.
             either_way (action_height a)
-            (λ above. let r : MAX_HEIGHT < action_height (lowered_action a) = k.high above in omega arith)
-            (λ below. let r : MAX_HEIGHT < text_height (lowered_text rest) = m.high (omega arith) in omega arith);
+            (λ above. let r : GREATEST_HEIGHT < action_height (lowered_action a) = k.high above in omega arith)
+            (λ below. let r : GREATEST_HEIGHT < text_height (lowered_text rest) = m.high (omega arith) in omega arith);
       }
   text_keeps (decides at q c rest) =
       decides_keeps at q c (low_decision at (lowered q) (lowered_choice c)) rest (lowered_text rest) (decision_keeps at q c (lowered_choice c) (choice_keeps c)) (text_keeps rest)
@@ -316,13 +316,13 @@ mutual
         low = λ e. ap (λ x. answer at ranges x (lowered_choice others)) (k.low (omega arith)) ∙ ap (answer at ranges text) (m.low (omega arith));
         high = λ e.
             either_way (text_height text)
-            (λ above. let r : MAX_HEIGHT < text_height (lowered_text text) = k.high above in omega arith)
-            (λ below. let r : MAX_HEIGHT < choice_height (lowered_choice others) = m.high (omega arith) in omega arith);
+            (λ above. let r : GREATEST_HEIGHT < text_height (lowered_text text) = k.high above in omega arith)
+            (λ below. let r : GREATEST_HEIGHT < choice_height (lowered_choice others) = m.high (omega arith) in omega arith);
       }
 
 -- the place of a statement stays
 place_if : (at : ℕ) (p : Tree) (d : Choice) (b : Bool)
-    → high_in_statement (if b then raised at p else decide at p d) ≡ (if nat_lt MAX_HEIGHT (statement_height (if b then raised at p else decide at p d)) then Some at else None)
+    → high_in_statement (if b then raised at p else decide at p d) ≡ (if nat_lt GREATEST_HEIGHT (statement_height (if b then raised at p else decide at p d)) then Some at else None)
 unfolding high_in_statement statement_height
 place_if at p d true = refl
 place_if at p d false = refl
@@ -333,10 +333,10 @@ decision_stays at q c =
     let k = decision_keeps at q c (lowered_choice c) (choice_keeps c) in
     record {
       place =
-          place_if at (lowered q) (lowered_choice c) (nat_lt MAX_HEIGHT (decision_height (lowered q) (lowered_choice c)))
+          place_if at (lowered q) (lowered_choice c) (nat_lt GREATEST_HEIGHT (decision_height (lowered q) (lowered_choice c)))
           ∙ ap (λ b. if b then Some at else None)
           (same_test (decision_height q c) (statement_height (low_decision at (lowered q) (lowered_choice c))) (λ h. ap statement_height (k.low h)) k.high _ _ refl refl);
-      same = λ e. k.low (ltb-false MAX_HEIGHT (decision_height q c) (test_none (nat_lt MAX_HEIGHT (decision_height q c)) at e));
+      same = λ e. k.low (ltb-false GREATEST_HEIGHT (decision_height q c) (test_none (nat_lt GREATEST_HEIGHT (decision_height q c)) at e));
     }
 
 text_stays : (t : Text) → Stays high_in_text t (lowered_text t)

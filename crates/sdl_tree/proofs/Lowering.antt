@@ -1,7 +1,7 @@
 -- Readings that build no tree above one that is too high give what is left of the whole tree: expressions, and what is put together.
 use Rattle.std.proofs.Common.{◌≡◌, ℕ, suc, zero, Bool, true, false, List, [], ◌∷◌, Option, Some, None, is_some, length, map, refl, sym, ap, ◌∙◌}
 use Rattle.std.specs.Prelude.{nat_lt, nat_le, if◌then◌else◌}
-use Rattle.sdl_lex.specs.declared.TheConstants.{MAX_NUMBER}
+use Rattle.sdl_lex.specs.Limits.{GREATEST_NUMBER}
 use Rattle.sdl_lex.specs.declared.lexemes.Token.{Token}
 use Rattle.sdl_lex.specs.declared.lexemes.Word.{Word}
 use Rattle.sdl_lex.specs.declared.lexemes.Word.TheVariants as words
@@ -17,7 +17,7 @@ use Rattle.sdl_tree.specs.declared.expression.BinaryOperator.{BinaryOperator}
 use Rattle.sdl_tree.specs.declared.expression.BinaryOperator.TheVariants.{Subtract}
 use Rattle.sdl_tree.specs.declared.level.Level.{Level}
 use Rattle.sdl_tree.specs.declared.level.Level.TheVariants.{Disjunctions, Conjunctions, Relations, Sums, Products}
-use Rattle.sdl_tree.specs.declared.TheConstants.{MAX_HEIGHT}
+use Rattle.sdl_tree.specs.Limits.{GREATEST_HEIGHT}
 use Rattle.sdl_tree.specs.Plain.{Tree, number, truth, variable, unary, binary}
 use Rattle.sdl_tree.specs.Expressions.{Sign, leaf, joins, minus, denies, opens, closes, other, sign, symbol_sign, word_sign, lexeme_sign, place_of, placed}
 use Rattle.sdl_tree.specs.Heights.{tree_height}
@@ -52,10 +52,10 @@ pub place_of-lowered : (x : Tree) → place_of (lowered x) ≡ place_of x
 place_of-lowered (number at k) = refl
 place_of-lowered (truth at b) = refl
 place_of-lowered (variable at n) = refl
-place_of-lowered (unary at o x) = place_if (nat_lt MAX_HEIGHT (tree_height (lowered x))) at _ _ (place_of-placed at (lowered x)) refl
+place_of-lowered (unary at o x) = place_if (nat_lt GREATEST_HEIGHT (tree_height (lowered x))) at _ _ (place_of-placed at (lowered x)) refl
 place_of-lowered (binary at o x y) =
-    place_if (nat_lt MAX_HEIGHT (tree_height (lowered x))) at _ _ (place_of-placed at (lowered x))
-    (place_if (nat_lt MAX_HEIGHT (tree_height (lowered y))) at _ _ (place_of-placed at (lowered y)) refl)
+    place_if (nat_lt GREATEST_HEIGHT (tree_height (lowered x))) at _ _ (place_of-placed at (lowered x))
+    (place_if (nat_lt GREATEST_HEIGHT (tree_height (lowered y))) at _ _ (place_of-placed at (lowered y)) refl)
 
 placed_if : (b : Bool) (p : ℕ) (x y x' y' : Tree) → placed p x ≡ x' → placed p y ≡ y' → placed p (if b then x else y) ≡ (if b then x' else y')
 placed_if true p x y x' y' e f = e
@@ -66,10 +66,10 @@ lowered-placed p (number at k) = refl
 lowered-placed p (truth at b) = refl
 lowered-placed p (variable at n) = refl
 lowered-placed p (unary at o x) =
-    sym (placed_if (nat_lt MAX_HEIGHT (tree_height (lowered x))) p _ _ _ _ (placed-placed p at (lowered x)) refl)
+    sym (placed_if (nat_lt GREATEST_HEIGHT (tree_height (lowered x))) p _ _ _ _ (placed-placed p at (lowered x)) refl)
 lowered-placed p (binary at o x y) =
-    sym (placed_if (nat_lt MAX_HEIGHT (tree_height (lowered x))) p _ _ _ _ (placed-placed p at (lowered x))
-    (placed_if (nat_lt MAX_HEIGHT (tree_height (lowered y))) p _ _ _ _ (placed-placed p at (lowered y)) refl))
+    sym (placed_if (nat_lt GREATEST_HEIGHT (tree_height (lowered x))) p _ _ _ _ (placed-placed p at (lowered x))
+    (placed_if (nat_lt GREATEST_HEIGHT (tree_height (lowered y))) p _ _ _ _ (placed-placed p at (lowered y)) refl))
 
 lowered_slot : Option (Tree × BinaryOperator) → Option (Tree × BinaryOperator)
 lowered_slot None = None
@@ -255,7 +255,7 @@ word_same at _ = refl
 lexeme_same : (at : ℕ) (x : Lexeme) → lowered_sign (lexeme_sign at x) ≡ lexeme_sign at x
 unfolding lowered_sign
 lexeme_same at (lexemes.Name n) = refl
-lexeme_same at (lexemes.Number k) = number_sign (nat_le k MAX_NUMBER) (number at k) refl
+lexeme_same at (lexemes.Number k) = number_sign (nat_le k GREATEST_NUMBER) (number at k) refl
 lexeme_same at (lexemes.Word w) = word_same at w
 lexeme_same at (lexemes.Symbol s) = symbol_same at s
 lexeme_same at lexemes.Quoted = refl

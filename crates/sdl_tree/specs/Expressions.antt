@@ -1,6 +1,6 @@
 -- Expressions (Z.100, expressions): which tokens read as which tree.
 use Rattle.std.specs.Prelude.{◌≡◌, ℕ, Bool, true, false, List, [], ◌∷◌, Option, Some, None, is_some, nat_le, if◌then◌else◌}
-use Rattle.sdl_lex.specs.declared.TheConstants.{MAX_NUMBER}
+use Rattle.sdl_lex.specs.Limits.{GREATEST_NUMBER}
 use Rattle.sdl_lex.specs.declared.lexemes.Token.{Token}
 use Rattle.sdl_lex.specs.declared.lexemes.Lexeme.{Lexeme}
 use Rattle.sdl_lex.specs.declared.lexemes.Lexeme.TheVariants as lexemes
@@ -59,7 +59,7 @@ word_sign at _ = other
 
 abbrev pub lexeme_sign : ℕ → Lexeme → Sign
 lexeme_sign at (lexemes.Name n) = leaf (variable at (record { name = n; at = at }))
-lexeme_sign at (lexemes.Number k) = if nat_le k MAX_NUMBER then leaf (number at k) else other
+lexeme_sign at (lexemes.Number k) = if nat_le k GREATEST_NUMBER then leaf (number at k) else other
 lexeme_sign at (lexemes.Word w) = word_sign at w
 lexeme_sign at (lexemes.Symbol s) = symbol_sign at s
 lexeme_sign at lexemes.Quoted = other

@@ -4,7 +4,7 @@ use Rattle.sdl_lex.specs.declared.lexemes.Token.{Token}
 use Rattle.sdl_tree.specs.declared.fault.ParseFault.{ParseFault}
 use Rattle.sdl_tree.specs.declared.fault.ParseFault.TheVariants.{Unexpected, TooDeep, NoMemory}
 use Rattle.sdl_tree.specs.declared.tree.Block.{Block}
-use Rattle.sdl_tree.specs.declared.TheConstants.{MAX_HEIGHT}
+use Rattle.sdl_tree.specs.Limits.{GREATEST_HEIGHT}
 use Rattle.sdl_tree.specs.Plain.{Tree, number, truth, variable, unary, binary, PlainAssignment, PlainSending, PlainAction, task, output, set_timer, reset_timer, Text, falls, ends, does, decides, Choice, nothing_else, otherwise, answer, PlainClause, input, save, PlainState, PlainConnection, PlainProcess, PlainEntity, signals, route, connect, process, PlainBlock}
 use Rattle.sdl_tree.specs.Syntax.{Reads}
 use Rattle.sdl_tree.specs.Views.{block_of}
@@ -92,11 +92,11 @@ place_of_action (reset_timer at timer) = at
 
 -- the place of an action with an expression that is too high
 abbrev pub high_in_action : PlainAction → Option ℕ
-high_in_action a = if nat_lt MAX_HEIGHT (action_height a) then Some (place_of_action a) else None
+high_in_action a = if nat_lt GREATEST_HEIGHT (action_height a) then Some (place_of_action a) else None
 
 -- the place of a DECISION that is too high
 abbrev pub high_in_decision : ℕ → Tree → Choice → Option ℕ
-high_in_decision at question choice = if nat_lt MAX_HEIGHT (decision_height question choice) then Some at else None
+high_in_decision at question choice = if nat_lt GREATEST_HEIGHT (decision_height question choice) then Some at else None
 
 -- the place of the first TASK, OUTPUT, SET or DECISION that is too high: a DECISION stands before all that is in it
 abbrev mutual
@@ -153,7 +153,7 @@ Refuses tokens NoMemory = Unit {0}
 
 -- what an answer says of a tree that the tokens read as
 abbrev pub Answers : Result Block ParseFault → PlainBlock → Type 0
-Answers (Ok block) b = (block_of block ≡ b) × (Height b ≤ MAX_HEIGHT)
+Answers (Ok block) b = (block_of block ≡ b) × (Height b ≤ GREATEST_HEIGHT)
 Answers (Err (Unexpected at)) b = ⊥
-Answers (Err (TooDeep at)) b = (MAX_HEIGHT < Height b) × (first_too_high b ≡ Some at)
+Answers (Err (TooDeep at)) b = (GREATEST_HEIGHT < Height b) × (first_too_high b ≡ Some at)
 Answers (Err NoMemory) b = Unit {0}

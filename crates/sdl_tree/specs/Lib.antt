@@ -1,3 +1,4 @@
+pub mod Limits
 pub mod Plain
 pub mod Views
 pub mod Tokens

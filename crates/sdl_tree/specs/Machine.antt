@@ -8,7 +8,7 @@ use Rattle.sdl_tree.specs.declared.expression.BinaryOperator.{BinaryOperator}
 use Rattle.sdl_tree.specs.declared.expression.BinaryOperator.TheVariants.{Subtract}
 use Rattle.sdl_tree.specs.declared.level.Level.{Level}
 use Rattle.sdl_tree.specs.declared.level.Level.TheVariants.{Disjunctions, Conjunctions, Relations, Sums, Products}
-use Rattle.sdl_tree.specs.declared.TheConstants.{MAX_HEIGHT}
+use Rattle.sdl_tree.specs.Limits.{GREATEST_HEIGHT}
 use Rattle.sdl_tree.specs.Plain.{Tree, number, truth, variable, unary, binary, Choice, nothing_else, PlainStatement, decide}
 use Rattle.sdl_tree.specs.Expressions.{Sign, leaf, joins, minus, denies, opens, closes, other, sign, place_of, placed}
 use Rattle.sdl_tree.specs.Heights.{tree_height, decision_height}
@@ -25,12 +25,12 @@ whole_trees = record { lead = λ at o x. unary at o x; join = λ o x y. binary (
 
 -- a tree that is too high stands for all trees above it
 abbrev pub low_unary : ℕ → UnaryOperator → Tree → Tree
-low_unary at o x = if nat_lt MAX_HEIGHT (tree_height x) then placed at x else unary at o x
+low_unary at o x = if nat_lt GREATEST_HEIGHT (tree_height x) then placed at x else unary at o x
 
 abbrev pub low_binary : ℕ → BinaryOperator → Tree → Tree → Tree
 low_binary at o x y =
-    if nat_lt MAX_HEIGHT (tree_height x) then placed at x
-    else if nat_lt MAX_HEIGHT (tree_height y) then placed at y
+    if nat_lt GREATEST_HEIGHT (tree_height x) then placed at x
+    else if nat_lt GREATEST_HEIGHT (tree_height y) then placed at y
     else binary at o x y
 
 -- an expression with operators in front of it
@@ -40,10 +40,10 @@ raised_by (suc n) at x = unary at Not (raised_by n at x)
 
 -- what stands for a DECISION that is too high: its question, raised until that is too high, with no answers
 abbrev pub raised : ℕ → Tree → PlainStatement
-raised at question = decide at (raised_by MAX_HEIGHT at question) nothing_else
+raised at question = decide at (raised_by GREATEST_HEIGHT at question) nothing_else
 
 abbrev pub low_decision : ℕ → Tree → Choice → PlainStatement
-low_decision at question choice = if nat_lt MAX_HEIGHT (decision_height question choice) then raised at question else decide at question choice
+low_decision at question choice = if nat_lt GREATEST_HEIGHT (decision_height question choice) then raised at question else decide at question choice
 
 abbrev pub low_trees : Build
 low_trees = record { lead = λ at o x. low_unary at o x; join = λ o x y. low_binary (place_of x) o x y; decision = λ at question choice. low_decision at question choice }

@@ -1,7 +1,7 @@
 -- What a token can stand for in a text.
 use Rattle.std.specs.Prelude.{ℕ, Bool, true, false, ◌==◌, nat_le, List, [], ◌∷◌, Option, Some, None, is_some, if◌then◌else◌, bytes_eq, pos}
 use Rattle.sdl_lex.specs.Spelling.{folded}
-use Rattle.sdl_lex.specs.declared.TheConstants.{MAX_NUMBER}
+use Rattle.sdl_lex.specs.Limits.{GREATEST_NUMBER}
 use Rattle.sdl_lex.specs.declared.lexemes.Word.{Word}
 use Rattle.sdl_lex.specs.declared.lexemes.Word.TheVariants as words
 use Rattle.sdl_lex.specs.declared.lexemes.Symbol.{Symbol}
@@ -116,7 +116,7 @@ symbol_place s at lexemes.Quoted = None
 
 -- a number that a text may have
 abbrev pub number_value : Lexeme → Option ℕ
-number_value (lexemes.Number k) = if nat_le k MAX_NUMBER then Some k else None
+number_value (lexemes.Number k) = if nat_le k GREATEST_NUMBER then Some k else None
 number_value (lexemes.Name n) = None
 number_value (lexemes.Word w) = None
 number_value (lexemes.Symbol s) = None

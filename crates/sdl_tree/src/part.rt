@@ -1,6 +1,6 @@
 //! Expressions while they are read: none is ever much higher than a tree may be.
 ghost use Rattle.std.specs.Prelude.{◌≡◌, ◌≤◌, ◌+◌, IfOk};
-ghost use Rattle.sdl_tree.specs.declared.TheConstants.{MAX_HEIGHT};
+ghost use Rattle.sdl_tree.specs.Limits.{GREATEST_HEIGHT};
 ghost use Rattle.sdl_tree.specs.Heights.{tree_height};
 ghost use Rattle.sdl_tree.specs.Views.{tree_of};
 
@@ -12,5 +12,5 @@ pub(crate) struct Part {
     pub(crate) tree: Expression,
     pub(crate) height: u32,
     ghost right: { height ≡ tree_height (tree_of tree) },
-    ghost low: { height ≤ MAX_HEIGHT + 1 },
+    ghost low: { height ≤ GREATEST_HEIGHT + 1 },
 }

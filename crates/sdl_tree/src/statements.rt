@@ -4,6 +4,7 @@ ghost use Rattle.std.specs.Prelude.{◌≡◌, ◌++◌, map, IfOk, [], ◌∷�
 ghost use Rattle.std.specs.Option.{option_map};
 ghost use Rattle.sdl_tree.specs.BodyViews.{branching_view, bodies_view, reached_view, move_view};
 ghost use Rattle.sdl_tree.specs.Machine.{low_trees, low_decision, raised_by};
+ghost use Rattle.sdl_tree.specs.Limits.{GREATEST_HEIGHT};
 ghost use Rattle.sdl_tree.specs.Mirrors.{Mirrors};
 ghost use Rattle.sdl_tree.specs.Plain.{all_answers};
 ghost use Rattle.sdl_tree.specs.Productions.{head_step, closing_step, answer_step, with_answer, body_step, behind_step, end_step, decision_step, action_step, step_at, text_at};
@@ -54,7 +55,7 @@ enum Move {
 /// A question with so many operators in front that it is too high.
 #[tactic(auto, unfolding(crate::specs::Machine::raised_by))]
 fn raised(alloc: Global, at: u32, question: Expression) -> Result<Expression, AllocError>
-    ensures { IfOk result (λ x. tree_of x ≡ raised_by MAX_HEIGHT at (tree_of question)) }
+    ensures { IfOk result (λ x. tree_of x ≡ raised_by GREATEST_HEIGHT at (tree_of question)) }
 {
     let mut raised = question;
     'levels: for _ in 0..MAX_HEIGHT {

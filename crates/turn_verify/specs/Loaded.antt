@@ -7,7 +7,7 @@ use Rattle.sdl_lex.specs.declared.lexemes.LexFault.{LexFault}
 use Rattle.sdl_tree.specs.Plain.{PlainBlock}
 use Rattle.sdl_tree.specs.Syntax.{Reads}
 use Rattle.sdl_tree.specs.Heights as heights
-use Rattle.sdl_tree.specs.declared.TheConstants.{MAX_HEIGHT}
+use Rattle.sdl_tree.specs.Limits.{GREATEST_HEIGHT}
 use Rattle.sdl_tree.specs.declared.fault.ParseFault.{ParseFault}
 use Rattle.sdl_tree.specs.declared.fault.ParseFault.TheVariants as parsing
 use Rattle.sdl_rules.specs.Refusals.{Sound, Refuses}
@@ -25,7 +25,7 @@ use Rattle.turn_verify.specs.declared.loading.LoadFault.TheVariants.{Lex, Parse,
 pub record IsRead (text : List ℕ) (tokens : List Token) (b : PlainBlock) : Type 0 where
   pub lexed : Answers text (Ok tokens)
   pub reads : Reads tokens b
-  pub low : heights.Height b ≤ MAX_HEIGHT
+  pub low : heights.Height b ≤ GREATEST_HEIGHT
 
 -- the text reads as the block, and none of the rules is broken
 pub record IsSoundText (text : List ℕ) (tokens : List Token) (b : PlainBlock) : Type 0 where

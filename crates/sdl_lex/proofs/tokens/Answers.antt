@@ -1,6 +1,6 @@
 -- A text's one answer.
 use Rattle.std.proofs.Common.{◌<◌, length}
-use Rattle.sdl_lex.specs.declared.TheConstants.{MAX_TEXT}
+use Rattle.sdl_lex.specs.Limits.{LONGEST_TEXT}
 use Rattle.sdl_lex.specs.Lexed.{over_long}
 use Rattle.sdl_lex.proofs.OneLemmas.{agreed, found_in_room, fault_in_room, one_answer_lem}
 use Rattle.sdl_lex.proofs.tokens.Goals as goal
@@ -10,7 +10,7 @@ returns-then-bytes-gt-MAX_TEXT-clause-fault c = rw (← c.as_bytes-bytes.ensures
 
 pub returns-then-bytes-gt-MAX_TEXT-clause-exact : goal.returns-then-bytes-gt-MAX_TEXT-clause-exact
 returns-then-bytes-gt-MAX_TEXT-clause-exact c = λ answer is.
-    let long : MAX_TEXT < length c.args.text.now = rw (← c.as_bytes-bytes.ensures.value) c.if-bytes-gt-MAX_TEXT.true in
+    let long : LONGEST_TEXT < length c.args.text.now = rw (← c.as_bytes-bytes.ensures.value) c.if-bytes-gt-MAX_TEXT.true in
     one_answer_lem c.args.text.now answer _ is (over_long long)
 
 pub returns-clause-lexed : goal.returns-clause-lexed
