@@ -1,4 +1,3 @@
-pub mod Limits
 pub mod Table
 pub mod TimerId
 pub mod Timers
