@@ -14,7 +14,7 @@ use Rattle.link_side.specs.declared.signals.EnvSignal.TheVariants as signal
 use Rattle.link_side.specs.declared.signals.LineKind.{LineKind}
 use Rattle.link_side.specs.declared.signals.LineKind.TheVariants as kind
 use Rattle.link_side.specs.declared.signals.LinkStatus.{LinkStatus}
-use Rattle.link_side.specs.declared.signals.TheConstants.{BUSY}
+use Rattle.link_side.specs.Limits.{BUSY_CODE}
 use Rattle.link_side.specs.Half.{Half}
 use Rattle.link_side.specs.Effects.{effect, renewed, directed, told, sends, kind_named, is_busy_named}
 use Rattle.link_side.specs.Judging.{judged, by_stores, through, left_aside, Stored, stored, refused, taken, acknowledged, is_abnormal}
@@ -114,7 +114,7 @@ gone_by-kept h (Some kind.Messages) = gives-kept h.sender
 pub gone-kept : (h : Half) → (gone h).half.sender.kept ≡ h.sender.kept
 unfolding gone
 gone-kept h = elim h.busy
-    as (λ b. (if b then status_gone (record h { busy = false }) BUSY else gone_by h h.line).half.sender.kept ≡ h.sender.kept)
+    as (λ b. (if b then status_gone (record h { busy = false }) BUSY_CODE else gone_by h h.line).half.sender.kept ≡ h.sender.kept)
     [ true ↦ refl | false ↦ gone_by-kept h h.line ]
 
 gone_by-messages : (h : Half) (line : Option LineKind) → (gone_by h line).half.messages ≡ h.messages
@@ -126,7 +126,7 @@ gone_by-messages h (Some kind.Messages) = refl
 pub gone-messages : (h : Half) → (gone h).half.messages ≡ h.messages
 unfolding gone
 gone-messages h = elim h.busy
-    as (λ b. (if b then status_gone (record h { busy = false }) BUSY else gone_by h h.line).half.messages ≡ h.messages)
+    as (λ b. (if b then status_gone (record h { busy = false }) BUSY_CODE else gone_by h h.line).half.messages ≡ h.messages)
     [ true ↦ refl | false ↦ gone_by-messages h h.line ]
 
 status_reported-sender : (h : Half) (o : Option LinkStatus) → (status_reported h o).half.sender ≡ h.sender

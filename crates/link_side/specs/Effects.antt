@@ -8,7 +8,7 @@ use Rattle.link_side.specs.declared.signals.LineKind.{LineKind}
 use Rattle.link_side.specs.declared.signals.LineKind.TheVariants as kind
 use Rattle.link_side.specs.declared.signals.LinkStatus.{LinkStatus}
 use Rattle.link_side.specs.declared.signals.LinkStatus.TheVariants as status
-use Rattle.link_side.specs.declared.signals.TheConstants.{STATUSES}
+use Rattle.link_side.specs.Limits.{KEPT_STATUSES}
 use Rattle.link_side.specs.Faults.{no_faults}
 use Rattle.link_side.specs.Half.{Half}
 
@@ -52,7 +52,7 @@ directed number h = if is_busy_named number then record h { busy = true } else s
 
 -- the latest so many; those before them give way
 unfoldable pub latest : List LinkStatus → List LinkStatus
-latest statuses = drop (length statuses - STATUSES) statuses
+latest statuses = drop (length statuses - KEPT_STATUSES) statuses
 
 -- one more is told
 unfoldable pub told : LinkStatus → Half → Half

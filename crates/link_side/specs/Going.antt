@@ -8,7 +8,7 @@ use Rattle.su_octets.specs.declared.units.Unit.TheVariants as unit
 use Rattle.link_side.specs.declared.offers.UnitOut.{UnitOut}
 use Rattle.link_side.specs.declared.signals.LineKind.{LineKind}
 use Rattle.link_side.specs.declared.signals.LineKind.TheVariants as kind
-use Rattle.link_side.specs.declared.signals.TheConstants.{BUSY}
+use Rattle.link_side.specs.Limits.{BUSY_CODE}
 use Rattle.link_side.specs.Half.{Half}
 use Rattle.link_side.specs.Offers.{message_sent}
 
@@ -65,4 +65,4 @@ gone_by h (Some kind.FillIn) = fill_in_gone h
 gone_by h (Some kind.Messages) = sender_gone h (gives h.sender)
 
 unfoldable pub gone : Half → Gone
-gone h = if h.busy then status_gone (record h { busy = false }) BUSY else gone_by h h.line
+gone h = if h.busy then status_gone (record h { busy = false }) BUSY_CODE else gone_by h h.line

@@ -4,13 +4,13 @@ ghost use Rattle.std.specs.Option.{option_to_list};
 ghost use Rattle.arrayvec.specs.ArrayVec.{array_vec_len};
 ghost use Rattle.resend_store.specs.Window.{count_by};
 ghost use Rattle.su_octets.specs.Whole.{IsWhole, IsWholeHead};
+ghost use Rattle.link_side.specs.Limits.{KEPT_MESSAGES};
 ghost use Rattle.link_side.specs.Judging.{acknowledged, hears, is_abnormal, fault_in, received, stored, through, by_stores, judged, acknowledgement_offers, fault_offers, of_kind};
 ghost use Rattle.link_side.specs.Offers.{to_monitors, unit_seen};
 
 use crate::faults::Fault;
 use crate::offers::{Notice, Offer, Party, to_monitors};
 use crate::side::Side;
-use crate::signals::MESSAGES;
 use arrayvec::ArrayVec;
 use resend_store::{AckError, Msu, Receiver, Sender, UnitError, Verdict};
 use su_octets::{Head, Unit};
@@ -31,7 +31,7 @@ impl Side {
     #[tactic(auto, unfolding(crate::specs::Judging::judged))]
     pub fn on_unit(&mut self, unit: Unit) -> Offers
         requires whole { IsWhole unit }
-        requires room { length self.old.messages < MESSAGES }
+        requires room { length self.old.messages < KEPT_MESSAGES }
         ensures half { self.new ≡ (judged self.old unit).half }
         ensures offers { result.items ≡ (judged self.old unit).offers }
     {
@@ -46,7 +46,7 @@ impl Side {
     #[tactic(auto, unfolding(crate::specs::Judging::by_stores))]
     fn pass(&mut self, head: &Head, msu: Option<Msu>) -> Offers
         requires whole { IsWholeHead head.now }
-        requires room { length self.old.messages < MESSAGES }
+        requires room { length self.old.messages < KEPT_MESSAGES }
         ensures half { self.new ≡ (by_stores self.old head.now msu).half }
         ensures offers { result.items ≡ (of_kind 8 (by_stores self.old head.now msu)).offers }
     {
@@ -60,7 +60,7 @@ impl Side {
     /// Such a unit while units are taken.
     fn go_through(&mut self, head: &Head, msu: Option<Msu>) -> Offers
         requires whole { IsWholeHead head.now }
-        requires room { length self.old.messages < MESSAGES }
+        requires room { length self.old.messages < KEPT_MESSAGES }
         ensures half { self.new ≡ (through (stored self.old head.now msu)).half }
         ensures offers { result.items ≡ (of_kind 8 (through (stored self.old head.now msu))).offers }
     {
@@ -72,7 +72,7 @@ impl Side {
     #[tactic(auto, unfolding(crate::specs::Judging::stored))]
     fn store(&mut self, head: &Head, msu: Option<Msu>) -> usize
         requires whole { IsWholeHead head.now }
-        requires room { length self.old.messages < MESSAGES }
+        requires room { length self.old.messages < KEPT_MESSAGES }
         ensures half { self.new ≡ (stored self.old head.now msu).half }
         ensures count { result ≡ (stored self.old head.now msu).count }
     {
@@ -118,7 +118,7 @@ impl Side {
 
     /// The receiver's part of it.
     fn receive(&mut self, head: &Head, msu: Option<Msu>)
-        requires room { length self.old.messages < MESSAGES }
+        requires room { length self.old.messages < KEPT_MESSAGES }
         ensures { self.new ≡ received (hears self.old.receiver head.now.fsn head.now.fib (is_some msu)) msu self.old }
     {
         let heard = hear(&mut self.receiver, head, msu.is_some());

@@ -1,16 +1,18 @@
 //! The side as its user sees it.
 ghost use Rattle.std.specs.Prelude.{◌≡◌, ◌<◌, ◌≤◌, ◌↔◌, ◌∷◌, ◌++◌, [], IsTrue, false, length, All, IfOk, OnOk, OnErr, IfSome, slice_get};
 ghost use Rattle.std.specs.Option.{option_copied};
+ghost use Rattle.resend_store.specs.Limits.{MOST_WAITING, MOST_KEPT};
 ghost use Rattle.resend_store.specs.Messages.{IsMessage};
 ghost use Rattle.resend_store.specs.Window.{waiting, with_put, retrieved, emptied, count_known};
 ghost use Rattle.link_side.specs.Effects.{effect, renewed, directed, kind_named, kind_by, is_busy_named, withheld_by, told, latest};
 ghost use Rattle.link_side.specs.Half.{first_half};
+ghost use Rattle.link_side.specs.Limits.{KEPT_MESSAGES};
 ghost use Rattle.link_side.specs.Reporting.{reported};
 
 use crate::faults::LastThree;
 use crate::signals::{EnvSignal, LineKind, LinkStatus, MESSAGES, Report, STATUSES};
 use kept_queue::KeptQueue;
-use resend_store::{MAX_KEPT, MAX_WAITING, Mode, Msu, PutError, Receiver, RetrieveError, Sender};
+use resend_store::{Mode, Msu, PutError, Receiver, RetrieveError, Sender};
 use std::alloc::{AllocError, Global};
 use std::collections::VecDeque;
 use std::marker::Model;
@@ -101,7 +103,7 @@ impl Side {
     /// `Full` where `resend_store::MAX_WAITING` or more wait. Nothing changes then, and the message is dropped.
     pub fn put(&mut self, msu: Msu) -> Result<(), PutError>
         requires { 2 ≤ length msu.sif.items }
-        ensures full { (result ≡ Err PutError.Full) ↔ (MAX_WAITING ≤ length (waiting self.old.sender)) }
+        ensures full { (result ≡ Err PutError.Full) ↔ (MOST_WAITING ≤ length (waiting self.old.sender)) }
         ensures ok { OnOk result (self.new ≡ record self.old { sender = with_put self.old.sender msu }) }
         ensures err { OnErr result (self.new ≡ self.old) }
     {
@@ -113,7 +115,7 @@ impl Side {
     /// `Full` where `resend_store::MAX_KEPT` are unacknowledged or wait. Nothing changes then.
     pub fn put_diverted(&mut self, msu: Msu) -> Result<(), PutError>
         requires { 2 ≤ length msu.sif.items }
-        ensures full { (result ≡ Err PutError.Full) ↔ (MAX_KEPT ≤ length self.old.sender.kept) }
+        ensures full { (result ≡ Err PutError.Full) ↔ (MOST_KEPT ≤ length self.old.sender.kept) }
         ensures ok { OnOk result (self.new ≡ record self.old { sender = with_put self.old.sender msu }) }
         ensures err { OnErr result (self.new ≡ self.old) }
     {
@@ -166,7 +168,7 @@ impl Side {
 
     /// Whether a further message that is accepted can be kept.
     pub fn has_room(&self) -> bool
-        ensures { IsTrue result ↔ (length self.now.messages < MESSAGES) }
+        ensures { IsTrue result ↔ (length self.now.messages < KEPT_MESSAGES) }
     {
         self.messages.len() < MESSAGES
     }

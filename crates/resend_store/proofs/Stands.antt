@@ -7,7 +7,7 @@ use Rattle.resend_store.specs.declared.messages.Mode.{Mode}
 use Rattle.resend_store.specs.declared.messages.Mode.TheVariants.{Basic, Cyclic}
 use Rattle.resend_store.specs.declared.messages.Msu.{Msu}
 use Rattle.resend_store.specs.declared.messages.Outgoing.{Outgoing}
-use Rattle.resend_store.specs.declared.messages.TheConstants.{MAX_UNACKNOWLEDGED, MAX_WAITING, MAX_KEPT}
+use Rattle.resend_store.specs.Limits.{MOST_UNACKNOWLEDGED, MOST_WAITING, MOST_KEPT}
 use Rattle.resend_store.specs.Numbers.{plus, minus}
 use Rattle.resend_store.specs.Messages.{reaches_limit}
 use Rattle.resend_store.specs.Window.{Window, Sending, waiting, number_at, start, with_put, may_send, at_limit, unit_at, fill_in, repeats, round, after_new, sends_new, cycles, next_basic, next_ordinary, next_forced, next_by, next, count_by, without, asked, retrieved, count_known, emptied, refreshed}
@@ -181,9 +181,9 @@ may_alike : (h : Whole) (w : Window) → StandsFor h w → may_send w ≡ is_ope
 may_alike h w st =
     let sent = st.sent in let size = kept_length h w st in let inside = st.inside in
     let width : w.sent ≡ h.sent - h.acknowledged = omega arith in
-    both_same (nat_lt w.sent (length w.kept)) (nat_lt h.sent (length h.messages)) (nat_lt w.sent MAX_UNACKNOWLEDGED) (nat_lt (h.sent - h.acknowledged) MAX_UNACKNOWLEDGED)
+    both_same (nat_lt w.sent (length w.kept)) (nat_lt h.sent (length h.messages)) (nat_lt w.sent MOST_UNACKNOWLEDGED) (nat_lt (h.sent - h.acknowledged) MOST_UNACKNOWLEDGED)
     (same_lt w.sent (length w.kept) h.sent (length h.messages) (λ lt. omega arith) (λ lt. omega arith))
-    (ap (λ (n : ℕ). nat_lt n MAX_UNACKNOWLEDGED) width)
+    (ap (λ (n : ℕ). nat_lt n MOST_UNACKNOWLEDGED) width)
 
 may_waits : (w : Window) → may_send w ≡ true → w.sent < length w.kept
 may_waits w h = grind (arith, nat_tests)
@@ -363,8 +363,8 @@ accepts_alike : (h : Whole) (w : Window) (call : Call) → StandsFor h w → is_
 accepts_alike h w (put m) st =
     let sent = st.sent in let size = kept_length h w st in let waits = length-drop w.sent w.kept in
     let e : length (waiting w) ≡ length h.messages - h.sent = omega arith in
-    ap (λ (n : ℕ). nat_lt n MAX_WAITING) e
-accepts_alike h w (put_diverted m) st = ap (λ (n : ℕ). nat_lt n MAX_KEPT) (kept_length h w st)
+    ap (λ (n : ℕ). nat_lt n MOST_WAITING) e
+accepts_alike h w (put_diverted m) st = ap (λ (n : ℕ). nat_lt n MOST_KEPT) (kept_length h w st)
 accepts_alike h w next_unit st = refl
 accepts_alike h w (on_back bsn bib) st =
     ap (λ (n : ℕ). nat_le n w.sent) (count_alike h w bsn st) ∙ ap (λ (n : ℕ). nat_le (whole_count h bsn) n) (width_alike h w st)

@@ -1,7 +1,7 @@
 -- Messages as signal units carry them.
 use Rattle.std.specs.Prelude.{ℕ, ◌+◌, ◌≤◌, ◌||◌, nat_le, Bool, List, length, sum_by}
 use Rattle.resend_store.specs.declared.messages.Msu.{Msu}
-use Rattle.resend_store.specs.declared.messages.TheConstants.{FORCED_MESSAGES, FORCED_OCTETS}
+use Rattle.resend_store.specs.Limits.{N1, N2}
 
 -- a signalling information field has 2 to 272 octets
 pub record IsMessage (m : Msu) : Type 0 where
@@ -17,4 +17,4 @@ octets ms = sum_by octets_of ms
 
 -- whether so many messages, or so many octets of them, are unacknowledged that they have to go again
 abbrev pub reaches_limit : List Msu → Bool
-reaches_limit ms = nat_le FORCED_MESSAGES (length ms) || nat_le FORCED_OCTETS (octets ms)
+reaches_limit ms = nat_le N1 (length ms) || nat_le N2 (octets ms)

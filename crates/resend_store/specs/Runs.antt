@@ -3,7 +3,7 @@ use Rattle.std.specs.Prelude.{◌≡◌, ℕ, ◌≤◌, zero, suc, nat_lt, nat_
 use Rattle.resend_store.specs.declared.messages.Msu.{Msu}
 use Rattle.resend_store.specs.declared.messages.Mode.{Mode}
 use Rattle.resend_store.specs.declared.messages.Outgoing.{Outgoing}
-use Rattle.resend_store.specs.declared.messages.TheConstants.{MAX_WAITING, MAX_KEPT}
+use Rattle.resend_store.specs.Limits.{MOST_WAITING, MOST_KEPT}
 use Rattle.resend_store.specs.Numbers.{plus}
 use Rattle.resend_store.specs.Window.{Window, unacknowledged, waiting, last_acknowledged, start, with_put, next, count_by, after_back, count_known, emptied, refreshed}
 
@@ -18,8 +18,8 @@ pub data Call : Type 0 where
 
 -- whether the call isn't refused
 abbrev pub is_accepted : Window → Call → Bool
-is_accepted w (put m) = nat_lt (length (waiting w)) MAX_WAITING
-is_accepted w (put_diverted m) = nat_lt (length w.kept) MAX_KEPT
+is_accepted w (put m) = nat_lt (length (waiting w)) MOST_WAITING
+is_accepted w (put_diverted m) = nat_lt (length w.kept) MOST_KEPT
 is_accepted w next_unit = true
 is_accepted w (on_back bsn bib) = nat_le (count_by w bsn) w.sent
 is_accepted w (retrieve fsn) = nat_le (count_known w fsn) w.sent

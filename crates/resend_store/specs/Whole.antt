@@ -5,7 +5,7 @@ use Rattle.resend_store.specs.declared.messages.Msu.{Msu}
 use Rattle.resend_store.specs.declared.messages.Mode.{Mode}
 use Rattle.resend_store.specs.declared.messages.Mode.TheVariants.{Basic, Cyclic}
 use Rattle.resend_store.specs.declared.messages.Outgoing.{Outgoing}
-use Rattle.resend_store.specs.declared.messages.TheConstants.{MAX_UNACKNOWLEDGED, MAX_WAITING, MAX_KEPT}
+use Rattle.resend_store.specs.Limits.{MOST_UNACKNOWLEDGED, MOST_WAITING, MOST_KEPT}
 use Rattle.resend_store.specs.Numbers.{minus}
 use Rattle.resend_store.specs.Messages.{reaches_limit}
 use Rattle.resend_store.specs.Window.{Window, start, next, count_by, retrieved}
@@ -84,7 +84,7 @@ goes_in_turn h = record {
 
 -- whether a message waits, and fewer than 127 are unacknowledged
 abbrev pub is_open : Whole → Bool
-is_open h = nat_lt h.sent (length h.messages) && nat_lt (h.sent - h.acknowledged) MAX_UNACKNOWLEDGED
+is_open h = nat_lt h.sent (length h.messages) && nat_lt (h.sent - h.acknowledged) MOST_UNACKNOWLEDGED
 
 abbrev pub whole_next_basic : Whole → WholeSending
 whole_next_basic h = if nat_lt h.repeat_from h.sent then goes_again h else (if is_open h then goes_out h else fills_in h)
@@ -151,8 +151,8 @@ whole_refreshed h = record h {
 
 -- whether a call isn't refused
 abbrev pub whole_accepts : Whole → Call → Bool
-whole_accepts h (put m) = nat_lt (length h.messages - h.sent) MAX_WAITING
-whole_accepts h (put_diverted m) = nat_lt (length h.messages - h.acknowledged) MAX_KEPT
+whole_accepts h (put m) = nat_lt (length h.messages - h.sent) MOST_WAITING
+whole_accepts h (put_diverted m) = nat_lt (length h.messages - h.acknowledged) MOST_KEPT
 whole_accepts h next_unit = true
 whole_accepts h (on_back bsn bib) = nat_le (whole_count h bsn) (h.sent - h.acknowledged)
 whole_accepts h (retrieve fsn) = nat_le (whole_known h fsn) (h.sent - h.acknowledged)

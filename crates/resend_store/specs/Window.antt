@@ -5,7 +5,7 @@ use Rattle.resend_store.specs.declared.messages.Msu.{Msu}
 use Rattle.resend_store.specs.declared.messages.Mode.{Mode}
 use Rattle.resend_store.specs.declared.messages.Mode.TheVariants.{Basic, Cyclic}
 use Rattle.resend_store.specs.declared.messages.Outgoing.{Outgoing}
-use Rattle.resend_store.specs.declared.messages.TheConstants.{MAX_UNACKNOWLEDGED, MAX_KEPT}
+use Rattle.resend_store.specs.Limits.{MOST_UNACKNOWLEDGED, MOST_KEPT}
 use Rattle.resend_store.specs.Numbers.{plus, minus}
 use Rattle.resend_store.specs.Messages.{IsMessage, reaches_limit}
 
@@ -53,8 +53,8 @@ UsesOnly Cyclic w = (w.fib ≡ 1) × (w.forced ≡ false → w.again ≡ 0)
 pub record IsWindow (w : Window) : Type 0 where
   pub messages : All IsMessage w.kept
   pub within_kept : w.sent ≤ length w.kept
-  pub within_window : w.sent ≤ MAX_UNACKNOWLEDGED
-  pub within_store : length w.kept ≤ MAX_KEPT
+  pub within_window : w.sent ≤ MOST_UNACKNOWLEDGED
+  pub within_store : length w.kept ≤ MOST_KEPT
   pub number : w.first < 128
   pub indicator : w.fib < 2
   pub again_sent : w.again ≤ w.sent
@@ -71,7 +71,7 @@ with_put w m = record w { kept = w.kept ++ m ∷ [] }
 
 -- Whether a further message may go out for the first time: one waits, and the window is open.
 abbrev pub may_send : Window → Bool
-may_send w = nat_lt w.sent (length w.kept) && nat_lt w.sent MAX_UNACKNOWLEDGED
+may_send w = nat_lt w.sent (length w.kept) && nat_lt w.sent MOST_UNACKNOWLEDGED
 
 -- Whether the unacknowledged messages have to go again without being asked for.
 abbrev pub at_limit : Window → Bool

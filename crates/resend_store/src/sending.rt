@@ -1,6 +1,7 @@
 //! The sending side.
 ghost use Rattle.std.specs.Prelude.{◌≡◌, ◌+◌, ◌-◌, ◌<◌, ◌≤◌, ◌↔◌, length, All, IfOk, OnOk, OnErr, IfSome, slice_get};
 ghost use Rattle.std.specs.Option.{option_copied};
+ghost use Rattle.resend_store.specs.Limits.{MOST_KEPT, MOST_UNACKNOWLEDGED, MOST_WAITING};
 ghost use Rattle.resend_store.specs.Messages.{IsMessage};
 ghost use Rattle.resend_store.specs.Steps.{settled, gives};
 ghost use Rattle.resend_store.specs.Window.{IsWindow, waiting, start, with_put, may_send, unit_at, fill_in, repeats, sends_new, cycles, next, count_by, without, after_back, retrieved, count_known, emptied, refreshed};
@@ -102,7 +103,7 @@ impl Sender {
     /// `held` and `sent` first.
     pub fn put(&mut self, msu: Msu) -> Result<(), PutError>
         requires { 2 ≤ length msu.sif.items }
-        ensures full { (result ≡ Err PutError.Full) ↔ (MAX_WAITING ≤ length (waiting self.old)) }
+        ensures full { (result ≡ Err PutError.Full) ↔ (MOST_WAITING ≤ length (waiting self.old)) }
         ensures ok { OnOk result (self.new ≡ with_put self.old msu) }
         ensures err { OnErr result (self.new ≡ self.old) }
     {
@@ -118,7 +119,7 @@ impl Sender {
     /// `Full` where `MAX_KEPT` are unacknowledged or wait. Nothing changes then.
     pub fn put_diverted(&mut self, msu: Msu) -> Result<(), PutError>
         requires { 2 ≤ length msu.sif.items }
-        ensures full { (result ≡ Err PutError.Full) ↔ (MAX_KEPT ≤ length self.old.kept) }
+        ensures full { (result ≡ Err PutError.Full) ↔ (MOST_KEPT ≤ length self.old.kept) }
         ensures ok { OnOk result (self.new ≡ with_put self.old msu) }
         ensures err { OnErr result (self.new ≡ self.old) }
     {
@@ -286,7 +287,7 @@ impl Sender {
     /// The first waiting one.
     fn send(&mut self) -> Outgoing
         requires waiting { self.old.sent < length self.old.kept }
-        requires window { self.old.sent < MAX_UNACKNOWLEDGED }
+        requires window { self.old.sent < MOST_UNACKNOWLEDGED }
         requires settled { self.old.again ≡ 0 }
         ensures unit { result ≡ (sends_new self.old).unit }
         ensures left { self.new ≡ (sends_new self.old).left }

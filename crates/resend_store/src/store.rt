@@ -2,6 +2,7 @@
 ghost use Rattle.std.specs.Prelude.{◌≡◌, ◌+◌, ◌-◌, ◌<◌, ◌≤◌, [], ◌∷◌, ◌++◌, All, IfOk, IfSome, OnErr, length, drop, take, slice_get};
 ghost use Rattle.std.specs.Option.{option_copied};
 ghost use Rattle.std.specs.VecDeque.{deque_capacity};
+ghost use Rattle.resend_store.specs.Limits.{MOST_KEPT, MOST_UNACKNOWLEDGED};
 ghost use Rattle.resend_store.specs.Messages.{IsMessage, octets, reaches_limit};
 
 use crate::messages::{FORCED_MESSAGES, FORCED_OCTETS, MAX_KEPT, MAX_UNACKNOWLEDGED, Msu};
@@ -46,14 +47,14 @@ impl Store {
 
     pub(crate) fn len(&self) -> usize
         ensures value { result ≡ length self.now.kept }
-        ensures within { result ≤ MAX_KEPT }
+        ensures within { result ≤ MOST_KEPT }
     {
         self.kept.len()
     }
 
     pub(crate) fn sent(&self) -> u8
         ensures value { result ≡ self.now.sent }
-        ensures within { result ≤ MAX_UNACKNOWLEDGED }
+        ensures within { result ≤ MOST_UNACKNOWLEDGED }
         ensures within_kept { result ≤ length self.now.kept }
     {
         self.sent
@@ -76,7 +77,7 @@ impl Store {
     /// One more waits.
     pub(crate) fn push(&mut self, msu: Msu)
         requires message { 2 ≤ length msu.sif.items }
-        requires room { length self.old.kept < MAX_KEPT }
+        requires room { length self.old.kept < MOST_KEPT }
         ensures { self.new ≡ record self.old { kept = self.old.kept ++ msu ∷ [] } }
     {
         let _fits = msu.sif.len();
@@ -86,7 +87,7 @@ impl Store {
     /// The first that waits is sent.
     pub(crate) fn send_one(&mut self)
         requires waiting { self.old.sent < length self.old.kept }
-        requires window { self.old.sent < MAX_UNACKNOWLEDGED }
+        requires window { self.old.sent < MOST_UNACKNOWLEDGED }
         ensures { self.new ≡ record self.old { sent = self.old.sent + 1 } }
     {
         self.octets += self.kept[self.sent as usize].octets();
