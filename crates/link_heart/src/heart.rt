@@ -5,6 +5,7 @@ ghost use Rattle.link_machine.specs.Ledger.{ask};
 ghost use Rattle.link_machine.specs.declared.event.Event.TheVariants.{Advance};
 ghost use Rattle.link_machine.specs.declared.reply.Reply.TheVariants as reply;
 ghost use Rattle.actor_book.specs.Answered.{answer_by};
+ghost use Rattle.link_side.specs.Limits.{KEPT_MESSAGES};
 ghost use Rattle.link_heart.specs.Offering.{command_event, offer_event};
 ghost use Rattle.link_heart.specs.Machine.{with_book, with_side, heard, rested, offered, all_offered, noted_by, unit_taken, error_taken, told_of, sent, places, tidied};
 
@@ -13,7 +14,7 @@ use crate::laws::accepted_messages_wait_in_order;
 use crate::names::{Names, actor_of, notice_signal, notice_values};
 use actor_book::Book;
 use link_machine::Refusal;
-use link_side::{MESSAGES, Offer, Side, UnitOut, error_offers};
+use link_side::{Offer, Side, UnitOut, error_offers};
 use std::alloc::AllocError;
 use su_octets::Unit;
 
@@ -99,7 +100,7 @@ impl Heart {
     #[tactic(auto, unfolding(crate::specs::Machine::unit_taken))]
     pub fn take_unit(&mut self, unit: Unit)
         requires whole { IsWhole unit }
-        requires room { length self.old.side.messages < MESSAGES }
+        requires room { length self.old.side.messages < KEPT_MESSAGES }
         ensures heart { self.new ≡ unit_taken unit self.old }
         ensures few { length self.new.side.messages ≤ length self.old.side.messages + 1 }
     {

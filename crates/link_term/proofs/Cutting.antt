@@ -7,7 +7,8 @@ use Rattle.bit_line.specs.Events.{AreEvents}
 use Rattle.bit_line.specs.declared.events.LineEvent.{LineEvent}
 use Rattle.link_heart.specs.declared.heart.Heart.{Heart}
 use Rattle.link_heart.specs.Machine.{tidied}
-use Rattle.link_term.specs.Term.{KEPT_MESSAGES, Term}
+use Rattle.link_side.specs.Limits.{KEPT_MESSAGES}
+use Rattle.link_term.specs.Term.{Term}
 use Rattle.link_term.specs.Hearing.{AreTaken, Hears, silent, octet, Heard}
 use Rattle.link_term.specs.Laws.{CuttingsAgree}
 

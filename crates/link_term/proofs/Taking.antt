@@ -8,7 +8,7 @@ use Rattle.bit_line.specs.declared.events.LineEvent.TheVariants as event
 use Rattle.link_side.specs.Half.{Half}
 use Rattle.link_heart.specs.declared.heart.Heart.{Heart}
 use Rattle.link_heart.specs.Machine.{unit_taken, error_taken, tidied}
-use Rattle.link_term.specs.Term.{KEPT_MESSAGES}
+use Rattle.link_side.specs.Limits.{KEPT_MESSAGES}
 use Rattle.link_term.specs.Hearing.{Reads, as_unit, as_error, AreTaken, nothing, unit, errored, sixteen}
 use Rattle.link_term.proofs.Delivering.{tidied_side}
 

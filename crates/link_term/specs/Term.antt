@@ -11,10 +11,6 @@ use Rattle.link_heart.specs.Machine.{with_side, tidied, places, LOW}
 use Rattle.link_term.specs.declared.answers.CallError.{CallError}
 use Rattle.link_term.specs.declared.answers.CallError.TheVariants.{Refused, NoMemory}
 
--- how many messages are kept until they are handed out
-abbrev pub KEPT_MESSAGES : ℕ
-KEPT_MESSAGES = 256
-
 pub record Term : Type 0 where
   pub heart : Heart
   pub line : Deframer

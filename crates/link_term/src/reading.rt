@@ -3,7 +3,7 @@ ghost use Rattle.std.specs.Prelude.{◌≡◌, ◌⊎◌, ◌+◌, ◌<◌, ◌�
 ghost use Rattle.bit_line.specs.Events.{closings};
 ghost use Rattle.link_heart.specs.Machine.{places, tidied, LOW};
 ghost use Rattle.link_heart.specs.declared.heart.Heart.{Heart as PlainHeart};
-ghost use Rattle.link_term.specs.Term.{KEPT_MESSAGES};
+ghost use Rattle.link_side.specs.Limits.{KEPT_MESSAGES};
 ghost use Rattle.link_term.specs.Hearing.{Reads, AreTaken, Heard};
 
 use crate::terminal::Terminal;

@@ -7,13 +7,15 @@ ghost use Rattle.bit_line.specs.Deframing.{Stands};
 ghost use Rattle.bit_line.specs.Stuffers.{Gave};
 ghost use Rattle.link_side.specs.Half.{first_half};
 ghost use Rattle.link_side.specs.Reporting.{reported};
-ghost use Rattle.link_term.specs.Term.{KEPT_MESSAGES, with_half};
+ghost use Rattle.resend_store.specs.Limits.{MOST_WAITING, MOST_KEPT};
+ghost use Rattle.link_side.specs.Limits.{KEPT_MESSAGES};
+ghost use Rattle.link_term.specs.Term.{with_half};
 
 use actor_book::Book;
 use bit_line::{Deframer, Stuffer};
 use link_heart::{Heart, Names};
 use link_side::{Report, Side};
-use resend_store::{MAX_KEPT, MAX_WAITING, Mode, Msu, PutError, RetrieveError};
+use resend_store::{Mode, Msu, PutError, RetrieveError};
 use std::alloc::{AllocError, Global};
 use std::collections::VecDeque;
 use std::marker::Model;
@@ -73,7 +75,7 @@ impl Terminal {
     /// `E1 Full` where `resend_store::MAX_WAITING` or more wait. Nothing changes then, and the message is dropped.
     pub fn put(&mut self, msu: Msu) -> Result<(), PutError>
         requires { 2 ≤ length msu.sif.items }
-        ensures full { (result ≡ Err PutError.Full) ↔ (MAX_WAITING ≤ length (waiting self.old.heart.side.sender)) }
+        ensures full { (result ≡ Err PutError.Full) ↔ (MOST_WAITING ≤ length (waiting self.old.heart.side.sender)) }
         ensures ok { OnOk result (self.new ≡ with_half self.old (record self.old.heart.side { sender = with_put self.old.heart.side.sender msu })) }
         ensures err { OnErr result (self.new ≡ self.old) }
     {
@@ -87,7 +89,7 @@ impl Terminal {
     /// `E1 Full` where `resend_store::MAX_KEPT` are unacknowledged or wait. Nothing changes then.
     pub fn put_diverted(&mut self, msu: Msu) -> Result<(), PutError>
         requires { 2 ≤ length msu.sif.items }
-        ensures full { (result ≡ Err PutError.Full) ↔ (MAX_KEPT ≤ length self.old.heart.side.sender.kept) }
+        ensures full { (result ≡ Err PutError.Full) ↔ (MOST_KEPT ≤ length self.old.heart.side.sender.kept) }
         ensures ok { OnOk result (self.new ≡ with_half self.old (record self.old.heart.side { sender = with_put self.old.heart.side.sender msu })) }
         ensures err { OnErr result (self.new ≡ self.old) }
     {
