@@ -9,7 +9,7 @@ use Rattle.script_lines.specs.declared.settings.Setting.{Setting}
 use Rattle.script_lines.specs.declared.settings.Settings.{Settings}
 use Rattle.script_lines.specs.declared.script.ScriptFault.{ScriptFault}
 use Rattle.script_lines.specs.declared.script.ScriptFault.TheVariants.{BadLine, NoMemory}
-use Rattle.text_reader.specs.declared.reading.TheConstants.{MOST_BYTES}
+use Rattle.text_reader.specs.Reading.{LONGEST}
 use Rattle.script_lines.specs.Lines.{PlainLine, texts, plain_line, lines_of, line_at}
 use Rattle.script_lines.specs.Scripts.{is_bad, said_of, setting_of, set, defaults, after_head, commands_by, script_of, IsBadLine, IsFaultOf}
 
@@ -34,26 +34,26 @@ head-stops s lines i line within is none =
 
 -- ---- scripts
 
-pub long : (text : List ℕ) → MOST_BYTES < length text → script_of text ≡ Err (line_at text MOST_BYTES)
+pub long : (text : List ℕ) → LONGEST < length text → script_of text ≡ Err (line_at text LONGEST)
 unfolding script_of
-long text more = rw (lt-ltb MOST_BYTES (length text) more) refl
+long text more = rw (lt-ltb LONGEST (length text) more) refl
 
-pub good : (text : List ℕ) (lines rest : List PlainLine) (s : Settings) → length text ≤ MOST_BYTES → lines ≡ lines_of text → after_head defaults lines ≡ (s, rest)
+pub good : (text : List ℕ) (lines rest : List PlainLine) (s : Settings) → length text ≤ LONGEST → lines ≡ lines_of text → after_head defaults lines ≡ (s, rest)
     → find is_bad rest ≡ None → script_of text ≡ Ok (record { settings = s; commands = filter_map said_of rest })
 unfolding script_of
-good text lines rest s short are head none = rw (le-ltb MOST_BYTES (length text) short, ← are, head, none) refl
+good text lines rest s short are head none = rw (le-ltb LONGEST (length text) short, ← are, head, none) refl
 
 by_first : (s : Settings) (rest : List PlainLine) (first : Option PlainLine) (line : ℕ) → option_map (λ (l : PlainLine). l.number) first ≡ Some line
     → commands_by s rest first ≡ Err line
 by_first s rest None line there = absurd (cc)
 by_first s rest (Some l) line there = ap Err (let e : l.number ≡ line = cc in e)
 
-pub bad : (text : List ℕ) (lines rest : List PlainLine) (s : Settings) (line : ℕ) → length text ≤ MOST_BYTES → lines ≡ lines_of text → after_head defaults lines ≡ (s, rest)
+pub bad : (text : List ℕ) (lines rest : List PlainLine) (s : Settings) (line : ℕ) → length text ≤ LONGEST → lines ≡ lines_of text → after_head defaults lines ≡ (s, rest)
     → option_map (λ (l : PlainLine). l.number) (find is_bad rest) ≡ Some line → script_of text ≡ Err line
 unfolding script_of
-bad text lines rest s line short are head there = rw (le-ltb MOST_BYTES (length text) short, ← are, head) (by_first s rest (find is_bad rest) line there)
+bad text lines rest s line short are head there = rw (le-ltb LONGEST (length text) short, ← are, head) (by_first s rest (find is_bad rest) line there)
 
-pub fault : (text : List ℕ) (lines rest : List PlainLine) (s : Settings) (f : ScriptFault) → length text ≤ MOST_BYTES → lines ≡ lines_of text → after_head defaults lines ≡ (s, rest)
+pub fault : (text : List ℕ) (lines rest : List PlainLine) (s : Settings) (f : ScriptFault) → length text ≤ LONGEST → lines ≡ lines_of text → after_head defaults lines ≡ (s, rest)
     → IsBadLine rest f → IsFaultOf text f
 fault text lines rest s (BadLine line) short are head there = bad text lines rest s line short are head there
 fault text lines rest s NoMemory short are head there = tt

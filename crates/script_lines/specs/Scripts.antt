@@ -1,9 +1,9 @@
 -- What a book script reads as: its first lines set numbers, the others are commands.
-use Rattle.std.specs.Prelude.{ℕ, ◌≡◌, Bool, nat_lt, ◌&&◌, if◌then◌else◌, List, [], ◌∷◌, length, map, Option, None, Some, option_map, option_and_then, is_none, find, Result, Ok, Err, codes}
+use Rattle.std.specs.Prelude.{ℕ, ◌≡◌, ◌≤◌, Bool, nat_lt, ◌&&◌, if◌then◌else◌, List, [], ◌∷◌, length, map, Option, None, Some, option_map, option_and_then, is_none, find, Result, Ok, Err, codes}
 use Rattle.std.specs.Int.{is_in_range}
 use Rattle.std.specs.List.{filter_map}
 use Rattle.std.specs.Str.{bytes_eq}
-use Rattle.text_reader.specs.declared.reading.TheConstants.{MOST_BYTES}
+use Rattle.text_reader.specs.Reading.{LONGEST}
 use Rattle.script_lines.specs.Numbers.{count_of}
 use Rattle.script_lines.specs.Lines.{PlainLine, lines_of, line_at}
 use Rattle.script_lines.specs.Commands.{PlainCommand, plain_command, command_of}
@@ -35,6 +35,15 @@ set (Journal n) s = record s { journal = n }
 -- where no line sets them
 abbrev pub defaults : Settings
 defaults = record { ports = 16; env = 64; journal = 4096 }
+
+-- each number is in its range
+pub record AreInRange (s : Settings) : Type 0 where
+  pub least_ports : 1 ≤ s.ports
+  pub most_ports : s.ports ≤ 64
+  pub least_env : 1 ≤ s.env
+  pub most_env : s.env ≤ 1024
+  pub least_journal : 16 ≤ s.journal
+  pub most_journal : s.journal ≤ 65536
 
 -- what the first lines set, the last one of a kind for good, and the lines behind them
 abbrev pub head_by : Settings → List PlainLine → (Settings → Settings × List PlainLine) → Option Setting → Settings × List PlainLine
@@ -80,7 +89,7 @@ script_by head = commands_by head.0 head.1 (find is_bad head.1)
 
 -- what a text reads as, or the number of its first bad line; of a text that is too long that of the first byte too many
 unfoldable pub script_of : List ℕ → Result PlainScript ℕ
-script_of text = if nat_lt MOST_BYTES (length text) then Err (line_at text MOST_BYTES) else script_by (after_head defaults (lines_of text))
+script_of text = if nat_lt LONGEST (length text) then Err (line_at text LONGEST) else script_by (after_head defaults (lines_of text))
 
 -- what a refusal says of a text; want of memory says nothing
 abbrev pub IsFaultOf : List ℕ → ScriptFault → Type 0

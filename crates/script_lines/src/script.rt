@@ -1,8 +1,9 @@
 //! Book scripts.
 ghost use Rattle.std.specs.Prelude.{◌≡◌, ◌≤◌, ◌+◌, IfOk, IfErr, Ok, Err, map, is_none, find, take, count_by, ◌==◌, length};
 ghost use Rattle.std.specs.List.{filter_map};
+ghost use Rattle.text_reader.specs.Reading.{LONGEST};
 ghost use Rattle.script_lines.specs.Lines.{plain_line, line_at};
-ghost use Rattle.script_lines.specs.Scripts.{plain_said, plain_script, is_bad, said_of, script_of, IsFaultOf, IsBadLine};
+ghost use Rattle.script_lines.specs.Scripts.{plain_said, plain_script, is_bad, said_of, script_of, AreInRange, IsFaultOf, IsBadLine};
 
 use crate::commands::{Command, command_in};
 use crate::lines::{Line, lines_in};
@@ -87,7 +88,7 @@ fn commands_in<'a>(alloc: Global, lines: &[Line<'a>]) -> Result<Vec<Said<'a>>, S
 
 /// The script of a text that isn't too long.
 fn script_in<'a>(alloc: Global, text: &'a str) -> Result<Script<'a>, ScriptFault>
-    requires { length text.now ≤ MOST_BYTES }
+    requires { length text.now ≤ LONGEST }
     ensures script { IfOk result (λ s. script_of text.now ≡ Ok (plain_script s)) }
     ensures fault { IfErr result (IsFaultOf text.now) }
 {
@@ -109,6 +110,7 @@ fn script_in<'a>(alloc: Global, text: &'a str) -> Result<Script<'a>, ScriptFault
 /// of any answer.
 pub fn book_script<'a>(alloc: Global, text: &'a str) -> Result<Script<'a>, ScriptFault>
     ensures script { IfOk result (λ s. script_of text.now ≡ Ok (plain_script s)) }
+    ensures within { IfOk result (λ s. AreInRange s.settings) }
     ensures fault { IfErr result (IsFaultOf text.now) }
 {
     if text.len() > MOST_BYTES {

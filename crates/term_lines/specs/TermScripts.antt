@@ -1,10 +1,10 @@
 -- What a script reads as: one for a terminal where its first line says so, else one for a book.
 use Rattle.std.specs.Prelude.{ℕ, ◌≡◌, Bool, nat_lt, if◌then◌else◌, List, [], ◌∷◌, length, map, Option, None, Some, option_map, option_and_then, is_none, find, Result, Ok, Err}
 use Rattle.std.specs.List.{filter_map}
-use Rattle.text_reader.specs.declared.reading.TheConstants.{MOST_BYTES}
+use Rattle.text_reader.specs.Reading.{LONGEST}
 use Rattle.resend_store.specs.declared.messages.Mode.{Mode}
 use Rattle.script_lines.specs.Lines.{PlainLine, lines_of, line_at}
-use Rattle.script_lines.specs.Scripts.{PlainScript, plain_script, script_of}
+use Rattle.script_lines.specs.Scripts.{PlainScript, plain_script, script_of, AreInRange}
 use Rattle.script_lines.specs.declared.script.ScriptFault.{ScriptFault}
 use Rattle.script_lines.specs.declared.script.ScriptFault.TheVariants.{BadLine, NoMemory}
 use Rattle.term_lines.specs.Orders.{mode_of}
@@ -43,6 +43,11 @@ abbrev pub plain_any_script : AnyScript → PlainAnyScript
 plain_any_script (code.Book s) = book (plain_script s)
 plain_any_script (code.Terminal s) = terminal (plain_term_script s)
 
+-- the numbers that the first lines of a book's script set are in their ranges
+abbrev pub IsInRange : AnyScript → Type 0
+IsInRange (code.Book s) = AreInRange s.settings
+IsInRange (code.Terminal s) = Unit {0}
+
 -- commands, or the number of the first line that is none
 abbrev pub term_by : Mode → List PlainLine → Option PlainLine → Result PlainAnyScript ℕ
 term_by mode lines None = Ok (terminal (record { mode = mode; commands = filter_map term_said_of lines }))
@@ -62,7 +67,7 @@ any_in (line ∷ more) as_other = any_by more as_other (mode_of line.words)
 
 -- what a text reads as, or the number of its first bad line; of a text that is too long that of the first byte too many
 unfoldable pub any_script_of : List ℕ → Result PlainAnyScript ℕ
-any_script_of text = if nat_lt MOST_BYTES (length text) then Err (line_at text MOST_BYTES) else any_in (lines_of text) (script_of text)
+any_script_of text = if nat_lt LONGEST (length text) then Err (line_at text LONGEST) else any_in (lines_of text) (script_of text)
 
 -- what a refusal says of a reading; want of memory says nothing
 abbrev pub Tells : Result PlainAnyScript ℕ → ScriptFault → Type 0

@@ -3,7 +3,7 @@ ghost use Rattle.std.specs.Prelude.{◌≡◌, ◌≤◌, IfOk, IfErr, Ok, map, 
 ghost use Rattle.std.specs.List.{filter_map};
 ghost use Rattle.script_lines.specs.Lines.{plain_line, lines_of};
 ghost use Rattle.script_lines.specs.Scripts.{script_of};
-ghost use Rattle.term_lines.specs.TermScripts.{plain_term_said, plain_any_script, is_bad_term, term_said_of, as_book, term_by, any_in, any_script_of, Tells, IsBadTermLine};
+ghost use Rattle.term_lines.specs.TermScripts.{plain_term_said, plain_any_script, is_bad_term, term_said_of, as_book, term_by, any_in, any_script_of, IsInRange, Tells, IsBadTermLine};
 
 use crate::commands::{TermCommand, term_command_in};
 use crate::orders::mode_in;
@@ -69,6 +69,7 @@ fn commands_in<'a>(alloc: Global, lines: &[Line<'a>]) -> Result<Vec<TermSaid<'a>
 /// of any answer.
 pub fn any_script<'a>(alloc: Global, text: &'a str) -> Result<AnyScript<'a>, ScriptFault>
     ensures script { IfOk result (λ s. any_script_of text.now ≡ Ok (plain_any_script s)) }
+    ensures within { IfOk result IsInRange }
     ensures fault { IfErr result (Tells (any_script_of text.now)) }
 {
     if text.len() > MOST_BYTES {
@@ -80,6 +81,7 @@ pub fn any_script<'a>(alloc: Global, text: &'a str) -> Result<AnyScript<'a>, Scr
 /// The script of a text that isn't too long.
 fn script_in<'a>(alloc: Global, text: &'a str) -> Result<AnyScript<'a>, ScriptFault>
     ensures script { IfOk result (λ s. any_in (lines_of text.now) (script_of text.now) ≡ Ok (plain_any_script s)) }
+    ensures within { IfOk result IsInRange }
     ensures fault { IfErr result (Tells (any_in (lines_of text.now) (script_of text.now))) }
 {
     let lines = lines_in(alloc, text)?;
@@ -93,6 +95,7 @@ fn script_by<'a>(
     lines: &[Line<'a>],
 ) -> Result<AnyScript<'a>, ScriptFault>
     ensures script { IfOk result (λ s. any_in (map plain_line lines.now) (script_of text.now) ≡ Ok (plain_any_script s)) }
+    ensures within { IfOk result IsInRange }
     ensures fault { IfErr result (Tells (any_in (map plain_line lines.now) (script_of text.now))) }
 {
     match lines {
@@ -107,6 +110,7 @@ fn script_by<'a>(
 /// The terminal's script of the lines behind the first.
 fn terminal<'a>(alloc: Global, mode: Mode, lines: &[Line<'a>]) -> Result<AnyScript<'a>, ScriptFault>
     ensures script { IfOk result (λ s. term_by mode (map plain_line lines.now) (find is_bad_term (map plain_line lines.now)) ≡ Ok (plain_any_script s)) }
+    ensures within { IfOk result IsInRange }
     ensures fault { IfErr result (Tells (term_by mode (map plain_line lines.now) (find is_bad_term (map plain_line lines.now)))) }
 {
     match commands_in(alloc, lines) {
@@ -118,6 +122,7 @@ fn terminal<'a>(alloc: Global, mode: Mode, lines: &[Line<'a>]) -> Result<AnyScri
 /// The book script of a text.
 fn book<'a>(alloc: Global, text: &'a str) -> Result<AnyScript<'a>, ScriptFault>
     ensures script { IfOk result (λ s. as_book (script_of text.now) ≡ Ok (plain_any_script s)) }
+    ensures within { IfOk result IsInRange }
     ensures fault { IfErr result (Tells (as_book (script_of text.now))) }
 {
     match book_script(alloc, text) {

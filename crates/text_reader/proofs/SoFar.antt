@@ -7,13 +7,12 @@ use Rattle.std.specs.Io.KnownBytes.{Consumes, IsAtEnd, Keeps}
 use Rattle.std.proofs.KnownBytes.{Consumes-trans, Consumes-kept, Consumes-all}
 use Rattle.text_reader.specs.declared.check.TextCheck.{TextCheck}
 use Rattle.text_reader.specs.declared.reading.TextRead.{TextRead}
-use Rattle.text_reader.specs.declared.reading.TheConstants.{MOST_BYTES}
-use Rattle.text_reader.specs.Reading.{HasTaken, IsReading}
+use Rattle.text_reader.specs.Reading.{LONGEST, HasTaken, IsReading}
 
 pub record SoFar (first now : Option (List ℕ)) (kept : List ℕ) (check : TextCheck) : Type 0 where
   pub bytes : List ℕ
   pub consumed : Consumes first now bytes
-  pub keeps : kept ≡ take (MOST_BYTES + 1) bytes
+  pub keeps : kept ≡ take (LONGEST + 1) bytes
   pub taken : HasTaken check bytes
 
 take_parts : (n : ℕ) (xs ys : List ℕ) → take n (xs ++ ys) ≡ take n xs ++ take (n - length (take n xs)) ys
@@ -24,18 +23,18 @@ take_parts (suc n) (x ∷ xs) ys =
 
 -- a part more
 pub so_far-more : (first now next : Option (List ℕ)) (kept more part : List ℕ) (check after : TextCheck) → SoFar first now kept check
-    → Consumes now next part → more ≡ kept ++ take (MOST_BYTES + 1 - length kept) part
+    → Consumes now next part → more ≡ kept ++ take (LONGEST + 1 - length kept) part
     → ((bytes : List ℕ) → HasTaken check bytes → HasTaken after (bytes ++ part)) → SoFar first next more after
 so_far-more first now next kept more part check after s given grows takes = record {
   bytes = s.bytes ++ part;
   consumed = Consumes-trans first now next s.bytes part s.consumed given;
   keeps =
-      grows ∙ (ap (λ k. k ++ take (MOST_BYTES + 1 - length k) part) s.keeps ∙ sym (take_parts (MOST_BYTES + 1) s.bytes part));
+      grows ∙ (ap (λ k. k ++ take (LONGEST + 1 - length k) part) s.keeps ∙ sym (take_parts (LONGEST + 1) s.bytes part));
   taken = takes s.bytes s.taken;
 }
 
-pub so_far-short : (first now : Option (List ℕ)) (kept : List ℕ) (check : TextCheck) → SoFar first now kept check → length kept ≤ MOST_BYTES + 1
-so_far-short first now kept check s = omega (arith, ap length s.keeps, length-take (MOST_BYTES + 1) s.bytes)
+pub so_far-short : (first now : Option (List ℕ)) (kept : List ℕ) (check : TextCheck) → SoFar first now kept check → length kept ≤ LONGEST + 1
+so_far-short first now kept check s = omega (arith, ap length s.keeps, length-take (LONGEST + 1) s.bytes)
 
 -- a read that gave nothing
 pub so_far-kept : (first now next : Option (List ℕ)) (kept : List ℕ) (check : TextCheck) → SoFar first now kept check → Keeps now next → SoFar first next kept check

@@ -1,6 +1,6 @@
 //! Texts, read whole.
 ghost use Rattle.std.specs.Prelude.{◌≡◌, ◌≤◌, ◌+◌, ◌-◌, ◌++◌, ◌==◌, OnOk, IfOk, take, length, count_by, nat_lt};
-ghost use Rattle.text_reader.specs.Reading.{IsReading};
+ghost use Rattle.text_reader.specs.Reading.{LONGEST, IsReading};
 
 use crate::check::TextCheck;
 use std::alloc::{AllocError, Global};
@@ -27,7 +27,7 @@ pub struct TextRead {
 impl TextRead {
     /// Whether there were more bytes than a text may have.
     pub fn is_too_long(&self) -> bool
-        ensures { result ≡ nat_lt MOST_BYTES (length self.now.kept.items) }
+        ensures { result ≡ nat_lt LONGEST (length self.now.kept.items) }
     {
         self.kept.len() > MOST_BYTES
     }
@@ -35,8 +35,8 @@ impl TextRead {
 
 /// How many line feeds stand before the first byte too many.
 fn feeds_before_limit(bytes: &[u8]) -> usize
-    ensures count { result ≡ count_by (λ b. b == 10) (take MOST_BYTES bytes.now) }
-    ensures within { result ≤ MOST_BYTES }
+    ensures count { result ≡ count_by (λ b. b == 10) (take LONGEST bytes.now) }
+    ensures within { result ≤ LONGEST }
 {
     bytes
         .iter()
@@ -47,15 +47,15 @@ fn feeds_before_limit(bytes: &[u8]) -> usize
 
 /// The line of the first byte too many, from 1, in a text that begins with these bytes.
 pub fn line_at_limit(bytes: &[u8]) -> usize
-    ensures { result ≡ count_by (λ b. b == 10) (take MOST_BYTES bytes.now) + 1 }
+    ensures { result ≡ count_by (λ b. b == 10) (take LONGEST bytes.now) + 1 }
 {
     feeds_before_limit(bytes) + 1
 }
 
 /// Keeps what there is still room for.
 fn keep(kept: &mut Vec<u8>, part: &[u8]) -> Result<(), AllocError>
-    requires { length kept.old.items ≤ MOST_BYTES + 1 }
-    ensures { OnOk result (kept.new.items ≡ kept.old.items ++ take (MOST_BYTES + 1 - length kept.old.items) part.now) }
+    requires { length kept.old.items ≤ LONGEST + 1 }
+    ensures { OnOk result (kept.new.items ≡ kept.old.items ++ take (LONGEST + 1 - length kept.old.items) part.now) }
 {
     let room = MOST_BYTES + 1 - kept.len();
     kept.extend_from_slice(&part[..room.min(part.len())])

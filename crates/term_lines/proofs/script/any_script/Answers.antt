@@ -1,6 +1,6 @@
 use Rattle.std.proofs.Common.{◌≡◌, ◌+◌, ◌==◌, ◌∙◌, Err, Ok, IfOk, IfErr, ap, sym, subst, take, Result, ℕ}
 use Rattle.std.specs.Prelude.{count_by}
-use Rattle.text_reader.specs.declared.reading.TheConstants.{MOST_BYTES}
+use Rattle.text_reader.specs.Reading.{LONGEST}
 use Rattle.term_lines.specs.TermScripts.{PlainAnyScript, plain_any_script, Tells}
 use Rattle.term_lines.proofs.Readings.{long, short}
 use Rattle.term_lines.proofs.script.any_script.Goals as goal
@@ -8,7 +8,7 @@ use Rattle.term_lines.proofs.script.any_script.Goals as goal
 pub returns-then-text-gt-MOST_BYTES-clause-fault : goal.returns-then-text-gt-MOST_BYTES-clause-fault
 returns-then-text-gt-MOST_BYTES-clause-fault c =
     long c.args.text.now c.if-text-gt-MOST_BYTES.true
-    ∙ ap Err (sym (c.line_at_limit.ensures ∙ ap (λ t. count_by (λ b. b == 10) (take MOST_BYTES t) + 1) c.as_bytes.ensures.value))
+    ∙ ap Err (sym (c.line_at_limit.ensures ∙ ap (λ t. count_by (λ b. b == 10) (take LONGEST t) + 1) c.as_bytes.ensures.value))
 
 pub returns-clause-script : goal.returns-clause-script
 returns-clause-script c =
