@@ -3,15 +3,14 @@ use Rattle.std.proofs.Common.{◌≡◌, ℕ, ◌+◌, ◌<◌, ◌≤◌, nat_l
 use Rattle.std.specs.Prelude.{◌⊎◌}
 use borrow.Author.Tests.{ltb-false}
 use Rattle.std.proofs.lemmas.List.{take_all}
-use Rattle.text_reader.specs.Reading.{Keeps}
 use Rattle.text_reader.specs.declared.reading.TextRead.{TextRead}
-use Rattle.text_reader.specs.declared.reading.TheConstants.{MOST_BYTES}
+use Rattle.text_reader.specs.Reading.{LONGEST, Keeps}
 
 -- what is kept of a script is all of it, or it is too long
-pub all_kept : (bytes : List ℕ) (read : TextRead) → Keeps bytes read → nat_lt MOST_BYTES (length read.kept.items) ≡ false → read.kept.items ≡ bytes
+pub all_kept : (bytes : List ℕ) (read : TextRead) → Keeps bytes read → nat_lt LONGEST (length read.kept.items) ≡ false → read.kept.items ≡ bytes
 all_kept bytes read keeps short =
-    let few : length read.kept.items ≤ MOST_BYTES = ltb-false _ _ short in
-    keeps.first ∙ take_all (MOST_BYTES + 1) bytes (omega (arith, ap length keeps.first, length-take (MOST_BYTES + 1) bytes))
+    let few : length read.kept.items ≤ LONGEST = ltb-false _ _ short in
+    keeps.first ∙ take_all (LONGEST + 1) bytes (omega (arith, ap length keeps.first, length-take (LONGEST + 1) bytes))
 
 -- a refusal is no status 0
 pub not_held : (status : ℕ) → (status ≡ 2) ⊎ (status ≡ 4) → status ≡ 0 → ⊥

@@ -9,9 +9,8 @@ use Rattle.sdl_lex.specs.declared.lexemes.LexFault.TheVariants.{TooLong}
 use Rattle.turn_code.specs.declared.draft.Draft.{Draft}
 use Rattle.turn_verify.specs.Loaded.{IsUnlexed, line_at}
 use Rattle.turn_verify.specs.declared.loading.LoadFault.TheVariants.{Lex}
-use Rattle.text_reader.specs.Reading.{Keeps, IsReading}
+use Rattle.text_reader.specs.Reading.{LONGEST, Keeps, IsReading}
 use Rattle.text_reader.specs.declared.reading.TextRead.{TextRead}
-use Rattle.text_reader.specs.declared.reading.TheConstants.{MOST_BYTES}
 use Rattle.text_check.specs.declared.sets.SetFault.{SetFault}
 use Rattle.text_check.specs.declared.sets.SetFault.TheVariants.{Load}
 use Rattle.text_check.specs.Checked.{IsGiven, IsNotAccepted, IsSetOf, IsRefusal, IsRefusalOf, IsTooLong}
@@ -23,25 +22,25 @@ take_twice (suc n) [] = refl
 take_twice (suc n) (x ∷ xs) = ap (λ ys. x ∷ ys) (take_twice n xs)
 
 -- the fault of a text that is too long
-pub unlexed : (bytes kept : List ℕ) (line : ℕ) → IsTooLong bytes kept → line ≡ count_by (λ b. b == 10) (take MOST_BYTES kept) + 1
-    → IsUnlexed bytes (TooLong MOST_BYTES) line
+pub unlexed : (bytes kept : List ℕ) (line : ℕ) → IsTooLong bytes kept → line ≡ count_by (λ b. b == 10) (take LONGEST kept) + 1
+    → IsUnlexed bytes (TooLong LONGEST) line
 unlexed bytes kept line long at = record {
   answers = over_long long.long;
-  there = at ∙ ap (λ bs. count_by (λ b. b == 10) bs + 1) (ap (take MOST_BYTES) long.first ∙ take_twice MOST_BYTES bytes);
+  there = at ∙ ap (λ bs. count_by (λ b. b == 10) bs + 1) (ap (take LONGEST) long.first ∙ take_twice LONGEST bytes);
 }
 
 -- what is kept of a text is all of it, or it is too long
-pub whole : (bytes : List ℕ) (read : TextRead) → Keeps bytes read → nat_lt MOST_BYTES (length read.kept.items) ≡ false → read.kept.items ≡ bytes
+pub whole : (bytes : List ℕ) (read : TextRead) → Keeps bytes read → nat_lt LONGEST (length read.kept.items) ≡ false → read.kept.items ≡ bytes
 whole bytes read keeps short =
-    let few : length read.kept.items ≤ MOST_BYTES = ltb-false _ _ short in
-    keeps.first ∙ take_all (MOST_BYTES + 1) bytes (omega (arith, ap length keeps.first, length-take (MOST_BYTES + 1) bytes))
+    let few : length read.kept.items ≤ LONGEST = ltb-false _ _ short in
+    keeps.first ∙ take_all (LONGEST + 1) bytes (omega (arith, ap length keeps.first, length-take (LONGEST + 1) bytes))
 
-pub too_many : (bytes : List ℕ) (read : TextRead) → Keeps bytes read → nat_lt MOST_BYTES (length read.kept.items) ≡ true → IsTooLong bytes read.kept.items
+pub too_many : (bytes : List ℕ) (read : TextRead) → Keeps bytes read → nat_lt LONGEST (length read.kept.items) ≡ true → IsTooLong bytes read.kept.items
 too_many bytes read keeps long =
-    let many : MOST_BYTES < length read.kept.items = ltb-true _ _ long in
-    record { long = omega (arith, ap length keeps.first, length-take (MOST_BYTES + 1) bytes); first = keeps.first }
+    let many : LONGEST < length read.kept.items = ltb-true _ _ long in
+    record { long = omega (arith, ap length keeps.first, length-take (LONGEST + 1) bytes); first = keeps.first }
 
-no_tokens : (text : List ℕ) (tokens : List Token) → MOST_BYTES < length text → Answers text (Ok tokens) → ⊥
+no_tokens : (text : List ℕ) (tokens : List Token) → LONGEST < length text → Answers text (Ok tokens) → ⊥
 no_tokens text tokens long (in_room short gives) = omega arith
 
 pub not_accepted : (bytes kept : List ℕ) → IsTooLong bytes kept → IsNotAccepted bytes

@@ -3,7 +3,7 @@ use Rattle.std.specs.Prelude.{◌≡◌, ℕ, ◌+◌, ◌<◌, List, length, ta
 use Rattle.std.specs.Io.KnownBytes.{Appends}
 use Rattle.mtp2_text.specs.declared.standard_text.TheConstants.{STANDARD}
 use Rattle.mtp2_text.specs.declared.monitors_text.TheConstants.{MONITORS}
-use Rattle.text_reader.specs.declared.reading.TheConstants.{MOST_BYTES}
+use Rattle.text_reader.specs.Reading.{LONGEST}
 use Rattle.turn_code.specs.declared.draft.Draft.{Draft}
 use Rattle.turn_verify.specs.Loaded.{IsSound, IsLoaded, IsRefused}
 use Rattle.turn_verify.specs.declared.loading.LoadFault.TheVariants.{NoMemory}
@@ -57,8 +57,8 @@ pub record IsRefusalOf (bytes : List ℕ) (fault : SetFault) : Type 0 where
 
 -- there are more bytes than a text may have, and these are the first of them
 pub record IsTooLong (bytes kept : List ℕ) : Type 0 where
-  pub long : MOST_BYTES < length bytes
-  pub first : kept ≡ take (MOST_BYTES + 1) bytes
+  pub long : LONGEST < length bytes
+  pub first : kept ≡ take (LONGEST + 1) bytes
 
 -- what is written grows by the lines of the set of the bytes, all of them
 pub record PrintsCosts (old new : Option (List ℕ)) (bytes : List ℕ) : Type 0 where
