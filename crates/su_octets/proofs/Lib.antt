@@ -4,3 +4,4 @@ pub mod Registers
 pub mod OctetSteps
 pub mod CheckLaws
 pub mod FrameLaws
+pub mod OctetTexts

@@ -1,11 +1,10 @@
 -- Laws over the definitions of this crate, each the contract of a public function.
-use Rattle.std.specs.Prelude.{◌≡◌, ◌↔◌, ℕ, Bool, not, Result, Ok, List, map, reverse, length}
+use Rattle.std.specs.Prelude.{◌≡◌, ℕ, Bool, not, List, map, reverse, length}
 use Rattle.su_octets.specs.Bits.{bits_of}
 use Rattle.su_octets.specs.Polynomial.{plus, IsRemainder}
 use Rattle.su_octets.specs.Check.{Check, raised_ones, raised, content_polynomial}
 use Rattle.su_octets.specs.Frame.{Frame, SpareBitsAreZero}
 use Rattle.su_octets.specs.declared.units.Unit.{Unit}
-use Rattle.su_octets.specs.declared.units.UnitFault.{UnitFault}
 
 -- the remainder of a sum is the sum of the remainders
 abbrev pub RemaindersAdd : Type 0
@@ -27,8 +26,3 @@ OneUnit = (octets : List ℕ) (u v : Unit) → Frame octets u → Frame octets v
 -- a unit has one list of octets whose spare bits are 0
 abbrev pub OneSpelling : Type 0
 OneSpelling = (a b : List ℕ) (unit : Unit) → Frame a unit → SpareBitsAreZero a → Frame b unit → SpareBitsAreZero b → a ≡ b
-
--- what encode makes of a unit, decode gives back as that unit: the premises are what the two promise
-abbrev pub DecodesEncoded : Type 0
-DecodesEncoded = (unit : Unit) (octets : List ℕ) (decoded : Result Unit UnitFault) → Frame octets unit
-    → ((other : Unit) → (decoded ≡ Ok other) ↔ Frame octets other) → decoded ≡ Ok unit

@@ -6,3 +6,4 @@ pub mod Frame
 pub mod Register
 pub mod Laws
 pub mod StatusNames
+pub mod Printed

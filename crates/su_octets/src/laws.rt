@@ -1,6 +1,12 @@
 //! Laws over the definitions that the contracts of this crate cite. Each is the contract of a function
-//! that does nothing.
-ghost use Rattle.su_octets.specs.Laws.{RemaindersAdd, CheckIsOneRemainder, OneCheck, OneUnit, OneSpelling, DecodesEncoded};
+//! that does nothing, but for the last, which encodes and decodes.
+ghost use Rattle.std.specs.Prelude.{◌≡◌, Ok};
+ghost use Rattle.su_octets.specs.Laws.{RemaindersAdd, CheckIsOneRemainder, OneCheck, OneUnit, OneSpelling};
+ghost use Rattle.su_octets.specs.Whole.{IsWhole};
+
+use crate::frames::{decode, encode};
+use crate::units::{Unit, UnitFault};
+use arrayvec::ArrayVec;
 
 /// The remainder of a sum of polynomials is the sum of their remainders.
 pub fn remainders_add()
@@ -27,7 +33,12 @@ pub fn one_spelling()
     ensures { OneSpelling }
 {}
 
-/// What is encoded decodes to the same unit.
-pub fn decodes_encoded()
-    ensures { DecodesEncoded }
-{}
+/// The unit by way of its octets: what is encoded decodes to the same unit.
+pub fn through_octets(unit: &Unit) -> Result<Unit, UnitFault>
+    requires { IsWhole unit.now }
+    ensures { result ≡ Ok unit.now }
+{
+    let mut octets = ArrayVec::new();
+    encode(unit, &mut octets);
+    decode(octets.as_slice())
+}

@@ -30,65 +30,68 @@ fn known_check_octets(rt: HostRuntime) {
     assert_eq!(rt; check_bits(&[0xff, 0xff, 0x00]), [0xff, 0xff]);
 }
 
+/// Octets of units, and how the units are printed.
+const UNITS: [(&[u8], &str); 5] = [
+    (
+        &[0xff, 0xff, 0x00, 0xff, 0xff],
+        "FISU bsn 127 bib 1 fsn 127 fib 1",
+    ),
+    (
+        &[0x05, 0x83, 0x00, 0xd5, 0x59],
+        "FISU bsn 5 bib 0 fsn 3 fib 1",
+    ),
+    (
+        &[0xff, 0xff, 0x01, 0x03, 0xbc, 0xd4],
+        "LSSU bsn 127 bib 1 fsn 127 fib 1 status SIOS",
+    ),
+    (
+        &[0x85, 0x03, 0x01, 0x05, 0xf6, 0x1e],
+        "LSSU bsn 5 bib 1 fsn 3 fib 0 status SIB",
+    ),
+    (
+        &[0x02, 0xfe, 0x04, 0xab, 0x01, 0x02, 0x03, 0x05, 0x56],
+        "MSU bsn 2 bib 0 fsn 126 fib 1 sio AB octets 3",
+    ),
+];
+
 #[test]
 fn known_units(rt: HostRuntime) -> Result<(), Fail> {
-    let fisu = decode(&[0xff, 0xff, 0x00, 0xff, 0xff])?;
-    assert_eq!(rt;
-        format!(in rt.alloc(); "{fisu}")?.as_str(),
-        "FISU bsn 127 bib 1 fsn 127 fib 1"
-    );
+    for (octets, text) in UNITS {
+        let unit = decode(octets)?;
+        assert_eq!(rt; format!(in rt.alloc(); "{unit}")?.as_str(), text);
+    }
     let lssu = decode(&[0xff, 0xff, 0x01, 0x03, 0xbc, 0xd4])?;
-    assert_eq!(rt;
-        format!(in rt.alloc(); "{lssu}")?.as_str(),
-        "LSSU bsn 127 bib 1 fsn 127 fib 1 status SIOS"
-    );
     assert_eq!(rt; lssu.status_code(), Some(3));
-    let msu = Unit::Msu(first_head(), 0x0a, ArrayVec::new());
-    assert_eq!(rt;
-        format!(in rt.alloc(); "{msu}")?.as_str(),
-        "MSU bsn 127 bib 1 fsn 127 fib 1 sio 0A octets 0"
-    );
-    let msu = message(5);
-    assert_eq!(rt;
-        format!(in rt.alloc(); "{msu}")?.as_str(),
-        "MSU bsn 127 bib 1 fsn 127 fib 1 sio 83 octets 5"
-    );
     Ok(())
 }
 
+/// Refused octets, and how they are refused.
+const REFUSED: [(&[u8], UnitFault, &str); 5] = [
+    (&[], UnitFault::TooShort, "U1 TooShort"),
+    (
+        &[0xff, 0xff, 0x00, 0xff],
+        UnitFault::TooShort,
+        "U1 TooShort",
+    ),
+    (&[0xff; 279], UnitFault::TooLong, "U2 TooLong"),
+    (
+        &[0xff, 0xff, 0x00, 0xff, 0xfe],
+        UnitFault::BadCheck,
+        "U3 BadCheck",
+    ),
+    (
+        &[0x05, 0x83, 0x01, 0x5c, 0x48],
+        UnitFault::BadLength,
+        "U4 BadLength",
+    ),
+];
+
 #[test]
 fn known_refusals(rt: HostRuntime) -> Result<(), Fail> {
-    assert_eq!(rt; decode(&[]).err(), Some(UnitFault::TooShort));
-    assert_eq!(rt;
-        decode(&[0xff, 0xff, 0x00, 0xff]).err(),
-        Some(UnitFault::TooShort)
-    );
-    assert_eq!(rt; decode(&[0xff; 279]).err(), Some(UnitFault::TooLong));
-    assert_eq!(rt;
-        decode(&[0xff, 0xff, 0x00, 0xff, 0xfe]).err(),
-        Some(UnitFault::BadCheck)
-    );
-    let [low, high] = check_bits(&[0xff, 0xff, 0x01]);
-    assert_eq!(rt;
-        decode(&[0xff, 0xff, 0x01, low, high]).err(),
-        Some(UnitFault::BadLength)
-    );
-    assert_eq!(rt;
-        format!(in rt.alloc(); "{}", UnitFault::BadCheck)?.as_str(),
-        "U3 BadCheck"
-    );
-    assert_eq!(rt;
-        format!(in rt.alloc(); "{}", UnitFault::TooShort)?.as_str(),
-        "U1 TooShort"
-    );
-    assert_eq!(rt;
-        format!(in rt.alloc(); "{}", UnitFault::TooLong)?.as_str(),
-        "U2 TooLong"
-    );
-    assert_eq!(rt;
-        format!(in rt.alloc(); "{}", UnitFault::BadLength)?.as_str(),
-        "U4 BadLength"
-    );
+    for (octets, fault, text) in REFUSED {
+        assert_eq!(rt; decode(octets).err(), Some(fault), "{text}");
+        assert_eq!(rt; format!(in rt.alloc(); "{fault}")?.as_str(), text);
+    }
     Ok(())
 }
 

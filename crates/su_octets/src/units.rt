@@ -1,6 +1,7 @@
 //! The three kinds of signal unit.
 ghost use Rattle.std.specs.Prelude.{◌≡◌, ◌↔◌, ◌%◌, IsTrue, length, slice_get, Some};
 ghost use Rattle.su_octets.specs.Frame.{head_of, body_of, status_code_of};
+ghost use Rattle.su_octets.specs.Printed.{head_text, octet_text, unit_text, fault_text};
 ghost use Rattle.su_octets.specs.StatusNames.{STATUS_NAMES};
 ghost use Rattle.su_octets.specs.Whole.{IsWhole, IsWholeHead};
 
@@ -38,17 +39,13 @@ pub enum Unit {
 #[derive(Clone, Copy, Debug, Drop, Error, PartialEq, Eq)]
 pub enum UnitFault {
     /// There are fewer than 5 octets.
-    #[error("U1 TooShort")]
     TooShort,
     /// There are more than 278 octets.
-    #[error("U2 TooLong")]
     TooLong,
     /// The check octets aren't those of the content.
-    #[error("U3 BadCheck")]
     BadCheck,
     /// The length indicator isn't the number of octets between it and the check octets, or 63
     /// where there are 63 or more.
-    #[error("U4 BadLength")]
     BadLength,
 }
 
@@ -127,27 +124,57 @@ pub fn status_name(status: u8) -> &'static str
 }
 
 impl fmt::Display for Head {
+    ghost output = { λ head. Some (head_text head) };
+
     fn fmt<W: fmt::Write>(&self, f: &mut fmt::Formatter<W>) -> fmt::Result {
-        write!(
-            f,
-            "bsn {} bib {} fsn {} fib {}",
-            self.bsn, self.bib, self.fsn, self.fib
-        )
+        let Head { bsn, bib, fsn, fib } = *self;
+        write!(f, "bsn {bsn} bib {bib} fsn {fsn} fib {fib}")
+    }
+}
+
+/// An octet as two hexadecimal digits in capitals.
+#[derive(Clone, Copy)]
+struct Octet(u8);
+
+impl fmt::Display for Octet {
+    ghost output = { λ octet. Some (octet_text octet.0) };
+
+    fn fmt<W: fmt::Write>(&self, f: &mut fmt::Formatter<W>) -> fmt::Result {
+        let octet = self.0;
+        write!(f, "{octet:02X}")
     }
 }
 
 /// One line: the kind, the head, and then an LSSU's status or an MSU's service information octet and
 /// the number of octets of its signalling information field.
 impl fmt::Display for Unit {
+    ghost output = { λ unit. Some (unit_text unit) };
+
     fn fmt<W: fmt::Write>(&self, f: &mut fmt::Formatter<W>) -> fmt::Result {
         match self {
             Unit::Fisu(head) => write!(f, "FISU {head}"),
             Unit::Lssu(head, status, _) => {
-                write!(f, "LSSU {head} status {}", status_name(*status))
+                let name = status_name(*status);
+                write!(f, "LSSU {head} status {name}")
             }
             Unit::Msu(head, sio, sif) => {
-                write!(f, "MSU {head} sio {sio:02X} octets {}", sif.len())
+                let sio = Octet(*sio);
+                let octets = sif.len();
+                write!(f, "MSU {head} sio {sio} octets {octets}")
             }
         }
+    }
+}
+
+impl fmt::Display for UnitFault {
+    ghost output = { λ fault. Some (fault_text fault) };
+
+    fn fmt<W: fmt::Write>(&self, f: &mut fmt::Formatter<W>) -> fmt::Result {
+        f.write_str(match self {
+            UnitFault::TooShort => "U1 TooShort",
+            UnitFault::TooLong => "U2 TooLong",
+            UnitFault::BadCheck => "U3 BadCheck",
+            UnitFault::BadLength => "U4 BadLength",
+        })
     }
 }
