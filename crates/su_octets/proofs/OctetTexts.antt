@@ -1,5 +1,5 @@
 -- An octet as it is printed.
-use Rattle.std.proofs.Common.{◌≡◌, ℕ, ◌<◌, ◌^◌, ◌-◌, true, false, Some, refl, sym, ap, ◌∙◌}
+use Rattle.std.proofs.Common.{◌≡◌, ℕ, ◌<◌, ◌^◌, ◌-◌, true, false, Some, ap, ◌∙◌}
 use Rattle.std.specs.Option.{option_map}
 use Rattle.std.specs.Fmt.{digits, digits_output, styled_digits_output, padded_integral, shown_prefix, radix_prefix, format_spec}
 use Rattle.std.proofs.lemmas.Fmt.{hex_byte}
