@@ -13,8 +13,7 @@ pub fn accepted_messages_are_delivered()
     link_heart::accepted_messages_wait_in_order();
 }
 
-/// Of what is kept to send, octets that are taken take away messages that were sent, the oldest first; commands, ticks and units out take
-/// nothing away.
+/// Of what is kept to send, octets that are taken take away a beginning and nothing else.
 pub fn unacknowledged_messages_stay()
     ensures { StaysKept }
 {
