@@ -1,3 +1,4 @@
 pub mod Reading
-pub mod LineBits
 pub mod Words
+pub mod LineBits
+pub mod Printed

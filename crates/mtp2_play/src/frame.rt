@@ -1,12 +1,15 @@
 //! The command `frame`: one signal unit, read from hexadecimal digits.
-ghost use Rattle.std.specs.Prelude.{◌≡◌, ◌⊎◌, ◌≤◌, ◌*◌, ◌+◌, ◌^◌, ◌<◌, ℕ, List, length, Ok, Err, IfOk, IfErr, OnErr};
+ghost use Rattle.std.specs.Prelude.{◌≡◌, ◌⊎◌, ◌≤◌, ◌*◌, ◌+◌, ◌^◌, ◌<◌, ℕ, List, length, Ok, Err, IfOk, IfErr, OnOk, OnErr};
+ghost use Rattle.std.specs.Io.KnownBytes.{Appends};
 ghost use Rattle.hex.specs.Hex.{decode_of};
+ghost use Rattle.mtp2_play.specs.Printed.{frame_fault_text, reading_lines, fault_line, PrintsUnit, PrintsFault};
 ghost use Rattle.mtp2_play.specs.Reading.{Spells, IsReading, IsRefused};
 ghost use Rattle.su_octets.specs.declared.units.Unit.{Unit};
 
 use crate::line_bits::line_bits;
 use hex::FromHexError;
 use std::alloc::{AllocError, Global};
+use std::fmt;
 use std::io::{self, Write};
 use su_octets::{Unit, UnitFault};
 use text_check::{FAILED, HELD, REFUSED, write_line};
@@ -16,11 +19,22 @@ use thiserror::Error;
 #[derive(Clone, Copy, Debug, Drop, Error, PartialEq, Eq)]
 pub enum FrameFault {
     /// The word isn't an even number of hexadecimal digits.
-    #[error("H1 NotHex")]
     NotHex,
     /// The octets are no signal unit, and why.
-    #[error("{0}")]
     Unit(UnitFault),
+}
+
+impl fmt::Display for FrameFault {
+    ghost use Rattle.std.specs.Prelude.{Some};
+
+    ghost output = { λ fault. Some (frame_fault_text fault) };
+
+    fn fmt<W: fmt::Write>(&self, f: &mut fmt::Formatter<W>) -> fmt::Result {
+        match self {
+            FrameFault::NotHex => f.write_str("H1 NotHex"),
+            FrameFault::Unit(fault) => fmt::Display::fmt(fault, f),
+        }
+    }
 }
 
 /// A unit with the number of its bits on the line.
@@ -38,6 +52,8 @@ struct Reading {
 pub fn frame<W: Write>(alloc: Global, word: &str, writer: &mut W) -> u8
     ensures held { result ≡ 0 → (unit : Unit) × Spells word.now unit }
     ensures refused { result ≡ 2 → (unit : Unit) → Spells word.now unit → ⊥ }
+    ensures printed { result ≡ 0 → PrintsUnit (W.contents writer.old) (W.contents writer.new) word.now }
+    ensures refusal { result ≡ 2 → PrintsFault (W.contents writer.old) (W.contents writer.new) word.now }
     ensures status { (result ≡ 0) ⊎ (result ≡ 2) ⊎ (result ≡ 4) }
 {
     match read(alloc, word) {
@@ -45,7 +61,7 @@ pub fn frame<W: Write>(alloc: Global, word: &str, writer: &mut W) -> u8
             Ok(()) => HELD,
             Err(_) => FAILED,
         },
-        Ok(Err(fault)) => match write_line(alloc, writer, &format_args!("refused {fault}")) {
+        Ok(Err(fault)) => match write_fault(alloc, writer, fault) {
             Ok(()) => REFUSED,
             Err(_) => FAILED,
         },
@@ -54,10 +70,19 @@ pub fn frame<W: Write>(alloc: Global, word: &str, writer: &mut W) -> u8
 }
 
 /// The unit's fields on a line, and its bits on another.
-fn write_reading<W: Write>(alloc: Global, writer: &mut W, reading: &Reading) -> io::Result<()> {
+fn write_reading<W: Write>(alloc: Global, writer: &mut W, reading: &Reading) -> io::Result<()>
+    ensures { OnOk result (Appends (W.contents writer.old) (W.contents writer.new) (reading_lines reading.now.unit reading.now.line_bits)) }
+{
     write_line(alloc, writer, &reading.unit)?;
     let line_bits = reading.line_bits;
     write_line(alloc, writer, &format_args!("bits {line_bits}"))
+}
+
+/// The line of a refusal.
+fn write_fault<W: Write>(alloc: Global, writer: &mut W, fault: FrameFault) -> io::Result<()>
+    ensures { OnOk result (Appends (W.contents writer.old) (W.contents writer.new) (fault_line fault)) }
+{
+    write_line(alloc, writer, &format_args!("refused {fault}"))
 }
 
 /// The unit that the word spells, or why it spells none.
