@@ -1,16 +1,16 @@
 -- A run, one command more.
-use Rattle.std.proofs.Common.{◌≡◌, ℕ, ◌+◌, ◌<◌, List, [], ◌∷◌, ◌++◌, length, map, take, get_or, append_assoc, Option, None, Some, refl, sym, ap, subst, ◌∙◌}
+use Rattle.std.proofs.Common.{◌≡◌, ℕ, ◌+◌, ◌<◌, List, [], ◌∷◌, ◌++◌, length, map, take, drop, get_or, append_assoc, Option, None, Some, refl, sym, ap, subst, ◌∙◌}
 use Rattle.std.specs.List.{flat_map}
 use Rattle.std.specs.Io.KnownBytes.{Appends}
 use Rattle.std.proofs.KnownBytes.{Appends-trans}
-use Rattle.std.proofs.lemmas.List.{flat_map_more, take_more, map-append}
+use Rattle.std.proofs.lemmas.List.{flat_map_more, take_more, map-append, take-append-drop, drop_more}
 use Rattle.script_lines.specs.declared.script.Said.{Said}
 use Rattle.script_lines.specs.Commands.{PlainCommand, offer, flood, call, tick, env, rest, value, expect, plain_command}
 use Rattle.script_lines.specs.Scripts.{PlainSaid, plain_said}
 use Rattle.script_lines.specs.declared.commands.Command.{Command}
 use Rattle.script_lines.specs.declared.commands.Command.TheVariants as code
 use Rattle.text_check.specs.Printed.{line_of}
-use Rattle.book_play.specs.Played.{Goes, prints, holds, IsRun}
+use Rattle.book_play.specs.Played.{Goes, prints, holds, IsRun, IsMissedBy, IsMissed}
 
 -- an expectation that holds
 pub run_held : (before : List PlainSaid) (said : PlainSaid) (text : List ℕ) (first now last : Option (List ℕ)) → said.command ≡ expect text → last ≡ Some text
@@ -56,3 +56,24 @@ run_more before items i x first now last within is run =
     (append_assoc before (map plain_said (take i items)) (plain_said x ∷ [])
     ∙ ap (λ commands. before ++ commands) (sym (map-append plain_said (take i items) (x ∷ [])) ∙ ap (map plain_said) (sym taken)))
     run
+
+-- an expectation that fails behind the commands that were obeyed
+pub run_missed : (before : List PlainSaid) (items : List Said) (i : ℕ) (x : Said) (first now next last : Option (List ℕ)) → i < length items → x ≡ get_or items i x
+    → IsRun (before ++ map plain_said (take i items)) first now last → IsMissedBy (plain_said x) last now next
+    → IsMissed (before ++ map plain_said items) first next
+run_missed before items i x first now next last within is run missed =
+    let rest : drop i items ≡ x ∷ drop (i + 1) items = drop_more items i x within ∙ ap (λ y. y ∷ drop (i + 1) items) (sym is) in
+    let parts : items ≡ take i items ++ x ∷ drop (i + 1) items = sym (take-append-drop i items) ∙ ap (λ ys. take i items ++ ys) rest in
+    record {
+      before = before ++ map plain_said (take i items);
+      said = plain_said x;
+      after = map plain_said (drop (i + 1) items);
+      stands =
+          ap (λ xs. before ++ map plain_said xs) parts
+          ∙ (ap (λ ys. before ++ ys) (map-append plain_said (take i items) (x ∷ drop (i + 1) items))
+          ∙ sym (append_assoc before (map plain_said (take i items)) (plain_said x ∷ map plain_said (drop (i + 1) items))));
+      middle = now;
+      last = last;
+      run = run;
+      missed = missed;
+    }

@@ -1,5 +1,6 @@
 -- What a run of a script has printed.
-use Rattle.std.specs.Prelude.{◌≡◌, ℕ, Bool, true, false, List, [], ◌∷◌, ◌++◌, Option, None, Some, option_map}
+use Rattle.std.specs.Prelude.{◌≡◌, ℕ, Bool, true, false, List, [], ◌∷◌, ◌++◌, Option, None, Some, option_map, codes}
+use Rattle.std.specs.Fmt.{decimal}
 use Rattle.std.specs.List.{flat_map}
 use Rattle.std.specs.Io.KnownBytes.{Appends}
 use Rattle.script_lines.specs.Commands.{PlainCommand, expect}
@@ -35,3 +36,28 @@ pub record IsRun (commands : List PlainSaid) (old new last : Option (List ℕ)) 
 -- the same, whatever was printed last
 abbrev pub IsWritten : List PlainSaid → Option (List ℕ) → Option (List ℕ) → Type 0
 IsWritten commands old new = (last : Option (List ℕ)) × IsRun commands old new last
+
+-- the line that says that an expectation failed, by the number of its line
+abbrev pub missed_text : ℕ → List ℕ
+missed_text line = codes "failed line " ++ decimal line
+
+-- an expectation fails: the line before isn't the one that it names, and what is written grows by the line that says so
+pub record Misses (line : ℕ) (Expects : List ℕ → Type 0) (last old new : Option (List ℕ)) : Type 0 where
+  pub text : List ℕ
+  pub expects : Expects text
+  pub other : last ≡ Some text → ⊥
+  pub printed : Appends old new (line_of (missed_text line))
+
+abbrev pub IsMissedBy : PlainSaid → Option (List ℕ) → Option (List ℕ) → Option (List ℕ) → Type 0
+IsMissedBy said last old new = Misses said.line (λ text. said.command ≡ expect text) last old new
+
+-- the commands up to an expectation were obeyed, and that fails; nothing else is written
+pub record IsMissed (commands : List PlainSaid) (old new : Option (List ℕ)) : Type 0 where
+  pub before : List PlainSaid
+  pub said : PlainSaid
+  pub after : List PlainSaid
+  pub stands : commands ≡ before ++ said ∷ after
+  pub middle : Option (List ℕ)
+  pub last : Option (List ℕ)
+  pub run : IsRun before old middle last
+  pub missed : IsMissedBy said last middle new

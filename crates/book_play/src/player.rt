@@ -1,7 +1,7 @@
 //! A script as it runs.
-ghost use Rattle.std.specs.Prelude.{◌≡◌, ◌⊎◌, ◌++◌, ◌∷◌, [], List, ℕ, Option, map, IfOk, true};
+ghost use Rattle.std.specs.Prelude.{◌≡◌, ◌⊎◌, ◌++◌, ◌∷◌, [], List, ℕ, Option, map, IfOk, true, false};
 ghost use Rattle.script_lines.specs.Scripts.{PlainSaid, plain_said};
-ghost use Rattle.book_play.specs.Played.{last_of, IsRun};
+ghost use Rattle.book_play.specs.Played.{last_of, IsRun, IsMissed, IsMissedBy};
 
 use crate::answers::answer;
 use crate::printer::Printer;
@@ -24,9 +24,10 @@ pub struct Player {
 impl Player {
     /// Does what a command says. Whether the run goes on.
     fn obey<W: Write>(&mut self, alloc: Global, said: &Said<'_>, writer: &mut W) -> io::Result<bool>
-        ensures { IfOk result (λ on. on ≡ true → (before : List PlainSaid) (first : Option (List ℕ))
+        ensures goes { IfOk result (λ on. on ≡ true → (before : List PlainSaid) (first : Option (List ℕ))
             → IsRun before first (W.contents writer.old) (last_of self.old)
             → IsRun (before ++ plain_said said.now ∷ []) first (W.contents writer.new) (last_of self.new)) }
+        ensures missed { IfOk result (λ on. on ≡ false → IsMissedBy (plain_said said.now) (last_of self.old) (W.contents writer.old) (W.contents writer.new)) }
     {
         match &said.command {
             Command::Expect(text) => {
@@ -55,6 +56,9 @@ impl Player {
         ensures held { IfOk result (λ status. status ≡ 0 → (before : List PlainSaid) (first : Option (List ℕ))
             → IsRun before first (W.contents writer.old) (last_of self.old)
             → IsRun (before ++ map plain_said commands.now) first (W.contents writer.new) (last_of self.new)) }
+        ensures missed { IfOk result (λ status. status ≡ 1 → (before : List PlainSaid) (first : Option (List ℕ))
+            → IsRun before first (W.contents writer.old) (last_of self.old)
+            → IsMissed (before ++ map plain_said commands.now) first (W.contents writer.new)) }
         ensures status { IfOk result (λ status. (status ≡ 0) ⊎ (status ≡ 1)) }
     {
         for said in commands {

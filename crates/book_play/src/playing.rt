@@ -1,7 +1,7 @@
 //! Whole book scripts.
 ghost use Rattle.std.specs.Prelude.{◌≡◌, ◌⊎◌};
 ghost use Rattle.script_lines.specs.Scripts.{plain_script};
-ghost use Rattle.book_play.specs.Played.{IsWritten};
+ghost use Rattle.book_play.specs.Played.{IsWritten, IsMissed};
 
 use crate::player::Player;
 use crate::printer::Printer;
@@ -27,6 +27,7 @@ fn limits_of(settings: Settings) -> Option<Limits> {
 /// memory or a write fails. Nothing is written after a write that failed.
 pub fn play_book<W: Write>(alloc: Global, set: &Verified, script: &Script<'_>, writer: &mut W) -> u8
     ensures held { result ≡ 0 → IsWritten (plain_script script.now).commands (W.contents writer.old) (W.contents writer.new) }
+    ensures missed { result ≡ 1 → IsMissed (plain_script script.now).commands (W.contents writer.old) (W.contents writer.new) }
     ensures status { (result ≡ 0) ⊎ (result ≡ 1) ⊎ (result ≡ 4) }
 {
     let Some(limits) = limits_of(script.settings) else {

@@ -1,5 +1,5 @@
 //! The lines that a script prints, and the one that was printed last.
-ghost use Rattle.std.specs.Prelude.{◌≡◌, ℕ, List, Some, OnOk, true};
+ghost use Rattle.std.specs.Prelude.{◌≡◌, ◌↔◌, ℕ, List, Some, OnOk, true};
 ghost use Rattle.std.specs.Io.KnownBytes.{Appends};
 ghost use Rattle.text_check.specs.Printed.{line_of};
 ghost use Rattle.book_play.specs.Played.{last_in};
@@ -15,7 +15,7 @@ pub struct Printer {
 impl Printer {
     /// Whether the line that was printed last is this one.
     pub fn has_printed(&self, text: &[u8]) -> bool
-        ensures { result ≡ true → last_in self.now ≡ Some text.now }
+        ensures { (result ≡ true) ↔ (last_in self.now ≡ Some text.now) }
     {
         match &self.last {
             Some(last) => last.as_slice() == text,

@@ -1,17 +1,17 @@
 -- A run, one command more, and lines, one more.
-use Rattle.std.proofs.Common.{◌≡◌, ℕ, ◌+◌, ◌<◌, ◌≤◌, List, [], ◌∷◌, ◌++◌, length, map, take, get_or, append_assoc, Option, None, Some, refl, sym, ap, subst, arith, ◌∙◌}
+use Rattle.std.proofs.Common.{◌≡◌, ℕ, ◌+◌, ◌<◌, ◌≤◌, List, [], ◌∷◌, ◌++◌, length, map, take, drop, get_or, append_assoc, Option, None, Some, refl, sym, ap, subst, arith, ◌∙◌}
 use Rattle.std.specs.List.{flat_map}
 use Rattle.std.specs.Io.KnownBytes.{Appends}
 use Rattle.std.proofs.KnownBytes.{Appends-trans, Appends-nil}
 use Rattle.std.proofs.lemmas.Grind.{flat_map-append}
-use Rattle.std.proofs.lemmas.List.{flat_map_more, take_more, map-append}
+use Rattle.std.proofs.lemmas.List.{flat_map_more, take_more, map-append, take-append-drop, drop_more}
 use Rattle.term_lines.specs.TermCommands.{PlainTermCommand, order, unit, line, msu, out, ticks, state, shown, expected, plain_term_command}
 use Rattle.term_lines.specs.TermScripts.{PlainTermSaid, plain_term_said}
 use Rattle.term_lines.specs.declared.script.TermSaid.{TermSaid}
 use Rattle.term_lines.specs.declared.commands.TermCommand.{TermCommand}
 use Rattle.term_lines.specs.declared.commands.TermCommand.TheVariants as code
 use Rattle.text_check.specs.Printed.{line_of}
-use Rattle.script_play.specs.TermRuns.{HasLines, latest, Goes, begins, prints, holds, IsTermRun, HasPrinted}
+use Rattle.script_play.specs.TermRuns.{HasLines, latest, Goes, begins, prints, holds, IsTermRun, HasPrinted, IsTermMissedBy, IsTermMissed}
 
 -- ---- lines
 
@@ -116,3 +116,24 @@ run_more before items i x first now last within is run =
     (append_assoc before (map plain_term_said (take i items)) (plain_term_said x ∷ [])
     ∙ ap (λ commands. before ++ commands) (sym (map-append plain_term_said (take i items) (x ∷ [])) ∙ ap (map plain_term_said) (sym taken)))
     run
+
+-- an expectation that fails behind the commands that were obeyed
+pub run_missed : (before : List PlainTermSaid) (items : List TermSaid) (i : ℕ) (x : TermSaid) (first now next last : Option (List ℕ)) → i < length items
+    → x ≡ get_or items i x → IsTermRun (before ++ map plain_term_said (take i items)) first now last → IsTermMissedBy (plain_term_said x) last now next
+    → IsTermMissed (before ++ map plain_term_said items) first next
+run_missed before items i x first now next last within is run missed =
+    let rest : drop i items ≡ x ∷ drop (i + 1) items = drop_more items i x within ∙ ap (λ y. y ∷ drop (i + 1) items) (sym is) in
+    let parts : items ≡ take i items ++ x ∷ drop (i + 1) items = sym (take-append-drop i items) ∙ ap (λ ys. take i items ++ ys) rest in
+    record {
+      before = before ++ map plain_term_said (take i items);
+      said = plain_term_said x;
+      after = map plain_term_said (drop (i + 1) items);
+      stands =
+          ap (λ xs. before ++ map plain_term_said xs) parts
+          ∙ (ap (λ ys. before ++ ys) (map-append plain_term_said (take i items) (x ∷ drop (i + 1) items))
+          ∙ sym (append_assoc before (map plain_term_said (take i items)) (plain_term_said x ∷ map plain_term_said (drop (i + 1) items))));
+      middle = now;
+      last = last;
+      run = run;
+      missed = missed;
+    }

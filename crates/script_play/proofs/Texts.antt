@@ -16,3 +16,8 @@ all_kept bytes read keeps short =
 pub not_held : (status : ℕ) → (status ≡ 2) ⊎ (status ≡ 4) → status ≡ 0 → ⊥
 not_held status (inl two) zero = omega arith
 not_held status (inr four) zero = omega arith
+
+-- nor status 1
+pub not_missed : (status : ℕ) → (status ≡ 2) ⊎ (status ≡ 4) → status ≡ 1 → ⊥
+not_missed status (inl two) one = omega arith
+not_missed status (inr four) one = omega arith

@@ -1,11 +1,11 @@
 -- What the status of `play` says of the script and of what was written.
 use Rattle.std.specs.Prelude.{◌≡◌, ℕ, Bool, true, false, List, Option, Result, Ok, IsUtf8}
 use Rattle.script_lines.specs.Scripts.{PlainScript, script_of}
-use Rattle.book_play.specs.Played.{IsWritten}
+use Rattle.book_play.specs.Played.{IsWritten, IsMissed}
 use Rattle.term_lines.specs.TermScripts.{PlainAnyScript, book, terminal, PlainTermScript, as_book, any_script_of}
 use Rattle.text_check.specs.declared.sets.SetWord.{SetWord}
 use Rattle.text_check.specs.declared.sets.SetWord.TheVariants.{Standard, Monitors, Text}
-use Rattle.script_play.specs.TermRuns.{IsTermWritten}
+use Rattle.script_play.specs.TermRuns.{IsTermWritten, IsTermMissed}
 
 -- terminals run the set `standard` alone
 abbrev pub has_terminals : {R : Type 0} → SetWord R → Bool
@@ -29,3 +29,15 @@ pub record IsPlayed (terminals : Bool) (old new : Option (List ℕ)) (bytes : Li
   pub script : PlainAnyScript
   pub reads : reading_of terminals bytes ≡ Ok script
   pub run : IsObeyed script old new
+
+-- an expectation of a script failed behind commands that were obeyed
+abbrev pub IsMissedIn : PlainAnyScript → Option (List ℕ) → Option (List ℕ) → Type 0
+IsMissedIn (book s) old new = IsMissed s.commands old new
+IsMissedIn (terminal s) old new = IsTermMissed s.commands old new
+
+-- the bytes are a script, an expectation of which failed
+pub record IsPlayedInPart (terminals : Bool) (old new : Option (List ℕ)) (bytes : List ℕ) : Type 0 where
+  pub utf8 : IsUtf8 bytes
+  pub script : PlainAnyScript
+  pub reads : reading_of terminals bytes ≡ Ok script
+  pub missed : IsMissedIn script old new

@@ -3,7 +3,7 @@ use Rattle.std.specs.Prelude.{◌≡◌, ◌≤◌, ℕ, List, [], ◌∷◌, �
 use Rattle.std.specs.List.{flat_map}
 use Rattle.std.specs.Io.KnownBytes.{Appends}
 use Rattle.text_check.specs.Printed.{line_of}
-use Rattle.book_play.specs.Played.{last_in}
+use Rattle.book_play.specs.Played.{last_in, Misses}
 use Rattle.term_lines.specs.TermCommands.{PlainTermCommand, order, unit, line, msu, out, ticks, state, shown, expected}
 use Rattle.term_lines.specs.TermScripts.{PlainTermSaid}
 use Rattle.script_play.specs.declared.terminals.TermPlayer.{TermPlayer}
@@ -48,3 +48,18 @@ last_of p = last_in p.printer
 -- the commands were obeyed, whatever was printed last
 abbrev pub IsTermWritten : List PlainTermSaid → Option (List ℕ) → Option (List ℕ) → Type 0
 IsTermWritten commands old new = (last : Option (List ℕ)) × IsTermRun commands old new last
+
+-- an expectation of a terminal's script fails
+abbrev pub IsTermMissedBy : PlainTermSaid → Option (List ℕ) → Option (List ℕ) → Option (List ℕ) → Type 0
+IsTermMissedBy said last old new = Misses said.line (λ text. said.command ≡ expected text) last old new
+
+-- the commands up to an expectation were obeyed, and that fails; nothing else is written
+pub record IsTermMissed (commands : List PlainTermSaid) (old new : Option (List ℕ)) : Type 0 where
+  pub before : List PlainTermSaid
+  pub said : PlainTermSaid
+  pub after : List PlainTermSaid
+  pub stands : commands ≡ before ++ said ∷ after
+  pub middle : Option (List ℕ)
+  pub last : Option (List ℕ)
+  pub run : IsTermRun before old middle last
+  pub missed : IsTermMissedBy said last middle new

@@ -3,7 +3,7 @@ ghost use Rattle.std.specs.Prelude.{◌≡◌, ◌⊎◌, List, ℕ, Bool, Ok, I
 ghost use Rattle.text_reader.specs.Reading.{Keeps};
 ghost use Rattle.text_check.specs.Checked.{given, IsGiven, IsAccepted};
 ghost use Rattle.term_lines.specs.TermScripts.{plain_any_script};
-ghost use Rattle.script_play.specs.Played.{has_terminals, reading_of, IsObeyed, IsPlayed};
+ghost use Rattle.script_play.specs.Played.{has_terminals, reading_of, IsObeyed, IsPlayed, IsMissedIn, IsPlayedInPart};
 
 use crate::terminals::play_terminal;
 use book_play::play_book;
@@ -32,8 +32,9 @@ pub fn play<S: Read + Drop, R: Read + Drop, W: Write>(
     mut script: R,
     writer: &mut W,
 ) -> u8
-    ensures accepted { result ≡ 0 → IfSome (given S.remaining set) IsAccepted }
+    ensures accepted { (result ≡ 0) ⊎ (result ≡ 1) → IfSome (given S.remaining set) IsAccepted }
     ensures held { result ≡ 0 → IsGiven (R.remaining script) (IsPlayed (has_terminals set) (W.contents writer.old) (W.contents writer.new)) }
+    ensures missed { result ≡ 1 → IsGiven (R.remaining script) (IsPlayedInPart (has_terminals set) (W.contents writer.old) (W.contents writer.new)) }
     ensures status { (result ≡ 0) ⊎ (result ≡ 1) ⊎ (result ≡ 2) ⊎ (result ≡ 4) }
 {
     let terminals = has_terminals(&set);
@@ -105,6 +106,7 @@ fn play_text<W: Write>(
     writer: &mut W,
 ) -> u8
     ensures held { result ≡ 0 → (bytes : List ℕ) → Keeps bytes read.now → IsPlayed terminals (W.contents writer.old) (W.contents writer.new) bytes }
+    ensures missed { result ≡ 1 → (bytes : List ℕ) → Keeps bytes read.now → IsPlayedInPart terminals (W.contents writer.old) (W.contents writer.new) bytes }
     ensures status { (result ≡ 0) ⊎ (result ≡ 1) ⊎ (result ≡ 2) ⊎ (result ≡ 4) }
 {
     if !read.is_text {
@@ -131,6 +133,7 @@ fn play_script<W: Write>(
     writer: &mut W,
 ) -> u8
     ensures held { result ≡ 0 → IsObeyed (plain_any_script script.now) (W.contents writer.old) (W.contents writer.new) }
+    ensures missed { result ≡ 1 → IsMissedIn (plain_any_script script.now) (W.contents writer.old) (W.contents writer.new) }
     ensures status { (result ≡ 0) ⊎ (result ≡ 1) ⊎ (result ≡ 4) }
 {
     match script {

@@ -1,7 +1,7 @@
 //! A terminal's script as it runs.
-ghost use Rattle.std.specs.Prelude.{◌≡◌, ◌⊎◌, ◌≤◌, ◌++◌, ◌∷◌, [], List, ℕ, Option, map, OnOk, IfOk, true};
+ghost use Rattle.std.specs.Prelude.{◌≡◌, ◌⊎◌, ◌≤◌, ◌++◌, ◌∷◌, [], List, ℕ, Option, map, OnOk, IfOk, true, false};
 ghost use Rattle.term_lines.specs.TermScripts.{PlainTermSaid, plain_term_said};
-ghost use Rattle.script_play.specs.TermRuns.{last_of, HasPrinted, IsTermRun, IsTermWritten};
+ghost use Rattle.script_play.specs.TermRuns.{last_of, HasPrinted, IsTermRun, IsTermWritten, IsTermMissed, IsTermMissedBy};
 
 use crate::orders::command_of;
 use crate::unit_line::line_of_unit;
@@ -166,9 +166,11 @@ impl TermPlayer {
         said: &TermSaid<'_>,
         writer: &mut W,
     ) -> io::Result<bool>
-        ensures { IfOk result (λ on. on ≡ true → (before : List PlainTermSaid) (first : Option (List ℕ))
+        ensures goes { IfOk result (λ on. on ≡ true → (before : List PlainTermSaid) (first : Option (List ℕ))
             → IsTermRun before first (W.contents writer.old) (last_of self.old)
             → IsTermRun (before ++ plain_term_said said.now ∷ []) first (W.contents writer.new) (last_of self.new)) }
+        ensures missed { IfOk result (λ on. on ≡ false
+            → IsTermMissedBy (plain_term_said said.now) (last_of self.old) (W.contents writer.old) (W.contents writer.new)) }
     {
         match &said.command {
             TermCommand::Expect(text) => {
@@ -201,6 +203,9 @@ impl TermPlayer {
         ensures held { IfOk result (λ status. status ≡ 0 → (before : List PlainTermSaid) (first : Option (List ℕ))
             → IsTermRun before first (W.contents writer.old) (last_of self.old)
             → IsTermRun (before ++ map plain_term_said commands.now) first (W.contents writer.new) (last_of self.new)) }
+        ensures missed { IfOk result (λ status. status ≡ 1 → (before : List PlainTermSaid) (first : Option (List ℕ))
+            → IsTermRun before first (W.contents writer.old) (last_of self.old)
+            → IsTermMissed (before ++ map plain_term_said commands.now) first (W.contents writer.new)) }
         ensures status { IfOk result (λ status. (status ≡ 0) ⊎ (status ≡ 1)) }
     {
         for said in commands {
@@ -218,6 +223,7 @@ impl TermPlayer {
 /// memory or a write fails. Nothing is written after a write that failed.
 pub fn play_terminal<W: Write>(alloc: Global, script: &TermScript<'_>, writer: &mut W) -> u8
     ensures held { result ≡ 0 → IsTermWritten (map plain_term_said script.now.commands.items) (W.contents writer.old) (W.contents writer.new) }
+    ensures missed { result ≡ 1 → IsTermMissed (map plain_term_said script.now.commands.items) (W.contents writer.old) (W.contents writer.new) }
     ensures status { (result ≡ 0) ⊎ (result ≡ 1) ⊎ (result ≡ 4) }
 {
     let Ok(terminal) = Terminal::new(alloc, script.mode) else {

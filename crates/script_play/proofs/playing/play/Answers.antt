@@ -1,6 +1,6 @@
 use Rattle.std.proofs.Common.{subst, Bool}
-use Rattle.script_play.specs.Played.{IsPlayed}
-use Rattle.script_play.proofs.Texts.{not_held}
+use Rattle.script_play.specs.Played.{IsPlayed, IsPlayedInPart}
+use Rattle.script_play.proofs.Texts.{not_held, not_missed}
 use Rattle.script_play.proofs.playing.play.Goals as goal
 
 pub returns-in-Ok-read-clause-held : goal.returns-in-Ok-read-clause-held
@@ -14,3 +14,15 @@ returns-in-Ok-read-clause-held g c zero = record {
 
 pub returns-clause-held : goal.returns-clause-held
 returns-clause-held g c zero = absurd (not_held _ c.write_refusal.ensures.status zero)
+
+pub returns-in-Ok-read-clause-missed : goal.returns-in-Ok-read-clause-missed
+returns-in-Ok-read-clause-missed g c one = record {
+  bytes = c.in-Ok-read.ensures.bytes;
+  are_known = c.in-Ok-read.ensures.are_known;
+  holds =
+      let P : Bool → Type 0 = λ t. IsPlayedInPart t (g.W.Write.contents c.args.writer.now) (g.W.Write.contents c.play_text.new.writer) c.in-Ok-read.ensures.bytes in
+      subst P c.has_terminals-terminals.ensures (c.play_text.ensures.missed one c.in-Ok-read.ensures.bytes c.in-Ok-read.ensures.keeps);
+}
+
+pub returns-clause-missed : goal.returns-clause-missed
+returns-clause-missed g c one = absurd (not_missed _ c.write_refusal.ensures.status one)

@@ -5,12 +5,12 @@ use Rattle.book_play.specs.Played.{last_of}
 use Rattle.book_play.proofs.Runs.{run_held, run_printed, no_expectation}
 use Rattle.book_play.proofs.player.Player.obey.Goals as goal
 
-pub returns-then-has_printed : goal.returns-then-has_printed
-returns-then-has_printed g c on before first run =
+pub returns-then-has_printed-clause-goes : goal.returns-then-has_printed-clause-goes
+returns-then-has_printed-clause-goes g c on before first run =
     run_held before (plain_said c.args.said.now) c.in-Expect.text.items first _ _ (ap plain_command c.in-Expect.is)
-    (c.has_printed.ensures c.if-has_printed.true ∙ ap Some c.deref.ensures.value) run
+    (c.has_printed.ensures.0 c.if-has_printed.true ∙ ap Some c.deref.ensures.value) run
 
-pub returns-in_ok-print-in_default : goal.returns-in_ok-print-in_default
-returns-in_ok-print-in_default g c on before first run =
+pub returns-in_ok-print-in_default-clause-goes : goal.returns-in_ok-print-in_default-clause-goes
+returns-in_ok-print-in_default-clause-goes g c on before first run =
     run_printed before (plain_said c.args.said.now) c.in_ok-line-in_default.line.items first _ _ _ _
     (no_expectation c.args.said.now.command c.in_default.not-Expect) c.in_ok-print-in_default.ensures.written c.in_ok-print-in_default.ensures.last run
