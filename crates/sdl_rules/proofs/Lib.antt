@@ -10,6 +10,7 @@ pub mod Items
 pub mod Joined
 pub mod Joiners
 pub mod Joining
+pub mod Knowing
 pub mod Lists
 pub mod Marking
 pub mod Measuring

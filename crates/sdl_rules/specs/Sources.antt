@@ -4,10 +4,12 @@ use Rattle.std.specs.List.{list_all, flat_map}
 use Rattle.std.specs.Option.{option_map_or}
 use Rattle.sdl_tree.specs.Plain.{Text, PlainInput, PlainProcess, PlainBlock}
 use Rattle.sdl_tree.specs.Views.{input_of}
-use Rattle.sdl_tables.specs.Names.{input_parts}
+use Rattle.sdl_tree.specs.declared.expression.Identifier.{Identifier}
+use Rattle.sdl_tables.specs.Names.{input_parts, is_in}
 use Rattle.sdl_rules.specs.Joins.{reaches}
 use Rattle.sdl_rules.specs.Actions.{Origin, begins, input_origins}
 use Rattle.sdl_rules.specs.Receivers.{party_of, carries, answers_all}
+use Rattle.sdl_rules.specs.declared.known.KnownSenders.{KnownSenders}
 use Rattle.sdl_rules.specs.declared.sources.Reaching.{Reaching}
 use Rattle.sdl_rules.specs.declared.sources.Sender.{Sender}
 use Rattle.sdl_rules.specs.declared.sources.Sender.TheVariants.{Nobody, Party}
@@ -28,6 +30,16 @@ gets_back b p s (Party q) = carries b (party_of p) q s
 -- These senders are all who may have sent one of these: what they all get is what each of these allows.
 unfoldable pub AreSenders : PlainBlock → PlainProcess → List Sender → List Origin → Type 0
 AreSenders b p senders from = (s : List ℕ) → list_all (gets_back b p s) senders ≡ answers_all b p from s
+
+-- each of these signals gets back to all who may have sent one of these, or each doesn't
+unfoldable pub AreAlike : PlainBlock → PlainProcess → List Origin → Bool → List Identifier → Type 0
+AreAlike b p from back ids = (s : List ℕ) → is_in ids s ≡ true → answers_all b p from s ≡ back
+
+-- the senders of one of these, and what is known of signals
+pub record Knows (b : PlainBlock) (p : PlainProcess) (k : KnownSenders) (from : List Origin) : Type 0 where
+  pub senders : AreSenders b p k.list.items from
+  pub back : AreAlike b p from true k.back
+  pub lost : AreAlike b p from false k.lost
 
 -- What gets back to those who were gathered is what f allows, and whatever f allows gets back to each party that was seen.
 pub record Gathers (b : PlainBlock) (p : PlainProcess) (g : Senders) (f : List ℕ → Bool) : Type 0 where

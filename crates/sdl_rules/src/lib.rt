@@ -9,6 +9,7 @@ mod flows;
 mod going;
 mod graph;
 mod joins;
+mod known;
 mod laws;
 mod limits;
 mod measures;

@@ -1,14 +1,14 @@
 //! The rules on receivers: the first OUTPUT that nobody gets, or more than one.
 ghost use Rattle.std.specs.Prelude.{◌≡◌, List, Some, map};
-ghost use Rattle.std.specs.List.{list_all, flat_map};
+ghost use Rattle.std.specs.List.{flat_map};
 ghost use Rattle.sdl_tree.specs.Views.{sending_of, action_of, process_of, block_of};
 ghost use Rattle.sdl_tables.specs.Scopes.{Marks};
 ghost use Rattle.sdl_rules.specs.Receivers.{party_of, receivers, arrives, lost_sending, lost_action, is_doubtful, doubtful_sending, doubtful_action};
 ghost use Rattle.sdl_rules.specs.Actions.{Origin};
-ghost use Rattle.sdl_rules.specs.Sources.{gets_back, AreSenders};
+ghost use Rattle.sdl_rules.specs.Sources.{Knows};
 ghost use Rattle.sdl_rules.specs.Founds.{Counts};
 
-use crate::sources::Sender;
+use crate::known::{KnownSenders, party_of};
 use sdl_lex::Name;
 use sdl_tables::{BlockTable, ProcessTable, earlier};
 use sdl_tree::{Action, Destination, Party, Sending};
@@ -24,13 +24,6 @@ pub enum Recipients {
     Several,
 }
 
-// A process as a party.
-fn party_of(process: &ProcessTable) -> Party
-    ensures { result ≡ party_of (process_of process.now) }
-{
-    Party::Process(process.process().name)
-}
-
 /// Who gets a signal that a party sends to nobody in particular.
 pub fn find_receivers(block: &BlockTable, from: &Party, signal: Name) -> Recipients
     ensures { Counts result (receivers (block_of block.now) from.now signal) }
@@ -42,40 +35,19 @@ pub fn find_receivers(block: &BlockTable, from: &Party, signal: Name) -> Recipie
     }
 }
 
-// Whether a signal gets back to who sent what a transition begins with.
-fn gets_back(block: &BlockTable, process: &ProcessTable, signal: Name, sender: &Sender) -> bool
-    ensures { result ≡ gets_back (block_of block.now) (process_of process.now) signal sender.now }
-{
-    match sender {
-        Sender::Nobody => false,
-        Sender::Party(party) => block.carries(&party_of(process), party, signal),
-    }
-}
-
-// The same for all of them.
-fn all_get_back(block: &BlockTable, process: &ProcessTable, signal: Name, from: &[Sender]) -> bool
-    ensures { result ≡ list_all (gets_back (block_of block.now) (process_of process.now) signal) from.now }
-{
-    let mut all = true;
-    for sender in from {
-        all = all && gets_back(block, process, signal, sender);
-    }
-    all
-}
-
 // Whether a signal that says to whom it goes gets there.
 fn arrives_at(
     block: &BlockTable,
     process: &ProcessTable,
-    from: &[Sender],
+    from: &KnownSenders,
     to: &Destination,
     signal: Name,
 ) -> bool
-    ensures { (os : List Origin) → AreSenders (block_of block.now) (process_of process.now) from.now os
+    ensures { (os : List Origin) → Knows (block_of block.now) (process_of process.now) from.now os
         → result ≡ arrives (block_of block.now) (process_of process.now) os (Some to.now) signal }
 {
     match to {
-        Destination::Sender(_) => all_get_back(block, process, signal, from),
+        Destination::Sender(_) => from.all_get(block, process, signal),
         Destination::Process(id) => {
             block.carries(&party_of(process), &Party::Process(*id), signal)
         }
@@ -85,11 +57,11 @@ fn arrives_at(
 fn arrives(
     block: &BlockTable,
     process: &ProcessTable,
-    from: &[Sender],
+    from: &KnownSenders,
     to: &Option<Destination>,
     signal: Name,
 ) -> bool
-    ensures { (os : List Origin) → AreSenders (block_of block.now) (process_of process.now) from.now os
+    ensures { (os : List Origin) → Knows (block_of block.now) (process_of process.now) from.now os
         → result ≡ arrives (block_of block.now) (process_of process.now) os to.now signal }
 {
     match to {
@@ -105,11 +77,11 @@ fn arrives(
 fn lost_sending(
     block: &BlockTable,
     process: &ProcessTable,
-    from: &[Sender],
+    from: &KnownSenders,
     to: &Option<Destination>,
     sending: &Sending,
 ) -> Option<u32>
-    ensures { (os : List Origin) → AreSenders (block_of block.now) (process_of process.now) from.now os
+    ensures { (os : List Origin) → Knows (block_of block.now) (process_of process.now) from.now os
         → Marks result (lost_sending (block_of block.now) (process_of process.now) os to.now (sending_of sending.now)) }
 {
     if arrives(block, process, from, to, sending.signal.name) {
@@ -122,11 +94,11 @@ fn lost_sending(
 fn lost_sendings(
     block: &BlockTable,
     process: &ProcessTable,
-    from: &[Sender],
+    from: &KnownSenders,
     to: &Option<Destination>,
     sendings: &[Sending],
 ) -> Option<u32>
-    ensures { (os : List Origin) → AreSenders (block_of block.now) (process_of process.now) from.now os
+    ensures { (os : List Origin) → Knows (block_of block.now) (process_of process.now) from.now os
         → Marks result (flat_map (lost_sending (block_of block.now) (process_of process.now) os to.now) (map sending_of sendings.now)) }
 {
     let mut place = None;
@@ -140,10 +112,10 @@ fn lost_sendings(
 pub(crate) fn lost_in_action(
     block: &BlockTable,
     process: &ProcessTable,
-    from: &[Sender],
+    from: &KnownSenders,
     action: &Action,
 ) -> Option<u32>
-    ensures { (os : List Origin) → AreSenders (block_of block.now) (process_of process.now) from.now os
+    ensures { (os : List Origin) → Knows (block_of block.now) (process_of process.now) from.now os
         → Marks result (lost_action (block_of block.now) (process_of process.now) os (action_of action.now)) }
 {
     match action {

@@ -51,10 +51,10 @@ fn check_names(alloc: Global, block: &BlockTable) -> Result<(), RuleFault>
     ensures kept { IfOk result (λ _. IsSingle (block_of block.now)) }
     ensures refused { IfErr result (λ e. Refuses (block_of block.now) e) }
 {
-    if let Some(at) = unknown_name(block) {
+    if let Some(at) = unknown_name(alloc, block) {
         return Err(RuleFault::UnknownName(at));
     }
-    if let Some(at) = wrong_sort(block) {
+    if let Some(at) = wrong_sort(alloc, block) {
         return Err(RuleFault::WrongSort(at));
     }
     if let Some(at) = stray_end(block) {
@@ -63,7 +63,7 @@ fn check_names(alloc: Global, block: &BlockTable) -> Result<(), RuleFault>
     if let Some(at) = lost_output(alloc, block)? {
         return Err(RuleFault::NoReceiver(at));
     }
-    if let Some(at) = doubtful_output(block) {
+    if let Some(at) = doubtful_output(alloc, block) {
         return Err(RuleFault::TwoReceivers(at));
     }
     Ok(())
@@ -83,15 +83,15 @@ fn check_joins(alloc: Global, block: &BlockTable) -> Result<Vec<Vec<usize>>, Rul
 }
 
 // The rules on answers and divisors.
-fn check_answers(block: &BlockTable) -> Result<(), RuleFault>
+fn check_answers(alloc: Global, block: &BlockTable) -> Result<(), RuleFault>
     requires { IsJoined (block_of block.now) }
     ensures kept { IfOk result (λ _. IsDivided (block_of block.now)) }
     ensures refused { IfErr result (λ e. Refuses (block_of block.now) e) }
 {
-    if let Some(at) = missing_answer(block) {
+    if let Some(at) = missing_answer(alloc, block) {
         return Err(RuleFault::NoAnswer(at));
     }
-    if let Some(at) = bad_divisor(block) {
+    if let Some(at) = bad_divisor(alloc, block) {
         return Err(RuleFault::BadDivisor(at));
     }
     Ok(())
@@ -135,7 +135,7 @@ fn check_rules(alloc: Global, block: &BlockTable) -> Result<Findings, RuleFault>
 {
     check_names(alloc, block)?;
     let orders = check_joins(alloc, block)?;
-    check_answers(block)?;
+    check_answers(alloc, block)?;
     let measures = check_limits(alloc, block, &orders)?;
     match settle(alloc, block, &orders)? {
         Ok(sets) => Ok(Findings {

@@ -1,5 +1,5 @@
 //! Who may have sent what the transitions begin with that come to a statement.
-ghost use Rattle.std.specs.Prelude.{◌≡◌, ◌&&◌, false, ℕ, Bool, [], List, map, IfOk, OnOk};
+ghost use Rattle.std.specs.Prelude.{◌≡◌, ◌&&◌, false, ℕ, Bool, [], ◌∷◌, List, map, IfOk, OnOk};
 ghost use Rattle.std.specs.List.{list_all};
 ghost use Rattle.sdl_tree.specs.declared.tree.Party as tree;
 ghost use Rattle.sdl_tree.specs.Plain.{PlainBlock, PlainProcess};
@@ -8,7 +8,7 @@ ghost use Rattle.sdl_tables.specs.Names.{connector_names};
 ghost use Rattle.sdl_tables.specs.Scopes.{repeats};
 ghost use Rattle.sdl_rules.specs.Links.{graph_in, IsGraph};
 ghost use Rattle.sdl_rules.specs.Orders.{links_of};
-ghost use Rattle.sdl_rules.specs.Actions.{takes, input_origins};
+ghost use Rattle.sdl_rules.specs.Actions.{begins, takes, input_origins};
 ghost use Rattle.sdl_rules.specs.Receivers.{party_of, carries, answers, answers_all};
 ghost use Rattle.sdl_rules.specs.Sources.{gets_back, source_origins, reach_row, row_of, process_rows, is_marked, origins_at, AreSenders, Gathers};
 
@@ -119,6 +119,15 @@ impl Senders {
             Source::Input(input) => self.add_stimuli(block, process, &input.stimuli),
         }
     }
+}
+
+/// Who may have sent what START begins with: nobody.
+pub(crate) fn start_senders(alloc: Global) -> Result<Vec<Sender>, AllocError>
+    ensures { IfOk result (λ v. (b : PlainBlock) (p : PlainProcess) → AreSenders b p v.items (begins ∷ [])) }
+{
+    let mut senders = Senders::new(alloc);
+    senders.add(&Sender::Nobody)?;
+    Ok(senders.list)
 }
 
 /// Who may have sent what an INPUT takes.

@@ -12,19 +12,20 @@ ghost use Rattle.sdl_rules.specs.Divisors.{bad_divisors};
 ghost use Rattle.sdl_rules.specs.declared.statements.StatementRule.TheVariants.{Receivers};
 ghost use Rattle.sdl_rules.specs.Statements.{acts, covers, finishes, statements_of, choice_statements};
 ghost use Rattle.sdl_rules.specs.Actions.{Origin, begins, in_input, in_connection, in_statements};
-ghost use Rattle.sdl_rules.specs.Sources.{AreSenders};
+ghost use Rattle.sdl_rules.specs.Sources.{AreSenders, Knows};
 ghost use Rattle.sdl_rules.specs.Parts.{statement_parts, question_of, decision_parts, answer_parts, end_parts};
 ghost use Rattle.sdl_rules.specs.Asked.{asked, asked_all, asks_origin};
 
 use crate::decisions::unanswered_decision;
 use crate::divisors::{bad_in, bad_in_action};
+use crate::known::{KnownSenders, learn_transition};
 use crate::names::{
     unknown_connector, unknown_in_action, unknown_in_block, unknown_in_expression,
     unknown_in_inputs, unknown_in_parts,
 };
 use crate::receivers::{doubtful_in_action, lost_in_action};
 use crate::sorts::{wrong_declaration, wrong_in, wrong_in_action, wrong_in_ranges};
-use crate::sources::{Sender, find_reaching, input_senders, senders_at};
+use crate::sources::{Sender, find_reaching, input_senders, senders_at, start_senders};
 use sdl_tables::{BlockTable, ProcessTable, earlier};
 use sdl_tree::{
     Action, Connection, Decision, End, Expression, InputPart, Range, Statement, Transition,
@@ -52,10 +53,10 @@ fn in_action(
     rule: StatementRule,
     block: &BlockTable,
     process: &ProcessTable,
-    from: &[Sender],
+    from: &KnownSenders,
     action: &Action,
 ) -> Option<u32>
-    ensures { (os : List Origin) → AreSenders (block_of block.now) (process_of process.now) from.now os
+    ensures { (os : List Origin) → Knows (block_of block.now) (process_of process.now) from.now os
         → Marks result (asked rule (block_of block.now) (process_of process.now) os (acts (action_of action.now))) }
 {
     match rule {
@@ -128,10 +129,10 @@ fn in_transition(
     rule: StatementRule,
     block: &BlockTable,
     process: &ProcessTable,
-    from: &[Sender],
+    from: &KnownSenders,
     transition: &Transition,
 ) -> Option<u32>
-    ensures { (os : List Origin) → AreSenders (block_of block.now) (process_of process.now) from.now os
+    ensures { (os : List Origin) → Knows (block_of block.now) (process_of process.now) from.now os
         → Marks result (asked_all rule (block_of block.now) (process_of process.now) os (statements_of (text_of transition.now))) }
 {
     let mut place = None;
@@ -146,10 +147,10 @@ fn in_statement(
     rule: StatementRule,
     block: &BlockTable,
     process: &ProcessTable,
-    from: &[Sender],
+    from: &KnownSenders,
     statement: &Statement,
 ) -> Option<u32>
-    ensures { (os : List Origin) → AreSenders (block_of block.now) (process_of process.now) from.now os
+    ensures { (os : List Origin) → Knows (block_of block.now) (process_of process.now) from.now os
         → Marks result (asked_all rule (block_of block.now) (process_of process.now) os (statement_parts statement.now)) }
 {
     match statement {
@@ -163,10 +164,10 @@ fn in_decision(
     rule: StatementRule,
     block: &BlockTable,
     process: &ProcessTable,
-    from: &[Sender],
+    from: &KnownSenders,
     decision: &Decision,
 ) -> Option<u32>
-    ensures { (os : List Origin) → AreSenders (block_of block.now) (process_of process.now) from.now os
+    ensures { (os : List Origin) → Knows (block_of block.now) (process_of process.now) from.now os
         → Marks result (asked_all rule (block_of block.now) (process_of process.now) os (decision_parts decision.now)) }
 {
     let question = in_question(rule, process, decision);
@@ -188,10 +189,10 @@ fn in_else(
     rule: StatementRule,
     block: &BlockTable,
     process: &ProcessTable,
-    from: &[Sender],
+    from: &KnownSenders,
     otherwise: &Option<Transition>,
 ) -> Option<u32>
-    ensures { (q : Tree) (os : List Origin) → AreSenders (block_of block.now) (process_of process.now) from.now os
+    ensures { (q : Tree) (os : List Origin) → Knows (block_of block.now) (process_of process.now) from.now os
         → Marks result (asked_all rule (block_of block.now) (process_of process.now) os (choice_statements q (else_choice otherwise.now))) }
 {
     match otherwise {
@@ -200,15 +201,23 @@ fn in_else(
     }
 }
 
-fn in_start(rule: StatementRule, block: &BlockTable, process: &ProcessTable) -> Option<u32>
+fn in_start(
+    alloc: Global,
+    rule: StatementRule,
+    block: &BlockTable,
+    process: &ProcessTable,
+) -> Option<u32>
+    requires { asks_origin rule ≡ false }
     ensures { Marks result (flat_map (asked rule (block_of block.now) (process_of process.now) (begins ∷ [])) (statements_of (process_of process.now).start.text)) }
 {
     let transition = &process.process().start.transition;
-    in_transition(rule, block, process, &[Sender::Nobody], transition)
+    let from = KnownSenders::none(alloc);
+    in_transition(rule, block, process, &from, transition)
 }
 
 // What a rule asks that doesn't look at with what transitions begin.
 fn in_input(
+    alloc: Global,
     rule: StatementRule,
     block: &BlockTable,
     process: &ProcessTable,
@@ -217,10 +226,12 @@ fn in_input(
     requires { asks_origin rule ≡ false }
     ensures { Marks result (in_input (asked rule (block_of block.now) (process_of process.now)) (input_of input.now)) }
 {
-    in_transition(rule, block, process, &[], &input.transition)
+    let from = KnownSenders::none(alloc);
+    in_transition(rule, block, process, &from, &input.transition)
 }
 
 fn in_inputs(
+    alloc: Global,
     rule: StatementRule,
     block: &BlockTable,
     process: &ProcessTable,
@@ -231,12 +242,13 @@ fn in_inputs(
 {
     let mut place = None;
     for input in inputs {
-        place = earlier(place, in_input(rule, block, process, input));
+        place = earlier(place, in_input(alloc, rule, block, process, input));
     }
     place
 }
 
 fn in_connection(
+    alloc: Global,
     rule: StatementRule,
     block: &BlockTable,
     process: &ProcessTable,
@@ -245,10 +257,12 @@ fn in_connection(
     requires { asks_origin rule ≡ false }
     ensures { Marks result (in_connection (asked rule (block_of block.now) (process_of process.now)) (process_of process.now) (connection_of connection.now)) }
 {
-    in_transition(rule, block, process, &[], &connection.transition)
+    let from = KnownSenders::none(alloc);
+    in_transition(rule, block, process, &from, &connection.transition)
 }
 
 fn in_connections(
+    alloc: Global,
     rule: StatementRule,
     block: &BlockTable,
     process: &ProcessTable,
@@ -259,31 +273,76 @@ fn in_connections(
 {
     let mut place = None;
     for connection in connections {
-        place = earlier(place, in_connection(rule, block, process, connection));
+        place = earlier(
+            place,
+            in_connection(alloc, rule, block, process, connection),
+        );
     }
     place
 }
 
-fn in_process(rule: StatementRule, block: &BlockTable, process: &ProcessTable) -> Option<u32>
+fn in_process(
+    alloc: Global,
+    rule: StatementRule,
+    block: &BlockTable,
+    process: &ProcessTable,
+) -> Option<u32>
     requires { asks_origin rule ≡ false }
     ensures { Marks result (in_statements (asked rule (block_of block.now) (process_of process.now)) (process_of process.now)) }
 {
-    let start = in_start(rule, block, process);
-    let inputs = in_inputs(rule, block, process, process.parts());
+    let start = in_start(alloc, rule, block, process);
+    let inputs = in_inputs(alloc, rule, block, process, process.parts());
     let connections = &process.process().connections;
-    let beyond = earlier(inputs, in_connections(rule, block, process, connections));
+    let beyond = earlier(
+        inputs,
+        in_connections(alloc, rule, block, process, connections),
+    );
     earlier(start, beyond)
 }
 
-fn in_processes(rule: StatementRule, block: &BlockTable, processes: &[ProcessTable]) -> Option<u32>
+fn in_processes(
+    alloc: Global,
+    rule: StatementRule,
+    block: &BlockTable,
+    processes: &[ProcessTable],
+) -> Option<u32>
     requires { asks_origin rule ≡ false }
     ensures { Marks result (flat_map (λ p. in_statements (asked rule (block_of block.now) p) p) (map process_of processes.now)) }
 {
     let mut place = None;
     for process in processes {
-        place = earlier(place, in_process(rule, block, process));
+        place = earlier(place, in_process(alloc, rule, block, process));
     }
     place
+}
+
+// The place of a signal in a transition that nobody gets, where these may have sent what it begins with.
+fn lost_in_transition(
+    alloc: Global,
+    block: &BlockTable,
+    process: &ProcessTable,
+    senders: Vec<Sender>,
+    transition: &Transition,
+) -> Result<Option<u32>, AllocError>
+    ensures { IfOk result (λ place. (os : List Origin) → AreSenders (block_of block.now) (process_of process.now) senders.items os
+        → Marks place (asked_all Receivers (block_of block.now) (process_of process.now) os (statements_of (text_of transition.now)))) }
+{
+    let mut known = KnownSenders::new(alloc, senders);
+    learn_transition(&mut known, block, process, transition)?;
+    let rule = StatementRule::Receivers;
+    Ok(in_transition(rule, block, process, &known, transition))
+}
+
+fn lost_in_start(
+    alloc: Global,
+    block: &BlockTable,
+    process: &ProcessTable,
+) -> Result<Option<u32>, AllocError>
+    ensures { IfOk result (λ place. Marks place (flat_map (asked Receivers (block_of block.now) (process_of process.now) (begins ∷ [])) (statements_of (process_of process.now).start.text))) }
+{
+    let senders = start_senders(alloc)?;
+    let transition = &process.process().start.transition;
+    lost_in_transition(alloc, block, process, senders, transition)
 }
 
 // The place of a signal in an INPUT's transition that nobody gets.
@@ -296,8 +355,7 @@ fn lost_in_input(
     ensures { IfOk result (λ place. Marks place (in_input (asked Receivers (block_of block.now) (process_of process.now)) (input_of input.now))) }
 {
     let senders = input_senders(alloc, block, process, input)?;
-    let rule = StatementRule::Receivers;
-    Ok(in_transition(rule, block, process, &senders, &input.transition))
+    lost_in_transition(alloc, block, process, senders, &input.transition)
 }
 
 fn lost_in_inputs(
@@ -329,8 +387,8 @@ fn lost_in_connections(
     let mut place = None;
     for (number, connection) in connections.iter().enumerate() {
         let senders = senders_at(alloc, block, process, &rows, number)?;
-        let rule = StatementRule::Receivers;
-        let lost = in_transition(rule, block, process, &senders, &connection.transition);
+        let transition = &connection.transition;
+        let lost = lost_in_transition(alloc, block, process, senders, transition)?;
         place = earlier(place, lost);
     }
     Ok(place)
@@ -343,7 +401,7 @@ fn lost_in_process(
 ) -> Result<Option<u32>, AllocError>
     ensures { IfOk result (λ place. Marks place (in_statements (asked Receivers (block_of block.now) (process_of process.now)) (process_of process.now))) }
 {
-    let start = in_start(StatementRule::Receivers, block, process);
+    let start = lost_in_start(alloc, block, process)?;
     let inputs = lost_in_inputs(alloc, block, process, process.parts())?;
     let connections = &process.process().connections;
     let beyond = earlier(
@@ -367,41 +425,48 @@ fn lost_in_processes(
     Ok(place)
 }
 
-fn unknown_in_process(block: &BlockTable, process: &ProcessTable) -> Option<u32>
+fn unknown_in_process(alloc: Global, block: &BlockTable, process: &ProcessTable) -> Option<u32>
     ensures { Marks result (process_unknown (block_of block.now) (process_of process.now)) }
 {
     let inputs = unknown_in_inputs(block, process, process.parts());
     let saves = unknown_in_parts(block, process, &process.process().states);
-    let beyond = earlier(saves, in_process(StatementRule::Names, block, process));
+    let beyond = earlier(
+        saves,
+        in_process(alloc, StatementRule::Names, block, process),
+    );
     earlier(inputs, beyond)
 }
 
-fn unknown_in_processes(block: &BlockTable, processes: &[ProcessTable]) -> Option<u32>
+fn unknown_in_processes(
+    alloc: Global,
+    block: &BlockTable,
+    processes: &[ProcessTable],
+) -> Option<u32>
     ensures { Marks result (flat_map (process_unknown (block_of block.now)) (map process_of processes.now)) }
 {
     let mut place = None;
     for process in processes {
-        place = earlier(place, unknown_in_process(block, process));
+        place = earlier(place, unknown_in_process(alloc, block, process));
     }
     place
 }
 
 /// The place of a name that its class and scope lack.
-pub(crate) fn unknown_name(block: &BlockTable) -> Option<u32>
+pub(crate) fn unknown_name(alloc: Global, block: &BlockTable) -> Option<u32>
     ensures { Marks result (unknown_names (block_of block.now)) }
 {
     let routes = unknown_in_block(block);
-    earlier(routes, unknown_in_processes(block, block.tables()))
+    earlier(routes, unknown_in_processes(alloc, block, block.tables()))
 }
 
 /// The place of a wrong sort, or of a signal with a wrong number of parameters or too many places.
-pub(crate) fn wrong_sort(block: &BlockTable) -> Option<u32>
+pub(crate) fn wrong_sort(alloc: Global, block: &BlockTable) -> Option<u32>
     ensures { Marks result (wrong_sorts (block_of block.now)) }
 {
     let declared = wrong_declaration(block, block.tables());
     earlier(
         declared,
-        in_processes(StatementRule::Sorts, block, block.tables()),
+        in_processes(alloc, StatementRule::Sorts, block, block.tables()),
     )
 }
 
@@ -413,22 +478,22 @@ pub(crate) fn lost_output(alloc: Global, block: &BlockTable) -> Result<Option<u3
 }
 
 /// The place of a signal in an OUTPUT that two parties or more get.
-pub(crate) fn doubtful_output(block: &BlockTable) -> Option<u32>
+pub(crate) fn doubtful_output(alloc: Global, block: &BlockTable) -> Option<u32>
     ensures { Marks result (with_two_receivers (block_of block.now)) }
 {
-    in_processes(StatementRule::OneReceiver, block, block.tables())
+    in_processes(alloc, StatementRule::OneReceiver, block, block.tables())
 }
 
 /// The place of a DECISION in which some value has no answer, or more than one.
-pub(crate) fn missing_answer(block: &BlockTable) -> Option<u32>
+pub(crate) fn missing_answer(alloc: Global, block: &BlockTable) -> Option<u32>
     ensures { Marks result (unanswered (block_of block.now)) }
 {
-    in_processes(StatementRule::Answers, block, block.tables())
+    in_processes(alloc, StatementRule::Answers, block, block.tables())
 }
 
 /// The place of a divisor that is no literal of 1 or more.
-pub(crate) fn bad_divisor(block: &BlockTable) -> Option<u32>
+pub(crate) fn bad_divisor(alloc: Global, block: &BlockTable) -> Option<u32>
     ensures { Marks result (bad_divisors (block_of block.now)) }
 {
-    in_processes(StatementRule::Divisors, block, block.tables())
+    in_processes(alloc, StatementRule::Divisors, block, block.tables())
 }

@@ -6,7 +6,6 @@ use Rattle.sdl_tree.specs.Views.{block_of, process_of, connection_of}
 use Rattle.sdl_rules.specs.Actions.{connection_origins, in_connection}
 use Rattle.sdl_rules.specs.Asked.{asked}
 use Rattle.sdl_rules.specs.Sources.{Row, AreSenders, row_of, origins_at}
-use Rattle.sdl_rules.specs.declared.sources.Sender.{Sender}
 use Rattle.sdl_rules.specs.declared.sources.Reaching.{Reaching}
 use Rattle.sdl_rules.specs.declared.statements.StatementRule.TheVariants.{Receivers}
 use Rattle.sdl_rules.proofs.Coming.{origins_at-is}
@@ -25,8 +24,7 @@ loop-number-preserved c =
     ∙ (slice_get-map connection_of c.args.connections.now n
     ∙ ap (option_map connection_of) (slice_get-get_or c.args.connections.now n item c.loop-number-test.true ∙ ap Some (sym c.index-connections-number.is))) in
     let rows = ap (λ (rs : List Reaching). origins_at (map row_of rs) n) c.deref.ensures.value ∙ ap (λ (rs : List Row). origins_at rs n) c.in_ok-rows.ensures in
-    let given = subst (λ (l : List Sender). AreSenders b p l (origins_at (map row_of c.deref.result.now) n)) (sym c.deref-in-loop-number.ensures.value) c.in_ok-senders.ensures in
-    let from = subst (AreSenders b p c.deref-in-loop-number.result.now) (rows ∙ origins_at-is p n (connection_of item) here) given in
-    let lost = c.in_transition-lost.ensures (connection_origins p (connection_of item)) from in
-    Marks-more (in_connection (asked Receivers b p) p) connection_of c.args.connections.now n item c.loop-number.place c.in_transition-lost.result
+    let from = subst (AreSenders b p c.in_ok-senders.senders.items) (rows ∙ origins_at-is p n (connection_of item) here) c.in_ok-senders.ensures in
+    let lost = c.in_ok-lost.ensures (connection_origins p (connection_of item)) from in
+    Marks-more (in_connection (asked Receivers b p) p) connection_of c.args.connections.now n item c.loop-number.place c.in_ok-lost.lost
     c.earlier-place.result c.loop-number-test.true c.index-connections-number.is c.loop-number.invariant lost c.earlier-place.ensures
