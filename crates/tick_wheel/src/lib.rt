@@ -4,6 +4,7 @@
 ghost use Rattle.std.specs.Prelude.{◌≡◌, ℕ, ◌+◌, ◌*◌, ◌^◌, ◌<◌, ◌≤◌, ◌↔◌, IfOk, IfSome, OnOk, OnErr, IsErrOf};
 ghost use Rattle.std.specs.Prelude.{length, map as list_map};
 ghost use Rattle.std.specs.FinMap as map;
+ghost use Rattle.tick_wheel.specs.Limits.{MOST_PROCESSES, MOST_TIMERS_EACH, MOST_TIMERS, MOST_TICKS, LAST_TICK};
 ghost use Rattle.tick_wheel.specs.Table.{timer_at, due_from, kept};
 
 use arrayvec::ArrayVec;
@@ -42,21 +43,21 @@ pub struct Timer {
 impl Model for Timer {
     ghost use Rattle.std.specs.Prelude.{◌<◌};
     ghost use Rattle.tick_wheel.specs.TimerId.{TimerId};
-    ghost use Rattle.tick_wheel.specs.declared.TheConstants.{PROCESSES, TIMERS_EACH};
+    ghost use Rattle.tick_wheel.specs.Limits.{MOST_PROCESSES, MOST_TIMERS_EACH};
 
     ghost Value = { TimerId };
 
     ghost view = { λ t. record { process = t.process; number = t.number } };
 
-    ghost invariant = { λ t. (t.process < PROCESSES) × (t.number < TIMERS_EACH) };
+    ghost invariant = { λ t. (t.process < MOST_PROCESSES) × (t.number < MOST_TIMERS_EACH) };
 
     ghost inverse = { λ v. record { process = v.process; number = v.number } };
 }
 
 impl Timer {
     pub const fn new(process: u8, number: u8) -> Self
-        requires process { process < PROCESSES }
-        requires number { number < TIMERS_EACH }
+        requires process { process < MOST_PROCESSES }
+        requires number { number < MOST_TIMERS_EACH }
         ensures { result ≡ record { process = process; number = number } }
     {
         Timer { process, number }
@@ -65,7 +66,7 @@ impl Timer {
     /// The number of the process.
     pub const fn process(self) -> u8
         ensures value { result ≡ self.process }
-        ensures in_range { result < PROCESSES }
+        ensures in_range { result < MOST_PROCESSES }
     {
         self.process
     }
@@ -73,14 +74,14 @@ impl Timer {
     /// The timer's own number in its process.
     pub const fn number(self) -> u8
         ensures value { result ≡ self.number }
-        ensures in_range { result < TIMERS_EACH }
+        ensures in_range { result < MOST_TIMERS_EACH }
     {
         self.number
     }
 
     // The timer of a place in a table with eight places for each process.
     fn at(place: usize) -> Self
-        requires { place < TIMERS }
+        requires { place < MOST_TIMERS }
         ensures { result ≡ timer_at place }
     {
         Timer::new((place / 8) as u8, (place % 8) as u8)
@@ -89,7 +90,7 @@ impl Timer {
     // The timer's place in a table with eight places for each process.
     fn place(self) -> usize
         ensures timer { timer_at result ≡ self }
-        ensures in_range { result < TIMERS }
+        ensures in_range { result < MOST_TIMERS }
     {
         usize::from(self.process) * 8 + usize::from(self.number)
     }
@@ -139,7 +140,7 @@ impl Model for Wheel {
     ghost use Rattle.std.specs.Prelude.{◌≡◌, ◌≤◌, ◌^◌, length};
     ghost use Rattle.tick_wheel.specs.Timers.{Timers, timers_code};
     ghost use Rattle.tick_wheel.specs.Table.{deadlines_of, NoneDue};
-    ghost use Rattle.tick_wheel.specs.declared.TheConstants.{TIMERS, LAST_CLOCK};
+    ghost use Rattle.tick_wheel.specs.Limits.{MOST_TIMERS, LAST_TICK};
 
     ghost Value = { Timers };
 
@@ -147,7 +148,7 @@ impl Model for Wheel {
 
     ghost view = { λ w. record { clock = w.clock; deadlines = deadlines_of w.deadlines.items } };
 
-    ghost invariant = { λ w. (length w.deadlines.items ≡ TIMERS) × (w.clock ≤ LAST_CLOCK) × NoneDue w.clock w.deadlines.items };
+    ghost invariant = { λ w. (length w.deadlines.items ≡ MOST_TIMERS) × (w.clock ≤ LAST_TICK) × NoneDue w.clock w.deadlines.items };
 }
 
 impl Wheel {
@@ -177,7 +178,7 @@ impl Wheel {
     /// The clock, in ticks. It is 2^62 at most.
     pub fn clock(&self) -> u64
         ensures value { result ≡ self.now.clock }
-        ensures in_range { result ≤ LAST_CLOCK }
+        ensures in_range { result ≤ LAST_TICK }
     {
         self.clock
     }
@@ -218,8 +219,8 @@ impl Wheel {
     ///
     /// `W1 TooFar` for more than 65,535 ticks, else `W2 ClockFull` where the clock would pass 2^62. Then nothing changes.
     pub fn advance(&mut self, ticks: u64) -> Result<ArrayVec<Due, TIMERS>, AdvanceError>
-        ensures too_far { IsErrOf result AdvanceError.TooFar ↔ (FARTHEST < ticks) }
-        ensures clock_full { IsErrOf result AdvanceError.ClockFull ↔ (ticks ≤ FARTHEST) × (LAST_CLOCK < self.old.clock + ticks) }
+        ensures too_far { IsErrOf result AdvanceError.TooFar ↔ (MOST_TICKS < ticks) }
+        ensures clock_full { IsErrOf result AdvanceError.ClockFull ↔ (ticks ≤ MOST_TICKS) × (LAST_TICK < self.old.clock + ticks) }
         ensures refused { OnErr result (self.new ≡ self.old) }
 
         ensures due { IfOk result (λ answer. answer.items ≡ due self.old.deadlines (self.old.clock + ticks)) }
@@ -244,7 +245,7 @@ impl Wheel {
 
 // What is due at the clock, in the order of the table.
 fn due_in(table: &[Option<u64>], clock: u64) -> ArrayVec<Due, TIMERS>
-    requires { length table.now ≡ TIMERS }
+    requires { length table.now ≡ MOST_TIMERS }
     ensures { result.items ≡ due_from clock 0 table.now }
 {
     let mut due = ArrayVec::new();
