@@ -1,4 +1,4 @@
-//! Jobs made once more.
+//! Jobs made once more, and compared with those that are out.
 
 ghost use Rattle.std.specs.Prelude.{◌≡◌, ◌↔◌, ◌≤◌, IsTrue, Option, Some, None, length, slice_get};
 ghost use Rattle.turn_code.specs.Fits.{Fits};
@@ -8,7 +8,7 @@ ghost use Rattle.link_machine.specs.Ledger.{turn_at, turn_given, turn_with};
 ghost use Rattle.link_machine.specs.declared.actor.Actor.{Actor as PlainActor};
 
 use link_machine::{Actor, Given, Standing};
-pub(crate) use same_job::same_job;
+use same_job::{is_turn, runs_piece};
 use turn_check::Verified;
 use turn_code::{Place, ProcessNumber};
 use turn_machine::{Job, Received};
@@ -57,5 +57,49 @@ pub(crate) fn job_at(set: &Verified, actors: &[Actor], number: u16) -> Option<Jo
     match actors.get(usize::from(number)) {
         Some(found) => job_of(set, number as u8, found),
         None => None,
+    }
+}
+
+/// Whether a job is that of a turn.
+fn is_job_with(set: &Verified, number: u8, place: Place, given: &Given, job: &Job) -> bool
+    ensures { IsTrue result ↔ (turn_with number place given.now (transition_at set.now number place given.now.number) ≡ Some job.now) }
+{
+    match set.transition(ProcessNumber(number), place, given.number) {
+        Some(transition) => {
+            is_turn(
+                job,
+                u16::from(number),
+                given.turn,
+                place,
+                given.number,
+                &given.input,
+            ) && runs_piece(job, ProcessNumber(number), transition.piece)
+        }
+        None => false,
+    }
+}
+
+/// Whether a job is that of an actor with a turn out.
+fn is_job_of(set: &Verified, number: u8, actor: &Actor, job: &Job) -> bool
+    ensures { IsTrue result ↔ (turn_given set.now number actor.now.standing actor.now.given ≡ Some job.now) }
+{
+    match actor.standing {
+        Standing::Stopped => false,
+        Standing::At(place) => match &actor.given {
+            Some(given) => is_job_with(set, number, place, given, job),
+            None => false,
+        },
+    }
+}
+
+/// Whether a job is the one that its actor has out. The code is compared with that of the set.
+pub(crate) fn is_job_out(set: &Verified, actors: &[Actor], job: &Job) -> bool
+    requires few { length actors.now ≤ 16 }
+    ensures { IsTrue result ↔ (turn_at set.now job.now.actor (slice_get actors.now job.now.actor) ≡ Some job.now) }
+{
+    let number = job.actor();
+    match actors.get(usize::from(number)) {
+        Some(found) => is_job_of(set, number as u8, found, job),
+        None => false,
     }
 }

@@ -8,7 +8,7 @@ ghost use Rattle.link_machine.specs.declared.reply.Reply.TheVariants as reply;
 ghost use Rattle.actor_book.specs.Answered.{answer_by, begun_by};
 
 use crate::book::Book;
-use crate::jobs::{job_at, same_job};
+use crate::jobs::{is_job_out, job_at};
 use link_machine::laws::{fits_law, keeps_law, set_law, state_law};
 use link_machine::{Event, Refusal, Report};
 use turn_machine::{Done, Job};
@@ -72,13 +72,11 @@ impl Book {
         job_at(&self.set, self.link.actors(), actor)
     }
 
+    #[tactic(auto, unfolding(link_machine::specs::Ledger::turn_out))]
     /// Whether the job that ran is the one that its actor has out.
     fn has_out(&self, done: &Done) -> bool
         ensures { IsTrue result ↔ (turn_out self.now done.now.actor ≡ Some done.now) }
     {
-        match self.job(done.job().actor()) {
-            Some(job) => same_job(&job, done.job()),
-            None => false,
-        }
+        is_job_out(&self.set, self.link.actors(), done.job())
     }
 }

@@ -1,9 +1,9 @@
-//! Whether two jobs are the same.
+//! What a job is compared with.
 
 ghost use Rattle.std.specs.Prelude.{◌≡◌, ◌↔◌, IsTrue};
 
 use crate::parts::same_code;
-use turn_code::{Cert, Place};
+use turn_code::{Cert, DraftPiece, Input, Place, ProcessNumber};
 use turn_machine::Job;
 
 fn same_certificate(left: Cert, right: Cert) -> bool
@@ -27,23 +27,29 @@ fn same_place(left: Place, right: Place) -> bool
     }
 }
 
-/// Whether it is the same turn of the same actor at the same place.
-fn same_turn(left: &Job, right: &Job) -> bool
-    ensures { IsTrue result ↔ ((left.now.actor ≡ right.now.actor) × (left.now.turn ≡ right.now.turn) × (left.now.process ≡ right.now.process) × (left.now.place ≡ right.now.place) × (left.now.input_number ≡ right.now.input_number)) }
+/// Whether a job is that of this turn of an actor: input `input_number` at this place, on this input. It takes no memory.
+pub fn is_turn(
+    job: &Job,
+    actor: u16,
+    turn: u64,
+    place: Place,
+    input_number: usize,
+    input: &Input,
+) -> bool
+    ensures { IsTrue result ↔ ((job.now.actor ≡ actor) × (job.now.turn ≡ turn) × (job.now.place ≡ place) × (job.now.input_number ≡ input_number) × (job.now.input ≡ input.now)) }
 {
-    left.actor() == right.actor()
-        && left.turn() == right.turn()
-        && left.process().0 == right.process().0
-        && same_place(left.place(), right.place())
-        && left.input_number() == right.input_number()
+    job.actor() == actor
+        && job.turn() == turn
+        && same_place(job.place(), place)
+        && job.input_number() == input_number
+        && job.input().same(input)
 }
 
-/// Whether it is the same job: the same turn of the same actor at the same place, with the same code, counts and input. It takes no memory.
-pub fn same_job(left: &Job, right: &Job) -> bool
-    ensures { IsTrue result ↔ (left.now ≡ right.now) }
+/// Whether a job runs this piece of this process: with the same code and the same counts. It takes no memory.
+pub fn runs_piece(job: &Job, process: ProcessNumber, piece: &DraftPiece) -> bool
+    ensures { IsTrue result ↔ ((job.now.process ≡ process) × (job.now.code ≡ piece.now.code) × (job.now.certificate ≡ piece.now.certificate)) }
 {
-    same_turn(left, right)
-        && left.input().same(right.input())
-        && same_certificate(left.certificate(), right.certificate())
-        && same_code(left.code(), right.code())
+    job.process().0 == process.0
+        && same_certificate(job.certificate(), piece.certificate)
+        && same_code(job.code(), piece.code.as_slice())
 }

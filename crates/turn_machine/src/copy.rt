@@ -10,10 +10,9 @@ pub(crate) fn copied_code(code: &[Instruction]) -> ArrayVec<Instruction, 512>
     requires { length code.now ≤ 512 }
     ensures { result.items ≡ code.now }
 {
-    match ArrayVec::try_from(code) {
-        Ok(copy) => copy,
-        Err(_) => unreachable!(),
-    }
+    let mut copy = ArrayVec::new();
+    copy.try_extend_from_slice(code).unwrap();
+    copy
 }
 
 /// The effects once more.
