@@ -207,21 +207,21 @@ impl Port {
     }
 }
 
-// How many of the items are signals.
+/// How many of the items are signals.
 fn count_signals(items: &[Item]) -> usize
     ensures { result ≡ signal_count items.now }
 {
     items.iter().filter(|item| item.is_signal()).count()
 }
 
-// Whether one of the items is that of a timer.
+/// Whether one of the items is that of a timer.
 fn any_of_timer(items: &[Item], timer: TimerNumber) -> bool
     ensures { result ≡ has_timer items.now timer.0 }
 {
     items.iter().any(|item| item.is_of_timer(timer))
 }
 
-// The place of the first item that isn't saved.
+/// The place of the first item that isn't saved.
 fn place_of_first(items: &[Item], saved: &Saved) -> Option<usize>
     ensures found { IfSome result (λ place. slice_get items.now place ≡ first_unsaved (saves saved.now) items.now) }
     ensures in_range { IfSome result (λ place. place < length items.now) }
@@ -237,7 +237,7 @@ fn place_of_first(items: &[Item], saved: &Saved) -> Option<usize>
     None
 }
 
-// Appends an item where there is room.
+/// Appends an item where there is room.
 fn push_in_room(items: &mut Vec<Item>, item: Item)
     requires { vec_len items.old < vec_capacity items.old }
     ensures items { items.new.items ≡ items.old.items ++ item ∷ [] }
@@ -246,7 +246,7 @@ fn push_in_room(items: &mut Vec<Item>, item: Item)
     items.push(item).unwrap();
 }
 
-// An equal item.
+/// An equal item.
 fn copy_of(item: &Item) -> Result<Item, AllocError>
     ensures { IfOk result (λ copy. copy ≡ item.now) }
 {
@@ -260,7 +260,7 @@ fn copy_of(item: &Item) -> Result<Item, AllocError>
     }
 }
 
-// Appends a copy of each item.
+/// Appends a copy of each item.
 fn copy_to(copies: &mut Vec<Item>, items: &[Item]) -> Result<(), AllocError>
     ensures items { OnOk result (copies.new.items ≡ copies.old.items ++ items.now) }
     ensures capacity { OnOk result (vec_capacity copies.old ≤ vec_capacity copies.new) }
@@ -271,7 +271,7 @@ fn copy_to(copies: &mut Vec<Item>, items: &[Item]) -> Result<(), AllocError>
     Ok(())
 }
 
-// Removes the item of a timer.
+/// Removes the item of a timer.
 fn remove_timer(items: &mut Vec<Item>, timer: TimerNumber)
     ensures items { items.new.items ≡ without_timer items.old.items timer.0 }
     ensures capacity { vec_capacity items.new ≡ vec_capacity items.old }

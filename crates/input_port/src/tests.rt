@@ -11,7 +11,7 @@ const C: SignalNumber = SignalNumber(127);
 
 const T: TimerNumber = TimerNumber(7);
 
-// A signal from the environment, with this number as its parameter.
+/// A signal from the environment, with this number as its parameter.
 fn arrival(signal: SignalNumber, number: i32) -> Arrival {
     let mut parameters = ArrayVec::new();
     parameters.push(Value::Int(number));
@@ -22,7 +22,7 @@ fn arrival(signal: SignalNumber, number: i32) -> Arrival {
     }
 }
 
-// An item as a number: that of the signal, or 200 and that of the timer. Then its parameters.
+/// An item as a number: that of the signal, or 200 and that of the timer. Then its parameters.
 fn shown(item: &Item) -> (u8, ArrayVec<Value, 4>) {
     match item {
         Item::Signal(arrival) => {
@@ -44,7 +44,7 @@ fn numbers(port: &Port) -> ArrayVec<u8, 72> {
     all
 }
 
-// A port that holds these signals, with the places of the list as parameters.
+/// A port that holds these signals, with the places of the list as parameters.
 fn filled(rt: &HostRuntime, capacity: usize, signals: &[SignalNumber]) -> Result<Port, Fail> {
     let capacity = capacity.clamp(1, 64);
     let mut port = Port::new(rt.alloc(), capacity)?;
@@ -136,7 +136,7 @@ fn a_copy_has_the_same_items(rt: HostRuntime) -> Result<(), Fail> {
     Ok(())
 }
 
-// With ample memory each call succeeds at once. Where memory is refused, nothing has changed, and the next call succeeds.
+/// With ample memory each call succeeds at once. Where memory is refused, nothing has changed, and the next call succeeds.
 #[test]
 fn refused_memory_changes_nothing(rt: HostRuntime) -> Result<(), Fail> {
     let mut port = match Port::new(rt.alloc(), 2) {

@@ -57,7 +57,7 @@ fn compile_signal(alloc: Global, row: &SignalDeclaration) -> Result<DraftSignal,
     })
 }
 
-// The signals with the sorts of their parameters.
+/// The signals with the sorts of their parameters.
 fn compile_signals(
     alloc: Global,
     rows: &[&SignalDeclaration],
@@ -71,7 +71,7 @@ fn compile_signals(
     Ok(signals)
 }
 
-// The number of a process that is declared.
+/// The number of a process that is declared.
 fn process_number(processes: &NameTable, id: &Identifier) -> ProcessNumber
     requires there { IsKnown processes.now id.now }
     requires few { length processes.now ≤ 16 }
@@ -83,7 +83,7 @@ fn process_number(processes: &NameTable, id: &Identifier) -> ProcessNumber
     }
 }
 
-// The number of a signal that is declared.
+/// The number of a signal that is declared.
 fn signal_number(signals: &NameTable, id: &Identifier) -> SignalNumber
     requires there { IsKnown signals.now id.now }
     requires few { length signals.now ≤ 128 }
@@ -95,7 +95,7 @@ fn signal_number(signals: &NameTable, id: &Identifier) -> SignalNumber
     }
 }
 
-// Who sends or receives.
+/// Who sends or receives.
 fn compile_party(processes: &NameTable, party: &sdl_tree::Party) -> Party
     requires there { KnownParty processes.now party.now }
     requires few { length processes.now ≤ 16 }
@@ -123,7 +123,7 @@ fn signal_numbers(
     Ok(numbers)
 }
 
-// A path with the numbers of its processes and signals.
+/// A path with the numbers of its processes and signals.
 fn compile_path(alloc: Global, block: &BlockTable, path: &Path) -> Result<DraftRoute, AllocError>
     requires known { IsKnownPath (block_of block.now) (path_of path.now) }
     requires few { HasFewNames (block_of block.now) }
@@ -153,7 +153,7 @@ fn push_paths(
     Ok(())
 }
 
-// The paths of all routes.
+/// The paths of all routes.
 fn compile_routes(
     alloc: Global,
     block: &BlockTable,
@@ -170,7 +170,7 @@ fn compile_routes(
     Ok(compiled)
 }
 
-// The processes, each with what the rules have found of it.
+/// The processes, each with what the rules have found of it.
 fn compile_processes(
     alloc: Global,
     block: &BlockTable,
@@ -199,7 +199,7 @@ fn compile_processes(
     Ok(processes)
 }
 
-// Compiles a block of whose processes this is found.
+/// Compiles a block of whose processes this is found.
 fn compile_block(alloc: Global, block: &BlockTable, surveys: &Surveys) -> Result<Draft, AllocError>
     requires sound { Sound (block_of block.now) }
     requires settled { AllZip (λ p (v : Vec ℕ). AreSettled p v.items) (processes_of (block_of block.now)) surveys.now.sets.now }

@@ -38,7 +38,7 @@ fn count_at(counts: &[u32], place: usize) -> u32
     }
 }
 
-// The greatest count where the code goes on behind the instruction at a place.
+/// The greatest count where the code goes on behind the instruction at a place.
 fn greatest_next(counts: &[u32], instruction: Instruction, place: usize) -> u32
     requires { place ≤ 65535 }
     ensures { result ≡ greatest (map (number_at counts.now) (successors instruction place)) }

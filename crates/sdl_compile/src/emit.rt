@@ -33,7 +33,7 @@ fn unary(operator: UnaryOperator) -> Instruction
     }
 }
 
-// `=` of Booleans or of Integers.
+/// `=` of Booleans or of Integers.
 fn equal(truth: bool) -> Instruction
     ensures { result ≡ binary_code truth EqualSign }
 {
@@ -44,7 +44,7 @@ fn equal(truth: bool) -> Instruction
     }
 }
 
-// `/=` of Booleans or of Integers.
+/// `/=` of Booleans or of Integers.
 fn unequal(truth: bool) -> Instruction
     ensures { result ≡ binary_code truth NotEqualSign }
 {
@@ -55,7 +55,7 @@ fn unequal(truth: bool) -> Instruction
     }
 }
 
-// An operator whose left operand is a Boolean, or is none.
+/// An operator whose left operand is a Boolean, or is none.
 fn binary(truth: bool, operator: BinaryOperator) -> Instruction
     ensures { result ≡ binary_code truth operator }
 {
@@ -87,7 +87,7 @@ pub(crate) fn is_division(operator: BinaryOperator) -> bool
     )
 }
 
-// A division by this number.
+/// A division by this number.
 fn division(operator: BinaryOperator, divisor: i32) -> Instruction
     ensures { result ≡ division_code operator divisor }
 {
@@ -98,14 +98,14 @@ fn division(operator: BinaryOperator, divisor: i32) -> Instruction
     }
 }
 
-// The Integer of a number in a text.
+/// The Integer of a number in a text.
 fn integer(value: u32) -> i32
     ensures { result ≡ wrap (pos value) }
 {
     value.cast_signed()
 }
 
-// The number right of a division.
+/// The number right of a division.
 fn divisor(expression: &Expression) -> i32
     ensures { result ≡ divisor_of (tree_of expression.now) }
 {
@@ -196,7 +196,7 @@ fn emit_parameters(
     Ok(())
 }
 
-// The parameters of a signal, and the sending of it.
+/// The parameters of a signal, and the sending of it.
 fn emit_sending(
     code: &mut Vec<Instruction>,
     names: &Names,

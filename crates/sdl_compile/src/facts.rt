@@ -22,7 +22,7 @@ fn sort_at(variables: &[DraftVariable], variable: VariableNumber) -> Option<Sort
     Some(variables.get(usize::from(variable.0))?.sort)
 }
 
-// How many parameters a signal has.
+/// How many parameters a signal has.
 fn parameter_count(signals: &[DraftSignal], signal: SignalNumber) -> usize
     ensures { result ≡ length (parameters_of (slice_get signals.now signal.0)) }
 {
@@ -41,7 +41,7 @@ pub struct Marks<'a> {
     pub effects: &'a [u32],
 }
 
-// How many operands an instruction takes.
+/// How many operands an instruction takes.
 fn taken(signals: &[DraftSignal], variables: &[DraftVariable], instruction: Instruction) -> usize
     ensures { result ≡ length (takes signals.now variables.now instruction) }
 {
@@ -62,7 +62,7 @@ fn taken(signals: &[DraftSignal], variables: &[DraftVariable], instruction: Inst
     }
 }
 
-// The sort of the operand that an instruction gives.
+/// The sort of the operand that an instruction gives.
 fn given(variables: &[DraftVariable], parameters: &[Sort], instruction: Instruction) -> Option<Sort>
     ensures { option_to_list result ≡ gives variables.now parameters.now instruction }
 {
@@ -92,7 +92,7 @@ fn without_first(shape: &[Sort], count: usize) -> &[Sort]
     }
 }
 
-// The shape that an instruction leaves.
+/// The shape that an instruction leaves.
 fn next_shape(
     alloc: Global,
     signals: &[DraftSignal],

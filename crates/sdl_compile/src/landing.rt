@@ -28,7 +28,7 @@ pub(crate) fn tests_length(decision: &Decision) -> usize
     }
 }
 
-// Whether a constant is this truth value.
+/// Whether a constant is this truth value.
 fn is_truth(value: bool, constant: &Constant) -> bool
     ensures { result ≡ is_literal value constant.now.value }
 {
@@ -38,7 +38,7 @@ fn is_truth(value: bool, constant: &Constant) -> bool
     }
 }
 
-// Whether a range is this truth value.
+/// Whether a range is this truth value.
 fn names_truth(value: bool, range: &Range) -> bool
     ensures { result ≡ names_truth value range.now }
 {
@@ -48,7 +48,7 @@ fn names_truth(value: bool, range: &Range) -> bool
     }
 }
 
-// Whether one of the ranges of an answer is.
+/// Whether one of the ranges of an answer is.
 fn any_names(value: bool, ranges: &[Range]) -> bool
     ensures { result ≡ list_any (names_truth value) ranges.now }
 {

@@ -24,21 +24,21 @@ use sdl_tree::{
 use std::alloc::{AllocError, Global};
 use turn_code::{VariableNumber, VariableSet};
 
-// Every variable.
+/// Every variable.
 fn everything() -> VariableSet
     ensures { result ≡ everything }
 {
     VariableSet(u32::MAX)
 }
 
-// The variables of both sets.
+/// The variables of both sets.
 fn meet(one: VariableSet, other: VariableSet) -> VariableSet
     ensures { result ≡ meet one other }
 {
     VariableSet(one.0 & other.0)
 }
 
-// The set with a variable in it too.
+/// The set with a variable in it too.
 fn with(set: VariableSet, variable: VariableNumber) -> VariableSet
     requires { variable.0 < 32 }
     ensures { result ≡ with_variable set variable.0 }
@@ -53,7 +53,7 @@ fn mark(sets: &mut Vec<VariableSet>, set: VariableSet) -> Result<(), AllocError>
     Ok(())
 }
 
-// The set is the same at each instruction of an expression.
+/// The set is the same at each instruction of an expression.
 fn mark_expression(
     sets: &mut Vec<VariableSet>,
     expression: &Expression,
@@ -113,7 +113,7 @@ fn mark_sendings(
     Ok(())
 }
 
-// The sets at assignments, and the one behind them.
+/// The sets at assignments, and the one behind them.
 fn mark_assignments(
     sets: &mut Vec<VariableSet>,
     names: &Names,
@@ -133,7 +133,7 @@ fn mark_assignments(
     Ok(set)
 }
 
-// The sets at an action, and the one behind it.
+/// The sets at an action, and the one behind it.
 fn mark_action(
     sets: &mut Vec<VariableSet>,
     names: &Names,
@@ -162,7 +162,7 @@ fn mark_action(
     }
 }
 
-// One JOIN more to a connection, at which these variables are set.
+/// One JOIN more to a connection, at which these variables are set.
 fn meet_entry(entries: &mut Vec<VariableSet>, number: usize, set: VariableSet)
     ensures { entries.new.items ≡ met_at entries.old.items number set }
 {
@@ -171,7 +171,7 @@ fn meet_entry(entries: &mut Vec<VariableSet>, number: usize, set: VariableSet)
     }
 }
 
-// Nothing is behind an end.
+/// Nothing is behind an end.
 fn mark_end(
     sets: &mut Vec<VariableSet>,
     entries: &mut Vec<VariableSet>,
@@ -191,7 +191,7 @@ fn mark_end(
     Ok(everything())
 }
 
-// A test for each range.
+/// A test for each range.
 fn mark_ranges(
     sets: &mut Vec<VariableSet>,
     ranges: &[Range],
@@ -205,7 +205,7 @@ fn mark_ranges(
     Ok(())
 }
 
-// The tests of an Integer DECISION, and the drop before ELSE.
+/// The tests of an Integer DECISION, and the drop before ELSE.
 fn mark_tests(
     sets: &mut Vec<VariableSet>,
     decision: &Decision,
@@ -229,14 +229,14 @@ pub(crate) struct Behind {
     goes_on: bool,
 }
 
-// A DECISION goes on where one of its bodies does.
+/// A DECISION goes on where one of its bodies does.
 fn one_of(one: bool, other: bool) -> bool
     ensures { result ≡ (one || other) }
 {
     one || other
 }
 
-// A body with the jump that ends it where it goes on.
+/// A body with the jump that ends it where it goes on.
 #[cycle(marks)]
 fn mark_body(
     sets: &mut Vec<VariableSet>,
@@ -258,7 +258,7 @@ fn mark_body(
     Ok(behind)
 }
 
-// The body of ELSE, if there is one, and what is behind it.
+/// The body of ELSE, if there is one, and what is behind it.
 #[cycle(marks)]
 fn mark_else(
     sets: &mut Vec<VariableSet>,
@@ -282,7 +282,7 @@ fn mark_else(
     }
 }
 
-// The bodies of the answers, and what is behind all of them.
+/// The bodies of the answers, and what is behind all of them.
 #[cycle(marks)]
 fn mark_answers(
     sets: &mut Vec<VariableSet>,
@@ -310,7 +310,7 @@ fn mark_answers(
     })
 }
 
-// What is behind a DECISION, from what is behind its answers and behind ELSE.
+/// What is behind a DECISION, from what is behind its answers and behind ELSE.
 fn behind_all(answered: Behind, otherwise: Behind) -> Behind
     ensures set { result.set ≡ meet answered.set otherwise.set }
     ensures goes { result.goes_on ≡ (answered.goes_on || otherwise.goes_on) }
@@ -321,7 +321,7 @@ fn behind_all(answered: Behind, otherwise: Behind) -> Behind
     }
 }
 
-// A DECISION, and what is behind it.
+/// A DECISION, and what is behind it.
 #[cycle(marks)]
 fn mark_decision(
     sets: &mut Vec<VariableSet>,
@@ -350,7 +350,7 @@ fn mark_decision(
     }
 }
 
-// One statement, alone, and what is behind it.
+/// One statement, alone, and what is behind it.
 #[cycle(marks)]
 fn mark_statement(
     sets: &mut Vec<VariableSet>,
@@ -409,7 +409,7 @@ pub(crate) fn mark_text(
     }
 }
 
-// INPUT's places, each with a name fetches its parameter and stores it; and the set behind them.
+/// INPUT's places, each with a name fetches its parameter and stores it; and the set behind them.
 fn mark_places(
     sets: &mut Vec<VariableSet>,
     names: &Names,
@@ -431,7 +431,7 @@ fn mark_places(
     Ok(set)
 }
 
-// Each connection has all variables, before any JOIN to it is seen.
+/// Each connection has all variables, before any JOIN to it is seen.
 fn start_entries(alloc: Global, connections: &[Connection]) -> Result<Vec<VariableSet>, AllocError>
     ensures { IfOk result (λ v. v.items ≡ map (λ x. everything) (map connection_of connections.now)) }
 {
@@ -442,7 +442,7 @@ fn start_entries(alloc: Global, connections: &[Connection]) -> Result<Vec<Variab
     Ok(entries)
 }
 
-// With which set a connection begins.
+/// With which set a connection begins.
 fn entry_of(entries: &[VariableSet], number: usize) -> VariableSet
     ensures { result ≡ entry_at entries.now number }
 {
@@ -452,7 +452,7 @@ fn entry_of(entries: &[VariableSet], number: usize) -> VariableSet
     }
 }
 
-// The JOINs of a connection.
+/// The JOINs of a connection.
 fn meet_connection(
     alloc: Global,
     entries: &mut Vec<VariableSet>,
@@ -470,15 +470,15 @@ fn meet_connection(
     Ok(())
 }
 
-// Whether these are all variables.
+/// Whether these are all variables.
 fn is_everything(set: VariableSet) -> bool
     ensures { result ≡ true → set ≡ everything }
 {
     set.0 == u32::MAX
 }
 
-// A connection that begins with every variable is passed over, since its JOINs change nothing: nothing joined it so far, or all
-// variables are set at each JOIN to it.
+/// A connection that begins with every variable is passed over, since its JOINs change nothing: nothing joined it so far, or all
+/// variables are set at each JOIN to it.
 fn meet_if_joined(
     alloc: Global,
     entries: &mut Vec<VariableSet>,
@@ -496,7 +496,7 @@ fn meet_if_joined(
     meet_connection(alloc, entries, names, number)
 }
 
-// The JOINs of all connections: each is joined only from those behind it in the order.
+/// The JOINs of all connections: each is joined only from those behind it in the order.
 fn meet_connections(
     alloc: Global,
     entries: &mut Vec<VariableSet>,
@@ -515,7 +515,7 @@ fn meet_connections(
     Ok(())
 }
 
-// The sets at the places of a connection.
+/// The sets at the places of a connection.
 fn mark_connection(
     alloc: Global,
     sets: &mut Vec<VariableSet>,
@@ -534,7 +534,7 @@ fn mark_connection(
     Ok(())
 }
 
-// The sets at the places of these connections, one behind another.
+/// The sets at the places of these connections, one behind another.
 fn mark_connections(
     alloc: Global,
     sets: &mut Vec<VariableSet>,

@@ -94,7 +94,7 @@ impl Names<'_> {
         }
     }
 
-    // A party that is there, by its number.
+    /// A party that is there, by its number.
     fn party(&self, party: &sdl_tree::Party) -> Party
         requires { IsSome (numbered (scope_in self.now) party.now) }
         ensures { result ≡ party_or_environment (numbered (scope_in self.now) party.now) }
@@ -108,7 +108,7 @@ impl Names<'_> {
         }
     }
 
-    // Who gets a signal that goes to nobody in particular.
+    /// Who gets a signal that goes to nobody in particular.
     fn recipient(&self, signal: &Identifier) -> Party
         requires { HasReceiver (scope_in self.now) None signal.now }
         ensures { result ≡ party_or_environment (the_one (scope_in self.now) (receivers (block_of self.now.block.now) (party_of (process_of self.now.process.now)) signal.now.name)) }

@@ -36,7 +36,7 @@ pub struct Setting<'a> {
     pub measures: &'a [Measure],
 }
 
-// How many instructions INPUT's places have.
+/// How many instructions INPUT's places have.
 fn places_length(places: &[Option<Identifier>]) -> usize
     requires { length places.now ≤ 4 }
     ensures { result ≡ places_cost places.now }
@@ -50,7 +50,7 @@ fn places_length(places: &[Option<Identifier>]) -> usize
     length
 }
 
-// The count of the first place, and so of the whole.
+/// The count of the first place, and so of the whole.
 fn first_count(facts: &[PlaceFacts]) -> u32
     ensures { result ≡ count_from facts.now }
 {
@@ -60,7 +60,7 @@ fn first_count(facts: &[PlaceFacts]) -> u32
     }
 }
 
-// The effects of the first place, and so of the whole.
+/// The effects of the first place, and so of the whole.
 fn first_effects(facts: &[PlaceFacts]) -> u32
     ensures { result ≡ effects_from facts.now }
 {
@@ -70,7 +70,7 @@ fn first_effects(facts: &[PlaceFacts]) -> u32
     }
 }
 
-// The piece of a transition: INPUT's places (START has none), and then its text.
+/// The piece of a transition: INPUT's places (START has none), and then its text.
 fn make_piece(
     alloc: Global,
     setting: &Setting,

@@ -41,7 +41,7 @@ fn collect_else(
     }
 }
 
-// The bodies of an Integer DECISION stand behind that of its ELSE.
+/// The bodies of an Integer DECISION stand behind that of its ELSE.
 #[cycle(placing)]
 fn collect_decision(
     found: &mut Vec<Join>,
@@ -73,7 +73,7 @@ fn collect_statement(
     }
 }
 
-// The JOINs of a text in the order of its code.
+/// The JOINs of a text in the order of its code.
 #[cycle(placing)]
 fn collect_joins(
     found: &mut Vec<Join>,
@@ -91,7 +91,7 @@ fn collect_joins(
     Ok(())
 }
 
-// One more connection, unless it is placed already, which its mark tells.
+/// One more connection, unless it is placed already, which its mark tells.
 fn place_one(
     placed: &mut Vec<usize>,
     marks: &mut Vec<bool>,
@@ -128,7 +128,7 @@ fn place_each(
     Ok(())
 }
 
-// The connections that a text joins.
+/// The connections that a text joins.
 fn place_joined(
     alloc: Global,
     placed: &mut Vec<usize>,
@@ -146,7 +146,7 @@ fn place_joined(
     place_each(placed, marks, names, &found)
 }
 
-// The connections that one of them joins.
+/// The connections that one of them joins.
 fn place_more(
     alloc: Global,
     placed: &mut Vec<usize>,
@@ -164,7 +164,7 @@ fn place_more(
     place_joined(alloc, placed, marks, names, &connection.transition)
 }
 
-// No connection is placed so far.
+/// No connection is placed so far.
 fn no_marks(alloc: Global, names: &Names) -> Result<Vec<bool>, AllocError>
     ensures { IfOk result (λ marks. AreMarked (scope_in names.now) [] marks.items) }
 {
@@ -196,7 +196,7 @@ pub(crate) fn place_connections(
     Ok(placed)
 }
 
-// How many instructions the connection with a number has.
+/// How many instructions the connection with a number has.
 pub(crate) fn connection_size(names: &Names, number: usize) -> usize
     requires there { number < length (process_of names.now.process.now).connections }
     requires short { size_at (scope_in names.now) number ≤ 512 }
@@ -206,7 +206,7 @@ pub(crate) fn connection_size(names: &Names, number: usize) -> usize
     code_size(names.process, &connection.transition) as usize
 }
 
-// How many instructions they have together.
+/// How many instructions they have together.
 fn total_size(names: &Names, placed: &[usize]) -> usize
     requires there { All (λ n. n < length (process_of names.now.process.now).connections) placed.now }
     requires short { sum_by (size_at (scope_in names.now)) placed.now ≤ 512 }

@@ -21,7 +21,7 @@ use sdl_tables::{BlockTable, NameTable, ProcessTable};
 use std::alloc::{AllocError, Global};
 use turn_code::{DraftProcess, DraftSignal, DraftState, Name, Sequence};
 
-// The names of timers.
+/// The names of timers.
 fn compile_timers(alloc: Global, table: &NameTable) -> Result<Vec<Name>, AllocError>
     ensures { IfOk result (λ v. v.items ≡ map (λ id. id.name) table.now) }
 {
@@ -32,7 +32,7 @@ fn compile_timers(alloc: Global, table: &NameTable) -> Result<Vec<Name>, AllocEr
     Ok(timers)
 }
 
-// The states of a process, with all that they take and save.
+/// The states of a process, with all that they take and save.
 fn compile_all(
     alloc: Global,
     context: &Context,

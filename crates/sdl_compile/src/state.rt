@@ -43,7 +43,7 @@ pub fn draft_name(name: &Name) -> turn_code::Name
     }
 }
 
-// What a name stands for: a signal, else a timer.
+/// What a name stands for: a signal, else a timer.
 fn trigger(names: &Names, id: &Identifier) -> Trigger
     requires { IsTrigger (scope_in names.now) id.now }
     ensures { result ≡ trigger_of (scope_in names.now) id.now }
@@ -57,7 +57,7 @@ fn trigger(names: &Names, id: &Identifier) -> Trigger
     }
 }
 
-// The sorts of the parameters of the signal with this number, if it has one.
+/// The sorts of the parameters of the signal with this number, if it has one.
 fn parameters_at(signals: &[DraftSignal], number: Option<usize>) -> &[Sort]
     ensures { result.now ≡ parameters_by signals.now number }
 {
@@ -70,7 +70,7 @@ fn parameters_at(signals: &[DraftSignal], number: Option<usize>) -> &[Sort]
     }
 }
 
-// The sorts of the parameters that come with what a name stands for.
+/// The sorts of the parameters that come with what a name stands for.
 fn parameters<'a>(names: &Names, signals: &'a [DraftSignal], id: &Identifier) -> &'a [Sort]
     requires { signals.now ≡ drafted_signals (block_of names.now.block.now) }
     ensures { result.now ≡ trigger_sorts (scope_in names.now) id.now }
@@ -125,7 +125,7 @@ pub fn compile_inputs(
     Ok(inputs)
 }
 
-// What a state saves.
+/// What a state saves.
 fn compile_saves(
     alloc: Global,
     names: &Names,
@@ -141,7 +141,7 @@ fn compile_saves(
     Ok(saves)
 }
 
-// A state, by its number.
+/// A state, by its number.
 fn make_state(
     alloc: Global,
     context: &Context,

@@ -22,7 +22,7 @@ use sdl_tree::{Constant, Decision, End, Identifier, Literal, Range, Statement, T
 use std::alloc::{AllocError, Global};
 use turn_code::{CodePlace, Instruction, Relation};
 
-// A place within the limit of a piece.
+/// A place within the limit of a piece.
 fn code_place(place: usize) -> CodePlace
     requires { place ≤ 512 }
     ensures { result.0 ≡ place }
@@ -30,7 +30,7 @@ fn code_place(place: usize) -> CodePlace
     CodePlace(place as u16)
 }
 
-// Where the connection with a number stands: nowhere where it has no place.
+/// Where the connection with a number stands: nowhere where it has no place.
 fn place_of(places: &[usize], number: usize) -> usize
     requires { All (λ p. p ≤ 512) places.now }
     ensures place { result ≡ places_by places.now number }
@@ -75,7 +75,7 @@ fn relation(sign: sdl_tree::Relation) -> Relation
     }
 }
 
-// The Integer that a constant is.
+/// The Integer that a constant is.
 fn integer(constant: &Constant) -> i32
     ensures { result ≡ constant_or_zero (integer_in constant.now.value) }
 {
@@ -85,7 +85,7 @@ fn integer(constant: &Constant) -> i32
     }
 }
 
-// The test of a range, where the body of its answer stands at a place.
+/// The test of a range, where the body of its answer stands at a place.
 fn range_test(place: CodePlace, range: &Range) -> Instruction
     ensures { result ≡ range_code place.0 range.now }
 {
@@ -113,7 +113,7 @@ fn emit_ranges(
     Ok(())
 }
 
-// The tests of an Integer DECISION, whose answers' bodies begin at these places.
+/// The tests of an Integer DECISION, whose answers' bodies begin at these places.
 fn emit_tests(
     code: &mut Vec<Instruction>,
     decision: &Decision,
@@ -130,7 +130,7 @@ fn emit_tests(
     }
 }
 
-// A body, with its jump where it goes on. The jump's place is told, since what follows the DECISION has none so far.
+/// A body, with its jump where it goes on. The jump's place is told, since what follows the DECISION has none so far.
 #[cycle(texts)]
 fn emit_body(
     alloc: Global,
@@ -153,7 +153,7 @@ fn emit_body(
     Ok(())
 }
 
-// The body of ELSE, if there is one.
+/// The body of ELSE, if there is one.
 #[cycle(texts)]
 fn emit_else(
     alloc: Global,
@@ -175,7 +175,7 @@ fn emit_else(
     }
 }
 
-// The bodies of the answers, one behind another, and where they begin.
+/// The bodies of the answers, one behind another, and where they begin.
 #[cycle(texts)]
 fn emit_answers(
     alloc: Global,
@@ -200,7 +200,7 @@ fn emit_answers(
     Ok(())
 }
 
-// A Boolean DECISION behind its question: the choice, and the bodies in the order of the text.
+/// A Boolean DECISION behind its question: the choice, and the bodies in the order of the text.
 #[cycle(texts)]
 fn emit_truth(
     alloc: Global,
@@ -237,7 +237,7 @@ fn emit_truth(
     Ok(has_any(&jumps))
 }
 
-// An Integer DECISION behind its question: the tests, the drop, the body of ELSE, and the bodies of the answers.
+/// An Integer DECISION behind its question: the tests, the drop, the body of ELSE, and the bodies of the answers.
 #[cycle(texts)]
 fn emit_integer(
     alloc: Global,
@@ -295,7 +295,7 @@ fn emit_decision(
     }
 }
 
-// One statement, alone, and whether what stands behind it may follow.
+/// One statement, alone, and whether what stands behind it may follow.
 #[cycle(texts)]
 fn emit_statement(
     alloc: Global,
@@ -348,7 +348,7 @@ pub(crate) fn emit_text(
     }
 }
 
-// The text of the connection with a number.
+/// The text of the connection with a number.
 fn emit_connection(
     alloc: Global,
     code: &mut Vec<Instruction>,

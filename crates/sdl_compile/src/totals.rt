@@ -29,7 +29,7 @@ pub struct Layout<'a> {
     pub targets: &'a [usize],
 }
 
-// What a connection is known to count.
+/// What a connection is known to count.
 fn measured(counted: Counted, measures: &[Measure], number: usize) -> u32
     ensures { result ≡ measured counted measures.now number }
 {
@@ -61,7 +61,7 @@ fn zeros(alloc: Global, count: usize) -> Result<Vec<u32>, AllocError>
     Ok(numbers)
 }
 
-// What the connections count, each at its place; 0 elsewhere.
+/// What the connections count, each at its place; 0 elsewhere.
 fn known_counts(
     alloc: Global,
     measures: &[Measure],
@@ -83,7 +83,7 @@ fn known_counts(
     Ok(known)
 }
 
-// One count of each place of a piece.
+/// One count of each place of a piece.
 fn count_piece(
     alloc: Global,
     setting: &Setting,

@@ -44,7 +44,7 @@ pub fn tokens(alloc: Global, text: &str) -> Result<Vec<Token>, LexFault>
     all_tokens(alloc, bytes)
 }
 
-// The tokens of a text that isn't over-long.
+/// The tokens of a text that isn't over-long.
 fn all_tokens(alloc: Global, bytes: &[u8]) -> Result<Vec<Token>, LexFault>
     requires { length bytes.now ≤ LONGEST_TEXT }
     ensures lexed { IfOk result (λ v. Lexed bytes.now v.items) }

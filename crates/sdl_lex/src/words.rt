@@ -125,7 +125,7 @@ impl Word {
     }
 }
 
-// The first of these words that the bytes spell.
+/// The first of these words that the bytes spell.
 fn first_spelled(words: &[Word], spelling: &[u8]) -> Option<Word>
     ensures found { IfSome result (λ w. SameName spelling.now (word_text w)) }
     ensures none { IfNone result (EachIndex words.now

@@ -47,7 +47,7 @@ fn end_place(end: &End) -> u32
     }
 }
 
-// The place of an end that leads to no state.
+/// The place of an end that leads to no state.
 fn end_astray(states: &NameTable, end: &End) -> Option<u32>
     ensures { Marks result (stray_end states.now end.now) }
 {
@@ -68,7 +68,7 @@ fn missing_state(states: &NameTable, at: u32, state: Identifier) -> Option<u32>
     }
 }
 
-// What stands behind all statements; what runs off is named by a place.
+/// What stands behind all statements; what runs off is named by a place.
 fn from_end(states: &NameTable, at: u32, end: &Option<End>) -> Rest
     ensures { IsRest states.now at (end_text end.now) result }
 {
@@ -99,7 +99,7 @@ fn from_action(action: &Action, rest: Rest) -> Rest
     }
 }
 
-// Behind a DECISION one of whose bodies goes on the rest is as it is; behind another one it may not be there.
+/// Behind a DECISION one of whose bodies goes on the rest is as it is; behind another one it may not be there.
 fn from_decision(place: u32, bodies: Option<u32>, passes: bool, rest: Rest) -> Rest
     ensures { (ids : List id.Identifier) (at : ℕ) (q : Tree) (c : Choice) (t : Text) → Marks bodies (choice_strays ids c) → passes ≡ choice_goes_on c → IsRest ids at t rest → IsRest ids at (decides place q c t) result }
 {
@@ -119,7 +119,7 @@ fn from_decision(place: u32, bodies: Option<u32>, passes: bool, rest: Rest) -> R
     }
 }
 
-// What is stray in a transition; what runs off its end is named by a place.
+/// What is stray in a transition; what runs off its end is named by a place.
 #[cycle(strays)]
 fn in_transition(states: &NameTable, at: u32, transition: &Transition) -> Rest
     ensures { IsRest states.now at (text_of transition.now) result }
@@ -145,7 +145,7 @@ fn from_statement(states: &NameTable, statement: &Statement, rest: Rest) -> Rest
     }
 }
 
-// What is stray in the bodies of a DECISION, each of which may run off its end.
+/// What is stray in the bodies of a DECISION, each of which may run off its end.
 #[cycle(strays)]
 fn in_bodies(states: &NameTable, decision: &Decision) -> Option<u32>
     ensures { Marks result (choice_strays states.now (choice_of decision.now)) }

@@ -6,7 +6,7 @@ ghost use Rattle.sdl_rules.specs.Measures.{capped};
 
 use sdl_tree::{Action, Assignment, BinaryOperator, Expression, Identifier, Sending};
 
-// Whether the right operand stands in the instruction itself.
+/// Whether the right operand stands in the instruction itself.
 fn is_division(operator: BinaryOperator) -> bool
     ensures { result ≡ is_division operator }
 {
@@ -96,7 +96,7 @@ fn parameters_cost(parameters: &[Expression]) -> u32
     total
 }
 
-// Each parameter with those before it, which wait.
+/// Each parameter with those before it, which wait.
 fn parameters_depth(parameters: &[Expression]) -> u32
     ensures { result ≡ capped (parameters_depth 0 (map tree_of parameters.now)) }
 {

@@ -56,7 +56,7 @@ fn names_value(value: bool, range: &Range) -> Times
     }
 }
 
-// How often an answer names a truth value.
+/// How often an answer names a truth value.
 fn named_in_ranges(value: bool, ranges: &[Range]) -> Times
     ensures { Counted result (sum_by (names_value value) ranges.now) }
 {
@@ -67,7 +67,7 @@ fn named_in_ranges(value: bool, ranges: &[Range]) -> Times
     times
 }
 
-// How often answers name a truth value.
+/// How often answers name a truth value.
 fn named_in_answers(value: bool, answers: &[Answer]) -> Times
     ensures { Counted result (sum_by (λ a. sum_by (names_value value) a.ranges.items) answers.now) }
 {
@@ -110,7 +110,7 @@ fn has_else(decision: &Decision) -> bool
     decision.otherwise.is_some()
 }
 
-// Whether TRUE and FALSE are answered once, of a Boolean question.
+/// Whether TRUE and FALSE are answered once, of a Boolean question.
 fn answers_both(decision: &Decision) -> bool
     ensures { result ≡ answers_both (choice_of decision.now) }
 {
@@ -123,7 +123,7 @@ fn answers_both(decision: &Decision) -> bool
     }
 }
 
-// Whether each answer is for some value.
+/// Whether each answer is for some value.
 fn have_values(answers: &[Answer]) -> bool
     ensures { result ≡ list_all (λ a. nat_lt 0 (length a.ranges.items)) answers.now }
 {

@@ -35,7 +35,7 @@ struct Flow {
 }
 
 impl Flow {
-    // What nothing at all does.
+    /// What nothing at all does.
     fn empty() -> Flow
         ensures { (p : PlainProcess) → Does p [] result }
     {
@@ -45,7 +45,7 @@ impl Flow {
         }
     }
 
-    // What this part and the next one after it do together.
+    /// What this part and the next one after it do together.
     fn followed_by(self, next: Flow) -> Flow
         ensures { (p : PlainProcess) (xs ys : List Event) → Does p xs self → Does p ys next → Does p (xs ++ ys) result }
     {
@@ -56,8 +56,8 @@ impl Flow {
     }
 }
 
-// The bit of the variable with a name: none where there is no such variable among the first 32. No two variables have
-// one name, as the process of a table says.
+/// The bit of the variable with a name: none where there is no such variable among the first 32. No two variables have
+/// one name, as the process of a table says.
 fn bit(table: &ProcessTable, name: Name) -> u32
     ensures { Tells (variable_names (process_of table.now)) (λ x. same_name x name) result }
 {
@@ -227,7 +227,7 @@ fn add_mask(masks: &mut Vec<u32>, state: usize, mask: u32)
     }
 }
 
-// What others enter, where these may go on with them.
+/// What others enter, where these may go on with them.
 fn add_masks(masks: &mut Vec<u32>, keeps: u32, others: &[u32])
     ensures count { length masks.new.items ≡ length masks.old.items }
     ensures bits { length others.now ≡ length masks.old.items → (v q : ℕ)
@@ -239,7 +239,7 @@ fn add_masks(masks: &mut Vec<u32>, keeps: u32, others: &[u32])
 }
 
 impl Walker {
-    // At the beginning of a text.
+    /// At the beginning of a text.
     fn at_start(alloc: Global, states: usize) -> Result<Walker, AllocError>
         ensures { IfOk result (λ w. (p : PlainProcess) → length (states_of p) ≡ states → Stands p (λ x q. leaving) w) }
     {
@@ -251,7 +251,7 @@ impl Walker {
         })
     }
 
-    // Where no walk comes.
+    /// Where no walk comes.
     fn nowhere(alloc: Global, states: usize) -> Result<Walker, AllocError>
         ensures { IfOk result (λ w. (p : PlainProcess) → length (states_of p) ≡ states → Stands p (λ x q. no_chances) w) }
     {
@@ -263,7 +263,7 @@ impl Walker {
         })
     }
 
-    // Behind what every walk does.
+    /// Behind what every walk does.
     fn pass(&mut self, flow: Flow)
         ensures { (p : PlainProcess) (events : List Event) → Does p events flow → Walked p (λ x q. event_chances events x) self.old self.new }
     {
@@ -271,14 +271,14 @@ impl Walker {
         self.leaves &= flow.keeps;
     }
 
-    // Where no walk goes on.
+    /// Where no walk goes on.
     fn stop(&mut self)
         ensures { (p : PlainProcess) → Walked p (λ x q. no_chances) self.old self.new }
     {
         self.leaves = 0;
     }
 
-    // At the end in a state.
+    /// At the end in a state.
     fn enter(&mut self, state: usize)
         ensures { (p : PlainProcess) → state < length (states_of p)
             → Walked p (λ x q. record { reads = false; leaves = false; enters = state == q }) self.old self.new }
@@ -287,7 +287,7 @@ impl Walker {
         self.leaves = 0;
     }
 
-    // Behind what the walks of something do.
+    /// Behind what the walks of something do.
     fn join(&mut self, other: &Walker)
         ensures { (p : PlainProcess) (c : Doings) → Stands p c other.now → Walked p c self.old self.new }
     {
@@ -297,7 +297,7 @@ impl Walker {
     }
 }
 
-// The walker of the connection with a name.
+/// The walker of the connection with a name.
 fn joined_walker<'a>(table: &ProcessTable, walkers: &'a [Walker], name: Name) -> Option<&'a Walker>
     ensures { option_map (λ w. w.now) result ≡ option_and_then (slice_get walkers.now) (number_of (connector_names (process_of table.now)) name) }
 {
@@ -376,7 +376,7 @@ fn walk_statement(
     }
 }
 
-// The answers of a DECISION.
+/// The answers of a DECISION.
 #[cycle(walking)]
 fn walk_decision(table: &ProcessTable, walkers: &[Walker], walker: &mut Walker, decision: &Decision)
     ensures { (told : _) → AreTold (process_of table.now) told walkers.now
@@ -399,7 +399,7 @@ fn walk_decision(table: &ProcessTable, walkers: &[Walker], walker: &mut Walker, 
     walker.leaves = after;
 }
 
-// The walker at the end of a connection's text. Nothing stands behind it.
+/// The walker at the end of a connection's text. Nothing stands behind it.
 fn connection_walker(
     alloc: Global,
     table: &ProcessTable,
@@ -415,7 +415,7 @@ fn connection_walker(
     Ok(walker)
 }
 
-// Walkers where no walk comes.
+/// Walkers where no walk comes.
 fn idle_walkers(alloc: Global, states: usize, count: usize) -> Result<Vec<Walker>, AllocError>
     ensures count { IfOk result (λ ws. length ws.items ≡ count) }
     ensures idle { IfOk result (λ ws. (p : PlainProcess) → length (states_of p) ≡ states → All (Stands p (λ x q. no_chances)) ws.items) }
@@ -433,7 +433,7 @@ fn connections_in<'a>(table: &ProcessTable<'a>) -> &'a [Connection]
     &table.process().connections
 }
 
-// The walkers of all connections, by number: in this order each stands behind those that it joins.
+/// The walkers of all connections, by number: in this order each stands behind those that it joins.
 fn connection_walkers(
     alloc: Global,
     table: &ProcessTable,
@@ -453,7 +453,7 @@ fn connection_walkers(
     Ok(walkers)
 }
 
-// A passage for each state in which some variable may be unset.
+/// A passage for each state in which some variable may be unset.
 fn passages(alloc: Global, masks: &[u32]) -> Result<Vec<Passage>, AllocError>
     ensures { IfOk result (λ v. ArePassages masks.now v.items) }
 {
@@ -469,7 +469,7 @@ fn passages(alloc: Global, masks: &[u32]) -> Result<Vec<Passage>, AllocError>
     Ok(passages)
 }
 
-// What a transition does after `first`.
+/// What a transition does after `first`.
 fn summary(
     alloc: Global,
     table: &ProcessTable,

@@ -18,7 +18,7 @@ pub fn goes_on(transition: &Transition) -> bool
     transition.end.is_none()
 }
 
-// Whether what stands behind a statement may follow.
+/// Whether what stands behind a statement may follow.
 #[cycle(going)]
 fn passes(statement: &Statement) -> bool
     ensures { (rest : _) → goes_on (statement_of statement.now rest) ≡ (result && goes_on rest) }

@@ -25,7 +25,7 @@ struct Frame {
     next: usize,
 }
 
-// The nodes to which a node leads.
+/// The nodes to which a node leads.
 fn links(graph: &[Vec<usize>], node: usize) -> &[usize]
     requires { node < length graph.now }
     ensures { result.now ≡ nexts (graph_in graph.now) node }
@@ -73,7 +73,7 @@ pub(crate) fn marks_from(
     Ok(marks)
 }
 
-// Goes on from what was found until nothing more is.
+/// Goes on from what was found until nothing more is.
 fn follow(
     graph: &[Vec<usize>],
     marks: &mut Vec<bool>,
@@ -115,7 +115,7 @@ fn is_done(marks: &[Mark], node: usize) -> bool
     }
 }
 
-// The first place from one on at which stands a node that isn't in the order yet.
+/// The first place from one on at which stands a node that isn't in the order yet.
 fn skip(nodes: &[usize], marks: &[Mark], from: usize) -> usize
     requires { All (λ n. n < length marks.now) nodes.now }
     ensures passed { (k n : ℕ) → from ≤ k → k < result → slice_get nodes.now k ≡ Some n
@@ -139,7 +139,7 @@ fn enter(node: usize, marks: &mut Vec<Mark>, path: &mut Vec<Frame>) -> Result<()
     Ok(())
 }
 
-// The last open node comes into the order.
+/// The last open node comes into the order.
 fn finish(
     node: usize,
     marks: &mut Vec<Mark>,
@@ -157,7 +157,7 @@ fn finish(
     Ok(())
 }
 
-// Goes on at the last open node; `false` where it leads to an open node.
+/// Goes on at the last open node; `false` where it leads to an open node.
 fn advance(
     graph: &[Vec<usize>],
     marks: &mut Vec<Mark>,
@@ -188,7 +188,7 @@ fn advance(
     Ok(true)
 }
 
-// Comes to a node and to all to which ways lead from it; `false` where one of them leads back to itself.
+/// Comes to a node and to all to which ways lead from it; `false` where one of them leads back to itself.
 fn visit(
     graph: &[Vec<usize>],
     root: usize,

@@ -21,7 +21,7 @@ pub(crate) fn party_of(process: &ProcessTable) -> Party
     Party::Process(process.process().name)
 }
 
-// Whether a signal gets back to who sent what a transition begins with.
+/// Whether a signal gets back to who sent what a transition begins with.
 fn gets_back(block: &BlockTable, process: &ProcessTable, signal: Name, sender: &Sender) -> bool
     ensures { result ≡ gets_back (block_of block.now) (process_of process.now) signal sender.now }
 {
@@ -31,7 +31,7 @@ fn gets_back(block: &BlockTable, process: &ProcessTable, signal: Name, sender: &
     }
 }
 
-// The same for all of them.
+/// The same for all of them.
 fn all_get_back(block: &BlockTable, process: &ProcessTable, signal: Name, from: &[Sender]) -> bool
     ensures { result ≡ list_all (gets_back (block_of block.now) (process_of process.now) signal) from.now }
 {
@@ -83,7 +83,7 @@ impl KnownSenders {
         all_get_back(block, process, signal, &self.list)
     }
 
-    // Keeps what is so of a signal.
+    /// Keeps what is so of a signal.
     fn keep(&mut self, signal: Identifier, back: bool) -> Result<(), AllocError>
         ensures { OnOk result ((b : PlainBlock) (p : PlainProcess) (os : List Origin) → Knows b p self.old os
             → back ≡ answers_all b p os signal.name → Knows b p self.new os) }
@@ -96,7 +96,7 @@ impl KnownSenders {
         Ok(())
     }
 
-    // Asks of a signal, unless it is known.
+    /// Asks of a signal, unless it is known.
     fn learn(
         &mut self,
         block: &BlockTable,

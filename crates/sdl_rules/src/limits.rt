@@ -36,7 +36,7 @@ const NONE_PASSED: Passed = Passed {
     effects: false,
 };
 
-// What one transition passes, or another.
+/// What one transition passes, or another.
 fn either(one: Passed, other: Passed) -> Passed
     ensures { IsEither one other result }
 {
@@ -47,7 +47,7 @@ fn either(one: Passed, other: Passed) -> Passed
     }
 }
 
-// The sizes of the marked connections.
+/// The sizes of the marked connections.
 fn marked_size(marks: &[bool], measures: &[Measure]) -> u32
     ensures { result ≡ capped (marked_size marks.now measures.now) }
 {
@@ -69,7 +69,7 @@ fn size_at(measures: &[Measure], number: usize) -> u32
     }
 }
 
-// A transition, with the places that come before it.
+/// A transition, with the places that come before it.
 fn pass_piece(
     alloc: Global,
     process: &ProcessTable,
@@ -94,7 +94,7 @@ fn pass_piece(
     })
 }
 
-// One input more, unless a transition was too long: that is named first, whatever the others are.
+/// One input more, unless a transition was too long: that is named first, whatever the others are.
 fn pass_row(
     alloc: Global,
     process: &ProcessTable,
@@ -159,7 +159,7 @@ fn pass_states(
     Ok(passed)
 }
 
-// The transitions of a process, where these are the measures of its connections.
+/// The transitions of a process, where these are the measures of its connections.
 fn pass_process(
     alloc: Global,
     process: &ProcessTable,
@@ -252,7 +252,7 @@ fn count_pieces(alloc: Global, tables: &[ProcessTable]) -> Result<usize, AllocEr
     Ok(count)
 }
 
-// The first limit on how many there are. The pieces come last: a state then takes few signals, and there are few states.
+/// The first limit on how many there are. The pieces come last: a state then takes few signals, and there are few states.
 fn first_count(alloc: Global, block: &BlockTable) -> Result<Option<Limit>, AllocError>
     ensures { IfOk result (λ o. o ≡ find (exceeds (block_of block.now)) number_limits) }
 {
@@ -281,7 +281,7 @@ fn first_count(alloc: Global, block: &BlockTable) -> Result<Option<Limit>, Alloc
     Ok(None)
 }
 
-// The first limit on a transition.
+/// The first limit on a transition.
 fn first_passed(passed: Passed) -> Option<Limit>
     ensures { (b : PlainBlock) → AllPassed (processes_of b) passed → result ≡ find (exceeds b) transition_limits }
 {

@@ -48,7 +48,7 @@ const LAST: Measure = Measure {
     goes_on: false,
 };
 
-// That of the connection with a name.
+/// That of the connection with a name.
 fn measure_named(process: &ProcessTable, measures: &[Measure], connector: Identifier) -> Measure
     ensures { result ≡ measure_named (process_of process.now) measures.now connector.name }
 {
@@ -61,7 +61,7 @@ fn measure_named(process: &ProcessTable, measures: &[Measure], connector: Identi
     }
 }
 
-// An end, with what is behind the transition.
+/// An end, with what is behind the transition.
 fn measure_end(
     process: &ProcessTable,
     measures: &[Measure],
@@ -118,28 +118,28 @@ fn one_if(test: bool) -> u32
     if test { 1 } else { 0 }
 }
 
-// The jump at the end of a body, if it goes on.
+/// The jump at the end of a body, if it goes on.
 fn jump_size(goes_on: bool) -> u32
     ensures { result ≡ (if goes_on then 1 else 0) }
 {
     one_if(goes_on)
 }
 
-// Behind a DECISION a text goes on where both do.
+/// Behind a DECISION a text goes on where both do.
 fn both(one: bool, other: bool) -> bool
     ensures { result ≡ (one && other) }
 {
     one && other
 }
 
-// A DECISION goes on where one of its bodies does.
+/// A DECISION goes on where one of its bodies does.
 fn one_of(one: bool, other: bool) -> bool
     ensures { result ≡ (one || other) }
 {
     one || other
 }
 
-// Each range is tested in turn; where it holds, the body is next.
+/// Each range is tested in turn; where it holds, the body is next.
 fn tests_budget(ranges: &[Range], body: u32, others: u32) -> u32
     ensures { (b o : ℕ) → body ≡ capped b → others ≡ capped o → result ≡ capped (tests_budget ranges.now b o) }
 {
@@ -160,7 +160,7 @@ fn count_ranges(ranges: &[Range]) -> u32
     count
 }
 
-// What an answer costs beside the others: of a Boolean question nothing but its body.
+/// What an answer costs beside the others: of a Boolean question nothing but its body.
 fn answer_budget(truth: bool, ranges: &[Range], body: u32, others: u32) -> u32
     ensures { (b o : ℕ) → body ≡ capped b → others ≡ capped o → result ≡ capped (if truth then max b o else tests_budget ranges.now b o) }
 {
@@ -197,7 +197,7 @@ pub(crate) fn measure_transition(
     total
 }
 
-// A statement in front of the rest.
+/// A statement in front of the rest.
 #[cycle(measuring)]
 fn measure_statement(
     process: &ProcessTable,
@@ -214,7 +214,7 @@ fn measure_statement(
     }
 }
 
-// A DECISION in front of the rest, which follows each body that goes on, behind its jump.
+/// A DECISION in front of the rest, which follows each body that goes on, behind its jump.
 #[cycle(measuring)]
 fn measure_decision(
     process: &ProcessTable,
@@ -246,7 +246,7 @@ fn measure_decision(
     }
 }
 
-// The answers to a question, a Boolean or an Integer one.
+/// The answers to a question, a Boolean or an Integer one.
 #[cycle(measuring)]
 fn measure_answers(
     process: &ProcessTable,
@@ -300,7 +300,7 @@ fn measure_else(
     }
 }
 
-// An answer beside the others.
+/// An answer beside the others.
 #[cycle(measuring)]
 fn measure_answer(
     process: &ProcessTable,

@@ -14,7 +14,7 @@ use sdl_tree::{
     Path, Sending, SetTimer, StateClause, StatePart, Stimulus,
 };
 
-// The place of a name that a table lacks.
+/// The place of a name that a table lacks.
 fn missing(names: &NameTable, id: Identifier) -> Option<u32>
     ensures { Marks result (if is_in names.now id.name then [] else id.at ∷ []) }
 {
@@ -197,7 +197,7 @@ pub(crate) fn unknown_connector(process: &ProcessTable, end: End) -> Option<u32>
     }
 }
 
-// The place of a name that is neither a signal nor a timer of the process.
+/// The place of a name that is neither a signal nor a timer of the process.
 fn missing_trigger(block: &BlockTable, process: &ProcessTable, id: Identifier) -> Option<u32>
     ensures { Marks result (if is_in (trigger_names (block_of block.now) (process_of process.now)) id.name then [] else id.at ∷ []) }
 {

@@ -16,7 +16,7 @@ use sdl_tables::{BlockTable, ProcessTable, earlier};
 use sdl_tree::Join;
 use std::alloc::{AllocError, Global};
 
-// The place of a JOIN, if it comes back to the connection with this number.
+/// The place of a JOIN, if it comes back to the connection with this number.
 fn place_back(
     alloc: Global,
     process: &ProcessTable,
@@ -43,7 +43,7 @@ fn place_back(
     }
 }
 
-// The place of the first of these JOINs of a connection that comes back to it: they stand in the order of the text.
+/// The place of the first of these JOINs of a connection that comes back to it: they stand in the order of the text.
 fn place_in_joins(
     alloc: Global,
     process: &ProcessTable,
@@ -65,7 +65,7 @@ fn place_in_joins(
     Ok(None)
 }
 
-// The place of the first JOIN that comes back to its connection: the connections stand in the order of the text.
+/// The place of the first JOIN that comes back to its connection: the connections stand in the order of the text.
 fn place_in_process(
     alloc: Global,
     process: &ProcessTable,
@@ -86,7 +86,7 @@ fn place_in_process(
     Ok(None)
 }
 
-// An order of the connections of a process, or the place of a JOIN that comes back to its connection.
+/// An order of the connections of a process, or the place of a JOIN that comes back to its connection.
 fn order_process(
     alloc: Global,
     process: &ProcessTable,

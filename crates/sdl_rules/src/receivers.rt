@@ -35,7 +35,7 @@ pub fn find_receivers(block: &BlockTable, from: &Party, signal: Name) -> Recipie
     }
 }
 
-// Whether a signal that says to whom it goes gets there.
+/// Whether a signal that says to whom it goes gets there.
 fn arrives_at(
     block: &BlockTable,
     process: &ProcessTable,

@@ -45,7 +45,7 @@ impl<'a> Model for Resolved<'a> {
     ghost invariant = { IsResolved };
 }
 
-// The rules on names, sorts, ends and receivers.
+/// The rules on names, sorts, ends and receivers.
 fn check_names(alloc: Global, block: &BlockTable) -> Result<(), RuleFault>
     requires { IsDistinct (block_of block.now) }
     ensures kept { IfOk result (λ _. IsSingle (block_of block.now)) }
@@ -69,7 +69,7 @@ fn check_names(alloc: Global, block: &BlockTable) -> Result<(), RuleFault>
     Ok(())
 }
 
-// The rule on JOINs: an order of the connections of each process.
+/// The rule on JOINs: an order of the connections of each process.
 fn check_joins(alloc: Global, block: &BlockTable) -> Result<Vec<Vec<usize>>, RuleFault>
     requires { IsSingle (block_of block.now) }
     ensures kept { IfOk result (λ orders. IsJoined (block_of block.now)) }
@@ -82,7 +82,7 @@ fn check_joins(alloc: Global, block: &BlockTable) -> Result<Vec<Vec<usize>>, Rul
     }
 }
 
-// The rules on answers and divisors.
+/// The rules on answers and divisors.
 fn check_answers(alloc: Global, block: &BlockTable) -> Result<(), RuleFault>
     requires { IsJoined (block_of block.now) }
     ensures kept { IfOk result (λ _. IsDivided (block_of block.now)) }
@@ -97,7 +97,7 @@ fn check_answers(alloc: Global, block: &BlockTable) -> Result<(), RuleFault>
     Ok(())
 }
 
-// The limits: what is measured of the connections of each process.
+/// The limits: what is measured of the connections of each process.
 fn check_limits(
     alloc: Global,
     block: &BlockTable,
@@ -124,7 +124,7 @@ struct Findings {
     measures: Vec<Vec<Measure>>,
 }
 
-// All rules, one after another.
+/// All rules, one after another.
 fn check_rules(alloc: Global, block: &BlockTable) -> Result<Findings, RuleFault>
     requires { IsDistinct (block_of block.now) }
     ensures sound { IfOk result (λ _. Sound (block_of block.now)) }

@@ -63,7 +63,7 @@ impl Sight {
         }
     }
 
-    // Behind a read at a place, if there is one.
+    /// Behind a read at a place, if there is one.
     fn meet(&mut self, place: Option<u32>) {
         if self.is_unset {
             self.read = earlier(self.read, place);
@@ -71,7 +71,7 @@ impl Sight {
     }
 }
 
-// The place of the first read of a variable in an expression.
+/// The place of the first read of a variable in an expression.
 fn read_in_expression(expression: &Expression, name: Name) -> Option<u32> {
     match expression {
         Expression::Number { .. } => None,
@@ -121,7 +121,7 @@ fn see_action(sight: &mut Sight, action: &Action, name: Name) {
     }
 }
 
-// The least place of an unset read in the connection that an end joins, if it joins one.
+/// The least place of an unset read in the connection that an end joins, if it joins one.
 fn place_behind(table: &ProcessTable, places: &[Option<u32>], end: End) -> Option<u32> {
     match end {
         End::NextState(_) => None,
@@ -170,7 +170,7 @@ fn see_statement(
     }
 }
 
-// Each answer begins as the first one does.
+/// Each answer begins as the first one does.
 #[cycle(seeing)]
 fn see_answers(
     table: &ProcessTable,
@@ -204,8 +204,8 @@ fn no_places(alloc: Global, count: usize) -> Result<Vec<Option<u32>>, AllocError
     Ok(places)
 }
 
-// The least place of an unset read in each connection, by number, if a walk comes to it with the variable unset: each
-// connection of the order is joined by later ones alone.
+/// The least place of an unset read in each connection, by number, if a walk comes to it with the variable unset: each
+/// connection of the order is joined by later ones alone.
 fn connection_places(
     alloc: Global,
     table: &ProcessTable,
@@ -226,7 +226,7 @@ fn connection_places(
     Ok(places)
 }
 
-// The last transition of a path, where these are the inputs of the states.
+/// The last transition of a path, where these are the inputs of the states.
 fn last_transition<'a>(
     table: &ProcessTable<'a>,
     inputs: &[Vec<InputRow<'a>>],
@@ -241,7 +241,7 @@ fn last_transition<'a>(
     }
 }
 
-// The least place where the last transition of a path reads a variable unset.
+/// The least place where the last transition of a path reads a variable unset.
 fn read_place(
     alloc: Global,
     table: &ProcessTable,
@@ -297,8 +297,8 @@ fn place_at(places: &[Option<u32>], variable: usize) -> Option<u32> {
     }
 }
 
-// Whether the first variable is named before the other: its path has fewer transitions, or its first other transition
-// comes first in the text, or its unset read does.
+/// Whether the first variable is named before the other: its path has fewer transitions, or its first other transition
+/// comes first in the text, or its unset read does.
 fn comes_first(fates: &[Fate], places: &[Option<u32>], one: usize, other: usize) -> bool {
     let path = path_at(fates, one);
     let other_path = path_at(fates, other);
@@ -310,7 +310,7 @@ fn comes_first(fates: &[Fate], places: &[Option<u32>], one: usize, other: usize)
     }
 }
 
-// The one of two variables that is named.
+/// The one of two variables that is named.
 fn first_of(fates: &[Fate], places: &[Option<u32>], best: Option<usize>, other: usize) -> usize
     ensures { (result ≡ other) ⊎ (best ≡ Some result) }
 {
@@ -341,7 +341,7 @@ pub(crate) fn find_first(fates: &[Fate], places: &[Option<u32>]) -> Option<usize
     best
 }
 
-// A timer's name as it is declared.
+/// A timer's name as it is declared.
 fn timer_name(table: &ProcessTable, name: Name) -> Name
     ensures same { same_name result name ≡ true }
     ensures declared { result ≡ option_map_or (λ id. id.name) (timer_named (process_of table.now) name) name }
@@ -353,7 +353,7 @@ fn timer_name(table: &ProcessTable, name: Name) -> Name
     }
 }
 
-// The name of a signal or timer as it is declared.
+/// The name of a signal or timer as it is declared.
 fn declared_name(block: &BlockTable, table: &ProcessTable, name: Name) -> Name
     ensures same { same_name result name ≡ true }
     ensures declared { result ≡ declared_name (block_of block.now) (process_of table.now) name }
@@ -364,7 +364,7 @@ fn declared_name(block: &BlockTable, table: &ProcessTable, name: Name) -> Name
     }
 }
 
-// The transition of an input, with the names as they are declared.
+/// The transition of an input, with the names as they are declared.
 fn named_input(
     block: &BlockTable,
     table: &ProcessTable,

@@ -6,7 +6,7 @@ ghost use Rattle.sdl_rules.specs.Fates.{is_set_in, set_bit};
 use std::alloc::{AllocError, Global};
 use unset_paths::Fate;
 
-// Whether a variable is set whenever a process is in a state.
+/// Whether a variable is set whenever a process is in a state.
 fn is_set_in(fate: &Fate, state: usize) -> bool
     ensures { result ≡ is_set_in fate.now state }
 {
@@ -16,7 +16,7 @@ fn is_set_in(fate: &Fate, state: usize) -> bool
     }
 }
 
-// The variables that are set in a state.
+/// The variables that are set in a state.
 fn set_in(fates: &[Fate], state: usize) -> u32
     requires { length fates.now ≤ 32 }
     ensures { (v : ℕ) → bit_at result v ≡ set_bit fates.now state v }

@@ -23,7 +23,7 @@ pub(crate) struct Unset {
     pub path: ControlPath,
 }
 
-// The set of each state of a process, unless a variable is read unset.
+/// The set of each state of a process, unless a variable is read unset.
 fn survey(
     alloc: Global,
     block: &BlockTable,
@@ -51,7 +51,7 @@ fn survey(
     }
 }
 
-// The one of two that is named: the one with fewer transitions, or else the first.
+/// The one of two that is named: the one with fewer transitions, or else the first.
 fn shorter(best: Option<Unset>, other: Unset) -> Unset
     ensures { (result ≡ other) ⊎ (best ≡ Some result) }
 {

@@ -44,7 +44,7 @@ fn have_one_sort(one: Option<Sort>, other: Option<Sort>) -> bool
     }
 }
 
-// The sort of the variable with a name.
+/// The sort of the variable with a name.
 fn variable_sort(process: &ProcessTable, name: Name) -> Option<Sort>
     ensures { result ≡ variable_sort (variables_of (process_of process.now)) name }
 {
@@ -84,7 +84,7 @@ fn binary_sort(operator: BinaryOperator) -> Sort
     }
 }
 
-// What both operands have to be, where the left one has this sort.
+/// What both operands have to be, where the left one has this sort.
 fn operand_sort(operator: BinaryOperator, left: Option<Sort>) -> Option<Sort>
     ensures { result ≡ operand_sort operator left }
 {
@@ -111,7 +111,7 @@ pub fn sort_in(process: &ProcessTable, expression: &Expression) -> Option<Sort>
     }
 }
 
-// The place of an expression that has another sort.
+/// The place of an expression that has another sort.
 fn misfit(process: &ProcessTable, want: Option<Sort>, expression: &Expression) -> Option<u32>
     ensures { Marks result (misfit (variables_of (process_of process.now)) want (tree_of expression.now)) }
 {
@@ -203,7 +203,7 @@ fn wrong_in_assignments(process: &ProcessTable, assignments: &[Assignment]) -> O
     place
 }
 
-// The sorts of the parameters of a signal; none of what is no signal.
+/// The sorts of the parameters of a signal; none of what is no signal.
 fn parameter_sorts<'a>(block: &BlockTable<'a>, name: Name) -> &'a [Sort]
     ensures { result.now ≡ parameter_sorts (block_of block.now) name }
 {
@@ -233,7 +233,7 @@ fn wrong_in_all(process: &ProcessTable, parameters: &[Expression]) -> Option<u32
     place
 }
 
-// The place of the parameter with a number, where it has another sort than stands there.
+/// The place of the parameter with a number, where it has another sort than stands there.
 fn wrong_parameter(
     process: &ProcessTable,
     sorts: &[Sort],
@@ -249,7 +249,7 @@ fn wrong_parameter(
     }
 }
 
-// It goes over the parameters that are there: a signal may have far more.
+/// It goes over the parameters that are there: a signal may have far more.
 fn wrong_parameters(
     process: &ProcessTable,
     sorts: &[Sort],
@@ -322,7 +322,7 @@ fn wrong_place(process: &ProcessTable, want: Sort, place: Option<Identifier>) ->
     }
 }
 
-// The place with a number, where its variable has another sort than stands there.
+/// The place with a number, where its variable has another sort than stands there.
 fn wrong_place_at(
     process: &ProcessTable,
     sorts: &[Sort],
@@ -405,7 +405,7 @@ fn is_constant(want: Sort, constant: Constant) -> bool
     same_sort(want, literal_sort(constant.value))
 }
 
-// Whether a question is a Boolean one.
+/// Whether a question is a Boolean one.
 pub(crate) fn is_truth(process: &ProcessTable, question: &Expression) -> bool
     ensures { result ≡ is_truth (variables_of (process_of process.now)) (tree_of question.now) }
 {

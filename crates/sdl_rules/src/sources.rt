@@ -44,7 +44,7 @@ impl Senders {
         }
     }
 
-    // One more, unless it is a party that is there.
+    /// One more, unless it is a party that is there.
     fn add(&mut self, sender: &Sender) -> Result<(), AllocError>
         ensures { OnOk result ((b : PlainBlock) (p : PlainProcess) (f : List ℕ → Bool) → Gathers b p self.old f
             → Gathers b p self.new (λ s. f s && gets_back b p s sender.now)) }
@@ -69,7 +69,7 @@ impl Senders {
         Ok(())
     }
 
-    // Who may have sent a signal to a process, or a timer.
+    /// Who may have sent a signal to a process, or a timer.
     fn add_name(
         &mut self,
         block: &BlockTable,

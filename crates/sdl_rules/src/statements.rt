@@ -69,7 +69,7 @@ fn in_action(
     }
 }
 
-// What is asked of a DECISION itself.
+/// What is asked of a DECISION itself.
 fn in_question(rule: StatementRule, process: &ProcessTable, decision: &Decision) -> Option<u32>
     ensures { (b : PlainBlock) (from : List Origin) → Marks result (asked rule b (process_of process.now) from (question_of decision.now)) }
 {
@@ -83,7 +83,7 @@ fn in_question(rule: StatementRule, process: &ProcessTable, decision: &Decision)
     }
 }
 
-// What is asked of the values of an answer.
+/// What is asked of the values of an answer.
 fn in_ranges(
     rule: StatementRule,
     process: &ProcessTable,
@@ -215,7 +215,7 @@ fn in_start(
     in_transition(rule, block, process, &from, transition)
 }
 
-// What a rule asks that doesn't look at with what transitions begin.
+/// What a rule asks that doesn't look at with what transitions begin.
 fn in_input(
     alloc: Global,
     rule: StatementRule,
@@ -316,7 +316,7 @@ fn in_processes(
     place
 }
 
-// The place of a signal in a transition that nobody gets, where these may have sent what it begins with.
+/// The place of a signal in a transition that nobody gets, where these may have sent what it begins with.
 fn lost_in_transition(
     alloc: Global,
     block: &BlockTable,
@@ -345,7 +345,7 @@ fn lost_in_start(
     lost_in_transition(alloc, block, process, senders, transition)
 }
 
-// The place of a signal in an INPUT's transition that nobody gets.
+/// The place of a signal in an INPUT's transition that nobody gets.
 fn lost_in_input(
     alloc: Global,
     block: &BlockTable,
@@ -373,7 +373,7 @@ fn lost_in_inputs(
     Ok(place)
 }
 
-// The place of a signal in a connection that nobody gets: TO SENDER is asked with every transition that comes there.
+/// The place of a signal in a connection that nobody gets: TO SENDER is asked with every transition that comes there.
 fn lost_in_connections(
     alloc: Global,
     block: &BlockTable,

@@ -124,7 +124,7 @@ fn index_processes(alloc: Global, rows: &[&Process]) -> Result<Scope, AllocError
     Ok(scope)
 }
 
-// The timers of a process that are named as signals.
+/// The timers of a process that are named as signals.
 fn signal_timers(signals: &NameTable, process: &Process) -> Option<u32>
     ensures { Marks result (shared signals.now (timers_of (process_of process.now))) }
 {
@@ -165,7 +165,7 @@ fn build_tables<'a>(alloc: Global, processes: &[&'a Process]) -> Result<Processe
     Ok(Processes { tables, double })
 }
 
-// The first of all places of a block.
+/// The first of all places of a block.
 fn first_double(
     signals: Option<u32>,
     routes: Option<u32>,

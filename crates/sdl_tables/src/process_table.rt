@@ -170,7 +170,7 @@ fn empty_rows<'a>(alloc: Global, count: usize) -> Result<Vec<Vec<InputRow<'a>>>,
     Ok(inputs)
 }
 
-// Gives the inputs of a part to one state.
+/// Gives the inputs of a part to one state.
 fn push_state<'a>(
     inputs: &mut Vec<Vec<InputRow<'a>>>,
     number: usize,
@@ -186,7 +186,7 @@ fn push_state<'a>(
     Ok(())
 }
 
-// Gives the inputs of a part to each state that it names.
+/// Gives the inputs of a part to each state that it names.
 fn push_states<'a>(
     inputs: &mut Vec<Vec<InputRow<'a>>>,
     states: &NameTable,

@@ -82,7 +82,7 @@ impl Ends {
         }
     }
 
-    // The first party for a key.
+    /// The first party for a key.
     fn begin(&mut self, alloc: Global, key: End, other: Party) -> Result<(), AllocError>
         requires { get same_end self.old.lists key ≡ None }
         ensures { OnOk result ((k : Key) → held self.new k ≡ held self.old k ++ (if same_end key k then other ∷ [] else [])) }
@@ -93,7 +93,7 @@ impl Ends {
         Ok(())
     }
 
-    // One party more.
+    /// One party more.
     fn add(&mut self, alloc: Global, key: End, other: Party) -> Result<(), AllocError>
         ensures { OnOk result ((k : Key) → held self.new k ≡ held self.old k ++ (if same_end key k then other ∷ [] else [])) }
     {
@@ -132,7 +132,7 @@ impl RouteIndex {
         }
     }
 
-    // A signal that a path brings.
+    /// A signal that a path brings.
     fn add(
         &mut self,
         alloc: Global,

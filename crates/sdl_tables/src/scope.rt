@@ -50,7 +50,7 @@ pub fn index_names(alloc: Global, ids: &[Identifier]) -> Result<Scope, AllocErro
     Ok(Scope { names, double })
 }
 
-// The place of a name that a scope has.
+/// The place of a name that a scope has.
 fn present(names: &NameTable, id: Identifier) -> Option<u32>
     ensures { Marks result (if is_in names.now id.name then id.at ∷ [] else []) }
 {

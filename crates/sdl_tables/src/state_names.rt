@@ -70,7 +70,7 @@ fn empty_names(alloc: Global, count: usize) -> Result<Vec<Vec<Identifier>>, Allo
     Ok(states)
 }
 
-// Gives the names of a part to one state.
+/// Gives the names of a part to one state.
 fn push_state(
     states: &mut Vec<Vec<Identifier>>,
     number: usize,
@@ -87,7 +87,7 @@ fn push_state(
     Ok(())
 }
 
-// Gives the names of a part to each state that it names.
+/// Gives the names of a part to each state that it names.
 fn push_states(
     states: &mut Vec<Vec<Identifier>>,
     ids: &NameTable,

@@ -24,7 +24,7 @@ struct Trigger {
     number: usize,
 }
 
-// The number of a name, which may be new.
+/// The number of a name, which may be new.
 fn number_in(names: &mut NameTable, id: Identifier) -> Result<usize, AllocError>
     ensures number { IfOk result (λ n. number_of names.new id.name ≡ Some n) }
     ensures keeps { OnOk result (Keeps names.old names.new) }
@@ -69,7 +69,7 @@ fn number_part(
     number_ids(alloc, names, &ids)
 }
 
-// What each part takes and saves.
+/// What each part takes and saves.
 fn number_parts(
     alloc: Global,
     names: &mut NameTable,
@@ -96,7 +96,7 @@ fn empty_rows(alloc: Global, count: usize) -> Result<Vec<Vec<usize>>, AllocError
     Ok(rows)
 }
 
-// Gives a part to one state.
+/// Gives a part to one state.
 fn push_state(rows: &mut Vec<Vec<usize>>, state: usize, part: usize) -> Result<(), AllocError>
     requires { state < vec_len rows.old }
     ensures len { OnOk result (vec_len rows.new ≡ vec_len rows.old) }
@@ -108,7 +108,7 @@ fn push_state(rows: &mut Vec<Vec<usize>>, state: usize, part: usize) -> Result<(
     Ok(())
 }
 
-// Gives a part to each state that it names.
+/// Gives a part to each state that it names.
 fn push_states(
     rows: &mut Vec<Vec<usize>>,
     states: &NameTable,
@@ -129,7 +129,7 @@ fn push_states(
     Ok(())
 }
 
-// The parts of each state, by number.
+/// The parts of each state, by number.
 fn collect_parts(
     alloc: Global,
     parts: &[StatePart],
@@ -146,7 +146,7 @@ fn collect_parts(
     Ok(rows)
 }
 
-// Whether a name is new where those before it are stamped. It is stamped too.
+/// Whether a name is new where those before it are stamped. It is stamped too.
 fn stamp_one(seen: &mut Vec<usize>, stamp: usize, trigger: &Trigger) -> bool
     ensures new { (names before : List the_id.Identifier) → Stamped names seen.old.items stamp before → IsNumbered names trigger.now
         → result ≡ not (is_in before trigger.now.id.name) }
@@ -164,7 +164,7 @@ fn stamp_one(seen: &mut Vec<usize>, stamp: usize, trigger: &Trigger) -> bool
     }
 }
 
-// The first name that stands before.
+/// The first name that stands before.
 fn stamp_part(seen: &mut Vec<usize>, stamp: usize, triggers: &[Trigger]) -> Option<u32>
     ensures double { (names before : List the_id.Identifier) → Stamped names seen.old.items stamp before → AllByRecursion (IsNumbered names) triggers.now
         → Marks result (repeats before (map (λ t. t.id) triggers.now)) }
@@ -218,7 +218,7 @@ fn first_of(parts: &[Vec<Trigger>], number: usize) -> Option<u32>
     }
 }
 
-// The first name of a part that stands before. That is its first name, where the part itself is the last before.
+/// The first name of a part that stands before. That is its first name, where the part itself is the last before.
 fn stamp_next(
     seen: &mut Vec<usize>,
     stamp: usize,
@@ -245,7 +245,7 @@ fn stamp_next(
     }
 }
 
-// The first name that a state with these parts has twice.
+/// The first name that a state with these parts has twice.
 fn state_double(
     seen: &mut Vec<usize>,
     stamp: usize,
@@ -272,7 +272,7 @@ fn is_same(one: &[usize], other: &[usize]) -> bool
     one == other
 }
 
-// The first name that a state has twice, with those before it. A state that has the parts of the one before has its names.
+/// The first name that a state has twice, with those before it. A state that has the parts of the one before has its names.
 fn next_double(
     seen: &mut Vec<usize>,
     stamp: usize,
@@ -305,7 +305,7 @@ fn unseen(alloc: Global, count: usize) -> Result<Vec<usize>, AllocError>
     Ok(seen)
 }
 
-// The first name that a state has twice, where there are so many names.
+/// The first name that a state has twice, where there are so many names.
 fn rows_double(
     alloc: Global,
     count: usize,

@@ -79,7 +79,7 @@ impl Timer {
         self.number
     }
 
-    // The timer of a place in a table with eight places for each process.
+    /// The timer of a place in a table with eight places for each process.
     fn at(place: usize) -> Self
         requires { place < MOST_TIMERS }
         ensures { result ≡ timer_at place }
@@ -87,7 +87,7 @@ impl Timer {
         Timer::new((place / 8) as u8, (place % 8) as u8)
     }
 
-    // The timer's place in a table with eight places for each process.
+    /// The timer's place in a table with eight places for each process.
     fn place(self) -> usize
         ensures timer { timer_at result ≡ self }
         ensures in_range { result < MOST_TIMERS }
@@ -243,7 +243,7 @@ impl Wheel {
     }
 }
 
-// What is due at the clock, in the order of the table.
+/// What is due at the clock, in the order of the table.
 fn due_in(table: &[Option<u64>], clock: u64) -> ArrayVec<Due, TIMERS>
     requires { length table.now ≡ MOST_TIMERS }
     ensures { result.items ≡ due_from clock 0 table.now }
@@ -260,7 +260,7 @@ fn due_in(table: &[Option<u64>], clock: u64) -> ArrayVec<Due, TIMERS>
     due
 }
 
-// What a place holds once what is due at the clock has left it.
+/// What a place holds once what is due at the clock has left it.
 fn still_active(deadline: Option<u64>, clock: u64) -> Option<u64>
     ensures { result ≡ kept clock deadline }
 {
@@ -270,7 +270,7 @@ fn still_active(deadline: Option<u64>, clock: u64) -> Option<u64>
     }
 }
 
-// Takes what is due at the clock out of the table.
+/// Takes what is due at the clock out of the table.
 fn forget_due(table: &mut [Option<u64>], clock: u64)
     ensures { table.new ≡ list_map (kept clock) table.old }
 {

@@ -2,7 +2,7 @@
 use super::*;
 use std::test::Fail;
 
-// The timers in the order in which they are due, each as the number of its process and its own.
+/// The timers in the order in which they are due, each as the number of its process and its own.
 fn named(due: &[Due]) -> ArrayVec<(u8, u8), TIMERS> {
     let mut names = ArrayVec::new();
     for d in due {
@@ -115,7 +115,7 @@ fn refusals_change_nothing(rt: HostRuntime) -> Result<(), Fail> {
     Ok(())
 }
 
-// With ample memory each call succeeds at once. Where memory is refused, nothing has changed, and the next call succeeds.
+/// With ample memory each call succeeds at once. Where memory is refused, nothing has changed, and the next call succeeds.
 #[test]
 fn refused_memory_changes_nothing(rt: HostRuntime) -> Result<(), Fail> {
     let mut wheel = match Wheel::new(rt.alloc()) {

@@ -119,7 +119,7 @@ impl RouteTable {
         }
     }
 
-    // Adds a signal that a path brings.
+    /// Adds a signal that a path brings.
     fn add(&mut self, from: Party, to: Party, signal: SignalNumber)
         ensures { (ms : List Mention) → Tells self.old ms
             → Tells self.new (ms ++ (record { from = from; to = to; signal = signal }) ∷ []) }
