@@ -125,7 +125,7 @@ pub expanded_on : (g : Graph) (x s : ℕ) (old new : List Bool) → ((q : ℕ) �
 expanded_on g x s old new stays before step t leads = safe_on t x old new stays (before step t leads)
 
 -- the first of two lists keeps its places
-slice_get_front : {A : Type 0} (xs ys : List A) (k : ℕ) → k < length xs → slice_get (xs ++ ys) k ≡ slice_get xs k
+pub slice_get_front : {A : Type 0} (xs ys : List A) (k : ℕ) → k < length xs → slice_get (xs ++ ys) k ≡ slice_get xs k
 slice_get_front [] ys k h = absurd (omega arith)
 slice_get_front (x ∷ xs) ys zero h = refl
 slice_get_front (x ∷ xs) ys (suc k) h = slice_get_front xs ys k (omega (arith, h))
@@ -169,7 +169,7 @@ entered_by g x seen visits reached visited s here =
     (found.0.path.items, subst P found.2 (reached found.0 found.1))
 
 -- what stands at a place is in the list
-reached_place : {A : Type 0} (xs : List A) (k : ℕ) (a : A) → slice_get xs k ≡ Some a → Contains xs a
+pub reached_place : {A : Type 0} (xs : List A) (k : ℕ) (a : A) → slice_get xs k ≡ Some a → Contains xs a
 reached_place xs k a there = (k, slice_get_within xs k a there, get_or_from_slice_get xs k a a there)
 
 -- what holds between two turns of the search

@@ -1,6 +1,6 @@
 -- Paths through the transitions of a process, and what is read on them before it is set. (Z.100: the transitions of a
 -- process graph.)
-use Rattle.std.specs.Prelude.{◌≡◌, ℕ, ◌<◌, ◌==◌, Bool, true, false, length, ⊤, All, List, [], ◌∷◌, Option, Some, None, Contains, slice_get, option_and_then}
+use Rattle.std.specs.Prelude.{◌≡◌, ℕ, ◌<◌, ◌≤◌, ◌==◌, Bool, true, false, length, ⊤, All, List, [], ◌∷◌, Option, Some, None, Contains, slice_get, option_and_then}
 use Rattle.std.specs.Int.{bit_at}
 use Rattle.unset_paths.specs.declared.Passage.{Passage}
 use Rattle.unset_paths.specs.declared.Summary.{Summary}
@@ -48,6 +48,10 @@ ReadsFrom g x place (step ∷ next ∷ steps) =
 -- a path from START on, the last transition of which reads x unset
 abbrev pub ReadsUnset : Graph → ℕ → List Step → Type 0
 ReadsUnset g x path = ReadsFrom g x None path
+
+-- no path from START on that reads x unset has fewer transitions
+abbrev pub IsShortest : Graph → ℕ → List Step → Type 0
+IsShortest g x path = (other : List Step) → ReadsUnset g x other → length path ≤ length other
 
 -- from a place on, these steps lead to a state, and x isn't set on the way
 abbrev pub Reached : Graph → ℕ → Place → List Step → ℕ → Type 0

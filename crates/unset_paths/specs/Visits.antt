@@ -1,12 +1,12 @@
 -- What a search keeps: the states that it saw, and a visit of each with a path to it.
-use Rattle.std.specs.Prelude.{◌≡◌, ℕ, suc, ◌+◌, ◌<◌, Bool, true, false, List, [], ◌∷◌, ◌++◌, length, Some, None, Contains, All, slice_get, ◌⊎◌}
+use Rattle.std.specs.Prelude.{◌≡◌, ℕ, suc, ◌+◌, ◌<◌, ◌≤◌, Bool, true, false, List, [], ◌∷◌, ◌++◌, length, Some, None, Contains, All, slice_get, ◌⊎◌}
 use Rattle.unset_paths.specs.declared.Passage.{Passage}
 use Rattle.unset_paths.specs.declared.Summary.{Summary}
 use Rattle.unset_paths.specs.declared.Graph.{Graph}
 use Rattle.unset_paths.specs.declared.Step.{Step}
 use Rattle.unset_paths.specs.declared.Step.TheVariants.{Input}
 use Rattle.unset_paths.specs.declared.Visit.{Visit}
-use Rattle.unset_paths.specs.Graph.{has, Reached, IsSeen, IsSafe, IsExpanded}
+use Rattle.unset_paths.specs.Graph.{has, Leads, Passes, Reached, IsSeen, IsSafe, IsExpanded}
 
 -- how many states were not seen
 unfoldable pub unseen : List Bool → ℕ
@@ -72,3 +72,33 @@ AreReached g x visits = (v : Visit) → Contains visits v → Reached g x None v
 -- the first so many visits are expanded
 abbrev pub AreExpanded : Graph → ℕ → List Bool → List Visit → ℕ → Type 0
 AreExpanded g x seen visits next = (k : ℕ) (v : Visit) → k < next → slice_get visits k ≡ Some v → IsExpanded g x seen v.state
+
+-- ---- how far the visits are from START
+
+-- visits in the order of how many steps their paths have, none with more than n
+pub record AreInOrder (n : ℕ) (visits : List Visit) : Type 0 where
+  pub order : (i j : ℕ) (v w : Visit) → i ≤ j → slice_get visits i ≡ Some v → slice_get visits j ≡ Some w → length v.path.items ≤ length w.path.items
+  pub most : (v : Visit) → Contains visits v → length v.path.items ≤ n
+
+abbrev pub StayInOrder : ℕ → List Visit → List Visit → Type 0
+StayInOrder n old new = AreInOrder n old → AreInOrder n new
+
+-- a visit of a state by a path of n steps at most
+pub record IsVisitedWithin (visits : List Visit) (state n : ℕ) : Type 0 where
+  pub visit : Visit
+  pub among : Contains visits visit
+  pub at : visit.state ≡ state
+  pub most : length visit.path.items ≤ n
+
+-- the states to which a transition leads with x unset are visited by paths of n steps at most
+abbrev pub LeadsWithin : Graph → ℕ → List Visit → ℕ → Summary → Type 0
+LeadsWithin g x visits n t = (q : ℕ) → Passes t x q → q < length g.states.items → IsVisitedWithin visits q n
+
+-- The search goes by levels: what is visited before a visit is no further from START, and no visit is more than one step
+-- further than the next one that is expanded.
+pub record AreLevels (g : Graph) (x : ℕ) (visits : List Visit) (next : ℕ) : Type 0 where
+  pub quiet : has g.start.reads x ≡ false
+  pub start : LeadsWithin g x visits 1 g.start
+  pub order : (v : Visit) → slice_get visits next ≡ Some v → AreInOrder (length v.path.items + 1) visits
+  pub near : (k : ℕ) (v : Visit) → k < next → slice_get visits k ≡ Some v → (step : Step) (t : Summary) → Leads g (Some v.state) step t
+      → LeadsWithin g x visits (length v.path.items + 1) t

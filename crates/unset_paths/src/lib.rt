@@ -2,8 +2,8 @@
 #![tactic(auto)]
 
 ghost use Rattle.std.specs.Prelude.{◌≡◌, ℕ, ◌<◌, ◌+◌, List, [], ◌∷◌, ◌++◌, length, IfOk, OnOk, IfSome, IfNone, vec_len};
-ghost use Rattle.unset_paths.specs.Graph.{has, ReadsUnset, IsSeen, Covers, IsClosed, IsClosedSet, AreEntered, IfUnset, IfSet};
-ghost use Rattle.unset_paths.specs.Visits.{unseen, Grows, Adds, Enters, IsBy, IsByInput, ReadsBy, AreSafe, AreReached, AreVisited};
+ghost use Rattle.unset_paths.specs.Graph.{has, ReadsUnset, IsShortest, IsSeen, Covers, IsClosed, IsClosedSet, AreEntered, IfUnset, IfSet};
+ghost use Rattle.unset_paths.specs.Visits.{unseen, Grows, Adds, Enters, IsBy, IsByInput, ReadsBy, AreSafe, AreReached, AreVisited, StayInOrder, AreLevels};
 
 use std::alloc::{AllocError, Global};
 
@@ -87,6 +87,7 @@ fn see(
     ensures grows { OnOk result (Grows seen.old.items visits.old.items seen.new.items visits.new.items) }
     ensures seen { OnOk result (IsSeen seen.new.items state) }
     ensures adds { OnOk result (Adds state path.now visits.old.items visits.new.items) }
+    ensures order { OnOk result (StayInOrder (length path.now) visits.old.items visits.new.items) }
 {
     if state >= seen.len() || seen[state] {
         return Ok(());
@@ -110,6 +111,7 @@ fn enter(
     ensures grows { OnOk result (Grows seen.old.items visits.old.items seen.new.items visits.new.items) }
     ensures covers { OnOk result (Covers passages.now variable seen.new.items) }
     ensures enters { OnOk result (Enters (IsBy passages.now variable path.now) visits.old.items visits.new.items) }
+    ensures order { OnOk result (StayInOrder (length path.now) visits.old.items visits.new.items) }
 {
     for passage in passages {
         if contains(passage.keeps, variable) {
@@ -133,6 +135,7 @@ fn expand(
     ensures found { IfOk result (λ o. IfSome o (λ longer. ReadsBy inputs.now variable state path.now longer.items)) }
     ensures grows { OnOk result (Grows seen.old.items visits.old.items seen.new.items visits.new.items) }
     ensures enters { OnOk result (Enters (IsByInput inputs.now variable state path.now) visits.old.items visits.new.items) }
+    ensures order { OnOk result (StayInOrder (length path.now + 1) visits.old.items visits.new.items) }
     ensures none { IfOk result (λ o. IfNone o (AreSafe inputs.now variable seen.new.items)) }
 {
     for (number, summary) in inputs.iter().enumerate() {
@@ -145,7 +148,7 @@ fn expand(
     Ok(None)
 }
 
-/// Whether some path reads the variable unset. Of several it is the first one among those with the fewest transitions,
+/// Whether some path reads the variable unset. Of several it is one with the fewest transitions, and the first of these,
 /// which is shown by tests alone: a path comes before another one where its first other transition comes before that of
 /// the other one.
 ///
@@ -153,6 +156,7 @@ fn expand(
 pub fn first_unset(alloc: Global, graph: &Graph, variable: u32) -> Result<Fate, AllocError>
     requires { variable < 32 }
     ensures found { IfOk result (λ f. IfUnset f (λ path. ReadsUnset graph.now variable path.items)) }
+    ensures fewest { IfOk result (λ f. IfUnset f (λ path. IsShortest graph.now variable path.items)) }
     ensures none { IfOk result (λ f. IfSet f (λ _. (path : List Step) → ReadsUnset graph.now variable path → ⊥)) }
     ensures closed { IfOk result (λ f. IfSet f (λ marks. IsClosedSet graph.now variable marks.items)) }
     ensures entered { IfOk result (λ f. IfSet f (λ marks. AreEntered graph.now variable marks.items)) }
@@ -190,7 +194,9 @@ fn search(
     requires reached { AreReached graph.now variable visits.old.items }
     requires visited { AreVisited seen.old.items visits.old.items }
     requires count { length visits.old.items + unseen seen.old.items ≡ length seen.old.items }
+    requires levels { AreLevels graph.now variable visits.old.items 0 }
     ensures found { IfOk result (λ o. IfSome o (λ path. ReadsUnset graph.now variable path.items)) }
+    ensures fewest { IfOk result (λ o. IfSome o (λ path. IsShortest graph.now variable path.items)) }
     ensures states { OnOk result (length seen.new.items ≡ length seen.old.items) }
     ensures stays { OnOk result ((s : ℕ) → IsSeen seen.old.items s → IsSeen seen.new.items s) }
     ensures none { IfOk result (λ o. IfNone o (IsClosed graph.now variable seen.new.items)) }

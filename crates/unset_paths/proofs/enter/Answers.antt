@@ -13,12 +13,14 @@ loop-passage-preserved c =
             grows = grows_on _ _ _ _ _ _ c.loop-passage.invariant.grows told.grows;
             covers = covers_more c.args.passages.now c.loop-passage.passage-index c.args.variable (record { state = 0; keeps = 0 }) _ _ c.loop-passage-test.true told.grows.stays c.loop-passage.invariant.covers (λ _. told.seen);
             enters = enters_on _ _ _ _ _ _ c.loop-passage.invariant.enters told.adds (λ _ h. h) (by_passage c.args.passages.now c.loop-passage.passage-index c.args.variable (record { state = 0; keeps = 0 }) c.args.path.now c.loop-passage-test.true keeps);
+            order = λ h. told.order (c.loop-passage.invariant.order h);
           })
       | else-contains w ↦
           rw (w.seen-is, w.visits-is) (record {
             grows = c.loop-passage.invariant.grows;
             covers = covers_more c.args.passages.now c.loop-passage.passage-index c.args.variable (record { state = 0; keeps = 0 }) _ _ c.loop-passage-test.true (λ _ h. h) c.loop-passage.invariant.covers (λ e. let no : false ≡ true = w.if-contains.ensures ∙ e in absurd (cc));
             enters = c.loop-passage.invariant.enters;
+            order = c.loop-passage.invariant.order;
           })
     ]
 

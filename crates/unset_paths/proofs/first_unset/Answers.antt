@@ -1,16 +1,20 @@
-use Rattle.std.proofs.Common.{◌≡◌, [], rules, arith, refl, sym, ap, ◌∙◌, Option, length, List, Bool, false, subst, Vec, Global}
+use Rattle.std.proofs.Common.{◌≡◌, ℕ, [], rules, arith, refl, sym, ap, ◌∙◌, Option, length, List, Bool, false, subst, Vec, Global}
 use Rattle.std.specs.Prelude.{IfNone, replicate}
 use Rattle.unset_paths.specs.Graph.{IsClosed, AreEntered, ReadsUnset, has, Covers}
-use Rattle.unset_paths.specs.Visits.{Enters, IsBy, AreVisited, unseen}
+use Rattle.unset_paths.specs.Visits.{Enters, IsBy, AreVisited, StayInOrder, AreInOrder, unseen}
 use Rattle.unset_paths.specs.declared.Step.{Step}
 use Rattle.unset_paths.specs.declared.Visit.{Visit}
 use Rattle.unset_paths.proofs.Walking.{closed_set, none_with, visited_none, unseen_all, reached_from_start}
+use Rattle.unset_paths.proofs.Levels.{levels_from, order_none, shortest_start}
 use Rattle.unset_paths.proofs.first_unset.Goals as goal
 
 pub returns-then-contains-clause-found : goal.returns-then-contains-clause-found
 returns-then-contains-clause-found c =
     let P : List Step → Type 0 = λ l. ReadsUnset c.args.graph.now c.args.variable l in
     subst P (sym c.in_ok-start.ensures) (c.args.graph.now.start, refl, sym c.if-contains.ensures)
+
+pub returns-then-contains-clause-fewest : goal.returns-then-contains-clause-fewest
+returns-then-contains-clause-fewest c = shortest_start c.args.graph.now c.args.variable _ (ap length c.in_ok-start.ensures)
 
 pub search-requires-clause-reached : goal.search-requires-clause-reached
 search-requires-clause-reached c =
@@ -25,6 +29,20 @@ search-requires-clause-visited c =
     let P : List Bool → Type 0 = λ l. AreVisited l c.new-visits.result.items in
     let Q : List Visit → Type 0 = λ l. AreVisited (replicate (length c.args.graph.now.states.items) false) l in
     c.in_ok-enter.ensures.grows.visited (subst P (sym blank) (subst Q (sym c.new-visits.ensures.items) (visited_none (length c.args.graph.now.states.items))))
+
+pub search-requires-clause-levels : goal.search-requires-clause-levels
+search-requires-clause-levels c =
+    let n = length c.args.graph.now.states.items in
+    let blank : length c.in_ok-seen.seen.items ≡ n = search rules in
+    let quiet : has c.args.graph.now.start.reads c.args.variable ≡ false = sym c.if-contains.ensures in
+    let covers : Covers c.args.graph.now.start.passages.items c.args.variable c.enter.new.seen.items =
+    rw c.deref.ensures.value at c.in_ok-enter.ensures.covers in
+    let one : length c.deref-2.result.now ≡ 1 = ap length (c.deref-2.ensures.value ∙ c.in_ok-start.ensures) in
+    let P : ℕ → Type 0 = λ m. StayInOrder m c.new-visits.result.items c.enter.new.visits.items in
+    let Q : List Visit → Type 0 = λ l. AreInOrder 1 l in
+    levels_from c.args.graph.now c.args.variable c.enter.new.seen.items c.enter.new.visits.items quiet
+    (c.in_ok-enter.ensures.grows.states ∙ blank) (search-requires-clause-visited c) covers
+    (subst P one c.in_ok-enter.ensures.order (subst Q (sym c.new-visits.ensures.items) (order_none 1)))
 
 pub search-requires-clause-count : goal.search-requires-clause-count
 search-requires-clause-count c =

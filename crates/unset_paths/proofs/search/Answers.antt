@@ -1,9 +1,12 @@
-use Rattle.std.proofs.Common.{◌≡◌, ◌<◌, ◌≤◌, rules, refl, sym, ◌∙◌, Some, None, length}
+use Rattle.std.proofs.Common.{◌≡◌, ◌<◌, ◌≤◌, ◌+◌, List, rules, refl, sym, ap, subst, ◌∙◌, Some, None, length, length-append}
 use Rattle.std.specs.Prelude.{slice_get}
 use Rattle.std.proofs.lemmas.Option.{slice_get_read, get_or_from_slice_get}
 use Rattle.unset_paths.specs.Graph.{Reached}
-use Rattle.unset_paths.specs.Visits.{Enters, IsByInput, AreSafe}
-use Rattle.unset_paths.proofs.Walking.{Progress, progress_on, progress_past, closed_by, entered_by, found_by, some_weaker, when_none}
+use Rattle.unset_paths.specs.Visits.{Enters, IsByInput, AreSafe, StayInOrder, ReadsBy}
+use Rattle.unset_paths.proofs.Walking.{Progress, progress_on, progress_past, closed_by, entered_by, expanded_by, expanded_past, found_by, some_weaker, when_none}
+use Rattle.unset_paths.proofs.Seen.{grows_not}
+use Rattle.unset_paths.specs.declared.Step.{Step}
+use Rattle.unset_paths.proofs.Levels.{levels_on, shortest_by}
 use Rattle.unset_paths.proofs.search.Goals as goal
 use Rattle.unset_paths.proofs.search.Goals.{then-state-len+in_ok-found+else-is_some+in-Some-1, then-state-len+in_ok-found+else-is_some+in-None-1, else-state-len}
 
@@ -19,6 +22,18 @@ returns-then-is_some-clause-found c =
     let here : Reached c.args.graph.now c.args.variable None v.path.items v.state =
     c.loop-next.invariant.reached v (c.loop-next.next, within, get_or_from_slice_get visits c.loop-next.next v v there) in
     some_weaker _ _ c.in_ok-found.found (λ longer r. found_by c.args.graph.now c.args.variable v.state v.path.items c.index-inputs.result.now longer.items here state (rw (c.deref.ensures.value, c.deref-then-state-len.ensures.value, c.in_ok-path.ensures.items, c.as_slice.ensures.value) at r)) c.in_ok-found.ensures.found
+
+pub returns-then-is_some-clause-fewest : goal.returns-then-is_some-clause-fewest
+returns-then-is_some-clause-fewest c =
+    let visits = c.loop-next.visits.items in
+    let v = c.index-visit.result.now in
+    let within : c.loop-next.next < length visits = search rules in
+    let there : slice_get visits c.loop-next.next ≡ Some v = slice_get_read visits (length visits) c.loop-next.next v refl within (search rules) in
+    some_weaker _ _ c.in_ok-found.found (λ longer r.
+    let by : ReadsBy c.index-inputs.result.now.items c.args.variable v.state v.path.items longer.items =
+    rw (c.deref.ensures.value, c.deref-then-state-len.ensures.value, c.in_ok-path.ensures.items, c.as_slice.ensures.value) at r in
+    shortest_by c.args.graph.now c.args.variable c.loop-next.next v c.loop-next.seen.items visits c.loop-next.invariant.levels c.loop-next.invariant.expanded there longer.items
+    (ap length by.all ∙ length-append v.path.items _)) c.in_ok-found.ensures.found
 
 pub loop-next-preserved : goal.loop-next-preserved
 loop-next-preserved c =
@@ -47,6 +62,10 @@ loop-next-preserved c =
           let none : AreSafe w.index-inputs.result.now.items c.args.variable w.expand.new.seen.items = rw w.deref.ensures.value at (when_none w.in_ok-found.found _ (sym w.if-is_some.ensures) told.none) in
           let p = progress_on c.args.graph.now c.args.variable c.loop-next.next v w.index-inputs.result.now w.deref-then-state-len.result.now
           c.loop-next.seen.items visits w.expand.new.seen.items w.expand.new.visits.items before there path_is state told.grows enters none in
+          let P : List Step → Type 0 = λ l. StayInOrder (length l + 1) visits w.expand.new.visits.items in
+          let levels_here = levels_on c.args.graph.now c.args.variable c.loop-next.next v c.loop-next.seen.items visits w.expand.new.seen.items w.expand.new.visits.items
+          c.loop-next.invariant.levels there told.grows p.states p.visited
+          (expanded_by c.args.graph.now c.args.variable v.state w.index-inputs.result.now w.expand.new.seen.items state none) (subst P path_is told.order) in
           rw (w.seen-is, w.visits-is) (record {
             states = told.grows.states ∙ c.loop-next.invariant.states;
             stays = λ s h. told.grows.stays s (c.loop-next.invariant.stays s h);
@@ -54,6 +73,7 @@ loop-next-preserved c =
             visited = p.visited;
             count = p.count;
             expanded = p.expanded;
+            levels = levels_here;
             within = p.within;
           })
       | then-state-len+in_ok-found+else-is_some+in-None-1 w ↦
@@ -68,6 +88,10 @@ loop-next-preserved c =
           let none : AreSafe w.index-inputs.result.now.items c.args.variable w.expand.new.seen.items = rw w.deref.ensures.value at (when_none w.in_ok-found.found _ (sym w.if-is_some.ensures) told.none) in
           let p = progress_on c.args.graph.now c.args.variable c.loop-next.next v w.index-inputs.result.now w.deref-then-state-len.result.now
           c.loop-next.seen.items visits w.expand.new.seen.items w.expand.new.visits.items before there path_is state told.grows enters none in
+          let P : List Step → Type 0 = λ l. StayInOrder (length l + 1) visits w.expand.new.visits.items in
+          let levels_here = levels_on c.args.graph.now c.args.variable c.loop-next.next v c.loop-next.seen.items visits w.expand.new.seen.items w.expand.new.visits.items
+          c.loop-next.invariant.levels there told.grows p.states p.visited
+          (expanded_by c.args.graph.now c.args.variable v.state w.index-inputs.result.now w.expand.new.seen.items state none) (subst P path_is told.order) in
           rw (w.seen-is, w.visits-is) (record {
             states = told.grows.states ∙ c.loop-next.invariant.states;
             stays = λ s h. told.grows.stays s (c.loop-next.invariant.stays s h);
@@ -75,11 +99,15 @@ loop-next-preserved c =
             visited = p.visited;
             count = p.count;
             expanded = p.expanded;
+            levels = levels_here;
             within = p.within;
           })
       | else-state-len w ↦
           let past : length c.args.graph.now.states.items ≤ v.state = search rules in
           let p = progress_past c.args.graph.now c.args.variable c.loop-next.next v c.loop-next.seen.items visits before there past in
+          let levels_here = levels_on c.args.graph.now c.args.variable c.loop-next.next v c.loop-next.seen.items visits c.loop-next.seen.items visits
+          c.loop-next.invariant.levels there (grows_not c.loop-next.seen.items visits) before.states before.visited
+          (expanded_past c.args.graph.now c.args.variable v.state c.loop-next.seen.items past) (λ h. h) in
           rw (w.seen-is, w.visits-is) (record {
             states = c.loop-next.invariant.states;
             stays = c.loop-next.invariant.stays;
@@ -87,6 +115,7 @@ loop-next-preserved c =
             visited = p.visited;
             count = p.count;
             expanded = p.expanded;
+            levels = levels_here;
             within = p.within;
           })
     ]

@@ -2,6 +2,7 @@ use Rattle.std.proofs.Common.{◌≡◌, ◌<◌, false, Some, length, rules, re
 use Rattle.std.specs.Prelude.{slice_get}
 use Rattle.std.proofs.lemmas.Option.{slice_get_read}
 use Rattle.unset_paths.proofs.Seen.{grows_by, get_set_same}
+use Rattle.unset_paths.proofs.Levels.{order_added}
 use Rattle.unset_paths.proofs.see.Goals as goal
 
 pub returns-clause-grows : goal.returns-clause-grows
@@ -16,3 +17,6 @@ pub returns-clause-seen : goal.returns-clause-seen
 returns-clause-seen c = λ h.
     let within : c.args.state < length c.args.seen.now.items = search rules in
     get_set_same _ _ _ within
+
+pub returns-clause-order : goal.returns-clause-order
+returns-clause-order c = order_added _ _ _ (record { state = c.args.state; path = c.in_ok-path.path }) (ap length (search rules)) (search rules)
