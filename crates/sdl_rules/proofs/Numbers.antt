@@ -373,7 +373,7 @@ passes_by p u t sum v id x events s q is var same e walk state unset =
 
 numbers_from : (p : PlainProcess) (g : Graph) (v : ℕ) (id : Identifier) (x : List ℕ) → IsGraphOf p g → slice_get (variable_names p) v ≡ Some id
     → folded x ≡ folded id.name → (steps : List Step) (s : List ℕ) (q : ℕ) → number_of (states_of p) s ≡ Some q → ReadsFrom p (Some s) steps x
-    → (path : List number.Step) × graph.ReadsFrom g v (Some q) path
+    → (path : List number.Step) × graph.ReadsFrom g v (Some q) path × (length path ≡ length steps)
 numbers_from p g v id x is var same [] s q state r = absurd r
 numbers_from p g v id x is var same (Start ∷ []) s q state r = absurd r.1
 numbers_from p g v id x is var same (Start ∷ next ∷ steps) s q state r = absurd r.1
@@ -382,7 +382,7 @@ numbers_from p g v id x is var same (Takes name signal ∷ []) s q state (t, (sp
     let at : here.0 ≡ q = let h : Some here.0 ≡ Some q = sym here.3 ∙ state in cc in
     let input = input_in_graph p g here.0 here.2 here.1 inp is here.4 here.5 in
     let told = read_by p (input_transition inp) t input.0 v id x events end input.2 var same e walk first in
-    (By here.0 here.2 ∷ [], (input.0, (at, ap (λ m. input_at g m here.2) (sym at) ∙ input.1), told))
+    (By here.0 here.2 ∷ [], (input.0, (at, ap (λ m. input_at g m here.2) (sym at) ∙ input.1), told), refl)
 numbers_from p g v id x is var same (Takes name signal ∷ next ∷ steps) s q state (t, (spelled, inp, among, heard, e), events, s2, walk, unset, rest) =
     let here = taken p s inp among in
     let at : here.0 ≡ q = let h : Some here.0 ≡ Some q = sym here.3 ∙ state in cc in
@@ -390,28 +390,38 @@ numbers_from p g v id x is var same (Takes name signal ∷ next ∷ steps) s q s
     let after = state_there p s2 (next ∷ steps) x rest in
     let passes = passes_by p (input_transition inp) t input.0 v id x events s2 after.0 input.2 var same e walk after.1 unset in
     let path = numbers_from p g v id x is var same (next ∷ steps) s2 after.0 after.1 rest in
-    (By here.0 here.2 ∷ path.0, longer g v (Some q) (By here.0 here.2) input.0 after.0 (at, ap (λ m. input_at g m here.2) (sym at) ∙ input.1) passes path.0 path.1)
+    (By here.0 here.2 ∷ path.0, longer g v (Some q) (By here.0 here.2) input.0 after.0 (at, ap (λ m. input_at g m here.2) (sym at) ∙ input.1) passes path.0 path.1, ap suc path.2)
 
--- a path by names that reads a declared variable unset is one by numbers
+-- a path by names that reads a declared variable unset is one by numbers, as long
 numbers_of : (p : PlainProcess) (g : Graph) (v : ℕ) (id : Identifier) (x : List ℕ) → IsGraphOf p g → slice_get (variable_names p) v ≡ Some id
-    → folded x ≡ folded id.name → (steps : List Step) → ReadsUnset p steps x → (path : List number.Step) × graph.ReadsUnset g v path
+    → folded x ≡ folded id.name → (steps : List Step) → ReadsUnset p steps x
+    → (path : List number.Step) × graph.ReadsUnset g v path × (length path ≡ length steps)
 numbers_of p g v id x is var same [] r = absurd r
 numbers_of p g v id x is var same (Takes name signal ∷ []) r = absurd r.1
 numbers_of p g v id x is var same (Takes name signal ∷ next ∷ steps) r = absurd r.1
 numbers_of p g v id x is var same (Start ∷ []) (t, leads, events, end, walk, first) =
     let told = read_by p (start_transition p) t g.start v id x events end is.start var same leads walk first in
-    (First ∷ [], (g.start, refl, told))
+    (First ∷ [], (g.start, refl, told), refl)
 numbers_of p g v id x is var same (Start ∷ next ∷ steps) (t, leads, events, s2, walk, unset, rest) =
     let after = state_there p s2 (next ∷ steps) x rest in
     let passes = passes_by p (start_transition p) t g.start v id x events s2 after.0 is.start var same leads walk after.1 unset in
     let path = numbers_from p g v id x is var same (next ∷ steps) s2 after.0 after.1 rest in
-    (First ∷ path.0, longer g v None First g.start after.0 refl passes path.0 path.1)
+    (First ∷ path.0, longer g v None First g.start after.0 refl passes path.0 path.1, ap suc path.2)
+
+-- a path by names that reads some variable unset is one by numbers of a declared one
+pub numbered_path : (b : PlainBlock) (p : PlainProcess) (g : Graph) → process_unknown b p ≡ [] → IsGraphOf p g → (steps : List Step) (x : List ℕ)
+    → ReadsUnset p steps x
+    → (v : ℕ) × (id : Identifier) × (slice_get (variable_names p) v ≡ Some id) × (path : List number.Step) × graph.ReadsUnset g v path
+    × (length path ≡ length steps)
+numbered_path b p g known is steps x r =
+    let named = has_number (variable_names p) x (read_declared b p (are_known b p known) steps None x r) in
+    let path = numbers_of p g named.0 named.1 x is named.2 named.3 steps r in
+    (named.0, named.1, named.2, path.0, path.1, path.2)
 
 -- where no path by numbers reads a variable unset, none by names does
 pub never_reads : (b : PlainBlock) (p : PlainProcess) (g : Graph) → process_unknown b p ≡ [] → IsGraphOf p g
     → ((v : ℕ) (id : Identifier) → slice_get (variable_names p) v ≡ Some id → (path : List number.Step) → graph.ReadsUnset g v path → ⊥)
     → NeverReadsUnset p
 never_reads b p g known is none steps x r =
-    let named = has_number (variable_names p) x (read_declared b p (are_known b p known) steps None x r) in
-    let path = numbers_of p g named.0 named.1 x is named.2 named.3 steps r in
-    none named.0 named.1 named.2 path.0 path.1
+    let there = numbered_path b p g known is steps x r in
+    none there.0 there.1 there.2 there.3 there.4

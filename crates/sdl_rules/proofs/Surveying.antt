@@ -3,9 +3,9 @@ use Rattle.std.proofs.Common.{◌≡◌, ℕ, zero, suc, ◌+◌, ◌<◌, ◌�
 use Rattle.std.specs.Prelude.{slice_get, Contains, All, IfSome}
 use Rattle.std.specs.List.{AllZip, flat_map, list_any}
 use Rattle.std.specs.Global.{Vec}
-use Rattle.std.specs.Option.{option_map}
+use Rattle.std.specs.Option.{option_map, option_map_or}
 use Rattle.std.proofs.lemmas.List.{length-map, take_more, map-append}
-use Rattle.std.proofs.lemmas.List.Elements.{All-contains}
+use Rattle.std.proofs.lemmas.List.Elements.{All-contains, All-push}
 use Rattle.std.proofs.lemmas.Bool.Decides.{leb_tells}
 use Rattle.std.proofs.lemmas.Option.{slice_get-get_or, slice_get_within, slice_get-map}
 use Rattle.sdl_tree.specs.declared.tree.Process as the_process
@@ -17,20 +17,22 @@ use Rattle.sdl_rules.specs.Actions.{in_statements}
 use Rattle.sdl_rules.specs.Decisions.{statement_unanswered, unanswered}
 use Rattle.sdl_rules.specs.Orders.{IsOrder, AreOrders}
 use Rattle.sdl_rules.specs.Refusals.{IsWithin}
-use Rattle.sdl_rules.specs.Paths.{ReadsUnset}
+use Rattle.sdl_rules.specs.Paths.{ReadsUnset, IsShortest, NeverReadsUnset}
 use Rattle.sdl_rules.specs.Surveys.{IsUnset}
 use Rattle.sdl_rules.specs.declared.settled.Unset.{Unset}
 use Rattle.sdl_rules.specs.declared.fault.Limit.TheVariants.{Processes, States, Variables, Timers, Signals, Params, Pieces}
 use Rattle.sdl_rules.proofs.Repeats.{append-nil_right}
-use Rattle.sdl_rules.proofs.Numbers.{none_at}
+use Rattle.sdl_rules.proofs.Numbers.{none_at, numbered_path}
+use Rattle.sdl_rules.proofs.Settling.{there_is}
 use Rattle.sdl_rules.proofs.PathNames.{contains_at, all_zip_at, named_reads, steps_there}
 use Rattle.sdl_rules.proofs.Spelling.{spelling_at, declared_steps}
-use Rattle.sdl_rules.specs.Fates.{AreFates, IsUnsetAt, IsStep, IsNamed, IsSpelled}
+use Rattle.sdl_rules.specs.Fates.{IsFate, AreFates, IsUnsetAt, path_of, fate_path, HasFewest, IsStep, IsNamed, IsSpelled}
 use Rattle.sdl_rules.specs.Spellings.{AreDeclared}
 use Rattle.sdl_rules.specs.declared.fault.Step.{Step}
 use Rattle.sdl_tree.specs.declared.expression.Identifier.{Identifier}
 use Rattle.unset_paths.specs.declared.Fate.{Fate}
-use Rattle.unset_paths.specs.declared.Fate.TheVariants.{Unset as Path}
+use Rattle.unset_paths.specs.declared.Fate.TheVariants.{Unset as Path, Set as Marks}
+use Rattle.unset_paths.specs.declared.Graph as graphs
 use Rattle.unset_paths.specs.declared.Step as number
 use Rattle.unset_paths.specs.Graph as graph
 
@@ -133,6 +135,40 @@ shorter_is b ps best other r one found last = elim one [
   | inr e ↦ subst (λ (o : Option Unset). IfSome o (IsUnsetAmong b ps)) e found
 ]
 
+-- and no path of the processes so far is shorter
+abbrev pub AreShortest : List PlainProcess → Unset → Type 0
+AreShortest ps u = All (λ q. IsShortest q u.path.steps.items) ps
+
+-- a path that is no longer than one that is shortest
+shortest_for : (q : PlainProcess) (short long : List Step) → length short ≤ length long → IsShortest q long → IsShortest q short
+shortest_for q short long le h other x reads = omega (arith, le, h other x reads)
+
+never_shortest : (q : PlainProcess) (path : List Step) → NeverReadsUnset q → IsShortest q path
+never_shortest q path never other x reads = absurd (never other x reads)
+
+-- one process more, no path of which reads a variable unset
+pub shortest_past : (ps : List PlainProcess) (q : PlainProcess) (best : Option Unset) → NeverReadsUnset q → IfSome best (AreShortest ps)
+    → IfSome best (AreShortest (ps ++ q ∷ []))
+shortest_past ps q None never before = tt
+shortest_past ps q (Some u) never before =
+    All-push (λ z. IsShortest z u.path.steps.items) ps q before (never_shortest q u.path.steps.items never)
+
+-- the path that is named is no longer than those before, by way of the best before
+shortest_before : (ps : List PlainProcess) (best : Option Unset) (r : Unset)
+    → IfSome best (λ one. length r.path.steps.items ≤ length one.path.steps.items) → (best ≡ None → All NeverReadsUnset ps)
+    → IfSome best (AreShortest ps) → AreShortest ps r
+shortest_before ps None r than none before = λ k d within. never_shortest (get_or ps k d) r.path.steps.items (none refl k d within)
+shortest_before ps (Some one) r than none before = λ k d within. shortest_for (get_or ps k d) r.path.steps.items one.path.steps.items than (before k d within)
+
+-- one process more, with a path that does
+pub shortest_more : (ps : List PlainProcess) (q : PlainProcess) (best : Option Unset) (other r : Unset)
+    → length r.path.steps.items ≤ length other.path.steps.items
+    → IfSome best (λ one. length r.path.steps.items ≤ length one.path.steps.items) → (best ≡ None → All NeverReadsUnset ps)
+    → IfSome best (AreShortest ps) → IsShortest q other.path.steps.items → AreShortest (ps ++ q ∷ []) r
+shortest_more ps q best other r fewer than none before last =
+    All-push (λ z. IsShortest z r.path.steps.items) ps q (shortest_before ps best r than none before)
+    (shortest_for q r.path.steps.items other.path.steps.items fewer last)
+
 -- what holds of each process holds of the one at a place
 pub all_at_table : (P : PlainProcess → Type 0) (ts : List the_process.Process) (ps : List PlainProcess) (i : ℕ) (t : the_process.Process)
     → map process_of ts ≡ ps → All P ps → i < length ts → t ≡ get_or ts i t → P (process_of t)
@@ -143,17 +179,39 @@ all_at_table P ts ps i t same all within read =
 
 -- the fate of a variable that is read unset
 pub unset_fate : (p : PlainProcess) (fates : List Fate) (n : ℕ) (a : AreFates p fates) (u : IsUnsetAt fates n) (shown : List number.Step)
-    → ((path : Vec number.Step) → slice_get fates n ≡ Some (Path path) → shown ≡ path.items) → graph.ReadsUnset a.graph n shown
+    → shown ≡ fate_path fates n → graph.ReadsUnset a.graph n shown
 unset_fate p fates n a u shown is =
-    subst (graph.ReadsUnset a.graph n) (sym (is u.0 u.1)) (a.each n (Path u.0) u.1)
+    let path : shown ≡ u.0.items = is ∙ ap (λ (o : Option Fate). option_map_or path_of o []) u.1 in
+    subst (graph.ReadsUnset a.graph n) (sym path) (a.each n (Path u.0) u.1).0
+
+-- a path that reads a variable unset is no shorter than that which its fate is
+fate_fewest : (g : graphs.Graph) (fates : List Fate) (v : ℕ) (f : Fate) (path : List number.Step) → slice_get fates v ≡ Some f → IsFate g v f
+    → graph.ReadsUnset g v path → IsUnsetAt fates v × (length (fate_path fates v) ≤ length path)
+fate_fewest g fates v (Marks marks) path there fate reads = absurd (fate.0 path reads)
+fate_fewest g fates v (Path found) path there fate reads =
+    let long : length (fate_path fates v) ≡ length found.items = ap (λ (o : Option Fate). length (option_map_or path_of o [])) there in
+    ((found, there), omega (arith, long, fate.1 path reads))
+
+-- no path of the process is shorter than one to the variable that is named
+pub survey_shortest : (b : PlainBlock) (p : PlainProcess) (fates : List Fate) (n : ℕ) → process_unknown b p ≡ [] → AreFates p fates → HasFewest fates n
+    → (shown : List number.Step) → shown ≡ fate_path fates n → (steps : List Step) → AllZip (IsNamed p) shown steps → IsShortest p steps
+survey_shortest b p fates n known a fewest shown is steps named other x reads =
+    let path = numbered_path b p a.graph known a.is other x reads in
+    let names : length (variable_names p) ≡ length (variables_of p) = length-map (variables_of p) (λ y. y.name) in
+    let within : path.0 < length fates = omega (arith, slice_get_within (variable_names p) path.0 path.1 path.2, names, a.count) in
+    let fate = there_is fates path.0 within in
+    let told = fate_fewest a.graph fates path.0 fate.0 path.3 fate.1 (a.each path.0 fate.0 fate.1) path.4 in
+    let long : length shown ≡ length steps = zip_length (IsNamed p) shown steps named in
+    let same : length shown ≡ length (fate_path fates n) = ap length is in
+    omega (arith, told.1, fewest path.0 told.0, long, same, path.5)
 
 pub survey_steps : (p : PlainProcess) (fates : List Fate) (n : ℕ) → AreFates p fates → IsUnsetAt fates n → (shown : List number.Step)
-    → ((path : Vec number.Step) → slice_get fates n ≡ Some (Path path) → shown ≡ path.items) → All (IsStep p) shown
+    → shown ≡ fate_path fates n → All (IsStep p) shown
 survey_steps p fates n a u shown is k d within =
     steps_there p a.graph n a.is shown (unset_fate p fates n a u shown is) k (get_or shown k d) (slice_get-get_or shown k d within)
 
 pub survey_reads : (p : PlainProcess) (fates : List Fate) (n : ℕ) → AreFates p fates → IsUnsetAt fates n → (shown : List number.Step)
-    → ((path : Vec number.Step) → slice_get fates n ≡ Some (Path path) → shown ≡ path.items) → (id : Identifier) → slice_get (variable_names p) n ≡ Some id
+    → shown ≡ fate_path fates n → (id : Identifier) → slice_get (variable_names p) n ≡ Some id
     → (steps : List Step) → AllZip (IsNamed p) shown steps → ReadsUnset p steps id.name
 survey_reads p fates n a u shown is id var steps named =
     named_reads p a.graph n id a.is var shown steps (unset_fate p fates n a u shown is) named

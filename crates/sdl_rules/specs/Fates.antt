@@ -1,5 +1,5 @@
 -- What becomes of the variables of a process, and how a path by numbers is named.
-use Rattle.std.specs.Prelude.{◌≡◌, ℕ, ◌<◌, Bool, true, false, not, List, Option, Some, length, slice_get, if◌then◌else◌, ⊤}
+use Rattle.std.specs.Prelude.{◌≡◌, ℕ, ◌<◌, ◌≤◌, Bool, true, false, not, List, [], Option, Some, length, slice_get, if◌then◌else◌, ⊤}
 use Rattle.std.specs.Option.{option_map_or, option_and_then}
 use Rattle.std.specs.Global.{Vec}
 use Rattle.unset_paths.specs.declared.Graph.{Graph}
@@ -7,7 +7,7 @@ use Rattle.unset_paths.specs.declared.Fate.{Fate}
 use Rattle.unset_paths.specs.declared.Fate.TheVariants.{Unset, Set}
 use Rattle.unset_paths.specs.declared.Step as number
 use Rattle.unset_paths.specs.declared.Step.TheVariants.{Start as First, Input as By}
-use Rattle.unset_paths.specs.Graph.{IsClosedSet, ReadsUnset}
+use Rattle.unset_paths.specs.Graph.{IsClosedSet, ReadsUnset, IsShortest}
 use Rattle.sdl_tree.specs.Plain.{PlainProcess, PlainBlock}
 use Rattle.sdl_tree.specs.declared.expression.Identifier.{Identifier}
 use Rattle.sdl_tables.specs.Names.{same_name, number_of, variables_of, timers_of, states_of, Input, inputs_of, signal_named}
@@ -15,9 +15,10 @@ use Rattle.sdl_rules.specs.Graphs.{IsGraphOf}
 use Rattle.sdl_rules.specs.declared.fault.Step.{Step}
 use Rattle.sdl_rules.specs.declared.fault.Step.TheVariants.{Start, Input as Takes}
 
--- variable v of a graph is read unset by the path, or no path reads it unset, and the states are closed
+-- variable v of a graph is read unset by the path, and by none with fewer steps; or no path reads it unset, and the states are
+-- closed
 abbrev pub IsFate : Graph → ℕ → Fate → Type 0
-IsFate g v (Unset path) = ReadsUnset g v path.items
+IsFate g v (Unset path) = ReadsUnset g v path.items × IsShortest g v path.items
 IsFate g v (Set marks) = ((path : List number.Step) → ReadsUnset g v path → ⊥) × IsClosedSet g v marks.items
 
 -- the fate of each variable of a process
@@ -67,6 +68,18 @@ IsSpelled b p (By q i) n =
 -- a path reads this variable unset
 abbrev pub IsUnsetAt : List Fate → ℕ → Type 0
 IsUnsetAt fates v = (path : Vec number.Step) × (slice_get fates v ≡ Some (Unset path))
+
+-- the path by which a variable is read unset; empty where there is none
+abbrev pub path_of : Fate → List number.Step
+path_of (Unset path) = path.items
+path_of (Set marks) = []
+
+abbrev pub fate_path : List Fate → ℕ → List number.Step
+fate_path fates v = option_map_or path_of (slice_get fates v) []
+
+-- none of the variables that are read unset is so by fewer steps
+abbrev pub HasFewest : List Fate → ℕ → Type 0
+HasFewest fates v = (w : ℕ) → IsUnsetAt fates w → length (fate_path fates v) ≤ length (fate_path fates w)
 
 -- each of these variables is set
 abbrev pub AreSet : List Fate → Type 0

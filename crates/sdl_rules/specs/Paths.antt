@@ -1,5 +1,5 @@
 -- Control paths, and what is read on them before it is set. (Z.100: the transitions of a process graph.)
-use Rattle.std.specs.Prelude.{◌≡◌, ◌⊎◌, ℕ, zero, suc, Bool, true, false, not, ◌&&◌, ◌||◌, List, [], ◌∷◌, ◌++◌, Option, None, Some, if◌then◌else◌, map, Contains, is_some}
+use Rattle.std.specs.Prelude.{◌≡◌, ◌⊎◌, ◌≤◌, ℕ, zero, suc, Bool, true, false, not, ◌&&◌, ◌||◌, List, [], ◌∷◌, ◌++◌, length, Option, None, Some, if◌then◌else◌, map, Contains, is_some}
 use Rattle.std.specs.List.{flat_map}
 use Rattle.std.specs.Option.{option_map_or}
 use Rattle.sdl_tree.specs.declared.tree.End.TheVariants.{NextState, Stop, Join}
@@ -151,6 +151,10 @@ ReadsFrom p place (step ∷ next ∷ steps) x =
 -- a control path from START, the last transition of which reads x before anything on the path sets it
 abbrev pub ReadsUnset : PlainProcess → List Step → List ℕ → Type 0
 ReadsUnset p path x = ReadsFrom p None path x
+
+-- no control path of the process that reads a variable unset has fewer transitions
+abbrev pub IsShortest : PlainProcess → List Step → Type 0
+IsShortest p path = (other : List Step) (x : List ℕ) → ReadsUnset p other x → length path ≤ length other
 
 -- no control path reads a variable before it is set
 abbrev pub NeverReadsUnset : PlainProcess → Type 0

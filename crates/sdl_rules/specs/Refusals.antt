@@ -9,7 +9,7 @@ use Rattle.sdl_rules.specs.Receivers.{without_receiver, with_two_receivers}
 use Rattle.sdl_rules.specs.Joins.{join_cycles}
 use Rattle.sdl_rules.specs.Decisions.{unanswered}
 use Rattle.sdl_tables.specs.Scopes.{double_names}
-use Rattle.sdl_rules.specs.Paths.{ReadsUnset, NeverReadsUnset}
+use Rattle.sdl_rules.specs.Paths.{ReadsUnset, IsShortest, NeverReadsUnset}
 use Rattle.sdl_rules.specs.Spellings.{AreDeclared}
 use Rattle.sdl_rules.specs.declared.fault.RuleFault.{RuleFault}
 use Rattle.sdl_rules.specs.declared.fault.RuleFault.TheVariants.{DoubleName, UnknownName, WrongSort, NoState, NoReceiver, TwoReceivers, JoinCycle, NoAnswer, BadDivisor, Limit, Unset, NoMemory}
@@ -63,7 +63,8 @@ abbrev pub IsWithin : PlainBlock → Type 0
 IsWithin b = IsDivided b × (first_limit b ≡ None)
 
 -- A refusal names a rule that is broken at its place, and no rule with a lesser number is broken anywhere. A variable that is
--- read unset, and the path, are spelled as they are declared.
+-- read unset, and the path, are spelled as they are declared; no path of any process that reads any variable unset has fewer
+-- transitions.
 abbrev pub Refuses : PlainBlock → RuleFault → Type 0
 Refuses b (DoubleName at) = Contains (double_names b) at
 Refuses b (UnknownName at) = IsDistinct b × Contains (unknown_names b) at
@@ -77,6 +78,7 @@ Refuses b (BadDivisor at) = IsAnswered b × Contains (bad_divisors b) at
 Refuses b (Limit which) = IsDivided b × (first_limit b ≡ Some which)
 Refuses b (Unset x path) =
     IsWithin b × (p : PlainProcess) × Contains (processes_of b) p × ReadsUnset p path.steps.items x × AreDeclared b p x path.steps.items
+    × All (λ q. IsShortest q path.steps.items) (processes_of b)
 Refuses b NoMemory = ⊤
 
 -- why there are no tables, as a refusal

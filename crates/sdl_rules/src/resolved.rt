@@ -150,10 +150,10 @@ fn check_rules(alloc: Global, block: &BlockTable) -> Result<Findings, RuleFault>
 /// Gives a block its tables if it is sound, and else says which rule it breaks and where.
 ///
 /// Of several broken rules the least is named, by the number in its code. Without memory the answer is
-/// [`RuleFault::NoMemory`], in place of any other. Shown by tests alone: of several places of one rule the first
-/// in the text is named; of several control paths that read a variable before it is set the one with the fewest
-/// transitions, over all processes and variables; of those the first by the order of its transitions
-/// in the text (START, then the inputs of each state, states in the order of their first STATE), and then the
+/// [`RuleFault::NoMemory`], in place of any other. Of several control paths that read a variable before it is set one
+/// with the fewest transitions is named, over all processes and variables. Shown by tests alone: of several places of one
+/// rule the first in the text is named; of several such paths with the fewest transitions the first by the order of its
+/// transitions in the text (START, then the inputs of each state, states in the order of their first STATE), and then the
 /// one with the least place in the text where a walk of the last transition reads the variable unset.
 pub fn resolve<'a>(alloc: Global, block: &'a Block) -> Result<Resolved<'a>, RuleFault>
     ensures block { IfOk result (λ r. r ≡ block.now) }

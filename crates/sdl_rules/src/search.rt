@@ -1,5 +1,5 @@
 //! Which variables of a process a control path reads before they are set, and by which path.
-ghost use Rattle.std.specs.Prelude.{◌≡◌, ◌⊎◌, [], ℕ, ◌<◌, ◌≤◌, true, List, Option, None, Some, length, map, slice_get, IfOk, IfSome, IfNone, All};
+ghost use Rattle.std.specs.Prelude.{◌≡◌, ◌⊎◌, [], ◌<◌, ◌≤◌, true, false, List, Option, None, Some, length, map, IfOk, IfSome, IfNone, All};
 ghost use Rattle.std.specs.List.{AllZip};
 ghost use Rattle.std.specs.Option.{option_map_or};
 ghost use Rattle.sdl_tree.specs.Plain.{PlainBlock};
@@ -10,11 +10,8 @@ ghost use Rattle.sdl_rules.specs.Decisions.{statement_unanswered};
 ghost use Rattle.sdl_rules.specs.Orders.{IsOrder};
 ghost use Rattle.sdl_tables.specs.Names.{same_name, variables_of, states_of, inputs_of, inputs_by_state};
 ghost use Rattle.sdl_tables.specs.Rows.{rows_inputs};
-ghost use Rattle.sdl_rules.specs.Fates.{AreFates, AreSet, IsUnsetAt, IsStep, IsNamed, timer_named, declared_name, IsSpelled};
-ghost use Rattle.std.specs.Global.{Vec};
-ghost use Rattle.unset_paths.specs.declared.Step as number;
+ghost use Rattle.sdl_rules.specs.Fates.{AreFates, AreSet, IsUnsetAt, fate_path, HasFewest, IsStep, IsNamed, timer_named, declared_name, IsSpelled};
 ghost use Rattle.unset_paths.specs.declared.Step.TheVariants.{Input as By};
-ghost use Rattle.unset_paths.specs.declared.Fate.TheVariants.{Unset as Path};
 
 use crate::fault::{ControlPath, Step};
 use crate::flows::graph_of;
@@ -281,7 +278,7 @@ pub(crate) fn read_places(
 
 /// The path that reads a variable unset; empty where there is none.
 pub(crate) fn path_at(fates: &[Fate], variable: usize) -> &[unset_paths::Step]
-    ensures { (path : Vec number.Step) → slice_get fates.now variable ≡ Some (Path path) → result.now ≡ path.items }
+    ensures { result.now ≡ fate_path fates.now variable }
 {
     match fates.get(variable) {
         Some(Fate::Unset(path)) => path,
@@ -299,20 +296,27 @@ fn place_at(places: &[Option<u32>], variable: usize) -> Option<u32> {
 
 /// Whether the first variable is named before the other: its path has fewer transitions, or its first other transition
 /// comes first in the text, or its unset read does.
-fn comes_first(fates: &[Fate], places: &[Option<u32>], one: usize, other: usize) -> bool {
+fn comes_first(fates: &[Fate], places: &[Option<u32>], one: usize, other: usize) -> bool
+    ensures first { result ≡ true → length (fate_path fates.now one) ≤ length (fate_path fates.now other) }
+    ensures last { result ≡ false → length (fate_path fates.now other) ≤ length (fate_path fates.now one) }
+{
     let path = path_at(fates, one);
     let other_path = path_at(fates, other);
-    let order = path.len().cmp(&other_path.len()).then(path.cmp(other_path));
-    match order {
+    if path.len() != other_path.len() {
+        return path.len() < other_path.len();
+    }
+    match path.cmp(other_path) {
         Ordering::Less => true,
         Ordering::Greater => false,
         Ordering::Equal => place_at(places, one) < place_at(places, other),
     }
 }
 
-/// The one of two variables that is named.
+/// The one of two variables that is named: no path of the two has fewer steps than its own.
 fn first_of(fates: &[Fate], places: &[Option<u32>], best: Option<usize>, other: usize) -> usize
-    ensures { (result ≡ other) ⊎ (best ≡ Some result) }
+    ensures one { (result ≡ other) ⊎ (best ≡ Some result) }
+    ensures fewer { length (fate_path fates.now result) ≤ length (fate_path fates.now other) }
+    ensures best { IfSome best (λ one. length (fate_path fates.now result) ≤ length (fate_path fates.now one)) }
 {
     match best {
         None => other,
@@ -329,6 +333,7 @@ fn first_of(fates: &[Fate], places: &[Option<u32>], best: Option<usize>, other: 
 /// The variable that is named, of those that are read unset.
 pub(crate) fn find_first(fates: &[Fate], places: &[Option<u32>]) -> Option<usize>
     ensures found { IfSome result (IsUnsetAt fates.now) }
+    ensures fewest { IfSome result (HasFewest fates.now) }
     ensures none { IfNone result (AreSet fates.now) }
 {
     let mut best = None;

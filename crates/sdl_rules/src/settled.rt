@@ -1,5 +1,5 @@
 //! Whether control paths read variables before they are set, and if none does, what is set in each state.
-ghost use Rattle.std.specs.Prelude.{◌≡◌, ◌⊎◌, ◌≤◌, [], Some, length, IfOk};
+ghost use Rattle.std.specs.Prelude.{◌≡◌, ◌⊎◌, ◌≤◌, [], Some, length, IfOk, IfSome};
 ghost use Rattle.sdl_tree.specs.Views.{process_of, block_of};
 ghost use Rattle.sdl_tables.specs.Names.{variables_of, processes_of};
 ghost use Rattle.sdl_rules.specs.Sound.{process_unknown};
@@ -53,7 +53,9 @@ fn survey(
 
 /// The one of two that is named: the one with fewer transitions, or else the first.
 fn shorter(best: Option<Unset>, other: Unset) -> Unset
-    ensures { (result ≡ other) ⊎ (best ≡ Some result) }
+    ensures one { (result ≡ other) ⊎ (best ≡ Some result) }
+    ensures fewer { length result.path.steps.items ≤ length other.path.steps.items }
+    ensures best { IfSome best (λ one. length result.path.steps.items ≤ length one.path.steps.items) }
 {
     match best {
         None => other,

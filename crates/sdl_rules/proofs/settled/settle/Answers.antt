@@ -9,7 +9,7 @@ use Rattle.sdl_rules.specs.Orders.{IsOrder}
 use Rattle.sdl_rules.specs.Paths.{NeverReadsUnset}
 use Rattle.sdl_rules.specs.Settled.{AreSettled}
 use Rattle.sdl_rules.specs.Surveys.{IsSurvey, AllSettled}
-use Rattle.sdl_rules.proofs.Surveying.{within_few, within_known, within_answered, order_within, order_at, plain, all_at_table, plain_more, contains_process, shorter_is, IsUnsetAmong, some_unset}
+use Rattle.sdl_rules.proofs.Surveying.{within_few, within_known, within_answered, order_within, order_at, plain, all_at_table, plain_more, contains_process, shorter_is, shortest_past, shortest_more, IsUnsetAmong, some_unset}
 use Rattle.sdl_rules.proofs.Searches.{all_zip_push}
 use Rattle.sdl_rules.proofs.settled.settle.Goals as goal
 use Rattle.sdl_rules.proofs.settled.settle.Goals.{in-Ok+in_ok-push-in-Ok, in-Err}
@@ -51,6 +51,7 @@ loop-number-preserved c =
           let told : IsSurvey b (process_of t) (Ok w.in-Ok.set) = subst (IsSurvey b (process_of t)) w.in-Ok.is c.in_ok-set.ensures in
           rw (w.best-is, w.sets-is, more) (record {
             found = c.loop-number.invariant.found;
+            fewest = shortest_past (plain (take k ts)) (process_of t) c.loop-number.best told.1 c.loop-number.invariant.fewest;
             sets = λ e.
                 subst (λ (l : List (Vec ℕ Global)). AllSettled (plain (take k ts) ++ process_of t ∷ []) l) (sym w.in_ok-push-in-Ok.ensures.items)
                 (all_zip_push (λ p (v : Vec ℕ Global). AreSettled p v.items) (plain (take k ts)) c.loop-number.sets.items (process_of t) w.in-Ok.set
@@ -60,9 +61,11 @@ loop-number-preserved c =
       | in-Err w ↦
           let told : IsSurvey b (process_of t) (Err w.in-Err.unset) = subst (IsSurvey b (process_of t)) w.in-Err.is c.in_ok-set.ensures in
           let last : IsUnsetAmong b (plain ts) w.in-Err.unset =
-          (process_of t, contains_process ts k t c.loop-number-test.true c.index-tables-number.is, told) in
-          rw (w.best-is, w.sets-is) (record {
-            found = shorter_is b (plain ts) c.loop-number.best w.in-Err.unset w.shorter.result w.shorter.ensures c.loop-number.invariant.found last;
+          (process_of t, contains_process ts k t c.loop-number-test.true c.index-tables-number.is, told.0) in
+          rw (w.best-is, w.sets-is, more) (record {
+            found = shorter_is b (plain ts) c.loop-number.best w.in-Err.unset w.shorter.result w.shorter.ensures.one c.loop-number.invariant.found last;
+            fewest = shortest_more (plain (take k ts)) (process_of t) c.loop-number.best w.in-Err.unset w.shorter.result w.shorter.ensures.fewer w.shorter.ensures.best
+                c.loop-number.invariant.none c.loop-number.invariant.fewest told.1;
             sets = λ e. absurd (some_unset w.shorter.result e);
             none = λ e. absurd (some_unset w.shorter.result e);
           })

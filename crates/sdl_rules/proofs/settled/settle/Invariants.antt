@@ -3,12 +3,13 @@ use Rattle.std.specs.Prelude.{IfSome, All}
 use Rattle.sdl_tree.specs.Views.{block_of}
 use Rattle.sdl_rules.specs.Paths.{NeverReadsUnset}
 use Rattle.sdl_rules.specs.Surveys.{AllSettled}
-use Rattle.sdl_rules.proofs.Surveying.{plain, IsUnsetAmong}
+use Rattle.sdl_rules.proofs.Surveying.{plain, IsUnsetAmong, AreShortest}
 use Rattle.sdl_rules.proofs.settled.settle.Given as goal
 
 abbrev pub invariant-loop-number : goal.invariant-loop-number
 invariant-loop-number l = record {
   found : IfSome l.best (IsUnsetAmong (block_of l.block) (plain l.tables));
+  fewest : IfSome l.best (AreShortest (plain (take l.number l.tables)));
   sets : l.best ≡ None → AllSettled (plain (take l.number l.tables)) l.sets.items;
   none : l.best ≡ None → All NeverReadsUnset (plain (take l.number l.tables));
 }

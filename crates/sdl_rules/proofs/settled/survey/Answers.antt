@@ -1,13 +1,11 @@
-use Rattle.std.proofs.Common.{◌≡◌, ◌<◌, ℕ, List, Option, Some, length, Vec, Global, arith, sym, ap, ◌∙◌, subst}
+use Rattle.std.proofs.Common.{◌≡◌, ◌<◌, ℕ, List, Option, Some, length, arith, sym, ap, ◌∙◌, subst}
 use Rattle.std.specs.Prelude.{IfNone, IfSome, slice_get}
 use Rattle.unset_paths.specs.declared.Fate.{Fate}
-use Rattle.unset_paths.specs.declared.Fate.TheVariants.{Unset as Path}
-use Rattle.unset_paths.specs.declared.Step as number
 use Rattle.sdl_tree.specs.Views.{process_of, block_of}
 use Rattle.sdl_tree.specs.declared.expression.Identifier.{Identifier}
 use Rattle.sdl_tables.specs.Names.{variable_names, states_of}
-use Rattle.sdl_rules.specs.Fates.{AreFates, AreSet, IsUnsetAt}
-use Rattle.sdl_rules.proofs.Surveying.{survey_steps, survey_reads, survey_names, number_within}
+use Rattle.sdl_rules.specs.Fates.{AreFates, AreSet, IsUnsetAt, fate_path, HasFewest}
+use Rattle.sdl_rules.proofs.Surveying.{survey_steps, survey_reads, survey_names, survey_shortest, number_within}
 use Rattle.sdl_rules.proofs.Settling.{settled, never, AreBits}
 use Rattle.sdl_rules.proofs.settled.survey.Goals as goal
 
@@ -43,9 +41,7 @@ named_path-requires c =
     let shown : IsUnsetAt c.deref-2.result.now n =
     subst (λ (o : Option ℕ). IfSome o (IsUnsetAt c.deref-2.result.now)) c.in-Some.is c.find_first.ensures.found in
     let unset : IsUnsetAt fates n = subst (λ (l : List Fate). IsUnsetAt l n) c.deref-2.ensures.value shown in
-    let path : (path : Vec number.Step Global) → slice_get fates n ≡ Some (Path path) → c.path_at.result.now ≡ path.items =
-    subst (λ (l : List Fate). (path : Vec number.Step Global) → slice_get l n ≡ Some (Path path) → c.path_at.result.now ≡ path.items)
-    c.deref-in-Some.ensures.value c.path_at.ensures in
+    let path : c.path_at.result.now ≡ fate_path fates n = c.path_at.ensures ∙ ap (λ (l : List Fate). fate_path l n) c.deref-in-Some.ensures.value in
     survey_steps p fates n c.in_ok-fates.ensures unset c.path_at.result.now path
 
 pub returns : goal.returns
@@ -56,13 +52,17 @@ returns c =
     let shown : IsUnsetAt c.deref-2.result.now n =
     subst (λ (o : Option ℕ). IfSome o (IsUnsetAt c.deref-2.result.now)) c.in-Some.is c.find_first.ensures.found in
     let unset : IsUnsetAt fates n = subst (λ (l : List Fate). IsUnsetAt l n) c.deref-2.ensures.value shown in
-    let path : (path : Vec number.Step Global) → slice_get fates n ≡ Some (Path path) → c.path_at.result.now ≡ path.items =
-    subst (λ (l : List Fate). (path : Vec number.Step Global) → slice_get l n ≡ Some (Path path) → c.path_at.result.now ≡ path.items)
-    c.deref-in-Some.ensures.value c.path_at.ensures in
+    let path : c.path_at.result.now ≡ fate_path fates n = c.path_at.ensures ∙ ap (λ (l : List Fate). fate_path l n) c.deref-in-Some.ensures.value in
     let var : slice_get (variable_names p) n ≡ Some c.name-variable.result =
     ap (λ (ids : List Identifier). slice_get ids n) (sym c.variables.ensures) ∙ c.name-variable.ensures in
     let steps = c.in_ok-path-in-Some.path.steps.items in
-    let named = c.in_ok-path-in-Some.ensures.named in (
-      survey_reads p fates n c.in_ok-fates.ensures unset c.path_at.result.now path c.name-variable.result var steps named,
-      survey_names (block_of c.args.block.now) p n c.name-variable.result c.path_at.result.now steps c.requires.known var named c.in_ok-path-in-Some.ensures.spelled,
+    let named = c.in_ok-path-in-Some.ensures.named in
+    let first : HasFewest c.deref-2.result.now n =
+    subst (λ (o : Option ℕ). IfSome o (HasFewest c.deref-2.result.now)) c.in-Some.is c.find_first.ensures.fewest in
+    let fewest : HasFewest fates n = subst (λ (l : List Fate). HasFewest l n) c.deref-2.ensures.value first in (
+      (
+        survey_reads p fates n c.in_ok-fates.ensures unset c.path_at.result.now path c.name-variable.result var steps named,
+        survey_names (block_of c.args.block.now) p n c.name-variable.result c.path_at.result.now steps c.requires.known var named c.in_ok-path-in-Some.ensures.spelled,
+      ),
+      survey_shortest (block_of c.args.block.now) p fates n c.requires.known c.in_ok-fates.ensures fewest c.path_at.result.now path steps named,
     )
