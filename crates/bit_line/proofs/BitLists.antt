@@ -5,7 +5,7 @@ use Rattle.std.proofs.lemmas.Nat.{shr-shr, mod-pow-add, shr_high, mod_low}
 use Rattle.std.proofs.lemmas.List.{length-append, reverse-append}
 use Rattle.su_octets.specs.Bits.{low_bits, bits_of, AreOctets}
 
-div_small : (n k : ℕ) → n < 2 ^ k → n / 2 ^ k ≡ 0
+pub div_small : (n k : ℕ) → n < 2 ^ k → n / 2 ^ k ≡ 0
 div_small n k small = ap (λ m. m / 2 ^ k) (let e : n ≡ 0 * 2 ^ k + n = omega arith in e) ∙ shr_high 0 k n small
 
 pub zero_or_one : (n : ℕ) → n < 2 → (n ≡ 0) ⊎ (n ≡ 1)

@@ -15,7 +15,7 @@ use Rattle.bit_line.specs.Parts.{Packed}
 use Rattle.bit_line.proofs.BitLists.{low_bits-split, low_bits-mod, bits_of-append, length-low_bits}
 
 -- ---- behind the bits of a part
-joined : (bits len x k : ℕ) → bits < 2 ^ len → low_bits (len + k) (bits + x * 2 ^ len) ≡ low_bits len bits ++ low_bits k x
+pub joined : (bits len x k : ℕ) → bits < 2 ^ len → low_bits (len + k) (bits + x * 2 ^ len) ≡ low_bits len bits ++ low_bits k x
 joined bits len x k fits =
     let n : ℕ = bits + x * 2 ^ len in
     let swap : n ≡ x * 2 ^ len + bits = omega arith in
@@ -24,7 +24,7 @@ joined bits len x k fits =
     low_bits-split len k n ∙ ap (λ l. l ++ low_bits k (n / 2 ^ len)) (sym (low_bits-mod len n) ∙ ap (λ m. low_bits len m) low)
     ∙ ap (λ m. low_bits len bits ++ low_bits k m) high
 
-joined_fits : (bits len x k : ℕ) → bits < 2 ^ len → x < 2 ^ k → bits + x * 2 ^ len < 2 ^ (len + k)
+pub joined_fits : (bits len x k : ℕ) → bits < 2 ^ len → x < 2 ^ k → bits + x * 2 ^ len < 2 ^ (len + k)
 joined_fits bits len x k fits small =
     let most : 2 ^ len * (x + 1) ≤ 2 ^ len * 2 ^ k = mul-le-mul_left (2 ^ len) (omega arith) in
     let turned : x * 2 ^ len ≡ 2 ^ len * x = mul_comm x (2 ^ len) in
@@ -43,7 +43,7 @@ octet_bits : (v : ℕ) → bits_of (v ∷ []) ≡ low_bits 8 v
 unfolding bits_of
 octet_bits v = append-nil (low_bits 8 v)
 
-pow_small : (m n : ℕ) → m ≤ n → 2 ^ m ≤ 2 ^ n
+pub pow_small : (m n : ℕ) → m ≤ n → 2 ^ m ≤ 2 ^ n
 pow_small m n le =
     let sum : 2 ^ n ≡ 2 ^ m * 2 ^ (n - m) = ap (λ i. 2 ^ i) (let e : n ≡ m + (n - m) = omega arith in e) ∙ pow-add 2 m (n - m) in
     let most : 2 ^ m * 1 ≤ 2 ^ m * 2 ^ (n - m) = mul-le-mul_left (2 ^ m) (let e : 0 < 2 ^ (n - m) = pow_pos (n - m) in omega (arith, e)) in

@@ -13,6 +13,8 @@ pub mod PassLaws
 pub mod PlainLaws
 pub mod FewLaws
 pub mod TakenLaws
+pub mod LongLaws
+pub mod FrontLaws
 pub mod RunLaws
 pub mod PaceLaws
 pub mod UntilLaws

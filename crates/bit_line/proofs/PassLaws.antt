@@ -125,3 +125,7 @@ few-clears k h late len old new long ends is some waits less same_seen ready hol
 pub room_none : (h : List Bool) → inside h ≡ [] → length (taken_out (inside h)) + 8 ≤ 2224
 unfolding taken_out
 room_none h none = omega (arith, ap (λ l. length (taken_out l)) none)
+
+pub room_forty : (h : List Bool) → inside h ≡ [] → length (taken_out (inside h)) + 40 ≤ 2224
+unfolding taken_out
+room_forty h none = omega (arith, ap (λ l. length (taken_out l)) none)

@@ -26,10 +26,10 @@ use Rattle.bit_line.proofs.ThroughLaws.{quiet}
 abbrev pub sixes_of : ℕ → ℕ
 sixes_of w = bit_and (bit_and (bit_and w (w / 2)) (bit_and w (w / 2) / 4)) (bit_and w (w / 2) / 16)
 
-at_shifted : (w j i : ℕ) → bit_at (w / 2 ^ j) i ≡ bit_at w (j + i)
+pub at_shifted : (w j i : ℕ) → bit_at (w / 2 ^ j) i ≡ bit_at w (j + i)
 at_shifted w j i = ap (λ n. n % 2) (shr-shr w j i)
 
-pair_at : (w i : ℕ) → bit_at w i ≡ 1 → bit_at w (1 + i) ≡ 1 → bit_at (bit_and w (w / 2)) i ≡ 1
+pub pair_at : (w i : ℕ) → bit_at w i ≡ 1 → bit_at w (1 + i) ≡ 1 → bit_at (bit_and w (w / 2)) i ≡ 1
 pair_at w i one next =
     let shifted : bit_at (w / 2) i ≡ 1 = at_shifted w 1 i ∙ next in
     bit_at_and w (w / 2) i ∙ ap (λ n. min n (bit_at (w / 2) i)) one ∙ ap (λ n. min 1 n) shifted
@@ -46,7 +46,7 @@ sixes_at w i all =
     ∙ ap (λ n. min 1 n) fifth
 
 -- the bits of a number below which a power of 2 divides it
-low_none : (n i k : ℕ) → i < k → n % 2 ^ k ≡ 0 → bit_at n i ≡ 0
+pub low_none : (n i k : ℕ) → i < k → n % 2 ^ k ≡ 0 → bit_at n i ≡ 0
 low_none n i k less none =
     let q : ℕ = n / 2 ^ k in
     let p : ℕ = 2 ^ (k - i - 1) in
@@ -68,15 +68,19 @@ ones_of_126 v (suc (suc (suc (suc zero)))) few is = omega (arith, is)
 ones_of_126 v (suc (suc (suc (suc (suc zero))))) few is = omega (arith, is)
 ones_of_126 v (suc (suc (suc (suc (suc (suc s)))))) few is = absurd (omega arith)
 
-pub plain_by : (w m n : ℕ) → m < n → n ≤ 8 → sixes_of w / 2 % (1 * 2 ^ n % 65536) ≡ 0 → w / 2 ^ m % 128 ≡ 126 → ⊥
-plain_by w m n less few none is =
-    let power : 1 * 2 ^ n % 65536 ≡ 2 ^ n = one_shl n 16 (omega arith) in
-    let low : bit_at (sixes_of w / 2) m ≡ 0 = low_none (sixes_of w / 2) m n less (sym (ap (λ p. sixes_of w / 2 % p) power) ∙ none) in
+pub plain_low : (w m n : ℕ) → m < n → sixes_of w / 2 % 2 ^ n ≡ 0 → w / 2 ^ m % 128 ≡ 126 → ⊥
+plain_low w m n less none is =
+    let low : bit_at (sixes_of w / 2) m ≡ 0 = low_none (sixes_of w / 2) m n less none in
     let clear : bit_at (sixes_of w) (1 + m) ≡ 0 = sym (at_shifted (sixes_of w) 1 m) ∙ low in
     let set : bit_at (sixes_of w) (1 + m) ≡ 1 =
     sixes_at w (1 + m) (λ s small.
     ap (λ i. bit_at w i) (let e : s + (1 + m) ≡ m + (1 + s) = omega arith in e) ∙ sym (at_shifted w m (1 + s)) ∙ ones_of_126 (w / 2 ^ m) s small is) in
     omega (arith, clear, set)
+
+pub plain_by : (w m n : ℕ) → m < n → n ≤ 8 → sixes_of w / 2 % (1 * 2 ^ n % 65536) ≡ 0 → w / 2 ^ m % 128 ≡ 126 → ⊥
+plain_by w m n less few none is =
+    let power : 1 * 2 ^ n % 65536 ≡ 2 ^ n = one_shl n 16 (omega arith) in
+    plain_low w m n less (sym (ap (λ p. sixes_of w / 2 % p) power) ∙ none) is
 
 -- ---- what lies inside grows by a bit at most
 head_grows : (b : Bool) (c : List Bool) → length (taken_out (b ∷ c)) ≤ length (taken_out c) + 1
@@ -128,13 +132,13 @@ no_six_at recent bits m h small is other =
     let v : ℕ = (recent + bits * 128) / 2 ^ m in
     no_six_when (v % 128) (reverse (low_bits m bits) ++ h) (omega arith) (low_bits-mod 7 v ∙ w.next) other
 
-quietly : (recent bits m : ℕ) (h : List Bool) (events : List LineEvent) → recent < 128 → low_bits 7 recent ≡ reverse (newest 7 h) → m ≤ 8
-    → ((i : ℕ) → i < m → (recent + bits * 128) / 2 ^ i % 128 ≡ 126 → ⊥) → length (taken_out (inside h)) + 8 ≤ 2224 → Runs h None events
+quietly : (most recent bits m : ℕ) (h : List Bool) (events : List LineEvent) → recent < 128 → low_bits 7 recent ≡ reverse (newest 7 h) → m ≤ most
+    → ((i : ℕ) → i < m → (recent + bits * 128) / 2 ^ i % 128 ≡ 126 → ⊥) → length (taken_out (inside h)) + most ≤ 2224 → Runs h None events
     → Quietly (reverse (low_bits m bits)) h events
 unfolding low_bits
-quietly recent bits zero h events small is few plain room runs = record { ends = tt; runs = runs; room = omega arith }
-quietly recent bits (suc m) h events small is few plain room runs =
-    let q : Quietly (reverse (low_bits m bits)) h events = quietly recent bits m h events small is (omega arith) (λ i less. plain i (omega arith)) room runs in
+quietly most recent bits zero h events small is few plain room runs = record { ends = tt; runs = runs; room = omega arith }
+quietly most recent bits (suc m) h events small is few plain room runs =
+    let q : Quietly (reverse (low_bits m bits)) h events = quietly most recent bits m h events small is (omega arith) (λ i less. plain i (omega arith)) room runs in
     let long : length (reverse (low_bits m bits)) ≡ m = length-reverse (low_bits m bits) ∙ length-low_bits m bits in
     let P : List Bool → Type 0 = λ k. Quietly k h events in
     subst P (sym (ap (λ n. reverse (low_bits n bits)) (let e : suc m ≡ m + 1 = omega arith in e) ∙ bits_more m bits))
@@ -145,21 +149,21 @@ none_mode : (mode count : Option ℕ) → Counts mode count → count ≡ None �
 none_mode None count counts none = refl
 none_mode (Some n) count counts none = absurd (let e : Some (n % 128) ≡ None = sym counts ∙ none in cc)
 
-pub plain_stands : (bits len late : ℕ) (h : List Bool) (events : List LineEvent) (old new : Deframer) → len ≤ 8 → old.counter.count ≡ None → new.counter.count ≡ None
-    → ((l : List Bool) → LetsIn l old.gate → length (taken_out (inside l)) + 8 ≤ 2224)
+pub plain_stands : (most bits len late : ℕ) (h : List Bool) (events : List LineEvent) (old new : Deframer) → len ≤ most → old.counter.count ≡ None → new.counter.count ≡ None
+    → ((l : List Bool) → LetsIn l old.gate → length (taken_out (inside l)) + most ≤ 2224)
     → ((i : ℕ) → i < len → (old.recent + bits * 128) / 2 ^ i % 128 ≡ 126 → ⊥)
     → late ≡ (old.recent + bits * 128) % 2 ^ len → new.recent ≡ (old.recent + bits * 128) / 2 ^ len % 128
     → ((l k : List Bool) → length k ≡ len → EndsNone k l → drop 7 (k ++ newest 7 l) ≡ reverse (low_bits len late) → LetsIn l old.gate → LetsIn (k ++ l) new.gate)
     → StandsAt h events old → StandsAt (reverse (low_bits len bits) ++ h) events new
 unfolding StandsAt
-plain_stands bits len late h events old new few was normal room plain is_late next passes stands =
+plain_stands most bits len late h events old new few was normal room plain is_late next passes stands =
     let fits : Fits h stands.0 old = stands.2 in
     let k : List Bool = reverse (low_bits len bits) in
     let w : Window old.recent bits len h = window old.recent bits len h old.recent_fits fits.recent in
     let all : ℕ = old.recent + bits * 128 in
     let M : Option ℕ → Type 0 = λ m. Runs h m events in
     let q : Quietly k h events =
-    quietly old.recent bits len h events old.recent_fits fits.recent few plain (room h fits.gate) (subst M (none_mode stands.0 old.counter.count fits.counting was) stands.1) in
+    quietly most old.recent bits len h events old.recent_fits fits.recent few plain (room h fits.gate) (subst M (none_mode stands.0 old.counter.count fits.counting was) stands.1) in
     let late_bits : low_bits len late ≡ low_bits len all = ap (λ n. low_bits len n) is_late ∙ low_bits-mod len all in
     let behind : drop 7 (k ++ newest 7 h) ≡ reverse (low_bits len late) =
     sym (reverse-reverse (drop 7 (k ++ newest 7 h))) ∙ ap reverse (sym w.late ∙ sym late_bits) in (

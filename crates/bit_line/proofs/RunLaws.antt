@@ -36,7 +36,7 @@ pub run_step : (base : Deframer) (run next : Run) (octet : ℕ) (whole octets : 
     → IsPlainStep run octet next whole → StandsAt h events (with_run base run octets)
     → StandsAt (reverse (low_bits 8 octet) ++ h) events (with_run base next (octets ++ whole))
 run_step base run next octet whole octets h events room calm step stands =
-    plain_stands octet 8 ((run.recent + octet * 128) % 2 ^ 8) h events (with_run base run octets) (with_run base next (octets ++ whole)) (omega arith) calm.normal calm.normal
+    plain_stands 8 octet 8 ((run.recent + octet * 128) % 2 ^ 8) h events (with_run base run octets) (with_run base next (octets ++ whole)) (omega arith) calm.normal calm.normal
     (λ l lets. calm_room base run octets l room calm lets) step.plain refl step.recent
     (λ l k long ends is lets.
     few-late k l (reverse (low_bits 8 ((run.recent + octet * 128) % 2 ^ 8))) (with_run base run octets).gate (with_run base next (octets ++ whole)).gate ends is calm.seen calm.wait refl refl
@@ -79,3 +79,11 @@ plain_step run next octet w whole left is small plain recent few data_bits ones 
       six = subst Six is six;
       packed = packed;
     }
+
+pub run_zero : (n : ℕ) (h : List Bool) (events : List LineEvent) (d : Deframer) (line : List ℕ) → n ≡ 0 → StandsAt (reverse (bits_of (take n line)) ++ h) events d → StandsAt h events d
+unfolding bits_of
+run_zero n h events d line none stands =
+    let P : ℕ → Type 0 = λ m. StandsAt (reverse (bits_of (take m line)) ++ h) events d in subst P none stands
+
+pub same_run : (k l h : List Bool) (events : List LineEvent) (d : Deframer) → k ≡ l → StandsAt (reverse k ++ h) events d → StandsAt (reverse l ++ h) events d
+same_run k l h events d same stands = let P : List Bool → Type 0 = λ x. StandsAt (reverse x ++ h) events d in subst P same stands

@@ -13,25 +13,25 @@ use Rattle.bit_line.proofs.StuffLaws.{taken_out-five, taken_out-other, taken_out
 use Rattle.bit_line.proofs.OctetLaws.{window_of, fives_of, first_of, cut_of, all_below, same_bits, both, at_one, bits_same, if_so, if_not_by, one_later}
 
 -- ---- line bits in order, behind so many 1s in a row: what is left of them, how many 1s they end with, and whether there are six
-abbrev data_of : ℕ → List Bool → List Bool
+abbrev pub data_of : ℕ → List Bool → List Bool
 data_of r [] = []
 data_of r (true ∷ bs) = true ∷ data_of (suc r) bs
 data_of r (false ∷ bs) = cond (r == 5) (data_of 0 bs) (false ∷ data_of 0 bs)
 
-abbrev ones_of : ℕ → List Bool → ℕ
+abbrev pub ones_of : ℕ → List Bool → ℕ
 ones_of r [] = r
 ones_of r (true ∷ bs) = ones_of (suc r) bs
 ones_of r (false ∷ bs) = ones_of 0 bs
 
-abbrev six_of : ℕ → List Bool → Bool
+abbrev pub six_of : ℕ → List Bool → Bool
 six_of r [] = false
 six_of r (true ∷ bs) = nat_le 6 (suc r) || six_of (suc r) bs
 six_of r (false ∷ bs) = six_of 0 bs
 
-record Comes (bs h : List Bool) (r : ℕ) : Type 0 where
-  data_bits : taken_out (reverse bs ++ h) ≡ reverse (data_of r bs) ++ taken_out h
-  ones : ones_of r bs ≡ trailing (reverse bs ++ h)
-  six : six_of r bs ≡ false → has_six (reverse bs ++ h) ≡ has_six h
+pub record Comes (bs h : List Bool) (r : ℕ) : Type 0 where
+  pub data_bits : taken_out (reverse bs ++ h) ≡ reverse (data_of r bs) ++ taken_out h
+  pub ones : ones_of r bs ≡ trailing (reverse bs ++ h)
+  pub six : six_of r bs ≡ false → has_six (reverse bs ++ h) ≡ has_six h
 
 neither : (a b : Bool) → (a || b) ≡ false → (a ≡ false) × (b ≡ false)
 neither true b none = absurd (let e : true ≡ false = none in cc)
@@ -53,7 +53,7 @@ zero_data r h d count (inr t) =
     ap (λ l. reverse d ++ l) (taken_out-other h (λ five. t.1 (count ∙ five))) ∙ sym (one_later false d (taken_out h))
     ∙ sym (ap (λ b. reverse (cond b d (false ∷ d)) ++ taken_out h) t.0)
 
-comes : (bs h : List Bool) (r : ℕ) → r ≡ trailing h → Comes bs h r
+pub comes : (bs h : List Bool) (r : ℕ) → r ≡ trailing h → Comes bs h r
 comes [] h r count = record { data_bits = refl; ones = count; six = λ none. refl }
 comes (true ∷ bs) h r count =
     let rest : Comes bs (true ∷ h) (suc r) = comes bs (true ∷ h) (suc r) (ap suc count ∙ sym (trailing-one h)) in

@@ -7,6 +7,7 @@ ghost use Rattle.std.specs.Bool.{MatchBool};
 ghost use Rattle.su_octets.specs.Bits.{low_bits, AreOctets};
 
 use crate::data::Data;
+use crate::long::taken_long;
 use crate::taken::{ones_after, taken_from};
 
 /// How the content between two flags is judged.
@@ -134,6 +135,32 @@ impl Content {
     /// Adds line bits one by one, the low one first.
     fn push_each(&mut self, bits: u8, len: u8)
         requires { len ≤ 8 }
+        ensures { (h : List Bool) → Holds h self.old → Holds (reverse (low_bits len bits) ++ h) self.new }
+    {
+        for i in 0..len {
+            self.push(bits >> i & 1 == 1);
+        }
+    }
+
+    /// Has up to forty line bits, the low one first, in place of those so far.
+    pub fn restart(&mut self, bits: u64, len: u8)
+        requires few { len ≤ 40 }
+        requires fits { bits < 2 ^ len }
+        ensures { Holds (reverse (low_bits len bits) ++ []) self.new }
+    {
+        if let Some(taken) = taken_long(bits, len) {
+            self.ones = taken.ones;
+            self.six = false;
+            self.data_bits.refill(taken.bits, taken.len);
+        } else {
+            self.clear();
+            self.push_long(bits, len);
+        }
+    }
+
+    /// Adds up to forty line bits one by one, the low one first.
+    fn push_long(&mut self, bits: u64, len: u8)
+        requires { len ≤ 40 }
         ensures { (h : List Bool) → Holds h self.old → Holds (reverse (low_bits len bits) ++ h) self.new }
     {
         for i in 0..len {

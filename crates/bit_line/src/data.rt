@@ -117,6 +117,27 @@ impl Data {
         }
     }
 
+    /// Has up to forty bits, the low one first, in place of those so far.
+    pub fn refill(&mut self, bits: u64, len: u8)
+        requires few { len ≤ 40 }
+        requires fits { bits < 2 ^ len }
+        ensures { Gathers (reverse (low_bits len bits)) self.new }
+    {
+        self.octets.clear();
+        let mut rest = bits;
+        let mut left = len;
+        while left >= 8 {
+            self.octets.push((rest % 256) as u8);
+            rest /= 256;
+            left -= 8;
+        }
+        self.part = Part {
+            bits: (rest % 256) as u8,
+            len: left,
+        };
+        self.over = false;
+    }
+
     /// Adds bits one by one, the low one first.
     fn push_each(&mut self, bits: u8, len: u8)
         requires { len ≤ 8 }

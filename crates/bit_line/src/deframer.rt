@@ -22,9 +22,9 @@ const SIX_ONES: u8 = 126;
 #[derive(Drop)]
 pub struct Deframer {
     /// The newest seven bits, the newest one highest.
-    recent: u8,
-    gate: Gate,
-    counter: Counter,
+    pub(crate) recent: u8,
+    pub(crate) gate: Gate,
+    pub(crate) counter: Counter,
     ghost recent_fits: { recent < 128 },
 }
 
@@ -166,6 +166,10 @@ impl Deframer {
         ensures stands { (h : List Bool) (events : List LineEvent) → StandsAt h events self.old
             → StandsAt (reverse (bits_of (take result octets.now)) ++ h) events self.new }
     {
+        let front = self.take_front(octets);
+        if front > 0 {
+            return front;
+        }
         let content = &self.gate.content;
         if !self.is_open() || content.ones > 5 {
             return 0;

@@ -104,6 +104,19 @@ impl Gate {
         }
     }
 
+    /// Takes forty bits that end no flag, where some are missing of the first seven since the last one. `late` are the bits seven
+    /// before them, the first one lowest.
+    pub fn pass_forty(&mut self, late: u64)
+        requires fits { late < 2 ^ 40 }
+        requires seen { self.old.seen ≡ true }
+        requires waits { self.old.wait ≡ 0 → ⊥ }
+        ensures { (h k : List Bool) → length k ≡ 40 → EndsNone k h → drop 7 (k ++ newest 7 h) ≡ reverse (low_bits 40 late)
+            → LetsIn h self.old → LetsIn (k ++ h) self.new }
+    {
+        self.content.restart(late >> self.wait, 40 - self.wait);
+        self.wait = 0;
+    }
+
     /// How what lies inside is judged, if the next bit ends a flag.
     fn judge(&self) -> Closed
         ensures judged { (h : List Bool) → LetsIn h self.now → IsJudged (inside h) (verdict_of result self.now.content) }

@@ -213,16 +213,27 @@ impl Stuffer {
         ensures { (octets : List ℕ) × Frame octets unit.now × SpareBitsAreZero octets
             × ((given : List ℕ) (units : List (List ℕ)) → Gave given units self.old → Gave (given ++ result.items) (units ++ octets ∷ []) self.new) }
     {
+        let mut line = ArrayVec::new();
+        self.put_to(unit, &mut line);
+        line
+    }
+
+    /// Sends a unit and puts the line octets that are whole now, at most 337, into `line`, in place of what was there. Up to 7
+    /// bits stay.
+    pub fn put_to(&mut self, unit: &Unit, line: &mut ArrayVec<u8, 352>)
+        requires { IsWhole unit.now }
+        ensures { (octets : List ℕ) × Frame octets unit.now × SpareBitsAreZero octets
+            × ((given : List ℕ) (units : List (List ℕ)) → Gave given units self.old → Gave (given ++ line.new.items) (units ++ octets ∷ []) self.new) }
+    {
         let mut octets = ArrayVec::new();
         encode(unit, &mut octets);
-        let mut line = ArrayVec::new();
         let mut part = self.part;
-        open(&mut line, &mut part, self.started);
-        push_unit(&mut line, &mut part, octets.as_slice());
-        push_flag(&mut line, &mut part);
+        line.clear();
+        open(line, &mut part, self.started);
+        push_unit(line, &mut part, octets.as_slice());
+        push_flag(line, &mut part);
         self.started = true;
         self.part = part;
-        line
     }
 
     /// The bits that stay for the next call, the first one lowest, and how many they are, up to 7.

@@ -10,6 +10,15 @@ pub fn is_plain(window: u16) -> bool
     (sixes >> 1) % 256 == 0
 }
 
+/// Whether none of the last forty of forty-seven bits comes behind six 1s.
+pub fn is_long_plain(window: u64) -> bool
+    ensures { result ≡ true → (m : ℕ) → m < 40 → window / 2 ^ m % 128 ≢ 126 }
+{
+    let pairs = window & window >> 1;
+    let sixes = pairs & pairs >> 2 & pairs >> 4;
+    (sixes >> 1) % (1 << 40) == 0
+}
+
 /// How many of up to eight bits, the low one first, come behind anything but six 1s, as far as that is known at once: the
 /// newest seven bits before them are given.
 pub fn plain_count(recent: u8, bits: u8, len: u8) -> u8

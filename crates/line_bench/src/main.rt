@@ -2,7 +2,8 @@
 //!
 //! Without a word it makes one round, and prints how many units came back. With a number of rounds it also prints octets per
 //! second, `out` of units put on the line, `in` of the line that were read, `until` of those that were taken up to the first event
-//! each time, and `each` of those that were taken one by one; the same with `fisu_` for a line of fill-in units; `store`, messages a second that were put, sent and acknowledged, and
+//! each time, and `each` of those that were taken one by one; the same with `fisu_` for a line of fill-in units, 2,000 of them gone
+//! through 25 times, so that they stay near the processor; `store`, messages a second that were put, sent and acknowledged, and
 //! `retrieve`, messages a second that a full store handed out.
 #![tactic(auto)]
 
@@ -20,8 +21,8 @@ use su_octets::{Head, Unit};
 /// How many messages a round has.
 const UNITS: u32 = 2000;
 
-/// How many fill-in units a round has.
-const FISUS: u32 = 50_000;
+/// How often a round goes through its fill-in units.
+const FISU_TIMES: u32 = 25;
 
 /// Numbers that look random, the same in each run.
 #[derive(Drop)]
@@ -96,8 +97,8 @@ fn fill_in(draws: &mut Draws) -> Unit {
 
 /// The fill-in units of a round.
 fn fill_ins(alloc: Global, draws: &mut Draws) -> Result<Vec<Unit>, AllocError> {
-    let mut units = Vec::with_capacity(alloc, FISUS as usize)?;
-    for _ in 0..FISUS {
+    let mut units = Vec::with_capacity(alloc, UNITS as usize)?;
+    for _ in 0..UNITS {
         units.push(fill_in(draws))?;
     }
     Ok(units)
@@ -107,9 +108,11 @@ fn fill_ins(alloc: Global, draws: &mut Draws) -> Result<Vec<Unit>, AllocError> {
 fn send(units: &[Unit], line: &mut Vec<u8>) -> Result<(), AllocError> {
     line.clear();
     let mut stuffer = Stuffer::new();
+    let mut octets = ArrayVec::new();
     for unit in units {
         if unit.whole() {
-            line.extend_from_slice(stuffer.put(unit).as_slice())?;
+            stuffer.put_to(unit, &mut octets);
+            line.extend_from_slice(octets.as_slice())?;
         }
     }
     let (bits, _) = stuffer.rest();
@@ -248,14 +251,16 @@ fn octets_of(units: &[Unit]) -> usize {
     octets
 }
 
-/// Sends and receives the units, and prints what came of them: how many came back, and octets a second where it is asked.
+/// Sends and receives the units as often as is asked, and prints what came of them: how many came back, and octets a second where
+/// rounds were asked for.
 fn measure<R: Runtime + AllocGlobal>(
     rt: &R,
     name: &str,
     units: &[Unit],
     asked: Option<u32>,
+    times: u32,
 ) -> io::Result<()> {
-    let count = asked.unwrap_or(1);
+    let count = asked.unwrap_or(1).saturating_mul(times);
     let mut line = Vec::with_capacity(rt.alloc(), 700_000)?;
     let start = Instant::now(rt)?;
     for _ in 0..count {
@@ -274,7 +279,7 @@ fn measure<R: Runtime + AllocGlobal>(
         let into = rate(line.len(), count, receiving);
         println!(rt; "{name}out {out}\n{name}in {into}")?;
     }
-    by_octets(rt, name, line.as_slice(), asked)
+    by_octets(rt, name, line.as_slice(), asked, times)
 }
 
 /// Receives the line octet by octet in both ways, and prints what came of that.
@@ -283,8 +288,9 @@ fn by_octets<R: Runtime + AllocGlobal>(
     name: &str,
     line: &[u8],
     asked: Option<u32>,
+    times: u32,
 ) -> io::Result<()> {
-    let count = asked.unwrap_or(1);
+    let count = asked.unwrap_or(1).saturating_mul(times);
     let start = Instant::now(rt)?;
     let mut until = 0;
     for _ in 0..count {
@@ -314,8 +320,8 @@ fn run<R: Runtime + AllocGlobal>(rt: &R) -> io::Result<()> {
     };
     let units = messages(rt.alloc(), &mut draws)?;
     let fisus = fill_ins(rt.alloc(), &mut draws)?;
-    measure(rt, "", units.as_slice(), asked)?;
-    measure(rt, "fisu_", fisus.as_slice(), asked)?;
+    measure(rt, "", units.as_slice(), asked, 1)?;
+    measure(rt, "fisu_", fisus.as_slice(), asked, FISU_TIMES)?;
     if let Some(count) = asked {
         keep(rt, units.as_slice(), count)?;
     }

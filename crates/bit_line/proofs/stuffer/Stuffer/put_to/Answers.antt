@@ -4,7 +4,7 @@ use Rattle.bit_line.specs.Parts.{opening}
 use Rattle.bit_line.specs.Sending.{line_of}
 use Rattle.su_octets.specs.Bits.{bits_of}
 use Rattle.bit_line.proofs.SendLaws as laws
-use Rattle.bit_line.proofs.stuffer.Stuffer.put.Goals as goal
+use Rattle.bit_line.proofs.stuffer.Stuffer.put_to.Goals as goal
 
 pub returns : goal.returns
 returns c = (
@@ -15,5 +15,5 @@ returns c = (
       laws.gave_more given c.push_flag.new.line.items c.encode.new.octets.items units c.args.self.now _ refl gave
       (c.push_flag.ensures.packed given _
       (laws.packed_to _ _ _ _ _ (ap (λ l. stuffed (reverse (bits_of l)) ++ (opening c.args.self.now.started ++ reverse (line_of units))) c.as_slice.ensures.value)
-      (c.push_unit.ensures.packed given _ (c.open.ensures.packed given _ (laws.packed_start given c.new-line.result.items units c.args.self.now c.new-line.ensures gave))))),
+      (c.push_unit.ensures.packed given _ (c.open.ensures.packed given _ (laws.packed_start given c.clear.new.self.items units c.args.self.now c.clear.ensures gave))))),
 )
