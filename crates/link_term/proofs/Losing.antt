@@ -1,5 +1,5 @@
 -- What octets take from the messages that are kept to send.
-use Rattle.std.proofs.Common.{◌≡◌, ℕ, ◌+◌, ◌≤◌, Bool, List, [], ◌++◌, length, refl, sym, ap, ◌∙◌, subst, length-append, append_assoc, arith}
+use Rattle.std.proofs.Common.{◌≡◌, ℕ, ◌+◌, ◌≤◌, List, [], ◌++◌, length, refl, sym, ap, ◌∙◌, subst, length-append, append_assoc, arith}
 use Rattle.resend_store.specs.declared.messages.Msu.{Msu}
 use Rattle.resend_store.specs.Window.{Window}
 use Rattle.su_octets.specs.Bits.{low_bits}
@@ -9,7 +9,7 @@ use Rattle.link_side.specs.Laws.{Loses}
 use Rattle.link_heart.specs.declared.heart.Heart.{Heart}
 use Rattle.link_heart.specs.Machine.{error_taken, tidied}
 use Rattle.link_heart.specs.Laws.{KeptLaw}
-use Rattle.link_term.specs.Hearing.{Reads, as_unit, as_error, AreTaken, nothing, unit, errored, sixteen, Hears, silent, octet}
+use Rattle.link_term.specs.Hearing.{Reads, as_unit, as_error, AreTaken, nothing, unit, errored, sixteen, silent, octet}
 use Rattle.link_term.specs.Laws.{acknowledged_read, acknowledged_taken, acknowledged_along, StaysKept}
 use Rattle.link_term.proofs.Delivering.{tidied_side}
 
