@@ -1,11 +1,11 @@
 -- What follows from the steps of a terminal.
-use Rattle.std.specs.Prelude.{◌≡◌, ℕ, zero, suc, ◌+◌, ◌++◌, ◌≤◌, List, length, drop}
+use Rattle.std.specs.Prelude.{◌≡◌, ℕ, zero, suc, ◌+◌, ◌++◌, ◌≤◌, List, [], length}
 use Rattle.su_octets.specs.declared.units.Unit.{Unit}
 use Rattle.book_rest.specs.declared.turn.Turn.TheVariants.{Made, Blocked}
 use Rattle.book_rest.specs.Turns.{MOST_TURNS, tried}
 use Rattle.book_rest.specs.Laws.{IsLeast, NoneCan}
 use Rattle.link_side.specs.declared.offers.Offer.{Offer}
-use Rattle.link_side.specs.Laws.{accepted_of}
+use Rattle.link_side.specs.Laws.{Loses, accepted_of, acknowledged_of}
 use Rattle.link_heart.specs.declared.heart.Heart.{Heart}
 use Rattle.link_heart.specs.Machine.{with_book, emptied, rested, offered, all_offered, unit_taken, error_taken, sent}
 use Rattle.link_machine.specs.declared.event.Event.{Event}
@@ -32,10 +32,11 @@ pub record MessagesLaw : Type 0 where
   pub sends : (t : Heart) → (sent t).heart.side.messages ≡ t.side.messages
   pub few : (u : Unit) (t : Heart) → length (unit_taken u t).side.messages ≤ length t.side.messages + 1
 
--- Of what is kept to send a unit that comes takes away messages that were sent, the oldest first; nothing else takes any away.
+-- Of what is kept to send a unit that comes takes away the messages that it acknowledges; nothing else takes any away, and but for
+-- units that go out nothing lets more of them count as sent.
 pub record KeptLaw : Type 0 where
-  pub events : (e : Event) (t : Heart) → (offered e t).side.sender.kept ≡ t.side.sender.kept
-  pub offers : (os : List Offer) (t : Heart) → (all_offered os t).side.sender.kept ≡ t.side.sender.kept
-  pub units : (u : Unit) (t : Heart) → (n : ℕ) × (n ≤ t.side.sender.sent) × ((unit_taken u t).side.sender.kept ≡ drop n t.side.sender.kept)
-  pub errors : (t : Heart) → (error_taken t).side.sender.kept ≡ t.side.sender.kept
+  pub events : (e : Event) (t : Heart) → Loses [] t.side.sender (offered e t).side.sender
+  pub offers : (os : List Offer) (t : Heart) → Loses [] t.side.sender (all_offered os t).side.sender
+  pub units : (u : Unit) (t : Heart) → Loses (acknowledged_of t.side u) t.side.sender (unit_taken u t).side.sender
+  pub errors : (t : Heart) → Loses [] t.side.sender (error_taken t).side.sender
   pub sends : (t : Heart) → (sent t).heart.side.sender.kept ≡ t.side.sender.kept

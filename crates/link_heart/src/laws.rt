@@ -19,7 +19,7 @@ pub fn accepted_messages_wait_in_order()
     accepted_messages_are_handed_out_in_order();
 }
 
-/// Of the messages that are kept to send only units from the far side take some away, and only such as were sent, the oldest first.
+/// Of the messages that are kept to send a unit from the far side takes away those that it acknowledges, and nothing else takes any.
 pub fn unacknowledged_messages_stay()
     ensures { KeptLaw }
 {

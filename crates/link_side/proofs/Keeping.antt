@@ -1,14 +1,10 @@
--- Which calls leave the kept messages as they are.
-use Rattle.std.proofs.Common.{◌≡◌, ℕ, ℤ, ◌+◌, ◌-◌, ◌≤◌, ◌==◌, nat_lt, Bool, true, false, Option, Some, None, List, slice_get, refl, ap, arith}
+-- Which calls take nothing from the messages that are kept to send, and which leave those that wait to be handed out.
+use Rattle.std.proofs.Common.{◌≡◌, ℕ, ℤ, ◌+◌, ◌≤◌, nat_lt, Bool, true, false, Option, Some, None, List, [], length, slice_get, refl, sym, ap, arith}
 use Rattle.std.specs.Prelude.{if◌then◌else◌}
-use Rattle.std.proofs.lemmas.Bool.Decides.{nat_tests}
 use Rattle.resend_store.specs.declared.messages.Msu.{Msu}
 use Rattle.resend_store.specs.declared.messages.Mode.{Mode}
 use Rattle.resend_store.specs.declared.messages.Mode.TheVariants.{Basic, Cyclic}
-use Rattle.resend_store.specs.Window.{Window, Sending, at_limit, round, may_send, repeats, cycles, fill_in, after_new, sends_new, next_basic, next_ordinary, next_forced, next_by, count_by, without, asked}
-use Rattle.su_octets.specs.declared.units.Head.{Head}
-use Rattle.su_octets.specs.declared.units.Unit.{Unit}
-use Rattle.su_octets.specs.declared.units.Unit.TheVariants as unit
+use Rattle.resend_store.specs.Window.{Window, Sending, at_limit, round, may_send, repeats, cycles, fill_in, after_new, sends_new, next_basic, next_ordinary, next_forced, next_by, refreshed}
 use Rattle.link_side.specs.declared.signals.EnvSignal.{EnvSignal}
 use Rattle.link_side.specs.declared.signals.EnvSignal.TheVariants as signal
 use Rattle.link_side.specs.declared.signals.LineKind.{LineKind}
@@ -17,25 +13,27 @@ use Rattle.link_side.specs.declared.signals.LinkStatus.{LinkStatus}
 use Rattle.link_side.specs.Limits.{BUSY_CODE}
 use Rattle.link_side.specs.Half.{Half}
 use Rattle.link_side.specs.Effects.{effect, renewed, directed, told, sends, kind_named, is_busy_named}
-use Rattle.link_side.specs.Judging.{judged, by_stores, through, left_aside, Stored, stored, refused, taken, acknowledged, is_abnormal}
 use Rattle.link_side.specs.Going.{gone, gone_by, gives, status_gone}
 use Rattle.link_side.specs.Reporting.{reported, message_reported, status_reported}
-use Rattle.link_side.specs.Laws.{LosesSentOnly, KeepsUnacknowledged}
+use Rattle.link_side.specs.Laws.{Loses}
 
 -- what a signal leaves alone: what is kept to send, and what waits to be handed out
-sends-kept : (k : Option LineKind) (h : Half) → (sends k h).sender.kept ≡ h.sender.kept
-sends-kept (Some k) h = refl
-sends-kept None h = refl
+sends-sender : (k : Option LineKind) (h : Half) → (sends k h).sender ≡ h.sender
+sends-sender (Some k) h = refl
+sends-sender None h = refl
+
+no_more_sent : (w v : Window) → v.sent ≡ w.sent → length {A = Msu} [] + v.sent ≤ w.sent
+no_more_sent w v h = omega (arith, h)
 
 sends-messages : (k : Option LineKind) (h : Half) → (sends k h).messages ≡ h.messages
 sends-messages (Some k) h = refl
 sends-messages None h = refl
 
-directed-kept : (number : ℤ) (h : Half) → (directed number h).sender.kept ≡ h.sender.kept
+directed-sender : (number : ℤ) (h : Half) → (directed number h).sender ≡ h.sender
 unfolding directed
-directed-kept number h = elim (is_busy_named number)
-    as (λ b. (if b then record h { busy = true } else sends (kind_named number) h).sender.kept ≡ h.sender.kept)
-    [ true ↦ refl | false ↦ sends-kept (kind_named number) h ]
+directed-sender number h = elim (is_busy_named number)
+    as (λ b. (if b then record h { busy = true } else sends (kind_named number) h).sender ≡ h.sender)
+    [ true ↦ refl | false ↦ sends-sender (kind_named number) h ]
 
 directed-messages : (number : ℤ) (h : Half) → (directed number h).messages ≡ h.messages
 unfolding directed
@@ -43,17 +41,23 @@ directed-messages number h = elim (is_busy_named number)
     as (λ b. (if b then record h { busy = true } else sends (kind_named number) h).messages ≡ h.messages)
     [ true ↦ refl | false ↦ sends-messages (kind_named number) h ]
 
-pub effect-kept : (s : EnvSignal) (h : Half) → (effect s h).sender.kept ≡ h.sender.kept
+pub same_loses : (w v : Window) → v ≡ w → Loses [] w v
+same_loses w v h = record { kept = sym (ap (λ (x : Window). x.kept) h); sent = no_more_sent w v (ap (λ (x : Window). x.sent) h) }
+
+fresh_loses : (w : Window) → Loses [] w (refreshed w)
+fresh_loses w = record { kept = refl; sent = omega arith }
+
+pub effect-loses : (s : EnvSignal) (h : Half) → Loses [] h.sender (effect s h).sender
 unfolding effect renewed told
-effect-kept signal.Fresh h = refl
-effect-kept (signal.Take on) h = refl
-effect-kept (signal.Line number) h = directed-kept number h
-effect-kept (signal.Withhold true) h = refl
-effect-kept (signal.Withhold false) h = refl
-effect-kept signal.InServiceNow h = refl
-effect-kept (signal.Down reason) h = refl
-effect-kept signal.RemoteOut h = refl
-effect-kept signal.RemoteBack h = refl
+effect-loses signal.Fresh h = fresh_loses h.sender
+effect-loses (signal.Take on) h = same_loses h.sender h.sender refl
+effect-loses (signal.Line number) h = same_loses h.sender (directed number h).sender (directed-sender number h)
+effect-loses (signal.Withhold true) h = same_loses h.sender h.sender refl
+effect-loses (signal.Withhold false) h = same_loses h.sender h.sender refl
+effect-loses signal.InServiceNow h = same_loses h.sender h.sender refl
+effect-loses (signal.Down reason) h = same_loses h.sender h.sender refl
+effect-loses signal.RemoteOut h = same_loses h.sender h.sender refl
+effect-loses signal.RemoteBack h = same_loses h.sender h.sender refl
 
 pub effect-messages : (s : EnvSignal) (h : Half) → (effect s h).messages ≡ h.messages
 unfolding effect renewed told
@@ -137,50 +141,6 @@ message_reported-sender : (h : Half) (o : Option Msu) → (message_reported h o)
 message_reported-sender h (Some msu) = refl
 message_reported-sender h None = status_reported-sender h (slice_get h.statuses 0)
 
-reported-kept : (h : Half) → (reported h).half.sender.kept ≡ h.sender.kept
+pub reported-sender : (h : Half) → (reported h).half.sender ≡ h.sender
 unfolding reported
-reported-kept h = ap (λ (w : Window). w.kept) (message_reported-sender h (slice_get h.messages 0))
-
-asked-kept : (m : Mode) (bib : ℕ) (w : Window) → (asked m bib w).kept ≡ w.kept
-asked-kept Basic bib w = kept_if (bib == w.fib) w (record w { fib = 1 - w.fib; again = w.sent }) w.kept refl refl
-asked-kept Cyclic bib w = refl
-
-not_more : (m n : ℕ) → nat_lt m n ≡ false → n ≤ m
-not_more m n h = grind (arith, nat_tests)
-
-stored_by : (h : Half) (head : Head) (msu : Option Msu) (b : Bool) → is_abnormal h.sender head.bsn ≡ b →
-    LosesSentOnly h.sender (if◌then◌else◌ {A = Stored} b (refused h) (taken h head msu)).half.sender
-unfolding acknowledged
-stored_by h head msu true e = record { count = 0; were_sent = omega arith; left = refl }
-stored_by h head msu false e = record {
-  count = count_by h.sender head.bsn;
-  were_sent = not_more h.sender.sent (count_by h.sender head.bsn) e;
-  left = asked-kept h.sender.mode head.bib (without h.sender (count_by h.sender head.bsn));
-}
-
-stored-loses : (h : Half) (head : Head) (msu : Option Msu) → LosesSentOnly h.sender (stored h head msu).half.sender
-unfolding stored
-stored-loses h head msu = stored_by h head msu (is_abnormal h.sender head.bsn) refl
-
-none_lost : (w : Window) → LosesSentOnly w w
-none_lost w = record { count = 0; were_sent = omega arith; left = refl }
-
-by_stores-loses : (h : Half) (head : Head) (msu : Option Msu) → LosesSentOnly h.sender (by_stores h head msu).half.sender
-unfolding by_stores
-by_stores-loses h head msu = elim h.take
-    as (λ b. LosesSentOnly h.sender (if b then through (stored h head msu) else left_aside h).half.sender)
-    [ true ↦ stored-loses h head msu | false ↦ none_lost h.sender ]
-
-judged-loses : (h : Half) (u : Unit) → LosesSentOnly h.sender (judged h u).half.sender
-unfolding judged
-judged-loses h (unit.Fisu head) = by_stores-loses h head None
-judged-loses h (unit.Msu head sio sif) = by_stores-loses h head (Some (record { sio = sio; sif = sif }))
-judged-loses h (unit.Lssu head status second) = none_lost h.sender
-
-pub keeps_unacknowledged : KeepsUnacknowledged
-keeps_unacknowledged = record {
-  on_signal = effect-kept;
-  on_unit = judged-loses;
-  unit_out = gone-kept;
-  report = reported-kept;
-}
+reported-sender h = message_reported-sender h (slice_get h.messages 0)

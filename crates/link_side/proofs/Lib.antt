@@ -1,3 +1,4 @@
 pub mod Latest
 pub mod Keeping
+pub mod Acknowledging
 pub mod Handing

@@ -1,6 +1,6 @@
 -- What holds of a side over every list of calls.
-use Rattle.std.specs.Prelude.{◌≡◌, ℕ, pos, ◌≤◌, ◌&&◌, not, Bool, true, false, if◌then◌else◌, Option, Some, None, Result, Ok, Err, List, [], ◌∷◌, ◌++◌, drop}
-use Rattle.resend_store.specs.Window.{Window}
+use Rattle.std.specs.Prelude.{◌≡◌, ℕ, pos, ◌+◌, ◌≤◌, ◌&&◌, not, Bool, true, false, if◌then◌else◌, Option, Some, None, Result, Ok, Err, List, [], ◌∷◌, ◌++◌, length, take}
+use Rattle.resend_store.specs.Window.{Window, unacknowledged, waiting, count_by}
 use Rattle.resend_store.specs.declared.messages.Msu.{Msu}
 use Rattle.resend_store.specs.declared.messages.Verdict.{Verdict}
 use Rattle.resend_store.specs.declared.messages.Verdict.TheVariants.{Accept, Discard, Nack}
@@ -18,19 +18,35 @@ use Rattle.link_side.specs.Judging.{hears, is_abnormal, judged}
 use Rattle.link_side.specs.Going.{gone}
 use Rattle.link_side.specs.Reporting.{reported}
 
--- The first so many leave what is kept to send, and they were sent.
-pub record LosesSentOnly (before after : Window) : Type 0 where
-  pub count : ℕ
-  pub were_sent : count ≤ before.sent
-  pub left : after.kept ≡ drop count before.kept
+-- These messages leave what is kept to send, and nothing else does: they are the oldest, and were sent. Of what stays none counts as
+-- sent that didn't.
+pub record Loses (gone : List Msu) (before after : Window) : Type 0 where
+  pub kept : before.kept ≡ gone ++ after.kept
+  pub sent : length gone + after.sent ≤ before.sent
 
--- Of what is kept to send a unit from the far side takes away messages that were sent, the oldest first; a signal, a unit that goes
--- out and a report take nothing.
+-- the messages up to a backward number: the oldest of those that are sent and not acknowledged
+abbrev pub acknowledged_messages : Window → ℕ → List Msu
+acknowledged_messages w bsn = take (count_by w bsn) (unacknowledged w)
+
+-- Those that a fill-in or message signal unit acknowledges: none where such units aren't taken, or where its number is abnormal.
+abbrev pub acknowledged_by : Half → Head → List Msu
+acknowledged_by h head =
+    if h.take && not (is_abnormal h.sender head.bsn) then acknowledged_messages h.sender head.bsn else []
+
+-- those that a unit acknowledges
+abbrev pub acknowledged_of : Half → Unit → List Msu
+acknowledged_of h (unit.Fisu head) = acknowledged_by h head
+acknowledged_of h (unit.Msu head sio sif) = acknowledged_by h head
+acknowledged_of h (unit.Lssu head status second) = []
+
+-- Of what is kept to send a unit from the far side takes away the messages that it acknowledges, and those that wait to be sent go on
+-- waiting; a signal, a unit that goes out and a report take nothing.
 pub record KeepsUnacknowledged : Type 0 where
-  pub on_signal : (s : EnvSignal) (h : Half) → (effect s h).sender.kept ≡ h.sender.kept
-  pub on_unit : (h : Half) (u : Unit) → LosesSentOnly h.sender (judged h u).half.sender
+  pub on_signal : (s : EnvSignal) (h : Half) → Loses [] h.sender (effect s h).sender
+  pub on_unit : (h : Half) (u : Unit) → Loses (acknowledged_of h u) h.sender (judged h u).half.sender
+  pub waits : (h : Half) (u : Unit) → waiting (judged h u).half.sender ≡ waiting h.sender
   pub unit_out : (h : Half) → (gone h).half.sender.kept ≡ h.sender.kept
-  pub report : (h : Half) → (reported h).half.sender.kept ≡ h.sender.kept
+  pub report : (h : Half) → (reported h).half.sender ≡ h.sender
 
 unfoldable pub is_accept : Result Verdict UnitError → Bool
 is_accept (Ok Accept) = true

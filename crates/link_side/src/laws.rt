@@ -1,8 +1,8 @@
 //! Laws over every list of calls.
 ghost use Rattle.link_side.specs.Laws.{KeepsUnacknowledged, HandsOutInOrder, BusyGoesOutOnce};
 
-/// Of the messages that are kept to send only units from the far side take some away, and only such as were sent, the oldest
-/// first. `retrieve` hands out all others.
+/// Of the messages that are kept to send a unit from the far side takes away those that it acknowledges, the oldest of those that
+/// were sent, and nothing else takes any. `retrieve` hands out all others.
 pub fn unacknowledged_messages_are_kept()
     ensures { KeepsUnacknowledged }
 {}

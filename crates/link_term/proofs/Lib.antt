@@ -1,4 +1,5 @@
 pub mod Cutting
 pub mod Speaking
 pub mod Delivering
+pub mod Losing
 pub mod Taking

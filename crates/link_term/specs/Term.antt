@@ -1,5 +1,5 @@
 -- A terminal: its actors with what it keeps beside them, and both directions of the line.
-use Rattle.std.specs.Prelude.{◌≡◌, ℕ, ◌<◌, Result, Ok, Err}
+use Rattle.std.specs.Prelude.{◌≡◌, ◌<◌, Result, Ok, Err}
 use Rattle.bit_line.specs.declared.deframer.Deframer.{Deframer}
 use Rattle.bit_line.specs.declared.stuffer.Stuffer.{Stuffer}
 use Rattle.link_machine.specs.Step.{Answer, Says}

@@ -13,7 +13,8 @@ pub fn accepted_messages_are_delivered()
     link_heart::accepted_messages_wait_in_order();
 }
 
-/// Of what is kept to send, octets that are taken take away a beginning and nothing else.
+/// Of what is kept to send, octets that are taken take away the messages that the units in them acknowledge, the oldest first of those
+/// that were sent, and nothing else.
 pub fn unacknowledged_messages_stay()
     ensures { StaysKept }
 {

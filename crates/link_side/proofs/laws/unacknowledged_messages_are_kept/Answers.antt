@@ -1,4 +1,4 @@
-use Rattle.link_side.proofs.Keeping.{keeps_unacknowledged}
+use Rattle.link_side.proofs.Acknowledging.{keeps_unacknowledged}
 use Rattle.link_side.proofs.laws.unacknowledged_messages_are_kept.Goals as goal
 
 pub returns : goal.returns

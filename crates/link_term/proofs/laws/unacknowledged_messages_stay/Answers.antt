@@ -1,4 +1,4 @@
-use Rattle.link_term.proofs.Delivering.{stays_kept}
+use Rattle.link_term.proofs.Losing.{stays_kept}
 use Rattle.link_term.proofs.laws.unacknowledged_messages_stay.Goals as goal
 
 pub returns : goal.returns
