@@ -1,2 +1,5 @@
+mod Floods
+mod Lookups
 mod Runs
+mod Saids
 mod Texts

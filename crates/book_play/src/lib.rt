@@ -2,10 +2,14 @@
 #![tactic(auto)]
 
 mod answers;
+mod calls;
+mod names;
+mod offers;
 mod player;
 mod playing;
 mod printer;
 
-pub use answers::{state_line, value_line};
+pub use answers::value_line;
+pub use calls::state_line;
 pub use playing::play_book;
 pub use printer::Printer;

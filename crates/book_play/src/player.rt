@@ -1,5 +1,6 @@
 //! A script as it runs.
 ghost use Rattle.std.specs.Prelude.{◌≡◌, ◌⊎◌, ◌++◌, ◌∷◌, [], List, ℕ, Option, map, IfOk, true, false};
+ghost use Rattle.link_machine.specs.Ledger.{Ledger};
 ghost use Rattle.script_lines.specs.Scripts.{PlainSaid, plain_said};
 ghost use Rattle.book_play.specs.Played.{last_of, IsRun, IsMissed, IsMissedBy};
 
@@ -24,9 +25,9 @@ pub struct Player {
 impl Player {
     /// Does what a command says. Whether the run goes on.
     fn obey<W: Write>(&mut self, alloc: Global, said: &Said<'_>, writer: &mut W) -> io::Result<bool>
-        ensures goes { IfOk result (λ on. on ≡ true → (before : List PlainSaid) (first : Option (List ℕ))
-            → IsRun before first (W.contents writer.old) (last_of self.old)
-            → IsRun (before ++ plain_said said.now ∷ []) first (W.contents writer.new) (last_of self.new)) }
+        ensures goes { IfOk result (λ on. on ≡ true → (b : Ledger) (before : List PlainSaid) (first : Option (List ℕ))
+            → IsRun b before first (W.contents writer.old) self.old.book (last_of self.old)
+            → IsRun b (before ++ plain_said said.now ∷ []) first (W.contents writer.new) self.new.book (last_of self.new)) }
         ensures missed { IfOk result (λ on. on ≡ false → IsMissedBy (plain_said said.now) (last_of self.old) (W.contents writer.old) (W.contents writer.new)) }
     {
         match &said.command {
@@ -53,12 +54,12 @@ impl Player {
         commands: &[Said<'_>],
         writer: &mut W,
     ) -> io::Result<u8>
-        ensures held { IfOk result (λ status. status ≡ 0 → (before : List PlainSaid) (first : Option (List ℕ))
-            → IsRun before first (W.contents writer.old) (last_of self.old)
-            → IsRun (before ++ map plain_said commands.now) first (W.contents writer.new) (last_of self.new)) }
-        ensures missed { IfOk result (λ status. status ≡ 1 → (before : List PlainSaid) (first : Option (List ℕ))
-            → IsRun before first (W.contents writer.old) (last_of self.old)
-            → IsMissed (before ++ map plain_said commands.now) first (W.contents writer.new)) }
+        ensures held { IfOk result (λ status. status ≡ 0 → (b : Ledger) (before : List PlainSaid) (first : Option (List ℕ))
+            → IsRun b before first (W.contents writer.old) self.old.book (last_of self.old)
+            → IsRun b (before ++ map plain_said commands.now) first (W.contents writer.new) self.new.book (last_of self.new)) }
+        ensures missed { IfOk result (λ status. status ≡ 1 → (b : Ledger) (before : List PlainSaid) (first : Option (List ℕ))
+            → IsRun b before first (W.contents writer.old) self.old.book (last_of self.old)
+            → IsMissed b (before ++ map plain_said commands.now) first (W.contents writer.new)) }
         ensures status { IfOk result (λ status. (status ≡ 0) ⊎ (status ≡ 1)) }
     {
         for said in commands {

@@ -1,7 +1,7 @@
 //! Whole book scripts.
 ghost use Rattle.std.specs.Prelude.{◌≡◌, ◌⊎◌};
-ghost use Rattle.script_lines.specs.Scripts.{plain_script};
-ghost use Rattle.book_play.specs.Played.{IsWritten, IsMissed};
+ghost use Rattle.script_lines.specs.Scripts.{AreInRange, plain_script};
+ghost use Rattle.book_play.specs.Played.{first_book, IsWritten, IsMissed};
 
 use crate::player::Player;
 use crate::printer::Printer;
@@ -13,12 +13,19 @@ use text_check::FAILED;
 use turn_check::Verified;
 
 /// How much a link may hold, as a script sets it.
-fn limits_of(settings: Settings) -> Option<Limits> {
-    Limits::new(
+fn limits_of(settings: Settings) -> Limits
+    requires { AreInRange settings }
+    ensures { result ≡ record { port = settings.ports; env = settings.env; journal = settings.journal } }
+{
+    let limits = Limits::new(
         settings.ports as usize,
         settings.env as usize,
         settings.journal as usize,
-    )
+    );
+    match limits {
+        Some(limits) => limits,
+        None => unreachable!(),
+    }
 }
 
 /// Runs a book script on the processes of a set, and prints a line for each command but `expect`.
@@ -26,13 +33,14 @@ fn limits_of(settings: Settings) -> Option<Limits> {
 /// Gives the exit status: 0 where each command ran and its line was written, 1 after `failed line N` where an expectation failed, 4 where
 /// memory or a write fails. Nothing is written after a write that failed.
 pub fn play_book<W: Write>(alloc: Global, set: &Verified, script: &Script<'_>, writer: &mut W) -> u8
-    ensures held { result ≡ 0 → IsWritten (plain_script script.now).commands (W.contents writer.old) (W.contents writer.new) }
-    ensures missed { result ≡ 1 → IsMissed (plain_script script.now).commands (W.contents writer.old) (W.contents writer.new) }
+    requires { AreInRange script.now.settings }
+    ensures held { result ≡ 0
+        → IsWritten (first_book set.now script.now.settings) (plain_script script.now).commands (W.contents writer.old) (W.contents writer.new) }
+    ensures missed { result ≡ 1
+        → IsMissed (first_book set.now script.now.settings) (plain_script script.now).commands (W.contents writer.old) (W.contents writer.new) }
     ensures status { (result ≡ 0) ⊎ (result ≡ 1) ⊎ (result ≡ 4) }
 {
-    let Some(limits) = limits_of(script.settings) else {
-        return FAILED;
-    };
+    let limits = limits_of(script.settings);
     let Ok(book) = Book::open(alloc, set, limits) else {
         return FAILED;
     };

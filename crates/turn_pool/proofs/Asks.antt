@@ -1,7 +1,8 @@
 -- What an event makes of a book's journal.
-use Rattle.std.proofs.Common.{◌≡◌, [], ◌∷◌, ◌++◌, Option, Some, None, refl}
+use Rattle.std.proofs.Common.{◌≡◌, ℕ, zero, suc, ◌+◌, ◌-◌, nat_lt, false, Bool, if◌then◌else◌, List, [], ◌∷◌, ◌++◌, length, slice_get, Option, Some, None, refl, ap, ◌∙◌, arith}
+use Rattle.std.proofs.lemmas.Bool.{le-ltb}
 use Rattle.link_machine.specs.Step.{Says, Stepped, step}
-use Rattle.link_machine.specs.Ledger.{Ledger, runs, state_of, refusal_by, asked, ask, ask_by}
+use Rattle.link_machine.specs.Ledger.{Ledger, runs, state_of, refusal_by, asked, ask, ask_by, next, event_at}
 use Rattle.link_machine.specs.declared.event.Event.{Event}
 use Rattle.link_machine.specs.declared.reply.Refusal.{Refusal}
 use Rattle.link_machine.specs.declared.reply.Reply.TheVariants as reply
@@ -15,3 +16,20 @@ offered_by b e s (Some r) is = cc
 pub offered : (b : Ledger) (e : Event) → Says reply.Offered ≡ (ask b e).answer → (ask b e).book.journal ≡ b.journal ++ e ∷ []
 unfolding ask_by
 offered b e is = offered_by b e (step b.set (runs b.set) (state_of b) e) (refusal_by (runs b.set) b e) is
+
+last_at : (xs : List Event) (x : Event) → slice_get (xs ++ x ∷ []) (length xs) ≡ Some x
+last_at [] x = refl
+last_at (y ∷ xs) x = last_at xs x
+
+stands_by : (b : Ledger) (e : Event) (s : Stepped) (o : Option Refusal) → next (asked b e s o).book ≡ next b + 1 → event_at (asked b e s o).book (next b) ≡ Some e
+stands_by b e s None more =
+    let behind : next b - b.first ≡ length b.journal = omega arith in
+    ap (λ (t : Bool). if t then None else slice_get (b.journal ++ e ∷ []) (next b - b.first)) (le-ltb (next b) b.first (omega arith))
+    ∙ ap (λ (k : ℕ). slice_get (b.journal ++ e ∷ []) k) behind
+    ∙ last_at b.journal e
+stands_by b e s (Some r) more = absurd (omega arith)
+
+-- an event by which the next place rises stands at the place that was the next
+pub stands : (b : Ledger) (e : Event) → next (ask b e).book ≡ next b + 1 → event_at (ask b e).book (next b) ≡ Some e
+unfolding ask_by
+stands b e more = stands_by b e (step b.set (runs b.set) (state_of b) e) (refusal_by (runs b.set) b e) more

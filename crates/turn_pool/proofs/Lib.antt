@@ -1,2 +1,4 @@
 pub mod Asks
+pub mod Calls
 pub mod Finishes
+pub mod Turns

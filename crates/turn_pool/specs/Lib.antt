@@ -1,4 +1,6 @@
 pub mod Links
 pub mod Moves
+pub mod Printed
 pub mod Receipts
 pub mod Serves
+pub mod Turns

@@ -1,7 +1,13 @@
 -- Receipts, held against the journals.
-use Rattle.std.specs.Prelude.{◌≡◌, ℕ, List, Option, None, Some, slice_get}
-use Rattle.link_machine.specs.Ledger.{Ledger, event_at}
+use Rattle.std.specs.Prelude.{◌≡◌, ℕ, List, Option, None, Some, Result, Ok, Err, slice_get}
+use Rattle.link_machine.specs.Ledger.{Ledger, ask, event_at, next}
+use Rattle.link_machine.specs.Step.{Says}
 use Rattle.link_machine.specs.declared.event.Event.{Event}
+use Rattle.link_machine.specs.declared.reply.Refusal.{Refusal}
+use Rattle.link_machine.specs.declared.reply.Reply.{Reply}
+use Rattle.link_machine.specs.declared.reply.Reply.TheVariants as reply
+use Rattle.turn_pool.specs.declared.receipt.PoolRefusal.{PoolRefusal}
+use Rattle.turn_pool.specs.declared.receipt.PoolRefusal.TheVariants.{NoLink, Closing, NoMemory, Refused}
 use Rattle.turn_pool.specs.declared.receipt.Receipt.{Receipt}
 
 -- the event at a place of a link's journal
@@ -21,3 +27,38 @@ pub record FailsAt (books : List Ledger) (receipts : List Receipt) (position : �
   pub receipt : Receipt
   pub there : slice_get receipts position ≡ Some receipt
   pub fails : StandsIn books receipt → ⊥
+
+-- ---- what a client's event comes to
+
+-- a book takes the event and replies so; the receipt names the link, the place that the event has in that book, and the event
+pub record IsTaken (link : ℕ) (e : Event) (says : Reply) (r : Receipt) : Type 0 where
+  pub book : Ledger
+  pub answers : (ask book e).answer ≡ Says says
+  pub names : r ≡ record { link = link; place = next book; event = e }
+  pub stands : event_at (ask book e).book r.place ≡ Some e
+
+-- a book refuses the event for this reason
+pub record IsRefused (e : Event) (r : Refusal) : Type 0 where
+  pub book : Ledger
+  pub answers : (ask book e).answer ≡ Says (reply.Refused r)
+
+-- the refusals of the pool itself, before it asks a book
+abbrev pub IsOwn : PoolRefusal → Type 0
+IsOwn NoLink = Unit {0}
+IsOwn Closing = Unit {0}
+IsOwn NoMemory = ⊥
+IsOwn (Refused r) = ⊥
+
+-- the refusals that a client's event may have: the pool's own, and those of a book for this event
+abbrev pub IsRefusal : Event → PoolRefusal → Type 0
+IsRefusal e NoLink = IsOwn NoLink
+IsRefusal e Closing = IsOwn Closing
+IsRefusal e NoMemory = ⊥
+IsRefusal e (Refused r) = IsRefused e r
+
+-- the refusals that a rebase may have: the pool's own, and want of memory
+abbrev pub IsRebaseRefusal : PoolRefusal → Type 0
+IsRebaseRefusal NoLink = IsOwn NoLink
+IsRebaseRefusal Closing = IsOwn Closing
+IsRebaseRefusal NoMemory = Unit {0}
+IsRebaseRefusal (Refused r) = ⊥

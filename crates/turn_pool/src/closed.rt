@@ -6,6 +6,7 @@ ghost use Rattle.turn_pool.specs.Receipts.{StandsIn, AllStand, FailsAt};
 
 use crate::receipt::Receipt;
 use actor_book::{Book, Event};
+use std::fmt;
 use thiserror::Error;
 
 /// What a pool leaves.
@@ -21,10 +22,20 @@ pub struct Closed {
 
 /// A receipt whose event doesn't stand at its place.
 #[derive(Clone, Copy, PartialEq, Eq, Debug, Error)]
-#[error("G3 Mismatch {position}")]
 pub struct Mismatch {
     /// Its position in the list, from 0.
     pub position: usize,
+}
+
+impl fmt::Display for Mismatch {
+    ghost use Rattle.std.specs.Prelude.{Some};
+    ghost use Rattle.turn_pool.specs.Printed.{mismatch_text};
+
+    ghost output = { λ e. Some (mismatch_text e) };
+
+    fn fmt<W: fmt::Write>(&self, f: &mut fmt::Formatter<W>) -> fmt::Result {
+        write!(f, "G3 Mismatch {}", self.position)
+    }
 }
 
 /// Whether an event stands at a place of a book's journal.

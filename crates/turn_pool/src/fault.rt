@@ -9,11 +9,23 @@ use thiserror::Error;
 #[derive(Drop, Error)]
 pub enum PoolFault {
     /// No worker or more than 16, or more than 16 links, or no thread could be started.
-    #[error("G1 NoWorkers")]
     NoWorkers(Vec<Book>),
     /// There is too little memory.
-    #[error("NoMemory")]
     NoMemory(Vec<Book>),
+}
+
+impl fmt::Display for PoolFault {
+    ghost use Rattle.std.specs.Prelude.{Some};
+    ghost use Rattle.turn_pool.specs.Printed.{fault_text};
+
+    ghost output = { λ e. Some (fault_text e) };
+
+    fn fmt<W: Write>(&self, f: &mut Formatter<W>) -> fmt::Result {
+        f.write_str(match self {
+            Self::NoWorkers(_) => "G1 NoWorkers",
+            Self::NoMemory(_) => "NoMemory",
+        })
+    }
 }
 
 impl Debug for PoolFault {

@@ -1,7 +1,9 @@
 //! Books that threads share.
 
-ghost use Rattle.std.specs.Prelude.{◌≡◌, ◌+◌, ◌↔◌, ◌≤◌, vec_len, Err, IfOk, OnOk, OnErr};
+ghost use Rattle.std.specs.Prelude.{◌≡◌, ◌+◌, ◌↔◌, ◌≤◌, vec_len, Err, IfOk, IfErr, OnOk, OnErr};
 ghost use Rattle.link_machine.specs.declared.event.Event.TheVariants.{Offer as Offered, Advance, TakeEnv};
+ghost use Rattle.link_machine.specs.declared.reply.Reply.TheVariants as reply;
+ghost use Rattle.turn_pool.specs.Receipts.{IsOwn, IsTaken, IsRefusal, IsRebaseRefusal};
 ghost use Rattle.turn_pool.specs.declared.receipt.PoolRefusal.TheVariants.{NoLink};
 
 use crate::receipt::{PoolRefusal, Receipt};
@@ -35,7 +37,8 @@ impl<'r, R: Wait, L: Ledger> Pool<'r, R, L> {
 
     /// The lock of a link, while the pool is open.
     fn open_link(&self, link: usize) -> Result<&Mutex<Slot<L>>, PoolRefusal>
-        ensures { (result ≡ Err NoLink) ↔ (vec_len self.now.links ≤ link) }
+        ensures no_link { (result ≡ Err NoLink) ↔ (vec_len self.now.links ≤ link) }
+        ensures own { IfErr result IsOwn }
     {
         match self.links.get(link) {
             None => Err(PoolRefusal::NoLink),
@@ -60,12 +63,13 @@ impl<'r, R: Wait, L: Ledger> Pool<'r, R, L> {
         ensures counted { OnOk result (seat.new ≡ seat.old + 1) }
         ensures err { OnErr result (seat.new ≡ seat.old) }
         ensures no_link { (result ≡ Err NoLink) ↔ (vec_len self.now.links ≤ link) }
-        ensures event { IfOk result (λ r. r.event ≡ Offered (record { actor = actor; signal = signal; values = record { items = values.now } })) }
+        ensures taken { let e = Offered (record { actor = actor; signal = signal; values = record { items = values.now } }) in IfOk result (IsTaken link e reply.Offered) }
+        ensures refused { let e = Offered (record { actor = actor; signal = signal; values = record { items = values.now } }) in IfErr result (IsRefusal e) }
     {
         let mut slot = self.open_link(link)?.lock(self.rt);
         let mut totals = self.totals.lock(self.rt);
         match slot.offer(seat, &mut totals, actor, signal, values) {
-            Ok(receipt) => Ok(receipt),
+            Ok(receipt) => Ok(receipt.of_link(link)),
             Err(refusal) => Err(PoolRefusal::Refused(refusal)),
         }
     }
@@ -84,12 +88,13 @@ impl<'r, R: Wait, L: Ledger> Pool<'r, R, L> {
         ensures counted { OnOk result (seat.new ≡ seat.old + 1) }
         ensures err { OnErr result (seat.new ≡ seat.old) }
         ensures no_link { (result ≡ Err NoLink) ↔ (vec_len self.now.links ≤ link) }
-        ensures event { IfOk result (λ r. r.1.event ≡ Advance ticks) }
+        ensures taken { IfOk result (λ r. IsTaken link (Advance ticks) (reply.Passed r.0) r.1) }
+        ensures refused { IfErr result (IsRefusal (Advance ticks)) }
     {
         let mut slot = self.open_link(link)?.lock(self.rt);
         let mut totals = self.totals.lock(self.rt);
         match slot.advance(seat, &mut totals, ticks) {
-            Ok(passed) => Ok(passed),
+            Ok((due, receipt)) => Ok((due, receipt.of_link(link))),
             Err(refusal) => Err(PoolRefusal::Refused(refusal)),
         }
     }
@@ -108,12 +113,13 @@ impl<'r, R: Wait, L: Ledger> Pool<'r, R, L> {
         ensures counted { OnOk result (seat.new ≡ seat.old + 1) }
         ensures err { OnErr result (seat.new ≡ seat.old) }
         ensures no_link { (result ≡ Err NoLink) ↔ (vec_len self.now.links ≤ link) }
-        ensures event { IfOk result (λ r. r.1.event ≡ TakeEnv) }
+        ensures taken { IfOk result (λ r. IsTaken link TakeEnv (reply.Taken r.0) r.1) }
+        ensures refused { IfErr result (IsRefusal TakeEnv) }
     {
         let mut slot = self.open_link(link)?.lock(self.rt);
         let mut totals = self.totals.lock(self.rt);
         match slot.take_env(seat, &mut totals) {
-            Ok(taken) => Ok(taken),
+            Ok((emitted, receipt)) => Ok((emitted, receipt.of_link(link))),
             Err(refusal) => Err(PoolRefusal::Refused(refusal)),
         }
     }
@@ -126,6 +132,7 @@ impl<'r, R: Wait, L: Ledger> Pool<'r, R, L> {
     /// In this order: `B10 NoActor` for a link that isn't there, `G2 Closing`, `NoMemory`. Then nothing changes.
     pub fn rebase(&self, link: usize, seat: &mut Seat<L>) -> Result<u64, PoolRefusal>
         ensures same { seat.new ≡ seat.old }
+        ensures refused { IfErr result IsRebaseRefusal }
         ensures no_link { (result ≡ Err NoLink) ↔ (vec_len self.now.links ≤ link) }
     {
         let _seat = seat;

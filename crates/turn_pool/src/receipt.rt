@@ -1,6 +1,9 @@
 //! What a client is given.
 
+ghost use Rattle.std.specs.Prelude.{◌≡◌};
+
 use actor_book::{Event, Refusal};
+use std::fmt;
 use thiserror::Error;
 
 /// An event that a client made, and where it stands.
@@ -14,19 +17,44 @@ pub struct Receipt {
     pub event: Event,
 }
 
+impl Receipt {
+    /// The receipt for the link that a client named.
+    pub(crate) fn of_link(self, link: usize) -> Receipt
+        ensures { result ≡ record { link = link; place = self.place; event = self.event } }
+    {
+        let Receipt {
+            link: _,
+            place,
+            event,
+        } = self;
+        Receipt { link, place, event }
+    }
+}
+
 /// Why a pool does nothing for a client.
 #[derive(Clone, Copy, PartialEq, Eq, Debug, Error)]
 pub enum PoolRefusal {
     /// There is no such link.
-    #[error("B10 NoActor")]
     NoLink,
     /// The pool is closing.
-    #[error("G2 Closing")]
     Closing,
     /// There is too little memory.
-    #[error("NoMemory")]
     NoMemory,
     /// The book of the link refuses it.
-    #[error("{0}")]
     Refused(Refusal),
+}
+
+impl fmt::Display for PoolRefusal {
+    ghost use Rattle.turn_pool.specs.Printed.{refusal_text};
+
+    ghost output = { λ e. refusal_text e };
+
+    fn fmt<W: fmt::Write>(&self, f: &mut fmt::Formatter<W>) -> fmt::Result {
+        match self {
+            Self::NoLink => f.write_str("B10 NoActor"),
+            Self::Closing => f.write_str("G2 Closing"),
+            Self::NoMemory => f.write_str("NoMemory"),
+            Self::Refused(refusal) => write!(f, "{refusal}"),
+        }
+    }
 }

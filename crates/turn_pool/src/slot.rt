@@ -1,7 +1,7 @@
 //! A link's book with its share of the account.
 
 ghost use Rattle.std.specs.Prelude.{◌≡◌, ◌≤◌, ◌<◌, ◌+◌, ◌^◌, ◌++◌, ◌∷◌, [], List, Option, Some, None, IfOk, IfErr, OnOk, OnErr};
-ghost use Rattle.link_machine.specs.Ledger.{ask, next, rebased, turn_out};
+ghost use Rattle.link_machine.specs.Ledger.{ask, event_at, next, rebased, turn_out};
 ghost use Rattle.link_machine.specs.declared.event.Event.{Event as PlainEvent};
 ghost use Rattle.link_machine.specs.declared.event.Event.TheVariants.{Offer as Offered, Advance, TakeEnv};
 ghost use Rattle.link_machine.specs.declared.reply.Reply.TheVariants as reply;
@@ -60,7 +60,7 @@ impl<L: Ledger> Slot<L> {
         &self.book
     }
 
-    #[tactic(auto, using(crate::proofs::Asks::offered))]
+    #[tactic(auto, using(crate::proofs::Asks::offered, crate::proofs::Asks::stands))]
     /// A signal of the environment comes to an actor, as by [`Book::offer`].
     ///
     /// # Errors
@@ -82,6 +82,7 @@ impl<L: Ledger> Slot<L> {
         ensures seat { seat.new + next self.old.book ≡ seat.old + next self.new.book }
         ensures receipt { let e = Offered (record { actor = actor; signal = signal; values = record { items = values.now } }) in
             IfOk result (λ r. r ≡ record { link = self.old.number; place = next self.old.book; event = e }) }
+        ensures stands { IfOk result (λ r. event_at self.new.book r.place ≡ Some r.event) }
         ensures err { OnErr result ((self.new ≡ self.old) × (seat.new ≡ seat.old)) }
     {
         let place = self.book.next();
@@ -97,6 +98,7 @@ impl<L: Ledger> Slot<L> {
         }
     }
 
+    #[tactic(auto, using(crate::proofs::Asks::stands))]
     /// So many ticks pass, as by [`Book::advance`]. How many timers were due.
     ///
     /// # Errors
@@ -114,6 +116,7 @@ impl<L: Ledger> Slot<L> {
         ensures counted { OnOk result (seat.new ≡ seat.old + 1) }
         ensures seat { seat.new + next self.old.book ≡ seat.old + next self.new.book }
         ensures receipt { IfOk result (λ r. r.1 ≡ record { link = self.old.number; place = next self.old.book; event = Advance ticks }) }
+        ensures stands { IfOk result (λ r. event_at self.new.book r.1.place ≡ Some r.1.event) }
         ensures err { OnErr result ((self.new ≡ self.old) × (seat.new ≡ seat.old)) }
     {
         let place = self.book.next();
@@ -130,6 +133,7 @@ impl<L: Ledger> Slot<L> {
         ))
     }
 
+    #[tactic(auto, using(crate::proofs::Asks::stands))]
     /// The environment takes what has waited longest for it, as by [`Book::take_env`].
     ///
     /// # Errors
@@ -146,6 +150,7 @@ impl<L: Ledger> Slot<L> {
         ensures counted { OnOk result (seat.new ≡ seat.old + 1) }
         ensures seat { seat.new + next self.old.book ≡ seat.old + next self.new.book }
         ensures receipt { IfOk result (λ r. r.1 ≡ record { link = self.old.number; place = next self.old.book; event = TakeEnv }) }
+        ensures stands { IfOk result (λ r. event_at self.new.book r.1.place ≡ Some r.1.event) }
         ensures err { OnErr result ((self.new ≡ self.old) × (seat.new ≡ seat.old)) }
     {
         let place = self.book.next();

@@ -1,5 +1,8 @@
 //! Workers.
 
+ghost use Rattle.std.specs.Prelude.{◌≡◌};
+ghost use Rattle.turn_pool.specs.Turns.{move_by, IsNext};
+
 use crate::gate::{Gate, JobName};
 use crate::moves::{Move, Moved, work};
 use crate::pool::Pool;
@@ -13,19 +16,31 @@ use turn_machine::{Job, run};
 /// How many begins and skips a worker makes at most after the pool began to close.
 const LAST_STEPS: usize = 1000;
 
+/// What an actor does whose turn is refused for this reason, or for none.
+fn move_at(actor: u16, refusal: Option<Refusal>) -> Option<Move>
+    ensures { result ≡ move_by actor refusal }
+{
+    match refusal {
+        None => Some(Move::Begin(actor)),
+        Some(Refusal::SkipFirst) => Some(Move::Skip(actor)),
+        Some(_) => None,
+    }
+}
+
 /// What the least actor of a link that can do something does; nothing on a link whose journal is full.
-fn next_step(book: &Book) -> Option<Move> {
+fn next_step(book: &Book) -> Option<Move>
+    ensures { IsNext book.now result }
+{
     if book.room() == 0 {
         return None;
     }
     let set = book.set();
     let link = book.state();
+    let _few = link.actors();
     for actor in 0..16 {
-        match link.begin_refusal(set, actor) {
-            None => return Some(Move::Begin(actor)),
-            Some(Refusal::SkipFirst) => return Some(Move::Skip(actor)),
-            Some(Refusal::NoActor) => return None,
-            Some(_) => {}
+        match move_at(actor, link.begin_refusal(set, actor)) {
+            Some(step) => return Some(step),
+            None => {}
         }
     }
     None

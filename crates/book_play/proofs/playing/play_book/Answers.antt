@@ -1,4 +1,6 @@
-use Rattle.std.proofs.Common.{[], List, map, subst}
+use Rattle.std.proofs.Common.{[], List, map, ap, subst, ◌∙◌}
+use Rattle.link_machine.specs.Kept.{opened_book}
+use Rattle.link_machine.specs.Ledger.{Ledger}
 use Rattle.script_lines.specs.Scripts.{plain_said}
 use Rattle.script_lines.specs.declared.script.Said.{Said}
 use Rattle.book_play.specs.Played.{last_of, IsRun, IsMissed}
@@ -7,13 +9,25 @@ use Rattle.book_play.proofs.playing.play_book.Goals as goal
 
 pub returns-in-Ok-run-clause-held : goal.returns-in-Ok-run-clause-held
 returns-in-Ok-run-clause-held g c held =
-    let P : List Said → Type 0 =
-    λ commands. IsRun (map plain_said commands) (g.W.Write.contents c.args.writer.now) (g.W.Write.contents c.run.new.writer) (last_of c.run.new.self) in (
-      last_of c.run.new.self,
-      subst P c.deref.ensures.value (c.in-Ok-run.ensures.held held [] (g.W.Write.contents c.args.writer.now) (run_begins (g.W.Write.contents c.args.writer.now))),
-    )
+    let old = g.W.Write.contents c.args.writer.now in
+    let new = g.W.Write.contents c.run.new.writer in
+    let now = c.run.new.self.book in
+    let last = last_of c.run.new.self in
+    let P : List Said → Type 0 = λ commands. IsRun c.in-Ok.book (map plain_said commands) old new now last in
+    let B : Ledger → Type 0 = λ b. IsRun b (map plain_said c.args.script.now.commands.items) old new now last in
+    record {
+      now = now;
+      last = last;
+      run =
+          subst B (c.in-Ok.ensures ∙ ap (λ l. opened_book c.args.set.now l.port l.env l.journal) c.limits_of-limits.ensures)
+          (subst P c.deref.ensures.value (c.in-Ok-run.ensures.held held c.in-Ok.book [] old (run_begins c.in-Ok.book old)));
+    }
 
 pub returns-in-Ok-run-clause-missed : goal.returns-in-Ok-run-clause-missed
 returns-in-Ok-run-clause-missed g c missed =
-    let P : List Said → Type 0 = λ commands. IsMissed (map plain_said commands) (g.W.Write.contents c.args.writer.now) (g.W.Write.contents c.run.new.writer) in
-    subst P c.deref.ensures.value (c.in-Ok-run.ensures.missed missed [] (g.W.Write.contents c.args.writer.now) (run_begins (g.W.Write.contents c.args.writer.now)))
+    let old = g.W.Write.contents c.args.writer.now in
+    let new = g.W.Write.contents c.run.new.writer in
+    let P : List Said → Type 0 = λ commands. IsMissed c.in-Ok.book (map plain_said commands) old new in
+    let B : Ledger → Type 0 = λ b. IsMissed b (map plain_said c.args.script.now.commands.items) old new in
+    subst B (c.in-Ok.ensures ∙ ap (λ l. opened_book c.args.set.now l.port l.env l.journal) c.limits_of-limits.ensures)
+    (subst P c.deref.ensures.value (c.in-Ok-run.ensures.missed missed c.in-Ok.book [] old (run_begins c.in-Ok.book old)))

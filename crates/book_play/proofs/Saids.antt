@@ -1,0 +1,86 @@
+-- What is printed for an event, and whose turn is out.
+use Rattle.std.proofs.Common.{◌≡◌, ℕ, List, Option, Some, None, refl, sym, ap, ◌∙◌}
+use Rattle.std.specs.Prelude.{true, false, slice_get}
+use Rattle.turn_code.specs.Transitions.{Transition, transition_at}
+use Rattle.turn_code.specs.declared.input.Place.{Place}
+use Rattle.turn_code.specs.declared.draft.Draft.{Draft}
+use Rattle.turn_machine.specs.Turn.{Turn, turn_of}
+use Rattle.link_machine.specs.Ledger.{Ledger, runs, state_of, refusal_by, asked, ask_by, ask, turn_with, turn_given, turn_at, turn_out}
+use Rattle.link_machine.specs.Step.{Answer, Says, Stepped, step}
+use Rattle.link_machine.specs.declared.actor.Actor.{Actor}
+use Rattle.link_machine.specs.declared.actor.Given.{Given}
+use Rattle.link_machine.specs.declared.actor.Standing.{Standing}
+use Rattle.link_machine.specs.declared.actor.Standing.TheVariants.{At, Stopped}
+use Rattle.link_machine.specs.declared.event.Event.{Event}
+use Rattle.link_machine.specs.declared.event.Event.TheVariants.{Finish}
+use Rattle.link_machine.specs.declared.reply.Refusal.{Refusal}
+use Rattle.link_machine.specs.declared.reply.Reply.{Reply}
+use Rattle.book_play.specs.Answers.{Answered, reply_text, answer_text, by_event, finishes}
+
+-- ---- lines
+
+set_kept : (b : Ledger) (e : Event) (s : Stepped) (o : Option Refusal) → (asked b e s o).book.set ≡ b.set
+set_kept b e s None = refl
+set_kept b e s (Some r) = refl
+
+same_set : (b : Ledger) (e : Event) → (ask b e).book.set ≡ b.set
+unfolding ask_by
+same_set b e = set_kept b e (step b.set (runs b.set) (state_of b) e) (refusal_by (runs b.set) b e)
+
+-- the line of what was answered, with the names of the set that the book still has
+pub line_said : (b now : Ledger) (d : Draft) (p : ℕ) (e f : Event) (r : Reply) (items : List ℕ) → e ≡ f → d ≡ now.set → now ≡ (ask b e).book
+    → Says r ≡ (ask b e).answer → items ≡ reply_text d p r → items ≡ (by_event b p f).line
+line_said b now d p e f r items same_event set book says line =
+    let same : d ≡ b.set = set ∙ (ap (λ (x : Ledger). x.set) book ∙ same_set b e) in
+    line
+    ∙ (ap (λ (x : Draft). reply_text x p r) same
+    ∙ (ap (λ (a : Answer). answer_text b.set p a) says ∙ ap (λ (x : Event). answer_text b.set p (ask b x).answer) same_event))
+
+-- ---- turns that are out
+
+with_own : (n : ℕ) (s : Place) (g : Given) (q : Option Transition) (t : Turn) → turn_with n s g q ≡ Some t → t.actor ≡ n
+with_own n s g None t h = absurd (cc)
+with_own n s g (Some x) t h =
+    let same : turn_of n g.turn (record { 0 = n }) s g.number x.piece.code x.piece.certificate g.input ≡ t = cc in
+    sym (ap (λ (u : Turn). u.actor) same)
+
+given_own : (d : Draft) (n : ℕ) (s : Standing) (o : Option Given) (t : Turn) → turn_given d n s o ≡ Some t → t.actor ≡ n
+given_own d n (At s) None t h = absurd (cc)
+given_own d n (At s) (Some g) t h = with_own n s g (transition_at d n s g.number) t h
+given_own d n Stopped o t h = absurd (cc)
+
+at_own : (d : Draft) (n : ℕ) (o : Option Actor) (t : Turn) → turn_at d n o ≡ Some t → t.actor ≡ n
+at_own d n None t h = absurd (cc)
+at_own d n (Some a) t h = given_own d n a.standing a.given t h
+
+-- the turn that an actor has out is its own
+pub own_actor : (b : Ledger) (n : ℕ) (t : Turn) → turn_out b n ≡ Some t → t.actor ≡ n
+unfolding turn_out
+own_actor b n t h = at_own b.set n (slice_get (state_of b).actors n) t h
+
+pub still_own : (b : Ledger) (n : ℕ) (t u : Turn) → turn_out b n ≡ Some t → u ≡ t → turn_out b u.actor ≡ Some u
+still_own b n t u h k =
+    ap (turn_out b) (ap (λ (x : Turn). x.actor) k ∙ own_actor b n t h) ∙ h ∙ ap (λ (x : Turn). Some x) (sym k)
+
+pub not_so : false ≡ true → ⊥
+not_so h = cc
+
+-- handing in the turn that process p has out
+event_is : (b : Ledger) (n p : ℕ) (t u : Turn) → n ≡ p → Some t ≡ turn_out b n → u ≡ t → Finish u.actor ≡ Finish p
+event_is b n p t u same h k = ap Finish (ap (λ (x : Turn). x.actor) k ∙ (own_actor b n t (sym h) ∙ same))
+
+finish_is : (b : Ledger) (n p : ℕ) (t : Turn) → n ≡ p → Some t ≡ turn_out b n → by_event b p (Finish p) ≡ finishes b p (turn_out b p)
+finish_is b n p t same h = ap (finishes b p) (h ∙ ap (turn_out b) same)
+
+pub finish_book : (b now : Ledger) (n p : ℕ) (t u : Turn) → n ≡ p → Some t ≡ turn_out b n → u ≡ t → now ≡ (ask b (Finish u.actor)).book
+    → now ≡ (finishes b p (turn_out b p)).book
+finish_book b now n p t u same h k book =
+    book
+    ∙ (ap (λ (e : Event). (ask b e).book) (event_is b n p t u same h k) ∙ ap (λ (a : Answered). a.book) (finish_is b n p t same h))
+
+pub finish_line : (b now : Ledger) (d : Draft) (n p : ℕ) (t u : Turn) (r : Reply) (items : List ℕ) → n ≡ p → Some t ≡ turn_out b n → u ≡ t → d ≡ now.set
+    → now ≡ (ask b (Finish u.actor)).book → (ask b (Finish u.actor)).answer ≡ Says r → items ≡ reply_text d p r
+    → items ≡ (finishes b p (turn_out b p)).line
+finish_line b now d n p t u r items same h k set book says line =
+    line_said b now d p (Finish u.actor) (Finish p) r items (event_is b n p t u same h k) set book (sym says) line
+    ∙ ap (λ (a : Answered). a.line) (finish_is b n p t same h)

@@ -1,0 +1,27 @@
+//! Names of processes, signals and variables, as scripts write them: in any case.
+ghost use Rattle.std.specs.Prelude.{◌≡◌, option_map};
+ghost use Rattle.book_play.specs.Answers.{process_named, signal_named, variable_named};
+
+use actor_book::Book;
+use turn_code::{ProcessNumber, SignalNumber, VariableNumber};
+
+/// The process of this name.
+pub fn process_named(book: &Book, name: &str) -> Option<ProcessNumber>
+    ensures { option_map (λ p. p.0) result ≡ process_named book.now name.now }
+{
+    book.set().process_of(name)
+}
+
+/// The signal of this name.
+pub fn signal_named(book: &Book, name: &str) -> Option<SignalNumber>
+    ensures { option_map (λ s. s.0) result ≡ signal_named book.now name.now }
+{
+    book.set().signal_of(name)
+}
+
+/// The variable of a process of this name.
+pub fn variable_named(book: &Book, process: ProcessNumber, name: &str) -> Option<VariableNumber>
+    ensures { option_map (λ x. x.0) result ≡ variable_named book.now process.0 name.now }
+{
+    book.set().variable_of(process, name)
+}

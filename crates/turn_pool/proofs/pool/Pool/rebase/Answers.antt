@@ -1,0 +1,8 @@
+use Rattle.std.proofs.lemmas.Result.{err_from_is_err_and}
+use Rattle.turn_pool.proofs.Calls.{own_rebase}
+use Rattle.turn_pool.proofs.pool.Pool.rebase.Goals as goal
+
+pub returns-in_err-open_link-clause-refused : goal.returns-in_err-open_link-clause-refused
+returns-in_err-open_link-clause-refused g c =
+    let p = err_from_is_err_and c.from_residual.result c.from_residual.ensures.1 in
+    rw (p.1, p.2) (own_rebase c.in_err-open_link.field-0.0 c.in_err-open_link.ensures.own)
