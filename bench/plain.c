@@ -1,6 +1,6 @@
 /* A plain loop for signal units on a line, for comparison: check bits by a table, stuffing and unstuffing by tables of
  * octets, and bit by bit only where six 1s come in a row. It sends and receives the same units as crates/line_bench:
- * random messages, and a line of fill-in units. */
+ * random messages, and a line of fill-in units, few of them gone through many times. */
 #include <stdint.h>
 #include <stdio.h>
 #include <stdlib.h>
@@ -8,7 +8,7 @@
 #include <time.h>
 
 #define UNITS 2000
-#define FISUS 50000
+#define FISU_TIMES 25
 
 static uint16_t table[256];
 
@@ -150,14 +150,14 @@ static double now(void) {
     return t.tv_sec + t.tv_nsec * 1e-9;
 }
 
-static uint8_t contents[FISUS][276];
-static size_t lengths[FISUS];
+static uint8_t contents[UNITS][276];
+static size_t lengths[UNITS];
 
 /* Sends and receives the first so many contents, and prints octets a second both ways. */
 static void measure(const char *name, int count, int rounds, int told) {
     size_t content_octets = 0;
     for (int u = 0; u < count; u++) content_octets += lengths[u] + 2;
-    struct line l = {malloc(UNITS * 360 + FISUS * 16), 0, 0, 0, 0};
+    struct line l = {malloc(UNITS * 360), 0, 0, 0, 0};
     double start = now();
     for (int r = 0; r < rounds; r++) {
         l.length = 0; l.part = 0; l.filled = 0;
@@ -191,13 +191,13 @@ int main(int argc, char **argv) {
         lengths[u] = 4 + sif;
     }
     measure("", UNITS, rounds, argc > 1);
-    for (int u = 0; u < FISUS; u++) {
+    for (int u = 0; u < UNITS; u++) {
         uint8_t *c = contents[u];
         c[0] = draw() % 256;
         c[1] = draw() % 256;
         c[2] = 0;
         lengths[u] = 3;
     }
-    measure("fisu_", FISUS, rounds, argc > 1);
+    measure("fisu_", UNITS, rounds * FISU_TIMES, argc > 1);
     return 0;
 }

@@ -8,7 +8,7 @@
 #include <spandsp.h>
 
 #define UNITS 2000
-#define FISUS 50000
+#define FISU_TIMES 25
 
 static uint32_t state = 2463534242u;
 static uint32_t draw(void) {
@@ -18,8 +18,8 @@ static uint32_t draw(void) {
     return state;
 }
 
-static uint8_t contents[FISUS][276];
-static size_t lengths[FISUS];
+static uint8_t contents[UNITS][276];
+static size_t lengths[UNITS];
 static int next, last;
 static size_t units;
 static hdlc_tx_state_t *sender;
@@ -42,7 +42,7 @@ static double now(void) {
 }
 
 static void measure(const char *name, int count, int rounds) {
-    size_t content_octets = 0, length = 0, most = UNITS * 360 + FISUS * 16;
+    size_t content_octets = 0, length = 0, most = UNITS * 360;
     uint8_t *line = malloc(most + 1024);
     for (int u = 0; u < count; u++) content_octets += lengths[u] + 2;
     last = count;
@@ -83,13 +83,13 @@ int main(int argc, char **argv) {
         lengths[u] = 4 + sif;
     }
     measure("", UNITS, rounds);
-    for (int u = 0; u < FISUS; u++) {
+    for (int u = 0; u < UNITS; u++) {
         uint8_t *c = contents[u];
         c[0] = draw() % 256;
         c[1] = draw() % 256;
         c[2] = 0;
         lengths[u] = 3;
     }
-    measure("fisu_", FISUS, rounds);
+    measure("fisu_", UNITS, rounds * FISU_TIMES);
     return 0;
 }

@@ -3,7 +3,6 @@ use Rattle.std.proofs.Common.{◌≡◌, ℕ, ◌+◌, ◌≤◌, zero, suc, Boo
 use Rattle.std.specs.Prelude.{if◌then◌else◌}
 use Rattle.resend_store.specs.declared.messages.Msu.{Msu}
 use Rattle.resend_store.specs.Window.{Window}
-use Rattle.su_octets.specs.declared.units.Head.{Head}
 use Rattle.su_octets.specs.declared.units.Unit.{Unit}
 use Rattle.su_octets.specs.declared.units.Unit.TheVariants as unit
 use Rattle.link_machine.specs.Ledger.{Ledger, state_of, ask}
@@ -27,7 +26,7 @@ use Rattle.link_side.specs.Offers.{error_offers}
 use Rattle.link_side.specs.Laws.{HandsOutInOrder, KeepsUnacknowledged, Loses, Told, Came, Went, accepted_of, acknowledged_of, is_accepted}
 use Rattle.link_heart.specs.declared.heart.Heart.{Heart}
 use Rattle.link_heart.specs.Offering.{told_by, offer_event}
-use Rattle.link_heart.specs.Machine.{with_book, with_side, Step, repeated, heeds, heard, taken_reply, taken_answer, one_taken, emptied, moved_by, moved, rested, offered, all_offered, noted_by, unit_taken, error_taken, told_of, sent_by, sent}
+use Rattle.link_heart.specs.Machine.{with_book, with_side, Step, repeated, heeds, heard, taken_reply, taken_answer, one_taken, emptied, moved_by, moved, rested, offered, all_offered, unit_taken, error_taken, told_of, sent_by, sent}
 use Rattle.link_heart.specs.Laws.{MessagesLaw, KeptLaw}
 
 -- a relation between sides that holds over each signal, holds over all that takes signals alone

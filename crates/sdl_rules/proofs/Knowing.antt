@@ -13,7 +13,7 @@ use Rattle.sdl_rules.specs.Actions.{Origin, begins, takes}
 use Rattle.sdl_rules.specs.Receivers.{party_of, same_party, paths_of, brings, carries, senders, answers_origin, answers_all}
 use Rattle.sdl_rules.specs.Sources.{AreAlike}
 
-in_alike : (ids : List Identifier) (s t : List ℕ) → folded s ≡ folded t → is_in ids s ≡ is_in ids t
+pub in_alike : (ids : List Identifier) (s t : List ℕ) → folded s ≡ folded t → is_in ids s ≡ is_in ids t
 in_alike ids s t e = ap (λ k. list_any (λ (id : Identifier). bytes_eq k (folded id.name)) ids) e
 
 brought_alike : (paths : List PlainPath) (own q : Party) (s t : List ℕ) → folded s ≡ folded t → list_any (brings own q s) paths ≡ list_any (brings own q t) paths

@@ -24,6 +24,7 @@ pub mod Ranks
 pub mod Repeats
 pub mod Returning
 pub mod Searches
+pub mod SenderRows
 pub mod Settling
 pub mod Spelling
 pub mod Straying

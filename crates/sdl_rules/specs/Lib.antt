@@ -25,6 +25,7 @@ pub mod Resolving
 pub mod Rests
 pub mod Rows
 pub mod Searched
+pub mod SenderTables
 pub mod Settled
 pub mod Sorts
 pub mod Sound

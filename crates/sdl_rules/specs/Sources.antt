@@ -1,5 +1,5 @@
 -- With what transitions begin, and to which connections they come, as the code keeps it.
-use Rattle.std.specs.Prelude.{◌≡◌, ℕ, Bool, true, false, List, [], ◌∷◌, if◌then◌else◌, map, slice_get}
+use Rattle.std.specs.Prelude.{◌≡◌, ◌⊎◌, ℕ, Bool, true, false, Option, None, Some, List, [], ◌∷◌, if◌then◌else◌, map, slice_get}
 use Rattle.std.specs.List.{list_all, flat_map}
 use Rattle.std.specs.Option.{option_map_or}
 use Rattle.sdl_tree.specs.Plain.{Text, PlainInput, PlainProcess, PlainBlock}
@@ -9,6 +9,8 @@ use Rattle.sdl_tables.specs.Names.{input_parts, is_in}
 use Rattle.sdl_rules.specs.Joins.{reaches}
 use Rattle.sdl_rules.specs.Actions.{Origin, begins, input_origins}
 use Rattle.sdl_rules.specs.Receivers.{party_of, carries, answers_all}
+use Rattle.sdl_rules.specs.SenderTables.{party_number}
+use Rattle.sdl_tree.specs.declared.tree.Party as the_party
 use Rattle.sdl_rules.specs.declared.known.KnownSenders.{KnownSenders}
 use Rattle.sdl_rules.specs.declared.sources.Reaching.{Reaching}
 use Rattle.sdl_rules.specs.declared.sources.Sender.{Sender}
@@ -21,6 +23,10 @@ use Rattle.sdl_rules.specs.declared.sources.Source.TheVariants.{Start, Input}
 abbrev pub source_origins : Source → List Origin
 source_origins Start = begins ∷ []
 source_origins (Input i) = input_origins (input_of i.now)
+
+abbrev pub sender_of : Option the_party.Party → Sender
+sender_of None = Nobody
+sender_of (Some q) = Party q
 
 -- whether a signal gets back to who sent what a transition begins with
 abbrev pub gets_back : PlainBlock → PlainProcess → List ℕ → Sender → Bool
@@ -41,10 +47,20 @@ pub record Knows (b : PlainBlock) (p : PlainProcess) (k : KnownSenders) (from : 
   pub back : AreAlike b p from true k.back
   pub lost : AreAlike b p from false k.lost
 
--- What gets back to those who were gathered is what f allows, and whatever f allows gets back to each party that was seen.
+-- whether there is a mark for a number, and it is set
+abbrev pub is_marked : List Bool → ℕ → Bool
+is_marked marks n = option_map_or (λ b. b) (slice_get marks n) false
+
+-- What gets back to those who were gathered is what f allows, and whatever f allows gets back to each party whose number was
+-- seen.
 pub record Gathers (b : PlainBlock) (p : PlainProcess) (g : Senders) (f : List ℕ → Bool) : Type 0 where
   pub told : (s : List ℕ) → list_all (gets_back b p s) g.list.items ≡ f s
-  pub seen : (s : List ℕ) → f s ≡ true → list_all (λ q. carries b (party_of p) q s) g.seen ≡ true
+  pub seen : (s : List ℕ) → f s ≡ true → (q : the_party.Party) (n : ℕ) → party_number b q ≡ Some n → is_marked g.seen.items n ≡ true
+      → carries b (party_of p) q s ≡ true
+
+-- what has a mark now had one before, or is this number
+abbrev pub Marks : Option ℕ → List Bool → List Bool → Type 0
+Marks number old new = (n : ℕ) → is_marked new n ≡ true → (number ≡ Some n) ⊎ (is_marked old n ≡ true)
 
 -- to which connections a text comes, by number
 abbrev pub reach_row : PlainProcess → Text → List Bool
@@ -64,9 +80,6 @@ input_row p i = record { origins = input_origins i; reached = reach_row p i.text
 -- the transitions of a process: that of START, and those of the INPUTs
 abbrev pub process_rows : PlainProcess → List Row
 process_rows p = record { origins = begins ∷ []; reached = reach_row p p.start.text } ∷ map (input_row p) (input_parts p)
-
-abbrev pub is_marked : List Bool → ℕ → Bool
-is_marked marks n = option_map_or (λ b. b) (slice_get marks n) false
 
 abbrev pub row_origins : ℕ → Row → List Origin
 row_origins n r = if is_marked r.reached n then r.origins else []

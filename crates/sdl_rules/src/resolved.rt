@@ -10,12 +10,11 @@ ghost use Rattle.sdl_rules.specs.Refusals.{Sound, IsDistinct, IsSingle, IsJoined
 use crate::checks::stray_end;
 use crate::fault::RuleFault;
 use crate::limits::first_limit;
+use crate::lost::lost_output;
 use crate::measures::{Measure, measure_all};
 use crate::order::find_orders;
 use crate::settled::{Unset, settle};
-use crate::statements::{
-    bad_divisor, doubtful_output, lost_output, missing_answer, unknown_name, wrong_sort,
-};
+use crate::statements::{bad_divisor, doubtful_output, missing_answer, unknown_name, wrong_sort};
 use sdl_tables::{BlockTable, NameTable, ProcessTable};
 use sdl_tree::{Block, Route, SignalDeclaration};
 use std::alloc::Global;

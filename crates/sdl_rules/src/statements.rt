@@ -1,36 +1,34 @@
 //! The rules that each statement of a process is asked for by itself: on names, sorts, receivers, answers and divisors.
-ghost use Rattle.std.specs.Prelude.{◌≡◌, false, List, [], ◌∷◌, map, IfOk};
+ghost use Rattle.std.specs.Prelude.{◌≡◌, false, List, [], ◌∷◌, map};
 ghost use Rattle.std.specs.List.{flat_map};
 ghost use Rattle.sdl_tree.specs.Plain.{Tree, PlainBlock};
 ghost use Rattle.sdl_tree.specs.Views.{tree_of, action_of, text_of, else_choice, input_of, connection_of, process_of, block_of};
 ghost use Rattle.sdl_tables.specs.Scopes.{Marks};
 ghost use Rattle.sdl_rules.specs.Sound.{process_unknown, unknown_names};
 ghost use Rattle.sdl_rules.specs.Sorts.{wrong_sorts};
-ghost use Rattle.sdl_rules.specs.Receivers.{without_receiver, with_two_receivers};
+ghost use Rattle.sdl_rules.specs.Receivers.{with_two_receivers};
 ghost use Rattle.sdl_rules.specs.Decisions.{unanswered};
 ghost use Rattle.sdl_rules.specs.Divisors.{bad_divisors};
-ghost use Rattle.sdl_rules.specs.declared.statements.StatementRule.TheVariants.{Receivers};
 ghost use Rattle.sdl_rules.specs.Statements.{acts, covers, finishes, statements_of, choice_statements};
 ghost use Rattle.sdl_rules.specs.Actions.{Origin, begins, in_input, in_connection, in_statements};
-ghost use Rattle.sdl_rules.specs.Sources.{AreSenders, Knows};
+ghost use Rattle.sdl_rules.specs.Sources.{Knows};
 ghost use Rattle.sdl_rules.specs.Parts.{statement_parts, question_of, decision_parts, answer_parts, end_parts};
 ghost use Rattle.sdl_rules.specs.Asked.{asked, asked_all, asks_origin};
 
 use crate::decisions::unanswered_decision;
 use crate::divisors::{bad_in, bad_in_action};
-use crate::known::{KnownSenders, learn_transition};
+use crate::known::KnownSenders;
 use crate::names::{
     unknown_connector, unknown_in_action, unknown_in_block, unknown_in_expression,
     unknown_in_inputs, unknown_in_parts,
 };
 use crate::receivers::{doubtful_in_action, lost_in_action};
 use crate::sorts::{wrong_declaration, wrong_in, wrong_in_action, wrong_in_ranges};
-use crate::sources::{Sender, find_reaching, input_senders, senders_at, start_senders};
 use sdl_tables::{BlockTable, ProcessTable, earlier};
 use sdl_tree::{
     Action, Connection, Decision, End, Expression, InputPart, Range, Statement, Transition,
 };
-use std::alloc::{AllocError, Global};
+use std::alloc::Global;
 
 /// A rule on statements.
 #[derive(Clone, Copy)]
@@ -124,8 +122,9 @@ fn in_end(rule: StatementRule, process: &ProcessTable, end: Option<End>) -> Opti
     }
 }
 
+/// The least place at which a transition breaks a rule, where these may have sent what it begins with.
 #[cycle(statements)]
-fn in_transition(
+pub(crate) fn in_transition(
     rule: StatementRule,
     block: &BlockTable,
     process: &ProcessTable,
@@ -316,115 +315,6 @@ fn in_processes(
     place
 }
 
-/// The place of a signal in a transition that nobody gets, where these may have sent what it begins with.
-fn lost_in_transition(
-    alloc: Global,
-    block: &BlockTable,
-    process: &ProcessTable,
-    senders: Vec<Sender>,
-    transition: &Transition,
-) -> Result<Option<u32>, AllocError>
-    ensures { IfOk result (λ place. (os : List Origin) → AreSenders (block_of block.now) (process_of process.now) senders.items os
-        → Marks place (asked_all Receivers (block_of block.now) (process_of process.now) os (statements_of (text_of transition.now)))) }
-{
-    let mut known = KnownSenders::new(alloc, senders);
-    learn_transition(&mut known, block, process, transition)?;
-    let rule = StatementRule::Receivers;
-    Ok(in_transition(rule, block, process, &known, transition))
-}
-
-fn lost_in_start(
-    alloc: Global,
-    block: &BlockTable,
-    process: &ProcessTable,
-) -> Result<Option<u32>, AllocError>
-    ensures { IfOk result (λ place. Marks place (flat_map (asked Receivers (block_of block.now) (process_of process.now) (begins ∷ [])) (statements_of (process_of process.now).start.text))) }
-{
-    let senders = start_senders(alloc)?;
-    let transition = &process.process().start.transition;
-    lost_in_transition(alloc, block, process, senders, transition)
-}
-
-/// The place of a signal in an INPUT's transition that nobody gets.
-fn lost_in_input(
-    alloc: Global,
-    block: &BlockTable,
-    process: &ProcessTable,
-    input: &InputPart,
-) -> Result<Option<u32>, AllocError>
-    ensures { IfOk result (λ place. Marks place (in_input (asked Receivers (block_of block.now) (process_of process.now)) (input_of input.now))) }
-{
-    let senders = input_senders(alloc, block, process, input)?;
-    lost_in_transition(alloc, block, process, senders, &input.transition)
-}
-
-fn lost_in_inputs(
-    alloc: Global,
-    block: &BlockTable,
-    process: &ProcessTable,
-    inputs: &[&InputPart],
-) -> Result<Option<u32>, AllocError>
-    ensures { IfOk result (λ place. Marks place (flat_map (in_input (asked Receivers (block_of block.now) (process_of process.now))) (map (λ i. input_of i.now) inputs.now))) }
-{
-    let mut place = None;
-    for input in inputs {
-        place = earlier(place, lost_in_input(alloc, block, process, input)?);
-    }
-    Ok(place)
-}
-
-/// The place of a signal in a connection that nobody gets: TO SENDER is asked with every transition that comes there.
-fn lost_in_connections(
-    alloc: Global,
-    block: &BlockTable,
-    process: &ProcessTable,
-    connections: &[Connection],
-) -> Result<Option<u32>, AllocError>
-    requires { map connection_of connections.now ≡ (process_of process.now).connections }
-    ensures { IfOk result (λ place. Marks place (flat_map (in_connection (asked Receivers (block_of block.now) (process_of process.now)) (process_of process.now)) (map connection_of connections.now))) }
-{
-    let rows = find_reaching(alloc, process)?;
-    let mut place = None;
-    for (number, connection) in connections.iter().enumerate() {
-        let senders = senders_at(alloc, block, process, &rows, number)?;
-        let transition = &connection.transition;
-        let lost = lost_in_transition(alloc, block, process, senders, transition)?;
-        place = earlier(place, lost);
-    }
-    Ok(place)
-}
-
-fn lost_in_process(
-    alloc: Global,
-    block: &BlockTable,
-    process: &ProcessTable,
-) -> Result<Option<u32>, AllocError>
-    ensures { IfOk result (λ place. Marks place (in_statements (asked Receivers (block_of block.now) (process_of process.now)) (process_of process.now))) }
-{
-    let start = lost_in_start(alloc, block, process)?;
-    let inputs = lost_in_inputs(alloc, block, process, process.parts())?;
-    let connections = &process.process().connections;
-    let beyond = earlier(
-        inputs,
-        lost_in_connections(alloc, block, process, connections)?,
-    );
-    Ok(earlier(start, beyond))
-}
-
-fn lost_in_processes(
-    alloc: Global,
-    block: &BlockTable,
-    processes: &[ProcessTable],
-) -> Result<Option<u32>, AllocError>
-    ensures { IfOk result (λ place. Marks place (flat_map (λ p. in_statements (asked Receivers (block_of block.now) p) p) (map process_of processes.now))) }
-{
-    let mut place = None;
-    for process in processes {
-        place = earlier(place, lost_in_process(alloc, block, process)?);
-    }
-    Ok(place)
-}
-
 fn unknown_in_process(alloc: Global, block: &BlockTable, process: &ProcessTable) -> Option<u32>
     ensures { Marks result (process_unknown (block_of block.now) (process_of process.now)) }
 {
@@ -468,13 +358,6 @@ pub(crate) fn wrong_sort(alloc: Global, block: &BlockTable) -> Option<u32>
         declared,
         in_processes(alloc, StatementRule::Sorts, block, block.tables()),
     )
-}
-
-/// The place of a signal in an OUTPUT that nobody gets.
-pub(crate) fn lost_output(alloc: Global, block: &BlockTable) -> Result<Option<u32>, AllocError>
-    ensures { IfOk result (λ place. Marks place (without_receiver (block_of block.now))) }
-{
-    lost_in_processes(alloc, block, block.tables())
 }
 
 /// The place of a signal in an OUTPUT that two parties or more get.

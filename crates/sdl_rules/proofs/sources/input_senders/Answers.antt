@@ -11,5 +11,5 @@ unfolding AreSenders
 returns c = λ s.
     let b = block_of c.args.block.now in
     let p = process_of c.args.process.now in
-    (c.in_ok-add_stimuli.ensures _ (c.new-senders.ensures b p)).told s
+    (c.in_ok-add_stimuli.ensures _ (c.in_ok-senders.ensures b p)).told s
     ∙ ap (λ (l : List Stimulus). answers_all b p (map takes (map stimulus_of l)) s) c.deref.ensures.value

@@ -9,7 +9,7 @@ use Rattle.sdl_rules.proofs.sources.senders_at.Goals as goal
 use Rattle.sdl_rules.proofs.sources.senders_at.Goals.{then-is_marked+in_ok-add_source, else-is_marked}
 
 pub loop-row-init : goal.loop-row-init
-loop-row-init c = c.new-senders.ensures (block_of c.args.block.now) (process_of c.args.process.now)
+loop-row-init c = c.in_ok-senders.ensures (block_of c.args.block.now) (process_of c.args.process.now)
 
 pub loop-row-preserved : goal.loop-row-preserved
 loop-row-preserved c =

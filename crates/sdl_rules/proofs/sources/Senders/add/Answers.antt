@@ -1,22 +1,18 @@
-use Rattle.std.proofs.Common.{◌∙◌, ◌&&◌, sym, ap, true≢false}
-use Rattle.std.specs.List.{list_any}
-use Rattle.sdl_rules.specs.declared.sources.Senders.{Senders}
-use Rattle.sdl_rules.specs.declared.sources.Sender.{Sender}
-use Rattle.sdl_rules.specs.Receivers.{same_party, party_of, carries}
-use Rattle.sdl_rules.specs.Sources.{gets_back}
-use Rattle.sdl_rules.proofs.Gathering.{gather_same, gather_there, not_is}
+use Rattle.std.proofs.Common.{false, sym, refl, subst, Bool, Vec, Global}
+use Rattle.std.specs.Option.{option_map_or}
+use Rattle.sdl_rules.specs.Sources.{is_marked, Marks}
+use Rattle.sdl_rules.proofs.Gathering.{gather_party, gather_there, not_is}
 use Rattle.sdl_rules.proofs.sources.Senders.add.Goals as goal
-use Rattle.sdl_rules.proofs.sources.Senders.add.Goals.{in-Nobody, in-Party+in_ok-new-in-Party}
 
-pub returns-else-new : goal.returns-else-new
-returns-else-new c = λ b p f g.
-    elim c.match-sender.branch [
-      | in-Nobody w ↦ absurd (true≢false (sym w.new-is ∙ c.if-new.false))
-      | in-Party+in_ok-new-in-Party w ↦
-          let q = w.in-Party.party in
-          gather_same b p c.match-sender.self (λ s. f s && carries b (party_of p) q s) (λ s. f s && gets_back b p s c.args.sender.now)
-          (λ s. ap (λ (x : Sender). f s && gets_back b p s x) (sym w.in-Party.is))
-          (gather_there b p c.args.self.now c.match-sender.self f q g
-          (not_is w.in_ok-new-in-Party.new (list_any (same_party q) c.args.self.now.seen) w.in_ok-new-in-Party.ensures.added (sym w.new-is ∙ c.if-new.false))
-          (ap (λ (x : Senders). x.list) w.self-is) (ap (λ (x : Senders). x.seen) w.self-is ∙ w.in_ok-new-in-Party.ensures.parties))
-    ]
+pub returns-in_ok-put : goal.returns-in_ok-put
+returns-in_ok-put c = λ b p f number g.
+    let o = c.args.sender.now.number in
+    gather_party b p c.args.self.now c.put.new.self f c.args.sender.now.party o number
+    (subst (λ (v : Vec Bool Global). Marks o c.args.self.now.seen.items v.items) (sym c.put.ensures.seen) c.mark.ensures.marks)
+    c.in_ok-put.ensures.list g
+
+pub returns-else-mark : goal.returns-else-mark
+returns-else-mark c = λ b p f number g.
+    let o = c.args.sender.now.number in
+    gather_there b p c.args.self.now _ f c.args.sender.now.party o number c.mark.ensures.marks
+    (not_is c.mark.result (option_map_or (is_marked c.args.self.now.seen.items) o false) c.mark.ensures.new c.if-mark.false) refl g

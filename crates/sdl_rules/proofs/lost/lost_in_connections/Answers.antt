@@ -11,7 +11,7 @@ use Rattle.sdl_rules.specs.declared.statements.StatementRule.TheVariants.{Receiv
 use Rattle.sdl_rules.proofs.Coming.{origins_at-is}
 use Rattle.sdl_rules.proofs.Pairs.{slice_get-map}
 use Rattle.sdl_rules.proofs.Places.{Marks-more}
-use Rattle.sdl_rules.proofs.statements.lost_in_connections.Goals as goal
+use Rattle.sdl_rules.proofs.lost.lost_in_connections.Goals as goal
 
 pub loop-number-preserved : goal.loop-number-preserved
 loop-number-preserved c =
@@ -20,7 +20,7 @@ loop-number-preserved c =
     let n = c.loop-number.number in
     let item = c.index-connections-number.result in
     let here : slice_get p.connections n ≡ Some (connection_of item) =
-    ap (λ (l : List PlainConnection). slice_get l n) (sym c.requires)
+    ap (λ (l : List PlainConnection). slice_get l n) (sym c.requires.connections)
     ∙ (slice_get-map connection_of c.args.connections.now n
     ∙ ap (option_map connection_of) (slice_get-get_or c.args.connections.now n item c.loop-number-test.true ∙ ap Some (sym c.index-connections-number.is))) in
     let rows = ap (λ (rs : List Reaching). origins_at (map row_of rs) n) c.deref.ensures.value ∙ ap (λ (rs : List Row). origins_at rs n) c.in_ok-rows.ensures in

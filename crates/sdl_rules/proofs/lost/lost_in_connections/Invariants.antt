@@ -5,7 +5,7 @@ use Rattle.sdl_rules.specs.Asked.{asked}
 use Rattle.sdl_rules.specs.declared.statements.StatementRule.TheVariants.{Receivers}
 use Rattle.sdl_tables.specs.Scopes.{Marks}
 use Rattle.sdl_tree.specs.Views.{block_of, connection_of, process_of}
-use Rattle.sdl_rules.proofs.statements.lost_in_connections.Given as goal
+use Rattle.sdl_rules.proofs.lost.lost_in_connections.Given as goal
 
 abbrev pub invariant-loop-number : goal.invariant-loop-number
 invariant-loop-number l =
