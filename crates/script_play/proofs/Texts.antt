@@ -21,3 +21,9 @@ not_held status (inr four) zero = omega arith
 pub not_missed : (status : ℕ) → (status ≡ 2) ⊎ (status ≡ 4) → status ≡ 1 → ⊥
 not_missed status (inl two) one = omega arith
 not_missed status (inr four) one = omega arith
+
+-- a script that ran was not refused
+pub not_refused : (status : ℕ) → (status ≡ 0) ⊎ ((status ≡ 1) ⊎ (status ≡ 4)) → status ≡ 2 → ⊥
+not_refused status (inl zero) two = omega arith
+not_refused status (inr (inl one)) two = omega arith
+not_refused status (inr (inr four)) two = omega arith

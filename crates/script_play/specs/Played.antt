@@ -1,8 +1,15 @@
 -- What the status of `play` says of the script and of what was written.
-use Rattle.std.specs.Prelude.{◌≡◌, ℕ, Bool, true, false, List, Option, Result, Ok, IsUtf8}
+use Rattle.std.specs.Prelude.{◌≡◌, ◌++◌, ℕ, Bool, true, false, List, Option, Result, Ok, Err, IsUtf8, codes}
+use Rattle.std.specs.Fmt.{decimal}
+use Rattle.std.specs.Io.KnownBytes.{Appends}
+use Rattle.turn_code.specs.declared.draft.Draft.{Draft}
 use Rattle.script_lines.specs.Scripts.{PlainScript, script_of}
-use Rattle.book_play.specs.Played.{IsWritten, IsMissed}
+use Rattle.script_lines.specs.declared.script.ScriptFault.{ScriptFault}
+use Rattle.script_lines.specs.declared.script.ScriptFault.TheVariants.{BadLine, NoMemory}
+use Rattle.book_play.specs.Played.{first_book, IsWritten, IsMissed}
 use Rattle.term_lines.specs.TermScripts.{PlainAnyScript, book, terminal, PlainTermScript, as_book, any_script_of}
+use Rattle.text_check.specs.Checked.{IsGiven, IsSetOf, PrintsRefusal}
+use Rattle.text_check.specs.Printed.{line_of}
 use Rattle.text_check.specs.declared.sets.SetWord.{SetWord}
 use Rattle.text_check.specs.declared.sets.SetWord.TheVariants.{Standard, Monitors, Text}
 use Rattle.script_play.specs.TermRuns.{IsTermWritten, IsTermMissed}
@@ -19,25 +26,49 @@ reading_of true text = any_script_of text
 reading_of false text = as_book (script_of text)
 
 -- all commands of a script were obeyed, and their lines written
-abbrev pub IsObeyed : PlainAnyScript → Option (List ℕ) → Option (List ℕ) → Type 0
-IsObeyed (book s) old new = IsWritten s.commands old new
-IsObeyed (terminal s) old new = IsTermWritten s.commands old new
+abbrev pub IsObeyed : Draft → PlainAnyScript → Option (List ℕ) → Option (List ℕ) → Type 0
+IsObeyed d (book s) old new = IsWritten (first_book d s.settings) s.commands old new
+IsObeyed d (terminal s) old new = IsTermWritten s.commands old new
 
 -- the bytes are a script, all of whose commands were obeyed
-pub record IsPlayed (terminals : Bool) (old new : Option (List ℕ)) (bytes : List ℕ) : Type 0 where
+pub record IsPlayed (terminals : Bool) (old new : Option (List ℕ)) (d : Draft) (bytes : List ℕ) : Type 0 where
   pub utf8 : IsUtf8 bytes
   pub script : PlainAnyScript
   pub reads : reading_of terminals bytes ≡ Ok script
-  pub run : IsObeyed script old new
+  pub run : IsObeyed d script old new
 
 -- an expectation of a script failed behind commands that were obeyed
-abbrev pub IsMissedIn : PlainAnyScript → Option (List ℕ) → Option (List ℕ) → Type 0
-IsMissedIn (book s) old new = IsMissed s.commands old new
-IsMissedIn (terminal s) old new = IsTermMissed s.commands old new
+abbrev pub IsMissedIn : Draft → PlainAnyScript → Option (List ℕ) → Option (List ℕ) → Type 0
+IsMissedIn d (book s) old new = IsMissed (first_book d s.settings) s.commands old new
+IsMissedIn d (terminal s) old new = IsTermMissed s.commands old new
 
 -- the bytes are a script, an expectation of which failed
-pub record IsPlayedInPart (terminals : Bool) (old new : Option (List ℕ)) (bytes : List ℕ) : Type 0 where
+pub record IsPlayedInPart (terminals : Bool) (old new : Option (List ℕ)) (d : Draft) (bytes : List ℕ) : Type 0 where
   pub utf8 : IsUtf8 bytes
   pub script : PlainAnyScript
   pub reads : reading_of terminals bytes ≡ Ok script
-  pub missed : IsMissedIn script old new
+  pub missed : IsMissedIn d script old new
+
+-- ---- refusals
+
+-- the bytes are no script, and the line that says so is all that was written
+pub data IsNoScript (terminals : Bool) (old new : Option (List ℕ)) (bytes : List ℕ) : Type 0 where
+  no_text : (IsUtf8 bytes → ⊥) → Appends old new (line_of (codes "refused F1 NotText")) → IsNoScript terminals old new bytes
+  bad_line : (line : ℕ) → IsUtf8 bytes → reading_of terminals bytes ≡ Err line
+      → Appends old new (line_of (codes "refused X1 BadLine line " ++ decimal line)) → IsNoScript terminals old new bytes
+
+-- a bad line is named by its number; want of memory is no refusal
+abbrev pub PrintsFault : ScriptFault → Option (List ℕ) → Option (List ℕ) → Type 0
+PrintsFault (BadLine line) old new = Appends old new (line_of (codes "refused X1 BadLine line " ++ decimal line))
+PrintsFault NoMemory old new = ⊥
+
+-- the bytes of the set are accepted, and P holds of their set and of the bytes of the script
+pub record IsOnSet (set script : Option (List ℕ)) (P : Draft → List ℕ → Type 0) : Type 0 where
+  pub draft : Draft
+  pub is_set : IsGiven set (λ bytes. IsSetOf bytes draft)
+  pub of_script : IsGiven script (P draft)
+
+-- why nothing ran: the set is refused, whatever the script is; or the set is accepted, and the script is refused
+pub data IsRefused (terminals : Bool) (set script old new : Option (List ℕ)) : Type 0 where
+  set_refused : IsGiven set (PrintsRefusal old new) → IsRefused terminals set script old new
+  script_refused : IsOnSet set script (λ d. IsNoScript terminals old new) → IsRefused terminals set script old new

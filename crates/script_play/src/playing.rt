@@ -1,9 +1,11 @@
 //! The command `play`.
-ghost use Rattle.std.specs.Prelude.{◌≡◌, ◌⊎◌, List, ℕ, Bool, Ok, IfOk, IfSome};
+ghost use Rattle.std.specs.Prelude.{◌≡◌, ◌⊎◌, List, ℕ, Bool, Ok, IfOk, IfErr, IfSome};
+ghost use Rattle.std.specs.Io.KnownBytes.{Appends};
 ghost use Rattle.text_reader.specs.Reading.{Keeps};
-ghost use Rattle.text_check.specs.Checked.{given, IsGiven, IsAccepted};
-ghost use Rattle.term_lines.specs.TermScripts.{plain_any_script};
-ghost use Rattle.script_play.specs.Played.{has_terminals, reading_of, IsObeyed, IsPlayed, IsMissedIn, IsPlayedInPart};
+ghost use Rattle.text_check.specs.Checked.{given, IsAccepted};
+ghost use Rattle.text_check.specs.Printed.{line_of};
+ghost use Rattle.term_lines.specs.TermScripts.{plain_any_script, IsInRange, Tells};
+ghost use Rattle.script_play.specs.Played.{has_terminals, reading_of, IsObeyed, IsPlayed, IsMissedIn, IsPlayedInPart, IsNoScript, PrintsFault, IsOnSet, IsRefused};
 
 use crate::terminals::play_terminal;
 use book_play::play_book;
@@ -33,8 +35,12 @@ pub fn play<S: Read + Drop, R: Read + Drop, W: Write>(
     writer: &mut W,
 ) -> u8
     ensures accepted { (result ≡ 0) ⊎ (result ≡ 1) → IfSome (given S.remaining set) IsAccepted }
-    ensures held { result ≡ 0 → IsGiven (R.remaining script) (IsPlayed (has_terminals set) (W.contents writer.old) (W.contents writer.new)) }
-    ensures missed { result ≡ 1 → IsGiven (R.remaining script) (IsPlayedInPart (has_terminals set) (W.contents writer.old) (W.contents writer.new)) }
+    ensures held { result ≡ 0
+        → IsOnSet (given S.remaining set) (R.remaining script) (IsPlayed (has_terminals set) (W.contents writer.old) (W.contents writer.new)) }
+    ensures missed { result ≡ 1
+        → IsOnSet (given S.remaining set) (R.remaining script) (IsPlayedInPart (has_terminals set) (W.contents writer.old) (W.contents writer.new)) }
+    ensures refused { result ≡ 2
+        → IsRefused (has_terminals set) (given S.remaining set) (R.remaining script) (W.contents writer.old) (W.contents writer.new) }
     ensures status { (result ≡ 0) ⊎ (result ≡ 1) ⊎ (result ≡ 2) ⊎ (result ≡ 4) }
 {
     let terminals = has_terminals(&set);
@@ -62,7 +68,8 @@ fn has_terminals<S>(set: &SetWord<S>) -> bool
 
 /// Writes why there is no script. Gives the exit status.
 fn refuse<W: Write, L: Display>(alloc: Global, writer: &mut W, fault: &L) -> u8
-    ensures { (result ≡ 2) ⊎ (result ≡ 4) }
+    ensures printed { result ≡ 2 → IfSome (L.output fault.now) (λ text. Appends (W.contents writer.old) (W.contents writer.new) (line_of text)) }
+    ensures status { (result ≡ 2) ⊎ (result ≡ 4) }
 {
     match write_line(alloc, writer, fault) {
         Ok(()) => REFUSED,
@@ -72,7 +79,8 @@ fn refuse<W: Write, L: Display>(alloc: Global, writer: &mut W, fault: &L) -> u8
 
 /// Writes the fault of a script. Gives the exit status.
 fn refuse_script<W: Write>(alloc: Global, writer: &mut W, fault: ScriptFault) -> u8
-    ensures { (result ≡ 2) ⊎ (result ≡ 4) }
+    ensures printed { result ≡ 2 → PrintsFault fault (W.contents writer.old) (W.contents writer.new) }
+    ensures status { (result ≡ 2) ⊎ (result ≡ 4) }
 {
     match fault {
         ScriptFault::BadLine(_) => refuse(alloc, writer, &format_args!("refused {fault}")),
@@ -86,7 +94,9 @@ fn script_in<'a>(
     terminals: bool,
     text: &'a str,
 ) -> Result<AnyScript<'a>, ScriptFault>
-    ensures { IfOk result (λ s. reading_of terminals text.now ≡ Ok (plain_any_script s)) }
+    ensures script { IfOk result (λ s. reading_of terminals text.now ≡ Ok (plain_any_script s)) }
+    ensures within { IfOk result IsInRange }
+    ensures fault { IfErr result (Tells (reading_of terminals text.now)) }
 {
     if terminals {
         return any_script(alloc, text);
@@ -105,8 +115,10 @@ fn play_text<W: Write>(
     read: &TextRead,
     writer: &mut W,
 ) -> u8
-    ensures held { result ≡ 0 → (bytes : List ℕ) → Keeps bytes read.now → IsPlayed terminals (W.contents writer.old) (W.contents writer.new) bytes }
-    ensures missed { result ≡ 1 → (bytes : List ℕ) → Keeps bytes read.now → IsPlayedInPart terminals (W.contents writer.old) (W.contents writer.new) bytes }
+    ensures held { result ≡ 0 → (bytes : List ℕ) → Keeps bytes read.now → IsPlayed terminals (W.contents writer.old) (W.contents writer.new) set.now bytes }
+    ensures missed { result ≡ 1 → (bytes : List ℕ) → Keeps bytes read.now
+        → IsPlayedInPart terminals (W.contents writer.old) (W.contents writer.new) set.now bytes }
+    ensures refused { result ≡ 2 → (bytes : List ℕ) → Keeps bytes read.now → IsNoScript terminals (W.contents writer.old) (W.contents writer.new) bytes }
     ensures status { (result ≡ 0) ⊎ (result ≡ 1) ⊎ (result ≡ 2) ⊎ (result ≡ 4) }
 {
     if !read.is_text {
@@ -132,8 +144,9 @@ fn play_script<W: Write>(
     script: &AnyScript<'_>,
     writer: &mut W,
 ) -> u8
-    ensures held { result ≡ 0 → IsObeyed (plain_any_script script.now) (W.contents writer.old) (W.contents writer.new) }
-    ensures missed { result ≡ 1 → IsMissedIn (plain_any_script script.now) (W.contents writer.old) (W.contents writer.new) }
+    requires { IsInRange script.now }
+    ensures held { result ≡ 0 → IsObeyed set.now (plain_any_script script.now) (W.contents writer.old) (W.contents writer.new) }
+    ensures missed { result ≡ 1 → IsMissedIn set.now (plain_any_script script.now) (W.contents writer.old) (W.contents writer.new) }
     ensures status { (result ≡ 0) ⊎ (result ≡ 1) ⊎ (result ≡ 4) }
 {
     match script {

@@ -1,15 +1,21 @@
 use Rattle.std.proofs.Common.{subst, Bool}
-use Rattle.script_play.specs.Played.{IsPlayed, IsPlayedInPart}
+use Rattle.script_play.specs.Played.{IsPlayed, IsPlayedInPart, IsNoScript, set_refused, script_refused}
+use Rattle.script_play.proofs.Refusals.{refusal_printed}
 use Rattle.script_play.proofs.Texts.{not_held, not_missed}
 use Rattle.script_play.proofs.playing.play.Goals as goal
 
 pub returns-in-Ok-read-clause-held : goal.returns-in-Ok-read-clause-held
 returns-in-Ok-read-clause-held g c zero = record {
-  bytes = c.in-Ok-read.ensures.bytes;
-  are_known = c.in-Ok-read.ensures.are_known;
-  holds =
-      let P : Bool → Type 0 = λ t. IsPlayed t (g.W.Write.contents c.args.writer.now) (g.W.Write.contents c.play_text.new.writer) c.in-Ok-read.ensures.bytes in
-      subst P c.has_terminals-terminals.ensures (c.play_text.ensures.held zero c.in-Ok-read.ensures.bytes c.in-Ok-read.ensures.keeps);
+  draft = c.in-Ok.set;
+  is_set = c.in-Ok.ensures.set;
+  of_script = record {
+    bytes = c.in-Ok-read.ensures.bytes;
+    are_known = c.in-Ok-read.ensures.are_known;
+    holds =
+        let P : Bool → Type 0 =
+        λ t. IsPlayed t (g.W.Write.contents c.args.writer.now) (g.W.Write.contents c.play_text.new.writer) c.in-Ok.set c.in-Ok-read.ensures.bytes in
+        subst P c.has_terminals-terminals.ensures (c.play_text.ensures.held zero c.in-Ok-read.ensures.bytes c.in-Ok-read.ensures.keeps);
+  };
 }
 
 pub returns-clause-held : goal.returns-clause-held
@@ -17,12 +23,38 @@ returns-clause-held g c zero = absurd (not_held _ c.write_refusal.ensures.status
 
 pub returns-in-Ok-read-clause-missed : goal.returns-in-Ok-read-clause-missed
 returns-in-Ok-read-clause-missed g c one = record {
-  bytes = c.in-Ok-read.ensures.bytes;
-  are_known = c.in-Ok-read.ensures.are_known;
-  holds =
-      let P : Bool → Type 0 = λ t. IsPlayedInPart t (g.W.Write.contents c.args.writer.now) (g.W.Write.contents c.play_text.new.writer) c.in-Ok-read.ensures.bytes in
-      subst P c.has_terminals-terminals.ensures (c.play_text.ensures.missed one c.in-Ok-read.ensures.bytes c.in-Ok-read.ensures.keeps);
+  draft = c.in-Ok.set;
+  is_set = c.in-Ok.ensures.set;
+  of_script = record {
+    bytes = c.in-Ok-read.ensures.bytes;
+    are_known = c.in-Ok-read.ensures.are_known;
+    holds =
+        let P : Bool → Type 0 =
+        λ t. IsPlayedInPart t (g.W.Write.contents c.args.writer.now) (g.W.Write.contents c.play_text.new.writer) c.in-Ok.set c.in-Ok-read.ensures.bytes in
+        subst P c.has_terminals-terminals.ensures (c.play_text.ensures.missed one c.in-Ok-read.ensures.bytes c.in-Ok-read.ensures.keeps);
+  };
 }
 
 pub returns-clause-missed : goal.returns-clause-missed
 returns-clause-missed g c one = absurd (not_missed _ c.write_refusal.ensures.status one)
+
+pub returns-in-Ok-read-clause-refused : goal.returns-in-Ok-read-clause-refused
+returns-in-Ok-read-clause-refused g c two =
+    script_refused (record {
+      draft = c.in-Ok.set;
+      is_set = c.in-Ok.ensures.set;
+      of_script = record {
+        bytes = c.in-Ok-read.ensures.bytes;
+        are_known = c.in-Ok-read.ensures.are_known;
+        holds =
+            let P : Bool → Type 0 =
+            λ t. IsNoScript t (g.W.Write.contents c.args.writer.now) (g.W.Write.contents c.play_text.new.writer) c.in-Ok-read.ensures.bytes in
+            subst P c.has_terminals-terminals.ensures (c.play_text.ensures.refused two c.in-Ok-read.ensures.bytes c.in-Ok-read.ensures.keeps);
+      };
+    })
+
+pub returns-clause-refused : goal.returns-clause-refused
+returns-clause-refused g c two =
+    set_refused
+    (refusal_printed _ _ _ c.in-Err.fault (c.write_refusal.ensures.refused two) (c.in-Err.ensures.fault (c.write_refusal.ensures.refused two))
+    (c.write_refusal.ensures.printed two))
