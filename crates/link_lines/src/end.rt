@@ -85,29 +85,31 @@ fn number_of(msu: &Msu) -> u32 {
     }
 }
 
-/// A terminal that is to come into service.
-fn started(alloc: Global, mode: Mode) -> Result<Terminal, Stopped> {
-    let mut terminal = match Terminal::new(alloc, mode) {
-        Ok(terminal) => terminal,
-        Err(NewError::NoMemory) => return Err(Stopped::NoMemory),
-        Err(_) => return Err(Stopped::Refused),
-    };
-    terminal.command(Command::PowerOn)?;
-    terminal.command(Command::Start)?;
-    Ok(terminal)
+/// A new terminal.
+fn terminal(alloc: Global, mode: Mode) -> Result<Terminal, Stopped> {
+    match Terminal::new(alloc, mode) {
+        Ok(terminal) => Ok(terminal),
+        Err(NewError::NoMemory) => Err(Stopped::NoMemory),
+        Err(_) => Err(Stopped::Refused),
+    }
 }
 
 impl End {
-    /// An end whose terminal is to come into service.
     pub fn new(alloc: Global, mode: Mode) -> Result<End, Stopped> {
-        let terminal = started(alloc, mode)?;
         Ok(End {
-            terminal,
+            terminal: terminal(alloc, mode)?,
             figures: Figures::new(),
             given: 0,
             part: 0,
             len: 0,
         })
+    }
+
+    /// Has the link come into service.
+    pub fn start(&mut self) -> Result<(), Stopped> {
+        self.terminal.command(Command::PowerOn)?;
+        self.terminal.command(Command::Start)?;
+        Ok(())
     }
 
     /// Gives the terminal as many messages to send, if it doesn't keep too many, up to so many in all.

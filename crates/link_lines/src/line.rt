@@ -93,17 +93,25 @@ impl Line {
         carry(&mut self.right, &mut self.left, &mut self.noise, run.units)?;
         self.wait(run)
     }
+
+    /// Rounds until all messages came, or there were too many.
+    fn make(&mut self, run: &Run) -> Result<(), Stopped> {
+        self.left.start()?;
+        self.right.start()?;
+        for _ in 0..MOST_ROUNDS {
+            if self.is_done(run) {
+                break;
+            }
+            self.round(run)?;
+        }
+        Ok(())
+    }
 }
 
-/// Carries messages both ways until all came, or the rounds are over.
+/// Makes a run.
 pub fn carry_all(alloc: Global, run: &Run) -> Result<Outcome, Stopped> {
     let mut line = Line::new(alloc, run)?;
-    for _ in 0..MOST_ROUNDS {
-        if line.is_done(run) {
-            break;
-        }
-        line.round(run)?;
-    }
+    line.make(run)?;
     Ok(Outcome {
         left: line.left.figures,
         right: line.right.figures,

@@ -30,10 +30,11 @@ impl Noise {
 
     /// How often the next bit comes, and whether it is turned round.
     pub fn fate(&mut self) -> (u8, bool) {
-        if self.rate == 0 {
+        let rate = self.rate;
+        if rate == 0 {
             return (1, false);
         }
-        let fate = self.draw() % self.rate;
+        let fate = self.draw() % rate;
         if fate > 2 {
             return (1, false);
         }

@@ -89,8 +89,8 @@ pub const RUNS: [Run; 12] = [
     Run {
         mode: Mode::Cyclic,
         seed: 15,
-        rate: 4_000,
-        messages: 2000,
+        rate: 8_000,
+        messages: 1000,
         given: 4,
         units: 8,
     },

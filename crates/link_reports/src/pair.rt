@@ -62,6 +62,9 @@ pub struct Pair {
     far: Terminal,
 }
 
+/// What a message has behind its first two octets.
+const FILLER: [u8; 255] = [0x5A; 255];
+
 /// A message with a field of so many octets, 2 or more.
 fn message(octets: u8) -> Msu
     ensures { 2 ≤ length result.sif.items }
@@ -69,11 +72,8 @@ fn message(octets: u8) -> Msu
     let mut sif = ArrayVec::new();
     sif.push(octets);
     sif.push(octets);
-    for place in 2..octets {
-        if !sif.is_full() {
-            sif.push(place);
-        }
-    }
+    let more = usize::from(octets).saturating_sub(2);
+    sif.try_extend_from_slice(&FILLER[..more]).unwrap();
     Msu { sio: 0x83, sif }
 }
 
