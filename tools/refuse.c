@@ -5,6 +5,7 @@
 #include <stddef.h>
 #include <stdio.h>
 #include <stdlib.h>
+#include <unistd.h>
 
 extern void *__libc_malloc(size_t size);
 extern void *__libc_realloc(void *old, size_t size);
@@ -23,7 +24,12 @@ static int refuse(size_t size) {
         told = getenv("SIZES") != NULL;
     }
     requests++;
-    if (told) dprintf(2, "request %zu\n", size);
+    if (told == 1) {
+        char line[40];
+        told = 2;
+        (void)!write(2, line, snprintf(line, sizeof line, "request %zu\n", size));
+        told = 1;
+    }
     if (refused != requests) return 0;
     errno = ENOMEM;
     return 1;
