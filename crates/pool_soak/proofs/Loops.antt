@@ -2,7 +2,7 @@
 use Rattle.std.proofs.Common.{◌≡◌, ℕ, ◌+◌, ◌<◌, ◌≤◌, List, ◌∷◌, map, length, drop, get_or, Option, None, Some, Ok, Err, refl, sym, ap, ◌∙◌}
 use Rattle.std.proofs.lemmas.List.{drop_more}
 use Rattle.std.proofs.lemmas.Bool.{lt-ltb, le-ltb}
-use Rattle.text_reader.specs.declared.reading.TheConstants.{MOST_BYTES}
+use Rattle.text_reader.specs.Reading.{LONGEST}
 use Rattle.script_lines.specs.declared.lines.Line.{Line}
 use Rattle.script_lines.specs.declared.script.ScriptFault.{ScriptFault}
 use Rattle.script_lines.specs.declared.script.ScriptFault.TheVariants.{BadLine, NoMemory}
@@ -34,24 +34,24 @@ reads_off s lines i line within is none =
 
 -- ---- texts
 
-pub long : (text : List ℕ) → MOST_BYTES < length text → soak_of text ≡ Err (line_at text MOST_BYTES)
+pub long : (text : List ℕ) → LONGEST < length text → soak_of text ≡ Err (line_at text LONGEST)
 unfolding soak_of
-long text more = rw (lt-ltb MOST_BYTES (length text) more) refl
+long text more = rw (lt-ltb LONGEST (length text) more) refl
 
-pub good : (text : List ℕ) (lines : List PlainLine) (s : PlainSoak) (n : ℕ) → length text ≤ MOST_BYTES → lines ≡ lines_of text → read empty lines ≡ Ok s
+pub good : (text : List ℕ) (lines : List PlainLine) (s : PlainSoak) (n : ℕ) → length text ≤ LONGEST → lines ≡ lines_of text → read empty lines ≡ Ok s
     → s.links ≡ Some n → soak_of text ≡ Ok s
 unfolding soak_of
-good text lines s n short are reads some = rw (le-ltb MOST_BYTES (length text) short, ← are, reads, some) refl
+good text lines s n short are reads some = rw (le-ltb LONGEST (length text) short, ← are, reads, some) refl
 
-pub unknown : (text : List ℕ) (lines : List PlainLine) (s : PlainSoak) → length text ≤ MOST_BYTES → lines ≡ lines_of text → read empty lines ≡ Ok s
+pub unknown : (text : List ℕ) (lines : List PlainLine) (s : PlainSoak) → length text ≤ LONGEST → lines ≡ lines_of text → read empty lines ≡ Ok s
     → s.links ≡ None → soak_of text ≡ Err 1
 unfolding soak_of
-unknown text lines s short are reads none = rw (le-ltb MOST_BYTES (length text) short, ← are, reads, none) refl
+unknown text lines s short are reads none = rw (le-ltb LONGEST (length text) short, ← are, reads, none) refl
 
-pub bad : (text : List ℕ) (lines : List PlainLine) (n : ℕ) → length text ≤ MOST_BYTES → lines ≡ lines_of text → read empty lines ≡ Err n → soak_of text ≡ Err n
+pub bad : (text : List ℕ) (lines : List PlainLine) (n : ℕ) → length text ≤ LONGEST → lines ≡ lines_of text → read empty lines ≡ Err n → soak_of text ≡ Err n
 unfolding soak_of
-bad text lines n short are reads = rw (le-ltb MOST_BYTES (length text) short, ← are, reads) refl
+bad text lines n short are reads = rw (le-ltb LONGEST (length text) short, ← are, reads) refl
 
-pub fault : (text : List ℕ) (lines : List PlainLine) (f : ScriptFault) → length text ≤ MOST_BYTES → lines ≡ lines_of text → IsBadAt empty lines f → IsFaultOf text f
+pub fault : (text : List ℕ) (lines : List PlainLine) (f : ScriptFault) → length text ≤ LONGEST → lines ≡ lines_of text → IsBadAt empty lines f → IsFaultOf text f
 fault text lines (BadLine n) short are reads = bad text lines n short are reads
 fault text lines NoMemory short are reads = tt

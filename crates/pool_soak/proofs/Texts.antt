@@ -1,25 +1,68 @@
 -- Lines that were written, and the texts of scripts.
-use Rattle.std.proofs.Common.{◌≡◌, ℕ, ◌+◌, ◌≤◌, nat_lt, false, List, ◌++◌, length, take, Option, inl, inr, ap, ◌∙◌, arith, length-take}
-use Rattle.std.specs.Prelude.{◌⊎◌}
-use borrow.Author.Tests.{ltb-false}
+use Rattle.std.proofs.Common.{◌≡◌, ℕ, zero, suc, ◌+◌, ◌<◌, ◌≤◌, ◌==◌, nat_lt, Bool, true, false, List, [], ◌∷◌, ◌++◌, length, take, Option, Err, inl, inr, ap, sym, refl, ◌∙◌, arith, length-take}
+use Rattle.std.specs.Prelude.{◌⊎◌, IsTrue, IsUtf8, count_by}
+use borrow.Author.Tests.{ltb-false, ltb-true}
 use Rattle.std.specs.Io.KnownBytes.{Appends}
 use Rattle.std.proofs.KnownBytes.{Appends-trans}
+use Rattle.std.proofs.lemmas.Bool.{false≢true}
 use Rattle.std.proofs.lemmas.List.{take_all}
-use Rattle.text_reader.specs.Reading.{Keeps}
+use Rattle.text_reader.specs.Reading.{LONGEST, Keeps}
 use Rattle.text_reader.specs.declared.reading.TextRead.{TextRead}
-use Rattle.text_reader.specs.declared.reading.TheConstants.{MOST_BYTES}
+use Rattle.script_lines.specs.declared.script.ScriptFault.{ScriptFault}
+use Rattle.script_lines.specs.declared.script.ScriptFault.TheVariants.{BadLine, NoMemory}
+use Rattle.pool_soak.specs.Scripts.{soak_of, IsFaultOf}
+use Rattle.pool_soak.specs.Findings.{IsEnd, IsTurnedDown, PrintsFault}
+use Rattle.pool_soak.proofs.Loops.{long}
 
 -- one line after another
 pub after : (first now next : Option (List ℕ)) (one other : List ℕ) → Appends first now one → Appends now next other → Appends first next (one ++ other)
 after first now next one other before behind = Appends-trans first now next one other before behind
 
 -- what is kept of a script is all of it, or it is too long
-pub all_kept : (bytes : List ℕ) (read : TextRead) → Keeps bytes read → nat_lt MOST_BYTES (length read.kept.items) ≡ false → read.kept.items ≡ bytes
+pub all_kept : (bytes : List ℕ) (read : TextRead) → Keeps bytes read → nat_lt LONGEST (length read.kept.items) ≡ false → read.kept.items ≡ bytes
 all_kept bytes read keeps short =
-    let few : length read.kept.items ≤ MOST_BYTES = ltb-false _ _ short in
-    keeps.first ∙ take_all (MOST_BYTES + 1) bytes (omega (arith, ap length keeps.first, length-take (MOST_BYTES + 1) bytes))
+    let few : length read.kept.items ≤ LONGEST = ltb-false _ _ short in
+    keeps.first ∙ take_all (LONGEST + 1) bytes (omega (arith, ap length keeps.first, length-take (LONGEST + 1) bytes))
 
--- a refusal is no status 0
-pub not_held : (status : ℕ) → (status ≡ 2) ⊎ (status ≡ 4) → status ≡ 0 → ⊥
-not_held status (inl two) zero = omega arith
-not_held status (inr four) zero = omega arith
+-- the line of a text that is too long, by the bytes that are kept of it
+take_twice : (n : ℕ) (xs : List ℕ) → take n (take (suc n) xs) ≡ take n xs
+take_twice zero xs = refl
+take_twice (suc n) [] = refl
+take_twice (suc n) (x ∷ xs) = ap (λ ys. x ∷ ys) (take_twice n xs)
+
+pub too_long : (bytes kept : List ℕ) (read : TextRead) (line : ℕ) → Keeps bytes read → nat_lt LONGEST (length read.kept.items) ≡ true
+    → kept ≡ read.kept.items → line ≡ count_by (λ b. b == 10) (take LONGEST kept) + 1 → soak_of bytes ≡ Err line
+too_long bytes kept read line keeps more are at =
+    let many : LONGEST < length read.kept.items = ltb-true _ _ more in
+    let same : take LONGEST kept ≡ take LONGEST bytes = ap (take LONGEST) (are ∙ keeps.first) ∙ take_twice LONGEST bytes in
+    long bytes (omega (arith, ap length keeps.first, length-take (LONGEST + 1) bytes))
+    ∙ ap Err (sym (at ∙ ap (λ bs. count_by (λ b. b == 10) bs + 1) same))
+
+-- a script that was refused has no status 0 or 1
+pub turned : (status : ℕ) (old new : Option (List ℕ)) (bytes : List ℕ) → (status ≡ 2) ⊎ (status ≡ 4) → (status ≡ 2 → IsTurnedDown old new bytes)
+    → IsEnd status old new bytes
+turned status old new bytes (inl two) down = record {
+  held = λ zero. absurd (omega (arith, two, zero));
+  differs = λ one. absurd (omega (arith, two, one));
+  refused = down;
+}
+turned status old new bytes (inr four) down = record {
+  held = λ zero. absurd (omega (arith, four, zero));
+  differs = λ one. absurd (omega (arith, four, one));
+  refused = down;
+}
+
+-- a script that ran has no status 2
+pub not_refused : (status : ℕ) → (status ≡ 0) ⊎ (status ≡ 1) ⊎ (status ≡ 4) → status ≡ 2 → ⊥
+not_refused status (inl none) two = omega (arith, none, two)
+not_refused status (inr (inl one)) two = omega (arith, one, two)
+not_refused status (inr (inr four)) two = omega (arith, four, two)
+
+-- the end of a script that has a bad line
+pub bad_line : (old new : Option (List ℕ)) (bytes : List ℕ) (fault : ScriptFault) → IsUtf8 bytes → IsFaultOf bytes fault → PrintsFault old new fault
+    → IsTurnedDown old new bytes
+bad_line old new bytes (BadLine line) utf8 reads printed = inr (record { utf8 = utf8; line = line; reads = reads; printed = printed })
+bad_line old new bytes NoMemory utf8 reads printed = absurd printed
+
+pub is_not : (b : Bool) → b ≡ false → IsTrue b → ⊥
+is_not b is_false is_true = absurd (false≢true (sym is_false ∙ is_true))

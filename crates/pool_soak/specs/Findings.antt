@@ -1,6 +1,9 @@
 -- What `soak` prints.
-use Rattle.std.specs.Prelude.{◌≡◌, ℕ, List, ◌++◌, Option, Ok, IsUtf8, codes}
+use Rattle.std.specs.Prelude.{◌≡◌, ◌⊎◌, ℕ, Bool, true, false, ◌&&◌, List, ◌++◌, Option, Ok, Err, IsUtf8, codes}
 use Rattle.std.specs.Io.KnownBytes.{Appends}
+use Rattle.script_lines.specs.Printed.{script_fault_text}
+use Rattle.script_lines.specs.declared.script.ScriptFault.{ScriptFault}
+use Rattle.script_lines.specs.declared.script.ScriptFault.TheVariants.{BadLine, NoMemory}
 use Rattle.text_check.specs.Printed.{line_of}
 use Rattle.pool_soak.specs.Scripts.{PlainSoak, soak_of}
 use Rattle.pool_soak.specs.declared.findings.Finding.{Finding}
@@ -12,13 +15,67 @@ finding_text SeatsDiffer = codes "seats differ"
 finding_text AuditYes = codes "audit yes"
 finding_text AuditNo = codes "audit no"
 
--- two lines
-abbrev pub lines_with : Finding → Finding → List ℕ
-lines_with seats audit = line_of (finding_text seats) ++ line_of (finding_text audit)
+-- what is printed of the seats, and of the receipts
+abbrev pub seats_finding : Bool → Finding
+seats_finding true = SeatsAgree
+seats_finding false = SeatsDiffer
 
--- the bytes are a script, and all was as it should be
+abbrev pub audit_finding : Bool → Finding
+audit_finding true = AuditYes
+audit_finding false = AuditNo
+
+-- two lines: whether the seats agree, and whether the receipts stand
+abbrev pub lines_with : Bool → Bool → List ℕ
+lines_with agree stand = line_of (finding_text (seats_finding agree)) ++ line_of (finding_text (audit_finding stand))
+
+-- ---- a script that ran
+
+-- the bytes are a script, and both lines say yes
 pub record IsSoaked (old new : Option (List ℕ)) (bytes : List ℕ) : Type 0 where
   pub utf8 : IsUtf8 bytes
   pub script : PlainSoak
   pub reads : soak_of bytes ≡ Ok script
-  pub printed : Appends old new (lines_with SeatsAgree AuditYes)
+  pub printed : Appends old new (lines_with true true)
+
+-- one of the two lines says no
+pub record SaysNo (old new : Option (List ℕ)) : Type 0 where
+  pub agree : Bool
+  pub stand : Bool
+  pub one : agree && stand ≡ false
+  pub printed : Appends old new (lines_with agree stand)
+
+-- the bytes are a script, and one of the lines says no
+pub record IsSoakedInVain (old new : Option (List ℕ)) (bytes : List ℕ) : Type 0 where
+  pub utf8 : IsUtf8 bytes
+  pub script : PlainSoak
+  pub reads : soak_of bytes ≡ Ok script
+  pub says : SaysNo old new
+
+-- ---- a script that was refused
+
+-- the line of a fault is written; want of memory has none
+abbrev pub PrintsFault : Option (List ℕ) → Option (List ℕ) → ScriptFault → Type 0
+PrintsFault old new (BadLine line) = Appends old new (line_of (codes "refused " ++ script_fault_text (BadLine line)))
+PrintsFault old new NoMemory = ⊥
+
+-- the bytes are no text, and what is written grows by the line that says so
+pub record IsNoText (old new : Option (List ℕ)) (bytes : List ℕ) : Type 0 where
+  pub no_text : IsUtf8 bytes → ⊥
+  pub printed : Appends old new (line_of (codes "refused F1 NotText"))
+
+-- they are a text, and what is written grows by the line of the first of its lines that may not stand where it does
+pub record HasBadLine (old new : Option (List ℕ)) (bytes : List ℕ) : Type 0 where
+  pub utf8 : IsUtf8 bytes
+  pub line : ℕ
+  pub reads : soak_of bytes ≡ Err line
+  pub printed : PrintsFault old new (BadLine line)
+
+abbrev pub IsTurnedDown : Option (List ℕ) → Option (List ℕ) → List ℕ → Type 0
+IsTurnedDown old new bytes = IsNoText old new bytes ⊎ HasBadLine old new bytes
+
+-- ---- what each exit status says of a script's bytes, and of what was written
+
+pub record IsEnd (status : ℕ) (old new : Option (List ℕ)) (bytes : List ℕ) : Type 0 where
+  pub held : status ≡ 0 → IsSoaked old new bytes
+  pub differs : status ≡ 1 → IsSoakedInVain old new bytes
+  pub refused : status ≡ 2 → IsTurnedDown old new bytes

@@ -2,7 +2,7 @@
 use Rattle.std.specs.Prelude.{ℕ, ◌≡◌, Bool, true, false, nat_lt, ◌&&◌, if◌then◌else◌, List, [], ◌∷◌, ◌++◌, length, map, Option, None, Some, option_map, option_and_then, Result, Ok, Err, codes}
 use Rattle.std.specs.Int.{is_in_range}
 use Rattle.std.specs.Str.{bytes_eq}
-use Rattle.text_reader.specs.declared.reading.TheConstants.{MOST_BYTES}
+use Rattle.text_reader.specs.Reading.{LONGEST}
 use Rattle.script_lines.specs.Numbers.{count_of}
 use Rattle.script_lines.specs.Lines.{PlainLine, lines_of, line_at}
 use Rattle.script_lines.specs.Commands.{PlainOffer, PlainCommand, plain_offer, command_of}
@@ -114,7 +114,7 @@ known (Err n) = Err n
 
 -- what a text reads as, or the number of its first bad line; of a text that is too long that of the first byte too many
 unfoldable pub soak_of : List ℕ → Result PlainSoak ℕ
-soak_of text = if nat_lt MOST_BYTES (length text) then Err (line_at text MOST_BYTES) else known (read empty (lines_of text))
+soak_of text = if nat_lt LONGEST (length text) then Err (line_at text LONGEST) else known (read empty (lines_of text))
 
 -- what a refusal says of a text; want of memory says nothing
 abbrev pub IsFaultOf : List ℕ → ScriptFault → Type 0

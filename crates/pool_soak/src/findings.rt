@@ -1,8 +1,8 @@
 //! What is found once all is over.
 
-ghost use Rattle.std.specs.Prelude.{◌≡◌, ◌⊎◌, ◌↔◌, ◌+◌, IsTrue, IfSome, sum, sum_by};
+ghost use Rattle.std.specs.Prelude.{◌≡◌, ◌⊎◌, ◌+◌, ◌&&◌, true, false, IsTrue, IfSome, sum, sum_by};
 ghost use Rattle.link_machine.specs.Ledger.{next};
-ghost use Rattle.pool_soak.specs.declared.findings.Finding.TheVariants.{SeatsAgree, AuditYes};
+ghost use Rattle.pool_soak.specs.Findings.{seats_finding, audit_finding};
 
 use actor_book::Book;
 use std::fmt;
@@ -65,7 +65,7 @@ fn places(books: &[Book]) -> Option<u64>
 
 /// Whether the seats have together what the journals have, of books whose journals began at place 0.
 pub fn agree(closed: &Closed) -> bool
-    ensures { IsTrue result → closed.now.client + sum closed.now.workers.items ≡ sum_by next closed.now.books.items }
+    ensures yes { IsTrue result → closed.now.client + sum closed.now.workers.items ≡ sum_by next closed.now.books.items }
 {
     match (
         counted(closed.client, &closed.workers),
@@ -78,7 +78,7 @@ pub fn agree(closed: &Closed) -> bool
 
 /// What is printed of the seats.
 pub fn seats_of(agree: bool) -> Finding
-    ensures { result ≡ SeatsAgree ↔ IsTrue agree }
+    ensures { result ≡ seats_finding agree }
 {
     if agree {
         Finding::SeatsAgree
@@ -89,7 +89,7 @@ pub fn seats_of(agree: bool) -> Finding
 
 /// What is printed of the receipts.
 pub fn audit_of(stand: bool) -> Finding
-    ensures { result ≡ AuditYes ↔ IsTrue stand }
+    ensures { result ≡ audit_finding stand }
 {
     if stand {
         Finding::AuditYes
@@ -99,12 +99,10 @@ pub fn audit_of(stand: bool) -> Finding
 }
 
 /// The exit status.
-pub fn status_of(seats: Finding, audit: Finding) -> u8
-    ensures held { result ≡ 0 → (seats ≡ SeatsAgree) × (audit ≡ AuditYes) }
+pub fn status_of(agree: bool, stand: bool) -> u8
+    ensures held { result ≡ 0 → agree && stand ≡ true }
+    ensures differs { result ≡ 1 → agree && stand ≡ false }
     ensures status { (result ≡ 0) ⊎ (result ≡ 1) }
 {
-    match (seats, audit) {
-        (Finding::SeatsAgree, Finding::AuditYes) => HELD,
-        _ => DIFFERS,
-    }
+    if agree && stand { HELD } else { DIFFERS }
 }

@@ -1,7 +1,7 @@
 //! Scripts of `soak`.
 
 ghost use Rattle.std.specs.Prelude.{◌≡◌, ◌≤◌, IfOk, IfErr, IfSome, Ok, Some, map, length, option_map};
-ghost use Rattle.text_reader.specs.declared.reading.TheConstants.{MOST_BYTES};
+ghost use Rattle.text_reader.specs.Reading.{LONGEST};
 ghost use Rattle.script_lines.specs.Lines.{texts, plain_line};
 ghost use Rattle.script_lines.specs.Commands.{plain_command};
 ghost use Rattle.pool_soak.specs.Scripts.{plain_step, plain_soak, empty, links_at, links_of, on_at, on_of, step_by, step_of, with_step, with_links, added, read, soak_of, IsFaultOf, IsBadAt};
@@ -172,7 +172,7 @@ fn all_added<'a>(alloc: Global, lines: &[Line<'a>]) -> Result<Soak<'a>, ScriptFa
 
 /// The script of a text that isn't too long.
 fn script_in<'a>(alloc: Global, text: &'a str) -> Result<Soak<'a>, ScriptFault>
-    requires { length text.now ≤ MOST_BYTES }
+    requires { length text.now ≤ LONGEST }
     ensures script { IfOk result (λ s. soak_of text.now ≡ Ok (plain_soak s)) }
     ensures fault { IfErr result (IsFaultOf text.now) }
 {

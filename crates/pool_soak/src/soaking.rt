@@ -1,14 +1,19 @@
 //! The command `soak`.
 
-ghost use Rattle.std.specs.Prelude.{◌≡◌, ◌⊎◌, List, ℕ, IfOk, OnOk};
+ghost use Rattle.std.specs.Prelude.{◌≡◌, ◌⊎◌, ◌+◌, List, ℕ, true, IfOk, IfSome, OnOk, sum, sum_by};
 ghost use Rattle.std.specs.Io.KnownBytes.{Appends};
+ghost use Rattle.script_lines.specs.declared.script.ScriptFault.TheVariants.{BadLine};
 ghost use Rattle.text_reader.specs.Reading.{Keeps};
 ghost use Rattle.text_check.specs.Checked.{IsGiven};
-ghost use Rattle.pool_soak.specs.Findings.{IsSoaked, lines_with};
-ghost use Rattle.pool_soak.specs.declared.findings.Finding.TheVariants.{SeatsAgree, AuditYes};
+ghost use Rattle.text_check.specs.Printed.{line_of};
+ghost use Rattle.link_machine.specs.Kept.{opened_book};
+ghost use Rattle.link_machine.specs.Ledger.{next};
+ghost use Rattle.turn_pool.specs.Receipts.{AllStand};
+ghost use Rattle.pool_soak.specs.Books.{AreOpened, PORT, ENVIRONMENT, JOURNAL};
+ghost use Rattle.pool_soak.specs.Findings.{IsEnd, IsSoaked, IsSoakedInVain, IsTurnedDown, PrintsFault, SaysNo, lines_with};
 
 use crate::client::{Open, Script};
-use crate::findings::{Finding, agree, audit_of, seats_of, status_of};
+use crate::findings::{agree, audit_of, seats_of, status_of};
 use crate::script::{Soak, soak_script};
 use actor_book::{Book, Limits};
 use mtp2_text::standard;
@@ -31,8 +36,8 @@ use turn_pool::{Closed, Receipt, serve};
 /// The script is read whole before anything is written, and a line of it that may not stand where it does is refused before
 /// anything runs. A line goes out in one write.
 ///
-/// Gives the exit status: 0 where all agrees and was written, 1 where something differs, 2 after a line `refused CODE Name ..`
-/// alone where the script was refused, or 4 where memory, a read or a write fails, or nobody could be served: for other than
+/// Gives the exit status: 0 where all agrees and was written, 1 where one of the two lines says that it doesn't, 2 after a line
+/// `refused F1 NotText` alone where the script is no text, or `refused X1 BadLine line N` of its first bad line, or 4 where memory, a read or a write fails, or nobody could be served: for other than
 /// 1 to 16 workers, or where no thread can be made. Nothing is written after a write that failed.
 pub fn soak<R: Threads + Wait + Sync, S: Read + Drop, W: Write>(
     rt: &R,
@@ -42,6 +47,8 @@ pub fn soak<R: Threads + Wait + Sync, S: Read + Drop, W: Write>(
     writer: &mut W,
 ) -> u8
     ensures held { result ≡ 0 → IsGiven (S.remaining script) (IsSoaked (W.contents writer.old) (W.contents writer.new)) }
+    ensures differs { result ≡ 1 → IsGiven (S.remaining script) (IsSoakedInVain (W.contents writer.old) (W.contents writer.new)) }
+    ensures refused { result ≡ 2 → IsGiven (S.remaining script) (IsTurnedDown (W.contents writer.old) (W.contents writer.new)) }
     ensures status { (result ≡ 0) ⊎ (result ≡ 1) ⊎ (result ≡ 2) ⊎ (result ≡ 4) }
 {
     match read_text(alloc, &mut script) {
@@ -52,7 +59,8 @@ pub fn soak<R: Threads + Wait + Sync, S: Read + Drop, W: Write>(
 
 /// Writes why there is no script. Gives the exit status.
 fn refuse<W: Write, L: Display>(alloc: Global, writer: &mut W, fault: &L) -> u8
-    ensures { (result ≡ 2) ⊎ (result ≡ 4) }
+    ensures printed { result ≡ 2 → IfSome (L.output fault.now) (λ text. Appends (W.contents writer.old) (W.contents writer.new) (line_of text)) }
+    ensures status { (result ≡ 2) ⊎ (result ≡ 4) }
 {
     match write_line(alloc, writer, fault) {
         Ok(()) => REFUSED,
@@ -62,7 +70,8 @@ fn refuse<W: Write, L: Display>(alloc: Global, writer: &mut W, fault: &L) -> u8
 
 /// Writes the fault of a script. Gives the exit status.
 fn refuse_script<W: Write>(alloc: Global, writer: &mut W, fault: ScriptFault) -> u8
-    ensures { (result ≡ 2) ⊎ (result ≡ 4) }
+    ensures printed { result ≡ 2 → PrintsFault (W.contents writer.old) (W.contents writer.new) fault }
+    ensures status { (result ≡ 2) ⊎ (result ≡ 4) }
 {
     match fault {
         ScriptFault::BadLine(_) => refuse(alloc, writer, &format_args!("refused {fault}")),
@@ -78,7 +87,7 @@ fn soak_text<R: Threads + Wait + Sync, W: Write>(
     workers: usize,
     writer: &mut W,
 ) -> u8
-    ensures held { result ≡ 0 → (bytes : List ℕ) → Keeps bytes read.now → IsSoaked (W.contents writer.old) (W.contents writer.new) bytes }
+    ensures ends { (bytes : List ℕ) → Keeps bytes read.now → IsEnd result (W.contents writer.old) (W.contents writer.new) bytes }
     ensures status { (result ≡ 0) ⊎ (result ≡ 1) ⊎ (result ≡ 2) ⊎ (result ≡ 4) }
 {
     if !read.is_text {
@@ -90,46 +99,76 @@ fn soak_text<R: Threads + Wait + Sync, W: Write>(
     }
     match str::from_utf8(&read.kept) {
         Ok(text) => match soak_script(alloc, text) {
-            Ok(script) => soak_links(rt, alloc, &script, workers, writer),
+            Ok(script) => run_script(rt, alloc, &script, workers, writer),
             Err(fault) => refuse_script(alloc, writer, fault),
         },
         Err(_) => refuse(alloc, writer, &"refused F1 NotText"),
     }
 }
 
-/// So many books of a set.
-fn books_of(alloc: Global, set: &Verified, links: u32) -> Result<Option<Vec<Book>>, AllocError> {
-    let Some(limits) = Limits::new(16, 64, 4096) else {
-        return Ok(None);
-    };
-    let mut books = Vec::new(alloc);
-    for _ in 0..links {
-        books.push(Book::open(alloc, set, limits)?)?;
-    }
-    Ok(Some(books))
-}
-
-/// Serves the links of a script while it runs.
-fn soak_links<R: Threads + Wait + Sync, W: Write>(
+/// Runs a script. Gives the exit status.
+fn run_script<R: Threads + Wait + Sync, W: Write>(
     rt: &R,
     alloc: Global,
     soak: &Soak<'_>,
     workers: usize,
     writer: &mut W,
 ) -> u8
-    ensures held { result ≡ 0 → Appends (W.contents writer.old) (W.contents writer.new) (lines_with SeatsAgree AuditYes) }
+    ensures held { result ≡ 0 → Appends (W.contents writer.old) (W.contents writer.new) (lines_with true true) }
+    ensures differs { result ≡ 1 → SaysNo (W.contents writer.old) (W.contents writer.new) }
     ensures status { (result ≡ 0) ⊎ (result ≡ 1) ⊎ (result ≡ 4) }
 {
+    match soak_links(rt, alloc, soak, workers, writer) {
+        Some(status) => status,
+        None => FAILED,
+    }
+}
+
+/// A book on which nothing has happened.
+fn book_of(alloc: Global, set: &Verified) -> Result<Book, AllocError>
+    ensures { IfOk result (λ b. b ≡ opened_book set.now PORT ENVIRONMENT JOURNAL) }
+{
+    match Limits::new(16, 64, 4096) {
+        Some(limits) => Book::open(alloc, set, limits),
+        None => unreachable!(),
+    }
+}
+
+/// So many books on which nothing has happened.
+#[tactic(auto, using(crate::proofs::Books::one_more, crate::proofs::Books::none_more))]
+fn books_of(alloc: Global, set: &Verified, links: u32) -> Result<Vec<Book>, AllocError>
+    ensures { IfOk result (λ books. AreOpened set.now links books.items) }
+{
+    let mut books = Vec::new(alloc);
+    for _opened in 0..links {
+        let book = book_of(alloc, set)?;
+        books.push(book)?;
+    }
+    Ok(books)
+}
+
+/// Serves the links of a script while it runs. The exit status, but for 4 where memory, a write or all threads fail.
+fn soak_links<R: Threads + Wait + Sync, W: Write>(
+    rt: &R,
+    alloc: Global,
+    soak: &Soak<'_>,
+    workers: usize,
+    writer: &mut W,
+) -> Option<u8>
+    ensures held { IfSome result (λ status. status ≡ 0 → Appends (W.contents writer.old) (W.contents writer.new) (lines_with true true)) }
+    ensures differs { IfSome result (λ status. status ≡ 1 → SaysNo (W.contents writer.old) (W.contents writer.new)) }
+    ensures status { IfSome result (λ status. (status ≡ 0) ⊎ (status ≡ 1)) }
+{
     let Ok(set) = standard(alloc) else {
-        return FAILED;
+        return None;
     };
-    let Ok(Some(books)) = books_of(alloc, &set, soak.links.unwrap_or(0)) else {
-        return FAILED;
+    let Ok(books) = books_of(alloc, &set, soak.links.unwrap_or(0)) else {
+        return None;
     };
     soak_books(rt, alloc, &set, soak, books, workers, writer)
 }
 
-/// Serves books while a script runs.
+/// Serves books while a script runs. The exit status, but for 4.
 fn soak_books<R: Threads + Wait + Sync, W: Write>(
     rt: &R,
     alloc: Global,
@@ -138,12 +177,13 @@ fn soak_books<R: Threads + Wait + Sync, W: Write>(
     books: Vec<Book>,
     workers: usize,
     writer: &mut W,
-) -> u8
-    ensures held { result ≡ 0 → Appends (W.contents writer.old) (W.contents writer.new) (lines_with SeatsAgree AuditYes) }
-    ensures status { (result ≡ 0) ⊎ (result ≡ 1) ⊎ (result ≡ 4) }
+) -> Option<u8>
+    ensures held { IfSome result (λ status. status ≡ 0 → Appends (W.contents writer.old) (W.contents writer.new) (lines_with true true)) }
+    ensures differs { IfSome result (λ status. status ≡ 1 → SaysNo (W.contents writer.old) (W.contents writer.new)) }
+    ensures status { IfSome result (λ status. (status ≡ 0) ⊎ (status ≡ 1)) }
 {
     let Ok(receipts) = Vec::with_capacity(alloc, soak.steps.len()) else {
-        return FAILED;
+        return None;
     };
     let mut script = Script {
         set,
@@ -151,26 +191,21 @@ fn soak_books<R: Threads + Wait + Sync, W: Write>(
         receipts,
     };
     let Ok(closed) = serve(rt, alloc, books, workers, &Open, &mut script) else {
-        return FAILED;
+        return None;
     };
     match report(alloc, writer, &closed, &script.receipts) {
-        Ok(status) => status,
-        Err(_) => FAILED,
+        Ok(status) => Some(status),
+        Err(_) => None,
     }
 }
 
 #[tactic(auto, using(crate::proofs::Texts::after))]
-/// Writes two lines.
-fn write_both<W: Write>(
-    alloc: Global,
-    writer: &mut W,
-    seats: Finding,
-    audit: Finding,
-) -> io::Result<()>
-    ensures { OnOk result (Appends (W.contents writer.old) (W.contents writer.new) (lines_with seats audit)) }
+/// Writes two lines: whether the seats agree, and whether the receipts stand.
+fn write_both<W: Write>(alloc: Global, writer: &mut W, agree: bool, stand: bool) -> io::Result<()>
+    ensures { OnOk result (Appends (W.contents writer.old) (W.contents writer.new) (lines_with agree stand)) }
 {
-    write_line(alloc, writer, &seats)?;
-    write_line(alloc, writer, &audit)
+    write_line(alloc, writer, &seats_of(agree))?;
+    write_line(alloc, writer, &audit_of(stand))
 }
 
 /// Writes what is found. Gives the exit status.
@@ -180,11 +215,14 @@ fn report<W: Write>(
     closed: &Closed,
     receipts: &[Receipt],
 ) -> io::Result<u8>
-    ensures held { IfOk result (λ status. status ≡ 0 → Appends (W.contents writer.old) (W.contents writer.new) (lines_with SeatsAgree AuditYes)) }
+    ensures held { IfOk result (λ status. status ≡ 0 → Appends (W.contents writer.old) (W.contents writer.new) (lines_with true true)) }
+    ensures differs { IfOk result (λ status. status ≡ 1 → SaysNo (W.contents writer.old) (W.contents writer.new)) }
+    ensures agree { IfOk result (λ status. status ≡ 0 → closed.now.client + sum closed.now.workers.items ≡ sum_by next closed.now.books.items) }
+    ensures stand { IfOk result (λ status. status ≡ 0 → AllStand closed.now.books.items receipts.now) }
     ensures status { IfOk result (λ status. (status ≡ 0) ⊎ (status ≡ 1)) }
 {
-    let seats = seats_of(agree(closed));
-    let audit = audit_of(closed.audit(receipts).is_ok());
-    write_both(alloc, writer, seats, audit)?;
-    Ok(status_of(seats, audit))
+    let agrees = agree(closed);
+    let stand = closed.audit(receipts).is_ok();
+    write_both(alloc, writer, agrees, stand)?;
+    Ok(status_of(agrees, stand))
 }

@@ -1,0 +1,21 @@
+-- The books that `soak` has worked on.
+use Rattle.std.specs.Prelude.{◌≡◌, ℕ, List, length}
+use Rattle.std.specs.List.{All}
+use Rattle.turn_code.specs.declared.draft.Draft.{Draft}
+use Rattle.link_machine.specs.Ledger.{Ledger}
+use Rattle.link_machine.specs.Kept.{opened_book}
+
+-- how many signals each port of a link holds, how many may wait for the environment, and how many events its journal holds
+abbrev pub PORT : ℕ
+PORT = 16
+
+abbrev pub ENVIRONMENT : ℕ
+ENVIRONMENT = 64
+
+abbrev pub JOURNAL : ℕ
+JOURNAL = 4096
+
+-- so many links of a set on which nothing has happened
+pub record AreOpened (set : Draft) (links : ℕ) (books : List Ledger) : Type 0 where
+  pub number : length books ≡ links
+  pub opened : All (λ book. book ≡ opened_book set PORT ENVIRONMENT JOURNAL) books
