@@ -15,7 +15,7 @@ use Rattle.text_check.specs.Checked.{IsGiven, IsRefusal, IsRefusalOf, PrintsRefu
 use Rattle.text_check.specs.Printed.{refusal_line}
 use Rattle.script_play.specs.Played.{reading_of, IsNoScript, bad_line, PrintsFault}
 
-take_twice : (n : ℕ) (xs : List ℕ) → take n (take (n + 1) xs) ≡ take n xs
+take_twice : (n : ℕ) (xs : List ℕ) → take n (take (suc n) xs) ≡ take n xs
 take_twice zero xs = refl
 take_twice (suc n) [] = refl
 take_twice (suc n) (x ∷ xs) = ap (λ ys. x ∷ ys) (take_twice n xs)
