@@ -5,6 +5,7 @@
 #include <stddef.h>
 #include <stdio.h>
 #include <stdlib.h>
+#include <sys/syscall.h>
 #include <unistd.h>
 
 extern void *__libc_malloc(size_t size);
@@ -49,4 +50,11 @@ int posix_memalign(void **place, size_t align, size_t size) {
 
 __attribute__((destructor)) static void tell(void) {
     if (getenv("COUNT")) dprintf(2, "requests %ld\n", requests);
+}
+
+/* A program that ends so runs no destructor. */
+void _exit(int status) {
+    tell();
+    syscall(SYS_exit_group, status);
+    __builtin_unreachable();
 }
