@@ -3,3 +3,4 @@ pub mod Certified
 pub mod Faults
 pub mod Named
 pub mod Walk
+pub use Rattle.turn_rules.specs.Seen
