@@ -4,8 +4,7 @@ use Rattle.std.specs.Prelude.{ltb, bit_and, bit_or}
 use Rattle.std.specs.Int.{bit_at}
 use Rattle.std.proofs.lemmas.Nat.Bits.{bit_at_and, bit_at_or, bit_at-lt, bit_at-pow_same, bit_at-pow_other, bit_at_ones, bit_at_ones_above, ones_shr, same_from_bits, bit_at-zero}
 use Rattle.std.proofs.lemmas.Bool.{and_parts, cases_eq, cases_Bool, eq-eqb, ne_eqb, ltb-true, ltb-false, lt-ltb}
-use Rattle.std.proofs.Math.Nat.{one-mul, mod-eq_of_lt}
-use Rattle.std.proofs.Math.Pow.{pow-lt}
+use Rattle.std.proofs.lemmas.Nat.{one_shl}
 use Rattle.turn_code.specs.declared.input.Party.{Party}
 use Rattle.turn_code.specs.declared.input.Party.TheVariants.{Environment, Process}
 use Rattle.turn_code.specs.declared.draft.DraftProcess.{DraftProcess}
@@ -49,13 +48,10 @@ pub holds_or : (a b v : ℕ) → holds (record { 0 = bit_or a b }) v ≡ (holds 
 unfolding holds
 holds_or a b v = ap (λ n. eqb n 1) (bit_at_or a b v) ∙ most_is_one (bit_at a v) (bit_at b v) (bit_at-lt a v) (bit_at-lt b v)
 
-one_bit : (k : ℕ) → k < 32 → 1 * 2 ^ k % 4294967296 ≡ 2 ^ k
-one_bit k low = ap (λ n. n % 4294967296) (one-mul (2 ^ k)) ∙ mod-eq_of_lt (pow-lt low)
-
 pub holds_alone : (k v : ℕ) → k < 32 → holds (record { 0 = 1 * 2 ^ k % 4294967296 }) v ≡ eqb k v
 unfolding holds
 holds_alone k v low =
-    ap (λ n. eqb (bit_at n v) 1) (one_bit k low)
+    ap (λ n. eqb (bit_at n v) 1) (one_shl k 32 low)
     ∙ elim (cases_eq v k) [
       | inl e ↦ ap (λ n. eqb (bit_at (2 ^ k) n) 1) e ∙ (ap (λ n. eqb n 1) (bit_at-pow_same k) ∙ sym (eq-eqb k v (sym e)))
       | inr ne ↦ ap (λ n. eqb n 1) (bit_at-pow_other k v ne) ∙ sym (ne_eqb k v (λ e. ne (sym e)))
