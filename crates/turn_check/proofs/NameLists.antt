@@ -1,7 +1,8 @@
 -- No name past the end of a list, and lists of names that are short.
-use Rattle.std.proofs.Common.{◌≡◌, ℕ, zero, suc, ◌<◌, ◌≤◌, List, [], ◌∷◌, length, Option, Some, None, refl, subst, ⊎_elim, arith}
+use Rattle.std.proofs.Common.{◌≡◌, ℕ, ◌<◌, ◌≤◌, List, length, Option, Some, None, refl, subst, ⊎_elim, arith}
 use Rattle.std.specs.Prelude.{slice_get}
 use Rattle.std.proofs.lemmas.Bool.{cases_lt}
+use Rattle.std.proofs.lemmas.Option.{slice_get_past}
 use Rattle.std.proofs.lemmas.List.{length-map}
 use Rattle.turn_code.specs.Valid.{IsValid}
 use Rattle.turn_code.specs.declared.draft.Draft.{Draft}
@@ -11,17 +12,12 @@ use Rattle.turn_code.specs.declared.draft.DraftVariable.{DraftVariable}
 use Rattle.turn_check.specs.Named.{IsNamed, IsNowhere, process_names, signal_names, variable_names, variables_of, variables_at, timer_names, timers_of}
 use Rattle.turn_check.proofs.Whole.{process_small, start_small}
 
-past : (names : List (List ℕ)) (k : ℕ) → length names ≤ k → slice_get names k ≡ None
-past [] k h = refl
-past (x ∷ xs) zero h = absurd (omega arith)
-past (x ∷ xs) (suc k) h = past xs k (omega arith)
-
 pub nowhere : (names : List (List ℕ)) (name : List ℕ) (n : ℕ) → length names ≤ n → ((k : ℕ) → k < n → IsNamed (slice_get names k) name → ⊥)
     → IsNowhere names name
 nowhere names name n long below k h =
     ⊎_elim
     (λ (low : k < n). below k low h)
-    (λ (high : n ≤ k). subst (λ o. IsNamed o name) (past names k (omega arith)) h)
+    (λ (high : n ≤ k). subst (λ o. IsNamed o name) (slice_get_past names k (omega arith)) h)
     (cases_lt k n)
 
 pub few_processes : (d : Draft) → IsValid d → length (process_names d) ≤ 16
@@ -36,14 +32,17 @@ few_signals d valid =
     let limit = valid.limits.signals in
     omega arith
 
-variables_few : (d : Draft) (p : ℕ) → IsValid d → (o : Option DraftProcess) → slice_get d.processes p ≡ o → length (variables_of o) ≤ 32
-variables_few d p valid None e = omega arith
-variables_few d p valid (Some process) e = start_small d p process valid e
+variables_of_few : (d : Draft) (p : ℕ) → IsValid d → (o : Option DraftProcess) → slice_get d.processes p ≡ o → length (variables_of o) ≤ 32
+variables_of_few d p valid None e = omega arith
+variables_of_few d p valid (Some process) e = start_small d p process valid e
+
+pub few_variables_at : (d : Draft) (p : ℕ) → IsValid d → length (variables_at d p) ≤ 32
+few_variables_at d p valid = variables_of_few d p valid (slice_get d.processes p) refl
 
 pub few_variables : (d : Draft) (p : ℕ) → IsValid d → length (variable_names d p) ≤ 32
 few_variables d p valid =
     let same = length-map (variables_at d p) (λ (x : DraftVariable). x.name) in
-    let limit = variables_few d p valid (slice_get d.processes p) refl in
+    let limit = few_variables_at d p valid in
     omega arith
 
 timers_few : (d : Draft) (p : ℕ) → IsValid d → (o : Option DraftProcess) → slice_get d.processes p ≡ o → length (timers_of o) ≤ 8

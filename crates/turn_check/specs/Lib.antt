@@ -2,8 +2,5 @@ pub mod Answered
 pub mod Certified
 pub mod Faults
 pub mod Named
-pub mod Parties
-pub mod Parts
-pub mod RouteTables
-pub mod Seen
 pub mod Walk
+pub use Rattle.turn_rules.specs.Seen

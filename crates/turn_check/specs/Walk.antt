@@ -1,16 +1,9 @@
 -- The parts of a valid draft.
-use Rattle.std.specs.Prelude.{◌≡◌, ℕ, Some, slice_get}
+use Rattle.std.specs.Prelude.{◌≡◌, ℕ, Some}
 use Rattle.turn_code.specs.Transitions.{Transition, transition_at}
 use Rattle.turn_code.specs.Valid.{IsValidTransition}
-use Rattle.turn_code.specs.declared.instruction.Instruction.{Instruction}
 use Rattle.turn_code.specs.declared.input.Place.{Place}
 use Rattle.turn_code.specs.declared.draft.Draft.{Draft}
-use Rattle.turn_code.specs.declared.draft.PlaceFacts.{PlaceFacts}
-use Rattle.turn_check.specs.Parts.{AllParts}
-
--- what the rules want of the instruction at place k, if there is one with facts
-pub record HasParts (d : Draft) (t : Transition) (k : ℕ) : Type 0 where
-  pub each : (i : Instruction) (f : PlaceFacts) → slice_get t.piece.code k ≡ Some i → slice_get t.piece.facts k ≡ Some f → AllParts d t k i f
 
 -- the transition there, if there is one, is valid
 pub record IsValidAt (d : Draft) (p : ℕ) (s : Place) (i : ℕ) : Type 0 where

@@ -2,22 +2,15 @@
 #![tactic(auto)]
 
 mod answers;
-mod entry;
 mod fault;
-mod indexed;
+mod limits;
 mod names;
 mod numbers;
-mod party_set;
-mod places;
-mod route_table;
-mod routes;
-mod tables;
-mod transition;
 mod verified;
 mod walk;
 
 pub use fault::{Spot, VerifyFault};
-pub use transition::Transition;
+pub use turn_rules::Transition;
 pub use verified::{Verified, verify};
 
 #[cfg(test)]

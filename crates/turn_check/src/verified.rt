@@ -2,17 +2,17 @@
 
 ghost use Rattle.std.specs.Prelude.{◌≡◌, ◌↔◌, option_map, IsOk, IfOk, IfErr, IfSome, Some, slice_get};
 ghost use Rattle.turn_code.specs.Transitions.{Transition as Plain, transition_at, start_of, start_at as start_found, input_at as input_found};
-ghost use Rattle.turn_check.specs.Seen.{seen};
+ghost use Rattle.turn_rules.specs.Seen.{seen};
 ghost use Rattle.turn_code.specs.Valid.{IsValid};
 ghost use Rattle.turn_check.specs.Faults.{IsBroken};
 
 use crate::fault::VerifyFault;
-use crate::transition::Transition;
-use crate::walk::{check_draft, input_transition, start_transition};
+use crate::walk::check_draft;
 use std::alloc::AllocError;
 use std::marker::Model;
 use turn_code::laws::{path_law, safe_law};
 use turn_code::{Cert, Draft, DraftProcess, DraftSignal, Place, ProcessNumber, StateNumber};
+use turn_rules::{Transition, input_transition, start_transition};
 
 /// A valid draft, seen as that draft. Only `verify` makes one.
 #[derive(Drop)]

@@ -1,4 +1,4 @@
-use Rattle.turn_check.specs.Seen.{seen}
+use Rattle.turn_rules.specs.Seen.{seen}
 use Rattle.turn_check.proofs.Whole.{certified}
 use Rattle.turn_check.proofs.verified.Verified.certificate.Goals as goal
 

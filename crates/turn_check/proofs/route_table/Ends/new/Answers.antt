@@ -1,5 +1,0 @@
-use Rattle.turn_check.proofs.RouteTables.{no_rows}
-use Rattle.turn_check.proofs.route_table.Ends.new.Goals as goal
-
-pub returns : goal.returns
-returns c = λ p n b low. no_rows c.new.result c.new.ensures p n b low

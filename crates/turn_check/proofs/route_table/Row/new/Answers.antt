@@ -1,5 +1,0 @@
-use Rattle.turn_check.proofs.RouteTables.{no_sets}
-use Rattle.turn_check.proofs.route_table.Row.new.Goals as goal
-
-pub returns : goal.returns
-returns c = λ n b. no_sets n b

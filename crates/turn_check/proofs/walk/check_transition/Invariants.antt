@@ -1,7 +1,0 @@
-use Rattle.std.proofs.Common.{ℕ, ◌<◌}
-use Rattle.turn_check.specs.Seen.{seen}
-use Rattle.turn_check.specs.Walk.{HasParts}
-use Rattle.turn_check.proofs.walk.check_transition.Given as goal
-
-abbrev pub invariant-loop-place : goal.invariant-loop-place
-invariant-loop-place l = (n : ℕ) → n < l.place → HasParts l.draft (seen l.transition) n

@@ -1,0 +1,4 @@
+pub mod PartySets
+pub mod RouteTables
+pub mod Shapes
+pub mod Whole

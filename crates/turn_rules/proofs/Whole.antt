@@ -1,0 +1,120 @@
+-- From entries and parts to rules, and back.
+use Rattle.std.proofs.Common.{◌≡◌, ℕ, zero, suc, ◌+◌, ◌*◌, ◌^◌, ◌<◌, ◌≤◌, List, [], ◌∷◌, length, Some, None, refl, sym, ap, ◌∙◌, arith, inl, inr, pow_mono, pow-suc}
+use Rattle.std.specs.Prelude.{slice_get, Contains}
+use Rattle.std.proofs.lemmas.Option.{slice_get_within, slice_get_cases}
+use Rattle.turn_code.specs.Transitions.{Transition}
+use Rattle.turn_code.specs.Valid.{Keeps, IsValidTransition}
+use Rattle.turn_code.specs.declared.instruction.Instruction.{Instruction}
+use Rattle.turn_code.specs.declared.draft.Draft.{Draft}
+use Rattle.turn_code.specs.declared.draft.PlaceFacts.{PlaceFacts}
+use Rattle.turn_code.specs.declared.rule.Rule.{Rule}
+use Rattle.turn_code.specs.declared.rule.Rule.TheVariants.{Jump, Shape, Under, Sort, Unset, State, Number, Limit, Budget}
+use Rattle.turn_rules.specs.Parts.{Part, AllParts, Entry, AllEntries, HasParts}
+
+only_zero : (j : ℕ) → Contains {X = ℕ} (0 ∷ []) j → 0 ≡ j
+only_zero j (zero, low, e) = e
+only_zero j (suc n, low, e) = absurd (omega arith)
+
+first_facts : (facts : List PlaceFacts) (j : ℕ) (f : PlaceFacts) → Contains {X = ℕ} (0 ∷ []) j → slice_get facts j ≡ Some f → slice_get facts 0 ≡ Some f
+first_facts facts j f c e = ap (slice_get facts) (only_zero j c) ∙ e
+
+-- where each place has facts, the parts at a place are those of its instruction alone
+parts_of : (d : Draft) (t : Transition) → length t.piece.facts ≡ length t.piece.code
+    → ((k : ℕ) (i : Instruction) (f : PlaceFacts) → slice_get t.piece.code k ≡ Some i → slice_get t.piece.facts k ≡ Some f → AllParts d t k i f)
+    → (k : ℕ) (i : Instruction) → slice_get t.piece.code k ≡ Some i → (f : PlaceFacts) × AllParts d t k i f
+parts_of d t long parts k i ie =
+    elim (slice_get_cases t.piece.facts k).1 [
+      | inl f ↦ (f.0, parts k i f.0 ie f.2)
+      | inr past ↦ let inside = slice_get_within t.piece.code k i ie in absurd (omega (arith, past.0, long))
+    ]
+
+pub valid_from : (d : Draft) (t : Transition) → AllEntries d t
+    → ((k : ℕ) (i : Instruction) (f : PlaceFacts) → slice_get t.piece.code k ≡ Some i → slice_get t.piece.facts k ≡ Some f → AllParts d t k i f)
+    → IsValidTransition d t
+valid_from d t a parts = let here = parts_of d t a.shape.facts parts in record {
+  jump = λ k. record { entry = λ e. a.jump; each = λ i ie. (here k i ie).1.jump };
+  shape = λ k. record {
+    facts = λ e. a.shape.facts;
+    entry = λ e j f c fe. a.shape.empty f (first_facts t.piece.facts j f c fe);
+    each = λ i f ie fe. (parts k i f ie fe).shape.each;
+    jumped = λ i f ie fe. (parts k i f ie fe).shape.jumped;
+  };
+  under = λ k i f ie fe. (parts k i f ie fe).under;
+  sort = λ k. record { initial = λ e none. a.sort none; each = λ i f ie fe. (parts k i f ie fe).sort };
+  unset = λ k. record {
+    entry = λ e j f c fe. a.unset f (first_facts t.piece.facts j f c fe);
+    reads_set = λ i f ie fe. (parts k i f ie fe).unset.reads_set;
+    each = λ i f ie fe. (parts k i f ie fe).unset.each;
+    states = λ i f ie fe. (parts k i f ie fe).unset.states;
+  };
+  state = λ k i ie. (here k i ie).1.state;
+  number = λ k. record {
+    trigger = λ e. a.number.trigger;
+    saves = λ e none. a.number.saves none;
+    reads_there = λ i ie. (here k i ie).1.number.reads_there;
+    sets_there = λ i ie. (here k i ie).1.number.sets_there;
+    parameters = λ i ie. (here k i ie).1.number.parameters;
+    timers = λ i ie. (here k i ie).1.number.timers;
+    divisors = λ i ie. (here k i ie).1.number.divisors;
+    outputs = λ i ie. (here k i ie).1.number.outputs;
+  };
+  limit = λ k. record { process = λ e none. a.limit.process none; piece = λ e. a.limit.piece };
+  budget = λ k. record {
+    certificate = λ e. a.budget;
+    counts = λ i f ie fe. (parts k i f ie fe).budget.counts;
+    effects = λ i f ie fe. (parts k i f ie fe).budget.effects;
+  };
+}
+
+zero_first : Contains {X = ℕ} (0 ∷ []) 0
+zero_first = (0, omega arith, refl)
+
+pub keeps_entry : (rule : Rule) (d : Draft) (t : Transition) → Keeps rule d t 0 → Entry rule d t
+keeps_entry Jump d t h = h.entry refl
+keeps_entry Shape d t h = record { facts = h.facts refl; empty = λ f fe. h.entry refl 0 f zero_first fe }
+keeps_entry Under d t h = tt
+keeps_entry Sort d t h = h.initial refl
+keeps_entry Unset d t h = λ f fe. h.entry refl 0 f zero_first fe
+keeps_entry State d t h = tt
+keeps_entry Number d t h = record { trigger = h.trigger refl; saves = h.saves refl }
+keeps_entry Limit d t h = record { process = h.process refl; piece = h.piece refl }
+keeps_entry Budget d t h = h.certificate refl
+
+pub keeps_part : (rule : Rule) (d : Draft) (t : Transition) (k : ℕ) (i : Instruction) (f : PlaceFacts)
+    → slice_get t.piece.code k ≡ Some i → slice_get t.piece.facts k ≡ Some f → Keeps rule d t k → Part rule d t k i f
+keeps_part Jump d t k i f ie fe h = h.each i ie
+keeps_part Shape d t k i f ie fe h = record { each = h.each i f ie fe; jumped = h.jumped i f ie fe }
+keeps_part Under d t k i f ie fe h = h i f ie fe
+keeps_part Sort d t k i f ie fe h = h.each i f ie fe
+keeps_part Unset d t k i f ie fe h = record { reads_set = h.reads_set i f ie fe; each = h.each i f ie fe; states = h.states i f ie fe }
+keeps_part State d t k i f ie fe h = h i ie
+keeps_part Number d t k i f ie fe h = record {
+  reads_there = h.reads_there i ie;
+  sets_there = h.sets_there i ie;
+  parameters = h.parameters i ie;
+  timers = h.timers i ie;
+  divisors = h.divisors i ie;
+  outputs = h.outputs i ie;
+}
+keeps_part Limit d t k i f ie fe h = tt
+keeps_part Budget d t k i f ie fe h = record { counts = h.counts i f ie fe; effects = h.effects i f ie fe }
+
+-- ---- from all below an end to all
+pub valid_below : (d : Draft) (t : Transition) → AllEntries d t → (n : ℕ) → length t.piece.code ≤ n
+    → ((k : ℕ) → k < n → HasParts d t k) → IsValidTransition d t
+valid_below d t a n long below =
+    valid_from d t a (λ k i f ie fe. let inside = slice_get_within t.piece.code k i ie in (below k (omega arith)).each i f ie fe)
+
+-- ---- a place without an instruction or without facts
+pub no_parts_code : (d : Draft) (t : Transition) (k : ℕ) → slice_get t.piece.code k ≡ None → HasParts d t k
+no_parts_code d t k none = record { each = λ i f ie fe. let no : None ≡ Some i = sym none ∙ ie in cc }
+
+pub no_parts_facts : (d : Draft) (t : Transition) (k : ℕ) → slice_get t.piece.facts k ≡ None → HasParts d t k
+no_parts_facts d t k none = record { each = λ i f ie fe. let no : None ≡ Some f = sym none ∙ fe in cc }
+
+-- ---- a set of at most 32 variables
+pub set_small : (n r : ℕ) → suc n ≤ 32 → r < 2 ^ n → 1 + 2 * r < 2 ^ 32
+set_small n r h low =
+    let step : 2 ^ suc n ≡ 2 ^ n * 2 = pow-suc 2 n in
+    let most : 2 ^ suc n ≤ 2 ^ 32 = pow_mono h in
+    omega arith

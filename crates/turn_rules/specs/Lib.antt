@@ -1,0 +1,4 @@
+pub mod Parties
+pub mod Parts
+pub mod RouteTables
+pub mod Seen

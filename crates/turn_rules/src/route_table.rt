@@ -1,0 +1,138 @@
+//! Who gets a signal and who may have sent it, by the routes of a draft.
+
+ghost use Rattle.std.specs.Prelude.{◌≡◌, ◌<◌, ℕ, false, eqb, ◌&&◌, ◌||◌, [], ◌∷◌, ◌++◌, List, slice_index_or};
+ghost use Rattle.std.specs.List.{flat_map};
+ghost use Rattle.turn_rules.specs.Parties.{seat, holds};
+ghost use Rattle.turn_rules.specs.RouteTables.{none, listed, is_process, Mention, mentions_of, Tells};
+
+use crate::party_set::PartySet;
+use turn_code::{DraftRoute, Party, ProcessNumber, SignalNumber};
+
+/// For each signal a set of parties.
+#[derive(Clone, Copy)]
+pub(crate) struct Row {
+    sets: [PartySet; 256],
+}
+
+impl Row {
+    /// No party for any signal.
+    fn new() -> Self
+        ensures { (n b : ℕ) → holds (slice_index_or result.sets n none) b ≡ false }
+    {
+        Row {
+            sets: [PartySet::NONE; 256],
+        }
+    }
+
+    /// Adds a party to those for a signal.
+    fn add(&mut self, signal: SignalNumber, party: Party)
+        ensures { (n b : ℕ) → holds (slice_index_or self.new.sets n none) b
+            ≡ (holds (slice_index_or self.old.sets n none) b || (eqb signal.0 n && eqb (seat party) b)) }
+    {
+        let place = usize::from(signal.0);
+        self.sets[place] = self.sets[place].with(party);
+    }
+
+    /// The parties for a signal.
+    fn get(&self, signal: SignalNumber) -> PartySet
+        ensures { result ≡ slice_index_or self.now.sets signal.0 none }
+    {
+        self.sets[usize::from(signal.0)]
+    }
+}
+
+/// For each of the first 16 processes and each signal, the parties at the other ends of the paths that bring the signal.
+#[derive(Drop)]
+pub(crate) struct Ends {
+    rows: [Row; 16],
+}
+
+impl Ends {
+    /// No party for any process and signal.
+    fn new() -> Self
+        ensures { (p n b : ℕ) → p < 16 → holds (listed result p n) b ≡ false }
+    {
+        Ends {
+            rows: [Row::new(); 16],
+        }
+    }
+
+    /// Adds the party at the other end of a path that brings a signal, if its own end is a process.
+    fn add(&mut self, own: Party, other: Party, signal: SignalNumber)
+        ensures { (p n b : ℕ) → p < 16 → holds (listed self.new p n) b
+            ≡ (holds (listed self.old p n) b || (is_process p own && (eqb signal.0 n && eqb (seat other) b))) }
+    {
+        match own {
+            Party::Environment => {}
+            Party::Process(process) => self.add_to(process, other, signal),
+        }
+    }
+
+    /// Adds it for one process; those past the first 16 are left out.
+    fn add_to(&mut self, process: ProcessNumber, other: Party, signal: SignalNumber)
+        ensures { (p n b : ℕ) → p < 16 → holds (listed self.new p n) b
+            ≡ (holds (listed self.old p n) b || (eqb process.0 p && (eqb signal.0 n && eqb (seat other) b))) }
+    {
+        if process.0 < 16 {
+            self.rows[usize::from(process.0)].add(signal, other);
+        }
+    }
+
+    /// The parties for one of the first 16 processes and a signal.
+    pub(crate) fn get(&self, process: ProcessNumber, signal: SignalNumber) -> PartySet
+        requires { process.0 < 16 }
+        ensures { result ≡ listed self.now process.0 signal.0 }
+    {
+        self.rows[usize::from(process.0)].get(signal)
+    }
+}
+
+/// The paths of a draft by process and signal: each look-up takes the same time however many there are.
+#[derive(Drop)]
+pub(crate) struct RouteTable {
+    /// Who gets a signal from a process.
+    pub(crate) receivers: Ends,
+    /// Who sends a signal to a process.
+    pub(crate) senders: Ends,
+}
+
+impl RouteTable {
+    /// The table of some paths.
+    pub(crate) fn new(routes: &[DraftRoute]) -> Self
+        ensures { Tells result (flat_map mentions_of routes.now) }
+    {
+        let mut table = RouteTable::empty();
+        for route in routes {
+            table.add_route(route);
+        }
+        table
+    }
+
+    /// The table of no path.
+    fn empty() -> Self
+        ensures { Tells result [] }
+    {
+        RouteTable {
+            receivers: Ends::new(),
+            senders: Ends::new(),
+        }
+    }
+
+    /// Adds a path.
+    fn add_route(&mut self, route: &DraftRoute)
+        ensures { (ms : List Mention) → Tells self.old ms → Tells self.new (ms ++ mentions_of route.now) }
+    {
+        for signal in route.signals.as_slice() {
+            self.add(route.from, route.to, *signal);
+        }
+    }
+
+    /// Adds a signal that a path brings.
+    fn add(&mut self, from: Party, to: Party, signal: SignalNumber)
+        ensures { (ms : List Mention) → Tells self.old ms
+            → Tells self.new (ms ++ (record { from = from; to = to; signal = signal }) ∷ []) }
+    {
+        self.receivers.add(from, to, signal);
+        self.senders.add(to, from, signal);
+    }
+}

@@ -1,0 +1,91 @@
+//! A transition of a draft.
+
+ghost use Rattle.std.specs.Prelude.{◌≡◌, ◌<◌, ◌≤◌, ◌^◌, length};
+ghost use Rattle.turn_code.specs.Sets.{initial_set};
+ghost use Rattle.turn_code.specs.Transitions.{start_of, input_of, trigger_parameters};
+ghost use Rattle.turn_rules.specs.Seen.{seen};
+
+use turn_code::{
+    DraftInput, DraftPiece, DraftProcess, DraftSignal, DraftState, DraftVariable, ProcessNumber,
+    Sort, Trigger, VariableSet,
+};
+
+/// One transition of a draft.
+#[derive(Clone, Copy)]
+pub struct Transition<'a> {
+    /// The number of the process that it belongs to.
+    pub number: ProcessNumber,
+    /// That process.
+    pub process: &'a DraftProcess,
+    /// What it waits for, nothing at START.
+    pub trigger: Option<Trigger>,
+    /// The sorts of its parameters.
+    pub parameters: &'a [Sort],
+    /// The variables that are set as it begins.
+    pub entry: VariableSet,
+    /// Its code.
+    pub piece: &'a DraftPiece,
+}
+
+/// The START transition of a process.
+pub fn start_transition(number: ProcessNumber, process: &DraftProcess) -> Transition<'_>
+    requires { length process.now.variables ≤ 32 }
+    ensures { seen result ≡ start_of number.0 process.now }
+{
+    Transition {
+        number,
+        process,
+        trigger: None,
+        parameters: &[],
+        entry: set_at_start(process.variables.as_slice()),
+        piece: &process.start,
+    }
+}
+
+/// The transition of an input.
+pub fn input_transition<'a>(
+    signals: &'a [DraftSignal],
+    number: ProcessNumber,
+    process: &'a DraftProcess,
+    state: &'a DraftState,
+    input: &'a DraftInput,
+) -> Transition<'a>
+    ensures { seen result ≡ input_of signals.now number.0 process.now state.now input.now }
+{
+    Transition {
+        number,
+        process,
+        trigger: Some(input.trigger),
+        parameters: parameters_of(signals, input.trigger),
+        entry: state.set,
+        piece: &input.piece,
+    }
+}
+
+/// The sorts of what comes with a trigger.
+fn parameters_of(signals: &[DraftSignal], trigger: Trigger) -> &[Sort]
+    ensures { result.now ≡ trigger_parameters signals.now trigger }
+{
+    match trigger {
+        Trigger::Signal(number) => match signals.get(usize::from(number.0)) {
+            Some(signal) => signal.parameters.as_slice(),
+            None => &[],
+        },
+        Trigger::Timer(_) => &[],
+    }
+}
+
+/// The variables that have an initial value.
+fn set_at_start(variables: &[DraftVariable]) -> VariableSet
+    requires { length variables.now ≤ 32 }
+    ensures value { result ≡ initial_set variables.now }
+    ensures small { result.0 < 2 ^ length variables.now }
+{
+    match variables {
+        [] => VariableSet(0),
+        [first, others @ ..] => {
+            let set = set_at_start(others);
+            VariableSet(u32::from(first.initial.is_some()) + 2 * set.0)
+        }
+    }
+}
