@@ -25,7 +25,7 @@ pub one_bits : (v : ℕ) → bits_of (v ∷ []) ≡ low_bits 8 v
 unfolding bits_of
 one_bits v = append-nil (low_bits 8 v)
 
-more_bits : (v n k : ℕ) (os : List ℕ) → v < 256 → low_bits k n ≡ bits_of os → low_bits (8 + k) (v + n * 256) ≡ bits_of (v ∷ os)
+pub more_bits : (v n k : ℕ) (os : List ℕ) → v < 256 → low_bits k n ≡ bits_of os → low_bits (8 + k) (v + n * 256) ≡ bits_of (v ∷ os)
 unfolding bits_of
 more_bits v n k os small is = joined v 8 n k small ∙ ap (λ l. low_bits 8 v ++ l) is
 
