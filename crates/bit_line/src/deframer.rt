@@ -331,7 +331,11 @@ impl Deframer {
     }
 
     /// Takes the eight bits of an octet, and puts what they report at the end.
-    pub(crate) fn push_octet(&mut self, octet: u8, events: &mut Vec<LineEvent>) -> Result<(), NoMemory>
+    pub(crate) fn push_octet(
+        &mut self,
+        octet: u8,
+        events: &mut Vec<LineEvent>,
+    ) -> Result<(), NoMemory>
         ensures { OnOk result ((h : List Bool) (before : List LineEvent) → StandsAt h (before ++ events.old.items) self.old
             → StandsAt (reverse (low_bits 8 octet) ++ h) (before ++ events.new.items) self.new) }
     {

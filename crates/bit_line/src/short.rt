@@ -100,7 +100,11 @@ impl Deframer {
     /// Takes a unit of five octets, the flag behind it and the bits behind that in its last octet at once, where nothing lies inside
     /// behind a flag, the mode is the normal one and those bits come next. Puts the report of the unit at the end. Answers how many octets
     /// it took, or none.
-    pub(crate) fn push_short(&mut self, octets: &[u8], events: &mut Vec<LineEvent>) -> Result<usize, NoMemory>
+    pub(crate) fn push_short(
+        &mut self,
+        octets: &[u8],
+        events: &mut Vec<LineEvent>,
+    ) -> Result<usize, NoMemory>
         ensures most { IfOk result (λ taken. taken ≤ length octets.now) }
         ensures stands { IfOk result (λ taken. (h : List Bool) (before : List LineEvent) → StandsAt h (before ++ events.old.items) self.old
             → StandsAt (reverse (bits_of (take taken octets.now)) ++ h) (before ++ events.new.items) self.new) }
@@ -124,7 +128,11 @@ impl Deframer {
     }
 
     /// Takes octets from the front, at least one, and puts what they report at the end. Answers how many.
-    pub(crate) fn push_next(&mut self, octets: &[u8], events: &mut Vec<LineEvent>) -> Result<usize, NoMemory>
+    pub(crate) fn push_next(
+        &mut self,
+        octets: &[u8],
+        events: &mut Vec<LineEvent>,
+    ) -> Result<usize, NoMemory>
         requires { 0 < length octets.now }
         ensures some { IfOk result (λ taken. 0 < taken) }
         ensures most { IfOk result (λ taken. taken ≤ length octets.now) }

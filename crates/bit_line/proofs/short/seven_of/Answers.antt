@@ -1,4 +1,3 @@
-use Rattle.std.proofs.Common.{refl, ap, ◌∙◌}
 use Rattle.bit_line.proofs.ShortLaws.{seven_bits}
 use Rattle.bit_line.proofs.short.seven_of.Goals as goal
 

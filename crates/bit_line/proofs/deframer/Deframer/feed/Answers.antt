@@ -1,4 +1,4 @@
-use Rattle.std.proofs.Common.{◌+◌, arith}
+use Rattle.std.proofs.Common.{arith}
 use Rattle.su_octets.specs.Bits.{bits_of}
 use Rattle.bit_line.proofs.EventLaws as laws
 use Rattle.bit_line.proofs.UntilLaws.{at_run, tail_length}

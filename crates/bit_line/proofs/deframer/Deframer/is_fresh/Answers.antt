@@ -1,4 +1,4 @@
-use Rattle.std.proofs.Common.{◌≡◌, Bool, true, [], subst}
+use Rattle.std.proofs.Common.{◌≡◌, Bool, [], subst}
 use Rattle.std.specs.Bool.{MatchBool}
 use Rattle.bit_line.specs.Stuffing.{taken_out}
 use Rattle.bit_line.specs.Flags.{inside}
