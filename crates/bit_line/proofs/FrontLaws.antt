@@ -1,6 +1,6 @@
 -- The first octets behind a flag: their bits as one number, and as a content.
-use Rattle.std.proofs.Common.{◌≡◌, ℕ, ◌+◌, ◌-◌, ◌*◌, ◌/◌, ◌%◌, ◌^◌, ◌<◌, ◌≤◌, zero, suc, Bool, true, false, List, [], ◌∷◌, ◌++◌, length, reverse, take, refl, sym, ap, ◌∙◌, arith, subst, append_assoc}
-use Rattle.std.specs.Prelude.{nat_lt, get_or}
+use Rattle.std.proofs.Common.{◌≡◌, ℕ, ◌+◌, ◌-◌, ◌*◌, ◌/◌, ◌%◌, ◌^◌, ◌<◌, ◌≤◌, Bool, false, List, [], ◌∷◌, ◌++◌, length, reverse, take, refl, sym, ap, ◌∙◌, arith, subst, append_assoc}
+use Rattle.std.specs.Prelude.{get_or}
 use Rattle.std.proofs.lemmas.Bool.{le-ltb}
 use Rattle.std.proofs.lemmas.List.{append-nil, reverse-reverse, length-reverse}
 use Rattle.su_octets.specs.Bits.{low_bits, bits_of}
@@ -25,7 +25,7 @@ pub one_bits : (v : ℕ) → bits_of (v ∷ []) ≡ low_bits 8 v
 unfolding bits_of
 one_bits v = append-nil (low_bits 8 v)
 
-more_bits : (v n k : ℕ) (os : List ℕ) → v < 256 → low_bits k n ≡ bits_of os → low_bits (8 + k) (v + n * 256) ≡ bits_of (v ∷ os)
+pub more_bits : (v n k : ℕ) (os : List ℕ) → v < 256 → low_bits k n ≡ bits_of os → low_bits (8 + k) (v + n * 256) ≡ bits_of (v ∷ os)
 unfolding bits_of
 more_bits v n k os small is = joined v 8 n k small ∙ ap (λ l. low_bits 8 v ++ l) is
 

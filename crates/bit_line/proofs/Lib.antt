@@ -16,6 +16,7 @@ pub mod TakenLaws
 pub mod LongLaws
 pub mod FrontLaws
 pub mod RunLaws
+pub mod ShortLaws
 pub mod PaceLaws
 pub mod UntilLaws
 pub mod ThroughLaws

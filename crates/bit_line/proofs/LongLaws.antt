@@ -1,4 +1,4 @@
--- Up to forty line bits behind a 0: where inserted zeros stand among them, and what is left.
+-- Up to forty-eight line bits behind a 0: where inserted zeros stand among them, and what is left.
 use Rattle.std.proofs.Common.{◌≡◌, ℕ, ◌+◌, ◌-◌, ◌*◌, ◌/◌, ◌%◌, ◌^◌, ◌<◌, ◌≤◌, zero, suc, min, Bool, true, false, List, [], ◌∷◌, ◌++◌, reverse, refl, sym, ap, ◌∙◌, arith, subst, append_assoc, inl, inr}
 use Rattle.std.specs.Prelude.{◌==◌, ◌⊎◌, bit_and}
 use Rattle.std.specs.Int.{bit_at}
@@ -264,7 +264,7 @@ pub record Joins (count taken len x all : ℕ) : Type 0 where
   pub fits : all < 2 ^ (count + len)
   pub small : all < 18446744073709551616
 
-joins : (count taken len y x all : ℕ) → taken < 2 ^ count → y < 2 ^ len → count + len ≤ 40 → low_bits len y ≡ low_bits len x → all ≡ taken + y * 2 ^ count % 18446744073709551616
+joins : (count taken len y x all : ℕ) → taken < 2 ^ count → y < 2 ^ len → count + len ≤ 48 → low_bits len y ≡ low_bits len x → all ≡ taken + y * 2 ^ count % 18446744073709551616
     → Joins count taken len x all
 joins count taken len y x all fits small few same is =
     let whole : all ≡ taken + y * 2 ^ count = is ∙ ap (λ n. taken + n) (shl_whole y len count 64 small (omega (arith, few))) in
@@ -273,10 +273,10 @@ joins count taken len y x all fits small few same is =
     record {
       bits = ap (λ n. low_bits (count + len) n) whole ∙ joined taken count y len fits ∙ ap (λ l. low_bits count taken ++ l) same;
       fits = within;
-      small = omega (arith, within, pow_small (count + len) 40 few);
+      small = omega (arith, within, pow_small (count + len) 48 few);
     }
 
-pub joins_front : (count taken first left rest : ℕ) → taken < 2 ^ count → count + left ≤ 40 → first + 6 ≤ left
+pub joins_front : (count taken first left rest : ℕ) → taken < 2 ^ count → count + left ≤ 48 → first + 6 ≤ left
     → Joins count taken (first + 5) rest (taken + rest % (1 * 2 ^ (first + 5) % 18446744073709551616) * 2 ^ count % 18446744073709551616)
 joins_front count taken first left rest fits few within =
     let power : 1 * 2 ^ (first + 5) % 18446744073709551616 ≡ 2 ^ (first + 5) = one_shl (first + 5) 64 (omega (arith, few, within)) in
@@ -284,6 +284,6 @@ joins_front count taken first left rest fits few within =
     (mod_below rest (2 ^ (first + 5)) (pow_pos (first + 5))) (omega (arith, few, within)) (low_bits-mod (first + 5) rest)
     (ap (λ p. taken + rest % p * 2 ^ count % 18446744073709551616) power)
 
-pub joins_rest : (count taken left rest : ℕ) → taken < 2 ^ count → rest < 2 ^ left → count + left ≤ 40 → Joins count taken left rest (taken + rest * 2 ^ count % 18446744073709551616)
+pub joins_rest : (count taken left rest : ℕ) → taken < 2 ^ count → rest < 2 ^ left → count + left ≤ 48 → Joins count taken left rest (taken + rest * 2 ^ count % 18446744073709551616)
 joins_rest count taken left rest fits small few =
     joins count taken left rest rest (taken + rest * 2 ^ count % 18446744073709551616) fits small few refl refl

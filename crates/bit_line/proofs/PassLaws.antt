@@ -87,7 +87,7 @@ late_fits late len w less fits =
     let sum : 2 ^ len ≡ 2 ^ (len - w) * 2 ^ w = ap (λ i. 2 ^ i) (let e : len ≡ len - w + w = omega (arith, less) in e) ∙ pow-add 2 (len - w) w in
     (div-lt_iff_lt-mul {k = 2 ^ w} {x = late} {y = 2 ^ (len - w)} (pow_pos w)).1 (let P : ℕ → Type 0 = λ n. late < n in subst P sum fits)
 
-clear_inside : (k h c : List Bool) (late len w : ℕ) → length k ≡ len → EndsNone k h → drop 7 (k ++ newest 7 h) ≡ reverse (low_bits len late)
+pub clear_inside : (k h c : List Bool) (late len w : ℕ) → length k ≡ len → EndsNone k h → drop 7 (k ++ newest 7 h) ≡ reverse (low_bits len late)
     → since_flag h ≡ Some c → 7 ≡ length c + w → w ≤ len → inside (k ++ h) ≡ reverse (low_bits (len - w) (late / 2 ^ w))
 clear_inside k h c late len w long ends is some sum less =
     let part : (rest : List Bool) × (h ≡ c ++ rest) = part_of h c some in

@@ -4,7 +4,7 @@ use Rattle.std.specs.Prelude.{◌==◌, ◌⊎◌, bit_and, unwrap_or}
 use Rattle.std.specs.Option.{option_map}
 use Rattle.std.specs.Int.{bit_at}
 use Rattle.std.proofs.lemmas.Bool.{le-ltb}
-use Rattle.std.proofs.lemmas.Nat.{shr-shr, shr_high, one_shl, pow-add, pow_pos}
+use Rattle.std.proofs.lemmas.Nat.{shr-shr, shr_high, mod_low, one_shl, pow-add, pow_pos}
 use Rattle.std.proofs.lemmas.Nat.Bits.{bit_at_and}
 use Rattle.std.proofs.Math.Nat.{mul_assoc, mul_comm, div-add-mod}
 use Rattle.std.proofs.lemmas.List.{reverse-append, reverse-reverse, length-reverse}
@@ -16,9 +16,10 @@ use Rattle.bit_line.specs.Counting.{Counts}
 use Rattle.bit_line.specs.Deframing.{LetsIn, Fits, StandsAt, newest, EndsNone}
 use Rattle.bit_line.specs.declared.deframer.Deframer.{Deframer}
 use Rattle.bit_line.specs.declared.events.LineEvent.{LineEvent}
-use Rattle.bit_line.proofs.BitLists.{low_bits-split, low_bits-mod, length-low_bits}
+use Rattle.bit_line.proofs.BitLists.{low_bits-split, low_bits-mod, length-low_bits, div_small}
 use Rattle.bit_line.proofs.StuffLaws.{taken_out-one, taken_out-five, taken_out-other, five_or_other}
 use Rattle.bit_line.proofs.FlagLaws.{since_flag-other, ends_flag-plain, begins-plain}
+use Rattle.bit_line.proofs.FewLaws.{pow_small}
 use Rattle.bit_line.proofs.Newest.{Window, window, no_six_when}
 use Rattle.bit_line.proofs.ThroughLaws.{quiet}
 
@@ -77,6 +78,34 @@ plain_low w m n less none is =
     ap (λ i. bit_at w i) (let e : s + (1 + m) ≡ m + (1 + s) = omega arith in e) ∙ sym (at_shifted w m (1 + s)) ∙ ones_of_126 (w / 2 ^ m) s small is) in
     omega (arith, clear, set)
 
+set_at : (w m : ℕ) → w / 2 ^ m % 128 ≡ 126 → bit_at (sixes_of w / 2) m ≡ 1
+set_at w m is =
+    at_shifted (sixes_of w) 1 m
+    ∙ sixes_at w (1 + m) (λ s small.
+    ap (λ i. bit_at w i) (let e : s + (1 + m) ≡ m + (1 + s) = omega arith in e) ∙ sym (at_shifted w m (1 + s)) ∙ ones_of_126 (w / 2 ^ m) s small is)
+
+other_bit : (p m : ℕ) → (m < p) ⊎ (p < m) → bit_at (2 ^ p) m ≡ 0
+other_bit p m (inl below) =
+    low_none (2 ^ p) m p below (ap (λ n. n % 2 ^ p) (let e : 2 ^ p ≡ 1 * 2 ^ p + 0 = omega arith in e) ∙ mod_low 1 p 0 (pow_pos p))
+other_bit p m (inr above) =
+    ap (λ n. n % 2) (div_small (2 ^ p) m (let most : 2 ^ (p + 1) ≤ 2 ^ m = pow_small (p + 1) m (omega arith) in let double : 2 ^ (p + 1) ≡ 2 ^ p * 2 = pow-add 2 p 1 in omega (arith, most, double, pow_pos p)))
+
+below_or_above : (p m : ℕ) → (m ≡ p → ⊥) → (m < p) ⊎ (p < m)
+below_or_above zero zero other = absurd (other refl)
+below_or_above zero (suc m) other = inr (omega arith)
+below_or_above (suc p) zero other = inl (omega arith)
+below_or_above (suc p) (suc m) other = by_one (below_or_above p m (λ is. other (ap suc is))) where
+  by_one : (m < p) ⊎ (p < m) → (suc m < suc p) ⊎ (suc p < suc m)
+  by_one (inl less) = inl (omega (arith, less))
+  by_one (inr more) = inr (omega (arith, more))
+
+-- where the six 1s stand at one place only, none stand at another one
+pub plain_else : (w p m : ℕ) → p ≤ 55 → sixes_of w / 2 ≡ 1 * 2 ^ p % 18446744073709551616 → (m ≡ p → ⊥) → w / 2 ^ m % 128 ≡ 126 → ⊥
+plain_else w p m few only other is =
+    let power : 1 * 2 ^ p % 18446744073709551616 ≡ 2 ^ p = one_shl p 64 (omega (arith, few)) in
+    let clear : bit_at (sixes_of w / 2) m ≡ 0 = ap (λ n. bit_at n m) (only ∙ power) ∙ other_bit p m (below_or_above p m other) in
+    omega (arith, clear, set_at w m is)
+
 pub plain_by : (w m n : ℕ) → m < n → n ≤ 8 → sixes_of w / 2 % (1 * 2 ^ n % 65536) ≡ 0 → w / 2 ^ m % 128 ≡ 126 → ⊥
 plain_by w m n less few none is =
     let power : 1 * 2 ^ n % 65536 ≡ 2 ^ n = one_shl n 16 (omega arith) in
@@ -111,10 +140,10 @@ pub bits_more : (m x : ℕ) → reverse (low_bits (m + 1) x) ≡ (x / 2 ^ m % 2 
 unfolding low_bits
 bits_more m x = ap reverse (low_bits-split m 1 x) ∙ reverse-append (low_bits m x) (low_bits 1 (x / 2 ^ m))
 
-record Quietly (k h : List Bool) (events : List LineEvent) : Type 0 where
-  ends : EndsNone k h
-  runs : Runs (k ++ h) None events
-  room : length (taken_out (inside (k ++ h))) ≤ length (taken_out (inside h)) + length k
+pub record Quietly (k h : List Bool) (events : List LineEvent) : Type 0 where
+  pub ends : EndsNone k h
+  pub runs : Runs (k ++ h) None events
+  pub room : length (taken_out (inside (k ++ h))) ≤ length (taken_out (inside h)) + length k
 
 quiet_more : (b : Bool) (k h : List Bool) (events : List LineEvent) → six_ones (k ++ h) ≡ false → length (taken_out (inside h)) + length k < 2224
     → Quietly k h events → Quietly (b ∷ k) h events
@@ -132,7 +161,7 @@ no_six_at recent bits m h small is other =
     let v : ℕ = (recent + bits * 128) / 2 ^ m in
     no_six_when (v % 128) (reverse (low_bits m bits) ++ h) (omega arith) (low_bits-mod 7 v ∙ w.next) other
 
-quietly : (most recent bits m : ℕ) (h : List Bool) (events : List LineEvent) → recent < 128 → low_bits 7 recent ≡ reverse (newest 7 h) → m ≤ most
+pub quietly : (most recent bits m : ℕ) (h : List Bool) (events : List LineEvent) → recent < 128 → low_bits 7 recent ≡ reverse (newest 7 h) → m ≤ most
     → ((i : ℕ) → i < m → (recent + bits * 128) / 2 ^ i % 128 ≡ 126 → ⊥) → length (taken_out (inside h)) + most ≤ 2224 → Runs h None events
     → Quietly (reverse (low_bits m bits)) h events
 unfolding low_bits
@@ -145,7 +174,7 @@ quietly most recent bits (suc m) h events small is few plain room runs =
     (quiet_more (bits / 2 ^ m % 2 == 1) (reverse (low_bits m bits)) h events (no_six_at recent bits m h small is (plain m (omega arith))) (omega (arith, long, room, few)) q)
 
 -- ---- the deframer
-none_mode : (mode count : Option ℕ) → Counts mode count → count ≡ None → mode ≡ None
+pub none_mode : (mode count : Option ℕ) → Counts mode count → count ≡ None → mode ≡ None
 none_mode None count counts none = refl
 none_mode (Some n) count counts none = absurd (let e : Some (n % 128) ≡ None = sym counts ∙ none in cc)
 

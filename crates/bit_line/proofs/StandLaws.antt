@@ -24,7 +24,7 @@ unfolding Stands StandsAt Runs
 stands_first d recent gate count =
     ([], (Some 0, (refl, refl), record { recent = ap (λ n. low_bits 7 n) recent ∙ newest-none; gate = gate; counting = count }))
 
-goes_on : (b : Bool) (h : List Bool) (mode : Option ℕ) (events given : List LineEvent) (verdict : Verdict) (new : Deframer) → Runs h mode events → Closes b h verdict
+pub goes_on : (b : Bool) (h : List Bool) (mode : Option ℕ) (events given : List LineEvent) (verdict : Verdict) (new : Deframer) → Runs h mode events → Closes b h verdict
     → given ≡ reports verdict mode → Fits (b ∷ h) (mode_after verdict (begins (b ∷ h)) mode) new → StandsAt (b ∷ h) (events ++ given) new
 unfolding StandsAt Runs
 goes_on b h mode events given verdict new runs closes is fits = (
@@ -36,7 +36,7 @@ goes_on b h mode events given verdict new runs closes is fits = (
 nothing_closes : (b : Bool) (h : List Bool) → ends_flag (b ∷ h) ≡ false → Closes b h Nothing
 nothing_closes b h none = let P : Bool → Type 0 = λ e. MatchBool e (IsJudged (inside h) Nothing) (Nothing ≡ Nothing) in subst P (sym none) refl
 
-flag_closes : (h : List Bool) (verdict : Verdict) → ends_flag (false ∷ h) ≡ true → IsJudged (inside h) verdict → Closes false h verdict
+pub flag_closes : (h : List Bool) (verdict : Verdict) → ends_flag (false ∷ h) ≡ true → IsJudged (inside h) verdict → Closes false h verdict
 flag_closes h verdict ends judged = let P : Bool → Type 0 = λ e. MatchBool e (IsJudged (inside h) verdict) (verdict ≡ Nothing) in subst P (sym ends) judged
 
 pub plain-stands : (b late over s : Bool) (h : List Bool) (events : List LineEvent) (content : Content) (old new : Deframer) → (old.recent ≡ 126 → ⊥)

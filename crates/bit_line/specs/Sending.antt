@@ -1,7 +1,8 @@
 -- What a sender of signal units puts on the line (Q.703, 3.1 and 3.2).
-use Rattle.std.specs.Prelude.{ℕ, Bool, true, false, List, [], ◌∷◌, ◌++◌}
+use Rattle.std.specs.Prelude.{ℕ, ◌+◌, ◌/◌, Bool, true, false, List, [], ◌∷◌, ◌++◌}
 use Rattle.su_octets.specs.Bits.{bits_of}
 use Rattle.bit_line.specs.Stuffing.{stuffing_of}
+use Rattle.bit_line.specs.Flags.{MOST_BITS}
 
 abbrev pub flag : List Bool
 flag = false ∷ true ∷ true ∷ true ∷ true ∷ true ∷ true ∷ false ∷ []
@@ -15,3 +16,8 @@ framed (octets ∷ units) = stuffing_of (bits_of octets) ++ flag ++ framed units
 unfoldable pub line_of : List (List ℕ) → List Bool
 line_of [] = []
 line_of (octets ∷ units) = flag ++ framed (octets ∷ units)
+
+-- The greatest number of octets that a unit fills: 7 bits that stayed, a flag, a content of the most bits with a 0 for each five of
+-- them, and a flag.
+abbrev pub MOST_OCTETS : ℕ
+MOST_OCTETS = (7 + 8 + (MOST_BITS + MOST_BITS / 5) + 8) / 8

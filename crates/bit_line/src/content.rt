@@ -33,7 +33,7 @@ pub struct Content {
 }
 
 /// Whether the octets are a signal unit's.
-fn is_unit(octets: &[u8]) -> bool
+pub fn is_unit(octets: &[u8]) -> bool
     ensures octets { AreOctets octets.now }
     ensures unit { MatchBool result (AreUnit octets.now) (AreUnit octets.now → ⊥) }
 {

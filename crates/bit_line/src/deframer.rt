@@ -126,7 +126,7 @@ impl Deframer {
     }
 
     /// Takes the first `len` bits at once, the low one first, none of them behind six 1s. They report nothing.
-    fn take_plain(&mut self, bits: u8, len: u8)
+    pub(crate) fn take_plain(&mut self, bits: u8, len: u8)
         requires few { len ≤ 8 }
         requires normal { self.old.counter.count ≡ None }
         requires room { (h : List Bool) → LetsIn h self.old.gate → length (taken_out (inside h)) + 8 ≤ MOST_BITS }
@@ -161,7 +161,7 @@ impl Deframer {
 
     /// Takes octets from the front at once, as long as none of their bits comes behind six 1s, and no two inserted zeros stand in one octet.
     /// Answers how many; they report nothing.
-    fn take_run(&mut self, octets: &[u8]) -> usize
+    pub(crate) fn take_run(&mut self, octets: &[u8]) -> usize
         ensures most { result ≤ length octets.now }
         ensures stands { (h : List Bool) (events : List LineEvent) → StandsAt h events self.old
             → StandsAt (reverse (bits_of (take result octets.now)) ++ h) events self.new }
@@ -331,7 +331,11 @@ impl Deframer {
     }
 
     /// Takes the eight bits of an octet, and puts what they report at the end.
-    fn push_octet(&mut self, octet: u8, events: &mut Vec<LineEvent>) -> Result<(), NoMemory>
+    pub(crate) fn push_octet(
+        &mut self,
+        octet: u8,
+        events: &mut Vec<LineEvent>,
+    ) -> Result<(), NoMemory>
         ensures { OnOk result ((h : List Bool) (before : List LineEvent) → StandsAt h (before ++ events.old.items) self.old
             → StandsAt (reverse (low_bits 8 octet) ++ h) (before ++ events.new.items) self.new) }
     {
@@ -376,11 +380,7 @@ impl Deframer {
         let mut events = Vec::new(alloc);
         let mut taken = 0;
         while taken < octets.len() {
-            taken += next.take_run(&octets[taken..]);
-            if taken < octets.len() {
-                next.push_octet(octets[taken], &mut events)?;
-                taken += 1;
-            }
+            taken += next.push_next(&octets[taken..], &mut events)?;
         }
         *self = next;
         Ok(events)

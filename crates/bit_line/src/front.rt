@@ -7,7 +7,7 @@ use crate::deframer::Deframer;
 use crate::window::is_long_plain;
 
 /// The bits of the first five octets, the first one lowest.
-fn word_of(octets: &[u8]) -> u64
+pub fn word_of(octets: &[u8]) -> u64
     requires { 5 ≤ length octets.now }
     ensures bits { low_bits 40 result ≡ bits_of (take 5 octets.now) }
     ensures fits { result < 2 ^ 40 }

@@ -17,6 +17,7 @@ mod long;
 mod part;
 mod reports;
 mod run;
+mod short;
 mod stuffer;
 mod taken;
 #[cfg(test)]

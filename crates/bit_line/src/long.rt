@@ -5,6 +5,15 @@ ghost use Rattle.su_octets.specs.Bits.{low_bits};
 ghost use Rattle.bit_line.specs.Stuffing.{trailing, taken_out};
 ghost use Rattle.bit_line.specs.Deframing.{has_six};
 
+/// What is left of line bits without inserted zeros.
+#[derive(Clone, Copy)]
+pub struct Left {
+    /// The bits, the first one lowest.
+    pub bits: u64,
+    /// How many they are.
+    pub len: u8,
+}
+
 /// What is left of up to forty line bits without inserted zeros.
 #[derive(Clone, Copy)]
 pub struct Long {
@@ -26,14 +35,14 @@ fn fives_in(bits: u64) -> u64
 
 /// Where the first five 1s begin, if a 0 stands before them and one behind them.
 fn first_in(fives: u64, bits: u64, len: u8) -> Option<u8>
-    requires few { len ≤ 40 }
-    requires fits { bits < 2 ^ 40 }
+    requires few { len ≤ 48 }
+    requires fits { bits < 2 ^ 48 }
     ensures within { IfSome result (λ first. first + 6 ≤ len) }
     ensures first { IfSome result (λ first. fives % 2 ^ first ≡ 0) }
     ensures zeros { IfSome result (λ first. bits * 2 / 2 ^ first % 128 ≡ 62) }
 {
     let first = fives.trailing_zeros() as u8;
-    if first > 34 || first + 6 > len {
+    if first > 42 || first + 6 > len {
         return None;
     }
     if fives % (1 << first) != 0 || (bits * 2 >> first) % 128 != 62 {
@@ -55,16 +64,15 @@ fn last_ones(bits: u64, len: u8) -> u8
     len
 }
 
-/// What is left of up to forty line bits behind a 0 or nothing, where no six 1s are among them and five not at their end.
-pub fn taken_long(bits: u64, len: u8) -> Option<Long>
-    requires few { len ≤ 40 }
+/// What is left of up to forty-eight line bits behind a 0 or nothing, where no six 1s are among them and no five at their end.
+pub fn left_of(bits: u64, len: u8) -> Option<Left>
+    requires few { len ≤ 48 }
     requires fits { bits < 2 ^ len }
     ensures bits { IfSome result (λ t. (h : List Bool) → 0 ≡ trailing h
         → taken_out (reverse (low_bits len bits) ++ h) ≡ reverse (low_bits t.len t.bits) ++ taken_out h) }
-    ensures ones { IfSome result (λ t. (h : List Bool) → 0 ≡ trailing h → t.ones ≡ trailing (reverse (low_bits len bits) ++ h)) }
+    ensures ones { IfSome result (λ t. trailing (reverse (low_bits len bits)) ≤ 4) }
     ensures six { IfSome result (λ t. (h : List Bool) → 0 ≡ trailing h → has_six (reverse (low_bits len bits) ++ h) ≡ has_six h) }
-    ensures no_six { IfSome result (λ t. t.ones ≤ 5) }
-    ensures few { IfSome result (λ t. t.len ≤ 40) }
+    ensures few { IfSome result (λ t. t.len ≤ len) }
     ensures fits { IfSome result (λ t. t.bits < 2 ^ t.len) }
 {
     let mut rest = bits;
@@ -82,9 +90,30 @@ pub fn taken_long(bits: u64, len: u8) -> Option<Long>
         left -= first + 6;
         fives = fives_in(rest);
     }
-    Some(Long {
+    Some(Left {
         bits: taken + (rest << count),
         len: count + left,
-        ones: last_ones(rest, left),
+    })
+}
+
+/// What is left of up to forty line bits behind a 0 or nothing, where no six 1s are among them and five not at their end.
+pub fn taken_long(bits: u64, len: u8) -> Option<Long>
+    requires few { len ≤ 40 }
+    requires fits { bits < 2 ^ len }
+    ensures bits { IfSome result (λ t. (h : List Bool) → 0 ≡ trailing h
+        → taken_out (reverse (low_bits len bits) ++ h) ≡ reverse (low_bits t.len t.bits) ++ taken_out h) }
+    ensures ones { IfSome result (λ t. (h : List Bool) → 0 ≡ trailing h → t.ones ≡ trailing (reverse (low_bits len bits) ++ h)) }
+    ensures six { IfSome result (λ t. (h : List Bool) → 0 ≡ trailing h → has_six (reverse (low_bits len bits) ++ h) ≡ has_six h) }
+    ensures no_six { IfSome result (λ t. t.ones ≤ 5) }
+    ensures few { IfSome result (λ t. t.len ≤ 40) }
+    ensures fits { IfSome result (λ t. t.bits < 2 ^ t.len) }
+{
+    let Some(left) = left_of(bits, len) else {
+        return None;
+    };
+    Some(Long {
+        bits: left.bits,
+        len: left.len,
+        ones: last_ones(bits, len),
     })
 }

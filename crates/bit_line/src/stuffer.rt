@@ -4,7 +4,7 @@ ghost use Rattle.arrayvec.specs.ArrayVec.{array_vec_len};
 ghost use Rattle.su_octets.specs.Bits.{low_bits, bits_of};
 ghost use Rattle.su_octets.specs.Frame.{Frame, SpareBitsAreZero};
 ghost use Rattle.su_octets.specs.Whole.{IsWhole};
-ghost use Rattle.bit_line.specs.Sending.{line_of};
+ghost use Rattle.bit_line.specs.Sending.{line_of, MOST_OCTETS};
 ghost use Rattle.bit_line.specs.Parts.{Packed, opening};
 ghost use Rattle.bit_line.specs.Stuffing.{trailing, stuffed};
 ghost use Rattle.std.specs.Option.{option_to_list};
@@ -207,23 +207,25 @@ impl Stuffer {
         }
     }
 
-    /// Sends a unit and gives the line octets that are whole now, at most 337. Up to 7 bits stay.
+    /// Sends a unit and gives the line octets that are whole now, at most 336. Up to 7 bits stay.
     pub fn put(&mut self, unit: &Unit) -> ArrayVec<u8, 352>
         requires { IsWhole unit.now }
-        ensures { (octets : List ℕ) × Frame octets unit.now × SpareBitsAreZero octets
+        ensures sent { (octets : List ℕ) × Frame octets unit.now × SpareBitsAreZero octets
             × ((given : List ℕ) (units : List (List ℕ)) → Gave given units self.old → Gave (given ++ result.items) (units ++ octets ∷ []) self.new) }
+        ensures most { array_vec_len result ≤ MOST_OCTETS }
     {
         let mut line = ArrayVec::new();
         self.put_to(unit, &mut line);
         line
     }
 
-    /// Sends a unit and puts the line octets that are whole now, at most 337, into `line`, in place of what was there. Up to 7
+    /// Sends a unit and puts the line octets that are whole now, at most 336, into `line`, in place of what was there. Up to 7
     /// bits stay.
     pub fn put_to(&mut self, unit: &Unit, line: &mut ArrayVec<u8, 352>)
         requires { IsWhole unit.now }
-        ensures { (octets : List ℕ) × Frame octets unit.now × SpareBitsAreZero octets
+        ensures sent { (octets : List ℕ) × Frame octets unit.now × SpareBitsAreZero octets
             × ((given : List ℕ) (units : List (List ℕ)) → Gave given units self.old → Gave (given ++ line.new.items) (units ++ octets ∷ []) self.new) }
+        ensures most { array_vec_len line.new ≤ MOST_OCTETS }
     {
         let mut octets = ArrayVec::new();
         encode(unit, &mut octets);

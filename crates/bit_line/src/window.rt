@@ -1,5 +1,5 @@
 //! The newest bits of a line as a number.
-ghost use Rattle.std.specs.Prelude.{◌≡◌, ◌≢◌, ◌≤◌, ◌<◌, ◌+◌, ◌*◌, ◌/◌, ◌%◌, ◌^◌, ℕ, true, if◌then◌else◌};
+ghost use Rattle.std.specs.Prelude.{◌≡◌, ◌≢◌, ◌≤◌, ◌<◌, ◌+◌, ◌*◌, ◌/◌, ◌%◌, ◌^◌, ℕ, true, IfSome, if◌then◌else◌};
 
 /// Whether none of the last eight of fifteen bits comes behind six 1s.
 pub fn is_plain(window: u16) -> bool
@@ -17,6 +17,26 @@ pub fn is_long_plain(window: u64) -> bool
     let pairs = window & window >> 1;
     let sixes = pairs & pairs >> 2 & pairs >> 4;
     (sixes >> 1) % (1 << 40) == 0
+}
+
+/// Where the only six 1s in a row of up to sixty-three bits stand, if a 0 stands before them and one behind: the place of the 0 before
+/// them.
+pub fn flag_in(window: u64) -> Option<u8>
+    ensures few { IfSome result (λ place. place ≤ 55) }
+    ensures flag { IfSome result (λ place. window / 2 ^ place % 256 ≡ 126) }
+    ensures alone { IfSome result (λ place. (m : ℕ) → m ≢ place → window / 2 ^ m % 128 ≢ 126) }
+{
+    let pairs = window & window >> 1;
+    let sixes = pairs & pairs >> 2 & pairs >> 4;
+    let ends = sixes >> 1;
+    let place = ends.trailing_zeros() as u8;
+    if place > 55 {
+        return None;
+    }
+    if ends != 1 << place || (window >> place) % 256 != 126 {
+        return None;
+    }
+    Some(place)
 }
 
 /// How many of up to eight bits, the low one first, come behind anything but six 1s, as far as that is known at once: the

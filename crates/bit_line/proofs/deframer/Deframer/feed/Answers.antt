@@ -1,4 +1,4 @@
-use Rattle.std.proofs.Common.{◌+◌, arith}
+use Rattle.std.proofs.Common.{arith}
 use Rattle.su_octets.specs.Bits.{bits_of}
 use Rattle.bit_line.proofs.EventLaws as laws
 use Rattle.bit_line.proofs.UntilLaws.{at_run, tail_length}
@@ -11,20 +11,12 @@ loop-taken-init c = record {
   stands = λ h before stands. laws.at_start h before c.new-events.result.items c.copy-next.result c.new-events.ensures.items stands;
 }
 
-pub loop-taken-preserved-then-taken-octets : goal.loop-taken-preserved-then-taken-octets
-loop-taken-preserved-then-taken-octets c = record {
-  within = omega (arith, c.if-taken-octets.true);
-  stands = λ h before stands.
-      laws.at_next (c.loop-taken.taken + c.take_run-taken.result) c.args.octets.now h _ c.push_octet.new.self c.if-taken-octets.true
-      (c.in_ok-push_octet.ensures _ before
-      (at_run c.loop-taken.taken c.take_run-taken.result c.args.octets.now h _ c.take_run-taken.new.self (c.take_run-taken.ensures.stands _ _ (c.loop-taken.invariant.stands h before stands))));
-}
-
 pub loop-taken-preserved : goal.loop-taken-preserved
 loop-taken-preserved c = record {
-  within = omega (arith, c.take_run-taken.ensures.most, tail_length c.loop-taken.taken c.args.octets.now, c.loop-taken.invariant.within);
+  within = omega (arith, c.in_ok-taken.ensures.most, tail_length c.loop-taken.taken c.args.octets.now, c.loop-taken.invariant.within);
   stands = λ h before stands.
-      at_run c.loop-taken.taken c.take_run-taken.result c.args.octets.now h _ c.take_run-taken.new.self (c.take_run-taken.ensures.stands _ _ (c.loop-taken.invariant.stands h before stands));
+      at_run c.loop-taken.taken c.in_ok-taken.field-0 c.args.octets.now h _ c.push_next.new.self
+      (c.in_ok-taken.ensures.stands _ before (c.loop-taken.invariant.stands h before stands));
 }
 
 pub returns-clause-stands : goal.returns-clause-stands

@@ -6,8 +6,8 @@ use Rattle.su_octets.specs.Bits.{bits_of}
 use Rattle.bit_line.proofs.SendLaws as laws
 use Rattle.bit_line.proofs.stuffer.Stuffer.put_to.Goals as goal
 
-pub returns : goal.returns
-returns c = (
+pub returns-clause-sent : goal.returns-clause-sent
+returns-clause-sent c = (
   c.encode.new.octets.items,
   c.encode.ensures.frame,
   c.encode.ensures.spare,

@@ -1,7 +1,7 @@
 use Rattle.std.proofs.Common.{◌≡◌, ℕ, ◌+◌, ◌<◌, ◌≤◌, ◌^◌}
 use Rattle.std.specs.Int.{bit_at}
 use Rattle.bit_line.proofs.LongLaws.{Gone}
-use Rattle.bit_line.proofs.long.taken_long.Given as goal
+use Rattle.bit_line.proofs.long.left_of.Given as goal
 
 abbrev pub invariant-loop-fives : goal.invariant-loop-fives
 invariant-loop-fives l = record {
