@@ -1,5 +1,5 @@
 //! Sets of processes, as commands name them.
-ghost use Rattle.std.specs.Prelude.{◌≡◌, List, ℕ, IfOk, IfErr, IsFalse, ⊥};
+ghost use Rattle.std.specs.Prelude.{◌≡◌, List, ℕ, IfOk, IfErr, IsFalse};
 ghost use Rattle.text_reader.specs.Reading.{Keeps};
 ghost use Rattle.turn_verify.specs.Loaded.{IsRefused};
 ghost use Rattle.text_check.specs.Checked.{given, IsGiven, IsRefusal, IsRefusalOf, IsSetOf, IsText, IsTooLong};
