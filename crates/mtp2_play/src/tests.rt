@@ -3,9 +3,7 @@ use std::alloc::Global;
 use std::fs;
 use std::io::{self, Write};
 use std::rt::Runtime;
-use std::sync::Wait;
 use std::test::Fail;
-use std::thread::Threads;
 
 /// A writer that keeps what it is given, and fails after so many calls.
 #[derive(Drop)]
@@ -53,7 +51,7 @@ fn printed(alloc: Global, word: &str, calls: u32) -> (Vec<u8>, u8) {
 }
 
 /// Words, with what is printed for them and the exit status.
-const WORDS: [(&str, &[u8], u8); 9] = [
+const WORDS: [(&str, &[u8], u8); 13] = [
     (
         "FFFF00FFFF",
         b"FISU bsn 127 bib 1 fsn 127 fib 1\nbits 46\n",
@@ -69,7 +67,19 @@ const WORDS: [(&str, &[u8], u8); 9] = [
         b"LSSU bsn 127 bib 1 fsn 127 fib 1 status SIOS\nbits 51\n",
         0,
     ),
+    ("058300D559", b"FISU bsn 5 bib 0 fsn 3 fib 1\nbits 40\n", 0),
+    (
+        "85030105F61E",
+        b"LSSU bsn 5 bib 1 fsn 3 fib 0 status SIB\nbits 48\n",
+        0,
+    ),
+    (
+        "02FE04AB0102030556",
+        b"MSU bsn 2 bib 0 fsn 126 fib 1 sio AB octets 3\nbits 73\n",
+        0,
+    ),
     ("FFFF00FFFE", b"refused U3 BadCheck\n", 2),
+    ("0583015C48", b"refused U4 BadLength\n", 2),
     ("FFFF00FF", b"refused U1 TooShort\n", 2),
     ("", b"refused U1 TooShort\n", 2),
     ("F", b"refused H1 NotHex\n", 2),
@@ -138,133 +148,110 @@ fn asked(alloc: Global, given: &[&str]) -> Result<String, Fail> {
     }
 }
 
-#[test]
-fn reads_the_command_line(rt: HostRuntime) -> Result<(), Fail> {
-    let alloc = rt.alloc();
-    assert_eq!(rt;
-        asked(alloc, &["mtp2_play", "frame", "FF"])?.as_str(),
-        "frame FF"
-    );
-    assert_eq!(rt;
-        asked(alloc, &["mtp2_play", "frame", ""])?.as_str(),
-        "frame "
-    );
-    assert_eq!(rt;
-        asked(alloc, &["mtp2_play", "check", "stdin"])?.as_str(),
-        "check Stdin"
-    );
-    assert_eq!(rt;
-        asked(alloc, &["mtp2_play", "check", "./standard"])?.as_str(),
-        "check File(\"./standard\")"
-    );
-    assert_eq!(rt;
-        asked(alloc, &["mtp2_play", "check", "standard"])?.as_str(),
-        "check Standard"
-    );
-    assert_eq!(rt;
-        asked(alloc, &["mtp2_play", "check", "monitors"])?.as_str(),
-        "check Monitors"
-    );
-    assert_eq!(rt; asked(alloc, &["mtp2_play", "check"])?.as_str(), "");
-    assert_eq!(rt;
-        asked(alloc, &["mtp2_play", "play", "standard", "stdin"])?.as_str(),
-        "play Standard Stdin"
-    );
-    assert_eq!(rt;
-        asked(alloc, &["mtp2_play", "play", "stdin", "a"])?.as_str(),
-        "play Stdin File(\"a\")"
-    );
-    assert_eq!(rt;
-        asked(alloc, &["mtp2_play", "play", "stdin", "stdin"])?.as_str(),
-        ""
-    );
-    assert_eq!(rt;
-        asked(alloc, &["mtp2_play", "check", "a", "b"])?.as_str(),
-        ""
-    );
-    assert_eq!(rt; asked(alloc, &["mtp2_play"])?.as_str(), "");
-    assert_eq!(rt; asked(alloc, &["mtp2_play", "frame"])?.as_str(), "");
-    assert_eq!(rt; asked(alloc, &["mtp2_play", "frame", "-F"])?.as_str(), "");
-    assert_eq!(rt; asked(alloc, &["mtp2_play", "soak", "x"])?.as_str(), "");
-    Ok(())
-}
-
-/// Numbers of workers, and what is asked for.
-const WORKERS: [(&str, &str); 5] = [
-    ("0", ""),
-    ("1", "soak File(\"x\") 1"),
-    ("16", "soak File(\"x\") 16"),
-    ("17", ""),
-    ("y", ""),
+/// Words of a command line, the program's name first, and what they ask for; nothing where the program has no such command.
+const ASKED: [(&[&str], &str); 20] = [
+    (&["mtp2_play", "frame", "FF"], "frame FF"),
+    (&["mtp2_play", "frame", ""], "frame "),
+    (&["mtp2_play", "frame", "-F"], ""),
+    (&["mtp2_play", "frame"], ""),
+    (&["mtp2_play", "check", "standard"], "check Standard"),
+    (&["mtp2_play", "check", "monitors"], "check Monitors"),
+    (&["mtp2_play", "check", "stdin"], "check Stdin"),
+    (
+        &["mtp2_play", "check", "./standard"],
+        "check File(\"./standard\")",
+    ),
+    (&["mtp2_play", "check"], ""),
+    (&["mtp2_play", "check", "a", "b"], ""),
+    (
+        &["mtp2_play", "play", "standard", "stdin"],
+        "play Standard Stdin",
+    ),
+    (
+        &["mtp2_play", "play", "stdin", "a"],
+        "play Stdin File(\"a\")",
+    ),
+    (&["mtp2_play", "play", "stdin", "stdin"], ""),
+    (&["mtp2_play", "soak", "x"], ""),
+    (&["mtp2_play", "soak", "x", "--workers", "0"], ""),
+    (
+        &["mtp2_play", "soak", "x", "--workers", "1"],
+        "soak File(\"x\") 1",
+    ),
+    (
+        &["mtp2_play", "soak", "x", "--workers", "16"],
+        "soak File(\"x\") 16",
+    ),
+    (&["mtp2_play", "soak", "x", "--workers", "17"], ""),
+    (&["mtp2_play", "soak", "x", "--workers", "y"], ""),
+    (&["mtp2_play"], ""),
 ];
 
 #[test]
-fn reads_the_number_of_workers(rt: HostRuntime) -> Result<(), Fail> {
-    for (number, wanted) in WORKERS {
-        let request = asked(rt.alloc(), &["mtp2_play", "soak", "x", "--workers", number])?;
-        assert_eq!(rt; request.as_str(), wanted, "{number}");
+fn reads_the_command_line(rt: HostRuntime) -> Result<(), Fail> {
+    for (given, wanted) in ASKED {
+        assert_eq!(rt; asked(rt.alloc(), given)?.as_str(), wanted, "{wanted}");
     }
     Ok(())
 }
 
-/// The exit status of a command line.
-fn status<R: Runtime + AllocGlobal + Threads + Wait + Sync>(
-    rt: &R,
-    given: &[&str],
-) -> Result<u8, Fail> {
-    let line = line(rt.alloc(), given)?;
-    Ok(serve(rt, line.as_slice()))
+/// Command lines, and the status that each ends with. A script asks for the state of a process that one of the sets has and the other
+/// hasn't, so the status tells the set. Standard input is empty here: no set's text, and a script without commands.
+const ENDED: [(&[&str], u8); 32] = [
+    (&["mtp2_play"], 3),
+    (&["mtp2_play", "--help"], 0),
+    (&["mtp2_play", "check", "--help"], 0),
+    (&["mtp2_play", "check"], 3),
+    (&["mtp2_play", "check", "standard"], 0),
+    (&["mtp2_play", "check", "monitors"], 0),
+    (&["mtp2_play", "check", "one.sdl"], 0),
+    (&["mtp2_play", "check", "no.sdl"], 2),
+    (&["mtp2_play", "check", "stdin"], 2),
+    (&["mtp2_play", "check", "nowhere/none.sdl"], 4),
+    (&["mtp2_play", "frame", "FFFF00FFFF"], 0),
+    (&["mtp2_play", "frame", "FFFF00FFFE"], 2),
+    (&["mtp2_play", "play", "one.sdl"], 3),
+    (&["mtp2_play", "play", "standard", "lsc.script"], 0),
+    (&["mtp2_play", "play", "monitors", "lsc.script"], 1),
+    (&["mtp2_play", "play", "monitors", "aerm.script"], 0),
+    (&["mtp2_play", "play", "one.sdl", "aerm.script"], 1),
+    (&["mtp2_play", "play", "stdin", "lsc.script"], 2),
+    (&["mtp2_play", "play", "standard", "stdin"], 0),
+    (&["mtp2_play", "play", "standard", "bad.script"], 2),
+    (&["mtp2_play", "play", "standard", "nowhere"], 4),
+    (&["mtp2_play", "play", "no.sdl", "lsc.script"], 2),
+    (&["mtp2_play", "play", "no.sdl", "bad.script"], 2),
+    (&["mtp2_play", "play", "no.sdl", "nowhere"], 4),
+    (&["mtp2_play", "play", "nowhere", "lsc.script"], 4),
+    (&["mtp2_play", "play", "stdin", "nowhere"], 4),
+    (&["mtp2_play", "play", "stdin", "stdin"], 3),
+    (&["mtp2_play", "soak", "two.script", "--workers", "1"], 0),
+    (&["mtp2_play", "soak", "lsc.script", "--workers", "1"], 2),
+    (&["mtp2_play", "soak", "nowhere", "--workers", "1"], 4),
+    (&["mtp2_play", "soak", "lsc.script", "--workers", "0"], 3),
+    (&["mtp2_play", "soak", "lsc.script", "--workers", "17"], 3),
+];
+
+/// Writes the files that the command lines name.
+fn write_files<R: Runtime + AllocGlobal>(rt: &R) -> Result<(), Fail> {
+    fs::write(rt, "lsc.script", "state LSC\nexpect START\n")?;
+    fs::write(rt, "aerm.script", "state AERM\nexpect START\n")?;
+    fs::write(rt, "bad.script", "nonsense\n")?;
+    let two = "links 2\noffer LSC PowerOn\non 1\noffer LSC PowerOn\n";
+    fs::write(rt, "two.script", two)?;
+    fs::write(rt, "no.sdl", "BLOCK B;")?;
+    let text = "BLOCK B; PROCESS P; START; STOP; ENDPROCESS; ENDBLOCK;";
+    fs::write(rt, "one.sdl", text)?;
+    Ok(())
 }
 
 #[test]
 fn ends_with_the_status_of_what_was_asked(rt: HostRuntime) -> Result<(), Fail> {
-    assert_eq!(rt; status(&rt, &["mtp2_play", "--help"])?, 0);
-    assert_eq!(rt; status(&rt, &["mtp2_play", "check", "--help"])?, 0);
-    assert_eq!(rt; status(&rt, &["mtp2_play"])?, 3);
-    assert_eq!(rt; status(&rt, &["mtp2_play", "check"])?, 3);
-    assert_eq!(rt; status(&rt, &["mtp2_play", "check", "monitors"])?, 0);
-    assert_eq!(rt; status(&rt, &["mtp2_play", "play", "x"])?, 3);
-    assert_eq!(rt; status(&rt, &["mtp2_play", "frame", "FFFF00FFFF"])?, 0);
-    assert_eq!(rt; status(&rt, &["mtp2_play", "frame", "FFFF00FFFE"])?, 2);
-    assert_eq!(rt;
-        status(&rt, &["mtp2_play", "check", "nowhere/none.sdl"])?,
-        4
-    );
-    Ok(())
-}
-
-/// Words for a set and a script, and the status that `play` ends with. The script asks for the state of a process that `standard` has and
-/// `monitors` hasn't.
-const PLAYED: [(&str, &str, u8); 7] = [
-    ("standard", "lsc.script", 0),
-    ("monitors", "lsc.script", 1),
-    ("standard", "stdin", 0),
-    ("stdin", "lsc.script", 2),
-    ("stdin", "stdin", 3),
-    ("standard", "nowhere", 4),
-    ("nowhere", "lsc.script", 4),
-];
-
-#[test]
-fn plays_the_set_and_the_script_that_are_named(rt: HostRuntime) -> Result<(), Fail> {
-    fs::write(&rt, "lsc.script", "state LSC\nexpect START\n")?;
-    for (set, script, wanted) in PLAYED {
-        let ended = status(&rt, &["mtp2_play", "play", set, script])?;
-        assert_eq!(rt; ended, wanted, "{set} {script}");
+    write_files(&rt)?;
+    for (given, wanted) in ENDED {
+        let line = line(rt.alloc(), given)?;
+        let ended = serve(&rt, line.as_slice());
+        assert_eq!(rt; ended, wanted, "{given:?}");
     }
-    Ok(())
-}
-
-/// Standard input has no text here, so that a status 0 is that of the file.
-#[test]
-fn checks_the_file_that_is_named(rt: HostRuntime) -> Result<(), Fail> {
-    let text = "BLOCK B; PROCESS P; START; STOP; ENDPROCESS; ENDBLOCK;";
-    fs::write(&rt, "least.sdl", text)?;
-    assert_eq!(rt; status(&rt, &["mtp2_play", "check", "least.sdl"])?, 0);
-    fs::write(&rt, "least.sdl", "BLOCK B;")?;
-    assert_eq!(rt; status(&rt, &["mtp2_play", "check", "least.sdl"])?, 2);
-    fs::remove_file(&rt, "least.sdl")?;
-    assert_eq!(rt; status(&rt, &["mtp2_play", "check", "least.sdl"])?, 4);
-    assert_eq!(rt; status(&rt, &["mtp2_play", "check", "stdin"])?, 2);
     Ok(())
 }

@@ -19,6 +19,12 @@ given remaining Standard = Some STANDARD.now
 given remaining Monitors = Some MONITORS.now
 given remaining (Text reader) = remaining reader
 
+-- the set is one that the caller gives as a text, and no set of the program's own
+abbrev pub IsText : {R : Type 0} → SetWord R → Type 0
+IsText Standard = ⊥
+IsText Monitors = ⊥
+IsText (Text reader) = Unit {0}
+
 -- P holds of some bytes, which are those that are given where these are known
 pub record IsGiven (known : Option (List ℕ)) (P : List ℕ → Type 0) : Type 0 where
   pub bytes : List ℕ

@@ -2,7 +2,8 @@
 ghost use Rattle.std.specs.Prelude.{◌≡◌, List, ℕ, IfOk, IfErr, IsFalse};
 ghost use Rattle.text_reader.specs.Reading.{Keeps};
 ghost use Rattle.turn_verify.specs.Loaded.{IsRefused};
-ghost use Rattle.text_check.specs.Checked.{given, IsGiven, IsRefusal, IsRefusalOf, IsSetOf, IsTooLong};
+ghost use Rattle.text_check.specs.Checked.{given, IsGiven, IsRefusal, IsRefusalOf, IsSetOf, IsText, IsTooLong};
+ghost use Rattle.text_check.specs.declared.sets.SetFault.TheVariants.{NotRead};
 
 use mtp2_text::{MONITORS, STANDARD, monitors, standard};
 use std::alloc::Global;
@@ -115,6 +116,7 @@ fn read_set<R: Read>(alloc: Global, reader: &mut R) -> Result<Verified, SetFault
 fn standard_set(alloc: Global) -> Result<Verified, SetFault>
     ensures set { IfOk result (IsSetOf STANDARD.now) }
     ensures fault { IfErr result (λ e. IsRefusal e → IsRefusalOf STANDARD.now e) }
+    ensures own { IfErr result (λ e. e ≡ NotRead → ⊥) }
 {
     match standard(alloc) {
         Ok(set) => Ok(set),
@@ -126,6 +128,7 @@ fn standard_set(alloc: Global) -> Result<Verified, SetFault>
 fn monitors_set(alloc: Global) -> Result<Verified, SetFault>
     ensures set { IfOk result (IsSetOf MONITORS.now) }
     ensures fault { IfErr result (λ e. IsRefusal e → IsRefusalOf MONITORS.now e) }
+    ensures own { IfErr result (λ e. e ≡ NotRead → ⊥) }
 {
     match monitors(alloc) {
         Ok(set) => Ok(set),
@@ -139,10 +142,11 @@ fn monitors_set(alloc: Global) -> Result<Verified, SetFault>
 /// # Errors
 ///
 /// [`SetFault::NotText`] (F1) where the bytes aren't UTF-8, [`SetFault::Load`] with what `load` says of the text, or
-/// [`SetFault::NotRead`]. Want of memory may stand in place of any answer.
+/// [`SetFault::NotRead`] where a read of the text failed, so never of the program's own sets. Want of memory may stand in place of any answer.
 pub fn load_set<R: Read + Drop>(alloc: Global, set: SetWord<R>) -> Result<Verified, SetFault>
     ensures set { IfOk result (λ v. IsGiven (given R.remaining set) (λ bytes. IsSetOf bytes v)) }
     ensures fault { IfErr result (λ e. IsRefusal e → IsGiven (given R.remaining set) (λ bytes. IsRefusalOf bytes e)) }
+    ensures read { IfErr result (λ e. e ≡ NotRead → IsText set) }
 {
     match set {
         SetWord::Standard => standard_set(alloc),
