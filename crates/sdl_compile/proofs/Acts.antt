@@ -12,7 +12,7 @@ use Rattle.turn_code.specs.declared.instruction.Instruction.{Instruction}
 use Rattle.turn_code.specs.Run as run
 use Rattle.turn_code.specs.Run.{Progress, exec, ended, got_stuck, begun}
 use Rattle.sdl_tables.specs.Names.{variables_of}
-use Rattle.sdl_rules.specs.Longest.{Piece, size, places_cost, piece_budget}
+use Rattle.sdl_sound.specs.Longest.{Piece, size, places_cost, piece_budget}
 use Rattle.sdl_compile.specs.Act.{Scope, Outcome, goes_on, over, at_end, in_trouble, then_do, act, follow, join_in, take_places, ran, Act}
 use Rattle.sdl_compile.specs.Named.{NamedPiece, IsSentTo, AnswersSenders}
 use Rattle.sdl_compile.specs.Code.{text_code, places_code, text_at, size_at, joined, add_number, numbers_once, ArePlaced, place_in, connections_code, text_place, connections_place, piece_code}

@@ -23,9 +23,9 @@ use Rattle.turn_code.specs.declared.instruction.Instruction.TheVariants as i
 use Rattle.turn_code.specs.Run as run
 use Rattle.turn_code.specs.Run.{Progress, tick, goes}
 use Rattle.sdl_tables.specs.Names.{variables_of}
-use Rattle.sdl_rules.specs.Going.{goes_on as may_go_on, choice_goes_on}
-use Rattle.sdl_rules.specs.Decisions.{has_values, has_else, is_value, names_value, times_named, answers_both, is_answered}
-use Rattle.sdl_rules.specs.Longest.{cost_of, action_cost, tests_size, size, bodies_size, jump_size}
+use Rattle.sdl_sound.specs.Going.{goes_on as may_go_on, choice_goes_on}
+use Rattle.sdl_sound.specs.Decisions.{has_values, has_else, is_value, names_value, times_named, answers_both, is_answered}
+use Rattle.sdl_sound.specs.Longest.{cost_of, action_cost, tests_size, size, bodies_size, jump_size}
 use Rattle.sdl_compile.specs.Act.{Scope, variable_at, state_at, connector_at, is_truth, Outcome, goes_on, over, then_do, value_of, perform, end_in, end_with, try_ranges, find_truth, leave, decide, act, choose, pick}
 use Rattle.sdl_compile.specs.Named.{NamedTree, NamedAction, NamedEnd, NamedDecision, NamedText, NamedChoice, IsSentTo, AnswersAction, AnswersSenders, ChoiceAnswers}
 use Rattle.sdl_compile.specs.Code.{number_or_zero, next, jump, tree_code, action_code, end_code, leave_code, body_size, range_code, ranges_code, tests_code, else_size, picked, pick_code, is_literal, names_truth, bodies_place, else_place, answers_place, after_choice, text_code, else_code, answers_code, bodies_code}

@@ -22,9 +22,9 @@ use Rattle.turn_code.specs.Values.{holds, is_between, differ}
 use Rattle.turn_code.specs.Run as run
 use Rattle.turn_code.specs.Run.{Progress, tick, goes, stuck, After, exec, go_on}
 use Rattle.sdl_tables.specs.Names.{variables_of}
-use Rattle.sdl_rules.specs.Going.{goes_on as may_go_on}
-use Rattle.sdl_rules.specs.Decisions.{has_else}
-use Rattle.sdl_rules.specs.Sorts.{is_constant, answers_truth, answers_number, answers_question}
+use Rattle.sdl_sound.specs.Going.{goes_on as may_go_on}
+use Rattle.sdl_sound.specs.Decisions.{has_else}
+use Rattle.sdl_sound.specs.Sorts.{is_constant, answers_truth, answers_number, answers_question}
 use Rattle.sdl_compile.specs.Act.{Scope, is_truth, Outcome, goes_on, over, in_trouble, then_do, relation_of, integer_in, compared, between, covers_integer, is_literal as same_literal, covers_truth, told, try_ranges, find_truth, leave, decide}
 use Rattle.sdl_compile.specs.Named.{AnswerTo}
 use Rattle.sdl_compile.specs.Code.{constant_or_zero, jump, leave_code, body_size, range_code, ranges_code, tests_code, is_literal, names_truth, picked, pick_code}

@@ -8,8 +8,8 @@ use Rattle.std.proofs.lemmas.List.Sums.{sum_by-cons}
 use Rattle.sdl_tree.specs.Plain.{Text, falls, PlainConnection}
 use Rattle.turn_code.specs.declared.instruction.Instruction.{Instruction}
 use Rattle.sdl_tables.specs.Names.{variables_of}
-use Rattle.sdl_rules.specs.Joins.{reaches, reached}
-use Rattle.sdl_rules.specs.Longest.{Piece, size, text_size, piece_size, places_cost}
+use Rattle.sdl_sound.specs.Joins.{reaches, reached}
+use Rattle.sdl_sound.specs.Longest.{Piece, size, text_size, piece_size, places_cost}
 use Rattle.sdl_compile.specs.Act.{Scope}
 use Rattle.sdl_compile.specs.Named.{NamedPiece}
 use Rattle.sdl_compile.specs.Code.{text_at, size_at, joined, add_number, numbers_once, ArePlaced, place_in, text_code, places_code, connections_code, text_place, connections_place, piece_code}

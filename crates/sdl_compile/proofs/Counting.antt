@@ -25,10 +25,10 @@ use Rattle.turn_code.specs.declared.instruction.Instruction.TheVariants as i
 use Rattle.turn_code.specs.Code.{jumps, behind, successors}
 use Rattle.turn_code.specs.Rules.{greatest}
 use Rattle.sdl_tables.specs.Names.{variables_of}
-use Rattle.sdl_rules.specs.Going.{goes_on as may_go_on, choice_goes_on}
-use Rattle.sdl_rules.specs.Decisions.{has_else, has_values, is_value, names_value, times_named, answers_both, is_answered}
-use Rattle.sdl_rules.specs.Sorts.{same_sort, literal_sort, answers_truth}
-use Rattle.sdl_rules.specs.Longest.{is_division, cost_of, action_cost, end_count, jump_size, tests_size, size, bodies_size}
+use Rattle.sdl_sound.specs.Going.{goes_on as may_go_on, choice_goes_on}
+use Rattle.sdl_sound.specs.Decisions.{has_else, has_values, is_value, names_value, times_named, answers_both, is_answered}
+use Rattle.sdl_sound.specs.Sorts.{same_sort, literal_sort, answers_truth}
+use Rattle.sdl_sound.specs.Longest.{is_division, cost_of, action_cost, end_count, jump_size, tests_size, size, bodies_size}
 use Rattle.sdl_compile.specs.Act.{Scope, variable_at, state_at, timer_at, signal_at, connector_at, is_truth, divisor_of}
 use Rattle.sdl_compile.specs.Named.{NamedText, NamedChoice}
 use Rattle.sdl_compile.specs.Code.{number_or_zero, load, store, next, set_to, reset, put, jump, unary_code, binary_code, division_code, tree_code, trees_code, tasks_code, receiver_code, sendings_code, action_code, end_code, leave_code, is_literal, names_truth, body_size, range_code, ranges_code, tests_code, else_size, pick_code, picked, bodies_place, else_place, answers_place, after_choice, text_code, else_code, answers_code, bodies_code}

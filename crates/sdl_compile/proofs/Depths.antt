@@ -21,11 +21,11 @@ use Rattle.turn_code.specs.Rules.{greatest, depths}
 use Rattle.turn_code.specs.declared.draft.PlaceFacts.{PlaceFacts}
 use Rattle.turn_code.specs.Code.{shape_after, sort_at}
 use Rattle.sdl_tables.specs.Names.{Variable, variables_of, connection_named}
-use Rattle.sdl_rules.specs.Statements.{Statement, acts, asks, covers, finishes, statements_of, choice_statements}
-use Rattle.sdl_rules.specs.Sorts.{wrong_action, wrong_statement, variable_sort}
-use Rattle.sdl_rules.specs.Going.{goes_on as may_go_on}
-use Rattle.sdl_rules.specs.Decisions.{has_else}
-use Rattle.sdl_rules.specs.Longest.{Piece, cost_of, action_cost, depth_of, action_depth, places_depth, end_count, depth, choice_depth, joined as measure_joined, piece_depth}
+use Rattle.sdl_sound.specs.Statements.{Statement, acts, asks, covers, finishes, statements_of, choice_statements}
+use Rattle.sdl_sound.specs.Sorts.{wrong_action, wrong_statement, variable_sort}
+use Rattle.sdl_sound.specs.Going.{goes_on as may_go_on}
+use Rattle.sdl_sound.specs.Decisions.{has_else}
+use Rattle.sdl_sound.specs.Longest.{Piece, cost_of, action_cost, depth_of, action_depth, places_depth, end_count, depth, choice_depth, joined as measure_joined, piece_depth}
 use Rattle.sdl_compile.specs.Act.{Scope, variable_at, connector_at, is_truth}
 use Rattle.sdl_compile.specs.Declarations.{sort_of_tree, drafted_signals, drafted_variables}
 use Rattle.sdl_compile.specs.Named.{NamedText, NamedChoice, NamedAction, NamedTree, NamedConnections, NamedPiece, AreSorted}

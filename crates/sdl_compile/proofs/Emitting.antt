@@ -14,7 +14,7 @@ use Rattle.sdl_tree.specs.Plain.{Tree, Text, falls, ends, does, decides, Choice,
 use Rattle.sdl_tree.specs.Views.{text_of, plain_statement, plain_answer, statement_of, statements_before, answers_before, else_choice, connection_of}
 use Rattle.turn_code.specs.declared.instruction.Instruction.{Instruction}
 use Rattle.sdl_tables.specs.Names.{Variable, variables_of}
-use Rattle.sdl_rules.specs.Longest.{Piece, cost_of, action_cost, size, tests_size, bodies_size}
+use Rattle.sdl_sound.specs.Longest.{Piece, cost_of, action_cost, size, tests_size, bodies_size}
 use Rattle.sdl_compile.specs.Act.{Scope, is_truth}
 use Rattle.sdl_compile.specs.Named.{NamedText, NamedChoice, NamedConnections}
 use Rattle.sdl_compile.specs.Code.{tree_code, action_code, leave_code, body_size, else_size, answers_size, tests_code, pick_code, bodies_place, else_place, answers_place, after_choice, text_code, else_code, answers_code, bodies_code, truth_code, integer_code, text_at, size_at, places_code, place_in, connections_code, text_place, connections_place, piece_code}

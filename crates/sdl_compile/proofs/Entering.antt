@@ -10,7 +10,7 @@ use Rattle.sdl_tree.specs.declared.tree.End.TheVariants.{NextState, Stop, Join}
 use Rattle.sdl_tree.specs.Plain.{Tree, Text, falls, ends, does, decides, Choice, nothing_else, otherwise, answer, PlainConnection}
 use Rattle.turn_code.specs.declared.variable_set.VariableSet.{VariableSet}
 use Rattle.turn_code.specs.Sets.{Has, IsWithin}
-use Rattle.sdl_rules.specs.Statements.{joins_of}
+use Rattle.sdl_sound.specs.Statements.{joins_of}
 use Rattle.sdl_compile.specs.Act.{Scope, connector_at, is_truth}
 use Rattle.sdl_compile.specs.Code.{number_or_zero}
 use Rattle.sdl_compile.specs.Named.{NamedText, NamedChoice}

@@ -29,13 +29,13 @@ use Rattle.turn_code.specs.Sets.{Has, IsWithin}
 use Rattle.turn_code.specs.Code.{shape_left, shape_after, set_after, jumps, behind}
 use Rattle.turn_code.specs.Transitions.{Transition}
 use Rattle.sdl_tables.specs.Names.{Variable, variables_of}
-use Rattle.sdl_rules.specs.Actions.{Origin}
-use Rattle.sdl_rules.specs.Going.{goes_on, choice_goes_on}
-use Rattle.sdl_rules.specs.Sorts.{wrong_in, wrong_action, has_sort, sort_in}
-use Rattle.sdl_rules.specs.Divisors.{bad_divisors_in, action_divisors}
-use Rattle.sdl_rules.specs.Receivers.{lost_action, doubtful_action}
-use Rattle.sdl_rules.specs.Decisions.{has_else, has_values, is_value, names_value, times_named, answers_both, is_answered}
-use Rattle.sdl_rules.specs.Longest.{Piece, cost_of, depth_of, action_cost, action_depth, action_effects, end_cost, jump_size, tests_size, size, bodies_size}
+use Rattle.sdl_sound.specs.Actions.{Origin}
+use Rattle.sdl_sound.specs.Going.{goes_on, choice_goes_on}
+use Rattle.sdl_sound.specs.Sorts.{wrong_in, wrong_action, has_sort, sort_in}
+use Rattle.sdl_sound.specs.Divisors.{bad_divisors_in, action_divisors}
+use Rattle.sdl_sound.specs.Receivers.{lost_action, doubtful_action}
+use Rattle.sdl_sound.specs.Decisions.{has_else, has_values, is_value, names_value, times_named, answers_both, is_answered}
+use Rattle.sdl_sound.specs.Longest.{Piece, cost_of, depth_of, action_cost, action_depth, action_effects, end_cost, jump_size, tests_size, size, bodies_size}
 use Rattle.sdl_compile.specs.Act.{Scope, is_truth, state_at, connector_at}
 use Rattle.sdl_compile.specs.Code.{number_or_zero, next, jump, tree_code, action_code, end_code, leave_code, body_size, range_code, ranges_code, tests_code, else_size, is_literal, names_truth, picked, pick_code, bodies_place, else_place, answers_place, after_choice, text_code, else_code, answers_code, bodies_code}
 use Rattle.sdl_compile.specs.Named.{NamedTree, NamedAction, NamedText, NamedChoice}

@@ -11,8 +11,8 @@ use Rattle.turn_code.specs.declared.input.Party.{Party}
 use Rattle.turn_code.specs.declared.instruction.Instruction.{Instruction}
 use Rattle.turn_code.specs.Run.{Progress}
 use Rattle.sdl_tables.specs.Names.{variables_of, connection_named}
-use Rattle.sdl_rules.specs.Longest.{size}
-use Rattle.sdl_rules.specs.Statements.{joins_of}
+use Rattle.sdl_sound.specs.Longest.{size}
+use Rattle.sdl_sound.specs.Statements.{joins_of}
 use Rattle.sdl_compile.specs.Act.{Scope, connector_at, Outcome, goes_on, over, act, closed, entered, follow}
 use Rattle.sdl_compile.specs.Named.{NamedConnections, NamedWhole, NamedText, IsSentTo, AnswersSenders}
 use Rattle.sdl_compile.specs.Code.{number_or_zero, text_code, text_at, code_joins, joined}

@@ -11,7 +11,7 @@ use Rattle.sdl_tree.specs.declared.tree.End.{End}
 use Rattle.sdl_tree.specs.declared.tree.End.TheVariants.{NextState, Stop, Join}
 use Rattle.sdl_tree.specs.Plain.{Tree, Text, falls, ends, does, decides, Choice, nothing_else, otherwise, answer, PlainConnection, PlainProcess}
 use Rattle.sdl_tables.specs.Names.{same_name, connection_named}
-use Rattle.sdl_rules.specs.Statements.{Statement, statements_of, choice_statements, statement_joins, joins_of}
+use Rattle.sdl_sound.specs.Statements.{Statement, statements_of, choice_statements, statement_joins, joins_of}
 use Rattle.sdl_compile.specs.Act.{Scope, connector_at, is_truth}
 use Rattle.sdl_compile.specs.Named.{NamedText, NamedChoice}
 use Rattle.sdl_compile.specs.Code.{number_or_zero, code_joins, else_joins, answers_joins, bodies_joins}

@@ -5,7 +5,7 @@ use Rattle.turn_code.specs.declared.draft.PlaceFacts.{PlaceFacts}
 use Rattle.turn_code.specs.Code.{successors}
 use Rattle.turn_code.specs.Transitions.{Transition}
 use Rattle.turn_code.specs.Rules.{greatest, depths, count_in, effects_in, KeepsCounts}
-use Rattle.sdl_rules.specs.Longest.{Piece, piece_depth}
+use Rattle.sdl_sound.specs.Longest.{Piece, piece_depth}
 use Rattle.sdl_compile.specs.Act.{Scope}
 use Rattle.sdl_compile.specs.Counts.{weight, number_at}
 use Rattle.sdl_compile.specs.declared.counts.Counted.TheVariants.{Effects}

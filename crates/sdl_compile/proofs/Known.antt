@@ -13,14 +13,15 @@ use Rattle.sdl_tree.specs.declared.tree.Range.{Range}
 use Rattle.sdl_tree.specs.Plain.{Tree, number, truth, variable, unary, binary, PlainAssignment, PlainSending, PlainAction, task, output, set_timer, reset_timer, Text, falls, ends, does, decides, Choice, nothing_else, otherwise, answer}
 use Rattle.turn_code.specs.declared.input.Party.{Party}
 use Rattle.sdl_tables.specs.Names.{same_name, is_in, number_of, variables_of, variable_names, timers_of, connector_names, states_of, signal_names, process_names}
-use Rattle.sdl_rules.specs.Statements.{Statement, finishes, statements_of, choice_statements}
-use Rattle.sdl_rules.specs.Actions.{Origin}
-use Rattle.sdl_rules.specs.Going.{goes_on, choice_goes_on}
-use Rattle.sdl_rules.specs.Decisions.{is_answered, statement_unanswered}
-use Rattle.sdl_rules.specs.Divisors.{statement_divisors}
-use Rattle.sdl_rules.specs.Sound.{unknown, tree_names, assignment_names, sending_unknown, destination_names, action_unknown, statement_unknown, trigger_names, place_names, first_place, stray_end, strays, choice_strays}
-use Rattle.sdl_rules.specs.Sorts.{wrong_in, parameter_sorts, wrong_parameter, wrong_number, wrong_sending, wrong_action, wrong_statement, wrong_answer, answers_question, range_place}
-use Rattle.sdl_rules.specs.Receivers.{arrives, answers_all, lost_sending, lost_action, lost_statement, is_doubtful, doubtful_sending, doubtful_action, doubtful_statement}
+use Rattle.sdl_sound.specs.Statements.{Statement, finishes, statements_of, choice_statements}
+use Rattle.sdl_sound.specs.Actions.{Origin}
+use Rattle.sdl_sound.specs.Going.{goes_on, choice_goes_on}
+use Rattle.sdl_sound.specs.Decisions.{is_answered, statement_unanswered}
+use Rattle.sdl_sound.specs.Divisors.{statement_divisors}
+use Rattle.sdl_sound.specs.Names.{unknown, tree_names, assignment_names, sending_unknown, destination_names, action_unknown, statement_unknown, trigger_names, place_names}
+use Rattle.sdl_sound.specs.Ends.{first_place, stray_end, strays, choice_strays}
+use Rattle.sdl_sound.specs.Sorts.{wrong_in, parameter_sorts, wrong_parameter, wrong_number, wrong_sending, wrong_action, wrong_statement, wrong_answer, answers_question, range_place}
+use Rattle.sdl_sound.specs.Receivers.{arrives, answers_all, lost_sending, lost_action, lost_statement, is_doubtful, doubtful_sending, doubtful_action, doubtful_statement}
 use Rattle.sdl_compile.specs.Act.{Scope, variable_at, to_sender}
 use Rattle.sdl_compile.specs.Named.{NamedTree, NamedTrees, NamedTasks, HasReceiver, NamedSendings, NamedAction, NamedEnd, NamedText, NamedChoice, AnswerTo, NamedPlaces, IsSentTo, AnswerAll, AnswersTo, AnswersAction, AnswersSenders, ChoiceAnswers}
 use Rattle.sdl_compile.specs.Drafts.{IsTrigger}

@@ -5,11 +5,11 @@ use Rattle.std.specs.List.{enumerate_from}
 use Rattle.sdl_tree.specs.declared.expression.Identifier.{Identifier}
 use Rattle.sdl_tree.specs.Plain.{PlainProcess, PlainBlock}
 use Rattle.sdl_tables.specs.Names.{Input, processes_of, states_of, part_inputs, of_state, inputs_of, inputs_by_state}
-use Rattle.sdl_rules.specs.Orders.{IsOrder}
-use Rattle.sdl_rules.specs.Paths.{Transition}
-use Rattle.sdl_rules.specs.Settled.{IsSettled}
-use Rattle.sdl_rules.specs.Refusals.{Sound}
-use Rattle.sdl_rules.specs.Laws.{IsTextOf, ChancesLaw}
+use Rattle.sdl_sound.specs.Orders.{IsOrder}
+use Rattle.sdl_sound.specs.Paths.{Transition}
+use Rattle.sdl_sound.specs.Settled.{IsSettled}
+use Rattle.sdl_sound.specs.Sound.{Sound}
+use Rattle.sdl_sound.specs.Laws.{IsTextOf, ChancesLaw}
 use Rattle.sdl_compile.specs.Act.{scope_of}
 use Rattle.sdl_compile.proofs.Validity.{item_of}
 use Rattle.sdl_compile.proofs.Placed.{IsInProcess, Tells}

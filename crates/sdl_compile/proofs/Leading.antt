@@ -8,7 +8,7 @@ use Rattle.sdl_tree.specs.declared.tree.Join as tree_join
 use Rattle.sdl_tree.specs.declared.tree.End.{End}
 use Rattle.sdl_tree.specs.declared.tree.End.TheVariants.{NextState, Stop, Join}
 use Rattle.sdl_tree.specs.Plain.{Tree, Text, falls, ends, does, decides, Choice, nothing_else, otherwise, answer}
-use Rattle.sdl_rules.specs.Statements.{statements_of, choice_statements, statement_joins, joins_of}
+use Rattle.sdl_sound.specs.Statements.{statements_of, choice_statements, statement_joins, joins_of}
 use Rattle.sdl_compile.proofs.Branches.{EachEnd, EachJoin, ChoiceJoin}
 use Rattle.sdl_compile.proofs.Items.{Each, each_front, each_back}
 

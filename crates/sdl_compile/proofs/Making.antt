@@ -11,8 +11,8 @@ use Rattle.turn_code.specs.Rules.{greatest, depths}
 use Rattle.turn_code.specs.declared.instruction.Instruction.{Instruction}
 use Rattle.turn_code.specs.declared.variable_set.VariableSet.{VariableSet}
 use Rattle.turn_code.specs.declared.draft.PlaceFacts.{PlaceFacts}
-use Rattle.sdl_rules.specs.Longest.{Piece, piece_budget, piece_depth, piece_effects}
-use Rattle.sdl_rules.specs.Orders.{IsOrder}
+use Rattle.sdl_sound.specs.Longest.{Piece, piece_budget, piece_depth, piece_effects}
+use Rattle.sdl_sound.specs.Orders.{IsOrder}
 use Rattle.sdl_compile.specs.Act.{Scope}
 use Rattle.sdl_compile.specs.Code.{ArePlaced, size_at, connections_place, piece_code}
 use Rattle.sdl_compile.specs.Named.{NamedPiece}

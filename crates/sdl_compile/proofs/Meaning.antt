@@ -20,9 +20,9 @@ use Rattle.turn_code.specs.Transitions.{Transition, start_of, input_of, input_at
 use Rattle.turn_code.specs.Fits.{FitsTransition, IsBrought}
 use Rattle.turn_code.specs.Run.{run}
 use Rattle.sdl_tables.specs.Names.{Input, processes_of, process_names, inputs_by_state, timers_of, number_of}
-use Rattle.sdl_rules.specs.Longest.{start_piece, input_piece}
-use Rattle.sdl_rules.specs.Receivers.{paths_of}
-use Rattle.sdl_rules.specs.Refusals.{Sound}
+use Rattle.sdl_sound.specs.Longest.{start_piece, input_piece}
+use Rattle.sdl_sound.specs.Receivers.{paths_of}
+use Rattle.sdl_sound.specs.Sound.{Sound}
 use Rattle.sdl_compile.specs.Act.{scope_of, signal_at}
 use Rattle.sdl_compile.specs.Named.{IsSentIf, IsSentTo}
 use Rattle.sdl_compile.specs.Code.{number_or_zero}

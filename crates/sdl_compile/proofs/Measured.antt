@@ -13,11 +13,11 @@ use Rattle.sdl_tree.specs.declared.tree.End.{End}
 use Rattle.sdl_tree.specs.declared.tree.End.TheVariants.{NextState, Stop, Join}
 use Rattle.sdl_tree.specs.Plain.{Tree, Text, falls, ends, does, decides, Choice, nothing_else, otherwise, answer, PlainConnection}
 use Rattle.sdl_tables.specs.Names.{Variable, variables_of, connection_named}
-use Rattle.sdl_rules.specs.Sorts.{is_truth as in_truth}
-use Rattle.sdl_rules.specs.Statements.{end_joins}
-use Rattle.sdl_rules.specs.Going.{goes_on as may_go_on, choice_goes_on}
-use Rattle.sdl_rules.specs.Decisions.{has_values, has_else, answers_both}
-use Rattle.sdl_rules.specs.Longest.{action_cost, action_depth, action_effects, cost_of, depth_of, end_cost, end_count, tests_budget, budget, case_budget, pick_budget, depth, choice_depth, effects, choice_effects, joined_by, joined as measure_joined}
+use Rattle.sdl_sound.specs.Sorts.{is_truth as in_truth}
+use Rattle.sdl_sound.specs.Statements.{end_joins}
+use Rattle.sdl_sound.specs.Going.{goes_on as may_go_on, choice_goes_on}
+use Rattle.sdl_sound.specs.Decisions.{has_values, has_else, answers_both}
+use Rattle.sdl_sound.specs.Longest.{action_cost, action_depth, action_effects, cost_of, depth_of, end_cost, end_count, tests_budget, budget, case_budget, pick_budget, depth, choice_depth, effects, choice_effects, joined_by, joined as measure_joined}
 use Rattle.sdl_compile.specs.Act.{Scope, connector_at, is_truth}
 use Rattle.sdl_compile.specs.Named.{NamedText, NamedChoice, NamedConnections}
 use Rattle.sdl_compile.specs.Code.{number_or_zero, code_joins, else_joins, answers_joins, bodies_joins, joined, text_at, ArePlaced}

@@ -9,8 +9,8 @@ use Rattle.sdl_tree.specs.Plain.{Text, falls, PlainConnection}
 use Rattle.turn_code.specs.declared.value.Sort.{Sort}
 use Rattle.turn_code.specs.declared.variable_set.VariableSet.{VariableSet}
 use Rattle.turn_code.specs.declared.draft.DraftPiece.{DraftPiece}
-use Rattle.sdl_rules.specs.Joins.{reaches, reached}
-use Rattle.sdl_rules.specs.Longest.{Piece, piece_size}
+use Rattle.sdl_sound.specs.Joins.{reaches, reached}
+use Rattle.sdl_sound.specs.Longest.{Piece, piece_size}
 use Rattle.sdl_compile.specs.Act.{Scope}
 use Rattle.sdl_compile.specs.Code.{text_at, ArePlaced}
 use Rattle.sdl_compile.specs.Named.{AnswersSenders, AnswersAll}

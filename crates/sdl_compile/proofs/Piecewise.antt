@@ -15,9 +15,9 @@ use Rattle.turn_code.specs.declared.instruction.Instruction.TheVariants as i
 use Rattle.turn_code.specs.Code.{successors}
 use Rattle.turn_code.specs.Rules.{greatest}
 use Rattle.sdl_tables.specs.Names.{Variable, variables_of}
-use Rattle.sdl_rules.specs.Going.{goes_on as may_go_on, choice_goes_on}
-use Rattle.sdl_rules.specs.Statements.{joins_of}
-use Rattle.sdl_rules.specs.Longest.{cost_of, end_cost, Piece, size, places_cost, joined as measure_joined}
+use Rattle.sdl_sound.specs.Going.{goes_on as may_go_on, choice_goes_on}
+use Rattle.sdl_sound.specs.Statements.{joins_of}
+use Rattle.sdl_sound.specs.Longest.{cost_of, end_cost, Piece, size, places_cost, joined as measure_joined}
 use Rattle.sdl_compile.specs.Act.{Scope, variable_at, connector_at}
 use Rattle.sdl_compile.specs.Named.{NamedText, NamedConnections, NamedPiece}
 use Rattle.sdl_compile.specs.Code.{number_or_zero, store, text_code, places_code, text_at, size_at, code_joins, joined, ArePlaced, place_in, connections_code, text_place, connections_place, piece_code}

@@ -33,17 +33,17 @@ use Rattle.turn_code.specs.Rules.{StartsRight, IsThere, HasTrigger, HasSaves, Ke
 use Rattle.turn_code.specs.Transitions.{Transition, parameters_of, trigger_parameters, start_of, input_of, input_at}
 use Rattle.turn_code.specs.Valid.{IsValidTransition}
 use Rattle.sdl_tables.specs.Names.{Variable, Input, same_name, number_of, variables_of, variable_names, timers_of, states_of, signals_of, signal_names, process_names, processes_of, inputs_by_state, saves_by_state}
-use Rattle.sdl_rules.specs.Longest.{Piece, piece_size, start_piece, input_piece}
-use Rattle.sdl_rules.specs.Joins.{reaches}
-use Rattle.sdl_rules.specs.Orders.{IsOrder}
-use Rattle.sdl_rules.specs.Actions.{Origin, begins, takes}
-use Rattle.sdl_rules.specs.Chances.{text_chances}
-use Rattle.sdl_rules.specs.Paths as Paths
-use Rattle.sdl_rules.specs.Paths.{sets, sets_in, initial_sets, start_transition, input_transition}
-use Rattle.sdl_rules.specs.Settled.{IsSettled}
-use Rattle.sdl_rules.specs.Sound.{place_names}
-use Rattle.sdl_rules.specs.Sorts.{same_sort, literal_sort, wrong_constant, wrong_initial, wrong_place, too_many_places, parameter_sorts}
-use Rattle.sdl_rules.specs.Receivers.{paths_of, answers}
+use Rattle.sdl_sound.specs.Longest.{Piece, piece_size, start_piece, input_piece}
+use Rattle.sdl_sound.specs.Joins.{reaches}
+use Rattle.sdl_sound.specs.Orders.{IsOrder}
+use Rattle.sdl_sound.specs.Actions.{Origin, begins, takes}
+use Rattle.sdl_sound.specs.Chances.{text_chances}
+use Rattle.sdl_sound.specs.Paths as Paths
+use Rattle.sdl_sound.specs.Paths.{sets, sets_in, initial_sets, start_transition, input_transition}
+use Rattle.sdl_sound.specs.Settled.{IsSettled}
+use Rattle.sdl_sound.specs.Names.{place_names}
+use Rattle.sdl_sound.specs.Sorts.{same_sort, literal_sort, wrong_constant, wrong_initial, wrong_place, too_many_places, parameter_sorts}
+use Rattle.sdl_sound.specs.Receivers.{paths_of, answers}
 use Rattle.sdl_compile.specs.Act.{Scope, variable_at, signal_at}
 use Rattle.sdl_compile.specs.Code.{number_or_zero}
 use Rattle.sdl_compile.specs.Named.{AreSorted, NamedText, NamedConnections, NamedPiece}

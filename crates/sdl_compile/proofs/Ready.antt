@@ -12,16 +12,17 @@ use Rattle.sdl_tree.specs.Plain.{PlainSending, PlainAction, task, output, set_ti
 use Rattle.turn_code.specs.declared.input.Party.{Party}
 use Rattle.sdl_tables.specs.Names.{is_in, Variable, Input, signal_names, process_names, variables_of, variable_names, timers_of, connector_names, states_of, clause_parts, clause_inputs, part_inputs, part_saves, given_to, of_state, by_state, is_state, input_parts, inputs_by_state, saves_by_state}
 use Rattle.sdl_tables.specs.Scopes.{repeats}
-use Rattle.sdl_rules.specs.Statements.{Statement, acts, asks, covers, finishes, statements_of}
-use Rattle.sdl_rules.specs.Actions.{Origin, begins, takes, input_origins, start_origins, joining_origins, connection_origins, in_input, in_connection, in_statements}
-use Rattle.sdl_rules.specs.Joins.{reaches}
-use Rattle.sdl_rules.specs.Orders.{IsOrder}
-use Rattle.sdl_rules.specs.Longest.{Piece, text_budget, text_size, piece_size, piece_depth, piece_effects, input_piece, pieces_of}
-use Rattle.sdl_rules.specs.Sound.{unknown, statement_unknown, trigger_names, place_names, stimulus_unknown, input_unknown, saves_unknown, process_unknown, strays, input_strays, connection_strays, process_strays}
-use Rattle.sdl_rules.specs.Sorts.{wrong_statement, wrong_stimulus, wrong_input, too_many_places, wrong_place, wrong_initial, wrong_declarations, parameter_sorts}
-use Rattle.sdl_rules.specs.Divisors.{statement_divisors}
-use Rattle.sdl_rules.specs.Decisions.{statement_unanswered}
-use Rattle.sdl_rules.specs.Receivers.{paths_of, answers, answers_origin, answers_all, arrives, lost_sending, lost_action, lost_statement, doubtful_statement}
+use Rattle.sdl_sound.specs.Statements.{Statement, acts, asks, covers, finishes, statements_of}
+use Rattle.sdl_sound.specs.Actions.{Origin, begins, takes, input_origins, start_origins, joining_origins, connection_origins, in_input, in_connection, in_statements}
+use Rattle.sdl_sound.specs.Joins.{reaches}
+use Rattle.sdl_sound.specs.Orders.{IsOrder}
+use Rattle.sdl_sound.specs.Longest.{Piece, text_budget, text_size, piece_size, piece_depth, piece_effects, input_piece, pieces_of}
+use Rattle.sdl_sound.specs.Names.{unknown, statement_unknown, trigger_names, place_names, stimulus_unknown, input_unknown, saves_unknown, process_unknown}
+use Rattle.sdl_sound.specs.Ends.{strays, input_strays, connection_strays, process_strays}
+use Rattle.sdl_sound.specs.Sorts.{wrong_statement, wrong_stimulus, wrong_input, too_many_places, wrong_place, wrong_initial, wrong_declarations, parameter_sorts}
+use Rattle.sdl_sound.specs.Divisors.{statement_divisors}
+use Rattle.sdl_sound.specs.Decisions.{statement_unanswered}
+use Rattle.sdl_sound.specs.Receivers.{paths_of, answers, answers_origin, answers_all, arrives, lost_sending, lost_action, lost_statement, doubtful_statement}
 use Rattle.sdl_compile.specs.Act.{Scope, to_sender}
 use Rattle.sdl_compile.specs.Made.{IsSmall}
 use Rattle.sdl_compile.specs.Named.{NamedWhole, NamedConnections, IsSentTo, AnswersSenders, AnswersAll}

@@ -13,10 +13,10 @@ use Rattle.sdl_tree.specs.Plain.{Text, PlainConnection, PlainProcess}
 use Rattle.turn_code.specs.declared.instruction.Instruction.{Instruction}
 use Rattle.turn_code.specs.Code.{effects_of}
 use Rattle.sdl_tables.specs.Names.{Variable, variables_of}
-use Rattle.sdl_rules.specs.Going.{goes_on as may_go_on}
-use Rattle.sdl_rules.specs.Longest.{Piece, size, budget, effects, joined as measure_joined, piece_budget, piece_effects}
-use Rattle.sdl_rules.specs.Measures.{capped, IsMeasureOf, AreMeasures}
-use Rattle.sdl_rules.specs.declared.measures.Measure.{Measure}
+use Rattle.sdl_sound.specs.Going.{goes_on as may_go_on}
+use Rattle.sdl_sound.specs.Longest.{Piece, size, budget, effects, joined as measure_joined, piece_budget, piece_effects}
+use Rattle.sdl_measures.specs.Measures.{capped, IsMeasureOf, AreMeasures}
+use Rattle.sdl_measures.specs.declared.measures.Measure.{Measure}
 use Rattle.sdl_compile.specs.declared.counts.Counted.{Counted}
 use Rattle.sdl_compile.specs.declared.counts.Counted.TheVariants.{Instructions, Effects}
 use Rattle.sdl_compile.specs.Act.{Scope, connector_at}

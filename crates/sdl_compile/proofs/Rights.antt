@@ -28,9 +28,9 @@ use Rattle.turn_code.specs.Code.{sort_at, takes, reads, sets, parameters_in, tim
 use Rattle.turn_code.specs.Transitions.{Transition}
 use Rattle.turn_code.specs.Rules.{Agree, KeepsOutput}
 use Rattle.sdl_tables.specs.Names.{Variable, variables_of}
-use Rattle.sdl_rules.specs.Sorts.{unary_sort, operand_sort, variable_sort, has_sort, sort_in, misfit, wrong_operands, wrong_in}
-use Rattle.sdl_rules.specs.Divisors.{divides, is_divisor, bad_divisor, bad_divisors_in}
-use Rattle.sdl_rules.specs.Longest.{is_division, cost_of, depth_of}
+use Rattle.sdl_sound.specs.Sorts.{unary_sort, operand_sort, variable_sort, has_sort, sort_in, misfit, wrong_operands, wrong_in}
+use Rattle.sdl_sound.specs.Divisors.{divides, is_divisor, bad_divisor, bad_divisors_in}
+use Rattle.sdl_sound.specs.Longest.{is_division, cost_of, depth_of}
 use Rattle.sdl_compile.specs.Act.{Scope, variable_at, is_truth, divisor_of}
 use Rattle.sdl_compile.specs.Code.{number_or_zero, load, store, unary_code, binary_code, division_code, tree_code, trees_code}
 use Rattle.sdl_compile.specs.Named.{NamedTree, NamedTrees}

@@ -12,7 +12,7 @@ use Rattle.turn_code.specs.declared.numbers.SignalNumber.{SignalNumber}
 use Rattle.turn_code.specs.declared.input.Party.{Party}
 use Rattle.turn_code.specs.Routes.{IsProcess, Brings}
 use Rattle.sdl_tables.specs.Names.{same_name, is_in, number_of, signal_names, process_names}
-use Rattle.sdl_rules.specs.Receivers.{same_party, party_of, brings, paths_of}
+use Rattle.sdl_sound.specs.Receivers.{same_party, party_of, brings, paths_of}
 use Rattle.sdl_compile.specs.Act.{scope_of, named, signal_at}
 use Rattle.sdl_compile.specs.Code.{number_or_zero}
 use Rattle.sdl_compile.specs.Named.{IsBroughtBy}

@@ -11,9 +11,9 @@ use Rattle.turn_code.specs.declared.variable_set.VariableSet.{VariableSet}
 use Rattle.turn_code.specs.declared.draft.DraftState.{DraftState}
 use Rattle.turn_code.specs.Sets.{Has}
 use Rattle.sdl_tables.specs.Names.{variable_names, variables_of, states_of}
-use Rattle.sdl_rules.specs.Orders.{IsOrder}
-use Rattle.sdl_rules.specs.Paths.{Event, sets_in}
-use Rattle.sdl_rules.specs.Chances.{Chances, text_chances, chances_by}
+use Rattle.sdl_sound.specs.Orders.{IsOrder}
+use Rattle.sdl_sound.specs.Paths.{Event, sets_in}
+use Rattle.sdl_sound.specs.Chances.{Chances, text_chances, chances_by}
 use Rattle.sdl_compile.specs.Act.{Scope, connector_at}
 use Rattle.sdl_compile.specs.Code.{number_or_zero}
 use Rattle.sdl_compile.specs.Named.{NamedText, NamedWhole, NamedConnections}

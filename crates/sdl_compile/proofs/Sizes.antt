@@ -11,8 +11,8 @@ use Rattle.sdl_tree.specs.declared.tree.End.TheVariants.{NextState, Stop, Join}
 use Rattle.sdl_tree.specs.Plain.{Tree, number, truth, variable, unary, binary, PlainAssignment, PlainSending, PlainAction, task, output, set_timer, reset_timer, Text, falls, ends, does, decides, Choice, nothing_else, otherwise, answer}
 use Rattle.turn_code.specs.declared.instruction.Instruction.{Instruction}
 use Rattle.sdl_tables.specs.Names.{variables_of}
-use Rattle.sdl_rules.specs.Going.{goes_on}
-use Rattle.sdl_rules.specs.Longest.{is_division, cost_of, assignment_cost, assignments_cost, sending_cost, sendings_cost, action_cost, end_cost, jump_size, tests_size, size, bodies_size, place_cost, places_cost}
+use Rattle.sdl_sound.specs.Going.{goes_on}
+use Rattle.sdl_sound.specs.Longest.{is_division, cost_of, assignment_cost, assignments_cost, sending_cost, sendings_cost, action_cost, end_cost, jump_size, tests_size, size, bodies_size, place_cost, places_cost}
 use Rattle.sdl_compile.specs.Act.{Scope, variable_at, timer_at, signal_at, is_truth, divisor_of}
 use Rattle.sdl_compile.specs.Code.{number_or_zero, store, set_to, put, jump, unary_code, binary_code, division_code, tree_code, trees_code, tasks_code, receiver_code, sendings_code, action_code, end_code, leave_code, body_size, range_code, ranges_code, tests_code, else_size, pick_code, bodies_place, else_place, answers_place, after_choice, text_code, else_code, answers_code, bodies_code, places_code, size_at, text_at, connections_code}
 

@@ -16,10 +16,10 @@ use Rattle.turn_code.specs.declared.variable_set.VariableSet.{VariableSet}
 use Rattle.turn_code.specs.declared.draft.Draft.{Draft}
 use Rattle.turn_code.specs.Transitions.{Transition}
 use Rattle.sdl_tables.specs.Names.{Variable, variables_of}
-use Rattle.sdl_rules.specs.Actions.{Origin}
-use Rattle.sdl_rules.specs.Going.{goes_on}
-use Rattle.sdl_rules.specs.Sorts.{wrong_place}
-use Rattle.sdl_rules.specs.Longest.{Piece, is_division, cost_of, action_cost, places_cost, size}
+use Rattle.sdl_sound.specs.Actions.{Origin}
+use Rattle.sdl_sound.specs.Going.{goes_on}
+use Rattle.sdl_sound.specs.Sorts.{wrong_place}
+use Rattle.sdl_sound.specs.Longest.{Piece, is_division, cost_of, action_cost, places_cost, size}
 use Rattle.sdl_compile.specs.Act.{Scope, is_truth, connector_at}
 use Rattle.sdl_compile.specs.Code.{number_or_zero, tree_code, action_code, end_code, code_joins, joined, ArePlaced, text_at, size_at, place_in, connections_place, text_place, places_code, text_code, connections_code}
 use Rattle.sdl_compile.specs.Named.{NamedText, NamedWhole, NamedConnections, NamedPiece}

@@ -15,9 +15,9 @@ use Rattle.turn_code.specs.declared.instruction.Instruction.TheVariants as i
 use Rattle.turn_code.specs.Code.{jumps, behind, successors}
 use Rattle.turn_code.specs.Rules.{greatest}
 use Rattle.sdl_tables.specs.Names.{variables_of}
-use Rattle.sdl_rules.specs.Going.{goes_on as may_go_on}
-use Rattle.sdl_rules.specs.Decisions.{has_else, has_values, answers_both, is_answered}
-use Rattle.sdl_rules.specs.Longest.{cost_of, action_cost, end_count, jump_size, tests_size, size, bodies_size}
+use Rattle.sdl_sound.specs.Going.{goes_on as may_go_on}
+use Rattle.sdl_sound.specs.Decisions.{has_else, has_values, answers_both, is_answered}
+use Rattle.sdl_sound.specs.Longest.{cost_of, action_cost, end_count, jump_size, tests_size, size, bodies_size}
 use Rattle.sdl_compile.specs.Act.{Scope, state_at, connector_at, is_truth}
 use Rattle.sdl_compile.specs.Named.{NamedText, NamedChoice}
 use Rattle.sdl_compile.specs.Code.{names_truth, number_or_zero, next, jump, tree_code, action_code, end_code, leave_code, body_size, range_code, ranges_code, tests_code, else_size, pick_code, picked, bodies_place, else_place, answers_place, after_choice, text_code, else_code, answers_code, bodies_code}

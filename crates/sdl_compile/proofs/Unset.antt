@@ -18,9 +18,9 @@ use Rattle.turn_code.specs.declared.variable_set.VariableSet.{VariableSet}
 use Rattle.turn_code.specs.declared.draft.DraftState.{DraftState}
 use Rattle.turn_code.specs.Sets.{Has, IsWithin, with_variable}
 use Rattle.sdl_tables.specs.Names.{same_name, number_of, is_state, variable_names, states_of, connection_named}
-use Rattle.sdl_rules.specs.Paths.{Event, sets, tree_events, assignment_events, sending_events, action_events, reads_first, sets_in}
-use Rattle.sdl_rules.specs.Chances.{Chances, no_chances, event_chances, behind, beside, last_chances, end_chances, chances, choice_chances, chances_by}
-use Rattle.sdl_rules.specs.Sound.{tree_names}
+use Rattle.sdl_sound.specs.Paths.{Event, sets, tree_events, assignment_events, sending_events, action_events, reads_first, sets_in}
+use Rattle.sdl_sound.specs.Chances.{Chances, no_chances, event_chances, behind, beside, last_chances, end_chances, chances, choice_chances, chances_by}
+use Rattle.sdl_sound.specs.Names.{tree_names}
 use Rattle.sdl_compile.specs.Act.{Scope, variable_at, state_at, connector_at, is_truth}
 use Rattle.sdl_compile.specs.Code.{number_or_zero}
 use Rattle.sdl_compile.specs.Named.{NamedTree, NamedAction, NamedText, NamedChoice}

@@ -14,8 +14,8 @@ use Rattle.sdl_tree.specs.Plain.{Tree, number, truth, variable, unary, binary, P
 use Rattle.turn_code.specs.declared.variable_set.VariableSet.{VariableSet}
 use Rattle.turn_code.specs.Sets.{Has, with_variable}
 use Rattle.sdl_tables.specs.Names.{same_name, is_in, number_of, variable_names}
-use Rattle.sdl_rules.specs.Paths.{Event, reads, sets, tree_events, assignment_events, sending_events, action_events, reads_first, sets_in}
-use Rattle.sdl_rules.specs.Sound.{tree_names, place_names}
+use Rattle.sdl_sound.specs.Paths.{Event, reads, sets, tree_events, assignment_events, sending_events, action_events, reads_first, sets_in}
+use Rattle.sdl_sound.specs.Names.{tree_names, place_names}
 use Rattle.sdl_compile.specs.Act.{Scope, variable_at}
 use Rattle.sdl_compile.specs.Code.{number_or_zero}
 use Rattle.sdl_compile.specs.Named.{NamedTree, NamedTrees, NamedTasks, NamedSendings, NamedAction}

@@ -19,8 +19,8 @@ use Rattle.turn_code.specs.declared.instruction.Instruction.{Instruction}
 use Rattle.turn_code.specs.declared.instruction.Instruction.TheVariants as i
 use Rattle.turn_code.specs.Code.{effects_of}
 use Rattle.sdl_tables.specs.Names.{variables_of}
-use Rattle.sdl_rules.specs.Decisions.{has_values, has_else, answers_both}
-use Rattle.sdl_rules.specs.Longest.{is_division, action_cost, action_effects, places_cost, end_cost, tests_budget, budget, case_budget, pick_budget, effects, choice_effects}
+use Rattle.sdl_sound.specs.Decisions.{has_values, has_else, answers_both}
+use Rattle.sdl_sound.specs.Longest.{is_division, action_cost, action_effects, places_cost, end_cost, tests_budget, budget, case_budget, pick_budget, effects, choice_effects}
 use Rattle.sdl_compile.specs.Act.{Scope, variable_at, timer_at, signal_at, is_truth, divisor_of}
 use Rattle.sdl_compile.specs.Named.{NamedText, NamedChoice}
 use Rattle.sdl_compile.specs.Code.{number_or_zero, store, set_to, put, unary_code, binary_code, division_code, tree_code, trees_code, tasks_code, receiver_code, sendings_code, action_code, places_code, range_code}

@@ -26,24 +26,26 @@ use Rattle.turn_code.specs.Transitions.{Transition, process_at}
 use Rattle.turn_code.specs.Valid.{IsValid, IsValidTransition}
 use Rattle.sdl_tables.specs.Names.{Input, same_name, signals_of, signal_names, route_names, routes_of, processes_of, process_names, variables_of, variable_names, timers_of, connector_names, states_of, inputs_by_state}
 use Rattle.sdl_tables.specs.Scopes.{repeats, process_scopes, scopes, signal_timers}
-use Rattle.sdl_rules.specs.Longest.{Piece, text_budget, text_size, piece_size, piece_depth, piece_effects, input_piece, pieces_of}
-use Rattle.sdl_rules.specs.Sound.{unknown, party_names, path_unknown, route_unknown, process_unknown, process_strays, exceeds, limits}
-use Rattle.sdl_rules.specs.Sorts.{wrong_statement, wrong_declarations, parameter_sorts}
-use Rattle.sdl_rules.specs.Divisors.{statement_divisors}
-use Rattle.sdl_rules.specs.Decisions.{statement_unanswered}
-use Rattle.sdl_rules.specs.Receivers.{paths_of, lost_statement, doubtful_statement}
-use Rattle.sdl_rules.specs.Actions.{in_statements}
-use Rattle.sdl_rules.specs.Orders.{IsOrder, AreOrders}
-use Rattle.sdl_rules.specs.Joins.{process_cycles}
-use Rattle.sdl_rules.specs.Laws.{BudgetLaw, ChancesLaw}
+use Rattle.sdl_sound.specs.Longest.{Piece, text_budget, text_size, piece_size, piece_depth, piece_effects, input_piece, pieces_of}
+use Rattle.sdl_sound.specs.Names.{unknown, party_names, path_unknown, route_unknown, process_unknown}
+use Rattle.sdl_sound.specs.Ends.{process_strays}
+use Rattle.sdl_sound.specs.Limits.{exceeds, limits}
+use Rattle.sdl_sound.specs.Sorts.{wrong_statement, wrong_declarations, parameter_sorts}
+use Rattle.sdl_sound.specs.Divisors.{statement_divisors}
+use Rattle.sdl_sound.specs.Decisions.{statement_unanswered}
+use Rattle.sdl_sound.specs.Receivers.{paths_of, lost_statement, doubtful_statement}
+use Rattle.sdl_sound.specs.Actions.{in_statements}
+use Rattle.sdl_sound.specs.Orders.{IsOrder, AreOrders}
+use Rattle.sdl_sound.specs.Joins.{process_cycles}
+use Rattle.sdl_sound.specs.Laws.{BudgetLaw, ChancesLaw}
 use Rattle.sdl_compile.specs.Named.{NamedPiece, AreSorted}
 use Rattle.sdl_compile.proofs.Counted.{size_is}
 use Rattle.sdl_compile.proofs.Kept.{piece_keeps}
 use Rattle.sdl_compile.proofs.Reached.{placed_reached}
 use Rattle.sdl_compile.proofs.Lawful.{lawful}
-use Rattle.sdl_rules.specs.Refusals.{Sound}
-use Rattle.sdl_rules.specs.Settled.{AreSettled}
-use Rattle.sdl_rules.specs.declared.fault.Limit.{Limit}
+use Rattle.sdl_sound.specs.Sound.{Sound}
+use Rattle.sdl_sound.specs.Settled.{AreSettled}
+use Rattle.sdl_sound.specs.declared.fault.Limit.{Limit}
 use Rattle.sdl_compile.specs.Act.{Scope, scope_of}
 use Rattle.sdl_compile.specs.Made.{IsSmall, IsPieceOf}
 use Rattle.sdl_compile.specs.Declarations.{sort_of_tree, drafted_signal, drafted_signals}

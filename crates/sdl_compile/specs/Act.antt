@@ -37,9 +37,9 @@ use Rattle.turn_code.specs.declared.trouble.Trouble.TheVariants.{Unset, WrongSor
 use Rattle.turn_code.specs.Values.{wrap, holds, is_between, differ}
 use Rattle.turn_code.specs.Run.{Progress, tick, with_variables, with_effect, sending, begun, Ran, ended, got_stuck}
 use Rattle.sdl_tables.specs.Names.{number_of, variables_of, variable_names, states_of, timers_of, connector_names, connection_named, signal_names, process_names}
-use Rattle.sdl_rules.specs.Longest.{Piece, is_division}
-use Rattle.sdl_rules.specs.Sorts.{has_sort, sort_in}
-use Rattle.sdl_rules.specs.Receivers.{party_of, receivers, carries}
+use Rattle.sdl_sound.specs.Longest.{Piece, is_division}
+use Rattle.sdl_sound.specs.Sorts.{has_sort, sort_in}
+use Rattle.sdl_sound.specs.Receivers.{party_of, receivers, carries}
 
 -- Where a transition stands: its names are those of its process and of its block, and their numbers are the places there.
 pub record Scope : Type 0 where

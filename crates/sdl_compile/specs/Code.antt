@@ -27,10 +27,10 @@ use Rattle.turn_code.specs.declared.instruction.Instruction.{Instruction}
 use Rattle.turn_code.specs.declared.instruction.Instruction.TheVariants as i
 use Rattle.turn_code.specs.Values.{wrap}
 use Rattle.sdl_tables.specs.Names.{variables_of}
-use Rattle.sdl_rules.specs.Going.{goes_on}
-use Rattle.sdl_rules.specs.Statements.{end_joins}
-use Rattle.sdl_rules.specs.Longest.{Piece, is_division, cost_of, action_cost, jump_size, tests_size, size, bodies_size, places_cost}
-use Rattle.sdl_rules.specs.Receivers.{party_of, receivers}
+use Rattle.sdl_sound.specs.Going.{goes_on}
+use Rattle.sdl_sound.specs.Statements.{end_joins}
+use Rattle.sdl_sound.specs.Longest.{Piece, is_division, cost_of, action_cost, jump_size, tests_size, size, bodies_size, places_cost}
+use Rattle.sdl_sound.specs.Receivers.{party_of, receivers}
 use Rattle.sdl_compile.specs.Act.{Scope, variable_at, state_at, timer_at, connector_at, signal_at, is_truth, divisor_of, relation_of, integer_in, numbered, the_one}
 
 -- the number of a name; its instructions are made only where it has one

@@ -2,8 +2,8 @@
 use Rattle.std.specs.Prelude.{◌≡◌, ℕ, ◌+◌, ◌<◌, ◌≤◌, if◌then◌else◌, nat_lt, List, length, map, Some, get_or, slice_get}
 use Rattle.std.specs.Option.{option_map_or}
 use Rattle.sdl_tree.specs.Plain.{PlainProcess}
-use Rattle.sdl_rules.specs.Longest.{Piece, piece_budget, piece_effects}
-use Rattle.sdl_rules.specs.declared.measures.Measure.{Measure}
+use Rattle.sdl_sound.specs.Longest.{Piece, piece_budget, piece_effects}
+use Rattle.sdl_measures.specs.declared.measures.Measure.{Measure}
 use Rattle.turn_code.specs.declared.instruction.Instruction.{Instruction}
 use Rattle.turn_code.specs.Code.{successors, effects_of}
 use Rattle.turn_code.specs.Rules.{greatest}

@@ -17,7 +17,7 @@ use Rattle.turn_code.specs.declared.draft.Trigger.{Trigger}
 use Rattle.turn_code.specs.declared.draft.Trigger.TheVariants.{Signal, Timer}
 use Rattle.turn_code.specs.Transitions.{parameters_of}
 use Rattle.sdl_tables.specs.Names.{Variable, number_of, variables_of, timers_of, signals_of, signal_names}
-use Rattle.sdl_rules.specs.Sorts.{parameter_sorts}
+use Rattle.sdl_sound.specs.Sorts.{parameter_sorts}
 use Rattle.sdl_compile.specs.Act.{Scope}
 use Rattle.sdl_compile.specs.Code.{number_or_zero}
 

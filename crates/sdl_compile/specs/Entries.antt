@@ -5,7 +5,7 @@ use Rattle.sdl_tree.specs.declared.tree.End.{End}
 use Rattle.sdl_tree.specs.declared.tree.End.TheVariants.{NextState, Stop, Join}
 use Rattle.sdl_tree.specs.Plain.{Text, falls, ends, does, decides, Choice, nothing_else, otherwise, answer, PlainConnection}
 use Rattle.turn_code.specs.declared.variable_set.VariableSet.{VariableSet}
-use Rattle.sdl_rules.specs.Longest.{Piece}
+use Rattle.sdl_sound.specs.Longest.{Piece}
 use Rattle.sdl_compile.specs.Act.{Scope, connector_at, is_truth}
 use Rattle.sdl_compile.specs.Code.{number_or_zero}
 use Rattle.sdl_compile.specs.Reads.{everything, meet, action_set, choice_left, places_set}

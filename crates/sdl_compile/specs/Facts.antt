@@ -10,8 +10,8 @@ use Rattle.turn_code.specs.declared.variable_set.VariableSet.{VariableSet}
 use Rattle.turn_code.specs.declared.instruction.Instruction.{Instruction}
 use Rattle.turn_code.specs.declared.draft.DraftSignal.{DraftSignal}
 use Rattle.turn_code.specs.declared.draft.DraftVariable.{DraftVariable}
-use Rattle.sdl_rules.specs.Going.{goes_on}
-use Rattle.sdl_rules.specs.Longest.{Piece, is_division}
+use Rattle.sdl_sound.specs.Going.{goes_on}
+use Rattle.sdl_sound.specs.Longest.{Piece, is_division}
 use Rattle.sdl_compile.specs.Act.{Scope, variable_at, is_truth}
 use Rattle.sdl_compile.specs.Code.{number_or_zero, text_at}
 use Rattle.sdl_compile.specs.Reads.{action_set, left, choice_left, places_set}

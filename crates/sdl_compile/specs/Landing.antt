@@ -6,7 +6,7 @@ use Rattle.sdl_tree.specs.Plain.{Text, Choice, nothing_else, otherwise, answer}
 use Rattle.turn_code.specs.declared.numbers.CodePlace.{CodePlace}
 use Rattle.turn_code.specs.declared.instruction.Instruction.{Instruction}
 use Rattle.turn_code.specs.declared.instruction.Instruction.TheVariants as i
-use Rattle.sdl_rules.specs.Going.{goes_on}
+use Rattle.sdl_sound.specs.Going.{goes_on}
 use Rattle.sdl_compile.specs.Act.{Scope}
 use Rattle.sdl_compile.specs.Code.{body_size, text_code, leave_code, names_truth, ranges_code}
 

@@ -6,8 +6,8 @@ use Rattle.turn_code.specs.declared.instruction.Instruction.{Instruction}
 use Rattle.turn_code.specs.declared.draft.Cert.{Cert}
 use Rattle.turn_code.specs.declared.draft.DraftPiece.{DraftPiece}
 use Rattle.turn_code.specs.declared.draft.PlaceFacts.{PlaceFacts}
-use Rattle.sdl_rules.specs.Orders.{IsOrder}
-use Rattle.sdl_rules.specs.Longest.{Piece, piece_budget, piece_depth, piece_effects, piece_size}
+use Rattle.sdl_sound.specs.Orders.{IsOrder}
+use Rattle.sdl_sound.specs.Longest.{Piece, piece_budget, piece_depth, piece_effects, piece_size}
 use Rattle.sdl_compile.specs.Act.{Scope}
 use Rattle.sdl_compile.specs.Code.{ArePlaced, piece_code}
 use Rattle.sdl_compile.specs.Declarations.{drafted_signals, drafted_variables}

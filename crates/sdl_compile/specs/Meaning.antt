@@ -11,8 +11,8 @@ use Rattle.turn_code.specs.Fits.{FitsTransition}
 use Rattle.turn_code.specs.Run.{Ran, run}
 use Rattle.sdl_tables.specs.Names as names
 use Rattle.sdl_tables.specs.Names.{processes_of, inputs_by_state}
-use Rattle.sdl_rules.specs.Longest.{Piece, start_piece, input_piece}
-use Rattle.sdl_rules.specs.Refusals.{Sound}
+use Rattle.sdl_sound.specs.Longest.{Piece, start_piece, input_piece}
+use Rattle.sdl_sound.specs.Sound.{Sound}
 use Rattle.sdl_compile.specs.Act.{Act, scope_of}
 use Rattle.sdl_compile.specs.Blocks.{MatchesBlock}
 

@@ -8,8 +8,8 @@ use Rattle.turn_code.specs.declared.draft.Draft.{Draft}
 use Rattle.turn_code.specs.Transitions.{Transition, transition_at}
 use Rattle.turn_code.specs.Outcome.{Outcome, outcome_in, Meaning, Means}
 use Rattle.sdl_tables.specs.Names.{processes_of}
-use Rattle.sdl_rules.specs.Longest.{Piece}
-use Rattle.sdl_rules.specs.Refusals.{Sound}
+use Rattle.sdl_sound.specs.Longest.{Piece}
+use Rattle.sdl_sound.specs.Sound.{Sound}
 use Rattle.sdl_compile.specs.Act.{Scope, Act, scope_of}
 use Rattle.sdl_compile.specs.Made.{IsLongestOf}
 use Rattle.sdl_compile.specs.Blocks.{MatchesBlock}

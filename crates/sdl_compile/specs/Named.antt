@@ -12,13 +12,13 @@ use Rattle.sdl_tree.specs.Plain.{Tree, number, truth, variable, unary, binary, P
 use Rattle.turn_code.specs.declared.input.Party.{Party}
 use Rattle.std.specs.List.{flat_map}
 use Rattle.sdl_tables.specs.Names.{variables_of}
-use Rattle.sdl_rules.specs.Statements.{statements_of, joins_of}
-use Rattle.sdl_rules.specs.Going.{goes_on, choice_goes_on}
-use Rattle.sdl_rules.specs.Sorts.{answers_question, wrong_statement}
-use Rattle.sdl_rules.specs.Decisions.{is_answered}
-use Rattle.sdl_rules.specs.Joins.{reached}
-use Rattle.sdl_rules.specs.Longest.{Piece}
-use Rattle.sdl_rules.specs.Receivers.{party_of, carries}
+use Rattle.sdl_sound.specs.Statements.{statements_of, joins_of}
+use Rattle.sdl_sound.specs.Going.{goes_on, choice_goes_on}
+use Rattle.sdl_sound.specs.Sorts.{answers_question, wrong_statement}
+use Rattle.sdl_sound.specs.Decisions.{is_answered}
+use Rattle.sdl_sound.specs.Joins.{reached}
+use Rattle.sdl_sound.specs.Longest.{Piece}
+use Rattle.sdl_sound.specs.Receivers.{party_of, carries}
 use Rattle.sdl_compile.specs.Act.{Scope, variable_at, state_at, timer_at, connector_at, signal_at, named, to_sender, receiver_of}
 
 abbrev pub NamedTree : Scope → Tree → Type 0

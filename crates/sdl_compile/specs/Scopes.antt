@@ -5,7 +5,7 @@ use Rattle.sdl_tree.specs.declared.tree.Transition.{Transition}
 use Rattle.sdl_tree.specs.declared.tree.Decision.{Decision, out-Decision}
 use Rattle.sdl_tree.specs.Plain.{Tree}
 use Rattle.sdl_tree.specs.Views.{tree_of, text_of, block_of, process_of}
-use Rattle.sdl_rules.specs.Longest.{Piece}
+use Rattle.sdl_sound.specs.Longest.{Piece}
 use Rattle.sdl_compile.specs.declared.names.Names.{Names}
 use Rattle.sdl_compile.specs.Act.{Scope, scope_of}
 use Rattle.sdl_compile.specs.Named.{NamedText}

@@ -3,9 +3,9 @@ use Rattle.std.specs.Prelude.{◌≡◌, ℕ, ◌≤◌, List, [], ◌∷◌, le
 use Rattle.sdl_tree.specs.Views.{block_of, process_of}
 use Rattle.turn_code.specs.declared.value.Sort.{Sort}
 use Rattle.turn_code.specs.declared.draft.PlaceFacts.{PlaceFacts}
-use Rattle.sdl_rules.specs.Longest.{Piece}
-use Rattle.sdl_rules.specs.Orders.{IsOrder}
-use Rattle.sdl_rules.specs.Measures.{AreMeasures}
+use Rattle.sdl_sound.specs.Longest.{Piece}
+use Rattle.sdl_sound.specs.Orders.{IsOrder}
+use Rattle.sdl_measures.specs.Measures.{AreMeasures}
 use Rattle.sdl_compile.specs.Named.{AreSorted, NamedPiece}
 use Rattle.sdl_compile.specs.declared.piece.Setting.{Setting}
 use Rattle.sdl_compile.specs.Act.{Scope}

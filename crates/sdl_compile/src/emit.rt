@@ -3,7 +3,7 @@ ghost use Rattle.std.specs.Prelude.{◌≡◌, [], ◌∷◌, ◌++◌, OnOk, If
 ghost use Rattle.turn_code.specs.Values.{wrap};
 ghost use Rattle.sdl_tree.specs.Views.{tree_of, assignment_of, sending_of, action_of};
 ghost use Rattle.sdl_tree.specs.declared.expression.BinaryOperator.TheVariants.{Equal as EqualSign, NotEqual as NotEqualSign};
-ghost use Rattle.sdl_rules.specs.Longest.{is_division};
+ghost use Rattle.sdl_sound.specs.Longest.{is_division};
 ghost use Rattle.sdl_compile.specs.Scopes.{scope_in};
 ghost use Rattle.sdl_compile.specs.Act.{divisor_of};
 ghost use Rattle.sdl_compile.specs.Named.{NamedTree, NamedTrees, NamedTasks, NamedSending, NamedSendings, NamedAction, NamedPlaces};

@@ -3,7 +3,7 @@
 ghost use Rattle.std.specs.Prelude.{◌≡◌, ◌+◌, ◌≤◌, ◌++◌, ◌&&◌, drop, length, replicate, slice_set, OnOk};
 ghost use Rattle.std.specs.List.{list_any};
 ghost use Rattle.sdl_tree.specs.Views.{choice_of};
-ghost use Rattle.sdl_rules.specs.Longest.{tests_size};
+ghost use Rattle.sdl_sound.specs.Longest.{tests_size};
 ghost use Rattle.turn_code.specs.declared.instruction.Instruction.TheVariants.{Drop as DropCode};
 ghost use Rattle.sdl_compile.specs.Code.{is_literal, names_truth};
 ghost use Rattle.sdl_compile.specs.Landing.{landed, filled, first_or, has_any, picked_by};

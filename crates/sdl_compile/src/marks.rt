@@ -2,8 +2,8 @@
 ghost use Rattle.std.specs.Prelude.{◌≡◌, ◌<◌, [], ◌∷◌, ◌++◌, ◌&&◌, ◌||◌, true, OnOk, IfOk, map};
 ghost use Rattle.sdl_tree.specs.Plain.{Text, falls};
 ghost use Rattle.sdl_tree.specs.Views.{tree_of, assignment_of, sending_of, action_of, text_of, statement_of, choice_of, else_choice, connection_of};
-ghost use Rattle.sdl_rules.specs.Longest.{is_division};
-ghost use Rattle.sdl_rules.specs.Going.{goes_on, choice_goes_on};
+ghost use Rattle.sdl_sound.specs.Longest.{is_division};
+ghost use Rattle.sdl_sound.specs.Going.{goes_on, choice_goes_on};
 ghost use Rattle.sdl_tree.specs.declared.tree.Decision.{out-Decision};
 ghost use Rattle.sdl_compile.specs.Scopes.{scope_in, piece_in, question_in, NamedElse};
 ghost use Rattle.sdl_compile.specs.Act.{is_truth};

@@ -1,7 +1,7 @@
 //! The names that a transition may use, with their numbers, and who gets what it sends.
 ghost use Rattle.std.specs.Prelude.{◌≡◌, ◌≤◌, length, IsSome};
 ghost use Rattle.sdl_tree.specs.Views.{tree_of, block_of, process_of};
-ghost use Rattle.sdl_rules.specs.Receivers.{party_of, receivers};
+ghost use Rattle.sdl_sound.specs.Receivers.{party_of, receivers};
 ghost use Rattle.sdl_tables.specs.Names.{variable_names, states_of, timers_of, signal_names, process_names};
 ghost use Rattle.sdl_compile.specs.Act.{variable_at, state_at, timer_at, connector_at, signal_at, is_truth, numbered, the_one};
 ghost use Rattle.sdl_compile.specs.Named.{HasReceiver};

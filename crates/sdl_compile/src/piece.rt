@@ -4,7 +4,7 @@ ghost use Rattle.sdl_tree.specs.declared.expression.Identifier as tree_identifie
 ghost use Rattle.sdl_tree.specs.Views.{text_of};
 ghost use Rattle.sdl_compile.specs.Scopes.{scope_in, piece_in};
 ghost use Rattle.sdl_compile.specs.Named.{NamedPiece, AnswersAll};
-ghost use Rattle.sdl_rules.specs.Longest.{places_cost};
+ghost use Rattle.sdl_sound.specs.Longest.{places_cost};
 ghost use Rattle.sdl_compile.specs.Drafts.{Means};
 ghost use Rattle.sdl_compile.specs.Made.{IsPieceOf};
 ghost use Rattle.sdl_compile.specs.Settings.{IsSetting, IsReadyPiece, count_from, effects_from};

@@ -4,8 +4,8 @@ ghost use Rattle.std.specs.Prelude.{◌≡◌, ◌+◌, ◌≤◌, ◌++◌, ◌
 ghost use Rattle.sdl_tree.specs.Plain.{Text, falls};
 ghost use Rattle.sdl_tree.specs.Views.{text_of, statement_of, decision_of, choice_of};
 ghost use Rattle.sdl_tables.specs.Names.{variables_of};
-ghost use Rattle.sdl_rules.specs.Longest.{size};
-ghost use Rattle.sdl_rules.specs.Going.{goes_on, choice_goes_on};
+ghost use Rattle.sdl_sound.specs.Longest.{size};
+ghost use Rattle.sdl_sound.specs.Going.{goes_on, choice_goes_on};
 ghost use Rattle.sdl_compile.specs.Act.{relation_of, integer_in};
 ghost use Rattle.sdl_compile.specs.Scopes.{scope_in, places_by, question_in, piece_in};
 ghost use Rattle.sdl_compile.specs.Named.{NamedEnd, NamedText, NamedChoice, NamedPiece};

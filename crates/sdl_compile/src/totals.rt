@@ -3,7 +3,7 @@ ghost use Rattle.std.specs.Prelude.{◌≡◌, ℕ, ◌<◌, ◌≤◌, length a
 ghost use Rattle.sdl_tree.specs.Views.{text_of};
 ghost use Rattle.sdl_compile.specs.declared.counts.Counted.TheVariants.{Instructions, Effects};
 ghost use Rattle.sdl_compile.specs.Counts.{weight, number_at, AreCounts, AreWithin, measured, piece_count};
-ghost use Rattle.sdl_rules.specs.Longest.{piece_budget, piece_effects};
+ghost use Rattle.sdl_sound.specs.Longest.{piece_budget, piece_effects};
 ghost use Rattle.sdl_compile.specs.Code.{ArePlaced, place_in, connections_place, piece_code};
 ghost use Rattle.sdl_compile.specs.Scopes.{scope_in, piece_in, places_by};
 ghost use Rattle.sdl_compile.specs.Settings.{IsSetting, IsReadyPiece};

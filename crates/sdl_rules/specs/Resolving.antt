@@ -1,10 +1,10 @@
 -- What a resolved block keeps.
 use Rattle.sdl_tree.specs.Views.{block_of}
 use Rattle.sdl_tables.specs.Names.{processes_of}
-use Rattle.sdl_rules.specs.Measures.{AllMeasures}
-use Rattle.sdl_rules.specs.Orders.{AreOrders}
-use Rattle.sdl_rules.specs.Refusals.{Sound}
-use Rattle.sdl_rules.specs.Surveys.{AllSettled}
+use Rattle.sdl_measures.specs.Measures.{AllMeasures}
+use Rattle.sdl_sound.specs.Orders.{AreOrders}
+use Rattle.sdl_sound.specs.Sound.{Sound}
+use Rattle.sdl_unset.specs.Surveys.{AllSettled}
 use Rattle.sdl_rules.specs.declared.resolved.Resolved.TheInside.{Inside}
 
 -- it is sound, and the sets, the orders and what is measured are those of its processes

@@ -2,21 +2,22 @@
 ghost use Rattle.std.specs.Prelude.{◌≡◌, List, map, IfOk, IfErr};
 ghost use Rattle.sdl_tree.specs.Views.{signal_of, route_of, process_of, block_of};
 ghost use Rattle.sdl_tables.specs.Names.{signal_names, signals_of, process_names, processes_of, routes_of};
-ghost use Rattle.sdl_rules.specs.Orders.{AreOrders};
-ghost use Rattle.sdl_rules.specs.Measures.{AllMeasures};
-ghost use Rattle.sdl_rules.specs.Surveys.{AllSettled};
-ghost use Rattle.sdl_rules.specs.Refusals.{Sound, IsDistinct, IsSingle, IsJoined, IsDivided, IsWithin, Refuses};
+ghost use Rattle.sdl_sound.specs.Orders.{AreOrders};
+ghost use Rattle.sdl_measures.specs.Measures.{AllMeasures};
+ghost use Rattle.sdl_unset.specs.Surveys.{AllSettled};
+ghost use Rattle.sdl_sound.specs.Sound.{Sound};
+ghost use Rattle.sdl_sound.specs.Refusals.{IsDistinct, IsSingle, IsJoined, IsDivided, IsWithin, Refuses};
 
-use crate::checks::stray_end;
-use crate::fault::RuleFault;
-use crate::limits::first_limit;
-use crate::lost::lost_output;
-use crate::measures::{Measure, measure_all};
-use crate::order::find_orders;
-use crate::settled::{Unset, settle};
-use crate::statements::{bad_divisor, doubtful_output, missing_answer, unknown_name, wrong_sort};
+use sdl_joins::find_orders;
+use sdl_measures::{Measure, first_limit, measure_all};
+use sdl_scopes::stray_end;
+use sdl_sound::RuleFault;
+use sdl_statements::{
+    bad_divisor, doubtful_output, lost_output, missing_answer, unknown_name, wrong_sort,
+};
 use sdl_tables::{BlockTable, NameTable, ProcessTable};
 use sdl_tree::{Block, Route, SignalDeclaration};
+use sdl_unset::{Unset, settle};
 use std::alloc::Global;
 use std::marker::Model;
 

@@ -5,11 +5,12 @@ use Rattle.std.proofs.lemmas.List.Elements.{All-contains}
 use Rattle.sdl_lex.specs.declared.lexemes.Token.{Token}
 use Rattle.sdl_tree.specs.Plain.{PlainBlock}
 use Rattle.sdl_tables.specs.Names.{processes_of}
-use Rattle.sdl_rules.specs.Paths.{NeverReadsUnset}
-use Rattle.sdl_rules.specs.Refusals.{Sound, Refuses}
-use Rattle.sdl_rules.specs.declared.fault.Limit.{Limit as limit}
-use Rattle.sdl_rules.specs.declared.fault.RuleFault.{RuleFault}
-use Rattle.sdl_rules.specs.declared.fault.RuleFault.TheVariants.{DoubleName, UnknownName, WrongSort, NoState, NoReceiver, TwoReceivers, JoinCycle, NoAnswer, BadDivisor, Limit, Unset, NoMemory}
+use Rattle.sdl_sound.specs.Paths.{NeverReadsUnset}
+use Rattle.sdl_sound.specs.Sound.{Sound}
+use Rattle.sdl_sound.specs.Refusals.{Refuses}
+use Rattle.sdl_sound.specs.declared.fault.Limit.{Limit as limit}
+use Rattle.sdl_sound.specs.declared.fault.RuleFault.{RuleFault}
+use Rattle.sdl_sound.specs.declared.fault.RuleFault.TheVariants.{DoubleName, UnknownName, WrongSort, NoState, NoReceiver, TwoReceivers, JoinCycle, NoAnswer, BadDivisor, Limit, Unset, NoMemory}
 use Rattle.turn_verify.specs.Loaded.{Gives, IsRead, IsRefused}
 use Rattle.turn_verify.specs.declared.loading.LoadFault.{LoadFault}
 use Rattle.turn_verify.specs.declared.loading.LoadFault.TheVariants as loading

@@ -10,9 +10,10 @@ use Rattle.sdl_tree.specs.Heights as heights
 use Rattle.sdl_tree.specs.Limits.{GREATEST_HEIGHT}
 use Rattle.sdl_tree.specs.declared.fault.ParseFault.{ParseFault}
 use Rattle.sdl_tree.specs.declared.fault.ParseFault.TheVariants as parsing
-use Rattle.sdl_rules.specs.Refusals.{Sound, Refuses}
-use Rattle.sdl_rules.specs.declared.fault.RuleFault.{RuleFault}
-use Rattle.sdl_rules.specs.declared.fault.RuleFault.TheVariants as rules
+use Rattle.sdl_sound.specs.Sound.{Sound}
+use Rattle.sdl_sound.specs.Refusals.{Refuses}
+use Rattle.sdl_sound.specs.declared.fault.RuleFault.{RuleFault}
+use Rattle.sdl_sound.specs.declared.fault.RuleFault.TheVariants as rules
 use Rattle.sdl_compile.specs.Blocks.{MatchesBlock}
 use Rattle.sdl_compile.specs.Meaning.{RunsAsMeant}
 use Rattle.turn_code.specs.declared.draft.Draft.{Draft}

@@ -3,7 +3,7 @@ use Rattle.std.specs.Prelude.{ℕ, List, [], ◌++◌, Option, None, Some, codes
 use Rattle.std.specs.Fmt.{decimal}
 use Rattle.sdl_lex.specs.Printed as lexis
 use Rattle.sdl_tree.specs.Printed as parser
-use Rattle.sdl_rules.specs.Printed as rules
+use Rattle.sdl_sound.specs.Printed as rules
 use Rattle.turn_verify.specs.declared.loading.LoadFault.{LoadFault}
 use Rattle.turn_verify.specs.declared.loading.LoadFault.TheVariants.{Lex, Parse, Rule, NoMemory}
 

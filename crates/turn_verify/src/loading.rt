@@ -5,7 +5,7 @@ ghost use Rattle.sdl_lex.specs.Lexed as lexis;
 ghost use Rattle.sdl_lex.specs.declared.lexemes.Token as lexeme;
 ghost use Rattle.sdl_tree.specs.Plain.{PlainBlock};
 ghost use Rattle.sdl_tree.specs.Views.{block_of};
-ghost use Rattle.sdl_rules.specs.Refusals.{Sound};
+ghost use Rattle.sdl_sound.specs.Sound.{Sound};
 ghost use Rattle.sdl_compile.specs.Blocks.{MatchesBlock};
 ghost use Rattle.sdl_compile.specs.Meaning.{RunsAsMeant};
 ghost use Rattle.sdl_compile.specs.Meant.{IsSetOf};

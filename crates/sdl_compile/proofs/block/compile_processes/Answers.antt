@@ -2,9 +2,9 @@ use Rattle.std.proofs.Common.{subst, sym, ap, ◌∙◌, arith, add-one}
 use Rattle.sdl_tree.specs.declared.tree.Process as the_process
 use Rattle.sdl_tree.specs.Views.{block_of, process_of}
 use Rattle.sdl_tables.specs.Names.{processes_of}
-use Rattle.sdl_rules.specs.Settled.{AreSettled}
-use Rattle.sdl_rules.specs.Orders.{IsOrder}
-use Rattle.sdl_rules.specs.Measures.{AreMeasures}
+use Rattle.sdl_sound.specs.Settled.{AreSettled}
+use Rattle.sdl_sound.specs.Orders.{IsOrder}
+use Rattle.sdl_measures.specs.Measures.{AreMeasures}
 use Rattle.sdl_compile.specs.Act.{scope_of}
 use Rattle.sdl_compile.specs.Drafts.{IsReadyProcess, MatchesProcess, IsProcessOf}
 use Rattle.sdl_compile.proofs.Zips.{zip_more}

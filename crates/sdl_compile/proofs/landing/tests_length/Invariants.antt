@@ -1,7 +1,7 @@
 use Rattle.std.proofs.Common.{◌≡◌, ◌+◌, drop}
 use Rattle.sdl_tree.specs.declared.tree.Decision.{out-Decision}
 use Rattle.sdl_tree.specs.Views.{choice_of, answers_before, else_choice}
-use Rattle.sdl_rules.specs.Longest.{tests_size}
+use Rattle.sdl_sound.specs.Longest.{tests_size}
 use Rattle.sdl_compile.proofs.landing.tests_length.Given as goal
 
 abbrev pub invariant-loop-answer : goal.invariant-loop-answer

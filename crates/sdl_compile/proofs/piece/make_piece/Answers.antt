@@ -2,7 +2,7 @@ use Rattle.std.proofs.Common.{◌≡◌, length, ap, sym, ◌∙◌, subst, arit
 use Rattle.std.specs.List.{sum_by}
 use Rattle.sdl_tree.specs.Views.{text_of}
 use Rattle.sdl_tables.specs.Names.{variables_of}
-use Rattle.sdl_rules.specs.Longest.{size}
+use Rattle.sdl_sound.specs.Longest.{size}
 use Rattle.sdl_compile.specs.Scopes.{scope_in, piece_in}
 use Rattle.sdl_compile.specs.Code.{size_at, connections_place, piece_code}
 use Rattle.turn_code.specs.Rules.{greatest, depths}

@@ -1,5 +1,5 @@
 use Rattle.std.proofs.Common.{◌≡◌, ◌≤◌, ◌+◌, ◌*◌, drop}
-use Rattle.sdl_rules.specs.Longest.{places_cost}
+use Rattle.sdl_sound.specs.Longest.{places_cost}
 use Rattle.sdl_compile.proofs.piece.places_length.Given as goal
 
 abbrev pub invariant-loop-place : goal.invariant-loop-place

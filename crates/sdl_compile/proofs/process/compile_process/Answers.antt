@@ -5,7 +5,7 @@ use Rattle.sdl_tree.specs.declared.tree.Process.{Process}
 use Rattle.sdl_tree.specs.Views.{block_of, process_of, text_of}
 use Rattle.turn_code.specs.declared.draft.DraftState.{DraftState}
 use Rattle.sdl_tables.specs.Names.{Input, states_of, inputs_by_state, saves_by_state}
-use Rattle.sdl_rules.specs.Longest.{Piece, start_piece}
+use Rattle.sdl_sound.specs.Longest.{Piece, start_piece}
 use Rattle.sdl_compile.specs.Act.{Scope, scope_of}
 use Rattle.sdl_compile.specs.Declarations.{drafted}
 use Rattle.sdl_compile.specs.Drafts.{IsNamedAs, SavesAll, AreInputsOf, Means}

@@ -2,8 +2,8 @@ use Rattle.std.proofs.Common.{◌≡◌, ◌+◌, ◌≤◌, ◌++◌, ◌&&◌,
 use Rattle.sdl_tree.specs.declared.tree.Decision.{out-Decision}
 use Rattle.sdl_tree.specs.Views.{text_of, choice_of, statements_before, answers_before, else_choice, end_text}
 use Rattle.sdl_tables.specs.Names.{variables_of}
-use Rattle.sdl_rules.specs.Going.{goes_on}
-use Rattle.sdl_rules.specs.Longest.{size}
+use Rattle.sdl_sound.specs.Going.{goes_on}
+use Rattle.sdl_sound.specs.Longest.{size}
 use Rattle.sdl_compile.specs.Scopes.{scope_in, places_by, question_in}
 use Rattle.sdl_compile.specs.Named.{NamedText, NamedChoice}
 use Rattle.sdl_compile.specs.Code.{text_code, answers_code, answers_size}

@@ -1,0 +1,6 @@
+pub mod Connectors
+pub mod Joining
+pub mod Marking
+pub mod Ordering
+pub mod Returning
+pub mod Ways

@@ -1,0 +1,6 @@
+use Rattle.sdl_tree.specs.Views.{process_of}
+use Rattle.sdl_joins.proofs.Connectors.{distinct_connectors}
+use Rattle.sdl_joins.proofs.joins.find_links.Goals as goal
+
+pub returns-clause-distinct : goal.returns-clause-distinct
+returns-clause-distinct c = distinct_connectors (process_of c.args.process.now) c.process.ensures.distinct

@@ -1,0 +1,3 @@
+pub mod JoinLists
+pub mod Links
+pub mod Searched

@@ -1,0 +1,5 @@
+pub mod Budgets
+pub mod Joined
+pub mod Measuring
+pub mod Passing
+pub mod Texts

@@ -1,0 +1,8 @@
+use Rattle.std.proofs.Common.{◌≡◌, map, take, min}
+use Rattle.sdl_tree.specs.Views.{assignment_of}
+use Rattle.sdl_sound.specs.Longest.{assignments_cost}
+use Rattle.sdl_measures.proofs.counts.assignments_cost.Given as goal
+
+abbrev pub invariant-loop-assignment : goal.invariant-loop-assignment
+invariant-loop-assignment l =
+    l.total ≡ min (assignments_cost (map assignment_of (take l.assignment-index l.assignments))) 4294967295

@@ -1,0 +1,9 @@
+use Rattle.std.proofs.Common.{◌≡◌, map, take, nat_lt, length}
+use Rattle.std.specs.List.{list_any}
+use Rattle.sdl_tree.specs.Views.{process_of}
+use Rattle.sdl_tables.specs.Names.{states_of}
+use Rattle.sdl_measures.proofs.limits.has_many_states.Given as goal
+
+abbrev pub invariant-loop-table : goal.invariant-loop-table
+invariant-loop-table l =
+    l.any ≡ list_any (λ p. nat_lt 64 (length (states_of p))) (map process_of (take l.table-index l.tables))

@@ -1,0 +1,317 @@
+//! The limits: how long and how deep transitions are, and how many of everything there are.
+ghost use Rattle.std.specs.Prelude.{◌≡◌, ◌++◌, ◌∷◌, [], ℕ, List, map, min, nat_lt, length, sum_by, find, IfOk};
+ghost use Rattle.std.specs.List.{flat_map, list_any};
+ghost use Rattle.sdl_tree.specs.Views.{text_of, process_of, block_of, signal_of};
+ghost use Rattle.sdl_tables.specs.Names.{connector_names, processes_of, signals_of, states_of, variables_of, timers_of};
+ghost use Rattle.sdl_tables.specs.Rows.{row_input, rows_inputs};
+ghost use Rattle.sdl_tables.specs.Scopes.{repeats};
+ghost use Rattle.sdl_joins.specs.Links.{graph_in, IsGraph};
+ghost use Rattle.sdl_sound.specs.Orders.{links_of};
+ghost use Rattle.sdl_sound.specs.Longest.{Piece, pieces_of, input_piece};
+ghost use Rattle.sdl_measures.specs.Measures.{capped, AreMeasures, AllMeasures};
+ghost use Rattle.sdl_measures.specs.Rows.{marked_size, IsPassed, ArePassed, AllPassed, IsEither};
+ghost use Rattle.sdl_tree.specs.Plain.{PlainBlock};
+ghost use Rattle.sdl_measures.specs.Counting.{measure_at};
+ghost use Rattle.sdl_sound.specs.Limits.{exceeds, number_limits, transition_limits, first_limit};
+
+use crate::counts::{places_cost, places_depth};
+use crate::measures::{Measure, NOTHING, measure_transition};
+use sdl_joins::{find_links, reached_in};
+use sdl_sound::Limit;
+use sdl_tables::{BlockTable, InputRow, ProcessTable};
+use sdl_tree::{Identifier, SignalDeclaration, Transition};
+use std::alloc::{AllocError, Global};
+
+/// Whether a transition is too long or too deep, or has too many effects.
+#[derive(Clone, Copy, Debug)]
+struct Passed {
+    size: bool,
+    depth: bool,
+    effects: bool,
+}
+
+const NONE_PASSED: Passed = Passed {
+    size: false,
+    depth: false,
+    effects: false,
+};
+
+/// What one transition passes, or another.
+fn either(one: Passed, other: Passed) -> Passed
+    ensures { IsEither one other result }
+{
+    Passed {
+        size: one.size || other.size,
+        depth: one.depth || other.depth,
+        effects: one.effects || other.effects,
+    }
+}
+
+/// The sizes of the marked connections.
+fn marked_size(marks: &[bool], measures: &[Measure]) -> u32
+    ensures { result ≡ capped (marked_size marks.now measures.now) }
+{
+    let mut total: u32 = 0;
+    for (number, mark) in marks.iter().enumerate() {
+        if *mark {
+            total = total.saturating_add(size_at(measures, number));
+        }
+    }
+    total
+}
+
+fn size_at(measures: &[Measure], number: usize) -> u32
+    ensures { result ≡ (measure_at measures.now number).size }
+{
+    match measures.get(number) {
+        None => 0,
+        Some(measure) => measure.size,
+    }
+}
+
+/// A transition, with the places that come before it.
+fn pass_piece(
+    alloc: Global,
+    process: &ProcessTable,
+    links: &[Vec<usize>],
+    measures: &[Measure],
+    places: &[Option<Identifier>],
+    transition: &Transition,
+) -> Result<Passed, AllocError>
+    requires links { graph_in links.now ≡ links_of (process_of process.now) }
+    requires graph { IsGraph (graph_in links.now) }
+    requires distinct { repeats [] (connector_names (process_of process.now)) ≡ [] }
+    requires measures { AreMeasures (process_of process.now) measures.now }
+    ensures { IfOk result (IsPassed (process_of process.now) (record { places = places.now; text = text_of transition.now })) }
+{
+    let marks = reached_in(alloc, process, links, transition)?;
+    let own = measure_transition(process, measures, transition, NOTHING);
+    let size = own.size.saturating_add(marked_size(&marks, measures));
+    Ok(Passed {
+        size: places_cost(places).saturating_add(size) > 512,
+        depth: places_depth(places).max(own.depth) > 16,
+        effects: own.effects > 32,
+    })
+}
+
+/// One input more, unless a transition was too long: that is named first, whatever the others are.
+fn pass_row(
+    alloc: Global,
+    process: &ProcessTable,
+    links: &[Vec<usize>],
+    measures: &[Measure],
+    passed: Passed,
+    row: &InputRow,
+) -> Result<Passed, AllocError>
+    requires links { graph_in links.now ≡ links_of (process_of process.now) }
+    requires graph { IsGraph (graph_in links.now) }
+    requires distinct { repeats [] (connector_names (process_of process.now)) ≡ [] }
+    requires measures { AreMeasures (process_of process.now) measures.now }
+    ensures { (qs : List Piece) → ArePassed (process_of process.now) qs passed
+        → IfOk result (ArePassed (process_of process.now) (qs ++ input_piece (row_input row.now) ∷ [])) }
+{
+    if passed.size {
+        return Ok(passed);
+    }
+    let places = &row.stimulus.places;
+    let transition = &row.input.transition;
+    let here = pass_piece(alloc, process, links, measures, places, transition)?;
+    Ok(either(passed, here))
+}
+
+fn pass_rows(
+    alloc: Global,
+    process: &ProcessTable,
+    links: &[Vec<usize>],
+    measures: &[Measure],
+    rows: &[InputRow],
+) -> Result<Passed, AllocError>
+    requires links { graph_in links.now ≡ links_of (process_of process.now) }
+    requires graph { IsGraph (graph_in links.now) }
+    requires distinct { repeats [] (connector_names (process_of process.now)) ≡ [] }
+    requires measures { AreMeasures (process_of process.now) measures.now }
+    ensures { IfOk result (ArePassed (process_of process.now) (map input_piece (map row_input rows.now))) }
+{
+    let mut passed = NONE_PASSED;
+    for row in rows {
+        passed = pass_row(alloc, process, links, measures, passed, row)?;
+    }
+    Ok(passed)
+}
+
+fn pass_states(
+    alloc: Global,
+    process: &ProcessTable,
+    links: &[Vec<usize>],
+    measures: &[Measure],
+    states: &[Vec<InputRow>],
+) -> Result<Passed, AllocError>
+    requires links { graph_in links.now ≡ links_of (process_of process.now) }
+    requires graph { IsGraph (graph_in links.now) }
+    requires distinct { repeats [] (connector_names (process_of process.now)) ≡ [] }
+    requires measures { AreMeasures (process_of process.now) measures.now }
+    ensures { IfOk result (ArePassed (process_of process.now) (flat_map (map input_piece) (map rows_inputs states.now))) }
+{
+    let mut passed = NONE_PASSED;
+    for rows in states {
+        passed = either(passed, pass_rows(alloc, process, links, measures, rows)?);
+    }
+    Ok(passed)
+}
+
+/// The transitions of a process, where these are the measures of its connections.
+fn pass_process(
+    alloc: Global,
+    process: &ProcessTable,
+    measures: &[Measure],
+) -> Result<Passed, AllocError>
+    requires { AreMeasures (process_of process.now) measures.now }
+    ensures { IfOk result (ArePassed (process_of process.now) (pieces_of (process_of process.now))) }
+{
+    let links = find_links(alloc, process)?;
+    let start = &process.process().start.transition;
+    let first = pass_piece(alloc, process, &links, measures, &[], start)?;
+    let inputs = process.inputs(alloc)?;
+    let others = pass_states(alloc, process, &links, measures, &inputs)?;
+    Ok(either(first, others))
+}
+
+fn pass_processes(
+    alloc: Global,
+    processes: &[ProcessTable],
+    measures: &[Vec<Measure>],
+) -> Result<Passed, AllocError>
+    requires { AllMeasures (map process_of processes.now) measures.now }
+    ensures { IfOk result (AllPassed (map process_of processes.now)) }
+{
+    let mut passed = NONE_PASSED;
+    for (place, process) in processes.iter().enumerate() {
+        passed = either(passed, pass_process(alloc, process, &measures[place])?);
+    }
+    Ok(passed)
+}
+
+fn has_many_states(tables: &[ProcessTable]) -> bool
+    ensures { result ≡ list_any (λ p. nat_lt 64 (length (states_of p))) (map process_of tables.now) }
+{
+    let mut any = false;
+    for table in tables {
+        any |= table.states().len() > 64;
+    }
+    any
+}
+
+fn has_many_variables(tables: &[ProcessTable]) -> bool
+    ensures { result ≡ list_any (λ p. nat_lt 32 (length (variables_of p))) (map process_of tables.now) }
+{
+    let mut any = false;
+    for table in tables {
+        any |= table.rows().len() > 32;
+    }
+    any
+}
+
+fn has_many_timers(tables: &[ProcessTable]) -> bool
+    ensures { result ≡ list_any (λ p. nat_lt 8 (length (timers_of p))) (map process_of tables.now) }
+{
+    let mut any = false;
+    for table in tables {
+        any |= table.timers().len() > 8;
+    }
+    any
+}
+
+fn has_many_parameters(rows: &[&SignalDeclaration]) -> bool
+    ensures { result ≡ list_any (λ s. nat_lt 4 (length s.parameters)) (map (λ s. signal_of s.now) rows.now) }
+{
+    let mut any = false;
+    for row in rows {
+        any |= row.parameters.len() > 4;
+    }
+    any
+}
+
+fn count_inputs(states: &[Vec<InputRow>]) -> usize
+    ensures { result ≡ min (length (flat_map (map input_piece) (map rows_inputs states.now))) 18446744073709551615 }
+{
+    let mut count: usize = 0;
+    for rows in states {
+        count = count.saturating_add(rows.len());
+    }
+    count
+}
+
+fn count_pieces(alloc: Global, tables: &[ProcessTable]) -> Result<usize, AllocError>
+    ensures { IfOk result (λ n. n ≡ min (sum_by (λ p. length (pieces_of p)) (map process_of tables.now)) 18446744073709551615) }
+{
+    let mut count: usize = 0;
+    for table in tables {
+        let inputs = table.inputs(alloc)?;
+        count = count.saturating_add(count_inputs(&inputs).saturating_add(1));
+    }
+    Ok(count)
+}
+
+/// The first limit on how many there are. The pieces come last: a state then takes few signals, and there are few states.
+fn first_count(alloc: Global, block: &BlockTable) -> Result<Option<Limit>, AllocError>
+    ensures { IfOk result (λ o. o ≡ find (exceeds (block_of block.now)) number_limits) }
+{
+    let tables = block.tables();
+    if tables.len() > 16 {
+        return Ok(Some(Limit::Processes));
+    }
+    if has_many_states(tables) {
+        return Ok(Some(Limit::States));
+    }
+    if has_many_variables(tables) {
+        return Ok(Some(Limit::Variables));
+    }
+    if has_many_timers(tables) {
+        return Ok(Some(Limit::Timers));
+    }
+    if block.rows().len() > 128 {
+        return Ok(Some(Limit::Signals));
+    }
+    if has_many_parameters(block.rows()) {
+        return Ok(Some(Limit::Params));
+    }
+    if count_pieces(alloc, tables)? > 4096 {
+        return Ok(Some(Limit::Pieces));
+    }
+    Ok(None)
+}
+
+/// The first limit on a transition.
+fn first_passed(passed: Passed) -> Option<Limit>
+    ensures { (b : PlainBlock) → AllPassed (processes_of b) passed → result ≡ find (exceeds b) transition_limits }
+{
+    if passed.size {
+        return Some(Limit::Piece);
+    }
+    if passed.depth {
+        return Some(Limit::Depth);
+    }
+    if passed.effects {
+        return Some(Limit::Effects);
+    }
+    None
+}
+
+/// The first limit that a block passes, where these are the measures of its connections. (S10, of this profile.)
+pub fn first_limit(
+    alloc: Global,
+    block: &BlockTable,
+    measures: &[Vec<Measure>],
+) -> Result<Option<Limit>, AllocError>
+    requires { AllMeasures (processes_of (block_of block.now)) measures.now }
+    ensures { IfOk result (λ o. o ≡ first_limit (block_of block.now)) }
+{
+    let counted = first_count(alloc, block)?;
+    match counted {
+        Some(which) => Ok(Some(which)),
+        None => {
+            let passed = pass_processes(alloc, block.tables(), measures)?;
+            Ok(first_passed(passed))
+        }
+    }
+}

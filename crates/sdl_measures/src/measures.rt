@@ -1,0 +1,366 @@
+//! What is measured of connections, and of transitions: how many instructions, operands and effects there are on a walk, and in all.
+ghost use Rattle.std.specs.Prelude.{◌≡◌, ◌+◌, ◌&&◌, ◌||◌, ℕ, max, if◌then◌else◌, length, IfOk};
+ghost use Rattle.sdl_tree.specs.Plain.{Text, Choice, does, otherwise};
+ghost use Rattle.sdl_tree.specs.Views.{action_of, end_text, text_of, statement_of, decision_of, choice_of, answer_of, process_of, block_of};
+ghost use Rattle.sdl_sound.specs.Longest.{tests_budget, size};
+ghost use Rattle.sdl_measures.specs.Counting.{measure_named, IsBehind, IsMeasured, AreMeasured};
+ghost use Rattle.sdl_tables.specs.Names.{variables_of, processes_of};
+ghost use Rattle.sdl_measures.specs.Measures.{capped, AreMeasures, AllMeasures};
+ghost use Rattle.sdl_sound.specs.Orders.{IsOrder, AreOrders};
+
+use crate::counts;
+use sdl_sorts::is_truth;
+use sdl_tables::{BlockTable, ProcessTable};
+use sdl_tree::{Action, Answer, Decision, End, Identifier, Range, Statement, Transition};
+use std::alloc::{AllocError, Global};
+
+/// What is measured of a connection, up to 4,294,967,295 each. What a JOIN to it goes on with counts what the
+/// connections count that it joins; the size is that of its own text alone.
+#[derive(Clone, Copy, Debug)]
+pub struct Measure {
+    /// The greatest cost of a walk.
+    pub budget: u32,
+    /// The most operands at once.
+    pub depth: u32,
+    /// The most outputs, settings and resettings of timers on a walk.
+    pub effects: u32,
+    /// How many instructions the text has.
+    pub size: u32,
+    /// Whether the text may run off its end. No connection's does where the rules hold.
+    pub goes_on: bool,
+}
+
+/// Where nothing is.
+pub(crate) const NOTHING: Measure = Measure {
+    budget: 0,
+    depth: 0,
+    effects: 0,
+    size: 0,
+    goes_on: false,
+};
+
+// What ends a transition, but for a JOIN.
+const LAST: Measure = Measure {
+    budget: 1,
+    depth: 0,
+    effects: 0,
+    size: 1,
+    goes_on: false,
+};
+
+/// That of the connection with a name.
+fn measure_named(process: &ProcessTable, measures: &[Measure], connector: Identifier) -> Measure
+    ensures { result ≡ measure_named (process_of process.now) measures.now connector.name }
+{
+    match process.connectors().number(connector.name) {
+        None => NOTHING,
+        Some(number) => match measures.get(number) {
+            None => NOTHING,
+            Some(measure) => *measure,
+        },
+    }
+}
+
+/// An end, with what is behind the transition.
+fn measure_end(
+    process: &ProcessTable,
+    measures: &[Measure],
+    end: Option<End>,
+    behind: Measure,
+) -> Measure
+    ensures { (k e : ℕ) → IsBehind k e behind → IsMeasured (process_of process.now) measures.now (end_text end) k e result }
+{
+    match end {
+        None => Measure {
+            budget: behind.budget,
+            depth: 0,
+            effects: behind.effects,
+            size: 0,
+            goes_on: true,
+        },
+        Some(End::NextState(_)) => LAST,
+        Some(End::Stop(_)) => LAST,
+        Some(End::Join(join)) => {
+            let joined = measure_named(process, measures, join.connector);
+            Measure {
+                budget: joined.budget.saturating_add(1),
+                depth: joined.depth,
+                effects: joined.effects,
+                size: 1,
+                goes_on: false,
+            }
+        }
+    }
+}
+
+fn measure_action(
+    process: &ProcessTable,
+    measures: &[Measure],
+    action: &Action,
+    rest: Measure,
+) -> Measure
+    ensures { (t : Text) (k e : ℕ) → IsMeasured (process_of process.now) measures.now t k e rest
+        → IsMeasured (process_of process.now) measures.now (does (action_of action.now) t) k e result }
+{
+    let cost = counts::action_cost(action);
+    Measure {
+        budget: cost.saturating_add(rest.budget),
+        depth: counts::action_depth(action).max(rest.depth),
+        effects: counts::action_effects(action).saturating_add(rest.effects),
+        size: cost.saturating_add(rest.size),
+        goes_on: rest.goes_on,
+    }
+}
+
+fn one_if(test: bool) -> u32
+    ensures { result ≡ (if test then 1 else 0) }
+{
+    if test { 1 } else { 0 }
+}
+
+/// The jump at the end of a body, if it goes on.
+fn jump_size(goes_on: bool) -> u32
+    ensures { result ≡ (if goes_on then 1 else 0) }
+{
+    one_if(goes_on)
+}
+
+/// Behind a DECISION a text goes on where both do.
+fn both(one: bool, other: bool) -> bool
+    ensures { result ≡ (one && other) }
+{
+    one && other
+}
+
+/// A DECISION goes on where one of its bodies does.
+fn one_of(one: bool, other: bool) -> bool
+    ensures { result ≡ (one || other) }
+{
+    one || other
+}
+
+/// Each range is tested in turn; where it holds, the body is next.
+fn tests_budget(ranges: &[Range], body: u32, others: u32) -> u32
+    ensures { (b o : ℕ) → body ≡ capped b → others ≡ capped o → result ≡ capped (tests_budget ranges.now b o) }
+{
+    let mut most = others;
+    for _range in ranges {
+        most = body.max(most).saturating_add(1);
+    }
+    most
+}
+
+fn count_ranges(ranges: &[Range]) -> u32
+    ensures { result ≡ capped (length ranges.now) }
+{
+    let mut count: u32 = 0;
+    for _range in ranges {
+        count = count.saturating_add(1);
+    }
+    count
+}
+
+/// What an answer costs beside the others: of a Boolean question nothing but its body.
+fn answer_budget(truth: bool, ranges: &[Range], body: u32, others: u32) -> u32
+    ensures { (b o : ℕ) → body ≡ capped b → others ≡ capped o → result ≡ capped (if truth then max b o else tests_budget ranges.now b o) }
+{
+    if truth {
+        body.max(others)
+    } else {
+        tests_budget(ranges, body, others)
+    }
+}
+
+fn answer_tests(truth: bool, ranges: &[Range]) -> u32
+    ensures { result ≡ capped (if truth then 0 else length ranges.now) }
+{
+    if truth { 0 } else { count_ranges(ranges) }
+}
+
+/// A transition that something follows where it runs off its end: of that, the budget and the effects count. A JOIN
+/// counts what is known of its connection.
+#[cycle(measuring)]
+pub(crate) fn measure_transition(
+    process: &ProcessTable,
+    measures: &[Measure],
+    transition: &Transition,
+    behind: Measure,
+) -> Measure
+    ensures { (k e : ℕ) → IsBehind k e behind → IsMeasured (process_of process.now) measures.now (text_of transition.now) k e result }
+{
+    let mut total = measure_end(process, measures, transition.end, behind);
+    let mut left = transition.statements.len();
+    while left > 0 {
+        left -= 1;
+        total = measure_statement(process, measures, &transition.statements[left], total);
+    }
+    total
+}
+
+/// A statement in front of the rest.
+#[cycle(measuring)]
+fn measure_statement(
+    process: &ProcessTable,
+    measures: &[Measure],
+    statement: &Statement,
+    rest: Measure,
+) -> Measure
+    ensures { (t : Text) (k e : ℕ) → IsMeasured (process_of process.now) measures.now t k e rest
+        → IsMeasured (process_of process.now) measures.now (statement_of statement.now t) k e result }
+{
+    match statement {
+        Statement::Act(action) => measure_action(process, measures, action, rest),
+        Statement::Decide(decision) => measure_decision(process, measures, decision, rest),
+    }
+}
+
+/// A DECISION in front of the rest, which follows each body that goes on, behind its jump.
+#[cycle(measuring)]
+fn measure_decision(
+    process: &ProcessTable,
+    measures: &[Measure],
+    decision: &Decision,
+    rest: Measure,
+) -> Measure
+    ensures { (t : Text) (k e : ℕ) → IsMeasured (process_of process.now) measures.now t k e rest
+        → IsMeasured (process_of process.now) measures.now (decision_of decision.now t) k e result }
+{
+    let truth = is_truth(process, &decision.question);
+    let behind = Measure {
+        budget: rest.budget.saturating_add(1),
+        depth: 0,
+        effects: rest.effects,
+        size: 0,
+        goes_on: true,
+    };
+    let answers = measure_answers(process, measures, truth, decision, behind);
+    let question = counts::cost(&decision.question).saturating_add(one_if(truth));
+    Measure {
+        budget: question.saturating_add(answers.budget),
+        depth: counts::depth(&decision.question).max(answers.depth.max(rest.depth)),
+        effects: answers.effects,
+        size: question
+            .saturating_add(answers.size)
+            .saturating_add(rest.size),
+        goes_on: both(answers.goes_on, rest.goes_on),
+    }
+}
+
+/// The answers to a question, a Boolean or an Integer one.
+#[cycle(measuring)]
+fn measure_answers(
+    process: &ProcessTable,
+    measures: &[Measure],
+    truth: bool,
+    decision: &Decision,
+    behind: Measure,
+) -> Measure
+    ensures { (k e : ℕ) → IsBehind (1 + k) e behind → AreMeasured (process_of process.now) measures.now truth (choice_of decision.now) k e result }
+{
+    let mut total = match &decision.otherwise {
+        None => NOTHING,
+        Some(body) => measure_else(process, measures, truth, body, behind),
+    };
+    let mut left = decision.answers.len();
+    while left > 0 {
+        left -= 1;
+        total = measure_answer(
+            process,
+            measures,
+            truth,
+            &decision.answers[left],
+            behind,
+            total,
+        );
+    }
+    total
+}
+
+#[cycle(measuring)]
+fn measure_else(
+    process: &ProcessTable,
+    measures: &[Measure],
+    truth: bool,
+    body: &Transition,
+    behind: Measure,
+) -> Measure
+    ensures { (k e : ℕ) → IsBehind (1 + k) e behind → AreMeasured (process_of process.now) measures.now truth (otherwise (text_of body.now)) k e result }
+{
+    let drop = one_if(!truth);
+    let inside = measure_transition(process, measures, body, behind);
+    Measure {
+        budget: inside.budget.saturating_add(drop),
+        depth: inside.depth,
+        effects: inside.effects,
+        size: inside
+            .size
+            .saturating_add(jump_size(inside.goes_on))
+            .saturating_add(drop),
+        goes_on: inside.goes_on,
+    }
+}
+
+/// An answer beside the others.
+#[cycle(measuring)]
+fn measure_answer(
+    process: &ProcessTable,
+    measures: &[Measure],
+    truth: bool,
+    answer: &Answer,
+    behind: Measure,
+    others: Measure,
+) -> Measure
+    ensures { (c : Choice) (k e : ℕ) → IsBehind (1 + k) e behind → AreMeasured (process_of process.now) measures.now truth c k e others
+        → AreMeasured (process_of process.now) measures.now truth (answer_of answer.now c) k e result }
+{
+    let inside = measure_transition(process, measures, &answer.body, behind);
+    let size = inside.size.saturating_add(jump_size(inside.goes_on));
+    let tests = answer_tests(truth, &answer.ranges);
+    Measure {
+        budget: answer_budget(truth, &answer.ranges, inside.budget, others.budget),
+        depth: inside.depth.max(others.depth),
+        effects: inside.effects.max(others.effects),
+        size: size.saturating_add(tests).saturating_add(others.size),
+        goes_on: one_of(inside.goes_on, others.goes_on),
+    }
+}
+
+/// How many instructions a transition has, without those of connections, up to 4,294,967,295.
+pub fn code_size(process: &ProcessTable, transition: &Transition) -> u32
+    ensures { result ≡ capped (size (variables_of (process_of process.now)) (text_of transition.now)) }
+{
+    measure_transition(process, &[], transition, NOTHING).size
+}
+
+fn measure_process(
+    alloc: Global,
+    process: &ProcessTable,
+    order: &[usize],
+) -> Result<Vec<Measure>, AllocError>
+    requires { IsOrder (process_of process.now) order.now }
+    ensures { IfOk result (λ measures. AreMeasures (process_of process.now) measures.items) }
+{
+    let connections = &process.process().connections;
+    let mut measures = vec![in alloc; NOTHING; connections.len()]?;
+    for number in order {
+        let transition = &connections[*number].transition;
+        measures[*number] = measure_transition(process, &measures, transition, NOTHING);
+    }
+    Ok(measures)
+}
+
+/// What is measured of the connections of each process, which are measured in this order.
+pub fn measure_all(
+    alloc: Global,
+    block: &BlockTable,
+    orders: &[Vec<usize>],
+) -> Result<Vec<Vec<Measure>>, AllocError>
+    requires { AreOrders (processes_of (block_of block.now)) orders.now }
+    ensures { IfOk result (λ rows. AllMeasures (processes_of (block_of block.now)) rows.items) }
+{
+    let mut rows = Vec::new(alloc);
+    for (place, process) in block.tables().iter().enumerate() {
+        rows.push(measure_process(alloc, process, &orders[place])?)?;
+    }
+    Ok(rows)
+}

@@ -1,7 +1,0 @@
-use Rattle.std.proofs.Common.{◌≡◌, take, min}
-use Rattle.sdl_rules.specs.Longest.{places_depth}
-use Rattle.sdl_rules.proofs.counts.places_depth.Given as goal
-
-abbrev pub invariant-loop-place : goal.invariant-loop-place
-invariant-loop-place l =
-    l.most ≡ min (places_depth (take l.place-index l.places)) 4294967295

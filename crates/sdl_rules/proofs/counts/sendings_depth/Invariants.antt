@@ -1,8 +1,0 @@
-use Rattle.std.proofs.Common.{◌≡◌, map, take, min}
-use Rattle.sdl_tree.specs.Views.{sending_of}
-use Rattle.sdl_rules.specs.Longest.{sendings_depth}
-use Rattle.sdl_rules.proofs.counts.sendings_depth.Given as goal
-
-abbrev pub invariant-loop-sending : goal.invariant-loop-sending
-invariant-loop-sending l =
-    l.most ≡ min (sendings_depth (map sending_of (take l.sending-index l.sendings))) 4294967295

@@ -1,5 +1,0 @@
-use Rattle.std.proofs.Common.{◌≡◌, ◌≤◌, length, min}
-use Rattle.sdl_rules.proofs.counts.sendings_effects.Given as goal
-
-abbrev pub invariant-loop-sending : goal.invariant-loop-sending
-invariant-loop-sending l = l.total ≡ min l._sending-index 4294967295

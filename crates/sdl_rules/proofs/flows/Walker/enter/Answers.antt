@@ -1,5 +1,0 @@
-use Rattle.sdl_rules.proofs.Walkers.{entered}
-use Rattle.sdl_rules.proofs.flows.Walker.enter.Goals as goal
-
-pub returns : goal.returns
-returns c = λ p there. entered p c.args.self.now c.args.state c.add_mask.new.masks c.add_mask.ensures.count c.add_mask.ensures.bits there

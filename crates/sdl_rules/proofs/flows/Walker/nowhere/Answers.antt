@@ -1,6 +1,0 @@
-use Rattle.std.proofs.Common.{sym, ◌∙◌}
-use Rattle.sdl_rules.proofs.Walkers.{nowhere}
-use Rattle.sdl_rules.proofs.flows.Walker.nowhere.Goals as goal
-
-pub returns : goal.returns
-returns c = λ p count. nowhere p c.in_ok-enters.enters (c.in_ok-enters.ensures.count ∙ sym count) c.in_ok-enters.ensures.empty

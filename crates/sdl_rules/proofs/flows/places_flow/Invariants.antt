@@ -1,8 +1,0 @@
-use Rattle.std.proofs.Common.{take}
-use Rattle.sdl_tree.specs.Views.{process_of}
-use Rattle.sdl_rules.specs.Flows.{Does, place_events}
-use Rattle.sdl_rules.proofs.flows.places_flow.Given as goal
-
-abbrev pub invariant-loop-place : goal.invariant-loop-place
-invariant-loop-place l =
-    Does (process_of l.table) (place_events (take l.place-index l.places)) l.flow

@@ -1,6 +1,0 @@
-use Rattle.sdl_tree.specs.Views.{process_of}
-use Rattle.sdl_rules.proofs.Bits.{does_read}
-use Rattle.sdl_rules.proofs.flows.read.Goals as goal
-
-pub returns : goal.returns
-returns c = does_read (process_of c.args.table.now) c.args.name c.bit.result c.bit.ensures

@@ -1,7 +1,0 @@
-use Rattle.std.proofs.Common.{rules}
-use Rattle.sdl_tree.specs.Views.{process_of}
-use Rattle.sdl_rules.proofs.Bits.{does_set}
-use Rattle.sdl_rules.proofs.flows.set.Goals as goal
-
-pub returns : goal.returns
-returns c = does_set (process_of c.args.table.now) c.args.name c.bit.result (search rules) c.bit.ensures

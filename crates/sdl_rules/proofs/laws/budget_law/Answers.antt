@@ -1,5 +1,0 @@
-use Rattle.sdl_rules.proofs.Budgets.{within_code}
-use Rattle.sdl_rules.proofs.laws.budget_law.Goals as goal
-
-pub returns : goal.returns
-returns c = within_code

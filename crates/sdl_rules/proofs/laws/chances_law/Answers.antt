@@ -1,5 +1,0 @@
-use Rattle.sdl_rules.proofs.Telling.{chances_shown}
-use Rattle.sdl_rules.proofs.laws.chances_law.Goals as goal
-
-pub returns : goal.returns
-returns c = chances_shown

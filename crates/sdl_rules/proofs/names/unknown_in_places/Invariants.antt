@@ -1,8 +1,0 @@
-use Rattle.std.proofs.Common.{take}
-use Rattle.sdl_rules.specs.Sound.{unknown, place_names}
-use Rattle.sdl_tables.specs.Scopes.{Marks}
-use Rattle.sdl_rules.proofs.names.unknown_in_places.Given as goal
-
-abbrev pub invariant-loop-place : goal.invariant-loop-place
-invariant-loop-place l =
-    Marks l.found (unknown l.names (place_names (take l.place-index l.places)))

@@ -1,0 +1,10 @@
+use Rattle.std.proofs.Common.{map, take}
+use Rattle.std.specs.List.{flat_map}
+use Rattle.sdl_sound.specs.Names.{stimulus_unknown}
+use Rattle.sdl_tables.specs.Scopes.{Marks}
+use Rattle.sdl_tree.specs.Views.{block_of, process_of, stimulus_of}
+use Rattle.sdl_scopes.proofs.names.unknown_in_stimuli.Given as goal
+
+abbrev pub invariant-loop-stimulus : goal.invariant-loop-stimulus
+invariant-loop-stimulus l =
+    Marks l.place (flat_map (stimulus_unknown (block_of l.block) (process_of l.process)) (map stimulus_of (take l.stimulus-index l.stimuli)))

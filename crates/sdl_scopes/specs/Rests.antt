@@ -1,0 +1,13 @@
+-- What is stray from some statement of a list on, as the code keeps it.
+use Rattle.std.specs.Prelude.{ℕ, List, [], ◌∷◌}
+use Rattle.sdl_tree.specs.declared.expression.Identifier.{Identifier}
+use Rattle.sdl_tree.specs.Plain.{Text}
+use Rattle.sdl_tables.specs.Scopes.{Marks}
+use Rattle.sdl_sound.specs.Ends.{first_place, strays}
+use Rattle.sdl_scopes.specs.declared.ends.Rest.{Rest}
+
+-- where what stands first is; what is stray where running off the end is, and is named by this place; and what is where it isn't
+pub record IsRest (states : List Identifier) (at : ℕ) (t : Text) (r : Rest) : Type 0 where
+  pub first : Marks r.first (first_place t)
+  pub named : Marks r.named (strays states (at ∷ []) t)
+  pub free : Marks r.free (strays states [] t)

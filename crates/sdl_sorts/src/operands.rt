@@ -1,0 +1,206 @@
+//! The rule on sorts, in expressions and actions: the first place at which something has another sort than it has to have.
+ghost use Rattle.std.specs.Prelude.{◌≡◌, map, slice_get, zip, []};
+ghost use Rattle.std.specs.List.{flat_map};
+ghost use Rattle.std.specs.Option.{option_map_or};
+ghost use Rattle.sdl_tree.specs.Views.{tree_of, assignment_of, sending_of, action_of, process_of, block_of};
+ghost use Rattle.sdl_tables.specs.Names.{variables_of};
+ghost use Rattle.sdl_tables.specs.Scopes.{Marks};
+ghost use Rattle.sdl_sound.specs.Sorts.{misfit, wrong_operands, wrong_in, wrong_for, wrong_variable, wrong_assignment, parameter_sorts, wrong_parameter, wrong_number, wrong_sending, wrong_action};
+
+use crate::divisors::place;
+use crate::sorts::{have_one_sort, operand_sort, sort_in, unary_sort, variable_sort};
+use sdl_lex::Name;
+use sdl_tables::{BlockTable, ProcessTable, earlier};
+use sdl_tree::{Action, Assignment, BinaryOperator, Expression, Sending, Sort};
+
+/// The place of an expression that has another sort.
+fn misfit(process: &ProcessTable, want: Option<Sort>, expression: &Expression) -> Option<u32>
+    ensures { Marks result (misfit (variables_of (process_of process.now)) want (tree_of expression.now)) }
+{
+    if have_one_sort(want, sort_in(process, expression)) {
+        None
+    } else {
+        Some(place(expression))
+    }
+}
+
+fn wrong_operands(
+    process: &ProcessTable,
+    operator: BinaryOperator,
+    left: &Expression,
+    right: &Expression,
+) -> Option<u32>
+    ensures { Marks result (wrong_operands (variables_of (process_of process.now)) operator (tree_of left.now) (tree_of right.now)) }
+{
+    let want = operand_sort(operator, sort_in(process, left));
+    let first = misfit(process, want, left);
+    earlier(first, misfit(process, want, right))
+}
+
+/// The place of a wrong operand in an expression. (S3; Z.100: expressions.)
+pub fn wrong_in(process: &ProcessTable, expression: &Expression) -> Option<u32>
+    ensures { Marks result (wrong_in (variables_of (process_of process.now)) (tree_of expression.now)) }
+{
+    match expression {
+        Expression::Number { .. } => None,
+        Expression::Truth { .. } => None,
+        Expression::Variable { .. } => None,
+        Expression::Unary {
+            operator,
+            operand,
+            ..
+        } => {
+            let inside = wrong_in(process, operand);
+            earlier(
+                inside,
+                misfit(process, Some(unary_sort(*operator)), operand),
+            )
+        }
+        Expression::Binary {
+            operator,
+            left,
+            right,
+            ..
+        } => {
+            let first = wrong_in(process, left);
+            let second = wrong_in(process, right);
+            let beyond = earlier(second, wrong_operands(process, *operator, left, right));
+            earlier(first, beyond)
+        }
+    }
+}
+
+fn wrong_for(process: &ProcessTable, want: Sort, expression: &Expression) -> Option<u32>
+    ensures { Marks result (wrong_for (variables_of (process_of process.now)) want (tree_of expression.now)) }
+{
+    let inside = wrong_in(process, expression);
+    earlier(inside, misfit(process, Some(want), expression))
+}
+
+fn wrong_variable(process: &ProcessTable, assignment: &Assignment) -> Option<u32>
+    ensures { Marks result (wrong_variable (variables_of (process_of process.now)) (assignment_of assignment.now)) }
+{
+    let want = variable_sort(process, assignment.variable.name);
+    if have_one_sort(want, sort_in(process, &assignment.value)) {
+        None
+    } else {
+        Some(assignment.variable.at)
+    }
+}
+
+fn wrong_assignment(process: &ProcessTable, assignment: &Assignment) -> Option<u32>
+    ensures { Marks result (wrong_assignment (variables_of (process_of process.now)) (assignment_of assignment.now)) }
+{
+    let value = wrong_in(process, &assignment.value);
+    earlier(value, wrong_variable(process, assignment))
+}
+
+fn wrong_in_assignments(process: &ProcessTable, assignments: &[Assignment]) -> Option<u32>
+    ensures { Marks result (flat_map (wrong_assignment (variables_of (process_of process.now))) (map assignment_of assignments.now)) }
+{
+    let mut place = None;
+    for assignment in assignments {
+        place = earlier(place, wrong_assignment(process, assignment));
+    }
+    place
+}
+
+/// The sorts of the parameters of a signal; none of what is no signal.
+pub(crate) fn parameter_sorts<'a>(block: &BlockTable<'a>, name: Name) -> &'a [Sort]
+    ensures { result.now ≡ parameter_sorts (block_of block.now) name }
+{
+    match block.signal(name) {
+        None => &[],
+        Some(signal) => &signal.parameters,
+    }
+}
+
+fn wrong_number(sorts: &[Sort], sending: &Sending) -> Option<u32>
+    ensures { Marks result (wrong_number sorts.now (sending_of sending.now)) }
+{
+    if sorts.len() == sending.parameters.len() {
+        None
+    } else {
+        Some(sending.signal.at)
+    }
+}
+
+fn wrong_in_all(process: &ProcessTable, parameters: &[Expression]) -> Option<u32>
+    ensures { Marks result (flat_map (wrong_in (variables_of (process_of process.now))) (map tree_of parameters.now)) }
+{
+    let mut place = None;
+    for parameter in parameters {
+        place = earlier(place, wrong_in(process, parameter));
+    }
+    place
+}
+
+/// The place of the parameter with a number, where it has another sort than stands there.
+fn wrong_parameter(
+    process: &ProcessTable,
+    sorts: &[Sort],
+    number: usize,
+    parameter: &Expression,
+) -> Option<u32>
+    ensures { Marks result (option_map_or (λ want. wrong_parameter (variables_of (process_of process.now)) (want, tree_of parameter.now)) (slice_get sorts.now number) []) }
+{
+    if number < sorts.len() {
+        misfit(process, Some(sorts[number]), parameter)
+    } else {
+        None
+    }
+}
+
+/// It goes over the parameters that are there: a signal may have far more.
+fn wrong_parameters(
+    process: &ProcessTable,
+    sorts: &[Sort],
+    parameters: &[Expression],
+) -> Option<u32>
+    ensures { Marks result (flat_map (wrong_parameter (variables_of (process_of process.now))) (zip sorts.now (map tree_of parameters.now))) }
+{
+    let mut place = None;
+    for (number, parameter) in parameters.iter().enumerate() {
+        place = earlier(place, wrong_parameter(process, sorts, number, parameter));
+    }
+    place
+}
+
+fn wrong_sending(block: &BlockTable, process: &ProcessTable, sending: &Sending) -> Option<u32>
+    ensures { Marks result (wrong_sending (block_of block.now) (variables_of (process_of process.now)) (sending_of sending.now)) }
+{
+    let sorts = parameter_sorts(block, sending.signal.name);
+    let number = wrong_number(sorts, sending);
+    let inside = wrong_in_all(process, &sending.parameters);
+    let beyond = earlier(
+        inside,
+        wrong_parameters(process, sorts, &sending.parameters),
+    );
+    earlier(number, beyond)
+}
+
+fn wrong_in_sendings(
+    block: &BlockTable,
+    process: &ProcessTable,
+    sendings: &[Sending],
+) -> Option<u32>
+    ensures { Marks result (flat_map (wrong_sending (block_of block.now) (variables_of (process_of process.now))) (map sending_of sendings.now)) }
+{
+    let mut place = None;
+    for sending in sendings {
+        place = earlier(place, wrong_sending(block, process, sending));
+    }
+    place
+}
+
+/// The place of a wrong sort in an action. (S3; Z.100: task, output, set.)
+pub fn wrong_in_action(block: &BlockTable, process: &ProcessTable, action: &Action) -> Option<u32>
+    ensures { Marks result (wrong_action (block_of block.now) (variables_of (process_of process.now)) (action_of action.now)) }
+{
+    match action {
+        Action::Task(task) => wrong_in_assignments(process, &task.assignments),
+        Action::Output(output) => wrong_in_sendings(block, process, &output.sendings),
+        Action::Set(set) => wrong_for(process, Sort::Integer, &set.delay),
+        Action::Reset(_) => None,
+    }
+}

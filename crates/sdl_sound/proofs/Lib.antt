@@ -1,0 +1,6 @@
+pub mod Items
+pub mod Lists
+pub mod Numbered
+pub mod Places
+pub mod Repeats
+pub mod Views

@@ -1,0 +1,35 @@
+-- S10: the limits of this profile, in this order.
+use Rattle.std.specs.Prelude.{Bool, List, [], ◌∷◌, ◌++◌, Option, length, nat_lt, find, sum_by}
+use Rattle.std.specs.List.{list_any}
+use Rattle.sdl_tree.specs.Plain.{PlainBlock}
+use Rattle.sdl_tables.specs.Names.{signals_of, processes_of, variables_of, timers_of, states_of}
+use Rattle.sdl_sound.specs.Longest.{pieces_of, piece_size, piece_depth, piece_effects}
+use Rattle.sdl_sound.specs.declared.fault.Limit.{Limit}
+use Rattle.sdl_sound.specs.declared.fault.Limit.TheVariants.{Processes, States, Variables, Timers, Signals, Params, Pieces, Piece as PieceSize, Depth, Effects}
+
+abbrev pub exceeds : PlainBlock → Limit → Bool
+exceeds b Processes = nat_lt 16 (length (processes_of b))
+exceeds b States = list_any (λ p. nat_lt 64 (length (states_of p))) (processes_of b)
+exceeds b Variables = list_any (λ p. nat_lt 32 (length (variables_of p))) (processes_of b)
+exceeds b Timers = list_any (λ p. nat_lt 8 (length (timers_of p))) (processes_of b)
+exceeds b Signals = nat_lt 128 (length (signals_of b))
+exceeds b Params = list_any (λ s. nat_lt 4 (length s.parameters)) (signals_of b)
+exceeds b Pieces = nat_lt 4096 (sum_by (λ p. length (pieces_of p)) (processes_of b))
+exceeds b PieceSize = list_any (λ p. list_any (λ q. nat_lt 512 (piece_size p q)) (pieces_of p)) (processes_of b)
+exceeds b Depth = list_any (λ p. list_any (λ q. nat_lt 16 (piece_depth p q)) (pieces_of p)) (processes_of b)
+exceeds b Effects = list_any (λ p. list_any (λ q. nat_lt 32 (piece_effects p q)) (pieces_of p)) (processes_of b)
+
+-- those on how many there are
+abbrev pub number_limits : List Limit
+number_limits = Processes ∷ States ∷ Variables ∷ Timers ∷ Signals ∷ Params ∷ Pieces ∷ []
+
+-- those on a transition
+abbrev pub transition_limits : List Limit
+transition_limits = PieceSize ∷ Depth ∷ Effects ∷ []
+
+abbrev pub limits : List Limit
+limits = number_limits ++ transition_limits
+
+-- the first limit that the block passes
+abbrev pub first_limit : PlainBlock → Option Limit
+first_limit b = find (exceeds b) limits

@@ -1,0 +1,75 @@
+-- Which refusal a block gets.
+use Rattle.std.specs.Prelude.{◌≡◌, [], None, Some, Contains, All, ⊤}
+use Rattle.sdl_tree.specs.Plain.{PlainBlock, PlainProcess}
+use Rattle.sdl_tables.specs.Names.{processes_of}
+use Rattle.sdl_sound.specs.Names.{unknown_names}
+use Rattle.sdl_sound.specs.Ends.{stray_ends}
+use Rattle.sdl_sound.specs.Limits.{first_limit}
+use Rattle.sdl_sound.specs.Sorts.{wrong_sorts}
+use Rattle.sdl_sound.specs.Divisors.{bad_divisors}
+use Rattle.sdl_sound.specs.Receivers.{without_receiver, with_two_receivers}
+use Rattle.sdl_sound.specs.Joins.{join_cycles}
+use Rattle.sdl_sound.specs.Decisions.{unanswered}
+use Rattle.sdl_tables.specs.Scopes.{double_names}
+use Rattle.sdl_sound.specs.Paths.{ReadsUnset, IsShortest}
+use Rattle.sdl_sound.specs.Spellings.{AreDeclared}
+use Rattle.sdl_sound.specs.declared.fault.RuleFault.{RuleFault}
+use Rattle.sdl_sound.specs.declared.fault.RuleFault.TheVariants.{DoubleName, UnknownName, WrongSort, NoState, NoReceiver, TwoReceivers, JoinCycle, NoAnswer, BadDivisor, Limit, Unset, NoMemory}
+use Rattle.sdl_tables.specs.declared.fault.TableFault.{TableFault}
+use Rattle.sdl_tables.specs.declared.fault.TableFault.TheVariants.{DoubleName as NoTable, NoMemory as NoRoom}
+
+-- The rules by number: each of these says that neither its own rule nor one with a lesser number is broken.
+
+abbrev pub IsDistinct : PlainBlock → Type 0
+IsDistinct b = double_names b ≡ []
+
+abbrev pub IsKnown : PlainBlock → Type 0
+IsKnown b = IsDistinct b × (unknown_names b ≡ [])
+
+abbrev pub IsSorted : PlainBlock → Type 0
+IsSorted b = IsKnown b × (wrong_sorts b ≡ [])
+
+abbrev pub IsEnded : PlainBlock → Type 0
+IsEnded b = IsSorted b × (stray_ends b ≡ [])
+
+abbrev pub IsReceived : PlainBlock → Type 0
+IsReceived b = IsEnded b × (without_receiver b ≡ [])
+
+abbrev pub IsSingle : PlainBlock → Type 0
+IsSingle b = IsReceived b × (with_two_receivers b ≡ [])
+
+abbrev pub IsJoined : PlainBlock → Type 0
+IsJoined b = IsSingle b × (join_cycles b ≡ [])
+
+abbrev pub IsAnswered : PlainBlock → Type 0
+IsAnswered b = IsJoined b × (unanswered b ≡ [])
+
+abbrev pub IsDivided : PlainBlock → Type 0
+IsDivided b = IsAnswered b × (bad_divisors b ≡ [])
+
+abbrev pub IsWithin : PlainBlock → Type 0
+IsWithin b = IsDivided b × (first_limit b ≡ None)
+
+-- A refusal names a rule that is broken at its place, and no rule with a lesser number is broken anywhere. A variable that is
+-- read unset, and the path, are spelled as they are declared; no path of any process that reads any variable unset has fewer
+-- transitions.
+abbrev pub Refuses : PlainBlock → RuleFault → Type 0
+Refuses b (DoubleName at) = Contains (double_names b) at
+Refuses b (UnknownName at) = IsDistinct b × Contains (unknown_names b) at
+Refuses b (WrongSort at) = IsKnown b × Contains (wrong_sorts b) at
+Refuses b (NoState at) = IsSorted b × Contains (stray_ends b) at
+Refuses b (NoReceiver at) = IsEnded b × Contains (without_receiver b) at
+Refuses b (TwoReceivers at) = IsReceived b × Contains (with_two_receivers b) at
+Refuses b (JoinCycle at) = IsSingle b × Contains (join_cycles b) at
+Refuses b (NoAnswer at) = IsJoined b × Contains (unanswered b) at
+Refuses b (BadDivisor at) = IsAnswered b × Contains (bad_divisors b) at
+Refuses b (Limit which) = IsDivided b × (first_limit b ≡ Some which)
+Refuses b (Unset x path) =
+    IsWithin b × (p : PlainProcess) × Contains (processes_of b) p × ReadsUnset p path.steps.items x × AreDeclared b p x path.steps.items
+    × All (λ q. IsShortest q path.steps.items) (processes_of b)
+Refuses b NoMemory = ⊤
+
+-- why there are no tables, as a refusal
+abbrev pub rule_fault : TableFault → RuleFault
+rule_fault (NoTable at) = DoubleName at
+rule_fault NoRoom = NoMemory

@@ -1,0 +1,273 @@
+-- Who may have sent what transitions begin with, gathered one after another.
+use Rattle.std.proofs.Common.{◌≡◌, ◌⊎◌, inl, inr, arith, Option, Some, None, ℕ, zero, suc, ◌+◌, ◌<◌, Bool, true, false, not, ◌&&◌, ◌||◌, List, [], ◌∷◌, ◌++◌, if◌then◌else◌, fold, map, take, length, get_or, bytes_eq, refl, sym, ap, ◌∙◌, subst, true≢false}
+use Rattle.std.specs.Prelude.{All, slice_set, replicate}
+use Rattle.std.specs.Option.{option_map_or}
+use Rattle.std.specs.List.{list_any, list_all, flat_map}
+use Rattle.std.proofs.lemmas.List.{append-nil, take_more, map-append}
+use Rattle.std.proofs.lemmas.List.Folds.{list_all-append, list_all-map}
+use Rattle.std.proofs.lemmas.List.Elements.{All-map}
+use Rattle.std.proofs.lemmas.Option.{slice_get_within}
+use Rattle.std.proofs.lemmas.Grind.{flat_map-append}
+use Rattle.std.proofs.lemmas.Slice.Eq.{bytes_eq-Decides}
+use Rattle.sdl_lex.specs.Spelling.{folded}
+use Rattle.sdl_tree.specs.declared.tree.Party.{Party}
+use Rattle.sdl_tree.specs.declared.tree.Party.TheVariants.{Environment, Process}
+use Rattle.sdl_tree.specs.Plain.{PlainPath, PlainProcess, PlainBlock}
+use Rattle.sdl_tables.specs.Names.{is_in, process_names}
+use Rattle.sdl_tree.specs.declared.expression.Identifier.{Identifier}
+use Rattle.sdl_tables.specs.Routes.{parties_once}
+use Rattle.sdl_sound.specs.Receivers.{party_of, same_party, paths_of, brings, carries, add_party, senders, answers, answers_origin, answers_all}
+use Rattle.sdl_tree.specs.declared.tree.Stimulus.{Stimulus}
+use Rattle.sdl_tree.specs.Views.{stimulus_of}
+use Rattle.sdl_sound.specs.Actions.{takes}
+use Rattle.sdl_statements.specs.SenderTables.{party_number, IsNumbered, numbered, AreSendersOf}
+use Rattle.sdl_statements.specs.declared.sender_table.Numbered.{Numbered}
+use Rattle.sdl_statements.specs.declared.sources.Sender.TheVariants.{Nobody, Party as By}
+use Rattle.sdl_sound.proofs.Numbered.{number_names, same_folded, folded_same}
+use Rattle.sdl_statements.specs.Sources.{source_origins, gets_back, Gathers, Marks, row_of, is_marked, row_origins, origins_at}
+use Rattle.sdl_statements.specs.declared.sources.Reaching.{Reaching}
+use Rattle.sdl_statements.specs.declared.sources.Senders.{Senders}
+
+-- ---- parties
+
+left_same : (q r x : Party) → same_party q r ≡ true → same_party q x ≡ same_party r x
+left_same Environment Environment x h = refl
+left_same Environment (Process r) x h = absurd (true≢false (sym h))
+left_same (Process q) Environment x h = absurd (true≢false (sym h))
+left_same (Process q) (Process r) Environment h = refl
+left_same (Process q) (Process r) (Process x) h = ap (λ k. bytes_eq k (folded x.name)) ((bytes_eq-Decides (folded q.name) (folded r.name)).0 h)
+
+brought : (paths : List PlainPath) (own q r : Party) (s : List ℕ) → same_party q r ≡ true → list_any (brings own q s) paths ≡ list_any (brings own r s) paths
+brought [] own q r s h = refl
+brought (path ∷ paths) own q r s h =
+    λ i. (same_party own path.from && (left_same q r path.to h i && is_in path.signals s)) || brought paths own q r s h i
+
+-- a signal gets to a party however it is written
+carried_same : (b : PlainBlock) (own q r : Party) (s : List ℕ) → same_party q r ≡ true → carries b own q s ≡ carries b own r s
+carried_same b own q r s h = brought (paths_of b) own q r s h
+
+-- ---- truth values
+
+and_left : (a b : Bool) → a && b ≡ true → a ≡ true
+and_left true b h = refl
+and_left false b h = h
+
+and_right : (a b : Bool) → a && b ≡ true → b ≡ true
+and_right true b h = h
+and_right false b h = absurd (true≢false (sym h))
+
+and_assoc : (a b c : Bool) → ((a && b) && c) ≡ (a && (b && c))
+and_assoc true b c = refl
+and_assoc false b c = refl
+
+pub and-true : (b : Bool) → (b && true) ≡ b
+and-true true = refl
+and-true false = refl
+
+absorbed : (a b : Bool) → (a ≡ true → b ≡ true) → a ≡ (a && b)
+absorbed true b h = sym (h refl)
+absorbed false b h = refl
+
+and-false : (a : Bool) → (a && false) ≡ false
+and-false true = refl
+and-false false = refl
+
+pub not_is : (a b : Bool) → a ≡ not b → a ≡ false → b ≡ true
+not_is a true h e = refl
+not_is a false h e = absurd (true≢false (sym h ∙ e))
+
+module _ (b : PlainBlock) (own : Party) (s : List ℕ) where
+  -- what each of some parties gets, each that is one of them gets
+  one_of : (ps : List Party) (q : Party) → list_any (same_party q) ps ≡ true → list_all (λ q. carries b own q s) ps ≡ true → carries b own q s ≡ true
+  one_of [] q there all = absurd (true≢false (sym there))
+  one_of (p ∷ ps) q there all =
+      by_test (same_party q p) refl (λ e. one_of ps q (sym (ap (λ t. t || list_any (same_party q) ps) e) ∙ there) (and_right (carries b own p s) (list_all (λ q. carries b own q s) ps) all))
+    where
+      by_test : (t : Bool) → same_party q p ≡ t → (same_party q p ≡ false → carries b own q s ≡ true) → carries b own q s ≡ true
+      by_test true e rest = carried_same b own q p s e ∙ and_left (carries b own p s) (list_all (λ q. carries b own q s) ps) all
+      by_test false e rest = rest e
+
+  added : (ps : List Party) (q : Party) → list_all (λ q. carries b own q s) (add_party ps q) ≡ (list_all (λ q. carries b own q s) ps && carries b own q s)
+  added ps q = by_test (list_any (same_party q) ps) refl
+    where
+      by_test : (t : Bool) → list_any (same_party q) ps ≡ t
+          → list_all (λ q. carries b own q s) (if t then ps else ps ++ q ∷ []) ≡ (list_all (λ q. carries b own q s) ps && carries b own q s)
+      by_test true e = absorbed (list_all (λ q. carries b own q s) ps) (carries b own q s) (one_of ps q e)
+      by_test false e = list_all-append (λ q. carries b own q s) ps (q ∷ []) ∙ ap (λ r. list_all (λ q. carries b own q s) ps && r) (and-true (carries b own q s))
+
+  folded_all : (ps xs : List Party) → list_all (λ q. carries b own q s) (fold add_party ps xs) ≡ (list_all (λ q. carries b own q s) ps && list_all (λ q. carries b own q s) xs)
+  folded_all ps [] = sym (and-true (list_all (λ q. carries b own q s) ps))
+  folded_all ps (x ∷ xs) =
+      folded_all (add_party ps x) xs
+      ∙ (ap (λ r. r && list_all (λ q. carries b own q s) xs) (added ps x)
+      ∙ and_assoc (list_all (λ q. carries b own q s) ps) (carries b own x s) (list_all (λ q. carries b own q s) xs))
+
+  -- what parties get, they get each once
+  pub once_all : (xs : List Party) → list_all (λ q. carries b own q s) (parties_once xs) ≡ list_all (λ q. carries b own q s) xs
+  once_all xs = folded_all [] xs
+
+-- parties with one number are the same
+some_same : {A : Type 0} (x y : A) → Some x ≡ Some y → x ≡ y
+some_same x y e = cc
+
+same_number : (b : PlainBlock) (q r : Party) (n : ℕ) → party_number b q ≡ Some n → party_number b r ≡ Some n → same_party q r ≡ true
+same_number b Environment Environment n e f = refl
+same_number b Environment (Process r) n e f =
+    let there = number_names (process_names b) r.name n f in
+    let last : length (process_names b) ≡ n = some_same (length (process_names b)) n e in
+    absurd (omega (arith, last, slice_get_within (process_names b) n there.0 there.1))
+same_number b (Process q) Environment n e f =
+    let there = number_names (process_names b) q.name n e in
+    let last : length (process_names b) ≡ n = some_same (length (process_names b)) n f in
+    absurd (omega (arith, last, slice_get_within (process_names b) n there.0 there.1))
+same_number b (Process q) (Process r) n e f =
+    let one = number_names (process_names b) q.name n e in
+    let other = number_names (process_names b) r.name n f in
+    let same : one.0 ≡ other.0 = some_same one.0 other.0 (sym one.1 ∙ other.1) in
+    folded_same q.name r.name
+    (same_folded q.name one.0.name one.2 ∙ (ap (λ (id : Identifier). folded id.name) same ∙ sym (same_folded r.name other.0.name other.2)))
+
+pub all_more : {A : Type 0} (P : A → Bool) (row : List A) (i : ℕ) (x : A) → i < length row → x ≡ get_or row i x
+    → list_all P (take (i + 1) row) ≡ (list_all P (take i row) && P x)
+all_more P row i x lt is =
+    ap (list_all P) (take_more row i x lt)
+    ∙ (list_all-append P (take i row) (get_or row i x ∷ [])
+    ∙ (ap (λ r. list_all P (take i row) && r) (and-true (P (get_or row i x)))
+    ∙ ap (λ y. list_all P (take i row) && P y) (sym is)))
+
+-- ---- marks
+
+marked_set : (marks : List Bool) (n k : ℕ) → is_marked (slice_set marks n true) k ≡ true → (Some n ≡ Some k) ⊎ (is_marked marks k ≡ true)
+marked_set [] n k e = inr e
+marked_set (m ∷ marks) zero zero e = inl refl
+marked_set (m ∷ marks) zero (suc k) e = inr e
+marked_set (m ∷ marks) (suc n) zero e = inr e
+marked_set (m ∷ marks) (suc n) (suc k) e = elim (marked_set marks n k e) [
+  | inl same ↦ inl (ap (λ j. Some (suc j)) (some_same n k same))
+  | inr was ↦ inr was
+]
+
+-- one mark more
+pub marks_set : (marks new : List Bool) (n : ℕ) → new ≡ slice_set marks n true → Marks (Some n) marks new
+marks_set marks new n is k e = marked_set marks n k (ap (λ l. is_marked l k) (sym is) ∙ e)
+
+pub none_marked : (n k : ℕ) → is_marked (replicate n false) k ≡ true → ⊥
+none_marked zero k e = true≢false (sym e)
+none_marked (suc n) zero e = true≢false (sym e)
+none_marked (suc n) (suc k) e = none_marked n k e
+
+-- ---- senders
+
+module _ (b : PlainBlock) (p : PlainProcess) where
+  pub gather_same : (g : Senders) (f h : List ℕ → Bool) → ((s : List ℕ) → f s ≡ h s) → Gathers b p g f → Gathers b p g h
+  gather_same g f h same old = record {
+    told = λ s. old.told s ∙ same s;
+    seen = λ s e. old.seen s (same s ∙ e);
+  }
+
+  -- START or a timer
+  pub gather_nobody : (g n : Senders) (f : List ℕ → Bool) → n.list.items ≡ g.list.items ++ Nobody ∷ [] → n.seen ≡ g.seen → Gathers b p g f
+      → Gathers b p n (λ s. f s && false)
+  gather_nobody g n f list seen old = record {
+    told = λ s.
+        ap (list_all (gets_back b p s)) list
+        ∙ (list_all-append (gets_back b p s) g.list.items (Nobody ∷ []) ∙ ap (λ r. r && false) (old.told s));
+    seen = λ s e. absurd (true≢false (sym e ∙ and-false (f s)));
+  }
+
+  -- what a signal that f allows gets back to, once this party is there too
+  seen_more : (g n : Senders) (f : List ℕ → Bool) (q : Party) (o : Option ℕ) → o ≡ party_number b q → Marks o g.seen.items n.seen.items
+      → Gathers b p g f → (s : List ℕ) → (f s && carries b (party_of p) q s) ≡ true → (r : Party) (k : ℕ) → party_number b r ≡ Some k
+      → is_marked n.seen.items k ≡ true → carries b (party_of p) r s ≡ true
+  seen_more g n f q o number marks old s e r k other there = elim (marks k there) [
+    | inl new ↦
+        sym (carried_same b (party_of p) q r s (same_number b q r k (sym number ∙ new) other))
+        ∙ and_right (f s) (carries b (party_of p) q s) e
+    | inr was ↦ old.seen s (and_left (f s) (carries b (party_of p) q s) e) r k other was
+  ]
+
+  -- a party more
+  pub gather_party : (g n : Senders) (f : List ℕ → Bool) (q : Party) (o : Option ℕ) → o ≡ party_number b q → Marks o g.seen.items n.seen.items
+      → n.list.items ≡ g.list.items ++ By q ∷ [] → Gathers b p g f → Gathers b p n (λ s. f s && carries b (party_of p) q s)
+  gather_party g n f q o number marks list old = record {
+    told = λ s.
+        ap (list_all (gets_back b p s)) list
+        ∙ (list_all-append (gets_back b p s) g.list.items (By q ∷ [])
+        ∙ (ap (λ r. list_all (gets_back b p s) g.list.items && r) (and-true (carries b (party_of p) q s))
+        ∙ ap (λ r. r && carries b (party_of p) q s) (old.told s)));
+    seen = seen_more g n f q o number marks old;
+  }
+
+  -- one whose number was seen
+  there_gets : (g : Senders) (f : List ℕ → Bool) (q : Party) (o : Option ℕ) → o ≡ party_number b q → option_map_or (is_marked g.seen.items) o false ≡ true
+      → Gathers b p g f → (s : List ℕ) → f s ≡ true → carries b (party_of p) q s ≡ true
+  there_gets g f q None number there old s e = absurd (true≢false (sym there))
+  there_gets g f q (Some k) number there old s e = old.seen s e q k (sym number) there
+
+  pub gather_there : (g n : Senders) (f : List ℕ → Bool) (q : Party) (o : Option ℕ) → o ≡ party_number b q → Marks o g.seen.items n.seen.items
+      → option_map_or (is_marked g.seen.items) o false ≡ true → n.list.items ≡ g.list.items → Gathers b p g f
+      → Gathers b p n (λ s. f s && carries b (party_of p) q s)
+  gather_there g n f q o number marks there list old = record {
+    told = λ s.
+        ap (list_all (gets_back b p s)) list
+        ∙ (old.told s ∙ absorbed (f s) (carries b (party_of p) q s) (there_gets g f q o number there old s));
+    seen = seen_more g n f q o number marks old;
+  }
+
+  -- a row of parties, one more of which is there
+  pub gather_more : (row : List Numbered) (i : ℕ) (x : Numbered) (g : Senders) (f : List ℕ → Bool) → i < length row → x ≡ get_or row i x
+      → Gathers b p g (λ s. (f s && list_all (λ y. carries b (party_of p) y.party s) (take i row)) && carries b (party_of p) x.party s)
+      → Gathers b p g (λ s. f s && list_all (λ y. carries b (party_of p) y.party s) (take (i + 1) row))
+  gather_more row i x g f lt is h =
+      gather_same g (λ s. (f s && list_all (λ y. carries b (party_of p) y.party s) (take i row)) && carries b (party_of p) x.party s)
+      (λ s. f s && list_all (λ y. carries b (party_of p) y.party s) (take (i + 1) row))
+      (λ s. and_assoc (f s) (list_all (λ y. carries b (party_of p) y.party s) (take i row)) (carries b (party_of p) x.party s)
+      ∙ ap (λ r. f s && r) (sym (all_more (λ y. carries b (party_of p) y.party s) row i x lt is))) h
+
+  -- what an INPUT takes, one more of which is there
+  asked_stimuli : (s : List ℕ) (xs : List Stimulus) → answers_all b p (map takes (map stimulus_of xs)) s ≡ list_all (λ x. answers b p s x.name.name) xs
+  asked_stimuli s xs =
+      list_all-map (answers_origin b p s) takes (map stimulus_of xs)
+      ∙ list_all-map (λ y. answers_origin b p s (takes y)) stimulus_of xs
+
+  pub gather_stimulus : (xs : List Stimulus) (i : ℕ) (x : Stimulus) (g : Senders) (f : List ℕ → Bool) → i < length xs → x ≡ get_or xs i x
+      → Gathers b p g (λ s. (f s && answers_all b p (map takes (map stimulus_of (take i xs))) s) && answers b p s x.name.name)
+      → Gathers b p g (λ s. f s && answers_all b p (map takes (map stimulus_of (take (i + 1) xs))) s)
+  gather_stimulus xs i x g f lt is h =
+      gather_same g (λ s. (f s && answers_all b p (map takes (map stimulus_of (take i xs))) s) && answers b p s x.name.name)
+      (λ s. f s && answers_all b p (map takes (map stimulus_of (take (i + 1) xs))) s)
+      (λ s. and_assoc (f s) (answers_all b p (map takes (map stimulus_of (take i xs))) s) (answers b p s x.name.name)
+      ∙ ap (λ r. f s && r)
+      (ap (λ r. r && answers b p s x.name.name) (asked_stimuli s (take i xs))
+      ∙ (sym (all_more (λ y. answers b p s y.name.name) xs i x lt is) ∙ sym (asked_stimuli s (take (i + 1) xs))))) h
+
+  -- nothing more
+  pub gather_none : (g : Senders) (f : List ℕ → Bool) → Gathers b p g f → Gathers b p g (λ s. f s && true)
+  gather_none g f h = gather_same g f (λ s. f s && true) (λ s. sym (and-true (f s))) h
+
+  -- the row of a signal
+  pub row_all : (name : List ℕ) (row : List Numbered) → AreSendersOf b p name row → (s : List ℕ)
+      → list_all (λ y. carries b (party_of p) y.party s) row ≡ list_all (λ q. carries b (party_of p) q s) (senders b (party_of p) name)
+  row_all name row h s =
+      ap (list_all (λ y. carries b (party_of p) y.party s)) h
+      ∙ (list_all-map (λ y. carries b (party_of p) y.party s) (numbered b) (parties_once (senders b (party_of p) name))
+      ∙ once_all b (party_of p) s (senders b (party_of p) name))
+
+  pub row_numbered : (name : List ℕ) (row : List Numbered) → AreSendersOf b p name row → All (IsNumbered b) row
+  row_numbered name row h =
+      subst (All (IsNumbered b)) (sym h) (All-map (IsNumbered b) (numbered b) (parties_once (senders b (party_of p) name)) (λ k d within. refl))
+
+  -- a transition more, which comes to the connection or doesn't
+  pub more_origins : (rows : List Reaching) (i n : ℕ) (r : Reaching) (m : Bool) (s : List ℕ) → i < length rows → r ≡ get_or rows i r → is_marked r.reached.items n ≡ m
+      → (answers_all b p (origins_at (map row_of (take i rows)) n) s && answers_all b p (if m then source_origins r.source else []) s)
+      ≡ answers_all b p (origins_at (map row_of (take (i + 1) rows)) n) s
+  more_origins rows i n r m s lt is marked =
+      let done = take i rows in
+      let more : take (i + 1) rows ≡ done ++ r ∷ [] = take_more rows i r lt ∙ ap (λ y. done ++ y ∷ []) (sym is) in
+      let old = origins_at (map row_of done) n in
+      let all : origins_at (map row_of (take (i + 1) rows)) n ≡ old ++ (if m then source_origins r.source else []) =
+      ap (λ l. origins_at (map row_of l) n) more
+      ∙ (ap (λ l. origins_at l n) (map-append row_of done (r ∷ []))
+      ∙ (flat_map-append (row_origins n) (map row_of done) (row_of r ∷ [])
+      ∙ ap (λ l. old ++ l) (append-nil (row_origins n (row_of r)) ∙ ap (λ t. if t then source_origins r.source else []) marked))) in
+      sym (ap (λ l. answers_all b p l s) all ∙ list_all-append (answers_origin b p s) old (if m then source_origins r.source else []))

@@ -1,0 +1,5 @@
+pub mod Asking
+pub mod Coming
+pub mod Gathering
+pub mod Knowing
+pub mod SenderRows

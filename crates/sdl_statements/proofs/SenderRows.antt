@@ -1,0 +1,70 @@
+-- The rows of a table of who may have sent what.
+use Rattle.std.proofs.Common.{◌≡◌, ℕ, zero, suc, ◌+◌, ◌&&◌, List, [], ◌∷◌, ◌++◌, if◌then◌else◌, map, length, Option, None, Some, refl, sym, ap, ◌∙◌, subst, arith, length-append}
+use Rattle.std.specs.Prelude.{slice_get}
+use Rattle.std.specs.List.{flat_map}
+use Rattle.std.specs.Global.{Vec}
+use Rattle.sdl_lex.specs.Spelling.{folded}
+use Rattle.sdl_tree.specs.declared.expression.Identifier.{Identifier}
+use Rattle.sdl_tree.specs.declared.tree.Party.{Party}
+use Rattle.sdl_tree.specs.Plain.{PlainPath, PlainProcess, PlainBlock}
+use Rattle.sdl_tables.specs.Names.{number_of}
+use Rattle.sdl_tables.specs.Routes.{same_party, paths_of, path_senders, senders, parties_once}
+use Rattle.sdl_sound.specs.Receivers.{party_of}
+use Rattle.sdl_statements.specs.SenderTables.{numbered, AreSendersOf, Tells}
+use Rattle.sdl_statements.specs.declared.sender_table.Numbered.{Numbered}
+use Rattle.sdl_statements.specs.declared.sender_table.SenderTable.{SenderTable}
+use Rattle.sdl_sound.proofs.Numbered.{number_names, same_folded}
+use Rattle.sdl_statements.proofs.Knowing.{in_alike}
+
+some_same : {A : Type 0} (x y : A) → Some x ≡ Some y → x ≡ y
+some_same x y e = cc
+
+-- a signal has the same senders however it is written
+sent_alike : (paths : List PlainPath) (own : Party) (s t : List ℕ) → folded s ≡ folded t
+    → flat_map (path_senders own s) paths ≡ flat_map (path_senders own t) paths
+sent_alike [] own s t e = refl
+sent_alike (path ∷ paths) own s t e =
+    λ i. (if same_party own path.to && in_alike path.signals s t e i then path.from ∷ [] else []) ++ sent_alike paths own s t e i
+
+senders_alike : (b : PlainBlock) (own : Party) (s t : List ℕ) → folded s ≡ folded t → senders b own s ≡ senders b own t
+senders_alike b own s t e = sent_alike (paths_of b) own s t e
+
+-- what holds of two lists side by side holds with an element more of each
+pushed_at : {A B : Type 0} (R : A → B → Type 0) (xs : List A) (ys : List B) (x : A) (y : B) → length ys ≡ length xs
+    → ((n : ℕ) (a : A) (b : B) → slice_get xs n ≡ Some a → slice_get ys n ≡ Some b → R a b) → R x y
+    → (n : ℕ) (a : A) (b : B) → slice_get (xs ++ x ∷ []) n ≡ Some a → slice_get (ys ++ y ∷ []) n ≡ Some b → R a b
+pushed_at {A = A} R [] [] x y same before last zero a b e f =
+    subst (λ (u : A). R u b) (some_same x a e) (subst (R x) (some_same y b f) last)
+pushed_at R [] [] x y same before last (suc n) a b e f = let bad : None ≡ Some a = e in absurd (cc)
+pushed_at R [] (v ∷ ys) x y same before last n a b e f = absurd (omega (arith, same))
+pushed_at R (u ∷ xs) [] x y same before last n a b e f = absurd (omega (arith, same))
+pushed_at R (u ∷ xs) (v ∷ ys) x y same before last zero a b e f = before zero a b e f
+pushed_at R (u ∷ xs) (v ∷ ys) x y same before last (suc n) a b e f =
+    pushed_at R xs ys x y (omega (arith, same)) (λ m. before (suc m)) last n a b e f
+
+module _ (b : PlainBlock) (p : PlainProcess) where
+  pub tells_none : (t : SenderTable) → t.names ≡ [] → t.rows.items ≡ [] → Tells b p t
+  tells_none t names rows = record {
+    count = ap length rows ∙ sym (ap length names);
+    each = λ n id row at there. let bad : None ≡ Some id = ap (λ (l : List Identifier). slice_get l n) (sym names) ∙ at in absurd (cc);
+  }
+
+  pub tells_more : (t new : SenderTable) (id : Identifier) (row : Vec Numbered) → AreSendersOf b p id.name row.items → new.names ≡ t.names ++ id ∷ []
+      → new.rows.items ≡ t.rows.items ++ row ∷ [] → Tells b p t → Tells b p new
+  tells_more t new id row are names rows old = record {
+    count =
+        let one : length new.rows.items ≡ length t.rows.items + 1 = ap length rows ∙ length-append t.rows.items (row ∷ []) in
+        let other : length new.names ≡ length t.names + 1 = ap length names ∙ length-append t.names (id ∷ []) in
+        omega (arith, one, other, old.count);
+    each = λ n i r at there.
+        pushed_at (λ (j : Identifier) (v : Vec Numbered). AreSendersOf b p j.name v.items) t.names t.rows.items id row old.count old.each are n i r
+        (ap (λ (l : List Identifier). slice_get l n) (sym names) ∙ at) (ap (λ (l : List (Vec Numbered)). slice_get l n) (sym rows) ∙ there);
+  }
+
+  -- the row of a name, however it is written
+  pub tells_at : (t : SenderTable) (name : List ℕ) (n : ℕ) (row : Vec Numbered) → number_of t.names name ≡ Some n → slice_get t.rows.items n ≡ Some row
+      → Tells b p t → AreSendersOf b p name row.items
+  tells_at t name n row number there tells =
+      let id = number_names t.names name n number in
+      tells.each n id.0 row id.1 there
+      ∙ ap (λ qs. map (numbered b) (parties_once qs)) (senders_alike b (party_of p) id.0.name name (sym (same_folded name id.0.name id.2)))

@@ -1,0 +1,7 @@
+use Rattle.std.proofs.Common.{◌≡◌, map, take}
+use Rattle.sdl_tree.specs.Views.{block_of}
+use Rattle.sdl_statements.specs.SenderTables.{numbered}
+use Rattle.sdl_statements.proofs.sender_table.number_parties.Given as goal
+
+abbrev pub invariant-loop-party : goal.invariant-loop-party
+invariant-loop-party l = l.rows.items ≡ map (numbered (block_of l.block)) (take l.party-index l.parties)

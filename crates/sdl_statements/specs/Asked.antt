@@ -1,0 +1,35 @@
+-- What each rule on statements asks of one.
+use Rattle.std.specs.Prelude.{ℕ, Bool, true, false, List}
+use Rattle.std.specs.List.{flat_map}
+use Rattle.sdl_tree.specs.Plain.{PlainProcess, PlainBlock}
+use Rattle.sdl_tables.specs.Names.{variables_of}
+use Rattle.sdl_sound.specs.Statements.{Statement}
+use Rattle.sdl_sound.specs.Actions.{Origin}
+use Rattle.sdl_sound.specs.Names.{statement_unknown}
+use Rattle.sdl_sound.specs.Sorts.{wrong_statement}
+use Rattle.sdl_sound.specs.Divisors.{statement_divisors}
+use Rattle.sdl_sound.specs.Receivers.{lost_statement, doubtful_statement}
+use Rattle.sdl_sound.specs.Decisions.{statement_unanswered}
+use Rattle.sdl_statements.specs.declared.statements.StatementRule.{StatementRule}
+use Rattle.sdl_statements.specs.declared.statements.StatementRule.TheVariants.{Names, Sorts, Receivers, OneReceiver, Answers, Divisors}
+
+abbrev pub asked : StatementRule → PlainBlock → PlainProcess → List Origin → Statement → List ℕ
+asked Names b p from s = statement_unknown b p s
+asked Sorts b p from s = wrong_statement b (variables_of p) s
+asked Receivers b p from s = lost_statement b p from s
+asked OneReceiver b p from s = doubtful_statement b p s
+asked Answers b p from s = statement_unanswered (variables_of p) s
+asked Divisors b p from s = statement_divisors s
+
+-- of some statements
+abbrev pub asked_all : StatementRule → PlainBlock → PlainProcess → List Origin → List Statement → List ℕ
+asked_all rule b p from statements = flat_map (asked rule b p from) statements
+
+-- whether the rule asks with what a transition begins
+abbrev pub asks_origin : StatementRule → Bool
+asks_origin Names = false
+asks_origin Sorts = false
+asks_origin Receivers = true
+asks_origin OneReceiver = false
+asks_origin Answers = false
+asks_origin Divisors = false

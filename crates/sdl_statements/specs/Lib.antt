@@ -1,0 +1,4 @@
+pub mod Asked
+pub mod Founds
+pub mod SenderTables
+pub mod Sources

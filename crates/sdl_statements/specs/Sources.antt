@@ -1,0 +1,89 @@
+-- With what transitions begin, and to which connections they come, as the code keeps it.
+use Rattle.std.specs.Prelude.{◌≡◌, ◌⊎◌, ℕ, Bool, true, false, Option, None, Some, List, [], ◌∷◌, if◌then◌else◌, map, slice_get}
+use Rattle.std.specs.List.{list_all, flat_map}
+use Rattle.std.specs.Option.{option_map_or}
+use Rattle.sdl_tree.specs.Plain.{Text, PlainInput, PlainProcess, PlainBlock}
+use Rattle.sdl_tree.specs.Views.{input_of}
+use Rattle.sdl_tree.specs.declared.expression.Identifier.{Identifier}
+use Rattle.sdl_tables.specs.Names.{input_parts, is_in}
+use Rattle.sdl_sound.specs.Joins.{reaches}
+use Rattle.sdl_sound.specs.Actions.{Origin, begins, input_origins}
+use Rattle.sdl_sound.specs.Receivers.{party_of, carries, answers_all}
+use Rattle.sdl_statements.specs.SenderTables.{party_number}
+use Rattle.sdl_tree.specs.declared.tree.Party as the_party
+use Rattle.sdl_statements.specs.declared.known.KnownSenders.{KnownSenders}
+use Rattle.sdl_statements.specs.declared.sources.Reaching.{Reaching}
+use Rattle.sdl_statements.specs.declared.sources.Sender.{Sender}
+use Rattle.sdl_statements.specs.declared.sources.Sender.TheVariants.{Nobody, Party}
+use Rattle.sdl_statements.specs.declared.sources.Senders.{Senders}
+use Rattle.sdl_statements.specs.declared.sources.Source.{Source}
+use Rattle.sdl_statements.specs.declared.sources.Source.TheVariants.{Start, Input}
+
+-- START, or each signal and timer of an INPUT
+abbrev pub source_origins : Source → List Origin
+source_origins Start = begins ∷ []
+source_origins (Input i) = input_origins (input_of i.now)
+
+abbrev pub sender_of : Option the_party.Party → Sender
+sender_of None = Nobody
+sender_of (Some q) = Party q
+
+-- whether a signal gets back to who sent what a transition begins with
+abbrev pub gets_back : PlainBlock → PlainProcess → List ℕ → Sender → Bool
+gets_back b p s Nobody = false
+gets_back b p s (Party q) = carries b (party_of p) q s
+
+-- These senders are all who may have sent one of these: what they all get is what each of these allows.
+unfoldable pub AreSenders : PlainBlock → PlainProcess → List Sender → List Origin → Type 0
+AreSenders b p senders from = (s : List ℕ) → list_all (gets_back b p s) senders ≡ answers_all b p from s
+
+-- each of these signals gets back to all who may have sent one of these, or each doesn't
+unfoldable pub AreAlike : PlainBlock → PlainProcess → List Origin → Bool → List Identifier → Type 0
+AreAlike b p from back ids = (s : List ℕ) → is_in ids s ≡ true → answers_all b p from s ≡ back
+
+-- the senders of one of these, and what is known of signals
+pub record Knows (b : PlainBlock) (p : PlainProcess) (k : KnownSenders) (from : List Origin) : Type 0 where
+  pub senders : AreSenders b p k.list.items from
+  pub back : AreAlike b p from true k.back
+  pub lost : AreAlike b p from false k.lost
+
+-- whether there is a mark for a number, and it is set
+abbrev pub is_marked : List Bool → ℕ → Bool
+is_marked marks n = option_map_or (λ b. b) (slice_get marks n) false
+
+-- What gets back to those who were gathered is what f allows, and whatever f allows gets back to each party whose number was
+-- seen.
+pub record Gathers (b : PlainBlock) (p : PlainProcess) (g : Senders) (f : List ℕ → Bool) : Type 0 where
+  pub told : (s : List ℕ) → list_all (gets_back b p s) g.list.items ≡ f s
+  pub seen : (s : List ℕ) → f s ≡ true → (q : the_party.Party) (n : ℕ) → party_number b q ≡ Some n → is_marked g.seen.items n ≡ true
+      → carries b (party_of p) q s ≡ true
+
+-- what has a mark now had one before, or is this number
+abbrev pub Marks : Option ℕ → List Bool → List Bool → Type 0
+Marks number old new = (n : ℕ) → is_marked new n ≡ true → (number ≡ Some n) ⊎ (is_marked old n ≡ true)
+
+-- to which connections a text comes, by number
+abbrev pub reach_row : PlainProcess → Text → List Bool
+reach_row p t = map (λ c. reaches p t c.name.name) p.connections
+
+-- with what a transition begins, and where it comes
+pub record Row : Type 0 where
+  pub origins : List Origin
+  pub reached : List Bool
+
+abbrev pub row_of : Reaching → Row
+row_of r = record { origins = source_origins r.source; reached = r.reached.items }
+
+abbrev pub input_row : PlainProcess → PlainInput → Row
+input_row p i = record { origins = input_origins i; reached = reach_row p i.text }
+
+-- the transitions of a process: that of START, and those of the INPUTs
+abbrev pub process_rows : PlainProcess → List Row
+process_rows p = record { origins = begins ∷ []; reached = reach_row p p.start.text } ∷ map (input_row p) (input_parts p)
+
+abbrev pub row_origins : ℕ → Row → List Origin
+row_origins n r = if is_marked r.reached n then r.origins else []
+
+-- with what the transitions begin that come to connection n
+abbrev pub origins_at : List Row → ℕ → List Origin
+origins_at rows n = flat_map (row_origins n) rows

@@ -1,0 +1,14 @@
+//! The rules that statements are asked for one by one, over a whole block: names (S2), sorts (S3), receivers (S5, S6), answers
+//! (S8) and divisors (S9).
+#![tactic(auto)]
+
+mod known;
+mod lost;
+mod receivers;
+mod sender_table;
+mod sources;
+mod statements;
+
+pub use lost::lost_output;
+pub use receivers::{Recipients, find_receivers};
+pub use statements::{bad_divisor, doubtful_output, missing_answer, unknown_name, wrong_sort};

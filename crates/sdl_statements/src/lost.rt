@@ -1,0 +1,144 @@
+//! The signals that nobody gets, statement by statement: of those that go TO SENDER it is known who may have sent what a
+//! transition begins with.
+ghost use Rattle.std.specs.Prelude.{◌≡◌, List, [], ◌∷◌, map, IfOk};
+ghost use Rattle.std.specs.List.{flat_map};
+ghost use Rattle.sdl_tree.specs.Views.{text_of, input_of, connection_of, process_of, block_of};
+ghost use Rattle.sdl_tables.specs.Scopes.{Marks};
+ghost use Rattle.sdl_sound.specs.Receivers.{without_receiver};
+ghost use Rattle.sdl_statements.specs.declared.statements.StatementRule.TheVariants.{Receivers};
+ghost use Rattle.sdl_sound.specs.Statements.{statements_of};
+ghost use Rattle.sdl_sound.specs.Actions.{Origin, begins, in_input, in_connection, in_statements};
+ghost use Rattle.sdl_statements.specs.SenderTables.{Tells};
+ghost use Rattle.sdl_statements.specs.Sources.{AreSenders};
+ghost use Rattle.sdl_statements.specs.Asked.{asked, asked_all};
+
+use crate::known::{KnownSenders, learn_transition};
+use crate::sender_table::{SenderTable, find_senders};
+use crate::sources::{Sender, find_reaching, input_senders, senders_at, start_senders};
+use crate::statements::{StatementRule, in_transition};
+use sdl_tables::{BlockTable, ProcessTable, earlier};
+use sdl_tree::{Connection, InputPart, Transition};
+use std::alloc::{AllocError, Global};
+
+/// The place of a signal in a transition that nobody gets, where these may have sent what it begins with.
+fn lost_in_transition(
+    alloc: Global,
+    block: &BlockTable,
+    process: &ProcessTable,
+    senders: Vec<Sender>,
+    transition: &Transition,
+) -> Result<Option<u32>, AllocError>
+    ensures { IfOk result (λ place. (os : List Origin) → AreSenders (block_of block.now) (process_of process.now) senders.items os
+        → Marks place (asked_all Receivers (block_of block.now) (process_of process.now) os (statements_of (text_of transition.now)))) }
+{
+    let mut known = KnownSenders::new(alloc, senders);
+    learn_transition(&mut known, block, process, transition)?;
+    let rule = StatementRule::Receivers;
+    Ok(in_transition(rule, block, process, &known, transition))
+}
+
+fn lost_in_start(
+    alloc: Global,
+    block: &BlockTable,
+    process: &ProcessTable,
+) -> Result<Option<u32>, AllocError>
+    ensures { IfOk result (λ place. Marks place (flat_map (asked Receivers (block_of block.now) (process_of process.now) (begins ∷ [])) (statements_of (process_of process.now).start.text))) }
+{
+    let senders = start_senders(alloc)?;
+    let transition = &process.process().start.transition;
+    lost_in_transition(alloc, block, process, senders, transition)
+}
+
+/// The place of a signal in an INPUT's transition that nobody gets.
+fn lost_in_input(
+    alloc: Global,
+    block: &BlockTable,
+    process: &ProcessTable,
+    table: &SenderTable,
+    input: &InputPart,
+) -> Result<Option<u32>, AllocError>
+    requires { Tells (block_of block.now) (process_of process.now) table.now }
+    ensures { IfOk result (λ place. Marks place (in_input (asked Receivers (block_of block.now) (process_of process.now)) (input_of input.now))) }
+{
+    let senders = input_senders(alloc, block, process, table, input)?;
+    lost_in_transition(alloc, block, process, senders, &input.transition)
+}
+
+fn lost_in_inputs(
+    alloc: Global,
+    block: &BlockTable,
+    process: &ProcessTable,
+    table: &SenderTable,
+    inputs: &[&InputPart],
+) -> Result<Option<u32>, AllocError>
+    requires { Tells (block_of block.now) (process_of process.now) table.now }
+    ensures { IfOk result (λ place. Marks place (flat_map (in_input (asked Receivers (block_of block.now) (process_of process.now))) (map (λ i. input_of i.now) inputs.now))) }
+{
+    let mut place = None;
+    for input in inputs {
+        place = earlier(place, lost_in_input(alloc, block, process, table, input)?);
+    }
+    Ok(place)
+}
+
+/// The place of a signal in a connection that nobody gets: TO SENDER is asked with every transition that comes there.
+fn lost_in_connections(
+    alloc: Global,
+    block: &BlockTable,
+    process: &ProcessTable,
+    table: &SenderTable,
+    connections: &[Connection],
+) -> Result<Option<u32>, AllocError>
+    requires table { Tells (block_of block.now) (process_of process.now) table.now }
+    requires connections { map connection_of connections.now ≡ (process_of process.now).connections }
+    ensures { IfOk result (λ place. Marks place (flat_map (in_connection (asked Receivers (block_of block.now) (process_of process.now)) (process_of process.now)) (map connection_of connections.now))) }
+{
+    let rows = find_reaching(alloc, process)?;
+    let mut place = None;
+    for (number, connection) in connections.iter().enumerate() {
+        let senders = senders_at(alloc, block, process, table, &rows, number)?;
+        let transition = &connection.transition;
+        let lost = lost_in_transition(alloc, block, process, senders, transition)?;
+        place = earlier(place, lost);
+    }
+    Ok(place)
+}
+
+fn lost_in_process(
+    alloc: Global,
+    block: &BlockTable,
+    process: &ProcessTable,
+) -> Result<Option<u32>, AllocError>
+    ensures { IfOk result (λ place. Marks place (in_statements (asked Receivers (block_of block.now) (process_of process.now)) (process_of process.now))) }
+{
+    let table = find_senders(alloc, block, process)?;
+    let start = lost_in_start(alloc, block, process)?;
+    let inputs = lost_in_inputs(alloc, block, process, &table, process.parts())?;
+    let connections = &process.process().connections;
+    let beyond = earlier(
+        inputs,
+        lost_in_connections(alloc, block, process, &table, connections)?,
+    );
+    Ok(earlier(start, beyond))
+}
+
+fn lost_in_processes(
+    alloc: Global,
+    block: &BlockTable,
+    processes: &[ProcessTable],
+) -> Result<Option<u32>, AllocError>
+    ensures { IfOk result (λ place. Marks place (flat_map (λ p. in_statements (asked Receivers (block_of block.now) p) p) (map process_of processes.now))) }
+{
+    let mut place = None;
+    for process in processes {
+        place = earlier(place, lost_in_process(alloc, block, process)?);
+    }
+    Ok(place)
+}
+
+/// The place of a signal in an OUTPUT that nobody gets. (S5; Z.100: output, signal route.)
+pub fn lost_output(alloc: Global, block: &BlockTable) -> Result<Option<u32>, AllocError>
+    ensures { IfOk result (λ place. Marks place (without_receiver (block_of block.now))) }
+{
+    lost_in_processes(alloc, block, block.tables())
+}

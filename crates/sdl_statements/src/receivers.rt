@@ -1,0 +1,193 @@
+//! The rules on receivers: the first OUTPUT that nobody gets, or more than one.
+ghost use Rattle.std.specs.Prelude.{◌≡◌, List, Some, map};
+ghost use Rattle.std.specs.List.{flat_map};
+ghost use Rattle.sdl_tree.specs.Views.{sending_of, action_of, process_of, block_of};
+ghost use Rattle.sdl_tables.specs.Scopes.{Marks};
+ghost use Rattle.sdl_sound.specs.Receivers.{party_of, receivers, arrives, lost_sending, lost_action, is_doubtful, doubtful_sending, doubtful_action};
+ghost use Rattle.sdl_sound.specs.Actions.{Origin};
+ghost use Rattle.sdl_statements.specs.Sources.{Knows};
+ghost use Rattle.sdl_statements.specs.Founds.{Counts};
+
+use crate::known::{KnownSenders, party_of};
+use sdl_lex::Name;
+use sdl_tables::{BlockTable, ProcessTable, earlier};
+use sdl_tree::{Action, Destination, Party, Sending};
+
+/// Who gets a signal by the routes.
+#[derive(Clone, Copy, Debug, PartialEq, Eq)]
+pub enum Recipients {
+    /// No path brings it to anybody.
+    Nobody,
+    /// One party, however many paths bring it there.
+    One(Party),
+    /// Two parties or more.
+    Several,
+}
+
+/// Who gets a signal that a party sends to nobody in particular.
+pub fn find_receivers(block: &BlockTable, from: &Party, signal: Name) -> Recipients
+    ensures { Counts result (receivers (block_of block.now) from.now signal) }
+{
+    match block.receivers(from, signal) {
+        [] => Recipients::Nobody,
+        [one] => Recipients::One(*one),
+        _ => Recipients::Several,
+    }
+}
+
+/// Whether a signal that says to whom it goes gets there.
+fn arrives_at(
+    block: &BlockTable,
+    process: &ProcessTable,
+    from: &KnownSenders,
+    to: &Destination,
+    signal: Name,
+) -> bool
+    ensures { (os : List Origin) → Knows (block_of block.now) (process_of process.now) from.now os
+        → result ≡ arrives (block_of block.now) (process_of process.now) os (Some to.now) signal }
+{
+    match to {
+        Destination::Sender(_) => from.all_get(block, process, signal),
+        Destination::Process(id) => {
+            block.carries(&party_of(process), &Party::Process(*id), signal)
+        }
+    }
+}
+
+fn arrives(
+    block: &BlockTable,
+    process: &ProcessTable,
+    from: &KnownSenders,
+    to: &Option<Destination>,
+    signal: Name,
+) -> bool
+    ensures { (os : List Origin) → Knows (block_of block.now) (process_of process.now) from.now os
+        → result ≡ arrives (block_of block.now) (process_of process.now) os to.now signal }
+{
+    match to {
+        None => match find_receivers(block, &party_of(process), signal) {
+            Recipients::Nobody => false,
+            Recipients::One(_) => true,
+            Recipients::Several => true,
+        },
+        Some(to) => arrives_at(block, process, from, to, signal),
+    }
+}
+
+fn lost_sending(
+    block: &BlockTable,
+    process: &ProcessTable,
+    from: &KnownSenders,
+    to: &Option<Destination>,
+    sending: &Sending,
+) -> Option<u32>
+    ensures { (os : List Origin) → Knows (block_of block.now) (process_of process.now) from.now os
+        → Marks result (lost_sending (block_of block.now) (process_of process.now) os to.now (sending_of sending.now)) }
+{
+    if arrives(block, process, from, to, sending.signal.name) {
+        None
+    } else {
+        Some(sending.signal.at)
+    }
+}
+
+fn lost_sendings(
+    block: &BlockTable,
+    process: &ProcessTable,
+    from: &KnownSenders,
+    to: &Option<Destination>,
+    sendings: &[Sending],
+) -> Option<u32>
+    ensures { (os : List Origin) → Knows (block_of block.now) (process_of process.now) from.now os
+        → Marks result (flat_map (lost_sending (block_of block.now) (process_of process.now) os to.now) (map sending_of sendings.now)) }
+{
+    let mut place = None;
+    for sending in sendings {
+        place = earlier(place, lost_sending(block, process, from, to, sending));
+    }
+    place
+}
+
+/// The place of a signal in an action that nobody gets.
+pub(crate) fn lost_in_action(
+    block: &BlockTable,
+    process: &ProcessTable,
+    from: &KnownSenders,
+    action: &Action,
+) -> Option<u32>
+    ensures { (os : List Origin) → Knows (block_of block.now) (process_of process.now) from.now os
+        → Marks result (lost_action (block_of block.now) (process_of process.now) os (action_of action.now)) }
+{
+    match action {
+        Action::Task(_) => None,
+        Action::Output(output) => {
+            lost_sendings(block, process, from, &output.to, &output.sendings)
+        }
+        Action::Set(_) => None,
+        Action::Reset(_) => None,
+    }
+}
+
+fn is_doubtful(
+    block: &BlockTable,
+    process: &ProcessTable,
+    to: &Option<Destination>,
+    signal: Name,
+) -> bool
+    ensures { result ≡ is_doubtful (block_of block.now) (process_of process.now) to.now signal }
+{
+    match to {
+        None => match find_receivers(block, &party_of(process), signal) {
+            Recipients::Nobody => false,
+            Recipients::One(_) => false,
+            Recipients::Several => true,
+        },
+        Some(_) => false,
+    }
+}
+
+fn doubtful_sending(
+    block: &BlockTable,
+    process: &ProcessTable,
+    to: &Option<Destination>,
+    sending: &Sending,
+) -> Option<u32>
+    ensures { Marks result (doubtful_sending (block_of block.now) (process_of process.now) to.now (sending_of sending.now)) }
+{
+    if is_doubtful(block, process, to, sending.signal.name) {
+        Some(sending.signal.at)
+    } else {
+        None
+    }
+}
+
+fn doubtful_sendings(
+    block: &BlockTable,
+    process: &ProcessTable,
+    to: &Option<Destination>,
+    sendings: &[Sending],
+) -> Option<u32>
+    ensures { Marks result (flat_map (doubtful_sending (block_of block.now) (process_of process.now) to.now) (map sending_of sendings.now)) }
+{
+    let mut place = None;
+    for sending in sendings {
+        place = earlier(place, doubtful_sending(block, process, to, sending));
+    }
+    place
+}
+
+/// The place of a signal in an action that two parties or more get.
+pub(crate) fn doubtful_in_action(
+    block: &BlockTable,
+    process: &ProcessTable,
+    action: &Action,
+) -> Option<u32>
+    ensures { Marks result (doubtful_action (block_of block.now) (process_of process.now) (action_of action.now)) }
+{
+    match action {
+        Action::Task(_) => None,
+        Action::Output(output) => doubtful_sendings(block, process, &output.to, &output.sendings),
+        Action::Set(_) => None,
+        Action::Reset(_) => None,
+    }
+}

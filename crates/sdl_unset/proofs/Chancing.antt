@@ -1,0 +1,559 @@
+-- What the walks of a text may do with a variable: as Booleans, and as walks.
+use Rattle.std.proofs.Common.{◌≡◌, ℕ, zero, suc, ◌+◌, ◌<◌, ◌≤◌, Bool, true, false, not, ◌&&◌, ◌||◌, List, [], ◌∷◌, ◌++◌, length, Option, Some, refl, sym, ap, ◌∙◌, subst, arith, inl, inr, ◌⊎◌}
+use Rattle.std.specs.Prelude.{⊤}
+use Rattle.std.specs.Option.{option_map_or}
+use Rattle.std.proofs.lemmas.Bool.{not-true}
+use Rattle.std.proofs.lemmas.List.{append-nil}
+use Rattle.sdl_tree.specs.declared.expression.Identifier.{Identifier}
+use Rattle.sdl_tree.specs.declared.tree.End.{End}
+use Rattle.sdl_tree.specs.declared.tree.End.TheVariants.{NextState, Stop, Join}
+use Rattle.sdl_tree.specs.Plain.{Text, falls, ends, does, decides, Choice, nothing_else, otherwise, answer, PlainConnection, PlainProcess}
+use Rattle.sdl_tables.specs.Names.{same_name, is_state, connection_named, states_of}
+use Rattle.sdl_sound.specs.Paths.{Event, reads as reading, sets as setting, tree_events, action_events, reads_first, sets_in, Way, onward, stops, enters as into, GoesOn, Walks, IsChosen, last_way, Follows}
+use Rattle.sdl_sound.specs.Chances.{Chances, no_chances, leaving, event_chances, behind, beside, last_chances, end_chances, chances, choice_chances, chances_by, text_chances}
+
+-- ---- Booleans
+
+pub and_true : (a b : Bool) → (a && b) ≡ true → (a ≡ true) × (b ≡ true)
+and_true true b h = (refl, h)
+and_true false b h = absurd (cc)
+
+pub both_true : (a b : Bool) → a ≡ true → b ≡ true → (a && b) ≡ true
+both_true true b h k = k
+both_true false b h k = absurd (cc)
+
+pub or_true : (a b : Bool) → (a || b) ≡ true → (a ≡ true) ⊎ (b ≡ true)
+or_true true b h = inl refl
+or_true false b h = inr h
+
+pub true_or : (a b : Bool) → a ≡ true → (a || b) ≡ true
+true_or true b h = refl
+true_or false b h = absurd (cc)
+
+pub or_else : (a b : Bool) → b ≡ true → (a || b) ≡ true
+or_else true b h = refl
+or_else false b h = h
+
+-- ---- events one after another
+
+or_assoc : (a b c : Bool) → ((a || b) || c) ≡ (a || (b || c))
+or_assoc true b c = refl
+or_assoc false b c = refl
+
+-- where x is set now, nothing later reads it unset
+set_now : (s r t q u : Bool) → u ≡ (r || (not t && q)) → (not s && u) ≡ ((not s && r) || (not (s || t) && q))
+set_now true r t q u h = refl
+set_now false r t q u h = h
+
+pub reads_first-append : (xs ys : List Event) (x : List ℕ) → reads_first (xs ++ ys) x ≡ (reads_first xs x || (not (sets_in xs x) && reads_first ys x))
+reads_first-append [] ys x = refl
+reads_first-append (reading y ∷ xs) ys x =
+    ap (λ r. same_name x y || r) (reads_first-append xs ys x)
+    ∙ sym (or_assoc (same_name x y) (reads_first xs x) (not (sets_in xs x) && reads_first ys x))
+reads_first-append (setting y ∷ xs) ys x =
+    set_now (same_name x y) (reads_first xs x) (sets_in xs x) (reads_first ys x) (reads_first (xs ++ ys) x) (reads_first-append xs ys x)
+
+not_or : (s t : Bool) → not (s || t) ≡ (not s && not t)
+not_or true t = refl
+not_or false t = refl
+
+and_assoc : (a b c : Bool) → ((a && b) && c) ≡ (a && (b && c))
+and_assoc true b c = refl
+and_assoc false b c = refl
+
+pub sets_in-append : (xs ys : List Event) (x : List ℕ) → not (sets_in (xs ++ ys) x) ≡ (not (sets_in xs x) && not (sets_in ys x))
+sets_in-append [] ys x = refl
+sets_in-append (reading y ∷ xs) ys x = sets_in-append xs ys x
+sets_in-append (setting y ∷ xs) ys x =
+    not_or (same_name x y) (sets_in (xs ++ ys) x)
+    ∙ (ap (λ r. not (same_name x y) && r) (sets_in-append xs ys x)
+    ∙ (sym (and_assoc (not (same_name x y)) (not (sets_in xs x)) (not (sets_in ys x)))
+    ∙ ap (λ r. r && not (sets_in ys x)) (sym (not_or (same_name x y) (sets_in xs x)))))
+
+-- ---- what one walk does
+
+abbrev pub is_onward : Way → Bool
+is_onward onward = true
+is_onward stops = false
+is_onward (into s) = false
+
+abbrev pub comes_into : List Identifier → ℕ → Way → Bool
+comes_into states q onward = false
+comes_into states q stops = false
+comes_into states q (into s) = is_state states q s
+
+abbrev pub walk_chances : List Identifier → List ℕ → ℕ → List Event → Way → Chances
+walk_chances states x q events way = record {
+  reads = reads_first events x;
+  leaves = is_onward way && not (sets_in events x);
+  enters = comes_into states q way && not (sets_in events x);
+}
+
+-- what may happen in one may happen in the other
+pub record IsPart (a b : Chances) : Type 0 where
+  pub reads : a.reads ≡ true → b.reads ≡ true
+  pub leaves : a.leaves ≡ true → b.leaves ≡ true
+  pub enters : a.enters ≡ true → b.enters ≡ true
+
+part-same : (a : Chances) → IsPart a a
+part-same a = record { reads = λ h. h; leaves = λ h. h; enters = λ h. h }
+
+part-part : (a b c : Chances) → IsPart a b → IsPart b c → IsPart a c
+part-part a b c f g = record { reads = λ h. g.reads (f.reads h); leaves = λ h. g.leaves (f.leaves h); enters = λ h. g.enters (f.enters h) }
+
+-- one bit behind another
+bit-behind : (a b c d e f : Bool) → (a ≡ true → b ≡ true) → (c ≡ true → d ≡ true) → (e ≡ true → f ≡ true) → (a || (c && e)) ≡ true → (b || (d && f)) ≡ true
+bit-behind a b c d e f p q r h = elim (or_true a (c && e) h) [
+  | inl one ↦ true_or b (d && f) (p one)
+  | inr two ↦ let parts = and_true c e two in or_else b (d && f) (both_true d f (q parts.0) (r parts.1))
+]
+
+behind-part : (a b c d : Chances) → IsPart a b → IsPart c d → IsPart (behind a c) (behind b d)
+behind-part a b c d f g = record {
+  reads = bit-behind a.reads b.reads a.leaves b.leaves c.reads d.reads f.reads f.leaves g.reads;
+  leaves = λ h. let parts = and_true a.leaves c.leaves h in both_true b.leaves d.leaves (f.leaves parts.0) (g.leaves parts.1);
+  enters = bit-behind a.enters b.enters a.leaves b.leaves c.enters d.enters f.enters f.leaves g.enters;
+}
+
+beside-first : (a b : Chances) → IsPart a (beside a b)
+beside-first a b = record { reads = true_or a.reads b.reads; leaves = true_or a.leaves b.leaves; enters = true_or a.enters b.enters }
+
+beside-second : (a b : Chances) → IsPart b (beside a b)
+beside-second a b = record { reads = or_else a.reads b.reads; leaves = or_else a.leaves b.leaves; enters = or_else a.enters b.enters }
+
+swap : (o s a b : Bool) → s ≡ (a && b) → (o && s) ≡ (a && (o && b))
+swap true s a b h = h
+swap false s true b h = refl
+swap false s false b h = refl
+
+pub walk-after : (states : List Identifier) (x : List ℕ) (q : ℕ) (xs ys : List Event) (way : Way)
+    → IsPart (walk_chances states x q (xs ++ ys) way) (behind (event_chances xs x) (walk_chances states x q ys way))
+walk-after states x q xs ys way = record {
+  reads = λ h. sym (reads_first-append xs ys x) ∙ h;
+  leaves = λ h. sym (swap (is_onward way) (not (sets_in (xs ++ ys) x)) (not (sets_in xs x)) (not (sets_in ys x)) (sets_in-append xs ys x)) ∙ h;
+  enters = λ h. sym (swap (comes_into states q way) (not (sets_in (xs ++ ys) x)) (not (sets_in xs x)) (not (sets_in ys x)) (sets_in-append xs ys x)) ∙ h;
+}
+
+-- the same walk by other names
+walk-at : (states : List Identifier) (x : List ℕ) (q : ℕ) (events es : List Event) (way w : Way) (c : Chances) → events ≡ es → way ≡ w
+    → IsPart (walk_chances states x q es w) c → IsPart (walk_chances states x q events way) c
+walk-at states x q events es way w c e v h =
+    subst (λ u. IsPart (walk_chances states x q u way) c) (sym e) (subst (λ u. IsPart (walk_chances states x q es u) c) (sym v) h)
+
+-- where a walk doesn't go on, nothing behind it is walked
+walk-over : (states : List Identifier) (x : List ℕ) (q : ℕ) (chosen : List Event) (way : Way) (c d : Chances) → is_onward way ≡ false
+    → IsPart (walk_chances states x q chosen way) c → IsPart (walk_chances states x q chosen way) (behind c d)
+walk-over states x q chosen way c d over h = record {
+  reads = λ r. true_or c.reads (c.leaves && d.reads) (h.reads r);
+  leaves = λ l. let parts = and_true (is_onward way) (not (sets_in chosen x)) l in let bad : false ≡ true = sym over ∙ parts.0 in absurd (cc);
+  enters = λ e. true_or c.enters (c.leaves && d.enters) (h.enters e);
+}
+
+walk-then : (states : List Identifier) (x : List ℕ) (q : ℕ) (rest : List Event → Way → Type 0) (chosen after : List Event) (between way : Way) (c d : Chances)
+    → IsPart (walk_chances states x q chosen between) c
+    → ((events : List Event) (w : Way) → rest events w → IsPart (walk_chances states x q events w) d)
+    → GoesOn between rest after way → IsPart (walk_chances states x q (chosen ++ after) way) (behind c d)
+walk-then states x q rest chosen after onward way c d first then goes =
+    part-part (walk_chances states x q (chosen ++ after) way) (behind (event_chances chosen x) (walk_chances states x q after way)) (behind c d)
+    (walk-after states x q chosen after way)
+    (behind-part (event_chances chosen x) c (walk_chances states x q after way) d
+    (record { reads = first.reads; leaves = first.leaves; enters = λ h. let bad : false ≡ true = h in absurd (cc) }) (then after way goes))
+walk-then states x q rest chosen after stops way c d first then goes =
+    walk-at states x q (chosen ++ after) chosen way stops (behind c d) (ap (λ es. chosen ++ es) goes.0 ∙ append-nil chosen) goes.1
+    (walk-over states x q chosen stops c d refl first)
+walk-then states x q rest chosen after (into s) way c d first then goes =
+    walk-at states x q (chosen ++ after) chosen way (into s) (behind c d) (ap (λ es. chosen ++ es) goes.0 ∙ append-nil chosen) goes.1
+    (walk-over states x q chosen (into s) c d refl first)
+
+-- what the walks of a connection do is among what may happen in it
+abbrev pub CountsWalks : List Identifier → List ℕ → ℕ → (List ℕ → List Event → Way → Type 0) → (List ℕ → Chances) → Type 0
+CountsWalks states x q join told = (y : List ℕ) (events : List Event) (way : Way) → join y events way → IsPart (walk_chances states x q events way) (told y)
+
+mutual
+  pub walks-part : (states : List Identifier) (x : List ℕ) (q : ℕ) (join : List ℕ → List Event → Way → Type 0) (told : List ℕ → Chances) → CountsWalks states x q join told
+      → (t : Text) (events : List Event) (way : Way) → Walks join t events way → IsPart (walk_chances states x q events way) (chances states told x q t)
+  walks-part states x q join told of falls events way w =
+      walk-at states x q events [] way onward leaving w.0 w.1 (record { reads = λ h. h; leaves = λ h. refl; enters = λ h. h })
+  walks-part states x q join told of (ends (NextState n)) events way w =
+      walk-at states x q events [] way (into n.state.name) (end_chances states told q (NextState n)) w.0 w.1
+      (record { reads = λ h. h; leaves = λ h. h; enters = λ h. (and_true (is_state states q n.state.name) true h).0 })
+  walks-part states x q join told of (ends (Stop at)) events way w =
+      walk-at states x q events [] way stops no_chances w.0 w.1 (record { reads = λ h. h; leaves = λ h. h; enters = λ h. h })
+  walks-part states x q join told of (ends (Join j)) events way w = of j.connector.name events way w
+  walks-part states x q join told of (does a rest) events way (after, is, w) =
+      walk-at states x q events (action_events a ++ after) way way (chances states told x q (does a rest)) is refl
+      (part-part (walk_chances states x q (action_events a ++ after) way) (behind (event_chances (action_events a) x) (walk_chances states x q after way)) (chances states told x q (does a rest))
+      (walk-after states x q (action_events a) after way)
+      (behind-part (event_chances (action_events a) x) (event_chances (action_events a) x) (walk_chances states x q after way) (chances states told x q rest)
+      (part-same (event_chances (action_events a) x)) (walks-part states x q join told of rest after way w)))
+  walks-part states x q join told of (decides at t c rest) events way (chosen, after, between, is, w, goes) =
+      walk-at states x q events (tree_events t ++ (chosen ++ after)) way way (chances states told x q (decides at t c rest)) is refl
+      (part-part (walk_chances states x q (tree_events t ++ (chosen ++ after)) way) (behind (event_chances (tree_events t) x) (walk_chances states x q (chosen ++ after) way)) (chances states told x q (decides at t c rest))
+      (walk-after states x q (tree_events t) (chosen ++ after) way)
+      (behind-part (event_chances (tree_events t) x) (event_chances (tree_events t) x) (walk_chances states x q (chosen ++ after) way) (behind (choice_chances states told x q c) (chances states told x q rest))
+      (part-same (event_chances (tree_events t) x))
+      (walk-then states x q (Walks join rest) chosen after between way (choice_chances states told x q c) (chances states told x q rest)
+      (chosen-part states x q join told of c chosen between w) (walks-part states x q join told of rest) goes)))
+
+  pub chosen-part : (states : List Identifier) (x : List ℕ) (q : ℕ) (join : List ℕ → List Event → Way → Type 0) (told : List ℕ → Chances) → CountsWalks states x q join told
+      → (c : Choice) (events : List Event) (way : Way) → IsChosen join c events way → IsPart (walk_chances states x q events way) (choice_chances states told x q c)
+  chosen-part states x q join told of nothing_else events way w = absurd w
+  chosen-part states x q join told of (otherwise body) events way w = walks-part states x q join told of body events way w
+  chosen-part states x q join told of (answer at ranges body others) events way w = elim w [
+    | inl one ↦ part-part (walk_chances states x q events way) (chances states told x q body) (choice_chances states told x q (answer at ranges body others))
+        (walks-part states x q join told of body events way one) (beside-first (chances states told x q body) (choice_chances states told x q others))
+    | inr other ↦ part-part (walk_chances states x q events way) (choice_chances states told x q others) (choice_chances states told x q (answer at ranges body others))
+        (chosen-part states x q join told of others events way other) (beside-second (chances states told x q body) (choice_chances states told x q others))
+  ]
+
+-- ---- what may happen, some walk does
+
+-- each DECISION of a text has a body, and `P` holds of the connector of each JOIN
+abbrev pub HasBody : Choice → Type 0
+HasBody nothing_else = ⊥
+HasBody (otherwise body) = ⊤
+HasBody (answer at ranges body others) = ⊤
+
+abbrev pub EndsWell : (List ℕ → Type 0) → End → Type 0
+EndsWell P (NextState n) = ⊤
+EndsWell P (Stop at) = ⊤
+EndsWell P (Join j) = P j.connector.name
+
+abbrev mutual
+  pub IsWhole : (List ℕ → Type 0) → Text → Type 0
+  IsWhole P falls = ⊤
+  IsWhole P (ends e) = EndsWell P e
+  IsWhole P (does a rest) = IsWhole P rest
+  IsWhole P (decides at t c rest) = HasBody c × AreWhole P c × IsWhole P rest
+
+  pub AreWhole : (List ℕ → Type 0) → Choice → Type 0
+  AreWhole P nothing_else = ⊤
+  AreWhole P (otherwise body) = IsWhole P body
+  AreWhole P (answer at ranges body others) = IsWhole P body × AreWhole P others
+
+mutual
+  pub whole-more : (P Q : List ℕ → Type 0) → ((y : List ℕ) → P y → Q y) → (t : Text) → IsWhole P t → IsWhole Q t
+  whole-more P Q f falls h = tt
+  whole-more P Q f (ends (NextState n)) h = tt
+  whole-more P Q f (ends (Stop at)) h = tt
+  whole-more P Q f (ends (Join j)) h = f j.connector.name h
+  whole-more P Q f (does a rest) h = whole-more P Q f rest h
+  whole-more P Q f (decides at t c rest) h = (h.0, choice-more P Q f c h.1, whole-more P Q f rest h.2)
+
+  pub choice-more : (P Q : List ℕ → Type 0) → ((y : List ℕ) → P y → Q y) → (c : Choice) → AreWhole P c → AreWhole Q c
+  choice-more P Q f nothing_else h = tt
+  choice-more P Q f (otherwise body) h = whole-more P Q f body h
+  choice-more P Q f (answer at ranges body others) h = (whole-more P Q f body h.0, choice-more P Q f others h.1)
+
+-- there is a walk
+abbrev pub HasWalk : (List Event → Way → Type 0) → Type 0
+HasWalk walks = (events : List Event) × (way : Way) × walks events way
+
+goes-on : (rest : List Event → Way → Type 0) (between : Way) → HasWalk rest → (after : List Event) × (way : Way) × GoesOn between rest after way
+goes-on rest onward some = some
+goes-on rest stops some = ([], stops, (refl, refl))
+goes-on rest (into s) some = ([], into s, (refl, refl))
+
+mutual
+  pub has_walk : (join : List ℕ → List Event → Way → Type 0) (P : List ℕ → Type 0) → ((y : List ℕ) → P y → HasWalk (join y))
+      → (t : Text) → IsWhole P t → HasWalk (Walks join t)
+  has_walk join P some falls h = ([], onward, (refl, refl))
+  has_walk join P some (ends (NextState n)) h = ([], into n.state.name, (refl, refl))
+  has_walk join P some (ends (Stop at)) h = ([], stops, (refl, refl))
+  has_walk join P some (ends (Join j)) h = some j.connector.name h
+  has_walk join P some (does a rest) h =
+      let after = has_walk join P some rest h in (action_events a ++ after.0, after.1, (after.0, refl, after.2))
+  has_walk join P some (decides at t c rest) h =
+      let chosen = has_chosen join P some c h.0 h.1 in
+      let after = goes-on (Walks join rest) chosen.1 (has_walk join P some rest h.2) in
+      (tree_events t ++ (chosen.0 ++ after.0), after.1, (chosen.0, after.0, chosen.1, refl, chosen.2, after.2))
+
+  pub has_chosen : (join : List ℕ → List Event → Way → Type 0) (P : List ℕ → Type 0) → ((y : List ℕ) → P y → HasWalk (join y))
+      → (c : Choice) → HasBody c → AreWhole P c → HasWalk (IsChosen join c)
+  has_chosen join P some nothing_else body h = absurd body
+  has_chosen join P some (otherwise body) there h = has_walk join P some body h
+  has_chosen join P some (answer at ranges body others) there h =
+      let one = has_walk join P some body h.0 in (one.0, one.1, inl one.2)
+
+-- what may happen, one of these walks does
+pub record AreShown (walks : List Event → Way → Type 0) (states : List Identifier) (x : List ℕ) (q : ℕ) (c : Chances) : Type 0 where
+  pub reads : c.reads ≡ true → (events : List Event) × (way : Way) × walks events way × (reads_first events x ≡ true)
+  pub leaves : c.leaves ≡ true → (events : List Event) × walks events onward × (sets_in events x ≡ false)
+  pub enters : c.enters ≡ true → (events : List Event) × (s : List ℕ) × walks events (into s) × (is_state states q s ≡ true) × (sets_in events x ≡ false)
+
+shown-by : (one other : List Event → Way → Type 0) (states : List Identifier) (x : List ℕ) (q : ℕ) (c : Chances)
+    → ((events : List Event) (way : Way) → one events way → other events way) → AreShown one states x q c → AreShown other states x q c
+shown-by one other states x q c f h = record {
+  reads = λ r. let w = h.reads r in (w.0, w.1, f w.0 w.1 w.2, w.3);
+  leaves = λ l. let w = h.leaves l in (w.0, f w.0 onward w.1, w.2);
+  enters = λ e. let w = h.enters e in (w.0, w.1, f w.0 (into w.1) w.2, w.3, w.4);
+}
+
+-- walks, and others behind them
+abbrev pub Then : (List Event → Way → Type 0) → (List Event → Way → Type 0) → List Event → Way → Type 0
+Then one rest events way = (chosen after : List Event) × (between : Way) × (events ≡ chosen ++ after) × one chosen between × GoesOn between rest after way
+
+pub reads-now : (xs ys : List Event) (x : List ℕ) → reads_first xs x ≡ true → reads_first (xs ++ ys) x ≡ true
+reads-now xs ys x h = reads_first-append xs ys x ∙ true_or (reads_first xs x) (not (sets_in xs x) && reads_first ys x) h
+
+pub reads-later : (xs ys : List Event) (x : List ℕ) → sets_in xs x ≡ false → reads_first ys x ≡ true → reads_first (xs ++ ys) x ≡ true
+reads-later xs ys x h r =
+    reads_first-append xs ys x ∙ or_else (reads_first xs x) (not (sets_in xs x) && reads_first ys x) (both_true (not (sets_in xs x)) (reads_first ys x) (ap not h) r)
+
+pub sets-neither : (xs ys : List Event) (x : List ℕ) → sets_in xs x ≡ false → sets_in ys x ≡ false → sets_in (xs ++ ys) x ≡ false
+sets-neither xs ys x h k =
+    not-true (sets_in (xs ++ ys) x) (sets_in-append xs ys x ∙ both_true (not (sets_in xs x)) (not (sets_in ys x)) (ap not h) (ap not k))
+
+shown-behind : (one rest : List Event → Way → Type 0) (states : List Identifier) (x : List ℕ) (q : ℕ) (c d : Chances)
+    → AreShown one states x q c → HasWalk rest → AreShown rest states x q d → AreShown (Then one rest) states x q (behind c d)
+shown-behind one rest states x q c d first some second = record {
+  reads = λ h. elim (or_true c.reads (c.leaves && d.reads) h) [
+    | inl now ↦
+        let w = first.reads now in
+        let after = goes-on rest w.1 some in
+        (w.0 ++ after.0, after.1, (w.0, after.0, w.1, refl, w.2, after.2), reads-now w.0 after.0 x w.3)
+    | inr later ↦
+        let parts = and_true c.leaves d.reads later in
+        let w = first.leaves parts.0 in
+        let v = second.reads parts.1 in
+        (w.0 ++ v.0, v.1, (w.0, v.0, onward, refl, w.1, v.2), reads-later w.0 v.0 x w.2 v.3)
+  ];
+  leaves = λ h.
+      let parts = and_true c.leaves d.leaves h in
+      let w = first.leaves parts.0 in
+      let v = second.leaves parts.1 in
+      (w.0 ++ v.0, (w.0, v.0, onward, refl, w.1, v.1), sets-neither w.0 v.0 x w.2 v.2);
+  enters = λ h. elim (or_true c.enters (c.leaves && d.enters) h) [
+    | inl now ↦
+        let w = first.enters now in
+        (w.0, w.1, (w.0, [], into w.1, sym (append-nil w.0), w.2, (refl, refl)), w.3, w.4)
+    | inr later ↦
+        let parts = and_true c.leaves d.enters later in
+        let w = first.leaves parts.0 in
+        let v = second.enters parts.1 in
+        (w.0 ++ v.0, v.1, (w.0, v.0, onward, refl, w.1, v.2), v.3, sets-neither w.0 v.0 x w.2 v.4)
+  ];
+}
+
+-- these events alone
+abbrev pub Only : List Event → List Event → Way → Type 0
+Only es events way = (events ≡ es) × (way ≡ onward)
+
+shown-only : (states : List Identifier) (x : List ℕ) (q : ℕ) (es : List Event) → AreShown (Only es) states x q (event_chances es x)
+shown-only states x q es = record {
+  reads = λ h. (es, onward, (refl, refl), h);
+  leaves = λ h. (es, (refl, refl), not-true (sets_in es x) h);
+  enters = λ h. let bad : false ≡ true = h in absurd (cc);
+}
+
+shown-after : (rest : List Event → Way → Type 0) (states : List Identifier) (x : List ℕ) (q : ℕ) (es : List Event) (d : Chances)
+    → HasWalk rest → AreShown rest states x q d
+    → AreShown (λ events way. (after : List Event) × (events ≡ es ++ after) × rest after way) states x q (behind (event_chances es x) d)
+shown-after rest states x q es d some h =
+    shown-by (Then (Only es) rest) (λ events way. (after : List Event) × (events ≡ es ++ after) × rest after way) states x q (behind (event_chances es x) d)
+    (λ events way w. (w.1, w.3 ∙ ap (λ (u : List Event). u ++ w.1) w.4.0, subst (λ (b : Way). GoesOn b rest w.1 way) w.4.1 w.5))
+    (shown-behind (Only es) rest states x q (event_chances es x) d (shown-only states x q es) some h)
+
+mutual
+  pub shown : (states : List Identifier) (x : List ℕ) (q : ℕ) (join : List ℕ → List Event → Way → Type 0) (told : List ℕ → Chances) (P : List ℕ → Type 0)
+      → ((y : List ℕ) → P y → HasWalk (join y)) → ((y : List ℕ) → P y → AreShown (join y) states x q (told y))
+      → (t : Text) → IsWhole P t → AreShown (Walks join t) states x q (chances states told x q t)
+  shown states x q join told P some each falls h = record {
+    reads = λ r. let bad : false ≡ true = r in absurd (cc);
+    leaves = λ l. ([], (refl, refl), refl);
+    enters = λ e. let bad : false ≡ true = e in absurd (cc);
+  }
+  shown states x q join told P some each (ends (NextState n)) h = record {
+    reads = λ r. let bad : false ≡ true = r in absurd (cc);
+    leaves = λ l. let bad : false ≡ true = l in absurd (cc);
+    enters = λ e. ([], n.state.name, (refl, refl), e, refl);
+  }
+  shown states x q join told P some each (ends (Stop at)) h = record {
+    reads = λ r. let bad : false ≡ true = r in absurd (cc);
+    leaves = λ l. let bad : false ≡ true = l in absurd (cc);
+    enters = λ e. let bad : false ≡ true = e in absurd (cc);
+  }
+  shown states x q join told P some each (ends (Join j)) h = each j.connector.name h
+  shown states x q join told P some each (does a rest) h =
+      shown-after (Walks join rest) states x q (action_events a) (chances states told x q rest) (has_walk join P some rest h)
+      (shown states x q join told P some each rest h)
+  shown states x q join told P some each (decides at t c rest) h =
+      let c1 = choice_chances states told x q c in
+      let c2 = chances states told x q rest in
+      let both = shown-behind (IsChosen join c) (Walks join rest) states x q c1 c2 (shown_choice states x q join told P some each c h.1)
+      (has_walk join P some rest h.2) (shown states x q join told P some each rest h.2) in
+      let chosen = has_chosen join P some c h.0 h.1 in
+      let after = goes-on (Walks join rest) chosen.1 (has_walk join P some rest h.2) in
+      let one : HasWalk (Then (IsChosen join c) (Walks join rest)) = (chosen.0 ++ after.0, after.1, (chosen.0, after.0, chosen.1, refl, chosen.2, after.2)) in
+      shown-by (λ events way. (after : List Event) × (events ≡ tree_events t ++ after) × Then (IsChosen join c) (Walks join rest) after way)
+      (Walks join (decides at t c rest)) states x q (behind (event_chances (tree_events t) x) (behind c1 c2))
+      (λ events way w. (w.2.0, w.2.1, w.2.2, w.1 ∙ ap (λ es. tree_events t ++ es) w.2.3, w.2.4, w.2.5))
+      (shown-after (Then (IsChosen join c) (Walks join rest)) states x q (tree_events t) (behind c1 c2) one both)
+
+  pub shown_choice : (states : List Identifier) (x : List ℕ) (q : ℕ) (join : List ℕ → List Event → Way → Type 0) (told : List ℕ → Chances) (P : List ℕ → Type 0)
+      → ((y : List ℕ) → P y → HasWalk (join y)) → ((y : List ℕ) → P y → AreShown (join y) states x q (told y))
+      → (c : Choice) → AreWhole P c → AreShown (IsChosen join c) states x q (choice_chances states told x q c)
+  shown_choice states x q join told P some each nothing_else h = record {
+    reads = λ r. let bad : false ≡ true = r in absurd (cc);
+    leaves = λ l. let bad : false ≡ true = l in absurd (cc);
+    enters = λ e. let bad : false ≡ true = e in absurd (cc);
+  }
+  shown_choice states x q join told P some each (otherwise body) h = shown states x q join told P some each body h
+  shown_choice states x q join told P some each (answer at ranges body others) h =
+      let one = shown states x q join told P some each body h.0 in
+      let other = shown_choice states x q join told P some each others h.1 in
+      let c1 = chances states told x q body in
+      let c2 = choice_chances states told x q others in
+      record {
+        reads = λ r. elim (or_true c1.reads c2.reads r) [
+          | inl a ↦ let w = one.reads a in (w.0, w.1, inl w.2, w.3)
+          | inr b ↦ let w = other.reads b in (w.0, w.1, inr w.2, w.3)
+        ];
+        leaves = λ l. elim (or_true c1.leaves c2.leaves l) [
+          | inl a ↦ let w = one.leaves a in (w.0, inl w.1, w.2)
+          | inr b ↦ let w = other.leaves b in (w.0, inr w.1, w.2)
+        ];
+        enters = λ e. elim (or_true c1.enters c2.enters e) [
+          | inl a ↦ let w = one.enters a in (w.0, w.1, inl w.2, w.3, w.4)
+          | inr b ↦ let w = other.enters b in (w.0, w.1, inr w.2, w.3, w.4)
+        ];
+      }
+
+-- ---- through connections
+
+-- there is a connection with the name, and its rank is below n
+abbrev pub IsBefore : PlainProcess → (List ℕ → ℕ) → ℕ → List ℕ → Type 0
+IsBefore p rank n y = (rank y < n) × (c : PlainConnection) × (connection_named p y ≡ Some c)
+
+-- each JOIN of a connection leads to one of lesser rank, and each DECISION has a body
+abbrev pub AreRanked : PlainProcess → (List ℕ → ℕ) → Type 0
+AreRanked p rank = (y : List ℕ) (c : PlainConnection) → connection_named p y ≡ Some c → IsWhole (IsBefore p rank (rank y)) c.text
+
+-- those of a connection that fewer JOINs follow
+inner-whole : (p : PlainProcess) (rank : List ℕ → ℕ) → AreRanked p rank → (n : ℕ) (y : List ℕ) (c : PlainConnection) → rank y < suc n
+    → connection_named p y ≡ Some c → IsWhole (IsBefore p rank n) c.text
+inner-whole p rank ranked n y c lt is =
+    whole-more (IsBefore p rank (rank y)) (IsBefore p rank n) (λ z h. (omega (arith, h.0, lt), h.1, h.2)) c.text (ranked y c is)
+
+pub follows_some : (p : PlainProcess) (rank : List ℕ → ℕ) → AreRanked p rank → (n : ℕ) (y : List ℕ) → IsBefore p rank n y → HasWalk (Follows p n y)
+follows_some p rank ranked zero y h = absurd (omega (arith, h.0))
+follows_some p rank ranked (suc n) y (lt, c, is) =
+    let w = has_walk (Follows p n) (IsBefore p rank n) (follows_some p rank ranked n) c.text (inner-whole p rank ranked n y c lt is) in
+    (w.0, last_way w.1, (c, is, w.1, w.2, refl))
+
+pub follows_shown : (p : PlainProcess) (rank : List ℕ → ℕ) (x : List ℕ) (q : ℕ) → AreRanked p rank → (n : ℕ) (y : List ℕ) → IsBefore p rank n y
+    → AreShown (Follows p n y) (states_of p) x q (chances_by p n x q y)
+follows_shown p rank x q ranked zero y h = absurd (omega (arith, h.0))
+follows_shown p rank x q ranked (suc n) y (lt, c, is) =
+    let told = λ (d : PlainConnection). last_chances (chances (states_of p) (chances_by p n x q) x q d.text) in
+    let inner = shown (states_of p) x q (Follows p n) (chances_by p n x q) (IsBefore p rank n) (follows_some p rank ranked n) (follows_shown p rank x q ranked n)
+    c.text (inner-whole p rank ranked n y c lt is) in
+    subst (λ (o : Option PlainConnection). AreShown (Follows p (suc n) y) (states_of p) x q (option_map_or told o no_chances)) (sym is) (record {
+      reads = λ r. let w = inner.reads r in (w.0, last_way w.1, (c, is, w.1, w.2, refl), w.3);
+      leaves = λ l. let bad : false ≡ true = l in absurd (cc);
+      enters = λ e. let w = inner.enters e in (w.0, w.1, (c, is, into w.1, w.2, refl), w.3, w.4);
+    })
+
+last-part : (states : List Identifier) (x : List ℕ) (q : ℕ) (events : List Event) (inner : Way) (c : Chances) → IsPart (walk_chances states x q events inner) c
+    → IsPart (walk_chances states x q events (last_way inner)) (last_chances c)
+last-part states x q events onward c h = record { reads = h.reads; leaves = λ l. l; enters = λ e. let bad : false ≡ true = e in absurd (cc) }
+last-part states x q events stops c h = record { reads = h.reads; leaves = λ l. l; enters = λ e. let bad : false ≡ true = e in absurd (cc) }
+last-part states x q events (into s) c h = record { reads = h.reads; leaves = λ l. l; enters = h.enters }
+
+pub follows_part : (p : PlainProcess) (x : List ℕ) (q n : ℕ) → CountsWalks (states_of p) x q (Follows p n) (chances_by p n x q)
+follows_part p x q zero y events way w = absurd w
+follows_part p x q (suc n) y events way (c, is, inner, w, last) =
+    let told = λ (d : PlainConnection). last_chances (chances (states_of p) (chances_by p n x q) x q d.text) in
+    subst (λ (o : Option PlainConnection). IsPart (walk_chances (states_of p) x q events way) (option_map_or told o no_chances)) (sym is)
+    (walk-at (states_of p) x q events events way (last_way inner) (told c) refl last
+    (last-part (states_of p) x q events inner (chances (states_of p) (chances_by p n x q) x q c.text)
+    (walks-part (states_of p) x q (Follows p n) (chances_by p n x q) (follows_part p x q n) c.text events inner w)))
+
+-- ---- as many JOINs as there are connections
+
+goes-more : (one other : List Event → Way → Type 0) → ((events : List Event) (way : Way) → one events way → other events way)
+    → (between : Way) (after : List Event) (way : Way) → GoesOn between one after way → GoesOn between other after way
+goes-more one other f onward after way h = f after way h
+goes-more one other f stops after way h = h
+goes-more one other f (into s) after way h = h
+
+mutual
+  pub walks-more : (one other : List ℕ → List Event → Way → Type 0) → ((y : List ℕ) (events : List Event) (way : Way) → one y events way → other y events way)
+      → (t : Text) (events : List Event) (way : Way) → Walks one t events way → Walks other t events way
+  walks-more one other f falls events way w = w
+  walks-more one other f (ends (NextState n)) events way w = w
+  walks-more one other f (ends (Stop at)) events way w = w
+  walks-more one other f (ends (Join j)) events way w = f j.connector.name events way w
+  walks-more one other f (does a rest) events way (after, is, w) = (after, is, walks-more one other f rest after way w)
+  walks-more one other f (decides at t c rest) events way (chosen, after, between, is, w, goes) = (
+    chosen,
+    after,
+    between,
+    is,
+    chosen-more one other f c chosen between w,
+    goes-more (Walks one rest) (Walks other rest) (walks-more one other f rest) between after way goes,
+  )
+
+  pub chosen-more : (one other : List ℕ → List Event → Way → Type 0) → ((y : List ℕ) (events : List Event) (way : Way) → one y events way → other y events way)
+      → (c : Choice) (events : List Event) (way : Way) → IsChosen one c events way → IsChosen other c events way
+  chosen-more one other f nothing_else events way w = w
+  chosen-more one other f (otherwise body) events way w = walks-more one other f body events way w
+  chosen-more one other f (answer at ranges body others) events way w = elim w [
+    | inl h ↦ inl (walks-more one other f body events way h)
+    | inr h ↦ inr (chosen-more one other f others events way h)
+  ]
+
+follows_more : (p : PlainProcess) (n m : ℕ) → n ≤ m → (y : List ℕ) (events : List Event) (way : Way) → Follows p n y events way → Follows p m y events way
+follows_more p zero m le y events way w = absurd w
+follows_more p (suc n) zero le y events way w = absurd (omega (arith, le))
+follows_more p (suc n) (suc m) le y events way (c, is, inner, w, last) =
+    (c, is, inner, walks-more (Follows p n) (Follows p m) (follows_more p n m (omega (arith, le))) c.text events inner w, last)
+
+mutual
+  pub chances-same : (states : List Identifier) (x : List ℕ) (q : ℕ) (one other : List ℕ → Chances) (P : List ℕ → Type 0) → ((y : List ℕ) → P y → one y ≡ other y)
+      → (t : Text) → IsWhole P t → chances states one x q t ≡ chances states other x q t
+  chances-same states x q one other P f falls h = refl
+  chances-same states x q one other P f (ends (NextState n)) h = refl
+  chances-same states x q one other P f (ends (Stop at)) h = refl
+  chances-same states x q one other P f (ends (Join j)) h = f j.connector.name h
+  chances-same states x q one other P f (does a rest) h = ap (behind (event_chances (action_events a) x)) (chances-same states x q one other P f rest h)
+  chances-same states x q one other P f (decides at t c rest) h =
+      ap (λ d. behind (event_chances (tree_events t) x) (behind d (chances states one x q rest))) (choice-same states x q one other P f c h.1)
+      ∙ ap (λ d. behind (event_chances (tree_events t) x) (behind (choice_chances states other x q c) d)) (chances-same states x q one other P f rest h.2)
+
+  pub choice-same : (states : List Identifier) (x : List ℕ) (q : ℕ) (one other : List ℕ → Chances) (P : List ℕ → Type 0) → ((y : List ℕ) → P y → one y ≡ other y)
+      → (c : Choice) → AreWhole P c → choice_chances states one x q c ≡ choice_chances states other x q c
+  choice-same states x q one other P f nothing_else h = refl
+  choice-same states x q one other P f (otherwise body) h = chances-same states x q one other P f body h
+  choice-same states x q one other P f (answer at ranges body others) h =
+      ap (λ d. beside d (choice_chances states one x q others)) (chances-same states x q one other P f body h.0)
+      ∙ ap (beside (chances states other x q body)) (choice-same states x q one other P f others h.1)
+
+pub by_same : (p : PlainProcess) (rank : List ℕ → ℕ) (x : List ℕ) (q : ℕ) → AreRanked p rank → (n m : ℕ) (y : List ℕ) → rank y < n → rank y < m
+    → (c : PlainConnection) → connection_named p y ≡ Some c → chances_by p n x q y ≡ chances_by p m x q y
+by_same p rank x q ranked zero m y below under c is = absurd (omega (arith, below))
+by_same p rank x q ranked (suc n) zero y below under c is = absurd (omega (arith, under))
+by_same p rank x q ranked (suc n) (suc m) y below under c is =
+    let told = λ (k : ℕ) (d : PlainConnection). last_chances (chances (states_of p) (chances_by p k x q) x q d.text) in
+    let inner = chances-same (states_of p) x q (chances_by p n x q) (chances_by p m x q) (IsBefore p rank (rank y))
+    (λ z h. by_same p rank x q ranked n m z (omega (arith, h.0, below)) (omega (arith, h.0, under)) h.1 h.2) c.text (ranked y c is) in
+    ap (λ (o : Option PlainConnection). option_map_or (told n) o no_chances) is
+    ∙ (ap last_chances inner ∙ sym (ap (λ (o : Option PlainConnection). option_map_or (told m) o no_chances) is))
+
+-- what a walk does is among what may happen
+pub walk_tells : (p : PlainProcess) (rank : List ℕ → ℕ) (x : List ℕ) (q : ℕ) → AreRanked p rank → (t : Text) → IsWhole (IsBefore p rank (length p.connections)) t
+    → (n : ℕ) (events : List Event) (way : Way) → Walks (Follows p n) t events way → IsPart (walk_chances (states_of p) x q events way) (text_chances p t x q)
+walk_tells p rank x q ranked t whole n events way w =
+    let m = length p.connections in
+    let longer = walks-more (Follows p n) (Follows p (m + n)) (follows_more p n (m + n) (omega arith)) t events way w in
+    let told = walks-part (states_of p) x q (Follows p (m + n)) (chances_by p (m + n) x q) (follows_part p x q (m + n)) t events way longer in
+    let same = chances-same (states_of p) x q (chances_by p (m + n) x q) (chances_by p m x q) (IsBefore p rank m)
+    (λ y h. by_same p rank x q ranked (m + n) m y (omega (arith, h.0)) h.0 h.1 h.2) t whole in
+    subst (IsPart (walk_chances (states_of p) x q events way)) same told
+
+-- and what may happen, some walk does
+pub walk_shown : (p : PlainProcess) (rank : List ℕ → ℕ) (x : List ℕ) (q : ℕ) → AreRanked p rank → (t : Text) → IsWhole (IsBefore p rank (length p.connections)) t
+    → AreShown (Walks (Follows p (length p.connections)) t) (states_of p) x q (text_chances p t x q)
+walk_shown p rank x q ranked t whole =
+    let m = length p.connections in
+    shown (states_of p) x q (Follows p m) (chances_by p m x q) (IsBefore p rank m) (follows_some p rank ranked m) (follows_shown p rank x q ranked m) t whole

@@ -1,0 +1,14 @@
+pub mod Bits
+pub mod Chancing
+pub mod Joiners
+pub mod Numbers
+pub mod PathNames
+pub mod Ranks
+pub mod Searches
+pub mod Settling
+pub mod Spelling
+pub mod Summing
+pub mod Surveying
+pub mod Telling
+pub mod Walkers
+pub mod Walking

@@ -1,0 +1,429 @@
+-- From paths by names to paths by numbers.
+use Rattle.std.proofs.Common.{◌≡◌, ℕ, zero, suc, ◌<◌, Bool, true, false, not, ◌&&◌, ◌||◌, List, [], ◌∷◌, ◌++◌, map, length, Option, None, Some, refl, sym, ap, ◌∙◌, subst, arith, bytes_eq, if◌then◌else◌, is_some, true≢false, inl, inr, ◌⊎◌}
+use Rattle.std.specs.Prelude.{slice_get, Contains}
+use Rattle.std.specs.List.{list_any, flat_map}
+use Rattle.std.specs.Option.{option_map_or}
+use Rattle.std.proofs.lemmas.Option.{slice_get-get_or}
+use Rattle.std.proofs.lemmas.List.Folds.{list_any-append}
+use Rattle.sdl_lex.specs.Spelling.{folded}
+use Rattle.unset_paths.specs.declared.Summary.{Summary}
+use Rattle.unset_paths.specs.declared.Graph.{Graph}
+use Rattle.unset_paths.specs.declared.Step as number
+use Rattle.unset_paths.specs.declared.Step.TheVariants.{Start as First, Input as By}
+use Rattle.unset_paths.specs.Graph as graph
+use Rattle.unset_paths.specs.Graph.{has, input_at, Passes}
+use Rattle.sdl_tree.specs.Plain.{Tree, PlainAssignment, PlainSending, PlainAction, task, output, set_timer, reset_timer, Text, falls, ends, does, decides, Choice, nothing_else, otherwise, answer, PlainProcess, PlainBlock}
+use Rattle.sdl_tree.specs.declared.tree.End.TheVariants.{NextState, Stop, Join}
+use Rattle.sdl_tree.specs.declared.expression.Identifier.{Identifier}
+use Rattle.sdl_tables.specs.Names.{same_name, is_in, number_of, signal_names, variable_names, variables_of, Variable, states_of, Input, inputs_of, input_parts}
+use Rattle.sdl_sound.specs.Names.{unknown, tree_names, assignment_names, sending_unknown, action_unknown, statement_unknown, place_names, input_unknown, saves_unknown, process_unknown}
+use Rattle.sdl_sound.specs.Statements.{Statement, statements_of, choice_statements}
+use Rattle.sdl_sound.specs.Actions.{in_statements}
+use Rattle.sdl_sound.specs.Laws.{IsTextOf}
+use Rattle.sdl_sound.specs.Paths.{Event, reads, sets, tree_events, assignment_events, sending_events, action_events, initial_sets, Way, onward, stops, enters as into, GoesOn, Walks, IsChosen, Follows, IsWalk, Transition, Place, start_transition, input_transition, reads_first, sets_in, inputs_in, ReadsFrom, ReadsUnset, NeverReadsUnset}
+use Rattle.sdl_unset.specs.Graphs.{IsSummaryOf, IsGraphOf}
+use Rattle.sdl_sound.specs.declared.fault.Step.{Step}
+use Rattle.sdl_sound.specs.declared.fault.Step.TheVariants.{Start, Input as Takes}
+use Rattle.sdl_sound.proofs.Repeats.{append-nil_left, append-nil_right}
+use Rattle.sdl_sound.proofs.Numbered.{same_folded, number_names}
+use Rattle.sdl_unset.proofs.PathNames.{input_in_graph}
+use Rattle.sdl_sound.proofs.Lists.{among_at}
+use Rattle.sdl_sound.proofs.Items.{Each, each_front, each_back}
+use Rattle.sdl_unset.proofs.Ranks.{HasNone, texts_none, connection_there}
+
+-- ---- spellings of one name
+
+reads_first-same : (events : List Event) (x y : List ℕ) → folded x ≡ folded y → reads_first events x ≡ reads_first events y
+reads_first-same [] x y e = refl
+reads_first-same (reads z ∷ events) x y e =
+    ap (λ f. bytes_eq f (folded z) || reads_first events x) e ∙ ap (λ r. same_name y z || r) (reads_first-same events x y e)
+reads_first-same (sets z ∷ events) x y e =
+    ap (λ f. not (bytes_eq f (folded z)) && reads_first events x) e ∙ ap (λ r. not (same_name y z) && r) (reads_first-same events x y e)
+
+sets_in-same : (events : List Event) (x y : List ℕ) → folded x ≡ folded y → sets_in events x ≡ sets_in events y
+sets_in-same [] x y e = refl
+sets_in-same (reads z ∷ events) x y e = sets_in-same events x y e
+sets_in-same (sets z ∷ events) x y e =
+    ap (λ f. bytes_eq f (folded z) || sets_in events x) e ∙ ap (λ r. same_name y z || r) (sets_in-same events x y e)
+
+-- ---- what is read is declared
+
+-- whether some event reads x
+abbrev reads_some : List Event → List ℕ → Bool
+reads_some [] x = false
+reads_some (reads y ∷ events) x = same_name x y || reads_some events x
+reads_some (sets y ∷ events) x = reads_some events x
+
+or_weaker : (a b c : Bool) → (b ≡ true → c ≡ true) → (a || b) ≡ true → (a || c) ≡ true
+or_weaker true b c f h = refl
+or_weaker false b c f h = f h
+
+and_second : (a b : Bool) → (a && b) ≡ true → b ≡ true
+and_second true b h = h
+and_second false b h = absurd (true≢false (sym h))
+
+or_cases : (a b : Bool) → (a || b) ≡ true → (a ≡ true) ⊎ (b ≡ true)
+or_cases true b h = inl refl
+or_cases false b h = inr h
+
+or_left : (a b : Bool) → a ≡ true → (a || b) ≡ true
+or_left true b h = refl
+or_left false b h = absurd (true≢false (sym h))
+
+or_right : (a b : Bool) → b ≡ true → (a || b) ≡ true
+or_right true b h = refl
+or_right false b h = h
+
+reads_some-first : (events : List Event) (x : List ℕ) → reads_first events x ≡ true → reads_some events x ≡ true
+reads_some-first [] x h = h
+reads_some-first (reads y ∷ events) x h = or_weaker (same_name x y) (reads_first events x) (reads_some events x) (reads_some-first events x) h
+reads_some-first (sets y ∷ events) x h = reads_some-first events x (and_second (not (same_name x y)) (reads_first events x) h)
+
+reads_some-append : (es fs : List Event) (x : List ℕ) → reads_some (es ++ fs) x ≡ true → (reads_some es x ≡ true) ⊎ (reads_some fs x ≡ true)
+reads_some-append [] fs x h = inr h
+reads_some-append (reads y ∷ es) fs x h = elim (or_cases (same_name x y) (reads_some (es ++ fs) x) h) [
+  | inl here ↦ inl (or_left (same_name x y) (reads_some es x) here)
+  | inr there ↦ elim (reads_some-append es fs x there) [
+    | inl left ↦ inl (or_right (same_name x y) (reads_some es x) left)
+    | inr right ↦ inr right
+  ]
+]
+reads_some-append (sets y ∷ es) fs x h = reads_some-append es fs x h
+
+-- nothing is read before the text of a transition
+sets_read_nothing : (ids : List Identifier) (x : List ℕ) → reads_some (map (λ id. sets id.name) ids) x ≡ true → ⊥
+sets_read_nothing [] x h = true≢false (sym h)
+sets_read_nothing (id ∷ ids) x h = sets_read_nothing ids x h
+
+-- one variable more, with an initial value or without
+initial_more : (b : Bool) (x y : List ℕ) (rest : List Event) → (reads_some rest x ≡ true → ⊥)
+    → reads_some ((if b then sets y ∷ [] else []) ++ rest) x ≡ true → ⊥
+initial_more true x y rest none h = none h
+initial_more false x y rest none h = none h
+
+initial_reads_nothing : (vs : List Variable) (x : List ℕ) → reads_some (flat_map initial_sets vs) x ≡ true → ⊥
+initial_reads_nothing [] x h = true≢false (sym h)
+initial_reads_nothing (v ∷ vs) x h = initial_more (is_some v.initial) x v.name.name (flat_map initial_sets vs) (initial_reads_nothing vs x) h
+
+is_in-append : (xs ys : List Identifier) (x : List ℕ) → is_in (xs ++ ys) x ≡ (is_in xs x || is_in ys x)
+is_in-append xs ys x = list_any-append (λ id. same_name x id.name) xs ys
+
+reads_of_names : (ids : List Identifier) (x : List ℕ) → reads_some (map (λ id. reads id.name) ids) x ≡ is_in ids x
+reads_of_names [] x = refl
+reads_of_names (id ∷ ids) x = ap (λ r. same_name x id.name || r) (reads_of_names ids x)
+
+in_append_left : (xs ys : List Identifier) (x : List ℕ) → is_in xs x ≡ true → is_in (xs ++ ys) x ≡ true
+in_append_left xs ys x h = is_in-append xs ys x ∙ or_left (is_in xs x) (is_in ys x) h
+
+in_append_right : (xs ys : List Identifier) (x : List ℕ) → is_in ys x ≡ true → is_in (xs ++ ys) x ≡ true
+in_append_right xs ys x h = is_in-append xs ys x ∙ or_right (is_in xs x) (is_in ys x) h
+
+assignment_reads : (a : PlainAssignment) (x : List ℕ) → reads_some (assignment_events a) x ≡ true → is_in (assignment_names a) x ≡ true
+assignment_reads a x h = elim (reads_some-append (map (λ id. reads id.name) (tree_names a.value)) (sets a.variable.name ∷ []) x h) [
+  | inl there ↦ or_right (same_name x a.variable.name) (is_in (tree_names a.value) x) (sym (reads_of_names (tree_names a.value) x) ∙ there)
+  | inr none ↦ absurd (true≢false (sym none))
+]
+
+assignments_read : (list : List PlainAssignment) (x : List ℕ) → reads_some (flat_map assignment_events list) x ≡ true → is_in (flat_map assignment_names list) x ≡ true
+assignments_read [] x h = h
+assignments_read (a ∷ list) x h = elim (reads_some-append (assignment_events a) (flat_map assignment_events list) x h) [
+  | inl here ↦ in_append_left (assignment_names a) (flat_map assignment_names list) x (assignment_reads a x here)
+  | inr there ↦ in_append_right (assignment_names a) (flat_map assignment_names list) x (assignments_read list x there)
+]
+
+-- a name among known ones is known
+cons-not-nil : (n : ℕ) (ns : List ℕ) → n ∷ ns ≡ [] → ⊥
+cons-not-nil n ns h = cc
+
+known_name : (among : List Identifier) (id : Identifier) (b : Bool) → is_in among id.name ≡ b → (if b then [] else id.at ∷ []) ≡ [] → is_in among id.name ≡ true
+known_name among id true e h = e
+known_name among id false e h = absurd (cons-not-nil id.at [] h)
+
+is_in-folded : (among : List Identifier) (x y : List ℕ) → folded x ≡ folded y → is_in among x ≡ is_in among y
+is_in-folded among x y e = ap (λ f. list_any (λ id. bytes_eq f (folded id.name)) among) e
+
+known_in : (among ids : List Identifier) (x : List ℕ) → unknown among ids ≡ [] → is_in ids x ≡ true → is_in among x ≡ true
+known_in among [] x none h = absurd (true≢false (sym h))
+known_in among (id ∷ ids) x none h = elim (or_cases (same_name x id.name) (is_in ids x) h) [
+  | inl here ↦
+      is_in-folded among x id.name (same_folded x id.name here)
+      ∙ known_name among id (is_in among id.name) refl (append-nil_left _ _ none)
+  | inr there ↦ known_in among ids x (append-nil_right (if is_in among id.name then [] else id.at ∷ []) _ none) there
+]
+
+parameters_read : (ts : List Tree) (x : List ℕ) → reads_some (flat_map tree_events ts) x ≡ true → is_in (flat_map tree_names ts) x ≡ true
+parameters_read [] x h = h
+parameters_read (t ∷ ts) x h = elim (reads_some-append (tree_events t) (flat_map tree_events ts) x h) [
+  | inl here ↦ in_append_left (tree_names t) (flat_map tree_names ts) x (sym (reads_of_names (tree_names t) x) ∙ here)
+  | inr there ↦ in_append_right (tree_names t) (flat_map tree_names ts) x (parameters_read ts x there)
+]
+
+sendings_known : (b : PlainBlock) (p : PlainProcess) (ss : List PlainSending) (x : List ℕ) → flat_map (sending_unknown b p) ss ≡ []
+    → reads_some (flat_map sending_events ss) x ≡ true → is_in (variable_names p) x ≡ true
+sendings_known b p [] x none h = absurd (true≢false (sym h))
+sendings_known b p (s ∷ ss) x none h = elim (reads_some-append (sending_events s) (flat_map sending_events ss) x h) [
+  | inl here ↦
+      known_in (variable_names p) (flat_map tree_names s.parameters) x
+      (append-nil_right (unknown (signal_names b) (s.signal ∷ [])) _ (append-nil_left (sending_unknown b p s) _ none))
+      (parameters_read s.parameters x here)
+  | inr there ↦ sendings_known b p ss x (append-nil_right (sending_unknown b p s) _ none) there
+]
+
+-- where an action names nothing unknown, what it reads is declared
+action_known : (b : PlainBlock) (p : PlainProcess) (a : PlainAction) (x : List ℕ) → action_unknown b p a ≡ []
+    → reads_some (action_events a) x ≡ true → is_in (variable_names p) x ≡ true
+action_known b p (task at list) x none h = known_in (variable_names p) (flat_map assignment_names list) x none (assignments_read list x h)
+action_known b p (output at list to) x none h = sendings_known b p list x (append-nil_left (flat_map (sending_unknown b p) list) _ none) h
+action_known b p (set_timer at delay timer) x none h =
+    known_in (variable_names p) (tree_names delay) x (append-nil_left (unknown (variable_names p) (tree_names delay)) _ none)
+    (sym (reads_of_names (tree_names delay) x) ∙ h)
+action_known b p (reset_timer at timer) x none h = absurd (true≢false (sym h))
+
+-- where a question names nothing unknown, what it reads is declared
+question_known : (p : PlainProcess) (t : Tree) (x : List ℕ) → unknown (variable_names p) (tree_names t) ≡ [] → reads_some (tree_events t) x ≡ true → is_in (variable_names p) x ≡ true
+question_known p t x none h = known_in (variable_names p) (tree_names t) x none (sym (reads_of_names (tree_names t) x) ∙ h)
+
+no_event : (events : List Event) (x : List ℕ) → events ≡ [] → reads_some events x ≡ true → ⊥
+no_event events x none h = true≢false (sym (ap (λ es. reads_some es x) (sym none) ∙ h))
+
+-- where an action, a question or a connection reads nothing but what is declared, a walk doesn't
+abbrev Declares : PlainProcess → List ℕ → (List Event → Way → Type 0) → Type 0
+Declares p x walks = (events : List Event) (way : Way) → walks events way → reads_some events x ≡ true → is_in (variable_names p) x ≡ true
+
+goes_known : (p : PlainProcess) (x : List ℕ) (rest : List Event → Way → Type 0) → Declares p x rest → (between : Way) (after : List Event) (way : Way)
+    → GoesOn between rest after way → reads_some after x ≡ true → is_in (variable_names p) x ≡ true
+goes_known p x rest told onward after way w h = told after way w h
+goes_known p x rest told stops after way w h = absurd (no_event after x w.0 h)
+goes_known p x rest told (into s) after way w h = absurd (no_event after x w.0 h)
+
+mutual
+  walks_known : (b : PlainBlock) (p : PlainProcess) (x : List ℕ) (join : List ℕ → List Event → Way → Type 0) → ((y : List ℕ) → Declares p x (join y))
+      → (t : Text) → HasNone (statement_unknown b p) t → Declares p x (Walks join t)
+  walks_known b p x join told falls known events way w h = absurd (no_event events x w.0 h)
+  walks_known b p x join told (ends (NextState n)) known events way w h = absurd (no_event events x w.0 h)
+  walks_known b p x join told (ends (Stop at)) known events way w h = absurd (no_event events x w.0 h)
+  walks_known b p x join told (ends (Join j)) known events way w h = told j.connector.name events way w h
+  walks_known b p x join told (does a rest) known events way (after, all, walk) h =
+      elim (reads_some-append (action_events a) after x (ap (λ es. reads_some es x) (sym all) ∙ h)) [
+        | inl here ↦ action_known b p a x known.0 here
+        | inr there ↦ walks_known b p x join told rest known.1 after way walk there
+      ]
+  walks_known b p x join told (decides at t c rest) known events way (chosen, after, between, all, one, walk) h =
+      let f = λ (s : Statement). statement_unknown b p s ≡ [] in
+      elim (reads_some-append (tree_events t) (chosen ++ after) x (ap (λ es. reads_some es x) (sym all) ∙ h)) [
+        | inl here ↦ question_known p t x known.0 here
+        | inr there ↦ elim (reads_some-append chosen after x there) [
+          | inl first ↦ chosen_known b p x join told t c (each_front f (choice_statements t c) (statements_of rest) known.1) chosen between one first
+          | inr second ↦ goes_known p x (Walks join rest) (walks_known b p x join told rest (each_back f (choice_statements t c) (statements_of rest) known.1)) between after way walk second
+        ]
+      ]
+
+  chosen_known : (b : PlainBlock) (p : PlainProcess) (x : List ℕ) (join : List ℕ → List Event → Way → Type 0) → ((y : List ℕ) → Declares p x (join y))
+      → (t : Tree) (c : Choice) → Each (λ s. statement_unknown b p s ≡ []) (choice_statements t c) → Declares p x (IsChosen join c)
+  chosen_known b p x join told t nothing_else known events way w h = absurd w
+  chosen_known b p x join told t (otherwise body) known events way w h = walks_known b p x join told body known events way w h
+  chosen_known b p x join told t (answer at ranges body others) known events way w h =
+      let f = λ (s : Statement). statement_unknown b p s ≡ [] in
+      elim w [
+        | inl one ↦ walks_known b p x join told body (each_front f (statements_of body) (choice_statements t others) known.1) events way one h
+        | inr other ↦ chosen_known b p x join told t others (each_back f (statements_of body) (choice_statements t others) known.1) events way other h
+      ]
+
+-- no text of a process names what is unknown
+abbrev AreKnown : PlainBlock → PlainProcess → Type 0
+AreKnown b p = (t : Text) → IsTextOf p t → HasNone (statement_unknown b p) t
+
+are_known : (b : PlainBlock) (p : PlainProcess) → process_unknown b p ≡ [] → AreKnown b p
+are_known b p known =
+    let inputs = flat_map (input_unknown b p) (input_parts p) in
+    let saves = flat_map (saves_unknown b p) p.states in
+    let all = in_statements (λ from. statement_unknown b p) p in
+    texts_none (statement_unknown b p) p (append-nil_right saves all (append-nil_right inputs (saves ++ all) known))
+
+follows_known : (b : PlainBlock) (p : PlainProcess) (x : List ℕ) → AreKnown b p → (n : ℕ) (y : List ℕ) → Declares p x (Follows p n y)
+follows_known b p x known zero y events way w h = absurd w
+follows_known b p x known (suc n) y events way (c, is, inner, w, last) h =
+    walks_known b p x (Follows p n) (follows_known b p x known n) c.text (known c.text (inr (inr (c, connection_there p y c is, refl)))) events inner w h
+
+-- and so is what a walk of a text reads
+walk_known : (b : PlainBlock) (p : PlainProcess) (t : Text) (events : List Event) (end : Option (List ℕ)) (x : List ℕ) → AreKnown b p → IsTextOf p t
+    → IsWalk p t events end → reads_some events x ≡ true → is_in (variable_names p) x ≡ true
+walk_known b p t events end x known text (n, way, w, e) h = walks_known b p x (Follows p n) (follows_known b p x known n) t (known t text) events way w h
+
+-- a known name has a number
+pub has_number : (ids : List Identifier) (x : List ℕ) → is_in ids x ≡ true
+    → (v : ℕ) × (id : Identifier) × (slice_get ids v ≡ Some id) × (folded x ≡ folded id.name)
+has_number [] x h = absurd (true≢false (sym h))
+has_number (id ∷ ids) x h = elim (or_cases (same_name x id.name) (is_in ids x) h) [
+  | inl here ↦ (zero, id, refl, same_folded x id.name here)
+  | inr there ↦ let rest = has_number ids x there in (suc rest.0, rest.1, rest.2, rest.3)
+]
+
+pub none_at : {A : Type 0} (f : A → List ℕ) (xs : List A) (i : ℕ) (x : A) → flat_map f xs ≡ [] → slice_get xs i ≡ Some x → f x ≡ []
+none_at f [] i x none e = let bad : None ≡ Some x = e in absurd (cc)
+none_at {A = A} f (y ∷ xs) zero x none e =
+    let same : y ≡ x = let s : Some y ≡ Some x = e in cc in
+    subst (λ (z : A). f z ≡ []) same (append-nil_left (f y) _ none)
+none_at f (y ∷ xs) (suc i) x none e = none_at f xs i x (append-nil_right (f y) _ none) e
+
+-- ---- the variable that a path reads
+
+abbrev IsDeclared : PlainProcess → List ℕ → Type 0
+IsDeclared p x = is_in (variable_names p) x ≡ true
+
+contains_slice : {A : Type 0} (xs : List A) (x : A) → Contains xs x → (i : ℕ) × (slice_get xs i ≡ Some x)
+contains_slice xs x there = (there.0, slice_get-get_or xs there.0 x there.1 ∙ ap Some there.2)
+
+-- a step by name is one by number
+abbrev pub IsTaken : PlainProcess → List ℕ → Input → Type 0
+IsTaken p s inp =
+    (q : ℕ) × (id : Identifier) × (i : ℕ) × (number_of (states_of p) s ≡ Some q) × (slice_get (states_of p) q ≡ Some id)
+    × (slice_get (inputs_of p q) i ≡ Some inp)
+
+taken_at : (p : PlainProcess) (s : List ℕ) (inp : Input) (o : Option ℕ) → number_of (states_of p) s ≡ o → Contains (inputs_in p s) inp → IsTaken p s inp
+taken_at p s inp None e among =
+    let none : inputs_in p s ≡ [] = ap (λ o. option_map_or (inputs_of p) o []) e in
+    let short : among.0 < 0 = subst (λ (l : List Input). among.0 < length l) none among.1 in absurd (omega (arith, short))
+taken_at p s inp (Some q) e among =
+    let same : inputs_in p s ≡ inputs_of p q = ap (λ o. option_map_or (inputs_of p) o []) e in
+    let state = number_names (states_of p) s q e in
+    let there = contains_slice (inputs_of p q) inp (subst (λ (l : List Input). Contains l inp) same among) in
+    (q, state.0, there.0, e, state.1, there.1)
+
+taken : (p : PlainProcess) (s : List ℕ) (inp : Input) → Contains (inputs_in p s) inp → IsTaken p s inp
+taken p s inp among = taken_at p s inp (number_of (states_of p) s) refl among
+
+start_declared : (b : PlainBlock) (p : PlainProcess) (t : Transition) (events : List Event) (end : Option (List ℕ)) (x : List ℕ)
+    → AreKnown b p → t ≡ start_transition p → IsWalk p t.text events end → reads_first (t.first ++ events) x ≡ true → IsDeclared p x
+start_declared b p t events end x known is walk first =
+    let s = start_transition p in
+    let text : IsWalk p p.start.text events end = subst (λ (u : Transition). IsWalk p u.text events end) is walk in
+    let all : reads_first (s.first ++ events) x ≡ true = ap (λ (u : Transition). reads_first (u.first ++ events) x) (sym is) ∙ first in
+    elim (reads_some-append s.first events x (reads_some-first (s.first ++ events) x all)) [
+      | inl none ↦ absurd (initial_reads_nothing (variables_of p) x none)
+      | inr there ↦ walk_known b p p.start.text events end x known (inl refl) text there
+    ]
+
+input_declared : (b : PlainBlock) (p : PlainProcess) (s : List ℕ) (inp : Input) (t : Transition) (events : List Event) (end : Option (List ℕ)) (x : List ℕ)
+    → AreKnown b p → Contains (inputs_in p s) inp → t ≡ input_transition inp → IsWalk p t.text events end
+    → reads_first (t.first ++ events) x ≡ true → IsDeclared p x
+input_declared b p s inp t events end x known among is walk first =
+    let u = input_transition inp in
+    let here = taken p s inp among in
+    let text : IsWalk p inp.text events end = subst (λ (w : Transition). IsWalk p w.text events end) is walk in
+    let all : reads_first (u.first ++ events) x ≡ true = ap (λ (w : Transition). reads_first (w.first ++ events) x) (sym is) ∙ first in
+    elim (reads_some-append u.first events x (reads_some-first (u.first ++ events) x all)) [
+      | inl none ↦ absurd (sets_read_nothing (place_names inp.stimulus.places) x none)
+      | inr there ↦ walk_known b p inp.text events end x known (inr (inl (here.0, inp, among_at (inputs_of p here.0) here.2 inp here.5, refl))) text there
+    ]
+
+-- what is read at the end of a path is declared
+read_declared : (b : PlainBlock) (p : PlainProcess) → AreKnown b p → (steps : List Step) (place : Place) (x : List ℕ)
+    → ReadsFrom p place steps x → IsDeclared p x
+read_declared b p known [] place x r = absurd r
+read_declared b p known (Start ∷ []) None x (t, leads, events, end, walk, first) = start_declared b p t events end x known leads walk first
+read_declared b p known (Takes state signal ∷ []) None x (t, leads, events, end, walk, first) = absurd leads
+read_declared b p known (Start ∷ []) (Some s) x (t, leads, events, end, walk, first) = absurd leads
+read_declared b p known (Takes state signal ∷ []) (Some s) x (t, (same, inp, among, heard, is), events, end, walk, first) =
+    input_declared b p s inp t events end x known among is walk first
+read_declared b p known (step ∷ next ∷ steps) place x (t, leads, events, s, walk, unset, rest) = read_declared b p known (next ∷ steps) (Some s) x rest
+
+-- ---- the path by numbers
+
+-- one step in front
+longer : (g : Graph) (v : ℕ) (place : graph.Place) (step : number.Step) (t : Summary) (r : ℕ) → graph.Leads g place step t → Passes t v r
+    → (path : List number.Step) → graph.ReadsFrom g v (Some r) path → graph.ReadsFrom g v place (step ∷ path)
+longer g v place step t r leads passes [] rest = absurd rest
+longer g v place step t r leads passes (next ∷ path) rest = (t, r, leads, passes, rest)
+
+-- where the next step leads from is a state
+state_there : (p : PlainProcess) (s : List ℕ) (steps : List Step) (x : List ℕ) → ReadsFrom p (Some s) steps x → (q : ℕ) × (number_of (states_of p) s ≡ Some q)
+state_there p s [] x r = absurd r
+state_there p s (Start ∷ []) x r = absurd r.1
+state_there p s (Start ∷ next ∷ steps) x r = absurd r.1
+state_there p s (Takes state signal ∷ []) x r = let here = taken p s r.1.1 r.1.2 in (here.0, here.3)
+state_there p s (Takes state signal ∷ next ∷ steps) x r = let here = taken p s r.1.1 r.1.2 in (here.0, here.3)
+
+-- a walk that reads x unset
+read_by : (p : PlainProcess) (u t : Transition) (sum : Summary) (v : ℕ) (id : Identifier) (x : List ℕ) (events : List Event) (end : Option (List ℕ))
+    → IsSummaryOf p u sum → slice_get (variable_names p) v ≡ Some id → folded x ≡ folded id.name → t ≡ u → IsWalk p t.text events end
+    → reads_first (t.first ++ events) x ≡ true → has sum.reads v ≡ true
+read_by p u t sum v id x events end is var same e walk first =
+    (is.reads v id var).1 (record {
+      events = events;
+      end = end;
+      walk = subst (λ (w : Transition). IsWalk p w.text events end) e walk;
+      first =
+          sym (reads_first-same (u.first ++ events) x id.name same)
+          ∙ ap (λ (w : Transition). reads_first (w.first ++ events) x) (sym e) ∙ first;
+    })
+
+-- a walk that leaves x unset
+passes_by : (p : PlainProcess) (u t : Transition) (sum : Summary) (v : ℕ) (id : Identifier) (x : List ℕ) (events : List Event) (s : List ℕ) (q : ℕ)
+    → IsSummaryOf p u sum → slice_get (variable_names p) v ≡ Some id → folded x ≡ folded id.name → t ≡ u → IsWalk p t.text events (Some s)
+    → number_of (states_of p) s ≡ Some q → sets_in (t.first ++ events) x ≡ false → Passes sum v q
+passes_by p u t sum v id x events s q is var same e walk state unset =
+    (is.passes v q id var).1 (record {
+      events = events;
+      state = s;
+      walk = subst (λ (w : Transition). IsWalk p w.text events (Some s)) e walk;
+      number = state;
+      keeps =
+          sym (sets_in-same (u.first ++ events) x id.name same)
+          ∙ ap (λ (w : Transition). sets_in (w.first ++ events) x) (sym e) ∙ unset;
+    })
+
+numbers_from : (p : PlainProcess) (g : Graph) (v : ℕ) (id : Identifier) (x : List ℕ) → IsGraphOf p g → slice_get (variable_names p) v ≡ Some id
+    → folded x ≡ folded id.name → (steps : List Step) (s : List ℕ) (q : ℕ) → number_of (states_of p) s ≡ Some q → ReadsFrom p (Some s) steps x
+    → (path : List number.Step) × graph.ReadsFrom g v (Some q) path × (length path ≡ length steps)
+numbers_from p g v id x is var same [] s q state r = absurd r
+numbers_from p g v id x is var same (Start ∷ []) s q state r = absurd r.1
+numbers_from p g v id x is var same (Start ∷ next ∷ steps) s q state r = absurd r.1
+numbers_from p g v id x is var same (Takes name signal ∷ []) s q state (t, (spelled, inp, among, heard, e), events, end, walk, first) =
+    let here = taken p s inp among in
+    let at : here.0 ≡ q = let h : Some here.0 ≡ Some q = sym here.3 ∙ state in cc in
+    let input = input_in_graph p g here.0 here.2 here.1 inp is here.4 here.5 in
+    let told = read_by p (input_transition inp) t input.0 v id x events end input.2 var same e walk first in
+    (By here.0 here.2 ∷ [], (input.0, (at, ap (λ m. input_at g m here.2) (sym at) ∙ input.1), told), refl)
+numbers_from p g v id x is var same (Takes name signal ∷ next ∷ steps) s q state (t, (spelled, inp, among, heard, e), events, s2, walk, unset, rest) =
+    let here = taken p s inp among in
+    let at : here.0 ≡ q = let h : Some here.0 ≡ Some q = sym here.3 ∙ state in cc in
+    let input = input_in_graph p g here.0 here.2 here.1 inp is here.4 here.5 in
+    let after = state_there p s2 (next ∷ steps) x rest in
+    let passes = passes_by p (input_transition inp) t input.0 v id x events s2 after.0 input.2 var same e walk after.1 unset in
+    let path = numbers_from p g v id x is var same (next ∷ steps) s2 after.0 after.1 rest in
+    (By here.0 here.2 ∷ path.0, longer g v (Some q) (By here.0 here.2) input.0 after.0 (at, ap (λ m. input_at g m here.2) (sym at) ∙ input.1) passes path.0 path.1, ap suc path.2)
+
+-- a path by names that reads a declared variable unset is one by numbers, as long
+numbers_of : (p : PlainProcess) (g : Graph) (v : ℕ) (id : Identifier) (x : List ℕ) → IsGraphOf p g → slice_get (variable_names p) v ≡ Some id
+    → folded x ≡ folded id.name → (steps : List Step) → ReadsUnset p steps x
+    → (path : List number.Step) × graph.ReadsUnset g v path × (length path ≡ length steps)
+numbers_of p g v id x is var same [] r = absurd r
+numbers_of p g v id x is var same (Takes name signal ∷ []) r = absurd r.1
+numbers_of p g v id x is var same (Takes name signal ∷ next ∷ steps) r = absurd r.1
+numbers_of p g v id x is var same (Start ∷ []) (t, leads, events, end, walk, first) =
+    let told = read_by p (start_transition p) t g.start v id x events end is.start var same leads walk first in
+    (First ∷ [], (g.start, refl, told), refl)
+numbers_of p g v id x is var same (Start ∷ next ∷ steps) (t, leads, events, s2, walk, unset, rest) =
+    let after = state_there p s2 (next ∷ steps) x rest in
+    let passes = passes_by p (start_transition p) t g.start v id x events s2 after.0 is.start var same leads walk after.1 unset in
+    let path = numbers_from p g v id x is var same (next ∷ steps) s2 after.0 after.1 rest in
+    (First ∷ path.0, longer g v None First g.start after.0 refl passes path.0 path.1, ap suc path.2)
+
+-- a path by names that reads some variable unset is one by numbers of a declared one
+pub numbered_path : (b : PlainBlock) (p : PlainProcess) (g : Graph) → process_unknown b p ≡ [] → IsGraphOf p g → (steps : List Step) (x : List ℕ)
+    → ReadsUnset p steps x
+    → (v : ℕ) × (id : Identifier) × (slice_get (variable_names p) v ≡ Some id) × (path : List number.Step) × graph.ReadsUnset g v path
+    × (length path ≡ length steps)
+numbered_path b p g known is steps x r =
+    let named = has_number (variable_names p) x (read_declared b p (are_known b p known) steps None x r) in
+    let path = numbers_of p g named.0 named.1 x is named.2 named.3 steps r in
+    (named.0, named.1, named.2, path.0, path.1, path.2)
+
+-- where no path by numbers reads a variable unset, none by names does
+pub never_reads : (b : PlainBlock) (p : PlainProcess) (g : Graph) → process_unknown b p ≡ [] → IsGraphOf p g
+    → ((v : ℕ) (id : Identifier) → slice_get (variable_names p) v ≡ Some id → (path : List number.Step) → graph.ReadsUnset g v path → ⊥)
+    → NeverReadsUnset p
+never_reads b p g known is none steps x r =
+    let there = numbered_path b p g known is steps x r in
+    none there.0 there.1 there.2 there.3 there.4

@@ -1,0 +1,86 @@
+-- What becomes of the variables of a process, and how a path by numbers is named.
+use Rattle.std.specs.Prelude.{◌≡◌, ℕ, ◌<◌, ◌≤◌, Bool, true, false, not, List, [], Option, Some, length, slice_get, if◌then◌else◌, ⊤}
+use Rattle.std.specs.Option.{option_map_or, option_and_then}
+use Rattle.std.specs.Global.{Vec}
+use Rattle.unset_paths.specs.declared.Graph.{Graph}
+use Rattle.unset_paths.specs.declared.Fate.{Fate}
+use Rattle.unset_paths.specs.declared.Fate.TheVariants.{Unset, Set}
+use Rattle.unset_paths.specs.declared.Step as number
+use Rattle.unset_paths.specs.declared.Step.TheVariants.{Start as First, Input as By}
+use Rattle.unset_paths.specs.Graph.{IsClosedSet, ReadsUnset, IsShortest}
+use Rattle.sdl_tree.specs.Plain.{PlainProcess, PlainBlock}
+use Rattle.sdl_tree.specs.declared.expression.Identifier.{Identifier}
+use Rattle.sdl_tables.specs.Names.{same_name, number_of, variables_of, timers_of, states_of, Input, inputs_of, signal_named}
+use Rattle.sdl_unset.specs.Graphs.{IsGraphOf}
+use Rattle.sdl_sound.specs.declared.fault.Step.{Step}
+use Rattle.sdl_sound.specs.declared.fault.Step.TheVariants.{Start, Input as Takes}
+
+-- variable v of a graph is read unset by the path, and by none with fewer steps; or no path reads it unset, and the states are
+-- closed
+abbrev pub IsFate : Graph → ℕ → Fate → Type 0
+IsFate g v (Unset path) = ReadsUnset g v path.items × IsShortest g v path.items
+IsFate g v (Set marks) = ((path : List number.Step) → ReadsUnset g v path → ⊥) × IsClosedSet g v marks.items
+
+-- the fate of each variable of a process
+pub record AreFates (p : PlainProcess) (fates : List Fate) : Type 0 where
+  pub graph : Graph
+  pub is : IsGraphOf p graph
+  pub count : length fates ≡ length (variables_of p)
+  pub each : (v : ℕ) (f : Fate) → slice_get fates v ≡ Some f → IsFate graph v f
+
+-- whether a variable is set in a state
+abbrev pub is_set_in : Fate → ℕ → Bool
+is_set_in (Unset path) q = false
+is_set_in (Set marks) q = option_map_or not (slice_get marks.items q) false
+
+-- the bit of a variable in the set of a state
+abbrev pub set_bit : List Fate → ℕ → ℕ → ℕ
+set_bit fates q v = option_map_or (λ f. if is_set_in f q then 1 else 0) (slice_get fates v) 0
+
+-- there is such a step
+abbrev pub IsStep : PlainProcess → number.Step → Type 0
+IsStep p First = ⊤
+IsStep p (By q i) = (q < length (states_of p)) × (i < length (inputs_of p q))
+
+-- a step by numbers is this one by names
+abbrev pub IsNamed : PlainProcess → number.Step → Step → Type 0
+IsNamed p First n = n ≡ Start
+IsNamed p (By q i) n =
+    (id : Identifier) × (slice_get (states_of p) q ≡ Some id)
+    × (inp : Input) × (slice_get (inputs_of p q) i ≡ Some inp)
+    × (signal : List ℕ) × (same_name signal inp.stimulus.name.name ≡ true) × (n ≡ Takes id.name signal)
+
+-- the timer with a name
+abbrev pub timer_named : PlainProcess → List ℕ → Option Identifier
+timer_named p x = option_and_then (slice_get (timers_of p)) (number_of (timers_of p) x)
+
+-- the name of a signal or timer as it is declared; where neither is declared, as it is written
+abbrev pub declared_name : PlainBlock → PlainProcess → List ℕ → List ℕ
+declared_name b p x = option_map_or (λ s. s.name.name) (signal_named b x) (option_map_or (λ id. id.name) (timer_named p x) x)
+
+-- a step by names spells what it takes as that is declared
+abbrev pub IsSpelled : PlainBlock → PlainProcess → number.Step → Step → Type 0
+IsSpelled b p First n = ⊤
+IsSpelled b p (By q i) n =
+    (inp : Input) → slice_get (inputs_of p q) i ≡ Some inp → (state signal : List ℕ) → n ≡ Takes state signal
+    → signal ≡ declared_name b p inp.stimulus.name.name
+
+-- a path reads this variable unset
+abbrev pub IsUnsetAt : List Fate → ℕ → Type 0
+IsUnsetAt fates v = (path : Vec number.Step) × (slice_get fates v ≡ Some (Unset path))
+
+-- the path by which a variable is read unset; empty where there is none
+abbrev pub path_of : Fate → List number.Step
+path_of (Unset path) = path.items
+path_of (Set marks) = []
+
+abbrev pub fate_path : List Fate → ℕ → List number.Step
+fate_path fates v = option_map_or path_of (slice_get fates v) []
+
+-- none of the variables that are read unset is so by fewer steps
+abbrev pub HasFewest : List Fate → ℕ → Type 0
+HasFewest fates v = (w : ℕ) → IsUnsetAt fates w → length (fate_path fates v) ≤ length (fate_path fates w)
+
+-- each of these variables is set
+abbrev pub AreSet : List Fate → Type 0
+AreSet fates = (v : ℕ) (path : Vec number.Step) → slice_get fates v ≡ Some (Unset path) → ⊥

@@ -1,0 +1,4 @@
+pub mod Fates
+pub mod Flows
+pub mod Graphs
+pub mod Surveys

@@ -1,0 +1,16 @@
+//! Whether a control path reads a variable before it is set (S11), and by which path; if none does, what is set in each state.
+#![tactic(auto)]
+
+mod flow;
+mod laws;
+mod search;
+mod sets;
+mod settled;
+mod sight;
+mod spelled;
+mod summaries;
+mod walker;
+mod walks;
+
+pub use laws::chances_law;
+pub use settled::{Unset, settle};

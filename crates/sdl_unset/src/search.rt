@@ -1,0 +1,107 @@
+//! Which variables of a process a control path reads before they are set, and which of them is named.
+ghost use Rattle.std.specs.Prelude.{◌≡◌, ◌⊎◌, [], ◌≤◌, true, false, Some, length, IfOk, IfSome, IfNone};
+ghost use Rattle.sdl_tree.specs.Plain.{PlainBlock};
+ghost use Rattle.sdl_tree.specs.Views.{process_of};
+ghost use Rattle.sdl_sound.specs.Names.{process_unknown};
+ghost use Rattle.sdl_sound.specs.Actions.{in_statements};
+ghost use Rattle.sdl_sound.specs.Decisions.{statement_unanswered};
+ghost use Rattle.sdl_sound.specs.Orders.{IsOrder};
+ghost use Rattle.sdl_tables.specs.Names.{variables_of};
+ghost use Rattle.sdl_unset.specs.Fates.{AreFates, AreSet, IsUnsetAt, fate_path, HasFewest};
+
+use crate::summaries::graph_of;
+use sdl_tables::ProcessTable;
+use std::alloc::{AllocError, Global};
+use std::cmp::Ordering;
+use unset_paths::{Fate, first_unset};
+
+/// What becomes of each variable of a process, by number. The order is one of its connections, each behind those that it
+/// joins.
+pub(crate) fn find_fates(
+    alloc: Global,
+    table: &ProcessTable,
+    order: &[usize],
+) -> Result<Vec<Fate>, AllocError>
+    requires few { length (variables_of (process_of table.now)) ≤ 32 }
+    requires known { (b : PlainBlock) × (process_unknown b (process_of table.now) ≡ []) }
+    requires answered { in_statements (λ from. statement_unanswered (variables_of (process_of table.now))) (process_of table.now) ≡ [] }
+    requires order { IsOrder (process_of table.now) order.now }
+    ensures { IfOk result (λ v. AreFates (process_of table.now) v.items) }
+{
+    let graph = graph_of(alloc, table, order)?;
+    let mut fates = Vec::new(alloc);
+    for variable in 0..table.rows().len() {
+        fates.push(first_unset(alloc, &graph, variable as u32)?)?;
+    }
+    Ok(fates)
+}
+
+/// The path that reads a variable unset; empty where there is none.
+pub(crate) fn path_at(fates: &[Fate], variable: usize) -> &[unset_paths::Step]
+    ensures { result.now ≡ fate_path fates.now variable }
+{
+    match fates.get(variable) {
+        Some(Fate::Unset(path)) => path,
+        Some(Fate::Set(_)) => &[],
+        None => &[],
+    }
+}
+
+fn place_at(places: &[Option<u32>], variable: usize) -> Option<u32> {
+    match places.get(variable) {
+        Some(place) => *place,
+        None => None,
+    }
+}
+
+/// Whether the first variable is named before the other: its path has fewer transitions, or its first other transition
+/// comes first in the text, or its unset read does.
+fn comes_first(fates: &[Fate], places: &[Option<u32>], one: usize, other: usize) -> bool
+    ensures first { result ≡ true → length (fate_path fates.now one) ≤ length (fate_path fates.now other) }
+    ensures last { result ≡ false → length (fate_path fates.now other) ≤ length (fate_path fates.now one) }
+{
+    let path = path_at(fates, one);
+    let other_path = path_at(fates, other);
+    if path.len() != other_path.len() {
+        return path.len() < other_path.len();
+    }
+    match path.cmp(other_path) {
+        Ordering::Less => true,
+        Ordering::Greater => false,
+        Ordering::Equal => place_at(places, one) < place_at(places, other),
+    }
+}
+
+/// The one of two variables that is named: no path of the two has fewer steps than its own.
+fn first_of(fates: &[Fate], places: &[Option<u32>], best: Option<usize>, other: usize) -> usize
+    ensures one { (result ≡ other) ⊎ (best ≡ Some result) }
+    ensures fewer { length (fate_path fates.now result) ≤ length (fate_path fates.now other) }
+    ensures best { IfSome best (λ one. length (fate_path fates.now result) ≤ length (fate_path fates.now one)) }
+{
+    match best {
+        None => other,
+        Some(one) => {
+            if comes_first(fates, places, other, one) {
+                other
+            } else {
+                one
+            }
+        }
+    }
+}
+
+/// The variable that is named, of those that are read unset.
+pub(crate) fn find_first(fates: &[Fate], places: &[Option<u32>]) -> Option<usize>
+    ensures found { IfSome result (IsUnsetAt fates.now) }
+    ensures fewest { IfSome result (HasFewest fates.now) }
+    ensures none { IfNone result (AreSet fates.now) }
+{
+    let mut best = None;
+    for (variable, fate) in fates.iter().enumerate() {
+        match fate {
+            Fate::Set(_) => {}
+            Fate::Unset(_) => best = Some(first_of(fates, places, best, variable)),
+        }
+    }
+    best
+}
