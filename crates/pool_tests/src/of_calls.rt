@@ -45,6 +45,7 @@ fn happened(closed: &Closed) -> u64 {
 struct Offers {
     receipts: Vec<Receipt>,
     taken: u32,
+    due: Option<usize>,
     closing: Option<PoolRefusal>,
     absent: Option<PoolRefusal>,
 }
@@ -66,7 +67,9 @@ impl Client for Offers {
             }
             thread::yield_now();
         }
-        let _passed = pool.advance(1, 5, seat);
+        if let Ok((due, _)) = pool.advance(1, 5, seat) {
+            self.due = Some(due);
+        }
         pool.close();
         self.closing = pool.offer(0, 0, UP, &[], seat).err();
         self.absent = pool.advance(2, 1, seat).err();
@@ -106,6 +109,7 @@ fn receipts_stand_in_the_journals(rt: HostRuntime) -> Result<(), Fail> {
     let mut client = Offers {
         receipts: Vec::new(rt.alloc()),
         taken: 0,
+        due: None,
         closing: None,
         absent: None,
     };
@@ -114,6 +118,7 @@ fn receipts_stand_in_the_journals(rt: HostRuntime) -> Result<(), Fail> {
     };
     assert!(rt; client.receipts.len() >= 20);
     assert!(rt; client.taken >= 10);
+    assert!(rt; client.due == Some(0), "the set has no timers");
     assert!(rt; client.closing == Some(PoolRefusal::Closing));
     assert!(rt; client.absent == Some(PoolRefusal::NoLink));
     assert_eq!(rt; counted(&closed), happened(&closed));
@@ -132,14 +137,29 @@ struct Rebases {
     taken: u32,
     refused: u32,
     fallen: u32,
-    last: u64,
+    newest: u64,
 }
 
 impl Rebases {
+    /// Offers a signal, and keeps the place that it got. Why it is refused, if it is.
+    fn offers<R: Wait, L: Ledger>(
+        &mut self,
+        pool: &Pool<'_, R, L>,
+        seat: &mut Seat<L>,
+    ) -> Option<PoolRefusal> {
+        match pool.offer(0, 0, UP, &[], seat) {
+            Ok(receipt) => {
+                self.newest = receipt.place;
+                None
+            }
+            Err(refusal) => Some(refusal),
+        }
+    }
+
     /// Offers and takes. Where neither goes time passes, so that what is left of the journal is used up. Whether it is full.
     fn fills<R: Wait, L: Ledger>(&mut self, pool: &Pool<'_, R, L>, seat: &mut Seat<L>) -> bool {
         let full = Some(PoolRefusal::Refused(Refusal::JournalFull));
-        let offered = pool.offer(0, 0, UP, &[], seat).err();
+        let offered = self.offers(pool, seat);
         let taken = pool.take_env(0, seat).err();
         if taken.is_none() {
             self.taken = self.taken.saturating_add(1);
@@ -155,10 +175,9 @@ impl Rebases {
         match pool.rebase(0, seat) {
             Ok(place) => {
                 self.rebases = self.rebases.saturating_add(1);
-                if place < self.last {
+                if place <= self.newest {
                     self.fallen = self.fallen.saturating_add(1);
                 }
-                self.last = place;
             }
             Err(_) => self.refused = self.refused.saturating_add(1),
         }
@@ -187,7 +206,7 @@ fn workers_come_back_to_a_journal_that_was_full(rt: HostRuntime) -> Result<(), F
         taken: 0,
         refused: 0,
         fallen: 0,
-        last: 0,
+        newest: 0,
     };
     let Ok(closed) = serve(&rt, rt.alloc(), books, 2, &Open, &mut client) else {
         return Err(Fail::new("nobody was served"));
@@ -195,7 +214,7 @@ fn workers_come_back_to_a_journal_that_was_full(rt: HostRuntime) -> Result<(), F
     assert!(rt; client.rebases >= 100);
     assert!(rt; client.taken >= 100);
     assert_eq!(rt; client.refused, 0, "each rebase is accepted");
-    assert_eq!(rt; client.fallen, 0, "places rise");
+    assert_eq!(rt; client.fallen, 0, "the next place is behind each event's");
     assert_eq!(rt; counted(&closed), happened(&closed));
     for book in &closed.books {
         assert!(rt; book.next() >= 1500);

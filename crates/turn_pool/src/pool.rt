@@ -8,7 +8,7 @@ ghost use Rattle.turn_pool.specs.declared.receipt.PoolRefusal.TheVariants.{NoLin
 
 use crate::receipt::{PoolRefusal, Receipt};
 use crate::slot::Slot;
-use crate::totals::{Seat, Totals};
+use crate::totals::{Seat, Shared, Totals};
 use actor_book::Emitted;
 use std::sync::atomic::{AtomicBool, Ordering};
 use std::sync::ledger::Ledger;
@@ -33,6 +33,14 @@ impl<'r, R: Wait, L: Ledger> Pool<'r, R, L> {
     /// Whether the pool is closing.
     pub(crate) fn is_closing(&self) -> bool {
         self.closing.load(Ordering::SeqCst)
+    }
+
+    /// Where events are counted: the account, behind its lock.
+    pub(crate) fn account(&self) -> Shared<'_, R, L> {
+        Shared {
+            rt: self.rt,
+            totals: &self.totals,
+        }
     }
 
     /// The lock of a link, while the pool is open.
@@ -67,7 +75,7 @@ impl<'r, R: Wait, L: Ledger> Pool<'r, R, L> {
         ensures refused { let e = Offered (record { actor = actor; signal = signal; values = record { items = values.now } }) in IfErr result (IsRefusal e) }
     {
         let mut slot = self.open_link(link)?.lock(self.rt);
-        let mut totals = self.totals.lock(self.rt);
+        let mut totals = self.account();
         match slot.offer(seat, &mut totals, actor, signal, values) {
             Ok(receipt) => Ok(receipt.of_link(link)),
             Err(refusal) => Err(PoolRefusal::Refused(refusal)),
@@ -92,7 +100,7 @@ impl<'r, R: Wait, L: Ledger> Pool<'r, R, L> {
         ensures refused { IfErr result (IsRefusal (Advance ticks)) }
     {
         let mut slot = self.open_link(link)?.lock(self.rt);
-        let mut totals = self.totals.lock(self.rt);
+        let mut totals = self.account();
         match slot.advance(seat, &mut totals, ticks) {
             Ok((due, receipt)) => Ok((due, receipt.of_link(link))),
             Err(refusal) => Err(PoolRefusal::Refused(refusal)),
@@ -117,7 +125,7 @@ impl<'r, R: Wait, L: Ledger> Pool<'r, R, L> {
         ensures refused { IfErr result (IsRefusal TakeEnv) }
     {
         let mut slot = self.open_link(link)?.lock(self.rt);
-        let mut totals = self.totals.lock(self.rt);
+        let mut totals = self.account();
         match slot.take_env(seat, &mut totals) {
             Ok((emitted, receipt)) => Ok((emitted, receipt.of_link(link))),
             Err(refusal) => Err(PoolRefusal::Refused(refusal)),

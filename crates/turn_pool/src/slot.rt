@@ -9,7 +9,7 @@ ghost use Rattle.actor_book.specs.Answered.{answer_by};
 ghost use Rattle.turn_pool.specs.Moves.{Begins, Skips, Finishes};
 
 use crate::receipt::Receipt;
-use crate::totals::{Seat, Totals};
+use crate::totals::{Counts, Seat};
 use actor_book::{Book, Emitted, Event, Refusal, Report};
 use link_machine::laws::place_law;
 use std::alloc::AllocError;
@@ -66,10 +66,10 @@ impl<L: Ledger> Slot<L> {
     /// # Errors
     ///
     /// Those of the book. Then nothing changes.
-    pub fn offer(
+    pub fn offer<T: Counts<L>>(
         &mut self,
         seat: &mut Seat<L>,
-        totals: &mut Totals<L>,
+        totals: &mut T,
         actor: u16,
         signal: SignalNumber,
         values: &[Value],
@@ -104,10 +104,10 @@ impl<L: Ledger> Slot<L> {
     /// # Errors
     ///
     /// Those of the book. Then nothing changes.
-    pub fn advance(
+    pub fn advance<T: Counts<L>>(
         &mut self,
         seat: &mut Seat<L>,
-        totals: &mut Totals<L>,
+        totals: &mut T,
         ticks: u64,
     ) -> Result<(usize, Receipt), Refusal>
         ensures book { self.new.book ≡ (ask self.old.book (Advance ticks)).book }
@@ -139,10 +139,10 @@ impl<L: Ledger> Slot<L> {
     /// # Errors
     ///
     /// Those of the book. Then nothing changes.
-    pub fn take_env(
+    pub fn take_env<T: Counts<L>>(
         &mut self,
         seat: &mut Seat<L>,
-        totals: &mut Totals<L>,
+        totals: &mut T,
     ) -> Result<(Emitted, Receipt), Refusal>
         ensures book { self.new.book ≡ (ask self.old.book TakeEnv).book }
         ensures answer { answer_by (λ r. reply.Taken r.0) result ≡ (ask self.old.book TakeEnv).answer }
@@ -181,10 +181,10 @@ impl<L: Ledger> Slot<L> {
     }
 
     /// A worker begins a turn of an actor.
-    pub(crate) fn begin(
+    pub(crate) fn begin<T: Counts<L>>(
         &mut self,
         seat: &mut Seat<L>,
-        totals: &mut Totals<L>,
+        totals: &mut T,
         actor: u16,
     ) -> Result<Job, Refusal>
         ensures begins { Begins self.old.book actor result self.new.book }
@@ -198,10 +198,10 @@ impl<L: Ledger> Slot<L> {
     }
 
     /// A worker throws an item of an actor away.
-    pub(crate) fn skip(
+    pub(crate) fn skip<T: Counts<L>>(
         &mut self,
         seat: &mut Seat<L>,
-        totals: &mut Totals<L>,
+        totals: &mut T,
         actor: u16,
     ) -> Result<Trigger, Refusal>
         ensures skips { Skips self.old.book actor result self.new.book }
@@ -215,10 +215,10 @@ impl<L: Ledger> Slot<L> {
     }
 
     /// A worker ends a turn that is out.
-    pub(crate) fn finish(
+    pub(crate) fn finish<T: Counts<L>>(
         &mut self,
         seat: &mut Seat<L>,
-        totals: &mut Totals<L>,
+        totals: &mut T,
         done: Done,
     ) -> Result<Report, Done>
         ensures finishes { Finishes self.old.book done result self.new.book }
