@@ -6,5 +6,6 @@ mod findings;
 mod script;
 mod soaking;
 
+pub use client::{Open, Script};
 pub use script::{Soak, Step, soak_script};
 pub use soaking::soak;

@@ -3,7 +3,7 @@
 ghost use Rattle.std.specs.Prelude.{◌≡◌, ◌+◌, ◌↔◌, ◌≤◌, vec_len, Err, IfOk, IfErr, OnOk, OnErr};
 ghost use Rattle.link_machine.specs.declared.event.Event.TheVariants.{Offer as Offered, Advance, TakeEnv};
 ghost use Rattle.link_machine.specs.declared.reply.Reply.TheVariants as reply;
-ghost use Rattle.turn_pool.specs.Receipts.{IsOwn, IsTaken, IsRefusal, IsRebaseRefusal};
+ghost use Rattle.turn_pool.specs.Receipts.{IsOwn, IsTaken, IsRefusal, IsRebased, IsRebaseRefusal};
 ghost use Rattle.turn_pool.specs.declared.receipt.PoolRefusal.TheVariants.{NoLink};
 
 use crate::receipt::{PoolRefusal, Receipt};
@@ -75,6 +75,7 @@ impl<'r, R: Wait, L: Ledger> Pool<'r, R, L> {
         ensures refused { let e = Offered (record { actor = actor; signal = signal; values = record { items = values.now } }) in IfErr result (IsRefusal e) }
     {
         let mut slot = self.open_link(link)?.lock(self.rt);
+        slot.keeps();
         let mut totals = self.account();
         match slot.offer(seat, &mut totals, actor, signal, values) {
             Ok(receipt) => Ok(receipt.of_link(link)),
@@ -100,6 +101,7 @@ impl<'r, R: Wait, L: Ledger> Pool<'r, R, L> {
         ensures refused { IfErr result (IsRefusal (Advance ticks)) }
     {
         let mut slot = self.open_link(link)?.lock(self.rt);
+        slot.keeps();
         let mut totals = self.account();
         match slot.advance(seat, &mut totals, ticks) {
             Ok((due, receipt)) => Ok((due, receipt.of_link(link))),
@@ -125,6 +127,7 @@ impl<'r, R: Wait, L: Ledger> Pool<'r, R, L> {
         ensures refused { IfErr result (IsRefusal TakeEnv) }
     {
         let mut slot = self.open_link(link)?.lock(self.rt);
+        slot.keeps();
         let mut totals = self.account();
         match slot.take_env(seat, &mut totals) {
             Ok((emitted, receipt)) => Ok((emitted, receipt.of_link(link))),
@@ -140,11 +143,13 @@ impl<'r, R: Wait, L: Ledger> Pool<'r, R, L> {
     /// In this order: `B10 NoActor` for a link that isn't there, `G2 Closing`, `NoMemory`. Then nothing changes.
     pub fn rebase(&self, link: usize, seat: &mut Seat<L>) -> Result<u64, PoolRefusal>
         ensures same { seat.new ≡ seat.old }
+        ensures place { IfOk result IsRebased }
         ensures refused { IfErr result IsRebaseRefusal }
         ensures no_link { (result ≡ Err NoLink) ↔ (vec_len self.now.links ≤ link) }
     {
         let _seat = seat;
         let mut slot = self.open_link(link)?.lock(self.rt);
+        slot.keeps();
         match slot.rebase() {
             Ok(place) => Ok(place),
             Err(_) => Err(PoolRefusal::NoMemory),

@@ -7,6 +7,7 @@ ghost use Rattle.link_machine.specs.declared.event.Event.TheVariants.{Offer as O
 ghost use Rattle.link_machine.specs.declared.reply.Reply.TheVariants as reply;
 ghost use Rattle.actor_book.specs.Answered.{answer_by};
 ghost use Rattle.turn_pool.specs.Moves.{Begins, Skips, Finishes};
+ghost use Rattle.turn_pool.specs.Receipts.{IsHeld};
 
 use crate::receipt::Receipt;
 use crate::totals::{Counts, Seat};
@@ -58,6 +59,15 @@ impl<L: Ledger> Slot<L> {
         ensures { result.now ≡ self.now.book }
     {
         &self.book
+    }
+
+    /// What is known of each book.
+    pub(crate) fn keeps(&self)
+        ensures { IsHeld self.now.book }
+    {
+        let _valid = self.book.set().draft();
+        let _finishes = self.book.finishes();
+        let _place = self.book.next();
     }
 
     #[tactic(auto, using(crate::proofs::Asks::offered, crate::proofs::Asks::stands))]
