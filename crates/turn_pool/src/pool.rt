@@ -74,7 +74,8 @@ impl<'r, R: Wait, L: Ledger> Pool<'r, R, L> {
         ensures taken { let e = Offered (record { actor = actor; signal = signal; values = record { items = values.now } }) in IfOk result (IsTaken link e reply.Offered) }
         ensures refused { let e = Offered (record { actor = actor; signal = signal; values = record { items = values.now } }) in IfErr result (IsRefusal e) }
     {
-        let mut slot = self.open_link(link)?.lock(self.rt);
+        let mut lock = self.open_link(link)?.lock(self.rt);
+        let slot = &mut *lock;
         slot.keeps();
         let mut totals = self.account();
         match slot.offer(seat, &mut totals, actor, signal, values) {
@@ -100,7 +101,8 @@ impl<'r, R: Wait, L: Ledger> Pool<'r, R, L> {
         ensures taken { IfOk result (λ r. IsTaken link (Advance ticks) (reply.Passed r.0) r.1) }
         ensures refused { IfErr result (IsRefusal (Advance ticks)) }
     {
-        let mut slot = self.open_link(link)?.lock(self.rt);
+        let mut lock = self.open_link(link)?.lock(self.rt);
+        let slot = &mut *lock;
         slot.keeps();
         let mut totals = self.account();
         match slot.advance(seat, &mut totals, ticks) {
@@ -126,7 +128,8 @@ impl<'r, R: Wait, L: Ledger> Pool<'r, R, L> {
         ensures taken { IfOk result (λ r. IsTaken link TakeEnv (reply.Taken r.0) r.1) }
         ensures refused { IfErr result (IsRefusal TakeEnv) }
     {
-        let mut slot = self.open_link(link)?.lock(self.rt);
+        let mut lock = self.open_link(link)?.lock(self.rt);
+        let slot = &mut *lock;
         slot.keeps();
         let mut totals = self.account();
         match slot.take_env(seat, &mut totals) {
@@ -148,7 +151,8 @@ impl<'r, R: Wait, L: Ledger> Pool<'r, R, L> {
         ensures no_link { (result ≡ Err NoLink) ↔ (vec_len self.now.links ≤ link) }
     {
         let _seat = seat;
-        let mut slot = self.open_link(link)?.lock(self.rt);
+        let mut lock = self.open_link(link)?.lock(self.rt);
+        let slot = &mut *lock;
         slot.keeps();
         match slot.rebase() {
             Ok(place) => Ok(place),
