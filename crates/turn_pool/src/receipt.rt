@@ -74,11 +74,11 @@ impl fmt::Display for PoolRefusal {
     ghost output = { λ e. Some (pool_refusal_text e) };
 
     fn fmt<W: fmt::Write>(&self, f: &mut fmt::Formatter<W>) -> fmt::Result {
-        f.write_str(match self {
-            Self::NoLink => "B10 NoActor",
-            Self::Closing => "G2 Closing",
-            Self::NoMemory => "NoMemory",
-            Self::Refused(refusal) => refusal_name(*refusal),
-        })
+        match self {
+            Self::NoLink => f.write_str("B10 NoActor"),
+            Self::Closing => f.write_str("G2 Closing"),
+            Self::NoMemory => f.write_str("NoMemory"),
+            Self::Refused(refusal) => f.write_str(refusal_name(*refusal)),
+        }
     }
 }
