@@ -1,4 +1,4 @@
-use Rattle.std.proofs.Common.{◌≡◌, ◌×◌, ◌≤◌, ◌+◌, ◌*◌, sum, take}
+use Rattle.std.proofs.Common.{◌≡◌, ◌≤◌, ◌+◌, ◌*◌, sum, take}
 use Rattle.pool_soak.proofs.findings.counted.Given as goal
 
 abbrev pub invariant-loop-worker : goal.invariant-loop-worker
