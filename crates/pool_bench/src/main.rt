@@ -25,32 +25,22 @@ fn number_of(words: &[String], place: usize) -> Option<u32> {
     }
 }
 
-/// The numbers of the command line: of the rounds, and of the workers.
-fn numbers<R: Runtime + AllocGlobal>(rt: &R) -> io::Result<(Option<u32>, Option<u32>)> {
-    let words: Vec<String> = env::args(rt)?.collect(rt.alloc())?;
-    Ok((number_of(&words, 1), number_of(&words, 2)))
-}
-
-/// Prints the figures too.
-fn report_figures<R: Runtime>(rt: &R, workers: u32, word: &str, found: Found) -> io::Result<()> {
+/// Prints what was found, and where rounds were asked for the figures too.
+fn report<R: Runtime>(rt: &R, workers: u32, found: Found, asked: bool) -> io::Result<()> {
+    let word = if found.agree { "agree" } else { "differ" };
+    if !asked {
+        return println!(rt; "workers {workers} {word}");
+    }
     println!(rt;
         "workers {workers} {word} events {} micros {}",
         found.events, found.micros
     )
 }
 
-/// Prints what was found, and where rounds were asked for the figures too.
-fn report<R: Runtime>(rt: &R, workers: u32, found: Found, asked: bool) -> io::Result<()> {
-    let word = if found.agree { "agree" } else { "differ" };
-    if asked {
-        return report_figures(rt, workers, word, found);
-    }
-    println!(rt; "workers {workers} {word}")
-}
-
 fn main(rt: HostRuntime) -> io::Result<()> {
-    let (rounds, workers) = numbers(&rt)?;
-    let workers = workers.unwrap_or(WORKERS);
+    let words: Vec<String> = env::args(&rt)?.collect(rt.alloc())?;
+    let rounds = number_of(words.as_slice(), 1);
+    let workers = number_of(words.as_slice(), 2).unwrap_or(WORKERS);
     let found = measure(&rt, rounds.unwrap_or(FEW), workers)?;
     report(&rt, workers, found, rounds.is_some())
 }

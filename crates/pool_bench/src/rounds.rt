@@ -81,18 +81,6 @@ fn serve_alone(book: &mut Book, rounds: u32) {
     }
 }
 
-/// How many events a book without a pool has after the rounds.
-fn count_alone(alloc: Global, set: &Verified, rounds: u32) -> Option<u64> {
-    let mut books = open_books(alloc, set, 1).ok()?;
-    match books.get_mut(0) {
-        Some(book) => {
-            serve_alone(book, rounds);
-            Some(book.next())
-        }
-        None => None,
-    }
-}
-
 /// How many events there were, and whether the seats have as many.
 fn count_rounds<R: Runtime + AllocGlobal + Threads + Wait + Sync>(
     rt: &R,
@@ -100,33 +88,14 @@ fn count_rounds<R: Runtime + AllocGlobal + Threads + Wait + Sync>(
     rounds: u32,
     workers: u32,
 ) -> Option<(u64, bool)> {
-    if workers == 0 {
-        return Some((count_alone(rt.alloc(), set, rounds)?, true));
+    if workers > 0 {
+        let books = open_books(rt.alloc(), set, LINKS).ok()?;
+        return serve_links(rt, books, rounds, workers as usize);
     }
-    match open_books(rt.alloc(), set, LINKS) {
-        Ok(books) => serve_links(rt, books, rounds, workers as usize),
-        Err(_) => None,
-    }
-}
-
-/// Makes the rounds on a set, and takes the time.
-fn timed<R: Runtime + AllocGlobal + Threads + Wait + Sync>(
-    rt: &R,
-    set: &Verified,
-    rounds: u32,
-    workers: u32,
-) -> io::Result<Found> {
-    let start = Instant::now(rt)?;
-    let counted = count_rounds(rt, set, rounds, workers);
-    let time = start.elapsed(rt)?;
-    match counted {
-        Some((events, agree)) => Ok(Found {
-            events,
-            agree,
-            micros: u64::try_from(time.as_micros()).unwrap_or(u64::MAX),
-        }),
-        None => Err(io::Error::from(io::ErrorKind::OutOfMemory)),
-    }
+    let mut books = open_books(rt.alloc(), set, 1).ok()?;
+    let book = books.get_mut(0)?;
+    serve_alone(book, rounds);
+    Some((book.next(), true))
 }
 
 /// Makes the rounds with so many workers, without a pool where there are none.
@@ -135,8 +104,18 @@ pub fn measure<R: Runtime + AllocGlobal + Threads + Wait + Sync>(
     rounds: u32,
     workers: u32,
 ) -> io::Result<Found> {
-    match standard(rt.alloc()) {
-        Ok(set) => timed(rt, &set, rounds, workers),
-        Err(_) => Err(io::Error::from(io::ErrorKind::OutOfMemory)),
+    let Ok(set) = standard(rt.alloc()) else {
+        return Err(io::Error::from(io::ErrorKind::OutOfMemory));
+    };
+    let start = Instant::now(rt)?;
+    let counted = count_rounds(rt, &set, rounds, workers);
+    let time = start.elapsed(rt)?;
+    match counted {
+        Some((events, agree)) => Ok(Found {
+            events,
+            agree,
+            micros: u64::try_from(time.as_micros()).unwrap_or(u64::MAX),
+        }),
+        None => Err(io::Error::from(io::ErrorKind::OutOfMemory)),
     }
 }
