@@ -1,6 +1,6 @@
 //! What is found once all is over.
 
-ghost use Rattle.std.specs.Prelude.{◌≡◌, ◌⊎◌, ◌+◌, ◌&&◌, true, false, IsTrue, IfSome, sum, sum_by};
+ghost use Rattle.std.specs.Prelude.{◌≡◌, ◌↔◌, ◌⊎◌, ◌+◌, ◌&&◌, true, false, IsTrue, sum, sum_by};
 ghost use Rattle.link_machine.specs.Ledger.{next};
 ghost use Rattle.pool_soak.specs.Findings.{seats_finding, audit_finding};
 
@@ -41,39 +41,35 @@ impl fmt::Display for Finding {
     }
 }
 
-/// What all seats have, as far as a number holds it.
-fn counted(client: u64, workers: &[u64]) -> Option<u64>
-    ensures { IfSome result (λ n. n ≡ client + sum workers.now) }
+/// What all seats have. As there are less than 2^64 seats it is below 2^128.
+fn counted(client: u64, workers: &[u64]) -> u128
+    ensures { result ≡ client + sum workers.now }
 {
-    let mut all = client;
+    let _many = workers.len();
+    let mut all = u128::from(client);
     for worker in workers {
-        all = all.checked_add(*worker)?;
+        all += u128::from(*worker);
     }
-    Some(all)
+    all
 }
 
-/// The next places of all journals, as far as a number holds them.
-fn places(books: &[Book]) -> Option<u64>
-    ensures { IfSome result (λ n. n ≡ sum_by next books.now) }
+/// The next places of all journals.
+fn places(books: &[Book]) -> u128
+    ensures { result ≡ sum_by next books.now }
 {
-    let mut all = 0u64;
+    let _many = books.len();
+    let mut all = 0u128;
     for book in books {
-        all = all.checked_add(book.next())?;
+        all += u128::from(book.next());
     }
-    Some(all)
+    all
 }
 
 /// Whether the seats have together what the journals have, of books whose journals began at place 0.
 pub fn agree(closed: &Closed) -> bool
-    ensures yes { IsTrue result → closed.now.client + sum closed.now.workers.items ≡ sum_by next closed.now.books.items }
+    ensures { IsTrue result ↔ (closed.now.client + sum closed.now.workers.items ≡ sum_by next closed.now.books.items) }
 {
-    match (
-        counted(closed.client, &closed.workers),
-        places(&closed.books),
-    ) {
-        (Some(seats), Some(places)) => seats == places,
-        _ => false,
-    }
+    counted(closed.client, &closed.workers) == places(&closed.books)
 }
 
 /// What is printed of the seats.

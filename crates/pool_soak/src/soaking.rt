@@ -219,6 +219,7 @@ fn report<W: Write>(
     ensures differs { IfOk result (λ status. status ≡ 1 → SaysNo (W.contents writer.old) (W.contents writer.new)) }
     ensures agree { IfOk result (λ status. status ≡ 0 → closed.now.client + sum closed.now.workers.items ≡ sum_by next closed.now.books.items) }
     ensures stand { IfOk result (λ status. status ≡ 0 → AllStand closed.now.books.items receipts.now) }
+    ensures no { IfOk result (λ status. status ≡ 1 → closed.now.client + sum closed.now.workers.items ≡ sum_by next closed.now.books.items → AllStand closed.now.books.items receipts.now → ⊥) }
     ensures status { IfOk result (λ status. (status ≡ 0) ⊎ (status ≡ 1)) }
 {
     let agrees = agree(closed);

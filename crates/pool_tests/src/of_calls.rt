@@ -1,72 +1,72 @@
 //! What clients are answered, and what is left.
-use crate::sets::{Sends, UP, links, made};
-use actor_book::{Event, Refusal};
+use crate::sets::{ECHO, ECHOES, UP, links};
+use actor_book::{Book, Refusal};
+use pool_soak::{Open, agree};
+use std::alloc::Global;
 use std::sync::Wait;
 use std::sync::ledger::Ledger;
-use std::test::Fail;
 use std::thread;
-use turn_pool::{
-    Client, Closed, Gate, JobName, Mismatch, Pool, PoolFault, PoolRefusal, Receipt, Seat, serve,
-};
+use std::thread::Threads;
+use turn_pool::{Client, Closed, Mismatch, Pool, PoolFault, PoolRefusal, Receipt, Seat, serve};
 
 /// How often a loop asks for what is to come.
 const ASKS: u32 = 100_000_000;
 
-/// A gate that holds nobody.
-#[derive(Drop)]
-struct Open;
-
-impl Gate for Open {
-    fn enter(&self, _name: JobName) {}
-
-    fn leave(&self, _name: JobName) {}
-}
-
-/// What all seats have.
-fn counted(closed: &Closed) -> u64 {
-    let mut all = closed.client;
-    for worker in &closed.workers {
-        all = all.saturating_add(*worker);
-    }
-    all
-}
-
-/// What all journals have, of books that began at place 0.
-fn happened(closed: &Closed) -> u64 {
-    let mut all = 0u64;
-    for book in &closed.books {
-        all = all.saturating_add(book.next());
-    }
-    all
-}
-
-/// A client that offers signals to links in turn, and then looks at what a closed pool answers.
+/// A client that offers signals to two links in turn, and then looks at what a closed pool answers.
 #[derive(Drop)]
 struct Offers {
     receipts: Vec<Receipt>,
     taken: u32,
+    due: Option<usize>,
     closing: Option<PoolRefusal>,
     absent: Option<PoolRefusal>,
+}
+
+impl Offers {
+    /// Offers a link a signal, and takes what waits for the environment.
+    fn asks<R: Wait, L: Ledger>(&mut self, pool: &Pool<'_, R, L>, seat: &mut Seat<L>, link: usize) {
+        if let Ok(receipt) = pool.offer(link, 0, UP, &[], seat) {
+            let _kept = self.receipts.push(receipt);
+        }
+        if pool.take_env(link, seat).is_ok() {
+            self.taken = self.taken.saturating_add(1);
+        }
+    }
+
+    /// Whether it was answered as it should be.
+    fn is_answered(&self) -> [bool; 5] {
+        [
+            self.receipts.len() >= 20,
+            self.taken >= 10,
+            self.due == Some(0),
+            self.closing == Some(PoolRefusal::Closing),
+            self.absent == Some(PoolRefusal::NoLink),
+        ]
+    }
+
+    /// Whether the audit names the last receipt once its place is raised by one.
+    fn is_found_raised(&mut self, closed: &Closed) -> bool {
+        let position = self.receipts.len().saturating_sub(1);
+        match self.receipts.last_mut() {
+            Some(last) => last.place = last.place.saturating_add(1),
+            None => return false,
+        }
+        closed.audit(&self.receipts) == Err(Mismatch { position })
+    }
 }
 
 impl Client for Offers {
     fn drive<R: Wait, L: Ledger>(&mut self, pool: &Pool<'_, R, L>, seat: &mut Seat<L>) {
         for ask in 0..ASKS {
-            let link = (ask % 2) as usize;
-            if let Ok(receipt) = pool.offer(link, 0, UP, &[], seat) {
-                if self.receipts.push(receipt).is_err() {
-                    break;
-                }
-            }
-            if pool.take_env(link, seat).is_ok() {
-                self.taken = self.taken.saturating_add(1);
-            }
+            self.asks(pool, seat, (ask % 2) as usize);
             if self.receipts.len() >= 20 && self.taken >= 10 {
                 break;
             }
             thread::yield_now();
         }
-        let _passed = pool.advance(1, 5, seat);
+        if let Ok((due, _)) = pool.advance(1, 5, seat) {
+            self.due = Some(due);
+        }
         pool.close();
         self.closing = pool.offer(0, 0, UP, &[], seat).err();
         self.absent = pool.advance(2, 1, seat).err();
@@ -87,42 +87,38 @@ fn rise(receipts: &[Receipt], link: usize) -> bool {
     true
 }
 
-/// The last receipt of link 0, with its place raised by one.
-fn raised(receipts: Vec<Receipt>) -> Option<Receipt> {
-    let mut last = None;
-    for receipt in receipts {
-        if receipt.link == 0 {
-            last = Some(receipt);
-        }
-    }
-    let mut receipt = last?;
-    receipt.place = receipt.place.saturating_add(1);
-    Some(receipt)
+/// Whether what is left agrees with a client's receipts: the seats with the journals, the places that rise, the audit, and the
+/// audit of a receipt that is wrong.
+fn is_left(client: &mut Offers, closed: &Closed) -> [bool; 4] {
+    [
+        agree(closed),
+        rise(&client.receipts, 0) && rise(&client.receipts, 1),
+        closed.audit(&client.receipts).is_ok(),
+        client.is_found_raised(closed),
+    ]
 }
 
-#[test]
-fn receipts_stand_in_the_journals(rt: HostRuntime) -> Result<(), Fail> {
-    let books = links(rt.alloc(), 2, 2, Sends::Back, 4096)?;
+/// What a client of two links was answered, and what was left.
+fn offered<R: Threads + Wait + Sync>(rt: &R, alloc: Global) -> Option<([bool; 5], [bool; 4])> {
+    let books = links(alloc, ECHOES, 2, 4096)?;
     let mut client = Offers {
-        receipts: Vec::new(rt.alloc()),
+        receipts: Vec::new(alloc),
         taken: 0,
+        due: None,
         closing: None,
         absent: None,
     };
-    let Ok(closed) = serve(&rt, rt.alloc(), books, 3, &Open, &mut client) else {
-        return Err(Fail::new("nobody was served"));
-    };
-    assert!(rt; client.receipts.len() >= 20);
-    assert!(rt; client.taken >= 10);
-    assert!(rt; client.closing == Some(PoolRefusal::Closing));
-    assert!(rt; client.absent == Some(PoolRefusal::NoLink));
-    assert_eq!(rt; counted(&closed), happened(&closed));
-    assert!(rt; rise(&client.receipts, 0) && rise(&client.receipts, 1));
-    assert!(rt; closed.audit(&client.receipts).is_ok());
-    let mut alone = Vec::new(rt.alloc());
-    alone.push(raised(client.receipts).ok_or("link 0 has one")?)?;
-    assert!(rt; closed.audit(&alone) == Err(Mismatch { position: 0 }));
-    Ok(())
+    match serve(rt, alloc, books, 3, &Open, &mut client) {
+        Ok(closed) => Some((client.is_answered(), is_left(&mut client, &closed))),
+        Err(_) => None,
+    }
+}
+
+#[test]
+fn receipts_stand_in_the_journals(rt: HostRuntime) {
+    let (answered, left) = offered(&rt, rt.alloc()).unwrap_or(([false; 5], [false; 4]));
+    assert_eq!(rt; answered, [true; 5]);
+    assert_eq!(rt; left, [true; 4]);
 }
 
 /// A client that offers and takes on a journal that is soon full, and makes room in it, a hundred times each.
@@ -132,18 +128,43 @@ struct Rebases {
     taken: u32,
     refused: u32,
     fallen: u32,
-    last: u64,
+    newest: u64,
 }
 
 impl Rebases {
+    /// Offers a signal, and keeps the place that it got. Why it is refused, if it is.
+    fn offers<R: Wait, L: Ledger>(
+        &mut self,
+        pool: &Pool<'_, R, L>,
+        seat: &mut Seat<L>,
+    ) -> Option<PoolRefusal> {
+        match pool.offer(0, 0, UP, &[], seat) {
+            Ok(receipt) => {
+                self.newest = receipt.place;
+                None
+            }
+            Err(refusal) => Some(refusal),
+        }
+    }
+
+    /// Takes what waits for the environment. Why that is refused, if it is.
+    fn takes<R: Wait, L: Ledger>(
+        &mut self,
+        pool: &Pool<'_, R, L>,
+        seat: &mut Seat<L>,
+    ) -> Option<PoolRefusal> {
+        let refusal = pool.take_env(0, seat).err();
+        if refusal.is_none() {
+            self.taken = self.taken.saturating_add(1);
+        }
+        refusal
+    }
+
     /// Offers and takes. Where neither goes time passes, so that what is left of the journal is used up. Whether it is full.
     fn fills<R: Wait, L: Ledger>(&mut self, pool: &Pool<'_, R, L>, seat: &mut Seat<L>) -> bool {
         let full = Some(PoolRefusal::Refused(Refusal::JournalFull));
-        let offered = pool.offer(0, 0, UP, &[], seat).err();
-        let taken = pool.take_env(0, seat).err();
-        if taken.is_none() {
-            self.taken = self.taken.saturating_add(1);
-        }
+        let offered = self.offers(pool, seat);
+        let taken = self.takes(pool, seat);
         if offered.is_none() || taken.is_none() {
             return false;
         }
@@ -155,13 +176,17 @@ impl Rebases {
         match pool.rebase(0, seat) {
             Ok(place) => {
                 self.rebases = self.rebases.saturating_add(1);
-                if place < self.last {
+                if place <= self.newest {
                     self.fallen = self.fallen.saturating_add(1);
                 }
-                self.last = place;
             }
             Err(_) => self.refused = self.refused.saturating_add(1),
         }
+    }
+
+    /// Whether it came to a hundred of each, no rebase was refused, and the next place was behind each event's.
+    fn is_done(&self) -> bool {
+        self.rebases >= 100 && self.taken >= 100 && self.refused == 0 && self.fallen == 0
     }
 }
 
@@ -179,32 +204,35 @@ impl Client for Rebases {
     }
 }
 
-#[test]
-fn workers_come_back_to_a_journal_that_was_full(rt: HostRuntime) -> Result<(), Fail> {
-    let books = links(rt.alloc(), 1, 1, Sends::Back, 16)?;
+/// Whether on each link START and a turn for each of a hundred signals have ended, and its journal was full a hundred times.
+fn have_worked(books: &[Book]) -> bool {
+    for book in books {
+        if book.finishes() < 101 || book.next() < 1500 {
+            return false;
+        }
+    }
+    true
+}
+
+/// Whether a client with a short journal did what it wanted, workers came back to it, and the seats agree.
+fn rebased<R: Threads + Wait + Sync>(rt: &R, alloc: Global) -> Option<[bool; 3]> {
+    let books = links(alloc, ECHO, 1, 16)?;
     let mut client = Rebases {
         rebases: 0,
         taken: 0,
         refused: 0,
         fallen: 0,
-        last: 0,
+        newest: 0,
     };
-    let Ok(closed) = serve(&rt, rt.alloc(), books, 2, &Open, &mut client) else {
-        return Err(Fail::new("nobody was served"));
-    };
-    assert!(rt; client.rebases >= 100);
-    assert!(rt; client.taken >= 100);
-    assert_eq!(rt; client.refused, 0, "each rebase is accepted");
-    assert_eq!(rt; client.fallen, 0, "places rise");
-    assert_eq!(rt; counted(&closed), happened(&closed));
-    for book in &closed.books {
-        assert!(rt; book.next() >= 1500);
-        assert!(rt;
-            book.finishes() >= 101,
-            "its START, and a turn for each signal that was taken"
-        );
+    match serve(rt, alloc, books, 2, &Open, &mut client) {
+        Ok(closed) => Some([client.is_done(), have_worked(&closed.books), agree(&closed)]),
+        Err(_) => None,
     }
-    Ok(())
+}
+
+#[test]
+fn workers_come_back_to_a_journal_that_was_full(rt: HostRuntime) {
+    assert_eq!(rt; rebased(&rt, rt.alloc()), Some([true; 3]));
 }
 
 /// A client that does nothing.
@@ -215,33 +243,43 @@ impl Client for Idle {
     fn drive<R: Wait, L: Ledger>(&mut self, _pool: &Pool<'_, R, L>, _seat: &mut Seat<L>) {}
 }
 
-#[test]
-fn nobody_is_served_by_too_few_or_too_many(rt: HostRuntime) -> Result<(), Fail> {
-    for (count, workers) in [(2, 0), (2, 17), (17, 1)] {
-        let books = links(rt.alloc(), count, 1, Sends::Back, 16)?;
-        match serve(&rt, rt.alloc(), books, workers, &Open, &mut Idle) {
-            Err(PoolFault::NoWorkers(books)) => assert_eq!(rt; books.len(), count),
-            _ => return Err(Fail::new("somebody was served")),
+/// What comes of serving so many links by so many workers: 1 where they are served and the seats agree, 2 where they come back for
+/// want of memory, 3 where they come back since nobody works. Books that come back are new. 0 where anything else happens.
+fn answer<R: Threads + Wait + Sync>(rt: &R, alloc: Global, books: Vec<Book>, workers: usize) -> u8 {
+    let count = books.len();
+    match serve(rt, alloc, books, workers, &Open, &mut Idle) {
+        Ok(closed) if closed.books.len() == count && agree(&closed) => 1,
+        Err(PoolFault::NoMemory(back)) if are_new(&back, count) => 2,
+        Err(PoolFault::NoWorkers(back)) if are_new(&back, count) => 3,
+        _ => 0,
+    }
+}
+
+/// Whether these are so many books, and nothing has happened on them.
+fn are_new(books: &[Book], count: usize) -> bool {
+    for book in books {
+        if book.next() != 0 {
+            return false;
         }
     }
-    Ok(())
+    books.len() == count
+}
+
+#[test]
+fn nobody_is_served_by_too_few_or_too_many(rt: HostRuntime) {
+    for (count, workers, wanted) in [(2, 0, 3), (2, 17, 3), (17, 1, 3), (16, 16, 1)] {
+        let found = match links(rt.alloc(), ECHO, count, 16) {
+            Some(books) => answer(&rt, rt.alloc(), books, workers),
+            None => 0,
+        };
+        assert_eq!(rt; found, wanted);
+    }
 }
 
 /// Holds whichever allocation is refused.
 #[test]
-fn want_of_memory_hands_the_books_back(rt: HostRuntime) -> Result<(), Fail> {
-    let Ok(Some(books)) = made(rt.alloc(), 2, 1, Sends::Back, 16) else {
-        return Ok(());
-    };
-    match serve(&rt, rt.alloc(), books, 2, &Open, &mut Idle) {
-        Ok(closed) => assert_eq!(rt; counted(&closed), happened(&closed)),
-        Err(PoolFault::NoMemory(books)) => {
-            assert_eq!(rt; books.len(), 2);
-            for book in &books {
-                assert_eq!(rt; book.next(), 0);
-            }
-        }
-        Err(PoolFault::NoWorkers(books)) => assert_eq!(rt; books.len(), 2),
+fn want_of_memory_hands_the_books_back(rt: HostRuntime) {
+    if let Some(books) = links(rt.alloc(), ECHO, 2, 16) {
+        assert!(rt; answer(&rt, rt.alloc(), books, 2) != 0);
     }
-    Ok(())
 }

@@ -1,15 +1,16 @@
 //! The command `soak`, and the program's own sets at work in a pool.
-use actor_book::{Book, Limits, Refusal, Standing};
+use crate::sets::opened;
+use actor_book::{Book, Event, Limits, Refusal, Standing};
 use mtp2_text::{monitors, standard};
-use pool_soak::soak;
+use pool_soak::{Open, Script, Soak, soak, soak_script};
 use std::alloc::Global;
 use std::sync::Wait;
 use std::sync::ledger::Ledger;
-use std::test::Fail;
 use std::thread;
+use std::thread::Threads;
 use turn_check::Verified;
 use turn_code::{Place, ProcessNumber, SignalNumber, Value};
-use turn_pool::{Client, Closed, Gate, JobName, Pool, Seat, serve};
+use turn_pool::{Client, Closed, Pool, Receipt, Seat, serve};
 
 /// What is printed where all agrees.
 const AGREES: &[u8] = b"seats agree\naudit yes\n";
@@ -67,29 +68,88 @@ const ROWS: [(&[u8], usize, u8, &[u8]); 14] = [
     (b"links 1\n", 17, 4, b""),
 ];
 
+/// Whether `soak` ends and prints as a row says.
+fn is_as_wanted<R: Threads + Wait + Sync>(
+    rt: &R,
+    alloc: Global,
+    row: (&[u8], usize, u8, &[u8]),
+) -> bool {
+    let mut paper = Vec::new(alloc);
+    let status = soak(rt, alloc, row.0, row.1, &mut paper);
+    status == row.2 && paper.as_slice() == row.3
+}
+
 #[test]
-fn soak_prints_what_it_finds(rt: HostRuntime) -> Result<(), Fail> {
-    for (script, workers, status, printed) in ROWS {
-        let mut paper = Vec::new(rt.alloc());
-        let answer = soak(&rt, rt.alloc(), script, workers, &mut paper);
-        assert_eq!(rt; answer, status);
-        assert!(rt; paper.as_slice() == printed);
+fn soak_prints_what_it_finds(rt: HostRuntime) {
+    for (number, row) in ROWS.iter().enumerate() {
+        assert!(rt; is_as_wanted(&rt, rt.alloc(), *row), "row {number}");
     }
-    Ok(())
+}
+
+/// Two links, an offer on each, and 5 ticks on the second.
+const BOTH: &str = "links 2\noffer LSC PowerOn\non 1\noffer LSC PowerOn\ntick 5\n";
+
+/// The link of a receipt, and the actor and the signal, or the ticks and nothing.
+fn told(receipt: &Receipt) -> [u64; 3] {
+    match &receipt.event {
+        Event::Offer(offer) => [
+            receipt.link as u64,
+            u64::from(offer.actor),
+            u64::from(offer.signal.0),
+        ],
+        Event::Advance(ticks) => [receipt.link as u64, *ticks, 99],
+        _ => [99, 99, 99],
+    }
+}
+
+/// How many receipts a script's client has on two links of a set, and whether they are these.
+fn are_these(receipts: &[Receipt], wanted: &[[u64; 3]]) -> bool {
+    for (number, receipt) in receipts.iter().enumerate() {
+        if wanted.get(number) != Some(&told(receipt)) {
+            return false;
+        }
+    }
+    receipts.len() == wanted.len()
+}
+
+/// Whether a script's client has these receipts for what it does on two links.
+fn has_receipts<R: Threads + Wait + Sync>(
+    rt: &R,
+    alloc: Global,
+    set: &Verified,
+    soak: &Soak<'_>,
+    wanted: &[[u64; 3]],
+) -> Option<bool> {
+    let books = opened(alloc, set, 2, Limits::new(16, 64, 4096)?).ok()?;
+    let mut script = Script {
+        set,
+        steps: &soak.steps,
+        receipts: Vec::new(alloc),
+    };
+    match serve(rt, alloc, books, 2, &Open, &mut script) {
+        Ok(_) => Some(are_these(&script.receipts, wanted)),
+        Err(_) => None,
+    }
+}
+
+/// The receipts of [`BOTH`]: PowerOn is the first signal, and LSC the first process, of `standard`.
+const WANTED: [[u64; 3]; 3] = [[0, 0, 0], [1, 0, 0], [1, 5, 99]];
+
+/// Whether the client of [`BOTH`] has the receipts that it should have.
+fn script_is_done<R: Threads + Wait + Sync>(rt: &R, alloc: Global) -> Option<bool> {
+    match (standard(alloc), soak_script(alloc, BOTH)) {
+        (Ok(set), Ok(soak)) => has_receipts(rt, alloc, &set, &soak, &WANTED),
+        _ => None,
+    }
+}
+
+#[test]
+fn a_script_is_done(rt: HostRuntime) {
+    assert_eq!(rt; script_is_done(&rt, rt.alloc()), Some(true));
 }
 
 /// How often the client asks.
 const ASKS: u32 = 100_000_000;
-
-/// A gate that holds nobody.
-#[derive(Drop)]
-struct Open;
-
-impl Gate for Open {
-    fn enter(&self, _name: JobName) {}
-
-    fn leave(&self, _name: JobName) {}
-}
 
 /// A client that turns a terminal on, and waits until it says what goes out on its line.
 #[derive(Drop)]
@@ -102,44 +162,46 @@ struct TurnsOn {
     has_met: bool,
 }
 
+impl TurnsOn {
+    /// A client for these names of a set.
+    fn of(set: &Verified) -> Option<TurnsOn> {
+        Some(TurnsOn {
+            process: set.process_of("LSC")?,
+            power_on: set.signal_of("PowerOn")?,
+            line: set.signal_of("Line")?,
+            sender: set.process_of("TXC")?,
+            has_offered: false,
+            has_met: false,
+        })
+    }
+
+    /// Takes what waits longest for the environment of link 0. Whether that is its line's state.
+    fn takes<R: Wait, L: Ledger>(&mut self, pool: &Pool<'_, R, L>, seat: &mut Seat<L>) -> bool {
+        match pool.take_env(0, seat) {
+            Ok((emitted, _)) => {
+                let is_line = emitted.sender == u16::from(self.sender.0)
+                    && emitted.signal == self.line;
+                let three = [Value::Int(3)];
+                self.has_met = is_line && emitted.parameters.as_slice() == three.as_slice();
+                is_line
+            }
+            Err(_) => false,
+        }
+    }
+}
+
 impl Client for TurnsOn {
     fn drive<R: Wait, L: Ledger>(&mut self, pool: &Pool<'_, R, L>, seat: &mut Seat<L>) {
         self.has_offered = pool
             .offer(0, u16::from(self.process.0), self.power_on, &[], seat)
             .is_ok();
         for _ in 0..ASKS {
-            if let Ok((emitted, _)) = pool.take_env(0, seat) {
-                if emitted.sender == u16::from(self.sender.0) && emitted.signal == self.line {
-                    self.has_met = emitted.parameters.as_slice() == [Value::Int(3)].as_slice();
-                    break;
-                }
+            if self.takes(pool, seat) {
+                break;
             }
             thread::yield_now();
         }
     }
-}
-
-/// The process of a name.
-fn process(set: &Verified, name: &str) -> Result<ProcessNumber, Fail> {
-    Ok(set.process_of(name).ok_or("it has the process")?)
-}
-
-/// A client for these names of a set.
-fn turns_on(set: &Verified) -> Result<TurnsOn, Fail> {
-    Ok(TurnsOn {
-        process: process(set, "LSC")?,
-        power_on: set.signal_of("PowerOn").ok_or("it has the signal")?,
-        line: set.signal_of("Line").ok_or("it has the signal")?,
-        sender: process(set, "TXC")?,
-        has_offered: false,
-        has_met: false,
-    })
-}
-
-/// A book of a set.
-fn book(alloc: Global, set: &Verified) -> Result<Book, Fail> {
-    let limits = Limits::new(16, 64, 4096).ok_or("they fit")?;
-    Ok(Book::open(alloc, set, limits)?)
 }
 
 /// Whether the actor of a process is in a state of this name.
@@ -155,34 +217,47 @@ fn is_in(book: &Book, process: ProcessNumber, name: &[u8]) -> bool {
     }
 }
 
-/// Whether the terminal of link 0 is out of service, and link 1 has two actors.
-fn ends_well(closed: Closed, client: &TurnsOn) -> bool {
-    let Closed { books, .. } = closed;
-    let mut books = books.into_iter();
-    let (Some(first), Some(mut second)) = (books.next(), books.next()) else {
-        return false;
+/// Whether the terminal of link 0 is out of service, and link 1 has no third actor.
+fn is_well(closed: &mut Closed, client: &TurnsOn) -> [bool; 4] {
+    [
+        client.has_offered,
+        client.has_met,
+        match closed.books.get(0) {
+            Some(first) => is_in(first, client.process, b"OutOfService"),
+            None => false,
+        },
+        match closed.books.get_mut(1) {
+            Some(second) => {
+                second.offer(2, client.power_on, &[]).err() == Some(Refusal::NoActor)
+            }
+            None => false,
+        },
+    ]
+}
+
+/// A link of each of two sets.
+fn one_of_each(alloc: Global, one: &Verified, other: &Verified) -> Option<Vec<Book>> {
+    let limits = Limits::new(16, 64, 4096)?;
+    let mut books = opened(alloc, one, 1, limits).ok()?;
+    books.push(Book::open(alloc, other, limits).ok()?).ok()?;
+    Some(books)
+}
+
+/// Has a terminal on link 0 turned on while link 1 has the monitors. Whether it was accepted, the line was out of service, the
+/// terminal is, and the monitors are two.
+fn turned_on<R: Threads + Wait + Sync>(rt: &R, alloc: Global) -> Option<[bool; 4]> {
+    let (Ok(standard), Ok(monitors)) = (standard(alloc), monitors(alloc)) else {
+        return None;
     };
-    let refused = second.offer(2, client.power_on, &[]).err();
-    is_in(&first, client.process, b"OutOfService") && refused == Some(Refusal::NoActor)
+    let mut client = TurnsOn::of(&standard)?;
+    let books = one_of_each(alloc, &standard, &monitors)?;
+    match serve(rt, alloc, books, 2, &Open, &mut client) {
+        Ok(mut closed) => Some(is_well(&mut closed, &client)),
+        Err(_) => None,
+    }
 }
 
 #[test]
-fn soak_line(rt: HostRuntime) -> Result<(), Fail> {
-    let (Ok(standard), Ok(monitors)) = (standard(rt.alloc()), monitors(rt.alloc())) else {
-        return Err(Fail::new("the program's own texts are accepted"));
-    };
-    let mut books = Vec::new(rt.alloc());
-    books.push(book(rt.alloc(), &standard)?)?;
-    books.push(book(rt.alloc(), &monitors)?)?;
-    let mut client = turns_on(&standard)?;
-    let Ok(closed) = serve(&rt, rt.alloc(), books, 2, &Open, &mut client) else {
-        return Err(Fail::new("nobody was served"));
-    };
-    assert!(rt; client.has_offered);
-    assert!(rt;
-        client.has_met,
-        "the line of a terminal that was turned on is out of service"
-    );
-    assert!(rt; ends_well(closed, &client), "each book is at its place");
-    Ok(())
+fn soak_line(rt: HostRuntime) {
+    assert_eq!(rt; turned_on(&rt, rt.alloc()), Some([true; 4]));
 }

@@ -1,10 +1,12 @@
 //! Workers: that they run at once, that they end what they begin, that they come to an end.
-use crate::sets::{Sends, UP, links};
+use crate::sets::{ECHO, ECHOES, ENDLESS, links};
+use actor_book::Book;
+use std::alloc::Global;
 use std::sync::Wait;
 use std::sync::atomic::{AtomicBool, AtomicUsize, Ordering};
 use std::sync::ledger::Ledger;
-use std::test::Fail;
 use std::thread;
+use std::thread::Threads;
 use turn_pool::{Client, Gate, JobName, Pool, Seat, serve};
 
 /// How often a loop looks for what is to come.
@@ -13,8 +15,10 @@ const LOOKS: u32 = 1_000_000_000;
 /// Which turns are held at the gate, and until when.
 #[derive(Clone, Copy)]
 struct Plan {
+    text: &'static str,
+    /// Each of the links has so many processes.
+    processes: u64,
     links: usize,
-    processes: u8,
     workers: usize,
     /// So many turns are held, the first ones.
     held: usize,
@@ -34,8 +38,9 @@ struct Plan {
 const PLANS: [Plan; 3] = [
     // two actors of one link: the first turn is held until the second has ended
     Plan {
-        links: 1,
+        text: ECHOES,
         processes: 2,
+        links: 1,
         workers: 2,
         held: 1,
         until_begun: 2,
@@ -46,8 +51,9 @@ const PLANS: [Plan; 3] = [
     },
     // four links: each turn is held until four have begun
     Plan {
-        links: 4,
+        text: ECHO,
         processes: 1,
+        links: 4,
         workers: 4,
         held: 4,
         until_begun: 4,
@@ -58,8 +64,9 @@ const PLANS: [Plan; 3] = [
     },
     // a turn is held until the client has returned
     Plan {
-        links: 1,
+        text: ECHO,
         processes: 1,
+        links: 1,
         workers: 1,
         held: 1,
         until_begun: 1,
@@ -141,31 +148,41 @@ impl Client for LooksOn<'_> {
     }
 }
 
-#[test]
-fn turns_run_at_once_and_are_ended(rt: HostRuntime) -> Result<(), Fail> {
-    for plan in PLANS {
-        let gate = Holds::new(plan);
-        let books = links(rt.alloc(), plan.links, plan.processes, Sends::Back, 64)?;
-        let mut client = LooksOn { gate: &gate };
-        let Ok(closed) = serve(&rt, rt.alloc(), books, plan.workers, &gate, &mut client) else {
-            return Err(Fail::new("nobody was served"));
-        };
-        assert!(rt;
-            !gate.in_vain.load(Ordering::SeqCst),
-            "a turn was held in vain"
-        );
-        assert_eq!(rt; closed.books.len(), plan.links);
-        assert_eq!(rt; closed.client, 0);
-        for book in &closed.books {
-            assert_eq!(rt; book.state().outs(), 0, "no turn is out");
-            assert_eq!(rt;
-                book.finishes(),
-                u64::from(plan.processes),
-                "each START has run"
-            );
+/// Of how many books so many turns have ended, and none is out.
+fn all_ended(books: &[Book], turns: u64) -> usize {
+    let mut ended = 0usize;
+    for book in books {
+        if book.state().outs() == 0 && book.finishes() == turns {
+            ended = ended.saturating_add(1);
         }
     }
-    Ok(())
+    ended
+}
+
+/// On how many links of a plan each START has run and ended; none where a turn was held in vain.
+fn links_ended<R: Threads + Wait + Sync>(rt: &R, alloc: Global, plan: Plan) -> Option<usize> {
+    let books = links(alloc, plan.text, plan.links, 64)?;
+    let gate = Holds::new(plan);
+    match serve(
+        rt,
+        alloc,
+        books,
+        plan.workers,
+        &gate,
+        &mut LooksOn { gate: &gate },
+    ) {
+        Ok(closed) if !gate.in_vain.load(Ordering::SeqCst) => {
+            Some(all_ended(&closed.books, plan.processes))
+        }
+        _ => None,
+    }
+}
+
+#[test]
+fn turns_run_at_once_and_are_ended(rt: HostRuntime) {
+    for plan in PLANS {
+        assert_eq!(rt; links_ended(&rt, rt.alloc(), plan), Some(plan.links));
+    }
 }
 
 /// A gate that counts.
@@ -182,16 +199,15 @@ impl Gate for Counts {
     fn leave(&self, _name: JobName) {}
 }
 
-/// A client that gives an actor something to do for good, and closes the pool once a few turns have begun.
+/// A client that closes the pool once a few turns have begun.
 #[derive(Drop)]
-struct SetsGoing<'a> {
+struct Closes<'a> {
     gate: &'a Counts,
     begun: usize,
 }
 
-impl Client for SetsGoing<'_> {
-    fn drive<R: Wait, L: Ledger>(&mut self, pool: &Pool<'_, R, L>, seat: &mut Seat<L>) {
-        let _offered = pool.offer(0, 0, UP, &[], seat);
+impl Client for Closes<'_> {
+    fn drive<R: Wait, L: Ledger>(&mut self, pool: &Pool<'_, R, L>, _seat: &mut Seat<L>) {
         for _ in 0..LOOKS {
             if self.gate.begun.load(Ordering::SeqCst) >= 3 {
                 break;
@@ -203,23 +219,28 @@ impl Client for SetsGoing<'_> {
     }
 }
 
-#[test]
-fn a_worker_ends_though_there_is_more_to_do(rt: HostRuntime) -> Result<(), Fail> {
+/// How many turns had begun as the pool closed, and how many began in all, on a link that always has something to do.
+fn turns_begun<R: Threads + Wait + Sync>(rt: &R, alloc: Global) -> Option<(usize, usize)> {
+    let books = links(alloc, ENDLESS, 1, 65536)?;
     let gate = Counts {
         begun: AtomicUsize::new(0),
     };
-    let books = links(rt.alloc(), 1, 1, Sends::ToItself, 65536)?;
-    let mut client = SetsGoing {
+    let mut client = Closes {
         gate: &gate,
         begun: 0,
     };
-    let served = serve(&rt, rt.alloc(), books, 1, &gate, &mut client);
-    assert!(rt; served.is_ok());
-    let begun = gate.begun.load(Ordering::SeqCst);
-    assert!(rt; client.begun >= 3);
+    match serve(rt, alloc, books, 1, &gate, &mut client) {
+        Ok(_) => Some((client.begun, gate.begun.load(Ordering::SeqCst))),
+        Err(_) => None,
+    }
+}
+
+#[test]
+fn a_worker_ends_though_there_is_more_to_do(rt: HostRuntime) {
+    let (closing, all) = turns_begun(&rt, rt.alloc()).unwrap_or((0, 0));
+    assert!(rt; closing >= 3 && all >= closing);
     assert!(rt;
-        begun <= client.begun.saturating_add(1000),
+        all <= closing.saturating_add(1000),
         "1,000 at most after closing"
     );
-    Ok(())
 }

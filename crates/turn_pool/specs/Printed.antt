@@ -1,6 +1,7 @@
 -- The names of what a pool refuses, as they are printed.
-use Rattle.std.specs.Prelude.{ℕ, List, ◌++◌, Option, None, Some, codes}
+use Rattle.std.specs.Prelude.{ℕ, List, ◌++◌, codes}
 use Rattle.std.specs.Fmt.{decimal}
+use Rattle.script_replies.specs.Refused.{refusal_text}
 use Rattle.turn_pool.specs.declared.closed.Mismatch.{Mismatch}
 use Rattle.turn_pool.specs.declared.fault.PoolFault.{PoolFault}
 use Rattle.turn_pool.specs.declared.fault.PoolFault.TheVariants.{NoWorkers, NoMemory}
@@ -11,12 +12,12 @@ abbrev pub fault_text : PoolFault → List ℕ
 fault_text (NoWorkers books) = codes "G1 NoWorkers"
 fault_text (NoMemory books) = codes "NoMemory"
 
--- the book's own refusals have their names from the book
-abbrev pub refusal_text : PoolRefusal → Option (List ℕ)
-refusal_text refusal.NoLink = Some (codes "B10 NoActor")
-refusal_text refusal.Closing = Some (codes "G2 Closing")
-refusal_text refusal.NoMemory = Some (codes "NoMemory")
-refusal_text (refusal.Refused r) = None
+-- a book's own refusals are printed as they are in a script's answers
+abbrev pub pool_refusal_text : PoolRefusal → List ℕ
+pool_refusal_text refusal.NoLink = codes "B10 NoActor"
+pool_refusal_text refusal.Closing = codes "G2 Closing"
+pool_refusal_text refusal.NoMemory = codes "NoMemory"
+pool_refusal_text (refusal.Refused r) = refusal_text r
 
 abbrev pub mismatch_text : Mismatch → List ℕ
 mismatch_text m = codes "G3 Mismatch " ++ decimal m.position

@@ -1,6 +1,7 @@
 -- Receipts, held against the journals.
-use Rattle.std.specs.Prelude.{◌≡◌, ℕ, List, Option, None, Some, Result, Ok, Err, slice_get}
-use Rattle.link_machine.specs.Ledger.{Ledger, ask, event_at, next}
+use Rattle.std.specs.Prelude.{◌≡◌, ◌<◌, ◌^◌, ℕ, List, Option, None, Some, Result, Ok, Err, slice_get}
+use Rattle.turn_code.specs.Valid.{IsValid}
+use Rattle.link_machine.specs.Ledger.{Ledger, ask, event_at, next, rebased}
 use Rattle.link_machine.specs.Step.{Says}
 use Rattle.link_machine.specs.declared.event.Event.{Event}
 use Rattle.link_machine.specs.declared.reply.Refusal.{Refusal}
@@ -9,6 +10,7 @@ use Rattle.link_machine.specs.declared.reply.Reply.TheVariants as reply
 use Rattle.turn_pool.specs.declared.receipt.PoolRefusal.{PoolRefusal}
 use Rattle.turn_pool.specs.declared.receipt.PoolRefusal.TheVariants.{NoLink, Closing, NoMemory, Refused}
 use Rattle.turn_pool.specs.declared.receipt.Receipt.{Receipt}
+use Rattle.turn_pool.specs.Serves.{CountsFinishes}
 
 -- the event at a place of a link's journal
 abbrev pub event_in : Option Ledger → ℕ → Option Event
@@ -28,19 +30,32 @@ pub record FailsAt (books : List Ledger) (receipts : List Receipt) (position : �
   pub there : slice_get receipts position ≡ Some receipt
   pub fails : StandsIn books receipt → ⊥
 
--- ---- what a client's event comes to
+-- ---- what a client's call comes to; which book it met no contract can say, but that it is one that a pool can hold
 
--- a book takes the event and replies so; the receipt names the link, the place that the event has in that book, and the event
+-- what is known of each book of a pool: its set is valid, its finishes are those of its base and its journal, its places stay below 2^57
+pub record IsHeld (b : Ledger) : Type 0 where
+  pub valid : IsValid b.set
+  pub finishes : CountsFinishes b
+  pub places : next b < 2 ^ 57
+
+-- a book takes the event and replies so; the receipt names the link, the place that the event gets in that book, and the event
 pub record IsTaken (link : ℕ) (e : Event) (says : Reply) (r : Receipt) : Type 0 where
   pub book : Ledger
+  pub held : IsHeld book
   pub answers : (ask book e).answer ≡ Says says
   pub names : r ≡ record { link = link; place = next book; event = e }
-  pub stands : event_at (ask book e).book r.place ≡ Some e
 
 -- a book refuses the event for this reason
 pub record IsRefused (e : Event) (r : Refusal) : Type 0 where
   pub book : Ledger
+  pub held : IsHeld book
   pub answers : (ask book e).answer ≡ Says (reply.Refused r)
+
+-- the place of the next event of a book whose state became its base
+pub record IsRebased (place : ℕ) : Type 0 where
+  pub book : Ledger
+  pub held : IsHeld book
+  pub names : place ≡ next (rebased book)
 
 -- the refusals of the pool itself, before it asks a book
 abbrev pub IsOwn : PoolRefusal → Type 0

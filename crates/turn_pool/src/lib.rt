@@ -24,4 +24,4 @@ pub use pool::Pool;
 pub use receipt::{PoolRefusal, Receipt};
 pub use serving::serve;
 pub use slot::Slot;
-pub use totals::{Seat, Totals};
+pub use totals::{Counts, Seat, Totals};

@@ -5,7 +5,7 @@ ghost use Rattle.link_machine.specs.Ledger.{next};
 ghost use Rattle.turn_pool.specs.Moves.{Moves};
 
 use crate::slot::Slot;
-use crate::totals::{Seat, Totals};
+use crate::totals::{Counts, Seat};
 use actor_book::{Refusal, Report};
 use std::sync::ledger::Ledger;
 use turn_code::Trigger;
@@ -35,10 +35,10 @@ pub enum Moved {
 
 /// One step of a worker on a link that it is lent, with the account. An event of the journal is counted on the worker's
 /// seat, and a refused step on none.
-pub fn work<L: Ledger>(
+pub fn work<L: Ledger, T: Counts<L>>(
     slot: &mut Slot<L>,
     seat: &mut Seat<L>,
-    totals: &mut Totals<L>,
+    totals: &mut T,
     step: Move,
 ) -> Moved
     ensures moves { Moves slot.old.book step result slot.new.book }

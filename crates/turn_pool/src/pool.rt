@@ -3,12 +3,12 @@
 ghost use Rattle.std.specs.Prelude.{◌≡◌, ◌+◌, ◌↔◌, ◌≤◌, vec_len, Err, IfOk, IfErr, OnOk, OnErr};
 ghost use Rattle.link_machine.specs.declared.event.Event.TheVariants.{Offer as Offered, Advance, TakeEnv};
 ghost use Rattle.link_machine.specs.declared.reply.Reply.TheVariants as reply;
-ghost use Rattle.turn_pool.specs.Receipts.{IsOwn, IsTaken, IsRefusal, IsRebaseRefusal};
+ghost use Rattle.turn_pool.specs.Receipts.{IsOwn, IsTaken, IsRefusal, IsRebased, IsRebaseRefusal};
 ghost use Rattle.turn_pool.specs.declared.receipt.PoolRefusal.TheVariants.{NoLink};
 
 use crate::receipt::{PoolRefusal, Receipt};
 use crate::slot::Slot;
-use crate::totals::{Seat, Totals};
+use crate::totals::{Seat, Shared, Totals};
 use actor_book::Emitted;
 use std::sync::atomic::{AtomicBool, Ordering};
 use std::sync::ledger::Ledger;
@@ -33,6 +33,14 @@ impl<'r, R: Wait, L: Ledger> Pool<'r, R, L> {
     /// Whether the pool is closing.
     pub(crate) fn is_closing(&self) -> bool {
         self.closing.load(Ordering::SeqCst)
+    }
+
+    /// Where events are counted: the account, behind its lock.
+    pub(crate) fn account(&self) -> Shared<'_, R, L> {
+        Shared {
+            rt: self.rt,
+            totals: &self.totals,
+        }
     }
 
     /// The lock of a link, while the pool is open.
@@ -66,8 +74,10 @@ impl<'r, R: Wait, L: Ledger> Pool<'r, R, L> {
         ensures taken { let e = Offered (record { actor = actor; signal = signal; values = record { items = values.now } }) in IfOk result (IsTaken link e reply.Offered) }
         ensures refused { let e = Offered (record { actor = actor; signal = signal; values = record { items = values.now } }) in IfErr result (IsRefusal e) }
     {
-        let mut slot = self.open_link(link)?.lock(self.rt);
-        let mut totals = self.totals.lock(self.rt);
+        let mut lock = self.open_link(link)?.lock(self.rt);
+        let slot = &mut *lock;
+        slot.keeps();
+        let mut totals = self.account();
         match slot.offer(seat, &mut totals, actor, signal, values) {
             Ok(receipt) => Ok(receipt.of_link(link)),
             Err(refusal) => Err(PoolRefusal::Refused(refusal)),
@@ -91,8 +101,10 @@ impl<'r, R: Wait, L: Ledger> Pool<'r, R, L> {
         ensures taken { IfOk result (λ r. IsTaken link (Advance ticks) (reply.Passed r.0) r.1) }
         ensures refused { IfErr result (IsRefusal (Advance ticks)) }
     {
-        let mut slot = self.open_link(link)?.lock(self.rt);
-        let mut totals = self.totals.lock(self.rt);
+        let mut lock = self.open_link(link)?.lock(self.rt);
+        let slot = &mut *lock;
+        slot.keeps();
+        let mut totals = self.account();
         match slot.advance(seat, &mut totals, ticks) {
             Ok((due, receipt)) => Ok((due, receipt.of_link(link))),
             Err(refusal) => Err(PoolRefusal::Refused(refusal)),
@@ -116,8 +128,10 @@ impl<'r, R: Wait, L: Ledger> Pool<'r, R, L> {
         ensures taken { IfOk result (λ r. IsTaken link TakeEnv (reply.Taken r.0) r.1) }
         ensures refused { IfErr result (IsRefusal TakeEnv) }
     {
-        let mut slot = self.open_link(link)?.lock(self.rt);
-        let mut totals = self.totals.lock(self.rt);
+        let mut lock = self.open_link(link)?.lock(self.rt);
+        let slot = &mut *lock;
+        slot.keeps();
+        let mut totals = self.account();
         match slot.take_env(seat, &mut totals) {
             Ok((emitted, receipt)) => Ok((emitted, receipt.of_link(link))),
             Err(refusal) => Err(PoolRefusal::Refused(refusal)),
@@ -132,11 +146,14 @@ impl<'r, R: Wait, L: Ledger> Pool<'r, R, L> {
     /// In this order: `B10 NoActor` for a link that isn't there, `G2 Closing`, `NoMemory`. Then nothing changes.
     pub fn rebase(&self, link: usize, seat: &mut Seat<L>) -> Result<u64, PoolRefusal>
         ensures same { seat.new ≡ seat.old }
+        ensures place { IfOk result IsRebased }
         ensures refused { IfErr result IsRebaseRefusal }
         ensures no_link { (result ≡ Err NoLink) ↔ (vec_len self.now.links ≤ link) }
     {
         let _seat = seat;
-        let mut slot = self.open_link(link)?.lock(self.rt);
+        let mut lock = self.open_link(link)?.lock(self.rt);
+        let slot = &mut *lock;
+        slot.keeps();
         match slot.rebase() {
             Ok(place) => Ok(place),
             Err(_) => Err(PoolRefusal::NoMemory),

@@ -7,9 +7,10 @@ ghost use Rattle.link_machine.specs.declared.event.Event.TheVariants.{Offer as O
 ghost use Rattle.link_machine.specs.declared.reply.Reply.TheVariants as reply;
 ghost use Rattle.actor_book.specs.Answered.{answer_by};
 ghost use Rattle.turn_pool.specs.Moves.{Begins, Skips, Finishes};
+ghost use Rattle.turn_pool.specs.Receipts.{IsHeld};
 
 use crate::receipt::Receipt;
-use crate::totals::{Seat, Totals};
+use crate::totals::{Counts, Seat};
 use actor_book::{Book, Emitted, Event, Refusal, Report};
 use link_machine::laws::place_law;
 use std::alloc::AllocError;
@@ -60,16 +61,25 @@ impl<L: Ledger> Slot<L> {
         &self.book
     }
 
+    /// What is known of each book.
+    pub(crate) fn keeps(&self)
+        ensures { IsHeld self.now.book }
+    {
+        let _valid = self.book.set().draft();
+        let _finishes = self.book.finishes();
+        let _place = self.book.next();
+    }
+
     #[tactic(auto, using(crate::proofs::Asks::offered, crate::proofs::Asks::stands))]
     /// A signal of the environment comes to an actor, as by [`Book::offer`].
     ///
     /// # Errors
     ///
     /// Those of the book. Then nothing changes.
-    pub fn offer(
+    pub fn offer<T: Counts<L>>(
         &mut self,
         seat: &mut Seat<L>,
-        totals: &mut Totals<L>,
+        totals: &mut T,
         actor: u16,
         signal: SignalNumber,
         values: &[Value],
@@ -104,10 +114,10 @@ impl<L: Ledger> Slot<L> {
     /// # Errors
     ///
     /// Those of the book. Then nothing changes.
-    pub fn advance(
+    pub fn advance<T: Counts<L>>(
         &mut self,
         seat: &mut Seat<L>,
-        totals: &mut Totals<L>,
+        totals: &mut T,
         ticks: u64,
     ) -> Result<(usize, Receipt), Refusal>
         ensures book { self.new.book ≡ (ask self.old.book (Advance ticks)).book }
@@ -139,10 +149,10 @@ impl<L: Ledger> Slot<L> {
     /// # Errors
     ///
     /// Those of the book. Then nothing changes.
-    pub fn take_env(
+    pub fn take_env<T: Counts<L>>(
         &mut self,
         seat: &mut Seat<L>,
-        totals: &mut Totals<L>,
+        totals: &mut T,
     ) -> Result<(Emitted, Receipt), Refusal>
         ensures book { self.new.book ≡ (ask self.old.book TakeEnv).book }
         ensures answer { answer_by (λ r. reply.Taken r.0) result ≡ (ask self.old.book TakeEnv).answer }
@@ -181,10 +191,10 @@ impl<L: Ledger> Slot<L> {
     }
 
     /// A worker begins a turn of an actor.
-    pub(crate) fn begin(
+    pub(crate) fn begin<T: Counts<L>>(
         &mut self,
         seat: &mut Seat<L>,
-        totals: &mut Totals<L>,
+        totals: &mut T,
         actor: u16,
     ) -> Result<Job, Refusal>
         ensures begins { Begins self.old.book actor result self.new.book }
@@ -198,10 +208,10 @@ impl<L: Ledger> Slot<L> {
     }
 
     /// A worker throws an item of an actor away.
-    pub(crate) fn skip(
+    pub(crate) fn skip<T: Counts<L>>(
         &mut self,
         seat: &mut Seat<L>,
-        totals: &mut Totals<L>,
+        totals: &mut T,
         actor: u16,
     ) -> Result<Trigger, Refusal>
         ensures skips { Skips self.old.book actor result self.new.book }
@@ -215,10 +225,10 @@ impl<L: Ledger> Slot<L> {
     }
 
     /// A worker ends a turn that is out.
-    pub(crate) fn finish(
+    pub(crate) fn finish<T: Counts<L>>(
         &mut self,
         seat: &mut Seat<L>,
-        totals: &mut Totals<L>,
+        totals: &mut T,
         done: Done,
     ) -> Result<Report, Done>
         ensures finishes { Finishes self.old.book done result self.new.book }

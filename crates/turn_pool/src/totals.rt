@@ -5,6 +5,7 @@ ghost use Rattle.std.specs.Prelude.{◌≡◌, ◌≤◌, ◌<◌, ◌+◌, ◌^
 
 use std::marker::Model;
 use std::sync::ledger::{Blank, Book as Account, Ledger, Share};
+use std::sync::{Mutex, Wait};
 
 /// How many events of journals a worker or a client made.
 #[derive(Drop)]
@@ -77,15 +78,34 @@ impl<L: Ledger> Totals<L> {
         account.add(to, 1);
         account.audit(to);
     }
+}
 
+/// Where events are counted.
+pub trait Counts<L: Ledger> {
     /// One event of a link's journal is counted on a seat.
-    pub(crate) fn count(&mut self, from: &mut Share<L>, seat: &mut Seat<L>)
+    fn count(&mut self, from: &mut Share<L>, seat: &mut Seat<L>)
         requires { 0 < from.old.amount }
         ensures from { from.new.amount + 1 ≡ from.old.amount }
         ensures parts { from.new.parts ≡ from.old.parts }
-        ensures seat { seat.new ≡ seat.old + 1 }
-    {
+        ensures seat { seat.new ≡ seat.old + 1 };
+}
+
+impl<L: Ledger> Counts<L> for Totals<L> {
+    fn count(&mut self, from: &mut Share<L>, seat: &mut Seat<L>) {
         self.transfer(from, &mut seat.share);
         seat.events += 1;
+    }
+}
+
+/// The account behind its lock, which is held for no longer than it takes to count.
+#[derive(Drop)]
+pub(crate) struct Shared<'a, R: Wait, L: Ledger> {
+    pub(crate) rt: &'a R,
+    pub(crate) totals: &'a Mutex<Totals<L>>,
+}
+
+impl<R: Wait, L: Ledger> Counts<L> for Shared<'_, R, L> {
+    fn count(&mut self, from: &mut Share<L>, seat: &mut Seat<L>) {
+        self.totals.lock(self.rt).count(from, seat);
     }
 }

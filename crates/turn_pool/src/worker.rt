@@ -54,7 +54,7 @@ fn step<R: Wait, L: Ledger>(
 ) -> Option<Moved> {
     let mut slot = pool.links.get(link)?.lock(pool.rt);
     let step = next_step(slot.book())?;
-    let mut totals = pool.totals.lock(pool.rt);
+    let mut totals = pool.account();
     Some(work(&mut slot, seat, &mut totals, step))
 }
 
@@ -66,7 +66,7 @@ fn end<R: Wait, L: Ledger>(
     step: Move,
 ) -> Option<Moved> {
     let mut slot = pool.links.get(link)?.lock(pool.rt);
-    let mut totals = pool.totals.lock(pool.rt);
+    let mut totals = pool.account();
     Some(work(&mut slot, seat, &mut totals, step))
 }
 

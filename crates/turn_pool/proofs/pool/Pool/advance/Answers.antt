@@ -11,8 +11,7 @@ returns-in_err-open_link-clause-refused g c =
 
 pub returns-in-Ok-clause-taken : goal.returns-in-Ok-clause-taken
 returns-in-Ok-clause-taken g c =
-    taken_by c.args.link _ (Advance c.args.ticks) _ c.deref_mut.result.now.book _ c.in-Ok.receipt _ c.in-Ok.ensures.book c.in-Ok.ensures.answer
-    c.in-Ok.ensures.receipt c.in-Ok.ensures.stands c.of_link.ensures
+    taken_by c.args.link _ (Advance c.args.ticks) _ c.deref_mut-slot.result.now.book c.in-Ok.receipt _ c.keeps.ensures c.in-Ok.ensures.answer c.in-Ok.ensures.receipt c.of_link.ensures
 
 pub returns-clause-refused : goal.returns-clause-refused
-returns-clause-refused g c = record { book = c.deref_mut.result.now.book; answers = sym c.in-Err.ensures.answer }
+returns-clause-refused g c = record { book = c.deref_mut-slot.result.now.book; held = c.keeps.ensures; answers = sym c.in-Err.ensures.answer }

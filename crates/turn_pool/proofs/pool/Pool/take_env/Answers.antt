@@ -7,12 +7,11 @@ use Rattle.turn_pool.proofs.pool.Pool.take_env.Goals as goal
 pub returns-in_err-open_link-clause-refused : goal.returns-in_err-open_link-clause-refused
 returns-in_err-open_link-clause-refused g c =
     let p = err_from_is_err_and c.from_residual.result c.from_residual.ensures.1 in
-    rw (p.1, p.2) (own (TakeEnv) c.in_err-open_link.field-0.0 c.in_err-open_link.ensures.own)
+    rw (p.1, p.2) (own TakeEnv c.in_err-open_link.field-0.0 c.in_err-open_link.ensures.own)
 
 pub returns-in-Ok-clause-taken : goal.returns-in-Ok-clause-taken
 returns-in-Ok-clause-taken g c =
-    taken_by c.args.link _ (TakeEnv) _ c.deref_mut.result.now.book _ c.in-Ok.receipt _ c.in-Ok.ensures.book c.in-Ok.ensures.answer
-    c.in-Ok.ensures.receipt c.in-Ok.ensures.stands c.of_link.ensures
+    taken_by c.args.link _ TakeEnv _ c.deref_mut-slot.result.now.book c.in-Ok.receipt _ c.keeps.ensures c.in-Ok.ensures.answer c.in-Ok.ensures.receipt c.of_link.ensures
 
 pub returns-clause-refused : goal.returns-clause-refused
-returns-clause-refused g c = record { book = c.deref_mut.result.now.book; answers = sym c.in-Err.ensures.answer }
+returns-clause-refused g c = record { book = c.deref_mut-slot.result.now.book; held = c.keeps.ensures; answers = sym c.in-Err.ensures.answer }
