@@ -6,9 +6,6 @@ use Rattle.script_lines.specs.Commands.{PlainOffer}
 use Rattle.book_rest.specs.Turns.{MOST_TURNS, rests}
 use Rattle.book_play.specs.Answers.{Took, offered, goes_on, floods}
 
-left_over : (total n : ℕ) → n < total → total - n ≡ suc (total - (n + 1))
-left_over total n h = omega arith
-
 flood_step : (k m : ℕ) (o : PlainOffer) (b : Ledger) (r : Option Refusal) → k ≡ suc m → (offered b o).refusal ≡ r
     → floods k o b ≡ goes_on (offered b o) (floods m o (rests MOST_TURNS (offered b o).book).book) r
 unfolding floods
@@ -23,12 +20,12 @@ pub flood_goes_on : (times sent : ℕ) (o : PlainOffer) (b mid after : Ledger) (
     → None ≡ (offered b o).refusal → mid ≡ (offered b o).book → after ≡ (rests MOST_TURNS mid).book → floods (times - (sent + 1)) o after ≡ t
 flood_goes_on times sent o b mid after t less h none middle last =
     ap (floods (times - (sent + 1)) o) (last ∙ ap (λ (x : Ledger). (rests MOST_TURNS x).book) middle)
-    ∙ (sym (flood_step (times - sent) (times - (sent + 1)) o b None (left_over times sent less) (sym none)) ∙ h)
+    ∙ (sym (flood_step (times - sent) (times - (sent + 1)) o b None (omega (arith, less)) (sym none)) ∙ h)
 
 pub flood_ends : (times sent : ℕ) (o : PlainOffer) (b now : Ledger) (r : Refusal) (t : Took) → sent < times → floods (times - sent) o b ≡ t
     → Some r ≡ (offered b o).refusal → now ≡ (offered b o).book → (now ≡ t.book) × (Some r ≡ t.refusal)
 flood_ends times sent o b now r t less h refused book =
-    let same : offered b o ≡ t = sym (flood_step (times - sent) (times - (sent + 1)) o b (Some r) (left_over times sent less) (sym refused)) ∙ h in
+    let same : offered b o ≡ t = sym (flood_step (times - sent) (times - (sent + 1)) o b (Some r) (omega (arith, less)) (sym refused)) ∙ h in
     (book ∙ ap (λ (x : Took). x.book) same, refused ∙ ap (λ (x : Took). x.refusal) same)
 
 no_offers : (o : PlainOffer) (b : Ledger) → floods 0 o b ≡ record { book = b; refusal = None }

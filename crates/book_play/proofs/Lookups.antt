@@ -1,20 +1,17 @@
 -- The numbers of names.
-use Rattle.std.proofs.Common.{◌≡◌, ℕ, zero, suc, ◌<◌, Bool, true, false, List, [], ◌∷◌, map, Option, None, Some, refl, sym, ap, arith, ◌∙◌}
-use Rattle.std.specs.Prelude.{slice_get, option_map, IfSome, IfNone}
+use Rattle.std.proofs.Common.{◌≡◌, ℕ, zero, suc, true, false, List, [], ◌∷◌, map, Option, None, Some, refl, sym, arith}
+use Rattle.std.specs.Prelude.{option_map, IfSome, IfNone}
 use Rattle.std.specs.Char.{to_ascii_lowercase}
+use Rattle.std.proofs.lemmas.Bool.{false_from_ne_true}
 use Rattle.std.proofs.lemmas.Slice.Eq.{bytes_eq-Decides}
-use Rattle.turn_check.specs.Named.{SameName, IsNamed, IsFirst, IsNowhere}
+use Rattle.turn_check.specs.Named.{SameName, IsFirst, IsNowhere}
 use Rattle.book_play.specs.Answers.{same_name, number_of}
-
-not_true : (b : Bool) → (b ≡ true → ⊥) → b ≡ false
-not_true true h = absurd (h refl)
-not_true false h = refl
 
 same : (x name : List ℕ) → SameName x name → same_name x name ≡ true
 same x name is = (bytes_eq-Decides (map to_ascii_lowercase x) (map to_ascii_lowercase name)).1 is
 
 other : (x name : List ℕ) → (SameName x name → ⊥) → same_name x name ≡ false
-other x name h = not_true (same_name x name) (λ is. h ((bytes_eq-Decides (map to_ascii_lowercase x) (map to_ascii_lowercase name)).0 is))
+other x name h = false_from_ne_true (same_name x name) (λ is. h ((bytes_eq-Decides (map to_ascii_lowercase x) (map to_ascii_lowercase name)).0 is))
 
 first : (names : List (List ℕ)) (n : ℕ) (name : List ℕ) → IsFirst names n name → number_of names name ≡ Some n
 unfolding number_of

@@ -1,20 +1,14 @@
 -- What is printed for an event, and whose turn is out.
 use Rattle.std.proofs.Common.{◌≡◌, ℕ, List, Option, Some, None, refl, sym, ap, ◌∙◌}
-use Rattle.std.specs.Prelude.{true, false, slice_get}
-use Rattle.turn_code.specs.Transitions.{Transition, transition_at}
-use Rattle.turn_code.specs.declared.input.Place.{Place}
 use Rattle.turn_code.specs.declared.draft.Draft.{Draft}
-use Rattle.turn_machine.specs.Turn.{Turn, turn_of}
-use Rattle.link_machine.specs.Ledger.{Ledger, runs, state_of, refusal_by, asked, ask_by, ask, turn_with, turn_given, turn_at, turn_out}
+use Rattle.turn_machine.specs.Turn.{Turn}
+use Rattle.link_machine.specs.Ledger.{Ledger, runs, state_of, refusal_by, asked, ask_by, ask, turn_out}
 use Rattle.link_machine.specs.Step.{Answer, Says, Stepped, step}
-use Rattle.link_machine.specs.declared.actor.Actor.{Actor}
-use Rattle.link_machine.specs.declared.actor.Given.{Given}
-use Rattle.link_machine.specs.declared.actor.Standing.{Standing}
-use Rattle.link_machine.specs.declared.actor.Standing.TheVariants.{At, Stopped}
 use Rattle.link_machine.specs.declared.event.Event.{Event}
 use Rattle.link_machine.specs.declared.event.Event.TheVariants.{Finish}
 use Rattle.link_machine.specs.declared.reply.Refusal.{Refusal}
 use Rattle.link_machine.specs.declared.reply.Reply.{Reply}
+use Rattle.book_rest.proofs.Owned.{own_actor}
 use Rattle.book_play.specs.Answers.{Answered, reply_text, answer_text, by_event, finishes}
 
 -- ---- lines
@@ -37,33 +31,6 @@ line_said b now d p e f r items same_event set book says line =
     ∙ (ap (λ (a : Answer). answer_text b.set p a) says ∙ ap (λ (x : Event). answer_text b.set p (ask b x).answer) same_event))
 
 -- ---- turns that are out
-
-with_own : (n : ℕ) (s : Place) (g : Given) (q : Option Transition) (t : Turn) → turn_with n s g q ≡ Some t → t.actor ≡ n
-with_own n s g None t h = absurd (cc)
-with_own n s g (Some x) t h =
-    let same : turn_of n g.turn (record { 0 = n }) s g.number x.piece.code x.piece.certificate g.input ≡ t = cc in
-    sym (ap (λ (u : Turn). u.actor) same)
-
-given_own : (d : Draft) (n : ℕ) (s : Standing) (o : Option Given) (t : Turn) → turn_given d n s o ≡ Some t → t.actor ≡ n
-given_own d n (At s) None t h = absurd (cc)
-given_own d n (At s) (Some g) t h = with_own n s g (transition_at d n s g.number) t h
-given_own d n Stopped o t h = absurd (cc)
-
-at_own : (d : Draft) (n : ℕ) (o : Option Actor) (t : Turn) → turn_at d n o ≡ Some t → t.actor ≡ n
-at_own d n None t h = absurd (cc)
-at_own d n (Some a) t h = given_own d n a.standing a.given t h
-
--- the turn that an actor has out is its own
-pub own_actor : (b : Ledger) (n : ℕ) (t : Turn) → turn_out b n ≡ Some t → t.actor ≡ n
-unfolding turn_out
-own_actor b n t h = at_own b.set n (slice_get (state_of b).actors n) t h
-
-pub still_own : (b : Ledger) (n : ℕ) (t u : Turn) → turn_out b n ≡ Some t → u ≡ t → turn_out b u.actor ≡ Some u
-still_own b n t u h k =
-    ap (turn_out b) (ap (λ (x : Turn). x.actor) k ∙ own_actor b n t h) ∙ h ∙ ap (λ (x : Turn). Some x) (sym k)
-
-pub not_so : false ≡ true → ⊥
-not_so h = cc
 
 -- handing in the turn that process p has out
 event_is : (b : Ledger) (n p : ℕ) (t u : Turn) → n ≡ p → Some t ≡ turn_out b n → u ≡ t → Finish u.actor ≡ Finish p

@@ -2,6 +2,7 @@
 use Rattle.std.proofs.Common.{◌≡◌, ℕ, ◌+◌, ◌<◌, Bool, List, [], ◌∷◌, ◌++◌, length, take, get_or, refl, sym, ap, ◌∙◌, subst, append-nil, append_assoc}
 use Rattle.std.proofs.lemmas.List.{take_more}
 use Rattle.su_octets.specs.Bits.{low_bits, bits_of}
+use Rattle.su_octets.proofs.BitLists.{bits_of-append}
 use Rattle.bit_line.specs.Deframing.{Stands}
 use Rattle.bit_line.specs.Events.{AreEvents}
 use Rattle.bit_line.specs.declared.events.LineEvent.{LineEvent}
@@ -12,15 +13,9 @@ use Rattle.link_term.specs.Term.{Term}
 use Rattle.link_term.specs.Hearing.{AreTaken, Hears, silent, octet, Heard}
 use Rattle.link_term.specs.Laws.{CuttingsAgree}
 
-bits_joined : (xs ys : List ℕ) → bits_of (xs ++ ys) ≡ bits_of xs ++ bits_of ys
-unfolding bits_of
-bits_joined [] ys = refl
-bits_joined (x ∷ xs) ys =
-    ap (λ (b : List Bool). low_bits 8 x ++ b) (bits_joined xs ys) ∙ sym (append_assoc (low_bits 8 x) (bits_of xs) (bits_of ys))
-
 bits_behind : (bits : List Bool) (xs ys : List ℕ) → (bits ++ bits_of xs) ++ bits_of ys ≡ bits ++ bits_of (xs ++ ys)
 bits_behind bits xs ys =
-    append_assoc bits (bits_of xs) (bits_of ys) ∙ ap (λ (b : List Bool). bits ++ b) (sym (bits_joined xs ys))
+    append_assoc bits (bits_of xs) (bits_of ys) ∙ ap (λ (b : List Bool). bits ++ b) (sym (bits_of-append xs ys))
 
 no_bits : (bits : List Bool) → bits ++ bits_of [] ≡ bits
 unfolding bits_of

@@ -1,11 +1,10 @@
 -- Lines that were written, and the texts of scripts.
-use Rattle.std.proofs.Common.{◌≡◌, ℕ, zero, suc, ◌+◌, ◌<◌, ◌≤◌, ◌==◌, nat_lt, Bool, true, false, List, [], ◌∷◌, ◌++◌, length, take, Option, Err, inl, inr, ap, sym, refl, ◌∙◌, arith, length-take}
+use Rattle.std.proofs.Common.{◌≡◌, ℕ, zero, ◌+◌, ◌<◌, ◌==◌, nat_lt, Bool, true, false, List, ◌++◌, length, take, Option, Err, inl, inr, ap, sym, ◌∙◌, arith, length-take}
 use Rattle.std.specs.Prelude.{◌⊎◌, IsTrue, IsUtf8, count_by}
-use borrow.Author.Tests.{ltb-false, ltb-true}
+use borrow.Author.Tests.{ltb-true}
 use Rattle.std.specs.Io.KnownBytes.{Appends}
 use Rattle.std.proofs.KnownBytes.{Appends-trans}
 use Rattle.std.proofs.lemmas.Bool.{false≢true}
-use Rattle.std.proofs.lemmas.List.{take_all}
 use Rattle.text_reader.specs.Reading.{LONGEST, Keeps}
 use Rattle.text_reader.specs.declared.reading.TextRead.{TextRead}
 use Rattle.script_lines.specs.declared.script.ScriptFault.{ScriptFault}
@@ -13,22 +12,11 @@ use Rattle.script_lines.specs.declared.script.ScriptFault.TheVariants.{BadLine, 
 use Rattle.pool_soak.specs.Scripts.{soak_of, IsFaultOf}
 use Rattle.pool_soak.specs.Findings.{IsEnd, IsTurnedDown, PrintsFault}
 use Rattle.pool_soak.proofs.Loops.{long}
+use Rattle.text_check.proofs.Long.{take_twice}
 
 -- one line after another
 pub after : (first now next : Option (List ℕ)) (one other : List ℕ) → Appends first now one → Appends now next other → Appends first next (one ++ other)
 after first now next one other before behind = Appends-trans first now next one other before behind
-
--- what is kept of a script is all of it, or it is too long
-pub all_kept : (bytes : List ℕ) (read : TextRead) → Keeps bytes read → nat_lt LONGEST (length read.kept.items) ≡ false → read.kept.items ≡ bytes
-all_kept bytes read keeps short =
-    let few : length read.kept.items ≤ LONGEST = ltb-false _ _ short in
-    keeps.first ∙ take_all (LONGEST + 1) bytes (omega (arith, ap length keeps.first, length-take (LONGEST + 1) bytes))
-
--- the line of a text that is too long, by the bytes that are kept of it
-take_twice : (n : ℕ) (xs : List ℕ) → take n (take (suc n) xs) ≡ take n xs
-take_twice zero xs = refl
-take_twice (suc n) [] = refl
-take_twice (suc n) (x ∷ xs) = ap (λ ys. x ∷ ys) (take_twice n xs)
 
 pub too_long : (bytes kept : List ℕ) (read : TextRead) (line : ℕ) → Keeps bytes read → nat_lt LONGEST (length read.kept.items) ≡ true
     → kept ≡ read.kept.items → line ≡ count_by (λ b. b == 10) (take LONGEST kept) + 1 → soak_of bytes ≡ Err line

@@ -1,3 +1,3 @@
-mod NumberLemmas
+pub mod NumberLemmas
 mod Loops
 mod Ranges

@@ -7,7 +7,7 @@ use Rattle.std.specs.Str.{all_ascii_digits, bytes_eq}
 use Rattle.std.specs.Str.Parse.{ParsesUnsigned}
 use Rattle.std.proofs.lemmas.Str.Parse.{IsNumeralModel, tells_all_ascii_digits, numerals_by_fold, parse_digits, FoldsDigits}
 use borrow.Author.Tests.{ltb-true}
-use Rattle.std.proofs.lemmas.Bool.{cases_lt, ne_eqb, lt-leb, le-leb, false_from_ne_true}
+use Rattle.std.proofs.lemmas.Bool.{and_parts, cases_lt, ne_eqb, lt-leb, le-leb, false_from_ne_true}
 use Rattle.std.proofs.lemmas.Slice.Eq.{bytes_eq-Decides}
 use Rattle.turn_code.specs.declared.value.Value.TheVariants as values
 use Rattle.script_lines.specs.Numbers.{decimal, is_digits, number_up_to, negative, positive, integer_of, value_of}
@@ -27,17 +27,9 @@ all_same : (ds : List ℕ) → all_ascii_digits ds ≡ list_all is_ascii_digit d
 all_same [] = refl
 all_same (d ∷ ds) = ap (λ b. is_ascii_digit d && b) (all_same ds)
 
-and-left : (a b : Bool) → (a && b) ≡ true → a ≡ true
-and-left true b h = refl
-and-left false b h = h
-
-and-right : (a b : Bool) → (a && b) ≡ true → b ≡ true
-and-right true b h = h
-and-right false b h = absurd (cc)
-
 -- the test, taken apart
 digits_parts : (word : List ℕ) → is_digits word ≡ true → (0 < length word) × (all_ascii_digits word ≡ true)
-digits_parts word h = (ltb-true _ _ (and-left _ _ h), all_same word ∙ and-right _ _ h)
+digits_parts word h = let parts = and_parts _ _ h in (ltb-true _ _ parts.0, all_same word ∙ parts.1)
 
 -- digits that are read, digits that stand for too much, and digits that aren't read
 pub fits : (most : ℕ) (word : List ℕ) (n : ℕ) → is_digits word ≡ true → ParsesUnsigned {E = ℕ} 32 10 word (Ok n) → n ≤ most

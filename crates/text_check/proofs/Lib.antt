@@ -1,3 +1,3 @@
-mod Prints
+pub mod Prints
 mod Written
-mod Long
+pub mod Long

@@ -16,7 +16,7 @@ use Rattle.text_check.specs.declared.sets.SetFault.TheVariants.{Load}
 use Rattle.text_check.specs.Checked.{IsGiven, IsNotAccepted, IsSetOf, IsRefusal, IsRefusalOf, IsTooLong}
 
 -- a beginning of a beginning
-take_twice : (n : ℕ) (xs : List ℕ) → take n (take (suc n) xs) ≡ take n xs
+pub take_twice : (n : ℕ) (xs : List ℕ) → take n (take (suc n) xs) ≡ take n xs
 take_twice zero xs = refl
 take_twice (suc n) [] = refl
 take_twice (suc n) (x ∷ xs) = ap (λ ys. x ∷ ys) (take_twice n xs)
@@ -30,8 +30,8 @@ unlexed bytes kept line long at = record {
 }
 
 -- what is kept of a text is all of it, or it is too long
-pub whole : (bytes : List ℕ) (read : TextRead) → Keeps bytes read → nat_lt LONGEST (length read.kept.items) ≡ false → read.kept.items ≡ bytes
-whole bytes read keeps short =
+pub all_kept : (bytes : List ℕ) (read : TextRead) → Keeps bytes read → nat_lt LONGEST (length read.kept.items) ≡ false → read.kept.items ≡ bytes
+all_kept bytes read keeps short =
     let few : length read.kept.items ≤ LONGEST = ltb-false _ _ short in
     keeps.first ∙ take_all (LONGEST + 1) bytes (omega (arith, ap length keeps.first, length-take (LONGEST + 1) bytes))
 

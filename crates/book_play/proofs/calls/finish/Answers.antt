@@ -1,11 +1,13 @@
 use Rattle.std.proofs.Common.{sym}
 use Rattle.std.proofs.lemmas.Result.{IfOk-weaker}
-use Rattle.book_play.proofs.Saids.{not_so, still_own, finish_book, finish_line}
+use Rattle.std.proofs.lemmas.Bool.{false≢true}
+use Rattle.book_rest.proofs.Owned.{still_own}
+use Rattle.book_play.proofs.Saids.{finish_book, finish_line}
 use Rattle.book_play.proofs.calls.finish.Goals as goal
 
 pub unreachable-requires : goal.unreachable-requires
 unreachable-requires c =
-    not_so (c.in-Err.ensures.accepted.1
+    false≢true (c.in-Err.ensures.accepted.1
     (still_own c.args.book.now c.actor_of.result c.in-Some.job c.run.result (sym c.in-Some.ensures) c.run.ensures))
 
 pub returns-clause-book : goal.returns-clause-book

@@ -1,10 +1,10 @@
-use Rattle.book_play.proofs.Saids.{not_so}
+use Rattle.std.proofs.lemmas.Bool.{false≢true}
 use Rattle.book_play.proofs.playing.limits_of.Goals as goal
 
 pub unreachable-requires : goal.unreachable-requires
 unreachable-requires c =
     let within = c.requires in
-    not_so (c.in-None.ensures.fits.1 (record {
+    false≢true (c.in-None.ensures.fits.1 (record {
       least_port = within.least_ports;
       most_port = within.most_ports;
       least_env = within.least_env;

@@ -1,7 +1,7 @@
 use Rattle.std.proofs.Common.{◌≡◌, ℕ, List, None, refl}
 use Rattle.std.specs.Prelude.{◌≢◌, codes}
 use Rattle.term_lines.specs.Orders.{order_of}
-use Rattle.term_lines.proofs.Words.{bytes_ne}
+use Rattle.script_lines.proofs.NumberLemmas.{bytes_ne}
 use Rattle.term_lines.proofs.orders.order_in.Goals as goal
 
 pub returns-in-power : goal.returns-in-power

@@ -1,7 +1,7 @@
 use Rattle.std.proofs.Common.{◌≡◌, ◌∙◌, List, ℕ, sym, ap, subst, rules}
 use Rattle.std.specs.Prelude.{IsTrue, IsUtf8}
 use Rattle.text_check.specs.Checked.{IsTooLong}
-use Rattle.text_check.proofs.Long.{whole, too_many, not_accepted, set_kept, fault_kept}
+use Rattle.text_check.proofs.Long.{all_kept, too_many, not_accepted, set_kept, fault_kept}
 use Rattle.text_check.proofs.sets.set_in.Goals as goal
 
 pub returns-then-is_too_long-clause-fault : goal.returns-then-is_too_long-clause-fault
@@ -17,17 +17,17 @@ returns-then-is_too_long-clause-fault c judged bytes keeps =
 pub returns-in-Ok-clause-set : goal.returns-in-Ok-clause-set
 returns-in-Ok-clause-set c =
     set_kept _ c.in-Ok.text.now c.args.read.now
-    (λ bytes keeps. c.in-Ok.ensures.cases.0 ∙ (c.deref-2.ensures.value ∙ whole bytes c.args.read.now keeps (sym c.is_too_long.ensures ∙ c.if-is_too_long.false)))
+    (λ bytes keeps. c.in-Ok.ensures.cases.0 ∙ (c.deref-2.ensures.value ∙ all_kept bytes c.args.read.now keeps (sym c.is_too_long.ensures ∙ c.if-is_too_long.false)))
     c.text_set.ensures.set
 
 pub returns-in-Ok-clause-fault : goal.returns-in-Ok-clause-fault
 returns-in-Ok-clause-fault c =
     fault_kept _ c.in-Ok.text.now c.args.read.now
-    (λ bytes keeps. c.in-Ok.ensures.cases.0 ∙ (c.deref-2.ensures.value ∙ whole bytes c.args.read.now keeps (sym c.is_too_long.ensures ∙ c.if-is_too_long.false)))
+    (λ bytes keeps. c.in-Ok.ensures.cases.0 ∙ (c.deref-2.ensures.value ∙ all_kept bytes c.args.read.now keeps (sym c.is_too_long.ensures ∙ c.if-is_too_long.false)))
     c.text_set.ensures.fault
 
 pub returns-in-Err-clause-fault : goal.returns-in-Err-clause-fault
 returns-in-Err-clause-fault c judged bytes keeps =
     let is_text : IsTrue c.args.read.now.is_text = search rules in
-    let same : c.deref-2.result.now ≡ bytes = c.deref-2.ensures.value ∙ whole bytes c.args.read.now keeps (sym c.is_too_long.ensures ∙ c.if-is_too_long.false) in
+    let same : c.deref-2.result.now ≡ bytes = c.deref-2.ensures.value ∙ all_kept bytes c.args.read.now keeps (sym c.is_too_long.ensures ∙ c.if-is_too_long.false) in
     absurd (c.in-Err.ensures.cases.0 (subst IsUtf8 (sym same) (keeps.utf8.0 is_text)))
