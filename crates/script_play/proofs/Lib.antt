@@ -1,3 +1,5 @@
 mod Refusals
+mod TermAnswers
 mod TermRuns
 mod Texts
+mod UnitLaws

@@ -1,2 +1,4 @@
+pub mod UnitLines
+pub mod TermAnswers
 pub mod TermRuns
 pub mod Played

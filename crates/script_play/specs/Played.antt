@@ -12,7 +12,7 @@ use Rattle.text_check.specs.Checked.{IsGiven, IsSetOf, PrintsRefusal}
 use Rattle.text_check.specs.Printed.{line_of}
 use Rattle.text_check.specs.declared.sets.SetWord.{SetWord}
 use Rattle.text_check.specs.declared.sets.SetWord.TheVariants.{Standard, Monitors, Text}
-use Rattle.script_play.specs.TermRuns.{IsTermWritten, IsTermMissed}
+use Rattle.script_play.specs.TermRuns.{IsOfNew, IsTermWritten, IsTermMissed}
 
 -- terminals run the set `standard` alone
 abbrev pub has_terminals : {R : Type 0} → SetWord R → Bool
@@ -25,10 +25,10 @@ abbrev pub reading_of : Bool → List ℕ → Result PlainAnyScript ℕ
 reading_of true text = any_script_of text
 reading_of false text = as_book (script_of text)
 
--- all commands of a script were obeyed, and their lines written
+-- all commands of a script were obeyed, and their lines written: by a book of the set, or by a new terminal, whose set is the profile's
 abbrev pub IsObeyed : Draft → PlainAnyScript → Option (List ℕ) → Option (List ℕ) → Type 0
 IsObeyed d (book s) old new = IsWritten (first_book d s.settings) s.commands old new
-IsObeyed d (terminal s) old new = IsTermWritten s.commands old new
+IsObeyed d (terminal s) old new = IsOfNew s.mode (IsTermWritten s.commands old new)
 
 -- the bytes are a script, all of whose commands were obeyed
 pub record IsPlayed (terminals : Bool) (old new : Option (List ℕ)) (d : Draft) (bytes : List ℕ) : Type 0 where
@@ -40,7 +40,7 @@ pub record IsPlayed (terminals : Bool) (old new : Option (List ℕ)) (d : Draft)
 -- an expectation of a script failed behind commands that were obeyed
 abbrev pub IsMissedIn : Draft → PlainAnyScript → Option (List ℕ) → Option (List ℕ) → Type 0
 IsMissedIn d (book s) old new = IsMissed (first_book d s.settings) s.commands old new
-IsMissedIn d (terminal s) old new = IsTermMissed s.commands old new
+IsMissedIn d (terminal s) old new = IsOfNew s.mode (IsTermMissed s.commands old new)
 
 -- the bytes are a script, an expectation of which failed
 pub record IsPlayedInPart (terminals : Bool) (old new : Option (List ℕ)) (d : Draft) (bytes : List ℕ) : Type 0 where

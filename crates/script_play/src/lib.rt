@@ -1,6 +1,7 @@
 //! The command `play`: a script, run on a set of processes, or on a terminal.
 #![tactic(auto)]
 
+mod answers;
 mod orders;
 mod playing;
 mod terminals;

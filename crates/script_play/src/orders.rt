@@ -1,9 +1,14 @@
 //! What the words of a script tell a terminal.
+ghost use Rattle.std.specs.Prelude.{◌≡◌};
+ghost use Rattle.script_play.specs.TermAnswers.{command_of};
+
 use link_term::Command;
 use term_lines::Order;
 
 /// The command of a word.
-pub fn command_of(order: Order) -> Command {
+pub fn command_of(order: Order) -> Command
+    ensures { result ≡ command_of order }
+{
     match order {
         Order::Power => Command::PowerOn,
         Order::Start => Command::Start,

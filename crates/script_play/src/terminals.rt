@@ -1,24 +1,20 @@
 //! A terminal's script as it runs.
-ghost use Rattle.std.specs.Prelude.{◌≡◌, ◌⊎◌, ◌≤◌, ◌++◌, ◌∷◌, [], List, ℕ, Option, map, OnOk, IfOk, true, false};
+ghost use Rattle.std.specs.Prelude.{◌≡◌, ◌⊎◌, ◌++◌, ◌∷◌, [], List, ℕ, Option, map, is_some, OnOk, IfOk, true, false};
+ghost use Rattle.link_term.specs.Term.{Term};
 ghost use Rattle.term_lines.specs.TermScripts.{PlainTermSaid, plain_term_said};
-ghost use Rattle.script_play.specs.TermRuns.{last_of, HasPrinted, IsTermRun, IsTermWritten, IsTermMissed, IsTermMissedBy};
+ghost use Rattle.script_play.specs.TermAnswers.{next_of, behind_next, unit_line};
+ghost use Rattle.script_play.specs.TermRuns.{last_of, HasPrinted, HasGivenOut, IsTermRun, IsTermWritten, IsTermMissed, IsTermMissedBy, IsOfNew};
 
-use crate::orders::command_of;
-use crate::unit_line::line_of_unit;
-use arrayvec::ArrayVec;
-use book_play::{Printer, state_line, value_line};
-use link_term::{CallError, Msu, Terminal};
-use std::alloc::{AllocError, Global};
-use std::fmt::Display;
+use crate::answers::{answer, text_line};
+use book_play::Printer;
+use link_term::Terminal;
+use std::alloc::Global;
 use std::io::{self, Write};
 use term_lines::{TermCommand, TermSaid, TermScript};
 use text_check::{FAILED, HELD, write_line};
 
 /// The exit status where an expectation failed.
 const MISSED: u8 = 1;
-
-/// More reports than a terminal has at once: 256 messages and 64 statuses.
-const REPORTS: u32 = 400;
 
 /// A terminal, and what is printed for it.
 #[derive(Drop)]
@@ -27,111 +23,13 @@ pub struct TermPlayer {
     pub printer: Printer,
 }
 
-/// A line of printed text.
-fn text_line<L: Display>(alloc: Global, line: &L) -> Result<Vec<u8>, AllocError> {
-    let text = format!(in alloc; "{line}")?;
-    Vec::from_slice(alloc, text.as_bytes())
-}
-
-/// The line of a refusal; none where memory is wanting.
-fn refused(alloc: Global, error: CallError) -> Result<Vec<u8>, AllocError> {
-    match error {
-        CallError::Refused(refusal) => text_line(alloc, &format_args!("refused {refusal}")),
-        CallError::NoMemory => Err(AllocError),
-    }
-}
-
-/// The message of these octets: its service information octet, and its signalling information field.
-fn message(octets: &[u8]) -> Option<Msu> {
-    match octets {
-        [sio, sif @ ..] => {
-            let mut field = ArrayVec::new();
-            match field.try_extend_from_slice(sif) {
-                Ok(()) => Some(Msu {
-                    sio: *sio,
-                    sif: field,
-                }),
-                Err(_) => None,
-            }
-        }
-        [] => None,
-    }
-}
-
 impl TermPlayer {
-    /// Takes all reports out: a script doesn't print them.
-    fn drop_reports(&mut self) {
-        for _ in 0..REPORTS {
-            if self.terminal.report().is_none() {
-                return;
-            }
-        }
-    }
-
-    /// Takes octets of the line, all of them.
-    fn take(&mut self, alloc: Global, octets: &[u8]) -> Result<Vec<u8>, AllocError> {
-        let mut from = 0;
-        for _ in 0..=octets.len() {
-            if from >= octets.len() {
-                break;
-            }
-            let taken = self.terminal.line_in(&octets[from..]);
-            self.drop_reports();
-            if taken == 0 {
-                return Err(AllocError);
-            }
-            from += taken;
-        }
-        Vec::from_slice(alloc, b"ok")
-    }
-
-    /// Takes a message to send.
-    fn put(&mut self, alloc: Global, octets: &[u8]) -> Result<Vec<u8>, AllocError> {
-        let Some(msu) = message(octets) else {
-            return Err(AllocError);
-        };
-        if msu.sif.len() < 2 {
-            return Err(AllocError);
-        }
-        match self.terminal.put(msu) {
-            Ok(()) => Vec::from_slice(alloc, b"ok"),
-            Err(fault) => text_line(alloc, &format_args!("refused {fault}")),
-        }
-    }
-
-    /// Lets time pass.
-    fn tick(&mut self, alloc: Global, ticks: u32) -> Result<Vec<u8>, AllocError> {
-        match self.terminal.tick(u64::from(ticks)) {
-            Ok(due) => text_line(alloc, &format_args!("ok due {due}")),
-            Err(error) => refused(alloc, error),
-        }
-    }
-
-    /// The line that a command prints, but for `out` and `expect`.
-    fn answer(&mut self, alloc: Global, command: &TermCommand<'_>) -> Result<Vec<u8>, AllocError> {
-        match command {
-            TermCommand::Order(order) => match self.terminal.command(command_of(*order)) {
-                Ok(()) => Vec::from_slice(alloc, b"ok"),
-                Err(error) => refused(alloc, error),
-            },
-            TermCommand::Unit(octets) => {
-                let line = line_of_unit(alloc, octets)?;
-                self.take(alloc, &line)
-            }
-            TermCommand::Line(octets) => self.take(alloc, octets),
-            TermCommand::Msu(octets) => self.put(alloc, octets),
-            TermCommand::Tick(ticks) => self.tick(alloc, *ticks),
-            TermCommand::State(process) => state_line(alloc, self.terminal.book(), process),
-            TermCommand::Value(process, variable) => {
-                value_line(alloc, self.terminal.book(), process, variable)
-            }
-            TermCommand::Out(_) | TermCommand::Expect(_) => Ok(Vec::new(alloc)),
-        }
-    }
-
     /// Prints the unit that goes out next, or `silent`. Whether it was a unit.
     fn print_unit<W: Write>(&mut self, alloc: Global, writer: &mut W) -> io::Result<bool>
-        ensures { OnOk result (HasPrinted (W.contents writer.old) (W.contents writer.new) (last_of self.old) (last_of self.new) 1) }
+        ensures unit { IfOk result (λ on. on ≡ is_some (next_of self.old.terminal).unit) }
+        ensures goes { OnOk result (self.new.terminal ≡ behind_next self.old.terminal) }
+        ensures printed { OnOk result (HasPrinted (W.contents writer.old) (W.contents writer.new) (last_of self.old) (last_of self.new)
+            (unit_line (next_of self.old.terminal).unit ∷ [])) }
     {
         match self.terminal.unit_out()? {
             Some(unit) => {
@@ -149,7 +47,8 @@ impl TermPlayer {
 
     /// Prints the units that go out next, so many; one line `silent` where none goes out.
     fn print_units<W: Write>(&mut self, alloc: Global, units: u32, writer: &mut W) -> io::Result<()>
-        ensures { OnOk result ((k : ℕ) × (k ≤ units) × HasPrinted (W.contents writer.old) (W.contents writer.new) (last_of self.old) (last_of self.new) k) }
+        ensures { OnOk result (HasGivenOut units (W.contents writer.old) (W.contents writer.new) (last_of self.old) (last_of self.new)
+            self.old.terminal self.new.terminal) }
     {
         for gone in 0..units {
             if !self.print_unit(alloc, writer)? {
@@ -166,9 +65,9 @@ impl TermPlayer {
         said: &TermSaid<'_>,
         writer: &mut W,
     ) -> io::Result<bool>
-        ensures goes { IfOk result (λ on. on ≡ true → (before : List PlainTermSaid) (first : Option (List ℕ))
-            → IsTermRun before first (W.contents writer.old) (last_of self.old)
-            → IsTermRun (before ++ plain_term_said said.now ∷ []) first (W.contents writer.new) (last_of self.new)) }
+        ensures goes { IfOk result (λ on. on ≡ true → (t : Term) (before : List PlainTermSaid) (first : Option (List ℕ))
+            → IsTermRun t before first (W.contents writer.old) self.old.terminal (last_of self.old)
+            → IsTermRun t (before ++ plain_term_said said.now ∷ []) first (W.contents writer.new) self.new.terminal (last_of self.new)) }
         ensures missed { IfOk result (λ on. on ≡ false
             → IsTermMissedBy (plain_term_said said.now) (last_of self.old) (W.contents writer.old) (W.contents writer.new)) }
     {
@@ -186,7 +85,7 @@ impl TermPlayer {
                 Ok(true)
             }
             command => {
-                let line = self.answer(alloc, command)?;
+                let line = answer(alloc, &mut self.terminal, command)?;
                 self.printer.print(line, writer)?;
                 Ok(true)
             }
@@ -200,12 +99,12 @@ impl TermPlayer {
         commands: &[TermSaid<'_>],
         writer: &mut W,
     ) -> io::Result<u8>
-        ensures held { IfOk result (λ status. status ≡ 0 → (before : List PlainTermSaid) (first : Option (List ℕ))
-            → IsTermRun before first (W.contents writer.old) (last_of self.old)
-            → IsTermRun (before ++ map plain_term_said commands.now) first (W.contents writer.new) (last_of self.new)) }
-        ensures missed { IfOk result (λ status. status ≡ 1 → (before : List PlainTermSaid) (first : Option (List ℕ))
-            → IsTermRun before first (W.contents writer.old) (last_of self.old)
-            → IsTermMissed (before ++ map plain_term_said commands.now) first (W.contents writer.new)) }
+        ensures held { IfOk result (λ status. status ≡ 0 → (t : Term) (before : List PlainTermSaid) (first : Option (List ℕ))
+            → IsTermRun t before first (W.contents writer.old) self.old.terminal (last_of self.old)
+            → IsTermRun t (before ++ map plain_term_said commands.now) first (W.contents writer.new) self.new.terminal (last_of self.new)) }
+        ensures missed { IfOk result (λ status. status ≡ 1 → (t : Term) (before : List PlainTermSaid) (first : Option (List ℕ))
+            → IsTermRun t before first (W.contents writer.old) self.old.terminal (last_of self.old)
+            → IsTermMissed (before ++ map plain_term_said commands.now) first (W.contents writer.new) t) }
         ensures status { IfOk result (λ status. (status ≡ 0) ⊎ (status ≡ 1)) }
     {
         for said in commands {
@@ -222,8 +121,10 @@ impl TermPlayer {
 /// Gives the exit status: 0 where each command ran and its lines were written, 1 after `failed line N` where an expectation failed, 4 where
 /// memory or a write fails. Nothing is written after a write that failed.
 pub fn play_terminal<W: Write>(alloc: Global, script: &TermScript<'_>, writer: &mut W) -> u8
-    ensures held { result ≡ 0 → IsTermWritten (map plain_term_said script.now.commands.items) (W.contents writer.old) (W.contents writer.new) }
-    ensures missed { result ≡ 1 → IsTermMissed (map plain_term_said script.now.commands.items) (W.contents writer.old) (W.contents writer.new) }
+    ensures held { result ≡ 0
+        → IsOfNew script.now.mode (IsTermWritten (map plain_term_said script.now.commands.items) (W.contents writer.old) (W.contents writer.new)) }
+    ensures missed { result ≡ 1
+        → IsOfNew script.now.mode (IsTermMissed (map plain_term_said script.now.commands.items) (W.contents writer.old) (W.contents writer.new)) }
     ensures status { (result ≡ 0) ⊎ (result ≡ 1) ⊎ (result ≡ 4) }
 {
     let Ok(terminal) = Terminal::new(alloc, script.mode) else {
