@@ -12,20 +12,13 @@ pub enum Stopped {
     NoMemory,
     /// A terminal wasn't made, or refused what it was told.
     Refused,
+    /// A line is no step, or a row has no name.
+    BadLine,
 }
 
 impl From<AllocError> for Stopped {
     fn from(_error: AllocError) -> Stopped {
         Stopped::NoMemory
-    }
-}
-
-impl From<CallError> for Stopped {
-    fn from(error: CallError) -> Stopped {
-        match error {
-            CallError::NoMemory => Stopped::NoMemory,
-            CallError::Refused(_) => Stopped::Refused,
-        }
     }
 }
 
@@ -39,10 +32,10 @@ pub enum Step {
     Near(Command),
     /// The far one is told something.
     Far(Command),
-    /// The near one gets a message to send.
-    NearSends,
-    /// The far one gets a message of so many octets to send.
-    FarSends(u8),
+    /// The near one gets a message of so many octets to send.
+    NearSends(u16),
+    /// The far one gets such a message.
+    FarSends(u16),
     /// Units go to the far end, and then units come from there.
     Exchange,
     /// Units that go to the far end are lost.
@@ -50,7 +43,7 @@ pub enum Step {
     /// So many octets of 1s come to the near end.
     Ones(u16),
     /// So many milliseconds pass at both ends.
-    Wait(u64),
+    Wait(u16),
     /// The near one hands out all that it has.
     Show,
 }
@@ -63,16 +56,17 @@ pub struct Pair {
 }
 
 /// What a message has behind its first two octets.
-const FILLER: [u8; 255] = [0x5A; 255];
+const FILLER: [u8; 270] = [0x5A; 270];
 
-/// A message with a field of so many octets, 2 or more.
-fn message(octets: u8) -> Msu
+/// A message with a field of so many octets, 2 to 272.
+fn message(octets: u16) -> Msu
     ensures { 2 ≤ length result.sif.items }
 {
     let mut sif = ArrayVec::new();
-    sif.push(octets);
-    sif.push(octets);
-    let more = usize::from(octets).saturating_sub(2);
+    let number = (octets % 256) as u8;
+    sif.push(number);
+    sif.push(number);
+    let more = usize::from(octets).saturating_sub(2).min(270);
     sif.try_extend_from_slice(&FILLER[..more]).unwrap();
     Msu { sio: 0x83, sif }
 }
@@ -86,8 +80,32 @@ fn terminal(alloc: Global) -> Result<Terminal, Stopped> {
     }
 }
 
+/// Why a terminal did not do what it was told.
+fn why_stopped(error: CallError) -> Stopped {
+    match error {
+        CallError::NoMemory => Stopped::NoMemory,
+        CallError::Refused(_) => Stopped::Refused,
+    }
+}
+
+/// Tells a terminal something.
+fn tell(terminal: &mut Terminal, command: Command) -> Result<(), Stopped> {
+    match terminal.command(command) {
+        Ok(()) => Ok(()),
+        Err(error) => Err(why_stopped(error)),
+    }
+}
+
+/// So many milliseconds pass at an end.
+fn pass(terminal: &mut Terminal, ticks: u16) -> Result<(), Stopped> {
+    match terminal.tick(u64::from(ticks)) {
+        Ok(_) => Ok(()),
+        Err(error) => Err(why_stopped(error)),
+    }
+}
+
 /// A message to send.
-fn put(terminal: &mut Terminal, octets: u8) -> Result<(), Stopped> {
+fn put(terminal: &mut Terminal, octets: u16) -> Result<(), Stopped> {
     match terminal.put(message(octets)) {
         Ok(()) => Ok(()),
         Err(_) => Err(Stopped::Refused),
@@ -115,10 +133,9 @@ impl Pair {
         carry(&mut self.far, &mut self.near)
     }
 
-    fn wait(&mut self, ticks: u64) -> Result<(), Stopped> {
-        self.near.tick(ticks)?;
-        self.far.tick(ticks)?;
-        Ok(())
+    fn wait(&mut self, ticks: u16) -> Result<(), Stopped> {
+        pass(&mut self.near, ticks)?;
+        pass(&mut self.far, ticks)
     }
 
     fn lose(&mut self) -> Result<(), Stopped> {
@@ -138,17 +155,16 @@ impl Pair {
     /// Does a step; one that shows is left to the caller.
     pub fn make(&mut self, step: Step) -> Result<(), Stopped> {
         match step {
-            Step::Near(command) => self.near.command(command)?,
-            Step::Far(command) => self.far.command(command)?,
-            Step::NearSends => put(&mut self.near, 2)?,
-            Step::FarSends(octets) => put(&mut self.far, octets)?,
-            Step::Exchange => self.exchange()?,
-            Step::Lose => self.lose()?,
-            Step::Ones(octets) => self.hear_ones(octets)?,
-            Step::Wait(ticks) => self.wait(ticks)?,
-            Step::Show => {}
+            Step::Near(command) => tell(&mut self.near, command),
+            Step::Far(command) => tell(&mut self.far, command),
+            Step::NearSends(octets) => put(&mut self.near, octets),
+            Step::FarSends(octets) => put(&mut self.far, octets),
+            Step::Exchange => self.exchange(),
+            Step::Lose => self.lose(),
+            Step::Ones(octets) => self.hear_ones(octets),
+            Step::Wait(ticks) => self.wait(ticks),
+            Step::Show => Ok(()),
         }
-        Ok(())
     }
 
     /// What the near terminal hands out next.

@@ -1,337 +1,72 @@
-//! The rows.
+//! Rows: what is done, and what is handed out.
 
-use crate::pair::Step::{self, Exchange, Far, FarSends, Lose, Near, NearSends, Ones, Show, Wait};
-use link_term::Command::{Back, Outage, PowerOn, Start, Stop};
+use crate::pair::{Pair, Step, Stopped};
+use crate::steps::step_of;
+use link_term::{LinkStatus, Report};
+use std::alloc::{AllocError, Global};
 
-/// What is done, and what it is called.
-#[derive(Clone, Copy)]
-pub struct Row {
-    pub name: &'static str,
-    pub steps: &'static [Step],
+/// Writes what was told of the link.
+fn write_status(text: &mut String, status: LinkStatus) -> Result<(), AllocError> {
+    match status {
+        LinkStatus::InService => text.push_str("  in service\n"),
+        LinkStatus::Down(reason) => writeln!(text, "  down {reason}"),
+        LinkStatus::RemoteOut => text.push_str("  remote out\n"),
+        LinkStatus::RemoteBack => text.push_str("  remote back\n"),
+    }
 }
 
-pub const ROWS: [Row; 18] = [
-    Row {
-        name: "a link comes into service, and that is told once",
-        steps: &[
-            Near(PowerOn),
-            Far(PowerOn),
-            Near(Start),
-            Far(Start),
-            Exchange,
-            Exchange,
-            Wait(8200),
-            Exchange,
-            Show,
-            Exchange,
-            Show,
-        ],
-    },
-    Row {
-        name: "messages come before what was told, and none comes twice",
-        steps: &[
-            Near(PowerOn),
-            Far(PowerOn),
-            Near(Start),
-            Far(Start),
-            Exchange,
-            Exchange,
-            Wait(8200),
-            Exchange,
-            FarSends(9),
-            FarSends(5),
-            Exchange,
-            Exchange,
-            Far(Stop),
-            Exchange,
-            Show,
-        ],
-    },
-    Row {
-        name: "a message that came is told where it came",
-        steps: &[
-            Near(PowerOn),
-            Far(PowerOn),
-            Near(Start),
-            Far(Start),
-            Exchange,
-            Exchange,
-            Wait(8200),
-            Exchange,
-            Show,
-            FarSends(20),
-            Exchange,
-            Show,
-            FarSends(200),
-            Exchange,
-            Show,
-        ],
-    },
-    Row {
-        name: "the near end stops",
-        steps: &[
-            Near(PowerOn),
-            Far(PowerOn),
-            Near(Start),
-            Far(Start),
-            Exchange,
-            Exchange,
-            Wait(8200),
-            Exchange,
-            Show,
-            Near(Stop),
-            Show,
-        ],
-    },
-    Row {
-        name: "nobody answers: T2",
-        steps: &[
-            Near(PowerOn),
-            Near(Start),
-            Wait(24_999),
-            Show,
-            Wait(1),
-            Show,
-        ],
-    },
-    Row {
-        name: "the far end is out of service: T2",
-        steps: &[
-            Near(PowerOn),
-            Far(PowerOn),
-            Near(Start),
-            Exchange,
-            Show,
-            Wait(25_000),
-            Show,
-        ],
-    },
-    Row {
-        name: "the far end stops while both are proving",
-        steps: &[
-            Near(PowerOn),
-            Far(PowerOn),
-            Near(Start),
-            Far(Start),
-            Exchange,
-            Exchange,
-            Far(Stop),
-            Exchange,
-            Show,
-        ],
-    },
-    Row {
-        name: "the line goes silent behind proving: T1",
-        steps: &[
-            Near(PowerOn),
-            Far(PowerOn),
-            Near(Start),
-            Far(Start),
-            Exchange,
-            Exchange,
-            Wait(8200),
-            Wait(44_999),
-            Show,
-            Wait(1),
-            Show,
-        ],
-    },
-    Row {
-        name: "a message is not acknowledged: T7",
-        steps: &[
-            Near(PowerOn),
-            Far(PowerOn),
-            Near(Start),
-            Far(Start),
-            Exchange,
-            Exchange,
-            Wait(8200),
-            Exchange,
-            Show,
-            NearSends,
-            Lose,
-            Wait(999),
-            Show,
-            Wait(1),
-            Show,
-        ],
-    },
-    Row {
-        name: "an acknowledged one",
-        steps: &[
-            Near(PowerOn),
-            Far(PowerOn),
-            Near(Start),
-            Far(Start),
-            Exchange,
-            Exchange,
-            Wait(8200),
-            Exchange,
-            Show,
-            NearSends,
-            Exchange,
-            Wait(1000),
-            Show,
-        ],
-    },
-    Row {
-        name: "the line has only 1s: 64 times sixteen octets",
-        steps: &[
-            Near(PowerOn),
-            Far(PowerOn),
-            Near(Start),
-            Far(Start),
-            Exchange,
-            Exchange,
-            Wait(8200),
-            Exchange,
-            Show,
-            Ones(1024),
-            Show,
-            Ones(1),
-            Show,
-        ],
-    },
-    Row {
-        name: "the far end stops",
-        steps: &[
-            Near(PowerOn),
-            Far(PowerOn),
-            Near(Start),
-            Far(Start),
-            Exchange,
-            Exchange,
-            Wait(8200),
-            Exchange,
-            Show,
-            Far(Stop),
-            Exchange,
-            Show,
-        ],
-    },
-    Row {
-        name: "the far end stops and starts again",
-        steps: &[
-            Near(PowerOn),
-            Far(PowerOn),
-            Near(Start),
-            Far(Start),
-            Exchange,
-            Exchange,
-            Wait(8200),
-            Exchange,
-            Show,
-            Far(Stop),
-            Far(Start),
-            Exchange,
-            Show,
-        ],
-    },
-    Row {
-        name: "a link comes back",
-        steps: &[
-            Near(PowerOn),
-            Far(PowerOn),
-            Near(Start),
-            Far(Start),
-            Exchange,
-            Exchange,
-            Wait(8200),
-            Exchange,
-            Show,
-            Far(Stop),
-            Exchange,
-            Show,
-            Near(Start),
-            Far(Start),
-            Exchange,
-            Exchange,
-            Wait(8200),
-            Exchange,
-            Show,
-        ],
-    },
-    Row {
-        name: "the far side's processor is out, and back",
-        steps: &[
-            Near(PowerOn),
-            Far(PowerOn),
-            Near(Start),
-            Far(Start),
-            Exchange,
-            Exchange,
-            Wait(8200),
-            Exchange,
-            Show,
-            Far(Outage),
-            Exchange,
-            Exchange,
-            Show,
-            Far(Back),
-            Exchange,
-            Exchange,
-            Show,
-        ],
-    },
-    Row {
-        name: "it is out before the link comes into service",
-        steps: &[
-            Near(PowerOn),
-            Far(PowerOn),
-            Near(Start),
-            Far(Start),
-            Far(Outage),
-            Exchange,
-            Exchange,
-            Wait(8200),
-            Exchange,
-            Show,
-            Far(Back),
-            Exchange,
-            Show,
-        ],
-    },
-    Row {
-        name: "this side's processor is out: nothing is told, and messages wait",
-        steps: &[
-            Near(PowerOn),
-            Far(PowerOn),
-            Near(Start),
-            Far(Start),
-            Exchange,
-            Exchange,
-            Wait(8200),
-            Exchange,
-            Show,
-            Near(Outage),
-            Exchange,
-            FarSends(7),
-            Exchange,
-            Show,
-            Near(Back),
-            Exchange,
-            Exchange,
-            Show,
-        ],
-    },
-    Row {
-        name: "the link goes down while the far side's processor is out",
-        steps: &[
-            Near(PowerOn),
-            Far(PowerOn),
-            Near(Start),
-            Far(Start),
-            Exchange,
-            Exchange,
-            Wait(8200),
-            Exchange,
-            Show,
-            Far(Outage),
-            Exchange,
-            Show,
-            Far(Stop),
-            Exchange,
-            Show,
-        ],
-    },
-];
+/// Writes a report.
+fn write_report(text: &mut String, report: Report) -> Result<(), AllocError> {
+    match report {
+        Report::Message(msu) => writeln!(text, "  message {}", msu.sif.len()),
+        Report::Status(status) => write_status(text, status),
+    }
+}
+
+/// Writes all that is handed out, and a line behind it.
+fn write_reports(text: &mut String, pair: &mut Pair) -> Result<(), AllocError> {
+    for _ in 0..1000u32 {
+        match pair.report() {
+            Some(report) => write_report(text, report)?,
+            None => return text.push_str("  -\n"),
+        }
+    }
+    Ok(())
+}
+
+/// Does a step.
+fn play_step(text: &mut String, pair: &mut Pair, step: Step) -> Result<(), Stopped> {
+    match step {
+        Step::Show => match write_reports(text, pair) {
+            Ok(()) => Ok(()),
+            Err(_) => Err(Stopped::NoMemory),
+        },
+        step => pair.make(step),
+    }
+}
+
+/// Does the step of a line.
+fn play_line(text: &mut String, pair: &mut Pair, line: &str) -> Result<(), Stopped> {
+    match step_of(line) {
+        Some(step) => play_step(text, pair, step),
+        None => Err(Stopped::BadLine),
+    }
+}
+
+/// Does the steps of a row.
+fn play_steps(alloc: Global, steps: &str, text: &mut String) -> Result<(), Stopped> {
+    let mut pair = Pair::new(alloc)?;
+    for line in steps.lines() {
+        play_line(text, &mut pair, line)?;
+    }
+    Ok(())
+}
+
+/// Plays a row: its name, and a line for each step. Writes its name and what is handed out.
+pub fn play_row(alloc: Global, row: &str, text: &mut String) -> Result<(), Stopped> {
+    let Some((name, steps)) = row.split_once('\n') else {
+        return Err(Stopped::BadLine);
+    };
+    writeln!(text, "{name}")?;
+    play_steps(alloc, steps, text)
+}
