@@ -1,13 +1,16 @@
 -- What commands make of a terminal.
-use Rattle.std.proofs.Common.{◌≡◌, ℕ, zero, suc, ◌+◌, ◌<◌, ◌≤◌, List, [], ◌∷◌, ◌++◌, length, take, drop, Option, None, Some, Result, Err, inl, inr, refl, sym, ap, subst, arith, ◌∙◌}
-use Rattle.std.specs.Prelude.{◌⊎◌, codes, slice_get}
+use Rattle.std.proofs.Common.{◌≡◌, ℕ, zero, suc, ◌+◌, ◌-◌, ◌<◌, ◌≤◌, List, [], ◌∷◌, ◌++◌, length, take, drop, Option, None, Some, Result, Ok, Err, Bool, true, false, inl, inr, refl, sym, ap, subst, arith, ◌∙◌}
+use Rattle.std.specs.Prelude.{◌⊎◌, ◌↔◌, codes, if◌then◌else◌, nat_lt, slice_get, is_some}
 use Rattle.std.specs.Fmt.{decimal}
 use Rattle.std.proofs.Math.Seq.{drop-nil}
 use Rattle.std.proofs.lemmas.Bool.{cases_lt}
-use Rattle.std.proofs.lemmas.List.{take-append-drop}
+use Rattle.std.proofs.lemmas.List.{take-append-drop, drop-drop, length-drop, take_all}
 use Rattle.resend_store.specs.Limits.{MOST_WAITING}
+use Rattle.resend_store.specs.Window.{waiting, with_put}
+use Rattle.resend_store.specs.declared.refusals.PutError.{PutError}
+use Rattle.resend_store.specs.declared.refusals.PutError.TheVariants.{Full}
 use Rattle.resend_store.specs.declared.messages.Msu.{Msu}
-use Rattle.link_machine.specs.Ledger.{ask}
+use Rattle.link_machine.specs.Ledger.{ask, rebased}
 use Rattle.link_machine.specs.Step.{Answer, Says}
 use Rattle.link_machine.specs.declared.event.Event.{Event}
 use Rattle.link_machine.specs.declared.reply.Reply.{Reply}
@@ -17,13 +20,17 @@ use Rattle.link_side.specs.Limits.{KEPT_MESSAGES}
 use Rattle.link_side.specs.Reporting.{Reported, status_reported, message_reported, reported}
 use Rattle.link_side.specs.declared.signals.LinkStatus.{LinkStatus}
 use Rattle.link_side.specs.declared.signals.Report.{Report}
-use Rattle.link_heart.specs.Machine.{offered, tidied, places, LOW}
+use Rattle.link_heart.specs.Offering.{command_event}
+use Rattle.link_heart.specs.declared.commands.Command.{Command}
+use Rattle.link_heart.specs.declared.names.Names.{Names}
+use Rattle.link_heart.specs.Machine.{with_book, offered, tidied, places, LOW}
+use Rattle.link_heart.specs.declared.heart.Heart.{Heart}
 use Rattle.link_term.specs.Term.{Term, with_heart, with_half, IsAnswer, Leaves}
 use Rattle.link_term.specs.Hearing.{Heard}
 use Rattle.link_term.specs.declared.answers.CallError.{CallError}
 use Rattle.link_term.specs.declared.answers.CallError.TheVariants.{Refused, NoMemory}
 use Rattle.book_play.specs.Answers.{answer_text}
-use Rattle.script_play.specs.TermAnswers.{after_answer, IsAsked, IsRefusedLine, without_reports, TakesNoMore, Listens, done, part}
+use Rattle.script_play.specs.TermAnswers.{after_answer, IsAsked, IsRefusedLine, Puts, taken, full, IsMessageOf, IsPut, without_reports, TakesNoMore, Listens, done, part}
 
 -- ---- events
 
@@ -51,6 +58,50 @@ asked_refused f e t u text (Refused r) is says leaves =
       makes = leaves ∙ ap (λ a. with_heart t (after_answer a e t.heart)) says;
     }
 asked_refused f e t u text NoMemory is says leaves = absurd is
+
+names_by : (b : Bool) (x y : Heart) → x.names ≡ y.names → (if b then x else y).names ≡ y.names
+names_by true x y same = same
+names_by false x y same = refl
+
+-- room in the journal changes no numbers of names
+pub names_stay : (h : Heart) → (tidied h).names ≡ h.names
+unfolding tidied
+names_stay h = names_by (nat_lt (places h) LOW) (with_book h (rebased h.book)) h refl
+
+-- the same event, by other names of its command
+pub asked_same : (n m : Names) (c d : Command) (t u : Term) (text : List ℕ) → n ≡ m → c ≡ d → IsAsked (command_event n c) t text u
+    → IsAsked (command_event m d) t text u
+asked_same n m c d t u text names commands asked =
+    let P : Names → Type 0 = λ x. IsAsked (command_event x c) t text u in
+    let Q : Command → Type 0 = λ x. IsAsked (command_event m x) t text u in
+    subst Q commands (subst P names asked)
+
+-- ---- messages to send
+
+below : (n m : ℕ) → (n < m) ⊎ (m ≤ n) → (m ≤ n → ⊥) → n < m
+below n m (inl less) never = less
+below n m (inr many) never = absurd (never many)
+
+put_text : (octets : List ℕ) (t u : Term) (m : Msu) (text said : List ℕ) (v : Term) → IsMessageOf octets m → text ≡ said → u ≡ v → Puts m t said v
+    → IsPut octets t text u
+put_text octets t u m text said v are says makes puts =
+    let P : List ℕ → Type 0 = λ x. Puts m t x u in
+    let Q : Term → Type 0 = λ x. Puts m t said x in
+    record { message = m; octets_are = are; puts = subst P (sym says) (subst Q (sym makes) puts) }
+
+pub put_taken : (octets : List ℕ) (t u : Term) (m : Msu) (text : List ℕ) (x : Unit {0}) → IsMessageOf octets m → text ≡ codes "ok"
+    → (◌≡◌ {A = Result (Unit {0}) PutError} (Ok x) (Err Full)) ↔ (MOST_WAITING ≤ length (waiting t.heart.side.sender))
+    → u ≡ with_half t (record t.heart.side { sender = with_put t.heart.side.sender m }) → IsPut octets t text u
+put_taken octets t u m text x are says many makes =
+    put_text octets t u m text (codes "ok") _ are says makes
+    (taken
+    (below (length (waiting t.heart.side.sender)) MOST_WAITING (cases_lt (length (waiting t.heart.side.sender)) MOST_WAITING)
+    (λ so. let e : ◌≡◌ {A = Result (Unit {0}) PutError} (Ok x) (Err Full) = many.1 so in cc)))
+
+pub put_full : (octets : List ℕ) (t u : Term) (m : Msu) (text : List ℕ) (e : PutError) → IsMessageOf octets m → text ≡ codes "refused E1 Full"
+    → (◌≡◌ {A = Result (Unit {0}) PutError} (Err e) (Err Full)) ↔ (MOST_WAITING ≤ length (waiting t.heart.side.sender)) → u ≡ t
+    → IsPut octets t text u
+put_full octets t u m text Full are says many makes = put_text octets t u m text (codes "refused E1 Full") t are says makes (full (many.0 refl))
 
 -- ---- reports
 
@@ -97,18 +148,19 @@ unfolding reported
 handed h = message_handed h (slice_get h.messages 0) refl
 
 -- no report is left
-pub none_left : (t u : Term) (r : Option Report) → r ≡ None → r ≡ (reported t.heart.side).report → u ≡ with_half t (reported t.heart.side).half
-    → u ≡ without_reports t
-none_left t u r none is half = half ∙ ap (with_half t) ((handed t.heart.side).none (sym is ∙ none))
+pub none_left : (first t u : Term) (r : Option Report) → without_reports t ≡ without_reports first → is_some r ≡ false
+    → r ≡ (reported t.heart.side).report → u ≡ with_half t (reported t.heart.side).half → u ≡ without_reports first
+none_left first t u None same none is half = half ∙ (ap (with_half t) ((handed t.heart.side).none (sym is)) ∙ same)
+none_left first t u (Some x) same none is half = absurd (let e : true ≡ false = none in cc)
 
 -- one was taken out
 pub one_handed : (first t u : Term) → without_reports t ≡ without_reports first → u ≡ with_half t (reported t.heart.side).half
     → without_reports u ≡ without_reports first
 one_handed first t u same half = ap without_reports half ∙ (ap (with_half t) (handed t.heart.side).same ∙ same)
 
-pub fewer_reports : (t u : Term) (r : Option Report) → (r ≡ None → ⊥) → r ≡ (reported t.heart.side).report → u ≡ with_half t (reported t.heart.side).half
+pub fewer_reports : (t u : Term) (r : Option Report) → is_some r ≡ true → r ≡ (reported t.heart.side).report → u ≡ with_half t (reported t.heart.side).half
     → reports u.heart.side < reports t.heart.side
-fewer_reports t u None some is half = absurd (some refl)
+fewer_reports t u None some is half = absurd (let e : false ≡ true = some in cc)
 fewer_reports t u (Some x) some is half =
     let less : reports (reported t.heart.side).half < reports t.heart.side = (handed t.heart.side).less x (sym is) in
     let P : Term → Type 0 = λ v. reports v.heart.side < reports t.heart.side in
@@ -136,3 +188,21 @@ part_taken t m u (x ∷ xs) (suc n) some within heard stops others =
     (part t m u x (take n xs) (drop n xs) heard
     (λ more. let less : n < length xs = where_less n xs more (cases_lt n (length xs)) in stops (omega (arith, less)))
     others)
+
+-- what stands from a place on
+pub all_left : (from : ℕ) (octets : List ℕ) → take (length octets - from) (drop from octets) ≡ drop from octets
+all_left from octets = take_all (length octets - from) (drop from octets) (omega (arith, length-drop from octets))
+
+-- a part of what is left
+pub part_more : (t m w u : Term) (octets xs : List ℕ) (from n : ℕ) → xs ≡ drop from octets → (n ≡ 0 → ⊥) → n ≤ length xs → Heard t (take n xs) m
+    → (n < length xs → TakesNoMore m) → w ≡ without_reports m → Listens w (drop (from + n) octets) u → Listens t (drop from octets) u
+part_more t m w u octets xs from n same some within heard stops without others =
+    let P : Term → Type 0 = λ v. Listens v (drop (from + n) octets) u in
+    let Q : List ℕ → Type 0 = λ ys. Listens (without_reports m) ys u in
+    let R : List ℕ → Type 0 = λ ys. Listens t ys u in
+    let rest : drop (from + n) octets ≡ drop n xs = sym (drop-drop n from octets) ∙ ap (drop n) (sym same) in
+    subst R same (part_taken t m u xs n some within heard stops (subst Q rest (subst P without others)))
+
+-- nothing is left
+pub listens_end : (t : Term) (octets : List ℕ) (from : ℕ) → length octets ≤ from → Listens t (drop from octets) t
+listens_end t octets from over = let P : List ℕ → Type 0 = λ xs. Listens t xs t in subst P (sym (nothing_behind from octets over)) (done t)

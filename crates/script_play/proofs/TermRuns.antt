@@ -62,14 +62,19 @@ pub record GivesOut (k : ℕ) (old new last next : Option (List ℕ)) (t now : T
   pub printed : HasPrinted old new last next lines
   pub others : (n : ℕ) (more : List (List ℕ)) (u : Term) → GoOut n now more u → GoOut (k + n) t (lines ++ more) u
 
-pub gives_none : (old last : Option (List ℕ)) (t : Term) → GivesOut 0 old old last last t t
-gives_none old last t = record { lines = []; printed = printed_none old last; others = λ n more u out. out }
-
 out_same : (n m : ℕ) (t : Term) (xs ys : List (List ℕ)) (u : Term) → n ≡ m → xs ≡ ys → GoOut n t xs u → GoOut m t ys u
 out_same n m t xs ys u same lines out =
     let P : ℕ → Type 0 = λ k. GoOut k t xs u in
     let Q : List (List ℕ) → Type 0 = λ ls. GoOut m t ls u in
     subst Q lines (subst P same out)
+
+pub gives_none : (old last : Option (List ℕ)) (t : Term) → GivesOut 0 old old last last t t
+gives_none old last t =
+    record {
+      lines = [];
+      printed = printed_none old last;
+      others = λ n more u out. let number : n ≡ 0 + n = omega arith in out_same n (0 + n) t more more u number refl out;
+    }
 
 some_unit : (o : Option units.Unit) → true ≡ is_some o → (x : units.Unit) × (o ≡ Some x)
 some_unit None is = absurd (let e : true ≡ false = is in cc)

@@ -9,7 +9,7 @@ use crate::orders::command_of;
 use crate::unit_line::line_of_unit;
 use arrayvec::ArrayVec;
 use book_play::{state_line, value_line};
-use link_term::{CallError, Msu, Terminal};
+use link_term::{CallError, Msu, PutError, Terminal};
 use script_replies::refused_line;
 use std::alloc::{AllocError, Global};
 use std::fmt::Display;
@@ -84,7 +84,7 @@ fn put(alloc: Global, terminal: &mut Terminal, octets: &[u8]) -> Result<Vec<u8>,
     }
     match terminal.put(msu) {
         Ok(()) => Vec::from_slice(alloc, b"ok"),
-        Err(fault) => text_line(alloc, &format_args!("refused {fault}")),
+        Err(PutError::Full) => Vec::from_slice(alloc, b"refused E1 Full"),
     }
 }
 
