@@ -13,8 +13,8 @@ ghost use Rattle.sdl_statements.specs.Sources.{AreSenders};
 ghost use Rattle.sdl_statements.specs.Asked.{asked, asked_all};
 
 use crate::known::{KnownSenders, learn_transition};
-use crate::sender_table::{SenderTable, find_senders};
 use crate::reaching::{find_reaching, input_senders, senders_at};
+use crate::sender_table::{SenderTable, find_senders};
 use crate::sources::{Sender, start_senders};
 use crate::statements::{StatementRule, in_transition};
 use sdl_tables::{BlockTable, ProcessTable, earlier};

@@ -214,7 +214,8 @@ pub(crate) fn input_senders(
     let rows = table.rows_of(alloc, &input.stimuli)?;
     let mut gathered = Gathered::new(alloc, block, table)?;
     gathered.add_stimuli(alloc, block, process, table, &input.stimuli, &rows)?;
-    Ok(gathered.senders.list)
+    let senders = gathered.senders;
+    Ok(senders.list)
 }
 
 /// Who may have sent what those of these transitions begin with that come to a connection.
@@ -236,5 +237,6 @@ pub(crate) fn senders_at(
             gathered.add_source(alloc, block, process, table, row)?;
         }
     }
-    Ok(gathered.senders.list)
+    let senders = gathered.senders;
+    Ok(senders.list)
 }
