@@ -25,7 +25,7 @@ use Rattle.sdl_statements.specs.declared.sender_table.Numbered.{Numbered}
 use Rattle.sdl_statements.specs.declared.sources.Sender.TheVariants.{Nobody, Party as By}
 use Rattle.sdl_sound.proofs.Numbered.{number_names, same_folded, folded_same}
 use Rattle.sdl_statements.specs.Sources.{source_origins, gets_back, Gathers, Marks, row_of, is_marked, row_origins, origins_at}
-use Rattle.sdl_statements.specs.declared.sources.Reaching.{Reaching}
+use Rattle.sdl_statements.specs.declared.reaching.Reaching.{Reaching}
 use Rattle.sdl_statements.specs.declared.sources.Senders.{Senders}
 
 -- ---- parties
@@ -48,11 +48,11 @@ carried_same b own q r s h = brought (paths_of b) own q r s h
 
 -- ---- truth values
 
-and_left : (a b : Bool) → a && b ≡ true → a ≡ true
+pub and_left : (a b : Bool) → a && b ≡ true → a ≡ true
 and_left true b h = refl
 and_left false b h = h
 
-and_right : (a b : Bool) → a && b ≡ true → b ≡ true
+pub and_right : (a b : Bool) → a && b ≡ true → b ≡ true
 and_right true b h = h
 and_right false b h = absurd (true≢false (sym h))
 
@@ -64,11 +64,11 @@ pub and-true : (b : Bool) → (b && true) ≡ b
 and-true true = refl
 and-true false = refl
 
-absorbed : (a b : Bool) → (a ≡ true → b ≡ true) → a ≡ (a && b)
+pub absorbed : (a b : Bool) → (a ≡ true → b ≡ true) → a ≡ (a && b)
 absorbed true b h = sym (h refl)
 absorbed false b h = refl
 
-and-false : (a : Bool) → (a && false) ≡ false
+pub and-false : (a : Bool) → (a && false) ≡ false
 and-false true = refl
 and-false false = refl
 
@@ -230,16 +230,14 @@ module _ (b : PlainBlock) (p : PlainProcess) where
       list_all-map (answers_origin b p s) takes (map stimulus_of xs)
       ∙ list_all-map (λ y. answers_origin b p s (takes y)) stimulus_of xs
 
-  pub gather_stimulus : (xs : List Stimulus) (i : ℕ) (x : Stimulus) (g : Senders) (f : List ℕ → Bool) → i < length xs → x ≡ get_or xs i x
-      → Gathers b p g (λ s. (f s && answers_all b p (map takes (map stimulus_of (take i xs))) s) && answers b p s x.name.name)
-      → Gathers b p g (λ s. f s && answers_all b p (map takes (map stimulus_of (take (i + 1) xs))) s)
-  gather_stimulus xs i x g f lt is h =
-      gather_same g (λ s. (f s && answers_all b p (map takes (map stimulus_of (take i xs))) s) && answers b p s x.name.name)
-      (λ s. f s && answers_all b p (map takes (map stimulus_of (take (i + 1) xs))) s)
-      (λ s. and_assoc (f s) (answers_all b p (map takes (map stimulus_of (take i xs))) s) (answers b p s x.name.name)
+  pub stimulus_more : (xs : List Stimulus) (i : ℕ) (x : Stimulus) (f : List ℕ → Bool) → i < length xs → x ≡ get_or xs i x → (s : List ℕ)
+      → ((f s && answers_all b p (map takes (map stimulus_of (take i xs))) s) && answers b p s x.name.name)
+      ≡ (f s && answers_all b p (map takes (map stimulus_of (take (i + 1) xs))) s)
+  stimulus_more xs i x f lt is s =
+      and_assoc (f s) (answers_all b p (map takes (map stimulus_of (take i xs))) s) (answers b p s x.name.name)
       ∙ ap (λ r. f s && r)
       (ap (λ r. r && answers b p s x.name.name) (asked_stimuli s (take i xs))
-      ∙ (sym (all_more (λ y. answers b p s y.name.name) xs i x lt is) ∙ sym (asked_stimuli s (take (i + 1) xs))))) h
+      ∙ (sym (all_more (λ y. answers b p s y.name.name) xs i x lt is) ∙ sym (asked_stimuli s (take (i + 1) xs))))
 
   -- nothing more
   pub gather_none : (g : Senders) (f : List ℕ → Bool) → Gathers b p g f → Gathers b p g (λ s. f s && true)

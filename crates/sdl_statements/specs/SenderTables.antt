@@ -2,6 +2,7 @@
 use Rattle.std.specs.Prelude.{◌≡◌, ℕ, List, Option, Some, length, map, slice_get}
 use Rattle.std.specs.Global.{Vec}
 use Rattle.sdl_tree.specs.declared.expression.Identifier.{Identifier}
+use Rattle.sdl_tree.specs.declared.tree.Stimulus.{Stimulus}
 use Rattle.sdl_tree.specs.declared.tree.Party.{Party}
 use Rattle.sdl_tree.specs.declared.tree.Party.TheVariants.{Environment, Process}
 use Rattle.sdl_tree.specs.Plain.{PlainProcess, PlainBlock}
@@ -32,3 +33,7 @@ pub record Tells (b : PlainBlock) (p : PlainProcess) (t : SenderTable) : Type 0 
   pub count : length t.rows.items ≡ length t.names
   pub each : (n : ℕ) (id : Identifier) (row : Vec Numbered) → slice_get t.names n ≡ Some id → slice_get t.rows.items n ≡ Some row
       → AreSendersOf b p id.name row.items
+
+-- the number of the row of each of these signals and timers
+abbrev pub stimulus_rows : List Identifier → List Stimulus → List (Option ℕ)
+stimulus_rows names xs = map (λ x. number_of names x.name.name) xs

@@ -5,24 +5,33 @@ use Rattle.std.specs.Option.{option_map_or}
 use Rattle.sdl_tree.specs.Plain.{Text, PlainInput, PlainProcess, PlainBlock}
 use Rattle.sdl_tree.specs.Views.{input_of}
 use Rattle.sdl_tree.specs.declared.expression.Identifier.{Identifier}
-use Rattle.sdl_tables.specs.Names.{input_parts, is_in}
+use Rattle.sdl_tables.specs.Names.{input_parts, is_in, number_of}
 use Rattle.sdl_sound.specs.Joins.{reaches}
 use Rattle.sdl_sound.specs.Actions.{Origin, begins, input_origins}
-use Rattle.sdl_sound.specs.Receivers.{party_of, carries, answers_all}
-use Rattle.sdl_statements.specs.SenderTables.{party_number}
+use Rattle.sdl_sound.specs.Receivers.{party_of, carries, answers, answers_all}
+use Rattle.sdl_statements.specs.SenderTables.{party_number, stimulus_rows}
 use Rattle.sdl_tree.specs.declared.tree.Party as the_party
 use Rattle.sdl_statements.specs.declared.known.KnownSenders.{KnownSenders}
-use Rattle.sdl_statements.specs.declared.sources.Reaching.{Reaching}
+use Rattle.sdl_statements.specs.declared.reaching.Gathered.{Gathered}
+use Rattle.sdl_statements.specs.declared.reaching.Reaching.{Reaching}
 use Rattle.sdl_statements.specs.declared.sources.Sender.{Sender}
 use Rattle.sdl_statements.specs.declared.sources.Sender.TheVariants.{Nobody, Party}
 use Rattle.sdl_statements.specs.declared.sources.Senders.{Senders}
-use Rattle.sdl_statements.specs.declared.sources.Source.{Source}
-use Rattle.sdl_statements.specs.declared.sources.Source.TheVariants.{Start, Input}
+use Rattle.sdl_statements.specs.declared.reaching.Source.{Source}
+use Rattle.sdl_statements.specs.declared.reaching.Source.TheVariants.{Start, Input}
 
 -- START, or each signal and timer of an INPUT
 abbrev pub source_origins : Source → List Origin
 source_origins Start = begins ∷ []
 source_origins (Input i) = input_origins (input_of i.now)
+
+-- the numbers of their rows
+abbrev pub source_rows : List Identifier → Source → List (Option ℕ)
+source_rows names Start = []
+source_rows names (Input i) = stimulus_rows names i.now.stimuli.items
+
+abbrev pub AreNumbered : List Identifier → Reaching → Type 0
+AreNumbered names r = r.rows.items ≡ source_rows names r.source
 
 abbrev pub sender_of : Option the_party.Party → Sender
 sender_of None = Nobody
@@ -57,6 +66,12 @@ pub record Gathers (b : PlainBlock) (p : PlainProcess) (g : Senders) (f : List �
   pub told : (s : List ℕ) → list_all (gets_back b p s) g.list.items ≡ f s
   pub seen : (s : List ℕ) → f s ≡ true → (q : the_party.Party) (n : ℕ) → party_number b q ≡ Some n → is_marked g.seen.items n ≡ true
       → carries b (party_of p) q s ≡ true
+
+-- The same where rows were added: and whatever f allows is allowed for each signal and timer whose row was.
+pub record Asks (b : PlainBlock) (p : PlainProcess) (names : List Identifier) (g : Gathered) (f : List ℕ → Bool) : Type 0 where
+  pub gathers : Gathers b p g.senders f
+  pub asked : (s : List ℕ) → f s ≡ true → (name : List ℕ) (n : ℕ) → number_of names name ≡ Some n → is_marked g.asked.items n ≡ true
+      → answers b p s name ≡ true
 
 -- what has a mark now had one before, or is this number
 abbrev pub Marks : Option ℕ → List Bool → List Bool → Type 0

@@ -4,6 +4,7 @@
 
 mod known;
 mod lost;
+mod reaching;
 mod receivers;
 mod sender_table;
 mod sources;

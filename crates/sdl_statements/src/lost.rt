@@ -13,8 +13,9 @@ ghost use Rattle.sdl_statements.specs.Sources.{AreSenders};
 ghost use Rattle.sdl_statements.specs.Asked.{asked, asked_all};
 
 use crate::known::{KnownSenders, learn_transition};
+use crate::reaching::{find_reaching, input_senders, senders_at};
 use crate::sender_table::{SenderTable, find_senders};
-use crate::sources::{Sender, find_reaching, input_senders, senders_at, start_senders};
+use crate::sources::{Sender, start_senders};
 use crate::statements::{StatementRule, in_transition};
 use sdl_tables::{BlockTable, ProcessTable, earlier};
 use sdl_tree::{Connection, InputPart, Transition};
@@ -93,7 +94,7 @@ fn lost_in_connections(
     requires connections { map connection_of connections.now ≡ (process_of process.now).connections }
     ensures { IfOk result (λ place. Marks place (flat_map (in_connection (asked Receivers (block_of block.now) (process_of process.now)) (process_of process.now)) (map connection_of connections.now))) }
 {
-    let rows = find_reaching(alloc, process)?;
+    let rows = find_reaching(alloc, process, table)?;
     let mut place = None;
     for (number, connection) in connections.iter().enumerate() {
         let senders = senders_at(alloc, block, process, table, &rows, number)?;

@@ -2,7 +2,7 @@
 ghost use Rattle.std.specs.Prelude.{◌≡◌, map, IfOk, OnOk, IfSome};
 ghost use Rattle.sdl_tree.specs.Plain.{PlainBlock, PlainProcess};
 ghost use Rattle.sdl_tree.specs.Views.{process_of, block_of};
-ghost use Rattle.sdl_statements.specs.SenderTables.{party_number, numbered, AreSendersOf, Tells};
+ghost use Rattle.sdl_statements.specs.SenderTables.{party_number, numbered, AreSendersOf, stimulus_rows, Tells};
 
 use crate::known::party_of;
 use sdl_lex::Name;
@@ -73,6 +73,26 @@ impl SenderTable {
             names: NameTable::new(alloc),
             rows: Vec::new(alloc),
         }
+    }
+
+    /// How many rows there are.
+    pub(crate) fn len(&self) -> usize {
+        self.names.len()
+    }
+
+    /// The number of the row of each of these signals and timers.
+    pub(crate) fn rows_of(
+        &self,
+        alloc: Global,
+        stimuli: &[Stimulus],
+    ) -> Result<Vec<Option<usize>>, AllocError>
+        ensures { IfOk result (λ v. v.items ≡ stimulus_rows self.now.names stimuli.now) }
+    {
+        let mut rows = Vec::new(alloc);
+        for stimulus in stimuli {
+            rows.push(self.names.number(stimulus.name.name))?;
+        }
+        Ok(rows)
     }
 
     /// Who may have sent a signal, if that was asked.

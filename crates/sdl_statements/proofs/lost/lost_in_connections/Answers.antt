@@ -6,7 +6,7 @@ use Rattle.sdl_tree.specs.Views.{block_of, process_of, connection_of}
 use Rattle.sdl_sound.specs.Actions.{connection_origins, in_connection}
 use Rattle.sdl_statements.specs.Asked.{asked}
 use Rattle.sdl_statements.specs.Sources.{Row, AreSenders, row_of, origins_at}
-use Rattle.sdl_statements.specs.declared.sources.Reaching.{Reaching}
+use Rattle.sdl_statements.specs.declared.reaching.Reaching.{Reaching}
 use Rattle.sdl_statements.specs.declared.statements.StatementRule.TheVariants.{Receivers}
 use Rattle.sdl_statements.proofs.Coming.{origins_at-is}
 use Rattle.std.proofs.lemmas.Option.{slice_get-map}
@@ -23,7 +23,7 @@ loop-number-preserved c =
     ap (λ (l : List PlainConnection). slice_get l n) (sym c.requires.connections)
     ∙ (slice_get-map connection_of c.args.connections.now n
     ∙ ap (option_map connection_of) (slice_get-get_or c.args.connections.now n item c.loop-number-test.true ∙ ap Some (sym c.index-connections-number.is))) in
-    let rows = ap (λ (rs : List Reaching). origins_at (map row_of rs) n) c.deref.ensures.value ∙ ap (λ (rs : List Row). origins_at rs n) c.in_ok-rows.ensures in
+    let rows = ap (λ (rs : List Reaching). origins_at (map row_of rs) n) c.deref.ensures.value ∙ ap (λ (rs : List Row). origins_at rs n) c.in_ok-rows.ensures.rows in
     let from = subst (AreSenders b p c.in_ok-senders.senders.items) (rows ∙ origins_at-is p n (connection_of item) here) c.in_ok-senders.ensures in
     let lost = c.in_ok-lost.ensures (connection_origins p (connection_of item)) from in
     Marks-more (in_connection (asked Receivers b p) p) connection_of c.args.connections.now n item c.loop-number.place c.in_ok-lost.lost
