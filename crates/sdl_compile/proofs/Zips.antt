@@ -1,17 +1,22 @@
 -- Lists that are made item by item.
-use Rattle.std.proofs.Common.{◌≡◌, ℕ, zero, suc, ◌+◌, ◌<◌, List, [], ◌∷◌, ◌++◌, length, get_or, take, drop, map, Some, refl, sym, ap, ◌∙◌, arith}
+use Rattle.std.proofs.Common.{◌≡◌, ℕ, zero, suc, ◌+◌, ◌<◌, List, [], ◌∷◌, ◌++◌, length, get_or, take, drop, map, Some, refl, sym, ap, ◌∙◌, subst, arith, append_assoc}
 use Rattle.std.proofs.Math.Seq.{take-suc}
-use Rattle.std.proofs.lemmas.List.{map-append, length-map}
-use Rattle.std.specs.List.{AllZip, enumerate_from}
+use Rattle.std.proofs.lemmas.List.{map-append, length-map, take_more}
+use Rattle.std.specs.List.{AllZip, enumerate_from, flat_map}
 use Rattle.std.specs.Prelude.{slice_get, IfSome}
 use Rattle.turn_code.specs.declared.draft.DraftInput.{DraftInput}
 use Rattle.turn_code.specs.declared.draft.DraftState.{DraftState}
 use Rattle.turn_code.specs.declared.variable_set.VariableSet.{VariableSet}
 use Rattle.sdl_sound.specs.Longest.{input_piece}
 use Rattle.sdl_tree.specs.declared.expression.Identifier.{Identifier}
+use Rattle.sdl_tree.specs.declared.tree.InputPart.{InputPart}
+use Rattle.sdl_tree.specs.declared.tree.Stimulus.{Stimulus}
 use Rattle.sdl_tree.specs.Plain.{PlainState, PlainProcess}
+use Rattle.sdl_tree.specs.Views.{input_of, stimulus_of, text_of}
+use Rattle.sdl_tables.specs.Rows.{stimulus_inputs}
 use Rattle.sdl_tables.specs.Names.{Input, states_of, of_state, by_state}
 use Rattle.sdl_compile.specs.Act.{Scope}
+use Rattle.sdl_compile.specs.Scopes.{input_by}
 use Rattle.sdl_compile.specs.Drafts.{AllReady, AreReady, IsReadyInput, IsInputOf, AreInputsOf, MatchesInput, MatchesInputs, IsTrigger, AreTriggers, AllTriggers, sets_of}
 use Rattle.sdl_compile.specs.Declarations.{trigger_sorts}
 use Rattle.sdl_compile.specs.Settings.{IsReadyPiece}
@@ -38,6 +43,44 @@ pub ready_more : {A : Type 0} (c : Scope) (f : A → Input) (xs : List A) (i : �
 ready_more c f [] i d lt h = absurd (omega arith)
 ready_more c f (x ∷ xs) zero d lt h = h
 ready_more c f (x ∷ xs) (suc i) d lt h = ready_more c f xs i d (omega arith) h
+
+-- each of them is ready
+pub ready_at : {A : Type 0} (c : Scope) (f : A → Input) (xs : List A) (i : ℕ) (x : A) → i < length xs → x ≡ get_or xs i x → AreReady c (map f xs) → IsReadyInput c (f x)
+ready_at c f [] i x lt is h = absurd (omega arith)
+ready_at c f (y ∷ xs) zero x lt is h = subst (λ y. IsReadyInput c (f y)) (sym is) h.0
+ready_at c f (y ∷ xs) (suc i) x lt is h = ready_at c f xs i x (omega arith) is h.1
+
+ready_parts : (c : Scope) (xs ys : List Input) → AreReady c (xs ++ ys) → AreReady c xs × AreReady c ys
+ready_parts c [] ys h = (tt, h)
+ready_parts c (x ∷ xs) ys h = let r = ready_parts c xs ys h.1 in ((h.0, r.0), r.1)
+
+-- and so are those that one of the others stands for
+pub ready_within : {A : Type 0} (c : Scope) (f : A → List Input) (xs : List A) (i : ℕ) (x : A) → i < length xs → x ≡ get_or xs i x → AreReady c (flat_map f xs) → AreReady c (f x)
+ready_within c f [] i x lt is h = absurd (omega arith)
+ready_within c f (y ∷ xs) zero x lt is h = subst (λ y. AreReady c (f y)) (sym is) (ready_parts c (f y) (flat_map f xs) h).0
+ready_within c f (y ∷ xs) (suc i) x lt is h = ready_within c f xs i x (omega arith) is (ready_parts c (f y) (flat_map f xs) h).1
+
+-- what an INPUT takes, signal by signal
+pub stimuli_taken : (i : InputPart) → stimulus_inputs (input_of i) ≡ map (input_by i) i.stimuli.items
+stimuli_taken i = mapped i.stimuli.items
+  where
+    mapped : (xs : List Stimulus) → stimulus_inputs (record { at = i.at; stimuli = map stimulus_of xs; text = text_of i.transition }) ≡ map (input_by i) xs
+    mapped [] = refl
+    mapped (x ∷ xs) = ap (λ l. input_by i x ∷ l) (mapped xs)
+
+zip_push : {A B : Type 0} (R : A → B → Type 0) (xs : List A) (ys : List B) (x : A) (y : B) → AllZip R xs ys → R x y → AllZip R (xs ++ x ∷ []) (ys ++ y ∷ [])
+zip_push R [] [] x y h r = (r, tt)
+zip_push R [] (b ∷ ys) x y h r = absurd h
+zip_push R (a ∷ xs) [] x y h r = absurd h
+zip_push R (a ∷ xs) (b ∷ ys) x y h r = (h.0, zip_push R xs ys x y h.1 r)
+
+-- one more item behind others
+pub zip_behind : {X A B : Type 0} (R : A → B → Type 0) (g : X → A) (before : List A) (xs : List X) (i : ℕ) (x : X) (ys : List B) (y : B) → i < length xs → x ≡ get_or xs i x
+    → AllZip R (before ++ map g (take i xs)) ys → R (g x) y → AllZip R (before ++ map g (take (i + 1) xs)) (ys ++ y ∷ [])
+zip_behind R g before xs i x ys y lt is h r =
+    subst (λ zs. AllZip R zs (ys ++ y ∷ []))
+    (append_assoc before (map g (take i xs)) (g x ∷ []) ∙ ap (λ l. before ++ l) (sym (map-append g (take i xs) (x ∷ [])) ∙ ap (map g) (sym (take_more xs i x lt ∙ ap (λ u. take i xs ++ u ∷ []) (sym is)))))
+    (zip_push R (before ++ map g (take i xs)) ys (g x) y h r)
 
 pub all_ready_more : {A : Type 0} (c : Scope) (f : A → List Input) (xs : List A) (i : ℕ) (d : A) → i < length xs → AllReady c (map f (drop i xs)) → AreReady c (f (get_or xs i d)) × AllReady c (map f (drop (suc i) xs))
 all_ready_more c f [] i d lt h = absurd (omega arith)

@@ -3,8 +3,11 @@ use Rattle.std.specs.Prelude.{ℕ, List, Option, None, Some, get_or}
 use Rattle.sdl_tree.specs.declared.expression.Identifier.{Identifier}
 use Rattle.sdl_tree.specs.declared.tree.Transition.{Transition}
 use Rattle.sdl_tree.specs.declared.tree.Decision.{Decision, out-Decision}
+use Rattle.sdl_tree.specs.declared.tree.InputPart.{InputPart}
+use Rattle.sdl_tree.specs.declared.tree.Stimulus.{Stimulus}
 use Rattle.sdl_tree.specs.Plain.{Tree}
-use Rattle.sdl_tree.specs.Views.{tree_of, text_of, block_of, process_of}
+use Rattle.sdl_tree.specs.Views.{tree_of, text_of, stimulus_of, block_of, process_of}
+use Rattle.sdl_tables.specs.Names.{Input}
 use Rattle.sdl_sound.specs.Longest.{Piece}
 use Rattle.sdl_compile.specs.declared.names.Names.{Names}
 use Rattle.sdl_compile.specs.Act.{Scope, scope_of}
@@ -16,6 +19,10 @@ scope_in n = scope_of (block_of n.block.now) (process_of n.process.now)
 -- a transition with INPUT's places
 abbrev pub piece_in : List (Option Identifier) → Transition → Piece
 piece_in places t = record { places = places; text = text_of t }
+
+-- what a state takes by one signal of an INPUT
+abbrev pub input_by : InputPart → Stimulus → Input
+input_by i s = record { at = i.at; stimulus = stimulus_of s; text = text_of i.transition }
 
 -- the places of connections by their numbers; 0 for one that has none
 abbrev pub places_by : List ℕ → ℕ → ℕ

@@ -6,18 +6,20 @@ use Rattle.turn_code.specs.declared.draft.PlaceFacts.{PlaceFacts}
 use Rattle.sdl_sound.specs.Longest.{Piece}
 use Rattle.sdl_sound.specs.Orders.{IsOrder}
 use Rattle.sdl_measures.specs.Measures.{AreMeasures}
+use Rattle.sdl_trimmed.specs.Trimmed.{AreTrimmed}
 use Rattle.sdl_compile.specs.Named.{AreSorted, NamedPiece}
 use Rattle.sdl_compile.specs.declared.piece.Setting.{Setting}
 use Rattle.sdl_compile.specs.Act.{Scope}
 use Rattle.sdl_compile.specs.Made.{IsSmall}
 use Rattle.sdl_compile.specs.Declarations.{drafted_signals, drafted_variables}
 
--- the variables are those of the process, the signals those of the block; the order and the measures are those of its connections
+-- the variables are those of the process, the signals those of the block; the order, the measures and the copies are those of its connections
 pub record IsSetting (s : Setting) : Type 0 where
   pub variables : s.variables.now ≡ drafted_variables (process_of s.names.now.process.now)
   pub signals : s.signals.now ≡ drafted_signals (block_of s.names.now.block.now)
   pub ordered : IsOrder (process_of s.names.now.process.now) s.order.now
   pub measured : AreMeasures (process_of s.names.now.process.now) s.measures.now
+  pub copied : AreTrimmed (process_of s.names.now.process.now).connections s.copies.now
 
 -- a transition whose names are all there and whose sorts are right, with places for parameters of these sorts, within the limits
 pub record IsReadyPiece (c : Scope) (q : Piece) (ps : List Sort) : Type 0 where

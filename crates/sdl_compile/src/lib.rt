@@ -2,6 +2,7 @@
 #![tactic(auto)]
 
 mod block;
+mod bodies;
 mod counts;
 mod emit;
 mod facts;

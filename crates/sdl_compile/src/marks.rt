@@ -1,10 +1,11 @@
 //! Which variables are set at each place of a piece, and as each of its connections begins.
 ghost use Rattle.std.specs.Prelude.{◌≡◌, ◌<◌, [], ◌∷◌, ◌++◌, ◌&&◌, ◌||◌, true, OnOk, IfOk, map};
 ghost use Rattle.sdl_tree.specs.Plain.{Text, falls};
-ghost use Rattle.sdl_tree.specs.Views.{tree_of, assignment_of, sending_of, action_of, text_of, statement_of, choice_of, else_choice, connection_of};
+ghost use Rattle.sdl_tree.specs.Views.{tree_of, assignment_of, sending_of, action_of, text_of, statement_of, choice_of, else_choice, connection_of, process_of};
 ghost use Rattle.sdl_sound.specs.Longest.{is_division};
 ghost use Rattle.sdl_sound.specs.Going.{goes_on, choice_goes_on};
 ghost use Rattle.sdl_tree.specs.declared.tree.Decision.{out-Decision};
+ghost use Rattle.sdl_trimmed.specs.Trimmed.{AreTrimmed};
 ghost use Rattle.sdl_compile.specs.Scopes.{scope_in, piece_in, question_in, NamedElse};
 ghost use Rattle.sdl_compile.specs.Act.{is_truth};
 ghost use Rattle.sdl_compile.specs.Named.{NamedTasks, NamedAction, NamedEnd, NamedText, NamedChoice, NamedConnections, NamedPlaces, NamedPiece};
@@ -14,6 +15,7 @@ ghost use Rattle.sdl_compile.specs.Entries.{entry_at, AreOfAll, met_at, end_met,
 ghost use Rattle.sdl_compile.specs.Facts.{tree_sets, trees_sets, sendings_sets, tasks_sets, action_sets, ranges_sets, tests_sets, leave_sets, text_sets, else_sets, answers_sets, decision_sets, places_sets, connections_sets, piece_sets};
 ghost use Rattle.sdl_compile.specs.Code.{text_at};
 
+use crate::bodies::Body;
 use crate::emit::is_division;
 use crate::landing::both;
 use crate::names::Names;
@@ -457,15 +459,17 @@ fn meet_connection(
     alloc: Global,
     entries: &mut Vec<VariableSet>,
     names: &Names,
+    copies: &[Transition],
     number: usize,
 ) -> Result<(), AllocError>
-    requires { NamedConnections (scope_in names.now) }
+    requires copied { AreTrimmed (process_of names.now.process.now).connections copies.now }
+    requires connections { NamedConnections (scope_in names.now) }
     ensures { OnOk result (entries.new.items ≡ connection_met (scope_in names.now) number entries.old.items) }
 {
-    if let Some(connection) = names.process.process().connections.get(number) {
+    if let Some(copy) = copies.get(number) {
         let set = entry_of(entries, number);
         let mut sets = Vec::new(alloc);
-        mark_text(&mut sets, entries, names, &connection.transition, set)?;
+        mark_text(&mut sets, entries, names, copy, set)?;
     }
     Ok(())
 }
@@ -483,8 +487,10 @@ fn meet_if_joined(
     alloc: Global,
     entries: &mut Vec<VariableSet>,
     names: &Names,
+    copies: &[Transition],
     number: usize,
 ) -> Result<(), AllocError>
+    requires copied { AreTrimmed (process_of names.now.process.now).connections copies.now }
     requires connections { NamedConnections (scope_in names.now) }
     requires all { AreOfAll entries.old.items }
     ensures { OnOk result (entries.new.items ≡ connection_met (scope_in names.now) number entries.old.items) }
@@ -493,7 +499,7 @@ fn meet_if_joined(
     if is_everything(set) {
         return Ok(());
     }
-    meet_connection(alloc, entries, names, number)
+    meet_connection(alloc, entries, names, copies, number)
 }
 
 /// The JOINs of all connections: each is joined only from those behind it in the order.
@@ -501,8 +507,10 @@ fn meet_connections(
     alloc: Global,
     entries: &mut Vec<VariableSet>,
     names: &Names,
+    copies: &[Transition],
     order: &[usize],
 ) -> Result<(), AllocError>
+    requires copied { AreTrimmed (process_of names.now.process.now).connections copies.now }
     requires connections { NamedConnections (scope_in names.now) }
     requires all { AreOfAll entries.old.items }
     ensures { OnOk result (entries.new.items ≡ connections_met (scope_in names.now) order.now entries.old.items) }
@@ -510,7 +518,7 @@ fn meet_connections(
     let mut left = order.len();
     while left > 0 {
         left -= 1;
-        meet_if_joined(alloc, entries, names, order[left])?;
+        meet_if_joined(alloc, entries, names, copies, order[left])?;
     }
     Ok(())
 }
@@ -521,15 +529,17 @@ fn mark_connection(
     sets: &mut Vec<VariableSet>,
     entries: &[VariableSet],
     names: &Names,
+    copies: &[Transition],
     number: usize,
 ) -> Result<(), AllocError>
-    requires { NamedConnections (scope_in names.now) }
+    requires copied { AreTrimmed (process_of names.now.process.now).connections copies.now }
+    requires connections { NamedConnections (scope_in names.now) }
     ensures { OnOk result (sets.new.items ≡ sets.old.items ++ text_sets (scope_in names.now) (entry_at entries.now number) (text_at (scope_in names.now) number)) }
 {
-    if let Some(connection) = names.process.process().connections.get(number) {
+    if let Some(copy) = copies.get(number) {
         let mut unused = Vec::new(alloc);
         let set = entry_of(entries, number);
-        mark_text(sets, &mut unused, names, &connection.transition, set)?;
+        mark_text(sets, &mut unused, names, copy, set)?;
     }
     Ok(())
 }
@@ -540,24 +550,28 @@ fn mark_connections(
     sets: &mut Vec<VariableSet>,
     entries: &[VariableSet],
     names: &Names,
+    copies: &[Transition],
     numbers: &[usize],
 ) -> Result<(), AllocError>
-    requires { NamedConnections (scope_in names.now) }
+    requires copied { AreTrimmed (process_of names.now.process.now).connections copies.now }
+    requires connections { NamedConnections (scope_in names.now) }
     ensures { OnOk result (sets.new.items ≡ sets.old.items ++ connections_sets (scope_in names.now) entries.now numbers.now) }
 {
     for number in numbers {
-        mark_connection(alloc, sets, entries, names, *number)?;
+        mark_connection(alloc, sets, entries, names, copies, *number)?;
     }
     Ok(())
 }
 
 /// What comes with the code of a transition: INPUT's places, the variables that are set as it begins, an order of the
-/// process's connections in which each stands behind those that it joins, and the connections that stand in the piece.
+/// process's connections in which each stands behind those that it joins, the copies of those connections, and which of them
+/// stand in the piece.
 #[derive(Drop)]
 pub struct Standing<'a> {
     pub places: &'a [Option<Identifier>],
     pub entry: VariableSet,
     pub order: &'a [usize],
+    pub copies: &'a [Transition],
     pub numbers: &'a [usize],
 }
 
@@ -566,16 +580,24 @@ pub(crate) fn place_sets(
     alloc: Global,
     names: &Names,
     standing: &Standing,
-    transition: &Transition,
+    body: &Body,
 ) -> Result<Vec<VariableSet>, AllocError>
-    requires { NamedPiece (scope_in names.now) (piece_in standing.now.places.now transition.now) }
-    ensures { IfOk result (λ v. v.items ≡ piece_sets (scope_in names.now) standing.now.entry (piece_in standing.now.places.now transition.now) standing.now.order.now standing.now.numbers.now) }
+    requires named { NamedPiece (scope_in names.now) (piece_in standing.now.places.now body.now.whole.now) }
+    requires copied { AreTrimmed (process_of names.now.process.now).connections standing.now.copies.now }
+    ensures { IfOk result (λ v. v.items ≡ piece_sets (scope_in names.now) standing.now.entry (piece_in standing.now.places.now body.now.whole.now) standing.now.order.now standing.now.numbers.now) }
 {
     let mut entries = start_entries(alloc, &names.process.process().connections)?;
     let mut sets = Vec::new(alloc);
     let set = mark_places(&mut sets, names, standing.places, standing.entry)?;
-    mark_text(&mut sets, &mut entries, names, transition, set)?;
-    meet_connections(alloc, &mut entries, names, standing.order)?;
-    mark_connections(alloc, &mut sets, &entries, names, standing.numbers)?;
+    mark_text(&mut sets, &mut entries, names, body.copy, set)?;
+    meet_connections(alloc, &mut entries, names, standing.copies, standing.order)?;
+    mark_connections(
+        alloc,
+        &mut sets,
+        &entries,
+        names,
+        standing.copies,
+        standing.numbers,
+    )?;
     Ok(sets)
 }

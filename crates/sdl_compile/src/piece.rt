@@ -9,13 +9,14 @@ ghost use Rattle.sdl_compile.specs.Drafts.{Means};
 ghost use Rattle.sdl_compile.specs.Made.{IsPieceOf};
 ghost use Rattle.sdl_compile.specs.Settings.{IsSetting, IsReadyPiece, count_from, effects_from};
 
+use crate::bodies::{Body, text_size};
 use crate::facts::{Marks, greatest_depth, place_facts};
 use crate::marks::{Standing, place_sets};
 use crate::names::Names;
 use crate::placing::{connection_places, place_connections};
 use crate::texts::emit_piece;
 use crate::totals::{Layout, piece_counts};
-use sdl_rules::{Measure, code_size};
+use sdl_rules::Measure;
 use sdl_tree::{Identifier, Transition};
 use std::alloc::{AllocError, Global};
 use turn_code::{
@@ -24,7 +25,8 @@ use turn_code::{
 
 /// What comes with a transition: the names that it may use, its process's variables, its block's
 /// signals, the sorts of its parameters, the variables that are set as it begins, its process's
-/// connections in an order in which each stands behind all that it joins, and what they measure.
+/// connections in an order in which each stands behind all that it joins, what they measure, and
+/// their copies.
 #[derive(Drop)]
 pub struct Setting<'a> {
     pub names: &'a Names<'a>,
@@ -34,6 +36,7 @@ pub struct Setting<'a> {
     pub entry: VariableSet,
     pub order: &'a [usize],
     pub measures: &'a [Measure],
+    pub copies: &'a [Transition],
 }
 
 /// How many instructions INPUT's places have.
@@ -75,29 +78,31 @@ fn make_piece(
     alloc: Global,
     setting: &Setting,
     places: &[Option<Identifier>],
-    transition: &Transition,
+    body: &Body,
 ) -> Result<DraftPiece, AllocError>
     requires setting { IsSetting setting.now }
-    requires ready { IsReadyPiece (scope_in setting.now.names.now) (piece_in places.now transition.now) setting.now.parameters.now }
-    ensures { IfOk result (λ d. IsPieceOf (scope_in setting.now.names.now) setting.now.parameters.now setting.now.entry (piece_in places.now transition.now) d) }
+    requires ready { IsReadyPiece (scope_in setting.now.names.now) (piece_in places.now body.now.whole.now) setting.now.parameters.now }
+    ensures { IfOk result (λ d. IsPieceOf (scope_in setting.now.names.now) setting.now.parameters.now setting.now.entry (piece_in places.now body.now.whole.now) d) }
 {
     let names = setting.names;
-    let numbers = place_connections(alloc, names, transition)?;
-    let start = places_length(places) + code_size(names.process, transition) as usize;
+    let copies = setting.copies;
+    let numbers = place_connections(alloc, names, copies, body)?;
+    let start = places_length(places) + text_size(names.process, body);
     let targets = connection_places(alloc, names, setting.measures, start, &numbers)?;
-    let code = emit_piece(alloc, names, places, transition, &numbers, &targets)?;
+    let code = emit_piece(alloc, names, copies, places, body, &numbers, &targets)?;
     let standing = Standing {
         places,
         entry: setting.entry,
         order: setting.order,
+        copies,
         numbers: &numbers,
     };
-    let sets = place_sets(alloc, names, &standing, transition)?;
+    let sets = place_sets(alloc, names, &standing, body)?;
     let layout = Layout {
         numbers: &numbers,
         targets: &targets,
     };
-    let counted = piece_counts(alloc, setting, places, transition, &layout, &code)?;
+    let counted = piece_counts(alloc, setting, places, body.whole, &layout, &code)?;
     let marks = Marks {
         sets: &sets,
         counts: &counted.counts,
@@ -125,13 +130,13 @@ pub fn compile_transition(
     alloc: Global,
     setting: &Setting,
     places: &[Option<Identifier>],
-    transition: &Transition,
+    body: &Body,
 ) -> Result<DraftPiece, AllocError>
     requires setting { IsSetting setting.now }
-    requires ready { IsReadyPiece (scope_in setting.now.names.now) (piece_in places.now transition.now) setting.now.parameters.now }
-    ensures means { IfOk result (λ d. (from : Option tree_identifier.Identifier) → AnswersAll (scope_in setting.now.names.now) from (text_of transition.now) → Means (scope_in setting.now.names.now) from (piece_in places.now transition.now) d) }
-    ensures made { IfOk result (λ d. IsPieceOf (scope_in setting.now.names.now) setting.now.parameters.now setting.now.entry (piece_in places.now transition.now) d) }
+    requires ready { IsReadyPiece (scope_in setting.now.names.now) (piece_in places.now body.now.whole.now) setting.now.parameters.now }
+    ensures means { IfOk result (λ d. (from : Option tree_identifier.Identifier) → AnswersAll (scope_in setting.now.names.now) from (text_of body.now.whole.now) → Means (scope_in setting.now.names.now) from (piece_in places.now body.now.whole.now) d) }
+    ensures made { IfOk result (λ d. IsPieceOf (scope_in setting.now.names.now) setting.now.parameters.now setting.now.entry (piece_in places.now body.now.whole.now) d) }
 {
-    let piece = make_piece(alloc, setting, places, transition)?;
+    let piece = make_piece(alloc, setting, places, body)?;
     Ok(piece)
 }

@@ -4,12 +4,14 @@ ghost use Rattle.std.specs.List.{list_any, sum_by};
 ghost use Rattle.sdl_tree.specs.Views.{text_of, statement_of, choice_of, else_choice, process_of};
 ghost use Rattle.sdl_measures.specs.Counting.{measure_at};
 ghost use Rattle.sdl_measures.specs.Measures.{AreMeasures};
+ghost use Rattle.sdl_trimmed.specs.Trimmed.{AreTrimmed};
 ghost use Rattle.sdl_compile.specs.Scopes.{scope_in, places_by};
 ghost use Rattle.sdl_compile.specs.Placing.{decision_joins, numbers_of, HaveNumbers, AreMarked};
 ghost use Rattle.sdl_compile.specs.Named.{NamedText, NamedConnections};
 ghost use Rattle.sdl_compile.specs.Act.{connector_at};
 ghost use Rattle.sdl_compile.specs.Code.{number_or_zero, code_joins, else_joins, answers_joins, add_number, joined, text_at, size_at, place_in, ArePlaced};
 
+use crate::bodies::Body;
 use crate::names::Names;
 use sdl_rules::Measure;
 use sdl_tree::{Decision, End, Join, Statement, Transition};
@@ -154,16 +156,18 @@ fn place_more(
     placed: &mut Vec<usize>,
     marks: &mut Vec<bool>,
     names: &Names,
+    copies: &[Transition],
     number: usize,
 ) -> Result<(), AllocError>
+    requires copied { AreTrimmed (process_of names.now.process.now).connections copies.now }
     requires connections { NamedConnections (scope_in names.now) }
     requires there { number < length (process_of names.now.process.now).connections }
     requires marks { AreMarked (scope_in names.now) placed.old.items marks.old.items }
     ensures placed { OnOk result (placed.new.items ≡ fold add_number placed.old.items (joined (scope_in names.now) (text_at (scope_in names.now) number))) }
     ensures marks { OnOk result (AreMarked (scope_in names.now) placed.new.items marks.new.items) }
 {
-    let connection = &names.process.process().connections[number];
-    place_joined(alloc, placed, marks, names, &connection.transition)
+    let copy = &copies[number];
+    place_joined(alloc, placed, marks, names, copy)
 }
 
 /// No connection is placed so far.
@@ -176,23 +180,25 @@ fn no_marks(alloc: Global, names: &Names) -> Result<Vec<bool>, AllocError>
 }
 
 /// The connections that a text joins or one of them does, by number, in the order in which the code
-/// joins them first.
+/// joins them first. `copies` has the copy of each.
 pub(crate) fn place_connections(
     alloc: Global,
     names: &Names,
-    transition: &Transition,
+    copies: &[Transition],
+    body: &Body,
 ) -> Result<Vec<usize>, AllocError>
-    requires text { NamedText (scope_in names.now) (text_of transition.now) }
+    requires text { NamedText (scope_in names.now) (text_of body.now.whole.now) }
+    requires copied { AreTrimmed (process_of names.now.process.now).connections copies.now }
     requires connections { NamedConnections (scope_in names.now) }
-    ensures { IfOk result (λ ns. ArePlaced (scope_in names.now) (text_of transition.now) ns.items) }
+    ensures { IfOk result (λ ns. ArePlaced (scope_in names.now) (text_of body.now.whole.now) ns.items) }
 {
     let mut placed = Vec::new(alloc);
     let mut marks = no_marks(alloc, names)?;
-    place_joined(alloc, &mut placed, &mut marks, names, transition)?;
+    place_joined(alloc, &mut placed, &mut marks, names, body.copy)?;
     let mut next = 0;
     while next < placed.len() {
         let number = placed[next];
-        place_more(alloc, &mut placed, &mut marks, names, number)?;
+        place_more(alloc, &mut placed, &mut marks, names, copies, number)?;
         next += 1;
     }
     Ok(placed)

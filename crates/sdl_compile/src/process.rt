@@ -12,12 +12,14 @@ ghost use Rattle.sdl_compile.specs.Contexts.{IsContext};
 ghost use Rattle.sdl_compile.specs.Declarations.{drafted_signals};
 ghost use Rattle.sdl_compile.specs.Drafts.{IsReadyProcess, MatchesProcess, IsProcessOf, AllReady, AllTriggers, IsNamedAs, SavesAll, AreInputsOf, sets_of};
 
+use crate::bodies::Body;
 use crate::names::Names;
 use crate::piece::{Setting, compile_transition};
 use crate::state::{Context, compile_states, draft_name};
 use crate::variables::{compile_variables, set_at_start};
-use sdl_rules::Measure;
+use sdl_rules::{Measure, standing_inputs};
 use sdl_tables::{BlockTable, NameTable, ProcessTable};
+use sdl_trimmed::{trim_connections, trim_transition};
 use std::alloc::{AllocError, Global};
 use turn_code::{DraftProcess, DraftSignal, DraftState, Name, Sequence};
 
@@ -49,7 +51,7 @@ fn compile_all(
 {
     let process = context.names.process;
     let saves = process.saves(alloc)?;
-    let inputs = process.inputs(alloc)?;
+    let inputs = standing_inputs(alloc, process)?;
     compile_states(alloc, context, &saves, &inputs, sets)
 }
 
@@ -91,6 +93,8 @@ pub fn compile_process(
     };
     let process = table.process();
     let start = &process.start.transition;
+    let copy = trim_transition(alloc, start)?;
+    let copies = trim_connections(alloc, &process.connections)?;
     let setting = Setting {
         names: &names,
         variables: &variables,
@@ -99,14 +103,20 @@ pub fn compile_process(
         entry: set_at_start(&variables),
         order: survey.order,
         measures: survey.measures,
+        copies: &copies,
     };
-    let first = compile_transition(alloc, &setting, &[], start)?;
+    let body = Body {
+        whole: start,
+        copy: &copy,
+    };
+    let first = compile_transition(alloc, &setting, &[], &body)?;
     let context = Context {
         names: &names,
         variables: &variables,
         signals,
         order: survey.order,
         measures: survey.measures,
+        copies: &copies,
     };
     let states = compile_all(alloc, &context, survey.sets)?;
     Ok(DraftProcess {

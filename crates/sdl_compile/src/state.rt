@@ -1,21 +1,23 @@
 //! The states of a process, with their inputs and what they save.
-ghost use Rattle.std.specs.Prelude.{◌≡◌, ◌≤◌, ◌<◌, length, map, IfOk, IfSome, slice_get};
-ghost use Rattle.std.specs.List.{AllZip};
-ghost use Rattle.sdl_tree.specs.Views.{block_of};
-ghost use Rattle.sdl_tables.specs.Rows.{row_input, rows_inputs, row_names};
-ghost use Rattle.sdl_tables.specs.Names.{states_of};
-ghost use Rattle.sdl_tree.specs.Views.{process_of};
-ghost use Rattle.sdl_compile.specs.Scopes.{scope_in};
+ghost use Rattle.std.specs.Prelude.{◌≡◌, ◌≤◌, ◌<◌, ◌++◌, List, length, map, IfOk, OnOk, IfSome, slice_get};
+ghost use Rattle.std.specs.List.{AllZip, flat_map};
+ghost use Rattle.sdl_tree.specs.Views.{text_of, input_of, block_of, process_of};
+ghost use Rattle.sdl_tables.specs.Rows.{stimulus_inputs, row_names};
+ghost use Rattle.sdl_tables.specs.Names.{Input, states_of};
+ghost use Rattle.sdl_sound.specs.Standing.{taken_by, taken_in};
+ghost use Rattle.sdl_trimmed.specs.Trimmed.{trimmed};
+ghost use Rattle.sdl_compile.specs.Scopes.{scope_in, input_by};
 ghost use Rattle.sdl_compile.specs.Declarations.{trigger_of, trigger_sorts, parameters_by, drafted_signals};
 ghost use Rattle.sdl_compile.specs.Drafts.{AllReady, IsNamedAs, MatchesInputs, SavesAll, AreReady, IsReadyInput, IsInputOf, AreInputsOf, IsTrigger, AreTriggers, AllTriggers, sets_of};
 ghost use Rattle.sdl_compile.specs.Contexts.{IsContext};
 
+use crate::bodies::Body;
 use crate::names::Names;
 use crate::piece::{Setting, compile_transition};
 use sdl_lex::Name;
 use sdl_rules::Measure;
-use sdl_tables::InputRow;
-use sdl_tree::Identifier;
+use sdl_tree::{Identifier, InputPart, Stimulus, Transition};
+use sdl_trimmed::trim_transition;
 use std::alloc::{AllocError, Global};
 use turn_code::{
     DraftInput, DraftSignal, DraftState, DraftVariable, Sequence, SignalNumber, Sort, TimerNumber,
@@ -23,7 +25,7 @@ use turn_code::{
 };
 
 /// What the transitions of a process share: its names and variables, the signals of the block, and what is known of its
-/// connections: an order in which each stands behind all that it joins, and what they measure.
+/// connections: an order in which each stands behind all that it joins, what they measure, and their copies.
 #[derive(Drop)]
 pub struct Context<'a> {
     pub names: &'a Names<'a>,
@@ -31,6 +33,7 @@ pub struct Context<'a> {
     pub signals: &'a [DraftSignal],
     pub order: &'a [usize],
     pub measures: &'a [Measure],
+    pub copies: &'a [Transition],
 }
 
 /// A name as a draft has it.
@@ -84,13 +87,16 @@ pub fn compile_input(
     alloc: Global,
     context: &Context,
     entry: VariableSet,
-    row: &InputRow,
+    input: &InputPart,
+    stimulus: &Stimulus,
+    copy: &Transition,
 ) -> Result<DraftInput, AllocError>
-    requires ready { IsReadyInput (scope_in context.now.names.now) (row_input row.now) }
+    requires copied { text_of copy.now ≡ trimmed (text_of input.now.transition) }
+    requires ready { IsReadyInput (scope_in context.now.names.now) (input_by input.now stimulus.now) }
     requires context { IsContext context.now }
-    ensures { IfOk result (λ d. IsInputOf (scope_in context.now.names.now) entry (row_input row.now) d) }
+    ensures { IfOk result (λ d. IsInputOf (scope_in context.now.names.now) entry (input_by input.now stimulus.now) d) }
 {
-    let id = &row.stimulus.name;
+    let id = &stimulus.name;
     let setting = Setting {
         names: context.names,
         variables: context.variables,
@@ -99,12 +105,57 @@ pub fn compile_input(
         entry,
         order: context.order,
         measures: context.measures,
+        copies: context.copies,
     };
-    let piece = compile_transition(alloc, &setting, &row.stimulus.places, &row.input.transition)?;
+    let body = Body {
+        whole: &input.transition,
+        copy,
+    };
+    let piece = compile_transition(alloc, &setting, &stimulus.places, &body)?;
     Ok(DraftInput {
         trigger: trigger(context.names, id),
         piece,
     })
+}
+
+/// Compiles what an INPUT takes, signal by signal.
+fn push_stimuli(
+    alloc: Global,
+    drafts: &mut Vec<DraftInput>,
+    context: &Context,
+    entry: VariableSet,
+    input: &InputPart,
+    copy: &Transition,
+) -> Result<(), AllocError>
+    requires copied { text_of copy.now ≡ trimmed (text_of input.now.transition) }
+    requires ready { AreReady (scope_in context.now.names.now) (stimulus_inputs (input_of input.now)) }
+    requires context { IsContext context.now }
+    ensures { OnOk result ((before : List Input) → AllZip (IsInputOf (scope_in context.now.names.now) entry) before drafts.old.items
+        → AllZip (IsInputOf (scope_in context.now.names.now) entry) (before ++ stimulus_inputs (input_of input.now)) drafts.new.items) }
+{
+    for stimulus in &input.stimuli {
+        drafts.push(compile_input(
+            alloc, context, entry, input, stimulus, copy,
+        )?)?;
+    }
+    Ok(())
+}
+
+/// Compiles what an INPUT takes. Its transition is copied once for all of its signals.
+fn push_input(
+    alloc: Global,
+    drafts: &mut Vec<DraftInput>,
+    context: &Context,
+    entry: VariableSet,
+    input: &InputPart,
+) -> Result<(), AllocError>
+    requires ready { AreReady (scope_in context.now.names.now) (stimulus_inputs (input_of input.now)) }
+    requires context { IsContext context.now }
+    ensures { OnOk result ((before : List Input) → AllZip (IsInputOf (scope_in context.now.names.now) entry) before drafts.old.items
+        → AllZip (IsInputOf (scope_in context.now.names.now) entry) (before ++ stimulus_inputs (input_of input.now)) drafts.new.items) }
+{
+    let copy = trim_transition(alloc, &input.transition)?;
+    push_stimuli(alloc, drafts, context, entry, input, &copy)
 }
 
 /// Compiles the inputs of a state that is entered with these variables set, in their order.
@@ -112,17 +163,17 @@ pub fn compile_inputs(
     alloc: Global,
     context: &Context,
     entry: VariableSet,
-    rows: &[InputRow],
+    inputs: &[&InputPart],
 ) -> Result<Vec<DraftInput>, AllocError>
-    requires ready { AreReady (scope_in context.now.names.now) (map row_input rows.now) }
+    requires ready { AreReady (scope_in context.now.names.now) (flat_map taken_by inputs.now) }
     requires context { IsContext context.now }
-    ensures { IfOk result (λ ds. AllZip (IsInputOf (scope_in context.now.names.now) entry) (map row_input rows.now) ds.items) }
+    ensures { IfOk result (λ ds. AllZip (IsInputOf (scope_in context.now.names.now) entry) (flat_map taken_by inputs.now) ds.items) }
 {
-    let mut inputs = Vec::new(alloc);
-    for row in rows {
-        inputs.push(compile_input(alloc, context, entry, row)?)?;
+    let mut drafts = Vec::new(alloc);
+    for input in inputs {
+        push_input(alloc, &mut drafts, context, entry, input)?;
     }
-    Ok(inputs)
+    Ok(drafts)
 }
 
 /// What a state saves.
@@ -148,15 +199,15 @@ fn make_state(
     number: usize,
     set: VariableSet,
     saved: &[Identifier],
-    rows: &[InputRow],
+    inputs: &[&InputPart],
 ) -> Result<DraftState, AllocError>
     requires there { number < length (states_of (process_of context.now.names.now.process.now)) }
-    requires ready { AreReady (scope_in context.now.names.now) (map row_input rows.now) }
+    requires ready { AreReady (scope_in context.now.names.now) (flat_map taken_by inputs.now) }
     requires saved { AreTriggers (scope_in context.now.names.now) saved.now }
     requires context { IsContext context.now }
     ensures name { IfOk result (λ d. IfSome (slice_get (states_of (process_of context.now.names.now.process.now)) number) (λ id. IsNamedAs id d)) }
     ensures saves { IfOk result (λ d. SavesAll (scope_in context.now.names.now) saved.now d) }
-    ensures made { IfOk result (λ d. AreInputsOf (scope_in context.now.names.now) (map row_input rows.now) d) }
+    ensures made { IfOk result (λ d. AreInputsOf (scope_in context.now.names.now) (flat_map taken_by inputs.now) d) }
     ensures set { IfOk result (λ d. d.set ≡ set) }
 {
     let name = match context.names.process.states().get(number) {
@@ -164,7 +215,7 @@ fn make_state(
         None => unreachable!(),
     };
     let saves = compile_saves(alloc, context.names, saved)?;
-    let inputs = compile_inputs(alloc, context, set, rows)?;
+    let inputs = compile_inputs(alloc, context, set, inputs)?;
     Ok(DraftState {
         name,
         set,
@@ -179,24 +230,24 @@ pub fn compile_states(
     alloc: Global,
     context: &Context,
     saved: &[Vec<Identifier>],
-    inputs: &[Vec<InputRow>],
+    inputs: &[Vec<&InputPart>],
     sets: &[u32],
 ) -> Result<Vec<DraftState>, AllocError>
     requires paired { length inputs.now ≡ length (states_of (process_of context.now.names.now.process.now)) }
     requires saves { length saved.now ≡ length (states_of (process_of context.now.names.now.process.now)) }
     requires sets { length sets.now ≡ length (states_of (process_of context.now.names.now.process.now)) }
-    requires ready { AllReady (scope_in context.now.names.now) (map rows_inputs inputs.now) }
+    requires ready { AllReady (scope_in context.now.names.now) (map taken_in inputs.now) }
     requires saved { AllTriggers (scope_in context.now.names.now) (map row_names saved.now) }
     requires context { IsContext context.now }
     ensures names { IfOk result (λ ds. AllZip IsNamedAs (states_of (process_of context.now.names.now.process.now)) ds.items) }
     ensures saves { IfOk result (λ ds. AllZip (SavesAll (scope_in context.now.names.now)) (map row_names saved.now) ds.items) }
-    ensures made { IfOk result (λ ds. AllZip (AreInputsOf (scope_in context.now.names.now)) (map rows_inputs inputs.now) ds.items) }
+    ensures made { IfOk result (λ ds. AllZip (AreInputsOf (scope_in context.now.names.now)) (map taken_in inputs.now) ds.items) }
     ensures sets { IfOk result (λ ds. sets_of ds.items ≡ sets.now) }
 {
     let mut states = Vec::new(alloc);
-    for (number, rows) in inputs.iter().enumerate() {
+    for (number, taken) in inputs.iter().enumerate() {
         let set = VariableSet(sets[number]);
-        states.push(make_state(alloc, context, number, set, &saved[number], rows)?)?;
+        states.push(make_state(alloc, context, number, set, &saved[number], taken)?)?;
     }
     Ok(states)
 }

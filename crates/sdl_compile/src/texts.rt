@@ -2,16 +2,18 @@
 //! are known beforehand; those within a DECISION once its bodies stand, so each body is gone through once.
 ghost use Rattle.std.specs.Prelude.{◌≡◌, ◌+◌, ◌≤◌, ◌++◌, ◌∷◌, ◌&&◌, [], true, false, ℕ, OnOk, IfOk, All, length, sum_by};
 ghost use Rattle.sdl_tree.specs.Plain.{Text, falls};
-ghost use Rattle.sdl_tree.specs.Views.{text_of, statement_of, decision_of, choice_of};
+ghost use Rattle.sdl_tree.specs.Views.{text_of, statement_of, decision_of, choice_of, process_of};
 ghost use Rattle.sdl_tables.specs.Names.{variables_of};
 ghost use Rattle.sdl_sound.specs.Longest.{size};
 ghost use Rattle.sdl_sound.specs.Going.{goes_on, choice_goes_on};
+ghost use Rattle.sdl_trimmed.specs.Trimmed.{AreTrimmed};
 ghost use Rattle.sdl_compile.specs.Act.{relation_of, integer_in};
 ghost use Rattle.sdl_compile.specs.Scopes.{scope_in, places_by, question_in, piece_in};
 ghost use Rattle.sdl_compile.specs.Named.{NamedEnd, NamedText, NamedChoice, NamedPiece};
 ghost use Rattle.sdl_compile.specs.Code.{constant_or_zero, end_code, leave_code, body_size, else_size, answers_size, range_code, ranges_code, after_choice, text_code, else_code, answers_code, truth_code, integer_code, text_at, size_at, connections_place, place_in, connections_code, piece_code};
 ghost use Rattle.sdl_compile.specs.Landing.{leave_place, answers_leave, else_leave, starts_from, tests_by};
 
+use crate::bodies::Body;
 use crate::emit::{emit_action, emit_expression, emit_places, put};
 use crate::landing::{
     both, fill_places, has_any, keep_places, land_jumps, picked_place, set_at, start_at,
@@ -353,38 +355,42 @@ fn emit_connection(
     alloc: Global,
     code: &mut Vec<Instruction>,
     names: &Names,
+    copies: &[Transition],
     places: &[usize],
     number: usize,
 ) -> Result<(), AllocError>
+    requires copied { AreTrimmed (process_of names.now.process.now).connections copies.now }
     requires named { NamedText (scope_in names.now) (text_at (scope_in names.now) number) }
     requires fits { length code.now.items + size_at (scope_in names.now) number ≤ 512 }
     requires low { All (λ p. p ≤ 512) places.now }
     ensures { OnOk result (code.new.items ≡ code.old.items ++ text_code (scope_in names.now) (places_by places.now) (length code.old.items) (text_at (scope_in names.now) number)) }
 {
-    match names.process.process().connections.get(number) {
-        Some(connection) => {
-            emit_text(alloc, code, names, places, &connection.transition)?;
+    match copies.get(number) {
+        Some(copy) => {
+            emit_text(alloc, code, names, places, copy)?;
             Ok(())
         }
         None => Ok(()),
     }
 }
 
-/// The texts of connections by number, one behind another.
+/// The texts of connections by number, one behind another. `copies` has the copy of each.
 pub(crate) fn emit_connections(
     alloc: Global,
     code: &mut Vec<Instruction>,
     names: &Names,
+    copies: &[Transition],
     places: &[usize],
     numbers: &[usize],
 ) -> Result<(), AllocError>
+    requires copied { AreTrimmed (process_of names.now.process.now).connections copies.now }
     requires named { (n : ℕ) → NamedText (scope_in names.now) (text_at (scope_in names.now) n) }
     requires fits { length code.now.items + sum_by (size_at (scope_in names.now)) numbers.now ≤ 512 }
     requires low { All (λ p. p ≤ 512) places.now }
     ensures { OnOk result (code.new.items ≡ code.old.items ++ connections_code (scope_in names.now) (places_by places.now) (length code.old.items) numbers.now) }
 {
     for number in numbers {
-        emit_connection(alloc, code, names, places, *number)?;
+        emit_connection(alloc, code, names, copies, places, *number)?;
     }
     Ok(())
 }
@@ -394,21 +400,23 @@ pub(crate) fn emit_connections(
 pub(crate) fn emit_piece(
     alloc: Global,
     names: &Names,
+    copies: &[Transition],
     places: &[Option<Identifier>],
-    transition: &Transition,
+    body: &Body,
     numbers: &[usize],
     targets: &[usize],
 ) -> Result<Vec<Instruction>, AllocError>
-    requires named { NamedPiece (scope_in names.now) (piece_in places.now transition.now) }
+    requires named { NamedPiece (scope_in names.now) (piece_in places.now body.now.whole.now) }
+    requires copied { AreTrimmed (process_of names.now.process.now).connections copies.now }
     requires few { length places.now ≤ 4 }
-    requires fits { connections_place (scope_in names.now) (piece_in places.now transition.now) + sum_by (size_at (scope_in names.now)) numbers.now ≤ 512 }
+    requires fits { connections_place (scope_in names.now) (piece_in places.now body.now.whole.now) + sum_by (size_at (scope_in names.now)) numbers.now ≤ 512 }
     requires low { All (λ p. p ≤ 512) targets.now }
-    requires placed { (n : ℕ) → places_by targets.now n ≡ place_in (scope_in names.now) (connections_place (scope_in names.now) (piece_in places.now transition.now)) numbers.now n }
-    ensures { IfOk result (λ code. code.items ≡ piece_code (scope_in names.now) (piece_in places.now transition.now) numbers.now) }
+    requires placed { (n : ℕ) → places_by targets.now n ≡ place_in (scope_in names.now) (connections_place (scope_in names.now) (piece_in places.now body.now.whole.now)) numbers.now n }
+    ensures { IfOk result (λ code. code.items ≡ piece_code (scope_in names.now) (piece_in places.now body.now.whole.now) numbers.now) }
 {
     let mut code = Vec::new(alloc);
     emit_places(&mut code, names, places)?;
-    emit_text(alloc, &mut code, names, targets, transition)?;
-    emit_connections(alloc, &mut code, names, targets, numbers)?;
+    emit_text(alloc, &mut code, names, targets, body.copy)?;
+    emit_connections(alloc, &mut code, names, copies, targets, numbers)?;
     Ok(code)
 }

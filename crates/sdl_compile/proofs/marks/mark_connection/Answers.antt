@@ -1,25 +1,33 @@
-use Rattle.std.proofs.Common.{◌++◌, map, sym, ap, ◌∙◌}
-use Rattle.sdl_tree.specs.declared.tree.Process.{Process}
-use Rattle.sdl_tree.specs.Views.{connection_of, text_of}
+use Rattle.std.proofs.Common.{◌++◌, sym, ap, ◌∙◌, append-nil}
+use Rattle.sdl_tree.specs.Views.{text_of}
 use Rattle.sdl_compile.specs.Scopes.{scope_in}
+use Rattle.sdl_compile.specs.Code.{text_at}
 use Rattle.sdl_compile.specs.Entries.{entry_at}
 use Rattle.sdl_compile.specs.Facts.{text_sets}
-use Rattle.sdl_compile.proofs.Marking.{found, past, connection_named, connection_sets, no_connection_sets}
+use Rattle.sdl_compile.proofs.Emitting.{each_named}
+use Rattle.sdl_compile.proofs.Copies.{copy_is, named_so, no_text}
+use Rattle.sdl_compile.proofs.CopiedSets.{sets_so}
 use Rattle.sdl_compile.proofs.marks.mark_connection.Goals as goal
 
 pub mark_text-requires : goal.mark_text-requires
 mark_text-requires c =
-    let listed = ap (λ (p : Process). map connection_of p.connections.items) (sym c.process.ensures.process) ∙ ap (map connection_of) (sym c.deref.ensures.value) in
-    connection_named (scope_in c.args.names.now) c.deref.result.now listed c.args.number c.in-Some.connection.now (found c.deref.result.now c.args.number c.in-Some.connection.now c.in-Some.ensures.lookup.3.0 c.in-Some.ensures.lookup.1) c.requires
+    let s = scope_in c.args.names.now in
+    let n = c.args.number in
+    let t = c.in-Some.copy.now in
+    named_so s t (text_at s n) (copy_is s c.args.copies.now c.requires.copied n t c.in-Some.ensures.lookup.3.0 c.in-Some.ensures.lookup.1) (each_named s c.requires.connections n)
 
 pub returns-in_ok-mark_text : goal.returns-in_ok-mark_text
 returns-in_ok-mark_text c =
-    let listed = ap (λ (p : Process). map connection_of p.connections.items) (sym c.process.ensures.process) ∙ ap (map connection_of) (sym c.deref.ensures.value) in
-    connection_sets (scope_in c.args.names.now) c.deref.result.now listed c.args.number c.in-Some.connection.now (found c.deref.result.now c.args.number c.in-Some.connection.now c.in-Some.ensures.lookup.3.0 c.in-Some.ensures.lookup.1)
-    (entry_at c.args.entries.now c.args.number) c.args.sets.now.items c.mark_text.new.sets.items
-    (c.in_ok-mark_text.ensures.sets ∙ ap (λ m. c.args.sets.now.items ++ text_sets (scope_in c.args.names.now) m (text_of c.in-Some.connection.now.transition)) c.entry_of-set.ensures)
+    let s = scope_in c.args.names.now in
+    let n = c.args.number in
+    let t = c.in-Some.copy.now in
+    let old = c.args.sets.now.items in
+    c.in_ok-mark_text.ensures.sets ∙ ap (λ m. old ++ text_sets s m (text_of t)) c.entry_of-set.ensures
+    ∙ ap (λ l. old ++ l) (sets_so s t (text_at s n) (copy_is s c.args.copies.now c.requires.copied n t c.in-Some.ensures.lookup.3.0 c.in-Some.ensures.lookup.1) (entry_at c.args.entries.now n))
 
 pub returns-in_default : goal.returns-in_default
 returns-in_default c =
-    let listed = ap (λ (p : Process). map connection_of p.connections.items) (sym c.process.ensures.process) ∙ ap (map connection_of) (sym c.deref.ensures.value) in
-    no_connection_sets (scope_in c.args.names.now) c.deref.result.now listed c.args.number (past c.deref.result.now c.args.number c.in_default.ensures.lookup.3) (entry_at c.args.entries.now c.args.number) c.args.sets.now.items
+    let s = scope_in c.args.names.now in
+    let n = c.args.number in
+    let old = c.args.sets.now.items in
+    sym (ap (λ t. old ++ text_sets s (entry_at c.args.entries.now n) t) (no_text s c.args.copies.now c.requires.copied n c.in_default.ensures.lookup.3) ∙ append-nil old)

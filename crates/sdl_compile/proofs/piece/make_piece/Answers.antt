@@ -18,34 +18,39 @@ use Rattle.sdl_compile.proofs.piece.make_piece.Goals as goal
 pub connection_places-requires-clause-there : goal.connection_places-requires-clause-there
 connection_places-requires-clause-there c =
     rw c.deref.ensures.value
-    (placed_within (scope_in c.args.setting.now.names.now) (piece_in c.args.places.now c.args.transition.now) c.in_ok-numbers.numbers.items c.requires.ready.named c.in_ok-numbers.ensures)
+    (placed_within (scope_in c.args.setting.now.names.now) (piece_in c.args.places.now c.args.body.now.whole.now) c.in_ok-numbers.numbers.items c.requires.ready.named c.in_ok-numbers.ensures)
+
+pub text_size-requires : goal.text_size-requires
+text_size-requires c =
+    let h = size_fits (scope_in c.args.setting.now.names.now) (piece_in c.args.places.now c.args.body.now.whole.now) c.requires.ready.named c.in_ok-numbers.numbers.items c.in_ok-numbers.ensures c.requires.ready.small.size in
+    omega (arith, h)
 
 pub connection_places-requires-clause-short : goal.connection_places-requires-clause-short
 connection_places-requires-clause-short c =
     let s = scope_in c.args.setting.now.names.now in
-    let h = size_fits s (piece_in c.args.places.now c.args.transition.now) c.requires.ready.named c.in_ok-numbers.numbers.items c.in_ok-numbers.ensures c.requires.ready.small.size in
+    let h = size_fits s (piece_in c.args.places.now c.args.body.now.whole.now) c.requires.ready.named c.in_ok-numbers.numbers.items c.in_ok-numbers.ensures c.requires.ready.small.size in
     let e = ap (sum_by (size_at s)) c.deref.ensures.value in
-    omega (arith, h, e, c.places_length.ensures, c.code_size.ensures)
+    omega (arith, h, e, c.places_length.ensures, c.text_size.ensures)
 
 pub emit_piece-requires-clause-fits : goal.emit_piece-requires-clause-fits
 emit_piece-requires-clause-fits c =
     let s = scope_in c.args.setting.now.names.now in
-    let h = size_fits s (piece_in c.args.places.now c.args.transition.now) c.requires.ready.named c.in_ok-numbers.numbers.items c.in_ok-numbers.ensures c.requires.ready.small.size in
+    let h = size_fits s (piece_in c.args.places.now c.args.body.now.whole.now) c.requires.ready.named c.in_ok-numbers.numbers.items c.in_ok-numbers.ensures c.requires.ready.small.size in
     let e = ap (sum_by (size_at s)) c.deref-2.ensures.value in
     omega (arith, h, e)
 
 pub piece_counts-requires-clause-short : goal.piece_counts-requires-clause-short
 piece_counts-requires-clause-short c =
     let s = scope_in c.args.setting.now.names.now in
-    let l = size_is s (piece_in c.args.places.now c.args.transition.now) c.requires.ready.named c.in_ok-numbers.numbers.items c.in_ok-numbers.ensures c.in_ok-code.code.items
-    (c.in_ok-code.ensures ∙ ap (λ (ns : List ℕ). piece_code s (piece_in c.args.places.now c.args.transition.now) ns) c.deref-2.ensures.value) in
+    let l = size_is s (piece_in c.args.places.now c.args.body.now.whole.now) c.requires.ready.named c.in_ok-numbers.numbers.items c.in_ok-numbers.ensures c.in_ok-code.code.items
+    (c.in_ok-code.ensures ∙ ap (λ (ns : List ℕ). piece_code s (piece_in c.args.places.now c.args.body.now.whole.now) ns) c.deref-2.ensures.value) in
     let e = ap length c.deref-7.ensures.value in
     omega (arith, l, e, c.requires.ready.small.size)
 
 pub place_facts-requires-clause-sets : goal.place_facts-requires-clause-sets
 place_facts-requires-clause-sets c =
     let s = scope_in c.args.setting.now.names.now in
-    let q = piece_in c.args.places.now c.args.transition.now in
+    let q = piece_in c.args.places.now c.args.body.now.whole.now in
     let l = sets_length s c.args.setting.now.entry q c.args.setting.now.order.now c.in_ok-numbers.numbers.items in
     let sets = ap length c.deref-8.ensures.value in
     let made = ap length (c.in_ok-sets.ensures ∙ ap (λ (ns : List ℕ). piece_sets s c.args.setting.now.entry q c.args.setting.now.order.now ns) c.deref-4.ensures.value) in
@@ -56,7 +61,7 @@ pub overflow_cast-certificate : goal.overflow_cast-certificate
 overflow_cast-certificate c =
     let x = c.args.setting.now in
     let s = scope_in x.names.now in
-    let q = piece_in c.args.places.now c.args.transition.now in
+    let q = piece_in c.args.places.now c.args.body.now.whole.now in
     let ns = c.in_ok-numbers.numbers.items in
     let code = c.in_ok-code.code.items in
     let is = c.in_ok-code.ensures ∙ ap (λ (ns : List ℕ). piece_code s q ns) c.deref-2.ensures.value in
@@ -70,7 +75,7 @@ pub returns : goal.returns
 returns c =
     let x = c.args.setting.now in
     let s = scope_in x.names.now in
-    let q = piece_in c.args.places.now c.args.transition.now in
+    let q = piece_in c.args.places.now c.args.body.now.whole.now in
     let ns = c.in_ok-numbers.numbers.items in
     let code = c.in_ok-code.code.items in
     let is = c.in_ok-code.ensures ∙ ap (λ (ns : List ℕ). piece_code s q ns) c.deref-2.ensures.value in

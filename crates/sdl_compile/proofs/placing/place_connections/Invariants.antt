@@ -7,7 +7,7 @@ use Rattle.sdl_compile.proofs.placing.place_connections.Given as goal
 
 abbrev pub invariant-loop-next : goal.invariant-loop-next
 invariant-loop-next l = record {
-  gathered : Gathered (scope_in l.names) (text_of l.transition) l.placed.items l.next;
+  gathered : Gathered (scope_in l.names) (text_of l.body.whole.now) l.placed.items l.next;
   marks : AreMarked (scope_in l.names) l.placed.items l.marks.items;
 }
 

@@ -1,21 +1,27 @@
-use Rattle.std.proofs.Common.{◌≡◌, ap, sym, subst}
+use Rattle.std.proofs.Common.{◌≡◌, List, ℕ, ap, subst, arith}
 use Rattle.std.specs.Prelude.{OnOk, fold}
-use Rattle.sdl_tree.specs.Views.{process_of, connection_of}
 use Rattle.sdl_compile.specs.Scopes.{scope_in}
-use Rattle.sdl_compile.specs.Code.{add_number, joined}
-use Rattle.sdl_compile.proofs.Gathering.{there_is, text_there}
+use Rattle.sdl_compile.specs.Code.{text_at, add_number}
+use Rattle.sdl_compile.proofs.Emitting.{each_named}
+use Rattle.sdl_compile.proofs.Copies.{copies_length, copy_is, named_so, joined_so}
 use Rattle.sdl_compile.proofs.placing.place_more.Goals as goal
+
+pub index-copy-requires : goal.index-copy-requires
+index-copy-requires c = let l = copies_length (scope_in c.args.names.now) c.args.copies.now c.requires.copied in omega (arith, l, c.requires.there)
 
 pub place_joined-requires-clause-text : goal.place_joined-requires-clause-text
 place_joined-requires-clause-text c =
     let s = scope_in c.args.names.now in
-    let x = c.index-connection.result.now in
-    let at = there_is s c.process.result.now (sym (ap process_of c.process.ensures.process)) c.args.number x c.requires.there c.index-connection.ensures in
-    (c.requires.connections.texts c.args.number (connection_of x) at).text
+    let n = c.args.number in
+    let t = c.index-copy.result.now in
+    let l = copies_length s c.args.copies.now c.requires.copied in
+    named_so s t (text_at s n) (copy_is s c.args.copies.now c.requires.copied n t (omega (arith, l, c.requires.there)) c.index-copy.ensures) (each_named s c.requires.connections n)
 
 pub returns-clause-placed : goal.returns-clause-placed
 returns-clause-placed c =
     let s = scope_in c.args.names.now in
-    let x = c.index-connection.result.now in
-    let at = there_is s c.process.result.now (sym (ap process_of c.process.ensures.process)) c.args.number x c.requires.there c.index-connection.ensures in
-    subst (λ t. OnOk c.place_joined.result (c.place_joined.new.placed.items ≡ fold add_number c.args.placed.now.items (joined s t))) (sym (text_there s c.args.number (connection_of x) at)) c.place_joined.ensures.placed
+    let n = c.args.number in
+    let t = c.index-copy.result.now in
+    let l = copies_length s c.args.copies.now c.requires.copied in
+    subst (λ (ns : List ℕ). OnOk c.place_joined.result (c.place_joined.new.placed.items ≡ fold add_number c.args.placed.now.items ns))
+    (joined_so s t (text_at s n) (copy_is s c.args.copies.now c.requires.copied n t (omega (arith, l, c.requires.there)) c.index-copy.ensures)) c.place_joined.ensures.placed

@@ -7,22 +7,24 @@ use Rattle.sdl_tree.specs.declared.expression.Identifier.{Identifier}
 use Rattle.sdl_tree.specs.Views.{process_of}
 use Rattle.sdl_tree.specs.Plain.{PlainProcess}
 use Rattle.sdl_tables.specs.Names.{Input, states_of, part_inputs, part_saves, inputs_by_state, saves_by_state}
-use Rattle.sdl_tables.specs.Rows.{rows_inputs, row_names}
-use Rattle.sdl_tables.specs.declared.process_table.InputRow.{InputRow}
+use Rattle.sdl_tables.specs.Rows.{row_names}
+use Rattle.sdl_sound.specs.Standing.{taken_in}
+use Rattle.std.specs.Borrow.{Bor}
+use Rattle.sdl_tree.specs.declared.tree.InputPart.{InputPart}
 use Rattle.sdl_compile.specs.Scopes.{scope_in}
 use Rattle.sdl_compile.specs.Drafts.{AllReady, AllTriggers, SavesAll, AreInputsOf}
 use Rattle.sdl_compile.proofs.Zips.{paired}
 use Rattle.sdl_compile.proofs.process.compile_all.Goals as goal
 
-inputs_count : (p : PlainProcess) (rows : List (Vec InputRow)) → map rows_inputs rows ≡ inputs_by_state p → length rows ≡ length (states_of p)
-inputs_count p rows e = omega (arith, ap length e, paired part_inputs p, length-map rows rows_inputs)
+inputs_count : (p : PlainProcess) (rows : List (Vec (Bor InputPart))) → map taken_in rows ≡ inputs_by_state p → length rows ≡ length (states_of p)
+inputs_count p rows e = omega (arith, ap length e, paired part_inputs p, length-map rows taken_in)
 
 saves_count : (p : PlainProcess) (rows : List (Vec Identifier)) → map row_names rows ≡ saves_by_state p → length rows ≡ length (states_of p)
 saves_count p rows e = omega (arith, ap length e, paired part_saves p, length-map rows row_names)
 
 pub compile_states-requires-clause-paired : goal.compile_states-requires-clause-paired
 compile_states-requires-clause-paired c =
-    inputs_count (process_of c.args.context.now.names.now.process.now) c.deref-2.result.now (ap (map rows_inputs) c.deref-2.ensures.value ∙ c.in_ok-inputs.ensures)
+    inputs_count (process_of c.args.context.now.names.now.process.now) c.deref-2.result.now (ap (map taken_in) c.deref-2.ensures.value ∙ c.in_ok-inputs.ensures)
 
 pub compile_states-requires-clause-saves : goal.compile_states-requires-clause-saves
 compile_states-requires-clause-saves c =
@@ -30,7 +32,7 @@ compile_states-requires-clause-saves c =
 
 pub compile_states-requires-clause-ready : goal.compile_states-requires-clause-ready
 compile_states-requires-clause-ready c =
-    subst (AllReady (scope_in c.args.context.now.names.now)) (sym (ap (map rows_inputs) c.deref-2.ensures.value ∙ c.in_ok-inputs.ensures)) c.requires.ready
+    subst (AllReady (scope_in c.args.context.now.names.now)) (sym (ap (map taken_in) c.deref-2.ensures.value ∙ c.in_ok-inputs.ensures)) c.requires.ready
 
 pub compile_states-requires-clause-saved : goal.compile_states-requires-clause-saved
 compile_states-requires-clause-saved c =
@@ -46,4 +48,4 @@ pub returns-clause-made : goal.returns-clause-made
 returns-clause-made c =
     let sc = scope_in c.args.context.now.names.now in
     subst (λ (l : List (List Input)). IfOk c.compile_states.result (λ ds. AllZip (AreInputsOf sc) l ds.items))
-    (ap (map rows_inputs) c.deref-2.ensures.value ∙ c.in_ok-inputs.ensures) c.compile_states.ensures.made
+    (ap (map taken_in) c.deref-2.ensures.value ∙ c.in_ok-inputs.ensures) c.compile_states.ensures.made

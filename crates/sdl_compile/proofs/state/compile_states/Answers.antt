@@ -3,9 +3,12 @@ use Rattle.std.specs.Global.{Vec}
 use Rattle.sdl_tree.specs.Views.{process_of}
 use Rattle.sdl_tree.specs.declared.expression.Identifier.{Identifier}
 use Rattle.turn_code.specs.declared.variable_set.VariableSet.{VariableSet}
-use Rattle.sdl_tables.specs.declared.process_table.InputRow.{InputRow}
+use Rattle.std.specs.Borrow.{Bor}
+use Rattle.std.specs.List.{flat_map}
+use Rattle.sdl_tree.specs.declared.tree.InputPart.{InputPart}
 use Rattle.sdl_tables.specs.Names.{states_of}
-use Rattle.sdl_tables.specs.Rows.{row_input, rows_inputs, row_names}
+use Rattle.sdl_tables.specs.Rows.{row_names}
+use Rattle.sdl_sound.specs.Standing.{taken_by, taken_in}
 use Rattle.sdl_compile.specs.Scopes.{scope_in}
 use Rattle.sdl_compile.specs.Drafts.{IsNamedAs, SavesAll, AreInputsOf, AreTriggers}
 use Rattle.sdl_compile.proofs.Zips.{zip_more, zip_some, all_ready_more, sets_more, triggers_at}
@@ -32,11 +35,11 @@ loop-number-preserved c =
           (subst (λ (v : Vec Identifier). SavesAll names (row_names v) item) c.index-saved-number.is
           (subst (λ l. SavesAll names l item) c.deref.ensures.value c.in_ok-make_state.ensures.saves)));
       made = rw (add-one, c.in_ok-push.ensures.items)
-          (zip_more (AreInputsOf names) rows_inputs c.args.inputs.now i row old item lt c.loop-number.invariant.made
-          (subst (λ (v : Vec InputRow). AreInputsOf names (rows_inputs v) item) c.index-inputs-number.is
-          (subst (λ rows. AreInputsOf names (map row_input rows) item) c.deref-in-loop-number.ensures.value c.in_ok-make_state.ensures.made)));
+          (zip_more (AreInputsOf names) taken_in c.args.inputs.now i row old item lt c.loop-number.invariant.made
+          (subst (λ (v : Vec (Bor InputPart)). AreInputsOf names (taken_in v) item) c.index-inputs-number.is
+          (subst (λ rows. AreInputsOf names (flat_map taken_by rows) item) c.deref-in-loop-number.ensures.value c.in_ok-make_state.ensures.made)));
       sets = rw (add-one, c.in_ok-push.ensures.items) (sets_more old item c.args.sets.now i lt3 c.loop-number.invariant.sets (ap (λ (m : VariableSet). m.0) c.in_ok-make_state.ensures.set));
-      ready = rw add-one (all_ready_more names rows_inputs c.args.inputs.now i row lt c.loop-number.invariant.ready).1;
+      ready = rw add-one (all_ready_more names taken_in c.args.inputs.now i row lt c.loop-number.invariant.ready).1;
     }
 
 pub make_state-requires-clause-saved : goal.make_state-requires-clause-saved

@@ -1,0 +1,26 @@
+//! A transition beside its copy without TASKs in which all is quoted: the code of the one is that of the other.
+ghost use Rattle.std.specs.Prelude.{◌≡◌, ◌≤◌};
+ghost use Rattle.sdl_tree.specs.Views.{text_of, process_of};
+ghost use Rattle.sdl_tables.specs.Names.{variables_of};
+ghost use Rattle.sdl_sound.specs.Longest.{size};
+ghost use Rattle.sdl_trimmed.specs.Trimmed.{trimmed};
+
+use sdl_rules::code_size;
+use sdl_tables::ProcessTable;
+use sdl_tree::Transition;
+
+/// A transition, and its copy.
+#[derive(Drop)]
+pub struct Body<'a> {
+    pub whole: &'a Transition,
+    pub copy: &'a Transition,
+    pub ghost copied: { text_of copy.now ≡ trimmed (text_of whole.now) },
+}
+
+/// How many instructions a transition has, without those of connections.
+pub(crate) fn text_size(process: &ProcessTable, body: &Body) -> usize
+    requires { size (variables_of (process_of process.now)) (text_of body.now.whole.now) ≤ 512 }
+    ensures { result ≡ size (variables_of (process_of process.now)) (text_of body.now.whole.now) }
+{
+    code_size(process, body.copy) as usize
+}
