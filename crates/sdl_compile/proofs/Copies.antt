@@ -4,10 +4,10 @@ use Rattle.std.specs.Prelude.{slice_get, option_map}
 use Rattle.std.specs.Option.{option_map_or}
 use Rattle.std.proofs.lemmas.List.{length-map}
 use Rattle.std.proofs.lemmas.Option.{slice_get-map, slice_get-get_or}
-use Rattle.sdl_tree.specs.declared.tree.Transition.{Transition}
-use Rattle.sdl_tree.specs.declared.tree.Join.{Join}
-use Rattle.sdl_tree.specs.Plain.{Text, falls, PlainConnection}
-use Rattle.sdl_tree.specs.Views.{text_of}
+use Rattle.sdl_ast.specs.declared.tree.Transition.{Transition}
+use Rattle.sdl_ast.specs.declared.tree.Join.{Join}
+use Rattle.sdl_ast.specs.Plain.{Text, falls, PlainConnection}
+use Rattle.sdl_ast.specs.Views.{text_of}
 use Rattle.sdl_tables.specs.Names.{variables_of}
 use Rattle.sdl_sound.specs.Longest.{size}
 use Rattle.sdl_trimmed.specs.Trimmed.{trimmed, AreTrimmed}

@@ -1,6 +1,6 @@
 -- The sets of variables in a text without its quoted TASKs are those of the text.
 use Rattle.std.proofs.Common.{◌≡◌, cond, List, [], ◌∷◌, ◌++◌, refl, ap, ◌∙◌}
-use Rattle.sdl_tree.specs.Plain.{PlainAction, task, output, set_timer, reset_timer, Text, falls, ends, does, decides, Choice, nothing_else, otherwise, answer}
+use Rattle.sdl_ast.specs.Plain.{PlainAction, task, output, set_timer, reset_timer, Text, falls, ends, does, decides, Choice, nothing_else, otherwise, answer}
 use Rattle.turn_code.specs.declared.variable_set.VariableSet.{VariableSet}
 use Rattle.sdl_compile.specs.Act.{Scope, is_truth}
 use Rattle.sdl_compile.specs.Reads.{action_set, everything, meet, left, answers_left, else_left, choice_left}

@@ -8,11 +8,11 @@ use Rattle.turn_code.specs.declared.draft.DraftInput.{DraftInput}
 use Rattle.turn_code.specs.declared.draft.DraftState.{DraftState}
 use Rattle.turn_code.specs.declared.variable_set.VariableSet.{VariableSet}
 use Rattle.sdl_sound.specs.Longest.{input_piece}
-use Rattle.sdl_tree.specs.declared.expression.Identifier.{Identifier}
-use Rattle.sdl_tree.specs.declared.tree.InputPart.{InputPart}
-use Rattle.sdl_tree.specs.declared.tree.Stimulus.{Stimulus}
-use Rattle.sdl_tree.specs.Plain.{PlainState, PlainProcess}
-use Rattle.sdl_tree.specs.Views.{input_of, stimulus_of, text_of}
+use Rattle.sdl_ast.specs.declared.expression.Identifier.{Identifier}
+use Rattle.sdl_ast.specs.declared.tree.InputPart.{InputPart}
+use Rattle.sdl_ast.specs.declared.tree.Stimulus.{Stimulus}
+use Rattle.sdl_ast.specs.Plain.{PlainState, PlainProcess}
+use Rattle.sdl_ast.specs.Views.{input_of, stimulus_of, text_of}
 use Rattle.sdl_tables.specs.Rows.{stimulus_inputs}
 use Rattle.sdl_tables.specs.Names.{Input, states_of, of_state, by_state}
 use Rattle.sdl_compile.specs.Act.{Scope}

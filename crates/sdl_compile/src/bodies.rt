@@ -1,13 +1,13 @@
 //! A transition beside its copy without TASKs in which all is quoted: the code of the one is that of the other.
 ghost use Rattle.std.specs.Prelude.{◌≡◌, ◌≤◌};
-ghost use Rattle.sdl_tree.specs.Views.{text_of, process_of};
+ghost use Rattle.sdl_ast.specs.Views.{text_of, process_of};
 ghost use Rattle.sdl_tables.specs.Names.{variables_of};
 ghost use Rattle.sdl_sound.specs.Longest.{size};
 ghost use Rattle.sdl_trimmed.specs.Trimmed.{trimmed};
 
 use sdl_rules::code_size;
 use sdl_tables::ProcessTable;
-use sdl_tree::Transition;
+use sdl_ast::Transition;
 
 /// A transition, and its copy.
 #[derive(Drop)]

@@ -1,7 +1,7 @@
 //! Which connections stand behind the text of a piece, and where.
 ghost use Rattle.std.specs.Prelude.{◌≡◌, ◌+◌, ◌≤◌, ◌<◌, ◌++◌, ℕ, [], fold, length, replicate, All, IsSome, OnOk, IfOk};
 ghost use Rattle.std.specs.List.{list_any, sum_by};
-ghost use Rattle.sdl_tree.specs.Views.{text_of, statement_of, choice_of, else_choice, process_of};
+ghost use Rattle.sdl_ast.specs.Views.{text_of, statement_of, choice_of, else_choice, process_of};
 ghost use Rattle.sdl_measures.specs.Counting.{measure_at};
 ghost use Rattle.sdl_measures.specs.Measures.{AreMeasures};
 ghost use Rattle.sdl_trimmed.specs.Trimmed.{AreTrimmed};
@@ -14,7 +14,7 @@ ghost use Rattle.sdl_compile.specs.Code.{number_or_zero, code_joins, else_joins,
 use crate::bodies::Body;
 use crate::names::Names;
 use sdl_rules::Measure;
-use sdl_tree::{Decision, End, Join, Statement, Transition};
+use sdl_ast::{Decision, End, Join, Statement, Transition};
 use std::alloc::{AllocError, Global};
 
 #[cycle(placing)]

@@ -1,7 +1,7 @@
 //! The states of a process, with their inputs and what they save.
 ghost use Rattle.std.specs.Prelude.{◌≡◌, ◌≤◌, ◌<◌, ◌++◌, List, length, map, IfOk, OnOk, IfSome, slice_get};
 ghost use Rattle.std.specs.List.{AllZip, flat_map};
-ghost use Rattle.sdl_tree.specs.Views.{text_of, input_of, block_of, process_of};
+ghost use Rattle.sdl_ast.specs.Views.{text_of, input_of, block_of, process_of};
 ghost use Rattle.sdl_tables.specs.Rows.{stimulus_inputs, row_names};
 ghost use Rattle.sdl_tables.specs.Names.{Input, states_of};
 ghost use Rattle.sdl_sound.specs.Standing.{taken_by, taken_in};
@@ -16,7 +16,7 @@ use crate::names::Names;
 use crate::piece::{Setting, compile_transition};
 use sdl_lex::Name;
 use sdl_rules::Measure;
-use sdl_tree::{Identifier, InputPart, Stimulus, Transition};
+use sdl_ast::{Identifier, InputPart, Stimulus, Transition};
 use sdl_trimmed::trim_transition;
 use std::alloc::{AllocError, Global};
 use turn_code::{

@@ -1,7 +1,7 @@
 //! The limits: how long and how deep transitions are, and how many of everything there are.
 ghost use Rattle.std.specs.Prelude.{◌≡◌, ◌++◌, ◌∷◌, [], ℕ, List, map, min, nat_lt, length, sum_by, find, IfOk};
 ghost use Rattle.std.specs.List.{flat_map, list_any};
-ghost use Rattle.sdl_tree.specs.Views.{text_of, stimulus_of, input_of, process_of, block_of, signal_of};
+ghost use Rattle.sdl_ast.specs.Views.{text_of, stimulus_of, input_of, process_of, block_of, signal_of};
 ghost use Rattle.sdl_tables.specs.Names.{connector_names, processes_of, signals_of, states_of, variables_of, timers_of};
 ghost use Rattle.sdl_tables.specs.Rows.{rows_inputs, stimulus_inputs};
 ghost use Rattle.sdl_tables.specs.Scopes.{repeats};
@@ -11,7 +11,7 @@ ghost use Rattle.sdl_sound.specs.Longest.{Piece, pieces_of, start_piece, input_p
 ghost use Rattle.sdl_measures.specs.Measures.{capped, AreMeasures, AllMeasures};
 ghost use Rattle.sdl_measures.specs.Rows.{marked_size, stimulus_piece, IsExtent, IsPassed, ArePassed, AllPassed, IsEither};
 ghost use Rattle.sdl_sound.specs.Standing.{taken_by, taken_in};
-ghost use Rattle.sdl_tree.specs.Plain.{Text, PlainProcess, PlainBlock};
+ghost use Rattle.sdl_ast.specs.Plain.{Text, PlainProcess, PlainBlock};
 ghost use Rattle.sdl_measures.specs.Counting.{measure_at};
 ghost use Rattle.sdl_sound.specs.Limits.{exceeds, number_limits, transition_limits, first_limit};
 
@@ -20,7 +20,7 @@ use crate::measures::{Measure, NOTHING, measure_transition};
 use sdl_joins::{find_links, reached_in};
 use sdl_sound::{Limit, standing_inputs};
 use sdl_tables::{BlockTable, InputRow, ProcessTable};
-use sdl_tree::{Identifier, InputPart, SignalDeclaration, Stimulus, Transition};
+use sdl_ast::{Identifier, InputPart, SignalDeclaration, Stimulus, Transition};
 use std::alloc::{AllocError, Global};
 
 /// Whether a transition is too long or too deep, or has too many effects.

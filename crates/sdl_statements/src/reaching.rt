@@ -1,8 +1,8 @@
 //! With what transitions begin, to which connections they come, and who may have sent what those begin with.
 ghost use Rattle.std.specs.Prelude.{◌≡◌, ◌&&◌, false, true, ℕ, Bool, List, Option, None, map, slice_get, All, IfOk, OnOk};
 ghost use Rattle.std.specs.Option.{option_map_or};
-ghost use Rattle.sdl_tree.specs.Plain.{PlainBlock, PlainProcess};
-ghost use Rattle.sdl_tree.specs.Views.{text_of, input_of, stimulus_of, process_of, block_of};
+ghost use Rattle.sdl_ast.specs.Plain.{PlainBlock, PlainProcess};
+ghost use Rattle.sdl_ast.specs.Views.{text_of, input_of, stimulus_of, process_of, block_of};
 ghost use Rattle.sdl_tables.specs.Names.{number_of, connector_names};
 ghost use Rattle.sdl_tables.specs.Scopes.{repeats};
 ghost use Rattle.sdl_joins.specs.Links.{graph_in, IsGraph};
@@ -17,7 +17,7 @@ use crate::sources::{Sender, Senders, is_marked, mark};
 use sdl_joins::{find_links, reached_in};
 use sdl_lex::Name;
 use sdl_tables::{BlockTable, ProcessTable};
-use sdl_tree::{InputPart, Stimulus, Transition};
+use sdl_ast::{InputPart, Stimulus, Transition};
 use std::alloc::{AllocError, Global};
 
 /// With what a transition begins.

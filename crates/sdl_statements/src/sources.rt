@@ -2,8 +2,8 @@
 ghost use Rattle.std.specs.Prelude.{◌≡◌, ◌&&◌, false, not, ℕ, Bool, [], ◌∷◌, ◌++◌, List, All, IfOk, OnOk};
 ghost use Rattle.std.specs.Option.{option_map_or};
 ghost use Rattle.std.specs.List.{list_all};
-ghost use Rattle.sdl_tree.specs.Plain.{PlainBlock, PlainProcess};
-ghost use Rattle.sdl_tree.specs.Views.{process_of, block_of};
+ghost use Rattle.sdl_ast.specs.Plain.{PlainBlock, PlainProcess};
+ghost use Rattle.sdl_ast.specs.Views.{process_of, block_of};
 ghost use Rattle.sdl_sound.specs.Actions.{begins};
 ghost use Rattle.sdl_sound.specs.Receivers.{party_of, carries, senders, answers};
 ghost use Rattle.sdl_statements.specs.SenderTables.{IsNumbered, Tells};
@@ -13,7 +13,7 @@ ghost use Rattle.sdl_statements.specs.Sources.{sender_of, is_marked, AreSenders,
 use crate::sender_table::{Numbered, SenderTable, numbered_senders};
 use sdl_lex::Name;
 use sdl_tables::{BlockTable, ProcessTable};
-use sdl_tree::Party;
+use sdl_ast::Party;
 use std::alloc::{AllocError, Global};
 
 /// Who sent what a transition begins with.

@@ -2,11 +2,11 @@
 -- in the grammar it reads, and it has looked at no token behind the first one that it leaves.
 use Rattle.std.proofs.Common.{◌≡◌, Bool, true, false, List, [], ◌∷◌, ◌++◌, Option, Some, None, refl, sym, ap, ◌∙◌, append_assoc, MatchBool}
 use Rattle.sdl_lex.specs.declared.lexemes.Token.{Token}
-use Rattle.sdl_tree.specs.Tokens.{begins}
-use Rattle.sdl_tree.specs.Grammar as grammar
-use Rattle.sdl_tree.specs.Grammar.{Grammar, Gives, Takes, Then, Many, no_more, one_more}
-use Rattle.sdl_tree.specs.Readings.{Reading, read, fails, At, then_read, stands_for, either, many_for, many, choice, give, token, prepend, Shortens}
-use Rattle.sdl_tree.specs.Readings as reading
+use Rattle.sdl_tokens.specs.Tokens.{begins}
+use Rattle.sdl_tokens.specs.Grammar as grammar
+use Rattle.sdl_tokens.specs.Grammar.{Grammar, Gives, Takes, Then, Many, no_more, one_more}
+use Rattle.sdl_tokens.specs.Readings.{Reading, read, fails, At, then_read, stands_for, either, many_for, many, choice, give, token, prepend, Shortens}
+use Rattle.sdl_tokens.specs.Readings as reading
 
 abbrev pub first : List Token → Option Token
 first [] = None

@@ -2,13 +2,13 @@
 use Rattle.std.proofs.Common.{◌≡◌, ℕ, ◌<◌, ◌≤◌, max, Bool, true, false, List, [], ◌∷◌, Option, Some, None, refl, ap, subst, ◌∙◌, arith}
 use Rattle.std.specs.Prelude.{nat_lt, if◌then◌else◌}
 use borrow.Author.Tests.{ltb-true, ltb-false}
-use Rattle.sdl_tree.specs.Limits.{GREATEST_HEIGHT}
-use Rattle.sdl_tree.specs.Plain.{Tree, number, truth, variable, unary, binary, PlainAction, Text, falls, ends, does, decides, Choice, nothing_else, otherwise, answer, PlainClause, input, save, PlainProcess, PlainEntity, signals, route, connect, process, PlainBlock}
-use Rattle.sdl_tree.specs.declared.tree.Decision.{Decision, out-Decision}
-use Rattle.sdl_tree.specs.declared.tree.Statement.TheVariants.{Decide}
-use Rattle.sdl_tree.specs.Views.{tree_of, statement_of, choice_of}
-use Rattle.sdl_tree.proofs.Views.{statement_of-decide}
-use Rattle.sdl_tree.specs.Heights.{tree_height, highest, action_height, text_height, choice_height, decision_height, high_in_decision, high_in_choice, clause_height, state_height, connection_height, process_height, entity_height, Height, or_first, first_of, lesser, place_of_action, high_in_action, high_in_text, high_in_clause, high_in_state, high_in_connection, high_in_process, high_in_entity, first_too_high}
+use Rattle.sdl_ast.specs.Limits.{GREATEST_HEIGHT}
+use Rattle.sdl_ast.specs.Plain.{Tree, number, truth, variable, unary, binary, PlainAction, Text, falls, ends, does, decides, Choice, nothing_else, otherwise, answer, PlainClause, input, save, PlainProcess, PlainEntity, signals, route, connect, process, PlainBlock}
+use Rattle.sdl_ast.specs.declared.tree.Decision.{Decision, out-Decision}
+use Rattle.sdl_ast.specs.declared.tree.Statement.TheVariants.{Decide}
+use Rattle.sdl_ast.specs.Views.{tree_of, statement_of, choice_of}
+use Rattle.sdl_ast.proofs.Views.{statement_of-decide}
+use Rattle.sdl_ast.specs.Heights.{tree_height, highest, action_height, text_height, choice_height, decision_height, high_in_decision, high_in_choice, clause_height, state_height, connection_height, process_height, entity_height, Height, or_first, first_of, lesser, place_of_action, high_in_action, high_in_text, high_in_clause, high_in_state, high_in_connection, high_in_process, high_in_entity, first_too_high}
 
 -- a height beside the first place that is too high
 pub Judged : ℕ → Option ℕ → Type 0

@@ -1,17 +1,18 @@
 -- The machine on expressions decides their grammar.
 use Rattle.std.proofs.Common.{◌≡◌, ℕ, false, List, [], ◌∷◌, ◌++◌, Option, Some, None, is_some, refl, sym, ap, subst, ◌∙◌}
 use Rattle.sdl_lex.specs.declared.lexemes.Token.{Token}
-use Rattle.sdl_tree.specs.declared.expression.UnaryOperator.{UnaryOperator}
-use Rattle.sdl_tree.specs.declared.expression.UnaryOperator.TheVariants.{Negate, Not}
-use Rattle.sdl_tree.specs.declared.expression.BinaryOperator.{BinaryOperator}
-use Rattle.sdl_tree.specs.declared.expression.BinaryOperator.TheVariants.{Subtract}
-use Rattle.sdl_tree.specs.declared.level.Level.{Level}
-use Rattle.sdl_tree.specs.declared.level.Level.TheVariants.{Disjunctions, Conjunctions, Relations, Sums, Products}
-use Rattle.sdl_tree.specs.Plain.{Tree, unary, binary}
-use Rattle.sdl_tree.specs.Expressions.{Sign, leaf, joins, minus, denies, opens, closes, other, sign, between, in_front, place_of, placed, Disjunction, one_conjunction, disjoined, Conjunction, one_relation, conjoined, Relation, one_sum, related, Sum, one_product, summed, Product, one_factor, multiplied, Factor, bare, led, Primary, operand, in_parentheses, goes_on, Expressed, expression_syntax}
-use Rattle.sdl_tree.specs.Readings.{Reading, read, fails}
-use Rattle.sdl_tree.specs.Machine.{Build, whole_trees, Terms, Tests, Frame, no_terms, no_tests, empty_frame, led_by, joined_to, closed_product, closed_terms, closed_relation, closed_conjunction, closed_tests, closed, with_operator, with_lead, bars, State, wants, has, Turn, goes, done, stuck, unless, lead_turn, join_turn, want_turn, close_turn, end_turn, have_turn, turn, after_turn, run, expression_at}
-use Rattle.sdl_tree.proofs.Decides.{first, rest_of, with_rest, Seen, Decides}
+use Rattle.sdl_ast.specs.declared.expression.UnaryOperator.{UnaryOperator}
+use Rattle.sdl_ast.specs.declared.expression.UnaryOperator.TheVariants.{Negate, Not}
+use Rattle.sdl_ast.specs.declared.expression.BinaryOperator.{BinaryOperator}
+use Rattle.sdl_ast.specs.declared.expression.BinaryOperator.TheVariants.{Subtract}
+use Rattle.sdl_expressions.specs.declared.level.Level.{Level}
+use Rattle.sdl_expressions.specs.declared.level.Level.TheVariants.{Disjunctions, Conjunctions, Relations, Sums, Products}
+use Rattle.sdl_ast.specs.Plain.{Tree, unary, binary}
+use Rattle.sdl_expressions.specs.Expressions.{Sign, leaf, joins, minus, denies, opens, closes, other, sign, between, in_front, Disjunction, one_conjunction, disjoined, Conjunction, one_relation, conjoined, Relation, one_sum, related, Sum, one_product, summed, Product, one_factor, multiplied, Factor, bare, led, Primary, operand, in_parentheses, goes_on, Expressed, expression_syntax}
+use Rattle.sdl_ast.specs.Places.{place_of, placed}
+use Rattle.sdl_tokens.specs.Readings.{Reading, read, fails}
+use Rattle.sdl_expressions.specs.Machine.{Build, whole_trees, Terms, Tests, Frame, no_terms, no_tests, empty_frame, led_by, joined_to, closed_product, closed_terms, closed_relation, closed_conjunction, closed_tests, closed, with_operator, with_lead, bars, State, wants, has, Turn, goes, done, stuck, unless, lead_turn, join_turn, want_turn, close_turn, end_turn, have_turn, turn, after_turn, run, expression_at}
+use Rattle.sdl_tokens.proofs.Decides.{first, rest_of, with_rest, Seen, Decides}
 
 pub run_goes : (b : Build) (s s' : State) (t : Token) (ts : List Token) → turn b s (sign t) ≡ goes s' → run b s (t ∷ ts) ≡ run b s' ts
 unfolding run

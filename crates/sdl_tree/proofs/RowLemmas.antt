@@ -2,12 +2,12 @@
 use Rattle.std.proofs.Common.{◌≡◌, ℕ, ◌<◌, ◌≤◌, true, false, List, [], ◌∷◌, ◌++◌, Option, length, map, refl, sym, ap, ◌∙◌, append_assoc, append-nil, arith}
 use Rattle.sdl_lex.specs.declared.lexemes.Token.{Token}
 use Rattle.sdl_lex.specs.declared.lexemes.Symbol.TheVariants.{Comma}
-use Rattle.sdl_tree.specs.Tokens.{begins, a_symbol}
-use Rattle.sdl_tree.specs.Readings.{Reading, read, fails, At, then_read, many, token, give, prepend, Shortens, NeverLonger, behind_comma, separated_from}
-use Rattle.sdl_tree.specs.Mirrors.{Stops}
-use Rattle.sdl_tree.specs.declared.stop.Stop.{Stop}
-use Rattle.sdl_tree.specs.declared.stop.Stop.TheVariants.{Unexpected, NoMemory}
-use Rattle.sdl_tree.proofs.Rows.{many_goes, many_stops, many_fails, shortens_token}
+use Rattle.sdl_tokens.specs.Tokens.{begins, a_symbol}
+use Rattle.sdl_tokens.specs.Readings.{Reading, read, fails, At, then_read, many, token, give, prepend, Shortens, NeverLonger, behind_comma, separated_from}
+use Rattle.sdl_tokens.specs.Mirrors.{Stops}
+use Rattle.sdl_tokens.specs.declared.stop.Stop.{Stop}
+use Rattle.sdl_tokens.specs.declared.stop.Stop.TheVariants.{Unexpected, NoMemory}
+use Rattle.sdl_tokens.proofs.Rows.{many_goes, many_stops, many_fails, shortens_token}
 
 prepend-append : {A : Type 0} (xs ys : List A) (r : Reading (List A)) → prepend xs (prepend ys r) ≡ prepend (xs ++ ys) r
 prepend-append xs ys (read zs us) = ap (λ l. read l us) (sym (append_assoc xs ys zs))

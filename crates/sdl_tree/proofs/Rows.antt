@@ -2,12 +2,12 @@
 use Rattle.std.proofs.Common.{◌≡◌, ℕ, suc, zero, ◌+◌, ◌<◌, ◌≤◌, Bool, true, false, List, [], ◌∷◌, ◌++◌, Option, Some, None, length, refl, sym, ap, subst, ◌∙◌, append_assoc, arith, length-append}
 use Rattle.sdl_lex.specs.declared.lexemes.Token.{Token}
 use Rattle.sdl_lex.specs.declared.lexemes.Symbol.TheVariants.{Open, Close, Comma}
-use Rattle.sdl_tree.specs.Tokens.{begins, a_symbol}
-use Rattle.sdl_tree.specs.Grammar as grammar
-use Rattle.sdl_tree.specs.Grammar.{Grammar, Many, no_more, one_more}
-use Rattle.sdl_tree.specs.Readings.{Reading, read, fails, At, then_read, stands_for, either, many_for, many, choice, give, token, prepend, Shortens}
-use Rattle.sdl_tree.specs.Readings as reading
-use Rattle.sdl_tree.proofs.Decides.{first, rest_of, with_rest, Seen, Decides, first-append, begins-first, give_decides, token_decides, ◌>>=◌, choice_decides}
+use Rattle.sdl_tokens.specs.Tokens.{begins, a_symbol}
+use Rattle.sdl_tokens.specs.Grammar as grammar
+use Rattle.sdl_tokens.specs.Grammar.{Grammar, Many, no_more, one_more}
+use Rattle.sdl_tokens.specs.Readings.{Reading, read, fails, At, then_read, stands_for, either, many_for, many, choice, give, token, prepend, Shortens}
+use Rattle.sdl_tokens.specs.Readings as reading
+use Rattle.sdl_tokens.proofs.Decides.{first, rest_of, with_rest, Seen, Decides, first-append, begins-first, give_decides, token_decides, ◌>>=◌, choice_decides}
 
 pub shortens_token : {A : Type 0} (f : Token → Option A) → Shortens (token f)
 shortens_token f [] x us h = cc

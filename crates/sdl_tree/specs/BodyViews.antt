@@ -7,7 +7,8 @@ use Rattle.sdl_tree.specs.declared.statements.Reached as the_reached
 use Rattle.sdl_tree.specs.declared.statements.Move as the_move
 use Rattle.sdl_tree.specs.declared.statements.Move.TheVariants as moves
 use Rattle.sdl_tree.specs.Bodies.{Branching, Body, Reached, Move, reaches, closes}
-use Rattle.sdl_tree.specs.Views.{plain_statement, plain_answer, question_of, head_of, text_of}
+use Rattle.sdl_ast.specs.Views.{plain_statement, plain_answer, text_of}
+use Rattle.sdl_tree.specs.BodyViews.{question_of, head_of}
 
 abbrev pub branching_view : the_branching.Branching → Branching
 branching_view b = record { before = map plain_statement b.before.items; asked = question_of b.asked; answers = map plain_answer b.answers.items }

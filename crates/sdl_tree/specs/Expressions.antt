@@ -8,14 +8,14 @@ use Rattle.sdl_lex.specs.declared.lexemes.Symbol.{Symbol}
 use Rattle.sdl_lex.specs.declared.lexemes.Symbol.TheVariants as symbols
 use Rattle.sdl_lex.specs.declared.lexemes.Word.{Word}
 use Rattle.sdl_lex.specs.declared.lexemes.Word.TheVariants as words
-use Rattle.sdl_tree.specs.declared.expression.UnaryOperator.{UnaryOperator}
-use Rattle.sdl_tree.specs.declared.expression.UnaryOperator.TheVariants.{Negate, Not}
-use Rattle.sdl_tree.specs.declared.expression.BinaryOperator.{BinaryOperator}
-use Rattle.sdl_tree.specs.declared.expression.BinaryOperator.TheVariants.{Or, Xor, And, Equal, NotEqual, Less, LessEqual, Greater, GreaterEqual, Add, Subtract, Multiply, Divide, Modulo, Remainder}
-use Rattle.sdl_tree.specs.declared.level.Level.{Level}
-use Rattle.sdl_tree.specs.declared.level.Level.TheVariants.{Disjunctions, Conjunctions, Relations, Sums, Products}
-use Rattle.sdl_tree.specs.Plain.{Tree, number, truth, variable, unary, binary}
-use Rattle.sdl_tree.specs.Grammar.{Grammar}
+use Rattle.sdl_ast.specs.declared.expression.UnaryOperator.{UnaryOperator}
+use Rattle.sdl_ast.specs.declared.expression.UnaryOperator.TheVariants.{Negate, Not}
+use Rattle.sdl_ast.specs.declared.expression.BinaryOperator.{BinaryOperator}
+use Rattle.sdl_ast.specs.declared.expression.BinaryOperator.TheVariants.{Or, Xor, And, Equal, NotEqual, Less, LessEqual, Greater, GreaterEqual, Add, Subtract, Multiply, Divide, Modulo, Remainder}
+use Rattle.sdl_expressions.specs.declared.level.Level.{Level}
+use Rattle.sdl_expressions.specs.declared.level.Level.TheVariants.{Disjunctions, Conjunctions, Relations, Sums, Products}
+use Rattle.sdl_ast.specs.Plain.{Tree, number, truth, variable, unary, binary}
+use Rattle.sdl_tokens.specs.Grammar.{Grammar}
 
 -- What a token is in an expression, some at a place.
 pub data Sign : Type 0 where

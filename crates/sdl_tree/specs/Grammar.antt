@@ -2,7 +2,7 @@
 use Rattle.std.specs.Prelude.{◌≡◌, true, false, List, [], ◌∷◌, Option, Some, None, MatchBool}
 use Rattle.sdl_lex.specs.declared.lexemes.Token.{Token}
 use Rattle.sdl_lex.specs.declared.lexemes.Symbol.TheVariants.{Open, Close, Comma}
-use Rattle.sdl_tree.specs.Tokens.{begins, a_symbol}
+use Rattle.sdl_tokens.specs.Tokens.{begins, a_symbol}
 
 -- A grammar of A says of a list of tokens, an A and a second list that the tokens read as this A
 -- up to the second list, which is what stands behind it.

@@ -3,11 +3,11 @@ use Rattle.std.specs.Prelude.{◌≡◌, ℕ, ◌+◌, ◌<◌, ◌≤◌, max, 
 use Rattle.sdl_lex.specs.declared.lexemes.Token.{Token}
 use Rattle.sdl_tree.specs.declared.fault.ParseFault.{ParseFault}
 use Rattle.sdl_tree.specs.declared.fault.ParseFault.TheVariants.{Unexpected, TooDeep, NoMemory}
-use Rattle.sdl_tree.specs.declared.tree.Block.{Block}
-use Rattle.sdl_tree.specs.Limits.{GREATEST_HEIGHT}
-use Rattle.sdl_tree.specs.Plain.{Tree, number, truth, variable, unary, binary, PlainAssignment, PlainSending, PlainAction, task, output, set_timer, reset_timer, Text, falls, ends, does, decides, Choice, nothing_else, otherwise, answer, PlainClause, input, save, PlainState, PlainConnection, PlainProcess, PlainEntity, signals, route, connect, process, PlainBlock}
+use Rattle.sdl_ast.specs.declared.tree.Block.{Block}
+use Rattle.sdl_ast.specs.Limits.{GREATEST_HEIGHT}
+use Rattle.sdl_ast.specs.Plain.{Tree, number, truth, variable, unary, binary, PlainAssignment, PlainSending, PlainAction, task, output, set_timer, reset_timer, Text, falls, ends, does, decides, Choice, nothing_else, otherwise, answer, PlainClause, input, save, PlainState, PlainConnection, PlainProcess, PlainEntity, signals, route, connect, process, PlainBlock}
 use Rattle.sdl_tree.specs.Syntax.{Reads}
-use Rattle.sdl_tree.specs.Views.{block_of}
+use Rattle.sdl_ast.specs.Views.{block_of}
 
 -- 1 for an operand, one more than its highest operand for an operator
 abbrev pub tree_height : Tree → ℕ

@@ -2,17 +2,18 @@
 -- place for each level of precedence.
 use Rattle.std.specs.Prelude.{ℕ, zero, suc, Bool, true, false, List, [], ◌∷◌, Option, Some, None, is_some, nat_lt, if◌then◌else◌}
 use Rattle.sdl_lex.specs.declared.lexemes.Token.{Token}
-use Rattle.sdl_tree.specs.declared.expression.UnaryOperator.{UnaryOperator}
-use Rattle.sdl_tree.specs.declared.expression.UnaryOperator.TheVariants.{Negate, Not}
-use Rattle.sdl_tree.specs.declared.expression.BinaryOperator.{BinaryOperator}
-use Rattle.sdl_tree.specs.declared.expression.BinaryOperator.TheVariants.{Subtract}
-use Rattle.sdl_tree.specs.declared.level.Level.{Level}
-use Rattle.sdl_tree.specs.declared.level.Level.TheVariants.{Disjunctions, Conjunctions, Relations, Sums, Products}
-use Rattle.sdl_tree.specs.Limits.{GREATEST_HEIGHT}
-use Rattle.sdl_tree.specs.Plain.{Tree, number, truth, variable, unary, binary, Choice, nothing_else, PlainStatement, decide}
-use Rattle.sdl_tree.specs.Expressions.{Sign, leaf, joins, minus, denies, opens, closes, other, sign, place_of, placed}
-use Rattle.sdl_tree.specs.Heights.{tree_height, decision_height}
-use Rattle.sdl_tree.specs.Readings.{Reading, read, fails, At}
+use Rattle.sdl_ast.specs.declared.expression.UnaryOperator.{UnaryOperator}
+use Rattle.sdl_ast.specs.declared.expression.UnaryOperator.TheVariants.{Negate, Not}
+use Rattle.sdl_ast.specs.declared.expression.BinaryOperator.{BinaryOperator}
+use Rattle.sdl_ast.specs.declared.expression.BinaryOperator.TheVariants.{Subtract}
+use Rattle.sdl_expressions.specs.declared.level.Level.{Level}
+use Rattle.sdl_expressions.specs.declared.level.Level.TheVariants.{Disjunctions, Conjunctions, Relations, Sums, Products}
+use Rattle.sdl_ast.specs.Limits.{GREATEST_HEIGHT}
+use Rattle.sdl_ast.specs.Plain.{Tree, number, truth, variable, unary, binary, Choice, nothing_else, PlainStatement, decide}
+use Rattle.sdl_expressions.specs.Expressions.{Sign, leaf, joins, minus, denies, opens, closes, other, sign}
+use Rattle.sdl_ast.specs.Places.{place_of, placed}
+use Rattle.sdl_ast.specs.Heights.{tree_height, decision_height}
+use Rattle.sdl_tokens.specs.Readings.{Reading, read, fails, At}
 
 -- how an operator is put on operands, and a DECISION on its question and answers
 pub record Build : Type 0 where

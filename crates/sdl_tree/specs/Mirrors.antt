@@ -2,9 +2,9 @@
 use Rattle.std.specs.Prelude.{◌≡◌, List, Result, Ok, Err}
 use Rattle.std.specs.Borrow.{Bor}
 use Rattle.sdl_lex.specs.declared.lexemes.Token.{Token}
-use Rattle.sdl_tree.specs.declared.stop.Stop.{Stop}
-use Rattle.sdl_tree.specs.declared.stop.Stop.TheVariants.{Unexpected, NoMemory}
-use Rattle.sdl_tree.specs.Readings.{Reading, read, fails}
+use Rattle.sdl_tokens.specs.declared.stop.Stop.{Stop}
+use Rattle.sdl_tokens.specs.declared.stop.Stop.TheVariants.{Unexpected, NoMemory}
+use Rattle.sdl_tokens.specs.Readings.{Reading, read, fails}
 
 -- the tokens from the bad one on; want of memory says nothing
 abbrev pub Stops : {B : Type 0} → Stop → Reading B → Type 0

@@ -2,7 +2,7 @@
 use Rattle.std.specs.Prelude.{◌≡◌, ℕ, Bool, true, false, List, [], ◌∷◌, ◌++◌, Option, Some, None, length, suc, zero, ◌<◌, ◌≤◌}
 use Rattle.sdl_lex.specs.declared.lexemes.Token.{Token}
 use Rattle.sdl_lex.specs.declared.lexemes.Symbol.TheVariants.{Open, Close, Comma}
-use Rattle.sdl_tree.specs.Tokens.{begins, a_symbol}
+use Rattle.sdl_tokens.specs.Tokens.{begins, a_symbol}
 
 -- a thing, and the tokens behind it; or the tokens from the first one with which nothing can go on
 pub data Reading (A : Type 0) : Type 0 where

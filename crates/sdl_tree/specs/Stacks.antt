@@ -1,26 +1,26 @@
 -- What the code's stack of operands stands for.
 use Rattle.std.specs.Prelude.{◌≡◌, ◌<◌, Option, None, Some, List, [], ◌∷◌, map, reverse, length}
 use Rattle.sdl_lex.specs.declared.lexemes.Token.{Token}
-use Rattle.sdl_tree.specs.declared.operands.Sign as the_sign
-use Rattle.sdl_tree.specs.declared.operands.Sign.TheVariants as signs
-use Rattle.sdl_tree.specs.declared.operands.Terms as the_terms
-use Rattle.sdl_tree.specs.declared.operands.Tests as the_tests
-use Rattle.sdl_tree.specs.declared.operands.Frame as the_frame
-use Rattle.sdl_tree.specs.declared.operands.State as the_state
-use Rattle.sdl_tree.specs.declared.operands.Turn as the_turn
-use Rattle.sdl_tree.specs.declared.operands.Turn.TheVariants as turns
-use Rattle.sdl_tree.specs.declared.part.Part.{Part}
-use Rattle.sdl_tree.specs.Plain.{number, truth, variable}
-use Rattle.sdl_tree.specs.Expressions.{Sign, leaf, joins, minus, denies, opens, closes, other, sign}
+use Rattle.sdl_expressions.specs.declared.signs.Sign as the_sign
+use Rattle.sdl_expressions.specs.declared.signs.Sign.TheVariants as signs
+use Rattle.sdl_expressions.specs.declared.frames.Terms as the_terms
+use Rattle.sdl_expressions.specs.declared.frames.Tests as the_tests
+use Rattle.sdl_expressions.specs.declared.frames.Frame as the_frame
+use Rattle.sdl_expressions.specs.declared.operands.State as the_state
+use Rattle.sdl_expressions.specs.declared.operands.Turn as the_turn
+use Rattle.sdl_expressions.specs.declared.operands.Turn.TheVariants as turns
+use Rattle.sdl_expressions.specs.declared.part.Part.{Part}
+use Rattle.sdl_ast.specs.Plain.{number, truth, variable}
+use Rattle.sdl_expressions.specs.Expressions.{Sign, leaf, joins, minus, denies, opens, closes, other, sign}
 use Rattle.std.specs.Prelude.{Result, Ok, Err}
-use Rattle.sdl_tree.specs.declared.operands.Step as the_step
-use Rattle.sdl_tree.specs.declared.operands.Step.TheVariants as steps
-use Rattle.sdl_tree.specs.declared.stop.Stop.{Stop}
-use Rattle.sdl_tree.specs.Readings.{read}
-use Rattle.sdl_tree.specs.Mirrors.{Stops}
-use Rattle.sdl_tree.specs.Machine.{run, low_trees, Terms, Tests, Frame, State, wants, has, Turn, goes, done, stuck}
-use Rattle.sdl_tree.specs.Parts.{slot_view}
-use Rattle.sdl_tree.specs.Views.{tree_of}
+use Rattle.sdl_expressions.specs.declared.operands.Step as the_step
+use Rattle.sdl_expressions.specs.declared.operands.Step.TheVariants as steps
+use Rattle.sdl_tokens.specs.declared.stop.Stop.{Stop}
+use Rattle.sdl_tokens.specs.Readings.{read}
+use Rattle.sdl_tokens.specs.Mirrors.{Stops}
+use Rattle.sdl_expressions.specs.Machine.{run, low_trees, Terms, Tests, Frame, State, wants, has, Turn, goes, done, stuck}
+use Rattle.sdl_expressions.specs.Parts.{slot_view}
+use Rattle.sdl_ast.specs.Views.{tree_of}
 
 abbrev pub sign_view : the_sign.Sign → Sign
 sign_view (signs.Number at value) = leaf (number at value)

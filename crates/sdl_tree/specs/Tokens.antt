@@ -9,19 +9,19 @@ use Rattle.sdl_lex.specs.declared.lexemes.Symbol.TheVariants as symbols
 use Rattle.sdl_lex.specs.declared.lexemes.Lexeme.{Lexeme}
 use Rattle.sdl_lex.specs.declared.lexemes.Lexeme.TheVariants as lexemes
 use Rattle.sdl_lex.specs.declared.lexemes.Token.{Token}
-use Rattle.sdl_tree.specs.declared.expression.Identifier.{Identifier}
-use Rattle.sdl_tree.specs.declared.tree.Sort.{Sort}
-use Rattle.sdl_tree.specs.declared.tree.Sort.TheVariants as sorts
-use Rattle.sdl_tree.specs.declared.tree.Party.{Party}
-use Rattle.sdl_tree.specs.declared.tree.Party.TheVariants as parties
-use Rattle.sdl_tree.specs.declared.tree.Destination.{Destination}
-use Rattle.sdl_tree.specs.declared.tree.Destination.TheVariants as destinations
-use Rattle.sdl_tree.specs.declared.tree.Literal.{Literal}
-use Rattle.sdl_tree.specs.declared.tree.Literal.TheVariants as literals
-use Rattle.sdl_tree.specs.declared.tree.Constant.{Constant}
-use Rattle.sdl_tree.specs.declared.tree.Relation.{Relation}
-use Rattle.sdl_tree.specs.declared.tree.Relation.TheVariants as relations
-use Rattle.sdl_tree.specs.declared.comparison.Comparison.{Comparison}
+use Rattle.sdl_ast.specs.declared.expression.Identifier.{Identifier}
+use Rattle.sdl_ast.specs.declared.tree.Sort.{Sort}
+use Rattle.sdl_ast.specs.declared.tree.Sort.TheVariants as sorts
+use Rattle.sdl_ast.specs.declared.tree.Party.{Party}
+use Rattle.sdl_ast.specs.declared.tree.Party.TheVariants as parties
+use Rattle.sdl_ast.specs.declared.tree.Destination.{Destination}
+use Rattle.sdl_ast.specs.declared.tree.Destination.TheVariants as destinations
+use Rattle.sdl_ast.specs.declared.tree.Literal.{Literal}
+use Rattle.sdl_ast.specs.declared.tree.Literal.TheVariants as literals
+use Rattle.sdl_ast.specs.declared.tree.Constant.{Constant}
+use Rattle.sdl_ast.specs.declared.tree.Relation.{Relation}
+use Rattle.sdl_ast.specs.declared.tree.Relation.TheVariants as relations
+use Rattle.sdl_tokens.specs.declared.comparison.Comparison.{Comparison}
 
 -- the words and the symbols, numbered in the order of their declaration
 abbrev pub word_number : Word → ℕ

@@ -1,39 +1,39 @@
 -- From the tree that the code holds to the plain tree.
 use Rattle.std.specs.Prelude.{List, [], ◌∷◌, map, Option, None, Some}
-use Rattle.sdl_tree.specs.Plain.{Tree, number, truth, variable, unary, binary, PlainAssignment, PlainSending, PlainAction, task, output, set_timer, reset_timer, Text, falls, ends, Choice, nothing_else, otherwise, PlainStatement, act, decide, PlainAnswer, before, all_before, all_answers, PlainConnection, PlainStimulus, PlainInput, PlainClause, input, save, PlainState, PlainSection, in_state, in_connection, PlainQuestion, PlainHead, PlainStart, PlainGroup, PlainDeclaration, variables, timers, PlainProcess, PlainPath, PlainRoute, PlainSignal, PlainEntity, signals, route, connect, process, PlainBlock}
-use Rattle.sdl_tree.specs.declared.expression.Expression.{Expression, Number, Truth, Variable, Unary', Binary'}
-use Rattle.sdl_tree.specs.declared.tree.Assignment.{Assignment}
-use Rattle.sdl_tree.specs.declared.tree.Action.{Action}
-use Rattle.sdl_tree.specs.declared.tree.Action.TheVariants.{Task, Output, Set, Reset}
-use Rattle.sdl_tree.specs.declared.tree.Sending.{Sending}
-use Rattle.sdl_tree.specs.declared.tree.End.{End}
-use Rattle.sdl_tree.specs.declared.tree.Transition.{Transition}
-use Rattle.sdl_tree.specs.declared.tree.Statement.{Statement}
-use Rattle.sdl_tree.specs.declared.tree.Decision.{Decision, out-Decision}
-use Rattle.sdl_tree.specs.declared.tree.Answer.{Answer}
-use Rattle.sdl_tree.specs.declared.tree.Connection.{Connection}
-use Rattle.sdl_tree.specs.declared.tree.Statement.TheOpen.{Answer-F, Decision-F, Statement-F, Transition-F}
-use Rattle.sdl_tree.specs.declared.tree.Statement.TheFolds.{fold-Transition, fold-Statement, fold-Decision, fold-Answer}
-use Rattle.sdl_tree.specs.declared.tree.Stimulus.{Stimulus}
-use Rattle.sdl_tree.specs.declared.tree.InputPart.{InputPart}
-use Rattle.sdl_tree.specs.declared.tree.StateClause.{StateClause}
-use Rattle.sdl_tree.specs.declared.tree.StateClause.TheVariants.{Input, Save}
-use Rattle.sdl_tree.specs.declared.tree.StatePart.{StatePart}
-use Rattle.sdl_tree.specs.declared.tree.Start.{Start}
+use Rattle.sdl_ast.specs.Plain.{Tree, number, truth, variable, unary, binary, PlainAssignment, PlainSending, PlainAction, task, output, set_timer, reset_timer, Text, falls, ends, Choice, nothing_else, otherwise, PlainStatement, act, decide, PlainAnswer, before, all_before, all_answers, PlainConnection, PlainStimulus, PlainInput, PlainClause, input, save, PlainState, PlainSection, in_state, in_connection, PlainQuestion, PlainHead, PlainStart, PlainGroup, PlainDeclaration, variables, timers, PlainProcess, PlainPath, PlainRoute, PlainSignal, PlainEntity, signals, route, connect, process, PlainBlock}
+use Rattle.sdl_ast.specs.declared.expression.Expression.{Expression, Number, Truth, Variable, Unary', Binary'}
+use Rattle.sdl_ast.specs.declared.tree.Assignment.{Assignment}
+use Rattle.sdl_ast.specs.declared.tree.Action.{Action}
+use Rattle.sdl_ast.specs.declared.tree.Action.TheVariants.{Task, Output, Set, Reset}
+use Rattle.sdl_ast.specs.declared.tree.Sending.{Sending}
+use Rattle.sdl_ast.specs.declared.tree.End.{End}
+use Rattle.sdl_ast.specs.declared.tree.Transition.{Transition}
+use Rattle.sdl_ast.specs.declared.tree.Statement.{Statement}
+use Rattle.sdl_ast.specs.declared.tree.Decision.{Decision, out-Decision}
+use Rattle.sdl_ast.specs.declared.tree.Answer.{Answer}
+use Rattle.sdl_ast.specs.declared.tree.Connection.{Connection}
+use Rattle.sdl_ast.specs.declared.tree.Statement.TheOpen.{Answer-F, Decision-F, Statement-F, Transition-F}
+use Rattle.sdl_ast.specs.declared.tree.Statement.TheFolds.{fold-Transition, fold-Statement, fold-Decision, fold-Answer}
+use Rattle.sdl_ast.specs.declared.tree.Stimulus.{Stimulus}
+use Rattle.sdl_ast.specs.declared.tree.InputPart.{InputPart}
+use Rattle.sdl_ast.specs.declared.tree.StateClause.{StateClause}
+use Rattle.sdl_ast.specs.declared.tree.StateClause.TheVariants.{Input, Save}
+use Rattle.sdl_ast.specs.declared.tree.StatePart.{StatePart}
+use Rattle.sdl_ast.specs.declared.tree.Start.{Start}
 use Rattle.sdl_tree.specs.declared.answers.Question.{Question}
 use Rattle.sdl_tree.specs.declared.answers.Head.{Head}
 use Rattle.sdl_tree.specs.declared.transitions.Section as the_section
 use Rattle.sdl_tree.specs.declared.transitions.Section.TheVariants as sections
-use Rattle.sdl_tree.specs.declared.tree.Group.{Group}
-use Rattle.sdl_tree.specs.declared.tree.Declaration.{Declaration}
-use Rattle.sdl_tree.specs.declared.tree.Declaration.TheVariants.{Variables, Timers}
-use Rattle.sdl_tree.specs.declared.tree.Process as the_process
-use Rattle.sdl_tree.specs.declared.tree.Path as the_path
-use Rattle.sdl_tree.specs.declared.tree.Route as the_route
-use Rattle.sdl_tree.specs.declared.tree.SignalDeclaration.{SignalDeclaration}
-use Rattle.sdl_tree.specs.declared.tree.Entity.{Entity}
-use Rattle.sdl_tree.specs.declared.tree.Entity.TheVariants.{Signals, Route, Connect, Process}
-use Rattle.sdl_tree.specs.declared.tree.Block.{Block}
+use Rattle.sdl_ast.specs.declared.tree.Group.{Group}
+use Rattle.sdl_ast.specs.declared.tree.Declaration.{Declaration}
+use Rattle.sdl_ast.specs.declared.tree.Declaration.TheVariants.{Variables, Timers}
+use Rattle.sdl_ast.specs.declared.tree.Process as the_process
+use Rattle.sdl_ast.specs.declared.tree.Path as the_path
+use Rattle.sdl_ast.specs.declared.tree.Route as the_route
+use Rattle.sdl_ast.specs.declared.tree.SignalDeclaration.{SignalDeclaration}
+use Rattle.sdl_ast.specs.declared.tree.Entity.{Entity}
+use Rattle.sdl_ast.specs.declared.tree.Entity.TheVariants.{Signals, Route, Connect, Process}
+use Rattle.sdl_ast.specs.declared.tree.Block.{Block}
 
 abbrev pub tree_of : Expression → Tree
 tree_of (Number at value) = number at value

@@ -1,13 +1,13 @@
 //! Processes, and the block that holds them.
 ghost use Rattle.std.specs.Prelude.{◌≡◌, ℕ};
 ghost use Rattle.sdl_lex.specs.declared.lexemes.Symbol.TheVariants as symbols;
-ghost use Rattle.sdl_tree.specs.Readings.{token, optional};
-ghost use Rattle.sdl_tree.specs.Machine.{low_trees};
-ghost use Rattle.sdl_tree.specs.Plain.{PlainEntity};
+ghost use Rattle.sdl_tokens.specs.Readings.{token, optional};
+ghost use Rattle.sdl_expressions.specs.Machine.{low_trees};
+ghost use Rattle.sdl_ast.specs.Plain.{PlainEntity};
 ghost use Rattle.sdl_tree.specs.Productions.{second_number_at, instances_at, process_head_at, process_at, entity_at, block_at};
-ghost use Rattle.sdl_tree.specs.Tokens.{a_number, a_one, a_symbol, an_entity};
-ghost use Rattle.sdl_tree.specs.Views.{entity_of, block_of};
-ghost use Rattle.sdl_tree.specs.Mirrors.{Mirrors, same};
+ghost use Rattle.sdl_tokens.specs.Tokens.{a_number, a_one, a_symbol, an_entity};
+ghost use Rattle.sdl_ast.specs.Views.{entity_of, block_of};
+ghost use Rattle.sdl_tokens.specs.Mirrors.{Mirrors, same};
 ghost use Rattle.sdl_tree.specs.Lengths.{low_entity_takes, low_entity_keeps};
 
 use crate::declarations::{read_connect, read_route, read_signals};

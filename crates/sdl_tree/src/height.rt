@@ -1,9 +1,9 @@
 //! How high the expressions and DECISIONs of a tree are.
 ghost use Rattle.std.specs.Prelude.{◌≡◌, nat_lt, ◌||◌, map, Option};
-ghost use Rattle.sdl_tree.specs.Heights.{tree_height, highest, action_height, text_height, choice_height, decision_height, or_first, assignments_height, sending_height, high_in_action, high_in_decision, high_in_text, high_in_clause, high_in_state, high_in_connection, lesser, high_in_process, high_in_entity, first_too_high, first_of};
-ghost use Rattle.sdl_tree.specs.Plain.{Text};
-ghost use Rattle.sdl_tree.specs.declared.tree.Decision.{out-Decision};
-ghost use Rattle.sdl_tree.specs.Views.{tree_of, assignment_of, sending_of, action_of, statement_of, choice_of, text_of, clause_of, state_of, connection_of, process_of, entity_of, block_of};
+ghost use Rattle.sdl_ast.specs.Heights.{tree_height, highest, action_height, text_height, choice_height, decision_height, or_first, assignments_height, sending_height, high_in_action, high_in_decision, high_in_text, high_in_clause, high_in_state, high_in_connection, lesser, high_in_process, high_in_entity, first_too_high, first_of};
+ghost use Rattle.sdl_ast.specs.Plain.{Text};
+ghost use Rattle.sdl_ast.specs.declared.tree.Decision.{out-Decision};
+ghost use Rattle.sdl_ast.specs.Views.{tree_of, assignment_of, sending_of, action_of, statement_of, choice_of, text_of, clause_of, state_of, connection_of, process_of, entity_of, block_of};
 
 use crate::MAX_HEIGHT;
 use crate::expression::Expression;

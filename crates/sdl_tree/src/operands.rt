@@ -1,12 +1,12 @@
 //! Expressions token by token. Each open parenthesis keeps what stands before it, with a place for
 //! each level of precedence, so that no depth of parentheses needs more than room on the heap.
 ghost use Rattle.std.specs.Prelude.{◌≡◌, ◌<◌, IfOk, length, map, reverse, List, [], ◌∷◌};
-ghost use Rattle.sdl_tree.specs.Expressions.{symbol_sign, word_sign, lexeme_sign};
-ghost use Rattle.sdl_tree.specs.Machine.{wants, led_by, joined_to, no_terms, empty_frame, low_trees, closed_terms, closed_tests, closed, with_product, with_sum, with_relation, with_conjunction, with_disjunction, with_operator, bars, turn, want_turn, lead_turn, join_turn, have_turn, close_turn, end_turn, run, expression_at};
-ghost use Rattle.sdl_tree.specs.Mirrors.{Mirrors};
-ghost use Rattle.sdl_tree.specs.Parts.{slot_view};
-ghost use Rattle.sdl_tree.specs.Stacks.{terms_view, tests_view, frame_view, stack_view, state_view, turn_view, sign_view, next_sign, Advances};
-ghost use Rattle.sdl_tree.specs.Views.{tree_of};
+ghost use Rattle.sdl_expressions.specs.Expressions.{symbol_sign, word_sign, lexeme_sign};
+ghost use Rattle.sdl_expressions.specs.Machine.{wants, led_by, joined_to, no_terms, empty_frame, low_trees, closed_terms, closed_tests, closed, with_product, with_sum, with_relation, with_conjunction, with_disjunction, with_operator, bars, turn, want_turn, lead_turn, join_turn, have_turn, close_turn, end_turn, run, expression_at};
+ghost use Rattle.sdl_tokens.specs.Mirrors.{Mirrors};
+ghost use Rattle.sdl_expressions.specs.Parts.{slot_view};
+ghost use Rattle.sdl_expressions.specs.Stacks.{terms_view, tests_view, frame_view, stack_view, state_view, turn_view, sign_view, next_sign, Advances};
+ghost use Rattle.sdl_ast.specs.Views.{tree_of};
 
 use crate::expression::{BinaryOperator, Expression, Identifier, UnaryOperator};
 use crate::level::Level;

@@ -1,10 +1,10 @@
 //! Operators put on expressions, while they are read.
 ghost use Rattle.std.specs.Prelude.{◌≡◌, ◌≤◌, ◌+◌, IfOk};
-ghost use Rattle.sdl_tree.specs.Plain.{number, truth, variable};
-ghost use Rattle.sdl_tree.specs.Expressions.{place_of, placed};
-ghost use Rattle.sdl_tree.specs.Machine.{low_unary, low_binary, low_trees, led_by, joined_to};
-ghost use Rattle.sdl_tree.specs.Parts.{slot_view};
-ghost use Rattle.sdl_tree.specs.Views.{tree_of};
+ghost use Rattle.sdl_ast.specs.Plain.{number, truth, variable};
+ghost use Rattle.sdl_ast.specs.Places.{place_of, placed};
+ghost use Rattle.sdl_expressions.specs.Machine.{low_unary, low_binary, low_trees, led_by, joined_to};
+ghost use Rattle.sdl_expressions.specs.Parts.{slot_view};
+ghost use Rattle.sdl_ast.specs.Views.{tree_of};
 
 use crate::MAX_HEIGHT;
 use crate::expression::{BinaryOperator, Expression, Identifier, UnaryOperator};

@@ -1,8 +1,8 @@
 //! Expressions while they are read: none is ever much higher than a tree may be.
 ghost use Rattle.std.specs.Prelude.{◌≡◌, ◌≤◌, ◌+◌, IfOk};
-ghost use Rattle.sdl_tree.specs.Limits.{GREATEST_HEIGHT};
-ghost use Rattle.sdl_tree.specs.Heights.{tree_height};
-ghost use Rattle.sdl_tree.specs.Views.{tree_of};
+ghost use Rattle.sdl_ast.specs.Limits.{GREATEST_HEIGHT};
+ghost use Rattle.sdl_ast.specs.Heights.{tree_height};
+ghost use Rattle.sdl_ast.specs.Views.{tree_of};
 
 use crate::expression::Expression;
 

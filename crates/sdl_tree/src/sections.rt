@@ -2,8 +2,9 @@
 ghost use Rattle.std.specs.Prelude.{◌≡◌, ◌++◌, map, OnOk, IfOk, IfErr};
 ghost use Rattle.std.specs.List.{filter_map};
 ghost use Rattle.std.specs.Option.{option_to_list};
-ghost use Rattle.sdl_tree.specs.Plain.{state_in, connection_in};
-ghost use Rattle.sdl_tree.specs.Views.{state_of, connection_of, section_of};
+ghost use Rattle.sdl_ast.specs.Plain.{state_in, connection_in};
+ghost use Rattle.sdl_ast.specs.Views.{state_of, connection_of};
+ghost use Rattle.sdl_tree.specs.BodyViews.{section_of};
 
 use crate::stop::{Stop, push};
 use crate::transitions::Section;

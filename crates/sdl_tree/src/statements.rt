@@ -3,13 +3,14 @@
 ghost use Rattle.std.specs.Prelude.{◌≡◌, ◌++◌, map, IfOk, [], ◌∷◌};
 ghost use Rattle.std.specs.Option.{option_map};
 ghost use Rattle.sdl_tree.specs.BodyViews.{branching_view, bodies_view, reached_view, move_view};
-ghost use Rattle.sdl_tree.specs.Machine.{low_trees, low_decision, raised_by};
-ghost use Rattle.sdl_tree.specs.Limits.{GREATEST_HEIGHT};
-ghost use Rattle.sdl_tree.specs.Mirrors.{Mirrors};
-ghost use Rattle.sdl_tree.specs.Plain.{all_answers};
+ghost use Rattle.sdl_expressions.specs.Machine.{low_trees, low_decision, raised_by};
+ghost use Rattle.sdl_ast.specs.Limits.{GREATEST_HEIGHT};
+ghost use Rattle.sdl_tokens.specs.Mirrors.{Mirrors};
+ghost use Rattle.sdl_ast.specs.Plain.{all_answers};
 ghost use Rattle.sdl_tree.specs.Productions.{head_step, closing_step, answer_step, with_answer, body_step, behind_step, end_step, decision_step, action_step, step_at, text_at};
-ghost use Rattle.sdl_tree.specs.declared.tree.Decision.{out-Decision};
-ghost use Rattle.sdl_tree.specs.Views.{tree_of, text_of, head_of, choice_of, else_choice, plain_statement, plain_answer, plain_decision};
+ghost use Rattle.sdl_ast.specs.declared.tree.Decision.{out-Decision};
+ghost use Rattle.sdl_ast.specs.Views.{tree_of, text_of, choice_of, else_choice, plain_statement, plain_answer, plain_decision};
+ghost use Rattle.sdl_tree.specs.BodyViews.{head_of};
 
 use crate::MAX_HEIGHT;
 use crate::answers::{Head, Question, read_end_decision, read_head, read_question};

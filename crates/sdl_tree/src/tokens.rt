@@ -1,8 +1,8 @@
 //! One token: a word, a symbol, a name, a number.
 ghost use Rattle.std.specs.Prelude.{◌≡◌, IsTrue};
-ghost use Rattle.sdl_tree.specs.Readings.{token};
-ghost use Rattle.sdl_tree.specs.Tokens.{same_word, same_symbol, begins, a_word, a_symbol, a_number, a_name, a_sort, a_truth, environment, a_party, a_destination, a_constant, a_one, a_closing, a_quoted, an_entity, a_declaration, a_clause, an_action, an_end, a_section, a_choice, a_relation, relation_value, sender_value, literal_value};
-ghost use Rattle.sdl_tree.specs.Mirrors.{Mirrors, same};
+ghost use Rattle.sdl_tokens.specs.Readings.{token};
+ghost use Rattle.sdl_tokens.specs.Tokens.{same_word, same_symbol, begins, a_word, a_symbol, a_number, a_name, a_sort, a_truth, environment, a_party, a_destination, a_constant, a_one, a_closing, a_quoted, an_entity, a_declaration, a_clause, an_action, an_end, a_section, a_choice, a_relation, relation_value, sender_value, literal_value};
+ghost use Rattle.sdl_tokens.specs.Mirrors.{Mirrors, same};
 
 use crate::comparison::Comparison;
 use crate::expression::Identifier;

@@ -1,17 +1,17 @@
 -- A copy of a transition without its quoted TASKs, and of a DECISION.
 use Rattle.std.proofs.Common.{Vec, ◌≡◌, ℕ, List, [], ◌∷◌, ◌++◌, Option, None, Some, if◌then◌else◌, map, refl, sym, ap, ◌∙◌}
 use Rattle.std.specs.List.{flat_map}
-use Rattle.sdl_tree.specs.Plain.{PlainAction, task, output, set_timer, reset_timer, Text, does, decides, Choice, answer, PlainStatement, act, decide, PlainAnswer, all_before, all_answers}
-use Rattle.sdl_tree.specs.Views.{plain_statement, plain_answer, plain_decision, text_of, end_text, else_choice, choice_of, answers_before, tree_of, statement_step, answer_step, decision_step, transition_step}
-use Rattle.sdl_tree.specs.declared.tree.Transition.{Transition}
-use Rattle.sdl_tree.specs.declared.tree.Statement.{Statement}
-use Rattle.sdl_tree.specs.declared.tree.Decision.{Decision, out-Decision, roll-Decision, map-Decision}
-use Rattle.sdl_tree.specs.declared.tree.Statement.TheFolds.{fold-roll-Decision}
-use Rattle.sdl_tree.specs.declared.expression.Expression.{Expression}
+use Rattle.sdl_ast.specs.Plain.{PlainAction, task, output, set_timer, reset_timer, Text, does, decides, Choice, answer, PlainStatement, act, decide, PlainAnswer, all_before, all_answers}
+use Rattle.sdl_ast.specs.Views.{plain_statement, plain_answer, plain_decision, text_of, end_text, else_choice, choice_of, answers_before, tree_of, statement_step, answer_step, decision_step, transition_step}
+use Rattle.sdl_ast.specs.declared.tree.Transition.{Transition}
+use Rattle.sdl_ast.specs.declared.tree.Statement.{Statement}
+use Rattle.sdl_ast.specs.declared.tree.Decision.{Decision, out-Decision, roll-Decision, map-Decision}
+use Rattle.sdl_ast.specs.declared.tree.Statement.TheFolds.{fold-roll-Decision}
+use Rattle.sdl_ast.specs.declared.expression.Expression.{Expression}
 use Rattle.std.specs.declared.alloc.Global.{Global}
-use Rattle.sdl_tree.specs.declared.tree.Answer.{Answer}
-use Rattle.sdl_tree.specs.declared.tree.End.{End}
-use Rattle.sdl_tree.proofs.Views.{text_of-is, plain_decision-is}
+use Rattle.sdl_ast.specs.declared.tree.Answer.{Answer}
+use Rattle.sdl_ast.specs.declared.tree.End.{End}
+use Rattle.sdl_ast.proofs.Views.{text_of-is, plain_decision-is}
 use Rattle.sdl_trimmed.specs.Trimmed.{kept, trimmed, trimmed_choice, is_quoted, trimmed_statement, trimmed_decision, trimmed_answer}
 
 end_trimmed : (e : Option End) → trimmed (end_text e) ≡ end_text e

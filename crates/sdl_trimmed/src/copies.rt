@@ -1,8 +1,8 @@
 //! Copies of expressions and actions.
 ghost use Rattle.std.specs.Prelude.{◌≡◌, map, IfOk};
-ghost use Rattle.sdl_tree.specs.Views.{tree_of, assignment_of, sending_of, action_of};
+ghost use Rattle.sdl_ast.specs.Views.{tree_of, assignment_of, sending_of, action_of};
 
-use sdl_tree::{Action, Assignment, Expression, Output, Sending, SetTimer, Task};
+use sdl_ast::{Action, Assignment, Expression, Output, Sending, SetTimer, Task};
 use std::alloc::{AllocError, Global};
 
 pub(crate) fn copy_expression(alloc: Global, given: &Expression) -> Result<Expression, AllocError>

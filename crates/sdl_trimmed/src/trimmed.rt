@@ -1,11 +1,11 @@
 //! Transitions without what has neither an effect nor an instruction: TASKs in which all is quoted.
 ghost use Rattle.std.specs.Prelude.{◌≡◌, ◌++◌, map, IfOk, OnOk};
 ghost use Rattle.std.specs.List.{flat_map};
-ghost use Rattle.sdl_tree.specs.Views.{action_of, plain_statement, plain_decision, plain_answer, text_of, else_choice, connection_of};
+ghost use Rattle.sdl_ast.specs.Views.{action_of, plain_statement, plain_decision, plain_answer, text_of, else_choice, connection_of};
 ghost use Rattle.sdl_trimmed.specs.Trimmed.{is_quoted, trimmed, trimmed_choice, trimmed_statement, trimmed_decision, trimmed_answer, kept_statement, AreTrimmed};
 
 use crate::copies::{copy_action, copy_expression};
-use sdl_tree::{Action, Answer, Connection, Decision, Range, Statement, Transition};
+use sdl_ast::{Action, Answer, Connection, Decision, Range, Statement, Transition};
 use std::alloc::{AllocError, Global};
 
 /// Whether all is quoted in an action.

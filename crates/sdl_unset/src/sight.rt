@@ -3,7 +3,7 @@
 use crate::search::path_at;
 use sdl_lex::Name;
 use sdl_tables::{InputRow, ProcessTable, earlier};
-use sdl_tree::{Action, Assignment, Decision, End, Expression, Sending, Statement, Transition};
+use sdl_ast::{Action, Assignment, Decision, End, Expression, Sending, Statement, Transition};
 use std::alloc::{AllocError, Global};
 use unset_paths::Fate;
 

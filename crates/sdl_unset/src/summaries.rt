@@ -1,8 +1,8 @@
 //! What each transition of a process does with the variables, as a graph by numbers.
 ghost use Rattle.std.specs.Prelude.{◌≡◌, ◌≤◌, ◌++◌, [], ℕ, List, map, length, IfOk, OnOk};
 ghost use Rattle.std.specs.List.{flat_map, AllZip};
-ghost use Rattle.sdl_tree.specs.Plain.{Text, PlainBlock};
-ghost use Rattle.sdl_tree.specs.Views.{text_of, stimulus_of, input_of, process_of};
+ghost use Rattle.sdl_ast.specs.Plain.{Text, PlainBlock};
+ghost use Rattle.sdl_ast.specs.Views.{text_of, stimulus_of, input_of, process_of};
 ghost use Rattle.sdl_tables.specs.Names.{variables_of, Input};
 ghost use Rattle.sdl_tables.specs.Rows.{stimulus_inputs};
 ghost use Rattle.sdl_sound.specs.Paths.{Event, start_transition};
@@ -20,7 +20,7 @@ use crate::walker::Walker;
 use crate::walks::{connection_walkers, walk_transition};
 use sdl_sound::standing_inputs;
 use sdl_tables::ProcessTable;
-use sdl_tree::{InputPart, Stimulus, Transition};
+use sdl_ast::{InputPart, Stimulus, Transition};
 use std::alloc::{AllocError, Global};
 use unset_paths::{Graph, Passage, Summary};
 

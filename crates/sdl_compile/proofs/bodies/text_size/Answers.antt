@@ -1,5 +1,5 @@
 use Rattle.std.proofs.Common.{ap, ◌∙◌, arith}
-use Rattle.sdl_tree.specs.Views.{text_of, process_of}
+use Rattle.sdl_ast.specs.Views.{text_of, process_of}
 use Rattle.sdl_tables.specs.Names.{variables_of}
 use Rattle.sdl_sound.specs.Longest.{size}
 use Rattle.sdl_compile.proofs.Trimming.{size_same}

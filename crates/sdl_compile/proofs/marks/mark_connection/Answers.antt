@@ -1,5 +1,5 @@
 use Rattle.std.proofs.Common.{◌++◌, sym, ap, ◌∙◌, append-nil}
-use Rattle.sdl_tree.specs.Views.{text_of}
+use Rattle.sdl_ast.specs.Views.{text_of}
 use Rattle.sdl_compile.specs.Scopes.{scope_in}
 use Rattle.sdl_compile.specs.Code.{text_at}
 use Rattle.sdl_compile.specs.Entries.{entry_at}

@@ -2,8 +2,8 @@ use Rattle.std.proofs.Common.{◌≡◌, ℕ, zero, suc, ◌<◌, List, [], ◌�
 use Rattle.std.specs.Prelude.{slice_get}
 use Rattle.std.specs.List.{AllZip}
 use Rattle.std.specs.Option.{option_map_or}
-use Rattle.sdl_tree.specs.Plain.{falls, PlainConnection, PlainProcess}
-use Rattle.sdl_tree.specs.Views.{process_of}
+use Rattle.sdl_ast.specs.Plain.{falls, PlainConnection, PlainProcess}
+use Rattle.sdl_ast.specs.Views.{process_of}
 use Rattle.sdl_tables.specs.Names.{variables_of}
 use Rattle.sdl_sound.specs.Longest.{size}
 use Rattle.sdl_measures.specs.Measures.{capped, IsMeasureOf}

@@ -3,14 +3,14 @@ use Rattle.std.specs.Prelude.{IfOk}
 use Rattle.std.specs.Global.{Vec}
 use Rattle.std.specs.List.{AllZip}
 use Rattle.std.proofs.lemmas.List.{length-map}
-use Rattle.sdl_tree.specs.declared.expression.Identifier.{Identifier}
-use Rattle.sdl_tree.specs.Views.{process_of}
-use Rattle.sdl_tree.specs.Plain.{PlainProcess}
+use Rattle.sdl_ast.specs.declared.expression.Identifier.{Identifier}
+use Rattle.sdl_ast.specs.Views.{process_of}
+use Rattle.sdl_ast.specs.Plain.{PlainProcess}
 use Rattle.sdl_tables.specs.Names.{Input, states_of, part_inputs, part_saves, inputs_by_state, saves_by_state}
 use Rattle.sdl_tables.specs.Rows.{row_names}
 use Rattle.sdl_sound.specs.Standing.{taken_in}
 use Rattle.std.specs.Borrow.{Bor}
-use Rattle.sdl_tree.specs.declared.tree.InputPart.{InputPart}
+use Rattle.sdl_ast.specs.declared.tree.InputPart.{InputPart}
 use Rattle.sdl_compile.specs.Scopes.{scope_in}
 use Rattle.sdl_compile.specs.Drafts.{AllReady, AllTriggers, SavesAll, AreInputsOf}
 use Rattle.sdl_compile.proofs.Zips.{paired}

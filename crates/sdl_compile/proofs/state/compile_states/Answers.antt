@@ -1,11 +1,11 @@
 use Rattle.std.proofs.Common.{◌<◌, length, map, subst, sym, ap, arith, add-one}
 use Rattle.std.specs.Global.{Vec}
-use Rattle.sdl_tree.specs.Views.{process_of}
-use Rattle.sdl_tree.specs.declared.expression.Identifier.{Identifier}
+use Rattle.sdl_ast.specs.Views.{process_of}
+use Rattle.sdl_ast.specs.declared.expression.Identifier.{Identifier}
 use Rattle.turn_code.specs.declared.variable_set.VariableSet.{VariableSet}
 use Rattle.std.specs.Borrow.{Bor}
 use Rattle.std.specs.List.{flat_map}
-use Rattle.sdl_tree.specs.declared.tree.InputPart.{InputPart}
+use Rattle.sdl_ast.specs.declared.tree.InputPart.{InputPart}
 use Rattle.sdl_tables.specs.Names.{states_of}
 use Rattle.sdl_tables.specs.Rows.{row_names}
 use Rattle.sdl_sound.specs.Standing.{taken_by, taken_in}

@@ -1,7 +1,7 @@
 use Rattle.std.proofs.Common.{List, ◌++◌, ◌+◌, ◌∙◌, map, take, ap, sym, subst, append-nil}
 use Rattle.std.specs.List.{AllZip}
 use Rattle.turn_code.specs.declared.draft.DraftInput.{DraftInput}
-use Rattle.sdl_tree.specs.declared.tree.Stimulus.{Stimulus}
+use Rattle.sdl_ast.specs.declared.tree.Stimulus.{Stimulus}
 use Rattle.sdl_tables.specs.Names.{Input}
 use Rattle.sdl_compile.specs.Scopes.{scope_in, input_by}
 use Rattle.sdl_compile.specs.Drafts.{IsInputOf, AreReady}

@@ -1,5 +1,5 @@
 use Rattle.std.proofs.Common.{length, ◌++◌, ap, ◌∙◌, arith}
-use Rattle.sdl_tree.specs.Views.{text_of}
+use Rattle.sdl_ast.specs.Views.{text_of}
 use Rattle.sdl_compile.specs.Scopes.{scope_in, places_by, piece_in}
 use Rattle.sdl_compile.specs.Code.{places_code}
 use Rattle.sdl_compile.proofs.Emitting.{each_named, text_fits, connections_follow, piece_whole}

@@ -1,5 +1,5 @@
 use Rattle.std.proofs.Common.{List, map, sym, subst, ap, ◌∙◌}
-use Rattle.sdl_tree.specs.Views.{text_of, stimulus_of, input_of, process_of}
+use Rattle.sdl_ast.specs.Views.{text_of, stimulus_of, input_of, process_of}
 use Rattle.sdl_tables.specs.Rows.{stimulus_inputs}
 use Rattle.sdl_sound.specs.Longest.{Piece, input_piece}
 use Rattle.sdl_measures.specs.Rows.{stimulus_piece, ArePassed}

@@ -1,6 +1,6 @@
 use Rattle.std.proofs.Common.{[], subst}
-use Rattle.sdl_tree.specs.declared.tree.Process as the_process
-use Rattle.sdl_tree.specs.Views.{text_of, process_of}
+use Rattle.sdl_ast.specs.declared.tree.Process as the_process
+use Rattle.sdl_ast.specs.Views.{text_of, process_of}
 use Rattle.sdl_measures.specs.Rows.{IsPassed}
 use Rattle.sdl_measures.proofs.limits.pass_start.Goals as goal
 

@@ -1,6 +1,6 @@
 use Rattle.std.proofs.Common.{List, Option, map, take, sym, subst}
-use Rattle.sdl_tree.specs.declared.expression.Identifier.{Identifier}
-use Rattle.sdl_tree.specs.Views.{stimulus_of}
+use Rattle.sdl_ast.specs.declared.expression.Identifier.{Identifier}
+use Rattle.sdl_ast.specs.Views.{stimulus_of}
 use Rattle.sdl_sound.specs.Longest.{Piece}
 use Rattle.sdl_measures.specs.Rows.{stimulus_piece, IsPassed, ArePassed}
 use Rattle.sdl_measures.proofs.Passing.{passed_push, mapped_rows}

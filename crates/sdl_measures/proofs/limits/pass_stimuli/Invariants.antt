@@ -1,6 +1,6 @@
 use Rattle.std.proofs.Common.{take, map}
-use Rattle.sdl_tree.specs.Plain.{Text, PlainProcess}
-use Rattle.sdl_tree.specs.Views.{stimulus_of}
+use Rattle.sdl_ast.specs.Plain.{Text, PlainProcess}
+use Rattle.sdl_ast.specs.Views.{stimulus_of}
 use Rattle.sdl_measures.specs.Rows.{stimulus_piece, IsExtent, ArePassed}
 use Rattle.sdl_measures.proofs.limits.pass_stimuli.Given as goal
 

@@ -1,9 +1,9 @@
 use Rattle.std.proofs.Common.{◌≡◌, drop}
 use Rattle.std.specs.Prelude.{nat_lt}
-use Rattle.sdl_tree.specs.declared.tree.Decision.{out-Decision}
-use Rattle.sdl_tree.specs.Heights.{text_height, choice_height}
-use Rattle.sdl_tree.specs.Views.{text_of, choice_of, statements_before, answers_before, end_text, else_choice}
-use Rattle.sdl_tree.proofs.height.+exceeding.Given as goal
+use Rattle.sdl_ast.specs.declared.tree.Decision.{out-Decision}
+use Rattle.sdl_ast.specs.Heights.{text_height, choice_height}
+use Rattle.sdl_ast.specs.Views.{text_of, choice_of, statements_before, answers_before, end_text, else_choice}
+use Rattle.sdl_ast.proofs.height.+exceeding.Given as goal
 
 abbrev pub invariant-exceeds_in_transition-loop-statement : goal.invariant-exceeds_in_transition-loop-statement
 invariant-exceeds_in_transition-loop-statement l =

@@ -1,8 +1,8 @@
 use Rattle.std.proofs.Common.{◌≡◌, length, map}
 use Rattle.std.specs.Prelude.{nat_lt}
-use Rattle.sdl_tree.specs.Heights.{highest, sending_height}
-use Rattle.sdl_tree.specs.Views.{sending_of}
-use Rattle.sdl_tree.proofs.height.exceed_in_sendings.Given as goal
+use Rattle.sdl_ast.specs.Heights.{highest, sending_height}
+use Rattle.sdl_ast.specs.Views.{sending_of}
+use Rattle.sdl_ast.proofs.height.exceed_in_sendings.Given as goal
 
 abbrev pub invariant-rows : goal.invariant-rows
 invariant-rows l = nat_lt l.fn.limit (highest sending_height (map sending_of l.rest)) ≡ nat_lt l.fn.limit (highest sending_height (map sending_of l.fn.sendings))

@@ -1,7 +1,7 @@
 use Rattle.std.proofs.Common.{◌≡◌, length}
-use Rattle.sdl_tree.specs.Machine.{run, low_trees, expression_at}
-use Rattle.sdl_tree.specs.Stacks.{state_view}
-use Rattle.sdl_tree.proofs.operands.expression.Given as goal
+use Rattle.sdl_expressions.specs.Machine.{run, low_trees, expression_at}
+use Rattle.sdl_expressions.specs.Stacks.{state_view}
+use Rattle.sdl_expressions.proofs.operands.expression.Given as goal
 
 abbrev pub invariant-steps : goal.invariant-steps
 invariant-steps l = expression_at low_trees l.tokens ≡ run low_trees (state_view l.state) l.rest

@@ -1,5 +1,5 @@
 use Rattle.std.proofs.Common.{◌≡◌, map, take}
-use Rattle.sdl_tree.specs.Views.{assignment_of}
+use Rattle.sdl_ast.specs.Views.{assignment_of}
 use Rattle.sdl_trimmed.proofs.copies.copy_assignments.Given as goal
 
 abbrev pub invariant-loop-assignment : goal.invariant-loop-assignment

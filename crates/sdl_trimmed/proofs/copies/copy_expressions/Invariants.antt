@@ -1,5 +1,5 @@
 use Rattle.std.proofs.Common.{◌≡◌, map, take}
-use Rattle.sdl_tree.specs.Views.{tree_of}
+use Rattle.sdl_ast.specs.Views.{tree_of}
 use Rattle.sdl_trimmed.proofs.copies.copy_expressions.Given as goal
 
 abbrev pub invariant-loop-expression : goal.invariant-loop-expression

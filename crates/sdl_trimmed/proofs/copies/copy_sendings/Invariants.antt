@@ -1,5 +1,5 @@
 use Rattle.std.proofs.Common.{◌≡◌, map, take}
-use Rattle.sdl_tree.specs.Views.{sending_of}
+use Rattle.sdl_ast.specs.Views.{sending_of}
 use Rattle.sdl_trimmed.proofs.copies.copy_sendings.Given as goal
 
 abbrev pub invariant-loop-sending : goal.invariant-loop-sending

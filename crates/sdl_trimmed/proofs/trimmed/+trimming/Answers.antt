@@ -1,8 +1,8 @@
 use Rattle.std.proofs.Common.{◌∙◌, List, map, ap, sym, refl, take_all}
 use Rattle.std.specs.List.{flat_map}
-use Rattle.sdl_tree.specs.declared.tree.Answer.{Answer}
-use Rattle.sdl_tree.specs.declared.tree.Statement.{Statement}
-use Rattle.sdl_tree.specs.Views.{plain_statement, plain_answer}
+use Rattle.sdl_ast.specs.declared.tree.Answer.{Answer}
+use Rattle.sdl_ast.specs.declared.tree.Statement.{Statement}
+use Rattle.sdl_ast.specs.Views.{plain_statement, plain_answer}
 use Rattle.sdl_trimmed.specs.Trimmed.{trimmed_statement, trimmed_answer}
 use Rattle.sdl_trimmed.proofs.Trimmings.{transition_trimmed, decision_trimmed}
 use Rattle.sdl_trimmed.proofs.trimmed.+trimming.Goals as goal

@@ -1,6 +1,6 @@
 use Rattle.std.proofs.Common.{◌≡◌, map, take}
 use Rattle.std.specs.List.{flat_map}
-use Rattle.sdl_tree.specs.Views.{plain_statement, plain_answer}
+use Rattle.sdl_ast.specs.Views.{plain_statement, plain_answer}
 use Rattle.sdl_trimmed.specs.Trimmed.{trimmed_statement, trimmed_answer}
 use Rattle.sdl_trimmed.proofs.trimmed.+trimming.Given as goal
 

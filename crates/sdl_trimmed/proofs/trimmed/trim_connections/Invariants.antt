@@ -1,5 +1,5 @@
 use Rattle.std.proofs.Common.{map, take}
-use Rattle.sdl_tree.specs.Views.{connection_of}
+use Rattle.sdl_ast.specs.Views.{connection_of}
 use Rattle.sdl_trimmed.specs.Trimmed.{AreTrimmed}
 use Rattle.sdl_trimmed.proofs.trimmed.trim_connections.Given as goal
 

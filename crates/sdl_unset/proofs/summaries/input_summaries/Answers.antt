@@ -1,6 +1,6 @@
 use Rattle.std.proofs.Common.{sym, subst, take, List}
 use Rattle.std.specs.List.{flat_map}
-use Rattle.sdl_tree.specs.Views.{process_of}
+use Rattle.sdl_ast.specs.Views.{process_of}
 use Rattle.sdl_tables.specs.Names.{Input}
 use Rattle.sdl_unset.specs.Flows.{AreSummariesBy}
 use Rattle.sdl_sound.specs.Standing.{taken_by}

@@ -1,8 +1,8 @@
 use Rattle.std.proofs.Common.{List, ℕ, map, subst, sym, ap, ◌∙◌, ◌++◌}
 use Rattle.std.specs.Prelude.{OnOk}
-use Rattle.sdl_tree.specs.declared.tree.Stimulus.{Stimulus}
-use Rattle.sdl_tree.specs.Plain.{PlainStimulus}
-use Rattle.sdl_tree.specs.Views.{text_of, stimulus_of, process_of}
+use Rattle.sdl_ast.specs.declared.tree.Stimulus.{Stimulus}
+use Rattle.sdl_ast.specs.Plain.{PlainStimulus}
+use Rattle.sdl_ast.specs.Views.{text_of, stimulus_of, process_of}
 use Rattle.sdl_tables.specs.Names.{Input}
 use Rattle.sdl_tables.proofs.States.{map-map}
 use Rattle.sdl_sound.specs.Chances.{Chances, joined_chances}

@@ -1,9 +1,9 @@
 use Rattle.std.proofs.Common.{sym, subst, map, take, List, Option, ◌++◌, ◌+◌}
 use Rattle.std.specs.List.{AllZip}
 use Rattle.unset_paths.specs.declared.Summary.{Summary}
-use Rattle.sdl_tree.specs.declared.expression.Identifier.{Identifier}
-use Rattle.sdl_tree.specs.declared.tree.Stimulus.{Stimulus}
-use Rattle.sdl_tree.specs.Views.{stimulus_of, process_of}
+use Rattle.sdl_ast.specs.declared.expression.Identifier.{Identifier}
+use Rattle.sdl_ast.specs.declared.tree.Stimulus.{Stimulus}
+use Rattle.sdl_ast.specs.Views.{stimulus_of, process_of}
 use Rattle.sdl_tables.specs.Names.{Input}
 use Rattle.sdl_sound.specs.Paths.{input_transition}
 use Rattle.sdl_unset.specs.Flows.{Does, place_events, IsSummaryBy}

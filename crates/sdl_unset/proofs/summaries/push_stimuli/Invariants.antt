@@ -1,6 +1,6 @@
 use Rattle.std.proofs.Common.{ℕ, List, ◌++◌, map, take}
-use Rattle.sdl_tree.specs.Plain.{Text}
-use Rattle.sdl_tree.specs.Views.{stimulus_of, process_of}
+use Rattle.sdl_ast.specs.Plain.{Text}
+use Rattle.sdl_ast.specs.Views.{stimulus_of, process_of}
 use Rattle.sdl_tables.specs.Names.{Input}
 use Rattle.sdl_sound.specs.Chances.{joined_chances}
 use Rattle.sdl_unset.specs.Flows.{Stands, text_doings, AreSummariesBy}

@@ -1,8 +1,8 @@
 use Rattle.std.proofs.Common.{List, ℕ, subst}
 use Rattle.std.specs.Prelude.{IfOk}
 use Rattle.std.specs.List.{flat_map}
-use Rattle.sdl_tree.specs.declared.tree.Process as the_process
-use Rattle.sdl_tree.specs.Views.{text_of, process_of}
+use Rattle.sdl_ast.specs.declared.tree.Process as the_process
+use Rattle.sdl_ast.specs.Views.{text_of, process_of}
 use Rattle.sdl_tables.specs.Names.{Variable, variables_of}
 use Rattle.sdl_sound.specs.Paths.{initial_sets}
 use Rattle.sdl_sound.specs.Chances.{Chances, joined_chances}

@@ -3,8 +3,8 @@ use Rattle.std.specs.Borrow.{Bor}
 use Rattle.std.specs.List.{AllZip, flat_map}
 use Rattle.std.specs.Global.{Vec}
 use Rattle.unset_paths.specs.declared.Summary.{Summary}
-use Rattle.sdl_tree.specs.declared.tree.InputPart.{InputPart}
-use Rattle.sdl_tree.specs.Views.{process_of}
+use Rattle.sdl_ast.specs.declared.tree.InputPart.{InputPart}
+use Rattle.sdl_ast.specs.Views.{process_of}
 use Rattle.sdl_unset.specs.Flows.{AreSummariesBy}
 use Rattle.sdl_sound.specs.Standing.{taken_by, taken_in}
 use Rattle.sdl_unset.proofs.Summing.{zip_more}

@@ -1,6 +1,6 @@
 use Rattle.std.proofs.Common.{false, refl}
 use Rattle.std.specs.Option.{option_map_or}
-use Rattle.sdl_tree.specs.Views.{block_of, process_of}
+use Rattle.sdl_ast.specs.Views.{block_of, process_of}
 use Rattle.sdl_statements.specs.Sources.{is_marked}
 use Rattle.sdl_statements.proofs.Gathering.{not_is}
 use Rattle.sdl_statements.proofs.RowsAdded.{asks_new, asks_there}
