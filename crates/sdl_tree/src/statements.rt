@@ -16,8 +16,9 @@ use crate::answers::{Head, Question, read_end_decision, read_head, read_question
 use crate::expression::{Expression, UnaryOperator};
 use crate::height::exceeds_in_decision;
 use crate::production::Production;
+use crate::starts::{AnyAction, AnyChoice};
 use crate::stop::{Stop, attempt, push};
-use crate::tokens::{is_action, is_choice, is_word};
+use crate::tokens::stands_next;
 use crate::transitions::read_optional_end;
 use crate::tree::{Action, Answer, Decision, Statement, Transition};
 use sdl_lex::{Token, Word};
@@ -171,7 +172,7 @@ fn answer_step<'a>(
 ) -> Result<(Move, &'a [Token]), Stop<'a>>
     ensures { Mirrors move_view result (answer_step low_trees (bodies_view outer.items) (branching_view branching) tokens.now) }
 {
-    if is_choice(tokens) {
+    if stands_next(tokens, AnyChoice) {
         return head_step(alloc, outer, branching, tokens);
     }
     closing_step(alloc, outer, branching, None, tokens)
@@ -274,10 +275,10 @@ fn make_step<'a>(
 ) -> Result<(Move, &'a [Token]), Stop<'a>>
     ensures { Mirrors move_view result (step_at low_trees (reached_view reached) tokens.now) }
 {
-    if is_action(tokens) {
+    if stands_next(tokens, AnyAction) {
         return action_step(alloc, reached, tokens);
     }
-    if is_word(tokens, Word::Decision) {
+    if stands_next(tokens, Word::Decision) {
         return decision_step(alloc, reached, tokens);
     }
     end_step(alloc, reached, tokens)
