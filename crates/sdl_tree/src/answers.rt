@@ -2,24 +2,22 @@
 ghost use Rattle.std.specs.Prelude.{◌≡◌, Option};
 ghost use Rattle.std.specs.Option.{option_map};
 ghost use Rattle.sdl_lex.specs.declared.lexemes.Symbol.TheVariants as symbols;
-ghost use Rattle.sdl_tree.specs.Readings.{optional};
-ghost use Rattle.sdl_tree.specs.Machine.{low_trees, expression_at};
+ghost use Rattle.sdl_tokens.specs.Readings.{optional};
+ghost use Rattle.sdl_expressions.specs.Machine.{low_trees, expression_at};
 ghost use Rattle.sdl_tree.specs.Productions.{compared_at, upper_at, value_at, range_at, answer_head_at, else_head_at, head_at, question_at, end_decision_at};
-ghost use Rattle.sdl_tree.specs.Tokens.{a_symbol};
-ghost use Rattle.sdl_tree.specs.Views.{head_of, question_of};
-ghost use Rattle.sdl_tree.specs.Mirrors.{Mirrors, same};
+ghost use Rattle.sdl_tokens.specs.Tokens.{a_symbol};
+ghost use Rattle.sdl_tree.specs.BodyViews.{head_of, question_of};
+ghost use Rattle.sdl_tokens.specs.Mirrors.{Mirrors, same};
 ghost use Rattle.sdl_tree.specs.Lengths.{range_keeps};
 
+use crate::attempt::attempt;
 use crate::declarations::read_constant;
 use crate::endings::terminator;
-use crate::expression::Expression;
-use crate::kinds::AnyRelation;
-use crate::operands::expression;
 use crate::production::{Production, read_separated};
-use crate::stop::{Stop, attempt};
-use crate::tokens::{stands_next, take};
-use crate::tree::{Constant, Range};
+use sdl_ast::{Constant, Expression, Range};
+use sdl_expressions::expression;
 use sdl_lex::{Symbol, Token, Word};
+use sdl_tokens::{AnyRelation, Stop, stands_next, take};
 use std::alloc::Global;
 
 /// What a DECISION asks. The place is that of the word DECISION.
@@ -85,7 +83,7 @@ fn read_value<'a>(tokens: &'a [Token]) -> Result<(Range, &'a [Token]), Stop<'a>>
 }
 
 impl Production for Range {
-    ghost use Rattle.sdl_tree.specs.declared.tree.Range.{Range};
+    ghost use Rattle.sdl_ast.specs.declared.tree.Range.{Range};
 
     ghost Plain = { Range };
 

@@ -1,27 +1,24 @@
 //! Processes, and the block that holds them.
 ghost use Rattle.std.specs.Prelude.{◌≡◌, ℕ};
 ghost use Rattle.sdl_lex.specs.declared.lexemes.Symbol.TheVariants as symbols;
-ghost use Rattle.sdl_tree.specs.Readings.{token, optional};
-ghost use Rattle.sdl_tree.specs.Machine.{low_trees};
-ghost use Rattle.sdl_tree.specs.Plain.{PlainEntity};
+ghost use Rattle.sdl_tokens.specs.Readings.{token, optional};
+ghost use Rattle.sdl_expressions.specs.Machine.{low_trees};
+ghost use Rattle.sdl_ast.specs.Plain.{PlainEntity};
 ghost use Rattle.sdl_tree.specs.Productions.{second_number_at, instances_at, process_head_at, process_at, entity_at, block_at};
-ghost use Rattle.sdl_tree.specs.Tokens.{a_number, a_one, a_symbol, an_entity};
-ghost use Rattle.sdl_tree.specs.Views.{entity_of, block_of};
-ghost use Rattle.sdl_tree.specs.Mirrors.{Mirrors, same};
+ghost use Rattle.sdl_tokens.specs.Tokens.{a_number, a_one, a_symbol, an_entity};
+ghost use Rattle.sdl_ast.specs.Views.{entity_of, block_of};
+ghost use Rattle.sdl_tokens.specs.Mirrors.{Mirrors, same};
 ghost use Rattle.sdl_tree.specs.Lengths.{low_entity_takes, low_entity_keeps};
 
+use crate::attempt::attempt;
 use crate::declarations::{read_connect, read_route, read_signals};
 use crate::endings::{read_closing, terminator};
-use crate::expression::Identifier;
-use crate::kinds::{AnyName, AnyNumber, One};
 use crate::production::{Listed, Production, read_many};
 use crate::sections::{Sections, parted};
-use crate::starts::AnyEntity;
-use crate::stop::{Stop, attempt};
-use crate::tokens::{stands_next, take};
 use crate::transitions::{Section, read_start};
-use crate::tree::{Block, Declaration, Entity, Process};
+use sdl_ast::{Block, Declaration, Entity, Identifier, Process};
 use sdl_lex::{Symbol, Token, Word};
+use sdl_tokens::{AnyEntity, AnyName, AnyNumber, One, Stop, stands_next, take};
 use std::alloc::Global;
 
 /// Reads `[1]`.

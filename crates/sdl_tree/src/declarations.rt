@@ -1,31 +1,32 @@
 //! Signals, routes, variables and timers.
 ghost use Rattle.std.specs.Prelude.{◌≡◌, ◌∷◌, map, Option, None, IfOk, IfErr};
 ghost use Rattle.std.specs.Option.{option_map, option_to_list};
-ghost use Rattle.sdl_tree.specs.Readings.{token, separated, optional};
+ghost use Rattle.sdl_tokens.specs.Readings.{token, separated, optional};
 ghost use Rattle.sdl_tree.specs.Productions.{signal_at, signals_at, path_at, route_at, connect_at, negative_at, constant_at, initial_at, group_at, variables_at, timers_at, declaration_at, place_at};
-ghost use Rattle.sdl_tree.specs.Tokens.{a_name, a_sort, a_word, a_symbol, a_declaration};
+ghost use Rattle.sdl_tokens.specs.Tokens.{a_name, a_sort, a_word, a_symbol, a_declaration};
 ghost use Rattle.sdl_lex.specs.declared.lexemes.Symbol.TheVariants.{Assign};
 ghost use Rattle.sdl_lex.specs.declared.lexemes.Word.TheVariants.{From};
-ghost use Rattle.sdl_tree.specs.Plain.{PlainSignal, PlainGroup, PlainDeclaration};
-ghost use Rattle.sdl_tree.specs.Views.{signal_of, path_of, entity_of, group_of, declaration_of};
-ghost use Rattle.sdl_tree.specs.Mirrors.{Mirrors, same};
+ghost use Rattle.sdl_ast.specs.Plain.{PlainSignal, PlainGroup, PlainDeclaration};
+ghost use Rattle.sdl_ast.specs.Views.{signal_of, path_of, entity_of, group_of, declaration_of};
+ghost use Rattle.sdl_tokens.specs.Mirrors.{Mirrors, same};
 ghost use Rattle.sdl_tree.specs.Lengths.{name_keeps, sort_keeps, signal_keeps, group_keeps, place_keeps, declaration_takes, declaration_keeps};
 
+use crate::attempt::attempt;
 use crate::endings::terminator;
-use crate::expression::Identifier;
-use crate::kinds::{AnyConstant, AnyName, AnyNumber, AnyParty, AnySort};
 use crate::production::{Listed, Production, read_in_parentheses, read_separated};
-use crate::starts::AnyDeclaration;
-use crate::stop::{Stop, attempt, push};
-use crate::tokens::{stands_next, take};
-use crate::tree::{
-    Connect, Constant, Declaration, Entity, Group, Literal, Path, Route, SignalDeclaration, Sort,
+use sdl_ast::{
+    Connect, Constant, Declaration, Entity, Group, Identifier, Literal, Path, Route,
+    SignalDeclaration, Sort,
 };
 use sdl_lex::{Symbol, Token, Word};
+use sdl_tokens::{
+    AnyConstant, AnyDeclaration, AnyName, AnyNumber, AnyParty, AnySort, Stop, push, stands_next,
+    take,
+};
 use std::alloc::Global;
 
 impl Production for Identifier {
-    ghost use Rattle.sdl_tree.specs.declared.expression.Identifier.{Identifier};
+    ghost use Rattle.sdl_ast.specs.declared.expression.Identifier.{Identifier};
 
     ghost Plain = { Identifier };
 
@@ -44,7 +45,7 @@ impl Production for Identifier {
 }
 
 impl Production for Sort {
-    ghost use Rattle.sdl_tree.specs.declared.tree.Sort.{Sort};
+    ghost use Rattle.sdl_ast.specs.declared.tree.Sort.{Sort};
 
     ghost Plain = { Sort };
 
@@ -60,7 +61,7 @@ impl Production for Sort {
 }
 
 impl Production for Option<Identifier> {
-    ghost use Rattle.sdl_tree.specs.declared.expression.Identifier.{Identifier};
+    ghost use Rattle.sdl_ast.specs.declared.expression.Identifier.{Identifier};
 
     ghost Plain = { Option Identifier };
 

@@ -1,16 +1,15 @@
 //! How statements and their groups end.
 ghost use Rattle.std.specs.Prelude.{◌≡◌, Option};
 ghost use Rattle.sdl_lex.specs.declared.lexemes.Word.TheVariants as words;
-ghost use Rattle.sdl_tree.specs.Readings.{token, optional};
+ghost use Rattle.sdl_tokens.specs.Readings.{token, optional};
 ghost use Rattle.sdl_tree.specs.Productions.{comment_at, terminator_at, closing_at};
-ghost use Rattle.sdl_tree.specs.Tokens.{a_name, a_word, a_closing};
-ghost use Rattle.sdl_tree.specs.Mirrors.{Mirrors, same};
+ghost use Rattle.sdl_tokens.specs.Tokens.{a_name, a_word, a_closing};
+ghost use Rattle.sdl_tokens.specs.Mirrors.{Mirrors, same};
 
+use crate::attempt::attempt;
 use crate::expression::Identifier;
-use crate::kinds::{AnyName, AnyQuoted, Closing};
-use crate::stop::{Stop, attempt};
-use crate::tokens::{stands_next, take};
 use sdl_lex::{Name, Symbol, Token, Word};
+use sdl_tokens::{AnyName, AnyQuoted, Closing, Stop, stands_next, take};
 
 /// Reads `COMMENT quoted`.
 #[tactic(auto, unfolding(crate::specs::Productions::comment_at))]

@@ -1,29 +1,28 @@
 //! Transitions, and the states that have them.
 ghost use Rattle.std.specs.Prelude.{◌≡◌, map, Option, None, List};
 ghost use Rattle.sdl_lex.specs.declared.lexemes.Word.TheVariants as words;
-ghost use Rattle.sdl_tree.specs.Readings.{separated, optional};
-ghost use Rattle.sdl_tree.specs.Machine.{low_trees};
+ghost use Rattle.sdl_tokens.specs.Readings.{separated, optional};
+ghost use Rattle.sdl_expressions.specs.Machine.{low_trees};
 ghost use Rattle.sdl_tree.specs.Productions.{stimulus_at, next_state_at, stop_at, join_at, end_at, input_at, save_at, clause_at, end_state_at, state_at, end_connection_at, connection_at, section_at, start_at};
-ghost use Rattle.sdl_tree.specs.Tokens.{a_word, a_clause, a_section, an_end};
-ghost use Rattle.sdl_tree.specs.Plain.{PlainStimulus, PlainClause, PlainSection};
-ghost use Rattle.sdl_tree.specs.Views.{stimulus_of, clause_of, state_of, connection_of, section_of, start_of};
-ghost use Rattle.sdl_tree.specs.Mirrors.{Mirrors, same};
+ghost use Rattle.sdl_tokens.specs.Tokens.{a_word, a_clause, a_section, an_end};
+ghost use Rattle.sdl_ast.specs.Plain.{PlainStimulus, PlainClause, PlainSection};
+ghost use Rattle.sdl_ast.specs.Views.{stimulus_of, clause_of, state_of, connection_of, start_of};
+ghost use Rattle.sdl_tree.specs.BodyViews.{section_of};
+ghost use Rattle.sdl_tokens.specs.Mirrors.{Mirrors, same};
 ghost use Rattle.sdl_tree.specs.Lengths.{stimulus_keeps, low_clause_takes, low_clause_keeps, low_section_takes, low_section_keeps};
 
+use crate::attempt::attempt;
 use crate::endings::{read_closing, terminator};
-use crate::expression::Identifier;
-use crate::kinds::AnyName;
 use crate::production::{
     Listed, Production, read_in_parentheses, read_many, read_more, read_separated,
 };
-use crate::starts::{AnyClause, AnyEnd, AnySection};
 use crate::statements::read_transition;
-use crate::stop::{Stop, attempt};
-use crate::tokens::{stands_next, take};
-use crate::tree::{
-    Connection, End, InputPart, Join, NextState, Start, StateClause, StatePart, Stimulus,
+use sdl_ast::{
+    Connection, End, Identifier, InputPart, Join, NextState, Start, StateClause, StatePart,
+    Stimulus,
 };
 use sdl_lex::{Name, Symbol, Token, Word};
+use sdl_tokens::{AnyClause, AnyEnd, AnyName, AnySection, Stop, stands_next, take};
 use std::alloc::Global;
 
 impl Production for Stimulus {
