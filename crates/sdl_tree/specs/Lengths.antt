@@ -1,4 +1,4 @@
--- No reading gives more tokens back than it got.
+-- No reading gives more tokens back than it got. For the productions of Syntax tools/productions writes it.
 use Rattle.std.specs.Prelude.{ℕ, suc, zero, ◌≤◌, List, [], ◌∷◌, Option, Some, None, length}
 use Rattle.sdl_lex.specs.declared.lexemes.Word.TheVariants as words
 use Rattle.sdl_lex.specs.declared.lexemes.Symbol.TheVariants.{Semicolon, Comma, Assign, Open, Close, Plus, Minus, Colon}

@@ -7,7 +7,7 @@ ghost use Rattle.sdl_tokens.specs.Tokens.{a_name, a_word, a_closing};
 ghost use Rattle.sdl_tokens.specs.Mirrors.{Mirrors, same};
 
 use crate::attempt::attempt;
-use crate::expression::Identifier;
+use sdl_ast::Identifier;
 use sdl_lex::{Name, Symbol, Token, Word};
 use sdl_tokens::{AnyName, AnyQuoted, Closing, Stop, stands_next, take};
 

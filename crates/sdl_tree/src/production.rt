@@ -6,9 +6,8 @@ ghost use Rattle.sdl_tokens.specs.Readings.{behind_comma, separated_from};
 ghost use Rattle.sdl_tokens.specs.Tokens.{begins};
 ghost use Rattle.sdl_tokens.specs.Mirrors.{Mirrors};
 
-use crate::stop::{Stop, push};
 use sdl_lex::{Symbol, Token};
-use sdl_tokens::{stands_next, take};
+use sdl_tokens::{Stop, push, stands_next, take};
 use std::alloc::Global;
 
 /// A part of the tree that tokens read as.
