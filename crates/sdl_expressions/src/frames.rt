@@ -67,7 +67,7 @@ fn close_product(
     lead: Option<(u32, UnaryOperator)>,
     operand: Part,
 ) -> Result<Part, AllocError>
-    ensures { IfOk result (λ p. tree_of p.tree ≡ joined_to low_trees (slot_view product) (led_by low_trees lead (tree_of operand.tree))) }
+    ensures { IfOk result (λ p. tree_of p.tree.value ≡ joined_to low_trees (slot_view product) (led_by low_trees lead (tree_of operand.tree.value))) }
 {
     let factor = led_by(alloc, lead, operand)?;
     joined_to(alloc, product, factor)
@@ -75,7 +75,7 @@ fn close_product(
 
 /// What stands inside a sum, closed behind an operand.
 fn close_terms(alloc: Global, terms: Terms, operand: Part) -> Result<Part, AllocError>
-    ensures { IfOk result (λ p. tree_of p.tree ≡ closed_terms low_trees (terms_view terms) (tree_of operand.tree)) }
+    ensures { IfOk result (λ p. tree_of p.tree.value ≡ closed_terms low_trees (terms_view terms) (tree_of operand.tree.value)) }
 {
     let Terms { sum, product, lead } = terms;
     let last = close_product(alloc, product, lead, operand)?;
@@ -84,7 +84,7 @@ fn close_terms(alloc: Global, terms: Terms, operand: Part) -> Result<Part, Alloc
 
 /// What stands before a sum, closed behind it.
 fn close_tests(alloc: Global, tests: Tests, last: Part) -> Result<Part, AllocError>
-    ensures { IfOk result (λ p. tree_of p.tree ≡ closed_tests low_trees (tests_view tests) (tree_of last.tree)) }
+    ensures { IfOk result (λ p. tree_of p.tree.value ≡ closed_tests low_trees (tests_view tests) (tree_of last.tree.value)) }
 {
     let Tests {
         disjunction,
@@ -98,7 +98,7 @@ fn close_tests(alloc: Global, tests: Tests, last: Part) -> Result<Part, AllocErr
 
 /// A frame closed behind an operand.
 pub(crate) fn close_frame(alloc: Global, frame: Frame, operand: Part) -> Result<Part, AllocError>
-    ensures { IfOk result (λ p. tree_of p.tree ≡ closed low_trees (frame_view frame) (tree_of operand.tree)) }
+    ensures { IfOk result (λ p. tree_of p.tree.value ≡ closed low_trees (frame_view frame) (tree_of operand.tree.value)) }
 {
     let Frame {
         opened: _,
@@ -116,7 +116,7 @@ fn with_product(
     terms: Terms,
     operand: Part,
 ) -> Result<Terms, AllocError>
-    ensures { IfOk result (λ t. terms_view t ≡ with_product low_trees operator (terms_view terms) (tree_of operand.tree)) }
+    ensures { IfOk result (λ t. terms_view t ≡ with_product low_trees operator (terms_view terms) (tree_of operand.tree.value)) }
 {
     let Terms { sum, product, lead } = terms;
     let last = close_product(alloc, product, lead, operand)?;
@@ -134,7 +134,7 @@ fn with_sum(
     terms: Terms,
     operand: Part,
 ) -> Result<Terms, AllocError>
-    ensures { IfOk result (λ t. terms_view t ≡ with_sum low_trees operator (terms_view terms) (tree_of operand.tree)) }
+    ensures { IfOk result (λ t. terms_view t ≡ with_sum low_trees operator (terms_view terms) (tree_of operand.tree.value)) }
 {
     let last = close_terms(alloc, terms, operand)?;
     Ok(Terms {
@@ -151,7 +151,7 @@ fn with_relation(
     tests: Tests,
     last: Part,
 ) -> Result<Tests, AllocError>
-    ensures { IfOk result (λ k. tests_view k ≡ with_relation low_trees operator (tests_view tests) (tree_of last.tree)) }
+    ensures { IfOk result (λ k. tests_view k ≡ with_relation low_trees operator (tests_view tests) (tree_of last.tree.value)) }
 {
     let Tests {
         disjunction,
@@ -173,7 +173,7 @@ fn with_conjunction(
     tests: Tests,
     last: Part,
 ) -> Result<Tests, AllocError>
-    ensures { IfOk result (λ k. tests_view k ≡ with_conjunction low_trees operator (tests_view tests) (tree_of last.tree)) }
+    ensures { IfOk result (λ k. tests_view k ≡ with_conjunction low_trees operator (tests_view tests) (tree_of last.tree.value)) }
 {
     let Tests {
         disjunction,
@@ -196,7 +196,7 @@ fn with_disjunction(
     tests: Tests,
     last: Part,
 ) -> Result<Tests, AllocError>
-    ensures { IfOk result (λ k. tests_view k ≡ with_disjunction low_trees operator (tests_view tests) (tree_of last.tree)) }
+    ensures { IfOk result (λ k. tests_view k ≡ with_disjunction low_trees operator (tests_view tests) (tree_of last.tree.value)) }
 {
     let last = close_tests(alloc, tests, last)?;
     Ok(Tests {
@@ -214,7 +214,7 @@ pub(crate) fn with_operator(
     frame: Frame,
     operand: Part,
 ) -> Result<Frame, AllocError>
-    ensures { IfOk result (λ f. frame_view f ≡ with_operator low_trees level operator (frame_view frame) (tree_of operand.tree)) }
+    ensures { IfOk result (λ f. frame_view f ≡ with_operator low_trees level operator (frame_view frame) (tree_of operand.tree.value)) }
 {
     let Frame {
         opened,

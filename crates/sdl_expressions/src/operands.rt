@@ -59,13 +59,18 @@ fn lead(outer: Vec<Frame>, mut here: Frame, at: u32, operator: UnaryOperator) ->
 }
 
 /// An operand has to come next.
-fn want(mut outer: Vec<Frame>, mut here: Frame, sign: Sign) -> Result<Turn, AllocError>
+fn want(
+    alloc: Global,
+    mut outer: Vec<Frame>,
+    mut here: Frame,
+    sign: Sign,
+) -> Result<Turn, AllocError>
     ensures { IfOk result (λ t. turn_view t ≡ want_turn (stack_view outer.items) (frame_view here) (sign_view sign)) }
 {
     let operand = match sign {
-        Sign::Number { at, value } => Some(number_part(at, value)),
-        Sign::Truth { at, value } => Some(truth_part(at, value)),
-        Sign::Variable { at, name } => Some(variable_part(at, name)),
+        Sign::Number { at, value } => Some(number_part(alloc, at, value)?),
+        Sign::Truth { at, value } => Some(truth_part(alloc, at, value)?),
+        Sign::Variable { at, name } => Some(variable_part(alloc, at, name)?),
         Sign::Minus(at) => return Ok(lead(outer, here, at, UnaryOperator::Negate)),
         Sign::Denies(at) => return Ok(lead(outer, here, at, UnaryOperator::Not)),
         Sign::Opens(at) => {
@@ -89,7 +94,7 @@ fn close(
     here: Frame,
     operand: Part,
 ) -> Result<Turn, AllocError>
-    ensures { IfOk result (λ t. turn_view t ≡ close_turn low_trees (stack_view outer.items) (frame_view here) (tree_of operand.tree)) }
+    ensures { IfOk result (λ t. turn_view t ≡ close_turn low_trees (stack_view outer.items) (frame_view here) (tree_of operand.tree.value)) }
 {
     let opened = here.opened;
     let inside = close_frame(alloc, here, operand)?;
@@ -97,7 +102,7 @@ fn close(
         Some(here) => Ok(Turn::Goes(State {
             outer,
             here,
-            operand: Some(moved(inside, opened)),
+            operand: Some(moved(alloc, inside, opened)?),
         })),
         None => Ok(Turn::Done(inside)),
     }
@@ -105,7 +110,7 @@ fn close(
 
 /// A token that goes on with no expression: it ends one where no parenthesis is open.
 fn end(alloc: Global, outer: Vec<Frame>, here: Frame, operand: Part) -> Result<Turn, AllocError>
-    ensures { IfOk result (λ t. turn_view t ≡ end_turn low_trees (stack_view outer.items) (frame_view here) (tree_of operand.tree)) }
+    ensures { IfOk result (λ t. turn_view t ≡ end_turn low_trees (stack_view outer.items) (frame_view here) (tree_of operand.tree.value)) }
 {
     if !outer.is_empty() {
         return Ok(Turn::Stuck);
@@ -122,7 +127,7 @@ fn join(
     level: Level,
     operator: BinaryOperator,
 ) -> Result<Turn, AllocError>
-    ensures { IfOk result (λ t. turn_view t ≡ join_turn low_trees (stack_view outer.items) (frame_view here) (tree_of operand.tree) level operator) }
+    ensures { IfOk result (λ t. turn_view t ≡ join_turn low_trees (stack_view outer.items) (frame_view here) (tree_of operand.tree.value) level operator) }
 {
     if bars(level, &here) {
         return Ok(Turn::Stuck);
@@ -143,7 +148,7 @@ fn have(
     operand: Part,
     sign: Sign,
 ) -> Result<Turn, AllocError>
-    ensures { IfOk result (λ t. turn_view t ≡ have_turn low_trees (stack_view outer.items) (frame_view here) (tree_of operand.tree) (sign_view sign)) }
+    ensures { IfOk result (λ t. turn_view t ≡ have_turn low_trees (stack_view outer.items) (frame_view here) (tree_of operand.tree.value) (sign_view sign)) }
 {
     match sign {
         Sign::Joins(level, operator) => join(alloc, outer, here, operand, level, operator),
@@ -171,7 +176,7 @@ fn take_turn(alloc: Global, state: State, sign: Sign) -> Result<Turn, AllocError
     } = state;
     match operand {
         Some(operand) => have(alloc, outer, here, operand, sign),
-        None => want(outer, here, sign),
+        None => want(alloc, outer, here, sign),
     }
 }
 
@@ -192,7 +197,7 @@ fn make_step<'a>(alloc: Global, state: State, tokens: &'a [Token]) -> Result<Ste
             Some((_, rest)) => Ok(Step::Goes(next, rest)),
             None => Err(Stop::Unexpected(tokens)),
         },
-        Ok(Turn::Done(part)) => Ok(Step::Done(part.tree)),
+        Ok(Turn::Done(part)) => Ok(Step::Done(Box::into_inner(part.tree))),
         Ok(Turn::Stuck) => Err(Stop::Unexpected(tokens)),
         Err(_) => Err(Stop::NoMemory),
     }
