@@ -1,4 +1,4 @@
--- Each production is decided by its reading.
+-- Each production is decided by its reading. tools/productions writes the proofs from Syntax.
 use Rattle.std.specs.Prelude.{ℕ, List, ◌∷◌, Some, None, pos, ◌-ℤ◌}
 use Rattle.std.specs.List.{filter_map}
 use Rattle.std.specs.Option.{option_to_list}

@@ -1,4 +1,5 @@
 -- The productions read token by token, in one step each. `e` reads an expression, `b` says how trees are built.
+-- tools/productions writes them from Syntax, but for the steps of a transition.
 use Rattle.std.specs.Prelude.{ℕ, suc, zero, List, [], ◌∷◌, ◌++◌, length, Option, Some, None, pos, ◌-ℤ◌}
 use Rattle.std.specs.List.{filter_map}
 use Rattle.std.specs.Option.{option_to_list}

@@ -8,10 +8,9 @@ ghost use Rattle.sdl_ast.specs.Views.{block_of};
 
 use crate::blocks::read_block;
 use crate::fault::ParseFault;
-use crate::height::first_too_high;
-use crate::stop::Stop;
-use crate::tree::Block;
+use sdl_ast::{Block, first_too_high};
 use sdl_lex::Token;
+use sdl_tokens::Stop;
 use std::alloc::Global;
 
 fn read_text(alloc: Global, tokens: &[Token]) -> Result<Block, ParseFault>

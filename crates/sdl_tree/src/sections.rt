@@ -6,9 +6,9 @@ ghost use Rattle.sdl_ast.specs.Plain.{state_in, connection_in};
 ghost use Rattle.sdl_ast.specs.Views.{state_of, connection_of};
 ghost use Rattle.sdl_tree.specs.BodyViews.{section_of};
 
-use crate::stop::{Stop, push};
 use crate::transitions::Section;
-use crate::tree::{Connection, StatePart};
+use sdl_ast::{Connection, StatePart};
+use sdl_tokens::{Stop, push};
 use std::alloc::Global;
 
 /// The STATE parts and the CONNECTIONs of a process, each in the order of the text.

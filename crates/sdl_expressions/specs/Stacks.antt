@@ -51,14 +51,14 @@ stack_view frames = reverse (map frame_view frames)
 
 abbrev pub state_at : List Frame → Frame → Option Part → State
 state_at ls l None = wants ls l
-state_at ls l (Some p) = has ls l (tree_of p.tree)
+state_at ls l (Some p) = has ls l (tree_of p.tree.value)
 
 abbrev pub state_view : the_state.State → State
 state_view s = state_at (stack_view s.outer.items) (frame_view s.here) s.operand
 
 abbrev pub turn_view : the_turn.Turn → Turn
 turn_view (turns.Goes s) = goes (state_view s)
-turn_view (turns.Done p) = done (tree_of p.tree)
+turn_view (turns.Done p) = done (tree_of p.tree.value)
 turn_view turns.Stuck = stuck
 
 -- what one token makes of a state in front of some tokens

@@ -7,4 +7,4 @@ use Rattle.sdl_ast.specs.Views.{tree_of}
 
 abbrev pub slot_view : Option (Part × BinaryOperator) → Option (Tree × BinaryOperator)
 slot_view None = None
-slot_view (Some s) = Some (tree_of s.0.tree, s.1)
+slot_view (Some s) = Some (tree_of s.0.tree.value, s.1)

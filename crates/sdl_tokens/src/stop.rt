@@ -5,7 +5,7 @@ use sdl_lex::Token;
 
 /// What ends a reading.
 #[derive(Clone, Copy)]
-pub(crate) enum Stop<'a> {
+pub enum Stop<'a> {
     /// No reading goes on with the first of these tokens, which are those left; or with the end, if
     /// none is left.
     Unexpected(&'a [Token]),
@@ -13,21 +13,8 @@ pub(crate) enum Stop<'a> {
     NoMemory,
 }
 
-/// What was read, or the return of what ended the reading. (`?` does the same, but isn't proved yet
-/// where the value has a name in it beside the tokens.)
-macro_rules! attempt {
-    ($reading:expr) => {
-        match $reading {
-            Ok(found) => found,
-            Err(stop) => return Err(stop),
-        }
-    };
-}
-
-pub(crate) use attempt;
-
 /// Puts an item behind the others.
-pub(crate) fn push<'a, T: Drop>(items: &mut Vec<T>, item: T) -> Result<(), Stop<'a>>
+pub fn push<'a, T: Drop>(items: &mut Vec<T>, item: T) -> Result<(), Stop<'a>>
     ensures ok { OnOk result (items.new.items ≡ items.old.items ++ item ∷ []) }
     ensures err { IfErr result (λ stop. stop ≡ Stop.NoMemory) }
 {

@@ -6,39 +6,38 @@ ghost use Rattle.sdl_expressions.specs.Machine.{low_unary, low_binary, low_trees
 ghost use Rattle.sdl_expressions.specs.Parts.{slot_view};
 ghost use Rattle.sdl_ast.specs.Views.{tree_of};
 
-use crate::MAX_HEIGHT;
-use crate::expression::{BinaryOperator, Expression, Identifier, UnaryOperator};
 use crate::part::Part;
+use sdl_ast::{BinaryOperator, Expression, Identifier, MAX_HEIGHT, UnaryOperator};
 use std::alloc::{AllocError, Global};
 
 /// A number.
-pub(crate) fn number_part(at: u32, value: u32) -> Part
-    ensures { tree_of result.tree ≡ number at value }
+pub(crate) fn number_part(alloc: Global, at: u32, value: u32) -> Result<Part, AllocError>
+    ensures { IfOk result (λ p. tree_of p.tree.value ≡ number at value) }
 {
-    Part {
-        tree: Expression::Number { at, value },
+    Ok(Part {
+        tree: Box::new(alloc, Expression::Number { at, value })?,
         height: 1,
-    }
+    })
 }
 
 /// TRUE or FALSE.
-pub(crate) fn truth_part(at: u32, value: bool) -> Part
-    ensures { tree_of result.tree ≡ truth at value }
+pub(crate) fn truth_part(alloc: Global, at: u32, value: bool) -> Result<Part, AllocError>
+    ensures { IfOk result (λ p. tree_of p.tree.value ≡ truth at value) }
 {
-    Part {
-        tree: Expression::Truth { at, value },
+    Ok(Part {
+        tree: Box::new(alloc, Expression::Truth { at, value })?,
         height: 1,
-    }
+    })
 }
 
 /// A variable.
-pub(crate) fn variable_part(at: u32, name: Identifier) -> Part
-    ensures { tree_of result.tree ≡ variable at name }
+pub(crate) fn variable_part(alloc: Global, at: u32, name: Identifier) -> Result<Part, AllocError>
+    ensures { IfOk result (λ p. tree_of p.tree.value ≡ variable at name) }
 {
-    Part {
-        tree: Expression::Variable { at, name },
+    Ok(Part {
+        tree: Box::new(alloc, Expression::Variable { at, name })?,
         height: 1,
-    }
+    })
 }
 
 fn place(tree: &Expression) -> u32
@@ -84,13 +83,15 @@ fn moved_tree(tree: Expression, at: u32) -> Expression
 }
 
 /// The expression at another place, as that of an opening parenthesis.
-pub(crate) fn moved(part: Part, at: u32) -> Part
-    ensures { tree_of result.tree ≡ placed at (tree_of part.tree) }
+pub(crate) fn moved(alloc: Global, part: Part, at: u32) -> Result<Part, AllocError>
+    ensures { IfOk result (λ p. tree_of p.tree.value ≡ placed at (tree_of part.tree.value)) }
 {
-    Part {
-        tree: moved_tree(part.tree, at),
-        height: part.height,
-    }
+    let Part { tree, height } = part;
+    let tree = moved_tree(Box::into_inner(tree), at);
+    Ok(Part {
+        tree: Box::new(alloc, tree)?,
+        height,
+    })
 }
 
 /// The operand with an operator in front of it. One that is too high already stays as it is.
@@ -100,18 +101,20 @@ pub(crate) fn led(
     operator: UnaryOperator,
     operand: Part,
 ) -> Result<Part, AllocError>
-    ensures { IfOk result (λ p. tree_of p.tree ≡ low_trees.lead at operator (tree_of operand.tree)) }
+    ensures { IfOk result (λ p. tree_of p.tree.value ≡ low_trees.lead at operator (tree_of operand.tree.value)) }
 {
     if operand.height > MAX_HEIGHT {
-        return Ok(moved(operand, at));
+        return moved(alloc, operand, at);
     }
+    let height = operand.height + 1;
+    let tree = Expression::Unary {
+        at,
+        operator,
+        operand: operand.tree,
+    };
     Ok(Part {
-        height: operand.height + 1,
-        tree: Expression::Unary {
-            at,
-            operator,
-            operand: Box::new(alloc, operand.tree)?,
-        },
+        tree: Box::new(alloc, tree)?,
+        height,
     })
 }
 
@@ -122,23 +125,25 @@ pub(crate) fn joined(
     left: Part,
     right: Part,
 ) -> Result<Part, AllocError>
-    ensures { IfOk result (λ p. tree_of p.tree ≡ low_trees.join operator (tree_of left.tree) (tree_of right.tree)) }
+    ensures { IfOk result (λ p. tree_of p.tree.value ≡ low_trees.join operator (tree_of left.tree.value) (tree_of right.tree.value)) }
 {
     let at = place(&left.tree);
     if left.height > MAX_HEIGHT {
-        return Ok(moved(left, at));
+        return moved(alloc, left, at);
     }
     if right.height > MAX_HEIGHT {
-        return Ok(moved(right, at));
+        return moved(alloc, right, at);
     }
+    let height = left.height.max(right.height) + 1;
+    let tree = Expression::Binary {
+        at,
+        operator,
+        left: left.tree,
+        right: right.tree,
+    };
     Ok(Part {
-        height: left.height.max(right.height) + 1,
-        tree: Expression::Binary {
-            at,
-            operator,
-            left: Box::new(alloc, left.tree)?,
-            right: Box::new(alloc, right.tree)?,
-        },
+        tree: Box::new(alloc, tree)?,
+        height,
     })
 }
 
@@ -148,7 +153,7 @@ pub(crate) fn led_by(
     lead: Option<(u32, UnaryOperator)>,
     operand: Part,
 ) -> Result<Part, AllocError>
-    ensures { IfOk result (λ p. tree_of p.tree ≡ led_by low_trees lead (tree_of operand.tree)) }
+    ensures { IfOk result (λ p. tree_of p.tree.value ≡ led_by low_trees lead (tree_of operand.tree.value)) }
 {
     match lead {
         Some((at, operator)) => led(alloc, at, operator, operand),
@@ -162,7 +167,7 @@ pub(crate) fn joined_to(
     before: Option<(Part, BinaryOperator)>,
     operand: Part,
 ) -> Result<Part, AllocError>
-    ensures { IfOk result (λ p. tree_of p.tree ≡ joined_to low_trees (slot_view before) (tree_of operand.tree)) }
+    ensures { IfOk result (λ p. tree_of p.tree.value ≡ joined_to low_trees (slot_view before) (tree_of operand.tree.value)) }
 {
     match before {
         Some((left, operator)) => joined(alloc, operator, left, operand),

@@ -1,6 +1,6 @@
 -- From the tree that the code holds to the plain tree.
 use Rattle.std.specs.Prelude.{List, [], ◌∷◌, map, Option, None, Some}
-use Rattle.sdl_ast.specs.Plain.{Tree, number, truth, variable, unary, binary, PlainAssignment, PlainSending, PlainAction, task, output, set_timer, reset_timer, Text, falls, ends, Choice, nothing_else, otherwise, PlainStatement, act, decide, PlainAnswer, before, all_before, all_answers, PlainConnection, PlainStimulus, PlainInput, PlainClause, input, save, PlainState, PlainSection, in_state, in_connection, PlainQuestion, PlainHead, PlainStart, PlainGroup, PlainDeclaration, variables, timers, PlainProcess, PlainPath, PlainRoute, PlainSignal, PlainEntity, signals, route, connect, process, PlainBlock}
+use Rattle.sdl_ast.specs.Plain.{Tree, number, truth, variable, unary, binary, PlainAssignment, PlainSending, PlainAction, task, output, set_timer, reset_timer, Text, falls, ends, Choice, nothing_else, otherwise, PlainStatement, act, decide, PlainAnswer, before, all_before, all_answers, PlainConnection, PlainStimulus, PlainInput, PlainClause, input, save, PlainState, PlainStart, PlainGroup, PlainDeclaration, variables, timers, PlainProcess, PlainPath, PlainRoute, PlainSignal, PlainEntity, signals, route, connect, process, PlainBlock}
 use Rattle.sdl_ast.specs.declared.expression.Expression.{Expression, Number, Truth, Variable, Unary', Binary'}
 use Rattle.sdl_ast.specs.declared.tree.Assignment.{Assignment}
 use Rattle.sdl_ast.specs.declared.tree.Action.{Action}
@@ -20,10 +20,6 @@ use Rattle.sdl_ast.specs.declared.tree.StateClause.{StateClause}
 use Rattle.sdl_ast.specs.declared.tree.StateClause.TheVariants.{Input, Save}
 use Rattle.sdl_ast.specs.declared.tree.StatePart.{StatePart}
 use Rattle.sdl_ast.specs.declared.tree.Start.{Start}
-use Rattle.sdl_tree.specs.declared.answers.Question.{Question}
-use Rattle.sdl_tree.specs.declared.answers.Head.{Head}
-use Rattle.sdl_tree.specs.declared.transitions.Section as the_section
-use Rattle.sdl_tree.specs.declared.transitions.Section.TheVariants as sections
 use Rattle.sdl_ast.specs.declared.tree.Group.{Group}
 use Rattle.sdl_ast.specs.declared.tree.Declaration.{Declaration}
 use Rattle.sdl_ast.specs.declared.tree.Declaration.TheVariants.{Variables, Timers}
@@ -111,13 +107,6 @@ abbrev pub else_choice : Option Transition → Choice
 else_choice None = nothing_else
 else_choice (Some body) = otherwise (text_of body)
 
--- what stands before the answers of a DECISION, and before what an answer does
-abbrev pub question_of : Question → PlainQuestion
-question_of q = record { at = q.at; question = tree_of q.question }
-
-abbrev pub head_of : Head → PlainHead
-head_of h = record { at = h.at; ranges = h.ranges.items }
-
 -- the answers of a DECISION, ELSE included
 abbrev pub choice_of : Decision → Choice
 choice_of d = answers_before (out-Decision d).answers.items (else_choice (out-Decision d).otherwise)
@@ -137,10 +126,6 @@ state_of s = record { names = s.names.items; clauses = map clause_of s.clauses.i
 
 abbrev pub connection_of : Connection → PlainConnection
 connection_of c = record { at = c.at; name = c.name; text = text_of c.transition }
-
-abbrev pub section_of : the_section.Section → PlainSection
-section_of (sections.State s) = in_state (state_of s)
-section_of (sections.Connection c) = in_connection (connection_of c)
 
 abbrev pub start_of : Start → PlainStart
 start_of s = record { at = s.at; text = text_of s.transition }

@@ -130,7 +130,7 @@ fn exceeds_in_bodies(decision: &Decision, limit: u32) -> bool
 
 /// Whether a DECISION is higher than a limit: it is one higher than its question and what stands in it.
 #[cycle(exceeding)]
-pub(crate) fn exceeds_in_decision(decision: &Decision, limit: u32) -> bool
+pub fn exceeds_in_decision(decision: &Decision, limit: u32) -> bool
     ensures { result ≡ nat_lt limit (decision_height (tree_of (out-Decision decision.now).question) (choice_of decision.now)) }
 {
     if limit == 0 {
@@ -271,7 +271,7 @@ fn high_in_entity(entity: &Entity) -> Option<u32>
 }
 
 /// The place of the first TASK, OUTPUT, SET or DECISION of a text that is too high.
-pub(crate) fn first_too_high(block: &Block) -> Option<u32>
+pub fn first_too_high(block: &Block) -> Option<u32>
     ensures { result ≡ first_too_high (block_of block.now) }
 {
     let mut rest = block.entities.as_slice();

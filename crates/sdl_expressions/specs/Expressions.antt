@@ -16,6 +16,7 @@ use Rattle.sdl_expressions.specs.declared.level.Level.{Level}
 use Rattle.sdl_expressions.specs.declared.level.Level.TheVariants.{Disjunctions, Conjunctions, Relations, Sums, Products}
 use Rattle.sdl_ast.specs.Plain.{Tree, number, truth, variable, unary, binary}
 use Rattle.sdl_tokens.specs.Grammar.{Grammar}
+use Rattle.sdl_ast.specs.Places.{place_of, placed}
 
 -- What a token is in an expression, some at a place.
 pub data Sign : Type 0 where
@@ -86,21 +87,6 @@ in_front (leaf x) = None
 in_front (opens at) = None
 in_front closes = None
 in_front other = None
-
--- The place of an expression, and the expression at another place.
-abbrev pub place_of : Tree → ℕ
-place_of (number at k) = at
-place_of (truth at b) = at
-place_of (variable at n) = at
-place_of (unary at o x) = at
-place_of (binary at o x y) = at
-
-abbrev pub placed : ℕ → Tree → Tree
-placed p (number at k) = number p k
-placed p (truth at b) = truth p b
-placed p (variable at n) = variable p n
-placed p (unary at o x) = unary p o x
-placed p (binary at o x y) = binary p o x y
 
 -- disjunction = conjunction { (OR | XOR) conjunction }, conjunction = relation { AND relation },
 -- relation = sum [ (= | /= | < | <= | > | >=) sum ], sum = product { (+ | -) product },

@@ -1,13 +1,7 @@
--- How high a tree is, and what keeps tokens from having one.
-use Rattle.std.specs.Prelude.{◌≡◌, ℕ, ◌+◌, ◌<◌, ◌≤◌, max, nat_lt, List, [], ◌∷◌, Option, Some, None, length, take, if◌then◌else◌, Result, Ok, Err, min}
-use Rattle.sdl_lex.specs.declared.lexemes.Token.{Token}
-use Rattle.sdl_tree.specs.declared.fault.ParseFault.{ParseFault}
-use Rattle.sdl_tree.specs.declared.fault.ParseFault.TheVariants.{Unexpected, TooDeep, NoMemory}
-use Rattle.sdl_ast.specs.declared.tree.Block.{Block}
+-- How high a tree is, and what in it is too high.
+use Rattle.std.specs.Prelude.{ℕ, ◌+◌, max, nat_lt, List, [], ◌∷◌, Option, Some, None, if◌then◌else◌, min}
 use Rattle.sdl_ast.specs.Limits.{GREATEST_HEIGHT}
 use Rattle.sdl_ast.specs.Plain.{Tree, number, truth, variable, unary, binary, PlainAssignment, PlainSending, PlainAction, task, output, set_timer, reset_timer, Text, falls, ends, does, decides, Choice, nothing_else, otherwise, answer, PlainClause, input, save, PlainState, PlainConnection, PlainProcess, PlainEntity, signals, route, connect, process, PlainBlock}
-use Rattle.sdl_tree.specs.Syntax.{Reads}
-use Rattle.sdl_ast.specs.Views.{block_of}
 
 -- 1 for an operand, one more than its highest operand for an operator
 abbrev pub tree_height : Tree → ℕ
@@ -139,21 +133,3 @@ high_in_entity (process p) = high_in_process p
 
 abbrev pub first_too_high : PlainBlock → Option ℕ
 first_too_high b = first_of high_in_entity b.entities
-
--- no text that reads agrees with these tokens up to and with the one at this index, where the end
--- counts as a token: a text that ends there is another text than one that goes on
-abbrev pub NoneAgrees : List Token → ℕ → Type 0
-NoneAgrees tokens at = (others : List Token) (b : PlainBlock) → take (at + 1) others ≡ take (at + 1) tokens → Reads others b → ⊥
-
--- what a refusal says of the tokens; want of memory says nothing
-abbrev pub Refuses : List Token → ParseFault → Type 0
-Refuses tokens (Unexpected at) = (at ≤ length tokens) × NoneAgrees tokens at
-Refuses tokens (TooDeep at) = (b : PlainBlock) × Reads tokens b × (first_too_high b ≡ Some at)
-Refuses tokens NoMemory = Unit {0}
-
--- what an answer says of a tree that the tokens read as
-abbrev pub Answers : Result Block ParseFault → PlainBlock → Type 0
-Answers (Ok block) b = (block_of block ≡ b) × (Height b ≤ GREATEST_HEIGHT)
-Answers (Err (Unexpected at)) b = ⊥
-Answers (Err (TooDeep at)) b = (GREATEST_HEIGHT < Height b) × (first_too_high b ≡ Some at)
-Answers (Err NoMemory) b = Unit {0}
