@@ -20,9 +20,9 @@ ghost use Rattle.sdl_compile.specs.Routes.{KnownParty, IsKnown, IsKnownPath, Has
 use crate::process::{Survey, compile_process};
 use crate::state::draft_name;
 use crate::variables::sort;
+use sdl_ast::{Identifier, Path, Route, SignalDeclaration};
 use sdl_rules::{Measure, Resolved, budget_law, chances_law};
 use sdl_tables::{BlockTable, NameTable};
-use sdl_ast::{Identifier, Path, Route, SignalDeclaration};
 use std::alloc::{AllocError, Global};
 use turn_code::{
     Draft, DraftProcess, DraftRoute, DraftSignal, Party, ProcessNumber, Sequence, SignalNumber,

@@ -5,9 +5,9 @@ ghost use Rattle.sdl_tables.specs.Names.{variables_of};
 ghost use Rattle.sdl_sound.specs.Longest.{size};
 ghost use Rattle.sdl_trimmed.specs.Trimmed.{trimmed};
 
+use sdl_ast::Transition;
 use sdl_rules::code_size;
 use sdl_tables::ProcessTable;
-use sdl_ast::Transition;
 
 /// A transition, and its copy.
 #[derive(Drop)]

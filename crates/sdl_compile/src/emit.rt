@@ -10,7 +10,9 @@ ghost use Rattle.sdl_compile.specs.Named.{NamedTree, NamedTrees, NamedTasks, Nam
 ghost use Rattle.sdl_compile.specs.Code.{tree_code, trees_code, tasks_code, sendings_code, action_code, places_code, unary_code, binary_code, division_code};
 
 use crate::names::Names;
-use sdl_ast::{Action, Assignment, BinaryOperator, Destination, Expression, Identifier, Sending, UnaryOperator};
+use sdl_ast::{
+    Action, Assignment, BinaryOperator, Destination, Expression, Identifier, Sending, UnaryOperator,
+};
 use std::alloc::AllocError;
 use turn_code::{Instruction, Relation};
 

@@ -19,7 +19,10 @@ use crate::bodies::Body;
 use crate::emit::is_division;
 use crate::landing::both;
 use crate::names::Names;
-use sdl_ast::{Action, Assignment, Connection, Decision, End, Expression, Identifier, Range, Sending, Statement, Transition};
+use sdl_ast::{
+    Action, Assignment, Connection, Decision, End, Expression, Identifier, Range, Sending,
+    Statement, Transition,
+};
 use std::alloc::{AllocError, Global};
 use turn_code::{VariableNumber, VariableSet};
 

@@ -7,9 +7,9 @@ ghost use Rattle.sdl_compile.specs.Act.{variable_at, state_at, timer_at, connect
 ghost use Rattle.sdl_compile.specs.Named.{HasReceiver};
 ghost use Rattle.sdl_compile.specs.Code.{number_or_zero, party_or_environment, receiver_code};
 
+use sdl_ast::{Destination, Expression, Identifier, Sort};
 use sdl_rules::{Recipients, find_receivers, sort_in};
 use sdl_tables::{BlockTable, ProcessTable};
-use sdl_ast::{Destination, Expression, Identifier, Sort};
 use turn_code::{
     Party, ProcessNumber, Receiver, SignalNumber, StateNumber, TimerNumber, VariableNumber,
 };

@@ -16,8 +16,8 @@ use crate::names::Names;
 use crate::placing::{connection_places, place_connections};
 use crate::texts::emit_piece;
 use crate::totals::{Layout, piece_counts};
-use sdl_rules::Measure;
 use sdl_ast::{Identifier, Transition};
+use sdl_rules::Measure;
 use std::alloc::{AllocError, Global};
 use turn_code::{
     Cert, DraftPiece, DraftSignal, DraftVariable, PlaceFacts, Sequence, Sort, VariableSet,

@@ -13,8 +13,8 @@ ghost use Rattle.sdl_compile.specs.Code.{number_or_zero, code_joins, else_joins,
 
 use crate::bodies::Body;
 use crate::names::Names;
-use sdl_rules::Measure;
 use sdl_ast::{Decision, End, Join, Statement, Transition};
+use sdl_rules::Measure;
 use std::alloc::{AllocError, Global};
 
 #[cycle(placing)]

@@ -14,9 +14,9 @@ ghost use Rattle.sdl_compile.specs.Contexts.{IsContext};
 use crate::bodies::Body;
 use crate::names::Names;
 use crate::piece::{Setting, compile_transition};
+use sdl_ast::{Identifier, InputPart, Stimulus, Transition};
 use sdl_lex::Name;
 use sdl_rules::Measure;
-use sdl_ast::{Identifier, InputPart, Stimulus, Transition};
 use sdl_trimmed::trim_transition;
 use std::alloc::{AllocError, Global};
 use turn_code::{
@@ -134,9 +134,7 @@ fn push_stimuli(
         → AllZip (IsInputOf (scope_in context.now.names.now) entry) (before ++ stimulus_inputs (input_of input.now)) drafts.new.items) }
 {
     for stimulus in &input.stimuli {
-        drafts.push(compile_input(
-            alloc, context, entry, input, stimulus, copy,
-        )?)?;
+        drafts.push(compile_input(alloc, context, entry, input, stimulus, copy)?)?;
     }
     Ok(())
 }

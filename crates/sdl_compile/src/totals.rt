@@ -10,8 +10,8 @@ ghost use Rattle.sdl_compile.specs.Settings.{IsSetting, IsReadyPiece};
 
 use crate::counts::{Counted, count_places};
 use crate::piece::Setting;
-use sdl_rules::Measure;
 use sdl_ast::{Identifier, Transition};
+use sdl_rules::Measure;
 use std::alloc::{AllocError, Global};
 use turn_code::Instruction;
 

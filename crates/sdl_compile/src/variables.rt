@@ -5,8 +5,8 @@ ghost use Rattle.sdl_tables.specs.Rows.{variable_of};
 ghost use Rattle.sdl_compile.specs.Declarations.{drafted, constant_value, sort_of_tree};
 
 use crate::state::draft_name;
-use sdl_tables::Variable;
 use sdl_ast::{Constant, Literal};
+use sdl_tables::Variable;
 use std::alloc::{AllocError, Global};
 use turn_code::{DraftVariable, Sort, Value, VariableSet};
 

@@ -11,8 +11,8 @@ ghost use Rattle.sdl_joins.specs.Links.{graph_in, IsGraph};
 ghost use Rattle.sdl_sound.specs.Orders.{targets_of, links_of, joins_in};
 
 use crate::graph::marks_from;
-use sdl_tables::{NameTable, ProcessTable};
 use sdl_ast::{Connection, Decision, End, Join, Statement, Transition};
+use sdl_tables::{NameTable, ProcessTable};
 use std::alloc::{AllocError, Global};
 
 fn push_end(joins: &mut Vec<Join>, end: Option<End>) -> Result<(), AllocError>

@@ -12,8 +12,8 @@ ghost use Rattle.sdl_sound.specs.Orders.{links_of, IsOrdered, AreOrdered};
 
 use crate::graph::{marks_from, order_nodes};
 use crate::joins::{find_joins, find_links};
-use sdl_tables::{BlockTable, ProcessTable, earlier};
 use sdl_ast::Join;
+use sdl_tables::{BlockTable, ProcessTable, earlier};
 use std::alloc::{AllocError, Global};
 
 /// The place of a JOIN, if it comes back to the connection with this number.

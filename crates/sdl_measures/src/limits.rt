@@ -17,10 +17,10 @@ ghost use Rattle.sdl_sound.specs.Limits.{exceeds, number_limits, transition_limi
 
 use crate::counts::{places_cost, places_depth};
 use crate::measures::{Measure, NOTHING, measure_transition};
+use sdl_ast::{Identifier, InputPart, SignalDeclaration, Stimulus, Transition};
 use sdl_joins::{find_links, reached_in};
 use sdl_sound::{Limit, standing_inputs};
 use sdl_tables::{BlockTable, InputRow, ProcessTable};
-use sdl_ast::{Identifier, InputPart, SignalDeclaration, Stimulus, Transition};
 use std::alloc::{AllocError, Global};
 
 /// Whether a transition is too long or too deep, or has too many effects.

@@ -9,9 +9,9 @@ ghost use Rattle.sdl_measures.specs.Measures.{capped, AreMeasures, AllMeasures};
 ghost use Rattle.sdl_sound.specs.Orders.{IsOrder, AreOrders};
 
 use crate::counts;
+use sdl_ast::{Action, Answer, Decision, End, Identifier, Range, Statement, Transition};
 use sdl_sorts::is_truth;
 use sdl_tables::{BlockTable, ProcessTable};
-use sdl_ast::{Action, Answer, Decision, End, Identifier, Range, Statement, Transition};
 use std::alloc::{AllocError, Global};
 
 /// What is measured of a connection, up to 4,294,967,295 each. What a JOIN to it goes on with counts what the

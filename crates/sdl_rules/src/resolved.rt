@@ -8,6 +8,7 @@ ghost use Rattle.sdl_unset.specs.Surveys.{AllSettled};
 ghost use Rattle.sdl_sound.specs.Sound.{Sound};
 ghost use Rattle.sdl_sound.specs.Refusals.{IsDistinct, IsSingle, IsJoined, IsDivided, IsWithin, Refuses};
 
+use sdl_ast::{Block, Route, SignalDeclaration};
 use sdl_joins::find_orders;
 use sdl_measures::{Measure, first_limit, measure_all};
 use sdl_scopes::stray_end;
@@ -16,7 +17,6 @@ use sdl_statements::{
     bad_divisor, doubtful_output, lost_output, missing_answer, unknown_name, wrong_sort,
 };
 use sdl_tables::{BlockTable, NameTable, ProcessTable};
-use sdl_ast::{Block, Route, SignalDeclaration};
 use sdl_unset::{Unset, settle};
 use std::alloc::Global;
 use std::marker::Model;

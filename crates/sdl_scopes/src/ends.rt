@@ -12,8 +12,8 @@ ghost use Rattle.sdl_sound.specs.Ends.{action_place, end_place, stray_end, stray
 ghost use Rattle.sdl_scopes.specs.Rests.{IsRest};
 
 use crate::going::a_body_goes_on;
-use sdl_tables::{BlockTable, NameTable, ProcessTable, earlier};
 use sdl_ast::{Action, Connection, Decision, End, Identifier, InputPart, Statement, Transition};
+use sdl_tables::{BlockTable, NameTable, ProcessTable, earlier};
 
 /// What is stray from some statement of a list on.
 #[derive(Clone, Copy)]

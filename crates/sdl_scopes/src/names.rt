@@ -8,8 +8,11 @@ ghost use Rattle.sdl_tables.specs.Names.{is_in, variable_names, timers_of, conne
 ghost use Rattle.sdl_tables.specs.Scopes.{Marks};
 ghost use Rattle.sdl_sound.specs.Names.{unknown, party_names, path_unknown, route_unknown, tree_names, assignment_names, sending_unknown, destination_names, action_unknown, end_connectors, trigger_names, saves_unknown, place_names, stimulus_unknown, input_unknown};
 
+use sdl_ast::{
+    Action, Assignment, Destination, End, Entity, Expression, Identifier, InputPart, Output, Party,
+    Path, Sending, SetTimer, StateClause, StatePart, Stimulus,
+};
 use sdl_tables::{BlockTable, NameTable, ProcessTable, earlier};
-use sdl_ast::{Action, Assignment, Destination, End, Entity, Expression, Identifier, InputPart, Output, Party, Path, Sending, SetTimer, StateClause, StatePart, Stimulus};
 
 /// The place of a name that a table lacks.
 fn missing(names: &NameTable, id: Identifier) -> Option<u32>

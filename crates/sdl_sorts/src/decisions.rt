@@ -10,8 +10,8 @@ ghost use Rattle.sdl_sound.specs.Parts.{question_of};
 ghost use Rattle.sdl_sorts.specs.Times.{Counted};
 
 use crate::sorts::is_truth;
-use sdl_tables::ProcessTable;
 use sdl_ast::{Answer, Decision, Literal, Range};
+use sdl_tables::ProcessTable;
 
 /// How often something is there.
 #[derive(Clone, Copy)]

@@ -9,9 +9,9 @@ ghost use Rattle.sdl_sound.specs.Sorts.{misfit, wrong_operands, wrong_in, wrong_
 
 use crate::divisors::place;
 use crate::sorts::{have_one_sort, operand_sort, sort_in, unary_sort, variable_sort};
+use sdl_ast::{Action, Assignment, BinaryOperator, Expression, Sending, Sort};
 use sdl_lex::Name;
 use sdl_tables::{BlockTable, ProcessTable, earlier};
-use sdl_ast::{Action, Assignment, BinaryOperator, Expression, Sending, Sort};
 
 /// The place of an expression that has another sort.
 fn misfit(process: &ProcessTable, want: Option<Sort>, expression: &Expression) -> Option<u32>

@@ -11,8 +11,8 @@ ghost use Rattle.sdl_sound.specs.Sorts.{wrong_place, too_many_places, wrong_stim
 use crate::divisors::place;
 use crate::operands::parameter_sorts;
 use crate::sorts::{has_sort, is_truth, same_sort, variable_sort};
-use sdl_tables::{BlockTable, ProcessTable, Variable, earlier};
 use sdl_ast::{Constant, Expression, Identifier, InputPart, Literal, Range, Sort, Stimulus};
+use sdl_tables::{BlockTable, ProcessTable, Variable, earlier};
 
 fn wrong_place(process: &ProcessTable, want: Sort, place: Option<Identifier>) -> Option<u32>
     ensures { Marks result (wrong_place (variables_of (process_of process.now)) (want, place)) }

@@ -6,8 +6,8 @@ ghost use Rattle.sdl_tables.specs.Names.{states_of, given_to, part_inputs, input
 ghost use Rattle.sdl_tables.specs.Rows.{row_at, stimulus_inputs};
 ghost use Rattle.sdl_sound.specs.Standing.{taken_in};
 
-use sdl_tables::{NameTable, ProcessTable};
 use sdl_ast::{InputPart, StateClause, StatePart};
+use sdl_tables::{NameTable, ProcessTable};
 use std::alloc::{AllocError, Global};
 
 fn push_input<'a>(inputs: &mut Vec<&'a InputPart>, input: &'a InputPart) -> Result<(), AllocError>

@@ -9,9 +9,9 @@ ghost use Rattle.sdl_sound.specs.Receivers.{party_of, answers_all};
 ghost use Rattle.sdl_statements.specs.Sources.{gets_back, AreSenders, Knows};
 
 use crate::sources::Sender;
+use sdl_ast::{Action, Decision, Destination, Identifier, Party, Sending, Statement, Transition};
 use sdl_lex::Name;
 use sdl_tables::{BlockTable, NameTable, ProcessTable};
-use sdl_ast::{Action, Decision, Destination, Identifier, Party, Sending, Statement, Transition};
 use std::alloc::{AllocError, Global};
 
 /// A process as a party.

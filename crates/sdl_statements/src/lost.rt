@@ -17,8 +17,8 @@ use crate::reaching::{find_reaching, input_senders, senders_at};
 use crate::sender_table::{SenderTable, find_senders};
 use crate::sources::{Sender, start_senders};
 use crate::statements::{StatementRule, in_transition};
-use sdl_tables::{BlockTable, ProcessTable, earlier};
 use sdl_ast::{Connection, InputPart, Transition};
+use sdl_tables::{BlockTable, ProcessTable, earlier};
 use std::alloc::{AllocError, Global};
 
 /// The place of a signal in a transition that nobody gets, where these may have sent what it begins with.

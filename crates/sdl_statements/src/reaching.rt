@@ -14,10 +14,10 @@ ghost use Rattle.sdl_statements.specs.Sources.{source_origins, source_rows, AreN
 
 use crate::sender_table::SenderTable;
 use crate::sources::{Sender, Senders, is_marked, mark};
+use sdl_ast::{InputPart, Stimulus, Transition};
 use sdl_joins::{find_links, reached_in};
 use sdl_lex::Name;
 use sdl_tables::{BlockTable, ProcessTable};
-use sdl_ast::{InputPart, Stimulus, Transition};
 use std::alloc::{AllocError, Global};
 
 /// With what a transition begins.

@@ -9,9 +9,9 @@ ghost use Rattle.sdl_statements.specs.Sources.{Knows};
 ghost use Rattle.sdl_statements.specs.Founds.{Counts};
 
 use crate::known::{KnownSenders, party_of};
+use sdl_ast::{Action, Destination, Party, Sending};
 use sdl_lex::Name;
 use sdl_tables::{BlockTable, ProcessTable, earlier};
-use sdl_ast::{Action, Destination, Party, Sending};
 
 /// Who gets a signal by the routes.
 #[derive(Clone, Copy, Debug, PartialEq, Eq)]

@@ -5,9 +5,9 @@ ghost use Rattle.sdl_ast.specs.Views.{process_of, block_of};
 ghost use Rattle.sdl_statements.specs.SenderTables.{party_number, numbered, AreSendersOf, stimulus_rows, Tells};
 
 use crate::known::party_of;
+use sdl_ast::{Identifier, InputPart, Party, Stimulus};
 use sdl_lex::Name;
 use sdl_tables::{BlockTable, NameTable, ProcessTable};
-use sdl_ast::{Identifier, InputPart, Party, Stimulus};
 use std::alloc::{AllocError, Global};
 
 /// A party with its number; two with one number are the same party.

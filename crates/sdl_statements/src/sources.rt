@@ -11,9 +11,9 @@ ghost use Rattle.sdl_statements.specs.declared.sources.Sender.TheVariants.{Nobod
 ghost use Rattle.sdl_statements.specs.Sources.{sender_of, is_marked, AreSenders, Gathers, Marks};
 
 use crate::sender_table::{Numbered, SenderTable, numbered_senders};
+use sdl_ast::Party;
 use sdl_lex::Name;
 use sdl_tables::{BlockTable, ProcessTable};
-use sdl_ast::Party;
 use std::alloc::{AllocError, Global};
 
 /// Who sent what a transition begins with.

@@ -17,6 +17,9 @@ ghost use Rattle.sdl_statements.specs.Asked.{asked, asked_all, asks_origin};
 
 use crate::known::KnownSenders;
 use crate::receivers::{doubtful_in_action, lost_in_action};
+use sdl_ast::{
+    Action, Connection, Decision, End, Expression, InputPart, Range, Statement, Transition,
+};
 use sdl_scopes::{
     unknown_connector, unknown_in_action, unknown_in_block, unknown_in_expression,
     unknown_in_inputs, unknown_in_parts,
@@ -26,7 +29,6 @@ use sdl_sorts::{
     wrong_in_ranges,
 };
 use sdl_tables::{BlockTable, ProcessTable, earlier};
-use sdl_ast::{Action, Connection, Decision, End, Expression, InputPart, Range, Statement, Transition};
 use std::alloc::Global;
 
 /// A rule on statements.

@@ -12,8 +12,8 @@ use crate::name_table::NameTable;
 use crate::process_table::{ProcessTable, shared_declared};
 use crate::route_index::RouteIndex;
 use crate::scope::{Scope, earlier, index_names};
-use sdl_lex::Name;
 use sdl_ast::{Block, Entity, Identifier, Party, Process, Route, SignalDeclaration};
+use sdl_lex::Name;
 use std::alloc::{AllocError, Global};
 use std::marker::Model;
 

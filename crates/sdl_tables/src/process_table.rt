@@ -12,8 +12,11 @@ use crate::name_table::NameTable;
 use crate::scope::{Scope, add_names, earlier, first_shared, index_names};
 use crate::state_names::{Which, collect_names};
 use crate::triggers::trigger_double;
+use sdl_ast::{
+    Connection, Constant, Declaration, Group, Identifier, InputPart, Process, Sort, StateClause,
+    StatePart, Stimulus,
+};
 use sdl_lex::Name;
-use sdl_ast::{Connection, Constant, Declaration, Group, Identifier, InputPart, Process, Sort, StateClause, StatePart, Stimulus};
 use std::alloc::{AllocError, Global};
 use std::marker::Model;
 

@@ -11,8 +11,8 @@ ghost use Rattle.sdl_tables.specs.declared.route_index.End.{End as Key};
 ghost use Rattle.sdl_tables.specs.RouteIndexes.{Mention, held, same_end, mentions_of, side_of, end_of, passage_of, listed, is_carried, Indexes};
 
 use indexmap::{IndexMap, IndexSet};
-use sdl_lex::Name;
 use sdl_ast::{Party, Path, Route};
+use sdl_lex::Name;
 use std::alloc::{AllocError, Global};
 
 /// A party as it is looked up: without its place, and by its name in lower case.

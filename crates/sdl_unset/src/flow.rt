@@ -9,9 +9,9 @@ ghost use Rattle.sdl_tables.specs.Rows.{variable_of};
 ghost use Rattle.sdl_sound.specs.Paths.{Event, reads, sets, tree_events, assignment_events, sending_events, action_events, initial_sets};
 ghost use Rattle.sdl_unset.specs.Flows.{Tells, Does, place_events};
 
+use sdl_ast::{Action, Assignment, Expression, Identifier, Sending};
 use sdl_lex::Name;
 use sdl_tables::{ProcessTable, Variable};
-use sdl_ast::{Action, Assignment, Expression, Identifier, Sending};
 
 /// What a part of a transition does with the variables. Bit v is that of variable v.
 #[derive(Clone, Copy, Debug)]

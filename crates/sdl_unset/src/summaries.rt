@@ -18,9 +18,9 @@ ghost use Rattle.sdl_unset.specs.Flows.{Does, Stands, AreTold, AreJoined, text_d
 use crate::flow::{Flow, initials_flow, places_flow};
 use crate::walker::Walker;
 use crate::walks::{connection_walkers, walk_transition};
+use sdl_ast::{InputPart, Stimulus, Transition};
 use sdl_sound::standing_inputs;
 use sdl_tables::ProcessTable;
-use sdl_ast::{InputPart, Stimulus, Transition};
 use std::alloc::{AllocError, Global};
 use unset_paths::{Graph, Passage, Summary};
 

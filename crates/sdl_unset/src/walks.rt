@@ -14,9 +14,9 @@ ghost use Rattle.sdl_unset.specs.Flows.{Stands, Walked, AreTold, AreJoined, text
 
 use crate::flow::{action_flow, expression_flow};
 use crate::walker::{Walker, idle_walkers};
+use sdl_ast::{Connection, Decision, End, Statement, Transition};
 use sdl_lex::Name;
 use sdl_tables::ProcessTable;
-use sdl_ast::{Connection, Decision, End, Statement, Transition};
 use std::alloc::{AllocError, Global};
 
 /// The walker of the connection with a name.

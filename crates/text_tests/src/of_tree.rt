@@ -1,5 +1,5 @@
-use sdl_lex::{LexFault, Token, tokens};
 use sdl_ast::{Action, Block, Decision, Entity, Expression, Process, StateClause, Statement};
+use sdl_lex::{LexFault, Token, tokens};
 use sdl_tree::{ParseFault, parse};
 use std::alloc::{AllocError, Global};
 use std::test::Fail;

@@ -12,11 +12,11 @@ ghost use Rattle.sdl_compile.specs.Meant.{IsSetOf};
 ghost use Rattle.turn_verify.specs.Printed.{fault_text, place_text};
 ghost use Rattle.turn_verify.specs.Loaded.{IsLoaded, IsSoundText, IsRead, Gives, IsRefused, line_at, token_place, rule_place};
 
+use sdl_ast::Block;
 use sdl_compile::compile;
 use sdl_compile::laws::set_law;
 use sdl_lex::{LexFault, Token, line_of, tokens};
 use sdl_rules::{Resolved, RuleFault, resolve};
-use sdl_ast::Block;
 use sdl_tree::{ParseFault, parse};
 use std::alloc::Global;
 use std::fmt;
