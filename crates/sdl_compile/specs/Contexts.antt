@@ -5,7 +5,7 @@ use Rattle.sdl_sound.specs.Orders.{IsOrder}
 use Rattle.sdl_measures.specs.Measures.{AreMeasures}
 use Rattle.sdl_trimmed.specs.Trimmed.{AreTrimmed}
 use Rattle.sdl_compile.specs.declared.state.Context.{Context}
-use Rattle.sdl_compile.specs.Declarations.{drafted_signals, drafted_variables}
+use Rattle.sdl_meaning.specs.Declarations.{drafted_signals, drafted_variables}
 
 -- the variables are those of the process, the signals those of the block; the order, the measures and the copies are those of its connections
 pub record IsContext (x : Context) : Type 0 where

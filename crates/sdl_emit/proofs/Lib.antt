@@ -1,0 +1,9 @@
+pub mod Collecting
+pub mod Copies
+pub mod Emitting
+pub mod Gathering
+pub mod Landed
+pub mod Marked
+pub mod Once
+pub mod Spacing
+pub mod Trimming
