@@ -9,14 +9,9 @@ ghost use Rattle.sdl_compile.specs.Drafts.{Means};
 ghost use Rattle.sdl_facts.specs.Made.{IsPieceOf};
 ghost use Rattle.sdl_facts.specs.Settings.{IsSetting, IsReadyPiece, count_from, effects_from};
 
-use sdl_emit::{Body, text_size};
-use sdl_facts::{Marks, greatest_depth, place_facts};
-use sdl_facts::{Standing, place_sets};
-use sdl_emit::Names;
-use sdl_emit::{connection_places, place_connections};
-use sdl_emit::emit_piece;
-use sdl_facts::{Layout, piece_counts};
 use sdl_ast::{Identifier, Transition};
+use sdl_emit::{Body, Names, connection_places, emit_piece, place_connections, text_size};
+use sdl_facts::{Layout, Marks, Standing, greatest_depth, piece_counts, place_facts, place_sets};
 use sdl_rules::Measure;
 use std::alloc::{AllocError, Global};
 use turn_code::{

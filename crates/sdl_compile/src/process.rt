@@ -12,12 +12,11 @@ ghost use Rattle.sdl_compile.specs.Contexts.{IsContext};
 ghost use Rattle.sdl_meaning.specs.Declarations.{drafted_signals};
 ghost use Rattle.sdl_compile.specs.Drafts.{IsReadyProcess, MatchesProcess, IsProcessOf, AllReady, AllTriggers, IsNamedAs, SavesAll, AreInputsOf, sets_of};
 
-use sdl_emit::Body;
-use sdl_emit::Names;
-use sdl_facts::Setting;
 use crate::piece::compile_transition;
 use crate::state::{Context, compile_states, draft_name};
 use crate::variables::{compile_variables, set_at_start};
+use sdl_emit::{Body, Names};
+use sdl_facts::Setting;
 use sdl_rules::{Measure, standing_inputs};
 use sdl_tables::{BlockTable, NameTable, ProcessTable};
 use sdl_trimmed::{trim_connections, trim_transition};

@@ -11,11 +11,10 @@ ghost use Rattle.sdl_meaning.specs.Declarations.{trigger_of, trigger_sorts, para
 ghost use Rattle.sdl_compile.specs.Drafts.{AllReady, IsNamedAs, MatchesInputs, SavesAll, AreReady, IsReadyInput, IsInputOf, AreInputsOf, IsTrigger, AreTriggers, AllTriggers, sets_of};
 ghost use Rattle.sdl_compile.specs.Contexts.{IsContext};
 
-use sdl_emit::Body;
-use sdl_emit::Names;
-use sdl_facts::Setting;
 use crate::piece::compile_transition;
 use sdl_ast::{Identifier, InputPart, Stimulus, Transition};
+use sdl_emit::{Body, Names};
+use sdl_facts::Setting;
 use sdl_lex::Name;
 use sdl_rules::Measure;
 use sdl_trimmed::trim_transition;

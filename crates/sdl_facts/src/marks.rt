@@ -15,14 +15,11 @@ ghost use Rattle.sdl_facts.specs.Entries.{entry_at, AreOfAll, met_at, end_met, m
 ghost use Rattle.sdl_facts.specs.Facts.{tree_sets, trees_sets, sendings_sets, tasks_sets, action_sets, ranges_sets, tests_sets, leave_sets, text_sets, else_sets, answers_sets, decision_sets, places_sets, connections_sets, piece_sets};
 ghost use Rattle.sdl_meaning.specs.Code.{text_at};
 
-use sdl_emit::Body;
-use sdl_emit::is_division;
-use sdl_emit::both;
-use sdl_emit::Names;
 use sdl_ast::{
     Action, Assignment, Connection, Decision, End, Expression, Identifier, Range, Sending,
     Statement, Transition,
 };
+use sdl_emit::{Body, Names, both, is_division};
 use std::alloc::{AllocError, Global};
 use turn_code::{VariableNumber, VariableSet};
 
