@@ -84,7 +84,7 @@ fn make_piece(
     let names = setting.names;
     let numbers = place_connections(alloc, names, transition)?;
     let start = places_length(places) + code_size(names.process, transition) as usize;
-    let targets = connection_places(alloc, names, start, &numbers)?;
+    let targets = connection_places(alloc, names, setting.measures, start, &numbers)?;
     let code = emit_piece(alloc, names, places, transition, &numbers, &targets)?;
     let standing = Standing {
         places,

@@ -2,6 +2,8 @@
 ghost use Rattle.std.specs.Prelude.{◌≡◌, ◌+◌, ◌≤◌, ◌<◌, ◌++◌, ℕ, [], fold, length, replicate, All, IsSome, OnOk, IfOk};
 ghost use Rattle.std.specs.List.{list_any, sum_by};
 ghost use Rattle.sdl_tree.specs.Views.{text_of, statement_of, choice_of, else_choice, process_of};
+ghost use Rattle.sdl_measures.specs.Counting.{measure_at};
+ghost use Rattle.sdl_measures.specs.Measures.{AreMeasures};
 ghost use Rattle.sdl_compile.specs.Scopes.{scope_in, places_by};
 ghost use Rattle.sdl_compile.specs.Placing.{decision_joins, numbers_of, HaveNumbers, AreMarked};
 ghost use Rattle.sdl_compile.specs.Named.{NamedText, NamedConnections};
@@ -9,7 +11,7 @@ ghost use Rattle.sdl_compile.specs.Act.{connector_at};
 ghost use Rattle.sdl_compile.specs.Code.{number_or_zero, code_joins, else_joins, answers_joins, add_number, joined, text_at, size_at, place_in, ArePlaced};
 
 use crate::names::Names;
-use sdl_rules::code_size;
+use sdl_rules::Measure;
 use sdl_tree::{Decision, End, Join, Statement, Transition};
 use std::alloc::{AllocError, Global};
 
@@ -196,25 +198,35 @@ pub(crate) fn place_connections(
     Ok(placed)
 }
 
-/// How many instructions the connection with a number has.
-pub(crate) fn connection_size(names: &Names, number: usize) -> usize
+fn measured_size(measures: &[Measure], number: usize) -> u32
+    ensures { result ≡ (measure_at measures.now number).size }
+{
+    match measures.get(number) {
+        Some(measure) => measure.size,
+        None => 0,
+    }
+}
+
+/// How many instructions the connection with a number has: that is measured already.
+fn connection_size(names: &Names, measures: &[Measure], number: usize) -> usize
+    requires measured { AreMeasures (process_of names.now.process.now) measures.now }
     requires there { number < length (process_of names.now.process.now).connections }
     requires short { size_at (scope_in names.now) number ≤ 512 }
     ensures { result ≡ size_at (scope_in names.now) number }
 {
-    let connection = &names.process.process().connections[number];
-    code_size(names.process, &connection.transition) as usize
+    measured_size(measures, number) as usize
 }
 
 /// How many instructions they have together.
-fn total_size(names: &Names, placed: &[usize]) -> usize
+fn total_size(names: &Names, measures: &[Measure], placed: &[usize]) -> usize
+    requires measured { AreMeasures (process_of names.now.process.now) measures.now }
     requires there { All (λ n. n < length (process_of names.now.process.now).connections) placed.now }
     requires short { sum_by (size_at (scope_in names.now)) placed.now ≤ 512 }
     ensures { result ≡ sum_by (size_at (scope_in names.now)) placed.now }
 {
     let mut total = 0;
     for number in placed {
-        total += connection_size(names, *number);
+        total += connection_size(names, measures, *number);
     }
     total
 }
@@ -233,21 +245,23 @@ fn zeros(alloc: Global, count: usize) -> Result<Vec<usize>, AllocError>
 pub(crate) fn connection_places(
     alloc: Global,
     names: &Names,
+    measures: &[Measure],
     start: usize,
     placed: &[usize],
 ) -> Result<Vec<usize>, AllocError>
+    requires measured { AreMeasures (process_of names.now.process.now) measures.now }
     requires there { All (λ n. n < length (process_of names.now.process.now).connections) placed.now }
     requires short { start + sum_by (size_at (scope_in names.now)) placed.now ≤ 512 }
     ensures places { IfOk result (λ ps. (n : ℕ) → places_by ps.items n ≡ place_in (scope_in names.now) start placed.now n) }
     ensures low { IfOk result (λ ps. All (λ p. p ≤ 512) ps.items) }
 {
     let mut places = zeros(alloc, names.process.process().connections.len())?;
-    let mut place = start + total_size(names, placed);
+    let mut place = start + total_size(names, measures, placed);
     let mut left = placed.len();
     while left > 0 {
         left -= 1;
         let number = placed[left];
-        place -= connection_size(names, number);
+        place -= connection_size(names, measures, number);
         places[number] = place;
     }
     Ok(places)
