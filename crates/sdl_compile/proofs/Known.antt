@@ -22,12 +22,12 @@ use Rattle.sdl_sound.specs.Names.{unknown, tree_names, assignment_names, sending
 use Rattle.sdl_sound.specs.Ends.{first_place, stray_end, strays, choice_strays}
 use Rattle.sdl_sound.specs.Sorts.{wrong_in, parameter_sorts, wrong_parameter, wrong_number, wrong_sending, wrong_action, wrong_statement, wrong_answer, answers_question, range_place}
 use Rattle.sdl_sound.specs.Receivers.{arrives, answers_all, lost_sending, lost_action, lost_statement, is_doubtful, doubtful_sending, doubtful_action, doubtful_statement}
-use Rattle.sdl_compile.specs.Act.{Scope, variable_at, to_sender}
-use Rattle.sdl_compile.specs.Named.{NamedTree, NamedTrees, NamedTasks, HasReceiver, NamedSendings, NamedAction, NamedEnd, NamedText, NamedChoice, AnswerTo, NamedPlaces, IsSentTo, AnswerAll, AnswersTo, AnswersAction, AnswersSenders, ChoiceAnswers}
+use Rattle.sdl_meaning.specs.Act.{Scope, variable_at, to_sender}
+use Rattle.sdl_meaning.specs.Named.{NamedTree, NamedTrees, NamedTasks, HasReceiver, NamedSendings, NamedAction, NamedEnd, NamedText, NamedChoice, AnswerTo, NamedPlaces, IsSentTo, AnswerAll, AnswersTo, AnswersAction, AnswersSenders, ChoiceAnswers}
 use Rattle.sdl_compile.specs.Drafts.{IsTrigger}
-use Rattle.sdl_compile.proofs.Items.{Each, each_front, each_back, nil_front, nil_back}
-use Rattle.sdl_compile.proofs.Sorting.{passed}
-use Rattle.sdl_compile.proofs.Actions.{as_many}
+use Rattle.sdl_meaning.proofs.Items.{Each, each_front, each_back, nil_front, nil_back}
+use Rattle.sdl_meaning.proofs.Sorting.{passed}
+use Rattle.sdl_facts.proofs.Actions.{as_many}
 
 -- a list has an item that passes: the first one has a place
 before_end : {A : Type 0} (p : A → Bool) (xs : List A) → list_any p xs ≡ true → prefix_len (λ x. not (p x)) xs < length xs

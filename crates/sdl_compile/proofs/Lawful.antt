@@ -10,8 +10,8 @@ use Rattle.sdl_sound.specs.Paths.{Transition}
 use Rattle.sdl_sound.specs.Settled.{IsSettled}
 use Rattle.sdl_sound.specs.Sound.{Sound}
 use Rattle.sdl_sound.specs.Laws.{IsTextOf, ChancesLaw}
-use Rattle.sdl_compile.specs.Act.{scope_of}
-use Rattle.sdl_compile.proofs.Validity.{item_of}
+use Rattle.sdl_meaning.specs.Act.{scope_of}
+use Rattle.sdl_valid.proofs.Validity.{item_of}
 use Rattle.sdl_compile.proofs.Placed.{IsInProcess, Tells}
 
 contains_at : {A : Type 0} (xs : List A) (k : ℕ) (x : A) → slice_get xs k ≡ Some x → Contains xs x

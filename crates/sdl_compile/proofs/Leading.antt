@@ -9,8 +9,8 @@ use Rattle.sdl_tree.specs.declared.tree.End.{End}
 use Rattle.sdl_tree.specs.declared.tree.End.TheVariants.{NextState, Stop, Join}
 use Rattle.sdl_tree.specs.Plain.{Tree, Text, falls, ends, does, decides, Choice, nothing_else, otherwise, answer}
 use Rattle.sdl_sound.specs.Statements.{statements_of, choice_statements, statement_joins, joins_of}
-use Rattle.sdl_compile.proofs.Branches.{EachEnd, EachJoin, ChoiceJoin}
-use Rattle.sdl_compile.proofs.Items.{Each, each_front, each_back}
+use Rattle.sdl_meaning.proofs.Branches.{EachEnd, EachJoin, ChoiceJoin}
+use Rattle.sdl_meaning.proofs.Items.{Each, each_front, each_back}
 
 module _ (P : tree_join.Join → Type 0) where
   each_contained : (js : List tree_join.Join) → ((j : tree_join.Join) → Contains js j → P j) → Each P js

@@ -13,20 +13,20 @@ use Rattle.turn_code.specs.declared.variable_set.VariableSet.{VariableSet}
 use Rattle.turn_code.specs.declared.draft.PlaceFacts.{PlaceFacts}
 use Rattle.sdl_sound.specs.Longest.{Piece, piece_budget, piece_depth, piece_effects}
 use Rattle.sdl_sound.specs.Orders.{IsOrder}
-use Rattle.sdl_compile.specs.Act.{Scope}
-use Rattle.sdl_compile.specs.Code.{ArePlaced, size_at, connections_place, piece_code}
-use Rattle.sdl_compile.specs.Named.{NamedPiece}
-use Rattle.sdl_compile.specs.Facts.{shapes_from, piece_sets}
-use Rattle.sdl_compile.specs.Declarations.{drafted_signals, drafted_variables}
-use Rattle.sdl_compile.specs.Made.{IsPieceOf}
-use Rattle.sdl_compile.specs.declared.counts.Counted.TheVariants.{Instructions, Effects}
-use Rattle.sdl_compile.specs.Entries.{piece_entries}
-use Rattle.sdl_compile.specs.Counts.{weight, number_at, AreCounts}
-use Rattle.sdl_compile.specs.Settings.{IsReadyPiece, count_from, effects_from}
-use Rattle.sdl_compile.proofs.Spots.{Spot, piece_spots, piece_instructions}
-use Rattle.sdl_compile.proofs.Setting.{piece_set_at}
-use Rattle.sdl_compile.proofs.Depths.{facts_deep}
-use Rattle.sdl_compile.proofs.Reached.{placed_stands}
+use Rattle.sdl_meaning.specs.Act.{Scope}
+use Rattle.sdl_meaning.specs.Code.{ArePlaced, size_at, connections_place, piece_code}
+use Rattle.sdl_meaning.specs.Named.{NamedPiece}
+use Rattle.sdl_facts.specs.Facts.{shapes_from, piece_sets}
+use Rattle.sdl_meaning.specs.Declarations.{drafted_signals, drafted_variables}
+use Rattle.sdl_facts.specs.Made.{IsPieceOf}
+use Rattle.sdl_facts.specs.declared.counts.Counted.TheVariants.{Instructions, Effects}
+use Rattle.sdl_facts.specs.Entries.{piece_entries}
+use Rattle.sdl_facts.specs.Counts.{weight, number_at, AreCounts}
+use Rattle.sdl_facts.specs.Settings.{IsReadyPiece, count_from, effects_from}
+use Rattle.sdl_facts.proofs.Spots.{Spot, piece_spots, piece_instructions}
+use Rattle.sdl_facts.proofs.Setting.{piece_set_at}
+use Rattle.sdl_facts.proofs.Depths.{facts_deep}
+use Rattle.sdl_meaning.proofs.Reached.{placed_stands}
 
 there_within : {A : Type 0} (xs : List A) (k : ℕ) (x : A) → slice_get xs k ≡ Some x → k < length xs
 there_within [] k x e = absurd (let k : ⊥ = cc in k)

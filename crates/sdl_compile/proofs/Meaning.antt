@@ -23,15 +23,15 @@ use Rattle.sdl_tables.specs.Names.{Input, processes_of, process_names, inputs_by
 use Rattle.sdl_sound.specs.Longest.{start_piece, input_piece}
 use Rattle.sdl_sound.specs.Receivers.{paths_of}
 use Rattle.sdl_sound.specs.Sound.{Sound}
-use Rattle.sdl_compile.specs.Act.{scope_of, signal_at}
-use Rattle.sdl_compile.specs.Named.{IsSentIf, IsSentTo}
-use Rattle.sdl_compile.specs.Code.{number_or_zero}
-use Rattle.sdl_compile.specs.Declarations.{trigger_with, trigger_of}
+use Rattle.sdl_meaning.specs.Act.{scope_of, signal_at}
+use Rattle.sdl_meaning.specs.Named.{IsSentIf, IsSentTo}
+use Rattle.sdl_meaning.specs.Code.{number_or_zero}
+use Rattle.sdl_meaning.specs.Declarations.{trigger_with, trigger_of}
 use Rattle.sdl_compile.specs.Drafts.{MatchesProcess, MatchesInputs, MatchesInput}
 use Rattle.sdl_compile.specs.Blocks.{MatchesBlock}
 use Rattle.sdl_compile.specs.Routes.{IsKnownPath}
 use Rattle.sdl_compile.specs.Meaning.{input_of_state, IsMeant, RunsAsMeant}
-use Rattle.sdl_compile.proofs.Items.{Each}
+use Rattle.sdl_meaning.proofs.Items.{Each}
 use Rattle.sdl_compile.proofs.Sent.{sent_by}
 use Rattle.sdl_compile.proofs.Whole.{known_paths}
 

@@ -18,7 +18,7 @@ use Rattle.turn_code.specs.Outcome.{outcome_in, Means}
 use Rattle.sdl_tables.specs.Names.{Input, processes_of, inputs_by_state}
 use Rattle.sdl_sound.specs.Longest.{start_piece, input_piece}
 use Rattle.sdl_sound.specs.Sound.{Sound}
-use Rattle.sdl_compile.specs.Act.{scope_of}
+use Rattle.sdl_meaning.specs.Act.{scope_of}
 use Rattle.sdl_compile.specs.Drafts.{MatchesProcess, MatchesInputs, MatchesInput}
 use Rattle.sdl_compile.specs.Blocks.{MatchesBlock}
 use Rattle.sdl_compile.specs.Meaning.{input_of_state, IsMeant, RunsAsMeant}

@@ -11,14 +11,14 @@ use Rattle.turn_code.specs.declared.variable_set.VariableSet.{VariableSet}
 use Rattle.turn_code.specs.declared.draft.DraftPiece.{DraftPiece}
 use Rattle.sdl_sound.specs.Joins.{reaches, reached}
 use Rattle.sdl_sound.specs.Longest.{Piece, piece_size}
-use Rattle.sdl_compile.specs.Act.{Scope}
-use Rattle.sdl_compile.specs.Code.{text_at, ArePlaced}
-use Rattle.sdl_compile.specs.Named.{AnswersSenders, AnswersAll}
+use Rattle.sdl_meaning.specs.Act.{Scope}
+use Rattle.sdl_meaning.specs.Code.{text_at, ArePlaced}
+use Rattle.sdl_meaning.specs.Named.{AnswersSenders, AnswersAll}
 use Rattle.sdl_compile.specs.Drafts.{Means}
-use Rattle.sdl_compile.specs.Made.{IsPieceOf}
-use Rattle.sdl_compile.specs.Settings.{IsReadyPiece}
-use Rattle.sdl_compile.proofs.Acts.{run_is_act}
-use Rattle.sdl_compile.proofs.Reached.{placed_reached}
+use Rattle.sdl_facts.specs.Made.{IsPieceOf}
+use Rattle.sdl_facts.specs.Settings.{IsReadyPiece}
+use Rattle.sdl_meaning.proofs.Acts.{run_is_act}
+use Rattle.sdl_meaning.proofs.Reached.{placed_reached}
 
 -- an item that passes a test is among those that do
 kept_there : {A : Type 0} (test : A → Bool) (xs : List A) (n : ℕ) (x : A) → slice_get xs n ≡ Some x → test x ≡ true → Contains (filter test xs) x

@@ -44,31 +44,31 @@ use Rattle.sdl_sound.specs.Settled.{IsSettled}
 use Rattle.sdl_sound.specs.Names.{place_names}
 use Rattle.sdl_sound.specs.Sorts.{same_sort, literal_sort, wrong_constant, wrong_initial, wrong_place, too_many_places, parameter_sorts}
 use Rattle.sdl_sound.specs.Receivers.{paths_of, answers}
-use Rattle.sdl_compile.specs.Act.{Scope, variable_at, signal_at}
-use Rattle.sdl_compile.specs.Code.{number_or_zero}
-use Rattle.sdl_compile.specs.Named.{AreSorted, NamedText, NamedConnections, NamedPiece}
-use Rattle.sdl_compile.specs.Facts.{shapes_from}
-use Rattle.sdl_compile.specs.Made.{IsPieceOf, IsSmall}
-use Rattle.sdl_compile.specs.Declarations.{sort_of_tree, literal_value, constant_value, drafted, drafted_signal, drafted_variables, drafted_signals, trigger_with, trigger_of, trigger_sorts}
+use Rattle.sdl_meaning.specs.Act.{Scope, variable_at, signal_at}
+use Rattle.sdl_meaning.specs.Code.{number_or_zero}
+use Rattle.sdl_meaning.specs.Named.{AreSorted, NamedText, NamedConnections, NamedPiece}
+use Rattle.sdl_facts.specs.Facts.{shapes_from}
+use Rattle.sdl_facts.specs.Made.{IsPieceOf, IsSmall}
+use Rattle.sdl_meaning.specs.Declarations.{sort_of_tree, literal_value, constant_value, drafted, drafted_signal, drafted_variables, drafted_signals, trigger_with, trigger_of, trigger_sorts}
 use Rattle.sdl_compile.specs.Drafts.{IsTrigger, IsReadyInput, IsReadyProcess, SavesAll, IsInputOf, AreInputsOf, sets_of, IsProcessOf, AreReady, AllReady}
 use Rattle.sdl_compile.specs.Blocks.{Declares, IsValidProcess}
-use Rattle.sdl_compile.specs.Reads.{everything, ReadText, places_set}
-use Rattle.sdl_compile.specs.Entries.{entry_at, met, connections_met, piece_entries}
+use Rattle.sdl_facts.specs.Reads.{everything, ReadText, places_set}
+use Rattle.sdl_facts.specs.Entries.{entry_at, met, connections_met, piece_entries}
 use Rattle.sdl_compile.specs.Routes.{IsKnownPath}
-use Rattle.sdl_compile.proofs.Items.{Each, nil_front, nil_back}
-use Rattle.sdl_compile.proofs.Numbers.{AreNumbered, are_numbered, number_alike, number_there}
-use Rattle.sdl_compile.proofs.Sorting.{passed, number_small, variable_sorted, signal_sorted, unsigned_sorts}
-use Rattle.sdl_compile.proofs.Actions.{Stands, Reaching}
-use Rattle.sdl_compile.proofs.Spots.{Spot, instructions, shapes, piece_spots, piece_instructions}
-use Rattle.sdl_compile.proofs.Setting.{piece_set_at}
-use Rattle.sdl_compile.proofs.Fine.{RightText, chain_shapes}
-use Rattle.sdl_compile.proofs.Standing.{start_enters, piece_made}
-use Rattle.sdl_compile.proofs.Settling.{all_fit, all_read}
+use Rattle.sdl_meaning.proofs.Items.{Each, nil_front, nil_back}
+use Rattle.sdl_meaning.proofs.Numbers.{AreNumbered, are_numbered, number_alike, number_there}
+use Rattle.sdl_meaning.proofs.Sorting.{passed, number_small, variable_sorted, signal_sorted, unsigned_sorts}
+use Rattle.sdl_facts.proofs.Actions.{Stands, Reaching}
+use Rattle.sdl_facts.proofs.Spots.{Spot, instructions, shapes, piece_spots, piece_instructions}
+use Rattle.sdl_facts.proofs.Setting.{piece_set_at}
+use Rattle.sdl_valid.proofs.Fine.{RightText, chain_shapes}
+use Rattle.sdl_valid.proofs.Standing.{start_enters, piece_made}
+use Rattle.sdl_valid.proofs.Settling.{all_fit, all_read}
 use Rattle.sdl_compile.proofs.Righting.{right_text}
 use Rattle.sdl_compile.proofs.Receiving.{answers_input, arriving}
 use Rattle.sdl_compile.proofs.Ready.{FineReached, FineWhole, FineInput, FineProcess, each_at}
-use Rattle.sdl_compile.proofs.Validity.{one_item, valid}
-use Rattle.sdl_compile.proofs.Walks.{Holds, places_hold, by_bool}
+use Rattle.sdl_valid.proofs.Validity.{one_item, valid}
+use Rattle.sdl_valid.proofs.Walks.{Holds, places_hold, by_bool}
 
 -- ---- lists by place
 

@@ -23,17 +23,17 @@ use Rattle.sdl_sound.specs.Sorts.{wrong_statement, wrong_stimulus, wrong_input, 
 use Rattle.sdl_sound.specs.Divisors.{statement_divisors}
 use Rattle.sdl_sound.specs.Decisions.{statement_unanswered}
 use Rattle.sdl_sound.specs.Receivers.{paths_of, answers, answers_origin, answers_all, arrives, lost_sending, lost_action, lost_statement, doubtful_statement}
-use Rattle.sdl_compile.specs.Act.{Scope, to_sender}
-use Rattle.sdl_compile.specs.Made.{IsSmall}
-use Rattle.sdl_compile.specs.Named.{NamedWhole, NamedConnections, IsSentTo, AnswersSenders, AnswersAll}
-use Rattle.sdl_compile.specs.Declarations.{sort_of_tree}
+use Rattle.sdl_meaning.specs.Act.{Scope, to_sender}
+use Rattle.sdl_facts.specs.Made.{IsSmall}
+use Rattle.sdl_meaning.specs.Named.{NamedWhole, NamedConnections, IsSentTo, AnswersSenders, AnswersAll}
+use Rattle.sdl_meaning.specs.Declarations.{sort_of_tree}
 use Rattle.sdl_compile.specs.Drafts.{IsTrigger, IsReadyInput, AreReady, AllReady, AreTriggers, AllTriggers, IsReadyProcess}
 use Rattle.sdl_compile.specs.Routes.{IsKnownPath}
 use Rattle.sdl_compile.proofs.Known.{FineStatement, text_ends, known, known_in, trigger_known, named_text, named_places, answers_text}
-use Rattle.sdl_compile.proofs.Numbers.{AreNumbered, are_numbered}
+use Rattle.sdl_meaning.proofs.Numbers.{AreNumbered, are_numbered}
 use Rattle.sdl_compile.proofs.Receiving.{has_receiver, answers_sender}
-use Rattle.sdl_compile.proofs.Sorting.{passed, slice_map}
-use Rattle.sdl_compile.proofs.Items.{Each, each_front, each_back, each_append, each_always, each_with, each_map, each_flat, each_unflat, each_false, all_items, nil_front, nil_back, each_nil}
+use Rattle.sdl_meaning.proofs.Sorting.{passed, slice_map}
+use Rattle.sdl_meaning.proofs.Items.{Each, each_front, each_back, each_append, each_always, each_with, each_map, each_flat, each_unflat, each_false, all_items, nil_front, nil_back, each_nil}
 
 equal_number : (m n : ℕ) → nat_eq m n ≡ true → m ≡ n
 equal_number m n e = grind (arith, nat_tests)

@@ -24,16 +24,16 @@ use Rattle.turn_code.specs.Routes.{IsProcess, IsPartyOf, the_process, Takes, Rea
 use Rattle.turn_code.specs.Rules.{ReachesReceiver, AnswersSender}
 use Rattle.sdl_tables.specs.Names.{same_name, is_in, number_of, signal_names, process_names, timers_of}
 use Rattle.sdl_sound.specs.Receivers.{same_party, party_of, paths_of, brings, carries, path_receivers, path_senders, add_party, receivers, senders, answers, answers_all, arrives, is_doubtful}
-use Rattle.sdl_compile.specs.Act.{Scope, numbered, the_one, if_named, to_sender}
-use Rattle.sdl_compile.specs.Code.{number_or_zero, party_or_environment, receiver_code}
-use Rattle.sdl_compile.specs.Named.{HasReceiver, IsSentIf, IsSentTo}
+use Rattle.sdl_meaning.specs.Act.{Scope, numbered, the_one, if_named, to_sender}
+use Rattle.sdl_meaning.specs.Code.{number_or_zero, party_or_environment, receiver_code}
+use Rattle.sdl_meaning.specs.Named.{HasReceiver, IsSentIf, IsSentTo}
 use Rattle.sdl_sound.specs.Actions.{Origin}
-use Rattle.sdl_compile.specs.Declarations.{trigger_with, trigger_of}
+use Rattle.sdl_meaning.specs.Declarations.{trigger_with, trigger_of}
 use Rattle.sdl_compile.specs.Drafts.{IsTrigger}
 use Rattle.sdl_compile.specs.Blocks.{drafted_party, drafted_path}
 use Rattle.sdl_compile.specs.Routes.{KnownParty, IsKnown, IsKnownPath}
-use Rattle.sdl_compile.proofs.Items.{Each, each_append, each_with, all_items}
-use Rattle.sdl_compile.proofs.Numbers.{AreNumbered, folded_alike, number_alike, number_there, same_self, same_other_way}
+use Rattle.sdl_meaning.proofs.Items.{Each, each_append, each_with, all_items}
+use Rattle.sdl_meaning.proofs.Numbers.{AreNumbered, folded_alike, number_alike, number_there, same_self, same_other_way}
 
 and_left : (a b : Bool) → a && b ≡ true → a ≡ true
 and_left true b e = refl

@@ -13,13 +13,13 @@ use Rattle.turn_code.specs.declared.input.Party.{Party}
 use Rattle.turn_code.specs.Routes.{IsProcess, Brings}
 use Rattle.sdl_tables.specs.Names.{same_name, is_in, number_of, signal_names, process_names}
 use Rattle.sdl_sound.specs.Receivers.{same_party, party_of, brings, paths_of}
-use Rattle.sdl_compile.specs.Act.{scope_of, named, signal_at}
-use Rattle.sdl_compile.specs.Code.{number_or_zero}
-use Rattle.sdl_compile.specs.Named.{IsBroughtBy}
+use Rattle.sdl_meaning.specs.Act.{scope_of, named, signal_at}
+use Rattle.sdl_meaning.specs.Code.{number_or_zero}
+use Rattle.sdl_meaning.specs.Named.{IsBroughtBy}
 use Rattle.sdl_compile.specs.Blocks.{drafted_party, drafted_path}
 use Rattle.sdl_compile.specs.Routes.{KnownParty, IsKnown, IsKnownPath, signal_numbered}
-use Rattle.sdl_compile.proofs.Items.{Each}
-use Rattle.sdl_compile.proofs.Numbers.{folded_alike, number_there, same_other_way}
+use Rattle.sdl_meaning.proofs.Items.{Each}
+use Rattle.sdl_meaning.proofs.Numbers.{folded_alike, number_there, same_other_way}
 use Rattle.std.specs.Prelude.{bytes_eq}
 
 names_alike : (x y z : List ℕ) → same_name x y ≡ true → same_name x z ≡ same_name y z

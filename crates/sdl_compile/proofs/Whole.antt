@@ -38,26 +38,26 @@ use Rattle.sdl_sound.specs.Actions.{in_statements}
 use Rattle.sdl_sound.specs.Orders.{IsOrder, AreOrders}
 use Rattle.sdl_sound.specs.Joins.{process_cycles}
 use Rattle.sdl_sound.specs.Laws.{BudgetLaw, ChancesLaw}
-use Rattle.sdl_compile.specs.Named.{NamedPiece, AreSorted}
-use Rattle.sdl_compile.proofs.Counted.{size_is}
+use Rattle.sdl_meaning.specs.Named.{NamedPiece, AreSorted}
+use Rattle.sdl_meaning.proofs.Counted.{size_is}
 use Rattle.sdl_compile.proofs.Kept.{piece_keeps}
-use Rattle.sdl_compile.proofs.Reached.{placed_reached}
+use Rattle.sdl_meaning.proofs.Reached.{placed_reached}
 use Rattle.sdl_compile.proofs.Lawful.{lawful}
 use Rattle.sdl_sound.specs.Sound.{Sound}
 use Rattle.sdl_sound.specs.Settled.{AreSettled}
 use Rattle.sdl_sound.specs.declared.fault.Limit.{Limit}
-use Rattle.sdl_compile.specs.Act.{Scope, scope_of}
-use Rattle.sdl_compile.specs.Made.{IsSmall, IsPieceOf}
-use Rattle.sdl_compile.specs.Declarations.{sort_of_tree, drafted_signal, drafted_signals}
+use Rattle.sdl_meaning.specs.Act.{Scope, scope_of}
+use Rattle.sdl_facts.specs.Made.{IsSmall, IsPieceOf}
+use Rattle.sdl_meaning.specs.Declarations.{sort_of_tree, drafted_signal, drafted_signals}
 use Rattle.sdl_compile.specs.Drafts.{IsReadyProcess, IsInputOf, AreInputsOf, IsProcessOf, sets_of}
 use Rattle.sdl_compile.specs.Blocks.{drafted_routes, Declares}
 use Rattle.sdl_compile.specs.Routes.{KnownParty, IsKnown, IsKnownPath, HasFewNames}
-use Rattle.sdl_compile.proofs.Items.{Each, each_front, each_back, each_with, each_unmap, each_flat, each_unflat, all_items, nil_front, nil_back, each_nil, each_false, each_unfound}
+use Rattle.sdl_meaning.proofs.Items.{Each, each_front, each_back, each_with, each_unmap, each_flat, each_unflat, all_items, nil_front, nil_back, each_nil, each_false, each_unfound}
 use Rattle.sdl_compile.proofs.Known.{known}
-use Rattle.sdl_compile.proofs.Numbers.{AreNumbered, are_numbered}
+use Rattle.sdl_meaning.proofs.Numbers.{AreNumbered, are_numbered}
 use Rattle.sdl_compile.proofs.Placed.{beside, valid_process, IsCounted, IsKnownTransition}
 use Rattle.sdl_compile.proofs.Ready.{FineProcess, process_fine, ready_process, small_pieces, at_most, each_both, each_at}
-use Rattle.sdl_compile.proofs.Sorting.{found_at, slice_map}
+use Rattle.sdl_meaning.proofs.Sorting.{found_at, slice_map}
 
 pub zip_length : {A B : Type 0} (R : A → B → Type 0) (xs : List A) (ys : List B) → AllZip R xs ys → length ys ≡ length xs
 zip_length R [] [] z = refl

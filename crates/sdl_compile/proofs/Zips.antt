@@ -11,11 +11,11 @@ use Rattle.sdl_sound.specs.Longest.{input_piece}
 use Rattle.sdl_tree.specs.declared.expression.Identifier.{Identifier}
 use Rattle.sdl_tree.specs.Plain.{PlainState, PlainProcess}
 use Rattle.sdl_tables.specs.Names.{Input, states_of, of_state, by_state}
-use Rattle.sdl_compile.specs.Act.{Scope}
+use Rattle.sdl_meaning.specs.Act.{Scope}
 use Rattle.sdl_compile.specs.Drafts.{AllReady, AreReady, IsReadyInput, IsInputOf, AreInputsOf, MatchesInput, MatchesInputs, IsTrigger, AreTriggers, AllTriggers, sets_of}
-use Rattle.sdl_compile.specs.Declarations.{trigger_sorts}
-use Rattle.sdl_compile.specs.Settings.{IsReadyPiece}
-use Rattle.sdl_compile.proofs.Counted.{size_is}
+use Rattle.sdl_meaning.specs.Declarations.{trigger_sorts}
+use Rattle.sdl_facts.specs.Settings.{IsReadyPiece}
+use Rattle.sdl_meaning.proofs.Counted.{size_is}
 use Rattle.sdl_compile.proofs.Pieces.{means}
 
 -- one more item of both lists

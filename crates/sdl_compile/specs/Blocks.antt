@@ -14,8 +14,8 @@ use Rattle.turn_code.specs.declared.draft.DraftProcess.{DraftProcess}
 use Rattle.turn_code.specs.Transitions.{Transition, place_at}
 use Rattle.turn_code.specs.Valid.{IsValidTransition}
 use Rattle.sdl_tables.specs.Names.{number_of, routes_of, processes_of, signal_names, process_names}
-use Rattle.sdl_compile.specs.Code.{number_or_zero}
-use Rattle.sdl_compile.specs.Declarations.{drafted_signals}
+use Rattle.sdl_meaning.specs.Code.{number_or_zero}
+use Rattle.sdl_meaning.specs.Declarations.{drafted_signals}
 use Rattle.sdl_compile.specs.Drafts.{MatchesProcess}
 
 -- who sends or receives: the environment, or a process by its number

@@ -4,7 +4,7 @@ use Rattle.sdl_tree.specs.Views.{block_of, process_of}
 use Rattle.sdl_sound.specs.Orders.{IsOrder}
 use Rattle.sdl_measures.specs.Measures.{AreMeasures}
 use Rattle.sdl_compile.specs.declared.state.Context.{Context}
-use Rattle.sdl_compile.specs.Declarations.{drafted_signals, drafted_variables}
+use Rattle.sdl_meaning.specs.Declarations.{drafted_signals, drafted_variables}
 
 -- the variables are those of the process, the signals those of the block; the order and the measures are those of its connections
 pub record IsContext (x : Context) : Type 0 where

@@ -13,7 +13,7 @@ use Rattle.sdl_tables.specs.Names as names
 use Rattle.sdl_tables.specs.Names.{processes_of, inputs_by_state}
 use Rattle.sdl_sound.specs.Longest.{Piece, start_piece, input_piece}
 use Rattle.sdl_sound.specs.Sound.{Sound}
-use Rattle.sdl_compile.specs.Act.{Act, scope_of}
+use Rattle.sdl_meaning.specs.Act.{Act, scope_of}
 use Rattle.sdl_compile.specs.Blocks.{MatchesBlock}
 
 abbrev pub input_of_state : Option (List names.Input) → ℕ → Option Piece

@@ -10,8 +10,8 @@ use Rattle.turn_code.specs.Outcome.{Outcome, outcome_in, Meaning, Means}
 use Rattle.sdl_tables.specs.Names.{processes_of}
 use Rattle.sdl_sound.specs.Longest.{Piece}
 use Rattle.sdl_sound.specs.Sound.{Sound}
-use Rattle.sdl_compile.specs.Act.{Scope, Act, scope_of}
-use Rattle.sdl_compile.specs.Made.{IsLongestOf}
+use Rattle.sdl_meaning.specs.Act.{Scope, Act, scope_of}
+use Rattle.sdl_facts.specs.Made.{IsLongestOf}
 use Rattle.sdl_compile.specs.Blocks.{MatchesBlock}
 use Rattle.sdl_compile.specs.Meaning.{piece_at, RunsAsMeant}
 

@@ -6,7 +6,7 @@ use Rattle.sdl_tree.specs.declared.tree.Party.TheVariants.{Environment, Process}
 use Rattle.sdl_tree.specs.Plain.{PlainPath, PlainBlock}
 use Rattle.turn_code.specs.declared.numbers.SignalNumber.{SignalNumber}
 use Rattle.sdl_tables.specs.Names.{number_of, signal_names, process_names}
-use Rattle.sdl_compile.specs.Code.{number_or_zero}
+use Rattle.sdl_meaning.specs.Code.{number_or_zero}
 
 -- the environment, or a process with one of these names
 abbrev pub KnownParty : List Identifier → Party → Type 0

@@ -2,39 +2,21 @@
 ghost use Rattle.std.specs.Prelude.{◌≡◌, ◌≤◌, length, Option, IfOk};
 ghost use Rattle.sdl_tree.specs.declared.expression.Identifier as tree_identifier;
 ghost use Rattle.sdl_tree.specs.Views.{text_of};
-ghost use Rattle.sdl_compile.specs.Scopes.{scope_in, piece_in};
-ghost use Rattle.sdl_compile.specs.Named.{NamedPiece, AnswersAll};
+ghost use Rattle.sdl_emit.specs.Scopes.{scope_in, piece_in};
+ghost use Rattle.sdl_meaning.specs.Named.{AnswersAll};
 ghost use Rattle.sdl_sound.specs.Longest.{places_cost};
 ghost use Rattle.sdl_compile.specs.Drafts.{Means};
-ghost use Rattle.sdl_compile.specs.Made.{IsPieceOf};
-ghost use Rattle.sdl_compile.specs.Settings.{IsSetting, IsReadyPiece, count_from, effects_from};
+ghost use Rattle.sdl_facts.specs.Made.{IsPieceOf};
+ghost use Rattle.sdl_facts.specs.Settings.{IsSetting, IsReadyPiece, count_from, effects_from};
 
-use crate::facts::{Marks, greatest_depth, place_facts};
-use crate::marks::{Standing, place_sets};
-use crate::names::Names;
-use crate::placing::{connection_places, place_connections};
-use crate::texts::emit_piece;
-use crate::totals::{Layout, piece_counts};
-use sdl_rules::{Measure, code_size};
+use sdl_emit::{connection_places, emit_piece, place_connections};
+use sdl_facts::{
+    Layout, Marks, Setting, Standing, greatest_depth, piece_counts, place_facts, place_sets,
+};
+use sdl_rules::code_size;
 use sdl_tree::{Identifier, Transition};
 use std::alloc::{AllocError, Global};
-use turn_code::{
-    Cert, DraftPiece, DraftSignal, DraftVariable, PlaceFacts, Sequence, Sort, VariableSet,
-};
-
-/// What comes with a transition: the names that it may use, its process's variables, its block's
-/// signals, the sorts of its parameters, the variables that are set as it begins, its process's
-/// connections in an order in which each stands behind all that it joins, and what they measure.
-#[derive(Drop)]
-pub struct Setting<'a> {
-    pub names: &'a Names<'a>,
-    pub variables: &'a [DraftVariable],
-    pub signals: &'a [DraftSignal],
-    pub parameters: &'a [Sort],
-    pub entry: VariableSet,
-    pub order: &'a [usize],
-    pub measures: &'a [Measure],
-}
+use turn_code::{Cert, DraftPiece, PlaceFacts, Sequence};
 
 /// How many instructions INPUT's places have.
 fn places_length(places: &[Option<Identifier>]) -> usize

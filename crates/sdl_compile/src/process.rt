@@ -6,16 +6,17 @@ ghost use Rattle.sdl_tables.specs.Names.{process_names, states_of, inputs_by_sta
 ghost use Rattle.sdl_sound.specs.Settled.{AreSettled};
 ghost use Rattle.sdl_sound.specs.Orders.{IsOrder};
 ghost use Rattle.sdl_measures.specs.Measures.{AreMeasures};
-ghost use Rattle.sdl_compile.specs.Act.{scope_of};
-ghost use Rattle.sdl_compile.specs.Scopes.{scope_in};
+ghost use Rattle.sdl_meaning.specs.Act.{scope_of};
+ghost use Rattle.sdl_emit.specs.Scopes.{scope_in};
 ghost use Rattle.sdl_compile.specs.Contexts.{IsContext};
-ghost use Rattle.sdl_compile.specs.Declarations.{drafted_signals};
+ghost use Rattle.sdl_meaning.specs.Declarations.{drafted_signals};
 ghost use Rattle.sdl_compile.specs.Drafts.{IsReadyProcess, MatchesProcess, IsProcessOf, AllReady, AllTriggers, IsNamedAs, SavesAll, AreInputsOf, sets_of};
 
-use crate::names::Names;
-use crate::piece::{Setting, compile_transition};
+use crate::piece::compile_transition;
 use crate::state::{Context, compile_states, draft_name};
 use crate::variables::{compile_variables, set_at_start};
+use sdl_emit::Names;
+use sdl_facts::Setting;
 use sdl_rules::Measure;
 use sdl_tables::{BlockTable, NameTable, ProcessTable};
 use std::alloc::{AllocError, Global};

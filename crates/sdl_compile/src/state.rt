@@ -5,13 +5,14 @@ ghost use Rattle.sdl_tree.specs.Views.{block_of};
 ghost use Rattle.sdl_tables.specs.Rows.{row_input, rows_inputs, row_names};
 ghost use Rattle.sdl_tables.specs.Names.{states_of};
 ghost use Rattle.sdl_tree.specs.Views.{process_of};
-ghost use Rattle.sdl_compile.specs.Scopes.{scope_in};
-ghost use Rattle.sdl_compile.specs.Declarations.{trigger_of, trigger_sorts, parameters_by, drafted_signals};
+ghost use Rattle.sdl_emit.specs.Scopes.{scope_in};
+ghost use Rattle.sdl_meaning.specs.Declarations.{trigger_of, trigger_sorts, parameters_by, drafted_signals};
 ghost use Rattle.sdl_compile.specs.Drafts.{AllReady, IsNamedAs, MatchesInputs, SavesAll, AreReady, IsReadyInput, IsInputOf, AreInputsOf, IsTrigger, AreTriggers, AllTriggers, sets_of};
 ghost use Rattle.sdl_compile.specs.Contexts.{IsContext};
 
-use crate::names::Names;
-use crate::piece::{Setting, compile_transition};
+use crate::piece::compile_transition;
+use sdl_emit::Names;
+use sdl_facts::Setting;
 use sdl_lex::Name;
 use sdl_rules::Measure;
 use sdl_tables::InputRow;

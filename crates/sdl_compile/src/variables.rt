@@ -2,7 +2,7 @@
 ghost use Rattle.std.specs.Prelude.{◌≡◌, ◌<◌, ◌≤◌, ◌^◌, length, map, IfOk};
 ghost use Rattle.turn_code.specs.Sets.{initial_set};
 ghost use Rattle.sdl_tables.specs.Rows.{variable_of};
-ghost use Rattle.sdl_compile.specs.Declarations.{drafted, constant_value, sort_of_tree};
+ghost use Rattle.sdl_meaning.specs.Declarations.{drafted, constant_value, sort_of_tree};
 
 use crate::state::draft_name;
 use sdl_tables::Variable;

@@ -5,7 +5,7 @@ use Rattle.sdl_tables.specs.Names.{processes_of}
 use Rattle.sdl_sound.specs.Settled.{AreSettled}
 use Rattle.sdl_sound.specs.Orders.{IsOrder}
 use Rattle.sdl_measures.specs.Measures.{AreMeasures}
-use Rattle.sdl_compile.specs.Act.{scope_of}
+use Rattle.sdl_meaning.specs.Act.{scope_of}
 use Rattle.sdl_compile.specs.Drafts.{IsReadyProcess, MatchesProcess, IsProcessOf}
 use Rattle.sdl_compile.proofs.Zips.{zip_more}
 use Rattle.sdl_compile.proofs.Whole.{row_at, one_ready, paired}

@@ -1,5 +1,5 @@
 use Rattle.std.proofs.Common.{◌≡◌, map, take}
-use Rattle.sdl_compile.specs.Declarations.{sort_of_tree}
+use Rattle.sdl_meaning.specs.Declarations.{sort_of_tree}
 use Rattle.sdl_compile.proofs.block.compile_sorts.Given as goal
 
 abbrev pub invariant-loop-declared : goal.invariant-loop-declared

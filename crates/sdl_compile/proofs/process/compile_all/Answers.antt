@@ -9,7 +9,7 @@ use Rattle.sdl_tree.specs.Plain.{PlainProcess}
 use Rattle.sdl_tables.specs.Names.{Input, states_of, part_inputs, part_saves, inputs_by_state, saves_by_state}
 use Rattle.sdl_tables.specs.Rows.{rows_inputs, row_names}
 use Rattle.sdl_tables.specs.declared.process_table.InputRow.{InputRow}
-use Rattle.sdl_compile.specs.Scopes.{scope_in}
+use Rattle.sdl_emit.specs.Scopes.{scope_in}
 use Rattle.sdl_compile.specs.Drafts.{AllReady, AllTriggers, SavesAll, AreInputsOf}
 use Rattle.sdl_compile.proofs.Zips.{paired}
 use Rattle.sdl_compile.proofs.process.compile_all.Goals as goal

@@ -6,10 +6,10 @@ use Rattle.sdl_tree.specs.Views.{block_of, process_of, text_of}
 use Rattle.turn_code.specs.declared.draft.DraftState.{DraftState}
 use Rattle.sdl_tables.specs.Names.{Input, states_of, inputs_by_state, saves_by_state}
 use Rattle.sdl_sound.specs.Longest.{Piece, start_piece}
-use Rattle.sdl_compile.specs.Act.{Scope, scope_of}
-use Rattle.sdl_compile.specs.Declarations.{drafted}
+use Rattle.sdl_meaning.specs.Act.{Scope, scope_of}
+use Rattle.sdl_meaning.specs.Declarations.{drafted}
 use Rattle.sdl_compile.specs.Drafts.{IsNamedAs, SavesAll, AreInputsOf, Means}
-use Rattle.sdl_compile.specs.Named.{AnswersAll}
+use Rattle.sdl_meaning.specs.Named.{AnswersAll}
 use Rattle.sdl_compile.proofs.Zips.{states_match}
 use Rattle.sdl_compile.proofs.process.compile_process.Goals as goal
 

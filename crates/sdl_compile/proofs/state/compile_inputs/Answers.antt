@@ -1,7 +1,7 @@
 use Rattle.std.proofs.Common.{◌<◌, length, subst, arith, add-one}
 use Rattle.sdl_tables.specs.declared.process_table.InputRow.{InputRow}
 use Rattle.sdl_tables.specs.Rows.{row_input}
-use Rattle.sdl_compile.specs.Scopes.{scope_in}
+use Rattle.sdl_emit.specs.Scopes.{scope_in}
 use Rattle.sdl_compile.specs.Drafts.{IsInputOf}
 use Rattle.sdl_compile.proofs.Zips.{zip_more, ready_more}
 use Rattle.sdl_compile.proofs.state.compile_inputs.Goals as goal

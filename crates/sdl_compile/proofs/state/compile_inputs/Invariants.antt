@@ -1,7 +1,7 @@
 use Rattle.std.proofs.Common.{map, take, drop}
 use Rattle.std.specs.List.{AllZip}
 use Rattle.sdl_tables.specs.Rows.{row_input}
-use Rattle.sdl_compile.specs.Scopes.{scope_in}
+use Rattle.sdl_emit.specs.Scopes.{scope_in}
 use Rattle.sdl_compile.specs.Drafts.{AreReady, IsInputOf}
 use Rattle.sdl_compile.proofs.state.compile_inputs.Given as goal
 

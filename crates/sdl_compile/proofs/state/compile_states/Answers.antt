@@ -6,7 +6,7 @@ use Rattle.turn_code.specs.declared.variable_set.VariableSet.{VariableSet}
 use Rattle.sdl_tables.specs.declared.process_table.InputRow.{InputRow}
 use Rattle.sdl_tables.specs.Names.{states_of}
 use Rattle.sdl_tables.specs.Rows.{row_input, rows_inputs, row_names}
-use Rattle.sdl_compile.specs.Scopes.{scope_in}
+use Rattle.sdl_emit.specs.Scopes.{scope_in}
 use Rattle.sdl_compile.specs.Drafts.{IsNamedAs, SavesAll, AreInputsOf, AreTriggers}
 use Rattle.sdl_compile.proofs.Zips.{zip_more, zip_some, all_ready_more, sets_more, triggers_at}
 use Rattle.sdl_compile.proofs.state.compile_states.Goals as goal

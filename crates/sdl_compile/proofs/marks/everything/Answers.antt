@@ -1,7 +1,0 @@
-use Rattle.std.proofs.Common.{refl}
-use Rattle.sdl_compile.specs.Reads.{everything}
-use Rattle.sdl_compile.proofs.marks.everything.Goals as goal
-
-pub returns : goal.returns
-unfolding everything
-returns c = refl

@@ -1,0 +1,41 @@
+-- The JOINs of a DECISION, collected part by part.
+use Rattle.std.proofs.Common.{◌≡◌, ℕ, Bool, true, false, cond, List, [], ◌∷◌, ◌++◌, map, Option, Some, None, refl, sym, ap, ◌∙◌, append_assoc}
+use Rattle.sdl_tree.specs.declared.tree.Join.{Join}
+use Rattle.sdl_tree.specs.declared.tree.Transition.{Transition}
+use Rattle.sdl_tree.specs.declared.tree.Statement.{Statement}
+use Rattle.sdl_tree.specs.declared.tree.Statement.TheVariants.{Act, Decide}
+use Rattle.sdl_tree.specs.declared.tree.Answer.{Answer}
+use Rattle.sdl_tree.specs.declared.tree.Decision.{Decision, out-Decision}
+use Rattle.sdl_tree.specs.Plain.{Text, Choice, nothing_else, otherwise, answer, PlainAnswer, all_answers}
+use Rattle.sdl_tree.specs.Views.{plain_answer, choice_of, else_choice, statement_of, answers_before}
+use Rattle.sdl_meaning.specs.Act.{Scope, is_truth}
+use Rattle.sdl_emit.specs.Scopes.{question_in}
+use Rattle.sdl_emit.specs.Placing.{decision_joins}
+use Rattle.sdl_meaning.specs.Code.{code_joins, else_joins, answers_joins, bodies_joins}
+use Rattle.sdl_emit.proofs.Views.{statement_of-decide}
+
+module _ (c : Scope) where
+  bodies_split : (choice : Choice) → bodies_joins c choice ≡ answers_joins c choice ++ else_joins c choice
+  bodies_split nothing_else = refl
+  bodies_split (otherwise body) = refl
+  bodies_split (answer at rs body others) = ap (λ l. code_joins c body ++ l) (bodies_split others) ∙ sym (append_assoc (code_joins c body) (answers_joins c others) (else_joins c others))
+
+  else_by : (list : List PlainAnswer) (o : Option Transition) → else_joins c (all_answers list (else_choice o)) ≡ else_joins c (else_choice o)
+  else_by [] o = refl
+  else_by (a ∷ list) o = else_by list o
+
+  pub else_alone : (list : List Answer) (o : Option Transition) → else_joins c (answers_before list (else_choice o)) ≡ else_joins c (else_choice o)
+  else_alone list o = else_by (map plain_answer list) o
+
+  pub decided : (s : Statement) (d : Decision) → s ≡ Decide d → (old new : List Join) → new ≡ old ++ decision_joins c d → (rest : Text) → new ++ code_joins c rest ≡ old ++ code_joins c (statement_of s rest)
+  decided s d e old new h rest =
+      let x = out-Decision d in
+      let else_is = else_alone x.answers.items x.otherwise in
+      ap (λ l. l ++ code_joins c rest) h ∙ append_assoc old (decision_joins c d) (code_joins c rest)
+      ∙ ap (λ l. old ++ l) (ap (λ l. l ++ code_joins c rest) (by_sort (is_truth c (question_in d)) else_is) ∙ sym (ap (code_joins c) (ap (λ s. statement_of s rest) e ∙ statement_of-decide d rest)))
+    where
+      by_sort : (b : Bool) → else_joins c (choice_of d) ≡ else_joins c (else_choice (out-Decision d).otherwise)
+          → cond b (answers_joins c (choice_of d) ++ else_joins c (else_choice (out-Decision d).otherwise)) (else_joins c (else_choice (out-Decision d).otherwise) ++ answers_joins c (choice_of d))
+          ≡ cond b (bodies_joins c (choice_of d)) (else_joins c (choice_of d) ++ answers_joins c (choice_of d))
+      by_sort true f = ap (λ l. answers_joins c (choice_of d) ++ l) (sym f) ∙ sym (bodies_split (choice_of d))
+      by_sort false f = ap (λ l. l ++ answers_joins c (choice_of d)) (sym f)

@@ -1,0 +1,317 @@
+use Rattle.std.proofs.Common.{rules, ◌≡◌, ◌+◌, [], ◌∷◌, ◌++◌, ◌≤◌, true, false, length, drop, refl, sym, ap, ◌∙◌, subst, arith, append-nil}
+use Rattle.std.specs.Prelude.{slice_set}
+use Rattle.std.proofs.lemmas.Result.{on_ok_weaker}
+use Rattle.sdl_tree.specs.Plain.{falls}
+use Rattle.sdl_tree.specs.declared.tree.Decision.{out-Decision, the_lemmas}
+use Rattle.sdl_tree.specs.Views.{text_of, decision_of, choice_of, answers_before, statements_before, end_text, else_choice}
+use Rattle.turn_code.specs.declared.instruction.Instruction.TheVariants as i
+use Rattle.sdl_emit.specs.Scopes.{scope_in, places_by, question_in}
+use Rattle.sdl_meaning.specs.Named.{NamedChoice}
+use Rattle.sdl_meaning.specs.Code.{else_size, else_code, answers_code, text_code}
+use Rattle.sdl_emit.proofs.Views.{decision_of-is}
+use Rattle.sdl_emit.proofs.Emitting.{one_answer, one_statement, rest_named, rest_fits, rest_code, others_fit, others_code, others_named, else_size_alone, else_code_alone, else_named, choice_named, choice_fits, decision_code}
+use Rattle.sdl_emit.specs.Landing.{code_place, starts_from, answers_leave, else_leave, landed, filled, has_any, picked_by, tests_by}
+use Rattle.sdl_emit.proofs.Landed.{jumps_more, starts_more, else_leave_alone, rest_goes, truth_answers_fit, truth_else_fits, truth_else_low, truth_low, truth_lands, truth_goes, place_is, integer_else_fits, integer_answers_fit, integer_low, integer_tests_fit, integer_lands, integer_goes}
+use Rattle.sdl_emit.proofs.texts.+texts.Goals as goal
+
+pub emit_answers-loop-answer-preserved : goal.emit_answers-loop-answer-preserved
+emit_answers-loop-answer-preserved t c =
+    let s = scope_in c.args.names.now in
+    let to = places_by c.args.places.now in
+    let list = c.deref-answer-items.result.now in
+    let i = c.loop-answer.answer-index in
+    let a = c.answer-item.result in
+    let o = else_choice (out-Decision c.args.decision.now).otherwise in
+    let whole = answers_before (drop i list) o in
+    let rest = answers_before (drop (i + 1) list) o in
+    let is = one_answer list i a o c.loop-answer-test.true c.answer-item.is in
+    let old = c.loop-answer.code.items in
+    let new = c.emit_body.new.code.items in
+    let all = c.args.code.now.items ++ answers_code s to (length c.args.code.now.items) 0 (choice_of c.args.decision.now) in
+    let here : c.code_place.result.0 ≡ length old = omega (arith, c.code_place.ensures, c.len.ensures) in
+    record {
+      code = others_code s to a.at a.ranges.items (text_of a.body) whole rest is 0 old new c.in_ok-emit_body.ensures.code all c.loop-answer.invariant.code;
+      jumps = jumps_more s to a.at a.ranges.items (text_of a.body) whole rest is old new c.in_ok-emit_body.ensures.code c.loop-answer.jumps.items c.emit_body.new.jumps.items _ c.in_ok-emit_body.ensures.jumps c.loop-answer.invariant.jumps;
+      starts = starts_more s to a.at a.ranges.items (text_of a.body) whole rest is old new c.in_ok-emit_body.ensures.code c.loop-answer.starts.items c.push.new.self.items _ (c.in_ok-push.ensures.items ∙ ap (λ p. c.loop-answer.starts.items ++ p ∷ []) (place_is c.code_place.result (length old) here)) c.loop-answer.invariant.starts;
+      named = others_named s to (question_in c.args.decision.now) a.at a.ranges.items (text_of a.body) whole rest is c.loop-answer.invariant.named;
+      fits = others_fit s to a.at a.ranges.items (text_of a.body) whole rest is 0 old new c.in_ok-emit_body.ensures.code c.loop-answer.invariant.fits;
+    }
+
+pub emit_decision-emit_truth-requires : goal.emit_decision-emit_truth-requires
+emit_decision-emit_truth-requires t c =
+    let s = scope_in c.args.names.now in
+    let d = c.args.decision.now in
+    let x = decision_of d falls in
+    let is = decision_of-is d falls in (
+      search rules,
+      (
+        choice_named s (places_by c.args.places.now) x (out-Decision d).at (question_in d) (choice_of d) is c.args.code.now.items c.emit_expression.new.code.items c.in_ok-emit_expression.ensures c.requires.named,
+        (
+          choice_fits s (places_by c.args.places.now) x (out-Decision d).at (question_in d) (choice_of d) is c.args.code.now.items c.emit_expression.new.code.items c.in_ok-emit_expression.ensures true (sym c.is_truth.ensures ∙ c.if-is_truth.true) c.requires.fits,
+          c.requires.low,
+        ),
+      ),
+    )
+
+pub emit_decision-emit_integer-requires : goal.emit_decision-emit_integer-requires
+emit_decision-emit_integer-requires t c =
+    let s = scope_in c.args.names.now in
+    let d = c.args.decision.now in
+    let x = decision_of d falls in
+    let is = decision_of-is d falls in (
+      search rules,
+      (
+        choice_named s (places_by c.args.places.now) x (out-Decision d).at (question_in d) (choice_of d) is c.args.code.now.items c.emit_expression.new.code.items c.in_ok-emit_expression.ensures c.requires.named,
+        (
+          choice_fits s (places_by c.args.places.now) x (out-Decision d).at (question_in d) (choice_of d) is c.args.code.now.items c.emit_expression.new.code.items c.in_ok-emit_expression.ensures false (sym c.is_truth.ensures ∙ c.if-is_truth.false) c.requires.fits,
+          c.requires.low,
+        ),
+      ),
+    )
+
+pub emit_decision-returns-then-is_truth-clause-code : goal.emit_decision-returns-then-is_truth-clause-code
+emit_decision-returns-then-is_truth-clause-code t c =
+    let s = scope_in c.args.names.now in
+    let d = c.args.decision.now in
+    on_ok_weaker c.emit_truth.result
+    (λ f. decision_code s (places_by c.args.places.now) (decision_of d falls) (out-Decision d).at (question_in d) (choice_of d) (decision_of-is d falls) c.args.code.now.items c.emit_expression.new.code.items c.in_ok-emit_expression.ensures true c.emit_truth.new.code.items (sym c.is_truth.ensures ∙ c.if-is_truth.true) f)
+    c.emit_truth.ensures.code
+
+pub emit_decision-returns-else-is_truth-clause-code : goal.emit_decision-returns-else-is_truth-clause-code
+emit_decision-returns-else-is_truth-clause-code t c =
+    let s = scope_in c.args.names.now in
+    let d = c.args.decision.now in
+    on_ok_weaker c.emit_integer.result
+    (λ f. decision_code s (places_by c.args.places.now) (decision_of d falls) (out-Decision d).at (question_in d) (choice_of d) (decision_of-is d falls) c.args.code.now.items c.emit_expression.new.code.items c.in_ok-emit_expression.ensures false c.emit_integer.new.code.items (sym c.is_truth.ensures ∙ c.if-is_truth.false) f)
+    c.emit_integer.ensures.code
+
+pub emit_text-loop-statement-preserved : goal.emit_text-loop-statement-preserved
+emit_text-loop-statement-preserved t c =
+    let s = scope_in c.args.names.now in
+    let to = places_by c.args.places.now in
+    let list = c.deref-statement-items.result.now in
+    let i = c.loop-statement.statement-index in
+    let x = c.statement-item.result in
+    let e = end_text c.args.transition.now.end in
+    let whole = statements_before (drop i list) e in
+    let rest = statements_before (drop (i + 1) list) e in
+    let is = one_statement list i x e c.loop-statement-test.true c.statement-item.is in
+    let old = c.loop-statement.code.items in
+    let new = c.emit_statement.new.code.items in
+    let all = c.args.code.now.items ++ text_code s to (length c.args.code.now.items) (text_of c.args.transition.now) in
+    record {
+      code = rest_code s to x whole rest is old new c.in_ok-passes.ensures.code all c.loop-statement.invariant.code;
+      goes = rest_goes x whole rest is c.loop-statement.goes c.in_ok-passes.passes c.both-goes.result c.both-goes.ensures (c.in_ok-passes.ensures.goes rest) _ c.loop-statement.invariant.goes;
+      named = rest_named s to x whole rest is old c.loop-statement.invariant.named;
+      fits = rest_fits s to x whole rest is old new c.in_ok-passes.ensures.code c.loop-statement.invariant.fits;
+    }
+
+pub emit_else-emit_body-requires : goal.emit_else-emit_body-requires
+emit_else-emit_body-requires t c =
+    let s = scope_in c.args.names.now in
+    let to = places_by c.args.places.now in
+    let d = out-Decision c.args.decision.now in
+    let q = question_in c.args.decision.now in (
+      search (rules, the_lemmas),
+      (
+        subst (λ o. NamedChoice s q (else_choice o)) c.in-Some.is (else_named s to q d.answers.items d.otherwise c.requires.named),
+        (
+          omega (arith, c.requires.fits, else_size_alone s to d.answers.items d.otherwise, ap (λ o. else_size s (else_choice o)) c.in-Some.is),
+          c.requires.low,
+        ),
+      ),
+    )
+
+pub emit_else-returns-in-Some-clause-code : goal.emit_else-returns-in-Some-clause-code
+emit_else-returns-in-Some-clause-code t c =
+    let s = scope_in c.args.names.now in
+    let to = places_by c.args.places.now in
+    let d = out-Decision c.args.decision.now in
+    let old = c.args.code.now.items in
+    let is = else_code_alone s to d.answers.items d.otherwise (length old) 0 ∙ ap (λ o. else_code s to (length old) 0 (else_choice o)) c.in-Some.is in
+    on_ok_weaker c.emit_body.result (λ f. f ∙ ap (λ l. old ++ l) (sym is)) c.emit_body.ensures.code
+
+pub emit_else-returns-in-Some-clause-jumps : goal.emit_else-returns-in-Some-clause-jumps
+emit_else-returns-in-Some-clause-jumps t c =
+    let s = scope_in c.args.names.now in
+    let to = places_by c.args.places.now in
+    let d = out-Decision c.args.decision.now in
+    let n = length c.args.code.now.items in
+    let is = else_leave_alone s to d.answers.items d.otherwise n ∙ ap (λ o. else_leave s to n (else_choice o)) c.in-Some.is in
+    on_ok_weaker c.emit_body.result (λ f. f ∙ ap (λ l. c.args.jumps.now.items ++ l) (sym is)) c.emit_body.ensures.jumps
+
+pub emit_else-returns-in-None-clause-code : goal.emit_else-returns-in-None-clause-code
+emit_else-returns-in-None-clause-code t c =
+    let s = scope_in c.args.names.now in
+    let to = places_by c.args.places.now in
+    let d = out-Decision c.args.decision.now in
+    let old = c.args.code.now.items in
+    let is = else_code_alone s to d.answers.items d.otherwise (length old) 0 ∙ ap (λ o. else_code s to (length old) 0 (else_choice o)) c.in-None.is in
+    sym (ap (λ l. old ++ l) is ∙ append-nil old)
+
+pub emit_else-returns-in-None-clause-jumps : goal.emit_else-returns-in-None-clause-jumps
+emit_else-returns-in-None-clause-jumps t c =
+    let s = scope_in c.args.names.now in
+    let to = places_by c.args.places.now in
+    let d = out-Decision c.args.decision.now in
+    let n = length c.args.code.now.items in
+    let is = else_leave_alone s to d.answers.items d.otherwise n ∙ ap (λ o. else_leave s to n (else_choice o)) c.in-None.is in
+    sym (ap (λ l. c.args.jumps.now.items ++ l) is ∙ append-nil c.args.jumps.now.items)
+
+pub emit_truth-emit_answers-requires : goal.emit_truth-emit_answers-requires
+emit_truth-emit_answers-requires t c =
+    let s = scope_in c.args.names.now in
+    let to = places_by c.args.places.now in (
+      search rules,
+      (
+        c.requires.named,
+        (
+          truth_answers_fit s to (choice_of c.args.decision.now) c.args.code.now.items c.requires.fits _ c.put.new.code.items c.in_ok-put.ensures,
+          c.requires.low,
+        ),
+      ),
+    )
+
+pub emit_truth-emit_else-requires : goal.emit_truth-emit_else-requires
+emit_truth-emit_else-requires t c =
+    let s = scope_in c.args.names.now in
+    let to = places_by c.args.places.now in (
+      search rules,
+      (
+        c.requires.named,
+        (
+          truth_else_fits s to (choice_of c.args.decision.now) c.args.code.now.items c.requires.fits _ c.put.new.code.items c.in_ok-put.ensures c.emit_answers.new.code.items c.in_ok-emit_answers.ensures.code,
+          c.requires.low,
+        ),
+      ),
+    )
+
+pub emit_truth-returns-clause-code : goal.emit_truth-returns-clause-code
+emit_truth-returns-clause-code t c =
+    let s = scope_in c.args.names.now in
+    let to = places_by c.args.places.now in
+    let all = choice_of c.args.decision.now in
+    let old = c.args.code.now.items in
+    let one = c.put.new.code.items in
+    let two = c.emit_answers.new.code.items in
+    let three = c.emit_else.new.code.items in
+    let jumps = c.in_ok-emit_else.ensures.jumps ∙ ap (λ l. l ++ else_leave s to (length two) all) (c.in_ok-emit_answers.ensures.jumps ∙ ap (λ l. l ++ answers_leave s to (length one) all) c.new-jumps.ensures.items) in
+    let starts = c.in_ok-emit_answers.ensures.starts ∙ ap (λ l. l ++ starts_from s (length one) all) c.new-starts.ensures.items in
+    let behind_is : c.code_place-otherwise.result.0 ≡ length two = omega (arith, c.code_place-otherwise.ensures, c.len.ensures) in
+    let after_is : c.code_place.result.0 ≡ length three = omega (arith, c.code_place.ensures, c.len-2.ensures) in
+    let here : c.len-choice.result ≡ length old = omega (arith, c.len-choice.ensures) in
+    let behind = place_is c.code_place-otherwise.result (length two) behind_is in
+    let after = place_is c.code_place.result (length three) after_is in
+    let pick = i.Pick c.picked_place-falsity.result c.picked_place-truth.result in
+    c.set_at.ensures
+    ∙ ap (λ n. slice_set c.land_jumps.new.code.items n pick) here
+    ∙ ap (λ l. slice_set l (length old) pick) (c.land_jumps.ensures ∙ ap (landed c.code_place.result three) c.deref.ensures.value ∙ ap (λ p. landed p three c.emit_else.new.jumps.items) after)
+    ∙ truth_lands s to all old c.requires.fits _ one c.in_ok-put.ensures two c.in_ok-emit_answers.ensures.code three c.in_ok-emit_else.ensures.code c.emit_else.new.jumps.items jumps c.emit_answers.new.starts.items starts
+    c.picked_place-falsity.result c.picked_place-truth.result
+    (c.picked_place-falsity.ensures ∙ ap (λ l. picked_by c.code_place-otherwise.result l all false) c.deref-2.ensures.value ∙ ap (λ p. picked_by p c.emit_answers.new.starts.items all false) behind)
+    (c.picked_place-truth.ensures ∙ ap (λ l. picked_by c.code_place-otherwise.result l all true) c.deref-3.ensures.value ∙ ap (λ p. picked_by p c.emit_answers.new.starts.items all true) behind)
+
+pub emit_truth-returns-clause-goes : goal.emit_truth-returns-clause-goes
+emit_truth-returns-clause-goes t c =
+    let s = scope_in c.args.names.now in
+    let to = places_by c.args.places.now in
+    let all = choice_of c.args.decision.now in
+    let one = c.put.new.code.items in
+    let two = c.emit_answers.new.code.items in
+    let jumps = c.in_ok-emit_else.ensures.jumps ∙ ap (λ l. l ++ else_leave s to (length two) all) (c.in_ok-emit_answers.ensures.jumps ∙ ap (λ l. l ++ answers_leave s to (length one) all) c.new-jumps.ensures.items) in
+    c.has_any.ensures ∙ ap has_any (c.deref-4.ensures.value ∙ jumps) ∙ truth_goes s to (length one) (length two) all
+
+pub emit_integer-emit_else-requires : goal.emit_integer-emit_else-requires
+emit_integer-emit_else-requires t c =
+    let s = scope_in c.args.names.now in
+    let to = places_by c.args.places.now in (
+      search rules,
+      (
+        c.requires.named,
+        (
+          integer_else_fits s to (choice_of c.args.decision.now) c.args.code.now.items c.requires.fits _ c.tests_length.result c.tests_length.ensures c.keep_places.new.code.items c.in_ok-keep_places.ensures,
+          c.requires.low,
+        ),
+      ),
+    )
+
+pub emit_integer-emit_answers-requires : goal.emit_integer-emit_answers-requires
+emit_integer-emit_answers-requires t c =
+    let s = scope_in c.args.names.now in
+    let to = places_by c.args.places.now in (
+      search rules,
+      (
+        c.requires.named,
+        (
+          integer_answers_fit s to (choice_of c.args.decision.now) c.args.code.now.items c.requires.fits _ c.tests_length.result c.tests_length.ensures c.keep_places.new.code.items c.in_ok-keep_places.ensures c.emit_else.new.code.items c.in_ok-emit_else.ensures.code,
+          c.requires.low,
+        ),
+      ),
+    )
+
+pub emit_integer-returns-clause-code : goal.emit_integer-returns-clause-code
+emit_integer-returns-clause-code t c =
+    let s = scope_in c.args.names.now in
+    let to = places_by c.args.places.now in
+    let all = choice_of c.args.decision.now in
+    let old = c.args.code.now.items in
+    let one = c.keep_places.new.code.items in
+    let two = c.emit_else.new.code.items in
+    let three = c.emit_answers.new.code.items in
+    let jumps = c.in_ok-emit_answers.ensures.jumps ∙ ap (λ l. l ++ answers_leave s to (length two) all) (c.in_ok-emit_else.ensures.jumps ∙ ap (λ l. l ++ else_leave s to (length one) all) c.new-jumps.ensures.items) in
+    let starts = c.in_ok-emit_answers.ensures.starts ∙ ap (λ l. l ++ starts_from s (length two) all) c.new-starts.ensures.items in
+    let after_is : c.code_place.result.0 ≡ length three = omega (arith, c.code_place.ensures, c.len.ensures) in
+    let here : c.len-first.result ≡ length old = omega (arith, c.len-first.ensures) in
+    let after = place_is c.code_place.result (length three) after_is in
+    let tests = c.in_ok-emit_tests.ensures ∙ ap (λ l. c.new-tests.result.items ++ tests_by l all) c.deref-2.ensures.value ∙ ap (λ l. l ++ tests_by c.emit_answers.new.starts.items all) c.new-tests.ensures.items in
+    c.fill_places.ensures
+    ∙ ap (filled c.land_jumps.new.code.items c.len-first.result) c.deref-3.ensures.value
+    ∙ ap (λ n. filled c.land_jumps.new.code.items n c.emit_tests.new.code.items) here
+    ∙ ap (λ l. filled l (length old) c.emit_tests.new.code.items) (c.land_jumps.ensures ∙ ap (landed c.code_place.result three) c.deref.ensures.value ∙ ap (λ p. landed p three c.emit_answers.new.jumps.items) after)
+    ∙ integer_lands s to all old c.requires.fits _ c.tests_length.result c.tests_length.ensures one c.in_ok-keep_places.ensures two c.in_ok-emit_else.ensures.code three c.in_ok-emit_answers.ensures.code
+    c.emit_answers.new.starts.items starts c.emit_tests.new.code.items tests c.emit_answers.new.jumps.items jumps
+
+pub emit_integer-returns-clause-goes : goal.emit_integer-returns-clause-goes
+emit_integer-returns-clause-goes t c =
+    let s = scope_in c.args.names.now in
+    let to = places_by c.args.places.now in
+    let all = choice_of c.args.decision.now in
+    let one = c.keep_places.new.code.items in
+    let two = c.emit_else.new.code.items in
+    let jumps = c.in_ok-emit_answers.ensures.jumps ∙ ap (λ l. l ++ answers_leave s to (length two) all) (c.in_ok-emit_else.ensures.jumps ∙ ap (λ l. l ++ else_leave s to (length one) all) c.new-jumps.ensures.items) in
+    c.has_any.ensures ∙ ap has_any (c.deref-4.ensures.value ∙ jumps) ∙ integer_goes s to (length two) (length one) all
+
+pub emit_truth-code_place-otherwise-requires : goal.emit_truth-code_place-otherwise-requires
+emit_truth-code_place-otherwise-requires t c =
+    let s = scope_in c.args.names.now in
+    let to = places_by c.args.places.now in
+    let low = truth_else_low s to (choice_of c.args.decision.now) c.args.code.now.items c.requires.fits _ c.put.new.code.items c.in_ok-put.ensures c.emit_answers.new.code.items c.in_ok-emit_answers.ensures.code in
+    omega (arith, low, c.len.ensures)
+
+pub emit_truth-code_place-requires : goal.emit_truth-code_place-requires
+emit_truth-code_place-requires t c =
+    let s = scope_in c.args.names.now in
+    let to = places_by c.args.places.now in
+    let low = truth_low s to (choice_of c.args.decision.now) c.args.code.now.items c.requires.fits _ c.put.new.code.items c.in_ok-put.ensures c.emit_answers.new.code.items c.in_ok-emit_answers.ensures.code
+    c.emit_else.new.code.items c.in_ok-emit_else.ensures.code in
+    omega (arith, low, c.len-2.ensures)
+
+pub emit_integer-code_place-requires : goal.emit_integer-code_place-requires
+emit_integer-code_place-requires t c =
+    let s = scope_in c.args.names.now in
+    let to = places_by c.args.places.now in
+    let low = integer_low s to (choice_of c.args.decision.now) c.args.code.now.items c.requires.fits _ c.tests_length.result c.tests_length.ensures c.keep_places.new.code.items c.in_ok-keep_places.ensures
+    c.emit_else.new.code.items c.in_ok-emit_else.ensures.code c.emit_answers.new.code.items c.in_ok-emit_answers.ensures.code in
+    omega (arith, low, c.len.ensures)
+
+pub emit_integer-fill_places-requires : goal.emit_integer-fill_places-requires
+emit_integer-fill_places-requires t c =
+    let s = scope_in c.args.names.now in
+    let to = places_by c.args.places.now in
+    let all = choice_of c.args.decision.now in
+    let two = c.emit_else.new.code.items in
+    let starts = c.in_ok-emit_answers.ensures.starts ∙ ap (λ l. l ++ starts_from s (length two) all) c.new-starts.ensures.items in
+    let tests = c.in_ok-emit_tests.ensures ∙ ap (λ l. c.new-tests.result.items ++ tests_by l all) c.deref-2.ensures.value ∙ ap (λ l. l ++ tests_by c.emit_answers.new.starts.items all) c.new-tests.ensures.items in
+    let fit = integer_tests_fit s to all c.args.code.now.items c.requires.fits _ c.tests_length.result c.tests_length.ensures c.keep_places.new.code.items c.in_ok-keep_places.ensures
+    two c.in_ok-emit_else.ensures.code c.emit_answers.new.code.items c.in_ok-emit_answers.ensures.code c.emit_answers.new.starts.items starts c.emit_tests.new.code.items tests in
+    omega (arith, fit, c.len-first.ensures, ap length c.deref-3.ensures.value)

@@ -1,0 +1,145 @@
+//! What is put in the code of a DECISION once its bodies stand: the jumps to what follows it, and the tests or the choice in
+//! front of them.
+ghost use Rattle.std.specs.Prelude.{◌≡◌, ◌+◌, ◌≤◌, ◌++◌, ◌&&◌, drop, length, replicate, slice_set, OnOk};
+ghost use Rattle.std.specs.List.{list_any};
+ghost use Rattle.sdl_tree.specs.Views.{choice_of};
+ghost use Rattle.sdl_sound.specs.Longest.{tests_size};
+ghost use Rattle.turn_code.specs.declared.instruction.Instruction.TheVariants.{Drop as DropCode};
+ghost use Rattle.sdl_meaning.specs.Code.{is_literal, names_truth};
+ghost use Rattle.sdl_emit.specs.Landing.{landed, filled, first_or, has_any, picked_by};
+
+use crate::emit::put;
+use sdl_tree::{Constant, Decision, Literal, Range};
+use std::alloc::AllocError;
+use turn_code::{CodePlace, Instruction};
+
+/// How many tests an Integer DECISION has, with the drop before ELSE.
+pub(crate) fn tests_length(decision: &Decision) -> usize
+    requires { tests_size (choice_of decision.now) ≤ 512 }
+    ensures { result ≡ tests_size (choice_of decision.now) }
+{
+    let mut total = 0;
+    for answer in &decision.answers {
+        total += answer.ranges.len();
+    }
+    match decision.otherwise {
+        Some(_) => total + 1,
+        None => total,
+    }
+}
+
+/// Whether a constant is this truth value.
+fn is_truth(value: bool, constant: &Constant) -> bool
+    ensures { result ≡ is_literal value constant.now.value }
+{
+    match constant.value {
+        Literal::Boolean(truth) => truth == value,
+        Literal::Integer(_) => false,
+    }
+}
+
+/// Whether a range is this truth value.
+fn names_truth(value: bool, range: &Range) -> bool
+    ensures { result ≡ names_truth value range.now }
+{
+    match range {
+        Range::Value(constant) => is_truth(value, constant),
+        _ => false,
+    }
+}
+
+/// Whether one of the ranges of an answer is.
+fn any_names(value: bool, ranges: &[Range]) -> bool
+    ensures { result ≡ list_any (names_truth value) ranges.now }
+{
+    for range in ranges {
+        if names_truth(value, range) {
+            return true;
+        }
+    }
+    false
+}
+
+/// The place with a number, else another.
+pub(crate) fn start_at(starts: &[CodePlace], number: usize, otherwise: CodePlace) -> CodePlace
+    ensures { result ≡ first_or otherwise (drop number starts.now) }
+{
+    match starts.get(number) {
+        Some(start) => *start,
+        None => otherwise,
+    }
+}
+
+/// Where the body for a truth value stands, if those of the answers begin at these places, and that of ELSE at another.
+pub(crate) fn picked_place(
+    decision: &Decision,
+    starts: &[CodePlace],
+    value: bool,
+    otherwise: CodePlace,
+) -> CodePlace
+    ensures { result ≡ picked_by otherwise starts.now (choice_of decision.now) value }
+{
+    for (number, answer) in decision.answers.iter().enumerate() {
+        if any_names(value, &answer.ranges) {
+            return start_at(starts, number, otherwise);
+        }
+    }
+    otherwise
+}
+
+/// Whether there are any places.
+pub(crate) fn has_any(places: &[usize]) -> bool
+    ensures { result ≡ has_any places.now }
+{
+    match places {
+        [] => false,
+        [_, ..] => true,
+    }
+}
+
+/// Behind two statements a text goes on where both do.
+pub fn both(one: bool, other: bool) -> bool
+    ensures { result ≡ (one && other) }
+{
+    one && other
+}
+
+/// Keeps places for instructions that aren't known yet.
+pub(crate) fn keep_places(code: &mut Vec<Instruction>, count: usize) -> Result<(), AllocError>
+    ensures { OnOk result (code.new.items ≡ code.old.items ++ replicate count DropCode) }
+{
+    for _ in 0..count {
+        put(code, Instruction::Drop)?;
+    }
+    Ok(())
+}
+
+/// Puts an instruction at a place.
+pub(crate) fn set_at(code: &mut Vec<Instruction>, place: usize, instruction: Instruction)
+    ensures { code.new.items ≡ slice_set code.old.items place instruction }
+{
+    if place < code.len() {
+        code[place] = instruction;
+    }
+}
+
+/// Leads the jumps at these places to another place.
+pub(crate) fn land_jumps(code: &mut Vec<Instruction>, jumps: &[usize], after: CodePlace)
+    ensures { code.new.items ≡ landed after code.old.items jumps.now }
+{
+    for place in jumps {
+        set_at(code, *place, Instruction::Jump(after));
+    }
+}
+
+/// Puts instructions from a place on.
+pub(crate) fn fill_places(code: &mut Vec<Instruction>, first: usize, instructions: &[Instruction])
+    requires { first + length instructions.now ≤ 512 }
+    ensures { code.new.items ≡ filled code.old.items first instructions.now }
+{
+    let mut place = first;
+    for instruction in instructions {
+        set_at(code, place, *instruction);
+        place += 1;
+    }
+}

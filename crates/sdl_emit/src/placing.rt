@@ -1,0 +1,268 @@
+//! Which connections stand behind the text of a piece, and where.
+ghost use Rattle.std.specs.Prelude.{◌≡◌, ◌+◌, ◌≤◌, ◌<◌, ◌++◌, ℕ, [], fold, length, replicate, All, IsSome, OnOk, IfOk};
+ghost use Rattle.std.specs.List.{list_any, sum_by};
+ghost use Rattle.sdl_tree.specs.Views.{text_of, statement_of, choice_of, else_choice, process_of};
+ghost use Rattle.sdl_measures.specs.Counting.{measure_at};
+ghost use Rattle.sdl_measures.specs.Measures.{AreMeasures};
+ghost use Rattle.sdl_emit.specs.Scopes.{scope_in, places_by};
+ghost use Rattle.sdl_emit.specs.Placing.{decision_joins, numbers_of, HaveNumbers, AreMarked};
+ghost use Rattle.sdl_meaning.specs.Named.{NamedText, NamedConnections};
+ghost use Rattle.sdl_meaning.specs.Act.{connector_at};
+ghost use Rattle.sdl_meaning.specs.Code.{number_or_zero, code_joins, else_joins, answers_joins, add_number, joined, text_at, size_at, place_in, ArePlaced};
+
+use crate::names::Names;
+use sdl_measures::Measure;
+use sdl_tree::{Decision, End, Join, Statement, Transition};
+use std::alloc::{AllocError, Global};
+
+#[cycle(placing)]
+fn collect_answers(
+    found: &mut Vec<Join>,
+    names: &Names,
+    decision: &Decision,
+) -> Result<(), AllocError>
+    ensures { OnOk result (found.new.items ≡ found.old.items ++ answers_joins (scope_in names.now) (choice_of decision.now)) }
+{
+    for answer in &decision.answers {
+        collect_joins(found, names, &answer.body)?;
+    }
+    Ok(())
+}
+
+#[cycle(placing)]
+fn collect_else(
+    found: &mut Vec<Join>,
+    names: &Names,
+    otherwise: &Option<Transition>,
+) -> Result<(), AllocError>
+    ensures { OnOk result (found.new.items ≡ found.old.items ++ else_joins (scope_in names.now) (else_choice otherwise.now)) }
+{
+    match otherwise {
+        Some(body) => collect_joins(found, names, body),
+        None => Ok(()),
+    }
+}
+
+/// The bodies of an Integer DECISION stand behind that of its ELSE.
+#[cycle(placing)]
+fn collect_decision(
+    found: &mut Vec<Join>,
+    names: &Names,
+    decision: &Decision,
+) -> Result<(), AllocError>
+    ensures { OnOk result (found.new.items ≡ found.old.items ++ decision_joins (scope_in names.now) decision.now) }
+{
+    if names.is_truth(&decision.question) {
+        collect_answers(found, names, decision)?;
+        collect_else(found, names, &decision.otherwise)
+    } else {
+        collect_else(found, names, &decision.otherwise)?;
+        collect_answers(found, names, decision)
+    }
+}
+
+#[cycle(placing)]
+fn collect_statement(
+    found: &mut Vec<Join>,
+    names: &Names,
+    statement: &Statement,
+) -> Result<(), AllocError>
+    ensures { OnOk result ((rest : _) → found.new.items ++ code_joins (scope_in names.now) rest ≡ found.old.items ++ code_joins (scope_in names.now) (statement_of statement.now rest)) }
+{
+    match statement {
+        Statement::Act(_) => Ok(()),
+        Statement::Decide(decision) => collect_decision(found, names, decision),
+    }
+}
+
+/// The JOINs of a text in the order of its code.
+#[cycle(placing)]
+fn collect_joins(
+    found: &mut Vec<Join>,
+    names: &Names,
+    transition: &Transition,
+) -> Result<(), AllocError>
+    ensures { OnOk result (found.new.items ≡ found.old.items ++ code_joins (scope_in names.now) (text_of transition.now)) }
+{
+    for statement in &transition.statements {
+        collect_statement(found, names, statement)?;
+    }
+    if let Some(End::Join(join)) = transition.end {
+        found.push(join)?;
+    }
+    Ok(())
+}
+
+/// One more connection, unless it is placed already, which its mark tells.
+fn place_one(
+    placed: &mut Vec<usize>,
+    marks: &mut Vec<bool>,
+    names: &Names,
+    join: &Join,
+) -> Result<(), AllocError>
+    requires named { IsSome (connector_at (scope_in names.now) join.now.connector) }
+    requires marks { AreMarked (scope_in names.now) placed.old.items marks.old.items }
+    ensures placed { OnOk result (placed.new.items ≡ add_number placed.old.items (number_or_zero (connector_at (scope_in names.now) join.now.connector))) }
+    ensures marks { OnOk result (AreMarked (scope_in names.now) placed.new.items marks.new.items) }
+{
+    let number = names.connector(&join.connector);
+    if !marks[number] {
+        marks[number] = true;
+        placed.push(number)?;
+    }
+    Ok(())
+}
+
+fn place_each(
+    placed: &mut Vec<usize>,
+    marks: &mut Vec<bool>,
+    names: &Names,
+    joins: &[Join],
+) -> Result<(), AllocError>
+    requires named { HaveNumbers (scope_in names.now) joins.now }
+    requires marks { AreMarked (scope_in names.now) placed.old.items marks.old.items }
+    ensures placed { OnOk result (placed.new.items ≡ fold add_number placed.old.items (numbers_of (scope_in names.now) joins.now)) }
+    ensures marks { OnOk result (AreMarked (scope_in names.now) placed.new.items marks.new.items) }
+{
+    for join in joins {
+        place_one(placed, marks, names, join)?;
+    }
+    Ok(())
+}
+
+/// The connections that a text joins.
+fn place_joined(
+    alloc: Global,
+    placed: &mut Vec<usize>,
+    marks: &mut Vec<bool>,
+    names: &Names,
+    transition: &Transition,
+) -> Result<(), AllocError>
+    requires text { NamedText (scope_in names.now) (text_of transition.now) }
+    requires marks { AreMarked (scope_in names.now) placed.old.items marks.old.items }
+    ensures placed { OnOk result (placed.new.items ≡ fold add_number placed.old.items (joined (scope_in names.now) (text_of transition.now))) }
+    ensures marks { OnOk result (AreMarked (scope_in names.now) placed.new.items marks.new.items) }
+{
+    let mut found = Vec::new(alloc);
+    collect_joins(&mut found, names, transition)?;
+    place_each(placed, marks, names, &found)
+}
+
+/// The connections that one of them joins.
+fn place_more(
+    alloc: Global,
+    placed: &mut Vec<usize>,
+    marks: &mut Vec<bool>,
+    names: &Names,
+    number: usize,
+) -> Result<(), AllocError>
+    requires connections { NamedConnections (scope_in names.now) }
+    requires there { number < length (process_of names.now.process.now).connections }
+    requires marks { AreMarked (scope_in names.now) placed.old.items marks.old.items }
+    ensures placed { OnOk result (placed.new.items ≡ fold add_number placed.old.items (joined (scope_in names.now) (text_at (scope_in names.now) number))) }
+    ensures marks { OnOk result (AreMarked (scope_in names.now) placed.new.items marks.new.items) }
+{
+    let connection = &names.process.process().connections[number];
+    place_joined(alloc, placed, marks, names, &connection.transition)
+}
+
+/// No connection is placed so far.
+fn no_marks(alloc: Global, names: &Names) -> Result<Vec<bool>, AllocError>
+    ensures { IfOk result (λ marks. AreMarked (scope_in names.now) [] marks.items) }
+{
+    let count = names.process.process().connections.len();
+    let marks = vec![in alloc; false; count]?;
+    Ok(marks)
+}
+
+/// The connections that a text joins or one of them does, by number, in the order in which the code
+/// joins them first.
+pub fn place_connections(
+    alloc: Global,
+    names: &Names,
+    transition: &Transition,
+) -> Result<Vec<usize>, AllocError>
+    requires text { NamedText (scope_in names.now) (text_of transition.now) }
+    requires connections { NamedConnections (scope_in names.now) }
+    ensures { IfOk result (λ ns. ArePlaced (scope_in names.now) (text_of transition.now) ns.items) }
+{
+    let mut placed = Vec::new(alloc);
+    let mut marks = no_marks(alloc, names)?;
+    place_joined(alloc, &mut placed, &mut marks, names, transition)?;
+    let mut next = 0;
+    while next < placed.len() {
+        let number = placed[next];
+        place_more(alloc, &mut placed, &mut marks, names, number)?;
+        next += 1;
+    }
+    Ok(placed)
+}
+
+fn measured_size(measures: &[Measure], number: usize) -> u32
+    ensures { result ≡ (measure_at measures.now number).size }
+{
+    match measures.get(number) {
+        Some(measure) => measure.size,
+        None => 0,
+    }
+}
+
+/// How many instructions the connection with a number has: that is measured already.
+fn connection_size(names: &Names, measures: &[Measure], number: usize) -> usize
+    requires measured { AreMeasures (process_of names.now.process.now) measures.now }
+    requires there { number < length (process_of names.now.process.now).connections }
+    requires short { size_at (scope_in names.now) number ≤ 512 }
+    ensures { result ≡ size_at (scope_in names.now) number }
+{
+    measured_size(measures, number) as usize
+}
+
+/// How many instructions they have together.
+fn total_size(names: &Names, measures: &[Measure], placed: &[usize]) -> usize
+    requires measured { AreMeasures (process_of names.now.process.now) measures.now }
+    requires there { All (λ n. n < length (process_of names.now.process.now).connections) placed.now }
+    requires short { sum_by (size_at (scope_in names.now)) placed.now ≤ 512 }
+    ensures { result ≡ sum_by (size_at (scope_in names.now)) placed.now }
+{
+    let mut total = 0;
+    for number in placed {
+        total += connection_size(names, measures, *number);
+    }
+    total
+}
+
+fn zeros(alloc: Global, count: usize) -> Result<Vec<usize>, AllocError>
+    ensures { IfOk result (λ ns. ns.items ≡ replicate count 0) }
+{
+    let mut numbers = Vec::new(alloc);
+    for _ in 0..count {
+        numbers.push(0)?;
+    }
+    Ok(numbers)
+}
+
+/// Where connections stand one behind another from a place on, by number: 0 for one that isn't placed.
+pub fn connection_places(
+    alloc: Global,
+    names: &Names,
+    measures: &[Measure],
+    start: usize,
+    placed: &[usize],
+) -> Result<Vec<usize>, AllocError>
+    requires measured { AreMeasures (process_of names.now.process.now) measures.now }
+    requires there { All (λ n. n < length (process_of names.now.process.now).connections) placed.now }
+    requires short { start + sum_by (size_at (scope_in names.now)) placed.now ≤ 512 }
+    ensures places { IfOk result (λ ps. (n : ℕ) → places_by ps.items n ≡ place_in (scope_in names.now) start placed.now n) }
+    ensures low { IfOk result (λ ps. All (λ p. p ≤ 512) ps.items) }
+{
+    let mut places = zeros(alloc, names.process.process().connections.len())?;
+    let mut place = start + total_size(names, measures, placed);
+    let mut left = placed.len();
+    while left > 0 {
+        left -= 1;
+        let number = placed[left];
+        place -= connection_size(names, measures, number);
+        places[number] = place;
+    }
+    Ok(places)
+}

@@ -1,0 +1,345 @@
+//! The instructions of transitions with their DECISIONs and JOINs. Targets are places in the whole piece. Those of connections
+//! are known beforehand; those within a DECISION once its bodies stand, so each body is gone through once.
+ghost use Rattle.std.specs.Prelude.{◌≡◌, ◌+◌, ◌≤◌, ◌++◌, ◌&&◌, true, false, ℕ, OnOk, IfOk, All, length, sum_by};
+ghost use Rattle.sdl_tree.specs.Plain.{Text, falls};
+ghost use Rattle.sdl_tree.specs.Views.{text_of, statement_of, decision_of, choice_of};
+ghost use Rattle.sdl_tables.specs.Names.{variables_of};
+ghost use Rattle.sdl_sound.specs.Longest.{size};
+ghost use Rattle.sdl_sound.specs.Going.{goes_on, choice_goes_on};
+ghost use Rattle.sdl_emit.specs.Scopes.{scope_in, places_by, question_in, piece_in};
+ghost use Rattle.sdl_meaning.specs.Named.{NamedEnd, NamedText, NamedChoice, NamedPiece};
+ghost use Rattle.sdl_meaning.specs.Code.{end_code, leave_code, body_size, else_size, answers_size, after_choice, text_code, else_code, answers_code, truth_code, integer_code, text_at, size_at, connections_place, place_in, connections_code, piece_code};
+ghost use Rattle.sdl_emit.specs.Landing.{leave_place, answers_leave, else_leave, starts_from};
+
+use crate::emit::{emit_action, emit_expression, emit_places, put};
+use crate::landing::{
+    both, fill_places, has_any, keep_places, land_jumps, picked_place, set_at, tests_length,
+};
+use crate::names::Names;
+use crate::ranges::emit_tests;
+use sdl_tree::{Decision, End, Identifier, Statement, Transition};
+use std::alloc::{AllocError, Global};
+use turn_code::{CodePlace, Instruction};
+
+/// A place within the limit of a piece.
+fn code_place(place: usize) -> CodePlace
+    requires { place ≤ 512 }
+    ensures { result.0 ≡ place }
+{
+    CodePlace(place as u16)
+}
+
+/// Where the connection with a number stands: nowhere where it has no place.
+fn place_of(places: &[usize], number: usize) -> usize
+    requires { All (λ p. p ≤ 512) places.now }
+    ensures place { result ≡ places_by places.now number }
+    ensures low { result ≤ 512 }
+{
+    match places.get(number) {
+        Some(place) => *place,
+        None => 0,
+    }
+}
+
+fn emit_end(
+    code: &mut Vec<Instruction>,
+    names: &Names,
+    places: &[usize],
+    end: &End,
+) -> Result<(), AllocError>
+    requires named { NamedEnd (scope_in names.now) end.now }
+    requires low { All (λ p. p ≤ 512) places.now }
+    ensures { OnOk result (code.new.items ≡ code.old.items ++ end_code (scope_in names.now) (places_by places.now) end.now) }
+{
+    match end {
+        End::NextState(next) => put(code, Instruction::Next(names.state(&next.state))),
+        End::Stop(_) => put(code, Instruction::Stop),
+        End::Join(join) => {
+            let place = place_of(places, names.connector(&join.connector));
+            put(code, Instruction::Jump(code_place(place)))
+        }
+    }
+}
+
+/// A body, with its jump where it goes on. The jump's place is told, since what follows the DECISION has none so far.
+#[cycle(texts)]
+fn emit_body(
+    alloc: Global,
+    code: &mut Vec<Instruction>,
+    jumps: &mut Vec<usize>,
+    names: &Names,
+    places: &[usize],
+    body: &Transition,
+) -> Result<(), AllocError>
+    requires named { NamedText (scope_in names.now) (text_of body.now) }
+    requires fits { length code.now.items + body_size (scope_in names.now) (text_of body.now) ≤ 512 }
+    requires low { All (λ p. p ≤ 512) places.now }
+    ensures code { OnOk result (code.new.items ≡ code.old.items ++ (text_code (scope_in names.now) (places_by places.now) (length code.old.items) (text_of body.now) ++ leave_code 0 (text_of body.now))) }
+    ensures jumps { OnOk result (jumps.new.items ≡ jumps.old.items ++ leave_place (scope_in names.now) (places_by places.now) (length code.old.items) (text_of body.now)) }
+{
+    if emit_text(alloc, code, names, places, body)? {
+        jumps.push(code.len())?;
+        put(code, Instruction::Jump(CodePlace(0)))?;
+    }
+    Ok(())
+}
+
+/// The body of ELSE, if there is one.
+#[cycle(texts)]
+fn emit_else(
+    alloc: Global,
+    code: &mut Vec<Instruction>,
+    jumps: &mut Vec<usize>,
+    names: &Names,
+    places: &[usize],
+    decision: &Decision,
+) -> Result<(), AllocError>
+    requires named { NamedChoice (scope_in names.now) (question_in decision.now) (choice_of decision.now) }
+    requires fits { length code.now.items + else_size (scope_in names.now) (choice_of decision.now) ≤ 512 }
+    requires low { All (λ p. p ≤ 512) places.now }
+    ensures code { OnOk result (code.new.items ≡ code.old.items ++ else_code (scope_in names.now) (places_by places.now) (length code.old.items) 0 (choice_of decision.now)) }
+    ensures jumps { OnOk result (jumps.new.items ≡ jumps.old.items ++ else_leave (scope_in names.now) (places_by places.now) (length code.old.items) (choice_of decision.now)) }
+{
+    match &decision.otherwise {
+        Some(body) => emit_body(alloc, code, jumps, names, places, body),
+        None => Ok(()),
+    }
+}
+
+/// The bodies of the answers, one behind another, and where they begin.
+#[cycle(texts)]
+fn emit_answers(
+    alloc: Global,
+    code: &mut Vec<Instruction>,
+    jumps: &mut Vec<usize>,
+    starts: &mut Vec<CodePlace>,
+    names: &Names,
+    places: &[usize],
+    decision: &Decision,
+) -> Result<(), AllocError>
+    requires named { NamedChoice (scope_in names.now) (question_in decision.now) (choice_of decision.now) }
+    requires fits { length code.now.items + answers_size (scope_in names.now) (choice_of decision.now) ≤ 512 }
+    requires low { All (λ p. p ≤ 512) places.now }
+    ensures code { OnOk result (code.new.items ≡ code.old.items ++ answers_code (scope_in names.now) (places_by places.now) (length code.old.items) 0 (choice_of decision.now)) }
+    ensures jumps { OnOk result (jumps.new.items ≡ jumps.old.items ++ answers_leave (scope_in names.now) (places_by places.now) (length code.old.items) (choice_of decision.now)) }
+    ensures starts { OnOk result (starts.new.items ≡ starts.old.items ++ starts_from (scope_in names.now) (length code.old.items) (choice_of decision.now)) }
+{
+    for answer in &decision.answers {
+        starts.push(code_place(code.len()))?;
+        emit_body(alloc, code, jumps, names, places, &answer.body)?;
+    }
+    Ok(())
+}
+
+/// A Boolean DECISION behind its question: the choice, and the bodies in the order of the text.
+#[cycle(texts)]
+fn emit_truth(
+    alloc: Global,
+    code: &mut Vec<Instruction>,
+    names: &Names,
+    places: &[usize],
+    decision: &Decision,
+) -> Result<bool, AllocError>
+    requires named { NamedChoice (scope_in names.now) (question_in decision.now) (choice_of decision.now) }
+    requires fits { after_choice (scope_in names.now) true (length code.now.items) (choice_of decision.now) ≤ 512 }
+    requires low { All (λ p. p ≤ 512) places.now }
+    ensures code { OnOk result (code.new.items ≡ code.old.items ++ truth_code (scope_in names.now) (places_by places.now) (length code.old.items) (choice_of decision.now)) }
+    ensures goes { IfOk result (λ b. b ≡ choice_goes_on (choice_of decision.now)) }
+{
+    let mut jumps = Vec::new(alloc);
+    let mut starts = Vec::new(alloc);
+    let choice = code.len();
+    put(code, Instruction::Drop)?;
+    emit_answers(
+        alloc,
+        code,
+        &mut jumps,
+        &mut starts,
+        names,
+        places,
+        decision,
+    )?;
+    let otherwise = code_place(code.len());
+    emit_else(alloc, code, &mut jumps, names, places, decision)?;
+    land_jumps(code, &jumps, code_place(code.len()));
+    let falsity = picked_place(decision, &starts, false, otherwise);
+    let truth = picked_place(decision, &starts, true, otherwise);
+    set_at(code, choice, Instruction::Pick(falsity, truth));
+    Ok(has_any(&jumps))
+}
+
+/// An Integer DECISION behind its question: the tests, the drop, the body of ELSE, and the bodies of the answers.
+#[cycle(texts)]
+fn emit_integer(
+    alloc: Global,
+    code: &mut Vec<Instruction>,
+    names: &Names,
+    places: &[usize],
+    decision: &Decision,
+) -> Result<bool, AllocError>
+    requires named { NamedChoice (scope_in names.now) (question_in decision.now) (choice_of decision.now) }
+    requires fits { after_choice (scope_in names.now) false (length code.now.items) (choice_of decision.now) ≤ 512 }
+    requires low { All (λ p. p ≤ 512) places.now }
+    ensures code { OnOk result (code.new.items ≡ code.old.items ++ integer_code (scope_in names.now) (places_by places.now) (length code.old.items) (choice_of decision.now)) }
+    ensures goes { IfOk result (λ b. b ≡ choice_goes_on (choice_of decision.now)) }
+{
+    let mut jumps = Vec::new(alloc);
+    let mut starts = Vec::new(alloc);
+    let mut tests = Vec::new(alloc);
+    let first = code.len();
+    keep_places(code, tests_length(decision))?;
+    emit_else(alloc, code, &mut jumps, names, places, decision)?;
+    emit_answers(
+        alloc,
+        code,
+        &mut jumps,
+        &mut starts,
+        names,
+        places,
+        decision,
+    )?;
+    land_jumps(code, &jumps, code_place(code.len()));
+    emit_tests(&mut tests, decision, &starts)?;
+    fill_places(code, first, &tests);
+    Ok(has_any(&jumps))
+}
+
+#[cycle(texts)]
+fn emit_decision(
+    alloc: Global,
+    code: &mut Vec<Instruction>,
+    names: &Names,
+    places: &[usize],
+    decision: &Decision,
+) -> Result<bool, AllocError>
+    requires named { NamedText (scope_in names.now) (decision_of decision.now falls) }
+    requires fits { length code.now.items + size (variables_of (scope_in names.now).process) (decision_of decision.now falls) ≤ 512 }
+    requires low { All (λ p. p ≤ 512) places.now }
+    ensures code { OnOk result (code.new.items ≡ code.old.items ++ text_code (scope_in names.now) (places_by places.now) (length code.old.items) (decision_of decision.now falls)) }
+    ensures goes { IfOk result (λ b. b ≡ choice_goes_on (choice_of decision.now)) }
+{
+    emit_expression(code, names, &decision.question)?;
+    if names.is_truth(&decision.question) {
+        emit_truth(alloc, code, names, places, decision)
+    } else {
+        emit_integer(alloc, code, names, places, decision)
+    }
+}
+
+/// One statement, alone, and whether what stands behind it may follow.
+#[cycle(texts)]
+fn emit_statement(
+    alloc: Global,
+    code: &mut Vec<Instruction>,
+    names: &Names,
+    places: &[usize],
+    statement: &Statement,
+) -> Result<bool, AllocError>
+    requires named { NamedText (scope_in names.now) (statement_of statement.now falls) }
+    requires fits { length code.now.items + size (variables_of (scope_in names.now).process) (statement_of statement.now falls) ≤ 512 }
+    requires low { All (λ p. p ≤ 512) places.now }
+    ensures code { OnOk result (code.new.items ≡ code.old.items ++ text_code (scope_in names.now) (places_by places.now) (length code.old.items) (statement_of statement.now falls)) }
+    ensures goes { IfOk result (λ b. (rest : Text) → goes_on (statement_of statement.now rest) ≡ (b && goes_on rest)) }
+{
+    match statement {
+        Statement::Act(action) => {
+            emit_action(code, names, action)?;
+            Ok(true)
+        }
+        Statement::Decide(decision) => emit_decision(alloc, code, names, places, decision),
+    }
+}
+
+/// The instructions of a transition, at the end of the code so far, and whether it may run off its end.
+#[cycle(texts)]
+pub(crate) fn emit_text(
+    alloc: Global,
+    code: &mut Vec<Instruction>,
+    names: &Names,
+    places: &[usize],
+    transition: &Transition,
+) -> Result<bool, AllocError>
+    requires named { NamedText (scope_in names.now) (text_of transition.now) }
+    requires fits { length code.now.items + size (variables_of (scope_in names.now).process) (text_of transition.now) ≤ 512 }
+    requires low { All (λ p. p ≤ 512) places.now }
+    ensures code { OnOk result (code.new.items ≡ code.old.items ++ text_code (scope_in names.now) (places_by places.now) (length code.old.items) (text_of transition.now)) }
+    ensures goes { IfOk result (λ b. b ≡ goes_on (text_of transition.now)) }
+{
+    let mut goes = true;
+    for statement in &transition.statements {
+        let passes = emit_statement(alloc, code, names, places, statement)?;
+        goes = both(goes, passes);
+    }
+    match &transition.end {
+        Some(end) => {
+            emit_end(code, names, places, end)?;
+            Ok(false)
+        }
+        None => Ok(goes),
+    }
+}
+
+/// The text of the connection with a number.
+fn emit_connection(
+    alloc: Global,
+    code: &mut Vec<Instruction>,
+    names: &Names,
+    places: &[usize],
+    number: usize,
+) -> Result<(), AllocError>
+    requires named { NamedText (scope_in names.now) (text_at (scope_in names.now) number) }
+    requires fits { length code.now.items + size_at (scope_in names.now) number ≤ 512 }
+    requires low { All (λ p. p ≤ 512) places.now }
+    ensures { OnOk result (code.new.items ≡ code.old.items ++ text_code (scope_in names.now) (places_by places.now) (length code.old.items) (text_at (scope_in names.now) number)) }
+{
+    match names.process.process().connections.get(number) {
+        Some(connection) => {
+            emit_text(alloc, code, names, places, &connection.transition)?;
+            Ok(())
+        }
+        None => Ok(()),
+    }
+}
+
+/// The texts of connections by number, one behind another.
+pub(crate) fn emit_connections(
+    alloc: Global,
+    code: &mut Vec<Instruction>,
+    names: &Names,
+    places: &[usize],
+    numbers: &[usize],
+) -> Result<(), AllocError>
+    requires named { (n : ℕ) → NamedText (scope_in names.now) (text_at (scope_in names.now) n) }
+    requires fits { length code.now.items + sum_by (size_at (scope_in names.now)) numbers.now ≤ 512 }
+    requires low { All (λ p. p ≤ 512) places.now }
+    ensures { OnOk result (code.new.items ≡ code.old.items ++ connections_code (scope_in names.now) (places_by places.now) (length code.old.items) numbers.now) }
+{
+    for number in numbers {
+        emit_connection(alloc, code, names, places, *number)?;
+    }
+    Ok(())
+}
+
+/// The instructions of a transition: the places of its INPUT, its text, and the connections with these numbers. `targets` has
+/// the place of each connection by its number.
+pub fn emit_piece(
+    alloc: Global,
+    names: &Names,
+    places: &[Option<Identifier>],
+    transition: &Transition,
+    numbers: &[usize],
+    targets: &[usize],
+) -> Result<Vec<Instruction>, AllocError>
+    requires named { NamedPiece (scope_in names.now) (piece_in places.now transition.now) }
+    requires few { length places.now ≤ 4 }
+    requires fits { connections_place (scope_in names.now) (piece_in places.now transition.now) + sum_by (size_at (scope_in names.now)) numbers.now ≤ 512 }
+    requires low { All (λ p. p ≤ 512) targets.now }
+    requires placed { (n : ℕ) → places_by targets.now n ≡ place_in (scope_in names.now) (connections_place (scope_in names.now) (piece_in places.now transition.now)) numbers.now n }
+    ensures { IfOk result (λ code. code.items ≡ piece_code (scope_in names.now) (piece_in places.now transition.now) numbers.now) }
+{
+    let mut code = Vec::new(alloc);
+    emit_places(&mut code, names, places)?;
+    emit_text(alloc, &mut code, names, targets, transition)?;
+    emit_connections(alloc, &mut code, names, targets, numbers)?;
+    Ok(code)
+}

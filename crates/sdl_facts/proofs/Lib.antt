@@ -1,0 +1,17 @@
+pub mod Actions
+pub mod Ahead
+pub mod Counting
+pub mod Depths
+pub mod Marking
+pub mod Passes
+pub mod Piecewise
+pub mod Reckoned
+pub mod Rights
+pub mod Setting
+pub mod Shapes
+pub mod Spots
+pub mod Straight
+pub mod Stretches
+pub mod Tallies
+pub mod Unchanged
+pub mod Weights

@@ -1,0 +1,25 @@
+use Rattle.std.proofs.Common.{◌++◌, map, sym, ap, ◌∙◌}
+use Rattle.sdl_tree.specs.declared.tree.Process.{Process}
+use Rattle.sdl_tree.specs.Views.{connection_of, text_of}
+use Rattle.sdl_emit.specs.Scopes.{scope_in}
+use Rattle.sdl_facts.specs.Entries.{entry_at}
+use Rattle.sdl_facts.specs.Facts.{text_sets}
+use Rattle.sdl_facts.proofs.Marking.{found, past, connection_named, connection_sets, no_connection_sets}
+use Rattle.sdl_facts.proofs.entries.mark_connection.Goals as goal
+
+pub mark_text-requires : goal.mark_text-requires
+mark_text-requires c =
+    let listed = ap (λ (p : Process). map connection_of p.connections.items) (sym c.process.ensures.process) ∙ ap (map connection_of) (sym c.deref.ensures.value) in
+    connection_named (scope_in c.args.names.now) c.deref.result.now listed c.args.number c.in-Some.connection.now (found c.deref.result.now c.args.number c.in-Some.connection.now c.in-Some.ensures.lookup.3.0 c.in-Some.ensures.lookup.1) c.requires
+
+pub returns-in_ok-mark_text : goal.returns-in_ok-mark_text
+returns-in_ok-mark_text c =
+    let listed = ap (λ (p : Process). map connection_of p.connections.items) (sym c.process.ensures.process) ∙ ap (map connection_of) (sym c.deref.ensures.value) in
+    connection_sets (scope_in c.args.names.now) c.deref.result.now listed c.args.number c.in-Some.connection.now (found c.deref.result.now c.args.number c.in-Some.connection.now c.in-Some.ensures.lookup.3.0 c.in-Some.ensures.lookup.1)
+    (entry_at c.args.entries.now c.args.number) c.args.sets.now.items c.mark_text.new.sets.items
+    (c.in_ok-mark_text.ensures.sets ∙ ap (λ m. c.args.sets.now.items ++ text_sets (scope_in c.args.names.now) m (text_of c.in-Some.connection.now.transition)) c.entry_of-set.ensures)
+
+pub returns-in_default : goal.returns-in_default
+returns-in_default c =
+    let listed = ap (λ (p : Process). map connection_of p.connections.items) (sym c.process.ensures.process) ∙ ap (map connection_of) (sym c.deref.ensures.value) in
+    no_connection_sets (scope_in c.args.names.now) c.deref.result.now listed c.args.number (past c.deref.result.now c.args.number c.in_default.ensures.lookup.3) (entry_at c.args.entries.now c.args.number) c.args.sets.now.items

@@ -1,0 +1,38 @@
+-- What comes with a transition, and what the compiler asks of it.
+use Rattle.std.specs.Prelude.{◌≡◌, ℕ, ◌≤◌, List, [], ◌∷◌, length}
+use Rattle.sdl_tree.specs.Views.{block_of, process_of}
+use Rattle.turn_code.specs.declared.value.Sort.{Sort}
+use Rattle.turn_code.specs.declared.draft.PlaceFacts.{PlaceFacts}
+use Rattle.sdl_sound.specs.Longest.{Piece}
+use Rattle.sdl_sound.specs.Orders.{IsOrder}
+use Rattle.sdl_measures.specs.Measures.{AreMeasures}
+use Rattle.sdl_meaning.specs.Named.{AreSorted, NamedPiece}
+use Rattle.sdl_facts.specs.declared.setting.Setting.{Setting}
+use Rattle.sdl_meaning.specs.Act.{Scope}
+use Rattle.sdl_facts.specs.Made.{IsSmall}
+use Rattle.sdl_meaning.specs.Declarations.{drafted_signals, drafted_variables}
+
+-- the variables are those of the process, the signals those of the block; the order and the measures are those of its connections
+pub record IsSetting (s : Setting) : Type 0 where
+  pub variables : s.variables.now ≡ drafted_variables (process_of s.names.now.process.now)
+  pub signals : s.signals.now ≡ drafted_signals (block_of s.names.now.block.now)
+  pub ordered : IsOrder (process_of s.names.now.process.now) s.order.now
+  pub measured : AreMeasures (process_of s.names.now.process.now) s.measures.now
+
+-- a transition whose names are all there and whose sorts are right, with places for parameters of these sorts, within the limits
+pub record IsReadyPiece (c : Scope) (q : Piece) (ps : List Sort) : Type 0 where
+  pub named : NamedPiece c q
+  pub sorted : AreSorted c q.text
+  pub places : length q.places ≤ length ps
+  pub few : length q.places ≤ 4
+  pub small : IsSmall c q
+
+-- how many effects code has from its first place on
+abbrev pub effects_from : List PlaceFacts → ℕ
+effects_from [] = 0
+effects_from (f ∷ fs) = f.effects
+
+-- and how many instructions may run
+abbrev pub count_from : List PlaceFacts → ℕ
+count_from [] = 0
+count_from (f ∷ fs) = f.count

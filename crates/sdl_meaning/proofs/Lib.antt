@@ -1,0 +1,15 @@
+pub mod Acts
+pub mod Branches
+pub mod Choices
+pub mod Costs
+pub mod Counted
+pub mod Follows
+pub mod Items
+pub mod Joining
+pub mod Measured
+pub mod Numbers
+pub mod Reached
+pub mod Runs
+pub mod Sizes
+pub mod Sorting
+pub mod Within

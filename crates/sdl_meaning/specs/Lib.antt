@@ -1,0 +1,4 @@
+pub mod Act
+pub mod Code
+pub mod Declarations
+pub mod Named
