@@ -25,7 +25,7 @@ use Rattle.sdl_sound.specs.Receivers.{arrives, answers_all, lost_sending, lost_a
 use Rattle.sdl_meaning.specs.Act.{Scope, variable_at, to_sender}
 use Rattle.sdl_meaning.specs.Named.{NamedTree, NamedTrees, NamedTasks, HasReceiver, NamedSendings, NamedAction, NamedEnd, NamedText, NamedChoice, AnswerTo, NamedPlaces, IsSentTo, AnswerAll, AnswersTo, AnswersAction, AnswersSenders, ChoiceAnswers}
 use Rattle.sdl_compile.specs.Drafts.{IsTrigger}
-use Rattle.sdl_meaning.proofs.Items.{Each, each_front, each_back, nil_front, nil_back}
+use Rattle.sdl_sound.proofs.Items.{Each, each_front, each_back, nil_front, nil_back}
 use Rattle.sdl_meaning.proofs.Sorting.{passed}
 use Rattle.sdl_facts.proofs.Actions.{as_many}
 

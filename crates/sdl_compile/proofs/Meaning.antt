@@ -31,7 +31,7 @@ use Rattle.sdl_compile.specs.Drafts.{MatchesProcess, MatchesInputs, MatchesInput
 use Rattle.sdl_compile.specs.Blocks.{MatchesBlock}
 use Rattle.sdl_compile.specs.Routes.{IsKnownPath}
 use Rattle.sdl_compile.specs.Meaning.{input_of_state, IsMeant, RunsAsMeant}
-use Rattle.sdl_meaning.proofs.Items.{Each}
+use Rattle.sdl_sound.proofs.Items.{Each}
 use Rattle.sdl_compile.proofs.Sent.{sent_by}
 use Rattle.sdl_compile.proofs.Whole.{known_paths}
 

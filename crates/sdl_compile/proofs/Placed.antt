@@ -55,7 +55,7 @@ use Rattle.sdl_compile.specs.Blocks.{Declares, IsValidProcess}
 use Rattle.sdl_facts.specs.Reads.{everything, ReadText, places_set}
 use Rattle.sdl_facts.specs.Entries.{entry_at, met, connections_met, piece_entries}
 use Rattle.sdl_compile.specs.Routes.{IsKnownPath}
-use Rattle.sdl_meaning.proofs.Items.{Each, nil_front, nil_back}
+use Rattle.sdl_sound.proofs.Items.{Each, nil_front, nil_back}
 use Rattle.sdl_meaning.proofs.Numbers.{AreNumbered, are_numbered, number_alike, number_there}
 use Rattle.sdl_meaning.proofs.Sorting.{passed, number_small, variable_sorted, signal_sorted, unsigned_sorts}
 use Rattle.sdl_facts.proofs.Actions.{Stands, Reaching}

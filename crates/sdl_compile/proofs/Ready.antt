@@ -33,7 +33,7 @@ use Rattle.sdl_compile.proofs.Known.{FineStatement, text_ends, known, known_in, 
 use Rattle.sdl_meaning.proofs.Numbers.{AreNumbered, are_numbered}
 use Rattle.sdl_compile.proofs.Receiving.{has_receiver, answers_sender}
 use Rattle.sdl_meaning.proofs.Sorting.{passed, slice_map}
-use Rattle.sdl_meaning.proofs.Items.{Each, each_front, each_back, each_append, each_always, each_with, each_map, each_flat, each_unflat, each_false, all_items, nil_front, nil_back, each_nil}
+use Rattle.sdl_sound.proofs.Items.{Each, each_front, each_back, each_append, each_always, each_with, each_map, each_flat, each_unflat, each_false, all_items, nil_front, nil_back, each_nil}
 
 equal_number : (m n : ℕ) → nat_eq m n ≡ true → m ≡ n
 equal_number m n e = grind (arith, nat_tests)

@@ -32,7 +32,7 @@ use Rattle.sdl_meaning.specs.Declarations.{trigger_with, trigger_of}
 use Rattle.sdl_compile.specs.Drafts.{IsTrigger}
 use Rattle.sdl_compile.specs.Blocks.{drafted_party, drafted_path}
 use Rattle.sdl_compile.specs.Routes.{KnownParty, IsKnown, IsKnownPath}
-use Rattle.sdl_meaning.proofs.Items.{Each, each_append, each_with, all_items}
+use Rattle.sdl_sound.proofs.Items.{Each, each_append, each_with, all_items}
 use Rattle.sdl_meaning.proofs.Numbers.{AreNumbered, folded_alike, number_alike, number_there, same_self, same_other_way}
 
 and_left : (a b : Bool) → a && b ≡ true → a ≡ true

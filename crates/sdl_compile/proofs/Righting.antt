@@ -4,7 +4,7 @@ use Rattle.sdl_tree.specs.Plain.{Tree, Text, falls, ends, does, decides, Choice,
 use Rattle.sdl_sound.specs.Statements.{statements_of, choice_statements}
 use Rattle.sdl_sound.specs.Actions.{Origin}
 use Rattle.sdl_meaning.specs.Act.{Scope}
-use Rattle.sdl_meaning.proofs.Items.{Each, each_front, each_back}
+use Rattle.sdl_sound.proofs.Items.{Each, each_front, each_back}
 use Rattle.sdl_compile.proofs.Known.{FineStatement}
 use Rattle.sdl_valid.proofs.Fine.{RightText, RightChoice}
 

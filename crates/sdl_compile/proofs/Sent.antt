@@ -18,7 +18,7 @@ use Rattle.sdl_meaning.specs.Code.{number_or_zero}
 use Rattle.sdl_meaning.specs.Named.{IsBroughtBy}
 use Rattle.sdl_compile.specs.Blocks.{drafted_party, drafted_path}
 use Rattle.sdl_compile.specs.Routes.{KnownParty, IsKnown, IsKnownPath, signal_numbered}
-use Rattle.sdl_meaning.proofs.Items.{Each}
+use Rattle.sdl_sound.proofs.Items.{Each}
 use Rattle.sdl_meaning.proofs.Numbers.{folded_alike, number_there, same_other_way}
 use Rattle.std.specs.Prelude.{bytes_eq}
 

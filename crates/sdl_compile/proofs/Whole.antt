@@ -52,7 +52,7 @@ use Rattle.sdl_meaning.specs.Declarations.{sort_of_tree, drafted_signal, drafted
 use Rattle.sdl_compile.specs.Drafts.{IsReadyProcess, IsInputOf, AreInputsOf, IsProcessOf, sets_of}
 use Rattle.sdl_compile.specs.Blocks.{drafted_routes, Declares}
 use Rattle.sdl_compile.specs.Routes.{KnownParty, IsKnown, IsKnownPath, HasFewNames}
-use Rattle.sdl_meaning.proofs.Items.{Each, each_front, each_back, each_with, each_unmap, each_flat, each_unflat, all_items, nil_front, nil_back, each_nil, each_false, each_unfound}
+use Rattle.sdl_sound.proofs.Items.{Each, each_front, each_back, each_with, each_unmap, each_flat, each_unflat, all_items, nil_front, nil_back, each_nil, each_false, each_unfound}
 use Rattle.sdl_compile.proofs.Known.{known}
 use Rattle.sdl_meaning.proofs.Numbers.{AreNumbered, are_numbered}
 use Rattle.sdl_compile.proofs.Placed.{beside, valid_process, IsCounted, IsKnownTransition}

@@ -5,4 +5,3 @@ pub mod Landed
 pub mod Marked
 pub mod Once
 pub mod Spacing
-pub mod Views

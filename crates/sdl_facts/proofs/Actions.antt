@@ -35,7 +35,7 @@ use Rattle.sdl_meaning.specs.Code.{number_or_zero, next, set_to, reset, put, sto
 use Rattle.sdl_meaning.specs.Named.{NamedTasks, NamedSendings, NamedAction, NamedPlaces}
 use Rattle.sdl_meaning.specs.Declarations.{sort_of_tree}
 use Rattle.sdl_facts.specs.Reads.{ReadTasks, ReadSendings, ReadAction}
-use Rattle.sdl_meaning.proofs.Items.{nil_front, nil_back}
+use Rattle.sdl_sound.proofs.Items.{nil_front, nil_back}
 use Rattle.sdl_meaning.proofs.Sorting.{fits, has_this, passed, variable_has_sort}
 use Rattle.sdl_facts.proofs.Straight.{AreRight}
 use Rattle.sdl_facts.proofs.Stretches.{right_joined}

@@ -35,7 +35,7 @@ use Rattle.sdl_facts.proofs.Stretches.{after, left_shape, deepest, Leads}
 use Rattle.sdl_facts.proofs.Shapes.{depth_some, tree_leads, action_leads, places_leads}
 use Rattle.sdl_facts.proofs.Actions.{counted_action}
 use Rattle.sdl_meaning.proofs.Sorting.{variable_sorted, signal_sorted, tree_has_sort}
-use Rattle.sdl_meaning.proofs.Items.{nil_front, nil_back}
+use Rattle.sdl_sound.proofs.Items.{nil_front, nil_back}
 use Rattle.sdl_meaning.proofs.Branches.{EachEnd, EachJoin, ChoiceJoin, integer_answered}
 use Rattle.sdl_meaning.proofs.Joining.{contains_first, contains_map, has_connection, each_join}
 use Rattle.sdl_meaning.proofs.Acts.{joined_placed, placed_closed}

@@ -14,7 +14,7 @@ use Rattle.sdl_meaning.specs.Act.{Scope}
 use Rattle.sdl_meaning.specs.Named.{NamedPiece}
 use Rattle.sdl_meaning.specs.Code.{text_at, size_at, joined, add_number, numbers_once, ArePlaced, place_in, text_code, places_code, connections_code, text_place, connections_place, piece_code}
 use Rattle.sdl_meaning.proofs.Sizes.{places_size, text_size_is, connections_size}
-use Rattle.sdl_meaning.proofs.Items.{Each}
+use Rattle.sdl_sound.proofs.Items.{Each}
 use Rattle.sdl_meaning.proofs.Acts.{among_by}
 use Rattle.sdl_meaning.proofs.Reached.{Stands, placed_stands, placed_reached, reached_placed}
 

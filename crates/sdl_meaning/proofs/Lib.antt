@@ -4,7 +4,6 @@ pub mod Choices
 pub mod Costs
 pub mod Counted
 pub mod Follows
-pub mod Items
 pub mod Joining
 pub mod Measured
 pub mod Numbers

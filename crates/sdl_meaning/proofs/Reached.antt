@@ -15,7 +15,7 @@ use Rattle.sdl_sound.specs.Joins.{joins_at, comes_by, comes, reaches}
 use Rattle.sdl_meaning.specs.Act.{Scope, connector_at, is_truth}
 use Rattle.sdl_meaning.specs.Named.{NamedText, NamedChoice, NamedConnections}
 use Rattle.sdl_meaning.specs.Code.{number_or_zero, code_joins, else_joins, answers_joins, bodies_joins, text_at, joined, ArePlaced}
-use Rattle.sdl_meaning.proofs.Items.{Each, each_front, each_back, each_append, each_always, all_items}
+use Rattle.sdl_sound.proofs.Items.{Each, each_front, each_back, each_append, each_always, all_items}
 use Rattle.sdl_meaning.proofs.Numbers.{number_there, number_alike, same_other_way}
 use Rattle.sdl_meaning.proofs.Sorting.{slice_map}
 use Rattle.sdl_meaning.proofs.Joining.{HasConnection, has_connection, contains_map}
