@@ -3,7 +3,8 @@ use Rattle.std.specs.Prelude.{slice_get}
 use Rattle.sdl_tree.specs.Views.{connection_of, process_of}
 use Rattle.sdl_emit.specs.Scopes.{scope_in, places_by}
 use Rattle.sdl_meaning.specs.Code.{text_code}
-use Rattle.sdl_emit.proofs.Emitting.{text_missing, beyond}
+use Rattle.sdl_emit.proofs.Emitting.{text_missing}
+use Rattle.sdl_meaning.proofs.Sorting.{none_past as beyond}
 use Rattle.sdl_emit.proofs.texts.emit_connection.Goals as goal
 
 pub returns-in-None : goal.returns-in-None
