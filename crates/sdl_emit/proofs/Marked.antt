@@ -34,8 +34,6 @@ free_at (suc size) (suc n) lt = free_at size n (omega (arith, lt))
 
 -- ---- numbers
 
-]
-
 has_last : (ns : List ℕ) (n : ℕ) → has (ns ++ n ∷ []) n ≡ true
 has_last ns n =
     list_any-append (λ m. nat_eq m n) ns (n ∷ []) ∙ ap (λ b. has ns n || (b || false)) (eq-eqb n n refl) ∙ or-true (has ns n)
