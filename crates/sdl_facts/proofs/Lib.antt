@@ -5,9 +5,9 @@ pub mod Depths
 pub mod Marking
 pub mod Passes
 pub mod Piecewise
+pub mod PlaceSets
 pub mod Reckoned
 pub mod Rights
-pub mod Setting
 pub mod Shapes
 pub mod Spots
 pub mod Straight
