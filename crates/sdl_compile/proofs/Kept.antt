@@ -12,6 +12,7 @@ use Rattle.sdl_facts.specs.declared.counts.Counted.TheVariants.{Effects}
 use Rattle.sdl_facts.specs.Made.{IsLongestOf, AreCountsOf, IsPieceOf}
 use Rattle.sdl_meaning.specs.Named.{NamedPiece, AreSorted}
 use Rattle.sdl_facts.proofs.Depths.{facts_deep}
+use Rattle.sdl_facts.proofs.Passes.{same_all as same_greatest}
 
 count_of : (fs : List PlaceFacts) (k : ℕ) → number_at (map (λ (f : PlaceFacts). f.count) fs) k ≡ count_in (slice_get fs k)
 count_of [] k = refl
@@ -22,10 +23,6 @@ effects_at_is : (fs : List PlaceFacts) (k : ℕ) → number_at (map (λ (f : Pla
 effects_at_is [] k = refl
 effects_at_is (f ∷ fs) zero = refl
 effects_at_is (f ∷ fs) (suc k) = effects_at_is fs k
-
-same_greatest : (f g : ℕ → ℕ) (js : List ℕ) → ((j : ℕ) → f j ≡ g j) → greatest (map f js) ≡ greatest (map g js)
-same_greatest f g [] e = refl
-same_greatest f g (j ∷ js) e = let h = same_greatest f g js e in let k = e j in omega (arith, h, k)
 
 pub keeps_counts : (c : Scope) (q : Piece) (t : Transition) → AreCountsOf c q t.piece.code t.piece.facts → IsLongestOf c q t.piece.certificate → greatest (depths t.piece.facts) ≡ piece_depth c.process q → (k : ℕ) → KeepsCounts t k
 keeps_counts c q t h longest deep k =

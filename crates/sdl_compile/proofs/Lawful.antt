@@ -13,11 +13,7 @@ use Rattle.sdl_sound.specs.Laws.{IsTextOf, ChancesLaw}
 use Rattle.sdl_meaning.specs.Act.{scope_of}
 use Rattle.sdl_valid.proofs.Validity.{item_of}
 use Rattle.sdl_compile.proofs.Placed.{IsInProcess, Tells}
-
-contains_at : {A : Type 0} (xs : List A) (k : ℕ) (x : A) → slice_get xs k ≡ Some x → Contains xs x
-contains_at [] k x e = absurd (let k : ⊥ = cc in k)
-contains_at (y ∷ xs) zero x e = (zero, omega arith, let f : y ≡ x = cc in f)
-contains_at (y ∷ xs) (suc k) x e = let h = contains_at xs k x e in (suc h.0, (let lt = h.1 in omega (arith, lt)), h.2)
+use Rattle.turn_code.proofs.Lists.{at_place as contains_at}
 
 text_of_it : (p : PlainProcess) (t : Transition) → IsInProcess p t → IsTextOf p t.text
 text_of_it p t (inl e) = inl (ap (λ (t : Transition). t.text) e)

@@ -27,11 +27,7 @@ use Rattle.sdl_facts.proofs.Spots.{Spot, piece_spots, piece_instructions}
 use Rattle.sdl_facts.proofs.Setting.{piece_set_at}
 use Rattle.sdl_facts.proofs.Depths.{facts_deep}
 use Rattle.sdl_meaning.proofs.Reached.{placed_stands}
-
-there_within : {A : Type 0} (xs : List A) (k : ℕ) (x : A) → slice_get xs k ≡ Some x → k < length xs
-there_within [] k x e = absurd (let k : ⊥ = cc in k)
-there_within (y ∷ xs) zero x e = omega arith
-there_within (y ∷ xs) (suc k) x e = let h = there_within xs k x e in omega (arith, h)
+use Rattle.turn_code.proofs.Lists.{within as there_within}
 
 -- the connections of a piece are there
 pub placed_within : (c : Scope) (q : Piece) (ns : List ℕ) → NamedPiece c q → ArePlaced c q.text ns → (k d : ℕ) → k < length ns → get_or ns k d < length c.process.connections

@@ -67,7 +67,8 @@ use Rattle.sdl_valid.proofs.Settling.{all_fit, all_read}
 use Rattle.sdl_compile.proofs.Righting.{right_text}
 use Rattle.sdl_compile.proofs.Receiving.{answers_input, arriving}
 use Rattle.sdl_compile.proofs.Ready.{FineReached, FineWhole, FineInput, FineProcess, each_at}
-use Rattle.sdl_valid.proofs.Validity.{one_item, valid}
+use Rattle.sdl_valid.proofs.Validity.{valid}
+use Rattle.sdl_sound.proofs.Lists.{get_one as one_item}
 use Rattle.sdl_valid.proofs.Walks.{Holds, places_hold, by_bool}
 
 -- ---- lists by place

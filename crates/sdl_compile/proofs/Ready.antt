@@ -30,21 +30,17 @@ use Rattle.sdl_meaning.specs.Declarations.{sort_of_tree}
 use Rattle.sdl_compile.specs.Drafts.{IsTrigger, IsReadyInput, AreReady, AllReady, AreTriggers, AllTriggers, IsReadyProcess}
 use Rattle.sdl_compile.specs.Routes.{IsKnownPath}
 use Rattle.sdl_compile.proofs.Known.{FineStatement, text_ends, known, known_in, trigger_known, named_text, named_places, answers_text}
-use Rattle.sdl_meaning.proofs.Numbers.{AreNumbered, are_numbered}
-use Rattle.sdl_compile.proofs.Receiving.{has_receiver, answers_sender}
-use Rattle.sdl_meaning.proofs.Sorting.{passed, slice_map}
+use Rattle.sdl_meaning.proofs.Numbers.{AreNumbered, are_numbered, not_marked as not_flagged}
+use Rattle.sdl_compile.proofs.Receiving.{has_receiver, answers_sender, all_front, all_back}
+use Rattle.sdl_meaning.proofs.Sorting.{passed}
+use Rattle.std.proofs.lemmas.Option.{slice_get-map as slice_map}
 use Rattle.sdl_sound.proofs.Items.{Each, each_front, each_back, each_append, each_always, each_with, each_map, each_flat, each_unflat, each_false, all_items, nil_front, nil_back, each_nil}
-
-equal_number : (m n : ℕ) → nat_eq m n ≡ true → m ≡ n
-equal_number m n e = grind (arith, nat_tests)
+use Rattle.sdl_meaning.proofs.Tests.{and_second as and_right, and_first as and_left}
+use Rattle.turn_code.proofs.Lists.{within as in_list}
+use Rattle.std.proofs.lemmas.Bool.{eqb-true as equal_number, and_from as and_both}
 
 unequal_number : (m n : ℕ) → nat_eq m n ≡ false → m ≡ n → ⊥
 unequal_number m n e f = grind (arith, nat_tests)
-
-in_list : {A : Type 0} (xs : List A) (n : ℕ) (x : A) → slice_get xs n ≡ Some x → n < length xs
-in_list [] n x e = absurd (let k : ⊥ = cc in k)
-in_list (y ∷ xs) zero x e = omega arith
-in_list (y ∷ xs) (suc n) x e = let h = in_list xs n x e in omega (arith, h)
 
 pub each_both : {A : Type 0} (P Q : A → Type 0) (xs : List A) → Each P xs → Each Q xs → Each (λ x. P x × Q x) xs
 each_both P Q [] h k = tt
@@ -55,20 +51,8 @@ each_at P [] n x h e = absurd (let k : ⊥ = cc in k)
 each_at P (y ∷ xs) zero x h e = let f : y ≡ x = cc in subst P f h.0
 each_at P (y ∷ xs) (suc n) x h e = each_at P xs n x h.1 e
 
-pub not_flagged : (b : Bool) (at : ℕ) → cond b (at ∷ []) [] ≡ [] → b ≡ false
-not_flagged true at e = absurd (let k : ⊥ = cc in k)
-not_flagged false at e = refl
-
 both_nil : (a b : List ℕ) → a ≡ [] → b ≡ [] → a ++ b ≡ []
 both_nil a b e f = ap (λ l. l ++ b) e ∙ f
-
-and_left : (a b : Bool) → a && b ≡ true → a ≡ true
-and_left true b e = refl
-and_left false b e = absurd (let k : ⊥ = cc in k)
-
-and_right : (a b : Bool) → a && b ≡ true → b ≡ true
-and_right true b e = e
-and_right false b e = absurd (let k : ⊥ = cc in k)
 
 -- ---- the limits
 
@@ -208,18 +192,6 @@ module _ {X : Type 0} (P : X → Type 0) (in_part : PlainState → List X) (p : 
 
 abbrev input_with : ℕ → Text → PlainStimulus → Input
 input_with at t s = record { at = at; stimulus = s; text = t }
-
-and_both : (a b : Bool) → a ≡ true → b ≡ true → a && b ≡ true
-and_both true b e f = f
-and_both false b e f = absurd (let k : ⊥ = cc in k)
-
-all_front : {A : Type 0} (f : A → Bool) (a b : List A) → list_all f (a ++ b) ≡ true → list_all f a ≡ true
-all_front f [] b e = refl
-all_front f (x ∷ a) b e = and_both (f x) (list_all f a) (and_left (f x) (list_all f (a ++ b)) e) (all_front f a b (and_right (f x) (list_all f (a ++ b)) e))
-
-all_back : {A : Type 0} (f : A → Bool) (a b : List A) → list_all f (a ++ b) ≡ true → list_all f b ≡ true
-all_back f [] b e = e
-all_back f (x ∷ a) b e = all_back f a b (and_right (f x) (list_all f (a ++ b)) e)
 
 all_if : {A : Type 0} (f : A → Bool) (t : Bool) (xs : List A) → t ≡ true → list_all f (cond t xs []) ≡ true → list_all f xs ≡ true
 all_if f true xs e h = h

@@ -33,31 +33,13 @@ use Rattle.sdl_compile.specs.Drafts.{IsTrigger}
 use Rattle.sdl_compile.specs.Blocks.{drafted_party, drafted_path}
 use Rattle.sdl_compile.specs.Routes.{KnownParty, IsKnown, IsKnownPath}
 use Rattle.sdl_sound.proofs.Items.{Each, each_append, each_with, all_items}
-use Rattle.sdl_meaning.proofs.Numbers.{AreNumbered, folded_alike, number_alike, number_there, same_self, same_other_way}
-
-and_left : (a b : Bool) → a && b ≡ true → a ≡ true
-and_left true b e = refl
-and_left false b e = absurd (let k : ⊥ = cc in k)
-
-and_right : (a b : Bool) → a && b ≡ true → b ≡ true
-and_right true b e = e
-and_right false b e = absurd (let k : ⊥ = cc in k)
-
-and_both : (a b : Bool) → a ≡ true → b ≡ true → a && b ≡ true
-and_both true b e f = f
-and_both false b e f = absurd (let k : ⊥ = cc in k)
-
-or_one : (a b : Bool) → a ≡ true → a || b ≡ true
-or_one true b e = refl
-or_one false b e = absurd (let k : ⊥ = cc in k)
-
-or_other : (a b : Bool) → b ≡ true → a || b ≡ true
-or_other true b e = refl
-or_other false b e = e
-
-or_split : {P : Type 0} (a b : Bool) → a || b ≡ true → (a ≡ true → P) → (b ≡ true → P) → P
-or_split true b e f g = f refl
-or_split false b e f g = g e
+use Rattle.sdl_meaning.proofs.Numbers.{AreNumbered, number_alike, number_there, same_self, same_other_way}
+use Rattle.sdl_sound.proofs.Numbered.{same_folded as folded_alike}
+use Rattle.sdl_meaning.proofs.Tests.{and_second as and_right, and_first as and_left}
+use Rattle.std.proofs.lemmas.Bool.{or_left as or_one, or_right as or_other, and_from as and_both}
+use Rattle.turn_code.proofs.Lists.{first_of as contains_here}
+use Rattle.sdl_meaning.proofs.Reached.{or_split}
+use Rattle.sdl_tables.proofs.Mentions.{party_self as same_party_self}
 
 trans_name : (x y z : List ℕ) → same_name x y ≡ true → same_name y z ≡ true → same_name x z ≡ true
 trans_name x y z e f = (bytes_eq-Decides (folded x) (folded z)).1 (folded_alike x y e ∙ folded_alike y z f)
@@ -70,17 +52,14 @@ any_here P x xs h = (0, x, omega arith, refl, h)
 any_there : {A : Type 0} (P : A → Type 0) (y : A) (xs : List A) → Any P xs → Any P (y ∷ xs)
 any_there P y xs h = let l = h.2 in (suc h.0, h.1, omega (arith, l), h.3, h.4)
 
-contains_here : {A : Type 0} (x : A) (xs : List A) → Contains (x ∷ xs) x
-contains_here x xs = (0, omega arith, refl)
-
 contains_there : {A : Type 0} (y x : A) (xs : List A) → Contains xs x → Contains (y ∷ xs) x
 contains_there y x xs h = let l = h.1 in (suc h.0, omega (arith, l), h.2)
 
-all_front : {A : Type 0} (f : A → Bool) (a b : List A) → list_all f (a ++ b) ≡ true → list_all f a ≡ true
+pub all_front : {A : Type 0} (f : A → Bool) (a b : List A) → list_all f (a ++ b) ≡ true → list_all f a ≡ true
 all_front f [] b e = refl
 all_front f (x ∷ a) b e = and_both (f x) (list_all f a) (and_left (f x) (list_all f (a ++ b)) e) (all_front f a b (and_right (f x) (list_all f (a ++ b)) e))
 
-all_back : {A : Type 0} (f : A → Bool) (a b : List A) → list_all f (a ++ b) ≡ true → list_all f b ≡ true
+pub all_back : {A : Type 0} (f : A → Bool) (a b : List A) → list_all f (a ++ b) ≡ true → list_all f b ≡ true
 all_back f [] b e = e
 all_back f (x ∷ a) b e = all_back f a b (and_right (f x) (list_all f (a ++ b)) e)
 
@@ -90,10 +69,6 @@ same_place ids v w x y e f g =
     cc
 
 -- ---- parties
-
-same_party_self : (q : Party) → same_party q q ≡ true
-same_party_self Environment = refl
-same_party_self (Process id) = same_self id.name
 
 -- whoever receives is reached by a path
 each_received : (from : Party) (s : List ℕ) (paths : List PlainPath) → Each (λ q. list_any (brings from q s) paths ≡ true) (flat_map (path_receivers from s) paths)

@@ -57,13 +57,9 @@ use Rattle.sdl_compile.proofs.Known.{known}
 use Rattle.sdl_meaning.proofs.Numbers.{AreNumbered, are_numbered}
 use Rattle.sdl_compile.proofs.Placed.{beside, valid_process, IsCounted, IsKnownTransition}
 use Rattle.sdl_compile.proofs.Ready.{FineProcess, process_fine, ready_process, small_pieces, at_most, each_both, each_at}
-use Rattle.sdl_meaning.proofs.Sorting.{found_at, slice_map}
-
-pub zip_length : {A B : Type 0} (R : A → B → Type 0) (xs : List A) (ys : List B) → AllZip R xs ys → length ys ≡ length xs
-zip_length R [] [] z = refl
-zip_length R [] (y ∷ ys) z = absurd z
-zip_length R (x ∷ xs) [] z = absurd z
-zip_length R (x ∷ xs) (y ∷ ys) z = ap suc (zip_length R xs ys z.1)
+use Rattle.sdl_meaning.proofs.Sorting.{found_at}
+use Rattle.std.proofs.lemmas.Option.{slice_get-map as slice_map}
+use Rattle.turn_code.proofs.Lists.{at_place as slice_contains, zip_length}
 
 -- ---- as many pieces in the draft as in the text
 
@@ -124,11 +120,6 @@ counted c draft t q there named sorted small places made = record {
   counts = piece_keeps c q t named sorted places made;
   size = size_is c q named made.code.numbers made.code.placed t.piece.code made.code.code;
 }
-
-slice_contains : {A : Type 0} (xs : List A) (n : ℕ) (x : A) → slice_get xs n ≡ Some x → Contains xs x
-slice_contains [] n x e = absurd (let k : ⊥ = cc in k)
-slice_contains (y ∷ xs) zero x e = (0, omega arith, (let f : y ≡ x = cc in f))
-slice_contains (y ∷ xs) (suc n) x e = let r = slice_contains xs n x e in (suc r.0, omega (arith, r.1), r.2)
 
 -- no walk costs more than its code has instructions
 pub each_lawful : BudgetLaw → (ps : List PlainProcess) → flat_map process_cycles ps ≡ [] → Each (λ (p : PlainProcess). (t : Text) → text_budget p t ≤ text_size p t) ps

@@ -3,36 +3,19 @@ ghost use Rattle.std.specs.Prelude.{◌≡◌, ◌≤◌, length, Option, IfOk};
 ghost use Rattle.sdl_ast.specs.declared.expression.Identifier as tree_identifier;
 ghost use Rattle.sdl_ast.specs.Views.{text_of};
 ghost use Rattle.sdl_emit.specs.Scopes.{scope_in, piece_in};
-ghost use Rattle.sdl_meaning.specs.Named.{NamedPiece, AnswersAll};
+ghost use Rattle.sdl_meaning.specs.Named.{AnswersAll};
 ghost use Rattle.sdl_sound.specs.Longest.{places_cost};
 ghost use Rattle.sdl_compile.specs.Drafts.{Means};
 ghost use Rattle.sdl_facts.specs.Made.{IsPieceOf};
 ghost use Rattle.sdl_facts.specs.Settings.{IsSetting, IsReadyPiece, count_from, effects_from};
 
 use sdl_ast::{Identifier, Transition};
-use sdl_emit::{Body, Names, connection_places, emit_piece, place_connections, text_size};
-use sdl_facts::{Layout, Marks, Standing, greatest_depth, piece_counts, place_facts, place_sets};
-use sdl_rules::Measure;
-use std::alloc::{AllocError, Global};
-use turn_code::{
-    Cert, DraftPiece, DraftSignal, DraftVariable, PlaceFacts, Sequence, Sort, VariableSet,
+use sdl_emit::{Body, connection_places, emit_piece, place_connections, text_size};
+use sdl_facts::{
+    Layout, Marks, Setting, Standing, greatest_depth, piece_counts, place_facts, place_sets,
 };
-
-/// What comes with a transition: the names that it may use, its process's variables, its block's
-/// signals, the sorts of its parameters, the variables that are set as it begins, its process's
-/// connections in an order in which each stands behind all that it joins, what they measure, and
-/// their copies.
-#[derive(Drop)]
-pub struct Setting<'a> {
-    pub names: &'a Names<'a>,
-    pub variables: &'a [DraftVariable],
-    pub signals: &'a [DraftSignal],
-    pub parameters: &'a [Sort],
-    pub entry: VariableSet,
-    pub order: &'a [usize],
-    pub measures: &'a [Measure],
-    pub copies: &'a [Transition],
-}
+use std::alloc::{AllocError, Global};
+use turn_code::{Cert, DraftPiece, PlaceFacts, Sequence};
 
 /// How many instructions INPUT's places have.
 fn places_length(places: &[Option<Identifier>]) -> usize

@@ -19,8 +19,8 @@ use Rattle.sdl_meaning.specs.Act.{Scope, is_truth}
 use Rattle.sdl_meaning.specs.Named.{NamedText, NamedChoice, NamedConnections}
 use Rattle.sdl_meaning.specs.Code.{tree_code, action_code, leave_code, body_size, else_size, answers_size, tests_code, pick_code, bodies_place, else_place, answers_place, after_choice, text_code, else_code, answers_code, bodies_code, truth_code, integer_code, text_at, size_at, places_code, place_in, connections_code, text_place, connections_place, piece_code}
 use Rattle.sdl_meaning.proofs.Sizes.{places_size, tree_size, action_size, leave_size, tests_are, text_size_is, bodies_size_is, answers_size_is, else_size_is}
-use Rattle.sdl_meaning.proofs.Sorting.{slice_map}
-use Rattle.sdl_tree.proofs.Views.{answer_of-is}
+use Rattle.std.proofs.lemmas.Option.{slice_get-map as slice_map}
+use Rattle.sdl_ast.proofs.Views.{answer_of-is}
 
 -- ---- one more item of a list
 
@@ -235,11 +235,6 @@ module _ (c : Scope) (to : ℕ → ℕ) where
               ∙ ap (λ k. old ++ (tests_code c (answers_place c n all) all ++ (else_code c to (else_place n all) (after_choice c false n all) all ++ answers_code c to (answers_place c n all) k all))) here
 
 -- ---- connections
-
-pub beyond : {A : Type 0} (xs : List A) (n : ℕ) → length xs ≤ n → slice_get xs n ≡ None
-beyond [] n h = refl
-beyond (x ∷ xs) zero h = absurd (omega arith)
-beyond (x ∷ xs) (suc n) h = beyond xs n (omega arith)
 
 pub text_missing : (c : Scope) (xs : List Connection) (n : ℕ) → c.process.connections ≡ map connection_of xs → slice_get xs n ≡ None → text_at c n ≡ falls
 text_missing c xs n is e =

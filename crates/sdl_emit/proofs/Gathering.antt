@@ -17,11 +17,13 @@ use Rattle.sdl_meaning.specs.Act.{Scope, connector_at}
 use Rattle.sdl_meaning.specs.Named.{NamedText, NamedConnections}
 use Rattle.sdl_emit.specs.Placing.{has, HaveNumbers}
 use Rattle.sdl_meaning.specs.Code.{number_or_zero, code_joins, joined, text_at, add_number, numbers_once, ArePlaced}
-use Rattle.sdl_meaning.proofs.Sorting.{slice_map}
+use Rattle.std.proofs.lemmas.Option.{slice_get-map as slice_map}
 use Rattle.sdl_meaning.proofs.Joining.{has_connection}
 use Rattle.sdl_meaning.proofs.Acts.{once_there}
-use Rattle.sdl_meaning.proofs.Measured.{none_past, each_of, each_named, mapped_from}
+use Rattle.sdl_meaning.proofs.Measured.{each_of, each_named, mapped_from, contains_later as later_in}
+use Rattle.turn_code.proofs.Lists.{within as none_past}
 use Rattle.sdl_emit.proofs.Once.{once_few}
+use Rattle.turn_code.proofs.Lists.{at_place as contains_at}
 
 pub all_numbered : (c : Scope) (t : Text) → NamedText c t → (js : List Join) → js ≡ code_joins c t → HaveNumbers c js
 all_numbered c t named js e k d lt =
@@ -50,9 +52,6 @@ record Added (acc xs : List ℕ) : Type 0 where
   is : fold add_number acc xs ≡ acc ++ more
   from : (n : ℕ) → Contains more n → Contains xs n
 
-later_in : (x : ℕ) (xs : List ℕ) (n : ℕ) → Contains xs n → Contains (x ∷ xs) n
-later_in x xs n h = (suc h.0, omega (arith, h.1), h.2)
-
 one_added : (acc xs acc2 : List ℕ) (x : ℕ) (b : Bool) → acc2 ≡ cond b acc (acc ++ x ∷ []) → Added acc2 xs → fold add_number acc (x ∷ xs) ≡ fold add_number acc2 xs → Added acc (x ∷ xs)
 one_added acc xs acc2 x true e r f = record { more = r.more; is = f ∙ r.is ∙ ap (λ l. l ++ r.more) e; from = λ n h. later_in x xs n (r.from n h) }
 one_added acc xs acc2 x false e r f = record {
@@ -64,9 +63,6 @@ one_added acc xs acc2 x false e r f = record {
 added : (xs acc : List ℕ) → Added acc xs
 added [] acc = record { more = []; is = sym (append-nil acc); from = λ n h. h }
 added (x ∷ xs) acc = one_added acc xs (add_number acc x) x (has acc x) refl (added xs (add_number acc x)) refl
-
-pub contains_at : (xs : List ℕ) (k n : ℕ) → slice_get xs k ≡ Some n → Contains xs n
-contains_at xs k n e = (k, none_past xs k n e, get_or_from_slice_get xs k n n e)
 
 split_at : (xs ys : List ℕ) (k n : ℕ) → slice_get (xs ++ ys) k ≡ Some n → ((k < length xs) × (slice_get xs k ≡ Some n)) ⊎ ((length xs ≤ k) × Contains ys n)
 split_at [] ys k n e = inr (omega arith, contains_at ys k n e)

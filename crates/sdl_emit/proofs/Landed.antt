@@ -20,6 +20,7 @@ use Rattle.sdl_meaning.specs.Code.{jump, leave_code, body_size, else_size, answe
 use Rattle.sdl_emit.specs.Landing.{code_place, starts_from, leave_place, answers_leave, else_leave, landed, filled, first_or, behind_first, has_any, picked_by, tests_by}
 use Rattle.sdl_meaning.proofs.Sizes.{leave_size, tests_are, text_size_is, else_size_is}
 use Rattle.sdl_emit.proofs.Emitting.{bodies_size_parts, answers_length, body_length, truth_whole, integer_whole}
+use Rattle.std.proofs.Math.Bool.{or-false as or_false}
 
 -- ---- one instruction in another's stead
 
@@ -339,10 +340,6 @@ any_leaves c to n body qs = by_test (goes_on body)
     by_test : (b : Bool) → has_any (cond b ((n + length (text_code c to n body)) ∷ []) [] ++ qs) ≡ (b || has_any qs)
     by_test true = refl
     by_test false = refl
-
-or_false : (b : Bool) → (b || false) ≡ b
-or_false true = refl
-or_false false = refl
 
 -- a DECISION goes on where one of its bodies has a jump
 pub truth_goes : (c : Scope) (to : ℕ → ℕ) (n m : ℕ) (choice : Choice) → has_any (answers_leave c to n choice ++ else_leave c to m choice) ≡ choice_goes_on choice

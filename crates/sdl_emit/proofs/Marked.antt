@@ -2,7 +2,7 @@
 use Rattle.std.proofs.Common.{◌≡◌, ℕ, zero, suc, ◌+◌, ◌<◌, inl, inr, Bool, true, false, cond, ◌||◌, List, [], ◌∷◌, ◌++◌, length, drop, get_or, replicate, Some, IsSome, refl, sym, ap, ◌∙◌, subst, arith}
 use Rattle.std.specs.Prelude.{slice_get, slice_set, nat_eq}
 use Rattle.std.specs.List.{list_any}
-use Rattle.std.proofs.lemmas.Bool.{cases_eq, cases_Bool, eqb-true, eq-eqb}
+use Rattle.std.proofs.lemmas.Bool.{cases_eq, cases_Bool, eqb-true, eq-eqb, ne_eqb as differs}
 use Rattle.std.proofs.lemmas.List.{length-set, length-replicate}
 use Rattle.std.proofs.lemmas.List.Folds.{list_any-append}
 use Rattle.std.proofs.Math.Bool.{or-true, or-false}
@@ -11,7 +11,7 @@ use Rattle.sdl_meaning.specs.Act.{Scope, connector_at}
 use Rattle.sdl_meaning.specs.Code.{number_or_zero, add_number}
 use Rattle.sdl_emit.specs.Placing.{has, AreMarked}
 use Rattle.sdl_meaning.proofs.Joining.{has_connection}
-use Rattle.sdl_meaning.proofs.Measured.{none_past}
+use Rattle.turn_code.proofs.Lists.{within as none_past}
 
 -- ---- marks
 
@@ -33,12 +33,6 @@ free_at (suc size) zero lt = refl
 free_at (suc size) (suc n) lt = free_at size n (omega (arith, lt))
 
 -- ---- numbers
-
-differs : (n k : ℕ) → (n ≡ k → ⊥) → nat_eq n k ≡ false
-differs n k other = elim (cases_Bool (nat_eq n k)) [
-  | inl is ↦ absurd (other (eqb-true n k is))
-  | inr not ↦ not
-]
 
 has_last : (ns : List ℕ) (n : ℕ) → has (ns ++ n ∷ []) n ≡ true
 has_last ns n =

@@ -2,33 +2,17 @@
 use Rattle.std.proofs.Common.{◌≡◌, ℕ, zero, suc, ◌+◌, ◌<◌, ◌≤◌, ⊎_elim, Bool, true, false, ◌||◌, cond, List, [], ◌∷◌, ◌++◌, length, Option, Some, None, refl, sym, ap, ◌∙◌, subst, arith}
 use Rattle.std.specs.Prelude.{slice_get, get_or, nat_eq, fold, filter, Contains}
 use Rattle.std.specs.List.{list_any, sum_by}
-use Rattle.std.proofs.lemmas.Bool.{cases_eq}
+use Rattle.std.proofs.lemmas.Bool.{cases_eq, ne_eqb as other_eq}
 use Rattle.std.proofs.lemmas.Bool.Decides.{nat_tests}
 use Rattle.std.proofs.lemmas.List.Sums.{sum_by-cons, sum_by-append}
 use Rattle.sdl_meaning.specs.Code.{add_number}
 use Rattle.sdl_emit.specs.Placing.{has}
-
-same_eq : (n : ℕ) → nat_eq n n ≡ true
-same_eq n = grind (arith, nat_tests)
-
-other_eq : (m n : ℕ) → (m ≡ n → ⊥) → nat_eq m n ≡ false
-other_eq m n h = by_test (nat_eq m n) refl
-  where
-    by_test : (b : Bool) → nat_eq m n ≡ b → b ≡ false
-    by_test true e = absurd (h (let f : m ≡ n = grind (arith, nat_tests) in f))
-    by_test false e = refl
-
-or_none : (b : Bool) → b || false ≡ b
-or_none true = refl
-or_none false = refl
+use Rattle.std.proofs.Math.Bool.{or_assoc, or-false as or_none}
+use Rattle.sdl_meaning.proofs.Tests.{itself as same_eq}
 
 or_some : (b : Bool) → b || true ≡ true
 or_some true = refl
 or_some false = refl
-
-or_assoc : (a b c : Bool) → (a || b) || c ≡ a || (b || c)
-or_assoc true b c = refl
-or_assoc false b c = refl
 
 has_last : (ns : List ℕ) (n i : ℕ) → has (ns ++ n ∷ []) i ≡ has ns i || nat_eq n i
 has_last [] n i = or_none (nat_eq n i)

@@ -10,7 +10,7 @@ use Rattle.sdl_meaning.specs.Act.{Scope}
 use Rattle.sdl_emit.specs.Scopes.{places_by}
 use Rattle.sdl_meaning.specs.Code.{size_at, place_in}
 
-zero_at : (count n : ℕ) → get_or (replicate {A = ℕ} count 0) n 0 ≡ 0
+pub zero_at : (count n : ℕ) → get_or (replicate {A = ℕ} count 0) n 0 ≡ 0
 zero_at zero n = refl
 zero_at (suc k) zero = refl
 zero_at (suc k) (suc n) = zero_at k n

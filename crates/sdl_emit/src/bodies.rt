@@ -6,7 +6,7 @@ ghost use Rattle.sdl_sound.specs.Longest.{size};
 ghost use Rattle.sdl_trimmed.specs.Trimmed.{trimmed};
 
 use sdl_ast::Transition;
-use sdl_rules::code_size;
+use sdl_measures::code_size;
 use sdl_tables::ProcessTable;
 
 /// A transition, and its copy.
@@ -18,7 +18,7 @@ pub struct Body<'a> {
 }
 
 /// How many instructions a transition has, without those of connections.
-pub(crate) fn text_size(process: &ProcessTable, body: &Body) -> usize
+pub fn text_size(process: &ProcessTable, body: &Body) -> usize
     requires { size (variables_of (process_of process.now)) (text_of body.now.whole.now) ≤ 512 }
     ensures { result ≡ size (variables_of (process_of process.now)) (text_of body.now.whole.now) }
 {

@@ -78,7 +78,7 @@ fn binary(truth: bool, operator: BinaryOperator) -> Instruction
     }
 }
 
-pub(crate) fn is_division(operator: BinaryOperator) -> bool
+pub fn is_division(operator: BinaryOperator) -> bool
     ensures { result ≡ is_division operator }
 {
     matches!(

@@ -98,7 +98,7 @@ pub(crate) fn has_any(places: &[usize]) -> bool
 }
 
 /// Behind two statements a text goes on where both do.
-pub(crate) fn both(one: bool, other: bool) -> bool
+pub fn both(one: bool, other: bool) -> bool
     ensures { result ≡ (one && other) }
 {
     one && other

@@ -8,7 +8,8 @@ ghost use Rattle.sdl_meaning.specs.Named.{HasReceiver};
 ghost use Rattle.sdl_meaning.specs.Code.{number_or_zero, party_or_environment, receiver_code};
 
 use sdl_ast::{Destination, Expression, Identifier, Sort};
-use sdl_rules::{Recipients, find_receivers, sort_in};
+use sdl_sorts::sort_in;
+use sdl_statements::{Recipients, find_receivers};
 use sdl_tables::{BlockTable, ProcessTable};
 use turn_code::{
     Party, ProcessNumber, Receiver, SignalNumber, StateNumber, TimerNumber, VariableNumber,

@@ -14,7 +14,7 @@ ghost use Rattle.sdl_meaning.specs.Code.{number_or_zero, code_joins, else_joins,
 use crate::bodies::Body;
 use crate::names::Names;
 use sdl_ast::{Decision, End, Join, Statement, Transition};
-use sdl_rules::Measure;
+use sdl_measures::Measure;
 use std::alloc::{AllocError, Global};
 
 #[cycle(placing)]
@@ -181,7 +181,7 @@ fn no_marks(alloc: Global, names: &Names) -> Result<Vec<bool>, AllocError>
 
 /// The connections that a text joins or one of them does, by number, in the order in which the code
 /// joins them first. `copies` has the copy of each.
-pub(crate) fn place_connections(
+pub fn place_connections(
     alloc: Global,
     names: &Names,
     copies: &[Transition],
@@ -248,7 +248,7 @@ fn zeros(alloc: Global, count: usize) -> Result<Vec<usize>, AllocError>
 }
 
 /// Where connections stand one behind another from a place on, by number: 0 for one that isn't placed.
-pub(crate) fn connection_places(
+pub fn connection_places(
     alloc: Global,
     names: &Names,
     measures: &[Measure],

@@ -1,28 +1,27 @@
 //! The instructions of transitions with their DECISIONs and JOINs. Targets are places in the whole piece. Those of connections
 //! are known beforehand; those within a DECISION once its bodies stand, so each body is gone through once.
-ghost use Rattle.std.specs.Prelude.{◌≡◌, ◌+◌, ◌≤◌, ◌++◌, ◌∷◌, ◌&&◌, [], true, false, ℕ, OnOk, IfOk, All, length, sum_by};
+ghost use Rattle.std.specs.Prelude.{◌≡◌, ◌+◌, ◌≤◌, ◌++◌, ◌&&◌, true, false, ℕ, OnOk, IfOk, All, length, sum_by};
 ghost use Rattle.sdl_ast.specs.Plain.{Text, falls};
 ghost use Rattle.sdl_ast.specs.Views.{text_of, statement_of, decision_of, choice_of, process_of};
 ghost use Rattle.sdl_tables.specs.Names.{variables_of};
 ghost use Rattle.sdl_sound.specs.Longest.{size};
 ghost use Rattle.sdl_sound.specs.Going.{goes_on, choice_goes_on};
 ghost use Rattle.sdl_trimmed.specs.Trimmed.{AreTrimmed};
-ghost use Rattle.sdl_meaning.specs.Act.{relation_of, integer_in};
 ghost use Rattle.sdl_emit.specs.Scopes.{scope_in, places_by, question_in, piece_in};
 ghost use Rattle.sdl_meaning.specs.Named.{NamedEnd, NamedText, NamedChoice, NamedPiece};
-ghost use Rattle.sdl_meaning.specs.Code.{constant_or_zero, end_code, leave_code, body_size, else_size, answers_size, range_code, ranges_code, after_choice, text_code, else_code, answers_code, truth_code, integer_code, text_at, size_at, connections_place, place_in, connections_code, piece_code};
-ghost use Rattle.sdl_emit.specs.Landing.{leave_place, answers_leave, else_leave, starts_from, tests_by};
+ghost use Rattle.sdl_meaning.specs.Code.{end_code, leave_code, body_size, else_size, answers_size, after_choice, text_code, else_code, answers_code, truth_code, integer_code, text_at, size_at, connections_place, place_in, connections_code, piece_code};
+ghost use Rattle.sdl_emit.specs.Landing.{leave_place, answers_leave, else_leave, starts_from};
 
 use crate::bodies::Body;
 use crate::emit::{emit_action, emit_expression, emit_places, put};
 use crate::landing::{
-    both, fill_places, has_any, keep_places, land_jumps, picked_place, set_at, start_at,
-    tests_length,
+    both, fill_places, has_any, keep_places, land_jumps, picked_place, set_at, tests_length,
 };
 use crate::names::Names;
-use sdl_ast::{Constant, Decision, End, Identifier, Literal, Range, Statement, Transition};
+use crate::ranges::emit_tests;
+use sdl_ast::{Decision, End, Identifier, Statement, Transition};
 use std::alloc::{AllocError, Global};
-use turn_code::{CodePlace, Instruction, Relation};
+use turn_code::{CodePlace, Instruction};
 
 /// A place within the limit of a piece.
 fn code_place(place: usize) -> CodePlace
@@ -61,74 +60,6 @@ fn emit_end(
             let place = place_of(places, names.connector(&join.connector));
             put(code, Instruction::Jump(code_place(place)))
         }
-    }
-}
-
-fn relation(sign: sdl_ast::Relation) -> Relation
-    ensures { result ≡ relation_of sign }
-{
-    match sign {
-        sdl_ast::Relation::Equal => Relation::Equal,
-        sdl_ast::Relation::NotEqual => Relation::NotEqual,
-        sdl_ast::Relation::Less => Relation::Less,
-        sdl_ast::Relation::LessEqual => Relation::LessEqual,
-        sdl_ast::Relation::Greater => Relation::Greater,
-        sdl_ast::Relation::GreaterEqual => Relation::GreaterEqual,
-    }
-}
-
-/// The Integer that a constant is.
-fn integer(constant: &Constant) -> i32
-    ensures { result ≡ constant_or_zero (integer_in constant.now.value) }
-{
-    match constant.value {
-        Literal::Integer(value) => value,
-        Literal::Boolean(_) => 0,
-    }
-}
-
-/// The test of a range, where the body of its answer stands at a place.
-fn range_test(place: CodePlace, range: &Range) -> Instruction
-    ensures { result ≡ range_code place.0 range.now }
-{
-    match range {
-        Range::Value(constant) => Instruction::Case(Relation::Equal, integer(constant), place),
-        Range::Compared {
-            relation: sign,
-            constant,
-            ..
-        } => Instruction::Case(relation(*sign), integer(constant), place),
-        Range::Between(low, high) => Instruction::CaseWithin(place, integer(low), integer(high)),
-    }
-}
-
-fn emit_ranges(
-    code: &mut Vec<Instruction>,
-    place: CodePlace,
-    ranges: &[Range],
-) -> Result<(), AllocError>
-    ensures { OnOk result (code.new.items ≡ code.old.items ++ ranges_code place.0 ranges.now) }
-{
-    for range in ranges {
-        put(code, range_test(place, range))?;
-    }
-    Ok(())
-}
-
-/// The tests of an Integer DECISION, whose answers' bodies begin at these places.
-fn emit_tests(
-    code: &mut Vec<Instruction>,
-    decision: &Decision,
-    starts: &[CodePlace],
-) -> Result<(), AllocError>
-    ensures { OnOk result (code.new.items ≡ code.old.items ++ tests_by starts.now (choice_of decision.now)) }
-{
-    for (number, answer) in decision.answers.iter().enumerate() {
-        emit_ranges(code, start_at(starts, number, CodePlace(0)), &answer.ranges)?;
-    }
-    match decision.otherwise {
-        Some(_) => put(code, Instruction::Drop),
-        None => Ok(()),
     }
 }
 
@@ -397,7 +328,7 @@ pub(crate) fn emit_connections(
 
 /// The instructions of a transition: the places of its INPUT, its text, and the connections with these numbers. `targets` has
 /// the place of each connection by its number.
-pub(crate) fn emit_piece(
+pub fn emit_piece(
     alloc: Global,
     names: &Names,
     copies: &[Transition],

@@ -41,6 +41,7 @@ use Rattle.sdl_facts.proofs.Straight.{AreRight}
 use Rattle.sdl_facts.proofs.Stretches.{right_joined}
 use Rattle.sdl_facts.proofs.Shapes.{Counted, CountedAction, sort_given, trees_shape, this_sort, tree_leads, trees_leads, put_out, variable_store, action_leads, param_leads, places_leads}
 use Rattle.sdl_facts.proofs.Rights.{one_of, none_in, store_right, tree_right, trees_right}
+use Rattle.sdl_meaning.proofs.Numbers.{not_marked as not_flagged}
 
 agree_same : (xs : List Sort) → Agree xs xs
 agree_same [] = tt
@@ -49,10 +50,6 @@ agree_same (x ∷ xs) = (refl, agree_same xs)
 shape_is : (c : Scope) (ts : List Tree) (s : List Sort) → trees_shape c ts s ≡ reverse_aux (map (sort_given c) ts) s
 shape_is c [] s = refl
 shape_is c (t ∷ ts) s = shape_is c ts (sort_given c t ∷ s)
-
-not_flagged : (b : Bool) (at : ℕ) → cond b (at ∷ []) [] ≡ [] → b ≡ false
-not_flagged true at e = absurd (let k : ⊥ = cc in k)
-not_flagged false at e = refl
 
 -- as many parameters as the signal has
 pub as_many : (sorts : List tree_sort.Sort) (x : PlainSending) → wrong_number sorts x ≡ [] → length sorts ≡ length x.parameters

@@ -37,6 +37,8 @@ use Rattle.sdl_meaning.proofs.Sizes.{tree_size, action_size, tests_are, leave_si
 use Rattle.sdl_meaning.proofs.Runs.{HasAt, has_front, has_back}
 use Rattle.sdl_meaning.proofs.Branches.{EachEnd, EachJoin, ChoiceJoin, integer_answered, no_names}
 use Rattle.sdl_meaning.proofs.Choices.{AreTruths, are_truths}
+use Rattle.sdl_meaning.proofs.Tests.{and_second, and_first}
+use Rattle.sdl_meaning.proofs.Measured.{some_values}
 
 -- ---- what goes straight on
 
@@ -123,14 +125,6 @@ action_steps c (reset_timer at n) = (step (reset (number_or_zero (timer_at c n))
 
 -- ---- the bodies of a Boolean DECISION: each is chosen for some value
 
-and_first : (a b : Bool) → a && b ≡ true → a ≡ true
-and_first true b e = refl
-and_first false b e = absurd (let k : ⊥ = cc in k)
-
-and_second : (a b : Bool) → a && b ≡ true → b ≡ true
-and_second true b e = e
-and_second false b e = absurd (let k : ⊥ = cc in k)
-
 -- how often ranges name a truth value
 abbrev named : Bool → List Range → ℕ
 named b rs = sum_by (names_value b) rs
@@ -173,9 +167,6 @@ all_named (r ∷ rs) h =
     let e = one_name r h.0 in
     let f = all_named rs h.1 in
     omega (arith, e, f, sum_by-cons (names_value true) r rs, sum_by-cons (names_value false) r rs)
-
-some_values : (n : ℕ) → nat_lt 0 n ≡ true → 1 ≤ n
-some_values n e = grind (arith, nat_tests)
 
 at_most : (m n : ℕ) → nat_lt (m + n) 2 ≡ true → m + n ≤ 1
 at_most m n e = grind (arith, nat_tests)

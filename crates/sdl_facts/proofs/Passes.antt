@@ -7,6 +7,7 @@ use Rattle.turn_code.specs.declared.instruction.Instruction.{Instruction}
 use Rattle.turn_code.specs.Code.{successors}
 use Rattle.turn_code.specs.Rules.{greatest}
 use Rattle.sdl_facts.specs.Counts.{number_at, read_at, AreCountsFrom, AreWithin}
+use Rattle.turn_code.proofs.Lists.{within as none_past}
 
 pub same_all : (f g : ℕ → ℕ) (js : List ℕ) → ((j : ℕ) → f j ≡ g j) → greatest (map f js) ≡ greatest (map g js)
 same_all f g [] e = refl
@@ -36,11 +37,6 @@ pub record HasCounted (w : Instruction → ℕ) (known : List ℕ) (code : List 
   pub done : (k : ℕ) (i : Instruction) → p ≤ k → slice_get code k ≡ Some i → number_at counts k ≡ w i + greatest (map (read_at known counts k) (successors i k))
   pub left : (k : ℕ) → k < p → number_at counts k ≡ number_at known k
   pub within : AreWithin (512 + (length code - p)) counts
-
-none_past : {A : Type 0} (xs : List A) (k : ℕ) (x : A) → slice_get xs k ≡ Some x → k < length xs
-none_past [] k x e = absurd (let k : ⊥ = cc in k)
-none_past (y ∷ xs) zero x e = omega arith
-none_past (y ∷ xs) (suc k) x e = let h = none_past xs k x e in omega (arith, h)
 
 pub begun : (w : Instruction → ℕ) (known : List ℕ) (code : List Instruction) → length known ≡ length code → AreWithin 512 known → HasCounted w known code known (length code)
 begun w known code e h = record {

@@ -26,13 +26,15 @@ use Rattle.sdl_facts.proofs.Straight.{AreSteps}
 use Rattle.sdl_meaning.proofs.Sizes.{places_size, text_size_is}
 use Rattle.sdl_meaning.proofs.Runs.{HasAt, has_front, has_back, has_all}
 use Rattle.sdl_meaning.proofs.Branches.{EachJoin}
-use Rattle.sdl_meaning.proofs.Joining.{contains_first, HasConnection, contains_map, has_connection, each_join}
+use Rattle.sdl_meaning.proofs.Joining.{HasConnection, contains_map, has_connection, each_join}
+use Rattle.turn_code.proofs.Lists.{first_of as contains_first}
 use Rattle.sdl_meaning.proofs.Acts.{joined_placed, placed_closed, connection_stands}
 use Rattle.sdl_facts.proofs.Counting.{IsWeight, tally, tally_over}
 use Rattle.sdl_facts.proofs.Tallies.{steps_count, text_count}
 use Rattle.sdl_facts.proofs.Ahead.{Goes, AllOf, goes_append, steps_go, text_goes, at_place}
 use Rattle.sdl_facts.proofs.Passes.{same_all, read_ahead, read_back}
-use Rattle.sdl_meaning.proofs.Measured.{none_past, all_placed, fixed, each_of, each_named}
+use Rattle.sdl_meaning.proofs.Measured.{all_placed, fixed, each_of, each_named}
+use Rattle.turn_code.proofs.Lists.{within as none_past}
 use Rattle.sdl_emit.proofs.Gathering.{text_there}
 
 pub places_steps : (c : Scope) (j : ℕ) (places : List (Option Identifier)) → AreSteps (places_code c j places)
@@ -42,7 +44,7 @@ places_steps c j (Some n ∷ rest) =
     (record { jumping = refl; going = λ k. refl }, (record { jumping = refl; going = λ k. refl }, places_steps c (j + 1) rest))
 
 -- what doesn't run off its end has some code
-cost_some : (t : Tree) → 1 ≤ cost_of t
+pub cost_some : (t : Tree) → 1 ≤ cost_of t
 cost_some (number at k) = omega arith
 cost_some (truth at b) = omega arith
 cost_some (variable at n) = omega arith

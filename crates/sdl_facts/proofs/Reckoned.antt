@@ -3,7 +3,7 @@ use Rattle.std.proofs.Common.{◌≡◌, ℕ, zero, suc, ◌+◌, ◌<◌, ◌�
 use Rattle.std.specs.Prelude.{slice_get, get_or, nat_eq, is_some, Contains, All}
 use Rattle.std.specs.List.{AllZip, sum_by}
 use Rattle.std.specs.Option.{option_map_or}
-use Rattle.std.proofs.lemmas.Bool.{cases_eq}
+use Rattle.std.proofs.lemmas.Bool.{cases_eq, eqb-true as same_number}
 use Rattle.std.proofs.lemmas.Bool.Decides.{nat_tests}
 use Rattle.std.proofs.lemmas.List.{get_or_default}
 use Rattle.std.proofs.lemmas.List.Sums.{sum_by-cons}
@@ -33,6 +33,9 @@ use Rattle.sdl_meaning.proofs.Measured.{Below, budget_same, effects_same, budget
 use Rattle.sdl_emit.proofs.Gathering.{text_there}
 use Rattle.sdl_facts.proofs.Piecewise.{size_some, first_counts, are_counts, counts_of, join_is}
 use Rattle.sdl_facts.proofs.Weights.{one, one_weighs, effects_weigh, tally_budget, tally_effects, places_ones, places_none}
+use Rattle.turn_code.proofs.Lists.{at_place as contains_at}
+use Rattle.sdl_meaning.proofs.Acts.{tail_contains as in_tail}
+use Rattle.sdl_emit.proofs.Spacing.{zero_at}
 
 -- ---- the list of what is known, while it is made
 
@@ -41,22 +44,12 @@ pub record Filled (targets : List ℕ) (m : ℕ → ℕ) (ns known : List ℕ) (
   pub few : AreWithin 512 known
   pub done : (k n : ℕ) → k < i → slice_get ns k ≡ Some n → number_at known (places_by targets n) ≡ m n
 
-zero_at : (count n : ℕ) → get_or (replicate {A = ℕ} count 0) n 0 ≡ 0
-zero_at zero n = refl
-zero_at (suc k) zero = refl
-zero_at (suc k) (suc n) = zero_at k n
-
 pub none_filled : (targets : List ℕ) (m : ℕ → ℕ) (ns known : List ℕ) (count : ℕ) → known ≡ replicate count 0 → length known ≡ count → Filled targets m ns known count 0
 none_filled targets m ns known count e l = record {
   size = l;
   few = λ k. let h = ap (λ known. get_or known k 0) e ∙ zero_at count k in omega (arith, h);
   done = λ k n lt at. absurd (omega (arith, lt));
 }
-
-contains_at : (xs : List ℕ) (k n : ℕ) → slice_get xs k ≡ Some n → Contains xs n
-contains_at [] k n e = absurd (let k : ⊥ = cc in k)
-contains_at (x ∷ xs) zero n e = let f : x ≡ n = cc in (0, omega arith, f)
-contains_at (x ∷ xs) (suc k) n e = let r = contains_at xs k n e in (suc r.0, omega (arith, r.1), r.2)
 
 pub one_filled : (targets : List ℕ) (m : ℕ → ℕ) (ns known : List ℕ) (count i n : ℕ)
     → ((n m : ℕ) → Contains ns n → Contains ns m → places_by targets n ≡ places_by targets m → n ≡ m)
@@ -84,16 +77,6 @@ all_filled targets m ns known count i h le n there = h.done there.0 n (omega (ar
 
 -- ---- places of connections are apart
 
-in_tail : (m : ℕ) (ms : List ℕ) (n : ℕ) → nat_eq m n ≡ false → Contains (m ∷ ms) n → Contains ms n
-in_tail m ms n e h = by_place h.0 h.1 h.2
-  where
-    by_place : (k : ℕ) → k < length (m ∷ ms) → get_or (m ∷ ms) k n ≡ n → Contains ms n
-    by_place zero lt f = absurd (differs f)
-      where
-        differs : m ≡ n → ⊥
-        differs g = grind (arith, nat_tests, e, g)
-    by_place (suc k) lt f = (k, omega (arith, lt), f)
-
 place_from : (c : Scope) (ns : List ℕ) (p n : ℕ) → Contains ns n → p ≤ place_in c p ns n
 place_from c [] p n h = absurd (omega (arith, h.1))
 place_from c (m ∷ ms) p n h = by_test (nat_eq m n) refl (λ h. place_from c ms (p + size_at c m) n h)
@@ -101,9 +84,6 @@ place_from c (m ∷ ms) p n h = by_test (nat_eq m n) refl (λ h. place_from c ms
     by_test : (t : Bool) → nat_eq m n ≡ t → (Contains ms n → p + size_at c m ≤ place_in c (p + size_at c m) ms n) → p ≤ cond t p (place_in c (p + size_at c m) ms n)
     by_test true e f = omega arith
     by_test false e f = let g = f (in_tail m ms n e h) in omega (arith, g)
-
-same_number : (m n : ℕ) → nat_eq m n ≡ true → m ≡ n
-same_number m n e = grind (arith, nat_tests)
 
 pub place_apart : (c : Scope) (ns : List ℕ) (p n o : ℕ) → ((k : ℕ) → Contains ns k → 1 ≤ size_at c k) → Contains ns n → Contains ns o → place_in c p ns n ≡ place_in c p ns o → n ≡ o
 place_apart c [] p n o some h k e = absurd (omega (arith, h.1))

@@ -26,14 +26,7 @@ use Rattle.sdl_meaning.proofs.Sizes.{tree_size, action_size, tests_are, leave_si
 use Rattle.sdl_meaning.proofs.Runs.{HasAt, has_front, has_back}
 use Rattle.sdl_meaning.proofs.Branches.{EachEnd, EachJoin, ChoiceJoin, integer_answered}
 use Rattle.sdl_facts.proofs.Counting.{tree_steps, action_steps, truths, bodies_most, picked_most, IsWeight, tests_tally, tally, case_tally, pick_tally, tally_over}
-
-and_first : (a b : Bool) → a && b ≡ true → a ≡ true
-and_first true b e = refl
-and_first false b e = absurd (let k : ⊥ = cc in k)
-
-and_second : (a b : Bool) → a && b ≡ true → b ≡ true
-and_second true b e = e
-and_second false b e = absurd (let k : ⊥ = cc in k)
+use Rattle.sdl_meaning.proofs.Tests.{and_second, and_first}
 
 range_goes : (n k : ℕ) (r : Range) → successors (range_code n r) k ≡ n ∷ (k + 1) ∷ []
 range_goes n k (IsValue x) = refl

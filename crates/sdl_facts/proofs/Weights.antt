@@ -26,6 +26,8 @@ use Rattle.sdl_meaning.specs.Named.{NamedText, NamedChoice}
 use Rattle.sdl_meaning.specs.Code.{number_or_zero, store, set_to, put, unary_code, binary_code, division_code, tree_code, trees_code, tasks_code, receiver_code, sendings_code, action_code, places_code, range_code}
 use Rattle.sdl_meaning.proofs.Sizes.{tree_size, action_size, places_size}
 use Rattle.sdl_facts.proofs.Counting.{IsWeight, tests_tally, tally, case_tally, pick_tally}
+use Rattle.sdl_meaning.proofs.Tests.{and_second, and_first}
+use Rattle.sdl_meaning.proofs.Measured.{some_values}
 
 -- ---- instructions
 
@@ -184,17 +186,6 @@ range_none c n (Between low high) = refl
 
 pub effects_weigh : (c : Scope) → IsWeight c effects_of 0
 effects_weigh c = record { jumping = λ n. refl; state = λ n. refl; stopping = refl; dropping = refl; testing = range_none c; choosing = λ n choice. refl }
-
-and_first : (a b : Bool) → a && b ≡ true → a ≡ true
-and_first true b e = refl
-and_first false b e = absurd (let k : ⊥ = cc in k)
-
-and_second : (a b : Bool) → a && b ≡ true → b ≡ true
-and_second true b e = e
-and_second false b e = absurd (let k : ⊥ = cc in k)
-
-some_values : (n : ℕ) → nat_lt 0 n ≡ true → 1 ≤ n
-some_values n e = grind (arith, nat_tests)
 
 module _ (c : Scope) (join : List ℕ → ℕ) where
   tests_most : (rs : List Range) (x y : ℕ) → 1 ≤ length rs → tests_tally c effects_of 0 join rs x y ≡ max x y

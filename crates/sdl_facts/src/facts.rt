@@ -113,7 +113,7 @@ fn next_shape(
 
 /// The facts of each place: the operands that are there, and what is said elsewhere of the variables that are set, the
 /// count and the effects.
-pub(crate) fn place_facts(
+pub fn place_facts(
     alloc: Global,
     setting: &Setting,
     code: &[Instruction],
@@ -149,7 +149,7 @@ pub(crate) fn place_facts(
 }
 
 /// The greatest number of operands at a place.
-pub(crate) fn greatest_depth(facts: &[PlaceFacts]) -> usize
+pub fn greatest_depth(facts: &[PlaceFacts]) -> usize
     ensures { result ≡ greatest (depths facts.now) }
 {
     let mut depth = 0;

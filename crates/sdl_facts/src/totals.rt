@@ -11,7 +11,7 @@ ghost use Rattle.sdl_facts.specs.Settings.{IsSetting, IsReadyPiece};
 use crate::counts::{Counted, count_places};
 use crate::setting::Setting;
 use sdl_ast::{Identifier, Transition};
-use sdl_rules::Measure;
+use sdl_measures::Measure;
 use std::alloc::{AllocError, Global};
 use turn_code::Instruction;
 
@@ -107,7 +107,7 @@ fn count_piece(
 }
 
 /// What is counted at each place of a piece.
-pub(crate) fn piece_counts(
+pub fn piece_counts(
     alloc: Global,
     setting: &Setting,
     places: &[Option<Identifier>],

@@ -23,11 +23,9 @@ use Rattle.sdl_meaning.proofs.Choices.{IsOver, over_bind}
 use Rattle.sdl_meaning.proofs.Branches.{act_over, text_does}
 use Rattle.sdl_meaning.proofs.Follows.{follow_over, leads_on}
 use Rattle.sdl_meaning.proofs.Within.{piece_cost}
+use Rattle.std.proofs.lemmas.Bool.{eqb-true as same_number}
 
 -- ---- lists of numbers, each once
-
-same_number : (m n : ℕ) → nat_eq m n ≡ true → m ≡ n
-same_number m n e = grind (arith, nat_tests)
 
 pub among_by : (ns : List ℕ) (n : ℕ) → list_any (λ m. nat_eq m n) ns ≡ true → Contains ns n
 among_by [] n e = absurd (let k : ⊥ = cc in k)
@@ -87,7 +85,7 @@ module _ (c : Scope) (t : Text) (ns : List ℕ) (placed : ArePlaced c t ns) wher
 
 -- ---- the run of a piece
 
-tail_contains : (m : ℕ) (ms : List ℕ) (n : ℕ) → nat_eq m n ≡ false → Contains (m ∷ ms) n → Contains ms n
+pub tail_contains : (m : ℕ) (ms : List ℕ) (n : ℕ) → nat_eq m n ≡ false → Contains (m ∷ ms) n → Contains ms n
 tail_contains m ms n e h = by_place h.0 h.1 h.2
   where
     by_place : (k : ℕ) → k < length (m ∷ ms) → get_or (m ∷ ms) k n ≡ n → Contains ms n

@@ -32,6 +32,8 @@ use Rattle.sdl_meaning.specs.Code.{number_or_zero, next, jump, tree_code, action
 use Rattle.sdl_meaning.proofs.Sizes.{tree_size, action_size, leave_size, tests_are, text_size_is, bodies_size_is, answers_size_is, else_size_is, decision_is}
 use Rattle.sdl_meaning.proofs.Runs.{HasAt, has_front, has_back, Does, bind, one, stays, tree_does, action_does, next_does}
 use Rattle.sdl_meaning.proofs.Choices.{IsOver, over_bind, over_first, AreNumbers, AreTruths, are_numbers, are_truths, over_anywhere, after_one, body_leaves, tries_do, decision_does, find_is}
+use Rattle.sdl_meaning.proofs.Tests.{and_second, neither_first as or_left, neither_second as or_right}
+use Rattle.std.proofs.lemmas.Bool.{or_right as or_true}
 
 -- what holds of each JOIN of a text
 abbrev pub EachEnd : (tree_join.Join → Type 0) → End → Type 0
@@ -62,14 +64,6 @@ answers b (answer at rs body others) = list_any (names_truth b) rs || answers b 
 end_over : (o : Option ℕ) (s : Progress) → IsOver (end_in o s)
 end_over None s = tt
 end_over (Some q) s = tt
-
-or_left : (a b : Bool) → a || b ≡ false → a ≡ false
-or_left true b e = e
-or_left false b e = refl
-
-or_right : (a b : Bool) → a || b ≡ false → b ≡ false
-or_right true b e = absurd (let k : ⊥ = cc in k)
-or_right false b e = e
 
 and_cases : (a b : Bool) {A : Type 0} → a && b ≡ false → (a ≡ false → A) → (b ≡ false → A) → A
 and_cases true b e f g = g e
@@ -124,10 +118,6 @@ module _ (c : Scope) (join : List ℕ → Progress → Outcome (Unit {0})) (send
 
 -- ---- what the rules ask of answers
 
-and_second : (a b : Bool) → a && b ≡ true → b ≡ true
-and_second true b e = e
-and_second false b e = absurd (let k : ⊥ = cc in k)
-
 -- an Integer question has ELSE
 pub integer_answered : (c : Scope) (q : Tree) (choice : Choice) → is_answered (variables_of c.process) q choice ≡ true → is_truth c q ≡ false → has_else choice ≡ true
 integer_answered c q choice h e =
@@ -160,10 +150,6 @@ unnamed (answer at rs body others) b e =
     let h = no_names rs b (or_left (list_any (names_truth b) rs) (answers b others) e) in
     let k = unnamed others b (or_right (list_any (names_truth b) rs) (answers b others) e) in
     omega (arith, h, k)
-
-or_true : (a b : Bool) → b ≡ true → a || b ≡ true
-or_true true b e = refl
-or_true false b e = e
 
 else_answers : (choice : Choice) (b : Bool) → has_else choice ≡ true → answers b choice ≡ true
 else_answers nothing_else b e = absurd (let k : ⊥ = cc in k)

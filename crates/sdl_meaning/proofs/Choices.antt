@@ -29,6 +29,7 @@ use Rattle.sdl_meaning.specs.Act.{Scope, is_truth, Outcome, goes_on, over, in_tr
 use Rattle.sdl_meaning.specs.Named.{AnswerTo}
 use Rattle.sdl_meaning.specs.Code.{constant_or_zero, jump, leave_code, body_size, range_code, ranges_code, tests_code, is_literal, names_truth, picked, pick_code}
 use Rattle.sdl_meaning.proofs.Runs.{HasAt, has_front, has_back, over_as, Does, bind, stepped, one, stays}
+use Rattle.sdl_meaning.proofs.Tests.{and_second as both_right, and_first as both_left}
 
 -- a choice is over or goes on
 abbrev pub IsOver : {A : Type 0} → Outcome A → Type 0
@@ -65,14 +66,6 @@ are_truths c q (r ∷ rs) e h = (sym (ap (λ b. cond b (answers_truth r) (answer
 number_in : (l : Literal) (at : ℕ) → is_constant Integer (record { at = at; value = l }) ≡ true → Some (constant_or_zero (integer_in l)) ≡ integer_in l
 number_in (literals.Integer k) at h = refl
 number_in (literals.Boolean b) at h = absurd (let k : ⊥ = cc in k)
-
-both_left : (a b : Bool) → a && b ≡ true → a ≡ true
-both_left true b h = refl
-both_left false b h = h
-
-both_right : (a b : Bool) → a && b ≡ true → b ≡ true
-both_right true b h = h
-both_right false b h = absurd (let k : ⊥ = cc in k)
 
 -- whether a range of Integers holds
 abbrev pub passes : Range → ℤ → Bool

@@ -17,6 +17,9 @@ use Rattle.sdl_meaning.proofs.Sizes.{places_size, text_size_is, connections_size
 use Rattle.sdl_sound.proofs.Items.{Each}
 use Rattle.sdl_meaning.proofs.Acts.{among_by}
 use Rattle.sdl_meaning.proofs.Reached.{Stands, placed_stands, placed_reached, reached_placed}
+use Rattle.sdl_meaning.proofs.Tests.{neither_first as or_left, neither_second as or_right, itself}
+use Rattle.std.proofs.lemmas.Bool.{ne_eqb as differ}
+use Rattle.std.specs.Cmp.{both_ways as same_tests}
 
 abbrev pub is_among : List ℕ → ℕ → Bool
 is_among ns n = list_any (λ m. nat_eq m n) ns
@@ -30,26 +33,8 @@ or_false : (a b : Bool) → a ≡ false → b ≡ false → a || b ≡ false
 or_false true b e f = absurd (let k : ⊥ = cc in k)
 or_false false b e f = f
 
-or_left : (a b : Bool) → a || b ≡ false → a ≡ false
-or_left true b e = e
-or_left false b e = refl
-
-or_right : (a b : Bool) → a || b ≡ false → b ≡ false
-or_right true b e = absurd (let k : ⊥ = cc in k)
-or_right false b e = e
-
 other_way : (m n : ℕ) → nat_eq m n ≡ false → nat_eq n m ≡ false
 other_way m n e = grind (arith, nat_tests)
-
-itself : (n : ℕ) → nat_eq n n ≡ true
-itself n = grind (arith, nat_tests)
-
-differ : (m n : ℕ) → (m ≡ n → ⊥) → nat_eq m n ≡ false
-differ m n f = by_test (nat_eq m n) refl
-  where
-    by_test : (b : Bool) → nat_eq m n ≡ b → nat_eq m n ≡ false
-    by_test true e = absurd (f (let g : m ≡ n = grind (arith, nat_tests) in g))
-    by_test false e = e
 
 not_among_more : (ns : List ℕ) (n m : ℕ) → is_among ns m ≡ false → nat_eq n m ≡ false → is_among (ns ++ n ∷ []) m ≡ false
 not_among_more [] n m e f = or_false (nat_eq n m) false f refl
@@ -150,12 +135,6 @@ among_there ns n h = by_place ns h.0 h.1 h.2
         last : (b : Bool) → is_among ns n ≡ true → b || is_among ns n ≡ true
         last true f = refl
         last false f = f
-
-same_tests : (a b : Bool) → (a ≡ true → b ≡ true) → (b ≡ true → a ≡ true) → a ≡ b
-same_tests true true f g = refl
-same_tests true false f g = sym (f refl)
-same_tests false true f g = g refl
-same_tests false false f g = refl
 
 module _ (c : Scope) (q : Piece) (named : NamedPiece c q) (ns : List ℕ) (placed : ArePlaced c q.text ns) where
   others_size : sum_by (size_at c) ns ≡ sum_by (λ (k : PlainConnection). size (variables_of c.process) k.text) (reached c.process q.text)

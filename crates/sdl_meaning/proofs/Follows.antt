@@ -20,6 +20,7 @@ use Rattle.sdl_meaning.proofs.Runs.{HasAt, Does}
 use Rattle.sdl_meaning.proofs.Choices.{IsOver}
 use Rattle.sdl_meaning.proofs.Branches.{EachJoin, act_over, Leads, text_does}
 use Rattle.sdl_meaning.proofs.Joining.{HasConnection, contains_map, has_connection, each_join}
+use Rattle.turn_code.proofs.Lists.{within as slice_within}
 
 closed_over : (o : Outcome (Unit {0})) → IsOver (closed o)
 closed_over (goes_on x s) = tt
@@ -32,11 +33,6 @@ follow_over c sender (suc n) x s = by_connection (connection_named c.process x)
     by_connection : (o : Option PlainConnection) → IsOver (entered o s (λ t. closed (act c (follow c sender n) sender t s)))
     by_connection None = tt
     by_connection (Some k) = closed_over (act c (follow c sender n) sender k.text s)
-
-slice_within : {A : Type 0} (xs : List A) (n : ℕ) (x : A) → slice_get xs n ≡ Some x → n < length xs
-slice_within [] n x e = absurd (let k : ⊥ = cc in k)
-slice_within (y ∷ xs) zero x e = omega arith
-slice_within (y ∷ xs) (suc n) x e = let h = slice_within xs n x e in omega (arith, h)
 
 module _ (inp : Input) (code : List Instruction) (c : Scope) (from : Option Identifier) (is_sent : IsSentTo c from inp.sender)
     (to : ℕ → ℕ) (ns : List ℕ) (connections : NamedConnections c)

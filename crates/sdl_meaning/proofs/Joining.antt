@@ -17,9 +17,7 @@ use Rattle.sdl_meaning.specs.Named.{NamedText, NamedChoice}
 use Rattle.sdl_meaning.specs.Code.{number_or_zero, code_joins, else_joins, answers_joins, bodies_joins}
 use Rattle.sdl_meaning.proofs.Sorting.{first_of_some, number_small, found_at}
 use Rattle.sdl_meaning.proofs.Branches.{EachEnd, EachJoin, ChoiceJoin}
-
-pub contains_first : {A : Type 0} (x : A) (xs : List A) → Contains (x ∷ xs) x
-contains_first x xs = Contains-get_or (x ∷ xs) 0 x (omega arith)
+use Rattle.turn_code.proofs.Lists.{first_of as contains_first}
 
 get_or_at : {A B : Type 0} (f : A → B) (xs : List A) (k : ℕ) (x : A) → k < length xs → get_or xs k x ≡ x → Contains (map f xs) (f x)
 get_or_at f [] k x h e = absurd (omega arith)

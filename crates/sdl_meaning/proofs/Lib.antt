@@ -11,4 +11,5 @@ pub mod Reached
 pub mod Runs
 pub mod Sizes
 pub mod Sorting
+pub mod Tests
 pub mod Within

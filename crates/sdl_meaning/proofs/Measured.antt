@@ -22,7 +22,10 @@ use Rattle.sdl_meaning.specs.Act.{Scope, connector_at, is_truth}
 use Rattle.sdl_meaning.specs.Named.{NamedText, NamedChoice, NamedConnections}
 use Rattle.sdl_meaning.specs.Code.{number_or_zero, code_joins, else_joins, answers_joins, bodies_joins, joined, text_at, ArePlaced}
 use Rattle.sdl_meaning.proofs.Branches.{EachEnd, EachJoin, ChoiceJoin}
-use Rattle.sdl_meaning.proofs.Joining.{HasConnection, contains_first, has_connection, each_join}
+use Rattle.sdl_meaning.proofs.Joining.{HasConnection, has_connection, each_join}
+use Rattle.turn_code.proofs.Lists.{first_of as contains_first}
+use Rattle.sdl_meaning.proofs.Tests.{and_second, and_first}
+use Rattle.turn_code.proofs.Lists.{within as none_past}
 
 -- ---- the measures depend on the JOINs of a text alone
 
@@ -111,24 +114,8 @@ in_first_test : (rs : List Range) (x y : ℕ) → 1 ≤ length rs → x ≤ test
 in_first_test [] x y h = absurd (omega (arith, h))
 in_first_test (r ∷ rs) x y h = omega arith
 
-some_values : (n : ℕ) → nat_lt 0 n ≡ true → 1 ≤ n
+pub some_values : (n : ℕ) → nat_lt 0 n ≡ true → 1 ≤ n
 some_values n e = grind (arith, nat_tests)
-
-and_first : (a b : Bool) → a && b ≡ true → a ≡ true
-and_first true b e = refl
-and_first false b e = absurd (let k : ⊥ = cc in k)
-
-and_second : (a b : Bool) → a && b ≡ true → b ≡ true
-and_second true b e = e
-and_second false b e = absurd (let k : ⊥ = cc in k)
-
-or_left : (x y : Bool) → x || y ≡ false → x ≡ false
-or_left true y e = e
-or_left false y e = refl
-
-or_right : (x y : Bool) → x || y ≡ false → y ≡ false
-or_right true y e = absurd (let k : ⊥ = cc in k)
-or_right false y e = e
 
 each_end_more : (P Q : tree_join.Join → Type 0) (e : End) → ((j : tree_join.Join) → P j → Q j) → EachEnd P e → EachEnd Q e
 each_end_more P Q (NextState n) f h = tt
@@ -157,13 +144,8 @@ end_each P (Join i) j h at = by_place at.0 at.1 at.2
     by_place zero lt e = subst P e h
     by_place (suc k) lt e = absurd (omega (arith, lt))
 
-contains_later : {A : Type 0} (y : A) (xs : List A) (x : A) → Contains xs x → Contains (y ∷ xs) x
+pub contains_later : {A : Type 0} (y : A) (xs : List A) (x : A) → Contains xs x → Contains (y ∷ xs) x
 contains_later y xs x h = (suc h.0, omega (arith, h.1), h.2)
-
-pub none_past : {A : Type 0} (xs : List A) (k : ℕ) (x : A) → slice_get xs k ≡ Some x → k < length xs
-none_past [] k x e = absurd (let k : ⊥ = cc in k)
-none_past (y ∷ xs) zero x e = omega arith
-none_past (y ∷ xs) (suc k) x e = let h = none_past xs k x e in omega (arith, h)
 
 none_in : {A : Type 0} {B : Type 0} (x : A) → Contains [] x → B
 none_in x h = absurd (omega (arith, h.1))

@@ -11,9 +11,8 @@ use Rattle.sdl_lex.specs.Spelling.{folded}
 use Rattle.sdl_ast.specs.declared.expression.Identifier.{Identifier}
 use Rattle.sdl_tables.specs.Names.{same_name, is_in, number_of}
 use Rattle.sdl_tables.specs.Scopes.{repeats}
-
-pub folded_alike : (x y : List ℕ) → same_name x y ≡ true → folded x ≡ folded y
-folded_alike x y h = (bytes_eq-Decides (folded x) (folded y)).0 h
+use Rattle.sdl_sound.proofs.Items.{nil_front, nil_back}
+use Rattle.sdl_sound.proofs.Numbered.{same_folded as folded_alike}
 
 pub same_self : (x : List ℕ) → same_name x x ≡ true
 same_self x = (bytes_eq-Decides (folded x) (folded x)).1 refl
@@ -62,15 +61,7 @@ position_at p xs v x none at h =
     let t : nat_lt n (length xs) ≡ true = grind (arith, nat_tests) in
     ap (λ b. cond b (Some n) None) t ∙ ap Some e
 
-pub nil_front : (a b : List ℕ) → a ++ b ≡ [] → a ≡ []
-nil_front [] b e = refl
-nil_front (x ∷ a) b e = absurd (let k : ⊥ = cc in k)
-
-nil_back : (a b : List ℕ) → a ++ b ≡ [] → b ≡ []
-nil_back [] b e = e
-nil_back (x ∷ a) b e = absurd (let k : ⊥ = cc in k)
-
-not_marked : (b : Bool) (at : ℕ) → cond b (at ∷ []) [] ≡ [] → b ≡ false
+pub not_marked : (b : Bool) (at : ℕ) → cond b (at ∷ []) [] ≡ [] → b ≡ false
 not_marked true at e = absurd (let k : ⊥ = cc in k)
 not_marked false at e = refl
 

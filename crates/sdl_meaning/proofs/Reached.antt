@@ -17,20 +17,15 @@ use Rattle.sdl_meaning.specs.Named.{NamedText, NamedChoice, NamedConnections}
 use Rattle.sdl_meaning.specs.Code.{number_or_zero, code_joins, else_joins, answers_joins, bodies_joins, text_at, joined, ArePlaced}
 use Rattle.sdl_sound.proofs.Items.{Each, each_front, each_back, each_append, each_always, all_items}
 use Rattle.sdl_meaning.proofs.Numbers.{number_there, number_alike, same_other_way}
-use Rattle.sdl_meaning.proofs.Sorting.{slice_map}
+use Rattle.std.proofs.lemmas.Option.{slice_get-map as slice_map}
 use Rattle.sdl_meaning.proofs.Joining.{HasConnection, has_connection, contains_map}
-use Rattle.sdl_meaning.proofs.Measured.{all_placed}
+use Rattle.sdl_meaning.proofs.Measured.{all_placed, contains_later as later_there}
 use Rattle.sdl_meaning.proofs.Acts.{joined_placed, placed_closed}
+use Rattle.turn_code.proofs.Lists.{within}
+use Rattle.std.proofs.lemmas.Bool.{or_left as or_one, or_right as or_other}
+use Rattle.sdl_sound.proofs.Lists.{any_at as any_here}
 
-or_one : (a b : Bool) → a ≡ true → a || b ≡ true
-or_one true b e = refl
-or_one false b e = absurd (let k : ⊥ = cc in k)
-
-or_other : (a b : Bool) → b ≡ true → a || b ≡ true
-or_other true b e = refl
-or_other false b e = e
-
-or_split : {A : Type 0} (a b : Bool) → a || b ≡ true → (a ≡ true → A) → (b ≡ true → A) → A
+pub or_split : {A : Type 0} (a b : Bool) → a || b ≡ true → (a ≡ true → A) → (b ≡ true → A) → A
 or_split true b e f g = f refl
 or_split false b e f g = g e
 
@@ -41,9 +36,6 @@ each_holds : {A : Type 0} (P Q : A → Type 0) (xs : List A) → Each P xs → (
 each_holds P Q [] h f = tt
 each_holds P Q (x ∷ xs) h f = (f x h.0, each_holds P Q xs h.1 f)
 
-later_there : {A : Type 0} (y : A) (xs : List A) (x : A) → Contains xs x → Contains (y ∷ xs) x
-later_there y xs x h = (suc h.0, omega (arith, h.1), h.2)
-
 each_itself : {A : Type 0} (xs : List A) → Each (Contains xs) xs
 each_itself [] = tt
 each_itself (x ∷ xs) = ((0, omega arith, refl), each_holds (Contains xs) (Contains (x ∷ xs)) xs (each_itself xs) (λ y h. later_there x xs y h))
@@ -53,22 +45,9 @@ any_wider : {A : Type 0} (p q : A → Bool) (xs : List A) → Each (λ x. p x �
 any_wider p q [] h e = e
 any_wider p q (x ∷ xs) h e = or_split (p x) (list_any p xs) e (λ f. or_one (q x) (list_any q xs) (h.0 f)) (λ f. or_other (q x) (list_any q xs) (any_wider p q xs h.1 f))
 
-any_here : {A : Type 0} (q : A → Bool) (xs : List A) (x : A) → Contains xs x → q x ≡ true → list_any q xs ≡ true
-any_here q xs x h e = by_place xs h.0 h.1 h.2
-  where
-    by_place : (xs : List _) (k : ℕ) → k < length xs → get_or xs k x ≡ x → list_any q xs ≡ true
-    by_place [] k lt f = absurd (omega (arith, lt))
-    by_place (y ∷ xs) zero lt f = or_one (q y) (list_any q xs) (ap q f ∙ e)
-    by_place (y ∷ xs) (suc k) lt f = or_other (q y) (list_any q xs) (by_place xs k (omega (arith, lt)) f)
-
 any_then : {A B : Type 0} (p : A → Bool) (xs : List A) → Each (λ x. p x ≡ true → B) xs → list_any p xs ≡ true → B
 any_then p [] h e = absurd (let k : ⊥ = cc in k)
 any_then p (x ∷ xs) h e = or_split (p x) (list_any p xs) e h.0 (any_then p xs h.1)
-
-within : {A : Type 0} (xs : List A) (n : ℕ) (x : A) → slice_get xs n ≡ Some x → n < length xs
-within [] n x e = absurd (let k : ⊥ = cc in k)
-within (y ∷ xs) zero x e = omega arith
-within (y ∷ xs) (suc n) x e = let h = within xs n x e in omega (arith, h)
 
 module _ (c : Scope) where
   abbrev p : PlainProcess

@@ -20,6 +20,7 @@ use Rattle.sdl_meaning.specs.Act.{Scope}
 use Rattle.sdl_meaning.specs.Code.{number_or_zero}
 use Rattle.sdl_meaning.specs.Named.{NamedTree}
 use Rattle.sdl_meaning.specs.Declarations.{sort_of_tree, drafted, drafted_signal, drafted_signals, parameters_by}
+use Rattle.std.proofs.lemmas.Option.{slice_get-map as slice_map}
 
 -- the number of a name that is there is its place
 pub first_of_some : {A : Type 0} (p : A → Bool) (xs : List A) → IsSome (position p xs) → number_or_zero (position p xs) ≡ position_or_len p xs
@@ -51,11 +52,6 @@ module _ {A : Type 0} (name : A → Identifier) (x : List ℕ) where
       by_test : (b : Bool) → find IsOf xs ≡ slice_get xs (place_in xs) → cond b (Some a) (find IsOf xs) ≡ slice_get (a ∷ xs) (cond (not b) (1 + place_in xs) 0)
       by_test true e = refl
       by_test false e = let f : 1 + place_in xs ≡ suc (place_in xs) = omega arith in e ∙ ap (λ k. slice_get (a ∷ xs) k) (sym f)
-
-pub slice_map : {A B : Type 0} (f : A → B) (xs : List A) (k : ℕ) → slice_get (map f xs) k ≡ option_map f (slice_get xs k)
-slice_map f [] k = refl
-slice_map f (x ∷ xs) zero = refl
-slice_map f (x ∷ xs) (suc k) = slice_map f xs k
 
 -- ---- variables
 
@@ -118,7 +114,7 @@ signal_sorted b x some =
     by_found None = refl
     by_found (Some s) = refl
 
-none_past : {A : Type 0} (xs : List A) (k : ℕ) → length xs ≤ k → slice_get xs k ≡ None
+pub none_past : {A : Type 0} (xs : List A) (k : ℕ) → length xs ≤ k → slice_get xs k ≡ None
 none_past [] k h = refl
 none_past (x ∷ xs) zero h = absurd (omega arith)
 none_past (x ∷ xs) (suc k) h = none_past xs k (omega arith)

@@ -48,12 +48,18 @@ use Rattle.sdl_meaning.proofs.Sizes.{tree_size, action_size, end_size, leave_siz
 use Rattle.sdl_facts.proofs.Straight.{IsRight, AreRight, IsStep, AreSteps}
 use Rattle.sdl_facts.proofs.Stretches.{Leads, after, left_set, left_shape, shape_joined}
 use Rattle.sdl_facts.proofs.Shapes.{tree_leads, action_leads}
-use Rattle.sdl_facts.proofs.Rights.{plain_right, tree_right}
+use Rattle.sdl_facts.proofs.Rights.{plain_right, tree_right, one_of as one_at}
 use Rattle.sdl_facts.proofs.Actions.{Stands, Reaching, counted_action, action_right, next_right, stop_right}
 use Rattle.sdl_meaning.proofs.Branches.{EachEnd, EachJoin, ChoiceJoin}
-use Rattle.sdl_valid.proofs.Unset.{or_front, or_back, not_true, meet_front, meet_back}
+use Rattle.sdl_valid.proofs.Unset.{not_true, meet_front, meet_back}
+use Rattle.sdl_meaning.proofs.Tests.{neither_second as or_back}
+use Rattle.sdl_meaning.proofs.Tests.{neither_first as or_front}
 use Rattle.sdl_valid.proofs.Entering.{number_at, TextFits, ChoiceFits}
 use Rattle.sdl_facts.proofs.Spots.{Spot, instructions, shapes, over, over_instructions, leave_spots, text_spots, else_spots, answers_spots, bodies_spots, text_instructions, else_instructions, answers_instructions, bodies_instructions}
+use Rattle.sdl_meaning.proofs.Tests.{and_second, and_first}
+use Rattle.turn_code.proofs.Lists.{within as there}
+use Rattle.std.proofs.lemmas.Bool.{and_from as both_true}
+use Rattle.sdl_sound.proofs.Lists.{get_one as same_some}
 
 -- ---- what a text has to be
 
@@ -79,32 +85,8 @@ abbrev mutual
 
 -- ---- lists of places
 
-one_at : (P : ℕ → Type 0) (v : ℕ) → P v → All P (v ∷ [])
-one_at P v h = All-cons P v [] h (All-nil P)
-
 two_at : (P : ℕ → Type 0) (v w : ℕ) → P v → P w → All P (v ∷ w ∷ [])
 two_at P v w h k = All-cons P v (w ∷ []) h (one_at P w k)
-
-there : {A : Type 0} (xs : List A) (k : ℕ) (x : A) → slice_get xs k ≡ Some x → k < length xs
-there [] k x e = absurd (let k : ⊥ = cc in k)
-there (y ∷ xs) zero x e = omega arith
-there (y ∷ xs) (suc k) x e = let h = there xs k x e in omega (arith, h)
-
-same_some : {A : Type 0} (o : Option A) (x y : A) → o ≡ Some x → o ≡ Some y → x ≡ y
-same_some None x y e f = absurd (let k : ⊥ = cc in k)
-same_some (Some z) x y e f = cc
-
-and_first : (a b : Bool) → a && b ≡ true → a ≡ true
-and_first true b e = refl
-and_first false b e = absurd (let k : ⊥ = cc in k)
-
-and_second : (a b : Bool) → a && b ≡ true → b ≡ true
-and_second true b e = e
-and_second false b e = absurd (let k : ⊥ = cc in k)
-
-both_true : (a b : Bool) → a ≡ true → b ≡ true → a && b ≡ true
-both_true true b e f = f
-both_true false b e f = absurd (let k : ⊥ = cc in k)
 
 -- ---- what is left behind a DECISION is left by each body
 

@@ -34,30 +34,12 @@ use Rattle.sdl_facts.proofs.Shapes.{action_leads, places_leads}
 use Rattle.sdl_facts.proofs.Actions.{Stands, Reaching, counted_action, places_right}
 use Rattle.sdl_meaning.proofs.Branches.{EachJoin}
 use Rattle.sdl_meaning.proofs.Joining.{contains_map, HasConnection, has_connection, each_join}
-use Rattle.sdl_meaning.proofs.Acts.{joined_placed, placed_closed}
+use Rattle.sdl_meaning.proofs.Acts.{joined_placed, placed_closed, tail_contains}
 use Rattle.sdl_valid.proofs.Entering.{number_at, TextFits}
 use Rattle.sdl_facts.proofs.Spots.{Spot, instructions, over, text_spots, connections_spots, piece_spots, text_instructions}
 use Rattle.sdl_valid.proofs.Fine.{RightText, Enters, IsFine, AllFine, HasSpots, Chain, Stretch, Begins, has_front, has_back, fine_append, chain_append, enters_here, stretch, text_fine, text_length, over_length}
-
-cost_some : (t : Tree) → 1 ≤ cost_of t
-cost_some (number at k) = omega arith
-cost_some (truth at b) = omega arith
-cost_some (variable at n) = omega arith
-cost_some (unary at op t) = let h = cost_some t in omega (arith, h)
-cost_some (binary at op t u) = omega arith
-
-same_place : (m n : ℕ) → nat_eq m n ≡ true → m ≡ n
-same_place m n e = grind (arith, nat_tests)
-
-tail_contains : (m : ℕ) (ms : List ℕ) (n : ℕ) → nat_eq m n ≡ false → Contains (m ∷ ms) n → Contains ms n
-tail_contains m ms n e h = by_place h.0 h.1 h.2
-  where
-    by_place : (k : ℕ) → k < length (m ∷ ms) → get_or (m ∷ ms) k n ≡ n → Contains ms n
-    by_place zero lt f = absurd (let g : m ≡ n = f in differs g)
-      where
-        differs : m ≡ n → ⊥
-        differs g = grind (arith, nat_tests, e, g)
-    by_place (suc k) lt f = (k, omega (arith, lt), f)
+use Rattle.std.proofs.lemmas.Bool.{eqb-true as same_place}
+use Rattle.sdl_facts.proofs.Piecewise.{cost_some}
 
 not_ended : {P : Type 0} (b : Bool) → b ≡ false → b ≡ true → P
 not_ended true e f = absurd (let k : ⊥ = cc in k)

@@ -30,16 +30,9 @@ use Rattle.sdl_meaning.proofs.Branches.{EachJoin, ChoiceJoin}
 use Rattle.sdl_meaning.proofs.Numbers.{AreNumbered, number_alike}
 use Rattle.sdl_meaning.proofs.Sorting.{place_in, first_of_some, found_at}
 use Rattle.sdl_valid.proofs.Walks.{by_bool, has_more, has_new, sets_append, reads_set_none, one_read, action_read}
+use Rattle.sdl_meaning.proofs.Tests.{neither_first as or_front, neither_second as or_back}
 
 -- ---- tests
-
-pub or_front : (a b : Bool) → a || b ≡ false → a ≡ false
-or_front true b e = absurd (let k : ⊥ = cc in k)
-or_front false b e = refl
-
-pub or_back : (a b : Bool) → a || b ≡ false → b ≡ false
-or_back true b e = absurd (let k : ⊥ = cc in k)
-or_back false b e = e
 
 pub and_back : (a b : Bool) → a && b ≡ false → a ≡ true → b ≡ false
 and_back true b e f = e

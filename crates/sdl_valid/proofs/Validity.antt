@@ -17,6 +17,7 @@ use Rattle.turn_code.specs.Valid.{IsValidTransition}
 use Rattle.sdl_facts.proofs.Straight.{IsRight}
 use Rattle.sdl_facts.proofs.Spots.{Spot, instructions, shapes, sets_at}
 use Rattle.sdl_valid.proofs.Fine.{Enters, IsFine, AllFine}
+use Rattle.sdl_sound.proofs.Lists.{get_one as one_item}
 
 mapped : {A B : Type 0} (f : A → B) (o : Option A) (y : B) → option_map f o ≡ Some y → (x : A) × (o ≡ Some x) × (f x ≡ y)
 mapped f None y e = absurd (let k : ⊥ = cc in k)
@@ -25,10 +26,6 @@ mapped f (Some x) y e = (x, refl, let g : f x ≡ y = cc in g)
 -- an item of a list that another one was made of
 pub item_of : {A B : Type 0} (f : A → B) (xs : List A) (ys : List B) (k : ℕ) (y : B) → ys ≡ map f xs → slice_get ys k ≡ Some y → (x : A) × (slice_get xs k ≡ Some x) × (f x ≡ y)
 item_of f xs ys k y e h = mapped f (slice_get xs k) y (sym (slice_get-map f xs k) ∙ ap (λ l. slice_get l k) (sym e) ∙ h)
-
-pub one_item : {A : Type 0} (o : Option A) (x y : A) → o ≡ Some x → o ≡ Some y → x ≡ y
-one_item None x y e f = absurd (let k : ⊥ = cc in k)
-one_item (Some z) x y e f = cc
 
 only_first : (P : ℕ → Type 0) → P 0 → (j : ℕ) → Contains (0 ∷ []) j → P j
 only_first P h j there = All-contains P (0 ∷ []) j (All-cons P 0 [] h (All-nil P)) there

@@ -1,0 +1,18 @@
+//! From a transition whose names are all there to its code: INPUT's places, its text, and the connections that it comes to, each
+//! once.
+#![tactic(auto)]
+
+mod bodies;
+mod emit;
+mod landing;
+mod names;
+mod placing;
+mod ranges;
+mod texts;
+
+pub use bodies::{Body, text_size};
+pub use emit::is_division;
+pub use landing::both;
+pub use names::Names;
+pub use placing::{connection_places, place_connections};
+pub use texts::emit_piece;

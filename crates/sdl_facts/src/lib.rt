@@ -1,0 +1,16 @@
+//! What is said of each place of a piece: the operands that are there, the variables that are set, and how many instructions and
+//! effects are still to come.
+#![tactic(auto)]
+
+mod counts;
+mod entries;
+mod facts;
+mod marks;
+mod sets;
+mod setting;
+mod totals;
+
+pub use entries::{Standing, place_sets};
+pub use facts::{Marks, greatest_depth, place_facts};
+pub use setting::Setting;
+pub use totals::{Counts, Layout, piece_counts};
