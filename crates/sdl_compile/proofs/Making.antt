@@ -24,7 +24,7 @@ use Rattle.sdl_facts.specs.Entries.{piece_entries}
 use Rattle.sdl_facts.specs.Counts.{weight, number_at, AreCounts}
 use Rattle.sdl_facts.specs.Settings.{IsReadyPiece, count_from, effects_from}
 use Rattle.sdl_facts.proofs.Spots.{Spot, piece_spots, piece_instructions}
-use Rattle.sdl_facts.proofs.Setting.{piece_set_at}
+use Rattle.sdl_facts.proofs.PlaceSets.{piece_set_at}
 use Rattle.sdl_facts.proofs.Depths.{facts_deep}
 use Rattle.sdl_meaning.proofs.Reached.{placed_stands}
 use Rattle.turn_code.proofs.Lists.{within as there_within}

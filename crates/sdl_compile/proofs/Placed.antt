@@ -60,7 +60,7 @@ use Rattle.sdl_meaning.proofs.Numbers.{AreNumbered, are_numbered, number_alike, 
 use Rattle.sdl_meaning.proofs.Sorting.{passed, number_small, variable_sorted, signal_sorted, unsigned_sorts}
 use Rattle.sdl_facts.proofs.Actions.{Stands, Reaching}
 use Rattle.sdl_facts.proofs.Spots.{Spot, instructions, shapes, piece_spots, piece_instructions}
-use Rattle.sdl_facts.proofs.Setting.{piece_set_at}
+use Rattle.sdl_facts.proofs.PlaceSets.{piece_set_at}
 use Rattle.sdl_valid.proofs.Fine.{RightText, chain_shapes}
 use Rattle.sdl_valid.proofs.Standing.{start_enters, piece_made}
 use Rattle.sdl_valid.proofs.Settling.{all_fit, all_read}

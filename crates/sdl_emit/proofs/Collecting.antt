@@ -12,7 +12,7 @@ use Rattle.sdl_meaning.specs.Act.{Scope, is_truth}
 use Rattle.sdl_emit.specs.Scopes.{question_in}
 use Rattle.sdl_emit.specs.Placing.{decision_joins}
 use Rattle.sdl_meaning.specs.Code.{code_joins, else_joins, answers_joins, bodies_joins}
-use Rattle.sdl_tree.proofs.Views.{statement_of-decide}
+use Rattle.sdl_ast.proofs.Views.{statement_of-decide}
 
 module _ (c : Scope) where
   bodies_split : (choice : Choice) → bodies_joins c choice ≡ answers_joins c choice ++ else_joins c choice

@@ -8,7 +8,7 @@ use Rattle.turn_code.specs.declared.instruction.Instruction.TheVariants as i
 use Rattle.sdl_emit.specs.Scopes.{scope_in, places_by, question_in}
 use Rattle.sdl_meaning.specs.Named.{NamedChoice}
 use Rattle.sdl_meaning.specs.Code.{else_size, else_code, answers_code, text_code}
-use Rattle.sdl_tree.proofs.Views.{decision_of-is}
+use Rattle.sdl_ast.proofs.Views.{decision_of-is}
 use Rattle.sdl_emit.proofs.Emitting.{one_answer, one_statement, rest_named, rest_fits, rest_code, others_fit, others_code, others_named, else_size_alone, else_code_alone, else_named, choice_named, choice_fits, decision_code}
 use Rattle.sdl_emit.specs.Landing.{code_place, starts_from, answers_leave, else_leave, landed, filled, has_any, picked_by, tests_by}
 use Rattle.sdl_emit.proofs.Landed.{jumps_more, starts_more, else_leave_alone, rest_goes, truth_answers_fit, truth_else_fits, truth_else_low, truth_low, truth_lands, truth_goes, place_is, integer_else_fits, integer_answers_fit, integer_low, integer_tests_fit, integer_lands, integer_goes}
