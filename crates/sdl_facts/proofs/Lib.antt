@@ -8,7 +8,7 @@ pub mod Passes
 pub mod Piecewise
 pub mod Reckoned
 pub mod Rights
-pub mod Setting
+pub mod PlaceSets
 pub mod Shapes
 pub mod Spots
 pub mod Straight
