@@ -7,13 +7,13 @@ use Rattle.std.proofs.lemmas.List.{take_more, map-append, length-take-le}
 use Rattle.std.proofs.lemmas.List.Sums.{sum_by-cons}
 use Rattle.std.proofs.lemmas.List.Folds.{list_any-append}
 use Rattle.std.proofs.Math.Bool.{or-false}
-use Rattle.sdl_tree.specs.Plain.{Text, PlainConnection, PlainProcess}
+use Rattle.sdl_tree.specs.Plain.{Text, PlainStimulus, PlainConnection, PlainProcess}
 use Rattle.sdl_tables.specs.Names.{variables_of}
 use Rattle.sdl_sound.specs.Joins.{reaches, reached}
-use Rattle.sdl_sound.specs.Longest.{size, Piece, pieces_of}
+use Rattle.sdl_sound.specs.Longest.{size, Piece, pieces_of, input_piece}
 use Rattle.sdl_measures.specs.Measures.{capped, AreMeasures}
 use Rattle.sdl_measures.specs.Counting.{measure_at}
-use Rattle.sdl_measures.specs.Rows.{marked_from, marked_size, is_long, is_deep, is_busy, IsPassed, ArePassed, AllPassed, IsEither}
+use Rattle.sdl_measures.specs.Rows.{marked_from, marked_size, is_long, is_deep, is_busy, stimulus_piece, IsPassed, ArePassed, AllPassed, IsEither}
 use Rattle.sdl_measures.specs.declared.measures.Measure.{Measure}
 use Rattle.sdl_measures.specs.declared.limits.Passed.{Passed}
 use Rattle.sdl_measures.proofs.Joined.{size_at}
@@ -87,10 +87,10 @@ passed_push p qs q a b c h k e = record {
   effects = λ short. any_push (is_busy p) qs q a.effects b.effects c.effects (h.effects (first_short a.size b.size c.size e.size short)) k.effects e.effects;
 }
 
--- where one is too long, one more changes nothing
-pub passed_long : (p : PlainProcess) (qs : List Piece) (q : Piece) (a : Passed) → a.size ≡ true → ArePassed p qs a → ArePassed p (qs ++ q ∷ []) a
-passed_long p qs q a long h = record {
-  size = any_push (is_long p) qs q a.size (is_long p q) a.size h.size refl (long ∙ ap (λ y. y || is_long p q) (sym long));
+-- where one is too long, more change nothing
+pub passed_long : (p : PlainProcess) (qs rs : List Piece) (a : Passed) → a.size ≡ true → ArePassed p qs a → ArePassed p (qs ++ rs) a
+passed_long p qs rs a long h = record {
+  size = any_both (is_long p) qs rs a.size (list_any (is_long p) rs) a.size h.size refl (long ∙ ap (λ y. y || list_any (is_long p) rs) (sym long));
   depth = λ short. absurd (true≢false (sym long ∙ short));
   effects = λ short. absurd (true≢false (sym long ∙ short));
 }
@@ -132,3 +132,8 @@ over most a b small e = ap (nat_lt most) e ∙ over_by most b small
 pub mapped_rows : {A B C : Type 0} (f : A → B) (g : B → C) (xs : List A) (i : ℕ) (x : A) → i < length xs → x ≡ get_or xs i x
     → map g (map f (take (i + 1) xs)) ≡ map g (map f (take i xs)) ++ g (f x) ∷ []
 mapped_rows f g xs i x within is = ap (map g) (mapped_more f xs i x within is) ∙ map-append g (map f (take i xs)) (f x ∷ [])
+
+-- the pieces of the signals of one INPUT
+pub same_pieces : (at : ℕ) (t : Text) (ss : List PlainStimulus) → map input_piece (map (λ s. record { at = at; stimulus = s; text = t }) ss) ≡ map (stimulus_piece t) ss
+same_pieces at t [] = refl
+same_pieces at t (s ∷ ss) = ap (λ l. stimulus_piece t s ∷ l) (same_pieces at t ss)

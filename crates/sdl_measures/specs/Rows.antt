@@ -1,10 +1,12 @@
 -- What the transitions of a process pass.
 use Rattle.std.specs.Prelude.{◌≡◌, ℕ, ◌+◌, Bool, false, ◌||◌, List, [], ◌∷◌, if◌then◌else◌, nat_lt}
 use Rattle.std.specs.List.{list_any}
-use Rattle.sdl_tree.specs.Plain.{PlainProcess}
-use Rattle.sdl_sound.specs.Longest.{Piece, pieces_of, piece_size, piece_depth, piece_effects}
+use Rattle.sdl_tree.specs.Plain.{Text, PlainStimulus, PlainProcess}
+use Rattle.sdl_sound.specs.Longest.{Piece, pieces_of, text_size, text_depth, text_effects, piece_size, piece_depth, piece_effects}
+use Rattle.sdl_measures.specs.Measures.{capped}
 use Rattle.sdl_measures.specs.Counting.{measure_at}
 use Rattle.sdl_measures.specs.declared.measures.Measure.{Measure}
+use Rattle.sdl_measures.specs.declared.limits.Extent.{Extent}
 use Rattle.sdl_measures.specs.declared.limits.Passed.{Passed}
 
 -- whether a piece is too long or too deep, or has too many effects
@@ -16,6 +18,16 @@ is_deep p q = nat_lt 16 (piece_depth p q)
 
 abbrev pub is_busy : PlainProcess → Piece → Bool
 is_busy p q = nat_lt 32 (piece_effects p q)
+
+-- a transition with the places of a signal before it
+abbrev pub stimulus_piece : Text → PlainStimulus → Piece
+stimulus_piece t s = record { places = s.places; text = t }
+
+-- what a transition has without the places that come before it, up to the greatest count
+pub record IsExtent (p : PlainProcess) (t : Text) (x : Extent) : Type 0 where
+  pub size : x.size ≡ capped (text_size p t)
+  pub depth : x.depth ≡ capped (text_depth p t)
+  pub effects : x.effects ≡ capped (text_effects p t)
 
 -- this of one piece
 pub record IsPassed (p : PlainProcess) (q : Piece) (x : Passed) : Type 0 where

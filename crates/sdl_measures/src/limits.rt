@@ -1,25 +1,26 @@
 //! The limits: how long and how deep transitions are, and how many of everything there are.
 ghost use Rattle.std.specs.Prelude.{◌≡◌, ◌++◌, ◌∷◌, [], ℕ, List, map, min, nat_lt, length, sum_by, find, IfOk};
 ghost use Rattle.std.specs.List.{flat_map, list_any};
-ghost use Rattle.sdl_tree.specs.Views.{text_of, process_of, block_of, signal_of};
+ghost use Rattle.sdl_tree.specs.Views.{text_of, stimulus_of, input_of, process_of, block_of, signal_of};
 ghost use Rattle.sdl_tables.specs.Names.{connector_names, processes_of, signals_of, states_of, variables_of, timers_of};
-ghost use Rattle.sdl_tables.specs.Rows.{row_input, rows_inputs};
+ghost use Rattle.sdl_tables.specs.Rows.{rows_inputs, stimulus_inputs};
 ghost use Rattle.sdl_tables.specs.Scopes.{repeats};
 ghost use Rattle.sdl_joins.specs.Links.{graph_in, IsGraph};
 ghost use Rattle.sdl_sound.specs.Orders.{links_of};
-ghost use Rattle.sdl_sound.specs.Longest.{Piece, pieces_of, input_piece};
+ghost use Rattle.sdl_sound.specs.Longest.{Piece, pieces_of, start_piece, input_piece};
 ghost use Rattle.sdl_measures.specs.Measures.{capped, AreMeasures, AllMeasures};
-ghost use Rattle.sdl_measures.specs.Rows.{marked_size, IsPassed, ArePassed, AllPassed, IsEither};
-ghost use Rattle.sdl_tree.specs.Plain.{PlainBlock};
+ghost use Rattle.sdl_measures.specs.Rows.{marked_size, stimulus_piece, IsExtent, IsPassed, ArePassed, AllPassed, IsEither};
+ghost use Rattle.sdl_sound.specs.Standing.{taken_by, taken_in};
+ghost use Rattle.sdl_tree.specs.Plain.{Text, PlainProcess, PlainBlock};
 ghost use Rattle.sdl_measures.specs.Counting.{measure_at};
 ghost use Rattle.sdl_sound.specs.Limits.{exceeds, number_limits, transition_limits, first_limit};
 
 use crate::counts::{places_cost, places_depth};
 use crate::measures::{Measure, NOTHING, measure_transition};
 use sdl_joins::{find_links, reached_in};
-use sdl_sound::Limit;
+use sdl_sound::{Limit, standing_inputs};
 use sdl_tables::{BlockTable, InputRow, ProcessTable};
-use sdl_tree::{Identifier, SignalDeclaration, Transition};
+use sdl_tree::{Identifier, InputPart, SignalDeclaration, Stimulus, Transition};
 use std::alloc::{AllocError, Global};
 
 /// Whether a transition is too long or too deep, or has too many effects.
@@ -69,72 +70,99 @@ fn size_at(measures: &[Measure], number: usize) -> u32
     }
 }
 
-/// A transition, with the places that come before it.
-fn pass_piece(
+/// How many instructions a transition has with its connections, how deep it is, and how many effects it has, up to 4,294,967,295
+/// each: the same for each signal that its INPUT names, and the places of a signal come before it.
+#[derive(Clone, Copy, Debug)]
+struct Extent {
+    size: u32,
+    depth: u32,
+    effects: u32,
+}
+
+fn measure_extent(
     alloc: Global,
     process: &ProcessTable,
     links: &[Vec<usize>],
     measures: &[Measure],
-    places: &[Option<Identifier>],
     transition: &Transition,
-) -> Result<Passed, AllocError>
+) -> Result<Extent, AllocError>
     requires links { graph_in links.now ≡ links_of (process_of process.now) }
     requires graph { IsGraph (graph_in links.now) }
     requires distinct { repeats [] (connector_names (process_of process.now)) ≡ [] }
     requires measures { AreMeasures (process_of process.now) measures.now }
-    ensures { IfOk result (IsPassed (process_of process.now) (record { places = places.now; text = text_of transition.now })) }
+    ensures { IfOk result (IsExtent (process_of process.now) (text_of transition.now)) }
 {
     let marks = reached_in(alloc, process, links, transition)?;
     let own = measure_transition(process, measures, transition, NOTHING);
-    let size = own.size.saturating_add(marked_size(&marks, measures));
-    Ok(Passed {
-        size: places_cost(places).saturating_add(size) > 512,
-        depth: places_depth(places).max(own.depth) > 16,
-        effects: own.effects > 32,
+    Ok(Extent {
+        size: own.size.saturating_add(marked_size(&marks, measures)),
+        depth: own.depth,
+        effects: own.effects,
     })
 }
 
-/// One input more, unless a transition was too long: that is named first, whatever the others are.
-fn pass_row(
+/// A transition of this extent, with the places that come before it.
+fn pass_places(extent: Extent, places: &[Option<Identifier>]) -> Passed
+    ensures { (p : PlainProcess) (t : Text) → IsExtent p t extent → IsPassed p (record { places = places.now; text = t }) result }
+{
+    Passed {
+        size: places_cost(places).saturating_add(extent.size) > 512,
+        depth: places_depth(places).max(extent.depth) > 16,
+        effects: extent.effects > 32,
+    }
+}
+
+/// A transition of this extent, with the places of each of these signals.
+fn pass_stimuli(extent: Extent, stimuli: &[Stimulus]) -> Passed
+    ensures { (p : PlainProcess) (t : Text) → IsExtent p t extent → ArePassed p (map (stimulus_piece t) (map stimulus_of stimuli.now)) result }
+{
+    let mut passed = NONE_PASSED;
+    for stimulus in stimuli {
+        passed = either(passed, pass_places(extent, &stimulus.places));
+    }
+    passed
+}
+
+/// One INPUT more, unless a transition was too long: that is named first, whatever the others are.
+fn pass_input(
     alloc: Global,
     process: &ProcessTable,
     links: &[Vec<usize>],
     measures: &[Measure],
     passed: Passed,
-    row: &InputRow,
+    input: &InputPart,
 ) -> Result<Passed, AllocError>
     requires links { graph_in links.now ≡ links_of (process_of process.now) }
     requires graph { IsGraph (graph_in links.now) }
     requires distinct { repeats [] (connector_names (process_of process.now)) ≡ [] }
     requires measures { AreMeasures (process_of process.now) measures.now }
     ensures { (qs : List Piece) → ArePassed (process_of process.now) qs passed
-        → IfOk result (ArePassed (process_of process.now) (qs ++ input_piece (row_input row.now) ∷ [])) }
+        → IfOk result (ArePassed (process_of process.now) (qs ++ map input_piece (stimulus_inputs (input_of input.now)))) }
 {
     if passed.size {
         return Ok(passed);
     }
-    let places = &row.stimulus.places;
-    let transition = &row.input.transition;
-    let here = pass_piece(alloc, process, links, measures, places, transition)?;
-    Ok(either(passed, here))
+    let extent = measure_extent(alloc, process, links, measures, &input.transition)?;
+    Ok(either(passed, pass_stimuli(extent, &input.stimuli)))
 }
 
-fn pass_rows(
+/// The INPUTs of a state.
+fn pass_inputs(
     alloc: Global,
     process: &ProcessTable,
     links: &[Vec<usize>],
     measures: &[Measure],
-    rows: &[InputRow],
+    inputs: &[&InputPart],
 ) -> Result<Passed, AllocError>
     requires links { graph_in links.now ≡ links_of (process_of process.now) }
     requires graph { IsGraph (graph_in links.now) }
     requires distinct { repeats [] (connector_names (process_of process.now)) ≡ [] }
     requires measures { AreMeasures (process_of process.now) measures.now }
-    ensures { IfOk result (ArePassed (process_of process.now) (map input_piece (map row_input rows.now))) }
+    ensures { IfOk result (ArePassed (process_of process.now) (map input_piece (flat_map taken_by inputs.now))) }
 {
     let mut passed = NONE_PASSED;
-    for row in rows {
-        passed = pass_row(alloc, process, links, measures, passed, row)?;
+    for input in inputs {
+        passed = pass_input(alloc, process, links, measures, passed, input)?;
     }
     Ok(passed)
 }
@@ -144,19 +172,40 @@ fn pass_states(
     process: &ProcessTable,
     links: &[Vec<usize>],
     measures: &[Measure],
-    states: &[Vec<InputRow>],
+    states: &[Vec<&InputPart>],
 ) -> Result<Passed, AllocError>
     requires links { graph_in links.now ≡ links_of (process_of process.now) }
     requires graph { IsGraph (graph_in links.now) }
     requires distinct { repeats [] (connector_names (process_of process.now)) ≡ [] }
     requires measures { AreMeasures (process_of process.now) measures.now }
-    ensures { IfOk result (ArePassed (process_of process.now) (flat_map (map input_piece) (map rows_inputs states.now))) }
+    ensures { IfOk result (ArePassed (process_of process.now) (flat_map (map input_piece) (map taken_in states.now))) }
 {
     let mut passed = NONE_PASSED;
-    for rows in states {
-        passed = either(passed, pass_rows(alloc, process, links, measures, rows)?);
+    for inputs in states {
+        passed = either(
+            passed,
+            pass_inputs(alloc, process, links, measures, inputs)?,
+        );
     }
     Ok(passed)
+}
+
+/// START's transition.
+fn pass_start(
+    alloc: Global,
+    process: &ProcessTable,
+    links: &[Vec<usize>],
+    measures: &[Measure],
+) -> Result<Passed, AllocError>
+    requires links { graph_in links.now ≡ links_of (process_of process.now) }
+    requires graph { IsGraph (graph_in links.now) }
+    requires distinct { repeats [] (connector_names (process_of process.now)) ≡ [] }
+    requires measures { AreMeasures (process_of process.now) measures.now }
+    ensures { IfOk result (IsPassed (process_of process.now) (start_piece (process_of process.now))) }
+{
+    let start = &process.process().start.transition;
+    let extent = measure_extent(alloc, process, links, measures, start)?;
+    Ok(pass_places(extent, &[]))
 }
 
 /// The transitions of a process, where these are the measures of its connections.
@@ -169,9 +218,8 @@ fn pass_process(
     ensures { IfOk result (ArePassed (process_of process.now) (pieces_of (process_of process.now))) }
 {
     let links = find_links(alloc, process)?;
-    let start = &process.process().start.transition;
-    let first = pass_piece(alloc, process, &links, measures, &[], start)?;
-    let inputs = process.inputs(alloc)?;
+    let first = pass_start(alloc, process, &links, measures)?;
+    let inputs = standing_inputs(alloc, process)?;
     let others = pass_states(alloc, process, &links, measures, &inputs)?;
     Ok(either(first, others))
 }

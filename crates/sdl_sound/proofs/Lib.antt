@@ -3,4 +3,5 @@ pub mod Lists
 pub mod Numbered
 pub mod Places
 pub mod Repeats
+pub mod Spread
 pub mod Views

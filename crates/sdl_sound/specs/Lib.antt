@@ -19,4 +19,5 @@ pub mod Settled
 pub mod Sorts
 pub mod Sound
 pub mod Spellings
+pub mod Standing
 pub mod Statements

@@ -4,5 +4,7 @@
 #![tactic(auto)]
 
 mod fault;
+mod standing;
 
 pub use fault::{ControlPath, Limit, RuleFault, Step};
+pub use standing::standing_inputs;

@@ -5,7 +5,7 @@ use Rattle.std.specs.List.{AllZip, enumerate_from}
 use Rattle.std.specs.Option.{option_map_or}
 use Rattle.std.specs.Global.{Vec}
 use Rattle.std.proofs.lemmas.Bool.{cases_eq}
-use Rattle.std.proofs.lemmas.List.{length-map, map_more, take_more, length-take-le}
+use Rattle.std.proofs.lemmas.List.{length-map, map_more, take_more, length-take-le, append_assoc}
 use Rattle.std.proofs.lemmas.List.Elements.{Contains-append_left, Contains-append_right, Contains-append_cases}
 use Rattle.std.proofs.lemmas.Option.{slice_get_within, slice_get_past}
 use Rattle.unset_paths.specs.Graph.{has}
@@ -160,6 +160,14 @@ pub zip_more : {X A B : Type 0} (R : A → B → Type 0) (g : X → A) (xs : Lis
 zip_more R g xs i x ys y within is h r =
     subst (λ zs. AllZip R zs (ys ++ y ∷ [])) (ap (λ u. map g (take i xs) ++ g u ∷ []) is ∙ sym (map_more g xs i x within))
     (zip_push R (map g (take i xs)) ys (g x) y h r)
+
+-- one row more, behind others
+pub zip_behind : {X A B : Type 0} (R : A → B → Type 0) (g : X → A) (before : List A) (xs : List X) (i : ℕ) (x : X) (ys : List B) (y : B) → i < length xs → x ≡ get_or xs i x
+    → AllZip R (before ++ map g (take i xs)) ys → R (g x) y → AllZip R (before ++ map g (take (i + 1) xs)) (ys ++ y ∷ [])
+zip_behind R g before xs i x ys y within is h r =
+    subst (λ zs. AllZip R zs (ys ++ y ∷ []))
+    (append_assoc before (map g (take i xs)) (g x ∷ []) ∙ ap (λ l. before ++ l) (ap (λ u. map g (take i xs) ++ g u ∷ []) is ∙ sym (map_more g xs i x within)))
+    (zip_push R (before ++ map g (take i xs)) ys (g x) y h r)
 
 zip_with : {A B : Type 0} (P : A → Type 0) (R S : A → B → Type 0) → ((x : A) (y : B) → P x → R x y → S x y) → (xs : List A) (ys : List B) → Each P xs → AllZip R xs ys → AllZip S xs ys
 zip_with P R S f [] [] e h = tt

@@ -372,3 +372,10 @@ pub walked_last : (p : PlainProcess) (f : Doings) (a b c : Walker) → Stands p 
 walked_last p f a b c s w v =
     stands_same p (λ x q. behind (behind leaving (f x q)) no_chances) (λ x q. last_chances (f x q)) c (λ x q. last_is (f x q))
     (walked_from p (λ x q. behind leaving (f x q)) (λ x q. no_chances) b c (walked_from p (λ x q. leaving) f a b s w) v)
+
+leaving_first : (c : Chances) → behind leaving c ≡ c
+leaving_first c = chances_by_parts (behind leaving c) c refl refl refl
+
+-- a walker that went through a text from its beginning
+pub walked_whole : (p : PlainProcess) (f : Doings) (a b : Walker) → Stands p (λ x q. leaving) a → Walked p f a b → Stands p f b
+walked_whole p f a b s w = stands_same p (λ x q. behind leaving (f x q)) f b (λ x q. leaving_first (f x q)) (walked_from p (λ x q. leaving) f a b s w)

@@ -1,23 +1,26 @@
 //! What each transition of a process does with the variables, as a graph by numbers.
-ghost use Rattle.std.specs.Prelude.{◌≡◌, ◌≤◌, [], List, map, length, IfOk};
-ghost use Rattle.std.specs.List.{AllZip};
-ghost use Rattle.sdl_tree.specs.Plain.{PlainBlock};
-ghost use Rattle.sdl_tree.specs.Views.{text_of, process_of};
-ghost use Rattle.sdl_tables.specs.Names.{variables_of};
-ghost use Rattle.sdl_tables.specs.Rows.{row_input, rows_inputs};
-ghost use Rattle.sdl_sound.specs.Paths.{Event, input_transition};
+ghost use Rattle.std.specs.Prelude.{◌≡◌, ◌≤◌, ◌++◌, [], ℕ, List, map, length, IfOk, OnOk};
+ghost use Rattle.std.specs.List.{flat_map, AllZip};
+ghost use Rattle.sdl_tree.specs.Plain.{Text, PlainBlock};
+ghost use Rattle.sdl_tree.specs.Views.{text_of, stimulus_of, input_of, process_of};
+ghost use Rattle.sdl_tables.specs.Names.{variables_of, Input};
+ghost use Rattle.sdl_tables.specs.Rows.{stimulus_inputs};
+ghost use Rattle.sdl_sound.specs.Paths.{Event, start_transition};
+ghost use Rattle.sdl_sound.specs.Chances.{joined_chances};
 ghost use Rattle.sdl_sound.specs.Names.{process_unknown};
 ghost use Rattle.sdl_sound.specs.Actions.{in_statements};
 ghost use Rattle.sdl_sound.specs.Decisions.{statement_unanswered};
 ghost use Rattle.sdl_sound.specs.Orders.{IsOrder};
+ghost use Rattle.sdl_sound.specs.Standing.{taken_by, taken_in};
 ghost use Rattle.sdl_unset.specs.Graphs.{IsGraphOf};
-ghost use Rattle.sdl_unset.specs.Flows.{Does, AreJoined, ArePassages, IsSummaryBy, AreSummariesBy};
+ghost use Rattle.sdl_unset.specs.Flows.{Does, Stands, AreTold, AreJoined, text_doings, ArePassages, IsSummaryBy, AreSummariesBy};
 
 use crate::flow::{Flow, initials_flow, places_flow};
 use crate::walker::Walker;
 use crate::walks::{connection_walkers, walk_transition};
-use sdl_tables::{InputRow, ProcessTable};
-use sdl_tree::Transition;
+use sdl_sound::standing_inputs;
+use sdl_tables::ProcessTable;
+use sdl_tree::{InputPart, Stimulus, Transition};
 use std::alloc::{AllocError, Global};
 use unset_paths::{Graph, Passage, Summary};
 
@@ -37,22 +40,36 @@ fn passages(alloc: Global, masks: &[u32]) -> Result<Vec<Passage>, AllocError>
     Ok(passages)
 }
 
-/// What a transition does after `first`.
-fn summary(
+/// The walker at the end of a transition: the same for each signal that its INPUT names.
+fn text_walker(
     alloc: Global,
     table: &ProcessTable,
     walkers: &[Walker],
-    first: Flow,
     transition: &Transition,
+) -> Result<Walker, AllocError>
+    ensures { IfOk result (λ w. (told : _) → AreTold (process_of table.now) told walkers.now
+        → Stands (process_of table.now) (text_doings (process_of table.now) told (text_of transition.now)) w) }
+{
+    let mut walker = Walker::at_start(alloc, table.states().len())?;
+    walk_transition(table, walkers, &mut walker, transition);
+    Ok(walker)
+}
+
+/// What a transition does after `first`, where a walker has gone through it.
+fn summary(
+    alloc: Global,
+    table: &ProcessTable,
+    first: Flow,
+    walked: &Walker,
 ) -> Result<Summary, AllocError>
     requires few { length (variables_of (process_of table.now)) ≤ 32 }
-    requires joined { AreJoined (process_of table.now) walkers.now }
-    ensures { (events : List Event) → Does (process_of table.now) events first
-        → IfOk result (λ s. IsSummaryBy (process_of table.now) (record { first = events; text = text_of transition.now }) s) }
+    ensures { (events : List Event) (text : Text) → Does (process_of table.now) events first
+        → Stands (process_of table.now) (text_doings (process_of table.now) (λ x q y. joined_chances (process_of table.now) x q y) text) walked.now
+        → IfOk result (λ s. IsSummaryBy (process_of table.now) (record { first = events; text = text }) s) }
 {
     let mut walker = Walker::at_start(alloc, table.states().len())?;
     walker.pass(first);
-    walk_transition(table, walkers, &mut walker, transition);
+    walker.join(walked);
     let passages = passages(alloc, &walker.enters)?;
     Ok(Summary {
         reads: walker.reads,
@@ -60,33 +77,72 @@ fn summary(
     })
 }
 
-fn input_summary(
+fn start_summary(
     alloc: Global,
     table: &ProcessTable,
     walkers: &[Walker],
-    row: &InputRow,
 ) -> Result<Summary, AllocError>
     requires few { length (variables_of (process_of table.now)) ≤ 32 }
     requires joined { AreJoined (process_of table.now) walkers.now }
-    ensures { IfOk result (λ s. IsSummaryBy (process_of table.now) (input_transition (row_input row.now)) s) }
+    ensures { IfOk result (λ s. IsSummaryBy (process_of table.now) (start_transition (process_of table.now)) s) }
 {
-    let places = places_flow(table, &row.stimulus.places);
-    summary(alloc, table, walkers, places, &row.input.transition)
+    let first = initials_flow(table, table.rows());
+    let start = &table.process().start.transition;
+    let walked = text_walker(alloc, table, walkers, start)?;
+    summary(alloc, table, first, &walked)
 }
 
+/// The summaries for the signals of an INPUT, whose transition a walker has gone through.
+fn push_stimuli(
+    alloc: Global,
+    table: &ProcessTable,
+    summaries: &mut Vec<Summary>,
+    walked: &Walker,
+    stimuli: &[Stimulus],
+) -> Result<(), AllocError>
+    requires few { length (variables_of (process_of table.now)) ≤ 32 }
+    ensures { (before : List Input) (at : ℕ) (text : Text)
+        → Stands (process_of table.now) (text_doings (process_of table.now) (λ x q y. joined_chances (process_of table.now) x q y) text) walked.now
+        → AreSummariesBy (process_of table.now) before summaries.old
+        → OnOk result (AreSummariesBy (process_of table.now) (before ++ map (λ s. record { at = at; stimulus = stimulus_of s; text = text }) stimuli.now) summaries.new) }
+{
+    for stimulus in stimuli {
+        let places = places_flow(table, &stimulus.places);
+        summaries.push(summary(alloc, table, places, walked)?)?;
+    }
+    Ok(())
+}
+
+fn push_input(
+    alloc: Global,
+    table: &ProcessTable,
+    walkers: &[Walker],
+    summaries: &mut Vec<Summary>,
+    input: &InputPart,
+) -> Result<(), AllocError>
+    requires few { length (variables_of (process_of table.now)) ≤ 32 }
+    requires joined { AreJoined (process_of table.now) walkers.now }
+    ensures { (before : List Input) → AreSummariesBy (process_of table.now) before summaries.old
+        → OnOk result (AreSummariesBy (process_of table.now) (before ++ stimulus_inputs (input_of input.now)) summaries.new) }
+{
+    let walked = text_walker(alloc, table, walkers, &input.transition)?;
+    push_stimuli(alloc, table, summaries, &walked, &input.stimuli)
+}
+
+/// The summaries of what a state takes by these INPUTs.
 fn input_summaries(
     alloc: Global,
     table: &ProcessTable,
     walkers: &[Walker],
-    rows: &[InputRow],
+    inputs: &[&InputPart],
 ) -> Result<Vec<Summary>, AllocError>
     requires few { length (variables_of (process_of table.now)) ≤ 32 }
     requires joined { AreJoined (process_of table.now) walkers.now }
-    ensures { IfOk result (λ v. AreSummariesBy (process_of table.now) (map row_input rows.now) v) }
+    ensures { IfOk result (λ v. AreSummariesBy (process_of table.now) (flat_map taken_by inputs.now) v) }
 {
     let mut summaries = Vec::new(alloc);
-    for row in rows {
-        summaries.push(input_summary(alloc, table, walkers, row)?)?;
+    for input in inputs {
+        push_input(alloc, table, walkers, &mut summaries, input)?;
     }
     Ok(summaries)
 }
@@ -95,15 +151,15 @@ fn state_summaries(
     alloc: Global,
     table: &ProcessTable,
     walkers: &[Walker],
-    states: &[Vec<InputRow>],
+    states: &[Vec<&InputPart>],
 ) -> Result<Vec<Vec<Summary>>, AllocError>
     requires few { length (variables_of (process_of table.now)) ≤ 32 }
     requires joined { AreJoined (process_of table.now) walkers.now }
-    ensures { IfOk result (λ v. AllZip (AreSummariesBy (process_of table.now)) (map rows_inputs states.now) v.items) }
+    ensures { IfOk result (λ v. AllZip (AreSummariesBy (process_of table.now)) (map taken_in states.now) v.items) }
 {
     let mut states_summaries = Vec::new(alloc);
-    for rows in states {
-        states_summaries.push(input_summaries(alloc, table, walkers, rows)?)?;
+    for inputs in states {
+        states_summaries.push(input_summaries(alloc, table, walkers, inputs)?)?;
     }
     Ok(states_summaries)
 }
@@ -122,15 +178,8 @@ pub(crate) fn graph_of(
     ensures { IfOk result (λ g. IsGraphOf (process_of table.now) g) }
 {
     let walkers = connection_walkers(alloc, table, order)?;
-    let first = initials_flow(table, table.rows());
-    let start = summary(
-        alloc,
-        table,
-        &walkers,
-        first,
-        &table.process().start.transition,
-    )?;
-    let inputs = table.inputs(alloc)?;
+    let start = start_summary(alloc, table, &walkers)?;
+    let inputs = standing_inputs(alloc, table)?;
     let states = state_summaries(alloc, table, &walkers, &inputs)?;
     Ok(Graph { start, states })
 }

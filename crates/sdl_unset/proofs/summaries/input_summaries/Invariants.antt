@@ -1,9 +1,10 @@
-use Rattle.std.proofs.Common.{map, take}
+use Rattle.std.proofs.Common.{take}
+use Rattle.std.specs.List.{flat_map}
 use Rattle.sdl_tree.specs.Views.{process_of}
 use Rattle.sdl_unset.specs.Flows.{AreSummariesBy}
-use Rattle.sdl_tables.specs.Rows.{row_input}
+use Rattle.sdl_sound.specs.Standing.{taken_by}
 use Rattle.sdl_unset.proofs.summaries.input_summaries.Given as goal
 
-abbrev pub invariant-loop-row : goal.invariant-loop-row
-invariant-loop-row l =
-    AreSummariesBy (process_of l.table) (map row_input (take l.row-index l.rows)) l.summaries
+abbrev pub invariant-loop-input : goal.invariant-loop-input
+invariant-loop-input l =
+    AreSummariesBy (process_of l.table) (flat_map taken_by (take l.input-index l.inputs)) l.summaries

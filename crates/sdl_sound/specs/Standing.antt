@@ -1,0 +1,17 @@
+-- The INPUTs that stand for a state, each once however many signals it names.
+use Rattle.std.specs.Prelude.{List}
+use Rattle.std.specs.Borrow.{Bor}
+use Rattle.std.specs.Global.{Vec}
+use Rattle.std.specs.List.{flat_map}
+use Rattle.sdl_tree.specs.declared.tree.InputPart.{InputPart}
+use Rattle.sdl_tree.specs.Views.{input_of}
+use Rattle.sdl_tables.specs.Names.{Input}
+use Rattle.sdl_tables.specs.Rows.{stimulus_inputs}
+
+-- what a state takes by an INPUT
+abbrev pub taken_by : Bor InputPart → List Input
+taken_by i = stimulus_inputs (input_of i.now)
+
+-- and by these
+abbrev pub taken_in : Vec (Bor InputPart) → List Input
+taken_in v = flat_map taken_by v.items
