@@ -3,7 +3,7 @@ use Rattle.std.specs.Prelude.{slice_get, replicate}
 use Rattle.std.specs.Option.{option_map_or}
 use Rattle.sdl_unset.proofs.firsts.Firsts.none.Goals as goal
 
-nothing : Option ℕ
+abbrev nothing : Option ℕ
 nothing = None
 
 empty : (n v : ℕ) → option_map_or (λ (o : Option ℕ). o) (slice_get (replicate n nothing) v) nothing ≡ nothing
