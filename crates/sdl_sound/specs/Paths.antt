@@ -1,5 +1,5 @@
 -- Control paths, and what is read on them before it is set. (Z.100: the transitions of a process graph.)
-use Rattle.std.specs.Prelude.{◌≡◌, ◌⊎◌, ◌≤◌, ℕ, zero, suc, Bool, true, false, not, ◌&&◌, ◌||◌, List, [], ◌∷◌, ◌++◌, length, Option, None, Some, if◌then◌else◌, map, Contains, is_some}
+use Rattle.std.specs.Prelude.{◌≡◌, ◌⊎◌, ◌<◌, ◌≤◌, ℕ, zero, suc, Bool, true, false, not, ◌&&◌, ◌||◌, List, [], ◌∷◌, ◌++◌, length, Option, None, Some, if◌then◌else◌, map, All, Contains, is_some}
 use Rattle.std.specs.List.{flat_map}
 use Rattle.std.specs.Option.{option_map_or}
 use Rattle.sdl_ast.specs.declared.tree.End.TheVariants.{NextState, Stop, Join}
@@ -155,6 +155,17 @@ ReadsUnset p path x = ReadsFrom p None path x
 -- no control path of the process that reads a variable unset has fewer transitions
 abbrev pub IsShortest : PlainProcess → List Step → Type 0
 IsShortest p path = (other : List Step) (x : List ℕ) → ReadsUnset p other x → length path ≤ length other
+
+-- each control path of the process that reads a variable unset has more transitions
+abbrev pub AreLonger : List Step → PlainProcess → Type 0
+AreLonger path p = (other : List Step) (x : List ℕ) → ReadsUnset p other x → length path < length other
+
+-- It is a process of these, and the first that has so short a path: in each before it all have more transitions.
+pub record IsFirstWith (ps : List PlainProcess) (p : PlainProcess) (path : List Step) : Type 0 where
+  pub before : List PlainProcess
+  pub after : List PlainProcess
+  pub all : ps ≡ before ++ p ∷ after
+  pub longer : All (AreLonger path) before
 
 -- no control path reads a variable before it is set
 abbrev pub NeverReadsUnset : PlainProcess → Type 0

@@ -22,6 +22,7 @@ use Rattle.sdl_sound.specs.Names.{tree_names}
 use Rattle.sdl_tables.specs.Scopes.{repeats}
 use Rattle.sdl_sound.specs.Paths.{Event, reads, sets, tree_events, reads_first, sets_in}
 use Rattle.sdl_unset.specs.Flows.{Tells, Does}
+use Rattle.sdl_unset.specs.declared.firsts.Firsts.{Firsts}
 use Rattle.sdl_unset.specs.declared.flow.Flow.{Flow}
 use Rattle.sdl_sound.proofs.Repeats.{append-nil_left, append-nil_right}
 use Rattle.sdl_sound.proofs.Numbered.{same_folded, folded_same}
@@ -119,17 +120,17 @@ sets_in-append (sets y ∷ xs) ys x =
     ∙ (sym (and_assoc (not (same_name x y)) (not (sets_in xs x)) (not (sets_in ys x)))
     ∙ ap (λ r. r && not (sets_in ys x)) (sym (not_or (same_name x y) (sets_in xs x)))))
 
-pub does_none : (p : PlainProcess) → Does p [] (record { reads = 0; keeps = 4294967295 })
+pub does_none : (firsts : Firsts) (p : PlainProcess) → Does p [] (record { reads = 0; keeps = 4294967295; firsts = firsts })
 unfolding Does
-does_none p = (
+does_none firsts p = (
   record { at = λ v id small there. has_none v },
   record { at = λ v id small there. has_all v small },
 )
 
-pub does_after : (p : PlainProcess) (xs ys : List Event) (f g : Flow) → Does p xs f → Does p ys g
-    → Does p (xs ++ ys) (record { reads = bit_or f.reads (bit_and f.keeps g.reads); keeps = bit_and f.keeps g.keeps })
+pub does_after : (firsts : Firsts) (p : PlainProcess) (xs ys : List Event) (f g : Flow) → Does p xs f → Does p ys g
+    → Does p (xs ++ ys) (record { reads = bit_or f.reads (bit_and f.keeps g.reads); keeps = bit_and f.keeps g.keeps; firsts = firsts })
 unfolding Does
-does_after p xs ys f g d e = (
+does_after firsts p xs ys f g d e = (
   record {
     at = λ v id small there.
         let first : has f.reads v ≡ reads_first xs id.name = d.0.at v id small there in
@@ -275,18 +276,18 @@ and_false : (b : Bool) → (b && false) ≡ false
 and_false true = refl
 and_false false = refl
 
-pub does_read : (p : PlainProcess) (x : List ℕ) (bits : ℕ) → Tells (variable_names p) (λ y. same_name y x) bits
-    → Does p (reads x ∷ []) (record { reads = bits; keeps = 4294967295 })
+pub does_read : (firsts : Firsts) (p : PlainProcess) (x : List ℕ) (bits : ℕ) → Tells (variable_names p) (λ y. same_name y x) bits
+    → Does p (reads x ∷ []) (record { reads = bits; keeps = 4294967295; firsts = firsts })
 unfolding Does
-does_read p x bits h = (
+does_read firsts p x bits h = (
   record { at = λ v id small there. h.at v id small there ∙ sym (or-false (same_name id.name x)) },
   record { at = λ v id small there. has_all v small },
 )
 
-pub does_set : (p : PlainProcess) (x : List ℕ) (bits : ℕ) → bits < 2 ^ 32 → Tells (variable_names p) (λ y. same_name y x) bits
-    → Does p (sets x ∷ []) (record { reads = 0; keeps = 4294967295 - bits })
+pub does_set : (firsts : Firsts) (p : PlainProcess) (x : List ℕ) (bits : ℕ) → bits < 2 ^ 32 → Tells (variable_names p) (λ y. same_name y x) bits
+    → Does p (sets x ∷ []) (record { reads = 0; keeps = 4294967295 - bits; firsts = firsts })
 unfolding Does
-does_set p x bits fits h = (
+does_set firsts p x bits fits h = (
   record { at = λ v id small there. has_none v ∙ sym (and_false (not (same_name id.name x))) },
   record {
     at = λ v id small there.

@@ -4,7 +4,7 @@ use Rattle.std.specs.Prelude.{slice_get, Contains, All, IfSome}
 use Rattle.std.specs.List.{AllZip, flat_map, list_any}
 use Rattle.std.specs.Global.{Vec}
 use Rattle.std.specs.Option.{option_map, option_map_or}
-use Rattle.std.proofs.lemmas.List.{length-map, take_more, map-append}
+use Rattle.std.proofs.lemmas.List.{length-map, take_more, map-append, append_assoc}
 use Rattle.std.proofs.lemmas.List.Elements.{All-contains, All-push}
 use Rattle.std.proofs.lemmas.Bool.Decides.{leb_tells}
 use Rattle.std.proofs.lemmas.Option.{slice_get-get_or, slice_get_within, slice_get-map}
@@ -18,7 +18,7 @@ use Rattle.sdl_sound.specs.Actions.{in_statements}
 use Rattle.sdl_sound.specs.Decisions.{statement_unanswered, unanswered}
 use Rattle.sdl_sound.specs.Orders.{IsOrder, AreOrders}
 use Rattle.sdl_sound.specs.Refusals.{IsWithin}
-use Rattle.sdl_sound.specs.Paths.{ReadsUnset, IsShortest, NeverReadsUnset}
+use Rattle.sdl_sound.specs.Paths.{ReadsUnset, IsShortest, AreLonger, IsFirstWith, NeverReadsUnset}
 use Rattle.sdl_unset.specs.Surveys.{IsUnset}
 use Rattle.sdl_unset.specs.declared.settled.Unset.{Unset}
 use Rattle.sdl_sound.specs.declared.fault.Limit.TheVariants.{Processes, States, Variables, Timers, Signals, Params, Pieces}
@@ -122,20 +122,31 @@ plain_more ts i t within read =
     ap plain (take_more ts i t within) ∙ (map-append process_of (take i ts) (get_or ts i t ∷ [])
     ∙ ap (λ (u : the_process.Process). plain (take i ts) ++ process_of u ∷ []) (sym read))
 
-abbrev pub IsUnsetAmong : PlainBlock → List PlainProcess → Unset → Type 0
-IsUnsetAmong b ps u = (p : PlainProcess) × Contains ps p × IsUnset b p u
+-- one of the processes, the first of those so far that has so short a path
+abbrev pub IsUnsetAmong : PlainBlock → List PlainProcess → List PlainProcess → Unset → Type 0
+IsUnsetAmong b ps far u = (p : PlainProcess) × Contains ps p × IsUnset b p u × IsFirstWith far p u.path.steps.items
 
 pub contains_process : (ts : List the_process.Process) (i : ℕ) (t : the_process.Process) → i < length ts → t ≡ get_or ts i t → Contains (plain ts) (process_of t)
 contains_process ts i t within read =
     among_at (plain ts) i (process_of t)
     (slice_get-map process_of ts i ∙ ap (option_map process_of) (slice_get-get_or ts i t within ∙ ap Some (sym read)))
 
-pub shorter_is : (b : PlainBlock) (ps : List PlainProcess) (best : Option Unset) (other r : Unset) → (r ≡ other) ⊎ (best ≡ Some r)
-    → IfSome best (IsUnsetAmong b ps) → IsUnsetAmong b ps other → IsUnsetAmong b ps r
-shorter_is b ps best other r one found last = elim one [
-  | inl e ↦ subst (IsUnsetAmong b ps) (sym e) last
-  | inr e ↦ subst (λ (o : Option Unset). IfSome o (IsUnsetAmong b ps)) e found
-]
+first_more : (far : List PlainProcess) (p q : PlainProcess) (path : List Step) → IsFirstWith far p path → IsFirstWith (far ++ q ∷ []) p path
+first_more far p q path h = record {
+  before = h.before;
+  after = h.after ++ q ∷ [];
+  all = ap (λ l. l ++ q ∷ []) h.all ∙ append_assoc h.before (p ∷ h.after) (q ∷ []);
+  longer = h.longer;
+}
+
+among_more : (b : PlainBlock) (ps far : List PlainProcess) (q : PlainProcess) (u : Unset) → IsUnsetAmong b ps far u → IsUnsetAmong b ps (far ++ q ∷ []) u
+among_more b ps far q u (p, among, is, first) = (p, among, is, first_more far p q u.path.steps.items first)
+
+-- one process more, no path of which reads a variable unset
+pub among_past : (b : PlainBlock) (ps far : List PlainProcess) (q : PlainProcess) (best : Option Unset) → IfSome best (IsUnsetAmong b ps far)
+    → IfSome best (IsUnsetAmong b ps (far ++ q ∷ []))
+among_past b ps far q None h = tt
+among_past b ps far q (Some u) h = among_more b ps far q u h
 
 -- and no path of the processes so far is shorter
 abbrev pub AreShortest : List PlainProcess → Unset → Type 0
@@ -170,6 +181,24 @@ pub shortest_more : (ps : List PlainProcess) (q : PlainProcess) (best : Option U
 shortest_more ps q best other r fewer than none before last =
     All-push (λ z. IsShortest z r.path.steps.items) ps q (shortest_before ps best r than none before)
     (shortest_for q r.path.steps.items other.path.steps.items fewer last)
+
+-- a shorter path than the best before: all those before are longer
+longer_before : (ps : List PlainProcess) (best : Option Unset) (other : Unset)
+    → IfSome best (λ one. length other.path.steps.items < length one.path.steps.items) → (best ≡ None → All NeverReadsUnset ps)
+    → IfSome best (AreShortest ps) → All (AreLonger other.path.steps.items) ps
+longer_before ps None other less none before = λ k d within path x reads. absurd (none refl k d within path x reads)
+longer_before ps (Some one) other less none before = λ k d within path x reads. omega (arith, less, before k d within path x reads)
+
+-- the path that is named is that of the first process with one as short
+pub shorter_is : (b : PlainBlock) (ps far : List PlainProcess) (q : PlainProcess) (best : Option Unset) (other r : Unset)
+    → ((r ≡ other) × IfSome best (λ one. length other.path.steps.items < length one.path.steps.items)) ⊎ (best ≡ Some r)
+    → IfSome best (IsUnsetAmong b ps far) → (best ≡ None → All NeverReadsUnset far) → IfSome best (AreShortest far)
+    → Contains ps q → IsUnset b q other → IsUnsetAmong b ps (far ++ q ∷ []) r
+shorter_is b ps far q best other r one found none before among last = elim one [
+  | inl e ↦ subst (IsUnsetAmong b ps (far ++ q ∷ [])) (sym e.0)
+      (q, among, last, record { before = far; after = []; all = refl; longer = longer_before far best other e.1 none before })
+  | inr e ↦ among_more b ps far q r (subst (λ (o : Option Unset). IfSome o (IsUnsetAmong b ps far)) e found)
+]
 
 -- what holds of each process holds of the one at a place
 pub all_at_table : (P : PlainProcess → Type 0) (ts : List the_process.Process) (ps : List PlainProcess) (i : ℕ) (t : the_process.Process)

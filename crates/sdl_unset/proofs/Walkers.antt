@@ -13,6 +13,7 @@ use Rattle.sdl_tables.specs.Names.{number_of, connector_names, states_of, is_sta
 use Rattle.sdl_sound.specs.Paths.{Event, tree_events, action_events, reads_first, sets_in}
 use Rattle.sdl_sound.specs.Chances.{Chances, no_chances, leaving, event_chances, behind, beside, last_chances, chances, choice_chances}
 use Rattle.sdl_unset.specs.Flows.{Does, Doings, mask_at, Stands, Walked, Forked, AreTold}
+use Rattle.sdl_unset.specs.declared.firsts.Firsts.{Firsts}
 use Rattle.sdl_unset.specs.declared.flow.Flow.{Flow}
 use Rattle.sdl_unset.specs.declared.walker.Walker.{Walker}
 use Rattle.sdl_unset.proofs.Bits.{has_and, has_or, has_none, has_all}
@@ -160,20 +161,20 @@ pub walked_none : (p : PlainProcess) (a : Walker) → Walked p (λ x q. leaving)
 unfolding Walked
 walked_none p a = λ h s. stands_same p h (λ x q. behind (h x q) leaving) a (λ x q. sym (behind_leaving (h x q))) s
 
-pub at_start : (p : PlainProcess) (masks : Vec ℕ) → length masks.items ≡ length (states_of p) → ((q : ℕ) → mask_at masks.items q ≡ 0)
-    → Stands p (λ x q. leaving) (record { reads = 0; leaves = 4294967295; enters = masks })
+pub at_start : (p : PlainProcess) (masks : Vec ℕ) (firsts : Firsts) → length masks.items ≡ length (states_of p) → ((q : ℕ) → mask_at masks.items q ≡ 0)
+    → Stands p (λ x q. leaving) (record { reads = 0; leaves = 4294967295; enters = masks; firsts = firsts })
 unfolding Stands
-at_start p masks count empty = (count, λ v q id lt there. (has_none v, has_all v lt, ap (λ m. has m v) (empty q) ∙ has_none v))
+at_start p masks firsts count empty = (count, λ v q id lt there. (has_none v, has_all v lt, ap (λ m. has m v) (empty q) ∙ has_none v))
 
-pub nowhere : (p : PlainProcess) (masks : Vec ℕ) → length masks.items ≡ length (states_of p) → ((q : ℕ) → mask_at masks.items q ≡ 0)
-    → Stands p (λ x q. no_chances) (record { reads = 0; leaves = 0; enters = masks })
+pub nowhere : (p : PlainProcess) (masks : Vec ℕ) (firsts : Firsts) → length masks.items ≡ length (states_of p) → ((q : ℕ) → mask_at masks.items q ≡ 0)
+    → Stands p (λ x q. no_chances) (record { reads = 0; leaves = 0; enters = masks; firsts = firsts })
 unfolding Stands
-nowhere p masks count empty = (count, λ v q id lt there. (has_none v, has_none v, ap (λ m. has m v) (empty q) ∙ has_none v))
+nowhere p masks firsts count empty = (count, λ v q id lt there. (has_none v, has_none v, ap (λ m. has m v) (empty q) ∙ has_none v))
 
-pub passed : (p : PlainProcess) (events : List Event) (w : Walker) (flow : Flow) → Does p events flow
-    → Walked p (λ x q. event_chances events x) w (record { reads = bit_or w.reads (bit_and w.leaves flow.reads); leaves = bit_and w.leaves flow.keeps; enters = w.enters })
+pub passed : (p : PlainProcess) (events : List Event) (w : Walker) (flow : Flow) (firsts : Firsts) → Does p events flow
+    → Walked p (λ x q. event_chances events x) w (record { reads = bit_or w.reads (bit_and w.leaves flow.reads); leaves = bit_and w.leaves flow.keeps; enters = w.enters; firsts = firsts })
 unfolding Walked Stands Does
-passed p events w flow d = λ f s. (
+passed p events w flow firsts d = λ f s. (
   s.0,
   λ v q id lt there.
       let b = s.1 v q id lt there in
@@ -184,7 +185,7 @@ passed p events w flow d = λ f s. (
       ),
 )
 
-pub stopped : (p : PlainProcess) (w : Walker) → Walked p (λ x q. no_chances) w (record { reads = w.reads; leaves = 0; enters = w.enters })
+pub stopped : (p : PlainProcess) (w : Walker) → Walked p (λ x q. no_chances) w (record { reads = w.reads; leaves = 0; enters = w.enters; firsts = w.firsts })
 unfolding Walked Stands
 stopped p w = λ f s. (
   s.0,
@@ -197,7 +198,7 @@ stopped p w = λ f s. (
 pub entered : (p : PlainProcess) (w : Walker) (state : ℕ) (masks : Vec ℕ) → length masks.items ≡ length w.enters.items
     → (state < length w.enters.items → (v q : ℕ) → has (mask_at masks.items q) v ≡ (has (mask_at w.enters.items q) v || (has w.leaves v && (state == q))))
     → state < length (states_of p)
-    → Walked p (λ x q. record { reads = false; leaves = false; enters = state == q }) w (record { reads = w.reads; leaves = 0; enters = masks })
+    → Walked p (λ x q. record { reads = false; leaves = false; enters = state == q }) w (record { reads = w.reads; leaves = 0; enters = masks; firsts = w.firsts })
 unfolding Walked Stands
 entered p w state masks count bits there = λ f s. (
   count ∙ s.0,
@@ -210,13 +211,13 @@ entered p w state masks count bits there = λ f s. (
       ),
 )
 
-pub joined : (p : PlainProcess) (g : Doings) (w other : Walker) (masks : Vec ℕ) → length masks.items ≡ length w.enters.items
+pub joined : (p : PlainProcess) (g : Doings) (w other : Walker) (masks : Vec ℕ) (firsts : Firsts) → length masks.items ≡ length w.enters.items
     → (length other.enters.items ≡ length w.enters.items → (v q : ℕ)
     → has (mask_at masks.items q) v ≡ (has (mask_at w.enters.items q) v || (has w.leaves v && has (mask_at other.enters.items q) v)))
     → Stands p g other
-    → Walked p g w (record { reads = bit_or w.reads (bit_and w.leaves other.reads); leaves = bit_and w.leaves other.leaves; enters = masks })
+    → Walked p g w (record { reads = bit_or w.reads (bit_and w.leaves other.reads); leaves = bit_and w.leaves other.leaves; enters = masks; firsts = firsts })
 unfolding Walked Stands
-joined p g w other masks count bits told = λ f s. (
+joined p g w other masks firsts count bits told = λ f s. (
   count ∙ s.0,
   λ v q id lt at.
       let b = s.1 v q id lt at in
@@ -238,7 +239,7 @@ unfolding Forked
 fork_start p w = (refl, stopped p w)
 
 pub fork_more : (p : PlainProcess) (f g : Doings) (old now next : Walker) (after : ℕ) → Forked p f old now after → Walked p g now next
-    → Forked p (λ x q. beside (f x q) (g x q)) old (record { reads = next.reads; leaves = old.leaves; enters = next.enters }) (bit_or after next.leaves)
+    → Forked p (λ x q. beside (f x q) (g x q)) old (record { reads = next.reads; leaves = old.leaves; enters = next.enters; firsts = next.firsts }) (bit_or after next.leaves)
 unfolding Forked Walked Stands
 fork_more p f g old now next after fork walk = (
   refl,
@@ -268,13 +269,13 @@ fork_more p f g old now next after fork walk = (
 )
 
 pub fork_end : (p : PlainProcess) (f : Doings) (old now : Walker) (after : ℕ) → Forked p f old now after
-    → Walked p f old (record { reads = now.reads; leaves = after; enters = now.enters })
+    → Walked p f old (record { reads = now.reads; leaves = after; enters = now.enters; firsts = now.firsts })
 unfolding Forked
 fork_end p f old now after fork = fork.1
 
 pub forked_same : (p : PlainProcess) (f g : Doings) (old now : Walker) (after : ℕ) → ((x : List ℕ) (q : ℕ) → f x q ≡ g x q) → Forked p f old now after → Forked p g old now after
 unfolding Forked
-forked_same p f g old now after e fork = (fork.0, walked_same p f g old (record { reads = now.reads; leaves = after; enters = now.enters }) e fork.1)
+forked_same p f g old now after e fork = (fork.0, walked_same p f g old (record { reads = now.reads; leaves = after; enters = now.enters; firsts = now.firsts }) e fork.1)
 
 -- ---- lists of statements and of answers
 

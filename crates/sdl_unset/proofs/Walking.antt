@@ -70,11 +70,11 @@ walked_end p told t ss i e a b c same past off v w =
 
 pub forked_more : (p : PlainProcess) (told : Told) (list : List Answer) (i : ℕ) (answer : Answer) (old now next : Walker) (after : ℕ) → i < length list → answer ≡ get_or list i answer
     → Forked p (choice_doings p told (answers_before (take i list) nothing_else)) old now after → Walked p (text_doings p told (text_of answer.body)) now next
-    → Forked p (choice_doings p told (answers_before (take (i + 1) list) nothing_else)) old (record { reads = next.reads; leaves = old.leaves; enters = next.enters }) (bit_or after next.leaves)
+    → Forked p (choice_doings p told (answers_before (take (i + 1) list) nothing_else)) old (record { reads = next.reads; leaves = old.leaves; enters = next.enters; firsts = next.firsts }) (bit_or after next.leaves)
 forked_more p told list i answer old now next after within is fork w =
     let done = map plain_answer (take i list) in
     let all : map plain_answer (take (i + 1) list) ≡ done ++ plain_answer answer ∷ [] = map_more plain_answer list i answer within ∙ sym (ap (λ u. done ++ plain_answer u ∷ []) is) in
-    let new : Walker = record { reads = next.reads; leaves = old.leaves; enters = next.enters } in
+    let new : Walker = record { reads = next.reads; leaves = old.leaves; enters = next.enters; firsts = next.firsts } in
     forked_same p (λ x q. beside (choice_doings p told (all_answers done nothing_else) x q) (text_doings p told (text_of answer.body) x q))
     (choice_doings p told (answers_before (take (i + 1) list) nothing_else)) old new (bit_or after next.leaves)
     (λ x q.
@@ -87,10 +87,10 @@ forked_more p told list i answer old now next after within is fork w =
 pub forked_through : (p : PlainProcess) (told : Told) (d : Decision) (list : List Answer) (i : ℕ) (old now : Walker) (after : ℕ)
     → list ≡ (out-Decision d).answers.items → length list ≤ i → (out-Decision d).otherwise ≡ None
     → Forked p (choice_doings p told (answers_before (take i list) nothing_else)) old now after
-    → Walked p (choice_doings p told (choice_of d)) old (record { reads = now.reads; leaves = after; enters = now.enters })
+    → Walked p (choice_doings p told (choice_of d)) old (record { reads = now.reads; leaves = after; enters = now.enters; firsts = now.firsts })
 forked_through p told d list i old now after same past none fork =
     let all : take i list ≡ (out-Decision d).answers.items = take_all i list past ∙ same in
-    let new : Walker = record { reads = now.reads; leaves = after; enters = now.enters } in
+    let new : Walker = record { reads = now.reads; leaves = after; enters = now.enters; firsts = now.firsts } in
     walked_same p (choice_doings p told (answers_before (take i list) nothing_else)) (choice_doings p told (choice_of d)) old new
     (λ x q.
     ap (λ (some : List Answer). choice_chances (states_of p) (told x q) x q (answers_before some nothing_else)) all
@@ -101,14 +101,14 @@ forked_through p told d list i old now after same past none fork =
 pub forked_else : (p : PlainProcess) (told : Told) (d : Decision) (list : List Answer) (i : ℕ) (body : Transition) (old now next : Walker) (after : ℕ)
     → list ≡ (out-Decision d).answers.items → length list ≤ i → (out-Decision d).otherwise ≡ Some body
     → Forked p (choice_doings p told (answers_before (take i list) nothing_else)) old now after → Walked p (text_doings p told (text_of body)) now next
-    → Walked p (choice_doings p told (choice_of d)) old (record { reads = next.reads; leaves = bit_or after next.leaves; enters = next.enters })
+    → Walked p (choice_doings p told (choice_of d)) old (record { reads = next.reads; leaves = bit_or after next.leaves; enters = next.enters; firsts = next.firsts })
 forked_else p told d list i body old now next after same past there fork w =
     let all : take i list ≡ (out-Decision d).answers.items = take_all i list past ∙ same in
     let some = choice_doings p told (answers_before (take i list) nothing_else) in
     let last = text_doings p told (text_of body) in
     let both : Doings = λ x q. beside (some x q) (last x q) in
-    let new : Walker = record { reads = next.reads; leaves = bit_or after next.leaves; enters = next.enters } in
-    let middle : Walker = record { reads = next.reads; leaves = old.leaves; enters = next.enters } in
+    let new : Walker = record { reads = next.reads; leaves = bit_or after next.leaves; enters = next.enters; firsts = next.firsts } in
+    let middle : Walker = record { reads = next.reads; leaves = old.leaves; enters = next.enters; firsts = next.firsts } in
     walked_same p both (choice_doings p told (choice_of d)) old new
     (λ x q.
     ap (λ (u : List Answer). beside (choice_chances (states_of p) (told x q) x q (answers_before u nothing_else)) (last x q)) all
@@ -118,7 +118,7 @@ forked_else p told d list i body old now next after same past there fork w =
 
 -- the same by other names
 pub leaving_at : (p : PlainProcess) (f : Doings) (old now w : Walker) (after a : ℕ) → w ≡ now → a ≡ after
-    → Walked p f old (record { reads = now.reads; leaves = after; enters = now.enters }) → Walked p f old (record { reads = w.reads; leaves = a; enters = w.enters })
+    → Walked p f old (record { reads = now.reads; leaves = after; enters = now.enters; firsts = now.firsts }) → Walked p f old (record { reads = w.reads; leaves = a; enters = w.enters; firsts = w.firsts })
 leaving_at p f old now w after a same is h =
-    subst (λ (u : Walker). Walked p f old (record { reads = u.reads; leaves = a; enters = u.enters })) (sym same)
-    (subst (λ (m : ℕ). Walked p f old (record { reads = now.reads; leaves = m; enters = now.enters })) (sym is) h)
+    subst (λ (u : Walker). Walked p f old (record { reads = u.reads; leaves = a; enters = u.enters; firsts = u.firsts })) (sym same)
+    (subst (λ (m : ℕ). Walked p f old (record { reads = now.reads; leaves = m; enters = now.enters; firsts = now.firsts })) (sym is) h)

@@ -56,7 +56,7 @@ Walked p c old new = (f : Doings) → Stands p f old → Stands p (λ x q. behin
 -- leave together.
 unfoldable pub Forked : PlainProcess → Doings → Walker → Walker → ℕ → Type 0
 Forked p c old now after =
-    (now.leaves ≡ old.leaves) × Walked p c old (record { reads = now.reads; leaves = after; enters = now.enters })
+    (now.leaves ≡ old.leaves) × Walked p c old (record { reads = now.reads; leaves = after; enters = now.enters; firsts = now.firsts })
 
 -- The walkers of the connections, by number, say what may happen in each. In a connection that isn't there nothing may.
 unfoldable pub AreTold : PlainProcess → (List ℕ → ℕ → List ℕ → Chances) → List Walker → Type 0

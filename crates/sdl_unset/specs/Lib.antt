@@ -1,4 +1,5 @@
 pub mod Fates
+pub mod Firsts
 pub mod Flows
 pub mod Graphs
 pub mod Surveys

@@ -4,7 +4,7 @@ use Rattle.std.specs.List.{AllZip}
 use Rattle.std.specs.Global.{Vec}
 use Rattle.sdl_ast.specs.Plain.{PlainProcess, PlainBlock}
 use Rattle.sdl_tables.specs.Names.{processes_of}
-use Rattle.sdl_sound.specs.Paths.{ReadsUnset, IsShortest, NeverReadsUnset}
+use Rattle.sdl_sound.specs.Paths.{ReadsUnset, IsShortest, IsFirstWith, NeverReadsUnset}
 use Rattle.sdl_sound.specs.Settled.{AreSettled}
 use Rattle.sdl_sound.specs.Spellings.{AreDeclared}
 use Rattle.sdl_unset.specs.declared.settled.Unset.{Unset}
@@ -27,3 +27,4 @@ abbrev pub AreSurveys : PlainBlock → Result (Vec (Vec ℕ)) Unset → Type 0
 AreSurveys b (Ok sets) = AllSettled (processes_of b) sets.items × All NeverReadsUnset (processes_of b)
 AreSurveys b (Err u) =
     (p : PlainProcess) × Contains (processes_of b) p × IsUnset b p u × All (λ q. IsShortest q u.path.steps.items) (processes_of b)
+    × IsFirstWith (processes_of b) p u.path.steps.items

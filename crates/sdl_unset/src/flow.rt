@@ -9,6 +9,7 @@ ghost use Rattle.sdl_tables.specs.Rows.{variable_of};
 ghost use Rattle.sdl_sound.specs.Paths.{Event, reads, sets, tree_events, assignment_events, sending_events, action_events, initial_sets};
 ghost use Rattle.sdl_unset.specs.Flows.{Tells, Does, place_events};
 
+use crate::firsts::Firsts;
 use sdl_ast::{Action, Assignment, Expression, Identifier, Sending};
 use sdl_lex::Name;
 use sdl_tables::{ProcessTable, Variable};
@@ -20,6 +21,8 @@ pub(crate) struct Flow {
     pub reads: u32,
     /// What it doesn't set.
     pub keeps: u32,
+    /// Where it first reads them so.
+    pub firsts: Firsts,
 }
 
 impl Flow {
@@ -30,6 +33,7 @@ impl Flow {
         Flow {
             reads: 0,
             keeps: u32::MAX,
+            firsts: Firsts::none(),
         }
     }
 
@@ -40,6 +44,7 @@ impl Flow {
         Flow {
             reads: self.reads | (self.keeps & next.reads),
             keeps: self.keeps & next.keeps,
+            firsts: self.firsts.followed_by(self.keeps, &next.firsts),
         }
     }
 }
@@ -56,12 +61,14 @@ fn bit(table: &ProcessTable, name: Name) -> u32
     }
 }
 
-fn read(table: &ProcessTable, name: Name) -> Flow
-    ensures { Does (process_of table.now) (reads name ∷ []) result }
+fn read(table: &ProcessTable, id: Identifier) -> Flow
+    ensures { Does (process_of table.now) (reads id.name ∷ []) result }
 {
+    let reads = bit(table, id.name);
     Flow {
-        reads: bit(table, name),
+        reads,
         keeps: u32::MAX,
+        firsts: Firsts::read(reads, id.at),
     }
 }
 
@@ -71,6 +78,7 @@ fn set(table: &ProcessTable, name: Name) -> Flow
     Flow {
         reads: 0,
         keeps: !bit(table, name),
+        firsts: Firsts::none(),
     }
 }
 
@@ -80,7 +88,7 @@ pub(crate) fn expression_flow(table: &ProcessTable, expression: &Expression) -> 
     match expression {
         Expression::Number { .. } => Flow::empty(),
         Expression::Truth { .. } => Flow::empty(),
-        Expression::Variable { name, .. } => read(table, name.name),
+        Expression::Variable { name, .. } => read(table, *name),
         Expression::Unary { operand, .. } => expression_flow(table, operand),
         Expression::Binary { left, right, .. } => {
             expression_flow(table, left).followed_by(expression_flow(table, right))

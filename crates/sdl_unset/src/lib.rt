@@ -1,12 +1,13 @@
 //! Whether a control path reads a variable before it is set (S11), and by which path; if none does, what is set in each state.
 #![tactic(auto)]
 
+mod firsts;
 mod flow;
 mod laws;
+mod places;
 mod search;
 mod sets;
 mod settled;
-mod sight;
 mod spelled;
 mod summaries;
 mod walker;

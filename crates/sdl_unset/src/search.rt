@@ -1,5 +1,5 @@
 //! Which variables of a process a control path reads before they are set, and which of them is named.
-ghost use Rattle.std.specs.Prelude.{◌≡◌, ◌⊎◌, [], ◌≤◌, true, false, Some, length, IfOk, IfSome, IfNone};
+ghost use Rattle.std.specs.Prelude.{◌≡◌, ◌⊎◌, [], ℕ, List, ◌≤◌, true, false, Some, length, IfOk, IfSome, IfNone};
 ghost use Rattle.sdl_ast.specs.Plain.{PlainBlock};
 ghost use Rattle.sdl_ast.specs.Views.{process_of};
 ghost use Rattle.sdl_sound.specs.Names.{process_unknown};
@@ -7,28 +7,30 @@ ghost use Rattle.sdl_sound.specs.Actions.{in_statements};
 ghost use Rattle.sdl_sound.specs.Decisions.{statement_unanswered};
 ghost use Rattle.sdl_sound.specs.Orders.{IsOrder};
 ghost use Rattle.sdl_tables.specs.Names.{variables_of};
+ghost use Rattle.sdl_unset.specs.Flows.{AreJoined};
 ghost use Rattle.sdl_unset.specs.Fates.{AreFates, AreSet, IsUnsetAt, fate_path, HasFewest};
 
 use crate::summaries::graph_of;
+use crate::walker::Walker;
 use sdl_tables::ProcessTable;
 use std::alloc::{AllocError, Global};
 use std::cmp::Ordering;
 use unset_paths::{Fate, first_unset};
 
-/// What becomes of each variable of a process, by number. The order is one of its connections, each behind those that it
-/// joins.
+/// What becomes of each variable of a process, by number. The walkers are those of its connections.
 pub(crate) fn find_fates(
     alloc: Global,
     table: &ProcessTable,
-    order: &[usize],
+    walkers: &[Walker],
 ) -> Result<Vec<Fate>, AllocError>
     requires few { length (variables_of (process_of table.now)) ≤ 32 }
     requires known { (b : PlainBlock) × (process_unknown b (process_of table.now) ≡ []) }
     requires answered { in_statements (λ from. statement_unanswered (variables_of (process_of table.now))) (process_of table.now) ≡ [] }
-    requires order { IsOrder (process_of table.now) order.now }
+    requires order { (order : List ℕ) × IsOrder (process_of table.now) order }
+    requires joined { AreJoined (process_of table.now) walkers.now }
     ensures { IfOk result (λ v. AreFates (process_of table.now) v.items) }
 {
-    let graph = graph_of(alloc, table, order)?;
+    let graph = graph_of(alloc, table, walkers)?;
     let mut fates = Vec::new(alloc);
     for variable in 0..table.rows().len() {
         fates.push(first_unset(alloc, &graph, variable as u32)?)?;

@@ -1,5 +1,5 @@
 //! Whether control paths read variables before they are set, and if none does, what is set in each state.
-ghost use Rattle.std.specs.Prelude.{◌≡◌, ◌⊎◌, ◌≤◌, [], Some, length, IfOk, IfSome};
+ghost use Rattle.std.specs.Prelude.{◌≡◌, ◌⊎◌, ◌<◌, ◌≤◌, [], Some, length, IfOk, IfSome};
 ghost use Rattle.sdl_ast.specs.Views.{process_of, block_of};
 ghost use Rattle.sdl_tables.specs.Names.{variables_of, processes_of};
 ghost use Rattle.sdl_sound.specs.Names.{process_unknown};
@@ -9,10 +9,11 @@ ghost use Rattle.sdl_sound.specs.Orders.{IsOrder, AreOrders};
 ghost use Rattle.sdl_sound.specs.Refusals.{IsWithin};
 ghost use Rattle.sdl_unset.specs.Surveys.{IsSurvey, AreSurveys};
 
+use crate::places::read_places;
 use crate::search::{find_fates, find_first, path_at};
 use crate::sets::sets_in;
-use crate::sight::read_places;
 use crate::spelled::named_path;
+use crate::walks::connection_walkers;
 use sdl_lex::Name;
 use sdl_sound::ControlPath;
 use sdl_tables::{BlockTable, ProcessTable};
@@ -38,8 +39,9 @@ fn survey(
     requires order { IsOrder (process_of table.now) order.now }
     ensures { IfOk result (IsSurvey (block_of block.now) (process_of table.now)) }
 {
-    let fates = find_fates(alloc, table, order)?;
-    let places = read_places(alloc, table, order, &fates)?;
+    let walkers = connection_walkers(alloc, table, order)?;
+    let fates = find_fates(alloc, table, &walkers)?;
+    let places = read_places(alloc, table, &walkers, &fates)?;
     match find_first(&fates, &places) {
         None => {
             let sets = sets_in(alloc, &fates, table.states().len())?;
@@ -55,7 +57,7 @@ fn survey(
 
 /// The one of two that is named: the one with fewer transitions, or else the first.
 fn shorter(best: Option<Unset>, other: Unset) -> Unset
-    ensures one { (result ≡ other) ⊎ (best ≡ Some result) }
+    ensures one { ((result ≡ other) × IfSome best (λ one. length other.path.steps.items < length one.path.steps.items)) ⊎ (best ≡ Some result) }
     ensures fewer { length result.path.steps.items ≤ length other.path.steps.items }
     ensures best { IfSome best (λ one. length result.path.steps.items ≤ length one.path.steps.items) }
 {

@@ -17,7 +17,7 @@ ghost use Rattle.sdl_unset.specs.Flows.{Does, Stands, AreTold, AreJoined, text_d
 
 use crate::flow::{Flow, initials_flow, places_flow};
 use crate::walker::Walker;
-use crate::walks::{connection_walkers, walk_transition};
+use crate::walks::walk_transition;
 use sdl_ast::{InputPart, Stimulus, Transition};
 use sdl_sound::standing_inputs;
 use sdl_tables::ProcessTable;
@@ -41,7 +41,7 @@ fn passages(alloc: Global, masks: &[u32]) -> Result<Vec<Passage>, AllocError>
 }
 
 /// The walker at the end of a transition: the same for each signal that its INPUT names.
-fn text_walker(
+pub(crate) fn text_walker(
     alloc: Global,
     table: &ProcessTable,
     walkers: &[Walker],
@@ -164,22 +164,22 @@ fn state_summaries(
     Ok(states_summaries)
 }
 
-/// The graph of a process: what the walks of each of its transitions do with its variables, by number. The order is one
-/// of its connections, each behind those that it joins.
+/// The graph of a process: what the walks of each of its transitions do with its variables, by number. The walkers
+/// are those of its connections.
 pub(crate) fn graph_of(
     alloc: Global,
     table: &ProcessTable,
-    order: &[usize],
+    walkers: &[Walker],
 ) -> Result<Graph, AllocError>
     requires few { length (variables_of (process_of table.now)) ≤ 32 }
     requires known { (b : PlainBlock) × (process_unknown b (process_of table.now) ≡ []) }
     requires answered { in_statements (λ from. statement_unanswered (variables_of (process_of table.now))) (process_of table.now) ≡ [] }
-    requires order { IsOrder (process_of table.now) order.now }
+    requires order { (order : List ℕ) × IsOrder (process_of table.now) order }
+    requires joined { AreJoined (process_of table.now) walkers.now }
     ensures { IfOk result (λ g. IsGraphOf (process_of table.now) g) }
 {
-    let walkers = connection_walkers(alloc, table, order)?;
-    let start = start_summary(alloc, table, &walkers)?;
+    let start = start_summary(alloc, table, walkers)?;
     let inputs = standing_inputs(alloc, table)?;
-    let states = state_summaries(alloc, table, &walkers, &inputs)?;
+    let states = state_summaries(alloc, table, walkers, &inputs)?;
     Ok(Graph { start, states })
 }

@@ -7,6 +7,7 @@ ghost use Rattle.sdl_sound.specs.Paths.{Event, reads};
 ghost use Rattle.sdl_sound.specs.Chances.{no_chances, leaving, event_chances};
 ghost use Rattle.sdl_unset.specs.Flows.{Does, mask_at, Doings, Stands, Walked};
 
+use crate::firsts::Firsts;
 use crate::flow::Flow;
 use std::alloc::{AllocError, Global};
 
@@ -19,6 +20,8 @@ pub(crate) struct Walker {
     pub leaves: u32,
     /// For each state by number: some walk ends in the state, and doesn't set it.
     pub enters: Vec<u32>,
+    /// Where walks first read it so.
+    pub firsts: Firsts,
 }
 
 fn empty_masks(alloc: Global, count: usize) -> Result<Vec<u32>, AllocError>
@@ -72,6 +75,7 @@ impl Walker {
             reads: 0,
             leaves: u32::MAX,
             enters,
+            firsts: Firsts::none(),
         })
     }
 
@@ -84,6 +88,7 @@ impl Walker {
             reads: 0,
             leaves: 0,
             enters,
+            firsts: Firsts::none(),
         })
     }
 
@@ -92,6 +97,7 @@ impl Walker {
         ensures { (p : PlainProcess) (events : List Event) → Does p events flow → Walked p (λ x q. event_chances events x) self.old self.new }
     {
         self.reads |= self.leaves & flow.reads;
+        self.firsts = self.firsts.followed_by(self.leaves, &flow.firsts);
         self.leaves &= flow.keeps;
     }
 
@@ -116,6 +122,7 @@ impl Walker {
         ensures { (p : PlainProcess) (c : Doings) → Stands p c other.now → Walked p c self.old self.new }
     {
         self.reads |= self.leaves & other.reads;
+        self.firsts = self.firsts.followed_by(self.leaves, &other.firsts);
         add_masks(&mut self.enters, self.leaves, &other.enters);
         self.leaves &= other.leaves;
     }

@@ -3,4 +3,4 @@ use Rattle.sdl_unset.proofs.Bits.{does_read}
 use Rattle.sdl_unset.proofs.flow.read.Goals as goal
 
 pub returns : goal.returns
-returns c = does_read (process_of c.args.table.now) c.args.name c.bit.result c.bit.ensures
+returns c = does_read _ (process_of c.args.table.now) c.args.id.name c.bit-reads.result c.bit-reads.ensures

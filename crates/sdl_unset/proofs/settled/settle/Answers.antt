@@ -9,7 +9,7 @@ use Rattle.sdl_sound.specs.Orders.{IsOrder}
 use Rattle.sdl_sound.specs.Paths.{NeverReadsUnset}
 use Rattle.sdl_sound.specs.Settled.{AreSettled}
 use Rattle.sdl_unset.specs.Surveys.{IsSurvey, AllSettled}
-use Rattle.sdl_unset.proofs.Surveying.{within_few, within_known, within_answered, order_within, order_at, plain, all_at_table, plain_more, contains_process, shorter_is, shortest_past, shortest_more, IsUnsetAmong, some_unset}
+use Rattle.sdl_unset.proofs.Surveying.{within_few, within_known, within_answered, order_within, order_at, plain, all_at_table, plain_more, contains_process, among_past, shorter_is, shortest_past, shortest_more, some_unset}
 use Rattle.sdl_unset.proofs.Searches.{all_zip_push}
 use Rattle.sdl_unset.proofs.settled.settle.Goals as goal
 use Rattle.sdl_unset.proofs.settled.settle.Goals.{in-Ok+in_ok-push-in-Ok, in-Err}
@@ -50,7 +50,7 @@ loop-number-preserved c =
       | in-Ok+in_ok-push-in-Ok w ↦
           let told : IsSurvey b (process_of t) (Ok w.in-Ok.set) = subst (IsSurvey b (process_of t)) w.in-Ok.is c.in_ok-set.ensures in
           rw (w.best-is, w.sets-is, more) (record {
-            found = c.loop-number.invariant.found;
+            found = among_past b (plain ts) (plain (take k ts)) (process_of t) c.loop-number.best c.loop-number.invariant.found;
             fewest = shortest_past (plain (take k ts)) (process_of t) c.loop-number.best told.1 c.loop-number.invariant.fewest;
             sets = λ e.
                 subst (λ (l : List (Vec ℕ Global)). AllSettled (plain (take k ts) ++ process_of t ∷ []) l) (sym w.in_ok-push-in-Ok.ensures.items)
@@ -60,10 +60,10 @@ loop-number-preserved c =
           })
       | in-Err w ↦
           let told : IsSurvey b (process_of t) (Err w.in-Err.unset) = subst (IsSurvey b (process_of t)) w.in-Err.is c.in_ok-set.ensures in
-          let last : IsUnsetAmong b (plain ts) w.in-Err.unset =
-          (process_of t, contains_process ts k t c.loop-number-test.true c.index-tables-number.is, told.0) in
           rw (w.best-is, w.sets-is, more) (record {
-            found = shorter_is b (plain ts) c.loop-number.best w.in-Err.unset w.shorter.result w.shorter.ensures.one c.loop-number.invariant.found last;
+            found = shorter_is b (plain ts) (plain (take k ts)) (process_of t) c.loop-number.best w.in-Err.unset w.shorter.result w.shorter.ensures.one
+                c.loop-number.invariant.found c.loop-number.invariant.none c.loop-number.invariant.fewest
+                (contains_process ts k t c.loop-number-test.true c.index-tables-number.is) told.0;
             fewest = shortest_more (plain (take k ts)) (process_of t) c.loop-number.best w.in-Err.unset w.shorter.result w.shorter.ensures.fewer w.shorter.ensures.best
                 c.loop-number.invariant.none c.loop-number.invariant.fewest told.1;
             sets = λ e. absurd (some_unset w.shorter.result e);

@@ -8,7 +8,7 @@ use Rattle.sdl_unset.proofs.settled.settle.Given as goal
 
 abbrev pub invariant-loop-number : goal.invariant-loop-number
 invariant-loop-number l = record {
-  found : IfSome l.best (IsUnsetAmong (block_of l.block) (plain l.tables));
+  found : IfSome l.best (IsUnsetAmong (block_of l.block) (plain l.tables) (plain (take l.number l.tables)));
   fewest : IfSome l.best (AreShortest (plain (take l.number l.tables)));
   sets : l.best ≡ None → AllSettled (plain (take l.number l.tables)) l.sets.items;
   none : l.best ≡ None → All NeverReadsUnset (plain (take l.number l.tables));

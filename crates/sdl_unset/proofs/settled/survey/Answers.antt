@@ -14,9 +14,9 @@ returns-in-None c =
     let p = process_of c.args.table.now in
     let fates = c.in_ok-fates.fates.items in
     let a : AreFates p fates = c.in_ok-fates.ensures in
-    let shown : AreSet c.deref-2.result.now =
-    subst (λ (o : Option ℕ). IfNone o (AreSet c.deref-2.result.now)) c.in-None.is c.find_first.ensures.none in
-    let set : AreSet fates = subst AreSet c.deref-2.ensures.value shown in
+    let shown : AreSet c.deref-4.result.now =
+    subst (λ (o : Option ℕ). IfNone o (AreSet c.deref-4.result.now)) c.in-None.is c.find_first.ensures.none in
+    let set : AreSet fates = subst AreSet c.deref-4.ensures.value shown in
     let count : length c.in_ok-sets-in-None.sets.items ≡ length (states_of p) =
     c.in_ok-sets-in-None.ensures.count ∙ (c.len.ensures ∙ ap length c.states.ensures) in
     let bits : AreBits fates c.in_ok-sets-in-None.sets.items =
@@ -26,10 +26,10 @@ returns-in-None c =
 pub name-variable-requires : goal.name-variable-requires
 name-variable-requires c =
     let p = process_of c.args.table.now in
-    let shown : IsUnsetAt c.deref-2.result.now c.in-Some.number =
-    subst (λ (o : Option ℕ). IfSome o (IsUnsetAt c.deref-2.result.now)) c.in-Some.is c.find_first.ensures.found in
+    let shown : IsUnsetAt c.deref-4.result.now c.in-Some.number =
+    subst (λ (o : Option ℕ). IfSome o (IsUnsetAt c.deref-4.result.now)) c.in-Some.is c.find_first.ensures.found in
     let unset : IsUnsetAt c.in_ok-fates.fates.items c.in-Some.number =
-    subst (λ (l : List Fate). IsUnsetAt l c.in-Some.number) c.deref-2.ensures.value shown in
+    subst (λ (l : List Fate). IsUnsetAt l c.in-Some.number) c.deref-4.ensures.value shown in
     let within : c.in-Some.number < length (variable_names p) = number_within p c.in_ok-fates.fates.items c.in-Some.number c.in_ok-fates.ensures unset in
     omega (arith, within, ap length c.variables.ensures)
 
@@ -38,9 +38,9 @@ named_path-requires c =
     let p = process_of c.args.table.now in
     let fates = c.in_ok-fates.fates.items in
     let n = c.in-Some.number in
-    let shown : IsUnsetAt c.deref-2.result.now n =
-    subst (λ (o : Option ℕ). IfSome o (IsUnsetAt c.deref-2.result.now)) c.in-Some.is c.find_first.ensures.found in
-    let unset : IsUnsetAt fates n = subst (λ (l : List Fate). IsUnsetAt l n) c.deref-2.ensures.value shown in
+    let shown : IsUnsetAt c.deref-4.result.now n =
+    subst (λ (o : Option ℕ). IfSome o (IsUnsetAt c.deref-4.result.now)) c.in-Some.is c.find_first.ensures.found in
+    let unset : IsUnsetAt fates n = subst (λ (l : List Fate). IsUnsetAt l n) c.deref-4.ensures.value shown in
     let path : c.path_at.result.now ≡ fate_path fates n = c.path_at.ensures ∙ ap (λ (l : List Fate). fate_path l n) c.deref-in-Some.ensures.value in
     survey_steps p fates n c.in_ok-fates.ensures unset c.path_at.result.now path
 
@@ -49,17 +49,17 @@ returns c =
     let p = process_of c.args.table.now in
     let fates = c.in_ok-fates.fates.items in
     let n = c.in-Some.number in
-    let shown : IsUnsetAt c.deref-2.result.now n =
-    subst (λ (o : Option ℕ). IfSome o (IsUnsetAt c.deref-2.result.now)) c.in-Some.is c.find_first.ensures.found in
-    let unset : IsUnsetAt fates n = subst (λ (l : List Fate). IsUnsetAt l n) c.deref-2.ensures.value shown in
+    let shown : IsUnsetAt c.deref-4.result.now n =
+    subst (λ (o : Option ℕ). IfSome o (IsUnsetAt c.deref-4.result.now)) c.in-Some.is c.find_first.ensures.found in
+    let unset : IsUnsetAt fates n = subst (λ (l : List Fate). IsUnsetAt l n) c.deref-4.ensures.value shown in
     let path : c.path_at.result.now ≡ fate_path fates n = c.path_at.ensures ∙ ap (λ (l : List Fate). fate_path l n) c.deref-in-Some.ensures.value in
     let var : slice_get (variable_names p) n ≡ Some c.name-variable.result =
     ap (λ (ids : List Identifier). slice_get ids n) (sym c.variables.ensures) ∙ c.name-variable.ensures in
     let steps = c.in_ok-path-in-Some.path.steps.items in
     let named = c.in_ok-path-in-Some.ensures.named in
-    let first : HasFewest c.deref-2.result.now n =
-    subst (λ (o : Option ℕ). IfSome o (HasFewest c.deref-2.result.now)) c.in-Some.is c.find_first.ensures.fewest in
-    let fewest : HasFewest fates n = subst (λ (l : List Fate). HasFewest l n) c.deref-2.ensures.value first in (
+    let first : HasFewest c.deref-4.result.now n =
+    subst (λ (o : Option ℕ). IfSome o (HasFewest c.deref-4.result.now)) c.in-Some.is c.find_first.ensures.fewest in
+    let fewest : HasFewest fates n = subst (λ (l : List Fate). HasFewest l n) c.deref-4.ensures.value first in (
       (
         survey_reads p fates n c.in_ok-fates.ensures unset c.path_at.result.now path c.name-variable.result var steps named,
         survey_names (block_of c.args.block.now) p n c.name-variable.result c.path_at.result.now steps c.requires.known var named c.in_ok-path-in-Some.ensures.spelled,

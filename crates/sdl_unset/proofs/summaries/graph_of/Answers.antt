@@ -11,6 +11,6 @@ use Rattle.sdl_unset.proofs.summaries.graph_of.Goals as goal
 pub returns : goal.returns
 returns c =
     let p = process_of c.args.table.now in
-    let states = subst (λ (inputs : List (List Input)). AllZip (AreSummariesBy p) inputs c.in_ok-states.states.items) (ap (map taken_in) c.deref-3.ensures.value ∙ c.in_ok-inputs.ensures) c.in_ok-states.ensures in
-    graph_is p c.args.order.now (record { start = c.in_ok-start.start; states = c.in_ok-states.states })
-    (fine_process c.requires.known.0 p c.requires.known.1 c.requires.answered) c.requires.order c.in_ok-start.ensures states
+    let states = subst (λ (inputs : List (List Input)). AllZip (AreSummariesBy p) inputs c.in_ok-states.states.items) (ap (map taken_in) c.deref.ensures.value ∙ c.in_ok-inputs.ensures) c.in_ok-states.ensures in
+    graph_is p c.requires.order.0 (record { start = c.in_ok-start.start; states = c.in_ok-states.states })
+    (fine_process c.requires.known.0 p c.requires.known.1 c.requires.answered) c.requires.order.1 c.in_ok-start.ensures states
