@@ -7,11 +7,11 @@ use Rattle.std.proofs.lemmas.Bool.Decides.{nat_tests}
 use Rattle.std.proofs.lemmas.List.{length-map}
 use Rattle.std.proofs.lemmas.List.Elements.{All-nil, All-contains}
 use mathlib.Core.List.{reverse_aux}
-use Rattle.sdl_tree.specs.declared.expression.Identifier.{Identifier}
-use Rattle.sdl_tree.specs.declared.tree.Sort as tree_sort
-use Rattle.sdl_tree.specs.declared.tree.Sort.TheVariants as tree_sorts
-use Rattle.sdl_tree.specs.declared.tree.Destination.{Destination}
-use Rattle.sdl_tree.specs.Plain.{Tree, PlainAssignment, PlainSending, PlainAction, task, output, set_timer, reset_timer}
+use Rattle.sdl_ast.specs.declared.expression.Identifier.{Identifier}
+use Rattle.sdl_ast.specs.declared.tree.Sort as tree_sort
+use Rattle.sdl_ast.specs.declared.tree.Sort.TheVariants as tree_sorts
+use Rattle.sdl_ast.specs.declared.tree.Destination.{Destination}
+use Rattle.sdl_ast.specs.Plain.{Tree, PlainAssignment, PlainSending, PlainAction, task, output, set_timer, reset_timer}
 use Rattle.turn_code.specs.declared.value.Sort.{Sort}
 use Rattle.turn_code.specs.declared.value.Sort.TheVariants.{Integer}
 use Rattle.turn_code.specs.declared.instruction.Receiver.{Receiver}

@@ -2,14 +2,14 @@
 use Rattle.std.proofs.Common.{◌≡◌, ℕ, suc, ◌+◌, ◌-◌, ◌<◌, ◌≤◌, Bool, true, false, cond, ◌&&◌, ◌||◌, List, [], ◌∷◌, ◌++◌, length, map, Option, Some, None, IsSome, refl, sym, ap, ◌∙◌, subst, arith, length-append}
 use Rattle.std.specs.Prelude.{slice_get, ℤ, not}
 use Rattle.std.specs.List.{list_any}
-use Rattle.sdl_tree.specs.declared.expression.Identifier.{Identifier}
-use Rattle.sdl_tree.specs.declared.tree.Literal.{Literal}
-use Rattle.sdl_tree.specs.declared.tree.Literal.TheVariants as literals
-use Rattle.sdl_tree.specs.declared.tree.Constant.{Constant}
-use Rattle.sdl_tree.specs.declared.tree.Range.{Range}
-use Rattle.sdl_tree.specs.declared.tree.Range.TheVariants.{Value as IsValue, Compared, Between}
-use Rattle.sdl_tree.specs.declared.tree.Sort.TheVariants.{Integer, Boolean}
-use Rattle.sdl_tree.specs.Plain.{Tree, Text, Choice, nothing_else, otherwise, answer}
+use Rattle.sdl_ast.specs.declared.expression.Identifier.{Identifier}
+use Rattle.sdl_ast.specs.declared.tree.Literal.{Literal}
+use Rattle.sdl_ast.specs.declared.tree.Literal.TheVariants as literals
+use Rattle.sdl_ast.specs.declared.tree.Constant.{Constant}
+use Rattle.sdl_ast.specs.declared.tree.Range.{Range}
+use Rattle.sdl_ast.specs.declared.tree.Range.TheVariants.{Value as IsValue, Compared, Between}
+use Rattle.sdl_ast.specs.declared.tree.Sort.TheVariants.{Integer, Boolean}
+use Rattle.sdl_ast.specs.Plain.{Tree, Text, Choice, nothing_else, otherwise, answer}
 use Rattle.turn_code.specs.declared.value.Value.{Value}
 use Rattle.turn_code.specs.declared.value.Value.TheVariants.{Int, Bool as Truth}
 use Rattle.turn_code.specs.declared.input.Input.{Input}

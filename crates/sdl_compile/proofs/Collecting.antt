@@ -1,13 +1,13 @@
 -- The JOINs of a DECISION, collected part by part.
 use Rattle.std.proofs.Common.{◌≡◌, ℕ, Bool, true, false, cond, List, [], ◌∷◌, ◌++◌, map, Option, Some, None, refl, sym, ap, ◌∙◌, append_assoc}
-use Rattle.sdl_tree.specs.declared.tree.Join.{Join}
-use Rattle.sdl_tree.specs.declared.tree.Transition.{Transition}
-use Rattle.sdl_tree.specs.declared.tree.Statement.{Statement}
-use Rattle.sdl_tree.specs.declared.tree.Statement.TheVariants.{Act, Decide}
-use Rattle.sdl_tree.specs.declared.tree.Answer.{Answer}
-use Rattle.sdl_tree.specs.declared.tree.Decision.{Decision, out-Decision}
-use Rattle.sdl_tree.specs.Plain.{Text, Choice, nothing_else, otherwise, answer, PlainAnswer, all_answers}
-use Rattle.sdl_tree.specs.Views.{plain_answer, choice_of, else_choice, statement_of, answers_before}
+use Rattle.sdl_ast.specs.declared.tree.Join.{Join}
+use Rattle.sdl_ast.specs.declared.tree.Transition.{Transition}
+use Rattle.sdl_ast.specs.declared.tree.Statement.{Statement}
+use Rattle.sdl_ast.specs.declared.tree.Statement.TheVariants.{Act, Decide}
+use Rattle.sdl_ast.specs.declared.tree.Answer.{Answer}
+use Rattle.sdl_ast.specs.declared.tree.Decision.{Decision, out-Decision}
+use Rattle.sdl_ast.specs.Plain.{Text, Choice, nothing_else, otherwise, answer, PlainAnswer, all_answers}
+use Rattle.sdl_ast.specs.Views.{plain_answer, choice_of, else_choice, statement_of, answers_before}
 use Rattle.sdl_compile.specs.Act.{Scope, is_truth}
 use Rattle.sdl_compile.specs.Scopes.{question_in}
 use Rattle.sdl_compile.specs.Placing.{decision_joins}

@@ -3,14 +3,14 @@ use Rattle.std.proofs.Common.{◌≡◌, ℕ, zero, suc, ◌+◌, ◌<◌, ◌�
 use Rattle.std.specs.Prelude.{slice_get, get_or, Contains}
 use Rattle.std.specs.List.{flat_map}
 use Rattle.std.proofs.lemmas.List.Concat.{flat_map-append}
-use Rattle.sdl_tree.specs.declared.expression.Identifier.{Identifier}
-use Rattle.sdl_tree.specs.declared.tree.Join as tree_join
-use Rattle.sdl_tree.specs.declared.tree.Sort as tree_sort
-use Rattle.sdl_tree.specs.declared.tree.Range.{Range}
-use Rattle.sdl_tree.specs.declared.tree.Range.TheVariants.{Value as IsValue, Compared, Between}
-use Rattle.sdl_tree.specs.declared.tree.End.{End}
-use Rattle.sdl_tree.specs.declared.tree.End.TheVariants.{NextState, Stop, Join}
-use Rattle.sdl_tree.specs.Plain.{Tree, PlainAction, Text, falls, ends, does, decides, Choice, nothing_else, otherwise, answer, PlainConnection}
+use Rattle.sdl_ast.specs.declared.expression.Identifier.{Identifier}
+use Rattle.sdl_ast.specs.declared.tree.Join as tree_join
+use Rattle.sdl_ast.specs.declared.tree.Sort as tree_sort
+use Rattle.sdl_ast.specs.declared.tree.Range.{Range}
+use Rattle.sdl_ast.specs.declared.tree.Range.TheVariants.{Value as IsValue, Compared, Between}
+use Rattle.sdl_ast.specs.declared.tree.End.{End}
+use Rattle.sdl_ast.specs.declared.tree.End.TheVariants.{NextState, Stop, Join}
+use Rattle.sdl_ast.specs.Plain.{Tree, PlainAction, Text, falls, ends, does, decides, Choice, nothing_else, otherwise, answer, PlainConnection}
 use Rattle.turn_code.specs.declared.value.Sort.{Sort}
 use Rattle.turn_code.specs.declared.instruction.Instruction.{Instruction}
 use Rattle.turn_code.specs.declared.instruction.Instruction.TheVariants as i

@@ -5,13 +5,13 @@ use Rattle.std.specs.List.{sum_by}
 use Rattle.std.specs.Option.{option_map, option_map_or}
 use Rattle.std.proofs.lemmas.List.Sums.{sum_by-cons}
 use Rattle.std.proofs.lemmas.List.{drop_more}
-use Rattle.sdl_tree.specs.declared.tree.Range.{Range}
-use Rattle.sdl_tree.specs.declared.tree.Answer.{Answer}
-use Rattle.sdl_tree.specs.declared.tree.Statement.{Statement}
-use Rattle.sdl_tree.specs.declared.tree.Transition.{Transition}
-use Rattle.sdl_tree.specs.declared.tree.Connection.{Connection}
-use Rattle.sdl_tree.specs.Plain.{Tree, Text, falls, ends, does, decides, Choice, nothing_else, otherwise, answer, PlainStatement, act, decide, before, PlainAnswer, all_answers, PlainConnection}
-use Rattle.sdl_tree.specs.Views.{text_of, plain_statement, plain_answer, statement_of, statements_before, answers_before, else_choice, connection_of}
+use Rattle.sdl_ast.specs.declared.tree.Range.{Range}
+use Rattle.sdl_ast.specs.declared.tree.Answer.{Answer}
+use Rattle.sdl_ast.specs.declared.tree.Statement.{Statement}
+use Rattle.sdl_ast.specs.declared.tree.Transition.{Transition}
+use Rattle.sdl_ast.specs.declared.tree.Connection.{Connection}
+use Rattle.sdl_ast.specs.Plain.{Tree, Text, falls, ends, does, decides, Choice, nothing_else, otherwise, answer, PlainStatement, act, decide, before, PlainAnswer, all_answers, PlainConnection}
+use Rattle.sdl_ast.specs.Views.{text_of, plain_statement, plain_answer, statement_of, statements_before, answers_before, else_choice, connection_of}
 use Rattle.turn_code.specs.declared.instruction.Instruction.{Instruction}
 use Rattle.sdl_tables.specs.Names.{Variable, variables_of}
 use Rattle.sdl_sound.specs.Longest.{Piece, cost_of, action_cost, size, tests_size, bodies_size}

@@ -8,11 +8,11 @@ use Rattle.std.proofs.lemmas.List.Concat.{flat_map-append}
 use Rattle.std.proofs.lemmas.List.{get_or_default}
 use Rattle.std.proofs.lemmas.List.Elements.{Contains-append_left, Contains-append_right, Contains-append_cases}
 use Rattle.std.proofs.lemmas.Option.{slice_get-get_or, get_or_from_slice_get}
-use Rattle.sdl_tree.specs.declared.tree.Join.{Join}
-use Rattle.sdl_tree.specs.declared.tree.Connection.{Connection}
-use Rattle.sdl_tree.specs.declared.tree.Process.{Process}
-use Rattle.sdl_tree.specs.Plain.{Text, falls, PlainConnection}
-use Rattle.sdl_tree.specs.Views.{text_of, connection_of, process_of}
+use Rattle.sdl_ast.specs.declared.tree.Join.{Join}
+use Rattle.sdl_ast.specs.declared.tree.Connection.{Connection}
+use Rattle.sdl_ast.specs.declared.tree.Process.{Process}
+use Rattle.sdl_ast.specs.Plain.{Text, falls, PlainConnection}
+use Rattle.sdl_ast.specs.Views.{text_of, connection_of, process_of}
 use Rattle.sdl_compile.specs.Act.{Scope, connector_at}
 use Rattle.sdl_compile.specs.Named.{NamedText, NamedConnections}
 use Rattle.sdl_compile.specs.Placing.{has, HaveNumbers}

@@ -3,12 +3,12 @@ use Rattle.std.proofs.Common.{◌≡◌, ℕ, zero, suc, ◌+◌, ◌<◌, ◌�
 use Rattle.std.specs.Prelude.{slice_get, option_map}
 use Rattle.std.specs.Option.{option_map_or}
 use Rattle.std.proofs.lemmas.Option.{slice_get-map, slice_get-get_or}
-use Rattle.sdl_tree.specs.declared.tree.Connection.{Connection}
-use Rattle.sdl_tree.specs.declared.expression.Identifier.{Identifier}
-use Rattle.sdl_tree.specs.declared.tree.Range.{Range}
-use Rattle.sdl_tree.specs.declared.tree.Transition.{Transition}
-use Rattle.sdl_tree.specs.Plain.{Tree, Text, falls, Choice, PlainConnection, nothing_else, otherwise, answer, PlainAnswer, all_answers}
-use Rattle.sdl_tree.specs.Views.{text_of, else_choice, connection_of}
+use Rattle.sdl_ast.specs.declared.tree.Connection.{Connection}
+use Rattle.sdl_ast.specs.declared.expression.Identifier.{Identifier}
+use Rattle.sdl_ast.specs.declared.tree.Range.{Range}
+use Rattle.sdl_ast.specs.declared.tree.Transition.{Transition}
+use Rattle.sdl_ast.specs.Plain.{Tree, Text, falls, Choice, PlainConnection, nothing_else, otherwise, answer, PlainAnswer, all_answers}
+use Rattle.sdl_ast.specs.Views.{text_of, else_choice, connection_of}
 use Rattle.turn_code.specs.declared.variable_set.VariableSet.{VariableSet}
 use Rattle.sdl_compile.specs.Act.{Scope, is_truth}
 use Rattle.sdl_compile.specs.Named.{NamedText, NamedChoice, NamedConnections}

@@ -5,11 +5,11 @@ use Rattle.std.specs.Prelude.{slice_get, get_or, Contains}
 use Rattle.std.specs.List.{sum_by, flat_map}
 use Rattle.std.proofs.lemmas.Bool.{cases_lt}
 use Rattle.std.proofs.lemmas.List.Sums.{sum_by-cons}
-use Rattle.sdl_tree.specs.declared.expression.Identifier.{Identifier}
-use Rattle.sdl_tree.specs.declared.tree.Join as tree_join
-use Rattle.sdl_tree.specs.Plain.{Tree, number, truth, variable, unary, binary, Text, falls, ends, does, decides, PlainConnection}
-use Rattle.sdl_tree.specs.declared.tree.End.{End}
-use Rattle.sdl_tree.specs.declared.tree.End.TheVariants.{NextState, Stop, Join}
+use Rattle.sdl_ast.specs.declared.expression.Identifier.{Identifier}
+use Rattle.sdl_ast.specs.declared.tree.Join as tree_join
+use Rattle.sdl_ast.specs.Plain.{Tree, number, truth, variable, unary, binary, Text, falls, ends, does, decides, PlainConnection}
+use Rattle.sdl_ast.specs.declared.tree.End.{End}
+use Rattle.sdl_ast.specs.declared.tree.End.TheVariants.{NextState, Stop, Join}
 use Rattle.turn_code.specs.declared.instruction.Instruction.{Instruction}
 use Rattle.turn_code.specs.declared.instruction.Instruction.TheVariants as i
 use Rattle.turn_code.specs.Code.{successors}

@@ -7,13 +7,13 @@ use Rattle.std.proofs.lemmas.List.{length-map}
 use Rattle.std.proofs.lemmas.List.Elements.{All-nil, All-cons, All-head, All-tail}
 use Rattle.std.proofs.lemmas.Option.{slice_get-map}
 use Rattle.std.proofs.lemmas.Nat.Bits.{bit_at-zero, bit_at_cat_high, bit_at_lowest}
-use Rattle.sdl_tree.specs.declared.expression.Identifier.{Identifier}
-use Rattle.sdl_tree.specs.declared.tree.Constant.{Constant}
-use Rattle.sdl_tree.specs.declared.tree.Literal as literal
-use Rattle.sdl_tree.specs.declared.tree.Literal.TheVariants as literals
-use Rattle.sdl_tree.specs.declared.tree.Sort as tree_sort
-use Rattle.sdl_tree.specs.declared.tree.Sort.TheVariants as tree_sorts
-use Rattle.sdl_tree.specs.Plain.{PlainStimulus, PlainConnection, PlainProcess}
+use Rattle.sdl_ast.specs.declared.expression.Identifier.{Identifier}
+use Rattle.sdl_ast.specs.declared.tree.Constant.{Constant}
+use Rattle.sdl_ast.specs.declared.tree.Literal as literal
+use Rattle.sdl_ast.specs.declared.tree.Literal.TheVariants as literals
+use Rattle.sdl_ast.specs.declared.tree.Sort as tree_sort
+use Rattle.sdl_ast.specs.declared.tree.Sort.TheVariants as tree_sorts
+use Rattle.sdl_ast.specs.Plain.{PlainStimulus, PlainConnection, PlainProcess}
 use Rattle.turn_code.specs.declared.value.Sort.{Sort}
 use Rattle.turn_code.specs.declared.variable_set.VariableSet.{VariableSet}
 use Rattle.turn_code.specs.declared.instruction.Instruction.{Instruction}

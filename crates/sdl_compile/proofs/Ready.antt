@@ -5,10 +5,10 @@ use Rattle.std.specs.List.{flat_map, list_all, list_any, filter, enumerate_from,
 use Rattle.std.specs.Option.{option_map}
 use Rattle.std.proofs.lemmas.Bool.Decides.{nat_tests}
 use Rattle.std.proofs.lemmas.List.{length-map}
-use Rattle.sdl_tree.specs.declared.expression.Identifier.{Identifier}
-use Rattle.sdl_tree.specs.declared.tree.Destination.{Destination}
-use Rattle.sdl_tree.specs.declared.tree.Destination.TheVariants as address
-use Rattle.sdl_tree.specs.Plain.{PlainSending, PlainAction, task, output, set_timer, reset_timer, Text, PlainStimulus, PlainInput, PlainClause, input, save, PlainState, PlainConnection, PlainProcess, PlainBlock}
+use Rattle.sdl_ast.specs.declared.expression.Identifier.{Identifier}
+use Rattle.sdl_ast.specs.declared.tree.Destination.{Destination}
+use Rattle.sdl_ast.specs.declared.tree.Destination.TheVariants as address
+use Rattle.sdl_ast.specs.Plain.{PlainSending, PlainAction, task, output, set_timer, reset_timer, Text, PlainStimulus, PlainInput, PlainClause, input, save, PlainState, PlainConnection, PlainProcess, PlainBlock}
 use Rattle.turn_code.specs.declared.input.Party.{Party}
 use Rattle.sdl_tables.specs.Names.{is_in, Variable, Input, signal_names, process_names, variables_of, variable_names, timers_of, connector_names, states_of, clause_parts, clause_inputs, part_inputs, part_saves, given_to, of_state, by_state, is_state, input_parts, inputs_by_state, saves_by_state}
 use Rattle.sdl_tables.specs.Scopes.{repeats}

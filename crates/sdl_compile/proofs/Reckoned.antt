@@ -8,8 +8,8 @@ use Rattle.std.proofs.lemmas.Bool.Decides.{nat_tests}
 use Rattle.std.proofs.lemmas.List.{get_or_default}
 use Rattle.std.proofs.lemmas.List.Sums.{sum_by-cons}
 use Rattle.std.proofs.lemmas.Option.{slice_get-get_or}
-use Rattle.sdl_tree.specs.declared.tree.Join as tree_join
-use Rattle.sdl_tree.specs.Plain.{Text, PlainConnection, PlainProcess}
+use Rattle.sdl_ast.specs.declared.tree.Join as tree_join
+use Rattle.sdl_ast.specs.Plain.{Text, PlainConnection, PlainProcess}
 use Rattle.turn_code.specs.declared.instruction.Instruction.{Instruction}
 use Rattle.turn_code.specs.Code.{effects_of}
 use Rattle.sdl_tables.specs.Names.{Variable, variables_of}

@@ -1,6 +1,6 @@
 -- A text no rule is broken in has its sorts, divisors and receivers right.
 use Rattle.std.proofs.Common.{List, []}
-use Rattle.sdl_tree.specs.Plain.{Tree, Text, falls, ends, does, decides, Choice, nothing_else, otherwise, answer}
+use Rattle.sdl_ast.specs.Plain.{Tree, Text, falls, ends, does, decides, Choice, nothing_else, otherwise, answer}
 use Rattle.sdl_sound.specs.Statements.{statements_of, choice_statements}
 use Rattle.sdl_sound.specs.Actions.{Origin}
 use Rattle.sdl_compile.specs.Act.{Scope}

@@ -7,15 +7,15 @@ use Rattle.std.proofs.lemmas.Int.{ints, int_wrap_fits}
 use Rattle.std.specs.Int.{w32}
 use Rattle.std.proofs.lemmas.List.Elements.{All-nil, All-cons, All-contains}
 use Rattle.sdl_lex.specs.Limits.{GREATEST_NUMBER}
-use Rattle.sdl_tree.specs.declared.expression.Identifier.{Identifier}
-use Rattle.sdl_tree.specs.declared.expression.UnaryOperator.{UnaryOperator}
-use Rattle.sdl_tree.specs.declared.expression.UnaryOperator.TheVariants.{Negate, Not}
-use Rattle.sdl_tree.specs.declared.expression.BinaryOperator.{BinaryOperator}
-use Rattle.sdl_tree.specs.declared.expression.BinaryOperator.TheVariants.{Or, Xor, And, Equal, NotEqual, Less, LessEqual, Greater, GreaterEqual, Add, Subtract, Multiply, Divide, Modulo, Remainder}
-use Rattle.sdl_tree.specs.declared.tree.Sort as tree_sort
-use Rattle.sdl_tree.specs.declared.tree.Sort.TheVariants as tree_sorts
-use Rattle.sdl_tree.specs.Plain.{Tree, number, truth, variable, unary, binary}
-use Rattle.sdl_tree.specs.Expressions.{place_of}
+use Rattle.sdl_ast.specs.declared.expression.Identifier.{Identifier}
+use Rattle.sdl_ast.specs.declared.expression.UnaryOperator.{UnaryOperator}
+use Rattle.sdl_ast.specs.declared.expression.UnaryOperator.TheVariants.{Negate, Not}
+use Rattle.sdl_ast.specs.declared.expression.BinaryOperator.{BinaryOperator}
+use Rattle.sdl_ast.specs.declared.expression.BinaryOperator.TheVariants.{Or, Xor, And, Equal, NotEqual, Less, LessEqual, Greater, GreaterEqual, Add, Subtract, Multiply, Divide, Modulo, Remainder}
+use Rattle.sdl_ast.specs.declared.tree.Sort as tree_sort
+use Rattle.sdl_ast.specs.declared.tree.Sort.TheVariants as tree_sorts
+use Rattle.sdl_ast.specs.Plain.{Tree, number, truth, variable, unary, binary}
+use Rattle.sdl_ast.specs.Places.{place_of}
 use Rattle.turn_code.specs.declared.value.Sort.{Sort}
 use Rattle.turn_code.specs.declared.value.Sort.TheVariants.{Integer, Boolean}
 use Rattle.turn_code.specs.declared.instruction.Instruction.{Instruction}

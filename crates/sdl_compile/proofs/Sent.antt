@@ -4,10 +4,10 @@ use Rattle.std.specs.Prelude.{slice_get, Any, All, Contains}
 use Rattle.std.proofs.lemmas.List.Elements.{All-head, All-tail}
 use Rattle.std.specs.List.{list_any}
 use Rattle.sdl_lex.specs.Spelling.{folded}
-use Rattle.sdl_tree.specs.declared.expression.Identifier.{Identifier}
-use Rattle.sdl_tree.specs.declared.tree.Party as tree_party
-use Rattle.sdl_tree.specs.declared.tree.Party.TheVariants as tree_parties
-use Rattle.sdl_tree.specs.Plain.{PlainPath, PlainProcess, PlainBlock}
+use Rattle.sdl_ast.specs.declared.expression.Identifier.{Identifier}
+use Rattle.sdl_ast.specs.declared.tree.Party as tree_party
+use Rattle.sdl_ast.specs.declared.tree.Party.TheVariants as tree_parties
+use Rattle.sdl_ast.specs.Plain.{PlainPath, PlainProcess, PlainBlock}
 use Rattle.turn_code.specs.declared.numbers.SignalNumber.{SignalNumber}
 use Rattle.turn_code.specs.declared.input.Party.{Party}
 use Rattle.turn_code.specs.Routes.{IsProcess, Brings}

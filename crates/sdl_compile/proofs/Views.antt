@@ -1,15 +1,15 @@
 -- What the views of the tree are, one layer at a time.
 use Rattle.std.proofs.Common.{ℕ, Vec, ◌≡◌, ◌∙◌, ap, refl, [], ◌∷◌, Option, None, Some}
-use Rattle.sdl_tree.specs.Plain.{Text, does, decides, Choice, answer, PlainStatement, act, decide, PlainAnswer, before, all_answers}
-use Rattle.sdl_tree.specs.Views.{plain_statement, plain_decision, plain_answer, tree_of, action_of, text_of, statement_of, answer_of, decision_of, statements_before, answers_before, end_text, else_choice, choice_of, statement_step, answer_step, decision_step, transition_step}
-use Rattle.sdl_tree.specs.declared.tree.Transition.{Transition}
-use Rattle.sdl_tree.specs.declared.tree.Statement.{Statement, out-Statement}
-use Rattle.sdl_tree.specs.declared.tree.Statement.TheVariants.{Act, Decide}
-use Rattle.sdl_tree.specs.declared.tree.Statement.TheFolds.{fold_out-Transition, fold_out-Statement, fold_out-Answer, fold_out-Decision}
-use Rattle.sdl_tree.specs.declared.tree.Decision.{Decision, out-Decision, map-Decision}
-use Rattle.sdl_tree.specs.declared.tree.Answer.{Answer}
-use Rattle.sdl_tree.specs.declared.tree.Action.{Action}
-use Rattle.sdl_tree.specs.declared.expression.Expression.{Expression}
+use Rattle.sdl_ast.specs.Plain.{Text, does, decides, Choice, answer, PlainStatement, act, decide, PlainAnswer, before, all_answers}
+use Rattle.sdl_ast.specs.Views.{plain_statement, plain_decision, plain_answer, tree_of, action_of, text_of, statement_of, answer_of, decision_of, statements_before, answers_before, end_text, else_choice, choice_of, statement_step, answer_step, decision_step, transition_step}
+use Rattle.sdl_ast.specs.declared.tree.Transition.{Transition}
+use Rattle.sdl_ast.specs.declared.tree.Statement.{Statement, out-Statement}
+use Rattle.sdl_ast.specs.declared.tree.Statement.TheVariants.{Act, Decide}
+use Rattle.sdl_ast.specs.declared.tree.Statement.TheFolds.{fold_out-Transition, fold_out-Statement, fold_out-Answer, fold_out-Decision}
+use Rattle.sdl_ast.specs.declared.tree.Decision.{Decision, out-Decision, map-Decision}
+use Rattle.sdl_ast.specs.declared.tree.Answer.{Answer}
+use Rattle.sdl_ast.specs.declared.tree.Action.{Action}
+use Rattle.sdl_ast.specs.declared.expression.Expression.{Expression}
 use Rattle.std.specs.declared.alloc.Global.{Global}
 
 pub text_of-is : (t : Transition) → text_of t ≡ statements_before t.statements.items (end_text t.end)

@@ -8,14 +8,14 @@ use denote.Ref.{Bor}
 use Rattle.std.proofs.lemmas.List.{length-map}
 use Rattle.std.proofs.lemmas.List.Elements.{All-nil, All-cons, All-head, All-tail}
 use Rattle.std.proofs.lemmas.List.Sums.{sum_by-cons}
-use Rattle.sdl_tree.specs.declared.expression.Identifier.{Identifier}
-use Rattle.sdl_tree.specs.declared.tree.Process as the_process
-use Rattle.sdl_tree.specs.declared.tree.Party.{Party}
-use Rattle.sdl_tree.specs.declared.tree.Party.TheVariants.{Environment, Process}
-use Rattle.sdl_tree.specs.declared.tree.Path.{Path}
-use Rattle.sdl_tree.specs.declared.tree.Route.{Route}
-use Rattle.sdl_tree.specs.Plain.{Text, PlainPath, PlainRoute, PlainSignal, PlainProcess, PlainBlock}
-use Rattle.sdl_tree.specs.Views.{path_of, route_of, process_of}
+use Rattle.sdl_ast.specs.declared.expression.Identifier.{Identifier}
+use Rattle.sdl_ast.specs.declared.tree.Process as the_process
+use Rattle.sdl_ast.specs.declared.tree.Party.{Party}
+use Rattle.sdl_ast.specs.declared.tree.Party.TheVariants.{Environment, Process}
+use Rattle.sdl_ast.specs.declared.tree.Path.{Path}
+use Rattle.sdl_ast.specs.declared.tree.Route.{Route}
+use Rattle.sdl_ast.specs.Plain.{Text, PlainPath, PlainRoute, PlainSignal, PlainProcess, PlainBlock}
+use Rattle.sdl_ast.specs.Views.{path_of, route_of, process_of}
 use Rattle.turn_code.specs.declared.input.Place.{Place}
 use Rattle.turn_code.specs.declared.draft.Draft.{Draft}
 use Rattle.turn_code.specs.declared.draft.DraftSignal.{DraftSignal}

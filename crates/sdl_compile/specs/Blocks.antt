@@ -1,10 +1,10 @@
 -- The draft of a block: what it says, and that its transitions keep every rule.
 use Rattle.std.specs.Prelude.{◌≡◌, ℕ, List, length, map, Some}
 use Rattle.std.specs.List.{flat_map, AllZip}
-use Rattle.sdl_tree.specs.Plain.{PlainBlock, PlainPath}
-use Rattle.sdl_tree.specs.declared.expression.Identifier.{Identifier}
-use Rattle.sdl_tree.specs.declared.tree.Party as tree_party
-use Rattle.sdl_tree.specs.declared.tree.Party.TheVariants as tree_parties
+use Rattle.sdl_ast.specs.Plain.{PlainBlock, PlainPath}
+use Rattle.sdl_ast.specs.declared.expression.Identifier.{Identifier}
+use Rattle.sdl_ast.specs.declared.tree.Party as tree_party
+use Rattle.sdl_ast.specs.declared.tree.Party.TheVariants as tree_parties
 use Rattle.turn_code.specs.declared.input.Party.{Party}
 use Rattle.turn_code.specs.declared.input.Party.TheVariants.{Environment, Process}
 use Rattle.turn_code.specs.declared.input.Place.{Place}

@@ -1,6 +1,6 @@
 -- What the transitions of a process share.
 use Rattle.std.specs.Prelude.{◌≡◌}
-use Rattle.sdl_tree.specs.Views.{block_of, process_of}
+use Rattle.sdl_ast.specs.Views.{block_of, process_of}
 use Rattle.sdl_sound.specs.Orders.{IsOrder}
 use Rattle.sdl_measures.specs.Measures.{AreMeasures}
 use Rattle.sdl_compile.specs.declared.state.Context.{Context}

@@ -1,7 +1,7 @@
 -- What is counted at each place of a piece: the instructions, or the effects, of the longest way on from there.
 use Rattle.std.specs.Prelude.{◌≡◌, ℕ, ◌+◌, ◌<◌, ◌≤◌, if◌then◌else◌, nat_lt, List, length, map, Some, get_or, slice_get}
 use Rattle.std.specs.Option.{option_map_or}
-use Rattle.sdl_tree.specs.Plain.{PlainProcess}
+use Rattle.sdl_ast.specs.Plain.{PlainProcess}
 use Rattle.sdl_sound.specs.Longest.{Piece, piece_budget, piece_effects}
 use Rattle.sdl_measures.specs.declared.measures.Measure.{Measure}
 use Rattle.turn_code.specs.declared.instruction.Instruction.{Instruction}

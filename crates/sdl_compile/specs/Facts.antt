@@ -1,8 +1,8 @@
 -- What is claimed of each place of a piece: the operands that are there, and the variables that are set.
 use Rattle.std.specs.Prelude.{ℕ, if◌then◌else◌, List, [], ◌∷◌, ◌++◌, Option, None, Some}
-use Rattle.sdl_tree.specs.declared.expression.Identifier.{Identifier}
-use Rattle.sdl_tree.specs.declared.tree.Range.{Range}
-use Rattle.sdl_tree.specs.Plain.{Tree, number, truth, variable, unary, binary, PlainAssignment, PlainSending, PlainAction, task, output, set_timer, reset_timer, Text, falls, ends, does, decides, Choice, nothing_else, otherwise, answer}
+use Rattle.sdl_ast.specs.declared.expression.Identifier.{Identifier}
+use Rattle.sdl_ast.specs.declared.tree.Range.{Range}
+use Rattle.sdl_ast.specs.Plain.{Tree, number, truth, variable, unary, binary, PlainAssignment, PlainSending, PlainAction, task, output, set_timer, reset_timer, Text, falls, ends, does, decides, Choice, nothing_else, otherwise, answer}
 use Rattle.turn_code.specs.Code.{shape_after}
 use Rattle.turn_code.specs.Sets.{with_variable}
 use Rattle.turn_code.specs.declared.value.Sort.{Sort}

@@ -2,7 +2,7 @@
 -- for what is known only behind them.
 use Rattle.std.specs.Prelude.{ℕ, ◌+◌, Bool, true, false, List, [], ◌∷◌, ◌++◌, length, if◌then◌else◌, slice_set}
 use Rattle.std.specs.List.{list_any}
-use Rattle.sdl_tree.specs.Plain.{Text, Choice, nothing_else, otherwise, answer}
+use Rattle.sdl_ast.specs.Plain.{Text, Choice, nothing_else, otherwise, answer}
 use Rattle.turn_code.specs.declared.numbers.CodePlace.{CodePlace}
 use Rattle.turn_code.specs.declared.instruction.Instruction.{Instruction}
 use Rattle.turn_code.specs.declared.instruction.Instruction.TheVariants as i

@@ -1,7 +1,7 @@
 -- What a run of a draft's transition is, on each input that fits it.
 use Rattle.std.specs.Prelude.{◌≡◌, ℕ, zero, suc, List, Option, None, Some, slice_get}
 use Rattle.std.specs.Option.{option_map}
-use Rattle.sdl_tree.specs.Plain.{PlainProcess, PlainBlock}
+use Rattle.sdl_ast.specs.Plain.{PlainProcess, PlainBlock}
 use Rattle.turn_code.specs.declared.input.Input.{Input}
 use Rattle.turn_code.specs.declared.input.Place.{Place}
 use Rattle.turn_code.specs.declared.input.Place.TheVariants.{Start, State}

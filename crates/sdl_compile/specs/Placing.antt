@@ -1,9 +1,9 @@
 -- The JOINs of a text in the order of its code, and the numbers of the connections to which they lead.
 use Rattle.std.specs.Prelude.{◌≡◌, ◌<◌, ℕ, ◌++◌, Bool, nat_eq, List, length, map, if◌then◌else◌, All, IsSome, Some, slice_get}
 use Rattle.std.specs.List.{list_any}
-use Rattle.sdl_tree.specs.declared.tree.Join.{Join}
-use Rattle.sdl_tree.specs.declared.tree.Decision.{Decision, out-Decision}
-use Rattle.sdl_tree.specs.Views.{choice_of, else_choice}
+use Rattle.sdl_ast.specs.declared.tree.Join.{Join}
+use Rattle.sdl_ast.specs.declared.tree.Decision.{Decision, out-Decision}
+use Rattle.sdl_ast.specs.Views.{choice_of, else_choice}
 use Rattle.sdl_compile.specs.Act.{Scope, connector_at, is_truth}
 use Rattle.sdl_compile.specs.Code.{number_or_zero, else_joins, answers_joins}
 use Rattle.sdl_compile.specs.Scopes.{question_in}

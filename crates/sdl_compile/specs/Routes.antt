@@ -1,9 +1,9 @@
 -- The paths of a block's routes, with the numbers of their names.
 use Rattle.std.specs.Prelude.{◌≤◌, List, length, All, IsSome}
-use Rattle.sdl_tree.specs.declared.expression.Identifier.{Identifier}
-use Rattle.sdl_tree.specs.declared.tree.Party.{Party}
-use Rattle.sdl_tree.specs.declared.tree.Party.TheVariants.{Environment, Process}
-use Rattle.sdl_tree.specs.Plain.{PlainPath, PlainBlock}
+use Rattle.sdl_ast.specs.declared.expression.Identifier.{Identifier}
+use Rattle.sdl_ast.specs.declared.tree.Party.{Party}
+use Rattle.sdl_ast.specs.declared.tree.Party.TheVariants.{Environment, Process}
+use Rattle.sdl_ast.specs.Plain.{PlainPath, PlainBlock}
 use Rattle.turn_code.specs.declared.numbers.SignalNumber.{SignalNumber}
 use Rattle.sdl_tables.specs.Names.{number_of, signal_names, process_names}
 use Rattle.sdl_compile.specs.Code.{number_or_zero}

@@ -1,10 +1,10 @@
 -- What the compiler has at hand, as definitions see it.
 use Rattle.std.specs.Prelude.{ℕ, List, Option, None, Some, get_or}
-use Rattle.sdl_tree.specs.declared.expression.Identifier.{Identifier}
-use Rattle.sdl_tree.specs.declared.tree.Transition.{Transition}
-use Rattle.sdl_tree.specs.declared.tree.Decision.{Decision, out-Decision}
-use Rattle.sdl_tree.specs.Plain.{Tree}
-use Rattle.sdl_tree.specs.Views.{tree_of, text_of, block_of, process_of}
+use Rattle.sdl_ast.specs.declared.expression.Identifier.{Identifier}
+use Rattle.sdl_ast.specs.declared.tree.Transition.{Transition}
+use Rattle.sdl_ast.specs.declared.tree.Decision.{Decision, out-Decision}
+use Rattle.sdl_ast.specs.Plain.{Tree}
+use Rattle.sdl_ast.specs.Views.{tree_of, text_of, block_of, process_of}
 use Rattle.sdl_sound.specs.Longest.{Piece}
 use Rattle.sdl_compile.specs.declared.names.Names.{Names}
 use Rattle.sdl_compile.specs.Act.{Scope, scope_of}

@@ -2,7 +2,7 @@
 ghost use Rattle.std.specs.Prelude.{◌≡◌, ◌≤◌, ◌++◌, ℕ, length, map, All, IfOk, OnOk};
 ghost use Rattle.std.specs.List.{flat_map, AllZip};
 ghost use Rattle.std.specs.Global.{Vec};
-ghost use Rattle.sdl_tree.specs.Views.{signal_of, path_of, route_of, block_of};
+ghost use Rattle.sdl_ast.specs.Views.{signal_of, path_of, route_of, block_of};
 ghost use Rattle.turn_code.specs.Valid.{IsValid};
 ghost use Rattle.sdl_tables.specs.Names.{number_of, processes_of, routes_of};
 ghost use Rattle.sdl_sound.specs.Settled.{AreSettled};
@@ -20,9 +20,9 @@ ghost use Rattle.sdl_compile.specs.Routes.{KnownParty, IsKnown, IsKnownPath, Has
 use crate::process::{Survey, compile_process};
 use crate::state::draft_name;
 use crate::variables::sort;
+use sdl_ast::{Identifier, Path, Route, SignalDeclaration};
 use sdl_rules::{Measure, Resolved, budget_law, chances_law};
 use sdl_tables::{BlockTable, NameTable};
-use sdl_tree::{Identifier, Path, Route, SignalDeclaration};
 use std::alloc::{AllocError, Global};
 use turn_code::{
     Draft, DraftProcess, DraftRoute, DraftSignal, Party, ProcessNumber, Sequence, SignalNumber,
@@ -37,7 +37,7 @@ struct Surveys<'a> {
     measures: &'a [Vec<Measure>],
 }
 
-fn compile_sorts(alloc: Global, sorts: &[sdl_tree::Sort]) -> Result<Vec<Sort>, AllocError>
+fn compile_sorts(alloc: Global, sorts: &[sdl_ast::Sort]) -> Result<Vec<Sort>, AllocError>
     ensures { IfOk result (λ v. v.items ≡ map sort_of_tree sorts.now) }
 {
     let mut compiled = Vec::new(alloc);
@@ -96,14 +96,14 @@ fn signal_number(signals: &NameTable, id: &Identifier) -> SignalNumber
 }
 
 /// Who sends or receives.
-fn compile_party(processes: &NameTable, party: &sdl_tree::Party) -> Party
+fn compile_party(processes: &NameTable, party: &sdl_ast::Party) -> Party
     requires there { KnownParty processes.now party.now }
     requires few { length processes.now ≤ 16 }
     ensures { result ≡ drafted_party processes.now party.now }
 {
     match party {
-        sdl_tree::Party::Environment => Party::Environment,
-        sdl_tree::Party::Process(id) => Party::Process(process_number(processes, id)),
+        sdl_ast::Party::Environment => Party::Environment,
+        sdl_ast::Party::Process(id) => Party::Process(process_number(processes, id)),
     }
 }
 

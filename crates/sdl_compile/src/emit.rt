@@ -1,8 +1,8 @@
 //! The instructions of expressions, actions and places of an INPUT.
 ghost use Rattle.std.specs.Prelude.{◌≡◌, [], ◌∷◌, ◌++◌, OnOk, IfOk, map, length, ◌≤◌, pos};
 ghost use Rattle.turn_code.specs.Values.{wrap};
-ghost use Rattle.sdl_tree.specs.Views.{tree_of, assignment_of, sending_of, action_of};
-ghost use Rattle.sdl_tree.specs.declared.expression.BinaryOperator.TheVariants.{Equal as EqualSign, NotEqual as NotEqualSign};
+ghost use Rattle.sdl_ast.specs.Views.{tree_of, assignment_of, sending_of, action_of};
+ghost use Rattle.sdl_ast.specs.declared.expression.BinaryOperator.TheVariants.{Equal as EqualSign, NotEqual as NotEqualSign};
 ghost use Rattle.sdl_sound.specs.Longest.{is_division};
 ghost use Rattle.sdl_compile.specs.Scopes.{scope_in};
 ghost use Rattle.sdl_compile.specs.Act.{divisor_of};
@@ -10,7 +10,7 @@ ghost use Rattle.sdl_compile.specs.Named.{NamedTree, NamedTrees, NamedTasks, Nam
 ghost use Rattle.sdl_compile.specs.Code.{tree_code, trees_code, tasks_code, sendings_code, action_code, places_code, unary_code, binary_code, division_code};
 
 use crate::names::Names;
-use sdl_tree::{
+use sdl_ast::{
     Action, Assignment, BinaryOperator, Destination, Expression, Identifier, Sending, UnaryOperator,
 };
 use std::alloc::AllocError;

@@ -2,14 +2,14 @@
 //! front of them.
 ghost use Rattle.std.specs.Prelude.{◌≡◌, ◌+◌, ◌≤◌, ◌++◌, ◌&&◌, drop, length, replicate, slice_set, OnOk};
 ghost use Rattle.std.specs.List.{list_any};
-ghost use Rattle.sdl_tree.specs.Views.{choice_of};
+ghost use Rattle.sdl_ast.specs.Views.{choice_of};
 ghost use Rattle.sdl_sound.specs.Longest.{tests_size};
 ghost use Rattle.turn_code.specs.declared.instruction.Instruction.TheVariants.{Drop as DropCode};
 ghost use Rattle.sdl_compile.specs.Code.{is_literal, names_truth};
 ghost use Rattle.sdl_compile.specs.Landing.{landed, filled, first_or, has_any, picked_by};
 
 use crate::emit::put;
-use sdl_tree::{Constant, Decision, Literal, Range};
+use sdl_ast::{Constant, Decision, Literal, Range};
 use std::alloc::AllocError;
 use turn_code::{CodePlace, Instruction};
 

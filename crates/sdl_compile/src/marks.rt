@@ -1,10 +1,10 @@
 //! Which variables are set at each place of a piece, and as each of its connections begins.
 ghost use Rattle.std.specs.Prelude.{◌≡◌, ◌<◌, [], ◌∷◌, ◌++◌, ◌&&◌, ◌||◌, true, OnOk, IfOk, map};
-ghost use Rattle.sdl_tree.specs.Plain.{Text, falls};
-ghost use Rattle.sdl_tree.specs.Views.{tree_of, assignment_of, sending_of, action_of, text_of, statement_of, choice_of, else_choice, connection_of};
+ghost use Rattle.sdl_ast.specs.Plain.{Text, falls};
+ghost use Rattle.sdl_ast.specs.Views.{tree_of, assignment_of, sending_of, action_of, text_of, statement_of, choice_of, else_choice, connection_of};
 ghost use Rattle.sdl_sound.specs.Longest.{is_division};
 ghost use Rattle.sdl_sound.specs.Going.{goes_on, choice_goes_on};
-ghost use Rattle.sdl_tree.specs.declared.tree.Decision.{out-Decision};
+ghost use Rattle.sdl_ast.specs.declared.tree.Decision.{out-Decision};
 ghost use Rattle.sdl_compile.specs.Scopes.{scope_in, piece_in, question_in, NamedElse};
 ghost use Rattle.sdl_compile.specs.Act.{is_truth};
 ghost use Rattle.sdl_compile.specs.Named.{NamedTasks, NamedAction, NamedEnd, NamedText, NamedChoice, NamedConnections, NamedPlaces, NamedPiece};
@@ -17,7 +17,7 @@ ghost use Rattle.sdl_compile.specs.Code.{text_at};
 use crate::emit::is_division;
 use crate::landing::both;
 use crate::names::Names;
-use sdl_tree::{
+use sdl_ast::{
     Action, Assignment, Connection, Decision, End, Expression, Identifier, Range, Sending,
     Statement, Transition,
 };

@@ -1,15 +1,15 @@
 //! The names that a transition may use, with their numbers, and who gets what it sends.
 ghost use Rattle.std.specs.Prelude.{◌≡◌, ◌≤◌, length, IsSome};
-ghost use Rattle.sdl_tree.specs.Views.{tree_of, block_of, process_of};
+ghost use Rattle.sdl_ast.specs.Views.{tree_of, block_of, process_of};
 ghost use Rattle.sdl_sound.specs.Receivers.{party_of, receivers};
 ghost use Rattle.sdl_tables.specs.Names.{variable_names, states_of, timers_of, signal_names, process_names};
 ghost use Rattle.sdl_compile.specs.Act.{variable_at, state_at, timer_at, connector_at, signal_at, is_truth, numbered, the_one};
 ghost use Rattle.sdl_compile.specs.Named.{HasReceiver};
 ghost use Rattle.sdl_compile.specs.Code.{number_or_zero, party_or_environment, receiver_code};
 
+use sdl_ast::{Destination, Expression, Identifier, Sort};
 use sdl_rules::{Recipients, find_receivers, sort_in};
 use sdl_tables::{BlockTable, ProcessTable};
-use sdl_tree::{Destination, Expression, Identifier, Sort};
 use turn_code::{
     Party, ProcessNumber, Receiver, SignalNumber, StateNumber, TimerNumber, VariableNumber,
 };
@@ -95,13 +95,13 @@ impl Names<'_> {
     }
 
     /// A party that is there, by its number.
-    fn party(&self, party: &sdl_tree::Party) -> Party
+    fn party(&self, party: &sdl_ast::Party) -> Party
         requires { IsSome (numbered (scope_in self.now) party.now) }
         ensures { result ≡ party_or_environment (numbered (scope_in self.now) party.now) }
     {
         match party {
-            sdl_tree::Party::Environment => Party::Environment,
-            sdl_tree::Party::Process(id) => match self.block.processes().number(id.name) {
+            sdl_ast::Party::Environment => Party::Environment,
+            sdl_ast::Party::Process(id) => match self.block.processes().number(id.name) {
                 Some(number) => Party::Process(ProcessNumber(number as u8)),
                 None => unreachable!(),
             },
@@ -113,7 +113,7 @@ impl Names<'_> {
         requires { HasReceiver (scope_in self.now) None signal.now }
         ensures { result ≡ party_or_environment (the_one (scope_in self.now) (receivers (block_of self.now.block.now) (party_of (process_of self.now.process.now)) signal.now.name)) }
     {
-        let own = sdl_tree::Party::Process(self.process.process().name);
+        let own = sdl_ast::Party::Process(self.process.process().name);
         match find_receivers(self.block, &own, signal.name) {
             Recipients::One(party) => self.party(&party),
             Recipients::Nobody => unreachable!(),
@@ -129,7 +129,7 @@ impl Names<'_> {
         match to {
             None => Receiver::Party(self.recipient(signal)),
             Some(Destination::Process(id)) => {
-                Receiver::Party(self.party(&sdl_tree::Party::Process(*id)))
+                Receiver::Party(self.party(&sdl_ast::Party::Process(*id)))
             }
             Some(Destination::Sender(_)) => Receiver::Sender,
         }

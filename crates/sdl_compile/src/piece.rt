@@ -1,7 +1,7 @@
 //! The piece of a transition.
 ghost use Rattle.std.specs.Prelude.{◌≡◌, ◌≤◌, length, Option, IfOk};
-ghost use Rattle.sdl_tree.specs.declared.expression.Identifier as tree_identifier;
-ghost use Rattle.sdl_tree.specs.Views.{text_of};
+ghost use Rattle.sdl_ast.specs.declared.expression.Identifier as tree_identifier;
+ghost use Rattle.sdl_ast.specs.Views.{text_of};
 ghost use Rattle.sdl_compile.specs.Scopes.{scope_in, piece_in};
 ghost use Rattle.sdl_compile.specs.Named.{NamedPiece, AnswersAll};
 ghost use Rattle.sdl_sound.specs.Longest.{places_cost};
@@ -15,8 +15,8 @@ use crate::names::Names;
 use crate::placing::{connection_places, place_connections};
 use crate::texts::emit_piece;
 use crate::totals::{Layout, piece_counts};
+use sdl_ast::{Identifier, Transition};
 use sdl_rules::{Measure, code_size};
-use sdl_tree::{Identifier, Transition};
 use std::alloc::{AllocError, Global};
 use turn_code::{
     Cert, DraftPiece, DraftSignal, DraftVariable, PlaceFacts, Sequence, Sort, VariableSet,

@@ -1,7 +1,7 @@
 //! Which connections stand behind the text of a piece, and where.
 ghost use Rattle.std.specs.Prelude.{◌≡◌, ◌+◌, ◌≤◌, ◌<◌, ◌++◌, ℕ, [], fold, length, replicate, All, IsSome, OnOk, IfOk};
 ghost use Rattle.std.specs.List.{list_any, sum_by};
-ghost use Rattle.sdl_tree.specs.Views.{text_of, statement_of, choice_of, else_choice, process_of};
+ghost use Rattle.sdl_ast.specs.Views.{text_of, statement_of, choice_of, else_choice, process_of};
 ghost use Rattle.sdl_compile.specs.Scopes.{scope_in, places_by};
 ghost use Rattle.sdl_compile.specs.Placing.{decision_joins, numbers_of, HaveNumbers, AreMarked};
 ghost use Rattle.sdl_compile.specs.Named.{NamedText, NamedConnections};
@@ -9,8 +9,8 @@ ghost use Rattle.sdl_compile.specs.Act.{connector_at};
 ghost use Rattle.sdl_compile.specs.Code.{number_or_zero, code_joins, else_joins, answers_joins, add_number, joined, text_at, size_at, place_in, ArePlaced};
 
 use crate::names::Names;
+use sdl_ast::{Decision, End, Join, Statement, Transition};
 use sdl_rules::code_size;
-use sdl_tree::{Decision, End, Join, Statement, Transition};
 use std::alloc::{AllocError, Global};
 
 #[cycle(placing)]

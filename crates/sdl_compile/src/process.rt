@@ -1,6 +1,6 @@
 //! A process.
 ghost use Rattle.std.specs.Prelude.{◌≡◌, ◌≤◌, length, map, IfOk};
-ghost use Rattle.sdl_tree.specs.Views.{block_of, process_of};
+ghost use Rattle.sdl_ast.specs.Views.{block_of, process_of};
 ghost use Rattle.std.specs.List.{AllZip};
 ghost use Rattle.sdl_tables.specs.Names.{process_names, states_of, inputs_by_state, saves_by_state};
 ghost use Rattle.sdl_sound.specs.Settled.{AreSettled};

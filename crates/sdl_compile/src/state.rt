@@ -1,10 +1,10 @@
 //! The states of a process, with their inputs and what they save.
 ghost use Rattle.std.specs.Prelude.{◌≡◌, ◌≤◌, ◌<◌, length, map, IfOk, IfSome, slice_get};
 ghost use Rattle.std.specs.List.{AllZip};
-ghost use Rattle.sdl_tree.specs.Views.{block_of};
+ghost use Rattle.sdl_ast.specs.Views.{block_of};
 ghost use Rattle.sdl_tables.specs.Rows.{row_input, rows_inputs, row_names};
 ghost use Rattle.sdl_tables.specs.Names.{states_of};
-ghost use Rattle.sdl_tree.specs.Views.{process_of};
+ghost use Rattle.sdl_ast.specs.Views.{process_of};
 ghost use Rattle.sdl_compile.specs.Scopes.{scope_in};
 ghost use Rattle.sdl_compile.specs.Declarations.{trigger_of, trigger_sorts, parameters_by, drafted_signals};
 ghost use Rattle.sdl_compile.specs.Drafts.{AllReady, IsNamedAs, MatchesInputs, SavesAll, AreReady, IsReadyInput, IsInputOf, AreInputsOf, IsTrigger, AreTriggers, AllTriggers, sets_of};
@@ -12,10 +12,10 @@ ghost use Rattle.sdl_compile.specs.Contexts.{IsContext};
 
 use crate::names::Names;
 use crate::piece::{Setting, compile_transition};
+use sdl_ast::Identifier;
 use sdl_lex::Name;
 use sdl_rules::Measure;
 use sdl_tables::InputRow;
-use sdl_tree::Identifier;
 use std::alloc::{AllocError, Global};
 use turn_code::{
     DraftInput, DraftSignal, DraftState, DraftVariable, Sequence, SignalNumber, Sort, TimerNumber,

@@ -1,8 +1,8 @@
 //! The instructions of transitions with their DECISIONs and JOINs. Targets are places in the whole piece. Those of connections
 //! are known beforehand; those within a DECISION once its bodies stand, so each body is gone through once.
 ghost use Rattle.std.specs.Prelude.{◌≡◌, ◌+◌, ◌≤◌, ◌++◌, ◌∷◌, ◌&&◌, [], true, false, ℕ, OnOk, IfOk, All, length, sum_by};
-ghost use Rattle.sdl_tree.specs.Plain.{Text, falls};
-ghost use Rattle.sdl_tree.specs.Views.{text_of, statement_of, decision_of, choice_of};
+ghost use Rattle.sdl_ast.specs.Plain.{Text, falls};
+ghost use Rattle.sdl_ast.specs.Views.{text_of, statement_of, decision_of, choice_of};
 ghost use Rattle.sdl_tables.specs.Names.{variables_of};
 ghost use Rattle.sdl_sound.specs.Longest.{size};
 ghost use Rattle.sdl_sound.specs.Going.{goes_on, choice_goes_on};
@@ -18,7 +18,7 @@ use crate::landing::{
     tests_length,
 };
 use crate::names::Names;
-use sdl_tree::{Constant, Decision, End, Identifier, Literal, Range, Statement, Transition};
+use sdl_ast::{Constant, Decision, End, Identifier, Literal, Range, Statement, Transition};
 use std::alloc::{AllocError, Global};
 use turn_code::{CodePlace, Instruction, Relation};
 
@@ -62,16 +62,16 @@ fn emit_end(
     }
 }
 
-fn relation(sign: sdl_tree::Relation) -> Relation
+fn relation(sign: sdl_ast::Relation) -> Relation
     ensures { result ≡ relation_of sign }
 {
     match sign {
-        sdl_tree::Relation::Equal => Relation::Equal,
-        sdl_tree::Relation::NotEqual => Relation::NotEqual,
-        sdl_tree::Relation::Less => Relation::Less,
-        sdl_tree::Relation::LessEqual => Relation::LessEqual,
-        sdl_tree::Relation::Greater => Relation::Greater,
-        sdl_tree::Relation::GreaterEqual => Relation::GreaterEqual,
+        sdl_ast::Relation::Equal => Relation::Equal,
+        sdl_ast::Relation::NotEqual => Relation::NotEqual,
+        sdl_ast::Relation::Less => Relation::Less,
+        sdl_ast::Relation::LessEqual => Relation::LessEqual,
+        sdl_ast::Relation::Greater => Relation::Greater,
+        sdl_ast::Relation::GreaterEqual => Relation::GreaterEqual,
     }
 }
 

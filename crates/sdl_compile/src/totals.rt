@@ -1,6 +1,6 @@
 //! What is counted at each place of a piece.
 ghost use Rattle.std.specs.Prelude.{◌≡◌, ℕ, ◌<◌, ◌≤◌, length as length_of, replicate, All, Contains, IfOk};
-ghost use Rattle.sdl_tree.specs.Views.{text_of};
+ghost use Rattle.sdl_ast.specs.Views.{text_of};
 ghost use Rattle.sdl_compile.specs.declared.counts.Counted.TheVariants.{Instructions, Effects};
 ghost use Rattle.sdl_compile.specs.Counts.{weight, number_at, AreCounts, AreWithin, measured, piece_count};
 ghost use Rattle.sdl_sound.specs.Longest.{piece_budget, piece_effects};
@@ -10,8 +10,8 @@ ghost use Rattle.sdl_compile.specs.Settings.{IsSetting, IsReadyPiece};
 
 use crate::counts::{Counted, count_places};
 use crate::piece::Setting;
+use sdl_ast::{Identifier, Transition};
 use sdl_rules::Measure;
-use sdl_tree::{Identifier, Transition};
 use std::alloc::{AllocError, Global};
 use turn_code::Instruction;
 

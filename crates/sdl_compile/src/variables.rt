@@ -5,8 +5,8 @@ ghost use Rattle.sdl_tables.specs.Rows.{variable_of};
 ghost use Rattle.sdl_compile.specs.Declarations.{drafted, constant_value, sort_of_tree};
 
 use crate::state::draft_name;
+use sdl_ast::{Constant, Literal};
 use sdl_tables::Variable;
-use sdl_tree::{Constant, Literal};
 use std::alloc::{AllocError, Global};
 use turn_code::{DraftVariable, Sort, Value, VariableSet};
 
@@ -20,12 +20,12 @@ fn value(constant: Constant) -> Value
 }
 
 /// The sort of values, as a draft has it.
-pub(crate) fn sort(declared: sdl_tree::Sort) -> Sort
+pub(crate) fn sort(declared: sdl_ast::Sort) -> Sort
     ensures { result ≡ sort_of_tree declared }
 {
     match declared {
-        sdl_tree::Sort::Integer => Sort::Integer,
-        sdl_tree::Sort::Boolean => Sort::Boolean,
+        sdl_ast::Sort::Integer => Sort::Integer,
+        sdl_ast::Sort::Boolean => Sort::Boolean,
     }
 }
 

@@ -11,9 +11,9 @@ use Rattle.std.proofs.lemmas.List.Quantifiers.{position-Some}
 use Rattle.std.proofs.lemmas.Option.{slice_get_within, slice_get-get_or, slice_get-map, get_or_from_slice_get}
 use Rattle.std.proofs.Math.Bool.{or-false}
 use Rattle.sdl_lex.specs.Spelling.{folded}
-use Rattle.sdl_tree.specs.declared.expression.Identifier.{Identifier}
-use Rattle.sdl_tree.specs.declared.tree.Join.{Join}
-use Rattle.sdl_tree.specs.Plain.{Text, PlainConnection, PlainProcess}
+use Rattle.sdl_ast.specs.declared.expression.Identifier.{Identifier}
+use Rattle.sdl_ast.specs.declared.tree.Join.{Join}
+use Rattle.sdl_ast.specs.Plain.{Text, PlainConnection, PlainProcess}
 use Rattle.sdl_tables.specs.Names.{same_name, is_in, number_of, connector_names, connection_named}
 use Rattle.sdl_tables.specs.Scopes.{repeats, process_scopes}
 use Rattle.sdl_sound.specs.Statements.{joins_of}

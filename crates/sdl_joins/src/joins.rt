@@ -1,7 +1,7 @@
 //! JOINs: where they stand, and to which connections a transition comes by them.
 ghost use Rattle.std.specs.Prelude.{◌≡◌, [], ◌++◌, ◌<◌, All, map, length, IfOk, OnOk};
-ghost use Rattle.sdl_tree.specs.Plain.{Text};
-ghost use Rattle.sdl_tree.specs.Views.{end_text, text_of, statement_of, choice_of, connection_of, process_of};
+ghost use Rattle.sdl_ast.specs.Plain.{Text};
+ghost use Rattle.sdl_ast.specs.Views.{end_text, text_of, statement_of, choice_of, connection_of, process_of};
 ghost use Rattle.sdl_tables.specs.Names.{connector_names};
 ghost use Rattle.sdl_tables.specs.Scopes.{repeats};
 ghost use Rattle.sdl_sound.specs.Statements.{joins_of};
@@ -11,8 +11,8 @@ ghost use Rattle.sdl_joins.specs.Links.{graph_in, IsGraph};
 ghost use Rattle.sdl_sound.specs.Orders.{targets_of, links_of, joins_in};
 
 use crate::graph::marks_from;
+use sdl_ast::{Connection, Decision, End, Join, Statement, Transition};
 use sdl_tables::{NameTable, ProcessTable};
-use sdl_tree::{Connection, Decision, End, Join, Statement, Transition};
 use std::alloc::{AllocError, Global};
 
 fn push_end(joins: &mut Vec<Join>, end: Option<End>) -> Result<(), AllocError>

@@ -2,8 +2,8 @@
 //! all that it joins.
 ghost use Rattle.std.specs.Prelude.{◌≡◌, ◌<◌, [], List, map, length, Some, IfOk};
 ghost use Rattle.std.specs.List.{flat_map};
-ghost use Rattle.sdl_tree.specs.Plain.{PlainConnection};
-ghost use Rattle.sdl_tree.specs.Views.{process_of, block_of};
+ghost use Rattle.sdl_ast.specs.Plain.{PlainConnection};
+ghost use Rattle.sdl_ast.specs.Views.{process_of, block_of};
 ghost use Rattle.sdl_tables.specs.Names.{number_of, connector_names, processes_of};
 ghost use Rattle.sdl_tables.specs.Scopes.{Marks};
 ghost use Rattle.sdl_sound.specs.Joins.{comes_back, process_cycles};
@@ -12,8 +12,8 @@ ghost use Rattle.sdl_sound.specs.Orders.{links_of, IsOrdered, AreOrdered};
 
 use crate::graph::{marks_from, order_nodes};
 use crate::joins::{find_joins, find_links};
+use sdl_ast::Join;
 use sdl_tables::{BlockTable, ProcessTable, earlier};
-use sdl_tree::Join;
 use std::alloc::{AllocError, Global};
 
 /// The place of a JOIN, if it comes back to the connection with this number.

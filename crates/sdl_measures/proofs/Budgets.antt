@@ -6,10 +6,10 @@ use Rattle.std.specs.Option.{option_map, option_map_or}
 use Rattle.std.proofs.lemmas.Option.{slice_get_within, slice_get-map}
 use Rattle.std.proofs.lemmas.Grind.{flat_map-append}
 use Rattle.std.proofs.lemmas.List.Sums.{sum_by-cons}
-use Rattle.sdl_tree.specs.declared.tree.End.TheVariants.{NextState, Stop, Join}
-use Rattle.sdl_tree.specs.declared.tree.Join as the_join
-use Rattle.sdl_tree.specs.declared.tree.Range.{Range}
-use Rattle.sdl_tree.specs.Plain.{Tree, Text, falls, ends, does, decides, Choice, nothing_else, otherwise, answer, PlainConnection, PlainProcess}
+use Rattle.sdl_ast.specs.declared.tree.End.TheVariants.{NextState, Stop, Join}
+use Rattle.sdl_ast.specs.declared.tree.Join as the_join
+use Rattle.sdl_ast.specs.declared.tree.Range.{Range}
+use Rattle.sdl_ast.specs.Plain.{Tree, Text, falls, ends, does, decides, Choice, nothing_else, otherwise, answer, PlainConnection, PlainProcess}
 use Rattle.sdl_tables.specs.Names.{Variable, variables_of, same_name, number_of, connector_names, connection_named}
 use Rattle.sdl_sound.specs.Going.{goes_on, choice_goes_on}
 use Rattle.sdl_sound.specs.Statements.{statement_joins, statements_of, choice_statements, joins_of}

@@ -7,7 +7,7 @@ use Rattle.std.proofs.lemmas.List.{take_more, map-append, length-take-le}
 use Rattle.std.proofs.lemmas.List.Sums.{sum_by-cons}
 use Rattle.std.proofs.lemmas.List.Folds.{list_any-append}
 use Rattle.std.proofs.Math.Bool.{or-false}
-use Rattle.sdl_tree.specs.Plain.{Text, PlainConnection, PlainProcess}
+use Rattle.sdl_ast.specs.Plain.{Text, PlainConnection, PlainProcess}
 use Rattle.sdl_tables.specs.Names.{variables_of}
 use Rattle.sdl_sound.specs.Joins.{reaches, reached}
 use Rattle.sdl_sound.specs.Longest.{size, Piece, pieces_of}

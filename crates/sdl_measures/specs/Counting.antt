@@ -1,7 +1,7 @@
 -- What is known of connections when something that joins them is counted.
 use Rattle.std.specs.Prelude.{◌≡◌, ℕ, ◌+◌, Bool, true, false, List, slice_get}
 use Rattle.std.specs.Option.{option_map_or}
-use Rattle.sdl_tree.specs.Plain.{Text, Choice, PlainProcess}
+use Rattle.sdl_ast.specs.Plain.{Text, Choice, PlainProcess}
 use Rattle.sdl_tables.specs.Names.{number_of, connector_names, Variable, variables_of}
 use Rattle.sdl_sound.specs.Longest.{budget, case_budget, pick_budget, depth, choice_depth, effects, choice_effects, size, bodies_size, tests_size}
 use Rattle.sdl_sound.specs.Going.{goes_on, choice_goes_on}

@@ -2,7 +2,7 @@
 use Rattle.std.specs.Prelude.{◌≡◌, ℕ, List, min}
 use Rattle.std.specs.List.{AllZip}
 use Rattle.std.specs.Global.{Vec}
-use Rattle.sdl_tree.specs.Plain.{PlainConnection, PlainProcess}
+use Rattle.sdl_ast.specs.Plain.{PlainConnection, PlainProcess}
 use Rattle.sdl_tables.specs.Names.{variables_of}
 use Rattle.sdl_sound.specs.Going.{goes_on}
 use Rattle.sdl_sound.specs.Longest.{budget, depth, effects, size, joined}

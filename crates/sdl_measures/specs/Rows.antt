@@ -1,7 +1,7 @@
 -- What the transitions of a process pass.
 use Rattle.std.specs.Prelude.{◌≡◌, ℕ, ◌+◌, Bool, false, ◌||◌, List, [], ◌∷◌, if◌then◌else◌, nat_lt}
 use Rattle.std.specs.List.{list_any}
-use Rattle.sdl_tree.specs.Plain.{PlainProcess}
+use Rattle.sdl_ast.specs.Plain.{PlainProcess}
 use Rattle.sdl_sound.specs.Longest.{Piece, pieces_of, piece_size, piece_depth, piece_effects}
 use Rattle.sdl_measures.specs.Counting.{measure_at}
 use Rattle.sdl_measures.specs.declared.measures.Measure.{Measure}

@@ -1,10 +1,10 @@
 //! What expressions and actions cost, how deep they are, and what effects they have, up to 4,294,967,295 each.
 ghost use Rattle.std.specs.Prelude.{◌≡◌, ℕ, map, length, sum_by};
-ghost use Rattle.sdl_tree.specs.Views.{tree_of, assignment_of, sending_of, action_of};
+ghost use Rattle.sdl_ast.specs.Views.{tree_of, assignment_of, sending_of, action_of};
 ghost use Rattle.sdl_sound.specs.Longest.{is_division, cost_of, depth_of, assignments_cost, assignments_depth, parameters_depth, sendings_cost, sendings_depth, action_cost, action_depth, action_effects, place_cost, place_depth, places_cost, places_depth};
 ghost use Rattle.sdl_measures.specs.Measures.{capped};
 
-use sdl_tree::{Action, Assignment, BinaryOperator, Expression, Identifier, Sending};
+use sdl_ast::{Action, Assignment, BinaryOperator, Expression, Identifier, Sending};
 
 /// Whether the right operand stands in the instruction itself.
 fn is_division(operator: BinaryOperator) -> bool

@@ -1,7 +1,7 @@
 //! The limits: how long and how deep transitions are, and how many of everything there are.
 ghost use Rattle.std.specs.Prelude.{◌≡◌, ◌++◌, ◌∷◌, [], ℕ, List, map, min, nat_lt, length, sum_by, find, IfOk};
 ghost use Rattle.std.specs.List.{flat_map, list_any};
-ghost use Rattle.sdl_tree.specs.Views.{text_of, process_of, block_of, signal_of};
+ghost use Rattle.sdl_ast.specs.Views.{text_of, process_of, block_of, signal_of};
 ghost use Rattle.sdl_tables.specs.Names.{connector_names, processes_of, signals_of, states_of, variables_of, timers_of};
 ghost use Rattle.sdl_tables.specs.Rows.{row_input, rows_inputs};
 ghost use Rattle.sdl_tables.specs.Scopes.{repeats};
@@ -10,16 +10,16 @@ ghost use Rattle.sdl_sound.specs.Orders.{links_of};
 ghost use Rattle.sdl_sound.specs.Longest.{Piece, pieces_of, input_piece};
 ghost use Rattle.sdl_measures.specs.Measures.{capped, AreMeasures, AllMeasures};
 ghost use Rattle.sdl_measures.specs.Rows.{marked_size, IsPassed, ArePassed, AllPassed, IsEither};
-ghost use Rattle.sdl_tree.specs.Plain.{PlainBlock};
+ghost use Rattle.sdl_ast.specs.Plain.{PlainBlock};
 ghost use Rattle.sdl_measures.specs.Counting.{measure_at};
 ghost use Rattle.sdl_sound.specs.Limits.{exceeds, number_limits, transition_limits, first_limit};
 
 use crate::counts::{places_cost, places_depth};
 use crate::measures::{Measure, NOTHING, measure_transition};
+use sdl_ast::{Identifier, SignalDeclaration, Transition};
 use sdl_joins::{find_links, reached_in};
 use sdl_sound::Limit;
 use sdl_tables::{BlockTable, InputRow, ProcessTable};
-use sdl_tree::{Identifier, SignalDeclaration, Transition};
 use std::alloc::{AllocError, Global};
 
 /// Whether a transition is too long or too deep, or has too many effects.

@@ -1,7 +1,7 @@
 //! What is measured of connections, and of transitions: how many instructions, operands and effects there are on a walk, and in all.
 ghost use Rattle.std.specs.Prelude.{◌≡◌, ◌+◌, ◌&&◌, ◌||◌, ℕ, max, if◌then◌else◌, length, IfOk};
-ghost use Rattle.sdl_tree.specs.Plain.{Text, Choice, does, otherwise};
-ghost use Rattle.sdl_tree.specs.Views.{action_of, end_text, text_of, statement_of, decision_of, choice_of, answer_of, process_of, block_of};
+ghost use Rattle.sdl_ast.specs.Plain.{Text, Choice, does, otherwise};
+ghost use Rattle.sdl_ast.specs.Views.{action_of, end_text, text_of, statement_of, decision_of, choice_of, answer_of, process_of, block_of};
 ghost use Rattle.sdl_sound.specs.Longest.{tests_budget, size};
 ghost use Rattle.sdl_measures.specs.Counting.{measure_named, IsBehind, IsMeasured, AreMeasured};
 ghost use Rattle.sdl_tables.specs.Names.{variables_of, processes_of};
@@ -9,9 +9,9 @@ ghost use Rattle.sdl_measures.specs.Measures.{capped, AreMeasures, AllMeasures};
 ghost use Rattle.sdl_sound.specs.Orders.{IsOrder, AreOrders};
 
 use crate::counts;
+use sdl_ast::{Action, Answer, Decision, End, Identifier, Range, Statement, Transition};
 use sdl_sorts::is_truth;
 use sdl_tables::{BlockTable, ProcessTable};
-use sdl_tree::{Action, Answer, Decision, End, Identifier, Range, Statement, Transition};
 use std::alloc::{AllocError, Global};
 
 /// What is measured of a connection, up to 4,294,967,295 each. What a JOIN to it goes on with counts what the

@@ -1,5 +1,5 @@
 -- What a resolved block keeps.
-use Rattle.sdl_tree.specs.Views.{block_of}
+use Rattle.sdl_ast.specs.Views.{block_of}
 use Rattle.sdl_tables.specs.Names.{processes_of}
 use Rattle.sdl_measures.specs.Measures.{AllMeasures}
 use Rattle.sdl_sound.specs.Orders.{AreOrders}

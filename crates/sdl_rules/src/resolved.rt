@@ -1,6 +1,6 @@
 //! From a block to the same block with its tables, known to be sound.
 ghost use Rattle.std.specs.Prelude.{◌≡◌, List, map, IfOk, IfErr};
-ghost use Rattle.sdl_tree.specs.Views.{signal_of, route_of, process_of, block_of};
+ghost use Rattle.sdl_ast.specs.Views.{signal_of, route_of, process_of, block_of};
 ghost use Rattle.sdl_tables.specs.Names.{signal_names, signals_of, process_names, processes_of, routes_of};
 ghost use Rattle.sdl_sound.specs.Orders.{AreOrders};
 ghost use Rattle.sdl_measures.specs.Measures.{AllMeasures};
@@ -8,6 +8,7 @@ ghost use Rattle.sdl_unset.specs.Surveys.{AllSettled};
 ghost use Rattle.sdl_sound.specs.Sound.{Sound};
 ghost use Rattle.sdl_sound.specs.Refusals.{IsDistinct, IsSingle, IsJoined, IsDivided, IsWithin, Refuses};
 
+use sdl_ast::{Block, Route, SignalDeclaration};
 use sdl_joins::find_orders;
 use sdl_measures::{Measure, first_limit, measure_all};
 use sdl_scopes::stray_end;
@@ -16,7 +17,6 @@ use sdl_statements::{
     bad_divisor, doubtful_output, lost_output, missing_answer, unknown_name, wrong_sort,
 };
 use sdl_tables::{BlockTable, NameTable, ProcessTable};
-use sdl_tree::{Block, Route, SignalDeclaration};
 use sdl_unset::{Unset, settle};
 use std::alloc::Global;
 use std::marker::Model;
@@ -32,8 +32,8 @@ pub struct Resolved<'a> {
 }
 
 impl<'a> Model for Resolved<'a> {
-    ghost use Rattle.sdl_tree.specs.declared.tree.Block as the_block;
-    ghost use Rattle.sdl_tree.specs.contracts.tree.Block as the_contract;
+    ghost use Rattle.sdl_ast.specs.declared.tree.Block as the_block;
+    ghost use Rattle.sdl_ast.specs.contracts.tree.Block as the_contract;
     ghost use Rattle.sdl_rules.specs.Resolving.{IsResolved};
 
     ghost Value = { the_block.Block };

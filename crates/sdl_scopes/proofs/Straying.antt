@@ -2,11 +2,11 @@
 use Rattle.std.proofs.Common.{◌≡◌, ℕ, ◌+◌, ◌<◌, List, [], ◌∷◌, ◌++◌, length, drop, get_or, refl, sym, ap, ◌∙◌, subst}
 use Rattle.std.specs.List.{flat_map}
 use Rattle.std.proofs.lemmas.List.{append_assoc, drop_more}
-use Rattle.sdl_tree.specs.declared.expression.Identifier.{Identifier}
-use Rattle.sdl_tree.specs.declared.tree.Answer.{Answer}
-use Rattle.sdl_tree.specs.declared.tree.Statement.{Statement}
-use Rattle.sdl_tree.specs.Plain.{Text, Choice}
-use Rattle.sdl_tree.specs.Views.{text_of, statement_of, statements_before, answers_before}
+use Rattle.sdl_ast.specs.declared.expression.Identifier.{Identifier}
+use Rattle.sdl_ast.specs.declared.tree.Answer.{Answer}
+use Rattle.sdl_ast.specs.declared.tree.Statement.{Statement}
+use Rattle.sdl_ast.specs.Plain.{Text, Choice}
+use Rattle.sdl_ast.specs.Views.{text_of, statement_of, statements_before, answers_before}
 use Rattle.sdl_sound.specs.Ends.{strays, choice_strays}
 use Rattle.sdl_scopes.specs.Rests.{IsRest}
 use Rattle.sdl_scopes.specs.declared.ends.Rest.{Rest}

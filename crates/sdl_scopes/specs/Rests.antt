@@ -1,7 +1,7 @@
 -- What is stray from some statement of a list on, as the code keeps it.
 use Rattle.std.specs.Prelude.{ℕ, List, [], ◌∷◌}
-use Rattle.sdl_tree.specs.declared.expression.Identifier.{Identifier}
-use Rattle.sdl_tree.specs.Plain.{Text}
+use Rattle.sdl_ast.specs.declared.expression.Identifier.{Identifier}
+use Rattle.sdl_ast.specs.Plain.{Text}
 use Rattle.sdl_tables.specs.Scopes.{Marks}
 use Rattle.sdl_sound.specs.Ends.{first_place, strays}
 use Rattle.sdl_scopes.specs.declared.ends.Rest.{Rest}

@@ -2,9 +2,9 @@
 //! DECISION none of whose bodies does.
 ghost use Rattle.std.specs.Prelude.{◌≡◌, ℕ, List, ◌∷◌, [], map, if◌then◌else◌};
 ghost use Rattle.std.specs.List.{flat_map};
-ghost use Rattle.sdl_tree.specs.declared.expression.Identifier as id;
-ghost use Rattle.sdl_tree.specs.Plain.{Text, does, decides, Choice, Tree};
-ghost use Rattle.sdl_tree.specs.Views.{action_of, end_text, text_of, statement_of, choice_of, else_choice, input_of, connection_of, process_of, block_of};
+ghost use Rattle.sdl_ast.specs.declared.expression.Identifier as id;
+ghost use Rattle.sdl_ast.specs.Plain.{Text, does, decides, Choice, Tree};
+ghost use Rattle.sdl_ast.specs.Views.{action_of, end_text, text_of, statement_of, choice_of, else_choice, input_of, connection_of, process_of, block_of};
 ghost use Rattle.sdl_tables.specs.Names.{is_in};
 ghost use Rattle.sdl_tables.specs.Scopes.{Marks};
 ghost use Rattle.sdl_sound.specs.Going.{choice_goes_on};
@@ -12,8 +12,8 @@ ghost use Rattle.sdl_sound.specs.Ends.{action_place, end_place, stray_end, stray
 ghost use Rattle.sdl_scopes.specs.Rests.{IsRest};
 
 use crate::going::a_body_goes_on;
+use sdl_ast::{Action, Connection, Decision, End, Identifier, InputPart, Statement, Transition};
 use sdl_tables::{BlockTable, NameTable, ProcessTable, earlier};
-use sdl_tree::{Action, Connection, Decision, End, Identifier, InputPart, Statement, Transition};
 
 /// What is stray from some statement of a list on.
 #[derive(Clone, Copy)]

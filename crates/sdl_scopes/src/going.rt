@@ -1,9 +1,9 @@
 //! Whether what stands behind a transition, or behind a DECISION, may follow.
 ghost use Rattle.std.specs.Prelude.{◌≡◌, ◌&&◌};
-ghost use Rattle.sdl_tree.specs.Views.{text_of, choice_of, statement_of};
+ghost use Rattle.sdl_ast.specs.Views.{text_of, choice_of, statement_of};
 ghost use Rattle.sdl_sound.specs.Going.{goes_on, choice_goes_on};
 
-use sdl_tree::{Decision, Statement, Transition};
+use sdl_ast::{Decision, Statement, Transition};
 
 /// Whether a transition may run off its end. (Z.100: terminator.)
 #[cycle(going)]

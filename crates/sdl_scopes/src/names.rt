@@ -2,17 +2,17 @@
 ghost use Rattle.std.specs.Prelude.{◌≡◌, ◌++◌, ◌∷◌, [], List, Option, map, if◌then◌else◌};
 ghost use Rattle.std.specs.List.{flat_map};
 ghost use Rattle.std.specs.Option.{option_to_list};
-ghost use Rattle.sdl_tree.specs.Plain.{output};
-ghost use Rattle.sdl_tree.specs.Views.{tree_of, assignment_of, sending_of, action_of, clause_of, state_of, stimulus_of, input_of, path_of, route_of, entity_of, process_of, block_of};
+ghost use Rattle.sdl_ast.specs.Plain.{output};
+ghost use Rattle.sdl_ast.specs.Views.{tree_of, assignment_of, sending_of, action_of, clause_of, state_of, stimulus_of, input_of, path_of, route_of, entity_of, process_of, block_of};
 ghost use Rattle.sdl_tables.specs.Names.{is_in, variable_names, timers_of, connector_names, clause_saves, routes_in, routes_of};
 ghost use Rattle.sdl_tables.specs.Scopes.{Marks};
 ghost use Rattle.sdl_sound.specs.Names.{unknown, party_names, path_unknown, route_unknown, tree_names, assignment_names, sending_unknown, destination_names, action_unknown, end_connectors, trigger_names, saves_unknown, place_names, stimulus_unknown, input_unknown};
 
-use sdl_tables::{BlockTable, NameTable, ProcessTable, earlier};
-use sdl_tree::{
+use sdl_ast::{
     Action, Assignment, Destination, End, Entity, Expression, Identifier, InputPart, Output, Party,
     Path, Sending, SetTimer, StateClause, StatePart, Stimulus,
 };
+use sdl_tables::{BlockTable, NameTable, ProcessTable, earlier};
 
 /// The place of a name that a table lacks.
 fn missing(names: &NameTable, id: Identifier) -> Option<u32>

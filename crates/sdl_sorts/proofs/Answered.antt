@@ -3,9 +3,9 @@ use Rattle.std.proofs.Common.{◌≡◌, ℕ, ◌+◌, Bool, true, ◌&&◌, Lis
 use Rattle.std.specs.Prelude.{nat_lt, sum_by, is_some}
 use Rattle.std.specs.List.{list_all}
 use Rattle.std.proofs.lemmas.List.Sums.{sum_by-cons}
-use Rattle.sdl_tree.specs.declared.tree.Answer.{Answer}
-use Rattle.sdl_tree.specs.declared.tree.Transition.{Transition}
-use Rattle.sdl_tree.specs.Views.{text_of, answers_before, else_choice}
+use Rattle.sdl_ast.specs.declared.tree.Answer.{Answer}
+use Rattle.sdl_ast.specs.declared.tree.Transition.{Transition}
+use Rattle.sdl_ast.specs.Views.{text_of, answers_before, else_choice}
 use Rattle.sdl_sound.specs.Decisions.{has_else, names_value, times_named, has_values}
 use Rattle.sdl_sound.proofs.Views.{answer_of-is}
 

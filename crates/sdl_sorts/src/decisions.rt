@@ -1,8 +1,8 @@
 //! The rule on answers: the first DECISION in which a value has none, or more than one.
 ghost use Rattle.std.specs.Prelude.{◌≡◌, ℕ, ◌+◌, not, length, nat_eq, nat_lt, sum_by};
 ghost use Rattle.std.specs.List.{list_all};
-ghost use Rattle.sdl_tree.specs.declared.tree.Decision.{out-Decision};
-ghost use Rattle.sdl_tree.specs.Views.{tree_of, choice_of, process_of};
+ghost use Rattle.sdl_ast.specs.declared.tree.Decision.{out-Decision};
+ghost use Rattle.sdl_ast.specs.Views.{tree_of, choice_of, process_of};
 ghost use Rattle.sdl_tables.specs.Names.{variables_of};
 ghost use Rattle.sdl_tables.specs.Scopes.{Marks};
 ghost use Rattle.sdl_sound.specs.Decisions.{has_else, is_value, names_value, times_named, answers_both, has_values, is_answered, statement_unanswered};
@@ -10,8 +10,8 @@ ghost use Rattle.sdl_sound.specs.Parts.{question_of};
 ghost use Rattle.sdl_sorts.specs.Times.{Counted};
 
 use crate::sorts::is_truth;
+use sdl_ast::{Answer, Decision, Literal, Range};
 use sdl_tables::ProcessTable;
-use sdl_tree::{Answer, Decision, Literal, Range};
 
 /// How often something is there.
 #[derive(Clone, Copy)]

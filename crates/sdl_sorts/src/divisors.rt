@@ -1,14 +1,14 @@
 //! The rule on divisions: the first divisor that is no literal of 1 or more.
 ghost use Rattle.std.specs.Prelude.{◌≡◌, map};
 ghost use Rattle.std.specs.List.{flat_map};
-ghost use Rattle.sdl_tree.specs.Expressions.{place_of};
-ghost use Rattle.sdl_tree.specs.Views.{tree_of, assignment_of, sending_of, action_of};
+ghost use Rattle.sdl_ast.specs.Places.{place_of};
+ghost use Rattle.sdl_ast.specs.Views.{tree_of, assignment_of, sending_of, action_of};
 ghost use Rattle.sdl_tables.specs.Scopes.{Marks};
 ghost use Rattle.sdl_sound.specs.Divisors.{divides, is_divisor, bad_divisor, bad_divisors_in, assignment_divisors, sending_divisors, action_divisors};
 
+use sdl_ast::{Action, Assignment, BinaryOperator, Expression, Sending};
 use sdl_lex::MAX_NUMBER;
 use sdl_tables::earlier;
-use sdl_tree::{Action, Assignment, BinaryOperator, Expression, Sending};
 
 /// The place of an expression.
 pub(crate) fn place(expression: &Expression) -> u32

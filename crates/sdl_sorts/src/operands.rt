@@ -2,16 +2,16 @@
 ghost use Rattle.std.specs.Prelude.{◌≡◌, map, slice_get, zip, []};
 ghost use Rattle.std.specs.List.{flat_map};
 ghost use Rattle.std.specs.Option.{option_map_or};
-ghost use Rattle.sdl_tree.specs.Views.{tree_of, assignment_of, sending_of, action_of, process_of, block_of};
+ghost use Rattle.sdl_ast.specs.Views.{tree_of, assignment_of, sending_of, action_of, process_of, block_of};
 ghost use Rattle.sdl_tables.specs.Names.{variables_of};
 ghost use Rattle.sdl_tables.specs.Scopes.{Marks};
 ghost use Rattle.sdl_sound.specs.Sorts.{misfit, wrong_operands, wrong_in, wrong_for, wrong_variable, wrong_assignment, parameter_sorts, wrong_parameter, wrong_number, wrong_sending, wrong_action};
 
 use crate::divisors::place;
 use crate::sorts::{have_one_sort, operand_sort, sort_in, unary_sort, variable_sort};
+use sdl_ast::{Action, Assignment, BinaryOperator, Expression, Sending, Sort};
 use sdl_lex::Name;
 use sdl_tables::{BlockTable, ProcessTable, earlier};
-use sdl_tree::{Action, Assignment, BinaryOperator, Expression, Sending, Sort};
 
 /// The place of an expression that has another sort.
 fn misfit(process: &ProcessTable, want: Option<Sort>, expression: &Expression) -> Option<u32>

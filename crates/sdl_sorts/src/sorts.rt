@@ -1,12 +1,12 @@
 //! The sort of an expression. (Z.100: expressions of a sort.)
 ghost use Rattle.std.specs.Prelude.{◌≡◌};
-ghost use Rattle.sdl_tree.specs.Views.{tree_of, process_of};
+ghost use Rattle.sdl_ast.specs.Views.{tree_of, process_of};
 ghost use Rattle.sdl_tables.specs.Names.{variables_of};
 ghost use Rattle.sdl_sound.specs.Sorts.{same_sort, has_sort, have_one_sort, variable_sort, unary_sort, binary_sort, operand_sort, sort_in, is_truth};
 
+use sdl_ast::{BinaryOperator, Expression, Sort, UnaryOperator};
 use sdl_lex::Name;
 use sdl_tables::ProcessTable;
-use sdl_tree::{BinaryOperator, Expression, Sort, UnaryOperator};
 
 pub(crate) fn same_sort(one: Sort, other: Sort) -> bool
     ensures { result ≡ same_sort one other }

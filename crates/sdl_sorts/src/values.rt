@@ -2,7 +2,7 @@
 ghost use Rattle.std.specs.Prelude.{◌≡◌, map, slice_get, zip, []};
 ghost use Rattle.std.specs.List.{flat_map};
 ghost use Rattle.std.specs.Option.{option_map_or};
-ghost use Rattle.sdl_tree.specs.Views.{tree_of, stimulus_of, input_of, process_of, block_of};
+ghost use Rattle.sdl_ast.specs.Views.{tree_of, stimulus_of, input_of, process_of, block_of};
 ghost use Rattle.sdl_tables.specs.Names.{variables_of};
 ghost use Rattle.sdl_tables.specs.Rows.{variable_of};
 ghost use Rattle.sdl_tables.specs.Scopes.{Marks};
@@ -11,8 +11,8 @@ ghost use Rattle.sdl_sound.specs.Sorts.{wrong_place, too_many_places, wrong_stim
 use crate::divisors::place;
 use crate::operands::parameter_sorts;
 use crate::sorts::{has_sort, is_truth, same_sort, variable_sort};
+use sdl_ast::{Constant, Expression, Identifier, InputPart, Literal, Range, Sort, Stimulus};
 use sdl_tables::{BlockTable, ProcessTable, Variable, earlier};
-use sdl_tree::{Constant, Expression, Identifier, InputPart, Literal, Range, Sort, Stimulus};
 
 fn wrong_place(process: &ProcessTable, want: Sort, place: Option<Identifier>) -> Option<u32>
     ensures { Marks result (wrong_place (variables_of (process_of process.now)) (want, place)) }

@@ -1,7 +1,7 @@
 -- Names, their numbers in a list, and names that are the same.
 use Rattle.sdl_lex.specs.Spelling.{folded}
 use Rattle.sdl_tables.specs.Names.{same_name, number_of}
-use Rattle.sdl_tree.specs.declared.expression.Identifier.{Identifier}
+use Rattle.sdl_ast.specs.declared.expression.Identifier.{Identifier}
 use Rattle.std.proofs.Common.{◌≡◌, ℕ, zero, suc, ◌+◌, ◌<◌, true, List, [], ◌∷◌, length, None, Some, sym, ap, ◌∙◌, arith, get_or, Bool, false, not, cond, inl, inr, position}
 use Rattle.std.proofs.lemmas.Bool.{cases_Bool, lt-ltb}
 use Rattle.std.proofs.lemmas.List.Quantifiers.{position-Some}

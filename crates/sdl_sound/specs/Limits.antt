@@ -1,7 +1,7 @@
 -- S10: the limits of this profile, in this order.
 use Rattle.std.specs.Prelude.{Bool, List, [], ◌∷◌, ◌++◌, Option, length, nat_lt, find, sum_by}
 use Rattle.std.specs.List.{list_any}
-use Rattle.sdl_tree.specs.Plain.{PlainBlock}
+use Rattle.sdl_ast.specs.Plain.{PlainBlock}
 use Rattle.sdl_tables.specs.Names.{signals_of, processes_of, variables_of, timers_of, states_of}
 use Rattle.sdl_sound.specs.Longest.{pieces_of, piece_size, piece_depth, piece_effects}
 use Rattle.sdl_sound.specs.declared.fault.Limit.{Limit}

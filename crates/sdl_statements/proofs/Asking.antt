@@ -3,12 +3,12 @@ use Rattle.std.proofs.Common.{◌≡◌, ℕ, false, true≢false, List, [], ◌
 use Rattle.std.specs.List.{flat_map}
 use Rattle.std.proofs.lemmas.List.{append-nil, append_assoc}
 use Rattle.std.proofs.lemmas.Grind.{flat_map-append}
-use Rattle.sdl_tree.specs.declared.tree.End.{End}
-use Rattle.sdl_tree.specs.declared.tree.Answer.{Answer}
-use Rattle.sdl_tree.specs.declared.tree.Transition.{Transition}
-use Rattle.sdl_tree.specs.declared.tree.Statement as the_statement
-use Rattle.sdl_tree.specs.Plain.{Tree, Text, falls, Choice, PlainStatement, act, decide, before, PlainProcess, PlainBlock}
-use Rattle.sdl_tree.specs.Views.{text_of, statements_before, answers_before, else_choice, end_text, plain_statement}
+use Rattle.sdl_ast.specs.declared.tree.End.{End}
+use Rattle.sdl_ast.specs.declared.tree.Answer.{Answer}
+use Rattle.sdl_ast.specs.declared.tree.Transition.{Transition}
+use Rattle.sdl_ast.specs.declared.tree.Statement as the_statement
+use Rattle.sdl_ast.specs.Plain.{Tree, Text, falls, Choice, PlainStatement, act, decide, before, PlainProcess, PlainBlock}
+use Rattle.sdl_ast.specs.Views.{text_of, statements_before, answers_before, else_choice, end_text, plain_statement}
 use Rattle.sdl_sound.specs.Statements.{Statement, asks, covers, finishes, statements_of, choice_statements}
 use Rattle.sdl_sound.specs.Actions.{Origin}
 use Rattle.sdl_statements.specs.Asked.{asked_all, asks_origin}

@@ -2,7 +2,7 @@
 use Rattle.std.proofs.Common.{◌≡◌, ℕ, List, [], ◌∷◌, ◌++◌, Bool, Option, Some, if◌then◌else◌, map, slice_get, false, refl, ap, ◌∙◌}
 use Rattle.std.specs.List.{flat_map}
 use Rattle.std.specs.Option.{option_map, option_map_or}
-use Rattle.sdl_tree.specs.Plain.{Text, PlainConnection, PlainInput, PlainProcess}
+use Rattle.sdl_ast.specs.Plain.{Text, PlainConnection, PlainInput, PlainProcess}
 use Rattle.sdl_tables.specs.Names.{input_parts}
 use Rattle.sdl_sound.specs.Joins.{reaches}
 use Rattle.sdl_sound.specs.Actions.{begins, input_origins, start_origins, joining_origins, connection_origins}

@@ -10,15 +10,15 @@ use Rattle.std.proofs.lemmas.Option.{slice_get_within}
 use Rattle.std.proofs.lemmas.Grind.{flat_map-append}
 use Rattle.std.proofs.lemmas.Slice.Eq.{bytes_eq-Decides}
 use Rattle.sdl_lex.specs.Spelling.{folded}
-use Rattle.sdl_tree.specs.declared.tree.Party.{Party}
-use Rattle.sdl_tree.specs.declared.tree.Party.TheVariants.{Environment, Process}
-use Rattle.sdl_tree.specs.Plain.{PlainPath, PlainProcess, PlainBlock}
+use Rattle.sdl_ast.specs.declared.tree.Party.{Party}
+use Rattle.sdl_ast.specs.declared.tree.Party.TheVariants.{Environment, Process}
+use Rattle.sdl_ast.specs.Plain.{PlainPath, PlainProcess, PlainBlock}
 use Rattle.sdl_tables.specs.Names.{is_in, process_names}
-use Rattle.sdl_tree.specs.declared.expression.Identifier.{Identifier}
+use Rattle.sdl_ast.specs.declared.expression.Identifier.{Identifier}
 use Rattle.sdl_tables.specs.Routes.{parties_once}
 use Rattle.sdl_sound.specs.Receivers.{party_of, same_party, paths_of, brings, carries, add_party, senders, answers, answers_origin, answers_all}
-use Rattle.sdl_tree.specs.declared.tree.Stimulus.{Stimulus}
-use Rattle.sdl_tree.specs.Views.{stimulus_of}
+use Rattle.sdl_ast.specs.declared.tree.Stimulus.{Stimulus}
+use Rattle.sdl_ast.specs.Views.{stimulus_of}
 use Rattle.sdl_sound.specs.Actions.{takes}
 use Rattle.sdl_statements.specs.SenderTables.{party_number, IsNumbered, numbered, AreSendersOf}
 use Rattle.sdl_statements.specs.declared.sender_table.Numbered.{Numbered}

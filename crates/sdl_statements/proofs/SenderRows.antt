@@ -4,9 +4,9 @@ use Rattle.std.specs.Prelude.{slice_get}
 use Rattle.std.specs.List.{flat_map}
 use Rattle.std.specs.Global.{Vec}
 use Rattle.sdl_lex.specs.Spelling.{folded}
-use Rattle.sdl_tree.specs.declared.expression.Identifier.{Identifier}
-use Rattle.sdl_tree.specs.declared.tree.Party.{Party}
-use Rattle.sdl_tree.specs.Plain.{PlainPath, PlainProcess, PlainBlock}
+use Rattle.sdl_ast.specs.declared.expression.Identifier.{Identifier}
+use Rattle.sdl_ast.specs.declared.tree.Party.{Party}
+use Rattle.sdl_ast.specs.Plain.{PlainPath, PlainProcess, PlainBlock}
 use Rattle.sdl_tables.specs.Names.{number_of}
 use Rattle.sdl_tables.specs.Routes.{same_party, paths_of, path_senders, senders, parties_once}
 use Rattle.sdl_sound.specs.Receivers.{party_of}

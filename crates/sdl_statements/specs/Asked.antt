@@ -1,7 +1,7 @@
 -- What each rule on statements asks of one.
 use Rattle.std.specs.Prelude.{ℕ, Bool, true, false, List}
 use Rattle.std.specs.List.{flat_map}
-use Rattle.sdl_tree.specs.Plain.{PlainProcess, PlainBlock}
+use Rattle.sdl_ast.specs.Plain.{PlainProcess, PlainBlock}
 use Rattle.sdl_tables.specs.Names.{variables_of}
 use Rattle.sdl_sound.specs.Statements.{Statement}
 use Rattle.sdl_sound.specs.Actions.{Origin}

@@ -1,6 +1,6 @@
 -- What a search for receivers tells.
 use Rattle.std.specs.Prelude.{◌≡◌, ◌<◌, List, [], ◌∷◌, length}
-use Rattle.sdl_tree.specs.declared.tree.Party.{Party}
+use Rattle.sdl_ast.specs.declared.tree.Party.{Party}
 use Rattle.sdl_statements.specs.declared.receivers.Recipients.{Recipients}
 use Rattle.sdl_statements.specs.declared.receivers.Recipients.TheVariants.{Nobody, One, Several}
 

@@ -2,15 +2,15 @@
 use Rattle.std.specs.Prelude.{◌≡◌, ◌⊎◌, ℕ, Bool, true, false, Option, None, Some, List, [], ◌∷◌, if◌then◌else◌, map, slice_get}
 use Rattle.std.specs.List.{list_all, flat_map}
 use Rattle.std.specs.Option.{option_map_or}
-use Rattle.sdl_tree.specs.Plain.{Text, PlainInput, PlainProcess, PlainBlock}
-use Rattle.sdl_tree.specs.Views.{input_of}
-use Rattle.sdl_tree.specs.declared.expression.Identifier.{Identifier}
+use Rattle.sdl_ast.specs.Plain.{Text, PlainInput, PlainProcess, PlainBlock}
+use Rattle.sdl_ast.specs.Views.{input_of}
+use Rattle.sdl_ast.specs.declared.expression.Identifier.{Identifier}
 use Rattle.sdl_tables.specs.Names.{input_parts, is_in}
 use Rattle.sdl_sound.specs.Joins.{reaches}
 use Rattle.sdl_sound.specs.Actions.{Origin, begins, input_origins}
 use Rattle.sdl_sound.specs.Receivers.{party_of, carries, answers_all}
 use Rattle.sdl_statements.specs.SenderTables.{party_number}
-use Rattle.sdl_tree.specs.declared.tree.Party as the_party
+use Rattle.sdl_ast.specs.declared.tree.Party as the_party
 use Rattle.sdl_statements.specs.declared.known.KnownSenders.{KnownSenders}
 use Rattle.sdl_statements.specs.declared.sources.Reaching.{Reaching}
 use Rattle.sdl_statements.specs.declared.sources.Sender.{Sender}

@@ -2,16 +2,16 @@
 //! each of them that is asked of every sender once.
 ghost use Rattle.std.specs.Prelude.{◌≡◌, [], List, OnOk};
 ghost use Rattle.std.specs.List.{list_all};
-ghost use Rattle.sdl_tree.specs.Plain.{PlainProcess, PlainBlock};
-ghost use Rattle.sdl_tree.specs.Views.{process_of, block_of};
+ghost use Rattle.sdl_ast.specs.Plain.{PlainProcess, PlainBlock};
+ghost use Rattle.sdl_ast.specs.Views.{process_of, block_of};
 ghost use Rattle.sdl_sound.specs.Actions.{Origin};
 ghost use Rattle.sdl_sound.specs.Receivers.{party_of, answers_all};
 ghost use Rattle.sdl_statements.specs.Sources.{gets_back, AreSenders, Knows};
 
 use crate::sources::Sender;
+use sdl_ast::{Action, Decision, Destination, Identifier, Party, Sending, Statement, Transition};
 use sdl_lex::Name;
 use sdl_tables::{BlockTable, NameTable, ProcessTable};
-use sdl_tree::{Action, Decision, Destination, Identifier, Party, Sending, Statement, Transition};
 use std::alloc::{AllocError, Global};
 
 /// A process as a party.

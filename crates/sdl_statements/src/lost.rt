@@ -2,7 +2,7 @@
 //! transition begins with.
 ghost use Rattle.std.specs.Prelude.{◌≡◌, List, [], ◌∷◌, map, IfOk};
 ghost use Rattle.std.specs.List.{flat_map};
-ghost use Rattle.sdl_tree.specs.Views.{text_of, input_of, connection_of, process_of, block_of};
+ghost use Rattle.sdl_ast.specs.Views.{text_of, input_of, connection_of, process_of, block_of};
 ghost use Rattle.sdl_tables.specs.Scopes.{Marks};
 ghost use Rattle.sdl_sound.specs.Receivers.{without_receiver};
 ghost use Rattle.sdl_statements.specs.declared.statements.StatementRule.TheVariants.{Receivers};
@@ -16,8 +16,8 @@ use crate::known::{KnownSenders, learn_transition};
 use crate::sender_table::{SenderTable, find_senders};
 use crate::sources::{Sender, find_reaching, input_senders, senders_at, start_senders};
 use crate::statements::{StatementRule, in_transition};
+use sdl_ast::{Connection, InputPart, Transition};
 use sdl_tables::{BlockTable, ProcessTable, earlier};
-use sdl_tree::{Connection, InputPart, Transition};
 use std::alloc::{AllocError, Global};
 
 /// The place of a signal in a transition that nobody gets, where these may have sent what it begins with.

@@ -1,7 +1,7 @@
 //! The rules on receivers: the first OUTPUT that nobody gets, or more than one.
 ghost use Rattle.std.specs.Prelude.{◌≡◌, List, Some, map};
 ghost use Rattle.std.specs.List.{flat_map};
-ghost use Rattle.sdl_tree.specs.Views.{sending_of, action_of, process_of, block_of};
+ghost use Rattle.sdl_ast.specs.Views.{sending_of, action_of, process_of, block_of};
 ghost use Rattle.sdl_tables.specs.Scopes.{Marks};
 ghost use Rattle.sdl_sound.specs.Receivers.{party_of, receivers, arrives, lost_sending, lost_action, is_doubtful, doubtful_sending, doubtful_action};
 ghost use Rattle.sdl_sound.specs.Actions.{Origin};
@@ -9,9 +9,9 @@ ghost use Rattle.sdl_statements.specs.Sources.{Knows};
 ghost use Rattle.sdl_statements.specs.Founds.{Counts};
 
 use crate::known::{KnownSenders, party_of};
+use sdl_ast::{Action, Destination, Party, Sending};
 use sdl_lex::Name;
 use sdl_tables::{BlockTable, ProcessTable, earlier};
-use sdl_tree::{Action, Destination, Party, Sending};
 
 /// Who gets a signal by the routes.
 #[derive(Clone, Copy, Debug, PartialEq, Eq)]

@@ -1,13 +1,13 @@
 //! Who may have sent each signal that a process takes: the routes are asked once for each.
 ghost use Rattle.std.specs.Prelude.{◌≡◌, map, IfOk, OnOk, IfSome};
-ghost use Rattle.sdl_tree.specs.Plain.{PlainBlock, PlainProcess};
-ghost use Rattle.sdl_tree.specs.Views.{process_of, block_of};
+ghost use Rattle.sdl_ast.specs.Plain.{PlainBlock, PlainProcess};
+ghost use Rattle.sdl_ast.specs.Views.{process_of, block_of};
 ghost use Rattle.sdl_statements.specs.SenderTables.{party_number, numbered, AreSendersOf, Tells};
 
 use crate::known::party_of;
+use sdl_ast::{Identifier, InputPart, Party, Stimulus};
 use sdl_lex::Name;
 use sdl_tables::{BlockTable, NameTable, ProcessTable};
-use sdl_tree::{Identifier, InputPart, Party, Stimulus};
 use std::alloc::{AllocError, Global};
 
 /// A party with its number; two with one number are the same party.

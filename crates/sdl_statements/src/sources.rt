@@ -2,8 +2,8 @@
 ghost use Rattle.std.specs.Prelude.{◌≡◌, ◌&&◌, false, not, ℕ, Bool, [], ◌∷◌, ◌++◌, List, map, All, IfOk, OnOk};
 ghost use Rattle.std.specs.Option.{option_map_or};
 ghost use Rattle.std.specs.List.{list_all};
-ghost use Rattle.sdl_tree.specs.Plain.{PlainBlock, PlainProcess};
-ghost use Rattle.sdl_tree.specs.Views.{text_of, input_of, stimulus_of, process_of, block_of};
+ghost use Rattle.sdl_ast.specs.Plain.{PlainBlock, PlainProcess};
+ghost use Rattle.sdl_ast.specs.Views.{text_of, input_of, stimulus_of, process_of, block_of};
 ghost use Rattle.sdl_tables.specs.Names.{connector_names};
 ghost use Rattle.sdl_tables.specs.Scopes.{repeats};
 ghost use Rattle.sdl_joins.specs.Links.{graph_in, IsGraph};
@@ -15,10 +15,10 @@ ghost use Rattle.sdl_statements.specs.declared.sources.Sender.TheVariants.{Nobod
 ghost use Rattle.sdl_statements.specs.Sources.{sender_of, source_origins, reach_row, row_of, process_rows, is_marked, origins_at, AreSenders, Gathers, Marks};
 
 use crate::sender_table::{Numbered, SenderTable, numbered_senders};
+use sdl_ast::{InputPart, Party, Stimulus, Transition};
 use sdl_joins::{find_links, reached_in};
 use sdl_lex::Name;
 use sdl_tables::{BlockTable, ProcessTable};
-use sdl_tree::{InputPart, Party, Stimulus, Transition};
 use std::alloc::{AllocError, Global};
 
 /// Who sent what a transition begins with.

@@ -1,8 +1,8 @@
 //! The rules that each statement of a process is asked for by itself: on names, sorts, receivers, answers and divisors.
 ghost use Rattle.std.specs.Prelude.{◌≡◌, false, List, [], ◌∷◌, map};
 ghost use Rattle.std.specs.List.{flat_map};
-ghost use Rattle.sdl_tree.specs.Plain.{Tree, PlainBlock};
-ghost use Rattle.sdl_tree.specs.Views.{tree_of, action_of, text_of, else_choice, input_of, connection_of, process_of, block_of};
+ghost use Rattle.sdl_ast.specs.Plain.{Tree, PlainBlock};
+ghost use Rattle.sdl_ast.specs.Views.{tree_of, action_of, text_of, else_choice, input_of, connection_of, process_of, block_of};
 ghost use Rattle.sdl_tables.specs.Scopes.{Marks};
 ghost use Rattle.sdl_sound.specs.Names.{process_unknown, unknown_names};
 ghost use Rattle.sdl_sound.specs.Sorts.{wrong_sorts};
@@ -17,6 +17,9 @@ ghost use Rattle.sdl_statements.specs.Asked.{asked, asked_all, asks_origin};
 
 use crate::known::KnownSenders;
 use crate::receivers::{doubtful_in_action, lost_in_action};
+use sdl_ast::{
+    Action, Connection, Decision, End, Expression, InputPart, Range, Statement, Transition,
+};
 use sdl_scopes::{
     unknown_connector, unknown_in_action, unknown_in_block, unknown_in_expression,
     unknown_in_inputs, unknown_in_parts,
@@ -26,9 +29,6 @@ use sdl_sorts::{
     wrong_in_ranges,
 };
 use sdl_tables::{BlockTable, ProcessTable, earlier};
-use sdl_tree::{
-    Action, Connection, Decision, End, Expression, InputPart, Range, Statement, Transition,
-};
 use std::alloc::Global;
 
 /// A rule on statements.

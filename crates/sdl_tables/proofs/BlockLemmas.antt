@@ -5,16 +5,16 @@ use Rattle.std.specs.Option.{option_map, option_and_then}
 use Rattle.std.proofs.lemmas.List.{append-nil}
 use Rattle.std.proofs.lemmas.Option.{slice_get_past, slice_get-get_or}
 use denote.Ref.{Bor}
-use Rattle.sdl_tree.specs.declared.tree.SignalDeclaration.{SignalDeclaration}
-use Rattle.sdl_tree.specs.Views.{signal_of, route_of, process_of}
-use Rattle.sdl_tree.specs.declared.tree.Process as the_process
-use Rattle.sdl_tree.specs.declared.tree.Route as the_route
+use Rattle.sdl_ast.specs.declared.tree.SignalDeclaration.{SignalDeclaration}
+use Rattle.sdl_ast.specs.Views.{signal_of, route_of, process_of}
+use Rattle.sdl_ast.specs.declared.tree.Process as the_process
+use Rattle.sdl_ast.specs.declared.tree.Route as the_route
 use Rattle.sdl_tables.proofs.States.{map-map}
 use Rattle.std.proofs.lemmas.List.Folds.{find_at}
 use Rattle.std.proofs.lemmas.Grind.{flat_map-append}
 use Rattle.std.proofs.lemmas.Bool.Decides.{leb_tells}
-use Rattle.sdl_tree.specs.declared.expression.Identifier.{Identifier}
-use Rattle.sdl_tree.specs.Plain.{PlainSignal, PlainProcess, PlainBlock}
+use Rattle.sdl_ast.specs.declared.expression.Identifier.{Identifier}
+use Rattle.sdl_ast.specs.Plain.{PlainSignal, PlainProcess, PlainBlock}
 use Rattle.sdl_tables.specs.Names.{same_name, is_in, names_once, number_of, signal_names, route_names, process_names, signals_of, routes_of, processes_of, signal_named, timers_of}
 use Rattle.sdl_tables.specs.Scopes.{Marks, repeats, process_scopes, shared, signal_timers, double_names}
 use Rattle.sdl_tables.proofs.Tables.{position-map}

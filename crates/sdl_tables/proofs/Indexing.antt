@@ -3,7 +3,7 @@ use Rattle.std.proofs.Common.{◌≡◌, ℕ, Bool, true, false, not, cond, List
 use Rattle.std.specs.List.{list_any}
 use Rattle.std.proofs.lemmas.List.{map-append}
 use Rattle.indexmap.specs.IndexSet.{contains}
-use Rattle.sdl_tree.specs.declared.tree.Party.{Party}
+use Rattle.sdl_ast.specs.declared.tree.Party.{Party}
 use Rattle.sdl_tables.specs.declared.route_index.End.{End}
 use Rattle.sdl_tables.specs.declared.route_index.Passage.{Passage}
 use Rattle.sdl_tables.specs.declared.route_index.RouteIndex.{RouteIndex}

@@ -8,11 +8,11 @@ use Rattle.std.proofs.lemmas.Grind.{flat_map-append}
 use Rattle.std.proofs.lemmas.Slice.Eq.{bytes_eq-Decides}
 use Rattle.std.proofs.Math.Bool.{or-true, or-false}
 use Rattle.sdl_lex.specs.Spelling.{folded}
-use Rattle.sdl_tree.specs.declared.expression.Identifier.{Identifier}
-use Rattle.sdl_tree.specs.declared.tree.Party.{Party}
-use Rattle.sdl_tree.specs.declared.tree.Route.{Route}
-use Rattle.sdl_tree.specs.Plain.{PlainPath, PlainRoute}
-use Rattle.sdl_tree.specs.Views.{route_of}
+use Rattle.sdl_ast.specs.declared.expression.Identifier.{Identifier}
+use Rattle.sdl_ast.specs.declared.tree.Party.{Party}
+use Rattle.sdl_ast.specs.declared.tree.Route.{Route}
+use Rattle.sdl_ast.specs.Plain.{PlainPath, PlainRoute}
+use Rattle.sdl_ast.specs.Views.{route_of}
 use denote.Ref.{Bor}
 use Rattle.sdl_tables.specs.Names.{same_name, is_in}
 use Rattle.sdl_tables.specs.Routes.{same_party, brings, path_receivers, path_senders, add_party, parties_once}

@@ -11,8 +11,8 @@ use Rattle.std.proofs.lemmas.Bool.{eqb-true, eqb-false, eq-eqb}
 use Rattle.std.proofs.lemmas.Slice.Eq.{bytes_eq-Decides}
 use Rattle.std.proofs.Math.Bool.{or-true, or-false}
 use Rattle.sdl_lex.specs.Spelling.{folded}
-use Rattle.sdl_tree.specs.declared.expression.Identifier.{Identifier}
-use Rattle.sdl_tree.specs.Plain.{PlainState}
+use Rattle.sdl_ast.specs.declared.expression.Identifier.{Identifier}
+use Rattle.sdl_ast.specs.Plain.{PlainState}
 use Rattle.sdl_tables.specs.Names.{same_name, is_in, number_of, is_state, given_to}
 use Rattle.sdl_tables.specs.Scopes.{Marks, repeats}
 use Rattle.sdl_tables.proofs.Repeats.{repeats-append}

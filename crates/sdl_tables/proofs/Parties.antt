@@ -3,7 +3,7 @@ use Rattle.std.proofs.Common.{◌≡◌, false, ◌||◌, List, [], ◌∷◌, �
 use Rattle.std.proofs.lemmas.List.{map-append}
 use Rattle.std.specs.List.{list_any}
 use Rattle.std.specs.Map.{lookup, keys_of, values_of}
-use Rattle.sdl_tree.specs.declared.tree.Party.{Party}
+use Rattle.sdl_ast.specs.declared.tree.Party.{Party}
 use Rattle.sdl_tables.specs.Routes.{same_party}
 use Rattle.sdl_tables.specs.declared.route_index.Side.{Side}
 use Rattle.sdl_tables.specs.RouteIndexes.{same_side, side_of}

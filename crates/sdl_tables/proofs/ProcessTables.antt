@@ -1,8 +1,8 @@
 -- The tables of a process are the process's.
 use Rattle.std.proofs.Common.{◌≡◌, List, [], ◌++◌, map, sym, ap, ◌∙◌, append_assoc}
 use Rattle.std.specs.List.{flat_map}
-use Rattle.sdl_tree.specs.declared.expression.Identifier.{Identifier}
-use Rattle.sdl_tree.specs.Plain.{PlainProcess}
+use Rattle.sdl_ast.specs.declared.expression.Identifier.{Identifier}
+use Rattle.sdl_ast.specs.Plain.{PlainProcess}
 use Rattle.sdl_tables.specs.Names.{variable_names, variables_of, timers_of, connector_names, triggers_by_state}
 use Rattle.sdl_tables.specs.Rows.{variable_of}
 use Rattle.sdl_tables.specs.Scopes.{repeats, process_scopes}

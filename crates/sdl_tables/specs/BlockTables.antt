@@ -1,7 +1,7 @@
 -- What the tables of a block keep.
 use Rattle.std.specs.Prelude.{◌≡◌, [], map}
 use Rattle.std.specs.List.{flat_map}
-use Rattle.sdl_tree.specs.Views.{block_of, signal_of, route_of, process_of}
+use Rattle.sdl_ast.specs.Views.{block_of, signal_of, route_of, process_of}
 use Rattle.sdl_tables.specs.Names.{signal_names, signals_of, routes_of, process_names, processes_of}
 use Rattle.sdl_tables.specs.RouteIndexes.{mentions_of, Indexes}
 use Rattle.sdl_tables.specs.Routes.{paths_of}

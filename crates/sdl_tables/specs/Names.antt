@@ -4,10 +4,10 @@ use Rattle.std.specs.Prelude.{ℕ, Bool, false, ◌==◌, List, [], ◌∷◌, �
 use Rattle.std.specs.List.{list_any, flat_map, enumerate_from}
 use Rattle.std.specs.Option.{option_map_or}
 use Rattle.sdl_lex.specs.Spelling.{folded}
-use Rattle.sdl_tree.specs.declared.expression.Identifier.{Identifier}
-use Rattle.sdl_tree.specs.declared.tree.Sort.{Sort}
-use Rattle.sdl_tree.specs.declared.tree.Constant.{Constant}
-use Rattle.sdl_tree.specs.Plain.{Text, PlainConnection, PlainStimulus, PlainInput, PlainClause, input, save, PlainState, PlainGroup, PlainDeclaration, variables, timers, PlainProcess, PlainRoute, PlainSignal, PlainEntity, signals, route, connect, process, PlainBlock}
+use Rattle.sdl_ast.specs.declared.expression.Identifier.{Identifier}
+use Rattle.sdl_ast.specs.declared.tree.Sort.{Sort}
+use Rattle.sdl_ast.specs.declared.tree.Constant.{Constant}
+use Rattle.sdl_ast.specs.Plain.{Text, PlainConnection, PlainStimulus, PlainInput, PlainClause, input, save, PlainState, PlainGroup, PlainDeclaration, variables, timers, PlainProcess, PlainRoute, PlainSignal, PlainEntity, signals, route, connect, process, PlainBlock}
 
 -- two spellings of one name
 abbrev pub same_name : List ℕ → List ℕ → Bool

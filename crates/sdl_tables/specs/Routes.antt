@@ -2,9 +2,9 @@
 -- A path brings its signals in the direction in which it is written, and no other. (Z.100: signal routes, output.)
 use Rattle.std.specs.Prelude.{ℕ, Bool, true, false, ◌&&◌, List, [], ◌∷◌, ◌++◌, if◌then◌else◌, fold}
 use Rattle.std.specs.List.{list_any, flat_map}
-use Rattle.sdl_tree.specs.declared.tree.Party.{Party}
-use Rattle.sdl_tree.specs.declared.tree.Party.TheVariants.{Environment, Process}
-use Rattle.sdl_tree.specs.Plain.{PlainPath, PlainBlock}
+use Rattle.sdl_ast.specs.declared.tree.Party.{Party}
+use Rattle.sdl_ast.specs.declared.tree.Party.TheVariants.{Environment, Process}
+use Rattle.sdl_ast.specs.Plain.{PlainPath, PlainBlock}
 use Rattle.sdl_tables.specs.Names.{same_name, is_in, routes_of}
 
 -- two ways to write one party

@@ -3,9 +3,9 @@ use Rattle.std.specs.Prelude.{ℕ, List, [], map, slice_get}
 use Rattle.std.specs.Global.{Vec}
 use Rattle.std.specs.List.{flat_map}
 use Rattle.std.specs.Option.{option_map_or}
-use Rattle.sdl_tree.specs.declared.expression.Identifier.{Identifier}
-use Rattle.sdl_tree.specs.Plain.{PlainInput, PlainClause, input, PlainState}
-use Rattle.sdl_tree.specs.Views.{stimulus_of, text_of}
+use Rattle.sdl_ast.specs.declared.expression.Identifier.{Identifier}
+use Rattle.sdl_ast.specs.Plain.{PlainInput, PlainClause, input, PlainState}
+use Rattle.sdl_ast.specs.Views.{stimulus_of, text_of}
 use Rattle.sdl_tables.specs.Names as names
 use Rattle.sdl_tables.specs.declared.process_table.Variable as row
 use Rattle.sdl_tables.specs.declared.process_table.InputRow.{InputRow}

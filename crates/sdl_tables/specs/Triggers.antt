@@ -2,8 +2,8 @@
 use Rattle.std.specs.Prelude.{◌≡◌, ℕ, ◌<◌, ◌==◌, true, List, Some, map, length, get_or, slice_get}
 use Rattle.std.specs.Global.{Vec}
 use Rattle.std.specs.List.{flat_map, AllByRecursion}
-use Rattle.sdl_tree.specs.declared.expression.Identifier.{Identifier}
-use Rattle.sdl_tree.specs.Plain.{PlainState}
+use Rattle.sdl_ast.specs.declared.expression.Identifier.{Identifier}
+use Rattle.sdl_ast.specs.Plain.{PlainState}
 use Rattle.sdl_tables.specs.Names.{is_in, number_of, part_triggers}
 use Rattle.sdl_tables.specs.Rows.{row_at}
 use Rattle.sdl_tables.specs.declared.triggers.Trigger.{Trigger}

@@ -2,7 +2,7 @@
 ghost use Rattle.std.specs.Prelude.{◌≡◌, ◌++◌, [], ℕ, List, map, IfOk, IfErr, OnOk, IfNone};
 ghost use Rattle.std.specs.List.{flat_map};
 ghost use Rattle.std.specs.Option.{option_map};
-ghost use Rattle.sdl_tree.specs.Views.{signal_of, route_of, process_of, entity_of, block_of};
+ghost use Rattle.sdl_ast.specs.Views.{signal_of, route_of, process_of, entity_of, block_of};
 ghost use Rattle.sdl_tables.specs.Names.{signals_in, routes_in, processes_in, signal_names, process_names, signals_of, processes_of, routes_of, signal_named, names_once, timers_of};
 ghost use Rattle.sdl_tables.specs.Routes.{carries, receivers, senders, parties_once};
 ghost use Rattle.sdl_tables.specs.Scopes.{Marks, repeats, process_scopes, shared, double_names, IsDouble};
@@ -12,8 +12,8 @@ use crate::name_table::NameTable;
 use crate::process_table::{ProcessTable, shared_declared};
 use crate::route_index::RouteIndex;
 use crate::scope::{Scope, earlier, index_names};
+use sdl_ast::{Block, Entity, Identifier, Party, Process, Route, SignalDeclaration};
 use sdl_lex::Name;
-use sdl_tree::{Block, Entity, Identifier, Party, Process, Route, SignalDeclaration};
 use std::alloc::{AllocError, Global};
 use std::marker::Model;
 
@@ -194,8 +194,8 @@ pub struct BlockTable<'a> {
 }
 
 impl<'a> Model for BlockTable<'a> {
-    ghost use Rattle.sdl_tree.specs.declared.tree.Block as the_block;
-    ghost use Rattle.sdl_tree.specs.contracts.tree.Block as the_contract;
+    ghost use Rattle.sdl_ast.specs.declared.tree.Block as the_block;
+    ghost use Rattle.sdl_ast.specs.contracts.tree.Block as the_contract;
 
     ghost Value = { the_block.Block };
 

@@ -3,8 +3,8 @@ ghost use Rattle.std.specs.Prelude.{◌≡◌, ◌<◌, [], length, IfOk, OnOk, 
 ghost use Rattle.sdl_tables.specs.Names.{is_in, number_of, add_name};
 
 use indexmap::IndexMap;
+use sdl_ast::Identifier;
 use sdl_lex::Name;
-use sdl_tree::Identifier;
 use std::alloc::{AllocError, Global};
 use std::marker::Model;
 
@@ -18,7 +18,7 @@ pub struct NameTable {
 impl Model for NameTable {
     ghost use Rattle.std.specs.Prelude.{◌≡◌, List, map};
     ghost use Rattle.sdl_lex.specs.Spelling.{folded};
-    ghost use Rattle.sdl_tree.specs.declared.expression.Identifier.{Identifier};
+    ghost use Rattle.sdl_ast.specs.declared.expression.Identifier.{Identifier};
     ghost use Rattle.indexmap.specs.IndexMap.{keys, values};
 
     ghost Value = { List Identifier };

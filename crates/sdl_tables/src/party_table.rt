@@ -5,7 +5,7 @@ ghost use Rattle.sdl_tables.specs.Routes.{same_party, add_party};
 
 use crate::route_index::{Side, side_of};
 use indexmap::IndexMap;
-use sdl_tree::Party;
+use sdl_ast::Party;
 use std::alloc::{AllocError, Global};
 use std::marker::Model;
 
@@ -17,7 +17,7 @@ pub struct PartyTable {
 
 impl Model for PartyTable {
     ghost use Rattle.std.specs.Prelude.{◌≡◌, List, map};
-    ghost use Rattle.sdl_tree.specs.declared.tree.Party as tree;
+    ghost use Rattle.sdl_ast.specs.declared.tree.Party as tree;
     ghost use Rattle.sdl_tables.specs.RouteIndexes.{side_of};
     ghost use Rattle.indexmap.specs.IndexMap.{keys, values};
 

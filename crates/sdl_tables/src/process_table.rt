@@ -1,7 +1,7 @@
 //! The tables of a process.
 ghost use Rattle.std.specs.Prelude.{◌≡◌, ◌++◌, [], ℕ, ◌<◌, ◌==◌, if◌then◌else◌, List, map, fold, length, IfOk, IfErr, OnOk, IfSome, IfNone, slice_get, vec_len};
 ghost use Rattle.std.specs.List.{flat_map};
-ghost use Rattle.sdl_tree.specs.Views.{group_of, declaration_of, state_of, input_of, connection_of, process_of};
+ghost use Rattle.sdl_ast.specs.Views.{group_of, declaration_of, state_of, input_of, connection_of, process_of};
 ghost use Rattle.sdl_tables.specs.Names.{variable_names, variables_of, group_variables, declared_variables, named_states, timers_in, timers_of, connector_names, states_of, given_to, names_once, add_name, part_inputs, inputs_by_state, saves_by_state, triggers_by_state, clause_parts, input_parts};
 ghost use Rattle.sdl_tables.specs.Scopes.{Marks, repeats, process_scopes, shared, IsDouble};
 ghost use Rattle.sdl_tables.specs.Tables.{HasDeclared, HasStanding};
@@ -12,11 +12,11 @@ use crate::name_table::NameTable;
 use crate::scope::{Scope, add_names, earlier, first_shared, index_names};
 use crate::state_names::{Which, collect_names};
 use crate::triggers::trigger_double;
-use sdl_lex::Name;
-use sdl_tree::{
+use sdl_ast::{
     Connection, Constant, Declaration, Group, Identifier, InputPart, Process, Sort, StateClause,
     StatePart, Stimulus,
 };
+use sdl_lex::Name;
 use std::alloc::{AllocError, Global};
 use std::marker::Model;
 
@@ -353,8 +353,8 @@ pub struct ProcessTable<'a> {
 }
 
 impl<'a> Model for ProcessTable<'a> {
-    ghost use Rattle.sdl_tree.specs.declared.tree.Process as the_process;
-    ghost use Rattle.sdl_tree.specs.contracts.tree.Process as the_contract;
+    ghost use Rattle.sdl_ast.specs.declared.tree.Process as the_process;
+    ghost use Rattle.sdl_ast.specs.contracts.tree.Process as the_contract;
 
     ghost Value = { the_process.Process };
 

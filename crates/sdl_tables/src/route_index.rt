@@ -3,16 +3,16 @@ ghost use Rattle.std.specs.Prelude.{◌≡◌, [], ◌∷◌, ◌++◌, List, if
 ghost use Rattle.indexmap.specs.IndexMap.{get};
 ghost use Rattle.std.specs.List.{flat_map};
 ghost use Rattle.sdl_lex.specs.Spelling.{folded};
-ghost use Rattle.sdl_tree.specs.declared.tree.Party as tree;
-ghost use Rattle.sdl_tree.specs.Views.{path_of, route_of};
+ghost use Rattle.sdl_ast.specs.declared.tree.Party as tree;
+ghost use Rattle.sdl_ast.specs.Views.{path_of, route_of};
 ghost use Rattle.sdl_tables.specs.Names.{same_name};
 ghost use Rattle.sdl_tables.specs.Routes.{same_party};
 ghost use Rattle.sdl_tables.specs.declared.route_index.End.{End as Key};
 ghost use Rattle.sdl_tables.specs.RouteIndexes.{Mention, held, same_end, mentions_of, side_of, end_of, passage_of, listed, is_carried, Indexes};
 
 use indexmap::{IndexMap, IndexSet};
+use sdl_ast::{Party, Path, Route};
 use sdl_lex::Name;
-use sdl_tree::{Party, Path, Route};
 use std::alloc::{AllocError, Global};
 
 /// A party as it is looked up: without its place, and by its name in lower case.

@@ -4,7 +4,7 @@ ghost use Rattle.sdl_tables.specs.Names.{names_once, add_name, is_in};
 ghost use Rattle.sdl_tables.specs.Scopes.{Marks, repeats, shared};
 
 use crate::name_table::NameTable;
-use sdl_tree::Identifier;
+use sdl_ast::Identifier;
 use std::alloc::{AllocError, Global};
 
 /// The names of a scope, and the place of an identifier whose name one before it has.

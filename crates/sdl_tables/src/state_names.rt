@@ -1,12 +1,12 @@
 //! The names that each state of a process takes or saves.
 ghost use Rattle.std.specs.Prelude.{◌≡◌, ◌++◌, [], ℕ, ◌<◌, ◌==◌, if◌then◌else◌, map, length, IfOk, OnOk, vec_len};
 ghost use Rattle.std.specs.List.{flat_map};
-ghost use Rattle.sdl_tree.specs.Views.{clause_of, state_of, process_of, stimulus_of};
+ghost use Rattle.sdl_ast.specs.Views.{clause_of, state_of, process_of, stimulus_of};
 ghost use Rattle.sdl_tables.specs.Names.{states_of, given_to, by_state, part_triggers};
 ghost use Rattle.sdl_tables.specs.Rows.{row_names, names_at, clause_names, part_names};
 
 use crate::name_table::NameTable;
-use sdl_tree::{Identifier, Process, StateClause, StatePart, Stimulus};
+use sdl_ast::{Identifier, Process, StateClause, StatePart, Stimulus};
 use std::alloc::{AllocError, Global};
 
 /// Which names of a state are meant.

@@ -4,8 +4,8 @@
 //! has its names once, by number, and each state the numbers of its parts.
 ghost use Rattle.std.specs.Prelude.{◌≡◌, ◌<◌, ◌++◌, ◌∷◌, ◌==◌, [], ℕ, true, List, Some, if◌then◌else◌, map, length, not, IfOk, IfSome, OnOk, vec_len};
 ghost use Rattle.std.specs.List.{flat_map, AllByRecursion};
-ghost use Rattle.sdl_tree.specs.declared.expression.Identifier as the_id;
-ghost use Rattle.sdl_tree.specs.Views.{state_of, process_of};
+ghost use Rattle.sdl_ast.specs.declared.expression.Identifier as the_id;
+ghost use Rattle.sdl_ast.specs.Views.{state_of, process_of};
 ghost use Rattle.sdl_tables.specs.Names.{is_in, number_of, given_to, states_of, part_triggers, triggers_by_state};
 ghost use Rattle.sdl_tables.specs.Rows.{row_at};
 ghost use Rattle.sdl_tables.specs.Scopes.{Marks, repeats};
@@ -14,7 +14,7 @@ ghost use Rattle.sdl_tables.specs.Triggers.{trigger_ids, taken_by, taken_in, Are
 use crate::name_table::NameTable;
 use crate::scope::{earlier, marked};
 use crate::state_names::part_triggers;
-use sdl_tree::{Identifier, Process, StatePart};
+use sdl_ast::{Identifier, Process, StatePart};
 use std::alloc::{AllocError, Global};
 
 /// A name that a part takes or saves, and its number among all those of the process.

@@ -1,17 +1,10 @@
-pub mod Views
-pub mod Decides
-pub mod Rows
-pub mod RowLemmas
-pub mod MachineLemmas
 pub mod StepLemmas
 pub mod StepTurns
 pub mod TextDecides
 pub mod SyntaxDecides
-pub mod Lowering
 pub mod LoweredActions
 pub mod TextLowers
 pub mod LoweredParts
-pub mod HeightLemmas
 pub mod LowHeights
 pub mod ParseLemmas
 pub mod KeptLemmas

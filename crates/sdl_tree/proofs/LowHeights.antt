@@ -2,15 +2,15 @@
 use Rattle.std.proofs.Common.{◌≡◌, ℕ, zero, suc, max, ◌+◌, ◌<◌, ◌≤◌, Bool, true, false, List, [], ◌∷◌, Option, Some, None, map, refl, sym, ap, subst, ◌∙◌, arith}
 use Rattle.std.specs.Prelude.{nat_lt, if◌then◌else◌}
 use borrow.Author.Tests.{ltb-true, ltb-false}
-use Rattle.sdl_tree.specs.Limits.{GREATEST_HEIGHT}
-use Rattle.sdl_tree.specs.declared.expression.Identifier.{Identifier}
-use Rattle.sdl_tree.specs.declared.expression.UnaryOperator.{UnaryOperator}
-use Rattle.sdl_tree.specs.declared.expression.BinaryOperator.{BinaryOperator}
-use Rattle.sdl_tree.specs.Plain.{Tree, number, truth, variable, unary, binary, PlainAssignment, PlainSending, PlainAction, task, output, set_timer, reset_timer, Text, falls, ends, does, decides, Choice, nothing_else, otherwise, answer, PlainStatement, act, decide, before, PlainInput, PlainClause, input, save, PlainState, PlainConnection, PlainProcess, PlainEntity, signals, route, connect, process, PlainBlock}
-use Rattle.sdl_tree.specs.Expressions.{placed}
-use Rattle.sdl_tree.specs.Machine.{lowered, low_decision, raised, raised_by}
-use Rattle.sdl_tree.specs.Heights.{tree_height, highest, sending_height, action_height, text_height, choice_height, decision_height, high_in_decision, place_of_action, or_first, first_of, high_in_action, high_in_text, high_in_clause, high_in_state, high_in_connection, lesser, high_in_process, high_in_entity, first_too_high}
-use Rattle.sdl_tree.proofs.HeightLemmas.{none_inside}
+use Rattle.sdl_ast.specs.Limits.{GREATEST_HEIGHT}
+use Rattle.sdl_ast.specs.declared.expression.Identifier.{Identifier}
+use Rattle.sdl_ast.specs.declared.expression.UnaryOperator.{UnaryOperator}
+use Rattle.sdl_ast.specs.declared.expression.BinaryOperator.{BinaryOperator}
+use Rattle.sdl_ast.specs.Plain.{Tree, number, truth, variable, unary, binary, PlainAssignment, PlainSending, PlainAction, task, output, set_timer, reset_timer, Text, falls, ends, does, decides, Choice, nothing_else, otherwise, answer, PlainStatement, act, decide, before, PlainInput, PlainClause, input, save, PlainState, PlainConnection, PlainProcess, PlainEntity, signals, route, connect, process, PlainBlock}
+use Rattle.sdl_ast.specs.Places.{placed}
+use Rattle.sdl_expressions.specs.Machine.{lowered, low_decision, raised, raised_by}
+use Rattle.sdl_ast.specs.Heights.{tree_height, highest, sending_height, action_height, text_height, choice_height, decision_height, high_in_decision, place_of_action, or_first, first_of, high_in_action, high_in_text, high_in_clause, high_in_state, high_in_connection, lesser, high_in_process, high_in_entity, first_too_high}
+use Rattle.sdl_ast.proofs.HeightLemmas.{none_inside}
 use Rattle.sdl_tree.proofs.LoweredActions.{lowered_assignment, lowered_sending, lowered_action}
 use Rattle.sdl_tree.proofs.TextLowers.{lowered_text, lowered_choice}
 use Rattle.sdl_tree.proofs.LoweredParts.{lowered_input, lowered_clause, lowered_start, lowered_part, lowered_connection, lowered_process, lowered_entity, lowered_block}

@@ -4,13 +4,13 @@ use Rattle.std.specs.List.{filter_map}
 use Rattle.std.specs.Option.{option_to_list}
 use Rattle.sdl_lex.specs.declared.lexemes.Word.TheVariants as words
 use Rattle.sdl_lex.specs.declared.lexemes.Symbol.TheVariants.{Colon}
-use Rattle.sdl_tree.specs.declared.expression.Identifier.{Identifier}
-use Rattle.sdl_tree.specs.Tokens.{a_symbol, a_word, a_name, an_entity, a_declaration, a_clause, a_section}
-use Rattle.sdl_tree.specs.Plain.{PlainInput, PlainClause, input, save, PlainState, PlainConnection, PlainSection, in_state, in_connection, state_in, connection_in, process_from, PlainStart, PlainDeclaration, PlainProcess, PlainEntity, signals, route, connect, process, PlainBlock}
+use Rattle.sdl_ast.specs.declared.expression.Identifier.{Identifier}
+use Rattle.sdl_tokens.specs.Tokens.{a_symbol, a_word, a_name, an_entity, a_declaration, a_clause, a_section}
+use Rattle.sdl_ast.specs.Plain.{PlainInput, PlainClause, input, save, PlainState, PlainConnection, PlainSection, in_state, in_connection, state_in, connection_in, process_from, PlainStart, PlainDeclaration, PlainProcess, PlainEntity, signals, route, connect, process, PlainBlock}
 use Rattle.sdl_tree.specs.Productions.{names_at, terminator_at, signal_at, signals_at, path_at, route_at, connect_at, declaration_at, stimulus_at, text_at, input_at, save_at, clause_at, closing_at, end_state_at, state_at, end_connection_at, connection_at, state_section_at, connection_section_at, section_at, start_at, process_head_at, process_at, entity_at, block_at}
-use Rattle.sdl_tree.specs.Readings.{read, choice, optional, many, give, token, separated_from, separated}
-use Rattle.sdl_tree.specs.Machine.{whole_trees, low_trees}
-use Rattle.sdl_tree.proofs.Lowering.{mapped, Lowers, give_lowers, then_lowers, next_lowers, choice_lowers, many_lowers}
+use Rattle.sdl_tokens.specs.Readings.{read, choice, optional, many, give, token, separated_from, separated}
+use Rattle.sdl_expressions.specs.Machine.{whole_trees, low_trees}
+use Rattle.sdl_expressions.proofs.Lowering.{mapped, Lowers, give_lowers, then_lowers, next_lowers, choice_lowers, many_lowers}
 use Rattle.sdl_tree.proofs.TextLowers.{lowered_text, text_lowers}
 
 -- the tree without what stands above a tree that is too high

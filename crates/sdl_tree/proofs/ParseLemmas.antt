@@ -3,20 +3,21 @@ use Rattle.std.proofs.Common.{◌≡◌, ℕ, suc, ◌+◌, ◌-◌, List, [], �
 use Rattle.sdl_lex.specs.declared.lexemes.Token.{Token}
 use Rattle.sdl_tree.specs.declared.fault.ParseFault.{ParseFault}
 use Rattle.sdl_tree.specs.declared.fault.ParseFault.TheVariants.{Unexpected, TooDeep, NoMemory}
-use Rattle.sdl_tree.specs.declared.tree.Block.{Block}
-use Rattle.sdl_tree.specs.Plain.{PlainBlock}
-use Rattle.sdl_tree.specs.Views.{block_of}
+use Rattle.sdl_ast.specs.declared.tree.Block.{Block}
+use Rattle.sdl_ast.specs.Plain.{PlainBlock}
+use Rattle.sdl_ast.specs.Views.{block_of}
 use Rattle.sdl_tree.specs.Syntax.{Reads}
-use Rattle.sdl_tree.specs.Heights.{first_too_high, NoneAgrees, Refuses, Answers}
-use Rattle.sdl_tree.specs.Readings.{Reading, read, fails}
-use Rattle.sdl_tree.specs.Machine.{whole_trees}
+use Rattle.sdl_ast.specs.Heights.{first_too_high}
+use Rattle.sdl_tree.specs.Refusals.{NoneAgrees, Refuses, Answers}
+use Rattle.sdl_tokens.specs.Readings.{Reading, read, fails}
+use Rattle.sdl_expressions.specs.Machine.{whole_trees}
 use Rattle.sdl_tree.specs.Productions.{block_at}
 use Rattle.sdl_tree.specs.Settled.{stops_at, low_block, Settled}
-use Rattle.sdl_tree.proofs.Decides.{first, rest_of, with_rest}
+use Rattle.sdl_tokens.proofs.Decides.{first, rest_of, with_rest}
 use Rattle.sdl_tree.proofs.SyntaxDecides.{block_decides}
-use Rattle.sdl_tree.proofs.Lowering.{mapped, Lowers}
+use Rattle.sdl_expressions.proofs.Lowering.{mapped, Lowers}
 use Rattle.sdl_tree.proofs.LoweredParts.{lowered_block, block_lowers}
-use Rattle.sdl_tree.proofs.HeightLemmas.{low_where_none, high_where_some}
+use Rattle.sdl_ast.proofs.HeightLemmas.{low_where_none, high_where_some}
 use Rattle.sdl_tree.proofs.LowHeights.{place_stays, low_stays}
 
 whole_block : List Token → Reading PlainBlock

@@ -2,15 +2,15 @@
 use Rattle.std.proofs.Common.{◌≡◌, ℕ, suc, zero, ◌<◌, ◌≤◌, Bool, true, false, List, [], ◌∷◌, ◌++◌, Option, length, refl, sym, ap, ◌∙◌, append_assoc, arith}
 use Rattle.sdl_lex.specs.declared.lexemes.Token.{Token}
 use Rattle.sdl_lex.specs.declared.lexemes.Word.TheVariants as words
-use Rattle.sdl_tree.specs.Plain.{Text}
+use Rattle.sdl_ast.specs.Plain.{Text}
 use Rattle.sdl_tree.specs.Bodies.{Body, Reached, Move, reaches, closes}
-use Rattle.sdl_tree.specs.Tokens.{begins, a_word, an_action, an_end}
-use Rattle.sdl_tree.specs.Machine.{Build}
-use Rattle.sdl_tree.specs.Readings.{Reading, read, fails, At, then_read, either, choice, give, optional, Shortens, NeverLonger}
-use Rattle.sdl_tree.specs.Readings as reading
+use Rattle.sdl_tokens.specs.Tokens.{begins, a_word, an_action, an_end}
+use Rattle.sdl_expressions.specs.Machine.{Build}
+use Rattle.sdl_tokens.specs.Readings.{Reading, read, fails, At, then_read, either, choice, give, optional, Shortens, NeverLonger}
+use Rattle.sdl_tokens.specs.Readings as reading
 use Rattle.sdl_tree.specs.Productions.{end_at, behind_step, end_step, decision_step, action_step, step_at, after_move, steps_for, steps_from}
 use Rattle.sdl_tree.specs.Lengths.{last_keeps, body_step_takes, decision_step_takes, action_step_takes}
-use Rattle.sdl_tree.proofs.Decides.{first, rest_of, with_rest, Seen, first-append}
+use Rattle.sdl_tokens.proofs.Decides.{first, rest_of, with_rest, Seen, first-append}
 
 -- a step that doesn't end the transition takes a token
 

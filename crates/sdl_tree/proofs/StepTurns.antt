@@ -1,20 +1,20 @@
 -- What the loop over the steps of a transition keeps.
 use Rattle.std.proofs.Common.{◌≡◌, ◌<◌, List, length, ap, ◌∙◌}
 use Rattle.sdl_lex.specs.declared.lexemes.Token.{Token}
-use Rattle.sdl_tree.specs.declared.tree.Transition.{Transition}
+use Rattle.sdl_ast.specs.declared.tree.Transition.{Transition}
 use Rattle.sdl_tree.specs.declared.statements.Reached as the_reached
 use Rattle.sdl_tree.specs.declared.statements.Move as the_move
 use Rattle.sdl_tree.specs.declared.statements.Move.TheVariants as moves
-use Rattle.sdl_tree.specs.declared.stop.Stop.{Stop}
-use Rattle.sdl_tree.specs.declared.stop.Stop.TheVariants.{Unexpected, NoMemory}
-use Rattle.sdl_tree.specs.Plain.{Text}
+use Rattle.sdl_tokens.specs.declared.stop.Stop.{Stop}
+use Rattle.sdl_tokens.specs.declared.stop.Stop.TheVariants.{Unexpected, NoMemory}
+use Rattle.sdl_ast.specs.Plain.{Text}
 use Rattle.sdl_tree.specs.Bodies.{Reached}
 use Rattle.sdl_tree.specs.BodyViews.{reached_view, move_view}
-use Rattle.sdl_tree.specs.Machine.{Build}
-use Rattle.sdl_tree.specs.Mirrors.{Stops}
-use Rattle.sdl_tree.specs.Readings.{Reading, read}
+use Rattle.sdl_expressions.specs.Machine.{Build}
+use Rattle.sdl_tokens.specs.Mirrors.{Stops}
+use Rattle.sdl_tokens.specs.Readings.{Reading, read}
 use Rattle.sdl_tree.specs.Productions.{step_at, steps_from}
-use Rattle.sdl_tree.specs.Views.{text_of}
+use Rattle.sdl_ast.specs.Views.{text_of}
 use Rattle.sdl_tree.proofs.StepLemmas.{step_shortens, from_reaches, from_closes, from_fails}
 
 pub step_goes_on : (b : Build) (s : Reached) (ts us : List Token) (m : the_move.Move) (next : the_reached.Reached) (r : Reading Text) → m ≡ moves.Reaches next

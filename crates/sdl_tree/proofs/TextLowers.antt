@@ -1,15 +1,15 @@
 -- Transitions read so that nothing above what is too high is built.
 use Rattle.std.proofs.Common.{◌≡◌, ℕ, suc, zero, List, [], ◌∷◌, ◌++◌, Option, Some, None, length, map, refl, sym, ap, subst, ◌∙◌}
 use Rattle.sdl_lex.specs.declared.lexemes.Word.TheVariants as words
-use Rattle.sdl_tree.specs.declared.tree.End.{End}
-use Rattle.sdl_tree.specs.Plain.{Text, falls, ends, does, decides, Choice, nothing_else, otherwise, answer, PlainAction, PlainStatement, act, decide, PlainAnswer, PlainHead, before, all_before, all_answers}
+use Rattle.sdl_ast.specs.declared.tree.End.{End}
+use Rattle.sdl_ast.specs.Plain.{Text, falls, ends, does, decides, Choice, nothing_else, otherwise, answer, PlainAction, PlainStatement, act, decide, PlainAnswer, PlainHead, before, all_before, all_answers}
 use Rattle.sdl_tree.specs.Bodies.{Branching, Body, Reached, Move, reaches, closes}
-use Rattle.sdl_tree.specs.Views.{end_text}
-use Rattle.sdl_tree.specs.Tokens.{a_word, an_action, an_end, a_choice}
-use Rattle.sdl_tree.specs.Readings.{read, At, choice, optional, give}
-use Rattle.sdl_tree.specs.Machine.{whole_trees, low_trees, lowered, low_decision, expression_at}
+use Rattle.sdl_ast.specs.Views.{end_text}
+use Rattle.sdl_tokens.specs.Tokens.{a_word, an_action, an_end, a_choice}
+use Rattle.sdl_tokens.specs.Readings.{read, At, choice, optional, give}
+use Rattle.sdl_expressions.specs.Machine.{whole_trees, low_trees, lowered, low_decision, expression_at}
 use Rattle.sdl_tree.specs.Productions.{action_at, question_at, head_at, end_decision_at, end_at, head_step, closing_step, answer_step, with_answer, body_step, behind_step, end_step, decision_step, action_step, step_at, after_move, steps_for, steps_from, at_first, text_at}
-use Rattle.sdl_tree.proofs.Lowering.{mapped, Lowers, give_lowers, then_lowers, next_lowers, choice_lowers}
+use Rattle.sdl_expressions.proofs.Lowering.{mapped, Lowers, give_lowers, then_lowers, next_lowers, choice_lowers}
 use Rattle.sdl_tree.proofs.LoweredActions.{lowered_action, lowered_question, action_lowers, question_lowers}
 
 -- what is left of a transition: of a DECISION that is too high its question alone, raised over the limit

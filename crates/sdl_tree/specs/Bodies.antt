@@ -1,7 +1,7 @@
 -- What is kept of transitions while they are read statement by statement: each DECISION that is open
 -- keeps what stands before it and what was read of it.
 use Rattle.std.specs.Prelude.{List, Option}
-use Rattle.sdl_tree.specs.Plain.{Text, PlainStatement, PlainAnswer, PlainQuestion, PlainHead}
+use Rattle.sdl_ast.specs.Plain.{Text, PlainStatement, PlainAnswer, PlainQuestion, PlainHead}
 
 -- a DECISION that is open: the statements before it, its question, and the answers that are read whole
 pub record Branching : Type 0 where

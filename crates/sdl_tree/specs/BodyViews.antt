@@ -7,7 +7,23 @@ use Rattle.sdl_tree.specs.declared.statements.Reached as the_reached
 use Rattle.sdl_tree.specs.declared.statements.Move as the_move
 use Rattle.sdl_tree.specs.declared.statements.Move.TheVariants as moves
 use Rattle.sdl_tree.specs.Bodies.{Branching, Body, Reached, Move, reaches, closes}
-use Rattle.sdl_tree.specs.Views.{plain_statement, plain_answer, question_of, head_of, text_of}
+use Rattle.sdl_ast.specs.Plain.{PlainSection, in_state, in_connection, PlainQuestion, PlainHead}
+use Rattle.sdl_tree.specs.declared.answers.Question.{Question}
+use Rattle.sdl_tree.specs.declared.answers.Head.{Head}
+use Rattle.sdl_tree.specs.declared.transitions.Section as the_section
+use Rattle.sdl_tree.specs.declared.transitions.Section.TheVariants as sections
+use Rattle.sdl_ast.specs.Views.{tree_of, plain_statement, plain_answer, text_of, state_of, connection_of}
+
+-- what stands before the answers of a DECISION, and before what an answer does
+abbrev pub question_of : Question → PlainQuestion
+question_of q = record { at = q.at; question = tree_of q.question }
+
+abbrev pub head_of : Head → PlainHead
+head_of h = record { at = h.at; ranges = h.ranges.items }
+
+abbrev pub section_of : the_section.Section → PlainSection
+section_of (sections.State s) = in_state (state_of s)
+section_of (sections.Connection c) = in_connection (connection_of c)
 
 abbrev pub branching_view : the_branching.Branching → Branching
 branching_view b = record { before = map plain_statement b.before.items; asked = question_of b.asked; answers = map plain_answer b.answers.items }

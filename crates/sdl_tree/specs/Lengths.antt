@@ -1,124 +1,15 @@
--- No reading gives more tokens back than it got.
-use Rattle.std.specs.Prelude.{◌≡◌, ℕ, suc, zero, ◌<◌, ◌≤◌, Bool, true, false, List, [], ◌∷◌, Option, Some, None, length, refl}
-use Rattle.std.proofs.Common.{sym, ap, subst}
-use Rattle.std.proofs.Math.Nat.{le_refl, le_trans, le_of_lt, lt_of_le_of_lt, lt-suc_self}
-use Rattle.sdl_lex.specs.declared.lexemes.Token.{Token}
+-- No reading gives more tokens back than it got. For the productions of Syntax tools/productions writes it.
+use Rattle.std.specs.Prelude.{ℕ, suc, zero, ◌≤◌, List, [], ◌∷◌, Option, Some, None, length}
 use Rattle.sdl_lex.specs.declared.lexemes.Word.TheVariants as words
 use Rattle.sdl_lex.specs.declared.lexemes.Symbol.TheVariants.{Semicolon, Comma, Assign, Open, Close, Plus, Minus, Colon}
-use Rattle.sdl_tree.specs.Plain.{Tree, Text, Choice, nothing_else, otherwise, PlainHead}
+use Rattle.sdl_ast.specs.Plain.{Tree, Text, Choice, nothing_else, otherwise, PlainHead}
 use Rattle.sdl_tree.specs.Bodies.{Branching, Body, Reached, Move, reaches, closes}
-use Rattle.sdl_tree.specs.Tokens.{begins, a_word, a_symbol, a_number, a_name, a_sort, a_party, a_constant, a_one, a_closing, a_quoted, a_destination, a_declaration, a_clause, an_action, an_end, a_choice, a_relation, a_section}
-use Rattle.sdl_tree.specs.Expressions.{other, sign}
-use Rattle.sdl_tree.specs.Machine.{Build, low_trees, State, wants, Turn, goes, done, stuck, turn, after_turn, run, empty_frame, expression_at}
-use Rattle.sdl_tree.specs.Readings.{Reading, read, fails, At, then_read, stands_for, either, many_for, many, choice, optional, give, token, separated_from, separated, list_in_parentheses, Shortens, NeverLonger}
-use Rattle.sdl_tree.specs.Readings as reading
+use Rattle.sdl_tokens.specs.Tokens.{a_word, a_symbol, a_number, a_name, a_sort, a_party, a_constant, a_one, a_closing, a_quoted, a_destination, a_declaration, a_clause, an_action, an_end, a_choice, a_relation, a_section}
+use Rattle.sdl_expressions.specs.Machine.{Build, low_trees, State, expression_at}
+use Rattle.sdl_tokens.specs.Readings.{At, optional, token, Shortens, NeverLonger}
 use Rattle.sdl_tree.specs.Productions.{comment_at, signal_at, signals_at, path_at, route_at, connect_at, negative_at, constant_at, initial_at, group_at, variables_at, timers_at, declaration_at, place_at, stimulus_at, assignment_at, assigned_at, quoted_at, item_at, task_at, sending_at, destination_at, output_at, delay_at, set_at, reset_at, action_at, next_state_at, stop_at, end_at, head_step, closing_step, answer_step, with_answer, body_step, behind_step, end_step, decision_step, action_step, step_at, after_move, steps_for, steps_from, at_first, text_at, input_at, save_at, clause_at, closing_at, end_state_at, state_at, start_at, second_number_at, instances_at, process_head_at, process_at, entity_at, terminator_at, compared_at, upper_at, value_at, range_at, answer_head_at, else_head_at, some_head_at, no_head_at, head_at, question_at, end_decision_at, join_at, end_connection_at, connection_at, state_section_at, connection_section_at, section_at}
-
--- what a failed reading is not, and what a reading leaves
-IsRead : {A : Type 0} → Reading A → Type 0
-IsRead (read x us) = Unit {0}
-IsRead (fails us) = ⊥
-
-left_by : {A : Type 0} → Reading A → List Token
-left_by (read x us) = us
-left_by (fails us) = us
-
-not_read : {A : Type 0} (C : Type 0) (us vs : List Token) (x : A) → fails us ≡ read x vs → C
-unfolding IsRead
-not_read {A} C us vs x e = absurd (subst IsRead (sym e) tt)
-
-same_rest : {A : Type 0} (x y : A) (us vs : List Token) → read x us ≡ read y vs → us ≡ vs
-unfolding left_by
-same_rest x y us vs e = ap left_by e
-
-pub less_never_longer : {A : Type 0} (p : At A) → Shortens p → NeverLonger p
-less_never_longer p s ts x us h = le_of_lt (s ts x us h)
-
-pub shortens_token : {A : Type 0} (f : Token → Option A) → Shortens (token f)
-shortens_token f [] x us h = not_read (length us < 0) [] us x h
-shortens_token {A} f (t ∷ ts) x us h = by_answer (f t) h
-  where
-    by_answer : (o : Option A) → stands_for (t ∷ ts) ts o ≡ read x us → length us < length (t ∷ ts)
-    by_answer None h = not_read (length us < length (t ∷ ts)) (t ∷ ts) us x h
-    by_answer (Some y) h = subst (λ vs. length vs < length (t ∷ ts)) (same_rest y x ts us h) (lt-suc_self (length ts))
-
-keeps_give : {A : Type 0} (x : A) → NeverLonger (give x)
-keeps_give x ts y us h = subst (λ vs. length vs ≤ length ts) (same_rest x y ts us h) (le_refl (length ts))
-
-keeps_token : {A : Type 0} (f : Token → Option A) → NeverLonger (token f)
-keeps_token f = less_never_longer (token f) (shortens_token f)
-
-infixl 10 ◌>>=◌
-◌>>=◌ : {A B : Type 0} {p : At A} {q : A → At B} → NeverLonger p → ((x : A) → NeverLonger (q x)) → NeverLonger (reading.◌>>=◌ p q)
-◌>>=◌ {A} {B} {p} {q} kp kq ts y us h = by_result (p ts) refl h
-  where
-    by_result : (r : Reading A) → p ts ≡ r → then_read r q ≡ read y us → length us ≤ length ts
-    by_result (fails vs) e h = not_read (length us ≤ length ts) vs us y h
-    by_result (read x vs) e h = le_trans (kq x vs y us h) (kp ts x vs e)
-
--- the first part takes a token
-first_takes : {A B : Type 0} {p : At A} {q : A → At B} → Shortens p → ((x : A) → NeverLonger (q x)) → Shortens (reading.◌>>=◌ p q)
-first_takes {A} {B} {p} {q} kp kq ts y us h = by_result (p ts) refl h
-  where
-    by_result : (r : Reading A) → p ts ≡ r → then_read r q ≡ read y us → length us < length ts
-    by_result (fails vs) e h = not_read (length us < length ts) vs us y h
-    by_result (read x vs) e h = lt_of_le_of_lt (kq x vs y us h) (kp ts x vs e)
-
--- an expression
-keeps_after : (a : Turn) (go_on : State → Reading Tree) (ts rest : List Token) → length rest ≤ length ts
-    → ((s : State) (x : Tree) (us : List Token) → go_on s ≡ read x us → length us ≤ length rest)
-    → (x : Tree) (us : List Token) → after_turn a go_on ts ≡ read x us → length us ≤ length ts
-keeps_after (goes s) go_on ts rest l ih x us h = le_trans (ih s x us h) l
-keeps_after (done y) go_on ts rest l ih x us h = subst (λ vs. length vs ≤ length ts) (same_rest y x ts us h) (le_refl (length ts))
-keeps_after stuck go_on ts rest l ih x us h = not_read (length us ≤ length ts) ts us x h
-
-keeps_run : (b : Build) (ts : List Token) (s : State) (x : Tree) (us : List Token) → run b s ts ≡ read x us → length us ≤ length ts
-unfolding run
-keeps_run b [] s x us h = keeps_after (turn b s other) (λ _. fails []) [] [] (le_refl 0) (λ s x us e. not_read (length us ≤ 0) [] us x e) x us h
-keeps_run b (t ∷ ts) s x us h =
-    keeps_after (turn b s (sign t)) (λ s'. run b s' ts) (t ∷ ts) ts (le_of_lt (lt-suc_self (length ts))) (keeps_run b ts) x us h
-
-pub expression_keeps : (b : Build) → NeverLonger (expression_at b)
-unfolding expression_at
-expression_keeps b ts x us h = keeps_run b ts (wants [] (empty_frame 0)) x us h
-
-keeps_either : {A : Type 0} {p q : At A} (b : Bool) → NeverLonger p → NeverLonger q → NeverLonger (either b p q)
-keeps_either true kp kq ts x us h = kp ts x us h
-keeps_either false kp kq ts x us h = kq ts x us h
-
-keeps_choice : {A B : Type 0} {p q : At A} (f : Token → Option B) → NeverLonger p → NeverLonger q → NeverLonger (choice f p q)
-keeps_choice {A} {B} {p} {q} f kp kq ts x us h = keeps_either {A = A} {p = p} {q = q} (begins f ts) kp kq ts x us h
-
-takes_either : {A : Type 0} {p q : At A} (b : Bool) → Shortens p → Shortens q → Shortens (either b p q)
-takes_either true kp kq ts x us h = kp ts x us h
-takes_either false kp kq ts x us h = kq ts x us h
-
-takes_choice : {A B : Type 0} {p q : At A} (f : Token → Option B) → Shortens p → Shortens q → Shortens (choice f p q)
-takes_choice {A} {B} {p} {q} f kp kq ts x us h = takes_either {A = A} {p = p} {q = q} (begins f ts) kp kq ts x us h
-
-keeps_optional : {A B : Type 0} {p : At A} (f : Token → Option B) → NeverLonger p → NeverLonger (optional f p)
-keeps_optional f kp = keeps_choice f (kp >>= λ x. keeps_give (Some x)) (keeps_give None)
-
-keeps_many_for : {A B : Type 0} {p : At A} (f : Token → Option B) → NeverLonger p → (n : ℕ) → NeverLonger (many_for f p n)
-unfolding many_for
-keeps_many_for f kp zero ts x us h = not_read (length us ≤ length ts) ts us x h
-keeps_many_for {A} {B} {p} f kp (suc n) ts x us h =
-    keeps_either {A = List A} (begins f ts) (kp >>= λ x. keeps_many_for f kp n >>= λ xs. keeps_give (x ∷ xs)) (keeps_give []) ts x us h
-
-keeps_many : {A B : Type 0} {p : At A} (f : Token → Option B) → NeverLonger p → NeverLonger (many f p)
-unfolding many
-keeps_many f kp = λ ts x us h. keeps_many_for f kp (suc (length ts)) ts x us h
-
-keeps_separated_from : {A : Type 0} {p : At A} (x : A) → NeverLonger p → NeverLonger (separated_from x p)
-keeps_separated_from x kp = keeps_many (a_symbol Comma) (keeps_token (a_symbol Comma) >>= λ _. kp) >>= λ xs. keeps_give (x ∷ xs)
-
-keeps_separated : {A : Type 0} {p : At A} → NeverLonger p → NeverLonger (separated p)
-keeps_separated kp = kp >>= λ x. keeps_separated_from x kp
-
-keeps_list : {A : Type 0} {p : At A} → NeverLonger p → NeverLonger (list_in_parentheses p)
-keeps_list kp = keeps_choice (a_symbol Open)
-    (keeps_token (a_symbol Open) >>= λ _. keeps_separated kp >>= λ xs. keeps_token (a_symbol Close) >>= λ _. keeps_give xs)
-    (keeps_give [])
+use Rattle.sdl_tokens.specs.Rests.{not_read, less_never_longer, shortens_token, keeps_give, keeps_token, ◌>>=◌, first_takes, keeps_choice, takes_choice, keeps_optional, keeps_many, keeps_separated_from, keeps_separated, keeps_list}
+use Rattle.sdl_expressions.specs.Rests.{expression_keeps, low_keeps}
 
 pub name_keeps : NeverLonger (token a_name)
 name_keeps = keeps_token a_name
@@ -500,9 +391,6 @@ pub entity_keeps : (b : Build) → NeverLonger (entity_at b)
 entity_keeps b = less_never_longer _ (entity_takes b)
 
 -- the same where no tree above one that is too high is built
-
-pub low_keeps : NeverLonger (expression_at low_trees)
-low_keeps = expression_keeps low_trees
 
 pub low_item_keeps : NeverLonger (item_at (expression_at low_trees))
 low_item_keeps = item_keeps (expression_at low_trees) low_keeps

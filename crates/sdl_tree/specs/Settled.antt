@@ -3,12 +3,12 @@ use Rattle.std.specs.Prelude.{◌≡◌, ◌-◌, List, [], ◌∷◌, Option, S
 use Rattle.sdl_lex.specs.declared.lexemes.Token.{Token}
 use Rattle.sdl_tree.specs.declared.fault.ParseFault.{ParseFault}
 use Rattle.sdl_tree.specs.declared.fault.ParseFault.TheVariants.{Unexpected, TooDeep, NoMemory}
-use Rattle.sdl_tree.specs.declared.tree.Block.{Block}
-use Rattle.sdl_tree.specs.Plain.{PlainBlock}
-use Rattle.sdl_tree.specs.Views.{block_of}
-use Rattle.sdl_tree.specs.Heights.{first_too_high}
-use Rattle.sdl_tree.specs.Readings.{Reading, read, fails}
-use Rattle.sdl_tree.specs.Machine.{low_trees}
+use Rattle.sdl_ast.specs.declared.tree.Block.{Block}
+use Rattle.sdl_ast.specs.Plain.{PlainBlock}
+use Rattle.sdl_ast.specs.Views.{block_of}
+use Rattle.sdl_ast.specs.Heights.{first_too_high}
+use Rattle.sdl_tokens.specs.Readings.{Reading, read, fails}
+use Rattle.sdl_expressions.specs.Machine.{low_trees}
 use Rattle.sdl_tree.specs.Productions.{block_at}
 
 -- where a reading that doesn't take all tokens stops

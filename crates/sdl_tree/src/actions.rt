@@ -3,23 +3,25 @@ ghost use Rattle.std.specs.Prelude.{◌≡◌, ◌++◌, map, Option, OnOk, IfOk
 ghost use Rattle.std.specs.List.{filter_map};
 ghost use Rattle.std.specs.Option.{option_map, option_to_list};
 ghost use Rattle.sdl_lex.specs.declared.lexemes.Word.TheVariants as words;
-ghost use Rattle.sdl_tree.specs.Readings.{optional};
-ghost use Rattle.sdl_tree.specs.Machine.{low_trees, expression_at};
+ghost use Rattle.sdl_tokens.specs.Readings.{optional};
+ghost use Rattle.sdl_expressions.specs.Machine.{low_trees, expression_at};
 ghost use Rattle.sdl_tree.specs.Productions.{assignment_at, item_at, task_at, sending_at, destination_at, output_at, delay_at, set_at, reset_at, action_at};
-ghost use Rattle.sdl_tree.specs.Tokens.{a_word, an_action};
-ghost use Rattle.sdl_tree.specs.Plain.{Tree, PlainAssignment, PlainSending, PlainAction};
-ghost use Rattle.sdl_tree.specs.Views.{tree_of, assignment_of, sending_of, action_of};
-ghost use Rattle.sdl_tree.specs.Mirrors.{Mirrors, same};
-ghost use Rattle.sdl_tree.specs.Lengths.{low_keeps, low_item_keeps, low_sending_keeps, low_action_takes, low_action_keeps};
+ghost use Rattle.sdl_tokens.specs.Tokens.{a_word, an_action};
+ghost use Rattle.sdl_ast.specs.Plain.{Tree, PlainAssignment, PlainSending, PlainAction};
+ghost use Rattle.sdl_ast.specs.Views.{tree_of, assignment_of, sending_of, action_of};
+ghost use Rattle.sdl_tokens.specs.Mirrors.{Mirrors, same};
+ghost use Rattle.sdl_expressions.specs.Rests.{low_keeps};
+ghost use Rattle.sdl_tree.specs.Lengths.{low_item_keeps, low_sending_keeps, low_action_takes, low_action_keeps};
 
+use crate::attempt::attempt;
 use crate::endings::terminator;
-use crate::expression::Expression;
-use crate::operands::expression;
 use crate::production::{Listed, Production, read_in_parentheses, read_separated};
-use crate::stop::{Stop, attempt, push};
-use crate::tokens::{destination, is_action, is_quoted, is_word, name, quoted, symbol, word};
-use crate::tree::{Action, Assignment, Destination, Output, ResetTimer, Sending, SetTimer, Task};
+use sdl_ast::{
+    Action, Assignment, Destination, Expression, Output, ResetTimer, Sending, SetTimer, Task,
+};
+use sdl_expressions::expression;
 use sdl_lex::{Symbol, Token, Word};
+use sdl_tokens::{AnyAction, AnyDestination, AnyName, AnyQuoted, Stop, push, stands_next, take};
 use std::alloc::Global;
 
 /// Reads `name := expression`.
@@ -30,8 +32,8 @@ fn read_assignment<'a>(
 ) -> Result<(Assignment, &'a [Token]), Stop<'a>>
     ensures { Mirrors assignment_of result (assignment_at (expression_at low_trees) tokens.now) }
 {
-    let (variable, rest) = attempt!(name(tokens));
-    let (_, rest) = attempt!(symbol(rest, Symbol::Assign));
+    let (variable, rest) = attempt!(take(tokens, AnyName));
+    let (_, rest) = attempt!(take(rest, Symbol::Assign));
     let (value, rest) = attempt!(expression(alloc, rest));
     Ok((Assignment { variable, value }, rest))
 }
@@ -51,8 +53,8 @@ impl Production for Option<Assignment> {
         alloc: Global,
         tokens: &'a [Token],
     ) -> Result<(Option<Assignment>, &'a [Token]), Stop<'a>> {
-        if is_quoted(tokens) {
-            let (_, rest) = attempt!(quoted(tokens));
+        if stands_next(tokens, AnyQuoted) {
+            let (_, rest) = attempt!(take(tokens, AnyQuoted));
             return Ok((None, rest));
         }
         let (assignment, rest) = attempt!(read_assignment(alloc, tokens));
@@ -88,7 +90,7 @@ fn kept<'a>(alloc: Global, items: Vec<Option<Assignment>>) -> Result<Vec<Assignm
 fn read_task<'a>(alloc: Global, tokens: &'a [Token]) -> Result<(Action, &'a [Token]), Stop<'a>>
     ensures { Mirrors action_of result (task_at (expression_at low_trees) tokens.now) }
 {
-    let (at, rest) = attempt!(word(tokens, Word::Task));
+    let (at, rest) = attempt!(take(tokens, Word::Task));
     let (items, rest) = attempt!(read_separated::<Option<Assignment>>(alloc, rest));
     let (_, rest) = attempt!(terminator(rest));
     let assignments = attempt!(kept(alloc, items));
@@ -120,7 +122,7 @@ impl Production for Sending {
 
     #[tactic(auto, unfolding(crate::specs::Productions::sending_at))]
     fn read<'a>(alloc: Global, tokens: &'a [Token]) -> Result<(Sending, &'a [Token]), Stop<'a>> {
-        let (signal, rest) = attempt!(name(tokens));
+        let (signal, rest) = attempt!(take(tokens, AnyName));
         let (parameters, rest) = attempt!(read_in_parentheses::<Expression>(alloc, rest));
         Ok((Sending { signal, parameters }, rest))
     }
@@ -131,8 +133,8 @@ impl Production for Sending {
 fn read_destination<'a>(tokens: &'a [Token]) -> Result<(Destination, &'a [Token]), Stop<'a>>
     ensures { Mirrors same result (destination_at tokens.now) }
 {
-    let (_, rest) = attempt!(word(tokens, Word::To));
-    destination(rest)
+    let (_, rest) = attempt!(take(tokens, Word::To));
+    take(rest, AnyDestination)
 }
 
 /// Reads `[ TO (SENDER | name) ]`.
@@ -141,7 +143,7 @@ fn read_optional_destination<'a>(
 ) -> Result<(Option<Destination>, &'a [Token]), Stop<'a>>
     ensures { Mirrors same result (optional (a_word words.To) destination_at tokens.now) }
 {
-    if !is_word(tokens, Word::To) {
+    if !stands_next(tokens, Word::To) {
         return Ok((None, tokens));
     }
     let (found, rest) = attempt!(read_destination(tokens));
@@ -153,7 +155,7 @@ fn read_optional_destination<'a>(
 fn read_output<'a>(alloc: Global, tokens: &'a [Token]) -> Result<(Action, &'a [Token]), Stop<'a>>
     ensures { Mirrors action_of result (output_at (expression_at low_trees) tokens.now) }
 {
-    let (at, rest) = attempt!(word(tokens, Word::Output));
+    let (at, rest) = attempt!(take(tokens, Word::Output));
     let (sendings, rest) = attempt!(read_separated::<Sending>(alloc, rest));
     let (to, rest) = attempt!(read_optional_destination(rest));
     let (_, rest) = attempt!(terminator(rest));
@@ -165,11 +167,11 @@ fn read_output<'a>(alloc: Global, tokens: &'a [Token]) -> Result<(Action, &'a [T
 fn read_delay<'a>(alloc: Global, tokens: &'a [Token]) -> Result<(Expression, &'a [Token]), Stop<'a>>
     ensures { Mirrors tree_of result (delay_at (expression_at low_trees) tokens.now) }
 {
-    let (_, rest) = attempt!(symbol(tokens, Symbol::Open));
-    let (_, rest) = attempt!(word(rest, Word::Now));
-    let (_, rest) = attempt!(symbol(rest, Symbol::Plus));
+    let (_, rest) = attempt!(take(tokens, Symbol::Open));
+    let (_, rest) = attempt!(take(rest, Word::Now));
+    let (_, rest) = attempt!(take(rest, Symbol::Plus));
     let (delay, rest) = attempt!(expression(alloc, rest));
-    let (_, rest) = attempt!(symbol(rest, Symbol::Comma));
+    let (_, rest) = attempt!(take(rest, Symbol::Comma));
     Ok((delay, rest))
 }
 
@@ -178,10 +180,10 @@ fn read_delay<'a>(alloc: Global, tokens: &'a [Token]) -> Result<(Expression, &'a
 fn read_set<'a>(alloc: Global, tokens: &'a [Token]) -> Result<(Action, &'a [Token]), Stop<'a>>
     ensures { Mirrors action_of result (set_at (expression_at low_trees) tokens.now) }
 {
-    let (at, rest) = attempt!(word(tokens, Word::Set));
+    let (at, rest) = attempt!(take(tokens, Word::Set));
     let (delay, rest) = attempt!(read_delay(alloc, rest));
-    let (timer, rest) = attempt!(name(rest));
-    let (_, rest) = attempt!(symbol(rest, Symbol::Close));
+    let (timer, rest) = attempt!(take(rest, AnyName));
+    let (_, rest) = attempt!(take(rest, Symbol::Close));
     let (_, rest) = attempt!(terminator(rest));
     Ok((Action::Set(SetTimer { at, delay, timer }), rest))
 }
@@ -191,10 +193,10 @@ fn read_set<'a>(alloc: Global, tokens: &'a [Token]) -> Result<(Action, &'a [Toke
 fn read_reset<'a>(tokens: &'a [Token]) -> Result<(Action, &'a [Token]), Stop<'a>>
     ensures { Mirrors action_of result (reset_at tokens.now) }
 {
-    let (at, rest) = attempt!(word(tokens, Word::Reset));
-    let (_, rest) = attempt!(symbol(rest, Symbol::Open));
-    let (timer, rest) = attempt!(name(rest));
-    let (_, rest) = attempt!(symbol(rest, Symbol::Close));
+    let (at, rest) = attempt!(take(tokens, Word::Reset));
+    let (_, rest) = attempt!(take(rest, Symbol::Open));
+    let (timer, rest) = attempt!(take(rest, AnyName));
+    let (_, rest) = attempt!(take(rest, Symbol::Close));
     let (_, rest) = attempt!(terminator(rest));
     Ok((Action::Reset(ResetTimer { at, timer }), rest))
 }
@@ -210,13 +212,13 @@ impl Production for Action {
 
     #[tactic(auto, unfolding(crate::specs::Productions::action_at))]
     fn read<'a>(alloc: Global, tokens: &'a [Token]) -> Result<(Action, &'a [Token]), Stop<'a>> {
-        if is_word(tokens, Word::Task) {
+        if stands_next(tokens, Word::Task) {
             return Ok(attempt!(read_task(alloc, tokens)));
         }
-        if is_word(tokens, Word::Output) {
+        if stands_next(tokens, Word::Output) {
             return Ok(attempt!(read_output(alloc, tokens)));
         }
-        if is_word(tokens, Word::Set) {
+        if stands_next(tokens, Word::Set) {
             return Ok(attempt!(read_set(alloc, tokens)));
         }
         Ok(attempt!(read_reset(tokens)))
@@ -229,6 +231,6 @@ impl Listed for Action {
     ghost shortens = { low_action_takes };
 
     fn is_next(tokens: &[Token]) -> bool {
-        is_action(tokens)
+        stands_next(tokens, AnyAction)
     }
 }

@@ -2,23 +2,22 @@
 ghost use Rattle.std.specs.Prelude.{◌≡◌, Option};
 ghost use Rattle.std.specs.Option.{option_map};
 ghost use Rattle.sdl_lex.specs.declared.lexemes.Symbol.TheVariants as symbols;
-ghost use Rattle.sdl_tree.specs.Readings.{optional};
-ghost use Rattle.sdl_tree.specs.Machine.{low_trees, expression_at};
+ghost use Rattle.sdl_tokens.specs.Readings.{optional};
+ghost use Rattle.sdl_expressions.specs.Machine.{low_trees, expression_at};
 ghost use Rattle.sdl_tree.specs.Productions.{compared_at, upper_at, value_at, range_at, answer_head_at, else_head_at, head_at, question_at, end_decision_at};
-ghost use Rattle.sdl_tree.specs.Tokens.{a_symbol};
-ghost use Rattle.sdl_tree.specs.Views.{head_of, question_of};
-ghost use Rattle.sdl_tree.specs.Mirrors.{Mirrors, same};
+ghost use Rattle.sdl_tokens.specs.Tokens.{a_symbol};
+ghost use Rattle.sdl_tree.specs.BodyViews.{head_of, question_of};
+ghost use Rattle.sdl_tokens.specs.Mirrors.{Mirrors, same};
 ghost use Rattle.sdl_tree.specs.Lengths.{range_keeps};
 
+use crate::attempt::attempt;
 use crate::declarations::read_constant;
 use crate::endings::terminator;
-use crate::expression::Expression;
-use crate::operands::expression;
 use crate::production::{Production, read_separated};
-use crate::stop::{Stop, attempt};
-use crate::tokens::{is_relation, is_symbol, relation, symbol, word};
-use crate::tree::{Constant, Range};
+use sdl_ast::{Constant, Expression, Range};
+use sdl_expressions::expression;
 use sdl_lex::{Symbol, Token, Word};
+use sdl_tokens::{AnyRelation, Stop, stands_next, take};
 use std::alloc::Global;
 
 /// What a DECISION asks. The place is that of the word DECISION.
@@ -40,7 +39,7 @@ pub(crate) struct Head {
 fn read_compared<'a>(tokens: &'a [Token]) -> Result<(Range, &'a [Token]), Stop<'a>>
     ensures { Mirrors same result (compared_at tokens.now) }
 {
-    let (found, rest) = attempt!(relation(tokens));
+    let (found, rest) = attempt!(take(tokens, AnyRelation));
     let (constant, rest) = attempt!(read_constant(rest));
     let range = Range::Compared {
         at: found.at,
@@ -55,7 +54,7 @@ fn read_compared<'a>(tokens: &'a [Token]) -> Result<(Range, &'a [Token]), Stop<'
 fn read_upper<'a>(tokens: &'a [Token]) -> Result<(Constant, &'a [Token]), Stop<'a>>
     ensures { Mirrors same result (upper_at tokens.now) }
 {
-    let (_, rest) = attempt!(symbol(tokens, Symbol::Colon));
+    let (_, rest) = attempt!(take(tokens, Symbol::Colon));
     read_constant(rest)
 }
 
@@ -63,7 +62,7 @@ fn read_upper<'a>(tokens: &'a [Token]) -> Result<(Constant, &'a [Token]), Stop<'
 fn read_optional_upper<'a>(tokens: &'a [Token]) -> Result<(Option<Constant>, &'a [Token]), Stop<'a>>
     ensures { Mirrors same result (optional (a_symbol symbols.Colon) upper_at tokens.now) }
 {
-    if !is_symbol(tokens, Symbol::Colon) {
+    if !stands_next(tokens, Symbol::Colon) {
         return Ok((None, tokens));
     }
     let (upper, rest) = attempt!(read_upper(tokens));
@@ -84,7 +83,7 @@ fn read_value<'a>(tokens: &'a [Token]) -> Result<(Range, &'a [Token]), Stop<'a>>
 }
 
 impl Production for Range {
-    ghost use Rattle.sdl_tree.specs.declared.tree.Range.{Range};
+    ghost use Rattle.sdl_ast.specs.declared.tree.Range.{Range};
 
     ghost Plain = { Range };
 
@@ -96,7 +95,7 @@ impl Production for Range {
 
     #[tactic(auto, unfolding(crate::specs::Productions::range_at))]
     fn read<'a>(_alloc: Global, tokens: &'a [Token]) -> Result<(Range, &'a [Token]), Stop<'a>> {
-        if is_relation(tokens) {
+        if stands_next(tokens, AnyRelation) {
             return Ok(attempt!(read_compared(tokens)));
         }
         Ok(attempt!(read_value(tokens)))
@@ -108,10 +107,10 @@ impl Production for Range {
 fn read_answer_head<'a>(alloc: Global, tokens: &'a [Token]) -> Result<(Head, &'a [Token]), Stop<'a>>
     ensures { Mirrors head_of result (answer_head_at tokens.now) }
 {
-    let (at, rest) = attempt!(symbol(tokens, Symbol::Open));
+    let (at, rest) = attempt!(take(tokens, Symbol::Open));
     let (ranges, rest) = attempt!(read_separated::<Range>(alloc, rest));
-    let (_, rest) = attempt!(symbol(rest, Symbol::Close));
-    let (_, rest) = attempt!(symbol(rest, Symbol::Colon));
+    let (_, rest) = attempt!(take(rest, Symbol::Close));
+    let (_, rest) = attempt!(take(rest, Symbol::Colon));
     Ok((Head { at, ranges }, rest))
 }
 
@@ -120,8 +119,8 @@ fn read_answer_head<'a>(alloc: Global, tokens: &'a [Token]) -> Result<(Head, &'a
 fn read_else_head<'a>(tokens: &'a [Token]) -> Result<(u32, &'a [Token]), Stop<'a>>
     ensures { Mirrors same result (else_head_at tokens.now) }
 {
-    let (at, rest) = attempt!(word(tokens, Word::Else));
-    let (_, rest) = attempt!(symbol(rest, Symbol::Colon));
+    let (at, rest) = attempt!(take(tokens, Word::Else));
+    let (_, rest) = attempt!(take(rest, Symbol::Colon));
     Ok((at, rest))
 }
 
@@ -133,7 +132,7 @@ pub(crate) fn read_head<'a>(
 ) -> Result<(Option<Head>, &'a [Token]), Stop<'a>>
     ensures { Mirrors (option_map head_of) result (head_at tokens.now) }
 {
-    if is_symbol(tokens, Symbol::Open) {
+    if stands_next(tokens, Symbol::Open) {
         let (head, rest) = attempt!(read_answer_head(alloc, tokens));
         return Ok((Some(head), rest));
     }
@@ -149,7 +148,7 @@ pub(crate) fn read_question<'a>(
 ) -> Result<(Question, &'a [Token]), Stop<'a>>
     ensures { Mirrors question_of result (question_at (expression_at low_trees) tokens.now) }
 {
-    let (at, rest) = attempt!(word(tokens, Word::Decision));
+    let (at, rest) = attempt!(take(tokens, Word::Decision));
     let (question, rest) = attempt!(expression(alloc, rest));
     let (_, rest) = attempt!(terminator(rest));
     Ok((Question { at, question }, rest))
@@ -160,7 +159,7 @@ pub(crate) fn read_question<'a>(
 pub(crate) fn read_end_decision<'a>(tokens: &'a [Token]) -> Result<(u32, &'a [Token]), Stop<'a>>
     ensures { Mirrors same result (end_decision_at tokens.now) }
 {
-    let (at, rest) = attempt!(word(tokens, Word::EndDecision));
+    let (at, rest) = attempt!(take(tokens, Word::EndDecision));
     let (_, rest) = attempt!(terminator(rest));
     Ok((at, rest))
 }

@@ -1,35 +1,34 @@
 //! Processes, and the block that holds them.
 ghost use Rattle.std.specs.Prelude.{◌≡◌, ℕ};
 ghost use Rattle.sdl_lex.specs.declared.lexemes.Symbol.TheVariants as symbols;
-ghost use Rattle.sdl_tree.specs.Readings.{token, optional};
-ghost use Rattle.sdl_tree.specs.Machine.{low_trees};
-ghost use Rattle.sdl_tree.specs.Plain.{PlainEntity};
+ghost use Rattle.sdl_tokens.specs.Readings.{token, optional};
+ghost use Rattle.sdl_expressions.specs.Machine.{low_trees};
+ghost use Rattle.sdl_ast.specs.Plain.{PlainEntity};
 ghost use Rattle.sdl_tree.specs.Productions.{second_number_at, instances_at, process_head_at, process_at, entity_at, block_at};
-ghost use Rattle.sdl_tree.specs.Tokens.{a_number, a_one, a_symbol, an_entity};
-ghost use Rattle.sdl_tree.specs.Views.{entity_of, block_of};
-ghost use Rattle.sdl_tree.specs.Mirrors.{Mirrors, same};
+ghost use Rattle.sdl_tokens.specs.Tokens.{a_number, a_one, a_symbol, an_entity};
+ghost use Rattle.sdl_ast.specs.Views.{entity_of, block_of};
+ghost use Rattle.sdl_tokens.specs.Mirrors.{Mirrors, same};
 ghost use Rattle.sdl_tree.specs.Lengths.{low_entity_takes, low_entity_keeps};
 
+use crate::attempt::attempt;
 use crate::declarations::{read_connect, read_route, read_signals};
 use crate::endings::{read_closing, terminator};
-use crate::expression::Identifier;
 use crate::production::{Listed, Production, read_many};
 use crate::sections::{Sections, parted};
-use crate::stop::{Stop, attempt};
-use crate::tokens::{is_entity, is_number, is_symbol, is_word, name, one, symbol, word};
 use crate::transitions::{Section, read_start};
-use crate::tree::{Block, Declaration, Entity, Process};
+use sdl_ast::{Block, Declaration, Entity, Identifier, Process};
 use sdl_lex::{Symbol, Token, Word};
+use sdl_tokens::{AnyEntity, AnyName, AnyNumber, One, Stop, stands_next, take};
 use std::alloc::Global;
 
 /// Reads `[1]`.
 fn read_optional_one<'a>(tokens: &'a [Token]) -> Result<(Option<u32>, &'a [Token]), Stop<'a>>
     ensures { Mirrors same result (optional a_number (token a_one) tokens.now) }
 {
-    if !is_number(tokens) {
+    if !stands_next(tokens, AnyNumber) {
         return Ok((None, tokens));
     }
-    let (found, rest) = attempt!(one(tokens));
+    let (found, rest) = attempt!(take(tokens, One));
     Ok((Some(found), rest))
 }
 
@@ -38,7 +37,7 @@ fn read_optional_one<'a>(tokens: &'a [Token]) -> Result<(Option<u32>, &'a [Token
 fn read_second<'a>(tokens: &'a [Token]) -> Result<(Option<u32>, &'a [Token]), Stop<'a>>
     ensures { Mirrors same result (second_number_at tokens.now) }
 {
-    let (_, rest) = attempt!(symbol(tokens, Symbol::Comma));
+    let (_, rest) = attempt!(take(tokens, Symbol::Comma));
     Ok(attempt!(read_optional_one(rest)))
 }
 
@@ -48,7 +47,7 @@ fn read_optional_second<'a>(
 ) -> Result<(Option<Option<u32>>, &'a [Token]), Stop<'a>>
     ensures { Mirrors same result (optional (a_symbol symbols.Comma) second_number_at tokens.now) }
 {
-    if !is_symbol(tokens, Symbol::Comma) {
+    if !stands_next(tokens, Symbol::Comma) {
         return Ok((None, tokens));
     }
     let (found, rest) = attempt!(read_second(tokens));
@@ -60,10 +59,10 @@ fn read_optional_second<'a>(
 fn read_instances<'a>(tokens: &'a [Token]) -> Result<(u32, &'a [Token]), Stop<'a>>
     ensures { Mirrors same result (instances_at tokens.now) }
 {
-    let (_, rest) = attempt!(symbol(tokens, Symbol::Open));
-    let (first, rest) = attempt!(one(rest));
+    let (_, rest) = attempt!(take(tokens, Symbol::Open));
+    let (first, rest) = attempt!(take(rest, One));
     let (_, rest) = attempt!(read_optional_second(rest));
-    let (_, rest) = attempt!(symbol(rest, Symbol::Close));
+    let (_, rest) = attempt!(take(rest, Symbol::Close));
     Ok((first, rest))
 }
 
@@ -71,7 +70,7 @@ fn read_instances<'a>(tokens: &'a [Token]) -> Result<(u32, &'a [Token]), Stop<'a
 fn read_optional_instances<'a>(tokens: &'a [Token]) -> Result<(Option<u32>, &'a [Token]), Stop<'a>>
     ensures { Mirrors same result (optional (a_symbol symbols.Open) instances_at tokens.now) }
 {
-    if !is_symbol(tokens, Symbol::Open) {
+    if !stands_next(tokens, Symbol::Open) {
         return Ok((None, tokens));
     }
     let (found, rest) = attempt!(read_instances(tokens));
@@ -83,8 +82,8 @@ fn read_optional_instances<'a>(tokens: &'a [Token]) -> Result<(Option<u32>, &'a 
 fn read_process_head<'a>(tokens: &'a [Token]) -> Result<(Identifier, &'a [Token]), Stop<'a>>
     ensures { Mirrors same result (process_head_at tokens.now) }
 {
-    let (_, rest) = attempt!(word(tokens, Word::Process));
-    let (name, rest) = attempt!(name(rest));
+    let (_, rest) = attempt!(take(tokens, Word::Process));
+    let (name, rest) = attempt!(take(rest, AnyName));
     let (_, rest) = attempt!(read_optional_instances(rest));
     let (_, rest) = attempt!(terminator(rest));
     Ok((name, rest))
@@ -99,7 +98,7 @@ fn read_process<'a>(alloc: Global, tokens: &'a [Token]) -> Result<(Entity, &'a [
     let (declarations, rest) = attempt!(read_many::<Declaration>(alloc, rest));
     let (start, rest) = attempt!(read_start(alloc, rest));
     let (sections, rest) = attempt!(read_many::<Section>(alloc, rest));
-    let (_, rest) = attempt!(word(rest, Word::EndProcess));
+    let (_, rest) = attempt!(take(rest, Word::EndProcess));
     let (_, rest) = attempt!(read_closing(rest, name.name));
     let Sections {
         states,
@@ -126,13 +125,13 @@ impl Production for Entity {
 
     #[tactic(auto, unfolding(crate::specs::Productions::entity_at))]
     fn read<'a>(alloc: Global, tokens: &'a [Token]) -> Result<(Entity, &'a [Token]), Stop<'a>> {
-        if is_word(tokens, Word::Signal) {
+        if stands_next(tokens, Word::Signal) {
             return Ok(attempt!(read_signals(alloc, tokens)));
         }
-        if is_word(tokens, Word::SignalRoute) {
+        if stands_next(tokens, Word::SignalRoute) {
             return Ok(attempt!(read_route(alloc, tokens)));
         }
-        if is_word(tokens, Word::Connect) {
+        if stands_next(tokens, Word::Connect) {
             return Ok(attempt!(read_connect(alloc, tokens)));
         }
         Ok(attempt!(read_process(alloc, tokens)))
@@ -145,7 +144,7 @@ impl Listed for Entity {
     ghost shortens = { low_entity_takes };
 
     fn is_next(tokens: &[Token]) -> bool {
-        is_entity(tokens)
+        stands_next(tokens, AnyEntity)
     }
 }
 
@@ -157,11 +156,11 @@ pub(crate) fn read_block<'a>(
 ) -> Result<(Block, &'a [Token]), Stop<'a>>
     ensures { Mirrors block_of result (block_at low_trees tokens.now) }
 {
-    let (_, rest) = attempt!(word(tokens, Word::Block));
-    let (name, rest) = attempt!(name(rest));
+    let (_, rest) = attempt!(take(tokens, Word::Block));
+    let (name, rest) = attempt!(take(rest, AnyName));
     let (_, rest) = attempt!(terminator(rest));
     let (entities, rest) = attempt!(read_many::<Entity>(alloc, rest));
-    let (_, rest) = attempt!(word(rest, Word::EndBlock));
+    let (_, rest) = attempt!(take(rest, Word::EndBlock));
     let (_, rest) = attempt!(read_closing(rest, name.name));
     Ok((Block { name, entities }, rest))
 }

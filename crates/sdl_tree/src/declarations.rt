@@ -1,31 +1,32 @@
 //! Signals, routes, variables and timers.
 ghost use Rattle.std.specs.Prelude.{◌≡◌, ◌∷◌, map, Option, None, IfOk, IfErr};
 ghost use Rattle.std.specs.Option.{option_map, option_to_list};
-ghost use Rattle.sdl_tree.specs.Readings.{token, separated, optional};
+ghost use Rattle.sdl_tokens.specs.Readings.{token, separated, optional};
 ghost use Rattle.sdl_tree.specs.Productions.{signal_at, signals_at, path_at, route_at, connect_at, negative_at, constant_at, initial_at, group_at, variables_at, timers_at, declaration_at, place_at};
-ghost use Rattle.sdl_tree.specs.Tokens.{a_name, a_sort, a_word, a_symbol, a_declaration};
+ghost use Rattle.sdl_tokens.specs.Tokens.{a_name, a_sort, a_word, a_symbol, a_declaration};
 ghost use Rattle.sdl_lex.specs.declared.lexemes.Symbol.TheVariants.{Assign};
 ghost use Rattle.sdl_lex.specs.declared.lexemes.Word.TheVariants.{From};
-ghost use Rattle.sdl_tree.specs.Plain.{PlainSignal, PlainGroup, PlainDeclaration};
-ghost use Rattle.sdl_tree.specs.Views.{signal_of, path_of, entity_of, group_of, declaration_of};
-ghost use Rattle.sdl_tree.specs.Mirrors.{Mirrors, same};
+ghost use Rattle.sdl_ast.specs.Plain.{PlainSignal, PlainGroup, PlainDeclaration};
+ghost use Rattle.sdl_ast.specs.Views.{signal_of, path_of, entity_of, group_of, declaration_of};
+ghost use Rattle.sdl_tokens.specs.Mirrors.{Mirrors, same};
 ghost use Rattle.sdl_tree.specs.Lengths.{name_keeps, sort_keeps, signal_keeps, group_keeps, place_keeps, declaration_takes, declaration_keeps};
 
+use crate::attempt::attempt;
 use crate::endings::terminator;
-use crate::expression::Identifier;
 use crate::production::{Listed, Production, read_in_parentheses, read_separated};
-use crate::stop::{Stop, attempt, push};
-use crate::tokens::{
-    constant, is_declaration, is_name, is_symbol, is_word, name, number, party, sort, symbol, word,
-};
-use crate::tree::{
-    Connect, Constant, Declaration, Entity, Group, Literal, Path, Route, SignalDeclaration, Sort,
+use sdl_ast::{
+    Connect, Constant, Declaration, Entity, Group, Identifier, Literal, Path, Route,
+    SignalDeclaration, Sort,
 };
 use sdl_lex::{Symbol, Token, Word};
+use sdl_tokens::{
+    AnyConstant, AnyDeclaration, AnyName, AnyNumber, AnyParty, AnySort, Stop, push, stands_next,
+    take,
+};
 use std::alloc::Global;
 
 impl Production for Identifier {
-    ghost use Rattle.sdl_tree.specs.declared.expression.Identifier.{Identifier};
+    ghost use Rattle.sdl_ast.specs.declared.expression.Identifier.{Identifier};
 
     ghost Plain = { Identifier };
 
@@ -39,12 +40,12 @@ impl Production for Identifier {
         _alloc: Global,
         tokens: &'a [Token],
     ) -> Result<(Identifier, &'a [Token]), Stop<'a>> {
-        name(tokens)
+        take(tokens, AnyName)
     }
 }
 
 impl Production for Sort {
-    ghost use Rattle.sdl_tree.specs.declared.tree.Sort.{Sort};
+    ghost use Rattle.sdl_ast.specs.declared.tree.Sort.{Sort};
 
     ghost Plain = { Sort };
 
@@ -55,12 +56,12 @@ impl Production for Sort {
     ghost never_longer = { sort_keeps };
 
     fn read<'a>(_alloc: Global, tokens: &'a [Token]) -> Result<(Sort, &'a [Token]), Stop<'a>> {
-        sort(tokens)
+        take(tokens, AnySort)
     }
 }
 
 impl Production for Option<Identifier> {
-    ghost use Rattle.sdl_tree.specs.declared.expression.Identifier.{Identifier};
+    ghost use Rattle.sdl_ast.specs.declared.expression.Identifier.{Identifier};
 
     ghost Plain = { Option Identifier };
 
@@ -75,10 +76,10 @@ impl Production for Option<Identifier> {
         _alloc: Global,
         tokens: &'a [Token],
     ) -> Result<(Option<Identifier>, &'a [Token]), Stop<'a>> {
-        if !is_name(tokens) {
+        if !stands_next(tokens, AnyName) {
             return Ok((None, tokens));
         }
-        let (found, rest) = attempt!(name(tokens));
+        let (found, rest) = attempt!(take(tokens, AnyName));
         Ok((Some(found), rest))
     }
 }
@@ -97,7 +98,7 @@ impl Production for SignalDeclaration {
         alloc: Global,
         tokens: &'a [Token],
     ) -> Result<(SignalDeclaration, &'a [Token]), Stop<'a>> {
-        let (name, rest) = attempt!(name(tokens));
+        let (name, rest) = attempt!(take(tokens, AnyName));
         let (parameters, rest) = attempt!(read_in_parentheses::<Sort>(alloc, rest));
         Ok((SignalDeclaration { name, parameters }, rest))
     }
@@ -111,7 +112,7 @@ pub(crate) fn read_signals<'a>(
 ) -> Result<(Entity, &'a [Token]), Stop<'a>>
     ensures { Mirrors entity_of result (signals_at tokens.now) }
 {
-    let (_, rest) = attempt!(word(tokens, Word::Signal));
+    let (_, rest) = attempt!(take(tokens, Word::Signal));
     let (declared, rest) = attempt!(read_separated::<SignalDeclaration>(alloc, rest));
     let (_, rest) = attempt!(terminator(rest));
     Ok((Entity::Signals(declared), rest))
@@ -122,11 +123,11 @@ pub(crate) fn read_signals<'a>(
 fn read_path<'a>(alloc: Global, tokens: &'a [Token]) -> Result<(Path, &'a [Token]), Stop<'a>>
     ensures { Mirrors path_of result (path_at tokens.now) }
 {
-    let (_, rest) = attempt!(word(tokens, Word::From));
-    let (from, rest) = attempt!(party(rest));
-    let (_, rest) = attempt!(word(rest, Word::To));
-    let (to, rest) = attempt!(party(rest));
-    let (_, rest) = attempt!(word(rest, Word::With));
+    let (_, rest) = attempt!(take(tokens, Word::From));
+    let (from, rest) = attempt!(take(rest, AnyParty));
+    let (_, rest) = attempt!(take(rest, Word::To));
+    let (to, rest) = attempt!(take(rest, AnyParty));
+    let (_, rest) = attempt!(take(rest, Word::With));
     let (signals, rest) = attempt!(read_separated::<Identifier>(alloc, rest));
     let (_, rest) = attempt!(terminator(rest));
     Ok((Path { from, to, signals }, rest))
@@ -139,7 +140,7 @@ fn read_optional_path<'a>(
 ) -> Result<(Option<Path>, &'a [Token]), Stop<'a>>
     ensures { Mirrors (option_map path_of) result (optional (a_word From) path_at tokens.now) }
 {
-    if !is_word(tokens, Word::From) {
+    if !stands_next(tokens, Word::From) {
         return Ok((None, tokens));
     }
     let (path, rest) = attempt!(read_path(alloc, tokens));
@@ -167,8 +168,8 @@ pub(crate) fn read_route<'a>(
 ) -> Result<(Entity, &'a [Token]), Stop<'a>>
     ensures { Mirrors entity_of result (route_at tokens.now) }
 {
-    let (_, rest) = attempt!(word(tokens, Word::SignalRoute));
-    let (name, rest) = attempt!(name(rest));
+    let (_, rest) = attempt!(take(tokens, Word::SignalRoute));
+    let (name, rest) = attempt!(take(rest, AnyName));
     let (first, rest) = attempt!(read_path(alloc, rest));
     let (second, rest) = attempt!(read_optional_path(alloc, rest));
     let paths = attempt!(paths_of(alloc, first, second));
@@ -183,9 +184,9 @@ pub(crate) fn read_connect<'a>(
 ) -> Result<(Entity, &'a [Token]), Stop<'a>>
     ensures { Mirrors entity_of result (connect_at tokens.now) }
 {
-    let (_, rest) = attempt!(word(tokens, Word::Connect));
+    let (_, rest) = attempt!(take(tokens, Word::Connect));
     let (channels, rest) = attempt!(read_separated::<Identifier>(alloc, rest));
-    let (_, rest) = attempt!(word(rest, Word::And));
+    let (_, rest) = attempt!(take(rest, Word::And));
     let (routes, rest) = attempt!(read_separated::<Identifier>(alloc, rest));
     let (_, rest) = attempt!(terminator(rest));
     Ok((Entity::Connect(Connect { channels, routes }), rest))
@@ -196,8 +197,8 @@ pub(crate) fn read_connect<'a>(
 fn read_negative<'a>(tokens: &'a [Token]) -> Result<(Constant, &'a [Token]), Stop<'a>>
     ensures { Mirrors same result (negative_at tokens.now) }
 {
-    let (at, rest) = attempt!(symbol(tokens, Symbol::Minus));
-    let (value, rest) = attempt!(number(rest));
+    let (at, rest) = attempt!(take(tokens, Symbol::Minus));
+    let (value, rest) = attempt!(take(rest, AnyNumber));
     let value = Literal::Integer(-(value as i32));
     Ok((Constant { at, value }, rest))
 }
@@ -207,10 +208,10 @@ fn read_negative<'a>(tokens: &'a [Token]) -> Result<(Constant, &'a [Token]), Sto
 pub(crate) fn read_constant<'a>(tokens: &'a [Token]) -> Result<(Constant, &'a [Token]), Stop<'a>>
     ensures { Mirrors same result (constant_at tokens.now) }
 {
-    if is_symbol(tokens, Symbol::Minus) {
+    if stands_next(tokens, Symbol::Minus) {
         return Ok(attempt!(read_negative(tokens)));
     }
-    Ok(attempt!(constant(tokens)))
+    Ok(attempt!(take(tokens, AnyConstant)))
 }
 
 /// Reads `:= constant`.
@@ -218,7 +219,7 @@ pub(crate) fn read_constant<'a>(tokens: &'a [Token]) -> Result<(Constant, &'a [T
 fn read_initial<'a>(tokens: &'a [Token]) -> Result<(Constant, &'a [Token]), Stop<'a>>
     ensures { Mirrors same result (initial_at tokens.now) }
 {
-    let (_, rest) = attempt!(symbol(tokens, Symbol::Assign));
+    let (_, rest) = attempt!(take(tokens, Symbol::Assign));
     read_constant(rest)
 }
 
@@ -228,7 +229,7 @@ fn read_optional_initial<'a>(
 ) -> Result<(Option<Constant>, &'a [Token]), Stop<'a>>
     ensures { Mirrors same result (optional (a_symbol Assign) initial_at tokens.now) }
 {
-    if !is_symbol(tokens, Symbol::Assign) {
+    if !stands_next(tokens, Symbol::Assign) {
         return Ok((None, tokens));
     }
     let (initial, rest) = attempt!(read_initial(tokens));
@@ -247,7 +248,7 @@ impl Production for Group {
     #[tactic(auto, unfolding(crate::specs::Productions::group_at))]
     fn read<'a>(alloc: Global, tokens: &'a [Token]) -> Result<(Group, &'a [Token]), Stop<'a>> {
         let (names, rest) = attempt!(read_separated::<Identifier>(alloc, tokens));
-        let (sort, rest) = attempt!(sort(rest));
+        let (sort, rest) = attempt!(take(rest, AnySort));
         let (initial, rest) = attempt!(read_optional_initial(rest));
         Ok((
             Group {
@@ -268,7 +269,7 @@ fn read_variables<'a>(
 ) -> Result<(Declaration, &'a [Token]), Stop<'a>>
     ensures { Mirrors declaration_of result (variables_at tokens.now) }
 {
-    let (_, rest) = attempt!(word(tokens, Word::Dcl));
+    let (_, rest) = attempt!(take(tokens, Word::Dcl));
     let (groups, rest) = attempt!(read_separated::<Group>(alloc, rest));
     let (_, rest) = attempt!(terminator(rest));
     Ok((Declaration::Variables(groups), rest))
@@ -282,7 +283,7 @@ fn read_timers<'a>(
 ) -> Result<(Declaration, &'a [Token]), Stop<'a>>
     ensures { Mirrors declaration_of result (timers_at tokens.now) }
 {
-    let (_, rest) = attempt!(word(tokens, Word::Timer));
+    let (_, rest) = attempt!(take(tokens, Word::Timer));
     let (names, rest) = attempt!(read_separated::<Identifier>(alloc, rest));
     let (_, rest) = attempt!(terminator(rest));
     Ok((Declaration::Timers(names), rest))
@@ -302,7 +303,7 @@ impl Production for Declaration {
         alloc: Global,
         tokens: &'a [Token],
     ) -> Result<(Declaration, &'a [Token]), Stop<'a>> {
-        if is_word(tokens, Word::Dcl) {
+        if stands_next(tokens, Word::Dcl) {
             return Ok(attempt!(read_variables(alloc, tokens)));
         }
         Ok(attempt!(read_timers(alloc, tokens)))
@@ -315,6 +316,6 @@ impl Listed for Declaration {
     ghost shortens = { declaration_takes };
 
     fn is_next(tokens: &[Token]) -> bool {
-        is_declaration(tokens)
+        stands_next(tokens, AnyDeclaration)
     }
 }

@@ -1,30 +1,30 @@
 //! How statements and their groups end.
 ghost use Rattle.std.specs.Prelude.{◌≡◌, Option};
 ghost use Rattle.sdl_lex.specs.declared.lexemes.Word.TheVariants as words;
-ghost use Rattle.sdl_tree.specs.Readings.{token, optional};
+ghost use Rattle.sdl_tokens.specs.Readings.{token, optional};
 ghost use Rattle.sdl_tree.specs.Productions.{comment_at, terminator_at, closing_at};
-ghost use Rattle.sdl_tree.specs.Tokens.{a_name, a_word, a_closing};
-ghost use Rattle.sdl_tree.specs.Mirrors.{Mirrors, same};
+ghost use Rattle.sdl_tokens.specs.Tokens.{a_name, a_word, a_closing};
+ghost use Rattle.sdl_tokens.specs.Mirrors.{Mirrors, same};
 
-use crate::expression::Identifier;
-use crate::stop::{Stop, attempt};
-use crate::tokens::{closing, is_name, is_word, quoted, symbol, word};
+use crate::attempt::attempt;
+use sdl_ast::Identifier;
 use sdl_lex::{Name, Symbol, Token, Word};
+use sdl_tokens::{AnyName, AnyQuoted, Closing, Stop, stands_next, take};
 
 /// Reads `COMMENT quoted`.
 #[tactic(auto, unfolding(crate::specs::Productions::comment_at))]
 fn read_comment<'a>(tokens: &'a [Token]) -> Result<(u32, &'a [Token]), Stop<'a>>
     ensures { Mirrors same result (comment_at tokens.now) }
 {
-    let (_, rest) = attempt!(word(tokens, Word::Comment));
-    quoted(rest)
+    let (_, rest) = attempt!(take(tokens, Word::Comment));
+    take(rest, AnyQuoted)
 }
 
 /// Reads `[ COMMENT quoted ]`.
 fn read_optional_comment<'a>(tokens: &'a [Token]) -> Result<(Option<u32>, &'a [Token]), Stop<'a>>
     ensures { Mirrors same result (optional (a_word words.Comment) comment_at tokens.now) }
 {
-    if !is_word(tokens, Word::Comment) {
+    if !stands_next(tokens, Word::Comment) {
         return Ok((None, tokens));
     }
     let (found, rest) = attempt!(read_comment(tokens));
@@ -37,7 +37,7 @@ pub(crate) fn terminator<'a>(tokens: &'a [Token]) -> Result<(u32, &'a [Token]), 
     ensures { Mirrors same result (terminator_at tokens.now) }
 {
     let (_, rest) = attempt!(read_optional_comment(tokens));
-    symbol(rest, Symbol::Semicolon)
+    take(rest, Symbol::Semicolon)
 }
 
 /// Reads `[name]`, where the name is the given one in any case.
@@ -47,10 +47,10 @@ fn read_optional_closing<'a>(
 ) -> Result<(Option<Identifier>, &'a [Token]), Stop<'a>>
     ensures { Mirrors same result (optional a_name (token (a_closing opened)) tokens.now) }
 {
-    if !is_name(tokens) {
+    if !stands_next(tokens, AnyName) {
         return Ok((None, tokens));
     }
-    let (found, rest) = attempt!(closing(tokens, opened));
+    let (found, rest) = attempt!(take(tokens, Closing(opened)));
     Ok((Some(found), rest))
 }
 

@@ -3,35 +3,23 @@
 
 mod actions;
 mod answers;
+mod attempt;
 mod blocks;
-mod comparison;
 mod declarations;
 mod endings;
-mod expression;
 mod fault;
-mod height;
-mod level;
-mod operands;
-mod operators;
 mod parsing;
-mod part;
 mod production;
 mod sections;
 mod statements;
-mod stop;
-mod tokens;
 mod transitions;
-mod tree;
 
-pub use expression::{BinaryOperator, Expression, Identifier, UnaryOperator};
 pub use fault::ParseFault;
 pub use parsing::{parse, reads_once};
-pub use tree::{
-    Action, Answer, Assignment, Block, Connect, Connection, Constant, Decision, Declaration,
-    Destination, End, Entity, Group, InputPart, Join, Literal, NextState, Output, Party, Path,
-    Process, Range, Relation, ResetTimer, Route, Sending, SetTimer, SignalDeclaration, Sort, Start,
-    StateClause, StatePart, Statement, Stimulus, Task, Transition,
+pub use sdl_ast::{
+    Action, Answer, Assignment, BinaryOperator, Block, Connect, Connection, Constant, Decision,
+    Declaration, Destination, End, Entity, Expression, Group, Identifier, InputPart, Join, Literal,
+    MAX_HEIGHT, NextState, Output, Party, Path, Process, Range, Relation, ResetTimer, Route,
+    Sending, SetTimer, SignalDeclaration, Sort, Start, StateClause, StatePart, Statement, Stimulus,
+    Task, Transition, UnaryOperator,
 };
-
-/// The greatest height of a tree.
-pub const MAX_HEIGHT: u32 = 32;

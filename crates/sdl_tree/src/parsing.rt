@@ -1,17 +1,16 @@
 //! From tokens to a tree.
 ghost use Rattle.std.specs.Prelude.{◌≡◌, IfOk, IfErr};
-ghost use Rattle.sdl_tree.specs.Heights.{Answers, Refuses};
-ghost use Rattle.sdl_tree.specs.Plain.{PlainBlock};
+ghost use Rattle.sdl_tree.specs.Refusals.{Answers, Refuses};
+ghost use Rattle.sdl_ast.specs.Plain.{PlainBlock};
 ghost use Rattle.sdl_tree.specs.Settled.{Settled};
 ghost use Rattle.sdl_tree.specs.Syntax.{Reads};
-ghost use Rattle.sdl_tree.specs.Views.{block_of};
+ghost use Rattle.sdl_ast.specs.Views.{block_of};
 
 use crate::blocks::read_block;
 use crate::fault::ParseFault;
-use crate::height::first_too_high;
-use crate::stop::Stop;
-use crate::tree::Block;
+use sdl_ast::{Block, first_too_high};
 use sdl_lex::Token;
+use sdl_tokens::Stop;
 use std::alloc::Global;
 
 fn read_text(alloc: Global, tokens: &[Token]) -> Result<Block, ParseFault>

@@ -1,14 +1,13 @@
 //! What can be read from tokens, alone and in rows.
 ghost use Rattle.std.specs.Prelude.{◌≡◌, ◌<◌, length, map, IfOk, Option, ℕ};
 ghost use Rattle.sdl_lex.specs.declared.lexemes.Token.{Token};
-ghost use Rattle.sdl_tree.specs.Readings.{At, Shortens, NeverLonger, separated, many, list_in_parentheses};
-ghost use Rattle.sdl_tree.specs.Readings.{behind_comma, separated_from};
-ghost use Rattle.sdl_tree.specs.Tokens.{begins};
-ghost use Rattle.sdl_tree.specs.Mirrors.{Mirrors};
+ghost use Rattle.sdl_tokens.specs.Readings.{At, Shortens, NeverLonger, separated, many, list_in_parentheses};
+ghost use Rattle.sdl_tokens.specs.Readings.{behind_comma, separated_from};
+ghost use Rattle.sdl_tokens.specs.Tokens.{begins};
+ghost use Rattle.sdl_tokens.specs.Mirrors.{Mirrors};
 
-use crate::stop::{Stop, push};
-use crate::tokens::{is_symbol, symbol};
 use sdl_lex::{Symbol, Token};
+use sdl_tokens::{Stop, push, stands_next, take};
 use std::alloc::Global;
 
 /// A part of the tree that tokens read as.
@@ -42,7 +41,7 @@ fn read_behind_comma<'a, T: Production>(
 ) -> Result<(T, &'a [Token]), Stop<'a>>
     ensures { Mirrors T.view result (behind_comma T.reading tokens.now) }
 {
-    let (_, rest) = symbol(tokens, Symbol::Comma)?;
+    let (_, rest) = take(tokens, Symbol::Comma)?;
     T::read(alloc, rest)
 }
 
@@ -57,7 +56,7 @@ pub(crate) fn read_more<'a, T: Production>(
     let mut items = Vec::new(alloc);
     push(&mut items, first)?;
     let mut rest = tokens;
-    'rows: while is_symbol(rest, Symbol::Comma) {
+    'rows: while stands_next(rest, Symbol::Comma) {
         let (item, after) = read_behind_comma::<T>(alloc, rest)?;
         push(&mut items, item)?;
         rest = after;
@@ -100,11 +99,11 @@ pub(crate) fn read_in_parentheses<'a, T: Production>(
 ) -> Result<(Vec<T>, &'a [Token]), Stop<'a>>
     ensures { Mirrors (λ v. map T.view v.items) result (list_in_parentheses T.reading tokens.now) }
 {
-    if !is_symbol(tokens, Symbol::Open) {
+    if !stands_next(tokens, Symbol::Open) {
         return Ok((Vec::new(alloc), tokens));
     }
-    let (_, rest) = symbol(tokens, Symbol::Open)?;
+    let (_, rest) = take(tokens, Symbol::Open)?;
     let (items, rest) = read_separated::<T>(alloc, rest)?;
-    let (_, rest) = symbol(rest, Symbol::Close)?;
+    let (_, rest) = take(rest, Symbol::Close)?;
     Ok((items, rest))
 }

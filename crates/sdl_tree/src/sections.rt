@@ -2,12 +2,13 @@
 ghost use Rattle.std.specs.Prelude.{◌≡◌, ◌++◌, map, OnOk, IfOk, IfErr};
 ghost use Rattle.std.specs.List.{filter_map};
 ghost use Rattle.std.specs.Option.{option_to_list};
-ghost use Rattle.sdl_tree.specs.Plain.{state_in, connection_in};
-ghost use Rattle.sdl_tree.specs.Views.{state_of, connection_of, section_of};
+ghost use Rattle.sdl_ast.specs.Plain.{state_in, connection_in};
+ghost use Rattle.sdl_ast.specs.Views.{state_of, connection_of};
+ghost use Rattle.sdl_tree.specs.BodyViews.{section_of};
 
-use crate::stop::{Stop, push};
 use crate::transitions::Section;
-use crate::tree::{Connection, StatePart};
+use sdl_ast::{Connection, StatePart};
+use sdl_tokens::{Stop, push};
 use std::alloc::Global;
 
 /// The STATE parts and the CONNECTIONs of a process, each in the order of the text.

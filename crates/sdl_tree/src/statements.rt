@@ -3,24 +3,25 @@
 ghost use Rattle.std.specs.Prelude.{◌≡◌, ◌++◌, map, IfOk, [], ◌∷◌};
 ghost use Rattle.std.specs.Option.{option_map};
 ghost use Rattle.sdl_tree.specs.BodyViews.{branching_view, bodies_view, reached_view, move_view};
-ghost use Rattle.sdl_tree.specs.Machine.{low_trees, low_decision, raised_by};
-ghost use Rattle.sdl_tree.specs.Limits.{GREATEST_HEIGHT};
-ghost use Rattle.sdl_tree.specs.Mirrors.{Mirrors};
-ghost use Rattle.sdl_tree.specs.Plain.{all_answers};
+ghost use Rattle.sdl_expressions.specs.Machine.{low_trees, low_decision, raised_by};
+ghost use Rattle.sdl_ast.specs.Limits.{GREATEST_HEIGHT};
+ghost use Rattle.sdl_tokens.specs.Mirrors.{Mirrors};
+ghost use Rattle.sdl_ast.specs.Plain.{all_answers};
 ghost use Rattle.sdl_tree.specs.Productions.{head_step, closing_step, answer_step, with_answer, body_step, behind_step, end_step, decision_step, action_step, step_at, text_at};
-ghost use Rattle.sdl_tree.specs.declared.tree.Decision.{out-Decision};
-ghost use Rattle.sdl_tree.specs.Views.{tree_of, text_of, head_of, choice_of, else_choice, plain_statement, plain_answer, plain_decision};
+ghost use Rattle.sdl_ast.specs.declared.tree.Decision.{out-Decision};
+ghost use Rattle.sdl_ast.specs.Views.{tree_of, text_of, choice_of, else_choice, plain_statement, plain_answer, plain_decision};
+ghost use Rattle.sdl_tree.specs.BodyViews.{head_of};
 
-use crate::MAX_HEIGHT;
 use crate::answers::{Head, Question, read_end_decision, read_head, read_question};
-use crate::expression::{Expression, UnaryOperator};
-use crate::height::exceeds_in_decision;
+use crate::attempt::attempt;
 use crate::production::Production;
-use crate::stop::{Stop, attempt, push};
-use crate::tokens::{is_action, is_choice, is_word};
 use crate::transitions::read_optional_end;
-use crate::tree::{Action, Answer, Decision, Statement, Transition};
+use sdl_ast::{
+    Action, Answer, Decision, Expression, MAX_HEIGHT, Statement, Transition, UnaryOperator,
+    exceeds_in_decision,
+};
 use sdl_lex::{Token, Word};
+use sdl_tokens::{AnyAction, AnyChoice, Stop, push, stands_next};
 use std::alloc::{AllocError, Global};
 
 /// A DECISION that is open: the statements before it, its question, and the answers that were read whole.
@@ -53,7 +54,7 @@ enum Move {
 }
 
 /// A question with so many operators in front that it is too high.
-#[tactic(auto, unfolding(crate::specs::Machine::raised_by))]
+#[tactic(auto, unfolding(sdl_expressions::specs::Machine::raised_by))]
 fn raised(alloc: Global, at: u32, question: Expression) -> Result<Expression, AllocError>
     ensures { IfOk result (λ x. tree_of x ≡ raised_by GREATEST_HEIGHT at (tree_of question)) }
 {
@@ -171,7 +172,7 @@ fn answer_step<'a>(
 ) -> Result<(Move, &'a [Token]), Stop<'a>>
     ensures { Mirrors move_view result (answer_step low_trees (bodies_view outer.items) (branching_view branching) tokens.now) }
 {
-    if is_choice(tokens) {
+    if stands_next(tokens, AnyChoice) {
         return head_step(alloc, outer, branching, tokens);
     }
     closing_step(alloc, outer, branching, None, tokens)
@@ -274,10 +275,10 @@ fn make_step<'a>(
 ) -> Result<(Move, &'a [Token]), Stop<'a>>
     ensures { Mirrors move_view result (step_at low_trees (reached_view reached) tokens.now) }
 {
-    if is_action(tokens) {
+    if stands_next(tokens, AnyAction) {
         return action_step(alloc, reached, tokens);
     }
-    if is_word(tokens, Word::Decision) {
+    if stands_next(tokens, Word::Decision) {
         return decision_step(alloc, reached, tokens);
     }
     end_step(alloc, reached, tokens)

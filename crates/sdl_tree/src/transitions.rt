@@ -1,27 +1,28 @@
 //! Transitions, and the states that have them.
 ghost use Rattle.std.specs.Prelude.{◌≡◌, map, Option, None, List};
 ghost use Rattle.sdl_lex.specs.declared.lexemes.Word.TheVariants as words;
-ghost use Rattle.sdl_tree.specs.Readings.{separated, optional};
-ghost use Rattle.sdl_tree.specs.Machine.{low_trees};
+ghost use Rattle.sdl_tokens.specs.Readings.{separated, optional};
+ghost use Rattle.sdl_expressions.specs.Machine.{low_trees};
 ghost use Rattle.sdl_tree.specs.Productions.{stimulus_at, next_state_at, stop_at, join_at, end_at, input_at, save_at, clause_at, end_state_at, state_at, end_connection_at, connection_at, section_at, start_at};
-ghost use Rattle.sdl_tree.specs.Tokens.{a_word, a_clause, a_section, an_end};
-ghost use Rattle.sdl_tree.specs.Plain.{PlainStimulus, PlainClause, PlainSection};
-ghost use Rattle.sdl_tree.specs.Views.{stimulus_of, clause_of, state_of, connection_of, section_of, start_of};
-ghost use Rattle.sdl_tree.specs.Mirrors.{Mirrors, same};
+ghost use Rattle.sdl_tokens.specs.Tokens.{a_word, a_clause, a_section, an_end};
+ghost use Rattle.sdl_ast.specs.Plain.{PlainStimulus, PlainClause, PlainSection};
+ghost use Rattle.sdl_ast.specs.Views.{stimulus_of, clause_of, state_of, connection_of, start_of};
+ghost use Rattle.sdl_tree.specs.BodyViews.{section_of};
+ghost use Rattle.sdl_tokens.specs.Mirrors.{Mirrors, same};
 ghost use Rattle.sdl_tree.specs.Lengths.{stimulus_keeps, low_clause_takes, low_clause_keeps, low_section_takes, low_section_keeps};
 
+use crate::attempt::attempt;
 use crate::endings::{read_closing, terminator};
-use crate::expression::Identifier;
 use crate::production::{
     Listed, Production, read_in_parentheses, read_many, read_more, read_separated,
 };
 use crate::statements::read_transition;
-use crate::stop::{Stop, attempt};
-use crate::tokens::{is_clause, is_end, is_section, is_word, name, symbol, word};
-use crate::tree::{
-    Connection, End, InputPart, Join, NextState, Start, StateClause, StatePart, Stimulus,
+use sdl_ast::{
+    Connection, End, Identifier, InputPart, Join, NextState, Start, StateClause, StatePart,
+    Stimulus,
 };
 use sdl_lex::{Name, Symbol, Token, Word};
+use sdl_tokens::{AnyClause, AnyEnd, AnyName, AnySection, Stop, stands_next, take};
 use std::alloc::Global;
 
 impl Production for Stimulus {
@@ -35,7 +36,7 @@ impl Production for Stimulus {
 
     #[tactic(auto, unfolding(crate::specs::Productions::stimulus_at))]
     fn read<'a>(alloc: Global, tokens: &'a [Token]) -> Result<(Stimulus, &'a [Token]), Stop<'a>> {
-        let (name, rest) = attempt!(name(tokens));
+        let (name, rest) = attempt!(take(tokens, AnyName));
         let (places, rest) = attempt!(read_in_parentheses::<Option<Identifier>>(alloc, rest));
         Ok((Stimulus { name, places }, rest))
     }
@@ -46,8 +47,8 @@ impl Production for Stimulus {
 fn read_next_state<'a>(tokens: &'a [Token]) -> Result<(End, &'a [Token]), Stop<'a>>
     ensures { Mirrors same result (next_state_at tokens.now) }
 {
-    let (at, rest) = attempt!(word(tokens, Word::NextState));
-    let (state, rest) = attempt!(name(rest));
+    let (at, rest) = attempt!(take(tokens, Word::NextState));
+    let (state, rest) = attempt!(take(rest, AnyName));
     let (_, rest) = attempt!(terminator(rest));
     Ok((End::NextState(NextState { at, state }), rest))
 }
@@ -57,7 +58,7 @@ fn read_next_state<'a>(tokens: &'a [Token]) -> Result<(End, &'a [Token]), Stop<'
 fn read_stop<'a>(tokens: &'a [Token]) -> Result<(End, &'a [Token]), Stop<'a>>
     ensures { Mirrors same result (stop_at tokens.now) }
 {
-    let (at, rest) = attempt!(word(tokens, Word::Stop));
+    let (at, rest) = attempt!(take(tokens, Word::Stop));
     let (_, rest) = attempt!(terminator(rest));
     Ok((End::Stop(at), rest))
 }
@@ -67,8 +68,8 @@ fn read_stop<'a>(tokens: &'a [Token]) -> Result<(End, &'a [Token]), Stop<'a>>
 fn read_join<'a>(tokens: &'a [Token]) -> Result<(End, &'a [Token]), Stop<'a>>
     ensures { Mirrors same result (join_at tokens.now) }
 {
-    let (at, rest) = attempt!(word(tokens, Word::Join));
-    let (connector, rest) = attempt!(name(rest));
+    let (at, rest) = attempt!(take(tokens, Word::Join));
+    let (connector, rest) = attempt!(take(rest, AnyName));
     let (_, rest) = attempt!(terminator(rest));
     Ok((End::Join(Join { at, connector }), rest))
 }
@@ -78,10 +79,10 @@ fn read_join<'a>(tokens: &'a [Token]) -> Result<(End, &'a [Token]), Stop<'a>>
 fn read_end<'a>(tokens: &'a [Token]) -> Result<(End, &'a [Token]), Stop<'a>>
     ensures { Mirrors same result (end_at tokens.now) }
 {
-    if is_word(tokens, Word::NextState) {
+    if stands_next(tokens, Word::NextState) {
         return Ok(attempt!(read_next_state(tokens)));
     }
-    if is_word(tokens, Word::Stop) {
+    if stands_next(tokens, Word::Stop) {
         return Ok(attempt!(read_stop(tokens)));
     }
     Ok(attempt!(read_join(tokens)))
@@ -93,7 +94,7 @@ pub(crate) fn read_optional_end<'a>(
 ) -> Result<(Option<End>, &'a [Token]), Stop<'a>>
     ensures { Mirrors same result (optional an_end end_at tokens.now) }
 {
-    if !is_end(tokens) {
+    if !stands_next(tokens, AnyEnd) {
         return Ok((None, tokens));
     }
     let (end, rest) = attempt!(read_end(tokens));
@@ -108,7 +109,7 @@ fn read_input<'a>(
 ) -> Result<(StateClause, &'a [Token]), Stop<'a>>
     ensures { Mirrors clause_of result (input_at low_trees tokens.now) }
 {
-    let (at, rest) = attempt!(word(tokens, Word::Input));
+    let (at, rest) = attempt!(take(tokens, Word::Input));
     let (stimuli, rest) = attempt!(read_separated::<Stimulus>(alloc, rest));
     let (_, rest) = attempt!(terminator(rest));
     let (transition, rest) = attempt!(read_transition(alloc, rest));
@@ -125,7 +126,7 @@ fn read_input<'a>(
 fn read_save<'a>(alloc: Global, tokens: &'a [Token]) -> Result<(StateClause, &'a [Token]), Stop<'a>>
     ensures { Mirrors clause_of result (save_at tokens.now) }
 {
-    let (_, rest) = attempt!(word(tokens, Word::Save));
+    let (_, rest) = attempt!(take(tokens, Word::Save));
     let (names, rest) = attempt!(read_separated::<Identifier>(alloc, rest));
     let (_, rest) = attempt!(terminator(rest));
     Ok((StateClause::Save(names), rest))
@@ -145,7 +146,7 @@ impl Production for StateClause {
         alloc: Global,
         tokens: &'a [Token],
     ) -> Result<(StateClause, &'a [Token]), Stop<'a>> {
-        if is_word(tokens, Word::Input) {
+        if stands_next(tokens, Word::Input) {
             return Ok(attempt!(read_input(alloc, tokens)));
         }
         Ok(attempt!(read_save(alloc, tokens)))
@@ -158,7 +159,7 @@ impl Listed for StateClause {
     ghost shortens = { low_clause_takes };
 
     fn is_next(tokens: &[Token]) -> bool {
-        is_clause(tokens)
+        stands_next(tokens, AnyClause)
     }
 }
 
@@ -170,7 +171,7 @@ fn read_end_state<'a>(
 ) -> Result<(Option<Identifier>, &'a [Token]), Stop<'a>>
     ensures { Mirrors same result (end_state_at opened tokens.now) }
 {
-    let (_, rest) = attempt!(word(tokens, Word::EndState));
+    let (_, rest) = attempt!(take(tokens, Word::EndState));
     read_closing(rest, opened)
 }
 
@@ -181,7 +182,7 @@ fn read_optional_end_state<'a>(
 ) -> Result<(Option<Option<Identifier>>, &'a [Token]), Stop<'a>>
     ensures { Mirrors same result (optional (a_word words.EndState) (end_state_at opened) tokens.now) }
 {
-    if !is_word(tokens, Word::EndState) {
+    if !stands_next(tokens, Word::EndState) {
         return Ok((None, tokens));
     }
     let (found, rest) = attempt!(read_end_state(tokens, opened));
@@ -193,8 +194,8 @@ fn read_optional_end_state<'a>(
 fn read_state<'a>(alloc: Global, tokens: &'a [Token]) -> Result<(StatePart, &'a [Token]), Stop<'a>>
     ensures { Mirrors state_of result (state_at low_trees tokens.now) }
 {
-    let (_, rest) = attempt!(word(tokens, Word::State));
-    let (name, rest) = attempt!(name(rest));
+    let (_, rest) = attempt!(take(tokens, Word::State));
+    let (name, rest) = attempt!(take(rest, AnyName));
     let opened = name.name;
     let (names, rest) = attempt!(read_more::<Identifier>(alloc, name, rest));
     let (_, rest) = attempt!(terminator(rest));
@@ -211,7 +212,7 @@ fn read_end_connection<'a>(
 ) -> Result<(Option<Identifier>, &'a [Token]), Stop<'a>>
     ensures { Mirrors same result (end_connection_at opened tokens.now) }
 {
-    let (_, rest) = attempt!(word(tokens, Word::EndConnection));
+    let (_, rest) = attempt!(take(tokens, Word::EndConnection));
     read_closing(rest, opened)
 }
 
@@ -222,7 +223,7 @@ fn read_optional_end_connection<'a>(
 ) -> Result<(Option<Option<Identifier>>, &'a [Token]), Stop<'a>>
     ensures { Mirrors same result (optional (a_word words.EndConnection) (end_connection_at opened) tokens.now) }
 {
-    if !is_word(tokens, Word::EndConnection) {
+    if !stands_next(tokens, Word::EndConnection) {
         return Ok((None, tokens));
     }
     let (found, rest) = attempt!(read_end_connection(tokens, opened));
@@ -237,9 +238,9 @@ fn read_connection<'a>(
 ) -> Result<(Connection, &'a [Token]), Stop<'a>>
     ensures { Mirrors connection_of result (connection_at low_trees tokens.now) }
 {
-    let (at, rest) = attempt!(word(tokens, Word::Connection));
-    let (name, rest) = attempt!(name(rest));
-    let (_, rest) = attempt!(symbol(rest, Symbol::Colon));
+    let (at, rest) = attempt!(take(tokens, Word::Connection));
+    let (name, rest) = attempt!(take(rest, AnyName));
+    let (_, rest) = attempt!(take(rest, Symbol::Colon));
     let (transition, rest) = attempt!(read_transition(alloc, rest));
     let (_, rest) = attempt!(read_optional_end_connection(rest, name.name));
     let connection = Connection {
@@ -270,7 +271,7 @@ impl Production for Section {
 
     #[tactic(auto, unfolding(crate::specs::Productions::section_at, crate::specs::Productions::state_section_at, crate::specs::Productions::connection_section_at))]
     fn read<'a>(alloc: Global, tokens: &'a [Token]) -> Result<(Section, &'a [Token]), Stop<'a>> {
-        if is_word(tokens, Word::State) {
+        if stands_next(tokens, Word::State) {
             let (state, rest) = attempt!(read_state(alloc, tokens));
             return Ok((Section::State(state), rest));
         }
@@ -285,7 +286,7 @@ impl Listed for Section {
     ghost shortens = { low_section_takes };
 
     fn is_next(tokens: &[Token]) -> bool {
-        is_section(tokens)
+        stands_next(tokens, AnySection)
     }
 }
 
@@ -297,7 +298,7 @@ pub(crate) fn read_start<'a>(
 ) -> Result<(Start, &'a [Token]), Stop<'a>>
     ensures { Mirrors start_of result (start_at low_trees tokens.now) }
 {
-    let (at, rest) = attempt!(word(tokens, Word::Start));
+    let (at, rest) = attempt!(take(tokens, Word::Start));
     let (_, rest) = attempt!(terminator(rest));
     let (transition, rest) = attempt!(read_transition(alloc, rest));
     Ok((Start { at, transition }, rest))

@@ -14,9 +14,9 @@ use Rattle.std.proofs.Math.Pow.{pow-lt}
 use Rattle.std.proofs.lemmas.Option.{get_or_from_slice_get, slice_get-get_or}
 use lib.Bits.{bit_and, bit_or}
 use Rattle.unset_paths.specs.Graph.{has}
-use Rattle.sdl_tree.specs.declared.expression.Identifier.{Identifier}
-use Rattle.sdl_tree.specs.Plain.{Tree, binary, PlainProcess}
-use Rattle.sdl_tree.specs.declared.expression.BinaryOperator.{BinaryOperator}
+use Rattle.sdl_ast.specs.declared.expression.Identifier.{Identifier}
+use Rattle.sdl_ast.specs.Plain.{Tree, binary, PlainProcess}
+use Rattle.sdl_ast.specs.declared.expression.BinaryOperator.{BinaryOperator}
 use Rattle.sdl_tables.specs.Names.{same_name, is_in, number_of, variable_names}
 use Rattle.sdl_sound.specs.Names.{tree_names}
 use Rattle.sdl_tables.specs.Scopes.{repeats}

@@ -4,10 +4,10 @@ use Rattle.std.specs.Prelude.{⊤}
 use Rattle.std.specs.Option.{option_map_or}
 use Rattle.std.proofs.lemmas.Bool.{not-true}
 use Rattle.std.proofs.lemmas.List.{append-nil}
-use Rattle.sdl_tree.specs.declared.expression.Identifier.{Identifier}
-use Rattle.sdl_tree.specs.declared.tree.End.{End}
-use Rattle.sdl_tree.specs.declared.tree.End.TheVariants.{NextState, Stop, Join}
-use Rattle.sdl_tree.specs.Plain.{Text, falls, ends, does, decides, Choice, nothing_else, otherwise, answer, PlainConnection, PlainProcess}
+use Rattle.sdl_ast.specs.declared.expression.Identifier.{Identifier}
+use Rattle.sdl_ast.specs.declared.tree.End.{End}
+use Rattle.sdl_ast.specs.declared.tree.End.TheVariants.{NextState, Stop, Join}
+use Rattle.sdl_ast.specs.Plain.{Text, falls, ends, does, decides, Choice, nothing_else, otherwise, answer, PlainConnection, PlainProcess}
 use Rattle.sdl_tables.specs.Names.{same_name, is_state, connection_named, states_of}
 use Rattle.sdl_sound.specs.Paths.{Event, reads as reading, sets as setting, tree_events, action_events, reads_first, sets_in, Way, onward, stops, enters as into, GoesOn, Walks, IsChosen, last_way, Follows}
 use Rattle.sdl_sound.specs.Chances.{Chances, no_chances, leaving, event_chances, behind, beside, last_chances, end_chances, chances, choice_chances, chances_by, text_chances}

@@ -6,10 +6,10 @@ use Rattle.std.proofs.lemmas.Bool.{cases_eq, cases_lt, lt-ltb, le-ltb, ltb-true,
 use Rattle.std.proofs.lemmas.Option.{slice_get-get_or, slice_get_within, slice_get_past, slice_get-map, get_or_from_slice_get}
 use Rattle.std.proofs.lemmas.List.{length-set, length-map}
 use Rattle.std.proofs.lemmas.List.Folds.{find_at}
-use Rattle.sdl_tree.specs.declared.expression.Identifier.{Identifier}
-use Rattle.sdl_tree.specs.declared.tree.Connection.{Connection}
-use Rattle.sdl_tree.specs.Views.{connection_of}
-use Rattle.sdl_tree.specs.Plain.{PlainConnection, PlainProcess}
+use Rattle.sdl_ast.specs.declared.expression.Identifier.{Identifier}
+use Rattle.sdl_ast.specs.declared.tree.Connection.{Connection}
+use Rattle.sdl_ast.specs.Views.{connection_of}
+use Rattle.sdl_ast.specs.Plain.{PlainConnection, PlainProcess}
 use Rattle.sdl_tables.specs.Names.{same_name, number_of, connector_names, connection_named, states_of}
 use Rattle.sdl_sound.specs.Orders.{IsOrder}
 use Rattle.sdl_sound.specs.Chances.{Chances, no_chances, last_chances, chances, chances_by, joined_chances}

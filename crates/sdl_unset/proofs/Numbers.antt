@@ -12,9 +12,9 @@ use Rattle.unset_paths.specs.declared.Step as number
 use Rattle.unset_paths.specs.declared.Step.TheVariants.{Start as First, Input as By}
 use Rattle.unset_paths.specs.Graph as graph
 use Rattle.unset_paths.specs.Graph.{has, input_at, Passes}
-use Rattle.sdl_tree.specs.Plain.{Tree, PlainAssignment, PlainSending, PlainAction, task, output, set_timer, reset_timer, Text, falls, ends, does, decides, Choice, nothing_else, otherwise, answer, PlainProcess, PlainBlock}
-use Rattle.sdl_tree.specs.declared.tree.End.TheVariants.{NextState, Stop, Join}
-use Rattle.sdl_tree.specs.declared.expression.Identifier.{Identifier}
+use Rattle.sdl_ast.specs.Plain.{Tree, PlainAssignment, PlainSending, PlainAction, task, output, set_timer, reset_timer, Text, falls, ends, does, decides, Choice, nothing_else, otherwise, answer, PlainProcess, PlainBlock}
+use Rattle.sdl_ast.specs.declared.tree.End.TheVariants.{NextState, Stop, Join}
+use Rattle.sdl_ast.specs.declared.expression.Identifier.{Identifier}
 use Rattle.sdl_tables.specs.Names.{same_name, is_in, number_of, signal_names, variable_names, variables_of, Variable, states_of, Input, inputs_of, input_parts}
 use Rattle.sdl_sound.specs.Names.{unknown, tree_names, assignment_names, sending_unknown, action_unknown, statement_unknown, place_names, input_unknown, saves_unknown, process_unknown}
 use Rattle.sdl_sound.specs.Statements.{Statement, statements_of, choice_statements}

@@ -11,8 +11,8 @@ use Rattle.unset_paths.specs.declared.Step as number
 use Rattle.unset_paths.specs.declared.Step.TheVariants.{Start as First, Input as By}
 use Rattle.unset_paths.specs.Graph as graph
 use Rattle.unset_paths.specs.Graph.{input_at}
-use Rattle.sdl_tree.specs.Plain.{PlainProcess}
-use Rattle.sdl_tree.specs.declared.expression.Identifier.{Identifier}
+use Rattle.sdl_ast.specs.Plain.{PlainProcess}
+use Rattle.sdl_ast.specs.declared.expression.Identifier.{Identifier}
 use Rattle.sdl_tables.specs.Names.{same_name, number_of, variable_names, states_of, Input, inputs_of, inputs_by_state}
 use Rattle.sdl_sound.specs.Paths.{Leads, start_transition, input_transition, inputs_in, ReadsFrom, ReadsUnset}
 use Rattle.sdl_unset.specs.Graphs.{IsSummaryOf, IsGraphOf}

@@ -6,10 +6,10 @@ use Rattle.std.proofs.lemmas.Bool.{lt-ltb, eqb-true, eqb-false}
 use Rattle.std.proofs.lemmas.List.Folds.{find_at}
 use Rattle.std.proofs.lemmas.Option.{slice_get_within, get_or_from_slice_get}
 use Rattle.std.proofs.lemmas.List.{length-map}
-use Rattle.sdl_tree.specs.declared.expression.Identifier.{Identifier}
-use Rattle.sdl_tree.specs.declared.tree.Join as tree
-use Rattle.sdl_tree.specs.declared.tree.End.TheVariants.{NextState, Stop, Join}
-use Rattle.sdl_tree.specs.Plain.{Tree, Text, falls, ends, does, decides, Choice, nothing_else, otherwise, answer, PlainConnection, PlainInput, PlainClause, input, save, PlainStimulus, PlainState, PlainProcess, PlainBlock}
+use Rattle.sdl_ast.specs.declared.expression.Identifier.{Identifier}
+use Rattle.sdl_ast.specs.declared.tree.Join as tree
+use Rattle.sdl_ast.specs.declared.tree.End.TheVariants.{NextState, Stop, Join}
+use Rattle.sdl_ast.specs.Plain.{Tree, Text, falls, ends, does, decides, Choice, nothing_else, otherwise, answer, PlainConnection, PlainInput, PlainClause, input, save, PlainStimulus, PlainState, PlainProcess, PlainBlock}
 use Rattle.sdl_tables.specs.Names.{same_name, is_in, number_of, Variable, variables_of, connector_names, connection_named, Input, inputs_of, input_parts, clause_parts, clause_inputs, part_inputs, given_to, is_state, states_of}
 use Rattle.sdl_sound.specs.Statements.{Statement, acts, asks, covers, finishes, statements_of, choice_statements, statement_joins, joins_of}
 use Rattle.sdl_sound.specs.Actions.{in_statements, in_input, in_connection}

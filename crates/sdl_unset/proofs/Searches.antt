@@ -16,8 +16,8 @@ use Rattle.unset_paths.specs.declared.Fate.TheVariants.{Unset, Set}
 use Rattle.unset_paths.specs.declared.Step as number
 use Rattle.unset_paths.specs.declared.Step.TheVariants.{Input as By}
 use Rattle.unset_paths.specs.Graph.{IfUnset, IfSet, IsClosedSet, ReadsUnset, IsShortest}
-use Rattle.sdl_tree.specs.Plain.{PlainProcess, PlainBlock}
-use Rattle.sdl_tree.specs.declared.expression.Identifier.{Identifier}
+use Rattle.sdl_ast.specs.Plain.{PlainProcess, PlainBlock}
+use Rattle.sdl_ast.specs.declared.expression.Identifier.{Identifier}
 use Rattle.sdl_tables.specs.Names.{same_name, states_of, Input, inputs_of, inputs_by_state}
 use Rattle.sdl_tables.specs.Rows.{row_input, rows_inputs}
 use Rattle.sdl_unset.specs.Fates.{is_set_in, set_bit, IsFate, AreSet, IsUnsetAt, fate_path, HasFewest, IsNamed, declared_name, IsSpelled}

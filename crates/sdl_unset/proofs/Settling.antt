@@ -16,8 +16,8 @@ use Rattle.unset_paths.specs.declared.Step as number
 use Rattle.unset_paths.specs.declared.Step.TheVariants.{Input as By}
 use Rattle.unset_paths.specs.Graph as graph
 use Rattle.unset_paths.specs.Graph.{has, IsSeen, IsSafe, IsClosedSet}
-use Rattle.sdl_tree.specs.Plain.{PlainProcess, PlainBlock}
-use Rattle.sdl_tree.specs.declared.expression.Identifier.{Identifier}
+use Rattle.sdl_ast.specs.Plain.{PlainProcess, PlainBlock}
+use Rattle.sdl_ast.specs.declared.expression.Identifier.{Identifier}
 use Rattle.sdl_tables.specs.Names.{number_of, variable_names, variables_of, states_of, Input, inputs_of, inputs_by_state}
 use Rattle.sdl_sound.specs.Names.{process_unknown}
 use Rattle.sdl_sound.specs.Paths.{Event, IsWalk, Transition, start_transition, input_transition, reads_first, sets_in, NeverReadsUnset}

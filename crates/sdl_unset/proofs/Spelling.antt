@@ -8,8 +8,8 @@ use Rattle.std.proofs.lemmas.List.Elements.{All-nil, All-cons, Contains-append_l
 use Rattle.std.proofs.lemmas.Option.{slice_get-map}
 use Rattle.unset_paths.specs.declared.Step as number
 use Rattle.unset_paths.specs.declared.Step.TheVariants.{Start as First, Input as By}
-use Rattle.sdl_tree.specs.Plain.{PlainBlock, PlainInput, PlainProcess, PlainSignal, PlainStimulus, input}
-use Rattle.sdl_tree.specs.declared.expression.Identifier.{Identifier}
+use Rattle.sdl_ast.specs.Plain.{PlainBlock, PlainInput, PlainProcess, PlainSignal, PlainStimulus, input}
+use Rattle.sdl_ast.specs.declared.expression.Identifier.{Identifier}
 use Rattle.sdl_tables.specs.Names.{same_name, is_in, number_of, signals_of, signal_names, signal_named, variable_names, timers_of, states_of, clause_inputs, Input, inputs_of, input_parts}
 use Rattle.sdl_sound.specs.Actions.{in_statements}
 use Rattle.sdl_sound.specs.Names.{unknown, trigger_names, place_names, stimulus_unknown, input_unknown, saves_unknown, statement_unknown, process_unknown}

@@ -12,8 +12,8 @@ use Rattle.unset_paths.specs.Graph.{has}
 use Rattle.unset_paths.specs.declared.Passage.{Passage}
 use Rattle.unset_paths.specs.declared.Summary.{Summary}
 use Rattle.unset_paths.specs.declared.Graph.{Graph}
-use Rattle.sdl_tree.specs.declared.expression.Identifier.{Identifier}
-use Rattle.sdl_tree.specs.Plain.{PlainProcess}
+use Rattle.sdl_ast.specs.declared.expression.Identifier.{Identifier}
+use Rattle.sdl_ast.specs.Plain.{PlainProcess}
 use Rattle.sdl_tables.specs.Names.{Variable, variable_names, variables_of, states_of, Input, inputs_of, inputs_by_state, of_state, part_inputs}
 use Rattle.sdl_sound.specs.Paths.{Transition, start_transition, input_transition}
 use Rattle.sdl_sound.specs.Chances.{leaving, event_chances, behind, text_chances}

@@ -8,9 +8,9 @@ use Rattle.std.proofs.lemmas.List.{length-map, take_more, map-append}
 use Rattle.std.proofs.lemmas.List.Elements.{All-contains, All-push}
 use Rattle.std.proofs.lemmas.Bool.Decides.{leb_tells}
 use Rattle.std.proofs.lemmas.Option.{slice_get-get_or, slice_get_within, slice_get-map}
-use Rattle.sdl_tree.specs.declared.tree.Process as the_process
-use Rattle.sdl_tree.specs.Plain.{PlainProcess, PlainBlock}
-use Rattle.sdl_tree.specs.Views.{process_of}
+use Rattle.sdl_ast.specs.declared.tree.Process as the_process
+use Rattle.sdl_ast.specs.Plain.{PlainProcess, PlainBlock}
+use Rattle.sdl_ast.specs.Views.{process_of}
 use Rattle.sdl_tables.specs.Names.{processes_of, variables_of, variable_names, routes_of}
 use Rattle.sdl_sound.specs.Limits.{exceeds, transition_limits, first_limit}
 use Rattle.sdl_sound.specs.Names.{process_unknown, unknown_names, route_unknown}
@@ -31,7 +31,7 @@ use Rattle.sdl_unset.proofs.Spelling.{spelling_at, declared_steps}
 use Rattle.sdl_unset.specs.Fates.{IsFate, AreFates, IsUnsetAt, path_of, fate_path, HasFewest, IsStep, IsNamed, IsSpelled}
 use Rattle.sdl_sound.specs.Spellings.{AreDeclared}
 use Rattle.sdl_sound.specs.declared.fault.Step.{Step}
-use Rattle.sdl_tree.specs.declared.expression.Identifier.{Identifier}
+use Rattle.sdl_ast.specs.declared.expression.Identifier.{Identifier}
 use Rattle.unset_paths.specs.declared.Fate.{Fate}
 use Rattle.unset_paths.specs.declared.Fate.TheVariants.{Unset as Path, Set as Marks}
 use Rattle.unset_paths.specs.declared.Graph as graphs

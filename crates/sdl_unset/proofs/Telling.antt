@@ -4,7 +4,7 @@ use Rattle.std.specs.Prelude.{Contains}
 use Rattle.std.specs.List.{flat_map}
 use Rattle.std.specs.Option.{option_map_or}
 use Rattle.std.proofs.lemmas.Bool.{not-true, eqb-true, eq-eqb}
-use Rattle.sdl_tree.specs.Plain.{PlainProcess, PlainBlock}
+use Rattle.sdl_ast.specs.Plain.{PlainProcess, PlainBlock}
 use Rattle.sdl_tables.specs.Names.{number_of, states_of, is_state, variables_of, processes_of, routes_of, input_parts}
 use Rattle.sdl_sound.specs.Paths.{Way, onward, stops, enters as into, way_state, Walks, Follows, Transition, reads_first, sets_in}
 use Rattle.sdl_sound.specs.Chances.{Chances, event_chances, behind, text_chances}

@@ -7,8 +7,8 @@ use Rattle.std.proofs.lemmas.Bool.{cases_eq, cases_lt, eq-eqb, ne_eqb}
 use Rattle.std.proofs.lemmas.Option.{slice_get-get_or, slice_get_past}
 use lib.Bits.{bit_and, bit_or}
 use Rattle.unset_paths.specs.Graph.{has}
-use Rattle.sdl_tree.specs.declared.expression.Identifier.{Identifier}
-use Rattle.sdl_tree.specs.Plain.{Text, falls, Choice, nothing_else, answer, PlainStatement, act, decide, PlainAnswer, before, all_before, all_answers, PlainProcess}
+use Rattle.sdl_ast.specs.declared.expression.Identifier.{Identifier}
+use Rattle.sdl_ast.specs.Plain.{Text, falls, Choice, nothing_else, answer, PlainStatement, act, decide, PlainAnswer, before, all_before, all_answers, PlainProcess}
 use Rattle.sdl_tables.specs.Names.{number_of, connector_names, states_of, is_state}
 use Rattle.sdl_sound.specs.Paths.{Event, tree_events, action_events, reads_first, sets_in}
 use Rattle.sdl_sound.specs.Chances.{Chances, no_chances, leaving, event_chances, behind, beside, last_chances, chances, choice_chances}

@@ -2,15 +2,15 @@
 use Rattle.std.proofs.Common.{◌≡◌, ℕ, ◌+◌, ◌<◌, ◌≤◌, List, [], ◌∷◌, ◌++◌, map, take, length, Option, None, Some, get_or, sym, ap, ◌∙◌, subst}
 use Rattle.std.proofs.lemmas.List.{map_more, take_all}
 use lib.Bits.{bit_or}
-use Rattle.sdl_tree.specs.declared.tree.End.{End}
-use Rattle.sdl_tree.specs.declared.tree.Transition.{Transition}
-use Rattle.sdl_tree.specs.declared.tree.Statement.{Statement}
-use Rattle.sdl_tree.specs.declared.tree.Statement.TheVariants.{Act, Decide}
-use Rattle.sdl_tree.specs.declared.tree.Decision.{Decision, out-Decision}
-use Rattle.sdl_tree.specs.declared.tree.Answer.{Answer}
-use Rattle.sdl_tree.specs.declared.tree.Action.{Action}
-use Rattle.sdl_tree.specs.Plain.{falls, ends, nothing_else, otherwise, PlainStatement, PlainAnswer, all_before, all_answers, PlainProcess}
-use Rattle.sdl_tree.specs.Views.{plain_statement, plain_answer, tree_of, action_of, end_text, else_choice, text_of, statement_of, statements_before, answers_before, choice_of}
+use Rattle.sdl_ast.specs.declared.tree.End.{End}
+use Rattle.sdl_ast.specs.declared.tree.Transition.{Transition}
+use Rattle.sdl_ast.specs.declared.tree.Statement.{Statement}
+use Rattle.sdl_ast.specs.declared.tree.Statement.TheVariants.{Act, Decide}
+use Rattle.sdl_ast.specs.declared.tree.Decision.{Decision, out-Decision}
+use Rattle.sdl_ast.specs.declared.tree.Answer.{Answer}
+use Rattle.sdl_ast.specs.declared.tree.Action.{Action}
+use Rattle.sdl_ast.specs.Plain.{falls, ends, nothing_else, otherwise, PlainStatement, PlainAnswer, all_before, all_answers, PlainProcess}
+use Rattle.sdl_ast.specs.Views.{plain_statement, plain_answer, tree_of, action_of, end_text, else_choice, text_of, statement_of, statements_before, answers_before, choice_of}
 use Rattle.sdl_tables.specs.Names.{states_of}
 use Rattle.sdl_sound.specs.Paths.{tree_events, action_events}
 use Rattle.sdl_sound.specs.Chances.{Chances, event_chances, behind, beside, chances, choice_chances}

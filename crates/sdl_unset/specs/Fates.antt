@@ -8,8 +8,8 @@ use Rattle.unset_paths.specs.declared.Fate.TheVariants.{Unset, Set}
 use Rattle.unset_paths.specs.declared.Step as number
 use Rattle.unset_paths.specs.declared.Step.TheVariants.{Start as First, Input as By}
 use Rattle.unset_paths.specs.Graph.{IsClosedSet, ReadsUnset, IsShortest}
-use Rattle.sdl_tree.specs.Plain.{PlainProcess, PlainBlock}
-use Rattle.sdl_tree.specs.declared.expression.Identifier.{Identifier}
+use Rattle.sdl_ast.specs.Plain.{PlainProcess, PlainBlock}
+use Rattle.sdl_ast.specs.declared.expression.Identifier.{Identifier}
 use Rattle.sdl_tables.specs.Names.{same_name, number_of, variables_of, timers_of, states_of, Input, inputs_of, signal_named}
 use Rattle.sdl_unset.specs.Graphs.{IsGraphOf}
 use Rattle.sdl_sound.specs.declared.fault.Step.{Step}

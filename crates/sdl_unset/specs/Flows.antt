@@ -6,9 +6,9 @@ use Rattle.std.specs.Global.{Vec}
 use Rattle.unset_paths.specs.Graph.{has, Passes}
 use Rattle.unset_paths.specs.declared.Passage.{Passage}
 use Rattle.unset_paths.specs.declared.Summary.{Summary}
-use Rattle.sdl_tree.specs.declared.expression.Identifier.{Identifier}
-use Rattle.sdl_tree.specs.declared.tree.End.{End}
-use Rattle.sdl_tree.specs.Plain.{Text, Choice, PlainProcess}
+use Rattle.sdl_ast.specs.declared.expression.Identifier.{Identifier}
+use Rattle.sdl_ast.specs.declared.tree.End.{End}
+use Rattle.sdl_ast.specs.Plain.{Text, Choice, PlainProcess}
 use Rattle.sdl_tables.specs.Names.{number_of, variable_names, connector_names, states_of, Input}
 use Rattle.sdl_sound.specs.Names.{place_names}
 use Rattle.sdl_sound.specs.Paths.{Event, sets, Transition, input_transition, reads_first, sets_in}

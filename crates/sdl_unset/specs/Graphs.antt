@@ -5,8 +5,8 @@ use Rattle.std.specs.Global.{Vec}
 use Rattle.unset_paths.specs.declared.Summary.{Summary}
 use Rattle.unset_paths.specs.declared.Graph.{Graph}
 use Rattle.unset_paths.specs.Graph.{has, Passes}
-use Rattle.sdl_tree.specs.Plain.{PlainProcess}
-use Rattle.sdl_tree.specs.declared.expression.Identifier.{Identifier}
+use Rattle.sdl_ast.specs.Plain.{PlainProcess}
+use Rattle.sdl_ast.specs.declared.expression.Identifier.{Identifier}
 use Rattle.sdl_tables.specs.Names.{variable_names, Input, inputs_by_state}
 use Rattle.sdl_sound.specs.Paths.{Transition, start_transition, input_transition}
 use Rattle.sdl_sound.specs.Laws.{Reads, Keeps}

@@ -2,7 +2,7 @@
 use Rattle.std.specs.Prelude.{ℕ, List, All, Contains, Result, Ok, Err}
 use Rattle.std.specs.List.{AllZip}
 use Rattle.std.specs.Global.{Vec}
-use Rattle.sdl_tree.specs.Plain.{PlainProcess, PlainBlock}
+use Rattle.sdl_ast.specs.Plain.{PlainProcess, PlainBlock}
 use Rattle.sdl_tables.specs.Names.{processes_of}
 use Rattle.sdl_sound.specs.Paths.{ReadsUnset, IsShortest, NeverReadsUnset}
 use Rattle.sdl_sound.specs.Settled.{AreSettled}

@@ -2,16 +2,16 @@
 ghost use Rattle.std.specs.Prelude.{◌++◌, ◌∷◌, [], List, map};
 ghost use Rattle.std.specs.List.{flat_map};
 ghost use Rattle.std.specs.Option.{option_to_list};
-ghost use Rattle.sdl_tree.specs.Plain.{PlainProcess};
-ghost use Rattle.sdl_tree.specs.Views.{tree_of, assignment_of, sending_of, action_of, process_of};
+ghost use Rattle.sdl_ast.specs.Plain.{PlainProcess};
+ghost use Rattle.sdl_ast.specs.Views.{tree_of, assignment_of, sending_of, action_of, process_of};
 ghost use Rattle.sdl_tables.specs.Names.{same_name, variable_names};
 ghost use Rattle.sdl_tables.specs.Rows.{variable_of};
 ghost use Rattle.sdl_sound.specs.Paths.{Event, reads, sets, tree_events, assignment_events, sending_events, action_events, initial_sets};
 ghost use Rattle.sdl_unset.specs.Flows.{Tells, Does, place_events};
 
+use sdl_ast::{Action, Assignment, Expression, Identifier, Sending};
 use sdl_lex::Name;
 use sdl_tables::{ProcessTable, Variable};
-use sdl_tree::{Action, Assignment, Expression, Identifier, Sending};
 
 /// What a part of a transition does with the variables. Bit v is that of variable v.
 #[derive(Clone, Copy, Debug)]

@@ -1,7 +1,7 @@
 //! Which variables of a process a control path reads before they are set, and which of them is named.
 ghost use Rattle.std.specs.Prelude.{◌≡◌, ◌⊎◌, [], ◌≤◌, true, false, Some, length, IfOk, IfSome, IfNone};
-ghost use Rattle.sdl_tree.specs.Plain.{PlainBlock};
-ghost use Rattle.sdl_tree.specs.Views.{process_of};
+ghost use Rattle.sdl_ast.specs.Plain.{PlainBlock};
+ghost use Rattle.sdl_ast.specs.Views.{process_of};
 ghost use Rattle.sdl_sound.specs.Names.{process_unknown};
 ghost use Rattle.sdl_sound.specs.Actions.{in_statements};
 ghost use Rattle.sdl_sound.specs.Decisions.{statement_unanswered};

@@ -1,6 +1,6 @@
 //! Whether control paths read variables before they are set, and if none does, what is set in each state.
 ghost use Rattle.std.specs.Prelude.{◌≡◌, ◌⊎◌, ◌≤◌, [], Some, length, IfOk, IfSome};
-ghost use Rattle.sdl_tree.specs.Views.{process_of, block_of};
+ghost use Rattle.sdl_ast.specs.Views.{process_of, block_of};
 ghost use Rattle.sdl_tables.specs.Names.{variables_of, processes_of};
 ghost use Rattle.sdl_sound.specs.Names.{process_unknown};
 ghost use Rattle.sdl_sound.specs.Actions.{in_statements};

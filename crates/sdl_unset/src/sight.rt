@@ -1,9 +1,9 @@
 //! Where a transition reads a variable unset, so that of several variables the one with the least such place is named.
 
 use crate::search::path_at;
+use sdl_ast::{Action, Assignment, Decision, End, Expression, Sending, Statement, Transition};
 use sdl_lex::Name;
 use sdl_tables::{InputRow, ProcessTable, earlier};
-use sdl_tree::{Action, Assignment, Decision, End, Expression, Sending, Statement, Transition};
 use std::alloc::{AllocError, Global};
 use unset_paths::Fate;
 

@@ -2,7 +2,7 @@
 ghost use Rattle.std.specs.Prelude.{◌≡◌, ◌<◌, true, length, map, IfOk, All};
 ghost use Rattle.std.specs.List.{AllZip};
 ghost use Rattle.std.specs.Option.{option_map_or};
-ghost use Rattle.sdl_tree.specs.Views.{process_of, block_of};
+ghost use Rattle.sdl_ast.specs.Views.{process_of, block_of};
 ghost use Rattle.sdl_tables.specs.Names.{same_name, inputs_by_state};
 ghost use Rattle.sdl_tables.specs.Rows.{rows_inputs};
 ghost use Rattle.sdl_unset.specs.Fates.{IsStep, IsNamed, timer_named, declared_name, IsSpelled};

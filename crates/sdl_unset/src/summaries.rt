@@ -1,8 +1,8 @@
 //! What each transition of a process does with the variables, as a graph by numbers.
 ghost use Rattle.std.specs.Prelude.{◌≡◌, ◌≤◌, [], List, map, length, IfOk};
 ghost use Rattle.std.specs.List.{AllZip};
-ghost use Rattle.sdl_tree.specs.Plain.{PlainBlock};
-ghost use Rattle.sdl_tree.specs.Views.{text_of, process_of};
+ghost use Rattle.sdl_ast.specs.Plain.{PlainBlock};
+ghost use Rattle.sdl_ast.specs.Views.{text_of, process_of};
 ghost use Rattle.sdl_tables.specs.Names.{variables_of};
 ghost use Rattle.sdl_tables.specs.Rows.{row_input, rows_inputs};
 ghost use Rattle.sdl_sound.specs.Paths.{Event, input_transition};
@@ -16,8 +16,8 @@ ghost use Rattle.sdl_unset.specs.Flows.{Does, AreJoined, ArePassages, IsSummaryB
 use crate::flow::{Flow, initials_flow, places_flow};
 use crate::walker::Walker;
 use crate::walks::{connection_walkers, walk_transition};
+use sdl_ast::Transition;
 use sdl_tables::{InputRow, ProcessTable};
-use sdl_tree::Transition;
 use std::alloc::{AllocError, Global};
 use unset_paths::{Graph, Passage, Summary};
 

@@ -1,7 +1,7 @@
 //! What walks may do with the variables up to some place, all variables at once.
 ghost use Rattle.std.specs.Prelude.{◌≡◌, ◌<◌, ◌==◌, ◌&&◌, ◌||◌, ℕ, false, List, length, IfOk, All};
 ghost use Rattle.unset_paths.specs.Graph.{has};
-ghost use Rattle.sdl_tree.specs.Plain.{PlainProcess};
+ghost use Rattle.sdl_ast.specs.Plain.{PlainProcess};
 ghost use Rattle.sdl_tables.specs.Names.{states_of};
 ghost use Rattle.sdl_sound.specs.Paths.{Event, reads};
 ghost use Rattle.sdl_sound.specs.Chances.{no_chances, leaving, event_chances};

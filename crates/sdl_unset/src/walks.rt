@@ -1,8 +1,8 @@
 //! The walks of transitions: through statements, DECISIONs and JOINs.
 ghost use Rattle.std.specs.Prelude.{◌≡◌, [], false, map, slice_get, option_and_then, IfOk};
 ghost use Rattle.std.specs.Option.{option_map};
-ghost use Rattle.sdl_tree.specs.Plain.{PlainBlock, falls};
-ghost use Rattle.sdl_tree.specs.Views.{statement_of, choice_of, text_of, connection_of, process_of};
+ghost use Rattle.sdl_ast.specs.Plain.{PlainBlock, falls};
+ghost use Rattle.sdl_ast.specs.Views.{statement_of, choice_of, text_of, connection_of, process_of};
 ghost use Rattle.sdl_tables.specs.Names.{number_of, variables_of, connector_names, is_state, states_of};
 ghost use Rattle.sdl_sound.specs.Paths.{reads};
 ghost use Rattle.sdl_sound.specs.Chances.{last_chances};
@@ -14,9 +14,9 @@ ghost use Rattle.sdl_unset.specs.Flows.{Stands, Walked, AreTold, AreJoined, text
 
 use crate::flow::{action_flow, expression_flow};
 use crate::walker::{Walker, idle_walkers};
+use sdl_ast::{Connection, Decision, End, Statement, Transition};
 use sdl_lex::Name;
 use sdl_tables::ProcessTable;
-use sdl_tree::{Connection, Decision, End, Statement, Transition};
 use std::alloc::{AllocError, Global};
 
 /// The walker of the connection with a name.

@@ -1,7 +1,6 @@
+use sdl_ast::{Action, Block, Decision, Entity, Expression, Process, StateClause, Statement};
 use sdl_lex::{LexFault, Token, tokens};
-use sdl_tree::{
-    Action, Block, Decision, Entity, Expression, ParseFault, Process, StateClause, Statement, parse,
-};
+use sdl_tree::{ParseFault, parse};
 use std::alloc::{AllocError, Global};
 use std::test::Fail;
 

@@ -3,7 +3,7 @@ use Rattle.std.proofs.Common.{◌≡◌, ℕ, List, [], Option, None, Some, refl
 use Rattle.std.specs.Prelude.{Contains, Result, Ok, Err, IfOk, IfErr, IsOkUnless}
 use Rattle.std.proofs.lemmas.List.Elements.{All-contains}
 use Rattle.sdl_lex.specs.declared.lexemes.Token.{Token}
-use Rattle.sdl_tree.specs.Plain.{PlainBlock}
+use Rattle.sdl_ast.specs.Plain.{PlainBlock}
 use Rattle.sdl_tables.specs.Names.{processes_of}
 use Rattle.sdl_sound.specs.Paths.{NeverReadsUnset}
 use Rattle.sdl_sound.specs.Sound.{Sound}

@@ -4,10 +4,11 @@ use Rattle.std.specs.Option.{option_map_or}
 use Rattle.sdl_lex.specs.Lexed.{Answers, place_of}
 use Rattle.sdl_lex.specs.declared.lexemes.Token.{Token}
 use Rattle.sdl_lex.specs.declared.lexemes.LexFault.{LexFault}
-use Rattle.sdl_tree.specs.Plain.{PlainBlock}
+use Rattle.sdl_ast.specs.Plain.{PlainBlock}
 use Rattle.sdl_tree.specs.Syntax.{Reads}
-use Rattle.sdl_tree.specs.Heights as heights
-use Rattle.sdl_tree.specs.Limits.{GREATEST_HEIGHT}
+use Rattle.sdl_ast.specs.Heights as heights
+use Rattle.sdl_tree.specs.Refusals as refusals
+use Rattle.sdl_ast.specs.Limits.{GREATEST_HEIGHT}
 use Rattle.sdl_tree.specs.declared.fault.ParseFault.{ParseFault}
 use Rattle.sdl_tree.specs.declared.fault.ParseFault.TheVariants as parsing
 use Rattle.sdl_sound.specs.Sound.{Sound}
@@ -74,9 +75,9 @@ pub record IsUnlexed (text : List ℕ) (fault : LexFault) (line : ℕ) : Type 0 
 -- the tokens read as no block, or as one that is too high
 abbrev pub IsUnread : List ℕ → List Token → ParseFault → ℕ → Type 0
 IsUnread text tokens (parsing.Unexpected index) line =
-    heights.Refuses tokens (parsing.Unexpected index) × (line ≡ line_at text (token_place tokens index))
+    refusals.Refuses tokens (parsing.Unexpected index) × (line ≡ line_at text (token_place tokens index))
 IsUnread text tokens (parsing.TooDeep place) line =
-    heights.Refuses tokens (parsing.TooDeep place) × (line ≡ line_at text place)
+    refusals.Refuses tokens (parsing.TooDeep place) × (line ≡ line_at text place)
 IsUnread text tokens parsing.NoMemory line = ⊥
 
 -- where a rule is broken; limits, and paths that read an unset variable, have no place

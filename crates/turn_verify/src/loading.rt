@@ -3,8 +3,8 @@
 ghost use Rattle.std.specs.Prelude.{◌≡◌, ◌↔◌, List, Some, option_map, IsTrue, Ok, IfOk, IfErr, IsOkUnless};
 ghost use Rattle.sdl_lex.specs.Lexed as lexis;
 ghost use Rattle.sdl_lex.specs.declared.lexemes.Token as lexeme;
-ghost use Rattle.sdl_tree.specs.Plain.{PlainBlock};
-ghost use Rattle.sdl_tree.specs.Views.{block_of};
+ghost use Rattle.sdl_ast.specs.Plain.{PlainBlock};
+ghost use Rattle.sdl_ast.specs.Views.{block_of};
 ghost use Rattle.sdl_sound.specs.Sound.{Sound};
 ghost use Rattle.sdl_compile.specs.Blocks.{MatchesBlock};
 ghost use Rattle.sdl_compile.specs.Meaning.{RunsAsMeant};
@@ -12,11 +12,12 @@ ghost use Rattle.sdl_compile.specs.Meant.{IsSetOf};
 ghost use Rattle.turn_verify.specs.Printed.{fault_text, place_text};
 ghost use Rattle.turn_verify.specs.Loaded.{IsLoaded, IsSoundText, IsRead, Gives, IsRefused, line_at, token_place, rule_place};
 
+use sdl_ast::Block;
 use sdl_compile::compile;
 use sdl_compile::laws::set_law;
 use sdl_lex::{LexFault, Token, line_of, tokens};
 use sdl_rules::{Resolved, RuleFault, resolve};
-use sdl_tree::{Block, ParseFault, parse};
+use sdl_tree::{ParseFault, parse};
 use std::alloc::Global;
 use std::fmt;
 use thiserror::Error;

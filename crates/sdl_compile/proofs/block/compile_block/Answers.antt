@@ -1,6 +1,6 @@
 use Rattle.std.proofs.Common.{map, sym, ap, ◌∙◌, subst}
 use Rattle.std.specs.List.{flat_map, AllZip}
-use Rattle.sdl_tree.specs.Views.{block_of}
+use Rattle.sdl_ast.specs.Views.{block_of}
 use Rattle.sdl_compile.specs.Declarations.{drafted_signal}
 use Rattle.sdl_tables.specs.Names.{processes_of}
 use Rattle.sdl_compile.specs.Drafts.{MatchesProcess}

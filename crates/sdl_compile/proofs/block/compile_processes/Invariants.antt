@@ -1,6 +1,6 @@
 use Rattle.std.proofs.Common.{map, take}
 use Rattle.std.specs.List.{AllZip}
-use Rattle.sdl_tree.specs.Views.{block_of, process_of}
+use Rattle.sdl_ast.specs.Views.{block_of, process_of}
 use Rattle.sdl_compile.specs.Drafts.{MatchesProcess, IsProcessOf}
 use Rattle.sdl_compile.proofs.block.compile_processes.Given as goal
 

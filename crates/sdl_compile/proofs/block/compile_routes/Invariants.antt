@@ -1,6 +1,6 @@
 use Rattle.std.proofs.Common.{◌≡◌, map, take}
 use Rattle.std.specs.List.{flat_map}
-use Rattle.sdl_tree.specs.Views.{route_of, block_of}
+use Rattle.sdl_ast.specs.Views.{route_of, block_of}
 use Rattle.sdl_compile.specs.Blocks.{drafted_path}
 use Rattle.sdl_compile.proofs.block.compile_routes.Given as goal
 

@@ -1,5 +1,5 @@
 use Rattle.std.proofs.Common.{◌≡◌, map, take}
-use Rattle.sdl_tree.specs.Views.{signal_of}
+use Rattle.sdl_ast.specs.Views.{signal_of}
 use Rattle.sdl_compile.specs.Declarations.{drafted_signal}
 use Rattle.sdl_compile.proofs.block.compile_signals.Given as goal
 

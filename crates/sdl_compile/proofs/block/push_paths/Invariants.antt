@@ -1,5 +1,5 @@
 use Rattle.std.proofs.Common.{◌≡◌, ◌++◌, map, take}
-use Rattle.sdl_tree.specs.Views.{path_of, block_of}
+use Rattle.sdl_ast.specs.Views.{path_of, block_of}
 use Rattle.sdl_compile.specs.Blocks.{drafted_path}
 use Rattle.sdl_compile.proofs.block.push_paths.Given as goal
 

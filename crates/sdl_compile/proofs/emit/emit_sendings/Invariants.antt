@@ -1,5 +1,5 @@
 use Rattle.std.proofs.Common.{◌≡◌, ◌++◌, map, drop}
-use Rattle.sdl_tree.specs.Views.{sending_of}
+use Rattle.sdl_ast.specs.Views.{sending_of}
 use Rattle.sdl_compile.specs.Scopes.{scope_in}
 use Rattle.sdl_compile.specs.Named.{NamedSendings}
 use Rattle.sdl_compile.specs.Code.{sendings_code}

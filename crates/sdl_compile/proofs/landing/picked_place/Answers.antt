@@ -1,7 +1,7 @@
 use Rattle.std.proofs.Common.{◌+◌, drop, sym, ap, ◌∙◌}
 use Rattle.std.specs.List.{list_any}
-use Rattle.sdl_tree.specs.declared.tree.Decision.{out-Decision}
-use Rattle.sdl_tree.specs.Views.{text_of, answers_before, else_choice}
+use Rattle.sdl_ast.specs.declared.tree.Decision.{out-Decision}
+use Rattle.sdl_ast.specs.Views.{text_of, answers_before, else_choice}
 use Rattle.sdl_compile.specs.Code.{names_truth}
 use Rattle.sdl_compile.proofs.Emitting.{one_answer}
 use Rattle.sdl_compile.proofs.Landed.{picked_skip}

@@ -1,6 +1,6 @@
 use Rattle.std.proofs.Common.{◌≡◌, ◌+◌, drop}
-use Rattle.sdl_tree.specs.declared.tree.Decision.{out-Decision}
-use Rattle.sdl_tree.specs.Views.{choice_of, answers_before, else_choice}
+use Rattle.sdl_ast.specs.declared.tree.Decision.{out-Decision}
+use Rattle.sdl_ast.specs.Views.{choice_of, answers_before, else_choice}
 use Rattle.sdl_sound.specs.Longest.{tests_size}
 use Rattle.sdl_compile.proofs.landing.tests_length.Given as goal
 

@@ -1,6 +1,6 @@
 use Rattle.std.proofs.Common.{rules, ◌≡◌, map, sym, ◌∙◌}
-use Rattle.sdl_tree.specs.declared.tree.Decision.{out-Decision, the_lemmas}
-use Rattle.sdl_tree.specs.Views.{plain_answer}
+use Rattle.sdl_ast.specs.declared.tree.Decision.{out-Decision, the_lemmas}
+use Rattle.sdl_ast.specs.Views.{plain_answer}
 use Rattle.sdl_compile.specs.Scopes.{scope_in, question_in}
 use Rattle.sdl_compile.proofs.Marking.{else_named, truth_sets, integer_sets, truth_met, integer_met, behind}
 use Rattle.sdl_compile.proofs.marks.+marks.Goals as goal

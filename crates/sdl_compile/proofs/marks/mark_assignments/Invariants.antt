@@ -1,5 +1,5 @@
 use Rattle.std.proofs.Common.{◌≡◌, ◌++◌, drop, map}
-use Rattle.sdl_tree.specs.Views.{assignment_of}
+use Rattle.sdl_ast.specs.Views.{assignment_of}
 use Rattle.sdl_compile.specs.Scopes.{scope_in}
 use Rattle.sdl_compile.specs.Named.{NamedTasks}
 use Rattle.sdl_compile.specs.Reads.{tasks_set}

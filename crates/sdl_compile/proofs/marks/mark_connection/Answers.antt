@@ -1,6 +1,6 @@
 use Rattle.std.proofs.Common.{◌++◌, map, sym, ap, ◌∙◌}
-use Rattle.sdl_tree.specs.declared.tree.Process.{Process}
-use Rattle.sdl_tree.specs.Views.{connection_of, text_of}
+use Rattle.sdl_ast.specs.declared.tree.Process.{Process}
+use Rattle.sdl_ast.specs.Views.{connection_of, text_of}
 use Rattle.sdl_compile.specs.Scopes.{scope_in}
 use Rattle.sdl_compile.specs.Entries.{entry_at}
 use Rattle.sdl_compile.specs.Facts.{text_sets}

@@ -1,5 +1,5 @@
 use Rattle.std.proofs.Common.{◌≡◌, ◌++◌, drop, map}
-use Rattle.sdl_tree.specs.Views.{tree_of}
+use Rattle.sdl_ast.specs.Views.{tree_of}
 use Rattle.sdl_compile.specs.Facts.{trees_sets}
 use Rattle.sdl_compile.proofs.marks.mark_parameters.Given as goal
 

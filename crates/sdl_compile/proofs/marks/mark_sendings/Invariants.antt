@@ -1,5 +1,5 @@
 use Rattle.std.proofs.Common.{◌≡◌, ◌++◌, drop, map}
-use Rattle.sdl_tree.specs.Views.{sending_of}
+use Rattle.sdl_ast.specs.Views.{sending_of}
 use Rattle.sdl_compile.specs.Facts.{sendings_sets}
 use Rattle.sdl_compile.proofs.marks.mark_sendings.Given as goal
 

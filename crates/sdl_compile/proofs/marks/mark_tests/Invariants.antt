@@ -1,6 +1,6 @@
 use Rattle.std.proofs.Common.{◌≡◌, ◌++◌, drop}
-use Rattle.sdl_tree.specs.declared.tree.Decision.{out-Decision}
-use Rattle.sdl_tree.specs.Views.{choice_of, answers_before, else_choice}
+use Rattle.sdl_ast.specs.declared.tree.Decision.{out-Decision}
+use Rattle.sdl_ast.specs.Views.{choice_of, answers_before, else_choice}
 use Rattle.sdl_compile.specs.Facts.{tests_sets}
 use Rattle.sdl_compile.proofs.marks.mark_tests.Given as goal
 

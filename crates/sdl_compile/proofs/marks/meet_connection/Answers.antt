@@ -1,6 +1,6 @@
 use Rattle.std.proofs.Common.{map, sym, ap, ◌∙◌}
-use Rattle.sdl_tree.specs.declared.tree.Process.{Process}
-use Rattle.sdl_tree.specs.Views.{connection_of, text_of}
+use Rattle.sdl_ast.specs.declared.tree.Process.{Process}
+use Rattle.sdl_ast.specs.Views.{connection_of, text_of}
 use Rattle.sdl_compile.specs.Scopes.{scope_in}
 use Rattle.sdl_compile.specs.Entries.{entry_at, met}
 use Rattle.sdl_compile.proofs.Marking.{found, past, connection_named, connection_joins, no_connection_joins}

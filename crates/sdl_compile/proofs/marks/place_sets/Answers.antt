@@ -1,7 +1,7 @@
 use Rattle.std.proofs.Common.{map, sym, ap, ◌∙◌, subst}
-use Rattle.sdl_tree.specs.declared.tree.Process.{Process}
-use Rattle.sdl_tree.specs.Plain.{PlainConnection}
-use Rattle.sdl_tree.specs.Views.{connection_of, text_of}
+use Rattle.sdl_ast.specs.declared.tree.Process.{Process}
+use Rattle.sdl_ast.specs.Plain.{PlainConnection}
+use Rattle.sdl_ast.specs.Views.{connection_of, text_of}
 use Rattle.sdl_compile.specs.Scopes.{scope_in}
 use Rattle.sdl_compile.specs.Reads.{everything}
 use Rattle.sdl_compile.specs.Entries.{AreOfAll}

@@ -1,6 +1,6 @@
 use Rattle.std.proofs.Common.{◌≡◌, ◌++◌, drop, map}
-use Rattle.sdl_tree.specs.Plain.{PlainConnection}
-use Rattle.sdl_tree.specs.Views.{connection_of}
+use Rattle.sdl_ast.specs.Plain.{PlainConnection}
+use Rattle.sdl_ast.specs.Views.{connection_of}
 use Rattle.sdl_compile.specs.Reads.{everything}
 use Rattle.sdl_compile.proofs.marks.start_entries.Given as goal
 

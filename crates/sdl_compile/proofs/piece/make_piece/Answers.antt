@@ -1,6 +1,6 @@
 use Rattle.std.proofs.Common.{◌≡◌, length, ap, sym, ◌∙◌, subst, arith, get_or, ◌<◌, List, [], ℕ}
 use Rattle.std.specs.List.{sum_by}
-use Rattle.sdl_tree.specs.Views.{text_of}
+use Rattle.sdl_ast.specs.Views.{text_of}
 use Rattle.sdl_tables.specs.Names.{variables_of}
 use Rattle.sdl_sound.specs.Longest.{size}
 use Rattle.sdl_compile.specs.Scopes.{scope_in, piece_in}

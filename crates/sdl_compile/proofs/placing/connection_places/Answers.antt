@@ -2,7 +2,7 @@ use Rattle.std.proofs.Common.{◌≡◌, ℕ, ◌-◌, ◌<◌, ◌≤◌, ◌+�
 use Rattle.std.specs.Prelude.{slice_get, get_or, All}
 use Rattle.std.proofs.lemmas.Option.{slice_get-get_or}
 use Rattle.std.proofs.lemmas.List.{length-map, length-replicate}
-use Rattle.sdl_tree.specs.Views.{connection_of}
+use Rattle.sdl_ast.specs.Views.{connection_of}
 use Rattle.sdl_compile.specs.Scopes.{scope_in}
 use Rattle.sdl_compile.proofs.Spacing.{Spaced, none_spaced, one_fits, one_spaced, all_spaced, all_low}
 use Rattle.sdl_compile.proofs.placing.connection_places.Goals as goal

@@ -1,7 +1,7 @@
 use Rattle.std.proofs.Common.{rules, ◌≡◌, [], ap, sym, subst, length, arith}
 use Rattle.std.specs.Prelude.{replicate}
 use Rattle.std.proofs.lemmas.List.{length-map}
-use Rattle.sdl_tree.specs.Views.{connection_of}
+use Rattle.sdl_ast.specs.Views.{connection_of}
 use Rattle.sdl_compile.specs.Scopes.{scope_in}
 use Rattle.sdl_compile.specs.Placing.{AreMarked}
 use Rattle.sdl_compile.proofs.Marked.{none_marked}

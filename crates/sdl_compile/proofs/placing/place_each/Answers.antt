@@ -1,6 +1,6 @@
 use Rattle.std.proofs.Common.{◌≡◌, ◌+◌, ◌∷◌, suc, List, drop, ap, sym, ◌∙◌, subst, arith}
 use Rattle.std.specs.Prelude.{fold}
-use Rattle.sdl_tree.specs.declared.tree.Join.{Join}
+use Rattle.sdl_ast.specs.declared.tree.Join.{Join}
 use Rattle.sdl_compile.specs.Scopes.{scope_in}
 use Rattle.sdl_compile.specs.Code.{add_number}
 use Rattle.sdl_compile.specs.Placing.{numbers_of, HaveNumbers}

@@ -1,6 +1,6 @@
 use Rattle.std.proofs.Common.{◌≡◌, ap, sym, subst}
 use Rattle.std.specs.Prelude.{OnOk, fold}
-use Rattle.sdl_tree.specs.Views.{process_of, connection_of}
+use Rattle.sdl_ast.specs.Views.{process_of, connection_of}
 use Rattle.sdl_compile.specs.Scopes.{scope_in}
 use Rattle.sdl_compile.specs.Code.{add_number, joined}
 use Rattle.sdl_compile.proofs.Gathering.{there_is, text_there}

@@ -1,8 +1,8 @@
 use Rattle.std.proofs.Common.{◌≡◌, List, [], map, None, sym, ap, ◌∙◌, subst}
 use Rattle.std.specs.List.{AllZip}
-use Rattle.sdl_tree.specs.declared.expression.Identifier.{Identifier}
-use Rattle.sdl_tree.specs.declared.tree.Process.{Process}
-use Rattle.sdl_tree.specs.Views.{block_of, process_of, text_of}
+use Rattle.sdl_ast.specs.declared.expression.Identifier.{Identifier}
+use Rattle.sdl_ast.specs.declared.tree.Process.{Process}
+use Rattle.sdl_ast.specs.Views.{block_of, process_of, text_of}
 use Rattle.turn_code.specs.declared.draft.DraftState.{DraftState}
 use Rattle.sdl_tables.specs.Names.{Input, states_of, inputs_by_state, saves_by_state}
 use Rattle.sdl_sound.specs.Longest.{Piece, start_piece}

@@ -1,5 +1,5 @@
 use Rattle.std.proofs.Common.{[], ◌∷◌, ◌++◌, ap, ◌∙◌, add-one}
-use Rattle.sdl_tree.specs.declared.expression.Identifier.{Identifier}
+use Rattle.sdl_ast.specs.declared.expression.Identifier.{Identifier}
 use Rattle.sdl_compile.proofs.Zips.{made_more}
 use Rattle.sdl_compile.proofs.process.compile_timers.Goals as goal
 

@@ -1,7 +1,7 @@
 use Rattle.std.proofs.Common.{◌<◌, length, map, subst, sym, ap, arith, add-one}
 use Rattle.std.specs.Global.{Vec}
-use Rattle.sdl_tree.specs.Views.{process_of}
-use Rattle.sdl_tree.specs.declared.expression.Identifier.{Identifier}
+use Rattle.sdl_ast.specs.Views.{process_of}
+use Rattle.sdl_ast.specs.declared.expression.Identifier.{Identifier}
 use Rattle.turn_code.specs.declared.variable_set.VariableSet.{VariableSet}
 use Rattle.sdl_tables.specs.declared.process_table.InputRow.{InputRow}
 use Rattle.sdl_tables.specs.Names.{states_of}

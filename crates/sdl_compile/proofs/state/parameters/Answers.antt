@@ -1,5 +1,5 @@
 use Rattle.std.proofs.Common.{◌∙◌}
-use Rattle.sdl_tree.specs.Views.{block_of}
+use Rattle.sdl_ast.specs.Views.{block_of}
 use Rattle.sdl_compile.proofs.Sorting.{sorts_by}
 use Rattle.sdl_compile.proofs.state.parameters.Goals as goal
 

@@ -1,9 +1,9 @@
 use Rattle.std.proofs.Common.{rules, ◌≡◌, ◌+◌, [], ◌∷◌, ◌++◌, ◌≤◌, true, false, length, drop, refl, sym, ap, ◌∙◌, subst, arith, append-nil}
 use Rattle.std.specs.Prelude.{slice_set}
 use Rattle.std.proofs.lemmas.Result.{on_ok_weaker}
-use Rattle.sdl_tree.specs.Plain.{falls}
-use Rattle.sdl_tree.specs.declared.tree.Decision.{out-Decision, the_lemmas}
-use Rattle.sdl_tree.specs.Views.{text_of, decision_of, choice_of, answers_before, statements_before, end_text, else_choice}
+use Rattle.sdl_ast.specs.Plain.{falls}
+use Rattle.sdl_ast.specs.declared.tree.Decision.{out-Decision, the_lemmas}
+use Rattle.sdl_ast.specs.Views.{text_of, decision_of, choice_of, answers_before, statements_before, end_text, else_choice}
 use Rattle.turn_code.specs.declared.instruction.Instruction.TheVariants as i
 use Rattle.sdl_compile.specs.Scopes.{scope_in, places_by, question_in}
 use Rattle.sdl_compile.specs.Named.{NamedChoice}

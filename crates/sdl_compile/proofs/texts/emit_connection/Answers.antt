@@ -1,6 +1,6 @@
 use Rattle.std.proofs.Common.{length, ◌++◌, ap, refl, sym, ◌∙◌, append-nil, ◌≡◌, None, arith}
 use Rattle.std.specs.Prelude.{slice_get}
-use Rattle.sdl_tree.specs.Views.{connection_of, process_of}
+use Rattle.sdl_ast.specs.Views.{connection_of, process_of}
 use Rattle.sdl_compile.specs.Scopes.{scope_in, places_by}
 use Rattle.sdl_compile.specs.Code.{text_code}
 use Rattle.sdl_compile.proofs.Emitting.{text_missing, beyond}

@@ -1,6 +1,6 @@
 use Rattle.std.proofs.Common.{◌+◌, ◌++◌, drop, ap, ◌∙◌}
-use Rattle.sdl_tree.specs.declared.tree.Decision.{out-Decision}
-use Rattle.sdl_tree.specs.Views.{text_of, choice_of, answers_before, else_choice}
+use Rattle.sdl_ast.specs.declared.tree.Decision.{out-Decision}
+use Rattle.sdl_ast.specs.Views.{text_of, choice_of, answers_before, else_choice}
 use Rattle.sdl_compile.specs.Code.{ranges_code}
 use Rattle.sdl_compile.specs.Landing.{tests_by}
 use Rattle.sdl_compile.proofs.Emitting.{one_answer}

@@ -1,6 +1,6 @@
 use Rattle.std.proofs.Common.{◌≡◌, ◌++◌, drop}
-use Rattle.sdl_tree.specs.declared.tree.Decision.{out-Decision}
-use Rattle.sdl_tree.specs.Views.{text_of, choice_of, statements_before, answers_before, else_choice, end_text}
+use Rattle.sdl_ast.specs.declared.tree.Decision.{out-Decision}
+use Rattle.sdl_ast.specs.Views.{text_of, choice_of, statements_before, answers_before, else_choice, end_text}
 use Rattle.sdl_joins.specs.JoinLists.{text_joins, choice_joins}
 use Rattle.sdl_joins.proofs.joins.+joining.Given as goal
 

@@ -1,6 +1,6 @@
 use Rattle.std.proofs.Common.{ap, ◌∙◌, ◌++◌, List}
-use Rattle.sdl_tree.specs.declared.tree.Join.{Join}
-use Rattle.sdl_tree.specs.Views.{text_of}
+use Rattle.sdl_ast.specs.declared.tree.Join.{Join}
+use Rattle.sdl_ast.specs.Views.{text_of}
 use Rattle.sdl_joins.specs.JoinLists.{text_joins}
 use Rattle.sdl_joins.proofs.Joining.{joins_are}
 use Rattle.sdl_joins.proofs.joins.find_joins.Goals as goal

@@ -1,4 +1,4 @@
-use Rattle.sdl_tree.specs.Views.{process_of}
+use Rattle.sdl_ast.specs.Views.{process_of}
 use Rattle.sdl_joins.proofs.Connectors.{distinct_connectors}
 use Rattle.sdl_joins.proofs.joins.find_links.Goals as goal
 

@@ -1,6 +1,6 @@
 use Rattle.std.proofs.Common.{◌≡◌, ◌<◌, length, take, map}
 use Rattle.std.specs.Prelude.{All}
-use Rattle.sdl_tree.specs.Views.{connection_of}
+use Rattle.sdl_ast.specs.Views.{connection_of}
 use Rattle.sdl_sound.specs.Statements.{joins_of}
 use Rattle.sdl_joins.specs.Links.{graph_in}
 use Rattle.sdl_sound.specs.Orders.{joins_in}

@@ -1,5 +1,5 @@
 use Rattle.std.proofs.Common.{◌≡◌, ◌∙◌, ℕ, List, map, ap, subst}
-use Rattle.sdl_tree.specs.Views.{text_of, process_of}
+use Rattle.sdl_ast.specs.Views.{text_of, process_of}
 use Rattle.sdl_sound.specs.Statements.{joins_of}
 use Rattle.sdl_joins.specs.Links.{graph_in}
 use Rattle.sdl_sound.specs.Orders.{joins_in, targets_of, links_of}

@@ -1,5 +1,5 @@
 use Rattle.std.proofs.Common.{take, map}
-use Rattle.sdl_tree.specs.Views.{process_of}
+use Rattle.sdl_ast.specs.Views.{process_of}
 use Rattle.sdl_joins.proofs.Returning.{SoFar}
 use Rattle.sdl_joins.proofs.order.find_orders.Given as goal
 

@@ -1,6 +1,6 @@
 use Rattle.std.proofs.Common.{◌≡◌, ℕ, List, Option, Some, None, Vec, Global, refl, ap, sym, ◌∙◌, subst}
 use Rattle.std.specs.Prelude.{IfSome, IfNone}
-use Rattle.sdl_tree.specs.Views.{process_of}
+use Rattle.sdl_ast.specs.Views.{process_of}
 use Rattle.sdl_joins.specs.Links.{graph_in, IsOrderOf, Returns}
 use Rattle.sdl_sound.specs.Orders.{links_of}
 use Rattle.sdl_sound.specs.Joins.{process_cycles}

@@ -1,7 +1,7 @@
 use Rattle.std.proofs.Common.{◌≡◌, [], Some, take}
 use Rattle.std.specs.List.{flat_map}
-use Rattle.sdl_tree.specs.Plain.{PlainConnection}
-use Rattle.sdl_tree.specs.Views.{process_of}
+use Rattle.sdl_ast.specs.Plain.{PlainConnection}
+use Rattle.sdl_ast.specs.Views.{process_of}
 use Rattle.sdl_tables.specs.Names.{number_of, connector_names}
 use Rattle.sdl_sound.specs.Joins.{comes_back}
 use Rattle.sdl_joins.proofs.order.place_in_joins.Given as goal

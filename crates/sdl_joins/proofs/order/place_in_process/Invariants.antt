@@ -1,6 +1,6 @@
 use Rattle.std.proofs.Common.{◌≡◌, [], take, map}
 use Rattle.std.specs.List.{flat_map}
-use Rattle.sdl_tree.specs.Views.{process_of, connection_of}
+use Rattle.sdl_ast.specs.Views.{process_of, connection_of}
 use Rattle.sdl_sound.specs.Joins.{connection_cycles}
 use Rattle.sdl_joins.proofs.order.place_in_process.Given as goal
 

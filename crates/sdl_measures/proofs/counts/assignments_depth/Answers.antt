@@ -1,6 +1,6 @@
 use Rattle.std.proofs.Common.{◌≡◌, ◌+◌, ◌++◌, ◌∷◌, [], map, take, max, sym, ap, ◌∙◌, arith}
 use Rattle.std.proofs.lemmas.List.{take_more, map-append}
-use Rattle.sdl_tree.specs.Views.{tree_of, assignment_of}
+use Rattle.sdl_ast.specs.Views.{tree_of, assignment_of}
 use Rattle.sdl_sound.specs.Longest.{depth_of, assignments_depth}
 use Rattle.sdl_measures.proofs.Texts.{assignments_depth-push}
 use Rattle.sdl_measures.proofs.counts.assignments_depth.Goals as goal

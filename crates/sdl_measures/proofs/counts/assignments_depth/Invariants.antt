@@ -1,5 +1,5 @@
 use Rattle.std.proofs.Common.{◌≡◌, map, take, min}
-use Rattle.sdl_tree.specs.Views.{assignment_of}
+use Rattle.sdl_ast.specs.Views.{assignment_of}
 use Rattle.sdl_sound.specs.Longest.{assignments_depth}
 use Rattle.sdl_measures.proofs.counts.assignments_depth.Given as goal
 

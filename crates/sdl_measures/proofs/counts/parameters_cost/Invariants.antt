@@ -1,6 +1,6 @@
 use Rattle.std.proofs.Common.{◌≡◌, map, take, min}
 use Rattle.std.specs.Prelude.{sum_by}
-use Rattle.sdl_tree.specs.Views.{tree_of}
+use Rattle.sdl_ast.specs.Views.{tree_of}
 use Rattle.sdl_sound.specs.Longest.{cost_of}
 use Rattle.sdl_measures.proofs.counts.parameters_cost.Given as goal
 

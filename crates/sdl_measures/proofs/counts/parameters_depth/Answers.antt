@@ -1,6 +1,6 @@
 use Rattle.std.proofs.Common.{◌≡◌, ◌+◌, ◌++◌, ◌∷◌, [], map, take, max, length, sym, ap, ◌∙◌, arith}
 use Rattle.std.proofs.lemmas.List.{take_more, map-append, length-map, length-take-le}
-use Rattle.sdl_tree.specs.Views.{tree_of}
+use Rattle.sdl_ast.specs.Views.{tree_of}
 use Rattle.sdl_sound.specs.Longest.{depth_of, parameters_depth}
 use Rattle.sdl_measures.proofs.Texts.{parameters_depth-push}
 use Rattle.sdl_measures.proofs.counts.parameters_depth.Goals as goal

@@ -1,5 +1,5 @@
 use Rattle.std.proofs.Common.{◌≡◌, map, take, min}
-use Rattle.sdl_tree.specs.Views.{tree_of}
+use Rattle.sdl_ast.specs.Views.{tree_of}
 use Rattle.sdl_sound.specs.Longest.{parameters_depth}
 use Rattle.sdl_measures.proofs.counts.parameters_depth.Given as goal
 

@@ -1,5 +1,5 @@
 use Rattle.std.proofs.Common.{◌≡◌, map, take, min}
-use Rattle.sdl_tree.specs.Views.{sending_of}
+use Rattle.sdl_ast.specs.Views.{sending_of}
 use Rattle.sdl_sound.specs.Longest.{sendings_cost}
 use Rattle.sdl_measures.proofs.counts.sendings_cost.Given as goal
 

@@ -1,6 +1,6 @@
 use Rattle.std.proofs.Common.{◌≡◌, ◌+◌, ◌++◌, ◌∷◌, [], map, take, max, min, sym, ap, ◌∙◌, arith}
 use Rattle.std.proofs.lemmas.List.{take_more, map-append}
-use Rattle.sdl_tree.specs.Views.{sending_of, tree_of}
+use Rattle.sdl_ast.specs.Views.{sending_of, tree_of}
 use Rattle.sdl_sound.specs.Longest.{parameters_depth, sendings_depth}
 use Rattle.sdl_measures.proofs.Texts.{sendings_depth-push}
 use Rattle.sdl_measures.proofs.counts.sendings_depth.Goals as goal

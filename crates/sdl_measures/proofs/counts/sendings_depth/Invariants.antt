@@ -1,5 +1,5 @@
 use Rattle.std.proofs.Common.{◌≡◌, map, take, min}
-use Rattle.sdl_tree.specs.Views.{sending_of}
+use Rattle.sdl_ast.specs.Views.{sending_of}
 use Rattle.sdl_sound.specs.Longest.{sendings_depth}
 use Rattle.sdl_measures.proofs.counts.sendings_depth.Given as goal
 

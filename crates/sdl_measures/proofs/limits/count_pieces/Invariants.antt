@@ -2,7 +2,7 @@ use Rattle.std.proofs.Common.{◌≡◌, map, take, min}
 use Rattle.std.specs.Prelude.{sum_by}
 use Rattle.std.proofs.Common.{length}
 use Rattle.sdl_sound.specs.Longest.{pieces_of}
-use Rattle.sdl_tree.specs.Views.{process_of}
+use Rattle.sdl_ast.specs.Views.{process_of}
 use Rattle.sdl_measures.proofs.limits.count_pieces.Given as goal
 
 abbrev pub invariant-loop-table : goal.invariant-loop-table

@@ -1,6 +1,6 @@
 use Rattle.std.proofs.Common.{List, sym, ◌∙◌, subst}
-use Rattle.sdl_tree.specs.Plain.{PlainProcess}
-use Rattle.sdl_tree.specs.Views.{block_of}
+use Rattle.sdl_ast.specs.Plain.{PlainProcess}
+use Rattle.sdl_ast.specs.Views.{block_of}
 use Rattle.sdl_sound.specs.Limits.{exceeds, number_limits, transition_limits}
 use Rattle.sdl_measures.specs.Rows.{AllPassed}
 use Rattle.sdl_measures.proofs.Texts.{find-left, find-right}

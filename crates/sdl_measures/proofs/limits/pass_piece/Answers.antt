@@ -1,6 +1,6 @@
 use Rattle.std.proofs.Common.{arith, ◌≡◌, ◌+◌, max, refl, ◌∙◌}
 use Rattle.std.specs.Prelude.{sum_by}
-use Rattle.sdl_tree.specs.Views.{text_of, process_of}
+use Rattle.sdl_ast.specs.Views.{text_of, process_of}
 use Rattle.sdl_tables.specs.Names.{variables_of}
 use Rattle.sdl_sound.specs.Joins.{reached}
 use Rattle.sdl_sound.specs.Longest.{Piece, size, text_size, text_depth, text_effects, places_cost, places_depth, piece_size, piece_depth, piece_effects}

@@ -3,8 +3,8 @@ use Rattle.std.specs.Prelude.{slice_get}
 use Rattle.std.specs.Option.{option_map}
 use Rattle.std.proofs.lemmas.List.{length-map}
 use Rattle.std.proofs.lemmas.Option.{slice_get_read, slice_get-map}
-use Rattle.sdl_tree.specs.Plain.{PlainProcess}
-use Rattle.sdl_tree.specs.Views.{process_of}
+use Rattle.sdl_ast.specs.Plain.{PlainProcess}
+use Rattle.sdl_ast.specs.Views.{process_of}
 use Rattle.sdl_measures.specs.Measures.{AreMeasures}
 use Rattle.sdl_measures.specs.Rows.{AllPassed}
 use Rattle.sdl_measures.specs.declared.measures.Measure.{Measure}

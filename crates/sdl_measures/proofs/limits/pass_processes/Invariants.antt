@@ -1,5 +1,5 @@
 use Rattle.std.proofs.Common.{take, map}
-use Rattle.sdl_tree.specs.Views.{process_of}
+use Rattle.sdl_ast.specs.Views.{process_of}
 use Rattle.sdl_measures.specs.Rows.{AllPassed}
 use Rattle.sdl_measures.proofs.limits.pass_processes.Given as goal
 

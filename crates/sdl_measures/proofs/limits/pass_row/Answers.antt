@@ -1,6 +1,6 @@
 use Rattle.std.proofs.Common.{List, Option, subst}
-use Rattle.sdl_tree.specs.declared.expression.Identifier.{Identifier}
-use Rattle.sdl_tree.specs.Views.{text_of, process_of}
+use Rattle.sdl_ast.specs.declared.expression.Identifier.{Identifier}
+use Rattle.sdl_ast.specs.Views.{text_of, process_of}
 use Rattle.sdl_tables.specs.Rows.{row_input}
 use Rattle.sdl_sound.specs.Longest.{input_piece}
 use Rattle.sdl_measures.specs.Rows.{IsPassed}

@@ -1,5 +1,5 @@
 use Rattle.std.proofs.Common.{List, map, take, sym, subst}
-use Rattle.sdl_tree.specs.Views.{process_of}
+use Rattle.sdl_ast.specs.Views.{process_of}
 use Rattle.sdl_tables.specs.Rows.{row_input}
 use Rattle.sdl_sound.specs.Longest.{Piece, input_piece}
 use Rattle.sdl_measures.specs.Rows.{ArePassed}

@@ -1,6 +1,6 @@
 use Rattle.std.proofs.Common.{take, map}
 use Rattle.std.specs.List.{flat_map}
-use Rattle.sdl_tree.specs.Views.{process_of}
+use Rattle.sdl_ast.specs.Views.{process_of}
 use Rattle.sdl_tables.specs.Rows.{rows_inputs}
 use Rattle.sdl_sound.specs.Longest.{input_piece}
 use Rattle.sdl_measures.specs.Rows.{ArePassed}

@@ -1,5 +1,5 @@
 use Rattle.std.proofs.Common.{take, map}
-use Rattle.sdl_tree.specs.Views.{process_of}
+use Rattle.sdl_ast.specs.Views.{process_of}
 use Rattle.sdl_measures.specs.Measures.{AllMeasures}
 use Rattle.sdl_measures.proofs.measures.measure_all.Given as goal
 

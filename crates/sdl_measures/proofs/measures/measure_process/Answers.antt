@@ -3,9 +3,9 @@ use Rattle.std.specs.Prelude.{slice_get, slice_set, slice_index_or}
 use Rattle.std.specs.Option.{option_map}
 use Rattle.std.proofs.lemmas.List.{length-set, length-map, length-replicate}
 use Rattle.std.proofs.lemmas.Option.{slice_get_read, slice_get-get_or, slice_get-map}
-use Rattle.sdl_tree.specs.declared.tree.Connection.{Connection}
-use Rattle.sdl_tree.specs.Plain.{PlainConnection}
-use Rattle.sdl_tree.specs.Views.{connection_of, process_of}
+use Rattle.sdl_ast.specs.declared.tree.Connection.{Connection}
+use Rattle.sdl_ast.specs.Plain.{PlainConnection}
+use Rattle.sdl_ast.specs.Views.{connection_of, process_of}
 use Rattle.sdl_measures.specs.Counting.{IsMeasured}
 use Rattle.sdl_measures.specs.declared.measures.Measure.{Measure}
 use Rattle.sdl_joins.proofs.Connectors.{distinct_connectors}

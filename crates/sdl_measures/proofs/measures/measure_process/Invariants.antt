@@ -1,5 +1,5 @@
 use Rattle.std.proofs.Common.{◌≡◌, length}
-use Rattle.sdl_tree.specs.Views.{process_of}
+use Rattle.sdl_ast.specs.Views.{process_of}
 use Rattle.sdl_measures.proofs.Joined.{MeasuredTo}
 use Rattle.sdl_measures.proofs.measures.measure_process.Given as goal
 

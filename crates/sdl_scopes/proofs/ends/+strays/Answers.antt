@@ -1,10 +1,10 @@
 use Rattle.std.proofs.Common.{◌≡◌, ℕ, ◌+◌, ◌-◌, ◌<◌, List, [], length, drop, get_or, sym, ap, subst, ◌∙◌, take_all, arith}
 use Rattle.std.specs.List.{flat_map}
-use Rattle.sdl_tree.specs.declared.tree.Answer.{Answer}
-use Rattle.sdl_tree.specs.declared.tree.Statement.{Statement}
-use Rattle.sdl_tree.specs.declared.tree.Decision.{out-Decision}
-use Rattle.sdl_tree.specs.Plain.{Text}
-use Rattle.sdl_tree.specs.Views.{tree_of, text_of, statement_of, choice_of, else_choice, statements_before, end_text}
+use Rattle.sdl_ast.specs.declared.tree.Answer.{Answer}
+use Rattle.sdl_ast.specs.declared.tree.Statement.{Statement}
+use Rattle.sdl_ast.specs.declared.tree.Decision.{out-Decision}
+use Rattle.sdl_ast.specs.Plain.{Text}
+use Rattle.sdl_ast.specs.Views.{tree_of, text_of, statement_of, choice_of, else_choice, statements_before, end_text}
 use Rattle.sdl_tables.specs.Scopes.{Marks}
 use Rattle.sdl_scopes.specs.Rests.{IsRest}
 use Rattle.sdl_sound.specs.Ends.{strays}

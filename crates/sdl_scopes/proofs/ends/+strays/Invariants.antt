@@ -1,6 +1,6 @@
 use Rattle.std.proofs.Common.{◌-◌, [], length, take, drop}
 use Rattle.std.specs.List.{flat_map}
-use Rattle.sdl_tree.specs.Views.{text_of, statements_before, end_text}
+use Rattle.sdl_ast.specs.Views.{text_of, statements_before, end_text}
 use Rattle.sdl_tables.specs.Scopes.{Marks}
 use Rattle.sdl_sound.specs.Ends.{strays}
 use Rattle.sdl_scopes.specs.Rests.{IsRest}

@@ -2,7 +2,7 @@ use Rattle.std.proofs.Common.{map, take}
 use Rattle.std.specs.List.{flat_map}
 use Rattle.sdl_sound.specs.Ends.{connection_strays}
 use Rattle.sdl_tables.specs.Scopes.{Marks}
-use Rattle.sdl_tree.specs.Views.{process_of, connection_of}
+use Rattle.sdl_ast.specs.Views.{process_of, connection_of}
 use Rattle.sdl_scopes.proofs.ends.stray_in_connections.Given as goal
 
 abbrev pub invariant-loop-connection : goal.invariant-loop-connection

@@ -1,5 +1,5 @@
 use Rattle.std.proofs.Common.{◌≡◌, sym, ap, ◌∙◌, true}
-use Rattle.sdl_tree.specs.Views.{block_of, process_of}
+use Rattle.sdl_ast.specs.Views.{block_of, process_of}
 use Rattle.sdl_tables.specs.Names.{is_in, signal_names, timers_of}
 use Rattle.sdl_sound.proofs.Places.{known-second}
 use Rattle.sdl_scopes.proofs.names.missing_trigger.Goals as goal

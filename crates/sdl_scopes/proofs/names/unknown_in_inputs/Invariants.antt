@@ -2,7 +2,7 @@ use Rattle.std.proofs.Common.{map, take}
 use Rattle.std.specs.List.{flat_map}
 use Rattle.sdl_sound.specs.Names.{input_unknown}
 use Rattle.sdl_tables.specs.Scopes.{Marks}
-use Rattle.sdl_tree.specs.Views.{block_of, process_of, input_of}
+use Rattle.sdl_ast.specs.Views.{block_of, process_of, input_of}
 use Rattle.sdl_scopes.proofs.names.unknown_in_inputs.Given as goal
 
 abbrev pub invariant-loop-input : goal.invariant-loop-input

@@ -1,7 +1,7 @@
 use Rattle.std.proofs.Common.{map, take}
 use Rattle.std.specs.List.{flat_map}
 use Rattle.sdl_tables.specs.Scopes.{Marks}
-use Rattle.sdl_tree.specs.Views.{block_of, process_of, state_of}
+use Rattle.sdl_ast.specs.Views.{block_of, process_of, state_of}
 use Rattle.sdl_sound.specs.Names.{saves_unknown}
 use Rattle.sdl_scopes.proofs.names.unknown_in_parts.Given as goal
 

@@ -2,7 +2,7 @@ use Rattle.std.proofs.Common.{map, take}
 use Rattle.std.specs.List.{flat_map}
 use Rattle.sdl_sound.specs.Names.{stimulus_unknown}
 use Rattle.sdl_tables.specs.Scopes.{Marks}
-use Rattle.sdl_tree.specs.Views.{block_of, process_of, stimulus_of}
+use Rattle.sdl_ast.specs.Views.{block_of, process_of, stimulus_of}
 use Rattle.sdl_scopes.proofs.names.unknown_in_stimuli.Given as goal
 
 abbrev pub invariant-loop-stimulus : goal.invariant-loop-stimulus

@@ -1,6 +1,6 @@
 use Rattle.std.proofs.Common.{take}
 use Rattle.sdl_tables.specs.Scopes.{Marks}
-use Rattle.sdl_tree.specs.Views.{block_of, process_of}
+use Rattle.sdl_ast.specs.Views.{block_of, process_of}
 use Rattle.sdl_sound.specs.Names.{unknown, trigger_names}
 use Rattle.sdl_scopes.proofs.names.unknown_in_triggers.Given as goal
 

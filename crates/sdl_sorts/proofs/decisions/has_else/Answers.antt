@@ -1,5 +1,5 @@
 use Rattle.std.proofs.Common.{◌∙◌, sym}
-use Rattle.sdl_tree.specs.declared.tree.Decision.{out-Decision}
+use Rattle.sdl_ast.specs.declared.tree.Decision.{out-Decision}
 use Rattle.sdl_sorts.proofs.Answered.{has_else-before}
 use Rattle.sdl_sorts.proofs.decisions.has_else.Goals as goal
 

@@ -1,7 +1,7 @@
 use Rattle.std.proofs.Common.{◌∙◌, sym, ap, length}
 use Rattle.std.specs.Prelude.{nat_lt}
 use Rattle.std.specs.List.{list_all}
-use Rattle.sdl_tree.specs.declared.tree.Decision.{out-Decision}
+use Rattle.sdl_ast.specs.declared.tree.Decision.{out-Decision}
 use Rattle.sdl_sorts.proofs.Answered.{has_values-before}
 use Rattle.sdl_sorts.proofs.decisions.has_values.Goals as goal
 

@@ -1,6 +1,6 @@
 use Rattle.std.proofs.Common.{◌∙◌, sym, ap, subst}
 use Rattle.std.specs.Prelude.{sum_by}
-use Rattle.sdl_tree.specs.declared.tree.Decision.{out-Decision}
+use Rattle.sdl_ast.specs.declared.tree.Decision.{out-Decision}
 use Rattle.sdl_sound.specs.Decisions.{names_value}
 use Rattle.sdl_sorts.specs.Times.{Counted}
 use Rattle.sdl_sorts.proofs.Answered.{times_named-before}

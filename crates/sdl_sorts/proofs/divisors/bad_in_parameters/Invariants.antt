@@ -2,7 +2,7 @@ use Rattle.std.proofs.Common.{map, take}
 use Rattle.std.specs.List.{flat_map}
 use Rattle.sdl_sound.specs.Divisors.{bad_divisors_in}
 use Rattle.sdl_tables.specs.Scopes.{Marks}
-use Rattle.sdl_tree.specs.Views.{tree_of}
+use Rattle.sdl_ast.specs.Views.{tree_of}
 use Rattle.sdl_sorts.proofs.divisors.bad_in_parameters.Given as goal
 
 abbrev pub invariant-loop-parameter : goal.invariant-loop-parameter

@@ -3,7 +3,7 @@ use Rattle.std.specs.List.{flat_map}
 use Rattle.sdl_sound.specs.Sorts.{wrong_in}
 use Rattle.sdl_tables.specs.Names.{variables_of}
 use Rattle.sdl_tables.specs.Scopes.{Marks}
-use Rattle.sdl_tree.specs.Views.{process_of, tree_of}
+use Rattle.sdl_ast.specs.Views.{process_of, tree_of}
 use Rattle.sdl_sorts.proofs.operands.wrong_in_all.Given as goal
 
 abbrev pub invariant-loop-parameter : goal.invariant-loop-parameter

@@ -1,7 +1,7 @@
 use Rattle.std.proofs.Common.{◌≡◌, ◌+◌, ◌++◌, ◌∷◌, [], map, take, ap, sym, ◌∙◌, subst}
 use Rattle.std.proofs.lemmas.List.{length-map}
-use Rattle.sdl_tree.specs.Plain.{Tree}
-use Rattle.sdl_tree.specs.Views.{tree_of, process_of}
+use Rattle.sdl_ast.specs.Plain.{Tree}
+use Rattle.sdl_ast.specs.Views.{tree_of, process_of}
 use Rattle.sdl_tables.specs.Names.{variables_of}
 use Rattle.sdl_tables.specs.Scopes.{Marks}
 use Rattle.sdl_sound.specs.Sorts.{wrong_parameter}

@@ -4,7 +4,7 @@ use Rattle.std.specs.Prelude.{zip}
 use Rattle.sdl_sound.specs.Sorts.{wrong_parameter}
 use Rattle.sdl_tables.specs.Names.{variables_of}
 use Rattle.sdl_tables.specs.Scopes.{Marks}
-use Rattle.sdl_tree.specs.Views.{process_of, tree_of}
+use Rattle.sdl_ast.specs.Views.{process_of, tree_of}
 use Rattle.sdl_sorts.proofs.operands.wrong_parameters.Given as goal
 
 abbrev pub invariant-loop-number : goal.invariant-loop-number

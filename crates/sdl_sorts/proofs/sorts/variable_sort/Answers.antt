@@ -1,4 +1,4 @@
-use Rattle.sdl_tree.specs.Views.{process_of}
+use Rattle.sdl_ast.specs.Views.{process_of}
 use Rattle.sdl_tables.specs.Names.{variables_of}
 use Rattle.sdl_sorts.proofs.Pairs.{sort-none, sort-some}
 use Rattle.sdl_sorts.proofs.sorts.variable_sort.Goals as goal

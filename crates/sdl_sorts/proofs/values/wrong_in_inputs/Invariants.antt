@@ -3,7 +3,7 @@ use Rattle.std.specs.List.{flat_map}
 use Rattle.sdl_sound.specs.Sorts.{wrong_input}
 use Rattle.sdl_tables.specs.Names.{variables_of}
 use Rattle.sdl_tables.specs.Scopes.{Marks}
-use Rattle.sdl_tree.specs.Views.{block_of, input_of, process_of}
+use Rattle.sdl_ast.specs.Views.{block_of, input_of, process_of}
 use Rattle.sdl_sorts.proofs.values.wrong_in_inputs.Given as goal
 
 abbrev pub invariant-loop-input : goal.invariant-loop-input

@@ -1,8 +1,8 @@
 use Rattle.std.proofs.Common.{◌≡◌, Option, Some, [], ap, sym, subst}
 use Rattle.std.specs.Option.{option_map_or}
 use Rattle.std.proofs.lemmas.Option.{slice_get-get_or, slice_get_past}
-use Rattle.sdl_tree.specs.Views.{process_of}
-use Rattle.sdl_tree.specs.declared.tree.Sort.{Sort}
+use Rattle.sdl_ast.specs.Views.{process_of}
+use Rattle.sdl_ast.specs.declared.tree.Sort.{Sort}
 use Rattle.sdl_tables.specs.Names.{variables_of}
 use Rattle.sdl_tables.specs.Scopes.{Marks}
 use Rattle.sdl_sound.specs.Sorts.{wrong_place}

@@ -1,5 +1,5 @@
 use Rattle.std.proofs.Common.{List}
-use Rattle.sdl_tree.specs.Views.{block_of, process_of}
+use Rattle.sdl_ast.specs.Views.{block_of, process_of}
 use Rattle.sdl_sound.specs.Actions.{Origin}
 use Rattle.sdl_statements.specs.Sources.{Knows}
 use Rattle.sdl_statements.proofs.known.+learning.Given as goal

@@ -1,8 +1,8 @@
 use Rattle.std.proofs.Common.{◌≡◌, ◌∙◌, sym, ap, subst, map, slice_get, Some, List}
 use Rattle.std.specs.Option.{option_map}
 use Rattle.std.proofs.lemmas.Option.{slice_get-get_or}
-use Rattle.sdl_tree.specs.Plain.{PlainConnection}
-use Rattle.sdl_tree.specs.Views.{block_of, process_of, connection_of}
+use Rattle.sdl_ast.specs.Plain.{PlainConnection}
+use Rattle.sdl_ast.specs.Views.{block_of, process_of, connection_of}
 use Rattle.sdl_sound.specs.Actions.{connection_origins, in_connection}
 use Rattle.sdl_statements.specs.Asked.{asked}
 use Rattle.sdl_statements.specs.Sources.{Row, AreSenders, row_of, origins_at}

@@ -4,7 +4,7 @@ use Rattle.sdl_sound.specs.Actions.{in_statements}
 use Rattle.sdl_statements.specs.Asked.{asked}
 use Rattle.sdl_statements.specs.declared.statements.StatementRule.TheVariants.{Receivers}
 use Rattle.sdl_tables.specs.Scopes.{Marks}
-use Rattle.sdl_tree.specs.Views.{block_of, process_of}
+use Rattle.sdl_ast.specs.Views.{block_of, process_of}
 use Rattle.sdl_statements.proofs.lost.lost_in_processes.Given as goal
 
 abbrev pub invariant-loop-process : goal.invariant-loop-process

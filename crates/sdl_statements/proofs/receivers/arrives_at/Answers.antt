@@ -1,6 +1,6 @@
 use Rattle.std.proofs.Common.{◌∙◌, sym, ap, Some}
-use Rattle.sdl_tree.specs.declared.tree.Destination.{Destination}
-use Rattle.sdl_tree.specs.Views.{block_of, process_of}
+use Rattle.sdl_ast.specs.declared.tree.Destination.{Destination}
+use Rattle.sdl_ast.specs.Views.{block_of, process_of}
 use Rattle.sdl_sound.specs.Receivers.{arrives}
 use Rattle.sdl_statements.proofs.receivers.arrives_at.Goals as goal
 

@@ -2,7 +2,7 @@ use Rattle.std.proofs.Common.{map, take}
 use Rattle.std.specs.List.{flat_map}
 use Rattle.sdl_sound.specs.Receivers.{doubtful_sending}
 use Rattle.sdl_tables.specs.Scopes.{Marks}
-use Rattle.sdl_tree.specs.Views.{block_of, process_of, sending_of}
+use Rattle.sdl_ast.specs.Views.{block_of, process_of, sending_of}
 use Rattle.sdl_statements.proofs.receivers.doubtful_sendings.Given as goal
 
 abbrev pub invariant-loop-sending : goal.invariant-loop-sending

@@ -3,7 +3,7 @@ use Rattle.std.specs.List.{flat_map}
 use Rattle.sdl_sound.specs.Actions.{Origin}
 use Rattle.sdl_sound.specs.Receivers.{lost_sending}
 use Rattle.sdl_tables.specs.Scopes.{Marks}
-use Rattle.sdl_tree.specs.Views.{block_of, process_of, sending_of}
+use Rattle.sdl_ast.specs.Views.{block_of, process_of, sending_of}
 use Rattle.sdl_statements.specs.Sources.{Knows}
 use Rattle.sdl_statements.proofs.receivers.lost_sendings.Given as goal
 

@@ -1,4 +1,4 @@
-use Rattle.sdl_tree.specs.Views.{block_of, process_of}
+use Rattle.sdl_ast.specs.Views.{block_of, process_of}
 use Rattle.sdl_statements.proofs.sender_table.find_senders.Goals as goal
 
 pub returns : goal.returns

@@ -1,5 +1,5 @@
 use Rattle.std.proofs.Common.{◌≡◌, map, take}
-use Rattle.sdl_tree.specs.Views.{block_of}
+use Rattle.sdl_ast.specs.Views.{block_of}
 use Rattle.sdl_statements.specs.SenderTables.{numbered}
 use Rattle.sdl_statements.proofs.sender_table.number_parties.Given as goal
 

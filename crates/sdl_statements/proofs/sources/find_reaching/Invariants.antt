@@ -1,5 +1,5 @@
 use Rattle.std.proofs.Common.{◌≡◌, [], ◌∷◌, map, take}
-use Rattle.sdl_tree.specs.Views.{process_of, input_of}
+use Rattle.sdl_ast.specs.Views.{process_of, input_of}
 use Rattle.sdl_sound.specs.Actions.{begins}
 use Rattle.sdl_statements.specs.Sources.{reach_row, row_of, input_row}
 use Rattle.sdl_statements.proofs.sources.find_reaching.Given as goal

@@ -1,5 +1,5 @@
 use Rattle.std.proofs.Common.{◌≡◌, ◌∙◌, ◌&&◌, ◌+◌, true, false, map, take, ap, sym, subst, take_all, Bool, List}
-use Rattle.sdl_tree.specs.Views.{block_of, process_of}
+use Rattle.sdl_ast.specs.Views.{block_of, process_of}
 use Rattle.sdl_sound.specs.Receivers.{answers_all}
 use Rattle.sdl_statements.specs.Sources.{AreSenders, Gathers, row_of, origins_at, source_origins, is_marked}
 use Rattle.sdl_statements.specs.declared.sources.Reaching.{Reaching}

@@ -1,5 +1,5 @@
 use Rattle.std.proofs.Common.{map, take}
-use Rattle.sdl_tree.specs.Views.{block_of, process_of}
+use Rattle.sdl_ast.specs.Views.{block_of, process_of}
 use Rattle.sdl_sound.specs.Receivers.{answers_all}
 use Rattle.sdl_statements.specs.Sources.{Gathers, row_of, origins_at}
 use Rattle.sdl_statements.proofs.sources.senders_at.Given as goal

@@ -1,9 +1,9 @@
 use Rattle.std.proofs.Common.{sym, subst, List, ◌∙◌, take_all}
 use Rattle.std.specs.List.{flat_map}
-use Rattle.sdl_tree.specs.declared.tree.Statement.{Statement}
-use Rattle.sdl_tree.specs.declared.tree.Answer.{Answer}
-use Rattle.sdl_tree.specs.declared.tree.Decision.{out-Decision}
-use Rattle.sdl_tree.specs.Views.{tree_of, else_choice, block_of, process_of}
+use Rattle.sdl_ast.specs.declared.tree.Statement.{Statement}
+use Rattle.sdl_ast.specs.declared.tree.Answer.{Answer}
+use Rattle.sdl_ast.specs.declared.tree.Decision.{out-Decision}
+use Rattle.sdl_ast.specs.Views.{tree_of, else_choice, block_of, process_of}
 use Rattle.sdl_tables.specs.Scopes.{Marks}
 use Rattle.sdl_statements.specs.Asked.{asked}
 use Rattle.sdl_sound.specs.Parts.{statement_parts, answer_parts}

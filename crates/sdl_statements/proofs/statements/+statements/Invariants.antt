@@ -1,7 +1,7 @@
 use Rattle.std.proofs.Common.{List, take}
 use Rattle.std.specs.List.{flat_map}
-use Rattle.sdl_tree.specs.declared.tree.Decision.{out-Decision}
-use Rattle.sdl_tree.specs.Views.{tree_of, block_of, process_of}
+use Rattle.sdl_ast.specs.declared.tree.Decision.{out-Decision}
+use Rattle.sdl_ast.specs.Views.{tree_of, block_of, process_of}
 use Rattle.sdl_tables.specs.Scopes.{Marks}
 use Rattle.sdl_statements.specs.Asked.{asked_all}
 use Rattle.sdl_sound.specs.Parts.{statement_parts, answer_parts}

@@ -1,5 +1,5 @@
 use Rattle.std.proofs.Common.{[], subst}
-use Rattle.sdl_tree.specs.Views.{block_of, process_of, connection_of}
+use Rattle.sdl_ast.specs.Views.{block_of, process_of, connection_of}
 use Rattle.sdl_tables.specs.Scopes.{Marks}
 use Rattle.sdl_sound.specs.Actions.{connection_origins}
 use Rattle.sdl_sound.specs.Statements.{statements_of}

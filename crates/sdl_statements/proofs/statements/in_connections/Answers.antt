@@ -1,4 +1,4 @@
-use Rattle.sdl_tree.specs.Views.{block_of, process_of, connection_of}
+use Rattle.sdl_ast.specs.Views.{block_of, process_of, connection_of}
 use Rattle.sdl_sound.specs.Actions.{in_connection}
 use Rattle.sdl_statements.specs.Asked.{asked}
 use Rattle.sdl_sound.proofs.Places.{Marks-more}

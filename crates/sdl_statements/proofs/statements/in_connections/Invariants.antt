@@ -3,7 +3,7 @@ use Rattle.std.specs.List.{flat_map}
 use Rattle.sdl_sound.specs.Actions.{in_connection}
 use Rattle.sdl_statements.specs.Asked.{asked}
 use Rattle.sdl_tables.specs.Scopes.{Marks}
-use Rattle.sdl_tree.specs.Views.{block_of, connection_of, process_of}
+use Rattle.sdl_ast.specs.Views.{block_of, connection_of, process_of}
 use Rattle.sdl_statements.proofs.statements.in_connections.Given as goal
 
 abbrev pub invariant-loop-connection : goal.invariant-loop-connection

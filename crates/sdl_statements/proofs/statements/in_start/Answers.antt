@@ -1,6 +1,6 @@
 use Rattle.std.proofs.Common.{[], ◌∷◌, subst}
-use Rattle.sdl_tree.specs.declared.tree.Process as the_process
-use Rattle.sdl_tree.specs.Views.{block_of, process_of}
+use Rattle.sdl_ast.specs.declared.tree.Process as the_process
+use Rattle.sdl_ast.specs.Views.{block_of, process_of}
 use Rattle.sdl_tables.specs.Scopes.{Marks}
 use Rattle.sdl_sound.specs.Actions.{begins}
 use Rattle.sdl_statements.specs.Asked.{asked_all}

@@ -1,4 +1,4 @@
-use Rattle.sdl_tree.specs.Views.{block_of, process_of}
+use Rattle.sdl_ast.specs.Views.{block_of, process_of}
 use Rattle.sdl_sound.specs.Names.{process_unknown}
 use Rattle.sdl_sound.proofs.Places.{Marks-more}
 use Rattle.sdl_statements.proofs.statements.unknown_in_processes.Goals as goal

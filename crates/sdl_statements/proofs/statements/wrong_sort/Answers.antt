@@ -1,7 +1,7 @@
 use Rattle.std.proofs.Common.{subst, List}
 use Rattle.std.specs.List.{flat_map}
-use Rattle.sdl_tree.specs.Plain.{PlainProcess}
-use Rattle.sdl_tree.specs.Views.{block_of}
+use Rattle.sdl_ast.specs.Plain.{PlainProcess}
+use Rattle.sdl_ast.specs.Views.{block_of}
 use Rattle.sdl_tables.specs.Scopes.{Marks}
 use Rattle.sdl_sound.specs.Actions.{in_statements}
 use Rattle.sdl_statements.specs.Asked.{asked}

@@ -2,8 +2,8 @@ use Rattle.std.proofs.Common.{◌≡◌, ◌+◌, ◌++◌, ◌∷◌, [], ℕ, 
 use Rattle.std.specs.List.{flat_map}
 use denote.Ref.{Bor}
 use Rattle.std.proofs.lemmas.List.{take_more, map-append}
-use Rattle.sdl_tree.specs.declared.tree.Process as the_process
-use Rattle.sdl_tree.specs.Views.{process_of}
+use Rattle.sdl_ast.specs.declared.tree.Process as the_process
+use Rattle.sdl_ast.specs.Views.{process_of}
 use Rattle.sdl_tables.specs.Scopes.{Marks, IsDouble, repeats, process_scopes}
 use Rattle.sdl_tables.specs.declared.fault.TableFault.{TableFault}
 use Rattle.sdl_tables.proofs.BlockLemmas.{Marks-nothing, Marks-one, Marks-some}

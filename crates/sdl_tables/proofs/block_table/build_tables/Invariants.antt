@@ -1,6 +1,6 @@
 use Rattle.std.proofs.Common.{◌≡◌, map, take, None, []}
 use Rattle.std.specs.List.{flat_map}
-use Rattle.sdl_tree.specs.Views.{process_of}
+use Rattle.sdl_ast.specs.Views.{process_of}
 use Rattle.sdl_tables.specs.Scopes.{Marks, repeats, process_scopes}
 use Rattle.sdl_tables.proofs.block_table.build_tables.Given as goal
 

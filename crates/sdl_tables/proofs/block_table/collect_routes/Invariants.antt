@@ -1,6 +1,6 @@
 use Rattle.std.proofs.Common.{◌≡◌, map, take}
 use Rattle.std.specs.List.{flat_map}
-use Rattle.sdl_tree.specs.Views.{entity_of, route_of}
+use Rattle.sdl_ast.specs.Views.{entity_of, route_of}
 use Rattle.sdl_tables.specs.Names.{routes_in}
 use Rattle.sdl_tables.proofs.block_table.collect_routes.Given as goal
 

@@ -1,5 +1,5 @@
 use Rattle.std.proofs.Common.{◌≡◌, map, ◌++◌, take}
-use Rattle.sdl_tree.specs.Views.{signal_of}
+use Rattle.sdl_ast.specs.Views.{signal_of}
 use Rattle.sdl_tables.proofs.block_table.push_signals.Given as goal
 
 abbrev pub invariant-loop-signal : goal.invariant-loop-signal

@@ -1,6 +1,6 @@
 use Rattle.std.proofs.Common.{take}
 use Rattle.std.specs.List.{flat_map}
-use Rattle.sdl_tree.specs.Views.{process_of}
+use Rattle.sdl_ast.specs.Views.{process_of}
 use Rattle.sdl_tables.specs.Names.{timers_of}
 use Rattle.sdl_tables.specs.Scopes.{Marks, shared}
 use Rattle.sdl_tables.proofs.block_table.signal_timers_in.Given as goal

@@ -1,6 +1,6 @@
 use Rattle.std.proofs.Common.{◌≡◌, map, take}
 use Rattle.std.specs.List.{flat_map}
-use Rattle.sdl_tree.specs.Views.{state_of, input_of}
+use Rattle.sdl_ast.specs.Views.{state_of, input_of}
 use Rattle.sdl_tables.specs.Names.{clause_parts}
 use Rattle.sdl_tables.proofs.process_table.collect_parts.Given as goal
 

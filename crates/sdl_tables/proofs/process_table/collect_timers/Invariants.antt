@@ -1,6 +1,6 @@
 use Rattle.std.proofs.Common.{◌≡◌, map, take}
 use Rattle.std.specs.List.{flat_map}
-use Rattle.sdl_tree.specs.Views.{declaration_of}
+use Rattle.sdl_ast.specs.Views.{declaration_of}
 use Rattle.sdl_tables.specs.Names.{timers_in}
 use Rattle.sdl_tables.proofs.process_table.collect_timers.Given as goal
 

@@ -1,5 +1,5 @@
 use Rattle.std.proofs.Common.{◌≡◌, map, take}
-use Rattle.sdl_tree.specs.Views.{connection_of}
+use Rattle.sdl_ast.specs.Views.{connection_of}
 use Rattle.sdl_tables.proofs.process_table.connector_ids.Given as goal
 
 abbrev pub invariant-loop-connection : goal.invariant-loop-connection

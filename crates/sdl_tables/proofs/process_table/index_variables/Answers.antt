@@ -1,7 +1,7 @@
 use Rattle.std.proofs.Common.{◌≡◌, ◌∙◌, ap, subst, map, [], List}
 use Rattle.std.specs.List.{flat_map}
-use Rattle.sdl_tree.specs.Views.{process_of, declaration_of}
-use Rattle.sdl_tree.specs.declared.expression.Identifier.{Identifier}
+use Rattle.sdl_ast.specs.Views.{process_of, declaration_of}
+use Rattle.sdl_ast.specs.declared.expression.Identifier.{Identifier}
 use Rattle.sdl_tables.specs.Names.{variable_names, variables_of, names_once, declared_variables}
 use Rattle.sdl_tables.specs.Rows.{variable_of}
 use Rattle.sdl_tables.specs.Scopes.{Marks, repeats}

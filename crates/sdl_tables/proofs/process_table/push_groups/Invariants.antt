@@ -1,7 +1,7 @@
 use Rattle.std.proofs.Common.{◌≡◌, map, ◌++◌, take}
 use Rattle.std.specs.List.{flat_map}
 use Rattle.sdl_tables.specs.Names.{group_variables}
-use Rattle.sdl_tree.specs.Views.{group_of}
+use Rattle.sdl_ast.specs.Views.{group_of}
 use Rattle.sdl_tables.specs.Rows.{variable_of}
 use Rattle.sdl_tables.proofs.process_table.push_groups.Given as goal
 

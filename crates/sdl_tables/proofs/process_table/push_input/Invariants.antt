@@ -1,5 +1,5 @@
 use Rattle.std.proofs.Common.{◌≡◌, map, ◌++◌, take}
-use Rattle.sdl_tree.specs.Views.{stimulus_of, text_of}
+use Rattle.sdl_ast.specs.Views.{stimulus_of, text_of}
 use Rattle.sdl_tables.specs.Rows.{row_input}
 use Rattle.sdl_tables.proofs.process_table.push_input.Given as goal
 

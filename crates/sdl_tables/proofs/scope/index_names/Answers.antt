@@ -1,6 +1,6 @@
 use Rattle.std.proofs.Common.{◌≡◌, ◌+◌, ◌++◌, ◌∷◌, [], take, sym, ap, ◌∙◌, subst, List}
 use Rattle.std.proofs.lemmas.List.{take_more}
-use Rattle.sdl_tree.specs.declared.expression.Identifier.{Identifier}
+use Rattle.sdl_ast.specs.declared.expression.Identifier.{Identifier}
 use Rattle.sdl_tables.specs.Names.{add_name, names_once}
 use Rattle.sdl_tables.specs.Scopes.{Marks, repeats}
 use Rattle.sdl_tables.proofs.Repeats.{names_once-push, marked-push}

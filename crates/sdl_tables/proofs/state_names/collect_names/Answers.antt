@@ -1,6 +1,6 @@
 use Rattle.std.proofs.Common.{◌∙◌, ap, map, take, arith}
 use Rattle.std.proofs.lemmas.List.{take_all}
-use Rattle.sdl_tree.specs.Views.{process_of, state_of}
+use Rattle.sdl_ast.specs.Views.{process_of, state_of}
 use Rattle.sdl_tables.specs.Rows.{row_names, part_names}
 use Rattle.sdl_tables.proofs.States.{rows-collected}
 use Rattle.sdl_tables.proofs.state_names.collect_names.Goals as goal

@@ -1,7 +1,7 @@
 use Rattle.std.proofs.Common.{◌≡◌, ℕ, ◌<◌, vec_len, take, length, map}
 use Rattle.std.specs.List.{flat_map}
 use Rattle.sdl_tables.specs.Names.{given_to}
-use Rattle.sdl_tree.specs.Views.{state_of}
+use Rattle.sdl_ast.specs.Views.{state_of}
 use Rattle.sdl_tables.specs.Rows.{names_at, part_names}
 use Rattle.sdl_tables.proofs.state_names.collect_names.Given as goal
 

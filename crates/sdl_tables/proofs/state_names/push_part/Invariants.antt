@@ -1,6 +1,6 @@
 use Rattle.std.proofs.Common.{◌≡◌, ◌++◌, map, take}
 use Rattle.std.specs.List.{flat_map}
-use Rattle.sdl_tree.specs.Views.{clause_of}
+use Rattle.sdl_ast.specs.Views.{clause_of}
 use Rattle.sdl_tables.specs.Rows.{clause_names}
 use Rattle.sdl_tables.proofs.state_names.push_part.Given as goal
 

@@ -1,5 +1,5 @@
 use Rattle.std.proofs.Common.{◌≡◌, ◌++◌, map, take}
-use Rattle.sdl_tree.specs.Views.{stimulus_of}
+use Rattle.sdl_ast.specs.Views.{stimulus_of}
 use Rattle.sdl_tables.proofs.state_names.push_stimuli.Given as goal
 
 abbrev pub invariant-loop-stimulus : goal.invariant-loop-stimulus

@@ -3,9 +3,9 @@ use Rattle.std.specs.Prelude.{slice_get}
 use Rattle.std.specs.List.{flat_map}
 use Rattle.std.specs.Option.{option_map}
 use Rattle.std.proofs.lemmas.Option.{slice_get_read}
-use Rattle.sdl_tree.specs.Views.{state_of}
-use Rattle.sdl_tree.specs.declared.tree.StatePart.{StatePart}
-use Rattle.sdl_tree.specs.declared.expression.Identifier.{Identifier}
+use Rattle.sdl_ast.specs.Views.{state_of}
+use Rattle.sdl_ast.specs.declared.tree.StatePart.{StatePart}
+use Rattle.sdl_ast.specs.declared.expression.Identifier.{Identifier}
 use Rattle.sdl_tables.specs.Names.{given_to, part_triggers}
 use Rattle.sdl_tables.specs.Rows.{row_at}
 use Rattle.sdl_tables.specs.Triggers.{taken_in, AreTaken}

@@ -1,5 +1,5 @@
 use Rattle.std.proofs.Common.{◌≡◌, ℕ, [], List, vec_len}
-use Rattle.sdl_tree.specs.declared.expression.Identifier.{Identifier}
+use Rattle.sdl_ast.specs.declared.expression.Identifier.{Identifier}
 use Rattle.sdl_tables.specs.Rows.{row_at}
 use Rattle.sdl_tables.specs.Triggers.{taken_in}
 use Rattle.sdl_tables.proofs.triggers.empty_rows.Given as goal

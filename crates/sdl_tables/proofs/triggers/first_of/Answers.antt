@@ -1,5 +1,5 @@
 use Rattle.std.proofs.Common.{map, arith, sym, ap, ◌∙◌, subst}
-use Rattle.sdl_tree.specs.declared.expression.Identifier.{Identifier}
+use Rattle.sdl_ast.specs.declared.expression.Identifier.{Identifier}
 use Rattle.sdl_tables.specs.Scopes.{Marks}
 use Rattle.sdl_tables.specs.declared.triggers.Trigger.{Trigger}
 use Rattle.sdl_tables.proofs.States.{map-map}

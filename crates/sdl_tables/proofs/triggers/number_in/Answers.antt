@@ -1,5 +1,5 @@
 use Rattle.std.proofs.Common.{◌≡◌, ◌++◌, ◌∷◌, [], List, Some, None, sym, ap, ◌∙◌}
-use Rattle.sdl_tree.specs.declared.expression.Identifier.{Identifier}
+use Rattle.sdl_ast.specs.declared.expression.Identifier.{Identifier}
 use Rattle.sdl_tables.specs.Names.{number_of}
 use Rattle.sdl_tables.proofs.Tables.{add_name-new}
 use Rattle.sdl_tables.proofs.Numbers.{number_new, is_absent}

@@ -2,7 +2,7 @@ use Rattle.std.proofs.Common.{◌≡◌, ◌++◌, ◌∷◌, [], map, take, ◌
 use Rattle.std.specs.Global.{Vec}
 use Rattle.std.specs.List.{AllByRecursion}
 use Rattle.std.proofs.lemmas.List.{map-append}
-use Rattle.sdl_tree.specs.Views.{state_of}
+use Rattle.sdl_ast.specs.Views.{state_of}
 use Rattle.sdl_tables.specs.Names.{part_triggers}
 use Rattle.sdl_tables.specs.Triggers.{trigger_ids, IsNumbered, AreNumbered}
 use Rattle.sdl_tables.specs.declared.triggers.Trigger.{Trigger}

@@ -1,5 +1,5 @@
 use Rattle.std.proofs.Common.{◌≡◌, map, take}
-use Rattle.sdl_tree.specs.Views.{state_of}
+use Rattle.sdl_ast.specs.Views.{state_of}
 use Rattle.sdl_tables.specs.Names.{part_triggers}
 use Rattle.sdl_tables.specs.Triggers.{trigger_ids, AreNumbered}
 use Rattle.sdl_tables.proofs.triggers.number_parts.Given as goal

@@ -1,6 +1,6 @@
 use Rattle.std.proofs.Common.{◌≡◌, ℕ, ◌<◌, ◌++◌, List, vec_len, take}
-use Rattle.sdl_tree.specs.Views.{state_of}
-use Rattle.sdl_tree.specs.declared.expression.Identifier.{Identifier}
+use Rattle.sdl_ast.specs.Views.{state_of}
+use Rattle.sdl_ast.specs.declared.expression.Identifier.{Identifier}
 use Rattle.sdl_tables.specs.Names.{given_to}
 use Rattle.sdl_tables.specs.Rows.{row_at}
 use Rattle.sdl_tables.specs.Triggers.{taken_in}

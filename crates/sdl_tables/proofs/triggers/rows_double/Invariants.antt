@@ -1,6 +1,6 @@
 use Rattle.std.proofs.Common.{◌≡◌, ◌+◌, ◌++◌, [], ℕ, List, take, map, length, vec_len}
 use Rattle.std.specs.List.{flat_map}
-use Rattle.sdl_tree.specs.declared.expression.Identifier.{Identifier}
+use Rattle.sdl_ast.specs.declared.expression.Identifier.{Identifier}
 use Rattle.sdl_tables.specs.Scopes.{Marks, repeats}
 use Rattle.sdl_tables.specs.Triggers.{taken_by, taken_in, AreNumbered, AreBelow}
 use Rattle.sdl_tables.proofs.triggers.rows_double.Given as goal

@@ -1,6 +1,6 @@
 use Rattle.std.proofs.Common.{◌≡◌, List, ℕ, Option, Some, sym, subst}
 use Rattle.std.specs.Prelude.{IfSome}
-use Rattle.sdl_tree.specs.declared.expression.Identifier.{Identifier}
+use Rattle.sdl_ast.specs.declared.expression.Identifier.{Identifier}
 use Rattle.sdl_tables.specs.Scopes.{Marks}
 use Rattle.sdl_tables.specs.Triggers.{taken_by, Covers}
 use Rattle.sdl_tables.proofs.Numbers.{repeats_covered, stamped_covered}

@@ -1,6 +1,6 @@
 use Rattle.std.proofs.Common.{◌++◌, List, map, arith, sym, ap, ◌∙◌, subst}
 use Rattle.std.proofs.lemmas.List.{append-nil}
-use Rattle.sdl_tree.specs.declared.expression.Identifier.{Identifier}
+use Rattle.sdl_ast.specs.declared.expression.Identifier.{Identifier}
 use Rattle.sdl_tables.specs.Scopes.{Marks, repeats}
 use Rattle.sdl_tables.specs.Triggers.{Stamped}
 use Rattle.sdl_tables.specs.declared.triggers.Trigger.{Trigger}

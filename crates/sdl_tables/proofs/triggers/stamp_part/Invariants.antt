@@ -1,6 +1,6 @@
 use Rattle.std.proofs.Common.{◌≡◌, ℕ, ◌<◌, ◌++◌, List, take, map, vec_len}
 use Rattle.std.specs.List.{AllByRecursion}
-use Rattle.sdl_tree.specs.declared.expression.Identifier.{Identifier}
+use Rattle.sdl_ast.specs.declared.expression.Identifier.{Identifier}
 use Rattle.sdl_tables.specs.Scopes.{Marks, repeats}
 use Rattle.sdl_tables.specs.Triggers.{IsNumbered, Stamped, AreBelow}
 use Rattle.sdl_tables.proofs.triggers.stamp_part.Given as goal

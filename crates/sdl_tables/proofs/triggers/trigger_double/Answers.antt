@@ -4,10 +4,10 @@ use Rattle.std.specs.Global.{Vec}
 use Rattle.std.specs.List.{flat_map}
 use Rattle.std.specs.Option.{option_map, option_map_or}
 use Rattle.std.proofs.lemmas.Option.{none-some}
-use Rattle.sdl_tree.specs.Plain.{PlainState, PlainProcess}
-use Rattle.sdl_tree.specs.Views.{state_of, process_of}
-use Rattle.sdl_tree.specs.declared.tree.StatePart.{StatePart}
-use Rattle.sdl_tree.specs.declared.expression.Identifier.{Identifier}
+use Rattle.sdl_ast.specs.Plain.{PlainState, PlainProcess}
+use Rattle.sdl_ast.specs.Views.{state_of, process_of}
+use Rattle.sdl_ast.specs.declared.tree.StatePart.{StatePart}
+use Rattle.sdl_ast.specs.declared.expression.Identifier.{Identifier}
 use Rattle.sdl_tables.specs.Names.{states_of, given_to, part_triggers, triggers_by_state}
 use Rattle.sdl_tables.specs.Rows.{row_at}
 use Rattle.sdl_tables.specs.Scopes.{Marks, repeats}

@@ -2,7 +2,7 @@ use Rattle.std.proofs.Common.{◌≡◌, ◌∷◌, [], ◌++◌, length, map, s
 use Rattle.std.specs.List.{filter_map}
 use Rattle.std.specs.Option.{option_map, option_to_list}
 use Rattle.std.specs.Vec.Iter.{into_iter_items}
-use Rattle.sdl_tree.specs.Views.{assignment_of}
+use Rattle.sdl_ast.specs.Views.{assignment_of}
 use Rattle.sdl_tree.proofs.KeptLemmas.{kept_more, nothing_left}
 use Rattle.sdl_tree.proofs.actions.kept.Goals as goal
 

@@ -2,7 +2,7 @@ use Rattle.std.proofs.Common.{◌≡◌, ◌++◌, map, length}
 use Rattle.std.specs.List.{filter_map}
 use Rattle.std.specs.Option.{option_map}
 use Rattle.std.specs.Vec.Iter.{into_iter_items, into_iter_len}
-use Rattle.sdl_tree.specs.Views.{assignment_of}
+use Rattle.sdl_ast.specs.Views.{assignment_of}
 use Rattle.sdl_tree.proofs.actions.kept.Given as goal
 
 abbrev pub invariant-rows : goal.invariant-rows

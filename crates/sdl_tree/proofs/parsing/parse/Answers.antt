@@ -2,10 +2,10 @@ use Rattle.sdl_tree.proofs.ParseLemmas.{found_reads, answers_exactly, refuses_ri
 use Rattle.std.specs.Prelude.{Result, Ok, Err, IfOk, IfErr, List}
 use Rattle.sdl_lex.specs.declared.lexemes.Token.{Token}
 use Rattle.sdl_tree.specs.declared.fault.ParseFault.{ParseFault}
-use Rattle.sdl_tree.specs.declared.tree.Block.{Block}
-use Rattle.sdl_tree.specs.Heights.{Refuses}
+use Rattle.sdl_ast.specs.declared.tree.Block.{Block}
+use Rattle.sdl_tree.specs.Refusals.{Refuses}
 use Rattle.sdl_tree.specs.Syntax.{Reads}
-use Rattle.sdl_tree.specs.Views.{block_of}
+use Rattle.sdl_ast.specs.Views.{block_of}
 use Rattle.sdl_tree.specs.Settled.{Settled}
 use Rattle.sdl_tree.proofs.parsing.parse.Goals as goal
 

@@ -2,8 +2,8 @@ use Rattle.std.proofs.Common.{◌≡◌, ◌∷◌, [], ◌++◌, length, map, s
 use Rattle.std.specs.List.{filter_map}
 use Rattle.std.specs.Option.{option_to_list}
 use Rattle.std.specs.Vec.Iter.{into_iter_items}
-use Rattle.sdl_tree.specs.Plain.{state_in, connection_in}
-use Rattle.sdl_tree.specs.Views.{section_of}
+use Rattle.sdl_ast.specs.Plain.{state_in, connection_in}
+use Rattle.sdl_tree.specs.BodyViews.{section_of}
 use Rattle.sdl_tree.proofs.KeptLemmas.{kept_by, nothing_left}
 use Rattle.sdl_tree.proofs.sections.parted.Goals as goal
 

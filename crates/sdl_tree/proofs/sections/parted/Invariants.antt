@@ -1,8 +1,9 @@
 use Rattle.std.proofs.Common.{◌≡◌, ◌++◌, map, length}
 use Rattle.std.specs.List.{filter_map}
 use Rattle.std.specs.Vec.Iter.{into_iter_items, into_iter_len}
-use Rattle.sdl_tree.specs.Plain.{state_in, connection_in}
-use Rattle.sdl_tree.specs.Views.{state_of, connection_of, section_of}
+use Rattle.sdl_ast.specs.Plain.{state_in, connection_in}
+use Rattle.sdl_ast.specs.Views.{state_of, connection_of}
+use Rattle.sdl_tree.specs.BodyViews.{section_of}
 use Rattle.sdl_tree.proofs.sections.parted.Given as goal
 
 abbrev pub invariant-rows : goal.invariant-rows

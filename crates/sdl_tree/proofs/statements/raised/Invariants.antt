@@ -1,6 +1,6 @@
 use Rattle.std.proofs.Common.{◌≡◌}
-use Rattle.sdl_tree.specs.Machine.{raised_by}
-use Rattle.sdl_tree.specs.Views.{tree_of}
+use Rattle.sdl_expressions.specs.Machine.{raised_by}
+use Rattle.sdl_ast.specs.Views.{tree_of}
 use Rattle.sdl_tree.proofs.statements.raised.Given as goal
 
 abbrev pub invariant-levels : goal.invariant-levels

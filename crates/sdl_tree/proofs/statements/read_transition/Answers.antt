@@ -1,4 +1,4 @@
-use Rattle.sdl_tree.specs.Machine.{low_trees}
+use Rattle.sdl_expressions.specs.Machine.{low_trees}
 use Rattle.sdl_tree.specs.BodyViews.{reached_view}
 use Rattle.sdl_tree.proofs.StepTurns.{step_goes_on, step_smaller, step_closes, step_stops}
 use Rattle.sdl_tree.proofs.statements.read_transition.Goals as goal

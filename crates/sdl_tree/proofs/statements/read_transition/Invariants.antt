@@ -1,6 +1,6 @@
 use Rattle.std.proofs.Common.{◌≡◌, length}
 use Rattle.sdl_tree.specs.BodyViews.{reached_view}
-use Rattle.sdl_tree.specs.Machine.{low_trees}
+use Rattle.sdl_expressions.specs.Machine.{low_trees}
 use Rattle.sdl_tree.specs.Productions.{steps_from, text_at}
 use Rattle.sdl_tree.proofs.statements.read_transition.Given as goal
 

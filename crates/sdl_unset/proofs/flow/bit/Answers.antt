@@ -1,7 +1,7 @@
 use Rattle.std.proofs.Common.{◌≡◌, ◌∙◌, ap, sym, List, [], ◌∷◌, Some, None}
 use Rattle.std.specs.List.{flat_map}
-use Rattle.sdl_tree.specs.declared.expression.Identifier.{Identifier}
-use Rattle.sdl_tree.specs.Views.{process_of}
+use Rattle.sdl_ast.specs.declared.expression.Identifier.{Identifier}
+use Rattle.sdl_ast.specs.Views.{process_of}
 use Rattle.sdl_tables.specs.Names.{variable_names, timers_of, connector_names, number_of, triggers_by_state}
 use Rattle.sdl_tables.specs.Scopes.{repeats}
 use Rattle.sdl_sound.proofs.Repeats.{append-nil_left}

@@ -1,6 +1,6 @@
 use Rattle.std.proofs.Common.{map, take}
 use Rattle.std.specs.List.{flat_map}
-use Rattle.sdl_tree.specs.Views.{process_of}
+use Rattle.sdl_ast.specs.Views.{process_of}
 use Rattle.sdl_unset.specs.Flows.{Does}
 use Rattle.sdl_sound.specs.Paths.{initial_sets}
 use Rattle.sdl_tables.specs.Rows.{variable_of}

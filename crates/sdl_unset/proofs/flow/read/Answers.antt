@@ -1,4 +1,4 @@
-use Rattle.sdl_tree.specs.Views.{process_of}
+use Rattle.sdl_ast.specs.Views.{process_of}
 use Rattle.sdl_unset.proofs.Bits.{does_read}
 use Rattle.sdl_unset.proofs.flow.read.Goals as goal
 

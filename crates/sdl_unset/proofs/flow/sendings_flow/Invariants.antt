@@ -1,6 +1,6 @@
 use Rattle.std.proofs.Common.{map, take}
 use Rattle.std.specs.List.{flat_map}
-use Rattle.sdl_tree.specs.Views.{process_of, sending_of}
+use Rattle.sdl_ast.specs.Views.{process_of, sending_of}
 use Rattle.sdl_unset.specs.Flows.{Does}
 use Rattle.sdl_sound.specs.Paths.{sending_events}
 use Rattle.sdl_unset.proofs.flow.sendings_flow.Given as goal

@@ -1,5 +1,5 @@
 use Rattle.std.proofs.Common.{rules}
-use Rattle.sdl_tree.specs.Views.{process_of}
+use Rattle.sdl_ast.specs.Views.{process_of}
 use Rattle.sdl_unset.proofs.Bits.{does_set}
 use Rattle.sdl_unset.proofs.flow.set.Goals as goal
 

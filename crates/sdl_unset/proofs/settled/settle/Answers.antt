@@ -1,6 +1,6 @@
 use Rattle.std.proofs.Common.{◌≡◌, ◌≤◌, ◌+◌, ◌++◌, ◌∷◌, [], ℕ, List, Ok, Err, Vec, Global, length, take, sym, subst}
 use Rattle.std.proofs.lemmas.List.Elements.{All-push}
-use Rattle.sdl_tree.specs.Views.{process_of, block_of}
+use Rattle.sdl_ast.specs.Views.{process_of, block_of}
 use Rattle.sdl_tables.specs.Names.{variables_of, processes_of}
 use Rattle.sdl_sound.specs.Names.{process_unknown}
 use Rattle.sdl_sound.specs.Actions.{in_statements}

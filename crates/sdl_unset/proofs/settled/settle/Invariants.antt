@@ -1,6 +1,6 @@
 use Rattle.std.proofs.Common.{◌≡◌, None, take}
 use Rattle.std.specs.Prelude.{IfSome, All}
-use Rattle.sdl_tree.specs.Views.{block_of}
+use Rattle.sdl_ast.specs.Views.{block_of}
 use Rattle.sdl_sound.specs.Paths.{NeverReadsUnset}
 use Rattle.sdl_unset.specs.Surveys.{AllSettled}
 use Rattle.sdl_unset.proofs.Surveying.{plain, IsUnsetAmong, AreShortest}

@@ -1,8 +1,8 @@
 use Rattle.std.proofs.Common.{◌≡◌, ◌<◌, ℕ, List, Option, Some, length, arith, sym, ap, ◌∙◌, subst}
 use Rattle.std.specs.Prelude.{IfNone, IfSome, slice_get}
 use Rattle.unset_paths.specs.declared.Fate.{Fate}
-use Rattle.sdl_tree.specs.Views.{process_of, block_of}
-use Rattle.sdl_tree.specs.declared.expression.Identifier.{Identifier}
+use Rattle.sdl_ast.specs.Views.{process_of, block_of}
+use Rattle.sdl_ast.specs.declared.expression.Identifier.{Identifier}
 use Rattle.sdl_tables.specs.Names.{variable_names, states_of}
 use Rattle.sdl_unset.specs.Fates.{AreFates, AreSet, IsUnsetAt, fate_path, HasFewest}
 use Rattle.sdl_unset.proofs.Surveying.{survey_steps, survey_reads, survey_names, survey_shortest, number_within}

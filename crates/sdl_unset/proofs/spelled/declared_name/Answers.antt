@@ -1,9 +1,9 @@
 use Rattle.std.proofs.Common.{◌≡◌, ℕ, List, Option, None, Some, sym, ap, ◌∙◌}
 use Rattle.std.specs.Option.{option_map, option_map_or}
 use denote.Ref.{Bor}
-use Rattle.sdl_tree.specs.declared.tree.SignalDeclaration.{SignalDeclaration}
-use Rattle.sdl_tree.specs.Plain.{PlainSignal, PlainProcess}
-use Rattle.sdl_tree.specs.Views.{signal_of, block_of, process_of}
+use Rattle.sdl_ast.specs.declared.tree.SignalDeclaration.{SignalDeclaration}
+use Rattle.sdl_ast.specs.Plain.{PlainSignal, PlainProcess}
+use Rattle.sdl_ast.specs.Views.{signal_of, block_of, process_of}
 use Rattle.sdl_tables.specs.Names.{same_name, signal_named, signals_of}
 use Rattle.sdl_unset.specs.Fates.{timer_named}
 use Rattle.sdl_unset.proofs.Searches.{same_back, find_holds}

@@ -2,9 +2,9 @@ use Rattle.std.proofs.Common.{◌≡◌, ◌<◌, ℕ, get_or, Some, List, map, 
 use Rattle.std.specs.Prelude.{slice_get}
 use Rattle.std.specs.Global.{Vec}
 use Rattle.std.proofs.lemmas.Option.{slice_get_read}
-use Rattle.sdl_tree.specs.Views.{process_of, block_of}
-use Rattle.sdl_tree.specs.Plain.{PlainProcess}
-use Rattle.sdl_tree.specs.declared.expression.Identifier.{Identifier}
+use Rattle.sdl_ast.specs.Views.{process_of, block_of}
+use Rattle.sdl_ast.specs.Plain.{PlainProcess}
+use Rattle.sdl_ast.specs.declared.expression.Identifier.{Identifier}
 use Rattle.sdl_tables.specs.Names.{states_of, inputs_of, inputs_by_state}
 use Rattle.sdl_tables.specs.Rows.{row_input, rows_inputs}
 use Rattle.sdl_tables.specs.declared.process_table.InputRow.{InputRow}

@@ -3,7 +3,7 @@ use Rattle.std.specs.List.{AllZip}
 use Rattle.std.proofs.lemmas.List.{take_more}
 use Rattle.unset_paths.specs.declared.Step as number
 use Rattle.unset_paths.specs.declared.Step.TheVariants.{Start as First}
-use Rattle.sdl_tree.specs.Views.{process_of, block_of}
+use Rattle.sdl_ast.specs.Views.{process_of, block_of}
 use Rattle.sdl_unset.specs.Fates.{IsNamed, IsSpelled}
 use Rattle.sdl_sound.specs.declared.fault.Step.{Step}
 use Rattle.sdl_unset.proofs.Searches.{all_zip_push}

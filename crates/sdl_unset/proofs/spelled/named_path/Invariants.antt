@@ -1,6 +1,6 @@
 use Rattle.std.proofs.Common.{take}
 use Rattle.std.specs.List.{AllZip}
-use Rattle.sdl_tree.specs.Views.{process_of, block_of}
+use Rattle.sdl_ast.specs.Views.{process_of, block_of}
 use Rattle.sdl_unset.specs.Fates.{IsNamed, IsSpelled}
 use Rattle.sdl_unset.proofs.spelled.named_path.Given as goal
 

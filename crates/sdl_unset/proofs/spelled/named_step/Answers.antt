@@ -1,5 +1,5 @@
 use Rattle.std.proofs.Common.{arith, subst}
-use Rattle.sdl_tree.specs.Views.{process_of}
+use Rattle.sdl_ast.specs.Views.{process_of}
 use Rattle.sdl_unset.specs.Fates.{IsStep}
 use Rattle.sdl_unset.proofs.Searches.{states_count}
 use Rattle.sdl_unset.proofs.spelled.named_step.Goals as goal

@@ -1,7 +1,7 @@
 use Rattle.std.proofs.Common.{List, map, subst, ap, ◌∙◌}
 use Rattle.std.specs.List.{AllZip, flat_map}
-use Rattle.sdl_tree.specs.declared.tree.Process as the_process
-use Rattle.sdl_tree.specs.Views.{text_of, process_of}
+use Rattle.sdl_ast.specs.declared.tree.Process as the_process
+use Rattle.sdl_ast.specs.Views.{text_of, process_of}
 use Rattle.sdl_tables.specs.Names.{Variable, variables_of, Input}
 use Rattle.sdl_tables.specs.Rows.{rows_inputs}
 use Rattle.sdl_sound.specs.Paths.{initial_sets}

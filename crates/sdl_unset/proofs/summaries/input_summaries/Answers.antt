@@ -1,7 +1,7 @@
 use Rattle.std.proofs.Common.{sym, subst, map, take, List, ◌+◌}
 use Rattle.std.specs.List.{AllZip}
 use Rattle.unset_paths.specs.declared.Summary.{Summary}
-use Rattle.sdl_tree.specs.Views.{process_of}
+use Rattle.sdl_ast.specs.Views.{process_of}
 use Rattle.sdl_tables.specs.Names.{Input}
 use Rattle.sdl_sound.specs.Paths.{input_transition}
 use Rattle.sdl_unset.specs.Flows.{IsSummaryBy}

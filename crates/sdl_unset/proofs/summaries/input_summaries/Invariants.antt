@@ -1,5 +1,5 @@
 use Rattle.std.proofs.Common.{map, take}
-use Rattle.sdl_tree.specs.Views.{process_of}
+use Rattle.sdl_ast.specs.Views.{process_of}
 use Rattle.sdl_unset.specs.Flows.{AreSummariesBy}
 use Rattle.sdl_tables.specs.Rows.{row_input}
 use Rattle.sdl_unset.proofs.summaries.input_summaries.Given as goal

@@ -2,7 +2,7 @@ use Rattle.std.proofs.Common.{sym, subst, map, take, List, ◌+◌}
 use Rattle.std.specs.List.{AllZip}
 use Rattle.std.specs.Global.{Vec}
 use Rattle.unset_paths.specs.declared.Summary.{Summary}
-use Rattle.sdl_tree.specs.Views.{process_of}
+use Rattle.sdl_ast.specs.Views.{process_of}
 use Rattle.sdl_unset.specs.Flows.{AreSummariesBy}
 use Rattle.sdl_tables.specs.Rows.{row_input, rows_inputs}
 use Rattle.sdl_tables.specs.declared.process_table.InputRow.{InputRow}

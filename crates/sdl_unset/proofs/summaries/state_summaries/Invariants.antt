@@ -1,6 +1,6 @@
 use Rattle.std.proofs.Common.{map, take}
 use Rattle.std.specs.List.{AllZip}
-use Rattle.sdl_tree.specs.Views.{process_of}
+use Rattle.sdl_ast.specs.Views.{process_of}
 use Rattle.sdl_unset.specs.Flows.{AreSummariesBy}
 use Rattle.sdl_tables.specs.Rows.{rows_inputs}
 use Rattle.sdl_unset.proofs.summaries.state_summaries.Given as goal

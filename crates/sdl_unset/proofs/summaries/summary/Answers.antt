@@ -1,5 +1,5 @@
 use Rattle.std.proofs.Common.{◌≡◌, ◌∙◌, ℕ, sym, ap, length, List, subst}
-use Rattle.sdl_tree.specs.Views.{text_of, process_of}
+use Rattle.sdl_ast.specs.Views.{text_of, process_of}
 use Rattle.sdl_tables.specs.Names.{states_of}
 use Rattle.sdl_sound.specs.Paths.{Transition}
 use Rattle.sdl_sound.specs.Chances.{Chances, leaving, event_chances, behind, joined_chances}

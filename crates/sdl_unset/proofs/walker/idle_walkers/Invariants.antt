@@ -1,6 +1,6 @@
 use Rattle.std.proofs.Common.{◌≡◌, length}
 use Rattle.std.specs.Prelude.{All}
-use Rattle.sdl_tree.specs.Plain.{PlainProcess}
+use Rattle.sdl_ast.specs.Plain.{PlainProcess}
 use Rattle.sdl_tables.specs.Names.{states_of}
 use Rattle.sdl_sound.specs.Chances.{no_chances}
 use Rattle.sdl_unset.specs.Flows.{Stands}

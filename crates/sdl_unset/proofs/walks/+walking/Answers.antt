@@ -1,9 +1,9 @@
 use Rattle.std.proofs.Common.{sym, arith, subst}
 use lib.Bits.{bit_or}
-use Rattle.sdl_tree.specs.declared.tree.Decision.{out-Decision}
-use Rattle.sdl_tree.specs.declared.tree.Statement.{Statement}
-use Rattle.sdl_tree.specs.Plain.{falls}
-use Rattle.sdl_tree.specs.Views.{tree_of, statement_of, choice_of, process_of}
+use Rattle.sdl_ast.specs.declared.tree.Decision.{out-Decision}
+use Rattle.sdl_ast.specs.declared.tree.Statement.{Statement}
+use Rattle.sdl_ast.specs.Plain.{falls}
+use Rattle.sdl_ast.specs.Views.{tree_of, statement_of, choice_of, process_of}
 use Rattle.sdl_sound.specs.Paths.{tree_events}
 use Rattle.sdl_unset.specs.Flows.{Walked, text_doings, choice_doings}
 use Rattle.sdl_unset.proofs.Walkers.{walked_none, fork_start}

@@ -1,6 +1,6 @@
 use Rattle.std.proofs.Common.{ℕ, List, take}
-use Rattle.sdl_tree.specs.Plain.{falls, nothing_else}
-use Rattle.sdl_tree.specs.Views.{process_of, statements_before, answers_before}
+use Rattle.sdl_ast.specs.Plain.{falls, nothing_else}
+use Rattle.sdl_ast.specs.Views.{process_of, statements_before, answers_before}
 use Rattle.sdl_sound.specs.Chances.{Chances}
 use Rattle.sdl_unset.specs.Flows.{Walked, Forked, AreTold, text_doings, choice_doings}
 use Rattle.sdl_unset.proofs.walks.+walking.Given as goal

@@ -1,5 +1,5 @@
 use Rattle.std.proofs.Common.{◌≡◌, ◌∙◌, sym, ap, length}
-use Rattle.sdl_tree.specs.Views.{text_of, process_of}
+use Rattle.sdl_ast.specs.Views.{text_of, process_of}
 use Rattle.sdl_tables.specs.Names.{states_of}
 use Rattle.sdl_unset.specs.Flows.{text_doings}
 use Rattle.sdl_unset.proofs.Walkers.{walked_last}

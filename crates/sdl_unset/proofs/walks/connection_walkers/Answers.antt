@@ -1,7 +1,7 @@
 use Rattle.std.proofs.Common.{◌≡◌, ◌∙◌, ℕ, List, length, get_or, sym, ap, arith, subst}
 use Rattle.std.proofs.lemmas.List.{length-set, length-map}
 use Rattle.std.proofs.lemmas.Option.{slice_get-get_or}
-use Rattle.sdl_tree.specs.Views.{connection_of, process_of}
+use Rattle.sdl_ast.specs.Views.{connection_of, process_of}
 use Rattle.sdl_tables.specs.Names.{states_of}
 use Rattle.sdl_sound.specs.Chances.{Chances, last_chances}
 use Rattle.sdl_unset.specs.Flows.{Stands, AreTold, text_doings}

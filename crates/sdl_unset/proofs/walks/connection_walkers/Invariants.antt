@@ -1,5 +1,5 @@
 use Rattle.std.proofs.Common.{◌≡◌, length}
-use Rattle.sdl_tree.specs.Views.{process_of}
+use Rattle.sdl_ast.specs.Views.{process_of}
 use Rattle.sdl_unset.specs.Flows.{AreTold}
 use Rattle.sdl_unset.proofs.Joiners.{told_upto}
 use Rattle.sdl_unset.proofs.walks.connection_walkers.Given as goal

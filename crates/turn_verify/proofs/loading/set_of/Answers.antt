@@ -1,6 +1,6 @@
 use Rattle.std.proofs.Common.{false, subst}
 use Rattle.std.specs.Prelude.{IsTrue, IfOk}
-use Rattle.sdl_tree.specs.Views.{block_of}
+use Rattle.sdl_ast.specs.Views.{block_of}
 use Rattle.sdl_compile.specs.Blocks.{MatchesBlock}
 use Rattle.turn_verify.proofs.Loads.{no_refusal, gives_unless, refused_unless}
 use Rattle.turn_verify.proofs.loading.set_of.Goals as goal

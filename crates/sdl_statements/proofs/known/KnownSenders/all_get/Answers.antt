@@ -1,6 +1,6 @@
 use Rattle.std.proofs.Common.{◌∙◌, sym, ap, List}
 use Rattle.std.specs.List.{list_all}
-use Rattle.sdl_tree.specs.Views.{block_of, process_of}
+use Rattle.sdl_ast.specs.Views.{block_of, process_of}
 use Rattle.sdl_statements.specs.Sources.{AreAlike, AreSenders, gets_back}
 use Rattle.sdl_statements.specs.declared.sources.Sender.{Sender}
 use Rattle.sdl_statements.proofs.known.KnownSenders.all_get.Goals as goal

@@ -1,6 +1,6 @@
 use Rattle.std.proofs.Common.{◌≡◌, ◌++◌, ◌∷◌, [], if◌then◌else◌, List, Bool, sym, ap, ◌∙◌}
-use Rattle.sdl_tree.specs.Views.{block_of, process_of}
-use Rattle.sdl_tree.specs.declared.expression.Identifier.{Identifier}
+use Rattle.sdl_ast.specs.Views.{block_of, process_of}
+use Rattle.sdl_ast.specs.declared.expression.Identifier.{Identifier}
 use Rattle.sdl_statements.proofs.SenderRows.{tells_more}
 use Rattle.sdl_statements.proofs.sender_table.SenderTable.learn.Goals as goal
 

@@ -1,4 +1,4 @@
-use Rattle.sdl_tree.specs.Views.{block_of, process_of}
+use Rattle.sdl_ast.specs.Views.{block_of, process_of}
 use Rattle.sdl_statements.specs.SenderTables.{Tells}
 use Rattle.sdl_statements.proofs.sender_table.SenderTable.learn_stimuli.Given as goal
 

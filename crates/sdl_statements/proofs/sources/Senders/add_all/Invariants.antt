@@ -1,7 +1,7 @@
 use Rattle.std.proofs.Common.{◌&&◌, Bool, List, ℕ, take}
 use Rattle.std.specs.Prelude.{All}
 use Rattle.std.specs.List.{list_all}
-use Rattle.sdl_tree.specs.Plain.{PlainBlock, PlainProcess}
+use Rattle.sdl_ast.specs.Plain.{PlainBlock, PlainProcess}
 use Rattle.sdl_sound.specs.Receivers.{party_of, carries}
 use Rattle.sdl_statements.specs.SenderTables.{IsNumbered}
 use Rattle.sdl_statements.specs.Sources.{Gathers}

@@ -1,6 +1,6 @@
 use Rattle.std.proofs.Common.{◌≡◌, ◌∙◌, ◌&&◌, Bool, List, ℕ, false, not, ap, sym}
 use Rattle.std.specs.List.{list_all}
-use Rattle.sdl_tree.specs.Views.{block_of, process_of}
+use Rattle.sdl_ast.specs.Views.{block_of, process_of}
 use Rattle.sdl_tables.specs.Names.{is_in, timers_of}
 use Rattle.sdl_sound.specs.Receivers.{party_of, carries, senders, answers}
 use Rattle.sdl_statements.proofs.Gathering.{gather_same}

@@ -1,6 +1,6 @@
 use Rattle.std.proofs.Common.{◌&&◌, List, ℕ, sym, ap, subst}
 use Rattle.std.specs.List.{list_all}
-use Rattle.sdl_tree.specs.Views.{block_of, process_of}
+use Rattle.sdl_ast.specs.Views.{block_of, process_of}
 use Rattle.sdl_sound.specs.Receivers.{party_of, carries, senders}
 use Rattle.sdl_statements.specs.SenderTables.{AreSendersOf}
 use Rattle.sdl_statements.proofs.Gathering.{gather_same, row_all, row_numbered}

@@ -1,6 +1,6 @@
 use Rattle.std.proofs.Common.{◌&&◌, ◌∙◌, List, ℕ, map, sym, ap}
-use Rattle.sdl_tree.specs.declared.tree.Stimulus.{Stimulus}
-use Rattle.sdl_tree.specs.Views.{block_of, process_of, stimulus_of}
+use Rattle.sdl_ast.specs.declared.tree.Stimulus.{Stimulus}
+use Rattle.sdl_ast.specs.Views.{block_of, process_of, stimulus_of}
 use Rattle.sdl_sound.specs.Actions.{takes}
 use Rattle.sdl_sound.specs.Receivers.{answers_all}
 use Rattle.sdl_statements.specs.Sources.{source_origins}

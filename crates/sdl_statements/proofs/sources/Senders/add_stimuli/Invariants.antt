@@ -1,5 +1,5 @@
 use Rattle.std.proofs.Common.{◌&&◌, Bool, List, ℕ, map, take}
-use Rattle.sdl_tree.specs.Views.{block_of, process_of, stimulus_of}
+use Rattle.sdl_ast.specs.Views.{block_of, process_of, stimulus_of}
 use Rattle.sdl_sound.specs.Actions.{takes}
 use Rattle.sdl_sound.specs.Receivers.{answers_all}
 use Rattle.sdl_statements.specs.Sources.{Gathers}

@@ -2,10 +2,10 @@ use Rattle.std.proofs.Common.{◌≡◌, ◌∙◌, ap, subst, map, List, [], Op
 use Rattle.std.specs.List.{flat_map}
 use Rattle.std.proofs.lemmas.Result.{err_from_is_err_and}
 use denote.Ref.{Bor}
-use Rattle.sdl_tree.specs.declared.tree.Process as the_process
-use Rattle.sdl_tree.specs.Views.{process_of, entity_of, block_of, signal_of, route_of}
+use Rattle.sdl_ast.specs.declared.tree.Process as the_process
+use Rattle.sdl_ast.specs.Views.{process_of, entity_of, block_of, signal_of, route_of}
 use Rattle.sdl_tables.specs.Names.{signals_in, routes_in, processes_in, signals_of, routes_of, processes_of, signal_names, route_names, process_names, names_once, timers_of}
-use Rattle.sdl_tree.specs.Plain.{PlainRoute}
+use Rattle.sdl_ast.specs.Plain.{PlainRoute}
 use Rattle.sdl_tables.specs.RouteIndexes.{mentions_of, Indexes}
 use Rattle.sdl_tables.specs.Scopes.{Marks, repeats, process_scopes, shared, signal_timers, double_names}
 use Rattle.sdl_tables.proofs.States.{map-map}

@@ -1,6 +1,6 @@
 use Rattle.std.proofs.Common.{◌∙◌, ap}
-use Rattle.sdl_tree.specs.declared.tree.Block.{Block}
-use Rattle.sdl_tree.specs.Views.{block_of}
+use Rattle.sdl_ast.specs.declared.tree.Block.{Block}
+use Rattle.sdl_ast.specs.Views.{block_of}
 use Rattle.sdl_tables.specs.Routes.{paths_of, senders, parties_once}
 use Rattle.sdl_tables.proofs.Mentions.{path_sources}
 use Rattle.sdl_tables.proofs.block_table.BlockTable.senders.Goals as goal

@@ -1,5 +1,5 @@
 use Rattle.std.proofs.Common.{arith}
-use Rattle.sdl_tree.specs.Views.{block_of}
+use Rattle.sdl_ast.specs.Views.{block_of}
 use Rattle.sdl_tables.proofs.BlockLemmas.{signal-none, signal-some, signal-past}
 use Rattle.sdl_tables.proofs.block_table.BlockTable.signal.Goals as goal
 

@@ -1,7 +1,7 @@
 use Rattle.std.proofs.Common.{◌≡◌, map, subst}
 use Rattle.std.specs.Prelude.{IfOk}
-use Rattle.sdl_tree.specs.declared.tree.Process.{Process}
-use Rattle.sdl_tree.specs.Views.{process_of}
+use Rattle.sdl_ast.specs.declared.tree.Process.{Process}
+use Rattle.sdl_ast.specs.Views.{process_of}
 use Rattle.sdl_tables.specs.Names.{saves_by_state}
 use Rattle.sdl_tables.specs.Rows.{row_names}
 use Rattle.sdl_tables.proofs.process_table.ProcessTable.saves.Goals as goal

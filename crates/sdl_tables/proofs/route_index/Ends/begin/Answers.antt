@@ -1,5 +1,5 @@
 use Rattle.std.proofs.Common.{◌∙◌, ◌++◌, ◌∷◌, [], List, ap, refl}
-use Rattle.sdl_tree.specs.declared.tree.Party.{Party}
+use Rattle.sdl_ast.specs.declared.tree.Party.{Party}
 use Rattle.indexmap.specs.IndexMap.{get}
 use Rattle.sdl_tables.specs.RouteIndexes.{same_end}
 use Rattle.sdl_tables.proofs.RouteKeys.{first_held}

@@ -1,6 +1,6 @@
 use Rattle.std.proofs.Common.{◌++◌, List, map, take}
 use Rattle.std.specs.List.{flat_map}
-use Rattle.sdl_tree.specs.Views.{path_of}
+use Rattle.sdl_ast.specs.Views.{path_of}
 use Rattle.sdl_tables.specs.RouteIndexes.{Mention, mentions_of, Indexes}
 use Rattle.sdl_tables.proofs.route_index.RouteIndex.add_paths.Given as goal
 

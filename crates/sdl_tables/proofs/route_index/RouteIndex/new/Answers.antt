@@ -2,9 +2,9 @@ use Rattle.std.proofs.Common.{◌≡◌, ◌∙◌, ◌+◌, ◌++◌, ◌∷◌
 use Rattle.std.specs.List.{flat_map}
 use Rattle.std.proofs.lemmas.List.{take_more}
 use denote.Ref.{Bor}
-use Rattle.sdl_tree.specs.declared.tree.Route.{Route}
-use Rattle.sdl_tree.specs.declared.tree.Path.{Path}
-use Rattle.sdl_tree.specs.Views.{path_of, route_of}
+use Rattle.sdl_ast.specs.declared.tree.Route.{Route}
+use Rattle.sdl_ast.specs.declared.tree.Path.{Path}
+use Rattle.sdl_ast.specs.Views.{path_of, route_of}
 use Rattle.sdl_tables.specs.RouteIndexes.{mentions_of, Indexes}
 use Rattle.sdl_tables.proofs.Mentions.{routes_more}
 use Rattle.sdl_tables.proofs.route_index.RouteIndex.new.Goals as goal

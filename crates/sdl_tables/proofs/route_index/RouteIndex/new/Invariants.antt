@@ -1,6 +1,6 @@
 use Rattle.std.proofs.Common.{map, take}
 use Rattle.std.specs.List.{flat_map}
-use Rattle.sdl_tree.specs.Views.{route_of}
+use Rattle.sdl_ast.specs.Views.{route_of}
 use Rattle.sdl_tables.specs.RouteIndexes.{mentions_of, Indexes}
 use Rattle.sdl_tables.proofs.route_index.RouteIndex.new.Given as goal
 

@@ -1,0 +1,5 @@
+pub mod Limits
+pub mod Plain
+pub mod Views
+pub mod Places
+pub mod Heights

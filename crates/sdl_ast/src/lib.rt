@@ -1,0 +1,18 @@
+//! The syntax tree of a text: its types, what they are as plain records and lists, and how high it is.
+#![tactic(auto)]
+
+mod expression;
+mod height;
+mod tree;
+
+pub use expression::{BinaryOperator, Expression, Identifier, UnaryOperator};
+pub use height::{exceeds_in_decision, first_too_high};
+pub use tree::{
+    Action, Answer, Assignment, Block, Connect, Connection, Constant, Decision, Declaration,
+    Destination, End, Entity, Group, InputPart, Join, Literal, NextState, Output, Party, Path,
+    Process, Range, Relation, ResetTimer, Route, Sending, SetTimer, SignalDeclaration, Sort, Start,
+    StateClause, StatePart, Statement, Stimulus, Task, Transition,
+};
+
+/// The greatest height of a tree.
+pub const MAX_HEIGHT: u32 = 32;

@@ -1,0 +1,5 @@
+pub mod Expressions
+pub mod Machine
+pub mod Parts
+pub mod Stacks
+pub mod Rests

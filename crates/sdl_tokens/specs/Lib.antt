@@ -1,0 +1,5 @@
+pub mod Tokens
+pub mod Grammar
+pub mod Readings
+pub mod Mirrors
+pub mod Rests

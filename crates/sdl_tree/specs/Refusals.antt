@@ -1,0 +1,29 @@
+-- What keeps tokens from having a tree, and what an answer says of a tree that they read as.
+use Rattle.std.specs.Prelude.{◌≡◌, ℕ, ◌+◌, ◌<◌, ◌≤◌, List, Some, length, take, Result, Ok, Err}
+use Rattle.sdl_lex.specs.declared.lexemes.Token.{Token}
+use Rattle.sdl_tree.specs.declared.fault.ParseFault.{ParseFault}
+use Rattle.sdl_tree.specs.declared.fault.ParseFault.TheVariants.{Unexpected, TooDeep, NoMemory}
+use Rattle.sdl_ast.specs.declared.tree.Block.{Block}
+use Rattle.sdl_ast.specs.Limits.{GREATEST_HEIGHT}
+use Rattle.sdl_ast.specs.Plain.{PlainBlock}
+use Rattle.sdl_tree.specs.Syntax.{Reads}
+use Rattle.sdl_ast.specs.Views.{block_of}
+use Rattle.sdl_ast.specs.Heights.{Height, first_too_high}
+
+-- no text that reads agrees with these tokens up to and with the one at this index, where the end
+-- counts as a token: a text that ends there is another text than one that goes on
+abbrev pub NoneAgrees : List Token → ℕ → Type 0
+NoneAgrees tokens at = (others : List Token) (b : PlainBlock) → take (at + 1) others ≡ take (at + 1) tokens → Reads others b → ⊥
+
+-- what a refusal says of the tokens; want of memory says nothing
+abbrev pub Refuses : List Token → ParseFault → Type 0
+Refuses tokens (Unexpected at) = (at ≤ length tokens) × NoneAgrees tokens at
+Refuses tokens (TooDeep at) = (b : PlainBlock) × Reads tokens b × (first_too_high b ≡ Some at)
+Refuses tokens NoMemory = Unit {0}
+
+-- what an answer says of a tree that the tokens read as
+abbrev pub Answers : Result Block ParseFault → PlainBlock → Type 0
+Answers (Ok block) b = (block_of block ≡ b) × (Height b ≤ GREATEST_HEIGHT)
+Answers (Err (Unexpected at)) b = ⊥
+Answers (Err (TooDeep at)) b = (GREATEST_HEIGHT < Height b) × (first_too_high b ≡ Some at)
+Answers (Err NoMemory) b = Unit {0}
