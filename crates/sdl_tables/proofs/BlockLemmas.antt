@@ -3,7 +3,7 @@ use Rattle.std.proofs.Common.{◌≡◌, ℕ, ◌<◌, ◌≤◌, Bool, true, fa
 use Rattle.std.specs.List.{flat_map, position_or_len}
 use Rattle.std.specs.Option.{option_map, option_and_then}
 use Rattle.std.proofs.lemmas.List.{append-nil}
-use Rattle.std.proofs.lemmas.Option.{slice_get_past, slice_get-get_or}
+use Rattle.std.proofs.lemmas.Option.{slice_get_past, slice_get-get_or, slice_get-map}
 use denote.Ref.{Bor}
 use Rattle.sdl_ast.specs.declared.tree.SignalDeclaration.{SignalDeclaration}
 use Rattle.sdl_ast.specs.Views.{signal_of, route_of, process_of}
@@ -46,12 +46,7 @@ Marks-some f xs x both at m there e =
     let empty : flat_map f (xs ++ x ∷ []) ≡ [] = subst (λ (o : Option ℕ). Marks o (flat_map f (xs ++ x ∷ []))) e m in
     not_empty (f x) at there (append-nil_right (flat_map f xs) (f x) (sym (flat_map-push f xs x) ∙ empty))
 
-pub slice_get-map : {A B : Type 0} (f : A → B) (xs : List A) (i : ℕ) → slice_get (map f xs) i ≡ option_map f (slice_get xs i)
-slice_get-map f [] i = refl
-slice_get-map f (x ∷ xs) zero = refl
-slice_get-map f (x ∷ xs) (suc i) = slice_get-map f xs i
-
-find-at : {X : Type 0} (p : X → Bool) (xs : List X) (b : Bool) → nat_lt (position_or_len p xs) (length xs) ≡ b
+pub find-at : {X : Type 0} (p : X → Bool) (xs : List X) (b : Bool) → nat_lt (position_or_len p xs) (length xs) ≡ b
     → find p xs ≡ option_and_then (slice_get xs) (cond b (Some (position_or_len p xs)) None)
 find-at p xs true e = find_at p xs
 find-at p xs false e = find_at p xs ∙ slice_get_past xs (position_or_len p xs) (grind (arith, leb_tells, e))

@@ -6,7 +6,8 @@ use Rattle.std.proofs.lemmas.List.Folds.{list_any-append}
 use Rattle.std.proofs.lemmas.List.Sums.{fold-append}
 use Rattle.std.proofs.lemmas.Grind.{flat_map-append}
 use Rattle.std.proofs.lemmas.Slice.Eq.{bytes_eq-Decides}
-use Rattle.std.proofs.Math.Bool.{or-true, or-false}
+use Rattle.std.proofs.Math.Bool.{or-true, or-false, and-true, and-false, or_assoc}
+use Rattle.std.specs.Cmp.Lexicographic.{nat_list_eq_equiv}
 use Rattle.sdl_lex.specs.Spelling.{folded}
 use Rattle.sdl_ast.specs.declared.expression.Identifier.{Identifier}
 use Rattle.sdl_ast.specs.declared.tree.Party.{Party}
@@ -23,41 +24,18 @@ use Rattle.sdl_tables.proofs.RouteKeys.{side_same, party_side}
 
 -- ---- truth values
 
-both_ways : (a b : Bool) → (a ≡ true → b ≡ true) → (b ≡ true → a ≡ true) → a ≡ b
-both_ways true b there back = sym (there refl)
-both_ways false true there back = back refl
-both_ways false false there back = refl
-
-or_assoc : (a b c : Bool) → ((a || b) || c) ≡ (a || (b || c))
-or_assoc true b c = refl
-or_assoc false b c = refl
-
 swapped : (a b c : Bool) → (a && (b && c)) ≡ (b && (a && c))
 swapped true b c = refl
 swapped false true c = refl
 swapped false false c = refl
 
-and-true : (b : Bool) → (b && true) ≡ b
-and-true true = refl
-and-true false = refl
-
-and-false : (b : Bool) → (b && false) ≡ false
-and-false true = refl
-and-false false = refl
-
 -- ---- sides and parties
 
-same_bytes : (x y : List ℕ) → bytes_eq x y ≡ bytes_eq y x
-same_bytes x y =
-    both_ways (bytes_eq x y) (bytes_eq y x)
-    (λ h. (bytes_eq-Decides y x).1 (sym ((bytes_eq-Decides x y).0 h)))
-    (λ h. (bytes_eq-Decides x y).1 (sym ((bytes_eq-Decides y x).0 h)))
-
-same_sides : (x y : Side) → same_side x y ≡ same_side y x
+pub same_sides : (x y : Side) → same_side x y ≡ same_side y x
 same_sides sides.Environment sides.Environment = refl
 same_sides sides.Environment (sides.Process y) = refl
 same_sides (sides.Process x) sides.Environment = refl
-same_sides (sides.Process x) (sides.Process y) = same_bytes x y
+same_sides (sides.Process x) (sides.Process y) = nat_list_eq_equiv.symm x y
 
 pub side_self : (x : Side) → same_side x x ≡ true
 side_self sides.Environment = refl
@@ -85,13 +63,13 @@ pub passage_mention : (from to p q : Party) (signal s : List ℕ)
 passage_mention from to p q signal s =
     let a = same_sides (side_of from) (side_of p) ∙ sym (party_side p from) in
     let b = same_sides (side_of to) (side_of q) ∙ sym (party_side q to) in
-    let c = same_bytes (folded signal) (folded s) in
+    let c = nat_list_eq_equiv.symm (folded signal) (folded s) in
     λ i. a i && (b i && c i)
 
 pub end_mention : (own p : Party) (signal s : List ℕ) → same_end (end_of own signal) (end_of p s) ≡ (same_party p own && same_name s signal)
 end_mention own p signal s =
     let a = same_sides (side_of own) (side_of p) ∙ sym (party_side p own) in
-    let b = same_bytes (folded signal) (folded s) in
+    let b = nat_list_eq_equiv.symm (folded signal) (folded s) in
     λ i. a i && b i
 
 -- ---- parties once

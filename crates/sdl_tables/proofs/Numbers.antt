@@ -6,8 +6,8 @@ use Rattle.std.proofs.lemmas.Iterator.Adapters.{position_from-zero}
 use Rattle.std.proofs.lemmas.List.Folds.{list_any-append}
 use Rattle.std.proofs.lemmas.List.{get_or-set_same, get_or-set_other, length-set, take_more, map-append, append-nil}
 use Rattle.std.proofs.lemmas.Grind.{flat_map-append}
-use Rattle.std.proofs.lemmas.Option.{none-some, slice_get_past, slice_get_read}
-use Rattle.std.proofs.lemmas.Bool.{eqb-true, eqb-false, eq-eqb}
+use Rattle.std.proofs.lemmas.Option.{none-some, same_Some, slice_get_past, slice_get_read}
+use Rattle.std.proofs.lemmas.Bool.{or_left, eqb-true, eqb-false, eq-eqb}
 use Rattle.std.proofs.lemmas.Slice.Eq.{bytes_eq-Decides}
 use Rattle.std.proofs.Math.Bool.{or-true, or-false}
 use Rattle.sdl_lex.specs.Spelling.{folded}
@@ -15,7 +15,7 @@ use Rattle.sdl_ast.specs.declared.expression.Identifier.{Identifier}
 use Rattle.sdl_ast.specs.Plain.{PlainState}
 use Rattle.sdl_tables.specs.Names.{same_name, is_in, number_of, is_state, given_to}
 use Rattle.sdl_tables.specs.Scopes.{Marks, repeats}
-use Rattle.sdl_tables.proofs.Repeats.{repeats-append}
+use Rattle.sdl_tables.proofs.Repeats.{repeats-append, if-not}
 use Rattle.sdl_tables.specs.Triggers.{trigger_ids, taken_by, IsNumbered, AreNumbered, Keeps, Stamped, AreBelow, Covers}
 use Rattle.sdl_tables.specs.declared.triggers.Trigger.{Trigger}
 use Rattle.std.specs.Global.{Vec}
@@ -50,10 +50,6 @@ pub repeats_more : (before xs : List Identifier) (id : Identifier)
 repeats_more before xs id =
     repeats-append before xs (id ∷ [])
     ∙ ap (λ r. repeats before xs ++ r) (append-nil (if is_in (before ++ xs) id.name then id.at ∷ [] else []))
-
-if-not : (b : Bool) (x y : List ℕ) → (if not b then x else y) ≡ (if b then y else x)
-if-not true x y = refl
-if-not false x y = refl
 
 pub marked_more : (before xs : List Identifier) (id : Identifier) (new : Bool) (double : Option ℕ) → new ≡ not (is_in (before ++ xs) id.name)
     → Marks double (repeats before xs ++ (if new then [] else id.at ∷ [])) → Marks double (repeats before (xs ++ id ∷ []))
@@ -137,11 +133,8 @@ absent_from k (y ∷ ys) x h = absent_by (same_name x y.name) k (from (k + 1) ys
 pub is_absent : (ids : List Identifier) (x : List ℕ) → number_of ids x ≡ None → is_in ids x ≡ false
 is_absent ids x h = absent_from 0 ids x (sym (number_from ids x) ∙ h)
 
-some_same : (m n : ℕ) → Some m ≡ Some n → m ≡ n
-some_same m n h = cc
-
 bound_by : (b : Bool) (k n bound : ℕ) (o : Option ℕ) → k < bound → (o ≡ Some n → (k ≤ n) × (n < bound)) → cond b (Some k) o ≡ Some n → (k ≤ n) × (n < bound)
-bound_by true k n bound o lt more h = let e : k ≡ n = some_same k n h in (omega arith, omega arith)
+bound_by true k n bound o lt more h = let e : k ≡ n = same_Some k n h in (omega arith, omega arith)
 bound_by false k n bound o lt more h = more h
 
 from-bound : (k : ℕ) (ids : List Identifier) (x : List ℕ) (n : ℕ) → from k ids x ≡ Some n → (k ≤ n) × (n < k + length ids)
@@ -161,9 +154,9 @@ alike_by : (b c : Bool) (k n m : ℕ) (x y z : List ℕ) (o q : Option ℕ) → 
 alike_by true true k n m x y z o q e f same late later more h g =
     (bytes_eq-Decides (folded x) (folded z)).0 e ∙ sym ((bytes_eq-Decides (folded y) (folded z)).0 f)
 alike_by true false k n m x y z o q e f same late later more h g =
-    let here : k ≡ n = some_same k n h in absurd (omega (arith, later m g))
+    let here : k ≡ n = same_Some k n h in absurd (omega (arith, later m g))
 alike_by false true k n m x y z o q e f same late later more h g =
-    let here : k ≡ m = some_same k m g in absurd (omega (arith, late n h))
+    let here : k ≡ m = same_Some k m g in absurd (omega (arith, late n h))
 alike_by false false k n m x y z o q e f same late later more h g = more h g
 
 from-alike : (k : ℕ) (ids : List Identifier) (x y : List ℕ) (n m : ℕ) → n ≡ m → from k ids x ≡ Some n → from k ids y ≡ Some m → folded x ≡ folded y
@@ -184,7 +177,7 @@ same_by ids x y n m h g true false e f =
 same_by ids x y n m h g false true e f =
     let one : folded y ≡ folded x = (bytes_eq-Decides (folded y) (folded x)).0 f in
     let both : number_of ids y ≡ number_of ids x = ap (λ z. position (λ id. bytes_eq z (folded id.name)) ids) one in
-    absurd (eqb-false m n e (some_same m n (sym g ∙ (both ∙ h))))
+    absurd (eqb-false m n e (same_Some m n (sym g ∙ (both ∙ h))))
 
 -- names are the same where their numbers are
 pub same_number : (ids : List Identifier) (x y : List ℕ) (n m : ℕ) → number_of ids x ≡ Some n → number_of ids y ≡ Some m → (m == n) ≡ same_name y x
@@ -264,10 +257,6 @@ numbered_in names parts n v ts lt is items all =
 is_in-append : (xs ys : List Identifier) (x : List ℕ) → is_in (xs ++ ys) x ≡ (is_in xs x || is_in ys x)
 is_in-append xs ys x = list_any-append (λ y. same_name x y.name) xs ys
 
-more_left : (b c : Bool) → b ≡ true → (b || c) ≡ true
-more_left true c e = refl
-more_left false c e = absurd (true≢false (sym e))
-
 both_in : (b c : Bool) → (c ≡ true → b ≡ true) → (b || c) ≡ b
 both_in true c h = refl
 both_in false true h = sym (h refl)
@@ -280,10 +269,10 @@ covers_last before ids x h = is_in-append before ids x ∙ (ap (λ b. is_in befo
 pub repeats_covered : (before ids : List Identifier) → Covers before ids → repeats before ids ≡ map (λ id. id.at) ids
 repeats_covered before [] covers = refl
 repeats_covered before (id ∷ ids) covers =
-    let here : is_in before id.name ≡ true = covers id.name (more_left (same_name id.name id.name) (is_in ids id.name) (same_self id.name)) in
+    let here : is_in before id.name ≡ true = covers id.name (or_left (same_name id.name id.name) (is_in ids id.name) (same_self id.name)) in
     let rest : Covers (before ++ id ∷ []) ids = λ x h.
     is_in-append before (id ∷ []) x
-    ∙ more_left (is_in before x) (is_in (id ∷ []) x) (covers x (ap (λ b. same_name x id.name || b) h ∙ or-true (same_name x id.name))) in
+    ∙ or_left (is_in before x) (is_in (id ∷ []) x) (covers x (ap (λ b. same_name x id.name || b) h ∙ or-true (same_name x id.name))) in
     ap (λ b. (if b then id.at ∷ [] else []) ++ repeats (before ++ id ∷ []) ids) here
     ∙ ap (λ r. id.at ∷ r) (repeats_covered (before ++ id ∷ []) ids rest)
 

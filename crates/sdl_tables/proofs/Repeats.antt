@@ -5,7 +5,7 @@ use Rattle.std.proofs.lemmas.List.Folds.{list_any-append}
 use Rattle.std.proofs.lemmas.List.{append-nil}
 use Rattle.std.proofs.lemmas.List.Sums.{fold-append}
 use Rattle.std.proofs.lemmas.Slice.Eq.{bytes_eq-Decides}
-use Rattle.std.proofs.Math.Bool.{or-true, or-false}
+use Rattle.std.proofs.Math.Bool.{or-true, or-false, or_assoc}
 use Rattle.sdl_lex.specs.Spelling.{folded}
 use Rattle.sdl_ast.specs.declared.expression.Identifier.{Identifier}
 use Rattle.sdl_tables.specs.Names.{same_name, is_in, add_name, names_once}
@@ -41,10 +41,6 @@ one_more ids id x false h =
 is_in-add_name : (ids : List Identifier) (id : Identifier) (x : List ℕ) → is_in (add_name ids id) x ≡ (is_in ids x || same_name x id.name)
 is_in-add_name ids id x = one_more ids id x (is_in ids id.name) refl
 
-or_assoc : (a b c : Bool) → ((a || b) || c) ≡ (a || (b || c))
-or_assoc true b c = refl
-or_assoc false b c = refl
-
 is_in-fold : (before ids : List Identifier) (x : List ℕ) → is_in (fold add_name before ids) x ≡ (is_in before x || is_in ids x)
 is_in-fold before [] x = sym (or-false (is_in before x))
 is_in-fold before (id ∷ ids) x =
@@ -70,7 +66,7 @@ pub repeats-push : (xs : List Identifier) (id : Identifier)
 repeats-push xs id =
     repeats-append [] xs (id ∷ []) ∙ ap (λ r. repeats [] xs ++ r) (append-nil (if is_in xs id.name then id.at ∷ [] else []))
 
-if-not : (b : Bool) (x y : List ℕ) → (if not b then x else y) ≡ (if b then y else x)
+pub if-not : (b : Bool) (x y : List ℕ) → (if not b then x else y) ≡ (if b then y else x)
 if-not true x y = refl
 if-not false x y = refl
 

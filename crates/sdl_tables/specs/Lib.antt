@@ -1,5 +1,6 @@
 pub mod BlockTables
 pub mod Names
+pub mod Numbering
 pub mod RouteIndexes
 pub mod Routes
 pub mod Rows

@@ -3,6 +3,8 @@
 
 mod block_table;
 mod fault;
+mod folded_name;
+mod input_rows;
 mod name_table;
 mod party_table;
 mod process_table;

@@ -2,30 +2,33 @@
 ghost use Rattle.std.specs.Prelude.{◌≡◌, ◌<◌, [], length, IfOk, OnOk, OnErr, IsSome, IfSome, not, slice_get, Some};
 ghost use Rattle.sdl_tables.specs.Names.{is_in, number_of, add_name};
 
-use indexmap::IndexMap;
+use crate::folded_name::FoldedName;
 use sdl_ast::Identifier;
 use sdl_lex::Name;
 use std::alloc::{AllocError, Global};
+use std::collections::BTreeMap;
 use std::marker::Model;
 
 /// The names of one class and scope, as first written and in the order of the text. A name is looked
 /// up by what it is in lower case. Contracts see the list of identifiers.
+///
+/// The look-up is ordered: no choice of names makes it slow.
 #[derive(Drop)]
 pub struct NameTable {
-    entries: IndexMap<Name, Identifier>,
+    ids: Vec<Identifier>,
+    numbers: BTreeMap<FoldedName, usize>,
 }
 
 impl Model for NameTable {
-    ghost use Rattle.std.specs.Prelude.{◌≡◌, List, map};
-    ghost use Rattle.sdl_lex.specs.Spelling.{folded};
+    ghost use Rattle.std.specs.Prelude.{List};
     ghost use Rattle.sdl_ast.specs.declared.expression.Identifier.{Identifier};
-    ghost use Rattle.indexmap.specs.IndexMap.{keys, values};
+    ghost use Rattle.sdl_tables.specs.Numbering.{AreNumbers};
 
     ghost Value = { List Identifier };
 
-    ghost view = { λ t. values t.entries };
+    ghost view = { λ t. t.ids.items };
 
-    ghost invariant = { λ t. keys t.entries ≡ map (λ id. folded id.name) (values t.entries) };
+    ghost invariant = { λ t. AreNumbers t.ids.items t.numbers };
 }
 
 impl NameTable {
@@ -34,7 +37,8 @@ impl NameTable {
         ensures { result ≡ [] }
     {
         NameTable {
-            entries: IndexMap::new(alloc),
+            ids: Vec::new(alloc),
+            numbers: BTreeMap::new(alloc),
         }
     }
 
@@ -42,7 +46,7 @@ impl NameTable {
     pub fn len(&self) -> usize
         ensures { result ≡ length self.now }
     {
-        self.entries.len()
+        self.ids.len()
     }
 
     /// The number of a name, from 0.
@@ -50,22 +54,21 @@ impl NameTable {
         ensures number { result ≡ number_of self.now name }
         ensures within { IfSome result (λ n. n < length self.now) }
     {
-        self.entries.get_index_of(&name.folded())
+        self.numbers.get(&FoldedName::new(name)).copied()
     }
 
     /// Whether a name is there.
     pub fn contains(&self, name: Name) -> bool
         ensures { result ≡ is_in self.now name }
     {
-        self.entries.contains_key(&name.folded())
+        self.numbers.contains_key(&FoldedName::new(name))
     }
 
     /// The name with a number, as it is first written.
     pub fn get(&self, number: usize) -> Option<Identifier>
         ensures { result ≡ slice_get self.now number }
     {
-        let (_, id) = self.entries.get_index(number)?;
-        Some(*id)
+        self.ids.get(number).copied()
     }
 
     /// The name with a number that there is, as it is first written.
@@ -73,7 +76,7 @@ impl NameTable {
         requires { number < length self.now }
         ensures { slice_get self.now number ≡ Some result }
     {
-        self.entries[number]
+        self.ids[number]
     }
 
     /// Adds a name, unless it is there: `false` then. Without memory nothing changes.
@@ -85,8 +88,10 @@ impl NameTable {
         if self.contains(id.name) {
             return Ok(false);
         }
-        let key = id.name.folded();
-        self.entries.insert(key, id)?;
+        let number = self.len();
+        self.ids.reserve(1)?;
+        self.numbers.insert(FoldedName::new(id.name), number)?;
+        self.ids.push(id)?;
         Ok(true)
     }
 }

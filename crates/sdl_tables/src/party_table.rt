@@ -4,28 +4,28 @@ ghost use Rattle.std.specs.List.{list_any};
 ghost use Rattle.sdl_tables.specs.Routes.{same_party, add_party};
 
 use crate::route_index::{Side, side_of};
-use indexmap::IndexMap;
 use sdl_ast::Party;
 use std::alloc::{AllocError, Global};
+use std::collections::BTreeSet;
 use std::marker::Model;
 
 /// Parties in the order in which they came, each once. Contracts see their list.
 #[derive(Drop)]
 pub struct PartyTable {
-    entries: IndexMap<Side, Party>,
+    parties: Vec<Party>,
+    sides: BTreeSet<Side>,
 }
 
 impl Model for PartyTable {
-    ghost use Rattle.std.specs.Prelude.{◌≡◌, List, map};
+    ghost use Rattle.std.specs.Prelude.{List};
     ghost use Rattle.sdl_ast.specs.declared.tree.Party as tree;
-    ghost use Rattle.sdl_tables.specs.RouteIndexes.{side_of};
-    ghost use Rattle.indexmap.specs.IndexMap.{keys, values};
+    ghost use Rattle.sdl_tables.specs.RouteIndexes.{AreSides};
 
     ghost Value = { List tree.Party };
 
-    ghost view = { λ t. values t.entries };
+    ghost view = { λ t. t.parties.items };
 
-    ghost invariant = { λ t. keys t.entries ≡ map side_of (values t.entries) };
+    ghost invariant = { λ t. AreSides t.parties.items t.sides };
 }
 
 impl PartyTable {
@@ -34,7 +34,8 @@ impl PartyTable {
         ensures { result ≡ [] }
     {
         PartyTable {
-            entries: IndexMap::new(alloc),
+            parties: Vec::new(alloc),
+            sides: BTreeSet::new(alloc),
         }
     }
 
@@ -42,15 +43,14 @@ impl PartyTable {
     pub fn len(&self) -> usize
         ensures { result ≡ length self.now }
     {
-        self.entries.len()
+        self.parties.len()
     }
 
     /// The party with a number, from 0.
     pub fn get(&self, number: usize) -> Option<Party>
         ensures { result ≡ slice_get self.now number }
     {
-        let (_, party) = self.entries.get_index(number)?;
-        Some(*party)
+        self.parties.get(number).copied()
     }
 
     /// Adds a party, unless it is there: `false` then. Without memory nothing changes.
@@ -59,11 +59,11 @@ impl PartyTable {
         ensures parties { OnOk result (self.new ≡ add_party self.old party) }
         ensures err { OnErr result (self.new ≡ self.old) }
     {
-        let side: Side = side_of(&party);
-        if self.entries.contains_key(&side) {
+        self.parties.reserve(1)?;
+        if !self.sides.insert(side_of(&party))? {
             return Ok(false);
         }
-        self.entries.insert(side, party)?;
+        self.parties.push(party)?;
         Ok(true)
     }
 }

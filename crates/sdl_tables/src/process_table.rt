@@ -2,12 +2,13 @@
 ghost use Rattle.std.specs.Prelude.{◌≡◌, ◌++◌, [], ℕ, ◌<◌, ◌==◌, if◌then◌else◌, List, map, fold, length, IfOk, IfErr, OnOk, IfSome, IfNone, slice_get, vec_len};
 ghost use Rattle.std.specs.List.{flat_map};
 ghost use Rattle.sdl_ast.specs.Views.{group_of, declaration_of, state_of, input_of, connection_of, process_of};
-ghost use Rattle.sdl_tables.specs.Names.{variable_names, variables_of, group_variables, declared_variables, named_states, timers_in, timers_of, connector_names, states_of, given_to, names_once, add_name, part_inputs, inputs_by_state, saves_by_state, triggers_by_state, clause_parts, input_parts};
+ghost use Rattle.sdl_tables.specs.Names.{variable_names, variables_of, group_variables, declared_variables, named_states, timers_in, timers_of, connector_names, states_of, names_once, add_name, inputs_by_state, saves_by_state, triggers_by_state, clause_parts, input_parts};
 ghost use Rattle.sdl_tables.specs.Scopes.{Marks, repeats, process_scopes, shared, IsDouble};
 ghost use Rattle.sdl_tables.specs.Tables.{HasDeclared, HasStanding};
-ghost use Rattle.sdl_tables.specs.Rows.{variable_of, row_input, rows_inputs, row_names, stimulus_inputs, rows_at};
+ghost use Rattle.sdl_tables.specs.Rows.{variable_of, rows_inputs, row_names};
 
 use crate::fault::TableFault;
+use crate::input_rows::collect_inputs;
 use crate::name_table::NameTable;
 use crate::scope::{Scope, add_names, earlier, first_shared, index_names};
 use crate::state_names::{Which, collect_names};
@@ -136,88 +137,6 @@ fn collect_states(alloc: Global, parts: &[StatePart]) -> Result<NameTable, Alloc
         add_names(&mut names, &part.names)?;
     }
     Ok(names)
-}
-
-fn push_input<'a>(rows: &mut Vec<InputRow<'a>>, input: &'a InputPart) -> Result<(), AllocError>
-    ensures { OnOk result (map row_input rows.new.items ≡ map row_input rows.old.items ++ stimulus_inputs (input_of input.now)) }
-{
-    for stimulus in &input.stimuli {
-        rows.push(InputRow { input, stimulus })?;
-    }
-    Ok(())
-}
-
-fn push_part<'a>(rows: &mut Vec<InputRow<'a>>, part: &'a StatePart) -> Result<(), AllocError>
-    ensures { OnOk result (map row_input rows.new.items ≡ map row_input rows.old.items ++ part_inputs (state_of part.now)) }
-{
-    for clause in &part.clauses {
-        match clause {
-            StateClause::Input(input) => push_input(rows, input)?,
-            StateClause::Save(_) => {}
-        }
-    }
-    Ok(())
-}
-
-fn empty_rows<'a>(alloc: Global, count: usize) -> Result<Vec<Vec<InputRow<'a>>>, AllocError>
-    ensures len { IfOk result (λ v. vec_len v ≡ count) }
-    ensures empty { IfOk result (λ v. (s : ℕ) → rows_at v.items s ≡ []) }
-{
-    let mut inputs = Vec::new(alloc);
-    for _i in 0..count {
-        inputs.push(Vec::new(alloc))?;
-    }
-    Ok(inputs)
-}
-
-/// Gives the inputs of a part to one state.
-fn push_state<'a>(
-    inputs: &mut Vec<Vec<InputRow<'a>>>,
-    number: usize,
-    part: &'a StatePart,
-) -> Result<(), AllocError>
-    requires { number < vec_len inputs.old }
-    ensures len { OnOk result (vec_len inputs.new ≡ vec_len inputs.old) }
-    ensures rows { OnOk result ((s : ℕ) → rows_at inputs.new.items s
-        ≡ rows_at inputs.old.items s ++ (if number == s then part_inputs (state_of part.now) else [])) }
-{
-    let rows = &mut inputs[number];
-    push_part(rows, part)?;
-    Ok(())
-}
-
-/// Gives the inputs of a part to each state that it names.
-fn push_states<'a>(
-    inputs: &mut Vec<Vec<InputRow<'a>>>,
-    states: &NameTable,
-    part: &'a StatePart,
-) -> Result<(), AllocError>
-    requires { vec_len inputs.old ≡ length states.now }
-    ensures len { OnOk result (vec_len inputs.new ≡ vec_len inputs.old) }
-    ensures rows { OnOk result ((s : ℕ) → s < vec_len inputs.old
-        → rows_at inputs.new.items s ≡ rows_at inputs.old.items s ++ given_to part_inputs states.now s (state_of part.now)) }
-{
-    for id in &part.names {
-        if let Some(number) = states.number(id.name) {
-            push_state(inputs, number, part)?;
-        }
-    }
-    Ok(())
-}
-
-fn collect_inputs<'a>(
-    alloc: Global,
-    process: &'a Process,
-    states: &NameTable,
-) -> Result<Vec<Vec<InputRow<'a>>>, AllocError>
-    requires { states.now ≡ states_of (process_of process.now) }
-    ensures { IfOk result (λ v. map rows_inputs v.items ≡ inputs_by_state (process_of process.now)) }
-{
-    let mut inputs = empty_rows(alloc, states.len())?;
-    for part in &process.states {
-        push_states(&mut inputs, states, part)?;
-    }
-    Ok(inputs)
 }
 
 fn push_parts<'a>(parts: &mut Vec<&'a InputPart>, part: &'a StatePart) -> Result<(), AllocError>

@@ -1,6 +1,6 @@
 //! Who gets a signal and who may have sent it, by the routes.
 ghost use Rattle.std.specs.Prelude.{◌≡◌, [], ◌∷◌, ◌++◌, List, if◌then◌else◌, ◌&&◌, map, IfOk, OnOk, None};
-ghost use Rattle.indexmap.specs.IndexMap.{get};
+ghost use Rattle.std.specs.BTreeMap.{get};
 ghost use Rattle.std.specs.List.{flat_map};
 ghost use Rattle.sdl_lex.specs.Spelling.{folded};
 ghost use Rattle.sdl_ast.specs.declared.tree.Party as tree;
@@ -8,35 +8,36 @@ ghost use Rattle.sdl_ast.specs.Views.{path_of, route_of};
 ghost use Rattle.sdl_tables.specs.Names.{same_name};
 ghost use Rattle.sdl_tables.specs.Routes.{same_party};
 ghost use Rattle.sdl_tables.specs.declared.route_index.End.{End as Key};
-ghost use Rattle.sdl_tables.specs.RouteIndexes.{Mention, held, same_end, mentions_of, side_of, end_of, passage_of, listed, is_carried, Indexes};
+ghost use Rattle.sdl_tables.specs.RouteIndexes.{Mention, held, end_cmp, same_end, mentions_of, side_of, end_of, passage_of, listed, is_carried, Indexes};
 
-use indexmap::{IndexMap, IndexSet};
+use crate::folded_name::FoldedName;
 use sdl_ast::{Party, Path, Route};
 use sdl_lex::Name;
 use std::alloc::{AllocError, Global};
+use std::collections::{BTreeMap, BTreeSet};
 
 /// A party as it is looked up: without its place, and by its name in lower case.
-#[derive(Clone, Copy, PartialEq, Eq, Hash)]
+#[derive(Clone, Copy, PartialEq, Eq, PartialOrd, Ord)]
 pub(crate) enum Side {
     /// The environment.
     Environment,
     /// The process with this name.
-    Process(Name),
+    Process(FoldedName),
 }
 
 /// A party and a signal, by its name in lower case.
-#[derive(Clone, Copy, PartialEq, Eq, Hash)]
+#[derive(Clone, Copy, PartialEq, Eq, PartialOrd, Ord)]
 pub(crate) struct End {
     side: Side,
-    signal: Name,
+    signal: FoldedName,
 }
 
 /// A signal on its way from one party to another.
-#[derive(Clone, Copy, PartialEq, Eq, Hash)]
+#[derive(Clone, Copy, PartialEq, Eq, PartialOrd, Ord)]
 pub(crate) struct Passage {
     from: Side,
     to: Side,
-    signal: Name,
+    signal: FoldedName,
 }
 
 pub(crate) fn side_of(party: &Party) -> Side
@@ -44,7 +45,7 @@ pub(crate) fn side_of(party: &Party) -> Side
 {
     match party {
         Party::Environment => Side::Environment,
-        Party::Process(id) => Side::Process(id.name.folded()),
+        Party::Process(id) => Side::Process(FoldedName::new(id.name)),
     }
 }
 
@@ -53,7 +54,7 @@ fn end_of(party: &Party, signal: Name) -> End
 {
     End {
         side: side_of(party),
-        signal: signal.folded(),
+        signal: FoldedName::new(signal),
     }
 }
 
@@ -63,14 +64,14 @@ fn passage_of(from: &Party, to: &Party, signal: Name) -> Passage
     Passage {
         from: side_of(from),
         to: side_of(to),
-        signal: signal.folded(),
+        signal: FoldedName::new(signal),
     }
 }
 
 /// For a party and a signal, the parties at the other ends of the paths that bring the signal.
 #[derive(Drop)]
 pub(crate) struct Ends {
-    lists: IndexMap<End, Vec<Party>>,
+    lists: BTreeMap<End, Vec<Party>>,
 }
 
 impl Ends {
@@ -78,13 +79,13 @@ impl Ends {
         ensures { (own : tree.Party) (s : _) → listed result own s ≡ [] }
     {
         Ends {
-            lists: IndexMap::new(alloc),
+            lists: BTreeMap::new(alloc),
         }
     }
 
     /// The first party for a key.
     fn begin(&mut self, alloc: Global, key: End, other: Party) -> Result<(), AllocError>
-        requires { get same_end self.old.lists key ≡ None }
+        requires { get end_cmp self.old.lists key ≡ None }
         ensures { OnOk result ((k : Key) → held self.new k ≡ held self.old k ++ (if same_end key k then other ∷ [] else [])) }
     {
         let mut list = Vec::new(alloc);
@@ -113,10 +114,10 @@ impl Ends {
     }
 }
 
-/// The routes of a block, by party and signal: each look-up takes the same time however many there are.
+/// The routes of a block, by party and signal. The look-ups are ordered: no choice of names makes one slow.
 #[derive(Drop)]
 pub(crate) struct RouteIndex {
-    carried: IndexSet<Passage>,
+    carried: BTreeSet<Passage>,
     receivers: Ends,
     senders: Ends,
 }
@@ -126,7 +127,7 @@ impl RouteIndex {
         ensures { Indexes result [] }
     {
         RouteIndex {
-            carried: IndexSet::new(alloc),
+            carried: BTreeSet::new(alloc),
             receivers: Ends::new(alloc),
             senders: Ends::new(alloc),
         }
@@ -146,7 +147,7 @@ impl RouteIndex {
         let way = Passage {
             from: side_of(from),
             to: side_of(to),
-            signal: signal.folded(),
+            signal: FoldedName::new(signal),
         };
         if self.carried.insert(way)? {
             self.receivers.add(alloc, end_of(from, signal), *to)?;

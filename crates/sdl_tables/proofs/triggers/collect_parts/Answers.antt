@@ -2,14 +2,13 @@ use Rattle.std.proofs.Common.{◌≡◌, ◌<◌, ◌+◌, ◌++◌, ℕ, List, 
 use Rattle.std.specs.Prelude.{slice_get}
 use Rattle.std.specs.List.{flat_map}
 use Rattle.std.specs.Option.{option_map}
-use Rattle.std.proofs.lemmas.Option.{slice_get_read}
+use Rattle.std.proofs.lemmas.Option.{slice_get_read, slice_get-map}
 use Rattle.sdl_ast.specs.Views.{state_of}
 use Rattle.sdl_ast.specs.declared.tree.StatePart.{StatePart}
 use Rattle.sdl_ast.specs.declared.expression.Identifier.{Identifier}
 use Rattle.sdl_tables.specs.Names.{given_to, part_triggers}
 use Rattle.sdl_tables.specs.Rows.{row_at}
 use Rattle.sdl_tables.specs.Triggers.{taken_in, AreTaken}
-use Rattle.sdl_tables.proofs.BlockLemmas.{slice_get-map}
 use Rattle.sdl_tables.proofs.Numbers.{mapped_more, joined_push, given_as}
 use Rattle.sdl_tables.proofs.triggers.collect_parts.Goals as goal
 

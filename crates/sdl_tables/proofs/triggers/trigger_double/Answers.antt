@@ -3,7 +3,7 @@ use Rattle.std.specs.Prelude.{slice_get}
 use Rattle.std.specs.Global.{Vec}
 use Rattle.std.specs.List.{flat_map}
 use Rattle.std.specs.Option.{option_map, option_map_or}
-use Rattle.std.proofs.lemmas.Option.{none-some}
+use Rattle.std.proofs.lemmas.Option.{none-some, same_Some, slice_get-map}
 use Rattle.sdl_ast.specs.Plain.{PlainState, PlainProcess}
 use Rattle.sdl_ast.specs.Views.{state_of, process_of}
 use Rattle.sdl_ast.specs.declared.tree.StatePart.{StatePart}
@@ -13,16 +13,12 @@ use Rattle.sdl_tables.specs.Rows.{row_at}
 use Rattle.sdl_tables.specs.Scopes.{Marks, repeats}
 use Rattle.sdl_tables.specs.Triggers.{trigger_ids, taken_by, taken_in, AreTaken, AreNumbered}
 use Rattle.sdl_tables.specs.declared.triggers.Trigger.{Trigger}
-use Rattle.sdl_tables.proofs.BlockLemmas.{slice_get-map}
 use Rattle.sdl_tables.proofs.States.{rows-collected}
 use Rattle.sdl_tables.proofs.triggers.trigger_double.Goals as goal
 
-some_same : {X : Type 0} (x y : X) → Some x ≡ Some y → x ≡ y
-some_same x y e = cc
-
 told_by : (o : Option (Vec Trigger)) (xs : List Identifier) → option_map trigger_ids o ≡ Some xs → option_map_or trigger_ids o [] ≡ xs
 told_by None xs e = absurd (none-some xs e)
-told_by (Some v) xs e = some_same (trigger_ids v) xs e
+told_by (Some v) xs e = same_Some (trigger_ids v) xs e
 
 -- each part takes and saves what its row says
 are_taken : (parts : List (Vec Trigger)) (ps : List PlainState) → map trigger_ids parts ≡ map part_triggers ps → AreTaken (taken_by parts) ps

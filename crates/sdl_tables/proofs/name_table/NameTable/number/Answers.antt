@@ -1,12 +1,15 @@
-use Rattle.std.proofs.Common.{◌∙◌, ap, bytes_eq, position}
-use Rattle.std.specs.Map.{keys_of}
+use Rattle.std.proofs.Common.{◌∙◌, ap}
+use Rattle.std.specs.BTreeMap.{get}
+use Rattle.std.specs.Cmp.Lexicographic.{slice_cmp}
+use Rattle.std.specs.Ordering.{nat_cmp}
+use Rattle.sdl_lex.specs.Spelling.{folded}
 use Rattle.sdl_tables.specs.Names.{number_of}
-use Rattle.sdl_tables.proofs.Tables.{finds_number}
 use Rattle.sdl_tables.proofs.name_table.NameTable.number.Goals as goal
 
 pub returns-clause-number : goal.returns-clause-number
 returns-clause-number c =
-    c.get_index_of.ensures.index
-    ∙ (ap (λ k. position (bytes_eq k) (keys_of c.self.inside.entries.entries)) c.folded.ensures
-    ∙ (finds_number c.self.inside.entries.entries c.args.name c.self.invariant
-    ∙ ap (λ ids. number_of ids c.args.name) c.self.view_is))
+    c.copied.ensures
+    ∙ (c.get.ensures.value
+    ∙ (ap (get (slice_cmp nat_cmp) c.self.inside.numbers) c.new.ensures
+    ∙ (c.self.invariant (folded c.args.name)
+    ∙ ap (λ ids. number_of ids c.args.name) c.self.view_is)))

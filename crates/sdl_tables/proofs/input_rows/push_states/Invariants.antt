@@ -2,7 +2,7 @@ use Rattle.std.proofs.Common.{◌≡◌, ℕ, ◌<◌, ◌++◌, vec_len, take}
 use Rattle.sdl_tables.specs.Names.{given_to, part_inputs}
 use Rattle.sdl_ast.specs.Views.{state_of}
 use Rattle.sdl_tables.specs.Rows.{rows_at}
-use Rattle.sdl_tables.proofs.process_table.push_states.Given as goal
+use Rattle.sdl_tables.proofs.input_rows.push_states.Given as goal
 
 abbrev pub invariant-loop-id : goal.invariant-loop-id
 invariant-loop-id l =

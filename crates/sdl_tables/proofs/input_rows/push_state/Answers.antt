@@ -3,7 +3,7 @@ use Rattle.sdl_ast.specs.Views.{state_of}
 use Rattle.sdl_tables.specs.Names.{part_inputs}
 use Rattle.sdl_tables.specs.Rows.{rows_inputs}
 use Rattle.sdl_tables.proofs.States.{rows_at-set}
-use Rattle.sdl_tables.proofs.process_table.push_state.Goals as goal
+use Rattle.sdl_tables.proofs.input_rows.push_state.Goals as goal
 
 pub returns-clause-rows : goal.returns-clause-rows
 returns-clause-rows c =

@@ -1,6 +1,6 @@
 use Rattle.std.proofs.Common.{◌≡◌, ℕ, [], vec_len}
 use Rattle.sdl_tables.specs.Rows.{rows_at}
-use Rattle.sdl_tables.proofs.process_table.empty_rows.Given as goal
+use Rattle.sdl_tables.proofs.input_rows.empty_rows.Given as goal
 
 abbrev pub invariant-loop-i : goal.invariant-loop-i
 invariant-loop-i l =

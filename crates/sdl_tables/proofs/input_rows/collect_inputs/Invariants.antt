@@ -3,7 +3,7 @@ use Rattle.std.specs.List.{flat_map}
 use Rattle.sdl_tables.specs.Names.{given_to, part_inputs}
 use Rattle.sdl_ast.specs.Views.{state_of}
 use Rattle.sdl_tables.specs.Rows.{rows_at}
-use Rattle.sdl_tables.proofs.process_table.collect_inputs.Given as goal
+use Rattle.sdl_tables.proofs.input_rows.collect_inputs.Given as goal
 
 abbrev pub invariant-loop-part : goal.invariant-loop-part
 invariant-loop-part l =

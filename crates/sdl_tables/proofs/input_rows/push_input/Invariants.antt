@@ -1,7 +1,7 @@
 use Rattle.std.proofs.Common.{◌≡◌, map, ◌++◌, take}
 use Rattle.sdl_ast.specs.Views.{stimulus_of, text_of}
 use Rattle.sdl_tables.specs.Rows.{row_input}
-use Rattle.sdl_tables.proofs.process_table.push_input.Given as goal
+use Rattle.sdl_tables.proofs.input_rows.push_input.Given as goal
 
 abbrev pub invariant-loop-stimulus : goal.invariant-loop-stimulus
 invariant-loop-stimulus l =

@@ -4,7 +4,7 @@ use Rattle.sdl_ast.specs.Views.{process_of, state_of}
 use Rattle.sdl_tables.specs.Names.{part_inputs}
 use Rattle.sdl_tables.specs.Rows.{rows_inputs}
 use Rattle.sdl_tables.proofs.States.{rows-collected}
-use Rattle.sdl_tables.proofs.process_table.collect_inputs.Goals as goal
+use Rattle.sdl_tables.proofs.input_rows.collect_inputs.Goals as goal
 
 pub returns : goal.returns
 returns c =

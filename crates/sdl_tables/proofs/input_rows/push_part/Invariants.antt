@@ -3,7 +3,7 @@ use Rattle.std.specs.List.{flat_map}
 use Rattle.sdl_ast.specs.Views.{clause_of}
 use Rattle.sdl_tables.specs.Names.{clause_inputs}
 use Rattle.sdl_tables.specs.Rows.{row_input}
-use Rattle.sdl_tables.proofs.process_table.push_part.Given as goal
+use Rattle.sdl_tables.proofs.input_rows.push_part.Given as goal
 
 abbrev pub invariant-loop-clause : goal.invariant-loop-clause
 invariant-loop-clause l =
