@@ -70,6 +70,17 @@ fn end<R: Wait, L: Ledger>(
     Some(work(&mut slot, seat, &mut totals, step))
 }
 
+/// What a gate is told of a job: the link where its turn is out, its actor and its turn.
+fn name_of(link: usize, job: &Job) -> JobName
+    ensures { result ≡ record { link = link; actor = job.now.actor; turn = job.now.turn } }
+{
+    JobName {
+        link,
+        actor: job.actor(),
+        turn: job.turn(),
+    }
+}
+
 /// Runs a job with no lock held, and ends its turn.
 fn run_job<R: Wait, L: Ledger, G: Gate>(
     pool: &Pool<'_, R, L>,
@@ -78,11 +89,7 @@ fn run_job<R: Wait, L: Ledger, G: Gate>(
     link: usize,
     job: Job,
 ) {
-    let name = JobName {
-        link,
-        actor: job.actor(),
-        turn: job.turn(),
-    };
+    let name = name_of(link, &job);
     gate.enter(name);
     let _ended = end(pool, seat, link, Move::Finish(run(job)));
     gate.leave(name);
