@@ -6,7 +6,7 @@ ghost use Rattle.sdl_sound.specs.Longest.{is_division};
 ghost use Rattle.sdl_sound.specs.Going.{goes_on, choice_goes_on};
 ghost use Rattle.sdl_tree.specs.declared.tree.Decision.{out-Decision};
 ghost use Rattle.sdl_trimmed.specs.Trimmed.{AreTrimmed};
-ghost use Rattle.sdl_compile.specs.Scopes.{scope_in, piece_in, question_in, NamedElse};
+ghost use Rattle.sdl_compile.specs.Scopes.{scope_in, piece_in, question_in, NamedElse, IsBody};
 ghost use Rattle.sdl_compile.specs.Act.{is_truth};
 ghost use Rattle.sdl_compile.specs.Named.{NamedTasks, NamedAction, NamedEnd, NamedText, NamedChoice, NamedConnections, NamedPlaces, NamedPiece};
 ghost use Rattle.turn_code.specs.Sets.{with_variable};
@@ -582,6 +582,7 @@ pub(crate) fn place_sets(
     standing: &Standing,
     body: &Body,
 ) -> Result<Vec<VariableSet>, AllocError>
+    requires body { IsBody body.now }
     requires named { NamedPiece (scope_in names.now) (piece_in standing.now.places.now body.now.whole.now) }
     requires copied { AreTrimmed (process_of names.now.process.now).connections standing.now.copies.now }
     ensures { IfOk result (λ v. v.items ≡ piece_sets (scope_in names.now) standing.now.entry (piece_in standing.now.places.now body.now.whole.now) standing.now.order.now standing.now.numbers.now) }

@@ -8,7 +8,7 @@ ghost use Rattle.sdl_sound.specs.Longest.{size};
 ghost use Rattle.sdl_sound.specs.Going.{goes_on, choice_goes_on};
 ghost use Rattle.sdl_trimmed.specs.Trimmed.{AreTrimmed};
 ghost use Rattle.sdl_compile.specs.Act.{relation_of, integer_in};
-ghost use Rattle.sdl_compile.specs.Scopes.{scope_in, places_by, question_in, piece_in};
+ghost use Rattle.sdl_compile.specs.Scopes.{scope_in, places_by, question_in, piece_in, IsBody};
 ghost use Rattle.sdl_compile.specs.Named.{NamedEnd, NamedText, NamedChoice, NamedPiece};
 ghost use Rattle.sdl_compile.specs.Code.{constant_or_zero, end_code, leave_code, body_size, else_size, answers_size, range_code, ranges_code, after_choice, text_code, else_code, answers_code, truth_code, integer_code, text_at, size_at, connections_place, place_in, connections_code, piece_code};
 ghost use Rattle.sdl_compile.specs.Landing.{leave_place, answers_leave, else_leave, starts_from, tests_by};
@@ -406,6 +406,7 @@ pub(crate) fn emit_piece(
     numbers: &[usize],
     targets: &[usize],
 ) -> Result<Vec<Instruction>, AllocError>
+    requires body { IsBody body.now }
     requires named { NamedPiece (scope_in names.now) (piece_in places.now body.now.whole.now) }
     requires copied { AreTrimmed (process_of names.now.process.now).connections copies.now }
     requires few { length places.now ≤ 4 }
