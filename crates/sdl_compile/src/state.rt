@@ -134,9 +134,7 @@ fn push_stimuli(
         → AllZip (IsInputOf (scope_in context.now.names.now) entry) (before ++ stimulus_inputs (input_of input.now)) drafts.new.items) }
 {
     for stimulus in &input.stimuli {
-        drafts.push(compile_input(
-            alloc, context, entry, input, stimulus, copy,
-        )?)?;
+        drafts.push(compile_input(alloc, context, entry, input, stimulus, copy)?)?;
     }
     Ok(())
 }
