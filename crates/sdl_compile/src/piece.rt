@@ -2,7 +2,7 @@
 ghost use Rattle.std.specs.Prelude.{◌≡◌, ◌≤◌, length, Option, IfOk};
 ghost use Rattle.sdl_ast.specs.declared.expression.Identifier as tree_identifier;
 ghost use Rattle.sdl_ast.specs.Views.{text_of};
-ghost use Rattle.sdl_emit.specs.Scopes.{scope_in, piece_in};
+ghost use Rattle.sdl_emit.specs.Scopes.{scope_in, piece_in, IsBody};
 ghost use Rattle.sdl_meaning.specs.Named.{AnswersAll};
 ghost use Rattle.sdl_sound.specs.Longest.{places_cost};
 ghost use Rattle.sdl_compile.specs.Drafts.{Means};
@@ -58,6 +58,7 @@ fn make_piece(
     places: &[Option<Identifier>],
     body: &Body,
 ) -> Result<DraftPiece, AllocError>
+    requires body { IsBody body.now }
     requires setting { IsSetting setting.now }
     requires ready { IsReadyPiece (scope_in setting.now.names.now) (piece_in places.now body.now.whole.now) setting.now.parameters.now }
     ensures { IfOk result (λ d. IsPieceOf (scope_in setting.now.names.now) setting.now.parameters.now setting.now.entry (piece_in places.now body.now.whole.now) d) }
@@ -110,6 +111,7 @@ pub fn compile_transition(
     places: &[Option<Identifier>],
     body: &Body,
 ) -> Result<DraftPiece, AllocError>
+    requires body { IsBody body.now }
     requires setting { IsSetting setting.now }
     requires ready { IsReadyPiece (scope_in setting.now.names.now) (piece_in places.now body.now.whole.now) setting.now.parameters.now }
     ensures means { IfOk result (λ d. (from : Option tree_identifier.Identifier) → AnswersAll (scope_in setting.now.names.now) from (text_of body.now.whole.now) → Means (scope_in setting.now.names.now) from (piece_in places.now body.now.whole.now) d) }

@@ -1,5 +1,5 @@
 -- What the compiler has at hand, as definitions see it.
-use Rattle.std.specs.Prelude.{ℕ, List, Option, None, Some, get_or}
+use Rattle.std.specs.Prelude.{◌≡◌, ℕ, List, Option, None, Some, get_or}
 use Rattle.sdl_ast.specs.declared.expression.Identifier.{Identifier}
 use Rattle.sdl_ast.specs.declared.tree.Transition.{Transition}
 use Rattle.sdl_ast.specs.declared.tree.Decision.{Decision, out-Decision}
@@ -9,7 +9,9 @@ use Rattle.sdl_ast.specs.Plain.{Tree}
 use Rattle.sdl_ast.specs.Views.{tree_of, text_of, stimulus_of, block_of, process_of}
 use Rattle.sdl_tables.specs.Names.{Input}
 use Rattle.sdl_sound.specs.Longest.{Piece}
+use Rattle.sdl_trimmed.specs.Trimmed.{trimmed}
 use Rattle.sdl_emit.specs.declared.names.Names.{Names}
+use Rattle.sdl_emit.specs.declared.bodies.Body.{Body}
 use Rattle.sdl_meaning.specs.Act.{Scope, scope_of}
 use Rattle.sdl_meaning.specs.Named.{NamedText}
 
@@ -19,6 +21,10 @@ scope_in n = scope_of (block_of n.block.now) (process_of n.process.now)
 -- a transition with INPUT's places
 abbrev pub piece_in : List (Option Identifier) → Transition → Piece
 piece_in places t = record { places = places; text = text_of t }
+
+-- the copy of a transition is without TASKs in which all is quoted
+abbrev pub IsBody : Body → Type 0
+IsBody b = text_of b.copy.now ≡ trimmed (text_of b.whole.now)
 
 -- what a state takes by one signal of an INPUT
 abbrev pub input_by : InputPart → Stimulus → Input

@@ -3,7 +3,7 @@ ghost use Rattle.std.specs.Prelude.{◌≡◌, ◌≤◌};
 ghost use Rattle.sdl_ast.specs.Views.{text_of, process_of};
 ghost use Rattle.sdl_tables.specs.Names.{variables_of};
 ghost use Rattle.sdl_sound.specs.Longest.{size};
-ghost use Rattle.sdl_trimmed.specs.Trimmed.{trimmed};
+ghost use Rattle.sdl_emit.specs.Scopes.{IsBody};
 
 use sdl_ast::Transition;
 use sdl_measures::code_size;
@@ -14,12 +14,12 @@ use sdl_tables::ProcessTable;
 pub struct Body<'a> {
     pub whole: &'a Transition,
     pub copy: &'a Transition,
-    pub ghost copied: { text_of copy.now ≡ trimmed (text_of whole.now) },
 }
 
 /// How many instructions a transition has, without those of connections.
 pub fn text_size(process: &ProcessTable, body: &Body) -> usize
-    requires { size (variables_of (process_of process.now)) (text_of body.now.whole.now) ≤ 512 }
+    requires body { IsBody body.now }
+    requires short { size (variables_of (process_of process.now)) (text_of body.now.whole.now) ≤ 512 }
     ensures { result ≡ size (variables_of (process_of process.now)) (text_of body.now.whole.now) }
 {
     code_size(process, body.copy) as usize

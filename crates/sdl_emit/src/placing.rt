@@ -5,7 +5,7 @@ ghost use Rattle.sdl_ast.specs.Views.{text_of, statement_of, choice_of, else_cho
 ghost use Rattle.sdl_measures.specs.Counting.{measure_at};
 ghost use Rattle.sdl_measures.specs.Measures.{AreMeasures};
 ghost use Rattle.sdl_trimmed.specs.Trimmed.{AreTrimmed};
-ghost use Rattle.sdl_emit.specs.Scopes.{scope_in, places_by};
+ghost use Rattle.sdl_emit.specs.Scopes.{scope_in, places_by, IsBody};
 ghost use Rattle.sdl_emit.specs.Placing.{decision_joins, numbers_of, HaveNumbers, AreMarked};
 ghost use Rattle.sdl_meaning.specs.Named.{NamedText, NamedConnections};
 ghost use Rattle.sdl_meaning.specs.Act.{connector_at};
@@ -187,6 +187,7 @@ pub fn place_connections(
     copies: &[Transition],
     body: &Body,
 ) -> Result<Vec<usize>, AllocError>
+    requires body { IsBody body.now }
     requires text { NamedText (scope_in names.now) (text_of body.now.whole.now) }
     requires copied { AreTrimmed (process_of names.now.process.now).connections copies.now }
     requires connections { NamedConnections (scope_in names.now) }

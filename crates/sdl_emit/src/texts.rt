@@ -7,7 +7,7 @@ ghost use Rattle.sdl_tables.specs.Names.{variables_of};
 ghost use Rattle.sdl_sound.specs.Longest.{size};
 ghost use Rattle.sdl_sound.specs.Going.{goes_on, choice_goes_on};
 ghost use Rattle.sdl_trimmed.specs.Trimmed.{AreTrimmed};
-ghost use Rattle.sdl_emit.specs.Scopes.{scope_in, places_by, question_in, piece_in};
+ghost use Rattle.sdl_emit.specs.Scopes.{scope_in, places_by, question_in, piece_in, IsBody};
 ghost use Rattle.sdl_meaning.specs.Named.{NamedEnd, NamedText, NamedChoice, NamedPiece};
 ghost use Rattle.sdl_meaning.specs.Code.{end_code, leave_code, body_size, else_size, answers_size, after_choice, text_code, else_code, answers_code, truth_code, integer_code, text_at, size_at, connections_place, place_in, connections_code, piece_code};
 ghost use Rattle.sdl_emit.specs.Landing.{leave_place, answers_leave, else_leave, starts_from};
@@ -337,6 +337,7 @@ pub fn emit_piece(
     numbers: &[usize],
     targets: &[usize],
 ) -> Result<Vec<Instruction>, AllocError>
+    requires body { IsBody body.now }
     requires named { NamedPiece (scope_in names.now) (piece_in places.now body.now.whole.now) }
     requires copied { AreTrimmed (process_of names.now.process.now).connections copies.now }
     requires few { length places.now ≤ 4 }

@@ -2,7 +2,7 @@
 ghost use Rattle.std.specs.Prelude.{◌≡◌, ◌++◌, true, OnOk, IfOk, map};
 ghost use Rattle.sdl_ast.specs.Views.{connection_of, process_of};
 ghost use Rattle.sdl_trimmed.specs.Trimmed.{AreTrimmed};
-ghost use Rattle.sdl_emit.specs.Scopes.{scope_in, piece_in};
+ghost use Rattle.sdl_emit.specs.Scopes.{scope_in, piece_in, IsBody};
 ghost use Rattle.sdl_meaning.specs.Named.{NamedConnections, NamedPiece};
 ghost use Rattle.sdl_facts.specs.Reads.{everything};
 ghost use Rattle.sdl_facts.specs.Entries.{entry_at, AreOfAll, connection_met, connections_met};
@@ -165,6 +165,7 @@ pub fn place_sets(
     standing: &Standing,
     body: &Body,
 ) -> Result<Vec<VariableSet>, AllocError>
+    requires body { IsBody body.now }
     requires named { NamedPiece (scope_in names.now) (piece_in standing.now.places.now body.now.whole.now) }
     requires copied { AreTrimmed (process_of names.now.process.now).connections standing.now.copies.now }
     ensures { IfOk result (λ v. v.items ≡ piece_sets (scope_in names.now) standing.now.entry (piece_in standing.now.places.now body.now.whole.now) standing.now.order.now standing.now.numbers.now) }

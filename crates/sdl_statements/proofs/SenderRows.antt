@@ -26,7 +26,7 @@ sent_alike [] own s t e = refl
 sent_alike (path ∷ paths) own s t e =
     λ i. (if same_party own path.to && in_alike path.signals s t e i then path.from ∷ [] else []) ++ sent_alike paths own s t e i
 
-senders_alike : (b : PlainBlock) (own : Party) (s t : List ℕ) → folded s ≡ folded t → senders b own s ≡ senders b own t
+pub senders_alike : (b : PlainBlock) (own : Party) (s t : List ℕ) → folded s ≡ folded t → senders b own s ≡ senders b own t
 senders_alike b own s t e = sent_alike (paths_of b) own s t e
 
 -- what holds of two lists side by side holds with an element more of each

@@ -1,5 +1,5 @@
 //! With what transitions begin, to which connections they come, and who may have sent what those begin with.
-ghost use Rattle.std.specs.Prelude.{◌≡◌, ◌&&◌, false, true, ℕ, Bool, List, Option, None, map, slice_get, All, IfOk, OnOk};
+ghost use Rattle.std.specs.Prelude.{◌≡◌, ◌&&◌, [], false, true, ℕ, Bool, List, Option, None, map, slice_get, All, IfOk, OnOk};
 ghost use Rattle.std.specs.Option.{option_map_or};
 ghost use Rattle.sdl_ast.specs.Plain.{PlainBlock, PlainProcess};
 ghost use Rattle.sdl_ast.specs.Views.{text_of, input_of, stimulus_of, process_of, block_of};
@@ -43,7 +43,7 @@ fn source_rows(
     table: &SenderTable,
     source: Source,
 ) -> Result<Vec<Option<usize>>, AllocError>
-    ensures { IfOk result (λ v. v.items ≡ source_rows table.now.names source) }
+    ensures { IfOk result (λ v. v.items ≡ source_rows table.now.names source.entry) }
 {
     match source {
         Source::Start => Ok(Vec::new(alloc)),

@@ -20,8 +20,8 @@ connection_places-requires-clause-there c =
     rw c.deref.ensures.value
     (placed_within (scope_in c.args.setting.now.names.now) (piece_in c.args.places.now c.args.body.now.whole.now) c.in_ok-numbers.numbers.items c.requires.ready.named c.in_ok-numbers.ensures)
 
-pub text_size-requires : goal.text_size-requires
-text_size-requires c =
+pub text_size-requires-clause-short : goal.text_size-requires-clause-short
+text_size-requires-clause-short c =
     let h = size_fits (scope_in c.args.setting.now.names.now) (piece_in c.args.places.now c.args.body.now.whole.now) c.requires.ready.named c.in_ok-numbers.numbers.items c.in_ok-numbers.ensures c.requires.ready.small.size in
     omega (arith, h)
 

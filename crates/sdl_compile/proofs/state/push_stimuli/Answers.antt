@@ -1,4 +1,4 @@
-use Rattle.std.proofs.Common.{List, ◌++◌, ◌+◌, ◌∙◌, map, take, ap, sym, subst, append-nil}
+use Rattle.std.proofs.Common.{List, ◌++◌, ◌+◌, ◌∙◌, map, take, ap, sym, subst, append-nil, take_all}
 use Rattle.std.specs.List.{AllZip}
 use Rattle.turn_code.specs.declared.draft.DraftInput.{DraftInput}
 use Rattle.sdl_ast.specs.declared.tree.Stimulus.{Stimulus}
@@ -28,3 +28,11 @@ loop-stimulus-preserved c = λ before old.
     subst (λ (ds : List DraftInput). AllZip R (before ++ map f (take (i + 1) all)) ds) (sym c.in_ok-push.ensures.items)
     (zip_behind R f before all i c.stimulus-item.result c.loop-stimulus.drafts.items c.in_ok-compile_input.field-0 c.loop-stimulus-test.true c.stimulus-item.is
     (c.loop-stimulus.invariant before old) c.in_ok-compile_input.ensures)
+
+pub returns : goal.returns
+returns c = λ before old.
+    let R = IsInputOf (scope_in c.args.context.now.names.now) c.args.entry in
+    let f = input_by c.args.input.now in
+    let all = c.deref-stimulus-items.result.now in
+    let taken = ap (map f) (take_all c.loop-stimulus.stimulus-index all c.loop-stimulus-test.false ∙ c.deref-stimulus-items.ensures.value) ∙ sym (stimuli_taken c.args.input.now) in
+    subst (λ is. AllZip R (before ++ is) c.loop-stimulus.drafts.items) taken (c.loop-stimulus.invariant before old)

@@ -8,5 +8,5 @@ use Rattle.sdl_emit.proofs.bodies.text_size.Goals as goal
 pub returns : goal.returns
 returns c =
     let vs = variables_of (process_of c.args.process.now) in
-    let same = ap (size vs) c.args.body.now.copied ∙ size_same vs (text_of c.args.body.now.whole.now) in
-    omega (arith, same, c.code_size.ensures, c.requires)
+    let same = ap (size vs) c.requires.body ∙ size_same vs (text_of c.args.body.now.whole.now) in
+    omega (arith, same, c.code_size.ensures, c.requires.short)

@@ -15,12 +15,12 @@ loop-next-init c =
     let t = text_of c.args.body.now.whole.now in
     record {
       gathered = first_gathered s t c.requires.text c.place_joined.new.placed.items (c.in_ok-place_joined.ensures.placed ∙ ap (λ l. fold add_number l (joined s (text_of c.args.body.now.copy.now))) c.new-placed.ensures.items
-          ∙ ap (λ (ns : List ℕ). fold add_number [] ns) (joined_so s c.args.body.now.copy.now t c.args.body.now.copied));
+          ∙ ap (λ (ns : List ℕ). fold add_number [] ns) (joined_so s c.args.body.now.copy.now t c.requires.body));
       marks = c.in_ok-place_joined.ensures.marks;
     }
 
 pub place_joined-requires-clause-text : goal.place_joined-requires-clause-text
-place_joined-requires-clause-text c = named_so (scope_in c.args.names.now) c.args.body.now.copy.now (text_of c.args.body.now.whole.now) c.args.body.now.copied c.requires.text
+place_joined-requires-clause-text c = named_so (scope_in c.args.names.now) c.args.body.now.copy.now (text_of c.args.body.now.whole.now) c.requires.body c.requires.text
 
 pub place_joined-requires-clause-marks : goal.place_joined-requires-clause-marks
 place_joined-requires-clause-marks c =

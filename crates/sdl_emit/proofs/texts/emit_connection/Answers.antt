@@ -19,13 +19,13 @@ emit_text-requires-clause-fits c =
     let same = size_so s t (text_at s n) (copy_is s c.args.copies.now c.requires.copied n t c.in-Some.ensures.lookup.3.0 c.in-Some.ensures.lookup.1) in
     omega (arith, same, c.requires.fits)
 
-pub returns-in_ok-emit_text : goal.returns-in_ok-emit_text
-returns-in_ok-emit_text c =
+pub returns-in_ok-emit_text-in-Some : goal.returns-in_ok-emit_text-in-Some
+returns-in_ok-emit_text-in-Some c =
     let s = scope_in c.args.names.now in
     let n = c.args.number in
     let t = c.in-Some.copy.now in
     let old = c.args.code.now.items in
-    c.in_ok-emit_text.ensures.code
+    c.in_ok-emit_text-in-Some.ensures.code
     ∙ ap (λ l. old ++ l) (code_so s t (text_at s n) (copy_is s c.args.copies.now c.requires.copied n t c.in-Some.ensures.lookup.3.0 c.in-Some.ensures.lookup.1) (places_by c.args.places.now) (length old))
 
 pub returns-in-None : goal.returns-in-None

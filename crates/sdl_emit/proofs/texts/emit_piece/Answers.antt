@@ -10,14 +10,14 @@ pub returns : goal.returns
 returns c =
     piece_whole (scope_in c.args.names.now) (piece_in c.args.places.now c.args.body.now.whole.now) (places_by c.args.targets.now) c.args.numbers.now c.requires.placed c.requires.fits c.emit_places.new.code.items (c.in_ok-emit_places.ensures ∙ ap (λ l. l ++ places_code (scope_in c.args.names.now) 0 c.args.places.now) c.new-code.ensures.items)
     c.emit_text.new.code.items (c.in_ok-emit_text.ensures.code ∙ ap (λ l. c.emit_places.new.code.items ++ l)
-    (code_so (scope_in c.args.names.now) c.args.body.now.copy.now (text_of c.args.body.now.whole.now) c.args.body.now.copied (places_by c.args.targets.now) (length c.emit_places.new.code.items))) c.emit_connections.new.code.items c.in_ok-emit_connections.ensures
+    (code_so (scope_in c.args.names.now) c.args.body.now.copy.now (text_of c.args.body.now.whole.now) c.requires.body (places_by c.args.targets.now) (length c.emit_places.new.code.items))) c.emit_connections.new.code.items c.in_ok-emit_connections.ensures
 
 pub emit_text-requires-clause-named : goal.emit_text-requires-clause-named
-emit_text-requires-clause-named c = named_so (scope_in c.args.names.now) c.args.body.now.copy.now (text_of c.args.body.now.whole.now) c.args.body.now.copied c.requires.named.text.text
+emit_text-requires-clause-named c = named_so (scope_in c.args.names.now) c.args.body.now.copy.now (text_of c.args.body.now.whole.now) c.requires.body c.requires.named.text.text
 
 pub emit_text-requires-clause-fits : goal.emit_text-requires-clause-fits
 emit_text-requires-clause-fits c =
-    let same = size_so (scope_in c.args.names.now) c.args.body.now.copy.now (text_of c.args.body.now.whole.now) c.args.body.now.copied in
+    let same = size_so (scope_in c.args.names.now) c.args.body.now.copy.now (text_of c.args.body.now.whole.now) c.requires.body in
     let fits = text_fits (scope_in c.args.names.now) (piece_in c.args.places.now c.args.body.now.whole.now) (places_by c.args.targets.now) c.args.numbers.now c.requires.placed c.requires.fits c.emit_places.new.code.items (c.in_ok-emit_places.ensures ∙ ap (λ l. l ++ places_code (scope_in c.args.names.now) 0 c.args.places.now) c.new-code.ensures.items) in
     omega (arith, same, fits)
 
@@ -28,4 +28,4 @@ pub emit_connections-requires-clause-fits : goal.emit_connections-requires-claus
 emit_connections-requires-clause-fits c =
     connections_follow (scope_in c.args.names.now) (piece_in c.args.places.now c.args.body.now.whole.now) (places_by c.args.targets.now) c.args.numbers.now c.requires.placed c.requires.fits c.emit_places.new.code.items (c.in_ok-emit_places.ensures ∙ ap (λ l. l ++ places_code (scope_in c.args.names.now) 0 c.args.places.now) c.new-code.ensures.items)
     c.emit_text.new.code.items (c.in_ok-emit_text.ensures.code ∙ ap (λ l. c.emit_places.new.code.items ++ l)
-    (code_so (scope_in c.args.names.now) c.args.body.now.copy.now (text_of c.args.body.now.whole.now) c.args.body.now.copied (places_by c.args.targets.now) (length c.emit_places.new.code.items)))
+    (code_so (scope_in c.args.names.now) c.args.body.now.copy.now (text_of c.args.body.now.whole.now) c.requires.body (places_by c.args.targets.now) (length c.emit_places.new.code.items)))

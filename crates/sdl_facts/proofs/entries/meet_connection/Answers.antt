@@ -22,7 +22,7 @@ returns-in_ok-mark_text c =
     let t = c.in-Some.copy.now in
     let es = c.args.entries.now.items in
     copy_met s c.args.copies.now c.requires.copied n t c.in-Some.ensures.lookup.3.0 c.in-Some.ensures.lookup.1 es c.mark_text.new.entries.items
-    (c.in_ok-mark_text.ensures.entries ∙ ap (λ m. met s m (text_of t) es) (c.entry_of-set.ensures ∙ ap (λ l. entry_at l n) c.deref-in-Some.ensures.value))
+    (c.in_ok-mark_text.ensures.entries ∙ ap (λ m. met s m (text_of t) es) (c.entry_of-set.ensures ∙ ap (λ l. entry_at l n) c.deref.ensures.value))
 
 pub returns-in_default : goal.returns-in_default
 returns-in_default c = no_met (scope_in c.args.names.now) c.args.copies.now c.requires.copied c.args.number c.in_default.ensures.lookup.3 c.args.entries.now.items

@@ -18,7 +18,7 @@ meet_connections-requires-clause-all c =
     (subst AreOfAll (sym c.in_ok-entries.ensures) (start_kept (map connection_of c.deref.result.now))))
 
 pub mark_text-requires : goal.mark_text-requires
-mark_text-requires c = named_so (scope_in c.args.names.now) c.args.body.now.copy.now (text_of c.args.body.now.whole.now) c.args.body.now.copied c.requires.named.text.text
+mark_text-requires c = named_so (scope_in c.args.names.now) c.args.body.now.copy.now (text_of c.args.body.now.whole.now) c.requires.body c.requires.named.text.text
 
 pub returns : goal.returns
 returns c =
@@ -30,5 +30,5 @@ returns c =
     c.in_ok-entries.entries.items c.mark_text.new.entries.items c.meet_connections.new.entries.items c.deref-2.result.now
     c.new-sets.result.items c.mark_places.new.sets.items c.mark_text.new.sets.items c.mark_connections.new.sets.items
     (c.in_ok-entries.ensures ∙ ap (map (λ (x : PlainConnection). everything)) (sym listed)) c.new-sets.ensures.items c.in_ok-set.ensures.sets c.in_ok-set.ensures.behind
-    (c.in_ok-mark_text.ensures.sets ∙ ap (λ l. c.mark_places.new.sets.items ++ l) (sets_so s copy whole c.args.body.now.copied c.in_ok-set.set))
-    (c.in_ok-mark_text.ensures.entries ∙ met_so s copy whole c.args.body.now.copied c.in_ok-set.set c.in_ok-entries.entries.items) c.in_ok-meet_connections.ensures c.deref-2.ensures.value c.in_ok-mark_connections.ensures
+    (c.in_ok-mark_text.ensures.sets ∙ ap (λ l. c.mark_places.new.sets.items ++ l) (sets_so s copy whole c.requires.body c.in_ok-set.set))
+    (c.in_ok-mark_text.ensures.entries ∙ met_so s copy whole c.requires.body c.in_ok-set.set c.in_ok-entries.entries.items) c.in_ok-meet_connections.ensures c.deref-2.ensures.value c.in_ok-mark_connections.ensures

@@ -12,4 +12,4 @@ returns c = λ s.
     let b = block_of c.args.block.now in
     let p = process_of c.args.process.now in
     (c.in_ok-add_stimuli.ensures _ (c.in_ok-gathered.ensures b p)).gathers.told s
-    ∙ ap (λ (l : List Stimulus). answers_all b p (map takes (map stimulus_of l)) s) c.deref.ensures.value
+    ∙ ap (λ (l : List Stimulus). answers_all b p (map takes (map stimulus_of l)) s) c.deref-2.ensures.value
