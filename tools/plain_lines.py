@@ -1,8 +1,8 @@
 #!/usr/bin/env python3
-"""Two plain terminals (plain_term.py) whose lines are tied together: makes the runs of crates/link_lines on the same bits of noise, and prints the lines that
-the program has to print for them. Nothing of the program is read but its table of runs and the octets of a message.
+"""Two plain terminals (plain_term.py) whose lines are tied together: makes the runs of crates/link_trials on the same bits of noise, and prints the lines that
+the program has to print for them, its first lines where it has no words. Nothing of the program is read but the runs in its standard input, and the octets of a message.
 
-usage: tools/plain_lines.py                                             the runs of the table
+usage: tools/plain_lines.py                                             the runs of crates/link_trials/stdin
        tools/plain_lines.py MODE SEED RATE MESSAGES GIVEN UNITS         one run"""
 import pathlib
 import re
@@ -11,18 +11,17 @@ import sys
 from plain_play import Refused
 from plain_term import FLAG, ROOT, Terminal, bits_of, check_octets, octets_of, stuffed
 
-SOURCE = ROOT / "crates" / "link_lines" / "src"
+SOURCE = ROOT / "crates" / "link_trials" / "src"
 TEXT = (ROOT / "examples" / "standard.sdl").read_bytes()
-FIELDS = ("mode", "seed", "rate", "messages", "given", "units")
 MOST_KEPT, MOST_ROUNDS, ALIGNING = 400, 5000, 900
 FILLER = bytes(int(it, 16) for it in re.search(r"FILLER.*?= \[(.*?)\]", (SOURCE / "end.rt").read_text(), re.S)[1].replace("0x", "").replace(",", " ").split())
 
 
 def table():
-    """The runs of the program's table."""
-    for part in re.findall(r"Run \{(.*?)\}", (SOURCE / "runs.rt").read_text().split("];")[0], re.S):
-        values = dict(re.findall(r"(\w+): (?:Mode::)?(\w+),", part))
-        yield values["mode"].lower(), *(int(values[it].replace("_", "")) for it in FIELDS[1:])
+    """The runs that the program reads where it has no words."""
+    for words in map(str.split, (SOURCE.parent / "stdin").read_text().splitlines()):
+        if words and words[0] in ("basic", "cyclic"):
+            yield words[0], *map(int, words[1:])
 
 
 def noisy(bits, rate, noise):
@@ -178,7 +177,7 @@ def make(mode, seed, rate, messages, given, units):
 
 
 def main(words):
-    if words and len(words) != len(FIELDS):
+    if words and len(words) != 6:
         print(__doc__, file=sys.stderr)
         return 3
     for run in [(words[0], *map(int, words[1:]))] if words else table():

@@ -1,26 +1,10 @@
 //! Two terminals whose lines are tied together.
 ghost use Rattle.std.specs.Prelude.{◌≡◌, ◌≤◌, length};
 
+use crate::calls::{Stopped, pass, tell, terminal};
 use arrayvec::ArrayVec;
-use link_term::{CallError, Command, Mode, Msu, NewError, Report, Terminal};
-use std::alloc::{AllocError, Global};
-
-/// Why a row can't be shown.
-#[derive(Clone, Copy)]
-pub enum Stopped {
-    /// There is no memory.
-    NoMemory,
-    /// A terminal wasn't made, or refused what it was told.
-    Refused,
-    /// A line is no step, or a row has no name.
-    BadLine,
-}
-
-impl From<AllocError> for Stopped {
-    fn from(_error: AllocError) -> Stopped {
-        Stopped::NoMemory
-    }
-}
+use link_term::{Command, Mode, Msu, Report, Terminal};
+use std::alloc::Global;
 
 /// How many units go each way in an exchange, so that some of them are whole on the line.
 const UNITS: usize = 3;
@@ -71,39 +55,6 @@ fn message(octets: u16) -> Msu
     Msu { sio: 0x83, sif }
 }
 
-/// A new terminal.
-fn terminal(alloc: Global) -> Result<Terminal, Stopped> {
-    match Terminal::new(alloc, Mode::Basic) {
-        Ok(terminal) => Ok(terminal),
-        Err(NewError::NoMemory) => Err(Stopped::NoMemory),
-        Err(_) => Err(Stopped::Refused),
-    }
-}
-
-/// Why a terminal did not do what it was told.
-fn why_stopped(error: CallError) -> Stopped {
-    match error {
-        CallError::NoMemory => Stopped::NoMemory,
-        CallError::Refused(_) => Stopped::Refused,
-    }
-}
-
-/// Tells a terminal something.
-fn tell(terminal: &mut Terminal, command: Command) -> Result<(), Stopped> {
-    match terminal.command(command) {
-        Ok(()) => Ok(()),
-        Err(error) => Err(why_stopped(error)),
-    }
-}
-
-/// So many milliseconds pass at an end.
-fn pass(terminal: &mut Terminal, ticks: u16) -> Result<(), Stopped> {
-    match terminal.tick(u64::from(ticks)) {
-        Ok(_) => Ok(()),
-        Err(error) => Err(why_stopped(error)),
-    }
-}
-
 /// A message to send.
 fn put(terminal: &mut Terminal, octets: u16) -> Result<(), Stopped> {
     match terminal.put(message(octets)) {
@@ -122,27 +73,32 @@ fn carry(from: &mut Terminal, to: &mut Terminal) -> Result<(), Stopped> {
 }
 
 impl Pair {
+    /// Two new terminals.
     pub fn new(alloc: Global) -> Result<Pair, Stopped> {
-        let near = terminal(alloc)?;
-        let far = terminal(alloc)?;
+        let near = terminal(alloc, Mode::Basic)?;
+        let far = terminal(alloc, Mode::Basic)?;
         Ok(Pair { near, far })
     }
 
+    /// Units go to the far end, and then come from there.
     fn exchange(&mut self) -> Result<(), Stopped> {
         carry(&mut self.near, &mut self.far)?;
         carry(&mut self.far, &mut self.near)
     }
 
-    fn wait(&mut self, ticks: u16) -> Result<(), Stopped> {
+    /// So many milliseconds pass at both ends.
+    fn wait(&mut self, ticks: u64) -> Result<(), Stopped> {
         pass(&mut self.near, ticks)?;
         pass(&mut self.far, ticks)
     }
 
+    /// Units that go to the far end are lost.
     fn lose(&mut self) -> Result<(), Stopped> {
         let _lost = self.near.line_out(UNITS)?;
         Ok(())
     }
 
+    /// So many octets of 1s come to the near end.
     fn hear_ones(&mut self, octets: u16) -> Result<(), Stopped> {
         for _ in 0..octets {
             if self.near.line_in(&[0xFF]) == 0 {
@@ -162,7 +118,7 @@ impl Pair {
             Step::Exchange => self.exchange(),
             Step::Lose => self.lose(),
             Step::Ones(octets) => self.hear_ones(octets),
-            Step::Wait(ticks) => self.wait(ticks),
+            Step::Wait(ticks) => self.wait(u64::from(ticks)),
             Step::Show => Ok(()),
         }
     }

@@ -1,9 +1,10 @@
 //! Two ends of a line.
 
-use crate::end::{End, Stopped};
+use crate::calls::Stopped;
+use crate::end::End;
 use crate::figures::Figures;
 use crate::noise::Noise;
-use link_term::Mode;
+use crate::run::Run;
 use std::alloc::Global;
 
 /// How many rounds a run has at most.
@@ -11,20 +12,6 @@ const MOST_ROUNDS: u32 = 5_000;
 
 /// How many ticks a round takes while the link comes up: so proving is 10 rounds, and has few units.
 const ALIGNING: u64 = 900;
-
-/// A run over a line.
-#[derive(Clone, Copy)]
-pub struct Run {
-    pub mode: Mode,
-    pub seed: u64,
-    /// Of so many bits one is flipped, one dropped and one doubled; 0 for none.
-    pub rate: u64,
-    /// How many messages go each way, and how many of them are given to each end in a round.
-    pub messages: u32,
-    pub given: u32,
-    /// How many units go one way before as many go the other way.
-    pub units: u32,
-}
 
 /// What came of a run.
 #[derive(Clone, Copy)]
@@ -58,7 +45,7 @@ impl Line {
         Ok(Line {
             left,
             right,
-            noise: Noise::new(run.seed, run.rate),
+            noise: Noise::new(u64::from(run.seed), u64::from(run.rate)),
         })
     }
 
@@ -79,10 +66,8 @@ impl Line {
     /// Lets the time of a round pass.
     fn wait(&mut self, run: &Run) -> Result<(), Stopped> {
         let ticks = self.ticks(run);
-        self.left.terminal.tick(ticks)?;
-        self.right.terminal.tick(ticks)?;
-        self.left.read()?;
-        self.right.read()
+        self.left.wait(ticks)?;
+        self.right.wait(ticks)
     }
 
     /// One round: messages to send, units one way, units the other way, and the time that they take.
@@ -106,15 +91,22 @@ impl Line {
         }
         Ok(())
     }
+
+    /// What came of it.
+    fn outcome(&self) -> Outcome {
+        Outcome {
+            left: self.left.figures,
+            right: self.right.figures,
+            damaged: self.noise.damaged,
+        }
+    }
 }
 
 /// Makes a run.
 pub fn carry_all(alloc: Global, run: &Run) -> Result<Outcome, Stopped> {
     let mut line = Line::new(alloc, run)?;
-    line.make(run)?;
-    Ok(Outcome {
-        left: line.left.figures,
-        right: line.right.figures,
-        damaged: line.noise.damaged,
-    })
+    match line.make(run) {
+        Ok(()) => Ok(line.outcome()),
+        Err(why) => Err(why),
+    }
 }

@@ -1,35 +1,12 @@
 //! One end of a line.
 ghost use Rattle.std.specs.Prelude.{◌≡◌, ◌≤◌, length};
 
+use crate::calls::{Stopped, pass, tell, terminal};
 use crate::figures::Figures;
 use crate::noise::Noise;
 use arrayvec::ArrayVec;
-use link_term::{CallError, Command, LinkStatus, Mode, Msu, NewError, Report, Terminal};
-use std::alloc::{AllocError, Global};
-
-/// Why a run stopped.
-#[derive(Clone, Copy)]
-pub enum Stopped {
-    /// There is no memory.
-    NoMemory,
-    /// A terminal wasn't made, or refused what it was told.
-    Refused,
-}
-
-impl From<AllocError> for Stopped {
-    fn from(_error: AllocError) -> Stopped {
-        Stopped::NoMemory
-    }
-}
-
-impl From<CallError> for Stopped {
-    fn from(error: CallError) -> Stopped {
-        match error {
-            CallError::NoMemory => Stopped::NoMemory,
-            CallError::Refused(_) => Stopped::Refused,
-        }
-    }
-}
+use link_term::{Command, LinkStatus, Mode, Msu, Report, Terminal};
+use std::alloc::Global;
 
 /// How many messages an end keeps to send at most.
 const MOST_KEPT: usize = 400;
@@ -85,15 +62,6 @@ fn number_of(msu: &Msu) -> u32 {
     }
 }
 
-/// A new terminal.
-fn terminal(alloc: Global, mode: Mode) -> Result<Terminal, Stopped> {
-    match Terminal::new(alloc, mode) {
-        Ok(terminal) => Ok(terminal),
-        Err(NewError::NoMemory) => Err(Stopped::NoMemory),
-        Err(_) => Err(Stopped::Refused),
-    }
-}
-
 impl End {
     pub fn new(alloc: Global, mode: Mode) -> Result<End, Stopped> {
         Ok(End {
@@ -107,9 +75,8 @@ impl End {
 
     /// Has the link come into service.
     pub fn start(&mut self) -> Result<(), Stopped> {
-        self.terminal.command(Command::PowerOn)?;
-        self.terminal.command(Command::Start)?;
-        Ok(())
+        tell(&mut self.terminal, Command::PowerOn)?;
+        tell(&mut self.terminal, Command::Start)
     }
 
     /// Gives the terminal as many messages to send, if it doesn't keep too many, up to so many in all.
@@ -145,26 +112,44 @@ impl End {
     /// What was told of the link. One that went down is to come up again.
     fn heed(&mut self, status: LinkStatus) -> Result<(), Stopped> {
         match status {
-            LinkStatus::InService => self.figures.begin(),
+            LinkStatus::InService => {
+                self.figures.begin();
+                Ok(())
+            }
             LinkStatus::Down(_) => {
                 self.figures.end();
-                self.terminal.command(Command::Start)?;
+                tell(&mut self.terminal, Command::Start)
             }
-            _ => {}
+            _ => Ok(()),
         }
-        Ok(())
+    }
+
+    /// Takes a report.
+    fn take(&mut self, report: Report) -> Result<(), Stopped> {
+        match report {
+            Report::Message(msu) => {
+                self.figures.take(number_of(&msu));
+                Ok(())
+            }
+            Report::Status(status) => self.heed(status),
+        }
     }
 
     /// Takes all reports.
     pub fn read(&mut self) -> Result<(), Stopped> {
         for _ in 0..1000u32 {
             match self.terminal.report() {
-                Some(Report::Message(msu)) => self.figures.take(number_of(&msu)),
-                Some(Report::Status(status)) => self.heed(status)?,
+                Some(report) => self.take(report)?,
                 None => return Ok(()),
             }
         }
         Ok(())
+    }
+
+    /// Lets so many milliseconds pass, and takes all reports.
+    pub fn wait(&mut self, ticks: u64) -> Result<(), Stopped> {
+        pass(&mut self.terminal, ticks)?;
+        self.read()
     }
 
     /// Gives the terminal a line octet, and once more where it wanted memory.

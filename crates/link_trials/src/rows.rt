@@ -1,6 +1,7 @@
 //! Rows: what is done, and what is handed out.
 
-use crate::pair::{Pair, Step, Stopped};
+use crate::calls::Stopped;
+use crate::pair::{Pair, Step};
 use crate::steps::step_of;
 use link_term::{LinkStatus, Report};
 use std::alloc::{AllocError, Global};
@@ -54,19 +55,24 @@ fn play_line(text: &mut String, pair: &mut Pair, line: &str) -> Result<(), Stopp
 }
 
 /// Does the steps of a row.
-fn play_steps(alloc: Global, steps: &str, text: &mut String) -> Result<(), Stopped> {
-    let mut pair = Pair::new(alloc)?;
+fn play_lines(text: &mut String, pair: &mut Pair, steps: &str) -> Result<(), Stopped> {
     for line in steps.lines() {
-        play_line(text, &mut pair, line)?;
+        play_line(text, pair, line)?;
     }
     Ok(())
 }
 
+/// Does the steps of a row with two new terminals.
+fn play_steps(alloc: Global, text: &mut String, steps: &str) -> Result<(), Stopped> {
+    let mut pair = Pair::new(alloc)?;
+    play_lines(text, &mut pair, steps)
+}
+
 /// Plays a row: its name, and a line for each step. Writes its name and what is handed out.
-pub fn play_row(alloc: Global, row: &str, text: &mut String) -> Result<(), Stopped> {
+pub fn play_row(alloc: Global, text: &mut String, row: &str) -> Result<(), Stopped> {
     let Some((name, steps)) = row.split_once('\n') else {
         return Err(Stopped::BadLine);
     };
     writeln!(text, "{name}")?;
-    play_steps(alloc, steps, text)
+    play_steps(alloc, text, steps)
 }
