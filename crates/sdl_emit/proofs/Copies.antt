@@ -14,7 +14,7 @@ use Rattle.sdl_trimmed.specs.Trimmed.{trimmed, AreTrimmed}
 use Rattle.sdl_meaning.specs.Act.{Scope, connector_at}
 use Rattle.sdl_meaning.specs.Named.{NamedText}
 use Rattle.sdl_meaning.specs.Code.{number_or_zero, joined, text_at, text_code}
-use Rattle.sdl_emit.proofs.Emitting.{beyond}
+use Rattle.sdl_meaning.proofs.Sorting.{none_past as beyond}
 use Rattle.sdl_emit.proofs.Trimming.{size_same, joins_same, code_same, named_same}
 
 module _ (c : Scope) (t : Transition) (whole : Text) (is : text_of t ≡ trimmed whole) where
