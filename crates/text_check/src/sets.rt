@@ -1,5 +1,5 @@
 //! Sets of processes, as commands name them.
-ghost use Rattle.std.specs.Prelude.{◌≡◌, List, ℕ, IfOk, IfErr, IsFalse};
+ghost use Rattle.std.specs.Prelude.{◌≡◌, ◌↔◌, List, ℕ, IfOk, IfErr, IsFalse};
 ghost use Rattle.text_reader.specs.Reading.{Keeps};
 ghost use Rattle.turn_verify.specs.Loaded.{IsRefused};
 ghost use Rattle.text_check.specs.Checked.{given, IsGiven, IsRefusal, IsRefusalOf, IsSetOf, IsText, IsTooLong};
@@ -53,7 +53,7 @@ impl fmt::Display for SetFault {
 impl SetFault {
     /// Whether it was memory or a read that failed, and no text is refused.
     pub fn is_failure(&self) -> bool
-        ensures { IsFalse result → IsRefusal self.now }
+        ensures { IsFalse result ↔ IsRefusal self.now }
     {
         match self {
             SetFault::Load(fault) => fault.wants_memory(),
