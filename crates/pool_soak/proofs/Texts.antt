@@ -58,6 +58,6 @@ is_not b is_false is_true = absurd (false≢true (sym is_false ∙ is_true))
 -- where the seats agree it is the audit that says no
 pub audit_says_no : (old new : Option (List ℕ)) (agree stand : Bool) → agree ≡ true → agree && stand ≡ false → Appends old new (lines_with agree stand)
     → Appends old new (lines_with true false)
-audit_says_no old new true true yes no printed = absurd (false≢true (sym no))
-audit_says_no old new true false yes no printed = printed
-audit_says_no old new false stand yes no printed = absurd (false≢true yes)
+audit_says_no old new true true agreed wrong printed = absurd (false≢true (sym wrong))
+audit_says_no old new true false agreed wrong printed = printed
+audit_says_no old new false stand agreed wrong printed = absurd (false≢true agreed)

@@ -164,7 +164,7 @@ fn begun(alloc: Global, soak: &Soak<'_>) -> Option<(Verified, Vec<Book>)>
     }
 }
 
-#[tactic(auto, using(crate::proofs::Books::agree, crate::proofs::Books::said))]
+#[tactic(auto, using(crate::proofs::Books::said))]
 /// Serves links while a script runs. What is left of them, and the receipts of the script's client.
 fn served<R: Threads + Wait + Sync>(
     rt: &R,
