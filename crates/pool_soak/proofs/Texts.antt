@@ -1,5 +1,5 @@
 -- Lines that were written, and the texts of scripts.
-use Rattle.std.proofs.Common.{◌≡◌, ℕ, zero, ◌+◌, ◌<◌, ◌==◌, nat_lt, Bool, true, false, List, ◌++◌, length, take, Option, Err, inl, inr, ap, sym, ◌∙◌, arith, length-take}
+use Rattle.std.proofs.Common.{◌≡◌, ℕ, zero, ◌+◌, ◌<◌, ◌==◌, nat_lt, Bool, true, false, ◌&&◌, List, ◌++◌, length, take, Option, Err, inl, inr, ap, sym, ◌∙◌, arith, length-take}
 use Rattle.std.specs.Prelude.{◌⊎◌, IsTrue, IsUtf8, count_by}
 use borrow.Author.Tests.{ltb-true}
 use Rattle.std.specs.Io.KnownBytes.{Appends}
@@ -10,7 +10,7 @@ use Rattle.text_reader.specs.declared.reading.TextRead.{TextRead}
 use Rattle.script_lines.specs.declared.script.ScriptFault.{ScriptFault}
 use Rattle.script_lines.specs.declared.script.ScriptFault.TheVariants.{BadLine, NoMemory}
 use Rattle.pool_soak.specs.Scripts.{soak_of, IsFaultOf}
-use Rattle.pool_soak.specs.Findings.{IsEnd, IsTurnedDown, PrintsFault}
+use Rattle.pool_soak.specs.Findings.{IsEnd, IsTurnedDown, PrintsFault, lines_with}
 use Rattle.pool_soak.proofs.Loops.{long}
 use Rattle.text_check.proofs.Long.{take_twice}
 
@@ -54,3 +54,10 @@ bad_line old new bytes NoMemory utf8 reads printed = absurd printed
 
 pub is_not : (b : Bool) → b ≡ false → IsTrue b → ⊥
 is_not b is_false is_true = absurd (false≢true (sym is_false ∙ is_true))
+
+-- where the seats agree it is the audit that says no
+pub audit_says_no : (old new : Option (List ℕ)) (agree stand : Bool) → agree ≡ true → agree && stand ≡ false → Appends old new (lines_with agree stand)
+    → Appends old new (lines_with true false)
+audit_says_no old new true true agreed wrong printed = absurd (false≢true (sym wrong))
+audit_says_no old new true false agreed wrong printed = printed
+audit_says_no old new false stand agreed wrong printed = absurd (false≢true agreed)

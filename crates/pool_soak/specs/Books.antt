@@ -1,9 +1,11 @@
 -- The books that `soak` has worked on.
-use Rattle.std.specs.Prelude.{◌≡◌, ℕ, List, length}
+use Rattle.std.specs.Prelude.{◌≡◌, ℕ, List, length, Option, None, Some}
 use Rattle.std.specs.List.{All}
 use Rattle.turn_code.specs.declared.draft.Draft.{Draft}
 use Rattle.link_machine.specs.Ledger.{Ledger}
 use Rattle.link_machine.specs.Kept.{opened_book}
+use Rattle.mtp2_text.specs.declared.standard_text.TheConstants.{STANDARD}
+use Rattle.turn_verify.specs.Loaded.{IsLoaded}
 
 -- how many signals each port of a link holds, how many may wait for the environment, and how many events its journal holds
 abbrev pub PORT : ℕ
@@ -19,3 +21,8 @@ JOURNAL = 4096
 pub record AreOpened (set : Draft) (links : ℕ) (books : List Ledger) : Type 0 where
   pub number : length books ≡ links
   pub opened : All (λ book. book ≡ opened_book set PORT ENVIRONMENT JOURNAL) books
+
+-- the profile's set, and as many links of it as a script says
+abbrev pub AreBegun : Option ℕ → Draft → List Ledger → Type 0
+AreBegun None set books = ⊥
+AreBegun (Some links) set books = IsLoaded STANDARD.now set × AreOpened set links books

@@ -1,5 +1,5 @@
 -- What `soak` prints.
-use Rattle.std.specs.Prelude.{◌≡◌, ◌⊎◌, ℕ, Bool, true, false, ◌&&◌, List, ◌++◌, Option, Ok, Err, IsUtf8, codes}
+use Rattle.std.specs.Prelude.{◌≡◌, ◌⊎◌, ℕ, Bool, true, false, List, ◌++◌, Option, Ok, Err, IsUtf8, codes}
 use Rattle.std.specs.Io.KnownBytes.{Appends}
 use Rattle.script_lines.specs.Printed.{script_fault_text}
 use Rattle.script_lines.specs.declared.script.ScriptFault.{ScriptFault}
@@ -37,19 +37,12 @@ pub record IsSoaked (old new : Option (List ℕ)) (bytes : List ℕ) : Type 0 wh
   pub reads : soak_of bytes ≡ Ok script
   pub printed : Appends old new (lines_with true true)
 
--- one of the two lines says no
-pub record SaysNo (old new : Option (List ℕ)) : Type 0 where
-  pub agree : Bool
-  pub stand : Bool
-  pub one : agree && stand ≡ false
-  pub printed : Appends old new (lines_with agree stand)
-
--- the bytes are a script, and one of the lines says no
+-- The bytes are a script, and the second line says no. The first never does: what was counted is what happened.
 pub record IsSoakedInVain (old new : Option (List ℕ)) (bytes : List ℕ) : Type 0 where
   pub utf8 : IsUtf8 bytes
   pub script : PlainSoak
   pub reads : soak_of bytes ≡ Ok script
-  pub says : SaysNo old new
+  pub printed : Appends old new (lines_with true false)
 
 -- ---- a script that was refused
 

@@ -1,6 +1,6 @@
 //! The command `soak`.
 
-ghost use Rattle.std.specs.Prelude.{◌≡◌, ◌⊎◌, ◌+◌, List, ℕ, true, IfOk, IfSome, OnOk, sum, sum_by};
+ghost use Rattle.std.specs.Prelude.{◌≡◌, ◌⊎◌, ◌+◌, ◌≤◌, List, ℕ, Some, true, false, IfOk, IfSome, OnOk, sum, sum_by, vec_len};
 ghost use Rattle.std.specs.Io.KnownBytes.{Appends};
 ghost use Rattle.script_lines.specs.declared.script.ScriptFault.TheVariants.{BadLine};
 ghost use Rattle.text_reader.specs.Reading.{Keeps};
@@ -9,8 +9,8 @@ ghost use Rattle.text_check.specs.Printed.{line_of};
 ghost use Rattle.link_machine.specs.Kept.{opened_book};
 ghost use Rattle.link_machine.specs.Ledger.{next};
 ghost use Rattle.turn_pool.specs.Receipts.{AllStand};
-ghost use Rattle.pool_soak.specs.Books.{AreOpened, PORT, ENVIRONMENT, JOURNAL};
-ghost use Rattle.pool_soak.specs.Findings.{IsEnd, IsSoaked, IsSoakedInVain, IsTurnedDown, PrintsFault, SaysNo, lines_with};
+ghost use Rattle.pool_soak.specs.Books.{AreOpened, AreBegun, PORT, ENVIRONMENT, JOURNAL};
+ghost use Rattle.pool_soak.specs.Findings.{IsEnd, IsSoaked, IsSoakedInVain, IsTurnedDown, PrintsFault, lines_with};
 
 use crate::client::{Open, Script};
 use crate::findings::{agree, audit_of, seats_of, status_of};
@@ -49,6 +49,7 @@ pub fn soak<R: Threads + Wait + Sync, S: Read + Drop, W: Write>(
     ensures held { result ≡ 0 → IsGiven (S.remaining script) (IsSoaked (W.contents writer.old) (W.contents writer.new)) }
     ensures differs { result ≡ 1 → IsGiven (S.remaining script) (IsSoakedInVain (W.contents writer.old) (W.contents writer.new)) }
     ensures refused { result ≡ 2 → IsGiven (S.remaining script) (IsTurnedDown (W.contents writer.old) (W.contents writer.new)) }
+    ensures served { (result ≡ 0) ⊎ (result ≡ 1) → (1 ≤ workers) × (workers ≤ 16) }
     ensures status { (result ≡ 0) ⊎ (result ≡ 1) ⊎ (result ≡ 2) ⊎ (result ≡ 4) }
 {
     match read_text(alloc, &mut script) {
@@ -88,6 +89,7 @@ fn soak_text<R: Threads + Wait + Sync, W: Write>(
     writer: &mut W,
 ) -> u8
     ensures ends { (bytes : List ℕ) → Keeps bytes read.now → IsEnd result (W.contents writer.old) (W.contents writer.new) bytes }
+    ensures served { (result ≡ 0) ⊎ (result ≡ 1) → (1 ≤ workers) × (workers ≤ 16) }
     ensures status { (result ≡ 0) ⊎ (result ≡ 1) ⊎ (result ≡ 2) ⊎ (result ≡ 4) }
 {
     if !read.is_text {
@@ -115,7 +117,8 @@ fn run_script<R: Threads + Wait + Sync, W: Write>(
     writer: &mut W,
 ) -> u8
     ensures held { result ≡ 0 → Appends (W.contents writer.old) (W.contents writer.new) (lines_with true true) }
-    ensures differs { result ≡ 1 → SaysNo (W.contents writer.old) (W.contents writer.new) }
+    ensures differs { result ≡ 1 → Appends (W.contents writer.old) (W.contents writer.new) (lines_with true false) }
+    ensures served { (result ≡ 0) ⊎ (result ≡ 1) → (1 ≤ workers) × (workers ≤ 16) }
     ensures status { (result ≡ 0) ⊎ (result ≡ 1) ⊎ (result ≡ 4) }
 {
     match soak_links(rt, alloc, soak, workers, writer) {
@@ -147,40 +150,35 @@ fn books_of(alloc: Global, set: &Verified, links: u32) -> Result<Vec<Book>, Allo
     Ok(books)
 }
 
-/// Serves the links of a script while it runs. The exit status, but for 4 where memory, a write or all threads fail.
-fn soak_links<R: Threads + Wait + Sync, W: Write>(
-    rt: &R,
-    alloc: Global,
-    soak: &Soak<'_>,
-    workers: usize,
-    writer: &mut W,
-) -> Option<u8>
-    ensures held { IfSome result (λ status. status ≡ 0 → Appends (W.contents writer.old) (W.contents writer.new) (lines_with true true)) }
-    ensures differs { IfSome result (λ status. status ≡ 1 → SaysNo (W.contents writer.old) (W.contents writer.new)) }
-    ensures status { IfSome result (λ status. (status ≡ 0) ⊎ (status ≡ 1)) }
+/// The profile's set, and as many links of it as a script says, on which nothing has happened.
+fn begun(alloc: Global, soak: &Soak<'_>) -> Option<(Verified, Vec<Book>)>
+    ensures { IfSome result (λ r. AreBegun soak.now.links r.0 r.1.items) }
 {
+    let links = soak.links?;
     let Ok(set) = standard(alloc) else {
         return None;
     };
-    let Ok(books) = books_of(alloc, &set, soak.links.unwrap_or(0)) else {
-        return None;
-    };
-    soak_books(rt, alloc, &set, soak, books, workers, writer)
+    match books_of(alloc, &set, links) {
+        Ok(books) => Some((set, books)),
+        Err(_) => None,
+    }
 }
 
-/// Serves books while a script runs. The exit status, but for 4.
-fn soak_books<R: Threads + Wait + Sync, W: Write>(
+#[tactic(auto, using(crate::proofs::Books::said))]
+/// Serves links while a script runs. What is left of them, and the receipts of the script's client.
+fn served<R: Threads + Wait + Sync>(
     rt: &R,
     alloc: Global,
     set: &Verified,
     soak: &Soak<'_>,
     books: Vec<Book>,
     workers: usize,
-    writer: &mut W,
-) -> Option<u8>
-    ensures held { IfSome result (λ status. status ≡ 0 → Appends (W.contents writer.old) (W.contents writer.new) (lines_with true true)) }
-    ensures differs { IfSome result (λ status. status ≡ 1 → SaysNo (W.contents writer.old) (W.contents writer.new)) }
-    ensures status { IfSome result (λ status. (status ≡ 0) ⊎ (status ≡ 1)) }
+) -> Option<(Closed, Vec<Receipt>)>
+    requires { AreBegun soak.now.links set.now books.items }
+    ensures links { IfSome result (λ r. soak.now.links ≡ Some (vec_len r.0.books)) }
+    ensures workers { IfSome result (λ r. vec_len r.0.workers ≡ workers) }
+    ensures served { IfSome result (λ _. (1 ≤ workers) × (workers ≤ 16)) }
+    ensures agree { IfSome result (λ r. r.0.client + sum r.0.workers.items ≡ sum_by next r.0.books.items) }
 {
     let Ok(receipts) = Vec::with_capacity(alloc, soak.steps.len()) else {
         return None;
@@ -190,10 +188,28 @@ fn soak_books<R: Threads + Wait + Sync, W: Write>(
         steps: &soak.steps,
         receipts,
     };
-    let Ok(closed) = serve(rt, alloc, books, workers, &Open, &mut script) else {
-        return None;
-    };
-    match report(alloc, writer, &closed, &script.receipts) {
+    match serve(rt, alloc, books, workers, &Open, &mut script) {
+        Ok(closed) => Some((closed, script.receipts)),
+        Err(_) => None,
+    }
+}
+
+/// Serves the links of a script while it runs, and writes what is found. The exit status, but for 4 where memory, a write or all threads fail.
+fn soak_links<R: Threads + Wait + Sync, W: Write>(
+    rt: &R,
+    alloc: Global,
+    soak: &Soak<'_>,
+    workers: usize,
+    writer: &mut W,
+) -> Option<u8>
+    ensures held { IfSome result (λ status. status ≡ 0 → Appends (W.contents writer.old) (W.contents writer.new) (lines_with true true)) }
+    ensures differs { IfSome result (λ status. status ≡ 1 → Appends (W.contents writer.old) (W.contents writer.new) (lines_with true false)) }
+    ensures served { IfSome result (λ _. (1 ≤ workers) × (workers ≤ 16)) }
+    ensures status { IfSome result (λ status. (status ≡ 0) ⊎ (status ≡ 1)) }
+{
+    let (set, books) = begun(alloc, soak)?;
+    let (closed, receipts) = served(rt, alloc, &set, soak, books, workers)?;
+    match report(alloc, writer, &closed, &receipts) {
         Ok(status) => Some(status),
         Err(_) => None,
     }
@@ -208,6 +224,7 @@ fn write_both<W: Write>(alloc: Global, writer: &mut W, agree: bool, stand: bool)
     write_line(alloc, writer, &audit_of(stand))
 }
 
+#[tactic(auto, using(crate::proofs::Texts::audit_says_no))]
 /// Writes what is found. Gives the exit status.
 fn report<W: Write>(
     alloc: Global,
@@ -216,7 +233,8 @@ fn report<W: Write>(
     receipts: &[Receipt],
 ) -> io::Result<u8>
     ensures held { IfOk result (λ status. status ≡ 0 → Appends (W.contents writer.old) (W.contents writer.new) (lines_with true true)) }
-    ensures differs { IfOk result (λ status. status ≡ 1 → SaysNo (W.contents writer.old) (W.contents writer.new)) }
+    ensures differs { IfOk result (λ status. status ≡ 1 → closed.now.client + sum closed.now.workers.items ≡ sum_by next closed.now.books.items
+        → Appends (W.contents writer.old) (W.contents writer.new) (lines_with true false)) }
     ensures agree { IfOk result (λ status. status ≡ 0 → closed.now.client + sum closed.now.workers.items ≡ sum_by next closed.now.books.items) }
     ensures stand { IfOk result (λ status. status ≡ 0 → AllStand closed.now.books.items receipts.now) }
     ensures no { IfOk result (λ status. status ≡ 1 → closed.now.client + sum closed.now.workers.items ≡ sum_by next closed.now.books.items → AllStand closed.now.books.items receipts.now → ⊥) }

@@ -29,7 +29,7 @@ returns-in-Ok-soak_script-clause-ends g c bytes keeps =
     let reads : soak_of bytes ≡ Ok (plain_soak c.in-Ok-soak_script.script) = ap soak_of (sym same) ∙ c.in-Ok-soak_script.ensures.script in
     record {
       held = λ zero. record { utf8 = utf8; script = _; reads = reads; printed = c.run_script.ensures.held zero };
-      differs = λ one. record { utf8 = utf8; script = _; reads = reads; says = c.run_script.ensures.differs one };
+      differs = λ one. record { utf8 = utf8; script = _; reads = reads; printed = c.run_script.ensures.differs one };
       refused = λ two. absurd (not_refused _ c.run_script.ensures.status two);
     }
 
