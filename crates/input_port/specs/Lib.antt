@@ -1,2 +1,3 @@
 pub mod Saves
 pub mod Queue
+pub mod Printed

@@ -8,6 +8,7 @@ ghost use Rattle.input_port.specs.Queue.{is_signal, is_of_timer, signal_count, h
 use crate::save::{Saved, TIMERS};
 use arrayvec::ArrayVec;
 use std::alloc::{AllocError, Global};
+use std::fmt;
 use std::marker::Model;
 use thiserror::Error;
 use turn_code::{Party, SignalNumber, TimerNumber, Value};
@@ -50,8 +51,20 @@ impl Item {
 #[derive(Clone, Copy, Debug, PartialEq, Eq, Error)]
 pub enum PutError {
     /// As many signals as the port may have are there.
-    #[error("Q1 Full")]
     Full,
+}
+
+impl fmt::Display for PutError {
+    ghost use Rattle.std.specs.Prelude.{Some};
+    ghost use Rattle.input_port.specs.Printed.{put_error_text};
+
+    ghost output = { λ e. Some (put_error_text e) };
+
+    fn fmt<W: fmt::Write>(&self, f: &mut fmt::Formatter<W>) -> fmt::Result {
+        f.write_str(match self {
+            Self::Full => "Q1 Full",
+        })
+    }
 }
 
 /// The items that wait for a process, in the order in which they came.

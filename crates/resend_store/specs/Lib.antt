@@ -1,4 +1,5 @@
 pub mod Limits
+pub mod Printed
 pub mod Numbers
 pub mod Messages
 pub mod Stored

@@ -1,11 +1,14 @@
 //! Why a call was refused. Each refusal leaves the sender or receiver as it was.
 
+ghost use Rattle.std.specs.Prelude.{Some};
+ghost use Rattle.resend_store.specs.Printed.{put_error_text, ack_error_text, retrieve_error_text, unit_error_text};
+
+use std::fmt;
 use thiserror::Error;
 
 /// Why a sender didn't take a message.
 #[derive(Clone, Copy, Debug, PartialEq, Eq, Error)]
 pub enum PutError {
-    #[error("E1 Full")]
     Full,
 }
 
@@ -13,7 +16,6 @@ pub enum PutError {
 #[derive(Clone, Copy, Debug, PartialEq, Eq, Error)]
 pub enum AckError {
     /// It acknowledges more than was sent.
-    #[error("E2 BadAck")]
     BadAck,
 }
 
@@ -21,9 +23,7 @@ pub enum AckError {
 #[derive(Clone, Copy, Debug, PartialEq, Eq, Error)]
 pub enum RetrieveError {
     /// The number acknowledges more than was sent.
-    #[error("E2 BadAck")]
     BadAck,
-    #[error("NoMemory")]
     NoMemory,
 }
 
@@ -31,6 +31,46 @@ pub enum RetrieveError {
 #[derive(Clone, Copy, Debug, PartialEq, Eq, Error)]
 pub enum UnitError {
     /// The forward indicator bit changed, and no negative acknowledgement asked for it.
-    #[error("E3 BadIndicator")]
     BadIndicator,
+}
+
+impl fmt::Display for PutError {
+    ghost output = { λ e. Some (put_error_text e) };
+
+    fn fmt<W: fmt::Write>(&self, f: &mut fmt::Formatter<W>) -> fmt::Result {
+        f.write_str(match self {
+            Self::Full => "E1 Full",
+        })
+    }
+}
+
+impl fmt::Display for AckError {
+    ghost output = { λ e. Some (ack_error_text e) };
+
+    fn fmt<W: fmt::Write>(&self, f: &mut fmt::Formatter<W>) -> fmt::Result {
+        f.write_str(match self {
+            Self::BadAck => "E2 BadAck",
+        })
+    }
+}
+
+impl fmt::Display for RetrieveError {
+    ghost output = { λ e. Some (retrieve_error_text e) };
+
+    fn fmt<W: fmt::Write>(&self, f: &mut fmt::Formatter<W>) -> fmt::Result {
+        f.write_str(match self {
+            Self::BadAck => "E2 BadAck",
+            Self::NoMemory => "NoMemory",
+        })
+    }
+}
+
+impl fmt::Display for UnitError {
+    ghost output = { λ e. Some (unit_error_text e) };
+
+    fn fmt<W: fmt::Write>(&self, f: &mut fmt::Formatter<W>) -> fmt::Result {
+        f.write_str(match self {
+            Self::BadIndicator => "E3 BadIndicator",
+        })
+    }
 }

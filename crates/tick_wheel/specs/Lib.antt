@@ -1,4 +1,5 @@
 pub mod Limits
+pub mod Printed
 pub mod Table
 pub mod TimerId
 pub mod Timers

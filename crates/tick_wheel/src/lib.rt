@@ -9,6 +9,7 @@ ghost use Rattle.tick_wheel.specs.Table.{timer_at, due_from, kept};
 
 use arrayvec::ArrayVec;
 use std::alloc::{AllocError, Global};
+use std::fmt;
 use std::marker::Model;
 use thiserror::Error;
 
@@ -120,11 +121,23 @@ pub struct Due {
 #[derive(Clone, Copy, Debug, PartialEq, Eq, Error)]
 pub enum AdvanceError {
     /// More than 65,535 ticks in one call.
-    #[error("W1 TooFar")]
     TooFar,
     /// The clock would pass 2^62.
-    #[error("W2 ClockFull")]
     ClockFull,
+}
+
+impl fmt::Display for AdvanceError {
+    ghost use Rattle.std.specs.Prelude.{Some};
+    ghost use Rattle.tick_wheel.specs.Printed.{advance_error_text};
+
+    ghost output = { λ e. Some (advance_error_text e) };
+
+    fn fmt<W: fmt::Write>(&self, f: &mut fmt::Formatter<W>) -> fmt::Result {
+        f.write_str(match self {
+            Self::TooFar => "W1 TooFar",
+            Self::ClockFull => "W2 ClockFull",
+        })
+    }
 }
 
 /// The timers of a link and its clock, which counts ticks from 0.

@@ -1,0 +1,7 @@
+-- Why a port takes no signal, as it is printed: a code and its name.
+use Rattle.std.specs.Prelude.{ℕ, List, codes}
+use Rattle.input_port.specs.declared.queue.PutError.{PutError}
+use Rattle.input_port.specs.declared.queue.PutError.TheVariants.{Full}
+
+abbrev pub put_error_text : PutError → List ℕ
+put_error_text Full = codes "Q1 Full"
