@@ -17,12 +17,6 @@ pub mod laws;
 #[cfg(test)]
 mod tests;
 
-/// How many processes there may be.
-pub const PROCESSES: u8 = 16;
-
-/// How many timers a process may have.
-pub const TIMERS_EACH: u8 = 8;
-
 /// How many timers there may be.
 pub const TIMERS: usize = 128;
 

@@ -47,7 +47,7 @@ fn due_timers_are_in_order_of_deadline_process_and_number(rt: HostRuntime) -> Re
         (9, 9, 3),
         (5, 5, 8),
     ] {
-        if process < PROCESSES && number < TIMERS_EACH && wheel.clock() < deadline {
+        if process < 16 && number < 8 && wheel.clock() < deadline {
             wheel.set(Timer::new(process, number), deadline);
         }
     }
