@@ -1,91 +1,10 @@
 -- Numbers and octets as lists of bits.
-use Rattle.std.proofs.Common.{◌≡◌, ℕ, ◌+◌, ◌*◌, ◌/◌, ◌%◌, ◌^◌, ◌<◌, zero, suc, Bool, true, false, List, [], ◌∷◌, ◌++◌, length, reverse, refl, sym, ap, ◌∙◌, arith, inl, inr, append_assoc}
-use Rattle.std.specs.Prelude.{◌⊎◌, ◌==◌}
-use Rattle.std.proofs.lemmas.Nat.{shr-shr, mod-pow-add, shr_high, mod_low}
-use Rattle.std.proofs.lemmas.List.{length-append, reverse-append}
-use Rattle.su_octets.specs.Bits.{low_bits, bits_of, AreOctets}
-
-pub div_small : (n k : ℕ) → n < 2 ^ k → n / 2 ^ k ≡ 0
-div_small n k small = ap (λ m. m / 2 ^ k) (let e : n ≡ 0 * 2 ^ k + n = omega arith in e) ∙ shr_high 0 k n small
-
-pub zero_or_one : (n : ℕ) → n < 2 → (n ≡ 0) ⊎ (n ≡ 1)
-zero_or_one zero small = inl refl
-zero_or_one (suc n) small = inr (omega arith)
-
-pub length-low_bits : (k n : ℕ) → length (low_bits k n) ≡ k
-unfolding low_bits
-length-low_bits zero n = refl
-length-low_bits (suc k) n = ap suc (length-low_bits k (n / 2))
-
-pub low_bits-split : (j k n : ℕ) → low_bits (j + k) n ≡ low_bits j n ++ low_bits k (n / 2 ^ j)
-unfolding low_bits
-low_bits-split zero k n = ap (λ i. low_bits i n) (let e : zero + k ≡ k = omega arith in e) ∙ ap (λ m. low_bits k m) (let e : n ≡ n / 1 = omega arith in e)
-low_bits-split (suc j) k n = ap (λ i. low_bits i n) (let e : suc j + k ≡ suc (j + k) = omega arith in e)
-    ∙ ap (λ bs. (n % 2 == 1) ∷ bs) (low_bits-split j k (n / 2))
-    ∙ ap (λ m. (n % 2 == 1) ∷ (low_bits j (n / 2) ++ low_bits k m)) (shr-shr n 1 j ∙ ap (λ i. n / 2 ^ i) (let e : 1 + j ≡ suc j = omega arith in e))
-
-pub low_bits-mod : (k n : ℕ) → low_bits k (n % 2 ^ k) ≡ low_bits k n
-unfolding low_bits
-low_bits-mod zero n = refl
-low_bits-mod (suc k) n =
-    let parts : n % 2 ^ (k + 1) ≡ (n / 2 % 2 ^ k) * 2 + n % 2 = mod-pow-add n k 1 in
-    let same : n % 2 ^ suc k ≡ n % 2 ^ (k + 1) = ap (λ i. n % 2 ^ i) (let e : suc k ≡ k + 1 = omega arith in e) in
-    let lowest : n % 2 ^ suc k % 2 ≡ n % 2 = omega (arith, parts, same) in
-    let rest : n % 2 ^ suc k / 2 ≡ n / 2 % 2 ^ k = omega (arith, parts, same) in
-    ap (λ m. (m == 1) ∷ low_bits k (n % 2 ^ suc k / 2)) lowest ∙ ap (λ m. (n % 2 == 1) ∷ low_bits k m) rest
-    ∙ ap (λ bs. (n % 2 == 1) ∷ bs) (low_bits-mod k (n / 2))
-
-pub head_same : {A : Type 0} (x y : A) (xs ys : List A) → x ∷ xs ≡ y ∷ ys → x ≡ y
-head_same x y xs ys same = cc
-
-tail_same : {A : Type 0} (x y : A) (xs ys : List A) → x ∷ xs ≡ y ∷ ys → xs ≡ ys
-tail_same x y xs ys same = cc
-
-same_parity : (x y : ℕ) → (x ≡ 0) ⊎ (x ≡ 1) → (y ≡ 0) ⊎ (y ≡ 1) → (x == 1) ≡ (y == 1) → x ≡ y
-same_parity x y (inl p) (inl q) same = p ∙ sym q
-same_parity x y (inl p) (inr q) same = absurd (let e : false ≡ true = rw (p, q) at same in cc)
-same_parity x y (inr p) (inl q) same = absurd (let e : true ≡ false = rw (p, q) at same in cc)
-same_parity x y (inr p) (inr q) same = p ∙ sym q
-
--- a number of k bits is known by them
-pub low_bits-same : (k a b : ℕ) → a < 2 ^ k → b < 2 ^ k → low_bits k a ≡ low_bits k b → a ≡ b
-unfolding low_bits
-low_bits-same zero a b a_small b_small same = omega arith
-low_bits-same (suc k) a b a_small b_small same =
-    let lowest : a % 2 ≡ b % 2 = same_parity (a % 2) (b % 2) (zero_or_one (a % 2) (omega arith)) (zero_or_one (b % 2) (omega arith)) (head_same _ _ _ _ same) in
-    let rest : a / 2 ≡ b / 2 = low_bits-same k (a / 2) (b / 2) (omega arith) (omega arith) (tail_same _ _ _ _ same) in
-    omega arith
-
-pub bits_of-append : (xs ys : List ℕ) → bits_of (xs ++ ys) ≡ bits_of xs ++ bits_of ys
-unfolding bits_of
-bits_of-append [] ys = refl
-bits_of-append (x ∷ xs) ys = ap (λ bs. low_bits 8 x ++ bs) (bits_of-append xs ys) ∙ sym (append_assoc (low_bits 8 x) (bits_of xs) (bits_of ys))
-
-pub length-bits_of : (xs : List ℕ) → length (bits_of xs) ≡ 8 * length xs
-unfolding bits_of
-length-bits_of [] = refl
-length-bits_of (x ∷ xs) = length-append (low_bits 8 x) (bits_of xs) ∙ rw (length-low_bits 8 x, length-bits_of xs) (omega arith)
-
-pub front_same : {A : Type 0} (xs ys us vs : List A) → length xs ≡ length ys → xs ++ us ≡ ys ++ vs → (xs ≡ ys) × (us ≡ vs)
-front_same [] [] us vs long same = (refl, same)
-front_same [] (y ∷ ys) us vs long same = absurd (omega arith)
-front_same (x ∷ xs) [] us vs long same = absurd (omega arith)
-front_same (x ∷ xs) (y ∷ ys) us vs long same =
-    let rest : (xs ≡ ys) × (us ≡ vs) = front_same xs ys us vs (omega arith) (tail_same _ _ _ _ same) in
-    let front : x ≡ y = head_same _ _ _ _ same in
-    (cc (rest.0, front), rest.1)
-
--- octets are known by their bits
-pub bits_of-same : (xs ys : List ℕ) → AreOctets xs → AreOctets ys → length xs ≡ length ys → bits_of xs ≡ bits_of ys → xs ≡ ys
-unfolding bits_of
-bits_of-same [] [] x_fit y_fit long same = refl
-bits_of-same [] (y ∷ ys) x_fit y_fit long same = absurd (omega arith)
-bits_of-same (x ∷ xs) [] x_fit y_fit long same = absurd (omega arith)
-bits_of-same (x ∷ xs) (y ∷ ys) x_fit y_fit long same =
-    let parts : (low_bits 8 x ≡ low_bits 8 y) × (bits_of xs ≡ bits_of ys) = front_same (low_bits 8 x) (low_bits 8 y) (bits_of xs) (bits_of ys) (length-low_bits 8 x ∙ sym (length-low_bits 8 y)) same in
-    let front : x ≡ y = low_bits-same 8 x y x_fit.0 y_fit.0 parts.0 in
-    let rest : xs ≡ ys = bits_of-same xs ys x_fit.1 y_fit.1 (omega arith) parts.1 in
-    cc
+use Rattle.std.proofs.Common.{◌≡◌, ℕ, ◌+◌, ◌*◌, ◌/◌, ◌%◌, ◌^◌, ◌<◌, Bool, true, false, List, [], ◌∷◌, ◌++◌, reverse, sym, ap, ◌∙◌, arith}
+use Rattle.std.specs.Prelude.{◌==◌}
+use Rattle.std.proofs.lemmas.Nat.{shr_high, mod_low}
+use Rattle.std.proofs.lemmas.List.{reverse-append}
+use Rattle.su_octets.specs.Bits.{low_bits}
+use Rattle.su_octets.proofs.BitLists.{low_bits-split, low_bits-mod, div_small}
 
 pub reverse-cons : (b : Bool) (h : List Bool) → reverse (b ∷ h) ≡ reverse h ++ b ∷ []
 reverse-cons b h = reverse-append (b ∷ []) h

@@ -3,7 +3,7 @@ use Rattle.std.proofs.Common.{◌≡◌, ℕ, ◌+◌, ◌*◌, ◌<◌, ◌≤�
 use Rattle.std.proofs.lemmas.Bool.Decides.{nat_tests, eqb_tells}
 use Rattle.std.specs.Bool.{MatchBool}
 use Rattle.std.specs.Prelude.{IsTrue, ◌↔◌, ◌⊎◌, ◌==◌, nat_lt, nat_le, ◌||◌, ◌≢◌}
-use Rattle.std.proofs.lemmas.Bool.{lt-ltb, ltb-true, le-ltb}
+use Rattle.std.proofs.lemmas.Bool.{lt-ltb, ltb-true, le-ltb, or_right}
 use Rattle.std.proofs.lemmas.List.{append-nil, length-append, length-reverse, reverse-reverse}
 use Rattle.su_octets.specs.Bits.{low_bits, bits_of, AreOctets}
 use Rattle.su_octets.specs.Whole.{IsWhole}
@@ -16,8 +16,9 @@ use Rattle.bit_line.specs.Deframing.{Gathers, Holds, has_six}
 use Rattle.bit_line.specs.Events.{AreUnit, IsCorrect}
 use Rattle.bit_line.specs.declared.data.Data.{Data}
 use Rattle.bit_line.specs.declared.content.Content.{Content}
-use Rattle.bit_line.proofs.BitLists.{bits_of-append, length-bits_of, length-low_bits, reverse-cons, bits_of-same}
+use Rattle.bit_line.proofs.BitLists.{reverse-cons}
 use Rattle.bit_line.proofs.StuffLaws.{IsStuffing, is_stuffing, stuffed-taken_out, with_zero-other, trailing-one, trailing-zero, taken_out-one, taken_out-five, taken_out-other}
+use Rattle.su_octets.proofs.BitLists.{length-low_bits, bits_of-append, length-bits_of, bits_of-same, octet_bits, no_low_bits}
 
 -- ---- packed bits
 pub packed-more : (octets : List ℕ) (bits len v : ℕ) (b : Bool) (h : List Bool) → low_bits (len + 1) v ≡ low_bits len bits ++ b ∷ []
@@ -25,14 +26,6 @@ pub packed-more : (octets : List ℕ) (bits len v : ℕ) (b : Bool) (h : List Bo
 unfolding Packed
 packed-more octets bits len v b h is packed =
     ap (λ l. bits_of octets ++ l) is ∙ sym (append_assoc (bits_of octets) (low_bits len bits) (b ∷ [])) ∙ ap (λ l. l ++ b ∷ []) packed ∙ sym (reverse-cons b h)
-
-octet_bits : (v : ℕ) → bits_of (v ∷ []) ≡ low_bits 8 v
-unfolding bits_of
-octet_bits v = append-nil (low_bits 8 v)
-
-no_low_bits : (v : ℕ) → low_bits 0 v ≡ []
-unfolding low_bits
-no_low_bits v = refl
 
 pub packed-octet : (octets : List ℕ) (v bits len : ℕ) (h : List Bool) → len ≡ 0 → Packed octets v 8 h → Packed (octets ++ v ∷ []) bits len h
 unfolding Packed
@@ -139,12 +132,8 @@ pub holds-none : (c : Content) → c.ones ≡ 0 → c.six ≡ false → Gathers 
 unfolding trailing has_six taken_out
 holds-none c ones six gathers = record { ones = ones; six = six; gathers = gathers }
 
-or_true : (b : Bool) → (b || true) ≡ true
-or_true true = refl
-or_true false = refl
-
 six_by : (n : ℕ) (s : Bool) → (s || (min 6 (suc n) == 6)) ≡ (nat_le 6 (suc n) || s)
-six_by n true = sym (or_true (nat_le 6 (suc n)))
+six_by n true = sym (or_right (nat_le 6 (suc n)) true refl)
 six_by n false = grind (arith, nat_tests)
 
 pub holds-one : (h : List Bool) (old new : Content) → new.ones ≡ min old.ones 5 + 1 → new.six ≡ (old.six || (new.ones == 6))

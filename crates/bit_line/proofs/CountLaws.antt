@@ -10,9 +10,7 @@ use Rattle.bit_line.specs.declared.content.Content.{Content}
 use Rattle.bit_line.specs.declared.content.Closed.{Closed}
 use Rattle.bit_line.specs.declared.content.Closed.TheVariants as closed
 use Rattle.bit_line.specs.declared.events.LineEvent.TheVariants as events
-
-pub same_some : (m n : ℕ) → Some m ≡ Some n → m ≡ n
-same_some m n same = cc
+use Rattle.std.proofs.lemmas.Option.{same_Some as same_some}
 
 full_by : (n : ℕ) → n % 128 ≡ 0 → ((n % 128 == 0) ≡ true) × (n % 128 ≡ 0) ⊎ ((n % 128 == 0) ≡ false) × (n % 128 ≢ 0) → sixteens n ≡ events.SixteenOctets ∷ []
 unfolding sixteens

@@ -11,8 +11,8 @@ use Rattle.bit_line.specs.Events.{Verdict, Correct, Wrong, Nothing, IsCorrect, I
 use Rattle.bit_line.specs.Deframing.{LetsIn, Fits, StandsAt, Stands}
 use Rattle.bit_line.specs.declared.deframer.Deframer.{Deframer}
 use Rattle.bit_line.specs.declared.events.LineEvent.{LineEvent}
-use Rattle.bit_line.proofs.BitLists.{low_bits-split, bits_of-append, bits_of-same, length-bits_of}
 use Rattle.bit_line.proofs.ContentLaws.{correct_shape, unit_fits}
+use Rattle.su_octets.proofs.BitLists.{low_bits-split, bits_of-append, length-bits_of, bits_of-same}
 
 -- ---- one verdict
 same_octets : (c : List Bool) (a b : List ℕ) → IsCorrect c a → IsCorrect c b → a ≡ b

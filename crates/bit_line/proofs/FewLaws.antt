@@ -12,7 +12,7 @@ use Rattle.bit_line.specs.declared.data.Data.{Data}
 use Rattle.bit_line.proofs.ContentLaws.{packed-length}
 use Rattle.su_octets.specs.Bits.{low_bits, bits_of}
 use Rattle.bit_line.specs.Parts.{Packed}
-use Rattle.bit_line.proofs.BitLists.{low_bits-split, low_bits-mod, bits_of-append, length-low_bits}
+use Rattle.su_octets.proofs.BitLists.{length-low_bits, low_bits-split, low_bits-mod, bits_of-append, octet_bits}
 
 -- ---- behind the bits of a part
 pub joined : (bits len x k : ℕ) → bits < 2 ^ len → low_bits (len + k) (bits + x * 2 ^ len) ≡ low_bits len bits ++ low_bits k x
@@ -38,10 +38,6 @@ packed_joined octets bits len x k h fits packed =
     ap (λ l. bits_of octets ++ l) (joined bits len x k fits) ∙ sym (append_assoc (bits_of octets) (low_bits len bits) (low_bits k x))
     ∙ ap (λ l. l ++ low_bits k x) packed
     ∙ sym (reverse-append (reverse (low_bits k x)) h ∙ ap (λ l. reverse h ++ l) (reverse-reverse (low_bits k x)))
-
-octet_bits : (v : ℕ) → bits_of (v ∷ []) ≡ low_bits 8 v
-unfolding bits_of
-octet_bits v = append-nil (low_bits 8 v)
 
 pub pow_small : (m n : ℕ) → m ≤ n → 2 ^ m ≤ 2 ^ n
 pow_small m n le =

@@ -9,8 +9,8 @@ use Rattle.bit_line.specs.Stuffing.{trailing, taken_out}
 use Rattle.bit_line.specs.Deframing.{Gathers, Holds, has_six}
 use Rattle.bit_line.specs.declared.content.Content.{Content}
 use Rattle.bit_line.specs.declared.data.Data.{Data}
-use Rattle.bit_line.proofs.BitLists.{low_bits-split, low_bits-mod, bits_of-append, length-low_bits}
 use Rattle.bit_line.proofs.FewLaws.{joined, pow_small}
+use Rattle.su_octets.proofs.BitLists.{length-low_bits, low_bits-split, low_bits-mod, bits_of-append, octet_bits as one_bits}
 
 -- ---- five octets as a number
 pub five_of : (os : List ℕ) → 5 ≤ length os → take 5 os ≡ get_or os 0 0 ∷ get_or os 1 0 ∷ get_or os 2 0 ∷ get_or os 3 0 ∷ get_or os 4 0 ∷ []
@@ -20,10 +20,6 @@ five_of (a ∷ b ∷ []) long = absurd (omega (arith, long))
 five_of (a ∷ b ∷ c ∷ []) long = absurd (omega (arith, long))
 five_of (a ∷ b ∷ c ∷ d ∷ []) long = absurd (omega (arith, long))
 five_of (a ∷ b ∷ c ∷ d ∷ e ∷ os) long = refl
-
-pub one_bits : (v : ℕ) → bits_of (v ∷ []) ≡ low_bits 8 v
-unfolding bits_of
-one_bits v = append-nil (low_bits 8 v)
 
 pub more_bits : (v n k : ℕ) (os : List ℕ) → v < 256 → low_bits k n ≡ bits_of os → low_bits (8 + k) (v + n * 256) ≡ bits_of (v ∷ os)
 unfolding bits_of

@@ -6,12 +6,12 @@ use Rattle.std.proofs.lemmas.Nat.{shr-shr, pow_pos, one_shl, shl_whole, mod_belo
 use Rattle.std.proofs.lemmas.Nat.Bits.{bit_at_and}
 use Rattle.std.proofs.lemmas.List.{append-nil}
 use Rattle.su_octets.specs.Bits.{low_bits}
-use Rattle.bit_line.proofs.BitLists.{low_bits-split, low_bits-mod, zero_or_one, div_small}
 use Rattle.bit_line.specs.Stuffing.{trailing}
 use Rattle.bit_line.proofs.StuffLaws.{trailing-none, trailing-one, trailing-zero}
 use Rattle.bit_line.proofs.PlainLaws.{at_shifted, pair_at, low_none, bits_more}
 use Rattle.bit_line.proofs.TakenLaws.{data_of, ones_of, six_of}
 use Rattle.bit_line.proofs.FewLaws.{joined, joined_fits, pow_small}
+use Rattle.su_octets.proofs.BitLists.{zero_or_one, low_bits-split, low_bits-mod, div_small}
 
 -- ---- five 1s in a row, as the code looks for them
 abbrev pub fives : ℕ → ℕ

@@ -6,7 +6,8 @@ use Rattle.std.proofs.lemmas.List.{reverse-append, reverse-reverse, length-rever
 use Rattle.su_octets.specs.Bits.{low_bits}
 use Rattle.bit_line.specs.Flags.{six_ones}
 use Rattle.bit_line.specs.Deframing.{newest, seventh}
-use Rattle.bit_line.proofs.BitLists.{head_same, front_same, low_bits-split, low_bits-mod, low_bits-same, length-low_bits}
+use Rattle.su_octets.proofs.BitLists.{length-low_bits, low_bits-split, low_bits-mod, head_same, low_bits-same, front_same}
+use Rattle.std.proofs.lemmas.Bool.{false_from_ne_true as isnt_true}
 
 -- ---- the newest bits behind more bits
 take-newest : (n m : ℕ) (h : List Bool) → n ≤ m → take n (newest m h) ≡ newest n h
@@ -118,10 +119,6 @@ of_six : (h : List Bool) → six_ones h ≡ true → newest 7 h ≡ six
 unfolding six_ones newest
 of_six (true ∷ true ∷ true ∷ true ∷ true ∷ true ∷ false ∷ h) is = refl
 of_six _ is = absurd (let e : false ≡ true = is in cc)
-
-isnt_true : (b : Bool) → (b ≡ true → ⊥) → b ≡ false
-isnt_true true other = absurd (other refl)
-isnt_true false other = refl
 
 pub six_when : (recent : ℕ) (h : List Bool) → low_bits 7 recent ≡ reverse (newest 7 h) → recent ≡ 126 → six_ones h ≡ true
 six_when recent h is all =

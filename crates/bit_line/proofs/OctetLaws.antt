@@ -5,15 +5,16 @@ use Rattle.std.specs.Int.{leading_ones, trailing_zeros, w8, w16}
 use Rattle.std.specs.Bool.{beq}
 use Rattle.std.proofs.Math.Nat.{mul-le-mul_left, mul_comm}
 use Rattle.std.proofs.lemmas.Nat.{shr_high, mod_low, shl_whole, one_shl, pow_pos}
-use Rattle.std.proofs.lemmas.List.{append-nil, reverse-reverse, reverse-append}
-use Rattle.std.proofs.lemmas.Bool.{eqb-true, ltb-true}
+use Rattle.std.proofs.lemmas.List.{reverse-reverse, reverse-append}
+use Rattle.std.proofs.lemmas.Bool.{eqb-true, ltb-true, and_parts as both}
 use Rattle.std.proofs.lemmas.Bool.Decides.{eqb_tells}
 use lib.Count.{count_leading_zeros, count_trailing_zeros}
 use Rattle.su_octets.specs.Bits.{low_bits, bits_of}
 use Rattle.bit_line.specs.Parts.{Packed}
 use Rattle.bit_line.specs.Stuffing.{trailing, stuffed}
-use Rattle.bit_line.proofs.BitLists.{low_bits-split, low_bits-mod, bits_of-append, reverse-cons}
+use Rattle.bit_line.proofs.BitLists.{reverse-cons}
 use Rattle.bit_line.proofs.SendLaws.{stuffed-when_zero, trailing-when_zero, stuffed-when_five, trailing-when_five, stuffed-when_other, trailing-when_other}
+use Rattle.su_octets.proofs.BitLists.{low_bits-split, low_bits-mod, bits_of-append, octet_bits}
 
 -- ---- eight bits behind those of a part
 joined : (bits len octet : ℕ) → bits < 2 ^ len → low_bits 8 ((bits + octet * 2 ^ len) % 256) ++ low_bits len ((bits + octet * 2 ^ len) / 256) ≡ low_bits len bits ++ low_bits 8 octet
@@ -25,10 +26,6 @@ joined bits len octet fits =
     ap (λ l. l ++ low_bits len (n / 256)) (low_bits-mod 8 n) ∙ sym (low_bits-split 8 len n) ∙ ap (λ k. low_bits k n) (let e : 8 + len ≡ len + 8 = omega arith in e)
     ∙ low_bits-split len 8 n ∙ ap (λ l. l ++ low_bits 8 (n / 2 ^ len)) (sym (low_bits-mod len n) ∙ ap (λ m. low_bits len m) low)
     ∙ ap (λ m. low_bits len bits ++ low_bits 8 m) high
-
-octet_bits : (v : ℕ) → bits_of (v ∷ []) ≡ low_bits 8 v
-unfolding bits_of
-octet_bits v = append-nil (low_bits 8 v)
 
 packed_eight : (octets : List ℕ) (bits len octet : ℕ) (h : List Bool) → bits < 2 ^ len → Packed octets bits len h
     → Packed (octets ++ (bits + octet * 2 ^ len) % 256 ∷ []) ((bits + octet * 2 ^ len) / 256) len (reverse (low_bits 8 octet) ++ h)
@@ -168,10 +165,6 @@ told r octet = cond (fives_of (window_of octet r) == 0) (plain_told r octet) (re
 abbrev pub all_below : (ℕ → Bool) → ℕ → Bool
 all_below test zero = true
 all_below test (suc n) = test n && all_below test n
-
-pub both : (a b : Bool) → (a && b) ≡ true → (a ≡ true) × (b ≡ true)
-both true b ok = (refl, ok)
-both false b ok = absurd (let e : false ≡ true = ok in cc)
 
 last_or_before : (c n : ℕ) → c < suc n → (c ≡ n) ⊎ (c < n)
 last_or_before zero zero low = inl refl

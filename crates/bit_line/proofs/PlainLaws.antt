@@ -16,12 +16,12 @@ use Rattle.bit_line.specs.Counting.{Counts}
 use Rattle.bit_line.specs.Deframing.{LetsIn, Fits, StandsAt, newest, EndsNone}
 use Rattle.bit_line.specs.declared.deframer.Deframer.{Deframer}
 use Rattle.bit_line.specs.declared.events.LineEvent.{LineEvent}
-use Rattle.bit_line.proofs.BitLists.{low_bits-split, low_bits-mod, length-low_bits, div_small}
 use Rattle.bit_line.proofs.StuffLaws.{taken_out-one, taken_out-five, taken_out-other, five_or_other}
 use Rattle.bit_line.proofs.FlagLaws.{since_flag-other, ends_flag-plain, begins-plain}
 use Rattle.bit_line.proofs.FewLaws.{pow_small}
 use Rattle.bit_line.proofs.Newest.{Window, window, no_six_when}
 use Rattle.bit_line.proofs.ThroughLaws.{quiet}
+use Rattle.su_octets.proofs.BitLists.{length-low_bits, low_bits-split, low_bits-mod, div_small}
 
 -- ---- six 1s in a row, as the code looks for them
 abbrev pub sixes_of : ℕ → ℕ

@@ -9,8 +9,8 @@ use Rattle.bit_line.specs.Stuffing.{trailing, stuffed, stuffing_of}
 use Rattle.bit_line.specs.Sending.{flag, framed, line_of}
 use Rattle.bit_line.specs.Stuffers.{Gave, is_some_unit}
 use Rattle.bit_line.specs.declared.stuffer.Stuffer.{Stuffer}
-use Rattle.bit_line.proofs.BitLists.{low_bits-split, bits_of-append}
 use Rattle.bit_line.proofs.StuffLaws.{stuffed-zero, with_zero-five, with_zero-other, trailing-one, trailing-zero}
+use Rattle.su_octets.proofs.BitLists.{low_bits-split, bits_of-append}
 
 -- ---- one more bit of a unit
 pub stuffed-when_zero : (b : Bool) (sent : List Bool) → b ≡ false → stuffed (b ∷ sent) ≡ b ∷ stuffed sent

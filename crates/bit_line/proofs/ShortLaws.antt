@@ -13,9 +13,8 @@ use Rattle.bit_line.specs.Deframing.{LetsIn, Fits, StandsAt, newest, has_six}
 use Rattle.bit_line.specs.declared.gate.Gate.{Gate}
 use Rattle.bit_line.specs.declared.deframer.Deframer.{Deframer}
 use Rattle.bit_line.specs.declared.events.LineEvent.{LineEvent}
-use Rattle.bit_line.proofs.BitLists.{low_bits-split, low_bits-mod, length-low_bits, length-bits_of, bits_of-append, front_same}
 use Rattle.bit_line.proofs.FewLaws.{joined}
-use Rattle.bit_line.proofs.FrontLaws.{one_bits, more_bits}
+use Rattle.bit_line.proofs.FrontLaws.{more_bits}
 use Rattle.bit_line.proofs.StuffLaws.{stuffed-taken_out, with_zero-other}
 use Rattle.bit_line.proofs.FlagLaws.{ends_flag-zero}
 use Rattle.bit_line.proofs.GateLaws.{seen_by, inside-some, latest-some, closes-gate}
@@ -25,6 +24,7 @@ use Rattle.bit_line.proofs.PlainLaws.{Quietly, quietly, none_mode, bits_more}
 use Rattle.bit_line.proofs.StandLaws.{goes_on, flag_closes}
 use Rattle.bit_line.proofs.EventLaws.{at_few}
 use Rattle.bit_line.proofs.RunLaws.{same_run}
+use Rattle.su_octets.proofs.BitLists.{length-low_bits, low_bits-split, low_bits-mod, bits_of-append, length-bits_of, front_same, octet_bits as one_bits}
 
 -- ---- seven octets as a number
 two_of : (os : List ℕ) → 7 ≤ length os → take 7 os ≡ take 5 os ++ (get_or os 5 0 ∷ get_or os 6 0 ∷ [])

@@ -3,14 +3,14 @@ use Rattle.std.proofs.Common.{◌≡◌, ℕ, ◌+◌, ◌-◌, ◌*◌, ◌/◌
 use Rattle.std.specs.Prelude.{◌==◌, ◌&&◌, ◌||◌, ◌⊎◌, nat_lt, nat_le}
 use Rattle.std.specs.Int.{leading_ones, w8, w16}
 use Rattle.std.proofs.lemmas.Nat.{pow_pos, one_shl}
-use Rattle.std.proofs.lemmas.Bool.{eqb-true, ltb-true}
+use Rattle.std.proofs.lemmas.Bool.{eqb-true, ltb-true, or_parts as neither, and_parts as both}
 use Rattle.std.proofs.lemmas.Bool.Decides.{eqb_tells}
 use lib.Count.{count_leading_zeros, count_trailing_zeros}
 use Rattle.su_octets.specs.Bits.{low_bits}
 use Rattle.bit_line.specs.Stuffing.{trailing, taken_out}
 use Rattle.bit_line.specs.Deframing.{has_six}
 use Rattle.bit_line.proofs.StuffLaws.{taken_out-five, taken_out-other, taken_out-one, trailing-one, trailing-zero}
-use Rattle.bit_line.proofs.OctetLaws.{window_of, fives_of, first_of, cut_of, all_below, same_bits, both, at_one, bits_same, if_so, if_not_by, one_later}
+use Rattle.bit_line.proofs.OctetLaws.{window_of, fives_of, first_of, cut_of, all_below, same_bits, at_one, bits_same, if_so, if_not_by, one_later}
 
 -- ---- line bits in order, behind so many 1s in a row: what is left of them, how many 1s they end with, and whether there are six
 abbrev pub data_of : ℕ → List Bool → List Bool
@@ -32,10 +32,6 @@ pub record Comes (bs h : List Bool) (r : ℕ) : Type 0 where
   pub data_bits : taken_out (reverse bs ++ h) ≡ reverse (data_of r bs) ++ taken_out h
   pub ones : ones_of r bs ≡ trailing (reverse bs ++ h)
   pub six : six_of r bs ≡ false → has_six (reverse bs ++ h) ≡ has_six h
-
-neither : (a b : Bool) → (a || b) ≡ false → (a ≡ false) × (b ≡ false)
-neither true b none = absurd (let e : true ≡ false = none in cc)
-neither false b none = (refl, none)
 
 six_one : (r : ℕ) (h : List Bool) → r ≡ trailing h → nat_le 6 (suc r) ≡ false → has_six (true ∷ h) ≡ has_six h
 unfolding has_six

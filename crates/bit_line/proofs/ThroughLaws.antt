@@ -1,9 +1,9 @@
 -- What a stuffer makes, a deframer in normal mode gives back.
 use Rattle.std.proofs.Common.{◌≡◌, ℕ, ◌+◌, ◌-◌, ◌<◌, ◌≤◌, zero, suc, Bool, true, false, cond, Some, None, List, [], ◌∷◌, ◌++◌, length, reverse, take, drop, refl, sym, ap, ◌∙◌, arith, inl, inr, subst, append_assoc}
-use Rattle.std.specs.Prelude.{◌⊎◌, ◌≢◌, nat_lt, unwrap_or}
+use Rattle.std.specs.Prelude.{◌⊎◌, ◌≢◌, nat_lt}
 use Rattle.std.specs.Bool.{MatchBool}
 use Rattle.std.specs.Option.{option_map}
-use Rattle.std.proofs.lemmas.Bool.{le-ltb}
+use Rattle.std.proofs.lemmas.Bool.{le-ltb, false_from_ne_true as isnt_true}
 use Rattle.std.proofs.lemmas.List.{append-nil, reverse-append, reverse-reverse, length-reverse, length-append}
 use Rattle.std.proofs.Math.Seq.{take-append_seam, take-append-add}
 use Rattle.su_octets.specs.Bits.{bits_of, AreOctets}
@@ -15,12 +15,13 @@ use Rattle.bit_line.specs.Deframing.{has_six}
 use Rattle.bit_line.specs.Laws.{unit_events, without_last, arrived, AreUnits}
 use Rattle.bit_line.specs.declared.events.LineEvent.{LineEvent}
 use Rattle.bit_line.specs.declared.events.LineEvent.TheVariants as events
-use Rattle.bit_line.proofs.BitLists.{length-bits_of}
 use Rattle.bit_line.proofs.StuffLaws.{IsStuffing, is_stuffing, no_six-parts, trailing-none, taken_out-one, taken_out-five, taken_out-other, five_or_other}
 use Rattle.bit_line.proofs.ContentLaws.{unit_fits}
 use Rattle.bit_line.proofs.EventLaws.{one_run}
 use Rattle.bit_line.proofs.SendLaws.{framed-append, framed-one}
 use Rattle.bit_line.proofs.FlagLaws.{since_flag-flag, since_flag-other, ends_flag-plain, ends_flag-zero, begins-plain, begins-flag}
+use Rattle.su_octets.proofs.BitLists.{length-bits_of}
+use Rattle.bit_line.proofs.GateLaws.{inside-some as inside-is}
 
 -- ---- bits that end nothing and begin nothing
 pub quiet : (b : Bool) (h : List Bool) (es : List LineEvent) → Runs h None es → ends_flag (b ∷ h) ≡ false → begins (b ∷ h) ≡ false → Runs (b ∷ h) None es
@@ -51,10 +52,6 @@ taken_out-drop zero h = omega arith
 taken_out-drop (suc n) [] = omega arith
 taken_out-drop (suc n) (b ∷ h) = omega (arith, taken_out-drop n h, length-taken_out b h)
 
-inside-is : (h c : List Bool) → since_flag h ≡ Some c → inside h ≡ drop 7 c
-unfolding inside
-inside-is h c some = ap (λ s. drop 7 (unwrap_or s [])) some
-
 -- ---- six 1s
 six_trailing : (h : List Bool) → six_ones h ≡ true → 6 ≤ trailing h
 unfolding six_ones trailing
@@ -70,10 +67,6 @@ unfolding trailing
 trailing-behind [] g = refl
 trailing-behind (true ∷ c) g = ap suc (trailing-behind c g)
 trailing-behind (false ∷ c) g = refl
-
-isnt_true : (b : Bool) → (b ≡ true → ⊥) → b ≡ false
-isnt_true true other = absurd (other refl)
-isnt_true false other = refl
 
 no_six_ahead : (c g : List Bool) → has_six c ≡ false → six_ones (c ++ false ∷ g) ≡ false
 no_six_ahead c g none =

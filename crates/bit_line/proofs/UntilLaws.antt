@@ -7,8 +7,8 @@ use Rattle.bit_line.specs.Events.{AreEvents}
 use Rattle.bit_line.specs.Deframing.{StandsAt, Stands}
 use Rattle.bit_line.specs.declared.deframer.Deframer.{Deframer}
 use Rattle.bit_line.specs.declared.events.LineEvent.{LineEvent}
-use Rattle.bit_line.proofs.BitLists.{bits_of-append}
 use Rattle.bit_line.proofs.EventLaws.{stands_by, events_by}
+use Rattle.su_octets.proofs.BitLists.{bits_of-append}
 
 pub quiet_step : (more : List Bool) (old new : Deframer) → ((h : List Bool) (es : List LineEvent) → StandsAt h es old → StandsAt (reverse more ++ h) es new)
     → (h : List Bool) (es : List LineEvent) → StandsAt h es old → StandsAt (reverse more ++ h) (es ++ []) new

@@ -1,18 +1,15 @@
 -- Sets of numbers as the bits of a number.
-use Rattle.std.proofs.Common.{◌≡◌, ℕ, ◌*◌, ◌/◌, ◌%◌, ◌^◌, ◌<◌, ◌≤◌, Bool, true, false, ◌&&◌, ◌||◌, eqb, ltb, bit_and, bit_or, refl, sym, ap, ◌∙◌, inl, inr, arith}
+use Rattle.std.proofs.Common.{◌≡◌, ℕ, ◌*◌, ◌/◌, ◌%◌, ◌^◌, ◌<◌, ◌≤◌, true, false, ◌&&◌, ◌||◌, eqb, ltb, bit_and, bit_or, refl, sym, ap, ◌∙◌, inl, inr, arith}
 use Rattle.std.specs.Int.{Width, w8, w128, bit_at}
 use mir.Val.{bits}
 use Rattle.std.proofs.lemmas.Nat.Bits.{bit_at-zero, bit_at_set_same, bit_at_set_other, shr_and_one}
 use Rattle.std.proofs.lemmas.Bool.Decides.{eqb_tells, nat_tests}
 use Rattle.input_port.specs.Saves.{has_bit}
-
-none_in : (b : Bool) → (b && false) ≡ false
-none_in true = refl
-none_in false = refl
+use Rattle.std.proofs.lemmas.Bool.{and_right}
 
 pub has_bit_none : (limit number : ℕ) → has_bit limit 0 number ≡ false
 unfolding has_bit
-has_bit_none limit number = ap (λ d. ltb number limit && eqb d 1) (bit_at-zero number) ∙ none_in (ltb number limit)
+has_bit_none limit number = ap (λ d. ltb number limit && eqb d 1) (bit_at-zero number) ∙ and_right (ltb number limit) false refl
 
 below : (a b : ℕ) → a < b → ltb a b ≡ true
 below a b h = grind (arith, nat_tests)

@@ -1,13 +1,9 @@
 -- Deadlines of which each timer is one of its process.
-use Rattle.std.proofs.Common.{◌≡◌, ℕ, zero, suc, ◌+◌, ◌<◌, Bool, true, false, not, cond, length, Option, Some, None, refl, sym, ap, ◌∙◌, subst, Ordering}
+use Rattle.std.proofs.Common.{◌≡◌, ℕ, zero, suc, ◌+◌, ◌<◌, Bool, true, false, not, cond, length, Option, Some, None, refl, sym, ap, ◌∙◌, subst}
 use Rattle.std.specs.Prelude.{slice_get}
-use Rattle.std.specs.declared.cmp.Ordering.TheVariants.{Less, Equal, Greater}
-use Rattle.std.specs.Ordering.{nat_cmp, eq_by_cmp, is_eq}
-use Rattle.std.specs.Cmp.{IsTotalOrder}
+use Rattle.std.specs.Ordering.{eq_by_cmp}
 use Rattle.std.specs.FinMap as finite
-use Rattle.std.specs.FinMap.{IsAntisymmetric, get-insert, get-remove, get-retain_keys, get-empty}
-use Rattle.std.proofs.lemmas.Cmp.{on_total, then_total, nat_cmp_total}
-use Rattle.std.proofs.lemmas.Map.Lookups.{exact_pairs, exact_unsigned}
+use Rattle.std.specs.FinMap.{get-insert, get-remove, get-retain_keys, get-empty}
 use Rattle.std.proofs.lemmas.Option.{none-some}
 use Rattle.turn_code.specs.declared.draft.Draft.{Draft}
 use Rattle.turn_code.specs.declared.draft.DraftProcess.{DraftProcess}
@@ -17,17 +13,7 @@ use Rattle.tick_wheel.specs.TimerId.{TimerId, timer_cmp}
 use Rattle.tick_wheel.specs.Timers.{Timers, Deadlines, is_due, not_due}
 use Rattle.link_machine.specs.Effects.{timer_of, until, without, without_first_timers, without_timers, timers_after}
 use Rattle.link_machine.specs.Fits.{TimerFits, TimersFit}
-
-total : IsTotalOrder timer_cmp
-total = then_total (on_total (λ (t : TimerId). t.process) nat_cmp_total) (on_total (λ (t : TimerId). t.number) nat_cmp_total)
-
-exact : IsAntisymmetric timer_cmp
-exact a b h = ap (λ (p : ℕ × ℕ). record { process = p.0; number = p.1 }) (exact_pairs nat_cmp nat_cmp exact_unsigned exact_unsigned (a.process, a.number) (b.process, b.number) h)
-
-tied : (r : Ordering) → is_eq r ≡ true → r ≡ Equal
-tied Less e = cc
-tied Equal e = refl
-tied Greater e = cc
+use Rattle.tick_wheel.proofs.Orders.{timers_total as total, exact_timers as exact, is_Equal as tied}
 
 -- of a choice that gives a deadline
 kept_by : (b : Bool) (o : Option ℕ) (u : ℕ) → cond b o None ≡ Some u → o ≡ Some u

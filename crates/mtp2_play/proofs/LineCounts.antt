@@ -1,14 +1,14 @@
 -- Counting the line bits of a unit, bit by bit.
-use Rattle.std.proofs.Common.{◌≡◌, ℕ, zero, suc, ◌+◌, ◌/◌, ◌%◌, ◌^◌, ◌<◌, ◌==◌, Bool, true, false, cond, List, [], ◌∷◌, ◌++◌, length, reverse, take, get_or, refl, ap, sym, ◌∙◌, subst, arith, inl, inr, append_assoc}
+use Rattle.std.proofs.Common.{◌≡◌, ℕ, suc, ◌+◌, ◌/◌, ◌%◌, ◌^◌, ◌<◌, ◌==◌, Bool, true, false, cond, List, [], ◌∷◌, ◌++◌, length, reverse, take, get_or, refl, ap, sym, ◌∙◌, subst, arith, inl, inr}
 use Rattle.std.specs.Prelude.{bit_and}
 use Rattle.std.proofs.lemmas.Nat.Bits.{shr_and_one}
 use Rattle.std.proofs.lemmas.List.{reverse-append, take_more, append-nil}
-use Rattle.std.proofs.lemmas.Nat.{shr-shr}
 use Rattle.std.proofs.lemmas.Bool.{cases_eq, eq-eqb, ne_eqb}
 use Rattle.su_octets.specs.Bits.{low_bits, bits_of}
 use Rattle.bit_line.specs.Stuffing.{trailing, with_zero, stuffed}
 use Rattle.mtp2_play.specs.declared.line_bits.LineBits.{LineBits}
 use Rattle.mtp2_play.specs.LineBits.{Counts}
+use Rattle.su_octets.proofs.BitLists.{low_bits-split, bits_of-append}
 
 pub counts_zero : (sent : List Bool) (count : ℕ) (line : LineBits) → Counts sent line → count ≡ line.count + 1
     → Counts (false ∷ sent) (record { count = count; ones = 0 })
@@ -44,19 +44,6 @@ counts_fifth sent line held fifth =
       count = rw test (omega (arith, held.count));
       ones = rw test refl;
     }
-
--- the low bits of a number, in two parts
-low_bits-split : (j k n : ℕ) → low_bits (j + k) n ≡ low_bits j n ++ low_bits k (n / 2 ^ j)
-unfolding low_bits
-low_bits-split zero k n = ap (λ i. low_bits i n) (let e : zero + k ≡ k = omega arith in e) ∙ ap (λ m. low_bits k m) (let e : n ≡ n / 1 = omega arith in e)
-low_bits-split (suc j) k n = ap (λ i. low_bits i n) (let e : suc j + k ≡ suc (j + k) = omega arith in e)
-    ∙ ap (λ bs. (n % 2 == 1) ∷ bs) (low_bits-split j k (n / 2))
-    ∙ ap (λ m. (n % 2 == 1) ∷ (low_bits j (n / 2) ++ low_bits k m)) (shr-shr n 1 j ∙ ap (λ i. n / 2 ^ i) (let e : 1 + j ≡ suc j = omega arith in e))
-
-bits_of-append : (xs ys : List ℕ) → bits_of (xs ++ ys) ≡ bits_of xs ++ bits_of ys
-unfolding bits_of
-bits_of-append [] ys = refl
-bits_of-append (x ∷ xs) ys = ap (λ bs. low_bits 8 x ++ bs) (bits_of-append xs ys) ∙ sym (append_assoc (low_bits 8 x) (bits_of xs) (bits_of ys))
 
 -- a bit of an octet, and the ones before it
 pub next_bit : (k octet : ℕ) (sent : List Bool)

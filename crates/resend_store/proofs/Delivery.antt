@@ -1,8 +1,7 @@
 -- What a receiver accepts is a beginning of what the sender took.
-use Rattle.std.proofs.Common.{◌≡◌, ℕ, ◌+◌, ◌-◌, ◌%◌, ◌<◌, ◌≤◌, zero, suc, ◌==◌, Bool, true, false, if◌then◌else◌, nat_le, max, List, [], ◌∷◌, ◌++◌, length, take, drop, refl, ap, sym, ◌∙◌, subst, arith}
+use Rattle.std.proofs.Common.{◌≡◌, ℕ, ◌+◌, ◌-◌, ◌%◌, ◌<◌, ◌≤◌, zero, suc, ◌==◌, Bool, true, false, if◌then◌else◌, max, List, [], ◌∷◌, ◌++◌, length, take, drop, refl, ap, sym, ◌∙◌, subst, arith}
 use Rattle.std.specs.Prelude.{Option, None, slice_get, is_some}
 use Rattle.std.specs.Option.{option_to_list}
-use Rattle.std.proofs.lemmas.Bool.Decides.{nat_tests}
 use Rattle.std.proofs.lemmas.List.{append-nil, drop-drop, drop-append-le, take-append-le, length-drop, length_push, take-append-drop}
 use Rattle.resend_store.specs.declared.messages.Mode.{Mode}
 use Rattle.resend_store.specs.declared.messages.Mode.TheVariants.{Basic, Cyclic}
@@ -17,6 +16,7 @@ use Rattle.resend_store.specs.Exchange.{Answer, Exchange, Event, gets, sends, an
 use Rattle.resend_store.proofs.Sent.{Fine, UnitIs, fills, carries, SameFine, next_fine}
 use Rattle.resend_store.proofs.Stands.{slice_get_drop}
 use Rattle.resend_store.proofs.InTurn.{taken, passed, hear_is}
+use Rattle.std.proofs.lemmas.Bool.{le-leb as le_test}
 
 -- The units under way, where s of the messages were sent and the receiver wants the message d next. None of them carries a
 -- message so old that its number could be taken for a later one's, also once those before it have been accepted.
@@ -269,9 +269,6 @@ without_fine : (w : Window) (n : ℕ) → Fine w → n ≤ w.sent → Fine (with
 without_fine w n f few =
     let fits = f.fits in let narrow = f.narrow in let turn = f.turn in let size = length-drop n w.kept in
     record { fits = omega arith; narrow = omega arith; again = omega arith; turn = omega arith }
-
-le_test : (m n : ℕ) → m ≤ n → nat_le m n ≡ true
-le_test m n h = grind (arith, nat_tests)
 
 sound_after : (x : Exchange) (bs : List Answer) (n k : ℕ) (v : Window) (h : Sound x) → h.a ≤ k → n ≡ k - h.a → n ≤ x.sender.sent → SameFine v (without x.sender n) → Backs k h.d bs
     → Sound (record x { back = bs; sender = v })

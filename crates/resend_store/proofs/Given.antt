@@ -1,21 +1,17 @@
 -- What a call to send does to the messages that wait: it gives out the first of them for the first time, or leaves them.
-use Rattle.std.proofs.Common.{◌≡◌, ℕ, ◌+◌, ◌<◌, Bool, true, false, if◌then◌else◌, List, length, nat_lt, refl, arith}
+use Rattle.std.proofs.Common.{◌≡◌, ℕ, ◌+◌, ◌<◌, Bool, true, false, if◌then◌else◌, List, length, nat_lt, refl}
 use Rattle.std.specs.Prelude.{slice_get}
-use Rattle.std.proofs.lemmas.Bool.Decides.{nat_tests}
 use Rattle.resend_store.specs.declared.messages.Mode.{Mode}
 use Rattle.resend_store.specs.declared.messages.Mode.TheVariants.{Basic, Cyclic}
 use Rattle.resend_store.specs.declared.messages.Msu.{Msu}
 use Rattle.resend_store.specs.Numbers.{plus}
 use Rattle.resend_store.specs.Window.{Window, Sending, may_send, at_limit, round, repeats, after_new, sends_new, cycles, fill_in, next_basic, next_ordinary, next_forced, next_by, next}
+use Rattle.resend_store.proofs.WindowTests.{by_test, may_waits as may_send_waits}
 
 -- of a window with these messages, of which so many are sent, the first with that number
 pub data NextIs (kept : List Msu) (sent first : ℕ) (s : Sending) : Type 0 where
   again : s.left.kept ≡ kept → s.left.sent ≡ sent → s.left.first ≡ first → NextIs kept sent first s
   new : sent < length kept → s.unit.msu ≡ slice_get kept sent → s.unit.fsn ≡ plus first sent → s.left.kept ≡ kept → s.left.sent ≡ sent + 1 → s.left.first ≡ first → NextIs kept sent first s
-
-by_test : (P : Sending → Type 0) (b : Bool) (x y : Sending) → (b ≡ true → P x) → (b ≡ false → P y) → P (if b then x else y)
-by_test P true x y h k = h refl
-by_test P false x y h k = k refl
 
 -- forced retransmission changes none of these
 pub record SameNumbers (v w : Window) : Type 0 where
@@ -30,9 +26,6 @@ round_or_not false w = record { kept = refl; sent = refl; first = refl }
 after_new_same : (m : Mode) (w : Window) → SameNumbers (after_new m w) w
 after_new_same Basic w = record { kept = refl; sent = refl; first = refl }
 after_new_same Cyclic w = round_or_not (at_limit w) w
-
-may_send_waits : (w : Window) → may_send w ≡ true → w.sent < length w.kept
-may_send_waits w h = grind (arith, nat_tests)
 
 sends_new_is : (w : Window) → may_send w ≡ true → NextIs w.kept w.sent w.first (sends_new w)
 sends_new_is w h =

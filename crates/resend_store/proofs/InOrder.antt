@@ -1,5 +1,5 @@
 -- New messages go out in order and without a gap, over every list of calls.
-use Rattle.std.proofs.Common.{◌≡◌, ℕ, ◌+◌, ◌-◌, ◌<◌, ◌≤◌, ◌⊎◌, inl, inr, zero, suc, ◌==◌, Bool, true, false, if◌then◌else◌, nat_lt, nat_le, List, [], ◌∷◌, ◌++◌, length, drop, map, refl, ap, sym, ◌∙◌, subst, arith, add-one}
+use Rattle.std.proofs.Common.{◌≡◌, ℕ, ◌+◌, ◌-◌, ◌<◌, ◌≤◌, inl, inr, zero, suc, ◌==◌, Bool, true, false, if◌then◌else◌, nat_lt, List, [], ◌∷◌, ◌++◌, length, drop, map, refl, ap, sym, ◌∙◌, subst, arith, add-one}
 use Rattle.std.specs.Prelude.{Option, Some, None, slice_get}
 use Rattle.std.proofs.lemmas.Bool.Decides.{nat_tests}
 use Rattle.std.proofs.lemmas.List.{append-nil, append_assoc, drop-drop, drop-append-le, length-drop, length_push, take-append-drop}
@@ -11,6 +11,7 @@ use Rattle.resend_store.specs.Numbers.{plus}
 use Rattle.resend_store.specs.Window.{Window, Sending, unacknowledged, waiting, start, with_put, next, count_by, without, asked, after_back, count_known, emptied, refreshed}
 use Rattle.resend_store.specs.Runs.{Call, put, put_diverted, next_unit, on_back, retrieve, fresh, is_accepted, accepted, step, after, message_of, brought, newly_given, all_brought, all_given, is_beginning, NoBeginning, counted, InOrder, number_after, NewInOrder}
 use Rattle.resend_store.proofs.Given.{again, new, SameNumbers, next_is}
+use Rattle.std.proofs.lemmas.Bool.{cases_Bool as true_or_false, leb-true as test_of}
 
 -- what one call does
 data StepIs (w : Window) (call : Call) : Type 0 where
@@ -62,10 +63,6 @@ first_sends w call calls n u m given none held msu fsn rest = record {
 }
 
 -- ---- what each call does
-
-true_or_false : (b : Bool) → (b ≡ true) ⊎ (b ≡ false)
-true_or_false true = inl refl
-true_or_false false = inr refl
 
 -- a call that gives out nothing new
 quiet : (w : Window) (call : Call) (v : Window) (b : List Msu) → step w call ≡ v → brought w call ≡ b → newly_given w call ≡ []
@@ -157,9 +154,6 @@ waiting_without : (w : Window) (n : ℕ) → n ≤ w.sent → drop (w.sent - n) 
 waiting_without w n h =
     let e : n + (w.sent - n) ≡ w.sent = omega arith in
     drop-drop (w.sent - n) n w.kept ∙ ap (λ (k : ℕ). drop k w.kept) e
-
-test_of : (m n : ℕ) → nat_le m n ≡ true → m ≤ n
-test_of m n h = grind (arith, nat_tests)
 
 back_is : (w : Window) (bsn bib : ℕ) → w.sent ≤ length w.kept → Stepped w (on_back bsn bib)
 back_is w bsn bib fits = elim (true_or_false (is_accepted w (on_back bsn bib))) [

@@ -1,5 +1,5 @@
 -- A receiver accepts messages in turn, over every list of units.
-use Rattle.std.proofs.Common.{◌≡◌, ℕ, ◌==◌, ◌&&◌, Bool, true, false, if◌then◌else◌, List, [], ◌∷◌, ◌++◌, length, map, refl, ap, sym, ◌∙◌, arith}
+use Rattle.std.proofs.Common.{◌≡◌, ℕ, ◌==◌, Bool, true, false, if◌then◌else◌, List, [], ◌∷◌, ◌++◌, length, map, refl, ap, sym, ◌∙◌, arith}
 use Rattle.std.proofs.lemmas.Bool.Decides.{nat_tests}
 use Rattle.resend_store.specs.declared.messages.Mode.{Mode}
 use Rattle.resend_store.specs.declared.messages.Mode.TheVariants.{Basic, Cyclic}
@@ -7,20 +7,13 @@ use Rattle.resend_store.specs.Numbers.{plus}
 use Rattle.resend_store.specs.Intake.{Intake, Hearing, first_intake, accepts, discards, refuses, is_in_turn, hear_agreeing, hear_unlike, hear_by, hear}
 use Rattle.resend_store.specs.Runs.{counted}
 use Rattle.resend_store.specs.Hearings.{Heard, hear_unit, is_accept, accepted_units, AcceptsInTurn}
+use Rattle.resend_store.proofs.WindowTests.{by_test}
+use Rattle.std.proofs.lemmas.Bool.{and_parts as both}
 
 -- what one unit does, where the last number accepted was this
 pub data HearIs (last fsn : ℕ) (has_msu : Bool) (s : Hearing) : Type 0 where
   taken : is_accept s.verdict ≡ true → has_msu ≡ true → fsn ≡ plus last 1 → s.known.last ≡ fsn → HearIs last fsn has_msu s
   passed : is_accept s.verdict ≡ false → s.known.last ≡ last → HearIs last fsn has_msu s
-
-by_test : (P : Hearing → Type 0) (b : Bool) (x y : Hearing) → (b ≡ true → P x) → (b ≡ false → P y) → P (if b then x else y)
-by_test P true x y h k = h refl
-by_test P false x y h k = k refl
-
-both : (a b : Bool) → (a && b) ≡ true → (a ≡ true) × (b ≡ true)
-both true true e = (refl, refl)
-both true false e = let wrong : false ≡ true = e in cc
-both false b e = let wrong : false ≡ true = e in cc
 
 same_number : (m n : ℕ) → (m == n) ≡ true → m ≡ n
 same_number m n h = grind (arith, nat_tests)

@@ -1,3 +1,4 @@
+pub mod WindowTests
 pub mod Weights
 pub mod Nexts
 pub mod Given

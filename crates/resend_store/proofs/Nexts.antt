@@ -1,21 +1,12 @@
 -- The two steps of a call to send give what its definition says.
-use Rattle.std.proofs.Common.{◌≡◌, ℕ, ◌<◌, ◌⊎◌, inl, inr, zero, suc, ◌==◌, Bool, true, false, List, take, nat_lt, refl, arith}
+use Rattle.std.proofs.Common.{◌≡◌, ℕ, ◌<◌, ◌⊎◌, inl, inr, zero, suc, ◌==◌, Bool, true, false, nat_lt, refl, arith}
 use Rattle.std.proofs.lemmas.Bool.Decides.{nat_tests}
 use Rattle.resend_store.specs.declared.messages.Mode.{Mode}
 use Rattle.resend_store.specs.declared.messages.Mode.TheVariants.{Basic, Cyclic}
-use Rattle.resend_store.specs.declared.messages.Msu.{Msu}
-use Rattle.resend_store.specs.Messages.{reaches_limit}
 use Rattle.resend_store.specs.Window.{Window, IsWindow, UsesOnly, at_limit, next, next_by}
 use Rattle.resend_store.specs.Steps.{settled, gives}
-
--- nothing that weighs is sent where a limit is reached by nothing
-front_at_limit : (n : ℕ) (ms : List Msu) → reaches_limit (take n ms) ≡ true → 0 < n
-front_at_limit zero ms h = cc
-front_at_limit (suc n) ms h = omega arith
-
-true_or_false : (b : Bool) → (b ≡ true) ⊎ (b ≡ false)
-true_or_false true = inl refl
-true_or_false false = inr refl
+use Rattle.resend_store.proofs.WindowTests.{limit_sent as front_at_limit}
+use Rattle.std.proofs.lemmas.Bool.{cases_Bool as true_or_false}
 
 -- a test of a number
 above_or_zero : (n : ℕ) → ((nat_lt 0 n ≡ true) × ((n == 0) ≡ false)) ⊎ (n ≡ 0)

@@ -1,5 +1,5 @@
 -- Each unit that goes out is a fill-in unit or carries one of the messages in the window.
-use Rattle.std.proofs.Common.{◌≡◌, ℕ, ◌+◌, ◌-◌, ◌<◌, ◌≤◌, zero, suc, ◌==◌, Bool, true, false, if◌then◌else◌, nat_lt, List, length, take, refl, arith}
+use Rattle.std.proofs.Common.{◌≡◌, ℕ, ◌+◌, ◌-◌, ◌<◌, ◌≤◌, ◌==◌, Bool, true, false, if◌then◌else◌, nat_lt, List, length, refl, arith}
 use Rattle.std.specs.Prelude.{None, slice_get}
 use Rattle.std.proofs.lemmas.Bool.Decides.{nat_tests}
 use Rattle.resend_store.specs.declared.messages.Mode.{Mode}
@@ -7,8 +7,9 @@ use Rattle.resend_store.specs.declared.messages.Mode.TheVariants.{Basic, Cyclic}
 use Rattle.resend_store.specs.declared.messages.Msu.{Msu}
 use Rattle.resend_store.specs.declared.messages.Outgoing.{Outgoing}
 use Rattle.resend_store.specs.Numbers.{plus}
-use Rattle.resend_store.specs.Messages.{reaches_limit}
 use Rattle.resend_store.specs.Window.{Window, Sending, may_send, at_limit, round, repeats, after_new, sends_new, cycles, fill_in, next_basic, next_ordinary, next_forced, next_by, next}
+use Rattle.resend_store.proofs.WindowTests.{by_test, may_waits, limit_sent}
+use Rattle.std.proofs.lemmas.Bool.{ltb-true}
 
 -- the places in a window
 pub record Fine (w : Window) : Type 0 where
@@ -29,22 +30,8 @@ pub record NextFine (kept : List Msu) (first sent : ℕ) (s : Sending) : Type 0 
   pub fine : Fine s.left
   pub unit : UnitIs kept first s.left.sent s.unit
 
-by_test : (P : Sending → Type 0) (b : Bool) (x y : Sending) → (b ≡ true → P x) → (b ≡ false → P y) → P (if b then x else y)
-by_test P true x y h k = h refl
-by_test P false x y h k = k refl
-
-above_zero : (n : ℕ) → nat_lt 0 n ≡ true → 0 < n
-above_zero n h = grind (arith, nat_tests)
-
-may_waits : (w : Window) → may_send w ≡ true → w.sent < length w.kept
-may_waits w h = grind (arith, nat_tests)
-
 may_open : (w : Window) → may_send w ≡ true → w.sent < 127
 may_open w h = grind (arith, nat_tests)
-
-limit_sent : (n : ℕ) (ms : List Msu) → reaches_limit (take n ms) ≡ true → 0 < n
-limit_sent zero ms h = cc
-limit_sent (suc n) ms h = omega arith
 
 fill_fine : (w : Window) → Fine w → NextFine w.kept w.first w.sent (fill_in w)
 fill_fine w f = record { kept_on = refl; first_on = refl; sent_on = omega arith; fine = f; unit = fills refl }
@@ -104,14 +91,14 @@ basic_fine : (w : Window) → Fine w → NextFine w.kept w.first w.sent (next_ba
 basic_fine w f =
     let P : Sending → Type 0 = λ s. NextFine w.kept w.first w.sent s in
     by_test P (nat_lt 0 w.again) (repeats w) (if may_send w then sends_new w else fill_in w)
-    (λ some. repeats_fine w f (above_zero w.again some))
+    (λ some. repeats_fine w f (ltb-true 0 w.again some))
     (λ _. by_test P (may_send w) (sends_new w) (fill_in w) (sends_new_fine w f) (λ _. fill_fine w f))
 
 ordinary_fine : (w : Window) → Fine w → NextFine w.kept w.first w.sent (next_ordinary w)
 ordinary_fine w f =
     let P : Sending → Type 0 = λ s. NextFine w.kept w.first w.sent s in
     by_test P (may_send w) (sends_new w) (if nat_lt 0 w.sent then cycles w else fill_in w) (sends_new_fine w f)
-    (λ _. by_test P (nat_lt 0 w.sent) (cycles w) (fill_in w) (λ some. cycles_fine w f (above_zero w.sent some)) (λ _. fill_fine w f))
+    (λ _. by_test P (nat_lt 0 w.sent) (cycles w) (fill_in w) (λ some. cycles_fine w f (ltb-true 0 w.sent some)) (λ _. fill_fine w f))
 
 forced_fine : (w : Window) → Fine w → NextFine w.kept w.first w.sent (next_forced w)
 forced_fine w f =
@@ -119,7 +106,7 @@ forced_fine w f =
     let v : Window = record w { forced = false } in
     let f' : Fine v = record { fits = f.fits; narrow = f.narrow; again = f.again; turn = f.turn } in
     by_test P (nat_lt 0 w.again) (repeats w) (if at_limit w then repeats (round w) else next_ordinary v)
-    (λ some. repeats_fine w f (above_zero w.again some))
+    (λ some. repeats_fine w f (ltb-true 0 w.again some))
     (λ _. by_test P (at_limit w) (repeats (round w)) (next_ordinary v)
     (λ full. repeats_fine (round w) (round_fine w f) (limit_sent w.sent w.kept full)) (λ _. ordinary_fine v f'))
 

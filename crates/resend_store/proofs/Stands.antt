@@ -13,6 +13,8 @@ use Rattle.resend_store.specs.Messages.{reaches_limit}
 use Rattle.resend_store.specs.Window.{Window, Sending, waiting, number_at, start, with_put, may_send, at_limit, unit_at, fill_in, repeats, round, after_new, sends_new, cycles, next_basic, next_ordinary, next_forced, next_by, next, count_by, without, asked, retrieved, count_known, emptied, refreshed}
 use Rattle.resend_store.specs.Runs.{Call, put, put_diverted, next_unit, on_back, retrieve, fresh, is_accepted, accepted, step, after}
 use Rattle.resend_store.specs.Whole.{Whole, number_of, in_window, whole_start, WholeSending, carries, fills_in, goes_again, forces, forces_by, goes_out, goes_in_turn, is_open, whole_next_basic, whole_next_ordinary, whole_next_forced, whole_next_by, whole_next, whole_count, acknowledges, whole_asked, whole_known, handed, whole_emptied, whole_refreshed, whole_accepts, whole_accepted, whole_step, whole_after, StandsFor, KeptIsEnough}
+use Rattle.resend_store.proofs.WindowTests.{may_waits, limit_sent}
+use Rattle.std.proofs.lemmas.Bool.{leb-true as le_by_test, ltb-true}
 
 -- ---- tests and lists
 
@@ -29,12 +31,6 @@ lt_alike false true m n i j e f h k = let lt : i < j = grind (arith, nat_tests) 
 
 same_lt : (m n i j : ℕ) → (m < n → i < j) → (i < j → m < n) → nat_lt m n ≡ nat_lt i j
 same_lt m n i j h k = lt_alike (nat_lt m n) (nat_lt i j) m n i j refl refl h k
-
-above_zero : (n : ℕ) → nat_lt 0 n ≡ true → 0 < n
-above_zero n h = grind (arith, nat_tests)
-
-le_by_test : (m n : ℕ) → nat_le m n ≡ true → m ≤ n
-le_by_test m n h = grind (arith, nat_tests)
 
 eq_alike : (b c : Bool) (m n i j : ℕ) → (m == n) ≡ b → (i == j) ≡ c → (m ≡ n → i ≡ j) → (i ≡ j → m ≡ n) → b ≡ c
 eq_alike true true m n i j e f h k = refl
@@ -185,9 +181,6 @@ may_alike h w st =
     (same_lt w.sent (length w.kept) h.sent (length h.messages) (λ lt. omega arith) (λ lt. omega arith))
     (ap (λ (n : ℕ). nat_lt n MOST_UNACKNOWLEDGED) width)
 
-may_waits : (w : Window) → may_send w ≡ true → w.sent < length w.kept
-may_waits w h = grind (arith, nat_tests)
-
 again_alike : (h : Whole) (w : Window) → StandsFor h w → nat_lt 0 w.again ≡ nat_lt h.repeat_from h.sent
 again_alike h w st = let again = st.again in same_lt 0 w.again h.repeat_from h.sent (λ lt. omega arith) (λ lt. omega arith)
 
@@ -199,7 +192,7 @@ basic_alike h w st =
     let R : Sending → WholeSending → Type 0 = λ s t. SendAlike s t in
     pick R (nat_lt 0 w.again) (nat_lt h.repeat_from h.sent) (repeats w) (if may_send w then sends_new w else fill_in w) (goes_again h) (if is_open h then goes_out h else fills_in h)
     (again_alike h w st)
-    (λ some. repeat_alike h w st (above_zero w.again some))
+    (λ some. repeat_alike h w st (ltb-true 0 w.again some))
     (λ none. pick R (may_send w) (is_open h) (sends_new w) (fill_in w) (goes_out h) (fills_in h) (may_alike h w st)
     (λ may. new_alike h w st (may_waits w may) (not_above_zero w.again none)) (λ _. fill_alike h w st))
 
@@ -217,10 +210,6 @@ unforced h w st none =
     let again = st.again in
     record { mode = st.mode; kept = st.kept; sent = st.sent; first = st.first; fib = st.fib; again = st.again; forced = refl; turn = st.turn; origin = st.origin; inside = st.inside; repeats = st.repeats; idle = λ m f. omega arith }
 
-limit_sent : (n : ℕ) (ms : List Msu) → reaches_limit (take n ms) ≡ true → 0 < n
-limit_sent zero ms h = cc
-limit_sent (suc n) ms h = omega arith
-
 forced_alike : (h : Whole) (w : Window) → StandsFor h w → SendAlike (next_forced w) (whole_next_forced h)
 forced_alike h w st =
     let R : Sending → WholeSending → Type 0 = λ s t. SendAlike s t in
@@ -228,7 +217,7 @@ forced_alike h w st =
     let k : Whole = record h { forced = false } in
     pick R (nat_lt 0 w.again) (nat_lt h.repeat_from h.sent) (repeats w) (if at_limit w then repeats (round w) else next_ordinary v) (goes_again h) (if reaches_limit (in_window h) then goes_again (forces h) else whole_next_ordinary k)
     (again_alike h w st)
-    (λ some. repeat_alike h w st (above_zero w.again some))
+    (λ some. repeat_alike h w st (ltb-true 0 w.again some))
     (λ none. pick R (at_limit w) (reaches_limit (in_window h)) (repeats (round w)) (next_ordinary v) (goes_again (forces h)) (whole_next_ordinary k) (limit_alike h w st)
     (λ full. repeat_alike (forces h) (round w) (round_alike h w st) (limit_sent w.sent w.kept full))
     (λ _. ordinary_alike k v (unforced h w st (not_above_zero w.again none)) (not_above_zero w.again none)))

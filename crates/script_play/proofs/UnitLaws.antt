@@ -5,10 +5,10 @@ use Rattle.bit_line.specs.Stuffing.{trailing, stuffed}
 use Rattle.bit_line.proofs.BitLists.{reverse-cons}
 use Rattle.bit_line.proofs.SendLaws as laws
 use Rattle.bit_line.specs.Sending.{flag}
-use Rattle.bit_line.proofs.BitLists.{bits_of-append}
 use Rattle.std.proofs.Math.Seq.{take-add}
 use Rattle.std.proofs.lemmas.List.{drop_more}
 use Rattle.script_play.specs.UnitLines.{IsSent, shared_flags}
+use Rattle.su_octets.proofs.BitLists.{bits_of-append}
 
 -- one line bit more
 line_more : (before h : List Bool) (line : List Bool) (b : Bool) → line ≡ before ++ reverse h → line ++ b ∷ [] ≡ before ++ reverse (b ∷ h)
@@ -74,10 +74,6 @@ bit_before xs i j k n m within next is others =
     is
     ∙ (ap (λ l. get_or xs i false ∷ l) (others ∙ ap (λ p. take k (drop p xs)) next)
     ∙ sym (ap (take (suc k)) (drop_more xs i false within)))
-
-pub no_bits : (n : ℕ) → low_bits 0 n ≡ []
-unfolding low_bits
-no_bits n = refl
 
 pub bits_none : bits_of [] ≡ []
 unfolding bits_of

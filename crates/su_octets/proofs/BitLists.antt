@@ -1,14 +1,17 @@
 -- Numbers and octets as lists of bits.
 use Rattle.std.proofs.Common.{◌≡◌, ℕ, ◌+◌, ◌-◌, ◌*◌, ◌/◌, ◌%◌, ◌^◌, ◌<◌, zero, suc, true, false, not, List, [], ◌∷◌, ◌++◌, map, length, refl, sym, ap, ◌∙◌, arith, inl, inr, append_assoc}
 use Rattle.std.specs.Prelude.{◌⊎◌, bit_xor, ◌==◌}
-use Rattle.std.proofs.lemmas.Nat.{xor_shr, xor_mod, shr-shr, mod-pow-add}
-use Rattle.std.proofs.lemmas.List.{length-append}
+use Rattle.std.proofs.lemmas.Nat.{xor_shr, xor_mod, shr-shr, shr_high, mod-pow-add}
+use Rattle.std.proofs.lemmas.List.{length-append, append-nil}
 use Rattle.su_octets.specs.Polynomial.{odd_sum, plus}
 use Rattle.su_octets.specs.Bits.{low_bits, bits_of, AreOctets}
 
 pub zero_or_one : (n : ℕ) → n < 2 → (n ≡ 0) ⊎ (n ≡ 1)
 zero_or_one zero small = inl refl
 zero_or_one (suc n) small = inr (omega arith)
+
+pub div_small : (n k : ℕ) → n < 2 ^ k → n / 2 ^ k ≡ 0
+div_small n k small = ap (λ m. m / 2 ^ k) (let e : n ≡ 0 * 2 ^ k + n = omega arith in e) ∙ shr_high 0 k n small
 
 odd_parts : (x y : ℕ) → (x ≡ 0) ⊎ (x ≡ 1) → (y ≡ 0) ⊎ (y ≡ 1) → (bit_xor x y == 1) ≡ odd_sum (x == 1) (y == 1)
 odd_parts x y (inl p) (inl q) = rw (p, q) refl
@@ -23,6 +26,10 @@ pub low_bits-xor : (k a b : ℕ) → low_bits k (bit_xor a b) ≡ plus (low_bits
 unfolding low_bits plus
 low_bits-xor zero a b = refl
 low_bits-xor (suc k) a b = rw (odd-xor a b, xor_shr a b 1, low_bits-xor k (a / 2) (b / 2)) refl
+
+pub no_low_bits : (n : ℕ) → low_bits 0 n ≡ []
+unfolding low_bits
+no_low_bits n = refl
 
 pub length-low_bits : (k n : ℕ) → length (low_bits k n) ≡ k
 unfolding low_bits
@@ -64,10 +71,11 @@ low_bits-not (suc k) n small =
     ∙ ap (λ m. not (n % 2 == 1) ∷ low_bits k m) half
     ∙ ap (λ bs. not (n % 2 == 1) ∷ bs) (low_bits-not k (n / 2) less)
 
-head_same : {A : Type 0} (x y : A) (xs ys : List A) → x ∷ xs ≡ y ∷ ys → x ≡ y
+-- what two lists that are the same begin with, and what follows
+pub head_same : {A : Type 0} (x y : A) (xs ys : List A) → x ∷ xs ≡ y ∷ ys → x ≡ y
 head_same x y xs ys same = cc
 
-tail_same : {A : Type 0} (x y : A) (xs ys : List A) → x ∷ xs ≡ y ∷ ys → xs ≡ ys
+pub tail_same : {A : Type 0} (x y : A) (xs ys : List A) → x ∷ xs ≡ y ∷ ys → xs ≡ ys
 tail_same x y xs ys same = cc
 
 same_parity : (x y : ℕ) → (x ≡ 0) ⊎ (x ≡ 1) → (y ≡ 0) ⊎ (y ≡ 1) → (x == 1) ≡ (y == 1) → x ≡ y
@@ -84,6 +92,10 @@ low_bits-same (suc k) a b a_small b_small same =
     let lowest : a % 2 ≡ b % 2 = same_parity (a % 2) (b % 2) (zero_or_one (a % 2) (omega arith)) (zero_or_one (b % 2) (omega arith)) (head_same _ _ _ _ same) in
     let rest : a / 2 ≡ b / 2 = low_bits-same k (a / 2) (b / 2) (omega arith) (omega arith) (tail_same _ _ _ _ same) in
     omega arith
+
+pub octet_bits : (v : ℕ) → bits_of (v ∷ []) ≡ low_bits 8 v
+unfolding bits_of
+octet_bits v = append-nil (low_bits 8 v)
 
 pub bits_of-append : (xs ys : List ℕ) → bits_of (xs ++ ys) ≡ bits_of xs ++ bits_of ys
 unfolding bits_of

@@ -15,6 +15,7 @@ use Rattle.su_octets.specs.declared.units.UnitFault.{UnitFault}
 use Rattle.su_octets.specs.declared.units.UnitFault.TheVariants.{TooShort, TooLong, BadCheck, BadLength}
 use Rattle.arrayvec.specs.ArrayVec.{ArrayVec}
 use Rattle.su_octets.proofs.CheckLaws.{one_check}
+use Rattle.su_octets.proofs.BitLists.{head_same as head_item, tail_same as tail_items}
 
 -- of several reasons one is given
 pub one_fault : (octets : List ℕ) (f g : UnitFault) → Refuses octets f → Refuses octets g → f ≡ g
@@ -126,12 +127,6 @@ same_unit (Msu h i f) (Msu k j g) uw vw head body =
     let items : f.items ≡ g.items = cc in
     let fields : f ≡ g = same_items f g items in
     cc
-
-head_item : {A : Type 0} (x y : A) (xs ys : List A) → x ∷ xs ≡ y ∷ ys → x ≡ y
-head_item x y xs ys same = cc
-
-tail_items : {A : Type 0} (x y : A) (xs ys : List A) → x ∷ xs ≡ y ∷ ys → xs ≡ ys
-tail_items x y xs ys same = cc
 
 -- octets are those of one unit at most
 pub one_unit : (octets : List ℕ) (u v : Unit) → Frame octets u → Frame octets v → u ≡ v

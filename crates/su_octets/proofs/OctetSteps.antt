@@ -1,14 +1,14 @@
 -- An octet at once does to the register what its eight bits do one after the other.
 use Rattle.std.proofs.Common.{◌≡◌, ℕ, ◌+◌, ◌*◌, ◌/◌, ◌%◌, ◌^◌, ◌<◌, zero, suc, Bool, false, List, [], ◌∷◌, ◌++◌, length, reverse, replicate, refl, sym, ap, ◌∙◌, arith}
 use Rattle.std.specs.Prelude.{bit_xor, ◌==◌}
-use Rattle.std.proofs.lemmas.Nat.{shr_high, xor_lt}
+use Rattle.std.proofs.lemmas.Nat.{xor_lt}
 use Rattle.std.proofs.Math.Nat.{mul_assoc}
 use Rattle.su_octets.specs.Polynomial.{odd_sum, plus}
 use Rattle.su_octets.specs.Bits.{low_bits}
 use Rattle.su_octets.specs.Register.{Register}
 use Rattle.su_octets.proofs.Remainders.{Word, bits, remainder, xor_none, xor_assoc}
 use Rattle.su_octets.proofs.Registers.{dividend, step, remainder-step, register_bits, register_of_bits}
-use Rattle.su_octets.proofs.BitLists.{length-low_bits, low_bits-xor, low_bits-split, low_bits-mod, front_same}
+use Rattle.su_octets.proofs.BitLists.{length-low_bits, low_bits-xor, low_bits-split, low_bits-mod, front_same, div_small}
 
 -- ---- the bits of shifted numbers
 low_bits-none : (k : ℕ) → low_bits k 0 ≡ replicate k false
@@ -27,9 +27,6 @@ low_bits-up (suc j) k n =
     ∙ ap (λ m. (m == 1) ∷ low_bits (j + k) (n * 2 ^ suc j / 2)) even
     ∙ ap (λ m. false ∷ low_bits (j + k) m) half
     ∙ ap (λ bs. false ∷ bs) (low_bits-up j k n)
-
-div_small : (n k : ℕ) → n < 2 ^ k → n / 2 ^ k ≡ 0
-div_small n k small = ap (λ m. m / 2 ^ k) (let e : n ≡ 0 * 2 ^ k + n = omega arith in e) ∙ shr_high 0 k n small
 
 -- a number of j bits has zeros behind them
 low_bits-small : (j k n : ℕ) → n < 2 ^ j → low_bits (j + k) n ≡ low_bits j n ++ replicate k false

@@ -12,7 +12,7 @@ use Rattle.std.proofs.lemmas.List.Sorted.{list_any-IsPermutation}
 use Rattle.std.proofs.lemmas.Map.Keys.{sorted_from_all_adjacent, sorted_head, sorted_tail, IsDistinct-cons, IsDistinct-IsPermutation, apart_from_distinct}
 use Rattle.std.proofs.lemmas.Cmp.{eq_by_cmp_equiv}
 use Rattle.std.proofs.Math.Seq.{take-append_seam}
-use Rattle.std.proofs.lemmas.Bool.{false≢true}
+use Rattle.std.proofs.lemmas.Bool.{false≢true, and_from as both}
 use Rattle.std.proofs.lemmas.Bool.Decides.{Decides-like, Decides-and, Decides-eqb, leb_tells}
 use Rattle.std.proofs.lemmas.Map.Views.{Contains-from_any, list_any-from_Contains, tells_apart}
 use Rattle.std.proofs.lemmas.Option.{same_Some}
@@ -22,11 +22,6 @@ use Rattle.tick_wheel.specs.Timers.{Deadlines, due, due_cmp, in_order, pairs, Is
 use Rattle.tick_wheel.specs.declared.Due.{Due}
 use Rattle.tick_wheel.proofs.Orders.{dues_total, exact_dues, exact_timers, pairs_apart}
 use Rattle.tick_wheel.proofs.TableLemmas.{entries-deadlines_of, get-deadlines_of, not_found}
-
-both : (a b : Bool) → a ≡ true → b ≡ true → (a && b) ≡ true
-both true true p q = refl
-both true false p q = q
-both false b p q = p
 
 -- the entries of a set
 abbrev marked : List Due → List (Due × Unit {0})

@@ -1,5 +1,5 @@
 -- What a table stands for, and what a change of one place or of all does to that.
-use Rattle.std.proofs.Common.{◌≡◌, ℕ, zero, suc, ◌<◌, ◌+◌, Bool, true, false, not, ◌&&◌, cond, T, List, [], ◌∷◌, length, get_or, set, map, replicate, Option, Some, None, IfSome, refl, sym, ap, subst, ◌∙◌, inl, inr, arith, nat_le}
+use Rattle.std.proofs.Common.{◌≡◌, ℕ, zero, suc, ◌<◌, ◌+◌, Bool, true, false, not, cond, T, List, [], ◌∷◌, length, get_or, set, map, replicate, Option, Some, None, IfSome, refl, sym, ap, subst, ◌∙◌, inl, inr, arith, nat_le}
 use Rattle.std.specs.Ordering.{eq_by_cmp, is_lt}
 use Rattle.std.specs.Option.{option_map_or}
 use Rattle.std.specs.FinMap as finite
@@ -10,11 +10,7 @@ use Rattle.tick_wheel.specs.TimerId.{TimerId, timer_cmp}
 use Rattle.tick_wheel.specs.Table.{timer_at, entries_from, deadlines_of, kept, NoneDue}
 use Rattle.tick_wheel.specs.Timers.{not_due, is_due}
 use Rattle.tick_wheel.proofs.Orders.{timers_total, exact_timers, timer_at-rises, one_place, same_place, earlier_place}
-
-both : (a b : Bool) → a ≡ true → b ≡ true → (a && b) ≡ true
-both true true p q = refl
-both true false p q = q
-both false b p q = p
+use Rattle.std.proofs.lemmas.Bool.{and_from as both}
 
 -- the deadline that the entries of a table give a timer
 abbrev found : TimerId → ℕ → List (Option ℕ) → Option ℕ

@@ -1,6 +1,7 @@
 use Rattle.std.proofs.Common.{◌+◌, arith}
-use Rattle.script_play.proofs.UnitLaws.{no_bits, bit_before}
+use Rattle.script_play.proofs.UnitLaws.{bit_before}
 use Rattle.script_play.proofs.unit_line.octet_at.Goals as goal
+use Rattle.su_octets.proofs.BitLists.{no_low_bits as no_bits}
 
 pub returns : goal.returns
 returns c =

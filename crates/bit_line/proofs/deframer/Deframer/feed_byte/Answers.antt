@@ -2,8 +2,8 @@ use Rattle.std.proofs.Common.{◌+◌, ap, arith, length}
 use Rattle.su_octets.specs.Bits.{low_bits}
 use Rattle.bit_line.proofs.EventLaws as laws
 use Rattle.bit_line.proofs.PaceLaws.{decode_by, closes_by}
-use Rattle.bit_line.proofs.BitLists.{length-low_bits}
 use Rattle.bit_line.proofs.deframer.Deframer.feed_byte.Goals as goal
+use Rattle.su_octets.proofs.BitLists.{length-low_bits}
 
 pub loop-taken-init : goal.loop-taken-init
 loop-taken-init c = record {
