@@ -1,5 +1,5 @@
 -- The turn that an actor has out, and what its end makes of the link.
-use Rattle.std.proofs.Common.{◌≡◌, ℕ, ◌+◌, ◌*◌, ◌^◌, ◌≤◌, ◌<◌, Bool, true, false, cond, get_or, zero, suc, List, [], ◌∷◌, length, Option, Some, None, refl, sym, ap, ◌∙◌, subst, arith}
+use Rattle.std.proofs.Common.{◌≡◌, ℕ, ◌+◌, ◌*◌, ◌^◌, ◌≤◌, ◌<◌, Bool, true, cond, get_or, zero, suc, List, [], ◌∷◌, length, Option, Some, None, refl, sym, ap, ◌∙◌, subst, arith}
 use Rattle.std.specs.Prelude.{slice_get, option_map, count_by}
 use Rattle.std.proofs.lemmas.List.Sums.{get_or-le-sum_by}
 use Rattle.std.proofs.lemmas.Option.{slice_get_within, get_or_from_slice_get}
@@ -42,6 +42,7 @@ use Rattle.link_machine.specs.declared.actor.Standing.{Standing}
 use Rattle.link_machine.specs.declared.actor.Standing.TheVariants.{At, Stopped}
 use Rattle.link_machine.specs.declared.event.Event.TheVariants.{Finish}
 use Rattle.link_machine.specs.declared.reply.Reply.TheVariants as reply
+use Rattle.turn_check.proofs.Whole.{process_small as process_limits}
 
 -- ---- the outcome of a job's run, from its parts
 
@@ -197,11 +198,6 @@ process_found : (ss : List DraftSignal) (n : ℕ) (s : Place) (i : ℕ) (o : Opt
 process_found ss n s i None t h = absurd (cc)
 process_found ss n s i (Some p) t h = (p, refl, in_process ss n p s i t h)
 
-pub process_limits : (d : Draft) (n : ℕ) (p : DraftProcess) → IsValid d → slice_get d.processes n ≡ Some p → KeepsProcessLimits p
-process_limits d n p valid e =
-    let there : transition_at d n Start 0 ≡ Some (start_of n p) = ap (process_at d.signals n Start 0) e in
-    ((valid.each n Start 0 (start_of n p) there).limit 0).process refl refl
-
 few_timers : (d : Draft) (n : ℕ) (s : Place) (i : ℕ) (t : Transition) → IsValid d → transition_at d n s i ≡ Some t → length t.process.timers ≤ 8
 few_timers d n s i t valid h =
     let found = process_found d.signals n s i (slice_get d.processes n) t h in
@@ -339,6 +335,3 @@ still_own b n t r h same = ap (λ (k : ℕ). turn_out b k) (own_actor b n t r h 
 pub no_turn : (o : Option Turn) → ((t : Turn) → o ≡ Some t → ⊥) → o ≡ None
 no_turn None h = refl
 no_turn (Some t) h = absurd (h t refl)
-
-pub not_so : false ≡ true → ⊥
-not_so h = absurd (cc)

@@ -1,5 +1,5 @@
 -- How many values come with a signal that a link takes.
-use Rattle.std.proofs.Common.{◌≡◌, ℕ, zero, suc, ◌≤◌, Bool, true, false, not, ◌&&◌, if◌then◌else◌, List, [], ◌∷◌, length, map, Option, Some, None, refl, arith}
+use Rattle.std.proofs.Common.{◌≡◌, ℕ, zero, suc, ◌≤◌, true, false, not, ◌&&◌, if◌then◌else◌, List, [], ◌∷◌, length, map, Option, Some, None, refl, arith}
 use Rattle.std.specs.Prelude.{All, nat_lt, slice_get}
 use Rattle.std.specs.List.{list_any}
 use Rattle.std.proofs.lemmas.List.{length-map}
@@ -22,12 +22,11 @@ use Rattle.link_machine.specs.declared.event.Offer.{Offer as Offered}
 use Rattle.link_machine.specs.declared.reply.Refusal.{Refusal}
 use Rattle.link_machine.specs.declared.reply.Refusal.TheVariants as refusal
 use Rattle.actor_book.specs.Accepted.{Takes}
-use Rattle.actor_book.proofs.Passing.{row_passes, not_true, is_there}
+use Rattle.actor_book.proofs.Passing.{is_there}
 use Rattle.actor_book.proofs.Taking.{link_takes}
-
-right_true : (a b : Bool) → (a && b) ≡ true → b ≡ true
-right_true true b h = h
-right_true false b h = absurd (cc)
+use Rattle.plain_laws.proofs.Truths.{and_second as right_true}
+use Rattle.plain_laws.proofs.Options.{row_passes}
+use Rattle.std.proofs.lemmas.Bool.{not-false as not_true}
 
 same_long : (xs ys : List Sort) → same_sorts xs ys ≡ true → length xs ≡ length ys
 same_long [] [] h = refl

@@ -1,5 +1,5 @@
 -- What is known of an event that a link doesn't refuse.
-use Rattle.std.proofs.Common.{◌≡◌, ℕ, ◌+◌, ◌^◌, ◌≤◌, ◌<◌, Bool, true, false, not, ◌==◌, if◌then◌else◌, List, [], ◌∷◌, length, Option, Some, None, refl, sym, ap, ◌∙◌, arith}
+use Rattle.std.proofs.Common.{◌≡◌, ℕ, ◌+◌, ◌^◌, ◌≤◌, ◌<◌, true, false, not, ◌==◌, if◌then◌else◌, List, [], ◌∷◌, length, Option, Some, None, refl, sym, ap, ◌∙◌, arith}
 use Rattle.std.specs.Prelude.{nat_lt, nat_le, slice_get, option_map}
 use Rattle.std.proofs.lemmas.Option.{slice_get_within}
 use Rattle.turn_code.specs.declared.draft.Draft.{Draft}
@@ -20,17 +20,8 @@ use Rattle.link_machine.specs.declared.reply.Emitted.{Emitted}
 use Rattle.link_machine.specs.declared.reply.Refusal.{Refusal}
 use Rattle.link_machine.specs.declared.reply.Refusal.TheVariants as refusal
 use Rattle.link_machine.specs.declared.reply.Reply.TheVariants as reply
-
-pub row_passes : (b : Bool) (r : Refusal) (o : Option Refusal) → (if b then Some r else o) ≡ None → (b ≡ false) × (o ≡ None)
-row_passes true r o h = absurd (cc)
-row_passes false r o h = (refl, h)
-
-pub not_true : (b : Bool) → not b ≡ false → b ≡ true
-not_true true h = refl
-not_true false h = absurd (cc)
-
-at_most : (m n : ℕ) → nat_lt m n ≡ false → n ≤ m
-at_most m n h = grind arith
+use Rattle.std.proofs.lemmas.Bool.{ltb-false as at_most, not-false as not_true}
+use Rattle.plain_laws.proofs.Options.{row_passes}
 
 below : (m n : ℕ) → nat_le m n ≡ false → n < m
 below m n h = grind arith

@@ -1,11 +1,11 @@
 -- What an event makes of a book.
 use Rattle.std.proofs.Common.{◌≡◌, ℕ, ◌+◌, ◌≤◌, ◌<◌, List, [], ◌∷◌, ◌++◌, length, Option, Some, None, refl, sym, ap, ◌∙◌, subst, arith, length-append}
-use Rattle.std.specs.Prelude.{◌-◌, ◌^◌, Bool, true, false, nat_le, slice_get, if◌then◌else◌}
+use Rattle.std.specs.Prelude.{◌-◌, ◌^◌, Bool, false, nat_le, slice_get, if◌then◌else◌}
 use Rattle.turn_code.specs.Valid.{IsValid}
 use Rattle.turn_code.specs.declared.draft.Draft.{Draft}
 use Rattle.link_machine.specs.Core.{Core, outs}
 use Rattle.link_machine.specs.Step.{Says, Stepped, step}
-use Rattle.link_machine.specs.Refusals.{refuses, with_room}
+use Rattle.link_machine.specs.Refusals.{refuses}
 use Rattle.link_machine.specs.Ledger.{Ledger, runs, state_of, asked, ask, ask_by, room, next, rebased}
 use Rattle.link_machine.specs.Kept.{IsKept, opened, opened_book}
 use Rattle.link_machine.specs.Laws.{KeepsLaw, StateLaw, FitsLaw}
@@ -16,18 +16,9 @@ use Rattle.link_machine.specs.declared.reply.Refusal.{Refusal}
 use Rattle.link_machine.specs.declared.reply.Reply.TheVariants as reply
 use Rattle.actor_book.specs.Accepted.{refusal_of, Takes}
 use Rattle.actor_book.specs.Inside.{IsBook}
-
--- the book with one event more
-abbrev pub noted : Ledger → Event → Ledger
-noted b e = record { set = b.set; base = b.base; first = b.first; journal = b.journal ++ e ∷ []; limit = b.limit }
-
-taken_book : (b : Ledger) (e : Event) (s : Stepped) (o : Option Refusal) → o ≡ None → (asked b e s o).book ≡ noted b e
-taken_book b e s None h = refl
-taken_book b e s (Some r) h = cc
-
-taken_answer : (b : Ledger) (e : Event) (s : Stepped) (o : Option Refusal) → o ≡ None → (asked b e s o).answer ≡ s.answer
-taken_answer b e s None h = refl
-taken_answer b e s (Some r) h = cc
+use Rattle.link_machine.proofs.Ends.{asked_answer as taken_answer, passes_otherwise as none_first}
+use Rattle.link_machine.proofs.Replays.{asked_book as taken_book, with_event as noted}
+use Rattle.std.proofs.lemmas.Bool.{le-leb as at_least}
 
 refused_book : (b : Ledger) (e : Event) (s : Stepped) (r : Refusal) (o : Option Refusal) → o ≡ Some r → (asked b e s o).book ≡ b
 refused_book b e s r None h = cc
@@ -53,10 +44,6 @@ grows b e h = taken_book b e (step b.set (runs b.set) (state_of b) e) (refusal_o
 pub answers : (b : Ledger) (e : Event) → Takes b e → (ask b e).answer ≡ (step b.set (runs b.set) (state_of b) e).answer
 unfolding ask_by
 answers b e h = taken_answer b e (step b.set (runs b.set) (state_of b) e) (refusal_of b e) h
-
-none_first : (k : ℕ) (e : Event) (o : Option Refusal) → with_room k e o ≡ None → o ≡ None
-none_first k e None h = refl
-none_first k e (Some r) h = cc
 
 pub none_left : (o : Option Refusal) → ((r : Refusal) → o ≡ Some r → ⊥) → o ≡ None
 none_left None h = refl
@@ -118,9 +105,6 @@ module _ (keeps : KeepsLaw) (b old : Ledger) (view : b ≡ old) (w : Core) (c : 
       })
 
 -- ---- free places
-
-at_least : (m n : ℕ) → m ≤ n → nat_le m n ≡ true
-at_least m n h = grind arith
 
 too_few : (m n : ℕ) → n < m → nat_le m n ≡ false
 too_few m n h = grind arith

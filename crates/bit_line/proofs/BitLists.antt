@@ -4,7 +4,8 @@ use Rattle.std.specs.Prelude.{◌==◌}
 use Rattle.std.proofs.lemmas.Nat.{shr_high, mod_low}
 use Rattle.std.proofs.lemmas.List.{reverse-append}
 use Rattle.su_octets.specs.Bits.{low_bits}
-use Rattle.su_octets.proofs.BitLists.{low_bits-split, low_bits-mod, div_small}
+use Rattle.su_octets.proofs.BitLists.{low_bits-split, low_bits-mod}
+use Rattle.plain_laws.proofs.Numbers.{div_small}
 
 pub reverse-cons : (b : Bool) (h : List Bool) → reverse (b ∷ h) ≡ reverse h ++ b ∷ []
 reverse-cons b h = reverse-append (b ∷ []) h

@@ -11,7 +11,8 @@ use Rattle.bit_line.proofs.StuffLaws.{trailing-none, trailing-one, trailing-zero
 use Rattle.bit_line.proofs.PlainLaws.{at_shifted, pair_at, low_none, bits_more}
 use Rattle.bit_line.proofs.TakenLaws.{data_of, ones_of, six_of}
 use Rattle.bit_line.proofs.FewLaws.{joined, joined_fits, pow_small}
-use Rattle.su_octets.proofs.BitLists.{zero_or_one, low_bits-split, low_bits-mod, div_small}
+use Rattle.su_octets.proofs.BitLists.{low_bits-split, low_bits-mod}
+use Rattle.plain_laws.proofs.Numbers.{zero_or_one, div_small}
 
 -- ---- five 1s in a row, as the code looks for them
 abbrev pub fives : ℕ → ℕ

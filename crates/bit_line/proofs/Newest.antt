@@ -6,8 +6,9 @@ use Rattle.std.proofs.lemmas.List.{reverse-append, reverse-reverse, length-rever
 use Rattle.su_octets.specs.Bits.{low_bits}
 use Rattle.bit_line.specs.Flags.{six_ones}
 use Rattle.bit_line.specs.Deframing.{newest, seventh}
-use Rattle.su_octets.proofs.BitLists.{length-low_bits, low_bits-split, low_bits-mod, head_same, low_bits-same, front_same}
+use Rattle.su_octets.proofs.BitLists.{length-low_bits, low_bits-split, low_bits-mod, low_bits-same}
 use Rattle.std.proofs.lemmas.Bool.{false_from_ne_true as isnt_true}
+use Rattle.plain_laws.proofs.Lists.{head_same, front_same}
 
 -- ---- the newest bits behind more bits
 take-newest : (n m : ℕ) (h : List Bool) → n ≤ m → take n (newest m h) ≡ newest n h

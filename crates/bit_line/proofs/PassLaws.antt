@@ -13,7 +13,8 @@ use Rattle.bit_line.specs.declared.gate.Gate.{Gate}
 use Rattle.bit_line.proofs.FlagLaws.{since_flag-other, part_of}
 use Rattle.bit_line.proofs.Newest.{length-newest}
 use Rattle.bit_line.proofs.GateLaws.{pass-unseen, seen_by, inside-some, latest-some}
-use Rattle.su_octets.proofs.BitLists.{length-low_bits, low_bits-split, front_same}
+use Rattle.su_octets.proofs.BitLists.{length-low_bits, low_bits-split}
+use Rattle.plain_laws.proofs.Lists.{front_same}
 
 -- ---- since the last flag
 pub since-few : (k h c : List Bool) → EndsNone k h → since_flag h ≡ Some c → since_flag (k ++ h) ≡ Some (k ++ c)

@@ -21,7 +21,8 @@ use Rattle.bit_line.proofs.FlagLaws.{since_flag-other, ends_flag-plain, begins-p
 use Rattle.bit_line.proofs.FewLaws.{pow_small}
 use Rattle.bit_line.proofs.Newest.{Window, window, no_six_when}
 use Rattle.bit_line.proofs.ThroughLaws.{quiet}
-use Rattle.su_octets.proofs.BitLists.{length-low_bits, low_bits-split, low_bits-mod, div_small}
+use Rattle.su_octets.proofs.BitLists.{length-low_bits, low_bits-split, low_bits-mod}
+use Rattle.plain_laws.proofs.Numbers.{div_small}
 
 -- ---- six 1s in a row, as the code looks for them
 abbrev pub sixes_of : ℕ → ℕ

@@ -24,7 +24,8 @@ use Rattle.bit_line.proofs.PlainLaws.{Quietly, quietly, none_mode, bits_more}
 use Rattle.bit_line.proofs.StandLaws.{goes_on, flag_closes}
 use Rattle.bit_line.proofs.EventLaws.{at_few}
 use Rattle.bit_line.proofs.RunLaws.{same_run}
-use Rattle.su_octets.proofs.BitLists.{length-low_bits, low_bits-split, low_bits-mod, bits_of-append, length-bits_of, front_same, octet_bits as one_bits}
+use Rattle.su_octets.proofs.BitLists.{length-low_bits, low_bits-split, low_bits-mod, bits_of-append, length-bits_of, octet_bits as one_bits}
+use Rattle.plain_laws.proofs.Lists.{front_same}
 
 -- ---- seven octets as a number
 two_of : (os : List ℕ) → 7 ≤ length os → take 7 os ≡ take 5 os ++ (get_or os 5 0 ∷ get_or os 6 0 ∷ [])

@@ -1,6 +1,6 @@
 -- Octets in turn up to the first one that reports something.
 use Rattle.std.proofs.Common.{◌≡◌, ℕ, ◌+◌, ◌-◌, ◌<◌, Bool, List, [], ◌∷◌, ◌++◌, length, reverse, take, drop, get_or, sym, ap, ◌∙◌, arith, subst, append_assoc, refl}
-use Rattle.std.proofs.lemmas.List.{append-nil, take_more, take_all, reverse-append, length-drop}
+use Rattle.std.proofs.lemmas.List.{append-nil, take_more, reverse-append, length-drop}
 use Rattle.std.proofs.Math.Seq.{take-add}
 use Rattle.su_octets.specs.Bits.{low_bits, bits_of}
 use Rattle.bit_line.specs.Events.{AreEvents}
@@ -9,6 +9,7 @@ use Rattle.bit_line.specs.declared.deframer.Deframer.{Deframer}
 use Rattle.bit_line.specs.declared.events.LineEvent.{LineEvent}
 use Rattle.bit_line.proofs.EventLaws.{stands_by, events_by}
 use Rattle.su_octets.proofs.BitLists.{bits_of-append}
+use Rattle.plain_laws.proofs.Lists.{tail_is}
 
 pub quiet_step : (more : List Bool) (old new : Deframer) → ((h : List Bool) (es : List LineEvent) → StandsAt h es old → StandsAt (reverse more ++ h) es new)
     → (h : List Bool) (es : List LineEvent) → StandsAt h es old → StandsAt (reverse more ++ h) (es ++ []) new
@@ -45,8 +46,6 @@ unfolding bits_of
 no_bits octets bits = sym (append-nil bits)
 
 -- ---- some octets more
-tail_is : (i : ℕ) (octets : List ℕ) → take (length octets - i) (drop i octets) ≡ drop i octets
-tail_is i octets = take_all (length octets - i) (drop i octets) (omega (arith, length-drop i octets))
 
 pub tail_length : (i : ℕ) (octets : List ℕ) → length (take (length octets - i) (drop i octets)) ≡ length octets - i
 tail_length i octets = ap length (tail_is i octets) ∙ length-drop i octets

@@ -1,6 +1,6 @@
 -- Whose turn is out.
 use Rattle.std.proofs.Common.{◌≡◌, ℕ, Option, Some, None, sym, ap, ◌∙◌}
-use Rattle.std.specs.Prelude.{true, false, slice_get}
+use Rattle.std.specs.Prelude.{slice_get}
 use Rattle.turn_code.specs.Transitions.{Transition, transition_at}
 use Rattle.turn_code.specs.declared.input.Place.{Place}
 use Rattle.turn_code.specs.declared.draft.Draft.{Draft}
@@ -15,6 +15,7 @@ use Rattle.link_machine.specs.declared.event.Event.TheVariants.{Begin, Finish}
 use Rattle.link_machine.specs.declared.reply.Begun.{Begun}
 use Rattle.link_machine.specs.declared.reply.Reply.TheVariants as reply
 use Rattle.book_rest.specs.Turns.{refusal_in, begins_by, tried}
+pub use Rattle.actor_book.proofs.Ending.{still_own}
 
 with_own : (n : ℕ) (s : Place) (g : Given) (q : Option Transition) (t : Turn) → turn_with n s g q ≡ Some t → t.actor ≡ n
 with_own n s g None t h = absurd (cc)
@@ -35,13 +36,6 @@ at_own d n (Some a) t h = given_own d n a.standing a.given t h
 pub own_actor : (b : Ledger) (n : ℕ) (t : Turn) → turn_out b n ≡ Some t → t.actor ≡ n
 unfolding turn_out
 own_actor b n t h = at_own b.set n (slice_get (state_of b).actors n) t h
-
-pub still_own : (b : Ledger) (n : ℕ) (t u : Turn) → turn_out b n ≡ Some t → u ≡ t → turn_out b u.actor ≡ Some u
-still_own b n t u h k =
-    ap (turn_out b) (ap (λ (x : Turn). x.actor) k ∙ own_actor b n t h) ∙ h ∙ ap (λ (x : Turn). Some x) (sym k)
-
-pub not_so : false ≡ true → ⊥
-not_so h = cc
 
 -- a turn that began and ended
 pub turn_made : (n : ℕ) (b next after : Ledger) (x : Begun) (t u : Turn) → Says (reply.Begun x) ≡ (ask b (Begin n)).answer

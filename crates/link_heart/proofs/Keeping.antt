@@ -163,7 +163,7 @@ messages_law law = record {
 abbrev LosesNone : Half → Half → Type 0
 LosesNone a b = Loses [] a.sender b.sender
 
-none_more : (n : ℕ) → length {A = Msu} [] + n ≤ n
+pub none_more : (n : ℕ) → length {A = Msu} [] + n ≤ n
 none_more n = omega arith
 
 no_loss : (h : Half) → LosesNone h h

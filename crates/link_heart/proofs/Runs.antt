@@ -1,6 +1,5 @@
 -- A rest as a run of turns.
 use Rattle.std.proofs.Common.{◌≡◌, ℕ, zero, suc, Bool, true, false, cond, refl, sym, ap, ◌∙◌, subst}
-use Rattle.std.specs.Prelude.{◌≢◌}
 use Rattle.link_machine.specs.Ledger.{Ledger}
 use Rattle.book_rest.specs.declared.turn.Turn.{Turn}
 use Rattle.book_rest.specs.declared.turn.Turn.TheVariants.{Made, Blocked, Idle}
@@ -9,9 +8,7 @@ use Rattle.book_rest.specs.Laws.{IsLeast, NoneCan, IsTurn, of_least, of_none, St
 use Rattle.link_heart.specs.declared.heart.Heart.{Heart}
 use Rattle.link_heart.specs.Machine.{Step, repeated, with_book, emptied, moved_by, moved, rested}
 use Rattle.link_heart.specs.Laws.{IsRun, spent, none_can, blocked, goes, RestLaw}
-
-blocked_not_made : Blocked ≢ Made
-blocked_not_made h = cc
+use Rattle.book_rest.proofs.Leasts.{blocked_not_made}
 
 with_same : (t : Heart) (b : Ledger) → b ≡ t.book → t ≡ with_book t b
 with_same t b h = ap (with_book t) (sym h)

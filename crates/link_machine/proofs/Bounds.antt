@@ -23,6 +23,7 @@ use Rattle.link_machine.specs.declared.reply.Refusal.TheVariants.{JournalFull}
 use Rattle.link_machine.proofs.Replays.{with_event}
 use Rattle.link_machine.proofs.Ends.{ActorEnds, turn_ends}
 use Rattle.link_machine.proofs.Counts.{OneLess, outs_change, outs_more, receives_keeps, skipped_keeps, begun_out, less_finished, outs_passed}
+use Rattle.plain_laws.proofs.Options.{row_passes}
 
 -- the bounds that have nothing to do with the journal
 pub record IsCounted (w : Core) : Type 0 where
@@ -52,10 +53,6 @@ moves_on e v w single other out turns finishes instructions clock h =
     }
 
 -- ---- what isn't refused
-
-row_passes : (b : Bool) (r : Refusal) (o : Option Refusal) → (if b then Some r else o) ≡ None → (b ≡ false) × (o ≡ None)
-row_passes true r o h = cc
-row_passes false r o h = (refl, h)
 
 -- an actor that may begin a turn
 record MayBegin (turns : ℕ) (o : Option Actor) : Type 0 where

@@ -17,7 +17,8 @@ use Rattle.link_machine.specs.declared.actor.Actor.{Actor}
 use Rattle.link_machine.specs.declared.actor.Given.{Given}
 use Rattle.link_machine.specs.declared.actor.Standing.{Standing}
 use Rattle.link_machine.specs.declared.actor.Standing.TheVariants.{At, Stopped}
-use Rattle.link_machine.proofs.FitsLists.{EachAt, change_each, change-length, all_push, all_filter}
+use Rattle.link_machine.proofs.FitsLists.{EachAt, change_each, change-length, all_filter}
+use Rattle.plain_laws.proofs.Lists.{each_push as all_push}
 
 -- what is asked of an actor's standing, variables and turn, by its number and its process
 abbrev pub Asked : Type 1

@@ -36,9 +36,10 @@ use Rattle.link_machine.specs.declared.actor.Given.{Given}
 use Rattle.link_machine.specs.declared.actor.Standing.{Standing}
 use Rattle.link_machine.specs.declared.actor.Standing.TheVariants.{At, Stopped}
 use Rattle.link_machine.specs.declared.reply.Emitted.{Emitted}
-use Rattle.link_machine.proofs.FitsLists.{change_each, change-length, all_push}
+use Rattle.link_machine.proofs.FitsLists.{change_each, change-length}
 use Rattle.link_machine.proofs.FitsActors.{Asked, Sits, LinkSits, Rests, link_of, core_of, sits_receives, sits_drops, with_actors}
 use Rattle.link_machine.proofs.FitsTimers.{until_fits, without_fits, after_fits}
+use Rattle.plain_laws.proofs.Lists.{each_push as all_push}
 
 -- ---- a transition's process
 

@@ -1,29 +1,18 @@
 -- Lists of which one element changes, and lists each of whose elements has a property.
-use Rattle.std.proofs.Common.{◌≡◌, ◌≢◌, ℕ, zero, suc, Bool, true, false, cond, ◌&&◌, List, [], ◌∷◌, ◌++◌, length, Option, Some, None, refl, sym, ap, ◌∙◌, subst, inl, inr, arith, length-set}
-use Rattle.std.specs.Prelude.{slice_get, slice_set, position, filter, Contains}
+use Rattle.std.proofs.Common.{◌≡◌, ◌≢◌, ℕ, zero, suc, Bool, true, false, cond, List, [], ◌∷◌, length, Option, Some, None, refl, sym, ◌∙◌, subst, inl, inr, arith, length-set}
+use Rattle.std.specs.Prelude.{slice_get, position, filter, Contains}
 use Rattle.std.specs.List.{AllByRecursion}
 use Rattle.std.proofs.lemmas.Option.{same_Some, none-some, slice_get-get_or}
 use Rattle.std.proofs.lemmas.Bool.Decides.{eqb_tells}
 use Rattle.std.proofs.lemmas.List.Quantifiers.{position-Some}
 use Rattle.link_machine.specs.Core.{change, set_at}
+use Rattle.plain_laws.proofs.Places.{written_same, get_set_other as written_other}
 
 -- what holds of each element with its place
 abbrev pub EachAt : {A : Type 0} → (ℕ → A → Type 0) → List A → Type 0
 EachAt {A} P xs = (k : ℕ) (a : A) → slice_get xs k ≡ Some a → P k a
 
 -- ---- one element is written
-
-written_same : {A : Type 0} (xs : List A) (n : ℕ) (x b : A) → slice_get xs n ≡ Some x → slice_get (slice_set xs n b) n ≡ Some b
-written_same [] n x b h = absurd (none-some x h)
-written_same (y ∷ xs) zero x b h = refl
-written_same (y ∷ xs) (suc n) x b h = written_same xs n x b h
-
-written_other : {A : Type 0} (xs : List A) (n k : ℕ) (b : A) → k ≢ n → slice_get (slice_set xs n b) k ≡ slice_get xs k
-written_other [] n k b other = refl
-written_other (y ∷ xs) zero zero b other = absurd (other refl)
-written_other (y ∷ xs) zero (suc k) b other = refl
-written_other (y ∷ xs) (suc n) zero b other = refl
-written_other (y ∷ xs) (suc n) (suc k) b other = written_other xs n k b (λ e. other (ap suc e))
 
 change_other : {A : Type 0} (xs : List A) (n k : ℕ) (f : A → A) → k ≢ n → slice_get (change xs n f) k ≡ slice_get xs k
 change_other {A} xs n k f other = by (slice_get xs n)
@@ -59,10 +48,6 @@ change_each {A} P Q xs n f each others one = λ k a h.
 
 -- ---- each element of a list
 
-pub all_push : {A : Type 0} (P : A → Type 0) (xs : List A) (x : A) → AllByRecursion P xs → P x → AllByRecursion P (xs ++ x ∷ [])
-all_push P [] x all one = (one, tt)
-all_push P (y ∷ xs) x all one = (all.0, all_push P xs x all.1 one)
-
 pub all_filter : {A : Type 0} (P : A → Type 0) (p : A → Bool) (xs : List A) → AllByRecursion P xs → AllByRecursion P (filter p xs)
 all_filter P p [] all = tt
 all_filter P p (x ∷ xs) all =
@@ -77,10 +62,6 @@ all_from_each P [] each = tt
 all_from_each P (x ∷ xs) each = (each x (zero, omega arith, refl), all_from_each P xs (λ y has. each y (suc has.0, omega (arith, has.1), has.2)))
 
 -- ---- what a test that is passed says
-
-pub both_pass : (a b : Bool) → (a && b) ≡ true → (a ≡ true) × (b ≡ true)
-both_pass true b h = (refl, h)
-both_pass false b h = cc
 
 -- the first element that passes a test
 pub found_first : {A : Type 0} (p : A → Bool) (xs : List A) (i : ℕ) → position p xs ≡ Some i → (x : A) × (slice_get xs i ≡ Some x) × (p x ≡ true)

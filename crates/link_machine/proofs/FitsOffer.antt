@@ -2,7 +2,7 @@
 use Rattle.std.proofs.Common.{◌≡◌, ℕ, true, ◌&&◌, List, [], ◌∷◌, length, map, refl, ap, subst, eqb-true}
 use Rattle.std.specs.Prelude.{slice_get, slice_index_or, nat_lt, ◌==◌, Any, Contains}
 use Rattle.std.specs.List.{list_any}
-use Rattle.std.proofs.lemmas.Bool.{false≢true}
+use Rattle.std.proofs.lemmas.Bool.{false≢true, and_parts as both_pass}
 use Rattle.std.proofs.lemmas.Bool.Decides.{Decides-ltb}
 use Rattle.std.proofs.lemmas.List.Folds.{Any-from_list_any}
 use Rattle.turn_code.specs.Values.{sort_of}
@@ -19,7 +19,6 @@ use Rattle.link_machine.specs.Refusals.{is_environment, is_process, offers, same
 use Rattle.link_machine.specs.Step.{offered_arrival}
 use Rattle.link_machine.specs.Fits.{Arrived}
 use Rattle.link_machine.specs.declared.event.Offer.{Offer as Offered}
-use Rattle.link_machine.proofs.FitsLists.{both_pass}
 
 one_sort : (x y : Sort) → same_sort x y ≡ true → x ≡ y
 one_sort Integer Integer e = refl

@@ -4,7 +4,7 @@ use Rattle.std.specs.Prelude.{slice_get, option_map}
 use Rattle.std.specs.List.{AllByRecursion}
 use Rattle.std.proofs.lemmas.List.{length-map}
 use Rattle.std.proofs.lemmas.Option.{same_Some, none-some, slice_get-map}
-use Rattle.std.proofs.lemmas.Bool.{false≢true}
+use Rattle.std.proofs.lemmas.Bool.{not-false as negated}
 use Rattle.turn_code.specs.Transitions.{process_at, start_of}
 use Rattle.turn_code.specs.Valid.{IsValid}
 use Rattle.turn_code.specs.Fits.{HaveSorts}
@@ -45,10 +45,6 @@ use Rattle.link_machine.proofs.FitsOffer.{offered_arrives}
 passes : (b : Bool) (r : Refusal) (rows : List (Bool × Refusal)) → first_of ((b, r) ∷ rows) ≡ None → (b ≡ false) × (first_of rows ≡ None)
 passes true r rows e = cc
 passes false r rows e = (refl, e)
-
-negated : (b : Bool) → not b ≡ false → b ≡ true
-negated true e = refl
-negated false e = absurd (false≢true (sym e))
 
 accepted_offer : (d : Draft) (o : Offered) (a : Actor) → first_of (offer_rows d o a) ≡ None → is_offered d o.actor o.signal o.values.items ≡ true
 unfolding offer_rows

@@ -13,7 +13,8 @@ use Rattle.tick_wheel.specs.TimerId.{TimerId, timer_cmp}
 use Rattle.tick_wheel.specs.Timers.{Timers, Deadlines, is_due, not_due}
 use Rattle.link_machine.specs.Effects.{timer_of, until, without, without_first_timers, without_timers, timers_after}
 use Rattle.link_machine.specs.Fits.{TimerFits, TimersFit}
-use Rattle.tick_wheel.proofs.Orders.{timers_total as total, exact_timers as exact, is_Equal as tied}
+use Rattle.tick_wheel.proofs.Orders.{timers_total as total, exact_timers as exact}
+use Rattle.plain_laws.proofs.Options.{is_Equal as tied}
 
 -- of a choice that gives a deadline
 kept_by : (b : Bool) (o : Option ℕ) (u : ℕ) → cond b o None ≡ Some u → o ≡ Some u

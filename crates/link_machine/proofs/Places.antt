@@ -12,12 +12,9 @@ use Rattle.link_machine.specs.Laws.{PlaceLaw}
 use Rattle.link_machine.specs.declared.event.Event.{Event}
 use Rattle.link_machine.specs.declared.reply.Refusal.{Refusal}
 use Rattle.link_machine.proofs.Replays.{with_event, asked_book}
+use Rattle.plain_laws.proofs.Places.{last_at}
 
 -- ---- lists with one more element
-
-last_at : (xs : List Event) (x : Event) → slice_get (xs ++ x ∷ []) (length xs) ≡ Some x
-last_at [] x = refl
-last_at (y ∷ xs) x = last_at xs x
 
 still_at : (xs : List Event) (x e : Event) (k : ℕ) → slice_get xs k ≡ Some e → slice_get (xs ++ x ∷ []) k ≡ Some e
 still_at [] x e k h = absurd (none-some e h)

@@ -5,5 +5,6 @@ pub mod Kept
 pub mod Laws
 pub mod Ledger
 pub mod Looking
+pub mod Printed
 pub mod Refusals
 pub mod Step

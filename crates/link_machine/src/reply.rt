@@ -1,8 +1,10 @@
 //! What is answered to the events of a link.
 
 ghost use Rattle.std.specs.Prelude.{◌≡◌};
+ghost use Rattle.link_machine.specs.Printed.{refusal_text};
 
 use arrayvec::ArrayVec;
+use std::fmt;
 use thiserror::Error;
 use turn_code::{End, Place, SignalNumber, Trigger, Value, copied_values};
 
@@ -10,47 +12,68 @@ use turn_code::{End, Place, SignalNumber, Trigger, Value, copied_values};
 #[derive(Clone, Copy, PartialEq, Eq, Debug, Error)]
 pub enum Refusal {
     /// As many signals as the actor's port may have wait there.
-    #[error("B1 Full")]
     Full,
     /// The actor has stopped.
-    #[error("B2 Stopped")]
     Stopped,
     /// No route brings this signal with parameters of these sorts from the environment to the actor.
-    #[error("B3 NoRoute")]
     NoRoute,
     /// The actor has a turn out.
-    #[error("B4 Busy")]
     Busy,
     /// The actor has stopped, or each item that waits for it is saved in its state.
-    #[error("B5 Nothing")]
     Nothing,
     /// The actor has no such turn out.
-    #[error("B6 Stranger")]
     Stranger,
     /// Nothing waits for the environment.
-    #[error("B7 Empty")]
     Empty,
     /// The journal has no place for the event, or its places are used up.
-    #[error("B8 JournalFull")]
     JournalFull,
     /// As many turns as can be counted have begun (2^40).
-    #[error("B9 CountFull")]
     CountFull,
     /// There is no such actor.
-    #[error("B10 NoActor")]
     NoActor,
     /// The first item that isn't saved is no input of the actor's state: it is to be skipped first.
-    #[error("B11 SkipFirst")]
     SkipFirst,
     /// There is nothing to throw away: the actor is at START, or the first item that isn't saved is an input of its state.
-    #[error("B12 NotIgnored")]
     NotIgnored,
     /// More than 65,535 ticks at once.
-    #[error("W1 TooFar")]
     TooFar,
     /// The clock would pass 2^62.
-    #[error("W2 ClockFull")]
     ClockFull,
+}
+
+impl Refusal {
+    /// Its code and its name, as they are printed.
+    pub fn name<'a>(self) -> &'a str
+        ensures { result.now ≡ refusal_text self }
+    {
+        match self {
+            Self::Full => "B1 Full",
+            Self::Stopped => "B2 Stopped",
+            Self::NoRoute => "B3 NoRoute",
+            Self::Busy => "B4 Busy",
+            Self::Nothing => "B5 Nothing",
+            Self::Stranger => "B6 Stranger",
+            Self::Empty => "B7 Empty",
+            Self::JournalFull => "B8 JournalFull",
+            Self::CountFull => "B9 CountFull",
+            Self::NoActor => "B10 NoActor",
+            Self::SkipFirst => "B11 SkipFirst",
+            Self::NotIgnored => "B12 NotIgnored",
+            Self::TooFar => "W1 TooFar",
+            Self::ClockFull => "W2 ClockFull",
+        }
+    }
+}
+
+impl fmt::Display for Refusal {
+    ghost use Rattle.std.specs.Prelude.{Some};
+    ghost use Rattle.link_machine.specs.Printed.{refusal_text};
+
+    ghost output = { λ r. Some (refusal_text r) };
+
+    fn fmt<W: fmt::Write>(&self, f: &mut fmt::Formatter<W>) -> fmt::Result {
+        f.write_str(self.name())
+    }
 }
 
 /// Why an output did not reach anybody.

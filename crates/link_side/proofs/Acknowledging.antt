@@ -1,7 +1,6 @@
 -- A unit from the far side takes the messages that it acknowledges from what is kept to send.
-use Rattle.std.proofs.Common.{◌≡◌, ℕ, ◌+◌, ◌-◌, ◌≤◌, ◌==◌, ◌&&◌, zero, suc, nat_lt, Bool, true, false, not, Option, Some, None, List, [], ◌∷◌, ◌++◌, length, take, drop, refl, sym, ap, ◌∙◌, arith}
+use Rattle.std.proofs.Common.{◌≡◌, ℕ, ◌+◌, ◌-◌, ◌≤◌, ◌==◌, ◌&&◌, zero, suc, Bool, true, false, not, Option, Some, None, List, [], ◌∷◌, ◌++◌, length, take, drop, refl, sym, ap, ◌∙◌, arith}
 use Rattle.std.specs.Prelude.{if◌then◌else◌}
-use Rattle.std.proofs.lemmas.Bool.Decides.{nat_tests}
 use Rattle.resend_store.specs.declared.messages.Msu.{Msu}
 use Rattle.resend_store.specs.declared.messages.Mode.{Mode}
 use Rattle.resend_store.specs.declared.messages.Mode.TheVariants.{Basic, Cyclic}
@@ -12,7 +11,8 @@ use Rattle.su_octets.specs.declared.units.Unit.TheVariants as unit
 use Rattle.link_side.specs.Half.{Half}
 use Rattle.link_side.specs.Judging.{judged, by_stores, through, left_aside, Stored, stored, refused, taken, acknowledged, is_abnormal}
 use Rattle.link_side.specs.Laws.{Loses, KeepsUnacknowledged, acknowledged_messages, acknowledged_by, acknowledged_of}
-use Rattle.link_side.proofs.Keeping.{same_loses, effect-loses, gone-kept, reported-sender}
+use Rattle.link_side.proofs.Keeping.{same_loses, effect-loses, gone-kept, reported-sender, kept_if}
+use Rattle.std.proofs.lemmas.Bool.{ltb-false as not_more}
 
 -- ---- lists
 
@@ -45,10 +45,6 @@ rest_gone (suc n) (suc s) (m ∷ ms) h = ap (λ (k : ℕ). drop k (drop n ms)) (
 
 -- ---- a window whose first so many are acknowledged
 
-kept_if : (b : Bool) (x y : Window) (ms : List Msu) → x.kept ≡ ms → y.kept ≡ ms → (if b then x else y).kept ≡ ms
-kept_if true x y ms p q = p
-kept_if false x y ms p q = q
-
 sent_if : (b : Bool) (x y : Window) (n : ℕ) → x.sent ≡ n → y.sent ≡ n → (if b then x else y).sent ≡ n
 sent_if true x y n p q = p
 sent_if false x y n p q = q
@@ -80,9 +76,6 @@ without_waits w v n h kept sent =
 record Takes (gone : List Msu) (before after : Window) : Type 0 where
   loses : Loses gone before after
   waits : waiting after ≡ waiting before
-
-not_more : (m n : ℕ) → nat_lt m n ≡ false → n ≤ m
-not_more m n h = grind (arith, nat_tests)
 
 none_taken : (w : Window) → Takes [] w w
 none_taken w = record { loses = same_loses w w refl; waits = refl }

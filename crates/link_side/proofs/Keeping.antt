@@ -71,7 +71,7 @@ effect-messages (signal.Down reason) h = refl
 effect-messages signal.RemoteOut h = refl
 effect-messages signal.RemoteBack h = refl
 
-kept_if : (b : Bool) (x y : Window) (ms : List Msu) → x.kept ≡ ms → y.kept ≡ ms → (if b then x else y).kept ≡ ms
+pub kept_if : (b : Bool) (x y : Window) (ms : List Msu) → x.kept ≡ ms → y.kept ≡ ms → (if b then x else y).kept ≡ ms
 kept_if true x y ms p q = p
 kept_if false x y ms p q = q
 

@@ -4,7 +4,7 @@ use Rattle.std.specs.Prelude.{All, slice_get}
 use Rattle.std.specs.List.{AllByRecursion}
 use Rattle.turn_code.specs.Valid.{IsValid, IsValidTransition}
 use Rattle.turn_code.specs.Rules.{IsThere, HasSaves}
-use Rattle.turn_code.specs.Transitions.{start_of, transition_at}
+use Rattle.turn_code.specs.Transitions.{start_of}
 use Rattle.turn_code.specs.declared.input.Place.TheVariants.{Start}
 use Rattle.turn_code.specs.declared.draft.Draft.{Draft}
 use Rattle.turn_code.specs.declared.draft.DraftSignal.{DraftSignal}
@@ -15,6 +15,7 @@ use Rattle.turn_code.specs.declared.draft.Trigger.TheVariants.{Signal, Timer}
 use Rattle.turn_check.specs.Named.{states_of, saves_of, saves_at}
 use Rattle.link_state.specs.Saving.{IsSmall}
 use Rattle.link_state.specs.Opening.{HasFewVariables}
+use Rattle.turn_check.proofs.Whole.{start_at_0 as starts}
 
 -- ---- lists by places and by recursion
 
@@ -44,9 +45,6 @@ of_state : (ss : List DraftSignal) (p : DraftProcess) → length ss ≤ 128 → 
     → (k : ℕ) (q : Option DraftState) → slice_get p.states k ≡ q → AllByRecursion IsSmall (saves_of q)
 of_state ss p signals timers all k None e = tt {0}
 of_state ss p signals timers all k (Some q) e = in_state ss p signals timers q (at_place (HasSaves ss p) p.states k q e all)
-
-starts : (d : Draft) (n : ℕ) (p : DraftProcess) → slice_get d.processes n ≡ Some p → transition_at d n Start 0 ≡ Some (start_of n p)
-starts d n p e = rw e refl
 
 of_process : (d : Draft) → IsValid d → (n k : ℕ) (p : Option DraftProcess) → slice_get d.processes n ≡ p
     → AllByRecursion IsSmall (saves_of (slice_get (states_of p) k))

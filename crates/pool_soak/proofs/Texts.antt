@@ -12,7 +12,7 @@ use Rattle.script_lines.specs.declared.script.ScriptFault.TheVariants.{BadLine, 
 use Rattle.pool_soak.specs.Scripts.{soak_of, IsFaultOf}
 use Rattle.pool_soak.specs.Findings.{IsEnd, IsTurnedDown, PrintsFault, lines_with}
 use Rattle.pool_soak.proofs.Loops.{long}
-use Rattle.text_check.proofs.Long.{take_twice}
+use Rattle.plain_laws.proofs.Lists.{take_twice}
 
 -- one line after another
 pub after : (first now next : Option (List ℕ)) (one other : List ℕ) → Appends first now one → Appends now next other → Appends first next (one ++ other)
@@ -39,12 +39,6 @@ turned status old new bytes (inr four) down = record {
   differs = λ one. absurd (omega (arith, four, one));
   refused = down;
 }
-
--- a script that ran has no status 2
-pub not_refused : (status : ℕ) → (status ≡ 0) ⊎ (status ≡ 1) ⊎ (status ≡ 4) → status ≡ 2 → ⊥
-not_refused status (inl none) two = omega (arith, none, two)
-not_refused status (inr (inl one)) two = omega (arith, one, two)
-not_refused status (inr (inr four)) two = omega (arith, four, two)
 
 -- the end of a script that has a bad line
 pub bad_line : (old new : Option (List ℕ)) (bytes : List ℕ) (fault : ScriptFault) → IsUtf8 bytes → IsFaultOf bytes fault → PrintsFault old new fault

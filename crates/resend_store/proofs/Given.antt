@@ -6,7 +6,8 @@ use Rattle.resend_store.specs.declared.messages.Mode.TheVariants.{Basic, Cyclic}
 use Rattle.resend_store.specs.declared.messages.Msu.{Msu}
 use Rattle.resend_store.specs.Numbers.{plus}
 use Rattle.resend_store.specs.Window.{Window, Sending, may_send, at_limit, round, repeats, after_new, sends_new, cycles, fill_in, next_basic, next_ordinary, next_forced, next_by, next}
-use Rattle.resend_store.proofs.WindowTests.{by_test, may_waits as may_send_waits}
+use Rattle.resend_store.proofs.WindowTests.{may_waits as may_send_waits}
+use Rattle.plain_laws.proofs.Truths.{by_test}
 
 -- of a window with these messages, of which so many are sent, the first with that number
 pub data NextIs (kept : List Msu) (sent first : ℕ) (s : Sending) : Type 0 where

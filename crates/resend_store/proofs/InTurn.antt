@@ -7,8 +7,8 @@ use Rattle.resend_store.specs.Numbers.{plus}
 use Rattle.resend_store.specs.Intake.{Intake, Hearing, first_intake, accepts, discards, refuses, is_in_turn, hear_agreeing, hear_unlike, hear_by, hear}
 use Rattle.resend_store.specs.Runs.{counted}
 use Rattle.resend_store.specs.Hearings.{Heard, hear_unit, is_accept, accepted_units, AcceptsInTurn}
-use Rattle.resend_store.proofs.WindowTests.{by_test}
 use Rattle.std.proofs.lemmas.Bool.{and_parts as both}
+use Rattle.plain_laws.proofs.Truths.{by_test}
 
 -- what one unit does, where the last number accepted was this
 pub data HearIs (last fsn : ℕ) (has_msu : Bool) (s : Hearing) : Type 0 where

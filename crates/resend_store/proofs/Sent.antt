@@ -8,8 +8,9 @@ use Rattle.resend_store.specs.declared.messages.Msu.{Msu}
 use Rattle.resend_store.specs.declared.messages.Outgoing.{Outgoing}
 use Rattle.resend_store.specs.Numbers.{plus}
 use Rattle.resend_store.specs.Window.{Window, Sending, may_send, at_limit, round, repeats, after_new, sends_new, cycles, fill_in, next_basic, next_ordinary, next_forced, next_by, next}
-use Rattle.resend_store.proofs.WindowTests.{by_test, may_waits, limit_sent}
+use Rattle.resend_store.proofs.WindowTests.{may_waits, limit_sent}
 use Rattle.std.proofs.lemmas.Bool.{ltb-true}
+use Rattle.plain_laws.proofs.Truths.{by_test}
 
 -- the places in a window
 pub record Fine (w : Window) : Type 0 where

@@ -1,14 +1,9 @@
 -- What the tests of a window tell.
-use Rattle.std.proofs.Common.{◌≡◌, ℕ, ◌<◌, zero, suc, Bool, true, false, if◌then◌else◌, List, length, take, refl, arith}
+use Rattle.std.proofs.Common.{◌≡◌, ℕ, ◌<◌, zero, suc, true, if◌then◌else◌, List, length, take, arith}
 use Rattle.std.proofs.lemmas.Bool.Decides.{nat_tests}
 use Rattle.resend_store.specs.declared.messages.Msu.{Msu}
 use Rattle.resend_store.specs.Messages.{reaches_limit}
 use Rattle.resend_store.specs.Window.{Window, may_send}
-
--- what holds of both that a test chooses between
-pub by_test : {A : Type 0} (P : A → Type 0) (b : Bool) (x y : A) → (b ≡ true → P x) → (b ≡ false → P y) → P (if b then x else y)
-by_test P true x y h k = h refl
-by_test P false x y h k = k refl
 
 -- a new message goes out where one waits
 pub may_waits : (w : Window) → may_send w ≡ true → w.sent < length w.kept

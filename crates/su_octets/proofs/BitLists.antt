@@ -1,17 +1,12 @@
 -- Numbers and octets as lists of bits.
-use Rattle.std.proofs.Common.{◌≡◌, ℕ, ◌+◌, ◌-◌, ◌*◌, ◌/◌, ◌%◌, ◌^◌, ◌<◌, zero, suc, true, false, not, List, [], ◌∷◌, ◌++◌, map, length, refl, sym, ap, ◌∙◌, arith, inl, inr, append_assoc}
+use Rattle.std.proofs.Common.{◌≡◌, ℕ, ◌+◌, ◌-◌, ◌*◌, ◌/◌, ◌%◌, ◌^◌, ◌<◌, zero, suc, not, List, [], ◌∷◌, ◌++◌, map, length, refl, sym, ap, ◌∙◌, arith, inl, inr, append_assoc}
 use Rattle.std.specs.Prelude.{◌⊎◌, bit_xor, ◌==◌}
-use Rattle.std.proofs.lemmas.Nat.{xor_shr, xor_mod, shr-shr, shr_high, mod-pow-add}
+use Rattle.std.proofs.lemmas.Nat.{xor_shr, xor_mod, shr-shr, mod-pow-add}
 use Rattle.std.proofs.lemmas.List.{length-append, append-nil}
 use Rattle.su_octets.specs.Polynomial.{odd_sum, plus}
 use Rattle.su_octets.specs.Bits.{low_bits, bits_of, AreOctets}
-
-pub zero_or_one : (n : ℕ) → n < 2 → (n ≡ 0) ⊎ (n ≡ 1)
-zero_or_one zero small = inl refl
-zero_or_one (suc n) small = inr (omega arith)
-
-pub div_small : (n k : ℕ) → n < 2 ^ k → n / 2 ^ k ≡ 0
-div_small n k small = ap (λ m. m / 2 ^ k) (let e : n ≡ 0 * 2 ^ k + n = omega arith in e) ∙ shr_high 0 k n small
+use Rattle.plain_laws.proofs.Numbers.{zero_or_one, same_parity}
+use Rattle.plain_laws.proofs.Lists.{head_same, tail_same, front_same}
 
 odd_parts : (x y : ℕ) → (x ≡ 0) ⊎ (x ≡ 1) → (y ≡ 0) ⊎ (y ≡ 1) → (bit_xor x y == 1) ≡ odd_sum (x == 1) (y == 1)
 odd_parts x y (inl p) (inl q) = rw (p, q) refl
@@ -71,19 +66,6 @@ low_bits-not (suc k) n small =
     ∙ ap (λ m. not (n % 2 == 1) ∷ low_bits k m) half
     ∙ ap (λ bs. not (n % 2 == 1) ∷ bs) (low_bits-not k (n / 2) less)
 
--- what two lists that are the same begin with, and what follows
-pub head_same : {A : Type 0} (x y : A) (xs ys : List A) → x ∷ xs ≡ y ∷ ys → x ≡ y
-head_same x y xs ys same = cc
-
-pub tail_same : {A : Type 0} (x y : A) (xs ys : List A) → x ∷ xs ≡ y ∷ ys → xs ≡ ys
-tail_same x y xs ys same = cc
-
-same_parity : (x y : ℕ) → (x ≡ 0) ⊎ (x ≡ 1) → (y ≡ 0) ⊎ (y ≡ 1) → (x == 1) ≡ (y == 1) → x ≡ y
-same_parity x y (inl p) (inl q) same = p ∙ sym q
-same_parity x y (inl p) (inr q) same = absurd (let e : false ≡ true = rw (p, q) at same in cc)
-same_parity x y (inr p) (inl q) same = absurd (let e : true ≡ false = rw (p, q) at same in cc)
-same_parity x y (inr p) (inr q) same = p ∙ sym q
-
 -- a number of k bits is known by them
 pub low_bits-same : (k a b : ℕ) → a < 2 ^ k → b < 2 ^ k → low_bits k a ≡ low_bits k b → a ≡ b
 unfolding low_bits
@@ -106,15 +88,6 @@ pub length-bits_of : (xs : List ℕ) → length (bits_of xs) ≡ 8 * length xs
 unfolding bits_of
 length-bits_of [] = refl
 length-bits_of (x ∷ xs) = length-append (low_bits 8 x) (bits_of xs) ∙ rw (length-low_bits 8 x, length-bits_of xs) (omega arith)
-
-pub front_same : {A : Type 0} (xs ys us vs : List A) → length xs ≡ length ys → xs ++ us ≡ ys ++ vs → (xs ≡ ys) × (us ≡ vs)
-front_same [] [] us vs long same = (refl, same)
-front_same [] (y ∷ ys) us vs long same = absurd (omega arith)
-front_same (x ∷ xs) [] us vs long same = absurd (omega arith)
-front_same (x ∷ xs) (y ∷ ys) us vs long same =
-    let rest : (xs ≡ ys) × (us ≡ vs) = front_same xs ys us vs (omega arith) (tail_same _ _ _ _ same) in
-    let front : x ≡ y = head_same _ _ _ _ same in
-    (cc (rest.0, front), rest.1)
 
 -- octets are known by their bits
 pub bits_of-same : (xs ys : List ℕ) → AreOctets xs → AreOctets ys → length xs ≡ length ys → bits_of xs ≡ bits_of ys → xs ≡ ys

@@ -15,7 +15,7 @@ use Rattle.su_octets.specs.declared.units.UnitFault.{UnitFault}
 use Rattle.su_octets.specs.declared.units.UnitFault.TheVariants.{TooShort, TooLong, BadCheck, BadLength}
 use Rattle.arrayvec.specs.ArrayVec.{ArrayVec}
 use Rattle.su_octets.proofs.CheckLaws.{one_check}
-use Rattle.su_octets.proofs.BitLists.{head_same as head_item, tail_same as tail_items}
+use Rattle.plain_laws.proofs.Lists.{head_same as head_item, tail_same as tail_items}
 
 -- of several reasons one is given
 pub one_fault : (octets : List ℕ) (f g : UnitFault) → Refuses octets f → Refuses octets g → f ≡ g

@@ -8,7 +8,9 @@ use Rattle.su_octets.specs.Bits.{low_bits}
 use Rattle.su_octets.specs.Register.{Register}
 use Rattle.su_octets.proofs.Remainders.{Word, bits, remainder, xor_none, xor_assoc}
 use Rattle.su_octets.proofs.Registers.{dividend, step, remainder-step, register_bits, register_of_bits}
-use Rattle.su_octets.proofs.BitLists.{length-low_bits, low_bits-xor, low_bits-split, low_bits-mod, front_same, div_small}
+use Rattle.su_octets.proofs.BitLists.{length-low_bits, low_bits-xor, low_bits-split, low_bits-mod}
+use Rattle.plain_laws.proofs.Numbers.{div_small}
+use Rattle.plain_laws.proofs.Lists.{front_same}
 
 -- ---- the bits of shifted numbers
 low_bits-none : (k : ℕ) → low_bits k 0 ≡ replicate k false

@@ -1,5 +1,5 @@
 -- Texts of which no more is kept than a text may have.
-use Rattle.std.proofs.Common.{◌≡◌, ℕ, zero, suc, [], ◌∷◌, ◌+◌, ◌<◌, ◌≤◌, ◌==◌, nat_lt, true, false, List, length, take, Option, Some, Result, Ok, Err, IfOk, IfErr, refl, ap, sym, ◌∙◌, arith, subst, length-take}
+use Rattle.std.proofs.Common.{◌≡◌, ℕ, [], ◌+◌, ◌<◌, ◌≤◌, ◌==◌, nat_lt, true, false, List, length, take, Option, Some, Result, Ok, Err, IfOk, IfErr, refl, ap, sym, ◌∙◌, arith, subst, length-take}
 use Rattle.std.specs.Prelude.{count_by, IsUtf8, IsTrue, min}
 use borrow.Author.Tests.{ltb-true, ltb-false}
 use Rattle.std.proofs.lemmas.List.{take_all}
@@ -14,12 +14,7 @@ use Rattle.text_reader.specs.declared.reading.TextRead.{TextRead}
 use Rattle.text_check.specs.declared.sets.SetFault.{SetFault}
 use Rattle.text_check.specs.declared.sets.SetFault.TheVariants.{Load}
 use Rattle.text_check.specs.Checked.{IsGiven, IsNotAccepted, IsSetOf, IsRefusal, IsRefusalOf, IsTooLong}
-
--- a beginning of a beginning
-pub take_twice : (n : ℕ) (xs : List ℕ) → take n (take (suc n) xs) ≡ take n xs
-take_twice zero xs = refl
-take_twice (suc n) [] = refl
-take_twice (suc n) (x ∷ xs) = ap (λ ys. x ∷ ys) (take_twice n xs)
+use Rattle.plain_laws.proofs.Lists.{take_twice}
 
 -- the fault of a text that is too long
 pub unlexed : (bytes kept : List ℕ) (line : ℕ) → IsTooLong bytes kept → line ≡ count_by (λ b. b == 10) (take LONGEST kept) + 1

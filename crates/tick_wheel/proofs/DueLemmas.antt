@@ -22,6 +22,7 @@ use Rattle.tick_wheel.specs.Timers.{Deadlines, due, due_cmp, in_order, pairs, Is
 use Rattle.tick_wheel.specs.declared.Due.{Due}
 use Rattle.tick_wheel.proofs.Orders.{dues_total, exact_dues, exact_timers, pairs_apart}
 use Rattle.tick_wheel.proofs.TableLemmas.{entries-deadlines_of, get-deadlines_of, not_found}
+use Rattle.plain_laws.proofs.Options.{is_Equal as tied}
 
 -- the entries of a set
 abbrev marked : List Due → List (Due × Unit {0})
@@ -206,11 +207,6 @@ less : (r : Ordering) → T (is_lt r) → r ≡ Less
 less Less p = refl
 less Equal p = absurd p
 less Greater p = absurd p
-
-tied : (r : Ordering) → is_eq r ≡ true → r ≡ Equal
-tied Less e = cc
-tied Equal e = refl
-tied Greater e = cc
 
 -- a timer below each of a list isn't found there
 not_below : (q : TimerId) (es : List (TimerId × ℕ)) → T (below_all timer_cmp q es) → find timer_cmp q es ≡ None

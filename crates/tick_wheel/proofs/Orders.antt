@@ -11,6 +11,7 @@ use Rattle.tick_wheel.specs.TimerId.{TimerId, timer_cmp}
 use Rattle.tick_wheel.specs.Table.{timer_at}
 use Rattle.tick_wheel.specs.Timers.{due_cmp}
 use Rattle.tick_wheel.specs.declared.Due.{Due}
+use Rattle.plain_laws.proofs.Options.{is_Equal}
 
 pub timers_total : IsTotalOrder timer_cmp
 timers_total = then_total (on_total (λ (t : TimerId). t.process) nat_cmp_total) (on_total (λ (t : TimerId). t.number) nat_cmp_total)
@@ -27,11 +28,6 @@ exact_dues a b h = ap (λ (p : ℕ × TimerId). record { deadline = p.0; timer =
 -- a timer of a later place comes later
 pub timer_at-rises : (i j : ℕ) → i < j → timer_cmp (timer_at i) (timer_at j) ≡ Less
 timer_at-rises i j h = grind (arith, nat_tests)
-
-is_Equal : (r : Ordering) → is_eq r ≡ true → r ≡ Equal
-is_Equal Less e = cc
-is_Equal Equal e = refl
-is_Equal Greater e = cc
 
 -- a timer is that of one place at most
 pub one_place : (q : TimerId) (i j : ℕ) → eq_by_cmp timer_cmp q (timer_at i) ≡ true → i < j → eq_by_cmp timer_cmp q (timer_at j) ≡ false

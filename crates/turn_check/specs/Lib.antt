@@ -2,5 +2,6 @@ pub mod Answered
 pub mod Certified
 pub mod Faults
 pub mod Named
+pub mod Printed
 pub mod Walk
 pub use Rattle.turn_rules.specs.Seen

@@ -1,7 +1,8 @@
 //! Why a draft is refused.
 
-ghost use Rattle.std.specs.Prelude.{◌≡◌};
+ghost use Rattle.std.specs.Prelude.{◌≡◌, Some};
 ghost use Rattle.turn_check.specs.Faults.{rule_of, spot_of};
+ghost use Rattle.turn_check.specs.Printed.{state_text, spot_text, rule_text, verify_fault_text};
 
 use std::fmt;
 use thiserror::Error;
@@ -20,16 +21,32 @@ pub struct Spot {
     pub place: usize,
 }
 
-impl fmt::Display for Spot {
+/// Where a process is, as it is printed: START, or the state and the input of it.
+#[derive(Clone, Copy)]
+struct InputAt(Place, usize);
+
+impl fmt::Display for InputAt {
+    ghost output = { λ a. Some (state_text a.0 a.1) };
+
     fn fmt<W: fmt::Write>(&self, f: &mut fmt::Formatter<W>) -> fmt::Result {
-        match self.state {
-            Place::Start => write!(f, "process {} START place {}", self.process.0, self.place),
-            Place::State(state) => write!(
-                f,
-                "process {} state {} input {} place {}",
-                self.process.0, state.0, self.input, self.place
-            ),
+        match self.0 {
+            Place::Start => f.write_str(" START"),
+            Place::State(state) => {
+                let (state, input) = (state.0, self.1);
+                write!(f, " state {state} input {input}")
+            }
         }
+    }
+}
+
+impl fmt::Display for Spot {
+    ghost output = { λ s. Some (spot_text s) };
+
+    fn fmt<W: fmt::Write>(&self, f: &mut fmt::Formatter<W>) -> fmt::Result {
+        let process = self.process.0;
+        let state = InputAt(self.state, self.input);
+        let place = self.place;
+        write!(f, "process {process}{state} place {place}")
     }
 }
 
@@ -37,33 +54,51 @@ impl fmt::Display for Spot {
 #[derive(Debug, Drop, Error, Clone, Copy, PartialEq, Eq)]
 pub enum VerifyFault {
     /// A place where the code goes on isn't in it.
-    #[error("V1 Jump {0}")]
     Jump(Spot),
     /// Ways to a place that leave other operands there than it says, operands at the first place, or a place without facts.
-    #[error("V2 Shape {0}")]
     Shape(Spot),
     /// Too few operands.
-    #[error("V3 Under {0}")]
     Under(Spot),
     /// An operand, or at START an initial value, of the wrong sort.
-    #[error("V4 Sort {0}")]
     Sort(Spot),
     /// A variable that is read, or said to be set, isn't set on every way; or the first place says another set than what comes there.
-    #[error("V5 Unset {0}")]
     Unset(Spot),
     /// A state that isn't there.
-    #[error("V6 State {0}")]
     State(Spot),
     /// Something is named that the set lacks, by an instruction, by what the transition waits for or by what a state saves; an output with
     /// another number of parameters than its signal; division by less than 1.
-    #[error("V7 Number {0}")]
     Number(Spot),
     /// More than a limit allows. A limit of a process is broken at its START, one of the whole set at the START of process 0.
-    #[error("V8 Limit {0}")]
     Limit(Spot),
     /// Counts that don't fit those of where the code goes on (as on a way that comes back), or a certificate that doesn't fit them.
-    #[error("V9 Budget {0}")]
     Budget(Spot),
+}
+
+/// The code of a rule, and its name.
+fn rule_name<'a>(rule: Rule) -> &'a str
+    ensures { result.now ≡ rule_text rule }
+{
+    match rule {
+        Rule::Jump => "V1 Jump",
+        Rule::Shape => "V2 Shape",
+        Rule::Under => "V3 Under",
+        Rule::Sort => "V4 Sort",
+        Rule::Unset => "V5 Unset",
+        Rule::State => "V6 State",
+        Rule::Number => "V7 Number",
+        Rule::Limit => "V8 Limit",
+        Rule::Budget => "V9 Budget",
+    }
+}
+
+impl fmt::Display for VerifyFault {
+    ghost output = { λ e. Some (verify_fault_text e) };
+
+    fn fmt<W: fmt::Write>(&self, f: &mut fmt::Formatter<W>) -> fmt::Result {
+        let rule = rule_name(self.rule());
+        let spot = self.spot();
+        write!(f, "{rule} {spot}")
+    }
 }
 
 impl VerifyFault {

@@ -1,30 +1,15 @@
 -- Lists, place by place.
-use Rattle.std.proofs.Common.{◌≡◌, ◌≢◌, ℕ, zero, suc, ◌+◌, ◌-◌, ◌<◌, ◌≤◌, List, [], ◌∷◌, ◌++◌, length, map, take, drop, reverse, Some, refl, sym, ap, ◌∙◌, subst, arith, take_all}
+use Rattle.std.proofs.Common.{◌≡◌, ℕ, zero, suc, ◌+◌, ◌-◌, ◌<◌, ◌≤◌, List, [], ◌∷◌, ◌++◌, length, map, take, drop, reverse, Some, refl, sym, ap, ◌∙◌, subst, arith, take_all}
 use Rattle.std.specs.Prelude.{slice_get, slice_set, Contains, All}
 use Rattle.std.specs.List.{AllZip, refill}
 use Rattle.std.proofs.lemmas.List.{take-append-le, take-append-drop, length-append, length-drop, length-reverse, reverse-append, reverse-reverse}
 use Rattle.std.proofs.Common.{length-set}
-
--- an element below the length
-pub there : {A : Type 0} (xs : List A) (k : ℕ) → k < length xs → (a : A) × (slice_get xs k ≡ Some a)
-there [] k h = absurd (omega arith)
-there (x ∷ xs) zero h = (x, refl)
-there (x ∷ xs) (suc k) h = there xs k (omega arith)
+pub use Rattle.plain_laws.proofs.Places.{among_at as at_place}
 
 pub within : {A : Type 0} (xs : List A) (k : ℕ) (a : A) → slice_get xs k ≡ Some a → k < length xs
 within [] k a h = cc
 within (x ∷ xs) zero a h = omega arith
 within (x ∷ xs) (suc k) a h = let r = within xs k a h in omega arith
-
-pub zip_at : {A B : Type 0} (R : A → B → Type 0) (xs : List A) (ys : List B) (k : ℕ) (a : A) (b : B)
-    → AllZip R xs ys → slice_get xs k ≡ Some a → slice_get ys k ≡ Some b → R a b
-zip_at R [] ys k a b h p q = cc
-zip_at R (x ∷ xs) [] k a b h p q = cc
-zip_at R (x ∷ xs) (y ∷ ys) zero a b h p q =
-    let e : x ≡ a = cc in
-    let f : y ≡ b = cc in
-    subst (λ u. R u b) e (subst (λ u. R x u) f h.0)
-zip_at R (x ∷ xs) (y ∷ ys) (suc k) a b h p q = zip_at R xs ys k a b h.1 p q
 
 pub zip_length : {A B : Type 0} (R : A → B → Type 0) (xs : List A) (ys : List B) → AllZip R xs ys → length ys ≡ length xs
 zip_length R [] [] h = refl
@@ -40,18 +25,6 @@ zip_set R (x ∷ xs) (y ∷ ys) zero a b h p r =
     let e : a ≡ x = cc in
     (subst (λ u. R u b) e r, h.1)
 zip_set R (x ∷ xs) (y ∷ ys) (suc k) a b h p r = (h.0, zip_set R xs ys k a b h.1 p r)
-
-pub get_set_same : {A : Type 0} (xs : List A) (k : ℕ) (old a : A) → slice_get xs k ≡ Some old → slice_get (slice_set xs k a) k ≡ Some a
-get_set_same [] k old a h = cc
-get_set_same (x ∷ xs) zero old a h = refl
-get_set_same (x ∷ xs) (suc k) old a h = get_set_same xs k old a h
-
-pub get_set_other : {A : Type 0} (xs : List A) (k j : ℕ) (a : A) → j ≢ k → slice_get (slice_set xs k a) j ≡ slice_get xs j
-get_set_other [] k j a ne = refl
-get_set_other (x ∷ xs) zero zero a ne = absurd (ne refl)
-get_set_other (x ∷ xs) zero (suc j) a ne = refl
-get_set_other (x ∷ xs) (suc k) zero a ne = refl
-get_set_other (x ∷ xs) (suc k) (suc j) a ne = get_set_other xs k j a (λ e. ne (ap suc e))
 
 pub get_map : {A B : Type 0} (f : A → B) (xs : List A) (k : ℕ) (a : A) → slice_get xs k ≡ Some a → slice_get (map f xs) k ≡ Some (f a)
 get_map f [] k a h = cc
@@ -69,13 +42,6 @@ map_drop f (suc n) (x ∷ xs) = map_drop f n xs
 
 pub one_more : {A : Type 0} (xs : List A) (x : A) → length (xs ++ x ∷ []) ≡ length xs + 1
 one_more xs x = length-append xs (x ∷ [])
-
-pub at_place : {A : Type 0} (xs : List A) (k : ℕ) (a : A) → slice_get xs k ≡ Some a → Contains xs a
-at_place [] k a h = cc
-at_place (x ∷ xs) zero a h = (0, omega arith, cc)
-at_place (x ∷ xs) (suc k) a h =
-    let r = at_place xs k a h in
-    (suc r.0, omega (arith, r.1), r.2)
 
 -- an element of two lists one behind the other
 pub in_first : {A : Type 0} (xs ys : List A) (x : A) → Contains xs x → Contains (xs ++ ys) x

@@ -1,7 +1,7 @@
 -- A valid transition never gets stuck on an input that fits it.
 use Rattle.std.proofs.Common.{◌≡◌, ℕ, zero, suc, ◌+◌, ◌<◌, ◌≤◌, inl, inr, List, [], length, map, Option, Some, None, refl, sym, ap, ◌∙◌, subst, arith}
 use Rattle.std.specs.Prelude.{slice_get, Contains}
-use Rattle.turn_code.proofs.Lists.{there, within, map_length, first_of, at_place, in_first, in_second}
+use Rattle.turn_code.proofs.Lists.{within, map_length, first_of, in_first, in_second}
 use Rattle.turn_code.proofs.Greatest.{all_contains, greatest_has, greatest_in}
 use Rattle.turn_code.proofs.Stands.{IsSent, Before, IsWay, Goes, IsIn, IsFine, act_fine}
 use Rattle.turn_code.specs.Values.{sort_of}
@@ -29,6 +29,7 @@ use Rattle.turn_code.specs.declared.draft.DraftSignal.{DraftSignal}
 use Rattle.turn_code.specs.declared.draft.PlaceFacts.{PlaceFacts}
 use Rattle.turn_code.specs.declared.draft.Trigger.{Trigger}
 use Rattle.turn_code.specs.declared.draft.Trigger.TheVariants.{Signal, Timer}
+use Rattle.plain_laws.proofs.Places.{there_is as there, among_at as at_place}
 
 -- what is claimed of place k holds of these operands and of what was done so far, its count is at most n, and its effects are not too many
 pub record Stands (t : Transition) (k : ℕ) (os : List Value) (s : Progress) (n : ℕ) : Type 0 where

@@ -8,7 +8,7 @@ use Rattle.std.proofs.lemmas.Int.{ints}
 use Rattle.std.proofs.lemmas.Nat.Bits.{bit_at_or, bit_at-pow_other}
 use Rattle.std.proofs.Math.Nat.{max-zero}
 use Rattle.std.proofs.lemmas.Bool.Decides.{eqb_tells}
-use Rattle.turn_code.proofs.Lists.{there, within, zip_at, zip_length, zip_set, get_set_same, get_set_other, get_map, map_length, map_drop, one_more, only, first_of}
+use Rattle.turn_code.proofs.Lists.{within, zip_length, zip_set, get_map, map_length, map_drop, one_more, only, first_of}
 use Rattle.turn_code.specs.Values.{sort_of, wrap, holds, is_between, differ}
 use Rattle.turn_code.specs.Sets.{Has, with_variable}
 use Rattle.turn_code.specs.Run.{Progress, After, goes, ends, stuck, with_effect, loaded, stored, given, on_top, on_integer, on_boolean, on_integers, on_booleans, on_operands, sent, sending, party_of, act}
@@ -34,6 +34,8 @@ use Rattle.turn_code.specs.declared.machine.End.TheVariants as end
 use Rattle.turn_code.specs.declared.trouble.Trouble.TheVariants.{WrongSort}
 use Rattle.turn_code.specs.declared.draft.DraftSignal.{DraftSignal}
 use Rattle.turn_code.specs.declared.draft.DraftVariable.{DraftVariable}
+use Rattle.plain_laws.proofs.Places.{there_is as there, written_same as get_set_same, get_set_other}
+use Rattle.plain_laws.proofs.Pairwise.{zip_at}
 
 -- an output takes as many parameters as its signal has, and somebody gets it
 abbrev pub IsSent : List DraftSignal → Input → Instruction → Type 0

@@ -3,10 +3,11 @@ use Rattle.std.proofs.Common.{◌≡◌, ℕ, ◌<◌, ◌≤◌, List, ◌∷�
 use Rattle.std.specs.Prelude.{slice_get, slice_set}
 use Rattle.std.specs.List.{refill}
 use Rattle.std.proofs.lemmas.Option.{slice_get_past}
-use Rattle.turn_code.proofs.Lists.{there, refill_set}
+use Rattle.turn_code.proofs.Lists.{refill_set}
 use Rattle.turn_code.specs.Run.{Progress, goes, stuck, stored, on_top, tick, with_variables}
 use Rattle.turn_code.specs.declared.value.Value.{Value}
 use Rattle.turn_code.specs.declared.trouble.Trouble.TheVariants.{Unset}
+use Rattle.plain_laws.proofs.Places.{there_is as there}
 
 pub store_there : (k : ℕ) (os rest : List Value) (s : Progress) (v p : ℕ) (x : Value) (ws : List (Option Value))
     → os ≡ x ∷ rest → p ≡ v → p < length s.variables → ws ≡ s.variables

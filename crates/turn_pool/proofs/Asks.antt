@@ -1,11 +1,12 @@
 -- What an event makes of a book's journal.
-use Rattle.std.proofs.Common.{◌≡◌, ℕ, zero, suc, ◌+◌, ◌-◌, nat_lt, false, Bool, if◌then◌else◌, List, [], ◌∷◌, ◌++◌, length, slice_get, Option, Some, None, refl, ap, ◌∙◌, arith}
+use Rattle.std.proofs.Common.{◌≡◌, ℕ, zero, suc, ◌+◌, ◌-◌, nat_lt, false, Bool, if◌then◌else◌, [], ◌∷◌, ◌++◌, length, slice_get, Option, Some, None, refl, ap, ◌∙◌, arith}
 use Rattle.std.proofs.lemmas.Bool.{le-ltb}
 use Rattle.link_machine.specs.Step.{Says, Stepped, step}
 use Rattle.link_machine.specs.Ledger.{Ledger, runs, state_of, refusal_by, asked, ask, ask_by, next, event_at}
 use Rattle.link_machine.specs.declared.event.Event.{Event}
 use Rattle.link_machine.specs.declared.reply.Refusal.{Refusal}
 use Rattle.link_machine.specs.declared.reply.Reply.TheVariants as reply
+use Rattle.plain_laws.proofs.Places.{last_at}
 
 offered_by : (b : Ledger) (e : Event) (s : Stepped) (o : Option Refusal) → Says reply.Offered ≡ (asked b e s o).answer
     → (asked b e s o).book.journal ≡ b.journal ++ e ∷ []
@@ -16,10 +17,6 @@ offered_by b e s (Some r) is = cc
 pub offered : (b : Ledger) (e : Event) → Says reply.Offered ≡ (ask b e).answer → (ask b e).book.journal ≡ b.journal ++ e ∷ []
 unfolding ask_by
 offered b e is = offered_by b e (step b.set (runs b.set) (state_of b) e) (refusal_by (runs b.set) b e) is
-
-last_at : (xs : List Event) (x : Event) → slice_get (xs ++ x ∷ []) (length xs) ≡ Some x
-last_at [] x = refl
-last_at (y ∷ xs) x = last_at xs x
 
 stands_by : (b : Ledger) (e : Event) (s : Stepped) (o : Option Refusal) → next (asked b e s o).book ≡ next b + 1 → event_at (asked b e s o).book (next b) ≡ Some e
 stands_by b e s None more =

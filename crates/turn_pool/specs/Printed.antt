@@ -1,7 +1,7 @@
 -- The names of what a pool refuses, as they are printed.
 use Rattle.std.specs.Prelude.{ℕ, List, ◌++◌, codes}
 use Rattle.std.specs.Fmt.{decimal}
-use Rattle.script_replies.specs.Refused.{refusal_text}
+use Rattle.link_machine.specs.Printed.{refusal_text}
 use Rattle.turn_pool.specs.declared.closed.Mismatch.{Mismatch}
 use Rattle.turn_pool.specs.declared.fault.PoolFault.{PoolFault}
 use Rattle.turn_pool.specs.declared.fault.PoolFault.TheVariants.{NoWorkers, NoMemory}
@@ -12,7 +12,7 @@ abbrev pub fault_text : PoolFault → List ℕ
 fault_text (NoWorkers books) = codes "G1 NoWorkers"
 fault_text (NoMemory books) = codes "NoMemory"
 
--- a book's own refusals are printed as they are in a script's answers
+-- a book's own refusals are printed by their own names, as in a script's answers
 abbrev pub pool_refusal_text : PoolRefusal → List ℕ
 pool_refusal_text refusal.NoLink = codes "B10 NoActor"
 pool_refusal_text refusal.Closing = codes "G2 Closing"

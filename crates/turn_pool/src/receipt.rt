@@ -1,7 +1,6 @@
 //! What a client is given.
 
 ghost use Rattle.std.specs.Prelude.{◌≡◌};
-ghost use Rattle.script_replies.specs.Refused.{refusal_text};
 
 use actor_book::{Event, Refusal};
 use std::fmt;
@@ -45,28 +44,6 @@ pub enum PoolRefusal {
     Refused(Refusal),
 }
 
-/// The code of a book's refusal, and its name.
-fn refusal_name<'a>(refusal: Refusal) -> &'a str
-    ensures { result.now ≡ refusal_text refusal }
-{
-    match refusal {
-        Refusal::Full => "B1 Full",
-        Refusal::Stopped => "B2 Stopped",
-        Refusal::NoRoute => "B3 NoRoute",
-        Refusal::Busy => "B4 Busy",
-        Refusal::Nothing => "B5 Nothing",
-        Refusal::Stranger => "B6 Stranger",
-        Refusal::Empty => "B7 Empty",
-        Refusal::JournalFull => "B8 JournalFull",
-        Refusal::CountFull => "B9 CountFull",
-        Refusal::NoActor => "B10 NoActor",
-        Refusal::SkipFirst => "B11 SkipFirst",
-        Refusal::NotIgnored => "B12 NotIgnored",
-        Refusal::TooFar => "W1 TooFar",
-        Refusal::ClockFull => "W2 ClockFull",
-    }
-}
-
 impl fmt::Display for PoolRefusal {
     ghost use Rattle.std.specs.Prelude.{Some};
     ghost use Rattle.turn_pool.specs.Printed.{pool_refusal_text};
@@ -78,7 +55,7 @@ impl fmt::Display for PoolRefusal {
             Self::NoLink => f.write_str("B10 NoActor"),
             Self::Closing => f.write_str("G2 Closing"),
             Self::NoMemory => f.write_str("NoMemory"),
-            Self::Refused(refusal) => f.write_str(refusal_name(*refusal)),
+            Self::Refused(refusal) => f.write_str(refusal.name()),
         }
     }
 }

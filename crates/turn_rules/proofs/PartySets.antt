@@ -1,5 +1,5 @@
 -- Sets of parties, bit by bit.
-use Rattle.std.proofs.Common.{◌≡◌, ℕ, zero, suc, ◌+◌, ◌-◌, ◌*◌, ◌/◌, ◌%◌, ◌^◌, ◌<◌, ◌≤◌, min, max, true, false, ◌&&◌, ◌||◌, eqb, List, length, refl, sym, ap, ◌∙◌, arith, inl, inr}
+use Rattle.std.proofs.Common.{◌≡◌, ℕ, zero, suc, ◌+◌, ◌-◌, ◌*◌, ◌/◌, ◌%◌, ◌^◌, ◌<◌, ◌≤◌, min, true, false, ◌&&◌, ◌||◌, eqb, List, length, refl, sym, ap, ◌∙◌, arith, inl, inr}
 use Rattle.std.specs.Prelude.{ltb, bit_and, bit_or}
 use Rattle.std.specs.Int.{bit_at}
 use Rattle.std.proofs.lemmas.Nat.Bits.{bit_at_and, bit_at_or, bit_at-lt, bit_at-pow_same, bit_at-pow_other, bit_at_ones, bit_at_ones_above, ones_shr, same_from_bits, bit_at-zero}
@@ -10,24 +10,7 @@ use Rattle.turn_code.specs.declared.input.Party.TheVariants.{Environment, Proces
 use Rattle.turn_code.specs.declared.draft.DraftProcess.{DraftProcess}
 use Rattle.turn_code.specs.Routes.{IsPartyOf}
 use Rattle.turn_rules.specs.Parties.{seat, holds}
-
-least_is_one : (m n : ℕ) → m < 2 → n < 2 → eqb (min m n) 1 ≡ (eqb m 1 && eqb n 1)
-least_is_one zero zero p q = refl
-least_is_one zero (suc zero) p q = refl
-least_is_one zero (suc (suc n)) p q = absurd (omega arith)
-least_is_one (suc zero) zero p q = refl
-least_is_one (suc zero) (suc zero) p q = refl
-least_is_one (suc zero) (suc (suc n)) p q = absurd (omega arith)
-least_is_one (suc (suc m)) n p q = absurd (omega arith)
-
-most_is_one : (m n : ℕ) → m < 2 → n < 2 → eqb (max m n) 1 ≡ (eqb m 1 || eqb n 1)
-most_is_one zero zero p q = refl
-most_is_one zero (suc zero) p q = refl
-most_is_one zero (suc (suc n)) p q = absurd (omega arith)
-most_is_one (suc zero) zero p q = refl
-most_is_one (suc zero) (suc zero) p q = refl
-most_is_one (suc zero) (suc (suc n)) p q = absurd (omega arith)
-most_is_one (suc (suc m)) n p q = absurd (omega arith)
+use Rattle.plain_laws.proofs.Numbers.{most_is_one, least_is_one}
 
 least_is_left : (m n : ℕ) → m < 2 → n < 2 → (eqb m 1 ≡ true → eqb n 1 ≡ true) → min m n ≡ m
 least_is_left zero n p q h = omega arith

@@ -1,9 +1,10 @@
 use Rattle.std.proofs.Common.{◌≡◌, ◌<◌, false, Some, length, rules, refl, ap, ◌∙◌}
 use Rattle.std.specs.Prelude.{slice_get}
 use Rattle.std.proofs.lemmas.Option.{slice_get_read}
-use Rattle.unset_paths.proofs.Seen.{grows_by, get_set_same}
+use Rattle.unset_paths.proofs.Seen.{grows_by}
 use Rattle.unset_paths.proofs.Levels.{order_added}
 use Rattle.unset_paths.proofs.see.Goals as goal
+use Rattle.plain_laws.proofs.Places.{get_set_same}
 
 pub returns-clause-grows : goal.returns-clause-grows
 returns-clause-grows c =

@@ -2,9 +2,10 @@ use Rattle.std.proofs.Common.{ap, sym, ◌∙◌, ℕ}
 use Rattle.link_machine.specs.Ledger.{ask}
 use Rattle.link_machine.specs.declared.event.Event.TheVariants.{Finish}
 use Rattle.link_machine.specs.declared.reply.Refusal.TheVariants.{Stranger}
-use Rattle.actor_book.proofs.Ending.{own_actor, still_own, no_turn, not_so}
+use Rattle.actor_book.proofs.Ending.{own_actor, still_own, no_turn}
 use Rattle.actor_book.proofs.Taking.{stays, says}
 use Rattle.actor_book.proofs.replies.finished.Goals as goal
+use Rattle.std.proofs.lemmas.Bool.{false≢true as not_so}
 
 pub returns-in_default-clause-book : goal.returns-in_default-clause-book
 returns-in_default-clause-book c =

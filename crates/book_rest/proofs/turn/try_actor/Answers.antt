@@ -1,5 +1,7 @@
-use Rattle.book_rest.proofs.Owned.{not_so, still_own, turn_made}
+use Rattle.book_rest.proofs.Owned.{turn_made}
 use Rattle.book_rest.proofs.turn.try_actor.Goals as goal
+use Rattle.std.proofs.lemmas.Bool.{false≢true as not_so}
+use Rattle.actor_book.proofs.Ending.{still_own}
 
 pub unreachable-requires : goal.unreachable-requires
 unreachable-requires c =
