@@ -163,11 +163,8 @@ messages_law law = record {
 abbrev LosesNone : Half → Half → Type 0
 LosesNone a b = Loses [] a.sender b.sender
 
-pub none_more : (n : ℕ) → length {A = Msu} [] + n ≤ n
-none_more n = omega arith
-
 no_loss : (h : Half) → LosesNone h h
-no_loss h = record { kept = refl; sent = none_more h.sender.sent }
+no_loss h = record { kept = refl; sent = omega arith }
 
 fewer_sent : (g k a b c : ℕ) → g + b ≤ a → k + c ≤ b → k ≡ 0 → g + c ≤ a
 fewer_sent g k a b c h j z = omega (arith, h, j, z)

@@ -2,3 +2,4 @@ pub mod Offering
 pub mod Machine
 pub mod Laws
 pub mod Known
+pub mod Printed

@@ -4,6 +4,7 @@ ghost use Rattle.turn_check.specs.Named.{process_names, signal_names, IsFirst, I
 ghost use Rattle.link_heart.specs.Known.{process_word, signal_word, AreParties, AreOrders, AreNotices, AreOutputs, AreNames, Lacks};
 
 use crate::names::{Names, Notices, Orders, Outputs, Parties};
+use std::fmt;
 use thiserror::Error;
 use turn_check::Verified;
 use turn_code::{ProcessNumber, SignalNumber};
@@ -50,10 +51,22 @@ pub enum SignalName {
 /// A name that a set lacks.
 #[derive(Clone, Copy, PartialEq, Eq, Debug, Error)]
 pub enum Missing {
-    #[error("no such process")]
     Process(ProcessName),
-    #[error("no such signal")]
     Signal(SignalName),
+}
+
+impl fmt::Display for Missing {
+    ghost use Rattle.std.specs.Prelude.{Some};
+    ghost use Rattle.link_heart.specs.Printed.{missing_text};
+
+    ghost output = { λ m. Some (missing_text m) };
+
+    fn fmt<W: fmt::Write>(&self, f: &mut fmt::Formatter<W>) -> fmt::Result {
+        f.write_str(match self {
+            Self::Process(_) => "no such process",
+            Self::Signal(_) => "no such signal",
+        })
+    }
 }
 
 impl ProcessName {

@@ -12,7 +12,9 @@ use Rattle.link_heart.specs.Laws.{KeptLaw}
 use Rattle.link_term.specs.Hearing.{Reads, as_unit, as_error, AreTaken, nothing, unit, errored, sixteen, silent, octet}
 use Rattle.link_term.specs.Laws.{acknowledged_read, acknowledged_taken, acknowledged_along, StaysKept}
 use Rattle.link_term.proofs.Delivering.{tidied_side}
-use Rattle.link_heart.proofs.Keeping.{none_more}
+
+none_more : (n : ℕ) → length {A = Msu} [] + n ≤ n
+none_more n = omega arith
 
 no_loss : (w : Window) → Loses [] w w
 no_loss w = record { kept = refl; sent = none_more w.sent }
