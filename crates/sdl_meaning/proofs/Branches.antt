@@ -32,8 +32,8 @@ use Rattle.sdl_meaning.specs.Code.{number_or_zero, next, jump, tree_code, action
 use Rattle.sdl_meaning.proofs.Sizes.{tree_size, action_size, leave_size, tests_are, text_size_is, bodies_size_is, answers_size_is, else_size_is, decision_is}
 use Rattle.sdl_meaning.proofs.Runs.{HasAt, has_front, has_back, Does, bind, one, stays, tree_does, action_does, next_does}
 use Rattle.sdl_meaning.proofs.Choices.{IsOver, over_bind, over_first, AreNumbers, AreTruths, are_numbers, are_truths, over_anywhere, after_one, body_leaves, tries_do, decision_does, find_is}
-use Rattle.sdl_meaning.proofs.Tests.{and_second, neither_first as or_left, neither_second as or_right}
 use Rattle.std.proofs.lemmas.Bool.{or_right as or_true}
+use Rattle.plain_laws.proofs.Truths.{and_second, neither_first as or_left, neither_second as or_right}
 
 -- what holds of each JOIN of a text
 abbrev pub EachEnd : (tree_join.Join → Type 0) → End → Type 0

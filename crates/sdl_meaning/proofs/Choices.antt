@@ -29,7 +29,7 @@ use Rattle.sdl_meaning.specs.Act.{Scope, is_truth, Outcome, goes_on, over, in_tr
 use Rattle.sdl_meaning.specs.Named.{AnswerTo}
 use Rattle.sdl_meaning.specs.Code.{constant_or_zero, jump, leave_code, body_size, range_code, ranges_code, tests_code, is_literal, names_truth, picked, pick_code}
 use Rattle.sdl_meaning.proofs.Runs.{HasAt, has_front, has_back, over_as, Does, bind, stepped, one, stays}
-use Rattle.sdl_meaning.proofs.Tests.{and_second as both_right, and_first as both_left}
+use Rattle.plain_laws.proofs.Truths.{and_second as both_right, and_first as both_left}
 
 -- a choice is over or goes on
 abbrev pub IsOver : {A : Type 0} → Outcome A → Type 0

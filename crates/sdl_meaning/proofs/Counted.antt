@@ -17,9 +17,10 @@ use Rattle.sdl_meaning.proofs.Sizes.{places_size, text_size_is, connections_size
 use Rattle.sdl_sound.proofs.Items.{Each}
 use Rattle.sdl_meaning.proofs.Acts.{among_by}
 use Rattle.sdl_meaning.proofs.Reached.{Stands, placed_stands, placed_reached, reached_placed}
-use Rattle.sdl_meaning.proofs.Tests.{neither_first as or_left, neither_second as or_right, itself}
+use Rattle.sdl_meaning.proofs.Tests.{itself}
 use Rattle.std.proofs.lemmas.Bool.{ne_eqb as differ}
 use Rattle.std.specs.Cmp.{both_ways as same_tests}
+use Rattle.plain_laws.proofs.Truths.{neither_first as or_left, neither_second as or_right}
 
 abbrev pub is_among : List ℕ → ℕ → Bool
 is_among ns n = list_any (λ m. nat_eq m n) ns

@@ -34,7 +34,7 @@ pub record HasConnection (c : Scope) (id : Identifier) : Type 0 where
   pub named : connection_named c.process id.name ≡ Some connection
   pub number : connector_at c id ≡ Some (number_or_zero (connector_at c id))
 
-abbrev connection_name : PlainConnection → Identifier
+abbrev pub connection_name : PlainConnection → Identifier
 connection_name k = k.name
 
 some_number : (o : Option ℕ) → IsSome o → o ≡ Some (number_or_zero o)

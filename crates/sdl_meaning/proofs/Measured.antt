@@ -24,8 +24,8 @@ use Rattle.sdl_meaning.specs.Code.{number_or_zero, code_joins, else_joins, answe
 use Rattle.sdl_meaning.proofs.Branches.{EachEnd, EachJoin, ChoiceJoin}
 use Rattle.sdl_meaning.proofs.Joining.{HasConnection, has_connection, each_join}
 use Rattle.turn_code.proofs.Lists.{first_of as contains_first}
-use Rattle.sdl_meaning.proofs.Tests.{and_second, and_first}
 use Rattle.turn_code.proofs.Lists.{within as none_past}
+use Rattle.plain_laws.proofs.Truths.{and_second, and_first}
 
 -- ---- the measures depend on the JOINs of a text alone
 

@@ -1,28 +1,17 @@
 -- The numbers of names: each of the names that differ has the number of its place.
-use Rattle.std.proofs.Common.{◌≡◌, ℕ, zero, suc, ◌+◌, ◌<◌, Bool, true, false, not, cond, ◌||◌, List, [], ◌∷◌, ◌++◌, length, get_or, take, Some, None, bytes_eq, refl, sym, ap, ◌∙◌, arith, append_assoc, nat_lt}
+use Rattle.std.proofs.Common.{◌≡◌, ℕ, zero, suc, ◌+◌, ◌<◌, Bool, true, false, not, cond, ◌||◌, List, [], ◌∷◌, ◌++◌, length, get_or, take, Some, None, refl, sym, ap, ◌∙◌, arith, append_assoc, nat_lt}
 use Rattle.std.specs.Prelude.{slice_get}
 use Rattle.std.specs.List.{list_any, position, position_or_len, prefix_len}
 use Rattle.std.proofs.lemmas.Bool.Decides.{nat_tests}
 use Rattle.std.proofs.lemmas.List.{append-nil}
 use Rattle.std.proofs.lemmas.List.Quantifiers.{position-Some}
 use Rattle.std.proofs.lemmas.Option.{slice_get-get_or}
-use Rattle.std.proofs.lemmas.Slice.Eq.{bytes_eq-Decides}
-use Rattle.sdl_lex.specs.Spelling.{folded}
 use Rattle.sdl_ast.specs.declared.expression.Identifier.{Identifier}
 use Rattle.sdl_tables.specs.Names.{same_name, is_in, number_of}
 use Rattle.sdl_tables.specs.Scopes.{repeats}
-use Rattle.sdl_sound.proofs.Items.{nil_front, nil_back}
-use Rattle.sdl_sound.proofs.Numbered.{same_folded as folded_alike}
-
-pub same_self : (x : List ℕ) → same_name x x ≡ true
-same_self x = (bytes_eq-Decides (folded x) (folded x)).1 refl
-
-pub same_other_way : (x y : List ℕ) → same_name x y ≡ true → same_name y x ≡ true
-same_other_way x y h = (bytes_eq-Decides (folded y) (folded x)).1 (sym (folded_alike x y h))
-
--- two spellings of one name have one number
-pub number_alike : (ids : List Identifier) (x y : List ℕ) → same_name x y ≡ true → number_of ids x ≡ number_of ids y
-number_alike ids x y h = ap (λ f. position (λ (id : Identifier). bytes_eq f (folded id.name)) ids) (folded_alike x y h)
+use Rattle.plain_laws.proofs.Lists.{append-nil_left as nil_front, append-nil_right as nil_back}
+pub use Rattle.sdl_tables.proofs.Numbers.{same_self}
+pub use Rattle.sdl_sound.proofs.Numbered.{number_alike, same_back as same_other_way}
 
 -- the number of a name is the place of an identifier that has it
 pub record HasNumber (ids : List Identifier) (x : List ℕ) (v : ℕ) : Type 0 where

@@ -4,7 +4,6 @@ use Rattle.std.specs.Prelude.{slice_get, get_or, Contains}
 use Rattle.std.specs.List.{list_any, flat_map}
 use Rattle.std.specs.Option.{option_map, option_map_or}
 use Rattle.std.proofs.lemmas.List.Concat.{flat_map-append}
-use Rattle.std.proofs.lemmas.List.Elements.{All-contains}
 use Rattle.sdl_ast.specs.declared.expression.Identifier.{Identifier}
 use Rattle.sdl_ast.specs.declared.tree.Join as tree_join
 use Rattle.sdl_ast.specs.declared.tree.End.TheVariants.{NextState, Stop, Join}
@@ -15,8 +14,8 @@ use Rattle.sdl_sound.specs.Joins.{joins_at, comes_by, comes, reaches}
 use Rattle.sdl_meaning.specs.Act.{Scope, connector_at, is_truth}
 use Rattle.sdl_meaning.specs.Named.{NamedText, NamedChoice, NamedConnections}
 use Rattle.sdl_meaning.specs.Code.{number_or_zero, code_joins, else_joins, answers_joins, bodies_joins, text_at, joined, ArePlaced}
-use Rattle.sdl_sound.proofs.Items.{Each, each_front, each_back, each_append, each_always, all_items}
-use Rattle.sdl_meaning.proofs.Numbers.{number_there, number_alike, same_other_way}
+use Rattle.sdl_sound.proofs.Items.{Each, each_front, each_back, each_append, each_always, each_at as each_at_member}
+use Rattle.sdl_meaning.proofs.Numbers.{number_there}
 use Rattle.std.proofs.lemmas.Option.{slice_get-map as slice_map}
 use Rattle.sdl_meaning.proofs.Joining.{HasConnection, has_connection, contains_map}
 use Rattle.sdl_meaning.proofs.Measured.{all_placed, contains_later as later_there}
@@ -24,13 +23,11 @@ use Rattle.sdl_meaning.proofs.Acts.{joined_placed, placed_closed}
 use Rattle.turn_code.proofs.Lists.{within}
 use Rattle.std.proofs.lemmas.Bool.{or_left as or_one, or_right as or_other}
 use Rattle.sdl_sound.proofs.Lists.{any_at as any_here}
+use Rattle.sdl_sound.proofs.Numbered.{number_alike, same_back as same_other_way}
 
 pub or_split : {A : Type 0} (a b : Bool) → a || b ≡ true → (a ≡ true → A) → (b ≡ true → A) → A
 or_split true b e f g = f refl
 or_split false b e f g = g e
-
-each_at_member : {A : Type 0} (P : A → Type 0) (xs : List A) (x : A) → Each P xs → Contains xs x → P x
-each_at_member P xs x h there = All-contains P xs x (all_items P xs h) there
 
 each_holds : {A : Type 0} (P Q : A → Type 0) (xs : List A) → Each P xs → ((x : A) → P x → Q x) → Each Q xs
 each_holds P Q [] h f = tt

@@ -22,6 +22,7 @@ use Rattle.sdl_meaning.proofs.Choices.{IsOver}
 use Rattle.sdl_meaning.proofs.Branches.{integer_answered}
 use Rattle.sdl_meaning.proofs.Follows.{follow_over}
 use Rattle.sdl_meaning.proofs.Sorting.{found_at}
+use Rattle.sdl_meaning.proofs.Joining.{connection_name}
 
 -- what is over has cost so much at most, and what goes on leaves k of it
 abbrev pub Within : {A : Type 0} → ℕ → ℕ → Outcome A → Type 0
@@ -155,9 +156,6 @@ module _ (c : Scope) (join : List ℕ → Progress → Outcome (Unit {0})) (send
         (within_more (s.count + e) b k (pick c join sender others t s) (omega arith) (pick_within others q t s k named.2))
 
 -- ---- connections
-
-abbrev connection_name : PlainConnection → Identifier
-connection_name k = k.name
 
 closed_cost : (b : ℕ) (o : Outcome (Unit {0})) → Within b 0 o → cost_by (closed o) ≤ b
 closed_cost b (goes_on x v) h = omega (arith, h)

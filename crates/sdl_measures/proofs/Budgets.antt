@@ -1,5 +1,5 @@
 -- No walk costs more instructions than the code has: each is met once at most, where no JOIN comes back.
-use Rattle.std.proofs.Common.{◌≡◌, ℕ, zero, suc, ◌+◌, ◌-◌, ◌≤◌, ◌<◌, Bool, true, false, ◌&&◌, ◌||◌, List, [], ◌∷◌, ◌++◌, max, length, Option, None, Some, cond, if◌then◌else◌, find, refl, sym, ap, ◌∙◌, subst, arith, true≢false}
+use Rattle.std.proofs.Common.{◌≡◌, ℕ, zero, suc, ◌+◌, ◌-◌, ◌≤◌, ◌<◌, Bool, true, false, List, [], ◌∷◌, ◌++◌, max, length, Option, None, Some, cond, if◌then◌else◌, find, refl, sym, ap, ◌∙◌, subst, arith, true≢false}
 use Rattle.std.specs.Prelude.{sum_by, filter, slice_get, is_some}
 use Rattle.std.specs.List.{flat_map, list_any}
 use Rattle.std.specs.Option.{option_map, option_map_or}
@@ -17,11 +17,13 @@ use Rattle.sdl_sound.specs.Sorts.{is_truth}
 use Rattle.sdl_sound.specs.Longest.{cost_of, tests_budget, budget, case_budget, pick_budget, jump_size, tests_size, size, bodies_size, joined_by, joined, text_budget, text_size}
 use Rattle.sdl_sound.specs.Joins.{joins_at, comes_by, comes, reaches, reached, comes_back, connection_cycles, process_cycles}
 use Rattle.sdl_sound.specs.Orders.{links_of}
-use Rattle.sdl_joins.proofs.Connectors.{numbered, unnumbered, comes_by_number, comes_is, links_length}
-use Rattle.sdl_sound.proofs.Numbered.{nowhere, folded_same, name_back}
-use Rattle.sdl_sound.proofs.Items.{Each, each_front, each_back, each_with, each_nil}
-use Rattle.sdl_sound.proofs.Lists.{any_at, among_at}
+use Rattle.sdl_joins.proofs.Connectors.{numbered, comes_by_number, comes_is, links_length}
+use Rattle.sdl_sound.proofs.Numbered.{nowhere, folded_same, name_back, unnumbered}
+use Rattle.sdl_sound.proofs.Items.{Each, each_front, each_back, each_with, each_nil, each_at_place as get_each}
+use Rattle.sdl_sound.proofs.Lists.{any_at}
 use Rattle.sdl_joins.proofs.Ways.{goes_any}
+use Rattle.plain_laws.proofs.Places.{among_at}
+use Rattle.std.proofs.lemmas.Bool.{and_from as both_true, or_left as left_true, or_right as right_true}
 
 -- ---- a text by itself: its own instructions, and what it goes on with
 
@@ -32,18 +34,6 @@ AreWithin join n joins = Each (λ (j : the_join.Join). join j.connector.name ≤
 more_within : (join : List ℕ → ℕ) (m n : ℕ) (joins : List the_join.Join) → m ≤ n → AreWithin join m joins → AreWithin join n joins
 more_within join m n joins le h =
     each_with (λ (j : the_join.Join). join j.connector.name ≤ m) (λ (j : the_join.Join). join j.connector.name ≤ n) (λ j k. omega (arith, le, k)) joins h
-
-both_true : (a b : Bool) → a ≡ true → b ≡ true → a && b ≡ true
-both_true true b h k = k
-both_true false b h k = h
-
-left_true : (a b : Bool) → a ≡ true → a || b ≡ true
-left_true true b h = refl
-left_true false b h = absurd (true≢false (sym h))
-
-right_true : (a b : Bool) → b ≡ true → a || b ≡ true
-right_true true b h = refl
-right_true false b h = h
 
 one_if : (b : Bool) (n : ℕ) → n ≡ (if b then 1 else 0) → b ≡ true → n ≡ 1
 one_if true n e h = e
@@ -180,11 +170,6 @@ find_there q (x ∷ xs) c e = found_at q x xs c (q x) refl e (find_there q xs c)
 each_get : {X : Type 0} (P : X → Type 0) (xs : List X) → ((i : ℕ) (x : X) → slice_get xs i ≡ Some x → P x) → Each P xs
 each_get P [] h = tt
 each_get P (x ∷ xs) h = (h 0 x refl, each_get P xs (λ i. h (suc i)))
-
-get_each : {X : Type 0} (P : X → Type 0) (xs : List X) (i : ℕ) (x : X) → Each P xs → slice_get xs i ≡ Some x → P x
-get_each P [] i x h e = let bad : None ≡ Some x = e in absurd (cc)
-get_each P (y ∷ xs) zero x h e = let same : Some y ≡ Some x = e in let is : y ≡ x = cc in subst P is h.0
-get_each P (y ∷ xs) (suc i) x h e = get_each P xs i x h.1 e
 
 comes_same : (p : PlainProcess) (n : ℕ) (y x : List ℕ) → same_name x y ≡ true → comes_by p n y x ≡ true
 comes_same p zero y x h = h

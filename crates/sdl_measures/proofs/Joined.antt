@@ -1,7 +1,6 @@
 -- What connections count, whichever way JOINs are followed, and that what is measured in order is that.
 use Rattle.std.proofs.Common.{◌≡◌, ℕ, zero, suc, ◌+◌, ◌-◌, ◌<◌, ◌≤◌, max, min, Bool, true, false, List, [], ◌∷◌, ◌++◌, length, take, map, get_or, refl, ap, sym, ◌∙◌, subst, arith, if◌then◌else◌, inl, inr, ◌⊎◌, Option, Some, None}
 use Rattle.std.specs.Prelude.{slice_get, slice_set, Contains}
-use Rattle.std.specs.List.{AllZip}
 use Rattle.std.specs.Option.{option_map_or}
 use Rattle.std.proofs.lemmas.Bool.{cases_eq}
 use Rattle.std.proofs.lemmas.List.{length-set}
@@ -22,9 +21,12 @@ use Rattle.sdl_sound.specs.Orders.{IsOrder}
 use Rattle.sdl_measures.specs.Measures.{capped, IsMeasureOf, AreMeasures}
 use Rattle.sdl_measures.specs.Counting.{IsMeasured, measure_at, measure_named, budget_named, depth_named, effects_named, no_measure}
 use Rattle.sdl_measures.specs.declared.measures.Measure.{Measure}
-use Rattle.sdl_sound.proofs.Lists.{get_one, get_set_same, get_set_other, among_at, at_among}
+use Rattle.sdl_sound.proofs.Lists.{get_one}
 use Rattle.sdl_joins.proofs.Joining.{joins_are}
-use Rattle.sdl_joins.proofs.Connectors.{IsNumbered, numbered, unnumbered, own_number}
+use Rattle.sdl_joins.proofs.Connectors.{IsNumbered, numbered, own_number}
+use Rattle.sdl_sound.proofs.Numbered.{unnumbered}
+use Rattle.plain_laws.proofs.Places.{get_set_same, get_set_other, among_at, at_among}
+use Rattle.plain_laws.proofs.Pairwise.{zip_by, zip_at, zip_length}
 
 -- ---- counts that are told alike
 
@@ -260,24 +262,6 @@ measured_more p order ms i n c m is distinct at there within done h k k_n d less
       subst (λ (x : Measure). IsMeasureOf p d x) (sym (measure_set_other ms n k_n m differs)) (done k k_n d (omega (arith, less, other)) at_k there_k)
 ]
 
-zip_by : {A B : Type 0} (R : A → B → Type 0) (xs : List A) (ys : List B) → length xs ≡ length ys
-    → ((i : ℕ) (x : A) (y : B) → slice_get xs i ≡ Some x → slice_get ys i ≡ Some y → R x y) → AllZip R xs ys
-zip_by R [] [] n h = tt
-zip_by R [] (y ∷ ys) n h = absurd (omega (arith, n))
-zip_by R (x ∷ xs) [] n h = absurd (omega (arith, n))
-zip_by R (x ∷ xs) (y ∷ ys) n h = (h 0 x y refl refl, zip_by R xs ys (omega (arith, n)) (λ i. h (suc i)))
-
-pub zip_at : {A B : Type 0} (R : A → B → Type 0) (xs : List A) (ys : List B) (i : ℕ) (x : A) (y : B) → AllZip R xs ys → slice_get xs i ≡ Some x → slice_get ys i ≡ Some y → R x y
-zip_at R [] ys i x y h a b = let bad : None ≡ Some x = a in absurd (cc)
-zip_at R (x' ∷ xs) [] i x y h a b = absurd h
-zip_at {A} {B} R (x' ∷ xs) (y' ∷ ys) zero x y h a b =
-    let ea : Some x' ≡ Some x = a in
-    let eb : Some y' ≡ Some y = b in
-    let xe : x' ≡ x = cc in
-    let ye : y' ≡ y = cc in
-    subst (λ (z : A). R z y) xe (subst (λ (z : B). R x' z) ye h.0)
-zip_at R (x' ∷ xs) (y' ∷ ys) (suc i) x y h a b = zip_at R xs ys i x y h.1 a b
-
 pub all_measured : (p : PlainProcess) (order : List ℕ) (ms : List Measure) (i : ℕ) → IsOrder p order → length order ≤ i → length ms ≡ length p.connections → MeasuredTo p order ms i
     → AreMeasures p ms
 all_measured p order ms i is past long done = zip_by (IsMeasureOf p) p.connections ms (sym long) (λ n c m there at.
@@ -285,12 +269,6 @@ all_measured p order ms i is past long done = zip_by (IsMeasureOf p) p.connectio
     let told = done place.0 n c (omega (arith, slice_get_within order place.0 n place.1, past)) place.1 there in
     let m_is : measure_at ms n ≡ m = ap (λ (o : Option Measure). option_map_or (λ m. m) o no_measure) at in
     subst (λ (x : Measure). IsMeasureOf p c x) m_is told)
-
-pub zip_length : {A B : Type 0} (R : A → B → Type 0) (xs : List A) (ys : List B) → AllZip R xs ys → length xs ≡ length ys
-zip_length R [] [] h = refl
-zip_length R [] (y ∷ ys) h = absurd h
-zip_length R (x ∷ xs) [] h = absurd h
-zip_length R (x ∷ xs) (y ∷ ys) h = ap suc (zip_length R xs ys h.1)
 
 -- ---- what a transition counts
 

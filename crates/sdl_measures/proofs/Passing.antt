@@ -17,7 +17,7 @@ use Rattle.sdl_measures.specs.Rows.{marked_from, marked_size, is_long, is_deep, 
 use Rattle.sdl_measures.specs.declared.measures.Measure.{Measure}
 use Rattle.sdl_measures.specs.declared.limits.Passed.{Passed}
 use Rattle.sdl_measures.proofs.Joined.{size_at}
-use Rattle.sdl_sound.proofs.Lists.{mapped_more}
+use Rattle.plain_laws.proofs.Lists.{mapped_more}
 
 marked_push : (n : ℕ) (bs : List Bool) (b : Bool) (ms : List Measure) → marked_from n (bs ++ b ∷ []) ms ≡ marked_from n bs ms + (if b then (measure_at ms (n + length bs)).size else 0)
 marked_push n [] b ms =

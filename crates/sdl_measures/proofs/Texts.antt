@@ -3,12 +3,7 @@ use Rattle.std.proofs.Common.{◌≡◌, ℕ, ◌+◌, ◌≤◌, Bool, true, fa
 use Rattle.sdl_ast.specs.declared.expression.Identifier.{Identifier}
 use Rattle.sdl_ast.specs.Plain.{Tree, PlainAssignment, PlainSending}
 use Rattle.sdl_sound.specs.Longest.{depth_of, assignments_depth, parameters_depth, sendings_depth, place_depth, places_depth}
-
-none_some : {X : Type 0} {y : X} → None ≡ Some y → ⊥
-none_some e = cc
-
-some_none : {X : Type 0} {y : X} → Some y ≡ None → ⊥
-some_none e = cc
+use Rattle.plain_laws.proofs.Options.{none_some, some_none}
 
 -- one parameter more waits for all before it
 pub parameters_depth-push : (n : ℕ) (xs : List Tree) (y : Tree)

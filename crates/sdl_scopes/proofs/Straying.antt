@@ -10,7 +10,7 @@ use Rattle.sdl_ast.specs.Views.{text_of, statement_of, statements_before, answer
 use Rattle.sdl_sound.specs.Ends.{strays, choice_strays}
 use Rattle.sdl_scopes.specs.Rests.{IsRest}
 use Rattle.sdl_scopes.specs.declared.ends.Rest.{Rest}
-use Rattle.sdl_sound.proofs.Views.{answer_of-is}
+use Rattle.sdl_ast.proofs.Views.{answer_of-is}
 
 -- the answers of a DECISION
 pub answers_strays : (ids : List Identifier) (xs : List Answer) (others : Choice)

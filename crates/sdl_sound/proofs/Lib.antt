@@ -5,3 +5,4 @@ pub mod Places
 pub mod Repeats
 pub mod Spread
 pub mod Views
+pub mod Walks

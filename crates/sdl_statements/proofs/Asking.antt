@@ -15,7 +15,7 @@ use Rattle.sdl_statements.specs.Asked.{asked_all, asks_origin}
 use Rattle.sdl_statements.specs.declared.statements.StatementRule.{StatementRule}
 use Rattle.sdl_statements.specs.declared.statements.StatementRule.TheVariants.{Names, Sorts, Receivers, OneReceiver, Answers, Divisors}
 use Rattle.sdl_sound.specs.Parts.{statement_parts, answer_parts, end_parts}
-use Rattle.sdl_sound.proofs.Views.{text_of-is, answer_of-is}
+use Rattle.sdl_ast.proofs.Views.{text_of-is, answer_of-is}
 
 -- a statement in front of the others
 one_before : (s : PlainStatement) (rest : Text) → statements_of (before s rest) ≡ statements_of (before s falls) ++ statements_of rest

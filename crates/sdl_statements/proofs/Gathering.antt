@@ -6,7 +6,7 @@ use Rattle.std.specs.List.{list_any, list_all, flat_map}
 use Rattle.std.proofs.lemmas.List.{append-nil, take_more, map-append}
 use Rattle.std.proofs.lemmas.List.Folds.{list_all-append, list_all-map}
 use Rattle.std.proofs.lemmas.List.Elements.{All-map}
-use Rattle.std.proofs.lemmas.Option.{slice_get_within}
+use Rattle.std.proofs.lemmas.Option.{slice_get_within, same_Some as some_same}
 use Rattle.std.proofs.lemmas.Grind.{flat_map-append}
 use Rattle.std.proofs.lemmas.Slice.Eq.{bytes_eq-Decides}
 use Rattle.sdl_lex.specs.Spelling.{folded}
@@ -27,6 +27,8 @@ use Rattle.sdl_sound.proofs.Numbered.{number_names, same_folded, folded_same}
 use Rattle.sdl_statements.specs.Sources.{source_origins, gets_back, Gathers, Marks, row_of, is_marked, row_origins, origins_at}
 use Rattle.sdl_statements.specs.declared.reaching.Reaching.{Reaching}
 use Rattle.sdl_statements.specs.declared.sources.Senders.{Senders}
+use Rattle.plain_laws.proofs.Truths.{and_first as and_left, and_second as and_right}
+use Rattle.std.proofs.Math.Bool.{and_assoc, and-true, and-false}
 
 -- ---- parties
 
@@ -48,29 +50,9 @@ carried_same b own q r s h = brought (paths_of b) own q r s h
 
 -- ---- truth values
 
-pub and_left : (a b : Bool) → a && b ≡ true → a ≡ true
-and_left true b h = refl
-and_left false b h = h
-
-pub and_right : (a b : Bool) → a && b ≡ true → b ≡ true
-and_right true b h = h
-and_right false b h = absurd (true≢false (sym h))
-
-and_assoc : (a b c : Bool) → ((a && b) && c) ≡ (a && (b && c))
-and_assoc true b c = refl
-and_assoc false b c = refl
-
-pub and-true : (b : Bool) → (b && true) ≡ b
-and-true true = refl
-and-true false = refl
-
 pub absorbed : (a b : Bool) → (a ≡ true → b ≡ true) → a ≡ (a && b)
 absorbed true b h = sym (h refl)
 absorbed false b h = refl
-
-pub and-false : (a : Bool) → (a && false) ≡ false
-and-false true = refl
-and-false false = refl
 
 pub not_is : (a b : Bool) → a ≡ not b → a ≡ false → b ≡ true
 not_is a true h e = refl
@@ -105,10 +87,6 @@ module _ (b : PlainBlock) (own : Party) (s : List ℕ) where
   -- what parties get, they get each once
   pub once_all : (xs : List Party) → list_all (λ q. carries b own q s) (parties_once xs) ≡ list_all (λ q. carries b own q s) xs
   once_all xs = folded_all [] xs
-
--- parties with one number are the same
-some_same : {A : Type 0} (x y : A) → Some x ≡ Some y → x ≡ y
-some_same x y e = cc
 
 same_number : (b : PlainBlock) (q r : Party) (n : ℕ) → party_number b q ≡ Some n → party_number b r ≡ Some n → same_party q r ≡ true
 same_number b Environment Environment n e f = refl

@@ -1,5 +1,5 @@
 -- What is known of signals that are sent back: a name stands for all its spellings.
-use Rattle.std.proofs.Common.{◌≡◌, ℕ, Bool, true, false, not, ◌&&◌, ◌||◌, List, [], ◌∷◌, ◌++◌, if◌then◌else◌, bytes_eq, refl, sym, ap, ◌∙◌, true≢false}
+use Rattle.std.proofs.Common.{◌≡◌, ℕ, Bool, true, false, not, ◌&&◌, ◌||◌, List, [], ◌∷◌, ◌++◌, if◌then◌else◌, refl, sym, ap, ◌∙◌, true≢false}
 use Rattle.std.specs.List.{list_any, list_all}
 use Rattle.std.proofs.lemmas.List.Folds.{list_any-append}
 use Rattle.std.proofs.lemmas.Slice.Eq.{bytes_eq-Decides}
@@ -12,9 +12,7 @@ use Rattle.sdl_tables.specs.Names.{same_name, is_in, add_name, timers_of}
 use Rattle.sdl_sound.specs.Actions.{Origin, begins, takes}
 use Rattle.sdl_sound.specs.Receivers.{party_of, same_party, paths_of, brings, carries, senders, answers_origin, answers_all}
 use Rattle.sdl_statements.specs.Sources.{AreAlike}
-
-pub in_alike : (ids : List Identifier) (s t : List ℕ) → folded s ≡ folded t → is_in ids s ≡ is_in ids t
-in_alike ids s t e = ap (λ k. list_any (λ (id : Identifier). bytes_eq k (folded id.name)) ids) e
+use Rattle.sdl_sound.proofs.Numbered.{in_alike}
 
 brought_alike : (paths : List PlainPath) (own q : Party) (s t : List ℕ) → folded s ≡ folded t → list_any (brings own q s) paths ≡ list_any (brings own q t) paths
 brought_alike [] own q s t e = refl

@@ -11,13 +11,12 @@ use Rattle.sdl_sound.specs.Receivers.{party_of, carries, answers}
 use Rattle.sdl_statements.specs.Sources.{Gathers, Asks, Marks, is_marked}
 use Rattle.sdl_statements.specs.declared.sources.Senders.{Senders}
 use Rattle.sdl_statements.specs.declared.reaching.Gathered.{Gathered}
-use Rattle.sdl_sound.proofs.Numbered.{number_names, same_folded}
-use Rattle.sdl_statements.proofs.Knowing.{in_alike}
+use Rattle.sdl_sound.proofs.Numbered.{number_names, same_folded, in_alike}
 use Rattle.sdl_statements.proofs.SenderRows.{senders_alike}
-use Rattle.sdl_statements.proofs.Gathering.{and_left, and_right, and-false, and-true, absorbed, none_marked, gather_same}
-
-some_same : {A : Type 0} (x y : A) → Some x ≡ Some y → x ≡ y
-some_same x y e = cc
+use Rattle.sdl_statements.proofs.Gathering.{absorbed, none_marked, gather_same}
+use Rattle.plain_laws.proofs.Truths.{and_first as and_left, and_second as and_right}
+use Rattle.std.proofs.Math.Bool.{and-false, and-true}
+use Rattle.std.proofs.lemmas.Option.{same_Some as some_same}
 
 module _ (b : PlainBlock) (p : PlainProcess) (names : List Identifier) where
   -- names with one row are alike, and so are those who may have sent them

@@ -13,11 +13,8 @@ use Rattle.sdl_sound.specs.Receivers.{party_of}
 use Rattle.sdl_statements.specs.SenderTables.{numbered, AreSendersOf, Tells}
 use Rattle.sdl_statements.specs.declared.sender_table.Numbered.{Numbered}
 use Rattle.sdl_statements.specs.declared.sender_table.SenderTable.{SenderTable}
-use Rattle.sdl_sound.proofs.Numbered.{number_names, same_folded}
-use Rattle.sdl_statements.proofs.Knowing.{in_alike}
-
-some_same : {A : Type 0} (x y : A) → Some x ≡ Some y → x ≡ y
-some_same x y e = cc
+use Rattle.sdl_sound.proofs.Numbered.{number_names, same_folded, in_alike}
+use Rattle.std.proofs.lemmas.Option.{same_Some as some_same}
 
 -- a signal has the same senders however it is written
 sent_alike : (paths : List PlainPath) (own : Party) (s t : List ℕ) → folded s ≡ folded t

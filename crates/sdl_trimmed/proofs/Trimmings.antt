@@ -5,13 +5,13 @@ use Rattle.sdl_ast.specs.Plain.{PlainAction, task, output, set_timer, reset_time
 use Rattle.sdl_ast.specs.Views.{plain_statement, plain_answer, plain_decision, text_of, end_text, else_choice, choice_of, answers_before, tree_of, statement_step, answer_step, decision_step, transition_step}
 use Rattle.sdl_ast.specs.declared.tree.Transition.{Transition}
 use Rattle.sdl_ast.specs.declared.tree.Statement.{Statement}
-use Rattle.sdl_ast.specs.declared.tree.Decision.{Decision, out-Decision, roll-Decision, map-Decision}
+use Rattle.sdl_ast.specs.declared.tree.Decision.{Decision, out-Decision, roll-Decision}
 use Rattle.sdl_ast.specs.declared.tree.Statement.TheFolds.{fold-roll-Decision}
 use Rattle.sdl_ast.specs.declared.expression.Expression.{Expression}
 use Rattle.std.specs.declared.alloc.Global.{Global}
 use Rattle.sdl_ast.specs.declared.tree.Answer.{Answer}
 use Rattle.sdl_ast.specs.declared.tree.End.{End}
-use Rattle.sdl_ast.proofs.Views.{text_of-is, plain_decision-is}
+use Rattle.sdl_ast.proofs.Views.{text_of-is, plain_decision-is, decision_layer}
 use Rattle.sdl_trimmed.specs.Trimmed.{kept, trimmed, trimmed_choice, is_quoted, trimmed_statement, trimmed_decision, trimmed_answer}
 
 end_trimmed : (e : Option End) → trimmed (end_text e) ≡ end_text e
@@ -48,13 +48,6 @@ transition_trimmed given copy list is made end =
     ∙ (all_trimmed (map plain_statement list) (end_text given.end)
     ∙ (ap (λ l. trimmed (all_before (map plain_statement l) (end_text given.end))) (sym is)
     ∙ ap trimmed (sym (text_of-is given)))))))
-
--- and of a DECISION
-decision_layer : (at : ℕ) (q : Expression) (answers : Vec Answer Global) (o : Option Transition) →
-    decision_step (map-Decision Statement Answer Decision Transition PlainStatement PlainAnswer PlainStatement Text plain_statement plain_answer plain_decision text_of (record { at = at; question = q; answers = answers; otherwise = o }))
-    ≡ decide at (tree_of q) (answers_before answers.items (else_choice o))
-decision_layer at q answers None = refl
-decision_layer at q answers (Some t) = refl
 
 decision_is : (at : ℕ) (q : Expression) (answers : Vec Answer Global) (o : Option Transition) →
     plain_decision (roll-Decision (record { at = at; question = q; answers = answers; otherwise = o })) ≡ decide at (tree_of q) (answers_before answers.items (else_choice o))

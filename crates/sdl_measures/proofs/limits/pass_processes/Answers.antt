@@ -8,10 +8,10 @@ use Rattle.sdl_ast.specs.Views.{process_of}
 use Rattle.sdl_measures.specs.Measures.{AreMeasures}
 use Rattle.sdl_measures.specs.Rows.{AllPassed}
 use Rattle.sdl_measures.specs.declared.measures.Measure.{Measure}
-use Rattle.sdl_sound.proofs.Lists.{mapped_more}
-use Rattle.sdl_measures.proofs.Joined.{zip_at, zip_length}
 use Rattle.sdl_measures.proofs.Passing.{all_push}
 use Rattle.sdl_measures.proofs.limits.pass_processes.Goals as goal
+use Rattle.plain_laws.proofs.Lists.{mapped_more}
+use Rattle.plain_laws.proofs.Pairwise.{zip_at, zip_length}
 
 pub bounds-measures-place : goal.bounds-measures-place
 bounds-measures-place c =

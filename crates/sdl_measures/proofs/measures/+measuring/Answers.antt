@@ -11,7 +11,7 @@ use Rattle.sdl_sound.specs.Longest.{budget, effects, tests_budget}
 use Rattle.sdl_measures.specs.Measures.{capped}
 use Rattle.sdl_measures.specs.Counting.{IsMeasured, AreMeasured, budget_named, effects_named, no_measure}
 use Rattle.sdl_measures.specs.declared.measures.Measure.{Measure}
-use Rattle.sdl_sound.proofs.Views.{text_of-is, statement_of-act, plain_decides, decision_of-is, answer_of-is}
+use Rattle.sdl_ast.proofs.Views.{text_of-is, statement_of-act, plain_decides, decision_of-is, answer_of-is}
 use Rattle.sdl_measures.proofs.Measuring.{decision_measured, else_measured, none_measured, answer_measured, statement_first, answer_first, drop_past, drop_none}
 use Rattle.sdl_measures.proofs.measures.+measuring.Goals as goal
 use Rattle.sdl_measures.proofs.measures.+measuring.Goals.{measure_answers-in-None, measure_answers-in-Some}

@@ -9,9 +9,9 @@ use Rattle.sdl_tables.specs.Names.{processes_of}
 use Rattle.sdl_sound.specs.Orders.{IsOrder}
 use Rattle.sdl_measures.specs.Measures.{AreMeasures, AllMeasures}
 use Rattle.sdl_measures.specs.declared.measures.Measure.{Measure}
-use Rattle.sdl_sound.proofs.Lists.{mapped_more, zip_push}
-use Rattle.sdl_measures.proofs.Joined.{zip_at, zip_length}
 use Rattle.sdl_measures.proofs.measures.measure_all.Goals as goal
+use Rattle.plain_laws.proofs.Lists.{mapped_more}
+use Rattle.plain_laws.proofs.Pairwise.{zip_push, zip_at, zip_length}
 
 pub bounds-orders-place : goal.bounds-orders-place
 bounds-orders-place c =

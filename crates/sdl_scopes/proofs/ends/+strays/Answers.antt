@@ -9,7 +9,7 @@ use Rattle.sdl_tables.specs.Scopes.{Marks}
 use Rattle.sdl_scopes.specs.Rests.{IsRest}
 use Rattle.sdl_sound.specs.Ends.{strays}
 use Rattle.sdl_scopes.proofs.Straying.{answers_strays, one_more}
-use Rattle.sdl_sound.proofs.Views.{text_of-is, statement_of-decide}
+use Rattle.sdl_ast.proofs.Views.{text_of-is, statement_of-decide}
 use Rattle.sdl_scopes.proofs.ends.+strays.Goals as goal
 
 pub from_statement-returns-in-Decide : goal.from_statement-returns-in-Decide

@@ -4,10 +4,11 @@ use Rattle.sdl_sound.specs.Receivers.{answers_all}
 use Rattle.sdl_statements.specs.Sources.{AreSenders, Asks, row_of, origins_at, source_origins, is_marked}
 use Rattle.sdl_statements.specs.declared.reaching.Reaching.{Reaching}
 use Rattle.sdl_statements.specs.declared.reaching.Gathered.{Gathered}
-use Rattle.sdl_statements.proofs.Gathering.{more_origins, and-true}
+use Rattle.sdl_statements.proofs.Gathering.{more_origins}
 use Rattle.sdl_statements.proofs.RowsAdded.{asks_same}
 use Rattle.sdl_statements.proofs.reaching.senders_at.Goals as goal
 use Rattle.sdl_statements.proofs.reaching.senders_at.Goals.{then-is_marked+in_ok-add_source, else-is_marked}
+use Rattle.std.proofs.Math.Bool.{and-true}
 
 pub loop-row-init : goal.loop-row-init
 loop-row-init c = c.in_ok-gathered.ensures (block_of c.args.block.now) (process_of c.args.process.now)
