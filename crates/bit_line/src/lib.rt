@@ -20,8 +20,6 @@ mod run;
 mod short;
 mod stuffer;
 mod taken;
-#[cfg(test)]
-mod tests;
 mod window;
 
 pub use deframer::Deframer;

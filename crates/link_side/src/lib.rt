@@ -11,8 +11,6 @@ mod offers;
 mod sending;
 mod side;
 mod signals;
-#[cfg(test)]
-mod tests;
 
 pub use faults::Fault;
 pub use hearing::Offers;

@@ -1,5 +1,7 @@
 -- What a command line asks for.
-use Rattle.std.specs.Prelude.{◌≡◌, ◌≤◌, ℕ, List, codes}
+use Rattle.std.specs.Prelude.{◌≡◌, ◌≤◌, ℕ, List, Option, Some, None, codes}
+use Rattle.text_check.specs.declared.sets.SetWord.{SetWord}
+use Rattle.text_check.specs.declared.sets.SetWord.TheVariants.{Standard as standard_set, Monitors as monitors_set}
 use Rattle.mtp2_play.specs.declared.words.Named.{Named}
 use Rattle.mtp2_play.specs.declared.words.Named.TheVariants.{Standard, Monitors, Stdin, File}
 use Rattle.mtp2_play.specs.declared.words.Source.{Source}
@@ -19,6 +21,13 @@ IsNamed Standard word = word ≡ codes "standard"
 IsNamed Monitors word = word ≡ codes "monitors"
 IsNamed Stdin word = word ≡ codes "stdin"
 IsNamed (File path) word = (path.now ≡ word) × IsFileName word
+
+-- the set of the program's own that is named, if it is one
+abbrev pub own_set_of : {R : Type 0} → Named → Option (SetWord R)
+own_set_of Standard = Some standard_set
+own_set_of Monitors = Some monitors_set
+own_set_of Stdin = None
+own_set_of (File path) = None
 
 -- where the script stands that a word names
 abbrev pub IsSource : Source → List ℕ → Type 0

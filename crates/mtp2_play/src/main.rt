@@ -34,10 +34,13 @@ fn run<R: Runtime + AllocGlobal + Threads + Wait + Sync>(rt: &R, request: &Reque
 }
 
 /// Runs `check` on a set of the program's own.
-fn check_own<R: Runtime + AllocGlobal>(rt: &R, set: SetWord<&[u8]>) -> u8
+fn check_own<R: Runtime + AllocGlobal>(rt: &R, set: Named<'_>) -> u8
     ensures { (result ≡ 0) ⊎ (result ≡ 2) ⊎ (result ≡ 4) }
 {
-    check(rt.alloc(), set, &mut io::writer(rt))
+    match words::own_set(&set) {
+        Some(own) => check(rt.alloc(), own, &mut io::writer(rt)),
+        None => FAILED,
+    }
 }
 
 /// Runs `check` on the text of a file.
@@ -55,8 +58,7 @@ fn run_check<R: Runtime + AllocGlobal>(rt: &R, set: Named<'_>) -> u8
     ensures { (result ≡ 0) ⊎ (result ≡ 2) ⊎ (result ≡ 4) }
 {
     match set {
-        Named::Standard => check_own(rt, SetWord::Standard),
-        Named::Monitors => check_own(rt, SetWord::Monitors),
+        Named::Standard | Named::Monitors => check_own(rt, set),
         Named::Stdin => check(rt.alloc(), SetWord::Text(rt.reader()), &mut io::writer(rt)),
         Named::File(path) => check_file(rt, path),
     }
@@ -91,10 +93,13 @@ fn play_source<R: Runtime + AllocGlobal, S: Read + Drop>(
 }
 
 /// Runs a script on a set of the program's own.
-fn play_own<R: Runtime + AllocGlobal>(rt: &R, set: SetWord<&[u8]>, script: Source<'_>) -> u8
+fn play_own<R: Runtime + AllocGlobal>(rt: &R, set: Named<'_>, script: Source<'_>) -> u8
     ensures { (result ≡ 0) ⊎ (result ≡ 1) ⊎ (result ≡ 2) ⊎ (result ≡ 4) }
 {
-    play_source(rt, set, script)
+    match words::own_set(&set) {
+        Some(own) => play_source(rt, own, script),
+        None => FAILED,
+    }
 }
 
 /// Runs `play` on the set and the script that the command line names. A file that can't be opened is a failure, whatever there is to say
@@ -103,8 +108,7 @@ fn run_play<R: Runtime + AllocGlobal>(rt: &R, set: Named<'_>, script: Source<'_>
     ensures { (result ≡ 0) ⊎ (result ≡ 1) ⊎ (result ≡ 2) ⊎ (result ≡ 4) }
 {
     match set {
-        Named::Standard => play_own(rt, SetWord::Standard, script),
-        Named::Monitors => play_own(rt, SetWord::Monitors, script),
+        Named::Standard | Named::Monitors => play_own(rt, set, script),
         Named::Stdin => play_source(rt, SetWord::Text(rt.reader()), script),
         Named::File(path) => match fs::open(rt, path) {
             Ok(file) => play_source(rt, SetWord::Text(file), script),

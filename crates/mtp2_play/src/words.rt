@@ -1,11 +1,12 @@
 //! The command line.
 ghost use Rattle.std.specs.Prelude.{◌≡◌, ◌↔◌, ◌≤◌, Some, IfSome, IsNone, IsTrue};
 ghost use Rattle.clap.specs.Words.{subcommand_name_of};
-ghost use Rattle.mtp2_play.specs.Words.{command_of, IsNamed, IsSource, AreStdin, IsPlay, IsSoak};
+ghost use Rattle.mtp2_play.specs.Words.{command_of, own_set_of, IsNamed, IsSource, AreStdin, IsPlay, IsSoak};
 
 use clap::error::ErrorKind;
 use clap::{Arg, ArgMatches, Command, Error};
 use std::alloc::{AllocError, Global};
+use text_check::SetWord;
 
 /// A text or a set, as a word of the command line names it.
 #[derive(Clone, Copy, PartialEq, Eq, Debug)]
@@ -51,6 +52,18 @@ fn set_named(word: &str) -> Named<'_>
         "monitors" => Named::Monitors,
         "stdin" => Named::Stdin,
         path => Named::File(path),
+    }
+}
+
+/// The set of the program's own that is named; none for a text.
+pub fn own_set<'a>(set: &Named<'_>) -> Option<SetWord<&'a [u8]>>
+    ensures { result ≡ own_set_of set.now }
+{
+    match set {
+        Named::Standard => Some(SetWord::Standard),
+        Named::Monitors => Some(SetWord::Monitors),
+        Named::Stdin => None,
+        Named::File(_) => None,
     }
 }
 

@@ -5,6 +5,8 @@ use Rattle.turn_code.specs.declared.draft.Draft.{Draft}
 use Rattle.link_machine.specs.Ledger.{Ledger}
 use Rattle.link_machine.specs.Kept.{opened_book}
 use Rattle.mtp2_text.specs.declared.standard_text.TheConstants.{STANDARD}
+use Rattle.turn_pool.specs.Receipts.{AllStand}
+use Rattle.turn_pool.specs.declared.receipt.Receipt.{Receipt}
 use Rattle.turn_verify.specs.Loaded.{IsLoaded}
 
 -- how many signals each port of a link holds, how many may wait for the environment, and how many events its journal holds
@@ -26,3 +28,8 @@ pub record AreOpened (set : Draft) (links : ℕ) (books : List Ledger) : Type 0 
 abbrev pub AreBegun : Option ℕ → Draft → List Ledger → Type 0
 AreBegun None set books = ⊥
 AreBegun (Some links) set books = IsLoaded STANDARD.now set × AreOpened set links books
+
+-- a client that made so many events has a receipt for each of them, and each one's event stands at its place
+pub record AreKept (made : ℕ) (books : List Ledger) (receipts : List Receipt) : Type 0 where
+  pub number : made ≡ length receipts
+  pub stand : AllStand books receipts

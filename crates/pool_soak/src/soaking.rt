@@ -1,6 +1,6 @@
 //! The command `soak`.
 
-ghost use Rattle.std.specs.Prelude.{◌≡◌, ◌⊎◌, ◌+◌, ◌≤◌, List, ℕ, Some, true, false, IfOk, IfSome, OnOk, sum, sum_by, vec_len};
+ghost use Rattle.std.specs.Prelude.{◌≡◌, ◌↔◌, ◌⊎◌, ◌+◌, ◌≤◌, IsTrue, List, ℕ, Some, true, false, IfOk, IfSome, OnOk, sum, sum_by, vec_len};
 ghost use Rattle.std.specs.Io.KnownBytes.{Appends};
 ghost use Rattle.script_lines.specs.declared.script.ScriptFault.TheVariants.{BadLine};
 ghost use Rattle.text_reader.specs.Reading.{Keeps};
@@ -8,8 +8,7 @@ ghost use Rattle.text_check.specs.Checked.{IsGiven};
 ghost use Rattle.text_check.specs.Printed.{line_of};
 ghost use Rattle.link_machine.specs.Kept.{opened_book};
 ghost use Rattle.link_machine.specs.Ledger.{next};
-ghost use Rattle.turn_pool.specs.Receipts.{AllStand};
-ghost use Rattle.pool_soak.specs.Books.{AreOpened, AreBegun, PORT, ENVIRONMENT, JOURNAL};
+ghost use Rattle.pool_soak.specs.Books.{AreOpened, AreBegun, AreKept, PORT, ENVIRONMENT, JOURNAL};
 ghost use Rattle.pool_soak.specs.Findings.{IsEnd, IsSoaked, IsSoakedInVain, IsTurnedDown, PrintsFault, lines_with};
 
 use crate::client::{Open, Script};
@@ -30,8 +29,9 @@ use turn_check::Verified;
 use turn_pool::{Closed, Receipt, serve};
 
 /// Has links of the set `standard` worked on by threads while what a script says happens to them, and prints two lines:
-/// `seats agree` where what was counted is what happened, else `seats differ`; and `audit yes` where what each receipt names
-/// stands at its place, else `audit no`. The commands of the script print nothing; one that is refused has no receipt.
+/// `seats agree` where what was counted is what happened, else `seats differ`; and `audit yes` where there is a receipt for each event
+/// that the script made, and what each names stands at its place, else `audit no`. The commands of the script print nothing; one that is
+/// refused has no receipt.
 ///
 /// The script is read whole before anything is written, and a line of it that may not stand where it does is refused before
 /// anything runs. A line goes out in one write.
@@ -224,6 +224,13 @@ fn write_both<W: Write>(alloc: Global, writer: &mut W, agree: bool, stand: bool)
     write_line(alloc, writer, &audit_of(stand))
 }
 
+/// Whether there is a receipt for each event that the client made, and each one's event stands at its place.
+fn are_kept(closed: &Closed, receipts: &[Receipt]) -> bool
+    ensures { IsTrue result ↔ AreKept closed.now.client closed.now.books.items receipts.now }
+{
+    closed.client == receipts.len() as u64 && closed.audit(receipts).is_ok()
+}
+
 #[tactic(auto, using(crate::proofs::Texts::audit_says_no))]
 /// Writes what is found. Gives the exit status.
 fn report<W: Write>(
@@ -236,12 +243,13 @@ fn report<W: Write>(
     ensures differs { IfOk result (λ status. status ≡ 1 → closed.now.client + sum closed.now.workers.items ≡ sum_by next closed.now.books.items
         → Appends (W.contents writer.old) (W.contents writer.new) (lines_with true false)) }
     ensures agree { IfOk result (λ status. status ≡ 0 → closed.now.client + sum closed.now.workers.items ≡ sum_by next closed.now.books.items) }
-    ensures stand { IfOk result (λ status. status ≡ 0 → AllStand closed.now.books.items receipts.now) }
-    ensures no { IfOk result (λ status. status ≡ 1 → closed.now.client + sum closed.now.workers.items ≡ sum_by next closed.now.books.items → AllStand closed.now.books.items receipts.now → ⊥) }
+    ensures stand { IfOk result (λ status. status ≡ 0 → AreKept closed.now.client closed.now.books.items receipts.now) }
+    ensures no { IfOk result (λ status. status ≡ 1 → closed.now.client + sum closed.now.workers.items ≡ sum_by next closed.now.books.items
+        → AreKept closed.now.client closed.now.books.items receipts.now → ⊥) }
     ensures status { IfOk result (λ status. (status ≡ 0) ⊎ (status ≡ 1)) }
 {
     let agrees = agree(closed);
-    let stand = closed.audit(receipts).is_ok();
+    let stand = are_kept(closed, receipts);
     write_both(alloc, writer, agrees, stand)?;
     Ok(status_of(agrees, stand))
 }

@@ -33,6 +33,14 @@ impl Offers {
         }
     }
 
+    /// How many events it made: what it offered and took, and its ticks.
+    fn made(&self) -> u64 {
+        let offered = self.receipts.len() as u64;
+        offered
+            .saturating_add(u64::from(self.taken))
+            .saturating_add(1)
+    }
+
     /// Whether it was answered as it should be.
     fn is_answered(&self) -> [bool; 5] {
         [
@@ -87,11 +95,12 @@ fn rise(receipts: &[Receipt], link: usize) -> bool {
     true
 }
 
-/// Whether what is left agrees with a client's receipts: the seats with the journals, the places that rise, the audit, and the
-/// audit of a receipt that is wrong.
-fn is_left(client: &mut Offers, closed: &Closed) -> [bool; 4] {
+/// Whether what is left agrees with a client's receipts: the seats with the journals, the client's with its offers, what it took and
+/// its ticks, the places that rise, the audit, and the audit of a receipt that is wrong.
+fn is_left(client: &mut Offers, closed: &Closed) -> [bool; 5] {
     [
         agree(closed),
+        closed.client == client.made(),
         rise(&client.receipts, 0) && rise(&client.receipts, 1),
         closed.audit(&client.receipts).is_ok(),
         client.is_found_raised(closed),
@@ -99,7 +108,7 @@ fn is_left(client: &mut Offers, closed: &Closed) -> [bool; 4] {
 }
 
 /// What a client of two links was answered, and what was left.
-fn offered<R: Threads + Wait + Sync>(rt: &R, alloc: Global) -> Option<([bool; 5], [bool; 4])> {
+fn offered<R: Threads + Wait + Sync>(rt: &R, alloc: Global) -> Option<([bool; 5], [bool; 5])> {
     let books = links(alloc, ECHOES, 2, 4096)?;
     let mut client = Offers {
         receipts: Vec::new(alloc),
@@ -116,9 +125,9 @@ fn offered<R: Threads + Wait + Sync>(rt: &R, alloc: Global) -> Option<([bool; 5]
 
 #[test]
 fn receipts_stand_in_the_journals(rt: HostRuntime) {
-    let (answered, left) = offered(&rt, rt.alloc()).unwrap_or(([false; 5], [false; 4]));
+    let (answered, left) = offered(&rt, rt.alloc()).unwrap_or(([false; 5], [false; 5]));
     assert_eq!(rt; answered, [true; 5]);
-    assert_eq!(rt; left, [true; 4]);
+    assert_eq!(rt; left, [true; 5]);
 }
 
 /// A client that offers and takes on a journal that is soon full, and makes room in it, a hundred times each.

@@ -86,24 +86,35 @@ fn soak_prints_what_it_finds(rt: HostRuntime) {
     }
 }
 
-/// Two links, an offer on each, and 5 ticks on the second.
-const BOTH: &str = "links 2\noffer LSC PowerOn\non 1\noffer LSC PowerOn\ntick 5\n";
+/// Two links, an offer on each, and on the second 5 ticks and an offer with a value.
+const BOTH: &str =
+    "links 2\noffer LSC PowerOn\non 1\noffer LSC PowerOn\ntick 5\noffer TXC AckSeen true\n";
 
-/// The link of a receipt, and the actor and the signal, or the ticks and nothing.
-fn told(receipt: &Receipt) -> [u64; 3] {
+/// What a value stands for in a row: 9 for none.
+fn value_told(value: Option<&Value>) -> u64 {
+    match value {
+        None => 9,
+        Some(Value::Bool(truth)) => u64::from(*truth),
+        Some(Value::Int(_)) => 99,
+    }
+}
+
+/// The link of a receipt, and the actor, the signal and its first value, or the ticks and nothing.
+fn told(receipt: &Receipt) -> [u64; 4] {
     match &receipt.event {
         Event::Offer(offer) => [
             receipt.link as u64,
             u64::from(offer.actor),
             u64::from(offer.signal.0),
+            value_told(offer.values.get(0)),
         ],
-        Event::Advance(ticks) => [receipt.link as u64, *ticks, 99],
-        _ => [99, 99, 99],
+        Event::Advance(ticks) => [receipt.link as u64, *ticks, 99, 99],
+        _ => [99; 4],
     }
 }
 
 /// How many receipts a script's client has on two links of a set, and whether they are these.
-fn are_these(receipts: &[Receipt], wanted: &[[u64; 3]]) -> bool {
+fn are_these(receipts: &[Receipt], wanted: &[[u64; 4]]) -> bool {
     for (number, receipt) in receipts.iter().enumerate() {
         if wanted.get(number) != Some(&told(receipt)) {
             return false;
@@ -118,7 +129,7 @@ fn has_receipts<R: Threads + Wait + Sync>(
     alloc: Global,
     set: &Verified,
     soak: &Soak<'_>,
-    wanted: &[[u64; 3]],
+    wanted: &[[u64; 4]],
 ) -> Option<bool> {
     let books = opened(alloc, set, 2, Limits::new(16, 64, 4096)?).ok()?;
     let mut script = Script {
@@ -132,8 +143,9 @@ fn has_receipts<R: Threads + Wait + Sync>(
     }
 }
 
-/// The receipts of [`BOTH`]: PowerOn is the first signal, and LSC the first process, of `standard`.
-const WANTED: [[u64; 3]; 3] = [[0, 0, 0], [1, 0, 0], [1, 5, 99]];
+/// The receipts of [`BOTH`]: of `standard` LSC is the first process and TXC the fifth, PowerOn the first signal and AckSeen the
+/// thirteenth.
+const WANTED: [[u64; 4]; 4] = [[0, 0, 0, 9], [1, 0, 0, 9], [1, 5, 99, 99], [1, 4, 12, 1]];
 
 /// Whether the client of [`BOTH`] has the receipts that it should have.
 fn script_is_done<R: Threads + Wait + Sync>(rt: &R, alloc: Global) -> Option<bool> {

@@ -32,6 +32,8 @@ struct Plan {
     wanted_begun: usize,
     /// and so many have ended.
     wanted_ended: usize,
+    /// What the names come to that the gate is told, as each turn begins and as it ends.
+    names: usize,
 }
 
 /// What can only come to an end where turns run at once, under no lock, and where a turn that has begun is ended.
@@ -48,6 +50,7 @@ const PLANS: [Plan; 3] = [
         until_returned: false,
         wanted_begun: 2,
         wanted_ended: 2,
+        names: 112,
     },
     // four links: each turn is held until four have begun
     Plan {
@@ -61,6 +64,7 @@ const PLANS: [Plan; 3] = [
         until_returned: false,
         wanted_begun: 4,
         wanted_ended: 4,
+        names: 6004,
     },
     // a turn is held until the client has returned
     Plan {
@@ -74,8 +78,16 @@ const PLANS: [Plan; 3] = [
         until_returned: true,
         wanted_begun: 1,
         wanted_ended: 0,
+        names: 1,
     },
 ];
+
+/// A number for what a gate is told of a turn: 1, and 1,000 for each link, 100 for each actor and 10 for each turn before its own.
+fn number_of(name: JobName) -> usize {
+    let turn = name.turn.min(9) as usize;
+    let actor = usize::from(name.actor).min(9);
+    1 + 1_000 * name.link.min(9) + 100 * actor + 10 * turn
+}
 
 /// A gate that holds turns as a plan says.
 #[derive(Drop)]
@@ -83,6 +95,8 @@ struct Holds {
     plan: Plan,
     begun: AtomicUsize,
     ended: AtomicUsize,
+    names_begun: AtomicUsize,
+    names_ended: AtomicUsize,
     returned: AtomicBool,
     in_vain: AtomicBool,
 }
@@ -93,6 +107,8 @@ impl Holds {
             plan,
             begun: AtomicUsize::new(0),
             ended: AtomicUsize::new(0),
+            names_begun: AtomicUsize::new(0),
+            names_ended: AtomicUsize::new(0),
             returned: AtomicBool::new(false),
             in_vain: AtomicBool::new(false),
         }
@@ -100,6 +116,13 @@ impl Holds {
 
     fn has_seen(&self, begun: usize, ended: usize) -> bool {
         self.begun.load(Ordering::SeqCst) >= begun && self.ended.load(Ordering::SeqCst) >= ended
+    }
+
+    /// Whether it was told of the turns that the plan has, each as it began and as it ended, and held none in vain.
+    fn was_told(&self) -> bool {
+        !self.in_vain.load(Ordering::SeqCst)
+            && self.names_begun.load(Ordering::SeqCst) == self.plan.names
+            && self.names_ended.load(Ordering::SeqCst) == self.plan.names
     }
 
     /// Whether what holds a turn came to an end.
@@ -116,14 +139,18 @@ impl Holds {
 }
 
 impl Gate for Holds {
-    fn enter(&self, _name: JobName) {
+    fn enter(&self, name: JobName) {
+        self.names_begun
+            .fetch_add(number_of(name), Ordering::SeqCst);
         let before = self.begun.fetch_add(1, Ordering::SeqCst);
         if before < self.plan.held && !self.lets_go() {
             self.in_vain.store(true, Ordering::SeqCst);
         }
     }
 
-    fn leave(&self, _name: JobName) {
+    fn leave(&self, name: JobName) {
+        self.names_ended
+            .fetch_add(number_of(name), Ordering::SeqCst);
         self.ended.fetch_add(1, Ordering::SeqCst);
     }
 }
@@ -159,7 +186,7 @@ fn all_ended(books: &[Book], turns: u64) -> usize {
     ended
 }
 
-/// On how many links of a plan each START has run and ended; none where a turn was held in vain.
+/// On how many links of a plan each START has run and ended; none where a turn was held in vain, or the gate was told of others.
 fn links_ended<R: Threads + Wait + Sync>(rt: &R, alloc: Global, plan: Plan) -> Option<usize> {
     let books = links(alloc, plan.text, plan.links, 64)?;
     let gate = Holds::new(plan);
@@ -171,9 +198,7 @@ fn links_ended<R: Threads + Wait + Sync>(rt: &R, alloc: Global, plan: Plan) -> O
         &gate,
         &mut LooksOn { gate: &gate },
     ) {
-        Ok(closed) if !gate.in_vain.load(Ordering::SeqCst) => {
-            Some(all_ended(&closed.books, plan.processes))
-        }
+        Ok(closed) if gate.was_told() => Some(all_ended(&closed.books, plan.processes)),
         _ => None,
     }
 }

@@ -9,8 +9,6 @@ mod items;
 mod lexemes;
 mod scan;
 mod spelling;
-#[cfg(test)]
-mod tests;
 mod words;
 
 use items::{Item, item_at};

@@ -7,8 +7,6 @@
 mod check;
 mod frames;
 pub mod laws;
-#[cfg(test)]
-mod tests;
 mod units;
 
 pub use check::check_bits;

@@ -12,6 +12,3 @@ mod walk;
 pub use fault::{Spot, VerifyFault};
 pub use turn_rules::Transition;
 pub use verified::{Verified, verify};
-
-#[cfg(test)]
-mod tests;

@@ -38,6 +38,3 @@ pub use sequence::Sequence;
 pub use trouble::Trouble;
 pub use value::{Sort, Value};
 pub use variable_set::VariableSet;
-
-#[cfg(test)]
-mod tests;

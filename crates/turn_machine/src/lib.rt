@@ -12,6 +12,3 @@ pub use done::{Done, run};
 pub use fit::fits;
 pub use job::Job;
 pub use received::Received;
-
-#[cfg(test)]
-mod tests;

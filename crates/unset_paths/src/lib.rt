@@ -218,6 +218,3 @@ fn search(
     }
     Ok(None)
 }
-
-#[cfg(test)]
-mod tests;

@@ -1,8 +1,8 @@
 //! Exchanges of a link, as the recommendation's procedures have them.
 ghost use Rattle.std.specs.Prelude.{◌≡◌, length};
 
-use crate::*;
 use arrayvec::ArrayVec;
+use link_side::*;
 use resend_store::{Mode, Msu, RetrieveError};
 use std::process::Abort;
 use std::test::Fail;

@@ -1,4 +1,4 @@
-use crate::{Deframer, LineEvent, NoMemory, Stuffer};
+use bit_line::{Deframer, LineEvent, NoMemory, Stuffer};
 use std::test::Fail;
 use su_octets::{Head, Unit};
 

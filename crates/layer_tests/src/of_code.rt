@@ -1,9 +1,9 @@
 ghost use Rattle.std.specs.Prelude.{◌≡◌, ◌≤◌};
 ghost use Rattle.turn_code.specs.Code.{sends};
 
-use super::*;
 use arrayvec::ArrayVec;
 use std::process::Abort;
+use turn_code::*;
 
 /// A machine with these operands, the topmost last. Variable 0 is 7, variable 1 isn't set, and there is no other.
 fn machine(values: &[Value]) -> Machine

@@ -1,9 +1,9 @@
 //! Graphs by hand, each with the path that the rule names.
 ghost use Rattle.std.specs.Prelude.{◌<◌};
 
-use crate::{Fate, Graph, Passage, Step, Summary, first_unset};
 use std::alloc::{AllocError, Global};
 use std::test::Fail;
+use unset_paths::{Fate, Graph, Passage, Step, Summary, first_unset};
 
 /// A transition with one way through it.
 fn summary(alloc: Global, reads: u32, state: usize, keeps: u32) -> Result<Summary, AllocError> {

@@ -1,6 +1,6 @@
-use crate::{Head, Unit, UnitFault, check_bits, decode, encode};
 use arrayvec::ArrayVec;
 use std::test::Fail;
+use su_octets::{Head, Unit, UnitFault, check_bits, decode, encode};
 
 /// The head of a link that was just switched on.
 fn first_head() -> Head {

@@ -1,5 +1,5 @@
 //! Texts with the tokens and faults that the lexical rules give them.
-use crate::{LexFault, Lexeme, Name, Symbol, Token, Word, line_of, tokens};
+use sdl_lex::{LexFault, Lexeme, Name, Symbol, Token, Word, line_of, tokens};
 use std::alloc::Global;
 use std::collections::HashMap;
 use std::str;
