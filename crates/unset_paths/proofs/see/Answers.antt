@@ -3,6 +3,7 @@ use Rattle.std.specs.Prelude.{slice_get}
 use Rattle.std.proofs.lemmas.Option.{slice_get_read}
 use Rattle.unset_paths.proofs.Seen.{grows_by, get_set_same}
 use Rattle.unset_paths.proofs.Levels.{order_added}
+use Rattle.unset_paths.proofs.Firsts.{kept_added}
 use Rattle.unset_paths.proofs.see.Goals as goal
 
 pub returns-clause-grows : goal.returns-clause-grows
@@ -20,3 +21,6 @@ returns-clause-seen c = λ h.
 
 pub returns-clause-order : goal.returns-clause-order
 returns-clause-order c = order_added _ _ _ (record { state = c.args.state; path = c.in_ok-path.path }) (ap length (search rules)) (search rules)
+
+pub returns-clause-kept : goal.returns-clause-kept
+returns-clause-kept c = λ q lt. kept_added c.args.path.now c.args.state q c.args.visits.now.items _ (record { state = c.args.state; path = c.in_ok-path.path }) (search rules) refl lt (search rules)
