@@ -1,7 +1,7 @@
 -- From paths by names to paths by numbers.
 use Rattle.std.proofs.Common.{◌≡◌, ℕ, zero, suc, ◌<◌, Bool, true, false, not, ◌&&◌, ◌||◌, List, [], ◌∷◌, ◌++◌, map, length, Option, None, Some, refl, sym, ap, ◌∙◌, subst, arith, bytes_eq, if◌then◌else◌, is_some, true≢false, inl, inr, ◌⊎◌}
 use Rattle.std.specs.Prelude.{slice_get, Contains}
-use Rattle.std.specs.List.{list_any, flat_map}
+use Rattle.std.specs.List.{AllZip, list_any, flat_map}
 use Rattle.std.specs.Option.{option_map_or}
 use Rattle.std.proofs.lemmas.Option.{slice_get-get_or}
 use Rattle.std.proofs.lemmas.List.Folds.{list_any-append}
@@ -25,7 +25,9 @@ use Rattle.sdl_unset.specs.Graphs.{IsSummaryOf, IsGraphOf}
 use Rattle.sdl_sound.specs.declared.fault.Step.{Step}
 use Rattle.sdl_sound.specs.declared.fault.Step.TheVariants.{Start, Input as Takes}
 use Rattle.sdl_sound.proofs.Repeats.{append-nil_left, append-nil_right}
-use Rattle.sdl_sound.proofs.Numbered.{same_folded, number_names}
+use Rattle.sdl_sound.proofs.Numbered.{same_folded, folded_same, number_names}
+use Rattle.sdl_sound.specs.PathOrder.{StandsAt}
+use Rattle.sdl_unset.proofs.TextOrder.{IsAt}
 use Rattle.sdl_unset.proofs.PathNames.{input_in_graph}
 use Rattle.sdl_sound.proofs.Lists.{among_at}
 use Rattle.sdl_sound.proofs.Items.{Each, each_front, each_back}
@@ -373,9 +375,18 @@ passes_by p u t sum v id x events s q is var same e walk state unset =
           ∙ ap (λ (w : Transition). sets_in (w.first ++ events) x) (sym e) ∙ unset;
     })
 
+-- where a step by names stands
+stands : (p : PlainProcess) (s name signal : List ℕ) (q i : ℕ) (id : Identifier) (inp : Input) → number_of (states_of p) s ≡ Some q → slice_get (states_of p) q ≡ Some id
+    → slice_get (inputs_of p q) i ≡ Some inp → same_name s name ≡ true → same_name signal inp.stimulus.name.name ≡ true → StandsAt p (Takes name signal) q i
+stands p s name signal q i id inp number there input spelled heard =
+    let found = number_names (states_of p) s q number in
+    let one : found.0 ≡ id = let e : Some found.0 ≡ Some id = sym found.1 ∙ there in cc in
+    let same : same_name s id.name ≡ true = ap (λ (d : Identifier). same_name s d.name) (sym one) ∙ found.2 in
+    (id, there, folded_same name id.name (sym (same_folded s name spelled) ∙ same_folded s id.name same), inp, input, heard)
+
 numbers_from : (p : PlainProcess) (g : Graph) (v : ℕ) (id : Identifier) (x : List ℕ) → IsGraphOf p g → slice_get (variable_names p) v ≡ Some id
     → folded x ≡ folded id.name → (steps : List Step) (s : List ℕ) (q : ℕ) → number_of (states_of p) s ≡ Some q → ReadsFrom p (Some s) steps x
-    → (path : List number.Step) × graph.ReadsFrom g v (Some q) path × (length path ≡ length steps)
+    → (path : List number.Step) × graph.ReadsFrom g v (Some q) path × (length path ≡ length steps) × AllZip (IsAt p) path steps
 numbers_from p g v id x is var same [] s q state r = absurd r
 numbers_from p g v id x is var same (Start ∷ []) s q state r = absurd r.1
 numbers_from p g v id x is var same (Start ∷ next ∷ steps) s q state r = absurd r.1
@@ -384,41 +395,45 @@ numbers_from p g v id x is var same (Takes name signal ∷ []) s q state (t, (sp
     let at : here.0 ≡ q = let h : Some here.0 ≡ Some q = sym here.3 ∙ state in cc in
     let input = input_in_graph p g here.0 here.2 here.1 inp is here.4 here.5 in
     let told = read_by p (input_transition inp) t input.0 v id x events end input.2 var same e walk first in
-    (By here.0 here.2 ∷ [], (input.0, (at, ap (λ m. input_at g m here.2) (sym at) ∙ input.1), told), refl)
+    (By here.0 here.2 ∷ [], (input.0, (at, ap (λ m. input_at g m here.2) (sym at) ∙ input.1), told), refl, (stands p s name signal here.0 here.2 here.1 inp here.3 here.4 here.5 spelled heard, tt))
 numbers_from p g v id x is var same (Takes name signal ∷ next ∷ steps) s q state (t, (spelled, inp, among, heard, e), events, s2, walk, unset, rest) =
     let here = taken p s inp among in
     let at : here.0 ≡ q = let h : Some here.0 ≡ Some q = sym here.3 ∙ state in cc in
     let input = input_in_graph p g here.0 here.2 here.1 inp is here.4 here.5 in
     let after = state_there p s2 (next ∷ steps) x rest in
     let passes = passes_by p (input_transition inp) t input.0 v id x events s2 after.0 input.2 var same e walk after.1 unset in
-    let path = numbers_from p g v id x is var same (next ∷ steps) s2 after.0 after.1 rest in
-    (By here.0 here.2 ∷ path.0, longer g v (Some q) (By here.0 here.2) input.0 after.0 (at, ap (λ m. input_at g m here.2) (sym at) ∙ input.1) passes path.0 path.1, ap suc path.2)
+    let path = numbers_from p g v id x is var same (next ∷ steps) s2 after.0 after.1 rest in (
+      By here.0 here.2 ∷ path.0,
+      longer g v (Some q) (By here.0 here.2) input.0 after.0 (at, ap (λ m. input_at g m here.2) (sym at) ∙ input.1) passes path.0 path.1,
+      ap suc path.2,
+      (stands p s name signal here.0 here.2 here.1 inp here.3 here.4 here.5 spelled heard, path.3),
+    )
 
 -- a path by names that reads a declared variable unset is one by numbers, as long
 numbers_of : (p : PlainProcess) (g : Graph) (v : ℕ) (id : Identifier) (x : List ℕ) → IsGraphOf p g → slice_get (variable_names p) v ≡ Some id
     → folded x ≡ folded id.name → (steps : List Step) → ReadsUnset p steps x
-    → (path : List number.Step) × graph.ReadsUnset g v path × (length path ≡ length steps)
+    → (path : List number.Step) × graph.ReadsUnset g v path × (length path ≡ length steps) × AllZip (IsAt p) path steps
 numbers_of p g v id x is var same [] r = absurd r
 numbers_of p g v id x is var same (Takes name signal ∷ []) r = absurd r.1
 numbers_of p g v id x is var same (Takes name signal ∷ next ∷ steps) r = absurd r.1
 numbers_of p g v id x is var same (Start ∷ []) (t, leads, events, end, walk, first) =
     let told = read_by p (start_transition p) t g.start v id x events end is.start var same leads walk first in
-    (First ∷ [], (g.start, refl, told), refl)
+    (First ∷ [], (g.start, refl, told), refl, (refl, tt))
 numbers_of p g v id x is var same (Start ∷ next ∷ steps) (t, leads, events, s2, walk, unset, rest) =
     let after = state_there p s2 (next ∷ steps) x rest in
     let passes = passes_by p (start_transition p) t g.start v id x events s2 after.0 is.start var same leads walk after.1 unset in
     let path = numbers_from p g v id x is var same (next ∷ steps) s2 after.0 after.1 rest in
-    (First ∷ path.0, longer g v None First g.start after.0 refl passes path.0 path.1, ap suc path.2)
+    (First ∷ path.0, longer g v None First g.start after.0 refl passes path.0 path.1, ap suc path.2, (refl, path.3))
 
 -- a path by names that reads some variable unset is one by numbers of a declared one
 pub numbered_path : (b : PlainBlock) (p : PlainProcess) (g : Graph) → process_unknown b p ≡ [] → IsGraphOf p g → (steps : List Step) (x : List ℕ)
     → ReadsUnset p steps x
     → (v : ℕ) × (id : Identifier) × (slice_get (variable_names p) v ≡ Some id) × (path : List number.Step) × graph.ReadsUnset g v path
-    × (length path ≡ length steps)
+    × (length path ≡ length steps) × AllZip (IsAt p) path steps
 numbered_path b p g known is steps x r =
     let named = has_number (variable_names p) x (read_declared b p (are_known b p known) steps None x r) in
     let path = numbers_of p g named.0 named.1 x is named.2 named.3 steps r in
-    (named.0, named.1, named.2, path.0, path.1, path.2)
+    (named.0, named.1, named.2, path.0, path.1, path.2, path.3)
 
 -- where no path by numbers reads a variable unset, none by names does
 pub never_reads : (b : PlainBlock) (p : PlainProcess) (g : Graph) → process_unknown b p ≡ [] → IsGraphOf p g

@@ -9,6 +9,7 @@ use Rattle.unset_paths.specs.declared.Summary.{Summary}
 use Rattle.unset_paths.specs.declared.Graph.{Graph}
 use Rattle.unset_paths.specs.declared.Step as number
 use Rattle.unset_paths.specs.declared.Step.TheVariants.{Start as First, Input as By}
+use Rattle.unset_paths.specs.Order.{IsSorted}
 use Rattle.unset_paths.specs.Graph as graph
 use Rattle.unset_paths.specs.Graph.{input_at}
 use Rattle.sdl_ast.specs.Plain.{PlainProcess}
@@ -109,6 +110,10 @@ input_in_graph p g q i id inp is state there =
     let row = all_zip_left (AreSummaries p) (inputs_by_state p) g.states.items q (inputs_of p q) is.states (inputs_at p q id state) in
     let input = all_zip_left (λ j s. IsSummaryOf p (input_transition j) s) (inputs_of p q) row.0.items i inp row.2 there in
     (input.0, ap (option_and_then (λ (v : Vec Summary). slice_get v.items i)) row.1 ∙ input.1, input.2)
+
+-- its passages are in order
+pub graph_sorted : (p : PlainProcess) (g : Graph) → IsGraphOf p g → IsSorted g
+graph_sorted p g is = record { start = is.start.sorted; states = λ s i t at. (input_of_graph p g s i t is at).3.sorted }
 
 -- ---- a path by numbers, with its names
 

@@ -11,7 +11,7 @@ returns c =
     sym (length-map c.rows-variable-end.result.now variable_of) ∙ ap length c.rows-variable-end.ensures in
     record {
       graph = c.in_ok-graph.graph;
-      is = c.in_ok-graph.ensures;
+      is = c.in_ok-graph.ensures.graph;
       count = omega (arith, rows, c.loop-variable.invariant.count, c.loop-variable-test.false, c.loop-variable.auto.variable-end);
       each = c.loop-variable.invariant.each;
     }

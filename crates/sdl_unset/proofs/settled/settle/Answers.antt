@@ -63,7 +63,7 @@ loop-number-preserved c =
           rw (w.best-is, w.sets-is, more) (record {
             found = shorter_is b (plain ts) (plain (take k ts)) (process_of t) c.loop-number.best w.in-Err.unset w.shorter.result w.shorter.ensures.one
                 c.loop-number.invariant.found c.loop-number.invariant.none c.loop-number.invariant.fewest
-                (contains_process ts k t c.loop-number-test.true c.index-tables-number.is) told.0;
+                (contains_process ts k t c.loop-number-test.true c.index-tables-number.is) told.0 told.2;
             fewest = shortest_more (plain (take k ts)) (process_of t) c.loop-number.best w.in-Err.unset w.shorter.result w.shorter.ensures.fewer w.shorter.ensures.best
                 c.loop-number.invariant.none c.loop-number.invariant.fewest told.1;
             sets = λ e. absurd (some_unset w.shorter.result e);
