@@ -1,6 +1,6 @@
 -- What holds of each item of a list, by recursion on the list.
-use Rattle.std.proofs.Common.{◌≡◌, ℕ, Bool, true, false, cond, ◌||◌, List, [], ◌∷◌, ◌++◌, map, Some, None, refl}
-use Rattle.std.specs.Prelude.{All, find}
+use Rattle.std.proofs.Common.{◌≡◌, ℕ, zero, suc, ◌+◌, ◌<◌, Bool, true, false, cond, ◌||◌, List, [], ◌∷◌, ◌++◌, map, Some, None, refl, subst, arith}
+use Rattle.std.specs.Prelude.{All, Contains, find}
 use Rattle.std.specs.List.{list_any, flat_map}
 use Rattle.std.proofs.lemmas.List.Elements.{All-nil, All-cons}
 
@@ -27,6 +27,15 @@ each_always P f (x ∷ xs) = (f x, each_always P f xs)
 pub each_with : {A : Type 0} (P Q : A → Type 0) → ((x : A) → P x → Q x) → (xs : List A) → Each P xs → Each Q xs
 each_with P Q f [] h = tt
 each_with P Q f (x ∷ xs) h = (f x h.0, each_with P Q f xs h.1)
+
+pub each_both : {A : Type 0} (P Q : A → Type 0) (xs : List A) → Each P xs → Each Q xs → Each (λ x. P x × Q x) xs
+each_both P Q [] h k = tt
+each_both P Q (x ∷ xs) h k = ((h.0, k.0), each_both P Q xs h.1 k.1)
+
+pub each_at : {A : Type 0} (P : A → Type 0) (xs : List A) (x : A) → Each P xs → Contains xs x → P x
+each_at P [] x h (k, within, is) = absurd (omega (arith, within))
+each_at P (y ∷ xs) x h (zero, within, is) = subst P is h.0
+each_at P (y ∷ xs) x h (suc k, within, is) = each_at P xs x h.1 (k, omega (arith, within), is)
 
 pub each_map : {A B : Type 0} (P : B → Type 0) (g : A → B) (xs : List A) → Each (λ x. P (g x)) xs → Each P (map g xs)
 each_map P g [] h = tt

@@ -1,7 +1,9 @@
 pub mod Items
 pub mod Lists
+pub mod Named
 pub mod Numbered
 pub mod Places
+pub mod Reading
 pub mod Repeats
 pub mod Spread
 pub mod Views

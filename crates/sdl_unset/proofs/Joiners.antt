@@ -18,6 +18,7 @@ use Rattle.sdl_unset.specs.declared.walker.Walker.{Walker}
 use Rattle.sdl_unset.proofs.Chancing.{IsBefore, AreRanked, chances-same, by_same}
 use Rattle.sdl_unset.proofs.Ranks.{AreFine, rank_of, number_at, numbered, place_in, place_there, position-map, below_all, are_ranked}
 use Rattle.sdl_unset.proofs.Walkers.{stands_same}
+use Rattle.sdl_sound.proofs.Named.{unnumbered as not_named}
 
 there_is : {A : Type 0} (xs : List A) (i : ℕ) → i < length xs → (x : A) × (slice_get xs i ≡ Some x)
 there_is [] i within = absurd (omega (arith, within))
@@ -52,13 +53,6 @@ named_by p y n h = by_test (nat_lt (number_at p y) (length p.connections)) refl 
         let there = there_is p.connections (number_at p y) (ltb-true (number_at p y) (length p.connections) lt) in
         (there.0, found_at p y ∙ there.1, subst (λ (k : ℕ). slice_get p.connections k ≡ Some there.0) same there.1, same)
     by_test false ge e = absurd (none_some None n refl e)
-
-not_named : (p : PlainProcess) (y : List ℕ) → number_of (connector_names p) y ≡ None → connection_named p y ≡ None
-not_named p y h = by_test (nat_lt (number_at p y) (length p.connections)) refl (sym (numbers p y) ∙ h)
-  where
-    by_test : (b : Bool) → nat_lt (number_at p y) (length p.connections) ≡ b → cond b (Some (number_at p y)) None ≡ None → connection_named p y ≡ None
-    by_test true lt e = absurd (none_some (Some (number_at p y)) (number_at p y) e refl)
-    by_test false ge e = found_at p y ∙ slice_get_past p.connections (number_at p y) (ltb-false (number_at p y) (length p.connections) ge)
 
 joined_none : (p : PlainProcess) (n : ℕ) (x : List ℕ) (q : ℕ) (y : List ℕ) → connection_named p y ≡ None → chances_by p n x q y ≡ no_chances
 joined_none p zero x q y h = refl

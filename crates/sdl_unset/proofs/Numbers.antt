@@ -29,9 +29,11 @@ use Rattle.sdl_sound.proofs.Numbered.{same_folded, folded_same, number_names}
 use Rattle.sdl_sound.specs.PathOrder.{StandsAt}
 use Rattle.sdl_unset.proofs.TextOrder.{IsAt}
 use Rattle.sdl_unset.proofs.PathNames.{input_in_graph}
-use Rattle.sdl_sound.proofs.Lists.{among_at}
+use Rattle.sdl_sound.proofs.Lists.{among_at, at_among}
 use Rattle.sdl_sound.proofs.Items.{Each, each_front, each_back}
-use Rattle.sdl_unset.proofs.Ranks.{HasNone, texts_none, connection_there}
+use Rattle.sdl_unset.proofs.Ranks.{HasNone, texts_none, connection_there, no_place}
+use Rattle.std.proofs.lemmas.Bool.{and_parts, or_left, or_right, or_cases}
+use Rattle.sdl_sound.proofs.Named.{in_alike}
 
 -- ---- spellings of one name
 
@@ -60,26 +62,10 @@ or_weaker : (a b c : Bool) → (b ≡ true → c ≡ true) → (a || b) ≡ true
 or_weaker true b c f h = refl
 or_weaker false b c f h = f h
 
-and_second : (a b : Bool) → (a && b) ≡ true → b ≡ true
-and_second true b h = h
-and_second false b h = absurd (true≢false (sym h))
-
-or_cases : (a b : Bool) → (a || b) ≡ true → (a ≡ true) ⊎ (b ≡ true)
-or_cases true b h = inl refl
-or_cases false b h = inr h
-
-or_left : (a b : Bool) → a ≡ true → (a || b) ≡ true
-or_left true b h = refl
-or_left false b h = absurd (true≢false (sym h))
-
-or_right : (a b : Bool) → b ≡ true → (a || b) ≡ true
-or_right true b h = refl
-or_right false b h = h
-
 reads_some-first : (events : List Event) (x : List ℕ) → reads_first events x ≡ true → reads_some events x ≡ true
 reads_some-first [] x h = h
 reads_some-first (reads y ∷ events) x h = or_weaker (same_name x y) (reads_first events x) (reads_some events x) (reads_some-first events x) h
-reads_some-first (sets y ∷ events) x h = reads_some-first events x (and_second (not (same_name x y)) (reads_first events x) h)
+reads_some-first (sets y ∷ events) x h = reads_some-first events x (and_parts (not (same_name x y)) (reads_first events x) h).1
 
 reads_some-append : (es fs : List Event) (x : List ℕ) → reads_some (es ++ fs) x ≡ true → (reads_some es x ≡ true) ⊎ (reads_some fs x ≡ true)
 reads_some-append [] fs x h = inr h
@@ -107,18 +93,15 @@ initial_reads_nothing : (vs : List Variable) (x : List ℕ) → reads_some (flat
 initial_reads_nothing [] x h = true≢false (sym h)
 initial_reads_nothing (v ∷ vs) x h = initial_more (is_some v.initial) x v.name.name (flat_map initial_sets vs) (initial_reads_nothing vs x) h
 
-is_in-append : (xs ys : List Identifier) (x : List ℕ) → is_in (xs ++ ys) x ≡ (is_in xs x || is_in ys x)
-is_in-append xs ys x = list_any-append (λ id. same_name x id.name) xs ys
-
 reads_of_names : (ids : List Identifier) (x : List ℕ) → reads_some (map (λ id. reads id.name) ids) x ≡ is_in ids x
 reads_of_names [] x = refl
 reads_of_names (id ∷ ids) x = ap (λ r. same_name x id.name || r) (reads_of_names ids x)
 
 in_append_left : (xs ys : List Identifier) (x : List ℕ) → is_in xs x ≡ true → is_in (xs ++ ys) x ≡ true
-in_append_left xs ys x h = is_in-append xs ys x ∙ or_left (is_in xs x) (is_in ys x) h
+in_append_left xs ys x h = list_any-append (λ id. same_name x id.name) xs ys ∙ or_left (is_in xs x) (is_in ys x) h
 
 in_append_right : (xs ys : List Identifier) (x : List ℕ) → is_in ys x ≡ true → is_in (xs ++ ys) x ≡ true
-in_append_right xs ys x h = is_in-append xs ys x ∙ or_right (is_in xs x) (is_in ys x) h
+in_append_right xs ys x h = list_any-append (λ id. same_name x id.name) xs ys ∙ or_right (is_in xs x) (is_in ys x) h
 
 assignment_reads : (a : PlainAssignment) (x : List ℕ) → reads_some (assignment_events a) x ≡ true → is_in (assignment_names a) x ≡ true
 assignment_reads a x h = elim (reads_some-append (map (λ id. reads id.name) (tree_names a.value)) (sets a.variable.name ∷ []) x h) [
@@ -133,23 +116,12 @@ assignments_read (a ∷ list) x h = elim (reads_some-append (assignment_events a
   | inr there ↦ in_append_right (assignment_names a) (flat_map assignment_names list) x (assignments_read list x there)
 ]
 
--- a name among known ones is known
-cons-not-nil : (n : ℕ) (ns : List ℕ) → n ∷ ns ≡ [] → ⊥
-cons-not-nil n ns h = cc
-
-known_name : (among : List Identifier) (id : Identifier) (b : Bool) → is_in among id.name ≡ b → (if b then [] else id.at ∷ []) ≡ [] → is_in among id.name ≡ true
-known_name among id true e h = e
-known_name among id false e h = absurd (cons-not-nil id.at [] h)
-
-is_in-folded : (among : List Identifier) (x y : List ℕ) → folded x ≡ folded y → is_in among x ≡ is_in among y
-is_in-folded among x y e = ap (λ f. list_any (λ id. bytes_eq f (folded id.name)) among) e
-
 known_in : (among ids : List Identifier) (x : List ℕ) → unknown among ids ≡ [] → is_in ids x ≡ true → is_in among x ≡ true
 known_in among [] x none h = absurd (true≢false (sym h))
 known_in among (id ∷ ids) x none h = elim (or_cases (same_name x id.name) (is_in ids x) h) [
   | inl here ↦
-      is_in-folded among x id.name (same_folded x id.name here)
-      ∙ known_name among id (is_in among id.name) refl (append-nil_left _ _ none)
+      in_alike among x id.name (same_folded x id.name here)
+      ∙ no_place (is_in among id.name) id.at (append-nil_left _ _ none)
   | inr there ↦ known_in among ids x (append-nil_right (if is_in among id.name then [] else id.at ∷ []) _ none) there
 ]
 
@@ -273,9 +245,6 @@ none_at f (y ∷ xs) (suc i) x none e = none_at f xs i x (append-nil_right (f y)
 abbrev IsDeclared : PlainProcess → List ℕ → Type 0
 IsDeclared p x = is_in (variable_names p) x ≡ true
 
-contains_slice : {A : Type 0} (xs : List A) (x : A) → Contains xs x → (i : ℕ) × (slice_get xs i ≡ Some x)
-contains_slice xs x there = (there.0, slice_get-get_or xs there.0 x there.1 ∙ ap Some there.2)
-
 -- a step by name is one by number
 abbrev pub IsTaken : PlainProcess → List ℕ → Input → Type 0
 IsTaken p s inp =
@@ -289,7 +258,7 @@ taken_at p s inp None e among =
 taken_at p s inp (Some q) e among =
     let same : inputs_in p s ≡ inputs_of p q = ap (λ o. option_map_or (inputs_of p) o []) e in
     let state = number_names (states_of p) s q e in
-    let there = contains_slice (inputs_of p q) inp (subst (λ (l : List Input). Contains l inp) same among) in
+    let there = at_among (inputs_of p q) inp (subst (λ (l : List Input). Contains l inp) same among) in
     (q, state.0, there.0, e, state.1, there.1)
 
 taken : (p : PlainProcess) (s : List ℕ) (inp : Input) → Contains (inputs_in p s) inp → IsTaken p s inp

@@ -18,22 +18,15 @@ use Rattle.sdl_sound.specs.Decisions.{is_answered, statement_unanswered}
 use Rattle.sdl_sound.specs.Names.{statement_unknown}
 use Rattle.sdl_sound.specs.Orders.{IsOrder}
 use Rattle.sdl_sound.specs.Laws.{IsTextOf}
-use Rattle.sdl_sound.proofs.Items.{Each, each_front, each_back, each_always, each_with, each_flat, each_unflat, each_map, nil_front, nil_back, each_nil}
+use Rattle.sdl_sound.proofs.Items.{Each, each_front, each_back, each_always, each_with, each_flat, each_unflat, each_map, nil_front, nil_back, each_nil, each_at, each_both as both_each}
 use Rattle.sdl_unset.proofs.Chancing.{HasBody, EndsWell, IsWhole, AreWhole, IsBefore, AreRanked}
+use Rattle.std.proofs.lemmas.List.Elements.{Contains-append_right}
 
 -- ---- members
 
-more : {A : Type 0} (x y : A) (xs : List A) → Contains xs y → Contains (x ∷ xs) y
-more x y xs (k, within, is) = (suc k, omega (arith, within), is)
-
 pub each_contains : {A : Type 0} (xs : List A) → Each (λ x. Contains xs x) xs
 each_contains [] = tt
-each_contains (x ∷ xs) = ((0, omega arith, refl), each_with (λ y. Contains xs y) (λ y. Contains (x ∷ xs) y) (λ y. more x y xs) xs (each_contains xs))
-
-pub each_at : {A : Type 0} (P : A → Type 0) (xs : List A) (x : A) → Each P xs → Contains xs x → P x
-each_at P [] x h (k, within, is) = absurd (omega (arith, within))
-each_at P (y ∷ xs) x h (zero, within, is) = subst P is h.0
-each_at P (y ∷ xs) x h (suc k, within, is) = each_at P xs x h.1 (k, omega (arith, within), is)
+each_contains (x ∷ xs) = ((0, omega arith, refl), each_with (λ y. Contains xs y) (λ y. Contains (x ∷ xs) y) (λ y. Contains-append_right (x ∷ []) xs y) xs (each_contains xs))
 
 -- ---- from the statements of a text to the text
 
@@ -73,7 +66,7 @@ IsFine p (finishes (NextState n)) = ⊤
 IsFine p (finishes (Stop at)) = ⊤
 IsFine p (finishes (Join j)) = (c : PlainConnection) × (connection_named p j.connector.name ≡ Some c)
 
-no_place : (b : Bool) (at : ℕ) → (if b then [] else at ∷ []) ≡ [] → b ≡ true
+pub no_place : (b : Bool) (at : ℕ) → (if b then [] else at ∷ []) ≡ [] → b ≡ true
 no_place true at h = refl
 no_place false at h = let bad : at ∷ [] ≡ [] = h in absurd (let k : ⊥ = cc in k)
 
@@ -280,10 +273,6 @@ joined_well p P js f (covers q ranges) fine among = tt
 joined_well p P js f (finishes (NextState n)) fine among = tt
 joined_well p P js f (finishes (Stop at)) fine among = tt
 joined_well p P js f (finishes (Join j)) fine among = f j fine.0 among.0 fine.1
-
-both_each : {A : Type 0} (P Q : A → Type 0) (xs : List A) → Each P xs → Each Q xs → Each (λ x. P x × Q x) xs
-both_each P Q [] h k = tt
-both_each P Q (x ∷ xs) h k = ((h.0, k.0), both_each P Q xs h.1 k.1)
 
 text_whole : (p : PlainProcess) (P : List ℕ → Type 0) (t : Text)
     → ((j : tree.Join) (c : PlainConnection) → Contains (joins_of t) j → connection_named p j.connector.name ≡ Some c → P j.connector.name)

@@ -117,12 +117,6 @@ first_all fates k (Some v) past below = λ w u. below w (omega (arith, past, sli
 
 -- ---- names
 
-pub same_itself : (x : List ℕ) → same_name x x ≡ true
-same_itself x = folded_same x x refl
-
-pub same_back : (x y : List ℕ) → same_name x y ≡ true → same_name y x ≡ true
-same_back x y h = folded_same y x (sym (same_folded x y h))
-
 cond_found : {A : Type 0} (p : A → Bool) (x y : A) (b : Bool) (o : Option A) → p x ≡ b → (o ≡ Some y → p y ≡ true) → cond b (Some x) o ≡ Some y → p y ≡ true
 cond_found p x y true o holds rest e = ap p (sym (some_same x y e)) ∙ holds
 cond_found p x y false o holds rest e = rest e
@@ -165,12 +159,6 @@ spelled_by b p q i x heard rows row same there is inp at state signal e =
     let one : row_input row ≡ inp = some_same (row_input row) inp (sym input ∙ at) in
     let other : heard ≡ signal = let t : Takes x heard ≡ Takes state signal = e in cc in
     sym other ∙ (is ∙ ap (λ (j : Input). declared_name b p j.stimulus.name.name) one)
-
-pub all_zip_push : {A B : Type 0} (R : A → B → Type 0) (xs : List A) (ys : List B) (x : A) (y : B) → AllZip R xs ys → R x y → AllZip R (xs ++ x ∷ []) (ys ++ y ∷ [])
-all_zip_push R [] [] x y h r = (r, tt)
-all_zip_push R [] (b ∷ ys) x y h r = absurd h
-all_zip_push R (a ∷ xs) [] x y h r = absurd h
-all_zip_push R (a ∷ xs) (b ∷ ys) x y h r = (h.0, all_zip_push R xs ys x y h.1 r)
 
 -- ---- bits
 

@@ -28,14 +28,13 @@ use Rattle.sdl_sound.proofs.Items.{Each, each_always, each_map, each_with}
 use Rattle.sdl_unset.proofs.Chancing.{IsWhole, IsBefore, AreRanked}
 use Rattle.sdl_unset.proofs.Ranks.{AreFine, rank_of, are_ranked, is_whole, each_contains}
 use Rattle.sdl_unset.proofs.Telling.{reads_exactly, keeps_exactly}
+use Rattle.std.proofs.lemmas.Slice.Zip.{all_zipped_more as zip_push}
+use Rattle.sdl_unset.proofs.Walkers.{mask_past}
 
 -- ---- passages
 
 none_has : (v : ℕ) → has 0 v ≡ true → ⊥
 none_has v h = let bad : false ≡ true = sym (has_none v) ∙ h in cc
-
-mask_past : (masks : List ℕ) (q : ℕ) → length masks ≤ q → mask_at masks q ≡ 0
-mask_past masks q h = ap (λ (o : Option ℕ). option_map_or (λ m. m) o 0) (slice_get_past masks q h)
 
 mask-last : (masks : List ℕ) (m : ℕ) → mask_at (masks ++ m ∷ []) (length masks) ≡ m
 mask-last [] m = refl
@@ -187,12 +186,6 @@ summary_of p rank t s ranked whole by = record {
 }
 
 -- ---- the graph
-
-zip_push : {A B : Type 0} (R : A → B → Type 0) (xs : List A) (ys : List B) (x : A) (y : B) → AllZip R xs ys → R x y → AllZip R (xs ++ x ∷ []) (ys ++ y ∷ [])
-zip_push R [] [] x y h r = (r, tt)
-zip_push R [] (b ∷ ys) x y h r = absurd h
-zip_push R (a ∷ xs) [] x y h r = absurd h
-zip_push R (a ∷ xs) (b ∷ ys) x y h r = (h.0, zip_push R xs ys x y h.1 r)
 
 -- one row more
 pub zip_more : {X A B : Type 0} (R : A → B → Type 0) (g : X → A) (xs : List X) (i : ℕ) (x : X) (ys : List B) (y : B) → i < length xs → x ≡ get_or xs i x

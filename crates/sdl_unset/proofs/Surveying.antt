@@ -41,6 +41,7 @@ use Rattle.unset_paths.specs.declared.Fate.TheVariants.{Unset as Path, Set as Ma
 use Rattle.unset_paths.specs.declared.Graph as graphs
 use Rattle.unset_paths.specs.declared.Step as number
 use Rattle.unset_paths.specs.Graph as graph
+use Rattle.std.proofs.lemmas.Bool.{or_parts as or_false}
 
 -- ---- what a limit says
 
@@ -50,10 +51,6 @@ some_none x e = cc
 none_before : {A : Type 0} (b : Bool) (x : A) (o : Option A) → cond b (Some x) o ≡ None → (b ≡ false) × (o ≡ None)
 none_before true x o e = absurd (some_none x e)
 none_before false x o e = (refl, e)
-
-or_false : (a b : Bool) → (a || b) ≡ false → (a ≡ false) × (b ≡ false)
-or_false true b e = absurd (true≢false e)
-or_false false b e = (refl, e)
 
 few_of : (n : ℕ) → nat_lt 32 n ≡ false → n ≤ 32
 few_of n e = grind (arith, leb_tells, e)

@@ -17,6 +17,7 @@ use Rattle.sdl_unset.specs.declared.firsts.Firsts.{Firsts}
 use Rattle.sdl_unset.specs.declared.flow.Flow.{Flow}
 use Rattle.sdl_unset.specs.declared.walker.Walker.{Walker}
 use Rattle.sdl_unset.proofs.Bits.{has_and, has_or, has_none, has_all}
+use Rattle.std.proofs.Math.Bool.{and_assoc, or_assoc, and-false as and_false, and-true as and_true}
 
 -- ---- masks
 
@@ -36,14 +37,6 @@ or_false : (b : Bool) → (b || false) ≡ b
 or_false true = refl
 or_false false = refl
 
-and_false : (b : Bool) → (b && false) ≡ false
-and_false true = refl
-and_false false = refl
-
-and_true : (b : Bool) → (b && true) ≡ b
-and_true true = refl
-and_true false = refl
-
 pub mask_added : (masks : List ℕ) (state mask old : ℕ) → state < length masks → old ≡ get_or masks state old → (v q : ℕ)
     → has (mask_at (set masks state (bit_or old mask)) q) v ≡ (has (mask_at masks q) v || (has mask v && (state == q)))
 mask_added masks state mask old within is v q = elim (cases_eq q state) [
@@ -61,7 +54,7 @@ mask_added masks state mask old within is v q = elim (cases_eq q state) [
       ∙ sym (ap (λ b. has (mask_at masks q) v || (has mask v && b)) differ ∙ (ap (λ b. has (mask_at masks q) v || b) (and_false (has mask v)) ∙ or_false (has (mask_at masks q) v)))
 ]
 
-mask_past : (masks : List ℕ) (q : ℕ) → length masks ≤ q → mask_at masks q ≡ 0
+pub mask_past : (masks : List ℕ) (q : ℕ) → length masks ≤ q → mask_at masks q ≡ 0
 mask_past masks q h = ap (λ (o : Option ℕ). option_map_or (λ m. m) o 0) (slice_get_past masks q h)
 
 pub masks_added : (masks new others : List ℕ) (keeps i : ℕ) → length new ≡ length masks → length masks ≤ i
@@ -96,14 +89,6 @@ bits_behind : (a l b m c : Bool) → ((a || (l && b)) || ((l && m) && c)) ≡ (a
 bits_behind true l b m c = refl
 bits_behind false true b m c = refl
 bits_behind false false b m c = refl
-
-and_assoc : (a b c : Bool) → ((a && b) && c) ≡ (a && (b && c))
-and_assoc true b c = refl
-and_assoc false b c = refl
-
-or_assoc : (a b c : Bool) → ((a || b) || c) ≡ (a || (b || c))
-or_assoc true b c = refl
-or_assoc false b c = refl
 
 bits_beside : (a l b c : Bool) → ((a || (l && b)) || (l && c)) ≡ (a || (l && (b || c)))
 bits_beside true l b c = refl
@@ -330,7 +315,7 @@ answers_more states told x q list a =
 
 -- ---- the walkers of the connections
 
-through : {A B : Type 0} (f : A → Option B) (o : Option A) (b : B) → option_and_then f o ≡ Some b → (a : A) × (o ≡ Some a) × (f a ≡ Some b)
+pub through : {A B : Type 0} (f : A → Option B) (o : Option A) (b : B) → option_and_then f o ≡ Some b → (a : A) × (o ≡ Some a) × (f a ≡ Some b)
 through f None b h = let bad : None ≡ Some b = h in absurd (let k : ⊥ = cc in k)
 through f (Some a) b h = (a, refl, h)
 

@@ -10,7 +10,7 @@ use Rattle.sdl_sound.specs.Paths.{NeverReadsUnset}
 use Rattle.sdl_sound.specs.Settled.{AreSettled}
 use Rattle.sdl_unset.specs.Surveys.{IsSurvey, AllSettled}
 use Rattle.sdl_unset.proofs.Surveying.{within_few, within_known, within_answered, order_within, order_at, plain, all_at_table, plain_more, contains_process, among_past, shorter_is, shortest_past, shortest_more, some_unset}
-use Rattle.sdl_unset.proofs.Searches.{all_zip_push}
+use Rattle.std.proofs.lemmas.Slice.Zip.{all_zipped_more as all_zip_push}
 use Rattle.sdl_unset.proofs.settled.settle.Goals as goal
 use Rattle.sdl_unset.proofs.settled.settle.Goals.{in-Ok+in_ok-push-in-Ok, in-Err}
 
