@@ -1,0 +1,7 @@
+pub mod Lists
+pub mod Numbers
+pub mod Options
+pub mod Pairwise
+pub mod Places
+pub mod Searches
+pub mod Truths
