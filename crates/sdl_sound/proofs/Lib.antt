@@ -3,7 +3,7 @@ pub mod Lists
 pub mod Named
 pub mod Numbered
 pub mod Places
-pub mod Reading
 pub mod Repeats
 pub mod Spread
 pub mod Views
+pub mod Walks

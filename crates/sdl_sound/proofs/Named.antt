@@ -11,8 +11,8 @@ use Rattle.sdl_ast.specs.declared.expression.Identifier.{Identifier}
 use Rattle.sdl_ast.specs.Plain.{PlainConnection, PlainProcess}
 use Rattle.sdl_tables.specs.Names.{same_name, is_in, number_of, connector_names, connection_named}
 use Rattle.sdl_tables.specs.Scopes.{repeats}
-use Rattle.sdl_sound.proofs.Repeats.{append-nil_left, append-nil_right}
 use Rattle.sdl_sound.proofs.Numbered.{same_folded, folded_same, nowhere}
+use Rattle.plain_laws.proofs.Lists.{append-nil_left, append-nil_right, no_mark}
 
 -- ---- spellings of one name
 
@@ -26,10 +26,6 @@ pub in_alike : (ids : List Identifier) (s t : List ℕ) → folded s ≡ folded 
 in_alike ids s t e = ap (λ k. list_any (λ (id : Identifier). bytes_eq k (folded id.name)) ids) e
 
 -- ---- names that stand once
-
-no_mark : (b : Bool) (at : ℕ) → (if b then at ∷ [] else []) ≡ [] → b ≡ false
-no_mark true at h = let bad : at ∷ [] ≡ [] = h in absurd (let k : ⊥ = cc in k)
-no_mark false at h = refl
 
 -- where no name is there twice, none is among those before it
 pub fresh : (before ids : List Identifier) (j : ℕ) (b : Identifier) → repeats before ids ≡ [] → slice_get ids j ≡ Some b → is_in before b.name ≡ false

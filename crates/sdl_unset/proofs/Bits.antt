@@ -24,30 +24,13 @@ use Rattle.sdl_sound.specs.Paths.{Event, reads, sets, tree_events, reads_first, 
 use Rattle.sdl_unset.specs.Flows.{Tells, Does}
 use Rattle.sdl_unset.specs.declared.firsts.Firsts.{Firsts}
 use Rattle.sdl_unset.specs.declared.flow.Flow.{Flow}
-use Rattle.sdl_sound.proofs.Repeats.{append-nil_left, append-nil_right}
 use Rattle.sdl_sound.proofs.Numbered.{same_folded, folded_same, nowhere}
-use Rattle.sdl_sound.proofs.Reading.{reads_first-append, sets_in-append}
+use Rattle.sdl_sound.proofs.Walks.{reads_first-append, sets_in-append}
 use Rattle.sdl_sound.proofs.Named.{same_back as same_name-sym, same_through as same_name-trans, later_differs}
+use Rattle.plain_laws.proofs.Numbers.{most_is_one, least_is_one}
+use Rattle.plain_laws.proofs.Lists.{append-nil_left, append-nil_right}
 
 -- ---- bits
-
-least_is_one : (m n : ℕ) → m < 2 → n < 2 → eqb (min m n) 1 ≡ (eqb m 1 && eqb n 1)
-least_is_one zero zero p q = refl
-least_is_one zero (suc zero) p q = refl
-least_is_one zero (suc (suc n)) p q = absurd (omega arith)
-least_is_one (suc zero) zero p q = refl
-least_is_one (suc zero) (suc zero) p q = refl
-least_is_one (suc zero) (suc (suc n)) p q = absurd (omega arith)
-least_is_one (suc (suc m)) n p q = absurd (omega arith)
-
-most_is_one : (m n : ℕ) → m < 2 → n < 2 → eqb (max m n) 1 ≡ (eqb m 1 || eqb n 1)
-most_is_one zero zero p q = refl
-most_is_one zero (suc zero) p q = refl
-most_is_one zero (suc (suc n)) p q = absurd (omega arith)
-most_is_one (suc zero) zero p q = refl
-most_is_one (suc zero) (suc zero) p q = refl
-most_is_one (suc zero) (suc (suc n)) p q = absurd (omega arith)
-most_is_one (suc (suc m)) n p q = absurd (omega arith)
 
 rest_is_one : (m : ℕ) → m < 2 → eqb (1 - m) 1 ≡ not (eqb m 1)
 rest_is_one zero p = refl

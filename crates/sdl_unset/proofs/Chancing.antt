@@ -11,7 +11,7 @@ use Rattle.sdl_ast.specs.Plain.{Text, falls, ends, does, decides, Choice, nothin
 use Rattle.sdl_tables.specs.Names.{same_name, is_state, connection_named, states_of}
 use Rattle.sdl_sound.specs.Paths.{Event, reads as reading, sets as setting, tree_events, action_events, reads_first, sets_in, Way, onward, stops, enters as into, GoesOn, Walks, IsChosen, last_way, Follows}
 use Rattle.sdl_sound.specs.Chances.{Chances, no_chances, leaving, event_chances, behind, beside, last_chances, end_chances, chances, choice_chances, chances_by, text_chances}
-use Rattle.sdl_sound.proofs.Reading.{reads_first-append, sets_in-append, reads-later}
+use Rattle.sdl_sound.proofs.Walks.{reads_first-append, sets_in-append, reads-later}
 
 -- ---- Booleans
 

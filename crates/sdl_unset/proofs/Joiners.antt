@@ -3,7 +3,7 @@ use Rattle.std.proofs.Common.{◌≡◌, ℕ, zero, suc, ◌+◌, ◌<◌, ◌�
 use Rattle.std.specs.Prelude.{slice_get, option_and_then, nat_lt, All}
 use Rattle.std.specs.Option.{option_map, option_map_or}
 use Rattle.std.proofs.lemmas.Bool.{cases_eq, cases_lt, lt-ltb, le-ltb, ltb-true, ltb-false}
-use Rattle.std.proofs.lemmas.Option.{slice_get-get_or, slice_get_within, slice_get_past, slice_get-map, get_or_from_slice_get}
+use Rattle.std.proofs.lemmas.Option.{slice_get-get_or, slice_get_within, slice_get_past, slice_get-map, get_or_from_slice_get, same_Some as some_same}
 use Rattle.std.proofs.lemmas.List.{length-set, length-map}
 use Rattle.std.proofs.lemmas.List.Folds.{find_at}
 use Rattle.sdl_ast.specs.declared.expression.Identifier.{Identifier}
@@ -16,14 +16,11 @@ use Rattle.sdl_sound.specs.Chances.{Chances, no_chances, last_chances, chances, 
 use Rattle.sdl_unset.specs.Flows.{Stands, AreTold, text_doings}
 use Rattle.sdl_unset.specs.declared.walker.Walker.{Walker}
 use Rattle.sdl_unset.proofs.Chancing.{IsBefore, AreRanked, chances-same, by_same}
-use Rattle.sdl_unset.proofs.Ranks.{AreFine, rank_of, number_at, numbered, place_in, place_there, position-map, below_all, are_ranked}
+use Rattle.sdl_unset.proofs.Ranks.{AreFine, rank_of, number_at, numbered, place_in, place_there, below_all, are_ranked}
 use Rattle.sdl_unset.proofs.Walkers.{stands_same}
 use Rattle.sdl_sound.proofs.Named.{unnumbered as not_named}
-
-there_is : {A : Type 0} (xs : List A) (i : ℕ) → i < length xs → (x : A) × (slice_get xs i ≡ Some x)
-there_is [] i within = absurd (omega (arith, within))
-there_is (x ∷ xs) zero within = (x, refl)
-there_is (x ∷ xs) (suc i) within = there_is xs i (omega (arith, within))
+use Rattle.plain_laws.proofs.Places.{there_is}
+use Rattle.plain_laws.proofs.Searches.{position-map}
 
 -- what is told when the first i connections of the order have been walked
 abbrev pub told_upto : PlainProcess → List ℕ → ℕ → List ℕ → ℕ → List ℕ → Chances
@@ -31,9 +28,6 @@ told_upto p order i x q y = if nat_lt (rank_of p order y) i then joined_chances 
 
 none_some : {A : Type 0} (o : Option A) (a : A) → o ≡ None → o ≡ Some a → ⊥
 none_some o a h k = let bad : None ≡ Some a = sym h ∙ k in cc
-
-some_same : {A : Type 0} (x y : A) → Some x ≡ Some y → x ≡ y
-some_same x y e = cc
 
 -- a name that has a number is that of a connection
 numbers : (p : PlainProcess) (y : List ℕ) → number_of (connector_names p) y ≡ cond (nat_lt (number_at p y) (length p.connections)) (Some (number_at p y)) None

@@ -7,7 +7,7 @@ use Rattle.std.specs.Int.{bit_at, w32}
 use Rattle.std.specs.Int.RustNames.{bit_or}
 use Rattle.std.proofs.lemmas.Nat.Bits.{bit_at_set_same, bit_at_set_other}
 use Rattle.std.specs.Global.{Vec}
-use Rattle.std.proofs.lemmas.Option.{slice_get-get_or, slice_get_within, slice_get-map, slice_get_past}
+use Rattle.std.proofs.lemmas.Option.{slice_get-get_or, slice_get_within, slice_get-map, slice_get_past, same_Some as some_same}
 use Rattle.std.proofs.lemmas.Bool.{cases_eq}
 use Rattle.std.proofs.lemmas.List.{length-map, take_more}
 use Rattle.unset_paths.specs.declared.Graph.{Graph}
@@ -28,9 +28,6 @@ use Rattle.sdl_sound.specs.declared.fault.Step.TheVariants.{Input as Takes}
 use Rattle.sdl_sound.proofs.Numbered.{same_folded, folded_same}
 use Rattle.sdl_unset.proofs.PathNames.{inputs_back}
 use Rattle.sdl_unset.proofs.Settling.{numbered_length}
-
-some_same : {A : Type 0} (x y : A) → Some x ≡ Some y → x ≡ y
-some_same x y e = cc
 
 -- ---- fates
 

@@ -194,14 +194,6 @@ zip_more R g xs i x ys y within is h r =
     subst (λ zs. AllZip R zs (ys ++ y ∷ [])) (ap (λ u. map g (take i xs) ++ g u ∷ []) is ∙ sym (map_more g xs i x within))
     (zip_push R (map g (take i xs)) ys (g x) y h r)
 
--- one row more, behind others
-pub zip_behind : {X A B : Type 0} (R : A → B → Type 0) (g : X → A) (before : List A) (xs : List X) (i : ℕ) (x : X) (ys : List B) (y : B) → i < length xs → x ≡ get_or xs i x
-    → AllZip R (before ++ map g (take i xs)) ys → R (g x) y → AllZip R (before ++ map g (take (i + 1) xs)) (ys ++ y ∷ [])
-zip_behind R g before xs i x ys y within is h r =
-    subst (λ zs. AllZip R zs (ys ++ y ∷ []))
-    (append_assoc before (map g (take i xs)) (g x ∷ []) ∙ ap (λ l. before ++ l) (ap (λ u. map g (take i xs) ++ g u ∷ []) is ∙ sym (map_more g xs i x within)))
-    (zip_push R (before ++ map g (take i xs)) ys (g x) y h r)
-
 zip_with : {A B : Type 0} (P : A → Type 0) (R S : A → B → Type 0) → ((x : A) (y : B) → P x → R x y → S x y) → (xs : List A) (ys : List B) → Each P xs → AllZip R xs ys → AllZip S xs ys
 zip_with P R S f [] [] e h = tt
 zip_with P R S f [] (y ∷ ys) e h = absurd h

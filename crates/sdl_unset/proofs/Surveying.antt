@@ -28,9 +28,7 @@ use Rattle.sdl_unset.proofs.TextOrder.{all_named, not_after_names}
 use Rattle.unset_paths.specs.Order.{NotAfter}
 use Rattle.unset_paths.proofs.Orders.{no_longer, not_after_trans}
 use Rattle.sdl_sound.specs.PathOrder.{IsFirst}
-use Rattle.sdl_unset.proofs.Settling.{there_is}
-use Rattle.sdl_sound.proofs.Lists.{among_at}
-use Rattle.sdl_unset.proofs.PathNames.{all_zip_at, named_reads, steps_there}
+use Rattle.sdl_unset.proofs.PathNames.{named_reads, steps_there}
 use Rattle.sdl_unset.proofs.Spelling.{spelling_at, declared_steps}
 use Rattle.sdl_unset.specs.Fates.{IsFate, AreFates, IsUnsetAt, path_of, fate_path, HasFirst, IsStep, IsNamed, IsSpelled}
 use Rattle.sdl_sound.specs.Spellings.{AreDeclared}
@@ -42,14 +40,14 @@ use Rattle.unset_paths.specs.declared.Graph as graphs
 use Rattle.unset_paths.specs.declared.Step as number
 use Rattle.unset_paths.specs.Graph as graph
 use Rattle.std.proofs.lemmas.Bool.{or_parts as or_false}
+use Rattle.plain_laws.proofs.Pairwise.{zip_at as all_zip_at, zip_length}
+use Rattle.plain_laws.proofs.Places.{there_is, among_at}
+use Rattle.plain_laws.proofs.Options.{some_none}
 
 -- ---- what a limit says
 
-some_none : {A : Type 0} (x : A) → Some x ≡ None → ⊥
-some_none x e = cc
-
 none_before : {A : Type 0} (b : Bool) (x : A) (o : Option A) → cond b (Some x) o ≡ None → (b ≡ false) × (o ≡ None)
-none_before true x o e = absurd (some_none x e)
+none_before true x o e = absurd (some_none e)
 none_before false x o e = (refl, e)
 
 few_of : (n : ℕ) → nat_lt 32 n ≡ false → n ≤ 32
@@ -93,12 +91,6 @@ within_known b w = known_names b w.0.0.0.0.0.0.0.0.1
 
 pub within_answered : (b : PlainBlock) → IsWithin b → All (λ p. in_statements (λ from. statement_unanswered (variables_of p)) p ≡ []) (processes_of b)
 within_answered b w = answered_names b w.0.0.1
-
-zip_length : {A B : Type 0} (R : A → B → Type 0) (xs : List A) (ys : List B) → AllZip R xs ys → length xs ≡ length ys
-zip_length R [] [] h = refl
-zip_length R [] (y ∷ ys) h = absurd h
-zip_length R (x ∷ xs) [] h = absurd h
-zip_length R (x ∷ xs) (y ∷ ys) h = ap suc (zip_length R xs ys h.1)
 
 pub order_within : (ts : List the_process.Process) (ps : List PlainProcess) (orders : List (Vec ℕ)) (i : ℕ) → map process_of ts ≡ ps → AreOrders ps orders → i < length ts → i < length orders
 order_within ts ps orders i same are within =

@@ -15,10 +15,11 @@ use Rattle.sdl_sound.specs.Names.{statement_unknown, process_unknown, input_unkn
 use Rattle.sdl_sound.specs.Sound.{Sound}
 use Rattle.sdl_sound.specs.Orders.{IsOrder}
 use Rattle.sdl_sound.specs.Laws.{IsTextOf}
-use Rattle.sdl_sound.proofs.Items.{each_nil, nil_back, each_at}
+use Rattle.sdl_sound.proofs.Items.{each_nil, each_at}
 use Rattle.sdl_unset.proofs.Chancing.{reads-now, sets-neither, IsWhole, IsBefore, AreRanked, has_walk, follows_some, walk_tells, walk_shown}
 use Rattle.sdl_unset.proofs.Ranks.{AreFine, are_fine, rank_of, are_ranked, is_whole}
-use Rattle.sdl_sound.proofs.Reading.{reads_first-append, sets_in-append, reads-later}
+use Rattle.sdl_sound.proofs.Walks.{reads_first-append, sets_in-append, reads-later}
+use Rattle.plain_laws.proofs.Lists.{append-nil_right as nil_back}
 
 state_is : (q : ℕ) (o : Option ℕ) → option_map_or (λ n. n == q) o false ≡ true → o ≡ Some q
 state_is q None h = let bad : false ≡ true = h in absurd (let k : ⊥ = cc in k)

@@ -18,6 +18,7 @@ use Rattle.sdl_unset.specs.declared.flow.Flow.{Flow}
 use Rattle.sdl_unset.specs.declared.walker.Walker.{Walker}
 use Rattle.sdl_unset.proofs.Bits.{has_and, has_or, has_none, has_all}
 use Rattle.std.proofs.Math.Bool.{and_assoc, or_assoc, and-false as and_false, and-true as and_true}
+use Rattle.plain_laws.proofs.Options.{some_of as through}
 
 -- ---- masks
 
@@ -314,10 +315,6 @@ answers_more states told x q list a =
     ∙ ap (beside (choice_chances states told x q (all_answers list nothing_else))) (beside_none (chances states told x q a.text)))
 
 -- ---- the walkers of the connections
-
-pub through : {A B : Type 0} (f : A → Option B) (o : Option A) (b : B) → option_and_then f o ≡ Some b → (a : A) × (o ≡ Some a) × (f a ≡ Some b)
-through f None b h = let bad : None ≡ Some b = h in absurd (let k : ⊥ = cc in k)
-through f (Some a) b h = (a, refl, h)
 
 pub told_there : (p : PlainProcess) (told : List ℕ → ℕ → List ℕ → Chances) (walkers : List Walker) (y : List ℕ) (w : Walker) → AreTold p told walkers
     → option_and_then (slice_get walkers) (number_of (connector_names p) y) ≡ Some w → Stands p (λ x q. told x q y) w

@@ -1,8 +1,9 @@
 -- The search finds the first path: visits stand in order, and the one by the path that is named first is kept.
 use Rattle.std.proofs.Common.{◌≡◌, ℕ, suc, zero, ◌+◌, ◌<◌, ◌≤◌, Bool, true, false, List, [], ◌∷◌, ◌++◌, length, take, refl, ap, sym, ◌∙◌, subst, arith, inl, inr, Option, Some, None, Vec, Global, append_assoc, length-append}
-use Rattle.std.specs.Prelude.{slice_get, Contains, IfSome, IfNone, option_and_then}
+use Rattle.std.specs.Prelude.{All, slice_get, Contains, IfSome, IfNone, option_and_then}
 use Rattle.std.proofs.lemmas.List.Elements.{All-contains, All-cons, All-nil, Contains-append_left, Contains-append_cases}
-use Rattle.std.proofs.lemmas.Option.{slice_get_within, slice_get_past, slice_get-get_or}
+use Rattle.std.proofs.lemmas.List.{get_or-take, length-take-le}
+use Rattle.std.proofs.lemmas.Option.{get_or_from_slice_get, slice_get_within, slice_get_past, slice_get-get_or}
 use Rattle.std.proofs.lemmas.Bool.{cases_eq, cases_lt}
 use Rattle.unset_paths.specs.declared.Visit.{Visit}
 use Rattle.unset_paths.specs.declared.Passage.{Passage}
@@ -13,9 +14,10 @@ use Rattle.unset_paths.specs.declared.Step.TheVariants.{Start, Input}
 use Rattle.unset_paths.specs.Graph.{has, Leads, Passes, ReadsFrom, ReadsUnset, Reached, IsShortest, IsSeen, Covers, IsExpanded}
 use Rattle.unset_paths.specs.Order.{Before, NotAfter, IsFirst, AreSorted, IsSorted}
 use Rattle.unset_paths.specs.Visits.{Grows, Enters, IsBy, AreVisited, AreExpanded, AreLevels, ComesBefore, AreKept, AreUnder, IsVisitedBy, LeadsBy, AreNear, AreAllSorted, AreLeast}
-use Rattle.unset_paths.proofs.Walking.{slice_get_front, reached_place, leads_by}
+use Rattle.unset_paths.proofs.Walking.{slice_get_front, leads_by}
 use Rattle.unset_paths.proofs.Levels.{last_place, reads_within, place_before}
 use Rattle.unset_paths.proofs.Orders.{before_trans, before_by, by_before, not_after_trans, no_longer, one_more, before_last, not_after_more, before_steps, not_after_step, comes_before}
+use Rattle.plain_laws.proofs.Places.{among_at as reached_place}
 
 -- ---- one visit more
 
@@ -146,11 +148,10 @@ kept_next path state n visits h =
 pub near_none : (x count : ℕ) (visits : List Visit) (path : List Step) (state : ℕ) (inputs : List Summary) → AreNear count x visits path state inputs 0
 near_none x count visits path state inputs i t lt at = absurd (omega (arith, lt))
 
-pub take_get : {A : Type 0} (xs : List A) (n i : ℕ) (x : A) → i < n → slice_get xs i ≡ Some x → slice_get (take n xs) i ≡ Some x
-take_get [] n i x lt at = let bad : None ≡ Some x = at in absurd (cc)
-take_get (y ∷ xs) zero i x lt at = absurd (omega (arith, lt))
-take_get (y ∷ xs) (suc n) zero x lt at = at
-take_get (y ∷ xs) (suc n) (suc i) x lt at = take_get xs n i x (omega (arith, lt)) at
+-- what holds of each of the first ones
+pub taken_at : {A : Type 0} (P : A → Type 0) (xs : List A) (n i : ℕ) (x : A) → n ≤ length xs → All P (take n xs) → i < n → slice_get xs i ≡ Some x → P x
+taken_at P xs n i x within all lt at =
+    subst P (get_or-take n xs i x lt ∙ get_or_from_slice_get xs i x x at) (all i x (omega (arith, lt, length-take-le n xs within)))
 
 pub reached_some : (g : Graph) (x : ℕ) (path : List Step) (s : ℕ) → Reached g x None path s → 1 ≤ length path
 reached_some g x [] s h = absurd (cc)

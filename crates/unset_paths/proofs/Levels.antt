@@ -4,7 +4,7 @@ use Rattle.std.specs.Prelude.{slice_get, Contains, IfSome, option_and_then}
 use Rattle.std.proofs.lemmas.List.Elements.{All-contains, All-cons, All-nil, Contains-append_left, Contains-append_cases}
 use Rattle.std.proofs.lemmas.Option.{slice_get_within, slice_get_past, slice_get-get_or}
 use Rattle.std.proofs.lemmas.Bool.{cases_eq, cases_lt}
-use Rattle.unset_paths.proofs.Walking.{slice_get_front, reached_place}
+use Rattle.unset_paths.proofs.Walking.{slice_get_front}
 use Rattle.unset_paths.specs.declared.Visit.{Visit}
 use Rattle.unset_paths.specs.declared.Summary.{Summary}
 use Rattle.unset_paths.specs.declared.Graph.{Graph}
@@ -12,6 +12,7 @@ use Rattle.unset_paths.specs.declared.Step.{Step}
 use Rattle.unset_paths.specs.declared.Step.TheVariants.{Start, Input}
 use Rattle.unset_paths.specs.Graph.{has, Leads, Passes, ReadsFrom, ReadsUnset, IsShortest, IsSeen, Covers, IsExpanded}
 use Rattle.unset_paths.specs.Visits.{Grows, AreVisited, AreExpanded, AreInOrder, StayInOrder, IsVisitedWithin, LeadsWithin, AreLevels}
+use Rattle.plain_laws.proofs.Places.{among_at as reached_place}
 
 -- ---- the order of the visits
 

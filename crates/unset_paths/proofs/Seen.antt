@@ -11,22 +11,11 @@ use Rattle.unset_paths.specs.Visits.{unseen, Grows, AreVisited, Enters, IsVisit,
 use Rattle.unset_paths.specs.declared.Visit.{Visit}
 use Rattle.unset_paths.specs.declared.Passage.{Passage}
 use Rattle.unset_paths.specs.declared.Step.{Step}
+use Rattle.plain_laws.proofs.Places.{get_set_same, get_set_other}
 
 pub has-shift : (a n : ℕ) → (bit_and (a / 2 ^ n) 1 == 1) ≡ has a n
 unfolding has
 has-shift a n = rw (shr_and_one a n) refl
-
-pub get_set_same : {A : Type 0} (xs : List A) (k : ℕ) (a : A) → k < length xs → slice_get (slice_set xs k a) k ≡ Some a
-get_set_same [] k a h = absurd (omega arith)
-get_set_same (x ∷ xs) zero a h = refl
-get_set_same (x ∷ xs) (suc k) a h = get_set_same xs k a (omega (arith, h))
-
-pub get_set_other : {A : Type 0} (xs : List A) (k j : ℕ) (a : A) → j ≢ k → slice_get (slice_set xs k a) j ≡ slice_get xs j
-get_set_other [] k j a h = refl
-get_set_other (x ∷ xs) zero zero a h = absurd (h refl)
-get_set_other (x ∷ xs) zero (suc j) a h = refl
-get_set_other (x ∷ xs) (suc k) zero a h = refl
-get_set_other (x ∷ xs) (suc k) (suc j) a h = get_set_other xs k j a (λ e. h (ap suc e))
 
 pub unseen_set : (seen : List Bool) (k : ℕ) → slice_get seen k ≡ Some false → suc (unseen (slice_set seen k true)) ≡ unseen seen
 unfolding unseen

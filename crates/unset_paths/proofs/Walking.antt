@@ -14,6 +14,7 @@ use Rattle.unset_paths.specs.declared.Step.{Step}
 use Rattle.unset_paths.specs.declared.Step.TheVariants.{Start, Input}
 use Rattle.unset_paths.specs.Graph.{has, Place, Leads, Passes, ReadsFrom, ReadsUnset, Reached, IsSeen, Covers, IsSafe, IsExpanded, IsClosed, IsClosedSet, AreEntered}
 use Rattle.unset_paths.specs.Visits.{unseen, AreSafe, Grows, Enters, IsBy, IsByInput, ReadsBy, AreReached, AreVisited, AreExpanded}
+use Rattle.plain_laws.proofs.Places.{among_at as reached_place, all_at}
 
 -- one step more, which reads x
 pub reads_after : (g : Graph) (x : ℕ) (place : Place) (path : List Step) (s : ℕ) (step : Step) (t : Summary)
@@ -45,10 +46,6 @@ none_from_seen g x seen closed (step ∷ next ∷ path) s here (t, q, leads, pas
     none_from_seen g x seen closed (next ∷ path) q (subst P passes.ends covered) reads
 
 -- ---- the inputs of a state
-
--- what holds of each holds of the one at a place
-pub all_at : {A : Type 0} (P : A → Type 0) (xs : List A) (i : ℕ) (a : A) → All P xs → slice_get xs i ≡ Some a → P a
-all_at P xs i a all there = subst P (get_or_from_slice_get xs i a a there) (all i a (slice_get_within xs i a there))
 
 -- what is safe is so once more was seen
 pub safe_on : (t : Summary) (x : ℕ) (old new : List Bool) → ((s : ℕ) → IsSeen old s → IsSeen new s) → IsSafe t x old → IsSafe t x new
@@ -167,10 +164,6 @@ entered_by g x seen visits reached visited s here =
     let found = visited s here in
     let P : ℕ → Type 0 = λ q. Reached g x None found.0.path.items q in
     (found.0.path.items, subst P found.2 (reached found.0 found.1))
-
--- what stands at a place is in the list
-pub reached_place : {A : Type 0} (xs : List A) (k : ℕ) (a : A) → slice_get xs k ≡ Some a → Contains xs a
-reached_place xs k a there = (k, slice_get_within xs k a there, get_or_from_slice_get xs k a a there)
 
 -- what holds between two turns of the search
 pub record Progress (g : Graph) (x : ℕ) (seen : List Bool) (visits : List Visit) (next : ℕ) : Type 0 where

@@ -4,8 +4,8 @@ use Rattle.std.proofs.lemmas.Option.{slice_get_read}
 use Rattle.unset_paths.specs.Graph.{Covers, IsSafe}
 use Rattle.unset_paths.specs.Visits.{StayInOrder, AreKept, AreUnder, AreAllSorted}
 use Rattle.unset_paths.proofs.Seen.{grows_on, enters_on}
-use Rattle.unset_paths.proofs.Walking.{safe_more, safe_all, by_input, all_at}
-use Rattle.unset_paths.proofs.Firsts.{more_visits, kept_next, near_more, near_none, take_get}
+use Rattle.unset_paths.proofs.Walking.{safe_more, safe_all, by_input}
+use Rattle.unset_paths.proofs.Firsts.{more_visits, kept_next, near_more, near_none, taken_at}
 use Rattle.unset_paths.specs.Order.{AreSorted}
 use Rattle.unset_paths.specs.declared.Step.{Step}
 use Rattle.unset_paths.specs.declared.Step.TheVariants.{Input}
@@ -19,8 +19,7 @@ returns-then-contains-clause-found c = record {
   there = slice_get_read c.args.inputs.now (length c.args.inputs.now) c.loop-number.number c.index-inputs-number.result refl c.loop-number-test.true c.index-inputs-number.is;
   reads = sym c.if-contains.ensures;
   all = c.in_ok-longer.ensures;
-  first = λ i t lt at. (all_at (λ u. IsSafe u c.args.variable c.loop-number.seen.items) (take c.loop-number.number c.args.inputs.now) i t c.loop-number.invariant.safe
-      (take_get c.args.inputs.now c.loop-number.number i t lt at)).reads;
+  first = λ i t lt at. (taken_at (λ u. IsSafe u c.args.variable c.loop-number.seen.items) c.args.inputs.now c.loop-number.number i t (omega (arith, c.loop-number-test.true)) c.loop-number.invariant.safe lt at).reads;
 }
 
 pub loop-number-preserved : goal.loop-number-preserved

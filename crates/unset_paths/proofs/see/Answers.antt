@@ -1,7 +1,8 @@
 use Rattle.std.proofs.Common.{◌≡◌, ◌<◌, false, Some, length, rules, refl, ap, ◌∙◌}
 use Rattle.std.specs.Prelude.{slice_get}
 use Rattle.std.proofs.lemmas.Option.{slice_get_read}
-use Rattle.unset_paths.proofs.Seen.{grows_by, get_set_same}
+use Rattle.unset_paths.proofs.Seen.{grows_by}
+use Rattle.plain_laws.proofs.Places.{get_set_same}
 use Rattle.unset_paths.proofs.Levels.{order_added}
 use Rattle.unset_paths.proofs.Firsts.{kept_added}
 use Rattle.unset_paths.proofs.see.Goals as goal

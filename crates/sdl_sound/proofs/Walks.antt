@@ -4,11 +4,7 @@ use Rattle.std.proofs.lemmas.Bool.{and_from, or_right}
 use Rattle.std.proofs.Math.Bool.{and_assoc, or_assoc}
 use Rattle.sdl_tables.specs.Names.{same_name}
 use Rattle.sdl_sound.specs.Paths.{Event, reads, sets, reads_first, sets_in}
-
--- where x is set now, nothing later reads it unset
-set_now : (s r t q u : Bool) → u ≡ (r || (not t && q)) → (not s && u) ≡ ((not s && r) || (not (s || t) && q))
-set_now true r t q u h = refl
-set_now false r t q u h = h
+use Rattle.plain_laws.proofs.Truths.{not_or, set_now}
 
 pub reads_first-append : (xs ys : List Event) (x : List ℕ) → reads_first (xs ++ ys) x ≡ (reads_first xs x || (not (sets_in xs x) && reads_first ys x))
 reads_first-append [] ys x = refl
@@ -17,10 +13,6 @@ reads_first-append (reads y ∷ xs) ys x =
     ∙ sym (or_assoc (same_name x y) (reads_first xs x) (not (sets_in xs x) && reads_first ys x))
 reads_first-append (sets y ∷ xs) ys x =
     set_now (same_name x y) (reads_first xs x) (sets_in xs x) (reads_first ys x) (reads_first (xs ++ ys) x) (reads_first-append xs ys x)
-
-not_or : (s t : Bool) → not (s || t) ≡ (not s && not t)
-not_or true t = refl
-not_or false t = refl
 
 pub sets_in-append : (xs ys : List Event) (x : List ℕ) → not (sets_in (xs ++ ys) x) ≡ (not (sets_in xs x) && not (sets_in ys x))
 sets_in-append [] ys x = refl
