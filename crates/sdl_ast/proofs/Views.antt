@@ -1,6 +1,6 @@
 -- What the views of the tree are, one layer at a time.
-use Rattle.std.proofs.Common.{ℕ, Vec, ◌≡◌, ◌∙◌, ap, refl, [], ◌∷◌, Option, None, Some}
-use Rattle.sdl_ast.specs.Plain.{Text, does, decides, Choice, answer, PlainStatement, act, decide, PlainAnswer, before, all_answers}
+use Rattle.std.proofs.Common.{ℕ, Vec, ◌≡◌, ◌∙◌, ap, refl, List, [], ◌∷◌, ◌++◌, Option, None, Some}
+use Rattle.sdl_ast.specs.Plain.{Text, does, decides, Choice, answer, PlainStatement, act, decide, PlainAnswer, before, all_before, all_answers}
 use Rattle.sdl_ast.specs.Views.{plain_statement, plain_decision, plain_answer, tree_of, action_of, text_of, statement_of, answer_of, decision_of, statements_before, answers_before, end_text, else_choice, choice_of, statement_step, answer_step, decision_step, transition_step}
 use Rattle.sdl_ast.specs.declared.tree.Transition.{Transition}
 use Rattle.sdl_ast.specs.declared.tree.Statement.{Statement, out-Statement}
@@ -21,7 +21,7 @@ pub plain_act : (a : Action) → plain_statement (Act a) ≡ act (action_of a)
 unfolding out-Statement denote.Hole.Carrier.out
 plain_act a = fold_out-Statement PlainStatement PlainAnswer PlainStatement Text statement_step answer_step decision_step transition_step (Act a)
 
-decision_layer : (at : ℕ) (q : Expression) (answers : Vec Answer Global) (o : Option Transition) →
+pub decision_layer : (at : ℕ) (q : Expression) (answers : Vec Answer Global) (o : Option Transition) →
     decision_step (map-Decision Statement Answer Decision Transition PlainStatement PlainAnswer PlainStatement Text plain_statement plain_answer plain_decision text_of (record { at = at; question = q; answers = answers; otherwise = o }))
     ≡ decide at (tree_of q) (answers_before answers.items (else_choice o))
 decision_layer at q answers None = refl
@@ -51,3 +51,13 @@ statement_of-decide d rest = ap (λ s. before s rest) (plain_decides d ∙ plain
 
 pub answer_of-is : (a : Answer) (others : Choice) → answer_of a others ≡ answer a.at a.ranges.items (text_of a.body) others
 answer_of-is a others = ap (λ x. all_answers (x ∷ []) others) (plain_answer-is a)
+
+-- one statement more, and one answer more
+
+pub all_before-more : (ss : List PlainStatement) (s : PlainStatement) (text : Text) → all_before (ss ++ s ∷ []) text ≡ all_before ss (before s text)
+all_before-more [] s text = refl
+all_before-more (x ∷ ss) s text = ap (before x) (all_before-more ss s text)
+
+pub all_answers-more : (xs : List PlainAnswer) (x : PlainAnswer) (others : Choice) → all_answers (xs ++ x ∷ []) others ≡ all_answers xs (answer x.at x.ranges x.text others)
+all_answers-more [] x others = refl
+all_answers-more (y ∷ xs) x others = ap (answer y.at y.ranges y.text) (all_answers-more xs x others)

@@ -2,7 +2,7 @@
 use Rattle.std.proofs.Common.{◌≡◌, ℕ, ◌+◌, ◌-◌, ◌<◌, ◌≤◌, ◌⊎◌, inl, inr, Bool, true, false, ◌&&◌, ◌||◌, List, [], ◌∷◌, length, refl, ap, sym, ◌∙◌, get_or, arith, zero, suc, Option, Some, None, cond}
 use Rattle.std.specs.Prelude.{◌==◌, slice_range}
 use Rattle.std.specs.Char.{is_ascii_alphabetic, is_ascii_digit}
-use Rattle.std.proofs.lemmas.Bool.{ne_eqb, and_left}
+use Rattle.std.proofs.lemmas.Bool.{ne_eqb, and_left, or_parts}
 use Rattle.std.proofs.lemmas.Grind.{common_steps}
 use Rattle.sdl_lex.specs.declared.lexemes.Symbol.{Symbol}
 use Rattle.sdl_lex.specs.declared.lexemes.Symbol.TheVariants.{Semicolon, Comma, Colon, Assign, Open, Close, Plus, Minus, Star, Slash, Equal, NotEqual, Less, LessEqual, Greater, GreaterEqual}
@@ -80,14 +80,6 @@ pub record SymbolHere (s : Symbol) (b c : ℕ) : Type 0 where
   pub second : length (symbol_text s) ≡ 2 → c ≡ get_or (symbol_text s) 1 0
   pub longest : length (symbol_text s) ≡ 1 → continues_symbol s c ≡ false
 
-or_left : (p q : Bool) → (p || q) ≡ false → p ≡ false
-or_left false q h = refl
-or_left true q h = absurd (cc)
-
-or_right : (p q : Bool) → (p || q) ≡ false → q ≡ false
-or_right false q h = h
-or_right true q h = absurd (cc)
-
 pub kind-symbol : (s : Symbol) (b c : ℕ) → SymbolHere s b c → kind b c ≡ a_mark
 kind-symbol Semicolon b c here = rw here.first refl
 kind-symbol Comma b c here = rw here.first refl
@@ -99,7 +91,7 @@ kind-symbol Plus b c here = rw here.first refl
 kind-symbol Minus b c here = rw here.first refl
 kind-symbol Star b c here = rw here.first refl
 kind-symbol Slash b c here =
-    let no_star : (c == 42) ≡ false = or_right (c == 61) (c == 42) (here.longest refl) in rw (here.first, no_star) refl
+    let no_star : (c == 42) ≡ false = (or_parts (c == 61) (c == 42) (here.longest refl)).1 in rw (here.first, no_star) refl
 kind-symbol Equal b c here = rw here.first refl
 kind-symbol NotEqual b c here = rw (here.first, here.second refl) refl
 kind-symbol Less b c here = rw here.first refl
@@ -136,7 +128,7 @@ symbol_at-here Plus b c here = rw here.first refl
 symbol_at-here Minus b c here = rw here.first refl
 symbol_at-here Star b c here = rw here.first refl
 symbol_at-here Slash b c here =
-    let no_equal : (c == 61) ≡ false = or_left (c == 61) (c == 42) (here.longest refl) in rw (here.first, no_equal) refl
+    let no_equal : (c == 61) ≡ false = (or_parts (c == 61) (c == 42) (here.longest refl)).0 in rw (here.first, no_equal) refl
 symbol_at-here Equal b c here = rw here.first refl
 symbol_at-here NotEqual b c here = rw (here.first, here.second refl) refl
 symbol_at-here Less b c here =
