@@ -1,8 +1,11 @@
 -- What holds of each item of a list, by recursion on the list.
-use Rattle.std.proofs.Common.{◌≡◌, ℕ, zero, suc, ◌+◌, ◌<◌, Bool, true, false, cond, ◌||◌, List, [], ◌∷◌, ◌++◌, map, Some, None, refl, subst, arith}
-use Rattle.std.specs.Prelude.{All, Contains, find}
+use Rattle.std.proofs.Common.{◌≡◌, ℕ, zero, suc, Bool, true, false, cond, List, [], ◌∷◌, ◌++◌, map, Some, None, refl, subst}
+use Rattle.std.specs.Prelude.{All, Contains, find, slice_get}
 use Rattle.std.specs.List.{list_any, flat_map}
-use Rattle.std.proofs.lemmas.List.Elements.{All-nil, All-cons}
+use Rattle.std.proofs.lemmas.List.Elements.{All-nil, All-cons, All-contains}
+use Rattle.std.proofs.lemmas.Option.{none-some, same_Some}
+use Rattle.plain_laws.proofs.Lists.{append-nil_left as nil_front, append-nil_right as nil_back}
+use Rattle.plain_laws.proofs.Truths.{neither_first as or_left, neither_second as or_right}
 
 abbrev pub Each : {A : Type 0} → (A → Type 0) → List A → Type 0
 Each P [] = Unit {0}
@@ -28,15 +31,6 @@ pub each_with : {A : Type 0} (P Q : A → Type 0) → ((x : A) → P x → Q x) 
 each_with P Q f [] h = tt
 each_with P Q f (x ∷ xs) h = (f x h.0, each_with P Q f xs h.1)
 
-pub each_both : {A : Type 0} (P Q : A → Type 0) (xs : List A) → Each P xs → Each Q xs → Each (λ x. P x × Q x) xs
-each_both P Q [] h k = tt
-each_both P Q (x ∷ xs) h k = ((h.0, k.0), each_both P Q xs h.1 k.1)
-
-pub each_at : {A : Type 0} (P : A → Type 0) (xs : List A) (x : A) → Each P xs → Contains xs x → P x
-each_at P [] x h (k, within, is) = absurd (omega (arith, within))
-each_at P (y ∷ xs) x h (zero, within, is) = subst P is h.0
-each_at P (y ∷ xs) x h (suc k, within, is) = each_at P xs x h.1 (k, omega (arith, within), is)
-
 pub each_map : {A B : Type 0} (P : B → Type 0) (g : A → B) (xs : List A) → Each (λ x. P (g x)) xs → Each P (map g xs)
 each_map P g [] h = tt
 each_map P g (x ∷ xs) h = (h.0, each_map P g xs h.1)
@@ -57,29 +51,26 @@ pub all_items : {A : Type 0} (P : A → Type 0) (xs : List A) → Each P xs → 
 all_items P [] h = All-nil P
 all_items P (x ∷ xs) h = All-cons P x xs h.0 (all_items P xs h.1)
 
+pub each_both : {A : Type 0} (P Q : A → Type 0) (xs : List A) → Each P xs → Each Q xs → Each (λ x. P x × Q x) xs
+each_both P Q [] h k = tt
+each_both P Q (x ∷ xs) h k = ((h.0, k.0), each_both P Q xs h.1 k.1)
+
+-- the item at a place, and one among the list
+pub each_at_place : {A : Type 0} (P : A → Type 0) (xs : List A) (n : ℕ) (x : A) → Each P xs → slice_get xs n ≡ Some x → P x
+each_at_place P [] n x h e = absurd (none-some x e)
+each_at_place P (y ∷ xs) zero x h e = subst P (same_Some y x e) h.0
+each_at_place P (y ∷ xs) (suc n) x h e = each_at_place P xs n x h.1 e
+
+pub each_at : {A : Type 0} (P : A → Type 0) (xs : List A) (x : A) → Each P xs → Contains xs x → P x
+each_at P xs x h there = All-contains P xs x (all_items P xs h) there
+
 -- ---- lists that are empty
-
-pub nil_front : (a b : List ℕ) → a ++ b ≡ [] → a ≡ []
-nil_front [] b e = refl
-nil_front (x ∷ a) b e = absurd (let k : ⊥ = cc in k)
-
-pub nil_back : (a b : List ℕ) → a ++ b ≡ [] → b ≡ []
-nil_back [] b e = e
-nil_back (x ∷ a) b e = absurd (let k : ⊥ = cc in k)
 
 pub each_nil : {A : Type 0} (f : A → List ℕ) (xs : List A) → flat_map f xs ≡ [] → Each (λ x. f x ≡ []) xs
 each_nil f [] e = tt
 each_nil f (x ∷ xs) e = (nil_front (f x) (flat_map f xs) e, each_nil f xs (nil_back (f x) (flat_map f xs) e))
 
 -- ---- tests that no item passes
-
-or_left : (a b : Bool) → a || b ≡ false → a ≡ false
-or_left true b e = e
-or_left false b e = refl
-
-or_right : (a b : Bool) → a || b ≡ false → b ≡ false
-or_right true b e = absurd (let k : ⊥ = cc in k)
-or_right false b e = e
 
 pub each_false : {A : Type 0} (p : A → Bool) (xs : List A) → list_any p xs ≡ false → Each (λ x. p x ≡ false) xs
 each_false p [] e = tt

@@ -1,5 +1,5 @@
 -- The tables of a block are the block's.
-use Rattle.std.proofs.Common.{◌≡◌, ℕ, ◌<◌, ◌≤◌, Bool, true, false, cond, nat_lt, List, [], ◌∷◌, ◌++◌, map, length, Option, None, Some, zero, suc, Contains, slice_get, find, if◌then◌else◌, refl, sym, ap, ◌∙◌, subst, arith, get_or}
+use Rattle.std.proofs.Common.{◌≡◌, ℕ, ◌<◌, ◌≤◌, nat_lt, List, [], ◌∷◌, ◌++◌, map, length, Option, None, Some, zero, suc, Contains, slice_get, if◌then◌else◌, refl, sym, ap, ◌∙◌, subst, get_or}
 use Rattle.std.specs.List.{flat_map, position_or_len}
 use Rattle.std.specs.Option.{option_map, option_and_then}
 use Rattle.std.proofs.lemmas.List.{append-nil}
@@ -10,15 +10,14 @@ use Rattle.sdl_ast.specs.Views.{signal_of, route_of, process_of}
 use Rattle.sdl_ast.specs.declared.tree.Process as the_process
 use Rattle.sdl_ast.specs.declared.tree.Route as the_route
 use Rattle.sdl_tables.proofs.States.{map-map}
-use Rattle.std.proofs.lemmas.List.Folds.{find_at}
 use Rattle.std.proofs.lemmas.Grind.{flat_map-append}
-use Rattle.std.proofs.lemmas.Bool.Decides.{leb_tells}
 use Rattle.sdl_ast.specs.declared.expression.Identifier.{Identifier}
 use Rattle.sdl_ast.specs.Plain.{PlainSignal, PlainProcess, PlainBlock}
 use Rattle.sdl_tables.specs.Names.{same_name, is_in, names_once, number_of, signal_names, route_names, process_names, signals_of, routes_of, processes_of, signal_named, timers_of}
 use Rattle.sdl_tables.specs.Scopes.{Marks, repeats, process_scopes, shared, signal_timers, double_names}
-use Rattle.sdl_tables.proofs.Tables.{position-map}
-use Rattle.sdl_tables.proofs.Repeats.{append-nil_right, is_in-names_once}
+use Rattle.sdl_tables.proofs.Repeats.{is_in-names_once}
+use Rattle.plain_laws.proofs.Lists.{append-nil_right, not_empty}
+use Rattle.plain_laws.proofs.Searches.{position-map, find-at}
 
 pub flat_map-push : {X : Type 0} (f : X → List ℕ) (xs : List X) (x : X) → flat_map f (xs ++ x ∷ []) ≡ flat_map f xs ++ f x
 flat_map-push f xs x = flat_map-append f xs (x ∷ []) ∙ ap (λ r. flat_map f xs ++ r) (append-nil (f x))
@@ -36,20 +35,11 @@ pub Marks-one : {X : Type 0} (f : X → List ℕ) (xs : List X) (x : X) (one bot
     → ((us vs : List ℕ) → Marks one us → Marks (Some at) vs → Marks both (us ++ vs)) → Marks both (flat_map f (xs ++ x ∷ []))
 Marks-one f xs x one both at m there join = subst (Marks both) (sym (flat_map-push f xs x)) (join (flat_map f xs) (f x) m there)
 
-not_empty : (xs : List ℕ) (at : ℕ) → Contains xs at → xs ≡ [] → ⊥
-not_empty xs at there none =
-    let short : there.0 < 0 = subst (λ (l : List ℕ). there.0 < length l) none there.1 in absurd (omega arith)
-
 pub Marks-some : {X : Type 0} (f : X → List ℕ) (xs : List X) (x : X) (both : Option ℕ) (at : ℕ)
     → Marks both (flat_map f (xs ++ x ∷ [])) → Contains (f x) at → both ≡ None → ⊥
 Marks-some f xs x both at m there e =
     let empty : flat_map f (xs ++ x ∷ []) ≡ [] = subst (λ (o : Option ℕ). Marks o (flat_map f (xs ++ x ∷ []))) e m in
     not_empty (f x) at there (append-nil_right (flat_map f xs) (f x) (sym (flat_map-push f xs x) ∙ empty))
-
-pub find-at : {X : Type 0} (p : X → Bool) (xs : List X) (b : Bool) → nat_lt (position_or_len p xs) (length xs) ≡ b
-    → find p xs ≡ option_and_then (slice_get xs) (cond b (Some (position_or_len p xs)) None)
-find-at p xs true e = find_at p xs
-find-at p xs false e = find_at p xs ∙ slice_get_past xs (position_or_len p xs) (grind (arith, leb_tells, e))
 
 -- the signal with a name is the one with its number
 pub signal-by_number : (b : PlainBlock) (x : List ℕ) → signal_named b x ≡ option_and_then (slice_get (signals_of b)) (number_of (signal_names b) x)

@@ -1,10 +1,10 @@
 -- Numbers of names, and names that are stamped by number.
-use Rattle.std.proofs.Common.{◌≡◌, ℕ, ◌+◌, ◌<◌, ◌≤◌, ◌==◌, Bool, true, false, cond, not, ◌||◌, if◌then◌else◌, List, [], ◌∷◌, ◌++◌, length, map, take, Option, Some, None, position, bytes_eq, refl, sym, ap, ◌∙◌, subst, arith, get_or, set, zero, suc, true≢false}
+use Rattle.std.proofs.Common.{◌≡◌, ℕ, ◌+◌, ◌<◌, ◌≤◌, ◌==◌, Bool, true, false, cond, not, ◌||◌, if◌then◌else◌, List, [], ◌∷◌, ◌++◌, length, map, Option, Some, None, position, bytes_eq, refl, sym, ap, ◌∙◌, subst, arith, get_or, set, zero, suc, true≢false}
 use Rattle.std.specs.Option.{option_map_or}
 use Rattle.std.specs.List.{flat_map, position_from, AllByRecursion}
 use Rattle.std.proofs.lemmas.Iterator.Adapters.{position_from-zero}
 use Rattle.std.proofs.lemmas.List.Folds.{list_any-append}
-use Rattle.std.proofs.lemmas.List.{get_or-set_same, get_or-set_other, length-set, take_more, map-append, append-nil}
+use Rattle.std.proofs.lemmas.List.{get_or-set_same, get_or-set_other, length-set, append-nil}
 use Rattle.std.proofs.lemmas.Grind.{flat_map-append}
 use Rattle.std.proofs.lemmas.Option.{none-some, same_Some, slice_get_past, slice_get_read}
 use Rattle.std.proofs.lemmas.Bool.{or_left, eqb-true, eqb-false, eq-eqb}
@@ -22,10 +22,6 @@ use Rattle.std.specs.Global.{Vec}
 
 -- ---- lists of which each element is so
 
-pub each_push : {X : Type 0} (P : X → Type 0) (xs : List X) (x : X) → AllByRecursion P xs → P x → AllByRecursion P (xs ++ x ∷ [])
-each_push P [] x all one = (one, tt)
-each_push P (y ∷ ys) x all one = (all.0, each_push P ys x all.1 one)
-
 pub each_as : {X : Type 0} (P Q : X → Type 0) → ((x : X) → P x → Q x) → (xs : List X) → AllByRecursion P xs → AllByRecursion Q xs
 each_as P Q turn [] all = tt
 each_as P Q turn (x ∷ xs) all = (turn x all.0, each_as P Q turn xs all.1)
@@ -36,11 +32,6 @@ each_at P (x ∷ xs) zero d all lt = all.0
 each_at P (x ∷ xs) (suc i) d all lt = each_at P xs i d all.1 (omega arith)
 
 -- ---- one element more
-
-pub mapped_more : {A B : Type 0} (f : A → B) (xs : List A) (i : ℕ) (x : A) → i < length xs → x ≡ get_or xs i x
-    → map f (take (i + 1) xs) ≡ map f (take i xs) ++ f x ∷ []
-mapped_more f xs i x lt is =
-    ap (map f) (take_more xs i x lt ∙ ap (λ y. take i xs ++ y ∷ []) (sym is)) ∙ map-append f (take i xs) (x ∷ [])
 
 pub joined_push : {A B : Type 0} (f : A → List B) (xs : List A) (x : A) → flat_map f (xs ++ x ∷ []) ≡ flat_map f xs ++ f x
 joined_push f xs x = flat_map-append f xs (x ∷ []) ∙ ap (λ r. flat_map f xs ++ r) (append-nil (f x))
@@ -106,7 +97,7 @@ new_by : (b : Bool) (k n : ℕ) (old new : Option ℕ) → (old ≡ None → new
 new_by true k n old new more h = absurd (none-some k (sym h))
 new_by false k n old new more h = more h
 
-same_self : (x : List ℕ) → same_name x x ≡ true
+pub same_self : (x : List ℕ) → same_name x x ≡ true
 same_self x = (bytes_eq-Decides (folded x) (folded x)).1 refl
 
 from-new : (k : ℕ) (ids : List Identifier) (id : Identifier) → from k ids id.name ≡ None → from k (ids ++ id ∷ []) id.name ≡ Some (k + length ids)
@@ -254,7 +245,7 @@ numbered_in names parts n v ts lt is items all =
 
 -- ---- names that stand before already
 
-is_in-append : (xs ys : List Identifier) (x : List ℕ) → is_in (xs ++ ys) x ≡ (is_in xs x || is_in ys x)
+pub is_in-append : (xs ys : List Identifier) (x : List ℕ) → is_in (xs ++ ys) x ≡ (is_in xs x || is_in ys x)
 is_in-append xs ys x = list_any-append (λ y. same_name x y.name) xs ys
 
 both_in : (b c : Bool) → (c ≡ true → b ≡ true) → (b || c) ≡ b

@@ -10,17 +10,7 @@ use Rattle.sdl_lex.specs.Spelling.{folded}
 use Rattle.sdl_ast.specs.declared.expression.Identifier.{Identifier}
 use Rattle.sdl_tables.specs.Names.{same_name, is_in, add_name, names_once}
 use Rattle.sdl_tables.specs.Scopes.{repeats, Marks}
-
-cons-nil : (x : ℕ) (xs : List ℕ) → x ∷ xs ≡ [] → ⊥
-cons-nil x xs h = cc
-
-pub append-nil_left : (xs ys : List ℕ) → xs ++ ys ≡ [] → xs ≡ []
-append-nil_left [] ys h = refl
-append-nil_left (x ∷ xs) ys h = absurd (cons-nil x (xs ++ ys) h)
-
-pub append-nil_right : (xs ys : List ℕ) → xs ++ ys ≡ [] → ys ≡ []
-append-nil_right [] ys h = h
-append-nil_right (x ∷ xs) ys h = absurd (cons-nil x (xs ++ ys) h)
+use Rattle.plain_laws.proofs.Lists.{cons-nil, append-nil_left, append-nil_right}
 
 -- a name is among those where one that is the same is
 is_in-same : (ids : List Identifier) (x y : List ℕ) → same_name x y ≡ true → is_in ids x ≡ is_in ids y

@@ -1,24 +1,16 @@
 -- What a table's list and its numbers say of names.
-use Rattle.std.proofs.Common.{◌≡◌, ℕ, Bool, true, false, cond, not, ◌||◌, List, [], ◌∷◌, ◌++◌, length, map, Option, None, Some, is_some, if◌then◌else◌, position, bytes_eq, ◌+◌, refl, sym, ap, ◌∙◌, arith}
+use Rattle.std.proofs.Common.{◌≡◌, ℕ, Bool, true, false, cond, ◌||◌, List, [], ◌∷◌, ◌++◌, length, Option, None, Some, is_some, if◌then◌else◌, position, bytes_eq, ◌+◌, refl, sym, ap, ◌∙◌, arith}
 use Rattle.std.proofs.lemmas.Bool.{or_parts}
 use Rattle.std.proofs.lemmas.Iterator.Adapters.{position_from-zero}
-use Rattle.std.proofs.lemmas.List.{length-map}
 use Rattle.std.proofs.lemmas.Slice.Eq.{bytes_eq-Decides}
 use Rattle.std.specs.BTreeMap.{BTreeMap, get, is_at}
 use Rattle.std.specs.Cmp.Lexicographic.{slice_cmp, texts_ties, nat_list_eq_equiv}
-use Rattle.std.specs.List.{list_any, prefix_len, position_from}
+use Rattle.std.specs.List.{list_any, position_from}
 use Rattle.std.specs.Ordering.{nat_cmp}
 use Rattle.sdl_lex.specs.Spelling.{folded}
 use Rattle.sdl_ast.specs.declared.expression.Identifier.{Identifier}
 use Rattle.sdl_tables.specs.Names.{is_in, add_name}
 use Rattle.sdl_tables.specs.Numbering.{AreNumbers}
-
-prefix_len-map : {A B : Type 0} (t : B → Bool) (f : A → B) (xs : List A) → prefix_len t (map f xs) ≡ prefix_len (λ x. t (f x)) xs
-prefix_len-map t f [] = refl
-prefix_len-map t f (x ∷ xs) = ap (λ r. cond (t (f x)) (1 + r) 0) (prefix_len-map t f xs)
-
-pub position-map : {A B : Type 0} (t : B → Bool) (f : A → B) (xs : List A) → position t (map f xs) ≡ position (λ x. t (f x)) xs
-position-map t f xs = rw (prefix_len-map (λ y. not (t y)) f xs, length-map xs f) refl
 
 -- ---- where a test first passes
 

@@ -24,9 +24,8 @@ use Rattle.sdl_sound.specs.Paths.{Event, reads, sets, tree_events, reads_first, 
 use Rattle.sdl_unset.specs.Flows.{Tells, Does}
 use Rattle.sdl_unset.specs.declared.firsts.Firsts.{Firsts}
 use Rattle.sdl_unset.specs.declared.flow.Flow.{Flow}
-use Rattle.sdl_sound.proofs.Numbered.{same_folded, folded_same, nowhere}
+use Rattle.sdl_sound.proofs.Numbered.{same_folded, folded_same, nowhere, same_back as same_name-sym, same_trans as same_name-trans, later_differs}
 use Rattle.sdl_sound.proofs.Walks.{reads_first-append, sets_in-append}
-use Rattle.sdl_sound.proofs.Named.{same_back as same_name-sym, same_through as same_name-trans, later_differs}
 use Rattle.plain_laws.proofs.Numbers.{most_is_one, least_is_one}
 use Rattle.plain_laws.proofs.Lists.{append-nil_left, append-nil_right}
 

@@ -18,9 +18,9 @@ use Rattle.sdl_unset.specs.declared.walker.Walker.{Walker}
 use Rattle.sdl_unset.proofs.Chancing.{IsBefore, AreRanked, chances-same, by_same}
 use Rattle.sdl_unset.proofs.Ranks.{AreFine, rank_of, number_at, numbered, place_in, place_there, below_all, are_ranked}
 use Rattle.sdl_unset.proofs.Walkers.{stands_same}
-use Rattle.sdl_sound.proofs.Named.{unnumbered as not_named}
 use Rattle.plain_laws.proofs.Places.{there_is}
 use Rattle.plain_laws.proofs.Searches.{position-map}
+use Rattle.sdl_sound.proofs.Numbered.{unnumbered as not_named}
 
 -- what is told when the first i connections of the order have been walked
 abbrev pub told_upto : PlainProcess → List ℕ → ℕ → List ℕ → ℕ → List ℕ → Chances

@@ -24,14 +24,13 @@ use Rattle.sdl_sound.specs.Paths.{Event, reads, sets, tree_events, assignment_ev
 use Rattle.sdl_unset.specs.Graphs.{IsSummaryOf, IsGraphOf}
 use Rattle.sdl_sound.specs.declared.fault.Step.{Step}
 use Rattle.sdl_sound.specs.declared.fault.Step.TheVariants.{Start, Input as Takes}
-use Rattle.sdl_sound.proofs.Numbered.{same_folded, folded_same, number_names}
+use Rattle.sdl_sound.proofs.Numbered.{same_folded, folded_same, number_names, in_alike}
 use Rattle.sdl_sound.specs.PathOrder.{StandsAt}
 use Rattle.sdl_unset.proofs.TextOrder.{IsAt}
 use Rattle.sdl_unset.proofs.PathNames.{input_in_graph}
 use Rattle.sdl_sound.proofs.Items.{Each, each_front, each_back}
 use Rattle.sdl_unset.proofs.Ranks.{HasNone, texts_none, connection_there}
 use Rattle.std.proofs.lemmas.Bool.{and_parts, or_left, or_right, or_cases}
-use Rattle.sdl_sound.proofs.Named.{in_alike}
 use Rattle.plain_laws.proofs.Lists.{test_known as no_place, append-nil_left, append-nil_right}
 use Rattle.plain_laws.proofs.Places.{among_at, at_among}
 

@@ -22,7 +22,7 @@ use Rattle.sdl_sound.specs.Paths.{ReadsUnset, IsShortest, AreLonger, IsFirstWith
 use Rattle.sdl_unset.specs.Surveys.{IsUnset}
 use Rattle.sdl_unset.specs.declared.settled.Unset.{Unset}
 use Rattle.sdl_sound.specs.declared.fault.Limit.TheVariants.{Processes, States, Variables, Timers, Signals, Params, Pieces}
-use Rattle.sdl_sound.proofs.Repeats.{append-nil_right}
+use Rattle.plain_laws.proofs.Lists.{append-nil_right}
 use Rattle.sdl_unset.proofs.Numbers.{none_at, numbered_path}
 use Rattle.sdl_unset.proofs.TextOrder.{all_named, not_after_names}
 use Rattle.unset_paths.specs.Order.{NotAfter}

@@ -19,6 +19,7 @@ use Rattle.sdl_unset.specs.declared.walker.Walker.{Walker}
 use Rattle.sdl_unset.proofs.Bits.{has_and, has_or, has_none, has_all}
 use Rattle.std.proofs.Math.Bool.{and_assoc, or_assoc, and-false as and_false, and-true as and_true}
 use Rattle.plain_laws.proofs.Options.{some_of as through}
+use Rattle.sdl_ast.proofs.Views.{all_before-more as before-append, all_answers-more as answers-append}
 
 -- ---- masks
 
@@ -286,10 +287,6 @@ statements_then states told x q (s ∷ ss) rest =
     ∙ (ap (behind one) (statements_then states told x q ss rest)
     ∙ (sym (behind_behind one some r) ∙ ap (λ u. behind u r) (sym (statement_then states told x q s (all_before ss falls)))))
 
-before-append : (xs : List PlainStatement) (s : PlainStatement) (rest : Text) → all_before (xs ++ s ∷ []) rest ≡ all_before xs (before s rest)
-before-append [] s rest = refl
-before-append (x ∷ xs) s rest = ap (before x) (before-append xs s rest)
-
 pub statements_more : (states : List Identifier) (told : List ℕ → Chances) (x : List ℕ) (q : ℕ) (ss : List PlainStatement) (s : PlainStatement)
     → chances states told x q (all_before (ss ++ s ∷ []) falls) ≡ behind (chances states told x q (all_before ss falls)) (chances states told x q (before s falls))
 statements_more states told x q ss s = ap (chances states told x q) (before-append ss s falls) ∙ statements_then states told x q ss (before s falls)
@@ -301,10 +298,6 @@ answers_then states told x q (a ∷ list) others =
     let one = chances states told x q a.text in
     ap (beside one) (answers_then states told x q list others)
     ∙ sym (beside_beside one (choice_chances states told x q (all_answers list nothing_else)) (choice_chances states told x q others))
-
-answers-append : (xs : List PlainAnswer) (a : PlainAnswer) (others : Choice) → all_answers (xs ++ a ∷ []) others ≡ all_answers xs (answer a.at a.ranges a.text others)
-answers-append [] a others = refl
-answers-append (x ∷ xs) a others = ap (answer x.at x.ranges x.text) (answers-append xs a others)
 
 pub answers_more : (states : List Identifier) (told : List ℕ → Chances) (x : List ℕ) (q : ℕ) (list : List PlainAnswer) (a : PlainAnswer)
     → choice_chances states told x q (all_answers (list ++ a ∷ []) nothing_else)

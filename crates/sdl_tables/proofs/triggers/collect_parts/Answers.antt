@@ -9,8 +9,9 @@ use Rattle.sdl_ast.specs.declared.expression.Identifier.{Identifier}
 use Rattle.sdl_tables.specs.Names.{given_to, part_triggers}
 use Rattle.sdl_tables.specs.Rows.{row_at}
 use Rattle.sdl_tables.specs.Triggers.{taken_in, AreTaken}
-use Rattle.sdl_tables.proofs.Numbers.{mapped_more, joined_push, given_as}
+use Rattle.sdl_tables.proofs.Numbers.{joined_push, given_as}
 use Rattle.sdl_tables.proofs.triggers.collect_parts.Goals as goal
+use Rattle.plain_laws.proofs.Lists.{mapped_more}
 
 -- one part more
 part_more : (of_part : ℕ → List Identifier) (parts : List StatePart) (i : ℕ) (part : StatePart) (states : List Identifier) (s : ℕ) (now old : List Identifier)

@@ -3,8 +3,8 @@ use Rattle.std.specs.List.{flat_map}
 use Rattle.std.proofs.lemmas.List.Elements.{Contains-append_left}
 use Rattle.sdl_tables.specs.Scopes.{Marks, repeats}
 use Rattle.sdl_tables.specs.Triggers.{taken_by}
-use Rattle.sdl_tables.proofs.Repeats.{append-nil_right}
 use Rattle.sdl_tables.proofs.triggers.next_double.Goals as goal
+use Rattle.plain_laws.proofs.Lists.{append-nil_right}
 
 -- the same places once more
 again : (double : Option ℕ) (xs ys : List ℕ) → Marks double (xs ++ ys) → Marks double ((xs ++ ys) ++ ys)

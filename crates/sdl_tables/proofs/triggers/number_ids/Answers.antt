@@ -3,8 +3,9 @@ use Rattle.std.specs.List.{AllByRecursion}
 use Rattle.std.proofs.lemmas.List.{take_more, map-append}
 use Rattle.sdl_tables.specs.Triggers.{IsNumbered}
 use Rattle.sdl_tables.specs.declared.triggers.Trigger.{Trigger}
-use Rattle.sdl_tables.proofs.Numbers.{each_push, still_numbered, keeps_all}
+use Rattle.sdl_tables.proofs.Numbers.{still_numbered, keeps_all}
 use Rattle.sdl_tables.proofs.triggers.number_ids.Goals as goal
+use Rattle.plain_laws.proofs.Lists.{each_push}
 
 pub loop-id-preserved : goal.loop-id-preserved
 loop-id-preserved c =

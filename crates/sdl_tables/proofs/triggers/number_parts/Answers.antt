@@ -6,8 +6,9 @@ use Rattle.sdl_ast.specs.Views.{state_of}
 use Rattle.sdl_tables.specs.Names.{part_triggers}
 use Rattle.sdl_tables.specs.Triggers.{trigger_ids, IsNumbered, AreNumbered}
 use Rattle.sdl_tables.specs.declared.triggers.Trigger.{Trigger}
-use Rattle.sdl_tables.proofs.Numbers.{each_push, all_numbered, mapped_more}
+use Rattle.sdl_tables.proofs.Numbers.{all_numbered}
 use Rattle.sdl_tables.proofs.triggers.number_parts.Goals as goal
+use Rattle.plain_laws.proofs.Lists.{each_push, mapped_more}
 
 pub loop-part-preserved : goal.loop-part-preserved
 loop-part-preserved c =

@@ -4,8 +4,9 @@ use Rattle.std.specs.List.{flat_map}
 use Rattle.sdl_ast.specs.declared.expression.Identifier.{Identifier}
 use Rattle.sdl_tables.specs.Scopes.{Marks, repeats}
 use Rattle.sdl_tables.specs.Triggers.{taken_by, taken_in}
-use Rattle.sdl_tables.proofs.Numbers.{mapped_more, joined_push, stamped_fresh}
+use Rattle.sdl_tables.proofs.Numbers.{joined_push, stamped_fresh}
 use Rattle.sdl_tables.proofs.triggers.rows_double.Goals as goal
+use Rattle.plain_laws.proofs.Lists.{mapped_more}
 
 -- one state more
 state_more : (told : ℕ → List Identifier) (rows : List (Vec ℕ)) (i : ℕ) (v : Vec ℕ) (numbers : List ℕ) → i < length rows → v ≡ get_or rows i v → numbers ≡ v.items

@@ -5,8 +5,9 @@ use Rattle.sdl_ast.specs.declared.expression.Identifier.{Identifier}
 use Rattle.sdl_tables.specs.Scopes.{Marks, repeats}
 use Rattle.sdl_tables.specs.Triggers.{IsNumbered, Stamped}
 use Rattle.sdl_tables.specs.declared.triggers.Trigger.{Trigger}
-use Rattle.sdl_tables.proofs.Numbers.{each_at, mapped_more, marked_more}
+use Rattle.sdl_tables.proofs.Numbers.{each_at, marked_more}
 use Rattle.sdl_tables.proofs.triggers.stamp_part.Goals as goal
+use Rattle.plain_laws.proofs.Lists.{mapped_more}
 
 numbered_at : (names : List Identifier) (ts : List Trigger) (i : ℕ) (t : Trigger) → i < length ts → t ≡ get_or ts i t → AllByRecursion (IsNumbered names) ts → IsNumbered names t
 numbered_at names ts i t lt is all = subst (IsNumbered names) (sym is) (each_at (IsNumbered names) ts i t all lt)

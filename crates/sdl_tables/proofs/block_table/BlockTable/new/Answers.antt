@@ -9,9 +9,10 @@ use Rattle.sdl_ast.specs.Plain.{PlainRoute}
 use Rattle.sdl_tables.specs.RouteIndexes.{mentions_of, Indexes}
 use Rattle.sdl_tables.specs.Scopes.{Marks, repeats, process_scopes, shared, signal_timers, double_names}
 use Rattle.sdl_tables.proofs.States.{map-map}
-use Rattle.sdl_tables.proofs.Repeats.{names_once-distinct, append-nil_left, append-nil_right}
+use Rattle.sdl_tables.proofs.Repeats.{names_once-distinct}
 use Rattle.sdl_tables.proofs.BlockLemmas.{Marks-block, timers-inside, Marks-none, inside-processes, signal_ids-of_rows, route_ids-of_rows, process_ids-of_rows}
 use Rattle.sdl_tables.proofs.block_table.BlockTable.new.Goals as goal
+use Rattle.plain_laws.proofs.Lists.{append-nil_left, append-nil_right}
 
 abbrev twice : Bor the_process.Process → List ℕ
 twice p = flat_map (repeats []) (process_scopes (process_of p.now))

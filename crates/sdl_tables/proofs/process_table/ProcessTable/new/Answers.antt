@@ -8,8 +8,9 @@ use Rattle.sdl_tables.specs.Tables.{HasDeclared, HasStanding}
 use Rattle.sdl_tables.specs.declared.process_table.Declared.{Declared}
 use Rattle.sdl_tables.specs.declared.process_table.Standing.{Standing}
 use Rattle.sdl_tables.proofs.ProcessTables.{scopes_are}
-use Rattle.sdl_tables.proofs.Repeats.{names_once-distinct, append-nil_left, append-nil_right}
+use Rattle.sdl_tables.proofs.Repeats.{names_once-distinct}
 use Rattle.sdl_tables.proofs.process_table.ProcessTable.new.Goals as goal
+use Rattle.plain_laws.proofs.Lists.{append-nil_left, append-nil_right}
 
 -- a place of a name that is there twice, of either kind
 marked : (p : PlainProcess) (d : Declared) (t : Standing) (place : Option ℕ) → HasDeclared p d → HasStanding p t
