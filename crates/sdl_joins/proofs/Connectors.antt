@@ -1,16 +1,15 @@
 -- Connections by name and by number.
-use Rattle.std.proofs.Common.{◌≡◌, ◌≢◌, ℕ, zero, suc, ◌+◌, ◌<◌, ◌≤◌, Bool, true, false, ◌||◌, if◌then◌else◌, List, [], ◌∷◌, ◌++◌, length, cond, map, refl, ap, sym, ◌∙◌, subst, arith, inl, inr, Option, Some, None, get_or, position, true≢false}
-use Rattle.std.specs.Prelude.{slice_get, Contains, nat_eq, find, option_to_list, bytes_eq}
+use Rattle.std.proofs.Common.{◌≡◌, ◌≢◌, ℕ, zero, suc, ◌+◌, ◌<◌, ◌≤◌, Bool, true, false, ◌||◌, if◌then◌else◌, List, [], ◌∷◌, ◌++◌, length, cond, map, refl, ap, sym, ◌∙◌, subst, arith, inl, inr, Option, Some, None, get_or, true≢false}
+use Rattle.std.specs.Prelude.{slice_get, Contains, nat_eq, find, option_to_list}
 use Rattle.std.specs.List.{list_any, flat_map}
 use Rattle.std.specs.Option.{option_map, option_map_or}
-use Rattle.std.proofs.lemmas.Bool.{cases_order, cases_Bool, or_parts, eqb-true, eq-eqb}
+use Rattle.std.proofs.lemmas.Bool.{cases_order, cases_Bool, eqb-true, eq-eqb}
 use Rattle.std.proofs.lemmas.List.{length-map}
 use Rattle.std.proofs.lemmas.List.Folds.{list_any-append}
 use Rattle.std.proofs.lemmas.List.Elements.{Contains-append_left, Contains-append_right, Contains-append_cases, Contains-push}
 use Rattle.std.proofs.lemmas.List.Quantifiers.{position-Some}
 use Rattle.std.proofs.lemmas.Option.{slice_get_within, slice_get-get_or, slice_get-map, get_or_from_slice_get}
 use Rattle.std.proofs.Math.Bool.{or-false}
-use Rattle.sdl_lex.specs.Spelling.{folded}
 use Rattle.sdl_ast.specs.declared.expression.Identifier.{Identifier}
 use Rattle.sdl_ast.specs.declared.tree.Join.{Join}
 use Rattle.sdl_ast.specs.Plain.{Text, PlainConnection, PlainProcess}
@@ -21,16 +20,13 @@ use Rattle.sdl_sound.specs.Joins.{joins_at, comes_by, comes, reaches, comes_back
 use Rattle.sdl_joins.specs.Links.{nexts, goes_by, goes, any_goes, IsOrderOf, Returns}
 use Rattle.sdl_sound.specs.Orders.{targets_of, links_of, IsOrder}
 use Rattle.sdl_joins.specs.Searched.{AreMarks}
-use Rattle.sdl_sound.proofs.Lists.{at_among, get_one}
+use Rattle.sdl_sound.proofs.Lists.{get_one}
 use Rattle.sdl_joins.proofs.Ways.{goes_cases}
-use Rattle.sdl_sound.proofs.Repeats.{append-nil_left, append-nil_right}
-use Rattle.sdl_sound.proofs.Numbered.{same_folded, folded_same, name_back, some_number, nowhere}
+use Rattle.sdl_sound.proofs.Numbered.{folded_same, name_back, some_number, number_alike as one_number, unnumbered, later_differs}
+use Rattle.plain_laws.proofs.Places.{at_among, no_place}
+use Rattle.plain_laws.proofs.Lists.{append-nil_left, append-nil_right}
 
 -- ---- names
-
--- two spellings of one name have one number
-one_number : (ids : List Identifier) (x y : List ℕ) → same_name x y ≡ true → number_of ids x ≡ number_of ids y
-one_number ids x y h = ap (λ (f : List ℕ). position (λ (id : Identifier). bytes_eq f (folded id.name)) ids) (same_folded x y h)
 
 same_number : (ids : List Identifier) (x y : List ℕ) (n m : ℕ) → number_of ids y ≡ Some n → number_of ids x ≡ Some m → same_name x y ≡ nat_eq n m
 same_number ids x y n m at_y at_x = elim (cases_Bool (same_name x y)) [
@@ -67,15 +63,6 @@ find_first p (y ∷ xs) zero x e h none =
 find_first p (y ∷ xs) (suc n) x e h none =
     ap (λ b. cond b (Some y) (find p xs)) (none 0 (omega arith)) ∙ find_first p xs n x e h (λ k less. none (suc k) (omega (arith, less)))
 
-find_none : {A : Type 0} (p : A → Bool) (xs : List A) → ((k : ℕ) (x : A) → slice_get xs k ≡ Some x → p x ≡ false) → find p xs ≡ None
-find_none p [] h = refl
-find_none p (x ∷ xs) h = ap (λ b. cond b (Some x) (find p xs)) (h 0 x refl) ∙ find_none p xs (λ k. h (suc k))
-
-no_place : {A : Type 0} (xs : List A) (n : ℕ) → n < length xs → slice_get xs n ≡ None → ⊥
-no_place [] n within e = omega (arith, within)
-no_place (x ∷ xs) zero within e = let bad : Some x ≡ None = e in cc
-no_place (x ∷ xs) (suc n) within e = no_place xs n (omega (arith, within)) e
-
 -- the connection with a name that has a number
 pub record IsNumbered (p : PlainProcess) (y : List ℕ) (n : ℕ) : Type 0 where
   pub connection : PlainConnection
@@ -106,10 +93,6 @@ numbered p y n e =
     let first : n < length (connector_names p) = (position-Some (λ (id : Identifier). same_name y id.name) (connector_names p) n (record { at = 0; name = [] }) e).0 in
     let within : n < length p.connections = omega (arith, first, length-map p.connections (λ c. c.name)) in
     numbered_at p y n (slice_get p.connections n) refl within e
-
-pub unnumbered : (p : PlainProcess) (y : List ℕ) → number_of (connector_names p) y ≡ None → connection_named p y ≡ None
-unnumbered p y e = find_none (λ c. same_name y c.name.name) p.connections (λ k c there.
-    nowhere (connector_names p) y k c.name e (slice_get-map (λ (c : PlainConnection). c.name) p.connections k ∙ ap (option_map (λ (c : PlainConnection). c.name)) there))
 
 -- ---- ways by names and by numbers
 
@@ -177,26 +160,6 @@ reaches_is p t x m at_x =
     any_joins p (λ y. comes p y x) (λ n. goes (links_of p) n m) (joins_of t) (λ y n at. comes_is p x y n m at at_x) (λ y none. comes_none p x y m none at_x)
 
 -- ---- where no name is there twice
-
-no_mark : (b : Bool) (at : ℕ) → (if b then at ∷ [] else []) ≡ [] → b ≡ false
-no_mark true at h = absurd (cc)
-no_mark false at h = refl
-
-fresh : (before ids : List Identifier) (j : ℕ) (b : Identifier) → repeats before ids ≡ [] → slice_get ids j ≡ Some b → is_in before b.name ≡ false
-fresh before [] j b h there = let bad : None ≡ Some b = there in absurd (cc)
-fresh before (id ∷ ids) zero b h there =
-    let is : Some id ≡ Some b = there in
-    let e : id ≡ b = cc in
-    subst (λ (u : Identifier). is_in before u.name ≡ false) e (no_mark (is_in before id.name) id.at (append-nil_left _ _ h))
-fresh before (id ∷ ids) (suc j) b h there =
-    let later : is_in (before ++ id ∷ []) b.name ≡ false = fresh (before ++ id ∷ []) ids j b (append-nil_right _ _ h) there in
-    (or_parts (is_in before b.name) (is_in (id ∷ []) b.name) (sym (list_any-append (λ i. same_name b.name i.name) before (id ∷ [])) ∙ later)).0
-
-later_differs : (before ids : List Identifier) (id b : Identifier) (j : ℕ) → repeats (before ++ id ∷ []) ids ≡ [] → slice_get ids j ≡ Some b → same_name b.name id.name ≡ false
-later_differs before ids id b j h there =
-    let later : is_in (before ++ id ∷ []) b.name ≡ false = fresh (before ++ id ∷ []) ids j b h there in
-    (or_parts (same_name b.name id.name) false
-    (or_parts (is_in before b.name) (is_in (id ∷ []) b.name) (sym (list_any-append (λ i. same_name b.name i.name) before (id ∷ [])) ∙ later)).1).0
 
 one_place : (before ids : List Identifier) (i j : ℕ) (a b : Identifier) → repeats before ids ≡ []
     → slice_get ids i ≡ Some a → slice_get ids j ≡ Some b → i < j → same_name b.name a.name ≡ false
@@ -346,21 +309,13 @@ no_cycles p order distinct is = nothing_from (connection_cycles p) p.connections
     nothing_from (comes_back p c) (joins_of c.text) (λ j here.
     ap (λ b. if b then j.at ∷ [] else []) (no_return p order at.0 c j (number_of (connector_names p) j.connector.name) distinct is at.1 here refl)))
 
-nil_left : {B : Type 0} (xs ys : List B) → xs ++ ys ≡ [] → xs ≡ []
-nil_left [] ys h = refl
-nil_left (x ∷ xs) ys h = absurd (cc)
-
-nil_right : {B : Type 0} (xs ys : List B) → xs ++ ys ≡ [] → ys ≡ []
-nil_right [] ys h = h
-nil_right (x ∷ xs) ys h = absurd (cc)
-
 nothing_there : {A B : Type 0} (f : A → List B) (xs : List A) (i : ℕ) (x : A) → flat_map f xs ≡ [] → slice_get xs i ≡ Some x → f x ≡ []
 nothing_there f [] i x none there = let bad : None ≡ Some x = there in absurd (cc)
 nothing_there f (y ∷ xs) zero x none there =
     let is : Some y ≡ Some x = there in
     let same : y ≡ x = cc in
-    subst (λ z. f z ≡ []) same (nil_left (f y) (flat_map f xs) none)
-nothing_there f (y ∷ xs) (suc i) x none there = nothing_there f xs i x (nil_right (f y) (flat_map f xs) none) there
+    subst (λ z. f z ≡ []) same (append-nil_left (f y) (flat_map f xs) none)
+nothing_there f (y ∷ xs) (suc i) x none there = nothing_there f xs i x (append-nil_right (f y) (flat_map f xs) none) there
 
 some_cycle_at : (p : PlainProcess) (n : ℕ) (o : Option PlainConnection) → repeats [] (connector_names p) ≡ [] → Returns (links_of p) n → slice_get p.connections n ≡ o
     → process_cycles p ≡ [] → ⊥

@@ -9,8 +9,9 @@ use Rattle.std.specs.Global.{Vec}
 use Rattle.std.proofs.lemmas.Option.{slice_get_within, slice_get-map}
 use Rattle.sdl_joins.specs.Links.{nexts, goes_by, goes, any_goes, IsGraph, graph_in}
 use Rattle.sdl_joins.specs.Searched.{IsMarked, unmarked, AreFound, Finds, Follows, AreMarks}
-use Rattle.sdl_sound.proofs.Lists.{get_set_same, get_set_other, get_set_cases, get_one, any_at, at_any, among_at, at_among}
+use Rattle.sdl_sound.proofs.Lists.{get_set_cases, get_one, any_at, at_any}
 use Rattle.sdl_joins.proofs.Ways.{goes_cases, goes_last}
+use Rattle.plain_laws.proofs.Places.{get_set_same, get_set_other, among_at, at_among}
 
 unmarked_set : (marks : List Bool) (k : ℕ) → slice_get marks k ≡ Some false → suc (unmarked (slice_set marks k true)) ≡ unmarked marks
 unfolding unmarked

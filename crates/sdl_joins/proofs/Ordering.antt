@@ -10,8 +10,10 @@ use Rattle.sdl_joins.specs.Searched.{is_new, is_done, unseen, IsSearch, StandsIn
 use Rattle.sdl_joins.specs.declared.graph.Mark.{Mark}
 use Rattle.sdl_joins.specs.declared.graph.Mark.TheVariants.{New, Open, Done}
 use Rattle.sdl_joins.specs.declared.graph.Frame.{Frame}
-use Rattle.sdl_sound.proofs.Lists.{get_set_same, get_set_other, get_set_cases, get_push_old, get_push_new, get_push_cases, get_take, take_get, get_one, among_at, at_among}
+use Rattle.sdl_sound.proofs.Lists.{get_set_cases, get_push_old, get_push_cases, get_take, take_get, get_one}
 use Rattle.sdl_joins.proofs.Ways.{goes_itself, goes_first, goes_last}
+use Rattle.plain_laws.proofs.Places.{get_set_same, get_set_other, among_at, at_among, last_at as get_push_new}
+use Rattle.plain_laws.proofs.Options.{none_some as none_at}
 
 -- ---- counts
 
@@ -382,9 +384,6 @@ unseen_all : (k : ℕ) → unseen (replicate k New) ≡ k
 unfolding unseen
 unseen_all zero = refl
 unseen_all (suc k) = ap suc (unseen_all k)
-
-none_at : {A : Type 0} {x : A} → None ≡ Some x → ⊥
-none_at e = cc
 
 -- before a search
 pub search_none : (g : List (List ℕ)) (k : ℕ) → k ≡ length g → IsSearch g (replicate k New) [] []

@@ -16,7 +16,8 @@ use Rattle.sdl_joins.specs.Links.{goes}
 use Rattle.sdl_sound.specs.Orders.{links_of, IsOrder, IsOrdered, AreOrders}
 use Rattle.sdl_joins.specs.Searched.{AreMarks}
 use Rattle.sdl_joins.proofs.Connectors.{comes_is, comes_none}
-use Rattle.sdl_sound.proofs.Lists.{zip_push}
+use Rattle.plain_laws.proofs.Pairwise.{zip_push}
+use Rattle.plain_laws.proofs.Lists.{append-nil_right as nil_of, not_empty as empty_not}
 
 pub one_within : (t n : ℕ) → t < n → All (λ s. s < n) (t ∷ [])
 one_within t n h = All-push (λ s. s < n) [] t (λ i d no. absurd (omega (arith, no))) h
@@ -76,13 +77,6 @@ marks_found (Some at) places h = h
 found_marks : (place : Option ℕ) (places : List ℕ) → IfSome place (Contains places) → (place ≡ None → places ≡ []) → Marks place places
 found_marks None places found none = none refl
 found_marks (Some at) places found none = found
-
-nil_of : (xs ys : List ℕ) → xs ++ ys ≡ [] → ys ≡ []
-nil_of [] ys h = h
-nil_of (x ∷ xs) ys h = absurd (cc)
-
-empty_not : (xs : List ℕ) (x : ℕ) → Contains xs x → xs ≡ [] → ⊥
-empty_not xs x among e = let bad : Contains [] x = subst (λ (l : List ℕ). Contains l x) e among in omega (arith, bad.1)
 
 not_none : (o : Option ℕ) (places : List ℕ) → Marks o places → (places ≡ [] → ⊥) → o ≡ None → ⊥
 not_none o places marks some e = some (subst (λ (o : Option ℕ). Marks o places) e marks)

@@ -7,7 +7,7 @@ use Rattle.sdl_ast.specs.declared.tree.Answer.{Answer}
 use Rattle.sdl_ast.specs.declared.tree.Transition.{Transition}
 use Rattle.sdl_ast.specs.Views.{text_of, answers_before, else_choice}
 use Rattle.sdl_sound.specs.Decisions.{has_else, names_value, times_named, has_values}
-use Rattle.sdl_sound.proofs.Views.{answer_of-is}
+use Rattle.sdl_ast.proofs.Views.{answer_of-is}
 
 else-others : (o : Option Transition) → has_else (else_choice o) ≡ is_some o
 else-others None = refl

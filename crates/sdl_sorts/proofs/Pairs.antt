@@ -1,31 +1,17 @@
 -- The sort of the variable with a name, and pairs of what stands at one place of two lists.
-use Rattle.std.proofs.Common.{◌≡◌, ℕ, zero, suc, ◌+◌, ◌<◌, ◌≤◌, Bool, true, false, cond, nat_lt, List, [], ◌∷◌, ◌++◌, map, length, take, zip, Option, None, Some, slice_get, find, get_or, refl, sym, ap, ◌∙◌, arith}
-use Rattle.std.specs.List.{flat_map, position_or_len, prefix_len}
+use Rattle.std.proofs.Common.{◌≡◌, ℕ, zero, suc, ◌+◌, ◌<◌, ◌≤◌, nat_lt, List, [], ◌∷◌, ◌++◌, map, length, take, zip, Option, None, Some, slice_get, find, get_or, refl, sym, ap, ◌∙◌, arith}
+use Rattle.std.specs.List.{flat_map, position_or_len}
 use Rattle.std.specs.Option.{option_map, option_map_or, option_and_then}
-use Rattle.std.specs.Prelude.{position, not}
 use Rattle.std.proofs.lemmas.List.{append-nil, length-map, map-append, take_more}
-use Rattle.std.proofs.lemmas.List.Folds.{find_at}
 use Rattle.std.proofs.lemmas.Option.{slice_get_past, slice_get-get_or}
 use Rattle.std.proofs.lemmas.Grind.{flat_map-append}
-use Rattle.std.proofs.lemmas.Bool.Decides.{leb_tells}
 use Rattle.sdl_ast.specs.declared.expression.Identifier.{Identifier}
 use Rattle.sdl_tables.specs.Names.{same_name, number_of, Variable}
 use Rattle.sdl_tables.specs.Rows.{variable_of}
 use Rattle.sdl_tables.specs.declared.process_table.Variable as row
 use Rattle.sdl_sound.specs.Sorts.{variable_sort}
 use Rattle.std.proofs.lemmas.Option.{slice_get-map}
-
-find-at : {X : Type 0} (p : X → Bool) (xs : List X) (b : Bool) → nat_lt (position_or_len p xs) (length xs) ≡ b
-    → find p xs ≡ option_and_then (slice_get xs) (cond b (Some (position_or_len p xs)) None)
-find-at p xs true e = find_at p xs
-find-at p xs false e = find_at p xs ∙ slice_get_past xs (position_or_len p xs) (grind (arith, leb_tells, e))
-
-prefix_len-map : {A B : Type 0} (t : B → Bool) (f : A → B) (xs : List A) → prefix_len t (map f xs) ≡ prefix_len (λ x. t (f x)) xs
-prefix_len-map t f [] = refl
-prefix_len-map t f (x ∷ xs) = ap (λ r. cond (t (f x)) (1 + r) 0) (prefix_len-map t f xs)
-
-position-map : {A B : Type 0} (t : B → Bool) (f : A → B) (xs : List A) → position t (map f xs) ≡ position (λ x. t (f x)) xs
-position-map t f xs = rw (prefix_len-map (λ y. not (t y)) f xs, length-map xs f) refl
+use Rattle.plain_laws.proofs.Searches.{find-at, position-map}
 
 -- the variable with a name is the one with its number
 by_number : (vs : List Variable) (x : List ℕ) (ids : List Identifier) → ids ≡ map (λ v. v.name) vs

@@ -4,10 +4,10 @@ use Rattle.std.specs.Prelude.{slice_get, Contains, All}
 use Rattle.std.proofs.lemmas.Option.{slice_get_read, slice_get_within}
 use Rattle.sdl_joins.specs.Links.{nexts, goes, graph_in}
 use Rattle.sdl_joins.specs.Searched.{IsMarked, AreFound, Finds}
-use Rattle.sdl_sound.proofs.Lists.{among_at}
 use Rattle.sdl_joins.proofs.Ways.{goes_itself}
 use Rattle.sdl_joins.proofs.Marking.{followed_more, reached_more, follows_all, nexts_within, longer}
 use Rattle.sdl_joins.proofs.graph.follow.Goals as goal
+use Rattle.plain_laws.proofs.Places.{among_at}
 
 pub loop-next-init : goal.loop-next-init
 loop-next-init c = record {

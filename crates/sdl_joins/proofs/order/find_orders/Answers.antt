@@ -2,9 +2,9 @@ use Rattle.std.proofs.Common.{◌≡◌, ◌+◌, ◌++◌, ◌∷◌, [], ℕ, 
 use Rattle.sdl_ast.specs.Views.{process_of}
 use Rattle.sdl_sound.specs.Orders.{IsOrdered}
 use Rattle.sdl_joins.proofs.Returning.{SoFar, so_far_order, so_far_back}
-use Rattle.sdl_sound.proofs.Lists.{mapped_more}
 use Rattle.sdl_joins.proofs.order.find_orders.Goals as goal
 use Rattle.sdl_joins.proofs.order.find_orders.Goals.{in-Ok+in_ok-push-in-Ok, in-Err}
+use Rattle.plain_laws.proofs.Lists.{mapped_more}
 
 pub loop-process-preserved : goal.loop-process-preserved
 loop-process-preserved c =
