@@ -11,6 +11,7 @@ pub mod Longest
 pub mod Names
 pub mod Orders
 pub mod Parts
+pub mod PathOrder
 pub mod Paths
 pub mod Printed
 pub mod Receivers

@@ -8,7 +8,7 @@ use Rattle.std.proofs.lemmas.Bool.{cases_eq, cases_Bool, or_parts, lt-ltb}
 use Rattle.std.proofs.lemmas.List.Folds.{list_any-append}
 use Rattle.std.proofs.lemmas.List.{map-append}
 use Rattle.std.proofs.lemmas.List.Quantifiers.{position-Some}
-use Rattle.std.proofs.Math.Bool.{or-false}
+use Rattle.std.proofs.Math.Bool.{or-false, and-false as and_false}
 use Rattle.std.proofs.Math.Nat.{one-mul, mod-eq_of_lt}
 use Rattle.std.proofs.Math.Pow.{pow-lt}
 use Rattle.std.proofs.lemmas.Option.{get_or_from_slice_get, slice_get-get_or}
@@ -24,28 +24,12 @@ use Rattle.sdl_sound.specs.Paths.{Event, reads, sets, tree_events, reads_first, 
 use Rattle.sdl_unset.specs.Flows.{Tells, Does}
 use Rattle.sdl_unset.specs.declared.firsts.Firsts.{Firsts}
 use Rattle.sdl_unset.specs.declared.flow.Flow.{Flow}
-use Rattle.sdl_sound.proofs.Repeats.{append-nil_left, append-nil_right}
-use Rattle.sdl_sound.proofs.Numbered.{same_folded, folded_same}
+use Rattle.sdl_sound.proofs.Numbered.{same_folded, folded_same, nowhere, same_back as same_name-sym, same_trans as same_name-trans, later_differs}
+use Rattle.sdl_sound.proofs.Walks.{reads_first-append, sets_in-append}
+use Rattle.plain_laws.proofs.Numbers.{most_is_one, least_is_one}
+use Rattle.plain_laws.proofs.Lists.{append-nil_left, append-nil_right}
 
 -- ---- bits
-
-least_is_one : (m n : ℕ) → m < 2 → n < 2 → eqb (min m n) 1 ≡ (eqb m 1 && eqb n 1)
-least_is_one zero zero p q = refl
-least_is_one zero (suc zero) p q = refl
-least_is_one zero (suc (suc n)) p q = absurd (omega arith)
-least_is_one (suc zero) zero p q = refl
-least_is_one (suc zero) (suc zero) p q = refl
-least_is_one (suc zero) (suc (suc n)) p q = absurd (omega arith)
-least_is_one (suc (suc m)) n p q = absurd (omega arith)
-
-most_is_one : (m n : ℕ) → m < 2 → n < 2 → eqb (max m n) 1 ≡ (eqb m 1 || eqb n 1)
-most_is_one zero zero p q = refl
-most_is_one zero (suc zero) p q = refl
-most_is_one zero (suc (suc n)) p q = absurd (omega arith)
-most_is_one (suc zero) zero p q = refl
-most_is_one (suc zero) (suc zero) p q = refl
-most_is_one (suc zero) (suc (suc n)) p q = absurd (omega arith)
-most_is_one (suc (suc m)) n p q = absurd (omega arith)
 
 rest_is_one : (m : ℕ) → m < 2 → eqb (1 - m) 1 ≡ not (eqb m 1)
 rest_is_one zero p = refl
@@ -82,43 +66,9 @@ has_other k v ne = ap (λ n. eqb n 1) (bit_at-pow_other k v ne)
 
 -- ---- events one after another
 
-or_assoc : (a b c : Bool) → ((a || b) || c) ≡ (a || (b || c))
-or_assoc true b c = refl
-or_assoc false b c = refl
-
--- where x is set now, nothing later reads it unset
-set_now : (s r t q u : Bool) → u ≡ (r || (not t && q)) → (not s && u) ≡ ((not s && r) || (not (s || t) && q))
-set_now true r t q u h = refl
-set_now false r t q u h = h
-
-pub reads_first-append : (xs ys : List Event) (x : List ℕ) → reads_first (xs ++ ys) x ≡ (reads_first xs x || (not (sets_in xs x) && reads_first ys x))
-reads_first-append [] ys x = refl
-reads_first-append (reads y ∷ xs) ys x =
-    ap (λ r. same_name x y || r) (reads_first-append xs ys x)
-    ∙ sym (or_assoc (same_name x y) (reads_first xs x) (not (sets_in xs x) && reads_first ys x))
-reads_first-append (sets y ∷ xs) ys x =
-    set_now (same_name x y) (reads_first xs x) (sets_in xs x) (reads_first ys x) (reads_first (xs ++ ys) x) (reads_first-append xs ys x)
-
 neither : (s t u : Bool) → not t ≡ u → not (s || t) ≡ (not s && u)
 neither true t u h = refl
 neither false t u h = h
-
-not_or : (s t : Bool) → not (s || t) ≡ (not s && not t)
-not_or true t = refl
-not_or false t = refl
-
-and_assoc : (a b c : Bool) → ((a && b) && c) ≡ (a && (b && c))
-and_assoc true b c = refl
-and_assoc false b c = refl
-
-pub sets_in-append : (xs ys : List Event) (x : List ℕ) → not (sets_in (xs ++ ys) x) ≡ (not (sets_in xs x) && not (sets_in ys x))
-sets_in-append [] ys x = refl
-sets_in-append (reads y ∷ xs) ys x = sets_in-append xs ys x
-sets_in-append (sets y ∷ xs) ys x =
-    not_or (same_name x y) (sets_in (xs ++ ys) x)
-    ∙ (ap (λ r. not (same_name x y) && r) (sets_in-append xs ys x)
-    ∙ (sym (and_assoc (not (same_name x y)) (not (sets_in xs x)) (not (sets_in ys x)))
-    ∙ ap (λ r. r && not (sets_in ys x)) (sym (not_or (same_name x y) (sets_in xs x)))))
 
 pub does_none : (firsts : Firsts) (p : PlainProcess) → Does p [] (record { reads = 0; keeps = 4294967295; firsts = firsts })
 unfolding Does
@@ -153,32 +103,6 @@ does_after firsts p xs ys f g d e = (
 
 -- ---- the variable with a name
 
-pub same_name-sym : (x y : List ℕ) → same_name x y ≡ true → same_name y x ≡ true
-same_name-sym x y h = folded_same y x (sym (same_folded x y h))
-
-pub same_name-trans : (x y z : List ℕ) → same_name x y ≡ true → same_name y z ≡ true → same_name x z ≡ true
-same_name-trans x y z h k = folded_same x z (same_folded x y h ∙ same_folded y z k)
-
-no_place : (b : Bool) (at : ℕ) → (if b then at ∷ [] else []) ≡ [] → b ≡ false
-no_place true at h = cc
-no_place false at h = refl
-
--- where no name is there twice, none is among those before it
-fresh : (before ids : List Identifier) (j : ℕ) (b : Identifier) → repeats before ids ≡ [] → slice_get ids j ≡ Some b → is_in before b.name ≡ false
-fresh before [] j b h there = cc
-fresh before (id ∷ ids) zero b h there =
-    let e : id ≡ b = cc in
-    subst (λ (u : Identifier). is_in before u.name ≡ false) e (no_place (is_in before id.name) id.at (append-nil_left _ _ h))
-fresh before (id ∷ ids) (suc j) b h there =
-    let later : is_in (before ++ id ∷ []) b.name ≡ false = fresh (before ++ id ∷ []) ids j b (append-nil_right _ _ h) there in
-    (or_parts (is_in before b.name) (is_in (id ∷ []) b.name) (sym (list_any-append (λ i. same_name b.name i.name) before (id ∷ [])) ∙ later)).0
-
-later_differs : (before ids : List Identifier) (id b : Identifier) (j : ℕ) → repeats (before ++ id ∷ []) ids ≡ [] → slice_get ids j ≡ Some b → same_name b.name id.name ≡ false
-later_differs before ids id b j h there =
-    let later : is_in (before ++ id ∷ []) b.name ≡ false = fresh (before ++ id ∷ []) ids j b h there in
-    (or_parts (same_name b.name id.name) false
-    (or_parts (is_in before b.name) (is_in (id ∷ []) b.name) (sym (list_any-append (λ i. same_name b.name i.name) before (id ∷ [])) ∙ later)).1).0
-
 -- where no name is there twice, two places of one name are one
 pub one_place : (before ids : List Identifier) (i j : ℕ) (a b : Identifier) → repeats before ids ≡ []
     → slice_get ids i ≡ Some a → slice_get ids j ≡ Some b → same_name b.name a.name ≡ true → i ≡ j
@@ -199,28 +123,6 @@ one_place before (id ∷ ids) (suc i) zero a b h p q s =
 one_place before (id ∷ ids) (suc i) (suc j) a b h p q s =
     ap suc (one_place (before ++ id ∷ []) ids i j a b (append-nil_right _ _ h) p q s)
 
-here : (b : Bool) (r n : ℕ) → b ≡ true → cond (not b) (1 + r) 0 < suc n
-here true r n h = omega arith
-here false r n h = cc
-
-further : (b : Bool) (r n : ℕ) → r < n → cond (not b) (1 + r) 0 < suc n
-further true r n h = omega arith
-further false r n h = omega arith
-
--- the first place that passes isn't past one that does
-reached : {X : Type 0} (p : X → Bool) (xs : List X) (v : ℕ) (a : X) → slice_get xs v ≡ Some a → p a ≡ true → position_or_len p xs < length xs
-reached p [] v a there passes = cc
-reached p (x ∷ xs) zero a there passes =
-    let e : x ≡ a = cc in
-    here (p x) (position_or_len p xs) (length xs) (ap p e ∙ passes)
-reached p (x ∷ xs) (suc v) a there passes = further (p x) (position_or_len p xs) (length xs) (reached p xs v a there passes)
-
-pub nowhere : {X : Type 0} (p : X → Bool) (xs : List X) (v : ℕ) (a : X) → position p xs ≡ None → slice_get xs v ≡ Some a → p a ≡ false
-nowhere p xs v a h there = elim (cases_Bool (p a)) [
-  | inl passes ↦ let below = lt-ltb (position_or_len p xs) (length xs) (reached p xs v a there passes) in cc
-  | inr fails ↦ fails
-]
-
 differs : (x y : List ℕ) → same_name y x ≡ false → same_name x y ≡ false
 differs x y h = elim (cases_Bool (same_name x y)) [
   | inl same ↦ let back = same_name-sym x y same in cc
@@ -238,7 +140,7 @@ other_name ids x n v id distinct is there ne = elim (cases_Bool (same_name id.na
   | inr other ↦ other
 ]
 
-own_name : (ids : List Identifier) (x : List ℕ) (n : ℕ) (id : Identifier) → number_of ids x ≡ Some n → slice_get ids n ≡ Some id → same_name id.name x ≡ true
+pub own_name : (ids : List Identifier) (x : List ℕ) (n : ℕ) (id : Identifier) → number_of ids x ≡ Some n → slice_get ids n ≡ Some id → same_name id.name x ≡ true
 own_name ids x n id is there =
     let found = position-Some (λ i. same_name x i.name) ids n id is in
     same_name-sym x id.name (ap (λ (i : Identifier). same_name x i.name) (sym (get_or_from_slice_get ids n id id there)) ∙ found.1)
@@ -267,14 +169,10 @@ bit_past ids x n distinct is high = record {
 pub bit_none : (ids : List Identifier) (x : List ℕ) → number_of ids x ≡ None → Tells ids (λ y. same_name y x) 0
 bit_none ids x is = record {
   at = λ v id small there.
-      has_none v ∙ sym (differs id.name x (nowhere (λ i. same_name x i.name) ids v id is there));
+      has_none v ∙ sym (differs id.name x (nowhere ids x v id is there));
 }
 
 -- ---- one event
-
-and_false : (b : Bool) → (b && false) ≡ false
-and_false true = refl
-and_false false = refl
 
 pub does_read : (firsts : Firsts) (p : PlainProcess) (x : List ℕ) (bits : ℕ) → Tells (variable_names p) (λ y. same_name y x) bits
     → Does p (reads x ∷ []) (record { reads = bits; keeps = 4294967295; firsts = firsts })

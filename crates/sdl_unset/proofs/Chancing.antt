@@ -2,7 +2,7 @@
 use Rattle.std.proofs.Common.{◌≡◌, ℕ, zero, suc, ◌+◌, ◌<◌, ◌≤◌, Bool, true, false, not, ◌&&◌, ◌||◌, List, [], ◌∷◌, ◌++◌, length, Option, Some, refl, sym, ap, ◌∙◌, subst, arith, inl, inr, ◌⊎◌}
 use Rattle.std.specs.Prelude.{⊤}
 use Rattle.std.specs.Option.{option_map_or}
-use Rattle.std.proofs.lemmas.Bool.{not-true}
+use Rattle.std.proofs.lemmas.Bool.{not-true, and_parts as and_true, and_from as both_true, or_cases as or_true, or_left as true_or, or_right as or_else}
 use Rattle.std.proofs.lemmas.List.{append-nil}
 use Rattle.sdl_ast.specs.declared.expression.Identifier.{Identifier}
 use Rattle.sdl_ast.specs.declared.tree.End.{End}
@@ -11,64 +11,11 @@ use Rattle.sdl_ast.specs.Plain.{Text, falls, ends, does, decides, Choice, nothin
 use Rattle.sdl_tables.specs.Names.{same_name, is_state, connection_named, states_of}
 use Rattle.sdl_sound.specs.Paths.{Event, reads as reading, sets as setting, tree_events, action_events, reads_first, sets_in, Way, onward, stops, enters as into, GoesOn, Walks, IsChosen, last_way, Follows}
 use Rattle.sdl_sound.specs.Chances.{Chances, no_chances, leaving, event_chances, behind, beside, last_chances, end_chances, chances, choice_chances, chances_by, text_chances}
+use Rattle.sdl_sound.proofs.Walks.{reads_first-append, sets_in-append, reads-later}
 
 -- ---- Booleans
 
-pub and_true : (a b : Bool) → (a && b) ≡ true → (a ≡ true) × (b ≡ true)
-and_true true b h = (refl, h)
-and_true false b h = absurd (cc)
-
-pub both_true : (a b : Bool) → a ≡ true → b ≡ true → (a && b) ≡ true
-both_true true b h k = k
-both_true false b h k = absurd (cc)
-
-pub or_true : (a b : Bool) → (a || b) ≡ true → (a ≡ true) ⊎ (b ≡ true)
-or_true true b h = inl refl
-or_true false b h = inr h
-
-pub true_or : (a b : Bool) → a ≡ true → (a || b) ≡ true
-true_or true b h = refl
-true_or false b h = absurd (cc)
-
-pub or_else : (a b : Bool) → b ≡ true → (a || b) ≡ true
-or_else true b h = refl
-or_else false b h = h
-
 -- ---- events one after another
-
-or_assoc : (a b c : Bool) → ((a || b) || c) ≡ (a || (b || c))
-or_assoc true b c = refl
-or_assoc false b c = refl
-
--- where x is set now, nothing later reads it unset
-set_now : (s r t q u : Bool) → u ≡ (r || (not t && q)) → (not s && u) ≡ ((not s && r) || (not (s || t) && q))
-set_now true r t q u h = refl
-set_now false r t q u h = h
-
-pub reads_first-append : (xs ys : List Event) (x : List ℕ) → reads_first (xs ++ ys) x ≡ (reads_first xs x || (not (sets_in xs x) && reads_first ys x))
-reads_first-append [] ys x = refl
-reads_first-append (reading y ∷ xs) ys x =
-    ap (λ r. same_name x y || r) (reads_first-append xs ys x)
-    ∙ sym (or_assoc (same_name x y) (reads_first xs x) (not (sets_in xs x) && reads_first ys x))
-reads_first-append (setting y ∷ xs) ys x =
-    set_now (same_name x y) (reads_first xs x) (sets_in xs x) (reads_first ys x) (reads_first (xs ++ ys) x) (reads_first-append xs ys x)
-
-not_or : (s t : Bool) → not (s || t) ≡ (not s && not t)
-not_or true t = refl
-not_or false t = refl
-
-and_assoc : (a b c : Bool) → ((a && b) && c) ≡ (a && (b && c))
-and_assoc true b c = refl
-and_assoc false b c = refl
-
-pub sets_in-append : (xs ys : List Event) (x : List ℕ) → not (sets_in (xs ++ ys) x) ≡ (not (sets_in xs x) && not (sets_in ys x))
-sets_in-append [] ys x = refl
-sets_in-append (reading y ∷ xs) ys x = sets_in-append xs ys x
-sets_in-append (setting y ∷ xs) ys x =
-    not_or (same_name x y) (sets_in (xs ++ ys) x)
-    ∙ (ap (λ r. not (same_name x y) && r) (sets_in-append xs ys x)
-    ∙ (sym (and_assoc (not (same_name x y)) (not (sets_in xs x)) (not (sets_in ys x)))
-    ∙ ap (λ r. r && not (sets_in ys x)) (sym (not_or (same_name x y) (sets_in xs x)))))
 
 -- ---- what one walk does
 
@@ -295,10 +242,6 @@ Then one rest events way = (chosen after : List Event) × (between : Way) × (ev
 
 pub reads-now : (xs ys : List Event) (x : List ℕ) → reads_first xs x ≡ true → reads_first (xs ++ ys) x ≡ true
 reads-now xs ys x h = reads_first-append xs ys x ∙ true_or (reads_first xs x) (not (sets_in xs x) && reads_first ys x) h
-
-pub reads-later : (xs ys : List Event) (x : List ℕ) → sets_in xs x ≡ false → reads_first ys x ≡ true → reads_first (xs ++ ys) x ≡ true
-reads-later xs ys x h r =
-    reads_first-append xs ys x ∙ or_else (reads_first xs x) (not (sets_in xs x) && reads_first ys x) (both_true (not (sets_in xs x)) (reads_first ys x) (ap not h) r)
 
 pub sets-neither : (xs ys : List Event) (x : List ℕ) → sets_in xs x ≡ false → sets_in ys x ≡ false → sets_in (xs ++ ys) x ≡ false
 sets-neither xs ys x h k =

@@ -3,7 +3,7 @@ use Rattle.std.proofs.Common.{◌≡◌, ℕ, zero, suc, ◌+◌, ◌<◌, ◌�
 use Rattle.std.specs.Prelude.{slice_get, option_and_then, nat_lt, All}
 use Rattle.std.specs.Option.{option_map, option_map_or}
 use Rattle.std.proofs.lemmas.Bool.{cases_eq, cases_lt, lt-ltb, le-ltb, ltb-true, ltb-false}
-use Rattle.std.proofs.lemmas.Option.{slice_get-get_or, slice_get_within, slice_get_past, slice_get-map, get_or_from_slice_get}
+use Rattle.std.proofs.lemmas.Option.{slice_get-get_or, slice_get_within, slice_get_past, slice_get-map, get_or_from_slice_get, same_Some as some_same}
 use Rattle.std.proofs.lemmas.List.{length-set, length-map}
 use Rattle.std.proofs.lemmas.List.Folds.{find_at}
 use Rattle.sdl_ast.specs.declared.expression.Identifier.{Identifier}
@@ -16,13 +16,11 @@ use Rattle.sdl_sound.specs.Chances.{Chances, no_chances, last_chances, chances, 
 use Rattle.sdl_unset.specs.Flows.{Stands, AreTold, text_doings}
 use Rattle.sdl_unset.specs.declared.walker.Walker.{Walker}
 use Rattle.sdl_unset.proofs.Chancing.{IsBefore, AreRanked, chances-same, by_same}
-use Rattle.sdl_unset.proofs.Ranks.{AreFine, rank_of, number_at, numbered, place_in, place_there, position-map, below_all, are_ranked}
+use Rattle.sdl_unset.proofs.Ranks.{AreFine, rank_of, number_at, numbered, place_in, place_there, below_all, are_ranked}
 use Rattle.sdl_unset.proofs.Walkers.{stands_same}
-
-there_is : {A : Type 0} (xs : List A) (i : ℕ) → i < length xs → (x : A) × (slice_get xs i ≡ Some x)
-there_is [] i within = absurd (omega (arith, within))
-there_is (x ∷ xs) zero within = (x, refl)
-there_is (x ∷ xs) (suc i) within = there_is xs i (omega (arith, within))
+use Rattle.plain_laws.proofs.Places.{there_is}
+use Rattle.plain_laws.proofs.Searches.{position-map}
+use Rattle.sdl_sound.proofs.Numbered.{unnumbered as not_named}
 
 -- what is told when the first i connections of the order have been walked
 abbrev pub told_upto : PlainProcess → List ℕ → ℕ → List ℕ → ℕ → List ℕ → Chances
@@ -30,9 +28,6 @@ told_upto p order i x q y = if nat_lt (rank_of p order y) i then joined_chances 
 
 none_some : {A : Type 0} (o : Option A) (a : A) → o ≡ None → o ≡ Some a → ⊥
 none_some o a h k = let bad : None ≡ Some a = sym h ∙ k in cc
-
-some_same : {A : Type 0} (x y : A) → Some x ≡ Some y → x ≡ y
-some_same x y e = cc
 
 -- a name that has a number is that of a connection
 numbers : (p : PlainProcess) (y : List ℕ) → number_of (connector_names p) y ≡ cond (nat_lt (number_at p y) (length p.connections)) (Some (number_at p y)) None
@@ -52,13 +47,6 @@ named_by p y n h = by_test (nat_lt (number_at p y) (length p.connections)) refl 
         let there = there_is p.connections (number_at p y) (ltb-true (number_at p y) (length p.connections) lt) in
         (there.0, found_at p y ∙ there.1, subst (λ (k : ℕ). slice_get p.connections k ≡ Some there.0) same there.1, same)
     by_test false ge e = absurd (none_some None n refl e)
-
-not_named : (p : PlainProcess) (y : List ℕ) → number_of (connector_names p) y ≡ None → connection_named p y ≡ None
-not_named p y h = by_test (nat_lt (number_at p y) (length p.connections)) refl (sym (numbers p y) ∙ h)
-  where
-    by_test : (b : Bool) → nat_lt (number_at p y) (length p.connections) ≡ b → cond b (Some (number_at p y)) None ≡ None → connection_named p y ≡ None
-    by_test true lt e = absurd (none_some (Some (number_at p y)) (number_at p y) e refl)
-    by_test false ge e = found_at p y ∙ slice_get_past p.connections (number_at p y) (ltb-false (number_at p y) (length p.connections) ge)
 
 joined_none : (p : PlainProcess) (n : ℕ) (x : List ℕ) (q : ℕ) (y : List ℕ) → connection_named p y ≡ None → chances_by p n x q y ≡ no_chances
 joined_none p zero x q y h = refl

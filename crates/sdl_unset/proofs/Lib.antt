@@ -10,5 +10,6 @@ pub mod Spelling
 pub mod Summing
 pub mod Surveying
 pub mod Telling
+pub mod TextOrder
 pub mod Walkers
 pub mod Walking

@@ -1,7 +1,7 @@
 -- From paths by names to paths by numbers.
 use Rattle.std.proofs.Common.{◌≡◌, ℕ, zero, suc, ◌<◌, Bool, true, false, not, ◌&&◌, ◌||◌, List, [], ◌∷◌, ◌++◌, map, length, Option, None, Some, refl, sym, ap, ◌∙◌, subst, arith, bytes_eq, if◌then◌else◌, is_some, true≢false, inl, inr, ◌⊎◌}
 use Rattle.std.specs.Prelude.{slice_get, Contains}
-use Rattle.std.specs.List.{list_any, flat_map}
+use Rattle.std.specs.List.{AllZip, list_any, flat_map}
 use Rattle.std.specs.Option.{option_map_or}
 use Rattle.std.proofs.lemmas.Option.{slice_get-get_or}
 use Rattle.std.proofs.lemmas.List.Folds.{list_any-append}
@@ -24,12 +24,15 @@ use Rattle.sdl_sound.specs.Paths.{Event, reads, sets, tree_events, assignment_ev
 use Rattle.sdl_unset.specs.Graphs.{IsSummaryOf, IsGraphOf}
 use Rattle.sdl_sound.specs.declared.fault.Step.{Step}
 use Rattle.sdl_sound.specs.declared.fault.Step.TheVariants.{Start, Input as Takes}
-use Rattle.sdl_sound.proofs.Repeats.{append-nil_left, append-nil_right}
-use Rattle.sdl_sound.proofs.Numbered.{same_folded, number_names}
+use Rattle.sdl_sound.proofs.Numbered.{same_folded, folded_same, number_names, in_alike}
+use Rattle.sdl_sound.specs.PathOrder.{StandsAt}
+use Rattle.sdl_unset.proofs.TextOrder.{IsAt}
 use Rattle.sdl_unset.proofs.PathNames.{input_in_graph}
-use Rattle.sdl_sound.proofs.Lists.{among_at}
 use Rattle.sdl_sound.proofs.Items.{Each, each_front, each_back}
 use Rattle.sdl_unset.proofs.Ranks.{HasNone, texts_none, connection_there}
+use Rattle.std.proofs.lemmas.Bool.{and_parts, or_left, or_right, or_cases}
+use Rattle.plain_laws.proofs.Lists.{test_known as no_place, append-nil_left, append-nil_right}
+use Rattle.plain_laws.proofs.Places.{among_at, at_among}
 
 -- ---- spellings of one name
 
@@ -58,26 +61,10 @@ or_weaker : (a b c : Bool) → (b ≡ true → c ≡ true) → (a || b) ≡ true
 or_weaker true b c f h = refl
 or_weaker false b c f h = f h
 
-and_second : (a b : Bool) → (a && b) ≡ true → b ≡ true
-and_second true b h = h
-and_second false b h = absurd (true≢false (sym h))
-
-or_cases : (a b : Bool) → (a || b) ≡ true → (a ≡ true) ⊎ (b ≡ true)
-or_cases true b h = inl refl
-or_cases false b h = inr h
-
-or_left : (a b : Bool) → a ≡ true → (a || b) ≡ true
-or_left true b h = refl
-or_left false b h = absurd (true≢false (sym h))
-
-or_right : (a b : Bool) → b ≡ true → (a || b) ≡ true
-or_right true b h = refl
-or_right false b h = h
-
 reads_some-first : (events : List Event) (x : List ℕ) → reads_first events x ≡ true → reads_some events x ≡ true
 reads_some-first [] x h = h
 reads_some-first (reads y ∷ events) x h = or_weaker (same_name x y) (reads_first events x) (reads_some events x) (reads_some-first events x) h
-reads_some-first (sets y ∷ events) x h = reads_some-first events x (and_second (not (same_name x y)) (reads_first events x) h)
+reads_some-first (sets y ∷ events) x h = reads_some-first events x (and_parts (not (same_name x y)) (reads_first events x) h).1
 
 reads_some-append : (es fs : List Event) (x : List ℕ) → reads_some (es ++ fs) x ≡ true → (reads_some es x ≡ true) ⊎ (reads_some fs x ≡ true)
 reads_some-append [] fs x h = inr h
@@ -105,18 +92,15 @@ initial_reads_nothing : (vs : List Variable) (x : List ℕ) → reads_some (flat
 initial_reads_nothing [] x h = true≢false (sym h)
 initial_reads_nothing (v ∷ vs) x h = initial_more (is_some v.initial) x v.name.name (flat_map initial_sets vs) (initial_reads_nothing vs x) h
 
-is_in-append : (xs ys : List Identifier) (x : List ℕ) → is_in (xs ++ ys) x ≡ (is_in xs x || is_in ys x)
-is_in-append xs ys x = list_any-append (λ id. same_name x id.name) xs ys
-
 reads_of_names : (ids : List Identifier) (x : List ℕ) → reads_some (map (λ id. reads id.name) ids) x ≡ is_in ids x
 reads_of_names [] x = refl
 reads_of_names (id ∷ ids) x = ap (λ r. same_name x id.name || r) (reads_of_names ids x)
 
 in_append_left : (xs ys : List Identifier) (x : List ℕ) → is_in xs x ≡ true → is_in (xs ++ ys) x ≡ true
-in_append_left xs ys x h = is_in-append xs ys x ∙ or_left (is_in xs x) (is_in ys x) h
+in_append_left xs ys x h = list_any-append (λ id. same_name x id.name) xs ys ∙ or_left (is_in xs x) (is_in ys x) h
 
 in_append_right : (xs ys : List Identifier) (x : List ℕ) → is_in ys x ≡ true → is_in (xs ++ ys) x ≡ true
-in_append_right xs ys x h = is_in-append xs ys x ∙ or_right (is_in xs x) (is_in ys x) h
+in_append_right xs ys x h = list_any-append (λ id. same_name x id.name) xs ys ∙ or_right (is_in xs x) (is_in ys x) h
 
 assignment_reads : (a : PlainAssignment) (x : List ℕ) → reads_some (assignment_events a) x ≡ true → is_in (assignment_names a) x ≡ true
 assignment_reads a x h = elim (reads_some-append (map (λ id. reads id.name) (tree_names a.value)) (sets a.variable.name ∷ []) x h) [
@@ -131,23 +115,12 @@ assignments_read (a ∷ list) x h = elim (reads_some-append (assignment_events a
   | inr there ↦ in_append_right (assignment_names a) (flat_map assignment_names list) x (assignments_read list x there)
 ]
 
--- a name among known ones is known
-cons-not-nil : (n : ℕ) (ns : List ℕ) → n ∷ ns ≡ [] → ⊥
-cons-not-nil n ns h = cc
-
-known_name : (among : List Identifier) (id : Identifier) (b : Bool) → is_in among id.name ≡ b → (if b then [] else id.at ∷ []) ≡ [] → is_in among id.name ≡ true
-known_name among id true e h = e
-known_name among id false e h = absurd (cons-not-nil id.at [] h)
-
-is_in-folded : (among : List Identifier) (x y : List ℕ) → folded x ≡ folded y → is_in among x ≡ is_in among y
-is_in-folded among x y e = ap (λ f. list_any (λ id. bytes_eq f (folded id.name)) among) e
-
 known_in : (among ids : List Identifier) (x : List ℕ) → unknown among ids ≡ [] → is_in ids x ≡ true → is_in among x ≡ true
 known_in among [] x none h = absurd (true≢false (sym h))
 known_in among (id ∷ ids) x none h = elim (or_cases (same_name x id.name) (is_in ids x) h) [
   | inl here ↦
-      is_in-folded among x id.name (same_folded x id.name here)
-      ∙ known_name among id (is_in among id.name) refl (append-nil_left _ _ none)
+      in_alike among x id.name (same_folded x id.name here)
+      ∙ no_place (is_in among id.name) id.at (append-nil_left _ _ none)
   | inr there ↦ known_in among ids x (append-nil_right (if is_in among id.name then [] else id.at ∷ []) _ none) there
 ]
 
@@ -271,9 +244,6 @@ none_at f (y ∷ xs) (suc i) x none e = none_at f xs i x (append-nil_right (f y)
 abbrev IsDeclared : PlainProcess → List ℕ → Type 0
 IsDeclared p x = is_in (variable_names p) x ≡ true
 
-contains_slice : {A : Type 0} (xs : List A) (x : A) → Contains xs x → (i : ℕ) × (slice_get xs i ≡ Some x)
-contains_slice xs x there = (there.0, slice_get-get_or xs there.0 x there.1 ∙ ap Some there.2)
-
 -- a step by name is one by number
 abbrev pub IsTaken : PlainProcess → List ℕ → Input → Type 0
 IsTaken p s inp =
@@ -287,7 +257,7 @@ taken_at p s inp None e among =
 taken_at p s inp (Some q) e among =
     let same : inputs_in p s ≡ inputs_of p q = ap (λ o. option_map_or (inputs_of p) o []) e in
     let state = number_names (states_of p) s q e in
-    let there = contains_slice (inputs_of p q) inp (subst (λ (l : List Input). Contains l inp) same among) in
+    let there = at_among (inputs_of p q) inp (subst (λ (l : List Input). Contains l inp) same among) in
     (q, state.0, there.0, e, state.1, there.1)
 
 taken : (p : PlainProcess) (s : List ℕ) (inp : Input) → Contains (inputs_in p s) inp → IsTaken p s inp
@@ -373,9 +343,18 @@ passes_by p u t sum v id x events s q is var same e walk state unset =
           ∙ ap (λ (w : Transition). sets_in (w.first ++ events) x) (sym e) ∙ unset;
     })
 
+-- where a step by names stands
+stands : (p : PlainProcess) (s name signal : List ℕ) (q i : ℕ) (id : Identifier) (inp : Input) → number_of (states_of p) s ≡ Some q → slice_get (states_of p) q ≡ Some id
+    → slice_get (inputs_of p q) i ≡ Some inp → same_name s name ≡ true → same_name signal inp.stimulus.name.name ≡ true → StandsAt p (Takes name signal) q i
+stands p s name signal q i id inp number there input spelled heard =
+    let found = number_names (states_of p) s q number in
+    let one : found.0 ≡ id = let e : Some found.0 ≡ Some id = sym found.1 ∙ there in cc in
+    let same : same_name s id.name ≡ true = ap (λ (d : Identifier). same_name s d.name) (sym one) ∙ found.2 in
+    (id, there, folded_same name id.name (sym (same_folded s name spelled) ∙ same_folded s id.name same), inp, input, heard)
+
 numbers_from : (p : PlainProcess) (g : Graph) (v : ℕ) (id : Identifier) (x : List ℕ) → IsGraphOf p g → slice_get (variable_names p) v ≡ Some id
     → folded x ≡ folded id.name → (steps : List Step) (s : List ℕ) (q : ℕ) → number_of (states_of p) s ≡ Some q → ReadsFrom p (Some s) steps x
-    → (path : List number.Step) × graph.ReadsFrom g v (Some q) path × (length path ≡ length steps)
+    → (path : List number.Step) × graph.ReadsFrom g v (Some q) path × (length path ≡ length steps) × AllZip (IsAt p) path steps
 numbers_from p g v id x is var same [] s q state r = absurd r
 numbers_from p g v id x is var same (Start ∷ []) s q state r = absurd r.1
 numbers_from p g v id x is var same (Start ∷ next ∷ steps) s q state r = absurd r.1
@@ -384,41 +363,45 @@ numbers_from p g v id x is var same (Takes name signal ∷ []) s q state (t, (sp
     let at : here.0 ≡ q = let h : Some here.0 ≡ Some q = sym here.3 ∙ state in cc in
     let input = input_in_graph p g here.0 here.2 here.1 inp is here.4 here.5 in
     let told = read_by p (input_transition inp) t input.0 v id x events end input.2 var same e walk first in
-    (By here.0 here.2 ∷ [], (input.0, (at, ap (λ m. input_at g m here.2) (sym at) ∙ input.1), told), refl)
+    (By here.0 here.2 ∷ [], (input.0, (at, ap (λ m. input_at g m here.2) (sym at) ∙ input.1), told), refl, (stands p s name signal here.0 here.2 here.1 inp here.3 here.4 here.5 spelled heard, tt))
 numbers_from p g v id x is var same (Takes name signal ∷ next ∷ steps) s q state (t, (spelled, inp, among, heard, e), events, s2, walk, unset, rest) =
     let here = taken p s inp among in
     let at : here.0 ≡ q = let h : Some here.0 ≡ Some q = sym here.3 ∙ state in cc in
     let input = input_in_graph p g here.0 here.2 here.1 inp is here.4 here.5 in
     let after = state_there p s2 (next ∷ steps) x rest in
     let passes = passes_by p (input_transition inp) t input.0 v id x events s2 after.0 input.2 var same e walk after.1 unset in
-    let path = numbers_from p g v id x is var same (next ∷ steps) s2 after.0 after.1 rest in
-    (By here.0 here.2 ∷ path.0, longer g v (Some q) (By here.0 here.2) input.0 after.0 (at, ap (λ m. input_at g m here.2) (sym at) ∙ input.1) passes path.0 path.1, ap suc path.2)
+    let path = numbers_from p g v id x is var same (next ∷ steps) s2 after.0 after.1 rest in (
+      By here.0 here.2 ∷ path.0,
+      longer g v (Some q) (By here.0 here.2) input.0 after.0 (at, ap (λ m. input_at g m here.2) (sym at) ∙ input.1) passes path.0 path.1,
+      ap suc path.2,
+      (stands p s name signal here.0 here.2 here.1 inp here.3 here.4 here.5 spelled heard, path.3),
+    )
 
 -- a path by names that reads a declared variable unset is one by numbers, as long
 numbers_of : (p : PlainProcess) (g : Graph) (v : ℕ) (id : Identifier) (x : List ℕ) → IsGraphOf p g → slice_get (variable_names p) v ≡ Some id
     → folded x ≡ folded id.name → (steps : List Step) → ReadsUnset p steps x
-    → (path : List number.Step) × graph.ReadsUnset g v path × (length path ≡ length steps)
+    → (path : List number.Step) × graph.ReadsUnset g v path × (length path ≡ length steps) × AllZip (IsAt p) path steps
 numbers_of p g v id x is var same [] r = absurd r
 numbers_of p g v id x is var same (Takes name signal ∷ []) r = absurd r.1
 numbers_of p g v id x is var same (Takes name signal ∷ next ∷ steps) r = absurd r.1
 numbers_of p g v id x is var same (Start ∷ []) (t, leads, events, end, walk, first) =
     let told = read_by p (start_transition p) t g.start v id x events end is.start var same leads walk first in
-    (First ∷ [], (g.start, refl, told), refl)
+    (First ∷ [], (g.start, refl, told), refl, (refl, tt))
 numbers_of p g v id x is var same (Start ∷ next ∷ steps) (t, leads, events, s2, walk, unset, rest) =
     let after = state_there p s2 (next ∷ steps) x rest in
     let passes = passes_by p (start_transition p) t g.start v id x events s2 after.0 is.start var same leads walk after.1 unset in
     let path = numbers_from p g v id x is var same (next ∷ steps) s2 after.0 after.1 rest in
-    (First ∷ path.0, longer g v None First g.start after.0 refl passes path.0 path.1, ap suc path.2)
+    (First ∷ path.0, longer g v None First g.start after.0 refl passes path.0 path.1, ap suc path.2, (refl, path.3))
 
 -- a path by names that reads some variable unset is one by numbers of a declared one
 pub numbered_path : (b : PlainBlock) (p : PlainProcess) (g : Graph) → process_unknown b p ≡ [] → IsGraphOf p g → (steps : List Step) (x : List ℕ)
     → ReadsUnset p steps x
     → (v : ℕ) × (id : Identifier) × (slice_get (variable_names p) v ≡ Some id) × (path : List number.Step) × graph.ReadsUnset g v path
-    × (length path ≡ length steps)
+    × (length path ≡ length steps) × AllZip (IsAt p) path steps
 numbered_path b p g known is steps x r =
     let named = has_number (variable_names p) x (read_declared b p (are_known b p known) steps None x r) in
     let path = numbers_of p g named.0 named.1 x is named.2 named.3 steps r in
-    (named.0, named.1, named.2, path.0, path.1, path.2)
+    (named.0, named.1, named.2, path.0, path.1, path.2, path.3)
 
 -- where no path by numbers reads a variable unset, none by names does
 pub never_reads : (b : PlainBlock) (p : PlainProcess) (g : Graph) → process_unknown b p ≡ [] → IsGraphOf p g

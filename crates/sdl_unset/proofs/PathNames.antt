@@ -9,6 +9,7 @@ use Rattle.unset_paths.specs.declared.Summary.{Summary}
 use Rattle.unset_paths.specs.declared.Graph.{Graph}
 use Rattle.unset_paths.specs.declared.Step as number
 use Rattle.unset_paths.specs.declared.Step.TheVariants.{Start as First, Input as By}
+use Rattle.unset_paths.specs.Order.{IsSorted}
 use Rattle.unset_paths.specs.Graph as graph
 use Rattle.unset_paths.specs.Graph.{input_at}
 use Rattle.sdl_ast.specs.Plain.{PlainProcess}
@@ -19,28 +20,11 @@ use Rattle.sdl_unset.specs.Graphs.{IsSummaryOf, IsGraphOf}
 use Rattle.sdl_unset.specs.Fates.{IsStep, IsNamed}
 use Rattle.sdl_sound.specs.declared.fault.Step.{Step}
 use Rattle.sdl_sound.proofs.Numbered.{number_names}
-use Rattle.sdl_sound.proofs.Lists.{among_at}
+use Rattle.plain_laws.proofs.Options.{some_of}
+use Rattle.plain_laws.proofs.Pairwise.{zip_beside as all_zip_left}
+use Rattle.plain_laws.proofs.Places.{among_at}
 
 -- ---- lists side by side
-
-pub all_zip_at : {A B : Type 0} (R : A → B → Type 0) (xs : List A) (ys : List B) (i : ℕ) (x : A) (y : B) → AllZip R xs ys
-    → slice_get xs i ≡ Some x → slice_get ys i ≡ Some y → R x y
-all_zip_at R [] ys i x y h e f = let bad : None ≡ Some x = e in absurd (cc)
-all_zip_at R (a ∷ xs) [] i x y h e f = absurd h
-all_zip_at {A = A} R (a ∷ xs) (b ∷ ys) zero x y h e f =
-    let one : a ≡ x = let s : Some a ≡ Some x = e in cc in
-    let other : b ≡ y = let s : Some b ≡ Some y = f in cc in
-    subst (λ (u : A). R u y) one (subst (R a) other h.0)
-all_zip_at R (a ∷ xs) (b ∷ ys) (suc i) x y h e f = all_zip_at R xs ys i x y h.1 e f
-
-pub all_zip_left : {A B : Type 0} (R : A → B → Type 0) (xs : List A) (ys : List B) (i : ℕ) (x : A) → AllZip R xs ys
-    → slice_get xs i ≡ Some x → (y : B) × (slice_get ys i ≡ Some y) × R x y
-all_zip_left R [] ys i x h e = let bad : None ≡ Some x = e in absurd (cc)
-all_zip_left R (a ∷ xs) [] i x h e = absurd h
-all_zip_left {A = A} R (a ∷ xs) (b ∷ ys) zero x h e =
-    let one : a ≡ x = let s : Some a ≡ Some x = e in cc in
-    (b, refl, subst (λ (u : A). R u b) one h.0)
-all_zip_left R (a ∷ xs) (b ∷ ys) (suc i) x h e = all_zip_left R xs ys i x h.1 e
 
 pub all_zip_right : {A B : Type 0} (R : A → B → Type 0) (xs : List A) (ys : List B) (i : ℕ) (y : B) → AllZip R xs ys
     → slice_get ys i ≡ Some y → (x : A) × (slice_get xs i ≡ Some x) × R x y
@@ -87,10 +71,6 @@ inputs_back p q is e =
 abbrev pub AreSummaries : PlainProcess → List Input → Vec Summary → Type 0
 AreSummaries p is v = AllZip (λ i s. IsSummaryOf p (input_transition i) s) is v.items
 
-some_of : {A B : Type 0} (f : A → Option B) (o : Option A) (y : B) → option_and_then f o ≡ Some y → (x : A) × (o ≡ Some x) × (f x ≡ Some y)
-some_of f None y e = let bad : None ≡ Some y = e in absurd (cc)
-some_of f (Some x) y e = (x, refl, e)
-
 -- an input of the graph is one of the process
 pub input_of_graph : (p : PlainProcess) (g : Graph) (q i : ℕ) (t : Summary) → IsGraphOf p g → input_at g q i ≡ Some t
     → (inp : Input) × (slice_get (inputs_of p q) i ≡ Some inp) × (q < length (states_of p)) × IsSummaryOf p (input_transition inp) t
@@ -109,6 +89,10 @@ input_in_graph p g q i id inp is state there =
     let row = all_zip_left (AreSummaries p) (inputs_by_state p) g.states.items q (inputs_of p q) is.states (inputs_at p q id state) in
     let input = all_zip_left (λ j s. IsSummaryOf p (input_transition j) s) (inputs_of p q) row.0.items i inp row.2 there in
     (input.0, ap (option_and_then (λ (v : Vec Summary). slice_get v.items i)) row.1 ∙ input.1, input.2)
+
+-- its passages are in order
+pub graph_sorted : (p : PlainProcess) (g : Graph) → IsGraphOf p g → IsSorted g
+graph_sorted p g is = record { start = is.start.sorted; states = λ s i t at. (input_of_graph p g s i t is at).3.sorted }
 
 -- ---- a path by numbers, with its names
 

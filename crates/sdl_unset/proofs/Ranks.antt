@@ -4,7 +4,7 @@ use Rattle.std.specs.Prelude.{⊤, slice_get, Contains, nat_eq, nat_lt}
 use Rattle.std.specs.List.{list_any, flat_map, position_or_len, prefix_len}
 use Rattle.std.proofs.lemmas.Bool.{lt-ltb, eqb-true, eqb-false}
 use Rattle.std.proofs.lemmas.List.Folds.{find_at}
-use Rattle.std.proofs.lemmas.Option.{slice_get_within, get_or_from_slice_get}
+use Rattle.std.proofs.lemmas.Option.{slice_get_within, get_or_from_slice_get, same_Some as some_same}
 use Rattle.std.proofs.lemmas.List.{length-map}
 use Rattle.sdl_ast.specs.declared.expression.Identifier.{Identifier}
 use Rattle.sdl_ast.specs.declared.tree.Join as tree
@@ -18,22 +18,17 @@ use Rattle.sdl_sound.specs.Decisions.{is_answered, statement_unanswered}
 use Rattle.sdl_sound.specs.Names.{statement_unknown}
 use Rattle.sdl_sound.specs.Orders.{IsOrder}
 use Rattle.sdl_sound.specs.Laws.{IsTextOf}
-use Rattle.sdl_sound.proofs.Items.{Each, each_front, each_back, each_always, each_with, each_flat, each_unflat, each_map, nil_front, nil_back, each_nil}
+use Rattle.sdl_sound.proofs.Items.{Each, each_front, each_back, each_always, each_with, each_flat, each_unflat, each_map, each_nil, each_at, each_both as both_each}
 use Rattle.sdl_unset.proofs.Chancing.{HasBody, EndsWell, IsWhole, AreWhole, IsBefore, AreRanked}
+use Rattle.std.proofs.lemmas.List.Elements.{Contains-append_right}
+use Rattle.plain_laws.proofs.Searches.{position-map}
+use Rattle.plain_laws.proofs.Lists.{test_known as no_place, append-nil_left as nil_front, append-nil_right as nil_back}
 
 -- ---- members
 
-more : {A : Type 0} (x y : A) (xs : List A) → Contains xs y → Contains (x ∷ xs) y
-more x y xs (k, within, is) = (suc k, omega (arith, within), is)
-
 pub each_contains : {A : Type 0} (xs : List A) → Each (λ x. Contains xs x) xs
 each_contains [] = tt
-each_contains (x ∷ xs) = ((0, omega arith, refl), each_with (λ y. Contains xs y) (λ y. Contains (x ∷ xs) y) (λ y. more x y xs) xs (each_contains xs))
-
-pub each_at : {A : Type 0} (P : A → Type 0) (xs : List A) (x : A) → Each P xs → Contains xs x → P x
-each_at P [] x h (k, within, is) = absurd (omega (arith, within))
-each_at P (y ∷ xs) x h (zero, within, is) = subst P is h.0
-each_at P (y ∷ xs) x h (suc k, within, is) = each_at P xs x h.1 (k, omega (arith, within), is)
+each_contains (x ∷ xs) = ((0, omega arith, refl), each_with (λ y. Contains xs y) (λ y. Contains (x ∷ xs) y) (λ y. Contains-append_right (x ∷ []) xs y) xs (each_contains xs))
 
 -- ---- from the statements of a text to the text
 
@@ -72,10 +67,6 @@ IsFine p (covers q ranges) = ⊤
 IsFine p (finishes (NextState n)) = ⊤
 IsFine p (finishes (Stop at)) = ⊤
 IsFine p (finishes (Join j)) = (c : PlainConnection) × (connection_named p j.connector.name ≡ Some c)
-
-no_place : (b : Bool) (at : ℕ) → (if b then [] else at ∷ []) ≡ [] → b ≡ true
-no_place true at h = refl
-no_place false at h = let bad : at ∷ [] ≡ [] = h in absurd (let k : ⊥ = cc in k)
 
 no_places : (b : Bool) (at : ℕ) → (if b then [] else at ∷ []) ++ [] ≡ [] → b ≡ true
 no_places true at h = refl
@@ -121,9 +112,6 @@ place_in (m ∷ ms) n = if nat_eq m n then 0 else suc (place_in ms n)
 abbrev pub rank_of : PlainProcess → List ℕ → List ℕ → ℕ
 rank_of p order y = place_in order (position_or_len (λ (c : PlainConnection). same_name y c.name.name) p.connections)
 
-some_same : (m n : ℕ) → Some m ≡ Some n → m ≡ n
-some_same m n e = cc
-
 pub other_place : (m n : ℕ) → nat_eq m n ≡ false → Some m ≡ Some n → ⊥
 other_place m n e h = eqb-false m n e (some_same m n h)
 
@@ -147,13 +135,6 @@ place_least (m ∷ ms) n i h = by_test (nat_eq m n) refl i h (place_least ms n)
     by_test true e i h rest = omega arith
     by_test false e zero h rest = absurd (other_place m n e h)
     by_test false e (suc i) h rest = omega (arith, rest i h)
-
-prefix_len-map : {A B : Type 0} (t : B → Bool) (f : A → B) (xs : List A) → prefix_len t (map f xs) ≡ prefix_len (λ x. t (f x)) xs
-prefix_len-map t f [] = refl
-prefix_len-map t f (x ∷ xs) = ap (λ r. cond (t (f x)) (1 + r) 0) (prefix_len-map t f xs)
-
-pub position-map : {A B : Type 0} (t : B → Bool) (f : A → B) (xs : List A) → position t (map f xs) ≡ position (λ x. t (f x)) xs
-position-map t f xs = rw (prefix_len-map (λ y. not (t y)) f xs, length-map xs f) refl
 
 -- the number of the first connection with a name
 abbrev pub number_at : PlainProcess → List ℕ → ℕ
@@ -280,10 +261,6 @@ joined_well p P js f (covers q ranges) fine among = tt
 joined_well p P js f (finishes (NextState n)) fine among = tt
 joined_well p P js f (finishes (Stop at)) fine among = tt
 joined_well p P js f (finishes (Join j)) fine among = f j fine.0 among.0 fine.1
-
-both_each : {A : Type 0} (P Q : A → Type 0) (xs : List A) → Each P xs → Each Q xs → Each (λ x. P x × Q x) xs
-both_each P Q [] h k = tt
-both_each P Q (x ∷ xs) h k = ((h.0, k.0), both_each P Q xs h.1 k.1)
 
 text_whole : (p : PlainProcess) (P : List ℕ → Type 0) (t : Text)
     → ((j : tree.Join) (c : PlainConnection) → Contains (joins_of t) j → connection_named p j.connector.name ≡ Some c → P j.connector.name)

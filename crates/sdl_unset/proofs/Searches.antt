@@ -7,7 +7,7 @@ use Rattle.std.specs.Int.{bit_at, w32}
 use Rattle.std.specs.Int.RustNames.{bit_or}
 use Rattle.std.proofs.lemmas.Nat.Bits.{bit_at_set_same, bit_at_set_other}
 use Rattle.std.specs.Global.{Vec}
-use Rattle.std.proofs.lemmas.Option.{slice_get-get_or, slice_get_within, slice_get-map, slice_get_past}
+use Rattle.std.proofs.lemmas.Option.{slice_get-get_or, slice_get_within, slice_get-map, slice_get_past, same_Some as some_same}
 use Rattle.std.proofs.lemmas.Bool.{cases_eq}
 use Rattle.std.proofs.lemmas.List.{length-map, take_more}
 use Rattle.unset_paths.specs.declared.Graph.{Graph}
@@ -15,27 +15,26 @@ use Rattle.unset_paths.specs.declared.Fate.{Fate}
 use Rattle.unset_paths.specs.declared.Fate.TheVariants.{Unset, Set}
 use Rattle.unset_paths.specs.declared.Step as number
 use Rattle.unset_paths.specs.declared.Step.TheVariants.{Input as By}
+use Rattle.unset_paths.specs.Order.{NotAfter, IsSorted, IsFirst}
+use Rattle.unset_paths.proofs.Orders.{not_after_trans}
 use Rattle.unset_paths.specs.Graph.{IfUnset, IfSet, IsClosedSet, ReadsUnset, IsShortest}
 use Rattle.sdl_ast.specs.Plain.{PlainProcess, PlainBlock}
 use Rattle.sdl_ast.specs.declared.expression.Identifier.{Identifier}
 use Rattle.sdl_tables.specs.Names.{same_name, states_of, Input, inputs_of, inputs_by_state}
 use Rattle.sdl_tables.specs.Rows.{row_input, rows_inputs}
-use Rattle.sdl_unset.specs.Fates.{is_set_in, set_bit, IsFate, AreSet, IsUnsetAt, fate_path, HasFewest, IsNamed, declared_name, IsSpelled}
+use Rattle.sdl_unset.specs.Fates.{is_set_in, set_bit, IsFate, AreSet, IsUnsetAt, fate_path, HasFirst, IsNamed, declared_name, IsSpelled}
 use Rattle.sdl_tables.specs.declared.process_table.InputRow.{InputRow}
 use Rattle.sdl_sound.specs.declared.fault.Step.TheVariants.{Input as Takes}
 use Rattle.sdl_sound.proofs.Numbered.{same_folded, folded_same}
 use Rattle.sdl_unset.proofs.PathNames.{inputs_back}
 use Rattle.sdl_unset.proofs.Settling.{numbered_length}
 
-some_same : {A : Type 0} (x y : A) → Some x ≡ Some y → x ≡ y
-some_same x y e = cc
-
 -- ---- fates
 
 pub fate_by : (g : Graph) (v : ℕ) (f : Fate) → IfUnset f (λ path. ReadsUnset g v path.items) → IfUnset f (λ path. IsShortest g v path.items)
-    → IfSet f (λ _. (path : List number.Step) → ReadsUnset g v path → ⊥) → IfSet f (λ marks. IsClosedSet g v marks.items) → IsFate g v f
-fate_by g v (Unset path) found fewest none closed = (found, fewest)
-fate_by g v (Set marks) found fewest none closed = (none, closed)
+    → IfUnset f (λ path. IsSorted g → IsFirst g v path.items) → IsSorted g → IfSet f (λ _. (path : List number.Step) → ReadsUnset g v path → ⊥) → IfSet f (λ marks. IsClosedSet g v marks.items) → IsFate g v f
+fate_by g v (Unset path) found fewest first sorted none closed = (found, fewest, first sorted)
+fate_by g v (Set marks) found fewest first sorted none closed = (none, closed)
 
 pub push_at : {A : Type 0} (P : ℕ → A → Type 0) (xs : List A) (y : A) (n : ℕ) → length xs ≡ n → ((v : ℕ) (x : A) → slice_get xs v ≡ Some x → P v x) → P n y
     → (v : ℕ) (x : A) → slice_get (xs ++ y ∷ []) v ≡ Some x → P v x
@@ -77,48 +76,43 @@ first_is fates best other r one found last = elim one [
   | inr e ↦ subst (λ (o : Option ℕ). IfSome o (IsUnsetAt fates)) e found
 ]
 
--- none of the variables below a number that are read unset is so by fewer steps
-abbrev pub HasFewestBelow : List Fate → ℕ → ℕ → Type 0
-HasFewestBelow fates k v = (w : ℕ) → w < k → IsUnsetAt fates w → length (fate_path fates v) ≤ length (fate_path fates w)
+-- none of the variables below a number that are read unset is so by a path that is named before
+abbrev pub HasFirstBelow : List Fate → ℕ → ℕ → Type 0
+HasFirstBelow fates k v = (w : ℕ) → w < k → IsUnsetAt fates w → NotAfter (fate_path fates v) (fate_path fates w)
 
 -- one that is set
-pub fewest_past : (fates : List Fate) (k : ℕ) (f : Fate) (marks : Vec Bool) (best : Option ℕ) → k < length fates → f ≡ get_or fates k f → f ≡ Set marks
-    → IfSome best (HasFewestBelow fates k) → IfSome best (HasFewestBelow fates (k + 1))
-fewest_past fates k f marks None within read is before = tt
-fewest_past fates k f marks (Some v) within read is before = λ w lt u. elim (cases_eq w k) [
+pub first_past : (fates : List Fate) (k : ℕ) (f : Fate) (marks : Vec Bool) (best : Option ℕ) → k < length fates → f ≡ get_or fates k f → f ≡ Set marks
+    → IfSome best (HasFirstBelow fates k) → IfSome best (HasFirstBelow fates (k + 1))
+first_past fates k f marks None within read is before = tt
+first_past fates k f marks (Some v) within read is before = λ w lt u. elim (cases_eq w k) [
   | inl here ↦
       let there : slice_get fates k ≡ Some (Set marks) = slice_get-get_or fates k f within ∙ ap Some (sym read ∙ is) in
       absurd (unset-set u.0 marks (sym u.1 ∙ (ap (slice_get fates) here ∙ there)))
   | inr other ↦ before w (omega (arith, lt, other)) u
 ]
 
--- the one that is named has no more steps than one before, by way of the best before
-fewest_before : (fates : List Fate) (k r w : ℕ) (best : Option ℕ) → IfSome best (λ one. length (fate_path fates r) ≤ length (fate_path fates one))
-    → (best ≡ None → AreSetBelow fates k) → IfSome best (HasFewestBelow fates k) → w < k → IsUnsetAt fates w
-    → length (fate_path fates r) ≤ length (fate_path fates w)
-fewest_before fates k r w None than none before below u = absurd (none refl w u.0 below u.1)
-fewest_before fates k r w (Some one) than none before below u = omega (arith, than, before w below u)
+-- the path of the one that is named is not after one before, by way of the best before
+first_before : (fates : List Fate) (k r w : ℕ) (best : Option ℕ) → IfSome best (λ one. NotAfter (fate_path fates r) (fate_path fates one))
+    → (best ≡ None → AreSetBelow fates k) → IfSome best (HasFirstBelow fates k) → w < k → IsUnsetAt fates w
+    → NotAfter (fate_path fates r) (fate_path fates w)
+first_before fates k r w None than none before below u = absurd (none refl w u.0 below u.1)
+first_before fates k r w (Some one) than none before below u =
+    not_after_trans (fate_path fates r) (fate_path fates one) (fate_path fates w) than (before w below u)
 
 -- one that is read unset
-pub fewest_more : (fates : List Fate) (k r : ℕ) (best : Option ℕ) → length (fate_path fates r) ≤ length (fate_path fates k)
-    → IfSome best (λ one. length (fate_path fates r) ≤ length (fate_path fates one)) → (best ≡ None → AreSetBelow fates k)
-    → IfSome best (HasFewestBelow fates k) → HasFewestBelow fates (k + 1) r
-fewest_more fates k r best last than none before w lt u = elim (cases_eq w k) [
-  | inl here ↦ let P : ℕ → Type 0 = λ n. length (fate_path fates r) ≤ length (fate_path fates n) in subst P (sym here) last
-  | inr other ↦ fewest_before fates k r w best than none before (omega (arith, lt, other)) u
+pub first_more : (fates : List Fate) (k r : ℕ) (best : Option ℕ) → NotAfter (fate_path fates r) (fate_path fates k)
+    → IfSome best (λ one. NotAfter (fate_path fates r) (fate_path fates one)) → (best ≡ None → AreSetBelow fates k)
+    → IfSome best (HasFirstBelow fates k) → HasFirstBelow fates (k + 1) r
+first_more fates k r best last than none before w lt u = elim (cases_eq w k) [
+  | inl here ↦ let P : ℕ → Type 0 = λ n. NotAfter (fate_path fates r) (fate_path fates n) in subst P (sym here) last
+  | inr other ↦ first_before fates k r w best than none before (omega (arith, lt, other)) u
 ]
 
-pub fewest_all : (fates : List Fate) (k : ℕ) (best : Option ℕ) → length fates ≤ k → IfSome best (HasFewestBelow fates k) → IfSome best (HasFewest fates)
-fewest_all fates k None past below = tt
-fewest_all fates k (Some v) past below = λ w u. below w (omega (arith, past, slice_get_within fates w (Unset u.0) u.1)) u
+pub first_all : (fates : List Fate) (k : ℕ) (best : Option ℕ) → length fates ≤ k → IfSome best (HasFirstBelow fates k) → IfSome best (HasFirst fates)
+first_all fates k None past below = tt
+first_all fates k (Some v) past below = λ w u. below w (omega (arith, past, slice_get_within fates w (Unset u.0) u.1)) u
 
 -- ---- names
-
-pub same_itself : (x : List ℕ) → same_name x x ≡ true
-same_itself x = folded_same x x refl
-
-pub same_back : (x y : List ℕ) → same_name x y ≡ true → same_name y x ≡ true
-same_back x y h = folded_same y x (sym (same_folded x y h))
 
 cond_found : {A : Type 0} (p : A → Bool) (x y : A) (b : Bool) (o : Option A) → p x ≡ b → (o ≡ Some y → p y ≡ true) → cond b (Some x) o ≡ Some y → p y ≡ true
 cond_found p x y true o holds rest e = ap p (sym (some_same x y e)) ∙ holds
@@ -162,12 +156,6 @@ spelled_by b p q i x heard rows row same there is inp at state signal e =
     let one : row_input row ≡ inp = some_same (row_input row) inp (sym input ∙ at) in
     let other : heard ≡ signal = let t : Takes x heard ≡ Takes state signal = e in cc in
     sym other ∙ (is ∙ ap (λ (j : Input). declared_name b p j.stimulus.name.name) one)
-
-pub all_zip_push : {A B : Type 0} (R : A → B → Type 0) (xs : List A) (ys : List B) (x : A) (y : B) → AllZip R xs ys → R x y → AllZip R (xs ++ x ∷ []) (ys ++ y ∷ [])
-all_zip_push R [] [] x y h r = (r, tt)
-all_zip_push R [] (b ∷ ys) x y h r = absurd h
-all_zip_push R (a ∷ xs) [] x y h r = absurd h
-all_zip_push R (a ∷ xs) (b ∷ ys) x y h r = (h.0, all_zip_push R xs ys x y h.1 r)
 
 -- ---- bits
 

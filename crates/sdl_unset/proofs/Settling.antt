@@ -26,25 +26,10 @@ use Rattle.sdl_sound.specs.Settled.{IsSettled, AreSettled}
 use Rattle.sdl_unset.specs.Fates.{IsFate, AreFates, AreSet, is_set_in, set_bit}
 use Rattle.sdl_unset.proofs.PathNames.{input_in_graph, inputs_back}
 use Rattle.sdl_unset.proofs.Numbers.{never_reads}
+use Rattle.plain_laws.proofs.Places.{there_is, no_place}
+use Rattle.plain_laws.proofs.Pairwise.{zip_by as all_zip_by}
 
 -- ---- places
-
-no_place : {A : Type 0} (xs : List A) (i : ℕ) → i < length xs → slice_get xs i ≡ None → ⊥
-no_place [] i within e = absurd (omega (arith, within))
-no_place (x ∷ xs) zero within e = let bad : Some x ≡ None = e in cc
-no_place (x ∷ xs) (suc i) within e = no_place xs i (omega (arith, within)) e
-
-pub there_is : {A : Type 0} (xs : List A) (i : ℕ) → i < length xs → (x : A) × (slice_get xs i ≡ Some x)
-there_is [] i within = absurd (omega (arith, within))
-there_is (x ∷ xs) zero within = (x, refl)
-there_is (x ∷ xs) (suc i) within = there_is xs i (omega (arith, within))
-
-pub all_zip_by : {A B : Type 0} (R : A → B → Type 0) (xs : List A) (ys : List B) → length xs ≡ length ys
-    → ((i : ℕ) (x : A) (y : B) → slice_get xs i ≡ Some x → slice_get ys i ≡ Some y → R x y) → AllZip R xs ys
-all_zip_by R [] [] n h = tt
-all_zip_by R [] (y ∷ ys) n h = absurd (omega (arith, n))
-all_zip_by R (x ∷ xs) [] n h = absurd (omega (arith, n))
-all_zip_by R (x ∷ xs) (y ∷ ys) n h = (h 0 x y refl refl, all_zip_by R xs ys (omega (arith, n)) (λ i. h (suc i)))
 
 pub numbered_length : {X : Type 0} (f : ℕ → List Input) (xs : List X) (k : ℕ) → length (map (λ s. f s.0) (enumerate_from k xs)) ≡ length xs
 numbered_length f [] k = refl

@@ -17,18 +17,15 @@ use Rattle.sdl_unset.specs.Fates.{IsNamed, declared_name, IsSpelled}
 use Rattle.sdl_sound.specs.Spellings.{IsSpelling, IsDeclaredStep}
 use Rattle.sdl_sound.specs.declared.fault.Step.{Step}
 use Rattle.sdl_sound.specs.declared.fault.Step.TheVariants.{Start, Input as Takes}
-use Rattle.sdl_sound.proofs.Items.{Each, each_map, each_with, each_nil, each_unfound, nil_front}
-use Rattle.sdl_unset.proofs.Ranks.{each_at, inputs_by}
-use Rattle.sdl_sound.proofs.Lists.{among_at}
+use Rattle.sdl_sound.proofs.Items.{Each, each_map, each_with, each_nil, each_unfound, each_at}
+use Rattle.sdl_unset.proofs.Ranks.{inputs_by}
 use Rattle.sdl_sound.proofs.Numbered.{folded_same, number_names}
 use Rattle.sdl_unset.proofs.Numbers.{has_number}
 use Rattle.sdl_sound.proofs.Numbered.{nowhere}
+use Rattle.plain_laws.proofs.Lists.{test_known, append-nil_left as nil_front}
+use Rattle.plain_laws.proofs.Places.{among_at}
 
 -- ---- what a state takes is declared
-
-test_known : (known : Bool) (at : ℕ) → (if known then [] else at ∷ []) ≡ [] → known ≡ true
-test_known true at e = refl
-test_known false at e = absurd (let k : ⊥ = cc in k)
 
 stimulus_known : (b : PlainBlock) (p : PlainProcess) (s : PlainStimulus) → stimulus_unknown b p s ≡ [] → is_in (trigger_names b p) s.name.name ≡ true
 stimulus_known b p s none =

@@ -1,5 +1,5 @@
 -- The summary of a transition from what its walks may do, and the graph of a process.
-use Rattle.std.proofs.Common.{◌≡◌, ℕ, zero, suc, ◌+◌, ◌<◌, ◌≤◌, true, false, List, [], ◌∷◌, ◌++◌, map, take, length, Option, Some, get_or, refl, sym, ap, ◌∙◌, subst, arith, inl, inr}
+use Rattle.std.proofs.Common.{◌≡◌, ℕ, zero, suc, ◌+◌, ◌<◌, ◌≤◌, true, false, List, [], ◌∷◌, ◌++◌, map, take, length, Option, None, Some, get_or, refl, sym, ap, ◌∙◌, subst, arith, inl, inr}
 use Rattle.std.specs.Prelude.{slice_get, Contains}
 use Rattle.std.specs.List.{AllZip, enumerate_from}
 use Rattle.std.specs.Option.{option_map_or}
@@ -9,6 +9,8 @@ use Rattle.std.proofs.lemmas.List.{length-map, map_more, take_more, length-take-
 use Rattle.std.proofs.lemmas.List.Elements.{Contains-append_left, Contains-append_right, Contains-append_cases}
 use Rattle.std.proofs.lemmas.Option.{slice_get_within, slice_get_past}
 use Rattle.unset_paths.specs.Graph.{has}
+use Rattle.unset_paths.specs.Order.{AreSorted}
+use Rattle.sdl_sound.proofs.Lists.{get_push_cases}
 use Rattle.unset_paths.specs.declared.Passage.{Passage}
 use Rattle.unset_paths.specs.declared.Summary.{Summary}
 use Rattle.unset_paths.specs.declared.Graph.{Graph}
@@ -26,14 +28,13 @@ use Rattle.sdl_sound.proofs.Items.{Each, each_always, each_map, each_with}
 use Rattle.sdl_unset.proofs.Chancing.{IsWhole, IsBefore, AreRanked}
 use Rattle.sdl_unset.proofs.Ranks.{AreFine, rank_of, are_ranked, is_whole, each_contains}
 use Rattle.sdl_unset.proofs.Telling.{reads_exactly, keeps_exactly}
+use Rattle.std.proofs.lemmas.Slice.Zip.{all_zipped_more as zip_push}
+use Rattle.sdl_unset.proofs.Walkers.{mask_past}
 
 -- ---- passages
 
 none_has : (v : ℕ) → has 0 v ≡ true → ⊥
 none_has v h = let bad : false ≡ true = sym (has_none v) ∙ h in cc
-
-mask_past : (masks : List ℕ) (q : ℕ) → length masks ≤ q → mask_at masks q ≡ 0
-mask_past masks q h = ap (λ (o : Option ℕ). option_map_or (λ m. m) o 0) (slice_get_past masks q h)
 
 mask-last : (masks : List ℕ) (m : ℕ) → mask_at (masks ++ m ∷ []) (length masks) ≡ m
 mask-last [] m = refl
@@ -112,6 +113,42 @@ pub passage_skipped : (masks : List ℕ) (i : ℕ) (passages : List Passage) →
 passage_skipped masks i passages within none are =
     subst (λ (list : List ℕ). ArePassages list passages) (sym (take_more masks i 0 within)) (skipped_passage (take i masks) (get_or masks i 0) passages none are)
 
+-- ---- the order of the passages
+
+-- the passages are in order, and lead to states below n
+abbrev pub AreBelow : List Passage → ℕ → Type 0
+AreBelow ps n = AreSorted ps × ((i : ℕ) (p : Passage) → slice_get ps i ≡ Some p → p.state < n)
+
+pub below_none : AreBelow [] 0
+below_none = (λ i j p q lt at_i at_j. absurd (nothing p at_i), λ i p at. absurd (nothing p at))
+  where
+    nothing : (p : Passage) → None ≡ Some p → ⊥
+    nothing p e = cc
+
+pub below_later : (ps : List Passage) (n : ℕ) → AreBelow ps n → AreBelow ps (n + 1)
+below_later ps n h = (h.0, λ i p at. omega (arith, h.1 i p at))
+
+pub below_push : (ps : List Passage) (n keeps : ℕ) → AreBelow ps n → AreBelow (ps ++ record { state = n; keeps = keeps } ∷ []) (n + 1)
+below_push ps n keeps h =
+    let new : Passage = record { state = n; keeps = keeps } in (
+      λ i j p q lt at_i at_j. elim (get_push_cases ps new q j at_j) [
+        | inl old ↦ elim (get_push_cases ps new p i at_i) [
+          | inl same ↦ h.0 i j p q lt same old
+          | inr e ↦ absurd (omega (arith, lt, e.0, slice_get_within ps j q old))
+        ]
+        | inr last ↦
+            let state : q.state ≡ n = ap (λ (z : Passage). z.state) last.1 in
+            elim (get_push_cases ps new p i at_i) [
+              | inl same ↦ omega (arith, h.1 i p same, state)
+              | inr e ↦ absurd (omega (arith, lt, e.0, last.0))
+            ]
+      ],
+      λ i p at. elim (get_push_cases ps new p i at) [
+        | inl same ↦ omega (arith, h.1 i p same)
+        | inr e ↦ omega (arith, ap (λ (z : Passage). z.state) e.1)
+      ],
+    )
+
 -- ---- summaries
 
 pub below : (p : PlainProcess) (v : ℕ) (id : Identifier) → length (variables_of p) ≤ 32 → slice_get (variable_names p) v ≡ Some id → v < 32
@@ -121,16 +158,17 @@ below p v id few there =
     omega arith
 
 pub summary_by : (p : PlainProcess) (t : Transition) (w : Walker) (passages : Vec Passage) → length (variables_of p) ≤ 32
-    → Stands p (λ x q. behind (behind leaving (event_chances t.first x)) (text_chances p t.text x q)) w → ArePassages w.enters.items passages.items
+    → Stands p (λ x q. behind (behind leaving (event_chances t.first x)) (text_chances p t.text x q)) w → ArePassages w.enters.items passages.items → AreSorted passages.items
     → IsSummaryBy p t (record { reads = w.reads; passages = passages })
 unfolding Stands
-summary_by p t w passages few s are = record {
+summary_by p t w passages few s are sorted = record {
   reads = λ v q id there. (s.1 v q id (below p v id few there) there).0;
   passes = λ v q id there.
       let bit = (s.1 v q id (below p v id few there) there).2 in (
         λ h. sym bit ∙ (are v q).0 (h.passage, h.among, h.keeps, h.ends),
         λ h. let found = (are v q).1 (bit ∙ h) in record { passage = found.0; among = found.1; keeps = found.2; ends = found.3 },
       );
+  sorted = sorted;
 }
 
 pub summary_of : (p : PlainProcess) (rank : List ℕ → ℕ) (t : Transition) (s : Summary) → AreRanked p rank → IsWhole (IsBefore p rank (length p.connections)) t.text
@@ -144,15 +182,10 @@ summary_of p rank t s ranked whole by = record {
       let same = by.passes v q id there in
       let told = keeps_exactly p rank t id.name q ranked whole in
       (λ h. told.0 (same.0 h), λ k. same.1 (told.1 k));
+  sorted = by.sorted;
 }
 
 -- ---- the graph
-
-zip_push : {A B : Type 0} (R : A → B → Type 0) (xs : List A) (ys : List B) (x : A) (y : B) → AllZip R xs ys → R x y → AllZip R (xs ++ x ∷ []) (ys ++ y ∷ [])
-zip_push R [] [] x y h r = (r, tt)
-zip_push R [] (b ∷ ys) x y h r = absurd h
-zip_push R (a ∷ xs) [] x y h r = absurd h
-zip_push R (a ∷ xs) (b ∷ ys) x y h r = (h.0, zip_push R xs ys x y h.1 r)
 
 -- one row more
 pub zip_more : {X A B : Type 0} (R : A → B → Type 0) (g : X → A) (xs : List X) (i : ℕ) (x : X) (ys : List B) (y : B) → i < length xs → x ≡ get_or xs i x
@@ -160,14 +193,6 @@ pub zip_more : {X A B : Type 0} (R : A → B → Type 0) (g : X → A) (xs : Lis
 zip_more R g xs i x ys y within is h r =
     subst (λ zs. AllZip R zs (ys ++ y ∷ [])) (ap (λ u. map g (take i xs) ++ g u ∷ []) is ∙ sym (map_more g xs i x within))
     (zip_push R (map g (take i xs)) ys (g x) y h r)
-
--- one row more, behind others
-pub zip_behind : {X A B : Type 0} (R : A → B → Type 0) (g : X → A) (before : List A) (xs : List X) (i : ℕ) (x : X) (ys : List B) (y : B) → i < length xs → x ≡ get_or xs i x
-    → AllZip R (before ++ map g (take i xs)) ys → R (g x) y → AllZip R (before ++ map g (take (i + 1) xs)) (ys ++ y ∷ [])
-zip_behind R g before xs i x ys y within is h r =
-    subst (λ zs. AllZip R zs (ys ++ y ∷ []))
-    (append_assoc before (map g (take i xs)) (g x ∷ []) ∙ ap (λ l. before ++ l) (ap (λ u. map g (take i xs) ++ g u ∷ []) is ∙ sym (map_more g xs i x within)))
-    (zip_push R (before ++ map g (take i xs)) ys (g x) y h r)
 
 zip_with : {A B : Type 0} (P : A → Type 0) (R S : A → B → Type 0) → ((x : A) (y : B) → P x → R x y → S x y) → (xs : List A) (ys : List B) → Each P xs → AllZip R xs ys → AllZip S xs ys
 zip_with P R S f [] [] e h = tt

@@ -22,13 +22,15 @@ use Rattle.sdl_sound.specs.Paths.{ReadsUnset, IsShortest, AreLonger, IsFirstWith
 use Rattle.sdl_unset.specs.Surveys.{IsUnset}
 use Rattle.sdl_unset.specs.declared.settled.Unset.{Unset}
 use Rattle.sdl_sound.specs.declared.fault.Limit.TheVariants.{Processes, States, Variables, Timers, Signals, Params, Pieces}
-use Rattle.sdl_sound.proofs.Repeats.{append-nil_right}
+use Rattle.plain_laws.proofs.Lists.{append-nil_right}
 use Rattle.sdl_unset.proofs.Numbers.{none_at, numbered_path}
-use Rattle.sdl_unset.proofs.Settling.{there_is}
-use Rattle.sdl_sound.proofs.Lists.{among_at}
-use Rattle.sdl_unset.proofs.PathNames.{all_zip_at, named_reads, steps_there}
+use Rattle.sdl_unset.proofs.TextOrder.{all_named, not_after_names}
+use Rattle.unset_paths.specs.Order.{NotAfter}
+use Rattle.unset_paths.proofs.Orders.{no_longer, not_after_trans}
+use Rattle.sdl_sound.specs.PathOrder.{IsFirst}
+use Rattle.sdl_unset.proofs.PathNames.{named_reads, steps_there}
 use Rattle.sdl_unset.proofs.Spelling.{spelling_at, declared_steps}
-use Rattle.sdl_unset.specs.Fates.{IsFate, AreFates, IsUnsetAt, path_of, fate_path, HasFewest, IsStep, IsNamed, IsSpelled}
+use Rattle.sdl_unset.specs.Fates.{IsFate, AreFates, IsUnsetAt, path_of, fate_path, HasFirst, IsStep, IsNamed, IsSpelled}
 use Rattle.sdl_sound.specs.Spellings.{AreDeclared}
 use Rattle.sdl_sound.specs.declared.fault.Step.{Step}
 use Rattle.sdl_ast.specs.declared.expression.Identifier.{Identifier}
@@ -37,19 +39,16 @@ use Rattle.unset_paths.specs.declared.Fate.TheVariants.{Unset as Path, Set as Ma
 use Rattle.unset_paths.specs.declared.Graph as graphs
 use Rattle.unset_paths.specs.declared.Step as number
 use Rattle.unset_paths.specs.Graph as graph
+use Rattle.std.proofs.lemmas.Bool.{or_parts as or_false}
+use Rattle.plain_laws.proofs.Pairwise.{zip_at as all_zip_at, zip_length}
+use Rattle.plain_laws.proofs.Places.{there_is, among_at}
+use Rattle.plain_laws.proofs.Options.{some_none}
 
 -- ---- what a limit says
 
-some_none : {A : Type 0} (x : A) → Some x ≡ None → ⊥
-some_none x e = cc
-
 none_before : {A : Type 0} (b : Bool) (x : A) (o : Option A) → cond b (Some x) o ≡ None → (b ≡ false) × (o ≡ None)
-none_before true x o e = absurd (some_none x e)
+none_before true x o e = absurd (some_none e)
 none_before false x o e = (refl, e)
-
-or_false : (a b : Bool) → (a || b) ≡ false → (a ≡ false) × (b ≡ false)
-or_false true b e = absurd (true≢false e)
-or_false false b e = (refl, e)
 
 few_of : (n : ℕ) → nat_lt 32 n ≡ false → n ≤ 32
 few_of n e = grind (arith, leb_tells, e)
@@ -93,12 +92,6 @@ within_known b w = known_names b w.0.0.0.0.0.0.0.0.1
 pub within_answered : (b : PlainBlock) → IsWithin b → All (λ p. in_statements (λ from. statement_unanswered (variables_of p)) p ≡ []) (processes_of b)
 within_answered b w = answered_names b w.0.0.1
 
-zip_length : {A B : Type 0} (R : A → B → Type 0) (xs : List A) (ys : List B) → AllZip R xs ys → length xs ≡ length ys
-zip_length R [] [] h = refl
-zip_length R [] (y ∷ ys) h = absurd h
-zip_length R (x ∷ xs) [] h = absurd h
-zip_length R (x ∷ xs) (y ∷ ys) h = ap suc (zip_length R xs ys h.1)
-
 pub order_within : (ts : List the_process.Process) (ps : List PlainProcess) (orders : List (Vec ℕ)) (i : ℕ) → map process_of ts ≡ ps → AreOrders ps orders → i < length ts → i < length orders
 order_within ts ps orders i same are within =
     let count : length ts ≡ length orders = sym (length-map ts process_of) ∙ (ap length same ∙ zip_length (λ p (v : Vec ℕ). IsOrder p v.items) ps orders are) in
@@ -124,7 +117,7 @@ plain_more ts i t within read =
 
 -- one of the processes, the first of those so far that has so short a path
 abbrev pub IsUnsetAmong : PlainBlock → List PlainProcess → List PlainProcess → Unset → Type 0
-IsUnsetAmong b ps far u = (p : PlainProcess) × Contains ps p × IsUnset b p u × IsFirstWith far p u.path.steps.items
+IsUnsetAmong b ps far u = (p : PlainProcess) × Contains ps p × IsUnset b p u × IsFirstWith far p u.path.steps.items × IsFirst p u.path.steps.items
 
 pub contains_process : (ts : List the_process.Process) (i : ℕ) (t : the_process.Process) → i < length ts → t ≡ get_or ts i t → Contains (plain ts) (process_of t)
 contains_process ts i t within read =
@@ -140,7 +133,7 @@ first_more far p q path h = record {
 }
 
 among_more : (b : PlainBlock) (ps far : List PlainProcess) (q : PlainProcess) (u : Unset) → IsUnsetAmong b ps far u → IsUnsetAmong b ps (far ++ q ∷ []) u
-among_more b ps far q u (p, among, is, first) = (p, among, is, first_more far p q u.path.steps.items first)
+among_more b ps far q u (p, among, is, first, whole) = (p, among, is, first_more far p q u.path.steps.items first, whole)
 
 -- one process more, no path of which reads a variable unset
 pub among_past : (b : PlainBlock) (ps far : List PlainProcess) (q : PlainProcess) (best : Option Unset) → IfSome best (IsUnsetAmong b ps far)
@@ -193,10 +186,10 @@ longer_before ps (Some one) other less none before = λ k d within path x reads.
 pub shorter_is : (b : PlainBlock) (ps far : List PlainProcess) (q : PlainProcess) (best : Option Unset) (other r : Unset)
     → ((r ≡ other) × IfSome best (λ one. length other.path.steps.items < length one.path.steps.items)) ⊎ (best ≡ Some r)
     → IfSome best (IsUnsetAmong b ps far) → (best ≡ None → All NeverReadsUnset far) → IfSome best (AreShortest far)
-    → Contains ps q → IsUnset b q other → IsUnsetAmong b ps (far ++ q ∷ []) r
-shorter_is b ps far q best other r one found none before among last = elim one [
+    → Contains ps q → IsUnset b q other → IsFirst q other.path.steps.items → IsUnsetAmong b ps (far ++ q ∷ []) r
+shorter_is b ps far q best other r one found none before among last whole = elim one [
   | inl e ↦ subst (IsUnsetAmong b ps (far ++ q ∷ [])) (sym e.0)
-      (q, among, last, record { before = far; after = []; all = refl; longer = longer_before far best other e.1 none before })
+      (q, among, last, record { before = far; after = []; all = refl; longer = longer_before far best other e.1 none before }, whole)
   | inr e ↦ among_more b ps far q r (subst (λ (o : Option Unset). IfSome o (IsUnsetAmong b ps far)) e found)
 ]
 
@@ -224,7 +217,7 @@ fate_fewest g fates v (Path found) path there fate reads =
     ((found, there), omega (arith, long, fate.1 path reads))
 
 -- no path of the process is shorter than one to the variable that is named
-pub survey_shortest : (b : PlainBlock) (p : PlainProcess) (fates : List Fate) (n : ℕ) → process_unknown b p ≡ [] → AreFates p fates → HasFewest fates n
+pub survey_shortest : (b : PlainBlock) (p : PlainProcess) (fates : List Fate) (n : ℕ) → process_unknown b p ≡ [] → AreFates p fates → HasFirst fates n
     → (shown : List number.Step) → shown ≡ fate_path fates n → (steps : List Step) → AllZip (IsNamed p) shown steps → IsShortest p steps
 survey_shortest b p fates n known a fewest shown is steps named other x reads =
     let path = numbered_path b p a.graph known a.is other x reads in
@@ -234,7 +227,28 @@ survey_shortest b p fates n known a fewest shown is steps named other x reads =
     let told = fate_fewest a.graph fates path.0 fate.0 path.3 fate.1 (a.each path.0 fate.0 fate.1) path.4 in
     let long : length shown ≡ length steps = zip_length (IsNamed p) shown steps named in
     let same : length shown ≡ length (fate_path fates n) = ap length is in
-    omega (arith, told.1, fewest path.0 told.0, long, same, path.5)
+    omega (arith, told.1, no_longer (fate_path fates n) (fate_path fates path.0) (fewest path.0 told.0), long, same, path.5)
+
+-- the first path that a variable's fate is
+fate_first : (g : graphs.Graph) (fates : List Fate) (v : ℕ) (f : Fate) (path : List number.Step) → slice_get fates v ≡ Some f → IsFate g v f
+    → graph.ReadsUnset g v path → IsUnsetAt fates v × NotAfter (fate_path fates v) path
+fate_first g fates v (Marks marks) path there fate reads = absurd (fate.0 path reads)
+fate_first g fates v (Path found) path there fate reads =
+    let is : fate_path fates v ≡ found.items = ap (λ (o : Option Fate). option_map_or path_of o []) there in
+    ((found, there), subst (λ (l : List number.Step). NotAfter l path) (sym is) (fate.2 path reads))
+
+-- none of them comes first
+pub survey_first : (b : PlainBlock) (p : PlainProcess) (fates : List Fate) (n : ℕ) → process_unknown b p ≡ [] → AreFates p fates → HasFirst fates n
+    → (shown : List number.Step) → shown ≡ fate_path fates n → (steps : List Step) → AllZip (IsNamed p) shown steps → IsFirst p steps
+survey_first b p fates n known a first shown is steps named other x reads =
+    let path = numbered_path b p a.graph known a.is other x reads in
+    let names : length (variable_names p) ≡ length (variables_of p) = length-map (variables_of p) (λ y. y.name) in
+    let within : path.0 < length fates = omega (arith, slice_get_within (variable_names p) path.0 path.1 path.2, names, a.count) in
+    let fate = there_is fates path.0 within in
+    let told = fate_first a.graph fates path.0 fate.0 path.3 fate.1 (a.each path.0 fate.0 fate.1) path.4 in
+    let before : NotAfter shown path.3 =
+    subst (λ (l : List number.Step). NotAfter l path.3) (sym is) (not_after_trans (fate_path fates n) (fate_path fates path.0) path.3 (first path.0 told.0) told.1) in
+    not_after_names p shown path.3 steps other before (all_named p shown steps named) path.6
 
 pub survey_steps : (p : PlainProcess) (fates : List Fate) (n : ℕ) → AreFates p fates → IsUnsetAt fates n → (shown : List number.Step)
     → shown ≡ fate_path fates n → All (IsStep p) shown

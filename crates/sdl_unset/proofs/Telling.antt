@@ -3,7 +3,7 @@ use Rattle.std.proofs.Common.{◌≡◌, ℕ, ◌==◌, true, false, not, ◌&&�
 use Rattle.std.specs.Prelude.{Contains}
 use Rattle.std.specs.List.{flat_map}
 use Rattle.std.specs.Option.{option_map_or}
-use Rattle.std.proofs.lemmas.Bool.{not-true, eqb-true, eq-eqb}
+use Rattle.std.proofs.lemmas.Bool.{not-true, eqb-true, eq-eqb, and_parts as and_true, and_from as both_true, or_cases as or_true, or_left as true_or, or_right as or_else}
 use Rattle.sdl_ast.specs.Plain.{PlainProcess, PlainBlock}
 use Rattle.sdl_tables.specs.Names.{number_of, states_of, is_state, variables_of, processes_of, routes_of, input_parts}
 use Rattle.sdl_sound.specs.Paths.{Way, onward, stops, enters as into, way_state, Walks, Follows, Transition, reads_first, sets_in}
@@ -15,9 +15,11 @@ use Rattle.sdl_sound.specs.Names.{statement_unknown, process_unknown, input_unkn
 use Rattle.sdl_sound.specs.Sound.{Sound}
 use Rattle.sdl_sound.specs.Orders.{IsOrder}
 use Rattle.sdl_sound.specs.Laws.{IsTextOf}
-use Rattle.sdl_sound.proofs.Items.{each_nil, nil_back}
-use Rattle.sdl_unset.proofs.Chancing.{and_true, both_true, or_true, true_or, or_else, reads_first-append, reads-now, reads-later, sets-neither, sets_in-append, IsWhole, IsBefore, AreRanked, has_walk, follows_some, walk_tells, walk_shown}
-use Rattle.sdl_unset.proofs.Ranks.{each_at, AreFine, are_fine, rank_of, are_ranked, is_whole}
+use Rattle.sdl_sound.proofs.Items.{each_nil, each_at}
+use Rattle.sdl_unset.proofs.Chancing.{reads-now, sets-neither, IsWhole, IsBefore, AreRanked, has_walk, follows_some, walk_tells, walk_shown}
+use Rattle.sdl_unset.proofs.Ranks.{AreFine, are_fine, rank_of, are_ranked, is_whole}
+use Rattle.sdl_sound.proofs.Walks.{reads_first-append, sets_in-append, reads-later}
+use Rattle.plain_laws.proofs.Lists.{append-nil_right as nil_back}
 
 state_is : (q : ℕ) (o : Option ℕ) → option_map_or (λ n. n == q) o false ≡ true → o ≡ Some q
 state_is q None h = let bad : false ≡ true = h in absurd (let k : ⊥ = cc in k)

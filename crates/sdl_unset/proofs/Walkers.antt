@@ -17,6 +17,9 @@ use Rattle.sdl_unset.specs.declared.firsts.Firsts.{Firsts}
 use Rattle.sdl_unset.specs.declared.flow.Flow.{Flow}
 use Rattle.sdl_unset.specs.declared.walker.Walker.{Walker}
 use Rattle.sdl_unset.proofs.Bits.{has_and, has_or, has_none, has_all}
+use Rattle.std.proofs.Math.Bool.{and_assoc, or_assoc, and-false as and_false, and-true as and_true}
+use Rattle.plain_laws.proofs.Options.{some_of as through}
+use Rattle.sdl_ast.proofs.Views.{all_before-more as before-append, all_answers-more as answers-append}
 
 -- ---- masks
 
@@ -36,14 +39,6 @@ or_false : (b : Bool) → (b || false) ≡ b
 or_false true = refl
 or_false false = refl
 
-and_false : (b : Bool) → (b && false) ≡ false
-and_false true = refl
-and_false false = refl
-
-and_true : (b : Bool) → (b && true) ≡ b
-and_true true = refl
-and_true false = refl
-
 pub mask_added : (masks : List ℕ) (state mask old : ℕ) → state < length masks → old ≡ get_or masks state old → (v q : ℕ)
     → has (mask_at (set masks state (bit_or old mask)) q) v ≡ (has (mask_at masks q) v || (has mask v && (state == q)))
 mask_added masks state mask old within is v q = elim (cases_eq q state) [
@@ -61,7 +56,7 @@ mask_added masks state mask old within is v q = elim (cases_eq q state) [
       ∙ sym (ap (λ b. has (mask_at masks q) v || (has mask v && b)) differ ∙ (ap (λ b. has (mask_at masks q) v || b) (and_false (has mask v)) ∙ or_false (has (mask_at masks q) v)))
 ]
 
-mask_past : (masks : List ℕ) (q : ℕ) → length masks ≤ q → mask_at masks q ≡ 0
+pub mask_past : (masks : List ℕ) (q : ℕ) → length masks ≤ q → mask_at masks q ≡ 0
 mask_past masks q h = ap (λ (o : Option ℕ). option_map_or (λ m. m) o 0) (slice_get_past masks q h)
 
 pub masks_added : (masks new others : List ℕ) (keeps i : ℕ) → length new ≡ length masks → length masks ≤ i
@@ -96,14 +91,6 @@ bits_behind : (a l b m c : Bool) → ((a || (l && b)) || ((l && m) && c)) ≡ (a
 bits_behind true l b m c = refl
 bits_behind false true b m c = refl
 bits_behind false false b m c = refl
-
-and_assoc : (a b c : Bool) → ((a && b) && c) ≡ (a && (b && c))
-and_assoc true b c = refl
-and_assoc false b c = refl
-
-or_assoc : (a b c : Bool) → ((a || b) || c) ≡ (a || (b || c))
-or_assoc true b c = refl
-or_assoc false b c = refl
 
 bits_beside : (a l b c : Bool) → ((a || (l && b)) || (l && c)) ≡ (a || (l && (b || c)))
 bits_beside true l b c = refl
@@ -300,10 +287,6 @@ statements_then states told x q (s ∷ ss) rest =
     ∙ (ap (behind one) (statements_then states told x q ss rest)
     ∙ (sym (behind_behind one some r) ∙ ap (λ u. behind u r) (sym (statement_then states told x q s (all_before ss falls)))))
 
-before-append : (xs : List PlainStatement) (s : PlainStatement) (rest : Text) → all_before (xs ++ s ∷ []) rest ≡ all_before xs (before s rest)
-before-append [] s rest = refl
-before-append (x ∷ xs) s rest = ap (before x) (before-append xs s rest)
-
 pub statements_more : (states : List Identifier) (told : List ℕ → Chances) (x : List ℕ) (q : ℕ) (ss : List PlainStatement) (s : PlainStatement)
     → chances states told x q (all_before (ss ++ s ∷ []) falls) ≡ behind (chances states told x q (all_before ss falls)) (chances states told x q (before s falls))
 statements_more states told x q ss s = ap (chances states told x q) (before-append ss s falls) ∙ statements_then states told x q ss (before s falls)
@@ -316,10 +299,6 @@ answers_then states told x q (a ∷ list) others =
     ap (beside one) (answers_then states told x q list others)
     ∙ sym (beside_beside one (choice_chances states told x q (all_answers list nothing_else)) (choice_chances states told x q others))
 
-answers-append : (xs : List PlainAnswer) (a : PlainAnswer) (others : Choice) → all_answers (xs ++ a ∷ []) others ≡ all_answers xs (answer a.at a.ranges a.text others)
-answers-append [] a others = refl
-answers-append (x ∷ xs) a others = ap (answer x.at x.ranges x.text) (answers-append xs a others)
-
 pub answers_more : (states : List Identifier) (told : List ℕ → Chances) (x : List ℕ) (q : ℕ) (list : List PlainAnswer) (a : PlainAnswer)
     → choice_chances states told x q (all_answers (list ++ a ∷ []) nothing_else)
     ≡ beside (choice_chances states told x q (all_answers list nothing_else)) (chances states told x q a.text)
@@ -329,10 +308,6 @@ answers_more states told x q list a =
     ∙ ap (beside (choice_chances states told x q (all_answers list nothing_else))) (beside_none (chances states told x q a.text)))
 
 -- ---- the walkers of the connections
-
-through : {A B : Type 0} (f : A → Option B) (o : Option A) (b : B) → option_and_then f o ≡ Some b → (a : A) × (o ≡ Some a) × (f a ≡ Some b)
-through f None b h = let bad : None ≡ Some b = h in absurd (let k : ⊥ = cc in k)
-through f (Some a) b h = (a, refl, h)
 
 pub told_there : (p : PlainProcess) (told : List ℕ → ℕ → List ℕ → Chances) (walkers : List Walker) (y : List ℕ) (w : Walker) → AreTold p told walkers
     → option_and_then (slice_get walkers) (number_of (connector_names p) y) ≡ Some w → Stands p (λ x q. told x q y) w

@@ -16,7 +16,7 @@ use Rattle.sdl_sound.specs.Paths.{tree_events, action_events}
 use Rattle.sdl_sound.specs.Chances.{Chances, event_chances, behind, beside, chances, choice_chances}
 use Rattle.sdl_unset.specs.Flows.{Doings, Walked, Forked, text_doings, choice_doings, end_doings}
 use Rattle.sdl_unset.specs.declared.walker.Walker.{Walker}
-use Rattle.sdl_sound.proofs.Views.{text_of-is, statement_of-act, statement_of-decide, plain_answer-is}
+use Rattle.sdl_ast.proofs.Views.{text_of-is, statement_of-act, statement_of-decide, plain_answer-is}
 use Rattle.sdl_unset.proofs.Walkers.{behind_leaving, walked_same, walked_behind, fork_more, fork_end, forked_same, statements_then, statements_more, answers_then, answers_more}
 
 abbrev pub Told : Type 0

@@ -8,6 +8,7 @@ use Rattle.unset_paths.specs.declared.Fate.TheVariants.{Unset, Set}
 use Rattle.unset_paths.specs.declared.Step as number
 use Rattle.unset_paths.specs.declared.Step.TheVariants.{Start as First, Input as By}
 use Rattle.unset_paths.specs.Graph.{IsClosedSet, ReadsUnset, IsShortest}
+use Rattle.unset_paths.specs.Order.{NotAfter, IsFirst}
 use Rattle.sdl_ast.specs.Plain.{PlainProcess, PlainBlock}
 use Rattle.sdl_ast.specs.declared.expression.Identifier.{Identifier}
 use Rattle.sdl_tables.specs.Names.{same_name, number_of, variables_of, timers_of, states_of, Input, inputs_of, signal_named}
@@ -15,10 +16,10 @@ use Rattle.sdl_unset.specs.Graphs.{IsGraphOf}
 use Rattle.sdl_sound.specs.declared.fault.Step.{Step}
 use Rattle.sdl_sound.specs.declared.fault.Step.TheVariants.{Start, Input as Takes}
 
--- variable v of a graph is read unset by the path, and by none with fewer steps; or no path reads it unset, and the states are
+-- variable v of a graph is read unset by the path, by none with fewer steps, and by none with as many that comes first; or no path reads it unset, and the states are
 -- closed
 abbrev pub IsFate : Graph → ℕ → Fate → Type 0
-IsFate g v (Unset path) = ReadsUnset g v path.items × IsShortest g v path.items
+IsFate g v (Unset path) = ReadsUnset g v path.items × IsShortest g v path.items × IsFirst g v path.items
 IsFate g v (Set marks) = ((path : List number.Step) → ReadsUnset g v path → ⊥) × IsClosedSet g v marks.items
 
 -- the fate of each variable of a process
@@ -77,9 +78,9 @@ path_of (Set marks) = []
 abbrev pub fate_path : List Fate → ℕ → List number.Step
 fate_path fates v = option_map_or path_of (slice_get fates v) []
 
--- none of the variables that are read unset is so by fewer steps
-abbrev pub HasFewest : List Fate → ℕ → Type 0
-HasFewest fates v = (w : ℕ) → IsUnsetAt fates w → length (fate_path fates v) ≤ length (fate_path fates w)
+-- none of the variables that are read unset is so by fewer steps, or by as many that come first in the text
+abbrev pub HasFirst : List Fate → ℕ → Type 0
+HasFirst fates v = (w : ℕ) → IsUnsetAt fates w → NotAfter (fate_path fates v) (fate_path fates w)
 
 -- each of these variables is set
 abbrev pub AreSet : List Fate → Type 0

@@ -4,6 +4,7 @@ use Rattle.std.specs.List.{AllZip}
 use Rattle.std.specs.Option.{option_map_or}
 use Rattle.std.specs.Global.{Vec}
 use Rattle.unset_paths.specs.Graph.{has, Passes}
+use Rattle.unset_paths.specs.Order.{AreSorted}
 use Rattle.unset_paths.specs.declared.Passage.{Passage}
 use Rattle.unset_paths.specs.declared.Summary.{Summary}
 use Rattle.sdl_ast.specs.declared.expression.Identifier.{Identifier}
@@ -87,6 +88,7 @@ pub record IsSummaryBy (p : PlainProcess) (t : Transition) (summary : Summary) :
       → has summary.reads v ≡ (behind (event_chances t.first id.name) (text_chances p t.text id.name q)).reads
   pub passes : (v q : ℕ) (id : Identifier) → slice_get (variable_names p) v ≡ Some id
       → Passes summary v q ↔ ((behind (event_chances t.first id.name) (text_chances p t.text id.name q)).enters ≡ true)
+  pub sorted : AreSorted summary.passages.items
 
 -- a passage for each state in which some variable may be unset
 abbrev pub ArePassages : List ℕ → List Passage → Type 0

@@ -5,6 +5,7 @@ use Rattle.std.specs.Global.{Vec}
 use Rattle.unset_paths.specs.declared.Summary.{Summary}
 use Rattle.unset_paths.specs.declared.Graph.{Graph}
 use Rattle.unset_paths.specs.Graph.{has, Passes}
+use Rattle.unset_paths.specs.Order.{AreSorted}
 use Rattle.sdl_ast.specs.Plain.{PlainProcess}
 use Rattle.sdl_ast.specs.declared.expression.Identifier.{Identifier}
 use Rattle.sdl_tables.specs.Names.{variable_names, Input, inputs_by_state}
@@ -18,6 +19,7 @@ pub record IsSummaryOf (p : PlainProcess) (t : Transition) (summary : Summary) :
       → (has summary.reads v ≡ true) ↔ Reads p t id.name
   pub passes : (v q : ℕ) (id : Identifier) → slice_get (variable_names p) v ≡ Some id
       → Passes summary v q ↔ Keeps p t id.name q
+  pub sorted : AreSorted summary.passages.items
 
 -- the graph of a process: the summaries of START and of each input, by state
 pub record IsGraphOf (p : PlainProcess) (g : Graph) : Type 0 where

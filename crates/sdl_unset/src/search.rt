@@ -1,5 +1,6 @@
 //! Which variables of a process a control path reads before they are set, and which of them is named.
 ghost use Rattle.std.specs.Prelude.{◌≡◌, ◌⊎◌, [], ℕ, List, ◌≤◌, true, false, Some, length, IfOk, IfSome, IfNone};
+ghost use Rattle.unset_paths.specs.Order.{NotAfter};
 ghost use Rattle.sdl_ast.specs.Plain.{PlainBlock};
 ghost use Rattle.sdl_ast.specs.Views.{process_of};
 ghost use Rattle.sdl_sound.specs.Names.{process_unknown};
@@ -8,14 +9,13 @@ ghost use Rattle.sdl_sound.specs.Decisions.{statement_unanswered};
 ghost use Rattle.sdl_sound.specs.Orders.{IsOrder};
 ghost use Rattle.sdl_tables.specs.Names.{variables_of};
 ghost use Rattle.sdl_unset.specs.Flows.{AreJoined};
-ghost use Rattle.sdl_unset.specs.Fates.{AreFates, AreSet, IsUnsetAt, fate_path, HasFewest};
+ghost use Rattle.sdl_unset.specs.Fates.{AreFates, AreSet, IsUnsetAt, fate_path, HasFirst};
 
 use crate::summaries::graph_of;
 use crate::walker::Walker;
 use sdl_tables::ProcessTable;
 use std::alloc::{AllocError, Global};
-use std::cmp::Ordering;
-use unset_paths::{Fate, first_unset};
+use unset_paths::{Fate, first_unset, is_before};
 
 /// What becomes of each variable of a process, by number. The walkers are those of its connections.
 pub(crate) fn find_fates(
@@ -59,26 +59,25 @@ fn place_at(places: &[Option<u32>], variable: usize) -> Option<u32> {
 /// Whether the first variable is named before the other: its path has fewer transitions, or its first other transition
 /// comes first in the text, or its unset read does.
 fn comes_first(fates: &[Fate], places: &[Option<u32>], one: usize, other: usize) -> bool
-    ensures first { result ≡ true → length (fate_path fates.now one) ≤ length (fate_path fates.now other) }
-    ensures last { result ≡ false → length (fate_path fates.now other) ≤ length (fate_path fates.now one) }
+    ensures first { result ≡ true → NotAfter (fate_path fates.now one) (fate_path fates.now other) }
+    ensures last { result ≡ false → NotAfter (fate_path fates.now other) (fate_path fates.now one) }
 {
     let path = path_at(fates, one);
     let other_path = path_at(fates, other);
-    if path.len() != other_path.len() {
-        return path.len() < other_path.len();
+    if is_before(path, other_path) {
+        return true;
     }
-    match path.cmp(other_path) {
-        Ordering::Less => true,
-        Ordering::Greater => false,
-        Ordering::Equal => place_at(places, one) < place_at(places, other),
+    if is_before(other_path, path) {
+        return false;
     }
+    place_at(places, one) < place_at(places, other)
 }
 
-/// The one of two variables that is named: no path of the two has fewer steps than its own.
+/// The one of two variables that is named: the path of neither is named before its own.
 fn first_of(fates: &[Fate], places: &[Option<u32>], best: Option<usize>, other: usize) -> usize
     ensures one { (result ≡ other) ⊎ (best ≡ Some result) }
-    ensures fewer { length (fate_path fates.now result) ≤ length (fate_path fates.now other) }
-    ensures best { IfSome best (λ one. length (fate_path fates.now result) ≤ length (fate_path fates.now one)) }
+    ensures other { NotAfter (fate_path fates.now result) (fate_path fates.now other) }
+    ensures best { IfSome best (λ one. NotAfter (fate_path fates.now result) (fate_path fates.now one)) }
 {
     match best {
         None => other,
@@ -95,7 +94,7 @@ fn first_of(fates: &[Fate], places: &[Option<u32>], best: Option<usize>, other: 
 /// The variable that is named, of those that are read unset.
 pub(crate) fn find_first(fates: &[Fate], places: &[Option<u32>]) -> Option<usize>
     ensures found { IfSome result (IsUnsetAt fates.now) }
-    ensures fewest { IfSome result (HasFewest fates.now) }
+    ensures first { IfSome result (HasFirst fates.now) }
     ensures none { IfNone result (AreSet fates.now) }
 {
     let mut best = None;

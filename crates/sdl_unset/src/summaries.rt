@@ -1,6 +1,7 @@
 //! What each transition of a process does with the variables, as a graph by numbers.
 ghost use Rattle.std.specs.Prelude.{◌≡◌, ◌≤◌, ◌++◌, [], ℕ, List, map, length, IfOk, OnOk};
 ghost use Rattle.std.specs.List.{flat_map, AllZip};
+ghost use Rattle.unset_paths.specs.Order.{AreSorted, IsSorted};
 ghost use Rattle.sdl_ast.specs.Plain.{Text, PlainBlock};
 ghost use Rattle.sdl_ast.specs.Views.{text_of, stimulus_of, input_of, process_of};
 ghost use Rattle.sdl_tables.specs.Names.{variables_of, Input};
@@ -26,7 +27,8 @@ use unset_paths::{Graph, Passage, Summary};
 
 /// A passage for each state in which some variable may be unset.
 fn passages(alloc: Global, masks: &[u32]) -> Result<Vec<Passage>, AllocError>
-    ensures { IfOk result (λ v. ArePassages masks.now v.items) }
+    ensures passages { IfOk result (λ v. ArePassages masks.now v.items) }
+    ensures sorted { IfOk result (λ v. AreSorted v.items) }
 {
     let mut passages = Vec::new(alloc);
     for (state, mask) in masks.iter().enumerate() {
@@ -176,7 +178,8 @@ pub(crate) fn graph_of(
     requires answered { in_statements (λ from. statement_unanswered (variables_of (process_of table.now))) (process_of table.now) ≡ [] }
     requires order { (order : List ℕ) × IsOrder (process_of table.now) order }
     requires joined { AreJoined (process_of table.now) walkers.now }
-    ensures { IfOk result (λ g. IsGraphOf (process_of table.now) g) }
+    ensures graph { IfOk result (λ g. IsGraphOf (process_of table.now) g) }
+    ensures sorted { IfOk result (λ g. IsSorted g) }
 {
     let start = start_summary(alloc, table, walkers)?;
     let inputs = standing_inputs(alloc, table)?;

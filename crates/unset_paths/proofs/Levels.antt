@@ -25,7 +25,7 @@ most_push n visits v w long h here =
       | inr new ↦ All-contains P (v ∷ []) w (All-cons P v [] (omega (arith, long)) (All-nil P)) new
     ]
 
-last_place : (visits : List Visit) (j : ℕ) (v w : Visit) → length visits ≤ j → slice_get (visits ++ v ∷ []) j ≡ Some w → v ≡ w
+pub last_place : (visits : List Visit) (j : ℕ) (v w : Visit) → length visits ≤ j → slice_get (visits ++ v ∷ []) j ≡ Some w → v ≡ w
 last_place [] zero v w past at = let P : Option Visit → Type 0 = λ o. IfSome o (λ u. v ≡ u) in subst P at refl
 last_place [] (suc j) v w past at = absurd (cc)
 last_place (u ∷ visits) zero v w past at = absurd (omega (arith, past))
@@ -125,13 +125,13 @@ leads_within g s (Input q i) t leads = elim (cases_lt s (length g.states.items))
       absurd (cc)
 ]
 
-reads_within : (g : Graph) (x s : ℕ) (path : List Step) → ReadsFrom g x (Some s) path → s < length g.states.items
+pub reads_within : (g : Graph) (x s : ℕ) (path : List Step) → ReadsFrom g x (Some s) path → s < length g.states.items
 reads_within g x s [] reads = absurd reads
 reads_within g x s (step ∷ []) (t, leads, reads) = leads_within g s step t leads
 reads_within g x s (step ∷ next ∷ path) (t, q, leads, passes, reads) = leads_within g s step t leads
 
 -- a visit that is nearer than the next one stands before it
-place_before : (g : Graph) (x next : ℕ) (v : Visit) (visits : List Visit) (k : ℕ) (w : Visit) → AreLevels g x visits next → slice_get visits next ≡ Some v
+pub place_before : (g : Graph) (x next : ℕ) (v : Visit) (visits : List Visit) (k : ℕ) (w : Visit) → AreLevels g x visits next → slice_get visits next ≡ Some v
     → slice_get visits k ≡ Some w → length w.path.items < length v.path.items → k < next
 place_before g x next v visits k w l there at nearer = elim (cases_lt k next) [
   | inl lt ↦ lt

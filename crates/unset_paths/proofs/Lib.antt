@@ -1,3 +1,5 @@
+pub mod Firsts
 pub mod Levels
+pub mod Orders
 pub mod Seen
 pub mod Walking

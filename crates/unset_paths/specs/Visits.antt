@@ -4,9 +4,10 @@ use Rattle.unset_paths.specs.declared.Passage.{Passage}
 use Rattle.unset_paths.specs.declared.Summary.{Summary}
 use Rattle.unset_paths.specs.declared.Graph.{Graph}
 use Rattle.unset_paths.specs.declared.Step.{Step}
-use Rattle.unset_paths.specs.declared.Step.TheVariants.{Input}
+use Rattle.unset_paths.specs.declared.Step.TheVariants.{Start, Input}
 use Rattle.unset_paths.specs.declared.Visit.{Visit}
 use Rattle.unset_paths.specs.Graph.{has, Leads, Passes, Reached, IsSeen, IsSafe, IsExpanded}
+use Rattle.unset_paths.specs.Order.{Before, NotAfter, AreSorted}
 
 -- how many states were not seen
 unfoldable pub unseen : List Bool → ℕ
@@ -60,6 +61,7 @@ pub record ReadsBy (inputs : List Summary) (x state : ℕ) (path longer : List S
   pub there : slice_get inputs number ≡ Some summary
   pub reads : has summary.reads x ≡ true
   pub all : longer ≡ path ++ Input state number ∷ []
+  pub first : (i : ℕ) (t : Summary) → i < number → slice_get inputs i ≡ Some t → has t.reads x ≡ false
 
 -- none of these transitions reads x, and the states to which they lead with x unset were seen
 abbrev pub AreSafe : List Summary → ℕ → List Bool → Type 0
@@ -102,3 +104,47 @@ pub record AreLevels (g : Graph) (x : ℕ) (visits : List Visit) (next : ℕ) : 
   pub order : (v : Visit) → slice_get visits next ≡ Some v → AreInOrder (length v.path.items + 1) visits
   pub near : (k : ℕ) (v : Visit) → k < next → slice_get visits k ≡ Some v → (step : Step) (t : Summary) → Leads g (Some v.state) step t
       → LeadsWithin g x visits (length v.path.items + 1) t
+
+-- ---- which path to a state is kept
+
+-- a state by a path is visited before another by another: the path is named before the other, or it is the same and the state comes first
+abbrev pub ComesBefore : List Step → ℕ → List Step → ℕ → Type 0
+ComesBefore a s b q = Before a b ⊎ ((a ≡ b) × (s < q))
+
+-- visits in this order, and all of them before that of a state by a path
+pub record AreKept (path : List Step) (state : ℕ) (visits : List Visit) : Type 0 where
+  pub order : (i j : ℕ) (v w : Visit) → i < j → slice_get visits i ≡ Some v → slice_get visits j ≡ Some w → ComesBefore v.path.items v.state w.path.items w.state
+  pub most : (v : Visit) → Contains visits v → ComesBefore v.path.items v.state path state
+
+-- visits in this order, none by a path that is named after this one
+pub record AreUnder (path : List Step) (visits : List Visit) : Type 0 where
+  pub order : (i j : ℕ) (v w : Visit) → i < j → slice_get visits i ≡ Some v → slice_get visits j ≡ Some w → ComesBefore v.path.items v.state w.path.items w.state
+  pub most : (v : Visit) → Contains visits v → NotAfter v.path.items path
+
+-- a state is visited by this path, or by one that is named before it
+pub record IsVisitedBy (visits : List Visit) (state : ℕ) (path : List Step) : Type 0 where
+  pub visit : Visit
+  pub among : Contains visits visit
+  pub at : visit.state ≡ state
+  pub by : NotAfter visit.path.items path
+
+-- the states to which a transition leads with x unset, of so many, are visited by this path or by one that is named before it
+abbrev pub LeadsBy : ℕ → ℕ → List Visit → List Step → Summary → Type 0
+LeadsBy count x visits path t = (q : ℕ) → Passes t x q → q < count → IsVisitedBy visits q path
+
+-- the same for the first so many inputs of a state that is reached by a path
+abbrev pub AreNear : ℕ → ℕ → List Visit → List Step → ℕ → List Summary → ℕ → Type 0
+AreNear count x visits path state inputs n = (i : ℕ) (t : Summary) → i < n → slice_get inputs i ≡ Some t
+    → LeadsBy count x visits (path ++ Input state i ∷ []) t
+
+-- the passages of all these transitions are in order
+abbrev pub AreAllSorted : List Summary → Type 0
+AreAllSorted inputs = (i : ℕ) (t : Summary) → slice_get inputs i ≡ Some t → AreSorted t.passages.items
+
+-- Between two visits that are expanded: they stand in order, none is by a path that goes on from the next one, and where one
+-- that was expanded leads on, there is a visit by a path that is not named after its own.
+pub record AreLeast (g : Graph) (x : ℕ) (visits : List Visit) (next : ℕ) : Type 0 where
+  pub start : LeadsBy (length g.states.items) x visits (Start ∷ []) g.start
+  pub kept : (v : Visit) → slice_get visits next ≡ Some v → AreKept (v.path.items ++ Input v.state 0 ∷ []) 0 visits
+  pub near : (k : ℕ) (v : Visit) → k < next → slice_get visits k ≡ Some v → (i : ℕ) (t : Summary) → Leads g (Some v.state) (Input v.state i) t
+      → LeadsBy (length g.states.items) x visits (v.path.items ++ Input v.state i ∷ []) t

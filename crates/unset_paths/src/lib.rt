@@ -3,8 +3,13 @@
 
 ghost use Rattle.std.specs.Prelude.{◌≡◌, ℕ, ◌<◌, ◌+◌, List, [], ◌∷◌, ◌++◌, length, IfOk, OnOk, IfSome, IfNone, vec_len};
 ghost use Rattle.unset_paths.specs.Graph.{has, ReadsUnset, IsShortest, IsSeen, Covers, IsClosed, IsClosedSet, AreEntered, IfUnset, IfSet};
-ghost use Rattle.unset_paths.specs.Visits.{unseen, Grows, Adds, Enters, IsBy, IsByInput, ReadsBy, AreSafe, AreReached, AreVisited, StayInOrder, AreLevels};
+ghost use Rattle.unset_paths.specs.Order.{IsFirst, IsSorted, AreSorted};
+ghost use Rattle.unset_paths.specs.declared.Step.TheVariants.{Input as By};
+ghost use Rattle.unset_paths.specs.Visits.{unseen, Grows, Adds, Enters, IsBy, IsByInput, ReadsBy, AreSafe, AreReached, AreVisited, StayInOrder, AreLevels, AreKept, AreUnder, AreNear, AreAllSorted, AreLeast};
 
+mod order;
+
+pub use order::is_before;
 use std::alloc::{AllocError, Global};
 
 /// A way through a transition: the state in which it ends, and the variables that it doesn't set.
@@ -88,6 +93,7 @@ fn see(
     ensures seen { OnOk result (IsSeen seen.new.items state) }
     ensures adds { OnOk result (Adds state path.now visits.old.items visits.new.items) }
     ensures order { OnOk result (StayInOrder (length path.now) visits.old.items visits.new.items) }
+    ensures kept { OnOk result ((q : ℕ) → state < q → AreKept path.now state visits.old.items → AreKept path.now q visits.new.items) }
 {
     if state >= seen.len() || seen[state] {
         return Ok(());
@@ -112,6 +118,7 @@ fn enter(
     ensures covers { OnOk result (Covers passages.now variable seen.new.items) }
     ensures enters { OnOk result (Enters (IsBy passages.now variable path.now) visits.old.items visits.new.items) }
     ensures order { OnOk result (StayInOrder (length path.now) visits.old.items visits.new.items) }
+    ensures kept { OnOk result (AreSorted passages.now → AreKept path.now 0 visits.old.items → AreUnder path.now visits.new.items) }
 {
     for passage in passages {
         if contains(passage.keeps, variable) {
@@ -137,6 +144,11 @@ fn expand(
     ensures enters { OnOk result (Enters (IsByInput inputs.now variable state path.now) visits.old.items visits.new.items) }
     ensures order { OnOk result (StayInOrder (length path.now + 1) visits.old.items visits.new.items) }
     ensures none { IfOk result (λ o. IfNone o (AreSafe inputs.now variable seen.new.items)) }
+    ensures kept { OnOk result (AreAllSorted inputs.now → AreKept (path.now ++ By state 0 ∷ []) 0 visits.old.items
+        → (n : ℕ) × AreKept (path.now ++ By state n ∷ []) 0 visits.new.items) }
+    ensures near { IfOk result (λ o. IfNone o (AreAllSorted inputs.now → AreKept (path.now ++ By state 0 ∷ []) 0 visits.old.items
+        → AreVisited seen.old.items visits.old.items
+        → AreNear (length seen.old.items) variable visits.new.items path.now state inputs.now (length inputs.now))) }
 {
     for (number, summary) in inputs.iter().enumerate() {
         let longer = extended(alloc, path, Step::Input(state, number))?;
@@ -148,15 +160,16 @@ fn expand(
     Ok(None)
 }
 
-/// Whether some path reads the variable unset. Of several it is one with the fewest transitions, and the first of these,
-/// which is shown by tests alone: a path comes before another one where its first other transition comes before that of
-/// the other one.
+/// Whether some path reads the variable unset. Of several it is one with the fewest transitions, and the first of these
+/// in the order of the text, where the passages of each transition are in the order of the states: a path comes before another
+/// one where its first other transition comes before that of the other one.
 ///
 /// `variable` is below 32. A passage to a state that the graph lacks leads nowhere.
 pub fn first_unset(alloc: Global, graph: &Graph, variable: u32) -> Result<Fate, AllocError>
     requires { variable < 32 }
     ensures found { IfOk result (λ f. IfUnset f (λ path. ReadsUnset graph.now variable path.items)) }
     ensures fewest { IfOk result (λ f. IfUnset f (λ path. IsShortest graph.now variable path.items)) }
+    ensures first { IfOk result (λ f. IfUnset f (λ path. IsSorted graph.now → IsFirst graph.now variable path.items)) }
     ensures none { IfOk result (λ f. IfSet f (λ _. (path : List Step) → ReadsUnset graph.now variable path → ⊥)) }
     ensures closed { IfOk result (λ f. IfSet f (λ marks. IsClosedSet graph.now variable marks.items)) }
     ensures entered { IfOk result (λ f. IfSet f (λ marks. AreEntered graph.now variable marks.items)) }
@@ -195,8 +208,10 @@ fn search(
     requires visited { AreVisited seen.old.items visits.old.items }
     requires count { length visits.old.items + unseen seen.old.items ≡ length seen.old.items }
     requires levels { AreLevels graph.now variable visits.old.items 0 }
+    requires least { IsSorted graph.now → AreLeast graph.now variable visits.old.items 0 }
     ensures found { IfOk result (λ o. IfSome o (λ path. ReadsUnset graph.now variable path.items)) }
     ensures fewest { IfOk result (λ o. IfSome o (λ path. IsShortest graph.now variable path.items)) }
+    ensures first { IfOk result (λ o. IfSome o (λ path. IsSorted graph.now → IsFirst graph.now variable path.items)) }
     ensures states { OnOk result (length seen.new.items ≡ length seen.old.items) }
     ensures stays { OnOk result ((s : ℕ) → IsSeen seen.old.items s → IsSeen seen.new.items s) }
     ensures none { IfOk result (λ o. IfNone o (IsClosed graph.now variable seen.new.items)) }

@@ -1,11 +1,14 @@
-use Rattle.std.proofs.Common.{◌≡◌, ℕ, [], rules, arith, refl, sym, ap, ◌∙◌, Option, length, List, Bool, false, subst, Vec, Global}
+use Rattle.std.proofs.Common.{◌≡◌, ℕ, [], ◌∷◌, rules, arith, refl, sym, ap, ◌∙◌, Option, length, List, Bool, false, subst, Vec, Global}
 use Rattle.std.specs.Prelude.{IfNone, replicate}
 use Rattle.unset_paths.specs.Graph.{IsClosed, AreEntered, ReadsUnset, has, Covers}
-use Rattle.unset_paths.specs.Visits.{Enters, IsBy, AreVisited, StayInOrder, AreInOrder, unseen}
+use Rattle.unset_paths.specs.Visits.{Enters, IsBy, AreVisited, StayInOrder, AreInOrder, unseen, AreKept, AreUnder}
 use Rattle.unset_paths.specs.declared.Step.{Step}
 use Rattle.unset_paths.specs.declared.Visit.{Visit}
 use Rattle.unset_paths.proofs.Walking.{closed_set, none_with, visited_none, unseen_all, reached_from_start}
 use Rattle.unset_paths.proofs.Levels.{levels_from, order_none, shortest_start}
+use Rattle.unset_paths.proofs.Firsts.{kept_none, least_from, all_start, first_start}
+use Rattle.unset_paths.specs.Order.{AreSorted}
+use Rattle.unset_paths.specs.declared.Step.TheVariants.{Start}
 use Rattle.unset_paths.proofs.first_unset.Goals as goal
 
 pub returns-then-contains-clause-found : goal.returns-then-contains-clause-found
@@ -70,3 +73,23 @@ returns-clause-none c = none_with c.args.graph.now c.args.variable c.search.new.
 pub returns-clause-entered : goal.returns-clause-entered
 returns-clause-entered c =
     subst (λ (o : Option (Vec Step Global)). IfNone o (AreEntered c.args.graph.now c.args.variable c.search.new.seen.items)) c.in-None.is c.in_ok-path.ensures.entered
+
+pub returns-then-contains-clause-first : goal.returns-then-contains-clause-first
+returns-then-contains-clause-first c = λ sorted. first_start c.args.graph.now c.args.variable _ c.in_ok-start.ensures
+
+pub search-requires-clause-least : goal.search-requires-clause-least
+search-requires-clause-least c = λ sorted.
+    let g = c.args.graph.now in
+    let n = length g.states.items in
+    let one : c.deref-2.result.now ≡ Start ∷ [] = c.deref-2.ensures.value ∙ c.in_ok-start.ensures in
+    let blank : length c.in_ok-seen.seen.items ≡ n = search rules in
+    let covers : Covers g.start.passages.items c.args.variable c.enter.new.seen.items = rw c.deref.ensures.value at c.in_ok-enter.ensures.covers in
+    let keeps : AreSorted g.start.passages.items → AreKept c.deref-2.result.now 0 c.new-visits.result.items → AreUnder c.deref-2.result.now c.enter.new.visits.items =
+    rw c.deref.ensures.value at c.in_ok-enter.ensures.kept in
+    let P : List Visit → Type 0 = λ l. AreKept c.deref-2.result.now 0 l in
+    let under : AreUnder c.deref-2.result.now c.enter.new.visits.items = keeps sorted.start (subst P (sym c.new-visits.ensures.items) (kept_none c.deref-2.result.now 0)) in
+    let Q : List Step → Type 0 = λ l. AreUnder l c.enter.new.visits.items in
+    let enters : Enters (IsBy c.deref.result.now c.args.variable c.deref-2.result.now) [] c.enter.new.visits.items =
+    rw c.new-visits.ensures.items at c.in_ok-enter.ensures.enters in
+    least_from g c.args.variable c.enter.new.seen.items c.enter.new.visits.items (c.in_ok-enter.ensures.grows.states ∙ blank) (search-requires-clause-visited c) covers
+    (subst Q one under) (all_start c.deref.result.now c.args.variable c.deref-2.result.now c.enter.new.visits.items one enters)

@@ -1,12 +1,15 @@
-use Rattle.std.proofs.Common.{◌≡◌, ◌<◌, ◌≤◌, ◌+◌, List, rules, refl, sym, ap, subst, ◌∙◌, Some, None, length, length-append}
+use Rattle.std.proofs.Common.{◌≡◌, ◌<◌, ◌≤◌, ◌+◌, ◌++◌, ◌∷◌, [], ℕ, List, rules, refl, sym, ap, subst, ◌∙◌, Some, None, length, length-append}
 use Rattle.std.specs.Prelude.{slice_get}
 use Rattle.std.proofs.lemmas.Option.{slice_get_read, get_or_from_slice_get}
 use Rattle.unset_paths.specs.Graph.{Reached}
-use Rattle.unset_paths.specs.Visits.{Enters, IsByInput, AreSafe, StayInOrder, ReadsBy}
+use Rattle.unset_paths.specs.Visits.{Enters, IsByInput, AreSafe, StayInOrder, ReadsBy, AreKept, AreNear, AreVisited, AreAllSorted}
 use Rattle.unset_paths.proofs.Walking.{Progress, progress_on, progress_past, closed_by, entered_by, expanded_by, expanded_past, found_by, some_weaker, when_none}
 use Rattle.unset_paths.proofs.Seen.{grows_not}
 use Rattle.unset_paths.specs.declared.Step.{Step}
 use Rattle.unset_paths.proofs.Levels.{levels_on, shortest_by}
+use Rattle.unset_paths.proofs.Firsts.{first_by, quiet_inputs, reached_some, least_turn, least_past}
+use Rattle.unset_paths.specs.Order.{IsSorted}
+use Rattle.unset_paths.specs.declared.Step.TheVariants.{Input}
 use Rattle.unset_paths.proofs.search.Goals as goal
 use Rattle.unset_paths.proofs.search.Goals.{then-state-len+in_ok-found+else-is_some+in-Some-1, then-state-len+in_ok-found+else-is_some+in-None-1, else-state-len}
 
@@ -34,6 +37,27 @@ returns-then-is_some-clause-fewest c =
     rw (c.deref.ensures.value, c.deref-then-state-len.ensures.value, c.in_ok-path.ensures.items, c.as_slice.ensures.value) at r in
     shortest_by c.args.graph.now c.args.variable c.loop-next.next v c.loop-next.seen.items visits c.loop-next.invariant.levels c.loop-next.invariant.expanded there longer.items
     (ap length by.all ∙ length-append v.path.items _)) c.in_ok-found.ensures.found
+
+pub returns-then-is_some-clause-first : goal.returns-then-is_some-clause-first
+returns-then-is_some-clause-first c =
+    let g = c.args.graph.now in
+    let visits = c.loop-next.visits.items in
+    let v = c.index-visit.result.now in
+    let within : c.loop-next.next < length visits = search rules in
+    let there : slice_get visits c.loop-next.next ≡ Some v = slice_get_read visits (length visits) c.loop-next.next v refl within (search rules) in
+    let inside : v.state < length g.states.items = search rules in
+    let state : slice_get g.states.items v.state ≡ Some c.index-inputs.result.now =
+    slice_get_read g.states.items (length g.states.items) v.state c.index-inputs.result.now refl inside (search rules) in
+    let here : Reached g c.args.variable None v.path.items v.state =
+    c.loop-next.invariant.reached v (c.loop-next.next, within, get_or_from_slice_get visits c.loop-next.next v v there) in
+    some_weaker _ _ c.in_ok-found.found (λ longer r sorted.
+    let by : ReadsBy c.index-inputs.result.now.items c.args.variable v.state v.path.items longer.items =
+    rw (c.deref.ensures.value, c.deref-then-state-len.ensures.value, c.in_ok-path.ensures.items, c.as_slice.ensures.value) at r in
+    let quiet = quiet_inputs g c.args.variable v c.index-inputs.result.now by.number state by.first in
+    let shortest = shortest_by g c.args.variable c.loop-next.next v c.loop-next.seen.items visits c.loop-next.invariant.levels c.loop-next.invariant.expanded there longer.items
+    (ap length by.all ∙ length-append v.path.items _) in
+    first_by g c.args.variable c.loop-next.next v c.loop-next.seen.items visits by.number longer.items c.loop-next.invariant.levels (c.loop-next.invariant.least sorted)
+    c.loop-next.invariant.expanded there quiet (reached_some g c.args.variable v.path.items v.state here) by.all shortest) c.in_ok-found.ensures.found
 
 pub loop-next-preserved : goal.loop-next-preserved
 loop-next-preserved c =
@@ -66,8 +90,17 @@ loop-next-preserved c =
           let levels_here = levels_on c.args.graph.now c.args.variable c.loop-next.next v c.loop-next.seen.items visits w.expand.new.seen.items w.expand.new.visits.items
           c.loop-next.invariant.levels there told.grows p.states p.visited
           (expanded_by c.args.graph.now c.args.variable v.state w.index-inputs.result.now w.expand.new.seen.items state none) (subst P path_is told.order) in
+          let keeps : (let l = w.deref-then-state-len.result.now in AreAllSorted w.index-inputs.result.now.items → AreKept (l ++ Input v.state 0 ∷ []) 0 visits
+          → (n : ℕ) × AreKept (l ++ Input v.state n ∷ []) 0 w.expand.new.visits.items) = rw w.deref.ensures.value at told.kept in
+          let nears : (let l = w.deref-then-state-len.result.now in AreAllSorted w.index-inputs.result.now.items → AreKept (l ++ Input v.state 0 ∷ []) 0 visits
+          → AreVisited c.loop-next.seen.items visits
+          → AreNear (length c.loop-next.seen.items) c.args.variable w.expand.new.visits.items l v.state w.index-inputs.result.now.items (length w.index-inputs.result.now.items)) =
+          rw w.deref.ensures.value at (when_none w.in_ok-found.found _ (sym w.if-is_some.ensures) told.near) in
+          let least_here = λ (sorted : IsSorted c.args.graph.now). least_turn c.args.graph.now c.args.variable c.loop-next.next v w.index-inputs.result.now w.deref-then-state-len.result.now
+          c.loop-next.seen.items visits w.expand.new.seen.items w.expand.new.visits.items sorted (c.loop-next.invariant.least sorted) there path_is state told.grows before.states before.visited keeps nears in
           rw (w.seen-is, w.visits-is) (record {
             states = told.grows.states ∙ c.loop-next.invariant.states;
+            least = least_here;
             stays = λ s h. told.grows.stays s (c.loop-next.invariant.stays s h);
             reached = p.reached;
             visited = p.visited;
@@ -92,8 +125,17 @@ loop-next-preserved c =
           let levels_here = levels_on c.args.graph.now c.args.variable c.loop-next.next v c.loop-next.seen.items visits w.expand.new.seen.items w.expand.new.visits.items
           c.loop-next.invariant.levels there told.grows p.states p.visited
           (expanded_by c.args.graph.now c.args.variable v.state w.index-inputs.result.now w.expand.new.seen.items state none) (subst P path_is told.order) in
+          let keeps : (let l = w.deref-then-state-len.result.now in AreAllSorted w.index-inputs.result.now.items → AreKept (l ++ Input v.state 0 ∷ []) 0 visits
+          → (n : ℕ) × AreKept (l ++ Input v.state n ∷ []) 0 w.expand.new.visits.items) = rw w.deref.ensures.value at told.kept in
+          let nears : (let l = w.deref-then-state-len.result.now in AreAllSorted w.index-inputs.result.now.items → AreKept (l ++ Input v.state 0 ∷ []) 0 visits
+          → AreVisited c.loop-next.seen.items visits
+          → AreNear (length c.loop-next.seen.items) c.args.variable w.expand.new.visits.items l v.state w.index-inputs.result.now.items (length w.index-inputs.result.now.items)) =
+          rw w.deref.ensures.value at (when_none w.in_ok-found.found _ (sym w.if-is_some.ensures) told.near) in
+          let least_here = λ (sorted : IsSorted c.args.graph.now). least_turn c.args.graph.now c.args.variable c.loop-next.next v w.index-inputs.result.now w.deref-then-state-len.result.now
+          c.loop-next.seen.items visits w.expand.new.seen.items w.expand.new.visits.items sorted (c.loop-next.invariant.least sorted) there path_is state told.grows before.states before.visited keeps nears in
           rw (w.seen-is, w.visits-is) (record {
             states = told.grows.states ∙ c.loop-next.invariant.states;
+            least = least_here;
             stays = λ s h. told.grows.stays s (c.loop-next.invariant.stays s h);
             reached = p.reached;
             visited = p.visited;
@@ -116,6 +158,7 @@ loop-next-preserved c =
             count = p.count;
             expanded = p.expanded;
             levels = levels_here;
+            least = λ sorted. least_past c.args.graph.now c.args.variable c.loop-next.next v visits (c.loop-next.invariant.least sorted) there past;
             within = p.within;
           })
     ]

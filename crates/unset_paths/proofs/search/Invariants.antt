@@ -1,5 +1,6 @@
 use Rattle.std.proofs.Common.{◌≡◌, ℕ, ◌+◌, ◌-◌, ◌≤◌, length}
-use Rattle.unset_paths.specs.Visits.{unseen, AreReached, AreVisited, AreExpanded, AreLevels}
+use Rattle.unset_paths.specs.Visits.{unseen, AreReached, AreVisited, AreExpanded, AreLevels, AreLeast}
+use Rattle.unset_paths.specs.Order.{IsSorted}
 use Rattle.unset_paths.specs.Graph.{IsSeen}
 use Rattle.unset_paths.proofs.search.Given as goal
 
@@ -12,6 +13,7 @@ invariant-loop-next l = record {
   count : length l.visits.items + unseen l.seen.items ≡ length l.seen.items;
   expanded : AreExpanded l.graph l.variable l.seen.items l.visits.items l.next;
   levels : AreLevels l.graph l.variable l.visits.items l.next;
+  least : IsSorted l.graph → AreLeast l.graph l.variable l.visits.items l.next;
   within : l.next ≤ length l.visits.items;
 }
 

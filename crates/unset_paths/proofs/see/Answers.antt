@@ -2,9 +2,10 @@ use Rattle.std.proofs.Common.{◌≡◌, ◌<◌, false, Some, length, rules, re
 use Rattle.std.specs.Prelude.{slice_get}
 use Rattle.std.proofs.lemmas.Option.{slice_get_read}
 use Rattle.unset_paths.proofs.Seen.{grows_by}
-use Rattle.unset_paths.proofs.Levels.{order_added}
-use Rattle.unset_paths.proofs.see.Goals as goal
 use Rattle.plain_laws.proofs.Places.{get_set_same}
+use Rattle.unset_paths.proofs.Levels.{order_added}
+use Rattle.unset_paths.proofs.Firsts.{kept_added}
+use Rattle.unset_paths.proofs.see.Goals as goal
 
 pub returns-clause-grows : goal.returns-clause-grows
 returns-clause-grows c =
@@ -21,3 +22,6 @@ returns-clause-seen c = λ h.
 
 pub returns-clause-order : goal.returns-clause-order
 returns-clause-order c = order_added _ _ _ (record { state = c.args.state; path = c.in_ok-path.path }) (ap length (search rules)) (search rules)
+
+pub returns-clause-kept : goal.returns-clause-kept
+returns-clause-kept c = λ q lt. kept_added c.args.path.now c.args.state q c.args.visits.now.items _ (record { state = c.args.state; path = c.in_ok-path.path }) (search rules) refl lt (search rules)

@@ -4,7 +4,7 @@ use Rattle.sdl_ast.specs.declared.expression.Identifier.{Identifier}
 use Rattle.sdl_ast.specs.Views.{process_of}
 use Rattle.sdl_tables.specs.Names.{variable_names, timers_of, connector_names, number_of, triggers_by_state}
 use Rattle.sdl_tables.specs.Scopes.{repeats}
-use Rattle.sdl_sound.proofs.Repeats.{append-nil_left}
+use Rattle.plain_laws.proofs.Lists.{append-nil_left}
 use Rattle.sdl_unset.proofs.Bits.{bit_named, bit_past, bit_none}
 use Rattle.sdl_unset.proofs.flow.bit.Goals as goal
 

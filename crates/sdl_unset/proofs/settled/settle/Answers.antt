@@ -10,7 +10,7 @@ use Rattle.sdl_sound.specs.Paths.{NeverReadsUnset}
 use Rattle.sdl_sound.specs.Settled.{AreSettled}
 use Rattle.sdl_unset.specs.Surveys.{IsSurvey, AllSettled}
 use Rattle.sdl_unset.proofs.Surveying.{within_few, within_known, within_answered, order_within, order_at, plain, all_at_table, plain_more, contains_process, among_past, shorter_is, shortest_past, shortest_more, some_unset}
-use Rattle.sdl_unset.proofs.Searches.{all_zip_push}
+use Rattle.std.proofs.lemmas.Slice.Zip.{all_zipped_more as all_zip_push}
 use Rattle.sdl_unset.proofs.settled.settle.Goals as goal
 use Rattle.sdl_unset.proofs.settled.settle.Goals.{in-Ok+in_ok-push-in-Ok, in-Err}
 
@@ -63,7 +63,7 @@ loop-number-preserved c =
           rw (w.best-is, w.sets-is, more) (record {
             found = shorter_is b (plain ts) (plain (take k ts)) (process_of t) c.loop-number.best w.in-Err.unset w.shorter.result w.shorter.ensures.one
                 c.loop-number.invariant.found c.loop-number.invariant.none c.loop-number.invariant.fewest
-                (contains_process ts k t c.loop-number-test.true c.index-tables-number.is) told.0;
+                (contains_process ts k t c.loop-number-test.true c.index-tables-number.is) told.0 told.2;
             fewest = shortest_more (plain (take k ts)) (process_of t) c.loop-number.best w.in-Err.unset w.shorter.result w.shorter.ensures.fewer w.shorter.ensures.best
                 c.loop-number.invariant.none c.loop-number.invariant.fewest told.1;
             sets = λ e. absurd (some_unset w.shorter.result e);

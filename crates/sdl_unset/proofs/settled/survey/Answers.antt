@@ -4,8 +4,8 @@ use Rattle.unset_paths.specs.declared.Fate.{Fate}
 use Rattle.sdl_ast.specs.Views.{process_of, block_of}
 use Rattle.sdl_ast.specs.declared.expression.Identifier.{Identifier}
 use Rattle.sdl_tables.specs.Names.{variable_names, states_of}
-use Rattle.sdl_unset.specs.Fates.{AreFates, AreSet, IsUnsetAt, fate_path, HasFewest}
-use Rattle.sdl_unset.proofs.Surveying.{survey_steps, survey_reads, survey_names, survey_shortest, number_within}
+use Rattle.sdl_unset.specs.Fates.{AreFates, AreSet, IsUnsetAt, fate_path, HasFirst}
+use Rattle.sdl_unset.proofs.Surveying.{survey_steps, survey_reads, survey_names, survey_shortest, survey_first, number_within}
 use Rattle.sdl_unset.proofs.Settling.{settled, never, AreBits}
 use Rattle.sdl_unset.proofs.settled.survey.Goals as goal
 
@@ -57,12 +57,13 @@ returns c =
     ap (λ (ids : List Identifier). slice_get ids n) (sym c.variables.ensures) ∙ c.name-variable.ensures in
     let steps = c.in_ok-path-in-Some.path.steps.items in
     let named = c.in_ok-path-in-Some.ensures.named in
-    let first : HasFewest c.deref-4.result.now n =
-    subst (λ (o : Option ℕ). IfSome o (HasFewest c.deref-4.result.now)) c.in-Some.is c.find_first.ensures.fewest in
-    let fewest : HasFewest fates n = subst (λ (l : List Fate). HasFewest l n) c.deref-4.ensures.value first in (
+    let first : HasFirst c.deref-4.result.now n =
+    subst (λ (o : Option ℕ). IfSome o (HasFirst c.deref-4.result.now)) c.in-Some.is c.find_first.ensures.first in
+    let named_first : HasFirst fates n = subst (λ (l : List Fate). HasFirst l n) c.deref-4.ensures.value first in (
       (
         survey_reads p fates n c.in_ok-fates.ensures unset c.path_at.result.now path c.name-variable.result var steps named,
         survey_names (block_of c.args.block.now) p n c.name-variable.result c.path_at.result.now steps c.requires.known var named c.in_ok-path-in-Some.ensures.spelled,
       ),
-      survey_shortest (block_of c.args.block.now) p fates n c.requires.known c.in_ok-fates.ensures fewest c.path_at.result.now path steps named,
+      survey_shortest (block_of c.args.block.now) p fates n c.requires.known c.in_ok-fates.ensures named_first c.path_at.result.now path steps named,
+      survey_first (block_of c.args.block.now) p fates n c.requires.known c.in_ok-fates.ensures named_first c.path_at.result.now path steps named,
     )

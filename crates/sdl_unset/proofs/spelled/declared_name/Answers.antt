@@ -6,8 +6,9 @@ use Rattle.sdl_ast.specs.Plain.{PlainSignal, PlainProcess}
 use Rattle.sdl_ast.specs.Views.{signal_of, block_of, process_of}
 use Rattle.sdl_tables.specs.Names.{same_name, signal_named, signals_of}
 use Rattle.sdl_unset.specs.Fates.{timer_named}
-use Rattle.sdl_unset.proofs.Searches.{same_back, find_holds}
+use Rattle.sdl_unset.proofs.Searches.{find_holds}
 use Rattle.sdl_unset.proofs.spelled.declared_name.Goals as goal
+use Rattle.sdl_sound.proofs.Numbered.{same_back}
 
 pub returns-in-Some-clause-same : goal.returns-in-Some-clause-same
 returns-in-Some-clause-same c =

@@ -6,7 +6,7 @@ use Rattle.unset_paths.specs.declared.Step.TheVariants.{Start as First}
 use Rattle.sdl_ast.specs.Views.{process_of, block_of}
 use Rattle.sdl_unset.specs.Fates.{IsNamed, IsSpelled}
 use Rattle.sdl_sound.specs.declared.fault.Step.{Step}
-use Rattle.sdl_unset.proofs.Searches.{all_zip_push}
+use Rattle.std.proofs.lemmas.Slice.Zip.{all_zipped_more as all_zip_push}
 use Rattle.sdl_unset.proofs.spelled.named_path.Goals as goal
 
 -- one step more, of either relation

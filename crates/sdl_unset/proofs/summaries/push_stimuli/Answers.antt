@@ -7,7 +7,7 @@ use Rattle.sdl_ast.specs.Views.{stimulus_of, process_of}
 use Rattle.sdl_tables.specs.Names.{Input}
 use Rattle.sdl_sound.specs.Paths.{input_transition}
 use Rattle.sdl_unset.specs.Flows.{Does, place_events, IsSummaryBy}
-use Rattle.sdl_unset.proofs.Summing.{zip_behind}
+use Rattle.plain_laws.proofs.Pairwise.{zip_behind}
 use Rattle.sdl_unset.proofs.summaries.push_stimuli.Goals as goal
 
 pub loop-stimulus-preserved : goal.loop-stimulus-preserved

@@ -17,4 +17,4 @@ returns c = λ events text d s.
     let start = walked_from p (λ x q. leaving) (λ x q. event_chances events x) c.in_ok-walker.walker c.pass.new.self (c.in_ok-walker.ensures p count) (c.pass.ensures p events d) in
     let whole = walked_from p (λ x q. behind leaving (event_chances events x)) (text_doings p told text) c.pass.new.self c.join.new.self start (c.join.ensures p (text_doings p told text) s) in
     summary_by p t c.join.new.self c.in_ok-passages.passages c.requires.few whole
-    (subst (λ (masks : List ℕ). ArePassages masks c.in_ok-passages.passages.items) c.deref.ensures.value c.in_ok-passages.ensures)
+    (subst (λ (masks : List ℕ). ArePassages masks c.in_ok-passages.passages.items) c.deref.ensures.value c.in_ok-passages.ensures.passages) c.in_ok-passages.ensures.sorted
