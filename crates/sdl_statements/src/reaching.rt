@@ -138,16 +138,17 @@ impl Gathered {
         block: &BlockTable,
         process: &ProcessTable,
         table: &SenderTable,
-        name: Name,
+        stimulus: &Stimulus,
         row: Option<usize>,
     ) -> Result<(), AllocError>
         requires tells { Tells (block_of block.now) (process_of process.now) table.now }
-        requires row { row ≡ number_of table.now.names name }
+        requires row { row ≡ number_of table.now.names stimulus.now.name.name }
         ensures { OnOk result ((f : List ℕ → Bool) → Asks (block_of block.now) (process_of process.now) table.now.names self.old f
             → Asks (block_of block.now) (process_of process.now) table.now.names self.new
-            (λ s. f s && answers (block_of block.now) (process_of process.now) s name)) }
+            (λ s. f s && answers (block_of block.now) (process_of process.now) s stimulus.now.name.name)) }
     {
         if mark(&mut self.asked, row) {
+            let name = stimulus.name.name;
             self.senders.add_name(alloc, block, process, table, name)?;
         }
         Ok(())
@@ -170,7 +171,7 @@ impl Gathered {
     {
         for (place, stimulus) in stimuli.iter().enumerate() {
             let row = row_at(rows, place);
-            self.add_row(alloc, block, process, table, stimulus.name.name, row)?;
+            self.add_row(alloc, block, process, table, stimulus, row)?;
         }
         Ok(())
     }

@@ -1,5 +1,5 @@
 //! Transitions without what has neither an effect nor an instruction: TASKs in which all is quoted.
-ghost use Rattle.std.specs.Prelude.{◌≡◌, ◌++◌, map, IfOk, OnOk};
+ghost use Rattle.std.specs.Prelude.{◌≡◌, ◌++◌, [], true, map, IfOk, OnOk};
 ghost use Rattle.std.specs.List.{flat_map};
 ghost use Rattle.sdl_ast.specs.Views.{action_of, plain_statement, plain_decision, plain_answer, text_of, else_choice, connection_of};
 ghost use Rattle.sdl_trimmed.specs.Trimmed.{is_quoted, trimmed, trimmed_choice, trimmed_statement, trimmed_decision, trimmed_answer, kept_statement, AreTrimmed};
@@ -30,6 +30,16 @@ fn copy_ranges(alloc: Global, given: &[Range]) -> Result<Vec<Range>, AllocError>
     Ok(copies)
 }
 
+/// Whether a statement is such a TASK, of which nothing is copied.
+fn is_left_out(statement: &Statement) -> bool
+    ensures { result ≡ true → trimmed_statement (plain_statement statement.now) ≡ [] }
+{
+    match statement {
+        Statement::Act(action) => is_quoted(action),
+        Statement::Decide(_) => false,
+    }
+}
+
 /// A statement more, if it is kept.
 fn push_kept(statements: &mut Vec<Statement>, kept: Option<Statement>) -> Result<(), AllocError>
     ensures { OnOk result (map plain_statement statements.new.items ≡ map plain_statement statements.old.items ++ kept_statement kept) }
@@ -50,8 +60,10 @@ pub fn trim_transition(alloc: Global, given: &Transition) -> Result<Transition, 
 {
     let mut statements = Vec::new(alloc);
     for statement in &given.statements {
-        let kept = trim_statement(alloc, statement)?;
-        push_kept(&mut statements, kept)?;
+        if !is_left_out(statement) {
+            let kept = trim_statement(alloc, statement)?;
+            push_kept(&mut statements, kept)?;
+        }
     }
     Ok(Transition {
         statements,

@@ -42,10 +42,13 @@ impl Firsts {
     }
 
     /// Behind these, what is read next of the variables of a mask.
-    pub fn followed_by(self, keeps: u32, next: &Firsts) -> Firsts {
+    pub fn followed_by(self, reads: u32, next: &Firsts) -> Firsts {
+        if reads == 0 {
+            return self;
+        }
         let mut firsts = self;
         for variable in 0..32 {
-            if (keeps >> variable) & 1 == 1 {
+            if (reads >> variable) & 1 == 1 {
                 firsts.places[variable] = earlier(firsts.places[variable], next.places[variable]);
             }
         }

@@ -44,7 +44,9 @@ impl Flow {
         Flow {
             reads: self.reads | (self.keeps & next.reads),
             keeps: self.keeps & next.keeps,
-            firsts: self.firsts.followed_by(self.keeps, &next.firsts),
+            firsts: self
+                .firsts
+                .followed_by(self.keeps & next.reads, &next.firsts),
         }
     }
 }

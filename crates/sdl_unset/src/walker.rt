@@ -97,7 +97,9 @@ impl Walker {
         ensures { (p : PlainProcess) (events : List Event) → Does p events flow → Walked p (λ x q. event_chances events x) self.old self.new }
     {
         self.reads |= self.leaves & flow.reads;
-        self.firsts = self.firsts.followed_by(self.leaves, &flow.firsts);
+        self.firsts = self
+            .firsts
+            .followed_by(self.leaves & flow.reads, &flow.firsts);
         self.leaves &= flow.keeps;
     }
 
@@ -122,7 +124,9 @@ impl Walker {
         ensures { (p : PlainProcess) (c : Doings) → Stands p c other.now → Walked p c self.old self.new }
     {
         self.reads |= self.leaves & other.reads;
-        self.firsts = self.firsts.followed_by(self.leaves, &other.firsts);
+        self.firsts = self
+            .firsts
+            .followed_by(self.leaves & other.reads, &other.firsts);
         add_masks(&mut self.enters, self.leaves, &other.enters);
         self.leaves &= other.leaves;
     }

@@ -8,11 +8,11 @@ use Rattle.sdl_statements.proofs.reaching.Gathered.add_row.Goals as goal
 
 pub returns-in_ok-add_name : goal.returns-in_ok-add_name
 returns-in_ok-add_name c = λ f g.
-    asks_new (block_of c.args.block.now) (process_of c.args.process.now) c.args.table.now.names c.args.self.now _ f c.args.name c.args.row
+    asks_new (block_of c.args.block.now) (process_of c.args.process.now) c.args.table.now.names c.args.self.now _ f c.args.stimulus.now.name.name c.args.row
     c.requires.row c.mark.ensures.marks (c.in_ok-add_name.ensures f g.gathers) g
 
 pub returns-else-mark : goal.returns-else-mark
 returns-else-mark c = λ f g.
-    asks_there (block_of c.args.block.now) (process_of c.args.process.now) c.args.table.now.names c.args.self.now _ f c.args.name c.args.row
+    asks_there (block_of c.args.block.now) (process_of c.args.process.now) c.args.table.now.names c.args.self.now _ f c.args.stimulus.now.name.name c.args.row
     c.requires.row c.mark.ensures.marks
     (not_is c.mark.result (option_map_or (is_marked c.args.self.now.asked.items) c.args.row false) c.mark.ensures.new c.if-mark.false) refl g
