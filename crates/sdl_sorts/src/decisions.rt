@@ -1,4 +1,4 @@
-//! The rule on answers: the first DECISION in which a value has none, or more than one.
+//! The rule on answers: the first DECISION of Integers without ELSE, or of Booleans in which TRUE or FALSE isn't answered exactly once.
 ghost use Rattle.std.specs.Prelude.{◌≡◌, ℕ, ◌+◌, not, length, nat_eq, nat_lt, sum_by};
 ghost use Rattle.std.specs.List.{list_all};
 ghost use Rattle.sdl_ast.specs.declared.tree.Decision.{out-Decision};
@@ -152,7 +152,8 @@ fn is_answered(process: &ProcessTable, decision: &Decision) -> bool
     }
 }
 
-/// The place of a DECISION in which some value has no answer, or more than one. (S8; Z.100: decision.)
+/// The place of a DECISION of Integers without ELSE, or of one of Booleans in which TRUE or FALSE isn't answered exactly once; also of one
+/// with an answer for no value. (S8; Z.100: decision.)
 pub fn unanswered_decision(process: &ProcessTable, decision: &Decision) -> Option<u32>
     ensures { Marks result (statement_unanswered (variables_of (process_of process.now)) (question_of decision.now)) }
 {

@@ -1,5 +1,5 @@
--- Which DECISIONs have no answer for some value, or more than one. (Z.100: decisions; that an Integer one has ELSE is this
--- profile's own.)
+-- Which DECISIONs aren't answered: those of Integers without ELSE, and those of Booleans in which TRUE or FALSE isn't answered exactly
+-- once. (Z.100: decisions; that ELSE is wanted is this profile's own.)
 use Rattle.std.specs.Prelude.{ℕ, ◌+◌, Bool, true, false, ◌&&◌, List, [], ◌∷◌, if◌then◌else◌, length, nat_eq, nat_lt, sum_by}
 use Rattle.std.specs.List.{flat_map}
 use Rattle.sdl_ast.specs.declared.tree.Literal.{Literal}
