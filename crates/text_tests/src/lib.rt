@@ -5,12 +5,8 @@
 #[cfg(test)]
 mod of_compile;
 #[cfg(test)]
-mod of_drafts;
-#[cfg(test)]
 mod of_rules;
 #[cfg(test)]
 mod of_runs;
 #[cfg(test)]
 mod of_tree;
-#[cfg(test)]
-mod of_turns;
