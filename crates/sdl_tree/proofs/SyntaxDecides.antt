@@ -333,7 +333,7 @@ end_decides = choice_decides (a_word words.NextState) next_state_decides (choice
 text_decides : Decides text_syntax (text_at whole_trees)
 text_decides = text_decides_from (record { action = action_decides; question = question_decides; head = head_decides; closing = end_decision_decides; last = end_decides })
 
-input_decides : Decides input_syntax (input_at whole_trees)
+input_decides : Decides input_syntax input_at
 unfolding input_syntax input_at
 input_decides = do
   at ← token_decides (a_word words.Input)
@@ -350,7 +350,7 @@ save_decides = do
   _ ← terminator_decides
   give_decides (save names)
 
-clause_decides : Decides clause_syntax (clause_at whole_trees)
+clause_decides : Decides clause_syntax clause_at
 unfolding clause_syntax clause_at
 clause_decides = choice_decides (a_word words.Input) input_decides save_decides
 
@@ -367,14 +367,14 @@ end_state_decides name = do
   _ ← token_decides (a_word words.EndState)
   closing_decides name
 
-state_decides : Decides state_syntax (state_at whole_trees)
+state_decides : Decides state_syntax state_at
 unfolding state_syntax state_at
 state_decides = do
   _ ← token_decides (a_word words.State)
   name ← token_decides a_name
   names ← separated_from_decides name (token_decides a_name)
   _ ← terminator_decides
-  clauses ← many_decides a_clause (clause_takes whole_trees) clause_decides
+  clauses ← many_decides a_clause clause_takes clause_decides
   _ ← optional_decides (a_word words.EndState) (end_state_decides name.name)
   give_decides (record { names = names; clauses = clauses })
 
@@ -384,7 +384,7 @@ end_connection_decides name = do
   _ ← token_decides (a_word words.EndConnection)
   closing_decides name
 
-connection_decides : Decides connection_syntax (connection_at whole_trees)
+connection_decides : Decides connection_syntax connection_at
 unfolding connection_syntax connection_at
 connection_decides = do
   at ← token_decides (a_word words.Connection)
@@ -394,23 +394,23 @@ connection_decides = do
   _ ← optional_decides (a_word words.EndConnection) (end_connection_decides name.name)
   give_decides (record { at = at; name = name; text = text })
 
-state_section_decides : Decides state_section_syntax (state_section_at whole_trees)
+state_section_decides : Decides state_section_syntax state_section_at
 unfolding state_section_syntax state_section_at
 state_section_decides = do
   state ← state_decides
   give_decides (in_state state)
 
-connection_section_decides : Decides connection_section_syntax (connection_section_at whole_trees)
+connection_section_decides : Decides connection_section_syntax connection_section_at
 unfolding connection_section_syntax connection_section_at
 connection_section_decides = do
   connection ← connection_decides
   give_decides (in_connection connection)
 
-section_decides : Decides section_syntax (section_at whole_trees)
+section_decides : Decides section_syntax section_at
 unfolding section_syntax section_at
 section_decides = choice_decides (a_word words.State) state_section_decides connection_section_decides
 
-start_decides : Decides start_syntax (start_at whole_trees)
+start_decides : Decides start_syntax start_at
 unfolding start_syntax start_at
 start_decides = do
   at ← token_decides (a_word words.Start)
@@ -442,28 +442,28 @@ process_head_decides = do
   _ ← terminator_decides
   give_decides name
 
-process_decides : Decides process_syntax (process_at whole_trees)
+process_decides : Decides process_syntax process_at
 unfolding process_syntax process_at
 process_decides = do
   name ← process_head_decides
   declarations ← many_decides a_declaration declaration_takes declaration_decides
   start ← start_decides
-  sections ← many_decides a_section (section_takes whole_trees) section_decides
+  sections ← many_decides a_section section_takes section_decides
   _ ← token_decides (a_word words.EndProcess)
   _ ← closing_decides name.name
   give_decides (process (process_from name declarations start sections))
 
-entity_decides : Decides entity_syntax (entity_at whole_trees)
+entity_decides : Decides entity_syntax entity_at
 unfolding entity_syntax entity_at
 entity_decides = choice_decides (a_word words.Signal) signals_decides (choice_decides (a_word words.SignalRoute) route_decides (choice_decides (a_word words.Connect) connect_decides process_decides))
 
-pub block_decides : Decides block_syntax (block_at whole_trees)
+pub block_decides : Decides block_syntax block_at
 unfolding block_syntax block_at
 block_decides = do
   _ ← token_decides (a_word words.Block)
   name ← token_decides a_name
   _ ← terminator_decides
-  entities ← many_decides an_entity (entity_takes whole_trees) entity_decides
+  entities ← many_decides an_entity entity_takes entity_decides
   _ ← token_decides (a_word words.EndBlock)
   _ ← closing_decides name.name
   give_decides (record { name = name; entities = entities })
