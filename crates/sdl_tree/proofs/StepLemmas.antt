@@ -71,7 +71,7 @@ same_after k n m s ts h l ih (read (reaches t) us) e = let less = step_shortens 
 steps_enough : {S A C T : Type 0} (k : Keeping S A C T) (n m : ℕ) (s : Reached S A) (ts : List Token) → length ts < n → length ts < m → steps_for k n s ts ≡ steps_for k m s ts
 steps_enough k zero m s ts h l = absurd (omega arith)
 steps_enough k (suc n) zero s ts h l = absurd (omega arith)
-steps_enough k (suc n) (suc m) s ts h k =
+steps_enough k (suc n) (suc m) s ts h l =
     steps_one k n s ts ∙ same_after k n m s ts h l (steps_enough k n m) (step_at k s ts) refl ∙ sym (steps_one k m s ts)
 
 from_after : {S A C T : Type 0} (k : Keeping S A C T) (s : Reached S A) (ts : List Token) (r : Reading (Move S A T)) → step_at k s ts ≡ r

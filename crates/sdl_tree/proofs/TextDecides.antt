@@ -8,7 +8,7 @@ use Rattle.sdl_lex.specs.declared.lexemes.Word.TheVariants as words
 use Rattle.sdl_lex.specs.declared.lexemes.Symbol.TheVariants.{Open}
 use Rattle.sdl_ast.specs.declared.tree.End.{End}
 use Rattle.sdl_ast.specs.Plain.{PlainAction, Text, falls, ends, does, decides, Choice, nothing_else, otherwise, answer, PlainStatement, act, decide, PlainAnswer, PlainQuestion, PlainHead, before, all_before, all_answers}
-use Rattle.sdl_tree.specs.Bodies.{whole_texts, WholeBranching, WholeBody, WholeReached, WholeMove, reaches, closes}
+use Rattle.sdl_tree.specs.Bodies.{Keeping, whole_texts, WholeBranching, WholeBody, WholeReached, WholeMove, reaches, closes}
 use Rattle.sdl_ast.specs.Views.{end_text}
 use Rattle.sdl_tokens.specs.Tokens.{begins, a_word, a_symbol, an_action, an_end, a_choice, word_place, symbol_place, choice_place}
 use Rattle.sdl_tokens.specs.Grammar.{Gives, Then}
@@ -379,7 +379,7 @@ step_sound_by l s ts m ws whole us false true e f h k = decision_sound l s ts m 
 step_sound_by l s ts m ws whole us false false e f h k = end_sound l s ts m ws whole us e f h k
 
 -- the choice of a step, with the answers of both tests
-step_is : (b : Build) (s : WholeReached) (ts : List Token) (a d : Bool) → begins an_action ts ≡ a → begins (a_word words.Decision) ts ≡ d
+step_is : (b : Keeping (List PlainStatement) (List PlainAnswer) Choice Text) (s : WholeReached) (ts : List Token) (a d : Bool) → begins an_action ts ≡ a → begins (a_word words.Decision) ts ≡ d
     → step_at b s ts ≡ either a (action_step b s) (λ zs. either d (decision_step b s) (end_step b s) zs) ts
 unfolding step_at
 step_is b s ts true d e f = ap (λ c. either c (action_step b s) (choice (a_word words.Decision) (decision_step b s) (end_step b s)) ts) e
