@@ -17,7 +17,9 @@ use crate::attempt::attempt;
 use crate::marked::{Marked, more};
 use crate::production::Production;
 use crate::transitions::read_optional_end;
-use sdl_ast::{Action, Answer, Decision, End, Statement, Transition, high_in_action, high_in_decision};
+use sdl_ast::{
+    Action, Answer, Decision, End, Statement, Transition, high_in_action, high_in_decision,
+};
 use sdl_lex::{Token, Word};
 use sdl_tokens::{AnyAction, AnyChoice, Stop, push, stands_next};
 use std::alloc::Global;
