@@ -7,8 +7,8 @@ use Rattle.sdl_ast.specs.Limits.{GREATEST_HEIGHT}
 use Rattle.sdl_ast.specs.declared.tree.End.{End}
 use Rattle.sdl_ast.specs.Plain.{Tree, Text, falls, ends, does, decides, Choice, nothing_else, otherwise, answer, PlainAction, PlainStatement, act, decide, PlainAnswer, PlainQuestion, PlainHead, before, all_before, all_answers}
 use Rattle.sdl_ast.specs.Views.{end_text}
-use Rattle.sdl_ast.specs.Heights.{tree_height, choice_height, decision_height, or_first, first_of, high_in_action, high_in_decision, high_in_statement, high_in_answer, high_in_text, high_in_choice}
-use Rattle.sdl_ast.proofs.HeightLemmas.{Judged, judged_choice, none_inside}
+use Rattle.sdl_ast.specs.Heights.{tree_height, decision_height, or_first, first_of, high_in_action, high_in_decision, high_in_statement, high_in_answer, high_in_text, high_in_choice}
+use Rattle.sdl_ast.proofs.HeightLemmas.{none_inside}
 use Rattle.sdl_tokens.specs.Tokens.{a_word, an_action, an_end, a_choice}
 use Rattle.sdl_tokens.specs.Readings.{read, At, choice, optional, give}
 use Rattle.sdl_expressions.specs.Machine.{whole_trees, low_trees, lowered, expression_at}
@@ -32,16 +32,16 @@ marked_text t = marked high_in_text t
 abbrev marked_choice : Choice → Marked Choice
 marked_choice c = marked high_in_choice c
 
-unfoldable marked_branching : WholeBranching → MarkedBranching
+marked_branching : WholeBranching → MarkedBranching
 marked_branching d = record { before = marked_statements d.before; asked = lowered_question d.asked; answers = marked_answers d.answers }
 
-unfoldable marked_body : WholeBody → MarkedBody
+marked_body : WholeBody → MarkedBody
 marked_body b = record { branching = marked_branching b.branching; head = b.head }
 
-unfoldable marked_reached : WholeReached → MarkedReached
+marked_reached : WholeReached → MarkedReached
 marked_reached s = record { outer = map marked_body s.outer; here = marked_statements s.here }
 
-unfoldable marked_move : WholeMove → MarkedMove
+marked_move : WholeMove → MarkedMove
 marked_move (reaches s) = reaches (marked_reached s)
 marked_move (closes text) = closes (marked_text text)
 
@@ -83,20 +83,15 @@ high_all_answers [] others = refl
 high_all_answers (x ∷ xs) others =
     ap (or_first (high_in_answer x)) (high_all_answers xs others) ∙ or_first-assoc (high_in_answer x) (first_of high_in_answer xs) (high_in_choice others)
 
--- a DECISION is higher than what is too high in it
-inside : (at p : ℕ) (q : Tree) (c : Choice) → high_in_choice c ≡ Some p → high_in_decision at q c ≡ Some at
-unfolding Judged
-inside at p q c e = by_test (nat_lt GREATEST_HEIGHT (decision_height q c)) refl
-  where
-    above : GREATEST_HEIGHT < choice_height c
-    above = subst (Judged (choice_height c)) e (judged_choice c)
+-- a DECISION in which something is too high is too high
 
-    by_test : (b : Bool) → nat_lt GREATEST_HEIGHT (decision_height q c) ≡ b → (if b then Some at else None) ≡ Some at
-    by_test true f = refl
-    by_test false f =
-        let low : decision_height q c ≤ GREATEST_HEIGHT = ltb-false GREATEST_HEIGHT (decision_height q c) f in
-        let high : GREATEST_HEIGHT < choice_height c = above in
-        absurd (omega arith)
+inside_by : (at p : ℕ) (b : Bool) (i : Option ℕ) → i ≡ Some p → or_first (if b then Some at else None) (or_first i None) ≡ or_first (if b then Some at else None) None
+    → (if b then Some at else None) ≡ Some at
+inside_by at p true i e h = refl
+inside_by at p false i e h = let k : Some p ≡ None = ap (λ j. or_first j None) (sym e) ∙ h in cc
+
+inside : (at p : ℕ) (q : Tree) (c : Choice) → high_in_choice c ≡ Some p → high_in_decision at q c ≡ Some at
+inside at p q c e = inside_by at p (nat_lt GREATEST_HEIGHT (decision_height q c)) (high_in_choice c) e (none_inside at q c None)
 
 -- the question as it was read is the whole one where that isn't too high, and too high where it is
 question_test : (at : ℕ) (q p : Tree) (c : Choice) → Keeps q p → (b d : Bool) → nat_lt GREATEST_HEIGHT (decision_height q c) ≡ b → nat_lt GREATEST_HEIGHT (decision_height p c) ≡ d
@@ -110,10 +105,7 @@ question_test at q p c k false true e f =
     let high : GREATEST_HEIGHT < decision_height p c = ltb-true GREATEST_HEIGHT (decision_height p c) f in
     let same : tree_height p ≡ tree_height q = ap tree_height (k.low (omega arith)) in
     absurd (omega arith)
-question_test at q p c k true false e f =
-    let high : GREATEST_HEIGHT < decision_height q c = ltb-true GREATEST_HEIGHT (decision_height q c) e in
-    let low : decision_height p c ≤ GREATEST_HEIGHT = ltb-false GREATEST_HEIGHT (decision_height p c) f in
-    by_height (nat_lt GREATEST_HEIGHT (tree_height q)) refl
+question_test at q p c k true false e f = by_height (nat_lt GREATEST_HEIGHT (tree_height q)) refl
   where
     by_height : (t : Bool) → nat_lt GREATEST_HEIGHT (tree_height q) ≡ t → by_place None (decide at p c) ≡ by_place (Some at) (decide at q c)
     by_height true g =
