@@ -1,11 +1,11 @@
 -- Transitions read with marks are the whole ones, marked.
-use Rattle.std.proofs.Common.{◌≡◌, ℕ, suc, zero, ◌<◌, ◌≤◌, max, Bool, true, false, List, [], ◌∷◌, ◌++◌, Option, Some, None, length, map, refl, sym, ap, subst, ◌∙◌, arith}
+use Rattle.std.proofs.Common.{◌≡◌, ℕ, suc, zero, ◌<◌, ◌≤◌, Bool, true, false, List, [], ◌∷◌, ◌++◌, Option, Some, None, length, map, refl, sym, ap, subst, ◌∙◌, arith}
 use Rattle.std.specs.Prelude.{nat_lt, if◌then◌else◌}
 use borrow.Author.Tests.{ltb-true, ltb-false}
 use Rattle.sdl_lex.specs.declared.lexemes.Word.TheVariants as words
 use Rattle.sdl_ast.specs.Limits.{GREATEST_HEIGHT}
 use Rattle.sdl_ast.specs.declared.tree.End.{End}
-use Rattle.sdl_ast.specs.Plain.{Tree, Text, falls, ends, does, decides, Choice, nothing_else, otherwise, answer, PlainAction, PlainStatement, act, decide, PlainAnswer, PlainQuestion, PlainHead, before, all_before, all_answers}
+use Rattle.sdl_ast.specs.Plain.{Tree, Text, Choice, nothing_else, otherwise, PlainAction, PlainStatement, act, decide, PlainAnswer, PlainQuestion, PlainHead, before, all_before, all_answers}
 use Rattle.sdl_ast.specs.Views.{end_text}
 use Rattle.sdl_ast.specs.Heights.{tree_height, decision_height, or_first, first_of, high_in_action, high_in_decision, high_in_statement, high_in_answer, high_in_text, high_in_choice}
 use Rattle.sdl_ast.proofs.HeightLemmas.{none_inside}
@@ -13,7 +13,7 @@ use Rattle.sdl_tokens.specs.Tokens.{a_word, an_action, an_end, a_choice}
 use Rattle.sdl_tokens.specs.Readings.{read, At, choice, optional, give}
 use Rattle.sdl_expressions.specs.Machine.{whole_trees, low_trees, lowered, expression_at}
 use Rattle.sdl_expressions.proofs.Lowering.{mapped, Lowers, give_lowers, then_lowers, next_lowers, choice_lowers}
-use Rattle.sdl_tree.specs.Marks.{Marked, kept, too_high, by_place, marked, map_marked, more, decided}
+use Rattle.sdl_tree.specs.Marks.{Marked, kept, by_place, marked, more, decided}
 use Rattle.sdl_tree.specs.Bodies.{whole_texts, marked_texts, plain_answer_of, WholeBranching, WholeBody, WholeReached, WholeMove, MarkedBranching, MarkedBody, MarkedReached, MarkedMove, reaches, closes}
 use Rattle.sdl_tree.specs.Productions.{action_at, question_at, head_at, end_decision_at, end_at, head_step, closing_step, answer_step, with_answer, body_step, behind_step, end_step, decision_step, action_step, step_at, after_move, steps_for, steps_from, at_first, text_at}
 use Rattle.sdl_tree.proofs.LoweredActions.{lowered_action, lowered_question, action_lowers, question_lowers}

@@ -1,5 +1,5 @@
 -- What the code keeps of transitions while they are read.
-use Rattle.std.specs.Prelude.{List, map, reverse, Option, Vec}
+use Rattle.std.specs.Prelude.{List, map, reverse}
 use Rattle.std.specs.Option.{option_map}
 use Rattle.sdl_tree.specs.declared.marked.Marked as the_marked
 use Rattle.sdl_tree.specs.declared.marked.Marked.TheVariants as marks

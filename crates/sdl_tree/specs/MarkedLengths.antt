@@ -1,5 +1,4 @@
 -- No marked reading gives more tokens back than it got.
-use Rattle.std.specs.Prelude.{List, [], ◌∷◌}
 use Rattle.sdl_lex.specs.declared.lexemes.Word.TheVariants as words
 use Rattle.sdl_lex.specs.declared.lexemes.Symbol.TheVariants.{Colon}
 use Rattle.sdl_tokens.specs.Tokens.{a_word, a_symbol, a_clause, a_section}
