@@ -1,13 +1,9 @@
 -- Heights, and the first action that is too high.
-use Rattle.std.proofs.Common.{◌≡◌, ℕ, ◌<◌, ◌≤◌, max, Bool, true, false, List, [], ◌∷◌, Option, Some, None, refl, ap, subst, ◌∙◌, arith}
+use Rattle.std.proofs.Common.{◌≡◌, ℕ, ◌<◌, ◌≤◌, max, Bool, true, false, List, [], ◌∷◌, Option, Some, None, refl, subst, arith}
 use Rattle.std.specs.Prelude.{nat_lt, if◌then◌else◌}
 use borrow.Author.Tests.{ltb-true, ltb-false}
 use Rattle.sdl_ast.specs.Limits.{GREATEST_HEIGHT}
 use Rattle.sdl_ast.specs.Plain.{Tree, number, truth, variable, unary, binary, PlainAction, Text, falls, ends, does, decides, Choice, nothing_else, otherwise, answer, PlainClause, input, save, PlainProcess, PlainEntity, signals, route, connect, process, PlainBlock}
-use Rattle.sdl_ast.specs.declared.tree.Decision.{Decision, out-Decision}
-use Rattle.sdl_ast.specs.declared.tree.Statement.TheVariants.{Decide}
-use Rattle.sdl_ast.specs.Views.{tree_of, statement_of, choice_of}
-use Rattle.sdl_ast.proofs.Views.{statement_of-decide}
 use Rattle.sdl_ast.specs.Heights.{tree_height, highest, action_height, text_height, choice_height, decision_height, high_in_decision, high_in_choice, clause_height, state_height, connection_height, process_height, entity_height, Height, or_first, first_of, lesser, place_of_action, high_in_action, high_in_text, high_in_clause, high_in_state, high_in_connection, high_in_process, high_in_entity, first_too_high}
 
 -- a height beside the first place that is too high
@@ -57,7 +53,7 @@ mutual
       judged_inside (decision_height question choice) (choice_height choice) (text_height rest) (high_in_decision at question choice) (high_in_choice choice) (high_in_text rest)
       (omega arith) (judged_decision at question choice) (judged_choice choice) (judged_text rest)
 
-  judged_choice : (c : Choice) → Judged (choice_height c) (high_in_choice c)
+  pub judged_choice : (c : Choice) → Judged (choice_height c) (high_in_choice c)
   judged_choice nothing_else = omega arith
   judged_choice (otherwise text) = judged_text text
   judged_choice (answer at ranges text others) =
@@ -78,11 +74,6 @@ none_inside at question choice q = by_test at question choice q (nat_lt GREATEST
     by_test at question choice q true e = refl
     by_test at question choice q false e =
         low_inside (decision_height question choice) (choice_height choice) (high_in_choice choice) q (omega arith) (ltb-false GREATEST_HEIGHT (decision_height question choice) e) (judged_choice choice)
-
-pub high_in_decide : (d : Decision) (rest : Text)
-    → high_in_text (statement_of (Decide d) rest) ≡ or_first (high_in_decision (out-Decision d).at (tree_of (out-Decision d).question) (choice_of d)) (high_in_text rest)
-high_in_decide d rest =
-    ap high_in_text (statement_of-decide d rest) ∙ none_inside (out-Decision d).at (tree_of (out-Decision d).question) (choice_of d) (high_in_text rest)
 
 judged_clause : (c : PlainClause) → Judged (clause_height c) (high_in_clause c)
 unfolding Judged

@@ -1,7 +1,7 @@
 -- How high a tree is, and what in it is too high.
 use Rattle.std.specs.Prelude.{ℕ, ◌+◌, max, nat_lt, List, [], ◌∷◌, Option, Some, None, if◌then◌else◌, min}
 use Rattle.sdl_ast.specs.Limits.{GREATEST_HEIGHT}
-use Rattle.sdl_ast.specs.Plain.{Tree, number, truth, variable, unary, binary, PlainAssignment, PlainSending, PlainAction, task, output, set_timer, reset_timer, Text, falls, ends, does, decides, Choice, nothing_else, otherwise, answer, PlainClause, input, save, PlainState, PlainConnection, PlainProcess, PlainEntity, signals, route, connect, process, PlainBlock}
+use Rattle.sdl_ast.specs.Plain.{Tree, number, truth, variable, unary, binary, PlainAssignment, PlainSending, PlainAction, task, output, set_timer, reset_timer, Text, falls, ends, does, decides, Choice, nothing_else, otherwise, answer, PlainStatement, act, decide, PlainAnswer, PlainClause, input, save, PlainState, PlainConnection, PlainProcess, PlainEntity, signals, route, connect, process, PlainBlock}
 
 -- 1 for an operand, one more than its highest operand for an operator
 abbrev pub tree_height : Tree → ℕ
@@ -104,6 +104,14 @@ abbrev mutual
   high_in_choice nothing_else = None
   high_in_choice (otherwise text) = high_in_text text
   high_in_choice (answer at ranges text others) = or_first (high_in_text text) (high_in_choice others)
+
+-- the same of one statement and of one answer alone
+abbrev pub high_in_statement : PlainStatement → Option ℕ
+high_in_statement (act action) = high_in_action action
+high_in_statement (decide at question choice) = high_in_decision at question choice
+
+abbrev pub high_in_answer : PlainAnswer → Option ℕ
+high_in_answer a = high_in_text a.text
 
 abbrev pub high_in_clause : PlainClause → Option ℕ
 high_in_clause (input i) = high_in_text i.text

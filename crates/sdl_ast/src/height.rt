@@ -1,16 +1,13 @@
 //! How high the expressions and DECISIONs of a tree are.
-ghost use Rattle.std.specs.Prelude.{◌≡◌, nat_lt, ◌||◌, map, Option};
-ghost use Rattle.sdl_ast.specs.Heights.{tree_height, highest, action_height, text_height, choice_height, decision_height, or_first, assignments_height, sending_height, high_in_action, high_in_decision, high_in_text, high_in_clause, high_in_state, high_in_connection, lesser, high_in_process, high_in_entity, first_too_high, first_of};
+ghost use Rattle.std.specs.Prelude.{◌≡◌, nat_lt, ◌||◌, map};
+ghost use Rattle.sdl_ast.specs.Heights.{tree_height, highest, action_height, text_height, choice_height, decision_height, assignments_height, sending_height, high_in_action, high_in_decision};
 ghost use Rattle.sdl_ast.specs.Plain.{Text};
 ghost use Rattle.sdl_ast.specs.declared.tree.Decision.{out-Decision};
-ghost use Rattle.sdl_ast.specs.Views.{tree_of, assignment_of, sending_of, action_of, statement_of, choice_of, text_of, clause_of, state_of, connection_of, process_of, entity_of, block_of};
+ghost use Rattle.sdl_ast.specs.Views.{tree_of, assignment_of, sending_of, action_of, statement_of, choice_of, text_of};
 
 use crate::MAX_HEIGHT;
 use crate::expression::Expression;
-use crate::tree::{
-    Action, Assignment, Block, Connection, Decision, Entity, Process, Sending, StateClause,
-    StatePart, Statement, Transition,
-};
+use crate::tree::{Action, Assignment, Decision, Sending, Statement, Transition};
 
 /// Whether an expression is higher than a limit.
 fn exceeds(tree: &Expression, limit: u32) -> bool
@@ -130,7 +127,7 @@ fn exceeds_in_bodies(decision: &Decision, limit: u32) -> bool
 
 /// Whether a DECISION is higher than a limit: it is one higher than its question and what stands in it.
 #[cycle(exceeding)]
-pub fn exceeds_in_decision(decision: &Decision, limit: u32) -> bool
+fn exceeds_in_decision(decision: &Decision, limit: u32) -> bool
     ensures { result ≡ nat_lt limit (decision_height (tree_of (out-Decision decision.now).question) (choice_of decision.now)) }
 {
     if limit == 0 {
@@ -143,7 +140,7 @@ pub fn exceeds_in_decision(decision: &Decision, limit: u32) -> bool
 }
 
 /// The place of an action that is too high.
-fn high_in_action(action: &Action) -> Option<u32>
+pub fn high_in_action(action: &Action) -> Option<u32>
     ensures { result ≡ high_in_action (action_of action.now) }
 {
     let is_high = exceeds_in_action(action, MAX_HEIGHT);
@@ -156,131 +153,8 @@ fn high_in_action(action: &Action) -> Option<u32>
 }
 
 /// The place of a DECISION that is too high.
-fn high_in_decision(decision: &Decision) -> Option<u32>
+pub fn high_in_decision(decision: &Decision) -> Option<u32>
     ensures { result ≡ high_in_decision (out-Decision decision.now).at (tree_of (out-Decision decision.now).question) (choice_of decision.now) }
 {
     exceeds_in_decision(decision, MAX_HEIGHT).then_some(decision.at)
-}
-
-/// The place of a statement that is too high; nothing in a DECISION is higher than it.
-#[tactic(auto, using(crate::proofs::HeightLemmas::high_in_decide))]
-fn high_in_statement(statement: &Statement) -> Option<u32>
-    ensures { (rest : Text) → high_in_text (statement_of statement.now rest) ≡ or_first result (high_in_text rest) }
-{
-    match statement {
-        Statement::Act(action) => high_in_action(action),
-        Statement::Decide(decision) => high_in_decision(decision),
-    }
-}
-
-/// The place of the first statement of a transition that is too high.
-fn high_in_transition(transition: &Transition) -> Option<u32>
-    ensures { result ≡ high_in_text (text_of transition.now) }
-{
-    for statement in &transition.statements {
-        let found = high_in_statement(statement);
-        if found.is_some() {
-            return found;
-        }
-    }
-    None
-}
-
-fn high_in_clause(clause: &StateClause) -> Option<u32>
-    ensures { result ≡ high_in_clause (clause_of clause.now) }
-{
-    match clause {
-        StateClause::Input(part) => high_in_transition(&part.transition),
-        StateClause::Save(_) => None,
-    }
-}
-
-fn high_in_clauses(clauses: &[StateClause]) -> Option<u32>
-    ensures { result ≡ first_of high_in_clause (map clause_of clauses.now) }
-{
-    let mut rest = clauses;
-    'rows: while let Some((clause, others)) = rest.split_first() {
-        let found = high_in_clause(clause);
-        if found.is_some() {
-            return found;
-        }
-        rest = others;
-    }
-    None
-}
-
-fn high_in_states(states: &[StatePart]) -> Option<u32>
-    ensures { result ≡ first_of high_in_state (map state_of states.now) }
-{
-    let mut rest = states;
-    'rows: while let Some((state, others)) = rest.split_first() {
-        let found = high_in_clauses(&state.clauses);
-        if found.is_some() {
-            return found;
-        }
-        rest = others;
-    }
-    None
-}
-
-fn high_in_connections(connections: &[Connection]) -> Option<u32>
-    ensures { result ≡ first_of high_in_connection (map connection_of connections.now) }
-{
-    let mut rest = connections;
-    'rows: while let Some((connection, others)) = rest.split_first() {
-        let found = high_in_transition(&connection.transition);
-        if found.is_some() {
-            return found;
-        }
-        rest = others;
-    }
-    None
-}
-
-/// The lesser of two places, as far as there are any.
-fn lesser(place: Option<u32>, other: Option<u32>) -> Option<u32>
-    ensures { result ≡ lesser place other }
-{
-    match (place, other) {
-        (None, found) => found,
-        (found, None) => found,
-        (Some(place), Some(other)) => Some(place.min(other)),
-    }
-}
-
-fn high_in_process(process: &Process) -> Option<u32>
-    ensures { result ≡ high_in_process (process_of process.now) }
-{
-    let found = high_in_transition(&process.start.transition);
-    if found.is_some() {
-        return found;
-    }
-    let in_states = high_in_states(&process.states);
-    lesser(in_states, high_in_connections(&process.connections))
-}
-
-fn high_in_entity(entity: &Entity) -> Option<u32>
-    ensures { result ≡ high_in_entity (entity_of entity.now) }
-{
-    match entity {
-        Entity::Signals(_) => None,
-        Entity::Route(_) => None,
-        Entity::Connect(_) => None,
-        Entity::Process(process) => high_in_process(process),
-    }
-}
-
-/// The place of the first TASK, OUTPUT, SET or DECISION of a text that is too high.
-pub fn first_too_high(block: &Block) -> Option<u32>
-    ensures { result ≡ first_too_high (block_of block.now) }
-{
-    let mut rest = block.entities.as_slice();
-    'rows: while let Some((entity, others)) = rest.split_first() {
-        let found = high_in_entity(entity);
-        if found.is_some() {
-            return found;
-        }
-        rest = others;
-    }
-    None
 }

@@ -6,7 +6,7 @@ mod height;
 mod tree;
 
 pub use expression::{BinaryOperator, Expression, Identifier, UnaryOperator};
-pub use height::{exceeds_in_decision, first_too_high};
+pub use height::{high_in_action, high_in_decision};
 pub use tree::{
     Action, Answer, Assignment, Block, Connect, Connection, Constant, Decision, Declaration,
     Destination, End, Entity, Group, InputPart, Join, Literal, NextState, Output, Party, Path,

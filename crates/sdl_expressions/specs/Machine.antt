@@ -1,6 +1,6 @@
 -- Expressions token by token, on a stack: each open parenthesis keeps what stands before it, with a
 -- place for each level of precedence.
-use Rattle.std.specs.Prelude.{ℕ, zero, suc, Bool, true, false, List, [], ◌∷◌, Option, Some, None, is_some, nat_lt, if◌then◌else◌}
+use Rattle.std.specs.Prelude.{ℕ, Bool, true, false, List, [], ◌∷◌, Option, Some, None, is_some, nat_lt, if◌then◌else◌}
 use Rattle.sdl_lex.specs.declared.lexemes.Token.{Token}
 use Rattle.sdl_ast.specs.declared.expression.UnaryOperator.{UnaryOperator}
 use Rattle.sdl_ast.specs.declared.expression.UnaryOperator.TheVariants.{Negate, Not}
@@ -9,20 +9,19 @@ use Rattle.sdl_ast.specs.declared.expression.BinaryOperator.TheVariants.{Subtrac
 use Rattle.sdl_expressions.specs.declared.level.Level.{Level}
 use Rattle.sdl_expressions.specs.declared.level.Level.TheVariants.{Disjunctions, Conjunctions, Relations, Sums, Products}
 use Rattle.sdl_ast.specs.Limits.{GREATEST_HEIGHT}
-use Rattle.sdl_ast.specs.Plain.{Tree, number, truth, variable, unary, binary, Choice, nothing_else, PlainStatement, decide}
+use Rattle.sdl_ast.specs.Plain.{Tree, number, truth, variable, unary, binary}
 use Rattle.sdl_expressions.specs.Expressions.{Sign, leaf, joins, minus, denies, opens, closes, other, sign}
 use Rattle.sdl_ast.specs.Places.{place_of, placed}
-use Rattle.sdl_ast.specs.Heights.{tree_height, decision_height}
+use Rattle.sdl_ast.specs.Heights.{tree_height}
 use Rattle.sdl_tokens.specs.Readings.{Reading, read, fails, At}
 
--- how an operator is put on operands, and a DECISION on its question and answers
+-- how an operator is put on operands
 pub record Build : Type 0 where
   pub lead : ℕ → UnaryOperator → Tree → Tree
   pub join : BinaryOperator → Tree → Tree → Tree
-  pub decision : ℕ → Tree → Choice → PlainStatement
 
 abbrev pub whole_trees : Build
-whole_trees = record { lead = λ at o x. unary at o x; join = λ o x y. binary (place_of x) o x y; decision = λ at question choice. decide at question choice }
+whole_trees = record { lead = λ at o x. unary at o x; join = λ o x y. binary (place_of x) o x y }
 
 -- a tree that is too high stands for all trees above it
 abbrev pub low_unary : ℕ → UnaryOperator → Tree → Tree
@@ -34,20 +33,8 @@ low_binary at o x y =
     else if nat_lt GREATEST_HEIGHT (tree_height y) then placed at y
     else binary at o x y
 
--- an expression with operators in front of it
-unfoldable pub raised_by : ℕ → ℕ → Tree → Tree
-raised_by zero at x = x
-raised_by (suc n) at x = unary at Not (raised_by n at x)
-
--- what stands for a DECISION that is too high: its question, raised until that is too high, with no answers
-abbrev pub raised : ℕ → Tree → PlainStatement
-raised at question = decide at (raised_by GREATEST_HEIGHT at question) nothing_else
-
-abbrev pub low_decision : ℕ → Tree → Choice → PlainStatement
-low_decision at question choice = if nat_lt GREATEST_HEIGHT (decision_height question choice) then raised at question else decide at question choice
-
 abbrev pub low_trees : Build
-low_trees = record { lead = λ at o x. low_unary at o x; join = λ o x y. low_binary (place_of x) o x y; decision = λ at question choice. low_decision at question choice }
+low_trees = record { lead = λ at o x. low_unary at o x; join = λ o x y. low_binary (place_of x) o x y }
 
 -- what is left of a tree when no tree above one that is too high is built
 abbrev pub lowered : Tree → Tree

@@ -3,8 +3,9 @@ pub mod StepTurns
 pub mod TextDecides
 pub mod SyntaxDecides
 pub mod LoweredActions
-pub mod TextLowers
-pub mod LoweredParts
 pub mod LowHeights
+pub mod MarkLemmas
+pub mod TextMarks
+pub mod PartMarks
 pub mod ParseLemmas
 pub mod KeptLemmas

@@ -1,5 +1,5 @@
 -- From the reading of a text to what reads.
-use Rattle.std.proofs.Common.{◌≡◌, ℕ, suc, ◌+◌, ◌-◌, List, [], ◌∷◌, ◌++◌, Some, None, length, take, refl, sym, ap, subst, ◌∙◌, arith, length-append, Result, Ok, Err}
+use Rattle.std.proofs.Common.{◌≡◌, ℕ, suc, ◌+◌, ◌-◌, List, [], ◌∷◌, ◌++◌, Option, Some, None, length, take, refl, sym, ap, subst, ◌∙◌, arith, length-append, Result, Ok, Err}
 use Rattle.sdl_lex.specs.declared.lexemes.Token.{Token}
 use Rattle.sdl_tree.specs.declared.fault.ParseFault.{ParseFault}
 use Rattle.sdl_tree.specs.declared.fault.ParseFault.TheVariants.{Unexpected, TooDeep, NoMemory}
@@ -10,34 +10,31 @@ use Rattle.sdl_tree.specs.Syntax.{Reads}
 use Rattle.sdl_ast.specs.Heights.{first_too_high}
 use Rattle.sdl_tree.specs.Refusals.{NoneAgrees, Refuses, Answers}
 use Rattle.sdl_tokens.specs.Readings.{Reading, read, fails}
-use Rattle.sdl_expressions.specs.Machine.{whole_trees}
 use Rattle.sdl_tree.specs.Productions.{block_at}
-use Rattle.sdl_tree.specs.Settled.{stops_at, low_block, Settled}
+use Rattle.sdl_tree.specs.Marks.{Marked, kept, too_high, by_place, marked}
+use Rattle.sdl_tree.specs.MarkedParts.{marked_block}
+use Rattle.sdl_tree.specs.Settled.{stops_at, Settled}
 use Rattle.sdl_tokens.proofs.Decides.{first, rest_of, with_rest}
 use Rattle.sdl_tree.proofs.SyntaxDecides.{block_decides}
 use Rattle.sdl_expressions.proofs.Lowering.{mapped, Lowers}
-use Rattle.sdl_tree.proofs.LoweredParts.{lowered_block, block_lowers}
+use Rattle.sdl_tree.proofs.PartMarks.{block_lowers}
 use Rattle.sdl_ast.proofs.HeightLemmas.{low_where_none, high_where_some}
-use Rattle.sdl_tree.proofs.LowHeights.{place_stays, low_stays}
 
-whole_block : List Token → Reading PlainBlock
-whole_block ts = block_at whole_trees ts
+marked_of_whole : (ts : List Token) → marked_block ts ≡ mapped (marked first_too_high) (block_at ts)
+unfolding Lowers
+marked_of_whole ts = block_lowers ts
 
-low_of_whole : (ts : List Token) → low_block ts ≡ mapped lowered_block (whole_block ts)
-unfolding whole_block Lowers
-low_of_whole ts = block_lowers ts
-
-whole_of_reads : (ts : List Token) (b : PlainBlock) → Reads ts b → whole_block ts ≡ read b []
-unfolding Reads whole_block
+whole_of_reads : (ts : List Token) (b : PlainBlock) → Reads ts b → block_at ts ≡ read b []
+unfolding Reads
 whole_of_reads ts b h = block_decides.complete ts b [] h
 
-reads_of_whole : (ts : List Token) (b : PlainBlock) → whole_block ts ≡ read b [] → Reads ts b
-unfolding Reads whole_block
+reads_of_whole : (ts : List Token) (b : PlainBlock) → block_at ts ≡ read b [] → Reads ts b
+unfolding Reads
 reads_of_whole ts b h = block_decides.sound ts b [] h
 
-low_of_reads : (ts : List Token) (b : PlainBlock) → Reads ts b → low_block ts ≡ read (lowered_block b) []
+marked_of_reads : (ts : List Token) (b : PlainBlock) → Reads ts b → marked_block ts ≡ read (marked first_too_high b) []
 unfolding mapped
-low_of_reads ts b h = low_of_whole ts ∙ ap (mapped lowered_block) (whole_of_reads ts b h)
+marked_of_reads ts b h = marked_of_whole ts ∙ ap (mapped (marked first_too_high)) (whole_of_reads ts b h)
 
 -- a text has at most one tree
 pub one_tree : (ts : List Token) (b c : PlainBlock) → Reads ts b → Reads ts c → b ≡ c
@@ -45,53 +42,65 @@ one_tree ts b c h k =
     let e : read b [] ≡ read c [] = sym (whole_of_reads ts b h) ∙ whole_of_reads ts c k in
     cc
 
--- what was read is what is left of a tree that reads
-record FromTree (ts : List Token) (b : PlainBlock) : Type 0 where
+-- what was read is a tree that reads, marked
+record FromTree (ts : List Token) (m : Marked PlainBlock) : Type 0 where
   tree : PlainBlock
   reads : Reads ts tree
-  is : lowered_block tree ≡ b
+  is : marked first_too_high tree ≡ m
 
-from_result : (ts : List Token) (b : PlainBlock) (r : Reading PlainBlock) → whole_block ts ≡ r → mapped lowered_block r ≡ read b [] → FromTree ts b
+from_result : (ts : List Token) (m : Marked PlainBlock) (r : Reading PlainBlock) → block_at ts ≡ r → mapped (marked first_too_high) r ≡ read m [] → FromTree ts m
 unfolding mapped
-from_result ts b (fails us) e k = cc
-from_result ts b (read c us) e k =
+from_result ts m (fails us) e k = cc
+from_result ts m (read c us) e k =
     let none : us ≡ [] = cc in
-    let tree_is : lowered_block c ≡ b = cc in
+    let tree_is : marked first_too_high c ≡ m = cc in
     record { tree = c; reads = reads_of_whole ts c (e ∙ ap (λ vs. read c vs) none); is = tree_is }
 
-from_tree : (ts : List Token) (b : PlainBlock) → low_block ts ≡ read b [] → FromTree ts b
-from_tree ts b h = from_result ts b (whole_block ts) refl (sym (low_of_whole ts) ∙ h)
+from_tree : (ts : List Token) (m : Marked PlainBlock) → marked_block ts ≡ read m [] → FromTree ts m
+from_tree ts m h = from_result ts m (block_at ts) refl (sym (marked_of_whole ts) ∙ h)
+
+-- what a mark says
+
+kept_none : (p : Option ℕ) (b c : PlainBlock) → by_place p b ≡ kept c → p ≡ None
+kept_none None b c e = refl
+kept_none (Some at) b c e = cc
+
+kept_same : (p : Option ℕ) (b c : PlainBlock) → by_place p b ≡ kept c → c ≡ b
+kept_same None b c e = cc
+kept_same (Some at) b c e = cc
+
+high_place : (p : Option ℕ) (b : PlainBlock) (at : ℕ) → by_place p b ≡ too_high at → p ≡ Some at
+high_place None b at e = cc
+high_place (Some other) b at e = cc
 
 -- what is given is read
 
 pub found_reads : (ts : List Token) (block : Block) → Settled ts (Ok block) → Reads ts (block_of block)
 found_reads ts block s =
-    let f = from_tree ts (block_of block) s.0 in
-    let none : first_too_high f.tree ≡ None = sym (place_stays f.tree) ∙ ap first_too_high f.is ∙ s.1 in
-    subst (λ b. Reads ts b) (sym (low_stays f.tree none) ∙ f.is) f.reads
+    let f = from_tree ts (kept (block_of block)) s in
+    subst (λ b. Reads ts b) (sym (kept_same (first_too_high f.tree) f.tree (block_of block) f.is)) f.reads
 
 -- what is read is given
 
-stops_not : (ts us : List Token) (b : PlainBlock) → low_block ts ≡ read b [] → stops_at (low_block ts) ≡ Some us → ⊥
-stops_not ts us b h s = let e : None ≡ Some us = sym (ap stops_at h) ∙ s in cc
+stops_not : (ts us : List Token) (m : Marked PlainBlock) → marked_block ts ≡ read m [] → stops_at (marked_block ts) ≡ Some us → ⊥
+stops_not ts us m h s = let e : None ≡ Some us = sym (ap stops_at h) ∙ s in cc
 
 pub answers_exactly : (ts : List Token) (r : Result Block ParseFault) (b : PlainBlock) → Settled ts r → Reads ts b → Answers r b
 answers_exactly ts (Ok block) b s h =
-    let e : read (block_of block) [] ≡ read (lowered_block b) [] = sym s.0 ∙ low_of_reads ts b h in
-    let same : block_of block ≡ lowered_block b = cc in
-    let none : first_too_high b ≡ None = sym (place_stays b) ∙ ap first_too_high (sym same) ∙ s.1 in
-    (same ∙ low_stays b none, low_where_none b none)
+    let e : read (kept (block_of block)) [] ≡ read (marked first_too_high b) [] = sym s ∙ marked_of_reads ts b h in
+    let mark : marked first_too_high b ≡ kept (block_of block) = cc in
+    (kept_same (first_too_high b) b (block_of block) mark, low_where_none b (kept_none (first_too_high b) b (block_of block) mark))
 answers_exactly ts (Err (TooDeep at)) b s h =
-    let e : read s.0 [] ≡ read (lowered_block b) [] = sym s.1 ∙ low_of_reads ts b h in
-    let same : s.0 ≡ lowered_block b = cc in
-    let place : first_too_high b ≡ Some at = sym (place_stays b) ∙ ap first_too_high (sym same) ∙ s.2 in
+    let e : read (too_high at) [] ≡ read (marked first_too_high b) [] = sym s ∙ marked_of_reads ts b h in
+    let mark : marked first_too_high b ≡ too_high at = cc in
+    let place : first_too_high b ≡ Some at = high_place (first_too_high b) b at mark in
     (high_where_some b at place, place)
-answers_exactly ts (Err (Unexpected at)) b s h = stops_not ts s.0 (lowered_block b) (low_of_reads ts b h) s.1
+answers_exactly ts (Err (Unexpected at)) b s h = stops_not ts s.0 (marked first_too_high b) (marked_of_reads ts b h) s.1
 answers_exactly ts (Err NoMemory) b s h = tt
 
 -- nothing goes on with the token where the reading stops
 
-stops-mapped : (r : Reading PlainBlock) → stops_at (mapped lowered_block r) ≡ stops_at r
+stops-mapped : (r : Reading PlainBlock) → stops_at (mapped (marked first_too_high) r) ≡ stops_at r
 unfolding mapped
 stops-mapped (read b []) = refl
 stops-mapped (read b (t ∷ us)) = refl
@@ -131,11 +140,10 @@ front_length ts us front at parts e =
     let sum : length ts ≡ length front + length us = ap length parts ∙ length-append front us in
     omega arith
 
-pub none_agrees : (ts us : List Token) (at : ℕ) → stops_at (low_block ts) ≡ Some us → at ≡ length ts - length us → NoneAgrees ts at
-unfolding whole_block
+pub none_agrees : (ts us : List Token) (at : ℕ) → stops_at (marked_block ts) ≡ Some us → at ≡ length ts - length us → NoneAgrees ts at
 none_agrees ts us at stops place others b same reads =
     let s = block_decides.looks ts in
-    let stops_whole : stops_at (whole_block ts) ≡ Some us = sym (stops-mapped (whole_block ts)) ∙ ap stops_at (sym (low_of_whole ts)) ∙ stops in
+    let stops_whole : stops_at (block_at ts) ≡ Some us = sym (stops-mapped (block_at ts)) ∙ ap stops_at (sym (marked_of_whole ts)) ∙ stops in
     let stops_there : stops_at s.result ≡ Some us = ap stops_at (sym s.is) ∙ stops_whole in
     let rest : rest_of s.result ≡ us = rest_where_stops s.result us stops_there in
     let parts : ts ≡ s.front ++ us = s.parts ∙ ap (λ vs. s.front ++ vs) rest in
@@ -143,13 +151,13 @@ none_agrees ts us at stops place others b same reads =
     let alike : take (suc (length s.front)) others ≡ take (suc (length s.front)) (s.front ++ us) =
     subst (λ n. take n others ≡ take n ts) here same ∙ ap (take (suc (length s.front))) parts in
     let a = agrees s.front us others alike in
-    let again : whole_block (s.front ++ a.rest) ≡ with_rest s.result a.rest = s.again a.rest (a.alike ∙ ap first (sym rest)) in
-    let whole : whole_block (s.front ++ a.rest) ≡ read b [] = ap whole_block (sym a.parts) ∙ whole_of_reads others b reads in
+    let again : block_at (s.front ++ a.rest) ≡ with_rest s.result a.rest = s.again a.rest (a.alike ∙ ap first (sym rest)) in
+    let whole : block_at (s.front ++ a.rest) ≡ read b [] = ap block_at (sym a.parts) ∙ whole_of_reads others b reads in
     no_whole s.result us a.rest b stops_there a.alike (sym again ∙ whole)
 
 pub refuses_rightly : (ts : List Token) (fault : ParseFault) → Settled ts (Err fault) → Refuses ts fault
 refuses_rightly ts (Unexpected at) s = (let p = s.2 in omega arith, none_agrees ts s.0 at s.1 s.2)
 refuses_rightly ts (TooDeep at) s =
-    let f = from_tree ts s.0 s.1 in
-    (f.tree, f.reads, sym (place_stays f.tree) ∙ ap first_too_high f.is ∙ s.2)
+    let f = from_tree ts (too_high at) s in
+    (f.tree, f.reads, high_place (first_too_high f.tree) f.tree at f.is)
 refuses_rightly ts NoMemory s = tt

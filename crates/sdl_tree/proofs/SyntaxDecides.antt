@@ -11,6 +11,7 @@ use Rattle.sdl_ast.specs.Plain.{Tree, task, output, set_timer, reset_timer, sign
 use Rattle.sdl_tokens.specs.Tokens.{a_word, a_symbol, a_number, a_name, a_sort, a_party, a_constant, a_one, a_closing, a_quoted, a_destination, an_entity, a_declaration, a_clause, a_relation, a_section}
 use Rattle.sdl_tokens.specs.Readings.{At, NeverLonger}
 use Rattle.sdl_expressions.specs.Machine.{whole_trees, expression_at}
+use Rattle.sdl_tree.specs.Bodies.{whole_texts}
 use Rattle.sdl_tree.specs.Syntax.{names_syntax, comment_syntax, terminator_syntax, signal_syntax, signals_syntax, path_syntax, route_syntax, connect_syntax, negative_syntax, constant_syntax, initial_syntax, group_syntax, variables_syntax, timers_syntax, declaration_syntax, place_syntax, stimulus_syntax, assignment_syntax, assigned_syntax, quoted_syntax, item_syntax, task_syntax, sending_syntax, destination_syntax, output_syntax, delay_syntax, set_syntax, reset_syntax, action_syntax, next_state_syntax, stop_syntax, end_syntax, text_syntax, input_syntax, save_syntax, clause_syntax, closing_syntax, end_state_syntax, state_syntax, start_syntax, second_number_syntax, instances_syntax, process_head_syntax, process_syntax, entity_syntax, block_syntax, compared_syntax, upper_syntax, value_syntax, range_syntax, answer_head_syntax, else_head_syntax, some_head_syntax, no_head_syntax, head_syntax, question_syntax, end_decision_syntax, join_syntax, end_connection_syntax, connection_syntax, state_section_syntax, connection_section_syntax, section_syntax}
 use Rattle.sdl_tree.specs.Productions.{names_at, comment_at, terminator_at, signal_at, signals_at, path_at, route_at, connect_at, negative_at, constant_at, initial_at, group_at, variables_at, timers_at, declaration_at, place_at, stimulus_at, assignment_at, assigned_at, quoted_at, item_at, task_at, sending_at, destination_at, output_at, delay_at, set_at, reset_at, action_at, next_state_at, stop_at, end_at, text_at, input_at, save_at, clause_at, closing_at, end_state_at, state_at, start_at, second_number_at, instances_at, process_head_at, process_at, entity_at, block_at, compared_at, upper_at, value_at, range_at, answer_head_at, else_head_at, some_head_at, no_head_at, head_at, question_at, end_decision_at, join_at, end_connection_at, connection_at, state_section_at, connection_section_at, section_at}
 use Rattle.sdl_expressions.specs.Rests.{expression_keeps}
@@ -330,10 +331,10 @@ pub end_decides : Decides end_syntax end_at
 unfolding end_syntax end_at
 end_decides = choice_decides (a_word words.NextState) next_state_decides (choice_decides (a_word words.Stop) stop_decides join_decides)
 
-text_decides : Decides text_syntax (text_at whole_trees)
+text_decides : Decides text_syntax (text_at whole_texts)
 text_decides = text_decides_from (record { action = action_decides; question = question_decides; head = head_decides; closing = end_decision_decides; last = end_decides })
 
-input_decides : Decides input_syntax (input_at whole_trees)
+input_decides : Decides input_syntax input_at
 unfolding input_syntax input_at
 input_decides = do
   at ← token_decides (a_word words.Input)
@@ -350,7 +351,7 @@ save_decides = do
   _ ← terminator_decides
   give_decides (save names)
 
-clause_decides : Decides clause_syntax (clause_at whole_trees)
+clause_decides : Decides clause_syntax clause_at
 unfolding clause_syntax clause_at
 clause_decides = choice_decides (a_word words.Input) input_decides save_decides
 
@@ -367,14 +368,14 @@ end_state_decides name = do
   _ ← token_decides (a_word words.EndState)
   closing_decides name
 
-state_decides : Decides state_syntax (state_at whole_trees)
+state_decides : Decides state_syntax state_at
 unfolding state_syntax state_at
 state_decides = do
   _ ← token_decides (a_word words.State)
   name ← token_decides a_name
   names ← separated_from_decides name (token_decides a_name)
   _ ← terminator_decides
-  clauses ← many_decides a_clause (clause_takes whole_trees) clause_decides
+  clauses ← many_decides a_clause clause_takes clause_decides
   _ ← optional_decides (a_word words.EndState) (end_state_decides name.name)
   give_decides (record { names = names; clauses = clauses })
 
@@ -384,7 +385,7 @@ end_connection_decides name = do
   _ ← token_decides (a_word words.EndConnection)
   closing_decides name
 
-connection_decides : Decides connection_syntax (connection_at whole_trees)
+connection_decides : Decides connection_syntax connection_at
 unfolding connection_syntax connection_at
 connection_decides = do
   at ← token_decides (a_word words.Connection)
@@ -394,23 +395,23 @@ connection_decides = do
   _ ← optional_decides (a_word words.EndConnection) (end_connection_decides name.name)
   give_decides (record { at = at; name = name; text = text })
 
-state_section_decides : Decides state_section_syntax (state_section_at whole_trees)
+state_section_decides : Decides state_section_syntax state_section_at
 unfolding state_section_syntax state_section_at
 state_section_decides = do
   state ← state_decides
   give_decides (in_state state)
 
-connection_section_decides : Decides connection_section_syntax (connection_section_at whole_trees)
+connection_section_decides : Decides connection_section_syntax connection_section_at
 unfolding connection_section_syntax connection_section_at
 connection_section_decides = do
   connection ← connection_decides
   give_decides (in_connection connection)
 
-section_decides : Decides section_syntax (section_at whole_trees)
+section_decides : Decides section_syntax section_at
 unfolding section_syntax section_at
 section_decides = choice_decides (a_word words.State) state_section_decides connection_section_decides
 
-start_decides : Decides start_syntax (start_at whole_trees)
+start_decides : Decides start_syntax start_at
 unfolding start_syntax start_at
 start_decides = do
   at ← token_decides (a_word words.Start)
@@ -442,28 +443,28 @@ process_head_decides = do
   _ ← terminator_decides
   give_decides name
 
-process_decides : Decides process_syntax (process_at whole_trees)
+process_decides : Decides process_syntax process_at
 unfolding process_syntax process_at
 process_decides = do
   name ← process_head_decides
   declarations ← many_decides a_declaration declaration_takes declaration_decides
   start ← start_decides
-  sections ← many_decides a_section (section_takes whole_trees) section_decides
+  sections ← many_decides a_section section_takes section_decides
   _ ← token_decides (a_word words.EndProcess)
   _ ← closing_decides name.name
   give_decides (process (process_from name declarations start sections))
 
-entity_decides : Decides entity_syntax (entity_at whole_trees)
+entity_decides : Decides entity_syntax entity_at
 unfolding entity_syntax entity_at
 entity_decides = choice_decides (a_word words.Signal) signals_decides (choice_decides (a_word words.SignalRoute) route_decides (choice_decides (a_word words.Connect) connect_decides process_decides))
 
-pub block_decides : Decides block_syntax (block_at whole_trees)
+pub block_decides : Decides block_syntax block_at
 unfolding block_syntax block_at
 block_decides = do
   _ ← token_decides (a_word words.Block)
   name ← token_decides a_name
   _ ← terminator_decides
-  entities ← many_decides an_entity (entity_takes whole_trees) entity_decides
+  entities ← many_decides an_entity entity_takes entity_decides
   _ ← token_decides (a_word words.EndBlock)
   _ ← closing_decides name.name
   give_decides (record { name = name; entities = entities })

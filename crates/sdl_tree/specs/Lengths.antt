@@ -2,10 +2,10 @@
 use Rattle.std.specs.Prelude.{ℕ, suc, zero, ◌≤◌, List, [], ◌∷◌, Option, Some, None, length}
 use Rattle.sdl_lex.specs.declared.lexemes.Word.TheVariants as words
 use Rattle.sdl_lex.specs.declared.lexemes.Symbol.TheVariants.{Semicolon, Comma, Assign, Open, Close, Plus, Minus, Colon}
-use Rattle.sdl_ast.specs.Plain.{Tree, Text, Choice, nothing_else, otherwise, PlainHead}
-use Rattle.sdl_tree.specs.Bodies.{Branching, Body, Reached, Move, reaches, closes}
+use Rattle.sdl_ast.specs.Plain.{Tree, PlainHead}
+use Rattle.sdl_tree.specs.Bodies.{Keeping, whole_texts, Branching, Body, Reached, Move, reaches, closes}
 use Rattle.sdl_tokens.specs.Tokens.{a_word, a_symbol, a_number, a_name, a_sort, a_party, a_constant, a_one, a_closing, a_quoted, a_destination, a_declaration, a_clause, an_action, an_end, a_choice, a_relation, a_section}
-use Rattle.sdl_expressions.specs.Machine.{Build, low_trees, State, expression_at}
+use Rattle.sdl_expressions.specs.Machine.{low_trees, expression_at}
 use Rattle.sdl_tokens.specs.Readings.{At, optional, token, Shortens, NeverLonger}
 use Rattle.sdl_tree.specs.Productions.{comment_at, signal_at, signals_at, path_at, route_at, connect_at, negative_at, constant_at, initial_at, group_at, variables_at, timers_at, declaration_at, place_at, stimulus_at, assignment_at, assigned_at, quoted_at, item_at, task_at, sending_at, destination_at, output_at, delay_at, set_at, reset_at, action_at, next_state_at, stop_at, end_at, head_step, closing_step, answer_step, with_answer, body_step, behind_step, end_step, decision_step, action_step, step_at, after_move, steps_for, steps_from, at_first, text_at, input_at, save_at, clause_at, closing_at, end_state_at, state_at, start_at, second_number_at, instances_at, process_head_at, process_at, entity_at, terminator_at, compared_at, upper_at, value_at, range_at, answer_head_at, else_head_at, some_head_at, no_head_at, head_at, question_at, end_decision_at, join_at, end_connection_at, connection_at, state_section_at, connection_section_at, section_at}
 use Rattle.sdl_tokens.specs.Rests.{not_read, less_never_longer, shortens_token, keeps_give, keeps_token, ◌>>=◌, first_takes, keeps_choice, takes_choice, keeps_optional, keeps_many, keeps_separated_from, keeps_separated, keeps_list}
@@ -240,59 +240,57 @@ end_keeps = keeps_choice (a_word words.NextState) next_state_keeps (keeps_choice
 pub last_keeps : NeverLonger (optional an_end end_at)
 last_keeps = keeps_optional an_end end_keeps
 
-pub head_step_takes : (outer : List Body) (d : Branching) → Shortens (head_step outer d)
+pub head_step_takes : {S A C T : Type 0} (k : Keeping S A C T) (outer : List (Body S A)) (d : Branching S A) → Shortens (head_step k outer d)
 unfolding head_step
-head_step_takes outer d = first_takes head_takes λ head. keeps_give _
+head_step_takes k outer d = first_takes head_takes λ head. keeps_give _
 
-pub closing_step_takes : (b : Build) (outer : List Body) (d : Branching) (others : Choice) → Shortens (closing_step b outer d others)
+pub closing_step_takes : {S A C T : Type 0} (k : Keeping S A C T) (outer : List (Body S A)) (d : Branching S A) (others : C) → Shortens (closing_step k outer d others)
 unfolding closing_step
-closing_step_takes b outer d others = first_takes end_decision_takes λ _. keeps_give _
+closing_step_takes k outer d others = first_takes end_decision_takes λ _. keeps_give _
 
-pub body_step_takes : (b : Build) (outer : List Body) (d : Branching) (head : Option PlainHead) (text : Text) → Shortens (body_step b outer d head text)
+pub body_step_takes : {S A C T : Type 0} (k : Keeping S A C T) (outer : List (Body S A)) (d : Branching S A) (head : Option PlainHead) (text : T) → Shortens (body_step k outer d head text)
 unfolding answer_step
-body_step_takes b outer d (Some h) text = takes_choice a_choice (head_step_takes outer (with_answer d h text)) (closing_step_takes b outer (with_answer d h text) nothing_else)
-body_step_takes b outer d None text = closing_step_takes b outer d (otherwise text)
+body_step_takes k outer d (Some h) text = takes_choice a_choice (head_step_takes k outer (with_answer k d h text)) (closing_step_takes k outer (with_answer k d h text) k.no_else)
+body_step_takes k outer d None text = closing_step_takes k outer d (k.with_else text)
 
-behind_step_keeps : (b : Build) (outer : List Body) (text : Text) → NeverLonger (behind_step b outer text)
-behind_step_keeps b [] text = keeps_give (closes text)
-behind_step_keeps b (body ∷ outer) text = less_never_longer _ (body_step_takes b outer body.branching body.head text)
+behind_step_keeps : {S A C T : Type 0} (k : Keeping S A C T) (outer : List (Body S A)) (text : T) → NeverLonger (behind_step k outer text)
+behind_step_keeps k [] text = keeps_give (closes text)
+behind_step_keeps k (body ∷ outer) text = less_never_longer _ (body_step_takes k outer body.branching body.head text)
 
-end_step_keeps : (b : Build) (s : Reached) → NeverLonger (end_step b s)
+end_step_keeps : {S A C T : Type 0} (k : Keeping S A C T) (s : Reached S A) → NeverLonger (end_step k s)
 unfolding end_step
-end_step_keeps b s = last_keeps >>= λ last. behind_step_keeps b s.outer _
+end_step_keeps k s = last_keeps >>= λ last. behind_step_keeps k s.outer _
 
-pub decision_step_takes : (b : Build) (s : Reached) → Shortens (decision_step b s)
+pub decision_step_takes : {S A C T : Type 0} (k : Keeping S A C T) (s : Reached S A) → Shortens (decision_step k s)
 unfolding decision_step
-decision_step_takes b s = first_takes (question_takes (expression_at b) (expression_keeps b)) λ asked. less_never_longer _ (head_step_takes s.outer _)
+decision_step_takes k s = first_takes (question_takes (expression_at k.trees) (expression_keeps k.trees)) λ asked. less_never_longer _ (head_step_takes k s.outer _)
 
-pub action_step_takes : (b : Build) (s : Reached) → Shortens (action_step b s)
+pub action_step_takes : {S A C T : Type 0} (k : Keeping S A C T) (s : Reached S A) → Shortens (action_step k s)
 unfolding action_step
-action_step_takes b s = first_takes (action_takes (expression_at b) (expression_keeps b)) λ action. keeps_give _
+action_step_takes k s = first_takes (action_takes (expression_at k.trees) (expression_keeps k.trees)) λ action. keeps_give _
 
-step_keeps : (b : Build) (s : Reached) → NeverLonger (step_at b s)
+step_keeps : {S A C T : Type 0} (k : Keeping S A C T) (s : Reached S A) → NeverLonger (step_at k s)
 unfolding step_at
-step_keeps b s =
-    keeps_choice an_action (less_never_longer _ (action_step_takes b s))
-    (keeps_choice (a_word words.Decision) (less_never_longer _ (decision_step_takes b s)) (end_step_keeps b s))
+step_keeps k s =
+    keeps_choice an_action (less_never_longer _ (action_step_takes k s))
+    (keeps_choice (a_word words.Decision) (less_never_longer _ (decision_step_takes k s)) (end_step_keeps k s))
 
-move_keeps : (go_on : Reached → At Text) → ((s : Reached) → NeverLonger (go_on s)) → (m : Move) → NeverLonger (after_move go_on m)
+move_keeps : {S A T : Type 0} (go_on : Reached S A → At T) → ((s : Reached S A) → NeverLonger (go_on s)) → (m : Move S A T) → NeverLonger (after_move go_on m)
 move_keeps go_on k (reaches s) = k s
 move_keeps go_on k (closes text) = keeps_give text
 
-steps_for_keep : (b : Build) (n : ℕ) (s : Reached) → NeverLonger (steps_for b n s)
+steps_for_keep : {S A C T : Type 0} (k : Keeping S A C T) (n : ℕ) (s : Reached S A) → NeverLonger (steps_for k n s)
 unfolding steps_for
-steps_for_keep b zero s = λ ts x us h. not_read (length us ≤ length ts) ts us x h
-steps_for_keep b (suc n) s = step_keeps b s >>= move_keeps (steps_for b n) (steps_for_keep b n)
+steps_for_keep k zero s = λ ts x us h. not_read (length us ≤ length ts) ts us x h
+steps_for_keep k (suc n) s = step_keeps k s >>= move_keeps (steps_for k n) (steps_for_keep k n)
 
-pub text_keeps : (b : Build) → NeverLonger (text_at b)
+pub text_keeps : {S A C T : Type 0} (k : Keeping S A C T) → NeverLonger (text_at k)
 unfolding text_at steps_from
-text_keeps b = λ ts x us h. steps_for_keep b (suc (length ts)) at_first ts x us h
+text_keeps k = λ ts x us h. steps_for_keep k (suc (length ts)) (at_first k) ts x us h
 
-pub input_takes : (b : Build) → Shortens (input_at b)
+pub input_takes : Shortens input_at
 unfolding input_at
-input_takes b =
-    first_takes (shortens_token (a_word words.Input)) λ at.
-    keeps_separated stimulus_keeps >>= λ stimuli. terminator_keeps >>= λ _. text_keeps b >>= λ text. keeps_give _
+input_takes = first_takes (shortens_token (a_word words.Input)) λ at. keeps_separated stimulus_keeps >>= λ stimuli. terminator_keeps >>= λ _. text_keeps whole_texts >>= λ text. keeps_give _
 
 pub save_takes : Shortens save_at
 unfolding save_at
@@ -300,12 +298,12 @@ save_takes =
     first_takes (shortens_token (a_word words.Save)) λ _.
     keeps_separated name_keeps >>= λ names. terminator_keeps >>= λ _. keeps_give _
 
-pub clause_takes : (b : Build) → Shortens (clause_at b)
+pub clause_takes : Shortens clause_at
 unfolding clause_at
-clause_takes b = takes_choice (a_word words.Input) (input_takes b) save_takes
+clause_takes = takes_choice (a_word words.Input) input_takes save_takes
 
-pub clause_keeps : (b : Build) → NeverLonger (clause_at b)
-clause_keeps b = less_never_longer _ (clause_takes b)
+pub clause_keeps : NeverLonger clause_at
+clause_keeps = less_never_longer _ clause_takes
 
 pub closing_keeps : (name : List ℕ) → NeverLonger (closing_at name)
 unfolding closing_at
@@ -315,49 +313,39 @@ pub end_state_keeps : (name : List ℕ) → NeverLonger (end_state_at name)
 unfolding end_state_at
 end_state_keeps name = keeps_token (a_word words.EndState) >>= λ _. closing_keeps name
 
-pub state_takes : (b : Build) → Shortens (state_at b)
+pub state_takes : Shortens state_at
 unfolding state_at
-state_takes b =
-    first_takes (shortens_token (a_word words.State)) λ _.
-    name_keeps >>= λ name. keeps_separated_from name name_keeps >>= λ names. terminator_keeps >>=
-    λ _. keeps_many a_clause (clause_keeps b) >>= λ clauses. keeps_optional (a_word words.EndState) (end_state_keeps name.name) >>=
-    λ _. keeps_give _
+state_takes = first_takes (shortens_token (a_word words.State)) λ _. name_keeps >>= λ name. keeps_separated_from name name_keeps >>= λ names. terminator_keeps >>= λ _. keeps_many a_clause clause_keeps >>= λ clauses. keeps_optional (a_word words.EndState) (end_state_keeps name.name) >>= λ _. keeps_give _
 
-pub state_keeps : (b : Build) → NeverLonger (state_at b)
-state_keeps b = less_never_longer _ (state_takes b)
+pub state_keeps : NeverLonger state_at
+state_keeps = less_never_longer _ state_takes
 
 pub end_connection_keeps : (name : List ℕ) → NeverLonger (end_connection_at name)
 unfolding end_connection_at
 end_connection_keeps name = keeps_token (a_word words.EndConnection) >>= λ _. closing_keeps name
 
-pub connection_takes : (b : Build) → Shortens (connection_at b)
+pub connection_takes : Shortens connection_at
 unfolding connection_at
-connection_takes b =
-    first_takes (shortens_token (a_word words.Connection)) λ at.
-    name_keeps >>= λ name. keeps_token (a_symbol Colon) >>= λ _. text_keeps b >>= λ text. keeps_optional (a_word words.EndConnection) (end_connection_keeps name.name) >>= λ _. keeps_give _
+connection_takes = first_takes (shortens_token (a_word words.Connection)) λ at. name_keeps >>= λ name. keeps_token (a_symbol Colon) >>= λ _. text_keeps whole_texts >>= λ text. keeps_optional (a_word words.EndConnection) (end_connection_keeps name.name) >>= λ _. keeps_give _
 
-pub state_section_takes : (b : Build) → Shortens (state_section_at b)
+pub state_section_takes : Shortens state_section_at
 unfolding state_section_at
-state_section_takes b =
-    first_takes (state_takes b) λ state.
-    keeps_give _
+state_section_takes = first_takes state_takes λ state. keeps_give _
 
-pub connection_section_takes : (b : Build) → Shortens (connection_section_at b)
+pub connection_section_takes : Shortens connection_section_at
 unfolding connection_section_at
-connection_section_takes b =
-    first_takes (connection_takes b) λ connection.
-    keeps_give _
+connection_section_takes = first_takes connection_takes λ connection. keeps_give _
 
-pub section_takes : (b : Build) → Shortens (section_at b)
+pub section_takes : Shortens section_at
 unfolding section_at
-section_takes b = takes_choice (a_word words.State) (state_section_takes b) (connection_section_takes b)
+section_takes = takes_choice (a_word words.State) state_section_takes connection_section_takes
 
-pub section_keeps : (b : Build) → NeverLonger (section_at b)
-section_keeps b = less_never_longer _ (section_takes b)
+pub section_keeps : NeverLonger section_at
+section_keeps = less_never_longer _ section_takes
 
-pub start_keeps : (b : Build) → NeverLonger (start_at b)
+pub start_keeps : NeverLonger start_at
 unfolding start_at
-start_keeps b = keeps_token (a_word words.Start) >>= λ at. terminator_keeps >>= λ _. text_keeps b >>= λ text. keeps_give _
+start_keeps = keeps_token (a_word words.Start) >>= λ at. terminator_keeps >>= λ _. text_keeps whole_texts >>= λ text. keeps_give _
 
 pub second_number_keeps : NeverLonger second_number_at
 unfolding second_number_at
@@ -375,20 +363,16 @@ process_head_takes =
     first_takes (shortens_token (a_word words.Process)) λ _.
     name_keeps >>= λ name. keeps_optional (a_symbol Open) instances_keeps >>= λ _. terminator_keeps >>= λ _. keeps_give _
 
-pub process_takes : (b : Build) → Shortens (process_at b)
+pub process_takes : Shortens process_at
 unfolding process_at
-process_takes b =
-    first_takes process_head_takes λ name.
-    keeps_many a_declaration declaration_keeps >>= λ declarations. start_keeps b >>=
-    λ start. keeps_many a_section (section_keeps b) >>= λ sections. keeps_token (a_word words.EndProcess) >>=
-    λ _. closing_keeps name.name >>= λ _. keeps_give _
+process_takes = first_takes process_head_takes λ name. keeps_many a_declaration declaration_keeps >>= λ declarations. start_keeps >>= λ start. keeps_many a_section section_keeps >>= λ sections. keeps_token (a_word words.EndProcess) >>= λ _. closing_keeps name.name >>= λ _. keeps_give _
 
-pub entity_takes : (b : Build) → Shortens (entity_at b)
+pub entity_takes : Shortens entity_at
 unfolding entity_at
-entity_takes b = takes_choice (a_word words.Signal) signals_takes (takes_choice (a_word words.SignalRoute) route_takes (takes_choice (a_word words.Connect) connect_takes (process_takes b)))
+entity_takes = takes_choice (a_word words.Signal) signals_takes (takes_choice (a_word words.SignalRoute) route_takes (takes_choice (a_word words.Connect) connect_takes process_takes))
 
-pub entity_keeps : (b : Build) → NeverLonger (entity_at b)
-entity_keeps b = less_never_longer _ (entity_takes b)
+pub entity_keeps : NeverLonger entity_at
+entity_keeps = less_never_longer _ entity_takes
 
 -- the same where no tree above one that is too high is built
 
@@ -403,21 +387,3 @@ low_action_takes = action_takes (expression_at low_trees) low_keeps
 
 pub low_action_keeps : NeverLonger (action_at (expression_at low_trees))
 low_action_keeps = action_keeps (expression_at low_trees) low_keeps
-
-pub low_clause_takes : Shortens (clause_at low_trees)
-low_clause_takes = clause_takes low_trees
-
-pub low_clause_keeps : NeverLonger (clause_at low_trees)
-low_clause_keeps = clause_keeps low_trees
-
-pub low_section_takes : Shortens (section_at low_trees)
-low_section_takes = section_takes low_trees
-
-pub low_section_keeps : NeverLonger (section_at low_trees)
-low_section_keeps = section_keeps low_trees
-
-pub low_entity_takes : Shortens (entity_at low_trees)
-low_entity_takes = entity_takes low_trees
-
-pub low_entity_keeps : NeverLonger (entity_at low_trees)
-low_entity_keeps = entity_keeps low_trees

@@ -1,8 +1,11 @@
 pub mod Syntax
+pub mod Marks
 pub mod Bodies
 pub mod BodyViews
 pub mod Productions
 pub mod Lengths
+pub mod MarkedParts
+pub mod MarkedLengths
 pub mod Settled
 pub mod Refusals
 pub mod Printed

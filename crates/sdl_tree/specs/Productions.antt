@@ -1,6 +1,6 @@
--- The productions read token by token, in one step each. `e` reads an expression, `b` says how trees are built.
+-- The productions read token by token, in one step each. `e` reads an expression, `k` says how a transition is kept.
 -- tools/productions writes them from Syntax, but for the steps of a transition.
-use Rattle.std.specs.Prelude.{ℕ, suc, zero, List, [], ◌∷◌, ◌++◌, length, Option, Some, None, pos, ◌-ℤ◌}
+use Rattle.std.specs.Prelude.{ℕ, suc, zero, List, [], ◌∷◌, length, Option, Some, None, pos, ◌-ℤ◌}
 use Rattle.std.specs.List.{filter_map}
 use Rattle.std.specs.Option.{option_to_list}
 use Rattle.sdl_lex.specs.declared.lexemes.Word.TheVariants as words
@@ -13,11 +13,10 @@ use Rattle.sdl_ast.specs.declared.tree.End.{End}
 use Rattle.sdl_ast.specs.declared.tree.End.TheVariants.{NextState, Stop, Join}
 use Rattle.sdl_ast.specs.declared.tree.Range.{Range}
 use Rattle.sdl_ast.specs.declared.tree.Range.TheVariants.{Compared}
-use Rattle.sdl_ast.specs.Plain.{Tree, PlainAssignment, PlainSending, PlainAction, task, output, set_timer, reset_timer, Text, Choice, nothing_else, otherwise, PlainQuestion, PlainHead, act, all_before, all_answers, PlainStimulus, PlainClause, input, save, PlainState, PlainStart, PlainGroup, PlainDeclaration, variables, timers, PlainPath, PlainSignal, PlainEntity, signals, route, connect, process, PlainBlock, PlainConnection, PlainSection, in_state, in_connection, process_from, from_to}
-use Rattle.sdl_ast.specs.Views.{end_text}
+use Rattle.sdl_ast.specs.Plain.{Tree, PlainAssignment, PlainSending, PlainAction, task, output, set_timer, reset_timer, PlainQuestion, PlainHead, PlainStimulus, PlainClause, input, save, PlainState, PlainStart, PlainGroup, PlainDeclaration, variables, timers, PlainPath, PlainSignal, PlainEntity, signals, route, connect, process, PlainBlock, PlainConnection, PlainSection, in_state, in_connection, process_from, from_to}
 use Rattle.sdl_tokens.specs.Tokens.{a_word, a_symbol, a_number, a_name, a_sort, a_party, a_constant, a_one, a_closing, a_quoted, a_destination, an_entity, a_declaration, a_clause, an_action, an_end, a_choice, a_relation, a_section}
-use Rattle.sdl_expressions.specs.Machine.{Build, expression_at}
-use Rattle.sdl_tree.specs.Bodies.{Branching, Body, Reached, Move, reaches, closes}
+use Rattle.sdl_expressions.specs.Machine.{expression_at}
+use Rattle.sdl_tree.specs.Bodies.{Keeping, whole_texts, Branching, Body, Reached, Move, reaches, closes}
 use Rattle.sdl_tokens.specs.Readings.{At, fails, give, token, ◌>>=◌, many, choice, optional, separated_from, separated, list_in_parentheses}
 
 abbrev pub names_at : At (List Identifier)
@@ -284,77 +283,77 @@ end_at = choice (a_word words.NextState) next_state_at (choice (a_word words.Sto
 -- of one action, of a question with the first head, or of an end with the head or ENDDECISION behind it.
 
 -- the head of an answer or ELSE: its body is read next
-unfoldable pub head_step : List Body → Branching → At Move
-head_step outer d = do
+unfoldable pub head_step : {S A C T : Type 0} → Keeping S A C T → List (Body S A) → Branching S A → At (Move S A T)
+head_step k outer d = do
   head ← head_at
-  give (reaches (record { outer = record { branching = d; head = head } ∷ outer; here = [] }))
+  give (reaches (record { outer = record { branching = d; head = head } ∷ outer; here = k.no_statement }))
 
 -- ENDDECISION: what stands behind it is read next
-unfoldable pub closing_step : Build → List Body → Branching → Choice → At Move
-closing_step b outer d others = do
+unfoldable pub closing_step : {S A C T : Type 0} → Keeping S A C T → List (Body S A) → Branching S A → C → At (Move S A T)
+closing_step k outer d others = do
   _ ← end_decision_at
-  give (reaches (record { outer = outer; here = d.before ++ b.decision d.asked.at d.asked.question (all_answers d.answers others) ∷ [] }))
+  give (reaches (record { outer = outer; here = k.decides d.before d.asked d.answers others }))
 
 -- behind the body of an answer: another head, or ENDDECISION
-unfoldable pub answer_step : Build → List Body → Branching → At Move
-answer_step b outer d = choice a_choice (head_step outer d) (closing_step b outer d nothing_else)
+unfoldable pub answer_step : {S A C T : Type 0} → Keeping S A C T → List (Body S A) → Branching S A → At (Move S A T)
+answer_step k outer d = choice a_choice (head_step k outer d) (closing_step k outer d k.no_else)
 
-abbrev pub with_answer : Branching → PlainHead → Text → Branching
-with_answer d h text = record { before = d.before; asked = d.asked; answers = d.answers ++ record { at = h.at; ranges = h.ranges; text = text } ∷ [] }
+abbrev pub with_answer : {S A C T : Type 0} → Keeping S A C T → Branching S A → PlainHead → T → Branching S A
+with_answer k d h text = record { before = d.before; asked = d.asked; answers = k.answers d.answers h text }
 
 -- behind a body; nothing but ENDDECISION stands behind that of ELSE
-abbrev pub body_step : Build → List Body → Branching → Option PlainHead → Text → At Move
-body_step b outer d (Some h) text = answer_step b outer (with_answer d h text)
-body_step b outer d None text = closing_step b outer d (otherwise text)
+abbrev pub body_step : {S A C T : Type 0} → Keeping S A C T → List (Body S A) → Branching S A → Option PlainHead → T → At (Move S A T)
+body_step k outer d (Some h) text = answer_step k outer (with_answer k d h text)
+body_step k outer d None text = closing_step k outer d (k.with_else text)
 
 -- behind a transition
-abbrev pub behind_step : Build → List Body → Text → At Move
-behind_step b [] text = give (closes text)
-behind_step b (body ∷ outer) text = body_step b outer body.branching body.head text
+abbrev pub behind_step : {S A C T : Type 0} → Keeping S A C T → List (Body S A) → T → At (Move S A T)
+behind_step k [] text = give (closes text)
+behind_step k (body ∷ outer) text = body_step k outer body.branching body.head text
 
-unfoldable pub end_step : Build → Reached → At Move
-end_step b s = do
+unfoldable pub end_step : {S A C T : Type 0} → Keeping S A C T → Reached S A → At (Move S A T)
+end_step k s = do
   last ← optional an_end end_at
-  behind_step b s.outer (all_before s.here (end_text last))
+  behind_step k s.outer (k.ended s.here last)
 
-unfoldable pub decision_step : Build → Reached → At Move
-decision_step b s = do
-  asked ← question_at (expression_at b)
-  head_step s.outer (record { before = s.here; asked = asked; answers = [] })
+unfoldable pub decision_step : {S A C T : Type 0} → Keeping S A C T → Reached S A → At (Move S A T)
+decision_step k s = do
+  asked ← question_at (expression_at k.trees)
+  head_step k s.outer (record { before = s.here; asked = asked; answers = k.no_answer })
 
-unfoldable pub action_step : Build → Reached → At Move
-action_step b s = do
-  action ← action_at (expression_at b)
-  give (reaches (record { outer = s.outer; here = s.here ++ act action ∷ [] }))
+unfoldable pub action_step : {S A C T : Type 0} → Keeping S A C T → Reached S A → At (Move S A T)
+action_step k s = do
+  action ← action_at (expression_at k.trees)
+  give (reaches (record { outer = s.outer; here = k.acts s.here action }))
 
-unfoldable pub step_at : Build → Reached → At Move
-step_at b s = choice an_action (action_step b s) (choice (a_word words.Decision) (decision_step b s) (end_step b s))
+unfoldable pub step_at : {S A C T : Type 0} → Keeping S A C T → Reached S A → At (Move S A T)
+step_at k s = choice an_action (action_step k s) (choice (a_word words.Decision) (decision_step k s) (end_step k s))
 
-abbrev pub after_move : (Reached → At Text) → Move → At Text
+abbrev pub after_move : {S A T : Type 0} → (Reached S A → At T) → Move S A T → At T
 after_move go_on (reaches s) = go_on s
 after_move go_on (closes text) = give text
 
 -- steps in a row, at most so many
-unfoldable pub steps_for : Build → ℕ → Reached → At Text
-steps_for b zero s = λ ts. fails ts
-steps_for b (suc n) s = step_at b s >>= after_move (steps_for b n)
+unfoldable pub steps_for : {S A C T : Type 0} → Keeping S A C T → ℕ → Reached S A → At T
+steps_for k zero s = λ ts. fails ts
+steps_for k (suc n) s = step_at k s >>= after_move (steps_for k n)
 
 -- each step but the last takes a token
-unfoldable pub steps_from : Build → Reached → At Text
-steps_from b s = λ ts. steps_for b (suc (length ts)) s ts
+unfoldable pub steps_from : {S A C T : Type 0} → Keeping S A C T → Reached S A → At T
+steps_from k s = λ ts. steps_for k (suc (length ts)) s ts
 
-abbrev pub at_first : Reached
-at_first = record { outer = []; here = [] }
+abbrev pub at_first : {S A C T : Type 0} → Keeping S A C T → Reached S A
+at_first k = record { outer = []; here = k.no_statement }
 
-unfoldable pub text_at : Build → At Text
-text_at b = steps_from b at_first
+unfoldable pub text_at : {S A C T : Type 0} → Keeping S A C T → At T
+text_at k = steps_from k (at_first k)
 
-unfoldable pub input_at : Build → At PlainClause
-input_at b = do
+unfoldable pub input_at : At PlainClause
+input_at = do
   at ← token (a_word words.Input)
   stimuli ← separated stimulus_at
   _ ← terminator_at
-  text ← text_at b
+  text ← text_at whole_texts
   give (input (record { at = at; stimuli = stimuli; text = text }))
 
 unfoldable pub save_at : At PlainClause
@@ -364,8 +363,8 @@ save_at = do
   _ ← terminator_at
   give (save names)
 
-unfoldable pub clause_at : Build → At PlainClause
-clause_at b = choice (a_word words.Input) (input_at b) save_at
+unfoldable pub clause_at : At PlainClause
+clause_at = choice (a_word words.Input) input_at save_at
 
 unfoldable pub closing_at : List ℕ → At (Option Identifier)
 closing_at name = do
@@ -378,13 +377,13 @@ end_state_at name = do
   _ ← token (a_word words.EndState)
   closing_at name
 
-unfoldable pub state_at : Build → At PlainState
-state_at b = do
+unfoldable pub state_at : At PlainState
+state_at = do
   _ ← token (a_word words.State)
   name ← token a_name
   names ← separated_from name (token a_name)
   _ ← terminator_at
-  clauses ← many a_clause (clause_at b)
+  clauses ← many a_clause clause_at
   _ ← optional (a_word words.EndState) (end_state_at name.name)
   give (record { names = names; clauses = clauses })
 
@@ -393,33 +392,33 @@ end_connection_at name = do
   _ ← token (a_word words.EndConnection)
   closing_at name
 
-unfoldable pub connection_at : Build → At PlainConnection
-connection_at b = do
+unfoldable pub connection_at : At PlainConnection
+connection_at = do
   at ← token (a_word words.Connection)
   name ← token a_name
   _ ← token (a_symbol Colon)
-  text ← text_at b
+  text ← text_at whole_texts
   _ ← optional (a_word words.EndConnection) (end_connection_at name.name)
   give (record { at = at; name = name; text = text })
 
-unfoldable pub state_section_at : Build → At PlainSection
-state_section_at b = do
-  state ← state_at b
+unfoldable pub state_section_at : At PlainSection
+state_section_at = do
+  state ← state_at
   give (in_state state)
 
-unfoldable pub connection_section_at : Build → At PlainSection
-connection_section_at b = do
-  connection ← connection_at b
+unfoldable pub connection_section_at : At PlainSection
+connection_section_at = do
+  connection ← connection_at
   give (in_connection connection)
 
-unfoldable pub section_at : Build → At PlainSection
-section_at b = choice (a_word words.State) (state_section_at b) (connection_section_at b)
+unfoldable pub section_at : At PlainSection
+section_at = choice (a_word words.State) state_section_at connection_section_at
 
-unfoldable pub start_at : Build → At PlainStart
-start_at b = do
+unfoldable pub start_at : At PlainStart
+start_at = do
   at ← token (a_word words.Start)
   _ ← terminator_at
-  text ← text_at b
+  text ← text_at whole_texts
   give (record { at = at; text = text })
 
 unfoldable pub second_number_at : At (Option ℕ)
@@ -443,25 +442,25 @@ process_head_at = do
   _ ← terminator_at
   give name
 
-unfoldable pub process_at : Build → At PlainEntity
-process_at b = do
+unfoldable pub process_at : At PlainEntity
+process_at = do
   name ← process_head_at
   declarations ← many a_declaration declaration_at
-  start ← start_at b
-  sections ← many a_section (section_at b)
+  start ← start_at
+  sections ← many a_section section_at
   _ ← token (a_word words.EndProcess)
   _ ← closing_at name.name
   give (process (process_from name declarations start sections))
 
-unfoldable pub entity_at : Build → At PlainEntity
-entity_at b = choice (a_word words.Signal) signals_at (choice (a_word words.SignalRoute) route_at (choice (a_word words.Connect) connect_at (process_at b)))
+unfoldable pub entity_at : At PlainEntity
+entity_at = choice (a_word words.Signal) signals_at (choice (a_word words.SignalRoute) route_at (choice (a_word words.Connect) connect_at process_at))
 
-unfoldable pub block_at : Build → At PlainBlock
-block_at b = do
+unfoldable pub block_at : At PlainBlock
+block_at = do
   _ ← token (a_word words.Block)
   name ← token a_name
   _ ← terminator_at
-  entities ← many an_entity (entity_at b)
+  entities ← many an_entity entity_at
   _ ← token (a_word words.EndBlock)
   _ ← closing_at name.name
   give (record { name = name; entities = entities })

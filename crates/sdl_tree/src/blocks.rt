@@ -1,22 +1,25 @@
 //! Processes, and the block that holds them.
-ghost use Rattle.std.specs.Prelude.{◌≡◌, ℕ};
+ghost use Rattle.std.specs.Prelude.{◌≡◌, ℕ, map};
 ghost use Rattle.sdl_lex.specs.declared.lexemes.Symbol.TheVariants as symbols;
 ghost use Rattle.sdl_tokens.specs.Readings.{token, optional};
-ghost use Rattle.sdl_expressions.specs.Machine.{low_trees};
-ghost use Rattle.sdl_ast.specs.Plain.{PlainEntity};
-ghost use Rattle.sdl_tree.specs.Productions.{second_number_at, instances_at, process_head_at, process_at, entity_at, block_at};
+ghost use Rattle.sdl_ast.specs.Plain.{PlainEntity, process};
+ghost use Rattle.sdl_tree.specs.BodyViews.{marked_view};
+ghost use Rattle.sdl_tree.specs.Marks.{Marked, map_marked, body_marked, process_marked};
+ghost use Rattle.sdl_tree.specs.MarkedParts.{marked_process, marked_entity, marked_block};
+ghost use Rattle.sdl_tree.specs.Productions.{second_number_at, instances_at, process_head_at};
 ghost use Rattle.sdl_tokens.specs.Tokens.{a_number, a_one, a_symbol, an_entity};
-ghost use Rattle.sdl_ast.specs.Views.{entity_of, block_of};
+ghost use Rattle.sdl_ast.specs.Views.{declaration_of, start_of, state_of, connection_of, entity_of, block_of};
 ghost use Rattle.sdl_tokens.specs.Mirrors.{Mirrors, same};
-ghost use Rattle.sdl_tree.specs.Lengths.{low_entity_takes, low_entity_keeps};
+ghost use Rattle.sdl_tree.specs.MarkedLengths.{marked_entity_takes, marked_entity_keeps};
 
 use crate::attempt::attempt;
 use crate::declarations::{read_connect, read_route, read_signals};
 use crate::endings::{read_closing, terminator};
+use crate::marked::{Marked, gathered};
 use crate::production::{Listed, Production, read_many};
 use crate::sections::{Sections, parted};
 use crate::transitions::{Section, read_start};
-use sdl_ast::{Block, Declaration, Entity, Identifier, Process};
+use sdl_ast::{Block, Connection, Declaration, Entity, Identifier, Process, Start, StatePart};
 use sdl_lex::{Symbol, Token, Word};
 use sdl_tokens::{AnyEntity, AnyName, AnyNumber, One, Stop, stands_next, take};
 use std::alloc::Global;
@@ -89,10 +92,61 @@ fn read_process_head<'a>(tokens: &'a [Token]) -> Result<(Identifier, &'a [Token]
     Ok((name, rest))
 }
 
+/// What stands before the START of a process.
+#[derive(Drop)]
+struct ProcessHead {
+    name: Identifier,
+    declarations: Vec<Declaration>,
+}
+
+/// A process; STATE parts and CONNECTIONs stand mixed, so the lesser of their marks stays.
+fn body_of(
+    head: ProcessHead,
+    start: Start,
+    states: Marked<Vec<StatePart>>,
+    connections: Marked<Vec<Connection>>,
+) -> Marked<Entity>
+    ensures { marked_view entity_of result ≡ map_marked (λ p. process p) (body_marked head.name (map declaration_of head.declarations.items) (start_of start) (marked_view (λ v. map state_of v.items) states) (marked_view (λ v. map connection_of v.items) connections)) }
+{
+    let ProcessHead { name, declarations } = head;
+    match (states, connections) {
+        (Marked::Kept(states), Marked::Kept(connections)) => {
+            Marked::Kept(Entity::Process(Process {
+                name,
+                declarations,
+                start,
+                states,
+                connections,
+            }))
+        }
+        (Marked::Kept(_), Marked::TooHigh(at)) => Marked::TooHigh(at),
+        (Marked::TooHigh(at), Marked::Kept(_)) => Marked::TooHigh(at),
+        (Marked::TooHigh(at), Marked::TooHigh(other)) => Marked::TooHigh(at.min(other)),
+    }
+}
+
+/// A process, where nothing in it is too high.
+fn process_of(
+    head: ProcessHead,
+    start: Marked<Start>,
+    states: Marked<Vec<StatePart>>,
+    connections: Marked<Vec<Connection>>,
+) -> Marked<Entity>
+    ensures { marked_view entity_of result ≡ map_marked (λ p. process p) (process_marked head.name (map declaration_of head.declarations.items) (marked_view start_of start) (marked_view (λ v. map state_of v.items) states) (marked_view (λ v. map connection_of v.items) connections)) }
+{
+    match start {
+        Marked::Kept(start) => body_of(head, start, states, connections),
+        Marked::TooHigh(at) => Marked::TooHigh(at),
+    }
+}
+
 /// Reads a PROCESS.
-#[tactic(auto, unfolding(crate::specs::Productions::process_at))]
-fn read_process<'a>(alloc: Global, tokens: &'a [Token]) -> Result<(Entity, &'a [Token]), Stop<'a>>
-    ensures { Mirrors entity_of result (process_at low_trees tokens.now) }
+#[tactic(auto, unfolding(crate::specs::MarkedParts::marked_process))]
+fn read_process<'a>(
+    alloc: Global,
+    tokens: &'a [Token],
+) -> Result<(Marked<Entity>, &'a [Token]), Stop<'a>>
+    ensures { Mirrors (marked_view entity_of) result (marked_process tokens.now) }
 {
     let (name, rest) = attempt!(read_process_head(tokens));
     let (declarations, rest) = attempt!(read_many::<Declaration>(alloc, rest));
@@ -104,44 +158,46 @@ fn read_process<'a>(alloc: Global, tokens: &'a [Token]) -> Result<(Entity, &'a [
         states,
         connections,
     } = attempt!(parted(alloc, sections));
-    let process = Process {
-        name,
-        declarations,
-        start,
-        states,
-        connections,
-    };
-    Ok((Entity::Process(process), rest))
+    let states = attempt!(gathered(alloc, states));
+    let connections = attempt!(gathered(alloc, connections));
+    let head = ProcessHead { name, declarations };
+    Ok((process_of(head, start, states, connections), rest))
 }
 
-impl Production for Entity {
-    ghost Plain = { PlainEntity };
+impl Production for Marked<Entity> {
+    ghost Plain = { Marked PlainEntity };
 
-    ghost view = { entity_of };
+    ghost view = { marked_view entity_of };
 
-    ghost reading = { entity_at low_trees };
+    ghost reading = { marked_entity };
 
-    ghost never_longer = { low_entity_keeps };
+    ghost never_longer = { marked_entity_keeps };
 
-    #[tactic(auto, unfolding(crate::specs::Productions::entity_at))]
-    fn read<'a>(alloc: Global, tokens: &'a [Token]) -> Result<(Entity, &'a [Token]), Stop<'a>> {
+    #[tactic(auto, unfolding(crate::specs::MarkedParts::marked_entity))]
+    fn read<'a>(
+        alloc: Global,
+        tokens: &'a [Token],
+    ) -> Result<(Marked<Entity>, &'a [Token]), Stop<'a>> {
         if stands_next(tokens, Word::Signal) {
-            return Ok(attempt!(read_signals(alloc, tokens)));
+            let (entity, rest) = attempt!(read_signals(alloc, tokens));
+            return Ok((Marked::Kept(entity), rest));
         }
         if stands_next(tokens, Word::SignalRoute) {
-            return Ok(attempt!(read_route(alloc, tokens)));
+            let (entity, rest) = attempt!(read_route(alloc, tokens));
+            return Ok((Marked::Kept(entity), rest));
         }
         if stands_next(tokens, Word::Connect) {
-            return Ok(attempt!(read_connect(alloc, tokens)));
+            let (entity, rest) = attempt!(read_connect(alloc, tokens));
+            return Ok((Marked::Kept(entity), rest));
         }
         Ok(attempt!(read_process(alloc, tokens)))
     }
 }
 
-impl Listed for Entity {
+impl Listed for Marked<Entity> {
     ghost starts = { an_entity };
 
-    ghost shortens = { low_entity_takes };
+    ghost shortens = { marked_entity_takes };
 
     fn is_next(tokens: &[Token]) -> bool {
         stands_next(tokens, AnyEntity)
@@ -149,18 +205,21 @@ impl Listed for Entity {
 }
 
 /// Reads a block.
-#[tactic(auto, unfolding(crate::specs::Productions::block_at))]
+#[tactic(auto, unfolding(crate::specs::MarkedParts::marked_block))]
 pub(crate) fn read_block<'a>(
     alloc: Global,
     tokens: &'a [Token],
-) -> Result<(Block, &'a [Token]), Stop<'a>>
-    ensures { Mirrors block_of result (block_at low_trees tokens.now) }
+) -> Result<(Marked<Block>, &'a [Token]), Stop<'a>>
+    ensures { Mirrors (marked_view block_of) result (marked_block tokens.now) }
 {
     let (_, rest) = attempt!(take(tokens, Word::Block));
     let (name, rest) = attempt!(take(rest, AnyName));
     let (_, rest) = attempt!(terminator(rest));
-    let (entities, rest) = attempt!(read_many::<Entity>(alloc, rest));
+    let (entities, rest) = attempt!(read_many::<Marked<Entity>>(alloc, rest));
     let (_, rest) = attempt!(take(rest, Word::EndBlock));
     let (_, rest) = attempt!(read_closing(rest, name.name));
-    Ok((Block { name, entities }, rest))
+    match attempt!(gathered(alloc, entities)) {
+        Marked::Kept(entities) => Ok((Marked::Kept(Block { name, entities }), rest)),
+        Marked::TooHigh(at) => Ok((Marked::TooHigh(at), rest)),
+    }
 }

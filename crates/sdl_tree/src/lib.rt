@@ -8,6 +8,7 @@ mod blocks;
 mod declarations;
 mod endings;
 mod fault;
+mod marked;
 mod parsing;
 mod production;
 mod sections;

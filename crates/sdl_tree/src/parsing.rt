@@ -8,7 +8,8 @@ ghost use Rattle.sdl_ast.specs.Views.{block_of};
 
 use crate::blocks::read_block;
 use crate::fault::ParseFault;
-use sdl_ast::{Block, first_too_high};
+use crate::marked::Marked;
+use sdl_ast::Block;
 use sdl_lex::Token;
 use sdl_tokens::Stop;
 use std::alloc::Global;
@@ -26,9 +27,9 @@ fn read_text(alloc: Global, tokens: &[Token]) -> Result<Block, ParseFault>
     if !rest.is_empty() {
         return Err(ParseFault::Unexpected(tokens.len().saturating_sub(rest.len())));
     }
-    match first_too_high(&block) {
-        Some(at) => Err(ParseFault::TooDeep(at)),
-        None => Ok(block),
+    match block {
+        Marked::Kept(block) => Ok(block),
+        Marked::TooHigh(at) => Err(ParseFault::TooDeep(at)),
     }
 }
 

@@ -2,10 +2,11 @@
 ghost use Rattle.std.specs.Prelude.{◌≡◌, ◌++◌, map, OnOk, IfOk, IfErr};
 ghost use Rattle.std.specs.List.{filter_map};
 ghost use Rattle.std.specs.Option.{option_to_list};
-ghost use Rattle.sdl_ast.specs.Plain.{state_in, connection_in};
+ghost use Rattle.sdl_tree.specs.MarkedParts.{marked_state_in, marked_connection_in};
 ghost use Rattle.sdl_ast.specs.Views.{state_of, connection_of};
-ghost use Rattle.sdl_tree.specs.BodyViews.{section_of};
+ghost use Rattle.sdl_tree.specs.BodyViews.{marked_view, section_of};
 
+use crate::marked::Marked;
 use crate::transitions::Section;
 use sdl_ast::{Connection, StatePart};
 use sdl_tokens::{Stop, push};
@@ -14,18 +15,18 @@ use std::alloc::Global;
 /// The STATE parts and the CONNECTIONs of a process, each in the order of the text.
 #[derive(Drop)]
 pub(crate) struct Sections {
-    pub(crate) states: Vec<StatePart>,
-    pub(crate) connections: Vec<Connection>,
+    pub(crate) states: Vec<Marked<StatePart>>,
+    pub(crate) connections: Vec<Marked<Connection>>,
 }
 
 /// Puts a part behind those of its kind.
 fn file<'a>(
-    states: &mut Vec<StatePart>,
-    connections: &mut Vec<Connection>,
+    states: &mut Vec<Marked<StatePart>>,
+    connections: &mut Vec<Marked<Connection>>,
     section: Section,
 ) -> Result<(), Stop<'a>>
-    ensures states { OnOk result (map state_of states.new.items ≡ map state_of states.old.items ++ option_to_list (state_in (section_of section))) }
-    ensures connections { OnOk result (map connection_of connections.new.items ≡ map connection_of connections.old.items ++ option_to_list (connection_in (section_of section))) }
+    ensures states { OnOk result (map (marked_view state_of) states.new.items ≡ map (marked_view state_of) states.old.items ++ option_to_list (marked_state_in (section_of section))) }
+    ensures connections { OnOk result (map (marked_view connection_of) connections.new.items ≡ map (marked_view connection_of) connections.old.items ++ option_to_list (marked_connection_in (section_of section))) }
     ensures err { IfErr result (λ stop. stop ≡ Stop.NoMemory) }
 {
     match section {
@@ -36,8 +37,8 @@ fn file<'a>(
 
 /// The parts by their kinds.
 pub(crate) fn parted<'a>(alloc: Global, sections: Vec<Section>) -> Result<Sections, Stop<'a>>
-    ensures states { IfOk result (λ found. map state_of found.states.items ≡ filter_map state_in (map section_of sections.items)) }
-    ensures connections { IfOk result (λ found. map connection_of found.connections.items ≡ filter_map connection_in (map section_of sections.items)) }
+    ensures states { IfOk result (λ found. map (marked_view state_of) found.states.items ≡ filter_map marked_state_in (map section_of sections.items)) }
+    ensures connections { IfOk result (λ found. map (marked_view connection_of) found.connections.items ≡ filter_map marked_connection_in (map section_of sections.items)) }
     ensures err { IfErr result (λ stop. stop ≡ Stop.NoMemory) }
 {
     let mut states = Vec::new(alloc);

@@ -2,17 +2,20 @@
 ghost use Rattle.std.specs.Prelude.{◌≡◌, map, Option, None, List};
 ghost use Rattle.sdl_lex.specs.declared.lexemes.Word.TheVariants as words;
 ghost use Rattle.sdl_tokens.specs.Readings.{separated, optional};
-ghost use Rattle.sdl_expressions.specs.Machine.{low_trees};
-ghost use Rattle.sdl_tree.specs.Productions.{stimulus_at, next_state_at, stop_at, join_at, end_at, input_at, save_at, clause_at, end_state_at, state_at, end_connection_at, connection_at, section_at, start_at};
+ghost use Rattle.sdl_tree.specs.Productions.{stimulus_at, next_state_at, stop_at, join_at, end_at, save_at, end_state_at, end_connection_at};
+ghost use Rattle.sdl_tree.specs.Marks.{Marked};
+ghost use Rattle.sdl_tree.specs.MarkedParts.{MarkedSection, marked_input, marked_clause, marked_state, marked_connection, marked_section, marked_start};
 ghost use Rattle.sdl_tokens.specs.Tokens.{a_word, a_clause, a_section, an_end};
-ghost use Rattle.sdl_ast.specs.Plain.{PlainStimulus, PlainClause, PlainSection};
+ghost use Rattle.sdl_ast.specs.Plain.{PlainStimulus, PlainClause};
 ghost use Rattle.sdl_ast.specs.Views.{stimulus_of, clause_of, state_of, connection_of, start_of};
-ghost use Rattle.sdl_tree.specs.BodyViews.{section_of};
+ghost use Rattle.sdl_tree.specs.BodyViews.{marked_view, section_of};
 ghost use Rattle.sdl_tokens.specs.Mirrors.{Mirrors, same};
-ghost use Rattle.sdl_tree.specs.Lengths.{stimulus_keeps, low_clause_takes, low_clause_keeps, low_section_takes, low_section_keeps};
+ghost use Rattle.sdl_tree.specs.Lengths.{stimulus_keeps};
+ghost use Rattle.sdl_tree.specs.MarkedLengths.{marked_clause_takes, marked_clause_keeps, marked_section_takes, marked_section_keeps};
 
 use crate::attempt::attempt;
 use crate::endings::{read_closing, terminator};
+use crate::marked::{Marked, gathered};
 use crate::production::{
     Listed, Production, read_in_parentheses, read_many, read_more, read_separated,
 };
@@ -102,23 +105,27 @@ pub(crate) fn read_optional_end<'a>(
 }
 
 /// Reads `INPUT stimulus {, stimulus} ;` and its transition.
-#[tactic(auto, unfolding(crate::specs::Productions::input_at))]
+#[tactic(auto, unfolding(crate::specs::MarkedParts::marked_input))]
 fn read_input<'a>(
     alloc: Global,
     tokens: &'a [Token],
-) -> Result<(StateClause, &'a [Token]), Stop<'a>>
-    ensures { Mirrors clause_of result (input_at low_trees tokens.now) }
+) -> Result<(Marked<StateClause>, &'a [Token]), Stop<'a>>
+    ensures { Mirrors (marked_view clause_of) result (marked_input tokens.now) }
 {
     let (at, rest) = attempt!(take(tokens, Word::Input));
     let (stimuli, rest) = attempt!(read_separated::<Stimulus>(alloc, rest));
     let (_, rest) = attempt!(terminator(rest));
     let (transition, rest) = attempt!(read_transition(alloc, rest));
+    let transition = match transition {
+        Marked::Kept(transition) => transition,
+        Marked::TooHigh(place) => return Ok((Marked::TooHigh(place), rest)),
+    };
     let part = InputPart {
         at,
         stimuli,
         transition,
     };
-    Ok((StateClause::Input(part), rest))
+    Ok((Marked::Kept(StateClause::Input(part)), rest))
 }
 
 /// Reads `SAVE name {, name} ;`.
@@ -132,31 +139,32 @@ fn read_save<'a>(alloc: Global, tokens: &'a [Token]) -> Result<(StateClause, &'a
     Ok((StateClause::Save(names), rest))
 }
 
-impl Production for StateClause {
-    ghost Plain = { PlainClause };
+impl Production for Marked<StateClause> {
+    ghost Plain = { Marked PlainClause };
 
-    ghost view = { clause_of };
+    ghost view = { marked_view clause_of };
 
-    ghost reading = { clause_at low_trees };
+    ghost reading = { marked_clause };
 
-    ghost never_longer = { low_clause_keeps };
+    ghost never_longer = { marked_clause_keeps };
 
-    #[tactic(auto, unfolding(crate::specs::Productions::clause_at))]
+    #[tactic(auto, unfolding(crate::specs::MarkedParts::marked_clause))]
     fn read<'a>(
         alloc: Global,
         tokens: &'a [Token],
-    ) -> Result<(StateClause, &'a [Token]), Stop<'a>> {
+    ) -> Result<(Marked<StateClause>, &'a [Token]), Stop<'a>> {
         if stands_next(tokens, Word::Input) {
             return Ok(attempt!(read_input(alloc, tokens)));
         }
-        Ok(attempt!(read_save(alloc, tokens)))
+        let (clause, rest) = attempt!(read_save(alloc, tokens));
+        Ok((Marked::Kept(clause), rest))
     }
 }
 
-impl Listed for StateClause {
+impl Listed for Marked<StateClause> {
     ghost starts = { a_clause };
 
-    ghost shortens = { low_clause_takes };
+    ghost shortens = { marked_clause_takes };
 
     fn is_next(tokens: &[Token]) -> bool {
         stands_next(tokens, AnyClause)
@@ -190,18 +198,24 @@ fn read_optional_end_state<'a>(
 }
 
 /// Reads `STATE name {, name} ;`, what the states do, and `[ ENDSTATE [name] ; ]`.
-#[tactic(auto, unfolding(crate::specs::Productions::state_at))]
-fn read_state<'a>(alloc: Global, tokens: &'a [Token]) -> Result<(StatePart, &'a [Token]), Stop<'a>>
-    ensures { Mirrors state_of result (state_at low_trees tokens.now) }
+#[tactic(auto, unfolding(crate::specs::MarkedParts::marked_state))]
+fn read_state<'a>(
+    alloc: Global,
+    tokens: &'a [Token],
+) -> Result<(Marked<StatePart>, &'a [Token]), Stop<'a>>
+    ensures { Mirrors (marked_view state_of) result (marked_state tokens.now) }
 {
     let (_, rest) = attempt!(take(tokens, Word::State));
     let (name, rest) = attempt!(take(rest, AnyName));
     let opened = name.name;
     let (names, rest) = attempt!(read_more::<Identifier>(alloc, name, rest));
     let (_, rest) = attempt!(terminator(rest));
-    let (clauses, rest) = attempt!(read_many::<StateClause>(alloc, rest));
+    let (clauses, rest) = attempt!(read_many::<Marked<StateClause>>(alloc, rest));
     let (_, rest) = attempt!(read_optional_end_state(rest, opened));
-    Ok((StatePart { names, clauses }, rest))
+    match attempt!(gathered(alloc, clauses)) {
+        Marked::Kept(clauses) => Ok((Marked::Kept(StatePart { names, clauses }), rest)),
+        Marked::TooHigh(at) => Ok((Marked::TooHigh(at), rest)),
+    }
 }
 
 /// Reads `ENDCONNECTION [name] ;`.
@@ -231,45 +245,49 @@ fn read_optional_end_connection<'a>(
 }
 
 /// Reads `CONNECTION name :`, its transition, and `[ ENDCONNECTION [name] ; ]`.
-#[tactic(auto, unfolding(crate::specs::Productions::connection_at))]
+#[tactic(auto, unfolding(crate::specs::MarkedParts::marked_connection))]
 fn read_connection<'a>(
     alloc: Global,
     tokens: &'a [Token],
-) -> Result<(Connection, &'a [Token]), Stop<'a>>
-    ensures { Mirrors connection_of result (connection_at low_trees tokens.now) }
+) -> Result<(Marked<Connection>, &'a [Token]), Stop<'a>>
+    ensures { Mirrors (marked_view connection_of) result (marked_connection tokens.now) }
 {
     let (at, rest) = attempt!(take(tokens, Word::Connection));
     let (name, rest) = attempt!(take(rest, AnyName));
     let (_, rest) = attempt!(take(rest, Symbol::Colon));
     let (transition, rest) = attempt!(read_transition(alloc, rest));
     let (_, rest) = attempt!(read_optional_end_connection(rest, name.name));
+    let transition = match transition {
+        Marked::Kept(transition) => transition,
+        Marked::TooHigh(place) => return Ok((Marked::TooHigh(place), rest)),
+    };
     let connection = Connection {
         at,
         name,
         transition,
     };
-    Ok((connection, rest))
+    Ok((Marked::Kept(connection), rest))
 }
 
 /// A part of the body of a process.
 #[derive(Drop)]
 pub(crate) enum Section {
     /// A STATE part.
-    State(StatePart),
+    State(Marked<StatePart>),
     /// A CONNECTION.
-    Connection(Connection),
+    Connection(Marked<Connection>),
 }
 
 impl Production for Section {
-    ghost Plain = { PlainSection };
+    ghost Plain = { MarkedSection };
 
     ghost view = { section_of };
 
-    ghost reading = { section_at low_trees };
+    ghost reading = { marked_section };
 
-    ghost never_longer = { low_section_keeps };
+    ghost never_longer = { marked_section_keeps };
 
-    #[tactic(auto, unfolding(crate::specs::Productions::section_at, crate::specs::Productions::state_section_at, crate::specs::Productions::connection_section_at))]
+    #[tactic(auto, unfolding(crate::specs::MarkedParts::marked_section))]
     fn read<'a>(alloc: Global, tokens: &'a [Token]) -> Result<(Section, &'a [Token]), Stop<'a>> {
         if stands_next(tokens, Word::State) {
             let (state, rest) = attempt!(read_state(alloc, tokens));
@@ -283,7 +301,7 @@ impl Production for Section {
 impl Listed for Section {
     ghost starts = { a_section };
 
-    ghost shortens = { low_section_takes };
+    ghost shortens = { marked_section_takes };
 
     fn is_next(tokens: &[Token]) -> bool {
         stands_next(tokens, AnySection)
@@ -291,15 +309,18 @@ impl Listed for Section {
 }
 
 /// Reads `START ;` and its transition.
-#[tactic(auto, unfolding(crate::specs::Productions::start_at))]
+#[tactic(auto, unfolding(crate::specs::MarkedParts::marked_start))]
 pub(crate) fn read_start<'a>(
     alloc: Global,
     tokens: &'a [Token],
-) -> Result<(Start, &'a [Token]), Stop<'a>>
-    ensures { Mirrors start_of result (start_at low_trees tokens.now) }
+) -> Result<(Marked<Start>, &'a [Token]), Stop<'a>>
+    ensures { Mirrors (marked_view start_of) result (marked_start tokens.now) }
 {
     let (at, rest) = attempt!(take(tokens, Word::Start));
     let (_, rest) = attempt!(terminator(rest));
     let (transition, rest) = attempt!(read_transition(alloc, rest));
-    Ok((Start { at, transition }, rest))
+    match transition {
+        Marked::Kept(transition) => Ok((Marked::Kept(Start { at, transition }), rest)),
+        Marked::TooHigh(place) => Ok((Marked::TooHigh(place), rest)),
+    }
 }
