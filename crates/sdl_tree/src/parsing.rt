@@ -51,6 +51,9 @@ pub fn parse(alloc: Global, tokens: &[Token]) -> Result<Block, ParseFault>
     ensures exact { (b : PlainBlock) → Reads tokens.now b → Answers result b }
     // no text that reads begins with the tokens up to an unexpected one
     ensures refused { IfErr result (λ fault. Refuses tokens.now fault) }
+    // an unexpected token is the first one at which the grammar, read from the front, stops; what is
+    // too high is named by the first that is, from the front
+    ensures settled { Settled tokens.now result }
 {
     read_text(alloc, tokens)
 }
