@@ -14,14 +14,14 @@ ghost use Rattle.sdl_compile.specs.Drafts.{IsReadyProcess, MatchesProcess, IsPro
 
 use crate::piece::compile_transition;
 use crate::state::{Context, compile_states, draft_name};
-use crate::variables::{compile_variables, set_at_start};
+use crate::variables::compile_variables;
 use sdl_emit::{Body, Names};
 use sdl_facts::Setting;
 use sdl_rules::{Measure, standing_inputs};
 use sdl_tables::{BlockTable, NameTable, ProcessTable};
 use sdl_trimmed::{trim_connections, trim_transition};
 use std::alloc::{AllocError, Global};
-use turn_code::{DraftProcess, DraftSignal, DraftState, Name, Sequence};
+use turn_code::{DraftProcess, DraftSignal, DraftState, Name, Sequence, set_at_start};
 
 /// The names of timers.
 fn compile_timers(alloc: Global, table: &NameTable) -> Result<Vec<Name>, AllocError>

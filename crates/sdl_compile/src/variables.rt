@@ -1,6 +1,5 @@
 //! The variables of a process.
-ghost use Rattle.std.specs.Prelude.{◌≡◌, ◌<◌, ◌≤◌, ◌^◌, length, map, IfOk};
-ghost use Rattle.turn_code.specs.Sets.{initial_set};
+ghost use Rattle.std.specs.Prelude.{◌≡◌, map, IfOk};
 ghost use Rattle.sdl_tables.specs.Rows.{variable_of};
 ghost use Rattle.sdl_meaning.specs.Declarations.{drafted, constant_value, sort_of_tree};
 
@@ -8,7 +7,7 @@ use crate::state::draft_name;
 use sdl_ast::{Constant, Literal};
 use sdl_tables::Variable;
 use std::alloc::{AllocError, Global};
-use turn_code::{DraftVariable, Sort, Value, VariableSet};
+use turn_code::{DraftVariable, Sort, Value};
 
 fn value(constant: Constant) -> Value
     ensures { result ≡ constant_value constant }
@@ -52,19 +51,4 @@ pub fn compile_variables(alloc: Global, rows: &[Variable]) -> Result<Vec<DraftVa
         variables.push(make_variable(row))?;
     }
     Ok(variables)
-}
-
-/// The variables that have an initial value.
-pub(crate) fn set_at_start(variables: &[DraftVariable]) -> VariableSet
-    requires { length variables.now ≤ 32 }
-    ensures value { result ≡ initial_set variables.now }
-    ensures small { result.0 < 2 ^ length variables.now }
-{
-    match variables {
-        [] => VariableSet(0),
-        [first, others @ ..] => {
-            let set = set_at_start(others);
-            VariableSet(u32::from(first.initial.is_some()) + 2 * set.0)
-        }
-    }
 }

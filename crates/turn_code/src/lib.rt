@@ -37,4 +37,4 @@ pub use same::{same_values, same_variables};
 pub use sequence::Sequence;
 pub use trouble::Trouble;
 pub use value::{Sort, Value};
-pub use variable_set::VariableSet;
+pub use variable_set::{VariableSet, set_at_start};

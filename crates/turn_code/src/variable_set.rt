@@ -1,7 +1,9 @@
 //! Sets of variables.
 
-ghost use Rattle.std.specs.Prelude.{◌≡◌, ◌<◌, ◌↔◌, IsTrue};
+ghost use Rattle.std.specs.Prelude.{◌≡◌, ◌<◌, ◌≤◌, ◌^◌, ◌↔◌, IsTrue, length};
+ghost use Rattle.turn_code.specs.Sets.{initial_set};
 
+use crate::draft::DraftVariable;
 use crate::numbers::VariableNumber;
 
 /// A set of variables: bit v says whether variable v is in it.
@@ -31,5 +33,20 @@ impl VariableSet {
         ensures { IsTrue result ↔ IsWithin self other }
     {
         self.0 & other.0 == self.0
+    }
+}
+
+/// The variables that have an initial value: those that are set as START begins. At most 32 variables.
+pub fn set_at_start(variables: &[DraftVariable]) -> VariableSet
+    requires { length variables.now ≤ 32 }
+    ensures value { result ≡ initial_set variables.now }
+    ensures small { result.0 < 2 ^ length variables.now }
+{
+    match variables {
+        [] => VariableSet(0),
+        [first, others @ ..] => {
+            let set = set_at_start(others);
+            VariableSet(u32::from(first.initial.is_some()) + 2 * set.0)
+        }
     }
 }

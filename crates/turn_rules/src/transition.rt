@@ -1,13 +1,12 @@
 //! A transition of a draft.
 
-ghost use Rattle.std.specs.Prelude.{◌≡◌, ◌<◌, ◌≤◌, ◌^◌, length};
-ghost use Rattle.turn_code.specs.Sets.{initial_set};
+ghost use Rattle.std.specs.Prelude.{◌≡◌, ◌≤◌, length};
 ghost use Rattle.turn_code.specs.Transitions.{start_of, input_of, trigger_parameters};
 ghost use Rattle.turn_rules.specs.Seen.{seen};
 
 use turn_code::{
-    DraftInput, DraftPiece, DraftProcess, DraftSignal, DraftState, DraftVariable, ProcessNumber,
-    Sort, Trigger, VariableSet,
+    DraftInput, DraftPiece, DraftProcess, DraftSignal, DraftState, ProcessNumber, Sort, Trigger,
+    VariableSet, set_at_start,
 };
 
 /// One transition of a draft.
@@ -72,20 +71,5 @@ fn parameters_of(signals: &[DraftSignal], trigger: Trigger) -> &[Sort]
             None => &[],
         },
         Trigger::Timer(_) => &[],
-    }
-}
-
-/// The variables that have an initial value.
-fn set_at_start(variables: &[DraftVariable]) -> VariableSet
-    requires { length variables.now ≤ 32 }
-    ensures value { result ≡ initial_set variables.now }
-    ensures small { result.0 < 2 ^ length variables.now }
-{
-    match variables {
-        [] => VariableSet(0),
-        [first, others @ ..] => {
-            let set = set_at_start(others);
-            VariableSet(u32::from(first.initial.is_some()) + 2 * set.0)
-        }
     }
 }
