@@ -13,6 +13,7 @@ use crate::names::Names;
 use sdl_ast::{
     Action, Assignment, BinaryOperator, Destination, Expression, Identifier, Sending, UnaryOperator,
 };
+use sdl_sound::is_division;
 use std::alloc::AllocError;
 use turn_code::{Instruction, Relation};
 
@@ -76,15 +77,6 @@ fn binary(truth: bool, operator: BinaryOperator) -> Instruction
         BinaryOperator::Modulo => Instruction::Mod(0),
         BinaryOperator::Remainder => Instruction::Rem(0),
     }
-}
-
-pub fn is_division(operator: BinaryOperator) -> bool
-    ensures { result ≡ is_division operator }
-{
-    matches!(
-        operator,
-        BinaryOperator::Divide | BinaryOperator::Modulo | BinaryOperator::Remainder
-    )
 }
 
 /// A division by this number.

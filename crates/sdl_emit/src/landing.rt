@@ -97,13 +97,6 @@ pub(crate) fn has_any(places: &[usize]) -> bool
     }
 }
 
-/// Behind two statements a text goes on where both do.
-pub fn both(one: bool, other: bool) -> bool
-    ensures { result ≡ (one && other) }
-{
-    one && other
-}
-
 /// Keeps places for instructions that aren't known yet.
 pub(crate) fn keep_places(code: &mut Vec<Instruction>, count: usize) -> Result<(), AllocError>
     ensures { OnOk result (code.new.items ≡ code.old.items ++ replicate count DropCode) }

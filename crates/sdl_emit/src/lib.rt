@@ -11,8 +11,6 @@ mod ranges;
 mod texts;
 
 pub use bodies::{Body, text_size};
-pub use emit::is_division;
-pub use landing::both;
 pub use names::Names;
 pub use placing::{connection_places, place_connections};
 pub use texts::emit_piece;

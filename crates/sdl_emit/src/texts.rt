@@ -15,11 +15,12 @@ ghost use Rattle.sdl_emit.specs.Landing.{leave_place, answers_leave, else_leave,
 use crate::bodies::Body;
 use crate::emit::{emit_action, emit_expression, emit_places, put};
 use crate::landing::{
-    both, fill_places, has_any, keep_places, land_jumps, picked_place, set_at, tests_length,
+    fill_places, has_any, keep_places, land_jumps, picked_place, set_at, tests_length,
 };
 use crate::names::Names;
 use crate::ranges::emit_tests;
 use sdl_ast::{Decision, End, Identifier, Statement, Transition};
+use sdl_sound::both;
 use std::alloc::{AllocError, Global};
 use turn_code::{CodePlace, Instruction};
 

@@ -13,7 +13,8 @@ ghost use Rattle.sdl_facts.specs.Facts.{leave_sets, text_sets, else_sets, answer
 
 use crate::sets::{everything, mark, mark_action, mark_expression, mark_tests, meet};
 use sdl_ast::{Decision, End, Statement, Transition};
-use sdl_emit::{Names, both};
+use sdl_emit::Names;
+use sdl_sound::{both, one_of};
 use std::alloc::AllocError;
 use turn_code::VariableSet;
 
@@ -51,13 +52,6 @@ fn mark_end(
 pub(crate) struct Behind {
     set: VariableSet,
     goes_on: bool,
-}
-
-/// A DECISION goes on where one of its bodies does.
-fn one_of(one: bool, other: bool) -> bool
-    ensures { result ≡ (one || other) }
-{
-    one || other
 }
 
 /// A body with the jump that ends it where it goes on.

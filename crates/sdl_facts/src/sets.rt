@@ -9,7 +9,8 @@ ghost use Rattle.sdl_facts.specs.Reads.{tasks_set, action_set, everything, meet,
 ghost use Rattle.sdl_facts.specs.Facts.{tree_sets, trees_sets, sendings_sets, tasks_sets, action_sets, ranges_sets, tests_sets, places_sets};
 
 use sdl_ast::{Action, Assignment, Decision, Expression, Identifier, Range, Sending};
-use sdl_emit::{Names, is_division};
+use sdl_emit::Names;
+use sdl_sound::is_division;
 use std::alloc::AllocError;
 use turn_code::{VariableNumber, VariableSet};
 

@@ -4,19 +4,8 @@ ghost use Rattle.sdl_ast.specs.Views.{tree_of, assignment_of, sending_of, action
 ghost use Rattle.sdl_sound.specs.Longest.{is_division, cost_of, depth_of, assignments_cost, assignments_depth, parameters_depth, sendings_cost, sendings_depth, action_cost, action_depth, action_effects, place_cost, place_depth, places_cost, places_depth};
 ghost use Rattle.sdl_measures.specs.Measures.{capped};
 
-use sdl_ast::{Action, Assignment, BinaryOperator, Expression, Identifier, Sending};
-
-/// Whether the right operand stands in the instruction itself.
-fn is_division(operator: BinaryOperator) -> bool
-    ensures { result ≡ is_division operator }
-{
-    match operator {
-        BinaryOperator::Divide => true,
-        BinaryOperator::Modulo => true,
-        BinaryOperator::Remainder => true,
-        _ => false,
-    }
-}
+use sdl_ast::{Action, Assignment, Expression, Identifier, Sending};
+use sdl_sound::is_division;
 
 pub(crate) fn cost(expression: &Expression) -> u32
     ensures { result ≡ capped (cost_of (tree_of expression.now)) }

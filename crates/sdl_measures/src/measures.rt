@@ -11,6 +11,7 @@ ghost use Rattle.sdl_sound.specs.Orders.{IsOrder, AreOrders};
 use crate::counts;
 use sdl_ast::{Action, Answer, Decision, End, Identifier, Range, Statement, Transition};
 use sdl_sorts::is_truth;
+use sdl_sound::{both, one_of};
 use sdl_tables::{BlockTable, ProcessTable};
 use std::alloc::{AllocError, Global};
 
@@ -123,20 +124,6 @@ fn jump_size(goes_on: bool) -> u32
     ensures { result ≡ (if goes_on then 1 else 0) }
 {
     one_if(goes_on)
-}
-
-/// Behind a DECISION a text goes on where both do.
-fn both(one: bool, other: bool) -> bool
-    ensures { result ≡ (one && other) }
-{
-    one && other
-}
-
-/// A DECISION goes on where one of its bodies does.
-fn one_of(one: bool, other: bool) -> bool
-    ensures { result ≡ (one || other) }
-{
-    one || other
 }
 
 /// Each range is tested in turn; where it holds, the body is next.

@@ -4,7 +4,9 @@
 #![tactic(auto)]
 
 mod fault;
+mod parts;
 mod standing;
 
 pub use fault::{ControlPath, Limit, RuleFault, Step};
+pub use parts::{both, is_division, one_of};
 pub use standing::standing_inputs;
