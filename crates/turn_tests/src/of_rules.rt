@@ -2,17 +2,16 @@
 use crate::drafts::{facts, tried, tried_with};
 use crate::plans::*;
 use std::alloc::{AllocError, Global};
-use std::test::Fail;
 use turn_check::{Spot, VerifyFault};
 use turn_code::{
-    Cert, CodePlace, DraftPiece, Instruction, Party, PlaceFacts, Receiver, Rule, Sequence,
-    SignalNumber, Sort, StateNumber, TimerNumber, Trigger, Value, VariableNumber,
+    Cert, CodePlace, DraftPiece, Instruction, Party, Place, PlaceFacts, ProcessNumber, Receiver,
+    Rule, Sequence, SignalNumber, Sort, StateNumber, TimerNumber, Trigger, Value, VariableNumber,
 };
 
 const BOTH_WAYS: Instruction = Instruction::Pick(CodePlace(2), CodePlace(3));
 
-/// Codes of START, and what becomes of the counter with each.
-const STARTS: [(Plan, Verdict); 15] = [
+/// Codes of START that go on or leave operands where they may not, and what becomes of the counter with each.
+const WAYS: [(Plan, Verdict); 7] = [
     // no code
     (
         Plan {
@@ -97,6 +96,10 @@ const STARTS: [(Plan, Verdict); 15] = [
         },
         Verdict::Refused(Rule::Sort, START_1),
     ),
+];
+
+/// Codes of START that rest on what isn't set, or end where no state is, and what becomes of the counter with each.
+const UNSET: [(Plan, Verdict); 4] = [
     // n is read and not set
     (
         Plan {
@@ -156,6 +159,10 @@ const STARTS: [(Plan, Verdict); 15] = [
         },
         Verdict::Refused(Rule::State, START_0),
     ),
+];
+
+/// Codes of START whose counts are wrong, and what becomes of the counter with each.
+const COUNTED: [(Plan, Verdict); 4] = [
     // a way that comes back
     (
         Plan {
@@ -337,15 +344,10 @@ const SECONDS: [(Plan, Verdict); 10] = [
     ),
 ];
 
-/// The counter with this START.
-fn with_start(start: Plan) -> Recipe {
-    Recipe { start, ..COUNTER }
-}
-
 /// The number of the first of these codes of START with which something else becomes of the counter.
 fn first_other_start(alloc: Global, rows: &[(Plan, Verdict)]) -> Option<usize> {
     for (number, (start, wanted)) in rows.iter().enumerate() {
-        if tried(alloc, &with_start(*start)) != *wanted {
+        if tried(alloc, &changed(Change::Start(*start))) != *wanted {
             return Some(number);
         }
     }
@@ -353,8 +355,18 @@ fn first_other_start(alloc: Global, rows: &[(Plan, Verdict)]) -> Option<usize> {
 }
 
 #[test]
-fn a_broken_rule_is_named(rt: HostRuntime) {
-    assert_eq!(rt; first_other_start(rt.alloc(), &STARTS), None);
+fn code_goes_on_inside_with_its_operands(rt: HostRuntime) {
+    assert_eq!(rt; first_other_start(rt.alloc(), &WAYS), None);
+}
+
+#[test]
+fn what_is_read_is_set(rt: HostRuntime) {
+    assert_eq!(rt; first_other_start(rt.alloc(), &UNSET), None);
+}
+
+#[test]
+fn counts_are_those_of_the_longest_way(rt: HostRuntime) {
+    assert_eq!(rt; first_other_start(rt.alloc(), &COUNTED), None);
 }
 
 #[test]
@@ -384,112 +396,99 @@ const ANSWER: Plan = Plan {
     counts: (3, 1, 1),
 };
 
-/// Sets, and what becomes of each.
-const SETS: [(Recipe, Verdict); 12] = [
-    (COUNTER, Verdict::Accepted),
-    // n begins as 1
+/// What is other in a set than in the counter.
+#[derive(Clone, Copy)]
+enum Change {
+    Nothing,
+    /// START has this code.
+    Start(Plan),
+    /// n begins so, and START stops.
+    Initial(Value),
+    /// Run saves these.
+    Saves(&'static [Trigger]),
+    /// Run saves nothing and waits for this, which has that code.
+    Input(Trigger, Plan),
+    /// Up has these parameters.
+    Parameters(&'static [Sort]),
+    /// So many states stand behind Run.
+    More(u32),
+}
+
+fn changed(change: Change) -> Recipe {
+    let mut recipe = counter();
+    match change {
+        Change::Nothing => {}
+        Change::Start(start) => recipe.start = start,
+        Change::Initial(value) => {
+            recipe.initial = Some(value);
+            recipe.start = STOP_WITH_N;
+        }
+        Change::Saves(saves) => recipe.saves = saves,
+        Change::Input(trigger, up) => {
+            recipe.saves = &[];
+            recipe.trigger = trigger;
+            recipe.up = up;
+        }
+        Change::Parameters(parameters) => recipe.parameters = parameters,
+        Change::More(more) => recipe.more = more,
+    }
+    recipe
+}
+
+/// The place of an answer to SENDER behind what Run waits for.
+const INPUT_1: Spot = Spot {
+    process: P,
+    state: Place::State(RUN),
+    input: 0,
+    place: 1,
+};
+
+/// Changes, and what becomes of the counter with each.
+const SETS: [(Change, Verdict); 12] = [
+    (Change::Nothing, Verdict::Accepted),
+    (Change::Initial(Value::Int(1)), Verdict::Accepted),
     (
-        Recipe {
-            initial: Some(Value::Int(1)),
-            start: STOP_WITH_N,
-            ..COUNTER
-        },
-        Verdict::Accepted,
-    ),
-    (
-        Recipe {
-            initial: Some(Value::Bool(true)),
-            start: STOP_WITH_N,
-            ..COUNTER
-        },
+        Change::Initial(Value::Bool(true)),
         Verdict::Refused(Rule::Sort, START_0),
     ),
     // START says that total is set as it begins
+    (Change::Start(STOP), Verdict::Refused(Rule::Unset, START_0)),
+    // no such signal
     (
-        Recipe {
-            start: STOP,
-            ..COUNTER
-        },
-        Verdict::Refused(Rule::Unset, START_0),
-    ),
-    // Run saves what isn't there
-    (
-        Recipe {
-            saves: &[Trigger::Timer(TICK), Trigger::Signal(SignalNumber(1))],
-            ..COUNTER
-        },
+        Change::Saves(&[Trigger::Timer(TICK), Trigger::Signal(SignalNumber(1))]),
         Verdict::Refused(Rule::Number, START_0),
     ),
-    // Run waits for a timer that isn't there, and for one that is
+    // no such timer
     (
-        Recipe {
-            trigger: Trigger::Timer(TimerNumber(1)),
-            up: STOP,
-            ..COUNTER
-        },
+        Change::Input(Trigger::Timer(TimerNumber(1)), STOP),
         Verdict::Refused(Rule::Number, INPUT_0),
     ),
-    (
-        Recipe {
-            saves: &[],
-            trigger: Trigger::Timer(TICK),
-            up: STOP,
-            ..COUNTER
-        },
-        Verdict::Accepted,
-    ),
+    (Change::Input(Trigger::Timer(TICK), STOP), Verdict::Accepted),
     // an answer goes to the sender of a signal; a timer has none
     (
-        Recipe {
-            up: ANSWER,
-            ..COUNTER
-        },
+        Change::Input(Trigger::Signal(UP), ANSWER),
         Verdict::Accepted,
     ),
     (
-        Recipe {
-            saves: &[],
-            trigger: Trigger::Timer(TICK),
-            up: ANSWER,
-            ..COUNTER
-        },
-        Verdict::Refused(
-            Rule::Number,
-            Spot {
-                place: 1,
-                ..INPUT_0
-            },
-        ),
+        Change::Input(Trigger::Timer(TICK), ANSWER),
+        Verdict::Refused(Rule::Number, INPUT_1),
     ),
-    // five parameters
+    // a signal has 4 parameters at most, a process 64 states
     (
-        Recipe {
-            parameters: &[Sort::Integer; 5],
-            ..COUNTER
-        },
+        Change::Parameters(&[Sort::Integer; 5]),
         Verdict::Refused(Rule::Limit, START_0),
     ),
-    // 64 states are enough
+    (Change::More(63), Verdict::Accepted),
     (
-        Recipe {
-            more: 63,
-            ..COUNTER
-        },
-        Verdict::Accepted,
-    ),
-    (
-        Recipe {
-            more: 100_000,
-            ..COUNTER
-        },
+        Change::More(100_000),
         Verdict::Refused(Rule::Limit, START_0),
     ),
 ];
 
-/// The number of the first of these sets of which something else becomes.
-fn first_other_set(alloc: Global, rows: &[(Recipe, Verdict)]) -> Option<usize> {
-    for (number, (recipe, wanted)) in rows.iter().enumerate() {
-        if tried(alloc, recipe) != *wanted {
+/// The number of the first of these changes with which something else becomes of the counter.
+fn first_other_change(alloc: Global, rows: &[(Change, Verdict)]) -> Option<usize> {
+    for (number, (change, wanted)) in rows.iter().enumerate() {
+        if tried(alloc, &changed(*change)) != *wanted {
             return Some(number);
         }
     }
@@ -498,7 +497,7 @@ fn first_other_set(alloc: Global, rows: &[(Recipe, Verdict)]) -> Option<usize> {
 
 #[test]
 fn a_rule_of_the_whole_is_named(rt: HostRuntime) {
-    assert_eq!(rt; first_other_set(rt.alloc(), &SETS), None);
+    assert_eq!(rt; first_other_change(rt.alloc(), &SETS), None);
 }
 
 /// A long START: so many steps of a kind, and STOP.
@@ -591,7 +590,7 @@ fn long_start(alloc: Global, long: Long) -> Result<DraftPiece, AllocError> {
 /// What becomes of the counter with a long START.
 fn tried_long(alloc: Global, long: Long) -> Verdict {
     match long_start(alloc, long) {
-        Ok(start) => tried_with(alloc, &COUNTER, start),
+        Ok(start) => tried_with(alloc, &counter(), start),
         Err(_) => Verdict::NotMade,
     }
 }
@@ -621,17 +620,71 @@ fn a_piece_has_its_limits(rt: HostRuntime) {
     assert_eq!(rt; first_other_long(rt.alloc(), &LONG), None);
 }
 
-/// What is printed where the first place of what Run waits for breaks a rule.
-fn printed(alloc: Global) -> Result<String, AllocError> {
-    format!(in alloc; "{}", VerifyFault::Number(INPUT_0))
+/// Faults, and what is printed of each.
+const LINES: [(VerifyFault, &str); 9] = [
+    (
+        VerifyFault::Jump(START_0),
+        "V1 Jump process 0 START place 0",
+    ),
+    (
+        VerifyFault::Shape(START_1),
+        "V2 Shape process 0 START place 1",
+    ),
+    (
+        VerifyFault::Under(START_2),
+        "V3 Under process 0 START place 2",
+    ),
+    (
+        VerifyFault::Sort(START_0),
+        "V4 Sort process 0 START place 0",
+    ),
+    (
+        VerifyFault::Unset(START_0),
+        "V5 Unset process 0 START place 0",
+    ),
+    (
+        VerifyFault::State(START_0),
+        "V6 State process 0 START place 0",
+    ),
+    (
+        VerifyFault::Number(ELSEWHERE),
+        "V7 Number process 15 state 63 input 4095 place 511",
+    ),
+    (
+        VerifyFault::Limit(START_0),
+        "V8 Limit process 0 START place 0",
+    ),
+    (
+        VerifyFault::Budget(INPUT_0),
+        "V9 Budget process 0 state 0 input 0 place 0",
+    ),
+];
+
+/// The last place of all, by the limits.
+const ELSEWHERE: Spot = Spot {
+    process: ProcessNumber(15),
+    state: Place::State(StateNumber(63)),
+    input: 4095,
+    place: 511,
+};
+
+/// Whether a fault is printed so.
+fn is_printed(alloc: Global, fault: VerifyFault, line: &str) -> Result<bool, AllocError> {
+    let printed = format!(in alloc; "{fault}")?;
+    Ok(printed.as_str() == line)
+}
+
+/// The number of the first fault of which something else is printed.
+fn first_other_line(alloc: Global, rows: &[(VerifyFault, &str)]) -> Option<usize> {
+    for (number, (fault, line)) in rows.iter().enumerate() {
+        if is_printed(alloc, *fault, line) != Ok(true) {
+            return Some(number);
+        }
+    }
+    None
 }
 
 #[test]
-fn a_place_of_an_input_is_printed(rt: HostRuntime) -> Result<(), Fail> {
-    let line = printed(rt.alloc())?;
-    assert_eq!(rt;
-        line.as_str(),
-        "V7 Number process 0 state 0 input 0 place 0"
-    );
-    Ok(())
+fn a_fault_is_printed(rt: HostRuntime) {
+    assert_eq!(rt; first_other_line(rt.alloc(), &LINES), None);
 }

@@ -1,7 +1,7 @@
 //! What a valid set answers by numbers and by names, and its copy.
 use crate::drafts::made;
 use crate::plans::*;
-use std::test::Fail;
+use std::alloc::Global;
 use turn_check::Verified;
 use turn_code::{
     Cert, Name, Party, Place, ProcessNumber, SignalNumber, Sort, StateNumber, TimerNumber, Trigger,
@@ -71,15 +71,28 @@ fn numbered_right(set: &Verified) -> [bool; 6] {
     ]
 }
 
-/// The certificates of START and of Run's input, and of two inputs, a state and a process that aren't there.
-fn certificates(set: &Verified) -> [Option<Cert>; 6] {
+const START_CERTIFICATE: Cert = Cert {
+    budget: 3,
+    depth: 1,
+    effects: 0,
+};
+
+const UP_CERTIFICATE: Cert = Cert {
+    budget: 7,
+    depth: 2,
+    effects: 0,
+};
+
+/// Whether START and Run's input have their certificates, and no second one, no other state and no other process has one.
+fn certified_right(set: &Verified) -> [bool; 6] {
     [
-        set.certificate(P, Place::Start, 0),
-        set.certificate(P, Place::State(RUN), 0),
-        set.certificate(P, Place::Start, 1),
-        set.certificate(P, Place::State(RUN), 1),
-        set.certificate(P, Place::State(StateNumber(1)), 0),
-        set.certificate(Q, Place::Start, 0),
+        set.certificate(P, Place::Start, 0) == Some(START_CERTIFICATE),
+        set.certificate(P, Place::State(RUN), 0) == Some(UP_CERTIFICATE),
+        set.certificate(P, Place::Start, 1).is_none(),
+        set.certificate(P, Place::State(RUN), 1).is_none(),
+        set.certificate(P, Place::State(StateNumber(1)), 0)
+            .is_none(),
+        set.certificate(Q, Place::Start, 0).is_none(),
     ]
 }
 
@@ -108,72 +121,71 @@ fn waits_right(set: &Verified) -> [bool; 6] {
     ]
 }
 
-#[test]
-fn a_set_counts_what_it_has(rt: HostRuntime) -> Result<(), Fail> {
-    let set = made(rt.alloc(), &COUNTER).ok_or("it is accepted")?;
-    assert_eq!(rt; counts(&set, P), COUNTS);
-    assert_eq!(rt; counts(&set, Q), [1, 1, 0, 0, 0, 0, 0]);
-    Ok(())
-}
-
-#[test]
-fn a_set_knows_names_and_numbers(rt: HostRuntime) -> Result<(), Fail> {
-    let set = made(rt.alloc(), &COUNTER).ok_or("it is accepted")?;
-    assert_eq!(rt; named_right(&set), [true; 6]);
-    assert_eq!(rt; unnamed(&set), [true; 6]);
-    assert_eq!(rt; numbered_right(&set), [true; 6]);
-    Ok(())
-}
-
-#[test]
-fn a_set_answers_by_numbers(rt: HostRuntime) -> Result<(), Fail> {
-    let set = made(rt.alloc(), &COUNTER).ok_or("it is accepted")?;
-    assert_eq!(rt; carried_right(&set), [true; 6]);
-    assert_eq!(rt; waits_right(&set), [true; 6]);
-    Ok(())
-}
-
-#[test]
-fn certificates_stand_by_place(rt: HostRuntime) -> Result<(), Fail> {
-    let set = made(rt.alloc(), &COUNTER).ok_or("it is accepted")?;
-    let start = Cert {
-        budget: 3,
-        depth: 1,
-        effects: 0,
-    };
-    let up = Cert {
-        budget: 7,
-        depth: 2,
-        effects: 0,
-    };
-    assert_eq!(rt;
-        certificates(&set),
-        [Some(start), Some(up), None, None, None, None]
-    );
-    Ok(())
-}
-
-/// What the copy of a set has, nothing where there was no memory for one.
-fn counts_of_copy(set: &Verified) -> Option<[usize; 7]> {
-    match set.copy() {
-        Ok(copy) => Some(counts(&copy, P)),
-        Err(_) => None,
+/// What the counter answers, nothing where there was no memory for it.
+fn answers(alloc: Global) -> Option<[[bool; 6]; 6]> {
+    match made(alloc, &counter()) {
+        Some(set) => Some([
+            named_right(&set),
+            unnamed(&set),
+            numbered_right(&set),
+            certified_right(&set),
+            carried_right(&set),
+            waits_right(&set),
+        ]),
+        None => None,
     }
 }
 
 #[test]
-fn a_copy_is_made(rt: HostRuntime) -> Result<(), Fail> {
-    let set = made(rt.alloc(), &COUNTER).ok_or("it is accepted")?;
-    assert_eq!(rt; counts_of_copy(&set), Some(COUNTS));
-    Ok(())
+fn a_set_answers_by_names_and_numbers(rt: HostRuntime) {
+    assert_eq!(rt; answers(rt.alloc()), Some([[true; 6]; 6]));
+}
+
+/// What is counted of the counter's process, and of one that isn't there.
+fn counts_of_counter(alloc: Global) -> Option<[[usize; 7]; 2]> {
+    match made(alloc, &counter()) {
+        Some(set) => Some([counts(&set, P), counts(&set, Q)]),
+        None => None,
+    }
+}
+
+#[test]
+fn a_set_counts_what_it_has(rt: HostRuntime) {
+    assert_eq!(rt;
+        counts_of_counter(rt.alloc()),
+        Some([COUNTS, [1, 1, 0, 0, 0, 0, 0]])
+    );
+}
+
+/// Whether a copy has what the counter has, nothing where there was no memory for one.
+fn copied_right(set: &Verified) -> Option<bool> {
+    match set.copy() {
+        Ok(copy) => Some(counts(&copy, P) == COUNTS),
+        Err(_) => None,
+    }
+}
+
+/// The same of the counter, and whether it still has all that once it was copied; nothing where there was no memory for it.
+fn copied_counter(alloc: Global) -> Option<(Option<bool>, bool)> {
+    match made(alloc, &counter()) {
+        Some(set) => {
+            let copied = copied_right(&set);
+            Some((copied, counts(&set, P) == COUNTS))
+        }
+        None => None,
+    }
+}
+
+#[test]
+fn a_copy_is_made(rt: HostRuntime) {
+    assert_eq!(rt; copied_counter(rt.alloc()), Some((Some(true), true)));
 }
 
 /// Whichever request for memory is refused: there is no set, or no copy of it, and the set stays as it is.
 #[test]
 fn want_of_memory_changes_nothing(rt: HostRuntime) {
-    if let Some(set) = made(rt.alloc(), &COUNTER) {
-        let copied = counts_of_copy(&set);
-        assert!(rt; copied.is_none() || copied == Some(COUNTS));
-        assert_eq!(rt; counts(&set, P), COUNTS);
+    if let Some((copied, stays)) = copied_counter(rt.alloc()) {
+        assert!(rt; copied != Some(false));
+        assert!(rt; stays);
     }
 }

@@ -2,8 +2,7 @@
 use crate::drafts::made;
 use crate::plans::*;
 use arrayvec::ArrayVec;
-use std::alloc::Global;
-use std::test::Fail;
+use std::alloc::{AllocError, Global};
 use turn_check::Verified;
 use turn_code::{
     Cert, Effect, End, Instruction, Party, Place, ProcessNumber, Receiver, SignalNumber, Sort,
@@ -93,9 +92,14 @@ fn job(set: &Verified, total: i32, n: i32) -> Option<Job> {
     }
 }
 
+/// An equal thing, by the trait alone.
+fn once_more<T: Clone>(thing: &T) -> Result<T, AllocError> {
+    thing.clone()
+}
+
 /// The counter with this code behind Up has run it, on a total and a number that come from ENV.
 fn ran(alloc: Global, up: Plan, total: i32, n: i32) -> Option<Done> {
-    let set = made(alloc, &Recipe { up, ..COUNTER })?;
+    let set = made(alloc, &Recipe { up, ..counter() })?;
     Some(run(job(&set, total, n)?))
 }
 
@@ -208,13 +212,16 @@ const IN_ORDER: [Option<Told>; 3] = [
     Some(Told::Reset(TICK)),
 ];
 
+/// The effects of Up with the number 7, and of an equal turn; nothing where there was no memory for the set.
+fn effects_twice(alloc: Global) -> Option<[[Option<Told>; 3]; 2]> {
+    let done = ran(alloc, EFFECTS, 5, 7)?;
+    let again = once_more(&done).ok()?;
+    Some([three_effects(&done), three_effects(&again)])
+}
+
 #[test]
-fn effects_stand_in_order(rt: HostRuntime) -> Result<(), Fail> {
-    let done = ran(rt.alloc(), EFFECTS, 5, 7).ok_or("it fits")?;
-    assert_eq!(rt; three_effects(&done), IN_ORDER);
-    assert_eq!(rt; three_effects(&done.copy()), IN_ORDER);
-    assert_eq!(rt; turn(&done.copy()), turn(&done));
-    Ok(())
+fn effects_stand_in_order(rt: HostRuntime) {
+    assert_eq!(rt; effects_twice(rt.alloc()), Some([IN_ORDER; 2]));
 }
 
 /// What a job is told: its actor, its turn, its process, its place, the number of the input, the length of its code and its counts.
@@ -245,15 +252,25 @@ const ABOUT: (u16, u64, ProcessNumber, Place, usize, usize, Cert) = (
     },
 );
 
+/// The counter's job for Up with the number 7.
+fn counter_job(alloc: Global) -> Option<Job> {
+    job(&made(alloc, &counter())?, 5, 7)
+}
+
+/// Whether the counter's job and an equal one are told the same, with the same input.
+fn told_twice(alloc: Global) -> Option<[bool; 3]> {
+    let job = counter_job(alloc)?;
+    let again = once_more(&job).ok()?;
+    Some([
+        about(&job) == ABOUT,
+        about(&again) == ABOUT,
+        job.input().same(again.input()),
+    ])
+}
+
 #[test]
-fn a_job_has_all_that_it_needs(rt: HostRuntime) -> Result<(), Fail> {
-    let set = made(rt.alloc(), &COUNTER).ok_or("it is accepted")?;
-    let job = job(&set, 5, 7).ok_or("it fits")?;
-    let copy = job.copy();
-    assert_eq!(rt; about(&job), ABOUT);
-    assert_eq!(rt; about(&copy), ABOUT);
-    assert!(rt; job.input().same(copy.input()));
-    Ok(())
+fn a_job_has_all_that_it_needs(rt: HostRuntime) {
+    assert_eq!(rt; told_twice(rt.alloc()), Some([true; 3]));
 }
 
 /// A place, the number of an input, values of n and the total, a parameter, a sender, and whether all that fits.
@@ -308,23 +325,37 @@ fn first_other_fit(set: &Verified, rows: &[Fit]) -> Option<usize> {
     None
 }
 
+/// Whether Up fits where there are no variables.
+fn bare_fit(set: &Verified) -> bool {
+    let received = received(Some(1), OUTSIDE);
+    fits(set, P, IN_RUN, 0, &ArrayVec::new(), &received)
+}
+
+/// The number of the first row of which the counter says the other, and whether Up fits it without variables.
+fn fits_of_counter(alloc: Global, rows: &[Fit]) -> Option<(Option<usize>, bool)> {
+    match made(alloc, &counter()) {
+        Some(set) => Some((first_other_fit(&set, rows), bare_fit(&set))),
+        None => None,
+    }
+}
+
 #[test]
-fn a_wrong_input_does_not_fit(rt: HostRuntime) -> Result<(), Fail> {
-    let set = made(rt.alloc(), &COUNTER).ok_or("it is accepted")?;
-    assert_eq!(rt; first_other_fit(&set, &FITS), None);
-    let bare = received(Some(1), OUTSIDE);
-    assert!(rt;
-        !fits(&set, P, IN_RUN, 0, &ArrayVec::new(), &bare),
-        "no variables"
-    );
-    Ok(())
+fn a_wrong_input_does_not_fit(rt: HostRuntime) {
+    assert_eq!(rt; fits_of_counter(rt.alloc(), &FITS), Some((None, false)));
+}
+
+/// Whether 1 from ENV is the same as an equal thing, and as what is other in its value, in its sender, in both.
+fn compared() -> Result<[bool; 4], AllocError> {
+    let one = received(Some(1), OUTSIDE);
+    Ok([
+        one.same(&once_more(&one)?),
+        one.same(&received(Some(2), OUTSIDE)),
+        one.same(&received(Some(1), Some(Party::Process(P)))),
+        one.same(&received(None, None)),
+    ])
 }
 
 #[test]
 fn what_comes_is_compared(rt: HostRuntime) {
-    let one = received(Some(1), OUTSIDE);
-    assert!(rt; one.same(&one.copy()));
-    assert!(rt; !one.same(&received(Some(2), OUTSIDE)));
-    assert!(rt; !one.same(&received(Some(1), Some(Party::Process(P)))));
-    assert!(rt; !one.same(&received(None, None)));
+    assert_eq!(rt; compared(), Ok([true, false, false, false]));
 }
