@@ -13,7 +13,7 @@ use Rattle.sdl_sound.specs.Statements.{Statement, asks, covers, finishes, statem
 use Rattle.sdl_sound.specs.Actions.{Origin}
 use Rattle.sdl_statements.specs.Asked.{asked_all, asks_origin}
 use Rattle.sdl_statements.specs.declared.statements.StatementRule.{StatementRule}
-use Rattle.sdl_statements.specs.declared.statements.StatementRule.TheVariants.{Names, Sorts, Receivers, OneReceiver, Answers, Divisors}
+use Rattle.sdl_statements.specs.declared.statements.StatementRule.TheVariants.{Names, Sorts, Receivers, OneReceiver, Answers, Divisors, NothingBack}
 use Rattle.sdl_sound.specs.Parts.{statement_parts, answer_parts, end_parts}
 use Rattle.sdl_ast.proofs.Views.{text_of-is, answer_of-is}
 
@@ -64,3 +64,4 @@ asked_without Receivers b p from xs h = absurd (true≢false h)
 asked_without OneReceiver b p from xs h = refl
 asked_without Answers b p from xs h = refl
 asked_without Divisors b p from xs h = refl
+asked_without NothingBack b p from xs h = refl

@@ -1,6 +1,6 @@
 //! The signals that nobody gets, statement by statement: of those that go TO SENDER it is known who may have sent what a
 //! transition begins with.
-ghost use Rattle.std.specs.Prelude.{◌≡◌, List, [], ◌∷◌, map, IfOk};
+ghost use Rattle.std.specs.Prelude.{◌≡◌, false, List, [], ◌∷◌, map, All, IfOk};
 ghost use Rattle.std.specs.List.{flat_map};
 ghost use Rattle.sdl_ast.specs.Views.{text_of, input_of, connection_of, process_of, block_of};
 ghost use Rattle.sdl_tables.specs.Scopes.{Marks};
@@ -9,11 +9,11 @@ ghost use Rattle.sdl_statements.specs.declared.statements.StatementRule.TheVaria
 ghost use Rattle.sdl_sound.specs.Statements.{statements_of};
 ghost use Rattle.sdl_sound.specs.Actions.{Origin, begins, in_input, in_connection, in_statements};
 ghost use Rattle.sdl_statements.specs.SenderTables.{Tells};
-ghost use Rattle.sdl_statements.specs.Sources.{AreSenders};
-ghost use Rattle.sdl_statements.specs.Asked.{asked, asked_all};
+ghost use Rattle.sdl_statements.specs.Sources.{AreSenders, AreNumbered, row_of, origins_at};
+ghost use Rattle.sdl_statements.specs.Asked.{asked, asked_all, back_statement};
 
 use crate::known::{KnownSenders, learn_transition};
-use crate::reaching::{find_reaching, input_senders, senders_at};
+use crate::reaching::{Reaching, find_reaching, input_senders, senders_at};
 use crate::sender_table::{SenderTable, find_senders};
 use crate::sources::{Sender, start_senders};
 use crate::statements::{StatementRule, in_transition};
@@ -36,6 +36,23 @@ fn lost_in_transition(
     learn_transition(&mut known, block, process, transition)?;
     let rule = StatementRule::Receivers;
     Ok(in_transition(rule, block, process, &known, transition))
+}
+
+/// Whether a transition sends something TO SENDER.
+fn sends_back(
+    alloc: Global,
+    block: &BlockTable,
+    process: &ProcessTable,
+    transition: &Transition,
+) -> bool
+    ensures { result ≡ false → flat_map back_statement (statements_of (text_of transition.now)) ≡ [] }
+{
+    let rule = StatementRule::NothingBack;
+    let none = KnownSenders::none(alloc);
+    match in_transition(rule, block, process, &none, transition) {
+        None => false,
+        Some(_) => true,
+    }
 }
 
 fn lost_in_start(
@@ -82,7 +99,30 @@ fn lost_in_inputs(
     Ok(place)
 }
 
-/// The place of a signal in a connection that nobody gets: TO SENDER is asked with every transition that comes there.
+/// The place of a signal in a connection that nobody gets: TO SENDER is asked with every transition that comes there, and who
+/// may have sent what those begin with is gathered only where something goes there.
+fn lost_in_connection(
+    alloc: Global,
+    block: &BlockTable,
+    process: &ProcessTable,
+    table: &SenderTable,
+    rows: &[Reaching],
+    number: usize,
+    transition: &Transition,
+) -> Result<Option<u32>, AllocError>
+    requires table { Tells (block_of block.now) (process_of process.now) table.now }
+    requires rows { All (AreNumbered table.now.names) rows.now }
+    ensures { IfOk result (λ place. Marks place (asked_all Receivers (block_of block.now) (process_of process.now) (origins_at (map row_of rows.now) number) (statements_of (text_of transition.now)))) }
+{
+    if sends_back(alloc, block, process, transition) {
+        let senders = senders_at(alloc, block, process, table, rows, number)?;
+        return lost_in_transition(alloc, block, process, senders, transition);
+    }
+    let rule = StatementRule::Receivers;
+    let none = KnownSenders::none(alloc);
+    Ok(in_transition(rule, block, process, &none, transition))
+}
+
 fn lost_in_connections(
     alloc: Global,
     block: &BlockTable,
@@ -97,9 +137,8 @@ fn lost_in_connections(
     let rows = find_reaching(alloc, process, table)?;
     let mut place = None;
     for (number, connection) in connections.iter().enumerate() {
-        let senders = senders_at(alloc, block, process, table, &rows, number)?;
         let transition = &connection.transition;
-        let lost = lost_in_transition(alloc, block, process, senders, transition)?;
+        let lost = lost_in_connection(alloc, block, process, table, &rows, number, transition)?;
         place = earlier(place, lost);
     }
     Ok(place)
