@@ -1,9 +1,9 @@
 -- Where nothing goes TO SENDER, nobody has to know who that is.
-use Rattle.std.proofs.Common.{◌≡◌, ℕ, List, [], ◌∷◌, ◌++◌, Option, None, Some, refl, sym, ap, ◌∙◌}
+use Rattle.std.proofs.Common.{◌≡◌, ℕ, List, [], ◌∷◌, ◌++◌, Option, None, Some, refl, ap, ◌∙◌}
 use Rattle.std.specs.List.{flat_map}
 use Rattle.sdl_ast.specs.declared.tree.Destination.{Destination}
 use Rattle.sdl_ast.specs.declared.tree.Destination.TheVariants.{Sender, Process}
-use Rattle.sdl_ast.specs.Plain.{PlainSending, PlainAction, task, output, set_timer, reset_timer, PlainProcess, PlainBlock}
+use Rattle.sdl_ast.specs.Plain.{PlainSending, task, output, set_timer, reset_timer, PlainProcess, PlainBlock}
 use Rattle.sdl_sound.specs.Statements.{Statement, acts, asks, covers, finishes}
 use Rattle.sdl_sound.specs.Actions.{Origin}
 use Rattle.sdl_sound.specs.Receivers.{lost_sending, lost_statement}

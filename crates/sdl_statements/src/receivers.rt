@@ -9,7 +9,8 @@ ghost use Rattle.sdl_statements.specs.Sources.{Knows};
 ghost use Rattle.sdl_statements.specs.Asked.{back_destination, back_action};
 ghost use Rattle.sdl_statements.specs.Founds.{Counts};
 
-use crate::known::{KnownSenders, party_of};
+use crate::known::KnownSenders;
+use crate::sender_table::party_of;
 use sdl_ast::{Action, Destination, Party, Sending};
 use sdl_lex::Name;
 use sdl_tables::{BlockTable, ProcessTable, earlier};
