@@ -8,8 +8,8 @@ use Rattle.sdl_ast.specs.declared.tree.Answer.{Answer}
 use Rattle.sdl_ast.specs.declared.tree.Transition.{Transition}
 use Rattle.sdl_ast.specs.declared.tree.Statement as the_statement
 use Rattle.sdl_ast.specs.Plain.{Tree, Text, falls, Choice, PlainStatement, act, decide, before, PlainProcess, PlainBlock}
-use Rattle.sdl_ast.specs.Views.{text_of, statements_before, answers_before, else_choice, end_text, plain_statement}
-use Rattle.sdl_sound.specs.Statements.{Statement, asks, covers, finishes, statements_of, choice_statements}
+use Rattle.sdl_ast.specs.Views.{text_of, statements_before, answers_before, end_text, plain_statement}
+use Rattle.sdl_sound.specs.Statements.{Statement, asks, statements_of, choice_statements}
 use Rattle.sdl_sound.specs.Actions.{Origin}
 use Rattle.sdl_statements.specs.Asked.{asked_all, asks_origin}
 use Rattle.sdl_statements.specs.declared.statements.StatementRule.{StatementRule}

@@ -56,14 +56,6 @@ all_at P [] i x lt is h = absurd (omega (arith, lt))
 all_at P (y ∷ ys) zero x lt is h = ap P is ∙ and_left (P y) (list_all P ys) h
 all_at P (y ∷ ys) (suc i) x lt is h = all_at P ys i x (omega (arith, lt)) is (and_right (P y) (list_all P ys) h)
 
--- what doesn't hold of one doesn't hold of all
-pub not_all : {A : Type 0} (P : A → Bool) (xs : List A) (i : ℕ) (x : A) → i < length xs → x ≡ get_or xs i x → P x ≡ false → list_all P xs ≡ false
-not_all P xs i x lt is h = by_test (list_all P xs) refl
-  where
-    by_test : (t : Bool) → list_all P xs ≡ t → t ≡ false
-    by_test true e = absurd (true≢false (sym (all_at P xs i x lt is e) ∙ h))
-    by_test false e = refl
-
 module _ (b : PlainBlock) (p : PlainProcess) where
   pub there_none : (s : List ℕ) (marks : List Bool) (k : ℕ) → marks ≡ replicate k false → GetThere b p s marks
   there_none s marks k is q n number there = absurd (none_marked k n (ap (λ l. is_marked l n) (sym is) ∙ there))

@@ -2,7 +2,7 @@
 use Rattle.std.proofs.Common.{◌≡◌, ◌⊎◌, inl, inr, arith, Option, Some, None, ℕ, zero, suc, ◌+◌, ◌<◌, Bool, true, false, not, ◌&&◌, ◌||◌, List, [], ◌∷◌, ◌++◌, if◌then◌else◌, fold, map, take, length, get_or, bytes_eq, refl, sym, ap, ◌∙◌, subst, true≢false}
 use Rattle.std.specs.Prelude.{All, slice_set, replicate}
 use Rattle.std.specs.Option.{option_map_or}
-use Rattle.std.specs.List.{list_any, list_all, flat_map}
+use Rattle.std.specs.List.{list_any, list_all}
 use Rattle.std.proofs.lemmas.List.{append-nil, take_more, map-append}
 use Rattle.std.proofs.lemmas.List.Folds.{list_all-append, list_all-map}
 use Rattle.std.proofs.lemmas.List.Elements.{All-map, All-push}
@@ -16,7 +16,7 @@ use Rattle.sdl_ast.specs.Plain.{PlainPath, PlainProcess, PlainBlock}
 use Rattle.sdl_tables.specs.Names.{is_in, process_names}
 use Rattle.sdl_ast.specs.declared.expression.Identifier.{Identifier}
 use Rattle.sdl_tables.specs.Routes.{parties_once}
-use Rattle.sdl_sound.specs.Receivers.{party_of, same_party, paths_of, brings, carries, add_party, senders, answers, answers_origin, answers_all}
+use Rattle.sdl_sound.specs.Receivers.{party_of, same_party, paths_of, brings, carries, add_party, answers, answers_origin, answers_all}
 use Rattle.sdl_ast.specs.declared.tree.Stimulus.{Stimulus}
 use Rattle.sdl_ast.specs.Views.{stimulus_of}
 use Rattle.sdl_sound.specs.Actions.{takes}

@@ -1,5 +1,5 @@
 -- Rows of a table that are added each once: who may have sent what transitions begin with.
-use Rattle.std.proofs.Common.{◌≡◌, inl, inr, Option, Some, None, ℕ, Bool, true, false, ◌&&◌, List, refl, sym, ap, ◌∙◌, subst, true≢false}
+use Rattle.std.proofs.Common.{◌≡◌, inl, inr, Option, Some, None, ℕ, Bool, true, false, ◌&&◌, List, sym, ap, ◌∙◌, subst, true≢false}
 use Rattle.std.specs.Prelude.{replicate}
 use Rattle.std.specs.Option.{option_map_or}
 use Rattle.sdl_lex.specs.Spelling.{folded}

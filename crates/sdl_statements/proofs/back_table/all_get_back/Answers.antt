@@ -1,10 +1,9 @@
-use Rattle.std.proofs.Common.{◌≡◌, ◌∙◌, ◌&&◌, true, false, refl, List, ap, sym, subst, take_all}
+use Rattle.std.proofs.Common.{◌≡◌, ◌∙◌, ◌&&◌, true, refl, ap, sym, subst, take_all}
 use Rattle.std.specs.List.{list_all}
 use Rattle.sdl_ast.specs.Views.{block_of, process_of}
 use Rattle.sdl_statements.specs.SenderTables.{IsSender, gets_back}
 use Rattle.sdl_statements.specs.declared.sender_table.Sender.{Sender}
 use Rattle.sdl_statements.proofs.Gathering.{all_more}
-use Rattle.sdl_statements.proofs.BackRows.{not_all}
 use Rattle.sdl_statements.proofs.back_table.all_get_back.Goals as goal
 
 pub loop-sender-init : goal.loop-sender-init

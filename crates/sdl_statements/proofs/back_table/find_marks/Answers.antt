@@ -1,4 +1,4 @@
-use Rattle.std.proofs.Common.{◌≡◌, ◌∙◌, true, List, ap, sym}
+use Rattle.std.proofs.Common.{◌≡◌, ◌∙◌, true, ap}
 use Rattle.std.specs.List.{list_all}
 use Rattle.sdl_ast.specs.Views.{block_of, process_of}
 use Rattle.sdl_ast.specs.declared.tree.Party.{Party}

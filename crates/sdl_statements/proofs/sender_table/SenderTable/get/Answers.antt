@@ -2,7 +2,6 @@ use Rattle.std.proofs.Common.{◌≡◌, rules, List, Some, sym, ap, ◌∙◌, 
 use Rattle.std.specs.Prelude.{slice_get}
 use Rattle.std.specs.Global.{Vec}
 use Rattle.std.proofs.lemmas.Option.{slice_get-get_or}
-use Rattle.sdl_tables.specs.Names.{number_of}
 use Rattle.sdl_statements.specs.SenderTables.{AreSendersOf}
 use Rattle.sdl_statements.specs.declared.sender_table.Sender.{Sender}
 use Rattle.sdl_statements.proofs.SenderRows.{tells_at}
