@@ -8,12 +8,12 @@ use Rattle.sdl_ast.specs.declared.tree.Answer.{Answer}
 use Rattle.sdl_ast.specs.declared.tree.Transition.{Transition}
 use Rattle.sdl_ast.specs.declared.tree.Statement as the_statement
 use Rattle.sdl_ast.specs.Plain.{Tree, Text, falls, Choice, PlainStatement, act, decide, before, PlainProcess, PlainBlock}
-use Rattle.sdl_ast.specs.Views.{text_of, statements_before, answers_before, else_choice, end_text, plain_statement}
-use Rattle.sdl_sound.specs.Statements.{Statement, asks, covers, finishes, statements_of, choice_statements}
+use Rattle.sdl_ast.specs.Views.{text_of, statements_before, answers_before, end_text, plain_statement}
+use Rattle.sdl_sound.specs.Statements.{Statement, asks, statements_of, choice_statements}
 use Rattle.sdl_sound.specs.Actions.{Origin}
 use Rattle.sdl_statements.specs.Asked.{asked_all, asks_origin}
 use Rattle.sdl_statements.specs.declared.statements.StatementRule.{StatementRule}
-use Rattle.sdl_statements.specs.declared.statements.StatementRule.TheVariants.{Names, Sorts, Receivers, OneReceiver, Answers, Divisors}
+use Rattle.sdl_statements.specs.declared.statements.StatementRule.TheVariants.{Names, Sorts, Receivers, OneReceiver, Answers, Divisors, NothingBack}
 use Rattle.sdl_sound.specs.Parts.{statement_parts, answer_parts, end_parts}
 use Rattle.sdl_ast.proofs.Views.{text_of-is, answer_of-is}
 
@@ -64,3 +64,4 @@ asked_without Receivers b p from xs h = absurd (true≢false h)
 asked_without OneReceiver b p from xs h = refl
 asked_without Answers b p from xs h = refl
 asked_without Divisors b p from xs h = refl
+asked_without NothingBack b p from xs h = refl

@@ -2,10 +2,10 @@
 use Rattle.std.proofs.Common.{◌≡◌, ◌⊎◌, inl, inr, arith, Option, Some, None, ℕ, zero, suc, ◌+◌, ◌<◌, Bool, true, false, not, ◌&&◌, ◌||◌, List, [], ◌∷◌, ◌++◌, if◌then◌else◌, fold, map, take, length, get_or, bytes_eq, refl, sym, ap, ◌∙◌, subst, true≢false}
 use Rattle.std.specs.Prelude.{All, slice_set, replicate}
 use Rattle.std.specs.Option.{option_map_or}
-use Rattle.std.specs.List.{list_any, list_all, flat_map}
+use Rattle.std.specs.List.{list_any, list_all}
 use Rattle.std.proofs.lemmas.List.{append-nil, take_more, map-append}
 use Rattle.std.proofs.lemmas.List.Folds.{list_all-append, list_all-map}
-use Rattle.std.proofs.lemmas.List.Elements.{All-map}
+use Rattle.std.proofs.lemmas.List.Elements.{All-map, All-push}
 use Rattle.std.proofs.lemmas.Option.{slice_get_within, same_Some as some_same}
 use Rattle.std.proofs.lemmas.Grind.{flat_map-append}
 use Rattle.std.proofs.lemmas.Slice.Eq.{bytes_eq-Decides}
@@ -16,15 +16,16 @@ use Rattle.sdl_ast.specs.Plain.{PlainPath, PlainProcess, PlainBlock}
 use Rattle.sdl_tables.specs.Names.{is_in, process_names}
 use Rattle.sdl_ast.specs.declared.expression.Identifier.{Identifier}
 use Rattle.sdl_tables.specs.Routes.{parties_once}
-use Rattle.sdl_sound.specs.Receivers.{party_of, same_party, paths_of, brings, carries, add_party, senders, answers, answers_origin, answers_all}
+use Rattle.sdl_sound.specs.Receivers.{party_of, same_party, paths_of, brings, carries, add_party, answers, answers_origin, answers_all}
 use Rattle.sdl_ast.specs.declared.tree.Stimulus.{Stimulus}
 use Rattle.sdl_ast.specs.Views.{stimulus_of}
 use Rattle.sdl_sound.specs.Actions.{takes}
-use Rattle.sdl_statements.specs.SenderTables.{party_number, IsNumbered, numbered, AreSendersOf}
+use Rattle.sdl_statements.specs.SenderTables.{party_number, IsNumbered, IsSender, gets_back, numbered}
 use Rattle.sdl_statements.specs.declared.sender_table.Numbered.{Numbered}
-use Rattle.sdl_statements.specs.declared.sources.Sender.TheVariants.{Nobody, Party as By}
+use Rattle.sdl_statements.specs.declared.sender_table.Sender.{Sender}
+use Rattle.sdl_statements.specs.declared.sender_table.Sender.TheVariants.{Nobody, Party as By}
 use Rattle.sdl_sound.proofs.Numbered.{number_names, same_folded, folded_same}
-use Rattle.sdl_statements.specs.Sources.{source_origins, gets_back, Gathers, Marks, row_of, is_marked, row_origins, origins_at}
+use Rattle.sdl_statements.specs.Sources.{source_origins, Gathers, Marks, row_of, is_marked, row_origins, origins_at}
 use Rattle.sdl_statements.specs.declared.reaching.Reaching.{Reaching}
 use Rattle.sdl_statements.specs.declared.sources.Senders.{Senders}
 use Rattle.plain_laws.proofs.Truths.{and_first as and_left, and_second as and_right}
@@ -45,7 +46,7 @@ brought (path ∷ paths) own q r s h =
     λ i. (same_party own path.from && (left_same q r path.to h i && is_in path.signals s)) || brought paths own q r s h i
 
 -- a signal gets to a party however it is written
-carried_same : (b : PlainBlock) (own q r : Party) (s : List ℕ) → same_party q r ≡ true → carries b own q s ≡ carries b own r s
+pub carried_same : (b : PlainBlock) (own q r : Party) (s : List ℕ) → same_party q r ≡ true → carries b own q s ≡ carries b own r s
 carried_same b own q r s h = brought (paths_of b) own q r s h
 
 -- ---- truth values
@@ -88,7 +89,7 @@ module _ (b : PlainBlock) (own : Party) (s : List ℕ) where
   pub once_all : (xs : List Party) → list_all (λ q. carries b own q s) (parties_once xs) ≡ list_all (λ q. carries b own q s) xs
   once_all xs = folded_all [] xs
 
-same_number : (b : PlainBlock) (q r : Party) (n : ℕ) → party_number b q ≡ Some n → party_number b r ≡ Some n → same_party q r ≡ true
+pub same_number : (b : PlainBlock) (q r : Party) (n : ℕ) → party_number b q ≡ Some n → party_number b r ≡ Some n → same_party q r ≡ true
 same_number b Environment Environment n e f = refl
 same_number b Environment (Process r) n e f =
     let there = number_names (process_names b) r.name n f in
@@ -136,11 +137,15 @@ none_marked (suc n) (suc k) e = none_marked n k e
 
 -- ---- senders
 
+pub nobody_numbered : (b : PlainBlock) → All (IsSender b) (Nobody ∷ [])
+nobody_numbered b = All-push (IsSender b) [] Nobody (λ i d no. absurd (omega (arith, no))) tt
+
 module _ (b : PlainBlock) (p : PlainProcess) where
   pub gather_same : (g : Senders) (f h : List ℕ → Bool) → ((s : List ℕ) → f s ≡ h s) → Gathers b p g f → Gathers b p g h
   gather_same g f h same old = record {
     told = λ s. old.told s ∙ same s;
     seen = λ s e. old.seen s (same s ∙ e);
+    numbered = old.numbered;
   }
 
   -- START or a timer
@@ -151,6 +156,7 @@ module _ (b : PlainBlock) (p : PlainProcess) where
         ap (list_all (gets_back b p s)) list
         ∙ (list_all-append (gets_back b p s) g.list.items (Nobody ∷ []) ∙ ap (λ r. r && false) (old.told s));
     seen = λ s e. absurd (true≢false (sym e ∙ and-false (f s)));
+    numbered = subst (All (IsSender b)) (sym list) (All-push (IsSender b) g.list.items Nobody old.numbered tt);
   }
 
   -- what a signal that f allows gets back to, once this party is there too
@@ -165,15 +171,16 @@ module _ (b : PlainBlock) (p : PlainProcess) where
   ]
 
   -- a party more
-  pub gather_party : (g n : Senders) (f : List ℕ → Bool) (q : Party) (o : Option ℕ) → o ≡ party_number b q → Marks o g.seen.items n.seen.items
-      → n.list.items ≡ g.list.items ++ By q ∷ [] → Gathers b p g f → Gathers b p n (λ s. f s && carries b (party_of p) q s)
-  gather_party g n f q o number marks list old = record {
+  pub gather_party : (g n : Senders) (f : List ℕ → Bool) (x : Numbered) → IsNumbered b x → Marks x.number g.seen.items n.seen.items
+      → n.list.items ≡ g.list.items ++ By x ∷ [] → Gathers b p g f → Gathers b p n (λ s. f s && carries b (party_of p) x.party s)
+  gather_party g n f x number marks list old = record {
     told = λ s.
         ap (list_all (gets_back b p s)) list
-        ∙ (list_all-append (gets_back b p s) g.list.items (By q ∷ [])
-        ∙ (ap (λ r. list_all (gets_back b p s) g.list.items && r) (and-true (carries b (party_of p) q s))
-        ∙ ap (λ r. r && carries b (party_of p) q s) (old.told s)));
-    seen = seen_more g n f q o number marks old;
+        ∙ (list_all-append (gets_back b p s) g.list.items (By x ∷ [])
+        ∙ (ap (λ r. list_all (gets_back b p s) g.list.items && r) (and-true (carries b (party_of p) x.party s))
+        ∙ ap (λ r. r && carries b (party_of p) x.party s) (old.told s)));
+    seen = seen_more g n f x.party x.number number marks old;
+    numbered = subst (All (IsSender b)) (sym list) (All-push (IsSender b) g.list.items (By x) old.numbered number);
   }
 
   -- one whose number was seen
@@ -190,17 +197,17 @@ module _ (b : PlainBlock) (p : PlainProcess) where
         ap (list_all (gets_back b p s)) list
         ∙ (old.told s ∙ absorbed (f s) (carries b (party_of p) q s) (there_gets g f q o number there old s));
     seen = seen_more g n f q o number marks old;
+    numbered = subst (All (IsSender b)) (sym list) old.numbered;
   }
 
-  -- a row of parties, one more of which is there
-  pub gather_more : (row : List Numbered) (i : ℕ) (x : Numbered) (g : Senders) (f : List ℕ → Bool) → i < length row → x ≡ get_or row i x
-      → Gathers b p g (λ s. (f s && list_all (λ y. carries b (party_of p) y.party s) (take i row)) && carries b (party_of p) x.party s)
-      → Gathers b p g (λ s. f s && list_all (λ y. carries b (party_of p) y.party s) (take (i + 1) row))
+  -- a row, one more of which is there
+  pub gather_more : (row : List Sender) (i : ℕ) (x : Sender) (g : Senders) (f : List ℕ → Bool) → i < length row → x ≡ get_or row i x
+      → Gathers b p g (λ s. (f s && list_all (gets_back b p s) (take i row)) && gets_back b p s x)
+      → Gathers b p g (λ s. f s && list_all (gets_back b p s) (take (i + 1) row))
   gather_more row i x g f lt is h =
-      gather_same g (λ s. (f s && list_all (λ y. carries b (party_of p) y.party s) (take i row)) && carries b (party_of p) x.party s)
-      (λ s. f s && list_all (λ y. carries b (party_of p) y.party s) (take (i + 1) row))
-      (λ s. and_assoc (f s) (list_all (λ y. carries b (party_of p) y.party s) (take i row)) (carries b (party_of p) x.party s)
-      ∙ ap (λ r. f s && r) (sym (all_more (λ y. carries b (party_of p) y.party s) row i x lt is))) h
+      gather_same g (λ s. (f s && list_all (gets_back b p s) (take i row)) && gets_back b p s x) (λ s. f s && list_all (gets_back b p s) (take (i + 1) row))
+      (λ s. and_assoc (f s) (list_all (gets_back b p s) (take i row)) (gets_back b p s x)
+      ∙ ap (λ r. f s && r) (sym (all_more (gets_back b p s) row i x lt is))) h
 
   -- what an INPUT takes, one more of which is there
   asked_stimuli : (s : List ℕ) (xs : List Stimulus) → answers_all b p (map takes (map stimulus_of xs)) s ≡ list_all (λ x. answers b p s x.name.name) xs
@@ -221,17 +228,15 @@ module _ (b : PlainBlock) (p : PlainProcess) where
   pub gather_none : (g : Senders) (f : List ℕ → Bool) → Gathers b p g f → Gathers b p g (λ s. f s && true)
   gather_none g f h = gather_same g f (λ s. f s && true) (λ s. sym (and-true (f s))) h
 
-  -- the row of a signal
-  pub row_all : (name : List ℕ) (row : List Numbered) → AreSendersOf b p name row → (s : List ℕ)
-      → list_all (λ y. carries b (party_of p) y.party s) row ≡ list_all (λ q. carries b (party_of p) q s) (senders b (party_of p) name)
-  row_all name row h s =
-      ap (list_all (λ y. carries b (party_of p) y.party s)) h
-      ∙ (list_all-map (λ y. carries b (party_of p) y.party s) (numbered b) (parties_once (senders b (party_of p) name))
-      ∙ once_all b (party_of p) s (senders b (party_of p) name))
+  -- the row of a signal: its senders, each once
+  pub row_all : (qs : List Party) (row : List Sender) → row ≡ map (λ q. By (numbered b q)) (parties_once qs) → (s : List ℕ)
+      → list_all (gets_back b p s) row ≡ list_all (λ q. carries b (party_of p) q s) qs
+  row_all qs row is s =
+      ap (list_all (gets_back b p s)) is
+      ∙ (list_all-map (gets_back b p s) (λ q. By (numbered b q)) (parties_once qs) ∙ once_all b (party_of p) s qs)
 
-  pub row_numbered : (name : List ℕ) (row : List Numbered) → AreSendersOf b p name row → All (IsNumbered b) row
-  row_numbered name row h =
-      subst (All (IsNumbered b)) (sym h) (All-map (IsNumbered b) (numbered b) (parties_once (senders b (party_of p) name)) (λ k d within. refl))
+  pub row_numbered : (qs : List Party) (row : List Sender) → row ≡ map (λ q. By (numbered b q)) qs → All (IsSender b) row
+  row_numbered qs row is = subst (All (IsSender b)) (sym is) (All-map (IsSender b) (λ q. By (numbered b q)) qs (λ k d within. refl))
 
   -- a transition more, which comes to the connection or doesn't
   pub more_origins : (rows : List Reaching) (i n : ℕ) (r : Reaching) (m : Bool) (s : List ℕ) → i < length rows → r ≡ get_or rows i r → is_marked r.reached.items n ≡ m

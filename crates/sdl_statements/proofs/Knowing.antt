@@ -14,7 +14,7 @@ use Rattle.sdl_sound.specs.Receivers.{party_of, same_party, paths_of, brings, ca
 use Rattle.sdl_statements.specs.Sources.{AreAlike}
 use Rattle.sdl_sound.proofs.Numbered.{in_alike}
 
-brought_alike : (paths : List PlainPath) (own q : Party) (s t : List ℕ) → folded s ≡ folded t → list_any (brings own q s) paths ≡ list_any (brings own q t) paths
+pub brought_alike : (paths : List PlainPath) (own q : Party) (s t : List ℕ) → folded s ≡ folded t → list_any (brings own q s) paths ≡ list_any (brings own q t) paths
 brought_alike [] own q s t e = refl
 brought_alike (path ∷ paths) own q s t e =
     λ i. (same_party own path.from && (same_party q path.to && in_alike path.signals s t e i)) || brought_alike paths own q s t e i

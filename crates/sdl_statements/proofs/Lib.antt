@@ -1,4 +1,6 @@
 pub mod Asking
+pub mod BackRows
+pub mod Backward
 pub mod Coming
 pub mod Gathering
 pub mod Knowing

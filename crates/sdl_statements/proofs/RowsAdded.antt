@@ -1,18 +1,17 @@
 -- Rows of a table that are added each once: who may have sent what transitions begin with.
-use Rattle.std.proofs.Common.{◌≡◌, inl, inr, Option, Some, None, ℕ, Bool, true, false, not, ◌&&◌, List, refl, sym, ap, ◌∙◌, subst, true≢false}
+use Rattle.std.proofs.Common.{◌≡◌, inl, inr, Option, Some, None, ℕ, Bool, true, false, ◌&&◌, List, sym, ap, ◌∙◌, subst, true≢false}
 use Rattle.std.specs.Prelude.{replicate}
 use Rattle.std.specs.Option.{option_map_or}
-use Rattle.std.specs.List.{list_all}
 use Rattle.sdl_lex.specs.Spelling.{folded}
 use Rattle.sdl_ast.specs.declared.expression.Identifier.{Identifier}
 use Rattle.sdl_ast.specs.Plain.{PlainProcess, PlainBlock}
-use Rattle.sdl_tables.specs.Names.{number_of, timers_of}
-use Rattle.sdl_sound.specs.Receivers.{party_of, carries, answers}
+use Rattle.sdl_tables.specs.Names.{number_of}
+use Rattle.sdl_sound.specs.Receivers.{answers}
 use Rattle.sdl_statements.specs.Sources.{Gathers, Asks, Marks, is_marked}
 use Rattle.sdl_statements.specs.declared.sources.Senders.{Senders}
 use Rattle.sdl_statements.specs.declared.reaching.Gathered.{Gathered}
-use Rattle.sdl_sound.proofs.Numbered.{number_names, same_folded, in_alike}
-use Rattle.sdl_statements.proofs.SenderRows.{senders_alike}
+use Rattle.sdl_sound.proofs.Numbered.{number_names, same_folded}
+use Rattle.sdl_statements.proofs.SenderRows.{answers_alike}
 use Rattle.sdl_statements.proofs.Gathering.{absorbed, none_marked, gather_same}
 use Rattle.plain_laws.proofs.Truths.{and_first as and_left, and_second as and_right}
 use Rattle.std.proofs.Math.Bool.{and-false, and-true}
@@ -26,10 +25,6 @@ module _ (b : PlainBlock) (p : PlainProcess) (names : List Identifier) where
       let other = number_names names y n f in
       let same : one.0 ≡ other.0 = some_same one.0 other.0 (sym one.1 ∙ other.1) in
       same_folded x one.0.name one.2 ∙ (ap (λ (id : Identifier). folded id.name) same ∙ sym (same_folded y other.0.name other.2))
-
-  answers_alike : (s x y : List ℕ) → folded x ≡ folded y → answers b p s x ≡ answers b p s y
-  answers_alike s x y e =
-      λ i. not (in_alike (timers_of p) x y e i) && list_all (λ q. carries b (party_of p) q s) (senders_alike b (party_of p) x y e i)
 
   -- no row yet
   pub asks_none : (g : Gathered) (k : ℕ) → Gathers b p g.senders (λ s. true) → g.asked.items ≡ replicate k false → Asks b p names g (λ s. true)
@@ -55,7 +50,7 @@ module _ (b : PlainBlock) (p : PlainProcess) (names : List Identifier) where
       → Asks b p names g f → (s : List ℕ) → (f s && answers b p s x) ≡ true → (name : List ℕ) (k : ℕ) → number_of names name ≡ Some k
       → is_marked n.asked.items k ≡ true → answers b p s name ≡ true
   asked_more g n f x o row marks old s e name k number there = elim (marks k there) [
-    | inl new ↦ answers_alike s name x (row_alike name x k number (sym row ∙ new)) ∙ and_right (f s) (answers b p s x) e
+    | inl new ↦ answers_alike b p s name x (row_alike name x k number (sym row ∙ new)) ∙ and_right (f s) (answers b p s x) e
     | inr was ↦ old.asked s (and_left (f s) (answers b p s x) e) name k number was
   ]
 

@@ -1,4 +1,5 @@
 pub mod Asked
+pub mod Backs
 pub mod Founds
 pub mod SenderTables
 pub mod Sources

@@ -1,5 +1,6 @@
 -- Who may have sent each signal that a process takes, with numbers for the parties.
-use Rattle.std.specs.Prelude.{◌≡◌, ℕ, List, Option, Some, length, map, slice_get}
+use Rattle.std.specs.Prelude.{◌≡◌, ℕ, Bool, false, List, Option, None, Some, length, map, slice_get, All, ⊤}
+use Rattle.std.specs.List.{list_all}
 use Rattle.std.specs.Global.{Vec}
 use Rattle.sdl_ast.specs.declared.expression.Identifier.{Identifier}
 use Rattle.sdl_ast.specs.declared.tree.Stimulus.{Stimulus}
@@ -7,9 +8,10 @@ use Rattle.sdl_ast.specs.declared.tree.Party.{Party}
 use Rattle.sdl_ast.specs.declared.tree.Party.TheVariants.{Environment, Process}
 use Rattle.sdl_ast.specs.Plain.{PlainProcess, PlainBlock}
 use Rattle.sdl_tables.specs.Names.{number_of, process_names}
-use Rattle.sdl_tables.specs.Routes.{senders, parties_once}
-use Rattle.sdl_sound.specs.Receivers.{party_of}
+use Rattle.sdl_sound.specs.Receivers.{party_of, carries, answers}
 use Rattle.sdl_statements.specs.declared.sender_table.Numbered.{Numbered}
+use Rattle.sdl_statements.specs.declared.sender_table.Sender.{Sender}
+use Rattle.sdl_statements.specs.declared.sender_table.Sender.TheVariants as sent_by
 use Rattle.sdl_statements.specs.declared.sender_table.SenderTable.{SenderTable}
 
 -- The number of a party: that of its process, and one past all of these for the environment. A process that isn't there has
@@ -24,14 +26,28 @@ IsNumbered b x = x.number ≡ party_number b x.party
 abbrev pub numbered : PlainBlock → Party → Numbered
 numbered b q = record { party = q; number = party_number b q }
 
--- those who may have sent a signal to a process, each once and with its number
-abbrev pub AreSendersOf : PlainBlock → PlainProcess → List ℕ → List Numbered → Type 0
-AreSendersOf b p name row = row ≡ map (numbered b) (parties_once (senders b (party_of p) name))
+abbrev pub sender_of : Option Numbered → Sender
+sender_of None = sent_by.Nobody
+sender_of (Some x) = sent_by.Party x
+
+-- whether a signal gets back to who sent what a transition begins with
+abbrev pub gets_back : PlainBlock → PlainProcess → List ℕ → Sender → Bool
+gets_back b p s sent_by.Nobody = false
+gets_back b p s (sent_by.Party x) = carries b (party_of p) x.party s
+
+abbrev pub IsSender : PlainBlock → Sender → Type 0
+IsSender b sent_by.Nobody = ⊤
+IsSender b (sent_by.Party x) = IsNumbered b x
+
+-- These are all who may have sent a signal or timer to a process: what they all get is what it allows.
+pub record AreSendersOf (b : PlainBlock) (p : PlainProcess) (name : List ℕ) (row : List Sender) : Type 0 where
+  pub told : (s : List ℕ) → list_all (gets_back b p s) row ≡ answers b p s name
+  pub numbered : All (IsSender b) row
 
 -- a row for each name that was asked for
 pub record Tells (b : PlainBlock) (p : PlainProcess) (t : SenderTable) : Type 0 where
   pub count : length t.rows.items ≡ length t.names
-  pub each : (n : ℕ) (id : Identifier) (row : Vec Numbered) → slice_get t.names n ≡ Some id → slice_get t.rows.items n ≡ Some row
+  pub each : (n : ℕ) (id : Identifier) (row : Vec Sender) → slice_get t.names n ≡ Some id → slice_get t.rows.items n ≡ Some row
       → AreSendersOf b p id.name row.items
 
 -- the number of the row of each of these signals and timers

@@ -1,5 +1,5 @@
 -- With what transitions begin, and to which connections they come, as the code keeps it.
-use Rattle.std.specs.Prelude.{◌≡◌, ◌⊎◌, ℕ, Bool, true, false, Option, None, Some, List, [], ◌∷◌, if◌then◌else◌, map, slice_get}
+use Rattle.std.specs.Prelude.{◌≡◌, ◌⊎◌, ℕ, Bool, true, false, Option, Some, List, [], ◌∷◌, if◌then◌else◌, map, slice_get, All}
 use Rattle.std.specs.List.{list_all, flat_map}
 use Rattle.std.specs.Option.{option_map_or}
 use Rattle.sdl_ast.specs.Plain.{Text, PlainInput, PlainProcess, PlainBlock}
@@ -9,13 +9,12 @@ use Rattle.sdl_tables.specs.Names.{input_parts, is_in, number_of}
 use Rattle.sdl_sound.specs.Joins.{reaches}
 use Rattle.sdl_sound.specs.Actions.{Origin, begins, input_origins}
 use Rattle.sdl_sound.specs.Receivers.{party_of, carries, answers, answers_all}
-use Rattle.sdl_statements.specs.SenderTables.{party_number, stimulus_rows}
+use Rattle.sdl_statements.specs.SenderTables.{party_number, IsSender, gets_back, stimulus_rows}
 use Rattle.sdl_ast.specs.declared.tree.Party as the_party
 use Rattle.sdl_statements.specs.declared.known.KnownSenders.{KnownSenders}
 use Rattle.sdl_statements.specs.declared.reaching.Gathered.{Gathered}
 use Rattle.sdl_statements.specs.declared.reaching.Reaching.{Reaching}
-use Rattle.sdl_statements.specs.declared.sources.Sender.{Sender}
-use Rattle.sdl_statements.specs.declared.sources.Sender.TheVariants.{Nobody, Party}
+use Rattle.sdl_statements.specs.declared.sender_table.Sender.{Sender}
 use Rattle.sdl_statements.specs.declared.sources.Senders.{Senders}
 use Rattle.sdl_statements.specs.declared.reaching.Source.{Source}
 use Rattle.sdl_statements.specs.declared.reaching.Source.TheVariants.{Start, Input}
@@ -33,18 +32,10 @@ source_rows names (Input i) = stimulus_rows names i.now.stimuli.items
 abbrev pub AreNumbered : List Identifier → Reaching → Type 0
 AreNumbered names r = r.rows.items ≡ source_rows names r.source
 
-abbrev pub sender_of : Option the_party.Party → Sender
-sender_of None = Nobody
-sender_of (Some q) = Party q
-
--- whether a signal gets back to who sent what a transition begins with
-abbrev pub gets_back : PlainBlock → PlainProcess → List ℕ → Sender → Bool
-gets_back b p s Nobody = false
-gets_back b p s (Party q) = carries b (party_of p) q s
-
 -- These senders are all who may have sent one of these: what they all get is what each of these allows.
-unfoldable pub AreSenders : PlainBlock → PlainProcess → List Sender → List Origin → Type 0
-AreSenders b p senders from = (s : List ℕ) → list_all (gets_back b p s) senders ≡ answers_all b p from s
+pub record AreSenders (b : PlainBlock) (p : PlainProcess) (senders : List Sender) (from : List Origin) : Type 0 where
+  pub told : (s : List ℕ) → list_all (gets_back b p s) senders ≡ answers_all b p from s
+  pub numbered : All (IsSender b) senders
 
 -- each of these signals gets back to all who may have sent one of these, or each doesn't
 unfoldable pub AreAlike : PlainBlock → PlainProcess → List Origin → Bool → List Identifier → Type 0
@@ -66,6 +57,7 @@ pub record Gathers (b : PlainBlock) (p : PlainProcess) (g : Senders) (f : List �
   pub told : (s : List ℕ) → list_all (gets_back b p s) g.list.items ≡ f s
   pub seen : (s : List ℕ) → f s ≡ true → (q : the_party.Party) (n : ℕ) → party_number b q ≡ Some n → is_marked g.seen.items n ≡ true
       → carries b (party_of p) q s ≡ true
+  pub numbered : All (IsSender b) g.list.items
 
 -- The same where rows were added: and whatever f allows is allowed for each signal and timer whose row was.
 pub record Asks (b : PlainBlock) (p : PlainProcess) (names : List Identifier) (g : Gathered) (f : List ℕ → Bool) : Type 0 where

@@ -1,46 +1,19 @@
 //! Who may have sent what a transition begins with, and of the signals that it sends back whether they get to all of those: for
 //! each of them that is asked of every sender once.
-ghost use Rattle.std.specs.Prelude.{◌≡◌, [], List, OnOk};
-ghost use Rattle.std.specs.List.{list_all};
+ghost use Rattle.std.specs.Prelude.{◌≡◌, [], List, IfOk, OnOk};
 ghost use Rattle.sdl_ast.specs.Plain.{PlainProcess, PlainBlock};
 ghost use Rattle.sdl_ast.specs.Views.{process_of, block_of};
 ghost use Rattle.sdl_sound.specs.Actions.{Origin};
-ghost use Rattle.sdl_sound.specs.Receivers.{party_of, answers_all};
-ghost use Rattle.sdl_statements.specs.Sources.{gets_back, AreSenders, Knows};
+ghost use Rattle.sdl_sound.specs.Receivers.{answers_all};
+ghost use Rattle.sdl_statements.specs.Sources.{AreSenders, Knows};
+ghost use Rattle.sdl_statements.specs.Backs.{Learns};
 
-use crate::sources::Sender;
-use sdl_ast::{Action, Decision, Destination, Identifier, Party, Sending, Statement, Transition};
+use crate::back_table::{BackTable, all_get_back};
+use crate::sender_table::Sender;
+use sdl_ast::{Action, Decision, Destination, Identifier, Sending, Statement, Transition};
 use sdl_lex::Name;
 use sdl_tables::{BlockTable, NameTable, ProcessTable};
 use std::alloc::{AllocError, Global};
-
-/// A process as a party.
-pub(crate) fn party_of(process: &ProcessTable) -> Party
-    ensures { result ≡ party_of (process_of process.now) }
-{
-    Party::Process(process.process().name)
-}
-
-/// Whether a signal gets back to who sent what a transition begins with.
-fn gets_back(block: &BlockTable, process: &ProcessTable, signal: Name, sender: &Sender) -> bool
-    ensures { result ≡ gets_back (block_of block.now) (process_of process.now) signal sender.now }
-{
-    match sender {
-        Sender::Nobody => false,
-        Sender::Party(party) => block.carries(&party_of(process), party, signal),
-    }
-}
-
-/// The same for all of them.
-fn all_get_back(block: &BlockTable, process: &ProcessTable, signal: Name, from: &[Sender]) -> bool
-    ensures { result ≡ list_all (gets_back (block_of block.now) (process_of process.now) signal) from.now }
-{
-    let mut all = true;
-    for sender in from {
-        all = all && gets_back(block, process, signal, sender);
-    }
-    all
-}
 
 /// Who may have sent what some transitions begin with, and of some signals whether they get back to all of those.
 #[derive(Drop)]
@@ -80,7 +53,7 @@ impl KnownSenders {
         if self.lost.contains(signal) {
             return false;
         }
-        all_get_back(block, process, signal, &self.list)
+        all_get_back(block, process, &[], signal, &self.list)
     }
 
     /// Keeps what is so of a signal.
@@ -96,48 +69,94 @@ impl KnownSenders {
         Ok(())
     }
 
+    /// The same where the routes were asked before.
+    fn all_get_by(
+        &self,
+        table: &BackTable,
+        block: &BlockTable,
+        process: &ProcessTable,
+        signal: Name,
+    ) -> bool
+        ensures { (os : List Origin) → Learns (block_of block.now) (process_of process.now) table.now self.now os
+            → result ≡ answers_all (block_of block.now) (process_of process.now) os signal }
+    {
+        table.all_get(block, process, signal, &self.list)
+    }
+
+    fn knows(&self, signal: Name) -> bool {
+        self.back.contains(signal) || self.lost.contains(signal)
+    }
+
+    /// Whether a signal gets back to all of them, and asks the routes if that isn't known.
+    fn ask(
+        &self,
+        alloc: Global,
+        table: &mut BackTable,
+        block: &BlockTable,
+        process: &ProcessTable,
+        signal: &Identifier,
+    ) -> Result<bool, AllocError>
+        ensures { IfOk result (λ back. (os : List Origin) → Learns (block_of block.now) (process_of process.now) table.old self.now os
+            → Learns (block_of block.now) (process_of process.now) table.new self.now os
+            × (back ≡ answers_all (block_of block.now) (process_of process.now) os signal.now.name)) }
+    {
+        if self.knows(signal.name) {
+            return Ok(self.all_get(block, process, signal.name));
+        }
+        table.learn(alloc, block, process, *signal)?;
+        Ok(self.all_get_by(table, block, process, signal.name))
+    }
+
     /// Asks of a signal, unless it is known.
     fn learn(
         &mut self,
+        alloc: Global,
+        table: &mut BackTable,
         block: &BlockTable,
         process: &ProcessTable,
         signal: Identifier,
     ) -> Result<(), AllocError>
-        ensures { OnOk result ((os : List Origin) → Knows (block_of block.now) (process_of process.now) self.old os
-            → Knows (block_of block.now) (process_of process.now) self.new os) }
+        ensures { OnOk result ((os : List Origin) → Learns (block_of block.now) (process_of process.now) table.old self.old os
+            → Learns (block_of block.now) (process_of process.now) table.new self.new os) }
     {
-        let back = self.all_get(block, process, signal.name);
+        let back = self.ask(alloc, table, block, process, &signal)?;
         self.keep(signal, back)?;
         Ok(())
     }
 
     fn learn_sendings(
         &mut self,
+        alloc: Global,
+        table: &mut BackTable,
         block: &BlockTable,
         process: &ProcessTable,
         sendings: &[Sending],
     ) -> Result<(), AllocError>
-        ensures { OnOk result ((os : List Origin) → Knows (block_of block.now) (process_of process.now) self.old os
-            → Knows (block_of block.now) (process_of process.now) self.new os) }
+        ensures { OnOk result ((os : List Origin) → Learns (block_of block.now) (process_of process.now) table.old self.old os
+            → Learns (block_of block.now) (process_of process.now) table.new self.new os) }
     {
         for sending in sendings {
-            self.learn(block, process, sending.signal)?;
+            self.learn(alloc, table, block, process, sending.signal)?;
         }
         Ok(())
     }
 
     fn learn_output(
         &mut self,
+        alloc: Global,
+        table: &mut BackTable,
         block: &BlockTable,
         process: &ProcessTable,
         to: &Option<Destination>,
         sendings: &[Sending],
     ) -> Result<(), AllocError>
-        ensures { OnOk result ((os : List Origin) → Knows (block_of block.now) (process_of process.now) self.old os
-            → Knows (block_of block.now) (process_of process.now) self.new os) }
+        ensures { OnOk result ((os : List Origin) → Learns (block_of block.now) (process_of process.now) table.old self.old os
+            → Learns (block_of block.now) (process_of process.now) table.new self.new os) }
     {
         match to {
-            Some(Destination::Sender(_)) => self.learn_sendings(block, process, sendings),
+            Some(Destination::Sender(_)) => self.learn_sendings(
+                alloc, table, block, process, sendings,
+            ),
             Some(Destination::Process(_)) => Ok(()),
             None => Ok(()),
         }
@@ -145,17 +164,19 @@ impl KnownSenders {
 
     fn learn_action(
         &mut self,
+        alloc: Global,
+        table: &mut BackTable,
         block: &BlockTable,
         process: &ProcessTable,
         action: &Action,
     ) -> Result<(), AllocError>
-        ensures { OnOk result ((os : List Origin) → Knows (block_of block.now) (process_of process.now) self.old os
-            → Knows (block_of block.now) (process_of process.now) self.new os) }
+        ensures { OnOk result ((os : List Origin) → Learns (block_of block.now) (process_of process.now) table.old self.old os
+            → Learns (block_of block.now) (process_of process.now) table.new self.new os) }
     {
         match action {
             Action::Task(_) => Ok(()),
             Action::Output(output) => {
-                self.learn_output(block, process, &output.to, &output.sendings)
+                self.learn_output(alloc, table, block, process, &output.to, &output.sendings)
             }
             Action::Set(_) => Ok(()),
             Action::Reset(_) => Ok(()),
@@ -167,15 +188,17 @@ impl KnownSenders {
 #[cycle(learning)]
 pub(crate) fn learn_transition(
     known: &mut KnownSenders,
+    alloc: Global,
+    table: &mut BackTable,
     block: &BlockTable,
     process: &ProcessTable,
     transition: &Transition,
 ) -> Result<(), AllocError>
-    ensures { OnOk result ((os : List Origin) → Knows (block_of block.now) (process_of process.now) known.old os
-        → Knows (block_of block.now) (process_of process.now) known.new os) }
+    ensures { OnOk result ((os : List Origin) → Learns (block_of block.now) (process_of process.now) table.old known.old os
+        → Learns (block_of block.now) (process_of process.now) table.new known.new os) }
 {
     for statement in &transition.statements {
-        learn_statement(known, block, process, statement)?;
+        learn_statement(known, alloc, table, block, process, statement)?;
     }
     Ok(())
 }
@@ -183,48 +206,56 @@ pub(crate) fn learn_transition(
 #[cycle(learning)]
 fn learn_statement(
     known: &mut KnownSenders,
+    alloc: Global,
+    table: &mut BackTable,
     block: &BlockTable,
     process: &ProcessTable,
     statement: &Statement,
 ) -> Result<(), AllocError>
-    ensures { OnOk result ((os : List Origin) → Knows (block_of block.now) (process_of process.now) known.old os
-        → Knows (block_of block.now) (process_of process.now) known.new os) }
+    ensures { OnOk result ((os : List Origin) → Learns (block_of block.now) (process_of process.now) table.old known.old os
+        → Learns (block_of block.now) (process_of process.now) table.new known.new os) }
 {
     match statement {
-        Statement::Act(action) => known.learn_action(block, process, action),
-        Statement::Decide(decision) => learn_decision(known, block, process, decision),
+        Statement::Act(action) => known.learn_action(alloc, table, block, process, action),
+        Statement::Decide(decision) => learn_decision(
+            known, alloc, table, block, process, decision,
+        ),
     }
 }
 
 #[cycle(learning)]
 fn learn_decision(
     known: &mut KnownSenders,
+    alloc: Global,
+    table: &mut BackTable,
     block: &BlockTable,
     process: &ProcessTable,
     decision: &Decision,
 ) -> Result<(), AllocError>
-    ensures { OnOk result ((os : List Origin) → Knows (block_of block.now) (process_of process.now) known.old os
-        → Knows (block_of block.now) (process_of process.now) known.new os) }
+    ensures { OnOk result ((os : List Origin) → Learns (block_of block.now) (process_of process.now) table.old known.old os
+        → Learns (block_of block.now) (process_of process.now) table.new known.new os) }
 {
     for answer in &decision.answers {
-        learn_transition(known, block, process, &answer.body)?;
+        learn_transition(known, alloc, table, block, process, &answer.body)?;
     }
-    learn_else(known, block, process, &decision.otherwise)?;
+    learn_else(known, alloc, table, block, process, &decision.otherwise)?;
     Ok(())
 }
 
 #[cycle(learning)]
 fn learn_else(
     known: &mut KnownSenders,
+    alloc: Global,
+    table: &mut BackTable,
     block: &BlockTable,
     process: &ProcessTable,
     otherwise: &Option<Transition>,
 ) -> Result<(), AllocError>
-    ensures { OnOk result ((os : List Origin) → Knows (block_of block.now) (process_of process.now) known.old os
-        → Knows (block_of block.now) (process_of process.now) known.new os) }
+    ensures { OnOk result ((os : List Origin) → Learns (block_of block.now) (process_of process.now) table.old known.old os
+        → Learns (block_of block.now) (process_of process.now) table.new known.new os) }
 {
     match otherwise {
         None => Ok(()),
-        Some(body) => learn_transition(known, block, process, body),
+        Some(body) => learn_transition(known, alloc, table, block, process, body),
     }
 }

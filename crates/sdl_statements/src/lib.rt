@@ -2,6 +2,7 @@
 //! (S8) and divisors (S9).
 #![tactic(auto)]
 
+mod back_table;
 mod known;
 mod lost;
 mod reaching;

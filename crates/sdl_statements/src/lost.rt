@@ -1,6 +1,6 @@
 //! The signals that nobody gets, statement by statement: of those that go TO SENDER it is known who may have sent what a
 //! transition begins with.
-ghost use Rattle.std.specs.Prelude.{◌≡◌, List, [], ◌∷◌, map, IfOk};
+ghost use Rattle.std.specs.Prelude.{◌≡◌, false, List, [], ◌∷◌, map, All, IfOk, OnOk};
 ghost use Rattle.std.specs.List.{flat_map};
 ghost use Rattle.sdl_ast.specs.Views.{text_of, input_of, connection_of, process_of, block_of};
 ghost use Rattle.sdl_tables.specs.Scopes.{Marks};
@@ -8,14 +8,16 @@ ghost use Rattle.sdl_sound.specs.Receivers.{without_receiver};
 ghost use Rattle.sdl_statements.specs.declared.statements.StatementRule.TheVariants.{Receivers};
 ghost use Rattle.sdl_sound.specs.Statements.{statements_of};
 ghost use Rattle.sdl_sound.specs.Actions.{Origin, begins, in_input, in_connection, in_statements};
+ghost use Rattle.sdl_statements.specs.Backs.{Brings};
 ghost use Rattle.sdl_statements.specs.SenderTables.{Tells};
-ghost use Rattle.sdl_statements.specs.Sources.{AreSenders};
-ghost use Rattle.sdl_statements.specs.Asked.{asked, asked_all};
+ghost use Rattle.sdl_statements.specs.Sources.{AreSenders, AreNumbered, row_of, origins_at};
+ghost use Rattle.sdl_statements.specs.Asked.{asked, asked_all, back_statement};
 
+use crate::back_table::BackTable;
 use crate::known::{KnownSenders, learn_transition};
-use crate::reaching::{find_reaching, input_senders, senders_at};
-use crate::sender_table::{SenderTable, find_senders};
-use crate::sources::{Sender, start_senders};
+use crate::reaching::{Reaching, find_reaching, input_senders, senders_at};
+use crate::sender_table::{Sender, SenderTable, find_senders};
+use crate::sources::start_senders;
 use crate::statements::{StatementRule, in_transition};
 use sdl_ast::{Connection, InputPart, Transition};
 use sdl_tables::{BlockTable, ProcessTable, earlier};
@@ -24,67 +26,130 @@ use std::alloc::{AllocError, Global};
 /// The place of a signal in a transition that nobody gets, where these may have sent what it begins with.
 fn lost_in_transition(
     alloc: Global,
+    backs: &mut BackTable,
     block: &BlockTable,
     process: &ProcessTable,
     senders: Vec<Sender>,
     transition: &Transition,
 ) -> Result<Option<u32>, AllocError>
-    ensures { IfOk result (λ place. (os : List Origin) → AreSenders (block_of block.now) (process_of process.now) senders.items os
+    requires { Brings (block_of block.now) (process_of process.now) backs.old }
+    ensures place { IfOk result (λ place. (os : List Origin) → AreSenders (block_of block.now) (process_of process.now) senders.items os
         → Marks place (asked_all Receivers (block_of block.now) (process_of process.now) os (statements_of (text_of transition.now)))) }
+    ensures backs { OnOk result ((os : List Origin) → AreSenders (block_of block.now) (process_of process.now) senders.items os → Brings (block_of block.now) (process_of process.now) backs.new) }
 {
     let mut known = KnownSenders::new(alloc, senders);
-    learn_transition(&mut known, block, process, transition)?;
+    learn_transition(&mut known, alloc, backs, block, process, transition)?;
     let rule = StatementRule::Receivers;
     Ok(in_transition(rule, block, process, &known, transition))
 }
 
-fn lost_in_start(
+/// Whether a transition sends something TO SENDER.
+fn sends_back(
     alloc: Global,
     block: &BlockTable,
     process: &ProcessTable,
+    transition: &Transition,
+) -> bool
+    ensures { result ≡ false → flat_map back_statement (statements_of (text_of transition.now)) ≡ [] }
+{
+    let rule = StatementRule::NothingBack;
+    let none = KnownSenders::none(alloc);
+    match in_transition(rule, block, process, &none, transition) {
+        None => false,
+        Some(_) => true,
+    }
+}
+
+fn lost_in_start(
+    alloc: Global,
+    backs: &mut BackTable,
+    block: &BlockTable,
+    process: &ProcessTable,
 ) -> Result<Option<u32>, AllocError>
-    ensures { IfOk result (λ place. Marks place (flat_map (asked Receivers (block_of block.now) (process_of process.now) (begins ∷ [])) (statements_of (process_of process.now).start.text))) }
+    requires backs { Brings (block_of block.now) (process_of process.now) backs.old }
+    ensures place { IfOk result (λ place. Marks place (flat_map (asked Receivers (block_of block.now) (process_of process.now) (begins ∷ [])) (statements_of (process_of process.now).start.text))) }
+    ensures backs { OnOk result (Brings (block_of block.now) (process_of process.now) backs.new) }
 {
     let senders = start_senders(alloc)?;
     let transition = &process.process().start.transition;
-    lost_in_transition(alloc, block, process, senders, transition)
+    let lost = lost_in_transition(alloc, backs, block, process, senders, transition)?;
+    Ok(lost)
 }
 
 /// The place of a signal in an INPUT's transition that nobody gets.
 fn lost_in_input(
     alloc: Global,
+    backs: &mut BackTable,
     block: &BlockTable,
     process: &ProcessTable,
     table: &SenderTable,
     input: &InputPart,
 ) -> Result<Option<u32>, AllocError>
-    requires { Tells (block_of block.now) (process_of process.now) table.now }
-    ensures { IfOk result (λ place. Marks place (in_input (asked Receivers (block_of block.now) (process_of process.now)) (input_of input.now))) }
+    requires tells { Tells (block_of block.now) (process_of process.now) table.now }
+    requires backs { Brings (block_of block.now) (process_of process.now) backs.old }
+    ensures place { IfOk result (λ place. Marks place (in_input (asked Receivers (block_of block.now) (process_of process.now)) (input_of input.now))) }
+    ensures backs { OnOk result (Brings (block_of block.now) (process_of process.now) backs.new) }
 {
     let senders = input_senders(alloc, block, process, table, input)?;
-    lost_in_transition(alloc, block, process, senders, &input.transition)
+    let transition = &input.transition;
+    let lost = lost_in_transition(alloc, backs, block, process, senders, transition)?;
+    Ok(lost)
 }
 
 fn lost_in_inputs(
     alloc: Global,
+    backs: &mut BackTable,
     block: &BlockTable,
     process: &ProcessTable,
     table: &SenderTable,
     inputs: &[&InputPart],
 ) -> Result<Option<u32>, AllocError>
-    requires { Tells (block_of block.now) (process_of process.now) table.now }
-    ensures { IfOk result (λ place. Marks place (flat_map (in_input (asked Receivers (block_of block.now) (process_of process.now))) (map (λ i. input_of i.now) inputs.now))) }
+    requires tells { Tells (block_of block.now) (process_of process.now) table.now }
+    requires backs { Brings (block_of block.now) (process_of process.now) backs.old }
+    ensures place { IfOk result (λ place. Marks place (flat_map (in_input (asked Receivers (block_of block.now) (process_of process.now))) (map (λ i. input_of i.now) inputs.now))) }
+    ensures backs { OnOk result (Brings (block_of block.now) (process_of process.now) backs.new) }
 {
     let mut place = None;
     for input in inputs {
-        place = earlier(place, lost_in_input(alloc, block, process, table, input)?);
+        place = earlier(
+            place,
+            lost_in_input(alloc, backs, block, process, table, input)?,
+        );
     }
     Ok(place)
 }
 
-/// The place of a signal in a connection that nobody gets: TO SENDER is asked with every transition that comes there.
+/// The place of a signal in a connection that nobody gets: TO SENDER is asked with every transition that comes there, and who
+/// may have sent what those begin with is gathered only where something goes there.
+fn lost_in_connection(
+    alloc: Global,
+    backs: &mut BackTable,
+    block: &BlockTable,
+    process: &ProcessTable,
+    table: &SenderTable,
+    rows: &[Reaching],
+    number: usize,
+    transition: &Transition,
+) -> Result<Option<u32>, AllocError>
+    requires table { Tells (block_of block.now) (process_of process.now) table.now }
+    requires rows { All (AreNumbered table.now.names) rows.now }
+    requires backs { Brings (block_of block.now) (process_of process.now) backs.old }
+    ensures place { IfOk result (λ place. Marks place (asked_all Receivers (block_of block.now) (process_of process.now) (origins_at (map row_of rows.now) number) (statements_of (text_of transition.now)))) }
+    ensures backs { OnOk result (Brings (block_of block.now) (process_of process.now) backs.new) }
+{
+    if sends_back(alloc, block, process, transition) {
+        let senders = senders_at(alloc, block, process, table, rows, number)?;
+        let lost = lost_in_transition(alloc, backs, block, process, senders, transition)?;
+        return Ok(lost);
+    }
+    let rule = StatementRule::Receivers;
+    let none = KnownSenders::none(alloc);
+    Ok(in_transition(rule, block, process, &none, transition))
+}
+
 fn lost_in_connections(
     alloc: Global,
+    backs: &mut BackTable,
     block: &BlockTable,
     process: &ProcessTable,
     table: &SenderTable,
@@ -92,14 +157,17 @@ fn lost_in_connections(
 ) -> Result<Option<u32>, AllocError>
     requires table { Tells (block_of block.now) (process_of process.now) table.now }
     requires connections { map connection_of connections.now ≡ (process_of process.now).connections }
-    ensures { IfOk result (λ place. Marks place (flat_map (in_connection (asked Receivers (block_of block.now) (process_of process.now)) (process_of process.now)) (map connection_of connections.now))) }
+    requires backs { Brings (block_of block.now) (process_of process.now) backs.old }
+    ensures place { IfOk result (λ place. Marks place (flat_map (in_connection (asked Receivers (block_of block.now) (process_of process.now)) (process_of process.now)) (map connection_of connections.now))) }
+    ensures backs { OnOk result (Brings (block_of block.now) (process_of process.now) backs.new) }
 {
     let rows = find_reaching(alloc, process, table)?;
     let mut place = None;
     for (number, connection) in connections.iter().enumerate() {
-        let senders = senders_at(alloc, block, process, table, &rows, number)?;
         let transition = &connection.transition;
-        let lost = lost_in_transition(alloc, block, process, senders, transition)?;
+        let lost = lost_in_connection(
+            alloc, backs, block, process, table, &rows, number, transition,
+        )?;
         place = earlier(place, lost);
     }
     Ok(place)
@@ -113,12 +181,13 @@ fn lost_in_process(
     ensures { IfOk result (λ place. Marks place (in_statements (asked Receivers (block_of block.now) (process_of process.now)) (process_of process.now))) }
 {
     let table = find_senders(alloc, block, process)?;
-    let start = lost_in_start(alloc, block, process)?;
-    let inputs = lost_in_inputs(alloc, block, process, &table, process.parts())?;
+    let mut backs = BackTable::new(alloc);
+    let start = lost_in_start(alloc, &mut backs, block, process)?;
+    let inputs = lost_in_inputs(alloc, &mut backs, block, process, &table, process.parts())?;
     let connections = &process.process().connections;
     let beyond = earlier(
         inputs,
-        lost_in_connections(alloc, block, process, &table, connections)?,
+        lost_in_connections(alloc, &mut backs, block, process, &table, connections)?,
     );
     Ok(earlier(start, beyond))
 }

@@ -12,8 +12,8 @@ ghost use Rattle.sdl_sound.specs.Receivers.{answers, answers_all};
 ghost use Rattle.sdl_statements.specs.SenderTables.{stimulus_rows, Tells};
 ghost use Rattle.sdl_statements.specs.Sources.{source_origins, source_rows, AreNumbered, reach_row, row_of, process_rows, origins_at, AreSenders, Asks};
 
-use crate::sender_table::SenderTable;
-use crate::sources::{Sender, Senders, is_marked, mark};
+use crate::sender_table::{Sender, SenderTable};
+use crate::sources::{Senders, is_marked, mark};
 use sdl_ast::{InputPart, Stimulus, Transition};
 use sdl_joins::{find_links, reached_in};
 use sdl_lex::Name;
@@ -127,7 +127,7 @@ impl Gathered {
         ensures { OnOk result ((b : PlainBlock) (p : PlainProcess) (names : _) (f : List ℕ → Bool) → Asks b p names self.old f
             → Asks b p names self.new (λ s. f s && false)) }
     {
-        self.senders.add_nobody()?;
+        self.senders.add(&Sender::Nobody)?;
         Ok(())
     }
 
@@ -148,8 +148,8 @@ impl Gathered {
             (λ s. f s && answers (block_of block.now) (process_of process.now) s stimulus.now.name.name)) }
     {
         if mark(&mut self.asked, row) {
-            let name = stimulus.name.name;
-            self.senders.add_name(alloc, block, process, table, name)?;
+            self.senders
+                .add_row(alloc, block, process, table, stimulus, row)?;
         }
         Ok(())
     }

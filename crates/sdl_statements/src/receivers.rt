@@ -6,9 +6,11 @@ ghost use Rattle.sdl_tables.specs.Scopes.{Marks};
 ghost use Rattle.sdl_sound.specs.Receivers.{party_of, receivers, arrives, lost_sending, lost_action, is_doubtful, doubtful_sending, doubtful_action};
 ghost use Rattle.sdl_sound.specs.Actions.{Origin};
 ghost use Rattle.sdl_statements.specs.Sources.{Knows};
+ghost use Rattle.sdl_statements.specs.Asked.{back_destination, back_action};
 ghost use Rattle.sdl_statements.specs.Founds.{Counts};
 
-use crate::known::{KnownSenders, party_of};
+use crate::known::KnownSenders;
+use crate::sender_table::party_of;
 use sdl_ast::{Action, Destination, Party, Sending};
 use sdl_lex::Name;
 use sdl_tables::{BlockTable, ProcessTable, earlier};
@@ -187,6 +189,28 @@ pub(crate) fn doubtful_in_action(
     match action {
         Action::Task(_) => None,
         Action::Output(output) => doubtful_sendings(block, process, &output.to, &output.sendings),
+        Action::Set(_) => None,
+        Action::Reset(_) => None,
+    }
+}
+
+fn back_to(to: &Option<Destination>) -> Option<u32>
+    ensures { Marks result (back_destination to.now) }
+{
+    match to {
+        None => None,
+        Some(Destination::Sender(at)) => Some(*at),
+        Some(Destination::Process(_)) => None,
+    }
+}
+
+/// The place at which an action says that it goes TO SENDER.
+pub(crate) fn back_in_action(action: &Action) -> Option<u32>
+    ensures { Marks result (back_action (action_of action.now)) }
+{
+    match action {
+        Action::Task(_) => None,
+        Action::Output(output) => back_to(&output.to),
         Action::Set(_) => None,
         Action::Reset(_) => None,
     }

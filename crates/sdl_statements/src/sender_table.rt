@@ -1,14 +1,23 @@
-//! Who may have sent each signal that a process takes: the routes are asked once for each.
-ghost use Rattle.std.specs.Prelude.{◌≡◌, map, IfOk, OnOk, IfSome};
+//! Who may have sent each signal and timer that a process takes: the routes are asked once for each.
+ghost use Rattle.std.specs.Prelude.{◌≡◌, ◌∷◌, [], map, IfOk, OnOk, IfSome, List, ℕ};
 ghost use Rattle.sdl_ast.specs.Plain.{PlainBlock, PlainProcess};
 ghost use Rattle.sdl_ast.specs.Views.{process_of, block_of};
+ghost use Rattle.sdl_tables.specs.Names.{number_of};
+ghost use Rattle.sdl_sound.specs.Receivers.{party_of};
+ghost use Rattle.sdl_statements.specs.declared.sender_table.Sender.TheVariants as sent_by;
 ghost use Rattle.sdl_statements.specs.SenderTables.{party_number, numbered, AreSendersOf, stimulus_rows, Tells};
 
-use crate::known::party_of;
 use sdl_ast::{Identifier, InputPart, Party, Stimulus};
 use sdl_lex::Name;
 use sdl_tables::{BlockTable, NameTable, ProcessTable};
 use std::alloc::{AllocError, Global};
+
+/// A process as a party.
+pub(crate) fn party_of(process: &ProcessTable) -> Party
+    ensures { result ≡ party_of (process_of process.now) }
+{
+    Party::Process(process.process().name)
+}
 
 /// A party with its number; two with one number are the same party.
 #[derive(Clone, Copy)]
@@ -18,7 +27,16 @@ pub(crate) struct Numbered {
     pub number: Option<usize>,
 }
 
-fn party_number(block: &BlockTable, party: &Party) -> Option<usize>
+/// Who sent what a transition begins with.
+#[derive(Clone, Copy)]
+pub(crate) enum Sender {
+    /// Nobody: it is START or a timer.
+    Nobody,
+    /// A party, by a route.
+    Party(Numbered),
+}
+
+pub(crate) fn party_number(block: &BlockTable, party: &Party) -> Option<usize>
     ensures { result ≡ party_number (block_of block.now) party.now }
 {
     match party {
@@ -31,38 +49,49 @@ fn number_parties(
     alloc: Global,
     block: &BlockTable,
     parties: &[Party],
-) -> Result<Vec<Numbered>, AllocError>
-    ensures { IfOk result (λ v. v.items ≡ map (numbered (block_of block.now)) parties.now) }
+) -> Result<Vec<Sender>, AllocError>
+    ensures { IfOk result (λ v. v.items ≡ map (λ q. sent_by.Party (numbered (block_of block.now) q)) parties.now) }
 {
     let mut rows = Vec::new(alloc);
     for party in parties {
         let number = party_number(block, party);
-        rows.push(Numbered {
+        rows.push(Sender::Party(Numbered {
             party: *party,
             number,
-        })?;
+        }))?;
     }
     Ok(rows)
 }
 
-/// Who may have sent a signal to a process, each with its number.
-pub(crate) fn numbered_senders(
+pub(crate) fn nobody(alloc: Global) -> Result<Vec<Sender>, AllocError>
+    ensures { IfOk result (λ v. v.items ≡ sent_by.Nobody ∷ []) }
+{
+    Ok(vec![in alloc; Sender::Nobody]?)
+}
+
+/// Who may have sent a signal to a process: nobody, where it is a timer.
+pub(crate) fn senders_of(
     alloc: Global,
     block: &BlockTable,
     process: &ProcessTable,
-    signal: Name,
-) -> Result<Vec<Numbered>, AllocError>
-    ensures { IfOk result (λ v. AreSendersOf (block_of block.now) (process_of process.now) signal v.items) }
+    name: Name,
+) -> Result<Vec<Sender>, AllocError>
+    ensures { IfOk result (λ v. AreSendersOf (block_of block.now) (process_of process.now) name v.items) }
 {
+    if process.timers().contains(name) {
+        let nobody = nobody(alloc)?;
+        return Ok(nobody);
+    }
     let own = party_of(process);
-    number_parties(alloc, block, block.senders(&own, signal))
+    let senders = number_parties(alloc, block, block.senders(&own, name))?;
+    Ok(senders)
 }
 
-/// Who may have sent some signals to a process.
+/// Who may have sent some signals and timers to a process.
 #[derive(Drop)]
 pub(crate) struct SenderTable {
     names: NameTable,
-    rows: Vec<Vec<Numbered>>,
+    rows: Vec<Vec<Sender>>,
 }
 
 impl SenderTable {
@@ -95,11 +124,12 @@ impl SenderTable {
         Ok(rows)
     }
 
-    /// Who may have sent a signal, if that was asked.
-    pub(crate) fn get(&self, signal: Name) -> Option<&[Numbered]>
-        ensures { IfSome result (λ row. (b : PlainBlock) (p : PlainProcess) → Tells b p self.now → AreSendersOf b p signal row.now) }
+    /// The row with a number.
+    pub(crate) fn get(&self, number: Option<usize>) -> Option<&[Sender]>
+        ensures { IfSome result (λ row. (b : PlainBlock) (p : PlainProcess) (name : List ℕ) → Tells b p self.now
+            → number ≡ number_of self.now.names name → AreSendersOf b p name row.now) }
     {
-        let number = self.names.number(signal)?;
+        let number = number?;
         match self.rows.get(number) {
             Some(row) => Some(row.as_slice()),
             None => None,
@@ -119,7 +149,7 @@ impl SenderTable {
         if self.names.contains(signal.name) {
             return Ok(());
         }
-        let row = numbered_senders(alloc, block, process, signal.name)?;
+        let row = senders_of(alloc, block, process, signal.name)?;
         self.rows.push(row)?;
         self.names.add(signal)?;
         Ok(())

@@ -5,25 +5,15 @@ ghost use Rattle.std.specs.List.{list_all};
 ghost use Rattle.sdl_ast.specs.Plain.{PlainBlock, PlainProcess};
 ghost use Rattle.sdl_ast.specs.Views.{process_of, block_of};
 ghost use Rattle.sdl_sound.specs.Actions.{begins};
-ghost use Rattle.sdl_sound.specs.Receivers.{party_of, carries, senders, answers};
-ghost use Rattle.sdl_statements.specs.SenderTables.{IsNumbered, Tells};
-ghost use Rattle.sdl_statements.specs.declared.sources.Sender.TheVariants.{Nobody};
-ghost use Rattle.sdl_statements.specs.Sources.{sender_of, is_marked, AreSenders, Gathers, Marks};
+ghost use Rattle.sdl_sound.specs.Receivers.{party_of, carries, answers};
+ghost use Rattle.sdl_tables.specs.Names.{number_of};
+ghost use Rattle.sdl_statements.specs.SenderTables.{IsNumbered, IsSender, sender_of, gets_back, Tells};
+ghost use Rattle.sdl_statements.specs.Sources.{is_marked, AreSenders, Gathers, Marks};
 
-use crate::sender_table::{Numbered, SenderTable, numbered_senders};
-use sdl_ast::Party;
-use sdl_lex::Name;
+use crate::sender_table::{Numbered, Sender, SenderTable, nobody, senders_of};
+use sdl_ast::Stimulus;
 use sdl_tables::{BlockTable, ProcessTable};
 use std::alloc::{AllocError, Global};
-
-/// Who sent what a transition begins with.
-#[derive(Clone, Copy)]
-pub(crate) enum Sender {
-    /// Nobody: it is START or a timer.
-    Nobody,
-    /// A party, by a route.
-    Party(Party),
-}
 
 pub(crate) fn is_marked(marks: &[bool], number: usize) -> bool
     ensures { result ≡ is_marked marks.now number }
@@ -71,8 +61,19 @@ impl Senders {
         Ok(Senders { seen, list })
     }
 
+    /// One more party, unless it is there.
+    fn add_party(&mut self, party: &Numbered) -> Result<(), AllocError>
+        ensures { OnOk result ((b : PlainBlock) (p : PlainProcess) (f : List ℕ → Bool) → IsNumbered b party.now → Gathers b p self.old f
+            → Gathers b p self.new (λ s. f s && carries b (party_of p) party.now.party s)) }
+    {
+        if mark(&mut self.seen, party.number) {
+            self.list.push(Sender::Party(*party))?;
+        }
+        Ok(())
+    }
+
     /// Puts a party at the end, or nobody.
-    fn put(&mut self, party: Option<Party>) -> Result<(), AllocError>
+    fn put(&mut self, party: Option<Numbered>) -> Result<(), AllocError>
         ensures list { OnOk result (self.new.list.items ≡ self.old.list.items ++ sender_of party ∷ []) }
         ensures seen { self.new.seen ≡ self.old.seen }
     {
@@ -84,29 +85,21 @@ impl Senders {
         Ok(())
     }
 
-    /// START or a timer.
-    pub(crate) fn add_nobody(&mut self) -> Result<(), AllocError>
-        ensures { OnOk result ((b : PlainBlock) (p : PlainProcess) (f : List ℕ → Bool) → Gathers b p self.old f
-            → Gathers b p self.new (λ s. f s && false)) }
+    /// One more: a party, or nobody.
+    pub(crate) fn add(&mut self, sender: &Sender) -> Result<(), AllocError>
+        ensures { OnOk result ((b : PlainBlock) (p : PlainProcess) (f : List ℕ → Bool) → IsSender b sender.now → Gathers b p self.old f
+            → Gathers b p self.new (λ s. f s && gets_back b p s sender.now)) }
     {
-        self.put(None)?;
-        Ok(())
-    }
-
-    /// One more party, unless it is there.
-    fn add(&mut self, sender: &Numbered) -> Result<(), AllocError>
-        ensures { OnOk result ((b : PlainBlock) (p : PlainProcess) (f : List ℕ → Bool) → IsNumbered b sender.now → Gathers b p self.old f
-            → Gathers b p self.new (λ s. f s && carries b (party_of p) sender.now.party s)) }
-    {
-        if mark(&mut self.seen, sender.number) {
-            self.put(Some(sender.party))?;
+        match sender {
+            Sender::Nobody => self.put(None)?,
+            Sender::Party(party) => self.add_party(party)?,
         }
         Ok(())
     }
 
-    fn add_all(&mut self, senders: &[Numbered]) -> Result<(), AllocError>
-        ensures { OnOk result ((b : PlainBlock) (p : PlainProcess) (f : List ℕ → Bool) → All (IsNumbered b) senders.now → Gathers b p self.old f
-            → Gathers b p self.new (λ s. f s && list_all (λ x. carries b (party_of p) x.party s) senders.now)) }
+    fn add_all(&mut self, senders: &[Sender]) -> Result<(), AllocError>
+        ensures { OnOk result ((b : PlainBlock) (p : PlainProcess) (f : List ℕ → Bool) → All (IsSender b) senders.now → Gathers b p self.old f
+            → Gathers b p self.new (λ s. f s && list_all (gets_back b p s) senders.now)) }
     {
         for sender in senders {
             self.add(sender)?;
@@ -114,57 +107,31 @@ impl Senders {
         Ok(())
     }
 
-    /// Who may have sent a signal to a process.
-    fn add_signal(
+    /// Who may have sent a signal to a process, or a timer, whose row has this number.
+    pub(crate) fn add_row(
         &mut self,
         alloc: Global,
         block: &BlockTable,
         process: &ProcessTable,
         table: &SenderTable,
-        signal: Name,
+        stimulus: &Stimulus,
+        row: Option<usize>,
     ) -> Result<(), AllocError>
-        requires { Tells (block_of block.now) (process_of process.now) table.now }
+        requires tells { Tells (block_of block.now) (process_of process.now) table.now }
+        requires row { row ≡ number_of table.now.names stimulus.now.name.name }
         ensures { OnOk result ((f : List ℕ → Bool) → Gathers (block_of block.now) (process_of process.now) self.old f
             → Gathers (block_of block.now) (process_of process.now) self.new
-            (λ s. f s && list_all (λ q. carries (block_of block.now) (party_of (process_of process.now)) q s)
-            (senders (block_of block.now) (party_of (process_of process.now)) signal))) }
+            (λ s. f s && answers (block_of block.now) (process_of process.now) s stimulus.now.name.name)) }
     {
-        match table.get(signal) {
-            Some(row) => self.add_all(row)?,
+        match table.get(row) {
+            Some(senders) => self.add_all(senders)?,
             None => {
-                let row = numbered_senders(alloc, block, process, signal)?;
-                self.add_all(&row)?;
+                let senders = senders_of(alloc, block, process, stimulus.name.name)?;
+                self.add_all(&senders)?;
             }
         }
         Ok(())
     }
-
-    /// Who may have sent a signal to a process, or a timer.
-    pub(crate) fn add_name(
-        &mut self,
-        alloc: Global,
-        block: &BlockTable,
-        process: &ProcessTable,
-        table: &SenderTable,
-        name: Name,
-    ) -> Result<(), AllocError>
-        requires { Tells (block_of block.now) (process_of process.now) table.now }
-        ensures { OnOk result ((f : List ℕ → Bool) → Gathers (block_of block.now) (process_of process.now) self.old f
-            → Gathers (block_of block.now) (process_of process.now) self.new (λ s. f s && answers (block_of block.now) (process_of process.now) s name)) }
-    {
-        if process.timers().contains(name) {
-            self.add_nobody()?;
-        } else {
-            self.add_signal(alloc, block, process, table, name)?;
-        }
-        Ok(())
-    }
-}
-
-fn nobody(alloc: Global) -> Result<Vec<Sender>, AllocError>
-    ensures { IfOk result (λ v. v.items ≡ Nobody ∷ []) }
-{
-    Ok(vec![in alloc; Sender::Nobody]?)
 }
 
 /// Who may have sent what START begins with: nobody.

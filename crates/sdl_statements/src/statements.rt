@@ -16,7 +16,7 @@ ghost use Rattle.sdl_sound.specs.Parts.{statement_parts, question_of, decision_p
 ghost use Rattle.sdl_statements.specs.Asked.{asked, asked_all, asks_origin};
 
 use crate::known::KnownSenders;
-use crate::receivers::{doubtful_in_action, lost_in_action};
+use crate::receivers::{back_in_action, doubtful_in_action, lost_in_action};
 use sdl_ast::{
     Action, Connection, Decision, End, Expression, InputPart, Range, Statement, Transition,
 };
@@ -46,6 +46,8 @@ pub(crate) enum StatementRule {
     Answers,
     /// Each divisor is a literal of 1 or more.
     Divisors,
+    /// Nothing goes TO SENDER: no rule of the language, but where it holds nobody has to know who that is.
+    NothingBack,
 }
 
 fn in_action(
@@ -65,6 +67,7 @@ fn in_action(
         StatementRule::OneReceiver => doubtful_in_action(block, process, action),
         StatementRule::Answers => None,
         StatementRule::Divisors => bad_in_action(action),
+        StatementRule::NothingBack => back_in_action(action),
     }
 }
 
@@ -79,6 +82,7 @@ fn in_question(rule: StatementRule, process: &ProcessTable, decision: &Decision)
         StatementRule::OneReceiver => None,
         StatementRule::Answers => unanswered_decision(process, decision),
         StatementRule::Divisors => bad_in(&decision.question),
+        StatementRule::NothingBack => None,
     }
 }
 
@@ -98,6 +102,7 @@ fn in_ranges(
         StatementRule::OneReceiver => None,
         StatementRule::Answers => None,
         StatementRule::Divisors => None,
+        StatementRule::NothingBack => None,
     }
 }
 
@@ -111,6 +116,7 @@ fn at_end(rule: StatementRule, process: &ProcessTable, end: End) -> Option<u32>
         StatementRule::OneReceiver => None,
         StatementRule::Answers => None,
         StatementRule::Divisors => None,
+        StatementRule::NothingBack => None,
     }
 }
 

@@ -3,9 +3,11 @@ use Rattle.std.specs.Option.{option_map}
 use Rattle.std.proofs.lemmas.Option.{slice_get-get_or}
 use Rattle.sdl_ast.specs.Plain.{PlainConnection}
 use Rattle.sdl_ast.specs.Views.{block_of, process_of, connection_of}
-use Rattle.sdl_sound.specs.Actions.{connection_origins, in_connection}
-use Rattle.sdl_statements.specs.Asked.{asked}
-use Rattle.sdl_statements.specs.Sources.{Row, AreSenders, row_of, origins_at}
+use Rattle.sdl_tables.specs.Scopes.{Marks}
+use Rattle.sdl_sound.specs.Statements.{statements_of}
+use Rattle.sdl_sound.specs.Actions.{Origin, in_connection}
+use Rattle.sdl_statements.specs.Asked.{asked, asked_all}
+use Rattle.sdl_statements.specs.Sources.{Row, row_of, origins_at}
 use Rattle.sdl_statements.specs.declared.reaching.Reaching.{Reaching}
 use Rattle.sdl_statements.specs.declared.statements.StatementRule.TheVariants.{Receivers}
 use Rattle.sdl_statements.proofs.Coming.{origins_at-is}
@@ -24,7 +26,10 @@ loop-number-preserved c =
     ∙ (slice_get-map connection_of c.args.connections.now n
     ∙ ap (option_map connection_of) (slice_get-get_or c.args.connections.now n item c.loop-number-test.true ∙ ap Some (sym c.index-connections-number.is))) in
     let rows = ap (λ (rs : List Reaching). origins_at (map row_of rs) n) c.deref.ensures.value ∙ ap (λ (rs : List Row). origins_at rs n) c.in_ok-rows.ensures.rows in
-    let from = subst (AreSenders b p c.in_ok-senders.senders.items) (rows ∙ origins_at-is p n (connection_of item) here) c.in_ok-senders.ensures in
-    let lost = c.in_ok-lost.ensures (connection_origins p (connection_of item)) from in
-    Marks-more (in_connection (asked Receivers b p) p) connection_of c.args.connections.now n item c.loop-number.place c.in_ok-lost.lost
-    c.earlier-place.result c.loop-number-test.true c.index-connections-number.is c.loop-number.invariant lost c.earlier-place.ensures
+    let origins = rows ∙ origins_at-is p n (connection_of item) here in
+    let lost : Marks c.in_ok-lost.lost (in_connection (asked Receivers b p) p (connection_of item)) =
+    subst (λ (os : List Origin). Marks c.in_ok-lost.lost (asked_all Receivers b p os (statements_of (connection_of item).text))) origins c.in_ok-lost.ensures.place in (
+      Marks-more (in_connection (asked Receivers b p) p) connection_of c.args.connections.now n item c.loop-number.place c.in_ok-lost.lost
+          c.earlier-place.result c.loop-number-test.true c.index-connections-number.is c.loop-number.invariant.0 lost c.earlier-place.ensures,
+      c.in_ok-lost.ensures.backs,
+    )

@@ -5,9 +5,10 @@ use Rattle.sdl_statements.specs.Asked.{asked}
 use Rattle.sdl_statements.specs.declared.statements.StatementRule.TheVariants.{Receivers}
 use Rattle.sdl_tables.specs.Scopes.{Marks}
 use Rattle.sdl_ast.specs.Views.{block_of, connection_of, process_of}
+use Rattle.sdl_statements.specs.Backs.{Brings}
 use Rattle.sdl_statements.proofs.lost.lost_in_connections.Given as goal
 
 abbrev pub invariant-loop-number : goal.invariant-loop-number
 invariant-loop-number l =
     let p = process_of l.process in
-    Marks l.place (flat_map (in_connection (asked Receivers (block_of l.block) p) p) (map connection_of (take l.number l.connections)))
+    (Marks l.place (flat_map (in_connection (asked Receivers (block_of l.block) p) p) (map connection_of (take l.number l.connections)))) × Brings (block_of l.block) p l.backs

@@ -5,8 +5,10 @@ use Rattle.sdl_statements.specs.Asked.{asked}
 use Rattle.sdl_statements.specs.declared.statements.StatementRule.TheVariants.{Receivers}
 use Rattle.sdl_tables.specs.Scopes.{Marks}
 use Rattle.sdl_ast.specs.Views.{block_of, input_of, process_of}
+use Rattle.sdl_statements.specs.Backs.{Brings}
 use Rattle.sdl_statements.proofs.lost.lost_in_inputs.Given as goal
 
 abbrev pub invariant-loop-input : goal.invariant-loop-input
 invariant-loop-input l =
-    Marks l.place (flat_map (in_input (asked Receivers (block_of l.block) (process_of l.process))) (map (λ i. input_of i.now) (take l.input-index l.inputs)))
+    (Marks l.place (flat_map (in_input (asked Receivers (block_of l.block) (process_of l.process))) (map (λ i. input_of i.now) (take l.input-index l.inputs))))
+    × Brings (block_of l.block) (process_of l.process) l.backs

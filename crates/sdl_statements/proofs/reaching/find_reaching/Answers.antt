@@ -1,4 +1,4 @@
-use Rattle.std.proofs.Common.{◌≡◌, ◌∙◌, ◌+◌, ◌∷◌, [], ◌++◌, List, map, take, get_or, ap, sym, subst}
+use Rattle.std.proofs.Common.{◌≡◌, ◌∙◌, ◌+◌, ◌∷◌, [], ◌++◌, map, take, ap, sym, subst}
 use Rattle.std.specs.Prelude.{All}
 use Rattle.std.specs.Borrow.{Bor}
 use Rattle.std.proofs.lemmas.List.{take_more, map-append}
@@ -8,7 +8,6 @@ use Rattle.sdl_ast.specs.Views.{process_of, input_of}
 use Rattle.sdl_ast.specs.Plain.{PlainInput}
 use Rattle.sdl_sound.specs.Actions.{begins}
 use Rattle.sdl_statements.specs.Sources.{Row, AreNumbered, reach_row, row_of, input_row}
-use Rattle.sdl_statements.specs.declared.reaching.Reaching.{Reaching}
 use Rattle.sdl_statements.proofs.reaching.find_reaching.Goals as goal
 
 pub loop-input-preserved : goal.loop-input-preserved

@@ -1,7 +1,7 @@
 use Rattle.std.proofs.Common.{◌≡◌, ◌∙◌, ◌&&◌, ◌+◌, true, false, map, take, ap, sym, subst, take_all, Bool, List}
 use Rattle.sdl_ast.specs.Views.{block_of, process_of}
 use Rattle.sdl_sound.specs.Receivers.{answers_all}
-use Rattle.sdl_statements.specs.Sources.{AreSenders, Asks, row_of, origins_at, source_origins, is_marked}
+use Rattle.sdl_statements.specs.Sources.{Asks, row_of, origins_at, source_origins, is_marked}
 use Rattle.sdl_statements.specs.declared.reaching.Reaching.{Reaching}
 use Rattle.sdl_statements.specs.declared.reaching.Gathered.{Gathered}
 use Rattle.sdl_statements.proofs.Gathering.{more_origins}
@@ -39,9 +39,10 @@ loop-row-preserved c =
     ]
 
 pub returns : goal.returns
-unfolding AreSenders
-returns c = λ s.
+returns c =
     let b = block_of c.args.block.now in
     let p = process_of c.args.process.now in
-    let items = take_all c.loop-row.row-index c.args.rows.now c.loop-row-test.false in
-    c.loop-row.invariant.gathers.told s ∙ ap (λ (l : List Reaching). answers_all b p (origins_at (map row_of l) c.args.number) s) items
+    let items = take_all c.loop-row.row-index c.args.rows.now c.loop-row-test.false in record {
+      told = λ s. c.loop-row.invariant.gathers.told s ∙ ap (λ (l : List Reaching). answers_all b p (origins_at (map row_of l) c.args.number) s) items;
+      numbered = c.loop-row.invariant.gathers.numbered;
+    }

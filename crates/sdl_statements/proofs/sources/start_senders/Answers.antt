@@ -1,9 +1,13 @@
-use Rattle.std.proofs.Common.{List, ap}
+use Rattle.std.proofs.Common.{List, sym, ap, subst}
+use Rattle.std.specs.Prelude.{All}
 use Rattle.std.specs.List.{list_all}
-use Rattle.sdl_statements.specs.Sources.{AreSenders, gets_back}
-use Rattle.sdl_statements.specs.declared.sources.Sender.{Sender}
+use Rattle.sdl_statements.specs.SenderTables.{IsSender, gets_back}
+use Rattle.sdl_statements.specs.declared.sender_table.Sender.{Sender}
+use Rattle.sdl_statements.proofs.Gathering.{nobody_numbered}
 use Rattle.sdl_statements.proofs.sources.start_senders.Goals as goal
 
 pub returns : goal.returns
-unfolding AreSenders
-returns c = λ b p s. ap (λ (l : List Sender). list_all (gets_back b p s) l) c.in_ok-senders.ensures
+returns c = λ b p. record {
+  told = λ s. ap (λ (l : List Sender). list_all (gets_back b p s) l) c.in_ok-senders.ensures;
+  numbered = subst (All (IsSender b)) (sym c.in_ok-senders.ensures) (nobody_numbered b);
+}

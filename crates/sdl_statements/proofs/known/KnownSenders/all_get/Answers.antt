@@ -1,8 +1,10 @@
-use Rattle.std.proofs.Common.{◌∙◌, sym, ap, List}
+use Rattle.std.proofs.Common.{◌∙◌, sym, ap, subst, true≢false, List}
+use Rattle.std.specs.Prelude.{All}
 use Rattle.std.specs.List.{list_all}
 use Rattle.sdl_ast.specs.Views.{block_of, process_of}
-use Rattle.sdl_statements.specs.Sources.{AreAlike, AreSenders, gets_back}
-use Rattle.sdl_statements.specs.declared.sources.Sender.{Sender}
+use Rattle.sdl_statements.specs.SenderTables.{IsSender, gets_back}
+use Rattle.sdl_statements.specs.Sources.{AreAlike}
+use Rattle.sdl_statements.specs.declared.sender_table.Sender.{Sender}
 use Rattle.sdl_statements.proofs.known.KnownSenders.all_get.Goals as goal
 
 pub returns-then-contains : goal.returns-then-contains
@@ -14,10 +16,10 @@ unfolding AreAlike
 returns-then-contains-2 c = λ os k. sym (k.lost c.args.signal (sym c.contains-2.ensures ∙ c.if-contains-2.true))
 
 pub returns : goal.returns
-unfolding AreSenders
 returns c = λ os k.
     let b = block_of c.args.block.now in
     let p = process_of c.args.process.now in
-    c.all_get_back.ensures
+    c.all_get_back.ensures (λ q n number there. absurd (true≢false (sym there)))
+    (subst (All (IsSender b)) (sym c.deref.ensures.value) k.senders.numbered)
     ∙ (ap (λ (l : List Sender). list_all (gets_back b p c.args.signal) l) c.deref.ensures.value
-    ∙ k.senders c.args.signal)
+    ∙ k.senders.told c.args.signal)

@@ -6,10 +6,10 @@ use Rattle.sdl_statements.proofs.Gathering.{not_is}
 use Rattle.sdl_statements.proofs.RowsAdded.{asks_new, asks_there}
 use Rattle.sdl_statements.proofs.reaching.Gathered.add_row.Goals as goal
 
-pub returns-in_ok-add_name : goal.returns-in_ok-add_name
-returns-in_ok-add_name c = λ f g.
+pub returns-in_ok-add_row : goal.returns-in_ok-add_row
+returns-in_ok-add_row c = λ f g.
     asks_new (block_of c.args.block.now) (process_of c.args.process.now) c.args.table.now.names c.args.self.now _ f c.args.stimulus.now.name.name c.args.row
-    c.requires.row c.mark.ensures.marks (c.in_ok-add_name.ensures f g.gathers) g
+    c.requires.row c.mark.ensures.marks (c.in_ok-add_row.ensures f g.gathers) g
 
 pub returns-else-mark : goal.returns-else-mark
 returns-else-mark c = λ f g.

@@ -1,4 +1,4 @@
-use Rattle.std.proofs.Common.{false, ◌&&◌, ◌∙◌, List, ℕ, map, sym, ap}
+use Rattle.std.proofs.Common.{false, ◌&&◌, ◌∙◌, List, map, sym, ap}
 use Rattle.sdl_ast.specs.declared.tree.Stimulus.{Stimulus}
 use Rattle.sdl_ast.specs.Views.{block_of, process_of, stimulus_of}
 use Rattle.sdl_sound.specs.Actions.{takes}

@@ -1,18 +1,18 @@
-use Rattle.std.proofs.Common.{false, sym, refl, subst, Bool, Vec, Global}
-use Rattle.std.specs.Option.{option_map_or}
-use Rattle.sdl_statements.specs.Sources.{is_marked, Marks}
-use Rattle.sdl_statements.proofs.Gathering.{gather_party, gather_there, not_is}
+use Rattle.std.proofs.Common.{◌&&◌, false, sym, ap, subst}
+use Rattle.sdl_sound.specs.Receivers.{party_of, carries}
+use Rattle.sdl_statements.specs.SenderTables.{IsSender, gets_back}
+use Rattle.sdl_statements.specs.declared.sender_table.Sender.{Sender}
+use Rattle.sdl_statements.proofs.Gathering.{gather_same, gather_nobody}
 use Rattle.sdl_statements.proofs.sources.Senders.add.Goals as goal
 
-pub returns-in_ok-put : goal.returns-in_ok-put
-returns-in_ok-put c = λ b p f number g.
-    let o = c.args.sender.now.number in
-    gather_party b p c.args.self.now c.put.new.self f c.args.sender.now.party o number
-    (subst (λ (v : Vec Bool Global). Marks o c.args.self.now.seen.items v.items) (sym c.put.ensures.seen) c.mark.ensures.marks)
-    c.in_ok-put.ensures.list g
+pub returns-in_ok-put-in-Nobody : goal.returns-in_ok-put-in-Nobody
+returns-in_ok-put-in-Nobody c = λ b p f sender g.
+    gather_same b p c.put.new.self (λ s. f s && false) (λ s. f s && gets_back b p s c.args.sender.now)
+    (λ s. ap (λ (x : Sender). f s && gets_back b p s x) (sym c.in-Nobody.is))
+    (gather_nobody b p c.args.self.now c.put.new.self f c.in_ok-put-in-Nobody.ensures.list c.put.ensures.seen g)
 
-pub returns-else-mark : goal.returns-else-mark
-returns-else-mark c = λ b p f number g.
-    let o = c.args.sender.now.number in
-    gather_there b p c.args.self.now _ f c.args.sender.now.party o number c.mark.ensures.marks
-    (not_is c.mark.result (option_map_or (is_marked c.args.self.now.seen.items) o false) c.mark.ensures.new c.if-mark.false) refl g
+pub returns-in_ok-add_party-in-Party : goal.returns-in_ok-add_party-in-Party
+returns-in_ok-add_party-in-Party c = λ b p f sender g.
+    gather_same b p c.add_party.new.self (λ s. f s && carries b (party_of p) c.in-Party.party.party s) (λ s. f s && gets_back b p s c.args.sender.now)
+    (λ s. ap (λ (x : Sender). f s && gets_back b p s x) (sym c.in-Party.is))
+    (c.in_ok-add_party-in-Party.ensures b p f (subst (IsSender b) c.in-Party.is sender) g)

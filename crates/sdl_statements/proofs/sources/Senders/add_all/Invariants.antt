@@ -2,12 +2,11 @@ use Rattle.std.proofs.Common.{◌&&◌, Bool, List, ℕ, take}
 use Rattle.std.specs.Prelude.{All}
 use Rattle.std.specs.List.{list_all}
 use Rattle.sdl_ast.specs.Plain.{PlainBlock, PlainProcess}
-use Rattle.sdl_sound.specs.Receivers.{party_of, carries}
-use Rattle.sdl_statements.specs.SenderTables.{IsNumbered}
+use Rattle.sdl_statements.specs.SenderTables.{IsSender, gets_back}
 use Rattle.sdl_statements.specs.Sources.{Gathers}
 use Rattle.sdl_statements.proofs.sources.Senders.add_all.Given as goal
 
 abbrev pub invariant-loop-sender : goal.invariant-loop-sender
 invariant-loop-sender l =
-    (b : PlainBlock) (p : PlainProcess) (f : List ℕ → Bool) → All (IsNumbered b) l.senders → Gathers b p l.initial.self f
-    → Gathers b p l.self (λ s. f s && list_all (λ x. carries b (party_of p) x.party s) (take l.sender-index l.senders))
+    (b : PlainBlock) (p : PlainProcess) (f : List ℕ → Bool) → All (IsSender b) l.senders → Gathers b p l.initial.self f
+    → Gathers b p l.self (λ s. f s && list_all (gets_back b p s) (take l.sender-index l.senders))
