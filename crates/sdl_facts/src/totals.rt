@@ -51,16 +51,6 @@ fn target(targets: &[usize], number: usize) -> usize
     }
 }
 
-fn zeros(alloc: Global, count: usize) -> Result<Vec<u32>, AllocError>
-    ensures { IfOk result (λ ns. ns.items ≡ replicate count 0) }
-{
-    let mut numbers = Vec::new(alloc);
-    for _ in 0..count {
-        numbers.push(0)?;
-    }
-    Ok(numbers)
-}
-
 /// What the connections count, each at its place; 0 elsewhere.
 fn known_counts(
     alloc: Global,
@@ -76,7 +66,7 @@ fn known_counts(
     ensures few { IfOk result (λ ns. AreWithin 512 ns.items) }
     ensures known { IfOk result (λ ns. (n : ℕ) → Contains layout.now.numbers.now n → number_at ns.items (places_by layout.now.targets.now n) ≡ measured counted measures.now n) }
 {
-    let mut known = zeros(alloc, length)?;
+    let mut known = vec![in alloc; 0; length]?;
     for number in layout.numbers {
         known[target(layout.targets, *number)] = measured(counted, measures, *number);
     }
