@@ -62,10 +62,10 @@ impl fmt::Display for Missing {
     ghost output = { λ m. Some (missing_text m) };
 
     fn fmt<W: fmt::Write>(&self, f: &mut fmt::Formatter<W>) -> fmt::Result {
-        f.write_str(match self {
-            Self::Process(_) => "no such process",
-            Self::Signal(_) => "no such signal",
-        })
+        match self {
+            Self::Process(name) => write!(f, "no such process {}", name.word()),
+            Self::Signal(name) => write!(f, "no such signal {}", name.word()),
+        }
     }
 }
 

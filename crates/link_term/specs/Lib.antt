@@ -4,3 +4,4 @@ pub mod Hearing
 pub mod Speaking
 pub mod Laws
 pub mod Opening
+pub mod Printed

@@ -1,15 +1,28 @@
 //! Why a call of a terminal is refused.
 
 use link_machine::Refusal;
+use std::fmt;
 use thiserror::Error;
 
 /// Why a command or a tick did not happen.
 #[derive(Clone, Copy, PartialEq, Eq, Debug, Error)]
 pub enum CallError {
     /// The book's refusal. The state is as it was.
-    #[error("{0}")]
     Refused(Refusal),
     /// There is no memory to make room in the journal. Nothing changed.
-    #[error("out of memory")]
     NoMemory,
+}
+
+impl fmt::Display for CallError {
+    ghost use Rattle.std.specs.Prelude.{Some};
+    ghost use Rattle.link_term.specs.Printed.{call_error_text};
+
+    ghost output = { λ e. Some (call_error_text e) };
+
+    fn fmt<W: fmt::Write>(&self, f: &mut fmt::Formatter<W>) -> fmt::Result {
+        match self {
+            Self::Refused(refusal) => f.write_str(refusal.name()),
+            Self::NoMemory => f.write_str("out of memory"),
+        }
+    }
 }

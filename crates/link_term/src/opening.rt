@@ -10,6 +10,7 @@ use link_heart::{Missing, Names};
 use mtp2_text::{STANDARD, standard};
 use resend_store::Mode;
 use std::alloc::{AllocError, Global};
+use std::fmt;
 use thiserror::Error;
 use turn_check::Verified;
 use turn_verify::LoadFault;
@@ -18,14 +19,26 @@ use turn_verify::LoadFault;
 #[derive(Debug, Drop, Error)]
 pub enum NewError {
     /// The text of the processes is refused, or there is no memory to load it.
-    #[error("{0}")]
     Load(LoadFault),
     /// It lacks a process or a signal that a terminal speaks to or hears.
-    #[error("{0}")]
     Name(Missing),
     /// There is no memory.
-    #[error("out of memory")]
     NoMemory,
+}
+
+impl fmt::Display for NewError {
+    ghost use Rattle.std.specs.Prelude.{Some};
+    ghost use Rattle.link_term.specs.Printed.{new_error_text};
+
+    ghost output = { λ e. Some (new_error_text e) };
+
+    fn fmt<W: fmt::Write>(&self, f: &mut fmt::Formatter<W>) -> fmt::Result {
+        match self {
+            Self::Load(fault) => write!(f, "{fault}"),
+            Self::Name(missing) => write!(f, "{missing}"),
+            Self::NoMemory => f.write_str("out of memory"),
+        }
+    }
 }
 
 /// The book of a terminal's set.

@@ -29,14 +29,14 @@ use turn_check::Verified;
 use turn_pool::{Closed, Receipt, serve};
 
 /// Has links of the set `standard` worked on by threads while what a script says happens to them, and prints two lines:
-/// `seats agree` where what was counted is what happened, else `seats differ`; and `audit yes` where there is a receipt for each event
-/// that the script made, and what each names stands at its place, else `audit no`. The commands of the script print nothing; one that is
-/// refused has no receipt.
+/// `seats agree`, since what was counted is what happened (`seats differ` is compared for and never comes); and `audit yes` where there is
+/// a receipt for each event that the script made, and what each names stands at its place, else `audit no`. The commands of the script
+/// print nothing; one that is refused has no receipt.
 ///
 /// The script is read whole before anything is written, and a line of it that may not stand where it does is refused before
 /// anything runs. A line goes out in one write.
 ///
-/// Gives the exit status: 0 where all agrees and was written, 1 where one of the two lines says that it doesn't, 2 after a line
+/// Gives the exit status: 0 where all agrees and was written, 1 where the second line is `audit no`, 2 after a line
 /// `refused F1 NotText` alone where the script is no text, or `refused X1 BadLine line N` of its first bad line, or 4 where memory, a read or a write fails, or nobody could be served: for other than
 /// 1 to 16 workers, or where no thread can be made. Nothing is written after a write that failed.
 pub fn soak<R: Threads + Wait + Sync, S: Read + Drop, W: Write>(

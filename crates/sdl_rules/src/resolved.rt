@@ -151,11 +151,11 @@ fn check_rules(alloc: Global, block: &BlockTable) -> Result<Findings, RuleFault>
 ///
 /// Of several broken rules the least is named, by the number in its code. Without memory the answer is
 /// [`RuleFault::NoMemory`], in place of any other. Of several control paths that read a variable before it is set one
-/// with the fewest transitions is named, over all processes and variables, and of several processes with one the first in
-/// the text. Shown by tests alone: of several places of one rule the first in the text is named; of several such paths of
-/// that process the first by the order of its transitions in the text (START, then the inputs of each state, states in the
-/// order of their first STATE), and then the one with the least place in the text where a walk of the last transition reads
-/// the variable unset.
+/// with the fewest transitions is named, over all processes and variables, of several processes with one the first in the
+/// text, and of several such paths of that process the first by the order of its transitions in the text (START, then the
+/// inputs of each state, states in the order of their first STATE). Shown by tests alone: of several places of one rule the
+/// first in the text is named; of several variables with that path the one with the least place in the text where a walk
+/// of the last transition reads it unset.
 pub fn resolve<'a>(alloc: Global, block: &'a Block) -> Result<Resolved<'a>, RuleFault>
     ensures block { IfOk result (λ r. r ≡ block.now) }
     ensures sound { IfOk result (λ r. Sound (block_of block.now)) }

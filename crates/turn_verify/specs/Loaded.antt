@@ -8,6 +8,7 @@ use Rattle.sdl_ast.specs.Plain.{PlainBlock}
 use Rattle.sdl_tree.specs.Syntax.{Reads}
 use Rattle.sdl_ast.specs.Heights as heights
 use Rattle.sdl_tree.specs.Refusals as refusals
+use Rattle.sdl_tree.specs.Settled.{Settled}
 use Rattle.sdl_ast.specs.Limits.{GREATEST_HEIGHT}
 use Rattle.sdl_tree.specs.declared.fault.ParseFault.{ParseFault}
 use Rattle.sdl_tree.specs.declared.fault.ParseFault.TheVariants as parsing
@@ -72,10 +73,12 @@ pub record IsUnlexed (text : List ℕ) (fault : LexFault) (line : ℕ) : Type 0 
   pub answers : Answers text (Err fault)
   pub there : line ≡ line_at text (place_of fault)
 
--- the tokens read as no block, or as one that is too high
+-- The tokens read as no block, or as one that is too high. What is named is what the reading settles: the first token at which
+-- it stops, or the first statement that is too high.
 abbrev pub IsUnread : List ℕ → List Token → ParseFault → ℕ → Type 0
 IsUnread text tokens (parsing.Unexpected index) line =
-    refusals.Refuses tokens (parsing.Unexpected index) × (line ≡ line_at text (token_place tokens index))
+    refusals.Refuses tokens (parsing.Unexpected index) × Settled tokens (Err (parsing.Unexpected index)) ×
+    (line ≡ line_at text (token_place tokens index))
 IsUnread text tokens (parsing.TooDeep place) line =
     refusals.Refuses tokens (parsing.TooDeep place) × (line ≡ line_at text place)
 IsUnread text tokens parsing.NoMemory line = ⊥
