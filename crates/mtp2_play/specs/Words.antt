@@ -1,5 +1,7 @@
 -- What a command line asks for.
 use Rattle.std.specs.Prelude.{◌≡◌, ◌≤◌, ℕ, List, Option, Some, None, codes}
+use Rattle.mtp2_text.specs.declared.standard_text.TheConstants.{STANDARD}
+use Rattle.mtp2_text.specs.declared.monitors_text.TheConstants.{MONITORS}
 use Rattle.text_check.specs.declared.sets.SetWord.{SetWord}
 use Rattle.text_check.specs.declared.sets.SetWord.TheVariants.{Standard as standard_set, Monitors as monitors_set}
 use Rattle.mtp2_play.specs.declared.words.Named.{Named}
@@ -28,6 +30,13 @@ own_set_of Standard = Some standard_set
 own_set_of Monitors = Some monitors_set
 own_set_of Stdin = None
 own_set_of (File path) = None
+
+-- the text of the set of the program's own that is named
+abbrev pub own_text_of : Named → Option (List ℕ)
+own_text_of Standard = Some STANDARD.now
+own_text_of Monitors = Some MONITORS.now
+own_text_of Stdin = None
+own_text_of (File path) = None
 
 -- where the script stands that a word names
 abbrev pub IsSource : Source → List ℕ → Type 0

@@ -2,6 +2,8 @@
 #![tactic(auto)]
 
 ghost use Rattle.std.specs.Prelude.{◌≡◌, ◌⊎◌};
+ghost use Rattle.text_check.specs.Checked.{IsGiven, PrintsCosts, PrintsRefusal};
+ghost use Rattle.mtp2_play.specs.Words.{own_text_of};
 
 mod frame;
 mod line_bits;
@@ -12,7 +14,8 @@ use clap::error::ErrorKind;
 pub use frame::frame;
 use pool_soak::soak;
 use script_play::play;
-use std::io::{self, Read};
+use std::alloc::Global;
+use std::io::{self, Read, Write};
 use std::process::ExitCode;
 use std::rt::Runtime;
 use std::sync::Wait;
@@ -34,11 +37,13 @@ fn run<R: Runtime + AllocGlobal + Threads + Wait + Sync>(rt: &R, request: &Reque
 }
 
 /// Runs `check` on a set of the program's own.
-fn check_own<R: Runtime + AllocGlobal>(rt: &R, set: Named<'_>) -> u8
-    ensures { (result ≡ 0) ⊎ (result ≡ 2) ⊎ (result ≡ 4) }
+fn check_own<W: Write>(alloc: Global, set: &Named<'_>, writer: &mut W) -> u8
+    ensures costs { result ≡ 0 → IsGiven (own_text_of set.now) (PrintsCosts (W.contents writer.old) (W.contents writer.new)) }
+    ensures refusal { result ≡ 2 → IsGiven (own_text_of set.now) (PrintsRefusal (W.contents writer.old) (W.contents writer.new)) }
+    ensures status { (result ≡ 0) ⊎ (result ≡ 2) ⊎ (result ≡ 4) }
 {
-    match words::own_set(&set) {
-        Some(own) => check(rt.alloc(), own, &mut io::writer(rt)),
+    match words::own_set(set) {
+        Some(own) => check(alloc, own, writer),
         None => FAILED,
     }
 }
@@ -58,7 +63,7 @@ fn run_check<R: Runtime + AllocGlobal>(rt: &R, set: Named<'_>) -> u8
     ensures { (result ≡ 0) ⊎ (result ≡ 2) ⊎ (result ≡ 4) }
 {
     match set {
-        Named::Standard | Named::Monitors => check_own(rt, set),
+        Named::Standard | Named::Monitors => check_own(rt.alloc(), &set, &mut io::writer(rt)),
         Named::Stdin => check(rt.alloc(), SetWord::Text(rt.reader()), &mut io::writer(rt)),
         Named::File(path) => check_file(rt, path),
     }

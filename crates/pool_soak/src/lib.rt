@@ -6,7 +6,7 @@ mod findings;
 mod script;
 mod soaking;
 
-pub use client::{Open, Script};
+pub use client::Open;
 pub use findings::agree;
 pub use script::{Soak, Step, soak_script};
-pub use soaking::soak;
+pub use soaking::{soak, soaked};

@@ -194,6 +194,24 @@ fn served<R: Threads + Wait + Sync>(
     }
 }
 
+/// Serves as many links of the set `standard` as a script says, worked on by so many threads, while the script's commands happen to
+/// them, in order: what is left of them, and a receipt for each command that was accepted, in order. Nothing where the script says no
+/// number of links, for other than 1 to 16 workers, or where memory or all threads fail.
+pub fn soaked<R: Threads + Wait + Sync>(
+    rt: &R,
+    alloc: Global,
+    soak: &Soak<'_>,
+    workers: usize,
+) -> Option<(Closed, Vec<Receipt>)>
+    ensures links { IfSome result (λ r. soak.now.links ≡ Some (vec_len r.0.books)) }
+    ensures workers { IfSome result (λ r. vec_len r.0.workers ≡ workers) }
+    ensures served { IfSome result (λ _. (1 ≤ workers) × (workers ≤ 16)) }
+    ensures agree { IfSome result (λ r. r.0.client + sum r.0.workers.items ≡ sum_by next r.0.books.items) }
+{
+    let (set, books) = begun(alloc, soak)?;
+    served(rt, alloc, &set, soak, books, workers)
+}
+
 /// Serves the links of a script while it runs, and writes what is found. The exit status, but for 4 where memory, a write or all threads fail.
 fn soak_links<R: Threads + Wait + Sync, W: Write>(
     rt: &R,
@@ -207,8 +225,7 @@ fn soak_links<R: Threads + Wait + Sync, W: Write>(
     ensures served { IfSome result (λ _. (1 ≤ workers) × (workers ≤ 16)) }
     ensures status { IfSome result (λ status. (status ≡ 0) ⊎ (status ≡ 1)) }
 {
-    let (set, books) = begun(alloc, soak)?;
-    let (closed, receipts) = served(rt, alloc, &set, soak, books, workers)?;
+    let (closed, receipts) = soaked(rt, alloc, soak, workers)?;
     match report(alloc, writer, &closed, &receipts) {
         Ok(status) => Some(status),
         Err(_) => None,

@@ -18,7 +18,7 @@ struct Offers {
     receipts: Vec<Receipt>,
     taken: u32,
     due: Option<usize>,
-    closing: Option<PoolRefusal>,
+    closing: [Option<PoolRefusal>; 4],
     absent: Option<PoolRefusal>,
 }
 
@@ -47,7 +47,7 @@ impl Offers {
             self.receipts.len() >= 20,
             self.taken >= 10,
             self.due == Some(0),
-            self.closing == Some(PoolRefusal::Closing),
+            self.closing == [Some(PoolRefusal::Closing); 4],
             self.absent == Some(PoolRefusal::NoLink),
         ]
     }
@@ -76,13 +76,18 @@ impl Client for Offers {
             self.due = Some(due);
         }
         pool.close();
-        self.closing = pool.offer(0, 0, UP, &[], seat).err();
+        self.closing = [
+            pool.offer(0, 0, UP, &[], seat).err(),
+            pool.advance(0, 1, seat).err(),
+            pool.take_env(0, seat).err(),
+            pool.rebase(0, seat).err(),
+        ];
         self.absent = pool.advance(2, 1, seat).err();
     }
 }
 
 /// Whether the places of the receipts of each link rise.
-fn rise(receipts: &[Receipt], link: usize) -> bool {
+pub(crate) fn rise(receipts: &[Receipt], link: usize) -> bool {
     let mut last = None;
     for receipt in receipts {
         if receipt.link == link {
@@ -114,7 +119,7 @@ fn offered<R: Threads + Wait + Sync>(rt: &R, alloc: Global) -> Option<([bool; 5]
         receipts: Vec::new(alloc),
         taken: 0,
         due: None,
-        closing: None,
+        closing: [None; 4],
         absent: None,
     };
     match serve(rt, alloc, books, 3, &Open, &mut client) {

@@ -1,8 +1,9 @@
 //! The command `soak`, and the program's own sets at work in a pool.
+use crate::of_calls::rise;
 use crate::sets::opened;
 use actor_book::{Book, Event, Limits, Refusal, Standing};
 use mtp2_text::{monitors, standard};
-use pool_soak::{Open, Script, Soak, soak, soak_script};
+use pool_soak::{Open, Soak, soak, soak_script, soaked};
 use std::alloc::Global;
 use std::sync::Wait;
 use std::sync::ledger::Ledger;
@@ -86,9 +87,9 @@ fn soak_prints_what_it_finds(rt: HostRuntime) {
     }
 }
 
-/// Two links, an offer on each, and on the second 5 ticks and an offer with a value.
+/// Two links, an offer on each, and on the second 5 ticks and an offer with a value; then an offer on a link that there isn't.
 const BOTH: &str =
-    "links 2\noffer LSC PowerOn\non 1\noffer LSC PowerOn\ntick 5\noffer TXC AckSeen true\n";
+    "links 2\noffer LSC PowerOn\non 1\noffer LSC PowerOn\ntick 5\noffer TXC AckSeen true\non 9\noffer LSC PowerOn\n";
 
 /// What a value stands for in a row: 9 for none.
 fn value_told(value: Option<&Value>) -> u64 {
@@ -123,24 +124,15 @@ fn are_these(receipts: &[Receipt], wanted: &[[u64; 4]]) -> bool {
     receipts.len() == wanted.len()
 }
 
-/// Whether a script's client has these receipts for what it does on two links.
+/// Whether `soak` has these receipts for what a script does on two links, their places rising on each.
 fn has_receipts<R: Threads + Wait + Sync>(
     rt: &R,
     alloc: Global,
-    set: &Verified,
     soak: &Soak<'_>,
     wanted: &[[u64; 4]],
 ) -> Option<bool> {
-    let books = opened(alloc, set, 2, Limits::new(16, 64, 4096)?).ok()?;
-    let mut script = Script {
-        set,
-        steps: &soak.steps,
-        receipts: Vec::new(alloc),
-    };
-    match serve(rt, alloc, books, 2, &Open, &mut script) {
-        Ok(_) => Some(are_these(&script.receipts, wanted)),
-        Err(_) => None,
-    }
+    let (_, receipts) = soaked(rt, alloc, soak, 2)?;
+    Some(are_these(&receipts, wanted) && rise(&receipts, 0) && rise(&receipts, 1))
 }
 
 /// The receipts of [`BOTH`]: of `standard` LSC is the first process and TXC the fifth, PowerOn the first signal and AckSeen the
@@ -149,9 +141,9 @@ const WANTED: [[u64; 4]; 4] = [[0, 0, 0, 9], [1, 0, 0, 9], [1, 5, 99, 99], [1, 4
 
 /// Whether the client of [`BOTH`] has the receipts that it should have.
 fn script_is_done<R: Threads + Wait + Sync>(rt: &R, alloc: Global) -> Option<bool> {
-    match (standard(alloc), soak_script(alloc, BOTH)) {
-        (Ok(set), Ok(soak)) => has_receipts(rt, alloc, &set, &soak, &WANTED),
-        _ => None,
+    match soak_script(alloc, BOTH) {
+        Ok(soak) => has_receipts(rt, alloc, &soak, &WANTED),
+        Err(_) => None,
     }
 }
 

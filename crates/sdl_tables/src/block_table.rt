@@ -124,19 +124,13 @@ fn index_processes(alloc: Global, rows: &[&Process]) -> Result<Scope, AllocError
     Ok(scope)
 }
 
-/// The timers of a process that are named as signals.
-fn signal_timers(signals: &NameTable, process: &Process) -> Option<u32>
-    ensures { Marks result (shared signals.now (timers_of (process_of process.now))) }
-{
-    shared_declared(signals, &process.declarations)
-}
-
+/// The first timer of a process that is named as a signal.
 fn signal_timers_in(signals: &NameTable, processes: &[&Process]) -> Option<u32>
     ensures { Marks result (flat_map (λ p. shared signals.now (timers_of (process_of p.now))) processes.now) }
 {
     let mut place = None;
     for process in processes {
-        place = earlier(place, signal_timers(signals, process));
+        place = earlier(place, shared_declared(signals, &process.declarations));
     }
     place
 }

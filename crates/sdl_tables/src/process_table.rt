@@ -11,7 +11,7 @@ use crate::fault::TableFault;
 use crate::input_rows::collect_inputs;
 use crate::name_table::NameTable;
 use crate::scope::{Scope, add_names, earlier, first_shared, index_names};
-use crate::state_names::{Which, collect_names};
+use crate::state_names::{Which, collect_names, push_ids};
 use crate::triggers::trigger_double;
 use sdl_ast::{
     Connection, Constant, Declaration, Group, Identifier, InputPart, Process, Sort, StateClause,
@@ -74,15 +74,6 @@ fn collect_variables(
     Ok(rows)
 }
 
-fn push_timers(rows: &mut Vec<Identifier>, names: &[Identifier]) -> Result<(), AllocError>
-    ensures { OnOk result (rows.new.items ≡ rows.old.items ++ names.now) }
-{
-    for name in names {
-        rows.push(*name)?;
-    }
-    Ok(())
-}
-
 fn collect_timers(
     alloc: Global,
     declarations: &[Declaration],
@@ -93,7 +84,7 @@ fn collect_timers(
     for declaration in declarations {
         match declaration {
             Declaration::Variables(_) => {}
-            Declaration::Timers(names) => push_timers(&mut rows, names)?,
+            Declaration::Timers(names) => push_ids(&mut rows, names)?,
         }
     }
     Ok(rows)

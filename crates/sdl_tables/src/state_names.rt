@@ -18,7 +18,8 @@ pub(crate) enum Which {
     Triggers,
 }
 
-fn push_ids(names: &mut Vec<Identifier>, ids: &[Identifier]) -> Result<(), AllocError>
+/// Adds names at the end.
+pub(crate) fn push_ids(names: &mut Vec<Identifier>, ids: &[Identifier]) -> Result<(), AllocError>
     ensures { OnOk result (names.new.items ≡ names.old.items ++ ids.now) }
 {
     for id in ids {

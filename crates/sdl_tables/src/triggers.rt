@@ -266,12 +266,6 @@ fn state_double(
     double
 }
 
-fn is_same(one: &[usize], other: &[usize]) -> bool
-    ensures { result ≡ true → one.now ≡ other.now }
-{
-    one == other
-}
-
 /// The first name that a state has twice, with those before it. A state that has the parts of the one before has its names.
 fn next_double(
     seen: &mut Vec<usize>,
@@ -287,7 +281,7 @@ fn next_double(
     ensures below { (bound : ℕ) → stamp < bound → AreBelow seen.old.items bound → AreBelow seen.new.items bound }
     ensures len { vec_len seen.new ≡ vec_len seen.old }
 {
-    if is_same(before, numbers) {
+    if before == numbers {
         double
     } else {
         earlier(double, state_double(seen, stamp, parts, numbers))
