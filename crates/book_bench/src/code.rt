@@ -6,8 +6,7 @@
 //! trigger is 0 or 1 and the number of a signal or timer, and an input is a trigger and a piece. A piece is how many instructions, and of each four numbers: which
 //! it is, in the order of the instruction set, and what it has.
 
-use std::io;
-use std::rt::Runtime;
+use std::alloc::AllocError;
 use turn_code::{
     Draft, DraftInput, DraftPiece, DraftProcess, DraftRoute, DraftState, Instruction, Party,
     Receiver, Relation, Trigger, Value,
@@ -102,87 +101,122 @@ fn numbers(instruction: Instruction) -> (i64, i64, i64, i64) {
     }
 }
 
-fn write_piece<R: Runtime + AllocGlobal>(rt: &R, piece: &DraftPiece) -> io::Result<()> {
-    println!(rt; "{}", piece.code.len())?;
+/// Writes an instruction.
+fn write_instruction(text: &mut String, instruction: Instruction) -> Result<(), AllocError> {
+    let (which, one, two, three) = numbers(instruction);
+    writeln!(text, "{which} {one} {two} {three}")
+}
+
+/// Writes how many there are of something.
+fn write_count(text: &mut String, count: usize) -> Result<(), AllocError> {
+    writeln!(text, "{count}")
+}
+
+fn write_piece(text: &mut String, piece: &DraftPiece) -> Result<(), AllocError> {
+    write_count(text, piece.code.len())?;
     for instruction in piece.code.as_slice() {
-        let (which, one, two, three) = numbers(*instruction);
-        println!(rt; "{which} {one} {two} {three}")?;
+        write_instruction(text, *instruction)?;
     }
     Ok(())
 }
 
-fn write_trigger<R: Runtime + AllocGlobal>(rt: &R, trigger: Trigger) -> io::Result<()> {
+fn write_trigger(text: &mut String, trigger: Trigger) -> Result<(), AllocError> {
     match trigger {
-        Trigger::Signal(signal) => println!(rt; "0 {}", signal.0),
-        Trigger::Timer(timer) => println!(rt; "1 {}", timer.0),
+        Trigger::Signal(signal) => writeln!(text, "0 {}", signal.0),
+        Trigger::Timer(timer) => writeln!(text, "1 {}", timer.0),
     }
 }
 
-fn write_input<R: Runtime + AllocGlobal>(rt: &R, input: &DraftInput) -> io::Result<()> {
-    write_trigger(rt, input.trigger)?;
-    write_piece(rt, &input.piece)
+fn write_input(text: &mut String, input: &DraftInput) -> Result<(), AllocError> {
+    write_trigger(text, input.trigger)?;
+    write_piece(text, &input.piece)
 }
 
-fn write_state<R: Runtime + AllocGlobal>(rt: &R, state: &DraftState) -> io::Result<()> {
-    println!(rt; "{}", state.saves.len())?;
+fn write_saves(text: &mut String, state: &DraftState) -> Result<(), AllocError> {
+    write_count(text, state.saves.len())?;
     for trigger in state.saves.as_slice() {
-        write_trigger(rt, *trigger)?;
+        write_trigger(text, *trigger)?;
     }
-    println!(rt; "{}", state.inputs.len())?;
+    Ok(())
+}
+
+fn write_inputs(text: &mut String, state: &DraftState) -> Result<(), AllocError> {
+    write_count(text, state.inputs.len())?;
     for input in state.inputs.as_slice() {
-        write_input(rt, input)?;
+        write_input(text, input)?;
     }
     Ok(())
 }
 
-fn write_initial<R: Runtime + AllocGlobal>(rt: &R, initial: Option<Value>) -> io::Result<()> {
+fn write_initial(text: &mut String, initial: Option<Value>) -> Result<(), AllocError> {
     match initial {
-        None => println!(rt; "0 0"),
-        Some(Value::Int(number)) => println!(rt; "1 {number}"),
-        Some(Value::Bool(truth)) => println!(rt; "2 {}", truth as u8),
+        None => text.push_str("0 0\n"),
+        Some(Value::Int(number)) => writeln!(text, "1 {number}"),
+        Some(Value::Bool(truth)) => writeln!(text, "2 {}", truth as u8),
     }
 }
 
-fn write_process<R: Runtime + AllocGlobal>(rt: &R, process: &DraftProcess) -> io::Result<()> {
-    println!(rt; "{}", process.variables.len())?;
+fn write_variables(text: &mut String, process: &DraftProcess) -> Result<(), AllocError> {
+    write_count(text, process.variables.len())?;
     for variable in process.variables.as_slice() {
-        write_initial(rt, variable.initial)?;
+        write_initial(text, variable.initial)?;
     }
-    println!(rt; "{}", process.timers.len())?;
-    write_piece(rt, &process.start)?;
-    println!(rt; "{}", process.states.len())?;
+    write_count(text, process.timers.len())
+}
+
+fn write_states(text: &mut String, process: &DraftProcess) -> Result<(), AllocError> {
+    write_count(text, process.states.len())?;
     for state in process.states.as_slice() {
-        write_state(rt, state)?;
+        write_saves(text, state)?;
+        write_inputs(text, state)?;
     }
     Ok(())
 }
 
-fn write_route<R: Runtime + AllocGlobal>(rt: &R, route: &DraftRoute) -> io::Result<()> {
-    println!(rt;
-        "{} {} {}",
-        party(route.from),
-        party(route.to),
-        route.signals.len()
-    )?;
+fn write_process(text: &mut String, process: &DraftProcess) -> Result<(), AllocError> {
+    write_variables(text, process)?;
+    write_piece(text, &process.start)?;
+    write_states(text, process)
+}
+
+fn write_route(text: &mut String, route: &DraftRoute) -> Result<(), AllocError> {
+    let from = party(route.from);
+    let to = party(route.to);
+    let count = route.signals.len();
+    writeln!(text, "{from} {to} {count}")?;
     for signal in route.signals.as_slice() {
-        println!(rt; "{}", signal.0)?;
+        writeln!(text, "{}", signal.0)?;
     }
     Ok(())
 }
 
-/// Prints the code of a set.
-pub fn write_set<R: Runtime + AllocGlobal>(rt: &R, draft: &Draft) -> io::Result<()> {
-    println!(rt; "{}", draft.signals.len())?;
+fn write_signals(text: &mut String, draft: &Draft) -> Result<(), AllocError> {
+    write_count(text, draft.signals.len())?;
     for signal in draft.signals.as_slice() {
-        println!(rt; "{}", signal.parameters.len())?;
-    }
-    println!(rt; "{}", draft.routes.len())?;
-    for route in draft.routes.as_slice() {
-        write_route(rt, route)?;
-    }
-    println!(rt; "{}", draft.processes.len())?;
-    for process in draft.processes.as_slice() {
-        write_process(rt, process)?;
+        write_count(text, signal.parameters.len())?;
     }
     Ok(())
+}
+
+fn write_routes(text: &mut String, draft: &Draft) -> Result<(), AllocError> {
+    write_count(text, draft.routes.len())?;
+    for route in draft.routes.as_slice() {
+        write_route(text, route)?;
+    }
+    Ok(())
+}
+
+fn write_processes(text: &mut String, draft: &Draft) -> Result<(), AllocError> {
+    write_count(text, draft.processes.len())?;
+    for process in draft.processes.as_slice() {
+        write_process(text, process)?;
+    }
+    Ok(())
+}
+
+/// Writes the code of a set.
+pub fn write_set(text: &mut String, draft: &Draft) -> Result<(), AllocError> {
+    write_signals(text, draft)?;
+    write_routes(text, draft)?;
+    write_processes(text, draft)
 }

@@ -1,7 +1,7 @@
 //! A terminal in service, and its far end.
 ghost use Rattle.std.specs.Prelude.{◌≤◌, length};
 
-use crate::units::{Traffic, WINDOW, head, message};
+use crate::traffic::{Traffic, WINDOW, head, message};
 use bit_line::Stuffer;
 use link_term::{Command, Mode, Report, Terminal};
 use std::alloc::{AllocError, Global};
@@ -12,14 +12,22 @@ const PROVING: u64 = 8200;
 
 /// A terminal, and what the far end says.
 #[derive(Drop)]
-pub struct Bench {
+pub struct Service {
     terminal: Terminal,
     far: Stuffer,
     /// The number of the message that went out last; 127 before the first.
     last: u8,
 }
 
-impl Bench {
+/// How many messages a report is.
+fn messages_in(report: Report) -> u64 {
+    match report {
+        Report::Message(_) => 1,
+        Report::Status(_) => 0,
+    }
+}
+
+impl Service {
     /// The far end says a unit, twice, so that the first one is whole on the line.
     fn say(&mut self, unit: &Unit) {
         if !unit.whole() {
@@ -43,14 +51,17 @@ impl Bench {
     }
 
     /// A terminal in service; none where there is no memory.
-    pub fn new(alloc: Global) -> Option<Bench> {
-        let terminal = Terminal::new(alloc, Mode::Basic).ok()?;
-        let mut bench = Bench {
+    pub fn new(alloc: Global) -> Option<Service> {
+        let terminal = match Terminal::new(alloc, Mode::Basic) {
+            Ok(terminal) => terminal,
+            Err(_) => return None,
+        };
+        let mut service = Service {
             terminal,
             far: Stuffer::new(),
             last: 127,
         };
-        if bench.align() { Some(bench) } else { None }
+        if service.align() { Some(service) } else { None }
     }
 
     /// How many turns the actors had.
@@ -63,8 +74,7 @@ impl Bench {
         let mut messages = 0u64;
         for _ in 0..1000u32 {
             match self.terminal.report() {
-                Some(Report::Message(_)) => messages = messages.saturating_add(1),
-                Some(Report::Status(_)) => {}
+                Some(report) => messages = messages.saturating_add(messages_in(report)),
                 None => return messages,
             }
         }

@@ -1,8 +1,10 @@
-//! The sets whose turns are measured.
+//! The sets whose turns are measured, and their books.
 
+use crate::clock::Stopped;
+use actor_book::{Book, Limits};
 use mtp2_text::standard;
 use std::alloc::{AllocError, Global};
-use turn_verify::{Verified, load};
+use turn_verify::{LoadFault, Verified, load};
 
 /// The text of the counter.
 const COUNTER: &str = "BLOCK B; SIGNAL Up(Integer); SIGNALROUTE r FROM ENV TO P WITH Up;
@@ -15,7 +17,7 @@ ENDSTATE Run; ENDPROCESS P; ENDBLOCK B;";
 const TASKS: u32 = 101;
 
 /// A set that is measured.
-#[derive(Clone, Copy, Drop)]
+#[derive(Clone, Copy)]
 pub enum Set {
     /// A process that adds up what comes.
     Counter,
@@ -49,15 +51,42 @@ fn long_text(alloc: Global) -> Result<String, AllocError> {
     Ok(text)
 }
 
+/// The set of a text that is accepted.
+fn accepted(loaded: Result<Verified, LoadFault>) -> Result<Verified, Stopped> {
+    match loaded {
+        Ok(set) => Ok(set),
+        Err(_) => Err(Stopped::Refused),
+    }
+}
+
+/// The set of the long piece.
+fn load_long(alloc: Global) -> Result<Verified, Stopped> {
+    let text = long_text(alloc)?;
+    accepted(load(alloc, text.as_str()))
+}
+
 /// The set, if its text is accepted.
-pub fn load_set(alloc: Global, set: Set) -> Result<Option<Verified>, AllocError> {
-    let loaded = match set {
-        Set::Counter => load(alloc, COUNTER),
-        Set::Long => {
-            let text = long_text(alloc)?;
-            load(alloc, text.as_str())
-        }
-        Set::Standard => standard(alloc),
+pub fn load_set(alloc: Global, set: Set) -> Result<Verified, Stopped> {
+    match set {
+        Set::Counter => accepted(load(alloc, COUNTER)),
+        Set::Long => load_long(alloc),
+        Set::Standard => accepted(standard(alloc)),
+    }
+}
+
+/// A book of a set.
+pub fn book_of(
+    alloc: Global,
+    set: &Verified,
+    port: usize,
+    env: usize,
+    journal: usize,
+) -> Result<Book, Stopped> {
+    let Some(limits) = Limits::new(port, env, journal) else {
+        return Err(Stopped::Refused);
     };
-    Ok(loaded.ok())
+    match Book::open(alloc, set, limits) {
+        Ok(book) => Ok(book),
+        Err(_) => Err(Stopped::NoMemory),
+    }
 }

@@ -1,0 +1,162 @@
+//! The rounds of a pool.
+
+use crate::client::{LINKS, Open, REBASES, Starts, signal_of};
+use crate::clock::{Stopped, now, since};
+use crate::sets::{Set, book_of, load_set};
+use actor_book::Book;
+use book_rest::rest;
+use std::alloc::{AllocError, Global};
+use std::rt::Runtime;
+use std::sync::Wait;
+use std::thread::Threads;
+use std::time::Duration;
+use turn_pool::{Closed, serve};
+use turn_verify::Verified;
+
+/// How many rounds are made where no number is asked for, and with how many workers.
+const FEW: u32 = 3;
+
+/// How many workers there are where no number is asked for.
+const WORKERS: u32 = 2;
+
+/// What came of the rounds.
+#[derive(Clone, Copy)]
+struct Found {
+    /// How many events the journals have.
+    events: u64,
+    /// Whether the seats have as many, and no signal was given up.
+    agree: bool,
+}
+
+/// A book with ports of 64, 64 signals kept for the environment and the longest journal.
+fn open_book(alloc: Global, set: &Verified) -> Result<Book, Stopped> {
+    book_of(alloc, set, 64, 64, 65_536)
+}
+
+/// Such a book for each link.
+fn open_books(alloc: Global, set: &Verified) -> Result<Vec<Book>, Stopped> {
+    let mut books = Vec::new(alloc);
+    for _ in 0..LINKS {
+        if books.push(open_book(alloc, set)?).is_err() {
+            return Err(Stopped::NoMemory);
+        }
+    }
+    Ok(books)
+}
+
+/// How many events the journals have.
+fn events_of(books: &[Book]) -> u64 {
+    let mut events = 0u64;
+    for book in books {
+        events = events.saturating_add(book.next());
+    }
+    events
+}
+
+/// How many events the seats have.
+fn counted(closed: &Closed) -> u64 {
+    let mut events = closed.client;
+    for worker in closed.workers.as_slice() {
+        events = events.saturating_add(*worker);
+    }
+    events
+}
+
+/// What the books and seats say, where so many signals were given up.
+fn found_in(closed: &Closed, refused: u64) -> Found {
+    let events = events_of(closed.books.as_slice());
+    Found {
+        events,
+        agree: events == counted(closed) && refused == 0,
+    }
+}
+
+/// Has workers serve the links.
+fn serve_links<R: Runtime + AllocGlobal + Threads + Wait + Sync>(
+    rt: &R,
+    books: Vec<Book>,
+    rounds: u32,
+    workers: u32,
+) -> Result<Found, Stopped> {
+    let mut client = Starts { rounds, refused: 0 };
+    match serve(rt, rt.alloc(), books, workers as usize, &Open, &mut client) {
+        Ok(closed) => Ok(found_in(&closed, client.refused)),
+        Err(_) => Err(Stopped::NoMemory),
+    }
+}
+
+/// The signals come to a book without a pool, which comes to rest behind each.
+fn serve_alone(book: &mut Book, rounds: u32) {
+    for round in 0..rounds {
+        if round % REBASES == 0 {
+            let _rebased = book.rebase();
+        }
+        let _offered = book.offer(0, signal_of(round), &[]);
+        rest(book);
+    }
+}
+
+/// One book without a pool.
+fn count_alone(alloc: Global, set: &Verified, rounds: u32) -> Result<Found, Stopped> {
+    let mut book = open_book(alloc, set)?;
+    serve_alone(&mut book, rounds);
+    Ok(Found {
+        events: book.next(),
+        agree: true,
+    })
+}
+
+/// Makes the rounds with so many workers, without a pool where there are none.
+fn count_rounds<R: Runtime + AllocGlobal + Threads + Wait + Sync>(
+    rt: &R,
+    set: &Verified,
+    rounds: u32,
+    workers: u32,
+) -> Result<Found, Stopped> {
+    if workers == 0 {
+        return count_alone(rt.alloc(), set, rounds);
+    }
+    let books = open_books(rt.alloc(), set)?;
+    serve_links(rt, books, rounds, workers)
+}
+
+/// Writes whether the seats agree, and where rounds were asked for the figures too.
+fn write_found(
+    text: &mut String,
+    workers: u32,
+    found: Found,
+    time: Option<Duration>,
+) -> Result<(), AllocError> {
+    let word = if found.agree { "agree" } else { "differ" };
+    match time {
+        None => writeln!(text, "workers {workers} {word}"),
+        Some(time) => {
+            let events = found.events;
+            let micros = u64::try_from(time.as_micros()).unwrap_or(u64::MAX);
+            writeln!(
+                text,
+                "workers {workers} {word} events {events} micros {micros}"
+            )
+        }
+    }
+}
+
+/// Makes the rounds that are asked for, and writes what came of them.
+pub fn write_pool<R: Runtime + AllocGlobal + Threads + Wait + Sync>(
+    rt: &R,
+    text: &mut String,
+    asked: Option<u32>,
+    workers: Option<u32>,
+) -> Result<(), Stopped> {
+    let set = load_set(rt.alloc(), Set::Standard)?;
+    let workers = workers.unwrap_or(WORKERS);
+    let start = now(rt)?;
+    let found = count_rounds(rt, &set, asked.unwrap_or(FEW), workers)?;
+    let time = since(rt, start)?;
+    let shown = match asked {
+        Some(_) => Some(time),
+        None => None,
+    };
+    write_found(text, workers, found, shown)?;
+    Ok(())
+}

@@ -1,0 +1,169 @@
+//! The rounds of a line.
+
+use crate::clock::{Stopped, now, rate, since};
+use crate::draws::{Draws, Kind, units};
+use crate::line::{Way, octets_of, receive, send};
+use crate::store::{rate_of_retrieval, rate_of_store};
+use std::alloc::{AllocError, Global};
+use std::rt::Clock;
+use std::time::Duration;
+use su_octets::Unit;
+
+/// How often a round goes through its fill-in units.
+const FISU_TIMES: u32 = 25;
+
+/// A kind of units: what stands before the name of each of its figures, how often a line of them goes, and whether rates are asked for.
+#[derive(Clone, Copy)]
+struct Measure {
+    name: &'static str,
+    count: u32,
+    is_rated: bool,
+}
+
+/// How many octets in a second, for so many in each of some rounds.
+fn rate_of(octets: usize, rounds: u32, time: Duration) -> u64 {
+    rate((octets as u64).saturating_mul(u64::from(rounds)), time)
+}
+
+/// Sends the units so often.
+fn send_times(units: &[Unit], line: &mut Vec<u8>, count: u32) -> Result<(), AllocError> {
+    for _ in 0..count {
+        send(units, line)?;
+    }
+    Ok(())
+}
+
+/// Receives the line so often. How many units it has.
+fn receive_times(alloc: Global, way: Way, line: &[u8], count: u32) -> Result<u64, AllocError> {
+    let mut received = 0;
+    for _ in 0..count {
+        received = receive(alloc, way, line)?;
+    }
+    Ok(received)
+}
+
+/// Octets a second of units put on the line.
+fn out(rt: &impl Clock, units: &[Unit], line: &mut Vec<u8>, count: u32) -> Result<u64, Stopped> {
+    let start = now(rt)?;
+    send_times(units, line, count)?;
+    Ok(rate_of(octets_of(units), count, since(rt, start)?))
+}
+
+/// How many units the line has, read in one way, and octets a second.
+fn into(
+    rt: &impl Clock,
+    alloc: Global,
+    way: Way,
+    line: &[u8],
+    count: u32,
+) -> Result<(u64, u64), Stopped> {
+    let start = now(rt)?;
+    let received = receive_times(alloc, way, line, count)?;
+    Ok((received, rate_of(line.len(), count, since(rt, start)?)))
+}
+
+/// Writes a figure, if it is asked for.
+fn write_rate(
+    text: &mut String,
+    measure: Measure,
+    what: &str,
+    rate: u64,
+) -> Result<(), AllocError> {
+    if !measure.is_rated {
+        return Ok(());
+    }
+    let name = measure.name;
+    writeln!(text, "{name}{what} {rate}")
+}
+
+/// Reads the line in pieces, and writes what came of that and of its sending.
+fn write_pieces(
+    rt: &impl Clock,
+    alloc: Global,
+    text: &mut String,
+    measure: Measure,
+    line: &[u8],
+    out: u64,
+) -> Result<(), Stopped> {
+    let name = measure.name;
+    let (received, rate) = into(rt, alloc, Way::Pieces, line, measure.count)?;
+    writeln!(text, "{name}units {received}")?;
+    write_rate(text, measure, "out", out)?;
+    write_rate(text, measure, "in", rate)?;
+    Ok(())
+}
+
+/// Reads the line octet by octet in both ways, and writes what came of that.
+fn write_octets(
+    rt: &impl Clock,
+    alloc: Global,
+    text: &mut String,
+    measure: Measure,
+    line: &[u8],
+) -> Result<(), Stopped> {
+    let name = measure.name;
+    let (until, rate_until) = into(rt, alloc, Way::Until, line, measure.count)?;
+    let (each, rate_each) = into(rt, alloc, Way::Each, line, measure.count)?;
+    writeln!(text, "{name}octets {until} {each}")?;
+    write_rate(text, measure, "until", rate_until)?;
+    write_rate(text, measure, "each", rate_each)?;
+    Ok(())
+}
+
+/// Sends and receives the units as often as is asked, and writes what came of them: how many came back, and octets a second where
+/// rounds were asked for.
+fn write_measure(
+    rt: &impl Clock,
+    alloc: Global,
+    text: &mut String,
+    measure: Measure,
+    units: &[Unit],
+) -> Result<(), Stopped> {
+    let mut line = Vec::with_capacity(alloc, 700_000)?;
+    let out = out(rt, units, &mut line, measure.count)?;
+    write_pieces(rt, alloc, text, measure, line.as_slice(), out)?;
+    write_octets(rt, alloc, text, measure, line.as_slice())
+}
+
+/// Writes what a store makes of messages, where rounds are asked for.
+fn write_store(
+    rt: &impl Clock,
+    alloc: Global,
+    text: &mut String,
+    asked: Option<u32>,
+    messages: &[Unit],
+) -> Result<(), Stopped> {
+    let Some(rounds) = asked else {
+        return Ok(());
+    };
+    let stored = rate_of_store(rt, alloc, messages, rounds)?;
+    let handed = rate_of_retrieval(rt, alloc, messages, rounds)?;
+    writeln!(text, "store {stored}\nretrieve {handed}")?;
+    Ok(())
+}
+
+/// A kind of units, for the rounds that are asked for.
+fn measure_of(name: &'static str, asked: Option<u32>, times: u32) -> Measure {
+    Measure {
+        name,
+        count: asked.unwrap_or(1).saturating_mul(times),
+        is_rated: asked.is_some(),
+    }
+}
+
+/// Makes the rounds, and writes what came of them.
+pub fn write_line(
+    rt: &impl Clock,
+    alloc: Global,
+    text: &mut String,
+    asked: Option<u32>,
+) -> Result<(), Stopped> {
+    let mut draws = Draws::new();
+    let messages = units(alloc, Kind::Messages, &mut draws)?;
+    let fill_ins = units(alloc, Kind::FillIns, &mut draws)?;
+    let first = measure_of("", asked, 1);
+    let second = measure_of("fisu_", asked, FISU_TIMES);
+    write_measure(rt, alloc, text, first, messages.as_slice())?;
+    write_measure(rt, alloc, text, second, fill_ins.as_slice())?;
+    write_store(rt, alloc, text, asked, messages.as_slice())
+}
