@@ -1,6 +1,7 @@
 -- Connections by name and by number.
 use Rattle.std.proofs.Common.{◌≡◌, ◌≢◌, ℕ, zero, suc, ◌+◌, ◌<◌, ◌≤◌, Bool, true, false, ◌||◌, if◌then◌else◌, List, [], ◌∷◌, ◌++◌, length, cond, map, refl, ap, sym, ◌∙◌, subst, arith, inl, inr, Option, Some, None, get_or, true≢false}
-use Rattle.std.specs.Prelude.{slice_get, Contains, nat_eq, find, option_to_list}
+use Rattle.std.specs.Prelude.{slice_get, All, Contains, nat_eq, find, option_to_list}
+use Rattle.std.specs.Global.{Vec}
 use Rattle.std.specs.List.{list_any, flat_map}
 use Rattle.std.specs.Option.{option_map, option_map_or}
 use Rattle.std.proofs.lemmas.Bool.{cases_order, cases_Bool, eqb-true, eq-eqb}
@@ -12,12 +13,12 @@ use Rattle.std.proofs.lemmas.Option.{slice_get_within, slice_get-get_or, slice_g
 use Rattle.std.proofs.Math.Bool.{or-false}
 use Rattle.sdl_ast.specs.declared.expression.Identifier.{Identifier}
 use Rattle.sdl_ast.specs.declared.tree.Join.{Join}
-use Rattle.sdl_ast.specs.Plain.{Text, PlainConnection, PlainProcess}
+use Rattle.sdl_ast.specs.Plain.{PlainConnection, PlainProcess}
 use Rattle.sdl_tables.specs.Names.{same_name, is_in, number_of, connector_names, connection_named}
 use Rattle.sdl_tables.specs.Scopes.{repeats, process_scopes}
 use Rattle.sdl_sound.specs.Statements.{joins_of}
-use Rattle.sdl_sound.specs.Joins.{joins_at, comes_by, comes, reaches, comes_back, connection_cycles, process_cycles}
-use Rattle.sdl_joins.specs.Links.{nexts, goes_by, goes, any_goes, IsOrderOf, Returns}
+use Rattle.sdl_sound.specs.Joins.{joins_at, comes_by, comes, comes_back, connection_cycles, process_cycles}
+use Rattle.sdl_joins.specs.Links.{nexts, goes_by, goes, any_goes, graph_in, IsOrderOf, Returns}
 use Rattle.sdl_sound.specs.Orders.{targets_of, links_of, IsOrder}
 use Rattle.sdl_joins.specs.Searched.{AreMarks}
 use Rattle.sdl_sound.proofs.Lists.{get_one}
@@ -154,10 +155,11 @@ comes_is p x y n m at_y at_x = comes_by_number p (length p.connections) x y n m 
 pub comes_none : (p : PlainProcess) (x y : List ℕ) (m : ℕ) → number_of (connector_names p) y ≡ None → number_of (connector_names p) x ≡ Some m → comes p y x ≡ false
 comes_none p x y m none at_x = comes_by_none p (length p.connections) x y m none at_x
 
-pub reaches_is : (p : PlainProcess) (t : Text) (x : List ℕ) (m : ℕ) → number_of (connector_names p) x ≡ Some m
-    → reaches p t x ≡ any_goes (links_of p) (targets_of p (joins_of t)) m
-reaches_is p t x m at_x =
-    any_joins p (λ y. comes p y x) (λ n. goes (links_of p) n m) (joins_of t) (λ y n at. comes_is p x y n m at at_x) (λ y none. comes_none p x y m none at_x)
+-- whether some JOINs come there, by the numbers of what they lead to
+joins_reach : (p : PlainProcess) (joins : List Join) (x : List ℕ) (m : ℕ) → number_of (connector_names p) x ≡ Some m
+    → list_any (λ j. comes p j.connector.name x) joins ≡ any_goes (links_of p) (targets_of p joins) m
+joins_reach p joins x m at_x =
+    any_joins p (λ y. comes p y x) (λ n. goes (links_of p) n m) joins (λ y n at. comes_is p x y n m at at_x) (λ y none. comes_none p x y m none at_x)
 
 -- ---- where no name is there twice
 
@@ -212,11 +214,18 @@ same_map f (x ∷ xs) [] n h = absurd (omega (arith, n))
 same_map f (x ∷ xs) (b ∷ bs) n h =
     ap (λ y. y ∷ bs) (h 0 x b refl refl) ∙ ap (λ l. f x ∷ l) (same_map f xs bs (omega (arith, n)) (λ i. h (suc i)))
 
--- the marks of the connections to which a text comes
-pub reached_marks : (p : PlainProcess) (t : Text) (marks : List Bool) → repeats [] (connector_names p) ≡ []
-    → AreMarks (links_of p) (targets_of p (joins_of t)) marks → marks ≡ map (λ c. reaches p t c.name.name) p.connections
-reached_marks p t marks distinct are = same_map (λ c. reaches p t c.name.name) p.connections marks (are.count ∙ links_length p) (λ i c b there mark.
-    are.each i b mark ∙ sym (reaches_is p t c.name.name i (own_number p i c distinct there)))
+-- the marks of the connections to which some JOINs come
+pub reached_marks : (p : PlainProcess) (joins : List Join) (marks : List Bool) → repeats [] (connector_names p) ≡ []
+    → AreMarks (links_of p) (targets_of p joins) marks → marks ≡ map (λ c. list_any (λ j. comes p j.connector.name c.name.name) joins) p.connections
+reached_marks p joins marks distinct are =
+    same_map (λ c. list_any (λ j. comes p j.connector.name c.name.name) joins) p.connections marks (are.count ∙ links_length p) (λ i c b there mark.
+    are.each i b mark ∙ sym (joins_reach p joins c.name.name i (own_number p i c distinct there)))
+
+-- as many links as connections
+pub within_links : (p : PlainProcess) (g : List (Vec ℕ)) (ns : List ℕ) → graph_in g ≡ links_of p → All (λ n. n < length p.connections) ns → All (λ n. n < length g) ns
+within_links p g ns is within =
+    let count : length g ≡ length p.connections = sym (length-map g (λ v. v.items)) ∙ (ap length is ∙ links_length p) in
+    subst (λ k. All (λ n. n < k) ns) (sym count) within
 
 -- ---- orders, and JOINs that come back
 

@@ -1,11 +1,13 @@
 //! JOINs: where they stand, and to which connections a transition comes by them.
-ghost use Rattle.std.specs.Prelude.{◌≡◌, [], ◌++◌, ◌<◌, All, map, length, IfOk, OnOk};
-ghost use Rattle.sdl_ast.specs.Plain.{Text};
+ghost use Rattle.std.specs.Prelude.{◌≡◌, List, [], ◌++◌, ◌<◌, All, map, length, IfOk, OnOk};
+ghost use Rattle.std.specs.List.{list_any};
+ghost use Rattle.sdl_ast.specs.declared.tree.Join.{Join};
+ghost use Rattle.sdl_ast.specs.Plain.{Text, PlainProcess};
 ghost use Rattle.sdl_ast.specs.Views.{end_text, text_of, statement_of, choice_of, connection_of, process_of};
 ghost use Rattle.sdl_tables.specs.Names.{connector_names};
 ghost use Rattle.sdl_tables.specs.Scopes.{repeats};
 ghost use Rattle.sdl_sound.specs.Statements.{joins_of};
-ghost use Rattle.sdl_sound.specs.Joins.{reaches};
+ghost use Rattle.sdl_sound.specs.Joins.{comes, reaches};
 ghost use Rattle.sdl_joins.specs.JoinLists.{text_joins, choice_joins};
 ghost use Rattle.sdl_joins.specs.Links.{graph_in, IsGraph};
 ghost use Rattle.sdl_sound.specs.Orders.{targets_of, links_of, joins_in};
@@ -111,6 +113,36 @@ pub fn find_links(alloc: Global, process: &ProcessTable) -> Result<Vec<Vec<usize
     links_in(alloc, process.connectors(), &process.process().connections)
 }
 
+/// The numbers of the connections that a transition joins, where these are the JOINs of its own text.
+pub fn targets_in(
+    alloc: Global,
+    process: &ProcessTable,
+    transition: &Transition,
+) -> Result<Vec<usize>, AllocError>
+    ensures targets { IfOk result (λ v. v.items ≡ targets_of (process_of process.now) (joins_of (text_of transition.now))) }
+    ensures within { IfOk result (λ v. All (λ n. n < length (process_of process.now).connections) v.items) }
+{
+    let joins = find_joins(alloc, transition)?;
+    let targets = find_targets(alloc, process.connectors(), &joins)?;
+    Ok(targets)
+}
+
+/// A mark for each connection of a process, by number: whether one of some JOINs comes there, where these are the links of the
+/// connections, and the numbers of those that the JOINs lead to.
+pub fn reached_from(
+    alloc: Global,
+    links: &[Vec<usize>],
+    starts: &[usize],
+) -> Result<Vec<bool>, AllocError>
+    requires graph { IsGraph (graph_in links.now) }
+    requires within { All (λ n. n < length links.now) starts.now }
+    ensures { IfOk result (λ marks. (p : PlainProcess) (joins : List Join) → graph_in links.now ≡ links_of p → repeats [] (connector_names p) ≡ []
+        → starts.now ≡ targets_of p joins → marks.items ≡ map (λ c. list_any (λ j. comes p j.connector.name c.name.name) joins) p.connections) }
+{
+    let marks = marks_from(alloc, links, starts)?;
+    Ok(marks)
+}
+
 /// A mark for each connection of a process, by number: whether a transition comes there, where these are the links of the connections.
 pub fn reached_in(
     alloc: Global,
@@ -123,8 +155,7 @@ pub fn reached_in(
     requires distinct { repeats [] (connector_names (process_of process.now)) ≡ [] }
     ensures { IfOk result (λ marks. marks.items ≡ map (λ c. reaches (process_of process.now) (text_of transition.now) c.name.name) (process_of process.now).connections) }
 {
-    let joins = find_joins(alloc, transition)?;
-    let starts = find_targets(alloc, process.connectors(), &joins)?;
-    let marks = marks_from(alloc, links, &starts)?;
+    let starts = targets_in(alloc, process, transition)?;
+    let marks = reached_from(alloc, links, &starts)?;
     Ok(marks)
 }

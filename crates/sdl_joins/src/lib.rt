@@ -6,5 +6,5 @@ mod graph;
 mod joins;
 mod order;
 
-pub use joins::{find_links, reached_in};
+pub use joins::{find_links, reached_from, reached_in, targets_in};
 pub use order::find_orders;

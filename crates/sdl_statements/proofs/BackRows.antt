@@ -22,7 +22,7 @@ use Rattle.sdl_statements.proofs.Knowing.{brought_alike}
 use Rattle.sdl_statements.proofs.SenderRows.{pushed_at}
 use Rattle.plain_laws.proofs.Truths.{and_first as and_left, and_second as and_right}
 
-itself : (q : Party) → same_party q q ≡ true
+pub itself : (q : Party) → same_party q q ≡ true
 itself Environment = refl
 itself (Process id) = folded_same id.name id.name refl
 

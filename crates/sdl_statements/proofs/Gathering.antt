@@ -25,8 +25,7 @@ use Rattle.sdl_statements.specs.declared.sender_table.Numbered.{Numbered}
 use Rattle.sdl_statements.specs.declared.sender_table.Sender.{Sender}
 use Rattle.sdl_statements.specs.declared.sender_table.Sender.TheVariants.{Nobody, Party as By}
 use Rattle.sdl_sound.proofs.Numbered.{number_names, same_folded, folded_same}
-use Rattle.sdl_statements.specs.Sources.{source_origins, Gathers, Marks, row_of, is_marked, row_origins, origins_at}
-use Rattle.sdl_statements.specs.declared.reaching.Reaching.{Reaching}
+use Rattle.sdl_statements.specs.Sources.{Gathers, Marks, is_marked}
 use Rattle.sdl_statements.specs.declared.sources.Senders.{Senders}
 use Rattle.plain_laws.proofs.Truths.{and_first as and_left, and_second as and_right}
 use Rattle.std.proofs.Math.Bool.{and_assoc, and-true, and-false}
@@ -237,18 +236,3 @@ module _ (b : PlainBlock) (p : PlainProcess) where
 
   pub row_numbered : (qs : List Party) (row : List Sender) → row ≡ map (λ q. By (numbered b q)) qs → All (IsSender b) row
   row_numbered qs row is = subst (All (IsSender b)) (sym is) (All-map (IsSender b) (λ q. By (numbered b q)) qs (λ k d within. refl))
-
-  -- a transition more, which comes to the connection or doesn't
-  pub more_origins : (rows : List Reaching) (i n : ℕ) (r : Reaching) (m : Bool) (s : List ℕ) → i < length rows → r ≡ get_or rows i r → is_marked r.reached.items n ≡ m
-      → (answers_all b p (origins_at (map row_of (take i rows)) n) s && answers_all b p (if m then source_origins r.source else []) s)
-      ≡ answers_all b p (origins_at (map row_of (take (i + 1) rows)) n) s
-  more_origins rows i n r m s lt is marked =
-      let done = take i rows in
-      let more : take (i + 1) rows ≡ done ++ r ∷ [] = take_more rows i r lt ∙ ap (λ y. done ++ y ∷ []) (sym is) in
-      let old = origins_at (map row_of done) n in
-      let all : origins_at (map row_of (take (i + 1) rows)) n ≡ old ++ (if m then source_origins r.source else []) =
-      ap (λ l. origins_at (map row_of l) n) more
-      ∙ (ap (λ l. origins_at l n) (map-append row_of done (r ∷ []))
-      ∙ (flat_map-append (row_origins n) (map row_of done) (row_of r ∷ [])
-      ∙ ap (λ l. old ++ l) (append-nil (row_origins n (row_of r)) ∙ ap (λ t. if t then source_origins r.source else []) marked))) in
-      sym (ap (λ l. answers_all b p l s) all ∙ list_all-append (answers_origin b p s) old (if m then source_origins r.source else []))

@@ -9,7 +9,7 @@ use Rattle.sdl_tables.specs.Names.{number_of}
 use Rattle.sdl_sound.specs.Receivers.{answers}
 use Rattle.sdl_statements.specs.Sources.{Gathers, Asks, Marks, is_marked}
 use Rattle.sdl_statements.specs.declared.sources.Senders.{Senders}
-use Rattle.sdl_statements.specs.declared.reaching.Gathered.{Gathered}
+use Rattle.sdl_statements.specs.declared.gathered.Gathered.{Gathered}
 use Rattle.sdl_sound.proofs.Numbered.{number_names, same_folded}
 use Rattle.sdl_statements.proofs.SenderRows.{answers_alike}
 use Rattle.sdl_statements.proofs.Gathering.{absorbed, none_marked, gather_same}
@@ -31,12 +31,6 @@ module _ (b : PlainBlock) (p : PlainProcess) (names : List Identifier) where
   asks_none g k gathers is = record {
     gathers = gathers;
     asked = λ s e name n number there. absurd (none_marked k n (ap (λ l. is_marked l n) (sym is) ∙ there));
-  }
-
-  pub asks_nobody : (g : Gathered) (f : List ℕ → Bool) → Gathers b p g.senders (λ s. f s && false) → Asks b p names g (λ s. f s && false)
-  asks_nobody g f gathers = record {
-    gathers = gathers;
-    asked = λ s e name n number there. absurd (true≢false (sym e ∙ and-false (f s)));
   }
 
   pub asks_same : (g : Gathered) (f h : List ℕ → Bool) → ((s : List ℕ) → f s ≡ h s) → Asks b p names g f → Asks b p names g h

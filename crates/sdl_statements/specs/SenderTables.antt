@@ -1,13 +1,13 @@
 -- Who may have sent each signal that a process takes, with numbers for the parties.
-use Rattle.std.specs.Prelude.{◌≡◌, ℕ, Bool, false, List, Option, None, Some, length, map, slice_get, All, ⊤}
+use Rattle.std.specs.Prelude.{◌≡◌, ℕ, Bool, false, List, [], Option, None, Some, length, map, fold, slice_get, All, ⊤}
 use Rattle.std.specs.List.{list_all}
 use Rattle.std.specs.Global.{Vec}
 use Rattle.sdl_ast.specs.declared.expression.Identifier.{Identifier}
 use Rattle.sdl_ast.specs.declared.tree.Stimulus.{Stimulus}
 use Rattle.sdl_ast.specs.declared.tree.Party.{Party}
 use Rattle.sdl_ast.specs.declared.tree.Party.TheVariants.{Environment, Process}
-use Rattle.sdl_ast.specs.Plain.{PlainProcess, PlainBlock}
-use Rattle.sdl_tables.specs.Names.{number_of, process_names}
+use Rattle.sdl_ast.specs.Plain.{PlainStimulus, PlainInput, PlainProcess, PlainBlock}
+use Rattle.sdl_tables.specs.Names.{number_of, process_names, add_name, input_parts}
 use Rattle.sdl_sound.specs.Receivers.{party_of, carries, answers}
 use Rattle.sdl_statements.specs.declared.sender_table.Numbered.{Numbered}
 use Rattle.sdl_statements.specs.declared.sender_table.Sender.{Sender}
@@ -53,3 +53,15 @@ pub record Tells (b : PlainBlock) (p : PlainProcess) (t : SenderTable) : Type 0 
 -- the number of the row of each of these signals and timers
 abbrev pub stimulus_rows : List Identifier → List Stimulus → List (Option ℕ)
 stimulus_rows names xs = map (λ x. number_of names x.name.name) xs
+
+-- the names of what some INPUTs take, each once
+abbrev pub add_stimulus : List Identifier → PlainStimulus → List Identifier
+add_stimulus names x = add_name names x.name
+
+abbrev pub add_input : List Identifier → PlainInput → List Identifier
+add_input names i = fold add_stimulus names i.stimuli
+
+-- a row for each signal and timer that a process takes
+pub record ToldAll (b : PlainBlock) (p : PlainProcess) (t : SenderTable) : Type 0 where
+  pub tells : Tells b p t
+  pub names : t.names ≡ fold add_input [] (input_parts p)

@@ -12,25 +12,9 @@ use Rattle.sdl_sound.specs.Receivers.{party_of, carries, answers, answers_all}
 use Rattle.sdl_statements.specs.SenderTables.{party_number, IsSender, gets_back, stimulus_rows}
 use Rattle.sdl_ast.specs.declared.tree.Party as the_party
 use Rattle.sdl_statements.specs.declared.known.KnownSenders.{KnownSenders}
-use Rattle.sdl_statements.specs.declared.reaching.Gathered.{Gathered}
-use Rattle.sdl_statements.specs.declared.reaching.Reaching.{Reaching}
+use Rattle.sdl_statements.specs.declared.gathered.Gathered.{Gathered}
 use Rattle.sdl_statements.specs.declared.sender_table.Sender.{Sender}
 use Rattle.sdl_statements.specs.declared.sources.Senders.{Senders}
-use Rattle.sdl_statements.specs.declared.reaching.Source.{Source}
-use Rattle.sdl_statements.specs.declared.reaching.Source.TheVariants.{Start, Input}
-
--- START, or each signal and timer of an INPUT
-abbrev pub source_origins : Source → List Origin
-source_origins Start = begins ∷ []
-source_origins (Input i) = input_origins (input_of i.now)
-
--- the numbers of their rows
-abbrev pub source_rows : List Identifier → Source → List (Option ℕ)
-source_rows names Start = []
-source_rows names (Input i) = stimulus_rows names i.now.stimuli.items
-
-abbrev pub AreNumbered : List Identifier → Reaching → Type 0
-AreNumbered names r = r.rows.items ≡ source_rows names r.source
 
 -- These senders are all who may have sent one of these: what they all get is what each of these allows.
 pub record AreSenders (b : PlainBlock) (p : PlainProcess) (senders : List Sender) (from : List Origin) : Type 0 where
@@ -68,29 +52,3 @@ pub record Asks (b : PlainBlock) (p : PlainProcess) (names : List Identifier) (g
 -- what has a mark now had one before, or is this number
 abbrev pub Marks : Option ℕ → List Bool → List Bool → Type 0
 Marks number old new = (n : ℕ) → is_marked new n ≡ true → (number ≡ Some n) ⊎ (is_marked old n ≡ true)
-
--- to which connections a text comes, by number
-abbrev pub reach_row : PlainProcess → Text → List Bool
-reach_row p t = map (λ c. reaches p t c.name.name) p.connections
-
--- with what a transition begins, and where it comes
-pub record Row : Type 0 where
-  pub origins : List Origin
-  pub reached : List Bool
-
-abbrev pub row_of : Reaching → Row
-row_of r = record { origins = source_origins r.source; reached = r.reached.items }
-
-abbrev pub input_row : PlainProcess → PlainInput → Row
-input_row p i = record { origins = input_origins i; reached = reach_row p i.text }
-
--- the transitions of a process: that of START, and those of the INPUTs
-abbrev pub process_rows : PlainProcess → List Row
-process_rows p = record { origins = begins ∷ []; reached = reach_row p p.start.text } ∷ map (input_row p) (input_parts p)
-
-abbrev pub row_origins : ℕ → Row → List Origin
-row_origins n r = if is_marked r.reached n then r.origins else []
-
--- with what the transitions begin that come to connection n
-abbrev pub origins_at : List Row → ℕ → List Origin
-origins_at rows n = flat_map (row_origins n) rows

@@ -33,7 +33,8 @@ fn find_marks(
     Ok(marks)
 }
 
-fn is_there(marks: &[bool], number: Option<usize>) -> bool
+/// Whether a number is there and has a mark.
+pub(crate) fn is_there(marks: &[bool], number: Option<usize>) -> bool
     ensures { result ≡ option_map_or (is_marked marks.now) number false }
 {
     match number {

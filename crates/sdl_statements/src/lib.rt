@@ -3,6 +3,8 @@
 #![tactic(auto)]
 
 mod back_table;
+mod distinct;
+mod gathered;
 mod known;
 mod lost;
 mod reaching;

@@ -1,6 +1,6 @@
 //! The signals that nobody gets, statement by statement: of those that go TO SENDER it is known who may have sent what a
 //! transition begins with.
-ghost use Rattle.std.specs.Prelude.{◌≡◌, false, List, [], ◌∷◌, map, All, IfOk, OnOk};
+ghost use Rattle.std.specs.Prelude.{◌≡◌, false, List, [], ◌∷◌, Some, map, slice_get, IfOk, OnOk};
 ghost use Rattle.std.specs.List.{flat_map};
 ghost use Rattle.sdl_ast.specs.Views.{text_of, input_of, connection_of, process_of, block_of};
 ghost use Rattle.sdl_tables.specs.Scopes.{Marks};
@@ -9,13 +9,15 @@ ghost use Rattle.sdl_statements.specs.declared.statements.StatementRule.TheVaria
 ghost use Rattle.sdl_sound.specs.Statements.{statements_of};
 ghost use Rattle.sdl_sound.specs.Actions.{Origin, begins, in_input, in_connection, in_statements};
 ghost use Rattle.sdl_statements.specs.Backs.{Brings};
-ghost use Rattle.sdl_statements.specs.SenderTables.{Tells};
-ghost use Rattle.sdl_statements.specs.Sources.{AreSenders, AreNumbered, row_of, origins_at};
+ghost use Rattle.sdl_statements.specs.SenderTables.{Tells, ToldAll};
+ghost use Rattle.sdl_statements.specs.Sources.{AreSenders};
+ghost use Rattle.sdl_statements.specs.Reached.{AreSent};
 ghost use Rattle.sdl_statements.specs.Asked.{asked, asked_all, back_statement};
 
 use crate::back_table::BackTable;
+use crate::gathered::input_senders;
 use crate::known::{KnownSenders, learn_transition};
-use crate::reaching::{Reaching, find_reaching, input_senders, senders_at};
+use crate::reaching::{Sent, find_sent, senders_at};
 use crate::sender_table::{Sender, SenderTable, find_senders};
 use crate::sources::start_senders;
 use crate::statements::{StatementRule, in_transition};
@@ -126,19 +128,19 @@ fn lost_in_connection(
     backs: &mut BackTable,
     block: &BlockTable,
     process: &ProcessTable,
-    table: &SenderTable,
-    rows: &[Reaching],
+    sent: &[Sent],
     number: usize,
-    transition: &Transition,
+    connection: &Connection,
 ) -> Result<Option<u32>, AllocError>
-    requires table { Tells (block_of block.now) (process_of process.now) table.now }
-    requires rows { All (AreNumbered table.now.names) rows.now }
+    requires sent { AreSent (block_of block.now) (process_of process.now) sent.now }
+    requires connection { slice_get (process_of process.now).connections number ≡ Some (connection_of connection.now) }
     requires backs { Brings (block_of block.now) (process_of process.now) backs.old }
-    ensures place { IfOk result (λ place. Marks place (asked_all Receivers (block_of block.now) (process_of process.now) (origins_at (map row_of rows.now) number) (statements_of (text_of transition.now)))) }
+    ensures place { IfOk result (λ place. Marks place (in_connection (asked Receivers (block_of block.now) (process_of process.now)) (process_of process.now) (connection_of connection.now))) }
     ensures backs { OnOk result (Brings (block_of block.now) (process_of process.now) backs.new) }
 {
+    let transition = &connection.transition;
     if sends_back(alloc, block, process, transition) {
-        let senders = senders_at(alloc, block, process, table, rows, number)?;
+        let senders = senders_at(alloc, sent, number)?;
         let lost = lost_in_transition(alloc, backs, block, process, senders, transition)?;
         return Ok(lost);
     }
@@ -155,19 +157,16 @@ fn lost_in_connections(
     table: &SenderTable,
     connections: &[Connection],
 ) -> Result<Option<u32>, AllocError>
-    requires table { Tells (block_of block.now) (process_of process.now) table.now }
+    requires table { ToldAll (block_of block.now) (process_of process.now) table.now }
     requires connections { map connection_of connections.now ≡ (process_of process.now).connections }
     requires backs { Brings (block_of block.now) (process_of process.now) backs.old }
     ensures place { IfOk result (λ place. Marks place (flat_map (in_connection (asked Receivers (block_of block.now) (process_of process.now)) (process_of process.now)) (map connection_of connections.now))) }
     ensures backs { OnOk result (Brings (block_of block.now) (process_of process.now) backs.new) }
 {
-    let rows = find_reaching(alloc, process, table)?;
+    let sent = find_sent(alloc, process, table)?;
     let mut place = None;
     for (number, connection) in connections.iter().enumerate() {
-        let transition = &connection.transition;
-        let lost = lost_in_connection(
-            alloc, backs, block, process, table, &rows, number, transition,
-        )?;
+        let lost = lost_in_connection(alloc, backs, block, process, &sent, number, connection)?;
         place = earlier(place, lost);
     }
     Ok(place)

@@ -1,11 +1,11 @@
 //! Who may have sent each signal and timer that a process takes: the routes are asked once for each.
-ghost use Rattle.std.specs.Prelude.{◌≡◌, ◌∷◌, [], map, IfOk, OnOk, IfSome, List, ℕ};
+ghost use Rattle.std.specs.Prelude.{◌≡◌, ◌∷◌, [], map, fold, IfOk, OnOk, IfSome, List, ℕ};
 ghost use Rattle.sdl_ast.specs.Plain.{PlainBlock, PlainProcess};
-ghost use Rattle.sdl_ast.specs.Views.{process_of, block_of};
-ghost use Rattle.sdl_tables.specs.Names.{number_of};
+ghost use Rattle.sdl_ast.specs.Views.{stimulus_of, input_of, process_of, block_of};
+ghost use Rattle.sdl_tables.specs.Names.{number_of, add_name};
 ghost use Rattle.sdl_sound.specs.Receivers.{party_of};
 ghost use Rattle.sdl_statements.specs.declared.sender_table.Sender.TheVariants as sent_by;
-ghost use Rattle.sdl_statements.specs.SenderTables.{party_number, numbered, AreSendersOf, stimulus_rows, Tells};
+ghost use Rattle.sdl_statements.specs.SenderTables.{party_number, numbered, AreSendersOf, stimulus_rows, Tells, add_stimulus, add_input, ToldAll};
 
 use sdl_ast::{Identifier, InputPart, Party, Stimulus};
 use sdl_lex::Name;
@@ -96,7 +96,8 @@ pub(crate) struct SenderTable {
 
 impl SenderTable {
     fn new(alloc: Global) -> Self
-        ensures { (b : PlainBlock) (p : PlainProcess) → Tells b p result }
+        ensures names { result.names ≡ [] }
+        ensures tells { (b : PlainBlock) (p : PlainProcess) → Tells b p result }
     {
         SenderTable {
             names: NameTable::new(alloc),
@@ -107,6 +108,13 @@ impl SenderTable {
     /// How many rows there are.
     pub(crate) fn len(&self) -> usize {
         self.names.len()
+    }
+
+    /// Who may have sent each of them, by number.
+    pub(crate) fn rows(&self) -> &[Vec<Sender>]
+        ensures { result.now ≡ self.now.rows.items }
+    {
+        &self.rows
     }
 
     /// The number of the row of each of these signals and timers.
@@ -144,7 +152,8 @@ impl SenderTable {
         process: &ProcessTable,
         signal: Identifier,
     ) -> Result<(), AllocError>
-        ensures { OnOk result (Tells (block_of block.now) (process_of process.now) self.old → Tells (block_of block.now) (process_of process.now) self.new) }
+        ensures names { OnOk result (self.new.names ≡ add_name self.old.names signal) }
+        ensures tells { OnOk result (Tells (block_of block.now) (process_of process.now) self.old → Tells (block_of block.now) (process_of process.now) self.new) }
     {
         if self.names.contains(signal.name) {
             return Ok(());
@@ -162,7 +171,8 @@ impl SenderTable {
         process: &ProcessTable,
         stimuli: &[Stimulus],
     ) -> Result<(), AllocError>
-        ensures { OnOk result (Tells (block_of block.now) (process_of process.now) self.old → Tells (block_of block.now) (process_of process.now) self.new) }
+        ensures names { OnOk result (self.new.names ≡ fold add_stimulus self.old.names (map stimulus_of stimuli.now)) }
+        ensures tells { OnOk result (Tells (block_of block.now) (process_of process.now) self.old → Tells (block_of block.now) (process_of process.now) self.new) }
     {
         for stimulus in stimuli {
             self.learn(alloc, block, process, stimulus.name)?;
@@ -177,7 +187,8 @@ impl SenderTable {
         process: &ProcessTable,
         inputs: &[&InputPart],
     ) -> Result<(), AllocError>
-        ensures { OnOk result (Tells (block_of block.now) (process_of process.now) self.old → Tells (block_of block.now) (process_of process.now) self.new) }
+        ensures names { OnOk result (self.new.names ≡ fold add_input self.old.names (map (λ i. input_of i.now) inputs.now)) }
+        ensures tells { OnOk result (Tells (block_of block.now) (process_of process.now) self.old → Tells (block_of block.now) (process_of process.now) self.new) }
     {
         for input in inputs {
             self.learn_stimuli(alloc, block, process, &input.stimuli)?;
@@ -192,7 +203,7 @@ pub(crate) fn find_senders(
     block: &BlockTable,
     process: &ProcessTable,
 ) -> Result<SenderTable, AllocError>
-    ensures { IfOk result (Tells (block_of block.now) (process_of process.now)) }
+    ensures { IfOk result (ToldAll (block_of block.now) (process_of process.now)) }
 {
     let mut table = SenderTable::new(alloc);
     table.learn_inputs(alloc, block, process, process.parts())?;

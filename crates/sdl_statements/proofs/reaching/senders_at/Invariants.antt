@@ -1,10 +1,6 @@
-use Rattle.std.proofs.Common.{map, take}
-use Rattle.sdl_ast.specs.Views.{block_of, process_of}
-use Rattle.sdl_sound.specs.Receivers.{answers_all}
-use Rattle.sdl_statements.specs.Sources.{Asks, row_of, origins_at}
+use Rattle.std.proofs.Common.{◌≡◌, map, take}
+use Rattle.sdl_statements.specs.Reached.{sent_of, senders_in}
 use Rattle.sdl_statements.proofs.reaching.senders_at.Given as goal
 
-abbrev pub invariant-loop-row : goal.invariant-loop-row
-invariant-loop-row l =
-    Asks (block_of l.block) (process_of l.process) l.table.names l.gathered
-    (answers_all (block_of l.block) (process_of l.process) (origins_at (map row_of (take l.row-index l.rows)) l.number))
+abbrev pub invariant-loop-one : goal.invariant-loop-one
+invariant-loop-one l = l.senders.items ≡ senders_in (map sent_of (take l.one-index l.sent)) l.number

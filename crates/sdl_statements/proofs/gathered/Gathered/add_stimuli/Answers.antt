@@ -9,7 +9,7 @@ use Rattle.sdl_sound.specs.Actions.{takes}
 use Rattle.sdl_sound.specs.Receivers.{answers, answers_all}
 use Rattle.sdl_statements.proofs.Gathering.{stimulus_more}
 use Rattle.sdl_statements.proofs.RowsAdded.{asks_same, asks_nothing}
-use Rattle.sdl_statements.proofs.reaching.Gathered.add_stimuli.Goals as goal
+use Rattle.sdl_statements.proofs.gathered.Gathered.add_stimuli.Goals as goal
 
 pub add_row-requires-clause-row : goal.add_row-requires-clause-row
 add_row-requires-clause-row c =

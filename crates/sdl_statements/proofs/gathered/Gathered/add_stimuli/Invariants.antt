@@ -3,7 +3,7 @@ use Rattle.sdl_ast.specs.Views.{block_of, process_of, stimulus_of}
 use Rattle.sdl_sound.specs.Actions.{takes}
 use Rattle.sdl_sound.specs.Receivers.{answers_all}
 use Rattle.sdl_statements.specs.Sources.{Asks}
-use Rattle.sdl_statements.proofs.reaching.Gathered.add_stimuli.Given as goal
+use Rattle.sdl_statements.proofs.gathered.Gathered.add_stimuli.Given as goal
 
 abbrev pub invariant-loop-place : goal.invariant-loop-place
 invariant-loop-place l =

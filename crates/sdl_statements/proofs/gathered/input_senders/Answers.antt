@@ -3,7 +3,7 @@ use Rattle.sdl_ast.specs.declared.tree.Stimulus.{Stimulus}
 use Rattle.sdl_ast.specs.Views.{block_of, process_of, stimulus_of}
 use Rattle.sdl_sound.specs.Actions.{takes}
 use Rattle.sdl_sound.specs.Receivers.{answers_all}
-use Rattle.sdl_statements.proofs.reaching.input_senders.Goals as goal
+use Rattle.sdl_statements.proofs.gathered.input_senders.Goals as goal
 
 pub returns : goal.returns
 returns c =

@@ -4,7 +4,7 @@ use Rattle.sdl_ast.specs.Views.{block_of, process_of}
 use Rattle.sdl_statements.specs.Sources.{is_marked}
 use Rattle.sdl_statements.proofs.Gathering.{not_is}
 use Rattle.sdl_statements.proofs.RowsAdded.{asks_new, asks_there}
-use Rattle.sdl_statements.proofs.reaching.Gathered.add_row.Goals as goal
+use Rattle.sdl_statements.proofs.gathered.Gathered.add_row.Goals as goal
 
 pub returns-in_ok-add_row : goal.returns-in_ok-add_row
 returns-in_ok-add_row c = λ f g.

@@ -1,0 +1,31 @@
+-- Senders, each party once.
+use Rattle.std.specs.Prelude.{ℕ, Bool, true, false, List, [], ◌∷◌, ◌++◌, Option, None, Some, if◌then◌else◌, nat_eq, fold}
+use Rattle.std.specs.List.{list_any}
+use Rattle.std.specs.Global.{Vec}
+use Rattle.sdl_tables.specs.Routes.{same_party}
+use Rattle.sdl_statements.specs.declared.sender_table.Sender.{Sender}
+use Rattle.sdl_statements.specs.declared.sender_table.Sender.TheVariants.{Nobody, Party}
+
+-- whether two parties have one number, or one name where neither has a number
+abbrev pub same_numbers : Option ℕ → Option ℕ → Bool → Bool
+same_numbers (Some m) (Some n) named = nat_eq m n
+same_numbers (Some m) None named = false
+same_numbers None (Some n) named = false
+same_numbers None None named = named
+
+abbrev pub same_sender : Sender → Sender → Bool
+same_sender Nobody Nobody = true
+same_sender Nobody (Party y) = false
+same_sender (Party x) Nobody = false
+same_sender (Party x) (Party y) = same_numbers x.number y.number (same_party x.party y.party)
+
+abbrev pub has_sender : List Sender → Sender → Bool
+has_sender xs y = list_any (λ x. same_sender x y) xs
+
+-- one more, unless it is there
+abbrev pub add_sender : List Sender → Sender → List Sender
+add_sender xs y = if has_sender xs y then xs else xs ++ y ∷ []
+
+-- those of some rows
+abbrev pub distinct : List (Vec Sender) → List Sender
+distinct rows = fold (λ xs (row : Vec Sender). fold add_sender xs row.items) [] rows
