@@ -2,9 +2,9 @@ pub mod Alike
 pub mod Asking
 pub mod BackRows
 pub mod Backward
+pub mod Coming
 pub mod Gathering
 pub mod Knowing
-pub mod Reaching
 pub mod RowsAdded
 pub mod SenderRows
 pub mod Spreading

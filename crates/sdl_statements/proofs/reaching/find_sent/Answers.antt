@@ -5,7 +5,7 @@ use Rattle.sdl_sound.specs.Actions.{connection_origins}
 use Rattle.sdl_statements.specs.Distinct.{distinct}
 use Rattle.sdl_statements.specs.Sources.{AreSenders}
 use Rattle.sdl_statements.specs.Reached.{PlainSent, sent_of, sent_by, sent_all, senders_in}
-use Rattle.sdl_statements.proofs.Reaching.{sent_are}
+use Rattle.sdl_statements.proofs.Coming.{sent_are}
 use Rattle.sdl_statements.proofs.reaching.find_sent.Goals as goal
 
 pub returns : goal.returns

@@ -7,7 +7,7 @@ use Rattle.sdl_joins.proofs.Connectors.{within_links}
 use Rattle.sdl_statements.specs.Distinct.{has_sender}
 use Rattle.sdl_statements.specs.Reached.{PlainJoining, joining_of, starts_with, sent_joins}
 use Rattle.sdl_statements.specs.declared.sender_table.Sender.{Sender}
-use Rattle.sdl_statements.proofs.Reaching.{starts_is, starts_within}
+use Rattle.sdl_statements.proofs.Coming.{starts_is, starts_within}
 use Rattle.sdl_statements.proofs.reaching.reached_by.Goals as goal
 
 pub reached_from-requires-clause-within : goal.reached_from-requires-clause-within
