@@ -115,25 +115,26 @@ module _ (b : PlainBlock) (p : PlainProcess) (s : List ℕ) where
     -- where it doesn't get to one of them
     fails : (us : List Sender) → All (IsSender b) us → gets_back b p s y ≡ false → has_sender us y ≡ true
         → list_all (λ u. not (same_sender y u) || gets_back b p s u) us ≡ false
-    fails [] are no there = absurd (true≢false (sym there))
-    fails (u ∷ us) are no there = by_test (same_sender u y) refl
+    fails [] are lost there = absurd (true≢false (sym there))
+    fails (u ∷ us) are lost there =
+        by_test (same_sender u y) refl
+        (λ e. fails us (λ k d less. are (suc k) d (omega (arith, less))) lost (sym (ap (λ t. t || has_sender us y) e) ∙ there))
       where
-        by_test : (t : Bool) → same_sender u y ≡ t → list_all (λ u. not (same_sender y u) || gets_back b p s u) (u ∷ us) ≡ false
-        by_test true e =
+        by_test : (t : Bool) → same_sender u y ≡ t → (same_sender u y ≡ false → list_all (λ u. not (same_sender y u) || gets_back b p s u) us ≡ false)
+            → list_all (λ u. not (same_sender y u) || gets_back b p s u) (u ∷ us) ≡ false
+        by_test true e rest =
             ap (λ t. (not t || gets_back b p s u) && list_all (λ u. not (same_sender y u) || gets_back b p s u) us) (turned u y e)
-            ∙ ap (λ t. t && list_all (λ u. not (same_sender y u) || gets_back b p s u) us) (alike u y (are 0 u (omega arith)) is e ∙ no)
-        by_test false e =
-            ap (λ t. (not (same_sender y u) || gets_back b p s u) && t)
-            (fails us (λ k d less. are (suc k) d (omega (arith, less))) no (sym (ap (λ t. t || has_sender us y) e) ∙ there))
-            ∙ and-false (not (same_sender y u) || gets_back b p s u)
+            ∙ ap (λ t. t && list_all (λ u. not (same_sender y u) || gets_back b p s u) us) (alike u y (are 0 u (omega arith)) is e ∙ lost)
+        by_test false e rest =
+            ap (λ t. (not (same_sender y u) || gets_back b p s u) && t) (rest e) ∙ and-false (not (same_sender y u) || gets_back b p s u)
 
     -- where it does
     gets : (us : List Sender) → All (IsSender b) us → gets_back b p s y ≡ true → list_all (λ u. not (same_sender y u) || gets_back b p s u) us ≡ true
-    gets [] are yes = refl
-    gets (u ∷ us) are yes = λ i. by_test (same_sender y u) refl i && gets us (λ k d less. are (suc k) d (omega (arith, less))) yes i
+    gets [] are back = refl
+    gets (u ∷ us) are back = λ i. by_test (same_sender y u) refl i && gets us (λ k d less. are (suc k) d (omega (arith, less))) back i
       where
         by_test : (t : Bool) → same_sender y u ≡ t → (not t || gets_back b p s u) ≡ true
-        by_test true e = sym (alike y u is (are 0 u (omega arith)) e) ∙ yes
+        by_test true e = sym (alike y u is (are 0 u (omega arith)) e) ∙ back
         by_test false e = refl
 
     covered : (us : List Sender) → All (IsSender b) us → has_sender us y ≡ true → list_all (λ u. not (same_sender y u) || gets_back b p s u) us ≡ gets_back b p s y

@@ -11,6 +11,8 @@ use Rattle.std.proofs.lemmas.Option.{slice_get-map, slice_get_within}
 use Rattle.std.proofs.Math.Bool.{and-true, and-false}
 use Rattle.sdl_ast.specs.declared.expression.Identifier.{Identifier}
 use Rattle.sdl_ast.specs.declared.tree.Join.{Join}
+use Rattle.sdl_ast.specs.declared.tree.Stimulus.{Stimulus}
+use Rattle.sdl_ast.specs.Views.{stimulus_of}
 use Rattle.sdl_ast.specs.Plain.{Text, PlainStimulus, PlainInput, PlainConnection, PlainProcess, PlainBlock}
 use Rattle.sdl_tables.specs.Names.{same_name, is_in, number_of, add_name, connector_names, input_parts}
 use Rattle.sdl_tables.proofs.Tables.{is_some-position}
@@ -23,7 +25,7 @@ use Rattle.sdl_sound.proofs.Numbered.{number_names, folded_same}
 use Rattle.plain_laws.proofs.Places.{there_is}
 use Rattle.sdl_statements.specs.Distinct.{has_sender, distinct}
 use Rattle.sdl_statements.specs.Sources.{is_marked, AreSenders}
-use Rattle.sdl_statements.specs.SenderTables.{IsSender, gets_back, AreSendersOf, add_stimulus, add_input, ToldAll}
+use Rattle.sdl_statements.specs.SenderTables.{IsSender, gets_back, AreSendersOf, stimulus_rows, add_stimulus, add_input, ToldAll}
 use Rattle.sdl_statements.specs.Reached.{PlainSent, joining_of, input_joining, takes_one, starts_with, row_at, may_begin, sent_joins, sent_reach, sent_by, sent_all, senders_in}
 use Rattle.sdl_statements.specs.declared.reaching.Joining.{Joining}
 use Rattle.sdl_statements.specs.declared.sender_table.Sender.{Sender}
@@ -53,6 +55,11 @@ takes_is : (t : SenderTable) (u : Sender) (xs : List PlainStimulus)
     ≡ list_any (λ x. has_sender (row_at t x.name.name) u) xs
 takes_is t u [] = refl
 takes_is t u (x ∷ xs) = λ i. bits_at t.rows.items u (number_of t.names x.name.name) i || takes_is t u xs i
+
+-- what an INPUT takes
+pub stimuli_numbered : (names : List Identifier) (xs : List Stimulus) → stimulus_rows names xs ≡ map (λ x. number_of names x.name.name) (map stimulus_of xs)
+stimuli_numbered names [] = refl
+stimuli_numbered names (x ∷ xs) = ap (λ l. number_of names x.name.name ∷ l) (stimuli_numbered names xs)
 
 -- ---- what is joined
 

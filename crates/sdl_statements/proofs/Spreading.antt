@@ -70,12 +70,13 @@ all_flat k f (x ∷ xs) = list_all-append f (k x) (flat_map k xs) ∙ ap (λ b. 
 pub picked : {Z U : Type 0} (m : Z → Bool) (s : Z → U) (g : U → Bool) (zs : List Z)
     → list_all g (flat_map (λ z. if m z then s z ∷ [] else []) zs) ≡ list_all (λ z. not (m z) || g (s z)) zs
 picked m s g [] = refl
-picked m s g (z ∷ zs) = by_test (m z)
+picked m s g (z ∷ zs) = by_test (m z) (picked m s g zs)
   where
-    by_test : (t : Bool) → list_all g ((if t then s z ∷ [] else []) ++ flat_map (λ z. if m z then s z ∷ [] else []) zs)
+    by_test : (t : Bool) → list_all g (flat_map (λ z. if m z then s z ∷ [] else []) zs) ≡ list_all (λ z. not (m z) || g (s z)) zs
+        → list_all g ((if t then s z ∷ [] else []) ++ flat_map (λ z. if m z then s z ∷ [] else []) zs)
         ≡ ((not t || g (s z)) && list_all (λ z. not (m z) || g (s z)) zs)
-    by_test true = ap (λ b. g (s z) && b) (picked m s g zs)
-    by_test false = picked m s g zs
+    by_test true rest = ap (λ b. g (s z) && b) rest
+    by_test false rest = rest
 
 pub any_joined : {A B : Type 0} (t : A → Bool) (k : A → List B) (f : B → Bool) (xs : List A)
     → list_any f (flat_map (λ x. if t x then k x else []) xs) ≡ list_any (λ x. t x && list_any f (k x)) xs

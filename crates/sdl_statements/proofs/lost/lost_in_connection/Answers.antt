@@ -15,3 +15,11 @@ returns-clause-place c =
     let os = connection_origins p (connection_of c.args.connection.now) in
     let ss = statements_of (text_of c.args.connection.now.transition) in
     subst (Marks c.in_transition.result) (lost_same b p os ss (c.sends_back.ensures c.if-sends_back.false)) (c.in_transition.ensures [] (c.none-none.ensures b p))
+
+pub returns-then-sends_back-clause-backs : goal.returns-then-sends_back-clause-backs
+returns-then-sends_back-clause-backs c =
+    let b = block_of c.args.block.now in
+    let p = process_of c.args.process.now in
+    let here = connection_of c.args.connection.now in
+    c.in_ok-lost.ensures.backs (connection_origins p here)
+    (subst (λ (l : List Sender). AreSenders b p l (connection_origins p here)) (sym c.in_ok-senders.ensures) (c.requires.sent c.args.number here c.requires.connection))

@@ -9,4 +9,4 @@ abbrev pub invariant-loop-sender : goal.invariant-loop-sender
 invariant-loop-sender l =
     let p = process_of l.process in
     map sent_of l.all.items
-    ≡ record { sender = Nobody; reached = map (λ c. reaches p p.start.text c.name.name) p.connections } ∷ map (sent_by p l.table) (take l.sender-index l.senders.items)
+    ≡ record { sender = Nobody; reached = map (λ c. reaches p p.start.text c.name.name) p.connections } ∷ map (sent_by p l.table) (take l.sender-index l.sender-items)
