@@ -13,8 +13,8 @@ use Rattle.sdl_ast.specs.declared.expression.Identifier.{Identifier}
 use Rattle.sdl_ast.specs.declared.tree.Join.{Join}
 use Rattle.sdl_ast.specs.declared.tree.Stimulus.{Stimulus}
 use Rattle.sdl_ast.specs.Views.{stimulus_of}
-use Rattle.sdl_ast.specs.Plain.{Text, PlainStimulus, PlainInput, PlainConnection, PlainProcess, PlainBlock}
-use Rattle.sdl_tables.specs.Names.{same_name, is_in, number_of, add_name, connector_names, input_parts}
+use Rattle.sdl_ast.specs.Plain.{PlainStimulus, PlainInput, PlainConnection, PlainProcess, PlainBlock}
+use Rattle.sdl_tables.specs.Names.{same_name, is_in, number_of, connector_names, input_parts}
 use Rattle.sdl_tables.proofs.Tables.{is_some-position}
 use Rattle.sdl_sound.specs.Statements.{joins_of}
 use Rattle.sdl_sound.specs.Joins.{comes, reaches}

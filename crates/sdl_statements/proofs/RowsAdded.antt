@@ -14,7 +14,7 @@ use Rattle.sdl_sound.proofs.Numbered.{number_names, same_folded}
 use Rattle.sdl_statements.proofs.SenderRows.{answers_alike}
 use Rattle.sdl_statements.proofs.Gathering.{absorbed, none_marked, gather_same}
 use Rattle.plain_laws.proofs.Truths.{and_first as and_left, and_second as and_right}
-use Rattle.std.proofs.Math.Bool.{and-false, and-true}
+use Rattle.std.proofs.Math.Bool.{and-true}
 use Rattle.std.proofs.lemmas.Option.{same_Some as some_same}
 
 module _ (b : PlainBlock) (p : PlainProcess) (names : List Identifier) where

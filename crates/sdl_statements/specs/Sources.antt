@@ -1,15 +1,13 @@
 -- With what transitions begin, and to which connections they come, as the code keeps it.
-use Rattle.std.specs.Prelude.{◌≡◌, ◌⊎◌, ℕ, Bool, true, false, Option, Some, List, [], ◌∷◌, if◌then◌else◌, map, slice_get, All}
-use Rattle.std.specs.List.{list_all, flat_map}
+use Rattle.std.specs.Prelude.{◌≡◌, ◌⊎◌, ℕ, Bool, true, false, Option, Some, List, slice_get, All}
+use Rattle.std.specs.List.{list_all}
 use Rattle.std.specs.Option.{option_map_or}
-use Rattle.sdl_ast.specs.Plain.{Text, PlainInput, PlainProcess, PlainBlock}
-use Rattle.sdl_ast.specs.Views.{input_of}
+use Rattle.sdl_ast.specs.Plain.{PlainProcess, PlainBlock}
 use Rattle.sdl_ast.specs.declared.expression.Identifier.{Identifier}
-use Rattle.sdl_tables.specs.Names.{input_parts, is_in, number_of}
-use Rattle.sdl_sound.specs.Joins.{reaches}
-use Rattle.sdl_sound.specs.Actions.{Origin, begins, input_origins}
+use Rattle.sdl_tables.specs.Names.{is_in, number_of}
+use Rattle.sdl_sound.specs.Actions.{Origin}
 use Rattle.sdl_sound.specs.Receivers.{party_of, carries, answers, answers_all}
-use Rattle.sdl_statements.specs.SenderTables.{party_number, IsSender, gets_back, stimulus_rows}
+use Rattle.sdl_statements.specs.SenderTables.{party_number, IsSender, gets_back}
 use Rattle.sdl_ast.specs.declared.tree.Party as the_party
 use Rattle.sdl_statements.specs.declared.known.KnownSenders.{KnownSenders}
 use Rattle.sdl_statements.specs.declared.gathered.Gathered.{Gathered}

@@ -1,5 +1,5 @@
 //! Who may have sent what an INPUT takes.
-ghost use Rattle.std.specs.Prelude.{◌≡◌, ◌&&◌, true, ℕ, Bool, List, Option, None, map, slice_get, IfOk, OnOk};
+ghost use Rattle.std.specs.Prelude.{◌≡◌, ◌&&◌, true, ℕ, Bool, List, None, map, slice_get, IfOk, OnOk};
 ghost use Rattle.std.specs.Option.{option_map_or};
 ghost use Rattle.sdl_ast.specs.Plain.{PlainBlock, PlainProcess};
 ghost use Rattle.sdl_ast.specs.Views.{input_of, stimulus_of, process_of, block_of};

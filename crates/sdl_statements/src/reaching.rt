@@ -1,16 +1,14 @@
 //! Who may have sent what those transitions begin with that come to a connection: for each sender one search, from all connections
 //! that are joined by INPUTs of what it may have sent.
-ghost use Rattle.std.specs.Prelude.{◌≡◌, ◌<◌, ◌∷◌, [], List, Some, if◌then◌else◌, length, map, slice_get, All, IfOk, OnOk};
-ghost use Rattle.std.specs.List.{list_any, flat_map};
-ghost use Rattle.std.specs.Option.{option_map_or};
-ghost use Rattle.sdl_ast.specs.Plain.{PlainBlock, PlainConnection};
+ghost use Rattle.std.specs.Prelude.{◌≡◌, ◌<◌, [], length, map, All, IfOk};
+ghost use Rattle.sdl_ast.specs.Plain.{PlainBlock};
 ghost use Rattle.sdl_ast.specs.Views.{input_of, process_of};
 ghost use Rattle.sdl_tables.specs.Names.{connector_names, input_parts};
 ghost use Rattle.sdl_tables.specs.Scopes.{repeats};
 ghost use Rattle.sdl_joins.specs.Links.{graph_in, IsGraph};
 ghost use Rattle.sdl_sound.specs.Orders.{links_of};
 ghost use Rattle.sdl_statements.specs.SenderTables.{ToldAll};
-ghost use Rattle.sdl_statements.specs.Reached.{joining_of, input_joining, takes_one, starts_with, sent_reach, sent_of, sent_all, senders_in, AreSent};
+ghost use Rattle.sdl_statements.specs.Reached.{joining_of, input_joining, takes_one, starts_with, sent_reach, sent_of, senders_in, AreSent};
 
 use crate::back_table::is_there;
 use crate::distinct::{distinct_senders, rows_with};

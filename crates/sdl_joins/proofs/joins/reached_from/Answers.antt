@@ -1,5 +1,5 @@
 use Rattle.std.proofs.Common.{ℕ, List, subst}
-use Rattle.sdl_sound.specs.Orders.{targets_of, links_of}
+use Rattle.sdl_sound.specs.Orders.{links_of}
 use Rattle.sdl_joins.specs.Searched.{AreMarks}
 use Rattle.sdl_joins.proofs.Connectors.{reached_marks}
 use Rattle.sdl_joins.proofs.joins.reached_from.Goals as goal

@@ -1,4 +1,4 @@
-use Rattle.std.proofs.Common.{◌<◌, ◌∙◌, List, ℕ, length, subst, sym}
+use Rattle.std.proofs.Common.{◌<◌, ◌∙◌, length, subst, sym}
 use Rattle.std.specs.Prelude.{All}
 use Rattle.sdl_ast.specs.Views.{text_of, process_of}
 use Rattle.sdl_sound.specs.Statements.{joins_of}

@@ -1,4 +1,4 @@
-use Rattle.std.proofs.Common.{◌≡◌, ◌∙◌, sym, ap, subst, map, slice_get, Some, List}
+use Rattle.std.proofs.Common.{◌∙◌, sym, ap, subst, slice_get, Some, List}
 use Rattle.std.specs.Option.{option_map}
 use Rattle.std.proofs.lemmas.Option.{slice_get-get_or, slice_get-map}
 use Rattle.sdl_ast.specs.Plain.{PlainConnection}

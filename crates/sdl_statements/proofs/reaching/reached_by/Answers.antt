@@ -1,11 +1,11 @@
-use Rattle.std.proofs.Common.{◌≡◌, ◌∙◌, ◌<◌, Bool, List, ℕ, length, map, ap, sym, subst}
+use Rattle.std.proofs.Common.{◌≡◌, ◌∙◌, ◌<◌, Bool, List, length, map, ap, sym, subst}
 use Rattle.std.specs.Prelude.{All}
 use Rattle.std.specs.Global.{Vec}
 use Rattle.sdl_ast.specs.Views.{process_of}
 use Rattle.sdl_sound.specs.Orders.{targets_of}
 use Rattle.sdl_joins.proofs.Connectors.{within_links}
 use Rattle.sdl_statements.specs.Distinct.{has_sender}
-use Rattle.sdl_statements.specs.Reached.{PlainJoining, joining_of, starts_with, sent_joins}
+use Rattle.sdl_statements.specs.Reached.{joining_of, starts_with, sent_joins}
 use Rattle.sdl_statements.specs.declared.sender_table.Sender.{Sender}
 use Rattle.sdl_statements.proofs.Coming.{starts_is, starts_within}
 use Rattle.sdl_statements.proofs.reaching.reached_by.Goals as goal
