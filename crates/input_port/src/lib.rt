@@ -3,8 +3,6 @@
 
 mod queue;
 mod save;
-#[cfg(test)]
-mod tests;
 
 pub use queue::{Arrival, Item, Port, PutError};
 pub use save::{SIGNALS, Saved, TIMERS};

@@ -2,7 +2,8 @@
 ghost use Rattle.link_side.specs.Laws.{KeepsUnacknowledged, HandsOutInOrder, BusyGoesOutOnce};
 
 /// Of the messages that are kept to send a unit from the far side takes away those that it acknowledges, the oldest of those that
-/// were sent, and nothing else takes any. `retrieve` hands out all others.
+/// were sent. Nothing else takes any but `retrieve`, which hands out what stands behind the number that it is given or, without one,
+/// what was never sent, and keeps nothing.
 pub fn unacknowledged_messages_are_kept()
     ensures { KeepsUnacknowledged }
 {}

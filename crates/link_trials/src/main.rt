@@ -9,7 +9,7 @@
 //!
 //! A row asks what the near terminal hands out: messages before what was told of the link, that it came into service, that it went down
 //! and why, that the far side's processor is out and back. It is a name, and a line for each step ([`steps`]); it prints the name, and
-//! what is handed out at each step that shows it.
+//! what is handed out at each step that shows it. A row may also ask how many line octets many units are that go out at once.
 //!
 //! The words of the command line are one run. Where there are none, trials stand in standard input, with an empty line between two.
 #![tactic(auto)]

@@ -26,6 +26,8 @@ pub enum Step {
     Lose,
     /// So many octets of 1s come to the near end.
     Ones(u16),
+    /// So many units go out at the near end at once.
+    Units(u16),
     /// So many milliseconds pass at both ends.
     Wait(u16),
     /// The near one hands out all that it has.
@@ -73,10 +75,10 @@ fn carry(from: &mut Terminal, to: &mut Terminal) -> Result<(), Stopped> {
 }
 
 impl Pair {
-    /// Two new terminals.
-    pub fn new(alloc: Global) -> Result<Pair, Stopped> {
-        let near = terminal(alloc, Mode::Basic)?;
-        let far = terminal(alloc, Mode::Basic)?;
+    /// Two new terminals with the same error correction.
+    pub fn new(alloc: Global, mode: Mode) -> Result<Pair, Stopped> {
+        let near = terminal(alloc, mode)?;
+        let far = terminal(alloc, mode)?;
         Ok(Pair { near, far })
     }
 
@@ -98,6 +100,12 @@ impl Pair {
         Ok(())
     }
 
+    /// How many line octets so many units are that go out at the near end at once.
+    pub fn octets_out(&mut self, units: u16) -> Result<usize, Stopped> {
+        let octets = self.near.line_out(usize::from(units))?;
+        Ok(octets.len())
+    }
+
     /// So many octets of 1s come to the near end.
     fn hear_ones(&mut self, octets: u16) -> Result<(), Stopped> {
         for _ in 0..octets {
@@ -108,7 +116,7 @@ impl Pair {
         Ok(())
     }
 
-    /// Does a step; one that shows is left to the caller.
+    /// Does a step; one that shows something is left to the caller.
     pub fn make(&mut self, step: Step) -> Result<(), Stopped> {
         match step {
             Step::Near(command) => tell(&mut self.near, command),
@@ -119,7 +127,7 @@ impl Pair {
             Step::Lose => self.lose(),
             Step::Ones(octets) => self.hear_ones(octets),
             Step::Wait(ticks) => self.wait(u64::from(ticks)),
-            Step::Show => Ok(()),
+            Step::Units(_) | Step::Show => Ok(()),
         }
     }
 

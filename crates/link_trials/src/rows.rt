@@ -3,7 +3,7 @@
 use crate::calls::Stopped;
 use crate::pair::{Pair, Step};
 use crate::steps::step_of;
-use link_term::{LinkStatus, Report};
+use link_term::{LinkStatus, Mode, Report};
 use std::alloc::{AllocError, Global};
 
 /// Writes what was told of the link.
@@ -35,6 +35,13 @@ fn write_reports(text: &mut String, pair: &mut Pair) -> Result<(), AllocError> {
     Ok(())
 }
 
+/// Lets so many units go out at the near end at once, and writes how many line octets they are.
+fn write_octets(text: &mut String, pair: &mut Pair, units: u16) -> Result<(), Stopped> {
+    let octets = pair.octets_out(units)?;
+    writeln!(text, "  octets {octets}")?;
+    Ok(())
+}
+
 /// Does a step.
 fn play_step(text: &mut String, pair: &mut Pair, step: Step) -> Result<(), Stopped> {
     match step {
@@ -42,6 +49,7 @@ fn play_step(text: &mut String, pair: &mut Pair, step: Step) -> Result<(), Stopp
             Ok(()) => Ok(()),
             Err(_) => Err(Stopped::NoMemory),
         },
+        Step::Units(units) => write_octets(text, pair, units),
         step => pair.make(step),
     }
 }
@@ -62,10 +70,12 @@ fn play_lines(text: &mut String, pair: &mut Pair, steps: &str) -> Result<(), Sto
     Ok(())
 }
 
-/// Does the steps of a row with two new terminals.
+/// Does the steps of a row with two new terminals, of cyclic error correction where the first line says so.
 fn play_steps(alloc: Global, text: &mut String, steps: &str) -> Result<(), Stopped> {
-    let mut pair = Pair::new(alloc)?;
-    play_lines(text, &mut pair, steps)
+    match steps.strip_prefix("cyclic\n") {
+        Some(steps) => play_lines(text, &mut Pair::new(alloc, Mode::Cyclic)?, steps),
+        None => play_lines(text, &mut Pair::new(alloc, Mode::Basic)?, steps),
+    }
 }
 
 /// Plays a row: its name, and a line for each step. Writes its name and what is handed out.

@@ -1,7 +1,8 @@
 //! Steps as they are written: `near COMMAND` and `far COMMAND` tell an end something (`power_on`, `start`, `stop`, `outage`, `back`);
 //! `near_sends N` and `far_sends N` give it a message with a field of so many octets; in an `exchange` units go to the far end and then
 //! come from there, `lose` loses those to the far end; `ones N` is so many octets of 1s for the near end, `wait N` so many milliseconds at
-//! both; `show` hands out all that the near end has.
+//! both; `units N` has so many units go out at the near end at once, and tells how many line octets they are; `show` hands out all that
+//! the near end has. Where the first line is `cyclic`, both ends repeat their messages in turn.
 
 use crate::pair::Step;
 use link_term::Command;
@@ -33,6 +34,7 @@ fn counted(word: &str, number: u16) -> Option<Step> {
         "near_sends" => Some(Step::NearSends(number)),
         "far_sends" => Some(Step::FarSends(number)),
         "ones" => Some(Step::Ones(number)),
+        "units" => Some(Step::Units(number)),
         "wait" => Some(Step::Wait(number)),
         _ => None,
     }

@@ -173,4 +173,6 @@ fn main(rt: HostRuntime) -> ExitCode {
 }
 
 #[cfg(test)]
+mod stream_tests;
+#[cfg(test)]
 mod tests;

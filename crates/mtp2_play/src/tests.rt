@@ -196,8 +196,8 @@ fn reads_the_command_line(rt: HostRuntime) -> Result<(), Fail> {
 }
 
 /// Command lines, and the status that each ends with. A script asks for the state of a process that one of the sets has and the other
-/// hasn't, so the status tells the set. Standard input is empty here: no set's text, and a script without commands.
-const ENDED: [(&[&str], u8); 33] = [
+/// hasn't, so the status tells the set. Standard input is empty here: no set's text, a script without commands, and none of `soak`.
+const ENDED: [(&[&str], u8); 34] = [
     (&["mtp2_play"], 3),
     (&["mtp2_play", "--help"], 0),
     (&["mtp2_play", "check", "--help"], 0),
@@ -228,6 +228,7 @@ const ENDED: [(&[&str], u8); 33] = [
     (&["mtp2_play", "soak", "two.script", "--workers", "1"], 0),
     (&["mtp2_play", "soak", "two.script", "--workers", "16"], 0),
     (&["mtp2_play", "soak", "lsc.script", "--workers", "1"], 2),
+    (&["mtp2_play", "soak", "stdin", "--workers", "1"], 2),
     (&["mtp2_play", "soak", "nowhere", "--workers", "1"], 4),
     (&["mtp2_play", "soak", "lsc.script", "--workers", "0"], 3),
     (&["mtp2_play", "soak", "lsc.script", "--workers", "17"], 3),

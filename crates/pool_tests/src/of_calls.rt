@@ -7,6 +7,7 @@ use std::sync::Wait;
 use std::sync::ledger::Ledger;
 use std::thread;
 use std::thread::Threads;
+use turn_machine::run;
 use turn_pool::{Client, Closed, Mismatch, Pool, PoolFault, PoolRefusal, Receipt, Seat, serve};
 
 /// How often a loop asks for what is to come.
@@ -296,4 +297,19 @@ fn want_of_memory_hands_the_books_back(rt: HostRuntime) {
     if let Some(books) = links(rt.alloc(), ECHO, 2, 16) {
         assert!(rt; answer(&rt, rt.alloc(), books, 2) != 0);
     }
+}
+
+/// Whether a turn that was out as a pool began is out at its end, and can be ended then.
+fn is_out_still<R: Threads + Wait + Sync>(rt: &R, alloc: Global) -> Option<bool> {
+    let mut books = links(alloc, ECHO, 1, 64)?;
+    let job = books.get_mut(0)?.begin(0).ok()?;
+    let mut closed = serve(rt, alloc, books, 1, &Open, &mut Idle).ok()?;
+    let book = closed.books.get_mut(0)?;
+    let outs = book.state().outs();
+    Some(outs == 1 && book.finish(run(job)).is_ok())
+}
+
+#[test]
+fn a_turn_that_was_out_stays_out(rt: HostRuntime) {
+    assert_eq!(rt; is_out_still(&rt, rt.alloc()), Some(true));
 }

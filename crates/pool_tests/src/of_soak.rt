@@ -87,9 +87,10 @@ fn soak_prints_what_it_finds(rt: HostRuntime) {
     }
 }
 
-/// Two links, an offer on each, and on the second 5 ticks and an offer with a value; then an offer on a link that there isn't.
+/// Two links, an offer on each, and on the second 5 ticks and an offer with a value; among them what is refused: an offer and ticks on
+/// a link that there isn't, offers to a process and of a signal that there aren't, and too many ticks.
 const BOTH: &str =
-    "links 2\noffer LSC PowerOn\non 1\noffer LSC PowerOn\ntick 5\noffer TXC AckSeen true\non 9\noffer LSC PowerOn\n";
+    "links 2\noffer LSC PowerOn\non 9\noffer LSC PowerOn\ntick 1\non 1\noffer Nobody PowerOn\noffer LSC Nothing\ntick 65536\noffer LSC PowerOn\ntick 5\noffer TXC AckSeen true\n";
 
 /// What a value stands for in a row: 9 for none.
 fn value_told(value: Option<&Value>) -> u64 {

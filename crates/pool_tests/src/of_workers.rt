@@ -1,5 +1,5 @@
 //! Workers: that they run at once, that they end what they begin, that they come to an end.
-use crate::sets::{ECHO, ECHOES, ENDLESS, links};
+use crate::sets::{ECHO, ECHOES, ENDLESS, UP, links};
 use actor_book::Book;
 use std::alloc::Global;
 use std::sync::Wait;
@@ -224,7 +224,10 @@ impl Gate for Counts {
     fn leave(&self, _name: JobName) {}
 }
 
-/// A client that closes the pool once a few turns have begun.
+/// How many turns are to begin before the pool closes: many times what a worker makes after that.
+const MANY: usize = 3000;
+
+/// A client that closes the pool once many turns have begun.
 #[derive(Drop)]
 struct Closes<'a> {
     gate: &'a Counts,
@@ -234,7 +237,7 @@ struct Closes<'a> {
 impl Client for Closes<'_> {
     fn drive<R: Wait, L: Ledger>(&mut self, pool: &Pool<'_, R, L>, _seat: &mut Seat<L>) {
         for _ in 0..LOOKS {
-            if self.gate.begun.load(Ordering::SeqCst) >= 3 {
+            if self.gate.begun.load(Ordering::SeqCst) >= MANY {
                 break;
             }
             thread::yield_now();
@@ -244,9 +247,22 @@ impl Client for Closes<'_> {
     }
 }
 
-/// How many turns had begun as the pool closed, and how many began in all, on a link that always has something to do.
+/// Whether as many turns have ended on each book as on the others, or one more or less.
+fn took_turns(books: &[Book]) -> bool {
+    for book in books {
+        for other in books {
+            if book.finishes() > other.finishes().saturating_add(1) {
+                return false;
+            }
+        }
+    }
+    true
+}
+
+/// How many turns had begun as the pool closed, and how many began in all, on two links that always have something to do; nothing where
+/// one of them had more turns than the other.
 fn turns_begun<R: Threads + Wait + Sync>(rt: &R, alloc: Global) -> Option<(usize, usize)> {
-    let books = links(alloc, ENDLESS, 1, 65536)?;
+    let books = links(alloc, ENDLESS, 2, 65536)?;
     let gate = Counts {
         begun: AtomicUsize::new(0),
     };
@@ -255,17 +271,97 @@ fn turns_begun<R: Threads + Wait + Sync>(rt: &R, alloc: Global) -> Option<(usize
         begun: 0,
     };
     match serve(rt, alloc, books, 1, &gate, &mut client) {
-        Ok(_) => Some((client.begun, gate.begun.load(Ordering::SeqCst))),
-        Err(_) => None,
+        Ok(closed) if took_turns(&closed.books) => {
+            Some((client.begun, gate.begun.load(Ordering::SeqCst)))
+        }
+        _ => None,
     }
 }
 
 #[test]
-fn a_worker_ends_though_there_is_more_to_do(rt: HostRuntime) {
+fn a_worker_goes_round_and_ends_though_there_is_more_to_do(rt: HostRuntime) {
     let (closing, all) = turns_begun(&rt, rt.alloc()).unwrap_or((0, 0));
-    assert!(rt; closing >= 3 && all >= closing);
+    assert!(rt; closing >= MANY && all >= closing);
     assert!(rt;
         all <= closing.saturating_add(1000),
         "1,000 at most after closing"
     );
+}
+
+/// A gate that holds the worker as its second turn has ended, until a client has looked.
+#[derive(Drop)]
+struct HoldsEnded {
+    left: AtomicUsize,
+    looked: AtomicBool,
+    in_vain: AtomicBool,
+}
+
+impl HoldsEnded {
+    /// Whether the client comes to look.
+    fn is_looked_at(&self) -> bool {
+        for _ in 0..LOOKS {
+            if self.looked.load(Ordering::SeqCst) {
+                return true;
+            }
+            thread::yield_now();
+        }
+        false
+    }
+}
+
+impl Gate for HoldsEnded {
+    fn enter(&self, _name: JobName) {}
+
+    fn leave(&self, _name: JobName) {
+        let before = self.left.fetch_add(1, Ordering::SeqCst);
+        if before == 1 && !self.is_looked_at() {
+            self.in_vain.store(true, Ordering::SeqCst);
+        }
+    }
+}
+
+/// A client that offers a signal, and takes what came of it while the gate holds the worker.
+#[derive(Drop)]
+struct TakesHeld<'a> {
+    gate: &'a HoldsEnded,
+    taken: bool,
+}
+
+impl Client for TakesHeld<'_> {
+    fn drive<R: Wait, L: Ledger>(&mut self, pool: &Pool<'_, R, L>, seat: &mut Seat<L>) {
+        let _offered = pool.offer(0, 0, UP, &[], seat);
+        for _ in 0..LOOKS {
+            if self.gate.left.load(Ordering::SeqCst) >= 2 {
+                break;
+            }
+            thread::yield_now();
+        }
+        self.taken = pool.take_env(0, seat).is_ok();
+        self.gate.looked.store(true, Ordering::SeqCst);
+    }
+}
+
+/// Whether what a turn sent could be taken while the gate was being told of its end.
+fn is_taken_held<R: Threads + Wait + Sync>(rt: &R, alloc: Global) -> bool {
+    let Some(books) = links(alloc, ECHO, 1, 64) else {
+        return false;
+    };
+    let gate = HoldsEnded {
+        left: AtomicUsize::new(0),
+        looked: AtomicBool::new(false),
+        in_vain: AtomicBool::new(false),
+    };
+    let mut client = TakesHeld {
+        gate: &gate,
+        taken: false,
+    };
+    match serve(rt, alloc, books, 1, &gate, &mut client) {
+        Ok(_) => client.taken && !gate.in_vain.load(Ordering::SeqCst),
+        Err(_) => false,
+    }
+}
+
+#[test]
+fn a_gate_is_told_of_a_turn_behind_its_end_and_under_no_lock(rt: HostRuntime) {
+    assert!(rt; is_taken_held(&rt, rt.alloc()));
 }

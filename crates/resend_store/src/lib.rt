@@ -9,8 +9,6 @@ mod receiving;
 mod refusals;
 mod sending;
 mod store;
-#[cfg(test)]
-mod tests;
 
 pub use laws::{
     accepted_units_are_in_turn, kept_window_stands_for_all_messages,

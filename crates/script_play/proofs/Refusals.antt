@@ -1,5 +1,5 @@
 -- Texts that are no scripts.
-use Rattle.std.proofs.Common.{◌≡◌, ℕ, zero, suc, ◌+◌, ◌<◌, ◌≤◌, ◌==◌, Bool, nat_lt, true, false, List, [], ◌∷◌, ◌++◌, length, take, count_by, Option, Result, Ok, Err, refl, sym, ap, subst, arith, length-take, ◌∙◌}
+use Rattle.std.proofs.Common.{◌≡◌, ℕ, ◌+◌, ◌<◌, ◌≤◌, ◌==◌, Bool, nat_lt, true, false, List, [], ◌++◌, length, take, count_by, Option, Result, Ok, Err, refl, sym, ap, subst, arith, length-take, ◌∙◌}
 use Rattle.std.specs.Prelude.{IsUtf8, codes}
 use Rattle.std.proofs.lemmas.Bool.{lt-ltb, ltb-true}
 use Rattle.text_reader.specs.declared.reading.TextRead.{TextRead}
@@ -9,16 +9,8 @@ use Rattle.script_lines.specs.Scripts.{script_of, IsFaultOf}
 use Rattle.script_lines.specs.declared.script.ScriptFault.{ScriptFault}
 use Rattle.script_lines.specs.declared.script.ScriptFault.TheVariants.{BadLine, NoMemory}
 use Rattle.term_lines.specs.TermScripts.{PlainAnyScript, as_book, any_script_of, Tells}
-use Rattle.std.specs.Io.KnownBytes.{Appends}
-use Rattle.text_check.specs.declared.sets.SetFault.{SetFault}
-use Rattle.text_check.specs.Checked.{IsGiven, IsRefusal, IsRefusalOf, PrintsRefusal}
-use Rattle.text_check.specs.Printed.{refusal_line}
 use Rattle.script_play.specs.Played.{reading_of, IsNoScript, bad_line, PrintsFault}
-
-take_twice : (n : ℕ) (xs : List ℕ) → take n (take (suc n) xs) ≡ take n xs
-take_twice zero xs = refl
-take_twice (suc n) [] = refl
-take_twice (suc n) (x ∷ xs) = ap (λ ys. x ∷ ys) (take_twice n xs)
+use Rattle.plain_laws.proofs.Lists.{take_twice}
 
 long_book : (bytes : List ℕ) → nat_lt LONGEST (length bytes) ≡ true → script_of bytes ≡ Err (line_at bytes LONGEST)
 unfolding script_of
@@ -48,12 +40,6 @@ pub no_script : (terminals : Bool) (old new : Option (List ℕ)) (text bytes : L
 no_script terminals old new text bytes (BadLine line) same utf8 tells printed =
     bad_line line utf8 (ap (reading_of terminals) (sym same) ∙ tells) printed
 no_script terminals old new text bytes NoMemory same utf8 tells printed = absurd printed
-
--- the refusal of a set
-pub refusal_printed : (known old new : Option (List ℕ)) (fault : SetFault) → IsRefusal fault → IsGiven known (λ bytes. IsRefusalOf bytes fault)
-    → Appends old new (refusal_line fault) → IsGiven known (PrintsRefusal old new)
-refusal_printed known old new fault judged g printed =
-    record { bytes = g.bytes; are_known = g.are_known; holds = record { fault = fault; judged = judged; is_so = g.holds.is_so; printed = printed } }
 
 -- the fault of a book's script
 pub book_fault : (terminals : Bool) (text : List ℕ) (fault : ScriptFault) → terminals ≡ false → IsFaultOf text fault

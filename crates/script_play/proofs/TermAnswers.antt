@@ -4,7 +4,7 @@ use Rattle.std.specs.Prelude.{◌⊎◌, ◌↔◌, codes, if◌then◌else◌, 
 use Rattle.std.specs.Fmt.{decimal}
 use Rattle.std.proofs.Math.Seq.{drop-nil}
 use Rattle.std.proofs.lemmas.Bool.{cases_lt}
-use Rattle.std.proofs.lemmas.List.{take-append-drop, drop-drop, length-drop, take_all}
+use Rattle.std.proofs.lemmas.List.{take-append-drop, drop-drop}
 use Rattle.resend_store.specs.Limits.{MOST_WAITING}
 use Rattle.resend_store.specs.Window.{waiting, with_put}
 use Rattle.resend_store.specs.declared.refusals.PutError.{PutError}
@@ -188,10 +188,6 @@ part_taken t m u (x ∷ xs) (suc n) some within heard stops others =
     (part t m u x (take n xs) (drop n xs) heard
     (λ more. let less : n < length xs = where_less n xs more (cases_lt n (length xs)) in stops (omega (arith, less)))
     others)
-
--- what stands from a place on
-pub all_left : (from : ℕ) (octets : List ℕ) → take (length octets - from) (drop from octets) ≡ drop from octets
-all_left from octets = take_all (length octets - from) (drop from octets) (omega (arith, length-drop from octets))
 
 -- a part of what is left
 pub part_more : (t m w u : Term) (octets xs : List ℕ) (from n : ℕ) → xs ≡ drop from octets → (n ≡ 0 → ⊥) → n ≤ length xs → Heard t (take n xs) m

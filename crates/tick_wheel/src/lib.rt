@@ -14,8 +14,6 @@ use std::marker::Model;
 use thiserror::Error;
 
 pub mod laws;
-#[cfg(test)]
-mod tests;
 
 /// How many timers there may be.
 pub const TIMERS: usize = 128;

@@ -5,6 +5,8 @@
 #[cfg(test)]
 mod drafts;
 #[cfg(test)]
+mod of_codes;
+#[cfg(test)]
 mod of_rules;
 #[cfg(test)]
 mod of_sets;

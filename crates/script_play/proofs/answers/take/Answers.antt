@@ -1,8 +1,9 @@
 use Rattle.std.proofs.Common.{ap, length, arith}
 use Rattle.std.proofs.lemmas.List.{length-drop}
 use Rattle.std.proofs.lemmas.Result.{IfOk-weaker}
-use Rattle.script_play.proofs.TermAnswers.{all_left, part_more, listens_end}
+use Rattle.script_play.proofs.TermAnswers.{part_more, listens_end}
 use Rattle.script_play.proofs.answers.take.Goals as goal
+use Rattle.plain_laws.proofs.Lists.{tail_is as all_left}
 
 pub loop-from-preserved : goal.loop-from-preserved
 loop-from-preserved c =

@@ -4,8 +4,10 @@ use Rattle.text_reader.specs.Reading.{LONGEST}
 use Rattle.term_lines.specs.TermScripts.{plain_any_script}
 use Rattle.script_play.specs.Played.{reading_of, no_text, bad_line}
 use Rattle.script_play.proofs.Refusals.{too_long, no_script}
-use Rattle.script_play.proofs.Texts.{all_kept, not_held, not_missed, not_refused}
+use Rattle.script_play.proofs.Texts.{not_held, not_missed}
 use Rattle.script_play.proofs.playing.play_text.Goals as goal
+use Rattle.text_check.proofs.Long.{all_kept}
+use Rattle.plain_laws.proofs.Numbers.{not_refused}
 
 pub returns-then-not-read-clause-held : goal.returns-then-not-read-clause-held
 returns-then-not-read-clause-held g c zero bytes keeps = absurd (not_held _ c.refuse.ensures.status zero)

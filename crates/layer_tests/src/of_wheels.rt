@@ -1,0 +1,184 @@
+//! Timers: when each is due, in which order, step by step.
+use arrayvec::ArrayVec;
+use std::alloc::Global;
+use tick_wheel::{AdvanceError, Due, Timer, Wheel};
+
+/// A timer: the numbers of its process and its own.
+type Name = (u8, u8);
+
+/// What is done to a wheel, and what comes of it.
+#[derive(Clone, Copy)]
+enum Step {
+    /// A timer gets a deadline above the clock.
+    Set(Name, u64),
+    /// A timer loses its deadline, if it has one.
+    Reset(Name),
+    /// So many ticks pass: these are due, in this order, and the clock is that.
+    Passes(u64, &'static [Name], u64),
+    /// So many ticks are too many (W1).
+    TooFar(u64),
+    /// A timer has that deadline, or none.
+    Waits(Name, Option<u64>),
+}
+
+/// The timer of a name.
+fn timer(name: Name) -> Timer {
+    Timer::new(name.0.min(15), name.1.min(7))
+}
+
+/// Sets a timer, if the deadline is above the clock.
+fn sets(wheel: &mut Wheel, name: Name, deadline: u64) -> bool {
+    if wheel.clock() >= deadline {
+        return false;
+    }
+    wheel.set(timer(name), deadline);
+    true
+}
+
+/// Whether these are due, in this order.
+fn are_due(due: &[Due], names: &[Name]) -> bool {
+    for (place, one) in due.iter().enumerate() {
+        if names.get(place) != Some(&(one.timer.process(), one.timer.number())) {
+            return false;
+        }
+    }
+    due.len() == names.len()
+}
+
+/// Whether these are due as so many ticks pass.
+fn passes(wheel: &mut Wheel, ticks: u64, names: &[Name], clock: u64) -> bool {
+    match wheel.advance(ticks) {
+        Ok(due) => are_due(due.as_slice(), names) && wheel.clock() == clock,
+        Err(_) => false,
+    }
+}
+
+/// Whether a wheel does what a step says.
+fn does(wheel: &mut Wheel, step: Step) -> bool {
+    match step {
+        Step::Set(name, deadline) => sets(wheel, name, deadline),
+        Step::Reset(name) => {
+            wheel.reset(timer(name));
+            !wheel.is_active(timer(name))
+        }
+        Step::Passes(ticks, names, clock) => passes(wheel, ticks, names, clock),
+        Step::TooFar(ticks) => wheel.advance(ticks).err() == Some(AdvanceError::TooFar),
+        Step::Waits(name, deadline) => {
+            wheel.deadline_of(timer(name)) == deadline
+                && wheel.is_active(timer(name)) == deadline.is_some()
+        }
+    }
+}
+
+/// Each is due once, at its deadline.
+const ONCE: [Step; 8] = [
+    Step::Set((0, 0), 256),
+    Step::Set((15, 7), 512),
+    Step::Waits((15, 7), Some(512)),
+    Step::Passes(255, &[], 255),
+    Step::Passes(1, &[(0, 0)], 256),
+    Step::Passes(256, &[(15, 7)], 512),
+    Step::Waits((0, 0), None),
+    Step::Waits((15, 7), None),
+];
+
+/// By deadline, then process, then number.
+const IN_ORDER: [Step; 8] = [
+    Step::Set((2, 1), 9),
+    Step::Set((2, 0), 9),
+    Step::Set((0, 7), 10),
+    Step::Set((1, 3), 9),
+    Step::Set((9, 6), 3),
+    Step::Set((5, 5), 8),
+    Step::Passes(9, &[(9, 6), (5, 5), (1, 3), (2, 0), (2, 1)], 9),
+    Step::Passes(1, &[(0, 7)], 10),
+];
+
+/// Setting replaces a deadline, resetting takes it away.
+const AGAIN: [Step; 8] = [
+    Step::Set((3, 0), 5),
+    Step::Set((3, 1), 5),
+    Step::Set((3, 0), 4),
+    Step::Reset((3, 1)),
+    Step::Reset((3, 2)),
+    Step::Passes(4, &[(3, 0)], 4),
+    Step::TooFar(65_536),
+    Step::Passes(65_535, &[], 65_539),
+];
+
+/// However far a deadline is. What is set in a copy isn't in the one that was copied.
+const FAR: [Step; 5] = [
+    Step::Set((0, 0), 257),
+    Step::Set((1, 0), 2_147_483_647),
+    Step::Passes(1, &[(0, 1)], 1),
+    Step::Passes(65_535, &[(0, 0)], 65_536),
+    Step::Waits((1, 0), Some(2_147_483_647)),
+];
+
+/// What the one has that was copied.
+const COPIED: [Step; 3] = [
+    Step::Waits((1, 0), None),
+    Step::Waits((0, 1), Some(1)),
+    Step::Passes(1, &[(0, 1)], 1),
+];
+
+/// The number of the first step at which a wheel does something else.
+fn first_other(wheel: &mut Wheel, steps: &[Step]) -> Option<usize> {
+    for (number, step) in steps.iter().enumerate() {
+        if !does(wheel, *step) {
+            return Some(number);
+        }
+    }
+    None
+}
+
+/// A wheel; where memory is refused once, one that is asked for again.
+fn made(alloc: Global) -> Option<Wheel> {
+    match Wheel::new(alloc) {
+        Ok(wheel) => Some(wheel),
+        Err(_) => Wheel::new(alloc).ok(),
+    }
+}
+
+/// The same of a new wheel.
+fn first_other_of_new(alloc: Global, steps: &[Step]) -> Option<usize> {
+    match made(alloc) {
+        Some(mut wheel) => first_other(&mut wheel, steps),
+        None => Some(steps.len()),
+    }
+}
+
+#[test]
+fn timers_are_due_in_order(rt: HostRuntime) {
+    assert_eq!(rt; first_other_of_new(rt.alloc(), &ONCE), None);
+    assert_eq!(rt; first_other_of_new(rt.alloc(), &IN_ORDER), None);
+    assert_eq!(rt; first_other_of_new(rt.alloc(), &AGAIN), None);
+}
+
+/// A copy; where memory is refused once, one that is asked for again, of what is still as it was.
+fn copied(wheel: &mut Wheel) -> Option<Wheel> {
+    match wheel.copy() {
+        Ok(copy) => Some(copy),
+        Err(_) if does(wheel, Step::Waits((0, 1), Some(1))) => wheel.copy().ok(),
+        Err(_) => None,
+    }
+}
+
+/// The numbers of the first steps at which the copy of a wheel does something else, and then that wheel.
+fn first_others_of_copy(alloc: Global) -> Option<(Option<usize>, Option<usize>)> {
+    let mut wheel = made(alloc)?;
+    if !sets(&mut wheel, (0, 1), 1) {
+        return None;
+    }
+    let mut copy = copied(&mut wheel)?;
+    Some((
+        first_other(&mut copy, &FAR),
+        first_other(&mut wheel, &COPIED),
+    ))
+}
+
+/// With ample memory each call succeeds at once. Where memory is refused, nothing has changed, and the next call succeeds.
+#[test]
+fn a_copy_goes_its_own_way(rt: HostRuntime) {
+    assert_eq!(rt; first_others_of_copy(rt.alloc()), Some((None, None)));
+}
