@@ -2,7 +2,7 @@
 ghost use Rattle.std.specs.Prelude.{◌≡◌, length};
 
 use arrayvec::ArrayVec;
-use resend_store::{Mode, Msu, Receiver, RetrieveError, Sender, Verdict};
+use resend_store::{AckError, Mode, Msu, Receiver, RetrieveError, Sender, Verdict};
 use std::alloc::Global;
 use std::collections::VecDeque;
 
@@ -103,12 +103,25 @@ fn sends_one(sender: &mut Sender, fsn: u8, sio: u8) -> bool {
     unit.fsn == fsn && unit.msu == Some(short(sio))
 }
 
+/// How many messages a BSN and a BIB acknowledge.
+fn hears(sender: &mut Sender, bsn: u8, bib: u8) -> Result<usize, AckError> {
+    sender.on_back(bsn % 128, bib % 2)
+}
+
+/// What is handed out behind this FSN, or what was never sent.
+fn retrieved(sender: &mut Sender, behind: Option<u8>) -> Result<VecDeque<Msu>, RetrieveError> {
+    match behind {
+        Some(fsn) => sender.retrieve(Some(fsn % 128)),
+        None => sender.retrieve(None),
+    }
+}
+
 /// Whether a message with each of these numbers is taken, goes out and is acknowledged.
 fn passes(sender: &mut Sender, first: u8, end: u8) -> bool {
     for fsn in first..end {
         if sender.put(short(0)).is_err()
             || !gives(sender, fsn, 1, true)
-            || sender.on_back(fsn, 1) != Ok(1)
+            || hears(sender, fsn, 1) != Ok(1)
         {
             return false;
         }
@@ -128,7 +141,7 @@ fn are_short(messages: &mut VecDeque<Msu>, first: u8, end: u8) -> bool {
 
 /// Whether the messages with these SIOs are handed out.
 fn hands_out(sender: &mut Sender, behind: Option<u8>, first: u8, end: u8) -> bool {
-    match sender.retrieve(behind) {
+    match retrieved(sender, behind) {
         Ok(mut messages) => are_short(&mut messages, first, end),
         Err(_) => false,
     }
@@ -145,13 +158,13 @@ fn does(sender: &mut Sender, step: Step) -> bool {
         Step::SendsOne(fsn, sio) => sends_one(sender, fsn, sio),
         Step::Idles(fsn, fib) => gives(sender, fsn, fib, false),
         Step::Passes(first, end) => passes(sender, first, end),
-        Step::Hears(bsn, bib, count) => sender.on_back(bsn, bib) == Ok(count),
-        Step::HearsBad(bsn, bib) => sender.on_back(bsn, bib).is_err(),
+        Step::Hears(bsn, bib, count) => hears(sender, bsn, bib) == Ok(count),
+        Step::HearsBad(bsn, bib) => hears(sender, bsn, bib).is_err(),
         Step::Keeps(held, sent) => sender.held() == held && sender.sent() == sent,
         Step::KeepsAt(place, sio) => sender.held_at(place) == Some(&short(sio)),
         Step::HandsOut(behind, first, end) => hands_out(sender, behind, first, end),
         Step::HandsOutNone(behind) => {
-            sender.retrieve(Some(behind)).err() == Some(RetrieveError::BadAck)
+            retrieved(sender, Some(behind)).err() == Some(RetrieveError::BadAck)
         }
         Step::Fresh => {
             sender.fresh();
