@@ -4,3 +4,4 @@ pub mod Following
 pub mod Offering
 pub mod Passing
 pub mod Taking
+pub mod Turning

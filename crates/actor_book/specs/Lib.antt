@@ -4,3 +4,4 @@ pub mod Inside
 pub mod Limits
 pub mod Running
 pub mod Shown
+pub mod Whole

@@ -13,6 +13,8 @@ use link_state::{Link, with_room};
 use std::alloc::{AllocError, Global};
 use std::marker::Model;
 use turn_check::Verified;
+use turn_code::Machine;
+use turn_machine::new_machine;
 
 /// The processes of a link as actors, with the journal of what happened to them.
 ///
@@ -25,6 +27,8 @@ pub struct Book {
     pub(crate) journal: Vec<Event>,
     pub(crate) limit: usize,
     pub(crate) link: Link,
+    /// What turns that begin and end at once run on.
+    pub(crate) machine: Machine,
 }
 
 impl Model for Book {
@@ -58,6 +62,7 @@ impl Book {
             journal: Vec::with_capacity(alloc, limits.journal())?,
             limit: limits.journal(),
             link: Link::open(alloc, set, limits.port(), limits.env())?,
+            machine: new_machine(),
         })
     }
 

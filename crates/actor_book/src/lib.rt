@@ -13,6 +13,7 @@ mod refused;
 mod replies;
 mod steps;
 mod turns;
+mod whole;
 
 pub use book::Book;
 pub use calls::{Passed, Taken};

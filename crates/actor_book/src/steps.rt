@@ -19,7 +19,7 @@ use turn_code::{SignalNumber, Trigger, Value};
 use turn_machine::{Done, Job};
 
 /// One event more, where there is room.
-fn note(journal: &mut Vec<Event>, event: Event)
+pub(crate) fn note(journal: &mut Vec<Event>, event: Event)
     requires { length journal.old.items < vec_capacity journal.old }
     ensures items { journal.new.items ≡ journal.old.items ++ event ∷ [] }
     ensures capacity { vec_capacity journal.old ≤ vec_capacity journal.new }
@@ -28,7 +28,7 @@ fn note(journal: &mut Vec<Event>, event: Event)
 }
 
 /// The number of an actor that is there, of which a link has 16 at most.
-fn number_in(link: &Link, actor: u16) -> u8
+pub(crate) fn number_in(link: &Link, actor: u16) -> u8
     requires { actor < length link.now.actors }
     ensures value { result ≡ actor }
     ensures few { result < 16 }

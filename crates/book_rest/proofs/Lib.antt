@@ -1,2 +1,3 @@
 pub mod Leasts
 pub mod Owned
+pub mod Wholes

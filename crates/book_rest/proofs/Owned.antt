@@ -1,20 +1,15 @@
 -- Whose turn is out.
-use Rattle.std.proofs.Common.{◌≡◌, ℕ, Option, Some, None, sym, ap, ◌∙◌}
+use Rattle.std.proofs.Common.{◌≡◌, ℕ, Option, Some, None, sym, ap}
 use Rattle.std.specs.Prelude.{slice_get}
 use Rattle.turn_code.specs.Transitions.{Transition, transition_at}
 use Rattle.turn_code.specs.declared.input.Place.{Place}
 use Rattle.turn_code.specs.declared.draft.Draft.{Draft}
 use Rattle.turn_machine.specs.Turn.{Turn, turn_of}
-use Rattle.link_machine.specs.Ledger.{Ledger, state_of, ask, turn_with, turn_given, turn_at, turn_out}
-use Rattle.link_machine.specs.Step.{Answer, Says}
+use Rattle.link_machine.specs.Ledger.{Ledger, state_of, turn_with, turn_given, turn_at, turn_out}
 use Rattle.link_machine.specs.declared.actor.Actor.{Actor}
 use Rattle.link_machine.specs.declared.actor.Given.{Given}
 use Rattle.link_machine.specs.declared.actor.Standing.{Standing}
 use Rattle.link_machine.specs.declared.actor.Standing.TheVariants.{At, Stopped}
-use Rattle.link_machine.specs.declared.event.Event.TheVariants.{Begin, Finish}
-use Rattle.link_machine.specs.declared.reply.Begun.{Begun}
-use Rattle.link_machine.specs.declared.reply.Reply.TheVariants as reply
-use Rattle.book_rest.specs.Turns.{refusal_in, begins_by, tried}
 pub use Rattle.actor_book.proofs.Ending.{still_own}
 
 with_own : (n : ℕ) (s : Place) (g : Given) (q : Option Transition) (t : Turn) → turn_with n s g q ≡ Some t → t.actor ≡ n
@@ -36,13 +31,3 @@ at_own d n (Some a) t h = given_own d n a.standing a.given t h
 pub own_actor : (b : Ledger) (n : ℕ) (t : Turn) → turn_out b n ≡ Some t → t.actor ≡ n
 unfolding turn_out
 own_actor b n t h = at_own b.set n (slice_get (state_of b).actors n) t h
-
--- a turn that began and ended
-pub turn_made : (n : ℕ) (b next after : Ledger) (x : Begun) (t u : Turn) → Says (reply.Begun x) ≡ (ask b (Begin n)).answer
-    → next ≡ (ask b (Begin n)).book → turn_out next n ≡ Some t → u ≡ t → after ≡ (ask next (Finish u.actor)).book → after ≡ (tried n b).book
-unfolding tried
-turn_made n b next after x t u says h out k ends_so =
-    ends_so
-    ∙ ap (λ (m : ℕ). (ask next (Finish m)).book) (ap (λ (v : Turn). v.actor) k ∙ own_actor next n t out)
-    ∙ ap (λ (d : Ledger). (ask d (Finish n)).book) h
-    ∙ ap (λ (a : Answer). (begins_by n b (ask b (Begin n)).book (refusal_in a)).book) says

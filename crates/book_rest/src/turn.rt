@@ -5,7 +5,6 @@ ghost use Rattle.book_rest.specs.Turns.{turn_refused, skips, tried, actors_in, l
 
 use actor_book::Book;
 use link_machine::Refusal;
-use turn_machine::run;
 
 /// How many turns and skips a rest has at most.
 pub const REST: u32 = 10_000;
@@ -28,11 +27,8 @@ pub fn try_actor(book: &mut Book, actor: u16) -> Turn
     ensures turn { result ≡ (tried actor book.old).turn }
     ensures book { book.new ≡ (tried actor book.old).book }
 {
-    match book.begin(actor) {
-        Ok(job) => match book.finish(run(job)) {
-            Ok(_) => Turn::Made,
-            Err(_) => unreachable!(),
-        },
+    match book.turn(actor) {
+        Ok(_) => Turn::Made,
         Err(Refusal::SkipFirst) => skip(book, actor),
         Err(refusal) => refused(refusal),
     }

@@ -1,8 +1,9 @@
 -- What a job keeps, from the set that it is made of.
 use Rattle.std.proofs.Common.{◌≡◌, ℕ, zero, suc, ◌≤◌, List, length, Option, Some, None, option_map, slice_get, refl, sym, ap, ◌∙◌, subst}
-use Rattle.turn_code.specs.Run.{Progress, begun, run, ended}
+use Rattle.turn_code.specs.Machine.{progress_of}
+use Rattle.turn_code.specs.Run.{Progress, Ran, begun, run, ended}
 use Rattle.turn_code.specs.Transitions.{Transition, transition_at, process_at, start_of, start_at, input_at, input_of}
-use Rattle.turn_code.specs.Valid.{IsValid}
+use Rattle.turn_code.specs.Valid.{IsValid, IsValidTransition}
 use Rattle.turn_code.specs.Fits.{Fits, FitsTransition}
 use Rattle.turn_code.specs.Safe.{SafeLaw}
 use Rattle.turn_code.specs.declared.input.Input.{Input}
@@ -11,6 +12,7 @@ use Rattle.turn_code.specs.declared.input.Place.TheVariants.{Start, State}
 use Rattle.turn_code.specs.declared.numbers.ProcessNumber.{ProcessNumber}
 use Rattle.turn_code.specs.declared.instruction.Instruction.{Instruction}
 use Rattle.turn_code.specs.declared.machine.End.{End}
+use Rattle.turn_code.specs.declared.machine.Machine.{Machine}
 use Rattle.turn_code.specs.declared.draft.Cert.{Cert}
 use Rattle.turn_code.specs.declared.draft.Draft.{Draft}
 use Rattle.turn_code.specs.declared.draft.DraftSignal.{DraftSignal}
@@ -18,6 +20,7 @@ use Rattle.turn_code.specs.declared.draft.DraftProcess.{DraftProcess}
 use Rattle.turn_code.specs.declared.draft.DraftState.{DraftState}
 use Rattle.turn_code.specs.declared.draft.DraftInput.{DraftInput}
 use Rattle.turn_machine.specs.Turn.{Turn, turn_of, IsRunnable}
+use Rattle.turn_machine.specs.Ends.{EndsSo}
 use Rattle.turn_machine.specs.Safety.{IsSafeWithin, whole_run}
 
 pub code_small : (d : Draft) (p : ℕ) (s : Place) (i : ℕ) (t : Transition) → IsValid d → Some t ≡ transition_at d p s i → length t.piece.code ≤ 512
@@ -64,12 +67,11 @@ run_is : (code : List Instruction) (x : Input) → whole_run code x (begun x) �
 unfolding whole_run run
 run_is code x = refl
 
-pub outcome_from : (j : Turn) (code : List Instruction) (x : Input) (s s' : Progress) (e : End)
-    → code ≡ j.code → x ≡ j.input → s ≡ begun j.input → whole_run code x s ≡ ended e s' → run j.code j.input ≡ ended e s'
-outcome_from j code x s s' e c p b r =
-    let whole : whole_run code x s ≡ whole_run j.code j.input (begun j.input) =
-    ap (λ u. whole_run u x s) c ∙ ap (λ u. whole_run j.code u s) p ∙ ap (λ u. whole_run j.code j.input u) b in
-    sym (run_is j.code j.input) ∙ sym whole ∙ r
+pub run_from : (code : List Instruction) (x : Input) (s s' : Progress) (e : End) → s ≡ begun x → whole_run code x s ≡ ended e s' → run code x ≡ ended e s'
+run_from code x s s' e b r = sym (run_is code x) ∙ sym (ap (λ u. whole_run code x u) b) ∙ r
+
+pub own_run : (j : Turn) (code : List Instruction) (x : Input) (r : Ran) → code ≡ j.code → x ≡ j.input → run code x ≡ r → run j.code j.input ≡ r
+own_run j code x r c p h = sym (ap (λ u. run code u) p ∙ ap (λ u. run u j.input) c) ∙ h
 
 -- the run of a job is safe within its counts
 runs_safely : (j : Turn) → SafeLaw → IsRunnable j → IsSafeWithin j.code j.input j.certificate (begun j.input)
@@ -90,3 +92,29 @@ safe_of j code x c s law r e f g h =
     subst (λ u. IsSafeWithin j.code u c s) (sym f) (
     subst (λ u. IsSafeWithin j.code j.input u s) (sym g) (
     subst (λ u. IsSafeWithin j.code j.input j.certificate u) (sym h) (runs_safely j law r))))
+
+-- ---- a transition that runs where its code stands
+
+same_there : (o : Option Transition) (t u : Transition) → Some t ≡ o → o ≡ Some u → u ≡ t
+same_there o t u e h = let both : Some t ≡ Some u = e ∙ h in cc
+
+pub safe_in : (d : Draft) (p : ℕ) (s : Place) (i : ℕ) (x : Input) (t : Transition) (code : List Instruction) → SafeLaw → IsValid d
+    → Some t ≡ transition_at d p s i → Fits d p s i x → code ≡ t.piece.code → IsSafeWithin code x t.piece.certificate (begun x)
+safe_in d p s i x t code law valid e fits same =
+    let is : fits.transition ≡ t = same_there (transition_at d p s i) t fits.transition e fits.there in
+    let own : IsValidTransition d t = valid.each p s i t (sym e) in
+    record {
+      transition = t;
+      code_is = sym same;
+      certificate_is = refl;
+      limits = law.limits d t own;
+      few = law.sends d t valid.limits own;
+      small = law.budget d t own;
+      safe = law.safe d t x own (subst (λ u. FitsTransition d u x) is fits.fits);
+    }
+
+pub ends_in : (d : Draft) (p : ℕ) (s : Place) (i : ℕ) (x : Input) (t : Transition) (code : List Instruction) (e : End) (m : Machine)
+    → Some t ≡ transition_at d p s i → code ≡ t.piece.code → run code x ≡ ended e (progress_of m) → m.count ≤ t.piece.certificate.budget
+    → length m.effects.items ≤ t.piece.certificate.effects → EndsSo d p s i x e m
+ends_in d p s i x t code e m h same ran within few =
+    record { transition = t; there = sym h; ran = ap (λ u. run u x) (sym same) ∙ ran; within = within; few = few }

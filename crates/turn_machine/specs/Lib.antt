@@ -2,3 +2,4 @@ pub mod Turn
 pub mod Given
 pub mod Fitting
 pub mod Safety
+pub mod Ends

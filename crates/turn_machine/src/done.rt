@@ -1,19 +1,17 @@
 //! Jobs that ran.
 
-ghost use Rattle.std.specs.Prelude.{◌≡◌, ◌≤◌, [], length, option_map, ⊤};
-ghost use Rattle.turn_code.specs.Run.{begun};
-ghost use Rattle.turn_code.specs.Machine.{progress_of};
+ghost use Rattle.std.specs.Prelude.{◌≡◌, ◌≤◌, length, option_map, ⊤};
 ghost use Rattle.turn_code.specs.Outcome.{Outcome};
 ghost use Rattle.turn_machine.specs.Turn.{outcome_of};
 
 use crate::copy::copied_effects;
-use crate::execute::execute;
+use crate::ending::{new_machine, run_code};
 use crate::job::Job;
 use arrayvec::ArrayVec;
 use std::alloc::AllocError;
 use std::marker::Model;
 use turn_code::laws::safe_law;
-use turn_code::{Effect, End, Machine, Operands, Value, copied_variables};
+use turn_code::{Effect, End, Machine, Value, copied_variables};
 
 /// A job that ran, with its outcome: the run of its own code on its own input.
 #[derive(Drop)]
@@ -40,8 +38,8 @@ pub fn run(job: Job) -> Done
     ensures { result ≡ job }
 {
     safe_law();
-    let mut machine = begin(&job);
-    let end = execute(job.code(), job.input(), job.certificate(), &mut machine);
+    let mut machine = new_machine();
+    let end = run_code(job.code(), job.input(), job.certificate(), &mut machine);
     let Machine {
         operands: _,
         variables,
@@ -54,19 +52,6 @@ pub fn run(job: Job) -> Done
         variables,
         effects,
         count,
-    }
-}
-
-/// The machine as a job begins.
-fn begin(job: &Job) -> Machine
-    ensures operands { result.operands ≡ [] }
-    ensures progress { progress_of result ≡ begun job.now.input }
-{
-    Machine {
-        operands: Operands::new(),
-        variables: copied_variables(&job.input().variables),
-        effects: ArrayVec::new(),
-        count: 0,
     }
 }
 

@@ -1,14 +1,17 @@
-//! Turns: a job is a transition with an input that fits it, and a job that ran is done.
+//! Turns: a job is a transition with an input that fits it, and a job that ran is done. A transition also runs where its code stands, with no
+//! job made of it.
 #![tactic(auto)]
 
 mod copy;
 mod done;
+mod ending;
 mod execute;
 mod fit;
 mod job;
 mod received;
 
 pub use done::{Done, run};
+pub use ending::{new_machine, run_in};
 pub use fit::fits;
 pub use job::Job;
 pub use received::Received;

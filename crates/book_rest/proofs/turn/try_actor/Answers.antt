@@ -1,14 +1,8 @@
-use Rattle.book_rest.proofs.Owned.{turn_made}
+use Rattle.book_rest.proofs.Wholes.{turned_book, turned_made}
 use Rattle.book_rest.proofs.turn.try_actor.Goals as goal
-use Rattle.std.proofs.lemmas.Bool.{false≢true as not_so}
-use Rattle.actor_book.proofs.Ending.{still_own}
 
-pub unreachable-requires : goal.unreachable-requires
-unreachable-requires c =
-    not_so (c.in-Err-finish.ensures.accepted.1
-    (still_own c.begin.new.self c.args.actor c.in-Ok.job c.run.result c.in-Ok.ensures.job c.run.ensures))
+pub returns-in-Ok-clause-turn : goal.returns-in-Ok-clause-turn
+returns-in-Ok-clause-turn c = turned_made c.args.actor _ c.args.book.now c.in-Ok.ensures.took
 
-pub returns-in-Ok-finish-clause-book : goal.returns-in-Ok-finish-clause-book
-returns-in-Ok-finish-clause-book c =
-    turn_made c.args.actor c.args.book.now c.begin.new.self c.finish.new.self _ c.in-Ok.job c.run.result c.in-Ok.ensures.answer
-    c.in-Ok.ensures.book c.in-Ok.ensures.job c.run.ensures c.in-Ok-finish.ensures.book
+pub returns-in-Ok-clause-book : goal.returns-in-Ok-clause-book
+returns-in-Ok-clause-book c = turned_book c.args.actor _ c.args.book.now c.turn.new.self c.in-Ok.ensures.took c.in-Ok.ensures.book

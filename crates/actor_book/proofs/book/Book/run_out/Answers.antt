@@ -1,0 +1,69 @@
+use Rattle.std.proofs.Common.{ap, ◌∙◌, le_trans, Option}
+use Rattle.arrayvec.specs.ArrayVec.{ArrayVec}
+use Rattle.turn_code.specs.declared.value.Value.{Value}
+use Rattle.link_machine.specs.Step.{Says}
+use Rattle.link_machine.specs.declared.reply.Report.{Report}
+use Rattle.link_machine.specs.declared.reply.Reply.TheVariants as reply
+use Rattle.actor_book.proofs.Taking.{fits, fits_in, new_book, new_answer, new_inside}
+use Rattle.actor_book.proofs.Ending.{still_out, out_in, finishes_in, takes_in, timers_in, few_effects, link_ends, link_reports}
+use Rattle.actor_book.proofs.Turning.{the_turn, out_at, ends_out, took}
+use Rattle.actor_book.proofs.book.Book.run_out.Goals as goal
+
+pub run_at-end-requires-clause-fits : goal.run_at-end-requires-clause-fits
+run_at-end-requires-clause-fits c a h =
+    fits_in c.fits_law.ensures _ _ _ c.self.invariant c.actors.result.now c.args.actor a c.actors.ensures.value h
+
+pub run_at-end-requires-clause-out : goal.run_at-end-requires-clause-out
+run_at-end-requires-clause-out c = out_at _ _ _ _ c.self.view_is c.self.invariant _ c.args.actor c.actors.ensures.value c.requires
+
+pub number_in-number-requires : goal.number_in-number-requires
+number_in-number-requires c = out_in _ _ _ c.args.actor _ c.self.view_is _ c.self.invariant (the_turn _ c.requires).1
+
+pub finish-report-requires-clause-timers : goal.finish-report-requires-clause-timers
+finish-report-requires-clause-timers c =
+    let k = ends_out _ _ _ _ c.self.view_is c.self.invariant _ c.args.actor c.actors.ensures.value _ c.run_at-end.new.machine _ _
+    (ap (λ (v : ArrayVec (Option Value)). v.items) c.copied_variables.ensures) c.as_slice.ensures.value c.run_at-end.ensures in
+    timers_in _ _ _ c.args.actor _ c.self.view_is _ c.self.invariant k.is c.effects_law.ensures c.fits_law.ensures _ _ _ _ k.ran
+
+pub finish-report-requires-clause-few : goal.finish-report-requires-clause-few
+finish-report-requires-clause-few c =
+    let k = ends_out _ _ _ _ c.self.view_is c.self.invariant _ c.args.actor c.actors.ensures.value _ c.run_at-end.new.machine _ _
+    (ap (λ (v : ArrayVec (Option Value)). v.items) c.copied_variables.ensures) c.as_slice.ensures.value c.run_at-end.ensures in
+    le_trans k.few (few_effects _ c.args.actor _ c.self.invariant.kept (still_out _ _ _ _ c.self.view_is k.is))
+
+pub finish-report-requires-clause-finishes : goal.finish-report-requires-clause-finishes
+finish-report-requires-clause-finishes c = finishes_in _ _ _ c.args.actor _ c.self.view_is _ c.self.invariant (the_turn _ c.requires).1
+
+pub note-requires : goal.note-requires
+note-requires c =
+    fits c.keeps_law.ensures _ _ c.self.view_is _ _ c.self.invariant _
+    (takes_in _ _ _ c.args.actor _ c.self.view_is _ c.self.invariant (the_turn _ c.requires).1 c.out_law.ensures)
+
+pub invariant_of-self : goal.invariant_of-self
+invariant_of-self c =
+    let k = ends_out _ _ _ _ c.self.view_is c.self.invariant _ c.args.actor c.actors.ensures.value _ c.run_at-end.new.machine _ _
+    (ap (λ (v : ArrayVec (Option Value)). v.items) c.copied_variables.ensures) c.as_slice.ensures.value c.run_at-end.ensures in
+    new_inside c.keeps_law.ensures _ _ c.self.view_is _ _ c.self.invariant _ (takes_in _ _ _ c.args.actor _ c.self.view_is _ c.self.invariant k.is c.out_law.ensures)
+    c.state_law.ensures _ _ _ c.note.ensures.items
+    (c.finish-report.ensures.link ∙ link_ends _ _ _ c.args.actor _ c.self.view_is _ c.self.invariant k.is _ _ c.number_in-number.ensures.value k.ran)
+    c.note.ensures.capacity
+
+pub returns-clause-book : goal.returns-clause-book
+returns-clause-book c =
+    new_book c.keeps_law.ensures _ _ c.self.view_is _ _ c.self.invariant _
+    (takes_in _ _ _ c.args.actor _ c.self.view_is _ c.self.invariant (the_turn _ c.requires).1 c.out_law.ensures) _ c.note.ensures.items
+
+pub returns-clause-answer : goal.returns-clause-answer
+returns-clause-answer c =
+    let k = ends_out _ _ _ _ c.self.view_is c.self.invariant _ c.args.actor c.actors.ensures.value _ c.run_at-end.new.machine _ _
+    (ap (λ (v : ArrayVec (Option Value)). v.items) c.copied_variables.ensures) c.as_slice.ensures.value c.run_at-end.ensures in
+    ap (λ (r : Report). Says (reply.Finished r)) c.finish-report.ensures.report
+    ∙ link_reports _ _ _ c.args.actor _ c.self.view_is _ c.self.invariant k.is _ _ c.number_in-number.ensures.value k.ran
+    ∙ new_answer c.keeps_law.ensures _ _ c.self.view_is _ _ c.self.invariant _
+    (takes_in _ _ _ c.args.actor _ c.self.view_is _ c.self.invariant k.is c.out_law.ensures)
+
+pub returns-clause-within : goal.returns-clause-within
+returns-clause-within c =
+    let k = ends_out _ _ _ _ c.self.view_is c.self.invariant _ c.args.actor c.actors.ensures.value _ c.run_at-end.new.machine _ _
+    (ap (λ (v : ArrayVec (Option Value)). v.items) c.copied_variables.ensures) c.as_slice.ensures.value c.run_at-end.ensures in
+    took _ _ _ _ _ _ (ap (λ (r : Report). r.count) c.finish-report.ensures.report) k

@@ -1,0 +1,133 @@
+//! Turns of actors, from their beginning to their end.
+
+ghost use Rattle.std.specs.Prelude.{◌≡◌, ◌≤◌, ◌+◌, IsSome, IfOk, IfErr, OnOk, OnErr, Option, Some, None, length, slice_get};
+ghost use Rattle.turn_code.specs.Fits.{Fits};
+ghost use Rattle.turn_code.specs.Transitions.{transition_at};
+ghost use Rattle.link_machine.specs.Fits.{GivenFits};
+ghost use Rattle.link_machine.specs.Ledger.{ask, next, turn_at, turn_given, turn_out, turn_with};
+ghost use Rattle.link_machine.specs.Step.{Says};
+ghost use Rattle.link_machine.specs.declared.actor.Actor.{Actor as PlainActor};
+ghost use Rattle.link_machine.specs.declared.event.Event.TheVariants.{Begin, Finish};
+ghost use Rattle.link_machine.specs.declared.reply.Reply.TheVariants as reply;
+ghost use Rattle.actor_book.specs.Accepted.{Takes};
+ghost use Rattle.actor_book.specs.Whole.{IsEnding, HasTurned, TookWithin, turned};
+
+use crate::book::Book;
+use crate::steps::{note, number_in};
+use link_machine::laws::{fits_law, keeps_law, out_law, place_law, set_law, state_law};
+use link_machine::{Actor, Event, Given, Refusal, Report, Standing};
+use turn_check::Verified;
+use turn_code::laws::effects_law;
+use turn_code::{End, Machine, Place, ProcessNumber, copied_variables};
+use turn_machine::run_in;
+
+/// Runs the turn that an actor was given to its end.
+fn run_with(set: &Verified, number: u8, place: Place, given: &Given, machine: &mut Machine) -> End
+    requires { Fits set.now number place given.now.number given.now.input }
+    ensures { IsEnding (turn_with number place given.now (transition_at set.now number place given.now.number)) result machine.new }
+{
+    run_in(
+        set,
+        ProcessNumber(number),
+        place,
+        given.number,
+        &given.input,
+        machine,
+    )
+}
+
+/// Runs the turn that an actor has out to its end.
+fn run_of(set: &Verified, number: u8, actor: &Actor, machine: &mut Machine) -> End
+    requires fits { GivenFits set.now number actor.now.standing actor.now.given }
+    requires out { IsSome (turn_given set.now number actor.now.standing actor.now.given) }
+    ensures { IsEnding (turn_given set.now number actor.now.standing actor.now.given) result machine.new }
+{
+    match actor.standing {
+        Standing::Stopped => unreachable!(),
+        Standing::At(place) => match &actor.given {
+            Some(given) => run_with(set, number, place, given, machine),
+            None => unreachable!(),
+        },
+    }
+}
+
+/// Runs the turn that actor `number` has out to its end.
+fn run_at(set: &Verified, actors: &[Actor], number: u16, machine: &mut Machine) -> End
+    requires few { length actors.now ≤ 16 }
+    requires fits { (a : PlainActor) → slice_get actors.now number ≡ Some a → GivenFits set.now number a.standing a.given }
+    requires out { IsSome (turn_at set.now number (slice_get actors.now number)) }
+    ensures { IsEnding (turn_at set.now number (slice_get actors.now number)) result machine.new }
+{
+    match actors.get(usize::from(number)) {
+        Some(found) => run_of(set, number as u8, found, machine),
+        None => unreachable!(),
+    }
+}
+
+impl Book {
+    /// An actor has a whole turn: it begins it as `begin` does, its code runs where it stands in the set, and it ends as `finish` ends
+    /// it. Both events are in the journal. No job is made and no code is copied, so it is what a link has that keeps its turns to itself.
+    /// The turn's end, its count of instructions, and the outputs that reached nobody.
+    ///
+    /// # Errors
+    ///
+    /// Those of `begin`, in the same order: `B10 NoActor`, `B4 Busy`, `B5 Nothing`, `B11 SkipFirst`, `B9 CountFull`, `B8 JournalFull`
+    /// where less than two places are free. Then nothing changes.
+    pub fn turn(&mut self, actor: u16) -> Result<Report, Refusal>
+        ensures book { OnOk result (self.new ≡ (turned self.old actor).book) }
+        ensures report { IfOk result (λ report. (turned self.old actor).answer ≡ Says (reply.Finished report)) }
+        ensures took { IfOk result (λ report. HasTurned self.old actor report.count) }
+        ensures next { OnOk result (next self.new ≡ next self.old + 2) }
+        ensures refused { IfErr result (λ refusal. Says (reply.Refused refusal) ≡ (ask self.old (Begin actor)).answer) }
+        ensures err { OnErr result (self.new ≡ self.old) }
+    {
+        match self.begin_refusal(actor) {
+            Some(refusal) => Err(refusal),
+            None => Ok(self.turn_through(actor)),
+        }
+    }
+
+    /// A whole turn of an actor that can begin one.
+    fn turn_through(&mut self, actor: u16) -> Report
+        requires { Takes self.old (Begin actor) }
+        ensures book { self.new ≡ (turned self.old actor).book }
+        ensures report { (turned self.old actor).answer ≡ Says (reply.Finished result) }
+        ensures took { HasTurned self.old actor result.count }
+        ensures next { next self.new ≡ next self.old + 2 }
+    {
+        keeps_law();
+        state_law();
+        set_law();
+        fits_law();
+        self.keeps();
+        self.start(actor);
+        self.run_out(actor)
+    }
+
+    /// The turn that an actor has out runs to its end, where its code stands in the set, and ends.
+    fn run_out(&mut self, actor: u16) -> Report
+        requires { IsSome (turn_out self.old actor) }
+        ensures book { self.new ≡ (ask self.old (Finish actor)).book }
+        ensures answer { Says (reply.Finished result) ≡ (ask self.old (Finish actor)).answer }
+        ensures next { next self.new ≡ next self.old + 1 }
+        ensures within { TookWithin (turn_out self.old actor) result.count }
+    {
+        keeps_law();
+        state_law();
+        place_law();
+        out_law();
+        fits_law();
+        effects_law();
+        let end = run_at(&self.set, self.link.actors(), actor, &mut self.machine);
+        let number = number_in(&self.link, actor);
+        let report = self.link.finish(
+            number,
+            end,
+            copied_variables(&self.machine.variables),
+            self.machine.effects.as_slice(),
+            self.machine.count,
+        );
+        note(&mut self.journal, Event::Finish(actor));
+        report
+    }
+}

@@ -1,0 +1,88 @@
+//! Runs of code where it stands.
+
+ghost use Rattle.std.specs.Prelude.{◌≡◌, ◌≤◌, [], length};
+ghost use Rattle.turn_code.specs.Fits.{Fits};
+ghost use Rattle.turn_code.specs.Machine.{progress_of};
+ghost use Rattle.turn_code.specs.Run.{begun, run, ended};
+ghost use Rattle.turn_machine.specs.Ends.{EndsSo};
+ghost use Rattle.turn_machine.specs.Safety.{IsSafeWithin};
+
+use crate::execute::execute;
+use arrayvec::ArrayVec;
+use turn_check::Verified;
+use turn_code::laws::safe_law;
+use turn_code::{Cert, End, Input, Instruction, Machine, Operands, Place, ProcessNumber, Value};
+
+/// A machine that has run nothing yet. It may serve one run after another: each begins it anew.
+pub fn new_machine() -> Machine
+    ensures { result ≡ record { operands = []; variables = record { items = [] }; effects = record { items = [] }; count = 0 } }
+{
+    Machine {
+        operands: Operands::new(),
+        variables: ArrayVec::new(),
+        effects: ArrayVec::new(),
+        count: 0,
+    }
+}
+
+/// Runs input `input_number` at a place of a process to its end, on an input that fits it, where its code stands in the set: no job
+/// is made of it, and no code is copied. The machine may be of any run before; it has the variables, effects and count of this one
+/// then. It takes no memory, and it is never refused. How the transition ends.
+pub fn run_in(
+    verified: &Verified,
+    process: ProcessNumber,
+    place: Place,
+    input_number: usize,
+    input: &Input,
+    machine: &mut Machine,
+) -> End
+    requires { Fits verified.now process.0 place input_number input.now }
+    ensures { EndsSo verified.now process.0 place input_number input.now result machine.new }
+{
+    safe_law();
+    let _ = verified.draft();
+    match verified.transition(process, place, input_number) {
+        Some(transition) => run_code(
+            transition.piece.code.as_slice(),
+            input,
+            transition.piece.certificate,
+            machine,
+        ),
+        None => unreachable!(),
+    }
+}
+
+/// Runs code with these counts from its first instruction to its end, on an input.
+pub(crate) fn run_code(
+    code: &[Instruction],
+    input: &Input,
+    certificate: Cert,
+    machine: &mut Machine,
+) -> End
+    requires { IsSafeWithin code.now input.now certificate (begun input.now) }
+    ensures ran { run code.now input.now ≡ ended result (progress_of machine.new) }
+    ensures within { machine.new.count ≤ certificate.budget }
+    ensures few { length machine.new.effects.items ≤ certificate.effects }
+{
+    begin(machine, input);
+    execute(code, input, certificate, machine)
+}
+
+/// A run begins.
+fn begin(machine: &mut Machine, input: &Input)
+    ensures operands { machine.new.operands ≡ [] }
+    ensures progress { progress_of machine.new ≡ begun input.now }
+{
+    machine.operands = Operands::new();
+    set_variables(&mut machine.variables, &input.variables);
+    machine.effects.clear();
+    machine.count = 0;
+}
+
+/// The variables become those of an input.
+fn set_variables(variables: &mut ArrayVec<Option<Value>, 32>, to: &ArrayVec<Option<Value>, 32>)
+    ensures { variables.new.items ≡ to.now.items }
+{
+    variables.clear();
+    variables.try_extend_from_slice(to.as_slice()).unwrap();
+}
