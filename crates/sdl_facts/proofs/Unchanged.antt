@@ -41,7 +41,7 @@ everything_full = and_self everything.0
 meet_full : (a b : VariableSet) → IsFull a → IsFull b → IsFull (meet a b)
 meet_full a b h k = and_full a.0 b.0 everything.0 h k
 
-as_set : ℕ → VariableSet
+pub as_set : ℕ → VariableSet
 as_set n = record { 0 = n }
 
 everything_kept : meet everything everything ≡ everything
