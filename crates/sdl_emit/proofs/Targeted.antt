@@ -1,6 +1,7 @@
--- The numbers of the connections to which JOINs lead, as they are kept: a slot more, and a JOIN more.
-use Rattle.std.proofs.Common.{◌≡◌, ℕ, zero, suc, List, [], ◌∷◌, ◌++◌, Option, Some, None, subst}
-use Rattle.std.specs.Prelude.{slice_get, slice_set}
+-- The numbers of the connections to which JOINs lead, as they are kept: a slot more, a JOIN more, and the one that is asked for.
+use Rattle.std.proofs.Common.{◌≡◌, ℕ, zero, suc, List, [], ◌∷◌, ◌++◌, Option, Some, None, true, subst}
+use Rattle.std.specs.Prelude.{slice_get, slice_set, bytes_eq}
+use Rattle.std.proofs.lemmas.Slice.Eq.{bytes_eq-Decides}
 use Rattle.sdl_ast.specs.Plain.{PlainProcess}
 use Rattle.sdl_tables.specs.Names.{number_of, connector_names}
 use Rattle.sdl_emit.specs.declared.joins.Target.{Target}
@@ -27,3 +28,6 @@ one_target p ts n t h known = λ k u e. at ts n k u h e
     at (x ∷ ts) zero (suc k) u h e = h (suc k) u e
     at (x ∷ ts) (suc n) zero u h e = h zero u e
     at (x ∷ ts) (suc n) (suc k) u h e = at ts n k u (λ j v f. h (suc j) v f) e
+
+pub asked_for : (p : PlainProcess) (ts : List (Option Target)) (k : ℕ) (t : Target) (name : List ℕ) → AreTargets p ts → slice_get ts k ≡ Some (Some t) → bytes_eq t.connector.name name ≡ true → number_of (connector_names p) name ≡ Some t.number
+asked_for p ts k t name h at same = subst (λ n. number_of (connector_names p) n ≡ Some t.number) ((bytes_eq-Decides t.connector.name name).0 same) (h k t at)

@@ -33,11 +33,9 @@ impl JoinTable {
     pub(crate) fn number(&self, id: &Identifier) -> Option<usize>
         ensures { (p : PlainProcess) → IsJoinTable p self.now → IfSome result (λ n. number_of (connector_names p) id.now.name ≡ Some n) }
     {
-        let target = (*self.targets.get(slot(id))?)?;
-        if target.connector.name == id.name {
-            Some(target.number)
-        } else {
-            None
+        match self.targets.get(slot(id)) {
+            Some(Some(target)) if target.connector.name == id.name => Some(target.number),
+            _ => None,
         }
     }
 }
