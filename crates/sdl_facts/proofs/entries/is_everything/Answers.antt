@@ -1,9 +1,12 @@
-use Rattle.std.proofs.Common.{◌≡◌, ap, ◌∙◌}
+use Rattle.std.proofs.Common.{◌≡◌, ℕ, ap, ◌∙◌}
 use Rattle.std.proofs.lemmas.Bool.{eqb-true}
+use Rattle.turn_code.specs.declared.variable_set.VariableSet.{VariableSet}
 use Rattle.sdl_facts.specs.Reads.{everything}
 use Rattle.sdl_facts.proofs.entries.is_everything.Goals as goal
-use Rattle.sdl_facts.proofs.Unchanged.{as_set}
+
+set_of : ℕ → VariableSet
+set_of n = record { 0 = n }
 
 pub returns : goal.returns
-unfolding everything as_set
-returns c = λ is. ap as_set (eqb-true c.args.set.0 4294967295 is)
+unfolding everything set_of
+returns c = λ is. ap set_of (eqb-true c.args.set.0 4294967295 is)
