@@ -25,9 +25,10 @@ use Rattle.sdl_sound.specs.Receivers.{arrives, answers_all, lost_sending, lost_a
 use Rattle.sdl_meaning.specs.Act.{Scope, variable_at, to_sender}
 use Rattle.sdl_meaning.specs.Named.{NamedTree, NamedTrees, NamedTasks, HasReceiver, NamedSendings, NamedAction, NamedEnd, NamedText, NamedChoice, AnswerTo, NamedPlaces, IsSentTo, AnswerAll, AnswersTo, AnswersAction, AnswersSenders, ChoiceAnswers}
 use Rattle.sdl_compile.specs.Drafts.{IsTrigger}
-use Rattle.sdl_sound.proofs.Items.{Each, each_front, each_back, nil_front, nil_back}
+use Rattle.sdl_sound.proofs.Items.{Each, each_front, each_back}
 use Rattle.sdl_meaning.proofs.Sorting.{passed}
 use Rattle.sdl_facts.proofs.Actions.{as_many}
+use Rattle.plain_laws.proofs.Lists.{append-nil_left as nil_front, append-nil_right as nil_back}
 
 -- a list has an item that passes: the first one has a place
 before_end : {A : Type 0} (p : A → Bool) (xs : List A) → list_any p xs ≡ true → prefix_len (λ x. not (p x)) xs < length xs

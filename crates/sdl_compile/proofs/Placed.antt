@@ -4,7 +4,7 @@ use Rattle.std.specs.Prelude.{slice_get, All, Contains, is_some, option_map, IfS
 use Rattle.std.specs.Int.{bit_at}
 use Rattle.std.specs.List.{AllZip, flat_map}
 use Rattle.std.proofs.lemmas.List.{length-map}
-use Rattle.std.proofs.lemmas.List.Elements.{All-nil, All-cons, All-head, All-tail}
+use Rattle.std.proofs.lemmas.List.Elements.{All-nil, All-cons}
 use Rattle.std.proofs.lemmas.Option.{slice_get-map}
 use Rattle.std.proofs.lemmas.Nat.Bits.{bit_at-zero, bit_at_cat_high, bit_at_lowest}
 use Rattle.sdl_ast.specs.declared.expression.Identifier.{Identifier}
@@ -55,8 +55,8 @@ use Rattle.sdl_compile.specs.Blocks.{Declares, IsValidProcess}
 use Rattle.sdl_facts.specs.Reads.{everything, ReadText, places_set}
 use Rattle.sdl_facts.specs.Entries.{entry_at, met, connections_met, piece_entries}
 use Rattle.sdl_compile.specs.Routes.{IsKnownPath}
-use Rattle.sdl_sound.proofs.Items.{Each, nil_front, nil_back}
-use Rattle.sdl_meaning.proofs.Numbers.{AreNumbered, are_numbered, number_alike, number_there}
+use Rattle.sdl_sound.proofs.Items.{Each, each_at_place as each_at}
+use Rattle.sdl_meaning.proofs.Numbers.{AreNumbered, are_numbered, number_there}
 use Rattle.sdl_meaning.proofs.Sorting.{passed, number_small, variable_sorted, signal_sorted, unsigned_sorts}
 use Rattle.sdl_facts.proofs.Actions.{Stands, Reaching}
 use Rattle.sdl_facts.proofs.Spots.{Spot, instructions, shapes, piece_spots, piece_instructions}
@@ -66,17 +66,15 @@ use Rattle.sdl_valid.proofs.Standing.{start_enters, piece_made}
 use Rattle.sdl_valid.proofs.Settling.{all_fit, all_read}
 use Rattle.sdl_compile.proofs.Righting.{right_text}
 use Rattle.sdl_compile.proofs.Receiving.{answers_input, arriving}
-use Rattle.sdl_compile.proofs.Ready.{FineReached, FineWhole, FineInput, FineProcess, each_at}
+use Rattle.sdl_compile.proofs.Ready.{FineReached, FineWhole, FineInput, FineProcess}
 use Rattle.sdl_valid.proofs.Validity.{valid}
 use Rattle.sdl_sound.proofs.Lists.{get_one as one_item}
 use Rattle.sdl_valid.proofs.Walks.{Holds, places_hold, by_bool}
+use Rattle.plain_laws.proofs.Places.{all_at}
+use Rattle.plain_laws.proofs.Lists.{append-nil_left as nil_front, append-nil_right as nil_back}
+use Rattle.sdl_sound.proofs.Numbered.{number_alike}
 
 -- ---- lists by place
-
-all_at : {A : Type 0} (P : A → Type 0) (xs : List A) (k : ℕ) (x : A) → All P xs → slice_get xs k ≡ Some x → P x
-all_at P [] k x h e = absurd (let k : ⊥ = cc in k)
-all_at P (y ∷ xs) zero x h e = let f : y ≡ x = cc in subst P f (All-head P y xs h)
-all_at P (y ∷ xs) (suc k) x h e = all_at P xs k x (All-tail P y xs h) e
 
 -- what stands beside an item
 pub record Beside {A B : Type 0} (R : A → B → Type 0) (xs : List A) (k : ℕ) (y : B) : Type 0 where

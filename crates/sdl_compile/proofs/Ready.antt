@@ -1,5 +1,5 @@
 -- The processes of a sound block are ready to be compiled.
-use Rattle.std.proofs.Common.{◌≡◌, ℕ, zero, suc, ◌+◌, ◌<◌, ◌≤◌, Bool, true, false, not, cond, ◌&&◌, List, [], ◌∷◌, ◌++◌, length, map, Option, Some, None, IsSome, refl, sym, ap, ◌∙◌, subst, arith, nat_lt}
+use Rattle.std.proofs.Common.{◌≡◌, ℕ, zero, suc, ◌+◌, ◌<◌, ◌≤◌, Bool, true, false, not, cond, ◌&&◌, List, [], ◌∷◌, ◌++◌, length, map, Option, Some, None, IsSome, refl, sym, ap, ◌∙◌, arith, nat_lt}
 use Rattle.std.specs.Prelude.{slice_get, zip, nat_eq}
 use Rattle.std.specs.List.{flat_map, list_all, list_any, filter, enumerate_from, position_or_len}
 use Rattle.std.specs.Option.{option_map}
@@ -34,30 +34,19 @@ use Rattle.sdl_meaning.proofs.Numbers.{AreNumbered, are_numbered, not_marked as 
 use Rattle.sdl_compile.proofs.Receiving.{has_receiver, answers_sender, all_front, all_back}
 use Rattle.sdl_meaning.proofs.Sorting.{passed}
 use Rattle.std.proofs.lemmas.Option.{slice_get-map as slice_map}
-use Rattle.sdl_sound.proofs.Items.{Each, each_front, each_back, each_append, each_always, each_with, each_map, each_flat, each_unflat, each_false, all_items, nil_front, nil_back, each_nil}
-use Rattle.sdl_meaning.proofs.Tests.{and_second as and_right, and_first as and_left}
+use Rattle.sdl_sound.proofs.Items.{Each, each_front, each_back, each_append, each_always, each_with, each_map, each_flat, each_unflat, each_false, all_items, each_nil, each_at_place as each_at}
 use Rattle.turn_code.proofs.Lists.{within as in_list}
-use Rattle.std.proofs.lemmas.Bool.{eqb-true as equal_number, and_from as and_both}
+use Rattle.std.proofs.lemmas.Bool.{eqb-true as equal_number, and_from as and_both, ltb-false as at_most}
+use Rattle.plain_laws.proofs.Truths.{and_second as and_right, and_first as and_left}
+use Rattle.plain_laws.proofs.Lists.{append-nil_left as nil_front, append-nil_right as nil_back}
 
 unequal_number : (m n : ℕ) → nat_eq m n ≡ false → m ≡ n → ⊥
 unequal_number m n e f = grind (arith, nat_tests)
-
-pub each_both : {A : Type 0} (P Q : A → Type 0) (xs : List A) → Each P xs → Each Q xs → Each (λ x. P x × Q x) xs
-each_both P Q [] h k = tt
-each_both P Q (x ∷ xs) h k = ((h.0, k.0), each_both P Q xs h.1 k.1)
-
-pub each_at : {A : Type 0} (P : A → Type 0) (xs : List A) (n : ℕ) (x : A) → Each P xs → slice_get xs n ≡ Some x → P x
-each_at P [] n x h e = absurd (let k : ⊥ = cc in k)
-each_at P (y ∷ xs) zero x h e = let f : y ≡ x = cc in subst P f h.0
-each_at P (y ∷ xs) (suc n) x h e = each_at P xs n x h.1 e
 
 both_nil : (a b : List ℕ) → a ≡ [] → b ≡ [] → a ++ b ≡ []
 both_nil a b e f = ap (λ l. l ++ b) e ∙ f
 
 -- ---- the limits
-
-pub at_most : (n m : ℕ) → nat_lt n m ≡ false → m ≤ n
-at_most n m e = grind (arith, nat_tests)
 
 small_piece : (c : Scope) (q : Piece) → text_budget c.process q.text ≤ text_size c.process q.text → nat_lt 512 (piece_size c.process q) ≡ false → nat_lt 16 (piece_depth c.process q) ≡ false → nat_lt 32 (piece_effects c.process q) ≡ false → IsSmall c q
 small_piece c q s e f g =

@@ -4,8 +4,6 @@ use Rattle.std.specs.Prelude.{slice_get, All, Contains, Any, fold, option_map}
 use Rattle.std.specs.List.{list_any, list_all, flat_map}
 use Rattle.std.proofs.lemmas.Bool.Decides.{nat_tests}
 use Rattle.std.proofs.lemmas.List.Elements.{All-nil, All-cons, All-head, All-tail, All-weaker, All-contains}
-use Rattle.std.proofs.lemmas.Slice.Eq.{bytes_eq-Decides}
-use Rattle.sdl_lex.specs.Spelling.{folded}
 use Rattle.sdl_ast.specs.declared.expression.Identifier.{Identifier}
 use Rattle.sdl_ast.specs.declared.tree.Party.{Party}
 use Rattle.sdl_ast.specs.declared.tree.Party.TheVariants.{Environment, Process}
@@ -33,16 +31,15 @@ use Rattle.sdl_compile.specs.Drafts.{IsTrigger}
 use Rattle.sdl_compile.specs.Blocks.{drafted_party, drafted_path}
 use Rattle.sdl_compile.specs.Routes.{KnownParty, IsKnown, IsKnownPath}
 use Rattle.sdl_sound.proofs.Items.{Each, each_append, each_with, all_items}
-use Rattle.sdl_meaning.proofs.Numbers.{AreNumbered, number_alike, number_there, same_self, same_other_way}
-use Rattle.sdl_sound.proofs.Numbered.{same_folded as folded_alike}
-use Rattle.sdl_meaning.proofs.Tests.{and_second as and_right, and_first as and_left}
+use Rattle.sdl_meaning.proofs.Numbers.{AreNumbered, number_there}
+use Rattle.sdl_sound.proofs.Numbered.{same_trans as trans_name, number_alike, same_back as same_other_way}
 use Rattle.std.proofs.lemmas.Bool.{or_left as or_one, or_right as or_other, and_from as and_both}
 use Rattle.turn_code.proofs.Lists.{first_of as contains_here}
 use Rattle.sdl_meaning.proofs.Reached.{or_split}
 use Rattle.sdl_tables.proofs.Mentions.{party_self as same_party_self}
-
-trans_name : (x y z : List ℕ) → same_name x y ≡ true → same_name y z ≡ true → same_name x z ≡ true
-trans_name x y z e f = (bytes_eq-Decides (folded x) (folded z)).1 (folded_alike x y e ∙ folded_alike y z f)
+use Rattle.plain_laws.proofs.Truths.{and_second as and_right, and_first as and_left}
+use Rattle.plain_laws.proofs.Lists.{contains_there}
+use Rattle.sdl_tables.proofs.Numbers.{same_self}
 
 -- ---- lists
 
@@ -51,9 +48,6 @@ any_here P x xs h = (0, x, omega arith, refl, h)
 
 any_there : {A : Type 0} (P : A → Type 0) (y : A) (xs : List A) → Any P xs → Any P (y ∷ xs)
 any_there P y xs h = let l = h.2 in (suc h.0, h.1, omega (arith, l), h.3, h.4)
-
-contains_there : {A : Type 0} (y x : A) (xs : List A) → Contains xs x → Contains (y ∷ xs) x
-contains_there y x xs h = let l = h.1 in (suc h.0, omega (arith, l), h.2)
 
 pub all_front : {A : Type 0} (f : A → Bool) (a b : List A) → list_all f (a ++ b) ≡ true → list_all f a ≡ true
 all_front f [] b e = refl

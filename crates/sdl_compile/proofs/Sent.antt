@@ -19,8 +19,8 @@ use Rattle.sdl_meaning.specs.Named.{IsBroughtBy}
 use Rattle.sdl_compile.specs.Blocks.{drafted_party, drafted_path}
 use Rattle.sdl_compile.specs.Routes.{KnownParty, IsKnown, IsKnownPath, signal_numbered}
 use Rattle.sdl_sound.proofs.Items.{Each}
-use Rattle.sdl_meaning.proofs.Numbers.{number_there, same_other_way}
-use Rattle.sdl_sound.proofs.Numbered.{same_folded as folded_alike}
+use Rattle.sdl_meaning.proofs.Numbers.{number_there}
+use Rattle.sdl_sound.proofs.Numbered.{same_folded as folded_alike, same_back as same_other_way}
 use Rattle.std.specs.Prelude.{bytes_eq}
 
 names_alike : (x y z : List ℕ) → same_name x y ≡ true → same_name x z ≡ same_name y z

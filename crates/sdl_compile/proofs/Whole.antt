@@ -52,14 +52,16 @@ use Rattle.sdl_meaning.specs.Declarations.{sort_of_tree, drafted_signal, drafted
 use Rattle.sdl_compile.specs.Drafts.{IsReadyProcess, IsInputOf, AreInputsOf, IsProcessOf, sets_of}
 use Rattle.sdl_compile.specs.Blocks.{drafted_routes, Declares}
 use Rattle.sdl_compile.specs.Routes.{KnownParty, IsKnown, IsKnownPath, HasFewNames}
-use Rattle.sdl_sound.proofs.Items.{Each, each_front, each_back, each_with, each_unmap, each_flat, each_unflat, all_items, nil_front, nil_back, each_nil, each_false, each_unfound}
+use Rattle.sdl_sound.proofs.Items.{Each, each_front, each_back, each_with, each_unmap, each_flat, each_unflat, all_items, each_nil, each_false, each_unfound, each_both, each_at_place as each_at}
 use Rattle.sdl_compile.proofs.Known.{known}
 use Rattle.sdl_meaning.proofs.Numbers.{AreNumbered, are_numbered}
 use Rattle.sdl_compile.proofs.Placed.{beside, valid_process, IsCounted, IsKnownTransition}
-use Rattle.sdl_compile.proofs.Ready.{FineProcess, process_fine, ready_process, small_pieces, at_most, each_both, each_at}
+use Rattle.sdl_compile.proofs.Ready.{FineProcess, process_fine, ready_process, small_pieces}
 use Rattle.sdl_meaning.proofs.Sorting.{found_at}
 use Rattle.std.proofs.lemmas.Option.{slice_get-map as slice_map}
 use Rattle.turn_code.proofs.Lists.{at_place as slice_contains, zip_length}
+use Rattle.std.proofs.lemmas.Bool.{ltb-false as at_most}
+use Rattle.plain_laws.proofs.Lists.{append-nil_left as nil_front, append-nil_right as nil_back}
 
 -- ---- as many pieces in the draft as in the text
 

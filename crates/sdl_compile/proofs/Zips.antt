@@ -1,7 +1,7 @@
 -- Lists that are made item by item.
-use Rattle.std.proofs.Common.{◌≡◌, ℕ, zero, suc, ◌+◌, ◌<◌, List, [], ◌∷◌, ◌++◌, length, get_or, take, drop, map, Some, refl, sym, ap, ◌∙◌, subst, arith, append_assoc}
+use Rattle.std.proofs.Common.{◌≡◌, ℕ, zero, suc, ◌+◌, ◌<◌, List, [], ◌∷◌, ◌++◌, length, get_or, take, drop, map, Some, refl, sym, ap, ◌∙◌, subst, arith}
 use Rattle.std.proofs.Math.Seq.{take-suc}
-use Rattle.std.proofs.lemmas.List.{map-append, length-map, take_more}
+use Rattle.std.proofs.lemmas.List.{map-append, length-map}
 use Rattle.std.specs.List.{AllZip, enumerate_from, flat_map}
 use Rattle.std.specs.Prelude.{slice_get, IfSome}
 use Rattle.turn_code.specs.declared.draft.DraftInput.{DraftInput}
@@ -67,20 +67,6 @@ stimuli_taken i = mapped i.stimuli.items
     mapped : (xs : List Stimulus) → stimulus_inputs (record { at = i.at; stimuli = map stimulus_of xs; text = text_of i.transition }) ≡ map (input_by i) xs
     mapped [] = refl
     mapped (x ∷ xs) = ap (λ l. input_by i x ∷ l) (mapped xs)
-
-zip_push : {A B : Type 0} (R : A → B → Type 0) (xs : List A) (ys : List B) (x : A) (y : B) → AllZip R xs ys → R x y → AllZip R (xs ++ x ∷ []) (ys ++ y ∷ [])
-zip_push R [] [] x y h r = (r, tt)
-zip_push R [] (b ∷ ys) x y h r = absurd h
-zip_push R (a ∷ xs) [] x y h r = absurd h
-zip_push R (a ∷ xs) (b ∷ ys) x y h r = (h.0, zip_push R xs ys x y h.1 r)
-
--- one more item behind others
-pub zip_behind : {X A B : Type 0} (R : A → B → Type 0) (g : X → A) (before : List A) (xs : List X) (i : ℕ) (x : X) (ys : List B) (y : B) → i < length xs → x ≡ get_or xs i x
-    → AllZip R (before ++ map g (take i xs)) ys → R (g x) y → AllZip R (before ++ map g (take (i + 1) xs)) (ys ++ y ∷ [])
-zip_behind R g before xs i x ys y lt is h r =
-    subst (λ zs. AllZip R zs (ys ++ y ∷ []))
-    (append_assoc before (map g (take i xs)) (g x ∷ []) ∙ ap (λ l. before ++ l) (sym (map-append g (take i xs) (x ∷ [])) ∙ ap (map g) (sym (take_more xs i x lt ∙ ap (λ u. take i xs ++ u ∷ []) (sym is)))))
-    (zip_push R (before ++ map g (take i xs)) ys (g x) y h r)
 
 pub all_ready_more : {A : Type 0} (c : Scope) (f : A → List Input) (xs : List A) (i : ℕ) (d : A) → i < length xs → AllReady c (map f (drop i xs)) → AreReady c (f (get_or xs i d)) × AllReady c (map f (drop (suc i) xs))
 all_ready_more c f [] i d lt h = absurd (omega arith)

@@ -15,7 +15,7 @@ ghost use Rattle.sdl_compile.specs.Drafts.{IsReadyProcess, MatchesProcess, IsPro
 use crate::piece::compile_transition;
 use crate::state::{Context, compile_states, draft_name};
 use crate::variables::compile_variables;
-use sdl_emit::{Body, Names};
+use sdl_emit::{Body, Names, find_joins};
 use sdl_facts::Setting;
 use sdl_rules::{Measure, standing_inputs};
 use sdl_tables::{BlockTable, NameTable, ProcessTable};
@@ -87,9 +87,11 @@ pub fn compile_process(
 {
     let variables = compile_variables(alloc, table.rows())?;
     let timers = compile_timers(alloc, table.timers())?;
+    let joins = find_joins(alloc, table)?;
     let names = Names {
         block,
         process: table,
+        joins: &joins,
     };
     let process = table.process();
     let start = &process.start.transition;

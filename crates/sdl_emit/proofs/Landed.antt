@@ -20,7 +20,7 @@ use Rattle.sdl_meaning.specs.Code.{jump, leave_code, body_size, else_size, answe
 use Rattle.sdl_emit.specs.Landing.{code_place, starts_from, leave_place, answers_leave, else_leave, landed, filled, first_or, behind_first, has_any, picked_by, tests_by}
 use Rattle.sdl_meaning.proofs.Sizes.{leave_size, tests_are, text_size_is, else_size_is}
 use Rattle.sdl_emit.proofs.Emitting.{bodies_size_parts, answers_length, body_length, truth_whole, integer_whole}
-use Rattle.std.proofs.Math.Bool.{or-false as or_false}
+use Rattle.std.proofs.Math.Bool.{or-false as or_false, and_assoc as and_three}
 
 -- ---- one instruction in another's stead
 
@@ -319,10 +319,6 @@ pub else_leave_alone : (c : Scope) (to : ℕ → ℕ) (list : List Answer) (o : 
 else_leave_alone c to list o n = else_leave_by c to (map plain_answer list) o n
 
 -- ---- whether a text goes on
-
-and_three : (a b d : Bool) → ((a && b) && d) ≡ (a && (b && d))
-and_three true b d = refl
-and_three false b d = refl
 
 pub rest_goes : (s : Statement) (t rest : Text) → t ≡ statement_of s rest → (goes passes behind : Bool) → behind ≡ (goes && passes) → goes_on (statement_of s rest) ≡ (passes && goes_on rest) → (all : Bool) → (goes && goes_on t) ≡ all
     → (behind && goes_on rest) ≡ all

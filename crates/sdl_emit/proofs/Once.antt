@@ -7,12 +7,8 @@ use Rattle.std.proofs.lemmas.Bool.Decides.{nat_tests}
 use Rattle.std.proofs.lemmas.List.Sums.{sum_by-cons, sum_by-append}
 use Rattle.sdl_meaning.specs.Code.{add_number}
 use Rattle.sdl_emit.specs.Placing.{has}
-use Rattle.std.proofs.Math.Bool.{or_assoc, or-false as or_none}
+use Rattle.std.proofs.Math.Bool.{or_assoc, or-false as or_none, or-true as or_some}
 use Rattle.sdl_meaning.proofs.Tests.{itself as same_eq}
-
-or_some : (b : Bool) → b || true ≡ true
-or_some true = refl
-or_some false = refl
 
 has_last : (ns : List ℕ) (n i : ℕ) → has (ns ++ n ∷ []) i ≡ has ns i || nat_eq n i
 has_last [] n i = or_none (nat_eq n i)

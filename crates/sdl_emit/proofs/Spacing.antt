@@ -15,10 +15,6 @@ zero_at zero n = refl
 zero_at (suc k) zero = refl
 zero_at (suc k) (suc n) = zero_at k n
 
-pub zero_more : (count : ℕ) → replicate {A = ℕ} count 0 ++ 0 ∷ [] ≡ replicate {A = ℕ} (count + 1) 0
-zero_more zero = refl
-zero_more (suc k) = let e : suc k + 1 ≡ suc (k + 1) = omega arith in ap (λ l. 0 ∷ l) (zero_more k) ∙ sym (ap (λ n. replicate {A = ℕ} n 0) e)
-
 drop_one : (ns : List ℕ) (k m : ℕ) → slice_get ns k ≡ Some m → drop k ns ≡ m ∷ drop (suc k) ns
 drop_one [] k m e = absurd (let k : ⊥ = cc in k)
 drop_one (n ∷ ns) zero m e = let f : n ≡ m = cc in ap (λ n. n ∷ ns) f

@@ -1,3 +1,4 @@
 pub mod Landing
 pub mod Placing
 pub mod Scopes
+pub mod Targets

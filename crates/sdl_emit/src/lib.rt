@@ -4,6 +4,7 @@
 
 mod bodies;
 mod emit;
+mod joins;
 mod landing;
 mod names;
 mod placing;
@@ -11,6 +12,7 @@ mod ranges;
 mod texts;
 
 pub use bodies::{Body, text_size};
+pub use joins::{JoinTable, find_joins};
 pub use names::Names;
 pub use placing::{connection_places, place_connections};
 pub use texts::emit_piece;

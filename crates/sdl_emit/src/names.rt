@@ -6,7 +6,9 @@ ghost use Rattle.sdl_tables.specs.Names.{variable_names, states_of, timers_of, s
 ghost use Rattle.sdl_meaning.specs.Act.{variable_at, state_at, timer_at, connector_at, signal_at, is_truth, numbered, the_one};
 ghost use Rattle.sdl_meaning.specs.Named.{HasReceiver};
 ghost use Rattle.sdl_meaning.specs.Code.{number_or_zero, party_or_environment, receiver_code};
+ghost use Rattle.sdl_emit.specs.Targets.{IsJoinTable};
 
+use crate::joins::JoinTable;
 use sdl_ast::{Destination, Expression, Identifier, Sort};
 use sdl_sorts::sort_in;
 use sdl_statements::{Recipients, find_receivers};
@@ -20,6 +22,8 @@ use turn_code::{
 pub struct Names<'a> {
     pub block: &'a BlockTable<'a>,
     pub process: &'a ProcessTable<'a>,
+    pub joins: &'a JoinTable,
+    pub ghost joined: { IsJoinTable (process_of process.now) joins.now },
     pub ghost few_variables: { length (variable_names (process_of process.now)) ≤ 32 },
     pub ghost few_states: { length (states_of (process_of process.now)) ≤ 64 },
     pub ghost few_timers: { length (timers_of (process_of process.now)) ≤ 8 },
@@ -68,6 +72,9 @@ impl Names<'_> {
         requires { IsSome (connector_at (scope_in self.now) id.now) }
         ensures { result ≡ number_or_zero (connector_at (scope_in self.now) id.now) }
     {
+        if let Some(number) = self.joins.number(id) {
+            return number;
+        }
         match self.process.connectors().number(id.name) {
             Some(number) => number,
             None => unreachable!(),

@@ -132,9 +132,9 @@ fn place_each(
     Ok(())
 }
 
-/// The connections that a text joins.
+/// The connections that a text joins. `found` keeps its memory from one text to the next.
 fn place_joined(
-    alloc: Global,
+    found: &mut Vec<Join>,
     placed: &mut Vec<usize>,
     marks: &mut Vec<bool>,
     names: &Names,
@@ -145,14 +145,14 @@ fn place_joined(
     ensures placed { OnOk result (placed.new.items ≡ fold add_number placed.old.items (joined (scope_in names.now) (text_of transition.now))) }
     ensures marks { OnOk result (AreMarked (scope_in names.now) placed.new.items marks.new.items) }
 {
-    let mut found = Vec::new(alloc);
-    collect_joins(&mut found, names, transition)?;
-    place_each(placed, marks, names, &found)
+    found.clear();
+    collect_joins(found, names, transition)?;
+    place_each(placed, marks, names, found)
 }
 
 /// The connections that one of them joins.
 fn place_more(
-    alloc: Global,
+    found: &mut Vec<Join>,
     placed: &mut Vec<usize>,
     marks: &mut Vec<bool>,
     names: &Names,
@@ -167,7 +167,7 @@ fn place_more(
     ensures marks { OnOk result (AreMarked (scope_in names.now) placed.new.items marks.new.items) }
 {
     let copy = &copies[number];
-    place_joined(alloc, placed, marks, names, copy)
+    place_joined(found, placed, marks, names, copy)
 }
 
 /// No connection is placed so far.
@@ -193,13 +193,14 @@ pub fn place_connections(
     requires connections { NamedConnections (scope_in names.now) }
     ensures { IfOk result (λ ns. ArePlaced (scope_in names.now) (text_of body.now.whole.now) ns.items) }
 {
+    let mut found = Vec::new(alloc);
     let mut placed = Vec::new(alloc);
     let mut marks = no_marks(alloc, names)?;
-    place_joined(alloc, &mut placed, &mut marks, names, body.copy)?;
+    place_joined(&mut found, &mut placed, &mut marks, names, body.copy)?;
     let mut next = 0;
     while next < placed.len() {
         let number = placed[next];
-        place_more(alloc, &mut placed, &mut marks, names, copies, number)?;
+        place_more(&mut found, &mut placed, &mut marks, names, copies, number)?;
         next += 1;
     }
     Ok(placed)
@@ -238,16 +239,6 @@ fn total_size(names: &Names, measures: &[Measure], placed: &[usize]) -> usize
     total
 }
 
-fn zeros(alloc: Global, count: usize) -> Result<Vec<usize>, AllocError>
-    ensures { IfOk result (λ ns. ns.items ≡ replicate count 0) }
-{
-    let mut numbers = Vec::new(alloc);
-    for _ in 0..count {
-        numbers.push(0)?;
-    }
-    Ok(numbers)
-}
-
 /// Where connections stand one behind another from a place on, by number: 0 for one that isn't placed.
 pub fn connection_places(
     alloc: Global,
@@ -262,7 +253,8 @@ pub fn connection_places(
     ensures places { IfOk result (λ ps. (n : ℕ) → places_by ps.items n ≡ place_in (scope_in names.now) start placed.now n) }
     ensures low { IfOk result (λ ps. All (λ p. p ≤ 512) ps.items) }
 {
-    let mut places = zeros(alloc, names.process.process().connections.len())?;
+    let count = names.process.process().connections.len();
+    let mut places = vec![in alloc; 0; count]?;
     let mut place = start + total_size(names, measures, placed);
     let mut left = placed.len();
     while left > 0 {

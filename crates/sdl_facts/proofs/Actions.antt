@@ -35,13 +35,13 @@ use Rattle.sdl_meaning.specs.Code.{number_or_zero, next, set_to, reset, put, sto
 use Rattle.sdl_meaning.specs.Named.{NamedTasks, NamedSendings, NamedAction, NamedPlaces}
 use Rattle.sdl_meaning.specs.Declarations.{sort_of_tree}
 use Rattle.sdl_facts.specs.Reads.{ReadTasks, ReadSendings, ReadAction}
-use Rattle.sdl_sound.proofs.Items.{nil_front, nil_back}
 use Rattle.sdl_meaning.proofs.Sorting.{fits, has_this, passed, variable_has_sort}
 use Rattle.sdl_facts.proofs.Straight.{AreRight}
 use Rattle.sdl_facts.proofs.Stretches.{right_joined}
 use Rattle.sdl_facts.proofs.Shapes.{Counted, CountedAction, sort_given, trees_shape, this_sort, tree_leads, trees_leads, put_out, variable_store, action_leads, param_leads, places_leads}
 use Rattle.sdl_facts.proofs.Rights.{one_of, none_in, store_right, tree_right, trees_right}
 use Rattle.sdl_meaning.proofs.Numbers.{not_marked as not_flagged}
+use Rattle.plain_laws.proofs.Lists.{append-nil_left as nil_front, append-nil_right as nil_back}
 
 agree_same : (xs : List Sort) → Agree xs xs
 agree_same [] = tt

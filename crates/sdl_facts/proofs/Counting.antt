@@ -37,8 +37,8 @@ use Rattle.sdl_meaning.proofs.Sizes.{tree_size, action_size, tests_are, leave_si
 use Rattle.sdl_meaning.proofs.Runs.{HasAt, has_front, has_back}
 use Rattle.sdl_meaning.proofs.Branches.{EachEnd, EachJoin, ChoiceJoin, integer_answered, no_names}
 use Rattle.sdl_meaning.proofs.Choices.{AreTruths, are_truths}
-use Rattle.sdl_meaning.proofs.Tests.{and_second, and_first}
 use Rattle.sdl_meaning.proofs.Measured.{some_values}
+use Rattle.plain_laws.proofs.Truths.{and_second, and_first}
 
 -- ---- what goes straight on
 

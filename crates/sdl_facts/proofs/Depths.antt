@@ -35,7 +35,6 @@ use Rattle.sdl_facts.proofs.Stretches.{after, left_shape, deepest, Leads}
 use Rattle.sdl_facts.proofs.Shapes.{depth_some, tree_leads, action_leads, places_leads}
 use Rattle.sdl_facts.proofs.Actions.{counted_action}
 use Rattle.sdl_meaning.proofs.Sorting.{variable_sorted, signal_sorted, tree_has_sort}
-use Rattle.sdl_sound.proofs.Items.{nil_front, nil_back}
 use Rattle.sdl_meaning.proofs.Branches.{EachEnd, EachJoin, ChoiceJoin, integer_answered}
 use Rattle.sdl_meaning.proofs.Joining.{contains_map, has_connection, each_join}
 use Rattle.turn_code.proofs.Lists.{first_of as contains_first}
@@ -43,6 +42,7 @@ use Rattle.sdl_meaning.proofs.Acts.{joined_placed, placed_closed}
 use Rattle.sdl_meaning.proofs.Measured.{Below, depth_same, depth_below, fixed, all_placed, each_of, each_named}
 use Rattle.turn_code.proofs.Lists.{within as none_past}
 use Rattle.sdl_emit.proofs.Gathering.{text_there}
+use Rattle.plain_laws.proofs.Lists.{append-nil_left as nil_front, append-nil_right as nil_back}
 
 -- ---- the depth of a text alone, without what it joins
 

@@ -1,7 +1,7 @@
 -- What is known of connections before a piece is counted, and what its counts are.
-use Rattle.std.proofs.Common.{◌≡◌, ℕ, zero, suc, ◌+◌, ◌<◌, ◌≤◌, min, ⊎_elim, Bool, true, false, cond, List, [], ◌∷◌, ◌++◌, length, length-append, set, replicate, Option, Some, None, IsSome, refl, sym, ap, ◌∙◌, subst, arith, length-set, get_or-set_same, get_or-set_other}
+use Rattle.std.proofs.Common.{◌≡◌, ℕ, suc, ◌+◌, ◌<◌, ◌≤◌, min, ⊎_elim, Bool, true, false, cond, List, [], ◌∷◌, ◌++◌, length, length-append, set, replicate, Option, Some, None, IsSome, refl, sym, ap, ◌∙◌, subst, arith, length-set, get_or-set_same, get_or-set_other}
 use Rattle.std.specs.Prelude.{slice_get, get_or, nat_eq, is_some, Contains, All}
-use Rattle.std.specs.List.{AllZip, sum_by}
+use Rattle.std.specs.List.{sum_by}
 use Rattle.std.specs.Option.{option_map_or}
 use Rattle.std.proofs.lemmas.Bool.{cases_eq, eqb-true as same_number}
 use Rattle.std.proofs.lemmas.Bool.Decides.{nat_tests}
@@ -36,6 +36,7 @@ use Rattle.sdl_facts.proofs.Weights.{one, one_weighs, effects_weigh, tally_budge
 use Rattle.turn_code.proofs.Lists.{at_place as contains_at}
 use Rattle.sdl_meaning.proofs.Acts.{tail_contains as in_tail}
 use Rattle.sdl_emit.proofs.Spacing.{zero_at}
+use Rattle.plain_laws.proofs.Pairwise.{zip_beside as zip_at}
 
 -- ---- the list of what is known, while it is made
 
@@ -160,14 +161,6 @@ module _ (c : Scope) (x : Counted) (q : Piece) (ns : List ℕ) (placed : ArePlac
   connection_some n h =
       let w = within_piece n h in
       size_some c (text_at c n) (subst (λ t. may_go_on t ≡ false) (sym (text_there c n w.connection w.there)) (named.connections.texts n w.connection w.there).ended)
-
--- what is measured of an item
-zip_at : {A B : Type 0} (R : A → B → Type 0) (xs : List A) (ys : List B) (n : ℕ) (x : A) → AllZip R xs ys → slice_get xs n ≡ Some x → (y : B) × (slice_get ys n ≡ Some y) × R x y
-zip_at R [] [] n x h e = absurd (let k : ⊥ = cc in k)
-zip_at R [] (y ∷ ys) n x h e = absurd h
-zip_at R (z ∷ xs) [] n x h e = absurd h
-zip_at R (z ∷ xs) (y ∷ ys) zero x h e = let f : z ≡ x = cc in (y, refl, subst (λ z. R z y) f h.0)
-zip_at R (z ∷ xs) (y ∷ ys) (suc n) x h e = zip_at R xs ys n x h.1 e
 
 small_cap : (n : ℕ) → n ≤ 512 → capped n ≡ n
 small_cap n le = omega (arith, le)

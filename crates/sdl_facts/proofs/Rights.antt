@@ -36,11 +36,11 @@ use Rattle.sdl_meaning.specs.Code.{number_or_zero, load, store, unary_code, bina
 use Rattle.sdl_meaning.specs.Named.{NamedTree, NamedTrees}
 use Rattle.sdl_meaning.specs.Declarations.{sort_of_tree}
 use Rattle.sdl_facts.specs.Reads.{ReadTree, ReadTrees}
-use Rattle.sdl_sound.proofs.Items.{nil_front, nil_back}
 use Rattle.sdl_meaning.proofs.Sorting.{fits, tree_has_sort}
 use Rattle.sdl_facts.proofs.Straight.{IsRight, AreRight}
 use Rattle.sdl_facts.proofs.Stretches.{Leads, right_joined}
 use Rattle.sdl_facts.proofs.Shapes.{tree_leads}
+use Rattle.plain_laws.proofs.Lists.{append-nil_left as nil_front, append-nil_right as nil_back}
 
 pub one_of : (P : ℕ → Type 0) (v : ℕ) → P v → All P (v ∷ [])
 one_of P v h = All-cons P v [] h (All-nil P)

@@ -26,7 +26,7 @@ use Rattle.sdl_meaning.proofs.Sizes.{tree_size, action_size, tests_are, leave_si
 use Rattle.sdl_meaning.proofs.Runs.{HasAt, has_front, has_back}
 use Rattle.sdl_meaning.proofs.Branches.{EachEnd, EachJoin, ChoiceJoin, integer_answered}
 use Rattle.sdl_facts.proofs.Counting.{tree_steps, action_steps, truths, bodies_most, picked_most, IsWeight, tests_tally, tally, case_tally, pick_tally, tally_over}
-use Rattle.sdl_meaning.proofs.Tests.{and_second, and_first}
+use Rattle.plain_laws.proofs.Truths.{and_second, and_first}
 
 range_goes : (n k : ℕ) (r : Range) → successors (range_code n r) k ≡ n ∷ (k + 1) ∷ []
 range_goes n k (IsValue x) = refl

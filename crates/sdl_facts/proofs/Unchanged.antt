@@ -1,5 +1,5 @@
 -- A connection that begins with every variable changes no set: nothing joined it so far, or all is set at each JOIN to it.
-use Rattle.std.proofs.Common.{◌≡◌, ℕ, zero, suc, ◌^◌, Bool, true, false, cond, List, [], ◌∷◌, map, Option, Some, None, refl, sym, ap, ◌∙◌, subst}
+use Rattle.std.proofs.Common.{◌≡◌, ℕ, zero, suc, ◌^◌, Bool, true, false, cond, List, [], ◌∷◌, length, map, Option, Some, None, refl, sym, ap, ◌∙◌, subst}
 use Rattle.std.specs.Prelude.{slice_get, slice_set}
 use Rattle.std.specs.Int.Bits.{bit_and, bit_or, and_self}
 use Rattle.std.specs.Option.{option_map_or}
@@ -197,3 +197,8 @@ module _ (c : Scope) where
   pub connections_kept : (ns : List ℕ) (es : List VariableSet) → AreOfAll es → AreOfAll (connections_met c ns es)
   connections_kept [] es all = all
   connections_kept (n ∷ ns) es all = connection_kept n (connections_met c ns es) (connections_kept ns es all)
+
+-- where the sets of no connections are asked for, a JOIN leaves them so
+pub none_met : (es : List VariableSet) (n : ℕ) (m : VariableSet) → length es ≡ 0 → es ≡ met_at es n m
+none_met [] n m e = refl
+none_met (x ∷ es) n m e = absurd (let k : ⊥ = cc in k)

@@ -26,8 +26,8 @@ use Rattle.sdl_meaning.specs.Named.{NamedText, NamedChoice}
 use Rattle.sdl_meaning.specs.Code.{number_or_zero, store, set_to, put, unary_code, binary_code, division_code, tree_code, trees_code, tasks_code, receiver_code, sendings_code, action_code, places_code, range_code}
 use Rattle.sdl_meaning.proofs.Sizes.{tree_size, action_size, places_size}
 use Rattle.sdl_facts.proofs.Counting.{IsWeight, tests_tally, tally, case_tally, pick_tally}
-use Rattle.sdl_meaning.proofs.Tests.{and_second, and_first}
 use Rattle.sdl_meaning.proofs.Measured.{some_values}
+use Rattle.plain_laws.proofs.Truths.{and_second, and_first}
 
 -- ---- instructions
 

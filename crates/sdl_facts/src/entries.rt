@@ -20,10 +20,7 @@ use turn_code::VariableSet;
 fn start_entries(alloc: Global, connections: &[Connection]) -> Result<Vec<VariableSet>, AllocError>
     ensures { IfOk result (λ v. v.items ≡ map (λ x. everything) (map connection_of connections.now)) }
 {
-    let mut entries = Vec::new(alloc);
-    for _connection in connections {
-        entries.push(everything())?;
-    }
+    let entries = vec![in alloc; everything(); connections.len()]?;
     Ok(entries)
 }
 
@@ -37,9 +34,9 @@ fn entry_of(entries: &[VariableSet], number: usize) -> VariableSet
     }
 }
 
-/// The JOINs of a connection.
+/// The JOINs of a connection. `sets` keeps its memory from one connection to the next.
 fn meet_connection(
-    alloc: Global,
+    sets: &mut Vec<VariableSet>,
     entries: &mut Vec<VariableSet>,
     names: &Names,
     copies: &[Transition],
@@ -51,8 +48,8 @@ fn meet_connection(
 {
     if let Some(copy) = copies.get(number) {
         let set = entry_of(entries, number);
-        let mut sets = Vec::new(alloc);
-        mark_text(&mut sets, entries, names, copy, set)?;
+        sets.clear();
+        mark_text(sets, entries, names, copy, set)?;
     }
     Ok(())
 }
@@ -67,7 +64,7 @@ fn is_everything(set: VariableSet) -> bool
 /// A connection that begins with every variable is passed over, since its JOINs change nothing: nothing joined it so far, or all
 /// variables are set at each JOIN to it.
 fn meet_if_joined(
-    alloc: Global,
+    sets: &mut Vec<VariableSet>,
     entries: &mut Vec<VariableSet>,
     names: &Names,
     copies: &[Transition],
@@ -82,7 +79,7 @@ fn meet_if_joined(
     if is_everything(set) {
         return Ok(());
     }
-    meet_connection(alloc, entries, names, copies, number)
+    meet_connection(sets, entries, names, copies, number)
 }
 
 /// The JOINs of all connections: each is joined only from those behind it in the order.
@@ -98,10 +95,11 @@ fn meet_connections(
     requires all { AreOfAll entries.old.items }
     ensures { OnOk result (entries.new.items ≡ connections_met (scope_in names.now) order.now entries.old.items) }
 {
+    let mut sets = Vec::new(alloc);
     let mut left = order.len();
     while left > 0 {
         left -= 1;
-        meet_if_joined(alloc, entries, names, copies, order[left])?;
+        meet_if_joined(&mut sets, entries, names, copies, order[left])?;
     }
     Ok(())
 }

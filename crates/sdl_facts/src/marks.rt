@@ -1,18 +1,19 @@
 //! Which variables are set at each place of a text, and which at the JOINs in it.
-ghost use Rattle.std.specs.Prelude.{◌≡◌, [], ◌∷◌, ◌++◌, ◌&&◌, ◌||◌, OnOk, IfOk};
+ghost use Rattle.std.specs.Prelude.{◌≡◌, [], ◌∷◌, ◌++◌, ◌&&◌, ◌||◌, IsSome, OnOk, IfOk};
 ghost use Rattle.sdl_ast.specs.Plain.{Text, falls};
 ghost use Rattle.sdl_ast.specs.Views.{text_of, statement_of, choice_of, else_choice};
 ghost use Rattle.sdl_sound.specs.Going.{goes_on, choice_goes_on};
 ghost use Rattle.sdl_ast.specs.declared.tree.Decision.{out-Decision};
 ghost use Rattle.sdl_emit.specs.Scopes.{scope_in, question_in, NamedElse};
-ghost use Rattle.sdl_meaning.specs.Act.{is_truth};
+ghost use Rattle.sdl_meaning.specs.Act.{connector_at, is_truth};
+ghost use Rattle.sdl_meaning.specs.Code.{number_or_zero};
 ghost use Rattle.sdl_meaning.specs.Named.{NamedEnd, NamedText, NamedChoice};
 ghost use Rattle.sdl_facts.specs.Reads.{everything, meet, left, answers_left, else_left, choice_left};
 ghost use Rattle.sdl_facts.specs.Entries.{met_at, end_met, met, answers_met, else_met, choice_met};
 ghost use Rattle.sdl_facts.specs.Facts.{leave_sets, text_sets, else_sets, answers_sets, decision_sets};
 
 use crate::sets::{everything, mark, mark_action, mark_expression, mark_tests, meet};
-use sdl_ast::{Decision, End, Statement, Transition};
+use sdl_ast::{Decision, End, Join, Statement, Transition};
 use sdl_emit::Names;
 use sdl_sound::{both, one_of};
 use std::alloc::AllocError;
@@ -24,6 +25,17 @@ fn meet_entry(entries: &mut Vec<VariableSet>, number: usize, set: VariableSet)
 {
     if number < entries.len() {
         entries[number] = meet(entries[number], set);
+    }
+}
+
+/// One JOIN more, where the sets of connections are asked for: its connection is looked up only there.
+#[tactic(auto, using(crate::proofs::Unchanged::none_met))]
+fn meet_join(entries: &mut Vec<VariableSet>, names: &Names, join: &Join, set: VariableSet)
+    requires { IsSome (connector_at (scope_in names.now) join.now.connector) }
+    ensures { entries.new.items ≡ met_at entries.old.items (number_or_zero (connector_at (scope_in names.now) join.now.connector)) set }
+{
+    if !entries.is_empty() {
+        meet_entry(entries, names.connector(&join.connector), set);
     }
 }
 
@@ -42,7 +54,7 @@ fn mark_end(
 {
     mark(sets, set)?;
     if let End::Join(join) = end {
-        meet_entry(entries, names.connector(&join.connector), set);
+        meet_join(entries, names, join, set);
     }
     Ok(everything())
 }

@@ -52,11 +52,11 @@ use Rattle.sdl_facts.proofs.Rights.{plain_right, tree_right, one_of as one_at}
 use Rattle.sdl_facts.proofs.Actions.{Stands, Reaching, counted_action, action_right, next_right, stop_right}
 use Rattle.sdl_meaning.proofs.Branches.{EachEnd, EachJoin, ChoiceJoin}
 use Rattle.sdl_valid.proofs.Unset.{not_true, meet_front, meet_back}
-use Rattle.sdl_meaning.proofs.Tests.{neither_second as or_back}
-use Rattle.sdl_meaning.proofs.Tests.{neither_first as or_front}
+use Rattle.plain_laws.proofs.Truths.{neither_second as or_back}
+use Rattle.plain_laws.proofs.Truths.{neither_first as or_front}
 use Rattle.sdl_valid.proofs.Entering.{number_at, TextFits, ChoiceFits}
 use Rattle.sdl_facts.proofs.Spots.{Spot, instructions, shapes, over, over_instructions, leave_spots, text_spots, else_spots, answers_spots, bodies_spots, text_instructions, else_instructions, answers_instructions, bodies_instructions}
-use Rattle.sdl_meaning.proofs.Tests.{and_second, and_first}
+use Rattle.plain_laws.proofs.Truths.{and_second, and_first}
 use Rattle.turn_code.proofs.Lists.{within as there}
 use Rattle.std.proofs.lemmas.Bool.{and_from as both_true}
 use Rattle.sdl_sound.proofs.Lists.{get_one as same_some}

@@ -27,10 +27,11 @@ use Rattle.sdl_meaning.specs.Named.{NamedTree, NamedAction, NamedText, NamedChoi
 use Rattle.sdl_facts.specs.Reads.{ReadTree, ReadAction, tasks_set, action_set, everything, meet, left, answers_left, else_left, choice_left, EndsSet, ReadText, ReadChoice}
 use Rattle.sdl_facts.specs.Entries.{entry_at, met_at, end_met, met, answers_met, else_met, connection_met, connections_met}
 use Rattle.sdl_meaning.proofs.Branches.{EachJoin, ChoiceJoin}
-use Rattle.sdl_meaning.proofs.Numbers.{AreNumbered, number_alike}
+use Rattle.sdl_meaning.proofs.Numbers.{AreNumbered}
 use Rattle.sdl_meaning.proofs.Sorting.{place_in, first_of_some, found_at}
 use Rattle.sdl_valid.proofs.Walks.{by_bool, has_more, has_new, sets_append, reads_set_none, one_read, action_read}
-use Rattle.sdl_meaning.proofs.Tests.{neither_first as or_front, neither_second as or_back}
+use Rattle.plain_laws.proofs.Truths.{neither_first as or_front, neither_second as or_back}
+use Rattle.sdl_sound.proofs.Numbered.{number_alike}
 
 -- ---- tests
 

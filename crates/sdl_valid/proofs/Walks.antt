@@ -1,11 +1,10 @@
 -- What actions read is set where their events say so, and what they set is set behind them.
-use Rattle.std.proofs.Common.{◌≡◌, ℕ, ◌<◌, ◌^◌, Bool, true, false, not, ◌||◌, ◌&&◌, max, List, [], ◌∷◌, ◌++◌, ◌⊎◌, inl, inr, ⊎_elim, length, get_or, Option, Some, None, IsSome, map, refl, sym, ap, ◌∙◌, subst, arith, append_assoc}
+use Rattle.std.proofs.Common.{◌≡◌, ℕ, ◌<◌, ◌^◌, Bool, true, false, ◌||◌, max, List, [], ◌∷◌, ◌++◌, ◌⊎◌, inl, inr, ⊎_elim, length, get_or, Option, Some, None, IsSome, map, refl, sym, ap, ◌∙◌, subst, arith, append_assoc}
 use Rattle.std.specs.Prelude.{slice_get, bit_or}
 use Rattle.std.specs.Int.{bit_at}
 use Rattle.std.specs.List.{flat_map}
 use Rattle.std.proofs.Math.Bool.{or-true, or-false}
 use Rattle.std.proofs.lemmas.List.{append-nil}
-use Rattle.std.proofs.lemmas.List.Folds.{list_any-append}
 use Rattle.std.proofs.lemmas.Option.{slice_get-get_or}
 use Rattle.std.proofs.lemmas.Nat.Bits.{bit_at_or, bit_at-lt, bit_at-pow_same}
 use Rattle.sdl_ast.specs.declared.expression.Identifier.{Identifier}
@@ -20,7 +19,10 @@ use Rattle.sdl_meaning.specs.Act.{Scope, variable_at}
 use Rattle.sdl_meaning.specs.Code.{number_or_zero}
 use Rattle.sdl_meaning.specs.Named.{NamedTree, NamedTrees, NamedTasks, NamedSendings, NamedAction}
 use Rattle.sdl_facts.specs.Reads.{ReadTree, ReadTrees, ReadTasks, ReadSendings, ReadAction, tasks_set, action_set, places_set}
-use Rattle.sdl_meaning.proofs.Numbers.{AreNumbered, number_alike, number_there, same_other_way}
+use Rattle.sdl_meaning.proofs.Numbers.{AreNumbered, number_there}
+use Rattle.sdl_tables.proofs.Numbers.{is_in-append as in_append}
+use Rattle.sdl_sound.proofs.Numbered.{number_alike, same_back as same_other_way}
+use Rattle.sdl_sound.proofs.Walks.{reads-later as reads_behind}
 
 -- ---- sets
 
@@ -52,20 +54,6 @@ pub reads_set_none : (ids : List Identifier) (x : List ℕ) → sets_in (map (λ
 reads_set_none [] x = refl
 reads_set_none (id ∷ ids) x = reads_set_none ids x
 
--- what isn't set before is read first where it is read first behind
-pub reads_behind : (a b : List Event) (x : List ℕ) → sets_in a x ≡ false → reads_first b x ≡ true → reads_first (a ++ b) x ≡ true
-reads_behind [] b x s h = h
-reads_behind (reads y ∷ a) b x s h = by_test (same_name x y) (reads_behind a b x s h)
-  where
-    by_test : (t : Bool) → reads_first (a ++ b) x ≡ true → t || reads_first (a ++ b) x ≡ true
-    by_test true e = refl
-    by_test false e = e
-reads_behind (sets y ∷ a) b x s h = by_test (same_name x y) s (λ e. reads_behind a b x e h)
-  where
-    by_test : (t : Bool) → t || sets_in a x ≡ false → (sets_in a x ≡ false → reads_first (a ++ b) x ≡ true) → not t && reads_first (a ++ b) x ≡ true
-    by_test true e more = absurd (let k : ⊥ = cc in k)
-    by_test false e more = more e
-
 reads_among : (ids : List Identifier) (after : List Event) (x : List ℕ) → is_in ids x ≡ true → reads_first (map (λ id. reads id.name) ids ++ after) x ≡ true
 reads_among [] after x h = absurd (let k : ⊥ = cc in k)
 reads_among (id ∷ ids) after x h = by_test (same_name x id.name) h (reads_among ids after x)
@@ -78,9 +66,6 @@ reads_among (id ∷ ids) after x h = by_test (same_name x id.name) h (reads_amon
 last : (t : Bool) → false || (t || false) ≡ true → t ≡ true
 last true e = refl
 last false e = e
-
-in_append : (a b : List Identifier) (x : List ℕ) → is_in (a ++ b) x ≡ (is_in a x || is_in b x)
-in_append a b x = list_any-append (λ (id : Identifier). same_name x id.name) a b
 
 pub by_bool : {P : Type 0} (b : Bool) → (b ≡ true → P) → (b ≡ false → P) → P
 by_bool true f g = f refl

@@ -5,8 +5,9 @@ use Rattle.sdl_ast.specs.declared.tree.Stimulus.{Stimulus}
 use Rattle.sdl_tables.specs.Names.{Input}
 use Rattle.sdl_emit.specs.Scopes.{scope_in, input_by}
 use Rattle.sdl_compile.specs.Drafts.{IsInputOf, AreReady}
-use Rattle.sdl_compile.proofs.Zips.{zip_behind, ready_at, stimuli_taken}
+use Rattle.sdl_compile.proofs.Zips.{ready_at, stimuli_taken}
 use Rattle.sdl_compile.proofs.state.push_stimuli.Goals as goal
+use Rattle.plain_laws.proofs.Pairwise.{zip_behind}
 
 pub loop-stimulus-init : goal.loop-stimulus-init
 loop-stimulus-init c = λ before h. subst (λ is. AllZip (IsInputOf (scope_in c.args.context.now.names.now) c.args.entry) is c.args.drafts.now.items) (sym (append-nil before)) h

@@ -1,4 +1,4 @@
-use Rattle.std.proofs.Common.{◌≡◌, ℕ, ◌-◌, ◌<◌, ◌≤◌, ◌+◌, List, length, replicate, set, Some, refl, sym, ap, ◌∙◌, subst, arith, length-set}
+use Rattle.std.proofs.Common.{rules, ◌≡◌, ℕ, ◌-◌, ◌<◌, ◌≤◌, ◌+◌, List, length, replicate, set, Some, refl, sym, ap, ◌∙◌, subst, arith, length-set}
 use Rattle.std.specs.Prelude.{slice_get, get_or, All}
 use Rattle.std.proofs.lemmas.Option.{slice_get-get_or}
 use Rattle.std.proofs.lemmas.List.{length-map, length-replicate}
@@ -11,13 +11,13 @@ pub loop-left-init : goal.loop-left-init
 loop-left-init c =
     let s = scope_in c.args.names.now in
     let ps = c.in_ok-places.places.items in
-    let e : ps ≡ replicate c.len.result 0 = c.in_ok-places.ensures in
+    let e : ps ≡ replicate c.len-count.result 0 = search rules in
     record {
-      spaced = subst (λ n. Spaced s c.args.start c.args.placed.now ps (c.args.start + n) (length c.args.placed.now)) (sym c.total_size.ensures) (none_spaced s c.args.start c.args.placed.now ps c.len.result e);
+      spaced = subst (λ n. Spaced s c.args.start c.args.placed.now ps (c.args.start + n) (length c.args.placed.now)) (sym c.total_size.ensures) (none_spaced s c.args.start c.args.placed.now ps c.len-count.result e);
       size = let l = ap length e in
           let m = length-map c.args.names.now.process.now.connections.items connection_of in
           let p = ap (λ p. length p.connections.items) c.process.ensures.process in
-          omega (arith, l, length-replicate {A = ℕ} c.len.result 0, c.len.ensures, m, p);
+          omega (arith, l, length-replicate {A = ℕ} c.len-count.result 0, c.len-count.ensures, m, p);
     }
 
 pub loop-left-preserved : goal.loop-left-preserved

@@ -9,4 +9,4 @@ pub place_each-requires-clause-named : goal.place_each-requires-clause-named
 place_each-requires-clause-named c =
     let s = scope_in c.args.names.now in
     let t = text_of c.args.transition.now in
-    all_numbered s t c.requires.text c.deref.result.now (c.deref.ensures.value ∙ c.in_ok-collect_joins.ensures ∙ ap (λ l. l ++ code_joins s t) c.new-found.ensures.items)
+    all_numbered s t c.requires.text c.deref.result.now (c.deref.ensures.value ∙ c.in_ok-collect_joins.ensures ∙ ap (λ l. l ++ code_joins s t) c.clear.ensures.items)
