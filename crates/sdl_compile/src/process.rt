@@ -69,10 +69,10 @@ pub struct Survey<'a> {
 /// Its variables, timers, states, inputs and saves have their names and numbers in the order of the
 /// text, each piece does what its transition means, and each certificate names the longest path. Want
 /// of memory is the only error.
-pub fn compile_process(
+pub fn compile_process<'a>(
     alloc: Global,
-    block: &BlockTable,
-    table: &ProcessTable,
+    block: &'a BlockTable<'a>,
+    table: &'a ProcessTable<'a>,
     survey: &Survey,
     signals: &[DraftSignal],
 ) -> Result<DraftProcess, AllocError>
@@ -89,8 +89,8 @@ pub fn compile_process(
     let timers = compile_timers(alloc, table.timers())?;
     let joins = find_joins(alloc, table)?;
     let names = Names {
-        block,
-        process: table,
+        block: &*block,
+        process: &*table,
         joins: &joins,
     };
     let process = table.process();
