@@ -1,5 +1,5 @@
 //! A process.
-ghost use Rattle.std.specs.Prelude.{◌≡◌, ◌≤◌, length, map, IfOk};
+ghost use Rattle.std.specs.Prelude.{◌≡◌, ◌≤◌, [], length, map, None, IfOk};
 ghost use Rattle.sdl_ast.specs.Views.{block_of, process_of};
 ghost use Rattle.std.specs.List.{AllZip};
 ghost use Rattle.sdl_tables.specs.Names.{process_names, states_of, inputs_by_state, saves_by_state};
@@ -10,7 +10,10 @@ ghost use Rattle.sdl_meaning.specs.Act.{scope_of};
 ghost use Rattle.sdl_emit.specs.Scopes.{scope_in};
 ghost use Rattle.sdl_compile.specs.Contexts.{IsContext};
 ghost use Rattle.sdl_meaning.specs.Declarations.{drafted_signals};
-ghost use Rattle.sdl_compile.specs.Drafts.{IsReadyProcess, MatchesProcess, IsProcessOf, AllReady, AllTriggers, IsNamedAs, SavesAll, AreInputsOf, sets_of};
+ghost use Rattle.turn_code.specs.Sets.{initial_set};
+ghost use Rattle.sdl_sound.specs.Longest.{start_piece};
+ghost use Rattle.sdl_facts.specs.Made.{IsPieceOf};
+ghost use Rattle.sdl_compile.specs.Drafts.{IsReadyProcess, Means, MatchesProcess, IsProcessOf, AllReady, AllTriggers, IsNamedAs, SavesAll, AreInputsOf, sets_of};
 
 use crate::piece::compile_transition;
 use crate::state::{Context, compile_states, draft_name};
@@ -21,7 +24,7 @@ use sdl_rules::{Measure, standing_inputs};
 use sdl_tables::{BlockTable, NameTable, ProcessTable};
 use sdl_trimmed::{trim_connections, trim_transition};
 use std::alloc::{AllocError, Global};
-use turn_code::{DraftProcess, DraftSignal, DraftState, Name, Sequence, set_at_start};
+use turn_code::{DraftPiece, DraftProcess, DraftSignal, DraftState, Name, Sequence, set_at_start};
 
 /// The names of timers.
 fn compile_timers(alloc: Global, table: &NameTable) -> Result<Vec<Name>, AllocError>
@@ -32,6 +35,34 @@ fn compile_timers(alloc: Global, table: &NameTable) -> Result<Vec<Name>, AllocEr
         timers.push(draft_name(&table.name(number).name))?;
     }
     Ok(timers)
+}
+
+/// Compiles START: nothing comes with it, and what has an initial value is set as it begins.
+fn compile_start(alloc: Global, context: &Context) -> Result<DraftPiece, AllocError>
+    requires ready { IsReadyProcess (scope_in context.now.names.now) }
+    requires context { IsContext context.now }
+    ensures means { IfOk result (λ d. Means (scope_in context.now.names.now) None (start_piece (process_of context.now.names.now.process.now)) d) }
+    ensures made { IfOk result (λ d. IsPieceOf (scope_in context.now.names.now) [] (initial_set context.now.variables.now) (start_piece (process_of context.now.names.now.process.now)) d) }
+{
+    let process = context.names.process.process();
+    let start = &process.start.transition;
+    let copy = trim_transition(alloc, start)?;
+    let setting = Setting {
+        names: context.names,
+        variables: context.variables,
+        signals: context.signals,
+        parameters: &[],
+        entry: set_at_start(context.variables),
+        order: context.order,
+        measures: context.measures,
+        copies: context.copies,
+    };
+    let body = Body {
+        whole: start,
+        copy: &copy,
+    };
+    let first = compile_transition(alloc, &setting, &[], &body)?;
+    Ok(first)
 }
 
 /// The states of a process, with all that they take and save.
@@ -73,8 +104,8 @@ pub fn compile_process<'a>(
     alloc: Global,
     block: &'a BlockTable<'a>,
     table: &'a ProcessTable<'a>,
-    survey: &Survey,
-    signals: &[DraftSignal],
+    survey: &'a Survey<'a>,
+    signals: &'a [DraftSignal],
 ) -> Result<DraftProcess, AllocError>
     requires ready { IsReadyProcess (scope_of (block_of block.now) (process_of table.now)) }
     requires few { length (process_names (block_of block.now)) ≤ 16 }
@@ -94,32 +125,16 @@ pub fn compile_process<'a>(
         joins: &joins,
     };
     let process = table.process();
-    let start = &process.start.transition;
-    let copy = trim_transition(alloc, start)?;
     let copies = trim_connections(alloc, &process.connections)?;
-    let setting = Setting {
-        names: &names,
-        variables: &variables,
-        signals,
-        parameters: &[],
-        entry: set_at_start(&variables),
-        order: survey.order,
-        measures: survey.measures,
-        copies: &copies,
-    };
-    let body = Body {
-        whole: start,
-        copy: &copy,
-    };
-    let first = compile_transition(alloc, &setting, &[], &body)?;
     let context = Context {
         names: &names,
         variables: &variables,
-        signals,
+        signals: &*signals,
         order: survey.order,
         measures: survey.measures,
         copies: &copies,
     };
+    let first = compile_start(alloc, &context)?;
     let states = compile_all(alloc, &context, survey.sets)?;
     Ok(DraftProcess {
         name: draft_name(&process.name.name),
