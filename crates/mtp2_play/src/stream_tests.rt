@@ -48,7 +48,7 @@ impl Write for Scroll {
 }
 
 /// What `play` is given, how many reads and writes go well, what is written then, and the exit status.
-struct Played {
+struct Row {
     set: &'static [u8],
     set_reads: u32,
     script: &'static [u8],
@@ -59,7 +59,7 @@ struct Played {
 }
 
 /// A turn of a set whose text takes seven reads and a script of three commands, where all goes well.
-const TURN: Played = Played {
+const TURN: Row = Row {
     set: b"BLOCK B; PROCESS P; START; STOP; ENDPROCESS; ENDBLOCK;",
     set_reads: 99,
     script: b"begin P\nfinish P\nstate P\n",
@@ -69,42 +69,42 @@ const TURN: Played = Played {
     status: 0,
 };
 
-const PLAYED: [Played; 12] = [
+const PLAYED: [Row; 12] = [
     TURN,
     // the third write fails, the second, the first
-    Played {
+    Row {
         writes: 2,
         text: b"ok START\nok STOP count 1\n",
         status: 4,
         ..TURN
     },
-    Played {
+    Row {
         writes: 1,
         text: b"ok START\n",
         status: 4,
         ..TURN
     },
-    Played {
+    Row {
         writes: 0,
         text: b"",
         status: 4,
         ..TURN
     },
     // the script's second read fails, the set's second
-    Played {
+    Row {
         script_reads: 1,
         text: b"",
         status: 4,
         ..TURN
     },
-    Played {
+    Row {
         set_reads: 1,
         text: b"",
         status: 4,
         ..TURN
     },
     // the set is refused, though the script's read fails
-    Played {
+    Row {
         set: b"BLOCK B;",
         script_reads: 1,
         text: b"refused P1 Unexpected line 1\n",
@@ -112,7 +112,7 @@ const PLAYED: [Played; 12] = [
         ..TURN
     },
     // a refusal that isn't written
-    Played {
+    Row {
         set: b"BLOCK B;",
         writes: 0,
         text: b"",
@@ -120,19 +120,19 @@ const PLAYED: [Played; 12] = [
         ..TURN
     },
     // the script is no text, the set isn't, neither is
-    Played {
+    Row {
         script: b"begin P\n\xFF",
         text: b"refused F1 NotText\n",
         status: 2,
         ..TURN
     },
-    Played {
+    Row {
         set: b"BLOCK \xFF",
         text: b"refused F1 NotText\n",
         status: 2,
         ..TURN
     },
-    Played {
+    Row {
         set: b"BLOCK \xFF",
         script: b"\xFF",
         text: b"refused F1 NotText\n",
@@ -140,7 +140,7 @@ const PLAYED: [Played; 12] = [
         ..TURN
     },
     // an expectation that fails, and can't be told
-    Played {
+    Row {
         script: b"begin P\nexpect ok\n",
         writes: 1,
         text: b"ok START\n",
@@ -150,7 +150,7 @@ const PLAYED: [Played; 12] = [
 ];
 
 /// What `play` writes for a row, and its exit status.
-fn played(alloc: Global, row: &Played) -> (Vec<u8>, u8) {
+fn run_row(alloc: Global, row: &Row) -> (Vec<u8>, u8) {
     let set = Source {
         rest: row.set,
         calls_left: row.set_reads,
@@ -171,7 +171,7 @@ fn played(alloc: Global, row: &Played) -> (Vec<u8>, u8) {
 #[test]
 fn play_stops_at_what_fails(rt: HostRuntime) {
     for (number, row) in PLAYED.iter().enumerate() {
-        let (text, status) = played(rt.alloc(), row);
+        let (text, status) = run_row(rt.alloc(), row);
         assert_eq!(rt; text.as_slice(), row.text, "row {number}");
         assert_eq!(rt; status, row.status, "row {number}");
     }

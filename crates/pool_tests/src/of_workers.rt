@@ -270,11 +270,14 @@ fn turns_begun<R: Threads + Wait + Sync>(rt: &R, alloc: Global) -> Option<(usize
         gate: &gate,
         begun: 0,
     };
-    match serve(rt, alloc, books, 1, &gate, &mut client) {
-        Ok(closed) if took_turns(&closed.books) => {
-            Some((client.begun, gate.begun.load(Ordering::SeqCst)))
-        }
-        _ => None,
+    let went_round = match serve(rt, alloc, books, 1, &gate, &mut client) {
+        Ok(closed) => took_turns(&closed.books),
+        Err(_) => false,
+    };
+    if went_round {
+        Some((client.begun, gate.begun.load(Ordering::SeqCst)))
+    } else {
+        None
     }
 }
 
