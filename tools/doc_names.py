@@ -98,7 +98,8 @@ def architecture(look, text):
             for crate, module in re.findall(r"(\w+)/specs/(\w+)", cells[3]):
                 look.spec([crate], module, [], "architecture")
             look.code([], cells[3], "architecture")
-    listed = {name for cells in rows(text) if len(cells) == 5 for name in cells[0].split(", ")}
+    crates = text.partition("\n## Crates\n")[2].partition("\n## ")[0]
+    listed = {name for cells in rows(crates) for name in cells[0].removesuffix(" (planned)").split(", ")}
     for folder in sorted(look.crates.iterdir()):
         if folder.is_dir() and folder.name not in listed:
             look.say("architecture", f"no row for the crate {folder.name}")

@@ -1,8 +1,8 @@
 #!/usr/bin/env python3
-"""Two plain terminals (plain_term.py) whose lines are tied together: makes the runs of crates/link_trials on the same bits of noise, and prints the lines that
-the program has to print for them, its first lines where it has no words. Nothing of the program is read but the runs in its standard input, and the octets of a message.
+"""Two plain terminals (plain_term.py) whose lines are tied together: makes the runs of examples/links/runs.txt on the same bits of noise, and prints the lines that
+the program `trials` has to print for them. Nothing of the program is read but the octets of a message.
 
-usage: tools/plain_lines.py                                             the runs of crates/link_trials/stdin
+usage: tools/plain_lines.py                                             the runs of examples/links/runs.txt
        tools/plain_lines.py MODE SEED RATE MESSAGES GIVEN UNITS         one run"""
 import pathlib
 import re
@@ -11,16 +11,17 @@ import sys
 from plain_play import Refused
 from plain_term import FLAG, ROOT, Terminal, bits_of, check_octets, octets_of, stuffed
 
-SOURCE = ROOT / "crates" / "link_trials" / "src"
+RUNS = ROOT / "examples" / "links" / "runs.txt"
+SOURCE = ROOT / "crates" / "trials" / "src"
 TEXT = (ROOT / "examples" / "standard.sdl").read_bytes()
 MOST_KEPT, MOST_ROUNDS, ALIGNING = 400, 5000, 900
 FILLER = bytes(int(it, 16) for it in re.search(r"FILLER.*?= \[(.*?)\]", (SOURCE / "end.rt").read_text(), re.S)[1].replace("0x", "").replace(",", " ").split())
 
 
 def table():
-    """The runs that the program reads where it has no words."""
-    for words in map(str.split, (SOURCE.parent / "stdin").read_text().splitlines()):
-        if words and words[0] in ("basic", "cyclic"):
+    """The runs of the table."""
+    for entry in RUNS.read_text().split("\n== ")[1:]:
+        for words in map(str.split, entry.split("\n--\n")[0].split("\n")[1:]):
             yield words[0], *map(int, words[1:])
 
 

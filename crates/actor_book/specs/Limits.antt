@@ -1,5 +1,6 @@
 -- How much a link may hold.
 use Rattle.std.specs.Prelude.{ℕ, ◌≤◌}
+use Rattle.profile_limits.specs.Limits.{LEAST_ENVIRONMENT, LEAST_JOURNAL, LEAST_PORT, MOST_ENVIRONMENT, MOST_JOURNAL, MOST_PORT}
 
 -- how many signals a port may hold, how many may wait for the environment, and how many events a journal may hold
 pub record LimitNumbers : Type 0 where
@@ -8,9 +9,9 @@ pub record LimitNumbers : Type 0 where
   pub journal : ℕ
 
 pub record AreLimits (port env journal : ℕ) : Type 0 where
-  pub least_port : 1 ≤ port
-  pub most_port : port ≤ 64
-  pub least_env : 1 ≤ env
-  pub most_env : env ≤ 1024
-  pub least_journal : 16 ≤ journal
-  pub most_journal : journal ≤ 65536
+  pub least_port : LEAST_PORT ≤ port
+  pub most_port : port ≤ MOST_PORT
+  pub least_env : LEAST_ENVIRONMENT ≤ env
+  pub most_env : env ≤ MOST_ENVIRONMENT
+  pub least_journal : LEAST_JOURNAL ≤ journal
+  pub most_journal : journal ≤ MOST_JOURNAL

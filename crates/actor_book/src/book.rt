@@ -5,6 +5,7 @@ ghost use Rattle.link_machine.specs.Ledger.{rebased, next, room, state_of};
 ghost use Rattle.link_machine.specs.Kept.{IsKept, opened_book};
 ghost use Rattle.link_machine.specs.Refusals.{with_room, needs};
 ghost use Rattle.link_machine.specs.declared.event.Event.{Event as PlainEvent};
+ghost use Rattle.profile_limits.specs.Limits.{PAST_PLACES};
 
 use crate::limits::Limits;
 use link_machine::laws::keeps_law;
@@ -83,7 +84,7 @@ impl Book {
     /// The place of the next event of the journal. It never comes to 2^57.
     pub fn next(&self) -> u64
         ensures value { result ≡ next self.now }
-        ensures in_range { result < 2 ^ 57 }
+        ensures in_range { result < PAST_PLACES }
     {
         self.first + self.journal.len() as u64
     }

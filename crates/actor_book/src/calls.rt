@@ -5,6 +5,7 @@ ghost use Rattle.link_machine.specs.Ledger.{ask, next};
 ghost use Rattle.link_machine.specs.declared.event.Event.TheVariants.{Offer as Offered, Skip, Advance, TakeEnv};
 ghost use Rattle.link_machine.specs.declared.reply.Reply.TheVariants as reply;
 ghost use Rattle.actor_book.specs.Answered.{answer_by};
+ghost use Rattle.profile_limits.specs.Limits.{MOST_PARAMETERS};
 
 use crate::book::Book;
 use arrayvec::ArrayVec;
@@ -31,7 +32,7 @@ pub struct Taken {
 
 /// The event of these values, of which there are at most as many as a signal has.
 fn offer_of(actor: u16, signal: SignalNumber, values: &[Value]) -> Offer
-    requires { length values.now ≤ 4 }
+    requires { length values.now ≤ MOST_PARAMETERS }
     ensures { result ≡ record { actor = actor; signal = signal; values = record { items = values.now } } }
 {
     match ArrayVec::try_from(values) {

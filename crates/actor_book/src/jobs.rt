@@ -6,6 +6,7 @@ ghost use Rattle.turn_code.specs.Transitions.{transition_at};
 ghost use Rattle.link_machine.specs.Fits.{GivenFits};
 ghost use Rattle.link_machine.specs.Ledger.{turn_at, turn_given, turn_with};
 ghost use Rattle.link_machine.specs.declared.actor.Actor.{Actor as PlainActor};
+ghost use Rattle.profile_limits.specs.Limits.{MOST_PROCESSES};
 
 use link_machine::{Actor, Given, Standing};
 use same_job::{is_turn, runs_piece};
@@ -50,7 +51,7 @@ fn job_of(set: &Verified, number: u8, actor: &Actor) -> Option<Job>
 
 /// The job of actor `number`, if there is one that has a turn out.
 pub(crate) fn job_at(set: &Verified, actors: &[Actor], number: u16) -> Option<Job>
-    requires few { length actors.now ≤ 16 }
+    requires few { length actors.now ≤ MOST_PROCESSES }
     requires fits { (a : PlainActor) → slice_get actors.now number ≡ Some a → GivenFits set.now number a.standing a.given }
     ensures { result ≡ turn_at set.now number (slice_get actors.now number) }
 {
@@ -94,7 +95,7 @@ fn is_job_of(set: &Verified, number: u8, actor: &Actor, job: &Job) -> bool
 
 /// Whether a job is the one that its actor has out. The code is compared with that of the set.
 pub(crate) fn is_job_out(set: &Verified, actors: &[Actor], job: &Job) -> bool
-    requires few { length actors.now ≤ 16 }
+    requires few { length actors.now ≤ MOST_PROCESSES }
     ensures { IsTrue result ↔ (turn_at set.now job.now.actor (slice_get actors.now job.now.actor) ≡ Some job.now) }
 {
     let number = job.actor();

@@ -2,6 +2,7 @@
 
 ghost use Rattle.std.specs.Prelude.{◌≡◌, ◌↔◌, ◌≤◌, IsSome, IfSome};
 ghost use Rattle.actor_book.specs.Limits.{AreLimits};
+ghost use Rattle.profile_limits.specs.Limits.{LEAST_ENVIRONMENT, LEAST_JOURNAL, LEAST_PORT, MOST_ENVIRONMENT, MOST_JOURNAL, MOST_PORT};
 
 use std::marker::Model;
 
@@ -47,8 +48,8 @@ impl Limits {
     /// How many signals each port may hold.
     pub fn port(self) -> usize
         ensures value { result ≡ self.port }
-        ensures least { 1 ≤ result }
-        ensures most { result ≤ 64 }
+        ensures least { LEAST_PORT ≤ result }
+        ensures most { result ≤ MOST_PORT }
     {
         self.port
     }
@@ -56,8 +57,8 @@ impl Limits {
     /// How many signals may wait for the environment.
     pub fn env(self) -> usize
         ensures value { result ≡ self.env }
-        ensures least { 1 ≤ result }
-        ensures most { result ≤ 1024 }
+        ensures least { LEAST_ENVIRONMENT ≤ result }
+        ensures most { result ≤ MOST_ENVIRONMENT }
     {
         self.env
     }
@@ -65,8 +66,8 @@ impl Limits {
     /// How many events the journal may hold.
     pub fn journal(self) -> usize
         ensures value { result ≡ self.journal }
-        ensures least { 16 ≤ result }
-        ensures most { result ≤ 65536 }
+        ensures least { LEAST_JOURNAL ≤ result }
+        ensures most { result ≤ MOST_JOURNAL }
     {
         self.journal
     }

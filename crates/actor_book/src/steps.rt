@@ -8,10 +8,11 @@ ghost use Rattle.link_machine.specs.Step.{Says};
 ghost use Rattle.link_machine.specs.declared.event.Event.TheVariants.{Offer as Offered, Begin, Skip, Finish, Advance, TakeEnv};
 ghost use Rattle.link_machine.specs.declared.reply.Reply.TheVariants as reply;
 ghost use Rattle.actor_book.specs.Accepted.{Takes};
+ghost use Rattle.profile_limits.specs.Limits.{MOST_EFFECTS, MOST_PROCESSES};
 
 use crate::book::Book;
 use arrayvec::ArrayVec;
-use link_machine::laws::{fits_law, keeps_law, out_law, place_law, state_law};
+use link_machine::laws::{fits_law, keeps_law, out_law, state_law};
 use link_machine::{Emitted, Event, Offer, Report};
 use link_state::Link;
 use turn_code::laws::{effects_law, run_law};
@@ -31,7 +32,7 @@ pub(crate) fn note(journal: &mut Vec<Event>, event: Event)
 pub(crate) fn number_in(link: &Link, actor: u16) -> u8
     requires { actor < length link.now.actors }
     ensures value { result ≡ actor }
-    ensures few { result < 16 }
+    ensures few { result < MOST_PROCESSES }
 {
     let _few = link.actors();
     actor as u8
@@ -40,7 +41,7 @@ pub(crate) fn number_in(link: &Link, actor: u16) -> u8
 /// How many variables a job is given.
 fn input_variables(job: &Job) -> usize
     ensures value { result ≡ length job.now.input.variables.items }
-    ensures few { result ≤ 32 }
+    ensures few { result ≤ MOST_EFFECTS }
     ensures runnable { IsRunnable job.now }
 {
     job.input().variables.len()
@@ -68,7 +69,6 @@ impl Book {
     {
         keeps_law();
         state_law();
-        place_law();
         self.link
             .offer(offer.actor, offer.signal, offer.copy().values);
         note(&mut self.journal, Event::Offer(offer));
@@ -83,7 +83,6 @@ impl Book {
     {
         keeps_law();
         state_law();
-        place_law();
         let due = self.link.advance(ticks);
         note(&mut self.journal, Event::Advance(ticks));
         due
@@ -98,7 +97,6 @@ impl Book {
     {
         keeps_law();
         state_law();
-        place_law();
         match self.link.take() {
             Some(emitted) => {
                 note(&mut self.journal, Event::TakeEnv);
@@ -117,7 +115,6 @@ impl Book {
     {
         keeps_law();
         state_law();
-        place_law();
         let number = number_in(&self.link, actor);
         match self.link.skip(&self.set, number) {
             Some(trigger) => {
@@ -136,7 +133,6 @@ impl Book {
     {
         keeps_law();
         state_law();
-        place_law();
         let number = number_in(&self.link, actor);
         self.link.begin(&self.set, number);
         note(&mut self.journal, Event::Begin(actor));
@@ -152,7 +148,6 @@ impl Book {
     {
         keeps_law();
         state_law();
-        place_law();
         out_law();
         fits_law();
         effects_law();

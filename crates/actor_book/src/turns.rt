@@ -72,8 +72,8 @@ impl Book {
         job_at(&self.set, self.link.actors(), actor)
     }
 
-    #[tactic(auto, unfolding(link_machine::specs::Ledger::turn_out))]
     /// Whether the job that ran is the one that its actor has out.
+    #[tactic(auto, unfolding(link_machine::specs::Ledger::turn_out))]
     fn has_out(&self, done: &Done) -> bool
         ensures { IsTrue result ↔ (turn_out self.now done.now.actor ≡ Some done.now) }
     {

@@ -11,10 +11,11 @@ ghost use Rattle.link_machine.specs.declared.event.Event.TheVariants.{Begin, Fin
 ghost use Rattle.link_machine.specs.declared.reply.Reply.TheVariants as reply;
 ghost use Rattle.actor_book.specs.Accepted.{Takes};
 ghost use Rattle.actor_book.specs.Whole.{IsEnding, HasTurned, TookWithin, turned};
+ghost use Rattle.profile_limits.specs.Limits.{MOST_PROCESSES};
 
 use crate::book::Book;
 use crate::steps::{note, number_in};
-use link_machine::laws::{fits_law, keeps_law, out_law, place_law, set_law, state_law};
+use link_machine::laws::{fits_law, keeps_law, out_law, set_law, state_law};
 use link_machine::{Actor, Event, Given, Refusal, Report, Standing};
 use turn_check::Verified;
 use turn_code::laws::effects_law;
@@ -53,7 +54,7 @@ fn run_of(set: &Verified, number: u8, actor: &Actor, machine: &mut Machine) -> E
 
 /// Runs the turn that actor `number` has out to its end.
 fn run_at(set: &Verified, actors: &[Actor], number: u16, machine: &mut Machine) -> End
-    requires few { length actors.now ≤ 16 }
+    requires few { length actors.now ≤ MOST_PROCESSES }
     requires fits { (a : PlainActor) → slice_get actors.now number ≡ Some a → GivenFits set.now number a.standing a.given }
     requires out { IsSome (turn_at set.now number (slice_get actors.now number)) }
     ensures { IsEnding (turn_at set.now number (slice_get actors.now number)) result machine.new }
@@ -114,7 +115,6 @@ impl Book {
     {
         keeps_law();
         state_law();
-        place_law();
         out_law();
         fits_law();
         effects_law();

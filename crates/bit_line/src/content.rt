@@ -41,6 +41,7 @@ pub fn is_unit(octets: &[u8]) -> bool
 }
 
 impl Content {
+    /// No bit so far.
     pub fn new() -> Self
         ensures { Holds [] result }
     {
@@ -51,6 +52,7 @@ impl Content {
         }
     }
 
+    /// The same content once more.
     pub fn copy(&self) -> Self
         ensures { (h : List Bool) → Holds h self.now → Holds h result }
     {

@@ -33,6 +33,7 @@ impl Counter {
         Counter { count: Some(0) }
     }
 
+    /// The same mode once more, with its count.
     pub fn copy(&self) -> Self
         ensures { result.count ≡ self.now.count }
     {

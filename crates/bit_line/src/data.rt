@@ -17,6 +17,7 @@ pub struct Data {
 }
 
 impl Data {
+    /// No bit so far.
     pub fn new() -> Self
         ensures { Gathers [] result }
     {
@@ -47,6 +48,7 @@ impl Data {
         octets
     }
 
+    /// The same bits once more.
     pub fn copy(&self) -> Self
         ensures { (h : List Bool) → Gathers h self.now → Gathers h result }
     {

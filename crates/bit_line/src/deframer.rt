@@ -215,6 +215,7 @@ impl Deframer {
         true
     }
 
+    /// A deframer that stands at the same place of the same line.
     fn copy(&self) -> Self
         ensures { (h : List Bool) (events : List LineEvent) → StandsAt h events self.now → StandsAt h events result }
     {

@@ -37,6 +37,7 @@ impl Gate {
         }
     }
 
+    /// The same gate once more.
     pub fn copy(&self) -> Self
         ensures { (h : List Bool) → LetsIn h self.now → LetsIn h result }
     {

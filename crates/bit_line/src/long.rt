@@ -96,7 +96,8 @@ pub fn left_of(bits: u64, len: u8) -> Option<Left>
     })
 }
 
-/// What is left of up to forty line bits behind a 0 or nothing, where no six 1s are among them and five not at their end.
+/// What is left of up to forty line bits behind a 0 or nothing, and how many 1s they end with, where no six 1s are among them and no five at
+/// their end.
 pub fn taken_long(bits: u64, len: u8) -> Option<Long>
     requires few { len ≤ 40 }
     requires fits { bits < 2 ^ len }

@@ -16,7 +16,7 @@ use std::fmt::Display;
 use turn_code::ProcessNumber;
 
 /// A line of printed text.
-fn text_line<L: Display>(alloc: Global, line: &L) -> Result<Vec<u8>, AllocError>
+pub fn text_line<L: Display>(alloc: Global, line: &L) -> Result<Vec<u8>, AllocError>
     ensures { IfOk result (λ v. IfSome (L.output line.now) (λ text. v.items ≡ text)) }
 {
     let text = format!(in alloc; "{line}")?;

@@ -9,7 +9,8 @@ mod player;
 mod playing;
 mod printer;
 
-pub use answers::value_line;
+pub use answers::{text_line, value_line};
 pub use calls::state_line;
+pub use player::MISSED;
 pub use playing::play_book;
 pub use printer::Printer;

@@ -1,6 +1,7 @@
 -- What waits in a port, and what a process takes from there (Z.100, input port and save).
 use Rattle.std.specs.Prelude.{◌≡◌, ℕ, ◌<◌, ◌≤◌, Bool, true, false, not, List, [], ◌∷◌, ◌++◌, Option, Some, None, if◌then◌else◌, ◌==◌, nat_eq, filter, count_by}
 use Rattle.std.specs.List.{list_any, IsDistinct, AllByRecursion}
+use Rattle.profile_limits.specs.Limits.{LEAST_PORT, MOST_PORT, MOST_TIMERS_EACH}
 use Rattle.input_port.specs.declared.queue.Item.{Item}
 use Rattle.input_port.specs.declared.queue.Item.TheVariants.{Signal, Timer}
 
@@ -55,10 +56,10 @@ timers_in [] = []
 timers_in (Signal arrival ∷ items) = timers_in items
 timers_in (Timer timer ∷ items) = timer.0 ∷ timers_in items
 
--- what holds of every port: a capacity from 1 to 64, signals within it, and one item at most for each of eight timers
+-- what holds of every port: a capacity in its range, signals within it, and one item at most for each timer that there may be
 pub record IsQueue (capacity : ℕ) (items : List Item) : Type 0 where
-  pub least : 1 ≤ capacity
-  pub most : capacity ≤ 64
+  pub least : LEAST_PORT ≤ capacity
+  pub most : capacity ≤ MOST_PORT
   pub signals : signal_count items ≤ capacity
   pub once : IsDistinct nat_eq (timers_in items)
-  pub numbers : AllByRecursion (λ number. number < 8) (timers_in items)
+  pub numbers : AllByRecursion (λ number. number < MOST_TIMERS_EACH) (timers_in items)

@@ -4,6 +4,7 @@ ghost use Rattle.std.specs.Prelude.{◌≡◌, ℕ, ◌+◌, ◌<◌, ◌≤◌,
 ghost use Rattle.std.specs.Option.{option_copied};
 ghost use Rattle.input_port.specs.Saves.{saves};
 ghost use Rattle.input_port.specs.Queue.{is_signal, is_of_timer, signal_count, has_timer, without_timer, first_unsaved, without_first, Takes, IsQueue};
+ghost use Rattle.profile_limits.specs.Limits.{LEAST_PORT, MOST_PORT, MOST_TIMERS_EACH};
 
 use crate::save::{Saved, TIMERS};
 use arrayvec::ArrayVec;
@@ -31,12 +32,14 @@ pub enum Item {
 }
 
 impl Item {
+    /// Whether it is a signal of another process or of the environment.
     fn is_signal(&self) -> bool
         ensures { result ≡ is_signal self.now }
     {
         matches!(self, Item::Signal(_))
     }
 
+    /// Whether it is the signal of this timer.
     fn is_of_timer(&self, timer: TimerNumber) -> bool
         ensures { result ≡ is_of_timer timer.0 self.now }
     {
@@ -80,19 +83,20 @@ pub struct Port {
 impl Model for Port {
     ghost use Rattle.std.specs.Prelude.{◌+◌, ◌≤◌, vec_capacity};
     ghost use Rattle.input_port.specs.Queue.{Queue, IsQueue};
+    ghost use Rattle.profile_limits.specs.Limits.{MOST_TIMERS_EACH};
 
     ghost Value = { Queue };
 
     ghost view = { λ p. record { capacity = p.capacity; items = p.items.items } };
 
-    ghost invariant = { λ p. IsQueue p.capacity p.items.items × (p.capacity + 8 ≤ vec_capacity p.items) };
+    ghost invariant = { λ p. IsQueue p.capacity p.items.items × (p.capacity + MOST_TIMERS_EACH ≤ vec_capacity p.items) };
 }
 
 impl Port {
     /// An empty port for this many signals, from 1 to 64.
     pub fn new(alloc: Global, capacity: usize) -> Result<Self, AllocError>
-        requires least { 1 ≤ capacity }
-        requires most { capacity ≤ 64 }
+        requires least { LEAST_PORT ≤ capacity }
+        requires most { capacity ≤ MOST_PORT }
         ensures { IfOk result (λ port. port ≡ record { capacity = capacity; items = [] }) }
     {
         Ok(Port {
@@ -117,8 +121,8 @@ impl Port {
     /// How many signals the port may have.
     pub fn capacity(&self) -> usize
         ensures value { result ≡ self.now.capacity }
-        ensures least { 1 ≤ result }
-        ensures most { result ≤ 64 }
+        ensures least { LEAST_PORT ≤ result }
+        ensures most { result ≤ MOST_PORT }
     {
         self.capacity
     }
@@ -134,7 +138,7 @@ impl Port {
     /// How many items there are: 72 at most.
     pub fn len(&self) -> usize
         ensures value { result ≡ length self.now.items }
-        ensures in_range { result ≤ self.now.capacity + 8 }
+        ensures in_range { result ≤ self.now.capacity + MOST_TIMERS_EACH }
     {
         self.items.len()
     }

@@ -1,8 +1,11 @@
 //! Tests of the lower layers over their public calls: units and lines, stores and one side of a link, ports, timers,
-//! tokens, unset paths and code.
-//! They stand in a crate of their own so that the layers aren't proved a second time with them.
+//! tokens, unset paths and code; valid sets and turns, on sets that are written as plain data.
+//! They stand in a crate of their own so that the layers aren't proved a second time with them, and in one, so that these are loaded and
+//! compiled once.
 #![tactic(auto)]
 
+#[cfg(test)]
+mod drafts;
 #[cfg(test)]
 mod of_code;
 #[cfg(test)]
@@ -12,12 +15,22 @@ mod of_paths;
 #[cfg(test)]
 mod of_ports;
 #[cfg(test)]
+mod of_rules;
+#[cfg(test)]
+mod of_sets;
+#[cfg(test)]
 mod of_sides;
+#[cfg(test)]
+mod of_starts;
 #[cfg(test)]
 mod of_stores;
 #[cfg(test)]
 mod of_tokens;
 #[cfg(test)]
+mod of_turns;
+#[cfg(test)]
 mod of_units;
 #[cfg(test)]
 mod of_wheels;
+#[cfg(test)]
+mod plans;

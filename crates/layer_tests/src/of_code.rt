@@ -1,9 +1,187 @@
-ghost use Rattle.std.specs.Prelude.{◌≡◌, ◌≤◌};
+//! What each instruction does on operands, row by row.
+ghost use Rattle.std.specs.Prelude.{◌≡◌, ◌≤◌, IsTrue};
 ghost use Rattle.turn_code.specs.Code.{sends};
 
 use arrayvec::ArrayVec;
-use std::process::Abort;
 use turn_code::*;
+
+/// An instruction, the operands (the topmost last), what follows, and the topmost operand then.
+#[derive(Clone, Copy)]
+struct Does(Instruction, &'static [Value], After, Option<Value>);
+
+const GOES: After = After::Goes(1);
+
+const YES: Value = Value::Bool(true);
+
+const NO: Value = Value::Bool(false);
+
+const UNSET: After = After::Stuck(Trouble::Unset);
+
+const UNDER: After = After::Stuck(Trouble::Underflow);
+
+const WRONG: After = After::Stuck(Trouble::WrongSort);
+
+const THERE: After = After::Goes(9);
+
+const OVER_9: Instruction = Instruction::Case(Relation::Greater, 9, CodePlace(9));
+
+const FROM_0_TO_3: Instruction = Instruction::CaseWithin(CodePlace(9), 0, 3);
+
+const MOST: Value = Value::Int(2_147_483_647);
+
+const LEAST: Value = Value::Int(-2_147_483_648);
+
+const HALF: Value = Value::Int(65_536);
+
+/// Instructions that go on, and the ends of a turn.
+const GOES_ON: [Does; 10] = [
+    Does(Instruction::Int(3), &[], GOES, Some(Value::Int(3))),
+    Does(
+        Instruction::Load(VariableNumber(0)),
+        &[],
+        GOES,
+        Some(Value::Int(7)),
+    ),
+    Does(
+        Instruction::Store(VariableNumber(1)),
+        &[Value::Int(4)],
+        GOES,
+        None,
+    ),
+    Does(Instruction::Param(0), &[], GOES, Some(Value::Int(5))),
+    Does(
+        Instruction::Add,
+        &[Value::Int(2), Value::Int(3)],
+        GOES,
+        Some(Value::Int(5)),
+    ),
+    Does(
+        Instruction::Sub,
+        &[Value::Int(5), Value::Int(7)],
+        GOES,
+        Some(Value::Int(-2)),
+    ),
+    Does(
+        Instruction::Mul,
+        &[Value::Int(-3), Value::Int(4)],
+        GOES,
+        Some(Value::Int(-12)),
+    ),
+    Does(
+        Instruction::Neg,
+        &[Value::Int(3)],
+        GOES,
+        Some(Value::Int(-3)),
+    ),
+    Does(
+        Instruction::Next(StateNumber(2)),
+        &[],
+        After::Ends(End::State(StateNumber(2))),
+        None,
+    ),
+    Does(Instruction::Stop, &[], After::Ends(End::Stop), None),
+];
+
+/// Divisions keep their signs.
+const DIVIDES: [Does; 4] = [
+    Does(
+        Instruction::Div(2),
+        &[Value::Int(-7)],
+        GOES,
+        Some(Value::Int(-3)),
+    ),
+    Does(
+        Instruction::Mod(2),
+        &[Value::Int(-7)],
+        GOES,
+        Some(Value::Int(1)),
+    ),
+    Does(
+        Instruction::Rem(2),
+        &[Value::Int(-7)],
+        GOES,
+        Some(Value::Int(-1)),
+    ),
+    Does(
+        Instruction::Mod(0),
+        &[Value::Int(-7)],
+        WRONG,
+        Some(Value::Int(-7)),
+    ),
+];
+
+/// Truth values are joined and compared.
+const JOINS: [Does; 6] = [
+    Does(Instruction::Not, &[YES], GOES, Some(NO)),
+    Does(Instruction::And, &[YES, NO], GOES, Some(NO)),
+    Does(Instruction::Or, &[YES, NO], GOES, Some(YES)),
+    Does(Instruction::Xor, &[YES, YES], GOES, Some(NO)),
+    Does(Instruction::Same, &[NO, NO], GOES, Some(YES)),
+    Does(
+        Instruction::Compare(Relation::Less),
+        &[Value::Int(-1), Value::Int(0)],
+        GOES,
+        Some(YES),
+    ),
+];
+
+/// Branches jump to place 9, or go on.
+const JUMPS: [Does; 7] = [
+    Does(OVER_9, &[Value::Int(10)], THERE, None),
+    Does(OVER_9, &[Value::Int(9)], GOES, Some(Value::Int(9))),
+    Does(FROM_0_TO_3, &[Value::Int(3)], THERE, None),
+    Does(FROM_0_TO_3, &[Value::Int(4)], GOES, Some(Value::Int(4))),
+    Does(
+        Instruction::Pick(CodePlace(8), CodePlace(9)),
+        &[YES],
+        THERE,
+        None,
+    ),
+    Does(Instruction::Drop, &[Value::Int(1)], GOES, None),
+    Does(
+        Instruction::Jump(CodePlace(9)),
+        &[Value::Int(1)],
+        THERE,
+        Some(Value::Int(1)),
+    ),
+];
+
+/// Arithmetic wraps round.
+const WRAPS: [Does; 4] = [
+    Does(Instruction::Add, &[MOST, Value::Int(1)], GOES, Some(LEAST)),
+    Does(Instruction::Sub, &[LEAST, Value::Int(1)], GOES, Some(MOST)),
+    Does(Instruction::Mul, &[HALF, HALF], GOES, Some(Value::Int(0))),
+    Does(Instruction::Neg, &[LEAST], GOES, Some(LEAST)),
+];
+
+/// Each trouble is named, and the operands stay.
+const TROUBLES: [Does; 10] = [
+    Does(Instruction::Load(VariableNumber(1)), &[], UNSET, None),
+    Does(Instruction::Load(VariableNumber(2)), &[], UNSET, None),
+    Does(
+        Instruction::Store(VariableNumber(2)),
+        &[YES],
+        UNSET,
+        Some(YES),
+    ),
+    Does(Instruction::Store(VariableNumber(1)), &[], UNDER, None),
+    Does(Instruction::Param(1), &[], UNDER, None),
+    Does(
+        Instruction::Add,
+        &[Value::Int(1)],
+        UNDER,
+        Some(Value::Int(1)),
+    ),
+    Does(
+        Instruction::Sub,
+        &[YES, Value::Int(1)],
+        WRONG,
+        Some(Value::Int(1)),
+    ),
+    Does(Instruction::Mul, &[Value::Int(1), YES], WRONG, Some(YES)),
+    Does(Instruction::Neg, &[], UNDER, None),
+    Does(Instruction::Neg, &[YES], WRONG, Some(YES)),
+];
 
 /// A machine with these operands, the topmost last. Variable 0 is 7, variable 1 isn't set, and there is no other.
 fn machine(values: &[Value]) -> Machine
@@ -33,7 +211,7 @@ fn operands(values: &[Value]) -> Operands {
 /// An input with the parameter 5 from process 3.
 fn input() -> Input {
     let mut parameters = ArrayVec::new();
-    parameters.push(int(5));
+    parameters.push(Value::Int(5));
     Input {
         variables: ArrayVec::new(),
         parameters,
@@ -41,157 +219,137 @@ fn input() -> Input {
     }
 }
 
-/// What an instruction does on these operands, the topmost last, with the parameter 5: what follows, and the topmost
-/// operand then.
-fn expect(
-    instruction: Instruction,
-    values: &[Value],
-    after: After,
-    top: Option<Value>,
-    rt: &impl Abort,
-)
-    requires { sends instruction ≤ 4 }
+/// Whether an instruction sends no more than 4 parameters.
+fn sends_few(instruction: Instruction) -> bool
+    ensures { IsTrue result → sends instruction ≤ 4 }
 {
-    let mut machine = machine(values);
-    assert!(rt; machine.operands.len() < 16);
-    assert!(rt; machine.effects.len() < 32);
-    let follows = step_plain(&[instruction], &input(), 0, &mut machine);
-    assert_eq!(rt; follows, after);
-    assert_eq!(rt; machine.operands.pop(), top);
+    match instruction {
+        Instruction::Output(_, _, count) => count <= 4,
+        _ => true,
+    }
 }
 
-const GOES: After = After::Goes(1);
+/// What follows an instruction with the parameter 5, and the topmost operand then.
+fn done(instruction: Instruction, values: &[Value]) -> Option<(After, Option<Value>)> {
+    let mut machine = machine(values);
+    if machine.operands.len() >= 16 || machine.effects.len() >= 32 || !sends_few(instruction) {
+        return None;
+    }
+    let follows = step_plain(&[instruction], &input(), 0, &mut machine);
+    Some((follows, machine.operands.pop()))
+}
 
-const fn int(number: i32) -> Value {
-    Value::Int(number)
+/// The number of the first row of which something else comes.
+fn first_other(rows: &[Does]) -> Option<usize> {
+    for (number, row) in rows.iter().enumerate() {
+        let Does(instruction, values, after, top) = *row;
+        if done(instruction, values) != Some((after, top)) {
+            return Some(number);
+        }
+    }
+    None
 }
 
 #[test]
 fn each_instruction_goes_on(rt: HostRuntime) {
-    let v = VariableNumber;
-    expect(Instruction::Int(3), &[], GOES, Some(int(3)), &rt);
-    expect(Instruction::Load(v(0)), &[], GOES, Some(int(7)), &rt);
-    expect(Instruction::Store(v(1)), &[int(4)], GOES, None, &rt);
-    expect(Instruction::Param(0), &[], GOES, Some(int(5)), &rt);
-    expect(Instruction::Add, &[int(2), int(3)], GOES, Some(int(5)), &rt);
-    expect(
-        Instruction::Sub,
-        &[int(5), int(7)],
-        GOES,
-        Some(int(-2)),
-        &rt,
-    );
-    expect(
-        Instruction::Mul,
-        &[int(-3), int(4)],
-        GOES,
-        Some(int(-12)),
-        &rt,
-    );
-    expect(Instruction::Neg, &[int(3)], GOES, Some(int(-3)), &rt);
-    let end = After::Ends(End::State(StateNumber(2)));
-    expect(Instruction::Next(StateNumber(2)), &[], end, None, &rt);
-    let stop = After::Ends(End::Stop);
-    expect(Instruction::Stop, &[], stop, None, &rt);
+    assert_eq!(rt; first_other(&GOES_ON), None);
 }
 
 #[test]
 fn divisions_keep_their_signs(rt: HostRuntime) {
-    let seven = [int(-7)];
-    expect(Instruction::Div(2), &seven, GOES, Some(int(-3)), &rt);
-    expect(Instruction::Mod(2), &seven, GOES, Some(int(1)), &rt);
-    expect(Instruction::Rem(2), &seven, GOES, Some(int(-1)), &rt);
-    let wrong = After::Stuck(Trouble::WrongSort);
-    expect(Instruction::Mod(0), &seven, wrong, Some(int(-7)), &rt);
+    assert_eq!(rt; first_other(&DIVIDES), None);
 }
 
 #[test]
 fn truth_values_are_joined(rt: HostRuntime) {
-    let (yes, no) = (Value::Bool(true), Value::Bool(false));
-    expect(Instruction::Not, &[yes], GOES, Some(no), &rt);
-    expect(Instruction::And, &[yes, no], GOES, Some(no), &rt);
-    expect(Instruction::Or, &[yes, no], GOES, Some(yes), &rt);
-    expect(Instruction::Xor, &[yes, yes], GOES, Some(no), &rt);
-    expect(Instruction::Same, &[no, no], GOES, Some(yes), &rt);
-    let less = Instruction::Compare(Relation::Less);
-    expect(less, &[int(-1), int(0)], GOES, Some(yes), &rt);
+    assert_eq!(rt; first_other(&JOINS), None);
 }
 
 #[test]
 fn branches_jump(rt: HostRuntime) {
-    let to = CodePlace(9);
-    let over_9 = Instruction::Case(Relation::Greater, 9, to);
-    let there = After::Goes(9);
-    expect(over_9, &[int(10)], there, None, &rt);
-    expect(over_9, &[int(9)], GOES, Some(int(9)), &rt);
-    let from_0_to_3 = Instruction::CaseWithin(to, 0, 3);
-    expect(from_0_to_3, &[int(3)], there, None, &rt);
-    expect(from_0_to_3, &[int(4)], GOES, Some(int(4)), &rt);
-    let pick = Instruction::Pick(CodePlace(8), to);
-    expect(pick, &[Value::Bool(true)], there, None, &rt);
-    expect(Instruction::Drop, &[int(1)], GOES, None, &rt);
-    expect(Instruction::Jump(to), &[int(1)], there, Some(int(1)), &rt);
-}
-
-#[test]
-fn an_answer_goes_to_its_sender(rt: HostRuntime) {
-    let mut machine = machine(&[int(1), int(2), int(3)]);
-    assert!(rt; machine.effects.len() < 32);
-    let output = Instruction::Output(SignalNumber(4), Receiver::Sender, 2);
-    let follows = step_plain(&[output], &input(), 0, &mut machine);
-    assert_eq!(rt; follows, GOES);
-    assert_eq!(rt; machine.operands.pop(), Some(int(1)));
-    let sent = machine.effects.pop();
-    if let Some(Effect::Output(sending)) = sent {
-        assert_eq!(rt; sending.signal, SignalNumber(4));
-        assert_eq!(rt; sending.receiver, Party::Process(ProcessNumber(3)));
-        assert!(rt; sending.parameters.as_slice() == [int(2), int(3)].as_slice());
-    } else {
-        assert!(rt; false, "no output");
-    }
+    assert_eq!(rt; first_other(&JUMPS), None);
 }
 
 #[test]
 fn arithmetic_wraps_round(rt: HostRuntime) {
-    let most = int(2_147_483_647);
-    let least = int(-2_147_483_648);
-    let half = int(65_536);
-    expect(Instruction::Add, &[most, int(1)], GOES, Some(least), &rt);
-    expect(Instruction::Sub, &[least, int(1)], GOES, Some(most), &rt);
-    expect(Instruction::Mul, &[half, half], GOES, Some(int(0)), &rt);
-    expect(Instruction::Neg, &[least], GOES, Some(least), &rt);
+    assert_eq!(rt; first_other(&WRAPS), None);
+}
+
+/// What comes of an addition behind the end of the code; nothing where there is no room for it.
+fn outside() -> Option<After> {
+    let mut machine = machine(&[]);
+    if machine.operands.len() >= 16 {
+        return None;
+    }
+    Some(step_plain(&[Instruction::Add], &input(), 1, &mut machine))
 }
 
 #[test]
 fn each_trouble_is_named(rt: HostRuntime) {
-    let v = VariableNumber;
-    let unset = After::Stuck(Trouble::Unset);
-    let under = After::Stuck(Trouble::Underflow);
-    let wrong = After::Stuck(Trouble::WrongSort);
-    let yes = Value::Bool(true);
-    expect(Instruction::Load(v(1)), &[], unset, None, &rt);
-    expect(Instruction::Load(v(2)), &[], unset, None, &rt);
-    expect(Instruction::Store(v(2)), &[yes], unset, Some(yes), &rt);
-    expect(Instruction::Store(v(1)), &[], under, None, &rt);
-    expect(Instruction::Param(1), &[], under, None, &rt);
-    expect(Instruction::Add, &[int(1)], under, Some(int(1)), &rt);
-    expect(Instruction::Sub, &[yes, int(1)], wrong, Some(int(1)), &rt);
-    expect(Instruction::Mul, &[int(1), yes], wrong, Some(yes), &rt);
-    expect(Instruction::Neg, &[], under, None, &rt);
-    expect(Instruction::Neg, &[yes], wrong, Some(yes), &rt);
-    let mut machine = machine(&[]);
-    assert!(rt; machine.operands.is_empty());
-    let outside = step_plain(&[Instruction::Add], &input(), 1, &mut machine);
-    assert_eq!(rt; outside, After::Stuck(Trouble::Outside));
+    assert_eq!(rt; first_other(&TROUBLES), None);
+    assert_eq!(rt; outside(), Some(After::Stuck(Trouble::Outside)));
+}
+
+/// What the one effect sends, and where: three values at most.
+fn sent(effects: &[Effect]) -> Option<(SignalNumber, Party, [Option<Value>; 3])> {
+    match effects {
+        [Effect::Output(sending)] => {
+            let values = sending.parameters.as_slice();
+            let three = [
+                values.get(0).copied(),
+                values.get(1).copied(),
+                values.get(2).copied(),
+            ];
+            Some((sending.signal, sending.receiver, three))
+        }
+        _ => None,
+    }
+}
+
+const OUTPUT: Instruction = Instruction::Output(SignalNumber(4), Receiver::Sender, 2);
+
+/// What follows an output of two of three operands, the topmost one then, and what was sent.
+fn answered() -> Option<
+    (
+        After,
+        Option<Value>,
+        Option<(SignalNumber, Party, [Option<Value>; 3])>,
+    ),
+> {
+    let mut machine = machine(&[Value::Int(1), Value::Int(2), Value::Int(3)]);
+    if machine.effects.len() >= 32 {
+        return None;
+    }
+    let follows = step_plain(&[OUTPUT], &input(), 0, &mut machine);
+    let top = machine.operands.pop();
+    Some((follows, top, sent(machine.effects.as_slice())))
+}
+
+const ANSWER: (SignalNumber, Party, [Option<Value>; 3]) = (
+    SignalNumber(4),
+    Party::Process(ProcessNumber(3)),
+    [Some(Value::Int(2)), Some(Value::Int(3)), None],
+);
+
+#[test]
+fn an_answer_goes_to_its_sender(rt: HostRuntime) {
+    assert_eq!(rt; answered(), Some((GOES, Some(Value::Int(1)), Some(ANSWER))));
+}
+
+/// What follows a store of 4 in variable 1, whether the variables are 7 and 4 then, and how many instructions were counted.
+fn stored() -> Option<(After, bool, u32)> {
+    let mut machine = machine(&[Value::Int(4)]);
+    if machine.operands.len() >= 16 {
+        return None;
+    }
+    let store = [Instruction::Store(VariableNumber(1))];
+    let follows = step_plain(&store, &input(), 0, &mut machine);
+    let wanted = [Some(Value::Int(7)), Some(Value::Int(4))];
+    let is_kept = machine.variables.as_slice() == wanted.as_slice();
+    Some((follows, is_kept, machine.count))
 }
 
 #[test]
 fn a_store_is_kept(rt: HostRuntime) {
-    let mut machine = machine(&[int(4)]);
-    assert!(rt; machine.operands.len() == 1);
-    let store = Instruction::Store(VariableNumber(1));
-    let follows = step_plain(&[store], &input(), 0, &mut machine);
-    assert_eq!(rt; follows, GOES);
-    assert!(rt; machine.variables.as_slice() == [Some(int(7)), Some(int(4))].as_slice());
-    assert_eq!(rt; machine.count, 1);
+    assert_eq!(rt; stored(), Some((GOES, true, 1)));
 }

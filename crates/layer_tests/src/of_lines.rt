@@ -1,5 +1,6 @@
+//! Lines by hand: how a unit is stuffed, and what comes of the octets of a line, however they are cut.
 use bit_line::{Deframer, LineEvent, NoMemory, Stuffer};
-use std::test::Fail;
+use std::alloc::Global;
 use su_octets::{Head, Unit};
 
 /// The FISU of a link that was just switched on.
@@ -15,82 +16,144 @@ fn first_fisu() -> Unit {
 /// The octets of that FISU.
 const FISU: [u8; 5] = [0xff, 0xff, 0x00, 0xff, 0xff];
 
+/// A flag and that FISU, stuffed.
+const STUFFED: [u8; 7] = [0x7e, 0xdf, 0xf7, 0x05, 0xf8, 0xbe, 0xaf];
+
 /// A flag, the FISU, a flag and a bit, then another flag.
 const LINE: [u8; 9] = [0x7e, 0xdf, 0xf7, 0x05, 0xf8, 0xbe, 0xaf, 0x1f, 0x7e];
 
+/// How many bits are left before the FISU, whether it becomes these octets, and how many bits are left then.
+fn stuffed() -> Option<(u8, bool, u8)> {
+    let mut stuffer = Stuffer::new();
+    let before = stuffer.rest().1;
+    let unit = first_fisu();
+    if !unit.whole() {
+        return None;
+    }
+    let is_stuffed = stuffer.put(&unit).as_slice() == STUFFED.as_slice();
+    Some((before, is_stuffed, stuffer.rest().1))
+}
+
 #[test]
 fn known_stuffing(rt: HostRuntime) {
-    let mut stuffer = Stuffer::new();
-    assert_eq!(rt; stuffer.rest().1, 0);
-    let unit = first_fisu();
-    assert!(rt; unit.whole());
-    let line = stuffer.put(&unit);
-    assert!(rt; line.as_slice() == [0x7e, 0xdf, 0xf7, 0x05, 0xf8, 0xbe, 0xaf].as_slice());
-    assert_eq!(rt; stuffer.rest().1, 6);
+    assert_eq!(rt; stuffed(), Some((0, true, 6)));
+}
+
+/// What is told of what came: the FISU, an errored unit, 16 octets of counting mode.
+#[derive(Clone, Copy, PartialEq, Eq, Debug)]
+enum Told {
+    Fisu,
+    Errored,
+    SixteenOctets,
+    Other,
+}
+
+fn seen_as(event: &LineEvent) -> Told {
+    match event {
+        LineEvent::Unit(octets) if octets.as_slice() == FISU.as_slice() => Told::Fisu,
+        LineEvent::Errored => Told::Errored,
+        LineEvent::SixteenOctets => Told::SixteenOctets,
+        _ => Told::Other,
+    }
+}
+
+fn told_at(events: &[LineEvent], place: usize) -> Option<Told> {
+    match events.get(place) {
+        Some(event) => Some(seen_as(event)),
+        None => None,
+    }
+}
+
+/// The first three of these events.
+fn three(events: &[LineEvent]) -> [Option<Told>; 3] {
+    [told_at(events, 0), told_at(events, 1), told_at(events, 2)]
+}
+
+const NONE: [Option<Told>; 3] = [None, None, None];
+
+const ONE: [Option<Told>; 3] = [Some(Told::Fisu), None, None];
+
+const OTHER: [Option<Told>; 3] = [Some(Told::Errored), None, None];
+
+const BOTH: [Option<Told>; 3] = [Some(Told::Fisu), Some(Told::Errored), None];
+
+/// What comes of the octets before a place, and of those from there on.
+fn cut(alloc: Global, place: usize) -> Option<[[Option<Told>; 3]; 2]> {
+    let mut deframer = Deframer::new();
+    let (front, back) = LINE.as_slice().split_at_checked(place)?;
+    let early = deframer.feed(alloc, front).ok()?;
+    let late = deframer.feed(alloc, back).ok()?;
+    Some([three(&early), three(&late)])
+}
+
+/// The first place at which something else comes where the line is cut there.
+fn first_other_cut(alloc: Global) -> Option<usize> {
+    for place in 0..=LINE.len() {
+        let wanted = match place {
+            0..=7 => [NONE, BOTH],
+            8 => [ONE, OTHER],
+            _ => [BOTH, NONE],
+        };
+        if cut(alloc, place) != Some(wanted) {
+            return Some(place);
+        }
+    }
+    None
 }
 
 /// The unit comes at the eighth octet and an errored one at the ninth, for every cutting.
 #[test]
-fn known_events(rt: HostRuntime) -> Result<(), Fail> {
-    for cut in 0..LINE.len() + 1 {
-        if let Some((front, back)) = LINE.as_slice().split_at_checked(cut) {
-            let mut deframer = Deframer::new();
-            let early = deframer.feed(rt.alloc(), front)?;
-            let late = deframer.feed(rt.alloc(), back)?;
-            let units = usize::from(cut >= 8);
-            let errored = usize::from(cut >= 9);
-            assert_eq!(rt; early.len(), units + errored);
-            assert_eq!(rt; late.len(), 2 - units - errored);
-            for event in early.iter().chain(late.iter()).take(1) {
-                assert!(rt;
-                    matches!(event, LineEvent::Unit(octets) if octets.as_slice() == FISU.as_slice())
-                );
-            }
+fn known_events(rt: HostRuntime) {
+    assert_eq!(rt; first_other_cut(rt.alloc()), None);
+}
+
+/// The number of the first octet with which, one by one, something else comes.
+fn first_other_octet() -> Option<usize> {
+    let mut deframer = Deframer::new();
+    for (place, octet) in LINE.iter().enumerate() {
+        let wanted = match place {
+            7 => ONE,
+            8 => OTHER,
+            _ => NONE,
+        };
+        if three(deframer.feed_byte(*octet).as_slice()) != wanted {
+            return Some(place);
         }
     }
-    Ok(())
+    None
 }
 
 #[test]
 fn known_events_by_octet(rt: HostRuntime) {
-    let mut deframer = Deframer::new();
-    for (i, octet) in LINE.iter().enumerate() {
-        let events = deframer.feed_byte(*octet);
-        match events.as_slice() {
-            [] => assert!(rt; i < 7),
-            [LineEvent::Unit(octets)] => {
-                assert_eq!(rt; i, 7);
-                assert!(rt; octets.as_slice() == FISU.as_slice());
-            }
-            [event] => {
-                assert_eq!(rt; i, 8);
-                assert!(rt; *event == LineEvent::Errored);
-            }
-            _ => panic!(rt; "more than one event"),
-        }
-    }
+    assert_eq!(rt; first_other_octet(), None);
+}
+
+/// What comes of these octets first.
+fn fed(alloc: Global, octets: &[u8]) -> Option<[Option<Told>; 3]> {
+    let events = Deframer::new().feed(alloc, octets).ok()?;
+    Some(three(&events))
 }
 
 /// 128 bits of counting mode, which is on at first.
 #[test]
-fn sixteen_octets(rt: HostRuntime) -> Result<(), Fail> {
-    let events = Deframer::new().feed(rt.alloc(), &[0xff; 16])?;
-    assert!(rt; events.as_slice() == [LineEvent::SixteenOctets].as_slice());
-    Ok(())
+fn sixteen_octets(rt: HostRuntime) {
+    let wanted = [Some(Told::SixteenOctets), None, None];
+    assert_eq!(rt; fed(rt.alloc(), &[0xff; 16]), Some(wanted));
+}
+
+/// What comes of the line; where memory is refused once, of the same octets after that.
+fn fed_at_last(alloc: Global) -> Option<[Option<Told>; 3]> {
+    let mut deframer = Deframer::new();
+    let events = match deframer.feed(alloc, &LINE) {
+        Ok(events) => events,
+        Err(NoMemory) => deframer.feed(alloc, &LINE).ok()?,
+    };
+    Some(three(&events))
 }
 
 /// With ample memory the call succeeds at once. Where memory is refused, no bit was taken: the same octets give all their
 /// events after that.
 #[test]
-fn refused_memory_takes_no_bit(rt: HostRuntime) -> Result<(), Fail> {
-    let mut deframer = Deframer::new();
-    let events = match deframer.feed(rt.alloc(), LINE.as_slice()) {
-        Ok(events) => events,
-        Err(NoMemory) => deframer.feed(rt.alloc(), LINE.as_slice())?,
-    };
-    assert_eq!(rt; events.len(), 2);
-    let unit = events.first().ok_or("the first event is missing")?;
-    assert!(rt; matches!(unit, LineEvent::Unit(octets) if octets.as_slice() == FISU.as_slice()));
-    assert!(rt; events.get(1) == Some(&LineEvent::Errored));
-    Ok(())
+fn refused_memory_takes_no_bit(rt: HostRuntime) {
+    assert_eq!(rt; fed_at_last(rt.alloc()), Some(BOTH));
 }

@@ -1,110 +1,109 @@
-//! Graphs by hand, each with the path that the rule names.
-ghost use Rattle.std.specs.Prelude.{◌<◌};
-
+//! Graphs by hand, each with the path that the rule names, or with the states that may be entered with a variable unset.
 use std::alloc::{AllocError, Global};
-use std::test::Fail;
-use unset_paths::{Fate, Graph, Passage, Step, Summary, first_unset};
+use unset_paths::{Graph, Passage, Summary, first_unset};
 
-/// A transition with one way through it.
-fn summary(alloc: Global, reads: u32, state: usize, keeps: u32) -> Result<Summary, AllocError> {
-    let passages = vec![in alloc; Passage { state, keeps }]?;
-    Ok(Summary { reads, passages })
-}
+/// A transition with one way through it: what it reads, the state that it leads to, and what it keeps.
+#[derive(Clone, Copy)]
+struct Way(u32, usize, u32);
 
-/// START leads to state 0. There input 0 sets variable 0 and leads to state 1, and input 1 leads there too; in state 1
-/// input 0 reads the variable.
-fn two_states(alloc: Global) -> Result<Graph, AllocError> {
-    let first = vec![in alloc; summary(alloc, 0, 1, 0)?, summary(alloc, 0, 1, 1)?]?;
-    let second = vec![in alloc; summary(alloc, 1, 1, 0)?]?;
-    Ok(Graph {
-        start: summary(alloc, 0, 0, 1)?,
-        states: vec![in alloc; first, second]?,
-    })
-}
+/// START, and the inputs of each state.
+#[derive(Clone, Copy)]
+struct Plan(Way, &'static [&'static [Way]]);
 
-/// The path by which the variable is read unset; empty where there is none.
-fn path(alloc: Global, graph: &Graph, variable: u32) -> Result<Vec<Step>, AllocError>
-    requires { variable < 32 }
-{
-    match first_unset(alloc, graph, variable)? {
-        Fate::Unset(path) => Ok(path),
-        Fate::Set(_) => Ok(Vec::new(alloc)),
-    }
-}
+/// Input 0 of state 0 sets variable 0 and leads to state 1, and input 1 leads there too; in state 1 input 0 reads the variable.
+const TWO_ROWS: &[&[Way]] = &[&[Way(0, 1, 0), Way(0, 1, 1)], &[Way(1, 1, 0)]];
 
-/// The states that may be entered with the variable unset, as marks; none where it is read unset.
-fn marks(alloc: Global, graph: &Graph, variable: u32) -> Result<Vec<bool>, AllocError>
-    requires { variable < 32 }
-{
-    match first_unset(alloc, graph, variable)? {
-        Fate::Unset(_) => Ok(Vec::new(alloc)),
-        Fate::Set(marks) => Ok(marks),
-    }
-}
-
-#[test]
-fn finds_the_path_that_sets_nothing(rt: HostRuntime) -> Result<(), Fail> {
-    let graph = two_states(rt.alloc())?;
-    assert_eq!(rt;
-        path(rt.alloc(), &graph, 0)?.as_slice(),
-        [Step::Start, Step::Input(0, 1), Step::Input(1, 0)].as_slice()
-    );
-    assert!(rt; path(rt.alloc(), &graph, 1)?.is_empty());
-    Ok(())
-}
-
-#[test]
-fn marks_where_it_may_be_unset(rt: HostRuntime) -> Result<(), Fail> {
-    let mut graph = two_states(rt.alloc())?;
-    graph.start.passages = vec![in rt.alloc(); Passage { state: 0, keeps: 3 }]?;
-    assert_eq!(rt;
-        marks(rt.alloc(), &graph, 1)?.as_slice(),
-        [true, false].as_slice()
-    );
-    assert_eq!(rt;
-        marks(rt.alloc(), &graph, 2)?.as_slice(),
-        [false, false].as_slice()
-    );
-    Ok(())
-}
-
-#[test]
-fn reads_in_the_first_transition(rt: HostRuntime) -> Result<(), Fail> {
-    let mut graph = two_states(rt.alloc())?;
-    graph.start.reads = 2;
-    assert_eq!(rt;
-        path(rt.alloc(), &graph, 1)?.as_slice(),
-        [Step::Start].as_slice()
-    );
-    Ok(())
-}
+/// START leads to state 0.
+const TWO_STATES: Plan = Plan(Way(0, 0, 1), TWO_ROWS);
 
 /// START leads to state 1. Its inputs lead to states 0 and 2; state 2 reads the variable on its second input, state 0
 /// on its first; state 3 reads it too, and nothing leads there.
-fn four_states(alloc: Global) -> Result<Graph, AllocError> {
-    let zero = vec![in alloc; summary(alloc, 1, 0, 1)?]?;
-    let one = vec![in alloc; summary(alloc, 0, 2, 1)?, summary(alloc, 0, 0, 1)?]?;
-    let two = vec![in alloc; summary(alloc, 0, 1, 1)?, summary(alloc, 1, 1, 1)?]?;
-    let three = vec![in alloc; summary(alloc, 2, 3, 3)?]?;
+const FOUR_STATES: Plan = Plan(
+    Way(0, 1, 3),
+    &[
+        &[Way(1, 0, 1)],
+        &[Way(0, 2, 1), Way(0, 0, 1)],
+        &[Way(0, 1, 1), Way(1, 1, 1)],
+        &[Way(2, 3, 3)],
+    ],
+);
+
+/// A graph, a variable, and what `Debug` shows of its fate: the path by which it is read unset, or marks of the states that may be entered
+/// with it unset.
+const ROWS: [(Plan, u32, &str); 7] = [
+    // the path that sets nothing
+    (TWO_STATES, 0, "Unset([Start, Input(0, 1), Input(1, 0)])"),
+    (TWO_STATES, 1, "Set([false, false])"),
+    // START sets neither of two variables, and each input of state 0 sets variable 1
+    (Plan(Way(0, 0, 3), TWO_ROWS), 1, "Set([true, false])"),
+    (Plan(Way(0, 0, 3), TWO_ROWS), 2, "Set([false, false])"),
+    // the first transition reads it
+    (Plan(Way(2, 0, 1), TWO_ROWS), 1, "Unset([Start])"),
+    // of paths of one length the first in the text
+    (FOUR_STATES, 0, "Unset([Start, Input(1, 0), Input(2, 1)])"),
+    // what nothing leads to doesn't count
+    (FOUR_STATES, 1, "Set([false, true, false, false])"),
+];
+
+fn summary(alloc: Global, way: &Way) -> Result<Summary, AllocError> {
+    let Way(reads, state, keeps) = *way;
+    let mut passages = Vec::new(alloc);
+    passages.push(Passage { state, keeps })?;
+    Ok(Summary { reads, passages })
+}
+
+fn summaries(alloc: Global, ways: &[Way]) -> Result<Vec<Summary>, AllocError> {
+    let mut all = Vec::new(alloc);
+    for way in ways {
+        all.push(summary(alloc, way)?)?;
+    }
+    Ok(all)
+}
+
+fn states(alloc: Global, rows: &[&[Way]]) -> Result<Vec<Vec<Summary>>, AllocError> {
+    let mut all = Vec::new(alloc);
+    for ways in rows {
+        all.push(summaries(alloc, ways)?)?;
+    }
+    Ok(all)
+}
+
+fn graph(alloc: Global, plan: &Plan) -> Result<Graph, AllocError> {
     Ok(Graph {
-        start: summary(alloc, 0, 1, 3)?,
-        states: vec![in alloc; zero, one, two, three]?,
+        start: summary(alloc, &plan.0)?,
+        states: states(alloc, plan.1)?,
     })
 }
 
-#[test]
-fn of_paths_of_one_length_the_first_in_the_text(rt: HostRuntime) -> Result<(), Fail> {
-    let graph = four_states(rt.alloc())?;
-    assert_eq!(rt;
-        path(rt.alloc(), &graph, 0)?.as_slice(),
-        [Step::Start, Step::Input(1, 0), Step::Input(2, 1)].as_slice()
-    );
-    Ok(())
+/// What is shown of the fate of a variable, of those that there may be.
+fn shown(alloc: Global, plan: &Plan, variable: u32) -> Option<String> {
+    if variable >= 32 {
+        return None;
+    }
+    let graph = graph(alloc, plan).ok()?;
+    let fate = first_unset(alloc, &graph, variable).ok()?;
+    format!(in alloc; "{fate:?}").ok()
+}
+
+/// Whether that is shown.
+fn is_shown(alloc: Global, plan: &Plan, variable: u32, wanted: &str) -> bool {
+    match shown(alloc, plan, variable) {
+        Some(found) => found.as_str() == wanted,
+        None => false,
+    }
+}
+
+/// The number of the first row of which something else is shown.
+fn first_other(alloc: Global, rows: &[(Plan, u32, &str)]) -> Option<usize> {
+    for (number, (plan, variable, wanted)) in rows.iter().enumerate() {
+        if !is_shown(alloc, plan, *variable, wanted) {
+            return Some(number);
+        }
+    }
+    None
 }
 
 #[test]
-fn what_nothing_leads_to_does_not_count(rt: HostRuntime) -> Result<(), Fail> {
-    let graph = four_states(rt.alloc())?;
-    assert!(rt; path(rt.alloc(), &graph, 1)?.is_empty());
-    Ok(())
+fn the_first_of_the_shortest_paths_is_found(rt: HostRuntime) {
+    assert_eq!(rt; first_other(rt.alloc(), &ROWS), None);
 }

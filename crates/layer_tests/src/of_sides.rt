@@ -4,8 +4,7 @@ ghost use Rattle.std.specs.Prelude.{◌≡◌, length};
 use arrayvec::ArrayVec;
 use link_side::*;
 use resend_store::{Mode, Msu, RetrieveError};
-use std::process::Abort;
-use std::test::Fail;
+use std::alloc::Global;
 use su_octets::{Head, Unit};
 
 /// One line of an exchange.
@@ -74,45 +73,54 @@ fn offered(seen: Option<bool>, bad: bool) -> Offers {
     offers
 }
 
-/// A unit comes.
-fn hear(rt: &impl Abort, side: &mut Side, unit: Unit, offers: &[Offer]) {
-    assert!(rt; unit.whole() && side.has_room());
-    assert_eq!(rt; side.on_unit(unit).as_slice(), offers);
+/// Whether that is offered for a unit, which is whole and for which there is room.
+fn hears(side: &mut Side, unit: Unit, offers: &[Offer]) -> bool {
+    unit.whole() && side.has_room() && side.on_unit(unit).as_slice() == offers
 }
 
-/// The next unit is printed so.
-fn give<R: AllocGlobal + Abort>(rt: &R, side: &mut Side, text: &str) -> Result<(), Fail> {
-    let printed = match side.unit_out() {
-        Some(UnitOut { unit, offer }) => format!(in rt.alloc(); "{unit} {}", offer.is_some())?,
-        None => format!(in rt.alloc(); "silent")?,
-    };
-    assert_eq!(rt; printed.as_str(), text);
-    Ok(())
+/// The next unit as it is printed, and whether something is offered with it.
+fn given(alloc: Global, side: &mut Side) -> Option<String> {
+    match side.unit_out() {
+        Some(UnitOut { unit, offer }) => format!(in alloc; "{unit} {}", offer.is_some()).ok(),
+        None => format!(in alloc; "silent").ok(),
+    }
 }
 
-fn take<R: AllocGlobal + Abort>(rt: &R, side: &mut Side, step: Step) -> Result<(), Fail> {
+/// Whether the next unit is printed so.
+fn gives(alloc: Global, side: &mut Side, text: &str) -> bool {
+    match given(alloc, side) {
+        Some(printed) => printed.as_str() == text,
+        None => false,
+    }
+}
+
+/// Whether a side does what a step says.
+fn does(alloc: Global, side: &mut Side, step: Step) -> bool {
     match step {
-        Step::Tell(signal) => side.on_signal(signal),
-        Step::Put(sio) => side.put(message(sio))?,
-        Step::Hear(first, second, has_msu, seen, bad) => hear(
-            rt,
-            side,
-            unit(first, second, has_msu),
-            offered(seen, bad).as_slice(),
-        ),
-        Step::Out(text) => give(rt, side, text)?,
-        Step::Report(status) => assert_eq!(rt; side.report(), Some(Report::Status(status))),
-        Step::Deliver(sio) => assert_eq!(rt; side.report(), Some(Report::Message(message(sio)))),
-        Step::Rest => assert_eq!(rt; side.report(), None),
+        Step::Tell(signal) => {
+            side.on_signal(signal);
+            true
+        }
+        Step::Put(sio) => side.put(message(sio)).is_ok(),
+        Step::Hear(first, second, has_msu, seen, bad) => {
+            let unit = unit(first, second, has_msu);
+            hears(side, unit, offered(seen, bad).as_slice())
+        }
+        Step::Out(text) => gives(alloc, side, text),
+        Step::Report(status) => side.report() == Some(Report::Status(status)),
+        Step::Deliver(sio) => side.report() == Some(Report::Message(message(sio))),
+        Step::Rest => side.report().is_none(),
     }
-    Ok(())
 }
 
-fn take_all<R: AllocGlobal + Abort>(rt: &R, side: &mut Side, steps: &[Step]) -> Result<(), Fail> {
-    for step in steps {
-        take(rt, side, *step)?;
+/// The number of the first step at which a side does something else.
+fn first_other(alloc: Global, side: &mut Side, steps: &[Step]) -> Option<usize> {
+    for (number, step) in steps.iter().enumerate() {
+        if !does(alloc, side, *step) {
+            return Some(number);
+        }
     }
-    Ok(())
+    None
 }
 
 /// What the actors tell until the link is in service.
@@ -181,43 +189,80 @@ const IS_CONGESTED: [Step; 16] = [
     Step::Report(LinkStatus::InService),
 ];
 
-#[test]
-fn exchanges_units(rt: HostRuntime) -> Result<(), Fail> {
-    for steps in [&LOSES_ONE_EACH_WAY[..], &HAS_FAULTS, &IS_CONGESTED] {
-        let mut side = Side::new(rt.alloc(), Mode::Basic)?;
-        take_all(&rt, &mut side, &COMES_UP)?;
-        take_all(&rt, &mut side, steps)?;
-    }
-    Ok(())
+/// The numbers of the first steps at which a new side does something else as it comes up, and then; nothing where it can't be made.
+fn first_others(alloc: Global, steps: &[Step]) -> Option<[Option<usize>; 2]> {
+    let mut side = Side::new(alloc, Mode::Basic).ok()?;
+    let coming = first_other(alloc, &mut side, &COMES_UP);
+    Some([coming, first_other(alloc, &mut side, steps)])
 }
 
 #[test]
-fn keeps_the_latest_statuses(rt: HostRuntime) -> Result<(), Fail> {
-    let mut side = Side::new(rt.alloc(), Mode::Cyclic)?;
+fn exchanges_units(rt: HostRuntime) {
+    let well = Some([None; 2]);
+    assert_eq!(rt; first_others(rt.alloc(), &LOSES_ONE_EACH_WAY), well);
+    assert_eq!(rt; first_others(rt.alloc(), &HAS_FAULTS), well);
+    assert_eq!(rt; first_others(rt.alloc(), &IS_CONGESTED), well);
+}
+
+/// Whether the next reports are that the link went down for each of these reasons, and then there is none.
+fn reports_down(side: &mut Side, first: i32, end: i32) -> bool {
+    for reason in first..end {
+        if side.report() != Some(Report::Status(LinkStatus::Down(reason))) {
+            return false;
+        }
+    }
+    side.report().is_none()
+}
+
+/// Whether of seventy statuses the latest 64 are kept; nothing where there is no side.
+fn keeps_latest(alloc: Global) -> Option<bool> {
+    let mut side = Side::new(alloc, Mode::Cyclic).ok()?;
     for reason in 0..70 {
         side.on_signal(EnvSignal::Down(reason));
     }
-    for reason in 6..70 {
-        take(&rt, &mut side, Step::Report(LinkStatus::Down(reason)))?;
+    Some(reports_down(&mut side, 6, 70))
+}
+
+#[test]
+fn keeps_the_latest_statuses(rt: HostRuntime) {
+    assert_eq!(rt; keeps_latest(rt.alloc()), Some(true));
+}
+
+/// A side; where memory is refused once, one that is asked for again.
+fn made(alloc: Global) -> Option<Side> {
+    match Side::new(alloc, Mode::Basic) {
+        Ok(side) => Some(side),
+        Err(_) => Side::new(alloc, Mode::Basic).ok(),
     }
-    take(&rt, &mut side, Step::Rest)
+}
+
+/// How many messages are handed out.
+fn handed(side: &mut Side) -> Result<usize, RetrieveError> {
+    match side.retrieve(Some(127)) {
+        Ok(messages) => Ok(messages.len()),
+        Err(error) => Err(error),
+    }
+}
+
+/// The same; where memory is refused once and one is kept, when they are asked for again.
+fn handed_at_last(side: &mut Side) -> Option<usize> {
+    match handed(side) {
+        Ok(count) => Some(count),
+        Err(RetrieveError::NoMemory) if side.held() == 1 => handed(side).ok(),
+        Err(_) => None,
+    }
+}
+
+/// How many messages a side hands out that took one, and how many it keeps then.
+fn hands_out(alloc: Global) -> Option<(usize, usize)> {
+    let mut side = made(alloc)?;
+    side.put_diverted(message(7)).ok()?;
+    let count = handed_at_last(&mut side)?;
+    Some((count, side.held()))
 }
 
 /// Where memory is refused nothing has changed, and the next call succeeds.
 #[test]
-fn keeps_all_where_memory_is_refused(rt: HostRuntime) -> Result<(), Fail> {
-    let mut side = match Side::new(rt.alloc(), Mode::Basic) {
-        Ok(side) => side,
-        Err(_) => Side::new(rt.alloc(), Mode::Basic)?,
-    };
-    side.put_diverted(message(7))?;
-    let messages = match side.retrieve(Some(127)) {
-        Ok(messages) => messages,
-        Err(error) => {
-            assert_eq!(rt; (error, side.held()), (RetrieveError::NoMemory, 1));
-            side.retrieve(Some(127))?
-        }
-    };
-    assert_eq!(rt; (messages.len(), side.held()), (1, 0));
-    Ok(())
+fn keeps_all_where_memory_is_refused(rt: HostRuntime) {
+    assert_eq!(rt; hands_out(rt.alloc()), Some((1, 0)));
 }

@@ -1,9 +1,8 @@
 //! Texts with the tokens and faults that the lexical rules give them.
-use sdl_lex::{LexFault, Lexeme, Name, Symbol, Token, Word, line_of, tokens};
-use std::alloc::Global;
+use sdl_lex::{LexFault, Name, Token, line_of, tokens};
+use std::alloc::{AllocError, Global};
 use std::collections::HashMap;
 use std::str;
-use std::test::Fail;
 
 const COUNTER: &str = "BLOCK B; SIGNAL Up(Integer);
 SIGNALROUTE r FROM ENV TO P WITH Up;
@@ -19,222 +18,277 @@ PROCESS P ( 1 , 1 ) ; DCL n , total Integer ; START ; TASK total := 0 ; NEXTSTAT
 STATE Run ; INPUT Up ( n ) ; TASK total := total + n ; NEXTSTATE Run ; \
 ENDSTATE Run ; ENDPROCESS P ; ENDBLOCK B ;";
 
-fn lexemes(alloc: Global, text: &str) -> Result<Vec<Lexeme>, LexFault> {
-    let mut found = Vec::new(alloc);
-    for token in tokens(alloc, text)? {
-        found.push(token.lexeme)?;
-    }
-    Ok(found)
+/// Whether a token stands where a piece of a text does.
+fn is_piece(text: &str, token: &Token, piece: &str) -> bool {
+    text.as_bytes()
+        .get(token.start as usize..token.end as usize)
+        == Some(piece.as_bytes())
 }
 
-fn name(spelling: &str) -> Option<Lexeme> {
-    Some(Lexeme::Name(Name::new(spelling.as_bytes())?))
-}
-
-#[test]
-fn counter_text(rt: HostRuntime) -> Result<(), Fail> {
-    let found = tokens(rt.alloc(), COUNTER)?;
-    let bytes = COUNTER.as_bytes();
+/// Whether these tokens stand where those pieces do, and no other does.
+fn are_pieces(text: &str, found: &[Token], pieces: &str) -> bool {
     let mut places = found.iter();
-    for piece in CUT.split(' ') {
-        let token = places.next().ok_or("a token is missing")?;
-        let slice = bytes.get(token.start as usize..token.end as usize);
-        assert_eq!(rt; slice.ok_or("a place past the end")?, piece.as_bytes());
+    for piece in pieces.split(' ') {
+        match places.next() {
+            Some(token) if is_piece(text, token, piece) => {}
+            _ => return false,
+        }
     }
-    assert!(rt; places.next().is_none());
-    let first = found
-        .iter()
-        .map(|t| t.lexeme)
-        .take(7)
-        .collect::<Vec<_>>(rt.alloc())?;
-    let want = [
-        Lexeme::Word(Word::Block),
-        name("B").ok_or("B")?,
-        Lexeme::Symbol(Symbol::Semicolon),
-        Lexeme::Word(Word::Signal),
-        name("Up").ok_or("Up")?,
-        Lexeme::Symbol(Symbol::Open),
-        Lexeme::Word(Word::Integer),
-    ];
-    assert_eq!(rt; first.as_slice(), want.as_slice());
-    Ok(())
+    places.next().is_none()
+}
+
+/// Whether a text is cut so.
+fn is_cut(alloc: Global, text: &str, pieces: &str) -> bool {
+    match tokens(alloc, text) {
+        Ok(found) => are_pieces(text, found.as_slice(), pieces),
+        Err(_) => false,
+    }
 }
 
 #[test]
-fn symbols(rt: HostRuntime) -> Result<(), Fail> {
-    let all = [
-        Symbol::Semicolon,
-        Symbol::Comma,
-        Symbol::Colon,
-        Symbol::Assign,
-        Symbol::Open,
-        Symbol::Close,
-        Symbol::Plus,
-        Symbol::Minus,
-        Symbol::Star,
-        Symbol::Slash,
-        Symbol::Equal,
-        Symbol::NotEqual,
-        Symbol::Less,
-        Symbol::LessEqual,
-        Symbol::Greater,
-        Symbol::GreaterEqual,
-        // `*/` outside a comment, and a colon that a space parts from its `=`
-        Symbol::Star,
-        Symbol::Slash,
-        Symbol::Colon,
-        Symbol::Equal,
-    ];
-    let text = ";,::=()+-*/ =/=<<=>>=/**/*/: /* :=\n /* ' é **/=";
-    let found = lexemes(rt.alloc(), text)?;
-    assert_eq!(rt; found.len(), all.len());
-    for (lexeme, symbol) in found.iter().zip(all) {
-        assert_eq!(rt; *lexeme, Lexeme::Symbol(symbol));
-    }
-    Ok(())
+fn counter_text(rt: HostRuntime) {
+    assert!(rt; is_cut(rt.alloc(), COUNTER, CUT));
 }
 
-#[test]
-fn numbers_and_names(rt: HostRuntime) -> Result<(), Fail> {
-    let found = lexemes(
-        rt.alloc(),
+/// Texts, and what `Debug` shows of their lexemes, without places.
+const LEXEMES: [(&str, &str); 4] = [
+    (
+        "BLOCK B; SIGNAL Up(Integer",
+        "[Word(Block), Name(\"B\"), Symbol(Semicolon), Word(Signal), Name(\"Up\"), Symbol(Open), Word(Integer)]",
+    ),
+    // `*/` outside a comment, and a colon that a space parts from its `=`
+    (
+        ";,::=()+-*/ =/=<<=>>=/**/*/: /* :=\n /* ' é **/=",
+        "[Symbol(Semicolon), Symbol(Comma), Symbol(Colon), Symbol(Assign), Symbol(Open), Symbol(Close), Symbol(Plus), \
+Symbol(Minus), Symbol(Star), Symbol(Slash), Symbol(Equal), Symbol(NotEqual), Symbol(Less), Symbol(LessEqual), \
+Symbol(Greater), Symbol(GreaterEqual), Symbol(Star), Symbol(Slash), Symbol(Colon), Symbol(Equal)]",
+    ),
+    (
         "12abc 007 2147483647 00002147483647 eNdBlOcK ENDBLOCKS x_9",
-    )?;
-    let want = [
-        Lexeme::Number(12),
-        name("abc").ok_or("abc")?,
-        Lexeme::Number(7),
-        Lexeme::Number(2_147_483_647),
-        Lexeme::Number(2_147_483_647),
-        Lexeme::Word(Word::EndBlock),
-        name("ENDBLOCKS").ok_or("ENDBLOCKS")?,
-        name("x_9").ok_or("x_9")?,
-    ];
-    assert_eq!(rt; found.as_slice(), want.as_slice());
-    Ok(())
+        "[Number(12), Name(\"abc\"), Number(7), Number(2147483647), Number(2147483647), Word(EndBlock), \
+Name(\"ENDBLOCKS\"), Name(\"x_9\")]",
+    ),
+    (
+        "TASK 'a' 'b';'it''s /*';/* ' */;",
+        "[Word(Task), Quoted, Quoted, Symbol(Semicolon), Quoted, Symbol(Semicolon), Symbol(Semicolon)]",
+    ),
+];
+
+/// Texts, and what is shown of their tokens with places.
+const PLACES: [(&str, &str); 4] = [
+    ("''", "[Token { lexeme: Quoted, start: 0, end: 2 }]"),
+    (" 'a''b'", "[Token { lexeme: Quoted, start: 1, end: 7 }]"),
+    ("''''''", "[Token { lexeme: Quoted, start: 0, end: 6 }]"),
+    (
+        "'/*\n\u{e9} ? 2147483648'''",
+        "[Token { lexeme: Quoted, start: 0, end: 22 }]",
+    ),
+];
+
+/// What is shown of the tokens of a text.
+fn shown_tokens(alloc: Global, text: &str) -> Option<String> {
+    let found = tokens(alloc, text).ok()?;
+    format!(in alloc; "{:?}", found.as_slice()).ok()
 }
 
-#[test]
-fn quoted_texts(rt: HostRuntime) -> Result<(), Fail> {
-    let cases = [
-        ("''", 0, 2),
-        (" 'a''b'", 1, 7),
-        ("''''''", 0, 6),
-        ("'/*\n\u{e9} ? 2147483648'''", 0, 22),
-    ];
-    for (text, start, end) in cases {
-        let found = tokens(rt.alloc(), text)?;
-        let lexeme = Lexeme::Quoted;
-        let want = [Token { lexeme, start, end }];
-        assert_eq!(rt; found.as_slice(), want.as_slice(), "at {text}");
+/// What is shown of their lexemes.
+fn shown_lexemes(alloc: Global, text: &str) -> Option<String> {
+    let found = tokens(alloc, text).ok()?;
+    let mut lexemes = Vec::new(alloc);
+    for token in &found {
+        lexemes.push(token.lexeme).ok()?;
     }
-    Ok(())
+    format!(in alloc; "{:?}", lexemes.as_slice()).ok()
+}
+
+/// Whether that is shown.
+fn is_text(shown: Option<String>, wanted: &str) -> bool {
+    match shown {
+        Some(found) => found.as_str() == wanted,
+        None => false,
+    }
+}
+
+/// The number of the first text with other lexemes.
+fn first_other_lexemes(alloc: Global, rows: &[(&str, &str)]) -> Option<usize> {
+    for (number, (text, wanted)) in rows.iter().enumerate() {
+        if !is_text(shown_lexemes(alloc, text), wanted) {
+            return Some(number);
+        }
+    }
+    None
+}
+
+/// The number of the first text with other tokens.
+fn first_other_tokens(alloc: Global, rows: &[(&str, &str)]) -> Option<usize> {
+    for (number, (text, wanted)) in rows.iter().enumerate() {
+        if !is_text(shown_tokens(alloc, text), wanted) {
+            return Some(number);
+        }
+    }
+    None
 }
 
 #[test]
-fn quoted_texts_among_others(rt: HostRuntime) -> Result<(), Fail> {
-    let found = lexemes(rt.alloc(), "TASK 'a' 'b';'it''s /*';/* ' */;")?;
-    let want = [
-        Lexeme::Word(Word::Task),
-        Lexeme::Quoted,
-        Lexeme::Quoted,
-        Lexeme::Symbol(Symbol::Semicolon),
-        Lexeme::Quoted,
-        Lexeme::Symbol(Symbol::Semicolon),
-        Lexeme::Symbol(Symbol::Semicolon),
-    ];
-    assert_eq!(rt; found.as_slice(), want.as_slice());
-    Ok(())
+fn lexemes_and_places(rt: HostRuntime) {
+    assert_eq!(rt; first_other_lexemes(rt.alloc(), &LEXEMES), None);
+    assert_eq!(rt; first_other_tokens(rt.alloc(), &PLACES), None);
+}
+
+/// Texts and their faults; the longest name has none.
+const REFUSED: [(&str, Option<LexFault>); 17] = [
+    ("x := 'a;", Some(LexFault::OpenComment(5))),
+    ("'''", Some(LexFault::OpenComment(0))),
+    ("'a''' /* ' */ 'b''", Some(LexFault::OpenComment(14))),
+    ("/* ' */ ? '", Some(LexFault::BadCharacter(8))),
+    ("x _y", Some(LexFault::BadCharacter(2))),
+    ("\u{feff}BLOCK", Some(LexFault::BadCharacter(0))),
+    ("a é", Some(LexFault::BadCharacter(2))),
+    ("a\u{c}", Some(LexFault::BadCharacter(1))),
+    ("a /*/", Some(LexFault::OpenComment(2))),
+    ("a /* * / 2147483648 ?", Some(LexFault::OpenComment(2))),
+    ("/* a */ /*", Some(LexFault::OpenComment(8))),
+    ("2147483648", Some(LexFault::TooLong(0))),
+    ("-2147483648", Some(LexFault::TooLong(1))),
+    ("a 99999999999999999999999999", Some(LexFault::TooLong(2))),
+    (
+        " aaaaaaaaaabbbbbbbbbbcccccccccc123 ?",
+        Some(LexFault::TooLong(1)),
+    ),
+    ("? 2147483648", Some(LexFault::BadCharacter(0))),
+    ("aaaaaaaaaabbbbbbbbbbcccccccccc12", None),
+];
+
+/// The number of the first text with another fault.
+fn first_other_fault(alloc: Global, rows: &[(&str, Option<LexFault>)]) -> Option<usize> {
+    for (number, (text, fault)) in rows.iter().enumerate() {
+        if tokens(alloc, text).err() != *fault {
+            return Some(number);
+        }
+    }
+    None
 }
 
 #[test]
 fn faults(rt: HostRuntime) {
-    let cases = [
-        ("x := 'a;", LexFault::OpenComment(5)),
-        ("'''", LexFault::OpenComment(0)),
-        ("'a''' /* ' */ 'b''", LexFault::OpenComment(14)),
-        ("/* ' */ ? '", LexFault::BadCharacter(8)),
-        ("x _y", LexFault::BadCharacter(2)),
-        ("\u{feff}BLOCK", LexFault::BadCharacter(0)),
-        ("a é", LexFault::BadCharacter(2)),
-        ("a\u{c}", LexFault::BadCharacter(1)),
-        ("a /*/", LexFault::OpenComment(2)),
-        ("a /* * / 2147483648 ?", LexFault::OpenComment(2)),
-        ("/* a */ /*", LexFault::OpenComment(8)),
-        ("2147483648", LexFault::TooLong(0)),
-        ("-2147483648", LexFault::TooLong(1)),
-        ("a 99999999999999999999999999", LexFault::TooLong(2)),
-        (" aaaaaaaaaabbbbbbbbbbcccccccccc123 ?", LexFault::TooLong(1)),
-        ("? 2147483648", LexFault::BadCharacter(0)),
-    ];
-    for (text, want) in cases {
-        assert_eq!(rt; tokens(rt.alloc(), text).err(), Some(want), "at {text}");
+    assert_eq!(rt; first_other_fault(rt.alloc(), &REFUSED), None);
+}
+
+/// So many bytes: one that is set apart, and spaces.
+fn spaces(alloc: Global, first: u8, count: usize) -> Option<Vec<u8>> {
+    let mut bytes = Vec::from_elem(alloc, b' ', count).ok()?;
+    match bytes.first_mut() {
+        Some(byte) => *byte = first,
+        None => return None,
     }
-    let longest = tokens(rt.alloc(), "aaaaaaaaaabbbbbbbbbbcccccccccc12");
-    assert!(rt; longest.is_ok());
+    Some(bytes)
+}
+
+/// How many tokens these bytes have as a text, or the fault.
+fn counted(alloc: Global, bytes: &[u8]) -> Option<Result<usize, LexFault>> {
+    match tokens(alloc, str::from_utf8(bytes).ok()?) {
+        Ok(found) => Some(Ok(found.len())),
+        Err(fault) => Some(Err(fault)),
+    }
+}
+
+/// The same of a byte and spaces behind it.
+fn counted_long(alloc: Global, first: u8, count: usize) -> Option<Result<usize, LexFault>> {
+    let bytes = spaces(alloc, first, count)?;
+    counted(alloc, bytes.as_slice())
 }
 
 #[test]
-fn over_long_text(rt: HostRuntime) -> Result<(), Fail> {
-    let mut bytes = vec![in rt.alloc(); b' '; 262_145]?;
-    bytes[0] = b'?';
-    let long = tokens(rt.alloc(), str::from_utf8(&bytes)?);
-    assert_eq!(rt; long.err(), Some(LexFault::TooLong(262_144)));
-    bytes.truncate(262_144);
-    let bad = tokens(rt.alloc(), str::from_utf8(&bytes)?);
-    assert_eq!(rt; bad.err(), Some(LexFault::BadCharacter(0)));
-    assert!(rt; bytes.len() > 0);
-    bytes[0] = b';';
-    let whole = tokens(rt.alloc(), str::from_utf8(&bytes)?)?;
-    assert_eq!(rt; whole.len(), 1);
-    Ok(())
+fn over_long_text(rt: HostRuntime) {
+    let long = counted_long(rt.alloc(), b'?', 262_145);
+    assert_eq!(rt; long, Some(Err(LexFault::TooLong(262_144))));
+    let bad = counted_long(rt.alloc(), b'?', 262_144);
+    assert_eq!(rt; bad, Some(Err(LexFault::BadCharacter(0))));
+    let whole = counted_long(rt.alloc(), b';', 262_144);
+    assert_eq!(rt; whole, Some(Ok(1)));
+}
+
+/// Places of a text, and their lines.
+const PLACED: [(u32, usize); 7] = [(0, 1), (2, 1), (3, 2), (5, 2), (7, 3), (8, 4), (99, 4)];
+
+/// The first place with another line.
+fn first_other_line(text: &str, rows: &[(u32, usize)]) -> Option<u32> {
+    for (place, line) in rows {
+        if line_of(text, *place) != *line {
+            return Some(*place);
+        }
+    }
+    None
 }
 
 #[test]
 fn lines(rt: HostRuntime) {
-    let text = "a\r\nb\rc\n\nd";
-    for (place, line) in [(0, 1), (2, 1), (3, 2), (5, 2), (7, 3), (8, 4), (99, 4)] {
-        assert_eq!(rt; line_of(text, place), line, "at {place}");
-    }
+    assert_eq!(rt; first_other_line("a\r\nb\rc\n\nd", &PLACED), None);
 }
 
-#[test]
-fn names(rt: HostRuntime) -> Result<(), Fail> {
-    for wrong in [
-        "",
-        "9a",
-        "_a",
-        "a-b",
-        "é",
-        "aaaaaaaaaabbbbbbbbbbcccccccccc123",
-    ] {
-        assert!(rt; Name::new(wrong.as_bytes()).is_none());
+/// What is no name.
+const NAMELESS: [&str; 6] = [
+    "",
+    "9a",
+    "_a",
+    "a-b",
+    "é",
+    "aaaaaaaaaabbbbbbbbbbcccccccccc123",
+];
+
+/// The number of the first of these that is a name.
+fn first_name(texts: &[&str]) -> Option<usize> {
+    for (number, text) in texts.iter().enumerate() {
+        if Name::new(text.as_bytes()).is_some() {
+            return Some(number);
+        }
     }
-    let total = Name::new(b"Total_1").ok_or("Total_1")?;
-    let other = Name::new(b"tOTAL_1").ok_or("tOTAL_1")?;
-    assert!(rt; total != other);
-    assert_eq!(rt; total.folded(), other.folded());
-    assert_eq!(rt; other.folded().as_str(), "total_1");
-    let text = format!(in rt.alloc(); "{total} {total:?}")?;
-    assert_eq!(rt; text.as_str(), "Total_1 \"Total_1\"");
-    let mut table = HashMap::new(rt.alloc());
+    None
+}
+
+/// Whether two names that differ in case alone are unlike, the same where case doesn't count, and that is in small letters.
+fn are_folded(total: &Name, other: &Name) -> [bool; 3] {
+    [
+        total != other,
+        total.folded() == other.folded(),
+        other.folded().as_str() == "total_1",
+    ]
+}
+
+/// What a table has for a name and for another once the first was put in as 4, without its case.
+fn looked_up(alloc: Global, total: &Name, other: &Name) -> Result<[Option<u32>; 2], AllocError> {
+    let mut table = HashMap::new(alloc);
     table.insert(total.folded(), 4)?;
-    assert_eq!(rt; table.get(&other.folded()).copied(), Some(4));
-    assert_eq!(rt; table.get(&other).copied(), None);
-    Ok(())
+    Ok([
+        table.get(&other.folded()).copied(),
+        table.get(other).copied(),
+    ])
+}
+
+/// What is told of two names that differ in case alone.
+fn told(alloc: Global) -> Option<([bool; 3], [Option<u32>; 2], bool)> {
+    let total = Name::new(b"Total_1")?;
+    let other = Name::new(b"tOTAL_1")?;
+    let found = looked_up(alloc, &total, &other).ok()?;
+    let printed = format!(in alloc; "{total} {total:?}").ok();
+    let is_printed = is_text(printed, "Total_1 \"Total_1\"");
+    Some((are_folded(&total, &other), found, is_printed))
 }
 
 #[test]
-fn printed_faults(rt: HostRuntime) -> Result<(), Fail> {
-    let text = format!(in rt.alloc();
-        "{}, {}, {}",
-        LexFault::BadCharacter(7),
-        LexFault::OpenComment(0),
-        LexFault::TooLong(9)
-    )?;
-    assert_eq!(rt;
-        text.as_str(),
-        "L1 BadCharacter, L2 OpenComment, L3 TooLong"
-    );
-    Ok(())
+fn names(rt: HostRuntime) {
+    assert_eq!(rt; first_name(&NAMELESS), None);
+    assert_eq!(rt; told(rt.alloc()), Some(([true; 3], [Some(4), None], true)));
+}
+
+/// The three faults as they are printed.
+fn printed_faults(alloc: Global) -> Option<String> {
+    let (character, comment) = (LexFault::BadCharacter(7), LexFault::OpenComment(0));
+    format!(in alloc; "{character}, {comment}, {}", LexFault::TooLong(9)).ok()
+}
+
+#[test]
+fn faults_are_printed(rt: HostRuntime) {
+    let wanted = "L1 BadCharacter, L2 OpenComment, L3 TooLong";
+    assert!(rt; is_text(printed_faults(rt.alloc()), wanted));
 }

@@ -1,5 +1,6 @@
+//! Units by hand: their octets, how they are printed and refused.
 use arrayvec::ArrayVec;
-use std::test::Fail;
+use std::alloc::Global;
 use su_octets::{Head, Unit, UnitFault, check_bits, decode, encode};
 
 /// The head of a link that was just switched on.
@@ -54,15 +55,32 @@ const UNITS: [(&[u8], &str); 5] = [
     ),
 ];
 
-#[test]
-fn known_units(rt: HostRuntime) -> Result<(), Fail> {
-    for (octets, text) in UNITS {
-        let unit = decode(octets)?;
-        assert_eq!(rt; format!(in rt.alloc(); "{unit}")?.as_str(), text);
+/// Whether the unit of these octets is printed so.
+fn is_printed(alloc: Global, octets: &[u8], text: &str) -> Option<bool> {
+    let unit = decode(octets).ok()?;
+    let printed = format!(in alloc; "{unit}").ok()?;
+    Some(printed.as_str() == text)
+}
+
+/// The number of the first unit that is printed otherwise.
+fn first_other_unit(alloc: Global, rows: &[(&[u8], &str)]) -> Option<usize> {
+    for (number, (octets, text)) in rows.iter().enumerate() {
+        if is_printed(alloc, octets, text) != Some(true) {
+            return Some(number);
+        }
     }
-    let lssu = decode(&[0xff, 0xff, 0x01, 0x03, 0xbc, 0xd4])?;
-    assert_eq!(rt; lssu.status_code(), Some(3));
-    Ok(())
+    None
+}
+
+/// The status code of the unit of these octets.
+fn status(octets: &[u8]) -> Option<u8> {
+    decode(octets).ok()?.status_code()
+}
+
+#[test]
+fn known_units(rt: HostRuntime) {
+    assert_eq!(rt; first_other_unit(rt.alloc(), &UNITS), None);
+    assert_eq!(rt; status(&[0xff, 0xff, 0x01, 0x03, 0xbc, 0xd4]), Some(3));
 }
 
 /// Refused octets, and how they are refused.
@@ -86,27 +104,58 @@ const REFUSED: [(&[u8], UnitFault, &str); 5] = [
     ),
 ];
 
-#[test]
-fn known_refusals(rt: HostRuntime) -> Result<(), Fail> {
-    for (octets, fault, text) in REFUSED {
-        assert_eq!(rt; decode(octets).err(), Some(fault), "{text}");
-        assert_eq!(rt; format!(in rt.alloc(); "{fault}")?.as_str(), text);
+/// Whether octets are refused so, and that is printed so.
+fn is_refused(alloc: Global, octets: &[u8], fault: UnitFault, text: &str) -> bool {
+    let is_that = decode(octets).err() == Some(fault);
+    match format!(in alloc; "{fault}") {
+        Ok(printed) => is_that && printed.as_str() == text,
+        Err(_) => false,
     }
-    Ok(())
+}
+
+/// The number of the first octets that are refused otherwise.
+fn first_other_refusal(alloc: Global, rows: &[(&[u8], UnitFault, &str)]) -> Option<usize> {
+    for (number, (octets, fault, text)) in rows.iter().enumerate() {
+        if !is_refused(alloc, octets, *fault, text) {
+            return Some(number);
+        }
+    }
+    None
+}
+
+#[test]
+fn known_refusals(rt: HostRuntime) {
+    assert_eq!(rt; first_other_refusal(rt.alloc(), &REFUSED), None);
+}
+
+/// How many octets a message with so long a field has, its length indicator, and whether the octets are read as that message.
+fn encoded(field: usize) -> Option<(usize, Option<u8>, bool)> {
+    let unit = message(field);
+    if !unit.whole() {
+        return None;
+    }
+    let mut sent = ArrayVec::new();
+    encode(&unit, &mut sent);
+    let indicator = sent.as_slice().get(2).copied();
+    Some((sent.len(), indicator, decode(sent.as_slice()) == Ok(unit)))
+}
+
+/// The length of a field, of the octets, and the length indicator.
+const LENGTHS: [(usize, usize, u8); 4] = [(2, 8, 3), (61, 67, 62), (62, 68, 63), (272, 278, 63)];
+
+/// The number of the first row that isn't so.
+fn first_other_length(rows: &[(usize, usize, u8)]) -> Option<usize> {
+    for (number, (field, octets, indicator)) in rows.iter().enumerate() {
+        if encoded(*field) != Some((*octets, Some(*indicator), true)) {
+            return Some(number);
+        }
+    }
+    None
 }
 
 /// The length indicator stays at 63 from 63 octets on.
 #[test]
-fn known_lengths(rt: HostRuntime) -> Result<(), Fail> {
-    for (field, octets, indicator) in [(2, 8, 3), (61, 67, 62), (62, 68, 63), (272, 278, 63)] {
-        let unit = message(field);
-        assert!(rt; unit.whole());
-        let mut sent = ArrayVec::new();
-        encode(&unit, &mut sent);
-        assert_eq!(rt; sent.len(), octets);
-        assert_eq!(rt; sent.as_slice().get(2).copied(), Some(indicator));
-        assert!(rt; decode(sent.as_slice()) == Ok(unit));
-    }
-    assert!(rt; !message(1).whole());
-    Ok(())
+fn known_lengths(rt: HostRuntime) {
+    assert_eq!(rt; first_other_length(&LENGTHS), None);
+    assert_eq!(rt; encoded(1), None);
 }

@@ -84,12 +84,18 @@ fn read(rt: &impl Clock, line: &[u8], rounds: u32, service: &mut Service) -> Res
     Ok(rate(octets_of(line, rounds), since(rt, start)?))
 }
 
-/// How many events a line has.
+/// How many events a line has, taken up to each of them, as a terminal takes it.
 fn events(line: &[u8]) -> u64 {
     let mut deframer = Deframer::new();
     let mut events = 0u64;
-    for octet in line {
-        events = events.saturating_add(deframer.feed_byte(*octet).len() as u64);
+    let mut rest = line;
+    for _ in 0..line.len() {
+        if rest.is_empty() {
+            break;
+        }
+        let (taken, given) = deframer.feed_until(rest);
+        events = events.saturating_add(given.len() as u64);
+        rest = &rest[taken..];
     }
     events
 }

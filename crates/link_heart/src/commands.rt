@@ -14,9 +14,9 @@ pub enum Command {
     Start,
     /// It is to go out of service.
     Stop,
-    /// It is to be aligned in the emergency way, now and from then on.
+    /// It is to be aligned in the emergency way: heard while it is out of service or being aligned, and forgotten as it goes down.
     Emergency,
-    /// It is to be aligned in the normal way again.
+    /// No longer so, from the next start on: an alignment that is under way stays urgent.
     Calm,
     /// This side's processor is out.
     Outage,

@@ -1,6 +1,7 @@
 -- What a turn does to its link as it ends (Z.100, output, set, reset, stop).
 use Rattle.std.specs.Prelude.{ℕ, zero, suc, ◌+◌, ◌==◌, ℤ, pos, negsuc, Bool, List, [], ◌∷◌, ◌++◌, length, max, nat_lt, Option, None, Some, option_to_list, slice_get, if◌then◌else◌}
 use Rattle.std.specs.FinMap as map
+use Rattle.profile_limits.specs.Limits.{MOST_TIMERS_EACH}
 use Rattle.turn_code.specs.Outcome.{Outcome}
 use Rattle.turn_code.specs.declared.input.Party.{Party}
 use Rattle.turn_code.specs.declared.input.Party.TheVariants.{Environment, Process}
@@ -89,9 +90,9 @@ abbrev pub without_first_timers : Timers → ℕ → ℕ → Timers
 without_first_timers ts n zero = ts
 without_first_timers ts n (suc k) = without (without_first_timers ts n k) n k
 
--- without all timers of process n, which has 8 at most
+-- without all timers that process n may have
 unfoldable pub without_timers : Timers → ℕ → Timers
-without_timers ts n = without_first_timers ts n 8
+without_timers ts n = without_first_timers ts n MOST_TIMERS_EACH
 
 -- ---- one effect of a turn of actor n
 

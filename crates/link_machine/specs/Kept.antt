@@ -1,6 +1,7 @@
 -- What holds of every book: its state is the replay of its journal, all fits in each state on the way, and its numbers stay within their bounds.
-use Rattle.std.specs.Prelude.{◌≡◌, ℕ, ◌+◌, ◌*◌, ◌^◌, ◌<◌, ◌≤◌, Bool, true, false, List, [], ◌∷◌, length, map, count_by, None, Some, slice_get}
+use Rattle.std.specs.Prelude.{◌≡◌, ℕ, ◌+◌, ◌*◌, ◌<◌, ◌≤◌, Bool, true, false, List, [], ◌∷◌, length, map, count_by, None, Some, slice_get}
 use Rattle.std.specs.FinMap as finite
+use Rattle.profile_limits.specs.Limits.{LAST_PLACE, LAST_TICK, MOST_INSTRUCTIONS, MOST_JOURNAL, MOST_TURNS_BEGUN}
 use Rattle.turn_code.specs.Valid.{IsValid}
 use Rattle.turn_code.specs.Start.{initial_values}
 use Rattle.turn_code.specs.declared.input.Place.TheVariants.{Start}
@@ -38,12 +39,12 @@ pub record Stands (b : Ledger) : Type 0 where
 -- the journal keeps a place for each turn that is out, each turn that began is out or has ended, and all numbers stay within their bounds
 pub record IsBounded (b : Ledger) (w : Core) : Type 0 where
   pub room : length b.journal + outs w.actors ≤ b.limit
-  pub places : b.first + length b.journal + outs w.actors ≤ 2 ^ 56 + b.limit
-  pub limit : b.limit ≤ 65536
-  pub turns : w.turns ≤ 2 ^ 40
+  pub places : b.first + length b.journal + outs w.actors ≤ LAST_PLACE + b.limit
+  pub limit : b.limit ≤ MOST_JOURNAL
+  pub turns : w.turns ≤ MOST_TURNS_BEGUN
   pub finishes : w.finishes + outs w.actors ≡ w.turns
-  pub instructions : w.instructions ≤ 512 * w.finishes
-  pub clock : w.timers.clock ≤ 2 ^ 62
+  pub instructions : w.instructions ≤ MOST_INSTRUCTIONS * w.finishes
+  pub clock : w.timers.clock ≤ LAST_TICK
 
 -- actor n has this turn out
 pub record HasOut (actors : List Actor) (n : ℕ) (g : Given) : Type 0 where

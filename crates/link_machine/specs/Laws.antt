@@ -1,5 +1,6 @@
 -- What follows from the machine alone, for every book and every list of events.
-use Rattle.std.specs.Prelude.{◌≡◌, ◌≢◌, ℕ, ◌+◌, ◌^◌, ◌<◌, ◌≤◌, ◌↔◌, List, [], ◌∷◌, None, Some, slice_get}
+use Rattle.std.specs.Prelude.{◌≡◌, ◌≢◌, ℕ, ◌+◌, ◌<◌, ◌≤◌, ◌↔◌, List, [], ◌∷◌, None, Some, slice_get}
+use Rattle.profile_limits.specs.Limits.{MOST_JOURNAL, PAST_PLACES}
 use Rattle.turn_code.specs.Outcome.{Outcome, Meaning, Means}
 use Rattle.turn_code.specs.Transitions.{Transition, transition_at}
 use Rattle.turn_code.specs.Valid.{IsValid}
@@ -28,7 +29,7 @@ pub record KeepsLaw : Type 0 where
   pub asks : (b : Ledger) (e : Event) → IsKept b → IsKept (ask b e).book
   pub lists : (b : Ledger) (es : List Event) → IsKept b → IsKept (after_by (runs b.set) b es)
   pub rebases : (b : Ledger) → IsKept b → IsKept (rebased b)
-  pub opens : (d : Draft) (port env journal : ℕ) → IsValid d → journal ≤ 65536 → IsKept (opened_book d port env journal)
+  pub opens : (d : Draft) (port env journal : ℕ) → IsValid d → journal ≤ MOST_JOURNAL → IsKept (opened_book d port env journal)
 
 -- no event and no rebase changes the set of processes, or how many events the journal may hold
 pub record SetLaw : Type 0 where
@@ -115,7 +116,7 @@ pub record PlaceLaw : Type 0 where
   pub stays : (b : Ledger) (es : List Event) (place : ℕ) (e : Event) → event_at b place ≡ Some e → event_at (after_by (runs b.set) b es) place ≡ Some e
   pub emptied : (b : Ledger) (place : ℕ) → event_at (rebased b) place ≡ None
   pub onward : (b : Ledger) → next (rebased b) ≡ next b
-  pub below : (b : Ledger) → IsKept b → next b < 2 ^ 57
+  pub below : (b : Ledger) → IsKept b → next b < PAST_PLACES
 
 abbrev pub IsSaid : Answer → Type 0
 IsSaid Stuck = ⊥

@@ -1,5 +1,6 @@
 -- The history of a link: a base state, and the events since then. The state at any time is the replay of these.
-use Rattle.std.specs.Prelude.{ℕ, ◌+◌, ◌-◌, ◌^◌, List, [], ◌∷◌, ◌++◌, length, Option, None, Some, slice_get, nat_lt, nat_le, if◌then◌else◌}
+use Rattle.std.specs.Prelude.{ℕ, ◌+◌, ◌-◌, List, [], ◌∷◌, ◌++◌, length, Option, None, Some, slice_get, nat_lt, nat_le, if◌then◌else◌}
+use Rattle.profile_limits.specs.Limits.{LAST_PLACE}
 use Rattle.turn_code.specs.Outcome.{Outcome, Meaning, outcome_in}
 use Rattle.turn_code.specs.Run.{run}
 use Rattle.turn_code.specs.Transitions.{Transition, transition_at}
@@ -60,9 +61,9 @@ next b = b.first + length b.journal
 abbrev pub event_at : Ledger → ℕ → Option Event
 event_at b place = if nat_lt place b.first then None else slice_get b.journal (place - b.first)
 
--- how many places are free: each turn that is out keeps one, and from place 2^56 on none is
+-- how many places are free: each turn that is out keeps one, and from a last place on none is
 unfoldable pub room : Ledger → Core → ℕ
-room b w = if nat_le (2 ^ 56) (next b) then 0 else b.limit - (length b.journal + outs w.actors)
+room b w = if nat_le LAST_PLACE (next b) then 0 else b.limit - (length b.journal + outs w.actors)
 
 abbrev pub refusal_by : Meaning → Ledger → Event → Option Refusal
 refusal_by m b e = refuses_in b.set (state_by m b) (room b (state_by m b)) e

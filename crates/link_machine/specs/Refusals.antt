@@ -1,6 +1,7 @@
 -- When an event is refused, and by which name. The rows of each call stand in the order in which they are tested; the room of the journal comes last.
-use Rattle.std.specs.Prelude.{ℕ, ◌+◌, ◌^◌, ◌==◌, Bool, true, false, not, ◌&&◌, List, [], ◌∷◌, length, map, Option, None, Some, slice_get, nat_lt, nat_le, if◌then◌else◌}
+use Rattle.std.specs.Prelude.{ℕ, ◌+◌, ◌==◌, Bool, true, false, not, ◌&&◌, List, [], ◌∷◌, length, map, Option, None, Some, slice_get, nat_lt, nat_le, if◌then◌else◌}
 use Rattle.std.specs.List.{list_any}
+use Rattle.profile_limits.specs.Limits.{LAST_TICK, MOST_TICKS, MOST_TURNS_BEGUN}
 use Rattle.turn_code.specs.Values.{sort_of}
 use Rattle.turn_code.specs.Transitions.{parameters_of}
 use Rattle.turn_code.specs.declared.value.Sort.{Sort}
@@ -88,7 +89,7 @@ is_ignored found.Ignored = true
 
 -- as many turns as can be counted have begun
 abbrev pub is_counted_out : ℕ → Bool
-is_counted_out turns = nat_le (2 ^ 40) turns
+is_counted_out turns = nat_le MOST_TURNS_BEGUN turns
 
 unfoldable pub begin_rows : Draft → ℕ → ℕ → Actor → List (Bool × Refusal)
 begin_rows d n turns a =
@@ -112,7 +113,7 @@ finish_row (Some a) = if is_out a then None else Some Stranger
 -- ---- the clock and the environment
 
 unfoldable pub advance_rows : ℕ → ℕ → List (Bool × Refusal)
-advance_rows clock ticks = (nat_lt 65535 ticks, TooFar) ∷ (nat_lt (2 ^ 62) (clock + ticks), ClockFull) ∷ []
+advance_rows clock ticks = (nat_lt MOST_TICKS ticks, TooFar) ∷ (nat_lt LAST_TICK (clock + ticks), ClockFull) ∷ []
 
 abbrev pub empty_row : Ring → Option Refusal
 empty_row r = if length r.items == 0 then Some Empty else None

@@ -10,7 +10,7 @@ ghost use Rattle.link_side.specs.Limits.{KEPT_MESSAGES};
 ghost use Rattle.link_side.specs.Reporting.{reported};
 
 use crate::faults::LastThree;
-use crate::signals::{EnvSignal, LineKind, LinkStatus, MESSAGES, Report, STATUSES};
+use crate::signals::{BUSY, EnvSignal, LineKind, LinkStatus, MESSAGES, Report, STATUSES};
 use kept_queue::KeptQueue;
 use resend_store::{Mode, Msu, PutError, Receiver, RetrieveError, Sender};
 use std::alloc::{AllocError, Global};
@@ -170,7 +170,7 @@ impl Side {
     pub fn has_room(&self) -> bool
         ensures { IsTrue result ↔ (length self.now.messages < KEPT_MESSAGES) }
     {
-        self.messages.len() < MESSAGES
+        !self.messages.is_full()
     }
 
     /// What is to be handed out next: messages first, then what was told of the link, each in order.
@@ -260,7 +260,7 @@ fn keep_latest(statuses: &mut KeptQueue<LinkStatus, STATUSES>, status: LinkStatu
 fn is_busy(number: i32) -> bool
     ensures { result ≡ is_busy_named number }
 {
-    number == 5
+    number == i32::from(BUSY)
 }
 
 /// What the number says is to go out.

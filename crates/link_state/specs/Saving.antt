@@ -1,15 +1,16 @@
 -- Signals and timers within the bounds of a set.
 use Rattle.std.specs.Prelude.{ℕ, ◌<◌, Option, None, Some, option_map}
+use Rattle.profile_limits.specs.Limits.{MOST_SIGNALS, MOST_TIMERS_EACH}
 use Rattle.turn_code.specs.declared.draft.Draft.{Draft}
 use Rattle.turn_code.specs.declared.draft.Trigger.{Trigger}
 use Rattle.turn_code.specs.declared.draft.Trigger.TheVariants.{Signal, Timer}
 use Rattle.link_machine.specs.Looking.{trigger_of, item_at}
 use Rattle.link_machine.specs.declared.actor.Actor.{Actor}
 
--- one of 128 signals, or of 8 timers
+-- one of the signals, or of the timers, that there may be
 abbrev pub IsSmall : Trigger → Type 0
-IsSmall (Signal n) = n.0 < 128
-IsSmall (Timer n) = n.0 < 8
+IsSmall (Signal n) = n.0 < MOST_SIGNALS
+IsSmall (Timer n) = n.0 < MOST_TIMERS_EACH
 
 -- the signal or timer of the item that an actor would throw away
 abbrev pub skipped_by : Draft → ℕ → Option Actor → Option Trigger

@@ -73,8 +73,8 @@ pub(crate) fn forget_timer(actors: &mut [Actor], number: usize, timer: TimerNumb
     }
 }
 
-#[tactic(auto, using(crate::proofs::TimerItems::none_left))]
 /// The signal of a timer comes to an actor.
+#[tactic(auto, using(crate::proofs::TimerItems::none_left))]
 fn hear(actor: &mut Actor, timer: TimerNumber)
     requires { timer.0 < TIMERS }
     ensures { actor.new ≡ hears timer.0 actor.old }

@@ -4,23 +4,18 @@ ghost use Rattle.std.specs.Prelude.{◌≡◌, ◌≤◌, ◌<◌, ◌+◌, ◌^
 ghost use Rattle.link_machine.specs.Refusals.{advance_rows, first_of};
 ghost use Rattle.tick_wheel.specs.Timers.{due, not_due};
 ghost use Rattle.link_machine.specs.Step.{notified, passed, due_in};
+ghost use Rattle.profile_limits.specs.Limits.{LAST_TICK, MOST_TICKS};
 
 use crate::actors::notify;
 use crate::link::Link;
 use arrayvec::ArrayVec;
 use link_machine::{Actor, Refusal};
-use tick_wheel::{Due, TIMERS, Wheel};
+use tick_wheel::{Due, FARTHEST, LAST_CLOCK, TIMERS, Wheel};
 use turn_code::TimerNumber;
-
-/// The most ticks that may pass at once.
-const FARTHEST: u64 = 65_535;
-
-/// The last tick that a clock can show.
-const LAST_CLOCK: u64 = 1 << 62;
 
 /// Why so many ticks can't pass, if they can't.
 pub(crate) fn advance_refusal(clock: u64, ticks: u64) -> Option<Refusal>
-    requires { clock ≤ 2 ^ 62 }
+    requires { clock ≤ LAST_TICK }
     ensures { result ≡ first_of (advance_rows clock ticks) }
 {
     if ticks > FARTHEST {
@@ -44,8 +39,8 @@ fn notify_all(actors: &mut [Actor], due: &[Due])
 
 /// So many ticks pass. The timers that are due, in order.
 fn pass(wheel: &mut Wheel, ticks: u64) -> ArrayVec<Due, TIMERS>
-    requires near { ticks ≤ 65535 }
-    requires clock { wheel.old.clock + ticks ≤ 2 ^ 62 }
+    requires near { ticks ≤ MOST_TICKS }
+    requires clock { wheel.old.clock + ticks ≤ LAST_TICK }
     ensures clock { wheel.new.clock ≡ wheel.old.clock + ticks }
     ensures rest { wheel.new.deadlines ≡ not_due wheel.old.deadlines (wheel.old.clock + ticks) }
     ensures due { result.items ≡ due wheel.old.deadlines (wheel.old.clock + ticks) }
@@ -59,8 +54,8 @@ fn pass(wheel: &mut Wheel, ticks: u64) -> ArrayVec<Due, TIMERS>
 impl Link {
     /// So many ticks pass: the clock goes on, and the signals of the timers that are due come to the ports. How many are due.
     pub fn advance(&mut self, ticks: u64) -> usize
-        requires near { ticks ≤ 65535 }
-        requires clock { self.old.timers.clock + ticks ≤ 2 ^ 62 }
+        requires near { ticks ≤ MOST_TICKS }
+        requires clock { self.old.timers.clock + ticks ≤ LAST_TICK }
         ensures link { self.new ≡ passed ticks self.old }
         ensures due { result ≡ length (due_in self.old ticks) }
     {

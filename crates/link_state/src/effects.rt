@@ -5,20 +5,20 @@ ghost use Rattle.link_machine.specs.Core.{change};
 ghost use Rattle.link_machine.specs.Effects.{laid, laid_all, lost_by, losses, delivered, undelivered, drops, until, without, delay, ended, started, finished, lost_in, without_timers, without_first_timers, arrival_of, timers_after, settled};
 ghost use Rattle.link_machine.specs.Step.{report_of};
 ghost use Rattle.link_state.specs.Outcomes.{outcome_with, with_variables, HasTimer, HaveTimers};
+ghost use Rattle.profile_limits.specs.Limits.{MOST_EFFECTS, MOST_PROCESSES, MOST_TIMERS_EACH, MOST_TURNS_BEGUN};
 
 use crate::actors::{deliver, end_turn, forget_timer, refusal_of, settle_at};
 use crate::link::Link;
-use crate::ring::copied_values;
 use arrayvec::ArrayVec;
 use input_port::Arrival;
 use link_machine::{Cause, Emitted, Lost, Report};
 use tick_wheel::{Timer, Wheel};
-use turn_code::{Effect, End, Party, ProcessNumber, Sending, TimerNumber, Value};
+use turn_code::{Effect, End, Party, ProcessNumber, Sending, TimerNumber, Value, copied_values};
 
 impl Link {
     /// What one effect of a turn does.
     fn lay(&mut self, sender: u8, effect: &Effect)
-        requires process { sender < 16 }
+        requires process { sender < MOST_PROCESSES }
         requires timer { HasTimer effect.now }
         ensures { self.new ≡ laid sender self.old effect.now }
     {
@@ -49,8 +49,8 @@ impl Link {
 
     /// A timer waits anew, and its signal leaves the port.
     fn set(&mut self, sender: u8, timer: TimerNumber, ticks: i32)
-        requires process { sender < 16 }
-        requires timer { timer.0 < 8 }
+        requires process { sender < MOST_PROCESSES }
+        requires timer { timer.0 < MOST_TIMERS_EACH }
         ensures { self.new ≡ record self.old {
           actors = change self.old.actors sender (drops timer.0);
           timers = until self.old.timers sender timer.0 (delay ticks);
@@ -63,8 +63,8 @@ impl Link {
 
     /// A timer waits no longer, and its signal leaves the port.
     fn reset(&mut self, sender: u8, timer: TimerNumber)
-        requires process { sender < 16 }
-        requires timer { timer.0 < 8 }
+        requires process { sender < MOST_PROCESSES }
+        requires timer { timer.0 < MOST_TIMERS_EACH }
         ensures { self.new ≡ record self.old {
           actors = change self.old.actors sender (drops timer.0);
           timers = without self.old.timers sender timer.0;
@@ -105,9 +105,9 @@ impl Link {
 
     /// What the effects of a turn do, one after another. The outputs that nobody gets.
     fn lay_all(&mut self, sender: u8, effects: &[Effect]) -> ArrayVec<Lost, 32>
-        requires process { sender < 16 }
+        requires process { sender < MOST_PROCESSES }
         requires timers { HaveTimers effects.now }
-        requires few { length effects.now ≤ 32 }
+        requires few { length effects.now ≤ MOST_EFFECTS }
         ensures link { self.new ≡ laid_all sender self.old effects.now }
         ensures lost { result.items ≡ losses sender self.old 0 effects.now }
     {
@@ -131,10 +131,10 @@ impl Link {
         effects: &[Effect],
         count: u32,
     ) -> Report
-        requires process { actor < 16 }
+        requires process { actor < MOST_PROCESSES }
         requires timers { HaveTimers effects.now }
-        requires few { length effects.now ≤ 32 }
-        requires finishes { self.old.finishes < 2 ^ 40 }
+        requires few { length effects.now ≤ MOST_EFFECTS }
+        requires finishes { self.old.finishes < MOST_TURNS_BEGUN }
         requires instructions { self.old.instructions + count < 2 ^ 64 }
         ensures link { self.new ≡ finished actor (outcome_with end variables.items effects.now count) self.old }
         ensures report { result ≡ report_of actor (outcome_with end variables.items effects.now count) self.old }
@@ -147,7 +147,7 @@ impl Link {
 
     /// The actor gets the variables that its turn leaves, and the turn is counted.
     fn start(&mut self, actor: u8, variables: ArrayVec<Option<Value>, 32>, count: u32)
-        requires finishes { self.old.finishes < 2 ^ 40 }
+        requires finishes { self.old.finishes < MOST_TURNS_BEGUN }
         requires instructions { self.old.instructions + count < 2 ^ 64 }
         ensures { self.new ≡ record self.old {
           actors = change self.old.actors actor (with_variables variables.items);
@@ -162,7 +162,7 @@ impl Link {
 
     /// A turn ends: the next state comes, or a stop, which empties the port and resets the timers.
     fn end(&mut self, actor: u8, end: End)
-        requires { actor < 16 }
+        requires { actor < MOST_PROCESSES }
         ensures { self.new ≡ ended actor end self.old }
     {
         end_turn(&mut self.actors, usize::from(actor), end);
@@ -174,7 +174,7 @@ impl Link {
 
 /// All timers of a process wait no longer.
 fn reset_all(wheel: &mut Wheel, process: u8)
-    requires { process < 16 }
+    requires { process < MOST_PROCESSES }
     ensures { wheel.new ≡ without_timers wheel.old process }
 {
     for timer in 0..8u8 {

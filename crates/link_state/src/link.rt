@@ -5,6 +5,7 @@ ghost use Rattle.std.specs.Option.{option_copied};
 ghost use Rattle.link_machine.specs.Core.{outs};
 ghost use Rattle.link_machine.specs.declared.actor.Actor.{Actor as PlainActor};
 ghost use Rattle.link_machine.specs.declared.actor.Standing.{Standing as PlainStanding};
+ghost use Rattle.profile_limits.specs.Limits.{MOST_PROCESSES};
 
 use crate::actors::count_outs;
 use crate::ring::Ring;
@@ -29,6 +30,7 @@ impl Model for Link {
     ghost use Rattle.std.specs.Coded.{codes};
     ghost use Rattle.tick_wheel.specs.Timers.{timers_code};
     ghost use Rattle.link_machine.specs.Core.{Core};
+    ghost use Rattle.profile_limits.specs.Limits.{MOST_PROCESSES};
 
     ghost Value = { Core };
 
@@ -43,14 +45,14 @@ impl Model for Link {
       instructions = l.instructions;
     } };
 
-    ghost invariant = { λ l. length l.actors.items ≤ 16 };
+    ghost invariant = { λ l. length l.actors.items ≤ MOST_PROCESSES };
 }
 
 impl Link {
     /// The actors, by number. There are 16 at most.
     pub fn actors(&self) -> &[Actor]
         ensures value { result.now ≡ self.now.actors }
-        ensures few { length result.now ≤ 16 }
+        ensures few { length result.now ≤ MOST_PROCESSES }
     {
         self.actors.as_slice()
     }

@@ -2,43 +2,29 @@
 
 ghost use Rattle.std.specs.Prelude.{◌≡◌, ◌≤◌, ◌<◌, ◌+◌, [], length, map, IfOk};
 ghost use Rattle.std.specs.List.{AllByRecursion};
-ghost use Rattle.turn_code.specs.Start.{initial_values};
 ghost use Rattle.link_machine.specs.Kept.{opened, opened_actor};
 ghost use Rattle.link_state.specs.Opening.{HasFewVariables};
+ghost use Rattle.profile_limits.specs.Limits.{LEAST_PORT, MOST_PORT, MOST_PROCESSES};
 
 use crate::link::Link;
 use crate::ring::Ring;
-use crate::turn::copied_variables;
-use arrayvec::ArrayVec;
 use input_port::Port;
 use link_machine::{Actor, Given, Standing};
 use std::alloc::{AllocError, Global};
 use tick_wheel::Wheel;
-use turn_check::Verified;
-use turn_code::{DraftProcess, DraftVariable, Input, Place, Value};
-
-/// The initial values of variables.
-fn values_of(variables: &[DraftVariable]) -> ArrayVec<Option<Value>, 32>
-    requires { length variables.now ≤ 32 }
-    ensures { result.items ≡ initial_values variables.now }
-{
-    let mut values = ArrayVec::new();
-    for variable in variables {
-        values.push(variable.initial);
-    }
-    values
-}
+use turn_check::{Verified, initial_values_of};
+use turn_code::{DraftProcess, Place, copied_variables};
 
 /// An actor before its START, with a port for so many signals.
 fn opened_actor(alloc: Global, process: &DraftProcess, port: usize) -> Result<Actor, AllocError>
-    requires least { 1 ≤ port }
-    requires most { port ≤ 64 }
+    requires least { LEAST_PORT ≤ port }
+    requires most { port ≤ MOST_PORT }
     requires few { HasFewVariables process.now }
     ensures { IfOk result (λ actor. actor ≡ opened_actor port process.now) }
 {
     Ok(Actor {
         standing: Standing::At(Place::Start),
-        variables: values_of(process.variables.as_slice()),
+        variables: initial_values_of(process.variables.as_slice()),
         port: Port::new(alloc, port)?,
         given: None,
     })
@@ -76,8 +62,8 @@ fn opened_actors(
     processes: &[DraftProcess],
     port: usize,
 ) -> Result<Vec<Actor>, AllocError>
-    requires least { 1 ≤ port }
-    requires most { port ≤ 64 }
+    requires least { LEAST_PORT ≤ port }
+    requires most { port ≤ MOST_PORT }
     requires few { AllByRecursion HasFewVariables processes.now }
     ensures { IfOk result (λ actors. actors.items ≡ map (opened_actor port) processes.now) }
 {
@@ -103,7 +89,7 @@ fn copied_actors(alloc: Global, actors: &[Actor]) -> Result<Vec<Actor>, AllocErr
 fn processes_of(set: &Verified) -> &[DraftProcess]
     ensures value { result.now ≡ set.now.processes }
     ensures few { AllByRecursion HasFewVariables result.now }
-    ensures count { length result.now ≤ 16 }
+    ensures count { length result.now ≤ MOST_PROCESSES }
 {
     set.draft().processes.as_slice()
 }
@@ -112,8 +98,8 @@ impl Link {
     /// The link of a set as it begins: each process is an actor before its START, with a port for so many signals, and there is
     /// room for so many signals to the environment.
     pub fn open(alloc: Global, set: &Verified, port: usize, env: usize) -> Result<Link, AllocError>
-        requires least { 1 ≤ port }
-        requires most { port ≤ 64 }
+        requires least { LEAST_PORT ≤ port }
+        requires most { port ≤ MOST_PORT }
         ensures { IfOk result (λ link. link ≡ opened set.now port env) }
     {
         Ok(Link {

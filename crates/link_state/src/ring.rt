@@ -5,10 +5,10 @@ ghost use Rattle.link_machine.specs.Core.{Ring as Waiting};
 ghost use Rattle.link_machine.specs.Effects.{has_room, with_emitted};
 ghost use Rattle.link_machine.specs.Step.{tail_of};
 
-use arrayvec::ArrayVec;
 use link_machine::Emitted;
 use std::alloc::{AllocError, Global};
 use std::marker::Model;
+use turn_code::copied_values;
 
 /// Signals that actors sent to the environment, in the order in which they were sent, as many as there is room for.
 /// After `new` only `copy` takes memory.
@@ -108,16 +108,6 @@ pub(crate) fn copied(emitted: &Emitted) -> Emitted
         sender: emitted.sender,
         signal: emitted.signal,
         parameters: copied_values(&emitted.parameters),
-    }
-}
-
-/// The same values once more.
-pub(crate) fn copied_values(values: &ArrayVec<turn_code::Value, 4>) -> ArrayVec<turn_code::Value, 4>
-    ensures { result ≡ values.now }
-{
-    match ArrayVec::try_from(values.as_slice()) {
-        Ok(copy) => copy,
-        Err(_) => unreachable!(),
     }
 }
 

@@ -7,6 +7,7 @@ ghost use Rattle.link_machine.specs.Refusals.{begin_rows, skip_rows, first_of};
 ghost use Rattle.link_machine.specs.Looking.{trigger_of};
 ghost use Rattle.link_machine.specs.declared.actor.Actor.{Actor as PlainActor};
 ghost use Rattle.link_state.specs.Saving.{skipped_by};
+ghost use Rattle.profile_limits.specs.Limits.{MOST_TURNS_BEGUN};
 
 use crate::link::Link;
 use crate::look::{look, take, trigger_of};
@@ -14,7 +15,7 @@ use arrayvec::ArrayVec;
 use input_port::Item;
 use link_machine::{Actor, Found, Given, Refusal};
 use turn_check::Verified;
-use turn_code::{Input, Trigger, Value};
+use turn_code::{Input, Trigger, Value, copied_variables};
 
 /// How many turns can be counted.
 const TURNS: u64 = 1 << 40;
@@ -86,18 +87,6 @@ fn input_with(variables: &ArrayVec<Option<Value>, 32>, item: Option<Item>) -> In
     }
 }
 
-/// The variables once more.
-pub(crate) fn copied_variables(
-    variables: &ArrayVec<Option<Value>, 32>,
-) -> ArrayVec<Option<Value>, 32>
-    ensures { result ≡ variables.now }
-{
-    match ArrayVec::try_from(variables.as_slice()) {
-        Ok(copy) => copy,
-        Err(_) => unreachable!(),
-    }
-}
-
 /// An actor takes the item that it finds, and has a turn out.
 fn begin(set: &Verified, number: u8, turn: u64, actor: &mut Actor)
     ensures { actor.new ≡ begun set.now number turn actor.old }
@@ -147,7 +136,7 @@ fn skip_at(set: &Verified, number: u8, actors: &mut [Actor]) -> Option<Trigger>
 impl Link {
     /// An actor begins a turn: it takes the item that it finds, and has the turn out.
     pub fn begin(&mut self, set: &Verified, actor: u8)
-        requires { self.old.turns < 2 ^ 40 }
+        requires { self.old.turns < MOST_TURNS_BEGUN }
         ensures { self.new ≡ record self.old { actors = change self.old.actors actor (begun set.now actor self.old.turns); turns = self.old.turns + 1 } }
     {
         begin_at(set, actor, self.turns, &mut self.actors);

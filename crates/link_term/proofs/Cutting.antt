@@ -1,27 +1,26 @@
 -- Octets in several calls.
-use Rattle.std.proofs.Common.{◌≡◌, ℕ, ◌+◌, ◌<◌, Bool, List, [], ◌∷◌, ◌++◌, length, take, get_or, refl, sym, ap, ◌∙◌, subst, append-nil, append_assoc}
-use Rattle.std.proofs.lemmas.List.{take_more}
+use Rattle.std.proofs.Common.{◌≡◌, ℕ, ◌+◌, ◌-◌, Bool, List, [], ◌∷◌, ◌++◌, length, take, drop, refl, sym, ap, ◌∙◌, subst, append-nil, append_assoc, arith}
+use Rattle.std.proofs.lemmas.List.{take_all, length-drop}
+use Rattle.std.proofs.Math.Seq.{take-add}
 use Rattle.su_octets.specs.Bits.{low_bits, bits_of}
 use Rattle.su_octets.proofs.BitLists.{bits_of-append}
 use Rattle.bit_line.specs.Deframing.{Stands}
 use Rattle.bit_line.specs.Events.{AreEvents}
 use Rattle.bit_line.specs.declared.events.LineEvent.{LineEvent}
 use Rattle.link_heart.specs.declared.heart.Heart.{Heart}
-use Rattle.link_heart.specs.Machine.{tidied}
-use Rattle.link_side.specs.Limits.{KEPT_MESSAGES}
-use Rattle.link_term.specs.Term.{Term}
-use Rattle.link_term.specs.Hearing.{AreTaken, Hears, silent, octet, Heard}
+use Rattle.link_term.specs.Term.{Term, with_heart}
+use Rattle.link_term.specs.Hearing.{Hears, silent, octet, Heard}
 use Rattle.link_term.specs.Laws.{CuttingsAgree}
 
 bits_behind : (bits : List Bool) (xs ys : List ℕ) → (bits ++ bits_of xs) ++ bits_of ys ≡ bits ++ bits_of (xs ++ ys)
 bits_behind bits xs ys =
     append_assoc bits (bits_of xs) (bits_of ys) ∙ ap (λ (b : List Bool). bits ++ b) (sym (bits_of-append xs ys))
 
-no_bits : (bits : List Bool) → bits ++ bits_of [] ≡ bits
+pub no_bits : (bits : List Bool) → bits ++ bits_of [] ≡ bits
 unfolding bits_of
 no_bits bits = append-nil bits
 
-next_bits : (bits : List Bool) (x : ℕ) (xs : List ℕ) → bits ++ bits_of (x ∷ xs) ≡ (bits ++ low_bits 8 x) ++ bits_of xs
+pub next_bits : (bits : List Bool) (x : ℕ) (xs : List ℕ) → bits ++ bits_of (x ∷ xs) ≡ (bits ++ low_bits 8 x) ++ bits_of xs
 unfolding bits_of
 next_bits bits x xs = sym (append_assoc bits (low_bits 8 x) (bits_of xs))
 
@@ -56,37 +55,30 @@ heard_nothing t = record {
   sending = refl;
 }
 
-one_bits : (bits : List Bool) (x : ℕ) → bits ++ bits_of (x ∷ []) ≡ bits ++ low_bits 8 x
+pub one_bits : (bits : List Bool) (x : ℕ) → bits ++ bits_of (x ∷ []) ≡ bits ++ low_bits 8 x
 one_bits bits x = next_bits bits x [] ∙ no_bits (bits ++ low_bits 8 x)
 
-pub heard_one : (t u : Term) (x : ℕ) (given : List LineEvent)
-    → ((bits : List Bool) → Stands bits t.line → Stands (bits ++ low_bits 8 x) u.line)
-    → ((bits : List Bool) (all : List LineEvent) → Stands bits t.line → AreEvents bits all → AreEvents (bits ++ low_bits 8 x) (all ++ given))
-    → length t.heart.side.messages < KEPT_MESSAGES → AreTaken given (tidied t.heart) u.heart → u.sending ≡ t.sending → Heard t (x ∷ []) u
-heard_one t u x given stands events room taken sending = record {
-  stands = λ bits s. let P : List Bool → Type 0 = λ b. Stands b u.line in subst P (sym (one_bits bits x)) (stands bits s);
-  hears = λ bits all s are.
-      let P : List Bool → Type 0 = λ b. AreEvents b (all ++ given) in (
-        all ++ given,
-        subst P (sym (one_bits bits x)) (events bits all s are),
-        octet bits all given t.heart u.heart u.heart x [] (all ++ given) room (events bits all s are) taken
-            (silent (bits ++ low_bits 8 x) (all ++ given) u.heart),
-      );
-  sending = sending;
-}
+rest_is : (i : ℕ) (octets : List ℕ) → take (length octets - i) (drop i octets) ≡ drop i octets
+rest_is i octets = take_all (length octets - i) (drop i octets) (omega (arith, length-drop i octets))
 
--- one more octet of a slice
-pub heard_more : (t m u : Term) (octets : List ℕ) (i d : ℕ) → i < length octets → Heard t (take i octets) m → Heard m (get_or octets i d ∷ []) u
-    → Heard t (take (i + 1) octets) u
-heard_more t m u octets i d h first second =
+pub rest_length : (i : ℕ) (octets : List ℕ) → length (take (length octets - i) (drop i octets)) ≡ length octets - i
+rest_length i octets = ap length (rest_is i octets) ∙ length-drop i octets
+
+-- some octets more of a slice
+pub heard_more : (t m u : Term) (octets : List ℕ) (i n : ℕ) → Heard t (take i octets) m → Heard m (take n (take (length octets - i) (drop i octets))) u
+    → Heard t (take (i + n) octets) u
+heard_more t m u octets i n first second =
     let P : List ℕ → Type 0 = λ xs. Heard t xs u in
-    subst P (sym (take_more octets i d h)) (heard_joined t m u (take i octets) (get_or octets i d ∷ []) first second)
+    let rest : List ℕ = take (length octets - i) (drop i octets) in
+    let is : take (i + n) octets ≡ take i octets ++ take n rest =
+    take-add i n octets ∙ ap (λ (xs : List ℕ). take i octets ++ take n xs) (sym (rest_is i octets)) in
+    subst P (sym is) (heard_joined t m u (take i octets) (take n rest) first second)
 
 pub heard_from : (old inside new : Term) (xs : List ℕ) → inside ≡ old → Heard inside xs new → Heard old xs new
 heard_from old inside new xs h heard = let P : Term → Type 0 = λ t. Heard t xs new in subst P h heard
 
-pub heard_to : (old new same : Term) (xs : List ℕ) → same ≡ new → Heard old xs new → Heard old xs same
-heard_to old new same xs h heard = let P : Term → Type 0 = λ t. Heard old xs t in subst P (sym h) heard
-
-pub heard_all : (old new : Term) (octets : List ℕ) (i : ℕ) → i ≡ length octets → Heard old (take i octets) new → Heard old (take (length octets) octets) new
-heard_all old new octets i h heard = let P : ℕ → Type 0 = λ n. Heard old (take n octets) new in subst P h heard
+-- nothing was taken, and nothing changed
+pub heard_none : (old t : Term) (h : Heart) → t ≡ old → h ≡ t.heart → Heard old [] (with_heart t h)
+heard_none old t h is same =
+    let P : Heart → Type 0 = λ x. Heard old [] (with_heart t x) in
+    subst P (sym same) (heard_from old t t [] is (heard_nothing t))

@@ -3,3 +3,4 @@ pub mod Speaking
 pub mod Delivering
 pub mod Losing
 pub mod Taking
+pub mod Quiet

@@ -1,5 +1,6 @@
 -- A terminal over the set of a text.
 use Rattle.std.specs.Prelude.{◌≡◌, ℕ, List, []}
+use Rattle.profile_limits.specs.Limits.{MOST_ENVIRONMENT, MOST_JOURNAL, MOST_PORT}
 use Rattle.turn_code.specs.declared.draft.Draft.{Draft}
 use Rattle.turn_verify.specs.Loaded.{IsLoaded, IsRefused}
 use Rattle.bit_line.specs.Deframing.{Stands}
@@ -12,15 +13,15 @@ use Rattle.link_term.specs.declared.opening.NewError.{NewError}
 use Rattle.link_term.specs.declared.opening.NewError.TheVariants.{Load, Name, NoMemory}
 use Rattle.link_term.specs.Term.{Term}
 
--- how many signals each port of a terminal holds, how many may wait for the environment, and how many events its journal holds
+-- how many signals each port of a terminal holds, how many may wait for the environment, and how many events its journal holds: the most
 abbrev pub PORT : ℕ
-PORT = 64
+PORT = MOST_PORT
 
 abbrev pub ENVIRONMENT : ℕ
-ENVIRONMENT = 1024
+ENVIRONMENT = MOST_ENVIRONMENT
 
 abbrev pub JOURNAL : ℕ
-JOURNAL = 65536
+JOURNAL = MOST_JOURNAL
 
 -- no actor has begun, nothing is kept, nothing came and nothing went
 pub record IsOver (d : Draft) (mode : Mode) (t : Term) : Type 0 where

@@ -29,10 +29,7 @@ impl Terminal {
         if self.heart.tidy().is_err() {
             return Err(CallError::NoMemory);
         }
-        match self.heart.command(command) {
-            Ok(()) => Ok(()),
-            Err(refusal) => Err(CallError::Refused(refusal)),
-        }
+        self.heart.command(command).map_err(CallError::Refused)
     }
 
     /// Lets so many ticks pass, one a millisecond, and the actors come to rest. How many timers were due. Room in the journal as before a
@@ -49,10 +46,7 @@ impl Terminal {
         if self.heart.tidy().is_err() {
             return Err(CallError::NoMemory);
         }
-        match self.heart.tick(ticks) {
-            Ok(due) => Ok(due),
-            Err(refusal) => Err(CallError::Refused(refusal)),
-        }
+        self.heart.tick(ticks).map_err(CallError::Refused)
     }
 
     /// The unit that goes out next, none before anything was said of the line (Q.703, sections 5, 6, 9 and 11). The actors learn of each

@@ -41,11 +41,20 @@ impl fmt::Display for NewError {
     }
 }
 
+/// How many signals a port of a terminal may hold.
+const PORT: usize = 64;
+
+/// How many signals may wait for its environment.
+const ENVIRONMENT: usize = 1_024;
+
+/// How many events its journal may hold.
+const JOURNAL: usize = 65_536;
+
 /// The book of a terminal's set.
 fn open_book(alloc: Global, set: &Verified) -> Result<Book, AllocError>
     ensures { IfOk result (λ b. b ≡ opened_book set.now PORT ENVIRONMENT JOURNAL) }
 {
-    match Limits::new(64, 1024, 65_536) {
+    match Limits::new(PORT, ENVIRONMENT, JOURNAL) {
         Some(limits) => Book::open(alloc, set, limits),
         None => unreachable!(),
     }

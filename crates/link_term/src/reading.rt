@@ -64,19 +64,23 @@ fn make_room(heart: &mut Heart) -> bool
 }
 
 impl Terminal {
-    /// Takes an octet of the line, unless 256 messages wait, or room has to be made in the journal and there is no memory. Whether
-    /// it did; else nothing changed.
-    fn take_octet(&mut self, octet: u8) -> bool
-        ensures taken { result ≡ true → Heard self.old (octet ∷ []) self.new }
-        ensures left { result ≡ false → self.new ≡ self.old }
-        ensures stops { result ≡ false → (KEPT_MESSAGES ≤ length self.old.heart.side.messages) ⊎ (places self.old.heart < LOW) }
+    /// Takes octets of the line from the front up to the first one that reports something, unless 256 messages wait, or room has to be made
+    /// in the journal and there is no memory. Answers how many it took; where that is none, nothing changed.
+    ///
+    /// Room is made once: octets that report nothing leave all of it.
+    fn take_part(&mut self, octets: &[u8]) -> usize
+        requires { 0 < length octets.now }
+        ensures most { result ≤ length octets.now }
+        ensures heard { Heard self.old (take result octets.now) self.new }
+        ensures left { result ≡ 0 → self.new ≡ self.old }
+        ensures stops { result ≡ 0 → (KEPT_MESSAGES ≤ length self.old.heart.side.messages) ⊎ (places self.old.heart < LOW) }
     {
         if !make_room(&mut self.heart) {
-            return false;
+            return 0;
         }
-        let events = self.line.feed_byte(octet);
+        let (taken, events) = self.line.feed_until(octets);
         take_events(&mut self.heart, events.as_slice());
-        true
+        taken
     }
 
     /// Takes line octets, the low bit of each first, and answers how many it took: all, unless 256 messages wait to be
@@ -90,11 +94,14 @@ impl Terminal {
         ensures stops { result < length octets.now
             → (KEPT_MESSAGES ≤ length self.new.heart.side.messages) ⊎ (places self.new.heart < LOW) }
     {
-        for taken in 0..octets.len() {
-            if !self.take_octet(octets[taken]) {
+        let mut taken = 0;
+        while taken < octets.len() {
+            let part = self.take_part(&octets[taken..]);
+            if part == 0 {
                 return taken;
             }
+            taken += part;
         }
-        octets.len()
+        taken
     }
 }

@@ -9,7 +9,7 @@ use bit_line::Stuffer;
 use std::alloc::AllocError;
 use su_octets::Unit;
 
-/// How many line octets a unit has at most.
+/// Room for the line octets of a unit: 336 at most, in a list that can hold 352.
 const LONGEST: usize = 352;
 
 /// Puts the line octets of a unit behind the others, for which there is room.

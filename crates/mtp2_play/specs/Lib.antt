@@ -1,4 +1,1 @@
-pub mod Reading
 pub mod Words
-pub mod LineBits
-pub mod Printed

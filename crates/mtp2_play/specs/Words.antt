@@ -1,5 +1,6 @@
 -- What a command line asks for.
 use Rattle.std.specs.Prelude.{◌≡◌, ◌≤◌, ℕ, List, Option, Some, None, codes}
+use Rattle.profile_limits.specs.Limits.{LEAST_WORKERS, MOST_WORKERS}
 use Rattle.mtp2_text.specs.declared.standard_text.TheConstants.{STANDARD}
 use Rattle.mtp2_text.specs.declared.monitors_text.TheConstants.{MONITORS}
 use Rattle.text_check.specs.declared.sets.SetWord.{SetWord}
@@ -63,7 +64,7 @@ IsPlay set_word script_word (Frame octets) = ⊥
 abbrev pub IsSoak : List ℕ → Request → Type 0
 IsSoak script_word (Check set) = ⊥
 IsSoak script_word (Play set script) = ⊥
-IsSoak script_word (Soak script workers) = IsSource script script_word × (1 ≤ workers) × (workers ≤ 16)
+IsSoak script_word (Soak script workers) = IsSource script script_word × (LEAST_WORKERS ≤ workers) × (workers ≤ MOST_WORKERS)
 IsSoak script_word (Frame octets) = ⊥
 
 -- the word that names the command

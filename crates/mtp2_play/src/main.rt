@@ -5,13 +5,10 @@ ghost use Rattle.std.specs.Prelude.{◌≡◌, ◌⊎◌};
 ghost use Rattle.text_check.specs.Checked.{IsGiven, PrintsCosts, PrintsRefusal};
 ghost use Rattle.mtp2_play.specs.Words.{own_text_of};
 
-mod frame;
-mod line_bits;
 mod words;
 
 use clap::Error;
 use clap::error::ErrorKind;
-pub use frame::frame;
 use pool_soak::soak;
 use script_play::play;
 use std::alloc::Global;
@@ -22,6 +19,7 @@ use std::sync::Wait;
 use std::thread::Threads;
 use std::{env, fs};
 use text_check::{FAILED, HELD, SetWord, USAGE, check};
+use unit_frame::frame;
 pub use words::{Named, Request, Source};
 
 /// Runs one command, and gives the exit status.

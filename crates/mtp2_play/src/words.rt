@@ -1,6 +1,7 @@
 //! The command line.
 ghost use Rattle.std.specs.Prelude.{◌≡◌, ◌↔◌, ◌≤◌, Some, IfSome, IsNone, IsTrue};
 ghost use Rattle.clap.specs.Words.{subcommand_name_of};
+ghost use Rattle.profile_limits.specs.Limits.{LEAST_WORKERS, MOST_WORKERS};
 ghost use Rattle.mtp2_play.specs.Words.{command_of, own_set_of, IsNamed, IsSource, AreStdin, IsPlay, IsSoak};
 
 use clap::error::ErrorKind;
@@ -100,7 +101,7 @@ fn played<'a>(set: &'a str, script: &'a str) -> Option<Request<'a>>
 
 /// The number of workers that a word says, 1 to 16.
 fn workers_of(word: &str) -> Option<usize>
-    ensures { IfSome result (λ n. (1 ≤ n) × (n ≤ 16)) }
+    ensures { IfSome result (λ n. (LEAST_WORKERS ≤ n) × (n ≤ MOST_WORKERS)) }
 {
     match word.parse::<usize>() {
         Ok(workers) if 1 <= workers && workers <= 16 => Some(workers),

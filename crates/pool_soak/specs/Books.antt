@@ -1,6 +1,7 @@
 -- The books that `soak` has worked on.
 use Rattle.std.specs.Prelude.{◌≡◌, ℕ, List, length, Option, None, Some}
 use Rattle.std.specs.List.{All}
+use Rattle.profile_limits.specs.Limits.{USUAL_ENVIRONMENT, USUAL_JOURNAL, USUAL_PORT}
 use Rattle.turn_code.specs.declared.draft.Draft.{Draft}
 use Rattle.link_machine.specs.Ledger.{Ledger}
 use Rattle.link_machine.specs.Kept.{opened_book}
@@ -9,15 +10,15 @@ use Rattle.turn_pool.specs.Receipts.{AllStand}
 use Rattle.turn_pool.specs.declared.receipt.Receipt.{Receipt}
 use Rattle.turn_verify.specs.Loaded.{IsLoaded}
 
--- how many signals each port of a link holds, how many may wait for the environment, and how many events its journal holds
+-- how many signals each port of a link holds, how many may wait for the environment, and how many events its journal holds: as where nobody says it
 abbrev pub PORT : ℕ
-PORT = 16
+PORT = USUAL_PORT
 
 abbrev pub ENVIRONMENT : ℕ
-ENVIRONMENT = 64
+ENVIRONMENT = USUAL_ENVIRONMENT
 
 abbrev pub JOURNAL : ℕ
-JOURNAL = 4096
+JOURNAL = USUAL_JOURNAL
 
 -- so many links of a set on which nothing has happened
 pub record AreOpened (set : Draft) (links : ℕ) (books : List Ledger) : Type 0 where

@@ -2,6 +2,7 @@
 use Rattle.std.specs.Prelude.{ℕ, ◌≡◌, Bool, true, false, nat_lt, ◌&&◌, if◌then◌else◌, List, [], ◌∷◌, ◌++◌, length, map, Option, None, Some, option_map, option_and_then, Result, Ok, Err, codes}
 use Rattle.std.specs.Int.{is_in_range}
 use Rattle.std.specs.Str.{bytes_eq}
+use Rattle.profile_limits.specs.Limits.{MOST_LINKS}
 use Rattle.text_reader.specs.Reading.{LONGEST}
 use Rattle.script_lines.specs.Numbers.{count_of}
 use Rattle.script_lines.specs.Lines.{PlainLine, lines_of, line_at}
@@ -37,9 +38,9 @@ empty = record { links = None; steps = [] }
 
 -- ---- lines
 
--- `links N`, up to 16
+-- `links N`, as many as a pool may serve
 abbrev pub links_at : List ℕ → ℕ → Option ℕ
-links_at word n = if bytes_eq word (codes "links") && is_in_range 1 16 n then Some n else None
+links_at word n = if bytes_eq word (codes "links") && is_in_range 1 MOST_LINKS n then Some n else None
 
 abbrev pub links_of : List (List ℕ) → Option ℕ
 links_of (word ∷ number ∷ []) = option_and_then (links_at word) (count_of number)

@@ -131,8 +131,8 @@ fn with_step<'a>(mut soak: Soak<'a>, step: Option<Step<'a>>) -> Result<Option<So
     }
 }
 
-#[tactic(auto, unfolding(crate::specs::Scripts::added))]
 /// With what a line adds, where it may stand there.
+#[tactic(auto, unfolding(crate::specs::Scripts::added))]
 fn added<'a>(
     alloc: Global,
     soak: Soak<'a>,

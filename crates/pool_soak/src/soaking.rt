@@ -5,11 +5,11 @@ ghost use Rattle.std.specs.Io.KnownBytes.{Appends};
 ghost use Rattle.script_lines.specs.declared.script.ScriptFault.TheVariants.{BadLine};
 ghost use Rattle.text_reader.specs.Reading.{Keeps};
 ghost use Rattle.text_check.specs.Checked.{IsGiven};
-ghost use Rattle.text_check.specs.Printed.{line_of};
 ghost use Rattle.link_machine.specs.Kept.{opened_book};
 ghost use Rattle.link_machine.specs.Ledger.{next};
 ghost use Rattle.pool_soak.specs.Books.{AreOpened, AreBegun, AreKept, PORT, ENVIRONMENT, JOURNAL};
 ghost use Rattle.pool_soak.specs.Findings.{IsEnd, IsSoaked, IsSoakedInVain, IsTurnedDown, PrintsFault, lines_with};
+ghost use Rattle.profile_limits.specs.Limits.{LEAST_WORKERS, MOST_WORKERS};
 
 use crate::client::{Open, Script};
 use crate::findings::{agree, audit_of, seats_of, status_of};
@@ -18,12 +18,11 @@ use actor_book::{Book, Limits};
 use mtp2_text::standard;
 use script_lines::ScriptFault;
 use std::alloc::{AllocError, Global};
-use std::fmt::Display;
 use std::io::{self, Read, Write};
 use std::str;
 use std::sync::Wait;
 use std::thread::Threads;
-use text_check::{FAILED, REFUSED, write_line};
+use text_check::{FAILED, refuse, write_line};
 use text_reader::{TextRead, line_at_limit, read_text};
 use turn_check::Verified;
 use turn_pool::{Closed, Receipt, serve};
@@ -36,9 +35,9 @@ use turn_pool::{Closed, Receipt, serve};
 /// The script is read whole before anything is written, and a line of it that may not stand where it does is refused before
 /// anything runs. A line goes out in one write.
 ///
-/// Gives the exit status: 0 where all agrees and was written, 1 where the second line is `audit no`, 2 after a line
-/// `refused F1 NotText` alone where the script is no text, or `refused X1 BadLine line N` of its first bad line, or 4 where memory, a read or a write fails, or nobody could be served: for other than
-/// 1 to 16 workers, or where no thread can be made. Nothing is written after a write that failed.
+/// Gives the exit status: 0 where all agrees and was written; 1 where the second line is `audit no`; 2 after a line `refused F1 NotText`
+/// alone where the script is no text, or `refused X1 BadLine line N` of its first bad line; 4 where memory, a read or a write fails, for
+/// other than 1 to 16 workers, or where no thread can be made. Nothing is written after a write that failed.
 pub fn soak<R: Threads + Wait + Sync, S: Read + Drop, W: Write>(
     rt: &R,
     alloc: Global,
@@ -49,22 +48,11 @@ pub fn soak<R: Threads + Wait + Sync, S: Read + Drop, W: Write>(
     ensures held { result ≡ 0 → IsGiven (S.remaining script) (IsSoaked (W.contents writer.old) (W.contents writer.new)) }
     ensures differs { result ≡ 1 → IsGiven (S.remaining script) (IsSoakedInVain (W.contents writer.old) (W.contents writer.new)) }
     ensures refused { result ≡ 2 → IsGiven (S.remaining script) (IsTurnedDown (W.contents writer.old) (W.contents writer.new)) }
-    ensures served { (result ≡ 0) ⊎ (result ≡ 1) → (1 ≤ workers) × (workers ≤ 16) }
+    ensures served { (result ≡ 0) ⊎ (result ≡ 1) → (LEAST_WORKERS ≤ workers) × (workers ≤ MOST_WORKERS) }
     ensures status { (result ≡ 0) ⊎ (result ≡ 1) ⊎ (result ≡ 2) ⊎ (result ≡ 4) }
 {
     match read_text(alloc, &mut script) {
         Ok(read) => soak_text(rt, alloc, &read, workers, writer),
-        Err(_) => FAILED,
-    }
-}
-
-/// Writes why there is no script. Gives the exit status.
-fn refuse<W: Write, L: Display>(alloc: Global, writer: &mut W, fault: &L) -> u8
-    ensures printed { result ≡ 2 → IfSome (L.output fault.now) (λ text. Appends (W.contents writer.old) (W.contents writer.new) (line_of text)) }
-    ensures status { (result ≡ 2) ⊎ (result ≡ 4) }
-{
-    match write_line(alloc, writer, fault) {
-        Ok(()) => REFUSED,
         Err(_) => FAILED,
     }
 }
@@ -89,7 +77,7 @@ fn soak_text<R: Threads + Wait + Sync, W: Write>(
     writer: &mut W,
 ) -> u8
     ensures ends { (bytes : List ℕ) → Keeps bytes read.now → IsEnd result (W.contents writer.old) (W.contents writer.new) bytes }
-    ensures served { (result ≡ 0) ⊎ (result ≡ 1) → (1 ≤ workers) × (workers ≤ 16) }
+    ensures served { (result ≡ 0) ⊎ (result ≡ 1) → (LEAST_WORKERS ≤ workers) × (workers ≤ MOST_WORKERS) }
     ensures status { (result ≡ 0) ⊎ (result ≡ 1) ⊎ (result ≡ 2) ⊎ (result ≡ 4) }
 {
     if !read.is_text {
@@ -118,7 +106,7 @@ fn run_script<R: Threads + Wait + Sync, W: Write>(
 ) -> u8
     ensures held { result ≡ 0 → Appends (W.contents writer.old) (W.contents writer.new) (lines_with true true) }
     ensures differs { result ≡ 1 → Appends (W.contents writer.old) (W.contents writer.new) (lines_with true false) }
-    ensures served { (result ≡ 0) ⊎ (result ≡ 1) → (1 ≤ workers) × (workers ≤ 16) }
+    ensures served { (result ≡ 0) ⊎ (result ≡ 1) → (LEAST_WORKERS ≤ workers) × (workers ≤ MOST_WORKERS) }
     ensures status { (result ≡ 0) ⊎ (result ≡ 1) ⊎ (result ≡ 4) }
 {
     match soak_links(rt, alloc, soak, workers, writer) {
@@ -127,11 +115,20 @@ fn run_script<R: Threads + Wait + Sync, W: Write>(
     }
 }
 
+/// How many signals a port of a link may hold.
+const PORT: usize = 16;
+
+/// How many signals may wait for its environment.
+const ENVIRONMENT: usize = 64;
+
+/// How many events its journal may hold.
+const JOURNAL: usize = 4_096;
+
 /// A book on which nothing has happened.
 fn book_of(alloc: Global, set: &Verified) -> Result<Book, AllocError>
     ensures { IfOk result (λ b. b ≡ opened_book set.now PORT ENVIRONMENT JOURNAL) }
 {
-    match Limits::new(16, 64, 4096) {
+    match Limits::new(PORT, ENVIRONMENT, JOURNAL) {
         Some(limits) => Book::open(alloc, set, limits),
         None => unreachable!(),
     }
@@ -164,8 +161,8 @@ fn begun(alloc: Global, soak: &Soak<'_>) -> Option<(Verified, Vec<Book>)>
     }
 }
 
-#[tactic(auto, using(crate::proofs::Books::said))]
 /// Serves links while a script runs. What is left of them, and the receipts of the script's client.
+#[tactic(auto, using(crate::proofs::Books::said))]
 fn served<R: Threads + Wait + Sync>(
     rt: &R,
     alloc: Global,
@@ -177,7 +174,7 @@ fn served<R: Threads + Wait + Sync>(
     requires { AreBegun soak.now.links set.now books.items }
     ensures links { IfSome result (λ r. soak.now.links ≡ Some (vec_len r.0.books)) }
     ensures workers { IfSome result (λ r. vec_len r.0.workers ≡ workers) }
-    ensures served { IfSome result (λ _. (1 ≤ workers) × (workers ≤ 16)) }
+    ensures served { IfSome result (λ _. (LEAST_WORKERS ≤ workers) × (workers ≤ MOST_WORKERS)) }
     ensures agree { IfSome result (λ r. r.0.client + sum r.0.workers.items ≡ sum_by next r.0.books.items) }
 {
     let Ok(receipts) = Vec::with_capacity(alloc, soak.steps.len()) else {
@@ -205,7 +202,7 @@ pub fn soaked<R: Threads + Wait + Sync>(
 ) -> Option<(Closed, Vec<Receipt>)>
     ensures links { IfSome result (λ r. soak.now.links ≡ Some (vec_len r.0.books)) }
     ensures workers { IfSome result (λ r. vec_len r.0.workers ≡ workers) }
-    ensures served { IfSome result (λ _. (1 ≤ workers) × (workers ≤ 16)) }
+    ensures served { IfSome result (λ _. (LEAST_WORKERS ≤ workers) × (workers ≤ MOST_WORKERS)) }
     ensures agree { IfSome result (λ r. r.0.client + sum r.0.workers.items ≡ sum_by next r.0.books.items) }
 {
     let (set, books) = begun(alloc, soak)?;
@@ -222,7 +219,7 @@ fn soak_links<R: Threads + Wait + Sync, W: Write>(
 ) -> Option<u8>
     ensures held { IfSome result (λ status. status ≡ 0 → Appends (W.contents writer.old) (W.contents writer.new) (lines_with true true)) }
     ensures differs { IfSome result (λ status. status ≡ 1 → Appends (W.contents writer.old) (W.contents writer.new) (lines_with true false)) }
-    ensures served { IfSome result (λ _. (1 ≤ workers) × (workers ≤ 16)) }
+    ensures served { IfSome result (λ _. (LEAST_WORKERS ≤ workers) × (workers ≤ MOST_WORKERS)) }
     ensures status { IfSome result (λ status. (status ≡ 0) ⊎ (status ≡ 1)) }
 {
     let (closed, receipts) = soaked(rt, alloc, soak, workers)?;
@@ -232,8 +229,8 @@ fn soak_links<R: Threads + Wait + Sync, W: Write>(
     }
 }
 
-#[tactic(auto, using(crate::proofs::Texts::after))]
 /// Writes two lines: whether the seats agree, and whether the receipts stand.
+#[tactic(auto, using(crate::proofs::Texts::after))]
 fn write_both<W: Write>(alloc: Global, writer: &mut W, agree: bool, stand: bool) -> io::Result<()>
     ensures { OnOk result (Appends (W.contents writer.old) (W.contents writer.new) (lines_with agree stand)) }
 {
@@ -248,8 +245,8 @@ fn are_kept(closed: &Closed, receipts: &[Receipt]) -> bool
     closed.client == receipts.len() as u64 && closed.audit(receipts).is_ok()
 }
 
-#[tactic(auto, using(crate::proofs::Texts::audit_says_no))]
 /// Writes what is found. Gives the exit status.
+#[tactic(auto, using(crate::proofs::Texts::audit_says_no))]
 fn report<W: Write>(
     alloc: Global,
     writer: &mut W,

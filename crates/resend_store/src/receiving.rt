@@ -63,7 +63,8 @@ impl Receiver {
         self.bib
     }
 
-    /// Takes the forward number and bit of a unit without errors, and whether it carries a message.
+    /// Takes the forward number, 0 to 127, and bit, 0 or 1, of a unit without errors, and whether it carries a message (Q.703, sections 5
+    /// and 6).
     ///
     /// The next message in turn is accepted, and anything that tells of a lost one is refused by inverting the bit to send;
     /// from then on units are discarded until the far side's bit agrees. With cyclic retransmission bits are ignored, and

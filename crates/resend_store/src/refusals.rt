@@ -9,6 +9,7 @@ use thiserror::Error;
 /// Why a sender didn't take a message.
 #[derive(Clone, Copy, Debug, PartialEq, Eq, Error)]
 pub enum PutError {
+    /// 1,024 messages or more wait; of a diverted one, 1,151 are kept (E1).
     Full,
 }
 
@@ -24,6 +25,7 @@ pub enum AckError {
 pub enum RetrieveError {
     /// The number acknowledges more than was sent.
     BadAck,
+    /// There was not enough memory.
     NoMemory,
 }
 

@@ -319,6 +319,7 @@ impl Sender {
         unit
     }
 
+    /// A unit without a message, where none goes out: a fill-in unit (Q.703, sections 5 and 6).
     fn filled_in(&self) -> Outgoing
         ensures { result ≡ (fill_in self.now).unit }
     {

@@ -45,6 +45,7 @@ impl Store {
         })
     }
 
+    /// How many messages are kept: `MAX_KEPT` at most.
     pub(crate) fn len(&self) -> usize
         ensures value { result ≡ length self.now.kept }
         ensures within { result ≤ MOST_KEPT }
@@ -52,6 +53,7 @@ impl Store {
         self.kept.len()
     }
 
+    /// How many of them are sent: the first, `MAX_UNACKNOWLEDGED` at most.
     pub(crate) fn sent(&self) -> u8
         ensures value { result ≡ self.now.sent }
         ensures within { result ≤ MOST_UNACKNOWLEDGED }
@@ -60,6 +62,7 @@ impl Store {
         self.sent
     }
 
+    /// The message at a place, the oldest at 0.
     pub(crate) fn get(&self, place: usize) -> Option<&Msu>
         ensures value { option_copied result ≡ slice_get self.now.kept place }
         ensures message { IfSome (slice_get self.now.kept place) IsMessage }

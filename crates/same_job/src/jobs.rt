@@ -6,12 +6,14 @@ use crate::parts::same_code;
 use turn_code::{Cert, DraftPiece, Input, Place, ProcessNumber};
 use turn_machine::Job;
 
+/// Whether the counts are the same.
 fn same_certificate(left: Cert, right: Cert) -> bool
     ensures { IsTrue result ↔ (left ≡ right) }
 {
     left.budget == right.budget && left.depth == right.depth && left.effects == right.effects
 }
 
+/// Whether both are START, or the same state.
 fn same_place(left: Place, right: Place) -> bool
     ensures { IsTrue result ↔ (left ≡ right) }
 {

@@ -15,6 +15,7 @@ pub(crate) struct Parts {
     pub other: u16,
 }
 
+/// A row with these numbers.
 fn row(kind: u8, least: i32, most: i32, number: u16, other: u16) -> Parts
     ensures { result ≡ row kind least most number other }
 {
@@ -27,6 +28,7 @@ fn row(kind: u8, least: i32, most: i32, number: u16, other: u16) -> Parts
     }
 }
 
+/// The number of a comparison, from 0 to 5.
 fn relation_number(relation: Relation) -> u16
     ensures { result ≡ relation_number relation }
 {
@@ -103,6 +105,7 @@ fn parts_of(instruction: Instruction) -> Parts
     }
 }
 
+/// Whether two rows have the same numbers.
 fn same_parts(left: Parts, right: Parts) -> bool
     ensures { IsTrue result ↔ (left ≡ right) }
 {

@@ -3,6 +3,7 @@ use Rattle.std.specs.Prelude.{ℕ, ◌≡◌, ◌≤◌, Bool, nat_lt, ◌&&◌,
 use Rattle.std.specs.Int.{is_in_range}
 use Rattle.std.specs.List.{filter_map}
 use Rattle.std.specs.Str.{bytes_eq}
+use Rattle.profile_limits.specs.Limits.{LEAST_ENVIRONMENT, LEAST_JOURNAL, LEAST_PORT, MOST_ENVIRONMENT, MOST_JOURNAL, MOST_PORT, USUAL_ENVIRONMENT, USUAL_JOURNAL, USUAL_PORT}
 use Rattle.text_reader.specs.Reading.{LONGEST}
 use Rattle.script_lines.specs.Numbers.{count_of}
 use Rattle.script_lines.specs.Lines.{PlainLine, lines_of, line_at}
@@ -18,9 +19,9 @@ use Rattle.script_lines.specs.declared.script.ScriptFault.TheVariants.{BadLine, 
 -- ---- first lines
 
 abbrev pub setting_at : List ℕ → ℕ → Option Setting
-setting_at word n = if bytes_eq word (codes "ports") && is_in_range 1 64 n then Some (Ports n)
-    else (if bytes_eq word (codes "env") && is_in_range 1 1024 n then Some (Env n)
-    else (if bytes_eq word (codes "journal") && is_in_range 16 65536 n then Some (Journal n) else None))
+setting_at word n = if bytes_eq word (codes "ports") && is_in_range LEAST_PORT MOST_PORT n then Some (Ports n)
+    else (if bytes_eq word (codes "env") && is_in_range LEAST_ENVIRONMENT MOST_ENVIRONMENT n then Some (Env n)
+    else (if bytes_eq word (codes "journal") && is_in_range LEAST_JOURNAL MOST_JOURNAL n then Some (Journal n) else None))
 
 -- a line that sets a number
 abbrev pub setting_of : List (List ℕ) → Option Setting
@@ -34,16 +35,16 @@ set (Journal n) s = record s { journal = n }
 
 -- where no line sets them
 abbrev pub defaults : Settings
-defaults = record { ports = 16; env = 64; journal = 4096 }
+defaults = record { ports = USUAL_PORT; env = USUAL_ENVIRONMENT; journal = USUAL_JOURNAL }
 
 -- each number is in its range
 pub record AreInRange (s : Settings) : Type 0 where
-  pub least_ports : 1 ≤ s.ports
-  pub most_ports : s.ports ≤ 64
-  pub least_env : 1 ≤ s.env
-  pub most_env : s.env ≤ 1024
-  pub least_journal : 16 ≤ s.journal
-  pub most_journal : s.journal ≤ 65536
+  pub least_ports : LEAST_PORT ≤ s.ports
+  pub most_ports : s.ports ≤ MOST_PORT
+  pub least_env : LEAST_ENVIRONMENT ≤ s.env
+  pub most_env : s.env ≤ MOST_ENVIRONMENT
+  pub least_journal : LEAST_JOURNAL ≤ s.journal
+  pub most_journal : s.journal ≤ MOST_JOURNAL
 
 -- what the first lines set, the last one of a kind for good, and the lines behind them
 abbrev pub head_by : Settings → List PlainLine → (Settings → Settings × List PlainLine) → Option Setting → Settings × List PlainLine

@@ -61,7 +61,8 @@ fn spoken<'a>(alloc: Global, all: &[&'a str]) -> Result<Vec<Line<'a>>, AllocErro
 }
 
 /// The lines of a text that say something, with their numbers. A line ends with a line feed, and a carriage return before
-/// that belongs to its end; the last line needs none. `#` begins a comment, also behind spaces.
+/// that belongs to its end; the last line needs none. A line whose first sign but for spaces is `#` is a comment; behind a command
+/// `#` is part of a word.
 pub fn lines_in<'a>(alloc: Global, text: &'a str) -> Result<Vec<Line<'a>>, AllocError>
     ensures { IfOk result (λ v. map plain_line v.items ≡ lines_of text.now) }
 {

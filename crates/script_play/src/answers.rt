@@ -8,20 +8,11 @@ ghost use Rattle.script_play.specs.TermAnswers.{command_of, IsAsked, IsRefusedLi
 use crate::orders::command_of;
 use crate::unit_line::line_of_unit;
 use arrayvec::ArrayVec;
-use book_play::{state_line, value_line};
+use book_play::{state_line, text_line, value_line};
 use link_term::{CallError, Msu, PutError, Terminal};
 use script_replies::refused_line;
 use std::alloc::{AllocError, Global};
-use std::fmt::Display;
 use term_lines::{Order, TermCommand};
-
-/// A line of printed text.
-pub fn text_line<L: Display>(alloc: Global, line: &L) -> Result<Vec<u8>, AllocError>
-    ensures { IfOk result (λ v. IfSome (L.output line.now) (λ text. v.items ≡ text)) }
-{
-    let text = format!(in alloc; "{line}")?;
-    Vec::from_slice(alloc, text.as_bytes())
-}
 
 /// The line of a refusal; none where memory is wanting.
 fn refused(alloc: Global, error: CallError) -> Result<Vec<u8>, AllocError>
@@ -72,7 +63,8 @@ fn message(octets: &[u8]) -> Option<Msu>
     }
 }
 
-/// `msu HEX`: none where the octets are no message.
+/// `msu HEX`. Octets that are no message would be told as want of memory, but none comes here: a script with such a line is refused as
+/// it is read.
 fn put(alloc: Global, terminal: &mut Terminal, octets: &[u8]) -> Result<Vec<u8>, AllocError>
     ensures { IfOk result (λ v. IsPut octets.now terminal.old v.items terminal.new) }
 {

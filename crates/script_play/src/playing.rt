@@ -1,9 +1,7 @@
 //! The command `play`.
 ghost use Rattle.std.specs.Prelude.{◌≡◌, ◌⊎◌, List, ℕ, Bool, Ok, IfOk, IfErr, IfSome};
-ghost use Rattle.std.specs.Io.KnownBytes.{Appends};
 ghost use Rattle.text_reader.specs.Reading.{Keeps};
 ghost use Rattle.text_check.specs.Checked.{given, IsAccepted};
-ghost use Rattle.text_check.specs.Printed.{line_of};
 ghost use Rattle.term_lines.specs.TermScripts.{plain_any_script, IsInRange, Tells};
 ghost use Rattle.script_play.specs.Played.{has_terminals, reading_of, IsObeyed, IsPlayed, IsMissedIn, IsPlayedInPart, IsNoScript, PrintsFault, IsOnSet, IsRefused};
 
@@ -11,11 +9,10 @@ use crate::terminals::play_terminal;
 use book_play::play_book;
 use script_lines::{ScriptFault, book_script};
 use std::alloc::Global;
-use std::fmt::Display;
 use std::io::{Read, Write};
 use std::str;
 use term_lines::{AnyScript, any_script};
-use text_check::{FAILED, REFUSED, SetWord, load_set, write_line, write_refusal};
+use text_check::{FAILED, SetWord, load_set, refuse, write_refusal};
 use text_reader::{TextRead, line_at_limit, read_text};
 use turn_check::Verified;
 
@@ -63,17 +60,6 @@ fn has_terminals<S>(set: &SetWord<S>) -> bool
         SetWord::Standard => true,
         SetWord::Monitors => false,
         SetWord::Text(_) => false,
-    }
-}
-
-/// Writes why there is no script. Gives the exit status.
-fn refuse<W: Write, L: Display>(alloc: Global, writer: &mut W, fault: &L) -> u8
-    ensures printed { result ≡ 2 → IfSome (L.output fault.now) (λ text. Appends (W.contents writer.old) (W.contents writer.new) (line_of text)) }
-    ensures status { (result ≡ 2) ⊎ (result ≡ 4) }
-{
-    match write_line(alloc, writer, fault) {
-        Ok(()) => REFUSED,
-        Err(_) => FAILED,
     }
 }
 

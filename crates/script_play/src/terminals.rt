@@ -5,16 +5,13 @@ ghost use Rattle.term_lines.specs.TermScripts.{PlainTermSaid, plain_term_said};
 ghost use Rattle.script_play.specs.TermAnswers.{next_of, behind_next, unit_line};
 ghost use Rattle.script_play.specs.TermRuns.{last_of, HasPrinted, HasGivenOut, IsTermRun, IsTermWritten, IsTermMissed, IsTermMissedBy, IsOfNew};
 
-use crate::answers::{answer, text_line};
-use book_play::Printer;
+use crate::answers::answer;
+use book_play::{MISSED, Printer, text_line};
 use link_term::Terminal;
 use std::alloc::Global;
 use std::io::{self, Write};
 use term_lines::{TermCommand, TermSaid, TermScript};
 use text_check::{FAILED, HELD, write_line};
-
-/// The exit status where an expectation failed.
-const MISSED: u8 = 1;
 
 /// A terminal, and what is printed for it.
 #[derive(Drop)]

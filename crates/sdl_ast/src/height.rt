@@ -35,12 +35,10 @@ fn exceeds(tree: &Expression, limit: u32) -> bool
 fn exceed_in_assignments(assignments: &[Assignment], limit: u32) -> bool
     ensures { result ≡ nat_lt limit (assignments_height (map assignment_of assignments.now)) }
 {
-    let mut rest = assignments;
-    'rows: while let Some((assignment, others)) = rest.split_first() {
+    for assignment in assignments {
         if exceeds(&assignment.value, limit) {
             return true;
         }
-        rest = others;
     }
     false
 }
@@ -49,12 +47,10 @@ fn exceed_in_assignments(assignments: &[Assignment], limit: u32) -> bool
 fn exceed(expressions: &[Expression], limit: u32) -> bool
     ensures { result ≡ nat_lt limit (highest tree_height (map tree_of expressions.now)) }
 {
-    let mut rest = expressions;
-    'rows: while let Some((expression, others)) = rest.split_first() {
+    for expression in expressions {
         if exceeds(expression, limit) {
             return true;
         }
-        rest = others;
     }
     false
 }
@@ -63,12 +59,10 @@ fn exceed(expressions: &[Expression], limit: u32) -> bool
 fn exceed_in_sendings(sendings: &[Sending], limit: u32) -> bool
     ensures { result ≡ nat_lt limit (highest sending_height (map sending_of sendings.now)) }
 {
-    let mut rest = sendings;
-    'rows: while let Some((sending, others)) = rest.split_first() {
+    for sending in sendings {
         if exceed(&sending.parameters, limit) {
             return true;
         }
-        rest = others;
     }
     false
 }

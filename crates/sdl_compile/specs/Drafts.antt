@@ -1,6 +1,7 @@
 -- What a draft says of a process: names and numbers in the order of the text, and pieces that do what the transitions mean.
 use Rattle.std.specs.Prelude.{◌≡◌, ℕ, ◌≤◌, List, [], ◌∷◌, length, map, Option, Some, None, IsSome}
 use Rattle.std.specs.List.{AllZip, flat_map}
+use Rattle.profile_limits.specs.Limits.{MOST_PARAMETERS, MOST_SIGNALS, MOST_STATES, MOST_TIMERS_EACH, MOST_VARIABLES}
 use Rattle.sdl_ast.specs.declared.expression.Identifier.{Identifier}
 use Rattle.sdl_ast.specs.Plain.{Text, PlainProcess, PlainBlock}
 use Rattle.turn_code.specs.declared.variable_set.VariableSet.{VariableSet}
@@ -69,7 +70,7 @@ pub record IsReadyInput (c : Scope) (i : Input) : Type 0 where
   pub small : IsSmall c (input_piece i)
   pub trigger : IsTrigger c i.stimulus.name
   pub places : length i.stimulus.places ≤ length (trigger_sorts c i.stimulus.name)
-  pub few : length i.stimulus.places ≤ 4
+  pub few : length i.stimulus.places ≤ MOST_PARAMETERS
 
 abbrev pub AreReady : Scope → List Input → Type 0
 AreReady c [] = Unit {0}
@@ -89,10 +90,10 @@ AllTriggers c (ids ∷ rest) = AreTriggers c ids × AllTriggers c rest
 
 -- a process whose names are all there, within the limits
 pub record IsReadyProcess (c : Scope) : Type 0 where
-  pub variables : length (variables_of c.process) ≤ 32
-  pub timers : length (timers_of c.process) ≤ 8
-  pub states : length (states_of c.process) ≤ 64
-  pub signals : length (signal_names c.block) ≤ 128
+  pub variables : length (variables_of c.process) ≤ MOST_VARIABLES
+  pub timers : length (timers_of c.process) ≤ MOST_TIMERS_EACH
+  pub states : length (states_of c.process) ≤ MOST_STATES
+  pub signals : length (signal_names c.block) ≤ MOST_SIGNALS
   pub start : NamedPiece c (start_piece c.process)
   pub answers : AnswersAll c None c.process.start.text
   pub sorted : AreSorted c c.process.start.text

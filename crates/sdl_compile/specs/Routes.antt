@@ -1,5 +1,6 @@
 -- The paths of a block's routes, with the numbers of their names.
 use Rattle.std.specs.Prelude.{◌≤◌, List, length, All, IsSome}
+use Rattle.profile_limits.specs.Limits.{MOST_PROCESSES, MOST_SIGNALS}
 use Rattle.sdl_ast.specs.declared.expression.Identifier.{Identifier}
 use Rattle.sdl_ast.specs.declared.tree.Party.{Party}
 use Rattle.sdl_ast.specs.declared.tree.Party.TheVariants.{Environment, Process}
@@ -24,8 +25,8 @@ pub record IsKnownPath (b : PlainBlock) (path : PlainPath) : Type 0 where
 
 -- the block is within the limits of numbers
 pub record HasFewNames (b : PlainBlock) : Type 0 where
-  pub processes : length (process_names b) ≤ 16
-  pub signals : length (signal_names b) ≤ 128
+  pub processes : length (process_names b) ≤ MOST_PROCESSES
+  pub signals : length (signal_names b) ≤ MOST_SIGNALS
 
 abbrev pub signal_numbered : List Identifier → Identifier → SignalNumber
 signal_numbered signals id = record { 0 = number_or_zero (number_of signals id.name) }

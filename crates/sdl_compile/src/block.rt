@@ -16,6 +16,7 @@ ghost use Rattle.sdl_compile.specs.Drafts.{IsReadyProcess, MatchesProcess, IsPro
 ghost use Rattle.sdl_compile.specs.Blocks.{drafted_party, drafted_path, MatchesBlock};
 ghost use Rattle.sdl_compile.specs.Meaning.{RunsAsMeant};
 ghost use Rattle.sdl_compile.specs.Routes.{KnownParty, IsKnown, IsKnownPath, HasFewNames, signal_numbered};
+ghost use Rattle.profile_limits.specs.Limits.{MOST_PROCESSES, MOST_SIGNALS};
 
 use crate::process::{Survey, compile_process};
 use crate::state::draft_name;
@@ -29,7 +30,7 @@ use turn_code::{
     Sort,
 };
 
-// What the rules have found of each process, by number.
+/// What the rules have found of each process, by number.
 #[derive(Drop)]
 struct Surveys<'a> {
     sets: &'a [Vec<u32>],
@@ -37,6 +38,7 @@ struct Surveys<'a> {
     measures: &'a [Vec<Measure>],
 }
 
+/// The sorts of parameters, as a draft has them.
 fn compile_sorts(alloc: Global, sorts: &[sdl_ast::Sort]) -> Result<Vec<Sort>, AllocError>
     ensures { IfOk result (λ v. v.items ≡ map sort_of_tree sorts.now) }
 {
@@ -47,6 +49,7 @@ fn compile_sorts(alloc: Global, sorts: &[sdl_ast::Sort]) -> Result<Vec<Sort>, Al
     Ok(compiled)
 }
 
+/// A signal with the sorts of its parameters.
 fn compile_signal(alloc: Global, row: &SignalDeclaration) -> Result<DraftSignal, AllocError>
     ensures { IfOk result (λ d. d ≡ drafted_signal (signal_of row.now)) }
 {
@@ -74,7 +77,7 @@ fn compile_signals(
 /// The number of a process that is declared.
 fn process_number(processes: &NameTable, id: &Identifier) -> ProcessNumber
     requires there { IsKnown processes.now id.now }
-    requires few { length processes.now ≤ 16 }
+    requires few { length processes.now ≤ MOST_PROCESSES }
     ensures { result.0 ≡ number_or_zero (number_of processes.now id.now.name) }
 {
     match processes.number(id.name) {
@@ -86,7 +89,7 @@ fn process_number(processes: &NameTable, id: &Identifier) -> ProcessNumber
 /// The number of a signal that is declared.
 fn signal_number(signals: &NameTable, id: &Identifier) -> SignalNumber
     requires there { IsKnown signals.now id.now }
-    requires few { length signals.now ≤ 128 }
+    requires few { length signals.now ≤ MOST_SIGNALS }
     ensures { result ≡ signal_numbered signals.now id.now }
 {
     match signals.number(id.name) {
@@ -98,7 +101,7 @@ fn signal_number(signals: &NameTable, id: &Identifier) -> SignalNumber
 /// Who sends or receives.
 fn compile_party(processes: &NameTable, party: &sdl_ast::Party) -> Party
     requires there { KnownParty processes.now party.now }
-    requires few { length processes.now ≤ 16 }
+    requires few { length processes.now ≤ MOST_PROCESSES }
     ensures { result ≡ drafted_party processes.now party.now }
 {
     match party {
@@ -107,13 +110,14 @@ fn compile_party(processes: &NameTable, party: &sdl_ast::Party) -> Party
     }
 }
 
+/// The numbers of signals that are declared.
 fn signal_numbers(
     alloc: Global,
     signals: &NameTable,
     ids: &[Identifier],
 ) -> Result<Vec<SignalNumber>, AllocError>
     requires there { All (IsKnown signals.now) ids.now }
-    requires few { length signals.now ≤ 128 }
+    requires few { length signals.now ≤ MOST_SIGNALS }
     ensures { IfOk result (λ v. v.items ≡ map (signal_numbered signals.now) ids.now) }
 {
     let mut numbers = Vec::new(alloc);
@@ -137,6 +141,7 @@ fn compile_path(alloc: Global, block: &BlockTable, path: &Path) -> Result<DraftR
     })
 }
 
+/// The paths of a route, at the end.
 fn push_paths(
     compiled: &mut Vec<DraftRoute>,
     alloc: Global,

@@ -8,6 +8,7 @@ ghost use Rattle.sdl_sound.specs.Longest.{places_cost};
 ghost use Rattle.sdl_compile.specs.Drafts.{Means};
 ghost use Rattle.sdl_facts.specs.Made.{IsPieceOf};
 ghost use Rattle.sdl_facts.specs.Settings.{IsSetting, IsReadyPiece, count_from, effects_from};
+ghost use Rattle.profile_limits.specs.Limits.{MOST_PARAMETERS};
 
 use sdl_ast::{Identifier, Transition};
 use sdl_emit::{Body, connection_places, emit_piece, place_connections, text_size};
@@ -19,7 +20,7 @@ use turn_code::{Cert, DraftPiece, PlaceFacts, Sequence};
 
 /// How many instructions INPUT's places have.
 fn places_length(places: &[Option<Identifier>]) -> usize
-    requires { length places.now ≤ 4 }
+    requires { length places.now ≤ MOST_PARAMETERS }
     ensures { result ≡ places_cost places.now }
 {
     let mut length = 0;

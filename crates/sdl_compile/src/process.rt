@@ -14,6 +14,7 @@ ghost use Rattle.turn_code.specs.Sets.{initial_set};
 ghost use Rattle.sdl_sound.specs.Longest.{start_piece};
 ghost use Rattle.sdl_facts.specs.Made.{IsPieceOf};
 ghost use Rattle.sdl_compile.specs.Drafts.{IsReadyProcess, Means, MatchesProcess, IsProcessOf, AllReady, AllTriggers, IsNamedAs, SavesAll, AreInputsOf, sets_of};
+ghost use Rattle.profile_limits.specs.Limits.{MOST_PROCESSES};
 
 use crate::piece::compile_transition;
 use crate::state::{Context, compile_states, draft_name};
@@ -108,7 +109,7 @@ pub fn compile_process<'a>(
     signals: &'a [DraftSignal],
 ) -> Result<DraftProcess, AllocError>
     requires ready { IsReadyProcess (scope_of (block_of block.now) (process_of table.now)) }
-    requires few { length (process_names (block_of block.now)) ≤ 16 }
+    requires few { length (process_names (block_of block.now)) ≤ MOST_PROCESSES }
     requires signals { signals.now ≡ drafted_signals (block_of block.now) }
     requires settled { AreSettled (process_of table.now) survey.now.sets.now }
     requires ordered { IsOrder (process_of table.now) survey.now.order.now }

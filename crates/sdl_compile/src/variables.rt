@@ -9,6 +9,7 @@ use sdl_tables::Variable;
 use std::alloc::{AllocError, Global};
 use turn_code::{DraftVariable, Sort, Value};
 
+/// The value of a constant.
 fn value(constant: Constant) -> Value
     ensures { result ≡ constant_value constant }
 {
@@ -28,6 +29,7 @@ pub(crate) fn sort(declared: sdl_ast::Sort) -> Sort
     }
 }
 
+/// A variable with its name, its sort and its initial value, if it has one.
 fn make_variable(row: &Variable) -> DraftVariable
     ensures { result ≡ drafted (variable_of row.now) }
 {

@@ -1,5 +1,6 @@
 -- The JOINs of a DECISION, collected part by part.
-use Rattle.std.proofs.Common.{◌≡◌, ℕ, Bool, true, false, cond, List, [], ◌∷◌, ◌++◌, map, Option, Some, None, refl, sym, ap, ◌∙◌, append_assoc}
+use Rattle.std.proofs.Common.{◌≡◌, ℕ, ◌+◌, ◌<◌, ◌≤◌, Bool, true, false, cond, List, [], ◌∷◌, ◌++◌, length, drop, get_or, map, Option, Some, None, refl, sym, ap, ◌∙◌, append_assoc, append-nil}
+use Rattle.std.proofs.lemmas.List.{drop_all}
 use Rattle.sdl_ast.specs.declared.tree.Join.{Join}
 use Rattle.sdl_ast.specs.declared.tree.Transition.{Transition}
 use Rattle.sdl_ast.specs.declared.tree.Statement.{Statement}
@@ -7,12 +8,13 @@ use Rattle.sdl_ast.specs.declared.tree.Statement.TheVariants.{Act, Decide}
 use Rattle.sdl_ast.specs.declared.tree.Answer.{Answer}
 use Rattle.sdl_ast.specs.declared.tree.Decision.{Decision, out-Decision}
 use Rattle.sdl_ast.specs.Plain.{Text, Choice, nothing_else, otherwise, answer, PlainAnswer, all_answers}
-use Rattle.sdl_ast.specs.Views.{plain_answer, choice_of, else_choice, statement_of, answers_before}
+use Rattle.sdl_ast.specs.Views.{plain_answer, text_of, choice_of, else_choice, statement_of, statements_before, answers_before}
 use Rattle.sdl_meaning.specs.Act.{Scope, is_truth}
 use Rattle.sdl_emit.specs.Scopes.{question_in}
 use Rattle.sdl_emit.specs.Placing.{decision_joins}
 use Rattle.sdl_meaning.specs.Code.{code_joins, else_joins, answers_joins, bodies_joins}
 use Rattle.sdl_ast.proofs.Views.{statement_of-decide}
+use Rattle.sdl_emit.proofs.Emitting.{one_answer, one_statement}
 
 module _ (c : Scope) where
   bodies_split : (choice : Choice) → bodies_joins c choice ≡ answers_joins c choice ++ else_joins c choice
@@ -39,3 +41,32 @@ module _ (c : Scope) where
           ≡ cond b (bodies_joins c (choice_of d)) (else_joins c (choice_of d) ++ answers_joins c (choice_of d))
       by_sort true f = ap (λ l. answers_joins c (choice_of d) ++ l) (sym f) ∙ sym (bodies_split (choice_of d))
       by_sort false f = ap (λ l. l ++ answers_joins c (choice_of d)) (sym f)
+
+  -- ---- one statement and one answer further on
+
+  pub statement_on : (start old new : List Join) (ss : List Statement) (i : ℕ) (s : Statement) (last : Text) → i < length ss → s ≡ get_or ss i s
+      → ((rest : Text) → new ++ code_joins c rest ≡ old ++ code_joins c (statement_of s rest)) → old ++ code_joins c (statements_before (drop i ss) last) ≡ start
+      → new ++ code_joins c (statements_before (drop (i + 1) ss) last) ≡ start
+  statement_on start old new ss i s last lt is step before =
+      step (statements_before (drop (i + 1) ss) last) ∙ (ap (λ t. old ++ code_joins c t) (sym (one_statement ss i s last lt is)) ∙ before)
+
+  pub statements_past : (start now : List Join) (ss : List Statement) (i : ℕ) (last : Text) → length ss ≤ i → now ++ code_joins c (statements_before (drop i ss) last) ≡ start
+      → now ++ code_joins c last ≡ start
+  statements_past start now ss i last past before = ap (λ l. now ++ code_joins c (statements_before l last)) (sym (drop_all i ss past)) ∙ before
+
+  pub answer_on : (start old new : List Join) (xs : List Answer) (i : ℕ) (x : Answer) (others : Choice) → i < length xs → x ≡ get_or xs i x
+      → new ≡ old ++ code_joins c (text_of x.body) → old ++ answers_joins c (answers_before (drop i xs) others) ≡ start
+      → new ++ answers_joins c (answers_before (drop (i + 1) xs) others) ≡ start
+  answer_on start old new xs i x others lt is body before =
+      let rest = answers_before (drop (i + 1) xs) others in
+      ap (λ l. l ++ answers_joins c rest) body ∙ (append_assoc old (code_joins c (text_of x.body)) (answers_joins c rest)
+      ∙ (ap (λ k. old ++ answers_joins c k) (sym (one_answer xs i x others lt is)) ∙ before))
+
+  none_of_else : (o : Option Transition) → answers_joins c (else_choice o) ≡ []
+  none_of_else None = refl
+  none_of_else (Some body) = refl
+
+  pub answers_past : (start now : List Join) (xs : List Answer) (i : ℕ) (o : Option Transition) → length xs ≤ i → now ++ answers_joins c (answers_before (drop i xs) (else_choice o)) ≡ start
+      → now ≡ start
+  answers_past start now xs i o past before =
+      sym (append-nil now) ∙ (ap (λ l. now ++ l) (sym (none_of_else o)) ∙ (ap (λ l. now ++ answers_joins c (answers_before l (else_choice o))) (sym (drop_all i xs past)) ∙ before))

@@ -4,6 +4,7 @@ ghost use Rattle.sdl_ast.specs.Views.{text_of, process_of};
 ghost use Rattle.sdl_tables.specs.Names.{variables_of};
 ghost use Rattle.sdl_sound.specs.Longest.{size};
 ghost use Rattle.sdl_emit.specs.Scopes.{IsBody};
+ghost use Rattle.profile_limits.specs.Limits.{MOST_INSTRUCTIONS};
 
 use sdl_ast::Transition;
 use sdl_measures::code_size;
@@ -19,7 +20,7 @@ pub struct Body<'a> {
 /// How many instructions a transition has, without those of connections.
 pub fn text_size(process: &ProcessTable, body: &Body) -> usize
     requires body { IsBody body.now }
-    requires short { size (variables_of (process_of process.now)) (text_of body.now.whole.now) ≤ 512 }
+    requires short { size (variables_of (process_of process.now)) (text_of body.now.whole.now) ≤ MOST_INSTRUCTIONS }
     ensures { result ≡ size (variables_of (process_of process.now)) (text_of body.now.whole.now) }
 {
     code_size(process, body.copy) as usize

@@ -8,6 +8,7 @@ ghost use Rattle.sdl_emit.specs.Scopes.{scope_in};
 ghost use Rattle.sdl_meaning.specs.Act.{divisor_of};
 ghost use Rattle.sdl_meaning.specs.Named.{NamedTree, NamedTrees, NamedTasks, NamedSending, NamedSendings, NamedAction, NamedPlaces};
 ghost use Rattle.sdl_meaning.specs.Code.{tree_code, trees_code, tasks_code, sendings_code, action_code, places_code, unary_code, binary_code, division_code};
+ghost use Rattle.profile_limits.specs.Limits.{MOST_PARAMETERS};
 
 use crate::names::Names;
 use sdl_ast::{
@@ -25,6 +26,7 @@ pub(crate) fn put(code: &mut Vec<Instruction>, instruction: Instruction) -> Resu
     Ok(())
 }
 
+/// An operator with one operand.
 fn unary(operator: UnaryOperator) -> Instruction
     ensures { result ≡ unary_code operator }
 {
@@ -145,6 +147,7 @@ pub(crate) fn emit_expression(
     }
 }
 
+/// The value of an assignment, and the store to its variable.
 fn emit_assignment(
     code: &mut Vec<Instruction>,
     names: &Names,
@@ -160,6 +163,7 @@ fn emit_assignment(
     )
 }
 
+/// Assignments, one behind another.
 fn emit_assignments(
     code: &mut Vec<Instruction>,
     names: &Names,
@@ -174,6 +178,7 @@ fn emit_assignments(
     Ok(())
 }
 
+/// The parameters of a signal, one behind another.
 fn emit_parameters(
     code: &mut Vec<Instruction>,
     names: &Names,
@@ -205,6 +210,7 @@ fn emit_sending(
     put(code, Instruction::Output(signal, receiver, count))
 }
 
+/// The sendings of an OUTPUT, one behind another.
 fn emit_sendings(
     code: &mut Vec<Instruction>,
     names: &Names,
@@ -247,7 +253,7 @@ pub(crate) fn emit_places(
     places: &[Option<Identifier>],
 ) -> Result<(), AllocError>
     requires named { NamedPlaces (scope_in names.now) places.now }
-    requires few { length places.now ≤ 4 }
+    requires few { length places.now ≤ MOST_PARAMETERS }
     ensures { OnOk result (code.new.items ≡ code.old.items ++ places_code (scope_in names.now) 0 places.now) }
 {
     for (j, place) in places.iter().enumerate() {

@@ -69,6 +69,7 @@ fn add_join(
     Ok(())
 }
 
+/// The JOINs in the bodies of a DECISION.
 #[cycle(joins)]
 fn add_decision(
     targets: &mut Vec<Option<Target>>,
@@ -87,6 +88,7 @@ fn add_decision(
     }
 }
 
+/// The JOINs of a statement: an action has none.
 #[cycle(joins)]
 fn add_statement(
     targets: &mut Vec<Option<Target>>,

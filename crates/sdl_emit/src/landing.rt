@@ -7,6 +7,7 @@ ghost use Rattle.sdl_sound.specs.Longest.{tests_size};
 ghost use Rattle.turn_code.specs.declared.instruction.Instruction.TheVariants.{Drop as DropCode};
 ghost use Rattle.sdl_meaning.specs.Code.{is_literal, names_truth};
 ghost use Rattle.sdl_emit.specs.Landing.{landed, filled, first_or, has_any, picked_by};
+ghost use Rattle.profile_limits.specs.Limits.{MOST_INSTRUCTIONS};
 
 use crate::emit::put;
 use sdl_ast::{Constant, Decision, Literal, Range};
@@ -15,7 +16,7 @@ use turn_code::{CodePlace, Instruction};
 
 /// How many tests an Integer DECISION has, with the drop before ELSE.
 pub(crate) fn tests_length(decision: &Decision) -> usize
-    requires { tests_size (choice_of decision.now) ≤ 512 }
+    requires { tests_size (choice_of decision.now) ≤ MOST_INSTRUCTIONS }
     ensures { result ≡ tests_size (choice_of decision.now) }
 {
     let mut total = 0;
@@ -127,7 +128,7 @@ pub(crate) fn land_jumps(code: &mut Vec<Instruction>, jumps: &[usize], after: Co
 
 /// Puts instructions from a place on.
 pub(crate) fn fill_places(code: &mut Vec<Instruction>, first: usize, instructions: &[Instruction])
-    requires { first + length instructions.now ≤ 512 }
+    requires { first + length instructions.now ≤ MOST_INSTRUCTIONS }
     ensures { code.new.items ≡ filled code.old.items first instructions.now }
 {
     let mut place = first;

@@ -7,6 +7,7 @@ ghost use Rattle.sdl_meaning.specs.Act.{variable_at, state_at, timer_at, connect
 ghost use Rattle.sdl_meaning.specs.Named.{HasReceiver};
 ghost use Rattle.sdl_meaning.specs.Code.{number_or_zero, party_or_environment, receiver_code};
 ghost use Rattle.sdl_emit.specs.Targets.{IsJoinTable};
+ghost use Rattle.profile_limits.specs.Limits.{MOST_PROCESSES, MOST_SIGNALS, MOST_STATES, MOST_TIMERS_EACH, MOST_VARIABLES};
 
 use crate::joins::JoinTable;
 use sdl_ast::{Destination, Expression, Identifier, Sort};
@@ -24,11 +25,11 @@ pub struct Names<'a> {
     pub process: &'a ProcessTable<'a>,
     pub joins: &'a JoinTable,
     pub ghost joined: { IsJoinTable (process_of process.now) joins.now },
-    pub ghost few_variables: { length (variable_names (process_of process.now)) ≤ 32 },
-    pub ghost few_states: { length (states_of (process_of process.now)) ≤ 64 },
-    pub ghost few_timers: { length (timers_of (process_of process.now)) ≤ 8 },
-    pub ghost few_signals: { length (signal_names (block_of block.now)) ≤ 128 },
-    pub ghost few_processes: { length (process_names (block_of block.now)) ≤ 16 },
+    pub ghost few_variables: { length (variable_names (process_of process.now)) ≤ MOST_VARIABLES },
+    pub ghost few_states: { length (states_of (process_of process.now)) ≤ MOST_STATES },
+    pub ghost few_timers: { length (timers_of (process_of process.now)) ≤ MOST_TIMERS_EACH },
+    pub ghost few_signals: { length (signal_names (block_of block.now)) ≤ MOST_SIGNALS },
+    pub ghost few_processes: { length (process_names (block_of block.now)) ≤ MOST_PROCESSES },
 }
 
 impl Names<'_> {

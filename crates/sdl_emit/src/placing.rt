@@ -1,15 +1,16 @@
 //! Which connections stand behind the text of a piece, and where.
 ghost use Rattle.std.specs.Prelude.{◌≡◌, ◌+◌, ◌≤◌, ◌<◌, ◌++◌, ℕ, [], fold, length, replicate, All, IsSome, OnOk, IfOk};
 ghost use Rattle.std.specs.List.{list_any, sum_by};
-ghost use Rattle.sdl_ast.specs.Views.{text_of, statement_of, choice_of, else_choice, process_of};
+ghost use Rattle.sdl_ast.specs.Views.{text_of, end_text, statement_of, choice_of, else_choice, process_of};
 ghost use Rattle.sdl_measures.specs.Counting.{measure_at};
 ghost use Rattle.sdl_measures.specs.Measures.{AreMeasures};
 ghost use Rattle.sdl_trimmed.specs.Trimmed.{AreTrimmed};
 ghost use Rattle.sdl_emit.specs.Scopes.{scope_in, places_by, IsBody};
 ghost use Rattle.sdl_emit.specs.Placing.{decision_joins, numbers_of, HaveNumbers, AreMarked};
 ghost use Rattle.sdl_meaning.specs.Named.{NamedText, NamedConnections};
-ghost use Rattle.sdl_meaning.specs.Act.{connector_at};
+ghost use Rattle.sdl_meaning.specs.Act.{Scope, connector_at};
 ghost use Rattle.sdl_meaning.specs.Code.{number_or_zero, code_joins, else_joins, answers_joins, add_number, joined, text_at, size_at, place_in, ArePlaced};
+ghost use Rattle.profile_limits.specs.Limits.{MOST_INSTRUCTIONS};
 
 use crate::bodies::Body;
 use crate::names::Names;
@@ -17,6 +18,19 @@ use sdl_ast::{Decision, End, Join, Statement, Transition};
 use sdl_measures::Measure;
 use std::alloc::{AllocError, Global};
 
+/// The JOIN with which a text may end.
+fn collect_end(found: &mut Vec<Join>, end: Option<End>) -> Result<(), AllocError>
+    ensures { OnOk result ((c : Scope) → found.new.items ≡ found.old.items ++ code_joins c (end_text end)) }
+{
+    match end {
+        None => Ok(()),
+        Some(End::NextState(_)) => Ok(()),
+        Some(End::Stop(_)) => Ok(()),
+        Some(End::Join(join)) => Ok(found.push(join)?),
+    }
+}
+
+/// The JOINs of the bodies of a DECISION's answers.
 #[cycle(placing)]
 fn collect_answers(
     found: &mut Vec<Join>,
@@ -31,6 +45,7 @@ fn collect_answers(
     Ok(())
 }
 
+/// The JOINs of the body of ELSE, if there is one.
 #[cycle(placing)]
 fn collect_else(
     found: &mut Vec<Join>,
@@ -63,6 +78,7 @@ fn collect_decision(
     }
 }
 
+/// The JOINs of a statement: an action has none.
 #[cycle(placing)]
 fn collect_statement(
     found: &mut Vec<Join>,
@@ -89,10 +105,7 @@ fn collect_joins(
     for statement in &transition.statements {
         collect_statement(found, names, statement)?;
     }
-    if let Some(End::Join(join)) = transition.end {
-        found.push(join)?;
-    }
-    Ok(())
+    collect_end(found, transition.end)
 }
 
 /// One more connection, unless it is placed already, which its mark tells.
@@ -115,6 +128,7 @@ fn place_one(
     Ok(())
 }
 
+/// The connections to which these JOINs lead, in their order, each unless it is placed already.
 fn place_each(
     placed: &mut Vec<usize>,
     marks: &mut Vec<bool>,
@@ -206,6 +220,7 @@ pub fn place_connections(
     Ok(placed)
 }
 
+/// How many instructions the text of the connection with a number has; 0 where nothing is measured of it.
 fn measured_size(measures: &[Measure], number: usize) -> u32
     ensures { result ≡ (measure_at measures.now number).size }
 {
@@ -219,7 +234,7 @@ fn measured_size(measures: &[Measure], number: usize) -> u32
 fn connection_size(names: &Names, measures: &[Measure], number: usize) -> usize
     requires measured { AreMeasures (process_of names.now.process.now) measures.now }
     requires there { number < length (process_of names.now.process.now).connections }
-    requires short { size_at (scope_in names.now) number ≤ 512 }
+    requires short { size_at (scope_in names.now) number ≤ MOST_INSTRUCTIONS }
     ensures { result ≡ size_at (scope_in names.now) number }
 {
     measured_size(measures, number) as usize
@@ -229,7 +244,7 @@ fn connection_size(names: &Names, measures: &[Measure], number: usize) -> usize
 fn total_size(names: &Names, measures: &[Measure], placed: &[usize]) -> usize
     requires measured { AreMeasures (process_of names.now.process.now) measures.now }
     requires there { All (λ n. n < length (process_of names.now.process.now).connections) placed.now }
-    requires short { sum_by (size_at (scope_in names.now)) placed.now ≤ 512 }
+    requires short { sum_by (size_at (scope_in names.now)) placed.now ≤ MOST_INSTRUCTIONS }
     ensures { result ≡ sum_by (size_at (scope_in names.now)) placed.now }
 {
     let mut total = 0;
@@ -249,9 +264,9 @@ pub fn connection_places(
 ) -> Result<Vec<usize>, AllocError>
     requires measured { AreMeasures (process_of names.now.process.now) measures.now }
     requires there { All (λ n. n < length (process_of names.now.process.now).connections) placed.now }
-    requires short { start + sum_by (size_at (scope_in names.now)) placed.now ≤ 512 }
+    requires short { start + sum_by (size_at (scope_in names.now)) placed.now ≤ MOST_INSTRUCTIONS }
     ensures places { IfOk result (λ ps. (n : ℕ) → places_by ps.items n ≡ place_in (scope_in names.now) start placed.now n) }
-    ensures low { IfOk result (λ ps. All (λ p. p ≤ 512) ps.items) }
+    ensures low { IfOk result (λ ps. All (λ p. p ≤ MOST_INSTRUCTIONS) ps.items) }
 {
     let count = names.process.process().connections.len();
     let mut places = vec![in alloc; 0; count]?;

@@ -11,6 +11,7 @@ use sdl_ast::{Constant, Decision, Literal, Range};
 use std::alloc::AllocError;
 use turn_code::{CodePlace, Instruction, Relation};
 
+/// A comparison, as an instruction has it.
 fn relation(sign: sdl_ast::Relation) -> Relation
     ensures { result ≡ relation_of sign }
 {
@@ -49,6 +50,7 @@ fn range_test(place: CodePlace, range: &Range) -> Instruction
     }
 }
 
+/// A test for each range of an answer whose body stands at a place.
 fn emit_ranges(
     code: &mut Vec<Instruction>,
     place: CodePlace,

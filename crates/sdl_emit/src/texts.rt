@@ -11,6 +11,7 @@ ghost use Rattle.sdl_emit.specs.Scopes.{scope_in, places_by, question_in, piece_
 ghost use Rattle.sdl_meaning.specs.Named.{NamedEnd, NamedText, NamedChoice, NamedPiece};
 ghost use Rattle.sdl_meaning.specs.Code.{end_code, leave_code, body_size, else_size, answers_size, after_choice, text_code, else_code, answers_code, truth_code, integer_code, text_at, size_at, connections_place, place_in, connections_code, piece_code};
 ghost use Rattle.sdl_emit.specs.Landing.{leave_place, answers_leave, else_leave, starts_from};
+ghost use Rattle.profile_limits.specs.Limits.{MOST_INSTRUCTIONS, MOST_PARAMETERS};
 
 use crate::bodies::Body;
 use crate::emit::{emit_action, emit_expression, emit_places, put};
@@ -26,7 +27,7 @@ use turn_code::{CodePlace, Instruction};
 
 /// A place within the limit of a piece.
 fn code_place(place: usize) -> CodePlace
-    requires { place ≤ 512 }
+    requires { place ≤ MOST_INSTRUCTIONS }
     ensures { result.0 ≡ place }
 {
     CodePlace(place as u16)
@@ -34,9 +35,9 @@ fn code_place(place: usize) -> CodePlace
 
 /// Where the connection with a number stands: nowhere where it has no place.
 fn place_of(places: &[usize], number: usize) -> usize
-    requires { All (λ p. p ≤ 512) places.now }
+    requires { All (λ p. p ≤ MOST_INSTRUCTIONS) places.now }
     ensures place { result ≡ places_by places.now number }
-    ensures low { result ≤ 512 }
+    ensures low { result ≤ MOST_INSTRUCTIONS }
 {
     match places.get(number) {
         Some(place) => *place,
@@ -44,6 +45,7 @@ fn place_of(places: &[usize], number: usize) -> usize
     }
 }
 
+/// The end of a transition: its state, STOP, or the jump to the connection of a JOIN.
 fn emit_end(
     code: &mut Vec<Instruction>,
     names: &Names,
@@ -51,7 +53,7 @@ fn emit_end(
     end: &End,
 ) -> Result<(), AllocError>
     requires named { NamedEnd (scope_in names.now) end.now }
-    requires low { All (λ p. p ≤ 512) places.now }
+    requires low { All (λ p. p ≤ MOST_INSTRUCTIONS) places.now }
     ensures { OnOk result (code.new.items ≡ code.old.items ++ end_code (scope_in names.now) (places_by places.now) end.now) }
 {
     match end {
@@ -75,8 +77,8 @@ fn emit_body(
     body: &Transition,
 ) -> Result<(), AllocError>
     requires named { NamedText (scope_in names.now) (text_of body.now) }
-    requires fits { length code.now.items + body_size (scope_in names.now) (text_of body.now) ≤ 512 }
-    requires low { All (λ p. p ≤ 512) places.now }
+    requires fits { length code.now.items + body_size (scope_in names.now) (text_of body.now) ≤ MOST_INSTRUCTIONS }
+    requires low { All (λ p. p ≤ MOST_INSTRUCTIONS) places.now }
     ensures code { OnOk result (code.new.items ≡ code.old.items ++ (text_code (scope_in names.now) (places_by places.now) (length code.old.items) (text_of body.now) ++ leave_code 0 (text_of body.now))) }
     ensures jumps { OnOk result (jumps.new.items ≡ jumps.old.items ++ leave_place (scope_in names.now) (places_by places.now) (length code.old.items) (text_of body.now)) }
 {
@@ -98,8 +100,8 @@ fn emit_else(
     decision: &Decision,
 ) -> Result<(), AllocError>
     requires named { NamedChoice (scope_in names.now) (question_in decision.now) (choice_of decision.now) }
-    requires fits { length code.now.items + else_size (scope_in names.now) (choice_of decision.now) ≤ 512 }
-    requires low { All (λ p. p ≤ 512) places.now }
+    requires fits { length code.now.items + else_size (scope_in names.now) (choice_of decision.now) ≤ MOST_INSTRUCTIONS }
+    requires low { All (λ p. p ≤ MOST_INSTRUCTIONS) places.now }
     ensures code { OnOk result (code.new.items ≡ code.old.items ++ else_code (scope_in names.now) (places_by places.now) (length code.old.items) 0 (choice_of decision.now)) }
     ensures jumps { OnOk result (jumps.new.items ≡ jumps.old.items ++ else_leave (scope_in names.now) (places_by places.now) (length code.old.items) (choice_of decision.now)) }
 {
@@ -121,8 +123,8 @@ fn emit_answers(
     decision: &Decision,
 ) -> Result<(), AllocError>
     requires named { NamedChoice (scope_in names.now) (question_in decision.now) (choice_of decision.now) }
-    requires fits { length code.now.items + answers_size (scope_in names.now) (choice_of decision.now) ≤ 512 }
-    requires low { All (λ p. p ≤ 512) places.now }
+    requires fits { length code.now.items + answers_size (scope_in names.now) (choice_of decision.now) ≤ MOST_INSTRUCTIONS }
+    requires low { All (λ p. p ≤ MOST_INSTRUCTIONS) places.now }
     ensures code { OnOk result (code.new.items ≡ code.old.items ++ answers_code (scope_in names.now) (places_by places.now) (length code.old.items) 0 (choice_of decision.now)) }
     ensures jumps { OnOk result (jumps.new.items ≡ jumps.old.items ++ answers_leave (scope_in names.now) (places_by places.now) (length code.old.items) (choice_of decision.now)) }
     ensures starts { OnOk result (starts.new.items ≡ starts.old.items ++ starts_from (scope_in names.now) (length code.old.items) (choice_of decision.now)) }
@@ -144,8 +146,8 @@ fn emit_truth(
     decision: &Decision,
 ) -> Result<bool, AllocError>
     requires named { NamedChoice (scope_in names.now) (question_in decision.now) (choice_of decision.now) }
-    requires fits { after_choice (scope_in names.now) true (length code.now.items) (choice_of decision.now) ≤ 512 }
-    requires low { All (λ p. p ≤ 512) places.now }
+    requires fits { after_choice (scope_in names.now) true (length code.now.items) (choice_of decision.now) ≤ MOST_INSTRUCTIONS }
+    requires low { All (λ p. p ≤ MOST_INSTRUCTIONS) places.now }
     ensures code { OnOk result (code.new.items ≡ code.old.items ++ truth_code (scope_in names.now) (places_by places.now) (length code.old.items) (choice_of decision.now)) }
     ensures goes { IfOk result (λ b. b ≡ choice_goes_on (choice_of decision.now)) }
 {
@@ -181,8 +183,8 @@ fn emit_integer(
     decision: &Decision,
 ) -> Result<bool, AllocError>
     requires named { NamedChoice (scope_in names.now) (question_in decision.now) (choice_of decision.now) }
-    requires fits { after_choice (scope_in names.now) false (length code.now.items) (choice_of decision.now) ≤ 512 }
-    requires low { All (λ p. p ≤ 512) places.now }
+    requires fits { after_choice (scope_in names.now) false (length code.now.items) (choice_of decision.now) ≤ MOST_INSTRUCTIONS }
+    requires low { All (λ p. p ≤ MOST_INSTRUCTIONS) places.now }
     ensures code { OnOk result (code.new.items ≡ code.old.items ++ integer_code (scope_in names.now) (places_by places.now) (length code.old.items) (choice_of decision.now)) }
     ensures goes { IfOk result (λ b. b ≡ choice_goes_on (choice_of decision.now)) }
 {
@@ -207,6 +209,7 @@ fn emit_integer(
     Ok(has_any(&jumps))
 }
 
+/// A DECISION: its question, and what stands behind that. Whether one of the bodies goes on.
 #[cycle(texts)]
 fn emit_decision(
     alloc: Global,
@@ -216,8 +219,8 @@ fn emit_decision(
     decision: &Decision,
 ) -> Result<bool, AllocError>
     requires named { NamedText (scope_in names.now) (decision_of decision.now falls) }
-    requires fits { length code.now.items + size (variables_of (scope_in names.now).process) (decision_of decision.now falls) ≤ 512 }
-    requires low { All (λ p. p ≤ 512) places.now }
+    requires fits { length code.now.items + size (variables_of (scope_in names.now).process) (decision_of decision.now falls) ≤ MOST_INSTRUCTIONS }
+    requires low { All (λ p. p ≤ MOST_INSTRUCTIONS) places.now }
     ensures code { OnOk result (code.new.items ≡ code.old.items ++ text_code (scope_in names.now) (places_by places.now) (length code.old.items) (decision_of decision.now falls)) }
     ensures goes { IfOk result (λ b. b ≡ choice_goes_on (choice_of decision.now)) }
 {
@@ -239,8 +242,8 @@ fn emit_statement(
     statement: &Statement,
 ) -> Result<bool, AllocError>
     requires named { NamedText (scope_in names.now) (statement_of statement.now falls) }
-    requires fits { length code.now.items + size (variables_of (scope_in names.now).process) (statement_of statement.now falls) ≤ 512 }
-    requires low { All (λ p. p ≤ 512) places.now }
+    requires fits { length code.now.items + size (variables_of (scope_in names.now).process) (statement_of statement.now falls) ≤ MOST_INSTRUCTIONS }
+    requires low { All (λ p. p ≤ MOST_INSTRUCTIONS) places.now }
     ensures code { OnOk result (code.new.items ≡ code.old.items ++ text_code (scope_in names.now) (places_by places.now) (length code.old.items) (statement_of statement.now falls)) }
     ensures goes { IfOk result (λ b. (rest : Text) → goes_on (statement_of statement.now rest) ≡ (b && goes_on rest)) }
 {
@@ -263,8 +266,8 @@ pub(crate) fn emit_text(
     transition: &Transition,
 ) -> Result<bool, AllocError>
     requires named { NamedText (scope_in names.now) (text_of transition.now) }
-    requires fits { length code.now.items + size (variables_of (scope_in names.now).process) (text_of transition.now) ≤ 512 }
-    requires low { All (λ p. p ≤ 512) places.now }
+    requires fits { length code.now.items + size (variables_of (scope_in names.now).process) (text_of transition.now) ≤ MOST_INSTRUCTIONS }
+    requires low { All (λ p. p ≤ MOST_INSTRUCTIONS) places.now }
     ensures code { OnOk result (code.new.items ≡ code.old.items ++ text_code (scope_in names.now) (places_by places.now) (length code.old.items) (text_of transition.now)) }
     ensures goes { IfOk result (λ b. b ≡ goes_on (text_of transition.now)) }
 {
@@ -293,8 +296,8 @@ fn emit_connection(
 ) -> Result<(), AllocError>
     requires copied { AreTrimmed (process_of names.now.process.now).connections copies.now }
     requires named { NamedText (scope_in names.now) (text_at (scope_in names.now) number) }
-    requires fits { length code.now.items + size_at (scope_in names.now) number ≤ 512 }
-    requires low { All (λ p. p ≤ 512) places.now }
+    requires fits { length code.now.items + size_at (scope_in names.now) number ≤ MOST_INSTRUCTIONS }
+    requires low { All (λ p. p ≤ MOST_INSTRUCTIONS) places.now }
     ensures { OnOk result (code.new.items ≡ code.old.items ++ text_code (scope_in names.now) (places_by places.now) (length code.old.items) (text_at (scope_in names.now) number)) }
 {
     match copies.get(number) {
@@ -317,8 +320,8 @@ pub(crate) fn emit_connections(
 ) -> Result<(), AllocError>
     requires copied { AreTrimmed (process_of names.now.process.now).connections copies.now }
     requires named { (n : ℕ) → NamedText (scope_in names.now) (text_at (scope_in names.now) n) }
-    requires fits { length code.now.items + sum_by (size_at (scope_in names.now)) numbers.now ≤ 512 }
-    requires low { All (λ p. p ≤ 512) places.now }
+    requires fits { length code.now.items + sum_by (size_at (scope_in names.now)) numbers.now ≤ MOST_INSTRUCTIONS }
+    requires low { All (λ p. p ≤ MOST_INSTRUCTIONS) places.now }
     ensures { OnOk result (code.new.items ≡ code.old.items ++ connections_code (scope_in names.now) (places_by places.now) (length code.old.items) numbers.now) }
 {
     for number in numbers {
@@ -341,9 +344,9 @@ pub fn emit_piece(
     requires body { IsBody body.now }
     requires named { NamedPiece (scope_in names.now) (piece_in places.now body.now.whole.now) }
     requires copied { AreTrimmed (process_of names.now.process.now).connections copies.now }
-    requires few { length places.now ≤ 4 }
-    requires fits { connections_place (scope_in names.now) (piece_in places.now body.now.whole.now) + sum_by (size_at (scope_in names.now)) numbers.now ≤ 512 }
-    requires low { All (λ p. p ≤ 512) targets.now }
+    requires few { length places.now ≤ MOST_PARAMETERS }
+    requires fits { connections_place (scope_in names.now) (piece_in places.now body.now.whole.now) + sum_by (size_at (scope_in names.now)) numbers.now ≤ MOST_INSTRUCTIONS }
+    requires low { All (λ p. p ≤ MOST_INSTRUCTIONS) targets.now }
     requires placed { (n : ℕ) → places_by targets.now n ≡ place_in (scope_in names.now) (connections_place (scope_in names.now) (piece_in places.now body.now.whole.now)) numbers.now n }
     ensures { IfOk result (λ code. code.items ≡ piece_code (scope_in names.now) (piece_in places.now body.now.whole.now) numbers.now) }
 {

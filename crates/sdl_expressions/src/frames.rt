@@ -36,6 +36,7 @@ pub(crate) struct Frame {
     pub(crate) terms: Terms,
 }
 
+/// No operand of a sum stands there, and no operator in front of one.
 pub(crate) fn no_terms() -> Terms
     ensures { terms_view result ≡ no_terms }
 {
@@ -46,6 +47,7 @@ pub(crate) fn no_terms() -> Terms
     }
 }
 
+/// Nothing stands behind the parenthesis that was opened at this place.
 pub(crate) fn empty_frame(opened: u32) -> Frame
     ensures { frame_view result ≡ empty_frame opened }
 {

@@ -165,6 +165,7 @@ fn have(
     }
 }
 
+/// What a token makes of a state, where it is known what it is in an expression.
 #[tactic(auto, unfolding(crate::specs::Machine::turn))]
 fn take_turn(alloc: Global, state: State, sign: Sign) -> Result<Turn, AllocError>
     ensures { IfOk result (λ t. turn_view t ≡ turn low_trees (state_view state) (sign_view sign)) }

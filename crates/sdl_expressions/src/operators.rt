@@ -40,6 +40,7 @@ pub(crate) fn variable_part(alloc: Global, at: u32, name: Identifier) -> Result<
     })
 }
 
+/// The place of an expression.
 fn place(tree: &Expression) -> u32
     ensures { result ≡ place_of (tree_of tree.now) }
 {
@@ -52,6 +53,7 @@ fn place(tree: &Expression) -> u32
     }
 }
 
+/// The same expression at this place.
 fn moved_tree(tree: Expression, at: u32) -> Expression
     ensures { tree_of result ≡ placed at (tree_of tree) }
 {

@@ -21,6 +21,7 @@ pub(crate) enum Sign {
     Other,
 }
 
+/// What a symbol is in an expression.
 fn symbol_sign(at: u32, symbol: Symbol) -> Sign
     ensures { sign_view result ≡ symbol_sign at symbol }
 {
@@ -41,6 +42,7 @@ fn symbol_sign(at: u32, symbol: Symbol) -> Sign
     }
 }
 
+/// What a reserved word is in an expression.
 fn word_sign(at: u32, word: Word) -> Sign
     ensures { sign_view result ≡ word_sign at word }
 {
@@ -57,6 +59,7 @@ fn word_sign(at: u32, word: Word) -> Sign
     }
 }
 
+/// What a token is in an expression: a number above 2147483647 and a quoted text are no part of one.
 fn token_sign(token: &Token) -> Sign
     ensures { sign_view result ≡ lexeme_sign token.now.start token.now.lexeme }
 {

@@ -1,22 +1,27 @@
 -- The sets of a DECISION are put together of those of its answers and of ELSE.
-use Rattle.std.proofs.Common.{◌≡◌, ℕ, zero, suc, ◌+◌, ◌<◌, ◌≤◌, Bool, true, false, cond, List, [], ◌∷◌, ◌++◌, length, drop, get_or, map, Option, Some, None, refl, sym, ap, ◌∙◌, arith, append_assoc, append-nil}
+use Rattle.std.proofs.Common.{◌≡◌, ℕ, zero, suc, ◌+◌, ◌<◌, ◌≤◌, Bool, true, false, cond, List, [], ◌∷◌, ◌++◌, length, drop, get_or, map, Option, Some, None, refl, sym, ap, ◌∙◌, subst, arith, append_assoc, append-nil}
 use Rattle.std.specs.Prelude.{slice_get, option_map}
 use Rattle.std.specs.Option.{option_map_or}
+use Rattle.std.proofs.lemmas.List.{drop_more}
 use Rattle.std.proofs.lemmas.Option.{slice_get-map, slice_get-get_or}
 use Rattle.sdl_ast.specs.declared.tree.Connection.{Connection}
 use Rattle.sdl_ast.specs.declared.expression.Identifier.{Identifier}
+use Rattle.sdl_ast.specs.declared.tree.Answer.{Answer}
+use Rattle.sdl_ast.specs.declared.tree.Assignment.{Assignment}
 use Rattle.sdl_ast.specs.declared.tree.Range.{Range}
 use Rattle.sdl_ast.specs.declared.tree.Transition.{Transition}
-use Rattle.sdl_ast.specs.Plain.{Tree, Text, falls, Choice, PlainConnection, nothing_else, otherwise, answer, PlainAnswer, all_answers}
-use Rattle.sdl_ast.specs.Views.{text_of, else_choice, connection_of}
+use Rattle.sdl_ast.specs.Plain.{Tree, Text, falls, Choice, PlainConnection, PlainAnswer, all_answers}
+use Rattle.sdl_ast.specs.Views.{tree_of, text_of, assignment_of, answers_before, else_choice, connection_of}
 use Rattle.turn_code.specs.declared.variable_set.VariableSet.{VariableSet}
-use Rattle.sdl_meaning.specs.Act.{Scope, is_truth}
-use Rattle.sdl_meaning.specs.Named.{NamedText, NamedChoice, NamedConnections}
+use Rattle.turn_code.specs.Sets.{with_variable}
+use Rattle.sdl_meaning.specs.Act.{Scope, is_truth, variable_at}
+use Rattle.sdl_meaning.specs.Named.{NamedText, NamedTasks, NamedChoice, NamedConnections}
 use Rattle.sdl_emit.specs.Scopes.{NamedElse}
-use Rattle.sdl_meaning.specs.Code.{text_at}
-use Rattle.sdl_facts.specs.Reads.{places_set, everything, meet, answers_left, else_left, choice_left}
+use Rattle.sdl_emit.proofs.Emitting.{one_answer}
+use Rattle.sdl_meaning.specs.Code.{number_or_zero, text_at}
+use Rattle.sdl_facts.specs.Reads.{tasks_set, places_set, everything, meet, answers_left, else_left, choice_left}
 use Rattle.sdl_facts.specs.Entries.{entry_at, met, connection_met, connections_met, answers_met, else_met, choice_met}
-use Rattle.sdl_facts.specs.Facts.{places_sets, connections_sets, piece_sets, ranges_sets, text_sets, tree_sets, tests_sets, else_sets, answers_sets, decision_sets}
+use Rattle.sdl_facts.specs.Facts.{tasks_sets, places_sets, connections_sets, piece_sets, ranges_sets, text_sets, tree_sets, tests_sets, else_sets, answers_sets, decision_sets}
 
 -- ---- one item more
 
@@ -28,6 +33,35 @@ ranges_more m (r ∷ rs) (suc i) lt = let e : suc (i + 1) ≡ suc i + 1 = omega 
 pub ranges_loop : (m : VariableSet) (rs : List Range) (i : ℕ) (old new all : List VariableSet) → i < length rs → old ++ ranges_sets m (drop i rs) ≡ all → new ≡ old ++ m ∷ [] → new ++ ranges_sets m (drop (i + 1) rs) ≡ all
 ranges_loop m rs i old new all lt e f =
     ap (λ l. l ++ ranges_sets m (drop (i + 1) rs)) f ∙ append_assoc old (m ∷ []) (ranges_sets m (drop (i + 1) rs)) ∙ ap (λ l. old ++ l) (sym (ranges_more m rs i lt)) ∙ e
+
+pub tests_loop : (m : VariableSet) (xs : List Answer) (i : ℕ) (x : Answer) (others : Choice) (old new all : List VariableSet) → i < length xs → x ≡ get_or xs i x
+    → old ++ tests_sets m (answers_before (drop i xs) others) ≡ all → new ≡ old ++ ranges_sets m x.ranges.items → new ++ tests_sets m (answers_before (drop (i + 1) xs) others) ≡ all
+tests_loop m xs i x others old new all lt is e f =
+    let rest = answers_before (drop (i + 1) xs) others in
+    ap (λ l. l ++ tests_sets m rest) f ∙ append_assoc old (ranges_sets m x.ranges.items) (tests_sets m rest) ∙ ap (λ k. old ++ tests_sets m k) (sym (one_answer xs i x others lt is)) ∙ e
+
+-- an assignment: `set` is the set behind it
+module _ (c : Scope) (m set : VariableSet) (xs : List Assignment) (i : ℕ) (x : Assignment) (lt : i < length xs) (is : x ≡ get_or xs i x)
+    (with_it : set ≡ with_variable m (number_or_zero (variable_at c x.variable))) where
+  one_task : map assignment_of (drop i xs) ≡ assignment_of x ∷ map assignment_of (drop (i + 1) xs)
+  one_task = ap (map assignment_of) (drop_more xs i x lt ∙ ap (λ y. y ∷ drop (i + 1) xs) (sym is))
+
+  pub tasks_loop : (old one two all : List VariableSet) → one ≡ old ++ tree_sets m (tree_of x.value) → two ≡ one ++ m ∷ []
+      → old ++ tasks_sets c m (map assignment_of (drop i xs)) ≡ all → two ++ tasks_sets c set (map assignment_of (drop (i + 1) xs)) ≡ all
+  tasks_loop old one two all e f h =
+      let t = tree_sets m (tree_of x.value) in
+      let more = map assignment_of (drop (i + 1) xs) in
+      ap (λ l. l ++ tasks_sets c set more) (f ∙ ap (λ l. l ++ m ∷ []) e)
+      ∙ append_assoc (old ++ t) (m ∷ []) (tasks_sets c set more)
+      ∙ append_assoc old t (m ∷ tasks_sets c set more)
+      ∙ ap (λ k. old ++ (t ++ m ∷ tasks_sets c k more)) with_it
+      ∙ ap (λ l. old ++ tasks_sets c m l) (sym one_task) ∙ h
+
+  pub behind_loop : (all : VariableSet) → tasks_set c m (map assignment_of (drop i xs)) ≡ all → tasks_set c set (map assignment_of (drop (i + 1) xs)) ≡ all
+  behind_loop all h = ap (λ k. tasks_set c k (map assignment_of (drop (i + 1) xs))) with_it ∙ ap (tasks_set c m) (sym one_task) ∙ h
+
+  pub named_loop : NamedTasks c (map assignment_of (drop i xs)) → NamedTasks c (map assignment_of (drop (i + 1) xs))
+  named_loop h = (subst (NamedTasks c) one_task h).2
 
 pub found : {A : Type 0} (xs : List A) (n : ℕ) (x : A) → n < length xs → x ≡ get_or xs n x → Some x ≡ slice_get xs n
 found xs n x lt e = ap Some e ∙ sym (slice_get-get_or xs n x lt)

@@ -1,5 +1,6 @@
 -- What the compiler makes of a transition.
 use Rattle.std.specs.Prelude.{◌≡◌, ℕ, ◌≤◌, List, [], map}
+use Rattle.profile_limits.specs.Limits.{MOST_EFFECTS, MOST_INSTRUCTIONS, MOST_OPERANDS}
 use Rattle.turn_code.specs.declared.value.Sort.{Sort}
 use Rattle.turn_code.specs.declared.variable_set.VariableSet.{VariableSet}
 use Rattle.turn_code.specs.declared.instruction.Instruction.{Instruction}
@@ -51,7 +52,7 @@ pub record IsPieceOf (c : Scope) (ps : List Sort) (entry : VariableSet) (q : Pie
 
 -- the limits of a piece
 pub record IsSmall (c : Scope) (q : Piece) : Type 0 where
-  pub size : piece_size c.process q ≤ 512
-  pub budget : piece_budget c.process q ≤ 512
-  pub depth : piece_depth c.process q ≤ 16
-  pub effects : piece_effects c.process q ≤ 32
+  pub size : piece_size c.process q ≤ MOST_INSTRUCTIONS
+  pub budget : piece_budget c.process q ≤ MOST_INSTRUCTIONS
+  pub depth : piece_depth c.process q ≤ MOST_OPERANDS
+  pub effects : piece_effects c.process q ≤ MOST_EFFECTS

@@ -1,5 +1,6 @@
 -- What comes with a transition, and what the compiler asks of it.
 use Rattle.std.specs.Prelude.{◌≡◌, ℕ, ◌≤◌, List, [], ◌∷◌, length}
+use Rattle.profile_limits.specs.Limits.{MOST_PARAMETERS}
 use Rattle.sdl_ast.specs.Views.{block_of, process_of}
 use Rattle.turn_code.specs.declared.value.Sort.{Sort}
 use Rattle.turn_code.specs.declared.draft.PlaceFacts.{PlaceFacts}
@@ -26,7 +27,7 @@ pub record IsReadyPiece (c : Scope) (q : Piece) (ps : List Sort) : Type 0 where
   pub named : NamedPiece c q
   pub sorted : AreSorted c q.text
   pub places : length q.places ≤ length ps
-  pub few : length q.places ≤ 4
+  pub few : length q.places ≤ MOST_PARAMETERS
   pub small : IsSmall c q
 
 -- how many effects code has from its first place on

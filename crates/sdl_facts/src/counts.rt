@@ -3,6 +3,7 @@ ghost use Rattle.std.specs.Prelude.{◌≡◌, ℕ, ◌+◌, ◌≤◌, length, 
 ghost use Rattle.turn_code.specs.Code.{successors};
 ghost use Rattle.turn_code.specs.Rules.{greatest};
 ghost use Rattle.sdl_facts.specs.Counts.{weight, number_at, AreCountsFrom, AreWithin};
+ghost use Rattle.profile_limits.specs.Limits.{MOST_INSTRUCTIONS};
 
 use std::alloc::{AllocError, Global};
 use turn_code::Instruction;
@@ -16,6 +17,7 @@ pub enum Counted {
     Effects,
 }
 
+/// How much an instruction adds to the count: 1 or 0.
 fn weight(counted: Counted, instruction: Instruction) -> u32
     ensures value { result ≡ weight counted instruction }
     ensures one { result ≤ 1 }
@@ -29,6 +31,7 @@ fn weight(counted: Counted, instruction: Instruction) -> u32
     }
 }
 
+/// The count of a place; 0 where there is none.
 fn count_at(counts: &[u32], place: usize) -> u32
     ensures { result ≡ number_at counts.now place }
 {
@@ -63,8 +66,8 @@ fn greatest_next(counts: &[u32], instruction: Instruction, place: usize) -> u32
 /// code goes on. `known` says what the places count to which the code goes back.
 pub(crate) fn count_places(counted: Counted, code: &[Instruction], known: Vec<u32>) -> Vec<u32>
     requires size { length known.items ≡ length code.now }
-    requires short { length code.now ≤ 512 }
-    requires few { AreWithin 512 known.items }
+    requires short { length code.now ≤ MOST_INSTRUCTIONS }
+    requires few { AreWithin MOST_INSTRUCTIONS known.items }
     ensures { AreCountsFrom (weight counted) known.items code.now result.items }
 {
     let mut counts = known;

@@ -16,6 +16,7 @@ use turn_code::{
     VariableNumber, VariableSet,
 };
 
+/// The sort of the variable with a number, if there is one.
 fn sort_at(variables: &[DraftVariable], variable: VariableNumber) -> Option<Sort>
     ensures { option_to_list result ≡ sorts_at variables.now variable.0 }
 {
@@ -82,6 +83,7 @@ fn given(variables: &[DraftVariable], parameters: &[Sort], instruction: Instruct
     }
 }
 
+/// A shape without so many of its topmost operands: empty where there are no more.
 fn without_first(shape: &[Sort], count: usize) -> &[Sort]
     ensures { result.now ≡ drop count shape.now }
 {

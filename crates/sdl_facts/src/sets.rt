@@ -7,6 +7,7 @@ ghost use Rattle.sdl_meaning.specs.Named.{NamedTasks, NamedAction, NamedPlaces};
 ghost use Rattle.turn_code.specs.Sets.{with_variable};
 ghost use Rattle.sdl_facts.specs.Reads.{tasks_set, action_set, everything, meet, places_set};
 ghost use Rattle.sdl_facts.specs.Facts.{tree_sets, trees_sets, sendings_sets, tasks_sets, action_sets, ranges_sets, tests_sets, places_sets};
+ghost use Rattle.profile_limits.specs.Limits.{MOST_VARIABLES};
 
 use sdl_ast::{Action, Assignment, Decision, Expression, Identifier, Range, Sending};
 use sdl_emit::Names;
@@ -30,12 +31,13 @@ pub(crate) fn meet(one: VariableSet, other: VariableSet) -> VariableSet
 
 /// The set with a variable in it too.
 fn with(set: VariableSet, variable: VariableNumber) -> VariableSet
-    requires { variable.0 < 32 }
+    requires { variable.0 < MOST_VARIABLES }
     ensures { result ≡ with_variable set variable.0 }
 {
     VariableSet(set.0 | (1 << variable.0))
 }
 
+/// The set at one instruction more.
 pub(crate) fn mark(sets: &mut Vec<VariableSet>, set: VariableSet) -> Result<(), AllocError>
     ensures { OnOk result (sets.new.items ≡ sets.old.items ++ set ∷ []) }
 {
@@ -76,6 +78,7 @@ pub(crate) fn mark_expression(
     }
 }
 
+/// The set is the same at each instruction of the parameters of a signal.
 fn mark_parameters(
     sets: &mut Vec<VariableSet>,
     parameters: &[Expression],
@@ -89,6 +92,7 @@ fn mark_parameters(
     Ok(())
 }
 
+/// The set is the same at each instruction of sendings.
 fn mark_sendings(
     sets: &mut Vec<VariableSet>,
     sendings: &[Sending],

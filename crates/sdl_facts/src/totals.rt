@@ -7,6 +7,7 @@ ghost use Rattle.sdl_sound.specs.Longest.{piece_budget, piece_effects};
 ghost use Rattle.sdl_meaning.specs.Code.{ArePlaced, place_in, connections_place, piece_code};
 ghost use Rattle.sdl_emit.specs.Scopes.{scope_in, piece_in, places_by};
 ghost use Rattle.sdl_facts.specs.Settings.{IsSetting, IsReadyPiece};
+ghost use Rattle.profile_limits.specs.Limits.{MOST_INSTRUCTIONS};
 
 use crate::counts::{Counted, count_places};
 use crate::setting::Setting;
@@ -42,6 +43,7 @@ fn measured(counted: Counted, measures: &[Measure], number: usize) -> u32
     }
 }
 
+/// The place of the connection with a number; 0 where none is known.
 fn target(targets: &[usize], number: usize) -> usize
     ensures { result ≡ places_by targets.now number }
 {
@@ -61,9 +63,9 @@ fn known_counts(
 ) -> Result<Vec<u32>, AllocError>
     requires inside { All (λ n. places_by layout.now.targets.now n < length) layout.now.numbers.now }
     requires apart { (n m : ℕ) → Contains layout.now.numbers.now n → Contains layout.now.numbers.now m → places_by layout.now.targets.now n ≡ places_by layout.now.targets.now m → n ≡ m }
-    requires small { All (λ n. measured counted measures.now n ≤ 512) layout.now.numbers.now }
+    requires small { All (λ n. measured counted measures.now n ≤ MOST_INSTRUCTIONS) layout.now.numbers.now }
     ensures size { IfOk result (λ ns. length_of ns.items ≡ length) }
-    ensures few { IfOk result (λ ns. AreWithin 512 ns.items) }
+    ensures few { IfOk result (λ ns. AreWithin MOST_INSTRUCTIONS ns.items) }
     ensures known { IfOk result (λ ns. (n : ℕ) → Contains layout.now.numbers.now n → number_at ns.items (places_by layout.now.targets.now n) ≡ measured counted measures.now n) }
 {
     let mut known = vec![in alloc; 0; length]?;
@@ -88,7 +90,7 @@ fn count_piece(
     requires placed { ArePlaced (scope_in setting.now.names.now) (text_of transition.now) layout.now.numbers.now }
     requires targets { (n : ℕ) → places_by layout.now.targets.now n ≡ place_in (scope_in setting.now.names.now) (connections_place (scope_in setting.now.names.now) (piece_in places.now transition.now)) layout.now.numbers.now n }
     requires code { code.now ≡ piece_code (scope_in setting.now.names.now) (piece_in places.now transition.now) layout.now.numbers.now }
-    requires short { length_of code.now ≤ 512 }
+    requires short { length_of code.now ≤ MOST_INSTRUCTIONS }
     ensures counts { IfOk result (λ ns. AreCounts (weight counted) code.now ns.items) }
     ensures first { IfOk result (λ ns. number_at ns.items 0 ≡ piece_count counted (scope_in setting.now.names.now).process (piece_in places.now transition.now)) }
 {
@@ -110,7 +112,7 @@ pub fn piece_counts(
     requires placed { ArePlaced (scope_in setting.now.names.now) (text_of transition.now) layout.now.numbers.now }
     requires targets { (n : ℕ) → places_by layout.now.targets.now n ≡ place_in (scope_in setting.now.names.now) (connections_place (scope_in setting.now.names.now) (piece_in places.now transition.now)) layout.now.numbers.now n }
     requires code { code.now ≡ piece_code (scope_in setting.now.names.now) (piece_in places.now transition.now) layout.now.numbers.now }
-    requires short { length_of code.now ≤ 512 }
+    requires short { length_of code.now ≤ MOST_INSTRUCTIONS }
     ensures counts { IfOk result (λ x. AreCounts (weight Instructions) code.now x.counts.items) }
     ensures effects { IfOk result (λ x. AreCounts (weight Effects) code.now x.effects.items) }
     ensures longest { IfOk result (λ x. number_at x.counts.items 0 ≡ piece_budget (scope_in setting.now.names.now).process (piece_in places.now transition.now)) }

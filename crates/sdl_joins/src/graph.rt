@@ -8,7 +8,7 @@ ghost use Rattle.sdl_joins.specs.declared.graph.Mark.TheVariants.{Open, Done};
 use std::alloc::{AllocError, Global};
 
 /// How far a search for an order is with a node.
-#[derive(Clone, Copy, Debug)]
+#[derive(Clone, Copy)]
 enum Mark {
     /// It has not come to it.
     New,
@@ -19,7 +19,7 @@ enum Mark {
 }
 
 /// An open node, and how many of those to which it leads stand in the order.
-#[derive(Clone, Copy, Debug)]
+#[derive(Clone, Copy)]
 struct Frame {
     node: usize,
     next: usize,
@@ -33,6 +33,7 @@ fn links(graph: &[Vec<usize>], node: usize) -> &[usize]
     &graph[node]
 }
 
+/// One more node that is found, unless it has its mark.
 fn see(node: usize, marks: &mut Vec<bool>, found: &mut Vec<usize>) -> Result<(), AllocError>
     requires within { node < length marks.old.items }
     requires found { AreFound marks.old.items found.old.items }
@@ -45,6 +46,7 @@ fn see(node: usize, marks: &mut Vec<bool>, found: &mut Vec<usize>) -> Result<(),
     Ok(())
 }
 
+/// Each of these nodes is found, unless it has its mark.
 fn see_all(nodes: &[usize], marks: &mut Vec<bool>, found: &mut Vec<usize>) -> Result<(), AllocError>
     requires within { All (λ n. n < length marks.old.items) nodes.now }
     requires found { AreFound marks.old.items found.old.items }
@@ -93,6 +95,7 @@ fn follow(
     Ok(())
 }
 
+/// Whether the search hasn't come to a node.
 fn is_new(marks: &[Mark], node: usize) -> bool
     requires { node < length marks.now }
     ensures { result ≡ option_map_or is_new (slice_get marks.now node) false }
@@ -104,6 +107,7 @@ fn is_new(marks: &[Mark], node: usize) -> bool
     }
 }
 
+/// Whether a node stands in the order.
 fn is_done(marks: &[Mark], node: usize) -> bool
     requires { node < length marks.now }
     ensures { result ≡ option_map_or is_done (slice_get marks.now node) false }
@@ -129,6 +133,7 @@ fn skip(nodes: &[usize], marks: &[Mark], from: usize) -> usize
     next
 }
 
+/// Opens a node, at the end of the path.
 fn enter(node: usize, marks: &mut Vec<Mark>, path: &mut Vec<Frame>) -> Result<(), AllocError>
     requires { node < length marks.old.items }
     ensures marks { OnOk result (marks.new.items ≡ slice_set marks.old.items node (Open (length path.old.items))) }

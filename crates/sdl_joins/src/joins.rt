@@ -17,6 +17,7 @@ use sdl_ast::{Connection, Decision, End, Join, Statement, Transition};
 use sdl_tables::{NameTable, ProcessTable};
 use std::alloc::{AllocError, Global};
 
+/// The JOIN with which a transition ends, if it does.
 fn push_end(joins: &mut Vec<Join>, end: Option<End>) -> Result<(), AllocError>
     ensures { OnOk result (joins.new.items ≡ joins.old.items ++ text_joins (end_text end)) }
 {
@@ -28,6 +29,7 @@ fn push_end(joins: &mut Vec<Join>, end: Option<End>) -> Result<(), AllocError>
     }
 }
 
+/// The JOINs of a transition, at the end.
 #[cycle(joining)]
 fn push_joins(joins: &mut Vec<Join>, transition: &Transition) -> Result<(), AllocError>
     ensures { OnOk result (joins.new.items ≡ joins.old.items ++ text_joins (text_of transition.now)) }
@@ -38,6 +40,7 @@ fn push_joins(joins: &mut Vec<Join>, transition: &Transition) -> Result<(), Allo
     push_end(joins, transition.end)
 }
 
+/// The JOINs of a statement: an action has none.
 #[cycle(joining)]
 fn push_in_statement(joins: &mut Vec<Join>, statement: &Statement) -> Result<(), AllocError>
     ensures { OnOk result ((rest : Text) → joins.new.items ++ text_joins rest ≡ joins.old.items ++ text_joins (statement_of statement.now rest)) }
@@ -48,6 +51,7 @@ fn push_in_statement(joins: &mut Vec<Join>, statement: &Statement) -> Result<(),
     }
 }
 
+/// The JOINs in the bodies of a DECISION.
 #[cycle(joining)]
 fn push_in_decision(joins: &mut Vec<Join>, decision: &Decision) -> Result<(), AllocError>
     ensures { OnOk result (joins.new.items ≡ joins.old.items ++ choice_joins (choice_of decision.now)) }
@@ -81,13 +85,15 @@ pub(crate) fn find_targets(
 {
     let mut targets = Vec::new(alloc);
     for join in joins {
-        if let Some(number) = connectors.number(join.connector.name) {
-            targets.push(number)?;
+        match connectors.number(join.connector.name) {
+            Some(number) => targets.push(number)?,
+            None => {}
         }
     }
     Ok(targets)
 }
 
+/// For each of these connections, the numbers of those that its JOINs lead to.
 fn links_in(
     alloc: Global,
     connectors: &NameTable,

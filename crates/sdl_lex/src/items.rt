@@ -18,6 +18,7 @@ pub(crate) struct Item {
     pub(crate) end: usize,
 }
 
+/// The reserved word or name that begins at a place; a name of more than 32 bytes is too long.
 fn word_item(bytes: &[u8], at: usize) -> Result<Item, LexFault>
     requires room { length bytes.now ≤ LONGEST_TEXT }
     requires inside { at < length bytes.now }
@@ -35,6 +36,7 @@ fn word_item(bytes: &[u8], at: usize) -> Result<Item, LexFault>
     }
 }
 
+/// The number that begins at a place; one above 2147483647 is too long.
 fn number_item(bytes: &[u8], at: usize) -> Result<Item, LexFault>
     requires room { length bytes.now ≤ LONGEST_TEXT }
     requires inside { at < length bytes.now }
@@ -52,6 +54,7 @@ fn number_item(bytes: &[u8], at: usize) -> Result<Item, LexFault>
     }
 }
 
+/// The comment that begins at a place, and that has an end.
 fn comment_item(bytes: &[u8], at: usize) -> Result<Item, LexFault>
     requires room { length bytes.now ≤ LONGEST_TEXT }
     requires inside { at + 2 ≤ length bytes.now }
@@ -65,6 +68,7 @@ fn comment_item(bytes: &[u8], at: usize) -> Result<Item, LexFault>
     }
 }
 
+/// The quoted text that begins at a place, and that has an end.
 fn quoted_item(bytes: &[u8], at: usize) -> Result<Item, LexFault>
     requires room { length bytes.now ≤ LONGEST_TEXT }
     requires inside { at < length bytes.now }
@@ -81,6 +85,7 @@ fn quoted_item(bytes: &[u8], at: usize) -> Result<Item, LexFault>
     }
 }
 
+/// The symbol that begins at a place, the longer one where two do.
 fn symbol_item(bytes: &[u8], at: usize) -> Result<Item, LexFault>
     requires room { length bytes.now ≤ LONGEST_TEXT }
     requires inside { at < length bytes.now }

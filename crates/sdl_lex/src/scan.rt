@@ -11,6 +11,7 @@ ghost use Rattle.sdl_lex.specs.Limits.{LONGEST_NAME, GREATEST_NUMBER};
 use crate::spelling::is_name_byte;
 use crate::{Lexeme, MAX_NUMBER, Name, Symbol, Word};
 
+/// Whether a byte is white space: a space, a tab, a carriage return or a line feed.
 pub(crate) fn is_white(b: u8) -> bool
     ensures { result ≡ is_white b }
 {

@@ -53,6 +53,7 @@ pub(crate) fn is_name_byte(b: u8) -> bool
     b.is_ascii_alphanumeric() || b == b'_'
 }
 
+/// Whether a name may go on with each of these bytes.
 fn are_name_bytes(bytes: &[u8]) -> bool
     ensures { result ≡ list_all is_name_byte bytes.now }
 {

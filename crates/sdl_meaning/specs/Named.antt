@@ -11,6 +11,7 @@ use Rattle.sdl_ast.specs.declared.tree.Range.{Range}
 use Rattle.sdl_ast.specs.Plain.{Tree, number, truth, variable, unary, binary, PlainAssignment, PlainSending, PlainAction, task, output, set_timer, reset_timer, Text, falls, ends, does, decides, Choice, nothing_else, otherwise, answer, PlainConnection}
 use Rattle.turn_code.specs.declared.input.Party.{Party}
 use Rattle.std.specs.List.{flat_map}
+use Rattle.profile_limits.specs.Limits.{MOST_PARAMETERS}
 use Rattle.sdl_tables.specs.Names.{variables_of}
 use Rattle.sdl_sound.specs.Statements.{statements_of, joins_of}
 use Rattle.sdl_sound.specs.Going.{goes_on, choice_goes_on}
@@ -45,7 +46,7 @@ HasReceiver c (Some (address.Sender at)) n = Unit {0}
 -- a signal that goes out, with as many parameters as a signal may have
 pub record NamedSending (c : Scope) (to : Option Destination) (x : PlainSending) : Type 0 where
   pub parameters : NamedTrees c x.parameters
-  pub few : length x.parameters ≤ 4
+  pub few : length x.parameters ≤ MOST_PARAMETERS
   pub signal : IsSome (signal_at c x.signal)
   pub receiver : HasReceiver c to x.signal
 

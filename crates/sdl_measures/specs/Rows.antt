@@ -1,6 +1,7 @@
 -- What the transitions of a process pass.
 use Rattle.std.specs.Prelude.{◌≡◌, ℕ, ◌+◌, Bool, false, ◌||◌, List, [], ◌∷◌, if◌then◌else◌, nat_lt}
 use Rattle.std.specs.List.{list_any}
+use Rattle.profile_limits.specs.Limits.{MOST_EFFECTS, MOST_INSTRUCTIONS, MOST_OPERANDS}
 use Rattle.sdl_ast.specs.Plain.{Text, PlainStimulus, PlainProcess}
 use Rattle.sdl_sound.specs.Longest.{Piece, pieces_of, text_size, text_depth, text_effects, piece_size, piece_depth, piece_effects}
 use Rattle.sdl_measures.specs.Measures.{capped}
@@ -11,13 +12,13 @@ use Rattle.sdl_measures.specs.declared.limits.Passed.{Passed}
 
 -- whether a piece is too long or too deep, or has too many effects
 abbrev pub is_long : PlainProcess → Piece → Bool
-is_long p q = nat_lt 512 (piece_size p q)
+is_long p q = nat_lt MOST_INSTRUCTIONS (piece_size p q)
 
 abbrev pub is_deep : PlainProcess → Piece → Bool
-is_deep p q = nat_lt 16 (piece_depth p q)
+is_deep p q = nat_lt MOST_OPERANDS (piece_depth p q)
 
 abbrev pub is_busy : PlainProcess → Piece → Bool
-is_busy p q = nat_lt 32 (piece_effects p q)
+is_busy p q = nat_lt MOST_EFFECTS (piece_effects p q)
 
 -- a transition with the places of a signal before it
 abbrev pub stimulus_piece : Text → PlainStimulus → Piece

@@ -7,6 +7,7 @@ ghost use Rattle.sdl_measures.specs.Measures.{capped};
 use sdl_ast::{Action, Assignment, Expression, Identifier, Sending};
 use sdl_sound::is_division;
 
+/// How many instructions an expression has: 1 for each number, truth value, variable and operator, none for a divisor.
 pub(crate) fn cost(expression: &Expression) -> u32
     ensures { result ≡ capped (cost_of (tree_of expression.now)) }
 {
@@ -31,6 +32,7 @@ pub(crate) fn cost(expression: &Expression) -> u32
     }
 }
 
+/// The most operands that an expression has at once: the left one waits for the right one, a divisor is none.
 pub(crate) fn depth(expression: &Expression) -> u32
     ensures { result ≡ capped (depth_of (tree_of expression.now)) }
 {
@@ -55,6 +57,7 @@ pub(crate) fn depth(expression: &Expression) -> u32
     }
 }
 
+/// How many instructions assignments have: each its value's, and 1 that stores it.
 fn assignments_cost(assignments: &[Assignment]) -> u32
     ensures { result ≡ capped (assignments_cost (map assignment_of assignments.now)) }
 {
@@ -65,6 +68,7 @@ fn assignments_cost(assignments: &[Assignment]) -> u32
     total
 }
 
+/// The most operands that the values of assignments have at once.
 fn assignments_depth(assignments: &[Assignment]) -> u32
     ensures { result ≡ capped (assignments_depth (map assignment_of assignments.now)) }
 {
@@ -75,6 +79,7 @@ fn assignments_depth(assignments: &[Assignment]) -> u32
     most
 }
 
+/// How many instructions parameters have together.
 fn parameters_cost(parameters: &[Expression]) -> u32
     ensures { result ≡ capped (sum_by cost_of (map tree_of parameters.now)) }
 {
@@ -98,6 +103,7 @@ fn parameters_depth(parameters: &[Expression]) -> u32
     most
 }
 
+/// How many instructions sendings have: each its parameters', and 1 that sends.
 fn sendings_cost(sendings: &[Sending]) -> u32
     ensures { result ≡ capped (sendings_cost (map sending_of sendings.now)) }
 {
@@ -108,6 +114,7 @@ fn sendings_cost(sendings: &[Sending]) -> u32
     total
 }
 
+/// The most operands that sendings have at once.
 fn sendings_depth(sendings: &[Sending]) -> u32
     ensures { result ≡ capped (sendings_depth (map sending_of sendings.now)) }
 {
@@ -118,6 +125,7 @@ fn sendings_depth(sendings: &[Sending]) -> u32
     most
 }
 
+/// How many instructions an action has: SET its delay's and 1, RESET 1.
 pub(crate) fn action_cost(action: &Action) -> u32
     ensures { result ≡ capped (action_cost (action_of action.now)) }
 {
@@ -129,6 +137,7 @@ pub(crate) fn action_cost(action: &Action) -> u32
     }
 }
 
+/// The most operands that an action has at once: RESET has none.
 pub(crate) fn action_depth(action: &Action) -> u32
     ensures { result ≡ capped (action_depth (action_of action.now)) }
 {
@@ -140,6 +149,7 @@ pub(crate) fn action_depth(action: &Action) -> u32
     }
 }
 
+/// How many effects sendings have: 1 each.
 fn sendings_effects(sendings: &[Sending]) -> u32
     ensures { result ≡ capped (length (map sending_of sendings.now)) }
 {
@@ -150,6 +160,7 @@ fn sendings_effects(sendings: &[Sending]) -> u32
     total
 }
 
+/// How many effects an action has: 1 for each signal that it sends, 1 for SET and for RESET, none for TASK.
 pub(crate) fn action_effects(action: &Action) -> u32
     ensures { result ≡ capped (action_effects (action_of action.now)) }
 {
@@ -161,6 +172,7 @@ pub(crate) fn action_effects(action: &Action) -> u32
     }
 }
 
+/// How many instructions a place of an INPUT has: 2 where it names a variable, which gets the parameter.
 fn place_cost(place: Option<Identifier>) -> u32
     ensures { result ≡ place_cost place }
 {
@@ -170,6 +182,7 @@ fn place_cost(place: Option<Identifier>) -> u32
     }
 }
 
+/// How many operands a place of an INPUT has at once: 1 where it names a variable.
 fn place_depth(place: Option<Identifier>) -> u32
     ensures { result ≡ place_depth place }
 {
@@ -179,6 +192,7 @@ fn place_depth(place: Option<Identifier>) -> u32
     }
 }
 
+/// How many instructions the places of an INPUT have: 2 for each that names a variable.
 pub(crate) fn places_cost(places: &[Option<Identifier>]) -> u32
     ensures { result ≡ capped (places_cost places.now) }
 {
@@ -189,6 +203,7 @@ pub(crate) fn places_cost(places: &[Option<Identifier>]) -> u32
     total
 }
 
+/// The most operands that the places of an INPUT have at once: 1 where one names a variable.
 pub(crate) fn places_depth(places: &[Option<Identifier>]) -> u32
     ensures { result ≡ capped (places_depth places.now) }
 {

@@ -1,6 +1,7 @@
 //! The limits: how long and how deep transitions are, and how many of everything there are.
 ghost use Rattle.std.specs.Prelude.{◌≡◌, ◌++◌, ◌∷◌, [], ℕ, List, map, min, nat_lt, length, sum_by, find, IfOk};
 ghost use Rattle.std.specs.List.{flat_map, list_any};
+ghost use Rattle.profile_limits.specs.Limits.{MOST_PARAMETERS, MOST_STATES, MOST_TIMERS_EACH, MOST_VARIABLES};
 ghost use Rattle.sdl_ast.specs.Views.{text_of, stimulus_of, input_of, process_of, block_of, signal_of};
 ghost use Rattle.sdl_tables.specs.Names.{connector_names, processes_of, signals_of, states_of, variables_of, timers_of};
 ghost use Rattle.sdl_tables.specs.Rows.{rows_inputs, stimulus_inputs};
@@ -61,6 +62,7 @@ fn marked_size(marks: &[bool], measures: &[Measure]) -> u32
     total
 }
 
+/// The size of the connection with a number; 0 where nothing is measured of it.
 fn size_at(measures: &[Measure], number: usize) -> u32
     ensures { result ≡ (measure_at measures.now number).size }
 {
@@ -79,6 +81,7 @@ struct Extent {
     effects: u32,
 }
 
+/// The extent of a transition, where these are the links and the measures of the connections.
 fn measure_extent(
     alloc: Global,
     process: &ProcessTable,
@@ -167,6 +170,7 @@ fn pass_inputs(
     Ok(passed)
 }
 
+/// The INPUTs of all states.
 fn pass_states(
     alloc: Global,
     process: &ProcessTable,
@@ -224,6 +228,7 @@ fn pass_process(
     Ok(either(first, others))
 }
 
+/// The transitions of all processes, where these are the measures of their connections.
 fn pass_processes(
     alloc: Global,
     processes: &[ProcessTable],
@@ -239,8 +244,9 @@ fn pass_processes(
     Ok(passed)
 }
 
+/// Whether a process has more than 64 states.
 fn has_many_states(tables: &[ProcessTable]) -> bool
-    ensures { result ≡ list_any (λ p. nat_lt 64 (length (states_of p))) (map process_of tables.now) }
+    ensures { result ≡ list_any (λ p. nat_lt MOST_STATES (length (states_of p))) (map process_of tables.now) }
 {
     let mut any = false;
     for table in tables {
@@ -249,8 +255,9 @@ fn has_many_states(tables: &[ProcessTable]) -> bool
     any
 }
 
+/// Whether a process has more than 32 variables.
 fn has_many_variables(tables: &[ProcessTable]) -> bool
-    ensures { result ≡ list_any (λ p. nat_lt 32 (length (variables_of p))) (map process_of tables.now) }
+    ensures { result ≡ list_any (λ p. nat_lt MOST_VARIABLES (length (variables_of p))) (map process_of tables.now) }
 {
     let mut any = false;
     for table in tables {
@@ -259,8 +266,9 @@ fn has_many_variables(tables: &[ProcessTable]) -> bool
     any
 }
 
+/// Whether a process has more than 8 timers.
 fn has_many_timers(tables: &[ProcessTable]) -> bool
-    ensures { result ≡ list_any (λ p. nat_lt 8 (length (timers_of p))) (map process_of tables.now) }
+    ensures { result ≡ list_any (λ p. nat_lt MOST_TIMERS_EACH (length (timers_of p))) (map process_of tables.now) }
 {
     let mut any = false;
     for table in tables {
@@ -269,8 +277,9 @@ fn has_many_timers(tables: &[ProcessTable]) -> bool
     any
 }
 
+/// Whether a signal has more than 4 parameters.
 fn has_many_parameters(rows: &[&SignalDeclaration]) -> bool
-    ensures { result ≡ list_any (λ s. nat_lt 4 (length s.parameters)) (map (λ s. signal_of s.now) rows.now) }
+    ensures { result ≡ list_any (λ s. nat_lt MOST_PARAMETERS (length s.parameters)) (map (λ s. signal_of s.now) rows.now) }
 {
     let mut any = false;
     for row in rows {
@@ -279,6 +288,7 @@ fn has_many_parameters(rows: &[&SignalDeclaration]) -> bool
     any
 }
 
+/// How many inputs states have, one for each signal that an INPUT names: 2^64 - 1 at most are told.
 fn count_inputs(states: &[Vec<InputRow>]) -> usize
     ensures { result ≡ min (length (flat_map (map input_piece) (map rows_inputs states.now))) 18446744073709551615 }
 {
@@ -289,6 +299,7 @@ fn count_inputs(states: &[Vec<InputRow>]) -> usize
     count
 }
 
+/// How many pieces processes have, one for START and for each input: 2^64 - 1 at most are told.
 fn count_pieces(alloc: Global, tables: &[ProcessTable]) -> Result<usize, AllocError>
     ensures { IfOk result (λ n. n ≡ min (sum_by (λ p. length (pieces_of p)) (map process_of tables.now)) 18446744073709551615) }
 {

@@ -40,7 +40,7 @@ pub(crate) const NOTHING: Measure = Measure {
     goes_on: false,
 };
 
-// What ends a transition, but for a JOIN.
+/// What ends a transition, but for a JOIN.
 const LAST: Measure = Measure {
     budget: 1,
     depth: 0,
@@ -94,6 +94,7 @@ fn measure_end(
     }
 }
 
+/// An action in front of the rest.
 fn measure_action(
     process: &ProcessTable,
     measures: &[Measure],
@@ -113,6 +114,7 @@ fn measure_action(
     }
 }
 
+/// 1 where the test holds, else 0.
 fn one_if(test: bool) -> u32
     ensures { result ≡ (if test then 1 else 0) }
 {
@@ -137,6 +139,7 @@ fn tests_budget(ranges: &[Range], body: u32, others: u32) -> u32
     most
 }
 
+/// How many ranges there are.
 fn count_ranges(ranges: &[Range]) -> u32
     ensures { result ≡ capped (length ranges.now) }
 {
@@ -158,6 +161,7 @@ fn answer_budget(truth: bool, ranges: &[Range], body: u32, others: u32) -> u32
     }
 }
 
+/// How many tests an answer has: one for each range, none where the question is a Boolean one.
 fn answer_tests(truth: bool, ranges: &[Range]) -> u32
     ensures { result ≡ capped (if truth then 0 else length ranges.now) }
 {
@@ -263,6 +267,7 @@ fn measure_answers(
     total
 }
 
+/// The body of ELSE, behind the drop where the question is an Integer one.
 #[cycle(measuring)]
 fn measure_else(
     process: &ProcessTable,
@@ -319,6 +324,7 @@ pub fn code_size(process: &ProcessTable, transition: &Transition) -> u32
     measure_transition(process, &[], transition, NOTHING).size
 }
 
+/// What is measured of the connections of a process, which are measured in this order.
 fn measure_process(
     alloc: Global,
     process: &ProcessTable,

@@ -116,7 +116,7 @@ fn check_limits(
     }
 }
 
-// What is found of a sound block.
+/// What is found of a sound block.
 #[derive(Drop)]
 struct Findings {
     sets: Vec<Vec<u32>>,

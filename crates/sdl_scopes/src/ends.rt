@@ -26,6 +26,7 @@ pub(crate) struct Rest {
     free: Option<u32>,
 }
 
+/// The place of an action.
 fn action_place(action: &Action) -> u32
     ensures { result ≡ action_place (action_of action.now) }
 {
@@ -37,6 +38,7 @@ fn action_place(action: &Action) -> u32
     }
 }
 
+/// The place of an end.
 fn end_place(end: &End) -> u32
     ensures { result ≡ end_place end.now }
 {
@@ -58,6 +60,7 @@ fn end_astray(states: &NameTable, end: &End) -> Option<u32>
     }
 }
 
+/// This place, unless there is a state with the name.
 fn missing_state(states: &NameTable, at: u32, state: Identifier) -> Option<u32>
     ensures { Marks result (if is_in states.now state.name then [] else at ∷ []) }
 {
@@ -89,6 +92,7 @@ fn from_end(states: &NameTable, at: u32, end: &Option<End>) -> Rest
     }
 }
 
+/// An action in front of the rest.
 fn from_action(action: &Action, rest: Rest) -> Rest
     ensures { (ids : List id.Identifier) (at : ℕ) (t : Text) → IsRest ids at t rest → IsRest ids at (does (action_of action.now) t) result }
 {
@@ -132,6 +136,7 @@ fn in_transition(states: &NameTable, at: u32, transition: &Transition) -> Rest
     rest
 }
 
+/// A statement in front of the rest.
 #[cycle(strays)]
 fn from_statement(states: &NameTable, statement: &Statement, rest: Rest) -> Rest
     ensures { (at : ℕ) (t : Text) → IsRest states.now at t rest → IsRest states.now at (statement_of statement.now t) result }
@@ -157,6 +162,7 @@ fn in_bodies(states: &NameTable, decision: &Decision) -> Option<u32>
     earlier(place, in_else(states, &decision.otherwise))
 }
 
+/// What is stray in the body of ELSE, which may run off its end.
 #[cycle(strays)]
 fn in_else(states: &NameTable, otherwise: &Option<Transition>) -> Option<u32>
     ensures { Marks result (choice_strays states.now (else_choice otherwise.now)) }
@@ -167,12 +173,14 @@ fn in_else(states: &NameTable, otherwise: &Option<Transition>) -> Option<u32>
     }
 }
 
+/// The first stray place of a transition: where it runs off its end, that is named by a place.
 fn stray(states: &NameTable, at: u32, transition: &Transition) -> Option<u32>
     ensures { Marks result (strays states.now (at ∷ []) (text_of transition.now)) }
 {
     in_transition(states, at, transition).named
 }
 
+/// The first stray place of these INPUTs.
 fn stray_in_inputs(process: &ProcessTable, inputs: &[&InputPart]) -> Option<u32>
     ensures { Marks result (flat_map (input_strays (process_of process.now)) (map (λ i. input_of i.now) inputs.now)) }
 {
@@ -183,6 +191,7 @@ fn stray_in_inputs(process: &ProcessTable, inputs: &[&InputPart]) -> Option<u32>
     place
 }
 
+/// The first stray place of these connections.
 fn stray_in_connections(process: &ProcessTable, connections: &[Connection]) -> Option<u32>
     ensures { Marks result (flat_map (connection_strays (process_of process.now)) (map connection_of connections.now)) }
 {
@@ -194,6 +203,7 @@ fn stray_in_connections(process: &ProcessTable, connections: &[Connection]) -> O
     place
 }
 
+/// The first stray place of a process.
 fn stray_in_process(process: &ProcessTable) -> Option<u32>
     ensures { Marks result (process_strays (process_of process.now)) }
 {
@@ -204,6 +214,7 @@ fn stray_in_process(process: &ProcessTable) -> Option<u32>
     earlier(first, beyond)
 }
 
+/// The first stray place of these processes.
 fn stray_in_processes(processes: &[ProcessTable]) -> Option<u32>
     ensures { Marks result (flat_map process_strays (map process_of processes.now)) }
 {

@@ -25,6 +25,7 @@ fn missing(names: &NameTable, id: Identifier) -> Option<u32>
     }
 }
 
+/// The place of a name among these that a table lacks.
 fn first_unknown(names: &NameTable, ids: &[Identifier]) -> Option<u32>
     ensures { Marks result (unknown names.now ids.now) }
 {
@@ -35,6 +36,7 @@ fn first_unknown(names: &NameTable, ids: &[Identifier]) -> Option<u32>
     place
 }
 
+/// The place of a process that these lack, as a party; the environment is there.
 fn unknown_party(names: &NameTable, party: Party) -> Option<u32>
     ensures { Marks result (unknown names.now (party_names party)) }
 {
@@ -44,6 +46,7 @@ fn unknown_party(names: &NameTable, party: Party) -> Option<u32>
     }
 }
 
+/// The place of a process or signal in a path that the block lacks.
 fn unknown_in_path(block: &BlockTable, path: &Path) -> Option<u32>
     ensures { Marks result (path_unknown (block_of block.now) (path_of path.now)) }
 {
@@ -53,6 +56,7 @@ fn unknown_in_path(block: &BlockTable, path: &Path) -> Option<u32>
     earlier(parties, first_unknown(block.signals(), &path.signals))
 }
 
+/// The place of a process or signal in these paths that the block lacks.
 fn unknown_in_paths(block: &BlockTable, paths: &[Path]) -> Option<u32>
     ensures { Marks result (flat_map (path_unknown (block_of block.now)) (map path_of paths.now)) }
 {
@@ -63,6 +67,7 @@ fn unknown_in_paths(block: &BlockTable, paths: &[Path]) -> Option<u32>
     place
 }
 
+/// The place of a process or signal in the routes among these that the block lacks.
 fn unknown_in_routes(block: &BlockTable, entities: &[Entity]) -> Option<u32>
     ensures { Marks result (flat_map (route_unknown (block_of block.now)) (flat_map routes_in (map entity_of entities.now))) }
 {
@@ -94,6 +99,7 @@ pub fn unknown_in_expression(names: &NameTable, expression: &Expression) -> Opti
     }
 }
 
+/// The place of a variable in an assignment that these lack.
 fn unknown_in_assignment(names: &NameTable, assignment: &Assignment) -> Option<u32>
     ensures { Marks result (unknown names.now (assignment_names (assignment_of assignment.now))) }
 {
@@ -101,6 +107,7 @@ fn unknown_in_assignment(names: &NameTable, assignment: &Assignment) -> Option<u
     earlier(variable, unknown_in_expression(names, &assignment.value))
 }
 
+/// The place of a variable in assignments that these lack.
 fn unknown_in_assignments(names: &NameTable, assignments: &[Assignment]) -> Option<u32>
     ensures { Marks result (unknown names.now (flat_map assignment_names (map assignment_of assignments.now))) }
 {
@@ -111,6 +118,7 @@ fn unknown_in_assignments(names: &NameTable, assignments: &[Assignment]) -> Opti
     place
 }
 
+/// The place of a variable in expressions that these lack.
 fn unknown_in_expressions(names: &NameTable, expressions: &[Expression]) -> Option<u32>
     ensures { Marks result (unknown names.now (flat_map tree_names (map tree_of expressions.now))) }
 {
@@ -121,6 +129,7 @@ fn unknown_in_expressions(names: &NameTable, expressions: &[Expression]) -> Opti
     place
 }
 
+/// The place of a signal that the block lacks, or of a variable that the process lacks, in a sending.
 fn unknown_in_sending(block: &BlockTable, process: &ProcessTable, sending: &Sending) -> Option<u32>
     ensures { Marks result (sending_unknown (block_of block.now) (process_of process.now) (sending_of sending.now)) }
 {
@@ -131,6 +140,7 @@ fn unknown_in_sending(block: &BlockTable, process: &ProcessTable, sending: &Send
     )
 }
 
+/// The place of a signal that the block lacks, or of a variable that the process lacks, in sendings.
 fn unknown_in_sendings(
     block: &BlockTable,
     process: &ProcessTable,
@@ -145,6 +155,7 @@ fn unknown_in_sendings(
     place
 }
 
+/// The place of a process behind TO that these lack.
 fn unknown_destination(processes: &NameTable, to: Option<Destination>) -> Option<u32>
     ensures { Marks result (unknown processes.now (destination_names to)) }
 {
@@ -155,6 +166,7 @@ fn unknown_destination(processes: &NameTable, to: Option<Destination>) -> Option
     }
 }
 
+/// The place of a name in an OUTPUT that its class and scope lack.
 fn unknown_in_output(block: &BlockTable, process: &ProcessTable, sent: &Output) -> Option<u32>
     ensures { Marks result (action_unknown (block_of block.now) (process_of process.now) (output sent.now.at (map sending_of sent.now.sendings.items) sent.now.to)) }
 {
@@ -162,6 +174,7 @@ fn unknown_in_output(block: &BlockTable, process: &ProcessTable, sent: &Output) 
     earlier(sendings, unknown_destination(block.processes(), sent.to))
 }
 
+/// The place of a variable or timer in a SET that the process lacks.
 fn unknown_in_set(process: &ProcessTable, set: &SetTimer) -> Option<u32>
     ensures { Marks result (unknown (variable_names (process_of process.now)) (tree_names (tree_of set.now.delay))
         ++ unknown (timers_of (process_of process.now)) (set.now.timer ∷ [])) }
@@ -204,6 +217,7 @@ fn missing_trigger(block: &BlockTable, process: &ProcessTable, id: Identifier) -
     }
 }
 
+/// The place of a name among these that is neither a signal nor a timer of the process.
 fn unknown_in_triggers(
     block: &BlockTable,
     process: &ProcessTable,
@@ -218,6 +232,7 @@ fn unknown_in_triggers(
     place
 }
 
+/// The place of a name in the SAVEs of a STATE part that is neither a signal nor a timer of the process.
 fn unknown_in_saves(
     block: &BlockTable,
     process: &ProcessTable,
@@ -252,6 +267,7 @@ pub fn unknown_in_parts(
     place
 }
 
+/// The place of a variable that these lack, where an INPUT's place names one.
 fn unknown_place(names: &NameTable, place: Option<Identifier>) -> Option<u32>
     ensures { Marks result (unknown names.now (option_to_list place)) }
 {
@@ -261,6 +277,7 @@ fn unknown_place(names: &NameTable, place: Option<Identifier>) -> Option<u32>
     }
 }
 
+/// The place of a variable in an INPUT's places that these lack.
 fn unknown_in_places(names: &NameTable, places: &[Option<Identifier>]) -> Option<u32>
     ensures { Marks result (unknown names.now (place_names places.now)) }
 {
@@ -271,6 +288,7 @@ fn unknown_in_places(names: &NameTable, places: &[Option<Identifier>]) -> Option
     found
 }
 
+/// The place of a name that its class and scope lack, in one signal of an INPUT with its places.
 fn unknown_in_stimulus(
     block: &BlockTable,
     process: &ProcessTable,
@@ -285,6 +303,7 @@ fn unknown_in_stimulus(
     )
 }
 
+/// The place of a name that its class and scope lack, in the signals of an INPUT with their places.
 fn unknown_in_stimuli(
     block: &BlockTable,
     process: &ProcessTable,

@@ -21,6 +21,7 @@ pub(crate) enum Times {
     Often,
 }
 
+/// How often something is in two lists together.
 fn added(one: Times, other: Times) -> Times
     ensures { (m n : ℕ) → Counted one m → Counted other n → Counted result (m + n) }
 {
@@ -31,6 +32,7 @@ fn added(one: Times, other: Times) -> Times
     }
 }
 
+/// How often a literal is a truth value: once or never.
 fn is_value(value: bool, literal: Literal) -> Times
     ensures { Counted result (is_value value literal) }
 {
@@ -46,6 +48,7 @@ fn is_value(value: bool, literal: Literal) -> Times
     }
 }
 
+/// How often a range names a truth value: once where it is that value alone, else never.
 fn names_value(value: bool, range: &Range) -> Times
     ensures { Counted result (names_value value range.now) }
 {
@@ -78,12 +81,14 @@ fn named_in_answers(value: bool, answers: &[Answer]) -> Times
     times
 }
 
+/// How often the answers of a DECISION name a truth value.
 fn times_named(value: bool, decision: &Decision) -> Times
     ensures { Counted result (times_named value (choice_of decision.now)) }
 {
     named_in_answers(value, &decision.answers)
 }
 
+/// Whether it is there exactly once.
 fn is_once(times: Times) -> bool
     ensures { (n : ℕ) → Counted times n → result ≡ nat_eq n 1 }
 {
@@ -94,6 +99,7 @@ fn is_once(times: Times) -> bool
     }
 }
 
+/// Whether it is there more than once.
 fn is_often(times: Times) -> bool
     ensures { (n : ℕ) → Counted times n → not result ≡ nat_lt n 2 }
 {
@@ -104,6 +110,7 @@ fn is_often(times: Times) -> bool
     }
 }
 
+/// Whether a DECISION has an ELSE.
 fn has_else(decision: &Decision) -> bool
     ensures { result ≡ has_else (choice_of decision.now) }
 {
@@ -127,19 +134,17 @@ fn answers_both(decision: &Decision) -> bool
 fn have_values(answers: &[Answer]) -> bool
     ensures { result ≡ list_all (λ a. nat_lt 0 (length a.ranges.items)) answers.now }
 {
-    let mut all = true;
-    for answer in answers {
-        all = all && 0 < answer.ranges.len();
-    }
-    all
+    answers.iter().all(|answer| !answer.ranges.is_empty())
 }
 
+/// Whether each answer of a DECISION is for some value.
 fn has_values(decision: &Decision) -> bool
     ensures { result ≡ has_values (choice_of decision.now) }
 {
     have_values(&decision.answers)
 }
 
+/// Whether each answer is for some value, and each value is answered: TRUE and FALSE once, Integers with the help of an ELSE.
 fn is_answered(process: &ProcessTable, decision: &Decision) -> bool
     ensures { result ≡ is_answered (variables_of (process_of process.now)) (tree_of (out-Decision decision.now).question) (choice_of decision.now) }
 {

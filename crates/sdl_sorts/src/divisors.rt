@@ -23,6 +23,7 @@ pub(crate) fn place(expression: &Expression) -> u32
     }
 }
 
+/// Whether an operator is `/`, MOD or REM.
 fn divides(operator: BinaryOperator) -> bool
     ensures { result ≡ divides operator }
 {
@@ -34,6 +35,7 @@ fn divides(operator: BinaryOperator) -> bool
     }
 }
 
+/// Whether an expression is a literal from 1 to 2147483647.
 fn is_divisor(expression: &Expression) -> bool
     ensures { result ≡ is_divisor (tree_of expression.now) }
 {
@@ -43,6 +45,7 @@ fn is_divisor(expression: &Expression) -> bool
     }
 }
 
+/// The place of what stands right of an operator, where that divides and it is no literal of 1 or more.
 fn bad_divisor(operator: BinaryOperator, right: &Expression) -> Option<u32>
     ensures { Marks result (bad_divisor operator (tree_of right.now)) }
 {
@@ -75,6 +78,7 @@ pub fn bad_in(expression: &Expression) -> Option<u32>
     }
 }
 
+/// The place of a divisor in assignments that is no literal of 1 or more.
 fn bad_in_assignments(assignments: &[Assignment]) -> Option<u32>
     ensures { Marks result (flat_map assignment_divisors (map assignment_of assignments.now)) }
 {
@@ -85,6 +89,7 @@ fn bad_in_assignments(assignments: &[Assignment]) -> Option<u32>
     place
 }
 
+/// The place of a divisor in parameters that is no literal of 1 or more.
 fn bad_in_parameters(parameters: &[Expression]) -> Option<u32>
     ensures { Marks result (flat_map bad_divisors_in (map tree_of parameters.now)) }
 {
@@ -95,6 +100,7 @@ fn bad_in_parameters(parameters: &[Expression]) -> Option<u32>
     place
 }
 
+/// The place of a divisor in sendings that is no literal of 1 or more.
 fn bad_in_sendings(sendings: &[Sending]) -> Option<u32>
     ensures { Marks result (flat_map sending_divisors (map sending_of sendings.now)) }
 {

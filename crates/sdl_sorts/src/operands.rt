@@ -24,6 +24,7 @@ fn misfit(process: &ProcessTable, want: Option<Sort>, expression: &Expression) -
     }
 }
 
+/// The place of an operand that has another sort than its operator wants.
 fn wrong_operands(
     process: &ProcessTable,
     operator: BinaryOperator,
@@ -70,6 +71,7 @@ pub fn wrong_in(process: &ProcessTable, expression: &Expression) -> Option<u32>
     }
 }
 
+/// The place of a wrong operand in an expression, or of the expression where it has another sort than this.
 fn wrong_for(process: &ProcessTable, want: Sort, expression: &Expression) -> Option<u32>
     ensures { Marks result (wrong_for (variables_of (process_of process.now)) want (tree_of expression.now)) }
 {
@@ -77,6 +79,7 @@ fn wrong_for(process: &ProcessTable, want: Sort, expression: &Expression) -> Opt
     earlier(inside, misfit(process, Some(want), expression))
 }
 
+/// The place of an assignment's variable, where its value has another sort.
 fn wrong_variable(process: &ProcessTable, assignment: &Assignment) -> Option<u32>
     ensures { Marks result (wrong_variable (variables_of (process_of process.now)) (assignment_of assignment.now)) }
 {
@@ -88,6 +91,7 @@ fn wrong_variable(process: &ProcessTable, assignment: &Assignment) -> Option<u32
     }
 }
 
+/// The place of a wrong sort in an assignment.
 fn wrong_assignment(process: &ProcessTable, assignment: &Assignment) -> Option<u32>
     ensures { Marks result (wrong_assignment (variables_of (process_of process.now)) (assignment_of assignment.now)) }
 {
@@ -95,6 +99,7 @@ fn wrong_assignment(process: &ProcessTable, assignment: &Assignment) -> Option<u
     earlier(value, wrong_variable(process, assignment))
 }
 
+/// The place of a wrong sort in assignments.
 fn wrong_in_assignments(process: &ProcessTable, assignments: &[Assignment]) -> Option<u32>
     ensures { Marks result (flat_map (wrong_assignment (variables_of (process_of process.now))) (map assignment_of assignments.now)) }
 {
@@ -115,6 +120,7 @@ pub(crate) fn parameter_sorts<'a>(block: &BlockTable<'a>, name: Name) -> &'a [So
     }
 }
 
+/// The place of a signal that is sent with fewer or more parameters than it has.
 fn wrong_number(sorts: &[Sort], sending: &Sending) -> Option<u32>
     ensures { Marks result (wrong_number sorts.now (sending_of sending.now)) }
 {
@@ -125,6 +131,7 @@ fn wrong_number(sorts: &[Sort], sending: &Sending) -> Option<u32>
     }
 }
 
+/// The place of a wrong operand in parameters.
 fn wrong_in_all(process: &ProcessTable, parameters: &[Expression]) -> Option<u32>
     ensures { Marks result (flat_map (wrong_in (variables_of (process_of process.now))) (map tree_of parameters.now)) }
 {
@@ -166,6 +173,7 @@ fn wrong_parameters(
     place
 }
 
+/// The place of a wrong sort or a wrong number of parameters in a sending.
 fn wrong_sending(block: &BlockTable, process: &ProcessTable, sending: &Sending) -> Option<u32>
     ensures { Marks result (wrong_sending (block_of block.now) (variables_of (process_of process.now)) (sending_of sending.now)) }
 {
@@ -179,6 +187,7 @@ fn wrong_sending(block: &BlockTable, process: &ProcessTable, sending: &Sending) 
     earlier(number, beyond)
 }
 
+/// The place of a wrong sort or a wrong number of parameters in sendings.
 fn wrong_in_sendings(
     block: &BlockTable,
     process: &ProcessTable,

@@ -8,6 +8,7 @@ use sdl_ast::{BinaryOperator, Expression, Sort, UnaryOperator};
 use sdl_lex::Name;
 use sdl_tables::ProcessTable;
 
+/// Whether two sorts are the same.
 pub(crate) fn same_sort(one: Sort, other: Sort) -> bool
     ensures { result ≡ same_sort one other }
 {
@@ -18,6 +19,7 @@ pub(crate) fn same_sort(one: Sort, other: Sort) -> bool
     }
 }
 
+/// Whether there is a sort, and it is the wanted one.
 pub(crate) fn has_sort(want: Sort, found: Option<Sort>) -> bool
     ensures { result ≡ has_sort want found }
 {
@@ -27,6 +29,7 @@ pub(crate) fn has_sort(want: Sort, found: Option<Sort>) -> bool
     }
 }
 
+/// Whether there are two sorts, and they are the same.
 pub(crate) fn have_one_sort(one: Option<Sort>, other: Option<Sort>) -> bool
     ensures { result ≡ have_one_sort one other }
 {
@@ -53,6 +56,7 @@ pub(crate) fn variable_sort(process: &ProcessTable, name: Name) -> Option<Sort>
     }
 }
 
+/// The sort of what an operator gives that has one operand; its operand has the same.
 pub(crate) fn unary_sort(operator: UnaryOperator) -> Sort
     ensures { result ≡ unary_sort operator }
 {
@@ -62,6 +66,7 @@ pub(crate) fn unary_sort(operator: UnaryOperator) -> Sort
     }
 }
 
+/// The sort of what an operator gives that has two operands.
 fn binary_sort(operator: BinaryOperator) -> Sort
     ensures { result ≡ binary_sort operator }
 {

@@ -14,6 +14,7 @@ use crate::sorts::{has_sort, is_truth, same_sort, variable_sort};
 use sdl_ast::{Constant, Expression, Identifier, InputPart, Literal, Range, Sort, Stimulus};
 use sdl_tables::{BlockTable, ProcessTable, Variable, earlier};
 
+/// The place of a variable that has another sort than this, where an INPUT's place names one.
 fn wrong_place(process: &ProcessTable, want: Sort, place: Option<Identifier>) -> Option<u32>
     ensures { Marks result (wrong_place (variables_of (process_of process.now)) (want, place)) }
 {
@@ -45,6 +46,7 @@ fn wrong_place_at(
     }
 }
 
+/// The place of a variable in an INPUT's places that has another sort than its parameter.
 fn wrong_places(
     process: &ProcessTable,
     sorts: &[Sort],
@@ -59,6 +61,7 @@ fn wrong_places(
     found
 }
 
+/// The place of a signal that has fewer parameters than places stand behind it.
 fn too_many_places(sorts: &[Sort], stimulus: &Stimulus) -> Option<u32>
     ensures { Marks result (too_many_places sorts.now (stimulus_of stimulus.now)) }
 {
@@ -69,6 +72,7 @@ fn too_many_places(sorts: &[Sort], stimulus: &Stimulus) -> Option<u32>
     }
 }
 
+/// The place of a wrong sort or of too many places, in one signal of an INPUT.
 fn wrong_stimulus(block: &BlockTable, process: &ProcessTable, stimulus: &Stimulus) -> Option<u32>
     ensures { Marks result (wrong_stimulus (block_of block.now) (variables_of (process_of process.now)) (stimulus_of stimulus.now)) }
 {
@@ -77,6 +81,7 @@ fn wrong_stimulus(block: &BlockTable, process: &ProcessTable, stimulus: &Stimulu
     earlier(number, wrong_places(process, sorts, &stimulus.places))
 }
 
+/// The place of a wrong sort or of too many places, in the signals of an INPUT.
 fn wrong_in_stimuli(block: &BlockTable, process: &ProcessTable, stimuli: &[Stimulus]) -> Option<u32>
     ensures { Marks result (flat_map (wrong_stimulus (block_of block.now) (variables_of (process_of process.now))) (map stimulus_of stimuli.now)) }
 {
@@ -87,6 +92,7 @@ fn wrong_in_stimuli(block: &BlockTable, process: &ProcessTable, stimuli: &[Stimu
     place
 }
 
+/// The place of a wrong sort or of too many places in these INPUTs.
 fn wrong_in_inputs(block: &BlockTable, process: &ProcessTable, inputs: &[&InputPart]) -> Option<u32>
     ensures { Marks result (flat_map (wrong_input (block_of block.now) (variables_of (process_of process.now))) (map (λ i. input_of i.now) inputs.now)) }
 {
@@ -97,6 +103,7 @@ fn wrong_in_inputs(block: &BlockTable, process: &ProcessTable, inputs: &[&InputP
     place
 }
 
+/// The sort of a literal.
 fn literal_sort(literal: Literal) -> Sort
     ensures { result ≡ literal_sort literal }
 {
@@ -106,12 +113,14 @@ fn literal_sort(literal: Literal) -> Sort
     }
 }
 
+/// Whether a constant has this sort.
 fn is_constant(want: Sort, constant: Constant) -> bool
     ensures { result ≡ is_constant want constant }
 {
     same_sort(want, literal_sort(constant.value))
 }
 
+/// Whether a range is TRUE or FALSE alone.
 fn answers_truth(range: &Range) -> bool
     ensures { result ≡ answers_truth range.now }
 {
@@ -122,6 +131,7 @@ fn answers_truth(range: &Range) -> bool
     }
 }
 
+/// Whether a range has Integers alone.
 fn answers_number(range: &Range) -> bool
     ensures { result ≡ answers_number range.now }
 {
@@ -135,6 +145,7 @@ fn answers_number(range: &Range) -> bool
     }
 }
 
+/// The place of a range: that of its sign, or of its first constant.
 fn range_place(range: &Range) -> u32
     ensures { result ≡ range_place range.now }
 {
@@ -145,6 +156,7 @@ fn range_place(range: &Range) -> u32
     }
 }
 
+/// The place of a range that doesn't fit its question.
 fn wrong_answer(process: &ProcessTable, question: &Expression, range: &Range) -> Option<u32>
     ensures { Marks result (wrong_answer (variables_of (process_of process.now)) (tree_of question.now) range.now) }
 {
@@ -171,6 +183,7 @@ pub fn wrong_in_ranges(
     place
 }
 
+/// The place of an initial value that has another sort than this.
 fn wrong_constant(want: Sort, constant: Option<Constant>) -> Option<u32>
     ensures { Marks result (wrong_constant want constant) }
 {
@@ -186,6 +199,7 @@ fn wrong_constant(want: Sort, constant: Option<Constant>) -> Option<u32>
     }
 }
 
+/// The place of an initial value that has another sort than its variable.
 fn wrong_initials(variables: &[Variable]) -> Option<u32>
     ensures { Marks result (flat_map wrong_initial (map variable_of variables.now)) }
 {
@@ -196,6 +210,7 @@ fn wrong_initials(variables: &[Variable]) -> Option<u32>
     place
 }
 
+/// The place of a wrong sort in what a process declares, or in its INPUTs' places.
 fn wrong_in_process(block: &BlockTable, process: &ProcessTable) -> Option<u32>
     ensures { Marks result (wrong_declarations (block_of block.now) (process_of process.now)) }
 {

@@ -1,6 +1,7 @@
 -- S10: the limits of this profile, in this order.
 use Rattle.std.specs.Prelude.{Bool, List, [], ◌∷◌, ◌++◌, Option, length, nat_lt, find, sum_by}
 use Rattle.std.specs.List.{list_any}
+use Rattle.profile_limits.specs.Limits.{MOST_EFFECTS, MOST_INSTRUCTIONS, MOST_OPERANDS, MOST_PARAMETERS, MOST_PIECES, MOST_PROCESSES, MOST_SIGNALS, MOST_STATES, MOST_TIMERS_EACH, MOST_VARIABLES}
 use Rattle.sdl_ast.specs.Plain.{PlainBlock}
 use Rattle.sdl_tables.specs.Names.{signals_of, processes_of, variables_of, timers_of, states_of}
 use Rattle.sdl_sound.specs.Longest.{pieces_of, piece_size, piece_depth, piece_effects}
@@ -8,16 +9,16 @@ use Rattle.sdl_sound.specs.declared.fault.Limit.{Limit}
 use Rattle.sdl_sound.specs.declared.fault.Limit.TheVariants.{Processes, States, Variables, Timers, Signals, Params, Pieces, Piece as PieceSize, Depth, Effects}
 
 abbrev pub exceeds : PlainBlock → Limit → Bool
-exceeds b Processes = nat_lt 16 (length (processes_of b))
-exceeds b States = list_any (λ p. nat_lt 64 (length (states_of p))) (processes_of b)
-exceeds b Variables = list_any (λ p. nat_lt 32 (length (variables_of p))) (processes_of b)
-exceeds b Timers = list_any (λ p. nat_lt 8 (length (timers_of p))) (processes_of b)
-exceeds b Signals = nat_lt 128 (length (signals_of b))
-exceeds b Params = list_any (λ s. nat_lt 4 (length s.parameters)) (signals_of b)
-exceeds b Pieces = nat_lt 4096 (sum_by (λ p. length (pieces_of p)) (processes_of b))
-exceeds b PieceSize = list_any (λ p. list_any (λ q. nat_lt 512 (piece_size p q)) (pieces_of p)) (processes_of b)
-exceeds b Depth = list_any (λ p. list_any (λ q. nat_lt 16 (piece_depth p q)) (pieces_of p)) (processes_of b)
-exceeds b Effects = list_any (λ p. list_any (λ q. nat_lt 32 (piece_effects p q)) (pieces_of p)) (processes_of b)
+exceeds b Processes = nat_lt MOST_PROCESSES (length (processes_of b))
+exceeds b States = list_any (λ p. nat_lt MOST_STATES (length (states_of p))) (processes_of b)
+exceeds b Variables = list_any (λ p. nat_lt MOST_VARIABLES (length (variables_of p))) (processes_of b)
+exceeds b Timers = list_any (λ p. nat_lt MOST_TIMERS_EACH (length (timers_of p))) (processes_of b)
+exceeds b Signals = nat_lt MOST_SIGNALS (length (signals_of b))
+exceeds b Params = list_any (λ s. nat_lt MOST_PARAMETERS (length s.parameters)) (signals_of b)
+exceeds b Pieces = nat_lt MOST_PIECES (sum_by (λ p. length (pieces_of p)) (processes_of b))
+exceeds b PieceSize = list_any (λ p. list_any (λ q. nat_lt MOST_INSTRUCTIONS (piece_size p q)) (pieces_of p)) (processes_of b)
+exceeds b Depth = list_any (λ p. list_any (λ q. nat_lt MOST_OPERANDS (piece_depth p q)) (pieces_of p)) (processes_of b)
+exceeds b Effects = list_any (λ p. list_any (λ q. nat_lt MOST_EFFECTS (piece_effects p q)) (pieces_of p)) (processes_of b)
 
 -- those on how many there are
 abbrev pub number_limits : List Limit

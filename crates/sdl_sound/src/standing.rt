@@ -10,6 +10,7 @@ use sdl_ast::{InputPart, StateClause, StatePart};
 use sdl_tables::{NameTable, ProcessTable};
 use std::alloc::{AllocError, Global};
 
+/// One INPUT more.
 fn push_input<'a>(inputs: &mut Vec<&'a InputPart>, input: &'a InputPart) -> Result<(), AllocError>
     ensures { OnOk result (taken_in inputs.new ≡ taken_in inputs.old ++ stimulus_inputs (input_of input.now)) }
 {
@@ -17,6 +18,7 @@ fn push_input<'a>(inputs: &mut Vec<&'a InputPart>, input: &'a InputPart) -> Resu
     Ok(())
 }
 
+/// The INPUTs of a STATE part, at the end.
 fn push_part<'a>(inputs: &mut Vec<&'a InputPart>, part: &'a StatePart) -> Result<(), AllocError>
     ensures { OnOk result (taken_in inputs.new ≡ taken_in inputs.old ++ part_inputs (state_of part.now)) }
 {
@@ -29,6 +31,7 @@ fn push_part<'a>(inputs: &mut Vec<&'a InputPart>, part: &'a StatePart) -> Result
     Ok(())
 }
 
+/// No INPUT for any of so many states.
 fn no_inputs<'a>(alloc: Global, count: usize) -> Result<Vec<Vec<&'a InputPart>>, AllocError>
     ensures len { IfOk result (λ v. vec_len v ≡ count) }
     ensures empty { IfOk result (λ v. (s : ℕ) → row_at taken_in v.items s ≡ []) }
@@ -75,6 +78,7 @@ fn push_states<'a>(
     Ok(())
 }
 
+/// The INPUTs of each of these states, by number; those of a state in the order of the text.
 fn collect_states<'a>(
     alloc: Global,
     parts: &'a [StatePart],

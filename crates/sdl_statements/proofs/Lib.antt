@@ -5,6 +5,7 @@ pub mod Backward
 pub mod Coming
 pub mod Gathering
 pub mod Knowing
+pub mod Numbered
 pub mod RowsAdded
 pub mod SenderRows
 pub mod Spreading

@@ -1,8 +1,10 @@
 -- Senders, each party once.
-use Rattle.std.specs.Prelude.{ℕ, Bool, true, false, List, [], ◌∷◌, ◌++◌, Option, None, Some, if◌then◌else◌, nat_eq, fold}
+use Rattle.std.specs.Prelude.{◌≡◌, ℕ, Bool, true, false, List, [], ◌∷◌, ◌++◌, Option, None, Some, if◌then◌else◌, nat_eq, fold}
 use Rattle.std.specs.List.{list_any}
+use Rattle.std.specs.Option.{option_map_or}
 use Rattle.std.specs.Global.{Vec}
 use Rattle.sdl_tables.specs.Routes.{same_party}
+use Rattle.sdl_statements.specs.Sources.{is_marked}
 use Rattle.sdl_statements.specs.declared.sender_table.Sender.{Sender}
 use Rattle.sdl_statements.specs.declared.sender_table.Sender.TheVariants.{Nobody, Party}
 
@@ -21,6 +23,19 @@ same_sender (Party x) (Party y) = same_numbers x.number y.number (same_party x.p
 
 abbrev pub has_sender : List Sender → Sender → Bool
 has_sender xs y = list_any (λ x. same_sender x y) xs
+
+-- the number of a sender, if it is a party that has one
+abbrev pub sender_number : Sender → Option ℕ
+sender_number Nobody = None
+sender_number (Party x) = x.number
+
+-- whether a sender has this number
+abbrev pub has_number : ℕ → Sender → Bool
+has_number n x = option_map_or (λ m. nat_eq m n) (sender_number x) false
+
+-- the numbers of some senders have a mark, and no others
+abbrev pub HaveMarks : List Sender → List Bool → Type 0
+HaveMarks xs marks = (n : ℕ) → is_marked marks n ≡ list_any (has_number n) xs
 
 -- one more, unless it is there
 abbrev pub add_sender : List Sender → Sender → List Sender

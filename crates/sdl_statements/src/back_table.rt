@@ -90,6 +90,7 @@ pub(crate) struct BackTable {
 }
 
 impl BackTable {
+    /// No signal so far.
     pub(crate) fn new(alloc: Global) -> Self
         ensures { (b : PlainBlock) (p : PlainProcess) → Brings b p result }
     {

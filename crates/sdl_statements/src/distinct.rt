@@ -1,12 +1,16 @@
 //! Senders, each party once.
-ghost use Rattle.std.specs.Prelude.{◌≡◌, fold, map, IfOk, OnOk};
+ghost use Rattle.std.specs.Prelude.{◌≡◌, ◌<◌, ◌++◌, ◌∷◌, [], ℕ, List, length, fold, map, IfOk, OnOk};
 ghost use Rattle.sdl_tables.specs.Routes.{same_party};
-ghost use Rattle.sdl_statements.specs.Distinct.{same_numbers, same_sender, has_sender, add_sender, distinct};
+ghost use Rattle.sdl_statements.specs.Distinct.{same_numbers, same_sender, has_sender, sender_number, HaveMarks, add_sender, distinct};
+ghost use Rattle.sdl_statements.specs.Sources.{is_marked};
+ghost use Rattle.sdl_statements.specs.declared.sender_table.Sender as the_sender;
 
 use crate::sender_table::{Numbered, Sender};
+use crate::sources::is_marked;
 use sdl_ast::Party;
 use std::alloc::{AllocError, Global};
 
+/// Whether two parties have one name, or are both the environment.
 fn is_named_alike(one: &Party, other: &Party) -> bool
     ensures { result ≡ same_party one.now other.now }
 {
@@ -22,6 +26,7 @@ fn is_named_alike(one: &Party, other: &Party) -> bool
     }
 }
 
+/// Whether two parties have one number, or one name where neither has a number.
 fn is_same_party(one: &Numbered, other: &Numbered) -> bool
     ensures { result ≡ same_numbers one.now.number other.now.number (same_party one.now.party other.now.party) }
 {
@@ -37,6 +42,7 @@ fn is_same_party(one: &Numbered, other: &Numbered) -> bool
     }
 }
 
+/// Whether two senders are one party, or both nobody.
 fn is_same(one: &Sender, other: &Sender) -> bool
     ensures { result ≡ same_sender one.now other.now }
 {
@@ -53,7 +59,7 @@ fn is_same(one: &Sender, other: &Sender) -> bool
 }
 
 /// Whether one of these is a sender.
-pub(crate) fn has_sender(senders: &[Sender], sender: &Sender) -> bool
+fn has_sender(senders: &[Sender], sender: &Sender) -> bool
     ensures { result ≡ has_sender senders.now sender.now }
 {
     for one in senders {
@@ -64,20 +70,82 @@ pub(crate) fn has_sender(senders: &[Sender], sender: &Sender) -> bool
     false
 }
 
-fn add_sender(senders: &mut Vec<Sender>, sender: &Sender) -> Result<(), AllocError>
-    ensures { OnOk result (senders.new.items ≡ add_sender senders.old.items sender.now) }
+/// The number of a sender, if it is a party that has one.
+fn number_in(sender: &Sender) -> Option<usize>
+    ensures { result ≡ sender_number sender.now }
 {
-    if !has_sender(senders, sender) {
-        senders.push(*sender)?;
+    match sender {
+        Sender::Nobody => None,
+        Sender::Party(party) => party.number,
+    }
+}
+
+/// Marks up to this one.
+fn grow(marks: &mut Vec<bool>, last: usize) -> Result<(), AllocError>
+    ensures kept { OnOk result ((n : ℕ) → is_marked marks.new.items n ≡ is_marked marks.old.items n) }
+    ensures there { OnOk result (last < length marks.new.items) }
+{
+    while marks.len() <= last {
+        marks.push(false)?;
     }
     Ok(())
 }
 
-fn add_senders(senders: &mut Vec<Sender>, row: &[Sender]) -> Result<(), AllocError>
-    ensures { OnOk result (senders.new.items ≡ fold add_sender senders.old.items row.now) }
+/// Marks the number of one more sender.
+fn note(marks: &mut Vec<bool>, sender: &Sender) -> Result<(), AllocError>
+    ensures { OnOk result ((xs : List the_sender.Sender) → HaveMarks xs marks.old.items → HaveMarks (xs ++ sender.now ∷ []) marks.new.items) }
+{
+    match number_in(sender) {
+        None => Ok(()),
+        Some(number) => {
+            grow(marks, number)?;
+            marks[number] = true;
+            Ok(())
+        }
+    }
+}
+
+/// Whether one of these is a sender, where the numbers of all of them are marked: it is looked for only where it has none.
+fn is_one_of(senders: &[Sender], marks: &[bool], sender: &Sender) -> bool
+    requires { HaveMarks senders.now marks.now }
+    ensures { result ≡ has_sender senders.now sender.now }
+{
+    match number_in(sender) {
+        None => has_sender(senders, sender),
+        Some(number) => is_marked(marks, number),
+    }
+}
+
+/// One sender more, unless it is there.
+fn add_sender(
+    senders: &mut Vec<Sender>,
+    marks: &mut Vec<bool>,
+    sender: &Sender,
+) -> Result<(), AllocError>
+    requires { HaveMarks senders.old.items marks.old.items }
+    ensures senders { OnOk result (senders.new.items ≡ add_sender senders.old.items sender.now) }
+    ensures marks { OnOk result (HaveMarks senders.new.items marks.new.items) }
+{
+    if is_one_of(senders, marks, sender) {
+        return Ok(());
+    }
+    note(marks, sender)?;
+    senders.push(*sender)?;
+    Ok(())
+}
+
+/// The senders of a row, each unless it is there.
+fn add_senders(
+    senders: &mut Vec<Sender>,
+    marks: &mut Vec<bool>,
+    row: &[Sender],
+) -> Result<(), AllocError>
+    requires { HaveMarks senders.old.items marks.old.items }
+    ensures senders { OnOk result (senders.new.items ≡ fold add_sender senders.old.items row.now) }
+    ensures marks { OnOk result (HaveMarks senders.new.items marks.new.items) }
 {
     for sender in row {
-        add_sender(senders, sender)?;
+        add_sender(senders, marks, sender)?;
     }
     Ok(())
 }
@@ -90,23 +158,57 @@ pub(crate) fn distinct_senders(
     ensures { IfOk result (λ v. v.items ≡ distinct rows.now) }
 {
     let mut senders = Vec::new(alloc);
+    let mut marks = Vec::new(alloc);
     for row in rows {
-        add_senders(&mut senders, row)?;
+        add_senders(&mut senders, &mut marks, row)?;
     }
     Ok(senders)
+}
+
+/// A row of senders, with a mark for each number that one of them has.
+#[derive(Drop)]
+pub(crate) struct MarkedRow<'a> {
+    row: &'a Vec<Sender>,
+    marks: Vec<bool>,
+    ghost marked: { HaveMarks row.now.items marks.items },
+}
+
+/// A row with its marks.
+fn mark_row<'a>(alloc: Global, row: &'a Vec<Sender>) -> Result<MarkedRow<'a>, AllocError>
+    ensures { IfOk result (λ m. m.row.now ≡ row.now) }
+{
+    let mut marks = Vec::new(alloc);
+    for sender in row {
+        note(&mut marks, sender)?;
+    }
+    Ok(MarkedRow { row, marks })
+}
+
+/// Some rows with their marks, so that a sender is found in each without a search.
+pub(crate) fn mark_rows<'a>(
+    alloc: Global,
+    rows: &'a [Vec<Sender>],
+) -> Result<Vec<MarkedRow<'a>>, AllocError>
+    ensures { IfOk result (λ v. map (λ m. m.row.now) v.items ≡ rows.now) }
+{
+    let mut marked = Vec::new(alloc);
+    for row in rows {
+        marked.push(mark_row(alloc, row)?)?;
+    }
+    Ok(marked)
 }
 
 /// A mark for each row: whether a sender is there.
 pub(crate) fn rows_with(
     alloc: Global,
-    rows: &[Vec<Sender>],
+    rows: &[MarkedRow],
     sender: &Sender,
 ) -> Result<Vec<bool>, AllocError>
-    ensures { IfOk result (λ v. v.items ≡ map (λ row. has_sender row.items sender.now) rows.now) }
+    ensures { IfOk result (λ v. v.items ≡ map (λ m. has_sender m.row.now.items sender.now) rows.now) }
 {
     let mut marks = Vec::new(alloc);
     for row in rows {
-        marks.push(has_sender(row, sender))?;
+        marks.push(is_one_of(row.row, &row.marks, sender))?;
     }
     Ok(marks)
 }

@@ -15,6 +15,7 @@ use sdl_ast::{InputPart, Stimulus};
 use sdl_tables::{BlockTable, ProcessTable};
 use std::alloc::{AllocError, Global};
 
+/// The number of the row of the signal at a place, if it has one.
 fn row_at(rows: &[Option<usize>], place: usize) -> Option<usize>
     ensures { result ≡ option_map_or (λ row. row) (slice_get rows.now place) None }
 {
@@ -33,6 +34,7 @@ pub(crate) struct Gathered {
 }
 
 impl Gathered {
+    /// Nobody so far, and no row of the table.
     fn new(alloc: Global, block: &BlockTable, table: &SenderTable) -> Result<Self, AllocError>
         ensures { IfOk result (λ g. (b : PlainBlock) (p : PlainProcess) → Asks b p table.now.names g (λ s. true)) }
     {
@@ -64,6 +66,7 @@ impl Gathered {
         Ok(())
     }
 
+    /// Who may have sent the signals and timers that an INPUT names, each unless its row is there.
     fn add_stimuli(
         &mut self,
         alloc: Global,

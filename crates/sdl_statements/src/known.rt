@@ -83,6 +83,7 @@ impl KnownSenders {
         table.all_get(block, process, signal, &self.list)
     }
 
+    /// Whether it is known of a signal.
     fn knows(&self, signal: Name) -> bool {
         self.back.contains(signal) || self.lost.contains(signal)
     }
@@ -124,6 +125,7 @@ impl KnownSenders {
         Ok(())
     }
 
+    /// Asks of each signal of these sendings.
     fn learn_sendings(
         &mut self,
         alloc: Global,
@@ -141,6 +143,7 @@ impl KnownSenders {
         Ok(())
     }
 
+    /// Asks of each signal of an OUTPUT that goes TO SENDER.
     fn learn_output(
         &mut self,
         alloc: Global,
@@ -162,6 +165,7 @@ impl KnownSenders {
         }
     }
 
+    /// Asks of each signal that an action sends back.
     fn learn_action(
         &mut self,
         alloc: Global,
@@ -203,6 +207,7 @@ pub(crate) fn learn_transition(
     Ok(())
 }
 
+/// Asks of each signal that a statement sends back.
 #[cycle(learning)]
 fn learn_statement(
     known: &mut KnownSenders,
@@ -223,6 +228,7 @@ fn learn_statement(
     }
 }
 
+/// Asks of each signal that the bodies of a DECISION send back.
 #[cycle(learning)]
 fn learn_decision(
     known: &mut KnownSenders,
@@ -242,6 +248,7 @@ fn learn_decision(
     Ok(())
 }
 
+/// Asks of each signal that the body of ELSE sends back, if there is one.
 #[cycle(learning)]
 fn learn_else(
     known: &mut KnownSenders,

@@ -7,11 +7,12 @@ ghost use Rattle.sdl_tables.specs.Names.{connector_names, input_parts};
 ghost use Rattle.sdl_tables.specs.Scopes.{repeats};
 ghost use Rattle.sdl_joins.specs.Links.{graph_in, IsGraph};
 ghost use Rattle.sdl_sound.specs.Orders.{links_of};
+ghost use Rattle.sdl_statements.specs.declared.sender_table.SenderTable as told;
 ghost use Rattle.sdl_statements.specs.SenderTables.{ToldAll};
 ghost use Rattle.sdl_statements.specs.Reached.{joining_of, input_joining, takes_one, starts_with, sent_reach, sent_of, senders_in, AreSent};
 
 use crate::back_table::is_there;
-use crate::distinct::{distinct_senders, rows_with};
+use crate::distinct::{MarkedRow, distinct_senders, mark_rows, rows_with};
 use crate::sender_table::{Sender, SenderTable};
 use crate::sources::is_marked;
 use sdl_ast::InputPart;
@@ -100,17 +101,18 @@ fn reached_by(
     process: &ProcessTable,
     links: &[Vec<usize>],
     joinings: &[Joining],
-    table: &SenderTable,
+    rows: &[MarkedRow],
     sender: &Sender,
 ) -> Result<Vec<bool>, AllocError>
     requires links { graph_in links.now ≡ links_of (process_of process.now) }
     requires graph { IsGraph (graph_in links.now) }
     requires distinct { repeats [] (connector_names (process_of process.now)) ≡ [] }
-    requires joinings { map joining_of joinings.now ≡ map (input_joining table.now.names (process_of process.now)) (input_parts (process_of process.now)) }
     requires within { All (λ j. All (λ n. n < length (process_of process.now).connections) j.targets.items) joinings.now }
-    ensures { IfOk result (λ v. v.items ≡ sent_reach (process_of process.now) table.now sender.now) }
+    ensures { IfOk result (λ v. (t : told.SenderTable) → map (λ m. m.row.now) rows.now ≡ t.rows.items
+        → map joining_of joinings.now ≡ map (input_joining t.names (process_of process.now)) (input_parts (process_of process.now))
+        → v.items ≡ sent_reach (process_of process.now) t sender.now) }
 {
-    let marks = rows_with(alloc, table.rows(), sender)?;
+    let marks = rows_with(alloc, rows, sender)?;
     let starts = starts_with(alloc, joinings, &marks)?;
     let reached = reached_from(alloc, links, &starts)?;
     Ok(reached)
@@ -127,12 +129,13 @@ pub(crate) fn find_sent(
     let links = find_links(alloc, process)?;
     let joinings = find_joinings(alloc, process, table)?;
     let senders = distinct_senders(alloc, table.rows())?;
+    let rows = mark_rows(alloc, table.rows())?;
     let mut all = Vec::new(alloc);
     let reached = reached_in(alloc, process, &links, &process.process().start.transition)?;
     let sender = Sender::Nobody;
     all.push(Sent { sender, reached })?;
     for sender in &senders {
-        let reached = reached_by(alloc, process, &links, &joinings, table, sender)?;
+        let reached = reached_by(alloc, process, &links, &joinings, &rows, sender)?;
         let sender = *sender;
         all.push(Sent { sender, reached })?;
     }

@@ -56,6 +56,7 @@ fn arrives_at(
     }
 }
 
+/// Whether a signal gets to whom it goes; where it doesn't say to whom, whether anybody gets it.
 fn arrives(
     block: &BlockTable,
     process: &ProcessTable,
@@ -76,6 +77,7 @@ fn arrives(
     }
 }
 
+/// The place of a signal that nobody gets, in a sending.
 fn lost_sending(
     block: &BlockTable,
     process: &ProcessTable,
@@ -93,6 +95,7 @@ fn lost_sending(
     }
 }
 
+/// The place of a signal that nobody gets, in sendings.
 fn lost_sendings(
     block: &BlockTable,
     process: &ProcessTable,
@@ -130,6 +133,7 @@ pub(crate) fn lost_in_action(
     }
 }
 
+/// Whether two parties or more get a signal that doesn't say to whom it goes.
 fn is_doubtful(
     block: &BlockTable,
     process: &ProcessTable,
@@ -148,6 +152,7 @@ fn is_doubtful(
     }
 }
 
+/// The place of a signal that two parties or more get, in a sending.
 fn doubtful_sending(
     block: &BlockTable,
     process: &ProcessTable,
@@ -163,6 +168,7 @@ fn doubtful_sending(
     }
 }
 
+/// The place of a signal that two parties or more get, in sendings.
 fn doubtful_sendings(
     block: &BlockTable,
     process: &ProcessTable,
@@ -194,6 +200,7 @@ pub(crate) fn doubtful_in_action(
     }
 }
 
+/// The place of TO SENDER, if a signal goes there.
 fn back_to(to: &Option<Destination>) -> Option<u32>
     ensures { Marks result (back_destination to.now) }
 {

@@ -36,6 +36,7 @@ pub(crate) enum Sender {
     Party(Numbered),
 }
 
+/// The number of a party: that of its process, or one past all of these for the environment; none where there is no such process.
 pub(crate) fn party_number(block: &BlockTable, party: &Party) -> Option<usize>
     ensures { result ≡ party_number (block_of block.now) party.now }
 {
@@ -45,6 +46,7 @@ pub(crate) fn party_number(block: &BlockTable, party: &Party) -> Option<usize>
     }
 }
 
+/// Parties with their numbers, as senders.
 fn number_parties(
     alloc: Global,
     block: &BlockTable,
@@ -63,6 +65,7 @@ fn number_parties(
     Ok(rows)
 }
 
+/// Nobody, as the one sender.
 pub(crate) fn nobody(alloc: Global) -> Result<Vec<Sender>, AllocError>
     ensures { IfOk result (λ v. v.items ≡ sent_by.Nobody ∷ []) }
 {
@@ -95,6 +98,7 @@ pub(crate) struct SenderTable {
 }
 
 impl SenderTable {
+    /// No signal or timer so far.
     fn new(alloc: Global) -> Self
         ensures names { result.names ≡ [] }
         ensures tells { (b : PlainBlock) (p : PlainProcess) → Tells b p result }
@@ -164,6 +168,7 @@ impl SenderTable {
         Ok(())
     }
 
+    /// Asks who may have sent what an INPUT names, each unless that is known.
     fn learn_stimuli(
         &mut self,
         alloc: Global,
@@ -180,6 +185,7 @@ impl SenderTable {
         Ok(())
     }
 
+    /// Asks who may have sent what these INPUTs name, each unless that is known.
     fn learn_inputs(
         &mut self,
         alloc: Global,

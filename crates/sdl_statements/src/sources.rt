@@ -15,6 +15,7 @@ use sdl_ast::Stimulus;
 use sdl_tables::{BlockTable, ProcessTable};
 use std::alloc::{AllocError, Global};
 
+/// Whether a number is there and has a mark.
 pub(crate) fn is_marked(marks: &[bool], number: usize) -> bool
     ensures { result ≡ is_marked marks.now number }
 {
@@ -52,6 +53,7 @@ pub(crate) struct Senders {
 }
 
 impl Senders {
+    /// Nobody so far, with a mark for each party of a block.
     pub(crate) fn new(alloc: Global, block: &BlockTable) -> Result<Self, AllocError>
         ensures { IfOk result (λ g. (b : PlainBlock) (p : PlainProcess) → Gathers b p g (λ s. list_all (λ q. carries b (party_of p) q s) [])) }
     {
@@ -97,6 +99,7 @@ impl Senders {
         Ok(())
     }
 
+    /// Each of these, unless it is there.
     fn add_all(&mut self, senders: &[Sender]) -> Result<(), AllocError>
         ensures { OnOk result ((b : PlainBlock) (p : PlainProcess) (f : List ℕ → Bool) → All (IsSender b) senders.now → Gathers b p self.old f
             → Gathers b p self.new (λ s. f s && list_all (gets_back b p s) senders.now)) }

@@ -50,6 +50,7 @@ pub(crate) enum StatementRule {
     NothingBack,
 }
 
+/// The place at which an action breaks a rule, where these may have sent what its transition begins with.
 fn in_action(
     rule: StatementRule,
     block: &BlockTable,
@@ -106,6 +107,7 @@ fn in_ranges(
     }
 }
 
+/// The place at which an end breaks a rule: of ends only names are asked.
 fn at_end(rule: StatementRule, process: &ProcessTable, end: End) -> Option<u32>
     ensures { (b : PlainBlock) (from : List Origin) → Marks result (asked rule b (process_of process.now) from (finishes end)) }
 {
@@ -120,6 +122,7 @@ fn at_end(rule: StatementRule, process: &ProcessTable, end: End) -> Option<u32>
     }
 }
 
+/// The place at which the end of a transition breaks a rule, if it has one.
 fn in_end(rule: StatementRule, process: &ProcessTable, end: Option<End>) -> Option<u32>
     ensures { (b : PlainBlock) (from : List Origin) → Marks result (asked_all rule b (process_of process.now) from (end_parts end)) }
 {
@@ -148,6 +151,7 @@ pub(crate) fn in_transition(
     earlier(place, in_end(rule, process, transition.end))
 }
 
+/// The least place at which a statement breaks a rule, where these may have sent what its transition begins with.
 #[cycle(statements)]
 fn in_statement(
     rule: StatementRule,
@@ -165,6 +169,7 @@ fn in_statement(
     }
 }
 
+/// The least place at which a DECISION breaks a rule, by itself or in its bodies.
 #[cycle(statements)]
 fn in_decision(
     rule: StatementRule,
@@ -190,6 +195,7 @@ fn in_decision(
     earlier(question, bodies)
 }
 
+/// The least place at which the body of ELSE breaks a rule, if there is one.
 #[cycle(statements)]
 fn in_else(
     rule: StatementRule,
@@ -207,6 +213,7 @@ fn in_else(
     }
 }
 
+/// The least place at which START's transition breaks a rule.
 fn in_start(
     alloc: Global,
     rule: StatementRule,
@@ -236,6 +243,7 @@ fn in_input(
     in_transition(rule, block, process, &from, &input.transition)
 }
 
+/// The least place at which the transitions of these INPUTs break a rule.
 fn in_inputs(
     alloc: Global,
     rule: StatementRule,
@@ -253,6 +261,7 @@ fn in_inputs(
     place
 }
 
+/// The least place at which a connection breaks a rule.
 fn in_connection(
     alloc: Global,
     rule: StatementRule,
@@ -287,6 +296,7 @@ fn in_connections(
     place
 }
 
+/// The least place at which a process breaks a rule.
 fn in_process(
     alloc: Global,
     rule: StatementRule,
@@ -322,6 +332,7 @@ fn in_processes(
     place
 }
 
+/// The place of a name in a process that its class and scope lack.
 fn unknown_in_process(alloc: Global, block: &BlockTable, process: &ProcessTable) -> Option<u32>
     ensures { Marks result (process_unknown (block_of block.now) (process_of process.now)) }
 {

@@ -1,4 +1,5 @@
 pub mod BlockLemmas
+pub mod Growing
 pub mod Numbers
 pub mod Indexing
 pub mod Mentions

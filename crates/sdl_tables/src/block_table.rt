@@ -17,6 +17,7 @@ use sdl_lex::Name;
 use std::alloc::{AllocError, Global};
 use std::marker::Model;
 
+/// Signals that are declared together, at the end.
 fn push_signals<'a>(
     rows: &mut Vec<&'a SignalDeclaration>,
     declared: &'a [SignalDeclaration],
@@ -30,6 +31,7 @@ fn push_signals<'a>(
     Ok(())
 }
 
+/// The signals of a block, in the order of the text.
 fn collect_signals<'a>(
     alloc: Global,
     entities: &'a [Entity],
@@ -48,6 +50,7 @@ fn collect_signals<'a>(
     Ok(rows)
 }
 
+/// The routes of a block, in the order of the text.
 fn collect_routes<'a>(alloc: Global, entities: &'a [Entity]) -> Result<Vec<&'a Route>, AllocError>
     ensures { IfOk result (λ rows. map (λ r. route_of r.now) rows.items ≡ flat_map routes_in (map entity_of entities.now)) }
 {
@@ -63,6 +66,7 @@ fn collect_routes<'a>(alloc: Global, entities: &'a [Entity]) -> Result<Vec<&'a R
     Ok(rows)
 }
 
+/// The processes of a block, in the order of the text.
 fn collect_processes<'a>(
     alloc: Global,
     entities: &'a [Entity],
@@ -81,24 +85,28 @@ fn collect_processes<'a>(
     Ok(rows)
 }
 
+/// The names of signals.
 fn signal_ids(alloc: Global, rows: &[&SignalDeclaration]) -> Result<Vec<Identifier>, AllocError>
     ensures { IfOk result (λ ids. ids.items ≡ map (λ s. s.now.name) rows.now) }
 {
     rows.iter().map(|row| row.name).collect(alloc)
 }
 
+/// The names of routes.
 fn route_ids(alloc: Global, rows: &[&Route]) -> Result<Vec<Identifier>, AllocError>
     ensures { IfOk result (λ ids. ids.items ≡ map (λ r. r.now.name) rows.now) }
 {
     rows.iter().map(|row| row.name).collect(alloc)
 }
 
+/// The names of processes.
 fn process_ids(alloc: Global, rows: &[&Process]) -> Result<Vec<Identifier>, AllocError>
     ensures { IfOk result (λ ids. ids.items ≡ map (λ p. p.now.name) rows.now) }
 {
     rows.iter().map(|row| row.name).collect(alloc)
 }
 
+/// The names of signals by number, and the first that is there twice.
 fn index_signals(alloc: Global, rows: &[&SignalDeclaration]) -> Result<Scope, AllocError>
     ensures names { IfOk result (λ s. s.names ≡ names_once (map (λ s. s.now.name) rows.now)) }
     ensures double { IfOk result (λ s. Marks s.double (repeats [] (map (λ s. s.now.name) rows.now))) }
@@ -108,6 +116,7 @@ fn index_signals(alloc: Global, rows: &[&SignalDeclaration]) -> Result<Scope, Al
     Ok(scope)
 }
 
+/// The place of the first name of a route that one before it has.
 fn route_double(alloc: Global, rows: &[&Route]) -> Result<Option<u32>, AllocError>
     ensures { IfOk result (λ double. Marks double (repeats [] (map (λ r. r.now.name) rows.now))) }
 {
@@ -115,6 +124,7 @@ fn route_double(alloc: Global, rows: &[&Route]) -> Result<Option<u32>, AllocErro
     Ok(index_names(alloc, &ids)?.double)
 }
 
+/// The names of processes by number, and the first that is there twice.
 fn index_processes(alloc: Global, rows: &[&Process]) -> Result<Scope, AllocError>
     ensures names { IfOk result (λ s. s.names ≡ names_once (map (λ p. p.now.name) rows.now)) }
     ensures double { IfOk result (λ s. Marks s.double (repeats [] (map (λ p. p.now.name) rows.now))) }
@@ -135,13 +145,14 @@ fn signal_timers_in(signals: &NameTable, processes: &[&Process]) -> Option<u32>
     place
 }
 
-// The tables of all processes, unless a name is twice in one of them.
+/// The tables of all processes, unless a name is twice in one of them.
 #[derive(Drop)]
 struct Processes<'a> {
     tables: Vec<ProcessTable<'a>>,
     double: Option<u32>,
 }
 
+/// The tables of processes; they are for use where no name is there twice.
 fn build_tables<'a>(alloc: Global, processes: &[&'a Process]) -> Result<Processes<'a>, AllocError>
     ensures tables { IfOk result (λ r. r.double ≡ None → r.tables.items ≡ map (λ p. p.now) processes.now) }
     ensures double { IfOk result (λ r. Marks r.double

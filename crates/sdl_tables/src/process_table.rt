@@ -36,6 +36,7 @@ pub struct InputRow<'a> {
     pub stimulus: &'a Stimulus,
 }
 
+/// The variables of a group, at the end.
 fn push_group(rows: &mut Vec<Variable>, group: &Group) -> Result<(), AllocError>
     ensures { OnOk result (map variable_of rows.new.items ≡ map variable_of rows.old.items ++ group_variables (group_of group.now)) }
 {
@@ -49,6 +50,7 @@ fn push_group(rows: &mut Vec<Variable>, group: &Group) -> Result<(), AllocError>
     Ok(())
 }
 
+/// The variables of groups, at the end.
 fn push_groups(rows: &mut Vec<Variable>, groups: &[Group]) -> Result<(), AllocError>
     ensures { OnOk result (map variable_of rows.new.items ≡ map variable_of rows.old.items ++ flat_map group_variables (map group_of groups.now)) }
 {
@@ -58,6 +60,7 @@ fn push_groups(rows: &mut Vec<Variable>, groups: &[Group]) -> Result<(), AllocEr
     Ok(())
 }
 
+/// The variables of a process, in the order of the text.
 fn collect_variables(
     alloc: Global,
     declarations: &[Declaration],
@@ -74,6 +77,7 @@ fn collect_variables(
     Ok(rows)
 }
 
+/// The timers of a process, in the order of the text.
 fn collect_timers(
     alloc: Global,
     declarations: &[Declaration],
@@ -104,12 +108,14 @@ pub(crate) fn shared_declared(among: &NameTable, declarations: &[Declaration]) -
     place
 }
 
+/// The names of variables.
 fn variable_ids(alloc: Global, rows: &[Variable]) -> Result<Vec<Identifier>, AllocError>
     ensures { IfOk result (λ ids. ids.items ≡ map (λ row. row.name) rows.now) }
 {
     rows.iter().map(|row| row.name).collect(alloc)
 }
 
+/// The names of connections.
 fn connector_ids(alloc: Global, connections: &[Connection]) -> Result<Vec<Identifier>, AllocError>
     ensures { IfOk result (λ ids. ids.items ≡ map (λ c. c.name) (map connection_of connections.now)) }
 {
@@ -120,6 +126,7 @@ fn connector_ids(alloc: Global, connections: &[Connection]) -> Result<Vec<Identi
     Ok(ids)
 }
 
+/// The names of states, in the order of first STATE.
 fn collect_states(alloc: Global, parts: &[StatePart]) -> Result<NameTable, AllocError>
     ensures { IfOk result (λ names. names ≡ names_once (flat_map (λ part. part.names) (map state_of parts.now))) }
 {
@@ -130,6 +137,7 @@ fn collect_states(alloc: Global, parts: &[StatePart]) -> Result<NameTable, Alloc
     Ok(names)
 }
 
+/// The INPUTs of a STATE part, at the end.
 fn push_parts<'a>(parts: &mut Vec<&'a InputPart>, part: &'a StatePart) -> Result<(), AllocError>
     ensures { OnOk result (map (λ i. input_of i.now) parts.new.items
         ≡ map (λ i. input_of i.now) parts.old.items ++ flat_map clause_parts (state_of part.now).clauses) }
@@ -143,6 +151,7 @@ fn push_parts<'a>(parts: &mut Vec<&'a InputPart>, part: &'a StatePart) -> Result
     Ok(())
 }
 
+/// The INPUTs of STATE parts, in the order of the text.
 fn collect_parts<'a>(
     alloc: Global,
     states: &'a [StatePart],
@@ -157,7 +166,7 @@ fn collect_parts<'a>(
     Ok(parts)
 }
 
-// The variables of a process, and the place of one whose name is there twice.
+/// The variables of a process, and the place of one whose name is there twice.
 #[derive(Drop)]
 struct Variables {
     names: NameTable,
@@ -165,6 +174,7 @@ struct Variables {
     double: Option<u32>,
 }
 
+/// The variables of a process by number, and the first name that is there twice.
 fn index_variables(alloc: Global, process: &Process) -> Result<Variables, AllocError>
     ensures names { IfOk result (λ v. v.names ≡ names_once (variable_names (process_of process.now))) }
     ensures rows { IfOk result (λ v. map variable_of v.rows.items ≡ variables_of (process_of process.now)) }
@@ -180,6 +190,7 @@ fn index_variables(alloc: Global, process: &Process) -> Result<Variables, AllocE
     })
 }
 
+/// The timers of a process by number, and the first name that is there twice.
 fn index_timers(alloc: Global, process: &Process) -> Result<Scope, AllocError>
     ensures names { IfOk result (λ s. s.names ≡ names_once (timers_of (process_of process.now))) }
     ensures double { IfOk result (λ s. Marks s.double (repeats [] (timers_of (process_of process.now)))) }
@@ -189,6 +200,7 @@ fn index_timers(alloc: Global, process: &Process) -> Result<Scope, AllocError>
     Ok(scope)
 }
 
+/// The names of a process's connections by number, and the first that is there twice.
 fn index_connectors(alloc: Global, process: &Process) -> Result<Scope, AllocError>
     ensures names { IfOk result (λ s. s.names ≡ names_once (connector_names (process_of process.now))) }
     ensures double { IfOk result (λ s. Marks s.double (repeats [] (connector_names (process_of process.now)))) }
@@ -198,7 +210,7 @@ fn index_connectors(alloc: Global, process: &Process) -> Result<Scope, AllocErro
     Ok(scope)
 }
 
-// The variables, timers and connections of a process, and the first place of a name that is there twice.
+/// The variables, timers and connections of a process, and the first place of a name that is there twice.
 #[derive(Drop)]
 struct Declared {
     variables: NameTable,
@@ -208,6 +220,7 @@ struct Declared {
     double: Option<u32>,
 }
 
+/// What a process declares, by number, and the first name that is there twice.
 fn index_declared(alloc: Global, process: &Process) -> Result<Declared, AllocError>
     ensures declared { IfOk result (λ d. HasDeclared (process_of process.now) d) }
 {
@@ -227,8 +240,8 @@ fn index_declared(alloc: Global, process: &Process) -> Result<Declared, AllocErr
     })
 }
 
-// The states and INPUTs of a process, and the first place of a name that a state takes or saves, and took or saved
-// before.
+/// The states and INPUTs of a process, and the first place of a name that a state takes or saves, and took or saved
+/// before.
 #[derive(Drop)]
 struct Standing<'a> {
     states: NameTable,
@@ -236,6 +249,7 @@ struct Standing<'a> {
     double: Option<u32>,
 }
 
+/// The states and INPUTs of a process, and the first name that a state takes or saves, and took or saved before.
 fn index_standing<'a>(alloc: Global, process: &'a Process) -> Result<Standing<'a>, AllocError>
     ensures standing { IfOk result (λ t. HasStanding (process_of process.now) t) }
 {

@@ -40,6 +40,7 @@ pub(crate) struct Passage {
     signal: FoldedName,
 }
 
+/// A party as it is looked up.
 pub(crate) fn side_of(party: &Party) -> Side
     ensures { result ≡ side_of party.now }
 {
@@ -49,6 +50,7 @@ pub(crate) fn side_of(party: &Party) -> Side
     }
 }
 
+/// A party and a signal as they are looked up.
 fn end_of(party: &Party, signal: Name) -> End
     ensures { result ≡ end_of party.now signal }
 {
@@ -58,6 +60,7 @@ fn end_of(party: &Party, signal: Name) -> End
     }
 }
 
+/// A signal on its way as it is looked up.
 fn passage_of(from: &Party, to: &Party, signal: Name) -> Passage
     ensures { result ≡ passage_of from.now to.now signal }
 {
@@ -75,6 +78,7 @@ pub(crate) struct Ends {
 }
 
 impl Ends {
+    /// No parties for any key.
     fn new(alloc: Global) -> Self
         ensures { (own : tree.Party) (s : _) → listed result own s ≡ [] }
     {
@@ -104,6 +108,7 @@ impl Ends {
         }
     }
 
+    /// The parties for a party and a signal, each once; none where no path brings it.
     fn get(&self, own: &Party, signal: Name) -> &[Party]
         ensures { result.now ≡ listed self.now own.now signal }
     {
@@ -123,6 +128,7 @@ pub(crate) struct RouteIndex {
 }
 
 impl RouteIndex {
+    /// The index of no routes.
     fn empty(alloc: Global) -> Self
         ensures { Indexes result [] }
     {
@@ -156,6 +162,7 @@ impl RouteIndex {
         Ok(())
     }
 
+    /// The signals that a path brings.
     fn add_path(&mut self, alloc: Global, path: &Path) -> Result<(), AllocError>
         ensures { OnOk result ((ms : List Mention) → Indexes self.old ms → Indexes self.new (ms ++ mentions_of (path_of path.now))) }
     {
@@ -165,6 +172,7 @@ impl RouteIndex {
         Ok(())
     }
 
+    /// The paths of a route.
     fn add_paths(&mut self, alloc: Global, paths: &[Path]) -> Result<(), AllocError>
         ensures { OnOk result ((ms : List Mention) → Indexes self.old ms → Indexes self.new (ms ++ flat_map mentions_of (map path_of paths.now))) }
     {

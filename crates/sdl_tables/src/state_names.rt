@@ -28,6 +28,7 @@ pub(crate) fn push_ids(names: &mut Vec<Identifier>, ids: &[Identifier]) -> Resul
     Ok(())
 }
 
+/// The names of what an INPUT takes, at the end.
 fn push_stimuli(names: &mut Vec<Identifier>, stimuli: &[Stimulus]) -> Result<(), AllocError>
     ensures { OnOk result (names.new.items ≡ names.old.items ++ map (λ s. s.name) (map stimulus_of stimuli.now)) }
 {
@@ -37,6 +38,7 @@ fn push_stimuli(names: &mut Vec<Identifier>, stimuli: &[Stimulus]) -> Result<(),
     Ok(())
 }
 
+/// The names of an INPUT or a SAVE that are meant, at the end.
 fn push_clause(
     names: &mut Vec<Identifier>,
     which: Which,
@@ -51,6 +53,7 @@ fn push_clause(
     }
 }
 
+/// The names of a STATE part that are meant, at the end.
 fn push_part(names: &mut Vec<Identifier>, which: Which, part: &StatePart) -> Result<(), AllocError>
     ensures { OnOk result (names.new.items ≡ names.old.items ++ part_names which (state_of part.now)) }
 {
@@ -60,6 +63,7 @@ fn push_part(names: &mut Vec<Identifier>, which: Which, part: &StatePart) -> Res
     Ok(())
 }
 
+/// No name for any of so many states.
 fn empty_names(alloc: Global, count: usize) -> Result<Vec<Vec<Identifier>>, AllocError>
     ensures len { IfOk result (λ v. vec_len v ≡ count) }
     ensures empty { IfOk result (λ v. (s : ℕ) → names_at v.items s ≡ []) }

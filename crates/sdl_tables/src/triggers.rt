@@ -39,6 +39,7 @@ fn number_in(names: &mut NameTable, id: Identifier) -> Result<usize, AllocError>
     }
 }
 
+/// Names with their numbers, which may be new.
 fn number_ids(
     alloc: Global,
     names: &mut NameTable,
@@ -56,6 +57,7 @@ fn number_ids(
     Ok(triggers)
 }
 
+/// What a STATE part takes and saves, with the numbers of the names.
 fn number_part(
     alloc: Global,
     names: &mut NameTable,
@@ -85,6 +87,7 @@ fn number_parts(
     Ok(rows)
 }
 
+/// No part for any of so many states.
 fn empty_rows(alloc: Global, count: usize) -> Result<Vec<Vec<usize>>, AllocError>
     ensures len { IfOk result (λ v. vec_len v ≡ count) }
     ensures empty { IfOk result (λ v. (of_part : ℕ → List the_id.Identifier) (s : ℕ) → row_at (taken_in of_part) v.items s ≡ []) }
@@ -181,6 +184,7 @@ fn stamp_part(seen: &mut Vec<usize>, stamp: usize, triggers: &[Trigger]) -> Opti
     double
 }
 
+/// The first name of the part with a number that stands before; its names are stamped too.
 fn stamp_number(
     seen: &mut Vec<usize>,
     stamp: usize,
@@ -200,6 +204,7 @@ fn stamp_number(
     }
 }
 
+/// The place of the first name.
 fn first_at(triggers: &[Trigger]) -> Option<u32>
     ensures { Marks result (map (λ t. t.id.at) triggers.now) }
 {
@@ -209,6 +214,7 @@ fn first_at(triggers: &[Trigger]) -> Option<u32>
     }
 }
 
+/// The place of the first name of the part with a number, if it has one.
 fn first_of(parts: &[Vec<Trigger>], number: usize) -> Option<u32>
     ensures { Marks result (map (λ id. id.at) (taken_by parts.now number)) }
 {
@@ -288,6 +294,7 @@ fn next_double(
     }
 }
 
+/// No stamp for any of so many names.
 fn unseen(alloc: Global, count: usize) -> Result<Vec<usize>, AllocError>
     ensures len { IfOk result (λ v. vec_len v ≡ count) }
     ensures below { IfOk result (λ v. AreBelow v.items 1) }

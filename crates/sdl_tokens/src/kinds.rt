@@ -7,12 +7,14 @@ use crate::tokens::Kind;
 use sdl_ast::{Constant, Destination, Identifier, Literal, Party, Relation, Sort};
 use sdl_lex::{Lexeme, MAX_NUMBER, Name, Symbol, Token, Word};
 
+/// Whether a word is the wanted one.
 fn is_same_word(found: Word, wanted: Word) -> bool
     ensures { result ≡ same_word found wanted }
 {
     found == wanted
 }
 
+/// Whether a symbol is the wanted one.
 fn is_same_symbol(found: Symbol, wanted: Symbol) -> bool
     ensures { result ≡ same_symbol found wanted }
 {

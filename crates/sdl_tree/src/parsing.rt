@@ -14,6 +14,7 @@ use sdl_lex::Token;
 use sdl_tokens::Stop;
 use std::alloc::Global;
 
+/// The tree of all tokens, or why there is none.
 fn read_text(alloc: Global, tokens: &[Token]) -> Result<Block, ParseFault>
     ensures { Settled tokens.now result }
 {

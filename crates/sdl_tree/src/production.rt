@@ -18,6 +18,7 @@ pub(crate) trait Production: Drop {
 
     ghost reading: { At Plain };
 
+    /// Reads one from the first tokens on: what it is, and the tokens behind it.
     fn read<'a>(alloc: Global, tokens: &'a [Token]) -> Result<(Self, &'a [Token]), Stop<'a>>
         ensures { Mirrors view result (reading tokens.now) };
 
@@ -28,6 +29,7 @@ pub(crate) trait Production: Drop {
 pub(crate) trait Listed: Production {
     ghost starts: { Token → Option ℕ };
 
+    /// Whether one follows, which its first token tells.
     fn is_next(tokens: &[Token]) -> bool
         ensures { result ≡ begins starts tokens.now };
 

@@ -1,5 +1,5 @@
 -- Bits of what walks may do: one thing behind another, and the answers of a DECISION beside each other.
-use Rattle.std.proofs.Common.{◌≡◌, ℕ, zero, suc, ◌<◌, ◌≤◌, ◌==◌, Bool, true, false, not, ◌&&◌, ◌||◌, List, [], ◌∷◌, ◌++◌, length, Option, None, Some, get_or, set, refl, sym, ap, ◌∙◌, arith, inl, inr}
+use Rattle.std.proofs.Common.{◌≡◌, ℕ, zero, suc, ◌<◌, ◌≤◌, ◌==◌, Bool, true, false, not, ◌&&◌, ◌||◌, List, [], ◌∷◌, ◌++◌, length, Option, None, Some, get_or, set, refl, sym, ap, ◌∙◌, arith, inl, inr, true≢false}
 use Rattle.std.specs.Prelude.{slice_get, option_and_then}
 use Rattle.std.specs.Option.{option_map_or}
 use Rattle.std.specs.Global.{Vec}
@@ -8,11 +8,11 @@ use Rattle.std.proofs.lemmas.Option.{slice_get-get_or, slice_get_past}
 use lib.Bits.{bit_and, bit_or}
 use Rattle.unset_paths.specs.Graph.{has}
 use Rattle.sdl_ast.specs.declared.expression.Identifier.{Identifier}
-use Rattle.sdl_ast.specs.Plain.{Text, falls, Choice, nothing_else, answer, PlainStatement, act, decide, PlainAnswer, before, all_before, all_answers, PlainProcess}
+use Rattle.sdl_ast.specs.Plain.{PlainAction, task, output, set_timer, reset_timer, Text, falls, Choice, nothing_else, answer, PlainStatement, act, decide, PlainAnswer, before, all_before, all_answers, PlainProcess}
 use Rattle.sdl_tables.specs.Names.{number_of, connector_names, states_of, is_state}
 use Rattle.sdl_sound.specs.Paths.{Event, tree_events, action_events, reads_first, sets_in}
 use Rattle.sdl_sound.specs.Chances.{Chances, no_chances, leaving, event_chances, behind, beside, last_chances, chances, choice_chances}
-use Rattle.sdl_unset.specs.Flows.{Does, Doings, mask_at, Stands, Walked, Forked, AreTold}
+use Rattle.sdl_unset.specs.Flows.{Does, is_quoted, Doings, mask_at, Stands, Walked, Forked, AreTold}
 use Rattle.sdl_unset.specs.declared.firsts.Firsts.{Firsts}
 use Rattle.sdl_unset.specs.declared.flow.Flow.{Flow}
 use Rattle.sdl_unset.specs.declared.walker.Walker.{Walker}
@@ -147,6 +147,14 @@ walked_behind p f g a b c one two = λ h s.
 pub walked_none : (p : PlainProcess) (a : Walker) → Walked p (λ x q. leaving) a a
 unfolding Walked
 walked_none p a = λ h s. stands_same p h (λ x q. behind (h x q) leaving) a (λ x q. sym (behind_leaving (h x q))) s
+
+-- a TASK in which all is quoted does nothing
+pub walked_quoted : (p : PlainProcess) (action : PlainAction) (a : Walker) → is_quoted action ≡ true → Walked p (λ x q. event_chances (action_events action) x) a a
+walked_quoted p (task at []) a e = walked_none p a
+walked_quoted p (task at (x ∷ xs)) a e = absurd (true≢false (sym e))
+walked_quoted p (output at xs to) a e = absurd (true≢false (sym e))
+walked_quoted p (set_timer at x n) a e = absurd (true≢false (sym e))
+walked_quoted p (reset_timer at n) a e = absurd (true≢false (sym e))
 
 pub at_start : (p : PlainProcess) (masks : Vec ℕ) (firsts : Firsts) → length masks.items ≡ length (states_of p) → ((q : ℕ) → mask_at masks.items q ≡ 0)
     → Stands p (λ x q. leaving) (record { reads = 0; leaves = 4294967295; enters = masks; firsts = firsts })

@@ -1,15 +1,16 @@
 -- What a part of a transition does with the variables, as bits by their numbers.
-use Rattle.std.specs.Prelude.{◌≡◌, ◌↔◌, ℕ, ◌<◌, Bool, true, not, List, map, length, Option, None, Some, slice_get, option_and_then, Contains}
+use Rattle.std.specs.Prelude.{◌≡◌, ◌↔◌, ℕ, ◌<◌, Bool, true, false, not, List, [], ◌∷◌, map, length, Option, None, Some, slice_get, option_and_then, Contains}
 use Rattle.std.specs.List.{AllZip}
 use Rattle.std.specs.Option.{option_map_or}
 use Rattle.std.specs.Global.{Vec}
+use Rattle.profile_limits.specs.Limits.{MOST_VARIABLES}
 use Rattle.unset_paths.specs.Graph.{has, Passes}
 use Rattle.unset_paths.specs.Order.{AreSorted}
 use Rattle.unset_paths.specs.declared.Passage.{Passage}
 use Rattle.unset_paths.specs.declared.Summary.{Summary}
 use Rattle.sdl_ast.specs.declared.expression.Identifier.{Identifier}
 use Rattle.sdl_ast.specs.declared.tree.End.{End}
-use Rattle.sdl_ast.specs.Plain.{Text, Choice, PlainProcess}
+use Rattle.sdl_ast.specs.Plain.{PlainAction, task, output, set_timer, reset_timer, Text, Choice, PlainProcess}
 use Rattle.sdl_tables.specs.Names.{number_of, variable_names, connector_names, states_of, Input}
 use Rattle.sdl_sound.specs.Names.{place_names}
 use Rattle.sdl_sound.specs.Paths.{Event, sets, Transition, input_transition, reads_first, sets_in}
@@ -19,13 +20,21 @@ use Rattle.sdl_unset.specs.declared.walker.Walker.{Walker}
 
 -- bit v says whether the name of identifier v passes a test
 pub record Tells (ids : List Identifier) (test : List ℕ → Bool) (bits : ℕ) : Type 0 where
-  pub at : (v : ℕ) (id : Identifier) → v < 32 → slice_get ids v ≡ Some id → has bits v ≡ test id.name
+  pub at : (v : ℕ) (id : Identifier) → v < MOST_VARIABLES → slice_get ids v ≡ Some id → has bits v ≡ test id.name
 
 -- what is read by these events before they set it, and what they don't set
 unfoldable pub Does : PlainProcess → List Event → Flow → Type 0
 Does p events flow =
     Tells (variable_names p) (λ x. reads_first events x) flow.reads
     × Tells (variable_names p) (λ x. not (sets_in events x)) flow.keeps
+
+-- whether an action is a TASK in which all is quoted
+abbrev pub is_quoted : PlainAction → Bool
+is_quoted (task at []) = true
+is_quoted (task at (a ∷ rest)) = false
+is_quoted (output at xs to) = false
+is_quoted (set_timer at x n) = false
+is_quoted (reset_timer at n) = false
 
 -- an INPUT sets the variables of its places
 abbrev pub place_events : List (Option Identifier) → List Event
@@ -45,7 +54,7 @@ Doings = List ℕ → ℕ → Chances
 unfoldable pub Stands : PlainProcess → Doings → Walker → Type 0
 Stands p f w =
     (length w.enters.items ≡ length (states_of p))
-    × ((v q : ℕ) (id : Identifier) → v < 32 → slice_get (variable_names p) v ≡ Some id
+    × ((v q : ℕ) (id : Identifier) → v < MOST_VARIABLES → slice_get (variable_names p) v ≡ Some id
     → (has w.reads v ≡ (f id.name q).reads) × (has w.leaves v ≡ (f id.name q).leaves)
     × (has (mask_at w.enters.items q) v ≡ (f id.name q).enters))
 

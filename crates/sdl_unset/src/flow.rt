@@ -1,5 +1,5 @@
 //! What a part of a transition does with the variables: which it reads before it sets them, and which it leaves unset.
-ghost use Rattle.std.specs.Prelude.{◌++◌, ◌∷◌, [], List, map};
+ghost use Rattle.std.specs.Prelude.{◌≡◌, ◌++◌, ◌∷◌, [], List, map};
 ghost use Rattle.std.specs.List.{flat_map};
 ghost use Rattle.std.specs.Option.{option_to_list};
 ghost use Rattle.sdl_ast.specs.Plain.{PlainProcess};
@@ -7,7 +7,7 @@ ghost use Rattle.sdl_ast.specs.Views.{tree_of, assignment_of, sending_of, action
 ghost use Rattle.sdl_tables.specs.Names.{same_name, variable_names};
 ghost use Rattle.sdl_tables.specs.Rows.{variable_of};
 ghost use Rattle.sdl_sound.specs.Paths.{Event, reads, sets, tree_events, assignment_events, sending_events, action_events, initial_sets};
-ghost use Rattle.sdl_unset.specs.Flows.{Tells, Does, place_events};
+ghost use Rattle.sdl_unset.specs.Flows.{Tells, Does, is_quoted, place_events};
 
 use crate::firsts::Firsts;
 use sdl_ast::{Action, Assignment, Expression, Identifier, Sending};
@@ -63,6 +63,7 @@ fn bit(table: &ProcessTable, name: Name) -> u32
     }
 }
 
+/// A variable is read.
 fn read(table: &ProcessTable, id: Identifier) -> Flow
     ensures { Does (process_of table.now) (reads id.name ∷ []) result }
 {
@@ -74,6 +75,7 @@ fn read(table: &ProcessTable, id: Identifier) -> Flow
     }
 }
 
+/// A variable is set.
 fn set(table: &ProcessTable, name: Name) -> Flow
     ensures { Does (process_of table.now) (sets name ∷ []) result }
 {
@@ -84,6 +86,7 @@ fn set(table: &ProcessTable, name: Name) -> Flow
     }
 }
 
+/// The variables of an expression are read, from left to right.
 pub(crate) fn expression_flow(table: &ProcessTable, expression: &Expression) -> Flow
     ensures { Does (process_of table.now) (tree_events (tree_of expression.now)) result }
 {
@@ -98,6 +101,7 @@ pub(crate) fn expression_flow(table: &ProcessTable, expression: &Expression) -> 
     }
 }
 
+/// The value of an assignment is read, and then its variable is set.
 fn assignment_flow(table: &ProcessTable, assignment: &Assignment) -> Flow
     ensures { Does (process_of table.now) (assignment_events (assignment_of assignment.now)) result }
 {
@@ -105,6 +109,7 @@ fn assignment_flow(table: &ProcessTable, assignment: &Assignment) -> Flow
     value.followed_by(set(table, assignment.variable.name))
 }
 
+/// Assignments, one after another.
 fn assignments_flow(table: &ProcessTable, assignments: &[Assignment]) -> Flow
     ensures { Does (process_of table.now) (flat_map assignment_events (map assignment_of assignments.now)) result }
 {
@@ -115,6 +120,7 @@ fn assignments_flow(table: &ProcessTable, assignments: &[Assignment]) -> Flow
     flow
 }
 
+/// The parameters of a signal are read, one after another.
 fn parameters_flow(table: &ProcessTable, parameters: &[Expression]) -> Flow
     ensures { Does (process_of table.now) (flat_map tree_events (map tree_of parameters.now)) result }
 {
@@ -125,6 +131,7 @@ fn parameters_flow(table: &ProcessTable, parameters: &[Expression]) -> Flow
     flow
 }
 
+/// The parameters of sendings are read, one after another.
 fn sendings_flow(table: &ProcessTable, sendings: &[Sending]) -> Flow
     ensures { Does (process_of table.now) (flat_map sending_events (map sending_of sendings.now)) result }
 {
@@ -135,6 +142,7 @@ fn sendings_flow(table: &ProcessTable, sendings: &[Sending]) -> Flow
     flow
 }
 
+/// What an action does: RESET does nothing.
 pub(crate) fn action_flow(table: &ProcessTable, action: &Action) -> Flow
     ensures { Does (process_of table.now) (action_events (action_of action.now)) result }
 {
@@ -146,6 +154,19 @@ pub(crate) fn action_flow(table: &ProcessTable, action: &Action) -> Flow
     }
 }
 
+/// Whether an action is a TASK in which all is quoted.
+pub(crate) fn is_quoted(action: &Action) -> bool
+    ensures { result ≡ is_quoted (action_of action.now) }
+{
+    match action {
+        Action::Task(task) => task.assignments.is_empty(),
+        Action::Output(_) => false,
+        Action::Set(_) => false,
+        Action::Reset(_) => false,
+    }
+}
+
+/// A variable is set as its process begins, where it has an initial value.
 fn initial_flow(table: &ProcessTable, variable: &Variable) -> Flow
     ensures { Does (process_of table.now) (initial_sets (variable_of variable.now)) result }
 {
@@ -155,6 +176,7 @@ fn initial_flow(table: &ProcessTable, variable: &Variable) -> Flow
     }
 }
 
+/// The variables with initial values are set.
 pub(crate) fn initials_flow(table: &ProcessTable, variables: &[Variable]) -> Flow
     ensures { Does (process_of table.now) (flat_map initial_sets (map variable_of variables.now)) result }
 {
@@ -165,6 +187,7 @@ pub(crate) fn initials_flow(table: &ProcessTable, variables: &[Variable]) -> Flo
     flow
 }
 
+/// The variable of an INPUT's place is set, where it names one.
 fn place_flow(table: &ProcessTable, place: Option<Identifier>) -> Flow
     ensures { Does (process_of table.now) (map (λ id. sets id.name) (option_to_list place)) result }
 {
@@ -174,6 +197,7 @@ fn place_flow(table: &ProcessTable, place: Option<Identifier>) -> Flow
     }
 }
 
+/// The variables of an INPUT's places are set, one after another.
 pub(crate) fn places_flow(table: &ProcessTable, places: &[Option<Identifier>]) -> Flow
     ensures { Does (process_of table.now) (place_events places.now) result }
 {

@@ -10,6 +10,7 @@ ghost use Rattle.sdl_sound.specs.Orders.{IsOrder};
 ghost use Rattle.sdl_tables.specs.Names.{variables_of};
 ghost use Rattle.sdl_unset.specs.Flows.{AreJoined};
 ghost use Rattle.sdl_unset.specs.Fates.{AreFates, AreSet, IsUnsetAt, fate_path, HasFirst};
+ghost use Rattle.profile_limits.specs.Limits.{MOST_VARIABLES};
 
 use crate::summaries::graph_of;
 use crate::walker::Walker;
@@ -23,7 +24,7 @@ pub(crate) fn find_fates(
     table: &ProcessTable,
     walkers: &[Walker],
 ) -> Result<Vec<Fate>, AllocError>
-    requires few { length (variables_of (process_of table.now)) ≤ 32 }
+    requires few { length (variables_of (process_of table.now)) ≤ MOST_VARIABLES }
     requires known { (b : PlainBlock) × (process_unknown b (process_of table.now) ≡ []) }
     requires answered { in_statements (λ from. statement_unanswered (variables_of (process_of table.now))) (process_of table.now) ≡ [] }
     requires order { (order : List ℕ) × IsOrder (process_of table.now) order }
@@ -49,6 +50,7 @@ pub(crate) fn path_at(fates: &[Fate], variable: usize) -> &[unset_paths::Step]
     }
 }
 
+/// Where a variable is read unset; none where no path does.
 fn place_at(places: &[Option<u32>], variable: usize) -> Option<u32> {
     match places.get(variable) {
         Some(place) => *place,

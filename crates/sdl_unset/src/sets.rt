@@ -2,6 +2,7 @@
 ghost use Rattle.std.specs.Prelude.{◌≡◌, ℕ, ◌≤◌, Some, length, IfOk, slice_get};
 ghost use Rattle.std.specs.Int.{bit_at};
 ghost use Rattle.sdl_unset.specs.Fates.{is_set_in, set_bit};
+ghost use Rattle.profile_limits.specs.Limits.{MOST_VARIABLES};
 
 use std::alloc::{AllocError, Global};
 use unset_paths::Fate;
@@ -18,7 +19,7 @@ fn is_set_in(fate: &Fate, state: usize) -> bool
 
 /// The variables that are set in a state.
 fn set_in(fates: &[Fate], state: usize) -> u32
-    requires { length fates.now ≤ 32 }
+    requires { length fates.now ≤ MOST_VARIABLES }
     ensures { (v : ℕ) → bit_at result v ≡ set_bit fates.now state v }
 {
     let mut set: u32 = 0;
@@ -32,7 +33,7 @@ fn set_in(fates: &[Fate], state: usize) -> u32
 
 /// The variables that are set in each of so many states.
 pub(crate) fn sets_in(alloc: Global, fates: &[Fate], count: usize) -> Result<Vec<u32>, AllocError>
-    requires { length fates.now ≤ 32 }
+    requires { length fates.now ≤ MOST_VARIABLES }
     ensures count { IfOk result (λ sets. length sets.items ≡ count) }
     ensures bits { IfOk result (λ sets. (q set : ℕ) → slice_get sets.items q ≡ Some set → (v : ℕ) → bit_at set v ≡ set_bit fates.now q v) }
 {

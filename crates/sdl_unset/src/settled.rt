@@ -8,6 +8,7 @@ ghost use Rattle.sdl_sound.specs.Decisions.{statement_unanswered};
 ghost use Rattle.sdl_sound.specs.Orders.{IsOrder, AreOrders};
 ghost use Rattle.sdl_sound.specs.Refusals.{IsWithin};
 ghost use Rattle.sdl_unset.specs.Surveys.{IsSurvey, AreSurveys};
+ghost use Rattle.profile_limits.specs.Limits.{MOST_VARIABLES};
 
 use crate::places::read_places;
 use crate::search::{find_fates, find_first, path_at};
@@ -33,7 +34,7 @@ fn survey(
     table: &ProcessTable,
     order: &[usize],
 ) -> Result<Result<Vec<u32>, Unset>, AllocError>
-    requires few { length (variables_of (process_of table.now)) ≤ 32 }
+    requires few { length (variables_of (process_of table.now)) ≤ MOST_VARIABLES }
     requires known { process_unknown (block_of block.now) (process_of table.now) ≡ [] }
     requires answered { in_statements (λ from. statement_unanswered (variables_of (process_of table.now))) (process_of table.now) ≡ [] }
     requires order { IsOrder (process_of table.now) order.now }

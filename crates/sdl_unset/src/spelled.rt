@@ -60,6 +60,7 @@ fn named_input(
     }
 }
 
+/// START, or the transition of an input, with the names as they are declared.
 fn named_step(
     block: &BlockTable,
     table: &ProcessTable,

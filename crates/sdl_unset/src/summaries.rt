@@ -15,6 +15,7 @@ ghost use Rattle.sdl_sound.specs.Orders.{IsOrder};
 ghost use Rattle.sdl_sound.specs.Standing.{taken_by, taken_in};
 ghost use Rattle.sdl_unset.specs.Graphs.{IsGraphOf};
 ghost use Rattle.sdl_unset.specs.Flows.{Does, Stands, AreTold, AreJoined, text_doings, ArePassages, IsSummaryBy, AreSummariesBy};
+ghost use Rattle.profile_limits.specs.Limits.{MOST_VARIABLES};
 
 use crate::flow::{Flow, initials_flow, places_flow};
 use crate::walker::Walker;
@@ -64,7 +65,7 @@ fn summary(
     first: Flow,
     walked: &Walker,
 ) -> Result<Summary, AllocError>
-    requires few { length (variables_of (process_of table.now)) ≤ 32 }
+    requires few { length (variables_of (process_of table.now)) ≤ MOST_VARIABLES }
     ensures { (events : List Event) (text : Text) → Does (process_of table.now) events first
         → Stands (process_of table.now) (text_doings (process_of table.now) (λ x q y. joined_chances (process_of table.now) x q y) text) walked.now
         → IfOk result (λ s. IsSummaryBy (process_of table.now) (record { first = events; text = text }) s) }
@@ -79,12 +80,13 @@ fn summary(
     })
 }
 
+/// What START's transition does, behind the initial values.
 fn start_summary(
     alloc: Global,
     table: &ProcessTable,
     walkers: &[Walker],
 ) -> Result<Summary, AllocError>
-    requires few { length (variables_of (process_of table.now)) ≤ 32 }
+    requires few { length (variables_of (process_of table.now)) ≤ MOST_VARIABLES }
     requires joined { AreJoined (process_of table.now) walkers.now }
     ensures { IfOk result (λ s. IsSummaryBy (process_of table.now) (start_transition (process_of table.now)) s) }
 {
@@ -102,7 +104,7 @@ fn push_stimuli(
     walked: &Walker,
     stimuli: &[Stimulus],
 ) -> Result<(), AllocError>
-    requires few { length (variables_of (process_of table.now)) ≤ 32 }
+    requires few { length (variables_of (process_of table.now)) ≤ MOST_VARIABLES }
     ensures { (before : List Input) (at : ℕ) (text : Text)
         → Stands (process_of table.now) (text_doings (process_of table.now) (λ x q y. joined_chances (process_of table.now) x q y) text) walked.now
         → AreSummariesBy (process_of table.now) before summaries.old
@@ -115,6 +117,7 @@ fn push_stimuli(
     Ok(())
 }
 
+/// The summaries for the signals of an INPUT, at the end.
 fn push_input(
     alloc: Global,
     table: &ProcessTable,
@@ -122,7 +125,7 @@ fn push_input(
     summaries: &mut Vec<Summary>,
     input: &InputPart,
 ) -> Result<(), AllocError>
-    requires few { length (variables_of (process_of table.now)) ≤ 32 }
+    requires few { length (variables_of (process_of table.now)) ≤ MOST_VARIABLES }
     requires joined { AreJoined (process_of table.now) walkers.now }
     ensures { (before : List Input) → AreSummariesBy (process_of table.now) before summaries.old
         → OnOk result (AreSummariesBy (process_of table.now) (before ++ stimulus_inputs (input_of input.now)) summaries.new) }
@@ -138,7 +141,7 @@ fn input_summaries(
     walkers: &[Walker],
     inputs: &[&InputPart],
 ) -> Result<Vec<Summary>, AllocError>
-    requires few { length (variables_of (process_of table.now)) ≤ 32 }
+    requires few { length (variables_of (process_of table.now)) ≤ MOST_VARIABLES }
     requires joined { AreJoined (process_of table.now) walkers.now }
     ensures { IfOk result (λ v. AreSummariesBy (process_of table.now) (flat_map taken_by inputs.now) v) }
 {
@@ -149,13 +152,14 @@ fn input_summaries(
     Ok(summaries)
 }
 
+/// The summaries of what each of these states takes.
 fn state_summaries(
     alloc: Global,
     table: &ProcessTable,
     walkers: &[Walker],
     states: &[Vec<&InputPart>],
 ) -> Result<Vec<Vec<Summary>>, AllocError>
-    requires few { length (variables_of (process_of table.now)) ≤ 32 }
+    requires few { length (variables_of (process_of table.now)) ≤ MOST_VARIABLES }
     requires joined { AreJoined (process_of table.now) walkers.now }
     ensures { IfOk result (λ v. AllZip (AreSummariesBy (process_of table.now)) (map taken_in states.now) v.items) }
 {
@@ -173,7 +177,7 @@ pub(crate) fn graph_of(
     table: &ProcessTable,
     walkers: &[Walker],
 ) -> Result<Graph, AllocError>
-    requires few { length (variables_of (process_of table.now)) ≤ 32 }
+    requires few { length (variables_of (process_of table.now)) ≤ MOST_VARIABLES }
     requires known { (b : PlainBlock) × (process_unknown b (process_of table.now) ≡ []) }
     requires answered { in_statements (λ from. statement_unanswered (variables_of (process_of table.now))) (process_of table.now) ≡ [] }
     requires order { (order : List ℕ) × IsOrder (process_of table.now) order }

@@ -24,6 +24,7 @@ pub(crate) struct Walker {
     pub firsts: Firsts,
 }
 
+/// A mask without a bit for each of so many states.
 fn empty_masks(alloc: Global, count: usize) -> Result<Vec<u32>, AllocError>
     ensures count { IfOk result (λ masks. length masks.items ≡ count) }
     ensures empty { IfOk result (λ masks. (q : ℕ) → mask_at masks.items q ≡ 0) }
@@ -35,6 +36,7 @@ fn empty_masks(alloc: Global, count: usize) -> Result<Vec<u32>, AllocError>
     Ok(masks)
 }
 
+/// The mask of a state; 0 where there is none.
 fn mask_of(masks: &[u32], state: usize) -> u32
     ensures { result ≡ mask_at masks.now state }
 {
@@ -44,6 +46,7 @@ fn mask_of(masks: &[u32], state: usize) -> u32
     }
 }
 
+/// The bits of a mask are put to those of a state, if that is there.
 fn add_mask(masks: &mut Vec<u32>, state: usize, mask: u32)
     ensures count { length masks.new.items ≡ length masks.old.items }
     ensures bits { state < length masks.old.items → (v q : ℕ)

@@ -2,19 +2,19 @@
 ghost use Rattle.std.specs.Prelude.{◌≡◌, [], false, map, slice_get, option_and_then, IfOk};
 ghost use Rattle.std.specs.Option.{option_map};
 ghost use Rattle.sdl_ast.specs.Plain.{PlainBlock, falls};
-ghost use Rattle.sdl_ast.specs.Views.{statement_of, choice_of, text_of, connection_of, process_of};
+ghost use Rattle.sdl_ast.specs.Views.{statement_of, choice_of, text_of, action_of, connection_of, process_of};
 ghost use Rattle.sdl_tables.specs.Names.{number_of, variables_of, connector_names, is_state, states_of};
-ghost use Rattle.sdl_sound.specs.Paths.{reads};
-ghost use Rattle.sdl_sound.specs.Chances.{last_chances};
+ghost use Rattle.sdl_sound.specs.Paths.{reads, action_events};
+ghost use Rattle.sdl_sound.specs.Chances.{last_chances, event_chances};
 ghost use Rattle.sdl_sound.specs.Names.{process_unknown};
 ghost use Rattle.sdl_sound.specs.Actions.{in_statements};
 ghost use Rattle.sdl_sound.specs.Decisions.{statement_unanswered};
 ghost use Rattle.sdl_sound.specs.Orders.{IsOrder};
 ghost use Rattle.sdl_unset.specs.Flows.{Stands, Walked, AreTold, AreJoined, text_doings, choice_doings, end_doings};
 
-use crate::flow::{action_flow, expression_flow};
+use crate::flow::{action_flow, expression_flow, is_quoted};
 use crate::walker::{Walker, idle_walkers};
-use sdl_ast::{Connection, Decision, End, Statement, Transition};
+use sdl_ast::{Action, Connection, Decision, End, Statement, Transition};
 use sdl_lex::Name;
 use sdl_tables::ProcessTable;
 use std::alloc::{AllocError, Global};
@@ -29,6 +29,7 @@ fn joined_walker<'a>(table: &ProcessTable, walkers: &'a [Walker], name: Name) ->
     }
 }
 
+/// A JOIN: on goes what the walks of its connection do.
 fn walk_join(table: &ProcessTable, walkers: &[Walker], walker: &mut Walker, name: Name)
     ensures { (told : _) → AreTold (process_of table.now) told walkers.now
         → Walked (process_of table.now) (λ x q. told x q name) walker.old walker.new }
@@ -39,6 +40,7 @@ fn walk_join(table: &ProcessTable, walkers: &[Walker], walker: &mut Walker, name
     }
 }
 
+/// A NEXTSTATE: the walks end in the state with a name.
 fn walk_next(table: &ProcessTable, walker: &mut Walker, name: Name)
     ensures { Walked (process_of table.now) (λ x q. record { reads = false; leaves = false; enters = is_state (states_of (process_of table.now)) q name })
         walker.old walker.new }
@@ -49,6 +51,7 @@ fn walk_next(table: &ProcessTable, walker: &mut Walker, name: Name)
     }
 }
 
+/// The end of a transition: behind STOP no walk goes on.
 fn walk_end(table: &ProcessTable, walkers: &[Walker], walker: &mut Walker, end: End)
     ensures { (told : _) → AreTold (process_of table.now) told walkers.now
         → Walked (process_of table.now) (end_doings (process_of table.now) told end) walker.old walker.new }
@@ -60,6 +63,17 @@ fn walk_end(table: &ProcessTable, walkers: &[Walker], walker: &mut Walker, end: 
     }
 }
 
+/// An action. A TASK in which all is quoted is passed at once: it does nothing with any variable.
+fn walk_action(table: &ProcessTable, walker: &mut Walker, action: &Action)
+    ensures { Walked (process_of table.now) (λ x q. event_chances (action_events (action_of action.now)) x) walker.old walker.new }
+{
+    if is_quoted(action) {
+        return;
+    }
+    walker.pass(action_flow(table, action));
+}
+
+/// A transition from its first statement to its end, if it has one.
 #[cycle(walking)]
 pub(crate) fn walk_transition(
     table: &ProcessTable,
@@ -79,6 +93,7 @@ pub(crate) fn walk_transition(
     }
 }
 
+/// A statement: an action, or the question of a DECISION and its answers.
 #[cycle(walking)]
 fn walk_statement(
     table: &ProcessTable,
@@ -90,7 +105,7 @@ fn walk_statement(
         → Walked (process_of table.now) (text_doings (process_of table.now) told (statement_of statement.now falls)) walker.old walker.new }
 {
     match statement {
-        Statement::Act(action) => walker.pass(action_flow(table, action)),
+        Statement::Act(action) => walk_action(table, walker, action),
         Statement::Decide(decision) => {
             walker.pass(expression_flow(table, &decision.question));
             walk_decision(table, walkers, walker, decision);
@@ -137,6 +152,7 @@ fn connection_walker(
     Ok(walker)
 }
 
+/// The connections of a process.
 fn connections_in<'a>(table: &ProcessTable<'a>) -> &'a [Connection]
     ensures { map connection_of result.now ≡ (process_of table.now).connections }
 {

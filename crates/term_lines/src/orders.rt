@@ -16,7 +16,7 @@ pub enum Order {
     Stop,
     /// `emergency`: proving is to be short.
     Emergency,
-    /// `calm`: it isn't to be short any more.
+    /// `calm`: it isn't to be short any more, from the next start on.
     Calm,
     /// `outage`: the processor behind the link is out.
     Outage,

@@ -11,12 +11,9 @@ use Rattle.turn_code.specs.declared.draft.DraftInput.{DraftInput}
 use Rattle.turn_code.specs.declared.draft.Trigger.{Trigger}
 use Rattle.turn_code.specs.declared.draft.Trigger.TheVariants.{Signal, Timer}
 use Rattle.turn_verify.specs.Printed as loading
+pub use Rattle.printed_lines.specs.Lines.{line_of}
 use Rattle.text_check.specs.declared.sets.SetFault.{SetFault}
 use Rattle.text_check.specs.declared.sets.SetFault.TheVariants.{NotRead, NotText, Load}
-
--- a text, and the end of its line
-abbrev pub line_of : List ℕ → List ℕ
-line_of text = text ++ 10 ∷ []
 
 -- ---- refusals
 

@@ -5,8 +5,8 @@ ghost use Rattle.text_check.specs.Checked.{given, IsGiven, IsAccepted, IsNotAcce
 ghost use Rattle.text_check.specs.Printed.{refusal_line};
 
 use crate::costs::write_set;
-use crate::lines::{FAILED, HELD, REFUSED, write_line};
 use crate::sets::{SetFault, SetWord, load_set};
+use printed_lines::{FAILED, HELD, refuse};
 use std::alloc::Global;
 use std::io::{Read, Write};
 
@@ -42,8 +42,5 @@ pub fn write_refusal<W: Write>(alloc: Global, writer: &mut W, fault: &SetFault) 
     if fault.is_failure() {
         return FAILED;
     }
-    match write_line(alloc, writer, &format_args!("refused {fault}")) {
-        Ok(()) => REFUSED,
-        Err(_) => FAILED,
-    }
+    refuse(alloc, writer, &format_args!("refused {fault}"))
 }

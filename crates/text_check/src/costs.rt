@@ -4,7 +4,7 @@ ghost use Rattle.std.specs.Io.KnownBytes.{Appends};
 ghost use Rattle.std.specs.List.{flat_map};
 ghost use Rattle.text_check.specs.Printed.{trigger_text, start_line, input_line, state_lines, process_lines, set_lines};
 
-use crate::lines::write_line;
+use printed_lines::write_line;
 use std::alloc::{AllocError, Global};
 use std::fmt;
 use std::io::{self, Write};

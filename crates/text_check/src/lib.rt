@@ -3,12 +3,8 @@
 
 mod checking;
 mod costs;
-mod lines;
 mod sets;
 
 pub use checking::{check, write_refusal};
-pub use lines::{FAILED, HELD, REFUSED, USAGE, write_line};
+pub use printed_lines::{FAILED, HELD, REFUSED, USAGE, refuse, write_line};
 pub use sets::{SetFault, SetWord, load_set};
-
-#[cfg(test)]
-mod tests;

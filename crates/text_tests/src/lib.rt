@@ -1,12 +1,26 @@
-//! Tests of the layers that a text goes through, over their public calls. They stand in a crate of their own so that the
-//! layers aren't proved a second time with them.
+//! Tests that want a text which is loaded, over public calls: of the layers that it goes through, of `check`, of turns, books and pools.
+//! They stand in a crate of their own so that these aren't proved a second time with them, and in one, so that they are loaded and compiled once.
 #![tactic(auto)]
 
 #[cfg(test)]
+mod links;
+#[cfg(test)]
+mod of_books;
+#[cfg(test)]
+mod of_checks;
+#[cfg(test)]
 mod of_compile;
+#[cfg(test)]
+mod of_pools;
 #[cfg(test)]
 mod of_rules;
 #[cfg(test)]
 mod of_runs;
 #[cfg(test)]
+mod of_soak;
+#[cfg(test)]
 mod of_tree;
+#[cfg(test)]
+mod of_workers;
+#[cfg(test)]
+mod texts;

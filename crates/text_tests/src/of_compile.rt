@@ -1,22 +1,14 @@
 //! Whole texts, from their bytes to their draft.
+use crate::texts::{COUNTER, read};
+use sdl_ast::Block;
 use sdl_compile::compile;
-use sdl_lex::tokens;
 use sdl_rules::resolve;
-use sdl_tree::parse;
 use std::alloc::Global;
-use std::test::Fail;
 use turn_code::{
-    Cert, Draft, DraftProcess, Instruction, Party, ProcessNumber, Receiver, SignalNumber, Sort,
-    StateNumber, TimerNumber, Trigger, Value, VariableNumber,
+    Cert, Draft, DraftInput, DraftPiece, DraftProcess, DraftState, DraftVariable, Instruction,
+    Party, ProcessNumber, Receiver, SignalNumber, Sort, StateNumber, TimerNumber, Trigger, Value,
+    VariableNumber,
 };
-
-const COUNTER: &str = "BLOCK B; SIGNAL Up(Integer);
-SIGNALROUTE r FROM ENV TO P WITH Up;
-PROCESS P (1,1); DCL n, total Integer;
-START; TASK total := 0; NEXTSTATE Run;
-STATE Run; INPUT Up(n); TASK total := total + n; NEXTSTATE Run;
-ENDSTATE Run; ENDPROCESS P; ENDBLOCK B;
-";
 
 const ALARM: &str = "BLOCK B; SIGNAL Hold, Told(Boolean);
 SIGNALROUTE r FROM ENV TO P WITH Hold; FROM P TO ENV WITH Told;
@@ -32,115 +24,178 @@ START; DECISION b; (TRUE): JOIN c; (FALSE): JOIN c; ENDDECISION;
 CONNECTION c: STOP; ENDCONNECTION; ENDPROCESS; ENDBLOCK;
 ";
 
+/// The draft of a sound block.
+fn compiled(alloc: Global, block: &Block) -> Option<Draft> {
+    let resolved = resolve(alloc, block).ok()?;
+    compile(alloc, &resolved).ok()
+}
+
 /// The draft of a sound text.
-fn draft_of(alloc: Global, text: &str) -> Result<Draft, Fail> {
-    let found = tokens(alloc, text)?;
-    let block = parse(alloc, found.as_slice()).ok().ok_or("a tree")?;
-    let resolved = resolve(alloc, &block).ok().ok_or("a sound block")?;
-    Ok(compile(alloc, &resolved)?)
+fn draft_of(alloc: Global, text: &str) -> Option<Draft> {
+    compiled(alloc, &read(alloc, text)?)
 }
 
-fn the_process(draft: &Draft) -> Result<&DraftProcess, Fail> {
-    Ok(draft.processes.as_slice().first().ok_or("a process")?)
+/// Whether the one signal is Up, with an Integer.
+fn has_up(draft: &Draft) -> bool {
+    match draft.signals.as_slice() {
+        [signal] => {
+            signal.name.as_bytes() == b"Up".as_slice()
+                && signal.parameters.as_slice() == [Sort::Integer].as_slice()
+        }
+        _ => false,
+    }
+}
+
+/// Whether the one route has signal 0 alone, from the environment to process 0.
+fn has_way_in(draft: &Draft) -> bool {
+    match draft.routes.as_slice() {
+        [route] => {
+            route.from == Party::Environment
+                && route.to == Party::Process(ProcessNumber(0))
+                && route.signals.as_slice() == [SignalNumber(0)].as_slice()
+        }
+        _ => false,
+    }
+}
+
+/// Whether the process is P, and its variables are n and total.
+fn is_counter(process: &DraftProcess) -> bool {
+    match process.variables.as_slice() {
+        [n, total] => {
+            process.name.as_bytes() == b"P".as_slice()
+                && n.name.as_bytes() == b"n".as_slice()
+                && total.name.as_bytes() == b"total".as_slice()
+        }
+        _ => false,
+    }
+}
+
+/// Whether a piece needs so many instructions, operands and effects.
+fn needs(piece: &DraftPiece, budget: u32, depth: u32, effects: u32) -> bool {
+    let wanted = Cert {
+        budget,
+        depth,
+        effects,
+    };
+    piece.certificate == wanted
+}
+
+/// The first input of a state.
+fn first_input(state: &DraftState) -> Option<&DraftInput> {
+    state.inputs.as_slice().first()
+}
+
+/// Whether the first input of a state waits for that and has this code.
+fn waits_for(state: &DraftState, trigger: Trigger, code: &[Instruction]) -> bool {
+    match first_input(state) {
+        Some(input) => input.trigger == trigger && input.piece.code.as_slice() == code,
+        None => false,
+    }
+}
+
+const ADDS: [Instruction; 7] = [
+    Instruction::Param(0),
+    Instruction::Store(VariableNumber(0)),
+    Instruction::Load(VariableNumber(1)),
+    Instruction::Load(VariableNumber(0)),
+    Instruction::Add,
+    Instruction::Store(VariableNumber(1)),
+    Instruction::Next(StateNumber(0)),
+];
+
+/// Whether the first state is Run, and its first input is the counter's, with its certificate.
+fn runs(process: &DraftProcess) -> [bool; 3] {
+    match process.states.as_slice().first() {
+        Some(state) => [
+            state.name.as_bytes() == b"Run".as_slice(),
+            waits_for(state, Trigger::Signal(SignalNumber(0)), &ADDS),
+            match first_input(state) {
+                Some(input) => needs(&input.piece, 7, 2, 0),
+                None => false,
+            },
+        ],
+        None => [false; 3],
+    }
+}
+
+/// What is asked of the counter's draft: its signal, its route, its process, the certificate of START, and its state.
+fn counter(alloc: Global) -> Option<([bool; 4], [bool; 3])> {
+    let draft = draft_of(alloc, COUNTER)?;
+    match draft.processes.as_slice() {
+        [process] => Some((
+            [
+                has_up(&draft),
+                has_way_in(&draft),
+                is_counter(process),
+                needs(&process.start, 3, 1, 0),
+            ],
+            runs(process),
+        )),
+        _ => None,
+    }
 }
 
 #[test]
-fn the_counter_keeps_its_names_and_numbers(rt: HostRuntime) -> Result<(), Fail> {
-    let draft = draft_of(rt.alloc(), COUNTER)?;
-    assert_eq!(rt; draft.signals.len(), 1);
-    let signal = draft.signals.as_slice().first().ok_or("a signal")?;
-    assert_eq!(rt; signal.name.as_bytes(), b"Up".as_slice());
-    assert_eq!(rt; signal.parameters.as_slice(), [Sort::Integer].as_slice());
-    assert_eq!(rt; draft.routes.len(), 1);
-    let route = draft.routes.as_slice().first().ok_or("a route")?;
-    assert_eq!(rt; route.from, Party::Environment);
-    assert_eq!(rt; route.to, Party::Process(ProcessNumber(0)));
-    assert_eq!(rt; route.signals.as_slice(), [SignalNumber(0)].as_slice());
-    assert_eq!(rt; draft.processes.len(), 1);
-    let process = the_process(&draft)?;
-    assert_eq!(rt; process.name.as_bytes(), b"P".as_slice());
-    let [n, total] = process.variables.as_slice() else {
-        return Err(Fail::from("two variables"));
-    };
-    assert_eq!(rt; n.name.as_bytes(), b"n".as_slice());
-    assert_eq!(rt; total.name.as_bytes(), b"total".as_slice());
-    Ok(())
+fn the_counter_keeps_its_names_and_has_its_code(rt: HostRuntime) {
+    assert_eq!(rt; counter(rt.alloc()), Some(([true; 4], [true; 3])));
+}
+
+/// Whether the one variable is late, a Boolean that begins as FALSE.
+fn is_late(variables: &[DraftVariable]) -> bool {
+    match variables {
+        [late] => {
+            late.name.as_bytes() == b"late".as_slice()
+                && late.sort == Sort::Boolean
+                && late.initial == Some(Value::Bool(false))
+        }
+        _ => false,
+    }
+}
+
+const TELLS: [Instruction; 4] = [
+    Instruction::Load(VariableNumber(0)),
+    Instruction::Not,
+    Instruction::Output(SignalNumber(1), Receiver::Party(Party::Environment), 1),
+    Instruction::Stop,
+];
+
+/// Whether the first state saves the first signal alone, and waits for the timer.
+fn alarms(process: &DraftProcess) -> [bool; 2] {
+    match process.states.as_slice().first() {
+        Some(state) => [
+            state.saves.as_slice() == [Trigger::Signal(SignalNumber(0))].as_slice(),
+            waits_for(state, Trigger::Timer(TimerNumber(0)), &TELLS),
+        ],
+        None => [false; 2],
+    }
+}
+
+/// What is asked of the alarm's draft: its variable, the certificate of START, and its state.
+fn alarm(alloc: Global) -> Option<([bool; 2], [bool; 2])> {
+    let draft = draft_of(alloc, ALARM)?;
+    let process = draft.processes.as_slice().first()?;
+    Some((
+        [
+            is_late(process.variables.as_slice()),
+            needs(&process.start, 3, 1, 1),
+        ],
+        alarms(process),
+    ))
 }
 
 #[test]
-fn the_counter_has_its_certificates(rt: HostRuntime) -> Result<(), Fail> {
-    let draft = draft_of(rt.alloc(), COUNTER)?;
-    let process = the_process(&draft)?;
-    let start = Cert {
-        budget: 3,
-        depth: 1,
-        effects: 0,
-    };
-    assert_eq!(rt; process.start.certificate, start);
-    let state = process.states.as_slice().first().ok_or("a state")?;
-    assert_eq!(rt; state.name.as_bytes(), b"Run".as_slice());
-    let input = state.inputs.as_slice().first().ok_or("an input")?;
-    assert_eq!(rt; input.trigger, Trigger::Signal(SignalNumber(0)));
-    let up = Cert {
-        budget: 7,
-        depth: 2,
-        effects: 0,
-    };
-    assert_eq!(rt; input.piece.certificate, up);
-    let code = [
-        Instruction::Param(0),
-        Instruction::Store(VariableNumber(0)),
-        Instruction::Load(VariableNumber(1)),
-        Instruction::Load(VariableNumber(0)),
-        Instruction::Add,
-        Instruction::Store(VariableNumber(1)),
-        Instruction::Next(StateNumber(0)),
-    ];
-    assert_eq!(rt; input.piece.code.as_slice(), code.as_slice());
-    Ok(())
+fn the_alarm_has_its_timer_and_what_it_saves(rt: HostRuntime) {
+    assert_eq!(rt; alarm(rt.alloc()), Some(([true; 2], [true; 2])));
+}
+
+/// How long the code of START is where both answers lead to one connection, and whether its certificate counts that once.
+fn twice(alloc: Global) -> Option<(usize, bool)> {
+    let draft = draft_of(alloc, TWICE)?;
+    let start = &draft.processes.as_slice().first()?.start;
+    Some((start.code.len(), needs(start, 4, 1, 0)))
 }
 
 #[test]
-fn the_alarm_has_its_timer_and_what_it_saves(rt: HostRuntime) -> Result<(), Fail> {
-    let draft = draft_of(rt.alloc(), ALARM)?;
-    let process = the_process(&draft)?;
-    let [late] = process.variables.as_slice() else {
-        return Err(Fail::from("one variable"));
-    };
-    assert_eq!(rt; late.name.as_bytes(), b"late".as_slice());
-    assert_eq!(rt; late.sort, Sort::Boolean);
-    assert_eq!(rt; late.initial, Some(Value::Bool(false)));
-    let start = Cert {
-        budget: 3,
-        depth: 1,
-        effects: 1,
-    };
-    assert_eq!(rt; process.start.certificate, start);
-    let state = process.states.as_slice().first().ok_or("a state")?;
-    let saved = [Trigger::Signal(SignalNumber(0))];
-    assert_eq!(rt; state.saves.as_slice(), saved.as_slice());
-    let input = state.inputs.as_slice().first().ok_or("an input")?;
-    assert_eq!(rt; input.trigger, Trigger::Timer(TimerNumber(0)));
-    let code = [
-        Instruction::Load(VariableNumber(0)),
-        Instruction::Not,
-        Instruction::Output(SignalNumber(1), Receiver::Party(Party::Environment), 1),
-        Instruction::Stop,
-    ];
-    assert_eq!(rt; input.piece.code.as_slice(), code.as_slice());
-    Ok(())
-}
-
-#[test]
-fn a_connection_stands_once_behind_both_answers(rt: HostRuntime) -> Result<(), Fail> {
-    let draft = draft_of(rt.alloc(), TWICE)?;
-    let piece = &the_process(&draft)?.start;
-    assert_eq!(rt; piece.code.len(), 5);
-    let start = Cert {
-        budget: 4,
-        depth: 1,
-        effects: 0,
-    };
-    assert_eq!(rt; piece.certificate, start);
-    Ok(())
+fn a_connection_stands_once_behind_both_answers(rt: HostRuntime) {
+    assert_eq!(rt; twice(rt.alloc()), Some((5, true)));
 }

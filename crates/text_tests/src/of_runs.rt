@@ -1,7 +1,6 @@
 //! Texts that are loaded, and turns of them: what they send, where they end, and how many instructions they take.
 use arrayvec::ArrayVec;
 use std::alloc::Global;
-use std::test::Fail;
 use turn_code::{Effect, End, Party, Place, ProcessNumber, StateNumber, Value};
 use turn_machine::{Done, Job, Received, fits, run};
 use turn_verify::{Verified, load};
@@ -27,93 +26,148 @@ const FIRST: ProcessNumber = ProcessNumber(0);
 
 const WAITING: Place = Place::State(StateNumber(0));
 
-fn loaded(alloc: Global, text: &str) -> Result<Verified, Fail> {
-    Ok(load(alloc, text).ok().ok_or("the text is accepted")?)
+const WAITS: End = End::State(StateNumber(0));
+
+/// A place, and what goes into its first input: the variables, a parameter or none, and who sent it.
+#[derive(Clone, Copy)]
+struct Given(
+    Place,
+    &'static [Option<Value>],
+    Option<Value>,
+    Option<Party>,
+);
+
+/// What a turn gives: its end, its count of instructions, and the variables then.
+#[derive(Clone, Copy)]
+struct Turn(End, u32, &'static [Option<Value>]);
+
+/// Turns of [`CHOICE`]: what becomes of x, and how many instructions it takes.
+const CHOICES: [(Given, Turn); 4] = [
+    (
+        Given(WAITING, &[Some(Value::Int(1))], None, OUTSIDE),
+        Turn(WAITS, 6, &[Some(Value::Int(5))]),
+    ),
+    (
+        Given(WAITING, &[Some(Value::Int(2))], None, OUTSIDE),
+        Turn(WAITS, 7, &[Some(Value::Int(5))]),
+    ),
+    (
+        Given(WAITING, &[Some(Value::Int(9))], None, OUTSIDE),
+        Turn(WAITS, 7, &[Some(Value::Int(9))]),
+    ),
+    (
+        Given(WAITING, &[Some(Value::Int(10))], None, OUTSIDE),
+        Turn(End::Stop, 5, &[Some(Value::Int(10))]),
+    ),
+];
+
+const OUTSIDE: Option<Party> = Some(Party::Environment);
+
+/// FALSE and 7.
+const BEFORE: &[Option<Value>] = &[Some(Value::Bool(false)), Some(Value::Int(7))];
+
+/// Turns of [`SWITCH`].
+const SWITCHES: [(Given, Turn); 2] = [
+    (
+        Given(WAITING, BEFORE, Some(Value::Bool(false)), OUTSIDE),
+        Turn(WAITS, 10, &[Some(Value::Bool(false)), Some(Value::Int(6))]),
+    ),
+    (
+        Given(WAITING, BEFORE, Some(Value::Bool(true)), OUTSIDE),
+        Turn(WAITS, 11, &[Some(Value::Bool(true)), Some(Value::Int(8))]),
+    ),
+];
+
+/// The set of a text.
+fn loaded(alloc: Global, text: &str) -> Option<Verified> {
+    match load(alloc, text) {
+        Ok(set) => Some(set),
+        Err(_) => None,
+    }
 }
 
-/// Runs the first input of a place on these variables and parameters, where they fit.
-fn ran(
-    set: &Verified,
-    place: Place,
-    variables: ArrayVec<Option<Value>, 32>,
-    received: Received,
-) -> Option<Done> {
-    if fits(set, FIRST, place, 0, &variables, &received) {
-        Some(run(Job::new(set, 0, 0, FIRST, place, 0, variables, received)))
+fn variables(values: &[Option<Value>]) -> ArrayVec<Option<Value>, 32> {
+    let mut all = ArrayVec::new();
+    for value in values {
+        if !all.is_full() {
+            all.push(*value);
+        }
+    }
+    all
+}
+
+fn received(parameter: Option<Value>, sender: Option<Party>) -> Received {
+    let mut parameters = ArrayVec::new();
+    if let Some(value) = parameter {
+        parameters.push(value);
+    }
+    Received { parameters, sender }
+}
+
+/// Runs the first input of a place, where all that fits.
+fn ran(set: &Verified, given: Given) -> Option<Done> {
+    let variables = variables(given.1);
+    let received = received(given.2, given.3);
+    if fits(set, FIRST, given.0, 0, &variables, &received) {
+        Some(run(Job::new(set, 0, 0, FIRST, given.0, 0, variables, received)))
     } else {
         None
     }
 }
 
-fn from_outside(parameter: Option<Value>) -> Received {
-    let mut parameters = ArrayVec::new();
-    if let Some(value) = parameter {
-        parameters.push(value);
-    }
-    Received {
-        parameters,
-        sender: Some(Party::Environment),
+/// Whether a turn gives that.
+fn gives(set: &Verified, given: Given, turn: Turn) -> bool {
+    match ran(set, given) {
+        Some(done) => done.end() == turn.0 && done.count() == turn.1 && done.variables() == turn.2,
+        None => false,
     }
 }
 
-#[test]
-fn numbers_wrap_and_go_out_in_order(rt: HostRuntime) -> Result<(), Fail> {
-    let set = loaded(rt.alloc(), NUMBERS)?;
-    let mut variables = ArrayVec::new();
-    variables.push(None);
-    let nothing = Received {
-        parameters: ArrayVec::new(),
-        sender: None,
-    };
-    let done = ran(&set, Place::Start, variables, nothing).ok_or("it fits")?;
-    assert_eq!(rt; done.end(), End::Stop);
-    assert_eq!(rt; done.count(), 13);
-    let mut sent = Vec::new(rt.alloc());
-    for effect in done.effects() {
-        if let Effect::Output(sending) = effect {
-            sent.push(sending.parameters.as_slice().get(0).copied())?;
+/// The number of the first turn of a set that gives something else.
+fn first_other(set: &Verified, turns: &[(Given, Turn)]) -> Option<usize> {
+    for (number, (given, turn)) in turns.iter().enumerate() {
+        if !gives(set, *given, *turn) {
+            return Some(number);
         }
     }
-    let wanted = [Some(Value::Int(-2_147_483_648)), Some(Value::Int(127))];
-    assert!(rt; sent.as_slice() == wanted.as_slice());
-    Ok(())
+    None
 }
 
-/// What becomes of x, and how many instructions it takes.
-#[test]
-fn the_first_range_that_holds_is_taken(rt: HostRuntime) -> Result<(), Fail> {
-    let set = loaded(rt.alloc(), CHOICE)?;
-    for (x, left, count) in [(1, 5, 6), (2, 5, 7), (9, 9, 7), (10, 10, 5)] {
-        let mut variables = ArrayVec::new();
-        variables.push(Some(Value::Int(x)));
-        let done = ran(&set, WAITING, variables, from_outside(None)).ok_or("it fits")?;
-        assert_eq!(rt; done.count(), count, "{x}");
-        assert_eq!(rt;
-            done.variables(),
-            [Some(Value::Int(left))].as_slice(),
-            "{x}"
-        );
-    }
-    Ok(())
+/// The same of a text; nothing where it isn't accepted.
+fn first_other_of(alloc: Global, text: &str, turns: &[(Given, Turn)]) -> Option<Option<usize>> {
+    let set = loaded(alloc, text)?;
+    Some(first_other(&set, turns))
 }
 
 #[test]
-fn each_truth_value_has_its_answer(rt: HostRuntime) -> Result<(), Fail> {
-    let set = loaded(rt.alloc(), SWITCH)?;
-    for (b, left, count) in [(false, 6, 10), (true, 8, 11)] {
-        let mut variables = ArrayVec::new();
-        variables.push(Some(Value::Bool(false)));
-        variables.push(Some(Value::Int(7)));
-        let done = ran(&set, WAITING, variables, from_outside(Some(Value::Bool(b)))).ok_or(
-            "it fits",
-        )?;
-        assert_eq!(rt; done.count(), count, "{b}");
-        assert_eq!(rt;
-            done.variables(),
-            [Some(Value::Bool(b)), Some(Value::Int(left))].as_slice(),
-            "{b}"
-        );
-        assert_eq!(rt; done.end(), End::State(StateNumber(0)), "{b}");
+fn the_first_range_that_holds_is_taken(rt: HostRuntime) {
+    assert_eq!(rt; first_other_of(rt.alloc(), CHOICE, &CHOICES), Some(None));
+}
+
+#[test]
+fn each_truth_value_has_its_answer(rt: HostRuntime) {
+    assert_eq!(rt; first_other_of(rt.alloc(), SWITCH, &SWITCHES), Some(None));
+}
+
+/// The first value of what goes out as an effect.
+fn sent(done: &Done, place: usize) -> Option<Value> {
+    match done.effects().get(place)? {
+        Effect::Output(sending) => sending.parameters.as_slice().first().copied(),
+        _ => None,
     }
-    Ok(())
+}
+
+/// The end of START, its count of instructions, how many effects it has, and what the first two send.
+fn numbers(alloc: Global) -> Option<(End, u32, usize, [Option<Value>; 2])> {
+    let set = loaded(alloc, NUMBERS)?;
+    let done = ran(&set, Given(Place::Start, &[None], None, None))?;
+    let values = [sent(&done, 0), sent(&done, 1)];
+    Some((done.end(), done.count(), done.effects().len(), values))
+}
+
+const WANTED: [Option<Value>; 2] = [Some(Value::Int(-2_147_483_648)), Some(Value::Int(127))];
+
+#[test]
+fn numbers_wrap_and_go_out_in_order(rt: HostRuntime) {
+    assert_eq!(rt; numbers(rt.alloc()), Some((End::Stop, 13, 2, WANTED)));
 }

@@ -1,68 +1,201 @@
-use sdl_ast::{Action, Block, Decision, Entity, Expression, Process, StateClause, Statement};
-use sdl_lex::{LexFault, Token, tokens};
+//! What texts read as, as `Debug` shows it with all places, worked out by hand; how operators bind, and how deep decisions may stand
+//! in one another.
+use crate::texts::{COUNTER, read};
+use sdl_ast::{Action, Block, Entity, Expression, Statement};
+use sdl_lex::{Token, tokens};
 use sdl_tree::{ParseFault, parse};
 use std::alloc::{AllocError, Global};
-use std::test::Fail;
 
-const COUNTER: &str = "BLOCK B; SIGNAL Up(Integer);
-SIGNALROUTE r FROM ENV TO P WITH Up;
-PROCESS P (1,1); DCL n, total Integer;
-START; TASK total := 0; NEXTSTATE Run;
-STATE Run; INPUT Up(n); TASK total := total + n; NEXTSTATE Run;
-ENDSTATE Run; ENDPROCESS P; ENDBLOCK B;
-";
+/// What stands before a part, and what behind it.
+type Around = (&'static str, &'static str);
 
-/// What the tokens of a text read as.
-fn read(alloc: Global, text: &str) -> Result<Result<Block, ParseFault>, LexFault> {
-    let found = tokens(alloc, text)?;
-    Ok(parse(alloc, found.as_slice()))
+/// A part of a text, and what is shown of it.
+type Row = (&'static str, &'static str);
+
+const NOTHING: Around = ("", "");
+
+/// A text with one TASK that assigns something, at byte 37.
+const TASK: Around = (
+    "BLOCK B; PROCESS P; START; TASK x := ",
+    "; ENDPROCESS; ENDBLOCK;",
+);
+
+const TASK_SHOWN: Around = (
+    "Block { name: Identifier { name: \"B\", at: 6 }, entities: [Process(Process { name: Identifier { name: \"P\", at: 17 }, \
+declarations: [], start: Start { at: 20, transition: Transition { statements: [Act(Task(Task { at: 27, assignments: [Assignment \
+{ variable: Identifier { name: \"x\", at: 32 }, value: ",
+    " }] }))], end: None } }, states: [], connections: [] })] }",
+);
+
+/// A text with one DECISION, which has one answer, which has one range, at byte 40.
+const ANSWER: Around = (
+    "BLOCK B; PROCESS P; START; DECISION 1; (",
+    "): ENDDECISION; ENDPROCESS; ENDBLOCK;",
+);
+
+const ANSWER_SHOWN: Around = (
+    "Block { name: Identifier { name: \"B\", at: 6 }, entities: [Process(Process { name: Identifier { name: \"P\", at: 17 }, \
+declarations: [], start: Start { at: 20, transition: Transition { statements: [Decide(Decision { at: 27, question: Number { at: \
+36, value: 1 }, answers: [Answer { at: 39, ranges: [",
+    "], body: Transition { statements: [], end: None } }], otherwise: None })], end: None } }, states: [], connections: [] })] }",
+);
+
+/// The counter; states and connections in turn; answers in order, and ELSE.
+const WHOLE: [Row; 3] = [
+    (
+        COUNTER,
+        "Block { name: Identifier { name: \"B\", at: 6 }, entities: [Signals([SignalDeclaration { name: Identifier { name: \"Up\", at: \
+16 }, parameters: [Integer] }]), Route(Route { name: Identifier { name: \"r\", at: 41 }, paths: [Path { from: Environment, to: \
+Process(Identifier { name: \"P\", at: 55 }), signals: [Identifier { name: \"Up\", at: 62 }] }] }), Process(Process { name: \
+Identifier { name: \"P\", at: 74 }, declarations: [Variables([Group { names: [Identifier { name: \"n\", at: 87 }, Identifier { \
+name: \"total\", at: 90 }], sort: Integer, initial: None }])], start: Start { at: 105, transition: Transition { statements: \
+[Act(Task(Task { at: 112, assignments: [Assignment { variable: Identifier { name: \"total\", at: 117 }, value: Number { at: \
+126, value: 0 } }] }))], end: Some(NextState(NextState { at: 129, state: Identifier { name: \"Run\", at: 139 } })) } }, states: \
+[StatePart { names: [Identifier { name: \"Run\", at: 150 }], clauses: [Input(InputPart { at: 155, stimuli: [Stimulus { name: \
+Identifier { name: \"Up\", at: 161 }, places: [Some(Identifier { name: \"n\", at: 164 })] }], transition: Transition { \
+statements: [Act(Task(Task { at: 168, assignments: [Assignment { variable: Identifier { name: \"total\", at: 173 }, value: \
+Binary { at: 182, operator: Add, left: Variable { at: 182, name: Identifier { name: \"total\", at: 182 } }, right: Variable { \
+at: 190, name: Identifier { name: \"n\", at: 190 } } } }] }))], end: Some(NextState(NextState { at: 193, state: Identifier { \
+name: \"Run\", at: 203 } })) } })] }], connections: [] })] }",
+    ),
+    (
+        "BLOCK b; PROCESS p; START; STATE s; CONNECTION c: STOP; STATE t, u; CONNECTION d: JOIN c; ENDPROCESS; ENDBLOCK;",
+        "Block { name: Identifier { name: \"b\", at: 6 }, entities: [Process(Process { name: Identifier { name: \"p\", at: 17 }, \
+declarations: [], start: Start { at: 20, transition: Transition { statements: [], end: None } }, states: [StatePart { names: \
+[Identifier { name: \"s\", at: 33 }], clauses: [] }, StatePart { names: [Identifier { name: \"t\", at: 62 }, Identifier { name: \
+\"u\", at: 65 }], clauses: [] }], connections: [Connection { at: 36, name: Identifier { name: \"c\", at: 47 }, transition: \
+Transition { statements: [], end: Some(Stop(50)) } }, Connection { at: 68, name: Identifier { name: \"d\", at: 79 }, \
+transition: Transition { statements: [], end: Some(Join(Join { at: 82, connector: Identifier { name: \"c\", at: 87 } })) } }] \
+})] }",
+    ),
+    (
+        "BLOCK B; PROCESS P; START; DECISION x; (1): STOP; (2, 3): JOIN c; ELSE: TASK y := 1; ENDDECISION; STOP; ENDPROCESS; ENDBLOCK;",
+        "Block { name: Identifier { name: \"B\", at: 6 }, entities: [Process(Process { name: Identifier { name: \"P\", at: 17 }, \
+declarations: [], start: Start { at: 20, transition: Transition { statements: [Decide(Decision { at: 27, question: Variable { \
+at: 36, name: Identifier { name: \"x\", at: 36 } }, answers: [Answer { at: 39, ranges: [Value(Constant { at: 40, value: \
+Integer(1) })], body: Transition { statements: [], end: Some(Stop(44)) } }, Answer { at: 50, ranges: [Value(Constant { at: 51, \
+value: Integer(2) }), Value(Constant { at: 54, value: Integer(3) })], body: Transition { statements: [], end: Some(Join(Join { \
+at: 58, connector: Identifier { name: \"c\", at: 63 } })) } }], otherwise: Some(Transition { statements: [Act(Task(Task { at: \
+72, assignments: [Assignment { variable: Identifier { name: \"y\", at: 77 }, value: Number { at: 82, value: 1 } }] }))], end: \
+None }) })], end: Some(Stop(98)) } }, states: [], connections: [] })] }",
+    ),
+];
+
+/// A tree has the place of its parenthesis.
+const VALUES: [Row; 2] = [
+    (
+        "-((1) + 2)",
+        "Unary { at: 37, operator: Negate, \
+operand: Binary { at: 38, operator: Add, left: Number { at: 39, value: 1 }, right: Number { at: 45, value: 2 } } }",
+    ),
+    (
+        "NOT (TRUE)",
+        "Unary { at: 37, operator: Not, operand: Truth { at: 41, value: true } }",
+    ),
+];
+
+const RANGES: [Row; 10] = [
+    ("7", "Value(Constant { at: 40, value: Integer(7) })"),
+    ("-7", "Value(Constant { at: 40, value: Integer(-7) })"),
+    ("TRUE", "Value(Constant { at: 40, value: Boolean(true) })"),
+    (
+        "1:-2",
+        "Between(Constant { at: 40, value: Integer(1) }, Constant { at: 42, value: Integer(-2) })",
+    ),
+    (
+        "=1",
+        "Compared { at: 40, relation: Equal, constant: Constant { at: 41, value: Integer(1) } }",
+    ),
+    (
+        "/=1",
+        "Compared { at: 40, relation: NotEqual, constant: Constant { at: 42, value: Integer(1) } }",
+    ),
+    (
+        "<1",
+        "Compared { at: 40, relation: Less, constant: Constant { at: 41, value: Integer(1) } }",
+    ),
+    (
+        "<=1",
+        "Compared { at: 40, relation: LessEqual, constant: Constant { at: 42, value: Integer(1) } }",
+    ),
+    (
+        ">1",
+        "Compared { at: 40, relation: Greater, constant: Constant { at: 41, value: Integer(1) } }",
+    ),
+    (
+        ">= -1",
+        "Compared { at: 40, relation: GreaterEqual, constant: Constant { at: 43, value: Integer(-1) } }",
+    ),
+];
+
+/// A part with what stands around it.
+fn whole(alloc: Global, around: &Around, part: &str) -> Option<String> {
+    format!(in alloc; "{}{part}{}", around.0, around.1).ok()
 }
 
-/// A text with one TASK that assigns this, at byte 26.
-fn text_with(alloc: Global, value: &str) -> Result<String, AllocError> {
-    let mut text = String::from_str(alloc, "BLOCK B; PROCESS P; START; TASK x := ")?;
-    text.push_str(value)?;
-    text.push_str("; ENDPROCESS; ENDBLOCK;")?;
-    Ok(text)
+/// What is shown of the tree of a text.
+fn shown(alloc: Global, text: &str) -> Option<String> {
+    let block = read(alloc, text)?;
+    format!(in alloc; "{block:?}").ok()
 }
 
-/// The expression that the first TASK of a START assigns.
-fn first_value(block: &Block) -> Option<&Expression> {
-    for entity in &block.entities {
-        if let Entity::Process(process) = entity {
-            for statement in &process.start.transition.statements {
-                if let Statement::Act(Action::Task(task)) = statement {
-                    for assignment in &task.assignments {
-                        return Some(&assignment.value);
-                    }
-                }
-            }
+/// What is shown of a part of a text with what stands around it.
+fn shown_within(alloc: Global, around: &Around, part: &str) -> Option<String> {
+    shown(alloc, whole(alloc, around, part)?.as_str())
+}
+
+/// Whether what a row says is shown of it.
+fn is_shown(alloc: Global, text: &Around, told: &Around, row: &Row) -> Option<bool> {
+    let found = shown_within(alloc, text, row.0)?;
+    let wanted = whole(alloc, told, row.1)?;
+    Some(found.as_str() == wanted.as_str())
+}
+
+/// The number of the first row of which something else is shown.
+fn first_other(alloc: Global, text: &Around, told: &Around, rows: &[Row]) -> Option<usize> {
+    for (number, row) in rows.iter().enumerate() {
+        if is_shown(alloc, text, told, row) != Some(true) {
+            return Some(number);
         }
     }
     None
 }
 
-/// The expression that a text with one TASK assigns, as `Debug` shows it.
-fn shown_value(alloc: Global, value: &str) -> Result<String, Fail> {
-    let text = text_with(alloc, value)?;
-    let block = read(alloc, text.as_str())?.ok().ok_or("a tree")?;
-    let tree = first_value(&block).ok_or("a value")?;
-    Ok(format!(in alloc; "{tree:?}")?)
+#[test]
+fn trees_have_all_that_stands_there_with_its_place(rt: HostRuntime) {
+    assert_eq!(rt; first_other(rt.alloc(), &NOTHING, &NOTHING, &WHOLE), None);
+    assert_eq!(rt; first_other(rt.alloc(), &TASK, &TASK_SHOWN, &VALUES), None);
+    assert_eq!(rt;
+        first_other(rt.alloc(), &ANSWER, &ANSWER_SHOWN, &RANGES),
+        None
+    );
 }
 
-/// An expression with a pair of parentheses for each operator.
-fn grouped(alloc: Global, tree: &Expression) -> Result<String, AllocError> {
+/// The expression that the START of the first entity assigns at first.
+fn first_value(block: &Block) -> Option<&Expression> {
+    match block.entities.first()? {
+        Entity::Process(process) => match process.start.transition.statements.first()? {
+            Statement::Act(Action::Task(task)) => Some(&task.assignments.first()?.value),
+            _ => None,
+        },
+        _ => None,
+    }
+}
+
+/// Writes an expression with a pair of parentheses for each operator.
+fn group(text: &mut String, tree: &Expression) -> Result<(), AllocError> {
     match tree {
-        Expression::Number { value, .. } => format!(in alloc; "{value}"),
-        Expression::Truth { value, .. } => format!(in alloc; "{value}"),
-        Expression::Variable { name, .. } => format!(in alloc; "{}", name.name.as_str()),
+        Expression::Number { value, .. } => write!(text, "{value}"),
+        Expression::Truth { value, .. } => write!(text, "{value}"),
+        Expression::Variable { name, .. } => text.push_str(name.name.as_str()),
         Expression::Unary {
             operator,
             operand,
             ..
         } => {
-            let inner = grouped(alloc, operand)?;
-            format!(in alloc; "({operator:?} {})", inner.as_str())
+            write!(text, "({operator:?} ")?;
+            group(text, operand)?;
+            text.push(')')
         }
         Expression::Binary {
             operator,
@@ -70,252 +203,118 @@ fn grouped(alloc: Global, tree: &Expression) -> Result<String, AllocError> {
             right,
             ..
         } => {
-            let left = grouped(alloc, left)?;
-            let right = grouped(alloc, right)?;
-            format!(in alloc; "({} {operator:?} {})", left.as_str(), right.as_str())
+            text.push('(')?;
+            group(text, left)?;
+            write!(text, " {operator:?} ")?;
+            group(text, right)?;
+            text.push(')')
         }
     }
 }
 
-/// The expression that a text with one TASK assigns, with its groups.
-fn grouped_value(alloc: Global, value: &str) -> Result<String, Fail> {
-    let text = text_with(alloc, value)?;
-    let block = read(alloc, text.as_str())?.ok().ok_or("a tree")?;
-    let tree = first_value(&block).ok_or("a value")?;
-    Ok(grouped(alloc, tree)?)
+/// The same, as a text.
+fn grouped(alloc: Global, tree: &Expression) -> Option<String> {
+    let mut text = String::new(alloc);
+    group(&mut text, tree).ok()?;
+    Some(text)
 }
 
-#[test]
-fn reads_the_counter(rt: HostRuntime) -> Result<(), Fail> {
-    let block = read(rt.alloc(), COUNTER)?.ok().ok_or("a tree")?;
-    assert_eq!(rt; block.name.name.as_str(), "B");
-    assert_eq!(rt; block.name.at, 6);
-    assert_eq!(rt; block.entities.len(), 3);
-    for entity in &block.entities {
-        match entity {
-            Entity::Signals(declared) => {
-                assert_eq!(rt; declared.len(), 1);
-                assert_eq!(rt; declared[0].name.name.as_str(), "Up");
-                assert_eq!(rt; declared[0].parameters.len(), 1);
-            }
-            Entity::Route(route) => {
-                assert_eq!(rt; route.name.name.as_str(), "r");
-                assert_eq!(rt; route.paths.len(), 1);
-            }
-            Entity::Process(process) => {
-                assert_eq!(rt; process.name.name.as_str(), "P");
-                assert_eq!(rt; process.declarations.len(), 1);
-                assert_eq!(rt; process.start.at, 105);
-                assert_eq!(rt; process.start.transition.statements.len(), 1);
-                assert!(rt; process.start.transition.end.is_some());
-                assert_eq!(rt; process.states.len(), 1);
-                assert_eq!(rt; process.states[0].clauses.len(), 1);
-                if let StateClause::Input(input) = &process.states[0].clauses[0] {
-                    assert_eq!(rt; input.stimuli.len(), 1);
-                    assert_eq!(rt; input.stimuli[0].places.len(), 1);
-                    assert_eq!(rt; input.transition.statements.len(), 1);
-                }
-            }
-            Entity::Connect(_) => return Err(Fail::from("no CONNECT stands there")),
-        }
+/// An expression in a text, with its groups.
+fn grouped_value(alloc: Global, value: &str) -> Option<String> {
+    let block = read(alloc, whole(alloc, &TASK, value)?.as_str())?;
+    grouped(alloc, first_value(&block)?)
+}
+
+/// Expressions, and how they are grouped.
+const GROUPS: [Row; 6] = [
+    (
+        "a OR b AND NOT c = d + e * -f",
+        "(a Or (b And ((Not c) Equal (d Add (e Multiply (Negate f))))))",
+    ),
+    (
+        "a * b + c < d AND TRUE XOR FALSE",
+        "(((((a Multiply b) Add c) Less d) And true) Xor false)",
+    ),
+    ("a OR b XOR c OR d", "(((a Or b) Xor c) Or d)"),
+    ("1 - 2 - 3 + 4", "(((1 Subtract 2) Subtract 3) Add 4)"),
+    (
+        "a / b MOD c REM d * e",
+        "((((a Divide b) Modulo c) Remainder d) Multiply e)",
+    ),
+    (
+        "a >= b AND c <= d AND (e > f) /= (g = h)",
+        "(((a GreaterEqual b) And (c LessEqual d)) And ((e Greater f) NotEqual (g Equal h)))",
+    ),
+];
+
+/// Whether an expression is grouped so.
+fn is_grouped(alloc: Global, value: &str, wanted: &str) -> bool {
+    match grouped_value(alloc, value) {
+        Some(found) => found.as_str() == wanted,
+        None => false,
     }
-    Ok(())
 }
 
-#[test]
-fn groups_as_operators_bind(rt: HostRuntime) -> Result<(), Fail> {
-    let rows = [
-        (
-            "a OR b AND NOT c = d + e * -f",
-            "(a Or (b And ((Not c) Equal (d Add (e Multiply (Negate f))))))",
-        ),
-        (
-            "a * b + c < d AND TRUE XOR FALSE",
-            "(((((a Multiply b) Add c) Less d) And true) Xor false)",
-        ),
-        ("a OR b XOR c OR d", "(((a Or b) Xor c) Or d)"),
-        ("1 - 2 - 3 + 4", "(((1 Subtract 2) Subtract 3) Add 4)"),
-        (
-            "a / b MOD c REM d * e",
-            "((((a Divide b) Modulo c) Remainder d) Multiply e)",
-        ),
-        (
-            "a >= b AND c <= d AND (e > f) /= (g = h)",
-            "(((a GreaterEqual b) And (c LessEqual d)) And ((e Greater f) NotEqual (g Equal h)))",
-        ),
-    ];
-    for (text, wanted) in rows {
-        let found = grouped_value(rt.alloc(), text)?;
-        assert_eq!(rt; found.as_str(), wanted);
-    }
-    Ok(())
-}
-
-#[test]
-fn keeps_the_place_of_a_parenthesis(rt: HostRuntime) -> Result<(), Fail> {
-    let shown = shown_value(rt.alloc(), "-((1) + 2)")?;
-    assert_eq!(rt;
-        shown.as_str(),
-        "Unary { at: 37, operator: Negate, \
-operand: Binary { at: 38, operator: Add, left: Number { at: 39, value: 1 }, right: Number { at: 45, value: 2 } } }"
-    );
-    let shown = shown_value(rt.alloc(), "NOT (TRUE)")?;
-    assert_eq!(rt;
-        shown.as_str(),
-        "Unary { at: 37, operator: Not, operand: Truth { at: 41, value: true } }"
-    );
-    Ok(())
-}
-
-/// The first process of a block.
-fn first_process(block: &Block) -> Option<&Process> {
-    for entity in &block.entities {
-        if let Entity::Process(process) = entity {
-            return Some(process);
+/// The number of the first row that is grouped otherwise.
+fn first_grouped_otherwise(alloc: Global, rows: &[Row]) -> Option<usize> {
+    for (number, (value, wanted)) in rows.iter().enumerate() {
+        if !is_grouped(alloc, value, wanted) {
+            return Some(number);
         }
     }
     None
 }
 
 #[test]
-fn keeps_states_and_connections_apart(rt: HostRuntime) -> Result<(), Fail> {
-    let text =
-        "BLOCK b; PROCESS p; START; STATE s; CONNECTION c: STOP; STATE t, u; CONNECTION d: JOIN c; ENDPROCESS; ENDBLOCK;";
-    let block = read(rt.alloc(), text)?.ok().ok_or("a tree")?;
-    let process = first_process(&block).ok_or("a process")?;
-    assert_eq!(rt; process.states.len(), 2);
-    assert_eq!(rt; process.states[0].names.len(), 1);
-    assert_eq!(rt; process.states[0].names[0].name.as_str(), "s");
-    assert_eq!(rt; process.states[1].names.len(), 2);
-    assert_eq!(rt; process.connections.len(), 2);
-    assert_eq!(rt; process.connections[0].name.name.as_str(), "c");
-    assert_eq!(rt; process.connections[0].at, 36);
-    assert_eq!(rt; process.connections[1].name.at, 79);
-    let end = format!(in rt.alloc(); "{:?}", process.connections[0].transition.end)?;
-    assert_eq!(rt; end.as_str(), "Some(Stop(50))");
-    Ok(())
-}
-
-/// The first DECISION of the START of a block.
-fn first_decision(block: &Block) -> Option<&Decision> {
-    for statement in &first_process(block)?.start.transition.statements {
-        if let Statement::Decide(decision) = statement {
-            return Some(decision);
-        }
-    }
-    None
-}
-
-#[test]
-fn keeps_ranges_as_they_are_written(rt: HostRuntime) -> Result<(), Fail> {
-    let rows = [
-        ("7", "Value(Constant { at: 40, value: Integer(7) })"),
-        ("-7", "Value(Constant { at: 40, value: Integer(-7) })"),
-        ("TRUE", "Value(Constant { at: 40, value: Boolean(true) })"),
-        (
-            "1:-2",
-            "Between(Constant { at: 40, value: Integer(1) }, Constant { at: 42, value: Integer(-2) })",
-        ),
-        (
-            "=1",
-            "Compared { at: 40, relation: Equal, constant: Constant { at: 41, value: Integer(1) } }",
-        ),
-        (
-            "/=1",
-            "Compared { at: 40, relation: NotEqual, constant: Constant { at: 42, value: Integer(1) } }",
-        ),
-        (
-            "<1",
-            "Compared { at: 40, relation: Less, constant: Constant { at: 41, value: Integer(1) } }",
-        ),
-        (
-            "<=1",
-            "Compared { at: 40, relation: LessEqual, constant: Constant { at: 42, value: Integer(1) } }",
-        ),
-        (
-            ">1",
-            "Compared { at: 40, relation: Greater, constant: Constant { at: 41, value: Integer(1) } }",
-        ),
-        (
-            ">= -1",
-            "Compared { at: 40, relation: GreaterEqual, constant: Constant { at: 43, value: Integer(-1) } }",
-        ),
-    ];
-    for (range, wanted) in rows {
-        let mut text = String::from_str(rt.alloc(), "BLOCK B; PROCESS P; START; DECISION 1; (")?;
-        text.push_str(range)?;
-        text.push_str("): ENDDECISION; ENDPROCESS; ENDBLOCK;")?;
-        let block = read(rt.alloc(), text.as_str())?.ok().ok_or("a tree")?;
-        let decision = first_decision(&block).ok_or("a DECISION")?;
-        assert_eq!(rt; decision.at, 27);
-        assert_eq!(rt; decision.answers.len(), 1);
-        assert_eq!(rt; decision.answers[0].at, 39);
-        assert_eq!(rt; decision.answers[0].ranges.len(), 1);
-        let shown = format!(in rt.alloc(); "{:?}", decision.answers[0].ranges[0])?;
-        assert_eq!(rt; shown.as_str(), wanted);
-    }
-    Ok(())
-}
-
-#[test]
-fn keeps_answers_in_order_and_else_apart(rt: HostRuntime) -> Result<(), Fail> {
-    let text =
-        "BLOCK B; PROCESS P; START; DECISION x; (1): STOP; (2, 3): JOIN c; ELSE: TASK y := 1; ENDDECISION; STOP; ENDPROCESS; ENDBLOCK;";
-    let block = read(rt.alloc(), text)?.ok().ok_or("a tree")?;
-    let decision = first_decision(&block).ok_or("a DECISION")?;
-    assert_eq!(rt; decision.answers.len(), 2);
-    assert_eq!(rt; decision.answers[1].ranges.len(), 2);
-    let end = format!(in rt.alloc(); "{:?}", decision.answers[1].body.end)?;
-    assert!(rt;
-        end.as_str()
-            .starts_with("Some(Join(Join { at: 58, connector: ")
-    );
-    let otherwise = decision.otherwise.as_ref().ok_or("an ELSE")?;
-    assert_eq!(rt; otherwise.statements.len(), 1);
-    assert!(rt; otherwise.end.is_none());
-    let start = &first_process(&block).ok_or("a process")?.start.transition;
-    assert_eq!(rt; start.statements.len(), 1);
-    assert!(rt; start.end.is_some());
-    Ok(())
+fn groups_as_operators_bind(rt: HostRuntime) {
+    assert_eq!(rt; first_grouped_otherwise(rt.alloc(), &GROUPS), None);
 }
 
 /// Puts the tokens of a part of a text behind others so many times.
-fn repeat(found: &mut Vec<Token>, alloc: Global, part: &str, times: usize) -> Result<(), Fail> {
-    let row = tokens(alloc, part)?;
+fn repeat(found: &mut Vec<Token>, alloc: Global, part: &str, times: usize) -> Option<()> {
+    let row = tokens(alloc, part).ok()?;
     for _ in 0..times {
-        for token in &row {
-            found.push(*token)?;
-        }
+        found.extend_from_slice(&row).ok()?;
     }
-    Ok(())
+    Some(())
 }
 
-/// What a text with so many decisions in one another reads as, each closed if it is so.
-fn nested_fault(alloc: Global, times: usize, closed: usize) -> Result<Option<ParseFault>, Fail> {
+/// The tokens of a text with so many decisions in one another, so many of which are closed.
+fn nested(alloc: Global, times: usize, closed: usize) -> Option<Vec<Token>> {
     let mut found = Vec::new(alloc);
     repeat(&mut found, alloc, "BLOCK B; PROCESS P; START;", 1)?;
     repeat(&mut found, alloc, "       DECISION 1; (1):", times)?;
     repeat(&mut found, alloc, "ENDDECISION;", closed)?;
     repeat(&mut found, alloc, "ENDPROCESS; ENDBLOCK;", 1)?;
-    Ok(parse(alloc, found.as_slice()).err())
+    Some(found)
+}
+
+/// Why they have no tree, if so.
+fn nested_fault(alloc: Global, times: usize, closed: usize) -> Option<Option<ParseFault>> {
+    let found = nested(alloc, times, closed)?;
+    Some(parse(alloc, found.as_slice()).err())
+}
+
+/// So many decisions, so many that are closed, and the fault.
+const NESTED: [(usize, usize, Option<ParseFault>); 5] = [
+    (31, 31, None),
+    (32, 32, Some(ParseFault::TooDeep(7))),
+    (20_000, 20_000, Some(ParseFault::TooDeep(7))),
+    (20_000, 19_999, Some(ParseFault::Unexpected(180_006))),
+    (2, 3, Some(ParseFault::Unexpected(26))),
+];
+
+/// The number of the first row with another fault.
+fn first_other_fault(alloc: Global, rows: &[(usize, usize, Option<ParseFault>)]) -> Option<usize> {
+    for (number, (times, closed, fault)) in rows.iter().enumerate() {
+        if nested_fault(alloc, *times, *closed) != Some(*fault) {
+            return Some(number);
+        }
+    }
+    None
 }
 
 #[test]
-fn a_decision_is_one_level(rt: HostRuntime) -> Result<(), Fail> {
-    let alloc = rt.alloc();
-    assert_eq!(rt; nested_fault(alloc, 31, 31)?, None);
-    assert_eq!(rt; nested_fault(alloc, 32, 32)?, Some(ParseFault::TooDeep(7)));
-    assert_eq!(rt;
-        nested_fault(alloc, 20_000, 20_000)?,
-        Some(ParseFault::TooDeep(7))
-    );
-    assert_eq!(rt;
-        nested_fault(alloc, 20_000, 19_999)?,
-        Some(ParseFault::Unexpected(180_006))
-    );
-    assert_eq!(rt;
-        nested_fault(alloc, 2, 3)?,
-        Some(ParseFault::Unexpected(26))
-    );
-    Ok(())
+fn a_decision_is_one_level(rt: HostRuntime) {
+    assert_eq!(rt; first_other_fault(rt.alloc(), &NESTED), None);
 }

@@ -1,4 +1,3 @@
-pub mod Limits
 pub mod Printed
 pub mod Table
 pub mod TimerId

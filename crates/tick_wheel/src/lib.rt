@@ -4,7 +4,7 @@
 ghost use Rattle.std.specs.Prelude.{◌≡◌, ℕ, ◌+◌, ◌*◌, ◌^◌, ◌<◌, ◌≤◌, ◌↔◌, IfOk, IfSome, OnOk, OnErr, IsErrOf};
 ghost use Rattle.std.specs.Prelude.{length, map as list_map};
 ghost use Rattle.std.specs.FinMap as map;
-ghost use Rattle.tick_wheel.specs.Limits.{MOST_PROCESSES, MOST_TIMERS_EACH, MOST_TIMERS, MOST_TICKS, LAST_TICK};
+ghost use Rattle.profile_limits.specs.Limits.{MOST_PROCESSES, MOST_TIMERS_EACH, MOST_TIMERS, MOST_TICKS, LAST_TICK};
 ghost use Rattle.tick_wheel.specs.Table.{timer_at, due_from, kept};
 
 use arrayvec::ArrayVec;
@@ -36,7 +36,7 @@ pub struct Timer {
 impl Model for Timer {
     ghost use Rattle.std.specs.Prelude.{◌<◌};
     ghost use Rattle.tick_wheel.specs.TimerId.{TimerId};
-    ghost use Rattle.tick_wheel.specs.Limits.{MOST_PROCESSES, MOST_TIMERS_EACH};
+    ghost use Rattle.profile_limits.specs.Limits.{MOST_PROCESSES, MOST_TIMERS_EACH};
 
     ghost Value = { TimerId };
 
@@ -48,6 +48,7 @@ impl Model for Timer {
 }
 
 impl Timer {
+    /// Timer `number`, below 8, of process `process`, below 16.
     pub const fn new(process: u8, number: u8) -> Self
         requires process { process < MOST_PROCESSES }
         requires number { number < MOST_TIMERS_EACH }
@@ -145,7 +146,7 @@ impl Model for Wheel {
     ghost use Rattle.std.specs.Prelude.{◌≡◌, ◌≤◌, ◌^◌, length};
     ghost use Rattle.tick_wheel.specs.Timers.{Timers, timers_code};
     ghost use Rattle.tick_wheel.specs.Table.{deadlines_of, NoneDue};
-    ghost use Rattle.tick_wheel.specs.Limits.{MOST_TIMERS, LAST_TICK};
+    ghost use Rattle.profile_limits.specs.Limits.{MOST_TIMERS, LAST_TICK};
 
     ghost Value = { Timers };
 
@@ -196,7 +197,8 @@ impl Wheel {
         self.deadlines[timer.place()]
     }
 
-    /// Whether a timer is active: it was set, and since then it was neither reset nor due.
+    /// Whether a timer is active here, so has a deadline: it was set, and since then it was neither reset nor due. (By Z.100 it stays
+    /// active until its signal is taken: whether that waits, the port of its process tells.)
     pub fn is_active(&self, timer: Timer) -> bool
         ensures { result ≡ map.contains_key self.now.deadlines timer }
     {

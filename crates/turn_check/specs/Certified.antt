@@ -1,5 +1,6 @@
 -- What the certificate of a transition says of its code.
 use Rattle.std.specs.Prelude.{◌≡◌, ℕ, ◌≤◌, Some}
+use Rattle.profile_limits.specs.Limits.{MOST_EFFECTS, MOST_INSTRUCTIONS, MOST_OPERANDS}
 use Rattle.turn_code.specs.Transitions.{Transition, transition_at}
 use Rattle.turn_code.specs.Rules.{greatest, depths}
 use Rattle.turn_code.specs.Paths.{IsLongest, IsMostEffects}
@@ -15,6 +16,6 @@ pub record IsCertified (d : Draft) (p : ℕ) (s : Place) (i : ℕ) (c : Cert) : 
   pub budget : IsLongest transition.piece.code c.budget
   pub depth : c.depth ≡ greatest (depths transition.piece.facts)
   pub effects : IsMostEffects transition.piece.code c.effects
-  pub budget_fits : c.budget ≤ 512
-  pub depth_fits : c.depth ≤ 16
-  pub effects_fits : c.effects ≤ 32
+  pub budget_fits : c.budget ≤ MOST_INSTRUCTIONS
+  pub depth_fits : c.depth ≤ MOST_OPERANDS
+  pub effects_fits : c.effects ≤ MOST_EFFECTS

@@ -6,6 +6,7 @@ ghost use Rattle.turn_code.specs.Transitions.{parameters_of};
 ghost use Rattle.turn_code.specs.Start.{initial_values};
 ghost use Rattle.turn_check.specs.Named.{variables_at, inputs_at};
 ghost use Rattle.turn_check.specs.Answered.{same_trigger, input_for};
+ghost use Rattle.profile_limits.specs.Limits.{MOST_VARIABLES};
 
 use crate::verified::Verified;
 use arrayvec::ArrayVec;
@@ -60,10 +61,11 @@ impl Verified {
         ensures { result.items ≡ initial_values (variables_at self.now process.0) }
     {
         let _ = self.draft();
-        values_of(self.variables(process))
+        initial_values_of(self.variables(process))
     }
 }
 
+/// Whether one of these routes carries a signal from one party to another.
 fn some_route_carries(routes: &[DraftRoute], from: Party, to: Party, signal: SignalNumber) -> bool
     ensures { IsTrue result ↔ Any (Carries from to signal) routes.now }
 {
@@ -75,12 +77,14 @@ fn some_route_carries(routes: &[DraftRoute], from: Party, to: Party, signal: Sig
     false
 }
 
+/// Whether a route carries a signal from one party to another.
 fn carries(route: &DraftRoute, from: Party, to: Party, signal: SignalNumber) -> bool
     ensures { IsTrue result ↔ Carries from to signal route.now }
 {
     route.from == from && route.to == to && is_among(route.signals.as_slice(), signal)
 }
 
+/// Whether a signal is one of these.
 fn is_among(signals: &[SignalNumber], signal: SignalNumber) -> bool
     ensures { IsTrue result ↔ Contains signals.now signal }
 {
@@ -92,6 +96,7 @@ fn is_among(signals: &[SignalNumber], signal: SignalNumber) -> bool
     false
 }
 
+/// The number of the first input that waits for a signal or a timer, if one does.
 fn first_waiting(inputs: &[DraftInput], trigger: Trigger) -> Option<usize>
     ensures { result ≡ position (λ (x : DraftInput). same_trigger x.trigger trigger) inputs.now }
 {
@@ -100,6 +105,7 @@ fn first_waiting(inputs: &[DraftInput], trigger: Trigger) -> Option<usize>
         .position(|input| is_same(input.trigger, trigger))
 }
 
+/// Whether both are the same signal, or the same timer.
 fn is_same(left: Trigger, right: Trigger) -> bool
     ensures { result ≡ same_trigger left right }
 {
@@ -115,8 +121,9 @@ fn is_same(left: Trigger, right: Trigger) -> bool
     }
 }
 
-fn values_of(variables: &[DraftVariable]) -> ArrayVec<Option<Value>, 32>
-    requires { length variables.now ≤ 32 }
+/// The initial values of variables, 32 at most, none for one without.
+pub fn initial_values_of(variables: &[DraftVariable]) -> ArrayVec<Option<Value>, 32>
+    requires { length variables.now ≤ MOST_VARIABLES }
     ensures { result.items ≡ initial_values variables.now }
 {
     let mut values = ArrayVec::new();

@@ -9,6 +9,7 @@ mod numbers;
 mod verified;
 mod walk;
 
+pub use answers::initial_values_of;
 pub use fault::{Spot, VerifyFault};
 pub use turn_rules::Transition;
 pub use verified::{Verified, verify};

@@ -3,6 +3,7 @@
 ghost use Rattle.std.specs.Prelude.{◌≡◌, ◌<◌, ◌≤◌, ◌+◌, ◌↔◌, length, All, sum_by, IsTrue, IfSome, IfNone};
 ghost use Rattle.turn_code.specs.Rules.{pieces_of, inputs_of, KeepsSetLimits};
 ghost use Rattle.turn_code.specs.declared.draft.DraftSignal.{DraftSignal};
+ghost use Rattle.profile_limits.specs.Limits.{MOST_PARAMETERS};
 
 use turn_code::{Draft, DraftProcess, DraftSignal, DraftState};
 
@@ -18,7 +19,7 @@ pub(crate) fn keeps_set_limits(draft: &Draft) -> bool
 
 /// Whether no signal has more parameters than a signal may have.
 fn have_few_parameters(signals: &[DraftSignal]) -> bool
-    ensures { IsTrue result ↔ All (λ (s : DraftSignal). length s.parameters ≤ 4) signals.now }
+    ensures { IsTrue result ↔ All (λ (s : DraftSignal). length s.parameters ≤ MOST_PARAMETERS) signals.now }
 {
     signals.iter().all(|signal| signal.parameters.len() <= 4)
 }

@@ -114,6 +114,7 @@ impl Verified {
         }
     }
 
+    /// The names of the timers of a process, empty where there is no such process.
     fn timers(&self, process: ProcessNumber) -> &[Name]
         ensures { result.now ≡ timer_names self.now process.0 }
     {
@@ -159,6 +160,7 @@ impl Verified {
         }
     }
 
+    /// The states of a process, empty where there is no such process.
     fn states(&self, process: ProcessNumber) -> &[DraftState]
         ensures { result.now ≡ states_at self.now process.0 }
     {
@@ -173,6 +175,7 @@ impl Verified {
         }
     }
 
+    /// The variables of a process, empty where there is no such process.
     pub(crate) fn variables(&self, process: ProcessNumber) -> &[DraftVariable]
         ensures { result.now ≡ variables_at self.now process.0 }
     {
@@ -187,6 +190,7 @@ impl Verified {
         }
     }
 
+    /// The inputs of a state, empty where there is no such state.
     pub(crate) fn inputs(&self, process: ProcessNumber, state: StateNumber) -> &[DraftInput]
         ensures { result.now ≡ inputs_at self.now process.0 state.0 }
     {

@@ -127,6 +127,7 @@ impl Verified {
         start_transition(number, process)
     }
 
+    /// Says, for the proof alone, that the draft is valid.
     fn keeps(&self)
         ensures { IsValid self.now }
     {

@@ -8,6 +8,7 @@ ghost use Rattle.turn_code.specs.declared.input.Place.TheVariants.{Start, State}
 ghost use Rattle.turn_rules.specs.Seen.{seen};
 ghost use Rattle.turn_check.specs.Faults.{IsBroken};
 ghost use Rattle.turn_check.specs.Walk.{IsValidAt, IsValidState, IsValidProcess};
+ghost use Rattle.profile_limits.specs.Limits.{MOST_VARIABLES};
 
 use crate::fault::{Spot, VerifyFault};
 use crate::limits::keeps_set_limits;
@@ -163,7 +164,7 @@ fn check_state(
     requires set_limits { KeepsSetLimits draft.now }
     requires process { slice_get draft.now.processes number.0 ≡ Some process.now }
     requires state { slice_get process.now.states place.0 ≡ Some state.now }
-    requires variables { length process.now.variables ≤ 32 }
+    requires variables { length process.now.variables ≤ MOST_VARIABLES }
     ensures ok { IfOk result (λ _. IsValidState draft.now number.0 (State place)) }
     ensures err { IfErr result (λ e. IsBroken draft.now e) }
 {
@@ -185,7 +186,7 @@ fn check_input_at(
     requires set_limits { KeepsSetLimits draft.now }
     requires process { slice_get draft.now.processes number.0 ≡ Some process.now }
     requires state { slice_get process.now.states place.0 ≡ Some state.now }
-    requires variables { length process.now.variables ≤ 32 }
+    requires variables { length process.now.variables ≤ MOST_VARIABLES }
     ensures ok { IfOk result (λ _. IsValidAt draft.now number.0 (State place) input) }
     ensures err { IfErr result (λ e. IsBroken draft.now e) }
 {
@@ -214,7 +215,7 @@ fn check_input(
 ) -> Result<(), VerifyFault>
     requires set_limits { KeepsSetLimits draft.now }
     requires there { transition_at draft.now number.0 (State place) input ≡ Some (seen transition.now) }
-    requires variables { length transition.now.process.now.variables ≤ 32 }
+    requires variables { length transition.now.process.now.variables ≤ MOST_VARIABLES }
     ensures ok { IfOk result (λ _. IsValidAt draft.now number.0 (State place) input) }
     ensures err { IfErr result (λ e. IsBroken draft.now e) }
 {

@@ -1,5 +1,6 @@
 -- What a machine stands for, and what its next instruction makes of it.
 use Rattle.std.specs.Prelude.{◌≡◌, ℕ, ◌<◌, ◌≤◌, List, length, Bool, true, false, IsTrue, Some, slice_get}
+use Rattle.profile_limits.specs.Limits.{MOST_EFFECTS, MOST_OPERANDS, MOST_PARAMETERS}
 use Rattle.turn_code.specs.Code.{effects_of, sends}
 use Rattle.turn_code.specs.Run.{Progress, After, goes, ends, stuck}
 use Rattle.turn_code.specs.declared.value.Value.{Value}
@@ -35,9 +36,9 @@ grows _ = false
 
 -- there is room for what the instruction puts on the operands, for its effect, and for the parameters that it sends
 pub record HasRoomFor (i : Instruction) (os : List Value) (es : List Effect) : Type 0 where
-  pub operands : IsTrue (grows i) → length os < 16
-  pub effects : 0 < effects_of i → length es < 32
-  pub parameters : sends i ≤ 4
+  pub operands : IsTrue (grows i) → length os < MOST_OPERANDS
+  pub effects : 0 < effects_of i → length es < MOST_EFFECTS
+  pub parameters : sends i ≤ MOST_PARAMETERS
 
 -- there is room for what the instruction at place k does
 abbrev pub HasRoom : List Instruction → ℕ → List Value → List Effect → Type 0

@@ -1,5 +1,6 @@
 -- What a valid draft keeps, rule by rule, at each place of each transition.
 use Rattle.std.specs.Prelude.{◌≡◌, ℕ, ◌+◌, ◌<◌, ◌≤◌, pos, ◌≤ℤ◌, max, List, [], ◌∷◌, length, map, sum_by, All, Contains, Option, Some, None, IfSome, slice_get}
+use Rattle.profile_limits.specs.Limits.{MOST_EFFECTS, MOST_INSTRUCTIONS, MOST_OPERANDS, MOST_PARAMETERS, MOST_PIECES, MOST_PROCESSES, MOST_SIGNALS, MOST_STATES, MOST_TIMERS_EACH, MOST_VARIABLES}
 use Rattle.turn_code.specs.Values.{sort_of}
 use Rattle.turn_code.specs.Sets.{Has, IsWithin}
 use Rattle.turn_code.specs.Routes.{IsPartyOf, Reaches, Answers}
@@ -136,22 +137,22 @@ pieces_of p = 1 + inputs_of p.states
 
 -- the limits of a whole set
 pub record KeepsSetLimits (d : Draft) : Type 0 where
-  pub processes : length d.processes ≤ 16
-  pub signals : length d.signals ≤ 128
-  pub parameters : All (λ (s : DraftSignal). length s.parameters ≤ 4) d.signals
-  pub pieces : sum_by pieces_of d.processes ≤ 4096
+  pub processes : length d.processes ≤ MOST_PROCESSES
+  pub signals : length d.signals ≤ MOST_SIGNALS
+  pub parameters : All (λ (s : DraftSignal). length s.parameters ≤ MOST_PARAMETERS) d.signals
+  pub pieces : sum_by pieces_of d.processes ≤ MOST_PIECES
 
 -- the limits of a process
 pub record KeepsProcessLimits (p : DraftProcess) : Type 0 where
-  pub states : length p.states ≤ 64
-  pub variables : length p.variables ≤ 32
-  pub timers : length p.timers ≤ 8
+  pub states : length p.states ≤ MOST_STATES
+  pub variables : length p.variables ≤ MOST_VARIABLES
+  pub timers : length p.timers ≤ MOST_TIMERS_EACH
 
 -- the limits of a piece
 pub record KeepsPieceLimits (piece : DraftPiece) : Type 0 where
-  pub depth : piece.certificate.depth ≤ 16
-  pub effects : piece.certificate.effects ≤ 32
-  pub size : length piece.code ≤ 512
+  pub depth : piece.certificate.depth ≤ MOST_OPERANDS
+  pub effects : piece.certificate.effects ≤ MOST_EFFECTS
+  pub size : length piece.code ≤ MOST_INSTRUCTIONS
 
 -- ---- V8: what is broken of a process, of a set too, is broken at START, place 0
 pub record KeepsLimits (d : Draft) (t : Transition) (k : ℕ) : Type 0 where

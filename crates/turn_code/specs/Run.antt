@@ -1,6 +1,7 @@
--- What code does: one instruction on a list of values with their sorts, and a run of at most 512 of them.
+-- What code does: one instruction on a list of values with their sorts, and a run of as many of them as a turn may take.
 use Rattle.std.specs.Prelude.{◌≡◌, ℕ, zero, suc, ◌+◌, ℤ, pos, ◌+ℤ◌, ◌-ℤ◌, ◌*ℤ◌, neg_ℤ, int_lt, int_div, int_rem, Bool as Truth, not, ◌&&◌, ◌||◌, if◌then◌else◌, nat_le, List, [], ◌∷◌, ◌++◌, length, take, drop, reverse, Option, Some, None, slice_get, slice_set}
 use Rattle.std.specs.Int.{int_rem_euclid}
+use Rattle.profile_limits.specs.Limits.{MOST_INSTRUCTIONS}
 use Rattle.turn_code.specs.Values.{wrap, holds, is_between, differ}
 use Rattle.turn_code.specs.declared.value.Value.{Value}
 use Rattle.turn_code.specs.declared.value.Value.TheVariants.{Int, Bool}
@@ -183,6 +184,6 @@ exec code x (suc n) k os s = go_on (exec code x n) (step code x k os s)
 abbrev pub begun : Input → Progress
 begun x = record { variables = x.variables.items; effects = []; count = 0 }
 
--- the run of a piece's code on an input: at most 512 instructions from the first on, with no operand
+-- the run of a piece's code on an input: as many instructions as a turn may run, from the first on, with no operand
 unfoldable pub run : List Instruction → Input → Ran
-run code x = exec code x 512 0 [] (begun x)
+run code x = exec code x MOST_INSTRUCTIONS 0 [] (begun x)

@@ -1,5 +1,6 @@
 -- Runs that never get stuck.
 use Rattle.std.specs.Prelude.{◌≡◌, ℕ, zero, suc, ◌≤◌, List, [], length, Option, Some, slice_get}
+use Rattle.profile_limits.specs.Limits.{MOST_INSTRUCTIONS, MOST_PARAMETERS}
 use Rattle.turn_code.specs.Run.{Progress, After, goes, ends, stuck, step, begun, run, ended}
 use Rattle.turn_code.specs.Transitions.{Transition}
 use Rattle.turn_code.specs.Code.{sends}
@@ -43,14 +44,14 @@ IsSafe t x zero k os s = ⊥
 IsSafe t x (suc n) k os s = (length os ≤ t.piece.certificate.depth) × (length s.effects ≤ t.piece.certificate.effects)
     × IsSafeAfter t (IsSafe t x n) (step t.piece.code x k os s)
 
--- no output of the code has more than 4 parameters
+-- no output of the code has more parameters than a signal may have
 abbrev pub SendsFew : List Instruction → Type 0
-SendsFew code = (k : ℕ) (i : Instruction) → slice_get code k ≡ Some i → sends i ≤ 4
+SendsFew code = (k : ℕ) (i : Instruction) → slice_get code k ≡ Some i → sends i ≤ MOST_PARAMETERS
 
--- on each input that fits it, a valid transition is safe within its budget, which is at most 512
+-- on each input that fits it, a valid transition is safe within its budget, which is within the limit
 pub record SafeLaw : Type 0 where
   pub limits : (d : Draft) (t : Transition) → IsValidTransition d t → KeepsPieceLimits t.piece
-  pub budget : (d : Draft) (t : Transition) → IsValidTransition d t → t.piece.certificate.budget ≤ 512
+  pub budget : (d : Draft) (t : Transition) → IsValidTransition d t → t.piece.certificate.budget ≤ MOST_INSTRUCTIONS
   pub sends : (d : Draft) (t : Transition) → KeepsSetLimits d → IsValidTransition d t → SendsFew t.piece.code
   pub safe : (d : Draft) (t : Transition) (x : Input) → IsValidTransition d t → FitsTransition d t x
       → IsSafe t x t.piece.certificate.budget 0 [] (begun x)

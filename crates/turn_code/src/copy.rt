@@ -23,6 +23,7 @@ impl Draft {
     }
 }
 
+/// Equal signals, where there is memory for them.
 fn copied_signals(signals: &Sequence<DraftSignal>) -> Result<Sequence<DraftSignal>, AllocError>
     ensures { IfOk result (λ copy. copy ≡ signals.now) }
 {
@@ -33,6 +34,7 @@ fn copied_signals(signals: &Sequence<DraftSignal>) -> Result<Sequence<DraftSigna
     Ok(Sequence::from(copy))
 }
 
+/// Equal routes, where there is memory for them.
 fn copied_routes(routes: &Sequence<DraftRoute>) -> Result<Sequence<DraftRoute>, AllocError>
     ensures { IfOk result (λ copy. copy ≡ routes.now) }
 {
@@ -43,6 +45,7 @@ fn copied_routes(routes: &Sequence<DraftRoute>) -> Result<Sequence<DraftRoute>, 
     Ok(Sequence::from(copy))
 }
 
+/// Equal processes, where there is memory for them.
 fn copied_processes(
     processes: &Sequence<DraftProcess>,
 ) -> Result<Sequence<DraftProcess>, AllocError>
@@ -56,6 +59,7 @@ fn copied_processes(
 }
 
 impl DraftSignal {
+    /// An equal signal, where there is memory for it.
     fn copy(&self) -> Result<DraftSignal, AllocError>
         ensures { IfOk result (λ signal. signal ≡ self.now) }
     {
@@ -67,6 +71,7 @@ impl DraftSignal {
 }
 
 impl DraftRoute {
+    /// An equal route, where there is memory for it.
     fn copy(&self) -> Result<DraftRoute, AllocError>
         ensures { IfOk result (λ route. route ≡ self.now) }
     {
@@ -79,6 +84,7 @@ impl DraftRoute {
 }
 
 impl DraftProcess {
+    /// An equal process, where there is memory for it.
     fn copy(&self) -> Result<DraftProcess, AllocError>
         ensures { IfOk result (λ process. process ≡ self.now) }
     {
@@ -92,6 +98,7 @@ impl DraftProcess {
     }
 }
 
+/// Equal variables, where there is memory for them.
 fn copied_variables(
     variables: &Sequence<DraftVariable>,
 ) -> Result<Sequence<DraftVariable>, AllocError>
@@ -104,6 +111,7 @@ fn copied_variables(
     Ok(Sequence::from(copy))
 }
 
+/// Equal names, where there is memory for them.
 fn copied_names(names: &Sequence<Name>) -> Result<Sequence<Name>, AllocError>
     ensures { IfOk result (λ copy. copy ≡ names.now) }
 {
@@ -114,6 +122,7 @@ fn copied_names(names: &Sequence<Name>) -> Result<Sequence<Name>, AllocError>
     Ok(Sequence::from(copy))
 }
 
+/// Equal states, where there is memory for them.
 fn copied_states(states: &Sequence<DraftState>) -> Result<Sequence<DraftState>, AllocError>
     ensures { IfOk result (λ copy. copy ≡ states.now) }
 {
@@ -125,6 +134,7 @@ fn copied_states(states: &Sequence<DraftState>) -> Result<Sequence<DraftState>, 
 }
 
 impl DraftVariable {
+    /// The same variable once more. It takes no memory.
     fn copy(&self) -> DraftVariable
         ensures { result ≡ self.now }
     {
@@ -137,6 +147,7 @@ impl DraftVariable {
 }
 
 impl DraftState {
+    /// An equal state, where there is memory for it.
     fn copy(&self) -> Result<DraftState, AllocError>
         ensures { IfOk result (λ state. state ≡ self.now) }
     {
@@ -149,6 +160,7 @@ impl DraftState {
     }
 }
 
+/// Equal inputs, where there is memory for them.
 fn copied_inputs(inputs: &Sequence<DraftInput>) -> Result<Sequence<DraftInput>, AllocError>
     ensures { IfOk result (λ copy. copy ≡ inputs.now) }
 {
@@ -160,6 +172,7 @@ fn copied_inputs(inputs: &Sequence<DraftInput>) -> Result<Sequence<DraftInput>, 
 }
 
 impl DraftInput {
+    /// An equal input, where there is memory for it.
     fn copy(&self) -> Result<DraftInput, AllocError>
         ensures { IfOk result (λ input. input ≡ self.now) }
     {
@@ -171,6 +184,7 @@ impl DraftInput {
 }
 
 impl DraftPiece {
+    /// An equal piece, where there is memory for it.
     fn copy(&self) -> Result<DraftPiece, AllocError>
         ensures { IfOk result (λ piece. piece ≡ self.now) }
     {
@@ -182,6 +196,7 @@ impl DraftPiece {
     }
 }
 
+/// Equal facts, where there is memory for them.
 fn copied_facts(facts: &Sequence<PlaceFacts>) -> Result<Sequence<PlaceFacts>, AllocError>
     ensures { IfOk result (λ copy. copy ≡ facts.now) }
 {
@@ -193,6 +208,7 @@ fn copied_facts(facts: &Sequence<PlaceFacts>) -> Result<Sequence<PlaceFacts>, Al
 }
 
 impl PlaceFacts {
+    /// The equal facts of a place, where there is memory for them.
     fn copy(&self) -> Result<PlaceFacts, AllocError>
         ensures { IfOk result (λ facts. facts ≡ self.now) }
     {

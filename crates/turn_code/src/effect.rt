@@ -43,6 +43,7 @@ impl Effect {
 }
 
 impl Sending {
+    /// The same sending once more. It takes no memory.
     fn copy(&self) -> Sending
         ensures { result ≡ self.now }
     {

@@ -65,7 +65,8 @@ pub enum Instruction {
     /// Whether the topmost Integer stands so to this number: if so, takes it away and goes on at the place, else leaves it
     /// and goes on behind.
     Case(Relation, i32, CodePlace),
-    /// The same where the Integer is from the first number to the second one, both included.
+    /// The same where the Integer is from the first number to the second one, both included. The place stands first so that an
+    /// instruction has 12 octets.
     CaseWithin(CodePlace, i32, i32),
     /// Takes a Boolean, and goes on at the first place where it is FALSE, at the second one where it is TRUE.
     Pick(CodePlace, CodePlace),

@@ -7,6 +7,7 @@ ghost use Rattle.turn_code.specs.Machine.{progress_of, after_of, StaysIfStuck, H
 ghost use Rattle.turn_code.specs.Operation.{meaning_of, division_of, truth_of};
 ghost use Rattle.turn_code.specs.declared.value.Value.TheVariants.{Int as IntValue, Bool as BoolValue};
 ghost use Rattle.turn_code.specs.declared.effect.Effect.TheVariants.{Set as SetEffect};
+ghost use Rattle.profile_limits.specs.Limits.{MOST_EFFECTS, MOST_INSTRUCTIONS, MOST_OPERANDS, MOST_PARAMETERS};
 
 use crate::effect::{Effect, Sending};
 use crate::input::Input;
@@ -51,11 +52,11 @@ pub struct Machine {
     pub count: u32,
 }
 
-#[tactic(auto, using(crate::proofs::Ran::step_count))]
 /// What the instruction at `place` of the code does, on an input. Where it is stuck it leaves the machine as it is.
+#[tactic(auto, using(crate::proofs::Ran::step_count))]
 pub fn step_plain(code: &[Instruction], input: &Input, place: usize, machine: &mut Machine) -> After
     requires room { HasRoom code.now place machine.old.operands machine.old.effects.items }
-    requires count { machine.old.count < 512 }
+    requires count { machine.old.count < MOST_INSTRUCTIONS }
     ensures count { CountIs (machine.old.count + 1) (after_of result machine.new) }
     ensures exact { after_of result machine.new ≡ step code.now input.now place machine.old.operands (progress_of machine.old) }
     ensures stays { StaysIfStuck result machine.old machine.new }
@@ -70,7 +71,7 @@ impl Machine {
     /// What an instruction does, where `next` is the place behind it.
     fn act(&mut self, instruction: Instruction, input: &Input, next: usize) -> After
         requires room { HasRoomFor instruction self.old.operands self.old.effects.items }
-        requires count { self.old.count < 512 }
+        requires count { self.old.count < MOST_INSTRUCTIONS }
         ensures exact { after_of result self.new ≡ act instruction input.now next self.old.operands (tick (progress_of self.old)) }
         ensures stays { StaysIfStuck result self.old self.new }
     {
@@ -106,8 +107,9 @@ impl Machine {
         }
     }
 
+    /// One instruction more: the one at this place is next.
     fn go(&mut self, place: usize) -> After
-        requires count { self.old.count < 512 }
+        requires count { self.old.count < MOST_INSTRUCTIONS }
         ensures exact { after_of result self.new ≡ goes place self.old.operands (tick (progress_of self.old)) }
         ensures stays { StaysIfStuck result self.old self.new }
     {
@@ -115,8 +117,9 @@ impl Machine {
         After::Goes(place)
     }
 
+    /// One instruction more: the transition ends so.
     fn end(&mut self, end: End) -> After
-        requires count { self.old.count < 512 }
+        requires count { self.old.count < MOST_INSTRUCTIONS }
         ensures exact { after_of result self.new ≡ ends end (tick (progress_of self.old)) }
         ensures stays { StaysIfStuck result self.old self.new }
     {
@@ -124,9 +127,10 @@ impl Machine {
         After::Ends(end)
     }
 
+    /// Puts a value on top.
     fn put(&mut self, value: Value, next: usize) -> After
-        requires room { length self.old.operands < 16 }
-        requires count { self.old.count < 512 }
+        requires room { length self.old.operands < MOST_OPERANDS }
+        requires count { self.old.count < MOST_INSTRUCTIONS }
         ensures exact { after_of result self.new ≡ goes next (value ∷ self.old.operands) (tick (progress_of self.old)) }
         ensures stays { StaysIfStuck result self.old self.new }
     {
@@ -135,9 +139,10 @@ impl Machine {
         After::Goes(next)
     }
 
+    /// Gives an effect.
     fn give(&mut self, effect: Effect, next: usize) -> After
-        requires room { length self.old.effects.items < 32 }
-        requires count { self.old.count < 512 }
+        requires room { length self.old.effects.items < MOST_EFFECTS }
+        requires count { self.old.count < MOST_INSTRUCTIONS }
         ensures exact { after_of result self.new ≡ goes next self.old.operands (with_effect (tick (progress_of self.old)) effect) }
         ensures stays { StaysIfStuck result self.old self.new }
     {
@@ -146,9 +151,10 @@ impl Machine {
         After::Goes(next)
     }
 
+    /// Puts the value of a variable on top; stuck where it isn't set.
     fn load(&mut self, variable: VariableNumber, next: usize) -> After
-        requires room { length self.old.operands < 16 }
-        requires count { self.old.count < 512 }
+        requires room { length self.old.operands < MOST_OPERANDS }
+        requires count { self.old.count < MOST_INSTRUCTIONS }
         ensures exact { after_of result self.new ≡ loaded next self.old.operands (tick (progress_of self.old)) (slice_get self.old.variables.items variable.0) }
         ensures stays { StaysIfStuck result self.old self.new }
     {
@@ -161,8 +167,9 @@ impl Machine {
         }
     }
 
+    /// Takes a value, which is the variable's from then on; stuck where there is no value or no such variable.
     fn store(&mut self, variable: VariableNumber, next: usize) -> After
-        requires count { self.old.count < 512 }
+        requires count { self.old.count < MOST_INSTRUCTIONS }
         ensures exact { after_of result self.new ≡ on_top self.old.operands (λ x rest. stored next rest (tick (progress_of self.old)) variable.0 x (slice_get self.old.variables.items variable.0)) }
         ensures stays { StaysIfStuck result self.old self.new }
     {
@@ -180,9 +187,10 @@ impl Machine {
         }
     }
 
+    /// Puts the value of a parameter of the input on top, by its place from 0; stuck where there is none.
     fn parameter(&mut self, input: &Input, place: u8, next: usize) -> After
-        requires room { length self.old.operands < 16 }
-        requires count { self.old.count < 512 }
+        requires room { length self.old.operands < MOST_OPERANDS }
+        requires count { self.old.count < MOST_INSTRUCTIONS }
         ensures exact { after_of result self.new ≡ given next self.old.operands (tick (progress_of self.old)) (slice_get input.now.parameters.items place) }
         ensures stays { StaysIfStuck result self.old self.new }
     {
@@ -192,8 +200,9 @@ impl Machine {
         }
     }
 
+    /// What an operation makes of two Integers, wrapped round to -2^31 to 2^31 - 1.
     fn combine(&mut self, operation: Operation, next: usize) -> After
-        requires count { self.old.count < 512 }
+        requires count { self.old.count < MOST_INSTRUCTIONS }
         ensures exact { after_of result self.new ≡ on_two (meaning_of operation) next self.old.operands (tick (progress_of self.old)) }
         ensures stays { StaysIfStuck result self.old self.new }
     {
@@ -203,8 +212,9 @@ impl Machine {
         }
     }
 
+    /// What a division makes of an Integer; stuck where the divisor is below 1.
     fn divide(&mut self, division: Division, divisor: i32, next: usize) -> After
-        requires count { self.old.count < 512 }
+        requires count { self.old.count < MOST_INSTRUCTIONS }
         ensures exact { after_of result self.new ≡ divided (division_of division) divisor next self.old.operands (tick (progress_of self.old)) }
         ensures stays { StaysIfStuck result self.old self.new }
     {
@@ -221,8 +231,9 @@ impl Machine {
         }
     }
 
+    /// An Integer with the other sign: -2^31 stays.
     fn negate(&mut self, next: usize) -> After
-        requires count { self.old.count < 512 }
+        requires count { self.old.count < MOST_INSTRUCTIONS }
         ensures exact { after_of result self.new ≡ on_integer self.old.operands (λ x rest. goes next (IntValue (wrap (neg_ℤ x)) ∷ rest) (tick (progress_of self.old))) }
         ensures stays { StaysIfStuck result self.old self.new }
     {
@@ -232,8 +243,9 @@ impl Machine {
         }
     }
 
+    /// The other Boolean.
     fn invert(&mut self, next: usize) -> After
-        requires count { self.old.count < 512 }
+        requires count { self.old.count < MOST_INSTRUCTIONS }
         ensures exact { after_of result self.new ≡ on_boolean self.old.operands (λ b rest. goes next (BoolValue (not b) ∷ rest) (tick (progress_of self.old))) }
         ensures stays { StaysIfStuck result self.old self.new }
     {
@@ -243,8 +255,9 @@ impl Machine {
         }
     }
 
+    /// What a connective makes of two Booleans.
     fn connect(&mut self, connective: Connective, next: usize) -> After
-        requires count { self.old.count < 512 }
+        requires count { self.old.count < MOST_INSTRUCTIONS }
         ensures exact { after_of result self.new ≡ joined (truth_of connective) next self.old.operands (tick (progress_of self.old)) }
         ensures stays { StaysIfStuck result self.old self.new }
     {
@@ -254,8 +267,9 @@ impl Machine {
         }
     }
 
+    /// Whether two Integers stand so to each other, the topmost on the right.
     fn compare(&mut self, relation: Relation, next: usize) -> After
-        requires count { self.old.count < 512 }
+        requires count { self.old.count < MOST_INSTRUCTIONS }
         ensures exact { after_of result self.new ≡ on_integers self.old.operands (λ a b rest. goes next (BoolValue (holds relation a b) ∷ rest) (tick (progress_of self.old))) }
         ensures stays { StaysIfStuck result self.old self.new }
     {
@@ -265,8 +279,9 @@ impl Machine {
         }
     }
 
+    /// Takes an Integer away and goes on at a place where it stands so to this number; else it stays.
     fn case(&mut self, relation: Relation, to: i32, place: CodePlace, next: usize) -> After
-        requires count { self.old.count < 512 }
+        requires count { self.old.count < MOST_INSTRUCTIONS }
         ensures exact { after_of result self.new ≡ tested (λ x. holds relation x to) place.0 next self.old.operands (tick (progress_of self.old)) }
         ensures stays { StaysIfStuck result self.old self.new }
     {
@@ -277,8 +292,9 @@ impl Machine {
         }
     }
 
+    /// Takes an Integer away and goes on at a place where it is from the least number to the greatest, both included; else it stays.
     fn within(&mut self, least: i32, most: i32, place: CodePlace, next: usize) -> After
-        requires count { self.old.count < 512 }
+        requires count { self.old.count < MOST_INSTRUCTIONS }
         ensures exact { after_of result self.new ≡ tested (is_between least most) place.0 next self.old.operands (tick (progress_of self.old)) }
         ensures stays { StaysIfStuck result self.old self.new }
     {
@@ -289,8 +305,9 @@ impl Machine {
         }
     }
 
+    /// Takes a Boolean, and goes on at the first place where it is FALSE, at the second one where it is TRUE.
     fn pick(&mut self, no: CodePlace, yes: CodePlace) -> After
-        requires count { self.old.count < 512 }
+        requires count { self.old.count < MOST_INSTRUCTIONS }
         ensures exact { after_of result self.new ≡ on_boolean self.old.operands (λ b rest. goes (if b then yes.0 else no.0) rest (tick (progress_of self.old))) }
         ensures stays { StaysIfStuck result self.old self.new }
     {
@@ -301,8 +318,9 @@ impl Machine {
         }
     }
 
+    /// Takes an Integer and throws it away.
     fn throw_away(&mut self, next: usize) -> After
-        requires count { self.old.count < 512 }
+        requires count { self.old.count < MOST_INSTRUCTIONS }
         ensures exact { after_of result self.new ≡ on_integer self.old.operands (λ x rest. goes next rest (tick (progress_of self.old))) }
         ensures stays { StaysIfStuck result self.old self.new }
     {
@@ -312,6 +330,8 @@ impl Machine {
         }
     }
 
+    /// Takes so many parameters, the last one topmost, and sends a signal with them; stuck where they aren't all there, or where it
+    /// goes back to a sender and there is none.
     fn output(
         &mut self,
         signal: SignalNumber,
@@ -320,9 +340,9 @@ impl Machine {
         input: &Input,
         next: usize,
     ) -> After
-        requires room { length self.old.effects.items < 32 }
-        requires few { count ≤ 4 }
-        requires count { self.old.count < 512 }
+        requires room { length self.old.effects.items < MOST_EFFECTS }
+        requires few { count ≤ MOST_PARAMETERS }
+        requires count { self.old.count < MOST_INSTRUCTIONS }
         ensures exact { after_of result self.new ≡ on_operands count self.old.operands (λ vs rest. sent signal (party_of to input.now.sender) vs next rest (tick (progress_of self.old))) }
         ensures stays { StaysIfStuck result self.old self.new }
     {
@@ -341,9 +361,10 @@ impl Machine {
         self.give(Effect::Output(sending), next)
     }
 
+    /// Takes an Integer, and sets a timer to so long after the clock.
     fn set(&mut self, timer: TimerNumber, next: usize) -> After
-        requires room { length self.old.effects.items < 32 }
-        requires count { self.old.count < 512 }
+        requires room { length self.old.effects.items < MOST_EFFECTS }
+        requires count { self.old.count < MOST_INSTRUCTIONS }
         ensures exact { after_of result self.new ≡ on_integer self.old.operands (λ x rest. goes next rest (with_effect (tick (progress_of self.old)) (SetEffect timer x))) }
         ensures stays { StaysIfStuck result self.old self.new }
     {

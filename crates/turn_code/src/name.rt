@@ -1,6 +1,7 @@
 //! Names as the text spells them.
 
 ghost use Rattle.std.specs.Prelude.{◌≡◌, ◌≤◌, ◌↔◌, length, IsSome, IfSome};
+ghost use Rattle.profile_limits.specs.Limits.{LONGEST_NAME};
 
 use arrayvec::ArrayVec;
 use std::marker::Model;
@@ -22,7 +23,7 @@ impl Model for Name {
 impl Name {
     /// The name with these bytes, where they are 32 at most.
     pub fn from_bytes(bytes: &[u8]) -> Option<Name>
-        ensures fits { IsSome result ↔ (length bytes.now ≤ 32) }
+        ensures fits { IsSome result ↔ (length bytes.now ≤ LONGEST_NAME) }
         ensures value { IfSome result (λ n. n ≡ bytes.now) }
     {
         match ArrayVec::try_from(bytes) {

@@ -3,6 +3,7 @@
 ghost use Rattle.std.specs.Prelude.{◌≡◌, ◌<◌, ◌≤◌, ◌==◌, [], ◌∷◌, length, take, drop, reverse, IfSome, IfNone, IfOk, IfErr, OnErr};
 ghost use Rattle.turn_code.specs.declared.value.Value.TheVariants.{Int as IntValue, Bool as BoolValue};
 ghost use Rattle.turn_code.specs.Taken.{TroubleAtOne, TroubleAtTwo, TroubleAtBoolean, TroubleAtBooleans};
+ghost use Rattle.profile_limits.specs.Limits.{MOST_OPERANDS, MOST_PARAMETERS};
 
 use crate::trouble::Trouble;
 use crate::value::Value;
@@ -18,12 +19,13 @@ pub struct Operands {
 impl Model for Operands {
     ghost use Rattle.std.specs.Prelude.{◌≤◌, List, length, reverse};
     ghost use Rattle.turn_code.specs.declared.value.Value.{Value as Item};
+    ghost use Rattle.profile_limits.specs.Limits.{MOST_OPERANDS};
 
     ghost Value = { List Item };
 
     ghost view = { λ o. reverse o.values.items };
 
-    ghost invariant = { λ o. length o.values.items ≤ 16 };
+    ghost invariant = { λ o. length o.values.items ≤ MOST_OPERANDS };
 }
 
 impl Operands {
@@ -39,7 +41,7 @@ impl Operands {
     /// The number of operands.
     pub fn len(&self) -> usize
         ensures value { result ≡ length self.now }
-        ensures fits { result ≤ 16 }
+        ensures fits { result ≤ MOST_OPERANDS }
     {
         self.values.len()
     }
@@ -53,7 +55,7 @@ impl Operands {
 
     /// Puts a value on top, where there is room.
     pub fn push(&mut self, value: Value)
-        requires { length self.old < 16 }
+        requires { length self.old < MOST_OPERANDS }
         ensures { self.new ≡ value ∷ self.old }
     {
         self.values.push(value);
@@ -62,7 +64,7 @@ impl Operands {
     /// Takes the topmost value, if there is one.
     pub fn pop(&mut self) -> Option<Value>
         ensures some { IfSome result (λ x. self.old ≡ x ∷ self.new) }
-        ensures room { IfSome result (λ x. length self.new < 16) }
+        ensures room { IfSome result (λ x. length self.new < MOST_OPERANDS) }
         ensures none { IfNone result (self.old ≡ []) }
         ensures unchanged { IfNone result (self.new ≡ []) }
     {
@@ -72,7 +74,7 @@ impl Operands {
     /// Takes the topmost value where it is an Integer, and else leaves all.
     pub fn pop_integer(&mut self) -> Result<i32, Trouble>
         ensures ok { IfOk result (λ x. self.old ≡ IntValue x ∷ self.new) }
-        ensures room { IfOk result (λ x. length self.new < 16) }
+        ensures room { IfOk result (λ x. length self.new < MOST_OPERANDS) }
         ensures trouble { IfErr result (λ e. TroubleAtOne self.old e) }
         ensures unchanged { OnErr result (self.new ≡ self.old) }
     {
@@ -89,7 +91,7 @@ impl Operands {
     /// Takes the two topmost values where both are Integers, the topmost as the second, and else leaves all.
     pub fn pop_integers(&mut self) -> Result<(i32, i32), Trouble>
         ensures ok { IfOk result (λ p. self.old ≡ IntValue p.1 ∷ IntValue p.0 ∷ self.new) }
-        ensures room { IfOk result (λ p. length self.new < 16) }
+        ensures room { IfOk result (λ p. length self.new < MOST_OPERANDS) }
         ensures trouble { IfErr result (λ e. TroubleAtTwo self.old e) }
         ensures unchanged { OnErr result (self.new ≡ self.old) }
     {
@@ -113,7 +115,7 @@ impl Operands {
     /// Takes the topmost value where it is a Boolean, and else leaves all.
     pub fn pop_boolean(&mut self) -> Result<bool, Trouble>
         ensures ok { IfOk result (λ x. self.old ≡ BoolValue x ∷ self.new) }
-        ensures room { IfOk result (λ x. length self.new < 16) }
+        ensures room { IfOk result (λ x. length self.new < MOST_OPERANDS) }
         ensures trouble { IfErr result (λ e. TroubleAtBoolean self.old e) }
         ensures unchanged { OnErr result (self.new ≡ self.old) }
     {
@@ -130,7 +132,7 @@ impl Operands {
     /// Takes the two topmost values where both are Booleans, the topmost as the second, and else leaves all.
     pub fn pop_booleans(&mut self) -> Result<(bool, bool), Trouble>
         ensures ok { IfOk result (λ p. self.old ≡ BoolValue p.1 ∷ BoolValue p.0 ∷ self.new) }
-        ensures room { IfOk result (λ p. length self.new < 16) }
+        ensures room { IfOk result (λ p. length self.new < MOST_OPERANDS) }
         ensures trouble { IfErr result (λ e. TroubleAtBooleans self.old e) }
         ensures unchanged { OnErr result (self.new ≡ self.old) }
     {
@@ -153,7 +155,7 @@ impl Operands {
 
     /// Takes this many values, at most 4 and all there, as a list with the topmost last.
     pub fn pop_parameters(&mut self, count: usize) -> ArrayVec<Value, 4>
-        requires few { count ≤ 4 }
+        requires few { count ≤ MOST_PARAMETERS }
         requires there { count ≤ length self.old }
         ensures value { result.items ≡ reverse (take count self.old) }
         ensures rest { self.new ≡ drop count self.old }

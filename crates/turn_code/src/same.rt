@@ -50,6 +50,7 @@ pub fn same_variables(left: &[Option<Value>], right: &[Option<Value>]) -> bool
     }
 }
 
+/// Whether it is the same value, or none in both cases.
 fn same_if_any(left: Option<Value>, right: Option<Value>) -> bool
     ensures { IsTrue result ↔ (left ≡ right) }
 {

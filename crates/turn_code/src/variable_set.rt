@@ -2,6 +2,7 @@
 
 ghost use Rattle.std.specs.Prelude.{◌≡◌, ◌<◌, ◌≤◌, ◌^◌, ◌↔◌, IsTrue, length};
 ghost use Rattle.turn_code.specs.Sets.{initial_set};
+ghost use Rattle.profile_limits.specs.Limits.{MOST_VARIABLES};
 
 use crate::draft::DraftVariable;
 use crate::numbers::VariableNumber;
@@ -22,7 +23,7 @@ impl VariableSet {
 
     /// The set with one more variable, whose number is below 32.
     pub fn with(self, variable: VariableNumber) -> VariableSet
-        requires { variable.0 < 32 }
+        requires { variable.0 < MOST_VARIABLES }
         ensures { result ≡ with_variable self variable.0 }
     {
         VariableSet(self.0 | 1 << variable.0)
@@ -38,7 +39,7 @@ impl VariableSet {
 
 /// The variables that have an initial value: those that are set as START begins. At most 32 variables.
 pub fn set_at_start(variables: &[DraftVariable]) -> VariableSet
-    requires { length variables.now ≤ 32 }
+    requires { length variables.now ≤ MOST_VARIABLES }
     ensures value { result ≡ initial_set variables.now }
     ensures small { result.0 < 2 ^ length variables.now }
 {

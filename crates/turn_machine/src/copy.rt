@@ -1,13 +1,14 @@
 //! Copies that take no memory.
 
 ghost use Rattle.std.specs.Prelude.{◌≡◌, ◌≤◌, length};
+ghost use Rattle.profile_limits.specs.Limits.{MOST_INSTRUCTIONS};
 
 use arrayvec::ArrayVec;
 use turn_code::{Effect, Instruction};
 
 /// The instructions by value.
 pub(crate) fn copied_code(code: &[Instruction]) -> ArrayVec<Instruction, 512>
-    requires { length code.now ≤ 512 }
+    requires { length code.now ≤ MOST_INSTRUCTIONS }
     ensures { result.items ≡ code.now }
 {
     let mut copy = ArrayVec::new();

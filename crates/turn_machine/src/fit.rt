@@ -65,6 +65,7 @@ fn have_sorts(variables: &[DraftVariable], values: &[Option<Value>]) -> bool
     }
 }
 
+/// Whether a value has its variable's sort; none has any.
 fn has_sort(variable: &DraftVariable, value: Option<Value>) -> bool
     ensures { IsTrue result ↔ HasSort variable.now value }
 {
@@ -86,6 +87,7 @@ fn are_set(set: VariableSet, values: &[Option<Value>]) -> bool
     true
 }
 
+/// Whether the variable with a number has a value.
 fn has_value(values: &[Option<Value>], variable: u8) -> bool
     ensures { IsTrue result ↔ IsSetAt values.now variable }
 {

@@ -1,5 +1,6 @@
 -- Receipts, held against the journals.
-use Rattle.std.specs.Prelude.{◌≡◌, ◌<◌, ◌^◌, ℕ, List, Option, None, Some, Result, Ok, Err, slice_get}
+use Rattle.std.specs.Prelude.{◌≡◌, ◌<◌, ℕ, List, Option, None, Some, Result, Ok, Err, slice_get}
+use Rattle.profile_limits.specs.Limits.{PAST_PLACES}
 use Rattle.turn_code.specs.Valid.{IsValid}
 use Rattle.link_machine.specs.Ledger.{Ledger, ask, event_at, next, rebased}
 use Rattle.link_machine.specs.Step.{Says}
@@ -32,11 +33,11 @@ pub record FailsAt (books : List Ledger) (receipts : List Receipt) (position : �
 
 -- ---- what a client's call comes to; which book it met no contract can say, but that it is one that a pool can hold
 
--- what is known of each book of a pool: its set is valid, its finishes are those of its base and its journal, its places stay below 2^57
+-- what is known of each book of a pool: its set is valid, its finishes are those of its base and its journal, its places stay below that number
 pub record IsHeld (b : Ledger) : Type 0 where
   pub valid : IsValid b.set
   pub finishes : CountsFinishes b
-  pub places : next b < 2 ^ 57
+  pub places : next b < PAST_PLACES
 
 -- a book takes the event and replies so; the receipt names the link, the place that the event gets in that book, and the event
 pub record IsTaken (link : ℕ) (e : Event) (says : Reply) (r : Receipt) : Type 0 where

@@ -1,13 +1,14 @@
 -- What a pool serves, and what it leaves.
 use Rattle.std.specs.Prelude.{◌≡◌, ◌≤◌, ◌+◌, ℕ, List, length, count_by}
+use Rattle.profile_limits.specs.Limits.{LEAST_WORKERS, MOST_LINKS, MOST_WORKERS}
 use Rattle.link_machine.specs.Kept.{is_finish}
 use Rattle.link_machine.specs.Ledger.{Ledger, state_of}
 use Rattle.turn_pool.specs.declared.fault.PoolFault.{PoolFault}
 use Rattle.turn_pool.specs.declared.fault.PoolFault.TheVariants.{NoWorkers, NoMemory}
 
--- up to 16 links, by 1 to 16 workers
+-- so many links by so many workers, each in its range
 abbrev pub AreServed : ℕ → ℕ → Type 0
-AreServed links workers = (links ≤ 16) × (1 ≤ workers) × (workers ≤ 16)
+AreServed links workers = (links ≤ MOST_LINKS) × (LEAST_WORKERS ≤ workers) × (workers ≤ MOST_WORKERS)
 
 -- no finish stands in the journal that the state doesn't count, and none is counted that doesn't stand there
 abbrev pub CountsFinishes : Ledger → Type 0

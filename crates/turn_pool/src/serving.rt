@@ -70,12 +70,7 @@ fn serve_by<R: Threads + Wait + Sync, L: Ledger + Send + Sync, G: Gate + Sync, C
         workers,
         client,
     } = drive(&pool, gate, client, workers, shift);
-    let Pool {
-        rt: _,
-        links,
-        totals,
-        closing: _,
-    } = pool;
+    let Pool { links, totals, .. } = pool;
     let books = take_all_out(links, books, &mut rest);
     totals.into_inner().audit(&mut rest);
     match client {

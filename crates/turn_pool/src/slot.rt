@@ -70,12 +70,12 @@ impl<L: Ledger> Slot<L> {
         let _place = self.book.next();
     }
 
-    #[tactic(auto, using(crate::proofs::Asks::offered, crate::proofs::Asks::stands))]
     /// A signal of the environment comes to an actor, as by [`Book::offer`].
     ///
     /// # Errors
     ///
     /// Those of the book. Then nothing changes.
+    #[tactic(auto, using(crate::proofs::Asks::offered, crate::proofs::Asks::stands))]
     pub fn offer<T: Counts<L>>(
         &mut self,
         seat: &mut Seat<L>,
@@ -108,12 +108,12 @@ impl<L: Ledger> Slot<L> {
         }
     }
 
-    #[tactic(auto, using(crate::proofs::Asks::stands))]
     /// So many ticks pass, as by [`Book::advance`]. How many timers were due.
     ///
     /// # Errors
     ///
     /// Those of the book. Then nothing changes.
+    #[tactic(auto, using(crate::proofs::Asks::stands))]
     pub fn advance<T: Counts<L>>(
         &mut self,
         seat: &mut Seat<L>,
@@ -143,12 +143,12 @@ impl<L: Ledger> Slot<L> {
         ))
     }
 
-    #[tactic(auto, using(crate::proofs::Asks::stands))]
     /// The environment takes what has waited longest for it, as by [`Book::take_env`].
     ///
     /// # Errors
     ///
     /// Those of the book. Then nothing changes.
+    #[tactic(auto, using(crate::proofs::Asks::stands))]
     pub fn take_env<T: Counts<L>>(
         &mut self,
         seat: &mut Seat<L>,

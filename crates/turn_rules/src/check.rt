@@ -5,6 +5,7 @@ ghost use Rattle.turn_code.specs.Rules.{KeepsSetLimits};
 ghost use Rattle.turn_code.specs.Valid.{IsValidTransition, Keeps};
 ghost use Rattle.turn_rules.specs.Seen.{seen};
 ghost use Rattle.turn_rules.specs.Parts.{HasParts};
+ghost use Rattle.profile_limits.specs.Limits.{MOST_INSTRUCTIONS, MOST_VARIABLES};
 
 use crate::entry::check_entry;
 use crate::indexed::IndexedDraft;
@@ -25,7 +26,7 @@ pub struct Broken {
 pub fn check_transition(draft: &IndexedDraft<'_>, transition: &Transition<'_>) -> Result<(), Broken>
     requires limits { KeepsSetLimits draft.now }
     requires process { transition.now.number.0 < length draft.now.processes }
-    requires variables { length transition.now.process.now.variables ≤ 32 }
+    requires variables { length transition.now.process.now.variables ≤ MOST_VARIABLES }
     ensures ok { IfOk result (λ _. IsValidTransition draft.now (seen transition.now)) }
     ensures err { IfErr result (λ e. Keeps e.rule draft.now (seen transition.now) e.place → ⊥) }
 {
@@ -44,8 +45,8 @@ pub fn check_transition(draft: &IndexedDraft<'_>, transition: &Transition<'_>) -
 fn check_at(draft: &IndexedDraft<'_>, transition: &Transition<'_>, place: usize) -> Result<(), Rule>
     requires limits { KeepsSetLimits draft.now }
     requires process { transition.now.number.0 < length draft.now.processes }
-    requires place { place < 512 }
-    requires variables { length transition.now.process.now.variables ≤ 32 }
+    requires place { place < MOST_INSTRUCTIONS }
+    requires variables { length transition.now.process.now.variables ≤ MOST_VARIABLES }
     ensures ok { IfOk result (λ _. HasParts draft.now (seen transition.now) place) }
     ensures err { IfErr result (λ rule. Keeps rule draft.now (seen transition.now) place → ⊥) }
 {
@@ -64,8 +65,8 @@ fn check_with(
 ) -> Result<(), Rule>
     requires limits { KeepsSetLimits draft.now }
     requires process { transition.now.number.0 < length draft.now.processes }
-    requires place { place < 512 }
-    requires variables { length transition.now.process.now.variables ≤ 32 }
+    requires place { place < MOST_INSTRUCTIONS }
+    requires variables { length transition.now.process.now.variables ≤ MOST_VARIABLES }
     requires code { slice_get transition.now.piece.now.code place ≡ Some instruction }
     ensures ok { IfOk result (λ _. HasParts draft.now (seen transition.now) place) }
     ensures err { IfErr result (λ rule. Keeps rule draft.now (seen transition.now) place → ⊥) }

@@ -2,6 +2,7 @@
 
 ghost use Rattle.std.specs.Prelude.{◌≡◌, ◌≤◌, ◌+◌, ◌↔◌, ℕ, true, ◌&&◌, ◌||◌, eqb, ltb, IsTrue};
 ghost use Rattle.turn_rules.specs.Parties.{seat, holds};
+ghost use Rattle.profile_limits.specs.Limits.{MOST_PROCESSES};
 
 use turn_code::Party;
 
@@ -26,7 +27,7 @@ impl PartySet {
 
     /// The environment and so many processes, which are the first ones.
     pub(crate) fn of_first(count: usize) -> PartySet
-        requires { count ≤ 16 }
+        requires { count ≤ MOST_PROCESSES }
         ensures { (b : ℕ) → holds result b ≡ ltb b (1 + count) }
     {
         PartySet(u32::MAX >> (31 - count))

@@ -9,6 +9,7 @@ ghost use Rattle.turn_code.specs.declared.draft.DraftState.{DraftState};
 ghost use Rattle.turn_code.specs.declared.draft.DraftSignal.{DraftSignal};
 ghost use Rattle.turn_rules.specs.Seen.{seen};
 ghost use Rattle.turn_rules.specs.Parts.{Part, NextPart, AllParts, AllNexts, NumbersPart, CountsPart, SetsHold, ShapesPart};
+ghost use Rattle.profile_limits.specs.Limits.{MOST_INSTRUCTIONS, MOST_PARAMETERS, MOST_VARIABLES};
 
 use crate::indexed::IndexedDraft;
 use crate::routes::keeps_sending;
@@ -28,8 +29,8 @@ pub(crate) fn check_place(
 ) -> Result<(), Rule>
     requires limits { KeepsSetLimits draft.now }
     requires process { transition.now.number.0 < length draft.now.processes }
-    requires place { place < 512 }
-    requires variables { length transition.now.process.now.variables ≤ 32 }
+    requires place { place < MOST_INSTRUCTIONS }
+    requires variables { length transition.now.process.now.variables ≤ MOST_VARIABLES }
     ensures ok { IfOk result (λ _. AllParts draft.now (seen transition.now) place instruction facts.now) }
     ensures err { IfErr result (λ rule. Part rule draft.now (seen transition.now) place instruction facts.now → ⊥) }
 {
@@ -59,9 +60,9 @@ fn check_successors(
     instruction: Instruction,
     facts: &PlaceFacts,
 ) -> Result<(), Rule>
-    requires few { All (λ (s : DraftSignal). length s.parameters ≤ 4) signals.now }
-    requires place { place < 512 }
-    requires variables { length transition.now.process.now.variables ≤ 32 }
+    requires few { All (λ (s : DraftSignal). length s.parameters ≤ MOST_PARAMETERS) signals.now }
+    requires place { place < MOST_INSTRUCTIONS }
+    requires variables { length transition.now.process.now.variables ≤ MOST_VARIABLES }
     requires number { All (λ v. v < length transition.now.process.now.variables) (sets instruction) }
     requires under { length (takes signals.now transition.now.process.now.variables instruction) ≤ length facts.now.shape }
     ensures ok { IfOk result (λ _. AllNexts signals.now (seen transition.now) place instruction facts.now) }
@@ -180,8 +181,8 @@ fn shapes_are_left(
     instruction: Instruction,
     shape: &[Sort],
 ) -> bool
-    requires few { All (λ (s : DraftSignal). length s.parameters ≤ 4) signals.now }
-    requires place { place < 512 }
+    requires few { All (λ (s : DraftSignal). length s.parameters ≤ MOST_PARAMETERS) signals.now }
+    requires place { place < MOST_INSTRUCTIONS }
     requires under { length (takes signals.now transition.now.process.now.variables instruction) ≤ length shape.now }
     ensures { IsTrue result ↔ ShapesPart signals.now (seen transition.now) place instruction shape.now }
 {
@@ -197,7 +198,7 @@ fn operands_left<'a>(
     instruction: Instruction,
     shape: &'a [Sort],
 ) -> &'a [Sort]
-    requires few { All (λ (s : DraftSignal). length s.parameters ≤ 4) signals.now }
+    requires few { All (λ (s : DraftSignal). length s.parameters ≤ MOST_PARAMETERS) signals.now }
     requires under { length (takes signals.now transition.now.process.now.variables instruction) ≤ length shape.now }
     ensures { result.now ≡ shape_left signals.now transition.now.process.now.variables instruction shape.now }
 {
@@ -213,7 +214,7 @@ fn shape_is_behind(
     instruction: Instruction,
     rest: &[Sort],
 ) -> bool
-    requires { place < 512 }
+    requires { place < MOST_INSTRUCTIONS }
     ensures { IsTrue result ↔ AtEach transition.now.piece.now (behind instruction place)
         (λ g. g.shape ≡ gives transition.now.process.now.variables transition.now.parameters.now instruction ++ rest.now) }
 {
@@ -263,7 +264,7 @@ fn sets_are_left(
     instruction: Instruction,
     set: VariableSet,
 ) -> bool
-    requires variables { length transition.now.process.now.variables ≤ 32 }
+    requires variables { length transition.now.process.now.variables ≤ MOST_VARIABLES }
     requires number { All (λ v. v < length transition.now.process.now.variables) (sets instruction) }
     ensures { IsTrue result ↔ SetsHold (seen transition.now) nexts.now instruction set }
 {

@@ -4,6 +4,7 @@ ghost use Rattle.std.specs.Prelude.{◌≡◌, ◌<◌, ℕ, false, eqb, ◌&&�
 ghost use Rattle.std.specs.List.{flat_map};
 ghost use Rattle.turn_rules.specs.Parties.{seat, holds};
 ghost use Rattle.turn_rules.specs.RouteTables.{none, listed, is_process, Mention, mentions_of, Tells};
+ghost use Rattle.profile_limits.specs.Limits.{MOST_PROCESSES};
 
 use crate::party_set::PartySet;
 use turn_code::{DraftRoute, Party, ProcessNumber, SignalNumber};
@@ -50,7 +51,7 @@ pub(crate) struct Ends {
 impl Ends {
     /// No party for any process and signal.
     fn new() -> Self
-        ensures { (p n b : ℕ) → p < 16 → holds (listed result p n) b ≡ false }
+        ensures { (p n b : ℕ) → p < MOST_PROCESSES → holds (listed result p n) b ≡ false }
     {
         Ends {
             rows: [Row::new(); 16],
@@ -59,7 +60,7 @@ impl Ends {
 
     /// Adds the party at the other end of a path that brings a signal, if its own end is a process.
     fn add(&mut self, own: Party, other: Party, signal: SignalNumber)
-        ensures { (p n b : ℕ) → p < 16 → holds (listed self.new p n) b
+        ensures { (p n b : ℕ) → p < MOST_PROCESSES → holds (listed self.new p n) b
             ≡ (holds (listed self.old p n) b || (is_process p own && (eqb signal.0 n && eqb (seat other) b))) }
     {
         match own {
@@ -70,7 +71,7 @@ impl Ends {
 
     /// Adds it for one process; those past the first 16 are left out.
     fn add_to(&mut self, process: ProcessNumber, other: Party, signal: SignalNumber)
-        ensures { (p n b : ℕ) → p < 16 → holds (listed self.new p n) b
+        ensures { (p n b : ℕ) → p < MOST_PROCESSES → holds (listed self.new p n) b
             ≡ (holds (listed self.old p n) b || (eqb process.0 p && (eqb signal.0 n && eqb (seat other) b))) }
     {
         if process.0 < 16 {
@@ -80,7 +81,7 @@ impl Ends {
 
     /// The parties for one of the first 16 processes and a signal.
     pub(crate) fn get(&self, process: ProcessNumber, signal: SignalNumber) -> PartySet
-        requires { process.0 < 16 }
+        requires { process.0 < MOST_PROCESSES }
         ensures { result ≡ listed self.now process.0 signal.0 }
     {
         self.rows[usize::from(process.0)].get(signal)

@@ -4,6 +4,7 @@ ghost use Rattle.std.specs.Prelude.{◌≡◌, ◌<◌, ◌≤◌, ◌+◌, All,
 ghost use Rattle.turn_code.specs.Code.{sort_at, takes, gives, sets, set_after, jumps, behind, successors, effects_of};
 ghost use Rattle.turn_code.specs.Transitions.{parameters_of};
 ghost use Rattle.turn_code.specs.declared.draft.DraftSignal.{DraftSignal};
+ghost use Rattle.profile_limits.specs.Limits.{MOST_INSTRUCTIONS, MOST_PARAMETERS, MOST_VARIABLES};
 
 use arrayvec::ArrayVec;
 use turn_code::{
@@ -25,7 +26,7 @@ pub(crate) fn sort_of_variable(
 
 /// The sorts of a signal's parameters, the last one first.
 fn sent_sorts(signals: &[DraftSignal], signal: SignalNumber) -> ArrayVec<Sort, 4>
-    requires { All (λ (s : DraftSignal). length s.parameters ≤ 4) signals.now }
+    requires { All (λ (s : DraftSignal). length s.parameters ≤ MOST_PARAMETERS) signals.now }
     ensures { result.items ≡ reverse (parameters_of (slice_get signals.now signal.0)) }
 {
     match signals.get(usize::from(signal.0)) {
@@ -36,7 +37,7 @@ fn sent_sorts(signals: &[DraftSignal], signal: SignalNumber) -> ArrayVec<Sort, 4
 
 /// At most four sorts, the last one first.
 fn reversed(parameters: &[Sort]) -> ArrayVec<Sort, 4>
-    requires { length parameters.now ≤ 4 }
+    requires { length parameters.now ≤ MOST_PARAMETERS }
     ensures { result.items ≡ reverse parameters.now }
 {
     match ArrayVec::try_from(parameters) {
@@ -69,7 +70,7 @@ pub(crate) fn taken_sorts(
     signals: &[DraftSignal],
     variables: &[DraftVariable],
 ) -> ArrayVec<Sort, 4>
-    requires { All (λ (s : DraftSignal). length s.parameters ≤ 4) signals.now }
+    requires { All (λ (s : DraftSignal). length s.parameters ≤ MOST_PARAMETERS) signals.now }
     ensures { result.items ≡ takes signals.now variables.now instruction }
 {
     match instruction {
@@ -134,7 +135,7 @@ pub(crate) fn given_sort(
 
 /// The variables that are set behind it.
 pub(crate) fn set_behind(instruction: Instruction, set: VariableSet) -> VariableSet
-    requires { All (λ v. v < 32) (sets instruction) }
+    requires { All (λ v. v < MOST_VARIABLES) (sets instruction) }
     ensures { result ≡ set_after instruction set }
 {
     match instruction {
@@ -164,7 +165,7 @@ pub(crate) fn jump_places(instruction: Instruction) -> ArrayVec<usize, 3>
 
 /// The place behind it, where the code may go on there.
 pub(crate) fn place_behind(instruction: Instruction, place: usize) -> Option<usize>
-    requires { place < 512 }
+    requires { place < MOST_INSTRUCTIONS }
     ensures { option_to_list result ≡ behind instruction place }
 {
     match instruction {
@@ -176,7 +177,7 @@ pub(crate) fn place_behind(instruction: Instruction, place: usize) -> Option<usi
 
 /// The places where the code may go on after it.
 pub(crate) fn next_places(instruction: Instruction, place: usize) -> ArrayVec<usize, 3>
-    requires { place < 512 }
+    requires { place < MOST_INSTRUCTIONS }
     ensures { result.items ≡ successors instruction place }
 {
     let mut places = jump_places(instruction);

@@ -3,6 +3,7 @@
 ghost use Rattle.std.specs.Prelude.{◌≡◌, ◌≤◌, length};
 ghost use Rattle.turn_code.specs.Transitions.{start_of, input_of, trigger_parameters};
 ghost use Rattle.turn_rules.specs.Seen.{seen};
+ghost use Rattle.profile_limits.specs.Limits.{MOST_VARIABLES};
 
 use turn_code::{
     DraftInput, DraftPiece, DraftProcess, DraftSignal, DraftState, ProcessNumber, Sort, Trigger,
@@ -28,7 +29,7 @@ pub struct Transition<'a> {
 
 /// The START transition of a process.
 pub fn start_transition(number: ProcessNumber, process: &DraftProcess) -> Transition<'_>
-    requires { length process.now.variables ≤ 32 }
+    requires { length process.now.variables ≤ MOST_VARIABLES }
     ensures { seen result ≡ start_of number.0 process.now }
 {
     Transition {

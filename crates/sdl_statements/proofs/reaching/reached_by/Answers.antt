@@ -7,6 +7,8 @@ use Rattle.sdl_joins.proofs.Connectors.{within_links}
 use Rattle.sdl_statements.specs.Distinct.{has_sender}
 use Rattle.sdl_statements.specs.Reached.{joining_of, starts_with, sent_joins}
 use Rattle.sdl_statements.specs.declared.sender_table.Sender.{Sender}
+use Rattle.sdl_statements.specs.declared.distinct.MarkedRow.{MarkedRow}
+use Rattle.sdl_tables.proofs.States.{map-map}
 use Rattle.sdl_statements.proofs.Coming.{starts_is, starts_within}
 use Rattle.sdl_statements.proofs.reaching.reached_by.Goals as goal
 
@@ -18,15 +20,16 @@ reached_from-requires-clause-within c =
     (subst (All (λ n. n < k)) (sym (c.deref-2.ensures.value ∙ c.in_ok-starts.ensures)) (starts_within k c.deref.result.now c.args.joinings.now c.requires.within))
 
 pub returns : goal.returns
-returns c =
+returns c = λ t told joinings.
     let p = process_of c.args.process.now in
-    let t = c.args.table.now in
     let u = c.args.sender.now in
     let marks : c.deref.result.now ≡ map (λ (row : Vec Sender). has_sender row.items u) t.rows.items =
-    c.deref.ensures.value ∙ c.in_ok-marks.ensures ∙ ap (map (λ (row : Vec Sender). has_sender row.items u)) c.rows.ensures in
+    c.deref.ensures.value ∙ c.in_ok-marks.ensures
+    ∙ sym (map-map (λ (row : Vec Sender). has_sender row.items u) (λ (m : MarkedRow). m.row.now) c.args.rows.now)
+    ∙ ap (map (λ (row : Vec Sender). has_sender row.items u)) told in
     let starts : c.deref-2.result.now ≡ targets_of p (sent_joins p t u) =
     c.deref-2.ensures.value ∙ c.in_ok-starts.ensures
     ∙ ap (λ (l : List Bool). starts_with l (map joining_of c.args.joinings.now)) marks
-    ∙ ap (starts_with (map (λ (row : Vec Sender). has_sender row.items u) t.rows.items)) c.requires.joinings
+    ∙ ap (starts_with (map (λ (row : Vec Sender). has_sender row.items u) t.rows.items)) joinings
     ∙ starts_is p t u in
     c.in_ok-reached.ensures p (sent_joins p t u) c.requires.links c.requires.distinct starts

@@ -41,8 +41,8 @@ pub walk_statement-returns-in-Decide : goal.walk_statement-returns-in-Decide
 walk_statement-returns-in-Decide t c = λ told h.
     let p = process_of c.args.table.now in
     subst (λ (s : Statement). Walked p (text_doings p told (statement_of s falls)) c.args.walker.now c.walk_decision.new.walker) (sym c.in-Decide.is)
-    (walked_decide p told c.in-Decide.decision c.args.walker.now c.pass-in-Decide.new.self c.walk_decision.new.walker
-    (c.pass-in-Decide.ensures p (tree_events (tree_of (out-Decision c.in-Decide.decision).question)) c.expression_flow.ensures)
+    (walked_decide p told c.in-Decide.decision c.args.walker.now c.pass.new.self c.walk_decision.new.walker
+    (c.pass.ensures p (tree_events (tree_of (out-Decision c.in-Decide.decision).question)) c.expression_flow.ensures)
     (c.walk_decision.ensures told h))
 
 pub walk_transition-loop-statement-init : goal.walk_transition-loop-statement-init

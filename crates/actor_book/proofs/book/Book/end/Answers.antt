@@ -3,7 +3,7 @@ use Rattle.link_machine.specs.Step.{Says}
 use Rattle.link_machine.specs.declared.reply.Report.{Report}
 use Rattle.link_machine.specs.declared.reply.Reply.TheVariants as reply
 use Rattle.turn_machine.specs.Turn.{outcome_of}
-use Rattle.actor_book.proofs.Taking.{fits, new_book, new_answer, new_inside}
+use Rattle.actor_book.proofs.Taking.{fits, new_book, new_answer, new_inside, new_next}
 use Rattle.actor_book.proofs.Ending.{from_parts, still_out, out_in, finishes_in, takes_in, timers_in, few_effects, link_ends, link_reports}
 use Rattle.actor_book.proofs.book.Book.end.Goals as goal
 
@@ -44,3 +44,8 @@ returns-clause-answer c =
     ∙ link_reports _ _ _ c.args.actor _ c.self.view_is _ c.self.invariant c.requires _ _ c.number_in-number.ensures.value
     (from_parts (outcome_of c.args.done.now) _ _ _ _ c.end.ensures c.variables_after.ensures c.effects.ensures.value c.count.ensures.value)
     ∙ new_answer c.keeps_law.ensures _ _ c.self.view_is _ _ c.self.invariant _ (takes_in _ _ _ c.args.actor _ c.self.view_is _ c.self.invariant c.requires c.out_law.ensures)
+
+pub returns-clause-next : goal.returns-clause-next
+returns-clause-next c =
+    new_next c.keeps_law.ensures _ _ c.self.view_is _ _ c.self.invariant _ (takes_in _ _ _ c.args.actor _ c.self.view_is _ c.self.invariant c.requires c.out_law.ensures)
+    _ c.note.ensures.items

@@ -1,7 +1,7 @@
 use Rattle.std.proofs.Common.{ap, ◌∙◌}
 use Rattle.link_machine.specs.Step.{Says, step}
 use Rattle.link_machine.specs.declared.reply.Reply.TheVariants as reply
-use Rattle.actor_book.proofs.Taking.{link_passes, fits, new_book, new_answer, new_inside}
+use Rattle.actor_book.proofs.Taking.{link_passes, fits, new_book, new_answer, new_inside, new_next}
 use Rattle.actor_book.proofs.Passing.{may_pass}
 use Rattle.actor_book.proofs.book.Book.pass.Goals as goal
 
@@ -29,3 +29,6 @@ pub returns-clause-answer : goal.returns-clause-answer
 unfolding step
 returns-clause-answer c =
     ap (λ k. Says (reply.Passed k)) c.advance-due.ensures.due ∙ new_answer c.keeps_law.ensures _ _ c.self.view_is _ _ c.self.invariant _ c.requires
+
+pub returns-clause-next : goal.returns-clause-next
+returns-clause-next c = new_next c.keeps_law.ensures _ _ c.self.view_is _ _ c.self.invariant _ c.requires _ c.note.ensures.items

@@ -4,7 +4,7 @@ use Rattle.turn_code.specs.declared.value.Value.{Value}
 use Rattle.link_machine.specs.Step.{Says}
 use Rattle.link_machine.specs.declared.reply.Report.{Report}
 use Rattle.link_machine.specs.declared.reply.Reply.TheVariants as reply
-use Rattle.actor_book.proofs.Taking.{fits, fits_in, new_book, new_answer, new_inside}
+use Rattle.actor_book.proofs.Taking.{fits, fits_in, new_book, new_answer, new_inside, new_next}
 use Rattle.actor_book.proofs.Ending.{still_out, out_in, finishes_in, takes_in, timers_in, few_effects, link_ends, link_reports}
 use Rattle.actor_book.proofs.Turning.{the_turn, out_at, ends_out, took}
 use Rattle.actor_book.proofs.book.Book.run_out.Goals as goal
@@ -67,3 +67,8 @@ returns-clause-within c =
     let k = ends_out _ _ _ _ c.self.view_is c.self.invariant _ c.args.actor c.actors.ensures.value _ c.run_at-end.new.machine _ _
     (ap (λ (v : ArrayVec (Option Value)). v.items) c.copied_variables.ensures) c.as_slice.ensures.value c.run_at-end.ensures in
     took _ _ _ _ _ _ (ap (λ (r : Report). r.count) c.finish-report.ensures.report) k
+
+pub returns-clause-next : goal.returns-clause-next
+returns-clause-next c =
+    new_next c.keeps_law.ensures _ _ c.self.view_is _ _ c.self.invariant _
+    (takes_in _ _ _ c.args.actor _ c.self.view_is _ c.self.invariant (the_turn _ c.requires).1 c.out_law.ensures) _ c.note.ensures.items

@@ -1,7 +1,7 @@
 use Rattle.std.proofs.Common.{ap, ◌∙◌}
 use Rattle.link_machine.specs.Step.{step}
 use Rattle.link_machine.specs.declared.event.Event.TheVariants.{Begin}
-use Rattle.actor_book.proofs.Taking.{link_after, link_passes, fits, new_book, new_inside}
+use Rattle.actor_book.proofs.Taking.{link_after, link_passes, fits, new_book, new_inside, new_next}
 use Rattle.actor_book.proofs.Passing.{may_begin}
 use Rattle.actor_book.proofs.book.Book.start.Goals as goal
 
@@ -22,3 +22,6 @@ invariant_of-self c =
 
 pub returns-clause-book : goal.returns-clause-book
 returns-clause-book c = new_book c.keeps_law.ensures _ _ c.self.view_is _ _ c.self.invariant _ c.requires _ c.note.ensures.items
+
+pub returns-clause-next : goal.returns-clause-next
+returns-clause-next c = new_next c.keeps_law.ensures _ _ c.self.view_is _ _ c.self.invariant _ c.requires _ c.note.ensures.items

@@ -2,7 +2,7 @@ use Rattle.std.proofs.Common.{ap, ◌∙◌}
 use Rattle.link_machine.specs.Step.{step}
 use Rattle.link_machine.specs.declared.event.Event.TheVariants.{Offer as Offered}
 use Rattle.link_machine.specs.declared.event.Offer.{Offer}
-use Rattle.actor_book.proofs.Taking.{link_after, fits, new_book, new_answer, new_inside}
+use Rattle.actor_book.proofs.Taking.{link_after, fits, new_book, new_answer, new_inside, new_next}
 use Rattle.actor_book.proofs.book.Book.take_offer.Goals as goal
 
 pub note-requires : goal.note-requires
@@ -21,3 +21,6 @@ returns-clause-book c = new_book c.keeps_law.ensures _ _ c.self.view_is _ _ c.se
 pub returns-clause-answer : goal.returns-clause-answer
 unfolding step
 returns-clause-answer c = new_answer c.keeps_law.ensures _ _ c.self.view_is _ _ c.self.invariant _ c.requires
+
+pub returns-clause-next : goal.returns-clause-next
+returns-clause-next c = new_next c.keeps_law.ensures _ _ c.self.view_is _ _ c.self.invariant _ c.requires _ c.note.ensures.items

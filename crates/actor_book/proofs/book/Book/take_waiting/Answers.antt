@@ -1,6 +1,6 @@
 use Rattle.std.proofs.Common.{ap, sym, ◌∙◌}
 use Rattle.link_machine.specs.Step.{Says, step}
-use Rattle.actor_book.proofs.Taking.{link_passes, fits, new_book, new_answer, new_inside}
+use Rattle.actor_book.proofs.Taking.{link_passes, fits, new_book, new_answer, new_inside, new_next}
 use Rattle.actor_book.proofs.Passing.{something_waits, takes_first}
 use Rattle.actor_book.proofs.book.Book.take_waiting.Goals as goal
 
@@ -20,3 +20,6 @@ returns-clause-book c = new_book c.keeps_law.ensures _ _ c.self.view_is _ _ c.se
 pub returns-clause-answer : goal.returns-clause-answer
 unfolding step
 returns-clause-answer c = ap Says (sym (takes_first _ _ _ c.in-Some.ensures.first)) ∙ new_answer c.keeps_law.ensures _ _ c.self.view_is _ _ c.self.invariant _ c.requires
+
+pub returns-clause-next : goal.returns-clause-next
+returns-clause-next c = new_next c.keeps_law.ensures _ _ c.self.view_is _ _ c.self.invariant _ c.requires _ c.note.ensures.items

@@ -3,7 +3,7 @@ use Rattle.std.specs.Prelude.{slice_get}
 use Rattle.link_machine.specs.Step.{Says, step}
 use Rattle.link_machine.specs.declared.event.Event.TheVariants.{Skip}
 use Rattle.link_state.specs.Saving.{skipped_by}
-use Rattle.actor_book.proofs.Taking.{link_after, link_passes, fits, new_book, new_answer, new_inside}
+use Rattle.actor_book.proofs.Taking.{link_after, link_passes, fits, new_book, new_answer, new_inside, new_next}
 use Rattle.actor_book.proofs.Passing.{may_skip, skip_replies}
 use Rattle.actor_book.proofs.book.Book.throw.Goals as goal
 
@@ -34,3 +34,6 @@ returns-clause-answer c =
     let thrown = ap (λ k. skipped_by c.self.inside.set k (slice_get c.self.inside.link.actors k)) (sym c.number_in-number.ensures.value)
     ∙ sym c.skip.ensures.skipped ∙ c.in-Some.is in
     ap Says (sym (skip_replies c.self.inside.set c.args.actor c.in-Some.trigger _ thrown)) ∙ new_answer c.keeps_law.ensures _ _ c.self.view_is _ _ c.self.invariant _ c.requires
+
+pub returns-clause-next : goal.returns-clause-next
+returns-clause-next c = new_next c.keeps_law.ensures _ _ c.self.view_is _ _ c.self.invariant _ c.requires _ c.note.ensures.items

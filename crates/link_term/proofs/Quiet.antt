@@ -1,0 +1,171 @@
+-- Octets of which none but the last reports anything.
+use Rattle.std.proofs.Common.{◌≡◌, ℕ, nat_lt, ◌+◌, ◌-◌, ◌<◌, ◌≤◌, Bool, true, false, Option, List, [], ◌∷◌, ◌++◌, length, reverse, take, get_or, refl, sym, ap, ◌∙◌, subst, append-nil, append_assoc, length-append, arith}
+use Rattle.std.specs.Prelude.{if◌then◌else◌, ◌≢◌}
+use Rattle.std.proofs.lemmas.List.{take_more, reverse-append}
+use Rattle.su_octets.specs.Bits.{low_bits, bits_of}
+use Rattle.su_octets.proofs.BitLists.{bits_of-append}
+use Rattle.bit_line.specs.Deframing.{Stands}
+use Rattle.bit_line.specs.Events.{AreEvents, Runs, reports}
+use Rattle.bit_line.specs.declared.events.LineEvent.{LineEvent}
+use Rattle.bit_line.specs.declared.deframer.Deframer.{Deframer}
+use Rattle.bit_line.proofs.EventLaws.{one_events, stands_events}
+use Rattle.link_machine.specs.Ledger.{Ledger, rebased, next}
+use Rattle.link_side.specs.Half.{Half}
+use Rattle.link_side.specs.Limits.{KEPT_MESSAGES}
+use Rattle.link_heart.specs.declared.heart.Heart.{Heart}
+use Rattle.link_heart.specs.Machine.{with_book, tidied, places, LOW}
+use Rattle.link_term.specs.Term.{Term}
+use Rattle.link_term.specs.Hearing.{AreTaken, nothing, Hears, silent, octet, Heard}
+use Rattle.link_term.proofs.Cutting.{no_bits, next_bits, one_bits}
+use Rattle.link_term.proofs.Delivering.{tidied_side}
+
+-- ---- room that was made is there
+
+abbrev ledger_from : Ledger → ℕ → Ledger
+ledger_from b n = record (rebased b) { first = n }
+
+rebased_twice : (b : Ledger) → rebased (rebased b) ≡ rebased b
+unfolding rebased
+rebased_twice b = let e : next (rebased b) ≡ next b = omega arith in ap (λ (n : ℕ). ledger_from b n) e
+
+either_way : (c : Bool) (x y : Heart) → x ≡ y → (if c then x else y) ≡ y
+either_way true x y h = h
+either_way false x y h = refl
+
+-- a heart whose book was rebased is as it was rebased once more
+rebased_stays : (t : Heart) → tidied (with_book t (rebased t.book)) ≡ with_book t (rebased t.book)
+unfolding tidied
+rebased_stays t =
+    let u : Heart = with_book t (rebased t.book) in
+    either_way (nat_lt (places u) LOW) (with_book u (rebased u.book)) u (ap (λ (b : Ledger). with_book t b) (rebased_twice t.book))
+
+abbrev tidied_by : Bool → Heart → Heart
+tidied_by c t = if c then with_book t (rebased t.book) else t
+
+made_twice : (c : Bool) (t : Heart) → c ≡ nat_lt (places t) LOW → tidied (tidied_by c t) ≡ tidied_by c t
+unfolding tidied
+made_twice true t h = rebased_stays t
+made_twice false t h = ap (λ (c : Bool). tidied_by c t) (sym h)
+
+pub tidied_twice : (t : Heart) → tidied (tidied t) ≡ tidied t
+unfolding tidied
+tidied_twice t = made_twice (nat_lt (places t) LOW) t refl
+
+-- ---- no report in all is none on the way
+
+runs_before : (k h : List Bool) (m : Option ℕ) (all : List LineEvent) → Runs (k ++ h) m all
+    → (n : Option ℕ) × (first more : List LineEvent) × Runs h n first × (all ≡ first ++ more)
+unfolding Runs
+runs_before [] h m all runs = (m, all, [], runs, sym (append-nil all))
+runs_before (b ∷ k) h m all runs =
+    let r = runs_before k h runs.0 runs.1 runs.2 in
+    let given : List LineEvent = reports runs.3.verdict runs.0 in
+    (r.0, r.1, r.2 ++ given, r.3, runs.3.all ∙ ap (λ (l : List LineEvent). l ++ given) r.4 ∙ append_assoc r.1 r.2 given)
+
+none_more : (all more rest : List LineEvent) → all ≡ (all ++ more) ++ rest → more ≡ []
+none_more all [] rest h = refl
+none_more all (e ∷ more) rest h =
+    let f : ⊥ = omega (arith, ap length h, length-append (all ++ e ∷ more) rest, length-append all (e ∷ more)) in absurd f
+
+nothing_between : (all mid first more rest : List LineEvent) → first ≡ all → mid ≡ first ++ more → all ≡ mid ++ rest → mid ≡ all
+nothing_between all mid first more rest same longer whole =
+    let is : mid ≡ all ++ more = longer ∙ ap (λ (l : List LineEvent). l ++ more) same in
+    let none : more ≡ [] = none_more all more rest (whole ∙ ap (λ (l : List LineEvent). l ++ rest) is) in
+    is ∙ ap (λ (l : List LineEvent). all ++ l) none ∙ append-nil all
+
+quiet_first : (bits x y : List Bool) (all : List LineEvent) → AreEvents bits all → AreEvents ((bits ++ x) ++ y) all → AreEvents (bits ++ x) all
+quiet_first bits x y all before after =
+    let P : List Bool → Type 0 = λ h. Runs h after.0 all in
+    let a = runs_before (reverse y) (reverse (bits ++ x)) after.0 all (subst P (reverse-append (bits ++ x) y) after.1) in
+    let Q : List Bool → Type 0 = λ h. Runs h a.0 a.1 in
+    let b = runs_before (reverse x) (reverse bits) a.0 a.1 (subst Q (reverse-append bits x) a.3) in
+    let R : List LineEvent → Type 0 = λ l. Runs (reverse (bits ++ x)) a.0 l in
+    (a.0, subst R (nothing_between all a.1 b.1 b.2 a.2 (one_events bits b.1 all (b.0, b.3) before) b.4 a.4) a.3)
+
+-- ---- octets in turn
+
+-- room is made before the first of them, and is there before each of the others
+hears_run : (bits : List Bool) (all given : List LineEvent) (t u : Heart) (xs : List ℕ) (x : ℕ) → length t.side.messages < KEPT_MESSAGES
+    → AreEvents bits all → AreEvents (bits ++ bits_of xs) all → AreEvents ((bits ++ bits_of xs) ++ low_bits 8 x) (all ++ given)
+    → AreTaken given (tidied t) u → Hears bits all t (xs ++ x ∷ []) (all ++ given) u
+hears_run bits all given t u [] x room quiet before after taken =
+    let P : List Bool → Type 0 = λ b. AreEvents (b ++ low_bits 8 x) (all ++ given) in
+    octet bits all given t u u x [] (all ++ given) room (subst P (no_bits bits) after) taken (silent (bits ++ low_bits 8 x) (all ++ given) u)
+hears_run bits all given t u (y ∷ ys) x room quiet before after taken =
+    let next : List Bool = bits ++ low_bits 8 y in
+    let P : List Bool → Type 0 = λ b. AreEvents b all in
+    let Q : List Bool → Type 0 = λ b. AreEvents (b ++ low_bits 8 x) (all ++ given) in
+    let R : List LineEvent → Type 0 = λ l. AreEvents next l in
+    let S : List LineEvent → Type 0 = λ l. Hears next l (tidied t) (ys ++ x ∷ []) (all ++ given) u in
+    let T : Heart → Type 0 = λ h. AreTaken given h u in
+    let M : Half → Type 0 = λ h. length h.messages < KEPT_MESSAGES in
+    let behind : AreEvents (next ++ bits_of ys) all = subst P (next_bits bits y ys) before in
+    let still : AreEvents next all = quiet_first bits (low_bits 8 y) (bits_of ys) all quiet behind in
+    octet bits all [] t (tidied t) u y (ys ++ x ∷ []) (all ++ given) room (subst R (sym (append-nil all)) still) (nothing (tidied t))
+    (subst S (sym (append-nil all))
+    (hears_run next all given (tidied t) u ys x (subst M (sym (tidied_side t)) room) still behind (subst Q (next_bits bits y ys) after)
+    (subst T (sym (tidied_twice t)) taken)))
+
+last_bits : (bits : List Bool) (xs : List ℕ) (x : ℕ) → bits ++ bits_of (xs ++ x ∷ []) ≡ (bits ++ bits_of xs) ++ low_bits 8 x
+last_bits bits xs x =
+    ap (λ (b : List Bool). bits ++ b) (bits_of-append xs (x ∷ [])) ∙ sym (append_assoc bits (bits_of xs) (bits_of (x ∷ []))) ∙ one_bits (bits ++ bits_of xs) x
+
+last_taken : (octets : List ℕ) (n : ℕ) → 0 < n → n ≤ length octets → take n octets ≡ take (n - 1) octets ++ get_or octets (n - 1) 0 ∷ []
+last_taken octets n least within =
+    let whole : n ≡ n - 1 + 1 = omega (arith, least) in
+    ap (λ (k : ℕ). take k octets) whole ∙ take_more octets (n - 1) 0 (omega (arith, least, within))
+
+-- so many octets of a slice, at least one: those before the last report nothing
+before_last : (bits : List Bool) (all given : List LineEvent) (octets : List ℕ) (n : ℕ) → 0 < length octets → (given ≡ [] → n ≡ length octets)
+    → AreEvents bits all → AreEvents (bits ++ bits_of (take n octets)) (all ++ given)
+    → (given ≢ [] → (0 < n) × AreEvents (bits ++ bits_of (take (n - 1) octets)) all)
+    → (0 < n) × AreEvents (bits ++ bits_of (take (n - 1) octets)) all
+before_last bits all (e ∷ given) octets n some whole quiet after before = before (λ h. let f : ⊥ = omega (arith, ap length h) in f)
+before_last bits all [] octets n some whole quiet after before =
+    let least : 0 < n = omega (arith, some, whole refl) in
+    let is : take n octets ≡ take (n - 1) octets ++ get_or octets (n - 1) 0 ∷ [] = last_taken octets n least (omega (arith, whole refl)) in
+    let P : List Bool → Type 0 = λ b. AreEvents b (all ++ []) in
+    let Q : List LineEvent → Type 0 = λ l. AreEvents ((bits ++ bits_of (take (n - 1) octets)) ++ low_bits 8 (get_or octets (n - 1) 0)) l in
+    let behind = subst P (ap (λ (xs : List ℕ). bits ++ bits_of xs) is ∙ last_bits bits (take (n - 1) octets) (get_or octets (n - 1) 0)) after in
+    (least, quiet_first bits (bits_of (take (n - 1) octets)) (low_bits 8 (get_or octets (n - 1) 0)) all quiet (subst Q (append-nil all) behind))
+
+hears_part : (bits : List Bool) (all given : List LineEvent) (t u : Heart) (octets : List ℕ) (n : ℕ) → n ≤ length octets
+    → length t.side.messages < KEPT_MESSAGES → AreEvents bits all → AreEvents (bits ++ bits_of (take n octets)) (all ++ given)
+    → (0 < n) × AreEvents (bits ++ bits_of (take (n - 1) octets)) all → AreTaken given (tidied t) u
+    → Hears bits all t (take n octets) (all ++ given) u
+hears_part bits all given t u octets n within room quiet after before taken =
+    let x : ℕ = get_or octets (n - 1) 0 in
+    let xs : List ℕ = take (n - 1) octets in
+    let is : take n octets ≡ xs ++ x ∷ [] = last_taken octets n before.0 within in
+    let P : List Bool → Type 0 = λ b. AreEvents b (all ++ given) in
+    let Q : List ℕ → Type 0 = λ ys. Hears bits all t ys (all ++ given) u in
+    subst Q (sym is)
+    (hears_run bits all given t u xs x room quiet before.1 (subst P (ap (λ (ys : List ℕ). bits ++ bits_of ys) is ∙ last_bits bits xs x) after) taken)
+
+-- what one call of a deframer took, where room was made before
+pub heard_part : (t u : Term) (octets : List ℕ) (n : ℕ) (given : List LineEvent) → 0 < length octets → n ≤ length octets
+    → (given ≡ [] → n ≡ length octets)
+    → ((bits : List Bool) → Stands bits t.line → Stands (bits ++ bits_of (take n octets)) u.line)
+    → ((bits : List Bool) (all : List LineEvent) → Stands bits t.line → AreEvents bits all → AreEvents (bits ++ bits_of (take n octets)) (all ++ given))
+    → (given ≢ [] → (bits : List Bool) (all : List LineEvent) → Stands bits t.line → AreEvents bits all
+    → (0 < n) × AreEvents (bits ++ bits_of (take (n - 1) octets)) all)
+    → length t.heart.side.messages < KEPT_MESSAGES → AreTaken given (tidied t.heart) u.heart → u.sending ≡ t.sending → Heard t (take n octets) u
+heard_part t u octets n given some within whole stands events before room taken sending = record {
+  stands = stands;
+  hears = λ bits all s are.
+      let after : AreEvents (bits ++ bits_of (take n octets)) (all ++ given) = events bits all s are in
+      let near : (0 < n) × AreEvents (bits ++ bits_of (take (n - 1) octets)) all =
+      before_last bits all given octets n some whole are after (λ more. before more bits all s are) in
+      (all ++ given, after, hears_part bits all given t.heart u.heart octets n within room are after near taken);
+  sending = sending;
+}
+
+-- at least one octet is taken
+pub some_taken : (d : Deframer) (bits : List Bool) (octets : List ℕ) (n : ℕ) (given : List LineEvent) → Stands bits d → 0 < length octets
+    → (given ≡ [] → n ≡ length octets)
+    → (given ≢ [] → (bits : List Bool) (all : List LineEvent) → Stands bits d → AreEvents bits all
+    → (0 < n) × AreEvents (bits ++ bits_of (take (n - 1) octets)) all)
+    → 0 < n
+some_taken d bits octets n [] stands some whole before = omega (arith, some, whole refl)
+some_taken d bits octets n (e ∷ given) stands some whole before =
+    let are = stands_events bits d stands in (before (λ h. let f : ⊥ = omega (arith, ap length h) in f) bits are.0 stands are.1).0

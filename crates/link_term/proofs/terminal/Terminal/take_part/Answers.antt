@@ -1,0 +1,39 @@
+use Rattle.std.proofs.Common.{refl, arith}
+use Rattle.link_term.proofs.Cutting.{heard_from, heard_none}
+use Rattle.link_term.proofs.Quiet.{heard_part, some_taken}
+use Rattle.link_term.proofs.Taking.{room_for, taken_from}
+use Rattle.link_term.proofs.terminal.Terminal.take_part.Goals as goal
+
+pub take_events-requires : goal.take_events-requires
+take_events-requires c =
+    room_for c.self.inside.heart c.make_room.new.heart c.feed_until-taken.result.1.items c.as_slice.result.now
+    (c.if-not-make_room.ensures.room refl) (c.if-not-make_room.ensures.tidied refl) c.as_slice.ensures.value
+    (c.feed_until-taken.ensures.one c.self.invariant.0 c.self.invariant.1)
+
+pub returns-clause-heard : goal.returns-clause-heard
+returns-clause-heard c =
+    heard_from c.args.self.now _ _ _ c.self.view_is
+    (heard_part _ _ c.args.octets.now c.feed_until-taken.result.0 c.feed_until-taken.result.1.items c.requires c.feed_until-taken.ensures.most
+    c.feed_until-taken.ensures.all c.feed_until-taken.ensures.stands c.feed_until-taken.ensures.events c.feed_until-taken.ensures.before
+    (c.if-not-make_room.ensures.room refl)
+    (taken_from c.as_slice.result.now c.feed_until-taken.result.1.items c.make_room.new.heart c.self.inside.heart c.take_events.new.heart
+    c.as_slice.ensures.value (c.if-not-make_room.ensures.tidied refl) c.take_events.ensures)
+    refl)
+
+pub returns-then-not-make_room-clause-heard : goal.returns-then-not-make_room-clause-heard
+returns-then-not-make_room-clause-heard c =
+    heard_none c.args.self.now _ c.make_room.new.heart c.self.view_is (c.if-not-make_room.ensures.left refl)
+
+pub returns-clause-left : goal.returns-clause-left
+returns-clause-left c none =
+    let least =
+    some_taken c.self.inside.line c.self.invariant.0 c.args.octets.now c.feed_until-taken.result.0 c.feed_until-taken.result.1.items
+    c.self.invariant.1 c.requires c.feed_until-taken.ensures.all c.feed_until-taken.ensures.before in
+    let f : ⊥ = omega (arith, none, least) in absurd f
+
+pub returns-clause-stops : goal.returns-clause-stops
+returns-clause-stops c none =
+    let least =
+    some_taken c.self.inside.line c.self.invariant.0 c.args.octets.now c.feed_until-taken.result.0 c.feed_until-taken.result.1.items
+    c.self.invariant.1 c.requires c.feed_until-taken.ensures.all c.feed_until-taken.ensures.before in
+    let f : ⊥ = omega (arith, none, least) in absurd f

@@ -1,0 +1,139 @@
+//! Books over their public calls, on a text that is loaded: that the calls which take memory succeed where there is some, and change nothing
+//! where there is none; that a turn ends once.
+use crate::links::{ECHO, UP};
+use actor_book::{Book, Event, Limits, Offer, run_events};
+use arrayvec::ArrayVec;
+use std::alloc::Global;
+use turn_machine::run;
+use turn_verify::load;
+
+/// The book of a link, with room for one signal and 16 events.
+fn opened(alloc: Global) -> Option<Book> {
+    let limits = Limits::new(1, 1, 16)?;
+    match load(alloc, ECHO) {
+        Ok(set) => Book::open(alloc, &set, limits).ok(),
+        Err(_) => None,
+    }
+}
+
+/// The environment sends Up.
+fn up() -> Event {
+    Event::Offer(Offer {
+        actor: 0,
+        signal: UP,
+        values: ArrayVec::new(),
+    })
+}
+
+/// Seven events, of which the second Up finds the port full.
+fn events() -> [Event; 7] {
+    [
+        Event::Begin(0),
+        Event::Finish(0),
+        up(),
+        up(),
+        Event::Begin(0),
+        Event::Finish(0),
+        Event::TakeEnv,
+    ]
+}
+
+/// Turns that ended, instructions that ran, the place where the journal begins, that of the next event, and the turns that had ended where
+/// the journal begins.
+fn numbers(book: &Book) -> [u64; 5] {
+    [
+        book.finishes(),
+        book.instructions(),
+        book.first(),
+        book.next(),
+        book.base().finishes(),
+    ]
+}
+
+/// Whether the seven events are answered.
+fn is_answered(alloc: Global, book: &mut Book) -> bool {
+    match run_events(alloc, book, &events()) {
+        Ok(replies) => replies.len() == 7,
+        Err(_) => false,
+    }
+}
+
+/// The numbers of a book behind the events.
+fn ran(alloc: Global) -> Option<[u64; 5]> {
+    let mut book = opened(alloc)?;
+    if is_answered(alloc, &mut book) {
+        Some(numbers(&book))
+    } else {
+        None
+    }
+}
+
+#[test]
+fn a_list_of_events_runs(rt: HostRuntime) {
+    assert_eq!(rt; ran(rt.alloc()), Some([2, 3, 0, 6, 0]));
+}
+
+/// The same once its journal is emptied.
+fn rebased(alloc: Global) -> Option<[u64; 5]> {
+    let mut book = opened(alloc)?;
+    if is_answered(alloc, &mut book) && book.rebase().is_ok() {
+        Some(numbers(&book))
+    } else {
+        None
+    }
+}
+
+#[test]
+fn a_rebase_empties_the_journal(rt: HostRuntime) {
+    assert_eq!(rt; rebased(rt.alloc()), Some([2, 3, 6, 6, 2]));
+}
+
+/// Whether an empty journal begins at this place, or it couldn't be emptied and begins at 0; the next event comes there either way.
+fn is_emptied(book: &mut Book, next: u64) -> bool {
+    let first = if book.rebase().is_ok() { next } else { 0 };
+    book.first() == first && book.next() == next
+}
+
+/// Whether the events have run, or nothing has changed; and the same of the journal.
+fn changes_or_stays(alloc: Global, book: &mut Book) -> bool {
+    let next = if is_answered(alloc, book) { 6 } else { 0 };
+    book.next() == next && is_emptied(book, next)
+}
+
+/// The same of a new book; nothing where there is none.
+fn new_changes_or_stays(alloc: Global) -> Option<bool> {
+    let mut book = opened(alloc)?;
+    Some(changes_or_stays(alloc, &mut book))
+}
+
+/// Holds whichever allocation is refused.
+#[test]
+fn want_of_memory_changes_nothing(rt: HostRuntime) {
+    assert!(rt; new_changes_or_stays(rt.alloc()) != Some(false));
+}
+
+/// Whether a turn that ended is taken, and the second time refused.
+fn is_ended_once(book: &mut Book) -> bool {
+    let Ok(job) = book.begin(0) else {
+        return false;
+    };
+    let done = run(job);
+    let again = done.copy();
+    book.finish(done).is_ok() && book.finish(again).is_err()
+}
+
+/// The numbers of a book behind that.
+fn ended(alloc: Global) -> Option<[u64; 5]> {
+    let mut book = opened(alloc)?;
+    if is_ended_once(&mut book) {
+        Some(numbers(&book))
+    } else {
+        None
+    }
+}
+
+/// A turn that ended comes back the second time, and nothing changes.
+#[test]
+fn a_turn_ends_once(rt: HostRuntime) {
+    assert_eq!(rt; ended(rt.alloc()), Some([1, 1, 0, 2, 0]));
+}

@@ -1,0 +1,378 @@
+//! Workers: that they run at once, that they end what they begin, that they come to an end.
+use crate::links::{ECHO, ECHOES, ENDLESS, UP, links};
+use actor_book::Book;
+use std::alloc::Global;
+use std::sync::Wait;
+use std::sync::atomic::{AtomicBool, AtomicUsize, Ordering};
+use std::sync::ledger::Ledger;
+use std::thread;
+use std::thread::Threads;
+use turn_pool::{Client, Gate, JobName, Pool, Seat, serve};
+
+/// How often a loop looks for what is to come.
+const LOOKS: u32 = 1_000_000_000;
+
+/// Which turns are held at the gate, and until when.
+#[derive(Clone, Copy)]
+struct Plan {
+    text: &'static str,
+    /// Each of the links has so many processes.
+    processes: u64,
+    links: usize,
+    workers: usize,
+    /// So many turns are held, the first ones.
+    held: usize,
+    /// Until so many have begun,
+    until_begun: usize,
+    /// and so many have ended,
+    until_ended: usize,
+    /// and, if so, the client has returned.
+    until_returned: bool,
+    /// The client returns once so many turns have begun
+    wanted_begun: usize,
+    /// and so many have ended.
+    wanted_ended: usize,
+    /// What the names come to that the gate is told, as each turn begins and as it ends.
+    names: usize,
+}
+
+/// What can only come to an end where turns run at once, under no lock, and where a turn that has begun is ended.
+const PLANS: [Plan; 3] = [
+    // two actors of one link: the first turn is held until the second has ended
+    Plan {
+        text: ECHOES,
+        processes: 2,
+        links: 1,
+        workers: 2,
+        held: 1,
+        until_begun: 2,
+        until_ended: 1,
+        until_returned: false,
+        wanted_begun: 2,
+        wanted_ended: 2,
+        names: 112,
+    },
+    // four links: each turn is held until four have begun
+    Plan {
+        text: ECHO,
+        processes: 1,
+        links: 4,
+        workers: 4,
+        held: 4,
+        until_begun: 4,
+        until_ended: 0,
+        until_returned: false,
+        wanted_begun: 4,
+        wanted_ended: 4,
+        names: 6004,
+    },
+    // a turn is held until the client has returned
+    Plan {
+        text: ECHO,
+        processes: 1,
+        links: 1,
+        workers: 1,
+        held: 1,
+        until_begun: 1,
+        until_ended: 0,
+        until_returned: true,
+        wanted_begun: 1,
+        wanted_ended: 0,
+        names: 1,
+    },
+];
+
+/// A number for what a gate is told of a turn: 1, and 1,000 for each link, 100 for each actor and 10 for each turn before its own.
+fn number_of(name: JobName) -> usize {
+    let turn = name.turn.min(9) as usize;
+    let actor = usize::from(name.actor).min(9);
+    1 + 1_000 * name.link.min(9) + 100 * actor + 10 * turn
+}
+
+/// A gate that holds turns as a plan says.
+#[derive(Drop)]
+struct Holds {
+    plan: Plan,
+    begun: AtomicUsize,
+    ended: AtomicUsize,
+    names_begun: AtomicUsize,
+    names_ended: AtomicUsize,
+    returned: AtomicBool,
+    in_vain: AtomicBool,
+}
+
+impl Holds {
+    fn new(plan: Plan) -> Holds {
+        Holds {
+            plan,
+            begun: AtomicUsize::new(0),
+            ended: AtomicUsize::new(0),
+            names_begun: AtomicUsize::new(0),
+            names_ended: AtomicUsize::new(0),
+            returned: AtomicBool::new(false),
+            in_vain: AtomicBool::new(false),
+        }
+    }
+
+    fn has_seen(&self, begun: usize, ended: usize) -> bool {
+        self.begun.load(Ordering::SeqCst) >= begun && self.ended.load(Ordering::SeqCst) >= ended
+    }
+
+    /// Whether it was told of the turns that the plan has, each as it began and as it ended, and held none in vain.
+    fn was_told(&self) -> bool {
+        !self.in_vain.load(Ordering::SeqCst)
+            && self.names_begun.load(Ordering::SeqCst) == self.plan.names
+            && self.names_ended.load(Ordering::SeqCst) == self.plan.names
+    }
+
+    /// Whether what holds a turn came to an end.
+    fn lets_go(&self) -> bool {
+        for _ in 0..LOOKS {
+            let returned = !self.plan.until_returned || self.returned.load(Ordering::SeqCst);
+            if returned && self.has_seen(self.plan.until_begun, self.plan.until_ended) {
+                return true;
+            }
+            thread::yield_now();
+        }
+        false
+    }
+}
+
+impl Gate for Holds {
+    fn enter(&self, name: JobName) {
+        self.names_begun
+            .fetch_add(number_of(name), Ordering::SeqCst);
+        let before = self.begun.fetch_add(1, Ordering::SeqCst);
+        if before < self.plan.held && !self.lets_go() {
+            self.in_vain.store(true, Ordering::SeqCst);
+        }
+    }
+
+    fn leave(&self, name: JobName) {
+        self.names_ended
+            .fetch_add(number_of(name), Ordering::SeqCst);
+        self.ended.fetch_add(1, Ordering::SeqCst);
+    }
+}
+
+/// A client that looks on.
+#[derive(Drop)]
+struct LooksOn<'a> {
+    gate: &'a Holds,
+}
+
+impl Client for LooksOn<'_> {
+    fn drive<R: Wait, L: Ledger>(&mut self, _pool: &Pool<'_, R, L>, _seat: &mut Seat<L>) {
+        let plan = self.gate.plan;
+        for _ in 0..LOOKS {
+            let seen = self.gate.has_seen(plan.wanted_begun, plan.wanted_ended);
+            if seen || self.gate.in_vain.load(Ordering::SeqCst) {
+                break;
+            }
+            thread::yield_now();
+        }
+        self.gate.returned.store(true, Ordering::SeqCst);
+    }
+}
+
+/// Of how many books so many turns have ended, and none is out.
+fn all_ended(books: &[Book], turns: u64) -> usize {
+    let mut ended = 0usize;
+    for book in books {
+        if book.state().outs() == 0 && book.finishes() == turns {
+            ended = ended.saturating_add(1);
+        }
+    }
+    ended
+}
+
+/// On how many links of a plan each START has run and ended; none where a turn was held in vain, or the gate was told of others.
+fn links_ended<R: Threads + Wait + Sync>(rt: &R, alloc: Global, plan: Plan) -> Option<usize> {
+    let books = links(alloc, plan.text, plan.links, 64)?;
+    let gate = Holds::new(plan);
+    match serve(
+        rt,
+        alloc,
+        books,
+        plan.workers,
+        &gate,
+        &mut LooksOn { gate: &gate },
+    ) {
+        Ok(closed) if gate.was_told() => Some(all_ended(&closed.books, plan.processes)),
+        _ => None,
+    }
+}
+
+/// The number of the first plan with which something else comes.
+fn first_other<R: Threads + Wait + Sync>(rt: &R, alloc: Global, plans: &[Plan]) -> Option<usize> {
+    for (number, plan) in plans.iter().enumerate() {
+        if links_ended(rt, alloc, *plan) != Some(plan.links) {
+            return Some(number);
+        }
+    }
+    None
+}
+
+#[test]
+fn turns_run_at_once_and_are_ended(rt: HostRuntime) {
+    assert_eq!(rt; first_other(&rt, rt.alloc(), &PLANS), None);
+}
+
+/// A gate that counts.
+#[derive(Drop)]
+struct Counts {
+    begun: AtomicUsize,
+}
+
+impl Gate for Counts {
+    fn enter(&self, _name: JobName) {
+        self.begun.fetch_add(1, Ordering::SeqCst);
+    }
+
+    fn leave(&self, _name: JobName) {}
+}
+
+/// How many turns are to begin before the pool closes: many times what a worker makes after that.
+const MANY: usize = 3000;
+
+/// A client that closes the pool once many turns have begun.
+#[derive(Drop)]
+struct Closes<'a> {
+    gate: &'a Counts,
+    begun: usize,
+}
+
+impl Client for Closes<'_> {
+    fn drive<R: Wait, L: Ledger>(&mut self, pool: &Pool<'_, R, L>, _seat: &mut Seat<L>) {
+        for _ in 0..LOOKS {
+            if self.gate.begun.load(Ordering::SeqCst) >= MANY {
+                break;
+            }
+            thread::yield_now();
+        }
+        pool.close();
+        self.begun = self.gate.begun.load(Ordering::SeqCst);
+    }
+}
+
+/// Whether as many turns have ended on each book as on the others, or one more or less.
+fn took_turns(books: &[Book]) -> bool {
+    for book in books {
+        for other in books {
+            if book.finishes() > other.finishes().saturating_add(1) {
+                return false;
+            }
+        }
+    }
+    true
+}
+
+/// How many turns had begun as the pool closed, and how many began in all, on two links that always have something to do; nothing where
+/// one of them had more turns than the other.
+fn turns_begun<R: Threads + Wait + Sync>(rt: &R, alloc: Global) -> Option<(usize, usize)> {
+    let books = links(alloc, ENDLESS, 2, 65536)?;
+    let gate = Counts {
+        begun: AtomicUsize::new(0),
+    };
+    let mut client = Closes {
+        gate: &gate,
+        begun: 0,
+    };
+    let went_round = match serve(rt, alloc, books, 1, &gate, &mut client) {
+        Ok(closed) => took_turns(&closed.books),
+        Err(_) => false,
+    };
+    if went_round {
+        Some((client.begun, gate.begun.load(Ordering::SeqCst)))
+    } else {
+        None
+    }
+}
+
+#[test]
+fn a_worker_goes_round_and_ends_though_there_is_more_to_do(rt: HostRuntime) {
+    let (closing, all) = turns_begun(&rt, rt.alloc()).unwrap_or((0, 0));
+    assert!(rt; closing >= MANY && all >= closing);
+    assert!(rt;
+        all <= closing.saturating_add(1000),
+        "1,000 at most after closing"
+    );
+}
+
+/// A gate that holds the worker as its second turn has ended, until a client has looked.
+#[derive(Drop)]
+struct HoldsEnded {
+    left: AtomicUsize,
+    looked: AtomicBool,
+    in_vain: AtomicBool,
+}
+
+impl HoldsEnded {
+    /// Whether the client comes to look.
+    fn is_looked_at(&self) -> bool {
+        for _ in 0..LOOKS {
+            if self.looked.load(Ordering::SeqCst) {
+                return true;
+            }
+            thread::yield_now();
+        }
+        false
+    }
+}
+
+impl Gate for HoldsEnded {
+    fn enter(&self, _name: JobName) {}
+
+    fn leave(&self, _name: JobName) {
+        let before = self.left.fetch_add(1, Ordering::SeqCst);
+        if before == 1 && !self.is_looked_at() {
+            self.in_vain.store(true, Ordering::SeqCst);
+        }
+    }
+}
+
+/// A client that offers a signal, and takes what came of it while the gate holds the worker.
+#[derive(Drop)]
+struct TakesHeld<'a> {
+    gate: &'a HoldsEnded,
+    taken: bool,
+}
+
+impl Client for TakesHeld<'_> {
+    fn drive<R: Wait, L: Ledger>(&mut self, pool: &Pool<'_, R, L>, seat: &mut Seat<L>) {
+        let _offered = pool.offer(0, 0, UP, &[], seat);
+        for _ in 0..LOOKS {
+            if self.gate.left.load(Ordering::SeqCst) >= 2 {
+                break;
+            }
+            thread::yield_now();
+        }
+        self.taken = pool.take_env(0, seat).is_ok();
+        self.gate.looked.store(true, Ordering::SeqCst);
+    }
+}
+
+/// Whether what a turn sent could be taken while the gate was being told of its end.
+fn is_taken_held<R: Threads + Wait + Sync>(rt: &R, alloc: Global) -> bool {
+    let Some(books) = links(alloc, ECHO, 1, 64) else {
+        return false;
+    };
+    let gate = HoldsEnded {
+        left: AtomicUsize::new(0),
+        looked: AtomicBool::new(false),
+        in_vain: AtomicBool::new(false),
+    };
+    let mut client = TakesHeld {
+        gate: &gate,
+        taken: false,
+    };
+    match serve(rt, alloc, books, 1, &gate, &mut client) {
+        Ok(_) => client.taken && !gate.in_vain.load(Ordering::SeqCst),
+        Err(_) => false,
+    }
+}
+
+#[test]
+fn a_gate_is_told_of_a_turn_behind_its_end_and_under_no_lock(rt: HostRuntime) {
+    assert!(rt; is_taken_held(&rt, rt.alloc()));
+}

@@ -1,0 +1,85 @@
+//! Calls of a terminal, and why they stop a trial. What their clauses say ends here: a trial shows what none of them says.
+ghost use Rattle.std.specs.Prelude.{◌≤◌, length};
+
+use link_term::{CallError, Command, Mode, Msu, NewError, Report, Terminal};
+use std::alloc::{AllocError, Global};
+
+/// Why a trial stopped.
+#[derive(Clone, Copy)]
+pub enum Stopped {
+    /// There is no memory.
+    NoMemory,
+    /// A terminal wasn't made, or refused what it was told.
+    Refused,
+    /// A line is no step or no run, or there is no such kind of trial.
+    BadLine,
+}
+
+impl From<AllocError> for Stopped {
+    fn from(_error: AllocError) -> Stopped {
+        Stopped::NoMemory
+    }
+}
+
+/// Why a terminal did not do what it was told.
+fn why_stopped(error: CallError) -> Stopped {
+    match error {
+        CallError::NoMemory => Stopped::NoMemory,
+        CallError::Refused(_) => Stopped::Refused,
+    }
+}
+
+/// A new terminal.
+pub fn terminal(alloc: Global, mode: Mode) -> Result<Terminal, Stopped> {
+    match Terminal::new(alloc, mode) {
+        Ok(terminal) => Ok(terminal),
+        Err(NewError::NoMemory) => Err(Stopped::NoMemory),
+        Err(_) => Err(Stopped::Refused),
+    }
+}
+
+/// Tells a terminal something.
+pub fn tell(terminal: &mut Terminal, command: Command) -> Result<(), Stopped> {
+    match terminal.command(command) {
+        Ok(()) => Ok(()),
+        Err(error) => Err(why_stopped(error)),
+    }
+}
+
+/// Lets so many milliseconds pass at a terminal.
+pub fn pass(terminal: &mut Terminal, ticks: u64) -> Result<(), Stopped> {
+    match terminal.tick(ticks) {
+        Ok(_) => Ok(()),
+        Err(error) => Err(why_stopped(error)),
+    }
+}
+
+/// Gives a terminal a message to send. Whether it took it.
+pub fn put(terminal: &mut Terminal, msu: Msu) -> bool
+    requires { 2 ≤ length msu.sif.items }
+{
+    terminal.put(msu).is_ok()
+}
+
+/// How many messages wait at a terminal to go out for the first time in this spell.
+pub fn waiting(terminal: &Terminal) -> usize {
+    terminal.held().saturating_sub(terminal.sent())
+}
+
+/// The line octets of so many units.
+pub fn speak(terminal: &mut Terminal, units: usize) -> Result<Vec<u8>, Stopped> {
+    match terminal.line_out(units) {
+        Ok(octets) => Ok(octets),
+        Err(_) => Err(Stopped::NoMemory),
+    }
+}
+
+/// Gives a terminal line octets. Whether it took them all.
+pub fn hear(terminal: &mut Terminal, octets: &[u8]) -> bool {
+    terminal.line_in(octets) == octets.len()
+}
+
+/// What a terminal hands out next.
+pub fn next_report(terminal: &mut Terminal) -> Option<Report> {
+    terminal.report()
+}

@@ -1,0 +1,121 @@
+//! `trials`: many trials of what no clause says, one after another, with a line `== NAME` before each in standard input. Behind it comes a
+//! line that says its kind, and then the trial. For each the name is printed, what it has to show, and an empty line.
+//!
+//! - `text`: a process text. Shows what `check` prints.
+//! - `script`: the text of a set, or `standard` or `monitors`, a line `--`, and a script; where the line `--` comes first the set is that
+//!   of the script before. Shows what `play` prints, and a line `exit N` with its status.
+//! - `heard`: line octets, with the units that another receiver found in them ([`heard`]). Shows how many of them `bit_line` doesn't find.
+//! - `runs`: a run in each line. Two terminals, whose lines are tied together, carry messages: what goes out at one end comes in at the
+//!   other, octet by octet, over a line that flips, drops and doubles bits, by a seeded generator. Shows how many messages were sent and
+//!   delivered each way, how many bits were damaged, how often messages went out once more, how often the link came into service, and
+//!   whether the messages of each spell of service came in order, none twice and none missing. A run is six words: basic or cyclic, the
+//!   seed, the rate (of so many bits one is flipped, one dropped and one doubled, 0 for none), how many messages go each way, how many are
+//!   given to each end in a round, how many units go one way in a round.
+//! - `reports`: what is done with two such terminals, a step in each line ([`steps`]), over a line without damage. Shows what the near one
+//!   hands out at each step that asks for it: messages before what was told of the link, that it came into service, that it went down and
+//!   why, that the far side's processor is out and back; and how many line octets many units are that go out at once.
+#![tactic(auto)]
+
+mod calls;
+mod end;
+mod figures;
+mod heard;
+mod lines;
+mod noise;
+mod pair;
+mod reports;
+mod run;
+mod shown;
+mod steps;
+mod texts;
+
+use crate::calls::Stopped;
+use crate::heard::compare;
+use crate::lines::make_runs;
+use crate::reports::report_all;
+use crate::texts::{check_text, play_script};
+use std::alloc::Global;
+use std::io::{self, BufReader, ErrorKind, Read};
+use std::rt::Runtime;
+use std::str;
+
+/// What the program says where a trial can't be made.
+fn failure(why: Stopped) -> io::Error {
+    match why {
+        Stopped::NoMemory => io::Error::from(ErrorKind::OutOfMemory),
+        Stopped::Refused => io::Error::from(ErrorKind::Other),
+        Stopped::BadLine => io::Error::from(ErrorKind::InvalidData),
+    }
+}
+
+/// Makes a trial of the line or of terminals, and writes what it has to show.
+fn make(alloc: Global, text: &mut String, kind: &str, trial: &str) -> Result<(), Stopped> {
+    match kind {
+        "heard" => compare(alloc, text, trial),
+        "runs" => make_runs(alloc, text, trial),
+        "reports" => report_all(alloc, text, trial),
+        _ => Err(Stopped::BadLine),
+    }
+}
+
+/// Makes such a trial, and prints what it has to show, as far as it goes.
+fn show<R: Runtime + AllocGlobal>(rt: &R, kind: &str, trial: &str) -> io::Result<()> {
+    let mut text = String::new(rt.alloc());
+    let made = make(rt.alloc(), &mut text, kind, trial);
+    rt.print(text)?;
+    match made {
+        Ok(()) => Ok(()),
+        Err(why) => Err(failure(why)),
+    }
+}
+
+/// Makes a trial of a kind. Gives the set of the last script.
+fn try_kind<'a, R: Runtime + AllocGlobal>(
+    rt: &R,
+    kind: &str,
+    trial: &'a str,
+    before: &'a str,
+) -> io::Result<&'a str> {
+    match kind {
+        "text" => {
+            check_text(rt, trial)?;
+            Ok(before)
+        }
+        "script" => play_script(rt, trial, before),
+        _ => {
+            show(rt, kind, trial)?;
+            Ok(before)
+        }
+    }
+}
+
+/// Makes the trial of an entry: a line with its name, one with its kind, and the trial. Gives the set of the last script.
+fn try_entry<'a, R: Runtime + AllocGlobal>(
+    rt: &R,
+    entry: &'a str,
+    before: &'a str,
+) -> io::Result<&'a str> {
+    let Some((name, rest)) = entry.split_once('\n') else {
+        return Ok(before);
+    };
+    let Some((kind, trial)) = rest.split_once('\n') else {
+        return Err(io::Error::from(ErrorKind::InvalidData));
+    };
+    println!(rt; "{name}")?;
+    let set = try_kind(rt, kind, trial, before)?;
+    println!(rt; "")?;
+    Ok(set)
+}
+
+fn main(rt: HostRuntime) -> io::Result<()> {
+    let mut bytes = Vec::new(rt.alloc());
+    BufReader::new(rt.alloc(), rt.reader())?.read_to_end(&mut bytes)?;
+    let Ok(table) = str::from_utf8(&bytes) else {
+        return Err(io::Error::from(ErrorKind::InvalidData));
+    };
+    let mut set = "";
+    for entry in table.split("\n== ") {
+        set = try_entry(&rt, entry, set)?;
+    }
+    Ok(())
+}
