@@ -231,6 +231,14 @@ const LACKS_NOBODY_KNOWS: [Step; 7] = [
     Step::Sends(126, 127, 1),
 ];
 
+/// The far side has none of a hundred that were sent, and more wait.
+const LACKS_MANY: [Step; 4] = [
+    Step::Takes(0, 255),
+    Step::Sends(0, 100, 1),
+    Step::HandsOut(Some(127), 0, 255),
+    Step::Keeps(0, 0),
+];
+
 /// What is unacknowledged goes out in turn while nothing new waits.
 const IN_TURN: [Step; 14] = [
     Step::Takes(0, 3),
@@ -279,6 +287,7 @@ fn senders_exchange_units(rt: HostRuntime) {
     assert_eq!(rt; first_other(rt.alloc(), Mode::Basic, &BY_REQUEST), None);
     assert_eq!(rt; first_other(rt.alloc(), Mode::Basic, &FULL), None);
     assert_eq!(rt; first_other(rt.alloc(), Mode::Basic, &LACKS_FOUR), None);
+    assert_eq!(rt; first_other(rt.alloc(), Mode::Basic, &LACKS_MANY), None);
     assert_eq!(rt;
         first_other(rt.alloc(), Mode::Basic, &LACKS_NOBODY_KNOWS),
         None
