@@ -8,6 +8,7 @@ ghost use Rattle.sdl_sound.specs.Orders.{IsOrder};
 ghost use Rattle.sdl_measures.specs.Measures.{AreMeasures};
 ghost use Rattle.sdl_meaning.specs.Act.{scope_of};
 ghost use Rattle.sdl_emit.specs.Scopes.{scope_in};
+ghost use Rattle.sdl_emit.specs.Uses.{IsUseTable};
 ghost use Rattle.sdl_compile.specs.Contexts.{IsContext};
 ghost use Rattle.sdl_meaning.specs.Declarations.{drafted_signals};
 ghost use Rattle.turn_code.specs.Sets.{initial_set};
@@ -19,7 +20,7 @@ ghost use Rattle.profile_limits.specs.Limits.{MOST_PROCESSES};
 use crate::piece::compile_transition;
 use crate::state::{Context, compile_states, draft_name};
 use crate::variables::compile_variables;
-use sdl_emit::{Body, Names, find_joins};
+use sdl_emit::{Body, Names, UseTable, find_uses};
 use sdl_facts::Setting;
 use sdl_rules::{Measure, standing_inputs};
 use sdl_tables::{BlockTable, NameTable, ProcessTable};
@@ -87,6 +88,26 @@ fn compile_all(
     compile_states(alloc, context, &saves, &inputs, sets)
 }
 
+/// What the names in the transitions of a process stand for, each looked up once.
+fn use_table<'a>(
+    alloc: Global,
+    block: &'a BlockTable<'a>,
+    table: &'a ProcessTable<'a>,
+) -> Result<UseTable, AllocError>
+    requires ready { IsReadyProcess (scope_of (block_of block.now) (process_of table.now)) }
+    requires few { length (process_names (block_of block.now)) ≤ MOST_PROCESSES }
+    ensures { IfOk result (IsUseTable (scope_of (block_of block.now) (process_of table.now))) }
+{
+    let none = UseTable::empty(alloc);
+    let names = Names {
+        block: &*block,
+        process: &*table,
+        uses: &none,
+    };
+    let uses = find_uses(alloc, &names)?;
+    Ok(uses)
+}
+
 /// What the rules have found of a process: for each state the variables that are set whenever the process is there, an
 /// order of its connections in which each stands behind all that it joins, and what they measure.
 #[derive(Drop)]
@@ -119,11 +140,11 @@ pub fn compile_process<'a>(
 {
     let variables = compile_variables(alloc, table.rows())?;
     let timers = compile_timers(alloc, table.timers())?;
-    let joins = find_joins(alloc, table)?;
+    let uses = use_table(alloc, block, table)?;
     let names = Names {
         block: &*block,
         process: &*table,
-        joins: &joins,
+        uses: &uses,
     };
     let process = table.process();
     let copies = trim_connections(alloc, &process.connections)?;

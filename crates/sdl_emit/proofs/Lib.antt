@@ -6,5 +6,5 @@ pub mod Landed
 pub mod Marked
 pub mod Once
 pub mod Spacing
-pub mod Targeted
 pub mod Trimming
+pub mod Used

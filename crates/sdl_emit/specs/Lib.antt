@@ -1,4 +1,4 @@
 pub mod Landing
 pub mod Placing
 pub mod Scopes
-pub mod Targets
+pub mod Uses

@@ -2,14 +2,14 @@
 ghost use Rattle.std.specs.Prelude.{◌≡◌, ◌≤◌, length, IsSome};
 ghost use Rattle.sdl_ast.specs.Views.{tree_of, block_of, process_of};
 ghost use Rattle.sdl_sound.specs.Receivers.{party_of, receivers};
-ghost use Rattle.sdl_tables.specs.Names.{variable_names, states_of, timers_of, signal_names, process_names};
-ghost use Rattle.sdl_meaning.specs.Act.{variable_at, state_at, timer_at, connector_at, signal_at, is_truth, numbered, the_one};
+ghost use Rattle.sdl_tables.specs.Names.{number_of, variable_names, states_of, timers_of, signal_names, process_names};
+ghost use Rattle.sdl_meaning.specs.Act.{scope_of, variable_at, state_at, timer_at, connector_at, signal_at, is_truth, numbered, the_one};
 ghost use Rattle.sdl_meaning.specs.Named.{HasReceiver};
 ghost use Rattle.sdl_meaning.specs.Code.{number_or_zero, party_or_environment, receiver_code};
-ghost use Rattle.sdl_emit.specs.Targets.{IsJoinTable};
-ghost use Rattle.profile_limits.specs.Limits.{MOST_PROCESSES, MOST_SIGNALS, MOST_STATES, MOST_TIMERS_EACH, MOST_VARIABLES};
+ghost use Rattle.sdl_emit.specs.Uses.{IsUseTable, IsUseTable-prop};
+ghost use Rattle.profile_limits.specs.Limits.{MOST_VARIABLES, MOST_STATES, MOST_TIMERS_EACH, MOST_SIGNALS, MOST_PROCESSES};
 
-use crate::joins::JoinTable;
+use crate::uses::UseTable;
 use sdl_ast::{Destination, Expression, Identifier, Sort};
 use sdl_sorts::sort_in;
 use sdl_statements::{Recipients, find_receivers};
@@ -23,8 +23,8 @@ use turn_code::{
 pub struct Names<'a> {
     pub block: &'a BlockTable<'a>,
     pub process: &'a ProcessTable<'a>,
-    pub joins: &'a JoinTable,
-    pub ghost joined: { IsJoinTable (process_of process.now) joins.now },
+    pub uses: &'a UseTable,
+    pub ghost used: { IsUseTable (scope_of (block_of block.now) (process_of process.now)) uses.now } by { IsUseTable-prop (scope_of (block_of block.now) (process_of process.now)) uses.now },
     pub ghost few_variables: { length (variable_names (process_of process.now)) ≤ MOST_VARIABLES },
     pub ghost few_states: { length (states_of (process_of process.now)) ≤ MOST_STATES },
     pub ghost few_timers: { length (timers_of (process_of process.now)) ≤ MOST_TIMERS_EACH },
@@ -40,6 +40,9 @@ impl Names<'_> {
         requires { IsSome (variable_at (scope_in self.now) id.now) }
         ensures { result.0 ≡ number_or_zero (variable_at (scope_in self.now) id.now) }
     {
+        if let Some(number) = self.uses.variable(id) {
+            return number;
+        }
         match self.process.variables().number(id.name) {
             Some(number) => VariableNumber(number as u8),
             None => unreachable!(),
@@ -73,7 +76,7 @@ impl Names<'_> {
         requires { IsSome (connector_at (scope_in self.now) id.now) }
         ensures { result ≡ number_or_zero (connector_at (scope_in self.now) id.now) }
     {
-        if let Some(number) = self.joins.number(id) {
+        if let Some(number) = self.uses.connection(id) {
             return number;
         }
         match self.process.connectors().number(id.name) {
@@ -87,6 +90,9 @@ impl Names<'_> {
         requires { IsSome (signal_at (scope_in self.now) id.now) }
         ensures { result.0 ≡ number_or_zero (signal_at (scope_in self.now) id.now) }
     {
+        if let Some(number) = self.uses.signal(id) {
+            return number;
+        }
         match self.block.signals().number(id.name) {
             Some(number) => SignalNumber(number as u8),
             None => unreachable!(),
@@ -103,6 +109,20 @@ impl Names<'_> {
         }
     }
 
+    /// The number of a process that is there.
+    fn receiving(&self, id: &Identifier) -> ProcessNumber
+        requires { IsSome (number_of (process_names (block_of self.now.block.now)) id.now.name) }
+        ensures { result.0 ≡ number_or_zero (number_of (process_names (block_of self.now.block.now)) id.now.name) }
+    {
+        if let Some(number) = self.uses.process(id) {
+            return number;
+        }
+        match self.block.processes().number(id.name) {
+            Some(number) => ProcessNumber(number as u8),
+            None => unreachable!(),
+        }
+    }
+
     /// A party that is there, by its number.
     fn party(&self, party: &sdl_ast::Party) -> Party
         requires { IsSome (numbered (scope_in self.now) party.now) }
@@ -110,10 +130,7 @@ impl Names<'_> {
     {
         match party {
             sdl_ast::Party::Environment => Party::Environment,
-            sdl_ast::Party::Process(id) => match self.block.processes().number(id.name) {
-                Some(number) => Party::Process(ProcessNumber(number as u8)),
-                None => unreachable!(),
-            },
+            sdl_ast::Party::Process(id) => Party::Process(self.receiving(id)),
         }
     }
 
@@ -122,6 +139,9 @@ impl Names<'_> {
         requires { HasReceiver (scope_in self.now) None signal.now }
         ensures { result ≡ party_or_environment (the_one (scope_in self.now) (receivers (block_of self.now.block.now) (party_of (process_of self.now.process.now)) signal.now.name)) }
     {
+        if let Some(party) = self.uses.recipient(signal) {
+            return party;
+        }
         let own = sdl_ast::Party::Process(self.process.process().name);
         match find_receivers(self.block, &own, signal.name) {
             Recipients::One(party) => self.party(&party),
