@@ -73,6 +73,24 @@ fn a_list_of_events_runs(rt: HostRuntime) {
     assert_eq!(rt; ran(rt.alloc()), Some([2, 3, 0, 6, 0]));
 }
 
+/// How many answers so many events have, each of which looks for what the environment was sent.
+fn answers_to(alloc: Global, count: usize) -> Option<usize> {
+    let mut book = opened(alloc)?;
+    let mut events = Vec::new(alloc);
+    for _ in 0..count {
+        events.push(Event::TakeEnv).ok()?;
+    }
+    match run_events(alloc, &mut book, events.as_slice()) {
+        Ok(replies) => Some(replies.len()),
+        Err(_) => None,
+    }
+}
+
+#[test]
+fn a_long_list_of_events_runs(rt: HostRuntime) {
+    assert_eq!(rt; answers_to(rt.alloc(), 3_000), Some(3_000));
+}
+
 /// The same once its journal is emptied.
 fn rebased(alloc: Global) -> Option<[u64; 5]> {
     let mut book = opened(alloc)?;
