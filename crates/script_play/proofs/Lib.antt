@@ -1,5 +1,2 @@
 mod Refusals
-mod TermAnswers
-mod TermRuns
 mod Texts
-mod UnitLaws

@@ -1,4 +1,1 @@
-pub mod UnitLines
-pub mod TermAnswers
-pub mod TermRuns
 pub mod Played

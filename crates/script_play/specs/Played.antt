@@ -12,7 +12,7 @@ use Rattle.text_check.specs.Checked.{IsGiven, IsSetOf, PrintsRefusal}
 use Rattle.text_check.specs.Printed.{line_of}
 use Rattle.text_check.specs.declared.sets.SetWord.{SetWord}
 use Rattle.text_check.specs.declared.sets.SetWord.TheVariants.{Standard, Monitors, Text}
-use Rattle.script_play.specs.TermRuns.{IsOfNew, IsTermWritten, IsTermMissed}
+use Rattle.term_play.specs.TermRuns.{IsOfNew, IsTermWritten, IsTermMissed}
 
 -- terminals run the set `standard` alone
 abbrev pub has_terminals : {R : Type 0} → SetWord R → Bool

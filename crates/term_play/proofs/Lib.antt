@@ -1,0 +1,3 @@
+mod TermAnswers
+mod TermRuns
+mod UnitLaws

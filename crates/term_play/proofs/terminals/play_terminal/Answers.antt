@@ -1,0 +1,37 @@
+use Rattle.std.proofs.Common.{[], List, map, subst}
+use Rattle.term_lines.specs.TermScripts.{plain_term_said}
+use Rattle.term_lines.specs.declared.script.TermSaid.{TermSaid}
+use Rattle.term_play.specs.TermRuns.{last_of, IsTermRun, IsTermMissed}
+use Rattle.term_play.proofs.TermRuns.{run_begins}
+use Rattle.term_play.proofs.terminals.play_terminal.Goals as goal
+
+pub returns-in-Ok-run-clause-held : goal.returns-in-Ok-run-clause-held
+returns-in-Ok-run-clause-held g c held =
+    let P : List TermSaid → Type 0 =
+    λ commands. IsTermRun c.in-Ok.terminal (map plain_term_said commands) (g.W.Write.contents c.args.writer.now) (g.W.Write.contents c.run.new.writer)
+    c.run.new.self.terminal (last_of c.run.new.self) in
+    record {
+      terminal = c.in-Ok.terminal;
+      is_new = c.in-Ok.ensures.ok;
+      holds = record {
+        now = c.run.new.self.terminal;
+        last = last_of c.run.new.self;
+        run =
+            subst P c.deref.ensures.value
+            (c.in-Ok-run.ensures.held held c.in-Ok.terminal [] (g.W.Write.contents c.args.writer.now)
+            (run_begins c.in-Ok.terminal (g.W.Write.contents c.args.writer.now)));
+      };
+    }
+
+pub returns-in-Ok-run-clause-missed : goal.returns-in-Ok-run-clause-missed
+returns-in-Ok-run-clause-missed g c missed =
+    let P : List TermSaid → Type 0 =
+    λ commands. IsTermMissed (map plain_term_said commands) (g.W.Write.contents c.args.writer.now) (g.W.Write.contents c.run.new.writer) c.in-Ok.terminal in
+    record {
+      terminal = c.in-Ok.terminal;
+      is_new = c.in-Ok.ensures.ok;
+      holds =
+          subst P c.deref.ensures.value
+          (c.in-Ok-run.ensures.missed missed c.in-Ok.terminal [] (g.W.Write.contents c.args.writer.now)
+          (run_begins c.in-Ok.terminal (g.W.Write.contents c.args.writer.now)));
+    }

@@ -1,0 +1,3 @@
+pub mod UnitLines
+pub mod TermAnswers
+pub mod TermRuns

@@ -1,0 +1,10 @@
+//! A terminal's script as it runs: what each command makes of the terminal, and the lines that are printed for it.
+#![tactic(auto)]
+
+mod answers;
+mod orders;
+mod terminals;
+mod unit_line;
+
+pub use terminals::play_terminal;
+pub use unit_line::line_of_unit;
