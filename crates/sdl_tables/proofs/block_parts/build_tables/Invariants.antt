@@ -2,7 +2,7 @@ use Rattle.std.proofs.Common.{◌≡◌, map, take, None, []}
 use Rattle.std.specs.List.{flat_map}
 use Rattle.sdl_ast.specs.Views.{process_of}
 use Rattle.sdl_tables.specs.Scopes.{Marks, repeats, process_scopes}
-use Rattle.sdl_tables.proofs.block_table.build_tables.Given as goal
+use Rattle.sdl_tables.proofs.block_parts.build_tables.Given as goal
 
 abbrev pub invariant-loop-process : goal.invariant-loop-process
 invariant-loop-process l =

@@ -7,8 +7,8 @@ use Rattle.sdl_ast.specs.Views.{process_of}
 use Rattle.sdl_tables.specs.Scopes.{Marks, IsDouble, repeats, process_scopes}
 use Rattle.sdl_tables.specs.declared.fault.TableFault.{TableFault}
 use Rattle.sdl_tables.proofs.BlockLemmas.{Marks-nothing, Marks-one, Marks-some}
-use Rattle.sdl_tables.proofs.block_table.build_tables.Goals as goal
-use Rattle.sdl_tables.proofs.block_table.build_tables.Goals.{in-Ok+in_ok-push-in-Ok, in-Err-DoubleName}
+use Rattle.sdl_tables.proofs.block_parts.build_tables.Goals as goal
+use Rattle.sdl_tables.proofs.block_parts.build_tables.Goals.{in-Ok+in_ok-push-in-Ok, in-Err-DoubleName}
 
 abbrev twice : Bor the_process.Process → List ℕ
 twice p = flat_map (repeats []) (process_scopes (process_of p.now))

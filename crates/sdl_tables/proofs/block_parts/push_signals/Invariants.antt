@@ -1,6 +1,6 @@
 use Rattle.std.proofs.Common.{◌≡◌, map, ◌++◌, take}
 use Rattle.sdl_ast.specs.Views.{signal_of}
-use Rattle.sdl_tables.proofs.block_table.push_signals.Given as goal
+use Rattle.sdl_tables.proofs.block_parts.push_signals.Given as goal
 
 abbrev pub invariant-loop-signal : goal.invariant-loop-signal
 invariant-loop-signal l =

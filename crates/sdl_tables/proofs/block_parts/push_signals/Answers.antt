@@ -2,7 +2,7 @@ use denote.Ref.{Bor}
 use Rattle.sdl_ast.specs.Views.{signal_of}
 use Rattle.sdl_ast.specs.declared.tree.SignalDeclaration.{SignalDeclaration}
 use Rattle.sdl_tables.proofs.Growing.{taken_more, map_on, pushed}
-use Rattle.sdl_tables.proofs.block_table.push_signals.Goals as goal
+use Rattle.sdl_tables.proofs.block_parts.push_signals.Goals as goal
 
 pub loop-signal-preserved : goal.loop-signal-preserved
 loop-signal-preserved c =
