@@ -104,24 +104,6 @@ fn process_ids(alloc: Global, rows: &[&Process]) -> Result<Vec<Identifier>, Allo
     rows.iter().map(|row| row.name).collect(alloc)
 }
 
-/// The place of the first name of a route that one before it has.
-fn route_double(alloc: Global, rows: &[&Route]) -> Result<Option<u32>, AllocError>
-    ensures { IfOk result (λ double. Marks double (repeats [] (map (λ r. r.now.name) rows.now))) }
-{
-    let ids = route_ids(alloc, rows)?;
-    Ok(index_names(alloc, &ids)?.double)
-}
-
-/// The names of processes by number, and the first that is there twice.
-fn index_processes(alloc: Global, rows: &[&Process]) -> Result<Scope, AllocError>
-    ensures names { IfOk result (λ s. s.names ≡ names_once (map (λ p. p.now.name) rows.now)) }
-    ensures double { IfOk result (λ s. Marks s.double (repeats [] (map (λ p. p.now.name) rows.now))) }
-{
-    let ids = process_ids(alloc, rows)?;
-    let scope = index_names(alloc, &ids)?;
-    Ok(scope)
-}
-
 /// The first timer of a process that is named as a signal.
 fn signal_timers_in(signals: &NameTable, processes: &[&Process]) -> Option<u32>
     ensures { Marks result (flat_map (λ p. shared signals.now (timers_of (process_of p.now))) processes.now) }
@@ -218,12 +200,13 @@ pub(crate) fn table_routes<'a>(
     ensures double { IfOk result (λ r. Marks r.double (repeats [] (route_names (block_of block.now)))) }
 {
     let rows = collect_routes(alloc, &block.entities)?;
-    let double = route_double(alloc, &rows)?;
+    let ids = route_ids(alloc, &rows)?;
+    let scope = index_names(alloc, &ids)?;
     let index = RouteIndex::new(alloc, &rows)?;
     Ok(BlockRoutes {
         rows,
         index,
-        double,
+        double: scope.double,
     })
 }
 
@@ -252,7 +235,8 @@ pub(crate) fn table_processes<'a>(
     ensures shared { IfOk result (λ p. Marks p.shared (signal_timers (block_of block.now))) }
 {
     let rows = collect_processes(alloc, &block.entities)?;
-    let Scope { names, double } = index_processes(alloc, &rows)?;
+    let ids = process_ids(alloc, &rows)?;
+    let Scope { names, double } = index_names(alloc, &ids)?;
     let built = build_tables(alloc, &rows)?;
     let shared = signal_timers_in(signals, &rows);
     Ok(BlockProcesses {

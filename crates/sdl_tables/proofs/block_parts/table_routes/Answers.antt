@@ -18,14 +18,14 @@ returns-clause-index c =
     let rows : map (λ r. route_of r.now) c.in_ok-rows.rows.items ≡ routes_of (block_of c.args.block.now) =
     c.in_ok-rows.ensures ∙ ap (λ es. flat_map routes_in (map entity_of es)) c.deref.ensures.value in
     subst (λ (rs : List PlainRoute). Indexes c.in_ok-index.index (flat_map mentions_of (flat_map (λ r. r.paths) rs)))
-    (ap (map (λ r. route_of r.now)) c.deref-3.ensures.value ∙ rows) c.in_ok-index.ensures
+    (ap (map (λ r. route_of r.now)) c.deref-4.ensures.value ∙ rows) c.in_ok-index.ensures
 
 pub returns-clause-double : goal.returns-clause-double
 returns-clause-double c =
     let b = block_of c.args.block.now in
     let rows : map (λ r. route_of r.now) c.in_ok-rows.rows.items ≡ routes_of b =
     c.in_ok-rows.ensures ∙ ap (λ es. flat_map routes_in (map entity_of es)) c.deref.ensures.value in
-    let named : map (λ r. r.now.name) c.deref-2.result.now ≡ route_names b =
-    route_ids-of_rows b c.in_ok-rows.rows.items (map (λ r. r.now.name) c.deref-2.result.now) rows
-    (ap (map (λ r. r.now.name)) c.deref-2.ensures.value) in
-    subst (λ (ids : List Identifier). Marks c.in_ok-double.double (repeats [] ids)) named c.in_ok-double.ensures
+    let named : c.deref-3.result.now ≡ route_names b =
+    route_ids-of_rows b c.in_ok-rows.rows.items c.deref-3.result.now rows
+    (c.deref-3.ensures.value ∙ (c.in_ok-ids.ensures ∙ ap (map (λ r. r.now.name)) c.deref-2.ensures.value)) in
+    subst (λ (ids : List Identifier). Marks c.in_ok-scope.scope.double (repeats [] ids)) named c.in_ok-scope.ensures.double

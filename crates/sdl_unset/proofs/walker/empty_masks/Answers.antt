@@ -11,6 +11,6 @@ all_empty (m ∷ ms) h (suc q) = all_empty ms (λ k. h (suc k)) q
 
 pub loop-state-preserved : goal.loop-state-preserved
 loop-state-preserved c = (
-    ap length c.in_ok-push.ensures.items ∙ (length-append c.loop-state.masks.items (0 ∷ []) ∙ ap (λ n. n + 1) c.loop-state.invariant.0),
-    λ q. ap (λ ms. mask_at ms q) c.in_ok-push.ensures.items ∙ all_empty c.loop-state.masks.items c.loop-state.invariant.1 q,
-  )
+  ap length c.in_ok-push.ensures.items ∙ (length-append c.loop-state.masks.items (0 ∷ []) ∙ ap (λ n. n + 1) c.loop-state.invariant.0),
+  λ q. ap (λ ms. mask_at ms q) c.in_ok-push.ensures.items ∙ all_empty c.loop-state.masks.items c.loop-state.invariant.1 q,
+)

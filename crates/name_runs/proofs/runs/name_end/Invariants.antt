@@ -1,6 +1,6 @@
 use Rattle.std.proofs.Common.{◌≡◌, ℕ, ◌-◌, ◌<◌, ◌≤◌, true, length, get_or}
-use Rattle.sdl_lex.specs.Spelling.{is_name_byte}
-use Rattle.sdl_lex.proofs.scan.name_end.Given as goal
+use Rattle.name_runs.specs.Runs.{is_name_byte}
+use Rattle.name_runs.proofs.runs.name_end.Given as goal
 
 abbrev pub invariant-loop-end : goal.invariant-loop-end
 invariant-loop-end l =
