@@ -37,6 +37,7 @@ fn survey_fates(
     fates: &[Fate],
     places: &[Option<u32>],
 ) -> Result<Result<Vec<u32>, Unset>, AllocError>
+    requires few { length (variables_of (process_of table.now)) ≤ MOST_VARIABLES }
     requires known { process_unknown (block_of block.now) (process_of table.now) ≡ [] }
     requires fates { AreFates (process_of table.now) fates.now }
     ensures { IfOk result (IsSurvey (block_of block.now) (process_of table.now)) }

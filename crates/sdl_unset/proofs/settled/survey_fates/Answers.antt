@@ -1,4 +1,4 @@
-use Rattle.std.proofs.Common.{◌≡◌, ◌<◌, ℕ, List, Option, Some, length, arith, sym, ap, ◌∙◌, subst}
+use Rattle.std.proofs.Common.{◌≡◌, ◌<◌, ◌≤◌, ℕ, List, Option, Some, length, arith, sym, ap, ◌∙◌, subst}
 use Rattle.std.specs.Prelude.{IfNone, IfSome, slice_get}
 use Rattle.sdl_ast.specs.Views.{process_of, block_of}
 use Rattle.sdl_ast.specs.declared.expression.Identifier.{Identifier}
@@ -6,10 +6,14 @@ use Rattle.sdl_tables.specs.Names.{variable_names, states_of}
 use Rattle.sdl_unset.specs.Fates.{AreSet, IsUnsetAt, fate_path, HasFirst}
 use Rattle.sdl_unset.proofs.Surveying.{survey_steps, survey_reads, survey_names, survey_shortest, survey_first, number_within}
 use Rattle.sdl_unset.proofs.Settling.{settled, never}
+use Rattle.profile_limits.specs.Limits.{MOST_VARIABLES}
 use Rattle.sdl_unset.proofs.settled.survey_fates.Goals as goal
 
-pub returns-in-None : goal.returns-in-None
-returns-in-None c =
+pub sets_in-requires : goal.sets_in-requires
+sets_in-requires c = subst (λ (n : ℕ). n ≤ MOST_VARIABLES) (sym c.requires.fates.count) c.requires.few
+
+pub returns-in_ok-sets-in-None : goal.returns-in_ok-sets-in-None
+returns-in_ok-sets-in-None c =
     let p = process_of c.args.table.now in
     let fates = c.args.fates.now in
     let set : AreSet fates = subst (λ (o : Option ℕ). IfNone o (AreSet fates)) c.in-None.is c.find_first.ensures.none in
@@ -35,8 +39,8 @@ named_path-requires c =
     let unset : IsUnsetAt fates n = subst (λ (o : Option ℕ). IfSome o (IsUnsetAt fates)) c.in-Some.is c.find_first.ensures.found in
     survey_steps (process_of c.args.table.now) fates n c.requires.fates unset c.path_at.result.now c.path_at.ensures
 
-pub returns : goal.returns
-returns c =
+pub returns-in_ok-path-in-Some : goal.returns-in_ok-path-in-Some
+returns-in_ok-path-in-Some c =
     let b = block_of c.args.block.now in
     let p = process_of c.args.table.now in
     let fates = c.args.fates.now in

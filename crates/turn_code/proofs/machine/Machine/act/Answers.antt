@@ -132,9 +132,6 @@ returns-in-Drop-clause-exact c = rw c.in-Drop.is c.throw_away.ensures.exact
 pub returns-in-Drop-clause-stays : goal.returns-in-Drop-clause-stays
 returns-in-Drop-clause-stays c = c.throw_away.ensures.stays
 
-pub returns-in-Jump-clause-exact : goal.returns-in-Jump-clause-exact
-returns-in-Jump-clause-exact c = rw c.in-Jump.is c.go.ensures.exact
-
 pub returns-in-Jump-clause-stays : goal.returns-in-Jump-clause-stays
 returns-in-Jump-clause-stays c = c.go.ensures.stays
 
