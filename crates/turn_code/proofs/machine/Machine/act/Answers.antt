@@ -1,8 +1,5 @@
 use Rattle.turn_code.proofs.machine.Machine.act.Goals as goal
 
-pub returns-in-Int-clause-exact : goal.returns-in-Int-clause-exact
-returns-in-Int-clause-exact c = rw c.in-Int.is c.put.ensures.exact
-
 pub returns-in-Int-clause-stays : goal.returns-in-Int-clause-stays
 returns-in-Int-clause-stays c = c.put.ensures.stays
 
@@ -48,20 +45,11 @@ returns-in-Mul-clause-exact c = rw c.in-Mul.is c.combine-in-Mul.ensures.exact
 pub returns-in-Mul-clause-stays : goal.returns-in-Mul-clause-stays
 returns-in-Mul-clause-stays c = c.combine-in-Mul.ensures.stays
 
-pub returns-in-Div-clause-exact : goal.returns-in-Div-clause-exact
-returns-in-Div-clause-exact c = rw c.in-Div.is c.divide.ensures.exact
-
 pub returns-in-Div-clause-stays : goal.returns-in-Div-clause-stays
 returns-in-Div-clause-stays c = c.divide.ensures.stays
 
-pub returns-in-Mod-clause-exact : goal.returns-in-Mod-clause-exact
-returns-in-Mod-clause-exact c = rw c.in-Mod.is c.divide-in-Mod.ensures.exact
-
 pub returns-in-Mod-clause-stays : goal.returns-in-Mod-clause-stays
 returns-in-Mod-clause-stays c = c.divide-in-Mod.ensures.stays
-
-pub returns-in-Rem-clause-exact : goal.returns-in-Rem-clause-exact
-returns-in-Rem-clause-exact c = rw c.in-Rem.is c.divide-in-Rem.ensures.exact
 
 pub returns-in-Rem-clause-stays : goal.returns-in-Rem-clause-stays
 returns-in-Rem-clause-stays c = c.divide-in-Rem.ensures.stays
@@ -108,14 +96,8 @@ returns-in-Compare-clause-exact c = rw c.in-Compare.is c.compare.ensures.exact
 pub returns-in-Compare-clause-stays : goal.returns-in-Compare-clause-stays
 returns-in-Compare-clause-stays c = c.compare.ensures.stays
 
-pub returns-in-Case-clause-exact : goal.returns-in-Case-clause-exact
-returns-in-Case-clause-exact c = rw c.in-Case.is c.case.ensures.exact
-
 pub returns-in-Case-clause-stays : goal.returns-in-Case-clause-stays
 returns-in-Case-clause-stays c = c.case.ensures.stays
-
-pub returns-in-CaseWithin-clause-exact : goal.returns-in-CaseWithin-clause-exact
-returns-in-CaseWithin-clause-exact c = rw c.in-CaseWithin.is c.within.ensures.exact
 
 pub returns-in-CaseWithin-clause-stays : goal.returns-in-CaseWithin-clause-stays
 returns-in-CaseWithin-clause-stays c = c.within.ensures.stays
