@@ -1,12 +1,9 @@
 -- How names are spelled and compared.
-use Rattle.std.specs.Prelude.{◌≡◌, ℕ, ◌==◌, Bool, false, IsTrue, ◌&&◌, ◌||◌, List, [], ◌∷◌, length, map, nat_le}
+use Rattle.std.specs.Prelude.{◌≡◌, ℕ, Bool, false, IsTrue, ◌&&◌, List, [], ◌∷◌, length, map, nat_le}
 use Rattle.std.specs.List.{list_all}
-use Rattle.std.specs.Char.{is_ascii_alphabetic, is_ascii_alphanumeric, to_ascii_lowercase}
+use Rattle.std.specs.Char.{is_ascii_alphabetic, to_ascii_lowercase}
 use Rattle.sdl_lex.specs.Limits.{LONGEST_NAME}
-
--- a byte that a name may go on with: an ASCII letter, a digit or `_`
-abbrev pub is_name_byte : ℕ → Bool
-is_name_byte b = is_ascii_alphanumeric b || (b == 95)
+pub use Rattle.name_runs.specs.Runs.{is_name_byte}
 
 -- an ASCII letter, and then letters, digits and `_`, however many
 abbrev pub is_spelled_as_name : List ℕ → Bool

@@ -8,7 +8,6 @@ ghost use Rattle.sdl_lex.specs.Lexed.{is_white, continues, OpensComment, IsComme
 ghost use Rattle.sdl_lex.specs.Scan.{IsRun, Stands};
 ghost use Rattle.sdl_lex.specs.Limits.{LONGEST_NAME, GREATEST_NUMBER};
 
-use crate::spelling::is_name_byte;
 use crate::{Lexeme, MAX_NUMBER, Name, Symbol, Word};
 
 /// Whether a byte is white space: a space, a tab, a carriage return or a line feed.
@@ -23,18 +22,6 @@ pub(crate) fn byte_at(bytes: &[u8], at: usize) -> u8
     ensures { result ≡ slice_index bytes.now at }
 {
     if at < bytes.len() { bytes[at] } else { 0 }
-}
-
-/// The place after the letters, digits and `_` that stand from a place on.
-pub(crate) fn name_end(bytes: &[u8], at: usize) -> usize
-    requires { at ≤ length bytes.now }
-    ensures { IsRun is_name_byte bytes.now at result }
-{
-    let mut end = at;
-    while end < bytes.len() && is_name_byte(bytes[end]) {
-        end += 1;
-    }
-    end
 }
 
 /// The place after the digits that stand from a place on.

@@ -9,6 +9,7 @@ ghost use Rattle.std.specs.List.{list_all};
 ghost use Rattle.sdl_lex.specs.Spelling.{IsName, is_name_byte, is_spelled_as_name, folded};
 
 use crate::MAX_NAME;
+use name_runs::is_name_byte;
 use std::convert::AsStr;
 use std::hash::{Hash, Hasher};
 use std::marker::Model;
@@ -44,13 +45,6 @@ impl Model for Name {
       bytes = refilled n.used n.bytes h.0 h.1 h.2 i;
       used = length-take-le n.used n.bytes (omega (arith, h.0, h.1)) i;
     } };
-}
-
-/// Whether a name may go on with a byte.
-pub(crate) fn is_name_byte(b: u8) -> bool
-    ensures { result ≡ is_name_byte b }
-{
-    b.is_ascii_alphanumeric() || b == b'_'
 }
 
 /// Whether a name may go on with each of these bytes.

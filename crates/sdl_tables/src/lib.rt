@@ -1,6 +1,7 @@
 //! The names of a block and of its processes, each with its number.
 #![tactic(auto)]
 
+mod block_parts;
 mod block_table;
 mod fault;
 mod folded_name;

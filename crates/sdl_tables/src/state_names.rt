@@ -10,7 +10,7 @@ use sdl_ast::{Identifier, Process, StateClause, StatePart, Stimulus};
 use std::alloc::{AllocError, Global};
 
 /// Which names of a state are meant.
-#[derive(Clone, Copy, Debug)]
+#[derive(Clone, Copy)]
 pub(crate) enum Which {
     /// Those that it saves.
     Saves,

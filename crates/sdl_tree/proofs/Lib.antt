@@ -1,11 +1,7 @@
-pub mod StepLemmas
-pub mod StepTurns
 pub mod TextDecides
 pub mod SyntaxDecides
 pub mod LoweredActions
 pub mod LowHeights
-pub mod MarkLemmas
 pub mod TextMarks
 pub mod PartMarks
 pub mod ParseLemmas
-pub mod KeptLemmas

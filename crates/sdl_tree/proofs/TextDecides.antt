@@ -8,7 +8,7 @@ use Rattle.sdl_lex.specs.declared.lexemes.Word.TheVariants as words
 use Rattle.sdl_lex.specs.declared.lexemes.Symbol.TheVariants.{Open}
 use Rattle.sdl_ast.specs.declared.tree.End.{End}
 use Rattle.sdl_ast.specs.Plain.{PlainAction, Text, falls, ends, does, decides, Choice, nothing_else, otherwise, answer, PlainStatement, act, decide, PlainAnswer, PlainQuestion, PlainHead, before, all_before, all_answers}
-use Rattle.sdl_tree.specs.Bodies.{Keeping, whole_texts, WholeBranching, WholeBody, WholeReached, WholeMove, reaches, closes}
+use Rattle.sdl_bodies.specs.Bodies.{Keeping, whole_texts, WholeBranching, WholeBody, WholeReached, WholeMove, reaches, closes, with_answer}
 use Rattle.sdl_ast.specs.Views.{end_text}
 use Rattle.sdl_tokens.specs.Tokens.{begins, a_word, a_symbol, an_action, an_end, a_choice, word_place, symbol_place, choice_place}
 use Rattle.sdl_tokens.specs.Grammar.{Gives, Then}
@@ -16,9 +16,9 @@ use Rattle.sdl_tokens.specs.Grammar as grammar
 use Rattle.sdl_tree.specs.Syntax.{action_syntax, question_syntax, answer_head_syntax, else_head_syntax, some_head_syntax, no_head_syntax, head_syntax, end_decision_syntax, end_syntax, TextReads, ChoiceReads, runs_off, ends_there, goes_on, branches, no_more_answers, else_follows, answer_follows, text_syntax}
 use Rattle.sdl_expressions.specs.Machine.{whole_trees, expression_at}
 use Rattle.sdl_tokens.specs.Readings.{Reading, read, fails, At, then_read, either, choice, give, optional}
-use Rattle.sdl_tree.specs.Productions.{action_at, question_at, head_at, end_decision_at, end_at, head_step, closing_step, answer_step, with_answer, body_step, behind_step, end_step, decision_step, action_step, step_at, after_move, steps_for, steps_from, at_first, text_at}
+use Rattle.sdl_readers.specs.Productions.{action_at, question_at, head_at, end_decision_at, end_at, head_step, closing_step, answer_step, body_step, behind_step, end_step, decision_step, action_step, step_at, after_move, steps_for, steps_from, at_first, text_at}
 use Rattle.sdl_tokens.proofs.Decides.{Seen, Decides, give_decides, choice_decides, optional_decides, ◌>>=◌}
-use Rattle.sdl_tree.proofs.StepLemmas.{from_step, from_reaches, steps_look}
+use Rattle.sdl_readers.proofs.StepLemmas.{from_step, from_reaches, steps_look}
 
 -- what is known of the flat parts
 pub record Leaves : Type 0 where

@@ -1,11 +1,4 @@
 pub mod Syntax
-pub mod Marks
-pub mod Bodies
-pub mod BodyViews
-pub mod Productions
-pub mod Lengths
-pub mod MarkedParts
-pub mod MarkedLengths
 pub mod Settled
 pub mod Refusals
 pub mod Printed

@@ -6,8 +6,8 @@ use Rattle.sdl_tree.specs.declared.fault.ParseFault.TheVariants.{Unexpected, Too
 use Rattle.sdl_ast.specs.declared.tree.Block.{Block}
 use Rattle.sdl_ast.specs.Views.{block_of}
 use Rattle.sdl_tokens.specs.Readings.{Reading, read, fails}
-use Rattle.sdl_tree.specs.Marks.{kept, too_high}
-use Rattle.sdl_tree.specs.MarkedParts.{marked_block}
+use Rattle.sdl_bodies.specs.Marks.{kept, too_high}
+use Rattle.sdl_readers.specs.MarkedParts.{marked_block}
 
 -- where a reading that doesn't take all tokens stops
 abbrev pub stops_at : {A : Type 0} → Reading A → Option (List Token)

@@ -1,19 +1,8 @@
 //! The grammar of SDL process texts: from the tokens of a text to its syntax tree.
 #![tactic(auto)]
 
-mod actions;
-mod answers;
-mod attempt;
-mod blocks;
-mod declarations;
-mod endings;
 mod fault;
-mod marked;
 mod parsing;
-mod production;
-mod sections;
-mod statements;
-mod transitions;
 
 pub use fault::ParseFault;
 pub use parsing::{parse, reads_once};

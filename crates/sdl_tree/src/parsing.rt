@@ -6,11 +6,11 @@ ghost use Rattle.sdl_tree.specs.Settled.{Settled};
 ghost use Rattle.sdl_tree.specs.Syntax.{Reads};
 ghost use Rattle.sdl_ast.specs.Views.{block_of};
 
-use crate::blocks::read_block;
 use crate::fault::ParseFault;
-use crate::marked::Marked;
 use sdl_ast::Block;
+use sdl_bodies::Marked;
 use sdl_lex::Token;
+use sdl_readers::read_block;
 use sdl_tokens::Stop;
 use std::alloc::Global;
 

@@ -145,6 +145,18 @@ among_past b ps far q (Some u) h = among_more b ps far q u h
 abbrev pub AreShortest : List PlainProcess → Unset → Type 0
 AreShortest ps u = All (λ q. IsShortest q u.path.steps.items) ps
 
+-- what stands of the best so far, where those so far are all
+pub found_of_all : (b : PlainBlock) (ps far all : List PlainProcess) (u : Unset) → ps ≡ all → far ≡ all → IsUnsetAmong b ps far u → AreShortest far u
+    → (p : PlainProcess) × Contains all p × IsUnset b p u × All (λ q. IsShortest q u.path.steps.items) all × IsFirstWith all p u.path.steps.items × IsFirst p u.path.steps.items
+found_of_all b ps far all u same whole (p, among, is, first, least) short = (
+  p,
+  subst (λ (l : List PlainProcess). Contains l p) same among,
+  is,
+  subst (λ (l : List PlainProcess). All (λ q. IsShortest q u.path.steps.items) l) whole short,
+  subst (λ (l : List PlainProcess). IsFirstWith l p u.path.steps.items) whole first,
+  least,
+)
+
 -- a path that is no longer than one that is shortest
 shortest_for : (q : PlainProcess) (short long : List Step) → length short ≤ length long → IsShortest q long → IsShortest q short
 shortest_for q short long le h other x reads = omega (arith, le, h other x reads)

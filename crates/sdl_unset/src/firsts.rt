@@ -7,7 +7,7 @@ ghost use Rattle.sdl_unset.specs.Firsts.{first_at};
 use sdl_tables::earlier;
 
 /// For each of the first 32 variables, by number, the least place in the text where some walk reads it before it sets it.
-#[derive(Clone, Copy, Debug)]
+#[derive(Clone, Copy)]
 pub(crate) struct Firsts {
     places: [Option<u32>; 32],
 }

@@ -15,7 +15,7 @@ use sdl_lex::Name;
 use sdl_tables::{ProcessTable, Variable};
 
 /// What a part of a transition does with the variables. Bit v is that of variable v.
-#[derive(Clone, Copy, Debug)]
+#[derive(Clone, Copy)]
 pub(crate) struct Flow {
     /// What it reads before it sets it.
     pub reads: u32,

@@ -11,17 +11,47 @@ use sdl_tables::{InputRow, ProcessTable};
 use std::alloc::{AllocError, Global};
 use unset_paths::{Fate, Step};
 
+/// The transition of an input of a state, by their numbers.
+fn transition_at<'a>(
+    inputs: &[Vec<InputRow<'a>>],
+    state: usize,
+    number: usize,
+) -> Option<&'a Transition> {
+    match inputs.get(state) {
+        None => None,
+        Some(rows) => match rows.get(number) {
+            None => None,
+            Some(row) => Some(&row.input.transition),
+        },
+    }
+}
+
 /// The last transition of a path, where these are the inputs of the states.
 fn last_transition<'a>(
     table: &ProcessTable<'a>,
     inputs: &[Vec<InputRow<'a>>],
     path: &[Step],
 ) -> Option<&'a Transition> {
-    match path.last()? {
-        Step::Start => Some(&table.process().start.transition),
-        Step::Input(state, number) => {
-            let row = inputs.get(*state)?.get(*number)?;
-            Some(&row.input.transition)
+    match path.last() {
+        None => None,
+        Some(Step::Start) => Some(&table.process().start.transition),
+        Some(Step::Input(state, number)) => transition_at(inputs, *state, *number),
+    }
+}
+
+/// The least place where the last transition of a path reads a variable unset, if it does.
+fn read_place(
+    alloc: Global,
+    table: &ProcessTable,
+    walkers: &[Walker],
+    last: Option<&Transition>,
+    variable: usize,
+) -> Result<Option<u32>, AllocError> {
+    match last {
+        None => Ok(None),
+        Some(transition) => {
+            let walked = text_walker(alloc, table, walkers, transition)?;
+            Ok(walked.firsts.place(variable))
         }
     }
 }
@@ -37,14 +67,8 @@ pub(crate) fn read_places(
     let inputs = table.inputs(alloc)?;
     let mut places = Vec::new(alloc);
     for variable in 0..fates.len() {
-        let place = match last_transition(table, &inputs, path_at(fates, variable)) {
-            None => None,
-            Some(transition) => {
-                let walked = text_walker(alloc, table, walkers, transition)?;
-                walked.firsts.place(variable)
-            }
-        };
-        places.push(place)?;
+        let last = last_transition(table, &inputs, path_at(fates, variable));
+        places.push(read_place(alloc, table, walkers, last, variable)?)?;
     }
     Ok(places)
 }

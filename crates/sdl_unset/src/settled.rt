@@ -7,6 +7,7 @@ ghost use Rattle.sdl_sound.specs.Actions.{in_statements};
 ghost use Rattle.sdl_sound.specs.Decisions.{statement_unanswered};
 ghost use Rattle.sdl_sound.specs.Orders.{IsOrder, AreOrders};
 ghost use Rattle.sdl_sound.specs.Refusals.{IsWithin};
+ghost use Rattle.sdl_unset.specs.Fates.{AreFates};
 ghost use Rattle.sdl_unset.specs.Surveys.{IsSurvey, AreSurveys};
 ghost use Rattle.profile_limits.specs.Limits.{MOST_VARIABLES};
 
@@ -19,12 +20,39 @@ use sdl_lex::Name;
 use sdl_sound::ControlPath;
 use sdl_tables::{BlockTable, ProcessTable};
 use std::alloc::{AllocError, Global};
+use unset_paths::Fate;
 
 /// A variable that a control path reads before it is set.
 #[derive(Drop)]
 pub struct Unset {
     pub variable: Name,
     pub path: ControlPath,
+}
+
+/// The set of each state of a process, unless a variable is read unset, where this becomes of its variables.
+fn survey_fates(
+    alloc: Global,
+    block: &BlockTable,
+    table: &ProcessTable,
+    fates: &[Fate],
+    places: &[Option<u32>],
+) -> Result<Result<Vec<u32>, Unset>, AllocError>
+    requires few { length (variables_of (process_of table.now)) ≤ MOST_VARIABLES }
+    requires known { process_unknown (block_of block.now) (process_of table.now) ≡ [] }
+    requires fates { AreFates (process_of table.now) fates.now }
+    ensures { IfOk result (IsSurvey (block_of block.now) (process_of table.now)) }
+{
+    match find_first(fates, places) {
+        None => {
+            let sets = sets_in(alloc, fates, table.states().len())?;
+            Ok(Ok(sets))
+        }
+        Some(number) => {
+            let variable = table.variables().name(number).name;
+            let path = named_path(alloc, block, table, path_at(fates, number))?;
+            Ok(Err(Unset { variable, path }))
+        }
+    }
 }
 
 /// The set of each state of a process, unless a variable is read unset.
@@ -43,17 +71,7 @@ fn survey(
     let walkers = connection_walkers(alloc, table, order)?;
     let fates = find_fates(alloc, table, &walkers)?;
     let places = read_places(alloc, table, &walkers, &fates)?;
-    match find_first(&fates, &places) {
-        None => {
-            let sets = sets_in(alloc, &fates, table.states().len())?;
-            Ok(Ok(sets))
-        }
-        Some(number) => {
-            let variable = table.variables().name(number).name;
-            let path = named_path(alloc, block, table, path_at(&fates, number))?;
-            Ok(Err(Unset { variable, path }))
-        }
-    }
+    survey_fates(alloc, block, table, &fates, &places)
 }
 
 /// The one of two that is named: the one with fewer transitions, or else the first.

@@ -1,11 +1,8 @@
 -- The operations on Integers and on Booleans.
-use Rattle.std.specs.Prelude.{ℤ, ◌+ℤ◌, ◌-ℤ◌, ◌*ℤ◌, int_div, int_rem, Bool, not, ◌&&◌, ◌||◌}
-use Rattle.std.specs.Int.{int_rem_euclid}
+use Rattle.std.specs.Prelude.{ℤ, ◌+ℤ◌, ◌-ℤ◌, ◌*ℤ◌, Bool, not, ◌&&◌, ◌||◌}
 use Rattle.turn_code.specs.Values.{differ}
 use Rattle.turn_code.specs.declared.operation.Operation.{Operation}
 use Rattle.turn_code.specs.declared.operation.Operation.TheVariants.{Add, Subtract, Multiply}
-use Rattle.turn_code.specs.declared.operation.Division.{Division}
-use Rattle.turn_code.specs.declared.operation.Division.TheVariants.{Quotient, Modulo, Remainder}
 use Rattle.turn_code.specs.declared.operation.Connective.{Connective}
 use Rattle.turn_code.specs.declared.operation.Connective.TheVariants.{And, Or, Xor, Same}
 
@@ -14,11 +11,6 @@ abbrev pub meaning_of : Operation → ℤ → ℤ → ℤ
 meaning_of Add x y = x +ℤ y
 meaning_of Subtract x y = x -ℤ y
 meaning_of Multiply x y = x *ℤ y
-
-abbrev pub division_of : Division → ℤ → ℤ → ℤ
-division_of Quotient x k = int_div x k
-division_of Modulo x k = int_rem_euclid x k
-division_of Remainder x k = int_rem x k
 
 abbrev pub truth_of : Connective → Bool → Bool → Bool
 truth_of And x y = x && y

@@ -24,7 +24,7 @@ pub enum Receiver {
 }
 
 /// One instruction of a piece. It takes its operands from the top of a list, and puts its value back there.
-#[derive(Clone, Copy, PartialEq, Eq, Debug)]
+#[derive(Clone, Copy, PartialEq, Eq)]
 pub enum Instruction {
     /// The number itself.
     Int(i32),

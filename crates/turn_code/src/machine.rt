@@ -4,7 +4,8 @@ ghost use Rattle.std.specs.Prelude.{◌≡◌, ◌+◌, ◌<◌, ◌≤◌, ◌�
 ghost use Rattle.turn_code.specs.Values.{wrap, holds, is_between};
 ghost use Rattle.turn_code.specs.Run.{CountIs, step, act, goes, ends, loaded, stored, given, on_two, on_top, on_integer, on_integers, on_boolean, on_operands, divided, joined, tested, sent, party_of, tick, with_effect};
 ghost use Rattle.turn_code.specs.Machine.{progress_of, after_of, StaysIfStuck, HasRoom, HasRoomFor};
-ghost use Rattle.turn_code.specs.Operation.{meaning_of, division_of, truth_of};
+ghost use Rattle.turn_code.specs.Operation.{meaning_of, truth_of};
+ghost use Rattle.turn_division.specs.Division.{division_of};
 ghost use Rattle.turn_code.specs.declared.value.Value.TheVariants.{Int as IntValue, Bool as BoolValue};
 ghost use Rattle.turn_code.specs.declared.effect.Effect.TheVariants.{Set as SetEffect};
 ghost use Rattle.profile_limits.specs.Limits.{MOST_EFFECTS, MOST_INSTRUCTIONS, MOST_OPERANDS, MOST_PARAMETERS};
@@ -14,10 +15,11 @@ use crate::input::Input;
 use crate::instruction::{Instruction, Receiver, Relation};
 use crate::numbers::{CodePlace, SignalNumber, StateNumber, TimerNumber, VariableNumber};
 use crate::operands::Operands;
-use crate::operation::{Connective, Division, Operation, negated};
+use crate::operation::{Connective, Operation, negated};
 use crate::trouble::Trouble;
 use crate::value::Value;
 use arrayvec::ArrayVec;
+use turn_division::Division;
 
 /// How a transition ends.
 #[derive(Clone, Copy, PartialEq, Eq, Debug)]

@@ -1,8 +1,8 @@
 //! The operations on Integers and on Booleans.
 
-ghost use Rattle.std.specs.Prelude.{◌≡◌, ◌≤◌, ◌≤ℤ◌, pos, neg_ℤ};
+ghost use Rattle.std.specs.Prelude.{◌≡◌, ◌≤◌, neg_ℤ};
 ghost use Rattle.turn_code.specs.Values.{wrap, holds};
-ghost use Rattle.turn_code.specs.Operation.{meaning_of, division_of, truth_of};
+ghost use Rattle.turn_code.specs.Operation.{meaning_of, truth_of};
 
 use crate::instruction::Relation;
 
@@ -12,14 +12,6 @@ pub(crate) enum Operation {
     Add,
     Subtract,
     Multiply,
-}
-
-/// What is made of an Integer and a divisor.
-#[derive(Clone, Copy)]
-pub(crate) enum Division {
-    Quotient,
-    Modulo,
-    Remainder,
 }
 
 /// An operation on two Booleans.
@@ -40,20 +32,6 @@ impl Operation {
             Operation::Add => left.wrapping_add(right),
             Operation::Subtract => left.wrapping_sub(right),
             Operation::Multiply => left.wrapping_mul(right),
-        }
-    }
-}
-
-impl Division {
-    /// Its value, where the divisor is 1 or more.
-    pub(crate) fn apply(self, dividend: i32, divisor: i32) -> i32
-        requires { pos 1 ≤ℤ divisor }
-        ensures { result ≡ division_of self dividend divisor }
-    {
-        match self {
-            Division::Quotient => dividend / divisor,
-            Division::Modulo => dividend.rem_euclid(divisor),
-            Division::Remainder => dividend % divisor,
         }
     }
 }

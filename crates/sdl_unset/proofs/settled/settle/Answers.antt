@@ -1,4 +1,8 @@
-use Rattle.std.proofs.Common.{◌≡◌, ◌≤◌, ◌+◌, ◌++◌, ◌∷◌, [], ℕ, List, Ok, Err, Vec, Global, length, take, sym, subst}
+use Rattle.std.proofs.Common.{◌≡◌, ◌≤◌, ◌+◌, ◌++◌, ◌∷◌, [], ℕ, List, Option, Ok, Err, Vec, Global, length, take, sym, ap, ◌∙◌, subst, arith}
+use Rattle.std.specs.Prelude.{IfSome, All}
+use Rattle.std.proofs.lemmas.List.{take_all}
+use Rattle.sdl_ast.specs.Plain.{PlainProcess}
+use Rattle.sdl_unset.specs.declared.settled.Unset.{Unset}
 use Rattle.std.proofs.lemmas.List.Elements.{All-push}
 use Rattle.sdl_ast.specs.Views.{process_of, block_of}
 use Rattle.sdl_tables.specs.Names.{variables_of, processes_of}
@@ -9,7 +13,7 @@ use Rattle.sdl_sound.specs.Orders.{IsOrder}
 use Rattle.sdl_sound.specs.Paths.{NeverReadsUnset}
 use Rattle.sdl_sound.specs.Settled.{AreSettled}
 use Rattle.sdl_unset.specs.Surveys.{IsSurvey, AllSettled}
-use Rattle.sdl_unset.proofs.Surveying.{within_few, within_known, within_answered, order_within, order_at, plain, all_at_table, plain_more, contains_process, among_past, shorter_is, shortest_past, shortest_more, some_unset}
+use Rattle.sdl_unset.proofs.Surveying.{within_few, within_known, within_answered, order_within, order_at, plain, all_at_table, plain_more, contains_process, among_past, shorter_is, shortest_past, shortest_more, some_unset, found_of_all, IsUnsetAmong, AreShortest}
 use Rattle.std.proofs.lemmas.Slice.Zip.{all_zipped_more as all_zip_push}
 use Rattle.sdl_unset.proofs.settled.settle.Goals as goal
 use Rattle.sdl_unset.proofs.settled.settle.Goals.{in-Ok+in_ok-push-in-Ok, in-Err}
@@ -70,3 +74,24 @@ loop-number-preserved c =
             none = λ e. absurd (some_unset w.shorter.result e);
           })
     ]
+
+pub returns-in-None : goal.returns-in-None
+returns-in-None c =
+    let ts = c.tables-tables.result.now in
+    let b = block_of c.args.block.now in
+    let all : plain (take c.loop-number.number ts) ≡ processes_of b =
+    ap plain (take_all c.loop-number.number ts (omega arith)) ∙ c.tables-tables.ensures in (
+      subst (λ (ps : List PlainProcess). AllSettled ps c.loop-number.sets.items) all (c.loop-number.invariant.sets c.in-None.is),
+      subst (λ (ps : List PlainProcess). All NeverReadsUnset ps) all (c.loop-number.invariant.none c.in-None.is),
+    )
+
+pub returns-in-Some : goal.returns-in-Some
+returns-in-Some c =
+    let ts = c.tables-tables.result.now in
+    let b = block_of c.args.block.now in
+    let far = plain (take c.loop-number.number ts) in
+    let u = c.in-Some.unset in
+    let all : far ≡ processes_of b = ap plain (take_all c.loop-number.number ts (omega arith)) ∙ c.tables-tables.ensures in
+    found_of_all b (plain ts) far (processes_of b) u c.tables-tables.ensures all
+    (subst (λ (o : Option Unset). IfSome o (IsUnsetAmong b (plain ts) far)) c.in-Some.is c.loop-number.invariant.found)
+    (subst (λ (o : Option Unset). IfSome o (AreShortest far)) c.in-Some.is c.loop-number.invariant.fewest)

@@ -1,0 +1,5 @@
+pub mod Productions
+pub mod Lengths
+pub mod MarkedParts
+pub mod MarkedLengths
+pub mod SectionViews

@@ -1,0 +1,6 @@
+//! The divisions that instructions make.
+#![tactic(auto)]
+
+mod division;
+
+pub use division::Division;
