@@ -13,7 +13,7 @@ use sdl_ast::{
     StateClause, Statement, Transition,
 };
 use sdl_lex::MAX_TEXT;
-use sdl_statements::{Recipients, find_receivers};
+use sdl_senders::{Recipients, find_receivers};
 use std::alloc::{AllocError, Global};
 use turn_code::{Party, ProcessNumber, SignalNumber, VariableNumber};
 

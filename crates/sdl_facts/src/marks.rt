@@ -60,7 +60,7 @@ fn mark_end(
 }
 
 /// What is behind a text: the variables that are set there, and whether the text may run off its end.
-#[derive(Clone, Copy, Debug)]
+#[derive(Clone, Copy)]
 pub(crate) struct Behind {
     set: VariableSet,
     goes_on: bool,

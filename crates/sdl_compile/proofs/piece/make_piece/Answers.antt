@@ -9,8 +9,8 @@ use Rattle.turn_code.specs.Rules.{greatest, depths}
 use Rattle.sdl_facts.specs.Facts.{shapes_from, piece_sets}
 use Rattle.sdl_meaning.specs.Declarations.{drafted_signals}
 use Rattle.sdl_facts.specs.Settings.{count_from, effects_from}
-use Rattle.sdl_facts.specs.declared.counts.Counted.TheVariants.{Instructions, Effects}
-use Rattle.sdl_facts.specs.Counts.{weight, AreCounts}
+use Rattle.sdl_counts.specs.declared.counts.Counted.TheVariants.{Instructions, Effects}
+use Rattle.sdl_counts.specs.Counts.{weight, AreCounts}
 use Rattle.sdl_meaning.proofs.Counted.{size_is, size_fits}
 use Rattle.sdl_compile.proofs.Making.{placed_within, sets_length, is_deep, made}
 use Rattle.sdl_compile.proofs.piece.make_piece.Goals as goal

@@ -1,15 +1,20 @@
-use Rattle.std.proofs.Common.{rules, ◌≡◌, ◌+◌, [], ◌∷◌, ◌++◌, ◌≤◌, true, false, length, drop, refl, sym, ap, ◌∙◌, subst, arith, append-nil}
+use Rattle.std.proofs.Common.{rules, ◌≡◌, ◌+◌, ◌&&◌, ℕ, [], ◌∷◌, ◌++◌, ◌≤◌, true, false, length, drop, refl, sym, ap, ◌∙◌, subst, arith, append-nil}
 use Rattle.std.specs.Prelude.{slice_set}
-use Rattle.std.proofs.lemmas.Result.{on_ok_weaker}
-use Rattle.sdl_ast.specs.Plain.{falls}
+use Rattle.std.proofs.lemmas.Result.{on_ok_weaker, IfOk-weaker}
+use Rattle.std.proofs.Math.Bool.{and-true, and-false}
+use Rattle.sdl_ast.specs.Plain.{Text, Choice, falls}
 use Rattle.sdl_ast.specs.declared.tree.Decision.{out-Decision, the_lemmas}
-use Rattle.sdl_ast.specs.Views.{text_of, decision_of, choice_of, answers_before, statements_before, end_text, else_choice}
+use Rattle.sdl_ast.specs.Views.{text_of, action_of, statement_of, decision_of, choice_of, answers_before, statements_before, end_text, else_choice}
 use Rattle.turn_code.specs.declared.instruction.Instruction.TheVariants as i
 use Rattle.sdl_emit.specs.Scopes.{scope_in, places_by, question_in}
-use Rattle.sdl_meaning.specs.Named.{NamedChoice}
-use Rattle.sdl_meaning.specs.Code.{else_size, else_code, answers_code, text_code}
-use Rattle.sdl_ast.proofs.Views.{decision_of-is}
-use Rattle.sdl_emit.proofs.Emitting.{one_answer, one_statement, rest_named, rest_fits, rest_code, others_fit, others_code, others_named, else_size_alone, else_code_alone, else_named, choice_named, choice_fits, decision_code}
+use Rattle.sdl_tables.specs.Names.{variables_of}
+use Rattle.sdl_sound.specs.Going.{goes_on}
+use Rattle.sdl_sound.specs.Longest.{size}
+use Rattle.sdl_meaning.specs.Named.{NamedText, NamedChoice}
+use Rattle.sdl_meaning.specs.Code.{action_code, else_size, else_code, answers_size, answers_code, text_code}
+use Rattle.sdl_ast.proofs.Views.{text_of-is, decision_of-is}
+use Rattle.sdl_emit.proofs.Emitting.{one_answer, one_statement, statement_named, statement_fits, answer_named, rest_named, rest_fits, rest_code, others_fit, others_code, others_named, else_size_alone, else_code_alone, else_named, choice_named, choice_fits, decision_code}
+use Rattle.sdl_emit.proofs.Leaving.{statements_past, answers_past, acted, decided, is_decision, no_code, no_leave, no_starts, jump_code, jump_told, no_jump_code, no_jump_told}
 use Rattle.sdl_emit.specs.Landing.{code_place, starts_from, answers_leave, else_leave, landed, filled, has_any, picked_by, tests_by}
 use Rattle.sdl_emit.proofs.Landed.{jumps_more, starts_more, else_leave_alone, rest_goes, truth_answers_fit, truth_else_fits, truth_else_low, truth_low, truth_lands, truth_goes, place_is, integer_else_fits, integer_answers_fit, integer_low, integer_tests_fit, integer_lands, integer_goes}
 use Rattle.sdl_emit.proofs.texts.+texts.Goals as goal
@@ -315,3 +320,117 @@ emit_integer-fill_places-requires t c =
     let fit = integer_tests_fit s to all c.args.code.now.items c.requires.fits _ c.tests_length.result c.tests_length.ensures c.keep_places.new.code.items c.in_ok-keep_places.ensures
     two c.in_ok-emit_else.ensures.code c.emit_answers.new.code.items c.in_ok-emit_answers.ensures.code c.emit_answers.new.starts.items starts c.emit_tests.new.code.items tests in
     omega (arith, fit, c.len-first.ensures, ap length c.deref-3.ensures.value)
+
+pub emit_body-returns-clause-code : goal.emit_body-returns-clause-code
+emit_body-returns-clause-code t c = ?
+
+pub emit_body-returns-clause-jumps : goal.emit_body-returns-clause-jumps
+emit_body-returns-clause-jumps t c = ?
+
+pub emit_answers-loop-answer-init : goal.emit_answers-loop-answer-init
+emit_answers-loop-answer-init t c =
+    let s = scope_in c.args.names.now in
+    let to = places_by c.args.places.now in
+    let old = c.args.code.now.items in
+    let others = else_choice (out-Decision c.args.decision.now).otherwise in
+    let is = ap (λ l. answers_before l others) c.deref-answer-items.ensures.value in
+    record {
+      code = ap (λ k. old ++ answers_code s to (length old) 0 k) is;
+      jumps = ap (λ k. c.args.jumps.now.items ++ answers_leave s to (length old) k) is;
+      starts = ap (λ k. c.args.starts.now.items ++ starts_from s (length old) k) is;
+      named = subst (NamedChoice s (question_in c.args.decision.now)) (sym is) c.requires.named;
+      fits = subst (λ k. length old + answers_size s k ≤ 512) (sym is) c.requires.fits;
+    }
+
+pub emit_answers-code_place-requires : goal.emit_answers-code_place-requires
+emit_answers-code_place-requires t c = omega (arith, c.loop-answer.invariant.fits, c.len.ensures)
+
+pub emit_answers-emit_body-requires : goal.emit_answers-emit_body-requires
+emit_answers-emit_body-requires t c = ?
+
+pub emit_answers-returns : goal.emit_answers-returns
+emit_answers-returns t c =
+    let s = scope_in c.args.names.now in
+    let to = places_by c.args.places.now in
+    let now = c.loop-answer.code.items in
+    let n = length now in
+    let xs = c.deref-answer-items.result.now in
+    let i = c.loop-answer.answer-index in
+    let o = (out-Decision c.args.decision.now).otherwise in
+    let past : length xs ≤ i = omega (arith, c.loop-answer-test.false) in
+    record {
+      code = sym (append-nil now) ∙ ap (λ l. now ++ l) (sym (no_code s n to 0 o)) ∙ answers_past (λ k. now ++ answers_code s to n 0 k) _ xs i (else_choice o) past c.loop-answer.invariant.code;
+      jumps = sym (append-nil c.loop-answer.jumps.items) ∙ ap (λ l. c.loop-answer.jumps.items ++ l) (sym (no_leave s n to o)) ∙ answers_past (λ k. c.loop-answer.jumps.items ++ answers_leave s to n k) _ xs i (else_choice o) past c.loop-answer.invariant.jumps;
+      starts = sym (append-nil c.loop-answer.starts.items) ∙ ap (λ l. c.loop-answer.starts.items ++ l) (sym (no_starts s n o)) ∙ answers_past (λ k. c.loop-answer.starts.items ++ starts_from s n k) _ xs i (else_choice o) past c.loop-answer.invariant.starts;
+    }
+
+pub emit_statement-emit_action-requires : goal.emit_statement-emit_action-requires
+emit_statement-emit_action-requires t c =
+    (subst (NamedText (scope_in c.args.names.now)) (acted c.args.statement.now c.in-Act.action c.in-Act.is falls) c.requires.named).0
+
+pub emit_statement-emit_decision-requires : goal.emit_statement-emit_decision-requires
+emit_statement-emit_decision-requires t c =
+    let s = scope_in c.args.names.now in
+    let is = is_decision c.args.statement.now c.in-Decide.decision c.in-Decide.is falls in (
+      search (rules, the_lemmas),
+      (
+        subst (NamedText s) is c.requires.named,
+        (
+          subst (λ t. length c.args.code.now.items + size (variables_of s.process) t ≤ 512) is c.requires.fits,
+          c.requires.low,
+        ),
+      ),
+    )
+
+pub emit_statement-returns-in-Act : goal.emit_statement-returns-in-Act
+emit_statement-returns-in-Act t c =
+    let s = scope_in c.args.names.now in
+    let to = places_by c.args.places.now in
+    let old = c.args.code.now.items in
+    let a = c.in-Act.action in
+    record {
+      code = c.in_ok-emit_action.ensures ∙ ap (λ l. old ++ l) (sym (append-nil (action_code s (action_of a))))
+          ∙ ap (λ t. old ++ text_code s to (length old) t) (sym (acted c.args.statement.now a c.in-Act.is falls));
+      goes = λ rest. ap goes_on (acted c.args.statement.now a c.in-Act.is rest);
+    }
+
+pub emit_statement-returns-in-Decide : goal.emit_statement-returns-in-Decide
+emit_statement-returns-in-Decide t c =
+    let s = scope_in c.args.names.now in
+    let to = places_by c.args.places.now in
+    let old = c.args.code.now.items in
+    let d = c.in-Decide.decision in
+    record {
+      code = on_ok_weaker c.emit_decision.result
+          (λ f. f ∙ ap (λ t. old ++ text_code s to (length old) t) (sym (is_decision c.args.statement.now d c.in-Decide.is falls)))
+          c.emit_decision.ensures.code;
+      goes = IfOk-weaker c.emit_decision.result _ _
+          (λ v h rest. ap goes_on (decided c.args.statement.now d c.in-Decide.is rest) ∙ ap (λ b. b && goes_on rest) (sym h))
+          c.emit_decision.ensures.goes;
+    }
+
+pub emit_text-loop-statement-init : goal.emit_text-loop-statement-init
+emit_text-loop-statement-init t c =
+    let s = scope_in c.args.names.now in
+    let to = places_by c.args.places.now in
+    let old = c.args.code.now.items in
+    let end = end_text c.args.transition.now.end in
+    let is = ap (λ l. statements_before l end) c.deref-statement-items.ensures.value ∙ sym (text_of-is c.args.transition.now) in
+    record {
+      code = ap (λ t. old ++ text_code s to (length old) t) is;
+      goes = ap goes_on is;
+      named = subst (NamedText s) (sym is) c.requires.named;
+      fits = subst (λ t. length old + size (variables_of s.process) t ≤ 512) (sym is) c.requires.fits;
+    }
+
+pub emit_text-emit_statement-requires : goal.emit_text-emit_statement-requires
+emit_text-emit_statement-requires t c = ?
+
+pub emit_text-emit_end-requires : goal.emit_text-emit_end-requires
+emit_text-emit_end-requires t c = ?
+
+pub emit_text-returns-in-Some : goal.emit_text-returns-in-Some
+emit_text-returns-in-Some t c = ?
+
+pub emit_text-returns-in-None : goal.emit_text-returns-in-None
+emit_text-returns-in-None t c = ?
