@@ -2,7 +2,8 @@
 ghost use Rattle.std.specs.Prelude.{◌≡◌, ◌≤◌, length, Option, IfOk};
 ghost use Rattle.sdl_ast.specs.declared.expression.Identifier as tree_identifier;
 ghost use Rattle.sdl_ast.specs.Views.{text_of};
-ghost use Rattle.sdl_emit.specs.Scopes.{scope_in, piece_in, IsBody};
+ghost use Rattle.sdl_emit.specs.Bodies.{IsBody};
+ghost use Rattle.sdl_names.specs.Scopes.{scope_in, piece_in};
 ghost use Rattle.sdl_meaning.specs.Named.{AnswersAll};
 ghost use Rattle.sdl_sound.specs.Longest.{places_cost};
 ghost use Rattle.sdl_compile.specs.Drafts.{Means};

@@ -1,5 +1,5 @@
 -- How a body ends, what a statement is, and what stands behind the last item of a list.
-use Rattle.std.proofs.Common.{◌≡◌, ℕ, ◌+◌, ◌≤◌, Bool, true, false, cond, List, [], ◌∷◌, ◌++◌, length, drop, Option, Some, None, refl, sym, ap, ◌∙◌, append_assoc, append-nil, length-append}
+use Rattle.std.proofs.Common.{◌≡◌, ℕ, ◌+◌, ◌≤◌, Bool, List, [], ◌++◌, length, drop, Option, Some, None, refl, sym, ap, ◌∙◌, append_assoc, length-append}
 use Rattle.std.proofs.lemmas.List.{drop_all}
 use Rattle.sdl_ast.specs.declared.tree.Action.{Action}
 use Rattle.sdl_ast.specs.declared.tree.Answer.{Answer}
@@ -11,11 +11,10 @@ use Rattle.sdl_ast.specs.Plain.{Text, does, decides, Choice, before}
 use Rattle.sdl_ast.specs.Views.{tree_of, action_of, decision_of, choice_of, statement_of, statements_before, answers_before, else_choice}
 use Rattle.sdl_ast.proofs.Views.{plain_decides, statement_of-act, statement_of-decide}
 use Rattle.turn_code.specs.declared.instruction.Instruction.{Instruction}
-use Rattle.turn_code.specs.declared.numbers.CodePlace.{CodePlace}
 use Rattle.sdl_sound.specs.Going.{goes_on}
 use Rattle.sdl_meaning.specs.Act.{Scope}
-use Rattle.sdl_meaning.specs.Code.{jump, leave_code, text_code, answers_code}
-use Rattle.sdl_emit.specs.Landing.{leave_place, answers_leave, starts_from}
+use Rattle.sdl_meaning.specs.Code.{leave_code, text_code, answers_code}
+use Rattle.sdl_landing.specs.Landing.{left_jump, left_place, leave_place, answers_leave, starts_from}
 
 -- ---- behind the last item
 
@@ -57,20 +56,9 @@ module _ (c : Scope) (to : ℕ → ℕ) (t : Text) (old one : List Instruction) 
   text_end : length one ≡ length old + length (text_code c to (length old) t)
   text_end = ap length made ∙ length-append old (text_code c to (length old) t)
 
-  pub jump_code : b ≡ true → (two : List Instruction) → two ≡ one ++ jump 0 ∷ [] → two ≡ old ++ (text_code c to (length old) t ++ leave_code 0 t)
-  jump_code yes two put =
-      let x = text_code c to (length old) t in
-      put ∙ ap (λ l. l ++ jump 0 ∷ []) made ∙ append_assoc old x (jump 0 ∷ []) ∙ ap (λ b. old ++ (x ++ cond b (jump 0 ∷ []) [])) (sym yes ∙ goes)
+  pub left_code : (two : List Instruction) → two ≡ one ++ left_jump b → two ≡ old ++ (text_code c to (length old) t ++ leave_code 0 t)
+  left_code two put = put ∙ ap (λ b. one ++ left_jump b) goes ∙ ap (λ l. l ++ leave_code 0 t) made ∙ append_assoc old (text_code c to (length old) t) (leave_code 0 t)
 
-  pub jump_told : b ≡ true → (js ks : List ℕ) (n : ℕ) → n ≡ length one → ks ≡ js ++ n ∷ [] → ks ≡ js ++ leave_place c to (length old) t
-  jump_told yes js ks n at push =
-      push ∙ ap (λ k. js ++ k ∷ []) (at ∙ text_end)
-      ∙ ap (λ b. js ++ cond b ((length old + length (text_code c to (length old) t)) ∷ []) []) (sym yes ∙ goes)
-
-  pub no_jump_code : b ≡ false → one ≡ old ++ (text_code c to (length old) t ++ leave_code 0 t)
-  no_jump_code no =
-      let x = text_code c to (length old) t in
-      made ∙ ap (λ l. old ++ l) (sym (append-nil x)) ∙ ap (λ b. old ++ (x ++ cond b (jump 0 ∷ []) [])) (sym no ∙ goes)
-
-  pub no_jump_told : b ≡ false → (js : List ℕ) → js ≡ js ++ leave_place c to (length old) t
-  no_jump_told no js = sym (append-nil js) ∙ ap (λ b. js ++ cond b ((length old + length (text_code c to (length old) t)) ∷ []) []) (sym no ∙ goes)
+  pub left_told : (js ks : List ℕ) → ks ≡ js ++ left_place b (length one) → ks ≡ js ++ leave_place c to (length old) t
+  left_told js ks push =
+      push ∙ ap (λ n. js ++ left_place b n) text_end ∙ ap (λ b. js ++ left_place b (length old + length (text_code c to (length old) t))) goes

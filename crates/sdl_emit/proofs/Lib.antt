@@ -8,4 +8,3 @@ pub mod Marked
 pub mod Once
 pub mod Spacing
 pub mod Trimming
-pub mod Used

@@ -106,12 +106,12 @@ module _ (c : Scope) where
 
   module _ (m n : VariableSet) (t : Text) (old one two : List VariableSet) (b : Bool) (first : one ≡ old ++ text_sets c m t) (goes : b ≡ goes_on t) where
     pub body_goes : n ≡ left c m t → b ≡ true → two ≡ one ++ n ∷ [] → two ≡ old ++ (text_sets c m t ++ leave_sets (left c m t) t)
-    body_goes behind yes made =
+    body_goes behind on made =
         let x = text_sets c m t in
         made ∙ ap (λ l. l ++ n ∷ []) first ∙ append_assoc old x (n ∷ []) ∙ ap (λ k. old ++ (x ++ k ∷ [])) behind
-        ∙ ap (λ b. old ++ (x ++ cond b (left c m t ∷ []) [])) (sym yes ∙ goes)
+        ∙ ap (λ b. old ++ (x ++ cond b (left c m t ∷ []) [])) (sym on ∙ goes)
 
     pub body_ends : b ≡ false → two ≡ one → two ≡ old ++ (text_sets c m t ++ leave_sets (left c m t) t)
-    body_ends no made =
+    body_ends off made =
         let x = text_sets c m t in
-        made ∙ first ∙ ap (λ l. old ++ l) (sym (append-nil x)) ∙ ap (λ b. old ++ (x ++ cond b (left c m t ∷ []) [])) (sym no ∙ goes)
+        made ∙ first ∙ ap (λ l. old ++ l) (sym (append-nil x)) ∙ ap (λ b. old ++ (x ++ cond b (left c m t ∷ []) [])) (sym off ∙ goes)

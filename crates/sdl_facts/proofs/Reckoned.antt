@@ -21,7 +21,7 @@ use Rattle.sdl_counts.specs.declared.counts.Counted.{Counted}
 use Rattle.sdl_counts.specs.declared.counts.Counted.TheVariants.{Instructions, Effects}
 use Rattle.sdl_meaning.specs.Act.{Scope, connector_at}
 use Rattle.sdl_meaning.specs.Named.{NamedText, NamedConnections, NamedPiece}
-use Rattle.sdl_emit.specs.Scopes.{places_by}
+use Rattle.sdl_names.specs.Scopes.{places_by}
 use Rattle.sdl_facts.specs.Made.{IsSmall}
 use Rattle.sdl_meaning.specs.Code.{number_or_zero, places_code, text_code, text_at, size_at, code_joins, ArePlaced, place_in, text_place, connections_place, connections_code, piece_code}
 use Rattle.sdl_counts.specs.Counts.{weight, number_at, AreCounts, AreCountsFrom, AreWithin}

@@ -1,7 +1,7 @@
 //! What the transitions of a process come with.
 
 use sdl_ast::Transition;
-use sdl_emit::Names;
+use sdl_names::Names;
 use sdl_measures::Measure;
 use turn_code::{DraftSignal, DraftVariable, Sort, VariableSet};
 

@@ -3,7 +3,7 @@ use Rattle.std.specs.List.{sum_by}
 use Rattle.sdl_ast.specs.Views.{text_of}
 use Rattle.sdl_tables.specs.Names.{variables_of}
 use Rattle.sdl_sound.specs.Longest.{size}
-use Rattle.sdl_emit.specs.Scopes.{scope_in, piece_in}
+use Rattle.sdl_names.specs.Scopes.{scope_in, piece_in}
 use Rattle.sdl_meaning.specs.Code.{size_at, connections_place, piece_code}
 use Rattle.turn_code.specs.Rules.{greatest, depths}
 use Rattle.sdl_facts.specs.Facts.{shapes_from, piece_sets}

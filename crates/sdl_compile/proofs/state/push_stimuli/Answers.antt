@@ -3,7 +3,7 @@ use Rattle.std.specs.List.{AllZip}
 use Rattle.turn_code.specs.declared.draft.DraftInput.{DraftInput}
 use Rattle.sdl_ast.specs.declared.tree.Stimulus.{Stimulus}
 use Rattle.sdl_tables.specs.Names.{Input}
-use Rattle.sdl_emit.specs.Scopes.{scope_in, input_by}
+use Rattle.sdl_names.specs.Scopes.{scope_in, input_by}
 use Rattle.sdl_compile.specs.Drafts.{IsInputOf, AreReady}
 use Rattle.sdl_compile.proofs.Zips.{ready_at, stimuli_taken}
 use Rattle.sdl_compile.proofs.state.push_stimuli.Goals as goal
