@@ -11,8 +11,8 @@ ghost use Rattle.profile_limits.specs.Limits.{MOST_VARIABLES, MOST_STATES, MOST_
 
 use crate::uses::UseTable;
 use sdl_ast::{Destination, Expression, Identifier, Sort};
-use sdl_sorts::sort_in;
 use sdl_senders::{Recipients, find_receivers};
+use sdl_sorts::sort_in;
 use sdl_tables::{BlockTable, ProcessTable};
 use turn_code::{
     Party, ProcessNumber, Receiver, SignalNumber, StateNumber, TimerNumber, VariableNumber,

@@ -23,11 +23,7 @@ pub struct Sent {
 }
 
 /// Who may have sent what the transitions begin with that come to a connection.
-pub fn senders_at(
-    alloc: Global,
-    sent: &[Sent],
-    number: usize,
-) -> Result<Vec<Sender>, AllocError>
+pub fn senders_at(alloc: Global, sent: &[Sent], number: usize) -> Result<Vec<Sender>, AllocError>
     ensures { IfOk result (λ v. v.items ≡ senders_in (map sent_of sent.now) number) }
 {
     let mut senders = Vec::new(alloc);

@@ -16,7 +16,12 @@ use sdl_tables::{BlockTable, NameTable, ProcessTable};
 use std::alloc::{AllocError, Global};
 
 /// Whether a signal gets back to all of them.
-pub(crate) fn all_get(known: &KnownSenders, block: &BlockTable, process: &ProcessTable, signal: Name) -> bool
+pub(crate) fn all_get(
+    known: &KnownSenders,
+    block: &BlockTable,
+    process: &ProcessTable,
+    signal: Name,
+) -> bool
     ensures { (os : List Origin) → Knows (block_of block.now) (process_of process.now) known.now os
         → result ≡ answers_all (block_of block.now) (process_of process.now) os signal }
 {
@@ -117,7 +122,8 @@ fn learn_output(
         → Learns (block_of block.now) (process_of process.now) table.new known.new os) }
 {
     match to {
-        Some(Destination::Sender(_)) => learn_sendings(known, alloc, table, block, process, sendings,
+        Some(Destination::Sender(_)) => learn_sendings(
+            known, alloc, table, block, process, sendings,
         ),
         Some(Destination::Process(_)) => Ok(()),
         None => Ok(()),
@@ -139,7 +145,15 @@ fn learn_action(
     match action {
         Action::Task(_) => Ok(()),
         Action::Output(output) => {
-            learn_output(known, alloc, table, block, process, &output.to, &output.sendings)
+            learn_output(
+                known,
+                alloc,
+                table,
+                block,
+                process,
+                &output.to,
+                &output.sendings,
+            )
         }
         Action::Set(_) => Ok(()),
         Action::Reset(_) => Ok(()),

@@ -1,4 +1,4 @@
-use Rattle.std.proofs.Common.{rules, arith, ◌≡◌, ◌+◌, ◌<◌, ◌≤◌, [], ℕ, true, List, Some, length, refl, ap, sym, ◌∙◌, subst}
+use Rattle.std.proofs.Common.{rules, arith, ◌≡◌, ◌<◌, ◌≤◌, [], ℕ, true, List, Some, length, refl, ap, sym, ◌∙◌, subst}
 use Rattle.std.specs.Prelude.{slice_get, replicate}
 use Rattle.std.proofs.lemmas.List.{length-map}
 use Rattle.std.proofs.lemmas.Option.{slice_get_within}
@@ -33,8 +33,16 @@ loop-root-preserved c =
     record {
       search = visits.search;
       done = visits.done;
-      visited = none_below (length c.args.graph.now) c.loop-root.root c.loop-root.marks.items c.visit.new.marks.items visits.seen visits.visited c.loop-root.invariant.visited;
+      visited = none_below c.loop-root.root c.loop-root.marks.items c.visit.new.marks.items visits.seen visits.visited c.loop-root.invariant.visited;
     }
 
 pub returns-then-not-branch-clause-none : goal.returns-then-not-branch-clause-none
 returns-then-not-branch-clause-none c = c.in_ok-visit.ensures.back c.if-not-branch.true
+
+pub visit-requires : goal.visit-requires
+visit-requires c = record {
+  graph = c.requires;
+  root = c.loop-root-test.true;
+  search = c.loop-root.invariant.search;
+  done = c.loop-root.invariant.done;
+}
