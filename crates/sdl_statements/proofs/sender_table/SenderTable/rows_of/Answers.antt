@@ -11,5 +11,5 @@ loop-stimulus-preserved c =
     let i = c.loop-stimulus.stimulus-index in
     c.in_ok-push.ensures.items
     ∙ (ap (λ l. l ++ c.number.result ∷ []) c.loop-stimulus.invariant
-    ∙ (ap (λ n. map number (take i xs) ++ n ∷ []) c.number.ensures
+    ∙ (ap (λ n. map number (take i xs) ++ n ∷ []) c.number.ensures.number
     ∙ sym (mapped_more number xs i c.stimulus-item.result c.loop-stimulus-test.true c.stimulus-item.is)))
