@@ -416,7 +416,7 @@ emit_statement-returns-in_ok-emit_action-in-Act t c =
     let old = c.args.code.now.items in
     let a = c.in-Act.action in
     record {
-      code = c.in_ok-emit_action.ensures ∙ ap (λ l. old ++ l) (sym (append-nil (action_code s (action_of a))))
+      code = c.in_ok-emit_action-in-Act.ensures ∙ ap (λ l. old ++ l) (sym (append-nil (action_code s (action_of a))))
           ∙ ap (λ t. old ++ text_code s to (length old) t) (sym (acted c.args.statement.now a c.in-Act.is falls));
       goes = λ rest. ap goes_on (acted c.args.statement.now a c.in-Act.is rest);
     }
@@ -497,7 +497,7 @@ emit_text-returns-in_ok-emit_end-in-Some t c =
     let f = λ (t : Text). now ++ text_code s to (length now) t in
     let g = λ (t : Text). goes && goes_on t in
     record {
-      code = c.in_ok-emit_end.ensures ∙ ap f is ∙ statements_past f _ list i end past c.loop-statement.invariant.code;
+      code = c.in_ok-emit_end-in-Some.ensures ∙ ap f is ∙ statements_past f _ list i end past c.loop-statement.invariant.code;
       goes = sym (and-false goes) ∙ ap g is ∙ statements_past g _ list i end past c.loop-statement.invariant.goes;
     }
 

@@ -219,7 +219,7 @@ mark_statement-returns-in_ok-set-in-Act t c =
     let x = c.args.statement.now in
     let a = c.in-Act.action in
     let is = sym (acted x a c.in-Act.is falls) in
-    let told = c.in_ok-set.ensures in
+    let told = c.in_ok-set-in-Act.ensures in
     record {
       sets = told.sets ∙ ap (λ l. c.args.sets.now.items ++ l) (sym (append-nil (action_sets s m (action_of a)))) ∙ ap (λ t. c.args.sets.now.items ++ text_sets s m t) is;
       entries = ap (λ t. met s m t c.args.entries.now.items) is;
@@ -318,7 +318,7 @@ mark_text-returns-in_ok-set-in-Some t c =
     let g = λ (t : Text). met s m t es in
     let h = λ (t : Text). b && goes_on t in
     let is = sym (ap end_text c.in-Some.is) in
-    let told = c.in_ok-set.ensures in
+    let told = c.in_ok-set-in-Some.ensures in
     record {
       sets = told.sets ∙ ap f is ∙ statements_past f _ list i end past was.sets;
       entries = told.entries ∙ ap g is ∙ statements_past g _ list i end past was.entries;
