@@ -85,19 +85,19 @@ mark_body-returns-in_ok-mark t c =
     let told = c.in_ok-behind.ensures in
     let b = c.in_ok-behind.behind in
     record {
-      sets = body_goes s c.args.set b.set (text_of c.args.body.now) c.args.sets.now.items c.mark_text.new.sets.items c.mark.new.sets.items b.goes_on told.sets told.goes told.behind c.if-goes_on.true c.in_ok-mark.ensures;
+      sets = body_goes s c.args.set b.set (text_of c.args.body.now) c.args.sets.now.items c.mark_text.new.sets.items c.mark.new.sets.items b.goes_on told.sets told.goes told.behind c.if-behind.true c.in_ok-mark.ensures;
       entries = told.entries;
       behind = told.behind;
       goes = told.goes;
     }
 
-pub mark_body-returns-else-goes_on : goal.mark_body-returns-else-goes_on
-mark_body-returns-else-goes_on t c =
+pub mark_body-returns-else-behind : goal.mark_body-returns-else-behind
+mark_body-returns-else-behind t c =
     let s = scope_in c.args.names.now in
     let told = c.in_ok-behind.ensures in
     let b = c.in_ok-behind.behind in
     record {
-      sets = body_ends s c.args.set b.set (text_of c.args.body.now) c.args.sets.now.items c.mark_text.new.sets.items c.mark_text.new.sets.items b.goes_on told.sets told.goes c.if-goes_on.false refl;
+      sets = body_ends s c.args.set b.set (text_of c.args.body.now) c.args.sets.now.items c.mark_text.new.sets.items c.mark_text.new.sets.items b.goes_on told.sets told.goes c.if-behind.false refl;
       entries = told.entries;
       behind = told.behind;
       goes = told.goes;
