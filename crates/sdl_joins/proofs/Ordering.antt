@@ -411,11 +411,3 @@ search_as g m m' p p' o o' a b c h =
 
 pub not_new_at : (marks : List Mark) (n : ℕ) → option_map_or is_new (slice_get marks n) false ≡ false → slice_get marks n ≡ Some New → ⊥
 not_new_at marks n a b = let bad : true ≡ false = sym (ap (λ o. option_map_or is_new o false) b) ∙ a in cc
-
--- nothing is unseen below the next root
-pub none_below : (root : ℕ) (old new : List Mark) → ((n : ℕ) → slice_get new n ≡ Some New → slice_get old n ≡ Some New) → (slice_get new root ≡ Some New → ⊥)
-    → ((n : ℕ) → n < root → slice_get old n ≡ Some New → ⊥) → (n : ℕ) → n < root + 1 → slice_get new n ≡ Some New → ⊥
-none_below root old new seen last before n lt at = elim (cases_eq n root) [
-  | inl e ↦ last (subst (λ k. slice_get new k ≡ Some New) e at)
-  | inr other ↦ before n (omega (arith, lt, other)) (seen n at)
-]

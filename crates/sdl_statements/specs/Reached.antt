@@ -13,7 +13,7 @@ use Rattle.sdl_sound.specs.Orders.{targets_of}
 use Rattle.sdl_sound.specs.Actions.{connection_origins}
 use Rattle.sdl_statements.specs.Distinct.{has_sender, distinct}
 use Rattle.sdl_senders.specs.Known.{AreSenders}
-use Rattle.sdl_senders.specs.Reaches.{is_marked}
+use Rattle.sdl_senders.specs.Reaches.{PlainSent, sent_of, senders_in, is_marked}
 use Rattle.sdl_statements.specs.declared.reaching.Joining.{Joining}
 use Rattle.sdl_senders.specs.declared.sent.Sent.{Sent}
 use Rattle.sdl_senders.specs.declared.sender.Sender.{Sender}

@@ -1,14 +1,14 @@
 -- Who may have sent each signal that a process takes, with numbers for the parties.
-use Rattle.std.specs.Prelude.{◌≡◌, ℕ, Bool, false, List, [], Option, None, Some, length, map, fold, slice_get, All, ⊤}
+use Rattle.std.specs.Prelude.{◌≡◌, ℕ, List, [], Option, None, Some, length, map, fold, slice_get, All}
 use Rattle.std.specs.List.{list_all}
 use Rattle.std.specs.Global.{Vec}
 use Rattle.sdl_ast.specs.declared.expression.Identifier.{Identifier}
 use Rattle.sdl_ast.specs.declared.tree.Stimulus.{Stimulus}
 use Rattle.sdl_ast.specs.declared.tree.Party.{Party}
-use Rattle.sdl_ast.specs.declared.tree.Party.TheVariants.{Environment, Process}
 use Rattle.sdl_ast.specs.Plain.{PlainStimulus, PlainInput, PlainProcess, PlainBlock}
-use Rattle.sdl_tables.specs.Names.{number_of, process_names, add_name, input_parts}
-use Rattle.sdl_sound.specs.Receivers.{party_of, carries, answers}
+use Rattle.sdl_tables.specs.Names.{number_of, add_name, input_parts}
+use Rattle.sdl_sound.specs.Receivers.{answers}
+use Rattle.sdl_senders.specs.Parties.{party_number, IsSender, gets_back}
 use Rattle.sdl_senders.specs.declared.sender.Numbered.{Numbered}
 use Rattle.sdl_senders.specs.declared.sender.Sender.{Sender}
 use Rattle.sdl_senders.specs.declared.sender.Sender.TheVariants as sent_by

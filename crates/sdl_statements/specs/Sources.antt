@@ -1,17 +1,14 @@
 -- With what transitions begin, and to which connections they come, as the code keeps it.
-use Rattle.std.specs.Prelude.{◌≡◌, ◌⊎◌, ℕ, Bool, true, false, Option, Some, List, slice_get, All}
+use Rattle.std.specs.Prelude.{◌≡◌, ◌⊎◌, ℕ, Bool, true, Option, Some, List, All}
 use Rattle.std.specs.List.{list_all}
-use Rattle.std.specs.Option.{option_map_or}
 use Rattle.sdl_ast.specs.Plain.{PlainProcess, PlainBlock}
 use Rattle.sdl_ast.specs.declared.expression.Identifier.{Identifier}
-use Rattle.sdl_tables.specs.Names.{is_in, number_of}
-use Rattle.sdl_sound.specs.Actions.{Origin}
-use Rattle.sdl_sound.specs.Receivers.{party_of, carries, answers, answers_all}
+use Rattle.sdl_tables.specs.Names.{number_of}
+use Rattle.sdl_sound.specs.Receivers.{party_of, carries, answers}
 use Rattle.sdl_senders.specs.Parties.{party_number, IsSender, gets_back}
+use Rattle.sdl_senders.specs.Reaches.{is_marked}
 use Rattle.sdl_ast.specs.declared.tree.Party as the_party
-use Rattle.sdl_senders.specs.declared.known.KnownSenders.{KnownSenders}
 use Rattle.sdl_statements.specs.declared.gathered.Gathered.{Gathered}
-use Rattle.sdl_senders.specs.declared.sender.Sender.{Sender}
 use Rattle.sdl_statements.specs.declared.sources.Senders.{Senders}
 
 -- What gets back to those who were gathered is what f allows, and whatever f allows gets back to each party whose number was

@@ -1,18 +1,13 @@
-use Rattle.std.proofs.Common.{◌≡◌, List, [], map, sym, ap, ◌∙◌, subst}
+use Rattle.std.proofs.Common.{◌≡◌, List, map, sym, ap, ◌∙◌, subst}
 use Rattle.std.specs.List.{AllZip}
 use Rattle.sdl_ast.specs.declared.expression.Identifier.{Identifier}
 use Rattle.sdl_ast.specs.declared.tree.Process.{Process}
 use Rattle.sdl_ast.specs.Views.{block_of, process_of}
 use Rattle.turn_code.specs.declared.draft.DraftState.{DraftState}
-use Rattle.turn_code.specs.declared.draft.DraftVariable.{DraftVariable}
-use Rattle.turn_code.specs.Sets.{initial_set}
-use Rattle.sdl_sound.specs.Longest.{start_piece}
-use Rattle.sdl_sound.specs.Settled.{AreSettled}
-use Rattle.sdl_facts.specs.Made.{IsPieceOf}
 use Rattle.sdl_tables.specs.Names.{Input, states_of, inputs_by_state, saves_by_state}
 use Rattle.sdl_meaning.specs.Act.{Scope, scope_of}
 use Rattle.sdl_meaning.specs.Declarations.{drafted}
-use Rattle.sdl_drafts.specs.Drafts.{IsNamedAs, SavesAll, AreInputsOf, sets_of}
+use Rattle.sdl_drafts.specs.Drafts.{IsNamedAs, SavesAll, AreInputsOf}
 use Rattle.sdl_drafts.proofs.Zips.{states_match}
 use Rattle.sdl_drafts.proofs.process.compile_process.Goals as goal
 
@@ -37,17 +32,4 @@ returns-clause-matches c =
       states = subst (λ (ds : List DraftState). AllZip IsNamedAs (states_of p) ds) (sym c.from-3.ensures) c.in_ok-states.ensures.names;
       saves = saved_in sc (saves_by_state p) c.in_ok-states.states.items c.from-3.result (sym c.from-3.ensures) c.in_ok-states.ensures.saves;
       inputs = states_match sc (inputs_by_state p) c.from-3.result c.requires.ready.inputs made;
-    }
-
-pub returns-clause-made : goal.returns-clause-made
-returns-clause-made c =
-    let p = process_of c.args.table.now in
-    let sc = scope_of (block_of c.args.block.now) p in
-    record {
-      variables = c.from.ensures ∙ c.in_ok-variables.ensures ∙ ap (map drafted) c.rows.ensures;
-      timers = c.from-2.ensures ∙ c.in_ok-timers.ensures ∙ ap (map (λ (id : Identifier). id.name)) c.timers.ensures;
-      start = subst (λ (xs : List DraftVariable). IsPieceOf sc [] (initial_set xs) (start_piece p) c.in_ok-first.first) (c.deref-2.ensures.value ∙ sym c.from.ensures) c.in_ok-first.ensures.made;
-      saves = saved_in sc (saves_by_state p) c.in_ok-states.states.items c.from-3.result (sym c.from-3.ensures) c.in_ok-states.ensures.saves;
-      inputs = made_in sc (inputs_by_state p) c.in_ok-states.states.items c.from-3.result (sym c.from-3.ensures) c.in_ok-states.ensures.made;
-      settled = subst (λ (ds : List DraftState). AreSettled p (sets_of ds)) (sym c.from-3.ensures) (subst (AreSettled p) (sym c.in_ok-states.ensures.sets) c.requires.settled);
     }

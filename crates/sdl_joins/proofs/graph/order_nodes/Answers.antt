@@ -1,4 +1,4 @@
-use Rattle.std.proofs.Common.{rules, arith, ◌≡◌, ◌<◌, ◌≤◌, [], ℕ, true, List, Some, length, refl, ap, sym, ◌∙◌, subst}
+use Rattle.std.proofs.Common.{rules, arith, ◌≡◌, ◌<◌, ◌≤◌, [], ℕ, List, Some, length, refl, ap, sym, ◌∙◌, subst}
 use Rattle.std.specs.Prelude.{slice_get, replicate}
 use Rattle.std.proofs.lemmas.List.{length-map}
 use Rattle.std.proofs.lemmas.Option.{slice_get_within}
@@ -6,7 +6,7 @@ use Rattle.sdl_joins.specs.Links.{graph_in}
 use Rattle.sdl_joins.specs.Searched.{IsSearch}
 use Rattle.sdl_joins.specs.declared.graph.Mark.{Mark}
 use Rattle.sdl_joins.specs.declared.graph.Mark.TheVariants.{New}
-use Rattle.sdl_joins.proofs.Ordering.{search_none, search_as, is_order, none_below}
+use Rattle.sdl_joins.proofs.Ordering.{search_none, search_as, is_order}
 use Rattle.sdl_joins.proofs.graph.order_nodes.Goals as goal
 
 pub loop-root-init : goal.loop-root-init
@@ -25,24 +25,3 @@ returns-clause-order c =
     let was = c.loop-root.invariant in
     is_order g c.loop-root.marks.items c.loop-root.path.items c.loop-root.order.items was.search was.done
     (λ n e. was.visited n (omega (arith, slice_get_within c.loop-root.marks.items n New e, was.search.count, length-map c.args.graph.now (λ v. v.items), c.loop-root-test.false)) e)
-
-pub loop-root-preserved : goal.loop-root-preserved
-loop-root-preserved c =
-    let on : c.in_ok-visit.field-0 ≡ true = c.if-not-branch.false in
-    let visits = c.in_ok-visit.ensures.on on in
-    record {
-      search = visits.search;
-      done = visits.done;
-      visited = none_below c.loop-root.root c.loop-root.marks.items c.visit.new.marks.items visits.seen visits.visited c.loop-root.invariant.visited;
-    }
-
-pub returns-then-not-branch-clause-none : goal.returns-then-not-branch-clause-none
-returns-then-not-branch-clause-none c = c.in_ok-visit.ensures.back c.if-not-branch.true
-
-pub visit-requires : goal.visit-requires
-visit-requires c = record {
-  graph = c.requires;
-  root = c.loop-root-test.true;
-  search = c.loop-root.invariant.search;
-  done = c.loop-root.invariant.done;
-}

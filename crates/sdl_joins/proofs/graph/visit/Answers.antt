@@ -34,22 +34,3 @@ loop-marks-init c =
             visited = not_new_at marks c.args.root not;
           })
     ]
-
-pub loop-marks-preserved : goal.loop-marks-preserved
-loop-marks-preserved c =
-    let on : c.in_ok-advance.field-0 ≡ true = c.if-not-branch.false in
-    let next = c.in_ok-advance.ensures.on on in
-    let was = c.loop-marks.invariant in
-    record {
-      search = next.search;
-      seen = λ n e. was.seen n (next.seen n e);
-      visited = λ e. was.visited (next.seen c.args.root e);
-    }
-
-pub loop-marks-smaller : goal.loop-marks-smaller
-loop-marks-smaller c =
-    let on : c.in_ok-advance.field-0 ≡ true = c.if-not-branch.false in
-    (c.in_ok-advance.ensures.on on).less
-
-pub returns-then-not-branch-clause-back : goal.returns-then-not-branch-clause-back
-returns-then-not-branch-clause-back c = λ e. c.in_ok-advance.ensures.back c.if-not-branch.true
