@@ -1,7 +1,7 @@
 //! The compiler: from the sound tree of a text to pieces of code and what is claimed of them.
 #![tactic(auto)]
 
-mod compile;
+mod compiling;
 
-pub use compile::compile;
+pub use compiling::compile;
 pub use turn_code::Draft;

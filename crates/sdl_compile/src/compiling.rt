@@ -1,5 +1,6 @@
 //! A sound block.
 ghost use Rattle.std.specs.Prelude.{IfOk};
+ghost use Rattle.sdl_ast.specs.Views.{block_of};
 ghost use Rattle.turn_code.specs.Valid.{IsValid};
 ghost use Rattle.sdl_drafts.specs.Blocks.{MatchesBlock};
 ghost use Rattle.sdl_drafts.specs.Meaning.{RunsAsMeant};
