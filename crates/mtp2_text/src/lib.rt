@@ -4,8 +4,8 @@
 ghost use Rattle.std.specs.Prelude.{List, IfOk, IfErr, IsUtf8};
 ghost use Rattle.sdl_lex.specs.declared.lexemes.Token as lexeme;
 ghost use Rattle.sdl_ast.specs.Plain.{PlainBlock};
-ghost use Rattle.sdl_compile.specs.Blocks.{MatchesBlock};
-ghost use Rattle.sdl_compile.specs.Meant.{IsSetOf};
+ghost use Rattle.sdl_drafts.specs.Blocks.{MatchesBlock};
+ghost use Rattle.sdl_drafts.specs.Meant.{IsSetOf};
 ghost use Rattle.turn_verify.specs.Loaded.{IsLoaded, IsRead, IsSoundText, Gives, IsRefused};
 
 mod monitors_text;

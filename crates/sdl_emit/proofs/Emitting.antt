@@ -24,10 +24,6 @@ use Rattle.sdl_ast.proofs.Views.{answer_of-is}
 
 -- ---- one more item of a list
 
-pub one_answer : (xs : List Answer) (i : ℕ) (a : Answer) (o : Choice) → i < length xs → a ≡ get_or xs i a → answers_before (drop i xs) o ≡ answer a.at a.ranges.items (text_of a.body) (answers_before (drop (i + 1) xs) o)
-one_answer xs i a o lt is =
-    ap (λ l. answers_before l o) (drop_more xs i a lt ∙ ap (λ y. y ∷ drop (i + 1) xs) (sym is)) ∙ answer_of-is a (answers_before (drop (i + 1) xs) o)
-
 pub one_statement : (xs : List Statement) (i : ℕ) (s : Statement) (rest : Text) → i < length xs → s ≡ get_or xs i s → statements_before (drop i xs) rest ≡ statement_of s (statements_before (drop (i + 1) xs) rest)
 one_statement xs i s rest lt is = ap (λ l. statements_before l rest) (drop_more xs i s lt ∙ ap (λ y. y ∷ drop (i + 1) xs) (sym is))
 

@@ -17,7 +17,7 @@ use Rattle.sdl_sound.specs.Going.{goes_on, choice_goes_on}
 use Rattle.sdl_sound.specs.Longest.{size, tests_size, bodies_size}
 use Rattle.sdl_meaning.specs.Act.{Scope}
 use Rattle.sdl_meaning.specs.Code.{jump, leave_code, body_size, else_size, answers_size, names_truth, picked, pick_code, ranges_code, tests_code, bodies_place, answers_place, else_place, after_choice, text_code, else_code, answers_code, truth_code, integer_code}
-use Rattle.sdl_emit.specs.Landing.{code_place, starts_from, leave_place, answers_leave, else_leave, landed, filled, first_or, behind_first, has_any, picked_by, tests_by}
+use Rattle.sdl_landing.specs.Landing.{code_place, starts_from, leave_place, answers_leave, else_leave, landed, filled, first_or, behind_first, has_any, picked_by, tests_by}
 use Rattle.sdl_meaning.proofs.Sizes.{leave_size, tests_are, text_size_is, else_size_is}
 use Rattle.sdl_emit.proofs.Emitting.{bodies_size_parts, answers_length, body_length, truth_whole, integer_whole}
 use Rattle.std.proofs.Math.Bool.{or-false as or_false, and_assoc as and_three}
@@ -44,32 +44,8 @@ filled_whole (y ∷ ys) (x ∷ xs) pre post n e h =
 
 -- ---- the places where bodies begin
 
-behind_suc : (k : ℕ) (starts : List CodePlace) → behind_first (drop k starts) ≡ drop (suc k) starts
-behind_suc zero [] = refl
-behind_suc (suc k) [] = refl
-behind_suc zero (s ∷ starts) = refl
-behind_suc (suc k) (s ∷ starts) = behind_suc k starts
-
-behind_drop : (k : ℕ) (starts : List CodePlace) → behind_first (drop k starts) ≡ drop (k + 1) starts
-behind_drop k starts = let e : suc k ≡ k + 1 = omega arith in behind_suc k starts ∙ ap (λ n. drop n starts) e
-
 pub place_is : (p : CodePlace) (n : ℕ) → p.0 ≡ n → p ≡ code_place n
 place_is p n e = ap code_place e
-
-pub picked_skip : (p : CodePlace) (starts : List CodePlace) (k : ℕ) (choice others : Choice) (at : ℕ) (rs : List Range) (body : Text) (v : Bool) → choice ≡ answer at rs body others → list_any (names_truth v) rs ≡ false
-    → picked_by p (drop k starts) choice v ≡ picked_by p (drop (k + 1) starts) others v
-picked_skip p starts k choice others at rs body v is h =
-    ap (λ ch. picked_by p (drop k starts) ch v) is
-    ∙ ap (λ b. cond b (first_or p (drop k starts)) (picked_by p (behind_first (drop k starts)) others v)) h
-    ∙ ap (λ l. picked_by p l others v) (behind_drop k starts)
-
-pub tests_more : (starts : List CodePlace) (k : ℕ) (choice others : Choice) (at : ℕ) (rs : List Range) (body : Text) → choice ≡ answer at rs body others → (place : CodePlace) → place ≡ first_or (code_place 0) (drop k starts) → (old new all : List Instruction)
-    → new ≡ old ++ ranges_code place.0 rs → old ++ tests_by (drop k starts) choice ≡ all → new ++ tests_by (drop (k + 1) starts) others ≡ all
-tests_more starts k choice others at rs body is place h old new all made e =
-    ap (λ l. l ++ tests_by (drop (k + 1) starts) others) made ∙ append_assoc old (ranges_code place.0 rs) (tests_by (drop (k + 1) starts) others)
-    ∙ ap (λ (p : CodePlace). old ++ (ranges_code p.0 rs ++ tests_by (drop (k + 1) starts) others)) h
-    ∙ ap (λ l. old ++ (ranges_code (first_or (code_place 0) (drop k starts)).0 rs ++ tests_by l others)) (sym (behind_drop k starts))
-    ∙ ap (λ ch. old ++ tests_by (drop k starts) ch) (sym is) ∙ e
 
 pub tests_is : (c : Scope) (n : ℕ) (choice : Choice) → tests_by (starts_from c n choice) choice ≡ tests_code c n choice
 tests_is c n nothing_else = refl

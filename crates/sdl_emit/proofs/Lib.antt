@@ -3,8 +3,8 @@ pub mod Copies
 pub mod Emitting
 pub mod Gathering
 pub mod Landed
+pub mod Leaving
 pub mod Marked
 pub mod Once
 pub mod Spacing
 pub mod Trimming
-pub mod Used

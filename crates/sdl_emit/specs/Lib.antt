@@ -1,4 +1,2 @@
-pub mod Landing
+pub mod Bodies
 pub mod Placing
-pub mod Scopes
-pub mod Uses

@@ -1,12 +1,12 @@
 -- The JOINs of a text in the order of its code, and the numbers of the connections to which they lead.
-use Rattle.std.specs.Prelude.{◌≡◌, ◌<◌, ℕ, ◌++◌, Bool, nat_eq, List, length, map, if◌then◌else◌, All, IsSome, Some, slice_get}
-use Rattle.std.specs.List.{list_any}
+use Rattle.std.specs.Prelude.{◌≡◌, ◌<◌, ℕ, ◌++◌, Bool, List, length, map, if◌then◌else◌, All, IsSome, Some, slice_get}
 use Rattle.sdl_ast.specs.declared.tree.Join.{Join}
 use Rattle.sdl_ast.specs.declared.tree.Decision.{Decision, out-Decision}
 use Rattle.sdl_ast.specs.Views.{choice_of, else_choice}
 use Rattle.sdl_meaning.specs.Act.{Scope, connector_at, is_truth}
 use Rattle.sdl_meaning.specs.Code.{number_or_zero, else_joins, answers_joins}
-use Rattle.sdl_emit.specs.Scopes.{question_in}
+use Rattle.sdl_landing.specs.Marks.{has}
+use Rattle.sdl_names.specs.Scopes.{question_in}
 
 -- those of a DECISION: the JOINs of ELSE come last in a Boolean one, and first in an Integer one
 abbrev pub decision_joins : Scope → Decision → List Join
@@ -14,10 +14,6 @@ decision_joins c d =
     if is_truth c (question_in d)
     then answers_joins c (choice_of d) ++ else_joins c (else_choice (out-Decision d).otherwise)
     else else_joins c (else_choice (out-Decision d).otherwise) ++ answers_joins c (choice_of d)
-
--- whether a number is among these
-abbrev pub has : List ℕ → ℕ → Bool
-has ns n = list_any (λ m. nat_eq m n) ns
 
 abbrev pub numbers_of : Scope → List Join → List ℕ
 numbers_of c js = map (λ j. number_or_zero (connector_at c j.connector)) js

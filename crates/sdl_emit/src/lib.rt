@@ -3,16 +3,9 @@
 #![tactic(auto)]
 
 mod bodies;
-mod emit;
-mod landing;
-mod names;
 mod placing;
-mod ranges;
 mod texts;
-mod uses;
 
 pub use bodies::{Body, text_size};
-pub use names::Names;
 pub use placing::{connection_places, place_connections};
 pub use texts::emit_piece;
-pub use uses::{UseTable, find_uses};

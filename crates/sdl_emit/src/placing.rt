@@ -5,7 +5,8 @@ ghost use Rattle.sdl_ast.specs.Views.{text_of, end_text, statement_of, choice_of
 ghost use Rattle.sdl_measures.specs.Counting.{measure_at};
 ghost use Rattle.sdl_measures.specs.Measures.{AreMeasures};
 ghost use Rattle.sdl_trimmed.specs.Trimmed.{AreTrimmed};
-ghost use Rattle.sdl_emit.specs.Scopes.{scope_in, places_by, IsBody};
+ghost use Rattle.sdl_emit.specs.Bodies.{IsBody};
+ghost use Rattle.sdl_names.specs.Scopes.{scope_in, places_by};
 ghost use Rattle.sdl_emit.specs.Placing.{decision_joins, numbers_of, HaveNumbers, AreMarked};
 ghost use Rattle.sdl_meaning.specs.Named.{NamedText, NamedConnections};
 ghost use Rattle.sdl_meaning.specs.Act.{Scope, connector_at};
@@ -13,9 +14,10 @@ ghost use Rattle.sdl_meaning.specs.Code.{number_or_zero, code_joins, else_joins,
 ghost use Rattle.profile_limits.specs.Limits.{MOST_INSTRUCTIONS};
 
 use crate::bodies::Body;
-use crate::names::Names;
 use sdl_ast::{Decision, End, Join, Statement, Transition};
+use sdl_landing::add_once;
 use sdl_measures::Measure;
+use sdl_names::Names;
 use std::alloc::{AllocError, Global};
 
 /// The JOIN with which a text may end.
@@ -121,11 +123,7 @@ fn place_one(
     ensures marks { OnOk result (AreMarked (scope_in names.now) placed.new.items marks.new.items) }
 {
     let number = names.connector(&join.connector);
-    if !marks[number] {
-        marks[number] = true;
-        placed.push(number)?;
-    }
-    Ok(())
+    add_once(placed, marks, number)
 }
 
 /// The connections to which these JOINs lead, in their order, each unless it is placed already.

@@ -7,20 +7,20 @@ ghost use Rattle.sdl_tables.specs.Names.{variables_of};
 ghost use Rattle.sdl_sound.specs.Longest.{size};
 ghost use Rattle.sdl_sound.specs.Going.{goes_on, choice_goes_on};
 ghost use Rattle.sdl_trimmed.specs.Trimmed.{AreTrimmed};
-ghost use Rattle.sdl_emit.specs.Scopes.{scope_in, places_by, question_in, piece_in, IsBody};
+ghost use Rattle.sdl_emit.specs.Bodies.{IsBody};
+ghost use Rattle.sdl_names.specs.Scopes.{scope_in, places_by, question_in, piece_in};
 ghost use Rattle.sdl_meaning.specs.Named.{NamedEnd, NamedText, NamedChoice, NamedPiece};
 ghost use Rattle.sdl_meaning.specs.Code.{end_code, leave_code, body_size, else_size, answers_size, after_choice, text_code, else_code, answers_code, truth_code, integer_code, text_at, size_at, connections_place, place_in, connections_code, piece_code};
-ghost use Rattle.sdl_emit.specs.Landing.{leave_place, answers_leave, else_leave, starts_from};
+ghost use Rattle.sdl_landing.specs.Landing.{leave_place, answers_leave, else_leave, starts_from};
 ghost use Rattle.profile_limits.specs.Limits.{MOST_INSTRUCTIONS, MOST_PARAMETERS};
 
 use crate::bodies::Body;
-use crate::emit::{emit_action, emit_expression, emit_places, put};
-use crate::landing::{
-    fill_places, has_any, keep_places, land_jumps, picked_place, set_at, tests_length,
-};
-use crate::names::Names;
-use crate::ranges::emit_tests;
+use sdl_actions::{emit_action, emit_expression, emit_places};
 use sdl_ast::{Decision, End, Identifier, Statement, Transition};
+use sdl_landing::{
+    choose, emit_tests, fill_places, has_any, keep_places, land_jumps, leave, put, tests_length,
+};
+use sdl_names::Names;
 use sdl_sound::both;
 use std::alloc::{AllocError, Global};
 use turn_code::{CodePlace, Instruction};
@@ -82,11 +82,8 @@ fn emit_body(
     ensures code { OnOk result (code.new.items ≡ code.old.items ++ (text_code (scope_in names.now) (places_by places.now) (length code.old.items) (text_of body.now) ++ leave_code 0 (text_of body.now))) }
     ensures jumps { OnOk result (jumps.new.items ≡ jumps.old.items ++ leave_place (scope_in names.now) (places_by places.now) (length code.old.items) (text_of body.now)) }
 {
-    if emit_text(alloc, code, names, places, body)? {
-        jumps.push(code.len())?;
-        put(code, Instruction::Jump(CodePlace(0)))?;
-    }
-    Ok(())
+    let goes = emit_text(alloc, code, names, places, body)?;
+    leave(code, jumps, goes)
 }
 
 /// The body of ELSE, if there is one.
@@ -167,9 +164,7 @@ fn emit_truth(
     let otherwise = code_place(code.len());
     emit_else(alloc, code, &mut jumps, names, places, decision)?;
     land_jumps(code, &jumps, code_place(code.len()));
-    let falsity = picked_place(decision, &starts, false, otherwise);
-    let truth = picked_place(decision, &starts, true, otherwise);
-    set_at(code, choice, Instruction::Pick(falsity, truth));
+    choose(code, choice, decision, &starts, otherwise);
     Ok(has_any(&jumps))
 }
 

@@ -1,10 +1,10 @@
 pub mod Actions
 pub mod Ahead
+pub mod Bodies
 pub mod CopiedSets
 pub mod Counting
 pub mod Depths
 pub mod Marking
-pub mod Passes
 pub mod Piecewise
 pub mod Reckoned
 pub mod Rights

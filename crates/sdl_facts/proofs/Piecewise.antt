@@ -21,7 +21,7 @@ use Rattle.sdl_sound.specs.Longest.{cost_of, end_cost, Piece, size, places_cost,
 use Rattle.sdl_meaning.specs.Act.{Scope, variable_at, connector_at}
 use Rattle.sdl_meaning.specs.Named.{NamedText, NamedConnections, NamedPiece}
 use Rattle.sdl_meaning.specs.Code.{number_or_zero, store, text_code, places_code, text_at, size_at, code_joins, joined, ArePlaced, place_in, connections_code, text_place, connections_place, piece_code}
-use Rattle.sdl_facts.specs.Counts.{number_at, read_at, AreCounts, AreCountsFrom}
+use Rattle.sdl_counts.specs.Counts.{number_at, read_at, AreCounts, AreCountsFrom}
 use Rattle.sdl_facts.proofs.Straight.{AreSteps}
 use Rattle.sdl_meaning.proofs.Sizes.{places_size, text_size_is}
 use Rattle.sdl_meaning.proofs.Runs.{HasAt, has_front, has_back, has_all}
@@ -32,7 +32,7 @@ use Rattle.sdl_meaning.proofs.Acts.{joined_placed, placed_closed, connection_sta
 use Rattle.sdl_facts.proofs.Counting.{IsWeight, tally, tally_over}
 use Rattle.sdl_facts.proofs.Tallies.{steps_count, text_count}
 use Rattle.sdl_facts.proofs.Ahead.{Goes, AllOf, goes_append, steps_go, text_goes, at_place}
-use Rattle.sdl_facts.proofs.Passes.{same_all, read_ahead, read_back}
+use Rattle.sdl_counts.proofs.Passes.{same_all, read_ahead, read_back}
 use Rattle.sdl_meaning.proofs.Measured.{all_placed, fixed, each_of, each_named}
 use Rattle.turn_code.proofs.Lists.{within as none_past}
 use Rattle.sdl_emit.proofs.Gathering.{text_there}

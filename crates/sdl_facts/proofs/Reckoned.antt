@@ -17,14 +17,15 @@ use Rattle.sdl_sound.specs.Going.{goes_on as may_go_on}
 use Rattle.sdl_sound.specs.Longest.{Piece, size, budget, effects, joined as measure_joined, piece_budget, piece_effects}
 use Rattle.sdl_measures.specs.Measures.{capped, IsMeasureOf, AreMeasures}
 use Rattle.sdl_measures.specs.declared.measures.Measure.{Measure}
-use Rattle.sdl_facts.specs.declared.counts.Counted.{Counted}
-use Rattle.sdl_facts.specs.declared.counts.Counted.TheVariants.{Instructions, Effects}
+use Rattle.sdl_counts.specs.declared.counts.Counted.{Counted}
+use Rattle.sdl_counts.specs.declared.counts.Counted.TheVariants.{Instructions, Effects}
 use Rattle.sdl_meaning.specs.Act.{Scope, connector_at}
 use Rattle.sdl_meaning.specs.Named.{NamedText, NamedConnections, NamedPiece}
-use Rattle.sdl_emit.specs.Scopes.{places_by}
+use Rattle.sdl_names.specs.Scopes.{places_by}
 use Rattle.sdl_facts.specs.Made.{IsSmall}
 use Rattle.sdl_meaning.specs.Code.{number_or_zero, places_code, text_code, text_at, size_at, code_joins, ArePlaced, place_in, text_place, connections_place, connections_code, piece_code}
-use Rattle.sdl_facts.specs.Counts.{weight, number_at, AreCounts, AreCountsFrom, AreWithin, measure_of, measured, piece_count}
+use Rattle.sdl_counts.specs.Counts.{weight, number_at, AreCounts, AreCountsFrom, AreWithin}
+use Rattle.sdl_facts.specs.Counts.{measure_of, measured, piece_count}
 use Rattle.sdl_meaning.proofs.Sizes.{places_size, text_size_is, connections_size}
 use Rattle.sdl_meaning.proofs.Branches.{EachJoin}
 use Rattle.sdl_meaning.proofs.Joining.{HasConnection, has_connection}

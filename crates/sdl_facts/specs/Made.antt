@@ -13,8 +13,8 @@ use Rattle.sdl_meaning.specs.Act.{Scope}
 use Rattle.sdl_meaning.specs.Code.{ArePlaced, piece_code}
 use Rattle.sdl_meaning.specs.Declarations.{drafted_signals, drafted_variables}
 use Rattle.sdl_facts.specs.Facts.{shapes_from, piece_sets}
-use Rattle.sdl_facts.specs.declared.counts.Counted.TheVariants.{Instructions, Effects}
-use Rattle.sdl_facts.specs.Counts.{weight, number_at, AreCounts}
+use Rattle.sdl_counts.specs.declared.counts.Counted.TheVariants.{Instructions, Effects}
+use Rattle.sdl_counts.specs.Counts.{weight, number_at, AreCounts}
 
 -- the certificate names the longest path
 pub record IsLongestOf (c : Scope) (q : Piece) (k : Cert) : Type 0 where

@@ -2,7 +2,6 @@
 //! effects are still to come.
 #![tactic(auto)]
 
-mod counts;
 mod entries;
 mod facts;
 mod marks;

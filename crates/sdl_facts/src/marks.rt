@@ -4,7 +4,7 @@ ghost use Rattle.sdl_ast.specs.Plain.{Text, falls};
 ghost use Rattle.sdl_ast.specs.Views.{text_of, statement_of, choice_of, else_choice};
 ghost use Rattle.sdl_sound.specs.Going.{goes_on, choice_goes_on};
 ghost use Rattle.sdl_ast.specs.declared.tree.Decision.{out-Decision};
-ghost use Rattle.sdl_emit.specs.Scopes.{scope_in, question_in, NamedElse};
+ghost use Rattle.sdl_names.specs.Scopes.{scope_in, question_in, NamedElse};
 ghost use Rattle.sdl_meaning.specs.Act.{connector_at, is_truth};
 ghost use Rattle.sdl_meaning.specs.Code.{number_or_zero};
 ghost use Rattle.sdl_meaning.specs.Named.{NamedEnd, NamedText, NamedChoice};
@@ -14,7 +14,7 @@ ghost use Rattle.sdl_facts.specs.Facts.{leave_sets, text_sets, else_sets, answer
 
 use crate::sets::{everything, mark, mark_action, mark_expression, mark_tests, meet};
 use sdl_ast::{Decision, End, Join, Statement, Transition};
-use sdl_emit::Names;
+use sdl_names::Names;
 use sdl_sound::{both, one_of};
 use std::alloc::AllocError;
 use turn_code::VariableSet;
@@ -60,7 +60,7 @@ fn mark_end(
 }
 
 /// What is behind a text: the variables that are set there, and whether the text may run off its end.
-#[derive(Clone, Copy, Debug)]
+#[derive(Clone, Copy)]
 pub(crate) struct Behind {
     set: VariableSet,
     goes_on: bool,

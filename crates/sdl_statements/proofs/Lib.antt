@@ -4,7 +4,6 @@ pub mod BackRows
 pub mod Backward
 pub mod Coming
 pub mod Gathering
-pub mod Knowing
 pub mod Numbered
 pub mod RowsAdded
 pub mod SenderRows

@@ -1,7 +1,6 @@
 pub mod Asked
 pub mod Backs
 pub mod Distinct
-pub mod Founds
 pub mod Reached
 pub mod SenderTables
 pub mod Sources

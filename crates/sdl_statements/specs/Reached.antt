@@ -12,11 +12,12 @@ use Rattle.sdl_sound.specs.Joins.{comes, reaches}
 use Rattle.sdl_sound.specs.Orders.{targets_of}
 use Rattle.sdl_sound.specs.Actions.{connection_origins}
 use Rattle.sdl_statements.specs.Distinct.{has_sender, distinct}
-use Rattle.sdl_statements.specs.Sources.{is_marked, AreSenders}
+use Rattle.sdl_senders.specs.Known.{AreSenders}
+use Rattle.sdl_senders.specs.Reaches.{PlainSent, sent_of, senders_in, is_marked}
 use Rattle.sdl_statements.specs.declared.reaching.Joining.{Joining}
-use Rattle.sdl_statements.specs.declared.reaching.Sent.{Sent}
-use Rattle.sdl_statements.specs.declared.sender_table.Sender.{Sender}
-use Rattle.sdl_statements.specs.declared.sender_table.Sender.TheVariants.{Nobody}
+use Rattle.sdl_senders.specs.declared.sent.Sent.{Sent}
+use Rattle.sdl_senders.specs.declared.sender.Sender.{Sender}
+use Rattle.sdl_senders.specs.declared.sender.Sender.TheVariants.{Nobody}
 use Rattle.sdl_statements.specs.declared.sender_table.SenderTable.{SenderTable}
 
 -- the rows of what an INPUT takes, and the numbers of the connections that it joins
@@ -54,24 +55,12 @@ sent_joins p t u = flat_map (λ i. if may_begin t u i then joins_of i.text else 
 abbrev pub sent_reach : PlainProcess → SenderTable → Sender → List Bool
 sent_reach p t u = map (λ c. list_any (λ j. comes p j.connector.name c.name.name) (sent_joins p t u)) p.connections
 
--- a sender, and to which connections transitions come that begin with what it may have sent
-pub record PlainSent : Type 0 where
-  pub sender : Sender
-  pub reached : List Bool
-
-abbrev pub sent_of : Sent → PlainSent
-sent_of z = record { sender = z.sender; reached = z.reached.items }
-
 abbrev pub sent_by : PlainProcess → SenderTable → Sender → PlainSent
 sent_by p t u = record { sender = u; reached = sent_reach p t u }
 
 -- nobody for START, and all senders of the INPUTs
 abbrev pub sent_all : PlainProcess → SenderTable → List PlainSent
 sent_all p t = record { sender = Nobody; reached = map (λ c. reaches p p.start.text c.name.name) p.connections } ∷ map (sent_by p t) (distinct t.rows.items)
-
--- those of them at connection n
-abbrev pub senders_in : List PlainSent → ℕ → List Sender
-senders_in zs n = flat_map (λ z. if is_marked z.reached n then z.sender ∷ [] else []) zs
 
 -- these tell for each connection who may have sent what the transitions begin with that come there
 abbrev pub AreSent : PlainBlock → PlainProcess → List Sent → Type 0

@@ -1,27 +1,18 @@
 -- Who may have sent each signal that a process takes, with numbers for the parties.
-use Rattle.std.specs.Prelude.{◌≡◌, ℕ, Bool, false, List, [], Option, None, Some, length, map, fold, slice_get, All, ⊤}
+use Rattle.std.specs.Prelude.{◌≡◌, ℕ, List, [], Option, None, Some, length, map, fold, slice_get, All}
 use Rattle.std.specs.List.{list_all}
 use Rattle.std.specs.Global.{Vec}
 use Rattle.sdl_ast.specs.declared.expression.Identifier.{Identifier}
 use Rattle.sdl_ast.specs.declared.tree.Stimulus.{Stimulus}
 use Rattle.sdl_ast.specs.declared.tree.Party.{Party}
-use Rattle.sdl_ast.specs.declared.tree.Party.TheVariants.{Environment, Process}
 use Rattle.sdl_ast.specs.Plain.{PlainStimulus, PlainInput, PlainProcess, PlainBlock}
-use Rattle.sdl_tables.specs.Names.{number_of, process_names, add_name, input_parts}
-use Rattle.sdl_sound.specs.Receivers.{party_of, carries, answers}
-use Rattle.sdl_statements.specs.declared.sender_table.Numbered.{Numbered}
-use Rattle.sdl_statements.specs.declared.sender_table.Sender.{Sender}
-use Rattle.sdl_statements.specs.declared.sender_table.Sender.TheVariants as sent_by
+use Rattle.sdl_tables.specs.Names.{number_of, add_name, input_parts}
+use Rattle.sdl_sound.specs.Receivers.{answers}
+use Rattle.sdl_senders.specs.Parties.{party_number, IsSender, gets_back}
+use Rattle.sdl_senders.specs.declared.sender.Numbered.{Numbered}
+use Rattle.sdl_senders.specs.declared.sender.Sender.{Sender}
+use Rattle.sdl_senders.specs.declared.sender.Sender.TheVariants as sent_by
 use Rattle.sdl_statements.specs.declared.sender_table.SenderTable.{SenderTable}
-
--- The number of a party: that of its process, and one past all of these for the environment. A process that isn't there has
--- none.
-abbrev pub party_number : PlainBlock → Party → Option ℕ
-party_number b Environment = Some (length (process_names b))
-party_number b (Process id) = number_of (process_names b) id.name
-
-abbrev pub IsNumbered : PlainBlock → Numbered → Type 0
-IsNumbered b x = x.number ≡ party_number b x.party
 
 abbrev pub numbered : PlainBlock → Party → Numbered
 numbered b q = record { party = q; number = party_number b q }
@@ -29,15 +20,6 @@ numbered b q = record { party = q; number = party_number b q }
 abbrev pub sender_of : Option Numbered → Sender
 sender_of None = sent_by.Nobody
 sender_of (Some x) = sent_by.Party x
-
--- whether a signal gets back to who sent what a transition begins with
-abbrev pub gets_back : PlainBlock → PlainProcess → List ℕ → Sender → Bool
-gets_back b p s sent_by.Nobody = false
-gets_back b p s (sent_by.Party x) = carries b (party_of p) x.party s
-
-abbrev pub IsSender : PlainBlock → Sender → Type 0
-IsSender b sent_by.Nobody = ⊤
-IsSender b (sent_by.Party x) = IsNumbered b x
 
 -- These are all who may have sent a signal or timer to a process: what they all get is what it allows.
 pub record AreSendersOf (b : PlainBlock) (p : PlainProcess) (name : List ℕ) (row : List Sender) : Type 0 where

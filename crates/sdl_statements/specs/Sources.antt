@@ -1,37 +1,15 @@
 -- With what transitions begin, and to which connections they come, as the code keeps it.
-use Rattle.std.specs.Prelude.{◌≡◌, ◌⊎◌, ℕ, Bool, true, false, Option, Some, List, slice_get, All}
+use Rattle.std.specs.Prelude.{◌≡◌, ◌⊎◌, ℕ, Bool, true, Option, Some, List, All}
 use Rattle.std.specs.List.{list_all}
-use Rattle.std.specs.Option.{option_map_or}
 use Rattle.sdl_ast.specs.Plain.{PlainProcess, PlainBlock}
 use Rattle.sdl_ast.specs.declared.expression.Identifier.{Identifier}
-use Rattle.sdl_tables.specs.Names.{is_in, number_of}
-use Rattle.sdl_sound.specs.Actions.{Origin}
-use Rattle.sdl_sound.specs.Receivers.{party_of, carries, answers, answers_all}
-use Rattle.sdl_statements.specs.SenderTables.{party_number, IsSender, gets_back}
+use Rattle.sdl_tables.specs.Names.{number_of}
+use Rattle.sdl_sound.specs.Receivers.{party_of, carries, answers}
+use Rattle.sdl_senders.specs.Parties.{party_number, IsSender, gets_back}
+use Rattle.sdl_senders.specs.Reaches.{is_marked}
 use Rattle.sdl_ast.specs.declared.tree.Party as the_party
-use Rattle.sdl_statements.specs.declared.known.KnownSenders.{KnownSenders}
 use Rattle.sdl_statements.specs.declared.gathered.Gathered.{Gathered}
-use Rattle.sdl_statements.specs.declared.sender_table.Sender.{Sender}
 use Rattle.sdl_statements.specs.declared.sources.Senders.{Senders}
-
--- These senders are all who may have sent one of these: what they all get is what each of these allows.
-pub record AreSenders (b : PlainBlock) (p : PlainProcess) (senders : List Sender) (from : List Origin) : Type 0 where
-  pub told : (s : List ℕ) → list_all (gets_back b p s) senders ≡ answers_all b p from s
-  pub numbered : All (IsSender b) senders
-
--- each of these signals gets back to all who may have sent one of these, or each doesn't
-unfoldable pub AreAlike : PlainBlock → PlainProcess → List Origin → Bool → List Identifier → Type 0
-AreAlike b p from back ids = (s : List ℕ) → is_in ids s ≡ true → answers_all b p from s ≡ back
-
--- the senders of one of these, and what is known of signals
-pub record Knows (b : PlainBlock) (p : PlainProcess) (k : KnownSenders) (from : List Origin) : Type 0 where
-  pub senders : AreSenders b p k.list.items from
-  pub back : AreAlike b p from true k.back
-  pub lost : AreAlike b p from false k.lost
-
--- whether there is a mark for a number, and it is set
-abbrev pub is_marked : List Bool → ℕ → Bool
-is_marked marks n = option_map_or (λ b. b) (slice_get marks n) false
 
 -- What gets back to those who were gathered is what f allows, and whatever f allows gets back to each party whose number was
 -- seen.

@@ -14,5 +14,4 @@ mod sources;
 mod statements;
 
 pub use lost::lost_output;
-pub use receivers::{Recipients, find_receivers};
 pub use statements::{bad_divisor, doubtful_output, missing_answer, unknown_name, wrong_sort};

@@ -9,14 +9,15 @@ ghost use Rattle.sdl_joins.specs.Links.{graph_in, IsGraph};
 ghost use Rattle.sdl_sound.specs.Orders.{links_of};
 ghost use Rattle.sdl_statements.specs.declared.sender_table.SenderTable as told;
 ghost use Rattle.sdl_statements.specs.SenderTables.{ToldAll};
-ghost use Rattle.sdl_statements.specs.Reached.{joining_of, input_joining, takes_one, starts_with, sent_reach, sent_of, senders_in, AreSent};
+ghost use Rattle.sdl_senders.specs.Reaches.{sent_of, senders_in};
+ghost use Rattle.sdl_statements.specs.Reached.{joining_of, input_joining, takes_one, starts_with, sent_reach, AreSent};
 
 use crate::back_table::is_there;
 use crate::distinct::{MarkedRow, distinct_senders, mark_rows, rows_with};
-use crate::sender_table::{Sender, SenderTable};
-use crate::sources::is_marked;
+use crate::sender_table::SenderTable;
 use sdl_ast::InputPart;
 use sdl_joins::{find_links, reached_from, reached_in, targets_in};
+use sdl_senders::{Sender, Sent};
 use sdl_tables::ProcessTable;
 use std::alloc::{AllocError, Global};
 
@@ -26,13 +27,6 @@ use std::alloc::{AllocError, Global};
 struct Joining {
     rows: Vec<Option<usize>>,
     targets: Vec<usize>,
-}
-
-/// Somebody who may have sent what some transitions begin with, and a mark for each connection to which those come.
-#[derive(Drop)]
-pub(crate) struct Sent {
-    sender: Sender,
-    reached: Vec<bool>,
 }
 
 fn look_at(
@@ -140,21 +134,4 @@ pub(crate) fn find_sent(
         all.push(Sent { sender, reached })?;
     }
     Ok(all)
-}
-
-/// Who may have sent what the transitions begin with that come to a connection.
-pub(crate) fn senders_at(
-    alloc: Global,
-    sent: &[Sent],
-    number: usize,
-) -> Result<Vec<Sender>, AllocError>
-    ensures { IfOk result (λ v. v.items ≡ senders_in (map sent_of sent.now) number) }
-{
-    let mut senders = Vec::new(alloc);
-    for one in sent {
-        if is_marked(&one.reached, number) {
-            senders.push(one.sender)?;
-        }
-    }
-    Ok(senders)
 }

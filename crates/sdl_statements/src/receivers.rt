@@ -3,39 +3,18 @@ ghost use Rattle.std.specs.Prelude.{◌≡◌, List, Some, map};
 ghost use Rattle.std.specs.List.{flat_map};
 ghost use Rattle.sdl_ast.specs.Views.{sending_of, action_of, process_of, block_of};
 ghost use Rattle.sdl_tables.specs.Scopes.{Marks};
-ghost use Rattle.sdl_sound.specs.Receivers.{party_of, receivers, arrives, lost_sending, lost_action, is_doubtful, doubtful_sending, doubtful_action};
+ghost use Rattle.sdl_sound.specs.Receivers.{party_of, arrives, lost_sending, lost_action, is_doubtful, doubtful_sending, doubtful_action};
 ghost use Rattle.sdl_sound.specs.Actions.{Origin};
-ghost use Rattle.sdl_statements.specs.Sources.{Knows};
+ghost use Rattle.sdl_senders.specs.Known.{Knows};
 ghost use Rattle.sdl_statements.specs.Asked.{back_destination, back_action};
-ghost use Rattle.sdl_statements.specs.Founds.{Counts};
+ghost use Rattle.sdl_senders.specs.Founds.{Counts};
 
-use crate::known::KnownSenders;
+use crate::known::all_get;
 use crate::sender_table::party_of;
 use sdl_ast::{Action, Destination, Party, Sending};
 use sdl_lex::Name;
+use sdl_senders::{KnownSenders, Recipients, find_receivers};
 use sdl_tables::{BlockTable, ProcessTable, earlier};
-
-/// Who gets a signal by the routes.
-#[derive(Clone, Copy, Debug, PartialEq, Eq)]
-pub enum Recipients {
-    /// No path brings it to anybody.
-    Nobody,
-    /// One party, however many paths bring it there.
-    One(Party),
-    /// Two parties or more.
-    Several,
-}
-
-/// Who gets a signal that a party sends to nobody in particular.
-pub fn find_receivers(block: &BlockTable, from: &Party, signal: Name) -> Recipients
-    ensures { Counts result (receivers (block_of block.now) from.now signal) }
-{
-    match block.receivers(from, signal) {
-        [] => Recipients::Nobody,
-        [one] => Recipients::One(*one),
-        _ => Recipients::Several,
-    }
-}
 
 /// Whether a signal that says to whom it goes gets there.
 fn arrives_at(
@@ -49,7 +28,7 @@ fn arrives_at(
         → result ≡ arrives (block_of block.now) (process_of process.now) os (Some to.now) signal }
 {
     match to {
-        Destination::Sender(_) => from.all_get(block, process, signal),
+        Destination::Sender(_) => all_get(from, block, process, signal),
         Destination::Process(id) => {
             block.carries(&party_of(process), &Party::Process(*id), signal)
         }

@@ -4,11 +4,13 @@ ghost use Rattle.sdl_ast.specs.Plain.{PlainBlock, PlainProcess};
 ghost use Rattle.sdl_ast.specs.Views.{stimulus_of, input_of, process_of, block_of};
 ghost use Rattle.sdl_tables.specs.Names.{number_of, add_name};
 ghost use Rattle.sdl_sound.specs.Receivers.{party_of};
-ghost use Rattle.sdl_statements.specs.declared.sender_table.Sender.TheVariants as sent_by;
-ghost use Rattle.sdl_statements.specs.SenderTables.{party_number, numbered, AreSendersOf, stimulus_rows, Tells, add_stimulus, add_input, ToldAll};
+ghost use Rattle.sdl_senders.specs.declared.sender.Sender.TheVariants as sent_by;
+ghost use Rattle.sdl_senders.specs.Parties.{party_number};
+ghost use Rattle.sdl_statements.specs.SenderTables.{numbered, AreSendersOf, stimulus_rows, Tells, add_stimulus, add_input, ToldAll};
 
 use sdl_ast::{Identifier, InputPart, Party, Stimulus};
 use sdl_lex::Name;
+use sdl_senders::{Numbered, Sender, nobody};
 use sdl_tables::{BlockTable, NameTable, ProcessTable};
 use std::alloc::{AllocError, Global};
 
@@ -17,23 +19,6 @@ pub(crate) fn party_of(process: &ProcessTable) -> Party
     ensures { result ≡ party_of (process_of process.now) }
 {
     Party::Process(process.process().name)
-}
-
-/// A party with its number; two with one number are the same party.
-#[derive(Clone, Copy)]
-pub(crate) struct Numbered {
-    pub party: Party,
-    /// That of its process, or one past all of these for the environment; none where there is no such process.
-    pub number: Option<usize>,
-}
-
-/// Who sent what a transition begins with.
-#[derive(Clone, Copy)]
-pub(crate) enum Sender {
-    /// Nobody: it is START or a timer.
-    Nobody,
-    /// A party, by a route.
-    Party(Numbered),
 }
 
 /// The number of a party: that of its process, or one past all of these for the environment; none where there is no such process.
@@ -63,13 +48,6 @@ fn number_parties(
         }))?;
     }
     Ok(rows)
-}
-
-/// Nobody, as the one sender.
-pub(crate) fn nobody(alloc: Global) -> Result<Vec<Sender>, AllocError>
-    ensures { IfOk result (λ v. v.items ≡ sent_by.Nobody ∷ []) }
-{
-    Ok(vec![in alloc; Sender::Nobody]?)
 }
 
 /// Who may have sent a signal to a process: nobody, where it is a timer.

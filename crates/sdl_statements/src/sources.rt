@@ -7,23 +7,17 @@ ghost use Rattle.sdl_ast.specs.Views.{process_of, block_of};
 ghost use Rattle.sdl_sound.specs.Actions.{begins};
 ghost use Rattle.sdl_sound.specs.Receivers.{party_of, carries, answers};
 ghost use Rattle.sdl_tables.specs.Names.{number_of};
-ghost use Rattle.sdl_statements.specs.SenderTables.{IsNumbered, IsSender, sender_of, gets_back, Tells};
-ghost use Rattle.sdl_statements.specs.Sources.{is_marked, AreSenders, Gathers, Marks};
+ghost use Rattle.sdl_senders.specs.Parties.{IsNumbered, IsSender, gets_back};
+ghost use Rattle.sdl_statements.specs.SenderTables.{sender_of, Tells};
+ghost use Rattle.sdl_senders.specs.Known.{AreSenders};
+ghost use Rattle.sdl_senders.specs.Reaches.{is_marked};
+ghost use Rattle.sdl_statements.specs.Sources.{Gathers, Marks};
 
-use crate::sender_table::{Numbered, Sender, SenderTable, nobody, senders_of};
+use crate::sender_table::{SenderTable, senders_of};
 use sdl_ast::Stimulus;
+use sdl_senders::{Numbered, Sender, is_marked, nobody};
 use sdl_tables::{BlockTable, ProcessTable};
 use std::alloc::{AllocError, Global};
-
-/// Whether a number is there and has a mark.
-pub(crate) fn is_marked(marks: &[bool], number: usize) -> bool
-    ensures { result ≡ is_marked marks.now number }
-{
-    match marks.get(number) {
-        Some(mark) => *mark,
-        None => false,
-    }
-}
 
 /// Marks a number, if there is one and a mark for it: whether it wasn't marked.
 pub(crate) fn mark(marks: &mut Vec<bool>, number: Option<usize>) -> bool

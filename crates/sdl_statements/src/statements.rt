@@ -11,11 +11,10 @@ ghost use Rattle.sdl_sound.specs.Decisions.{unanswered};
 ghost use Rattle.sdl_sound.specs.Divisors.{bad_divisors};
 ghost use Rattle.sdl_sound.specs.Statements.{acts, covers, finishes, statements_of, choice_statements};
 ghost use Rattle.sdl_sound.specs.Actions.{Origin, begins, in_input, in_connection, in_statements};
-ghost use Rattle.sdl_statements.specs.Sources.{Knows};
+ghost use Rattle.sdl_senders.specs.Known.{Knows};
 ghost use Rattle.sdl_sound.specs.Parts.{statement_parts, question_of, decision_parts, answer_parts, end_parts};
 ghost use Rattle.sdl_statements.specs.Asked.{asked, asked_all, asks_origin};
 
-use crate::known::KnownSenders;
 use crate::receivers::{back_in_action, doubtful_in_action, lost_in_action};
 use sdl_ast::{
     Action, Connection, Decision, End, Expression, InputPart, Range, Statement, Transition,
@@ -24,6 +23,7 @@ use sdl_scopes::{
     unknown_connector, unknown_in_action, unknown_in_block, unknown_in_expression,
     unknown_in_inputs, unknown_in_parts,
 };
+use sdl_senders::KnownSenders;
 use sdl_sorts::{
     bad_in, bad_in_action, unanswered_decision, wrong_declaration, wrong_in, wrong_in_action,
     wrong_in_ranges,

@@ -1,0 +1,4 @@
+pub mod Founds
+pub mod Known
+pub mod Parties
+pub mod Reaches
