@@ -15,8 +15,8 @@ one_word ws i w before spaced after word all within space more is had =
     let rest : List ℕ = behind (drop (i + 1) ws) in
     let here : behind (drop i ws) ≡ 32 ∷ ((get_or ws i w).now ++ rest) = at_drop_more behind ws i w within in
     let joined : after ++ rest ≡ before ++ (32 ∷ (word ++ rest)) =
-        ap (λ t. t ++ rest) (more ∙ ap (λ t. t ++ word) space)
-        ∙ (append_assoc (before ++ 32 ∷ []) word rest ∙ append_assoc before (32 ∷ []) (word ++ rest)) in
+    ap (λ t. t ++ rest) (more ∙ ap (λ t. t ++ word) space)
+    ∙ (append_assoc (before ++ 32 ∷ []) word rest ∙ append_assoc before (32 ∷ []) (word ++ rest)) in
     joined ∙ (ap (λ (t : List ℕ). before ++ (32 ∷ (t ++ rest))) is ∙ (ap (λ t. before ++ t) (sym here) ∙ had))
 
 pub loop-word-preserved : goal.loop-word-preserved

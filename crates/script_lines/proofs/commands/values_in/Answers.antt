@@ -28,9 +28,9 @@ loop-word-preserved c =
     record {
       good = sym (good_here c.args.words.now c.loop-word.word-index _ (Some c.in-Some.value) c.loop-word-test.true here) ∙ c.loop-word.invariant.good;
       values = ap (λ vs. vs ++ values (drop (c.loop-word.word-index + 1) c.args.words.now)) c.in_ok-push-in-Some.ensures.items
-      ∙ (append_assoc c.loop-word.values.items (c.in-Some.value ∷ []) (values (drop (c.loop-word.word-index + 1) c.args.words.now))
-      ∙ (ap (λ vs. c.loop-word.values.items ++ vs) (sym (values_here c.args.words.now c.loop-word.word-index _ (Some c.in-Some.value) c.loop-word-test.true here))
-      ∙ c.loop-word.invariant.values));
+          ∙ (append_assoc c.loop-word.values.items (c.in-Some.value ∷ []) (values (drop (c.loop-word.word-index + 1) c.args.words.now))
+          ∙ (ap (λ vs. c.loop-word.values.items ++ vs) (sym (values_here c.args.words.now c.loop-word.word-index _ (Some c.in-Some.value) c.loop-word-test.true here))
+          ∙ c.loop-word.invariant.values));
     }
 
 pub returns-in-None : goal.returns-in-None

@@ -55,7 +55,7 @@ loop-line-preserved c =
     let pushed = was_ok c.push.result c.map_err.result _ _ _ c.map_err.ensures.cases c.in_ok-map_err-in-Some.was in
     let s : Said = record { line = c.line-item.result.number; command = c.in-Some.command } in
     let more : c.push.new.self.items ≡ c.loop-line.commands.items ++ s ∷ [] =
-        c.push.ensures.items ∙ ap (λ (b : Bool). if b then c.loop-line.commands.items ++ s ∷ [] else c.loop-line.commands.items) pushed in
+    c.push.ensures.items ∙ ap (λ (b : Bool). if b then c.loop-line.commands.items ++ s ∷ [] else c.loop-line.commands.items) pushed in
     record {
       bad = sym (bad_here ls at c.line-item.result _ c.loop-line-test.true c.line-item.is reads) ∙ c.loop-line.invariant.bad;
       commands = one_said ls at c.loop-line.commands.items _ s _ more (said_here ls at c.line-item.result _ c.loop-line-test.true c.line-item.is reads) c.loop-line.invariant.commands;
