@@ -56,13 +56,17 @@ impl Book {
     {
         keeps_law();
         let _valid = set.draft();
+        let journal = Vec::with_capacity(alloc, limits.journal())?;
+        let base = Link::open(alloc, set, limits.port(), limits.env())?;
+        let link = Link::open(alloc, set, limits.port(), limits.env())?;
+        let kept = set.copy()?;
         Ok(Book {
-            set: set.copy()?,
-            base: Link::open(alloc, set, limits.port(), limits.env())?,
+            set: kept,
+            base,
             first: 0,
-            journal: Vec::with_capacity(alloc, limits.journal())?,
+            journal,
             limit: limits.journal(),
-            link: Link::open(alloc, set, limits.port(), limits.env())?,
+            link,
             machine: new_machine(),
         })
     }

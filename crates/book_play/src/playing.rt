@@ -1,12 +1,13 @@
 //! Whole book scripts.
-ghost use Rattle.std.specs.Prelude.{◌≡◌, ◌⊎◌};
-ghost use Rattle.script_lines.specs.Scripts.{AreInRange, plain_script};
-ghost use Rattle.book_play.specs.Played.{first_book, IsWritten, IsMissed};
+ghost use Rattle.std.specs.Prelude.{◌≡◌, ◌⊎◌, ◌++◌, List, ℕ, Option, map};
+ghost use Rattle.link_machine.specs.Ledger.{Ledger};
+ghost use Rattle.script_lines.specs.Scripts.{AreInRange, PlainSaid, plain_said, plain_script};
+ghost use Rattle.book_play.specs.Played.{first_book, last_of, IsRun, IsWritten, IsMissed};
 
 use crate::player::Player;
 use crate::printer::Printer;
 use actor_book::{Book, Limits};
-use script_lines::{Script, Settings};
+use script_lines::{Said, Script, Settings};
 use std::alloc::Global;
 use std::io::Write;
 use text_check::FAILED;
@@ -28,6 +29,27 @@ fn limits_of(settings: Settings) -> Limits
     }
 }
 
+/// Does what commands say, in order, up to an expectation that fails. Gives the exit status, 4 where memory or a write fails.
+fn run_all<W: Write>(
+    alloc: Global,
+    player: &mut Player,
+    commands: &[Said<'_>],
+    writer: &mut W,
+) -> u8
+    ensures held { result ≡ 0 → (b : Ledger) (before : List PlainSaid) (first : Option (List ℕ))
+        → IsRun b before first (W.contents writer.old) player.old.book (last_of player.old)
+        → IsRun b (before ++ map plain_said commands.now) first (W.contents writer.new) player.new.book (last_of player.new) }
+    ensures missed { result ≡ 1 → (b : Ledger) (before : List PlainSaid) (first : Option (List ℕ))
+        → IsRun b before first (W.contents writer.old) player.old.book (last_of player.old)
+        → IsMissed b (before ++ map plain_said commands.now) first (W.contents writer.new) }
+    ensures status { (result ≡ 0) ⊎ (result ≡ 1) ⊎ (result ≡ 4) }
+{
+    match player.run(alloc, commands, writer) {
+        Ok(status) => status,
+        Err(_) => FAILED,
+    }
+}
+
 /// Runs a book script on the processes of a set, and prints a line for each command but `expect`.
 ///
 /// Gives the exit status: 0 where each command ran and its line was written, 1 after `failed line N` where an expectation failed, 4 where
@@ -46,8 +68,5 @@ pub fn play_book<W: Write>(alloc: Global, set: &Verified, script: &Script<'_>, w
     };
     let printer = Printer { last: None };
     let mut player = Player { book, printer };
-    match player.run(alloc, &script.commands, writer) {
-        Ok(status) => status,
-        Err(_) => FAILED,
-    }
+    run_all(alloc, &mut player, &script.commands, writer)
 }

@@ -102,10 +102,13 @@ impl Link {
         requires most { port ≤ MOST_PORT }
         ensures { IfOk result (λ link. link ≡ opened set.now port env) }
     {
+        let actors = opened_actors(alloc, processes_of(set), port)?;
+        let wheel = Wheel::new(alloc)?;
+        let ring = Ring::new(alloc, env)?;
         Ok(Link {
-            actors: opened_actors(alloc, processes_of(set), port)?,
-            wheel: Wheel::new(alloc)?,
-            ring: Ring::new(alloc, env)?,
+            actors,
+            wheel,
+            ring,
             turns: 0,
             finishes: 0,
             instructions: 0,
@@ -117,10 +120,13 @@ impl Link {
         ensures { IfOk result (λ link. link ≡ self.now) }
     {
         let alloc = *self.actors.allocator();
+        let actors = copied_actors(alloc, &self.actors)?;
+        let wheel = self.wheel.copy()?;
+        let ring = self.ring.copy()?;
         Ok(Link {
-            actors: copied_actors(alloc, &self.actors)?,
-            wheel: self.wheel.copy()?,
-            ring: self.ring.copy()?,
+            actors,
+            wheel,
+            ring,
             turns: self.turns,
             finishes: self.finishes,
             instructions: self.instructions,

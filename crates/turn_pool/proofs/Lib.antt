@@ -1,4 +1,5 @@
 pub mod Asks
 pub mod Calls
 pub mod Finishes
+pub mod Standing
 pub mod Turns

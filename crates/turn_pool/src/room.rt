@@ -27,11 +27,15 @@ impl<L: Ledger> Room<L> {
         ensures handles { IfOk result (λ r. (vec_len r.handles ≡ 0) × (vec_capacity r.handles ≡ workers)) }
         ensures workers { IfOk result (λ r. (r.workers.items ≡ []) × (vec_capacity r.workers ≡ workers)) }
     {
+        let slots = Vec::with_capacity(alloc, links)?;
+        let books = Vec::with_capacity(alloc, links)?;
+        let handles = Vec::with_capacity(alloc, workers)?;
+        let counts = Vec::with_capacity(alloc, workers)?;
         Ok(Room {
-            slots: Vec::with_capacity(alloc, links)?,
-            books: Vec::with_capacity(alloc, links)?,
-            handles: Vec::with_capacity(alloc, workers)?,
-            workers: Vec::with_capacity(alloc, workers)?,
+            slots,
+            books,
+            handles,
+            workers: counts,
         })
     }
 }
