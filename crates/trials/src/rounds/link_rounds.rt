@@ -151,7 +151,23 @@ fn write_ticks(
     Ok(())
 }
 
-/// Has a terminal come into service, and writes what it is asked. It alone owns one: to drop it is dear to prove.
+/// Has a terminal come into service, and writes what it is asked.
+fn answer(
+    rt: &impl Clock,
+    text: &mut String,
+    service: &mut Service,
+    question: Question<'_>,
+) -> Result<(), Stopped> {
+    service.align()?;
+    match question {
+        Question::Shown(load) => show(text, service, load),
+        Question::Rates(load, rounds) => write_rates(rt, text, service, load, rounds),
+        Question::Ticks(rounds) => write_ticks(rt, text, service, rounds),
+    }
+}
+
+/// Asks a new terminal, and writes what it answers. It alone owns one, and does no more: to drop it is dear to prove wherever that may
+/// happen.
 fn ask(
     rt: &impl Clock,
     alloc: Global,
@@ -159,12 +175,7 @@ fn ask(
     question: Question<'_>,
 ) -> Result<(), Stopped> {
     let mut service = Service::new(alloc)?;
-    service.align()?;
-    match question {
-        Question::Shown(load) => show(text, &mut service, load),
-        Question::Rates(load, rounds) => write_rates(rt, text, &mut service, load, rounds),
-        Question::Ticks(rounds) => write_ticks(rt, text, &mut service, rounds),
-    }
+    answer(rt, text, &mut service, question)
 }
 
 /// Puts the units on a line, so often. How many octets that were.
