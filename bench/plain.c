@@ -1,5 +1,5 @@
 /* A plain loop for signal units on a line, for comparison: check bits by a table, stuffing and unstuffing by tables of
- * octets, and bit by bit only where six 1s come in a row. It sends and receives the same units as crates/link_bench (its word `line`):
+ * octets, and bit by bit only where six 1s come in a row. It sends and receives the same units as the program `trials` (its round `line`):
  * random messages, and a line of fill-in units, few of them gone through many times. */
 #include <stdint.h>
 #include <stdio.h>

@@ -1,4 +1,4 @@
-/* Does what crates/book_bench measures of books, as a plain program would: it reads the code of three sets as numbers (`book_bench book code`), and has turns of
+/* Does what the program `trials` measures of books, as a plain program would: it reads the code of three sets as numbers (its round `code`), and has turns of
    their processes on plain arrays. Values have their sort with them; nothing is checked that the sets were checked for. */
 #include <stdint.h>
 #include <stdio.h>

@@ -9,10 +9,12 @@ use std::alloc::{AllocError, Global};
 pub enum Stopped {
     /// There is no memory.
     NoMemory,
-    /// A terminal wasn't made, or refused what it was told.
+    /// A terminal wasn't made, or refused what it was told; or a text or its limits are refused.
     Refused,
-    /// A line is no step or no run, or there is no such kind of trial.
+    /// A line is no step, no run or no round, or there is no such kind of trial.
     BadLine,
+    /// The clock says nothing.
+    NoClock,
 }
 
 impl From<AllocError> for Stopped {
@@ -74,9 +76,16 @@ pub fn speak(terminal: &mut Terminal, units: usize) -> Result<Vec<u8>, Stopped> 
     }
 }
 
+/// Gives a terminal line octets. How many it took.
+pub fn take(terminal: &mut Terminal, octets: &[u8]) -> usize
+    ensures { result ≤ length octets.now }
+{
+    terminal.line_in(octets)
+}
+
 /// Gives a terminal line octets. Whether it took them all.
 pub fn hear(terminal: &mut Terminal, octets: &[u8]) -> bool {
-    terminal.line_in(octets) == octets.len()
+    take(terminal, octets) == octets.len()
 }
 
 /// What a terminal hands out next.

@@ -14,6 +14,8 @@
 //! - `reports`: what is done with two such terminals, a step in each line ([`steps`]), over a line without damage. Shows what the near one
 //!   hands out at each step that asks for it: messages before what was told of the link, that it came into service, that it went down and
 //!   why, that the far side's processor is out and back; and how many line octets many units are that go out at once.
+//! - `rounds`: what is measured, in each line a thing ([`rounds`]). Shows what its smallest round has; where a number of rounds is given
+//!   also how fast it went.
 #![tactic(auto)]
 
 mod calls;
@@ -21,9 +23,11 @@ mod end;
 mod figures;
 mod heard;
 mod lines;
+mod message;
 mod noise;
 mod pair;
 mod reports;
+mod rounds;
 mod run;
 mod shown;
 mod steps;
@@ -33,35 +37,47 @@ use crate::calls::Stopped;
 use crate::heard::compare;
 use crate::lines::make_runs;
 use crate::reports::report_all;
+use crate::rounds::make_rounds;
 use crate::texts::{check_text, play_script};
-use std::alloc::Global;
 use std::io::{self, BufReader, ErrorKind, Read};
 use std::rt::Runtime;
 use std::str;
+use std::sync::Wait;
+use std::thread::Threads;
 
 /// What the program says where a trial can't be made.
 fn failure(why: Stopped) -> io::Error {
     match why {
         Stopped::NoMemory => io::Error::from(ErrorKind::OutOfMemory),
-        Stopped::Refused => io::Error::from(ErrorKind::Other),
+        Stopped::Refused | Stopped::NoClock => io::Error::from(ErrorKind::Other),
         Stopped::BadLine => io::Error::from(ErrorKind::InvalidData),
     }
 }
 
-/// Makes a trial of the line or of terminals, and writes what it has to show.
-fn make(alloc: Global, text: &mut String, kind: &str, trial: &str) -> Result<(), Stopped> {
+/// Makes a trial of the line or of terminals, or rounds of what is measured, and writes what it has to show.
+fn make<R: Runtime + AllocGlobal + Threads + Wait + Sync>(
+    rt: &R,
+    text: &mut String,
+    kind: &str,
+    trial: &str,
+) -> Result<(), Stopped> {
     match kind {
-        "heard" => compare(alloc, text, trial),
-        "runs" => make_runs(alloc, text, trial),
-        "reports" => report_all(alloc, text, trial),
+        "heard" => compare(rt.alloc(), text, trial),
+        "runs" => make_runs(rt.alloc(), text, trial),
+        "reports" => report_all(rt.alloc(), text, trial),
+        "rounds" => make_rounds(rt, text, trial),
         _ => Err(Stopped::BadLine),
     }
 }
 
 /// Makes such a trial, and prints what it has to show, as far as it goes.
-fn show<R: Runtime + AllocGlobal>(rt: &R, kind: &str, trial: &str) -> io::Result<()> {
+fn show<R: Runtime + AllocGlobal + Threads + Wait + Sync>(
+    rt: &R,
+    kind: &str,
+    trial: &str,
+) -> io::Result<()> {
     let mut text = String::new(rt.alloc());
-    let made = make(rt.alloc(), &mut text, kind, trial);
+    let made = make(rt, &mut text, kind, trial);
     rt.print(text)?;
     match made {
         Ok(()) => Ok(()),
@@ -70,7 +86,7 @@ fn show<R: Runtime + AllocGlobal>(rt: &R, kind: &str, trial: &str) -> io::Result
 }
 
 /// Makes a trial of a kind. Gives the set of the last script.
-fn try_kind<'a, R: Runtime + AllocGlobal>(
+fn try_kind<'a, R: Runtime + AllocGlobal + Threads + Wait + Sync>(
     rt: &R,
     kind: &str,
     trial: &'a str,
@@ -90,7 +106,7 @@ fn try_kind<'a, R: Runtime + AllocGlobal>(
 }
 
 /// Makes the trial of an entry: a line with its name, one with its kind, and the trial. Gives the set of the last script.
-fn try_entry<'a, R: Runtime + AllocGlobal>(
+fn try_entry<'a, R: Runtime + AllocGlobal + Threads + Wait + Sync>(
     rt: &R,
     entry: &'a str,
     before: &'a str,

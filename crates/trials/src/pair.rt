@@ -24,8 +24,16 @@ impl Pair {
     }
 }
 
-/// Makes a run with two new ends, or does steps where there is no run, and writes what comes of it. It alone owns ends: to drop them is
-/// dear to prove.
+/// Makes a run with two ends, or does steps where there is no run, and writes what comes of it.
+fn work(text: &mut String, pair: &mut Pair, run: Option<Run>, steps: &str) -> Result<(), Stopped> {
+    match run {
+        Some(run) => make_run(text, pair, &run),
+        None => do_steps(text, pair, steps),
+    }
+}
+
+/// Makes a run with two new ends, or does steps where there is no run, and writes what comes of it. It alone owns ends, and does no more: to
+/// drop them is dear to prove wherever that may happen.
 pub fn try_pair(
     alloc: Global,
     text: &mut String,
@@ -34,8 +42,5 @@ pub fn try_pair(
     steps: &str,
 ) -> Result<(), Stopped> {
     let mut pair = Pair::new(alloc, mode)?;
-    match run {
-        Some(run) => make_run(text, &mut pair, &run),
-        None => do_steps(text, &mut pair, steps),
-    }
+    work(text, &mut pair, run, steps)
 }

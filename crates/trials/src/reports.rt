@@ -1,11 +1,10 @@
 //! What is done with two ends over a line without damage, and what the near one hands out.
-ghost use Rattle.std.specs.Prelude.{◌≡◌, ◌≤◌, length};
 
 use crate::calls::{Stopped, hear, next_report, pass, put, speak, tell};
+use crate::message::message_of;
 use crate::pair::{Pair, try_pair};
 use crate::steps::{Step, step_of};
-use arrayvec::ArrayVec;
-use link_term::{LinkStatus, Mode, Msu, Report, Terminal};
+use link_term::{LinkStatus, Mode, Report, Terminal};
 use std::alloc::{AllocError, Global};
 
 /// How many units go each way in an exchange, so that some of them are whole on the line.
@@ -14,22 +13,9 @@ const UNITS: usize = 3;
 /// What a message has behind its first two octets.
 const FILLER: [u8; 270] = [0x5A; 270];
 
-/// A message with a field of so many octets, 2 to 272.
-fn message(octets: u16) -> Msu
-    ensures { 2 ≤ length result.sif.items }
-{
-    let mut sif = ArrayVec::new();
-    let number = (octets % 256) as u8;
-    sif.push(number);
-    sif.push(number);
-    let more = usize::from(octets).saturating_sub(2).min(270);
-    sif.try_extend_from_slice(&FILLER[..more]).unwrap();
-    Msu { sio: 0x83, sif }
-}
-
 /// A terminal gets a message of so many octets to send.
 fn send(terminal: &mut Terminal, octets: u16) -> Result<(), Stopped> {
-    if put(terminal, message(octets)) {
+    if put(terminal, message_of((octets % 256) as u8, octets, &FILLER)) {
         Ok(())
     } else {
         Err(Stopped::Refused)

@@ -27,7 +27,7 @@ fn mode_of(word: &str) -> Option<Mode> {
 }
 
 /// The next word, as a number.
-fn number(words: &mut SplitWhitespace<'_>) -> Option<u32> {
+pub fn number(words: &mut SplitWhitespace<'_>) -> Option<u32> {
     match words.next() {
         Some(word) => word.parse::<u32>().ok(),
         None => None,

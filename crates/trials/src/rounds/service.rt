@@ -1,10 +1,10 @@
 //! A terminal in service, and its far end.
-ghost use Rattle.std.specs.Prelude.{◌≤◌, length};
 
-use crate::traffic::{Traffic, WINDOW, head, message};
+use crate::calls::{Stopped, hear, next_report, pass, put, speak, take, tell, terminal};
+use crate::rounds::traffic::{Traffic, WINDOW, head, message};
 use bit_line::Stuffer;
 use link_term::{Command, Mode, Report, Terminal};
-use std::alloc::{AllocError, Global};
+use std::alloc::Global;
 use su_octets::Unit;
 
 /// How many ticks proving takes.
@@ -28,6 +28,15 @@ fn messages_in(report: Report) -> u64 {
 }
 
 impl Service {
+    /// A new terminal, which isn't in service.
+    pub fn new(alloc: Global) -> Result<Service, Stopped> {
+        Ok(Service {
+            terminal: terminal(alloc, Mode::Basic)?,
+            far: Stuffer::new(),
+            last: 127,
+        })
+    }
+
     /// The far end says a unit, twice, so that the first one is whole on the line.
     fn say(&mut self, unit: &Unit) {
         if !unit.whole() {
@@ -35,33 +44,23 @@ impl Service {
         }
         for _ in 0..2u8 {
             let octets = self.far.put(unit);
-            let _taken = self.terminal.line_in(octets.as_slice());
+            let _heard = hear(&mut self.terminal, octets.as_slice());
         }
     }
 
-    /// The link comes into service. Whether it did.
-    fn align(&mut self) -> bool {
-        let is_on = self.terminal.command(Command::PowerOn).is_ok();
-        let is_started = self.terminal.command(Command::Start).is_ok();
+    /// Has the link come into service.
+    pub fn align(&mut self) -> Result<(), Stopped> {
+        tell(&mut self.terminal, Command::PowerOn)?;
+        tell(&mut self.terminal, Command::Start)?;
         self.say(&Unit::Lssu(head(127, 127), 0, None));
         self.say(&Unit::Lssu(head(127, 127), 1, None));
-        let is_proved = self.terminal.tick(PROVING).is_ok();
+        pass(&mut self.terminal, PROVING)?;
         self.say(&Unit::Fisu(head(127, 127)));
-        is_on && is_started && is_proved && self.terminal.in_service()
-    }
-
-    /// A terminal in service; none where there is no memory.
-    pub fn new(alloc: Global) -> Option<Service> {
-        let terminal = match Terminal::new(alloc, Mode::Basic) {
-            Ok(terminal) => terminal,
-            Err(_) => return None,
-        };
-        let mut service = Service {
-            terminal,
-            far: Stuffer::new(),
-            last: 127,
-        };
-        if service.align() { Some(service) } else { None }
+        if self.terminal.in_service() {
+            Ok(())
+        } else {
+            Err(Stopped::Refused)
+        }
     }
 
     /// How many turns the actors had.
@@ -73,7 +72,7 @@ impl Service {
     fn hand_out(&mut self) -> u64 {
         let mut messages = 0u64;
         for _ in 0..1000u32 {
-            match self.terminal.report() {
+            match next_report(&mut self.terminal) {
                 Some(report) => messages = messages.saturating_add(messages_in(report)),
                 None => return messages,
             }
@@ -89,7 +88,7 @@ impl Service {
             if rest.is_empty() {
                 break;
             }
-            let taken = self.terminal.line_in(rest);
+            let taken = take(&mut self.terminal, rest);
             rest = &rest[taken..];
             messages = messages.saturating_add(self.hand_out());
         }
@@ -100,14 +99,14 @@ impl Service {
     pub fn give(&mut self, traffic: Traffic) {
         if let Some(octets) = traffic.octets {
             for number in 0..WINDOW {
-                let _refused = self.terminal.put(message(number, octets)).is_err();
+                let _taken = put(&mut self.terminal, message(number, octets));
             }
         }
     }
 
     /// As many units as messages can be under way.
-    pub fn send(&mut self) -> Result<Vec<u8>, AllocError> {
-        self.terminal.line_out(WINDOW as usize)
+    pub fn send(&mut self) -> Result<Vec<u8>, Stopped> {
+        speak(&mut self.terminal, WINDOW as usize)
     }
 
     /// The far end acknowledges what went out.
@@ -118,8 +117,8 @@ impl Service {
         self.say(&accepted);
     }
 
-    /// One tick.
+    /// One tick. Whether it passed.
     pub fn tick(&mut self) -> bool {
-        self.terminal.tick(1).is_ok()
+        pass(&mut self.terminal, 1).is_ok()
     }
 }

@@ -1,9 +1,9 @@
 //! Units that go to and fro.
-ghost use Rattle.std.specs.Prelude.{◌≡◌, ◌≤◌, ◌<◌, length};
+ghost use Rattle.std.specs.Prelude.{◌≡◌, ◌≤◌, length};
 
-use arrayvec::ArrayVec;
+use crate::message::message_of;
 use bit_line::Stuffer;
-use resend_store::Msu;
+use link_term::Msu;
 use std::alloc::{AllocError, Global};
 use su_octets::{Head, Unit};
 
@@ -14,7 +14,7 @@ pub const NUMBERS: u8 = 128;
 pub const WINDOW: u8 = 127;
 
 /// How often a line has all its units: with 8 times it ends with an octet.
-const TIMES: u8 = 8;
+pub const TIMES: u8 = 8;
 
 /// What goes over a line.
 #[derive(Clone, Copy)]
@@ -74,12 +74,7 @@ const FILLER: [u8; 270] = [
 pub fn message(number: u8, octets: u16) -> Msu
     ensures { 2 ≤ length result.sif.items }
 {
-    let mut sif = ArrayVec::new();
-    sif.push(number);
-    sif.push(number);
-    let more = usize::from(octets).saturating_sub(2).min(270);
-    sif.try_extend_from_slice(&FILLER[..more]).unwrap();
-    Msu { sio: 0x83, sif }
+    message_of(number, octets, &FILLER)
 }
 
 /// The unit of a number.
@@ -116,12 +111,12 @@ pub fn put_all(
     Ok(())
 }
 
-/// A line of whole octets, and how many units it has.
-pub fn line_of(alloc: Global, units: &[Unit]) -> Result<(Vec<u8>, u64), AllocError> {
+/// A line of whole octets, on which the units go so often.
+pub fn line_of(alloc: Global, units: &[Unit]) -> Result<Vec<u8>, AllocError> {
     let mut line = Vec::with_capacity(alloc, 400_000)?;
     let mut stuffer = Stuffer::new();
     for _ in 0..TIMES {
         put_all(&mut stuffer, units, &mut line)?;
     }
-    Ok((line, (units.len() as u64).saturating_mul(u64::from(TIMES))))
+    Ok(line)
 }

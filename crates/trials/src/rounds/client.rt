@@ -5,7 +5,7 @@ use std::sync::Wait;
 use std::sync::ledger::Ledger;
 use std::thread;
 use turn_code::SignalNumber;
-use turn_pool::{Client, Gate, JobName, Pool, PoolRefusal, Seat};
+use turn_pool::{Client, Pool, PoolRefusal, Seat};
 
 /// How many links there are.
 pub const LINKS: usize = 16;
@@ -20,9 +20,9 @@ const ASKS: u32 = 1_000_000;
 const WAITS: u32 = 100;
 
 /// The signals by which a link of the profile is powered on, started and stopped; they come to its first process.
-const POWER_ON: SignalNumber = SignalNumber(0);
+pub const POWER_ON: SignalNumber = SignalNumber(0);
 
-const START: SignalNumber = SignalNumber(1);
+pub const START: SignalNumber = SignalNumber(1);
 
 const STOP: SignalNumber = SignalNumber(2);
 
@@ -33,16 +33,6 @@ pub fn signal_of(round: u32) -> SignalNumber {
         later if later % 2 == 1 => START,
         _ => STOP,
     }
-}
-
-/// A gate that looks at nobody.
-#[derive(Drop)]
-pub struct Open;
-
-impl Gate for Open {
-    fn enter(&self, _name: JobName) {}
-
-    fn leave(&self, _name: JobName) {}
 }
 
 /// A client that offers each link a signal a round.
@@ -78,17 +68,24 @@ fn give_way() {
     }
 }
 
+/// Offers each link the signal of a round. How many links had no room for it.
+fn offer_round<R: Wait, L: Ledger>(pool: &Pool<'_, R, L>, seat: &mut Seat<L>, round: u32) -> u64 {
+    let mut refused = 0u64;
+    for link in 0..LINKS {
+        if round % REBASES == 0 {
+            let _place = pool.rebase(link, seat);
+        }
+        let is_taken = offer(pool, seat, link, signal_of(round));
+        refused = refused.saturating_add(u64::from(!is_taken));
+    }
+    refused
+}
+
 impl Client for Starts {
     fn drive<R: Wait, L: Ledger>(&mut self, pool: &Pool<'_, R, L>, seat: &mut Seat<L>) {
         for round in 0..self.rounds {
-            for link in 0..LINKS {
-                if round % REBASES == 0 {
-                    let _place = pool.rebase(link, seat);
-                }
-                if !offer(pool, seat, link, signal_of(round)) {
-                    self.refused = self.refused.saturating_add(1);
-                }
-            }
+            let refused = offer_round(pool, seat, round);
+            self.refused = self.refused.saturating_add(refused);
         }
     }
 }

@@ -1,7 +1,6 @@
-//! The sets whose turns are measured, and their books.
+//! The sets whose turns are measured.
 
-use crate::clock::Stopped;
-use actor_book::{Book, Limits};
+use crate::calls::Stopped;
 use mtp2_text::standard;
 use std::alloc::{AllocError, Global};
 use turn_verify::{LoadFault, Verified, load};
@@ -34,6 +33,15 @@ impl Set {
             "counter" => Set::Counter,
             "long" => Set::Long,
             _ => Set::Standard,
+        }
+    }
+
+    /// Its name.
+    pub fn name(self) -> &'static str {
+        match self {
+            Set::Counter => "counter",
+            Set::Long => "long",
+            Set::Standard => "standard",
         }
     }
 }
@@ -71,22 +79,5 @@ pub fn load_set(alloc: Global, set: Set) -> Result<Verified, Stopped> {
         Set::Counter => accepted(load(alloc, COUNTER)),
         Set::Long => load_long(alloc),
         Set::Standard => accepted(standard(alloc)),
-    }
-}
-
-/// A book of a set.
-pub fn book_of(
-    alloc: Global,
-    set: &Verified,
-    port: usize,
-    env: usize,
-    journal: usize,
-) -> Result<Book, Stopped> {
-    let Some(limits) = Limits::new(port, env, journal) else {
-        return Err(Stopped::Refused);
-    };
-    match Book::open(alloc, set, limits) {
-        Ok(book) => Ok(book),
-        Err(_) => Err(Stopped::NoMemory),
     }
 }

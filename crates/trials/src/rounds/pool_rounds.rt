@@ -1,16 +1,18 @@
 //! The rounds of a pool.
 
-use crate::client::{LINKS, Open, REBASES, Starts, signal_of};
-use crate::clock::{Stopped, now, since};
-use crate::sets::{Set, book_of, load_set};
+use crate::calls::Stopped;
+use crate::rounds::books::{Task, book_of, with_book};
+use crate::rounds::client::{LINKS, REBASES, Starts, signal_of};
+use crate::rounds::clock::{now, since};
 use actor_book::Book;
 use book_rest::rest;
+use pool_soak::{Open, agree};
 use std::alloc::{AllocError, Global};
 use std::rt::Runtime;
 use std::sync::Wait;
 use std::thread::Threads;
 use std::time::Duration;
-use turn_pool::{Closed, serve};
+use turn_pool::serve;
 use turn_verify::Verified;
 
 /// How many rounds are made where no number is asked for, and with how many workers.
@@ -28,18 +30,11 @@ struct Found {
     agree: bool,
 }
 
-/// A book with ports of 64, 64 signals kept for the environment and the longest journal.
-fn open_book(alloc: Global, set: &Verified) -> Result<Book, Stopped> {
-    book_of(alloc, set, 64, 64, 65_536)
-}
-
-/// Such a book for each link.
+/// A book for each link, with ports of 64, 64 signals kept for the environment and the longest journal.
 fn open_books(alloc: Global, set: &Verified) -> Result<Vec<Book>, Stopped> {
     let mut books = Vec::new(alloc);
     for _ in 0..LINKS {
-        if books.push(open_book(alloc, set)?).is_err() {
-            return Err(Stopped::NoMemory);
-        }
+        books.push(book_of(alloc, set, 64, 64, 65_536)?)?;
     }
     Ok(books)
 }
@@ -53,24 +48,6 @@ fn events_of(books: &[Book]) -> u64 {
     events
 }
 
-/// How many events the seats have.
-fn counted(closed: &Closed) -> u64 {
-    let mut events = closed.client;
-    for worker in closed.workers.as_slice() {
-        events = events.saturating_add(*worker);
-    }
-    events
-}
-
-/// What the books and seats say, where so many signals were given up.
-fn found_in(closed: &Closed, refused: u64) -> Found {
-    let events = events_of(closed.books.as_slice());
-    Found {
-        events,
-        agree: events == counted(closed) && refused == 0,
-    }
-}
-
 /// Has workers serve the links.
 fn serve_links<R: Runtime + AllocGlobal + Threads + Wait + Sync>(
     rt: &R,
@@ -80,13 +57,16 @@ fn serve_links<R: Runtime + AllocGlobal + Threads + Wait + Sync>(
 ) -> Result<Found, Stopped> {
     let mut client = Starts { rounds, refused: 0 };
     match serve(rt, rt.alloc(), books, workers as usize, &Open, &mut client) {
-        Ok(closed) => Ok(found_in(&closed, client.refused)),
+        Ok(closed) => Ok(Found {
+            events: events_of(closed.books.as_slice()),
+            agree: agree(&closed) && client.refused == 0,
+        }),
         Err(_) => Err(Stopped::NoMemory),
     }
 }
 
-/// The signals come to a book without a pool, which comes to rest behind each.
-fn serve_alone(book: &mut Book, rounds: u32) {
+/// The signals come to a book without a pool, which comes to rest behind each. How many events it has.
+pub fn drive(book: &mut Book, rounds: u32) -> u64 {
     for round in 0..rounds {
         if round % REBASES == 0 {
             let _rebased = book.rebase();
@@ -94,19 +74,10 @@ fn serve_alone(book: &mut Book, rounds: u32) {
         let _offered = book.offer(0, signal_of(round), &[]);
         rest(book);
     }
+    book.next()
 }
 
-/// One book without a pool.
-fn count_alone(alloc: Global, set: &Verified, rounds: u32) -> Result<Found, Stopped> {
-    let mut book = open_book(alloc, set)?;
-    serve_alone(&mut book, rounds);
-    Ok(Found {
-        events: book.next(),
-        agree: true,
-    })
-}
-
-/// Makes the rounds with so many workers, without a pool where there are none.
+/// Makes the rounds with so many workers, with one book and no pool where there are none.
 fn count_rounds<R: Runtime + AllocGlobal + Threads + Wait + Sync>(
     rt: &R,
     set: &Verified,
@@ -114,7 +85,11 @@ fn count_rounds<R: Runtime + AllocGlobal + Threads + Wait + Sync>(
     workers: u32,
 ) -> Result<Found, Stopped> {
     if workers == 0 {
-        return count_alone(rt.alloc(), set, rounds);
+        let events = with_book(rt, rt.alloc(), set, Task::Drive(rounds))?.things;
+        return Ok(Found {
+            events,
+            agree: true,
+        });
     }
     let books = open_books(rt.alloc(), set)?;
     serve_links(rt, books, rounds, workers)
@@ -145,13 +120,13 @@ fn write_found(
 pub fn write_pool<R: Runtime + AllocGlobal + Threads + Wait + Sync>(
     rt: &R,
     text: &mut String,
+    set: &Verified,
     asked: Option<u32>,
     workers: Option<u32>,
 ) -> Result<(), Stopped> {
-    let set = load_set(rt.alloc(), Set::Standard)?;
     let workers = workers.unwrap_or(WORKERS);
     let start = now(rt)?;
-    let found = count_rounds(rt, &set, asked.unwrap_or(FEW), workers)?;
+    let found = count_rounds(rt, set, asked.unwrap_or(FEW), workers)?;
     let time = since(rt, start)?;
     let shown = match asked {
         Some(_) => Some(time),

@@ -1,7 +1,8 @@
 //! Messages in a store.
 ghost use Rattle.std.specs.Prelude.{◌≡◌};
 
-use crate::clock::{Stopped, now, rate, since};
+use crate::calls::Stopped;
+use crate::rounds::clock::{now, rate, since};
 use arrayvec::ArrayVec;
 use resend_store::{MAX_WAITING, Mode, Msu, Sender};
 use std::alloc::{AllocError, Global};

@@ -1,12 +1,12 @@
 //! The rounds of a line.
 
-use crate::clock::{Stopped, now, rate, since};
-use crate::draws::{Draws, Kind, units};
-use crate::line::{Way, octets_of, receive, send};
-use crate::store::{rate_of_retrieval, rate_of_store};
+use crate::calls::Stopped;
+use crate::rounds::clock::{now, rate_of, since};
+use crate::rounds::draws::{Draws, Kind, units};
+use crate::rounds::line::{Way, octets_of, receive, send};
+use crate::rounds::store::{rate_of_retrieval, rate_of_store};
 use std::alloc::{AllocError, Global};
 use std::rt::Clock;
-use std::time::Duration;
 use su_octets::Unit;
 
 /// How often a round goes through its fill-in units.
@@ -18,11 +18,6 @@ struct Measure {
     name: &'static str,
     count: u32,
     is_rated: bool,
-}
-
-/// How many octets in a second, for so many in each of some rounds.
-fn rate_of(octets: usize, rounds: u32, time: Duration) -> u64 {
-    rate((octets as u64).saturating_mul(u64::from(rounds)), time)
 }
 
 /// Sends the units so often.
@@ -49,8 +44,8 @@ fn out(rt: &impl Clock, units: &[Unit], line: &mut Vec<u8>, count: u32) -> Resul
     Ok(rate_of(octets_of(units), count, since(rt, start)?))
 }
 
-/// How many units the line has, read in one way, and octets a second.
-fn into(
+/// How many units the line has, read in one way so often, and octets a second.
+pub fn into(
     rt: &impl Clock,
     alloc: Global,
     way: Way,

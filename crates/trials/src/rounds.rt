@@ -1,0 +1,102 @@
+//! What is measured, each by a line of words. Without a number of rounds it is the smallest round, of which nothing is shown that depends
+//! on time.
+//!
+//! - `line [ROUNDS]`: random message signal units through a stuffer and a deframer. Shows how many units came back; with a number of rounds
+//!   octets a second too, `out` of units put on the line, `in` of the line that were read, `until` of those that were taken up to the first
+//!   event each time, and `each` of those that were taken one by one; the same with `fisu_` for a line of fill-in units, 2,000 of them gone
+//!   through 25 times, so that they stay near the processor; `store`, messages a second that were put, sent and acknowledged, and
+//!   `retrieve`, messages a second that a full store handed out.
+//! - `link [ROUNDS]`: a terminal in service, with fill-in units alone, and with messages of 20 and of 272 octets. Shows what each round has:
+//!   units, line octets and turns of the actors, each way, and how many messages were handed out; with a number of rounds, of each kind,
+//!   octets a second: `in` and `out` through the terminal, `deframer` and `stuffer` through these alone on the same octets; and `ticks`,
+//!   ticks a second that come one by one.
+//! - `book [ROUNDS]`: turns of a book, and runs of code. Shows how many turns and instructions there were; with a number of rounds how many
+//!   in a second: `counter`, turns of the counter from offer to finish; `standard`, turns of the profile's processes, a book opened anew for
+//!   each power-on and start; `long`, instructions of a piece of 512, whose job is copied for each run.
+//! - `code SET`: the code of the set of such a name as numbers ([`code`]).
+//! - `open` and `full`: a book of the profile is held at the greatest limits, and in `full` its journal is filled. Shows how many events it
+//!   has.
+//! - `pool [ROUNDS WORKERS]`: workers go round 16 links of the set `standard` while a client starts and stops their terminals, a few rounds
+//!   and two workers where there are no numbers. Shows whether the seats agree with the journals; with numbers how many events there were,
+//!   and how many microseconds they took. 0 workers stand for one book without a pool, which has its turns between the same signals.
+
+mod book_rounds;
+mod books;
+mod client;
+mod clock;
+mod code;
+mod draws;
+mod line;
+mod line_rounds;
+mod link_rounds;
+mod pool_rounds;
+mod service;
+mod sets;
+mod store;
+mod traffic;
+
+use crate::calls::Stopped;
+use crate::rounds::book_rounds::{Question, ask_set, write_books};
+use crate::rounds::line_rounds::write_line;
+use crate::rounds::link_rounds::write_link;
+use crate::rounds::sets::Set;
+use crate::run::number;
+use std::rt::Runtime;
+use std::str::SplitWhitespace;
+use std::sync::Wait;
+use std::thread::Threads;
+
+/// What a word and those behind it ask of a set.
+fn question_of(word: &str, words: &mut SplitWhitespace<'_>) -> Option<(Set, Question)> {
+    match word {
+        "code" => Some((Set::named(words.next().unwrap_or("")), Question::Code)),
+        "open" => Some((Set::Standard, Question::Held(false))),
+        "full" => Some((Set::Standard, Question::Held(true))),
+        "pool" => {
+            let rounds = number(words);
+            let workers = number(words);
+            Some((Set::Standard, Question::Pool(rounds, workers)))
+        }
+        _ => None,
+    }
+}
+
+/// Writes what a word and those behind it ask of a set.
+fn write_question<R: Runtime + AllocGlobal + Threads + Wait + Sync>(
+    rt: &R,
+    text: &mut String,
+    word: &str,
+    words: &mut SplitWhitespace<'_>,
+) -> Result<(), Stopped> {
+    match question_of(word, words) {
+        Some((set, question)) => ask_set(rt, text, set, question),
+        None => Err(Stopped::BadLine),
+    }
+}
+
+/// Makes the rounds of a line of words, and writes what came of them.
+fn make_line<R: Runtime + AllocGlobal + Threads + Wait + Sync>(
+    rt: &R,
+    text: &mut String,
+    line: &str,
+) -> Result<(), Stopped> {
+    let mut words = line.split_whitespace();
+    match words.next().unwrap_or("") {
+        "line" => write_line(rt, rt.alloc(), text, number(&mut words)),
+        "link" => write_link(rt, rt.alloc(), text, number(&mut words)),
+        "book" => write_books(rt, text, number(&mut words)),
+        word => write_question(rt, text, word, &mut words),
+    }
+}
+
+/// Makes rounds, and writes what came of them.
+pub fn make_rounds<R: Runtime + AllocGlobal + Threads + Wait + Sync>(
+    rt: &R,
+    text: &mut String,
+    rounds: &str,
+) -> Result<(), Stopped> {
+    for line in rounds.lines() {
+        make_line(rt, text, line)?;
+    }
+    Ok(())
+}

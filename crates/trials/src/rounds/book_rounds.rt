@@ -1,0 +1,144 @@
+//! What is asked of sets and their books.
+
+use crate::calls::Stopped;
+use crate::rounds::books::{Measured, Task, with_book};
+use crate::rounds::clock::{now, rate, since};
+use crate::rounds::code::write_set;
+use crate::rounds::pool_rounds::write_pool;
+use crate::rounds::sets::{Set, load_set};
+use std::alloc::Global;
+use std::rt::{Clock, Runtime};
+use std::sync::Wait;
+use std::thread::Threads;
+use turn_verify::Verified;
+
+/// How often a book of the profile is opened in a round.
+const OPENINGS: u32 = 100;
+
+/// What is asked of a set.
+#[derive(Clone, Copy)]
+pub enum Question {
+    /// What a round of its book has, or how many things in a second in so many rounds.
+    Turns(Option<u32>),
+    /// Its code.
+    Code,
+    /// How many events a book has that is held, and whether its journal is filled.
+    Held(bool),
+    /// Whether the seats of a pool agree with the journals; in so many rounds, with so many workers.
+    Pool(Option<u32>, Option<u32>),
+}
+
+/// So many links of the profile one after another. How many turns they had.
+fn power_on_times(
+    rt: &impl Clock,
+    alloc: Global,
+    set: &Verified,
+    times: u32,
+) -> Result<u64, Stopped> {
+    let mut turns = 0u64;
+    for _ in 0..times {
+        let more = with_book(rt, alloc, set, Task::PowerOn)?.things;
+        turns = turns.saturating_add(more);
+    }
+    Ok(turns)
+}
+
+/// Turns of the profile's processes, a book opened anew for each link.
+fn open_links(
+    rt: &impl Clock,
+    alloc: Global,
+    set: &Verified,
+    rounds: u32,
+) -> Result<Measured, Stopped> {
+    let start = now(rt)?;
+    let things = power_on_times(rt, alloc, set, rounds.saturating_mul(OPENINGS))?;
+    let time = since(rt, start)?;
+    Ok(Measured { things, time })
+}
+
+/// Turns of the set, or instructions of the long piece.
+fn measure(
+    rt: &impl Clock,
+    alloc: Global,
+    set: Set,
+    loaded: &Verified,
+    rounds: u32,
+) -> Result<Measured, Stopped> {
+    match set {
+        Set::Counter => with_book(rt, alloc, loaded, Task::Count(rounds)),
+        Set::Long => with_book(rt, alloc, loaded, Task::Run(rounds)),
+        Set::Standard => open_links(rt, alloc, loaded, rounds),
+    }
+}
+
+/// Writes how many things there were, and how many in a second where rounds are asked for.
+fn write_turns(
+    rt: &impl Clock,
+    alloc: Global,
+    text: &mut String,
+    set: Set,
+    loaded: &Verified,
+    asked: Option<u32>,
+) -> Result<(), Stopped> {
+    let measured = measure(rt, alloc, set, loaded, asked.unwrap_or(1))?;
+    let number = match asked {
+        Some(_) => rate(measured.things, measured.time),
+        None => measured.things,
+    };
+    let name = set.name();
+    writeln!(text, "{name} {number}")?;
+    Ok(())
+}
+
+/// Writes how many events a book has that is held.
+fn write_held(
+    rt: &impl Clock,
+    alloc: Global,
+    text: &mut String,
+    loaded: &Verified,
+    is_full: bool,
+) -> Result<(), Stopped> {
+    let task = if is_full { Task::Fill } else { Task::Hold };
+    let events = with_book(rt, alloc, loaded, task)?.things;
+    writeln!(text, "events {events}")?;
+    Ok(())
+}
+
+/// Writes what is asked of a set.
+fn answer<R: Runtime + AllocGlobal + Threads + Wait + Sync>(
+    rt: &R,
+    text: &mut String,
+    set: Set,
+    loaded: &Verified,
+    question: Question,
+) -> Result<(), Stopped> {
+    match question {
+        Question::Turns(asked) => write_turns(rt, rt.alloc(), text, set, loaded, asked),
+        Question::Code => Ok(write_set(text, loaded.draft())?),
+        Question::Held(is_full) => write_held(rt, rt.alloc(), text, loaded, is_full),
+        Question::Pool(asked, workers) => write_pool(rt, text, loaded, asked, workers),
+    }
+}
+
+/// Loads a set, and writes what is asked of it. It alone owns a set: to drop it is dear to prove.
+pub fn ask_set<R: Runtime + AllocGlobal + Threads + Wait + Sync>(
+    rt: &R,
+    text: &mut String,
+    set: Set,
+    question: Question,
+) -> Result<(), Stopped> {
+    let loaded = load_set(rt.alloc(), set)?;
+    answer(rt, text, set, &loaded, question)
+}
+
+/// Makes the rounds of books, and writes what came of them.
+pub fn write_books<R: Runtime + AllocGlobal + Threads + Wait + Sync>(
+    rt: &R,
+    text: &mut String,
+    asked: Option<u32>,
+) -> Result<(), Stopped> {
+    for set in [Set::Counter, Set::Standard, Set::Long] {
+        ask_set(rt, text, set, Question::Turns(asked))?;
+    }
+    Ok(())
+}

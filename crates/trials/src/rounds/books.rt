@@ -1,0 +1,208 @@
+//! A book, and what is measured with it.
+
+use crate::calls::Stopped;
+use crate::rounds::client::{POWER_ON, START};
+use crate::rounds::clock::{now, since};
+use crate::rounds::pool_rounds::drive;
+use actor_book::{Book, Limits};
+use book_rest::rest;
+use std::alloc::{AllocError, Global};
+use std::rt::Clock;
+use std::time::Duration;
+use turn_code::{SignalNumber, Value};
+use turn_machine::{Job, run};
+use turn_verify::Verified;
+
+/// How many signals come to the counter before it has its turns.
+const SIGNALS: u32 = 64;
+
+/// How often that is done in a round.
+const BATCHES: u32 = 300;
+
+/// How often the long piece runs in a round.
+const RUNS: u32 = 1000;
+
+/// What is done with a new book.
+#[derive(Clone, Copy)]
+pub enum Task {
+    /// So many rounds of the counter.
+    Count(u32),
+    /// So many rounds of the long piece.
+    Run(u32),
+    /// A link of the profile is powered on and started.
+    PowerOn,
+    /// A link of the profile is held, at the greatest limits.
+    Hold,
+    /// It is held with a full journal.
+    Fill,
+    /// The signals of so many rounds come to a link of the profile.
+    Drive(u32),
+}
+
+/// What came of a task: how many things there were, and in what time, where it is taken.
+#[derive(Clone, Copy)]
+pub struct Measured {
+    pub things: u64,
+    pub time: Duration,
+}
+
+/// A new book, with as much room in its ports, for the environment and in its journal.
+pub fn book_of(
+    alloc: Global,
+    set: &Verified,
+    port: usize,
+    env: usize,
+    journal: usize,
+) -> Result<Book, Stopped> {
+    let Some(limits) = Limits::new(port, env, journal) else {
+        return Err(Stopped::Refused);
+    };
+    match Book::open(alloc, set, limits) {
+        Ok(book) => Ok(book),
+        Err(_) => Err(Stopped::NoMemory),
+    }
+}
+
+/// The new book of a task.
+fn book_for(alloc: Global, set: &Verified, task: Task) -> Result<Book, Stopped> {
+    match task {
+        Task::Count(_) | Task::Drive(_) => book_of(alloc, set, 64, 64, 65_536),
+        Task::Run(_) => book_of(alloc, set, 1, 1, 16),
+        Task::PowerOn => book_of(alloc, set, 16, 64, 256),
+        Task::Hold | Task::Fill => book_of(alloc, set, 64, 1024, 65_536),
+    }
+}
+
+/// One turn of the first process, from its beginning to its end.
+fn turn(book: &mut Book) {
+    if let Ok(job) = book.begin(0) {
+        let _ = book.finish(run(job));
+    }
+}
+
+/// So many turns of it.
+fn turn_times(book: &mut Book, times: u32) {
+    for _ in 0..times {
+        turn(book);
+    }
+}
+
+/// Signals come to the counter, which then has as many turns.
+fn batch(book: &mut Book) {
+    for signal in 0..SIGNALS {
+        let _ = book.offer(0, SignalNumber(0), &[Value::Int(signal as i32)]);
+    }
+    turn_times(book, SIGNALS);
+}
+
+/// A round of the counter, with a journal that begins empty.
+fn count_up(book: &mut Book) -> Result<(), AllocError> {
+    book.rebase()?;
+    for _ in 0..BATCHES {
+        batch(book);
+    }
+    Ok(())
+}
+
+/// So many rounds of the counter. How many turns its book had.
+fn count_times(book: &mut Book, rounds: u32) -> Result<u64, AllocError> {
+    for _ in 0..rounds {
+        count_up(book)?;
+    }
+    Ok(book.finishes())
+}
+
+/// Turns of the counter, behind its first.
+fn count(rt: &impl Clock, book: &mut Book, rounds: u32) -> Result<Measured, Stopped> {
+    turn(book);
+    let start = now(rt)?;
+    let things = count_times(book, rounds)?;
+    let time = since(rt, start)?;
+    Ok(Measured { things, time })
+}
+
+/// Runs of copies of a job. How many instructions they took.
+fn run_copies(job: &Job, times: u32) -> u64 {
+    let mut instructions = 0u64;
+    for _ in 0..times {
+        instructions = instructions.saturating_add(u64::from(run(job.copy()).count()));
+    }
+    instructions
+}
+
+/// Instructions of a job, which is copied for each run.
+fn run_job(rt: &impl Clock, job: &Job, rounds: u32) -> Result<Measured, Stopped> {
+    let start = now(rt)?;
+    let things = run_copies(job, rounds.saturating_mul(RUNS));
+    let time = since(rt, start)?;
+    Ok(Measured { things, time })
+}
+
+/// Instructions of a turn of the long piece.
+fn run_long(rt: &impl Clock, book: &mut Book, rounds: u32) -> Result<Measured, Stopped> {
+    turn(book);
+    let _ = book.offer(0, SignalNumber(0), &[Value::Int(7)]);
+    match book.begin(0) {
+        Ok(job) => run_job(rt, &job, rounds),
+        Err(_) => Err(Stopped::Refused),
+    }
+}
+
+/// A link of the profile is powered on and started, and its processes have their turns. How many they were.
+fn power_on(book: &mut Book) -> u64 {
+    rest(book);
+    let _ = book.offer(0, POWER_ON, &[]);
+    rest(book);
+    let _ = book.offer(0, START, &[]);
+    rest(book);
+    book.finishes()
+}
+
+/// A link of the profile comes to rest. How many events its journal has.
+fn hold(book: &mut Book) -> u64 {
+    rest(book);
+    book.journal().len() as u64
+}
+
+/// The same, and then ticks pass until the journal is full.
+fn fill(book: &mut Book) -> u64 {
+    rest(book);
+    for _ in 0..65_536u32 {
+        let _ = book.advance(1);
+    }
+    book.journal().len() as u64
+}
+
+/// What is done with a book without taking the time. How many things there were; none for what takes it.
+fn do_untimed(book: &mut Book, task: Task) -> u64 {
+    match task {
+        Task::PowerOn => power_on(book),
+        Task::Hold => hold(book),
+        Task::Fill => fill(book),
+        Task::Drive(rounds) => drive(book, rounds),
+        Task::Count(_) | Task::Run(_) => 0,
+    }
+}
+
+/// Does a task with its book.
+fn do_task(rt: &impl Clock, book: &mut Book, task: Task) -> Result<Measured, Stopped> {
+    match task {
+        Task::Count(rounds) => count(rt, book, rounds),
+        Task::Run(rounds) => run_long(rt, book, rounds),
+        _ => Ok(Measured {
+            things: do_untimed(book, task),
+            time: Duration::from_micros(0),
+        }),
+    }
+}
+
+/// Does a task with a new book. It alone owns one: to drop it is dear to prove.
+pub fn with_book(
+    rt: &impl Clock,
+    alloc: Global,
+    set: &Verified,
+    task: Task,
+) -> Result<Measured, Stopped> {
+    let mut book = book_for(alloc, set, task)?;
+    do_task(rt, &mut book, task)
+}
