@@ -30,11 +30,19 @@ struct Found {
     agree: bool,
 }
 
-/// A book for each link, with ports of 64, 64 signals kept for the environment and the longest journal.
+/// One more book, with ports of 64, 64 signals kept for the environment and the longest journal.
+fn add_book(alloc: Global, set: &Verified, books: &mut Vec<Book>) -> Result<(), Stopped> {
+    match books.push(book_of(alloc, set, 64, 64, 65_536)?) {
+        Ok(_) => Ok(()),
+        Err(_) => Err(Stopped::NoMemory),
+    }
+}
+
+/// A book for each link.
 fn open_books(alloc: Global, set: &Verified) -> Result<Vec<Book>, Stopped> {
     let mut books = Vec::new(alloc);
     for _ in 0..LINKS {
-        books.push(book_of(alloc, set, 64, 64, 65_536)?)?;
+        add_book(alloc, set, &mut books)?;
     }
     Ok(books)
 }
