@@ -4,4 +4,4 @@ use denote.Shadow.{shadow}
 use Rattle.trials.proofs.main.Given as goal
 
 abbrev pub invariant-loop-entry : goal.invariant-loop-entry
-invariant-loop-entry l = shadow (Utf8 l.set)
+invariant-loop-entry g l = shadow (Utf8 l.set)
