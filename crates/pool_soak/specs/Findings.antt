@@ -6,23 +6,7 @@ use Rattle.script_lines.specs.declared.script.ScriptFault.{ScriptFault}
 use Rattle.script_lines.specs.declared.script.ScriptFault.TheVariants.{BadLine, NoMemory}
 use Rattle.text_check.specs.Printed.{line_of}
 use Rattle.pool_soak.specs.Scripts.{PlainSoak, soak_of}
-use Rattle.pool_soak.specs.declared.findings.Finding.{Finding}
-use Rattle.pool_soak.specs.declared.findings.Finding.TheVariants.{SeatsAgree, SeatsDiffer, AuditYes, AuditNo}
-
-abbrev pub finding_text : Finding → List ℕ
-finding_text SeatsAgree = codes "seats agree"
-finding_text SeatsDiffer = codes "seats differ"
-finding_text AuditYes = codes "audit yes"
-finding_text AuditNo = codes "audit no"
-
--- what is printed of the seats, and of the receipts
-abbrev pub seats_finding : Bool → Finding
-seats_finding true = SeatsAgree
-seats_finding false = SeatsDiffer
-
-abbrev pub audit_finding : Bool → Finding
-audit_finding true = AuditYes
-audit_finding false = AuditNo
+use Rattle.soak_findings.specs.Findings.{finding_text, seats_finding, audit_finding}
 
 -- two lines: whether the seats agree, and whether the receipts stand
 abbrev pub lines_with : Bool → Bool → List ℕ

@@ -12,11 +12,12 @@ ghost use Rattle.pool_soak.specs.Findings.{IsEnd, IsSoaked, IsSoakedInVain, IsTu
 ghost use Rattle.profile_limits.specs.Limits.{LEAST_WORKERS, MOST_WORKERS};
 
 use crate::client::{Open, Script};
-use crate::findings::{agree, audit_of, seats_of, status_of};
+use crate::findings::agree;
 use crate::script::{Soak, soak_script};
 use actor_book::{Book, Limits};
 use mtp2_text::standard;
 use script_lines::ScriptFault;
+use soak_findings::{audit_of, seats_of, status_of};
 use std::alloc::{AllocError, Global};
 use std::io::{self, Read, Write};
 use std::str;

@@ -1,4 +1,4 @@
-//! The compiler: from the sound tree of a text to pieces of code and what is claimed of them.
+//! `compile`: from the sound tree of a text to its draft.
 #![tactic(auto)]
 
 mod compiling;

@@ -2,4 +2,3 @@ pub mod Expressions
 pub mod Machine
 pub mod Parts
 pub mod Stacks
-pub mod Rests

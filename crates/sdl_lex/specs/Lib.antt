@@ -1,6 +1,5 @@
 pub mod Limits
 pub mod Lexed
-pub mod NameRoom
 pub mod Printed
 pub mod Scan
 pub mod Spelling

@@ -30,7 +30,7 @@ impl Model for Name {
     ghost use Rattle.std.specs.Prelude.{◌≡◌, ℕ, ◌-◌, ◌≤◌, List, ◌++◌, length, take, replicate};
     ghost use Rattle.std.proofs.Common.{arith, length-take-le};
     ghost use Rattle.sdl_lex.specs.Spelling.{IsName};
-    ghost use Rattle.sdl_lex.specs.NameRoom.{refilled};
+    ghost use Rattle.name_runs.proofs.NameRoom.{refilled};
 
     ghost Value = { List ℕ };
 

@@ -1,12 +1,13 @@
 //! The names that a transition may use, with their numbers, and who gets what it sends.
 ghost use Rattle.std.specs.Prelude.{◌≡◌, ◌≤◌, length, IsSome};
+ghost use Rattle.std.proofs.Props.{props};
 ghost use Rattle.sdl_ast.specs.Views.{tree_of, block_of, process_of};
 ghost use Rattle.sdl_sound.specs.Receivers.{party_of, receivers};
 ghost use Rattle.sdl_tables.specs.Names.{number_of, variable_names, states_of, timers_of, signal_names, process_names};
 ghost use Rattle.sdl_meaning.specs.Act.{scope_of, variable_at, state_at, timer_at, connector_at, signal_at, is_truth, numbered, the_one};
 ghost use Rattle.sdl_meaning.specs.Named.{HasReceiver};
 ghost use Rattle.sdl_meaning.specs.Code.{number_or_zero, party_or_environment, receiver_code};
-ghost use Rattle.sdl_names.specs.Uses.{IsUseTable, IsUseTable-prop};
+ghost use Rattle.sdl_names.specs.Uses.{IsUseTable};
 ghost use Rattle.profile_limits.specs.Limits.{MOST_VARIABLES, MOST_STATES, MOST_TIMERS_EACH, MOST_SIGNALS, MOST_PROCESSES};
 
 use crate::uses::UseTable;
@@ -24,7 +25,7 @@ pub struct Names<'a> {
     pub block: &'a BlockTable<'a>,
     pub process: &'a ProcessTable<'a>,
     pub uses: &'a UseTable,
-    pub ghost used: { IsUseTable (scope_of (block_of block.now) (process_of process.now)) uses.now } by { IsUseTable-prop (scope_of (block_of block.now) (process_of process.now)) uses.now },
+    pub ghost used: { IsUseTable (scope_of (block_of block.now) (process_of process.now)) uses.now } by { Prim.hlevel props },
     pub ghost few_variables: { length (variable_names (process_of process.now)) ≤ MOST_VARIABLES },
     pub ghost few_states: { length (states_of (process_of process.now)) ≤ MOST_STATES },
     pub ghost few_timers: { length (timers_of (process_of process.now)) ≤ MOST_TIMERS_EACH },

@@ -207,8 +207,7 @@ fn only_recipient(names: &Names, signal: &Identifier) -> Option<Party>
     let own = sdl_ast::Party::Process(names.process.process().name);
     match find_receivers(names.block, &own, signal.name) {
         Recipients::One(party) => party_at(names, &party),
-        Recipients::Nobody => None,
-        Recipients::Several => None,
+        Recipients::Nobody | Recipients::Several => None,
     }
 }
 
@@ -233,8 +232,7 @@ fn add_expression(uses: &mut Uses, names: &Names, expression: &Expression) -> Re
     ensures { OnOk result (AreUses (scope_in names.now) uses.new.items) }
 {
     match expression {
-        Expression::Number { .. } => Ok(()),
-        Expression::Truth { .. } => Ok(()),
+        Expression::Number { .. } | Expression::Truth { .. } => Ok(()),
         Expression::Variable { name, .. } => add_variable(uses, names, name),
         Expression::Unary { operand, .. } => add_expression(uses, names, operand),
         Expression::Binary { left, right, .. } => {
@@ -287,14 +285,23 @@ fn add_sendings(uses: &mut Uses, names: &Names, sendings: &[Sending]) -> Result<
     Ok(())
 }
 
+/// The process that an OUTPUT names, if it does.
+fn add_recipient(uses: &mut Uses, names: &Names, to: &Option<Destination>) -> Result<(), AllocError>
+    requires { AreUses (scope_in names.now) uses.old.items }
+    ensures { OnOk result (AreUses (scope_in names.now) uses.new.items) }
+{
+    match to {
+        Some(Destination::Process(id)) => add_process(uses, names, id),
+        Some(Destination::Sender(_)) | None => Ok(()),
+    }
+}
+
 /// The names in an OUTPUT.
 fn add_output(uses: &mut Uses, names: &Names, output: &Output) -> Result<(), AllocError>
     requires { AreUses (scope_in names.now) uses.old.items }
     ensures { OnOk result (AreUses (scope_in names.now) uses.new.items) }
 {
-    if let Some(Destination::Process(id)) = &output.to {
-        add_process(uses, names, id)?;
-    }
+    add_recipient(uses, names, &output.to)?;
     add_sendings(uses, names, &output.sendings)
 }
 
@@ -354,15 +361,24 @@ fn add_transition(uses: &mut Uses, names: &Names, transition: &Transition) -> Re
     Ok(())
 }
 
+/// The names in the transition of an INPUT.
+fn add_clause(uses: &mut Uses, names: &Names, clause: &StateClause) -> Result<(), AllocError>
+    requires { AreUses (scope_in names.now) uses.old.items }
+    ensures { OnOk result (AreUses (scope_in names.now) uses.new.items) }
+{
+    match clause {
+        StateClause::Input(input) => add_transition(uses, names, &input.transition),
+        StateClause::Save(_) => Ok(()),
+    }
+}
+
 /// The names in the transitions of a STATE part.
 fn add_clauses(uses: &mut Uses, names: &Names, clauses: &[StateClause]) -> Result<(), AllocError>
     requires { AreUses (scope_in names.now) uses.old.items }
     ensures { OnOk result (AreUses (scope_in names.now) uses.new.items) }
 {
     for clause in clauses {
-        if let StateClause::Input(input) = clause {
-            add_transition(uses, names, &input.transition)?;
-        }
+        add_clause(uses, names, clause)?;
     }
     Ok(())
 }

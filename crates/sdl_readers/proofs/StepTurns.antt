@@ -14,7 +14,7 @@ use Rattle.sdl_bodies.specs.Marks.{Marked}
 use Rattle.sdl_bodies.specs.BodyViews.{marked_view, reached_view, move_view}
 use Rattle.sdl_tokens.specs.Mirrors.{Stops}
 use Rattle.sdl_tokens.specs.Readings.{Reading, read}
-use Rattle.sdl_readers.specs.Productions.{step_at, steps_from}
+use Rattle.sdl_productions.specs.Productions.{step_at, steps_from}
 use Rattle.sdl_ast.specs.Views.{text_of}
 use Rattle.sdl_readers.proofs.StepLemmas.{step_shortens, from_reaches, from_closes, from_fails}
 

@@ -1,5 +1,1 @@
-pub mod Productions
-pub mod Lengths
-pub mod MarkedParts
-pub mod MarkedLengths
 pub mod SectionViews

@@ -1,7 +1,7 @@
 -- A part of the body of a process as the code keeps it.
 use Rattle.sdl_ast.specs.Views.{state_of, connection_of}
 use Rattle.sdl_bodies.specs.BodyViews.{marked_view}
-use Rattle.sdl_readers.specs.MarkedParts.{MarkedSection, a_state, a_connection}
+use Rattle.sdl_productions.specs.MarkedParts.{MarkedSection, a_state, a_connection}
 use Rattle.sdl_readers.specs.declared.transitions.Section as the_section
 use Rattle.sdl_readers.specs.declared.transitions.Section.TheVariants as sections
 

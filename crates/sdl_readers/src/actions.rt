@@ -5,13 +5,13 @@ ghost use Rattle.std.specs.Option.{option_map, option_to_list};
 ghost use Rattle.sdl_lex.specs.declared.lexemes.Word.TheVariants as words;
 ghost use Rattle.sdl_tokens.specs.Readings.{optional};
 ghost use Rattle.sdl_expressions.specs.Machine.{low_trees, expression_at};
-ghost use Rattle.sdl_readers.specs.Productions.{assignment_at, item_at, task_at, sending_at, destination_at, output_at, delay_at, set_at, reset_at, action_at};
+ghost use Rattle.sdl_productions.specs.Productions.{assignment_at, item_at, task_at, sending_at, destination_at, output_at, delay_at, set_at, reset_at, action_at};
 ghost use Rattle.sdl_tokens.specs.Tokens.{a_word, an_action};
 ghost use Rattle.sdl_ast.specs.Plain.{Tree, PlainAssignment, PlainSending, PlainAction};
 ghost use Rattle.sdl_ast.specs.Views.{tree_of, assignment_of, sending_of, action_of};
 ghost use Rattle.sdl_tokens.specs.Mirrors.{Mirrors, same};
-ghost use Rattle.sdl_expressions.specs.Rests.{low_keeps};
-ghost use Rattle.sdl_readers.specs.Lengths.{low_item_keeps, low_sending_keeps, low_action_takes, low_action_keeps};
+ghost use Rattle.sdl_expressions.proofs.Rests.{low_keeps};
+ghost use Rattle.sdl_productions.proofs.Lengths.{low_item_keeps, low_sending_keeps, low_action_takes, low_action_keeps};
 
 use crate::attempt::attempt;
 use crate::endings::terminator;
@@ -25,7 +25,7 @@ use sdl_tokens::{AnyAction, AnyDestination, AnyName, AnyQuoted, Stop, push, stan
 use std::alloc::Global;
 
 /// Reads `name := expression`.
-#[tactic(auto, unfolding(crate::specs::Productions::assignment_at))]
+#[tactic(auto, unfolding(sdl_productions::specs::Productions::assignment_at))]
 fn read_assignment<'a>(
     alloc: Global,
     tokens: &'a [Token],
@@ -48,7 +48,7 @@ impl Production for Option<Assignment> {
 
     ghost never_longer = { low_item_keeps };
 
-    #[tactic(auto, unfolding(crate::specs::Productions::item_at, crate::specs::Productions::quoted_at, crate::specs::Productions::assigned_at))]
+    #[tactic(auto, unfolding(sdl_productions::specs::Productions::item_at, sdl_productions::specs::Productions::quoted_at, sdl_productions::specs::Productions::assigned_at))]
     fn read<'a>(
         alloc: Global,
         tokens: &'a [Token],
@@ -86,7 +86,7 @@ fn kept<'a>(alloc: Global, items: Vec<Option<Assignment>>) -> Result<Vec<Assignm
 }
 
 /// Reads `TASK item {, item} ;`.
-#[tactic(auto, unfolding(crate::specs::Productions::task_at))]
+#[tactic(auto, unfolding(sdl_productions::specs::Productions::task_at))]
 fn read_task<'a>(alloc: Global, tokens: &'a [Token]) -> Result<(Action, &'a [Token]), Stop<'a>>
     ensures { Mirrors action_of result (task_at (expression_at low_trees) tokens.now) }
 {
@@ -120,7 +120,7 @@ impl Production for Sending {
 
     ghost never_longer = { low_sending_keeps };
 
-    #[tactic(auto, unfolding(crate::specs::Productions::sending_at))]
+    #[tactic(auto, unfolding(sdl_productions::specs::Productions::sending_at))]
     fn read<'a>(alloc: Global, tokens: &'a [Token]) -> Result<(Sending, &'a [Token]), Stop<'a>> {
         let (signal, rest) = attempt!(take(tokens, AnyName));
         let (parameters, rest) = attempt!(read_in_parentheses::<Expression>(alloc, rest));
@@ -129,7 +129,7 @@ impl Production for Sending {
 }
 
 /// Reads `TO (SENDER | name)`.
-#[tactic(auto, unfolding(crate::specs::Productions::destination_at))]
+#[tactic(auto, unfolding(sdl_productions::specs::Productions::destination_at))]
 fn read_destination<'a>(tokens: &'a [Token]) -> Result<(Destination, &'a [Token]), Stop<'a>>
     ensures { Mirrors same result (destination_at tokens.now) }
 {
@@ -151,7 +151,7 @@ fn read_optional_destination<'a>(
 }
 
 /// Reads `OUTPUT sending {, sending} [ TO (SENDER | name) ] ;`.
-#[tactic(auto, unfolding(crate::specs::Productions::output_at))]
+#[tactic(auto, unfolding(sdl_productions::specs::Productions::output_at))]
 fn read_output<'a>(alloc: Global, tokens: &'a [Token]) -> Result<(Action, &'a [Token]), Stop<'a>>
     ensures { Mirrors action_of result (output_at (expression_at low_trees) tokens.now) }
 {
@@ -163,7 +163,7 @@ fn read_output<'a>(alloc: Global, tokens: &'a [Token]) -> Result<(Action, &'a [T
 }
 
 /// Reads `( NOW + expression ,`.
-#[tactic(auto, unfolding(crate::specs::Productions::delay_at))]
+#[tactic(auto, unfolding(sdl_productions::specs::Productions::delay_at))]
 fn read_delay<'a>(alloc: Global, tokens: &'a [Token]) -> Result<(Expression, &'a [Token]), Stop<'a>>
     ensures { Mirrors tree_of result (delay_at (expression_at low_trees) tokens.now) }
 {
@@ -176,7 +176,7 @@ fn read_delay<'a>(alloc: Global, tokens: &'a [Token]) -> Result<(Expression, &'a
 }
 
 /// Reads `SET ( NOW + expression , name ) ;`.
-#[tactic(auto, unfolding(crate::specs::Productions::set_at))]
+#[tactic(auto, unfolding(sdl_productions::specs::Productions::set_at))]
 fn read_set<'a>(alloc: Global, tokens: &'a [Token]) -> Result<(Action, &'a [Token]), Stop<'a>>
     ensures { Mirrors action_of result (set_at (expression_at low_trees) tokens.now) }
 {
@@ -189,7 +189,7 @@ fn read_set<'a>(alloc: Global, tokens: &'a [Token]) -> Result<(Action, &'a [Toke
 }
 
 /// Reads `RESET ( name ) ;`.
-#[tactic(auto, unfolding(crate::specs::Productions::reset_at))]
+#[tactic(auto, unfolding(sdl_productions::specs::Productions::reset_at))]
 fn read_reset<'a>(tokens: &'a [Token]) -> Result<(Action, &'a [Token]), Stop<'a>>
     ensures { Mirrors action_of result (reset_at tokens.now) }
 {
@@ -210,7 +210,7 @@ impl Production for Action {
 
     ghost never_longer = { low_action_keeps };
 
-    #[tactic(auto, unfolding(crate::specs::Productions::action_at))]
+    #[tactic(auto, unfolding(sdl_productions::specs::Productions::action_at))]
     fn read<'a>(alloc: Global, tokens: &'a [Token]) -> Result<(Action, &'a [Token]), Stop<'a>> {
         if stands_next(tokens, Word::Task) {
             return Ok(attempt!(read_task(alloc, tokens)));

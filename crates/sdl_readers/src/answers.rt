@@ -4,11 +4,11 @@ ghost use Rattle.std.specs.Option.{option_map};
 ghost use Rattle.sdl_lex.specs.declared.lexemes.Symbol.TheVariants as symbols;
 ghost use Rattle.sdl_tokens.specs.Readings.{optional};
 ghost use Rattle.sdl_expressions.specs.Machine.{low_trees, expression_at};
-ghost use Rattle.sdl_readers.specs.Productions.{compared_at, upper_at, value_at, range_at, answer_head_at, else_head_at, head_at, question_at, end_decision_at};
+ghost use Rattle.sdl_productions.specs.Productions.{compared_at, upper_at, value_at, range_at, answer_head_at, else_head_at, head_at, question_at, end_decision_at};
 ghost use Rattle.sdl_tokens.specs.Tokens.{a_symbol};
 ghost use Rattle.sdl_bodies.specs.BodyViews.{head_of, question_of};
 ghost use Rattle.sdl_tokens.specs.Mirrors.{Mirrors, same};
-ghost use Rattle.sdl_readers.specs.Lengths.{range_keeps};
+ghost use Rattle.sdl_productions.proofs.Lengths.{range_keeps};
 
 use crate::attempt::attempt;
 use crate::declarations::read_constant;
@@ -22,7 +22,7 @@ use sdl_tokens::{AnyRelation, Stop, stands_next, take};
 use std::alloc::Global;
 
 /// Reads a relation and a constant.
-#[tactic(auto, unfolding(crate::specs::Productions::compared_at))]
+#[tactic(auto, unfolding(sdl_productions::specs::Productions::compared_at))]
 fn read_compared<'a>(tokens: &'a [Token]) -> Result<(Range, &'a [Token]), Stop<'a>>
     ensures { Mirrors same result (compared_at tokens.now) }
 {
@@ -37,7 +37,7 @@ fn read_compared<'a>(tokens: &'a [Token]) -> Result<(Range, &'a [Token]), Stop<'
 }
 
 /// Reads `: constant`.
-#[tactic(auto, unfolding(crate::specs::Productions::upper_at))]
+#[tactic(auto, unfolding(sdl_productions::specs::Productions::upper_at))]
 fn read_upper<'a>(tokens: &'a [Token]) -> Result<(Constant, &'a [Token]), Stop<'a>>
     ensures { Mirrors same result (upper_at tokens.now) }
 {
@@ -57,7 +57,7 @@ fn read_optional_upper<'a>(tokens: &'a [Token]) -> Result<(Option<Constant>, &'a
 }
 
 /// Reads `constant [ : constant ]`.
-#[tactic(auto, unfolding(crate::specs::Productions::value_at))]
+#[tactic(auto, unfolding(sdl_productions::specs::Productions::value_at))]
 fn read_value<'a>(tokens: &'a [Token]) -> Result<(Range, &'a [Token]), Stop<'a>>
     ensures { Mirrors same result (value_at tokens.now) }
 {
@@ -80,7 +80,7 @@ impl Production for Range {
 
     ghost never_longer = { range_keeps };
 
-    #[tactic(auto, unfolding(crate::specs::Productions::range_at))]
+    #[tactic(auto, unfolding(sdl_productions::specs::Productions::range_at))]
     fn read<'a>(_alloc: Global, tokens: &'a [Token]) -> Result<(Range, &'a [Token]), Stop<'a>> {
         if stands_next(tokens, AnyRelation) {
             return Ok(attempt!(read_compared(tokens)));
@@ -90,7 +90,7 @@ impl Production for Range {
 }
 
 /// Reads `( range {, range} ) :`.
-#[tactic(auto, unfolding(crate::specs::Productions::answer_head_at))]
+#[tactic(auto, unfolding(sdl_productions::specs::Productions::answer_head_at))]
 fn read_answer_head<'a>(alloc: Global, tokens: &'a [Token]) -> Result<(Head, &'a [Token]), Stop<'a>>
     ensures { Mirrors head_of result (answer_head_at tokens.now) }
 {
@@ -102,7 +102,7 @@ fn read_answer_head<'a>(alloc: Global, tokens: &'a [Token]) -> Result<(Head, &'a
 }
 
 /// Reads `ELSE :`.
-#[tactic(auto, unfolding(crate::specs::Productions::else_head_at))]
+#[tactic(auto, unfolding(sdl_productions::specs::Productions::else_head_at))]
 fn read_else_head<'a>(tokens: &'a [Token]) -> Result<(u32, &'a [Token]), Stop<'a>>
     ensures { Mirrors same result (else_head_at tokens.now) }
 {
@@ -112,7 +112,7 @@ fn read_else_head<'a>(tokens: &'a [Token]) -> Result<(u32, &'a [Token]), Stop<'a
 }
 
 /// Reads `( range {, range} ) :`, or `ELSE :`, which has no head.
-#[tactic(auto, unfolding(crate::specs::Productions::head_at, crate::specs::Productions::some_head_at, crate::specs::Productions::no_head_at))]
+#[tactic(auto, unfolding(sdl_productions::specs::Productions::head_at, sdl_productions::specs::Productions::some_head_at, sdl_productions::specs::Productions::no_head_at))]
 pub(crate) fn read_head<'a>(
     alloc: Global,
     tokens: &'a [Token],
@@ -128,7 +128,7 @@ pub(crate) fn read_head<'a>(
 }
 
 /// Reads `DECISION expression ;`.
-#[tactic(auto, unfolding(crate::specs::Productions::question_at))]
+#[tactic(auto, unfolding(sdl_productions::specs::Productions::question_at))]
 pub(crate) fn read_question<'a>(
     alloc: Global,
     tokens: &'a [Token],
@@ -142,7 +142,7 @@ pub(crate) fn read_question<'a>(
 }
 
 /// Reads `ENDDECISION ;`.
-#[tactic(auto, unfolding(crate::specs::Productions::end_decision_at))]
+#[tactic(auto, unfolding(sdl_productions::specs::Productions::end_decision_at))]
 pub(crate) fn read_end_decision<'a>(tokens: &'a [Token]) -> Result<(u32, &'a [Token]), Stop<'a>>
     ensures { Mirrors same result (end_decision_at tokens.now) }
 {

@@ -5,12 +5,12 @@ ghost use Rattle.sdl_tokens.specs.Readings.{token, optional};
 ghost use Rattle.sdl_ast.specs.Plain.{PlainEntity, process};
 ghost use Rattle.sdl_bodies.specs.BodyViews.{marked_view};
 ghost use Rattle.sdl_bodies.specs.Marks.{Marked, map_marked, body_marked, process_marked};
-ghost use Rattle.sdl_readers.specs.MarkedParts.{marked_process, marked_entity, marked_block};
-ghost use Rattle.sdl_readers.specs.Productions.{second_number_at, instances_at, process_head_at};
+ghost use Rattle.sdl_productions.specs.MarkedParts.{marked_process, marked_entity, marked_block};
+ghost use Rattle.sdl_productions.specs.Productions.{second_number_at, instances_at, process_head_at};
 ghost use Rattle.sdl_tokens.specs.Tokens.{a_number, a_one, a_symbol, an_entity};
 ghost use Rattle.sdl_ast.specs.Views.{declaration_of, start_of, state_of, connection_of, entity_of, block_of};
 ghost use Rattle.sdl_tokens.specs.Mirrors.{Mirrors, same};
-ghost use Rattle.sdl_readers.specs.MarkedLengths.{marked_entity_takes, marked_entity_keeps};
+ghost use Rattle.sdl_productions.proofs.MarkedLengths.{marked_entity_takes, marked_entity_keeps};
 
 use crate::attempt::attempt;
 use crate::declarations::{read_connect, read_route, read_signals};
@@ -36,7 +36,7 @@ fn read_optional_one<'a>(tokens: &'a [Token]) -> Result<(Option<u32>, &'a [Token
 }
 
 /// Reads `, [1]`.
-#[tactic(auto, unfolding(crate::specs::Productions::second_number_at))]
+#[tactic(auto, unfolding(sdl_productions::specs::Productions::second_number_at))]
 fn read_second<'a>(tokens: &'a [Token]) -> Result<(Option<u32>, &'a [Token]), Stop<'a>>
     ensures { Mirrors same result (second_number_at tokens.now) }
 {
@@ -58,7 +58,7 @@ fn read_optional_second<'a>(
 }
 
 /// Reads `( 1 [ , [1] ] )`: the numbers of instances at first and at most.
-#[tactic(auto, unfolding(crate::specs::Productions::instances_at))]
+#[tactic(auto, unfolding(sdl_productions::specs::Productions::instances_at))]
 fn read_instances<'a>(tokens: &'a [Token]) -> Result<(u32, &'a [Token]), Stop<'a>>
     ensures { Mirrors same result (instances_at tokens.now) }
 {
@@ -81,7 +81,7 @@ fn read_optional_instances<'a>(tokens: &'a [Token]) -> Result<(Option<u32>, &'a 
 }
 
 /// Reads `PROCESS name [ ( 1 [, [1]] ) ] ;`.
-#[tactic(auto, unfolding(crate::specs::Productions::process_head_at))]
+#[tactic(auto, unfolding(sdl_productions::specs::Productions::process_head_at))]
 fn read_process_head<'a>(tokens: &'a [Token]) -> Result<(Identifier, &'a [Token]), Stop<'a>>
     ensures { Mirrors same result (process_head_at tokens.now) }
 {
@@ -141,7 +141,7 @@ fn process_of(
 }
 
 /// Reads a PROCESS.
-#[tactic(auto, unfolding(crate::specs::MarkedParts::marked_process))]
+#[tactic(auto, unfolding(sdl_productions::specs::MarkedParts::marked_process))]
 fn read_process<'a>(
     alloc: Global,
     tokens: &'a [Token],
@@ -173,7 +173,7 @@ impl Production for Marked<Entity> {
 
     ghost never_longer = { marked_entity_keeps };
 
-    #[tactic(auto, unfolding(crate::specs::MarkedParts::marked_entity))]
+    #[tactic(auto, unfolding(sdl_productions::specs::MarkedParts::marked_entity))]
     fn read<'a>(
         alloc: Global,
         tokens: &'a [Token],
@@ -205,7 +205,7 @@ impl Listed for Marked<Entity> {
 }
 
 /// Reads a block.
-#[tactic(auto, unfolding(crate::specs::MarkedParts::marked_block))]
+#[tactic(auto, unfolding(sdl_productions::specs::MarkedParts::marked_block))]
 pub fn read_block<'a>(
     alloc: Global,
     tokens: &'a [Token],

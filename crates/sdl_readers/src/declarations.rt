@@ -2,14 +2,14 @@
 ghost use Rattle.std.specs.Prelude.{◌≡◌, ◌∷◌, map, Option, None, IfOk, IfErr};
 ghost use Rattle.std.specs.Option.{option_map, option_to_list};
 ghost use Rattle.sdl_tokens.specs.Readings.{token, separated, optional};
-ghost use Rattle.sdl_readers.specs.Productions.{signal_at, signals_at, path_at, route_at, connect_at, negative_at, constant_at, initial_at, group_at, variables_at, timers_at, declaration_at, place_at};
+ghost use Rattle.sdl_productions.specs.Productions.{signal_at, signals_at, path_at, route_at, connect_at, negative_at, constant_at, initial_at, group_at, variables_at, timers_at, declaration_at, place_at};
 ghost use Rattle.sdl_tokens.specs.Tokens.{a_name, a_sort, a_word, a_symbol, a_declaration};
 ghost use Rattle.sdl_lex.specs.declared.lexemes.Symbol.TheVariants.{Assign};
 ghost use Rattle.sdl_lex.specs.declared.lexemes.Word.TheVariants.{From};
 ghost use Rattle.sdl_ast.specs.Plain.{PlainSignal, PlainGroup, PlainDeclaration};
 ghost use Rattle.sdl_ast.specs.Views.{signal_of, path_of, entity_of, group_of, declaration_of};
 ghost use Rattle.sdl_tokens.specs.Mirrors.{Mirrors, same};
-ghost use Rattle.sdl_readers.specs.Lengths.{name_keeps, sort_keeps, signal_keeps, group_keeps, place_keeps, declaration_takes, declaration_keeps};
+ghost use Rattle.sdl_productions.proofs.Lengths.{name_keeps, sort_keeps, signal_keeps, group_keeps, place_keeps, declaration_takes, declaration_keeps};
 
 use crate::attempt::attempt;
 use crate::endings::terminator;
@@ -71,7 +71,7 @@ impl Production for Option<Identifier> {
 
     ghost never_longer = { place_keeps };
 
-    #[tactic(auto, unfolding(crate::specs::Productions::place_at))]
+    #[tactic(auto, unfolding(sdl_productions::specs::Productions::place_at))]
     fn read<'a>(
         _alloc: Global,
         tokens: &'a [Token],
@@ -93,7 +93,7 @@ impl Production for SignalDeclaration {
 
     ghost never_longer = { signal_keeps };
 
-    #[tactic(auto, unfolding(crate::specs::Productions::signal_at))]
+    #[tactic(auto, unfolding(sdl_productions::specs::Productions::signal_at))]
     fn read<'a>(
         alloc: Global,
         tokens: &'a [Token],
@@ -105,7 +105,7 @@ impl Production for SignalDeclaration {
 }
 
 /// Reads `SIGNAL signal {, signal} ;`.
-#[tactic(auto, unfolding(crate::specs::Productions::signals_at))]
+#[tactic(auto, unfolding(sdl_productions::specs::Productions::signals_at))]
 pub(crate) fn read_signals<'a>(
     alloc: Global,
     tokens: &'a [Token],
@@ -119,7 +119,7 @@ pub(crate) fn read_signals<'a>(
 }
 
 /// Reads `FROM (name | ENV) TO (name | ENV) WITH name {, name} ;`.
-#[tactic(auto, unfolding(crate::specs::Productions::path_at))]
+#[tactic(auto, unfolding(sdl_productions::specs::Productions::path_at))]
 fn read_path<'a>(alloc: Global, tokens: &'a [Token]) -> Result<(Path, &'a [Token]), Stop<'a>>
     ensures { Mirrors path_of result (path_at tokens.now) }
 {
@@ -161,7 +161,7 @@ fn paths_of<'a>(alloc: Global, first: Path, second: Option<Path>) -> Result<Vec<
 }
 
 /// Reads `SIGNALROUTE name path [path]`.
-#[tactic(auto, unfolding(crate::specs::Productions::route_at))]
+#[tactic(auto, unfolding(sdl_productions::specs::Productions::route_at))]
 pub(crate) fn read_route<'a>(
     alloc: Global,
     tokens: &'a [Token],
@@ -177,7 +177,7 @@ pub(crate) fn read_route<'a>(
 }
 
 /// Reads `CONNECT name {, name} AND name {, name} ;`.
-#[tactic(auto, unfolding(crate::specs::Productions::connect_at))]
+#[tactic(auto, unfolding(sdl_productions::specs::Productions::connect_at))]
 pub(crate) fn read_connect<'a>(
     alloc: Global,
     tokens: &'a [Token],
@@ -193,7 +193,7 @@ pub(crate) fn read_connect<'a>(
 }
 
 /// Reads `- number`.
-#[tactic(auto, unfolding(crate::specs::Productions::negative_at))]
+#[tactic(auto, unfolding(sdl_productions::specs::Productions::negative_at))]
 fn read_negative<'a>(tokens: &'a [Token]) -> Result<(Constant, &'a [Token]), Stop<'a>>
     ensures { Mirrors same result (negative_at tokens.now) }
 {
@@ -204,7 +204,7 @@ fn read_negative<'a>(tokens: &'a [Token]) -> Result<(Constant, &'a [Token]), Sto
 }
 
 /// Reads `[ - ] number`, TRUE or FALSE.
-#[tactic(auto, unfolding(crate::specs::Productions::constant_at))]
+#[tactic(auto, unfolding(sdl_productions::specs::Productions::constant_at))]
 pub(crate) fn read_constant<'a>(tokens: &'a [Token]) -> Result<(Constant, &'a [Token]), Stop<'a>>
     ensures { Mirrors same result (constant_at tokens.now) }
 {
@@ -215,7 +215,7 @@ pub(crate) fn read_constant<'a>(tokens: &'a [Token]) -> Result<(Constant, &'a [T
 }
 
 /// Reads `:= constant`.
-#[tactic(auto, unfolding(crate::specs::Productions::initial_at))]
+#[tactic(auto, unfolding(sdl_productions::specs::Productions::initial_at))]
 fn read_initial<'a>(tokens: &'a [Token]) -> Result<(Constant, &'a [Token]), Stop<'a>>
     ensures { Mirrors same result (initial_at tokens.now) }
 {
@@ -245,7 +245,7 @@ impl Production for Group {
 
     ghost never_longer = { group_keeps };
 
-    #[tactic(auto, unfolding(crate::specs::Productions::group_at))]
+    #[tactic(auto, unfolding(sdl_productions::specs::Productions::group_at))]
     fn read<'a>(alloc: Global, tokens: &'a [Token]) -> Result<(Group, &'a [Token]), Stop<'a>> {
         let (names, rest) = attempt!(read_separated::<Identifier>(alloc, tokens));
         let (sort, rest) = attempt!(take(rest, AnySort));
@@ -262,7 +262,7 @@ impl Production for Group {
 }
 
 /// Reads `DCL group {, group} ;`.
-#[tactic(auto, unfolding(crate::specs::Productions::variables_at))]
+#[tactic(auto, unfolding(sdl_productions::specs::Productions::variables_at))]
 fn read_variables<'a>(
     alloc: Global,
     tokens: &'a [Token],
@@ -276,7 +276,7 @@ fn read_variables<'a>(
 }
 
 /// Reads `TIMER name {, name} ;`.
-#[tactic(auto, unfolding(crate::specs::Productions::timers_at))]
+#[tactic(auto, unfolding(sdl_productions::specs::Productions::timers_at))]
 fn read_timers<'a>(
     alloc: Global,
     tokens: &'a [Token],
@@ -298,7 +298,7 @@ impl Production for Declaration {
 
     ghost never_longer = { declaration_keeps };
 
-    #[tactic(auto, unfolding(crate::specs::Productions::declaration_at))]
+    #[tactic(auto, unfolding(sdl_productions::specs::Productions::declaration_at))]
     fn read<'a>(
         alloc: Global,
         tokens: &'a [Token],

@@ -2,7 +2,7 @@
 ghost use Rattle.std.specs.Prelude.{◌≡◌, Option};
 ghost use Rattle.sdl_lex.specs.declared.lexemes.Word.TheVariants as words;
 ghost use Rattle.sdl_tokens.specs.Readings.{token, optional};
-ghost use Rattle.sdl_readers.specs.Productions.{comment_at, terminator_at, closing_at};
+ghost use Rattle.sdl_productions.specs.Productions.{comment_at, terminator_at, closing_at};
 ghost use Rattle.sdl_tokens.specs.Tokens.{a_name, a_word, a_closing};
 ghost use Rattle.sdl_tokens.specs.Mirrors.{Mirrors, same};
 
@@ -12,7 +12,7 @@ use sdl_lex::{Name, Symbol, Token, Word};
 use sdl_tokens::{AnyName, AnyQuoted, Closing, Stop, stands_next, take};
 
 /// Reads `COMMENT quoted`.
-#[tactic(auto, unfolding(crate::specs::Productions::comment_at))]
+#[tactic(auto, unfolding(sdl_productions::specs::Productions::comment_at))]
 fn read_comment<'a>(tokens: &'a [Token]) -> Result<(u32, &'a [Token]), Stop<'a>>
     ensures { Mirrors same result (comment_at tokens.now) }
 {
@@ -32,7 +32,7 @@ fn read_optional_comment<'a>(tokens: &'a [Token]) -> Result<(Option<u32>, &'a [T
 }
 
 /// Reads `[ COMMENT quoted ] ;`.
-#[tactic(auto, unfolding(crate::specs::Productions::terminator_at))]
+#[tactic(auto, unfolding(sdl_productions::specs::Productions::terminator_at))]
 pub(crate) fn terminator<'a>(tokens: &'a [Token]) -> Result<(u32, &'a [Token]), Stop<'a>>
     ensures { Mirrors same result (terminator_at tokens.now) }
 {
@@ -55,7 +55,7 @@ fn read_optional_closing<'a>(
 }
 
 /// Reads `[name] ;`, where the name is the given one in any case.
-#[tactic(auto, unfolding(crate::specs::Productions::closing_at))]
+#[tactic(auto, unfolding(sdl_productions::specs::Productions::closing_at))]
 pub(crate) fn read_closing<'a>(
     tokens: &'a [Token],
     opened: Name,

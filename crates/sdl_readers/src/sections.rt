@@ -2,7 +2,7 @@
 ghost use Rattle.std.specs.Prelude.{◌≡◌, ◌++◌, map, OnOk, IfOk, IfErr};
 ghost use Rattle.std.specs.List.{filter_map};
 ghost use Rattle.std.specs.Option.{option_to_list};
-ghost use Rattle.sdl_readers.specs.MarkedParts.{marked_state_in, marked_connection_in};
+ghost use Rattle.sdl_productions.specs.MarkedParts.{marked_state_in, marked_connection_in};
 ghost use Rattle.sdl_ast.specs.Views.{state_of, connection_of};
 ghost use Rattle.sdl_bodies.specs.BodyViews.{marked_view};
 ghost use Rattle.sdl_readers.specs.SectionViews.{section_of};

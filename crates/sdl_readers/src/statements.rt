@@ -1,11 +1,10 @@
-//! Transitions. DECISIONs stand in each other as deep as a text goes, so what is open is kept on a
-//! stack, and where something is too high only its place is kept.
+//! Transitions, read step by step; `sdl_bodies` has what is kept between the steps.
 ghost use Rattle.std.specs.Prelude.{◌≡◌, map, IfOk, IfErr};
 ghost use Rattle.std.specs.Option.{option_map};
 ghost use Rattle.sdl_bodies.specs.BodyViews.{marked_view, head_of, branching_view, bodies_view, reached_view, move_view};
 ghost use Rattle.sdl_bodies.specs.Bodies.{marked_texts};
 ghost use Rattle.sdl_tokens.specs.Mirrors.{Mirrors};
-ghost use Rattle.sdl_readers.specs.Productions.{head_step, closing_step, answer_step, body_step, behind_step, end_step, decision_step, action_step, step_at, text_at};
+ghost use Rattle.sdl_productions.specs.Productions.{head_step, closing_step, answer_step, body_step, behind_step, end_step, decision_step, action_step, step_at, text_at};
 ghost use Rattle.sdl_ast.specs.Views.{text_of, else_choice};
 
 use crate::answers::{read_end_decision, read_head, read_question};
@@ -22,7 +21,7 @@ use sdl_tokens::{AnyAction, AnyChoice, Stop, push, stands_next};
 use std::alloc::Global;
 
 /// Reads the head of an answer or ELSE; its body is read next.
-#[tactic(auto, unfolding(crate::specs::Productions::head_step))]
+#[tactic(auto, unfolding(sdl_productions::specs::Productions::head_step))]
 fn head_step<'a>(
     alloc: Global,
     outer: Vec<Body>,
@@ -39,7 +38,7 @@ fn head_step<'a>(
 }
 
 /// Reads ENDDECISION; what stands behind it is read next.
-#[tactic(auto, unfolding(crate::specs::Productions::closing_step))]
+#[tactic(auto, unfolding(sdl_productions::specs::Productions::closing_step))]
 fn closing_step<'a>(
     outer: Vec<Body>,
     branching: Branching,
@@ -54,7 +53,7 @@ fn closing_step<'a>(
 }
 
 /// Goes on behind the body of an answer: with another head, or with ENDDECISION.
-#[tactic(auto, unfolding(crate::specs::Productions::answer_step))]
+#[tactic(auto, unfolding(sdl_productions::specs::Productions::answer_step))]
 fn answer_step<'a>(
     alloc: Global,
     outer: Vec<Body>,
@@ -103,7 +102,7 @@ fn behind_step<'a>(
 }
 
 /// Reads the end of a transition if one stands next, and goes on behind it.
-#[tactic(auto, unfolding(crate::specs::Productions::end_step))]
+#[tactic(auto, unfolding(sdl_productions::specs::Productions::end_step))]
 fn end_step<'a>(
     alloc: Global,
     reached: Reached,
@@ -117,7 +116,7 @@ fn end_step<'a>(
 }
 
 /// Reads the question of a DECISION with its first head.
-#[tactic(auto, unfolding(crate::specs::Productions::decision_step))]
+#[tactic(auto, unfolding(sdl_productions::specs::Productions::decision_step))]
 fn decision_step<'a>(
     alloc: Global,
     reached: Reached,
@@ -136,7 +135,7 @@ fn decision_step<'a>(
 }
 
 /// Reads an action.
-#[tactic(auto, unfolding(crate::specs::Productions::action_step))]
+#[tactic(auto, unfolding(sdl_productions::specs::Productions::action_step))]
 fn action_step<'a>(
     alloc: Global,
     reached: Reached,
@@ -151,7 +150,7 @@ fn action_step<'a>(
 }
 
 /// Goes on by one step.
-#[tactic(auto, unfolding(crate::specs::Productions::step_at))]
+#[tactic(auto, unfolding(sdl_productions::specs::Productions::step_at))]
 fn make_step<'a>(
     alloc: Global,
     reached: Reached,
@@ -169,7 +168,7 @@ fn make_step<'a>(
 }
 
 /// Reads a transition: statements, and its end if one stands next.
-#[tactic(auto, unfolding(crate::specs::Productions::text_at))]
+#[tactic(auto, unfolding(sdl_productions::specs::Productions::text_at))]
 pub(crate) fn read_transition<'a>(
     alloc: Global,
     tokens: &'a [Token],

@@ -2,17 +2,17 @@
 ghost use Rattle.std.specs.Prelude.{◌≡◌, map, Option, None, List};
 ghost use Rattle.sdl_lex.specs.declared.lexemes.Word.TheVariants as words;
 ghost use Rattle.sdl_tokens.specs.Readings.{separated, optional};
-ghost use Rattle.sdl_readers.specs.Productions.{stimulus_at, next_state_at, stop_at, join_at, end_at, save_at, end_state_at, end_connection_at};
+ghost use Rattle.sdl_productions.specs.Productions.{stimulus_at, next_state_at, stop_at, join_at, end_at, save_at, end_state_at, end_connection_at};
 ghost use Rattle.sdl_bodies.specs.Marks.{Marked};
-ghost use Rattle.sdl_readers.specs.MarkedParts.{MarkedSection, marked_input, marked_clause, marked_state, marked_connection, marked_section, marked_start};
+ghost use Rattle.sdl_productions.specs.MarkedParts.{MarkedSection, marked_input, marked_clause, marked_state, marked_connection, marked_section, marked_start};
 ghost use Rattle.sdl_tokens.specs.Tokens.{a_word, a_clause, a_section, an_end};
 ghost use Rattle.sdl_ast.specs.Plain.{PlainStimulus, PlainClause};
 ghost use Rattle.sdl_ast.specs.Views.{stimulus_of, clause_of, state_of, connection_of, start_of};
 ghost use Rattle.sdl_bodies.specs.BodyViews.{marked_view};
 ghost use Rattle.sdl_readers.specs.SectionViews.{section_of};
 ghost use Rattle.sdl_tokens.specs.Mirrors.{Mirrors, same};
-ghost use Rattle.sdl_readers.specs.Lengths.{stimulus_keeps};
-ghost use Rattle.sdl_readers.specs.MarkedLengths.{marked_clause_takes, marked_clause_keeps, marked_section_takes, marked_section_keeps};
+ghost use Rattle.sdl_productions.proofs.Lengths.{stimulus_keeps};
+ghost use Rattle.sdl_productions.proofs.MarkedLengths.{marked_clause_takes, marked_clause_keeps, marked_section_takes, marked_section_keeps};
 
 use crate::attempt::attempt;
 use crate::endings::{read_closing, terminator};
@@ -38,7 +38,7 @@ impl Production for Stimulus {
 
     ghost never_longer = { stimulus_keeps };
 
-    #[tactic(auto, unfolding(crate::specs::Productions::stimulus_at))]
+    #[tactic(auto, unfolding(sdl_productions::specs::Productions::stimulus_at))]
     fn read<'a>(alloc: Global, tokens: &'a [Token]) -> Result<(Stimulus, &'a [Token]), Stop<'a>> {
         let (name, rest) = attempt!(take(tokens, AnyName));
         let (places, rest) = attempt!(read_in_parentheses::<Option<Identifier>>(alloc, rest));
@@ -47,7 +47,7 @@ impl Production for Stimulus {
 }
 
 /// Reads `NEXTSTATE name ;`.
-#[tactic(auto, unfolding(crate::specs::Productions::next_state_at))]
+#[tactic(auto, unfolding(sdl_productions::specs::Productions::next_state_at))]
 fn read_next_state<'a>(tokens: &'a [Token]) -> Result<(End, &'a [Token]), Stop<'a>>
     ensures { Mirrors same result (next_state_at tokens.now) }
 {
@@ -58,7 +58,7 @@ fn read_next_state<'a>(tokens: &'a [Token]) -> Result<(End, &'a [Token]), Stop<'
 }
 
 /// Reads `STOP ;`.
-#[tactic(auto, unfolding(crate::specs::Productions::stop_at))]
+#[tactic(auto, unfolding(sdl_productions::specs::Productions::stop_at))]
 fn read_stop<'a>(tokens: &'a [Token]) -> Result<(End, &'a [Token]), Stop<'a>>
     ensures { Mirrors same result (stop_at tokens.now) }
 {
@@ -68,7 +68,7 @@ fn read_stop<'a>(tokens: &'a [Token]) -> Result<(End, &'a [Token]), Stop<'a>>
 }
 
 /// Reads `JOIN name ;`.
-#[tactic(auto, unfolding(crate::specs::Productions::join_at))]
+#[tactic(auto, unfolding(sdl_productions::specs::Productions::join_at))]
 fn read_join<'a>(tokens: &'a [Token]) -> Result<(End, &'a [Token]), Stop<'a>>
     ensures { Mirrors same result (join_at tokens.now) }
 {
@@ -79,7 +79,7 @@ fn read_join<'a>(tokens: &'a [Token]) -> Result<(End, &'a [Token]), Stop<'a>>
 }
 
 /// Reads a NEXTSTATE, a STOP or a JOIN.
-#[tactic(auto, unfolding(crate::specs::Productions::end_at))]
+#[tactic(auto, unfolding(sdl_productions::specs::Productions::end_at))]
 fn read_end<'a>(tokens: &'a [Token]) -> Result<(End, &'a [Token]), Stop<'a>>
     ensures { Mirrors same result (end_at tokens.now) }
 {
@@ -106,7 +106,7 @@ pub(crate) fn read_optional_end<'a>(
 }
 
 /// Reads `INPUT stimulus {, stimulus} ;` and its transition.
-#[tactic(auto, unfolding(crate::specs::MarkedParts::marked_input))]
+#[tactic(auto, unfolding(sdl_productions::specs::MarkedParts::marked_input))]
 fn read_input<'a>(
     alloc: Global,
     tokens: &'a [Token],
@@ -130,7 +130,7 @@ fn read_input<'a>(
 }
 
 /// Reads `SAVE name {, name} ;`.
-#[tactic(auto, unfolding(crate::specs::Productions::save_at))]
+#[tactic(auto, unfolding(sdl_productions::specs::Productions::save_at))]
 fn read_save<'a>(alloc: Global, tokens: &'a [Token]) -> Result<(StateClause, &'a [Token]), Stop<'a>>
     ensures { Mirrors clause_of result (save_at tokens.now) }
 {
@@ -149,7 +149,7 @@ impl Production for Marked<StateClause> {
 
     ghost never_longer = { marked_clause_keeps };
 
-    #[tactic(auto, unfolding(crate::specs::MarkedParts::marked_clause))]
+    #[tactic(auto, unfolding(sdl_productions::specs::MarkedParts::marked_clause))]
     fn read<'a>(
         alloc: Global,
         tokens: &'a [Token],
@@ -173,7 +173,7 @@ impl Listed for Marked<StateClause> {
 }
 
 /// Reads `ENDSTATE [name] ;`.
-#[tactic(auto, unfolding(crate::specs::Productions::end_state_at))]
+#[tactic(auto, unfolding(sdl_productions::specs::Productions::end_state_at))]
 fn read_end_state<'a>(
     tokens: &'a [Token],
     opened: Name,
@@ -199,7 +199,7 @@ fn read_optional_end_state<'a>(
 }
 
 /// Reads `STATE name {, name} ;`, what the states do, and `[ ENDSTATE [name] ; ]`.
-#[tactic(auto, unfolding(crate::specs::MarkedParts::marked_state))]
+#[tactic(auto, unfolding(sdl_productions::specs::MarkedParts::marked_state))]
 fn read_state<'a>(
     alloc: Global,
     tokens: &'a [Token],
@@ -220,7 +220,7 @@ fn read_state<'a>(
 }
 
 /// Reads `ENDCONNECTION [name] ;`.
-#[tactic(auto, unfolding(crate::specs::Productions::end_connection_at))]
+#[tactic(auto, unfolding(sdl_productions::specs::Productions::end_connection_at))]
 fn read_end_connection<'a>(
     tokens: &'a [Token],
     opened: Name,
@@ -246,7 +246,7 @@ fn read_optional_end_connection<'a>(
 }
 
 /// Reads `CONNECTION name :`, its transition, and `[ ENDCONNECTION [name] ; ]`.
-#[tactic(auto, unfolding(crate::specs::MarkedParts::marked_connection))]
+#[tactic(auto, unfolding(sdl_productions::specs::MarkedParts::marked_connection))]
 fn read_connection<'a>(
     alloc: Global,
     tokens: &'a [Token],
@@ -288,7 +288,7 @@ impl Production for Section {
 
     ghost never_longer = { marked_section_keeps };
 
-    #[tactic(auto, unfolding(crate::specs::MarkedParts::marked_section))]
+    #[tactic(auto, unfolding(sdl_productions::specs::MarkedParts::marked_section))]
     fn read<'a>(alloc: Global, tokens: &'a [Token]) -> Result<(Section, &'a [Token]), Stop<'a>> {
         if stands_next(tokens, Word::State) {
             let (state, rest) = attempt!(read_state(alloc, tokens));
@@ -310,7 +310,7 @@ impl Listed for Section {
 }
 
 /// Reads `START ;` and its transition.
-#[tactic(auto, unfolding(crate::specs::MarkedParts::marked_start))]
+#[tactic(auto, unfolding(sdl_productions::specs::MarkedParts::marked_start))]
 pub(crate) fn read_start<'a>(
     alloc: Global,
     tokens: &'a [Token],

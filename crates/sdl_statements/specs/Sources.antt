@@ -1,4 +1,4 @@
--- With what transitions begin, and to which connections they come, as the code keeps it.
+-- Who may have sent what transitions begin with, as it is gathered.
 use Rattle.std.specs.Prelude.{◌≡◌, ◌⊎◌, ℕ, Bool, true, Option, Some, List, All}
 use Rattle.std.specs.List.{list_all}
 use Rattle.sdl_ast.specs.Plain.{PlainProcess, PlainBlock}

@@ -1,3 +1,4 @@
 pub mod Decides
 pub mod Rows
 pub mod RowLemmas
+pub mod Rests

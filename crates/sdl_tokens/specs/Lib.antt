@@ -2,4 +2,3 @@ pub mod Tokens
 pub mod Grammar
 pub mod Readings
 pub mod Mirrors
-pub mod Rests

@@ -250,6 +250,47 @@ fn workers_come_back_to_a_journal_that_was_full(rt: HostRuntime) {
     assert_eq!(rt; rebased(&rt, rt.alloc()), Some([true; 3]));
 }
 
+/// A client that lets a tick pass on each of two links, and makes the state of the second its base.
+#[derive(Drop)]
+struct RebasesSecond {
+    ticked: bool,
+    place: Option<u64>,
+}
+
+impl Client for RebasesSecond {
+    fn drive<R: Wait, L: Ledger>(&mut self, pool: &Pool<'_, R, L>, seat: &mut Seat<L>) {
+        self.ticked = pool.advance(0, 1, seat).is_ok() && pool.advance(1, 1, seat).is_ok();
+        self.place = pool.rebase(1, seat).ok();
+    }
+}
+
+/// The place at which a link's journal begins.
+fn first_of(books: &[Book], link: usize) -> Option<u64> {
+    books.get(link).map(Book::first)
+}
+
+/// Whether the first of two links has its whole journal still, and that of the second begins, behind its tick, where the client was told.
+fn second_rebased<R: Threads + Wait + Sync>(rt: &R, alloc: Global) -> Option<[bool; 3]> {
+    let books = links(alloc, ECHO, 2, 64)?;
+    let mut client = RebasesSecond {
+        ticked: false,
+        place: None,
+    };
+    match serve(rt, alloc, books, 1, &Open, &mut client) {
+        Ok(closed) => Some([
+            client.ticked && first_of(&closed.books, 0) == Some(0),
+            client.place > Some(0),
+            first_of(&closed.books, 1) == client.place,
+        ]),
+        Err(_) => None,
+    }
+}
+
+#[test]
+fn the_link_that_is_named_is_rebased(rt: HostRuntime) {
+    assert_eq!(rt; second_rebased(&rt, rt.alloc()), Some([true; 3]));
+}
+
 /// A client that does nothing.
 #[derive(Drop)]
 struct Idle;

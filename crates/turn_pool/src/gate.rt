@@ -1,7 +1,7 @@
 //! What a pool asks of others.
 
 use crate::pool::Pool;
-use crate::totals::Seat;
+use event_seats::Seat;
 use std::sync::Wait;
 use std::sync::ledger::Ledger;
 

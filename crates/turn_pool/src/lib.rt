@@ -13,10 +13,10 @@ mod room;
 mod serving;
 mod shift;
 mod slot;
-mod totals;
 mod worker;
 
 pub use closed::{Closed, Mismatch};
+pub use event_seats::{Counts, Seat, Totals};
 pub use fault::PoolFault;
 pub use gate::{Client, Gate, JobName};
 pub use moves::{Move, Moved, work};
@@ -24,4 +24,3 @@ pub use pool::Pool;
 pub use receipt::{PoolRefusal, Receipt};
 pub use serving::serve;
 pub use slot::Slot;
-pub use totals::{Counts, Seat, Totals};

@@ -8,8 +8,8 @@ ghost use Rattle.turn_pool.specs.declared.receipt.PoolRefusal.TheVariants.{NoLin
 
 use crate::receipt::{PoolRefusal, Receipt};
 use crate::slot::Slot;
-use crate::totals::{Seat, Shared, Totals};
 use actor_book::Emitted;
+use event_seats::{Seat, Shared, Totals};
 use std::sync::atomic::{AtomicBool, Ordering};
 use std::sync::ledger::Ledger;
 use std::sync::{Mutex, Wait};

@@ -4,8 +4,8 @@ ghost use Rattle.std.specs.Prelude.{◌≡◌, ◌≤◌, ◌<◌, ◌+◌, [], 
 
 use crate::gate::{Client, Gate};
 use crate::pool::Pool;
-use crate::totals::Seat;
 use crate::worker::worker;
+use event_seats::{Seat, dismiss, leave_seat, take_seat};
 use std::sync::Wait;
 use std::sync::atomic::{AtomicUsize, Ordering};
 use std::sync::ledger::{Ledger, Share};
@@ -26,28 +26,6 @@ pub(crate) struct Ended<L: Ledger> {
     pub(crate) rest: Share<L>,
     pub(crate) workers: Vec<u64>,
     pub(crate) client: Option<u64>,
-}
-
-/// A seat on which nothing is counted yet.
-fn take_seat<L: Ledger>(rest: &mut Share<L>) -> Seat<L>
-    requires { 1 < rest.old.parts }
-    ensures seat { result ≡ 0 }
-    ensures parts { rest.new.parts + 1 ≡ rest.old.parts }
-    ensures amount { rest.new.amount ≡ rest.old.amount }
-{
-    let share = rest.split_off(1, 0);
-    Seat { events: 0, share }
-}
-
-/// What was counted on a seat. Its share comes back.
-fn leave_seat<L: Ledger>(rest: &mut Share<L>, seat: Seat<L>) -> u64
-    ensures value { result ≡ seat }
-    ensures parts { rest.new.parts ≡ rest.old.parts + 1 }
-    ensures amount { rest.new.amount ≡ rest.old.amount + seat }
-{
-    let Seat { events, share } = seat;
-    rest.merge(share);
-    events
 }
 
 /// What a worker's thread does. One for whom no thread could be made gives its seat back as it is.
@@ -103,25 +81,6 @@ fn hire<'s, E, R: Wait + Sync, L: Ledger + Send + Sync, G: Gate + Sync>(
         handles,
         workers,
     }
-}
-
-/// Joins the workers. What was counted on each seat is kept.
-fn dismiss<R: Threads, L: Ledger>(
-    rt: &R,
-    handles: Vec<JoinHandle<Seat<L>>>,
-    mut workers: Vec<u64>,
-    rest: &mut Share<L>,
-) -> Vec<u64>
-    requires room { vec_len handles + vec_len workers ≤ vec_capacity workers }
-    ensures parts { rest.new.parts ≡ rest.old.parts + vec_len handles }
-    ensures amount { rest.new.amount + sum workers.items ≡ rest.old.amount + sum result.items }
-    ensures len { vec_len result ≡ vec_len workers + vec_len handles }
-{
-    for handle in handles {
-        let seat = handle.join(rt);
-        workers.push_reserved(leave_seat(rest, seat));
-    }
-    workers
 }
 
 /// Lets the client use the pool, if there is anybody who works there, and then closes it.

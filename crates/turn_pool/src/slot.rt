@@ -10,8 +10,8 @@ ghost use Rattle.turn_pool.specs.Moves.{Begins, Skips, Finishes};
 ghost use Rattle.turn_pool.specs.Receipts.{IsHeld};
 
 use crate::receipt::Receipt;
-use crate::totals::{Counts, Seat};
 use actor_book::{Book, Emitted, Event, Refusal, Report};
+use event_seats::{Counts, Seat};
 use link_machine::laws::place_law;
 use std::alloc::AllocError;
 use std::marker::Model;

@@ -1,5 +1,4 @@
-//! Valid sets of processes: a text is loaded, or a draft is checked rule by rule, and what is accepted stays valid by its
-//! type.
+//! `load`: from a text to the set of its block, or to the refusal of the first layer that refuses, with its line.
 #![tactic(auto)]
 
 mod loading;

@@ -1,7 +1,7 @@
 use Rattle.std.proofs.Common.{◌≡◌, length}
 use Rattle.sdl_bodies.specs.BodyViews.{reached_view}
 use Rattle.sdl_bodies.specs.Bodies.{marked_texts}
-use Rattle.sdl_readers.specs.Productions.{steps_from, text_at}
+use Rattle.sdl_productions.specs.Productions.{steps_from, text_at}
 use Rattle.sdl_readers.proofs.statements.read_transition.Given as goal
 
 abbrev pub invariant-steps : goal.invariant-steps

@@ -1,0 +1,48 @@
+//! Seats for those who work, and what was counted on them once they are done.
+
+ghost use Rattle.std.specs.Prelude.{◌≡◌, ◌≤◌, ◌<◌, ◌+◌, sum, vec_len, vec_capacity};
+
+use crate::totals::Seat;
+use std::sync::ledger::{Ledger, Share};
+use std::thread::{JoinHandle, Threads};
+
+/// A seat on which nothing is counted yet.
+pub fn take_seat<L: Ledger>(rest: &mut Share<L>) -> Seat<L>
+    requires { 1 < rest.old.parts }
+    ensures seat { result ≡ 0 }
+    ensures parts { rest.new.parts + 1 ≡ rest.old.parts }
+    ensures amount { rest.new.amount ≡ rest.old.amount }
+{
+    let share = rest.split_off(1, 0);
+    Seat { events: 0, share }
+}
+
+/// What was counted on a seat. Its share comes back.
+pub fn leave_seat<L: Ledger>(rest: &mut Share<L>, seat: Seat<L>) -> u64
+    ensures value { result ≡ seat }
+    ensures parts { rest.new.parts ≡ rest.old.parts + 1 }
+    ensures amount { rest.new.amount ≡ rest.old.amount + seat }
+{
+    let Seat { events, share } = seat;
+    rest.merge(share);
+    events
+}
+
+/// Joins the workers. What was counted on each seat is kept.
+pub fn dismiss<R: Threads, L: Ledger>(
+    rt: &R,
+    handles: Vec<JoinHandle<Seat<L>>>,
+    mut workers: Vec<u64>,
+    rest: &mut Share<L>,
+) -> Vec<u64>
+    requires room { vec_len handles + vec_len workers ≤ vec_capacity workers }
+    ensures parts { rest.new.parts ≡ rest.old.parts + vec_len handles }
+    ensures amount { rest.new.amount + sum workers.items ≡ rest.old.amount + sum result.items }
+    ensures len { vec_len result ≡ vec_len workers + vec_len handles }
+{
+    for handle in handles {
+        let seat = handle.join(rt);
+        workers.push_reserved(leave_seat(rest, seat));
+    }
+    workers
+}
