@@ -6,7 +6,7 @@ use Rattle.turn_code.specs.Code.{successors}
 use Rattle.turn_code.specs.Transitions.{Transition}
 use Rattle.turn_code.specs.Rules.{greatest, depths, count_in, effects_in, KeepsCounts}
 use Rattle.sdl_sound.specs.Longest.{Piece, piece_depth}
-use Rattle.sdl_meaning.specs.Act.{Scope}
+use Rattle.sdl_meaning.specs.Outcomes.{Scope}
 use Rattle.sdl_counts.specs.Counts.{weight, number_at}
 use Rattle.sdl_counts.specs.declared.counts.Counted.TheVariants.{Effects}
 use Rattle.sdl_facts.specs.Made.{IsLongestOf, AreCountsOf, IsPieceOf}

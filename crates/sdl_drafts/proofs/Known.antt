@@ -22,7 +22,8 @@ use Rattle.sdl_sound.specs.Names.{unknown, tree_names, assignment_names, sending
 use Rattle.sdl_sound.specs.Ends.{first_place, stray_end, strays, choice_strays}
 use Rattle.sdl_sound.specs.Sorts.{wrong_in, parameter_sorts, wrong_parameter, wrong_number, wrong_sending, wrong_action, wrong_statement, wrong_answer, answers_question, range_place}
 use Rattle.sdl_sound.specs.Receivers.{arrives, answers_all, lost_sending, lost_action, lost_statement, is_doubtful, doubtful_sending, doubtful_action, doubtful_statement}
-use Rattle.sdl_meaning.specs.Act.{Scope, variable_at, to_sender}
+use Rattle.sdl_meaning.specs.Act.{to_sender}
+use Rattle.sdl_meaning.specs.Outcomes.{Scope, variable_at}
 use Rattle.sdl_meaning.specs.Named.{NamedTree, NamedTrees, NamedTasks, HasReceiver, NamedSendings, NamedAction, NamedEnd, NamedText, NamedChoice, AnswerTo, NamedPlaces, IsSentTo, AnswerAll, AnswersTo, AnswersAction, AnswersSenders, ChoiceAnswers}
 use Rattle.sdl_drafts.specs.Drafts.{IsTrigger}
 use Rattle.sdl_sound.proofs.Items.{Each, each_front, each_back}

@@ -13,7 +13,7 @@ use Rattle.turn_code.specs.declared.variable_set.VariableSet.{VariableSet}
 use Rattle.turn_code.specs.declared.draft.PlaceFacts.{PlaceFacts}
 use Rattle.sdl_sound.specs.Longest.{Piece, piece_budget, piece_depth, piece_effects}
 use Rattle.sdl_sound.specs.Orders.{IsOrder}
-use Rattle.sdl_meaning.specs.Act.{Scope}
+use Rattle.sdl_meaning.specs.Outcomes.{Scope}
 use Rattle.sdl_meaning.specs.Code.{ArePlaced, size_at, connections_place, piece_code}
 use Rattle.sdl_meaning.specs.Named.{NamedPiece}
 use Rattle.sdl_facts.specs.Facts.{shapes_from, piece_sets}

@@ -23,7 +23,8 @@ use Rattle.sdl_tables.specs.Names.{Input, processes_of, process_names, inputs_by
 use Rattle.sdl_sound.specs.Longest.{start_piece, input_piece}
 use Rattle.sdl_sound.specs.Receivers.{paths_of}
 use Rattle.sdl_sound.specs.Sound.{Sound}
-use Rattle.sdl_meaning.specs.Act.{scope_of, signal_at}
+use Rattle.sdl_meaning.specs.Act.{scope_of}
+use Rattle.sdl_meaning.specs.Outcomes.{signal_at}
 use Rattle.sdl_meaning.specs.Named.{IsSentIf, IsSentTo}
 use Rattle.sdl_meaning.specs.Code.{number_or_zero}
 use Rattle.sdl_meaning.specs.Declarations.{trigger_with, trigger_of}

@@ -11,7 +11,7 @@ use Rattle.turn_code.specs.declared.variable_set.VariableSet.{VariableSet}
 use Rattle.turn_code.specs.declared.draft.DraftPiece.{DraftPiece}
 use Rattle.sdl_sound.specs.Joins.{reaches, reached}
 use Rattle.sdl_sound.specs.Longest.{Piece, piece_size}
-use Rattle.sdl_meaning.specs.Act.{Scope}
+use Rattle.sdl_meaning.specs.Outcomes.{Scope}
 use Rattle.sdl_meaning.specs.Code.{text_at, ArePlaced}
 use Rattle.sdl_meaning.specs.Named.{AnswersSenders, AnswersAll}
 use Rattle.sdl_drafts.specs.Drafts.{Means}

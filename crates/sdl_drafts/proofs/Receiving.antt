@@ -22,7 +22,8 @@ use Rattle.turn_code.specs.Routes.{IsProcess, IsPartyOf, the_process, Takes, Rea
 use Rattle.turn_code.specs.Rules.{ReachesReceiver, AnswersSender}
 use Rattle.sdl_tables.specs.Names.{same_name, is_in, number_of, signal_names, process_names, timers_of}
 use Rattle.sdl_sound.specs.Receivers.{same_party, party_of, paths_of, brings, carries, path_receivers, path_senders, add_party, receivers, senders, answers, answers_all, arrives, is_doubtful}
-use Rattle.sdl_meaning.specs.Act.{Scope, numbered, the_one, if_named, to_sender}
+use Rattle.sdl_meaning.specs.Act.{numbered, the_one, if_named, to_sender}
+use Rattle.sdl_meaning.specs.Outcomes.{Scope}
 use Rattle.sdl_meaning.specs.Code.{number_or_zero, party_or_environment, receiver_code}
 use Rattle.sdl_meaning.specs.Named.{HasReceiver, IsSentIf, IsSentTo}
 use Rattle.sdl_sound.specs.Actions.{Origin}

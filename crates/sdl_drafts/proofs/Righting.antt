@@ -3,10 +3,10 @@ use Rattle.std.proofs.Common.{List, []}
 use Rattle.sdl_ast.specs.Plain.{Tree, Text, falls, ends, does, decides, Choice, nothing_else, otherwise, answer}
 use Rattle.sdl_sound.specs.Statements.{statements_of, choice_statements}
 use Rattle.sdl_sound.specs.Actions.{Origin}
-use Rattle.sdl_meaning.specs.Act.{Scope}
+use Rattle.sdl_meaning.specs.Outcomes.{Scope}
 use Rattle.sdl_sound.proofs.Items.{Each, each_front, each_back}
 use Rattle.sdl_drafts.proofs.Known.{FineStatement}
-use Rattle.sdl_valid.proofs.Fine.{RightText, RightChoice}
+use Rattle.sdl_valid.proofs.RightTexts.{RightText, RightChoice}
 
 module _ (c : Scope) (is : List Origin) where
   mutual

@@ -13,7 +13,8 @@ use Rattle.turn_code.specs.declared.input.Party.{Party}
 use Rattle.turn_code.specs.Routes.{IsProcess, Brings}
 use Rattle.sdl_tables.specs.Names.{same_name, is_in, number_of, signal_names, process_names}
 use Rattle.sdl_sound.specs.Receivers.{same_party, party_of, brings, paths_of}
-use Rattle.sdl_meaning.specs.Act.{scope_of, named, signal_at}
+use Rattle.sdl_meaning.specs.Act.{scope_of, named}
+use Rattle.sdl_meaning.specs.Outcomes.{signal_at}
 use Rattle.sdl_meaning.specs.Code.{number_or_zero}
 use Rattle.sdl_meaning.specs.Named.{IsBroughtBy}
 use Rattle.sdl_drafts.specs.Blocks.{drafted_party, drafted_path}

@@ -46,7 +46,8 @@ use Rattle.sdl_drafts.proofs.Lawful.{lawful}
 use Rattle.sdl_sound.specs.Sound.{Sound}
 use Rattle.sdl_sound.specs.Settled.{AreSettled}
 use Rattle.sdl_sound.specs.declared.fault.Limit.{Limit}
-use Rattle.sdl_meaning.specs.Act.{Scope, scope_of}
+use Rattle.sdl_meaning.specs.Act.{scope_of}
+use Rattle.sdl_meaning.specs.Outcomes.{Scope}
 use Rattle.sdl_facts.specs.Made.{IsSmall, IsPieceOf}
 use Rattle.sdl_meaning.specs.Declarations.{sort_of_tree, drafted_signal, drafted_signals}
 use Rattle.sdl_drafts.specs.Drafts.{IsReadyProcess, IsInputOf, AreInputsOf, IsProcessOf, sets_of}
@@ -55,8 +56,10 @@ use Rattle.sdl_drafts.specs.Routes.{KnownParty, IsKnown, IsKnownPath, HasFewName
 use Rattle.sdl_sound.proofs.Items.{Each, each_front, each_back, each_with, each_unmap, each_flat, each_unflat, all_items, each_nil, each_false, each_unfound, each_both, each_at_place as each_at}
 use Rattle.sdl_drafts.proofs.Known.{known}
 use Rattle.sdl_meaning.proofs.Numbers.{AreNumbered, are_numbered}
-use Rattle.sdl_drafts.proofs.Placed.{beside, valid_process, IsCounted, IsKnownTransition}
-use Rattle.sdl_drafts.proofs.Ready.{FineProcess, process_fine, ready_process, small_pieces}
+use Rattle.sdl_drafts.proofs.Placed.{valid_process, IsCounted, IsKnownTransition}
+use Rattle.sdl_drafts.proofs.InitialSets.{beside}
+use Rattle.sdl_drafts.proofs.Ready.{process_fine, ready_process}
+use Rattle.sdl_drafts.proofs.FineTexts.{FineProcess, small_pieces}
 use Rattle.sdl_meaning.proofs.Sorting.{found_at}
 use Rattle.std.proofs.lemmas.Option.{slice_get-map as slice_map}
 use Rattle.turn_code.proofs.Lists.{at_place as slice_contains, zip_length}

@@ -15,7 +15,8 @@ use Rattle.turn_code.specs.Sets.{initial_set}
 use Rattle.sdl_tables.specs.Names.{Input, number_of, variables_of, timers_of, states_of, inputs_by_state, saves_by_state, signal_names}
 use Rattle.sdl_sound.specs.Longest.{Piece, piece_size, start_piece, input_piece}
 use Rattle.sdl_sound.specs.Settled.{AreSettled}
-use Rattle.sdl_meaning.specs.Act.{Scope, Act, scope_of}
+use Rattle.sdl_meaning.specs.Act.{Act, scope_of}
+use Rattle.sdl_meaning.specs.Outcomes.{Scope}
 use Rattle.sdl_meaning.specs.Named.{AreSorted, NamedPiece, IsSentTo, AnswersAll}
 use Rattle.sdl_facts.specs.Made.{IsCodeOf, IsLongestOf, IsPieceOf, IsSmall}
 use Rattle.sdl_meaning.specs.Declarations.{drafted_variables, trigger_of, trigger_sorts}

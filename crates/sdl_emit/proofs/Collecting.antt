@@ -9,7 +9,8 @@ use Rattle.sdl_ast.specs.declared.tree.Answer.{Answer}
 use Rattle.sdl_ast.specs.declared.tree.Decision.{Decision, out-Decision}
 use Rattle.sdl_ast.specs.Plain.{Text, Choice, nothing_else, otherwise, answer, PlainAnswer, all_answers}
 use Rattle.sdl_ast.specs.Views.{plain_answer, text_of, choice_of, else_choice, statement_of, statements_before, answers_before}
-use Rattle.sdl_meaning.specs.Act.{Scope, is_truth}
+use Rattle.sdl_meaning.specs.Act.{is_truth}
+use Rattle.sdl_meaning.specs.Outcomes.{Scope}
 use Rattle.sdl_names.specs.Scopes.{question_in}
 use Rattle.sdl_emit.specs.Placing.{decision_joins}
 use Rattle.sdl_meaning.specs.Code.{code_joins, else_joins, answers_joins, bodies_joins}

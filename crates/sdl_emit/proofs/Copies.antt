@@ -11,7 +11,7 @@ use Rattle.sdl_ast.specs.Views.{text_of}
 use Rattle.sdl_tables.specs.Names.{variables_of}
 use Rattle.sdl_sound.specs.Longest.{size}
 use Rattle.sdl_trimmed.specs.Trimmed.{trimmed, AreTrimmed}
-use Rattle.sdl_meaning.specs.Act.{Scope, connector_at}
+use Rattle.sdl_meaning.specs.Outcomes.{Scope, connector_at}
 use Rattle.sdl_meaning.specs.Named.{NamedText}
 use Rattle.sdl_meaning.specs.Code.{number_or_zero, joined, text_at, text_code}
 use Rattle.sdl_meaning.proofs.Sorting.{none_past as beyond}

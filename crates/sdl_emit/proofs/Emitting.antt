@@ -15,7 +15,8 @@ use Rattle.sdl_ast.specs.Views.{text_of, plain_statement, plain_answer, statemen
 use Rattle.turn_code.specs.declared.instruction.Instruction.{Instruction}
 use Rattle.sdl_tables.specs.Names.{Variable, variables_of}
 use Rattle.sdl_sound.specs.Longest.{Piece, cost_of, action_cost, size, tests_size, bodies_size}
-use Rattle.sdl_meaning.specs.Act.{Scope, is_truth}
+use Rattle.sdl_meaning.specs.Act.{is_truth}
+use Rattle.sdl_meaning.specs.Outcomes.{Scope}
 use Rattle.sdl_meaning.specs.Named.{NamedText, NamedChoice, NamedConnections}
 use Rattle.sdl_meaning.specs.Code.{tree_code, action_code, leave_code, body_size, else_size, answers_size, tests_code, pick_code, bodies_place, else_place, answers_place, after_choice, text_code, else_code, answers_code, bodies_code, truth_code, integer_code, text_at, size_at, places_code, place_in, connections_code, text_place, connections_place, piece_code}
 use Rattle.sdl_meaning.proofs.Sizes.{places_size, tree_size, action_size, leave_size, tests_are, text_size_is, bodies_size_is, answers_size_is, else_size_is}

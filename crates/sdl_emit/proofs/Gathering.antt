@@ -13,7 +13,7 @@ use Rattle.sdl_ast.specs.declared.tree.Connection.{Connection}
 use Rattle.sdl_ast.specs.declared.tree.Process.{Process}
 use Rattle.sdl_ast.specs.Plain.{Text, falls, PlainConnection}
 use Rattle.sdl_ast.specs.Views.{text_of, connection_of, process_of}
-use Rattle.sdl_meaning.specs.Act.{Scope, connector_at}
+use Rattle.sdl_meaning.specs.Outcomes.{Scope, connector_at}
 use Rattle.sdl_meaning.specs.Named.{NamedText, NamedConnections}
 use Rattle.sdl_emit.specs.Placing.{HaveNumbers}
 use Rattle.sdl_landing.specs.Marks.{has}

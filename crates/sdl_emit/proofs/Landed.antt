@@ -15,7 +15,7 @@ use Rattle.turn_code.specs.declared.instruction.Instruction.TheVariants as i
 use Rattle.sdl_tables.specs.Names.{variables_of}
 use Rattle.sdl_sound.specs.Going.{goes_on, choice_goes_on}
 use Rattle.sdl_sound.specs.Longest.{size, tests_size, bodies_size}
-use Rattle.sdl_meaning.specs.Act.{Scope}
+use Rattle.sdl_meaning.specs.Outcomes.{Scope}
 use Rattle.sdl_meaning.specs.Code.{jump, leave_code, body_size, else_size, answers_size, names_truth, picked, pick_code, ranges_code, tests_code, bodies_place, answers_place, else_place, after_choice, text_code, else_code, answers_code, truth_code, integer_code}
 use Rattle.sdl_landing.specs.Landing.{code_place, starts_from, leave_place, answers_leave, else_leave, landed, filled, first_or, behind_first, has_any, picked_by, tests_by}
 use Rattle.sdl_meaning.proofs.Sizes.{leave_size, tests_are, text_size_is, else_size_is}

@@ -12,7 +12,7 @@ use Rattle.sdl_ast.specs.Views.{tree_of, action_of, decision_of, choice_of, stat
 use Rattle.sdl_ast.proofs.Views.{plain_decides, statement_of-act, statement_of-decide}
 use Rattle.turn_code.specs.declared.instruction.Instruction.{Instruction}
 use Rattle.sdl_sound.specs.Going.{goes_on}
-use Rattle.sdl_meaning.specs.Act.{Scope}
+use Rattle.sdl_meaning.specs.Outcomes.{Scope}
 use Rattle.sdl_meaning.specs.Code.{leave_code, text_code, answers_code}
 use Rattle.sdl_landing.specs.Landing.{left_jump, left_place, leave_place, answers_leave, starts_from}
 

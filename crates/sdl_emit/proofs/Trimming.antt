@@ -6,7 +6,8 @@ use Rattle.sdl_sound.specs.Going.{goes_on, choice_goes_on}
 use Rattle.sdl_sound.specs.Sorts as sorts
 use Rattle.sdl_sound.specs.Longest.{cost_of, action_cost, jump_size, tests_size, size, bodies_size}
 use Rattle.sdl_sound.specs.Decisions.{has_else, has_values, names_value, times_named, answers_both, is_answered}
-use Rattle.sdl_meaning.specs.Act.{Scope, is_truth}
+use Rattle.sdl_meaning.specs.Act.{is_truth}
+use Rattle.sdl_meaning.specs.Outcomes.{Scope}
 use Rattle.sdl_meaning.specs.Named.{NamedAction, NamedText, NamedChoice}
 use Rattle.std.specs.Prelude.{nat_lt, nat_eq}
 use Rattle.std.specs.List.{list_any, sum_by}

@@ -9,7 +9,7 @@ ghost use Rattle.sdl_emit.specs.Bodies.{IsBody};
 ghost use Rattle.sdl_names.specs.Scopes.{scope_in, places_by};
 ghost use Rattle.sdl_emit.specs.Placing.{decision_joins, numbers_of, HaveNumbers, AreMarked};
 ghost use Rattle.sdl_meaning.specs.Named.{NamedText, NamedConnections};
-ghost use Rattle.sdl_meaning.specs.Act.{Scope, connector_at};
+ghost use Rattle.sdl_meaning.specs.Outcomes.{Scope, connector_at};
 ghost use Rattle.sdl_meaning.specs.Code.{number_or_zero, code_joins, else_joins, answers_joins, add_number, joined, text_at, size_at, place_in, ArePlaced};
 ghost use Rattle.profile_limits.specs.Limits.{MOST_INSTRUCTIONS};
 

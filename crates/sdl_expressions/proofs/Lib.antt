@@ -1,3 +1,4 @@
 pub mod MachineLemmas
+pub mod SoundLemmas
 pub mod Lowering
 pub mod Rests

@@ -30,7 +30,7 @@ use Rattle.sdl_sound.specs.Actions.{Origin}
 use Rattle.sdl_sound.specs.Sorts.{variable_sort, has_sort, have_one_sort, sort_in, misfit, wrong_in, wrong_variable, wrong_assignment, parameter_sorts, wrong_parameter, wrong_number, wrong_sending, wrong_action, wrong_place}
 use Rattle.sdl_sound.specs.Divisors.{bad_divisors_in, action_divisors}
 use Rattle.sdl_sound.specs.Receivers.{arrives, lost_sending, lost_action, is_doubtful, doubtful_sending, doubtful_action}
-use Rattle.sdl_meaning.specs.Act.{Scope, variable_at, state_at, timer_at, signal_at}
+use Rattle.sdl_meaning.specs.Outcomes.{Scope, variable_at, state_at, timer_at, signal_at}
 use Rattle.sdl_meaning.specs.Code.{number_or_zero, next, set_to, reset, put, store, tasks_code, receiver_code, sendings_code, action_code, places_code}
 use Rattle.sdl_meaning.specs.Named.{NamedTasks, NamedSendings, NamedAction, NamedPlaces}
 use Rattle.sdl_meaning.specs.Declarations.{sort_of_tree}

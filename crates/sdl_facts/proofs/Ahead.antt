@@ -15,7 +15,8 @@ use Rattle.turn_code.specs.Code.{jumps, behind, successors}
 use Rattle.sdl_tables.specs.Names.{variables_of}
 use Rattle.sdl_sound.specs.Going.{goes_on as may_go_on}
 use Rattle.sdl_sound.specs.Longest.{cost_of, action_cost, jump_size, tests_size, size, bodies_size}
-use Rattle.sdl_meaning.specs.Act.{Scope, connector_at, is_truth}
+use Rattle.sdl_meaning.specs.Act.{is_truth}
+use Rattle.sdl_meaning.specs.Outcomes.{Scope, connector_at}
 use Rattle.sdl_meaning.specs.Code.{names_truth, number_or_zero, jump, tree_code, action_code, end_code, leave_code, body_size, range_code, ranges_code, tests_code, else_size, pick_code, picked, bodies_place, else_place, answers_place, after_choice, text_code, else_code, answers_code, bodies_code}
 use Rattle.sdl_facts.proofs.Straight.{AreSteps}
 use Rattle.sdl_meaning.proofs.Sizes.{tree_size, action_size, tests_are, leave_size, decision_is, text_size_is, bodies_size_is, answers_size_is, else_size_is}

@@ -13,7 +13,8 @@ use Rattle.sdl_ast.specs.Views.{tree_of, action_of, choice_of, plain_statement, 
 use Rattle.sdl_ast.proofs.Views.{statement_of-act, statement_of-decide}
 use Rattle.turn_code.specs.declared.variable_set.VariableSet.{VariableSet}
 use Rattle.sdl_sound.specs.Going.{goes_on, choice_goes_on}
-use Rattle.sdl_meaning.specs.Act.{Scope, is_truth}
+use Rattle.sdl_meaning.specs.Act.{is_truth}
+use Rattle.sdl_meaning.specs.Outcomes.{Scope}
 use Rattle.sdl_facts.specs.Reads.{action_set, meet, left, answers_left, choice_left}
 use Rattle.sdl_facts.specs.Entries.{met, answers_met, choice_met}
 use Rattle.sdl_facts.specs.Facts.{action_sets, leave_sets, text_sets, answers_sets, decision_sets}

@@ -7,7 +7,7 @@ use Rattle.sdl_ast.specs.Plain.{Text, falls, PlainConnection}
 use Rattle.sdl_ast.specs.Views.{text_of}
 use Rattle.turn_code.specs.declared.variable_set.VariableSet.{VariableSet}
 use Rattle.sdl_trimmed.specs.Trimmed.{trimmed, AreTrimmed}
-use Rattle.sdl_meaning.specs.Act.{Scope}
+use Rattle.sdl_meaning.specs.Outcomes.{Scope}
 use Rattle.sdl_meaning.specs.Code.{text_at}
 use Rattle.sdl_facts.specs.Entries.{entry_at, met, connection_met}
 use Rattle.sdl_facts.specs.Facts.{text_sets}

@@ -29,12 +29,13 @@ use Rattle.sdl_sound.specs.Going.{goes_on as may_go_on, choice_goes_on}
 use Rattle.sdl_sound.specs.Decisions.{has_else, has_values, is_value, names_value, times_named, answers_both, is_answered}
 use Rattle.sdl_sound.specs.Sorts.{same_sort, literal_sort, answers_truth}
 use Rattle.sdl_sound.specs.Longest.{is_division, cost_of, action_cost, end_count, jump_size, tests_size, size, bodies_size}
-use Rattle.sdl_meaning.specs.Act.{Scope, variable_at, state_at, timer_at, signal_at, connector_at, is_truth, divisor_of}
+use Rattle.sdl_meaning.specs.Act.{is_truth, divisor_of}
+use Rattle.sdl_meaning.specs.Outcomes.{Scope, variable_at, state_at, timer_at, signal_at, connector_at}
 use Rattle.sdl_meaning.specs.Named.{NamedText, NamedChoice}
 use Rattle.sdl_meaning.specs.Code.{number_or_zero, load, store, next, set_to, reset, put, jump, unary_code, binary_code, division_code, tree_code, trees_code, tasks_code, receiver_code, sendings_code, action_code, end_code, leave_code, is_literal, names_truth, body_size, range_code, ranges_code, tests_code, else_size, pick_code, picked, bodies_place, else_place, answers_place, after_choice, text_code, else_code, answers_code, bodies_code}
 use Rattle.sdl_facts.proofs.Straight.{IsStep, AreSteps, steps_append}
 use Rattle.sdl_meaning.proofs.Sizes.{tree_size, action_size, tests_are, leave_size, decision_is, text_size_is, bodies_size_is, answers_size_is, else_size_is}
-use Rattle.sdl_meaning.proofs.Runs.{HasAt, has_front, has_back}
+use Rattle.sdl_meaning.proofs.RunParts.{HasAt, has_front, has_back}
 use Rattle.sdl_meaning.proofs.Branches.{EachEnd, EachJoin, ChoiceJoin, integer_answered, no_names}
 use Rattle.sdl_meaning.proofs.Choices.{AreTruths, are_truths}
 use Rattle.sdl_meaning.proofs.Measured.{some_values}

@@ -26,7 +26,8 @@ use Rattle.sdl_sound.specs.Sorts.{wrong_action, wrong_statement, variable_sort}
 use Rattle.sdl_sound.specs.Going.{goes_on as may_go_on}
 use Rattle.sdl_sound.specs.Decisions.{has_else}
 use Rattle.sdl_sound.specs.Longest.{Piece, cost_of, action_cost, depth_of, action_depth, places_depth, end_count, depth, choice_depth, joined as measure_joined, piece_depth}
-use Rattle.sdl_meaning.specs.Act.{Scope, variable_at, connector_at, is_truth}
+use Rattle.sdl_meaning.specs.Act.{is_truth}
+use Rattle.sdl_meaning.specs.Outcomes.{Scope, variable_at, connector_at}
 use Rattle.sdl_meaning.specs.Declarations.{sort_of_tree, drafted_signals, drafted_variables}
 use Rattle.sdl_meaning.specs.Named.{NamedText, NamedChoice, NamedAction, NamedTree, NamedConnections, NamedPiece, AreSorted}
 use Rattle.sdl_facts.specs.Facts.{shapes_from}
@@ -39,50 +40,12 @@ use Rattle.sdl_meaning.proofs.Branches.{EachEnd, EachJoin, ChoiceJoin, integer_a
 use Rattle.sdl_meaning.proofs.Joining.{contains_map, has_connection, each_join}
 use Rattle.turn_code.proofs.Lists.{first_of as contains_first}
 use Rattle.sdl_meaning.proofs.Acts.{joined_placed, placed_closed}
-use Rattle.sdl_meaning.proofs.Measured.{Below, depth_same, depth_below, fixed, all_placed, each_of, each_named}
+use Rattle.sdl_meaning.proofs.Measured.{Below, depth_below, fixed, all_placed, each_of, each_named}
+use Rattle.sdl_meaning.proofs.SameMeasures.{depth_same}
 use Rattle.turn_code.proofs.Lists.{within as none_past}
 use Rattle.sdl_emit.proofs.Gathering.{text_there}
 use Rattle.plain_laws.proofs.Lists.{append-nil_left as nil_front, append-nil_right as nil_back}
-
--- ---- the depth of a text alone, without what it joins
-
-abbrev none_joined : List ℕ → ℕ
-none_joined x = 0
-
-abbrev pub own : Text → ℕ
-own t = depth none_joined t
-
-abbrev choice_own : Choice → ℕ
-choice_own choice = choice_depth none_joined choice
-
-abbrev else_own : Choice → ℕ
-else_own nothing_else = 0
-else_own (otherwise body) = own body
-else_own (answer at rs body others) = else_own others
-
-abbrev answers_own : Choice → ℕ
-answers_own nothing_else = 0
-answers_own (otherwise body) = 0
-answers_own (answer at rs body others) = max (own body) (answers_own others)
-
-both_own : (choice : Choice) → max (else_own choice) (answers_own choice) ≡ choice_own choice
-both_own nothing_else = refl
-both_own (otherwise body) = omega arith
-both_own (answer at rs body others) = let h = both_own others in omega (arith, h)
-
--- what is asked of the actions of a text
-module _ (Right : PlainAction → Type 0) where
-  abbrev mutual
-    pub AllRight : Text → Type 0
-    AllRight falls = Unit {0}
-    AllRight (ends e) = Unit {0}
-    AllRight (does a rest) = Right a × AllRight rest
-    AllRight (decides at q choice rest) = ChoiceRight choice × AllRight rest
-
-    pub ChoiceRight : Choice → Type 0
-    ChoiceRight nothing_else = Unit {0}
-    ChoiceRight (otherwise body) = AllRight body
-    ChoiceRight (answer at rs body others) = AllRight body × ChoiceRight others
+use Rattle.sdl_facts.proofs.OwnDepths.{none_joined, own, choice_own, else_own, answers_own, both_own, AllRight, ChoiceRight}
 
 module _ (ss : List DraftSignal) (xs : List DraftVariable) (ps : List Sort) where
   shape_joined : (s : List Sort) (a b : List Instruction) → left_shape ss xs ps s (a ++ b) ≡ left_shape ss xs ps (left_shape ss xs ps s a) b

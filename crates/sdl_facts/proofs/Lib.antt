@@ -4,6 +4,7 @@ pub mod Bodies
 pub mod CopiedSets
 pub mod Counting
 pub mod Depths
+pub mod OwnDepths
 pub mod Marking
 pub mod Piecewise
 pub mod Reckoned

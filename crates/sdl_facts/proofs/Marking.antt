@@ -14,7 +14,8 @@ use Rattle.sdl_ast.specs.Plain.{Tree, Text, falls, Choice, PlainConnection, Plai
 use Rattle.sdl_ast.specs.Views.{tree_of, text_of, assignment_of, answers_before, else_choice, connection_of}
 use Rattle.turn_code.specs.declared.variable_set.VariableSet.{VariableSet}
 use Rattle.turn_code.specs.Sets.{with_variable}
-use Rattle.sdl_meaning.specs.Act.{Scope, is_truth, variable_at}
+use Rattle.sdl_meaning.specs.Act.{is_truth}
+use Rattle.sdl_meaning.specs.Outcomes.{Scope, variable_at}
 use Rattle.sdl_meaning.specs.Named.{NamedText, NamedTasks, NamedChoice, NamedConnections}
 use Rattle.sdl_names.specs.Scopes.{NamedElse}
 use Rattle.sdl_landing.proofs.Picking.{one_answer}

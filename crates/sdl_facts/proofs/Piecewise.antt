@@ -18,13 +18,13 @@ use Rattle.sdl_tables.specs.Names.{Variable, variables_of}
 use Rattle.sdl_sound.specs.Going.{goes_on as may_go_on, choice_goes_on}
 use Rattle.sdl_sound.specs.Statements.{joins_of}
 use Rattle.sdl_sound.specs.Longest.{cost_of, end_cost, Piece, size, places_cost, joined as measure_joined}
-use Rattle.sdl_meaning.specs.Act.{Scope, variable_at, connector_at}
+use Rattle.sdl_meaning.specs.Outcomes.{Scope, variable_at, connector_at}
 use Rattle.sdl_meaning.specs.Named.{NamedText, NamedConnections, NamedPiece}
 use Rattle.sdl_meaning.specs.Code.{number_or_zero, store, text_code, places_code, text_at, size_at, code_joins, joined, ArePlaced, place_in, connections_code, text_place, connections_place, piece_code}
 use Rattle.sdl_counts.specs.Counts.{number_at, read_at, AreCounts, AreCountsFrom}
 use Rattle.sdl_facts.proofs.Straight.{AreSteps}
 use Rattle.sdl_meaning.proofs.Sizes.{places_size, text_size_is}
-use Rattle.sdl_meaning.proofs.Runs.{HasAt, has_front, has_back, has_all}
+use Rattle.sdl_meaning.proofs.RunParts.{HasAt, has_front, has_back, has_all}
 use Rattle.sdl_meaning.proofs.Branches.{EachJoin}
 use Rattle.sdl_meaning.proofs.Joining.{HasConnection, contains_map, has_connection, each_join}
 use Rattle.turn_code.proofs.Lists.{first_of as contains_first}

@@ -22,7 +22,8 @@ use Rattle.turn_code.specs.Code.{set_after}
 use Rattle.turn_code.specs.Sets.{with_variable}
 use Rattle.sdl_sound.specs.Going.{goes_on}
 use Rattle.sdl_sound.specs.Longest.{Piece, is_division, cost_of, action_cost}
-use Rattle.sdl_meaning.specs.Act.{Scope, variable_at, timer_at, signal_at, is_truth, divisor_of}
+use Rattle.sdl_meaning.specs.Act.{is_truth, divisor_of}
+use Rattle.sdl_meaning.specs.Outcomes.{Scope, variable_at, timer_at, signal_at}
 use Rattle.sdl_meaning.specs.Code.{number_or_zero, store, set_to, put, jump, unary_code, binary_code, division_code, tree_code, trees_code, tasks_code, receiver_code, sendings_code, action_code, end_code, leave_code, body_size, range_code, ranges_code, tests_code, pick_code, bodies_place, else_place, answers_place, after_choice, places_code, text_at, size_at, place_in, connections_place, text_place}
 use Rattle.sdl_facts.specs.Reads.{action_set, left, choice_left, places_set}
 use Rattle.sdl_facts.specs.Entries.{entry_at}

@@ -19,7 +19,7 @@ use Rattle.sdl_measures.specs.Measures.{capped, IsMeasureOf, AreMeasures}
 use Rattle.sdl_measures.specs.declared.measures.Measure.{Measure}
 use Rattle.sdl_counts.specs.declared.counts.Counted.{Counted}
 use Rattle.sdl_counts.specs.declared.counts.Counted.TheVariants.{Instructions, Effects}
-use Rattle.sdl_meaning.specs.Act.{Scope, connector_at}
+use Rattle.sdl_meaning.specs.Outcomes.{Scope, connector_at}
 use Rattle.sdl_meaning.specs.Named.{NamedText, NamedConnections, NamedPiece}
 use Rattle.sdl_names.specs.Scopes.{places_by}
 use Rattle.sdl_facts.specs.Made.{IsSmall}
@@ -30,7 +30,8 @@ use Rattle.sdl_meaning.proofs.Sizes.{places_size, text_size_is, connections_size
 use Rattle.sdl_meaning.proofs.Branches.{EachJoin}
 use Rattle.sdl_meaning.proofs.Joining.{HasConnection, has_connection}
 use Rattle.sdl_facts.proofs.Counting.{IsWeight, tally}
-use Rattle.sdl_meaning.proofs.Measured.{Below, budget_same, effects_same, budget_below, effects_below, all_placed, fixed, each_of, each_named}
+use Rattle.sdl_meaning.proofs.Measured.{Below, budget_below, effects_below, all_placed, fixed, each_of, each_named}
+use Rattle.sdl_meaning.proofs.SameMeasures.{budget_same, effects_same}
 use Rattle.sdl_emit.proofs.Gathering.{text_there}
 use Rattle.sdl_facts.proofs.Piecewise.{size_some, first_counts, are_counts, counts_of, join_is}
 use Rattle.sdl_facts.proofs.Weights.{one, one_weighs, effects_weigh, tally_budget, tally_effects, places_ones, places_none}

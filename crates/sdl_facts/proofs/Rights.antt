@@ -31,7 +31,8 @@ use Rattle.sdl_tables.specs.Names.{Variable, variables_of}
 use Rattle.sdl_sound.specs.Sorts.{unary_sort, operand_sort, variable_sort, has_sort, sort_in, misfit, wrong_operands, wrong_in}
 use Rattle.sdl_sound.specs.Divisors.{divides, is_divisor, bad_divisor, bad_divisors_in}
 use Rattle.sdl_sound.specs.Longest.{is_division, cost_of, depth_of}
-use Rattle.sdl_meaning.specs.Act.{Scope, variable_at, is_truth, divisor_of}
+use Rattle.sdl_meaning.specs.Act.{is_truth, divisor_of}
+use Rattle.sdl_meaning.specs.Outcomes.{Scope, variable_at}
 use Rattle.sdl_meaning.specs.Code.{number_or_zero, load, store, unary_code, binary_code, division_code, tree_code, trees_code}
 use Rattle.sdl_meaning.specs.Named.{NamedTree, NamedTrees}
 use Rattle.sdl_meaning.specs.Declarations.{sort_of_tree}

@@ -27,7 +27,8 @@ use Rattle.turn_code.specs.Transitions.{parameters_of}
 use Rattle.sdl_tables.specs.Names.{variables_of}
 use Rattle.sdl_sound.specs.Sorts.{unary_sort, binary_sort, variable_sort, sort_in}
 use Rattle.sdl_sound.specs.Longest.{is_division, cost_of, depth_of, assignment_cost, assignments_cost, assignments_depth, sending_cost, sendings_cost, parameters_depth, sendings_depth, action_cost, action_depth, action_effects, place_cost, places_cost, places_depth}
-use Rattle.sdl_meaning.specs.Act.{Scope, variable_at, timer_at, signal_at, is_truth, divisor_of}
+use Rattle.sdl_meaning.specs.Act.{is_truth, divisor_of}
+use Rattle.sdl_meaning.specs.Outcomes.{Scope, variable_at, timer_at, signal_at}
 use Rattle.sdl_meaning.specs.Code.{number_or_zero, load, store, set_to, reset, put, unary_code, binary_code, division_code, tree_code, trees_code, tasks_code, receiver_code, sendings_code, action_code, places_code}
 use Rattle.sdl_meaning.specs.Named.{NamedTree, NamedTrees, NamedTasks, NamedSendings, NamedAction, NamedPlaces}
 use Rattle.sdl_meaning.specs.Declarations.{sort_of_tree}

@@ -14,7 +14,8 @@ use Rattle.turn_code.specs.declared.draft.DraftSignal.{DraftSignal}
 use Rattle.turn_code.specs.declared.draft.DraftVariable.{DraftVariable}
 use Rattle.turn_code.specs.Code.{set_after}
 use Rattle.sdl_sound.specs.Longest.{Piece, cost_of, action_cost, places_cost}
-use Rattle.sdl_meaning.specs.Act.{Scope, is_truth}
+use Rattle.sdl_meaning.specs.Act.{is_truth}
+use Rattle.sdl_meaning.specs.Outcomes.{Scope}
 use Rattle.sdl_meaning.specs.Code.{tree_code, action_code, end_code, leave_code, body_size, tests_code, pick_code, bodies_place, else_place, answers_place, after_choice, text_code, else_code, answers_code, bodies_code, places_code, text_at, size_at, connections_code, place_in, connections_place, text_place, piece_code}
 use Rattle.sdl_facts.specs.Reads.{action_set, left, choice_left, places_set}
 use Rattle.sdl_facts.specs.Entries.{entry_at}

@@ -18,12 +18,13 @@ use Rattle.sdl_tables.specs.Names.{variables_of}
 use Rattle.sdl_sound.specs.Going.{goes_on as may_go_on}
 use Rattle.sdl_sound.specs.Decisions.{has_else, has_values, answers_both, is_answered}
 use Rattle.sdl_sound.specs.Longest.{cost_of, action_cost, end_count, jump_size, tests_size, size, bodies_size}
-use Rattle.sdl_meaning.specs.Act.{Scope, state_at, connector_at, is_truth}
+use Rattle.sdl_meaning.specs.Act.{is_truth}
+use Rattle.sdl_meaning.specs.Outcomes.{Scope, state_at, connector_at}
 use Rattle.sdl_meaning.specs.Named.{NamedText, NamedChoice}
 use Rattle.sdl_meaning.specs.Code.{names_truth, number_or_zero, next, jump, tree_code, action_code, end_code, leave_code, body_size, range_code, ranges_code, tests_code, else_size, pick_code, picked, bodies_place, else_place, answers_place, after_choice, text_code, else_code, answers_code, bodies_code}
 use Rattle.sdl_facts.proofs.Straight.{AreSteps}
 use Rattle.sdl_meaning.proofs.Sizes.{tree_size, action_size, tests_are, leave_size, decision_is, text_size_is, bodies_size_is, answers_size_is, else_size_is}
-use Rattle.sdl_meaning.proofs.Runs.{HasAt, has_front, has_back}
+use Rattle.sdl_meaning.proofs.RunParts.{HasAt, has_front, has_back}
 use Rattle.sdl_meaning.proofs.Branches.{EachEnd, EachJoin, ChoiceJoin, integer_answered}
 use Rattle.sdl_facts.proofs.Counting.{tree_steps, action_steps, truths, bodies_most, picked_most, IsWeight, tests_tally, tally, case_tally, pick_tally, tally_over}
 use Rattle.plain_laws.proofs.Truths.{and_second, and_first}

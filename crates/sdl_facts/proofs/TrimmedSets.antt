@@ -2,7 +2,8 @@
 use Rattle.std.proofs.Common.{◌≡◌, cond, List, [], ◌∷◌, ◌++◌, refl, ap, ◌∙◌}
 use Rattle.sdl_ast.specs.Plain.{PlainAction, task, output, set_timer, reset_timer, Text, falls, ends, does, decides, Choice, nothing_else, otherwise, answer}
 use Rattle.turn_code.specs.declared.variable_set.VariableSet.{VariableSet}
-use Rattle.sdl_meaning.specs.Act.{Scope, is_truth}
+use Rattle.sdl_meaning.specs.Act.{is_truth}
+use Rattle.sdl_meaning.specs.Outcomes.{Scope}
 use Rattle.sdl_facts.specs.Reads.{action_set, everything, meet, left, answers_left, else_left, choice_left}
 use Rattle.sdl_facts.specs.Entries.{met, answers_met, else_met}
 use Rattle.sdl_facts.specs.Facts.{tree_sets, action_sets, ranges_sets, tests_sets, leave_sets, text_sets, else_sets, answers_sets}

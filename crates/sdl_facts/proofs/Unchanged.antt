@@ -10,7 +10,8 @@ use Rattle.sdl_ast.specs.declared.tree.End.TheVariants.{NextState, Stop, Join}
 use Rattle.sdl_ast.specs.Plain.{PlainAssignment, PlainAction, task, output, set_timer, reset_timer, Text, falls, ends, does, decides, Choice, nothing_else, otherwise, answer, PlainConnection}
 use Rattle.turn_code.specs.declared.variable_set.VariableSet.{VariableSet}
 use Rattle.turn_code.specs.Sets.{with_variable}
-use Rattle.sdl_meaning.specs.Act.{Scope, connector_at, variable_at, is_truth}
+use Rattle.sdl_meaning.specs.Act.{is_truth}
+use Rattle.sdl_meaning.specs.Outcomes.{Scope, connector_at, variable_at}
 use Rattle.sdl_meaning.specs.Code.{number_or_zero}
 use Rattle.sdl_facts.specs.Reads.{tasks_set, action_set, everything, meet, left, answers_left, else_left, choice_left}
 use Rattle.sdl_facts.specs.Entries.{entry_at, met_at, end_met, met, answers_met, else_met, connection_met, connections_met, AreOfAll}

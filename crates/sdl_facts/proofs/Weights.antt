@@ -21,7 +21,8 @@ use Rattle.turn_code.specs.Code.{effects_of}
 use Rattle.sdl_tables.specs.Names.{variables_of}
 use Rattle.sdl_sound.specs.Decisions.{has_values, has_else, answers_both}
 use Rattle.sdl_sound.specs.Longest.{is_division, action_cost, action_effects, places_cost, end_cost, tests_budget, budget, case_budget, pick_budget, effects, choice_effects}
-use Rattle.sdl_meaning.specs.Act.{Scope, variable_at, timer_at, signal_at, is_truth, divisor_of}
+use Rattle.sdl_meaning.specs.Act.{is_truth, divisor_of}
+use Rattle.sdl_meaning.specs.Outcomes.{Scope, variable_at, timer_at, signal_at}
 use Rattle.sdl_meaning.specs.Named.{NamedText, NamedChoice}
 use Rattle.sdl_meaning.specs.Code.{number_or_zero, store, set_to, put, unary_code, binary_code, division_code, tree_code, trees_code, tasks_code, receiver_code, sendings_code, action_code, places_code, range_code}
 use Rattle.sdl_meaning.proofs.Sizes.{tree_size, action_size, places_size}

@@ -6,7 +6,8 @@ use Rattle.sdl_ast.specs.declared.tree.End.TheVariants.{NextState, Stop, Join}
 use Rattle.sdl_ast.specs.Plain.{Text, falls, ends, does, decides, Choice, nothing_else, otherwise, answer, PlainConnection}
 use Rattle.turn_code.specs.declared.variable_set.VariableSet.{VariableSet}
 use Rattle.sdl_sound.specs.Longest.{Piece}
-use Rattle.sdl_meaning.specs.Act.{Scope, connector_at, is_truth}
+use Rattle.sdl_meaning.specs.Act.{is_truth}
+use Rattle.sdl_meaning.specs.Outcomes.{Scope, connector_at}
 use Rattle.sdl_meaning.specs.Code.{number_or_zero}
 use Rattle.sdl_facts.specs.Reads.{everything, meet, action_set, choice_left, places_set}
 

@@ -12,7 +12,8 @@ use Rattle.turn_code.specs.declared.draft.DraftSignal.{DraftSignal}
 use Rattle.turn_code.specs.declared.draft.DraftVariable.{DraftVariable}
 use Rattle.sdl_sound.specs.Going.{goes_on}
 use Rattle.sdl_sound.specs.Longest.{Piece, is_division}
-use Rattle.sdl_meaning.specs.Act.{Scope, variable_at, is_truth}
+use Rattle.sdl_meaning.specs.Act.{is_truth}
+use Rattle.sdl_meaning.specs.Outcomes.{Scope, variable_at}
 use Rattle.sdl_meaning.specs.Code.{number_or_zero, text_at}
 use Rattle.sdl_facts.specs.Reads.{action_set, left, choice_left, places_set}
 use Rattle.sdl_facts.specs.Entries.{entry_at, piece_entries}

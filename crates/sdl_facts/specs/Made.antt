@@ -9,7 +9,7 @@ use Rattle.turn_code.specs.declared.draft.DraftPiece.{DraftPiece}
 use Rattle.turn_code.specs.declared.draft.PlaceFacts.{PlaceFacts}
 use Rattle.sdl_sound.specs.Orders.{IsOrder}
 use Rattle.sdl_sound.specs.Longest.{Piece, piece_budget, piece_depth, piece_effects, piece_size}
-use Rattle.sdl_meaning.specs.Act.{Scope}
+use Rattle.sdl_meaning.specs.Outcomes.{Scope}
 use Rattle.sdl_meaning.specs.Code.{ArePlaced, piece_code}
 use Rattle.sdl_meaning.specs.Declarations.{drafted_signals, drafted_variables}
 use Rattle.sdl_facts.specs.Facts.{shapes_from, piece_sets}

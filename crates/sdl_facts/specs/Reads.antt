@@ -7,7 +7,7 @@ use Rattle.sdl_ast.specs.Plain.{Tree, number, truth, variable, unary, binary, Pl
 use Rattle.turn_code.specs.declared.variable_set.VariableSet.{VariableSet}
 use Rattle.turn_code.specs.declared.draft.DraftState.{DraftState}
 use Rattle.turn_code.specs.Sets.{Has, IsWithin, with_variable}
-use Rattle.sdl_meaning.specs.Act.{Scope, variable_at, state_at}
+use Rattle.sdl_meaning.specs.Outcomes.{Scope, variable_at, state_at}
 use Rattle.sdl_meaning.specs.Code.{number_or_zero}
 
 -- the variables that a part of a text reads are set where it reads them

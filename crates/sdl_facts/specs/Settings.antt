@@ -10,7 +10,7 @@ use Rattle.sdl_measures.specs.Measures.{AreMeasures}
 use Rattle.sdl_trimmed.specs.Trimmed.{AreTrimmed}
 use Rattle.sdl_meaning.specs.Named.{AreSorted, NamedPiece}
 use Rattle.sdl_facts.specs.declared.setting.Setting.{Setting}
-use Rattle.sdl_meaning.specs.Act.{Scope}
+use Rattle.sdl_meaning.specs.Outcomes.{Scope}
 use Rattle.sdl_facts.specs.Made.{IsSmall}
 use Rattle.sdl_meaning.specs.Declarations.{drafted_signals, drafted_variables}
 

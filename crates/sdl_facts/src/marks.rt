@@ -5,7 +5,8 @@ ghost use Rattle.sdl_ast.specs.Views.{text_of, statement_of, choice_of, else_cho
 ghost use Rattle.sdl_sound.specs.Going.{goes_on, choice_goes_on};
 ghost use Rattle.sdl_ast.specs.declared.tree.Decision.{out-Decision};
 ghost use Rattle.sdl_names.specs.Scopes.{scope_in, question_in, NamedElse};
-ghost use Rattle.sdl_meaning.specs.Act.{connector_at, is_truth};
+ghost use Rattle.sdl_meaning.specs.Act.{is_truth};
+ghost use Rattle.sdl_meaning.specs.Outcomes.{connector_at};
 ghost use Rattle.sdl_meaning.specs.Code.{number_or_zero};
 ghost use Rattle.sdl_meaning.specs.Named.{NamedEnd, NamedText, NamedChoice};
 ghost use Rattle.sdl_facts.specs.Reads.{everything, meet, left, answers_left, else_left, choice_left};

@@ -2,6 +2,7 @@ pub mod ChainLemmas
 pub mod KindLemmas
 pub mod NameLemmas
 pub mod OneLemmas
+pub mod TokenLemmas
 pub mod QuoteLemmas
 pub mod SliceLemmas
 pub mod UniqueLemmas

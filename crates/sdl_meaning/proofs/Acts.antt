@@ -13,11 +13,13 @@ use Rattle.turn_code.specs.Run as run
 use Rattle.turn_code.specs.Run.{Progress, exec, ended, got_stuck, begun}
 use Rattle.sdl_tables.specs.Names.{variables_of}
 use Rattle.sdl_sound.specs.Longest.{Piece, size, places_cost, piece_budget}
-use Rattle.sdl_meaning.specs.Act.{Scope, Outcome, goes_on, over, at_end, in_trouble, then_do, act, follow, join_in, take_places, ran, Act}
+use Rattle.sdl_meaning.specs.Act.{act, follow, join_in, take_places, ran, Act}
+use Rattle.sdl_meaning.specs.Outcomes.{Scope, Outcome, goes_on, over, at_end, in_trouble, then_do}
 use Rattle.sdl_meaning.specs.Named.{NamedPiece, IsSentTo, AnswersSenders}
 use Rattle.sdl_meaning.specs.Code.{text_code, places_code, text_at, size_at, joined, add_number, numbers_once, ArePlaced, place_in, connections_code, text_place, connections_place, piece_code}
 use Rattle.sdl_meaning.proofs.Sizes.{places_size, text_size_is}
-use Rattle.sdl_meaning.proofs.Runs.{HasAt, has_front, has_back, has_all, Does, bind, places_do}
+use Rattle.sdl_meaning.proofs.Runs.{Does, bind, places_do}
+use Rattle.sdl_meaning.proofs.RunParts.{HasAt, has_front, has_back, has_all}
 use Rattle.sdl_meaning.proofs.Costs.{cost_by}
 use Rattle.sdl_meaning.proofs.Choices.{IsOver, over_bind}
 use Rattle.sdl_meaning.proofs.Branches.{act_over, text_does}

@@ -26,11 +26,13 @@ use Rattle.sdl_tables.specs.Names.{variables_of}
 use Rattle.sdl_sound.specs.Going.{goes_on as may_go_on, choice_goes_on}
 use Rattle.sdl_sound.specs.Decisions.{has_values, has_else, is_value, names_value, times_named, answers_both, is_answered}
 use Rattle.sdl_sound.specs.Longest.{cost_of, action_cost, tests_size, size, bodies_size, jump_size}
-use Rattle.sdl_meaning.specs.Act.{Scope, variable_at, state_at, connector_at, is_truth, Outcome, goes_on, over, then_do, value_of, perform, end_in, end_with, try_ranges, find_truth, leave, decide, act, choose, pick}
+use Rattle.sdl_meaning.specs.Act.{is_truth, value_of, perform, end_in, end_with, try_ranges, find_truth, leave, decide, act, choose, pick}
+use Rattle.sdl_meaning.specs.Outcomes.{Scope, variable_at, state_at, connector_at, Outcome, goes_on, over, then_do}
 use Rattle.sdl_meaning.specs.Named.{NamedTree, NamedAction, NamedEnd, NamedDecision, NamedText, NamedChoice, IsSentTo, AnswersAction, AnswersSenders, ChoiceAnswers}
 use Rattle.sdl_meaning.specs.Code.{number_or_zero, next, jump, tree_code, action_code, end_code, leave_code, body_size, range_code, ranges_code, tests_code, else_size, picked, pick_code, is_literal, names_truth, bodies_place, else_place, answers_place, after_choice, text_code, else_code, answers_code, bodies_code}
 use Rattle.sdl_meaning.proofs.Sizes.{tree_size, action_size, leave_size, tests_are, text_size_is, bodies_size_is, answers_size_is, else_size_is, decision_is}
-use Rattle.sdl_meaning.proofs.Runs.{HasAt, has_front, has_back, Does, bind, one, stays, tree_does, action_does, next_does}
+use Rattle.sdl_meaning.proofs.Runs.{Does, bind, one, stays, tree_does, action_does, next_does}
+use Rattle.sdl_meaning.proofs.RunParts.{HasAt, has_front, has_back}
 use Rattle.sdl_meaning.proofs.Choices.{IsOver, over_bind, over_first, AreNumbers, AreTruths, are_numbers, are_truths, over_anywhere, after_one, body_leaves, tries_do, decision_does, find_is}
 use Rattle.std.proofs.lemmas.Bool.{or_right as or_true}
 use Rattle.plain_laws.proofs.Truths.{and_second, neither_first as or_left, neither_second as or_right}

@@ -25,10 +25,12 @@ use Rattle.sdl_tables.specs.Names.{variables_of}
 use Rattle.sdl_sound.specs.Going.{goes_on as may_go_on}
 use Rattle.sdl_sound.specs.Decisions.{has_else}
 use Rattle.sdl_sound.specs.Sorts.{is_constant, answers_truth, answers_number, answers_question}
-use Rattle.sdl_meaning.specs.Act.{Scope, is_truth, Outcome, goes_on, over, in_trouble, then_do, relation_of, integer_in, compared, between, covers_integer, is_literal as same_literal, covers_truth, told, try_ranges, find_truth, leave, decide}
+use Rattle.sdl_meaning.specs.Act.{is_truth, relation_of, integer_in, compared, between, covers_integer, is_literal as same_literal, covers_truth, told, try_ranges, find_truth, leave, decide}
+use Rattle.sdl_meaning.specs.Outcomes.{Scope, Outcome, goes_on, over, in_trouble, then_do}
 use Rattle.sdl_meaning.specs.Named.{AnswerTo}
 use Rattle.sdl_meaning.specs.Code.{constant_or_zero, jump, leave_code, body_size, range_code, ranges_code, tests_code, is_literal, names_truth, picked, pick_code}
-use Rattle.sdl_meaning.proofs.Runs.{HasAt, has_front, has_back, over_as, Does, bind, stepped, one, stays}
+use Rattle.sdl_meaning.proofs.Runs.{Does, bind, stepped, one, stays}
+use Rattle.sdl_meaning.proofs.RunParts.{HasAt, has_front, has_back, over_as}
 use Rattle.plain_laws.proofs.Truths.{and_second as both_right, and_first as both_left}
 
 -- a choice is over or goes on

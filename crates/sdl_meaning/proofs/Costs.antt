@@ -35,7 +35,8 @@ use Rattle.turn_code.specs.Run as run
 use Rattle.turn_code.specs.Run.{Progress, tick, with_variables, with_effect, sending, sent, on_operands, After, goes, stuck, Ran, ended, got_stuck, step, go_on, exec, begun}
 use Rattle.sdl_sound.specs.Longest.{Piece, is_division, cost_of, assignment_cost, assignments_cost, sending_cost, sendings_cost, action_cost, end_cost, budget, place_cost, places_cost, piece_budget}
 use Rattle.sdl_sound.specs.Receivers.{party_of, receivers}
-use Rattle.sdl_meaning.specs.Act.{Scope, variable_at, state_at, timer_at, signal_at, slot, end_in, Ending, at_end, in_trouble, Outcome, goes_on, over, then_do, read, written, write, Working, reckons, compares, joins, working, is_truth, apply_one, apply_two, divisor_of, quotient, divide, value_of, values_of, is_carried, named, numbered, the_one, if_named, to_sender, receiver_of, assign, put_out, send, send_all, start_timer, stop_timer, perform, end_with, act, pass, take_places, ran, Act}
+use Rattle.sdl_meaning.specs.Act.{slot, end_in, read, written, write, Working, reckons, compares, joins, working, is_truth, apply_one, apply_two, divisor_of, quotient, divide, value_of, values_of, is_carried, named, numbered, the_one, if_named, to_sender, receiver_of, assign, put_out, send, send_all, start_timer, stop_timer, perform, end_with, act, pass, take_places, ran, Act}
+use Rattle.sdl_meaning.specs.Outcomes.{Scope, variable_at, state_at, timer_at, signal_at, Ending, at_end, in_trouble, Outcome, goes_on, over, then_do}
 use Rattle.sdl_meaning.specs.Named.{NamedTree, NamedTrees, NamedTasks, HasReceiver, NamedSending, NamedSendings, NamedAction, NamedEnd, NamedText, NamedPlaces, NamedPiece, IsSentTo, AnswersTo, AnswersAction, AnswersSenders}
 use Rattle.sdl_meaning.specs.Code.{number_or_zero, piece_code, load, store, next, set_to, reset, put, unary_code, binary_code, division_code, tree_code, trees_code, tasks_code, party_or_environment, receiver_code, sendings_code, action_code, end_code, text_code, places_code}
 

@@ -10,7 +10,7 @@ use Rattle.turn_code.specs.declared.instruction.Instruction.{Instruction}
 use Rattle.sdl_tables.specs.Names.{variables_of}
 use Rattle.sdl_sound.specs.Joins.{reaches, reached}
 use Rattle.sdl_sound.specs.Longest.{Piece, size, text_size, piece_size, places_cost}
-use Rattle.sdl_meaning.specs.Act.{Scope}
+use Rattle.sdl_meaning.specs.Outcomes.{Scope}
 use Rattle.sdl_meaning.specs.Named.{NamedPiece}
 use Rattle.sdl_meaning.specs.Code.{text_at, size_at, joined, add_number, numbers_once, ArePlaced, place_in, text_code, places_code, connections_code, text_place, connections_place, piece_code}
 use Rattle.sdl_meaning.proofs.Sizes.{places_size, text_size_is, connections_size}

@@ -13,10 +13,12 @@ use Rattle.turn_code.specs.Run.{Progress}
 use Rattle.sdl_tables.specs.Names.{variables_of, connection_named}
 use Rattle.sdl_sound.specs.Longest.{size}
 use Rattle.sdl_sound.specs.Statements.{joins_of}
-use Rattle.sdl_meaning.specs.Act.{Scope, connector_at, Outcome, goes_on, over, act, closed, entered, follow}
+use Rattle.sdl_meaning.specs.Act.{act, closed, entered, follow}
+use Rattle.sdl_meaning.specs.Outcomes.{Scope, connector_at, Outcome, goes_on, over}
 use Rattle.sdl_meaning.specs.Named.{NamedConnections, NamedWhole, NamedText, IsSentTo, AnswersSenders}
 use Rattle.sdl_meaning.specs.Code.{number_or_zero, text_code, text_at, code_joins, joined}
-use Rattle.sdl_meaning.proofs.Runs.{HasAt, Does}
+use Rattle.sdl_meaning.proofs.Runs.{Does}
+use Rattle.sdl_meaning.proofs.RunParts.{HasAt}
 use Rattle.sdl_meaning.proofs.Choices.{IsOver}
 use Rattle.sdl_meaning.proofs.Branches.{EachJoin, act_over, Leads, text_does}
 use Rattle.sdl_meaning.proofs.Joining.{HasConnection, contains_map, has_connection, each_join}

@@ -12,7 +12,8 @@ use Rattle.sdl_ast.specs.declared.tree.End.TheVariants.{NextState, Stop, Join}
 use Rattle.sdl_ast.specs.Plain.{Tree, Text, falls, ends, does, decides, Choice, nothing_else, otherwise, answer, PlainConnection, PlainProcess}
 use Rattle.sdl_tables.specs.Names.{same_name, connection_named}
 use Rattle.sdl_sound.specs.Statements.{Statement, statements_of, choice_statements, statement_joins, joins_of}
-use Rattle.sdl_meaning.specs.Act.{Scope, connector_at, is_truth}
+use Rattle.sdl_meaning.specs.Act.{is_truth}
+use Rattle.sdl_meaning.specs.Outcomes.{Scope, connector_at}
 use Rattle.sdl_meaning.specs.Named.{NamedText, NamedChoice}
 use Rattle.sdl_meaning.specs.Code.{number_or_zero, code_joins, else_joins, answers_joins, bodies_joins}
 use Rattle.sdl_meaning.proofs.Sorting.{first_of_some, number_small, found_at}

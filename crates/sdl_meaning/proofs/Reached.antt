@@ -11,7 +11,8 @@ use Rattle.sdl_ast.specs.Plain.{Tree, Text, falls, ends, does, decides, Choice, 
 use Rattle.sdl_tables.specs.Names.{same_name, number_of, connector_names, connection_named}
 use Rattle.sdl_sound.specs.Statements.{statements_of, choice_statements, statement_joins, joins_of}
 use Rattle.sdl_sound.specs.Joins.{joins_at, comes_by, comes, reaches}
-use Rattle.sdl_meaning.specs.Act.{Scope, connector_at, is_truth}
+use Rattle.sdl_meaning.specs.Act.{is_truth}
+use Rattle.sdl_meaning.specs.Outcomes.{Scope, connector_at}
 use Rattle.sdl_meaning.specs.Named.{NamedText, NamedChoice, NamedConnections}
 use Rattle.sdl_meaning.specs.Code.{number_or_zero, code_joins, else_joins, answers_joins, bodies_joins, text_at, joined, ArePlaced}
 use Rattle.sdl_sound.proofs.Items.{Each, each_front, each_back, each_append, each_always, each_at as each_at_member}

@@ -1,13 +1,8 @@
 -- The run of the instructions of expressions and actions is what they mean.
-use Rattle.std.proofs.Common.{◌≡◌, ℕ, suc, ◌+◌, ◌-◌, ◌<◌, ◌≤◌, Bool, true, false, cond, List, [], ◌∷◌, ◌++◌, length, take, drop, reverse, Option, Some, None, IsSome, refl, sym, ap, ◌∙◌, subst, arith, append_assoc, length-append}
-use Rattle.std.specs.Prelude.{slice_get, slice_set, ℤ, pos, int_lt, nat_le}
-use Rattle.std.proofs.Math.Seq.{get_or-append_seam, take-append_seam, drop-append_seam}
-use Rattle.std.proofs.lemmas.List.{reverse-reverse, length-reverse}
-use Rattle.std.proofs.lemmas.Grind.{reverse_onto}
-use Rattle.std.proofs.lemmas.Bool.Decides.{nat_tests}
+use Rattle.std.proofs.Common.{◌≡◌, ℕ, suc, ◌+◌, ◌-◌, ◌≤◌, Bool, true, false, cond, List, [], ◌∷◌, ◌++◌, length, Option, Some, None, IsSome, refl, sym, ap, ◌∙◌, subst, arith, length-append}
+use Rattle.std.specs.Prelude.{slice_get, slice_set, ℤ, pos, int_lt}
 use Rattle.std.specs.List.{sum_by}
 use Rattle.std.proofs.lemmas.List.Sums.{sum_by-cons}
-use Rattle.std.proofs.lemmas.Option.{slice_get-get_or}
 use Rattle.sdl_ast.specs.declared.expression.Identifier.{Identifier}
 use Rattle.sdl_ast.specs.declared.expression.UnaryOperator.{UnaryOperator}
 use Rattle.sdl_ast.specs.declared.expression.UnaryOperator.TheVariants.{Negate, Not}
@@ -32,91 +27,14 @@ use Rattle.turn_code.specs.declared.instruction.Instruction.{Instruction}
 use Rattle.turn_code.specs.declared.instruction.Instruction.TheVariants as i
 use Rattle.turn_code.specs.Values.{wrap}
 use Rattle.turn_code.specs.Run as run
-use Rattle.turn_code.specs.Run.{Progress, tick, with_variables, with_effect, sending, sent, on_operands, After, goes, stuck, Ran, ended, got_stuck, step, go_on, exec, begun}
+use Rattle.turn_code.specs.Run.{Progress, tick, with_variables, with_effect, sending, sent, After, goes, stuck, step, go_on, exec, begun}
 use Rattle.sdl_sound.specs.Longest.{Piece, is_division, cost_of, assignment_cost, assignments_cost, sending_cost, sendings_cost, action_cost, end_cost, budget, place_cost, places_cost, piece_budget}
 use Rattle.sdl_sound.specs.Receivers.{party_of, receivers}
-use Rattle.sdl_meaning.specs.Act.{Scope, variable_at, state_at, timer_at, signal_at, slot, end_in, Ending, at_end, in_trouble, Outcome, goes_on, over, then_do, read, written, write, Working, reckons, compares, joins, working, is_truth, apply_one, apply_two, divisor_of, quotient, divide, value_of, values_of, is_carried, named, numbered, the_one, if_named, to_sender, receiver_of, assign, put_out, send, send_all, start_timer, stop_timer, perform, end_with, act, pass, take_places, ran, Act}
+use Rattle.sdl_meaning.specs.Act.{slot, end_in, read, written, write, Working, reckons, compares, joins, working, is_truth, apply_one, apply_two, divisor_of, quotient, divide, value_of, values_of, is_carried, named, numbered, the_one, if_named, to_sender, receiver_of, assign, put_out, send, send_all, start_timer, stop_timer, perform, end_with, act, pass, take_places, ran, Act}
+use Rattle.sdl_meaning.specs.Outcomes.{Scope, variable_at, state_at, timer_at, signal_at, at_end, in_trouble, Outcome, goes_on, over, then_do}
 use Rattle.sdl_meaning.specs.Named.{NamedTree, NamedTrees, NamedTasks, HasReceiver, NamedSending, NamedSendings, NamedAction, NamedEnd, NamedText, NamedPlaces, NamedPiece, IsSentTo, AnswersTo, AnswersAction, AnswersSenders}
 use Rattle.sdl_meaning.specs.Code.{number_or_zero, piece_code, load, store, next, set_to, reset, put, unary_code, binary_code, division_code, tree_code, trees_code, tasks_code, party_or_environment, receiver_code, sendings_code, action_code, end_code, text_code, places_code}
-
--- the instructions stand in the code at this place
-abbrev pub HasAt : List Instruction → ℕ → List Instruction → Type 0
-HasAt code pc [] = Unit {0}
-HasAt code pc (x ∷ is) = (slice_get code pc ≡ Some x) × HasAt code (pc + 1) is
-
-pub has_front : (code : List Instruction) (pc : ℕ) (a b : List Instruction) → HasAt code pc (a ++ b) → HasAt code pc a
-has_front code pc [] b h = tt
-has_front code pc (x ∷ a) b h = (h.0, has_front code (pc + 1) a b h.1)
-
-pub has_back : (code : List Instruction) (pc : ℕ) (a b : List Instruction) (n : ℕ) → pc + length a ≡ n → HasAt code pc (a ++ b) → HasAt code n b
-has_back code pc [] b n e h = let e' : pc ≡ n = omega arith in subst (λ n. HasAt code n b) e' h
-has_back code pc (x ∷ a) b n e h = has_back code (pc + 1) a b n (omega arith) h.1
-
-pub has_all : (is pre : List Instruction) → HasAt (pre ++ is) (length pre) is
-has_all [] pre = tt
-has_all (x ∷ is) pre =
-    let within : length pre < length (pre ++ x ∷ is) = omega (arith, length-append pre (x ∷ is)) in
-    let here = slice_get-get_or (pre ++ x ∷ is) (length pre) x within ∙ ap Some (get_or-append_seam pre x is x) in
-    let n : length (pre ++ x ∷ []) ≡ length pre + 1 = omega (arith, length-append pre (x ∷ [])) in
-    let rest = has_all is (pre ++ x ∷ []) in
-    let rest' = subst (λ l. HasAt l (length (pre ++ x ∷ [])) is) (append_assoc pre (x ∷ []) is) rest in
-    (here, subst (λ m. HasAt (pre ++ x ∷ is) m is) n rest')
-
--- how a run is over
-abbrev pub over_as : Ending → Progress → Ran
-over_as (at_end e) s = ended e s
-over_as (in_trouble t) s = got_stuck t
-
--- values put on the operands one after another
-abbrev pushed : List Value → List Value → List Value
-pushed [] os = os
-pushed (x ∷ xs) os = pushed xs (x ∷ os)
-
--- what holds of what a part gives
-abbrev pub Gives : {A : Type 0} → (A → Type 0) → Outcome A → Type 0
-Gives P (goes_on x s) = P x
-Gives P (over e s) = Unit {0}
-
-gives_bind : {A B : Type 0} (P : B → Type 0) (o : Outcome A) (f : A → Progress → Outcome B) → ((x : A) (v : Progress) → Gives P (f x v)) → Gives P (then_do o f)
-gives_bind P (goes_on x v) f h = h x v
-gives_bind P (over e v) f h = tt
-
-gives_then : {A B : Type 0} (P : A → Type 0) (Q : B → Type 0) (o : Outcome A) (f : A → Progress → Outcome B) → Gives P o → ((x : A) (v : Progress) → P x → Gives Q (f x v)) → Gives Q (then_do o f)
-gives_then P Q (goes_on x v) f g h = h x v g
-gives_then P Q (over e v) f g h = tt
-
-gives_nothing : {A : Type 0} (o : Outcome A) → Gives (λ _. Unit {0}) o
-gives_nothing (goes_on x v) = tt
-gives_nothing (over e v) = tt
-
--- as many values as expressions
-values_length : (c : Scope) (ts : List Tree) (s : Progress) → Gives (λ xs. length xs ≡ length ts) (values_of c ts s)
-values_length c [] s = refl
-values_length c (t ∷ ts) s =
-    gives_bind (λ xs. length xs ≡ length (t ∷ ts)) (value_of c t s) (λ x s. then_do (values_of c ts s) (λ xs s. goes_on (x ∷ xs) s))
-    (λ x v. gives_then (λ xs. length xs ≡ length ts) (λ xs. length xs ≡ length (t ∷ ts)) (values_of c ts v) (λ xs s. goes_on (x ∷ xs) s) (values_length c ts v)
-    (λ xs w e. ap suc e))
-
-pushed_is : (xs os : List Value) → pushed xs os ≡ reverse xs ++ os
-pushed_is [] os = refl
-pushed_is (x ∷ xs) os =
-    pushed_is xs (x ∷ os) ∙ sym (append_assoc (reverse xs) (x ∷ []) os) ∙ ap (λ l. l ++ os) (sym (reverse_onto xs x []))
-
--- they are taken as they were put there
-operands_are : (xs os : List Value) (n : ℕ) (go : List Value → List Value → After) → n ≡ length xs → on_operands n (pushed xs os) go ≡ go xs os
-operands_are xs os n go e =
-    let ys = reverse xs in
-    let m : n ≡ length ys = e ∙ sym (length-reverse xs) in
-    let enough : nat_le (length ys) (length (ys ++ os)) ≡ true = all_there ys os in
-    ap (λ l. on_operands n l go) (pushed_is xs os)
-    ∙ ap (λ k. on_operands k (ys ++ os) go) m
-    ∙ ap (λ b. cond b (go (reverse (take (length ys) (ys ++ os))) (drop (length ys) (ys ++ os))) (stuck Underflow)) enough
-    ∙ ap (λ l. go (reverse l) (drop (length ys) (ys ++ os))) (take-append_seam ys os)
-    ∙ ap (λ l. go l (drop (length ys) (ys ++ os))) (reverse-reverse xs)
-    ∙ ap (go xs) (drop-append_seam ys os)
-  where
-    all_there : (ys os : List Value) → nat_le (length ys) (length (ys ++ os)) ≡ true
-    all_there ys os = let h = length-append ys os in grind (arith, nat_tests, h)
+use Rattle.sdl_meaning.proofs.RunParts.{HasAt, has_front, has_back, over_as, pushed, Gives, gives_nothing, values_length, operands_are}
 
 module _ (inp : Input) (code : List Instruction) where
   -- the run from a place does what the outcome says: it comes to the end place, or is over.

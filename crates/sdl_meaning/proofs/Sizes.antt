@@ -13,7 +13,8 @@ use Rattle.turn_code.specs.declared.instruction.Instruction.{Instruction}
 use Rattle.sdl_tables.specs.Names.{variables_of}
 use Rattle.sdl_sound.specs.Going.{goes_on}
 use Rattle.sdl_sound.specs.Longest.{is_division, cost_of, assignment_cost, assignments_cost, sending_cost, sendings_cost, action_cost, end_cost, jump_size, tests_size, size, bodies_size, place_cost, places_cost}
-use Rattle.sdl_meaning.specs.Act.{Scope, variable_at, timer_at, signal_at, is_truth, divisor_of}
+use Rattle.sdl_meaning.specs.Act.{is_truth, divisor_of}
+use Rattle.sdl_meaning.specs.Outcomes.{Scope, variable_at, timer_at, signal_at}
 use Rattle.sdl_meaning.specs.Code.{number_or_zero, store, set_to, put, jump, unary_code, binary_code, division_code, tree_code, trees_code, tasks_code, receiver_code, sendings_code, action_code, end_code, leave_code, body_size, range_code, ranges_code, tests_code, else_size, pick_code, bodies_place, else_place, answers_place, after_choice, text_code, else_code, answers_code, bodies_code, places_code, size_at, text_at, connections_code}
 
 pub tree_size : (c : Scope) (t : Tree) → length (tree_code c t) ≡ cost_of t

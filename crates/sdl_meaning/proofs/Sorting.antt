@@ -16,7 +16,7 @@ use Rattle.turn_code.specs.Code.{sort_at}
 use Rattle.turn_code.specs.Transitions.{parameters_of}
 use Rattle.sdl_tables.specs.Names.{Variable, same_name, number_of, variables_of, signals_of, signal_names}
 use Rattle.sdl_sound.specs.Sorts.{same_sort, has_sort, have_one_sort, variable_sort, unary_sort, binary_sort, sort_in, misfit, parameter_sorts}
-use Rattle.sdl_meaning.specs.Act.{Scope}
+use Rattle.sdl_meaning.specs.Outcomes.{Scope}
 use Rattle.sdl_meaning.specs.Code.{number_or_zero}
 use Rattle.sdl_meaning.specs.Named.{NamedTree}
 use Rattle.sdl_meaning.specs.Declarations.{sort_of_tree, drafted, drafted_signal, drafted_signals, parameters_by}

@@ -15,7 +15,8 @@ use Rattle.turn_code.specs.Run.{Progress, tick}
 use Rattle.sdl_tables.specs.Names.{same_name, variables_of, connection_named}
 use Rattle.sdl_sound.specs.Decisions.{has_else}
 use Rattle.sdl_sound.specs.Longest.{Piece, cost_of, action_cost, end_cost, end_count, tests_budget, budget, case_budget, pick_budget, joined_by, places_cost, piece_budget}
-use Rattle.sdl_meaning.specs.Act.{Scope, state_at, is_truth, Outcome, goes_on, over, then_do, value_of, perform, end_in, end_with, covers_integer, covers_truth, told, try_ranges, find_truth, leave, decide, act, choose, pick, closed, entered, follow, join_in, take_places}
+use Rattle.sdl_meaning.specs.Act.{is_truth, value_of, perform, end_in, end_with, covers_integer, covers_truth, told, try_ranges, find_truth, leave, decide, act, choose, pick, closed, entered, follow, join_in, take_places}
+use Rattle.sdl_meaning.specs.Outcomes.{Scope, state_at, Outcome, goes_on, over, then_do}
 use Rattle.sdl_meaning.specs.Named.{NamedText, NamedChoice, NamedConnections, NamedPiece}
 use Rattle.sdl_meaning.proofs.Costs.{cost_by, cost_bind, end_in_cost, value_cost, perform_cost, take_cost}
 use Rattle.sdl_meaning.proofs.Choices.{IsOver}

@@ -31,7 +31,8 @@ use Rattle.sdl_sound.specs.Going.{goes_on}
 use Rattle.sdl_sound.specs.Statements.{end_joins}
 use Rattle.sdl_sound.specs.Longest.{Piece, is_division, cost_of, action_cost, jump_size, tests_size, size, bodies_size, places_cost}
 use Rattle.sdl_sound.specs.Receivers.{party_of, receivers}
-use Rattle.sdl_meaning.specs.Act.{Scope, variable_at, state_at, timer_at, connector_at, signal_at, is_truth, divisor_of, relation_of, integer_in, numbered, the_one}
+use Rattle.sdl_meaning.specs.Act.{is_truth, divisor_of, relation_of, integer_in, numbered, the_one}
+use Rattle.sdl_meaning.specs.Outcomes.{Scope, variable_at, state_at, timer_at, connector_at, signal_at}
 
 -- the number of a name; its instructions are made only where it has one
 abbrev pub number_or_zero : Option ℕ → ℕ

@@ -18,7 +18,7 @@ use Rattle.turn_code.specs.declared.draft.Trigger.TheVariants.{Signal, Timer}
 use Rattle.turn_code.specs.Transitions.{parameters_of}
 use Rattle.sdl_tables.specs.Names.{Variable, number_of, variables_of, timers_of, signals_of, signal_names}
 use Rattle.sdl_sound.specs.Sorts.{parameter_sorts}
-use Rattle.sdl_meaning.specs.Act.{Scope}
+use Rattle.sdl_meaning.specs.Outcomes.{Scope}
 use Rattle.sdl_meaning.specs.Code.{number_or_zero}
 
 abbrev pub sort_of_tree : tree_sort.Sort → Sort

@@ -20,7 +20,8 @@ use Rattle.sdl_sound.specs.Decisions.{is_answered}
 use Rattle.sdl_sound.specs.Joins.{reached}
 use Rattle.sdl_sound.specs.Longest.{Piece}
 use Rattle.sdl_sound.specs.Receivers.{party_of, carries}
-use Rattle.sdl_meaning.specs.Act.{Scope, variable_at, state_at, timer_at, connector_at, signal_at, named, to_sender, receiver_of}
+use Rattle.sdl_meaning.specs.Act.{named, to_sender, receiver_of}
+use Rattle.sdl_meaning.specs.Outcomes.{Scope, variable_at, state_at, timer_at, connector_at, signal_at}
 
 abbrev pub NamedTree : Scope → Tree → Type 0
 NamedTree c (number at k) = Unit {0}

@@ -2,7 +2,7 @@
 use Rattle.std.proofs.Common.{◌≡◌, ℕ, zero, suc, List, [], ◌∷◌, ◌++◌, Option, Some, None, true, subst}
 use Rattle.std.specs.Prelude.{slice_get, slice_set, bytes_eq}
 use Rattle.std.proofs.lemmas.Slice.Eq.{bytes_eq-Decides}
-use Rattle.sdl_meaning.specs.Act.{Scope}
+use Rattle.sdl_meaning.specs.Outcomes.{Scope}
 use Rattle.sdl_names.specs.declared.uses.Use.{Use}
 use Rattle.sdl_names.specs.Uses.{IsUse, AreUses}
 

@@ -10,7 +10,8 @@ use Rattle.sdl_ast.specs.Views.{tree_of, text_of, stimulus_of, block_of, process
 use Rattle.sdl_tables.specs.Names.{Input}
 use Rattle.sdl_sound.specs.Longest.{Piece}
 use Rattle.sdl_names.specs.declared.names.Names.{Names}
-use Rattle.sdl_meaning.specs.Act.{Scope, scope_of}
+use Rattle.sdl_meaning.specs.Act.{scope_of}
+use Rattle.sdl_meaning.specs.Outcomes.{Scope}
 use Rattle.sdl_meaning.specs.Named.{NamedText}
 
 abbrev pub scope_in : Names → Scope

@@ -3,7 +3,8 @@ use Rattle.std.specs.Prelude.{◌≡◌, ℕ, List, Option, None, Some, IfSome, 
 use Rattle.turn_code.specs.declared.input.Party.{Party}
 use Rattle.sdl_tables.specs.Names.{number_of, connector_names, variable_names, signal_names, process_names}
 use Rattle.sdl_sound.specs.Receivers.{party_of, receivers}
-use Rattle.sdl_meaning.specs.Act.{Scope, the_one}
+use Rattle.sdl_meaning.specs.Act.{the_one}
+use Rattle.sdl_meaning.specs.Outcomes.{Scope}
 use Rattle.sdl_names.specs.declared.uses.Meant.{Meant}
 use Rattle.sdl_names.specs.declared.uses.Meant.TheVariants.{Connection, Variable, Process, Signal}
 use Rattle.sdl_names.specs.declared.uses.Use.{Use}

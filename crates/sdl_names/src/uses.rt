@@ -3,7 +3,8 @@ ghost use Rattle.std.specs.Prelude.{◌≡◌, ◌<◌, length, Some, OnOk, IfOk
 ghost use Rattle.sdl_ast.specs.Views.{block_of, process_of};
 ghost use Rattle.sdl_sound.specs.Receivers.{party_of, receivers};
 ghost use Rattle.sdl_tables.specs.Names.{number_of, connector_names, variable_names, signal_names, process_names};
-ghost use Rattle.sdl_meaning.specs.Act.{Scope, numbered, the_one};
+ghost use Rattle.sdl_meaning.specs.Act.{numbered, the_one};
+ghost use Rattle.sdl_meaning.specs.Outcomes.{Scope};
 ghost use Rattle.sdl_names.specs.Scopes.{scope_in};
 ghost use Rattle.sdl_names.specs.Uses.{IsUse, AreUses, IsUseTable};
 

@@ -8,7 +8,8 @@ use Rattle.sdl_tokens.specs.Tokens.{a_word, a_symbol, a_name, an_entity, a_decla
 use Rattle.sdl_tokens.specs.Readings.{At, give, token, ◌>>=◌, many, choice, optional, separated_from, separated}
 use Rattle.sdl_bodies.specs.Bodies.{marked_texts}
 use Rattle.sdl_bodies.specs.Marks.{Marked, kept, map_marked, gathered, process_marked}
-use Rattle.sdl_productions.specs.Productions.{terminator_at, signals_at, route_at, connect_at, declaration_at, stimulus_at, text_at, save_at, closing_at, end_state_at, end_connection_at, process_head_at}
+use Rattle.sdl_productions.specs.Productions.{stimulus_at, text_at, save_at, closing_at, end_state_at, end_connection_at, process_head_at}
+use Rattle.sdl_productions.specs.DeclarationProductions.{terminator_at, signals_at, route_at, connect_at, declaration_at}
 
 -- what has no transition in it is never marked
 abbrev pub kept_at : {A : Type 0} → At A → At (Marked A)

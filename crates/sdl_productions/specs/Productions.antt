@@ -1,115 +1,22 @@
 -- The productions read token by token, in one step each. `e` reads an expression, `k` says how a transition is kept.
 -- tools/productions writes them from Syntax, but for the steps of a transition.
-use Rattle.std.specs.Prelude.{ℕ, suc, zero, List, [], ◌∷◌, length, Option, Some, None, pos, ◌-ℤ◌}
+use Rattle.std.specs.Prelude.{ℕ, suc, zero, List, [], ◌∷◌, length, Option, Some, None}
 use Rattle.std.specs.List.{filter_map}
-use Rattle.std.specs.Option.{option_to_list}
 use Rattle.sdl_lex.specs.declared.lexemes.Word.TheVariants as words
-use Rattle.sdl_lex.specs.declared.lexemes.Symbol.TheVariants.{Semicolon, Comma, Assign, Open, Close, Plus, Minus, Colon}
+use Rattle.sdl_lex.specs.declared.lexemes.Symbol.TheVariants.{Comma, Assign, Open, Close, Plus, Colon}
 use Rattle.sdl_ast.specs.declared.expression.Identifier.{Identifier}
 use Rattle.sdl_ast.specs.declared.tree.Constant.{Constant}
 use Rattle.sdl_ast.specs.declared.tree.Destination.{Destination}
-use Rattle.sdl_ast.specs.declared.tree.Literal.TheVariants as literals
 use Rattle.sdl_ast.specs.declared.tree.End.{End}
 use Rattle.sdl_ast.specs.declared.tree.End.TheVariants.{NextState, Stop, Join}
 use Rattle.sdl_ast.specs.declared.tree.Range.{Range}
 use Rattle.sdl_ast.specs.declared.tree.Range.TheVariants.{Compared}
-use Rattle.sdl_ast.specs.Plain.{Tree, PlainAssignment, PlainSending, PlainAction, task, output, set_timer, reset_timer, PlainQuestion, PlainHead, PlainStimulus, PlainClause, input, save, PlainState, PlainStart, PlainGroup, PlainDeclaration, variables, timers, PlainPath, PlainSignal, PlainEntity, signals, route, connect, process, PlainBlock, PlainConnection, PlainSection, in_state, in_connection, process_from, from_to}
-use Rattle.sdl_tokens.specs.Tokens.{a_word, a_symbol, a_number, a_name, a_sort, a_party, a_constant, a_one, a_closing, a_quoted, a_destination, an_entity, a_declaration, a_clause, an_action, an_end, a_choice, a_relation, a_section}
+use Rattle.sdl_ast.specs.Plain.{Tree, PlainAssignment, PlainSending, PlainAction, task, output, set_timer, reset_timer, PlainQuestion, PlainHead, PlainStimulus, PlainClause, input, save, PlainState, PlainStart, PlainEntity, process, PlainBlock, PlainConnection, PlainSection, in_state, in_connection, process_from, from_to}
+use Rattle.sdl_tokens.specs.Tokens.{a_word, a_symbol, a_number, a_name, a_one, a_closing, a_quoted, a_destination, an_entity, a_declaration, a_clause, an_action, an_end, a_choice, a_relation, a_section}
 use Rattle.sdl_expressions.specs.Machine.{expression_at}
 use Rattle.sdl_bodies.specs.Bodies.{Keeping, whole_texts, Branching, Body, Reached, Move, reaches, closes, with_answer}
 use Rattle.sdl_tokens.specs.Readings.{At, fails, give, token, ◌>>=◌, many, choice, optional, separated_from, separated, list_in_parentheses}
-
-abbrev pub names_at : At (List Identifier)
-names_at = separated (token a_name)
-
-unfoldable pub comment_at : At ℕ
-comment_at = do
-  _ ← token (a_word words.Comment)
-  token a_quoted
-
-unfoldable pub terminator_at : At ℕ
-terminator_at = do
-  _ ← optional (a_word words.Comment) comment_at
-  token (a_symbol Semicolon)
-
-unfoldable pub signal_at : At PlainSignal
-signal_at = do
-  name ← token a_name
-  parameters ← list_in_parentheses (token a_sort)
-  give (record { name = name; parameters = parameters })
-
-unfoldable pub signals_at : At PlainEntity
-signals_at = do
-  _ ← token (a_word words.Signal)
-  declared ← separated signal_at
-  _ ← terminator_at
-  give (signals declared)
-
-unfoldable pub path_at : At PlainPath
-path_at = do
-  _ ← token (a_word words.From)
-  from ← token a_party
-  _ ← token (a_word words.To)
-  to ← token a_party
-  _ ← token (a_word words.With)
-  brought ← names_at
-  _ ← terminator_at
-  give (record { from = from; to = to; signals = brought })
-
-unfoldable pub route_at : At PlainEntity
-route_at = do
-  _ ← token (a_word words.SignalRoute)
-  name ← token a_name
-  first ← path_at
-  second ← optional (a_word words.From) path_at
-  give (route (record { name = name; paths = first ∷ option_to_list second }))
-
-unfoldable pub connect_at : At PlainEntity
-connect_at = do
-  _ ← token (a_word words.Connect)
-  channels ← names_at
-  _ ← token (a_word words.And)
-  routes ← names_at
-  _ ← terminator_at
-  give (connect channels routes)
-
-unfoldable pub negative_at : At Constant
-negative_at = do
-  at ← token (a_symbol Minus)
-  value ← token a_number
-  give (record { at = at; value = literals.Integer (pos 0 -ℤ pos value) })
-
-unfoldable pub constant_at : At Constant
-constant_at = choice (a_symbol Minus) negative_at (token a_constant)
-
-unfoldable pub initial_at : At Constant
-initial_at = do
-  _ ← token (a_symbol Assign)
-  constant_at
-
-unfoldable pub group_at : At PlainGroup
-group_at = do
-  names ← names_at
-  sort ← token a_sort
-  initial ← optional (a_symbol Assign) initial_at
-  give (record { names = names; sort = sort; initial = initial })
-
-unfoldable pub variables_at : At PlainDeclaration
-variables_at = do
-  _ ← token (a_word words.Dcl)
-  groups ← separated group_at
-  _ ← terminator_at
-  give (variables groups)
-
-unfoldable pub timers_at : At PlainDeclaration
-timers_at = do
-  _ ← token (a_word words.Timer)
-  names ← names_at
-  _ ← terminator_at
-  give (timers names)
-
-unfoldable pub declaration_at : At PlainDeclaration
-declaration_at = choice (a_word words.Dcl) variables_at timers_at
+use Rattle.sdl_productions.specs.DeclarationProductions.{names_at, terminator_at, signals_at, route_at, connect_at, constant_at, declaration_at}
 
 unfoldable pub place_at : At (Option Identifier)
 place_at = optional a_name (token a_name)

@@ -2,7 +2,8 @@
 ghost use Rattle.std.specs.Prelude.{◌≡◌, ◌∷◌, map, Option, None, IfOk, IfErr};
 ghost use Rattle.std.specs.Option.{option_map, option_to_list};
 ghost use Rattle.sdl_tokens.specs.Readings.{token, separated, optional};
-ghost use Rattle.sdl_productions.specs.Productions.{signal_at, signals_at, path_at, route_at, connect_at, negative_at, constant_at, initial_at, group_at, variables_at, timers_at, declaration_at, place_at};
+ghost use Rattle.sdl_productions.specs.Productions.{place_at};
+ghost use Rattle.sdl_productions.specs.DeclarationProductions.{signal_at, signals_at, path_at, route_at, connect_at, negative_at, constant_at, initial_at, group_at, variables_at, timers_at, declaration_at};
 ghost use Rattle.sdl_tokens.specs.Tokens.{a_name, a_sort, a_word, a_symbol, a_declaration};
 ghost use Rattle.sdl_lex.specs.declared.lexemes.Symbol.TheVariants.{Assign};
 ghost use Rattle.sdl_lex.specs.declared.lexemes.Word.TheVariants.{From};

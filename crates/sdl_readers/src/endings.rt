@@ -2,7 +2,8 @@
 ghost use Rattle.std.specs.Prelude.{◌≡◌, Option};
 ghost use Rattle.sdl_lex.specs.declared.lexemes.Word.TheVariants as words;
 ghost use Rattle.sdl_tokens.specs.Readings.{token, optional};
-ghost use Rattle.sdl_productions.specs.Productions.{comment_at, terminator_at, closing_at};
+ghost use Rattle.sdl_productions.specs.Productions.{closing_at};
+ghost use Rattle.sdl_productions.specs.DeclarationProductions.{comment_at, terminator_at};
 ghost use Rattle.sdl_tokens.specs.Tokens.{a_name, a_word, a_closing};
 ghost use Rattle.sdl_tokens.specs.Mirrors.{Mirrors, same};
 

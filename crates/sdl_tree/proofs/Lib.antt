@@ -1,5 +1,7 @@
 pub mod TextDecides
+pub mod TextSteps
 pub mod SyntaxDecides
+pub mod DeclarationsDecide
 pub mod LoweredActions
 pub mod LowHeights
 pub mod TextMarks

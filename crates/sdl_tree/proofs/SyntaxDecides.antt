@@ -1,138 +1,21 @@
 -- Each production is decided by its reading. tools/productions writes the proofs from Syntax.
-use Rattle.std.specs.Prelude.{ℕ, List, ◌∷◌, Some, None, pos, ◌-ℤ◌}
+use Rattle.std.specs.Prelude.{ℕ, List, Some, None}
 use Rattle.std.specs.List.{filter_map}
-use Rattle.std.specs.Option.{option_to_list}
 use Rattle.sdl_lex.specs.declared.lexemes.Word.TheVariants as words
-use Rattle.sdl_lex.specs.declared.lexemes.Symbol.TheVariants.{Semicolon, Comma, Assign, Open, Close, Plus, Minus, Colon}
-use Rattle.sdl_ast.specs.declared.tree.Literal.TheVariants as literals
+use Rattle.sdl_lex.specs.declared.lexemes.Symbol.TheVariants.{Comma, Assign, Open, Close, Plus, Colon}
 use Rattle.sdl_ast.specs.declared.tree.End.TheVariants.{NextState, Stop, Join}
 use Rattle.sdl_ast.specs.declared.tree.Range.TheVariants.{Compared}
-use Rattle.sdl_ast.specs.Plain.{Tree, task, output, set_timer, reset_timer, signals, route, connect, process, input, save, variables, timers, in_state, in_connection, process_from, from_to}
-use Rattle.sdl_tokens.specs.Tokens.{a_word, a_symbol, a_number, a_name, a_sort, a_party, a_constant, a_one, a_closing, a_quoted, a_destination, an_entity, a_declaration, a_clause, a_relation, a_section}
-use Rattle.sdl_tokens.specs.Readings.{At, NeverLonger}
-use Rattle.sdl_expressions.specs.Machine.{whole_trees, expression_at}
+use Rattle.sdl_ast.specs.Plain.{task, output, set_timer, reset_timer, process, input, save, in_state, in_connection, process_from, from_to}
+use Rattle.sdl_tokens.specs.Tokens.{a_word, a_symbol, a_number, a_name, a_one, a_closing, a_quoted, a_destination, an_entity, a_declaration, a_clause, a_relation, a_section}
 use Rattle.sdl_bodies.specs.Bodies.{whole_texts}
-use Rattle.sdl_tree.specs.Syntax.{names_syntax, comment_syntax, terminator_syntax, signal_syntax, signals_syntax, path_syntax, route_syntax, connect_syntax, negative_syntax, constant_syntax, initial_syntax, group_syntax, variables_syntax, timers_syntax, declaration_syntax, place_syntax, stimulus_syntax, assignment_syntax, assigned_syntax, quoted_syntax, item_syntax, task_syntax, sending_syntax, destination_syntax, output_syntax, delay_syntax, set_syntax, reset_syntax, action_syntax, next_state_syntax, stop_syntax, end_syntax, text_syntax, input_syntax, save_syntax, clause_syntax, closing_syntax, end_state_syntax, state_syntax, start_syntax, second_number_syntax, instances_syntax, process_head_syntax, process_syntax, entity_syntax, block_syntax, compared_syntax, upper_syntax, value_syntax, range_syntax, answer_head_syntax, else_head_syntax, some_head_syntax, no_head_syntax, head_syntax, question_syntax, end_decision_syntax, join_syntax, end_connection_syntax, connection_syntax, state_section_syntax, connection_section_syntax, section_syntax}
-use Rattle.sdl_productions.specs.Productions.{names_at, comment_at, terminator_at, signal_at, signals_at, path_at, route_at, connect_at, negative_at, constant_at, initial_at, group_at, variables_at, timers_at, declaration_at, place_at, stimulus_at, assignment_at, assigned_at, quoted_at, item_at, task_at, sending_at, destination_at, output_at, delay_at, set_at, reset_at, action_at, next_state_at, stop_at, end_at, text_at, input_at, save_at, clause_at, closing_at, end_state_at, state_at, start_at, second_number_at, instances_at, process_head_at, process_at, entity_at, block_at, compared_at, upper_at, value_at, range_at, answer_head_at, else_head_at, some_head_at, no_head_at, head_at, question_at, end_decision_at, join_at, end_connection_at, connection_at, state_section_at, connection_section_at, section_at}
-use Rattle.sdl_expressions.proofs.Rests.{expression_keeps}
+use Rattle.sdl_tree.specs.Syntax.{place_syntax, stimulus_syntax, assignment_syntax, assigned_syntax, quoted_syntax, item_syntax, task_syntax, sending_syntax, destination_syntax, output_syntax, delay_syntax, set_syntax, reset_syntax, action_syntax, next_state_syntax, stop_syntax, end_syntax, text_syntax, input_syntax, save_syntax, clause_syntax, closing_syntax, end_state_syntax, state_syntax, start_syntax, second_number_syntax, instances_syntax, process_head_syntax, process_syntax, entity_syntax, block_syntax, compared_syntax, upper_syntax, value_syntax, range_syntax, answer_head_syntax, else_head_syntax, some_head_syntax, no_head_syntax, head_syntax, question_syntax, end_decision_syntax, join_syntax, end_connection_syntax, connection_syntax, state_section_syntax, connection_section_syntax, section_syntax}
+use Rattle.sdl_productions.specs.Productions.{place_at, stimulus_at, assignment_at, assigned_at, quoted_at, item_at, task_at, sending_at, destination_at, output_at, delay_at, set_at, reset_at, action_at, next_state_at, stop_at, end_at, text_at, input_at, save_at, clause_at, closing_at, end_state_at, state_at, start_at, second_number_at, instances_at, process_head_at, process_at, entity_at, block_at, compared_at, upper_at, value_at, range_at, answer_head_at, else_head_at, some_head_at, no_head_at, head_at, question_at, end_decision_at, join_at, end_connection_at, connection_at, state_section_at, connection_section_at, section_at}
 use Rattle.sdl_productions.proofs.Lengths.{declaration_takes, clause_takes, entity_takes, section_takes}
 use Rattle.sdl_tokens.proofs.Decides.{Decides, give_decides, token_decides, choice_decides, optional_decides, ◌>>=◌}
 use Rattle.sdl_tokens.proofs.Rows.{many_decides, separated_from_decides, separated_decides, list_decides}
-use Rattle.sdl_expressions.proofs.MachineLemmas.{expression_decides}
+use Rattle.sdl_expressions.proofs.SoundLemmas.{expression_decides}
 use Rattle.sdl_tree.proofs.TextDecides.{text_decides_from}
-
--- expressions with all their trees
-abbrev pub whole : At Tree
-whole = expression_at whole_trees
-
-pub whole_keeps : NeverLonger whole
-whole_keeps = expression_keeps whole_trees
-
-names_decides : Decides names_syntax names_at
-names_decides = separated_decides (token_decides a_name)
-
-comment_decides : Decides comment_syntax comment_at
-unfolding comment_syntax comment_at
-comment_decides = do
-  _ ← token_decides (a_word words.Comment)
-  token_decides a_quoted
-
-terminator_decides : Decides terminator_syntax terminator_at
-unfolding terminator_syntax terminator_at
-terminator_decides = do
-  _ ← optional_decides (a_word words.Comment) comment_decides
-  token_decides (a_symbol Semicolon)
-
-signal_decides : Decides signal_syntax signal_at
-unfolding signal_syntax signal_at
-signal_decides = do
-  name ← token_decides a_name
-  parameters ← list_decides (token_decides a_sort)
-  give_decides (record { name = name; parameters = parameters })
-
-signals_decides : Decides signals_syntax signals_at
-unfolding signals_syntax signals_at
-signals_decides = do
-  _ ← token_decides (a_word words.Signal)
-  declared ← separated_decides signal_decides
-  _ ← terminator_decides
-  give_decides (signals declared)
-
-path_decides : Decides path_syntax path_at
-unfolding path_syntax path_at
-path_decides = do
-  _ ← token_decides (a_word words.From)
-  from ← token_decides a_party
-  _ ← token_decides (a_word words.To)
-  to ← token_decides a_party
-  _ ← token_decides (a_word words.With)
-  brought ← names_decides
-  _ ← terminator_decides
-  give_decides (record { from = from; to = to; signals = brought })
-
-route_decides : Decides route_syntax route_at
-unfolding route_syntax route_at
-route_decides = do
-  _ ← token_decides (a_word words.SignalRoute)
-  name ← token_decides a_name
-  first ← path_decides
-  second ← optional_decides (a_word words.From) path_decides
-  give_decides (route (record { name = name; paths = first ∷ option_to_list second }))
-
-connect_decides : Decides connect_syntax connect_at
-unfolding connect_syntax connect_at
-connect_decides = do
-  _ ← token_decides (a_word words.Connect)
-  channels ← names_decides
-  _ ← token_decides (a_word words.And)
-  routes ← names_decides
-  _ ← terminator_decides
-  give_decides (connect channels routes)
-
-negative_decides : Decides negative_syntax negative_at
-unfolding negative_syntax negative_at
-negative_decides = do
-  at ← token_decides (a_symbol Minus)
-  value ← token_decides a_number
-  give_decides (record { at = at; value = literals.Integer (pos 0 -ℤ pos value) })
-
-constant_decides : Decides constant_syntax constant_at
-unfolding constant_syntax constant_at
-constant_decides = choice_decides (a_symbol Minus) negative_decides (token_decides a_constant)
-
-initial_decides : Decides initial_syntax initial_at
-unfolding initial_syntax initial_at
-initial_decides = do
-  _ ← token_decides (a_symbol Assign)
-  constant_decides
-
-group_decides : Decides group_syntax group_at
-unfolding group_syntax group_at
-group_decides = do
-  names ← names_decides
-  sort ← token_decides a_sort
-  initial ← optional_decides (a_symbol Assign) initial_decides
-  give_decides (record { names = names; sort = sort; initial = initial })
-
-variables_decides : Decides variables_syntax variables_at
-unfolding variables_syntax variables_at
-variables_decides = do
-  _ ← token_decides (a_word words.Dcl)
-  groups ← separated_decides group_decides
-  _ ← terminator_decides
-  give_decides (variables groups)
-
-timers_decides : Decides timers_syntax timers_at
-unfolding timers_syntax timers_at
-timers_decides = do
-  _ ← token_decides (a_word words.Timer)
-  names ← names_decides
-  _ ← terminator_decides
-  give_decides (timers names)
-
-declaration_decides : Decides declaration_syntax declaration_at
-unfolding declaration_syntax declaration_at
-declaration_decides = choice_decides (a_word words.Dcl) variables_decides timers_decides
+use Rattle.sdl_tree.proofs.DeclarationsDecide.{whole, names_decides, terminator_decides, signals_decides, route_decides, connect_decides, constant_decides, declaration_decides}
 
 place_decides : Decides place_syntax place_at
 unfolding place_syntax place_at

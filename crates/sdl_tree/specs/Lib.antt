@@ -1,4 +1,5 @@
 pub mod Syntax
+pub mod DeclarationSyntax
 pub mod Settled
 pub mod Refusals
 pub mod Printed

@@ -1,129 +1,21 @@
 -- The concrete syntax of process texts (Z.100, concrete textual grammar): which tokens read as which tree.
-use Rattle.std.specs.Prelude.{◌≡◌, ℕ, true, false, List, [], ◌∷◌, Option, Some, None, pos, ◌-ℤ◌}
+use Rattle.std.specs.Prelude.{◌≡◌, ℕ, true, false, List, [], Option, Some, None}
 use Rattle.std.specs.List.{filter_map}
-use Rattle.std.specs.Option.{option_to_list}
 use Rattle.sdl_lex.specs.declared.lexemes.Token.{Token}
 use Rattle.sdl_lex.specs.declared.lexemes.Word.TheVariants as words
-use Rattle.sdl_lex.specs.declared.lexemes.Symbol.TheVariants.{Semicolon, Comma, Assign, Open, Close, Plus, Minus, Colon}
+use Rattle.sdl_lex.specs.declared.lexemes.Symbol.TheVariants.{Comma, Assign, Open, Close, Plus, Colon}
 use Rattle.sdl_ast.specs.declared.expression.Identifier.{Identifier}
 use Rattle.sdl_ast.specs.declared.tree.Constant.{Constant}
 use Rattle.sdl_ast.specs.declared.tree.Destination.{Destination}
-use Rattle.sdl_ast.specs.declared.tree.Literal.TheVariants as literals
 use Rattle.sdl_ast.specs.declared.tree.End.{End}
 use Rattle.sdl_ast.specs.declared.tree.End.TheVariants.{NextState, Stop, Join}
 use Rattle.sdl_ast.specs.declared.tree.Range.{Range}
 use Rattle.sdl_ast.specs.declared.tree.Range.TheVariants.{Compared}
-use Rattle.sdl_ast.specs.Plain.{PlainAssignment, PlainSending, PlainAction, task, output, set_timer, reset_timer, Text, falls, ends, does, decides, Choice, nothing_else, otherwise, answer, PlainQuestion, PlainHead, Tree, PlainStimulus, PlainClause, input, save, PlainState, PlainStart, PlainGroup, PlainDeclaration, variables, timers, PlainPath, PlainSignal, PlainEntity, signals, route, connect, process, PlainBlock, PlainConnection, PlainSection, in_state, in_connection, process_from, from_to}
-use Rattle.sdl_tokens.specs.Tokens.{begins, a_word, a_symbol, a_number, a_name, a_sort, a_party, a_constant, a_one, a_closing, a_quoted, a_destination, an_entity, a_declaration, a_clause, an_action, an_end, a_choice, a_relation, a_section}
+use Rattle.sdl_ast.specs.Plain.{PlainAssignment, PlainSending, PlainAction, task, output, set_timer, reset_timer, Text, falls, ends, does, decides, Choice, nothing_else, otherwise, answer, PlainQuestion, PlainHead, Tree, PlainStimulus, PlainClause, input, save, PlainState, PlainStart, PlainEntity, process, PlainBlock, PlainConnection, PlainSection, in_state, in_connection, process_from, from_to}
+use Rattle.sdl_tokens.specs.Tokens.{begins, a_word, a_symbol, a_number, a_name, a_one, a_closing, a_quoted, a_destination, an_entity, a_declaration, a_clause, an_action, an_end, a_choice, a_relation, a_section}
 use Rattle.sdl_tokens.specs.Grammar.{Grammar, give, token, ◌>>=◌, many, choice, optional, separated_from, separated, list_in_parentheses}
 use Rattle.sdl_expressions.specs.Expressions.{expression_syntax}
-
--- name {, name}
-abbrev pub names_syntax : Grammar (List Identifier)
-names_syntax = separated (token a_name)
-
--- COMMENT quoted
-unfoldable pub comment_syntax : Grammar ℕ
-comment_syntax = do
-  _ ← token (a_word words.Comment)
-  token a_quoted
-
--- [ COMMENT quoted ] ;
-unfoldable pub terminator_syntax : Grammar ℕ
-terminator_syntax = do
-  _ ← optional (a_word words.Comment) comment_syntax
-  token (a_symbol Semicolon)
-
--- name [ ( sort {, sort} ) ]
-unfoldable pub signal_syntax : Grammar PlainSignal
-signal_syntax = do
-  name ← token a_name
-  parameters ← list_in_parentheses (token a_sort)
-  give (record { name = name; parameters = parameters })
-
--- SIGNAL signal {, signal} ;
-unfoldable pub signals_syntax : Grammar PlainEntity
-signals_syntax = do
-  _ ← token (a_word words.Signal)
-  declared ← separated signal_syntax
-  _ ← terminator_syntax
-  give (signals declared)
-
--- FROM (name | ENV) TO (name | ENV) WITH name {, name} ;
-unfoldable pub path_syntax : Grammar PlainPath
-path_syntax = do
-  _ ← token (a_word words.From)
-  from ← token a_party
-  _ ← token (a_word words.To)
-  to ← token a_party
-  _ ← token (a_word words.With)
-  brought ← names_syntax
-  _ ← terminator_syntax
-  give (record { from = from; to = to; signals = brought })
-
--- SIGNALROUTE name path [path]
-unfoldable pub route_syntax : Grammar PlainEntity
-route_syntax = do
-  _ ← token (a_word words.SignalRoute)
-  name ← token a_name
-  first ← path_syntax
-  second ← optional (a_word words.From) path_syntax
-  give (route (record { name = name; paths = first ∷ option_to_list second }))
-
--- CONNECT name {, name} AND name {, name} ;
-unfoldable pub connect_syntax : Grammar PlainEntity
-connect_syntax = do
-  _ ← token (a_word words.Connect)
-  channels ← names_syntax
-  _ ← token (a_word words.And)
-  routes ← names_syntax
-  _ ← terminator_syntax
-  give (connect channels routes)
-
--- - number
-unfoldable pub negative_syntax : Grammar Constant
-negative_syntax = do
-  at ← token (a_symbol Minus)
-  value ← token a_number
-  give (record { at = at; value = literals.Integer (pos 0 -ℤ pos value) })
-
--- [ - ] number | TRUE | FALSE
-unfoldable pub constant_syntax : Grammar Constant
-constant_syntax = choice (a_symbol Minus) negative_syntax (token a_constant)
-
--- := constant
-unfoldable pub initial_syntax : Grammar Constant
-initial_syntax = do
-  _ ← token (a_symbol Assign)
-  constant_syntax
-
--- name {, name} sort [ := constant ]
-unfoldable pub group_syntax : Grammar PlainGroup
-group_syntax = do
-  names ← names_syntax
-  sort ← token a_sort
-  initial ← optional (a_symbol Assign) initial_syntax
-  give (record { names = names; sort = sort; initial = initial })
-
--- DCL group {, group} ;
-unfoldable pub variables_syntax : Grammar PlainDeclaration
-variables_syntax = do
-  _ ← token (a_word words.Dcl)
-  groups ← separated group_syntax
-  _ ← terminator_syntax
-  give (variables groups)
-
--- TIMER name {, name} ;
-unfoldable pub timers_syntax : Grammar PlainDeclaration
-timers_syntax = do
-  _ ← token (a_word words.Timer)
-  names ← names_syntax
-  _ ← terminator_syntax
-  give (timers names)
-
--- a DCL or a TIMER
-unfoldable pub declaration_syntax : Grammar PlainDeclaration
-declaration_syntax = choice (a_word words.Dcl) variables_syntax timers_syntax
+use Rattle.sdl_tree.specs.DeclarationSyntax.{names_syntax, terminator_syntax, signals_syntax, route_syntax, connect_syntax, constant_syntax, declaration_syntax}
 
 -- [ name ]
 unfoldable pub place_syntax : Grammar (Option Identifier)

@@ -1,7 +1,9 @@
 pub mod Bits
 pub mod Chancing
+pub mod WalkChances
 pub mod Joiners
 pub mod Numbers
+pub mod DeclaredReads
 pub mod PathNames
 pub mod Ranks
 pub mod Searches

@@ -11,13 +11,14 @@ use Rattle.sdl_ast.specs.Plain.{Tree, Text, falls, ends, does, decides, Choice, 
 use Rattle.turn_code.specs.declared.variable_set.VariableSet.{VariableSet}
 use Rattle.turn_code.specs.Sets.{Has, IsWithin}
 use Rattle.sdl_sound.specs.Statements.{joins_of}
-use Rattle.sdl_meaning.specs.Act.{Scope, connector_at, is_truth}
+use Rattle.sdl_meaning.specs.Act.{is_truth}
+use Rattle.sdl_meaning.specs.Outcomes.{Scope, connector_at}
 use Rattle.sdl_meaning.specs.Code.{number_or_zero}
 use Rattle.sdl_meaning.specs.Named.{NamedText, NamedChoice}
 use Rattle.sdl_facts.specs.Reads.{action_set, everything, meet, choice_left}
 use Rattle.sdl_facts.specs.Entries.{entry_at, met_at, end_met, met, answers_met, else_met, connection_met, connections_met}
 use Rattle.sdl_meaning.proofs.Branches.{EachEnd, EachJoin, ChoiceJoin}
-use Rattle.sdl_valid.proofs.Unset.{meet_front, meet_back}
+use Rattle.sdl_valid.proofs.UnsetLaws.{meet_front, meet_back}
 
 -- each set is within the one at the same place
 abbrev pub Shrinks : List VariableSet → List VariableSet → Type 0

@@ -1,7 +1,12 @@
 pub mod Entering
+pub mod ChoiceLaws
 pub mod Fine
+pub mod RightTexts
+pub mod Stretches
+pub mod TextLengths
 pub mod Settling
 pub mod Standing
 pub mod Unset
+pub mod UnsetLaws
 pub mod Validity
 pub mod Walks

@@ -14,7 +14,7 @@ use Rattle.sdl_tables.specs.Names.{variable_names, variables_of, states_of}
 use Rattle.sdl_sound.specs.Orders.{IsOrder}
 use Rattle.sdl_sound.specs.Paths.{Event, sets_in}
 use Rattle.sdl_sound.specs.Chances.{Chances, text_chances, chances_by}
-use Rattle.sdl_meaning.specs.Act.{Scope, connector_at}
+use Rattle.sdl_meaning.specs.Outcomes.{Scope, connector_at}
 use Rattle.sdl_meaning.specs.Code.{number_or_zero}
 use Rattle.sdl_meaning.specs.Named.{NamedText, NamedWhole, NamedConnections}
 use Rattle.sdl_facts.specs.Reads.{everything, ReadText}
@@ -23,7 +23,8 @@ use Rattle.sdl_meaning.proofs.Numbers.{AreNumbered}
 use Rattle.sdl_meaning.proofs.Branches.{EachJoin}
 use Rattle.sdl_meaning.proofs.Joining.{has_connection, each_join}
 use Rattle.sdl_valid.proofs.Walks.{Holds, by_bool}
-use Rattle.sdl_valid.proofs.Unset.{not_true, Calm, Safe, IsFewer, of_text, piece_reads}
+use Rattle.sdl_valid.proofs.Unset.{Calm, Safe, IsFewer, of_text, piece_reads}
+use Rattle.sdl_valid.proofs.UnsetLaws.{not_true}
 use Rattle.sdl_valid.proofs.Entering.{number_at, IsOther, IsIn, JoinsNone, AreApart, Fits, AllFit, TextFits, fits_less, met_fits, met_length, connections_shrink, connections_fit}
 
 -- ---- the order of connections

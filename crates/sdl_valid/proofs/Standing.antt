@@ -20,7 +20,8 @@ use Rattle.sdl_sound.specs.Actions.{Origin}
 use Rattle.sdl_sound.specs.Going.{goes_on}
 use Rattle.sdl_sound.specs.Sorts.{wrong_place}
 use Rattle.sdl_sound.specs.Longest.{Piece, is_division, cost_of, action_cost, places_cost, size}
-use Rattle.sdl_meaning.specs.Act.{Scope, is_truth, connector_at}
+use Rattle.sdl_meaning.specs.Act.{is_truth}
+use Rattle.sdl_meaning.specs.Outcomes.{Scope, connector_at}
 use Rattle.sdl_meaning.specs.Code.{number_or_zero, tree_code, action_code, end_code, code_joins, joined, ArePlaced, text_at, size_at, place_in, connections_place, text_place, places_code, text_code, connections_code}
 use Rattle.sdl_meaning.specs.Named.{NamedText, NamedWhole, NamedConnections, NamedPiece}
 use Rattle.sdl_meaning.specs.Declarations.{sort_of_tree}
@@ -37,7 +38,10 @@ use Rattle.sdl_meaning.proofs.Joining.{contains_map, HasConnection, has_connecti
 use Rattle.sdl_meaning.proofs.Acts.{joined_placed, placed_closed, tail_contains}
 use Rattle.sdl_valid.proofs.Entering.{number_at, TextFits}
 use Rattle.sdl_facts.proofs.Spots.{Spot, instructions, over, text_spots, connections_spots, piece_spots, text_instructions}
-use Rattle.sdl_valid.proofs.Fine.{RightText, Enters, IsFine, AllFine, HasSpots, Chain, Stretch, Begins, has_front, has_back, fine_append, chain_append, enters_here, stretch, text_fine, text_length, over_length}
+use Rattle.sdl_valid.proofs.RightTexts.{RightText}
+use Rattle.sdl_valid.proofs.Stretches.{Enters, IsFine, AllFine, HasSpots, Chain, Stretch, has_front, has_back, fine_append, chain_append, enters_here}
+use Rattle.sdl_valid.proofs.Fine.{Begins, stretch, text_fine}
+use Rattle.sdl_valid.proofs.TextLengths.{text_length, over_length}
 use Rattle.std.proofs.lemmas.Bool.{eqb-true as same_place}
 use Rattle.sdl_facts.proofs.Piecewise.{cost_some}
 
@@ -107,7 +111,7 @@ module _ (d : Draft) (t : Transition) (all : List Spot) where
     connection_stands (m ∷ ms) p n has there =
         let a = T p (entry_at es m) (text_at c m) in
         let q = p + size_at c m in
-        let long : p + length a ≡ q = let l = text_length d t all c stands is reaching to es p (entry_at es m) (text_at c m) in omega (arith, l) in
+        let long : p + length a ≡ q = let l = text_length d t c to p (entry_at es m) (text_at c m) in omega (arith, l) in
         by_test (nat_eq m n) refl (has_front d t all a (Others q ms) p has) (λ there. connection_stands ms q n (has_back d t all a (Others q ms) p q long has) there)
       where
         by_test : (b : Bool) → nat_eq m n ≡ b → HasSpots d t all p (T p (entry_at es m) (text_at c m))
@@ -146,7 +150,7 @@ module _ (d : Draft) (t : Transition) (all : List Spot) where
       others_fine (n ∷ ms) p first whole places closed among has =
           let a = T p (entry_at es n) (text_at c n) in
           let q = p + size_at c n in
-          let long : p + length a ≡ q = let l = text_length d t all c stands is reaching to es p (entry_at es n) (text_at c n) in omega (arith, l) in
+          let long : p + length a ≡ q = let l = text_length d t c to p (entry_at es n) (text_at c n) in omega (arith, l) in
           let here = among n (zero, omega arith, refl) in
           let more = others_fine ms q first whole places closed (λ m h. among m (suc h.0, (let lt = h.1 in omega (arith, lt)), h.2)) (has_back d t all a (Others q ms) p q long has) in
           let own = by_found (slice_get c.process.connections n) refl here (has_front d t all a (Others q ms) p has) in
@@ -205,8 +209,8 @@ module _ (d : Draft) (t : Transition) (c : Scope) (stands : Stands c d t) (is : 
       let b = text_spots d.signals t.process.variables t.parameters c to n m2 q.text in
       let o = connections_spots d.signals t.process.variables t.parameters c to es p ns in
       let whole : HasSpots d t all 0 (a ++ (b ++ o)) = stands_behind d t all [] all 0 refl refl in
-      let la : 0 + length a ≡ n = let x = over_length d t all c stands is reaching to es [] m places in let y = places_size c 0 q.places in omega (arith, x, y) in
-      let lb : n + length b ≡ p = let x = text_length d t all c stands is reaching to es n m2 q.text in omega (arith, x) in
+      let la : 0 + length a ≡ n = let x = over_length d t [] m places in let y = places_size c 0 q.places in omega (arith, x, y) in
+      let lb : n + length b ≡ p = let x = text_length d t c to n m2 q.text in omega (arith, x) in
       let has_text = has_back d t all a (b ++ o) 0 n la whole in
       let has_b = has_front d t all b o n has_text in
       let has_o = has_back d t all b o n p lb has_text in

@@ -16,7 +16,7 @@ use Rattle.turn_code.specs.Rules.{StartsRight, HasTrigger, HasSaves, KeepsCounts
 use Rattle.turn_code.specs.Valid.{IsValidTransition}
 use Rattle.sdl_facts.proofs.Straight.{IsRight}
 use Rattle.sdl_facts.proofs.Spots.{Spot, instructions, shapes, sets_at}
-use Rattle.sdl_valid.proofs.Fine.{Enters, IsFine, AllFine}
+use Rattle.sdl_valid.proofs.Stretches.{Enters, IsFine, AllFine}
 use Rattle.sdl_sound.proofs.Lists.{get_one as one_item}
 
 mapped : {A B : Type 0} (f : A → B) (o : Option A) (y : B) → option_map f o ≡ Some y → (x : A) × (o ≡ Some x) × (f x ≡ y)

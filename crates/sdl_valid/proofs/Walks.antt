@@ -15,7 +15,7 @@ use Rattle.turn_code.specs.Sets.{Has, with_variable}
 use Rattle.sdl_tables.specs.Names.{same_name, is_in, number_of, variable_names}
 use Rattle.sdl_sound.specs.Paths.{Event, reads, sets, tree_events, assignment_events, sending_events, action_events, reads_first, sets_in}
 use Rattle.sdl_sound.specs.Names.{tree_names, place_names}
-use Rattle.sdl_meaning.specs.Act.{Scope, variable_at}
+use Rattle.sdl_meaning.specs.Outcomes.{Scope, variable_at}
 use Rattle.sdl_meaning.specs.Code.{number_or_zero}
 use Rattle.sdl_meaning.specs.Named.{NamedTree, NamedTrees, NamedTasks, NamedSendings, NamedAction}
 use Rattle.sdl_facts.specs.Reads.{ReadTree, ReadTrees, ReadTasks, ReadSendings, ReadAction, tasks_set, action_set, places_set}

@@ -5,7 +5,8 @@ use Rattle.sdl_ast.specs.declared.tree.Process.{Process}
 use Rattle.sdl_ast.specs.Views.{block_of, process_of}
 use Rattle.turn_code.specs.declared.draft.DraftState.{DraftState}
 use Rattle.sdl_tables.specs.Names.{Input, states_of, inputs_by_state, saves_by_state}
-use Rattle.sdl_meaning.specs.Act.{Scope, scope_of}
+use Rattle.sdl_meaning.specs.Act.{scope_of}
+use Rattle.sdl_meaning.specs.Outcomes.{Scope}
 use Rattle.sdl_meaning.specs.Declarations.{drafted}
 use Rattle.sdl_drafts.specs.Drafts.{IsNamedAs, SavesAll, AreInputsOf}
 use Rattle.sdl_drafts.proofs.Zips.{states_match}

@@ -23,10 +23,8 @@ use Rattle.sdl_emit.proofs.texts.+texts.Goals as goal
 
 pub emit_answers-loop-answer-preserved : goal.emit_answers-loop-answer-preserved
 emit_answers-loop-answer-preserved t c =
-    let s = scope_in c.args.names.now in
-    let to = places_by c.args.places.now in
-    let list = c.deref-answer-items.result.now in
-    let i = c.loop-answer.answer-index in
+    let s = scope_in c.args.names.now in let to = places_by c.args.places.now in
+    let list = c.deref-answer-items.result.now in let i = c.loop-answer.answer-index in
     let a = c.answer-item.result in
     let o = else_choice (out-Decision c.args.decision.now).otherwise in
     let whole = answers_before (drop i list) o in
@@ -46,58 +44,38 @@ emit_answers-loop-answer-preserved t c =
 
 pub emit_decision-emit_truth-requires : goal.emit_decision-emit_truth-requires
 emit_decision-emit_truth-requires t c =
-    let s = scope_in c.args.names.now in
-    let d = c.args.decision.now in
-    let x = decision_of d falls in
-    let is = decision_of-is d falls in (
-      search rules,
-      (
-        choice_named s (places_by c.args.places.now) x (out-Decision d).at (question_in d) (choice_of d) is c.args.code.now.items c.emit_expression.new.code.items c.in_ok-emit_expression.ensures c.requires.named,
-        (
-          choice_fits s (places_by c.args.places.now) x (out-Decision d).at (question_in d) (choice_of d) is c.args.code.now.items c.emit_expression.new.code.items c.in_ok-emit_expression.ensures true (sym c.is_truth.ensures ∙ c.if-is_truth.true) c.requires.fits,
-          c.requires.low,
-        ),
-      ),
-    )
+    let s = scope_in c.args.names.now in let d = c.args.decision.now in
+    let x = decision_of d falls in let is = decision_of-is d falls in
+    let named = choice_named s (places_by c.args.places.now) x (out-Decision d).at (question_in d) (choice_of d) is c.args.code.now.items c.emit_expression.new.code.items c.in_ok-emit_expression.ensures c.requires.named in
+    let fits = choice_fits s (places_by c.args.places.now) x (out-Decision d).at (question_in d) (choice_of d) is c.args.code.now.items c.emit_expression.new.code.items c.in_ok-emit_expression.ensures true (sym c.is_truth.ensures ∙ c.if-is_truth.true) c.requires.fits in
+    (search rules, (named, (fits, c.requires.low)))
 
 pub emit_decision-emit_integer-requires : goal.emit_decision-emit_integer-requires
 emit_decision-emit_integer-requires t c =
-    let s = scope_in c.args.names.now in
-    let d = c.args.decision.now in
-    let x = decision_of d falls in
-    let is = decision_of-is d falls in (
-      search rules,
-      (
-        choice_named s (places_by c.args.places.now) x (out-Decision d).at (question_in d) (choice_of d) is c.args.code.now.items c.emit_expression.new.code.items c.in_ok-emit_expression.ensures c.requires.named,
-        (
-          choice_fits s (places_by c.args.places.now) x (out-Decision d).at (question_in d) (choice_of d) is c.args.code.now.items c.emit_expression.new.code.items c.in_ok-emit_expression.ensures false (sym c.is_truth.ensures ∙ c.if-is_truth.false) c.requires.fits,
-          c.requires.low,
-        ),
-      ),
-    )
+    let s = scope_in c.args.names.now in let d = c.args.decision.now in
+    let x = decision_of d falls in let is = decision_of-is d falls in
+    let named = choice_named s (places_by c.args.places.now) x (out-Decision d).at (question_in d) (choice_of d) is c.args.code.now.items c.emit_expression.new.code.items c.in_ok-emit_expression.ensures c.requires.named in
+    let fits = choice_fits s (places_by c.args.places.now) x (out-Decision d).at (question_in d) (choice_of d) is c.args.code.now.items c.emit_expression.new.code.items c.in_ok-emit_expression.ensures false (sym c.is_truth.ensures ∙ c.if-is_truth.false) c.requires.fits in
+    (search rules, (named, (fits, c.requires.low)))
 
 pub emit_decision-returns-then-is_truth-clause-code : goal.emit_decision-returns-then-is_truth-clause-code
 emit_decision-returns-then-is_truth-clause-code t c =
-    let s = scope_in c.args.names.now in
-    let d = c.args.decision.now in
+    let s = scope_in c.args.names.now in let d = c.args.decision.now in
     on_ok_weaker c.emit_truth.result
     (λ f. decision_code s (places_by c.args.places.now) (decision_of d falls) (out-Decision d).at (question_in d) (choice_of d) (decision_of-is d falls) c.args.code.now.items c.emit_expression.new.code.items c.in_ok-emit_expression.ensures true c.emit_truth.new.code.items (sym c.is_truth.ensures ∙ c.if-is_truth.true) f)
     c.emit_truth.ensures.code
 
 pub emit_decision-returns-else-is_truth-clause-code : goal.emit_decision-returns-else-is_truth-clause-code
 emit_decision-returns-else-is_truth-clause-code t c =
-    let s = scope_in c.args.names.now in
-    let d = c.args.decision.now in
+    let s = scope_in c.args.names.now in let d = c.args.decision.now in
     on_ok_weaker c.emit_integer.result
     (λ f. decision_code s (places_by c.args.places.now) (decision_of d falls) (out-Decision d).at (question_in d) (choice_of d) (decision_of-is d falls) c.args.code.now.items c.emit_expression.new.code.items c.in_ok-emit_expression.ensures false c.emit_integer.new.code.items (sym c.is_truth.ensures ∙ c.if-is_truth.false) f)
     c.emit_integer.ensures.code
 
 pub emit_text-loop-statement-preserved : goal.emit_text-loop-statement-preserved
 emit_text-loop-statement-preserved t c =
-    let s = scope_in c.args.names.now in
-    let to = places_by c.args.places.now in
-    let list = c.deref-statement-items.result.now in
-    let i = c.loop-statement.statement-index in
+    let s = scope_in c.args.names.now in let to = places_by c.args.places.now in
+    let list = c.deref-statement-items.result.now in let i = c.loop-statement.statement-index in
     let x = c.statement-item.result in
     let e = end_text c.args.transition.now.end in
     let whole = statements_before (drop i list) e in
@@ -115,92 +93,56 @@ emit_text-loop-statement-preserved t c =
 
 pub emit_else-emit_body-requires : goal.emit_else-emit_body-requires
 emit_else-emit_body-requires t c =
-    let s = scope_in c.args.names.now in
-    let to = places_by c.args.places.now in
-    let d = out-Decision c.args.decision.now in
-    let q = question_in c.args.decision.now in (
-      search (rules, the_lemmas),
-      (
-        subst (λ o. NamedChoice s q (else_choice o)) c.in-Some.is (else_named s to q d.answers.items d.otherwise c.requires.named),
-        (
-          omega (arith, c.requires.fits, else_size_alone s to d.answers.items d.otherwise, ap (λ o. else_size s (else_choice o)) c.in-Some.is),
-          c.requires.low,
-        ),
-      ),
-    )
+    let s = scope_in c.args.names.now in let to = places_by c.args.places.now in let d = out-Decision c.args.decision.now in
+    let q = question_in c.args.decision.now in
+    let named = subst (λ o. NamedChoice s q (else_choice o)) c.in-Some.is (else_named s to q d.answers.items d.otherwise c.requires.named) in
+    (search (rules, the_lemmas), (named, (omega (arith, c.requires.fits, else_size_alone s to d.answers.items d.otherwise, ap (λ o. else_size s (else_choice o)) c.in-Some.is), c.requires.low)))
 
 pub emit_else-returns-in-Some-clause-code : goal.emit_else-returns-in-Some-clause-code
 emit_else-returns-in-Some-clause-code t c =
-    let s = scope_in c.args.names.now in
-    let to = places_by c.args.places.now in
-    let d = out-Decision c.args.decision.now in
+    let s = scope_in c.args.names.now in let to = places_by c.args.places.now in let d = out-Decision c.args.decision.now in
     let old = c.args.code.now.items in
     let is = else_code_alone s to d.answers.items d.otherwise (length old) 0 ∙ ap (λ o. else_code s to (length old) 0 (else_choice o)) c.in-Some.is in
     on_ok_weaker c.emit_body.result (λ f. f ∙ ap (λ l. old ++ l) (sym is)) c.emit_body.ensures.code
 
 pub emit_else-returns-in-Some-clause-jumps : goal.emit_else-returns-in-Some-clause-jumps
 emit_else-returns-in-Some-clause-jumps t c =
-    let s = scope_in c.args.names.now in
-    let to = places_by c.args.places.now in
-    let d = out-Decision c.args.decision.now in
+    let s = scope_in c.args.names.now in let to = places_by c.args.places.now in let d = out-Decision c.args.decision.now in
     let n = length c.args.code.now.items in
     let is = else_leave_alone s to d.answers.items d.otherwise n ∙ ap (λ o. else_leave s to n (else_choice o)) c.in-Some.is in
     on_ok_weaker c.emit_body.result (λ f. f ∙ ap (λ l. c.args.jumps.now.items ++ l) (sym is)) c.emit_body.ensures.jumps
 
 pub emit_else-returns-in-None-clause-code : goal.emit_else-returns-in-None-clause-code
 emit_else-returns-in-None-clause-code t c =
-    let s = scope_in c.args.names.now in
-    let to = places_by c.args.places.now in
-    let d = out-Decision c.args.decision.now in
+    let s = scope_in c.args.names.now in let to = places_by c.args.places.now in let d = out-Decision c.args.decision.now in
     let old = c.args.code.now.items in
     let is = else_code_alone s to d.answers.items d.otherwise (length old) 0 ∙ ap (λ o. else_code s to (length old) 0 (else_choice o)) c.in-None.is in
     sym (ap (λ l. old ++ l) is ∙ append-nil old)
 
 pub emit_else-returns-in-None-clause-jumps : goal.emit_else-returns-in-None-clause-jumps
 emit_else-returns-in-None-clause-jumps t c =
-    let s = scope_in c.args.names.now in
-    let to = places_by c.args.places.now in
-    let d = out-Decision c.args.decision.now in
+    let s = scope_in c.args.names.now in let to = places_by c.args.places.now in let d = out-Decision c.args.decision.now in
     let n = length c.args.code.now.items in
     let is = else_leave_alone s to d.answers.items d.otherwise n ∙ ap (λ o. else_leave s to n (else_choice o)) c.in-None.is in
     sym (ap (λ l. c.args.jumps.now.items ++ l) is ∙ append-nil c.args.jumps.now.items)
 
 pub emit_truth-emit_answers-requires : goal.emit_truth-emit_answers-requires
 emit_truth-emit_answers-requires t c =
-    let s = scope_in c.args.names.now in
-    let to = places_by c.args.places.now in (
-      search rules,
-      (
-        c.requires.named,
-        (
-          truth_answers_fit s to (choice_of c.args.decision.now) c.args.code.now.items c.requires.fits _ c.put.new.code.items c.in_ok-put.ensures,
-          c.requires.low,
-        ),
-      ),
-    )
+    let s = scope_in c.args.names.now in let to = places_by c.args.places.now in
+    let fits = truth_answers_fit s to (choice_of c.args.decision.now) c.args.code.now.items c.requires.fits _ c.put.new.code.items c.in_ok-put.ensures in
+    (search rules, (c.requires.named, (fits, c.requires.low)))
 
 pub emit_truth-emit_else-requires : goal.emit_truth-emit_else-requires
 emit_truth-emit_else-requires t c =
-    let s = scope_in c.args.names.now in
-    let to = places_by c.args.places.now in (
-      search rules,
-      (
-        c.requires.named,
-        (
-          truth_else_fits s to (choice_of c.args.decision.now) c.args.code.now.items c.requires.fits _ c.put.new.code.items c.in_ok-put.ensures c.emit_answers.new.code.items c.in_ok-emit_answers.ensures.code,
-          c.requires.low,
-        ),
-      ),
-    )
+    let s = scope_in c.args.names.now in let to = places_by c.args.places.now in
+    let fits = truth_else_fits s to (choice_of c.args.decision.now) c.args.code.now.items c.requires.fits _ c.put.new.code.items c.in_ok-put.ensures c.emit_answers.new.code.items c.in_ok-emit_answers.ensures.code in
+    (search rules, (c.requires.named, (fits, c.requires.low)))
 
 pub emit_truth-returns-clause-code : goal.emit_truth-returns-clause-code
 emit_truth-returns-clause-code t c =
-    let s = scope_in c.args.names.now in
-    let to = places_by c.args.places.now in
-    let all = choice_of c.args.decision.now in
-    let old = c.args.code.now.items in
-    let one = c.put.new.code.items in
-    let two = c.emit_answers.new.code.items in
+    let s = scope_in c.args.names.now in let to = places_by c.args.places.now in
+    let all = choice_of c.args.decision.now in let old = c.args.code.now.items in
+    let one = c.put.new.code.items in let two = c.emit_answers.new.code.items in
     let three = c.emit_else.new.code.items in
     let jumps = c.in_ok-emit_else.ensures.jumps ∙ ap (λ l. l ++ else_leave s to (length two) all) (c.in_ok-emit_answers.ensures.jumps ∙ ap (λ l. l ++ answers_leave s to (length one) all) c.new-jumps.ensures.items) in
     let starts = c.in_ok-emit_answers.ensures.starts ∙ ap (λ l. l ++ starts_from s (length one) all) c.new-starts.ensures.items in
@@ -220,50 +162,29 @@ emit_truth-returns-clause-code t c =
 
 pub emit_truth-returns-clause-goes : goal.emit_truth-returns-clause-goes
 emit_truth-returns-clause-goes t c =
-    let s = scope_in c.args.names.now in
-    let to = places_by c.args.places.now in
+    let s = scope_in c.args.names.now in let to = places_by c.args.places.now in
     let all = choice_of c.args.decision.now in
-    let one = c.put.new.code.items in
-    let two = c.emit_answers.new.code.items in
+    let one = c.put.new.code.items in let two = c.emit_answers.new.code.items in
     let jumps = c.in_ok-emit_else.ensures.jumps ∙ ap (λ l. l ++ else_leave s to (length two) all) (c.in_ok-emit_answers.ensures.jumps ∙ ap (λ l. l ++ answers_leave s to (length one) all) c.new-jumps.ensures.items) in
     c.has_any.ensures ∙ ap has_any (c.deref-3.ensures.value ∙ jumps) ∙ truth_goes s to (length one) (length two) all
 
 pub emit_integer-emit_else-requires : goal.emit_integer-emit_else-requires
 emit_integer-emit_else-requires t c =
-    let s = scope_in c.args.names.now in
-    let to = places_by c.args.places.now in (
-      search rules,
-      (
-        c.requires.named,
-        (
-          integer_else_fits s to (choice_of c.args.decision.now) c.args.code.now.items c.requires.fits _ c.tests_length.result c.tests_length.ensures c.keep_places.new.code.items c.in_ok-keep_places.ensures,
-          c.requires.low,
-        ),
-      ),
-    )
+    let s = scope_in c.args.names.now in let to = places_by c.args.places.now in
+    let fits = integer_else_fits s to (choice_of c.args.decision.now) c.args.code.now.items c.requires.fits _ c.tests_length.result c.tests_length.ensures c.keep_places.new.code.items c.in_ok-keep_places.ensures in
+    (search rules, (c.requires.named, (fits, c.requires.low)))
 
 pub emit_integer-emit_answers-requires : goal.emit_integer-emit_answers-requires
 emit_integer-emit_answers-requires t c =
-    let s = scope_in c.args.names.now in
-    let to = places_by c.args.places.now in (
-      search rules,
-      (
-        c.requires.named,
-        (
-          integer_answers_fit s to (choice_of c.args.decision.now) c.args.code.now.items c.requires.fits _ c.tests_length.result c.tests_length.ensures c.keep_places.new.code.items c.in_ok-keep_places.ensures c.emit_else.new.code.items c.in_ok-emit_else.ensures.code,
-          c.requires.low,
-        ),
-      ),
-    )
+    let s = scope_in c.args.names.now in let to = places_by c.args.places.now in
+    let fits = integer_answers_fit s to (choice_of c.args.decision.now) c.args.code.now.items c.requires.fits _ c.tests_length.result c.tests_length.ensures c.keep_places.new.code.items c.in_ok-keep_places.ensures c.emit_else.new.code.items c.in_ok-emit_else.ensures.code in
+    (search rules, (c.requires.named, (fits, c.requires.low)))
 
 pub emit_integer-returns-clause-code : goal.emit_integer-returns-clause-code
 emit_integer-returns-clause-code t c =
-    let s = scope_in c.args.names.now in
-    let to = places_by c.args.places.now in
-    let all = choice_of c.args.decision.now in
-    let old = c.args.code.now.items in
-    let one = c.keep_places.new.code.items in
-    let two = c.emit_else.new.code.items in
+    let s = scope_in c.args.names.now in let to = places_by c.args.places.now in
+    let all = choice_of c.args.decision.now in let old = c.args.code.now.items in
+    let one = c.keep_places.new.code.items in let two = c.emit_else.new.code.items in
     let three = c.emit_answers.new.code.items in
     let jumps = c.in_ok-emit_answers.ensures.jumps ∙ ap (λ l. l ++ answers_leave s to (length two) all) (c.in_ok-emit_else.ensures.jumps ∙ ap (λ l. l ++ else_leave s to (length one) all) c.new-jumps.ensures.items) in
     let starts = c.in_ok-emit_answers.ensures.starts ∙ ap (λ l. l ++ starts_from s (length two) all) c.new-starts.ensures.items in
@@ -280,41 +201,35 @@ emit_integer-returns-clause-code t c =
 
 pub emit_integer-returns-clause-goes : goal.emit_integer-returns-clause-goes
 emit_integer-returns-clause-goes t c =
-    let s = scope_in c.args.names.now in
-    let to = places_by c.args.places.now in
+    let s = scope_in c.args.names.now in let to = places_by c.args.places.now in
     let all = choice_of c.args.decision.now in
-    let one = c.keep_places.new.code.items in
-    let two = c.emit_else.new.code.items in
+    let one = c.keep_places.new.code.items in let two = c.emit_else.new.code.items in
     let jumps = c.in_ok-emit_answers.ensures.jumps ∙ ap (λ l. l ++ answers_leave s to (length two) all) (c.in_ok-emit_else.ensures.jumps ∙ ap (λ l. l ++ else_leave s to (length one) all) c.new-jumps.ensures.items) in
     c.has_any.ensures ∙ ap has_any (c.deref-4.ensures.value ∙ jumps) ∙ integer_goes s to (length two) (length one) all
 
 pub emit_truth-code_place-otherwise-requires : goal.emit_truth-code_place-otherwise-requires
 emit_truth-code_place-otherwise-requires t c =
-    let s = scope_in c.args.names.now in
-    let to = places_by c.args.places.now in
+    let s = scope_in c.args.names.now in let to = places_by c.args.places.now in
     let low = truth_else_low s to (choice_of c.args.decision.now) c.args.code.now.items c.requires.fits _ c.put.new.code.items c.in_ok-put.ensures c.emit_answers.new.code.items c.in_ok-emit_answers.ensures.code in
     omega (arith, low, c.len.ensures)
 
 pub emit_truth-code_place-requires : goal.emit_truth-code_place-requires
 emit_truth-code_place-requires t c =
-    let s = scope_in c.args.names.now in
-    let to = places_by c.args.places.now in
+    let s = scope_in c.args.names.now in let to = places_by c.args.places.now in
     let low = truth_low s to (choice_of c.args.decision.now) c.args.code.now.items c.requires.fits _ c.put.new.code.items c.in_ok-put.ensures c.emit_answers.new.code.items c.in_ok-emit_answers.ensures.code
     c.emit_else.new.code.items c.in_ok-emit_else.ensures.code in
     omega (arith, low, c.len-2.ensures)
 
 pub emit_integer-code_place-requires : goal.emit_integer-code_place-requires
 emit_integer-code_place-requires t c =
-    let s = scope_in c.args.names.now in
-    let to = places_by c.args.places.now in
+    let s = scope_in c.args.names.now in let to = places_by c.args.places.now in
     let low = integer_low s to (choice_of c.args.decision.now) c.args.code.now.items c.requires.fits _ c.tests_length.result c.tests_length.ensures c.keep_places.new.code.items c.in_ok-keep_places.ensures
     c.emit_else.new.code.items c.in_ok-emit_else.ensures.code c.emit_answers.new.code.items c.in_ok-emit_answers.ensures.code in
     omega (arith, low, c.len.ensures)
 
 pub emit_integer-fill_places-requires : goal.emit_integer-fill_places-requires
 emit_integer-fill_places-requires t c =
-    let s = scope_in c.args.names.now in
-    let to = places_by c.args.places.now in
+    let s = scope_in c.args.names.now in let to = places_by c.args.places.now in
     let all = choice_of c.args.decision.now in
     let two = c.emit_else.new.code.items in
     let starts = c.in_ok-emit_answers.ensures.starts ∙ ap (λ l. l ++ starts_from s (length two) all) c.new-starts.ensures.items in
@@ -325,8 +240,7 @@ emit_integer-fill_places-requires t c =
 
 pub emit_body-returns : goal.emit_body-returns
 emit_body-returns t c =
-    let s = scope_in c.args.names.now in
-    let to = places_by c.args.places.now in
+    let s = scope_in c.args.names.now in let to = places_by c.args.places.now in
     let x = text_of c.args.body.now in
     let old = c.args.code.now.items in
     let one = c.emit_text.new.code.items in
@@ -337,8 +251,7 @@ emit_body-returns t c =
 
 pub emit_answers-loop-answer-init : goal.emit_answers-loop-answer-init
 emit_answers-loop-answer-init t c =
-    let s = scope_in c.args.names.now in
-    let to = places_by c.args.places.now in
+    let s = scope_in c.args.names.now in let to = places_by c.args.places.now in
     let old = c.args.code.now.items in
     let others = else_choice (out-Decision c.args.decision.now).otherwise in
     let is = ap (λ l. answers_before l others) c.deref-answer-items.ensures.value in
@@ -355,30 +268,20 @@ emit_answers-code_place-requires t c = omega (arith, c.loop-answer.invariant.fit
 
 pub emit_answers-emit_body-requires : goal.emit_answers-emit_body-requires
 emit_answers-emit_body-requires t c =
-    let s = scope_in c.args.names.now in
-    let to = places_by c.args.places.now in
+    let s = scope_in c.args.names.now in let to = places_by c.args.places.now in
     let q = question_in c.args.decision.now in
-    let list = c.deref-answer-items.result.now in
-    let i = c.loop-answer.answer-index in
+    let list = c.deref-answer-items.result.now in let i = c.loop-answer.answer-index in
     let a = c.answer-item.result in
     let o = else_choice (out-Decision c.args.decision.now).otherwise in
     let whole = answers_before (drop i list) o in
     let rest = answers_before (drop (i + 1) list) o in
-    let is = one_answer list i a o c.loop-answer-test.true c.answer-item.is in (
-      search (rules, the_lemmas),
-      (
-        answer_named s to q a.at a.ranges.items (text_of a.body) whole rest is c.loop-answer.invariant.named,
-        (
-          omega (arith, c.loop-answer.invariant.fits, ap (answers_size s) is),
-          c.requires.low,
-        ),
-      ),
-    )
+    let is = one_answer list i a o c.loop-answer-test.true c.answer-item.is in
+    let named = answer_named s to q a.at a.ranges.items (text_of a.body) whole rest is c.loop-answer.invariant.named in
+    (search (rules, the_lemmas), (named, (omega (arith, c.loop-answer.invariant.fits, ap (answers_size s) is), c.requires.low)))
 
 pub emit_answers-returns : goal.emit_answers-returns
 emit_answers-returns t c =
-    let s = scope_in c.args.names.now in
-    let to = places_by c.args.places.now in
+    let s = scope_in c.args.names.now in let to = places_by c.args.places.now in
     let now = c.loop-answer.code.items in
     let n = length now in
     let xs = c.deref-answer-items.result.now in
@@ -398,21 +301,13 @@ emit_statement-emit_action-requires t c =
 pub emit_statement-emit_decision-requires : goal.emit_statement-emit_decision-requires
 emit_statement-emit_decision-requires t c =
     let s = scope_in c.args.names.now in
-    let is = is_decision c.args.statement.now c.in-Decide.decision c.in-Decide.is falls in (
-      search (rules, the_lemmas),
-      (
-        subst (NamedText s) is c.requires.named,
-        (
-          subst (λ t. length c.args.code.now.items + size (variables_of s.process) t ≤ 512) is c.requires.fits,
-          c.requires.low,
-        ),
-      ),
-    )
+    let is = is_decision c.args.statement.now c.in-Decide.decision c.in-Decide.is falls in
+    let fits = subst (λ t. length c.args.code.now.items + size (variables_of s.process) t ≤ 512) is c.requires.fits in
+    (search (rules, the_lemmas), (subst (NamedText s) is c.requires.named, (fits, c.requires.low)))
 
 pub emit_statement-returns-in_ok-emit_action-in-Act : goal.emit_statement-returns-in_ok-emit_action-in-Act
 emit_statement-returns-in_ok-emit_action-in-Act t c =
-    let s = scope_in c.args.names.now in
-    let to = places_by c.args.places.now in
+    let s = scope_in c.args.names.now in let to = places_by c.args.places.now in
     let old = c.args.code.now.items in
     let a = c.in-Act.action in
     record {
@@ -423,8 +318,7 @@ emit_statement-returns-in_ok-emit_action-in-Act t c =
 
 pub emit_statement-returns-in-Decide : goal.emit_statement-returns-in-Decide
 emit_statement-returns-in-Decide t c =
-    let s = scope_in c.args.names.now in
-    let to = places_by c.args.places.now in
+    let s = scope_in c.args.names.now in let to = places_by c.args.places.now in
     let old = c.args.code.now.items in
     let d = c.in-Decide.decision in
     record {
@@ -438,8 +332,7 @@ emit_statement-returns-in-Decide t c =
 
 pub emit_text-loop-statement-init : goal.emit_text-loop-statement-init
 emit_text-loop-statement-init t c =
-    let s = scope_in c.args.names.now in
-    let to = places_by c.args.places.now in
+    let s = scope_in c.args.names.now in let to = places_by c.args.places.now in
     let old = c.args.code.now.items in
     let end = end_text c.args.transition.now.end in
     let is = ap (λ l. statements_before l end) c.deref-statement-items.ensures.value ∙ sym (text_of-is c.args.transition.now) in
@@ -452,31 +345,22 @@ emit_text-loop-statement-init t c =
 
 pub emit_text-emit_statement-requires : goal.emit_text-emit_statement-requires
 emit_text-emit_statement-requires t c =
-    let s = scope_in c.args.names.now in
-    let to = places_by c.args.places.now in
-    let list = c.deref-statement-items.result.now in
-    let i = c.loop-statement.statement-index in
+    let s = scope_in c.args.names.now in let to = places_by c.args.places.now in
+    let list = c.deref-statement-items.result.now in let i = c.loop-statement.statement-index in
     let x = c.statement-item.result in
     let e = end_text c.args.transition.now.end in
     let whole = statements_before (drop i list) e in
     let rest = statements_before (drop (i + 1) list) e in
     let is = one_statement list i x e c.loop-statement-test.true c.statement-item.is in
-    let old = c.loop-statement.code.items in (
-      search (rules, the_lemmas),
-      (
-        statement_named s to x whole rest is old c.loop-statement.invariant.named,
-        (
-          statement_fits s to x whole rest is old c.loop-statement.invariant.fits,
-          c.requires.low,
-        ),
-      ),
-    )
+    let old = c.loop-statement.code.items in
+    let named = statement_named s to x whole rest is old c.loop-statement.invariant.named in
+    let fits = statement_fits s to x whole rest is old c.loop-statement.invariant.fits in
+    (search (rules, the_lemmas), (named, (fits, c.requires.low)))
 
 pub emit_text-emit_end-requires : goal.emit_text-emit_end-requires
 emit_text-emit_end-requires t c =
     let s = scope_in c.args.names.now in
-    let list = c.deref-statement-items.result.now in
-    let i = c.loop-statement.statement-index in
+    let list = c.deref-statement-items.result.now in let i = c.loop-statement.statement-index in
     record {
       named = subst (λ o. NamedText s (end_text o)) c.in-Some.is
           (subst (λ l. NamedText s (statements_before l (end_text c.args.transition.now.end))) (drop_all i list c.loop-statement-test.false) c.loop-statement.invariant.named);
@@ -485,12 +369,9 @@ emit_text-emit_end-requires t c =
 
 pub emit_text-returns-in_ok-emit_end-in-Some : goal.emit_text-returns-in_ok-emit_end-in-Some
 emit_text-returns-in_ok-emit_end-in-Some t c =
-    let s = scope_in c.args.names.now in
-    let to = places_by c.args.places.now in
-    let now = c.loop-statement.code.items in
-    let goes = c.loop-statement.goes in
-    let list = c.deref-statement-items.result.now in
-    let i = c.loop-statement.statement-index in
+    let s = scope_in c.args.names.now in let to = places_by c.args.places.now in
+    let now = c.loop-statement.code.items in let goes = c.loop-statement.goes in
+    let list = c.deref-statement-items.result.now in let i = c.loop-statement.statement-index in
     let end = end_text c.args.transition.now.end in
     let is = sym (ap end_text c.in-Some.is) in
     let past = c.loop-statement-test.false in
@@ -503,12 +384,9 @@ emit_text-returns-in_ok-emit_end-in-Some t c =
 
 pub emit_text-returns-in-None : goal.emit_text-returns-in-None
 emit_text-returns-in-None t c =
-    let s = scope_in c.args.names.now in
-    let to = places_by c.args.places.now in
-    let now = c.loop-statement.code.items in
-    let goes = c.loop-statement.goes in
-    let list = c.deref-statement-items.result.now in
-    let i = c.loop-statement.statement-index in
+    let s = scope_in c.args.names.now in let to = places_by c.args.places.now in
+    let now = c.loop-statement.code.items in let goes = c.loop-statement.goes in
+    let list = c.deref-statement-items.result.now in let i = c.loop-statement.statement-index in
     let end = end_text c.args.transition.now.end in
     let is = sym (ap end_text c.in-None.is) in
     let past = c.loop-statement-test.false in

@@ -1,0 +1,52 @@
+-- Where a transition stands, how a walk is over, what a part of a transition does, and its names (Z.100, transitions).
+use Rattle.std.specs.Prelude.{ℕ, if◌then◌else◌, Option}
+use Rattle.sdl_ast.specs.declared.expression.Identifier.{Identifier}
+use Rattle.sdl_ast.specs.declared.tree.Sort.TheVariants.{Boolean}
+use Rattle.sdl_ast.specs.declared.tree.End.{End}
+use Rattle.sdl_ast.specs.declared.tree.Constant.{Constant}
+use Rattle.sdl_ast.specs.Plain.{number, truth, variable, does, PlainProcess, PlainBlock}
+use Rattle.turn_code.specs.declared.machine.End as code_end
+use Rattle.turn_code.specs.declared.trouble.Trouble.{Trouble}
+use Rattle.turn_code.specs.Values.{holds}
+use Rattle.turn_code.specs.Run.{Progress}
+use Rattle.sdl_tables.specs.Names.{number_of, variable_names, states_of, timers_of, connector_names, signal_names}
+
+-- Where a transition stands: its names are those of its process and of its block, and their numbers are the places there.
+pub record Scope : Type 0 where
+  pub block : PlainBlock
+  pub process : PlainProcess
+
+-- How a walk is over: at the transition's end, or stuck.
+pub data Ending : Type 0 where
+  at_end : code_end.End → Ending
+  in_trouble : Trouble → Ending
+
+-- What a part of a transition does: the walk goes on with something, or is over. What was done so far comes with it;
+-- its count is the cost of the walk, where each number, truth value, variable, operator, assignment, signal that goes
+-- out, SET and RESET costs 1 (a divisor nothing), each place of INPUT 2 and the end 1. A DECISION costs its question and
+-- what is asked of it: for an Integer one each range up to the first that holds, or all and 1 for ELSE; for a Boolean one 1.
+-- Then come the body, and 1 where it goes on.
+pub data Outcome (A : Type 0) : Type 0 where
+  goes_on : A → Progress → Outcome A
+  over : Ending → Progress → Outcome A
+
+abbrev pub then_do : {A B : Type 0} → Outcome A → (A → Progress → Outcome B) → Outcome B
+then_do (goes_on x s) f = f x s
+then_do (over e s) f = over e s
+
+-- ---- names
+
+abbrev pub variable_at : Scope → Identifier → Option ℕ
+variable_at c n = number_of (variable_names c.process) n.name
+
+abbrev pub state_at : Scope → Identifier → Option ℕ
+state_at c n = number_of (states_of c.process) n.name
+
+abbrev pub timer_at : Scope → Identifier → Option ℕ
+timer_at c n = number_of (timers_of c.process) n.name
+
+abbrev pub connector_at : Scope → Identifier → Option ℕ
+connector_at c n = number_of (connector_names c.process) n.name
+
+abbrev pub signal_at : Scope → Identifier → Option ℕ
+signal_at c n = number_of (signal_names c.block) n.name
