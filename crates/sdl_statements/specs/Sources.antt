@@ -1,4 +1,4 @@
--- Who may have sent what transitions begin with, as it is gathered.
+-- What holds of the senders gathered so far: what gets back to all of them, and which parties and rows are marked.
 use Rattle.std.specs.Prelude.{◌≡◌, ◌⊎◌, ℕ, Bool, true, Option, Some, List, All}
 use Rattle.std.specs.List.{list_all}
 use Rattle.sdl_ast.specs.Plain.{PlainProcess, PlainBlock}

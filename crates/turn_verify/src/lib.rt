@@ -1,4 +1,5 @@
-//! `load`: from a text to the set of its block, or to the refusal of the first layer that refuses, with its line.
+//! `load`: from a text to the set of its block, or to the refusal of the first layer that refuses, with its line where it
+//! has one.
 #![tactic(auto)]
 
 mod loading;
