@@ -1,5 +1,5 @@
 -- Connections by name and by number.
-use Rattle.std.proofs.Common.{◌≡◌, ◌≢◌, ℕ, zero, suc, ◌+◌, ◌<◌, ◌≤◌, Bool, true, false, ◌||◌, if◌then◌else◌, List, [], ◌∷◌, ◌++◌, length, cond, map, refl, ap, sym, ◌∙◌, subst, arith, inl, inr, Option, Some, None, get_or, true≢false}
+use Rattle.std.proofs.Common.{◌≡◌, ℕ, zero, suc, ◌<◌, ◌≤◌, Bool, true, false, ◌||◌, if◌then◌else◌, List, [], ◌∷◌, ◌++◌, length, cond, map, refl, ap, sym, ◌∙◌, subst, arith, inl, inr, Option, Some, None, get_or, true≢false}
 use Rattle.std.specs.Prelude.{slice_get, All, Contains, nat_eq, find, option_to_list}
 use Rattle.std.specs.Global.{Vec}
 use Rattle.std.specs.List.{list_any, flat_map}

@@ -1,7 +1,6 @@
 -- Marks of nodes: how many are new, and that two that differ aren't one.
-use Rattle.std.proofs.Common.{◌≡◌, ℕ, zero, suc, ◌-◌, Bool, false, List, [], ◌∷◌, refl, ap, sym, ◌∙◌, ◌⊎◌, Option, Some, None}
-use Rattle.std.specs.Prelude.{slice_get, slice_set, All}
-use Rattle.sdl_joins.specs.Links.{IsGraph}
+use Rattle.std.proofs.Common.{◌≡◌, ℕ, zero, suc, ◌-◌, false, List, [], ◌∷◌, refl, ap, sym, ◌∙◌, ◌⊎◌, Option, Some, None}
+use Rattle.std.specs.Prelude.{slice_get, slice_set}
 use Rattle.sdl_joins.specs.Searched.{is_new, unseen}
 use Rattle.sdl_joins.specs.declared.graph.Mark.{Mark}
 use Rattle.sdl_joins.specs.declared.graph.Mark.TheVariants.{New, Open, Done}

@@ -3,7 +3,7 @@ use Rattle.std.proofs.Common.{◌≡◌, ◌≢◌, ℕ, zero, suc, ◌+◌, ◌
 use Rattle.std.specs.Prelude.{slice_get, slice_set, Contains, All, replicate}
 use Rattle.std.proofs.lemmas.Bool.{cases_eq, cases_Bool, eqb-true}
 use Rattle.std.proofs.lemmas.List.{length-set, length-replicate, take_all, take_more}
-use Rattle.std.proofs.lemmas.List.Elements.{All-contains, All-push, Contains-append_left, Contains-append_right, Contains-push, Contains-push_cases, Contains-get_or, All-more}
+use Rattle.std.proofs.lemmas.List.Elements.{All-contains, All-push, Contains-append_left, Contains-append_right, Contains-push, Contains-push_cases, All-more}
 use Rattle.std.specs.Option.{option_map, option_map_or}
 use Rattle.std.specs.Global.{Vec}
 use Rattle.std.proofs.lemmas.Option.{slice_get_within, slice_get-map}

@@ -1,11 +1,11 @@
 -- How a search for an order goes on.
-use Rattle.std.proofs.Common.{◌≡◌, ◌≢◌, ℕ, zero, suc, ◌+◌, ◌-◌, ◌<◌, ◌≤◌, Bool, true, false, List, [], ◌∷◌, ◌++◌, length, refl, ap, sym, ◌∙◌, subst, arith, inl, inr, ◌⊎◌, Option, Some, None, take, get_or, length-append}
-use Rattle.std.specs.Prelude.{slice_get, slice_set, Contains, All, replicate}
+use Rattle.std.proofs.Common.{◌≡◌, ◌≢◌, ℕ, zero, suc, ◌+◌, ◌-◌, ◌<◌, ◌≤◌, true, false, List, [], ◌∷◌, ◌++◌, length, refl, ap, sym, ◌∙◌, subst, arith, inl, inr, ◌⊎◌, Option, Some, None, take, get_or, length-append}
+use Rattle.std.specs.Prelude.{slice_get, slice_set, Contains, replicate}
 use Rattle.std.specs.Option.{option_map_or}
 use Rattle.std.proofs.lemmas.Bool.{cases_eq, cases_lt}
 use Rattle.std.proofs.lemmas.List.{length-set, length-take-le, length-replicate}
 use Rattle.std.proofs.lemmas.Option.{slice_get_within, slice_get-get_or}
-use Rattle.sdl_joins.specs.Links.{nexts, goes, IsGraph, Returns, IsOrderOf}
+use Rattle.sdl_joins.specs.Links.{nexts, goes, Returns, IsOrderOf}
 use Rattle.sdl_joins.specs.Searched.{is_new, is_done, unseen, IsSearch, StandsIn, Advances}
 use Rattle.sdl_joins.specs.declared.graph.Mark.{Mark}
 use Rattle.sdl_joins.specs.declared.graph.Mark.TheVariants.{New, Open, Done}

@@ -1,11 +1,10 @@
 -- Ways through a graph.
-use Rattle.std.proofs.Common.{◌≡◌, ◌≢◌, ℕ, zero, suc, ◌+◌, ◌<◌, ◌≤◌, Bool, true, false, ◌||◌, List, [], ◌∷◌, length, refl, ap, sym, ◌∙◌, subst, arith, inl, inr, ◌⊎◌, Some, if◌then◌else◌, true≢false}
-use Rattle.std.specs.Prelude.{slice_get, nat_eq, Contains}
-use Rattle.std.specs.List.{list_any}
+use Rattle.std.proofs.Common.{◌≡◌, ℕ, zero, suc, ◌+◌, ◌<◌, ◌≤◌, Bool, true, false, List, [], length, refl, ap, sym, subst, arith, inl, inr, ◌⊎◌, if◌then◌else◌}
+use Rattle.std.specs.Prelude.{nat_eq, Contains}
 use Rattle.std.specs.Option.{option_map_or}
-use Rattle.std.proofs.lemmas.Bool.{cases_eq, cases_lt, cases_Bool, or_cases, eqb-true, eq-eqb, or_left, or_right}
-use Rattle.std.proofs.lemmas.Option.{slice_get_within, slice_get_past, get_or_from_slice_get, slice_get-get_or}
-use Rattle.sdl_joins.specs.Links.{nexts, goes_by, goes, any_goes}
+use Rattle.std.proofs.lemmas.Bool.{cases_eq, cases_lt, or_cases, eqb-true, eq-eqb, or_left, or_right}
+use Rattle.std.proofs.lemmas.Option.{slice_get_past}
+use Rattle.sdl_joins.specs.Links.{nexts, goes_by, goes}
 use Rattle.sdl_sound.proofs.Lists.{any_at, at_any}
 
 -- ---- one link more

@@ -1,19 +1,17 @@
 -- The run of a piece is the meaning of its transition.
-use Rattle.std.proofs.Common.{◌≡◌, ℕ, zero, suc, ◌⊎◌, inl, inr, ◌+◌, ◌-◌, ◌<◌, ◌≤◌, ◌||◌, Bool, true, false, cond, List, [], ◌∷◌, ◌++◌, length, map, Option, Some, None, refl, sym, ap, ◌∙◌, subst, arith, length-append}
+use Rattle.std.proofs.Common.{◌≡◌, ℕ, zero, suc, ◌+◌, ◌-◌, ◌<◌, ◌≤◌, ◌||◌, Bool, true, false, cond, List, [], ◌∷◌, ◌++◌, length, Option, refl, sym, subst, arith}
 use Rattle.std.specs.Prelude.{Contains, get_or, fold, nat_eq}
 use Rattle.std.specs.List.{list_any, flat_map}
 use Rattle.std.proofs.lemmas.Bool.Decides.{nat_tests}
 use Rattle.std.proofs.lemmas.List.Elements.{Contains-append_left, Contains-append_right, Contains-push}
 use Rattle.sdl_ast.specs.declared.expression.Identifier.{Identifier}
 use Rattle.sdl_ast.specs.Plain.{Text}
-use Rattle.turn_code.specs.declared.value.Value.{Value}
 use Rattle.turn_code.specs.declared.input.Input.{Input}
 use Rattle.turn_code.specs.declared.instruction.Instruction.{Instruction}
 use Rattle.turn_code.specs.Run as run
 use Rattle.turn_code.specs.Run.{Progress, exec, ended, got_stuck, begun}
-use Rattle.sdl_tables.specs.Names.{variables_of}
-use Rattle.sdl_sound.specs.Longest.{Piece, size, places_cost, piece_budget}
-use Rattle.sdl_meaning.specs.Act.{act, follow, join_in, take_places, ran, Act}
+use Rattle.sdl_sound.specs.Longest.{Piece, piece_budget}
+use Rattle.sdl_meaning.specs.Act.{act, join_in, take_places, ran, Act}
 use Rattle.sdl_meaning.specs.Outcomes.{Scope, Outcome, goes_on, over, at_end, in_trouble, then_do}
 use Rattle.sdl_meaning.specs.Named.{NamedPiece, IsSentTo, AnswersSenders}
 use Rattle.sdl_meaning.specs.Code.{text_code, places_code, text_at, size_at, joined, add_number, numbers_once, ArePlaced, place_in, connections_code, text_place, connections_place, piece_code}

@@ -1,6 +1,6 @@
 -- The run of a text's instructions is what the text means.
-use Rattle.std.proofs.Common.{◌≡◌, ℕ, suc, ◌+◌, ◌<◌, ◌≤◌, Bool, true, false, cond, ◌&&◌, ◌||◌, List, [], ◌∷◌, ◌++◌, length, map, Option, Some, None, IsSome, refl, sym, ap, ◌∙◌, subst, arith, length-append}
-use Rattle.std.specs.Prelude.{slice_get, ℤ, nat_lt, nat_eq}
+use Rattle.std.proofs.Common.{◌≡◌, ℕ, ◌+◌, Bool, true, false, cond, ◌&&◌, ◌||◌, List, [], ◌∷◌, ◌++◌, length, Option, Some, None, refl, sym, ap, ◌∙◌, subst, arith}
+use Rattle.std.specs.Prelude.{ℤ, nat_lt, nat_eq}
 use Rattle.std.proofs.lemmas.Bool.Decides.{nat_tests}
 use Rattle.std.specs.List.{list_any, sum_by}
 use Rattle.std.proofs.lemmas.List.{length-map}
@@ -13,27 +13,26 @@ use Rattle.sdl_ast.specs.declared.tree.Literal.{Literal}
 use Rattle.sdl_ast.specs.declared.tree.Literal.TheVariants as literals
 use Rattle.sdl_ast.specs.declared.tree.End.{End}
 use Rattle.sdl_ast.specs.declared.tree.End.TheVariants.{NextState, Stop, Join}
-use Rattle.sdl_ast.specs.Plain.{Tree, PlainAction, Text, falls, ends, does, decides, Choice, nothing_else, otherwise, answer}
+use Rattle.sdl_ast.specs.Plain.{Tree, Text, falls, ends, does, decides, Choice, nothing_else, otherwise, answer}
 use Rattle.turn_code.specs.declared.value.Value.{Value}
 use Rattle.turn_code.specs.declared.value.Value.TheVariants.{Int, Bool as Truth}
 use Rattle.turn_code.specs.declared.input.Input.{Input}
 use Rattle.turn_code.specs.declared.input.Party.{Party}
 use Rattle.turn_code.specs.declared.instruction.Instruction.{Instruction}
 use Rattle.turn_code.specs.declared.instruction.Instruction.TheVariants as i
-use Rattle.turn_code.specs.Run as run
 use Rattle.turn_code.specs.Run.{Progress, tick, goes}
 use Rattle.sdl_tables.specs.Names.{variables_of}
 use Rattle.sdl_sound.specs.Going.{goes_on as may_go_on, choice_goes_on}
 use Rattle.sdl_sound.specs.Decisions.{has_values, has_else, is_value, names_value, times_named, answers_both, is_answered}
-use Rattle.sdl_sound.specs.Longest.{cost_of, action_cost, tests_size, size, bodies_size, jump_size}
+use Rattle.sdl_sound.specs.Longest.{cost_of, action_cost, tests_size, size, bodies_size}
 use Rattle.sdl_meaning.specs.Act.{is_truth, value_of, perform, end_in, end_with, try_ranges, find_truth, leave, decide, act, choose, pick}
-use Rattle.sdl_meaning.specs.Outcomes.{Scope, variable_at, state_at, connector_at, Outcome, goes_on, over, then_do}
-use Rattle.sdl_meaning.specs.Named.{NamedTree, NamedAction, NamedEnd, NamedDecision, NamedText, NamedChoice, IsSentTo, AnswersAction, AnswersSenders, ChoiceAnswers}
-use Rattle.sdl_meaning.specs.Code.{number_or_zero, next, jump, tree_code, action_code, end_code, leave_code, body_size, range_code, ranges_code, tests_code, else_size, picked, pick_code, is_literal, names_truth, bodies_place, else_place, answers_place, after_choice, text_code, else_code, answers_code, bodies_code}
+use Rattle.sdl_meaning.specs.Outcomes.{Scope, state_at, connector_at, Outcome, goes_on, then_do}
+use Rattle.sdl_meaning.specs.Named.{NamedEnd, NamedText, NamedChoice, IsSentTo, AnswersSenders, ChoiceAnswers}
+use Rattle.sdl_meaning.specs.Code.{number_or_zero, jump, tree_code, action_code, end_code, leave_code, body_size, range_code, ranges_code, tests_code, picked, pick_code, is_literal, names_truth, bodies_place, else_place, answers_place, after_choice, text_code, else_code, answers_code, bodies_code}
 use Rattle.sdl_meaning.proofs.Sizes.{tree_size, action_size, leave_size, tests_are, text_size_is, bodies_size_is, answers_size_is, else_size_is, decision_is}
 use Rattle.sdl_meaning.proofs.Runs.{Does, bind, one, stays, tree_does, action_does, next_does}
 use Rattle.sdl_meaning.proofs.RunParts.{HasAt, has_front, has_back}
-use Rattle.sdl_meaning.proofs.Choices.{IsOver, over_bind, over_first, AreNumbers, AreTruths, are_numbers, are_truths, over_anywhere, after_one, body_leaves, tries_do, decision_does, find_is}
+use Rattle.sdl_meaning.proofs.Choices.{IsOver, over_bind, over_first, are_numbers, are_truths, after_one, body_leaves, tries_do, decision_does, find_is}
 use Rattle.std.proofs.lemmas.Bool.{or_right as or_true}
 use Rattle.plain_laws.proofs.Truths.{and_second, neither_first as or_left, neither_second as or_right}
 

@@ -1,11 +1,9 @@
 -- The tests of a DECISION, and the jumps of its bodies.
-use Rattle.std.proofs.Common.{◌≡◌, ℕ, suc, ◌+◌, ◌-◌, ◌<◌, ◌≤◌, Bool, true, false, cond, ◌&&◌, ◌||◌, List, [], ◌∷◌, ◌++◌, length, map, Option, Some, None, IsSome, refl, sym, ap, ◌∙◌, subst, arith, length-append}
-use Rattle.std.specs.Prelude.{slice_get, ℤ, not}
+use Rattle.std.proofs.Common.{◌≡◌, ℕ, suc, ◌+◌, Bool, true, false, cond, ◌||◌, List, [], ◌∷◌, ◌++◌, length, Some, refl, sym, ap, ◌∙◌, subst, arith}
+use Rattle.std.specs.Prelude.{slice_get, ℤ}
 use Rattle.std.specs.List.{list_any}
-use Rattle.sdl_ast.specs.declared.expression.Identifier.{Identifier}
 use Rattle.sdl_ast.specs.declared.tree.Literal.{Literal}
 use Rattle.sdl_ast.specs.declared.tree.Literal.TheVariants as literals
-use Rattle.sdl_ast.specs.declared.tree.Constant.{Constant}
 use Rattle.sdl_ast.specs.declared.tree.Range.{Range}
 use Rattle.sdl_ast.specs.declared.tree.Range.TheVariants.{Value as IsValue, Compared, Between}
 use Rattle.sdl_ast.specs.declared.tree.Sort.TheVariants.{Integer, Boolean}
@@ -13,24 +11,22 @@ use Rattle.sdl_ast.specs.Plain.{Tree, Text, Choice, nothing_else, otherwise, ans
 use Rattle.turn_code.specs.declared.value.Value.{Value}
 use Rattle.turn_code.specs.declared.value.Value.TheVariants.{Int, Bool as Truth}
 use Rattle.turn_code.specs.declared.input.Input.{Input}
-use Rattle.turn_code.specs.declared.instruction.Relation.{Relation}
 use Rattle.turn_code.specs.declared.instruction.Relation.TheVariants as relations
 use Rattle.turn_code.specs.declared.instruction.Instruction.{Instruction}
 use Rattle.turn_code.specs.declared.instruction.Instruction.TheVariants as i
 use Rattle.turn_code.specs.declared.trouble.Trouble.TheVariants.{WrongSort}
-use Rattle.turn_code.specs.Values.{holds, is_between, differ}
+use Rattle.turn_code.specs.Values.{holds, is_between}
 use Rattle.turn_code.specs.Run as run
 use Rattle.turn_code.specs.Run.{Progress, tick, goes, stuck, After, exec, go_on}
-use Rattle.sdl_tables.specs.Names.{variables_of}
 use Rattle.sdl_sound.specs.Going.{goes_on as may_go_on}
 use Rattle.sdl_sound.specs.Decisions.{has_else}
-use Rattle.sdl_sound.specs.Sorts.{is_constant, answers_truth, answers_number, answers_question}
+use Rattle.sdl_sound.specs.Sorts.{is_constant, answers_truth, answers_number}
 use Rattle.sdl_meaning.specs.Act.{is_truth, relation_of, integer_in, compared, between, covers_integer, is_literal as same_literal, covers_truth, told, try_ranges, find_truth, leave, decide}
 use Rattle.sdl_meaning.specs.Outcomes.{Scope, Outcome, goes_on, over, in_trouble, then_do}
 use Rattle.sdl_meaning.specs.Named.{AnswerTo}
 use Rattle.sdl_meaning.specs.Code.{constant_or_zero, jump, leave_code, body_size, range_code, ranges_code, tests_code, is_literal, names_truth, picked, pick_code}
-use Rattle.sdl_meaning.proofs.Runs.{Does, bind, stepped, one, stays}
-use Rattle.sdl_meaning.proofs.RunParts.{HasAt, has_front, has_back, over_as}
+use Rattle.sdl_meaning.proofs.Runs.{Does, bind, stepped, one}
+use Rattle.sdl_meaning.proofs.RunParts.{HasAt, has_front}
 use Rattle.plain_laws.proofs.Truths.{and_second as both_right, and_first as both_left}
 
 -- a choice is over or goes on

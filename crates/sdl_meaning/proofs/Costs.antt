@@ -1,44 +1,22 @@
 -- The run of a transition's instructions is what the transition means.
-use Rattle.std.proofs.Common.{◌≡◌, ℕ, suc, ◌+◌, ◌-◌, ◌<◌, ◌≤◌, Bool, true, false, cond, List, [], ◌∷◌, ◌++◌, length, take, drop, reverse, Option, Some, None, IsSome, refl, sym, ap, ◌∙◌, subst, arith, append_assoc, length-append}
-use Rattle.std.specs.Prelude.{slice_get, slice_set, ℤ, pos, int_lt, nat_le}
-use Rattle.std.proofs.Math.Seq.{get_or-append_seam, take-append_seam, drop-append_seam}
-use Rattle.std.proofs.lemmas.List.{reverse-reverse, length-reverse}
-use Rattle.std.proofs.lemmas.Grind.{reverse_onto}
-use Rattle.std.proofs.lemmas.Bool.Decides.{nat_tests}
+use Rattle.std.proofs.Common.{ℕ, ◌+◌, ◌≤◌, Bool, true, false, cond, List, [], ◌∷◌, Option, Some, None, arith}
+use Rattle.std.specs.Prelude.{slice_get, ℤ, pos, int_lt}
 use Rattle.std.specs.List.{sum_by}
 use Rattle.std.proofs.lemmas.List.Sums.{sum_by-cons}
-use Rattle.std.proofs.lemmas.Option.{slice_get-get_or}
 use Rattle.sdl_ast.specs.declared.expression.Identifier.{Identifier}
 use Rattle.sdl_ast.specs.declared.expression.UnaryOperator.{UnaryOperator}
 use Rattle.sdl_ast.specs.declared.expression.UnaryOperator.TheVariants.{Negate, Not}
 use Rattle.sdl_ast.specs.declared.expression.BinaryOperator.{BinaryOperator}
-use Rattle.sdl_ast.specs.declared.expression.BinaryOperator.TheVariants.{Or, Xor, And, Equal, NotEqual, Less, LessEqual, Greater, GreaterEqual, Add, Subtract, Multiply, Divide, Modulo, Remainder}
 use Rattle.sdl_ast.specs.declared.tree.Destination.{Destination}
-use Rattle.sdl_ast.specs.declared.tree.Destination.TheVariants as address
-use Rattle.sdl_ast.specs.declared.tree.Party.TheVariants as tree_parties
-use Rattle.sdl_ast.specs.declared.tree.Party as tree_party
-use Rattle.sdl_ast.specs.declared.tree.End.{End}
-use Rattle.sdl_ast.specs.declared.tree.End.TheVariants.{NextState, Stop}
-use Rattle.sdl_ast.specs.Plain.{Tree, number, truth, variable, unary, binary, PlainAssignment, PlainSending, PlainAction, task, output, set_timer, reset_timer, Text, falls, ends, does}
+use Rattle.sdl_ast.specs.Plain.{Tree, number, truth, variable, unary, binary, PlainAssignment, PlainSending, PlainAction, task, output, set_timer, reset_timer}
 use Rattle.turn_code.specs.declared.value.Value.{Value}
 use Rattle.turn_code.specs.declared.value.Value.TheVariants.{Int, Bool as Truth}
-use Rattle.turn_code.specs.declared.input.Input.{Input}
 use Rattle.turn_code.specs.declared.input.Party.{Party}
-use Rattle.turn_code.specs.declared.trouble.Trouble.TheVariants.{Underflow, WrongSort}
-use Rattle.turn_code.specs.declared.effect.Effect.TheVariants as effects
-use Rattle.turn_code.specs.declared.instruction.Relation.{Relation}
-use Rattle.turn_code.specs.declared.instruction.Relation.TheVariants as relations
-use Rattle.turn_code.specs.declared.instruction.Instruction.{Instruction}
-use Rattle.turn_code.specs.declared.instruction.Instruction.TheVariants as i
-use Rattle.turn_code.specs.Values.{wrap}
-use Rattle.turn_code.specs.Run as run
-use Rattle.turn_code.specs.Run.{Progress, tick, with_variables, with_effect, sending, sent, on_operands, After, goes, stuck, Ran, ended, got_stuck, step, go_on, exec, begun}
-use Rattle.sdl_sound.specs.Longest.{Piece, is_division, cost_of, assignment_cost, assignments_cost, sending_cost, sendings_cost, action_cost, end_cost, budget, place_cost, places_cost, piece_budget}
-use Rattle.sdl_sound.specs.Receivers.{party_of, receivers}
-use Rattle.sdl_meaning.specs.Act.{slot, end_in, read, written, write, Working, reckons, compares, joins, working, is_truth, apply_one, apply_two, divisor_of, quotient, divide, value_of, values_of, is_carried, named, numbered, the_one, if_named, to_sender, receiver_of, assign, put_out, send, send_all, start_timer, stop_timer, perform, end_with, act, pass, take_places, ran, Act}
-use Rattle.sdl_meaning.specs.Outcomes.{Scope, variable_at, state_at, timer_at, signal_at, Ending, at_end, in_trouble, Outcome, goes_on, over, then_do}
-use Rattle.sdl_meaning.specs.Named.{NamedTree, NamedTrees, NamedTasks, HasReceiver, NamedSending, NamedSendings, NamedAction, NamedEnd, NamedText, NamedPlaces, NamedPiece, IsSentTo, AnswersTo, AnswersAction, AnswersSenders}
-use Rattle.sdl_meaning.specs.Code.{number_or_zero, piece_code, load, store, next, set_to, reset, put, unary_code, binary_code, division_code, tree_code, trees_code, tasks_code, party_or_environment, receiver_code, sendings_code, action_code, end_code, text_code, places_code}
+use Rattle.turn_code.specs.declared.trouble.Trouble.TheVariants.{WrongSort}
+use Rattle.turn_code.specs.Run.{Progress, tick}
+use Rattle.sdl_sound.specs.Longest.{is_division, cost_of, assignment_cost, assignments_cost, sending_cost, sendings_cost, action_cost, place_cost, places_cost}
+use Rattle.sdl_meaning.specs.Act.{slot, end_in, read, written, write, Working, reckons, compares, joins, working, is_truth, apply_one, apply_two, divisor_of, quotient, divide, value_of, values_of, receiver_of, assign, put_out, send, send_all, start_timer, stop_timer, perform, pass, take_places}
+use Rattle.sdl_meaning.specs.Outcomes.{Scope, variable_at, timer_at, signal_at, in_trouble, Outcome, goes_on, over, then_do}
 
 -- what a part has cost by its end
 abbrev pub cost_by : {A : Type 0} → Outcome A → ℕ

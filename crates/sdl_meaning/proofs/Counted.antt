@@ -1,22 +1,21 @@
 -- The code of a piece has as many instructions as its text says, with each connection to which it comes once.
-use Rattle.std.proofs.Common.{◌≡◌, ℕ, zero, suc, ◌+◌, ◌<◌, ◌≤◌, Bool, true, false, cond, ◌||◌, List, [], ◌∷◌, ◌++◌, length, Option, Some, None, refl, sym, ap, ◌∙◌, subst, arith, length-append}
+use Rattle.std.proofs.Common.{◌≡◌, ℕ, zero, suc, ◌+◌, ◌<◌, ◌≤◌, Bool, true, false, cond, ◌||◌, List, [], ◌∷◌, ◌++◌, length, Some, refl, sym, ap, ◌∙◌, subst, arith, length-append}
 use Rattle.std.specs.Prelude.{slice_get, get_or, Contains, fold, nat_eq}
 use Rattle.std.specs.List.{list_any, sum_by, filter, flat_map}
 use Rattle.std.specs.Option.{option_map_or}
 use Rattle.std.proofs.lemmas.Bool.Decides.{nat_tests}
 use Rattle.std.proofs.lemmas.List.Sums.{sum_by-cons}
-use Rattle.sdl_ast.specs.Plain.{Text, falls, PlainConnection}
+use Rattle.sdl_ast.specs.Plain.{falls, PlainConnection}
 use Rattle.turn_code.specs.declared.instruction.Instruction.{Instruction}
 use Rattle.sdl_tables.specs.Names.{variables_of}
 use Rattle.sdl_sound.specs.Joins.{reaches, reached}
-use Rattle.sdl_sound.specs.Longest.{Piece, size, text_size, piece_size, places_cost}
+use Rattle.sdl_sound.specs.Longest.{Piece, size, piece_size}
 use Rattle.sdl_meaning.specs.Outcomes.{Scope}
 use Rattle.sdl_meaning.specs.Named.{NamedPiece}
 use Rattle.sdl_meaning.specs.Code.{text_at, size_at, joined, add_number, numbers_once, ArePlaced, place_in, text_code, places_code, connections_code, text_place, connections_place, piece_code}
 use Rattle.sdl_meaning.proofs.Sizes.{places_size, text_size_is, connections_size}
-use Rattle.sdl_sound.proofs.Items.{Each}
 use Rattle.sdl_meaning.proofs.Acts.{among_by}
-use Rattle.sdl_meaning.proofs.Reached.{Stands, placed_stands, placed_reached, reached_placed}
+use Rattle.sdl_meaning.proofs.Reached.{placed_stands, placed_reached, reached_placed}
 use Rattle.sdl_meaning.proofs.Tests.{itself}
 use Rattle.std.proofs.lemmas.Bool.{ne_eqb as differ}
 use Rattle.std.specs.Cmp.{both_ways as same_tests}

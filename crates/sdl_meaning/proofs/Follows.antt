@@ -1,5 +1,5 @@
 -- The run of a whole piece is its meaning, with the connections to which it comes.
-use Rattle.std.proofs.Common.{◌≡◌, ℕ, zero, suc, ◌+◌, ◌-◌, ◌<◌, ◌≤◌, List, [], ◌∷◌, ◌++◌, length, map, Option, Some, None, IsSome, refl, sym, ap, ◌∙◌, subst, arith, length-append}
+use Rattle.std.proofs.Common.{◌≡◌, ℕ, zero, suc, ◌+◌, ◌<◌, List, length, Option, Some, None, refl, sym, ap, subst, arith}
 use Rattle.std.specs.Prelude.{slice_get, Contains}
 use Rattle.std.specs.Option.{option_map_or}
 use Rattle.sdl_ast.specs.declared.expression.Identifier.{Identifier}
@@ -12,16 +12,15 @@ use Rattle.turn_code.specs.declared.instruction.Instruction.{Instruction}
 use Rattle.turn_code.specs.Run.{Progress}
 use Rattle.sdl_tables.specs.Names.{variables_of, connection_named}
 use Rattle.sdl_sound.specs.Longest.{size}
-use Rattle.sdl_sound.specs.Statements.{joins_of}
 use Rattle.sdl_meaning.specs.Act.{act, closed, entered, follow}
 use Rattle.sdl_meaning.specs.Outcomes.{Scope, connector_at, Outcome, goes_on, over}
-use Rattle.sdl_meaning.specs.Named.{NamedConnections, NamedWhole, NamedText, IsSentTo, AnswersSenders}
+use Rattle.sdl_meaning.specs.Named.{NamedConnections, NamedText, IsSentTo, AnswersSenders}
 use Rattle.sdl_meaning.specs.Code.{number_or_zero, text_code, text_at, code_joins, joined}
 use Rattle.sdl_meaning.proofs.Runs.{Does}
 use Rattle.sdl_meaning.proofs.RunParts.{HasAt}
 use Rattle.sdl_meaning.proofs.Choices.{IsOver}
 use Rattle.sdl_meaning.proofs.Branches.{EachJoin, act_over, Leads, text_does}
-use Rattle.sdl_meaning.proofs.Joining.{HasConnection, contains_map, has_connection, each_join}
+use Rattle.sdl_meaning.proofs.Joining.{contains_map, has_connection, each_join}
 use Rattle.turn_code.proofs.Lists.{within as slice_within}
 
 closed_over : (o : Outcome (Unit {0})) → IsOver (closed o)

@@ -1,12 +1,11 @@
 -- What a connection measures: that of its text, where a JOIN in it measures what the connection does to which it leads.
-use Rattle.std.proofs.Common.{◌≡◌, ℕ, zero, suc, ◌⊎◌, inl, inr, ◌+◌, ◌<◌, ◌≤◌, max, ⊎_elim, Bool, true, false, cond, ◌||◌, ◌&&◌, List, [], ◌∷◌, ◌++◌, length, map, take, Option, Some, None, IsSome, refl, sym, ap, ◌∙◌, subst, arith}
+use Rattle.std.proofs.Common.{◌≡◌, ℕ, zero, suc, ◌+◌, ◌<◌, ◌≤◌, max, ⊎_elim, Bool, true, false, cond, ◌||◌, List, [], ◌∷◌, ◌++◌, length, map, take, Option, Some, IsSome, refl, sym, ap, ◌∙◌, subst, arith}
 use Rattle.std.specs.Prelude.{slice_get, get_or, nat_lt, Contains}
 use Rattle.std.proofs.lemmas.Bool.Decides.{nat_tests}
 use Rattle.std.specs.List.{flat_map}
 use Rattle.std.specs.Option.{option_map_or}
 use Rattle.std.proofs.lemmas.List.Elements.{Contains-append_cases}
 use Rattle.std.proofs.lemmas.Option.{slice_get-get_or}
-use Rattle.sdl_ast.specs.declared.expression.Identifier.{Identifier}
 use Rattle.sdl_ast.specs.declared.tree.Join as tree_join
 use Rattle.sdl_ast.specs.declared.tree.Range.{Range}
 use Rattle.sdl_ast.specs.declared.tree.End.{End}
@@ -17,13 +16,13 @@ use Rattle.sdl_sound.specs.Sorts.{is_truth as in_truth}
 use Rattle.sdl_sound.specs.Statements.{end_joins}
 use Rattle.sdl_sound.specs.Going.{goes_on as may_go_on, choice_goes_on}
 use Rattle.sdl_sound.specs.Decisions.{has_values, has_else, answers_both}
-use Rattle.sdl_sound.specs.Longest.{depth_of, end_count, tests_budget, budget, case_budget, pick_budget, depth, choice_depth, effects, choice_effects, joined_by, joined as measure_joined}
+use Rattle.sdl_sound.specs.Longest.{end_count, tests_budget, budget, case_budget, pick_budget, depth, choice_depth, effects, choice_effects, joined_by, joined as measure_joined}
 use Rattle.sdl_meaning.specs.Act.{is_truth}
 use Rattle.sdl_meaning.specs.Outcomes.{Scope, connector_at}
 use Rattle.sdl_meaning.specs.Named.{NamedText, NamedChoice, NamedConnections}
 use Rattle.sdl_meaning.specs.Code.{number_or_zero, code_joins, else_joins, answers_joins, bodies_joins, joined, text_at, ArePlaced}
 use Rattle.sdl_meaning.proofs.Branches.{EachEnd, EachJoin, ChoiceJoin}
-use Rattle.sdl_meaning.proofs.Joining.{HasConnection, has_connection, each_join}
+use Rattle.sdl_meaning.proofs.Joining.{has_connection, each_join}
 use Rattle.turn_code.proofs.Lists.{first_of as contains_first}
 use Rattle.turn_code.proofs.Lists.{within as none_past}
 use Rattle.plain_laws.proofs.Truths.{and_second, and_first}

@@ -1,6 +1,6 @@
 -- Each connection that is placed behind a text is one to which the text comes.
-use Rattle.std.proofs.Common.{◌≡◌, ℕ, zero, suc, ◌+◌, ◌<◌, ◌≤◌, Bool, true, false, cond, ◌||◌, List, [], ◌∷◌, ◌++◌, length, map, Option, Some, None, IsSome, refl, sym, ap, ◌∙◌, subst, arith}
-use Rattle.std.specs.Prelude.{slice_get, get_or, Contains}
+use Rattle.std.proofs.Common.{◌≡◌, ℕ, zero, suc, ◌≤◌, Bool, true, false, cond, ◌||◌, List, [], ◌∷◌, ◌++◌, length, Option, Some, None, IsSome, refl, sym, ap, ◌∙◌, subst, arith}
+use Rattle.std.specs.Prelude.{slice_get, Contains}
 use Rattle.std.specs.List.{list_any, flat_map}
 use Rattle.std.specs.Option.{option_map, option_map_or}
 use Rattle.std.proofs.lemmas.List.Concat.{flat_map-append}
@@ -18,7 +18,7 @@ use Rattle.sdl_meaning.specs.Code.{number_or_zero, code_joins, else_joins, answe
 use Rattle.sdl_sound.proofs.Items.{Each, each_front, each_back, each_append, each_always, each_at as each_at_member}
 use Rattle.sdl_meaning.proofs.Numbers.{number_there}
 use Rattle.std.proofs.lemmas.Option.{slice_get-map as slice_map}
-use Rattle.sdl_meaning.proofs.Joining.{HasConnection, has_connection, contains_map}
+use Rattle.sdl_meaning.proofs.Joining.{has_connection, contains_map}
 use Rattle.sdl_meaning.proofs.Measured.{all_placed, contains_later as later_there}
 use Rattle.sdl_meaning.proofs.Acts.{joined_placed, placed_closed}
 use Rattle.turn_code.proofs.Lists.{within}

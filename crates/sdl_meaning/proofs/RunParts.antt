@@ -1,26 +1,18 @@
 -- Where instructions stand in the code, how a run is over, and what holds of what a part gives.
-use Rattle.std.proofs.Common.{◌≡◌, ℕ, suc, ◌+◌, ◌-◌, ◌<◌, ◌≤◌, true, cond, List, [], ◌∷◌, ◌++◌, length, take, drop, reverse, Some, refl, sym, ap, ◌∙◌, subst, arith, append_assoc, length-append}
+use Rattle.std.proofs.Common.{◌≡◌, ℕ, suc, ◌+◌, ◌<◌, true, cond, List, [], ◌∷◌, ◌++◌, length, take, drop, reverse, Some, refl, sym, ap, ◌∙◌, subst, arith, append_assoc, length-append}
 use Rattle.std.specs.Prelude.{slice_get, nat_le}
 use Rattle.std.proofs.Math.Seq.{get_or-append_seam, take-append_seam, drop-append_seam}
 use Rattle.std.proofs.lemmas.List.{reverse-reverse, length-reverse}
 use Rattle.std.proofs.lemmas.Grind.{reverse_onto}
 use Rattle.std.proofs.lemmas.Bool.Decides.{nat_tests}
-use Rattle.std.specs.List.{sum_by}
-use Rattle.std.proofs.lemmas.List.Sums.{sum_by-cons}
 use Rattle.std.proofs.lemmas.Option.{slice_get-get_or}
-use Rattle.sdl_ast.specs.declared.tree.End.{End}
-use Rattle.sdl_ast.specs.declared.tree.End.TheVariants.{NextState, Stop}
-use Rattle.sdl_ast.specs.Plain.{Tree, Text, falls}
+use Rattle.sdl_ast.specs.Plain.{Tree}
 use Rattle.turn_code.specs.declared.value.Value.{Value}
 use Rattle.turn_code.specs.declared.trouble.Trouble.TheVariants.{Underflow}
 use Rattle.turn_code.specs.declared.instruction.Instruction.{Instruction}
-use Rattle.turn_code.specs.Run as run
-use Rattle.turn_code.specs.Run.{Progress, on_operands, After, stuck, Ran, ended, got_stuck, step, begun}
-use Rattle.sdl_sound.specs.Longest.{Piece, cost_of, assignment_cost, assignments_cost, sending_cost, sendings_cost, action_cost, end_cost, budget, place_cost, places_cost, piece_budget}
-use Rattle.sdl_meaning.specs.Act.{Working, quotient, value_of, values_of, end_with, ran, Act}
-use Rattle.sdl_meaning.specs.Outcomes.{Scope, state_at, Ending, at_end, in_trouble, Outcome, goes_on, over, then_do}
-use Rattle.sdl_meaning.specs.Named.{NamedEnd, NamedText, NamedPiece, AnswersSenders}
-use Rattle.sdl_meaning.specs.Code.{piece_code, put, end_code, text_code}
+use Rattle.turn_code.specs.Run.{Progress, on_operands, After, stuck, Ran, ended, got_stuck}
+use Rattle.sdl_meaning.specs.Act.{value_of, values_of}
+use Rattle.sdl_meaning.specs.Outcomes.{Scope, Ending, at_end, in_trouble, Outcome, goes_on, over, then_do}
 
 -- the instructions stand in the code at this place
 abbrev pub HasAt : List Instruction → ℕ → List Instruction → Type 0

@@ -1,8 +1,6 @@
 -- The run of the instructions of expressions and actions is what they mean.
-use Rattle.std.proofs.Common.{◌≡◌, ℕ, suc, ◌+◌, ◌-◌, ◌≤◌, Bool, true, false, cond, List, [], ◌∷◌, ◌++◌, length, Option, Some, None, IsSome, refl, sym, ap, ◌∙◌, subst, arith, length-append}
+use Rattle.std.proofs.Common.{◌≡◌, ℕ, suc, ◌+◌, Bool, true, false, cond, List, [], ◌∷◌, ◌++◌, length, Option, Some, None, IsSome, refl, sym, ap, ◌∙◌, subst, arith, length-append}
 use Rattle.std.specs.Prelude.{slice_get, slice_set, ℤ, pos, int_lt}
-use Rattle.std.specs.List.{sum_by}
-use Rattle.std.proofs.lemmas.List.Sums.{sum_by-cons}
 use Rattle.sdl_ast.specs.declared.expression.Identifier.{Identifier}
 use Rattle.sdl_ast.specs.declared.expression.UnaryOperator.{UnaryOperator}
 use Rattle.sdl_ast.specs.declared.expression.UnaryOperator.TheVariants.{Negate, Not}
@@ -12,9 +10,7 @@ use Rattle.sdl_ast.specs.declared.tree.Destination.{Destination}
 use Rattle.sdl_ast.specs.declared.tree.Destination.TheVariants as address
 use Rattle.sdl_ast.specs.declared.tree.Party.TheVariants as tree_parties
 use Rattle.sdl_ast.specs.declared.tree.Party as tree_party
-use Rattle.sdl_ast.specs.declared.tree.End.{End}
-use Rattle.sdl_ast.specs.declared.tree.End.TheVariants.{NextState, Stop}
-use Rattle.sdl_ast.specs.Plain.{Tree, number, truth, variable, unary, binary, PlainAssignment, PlainSending, PlainAction, task, output, set_timer, reset_timer, Text, falls, ends, does}
+use Rattle.sdl_ast.specs.Plain.{Tree, number, truth, variable, unary, binary, PlainAssignment, PlainSending, PlainAction, task, output, set_timer, reset_timer}
 use Rattle.turn_code.specs.declared.value.Value.{Value}
 use Rattle.turn_code.specs.declared.value.Value.TheVariants.{Int, Bool as Truth}
 use Rattle.turn_code.specs.declared.input.Input.{Input}
@@ -28,12 +24,12 @@ use Rattle.turn_code.specs.declared.instruction.Instruction.TheVariants as i
 use Rattle.turn_code.specs.Values.{wrap}
 use Rattle.turn_code.specs.Run as run
 use Rattle.turn_code.specs.Run.{Progress, tick, with_variables, with_effect, sending, sent, After, goes, stuck, step, go_on, exec, begun}
-use Rattle.sdl_sound.specs.Longest.{Piece, is_division, cost_of, assignment_cost, assignments_cost, sending_cost, sendings_cost, action_cost, end_cost, budget, place_cost, places_cost, piece_budget}
+use Rattle.sdl_sound.specs.Longest.{is_division}
 use Rattle.sdl_sound.specs.Receivers.{party_of, receivers}
-use Rattle.sdl_meaning.specs.Act.{slot, end_in, read, written, write, Working, reckons, compares, joins, working, is_truth, apply_one, apply_two, divisor_of, quotient, divide, value_of, values_of, is_carried, named, numbered, the_one, if_named, to_sender, receiver_of, assign, put_out, send, send_all, start_timer, stop_timer, perform, end_with, act, pass, take_places, ran, Act}
-use Rattle.sdl_meaning.specs.Outcomes.{Scope, variable_at, state_at, timer_at, signal_at, at_end, in_trouble, Outcome, goes_on, over, then_do}
-use Rattle.sdl_meaning.specs.Named.{NamedTree, NamedTrees, NamedTasks, HasReceiver, NamedSending, NamedSendings, NamedAction, NamedEnd, NamedText, NamedPlaces, NamedPiece, IsSentTo, AnswersTo, AnswersAction, AnswersSenders}
-use Rattle.sdl_meaning.specs.Code.{number_or_zero, piece_code, load, store, next, set_to, reset, put, unary_code, binary_code, division_code, tree_code, trees_code, tasks_code, party_or_environment, receiver_code, sendings_code, action_code, end_code, text_code, places_code}
+use Rattle.sdl_meaning.specs.Act.{slot, end_in, read, written, write, reckons, compares, joins, working, is_truth, apply_one, apply_two, divisor_of, divide, value_of, values_of, is_carried, named, numbered, the_one, if_named, to_sender, receiver_of, assign, put_out, send, send_all, start_timer, stop_timer, perform, pass, take_places}
+use Rattle.sdl_meaning.specs.Outcomes.{Scope, variable_at, timer_at, signal_at, at_end, in_trouble, Outcome, goes_on, over, then_do}
+use Rattle.sdl_meaning.specs.Named.{NamedTree, NamedTrees, NamedTasks, HasReceiver, NamedSending, NamedSendings, NamedAction, NamedPlaces, IsSentTo, AnswersTo, AnswersAction}
+use Rattle.sdl_meaning.specs.Code.{number_or_zero, load, store, next, set_to, reset, put, unary_code, binary_code, division_code, tree_code, trees_code, tasks_code, party_or_environment, receiver_code, sendings_code, action_code, places_code}
 use Rattle.sdl_meaning.proofs.RunParts.{HasAt, has_front, has_back, over_as, pushed, Gives, gives_nothing, values_length, operands_are}
 
 module _ (inp : Input) (code : List Instruction) where

@@ -1,6 +1,6 @@
 -- The walk of a text costs no more than its longest path.
-use Rattle.std.proofs.Common.{◌≡◌, ℕ, zero, suc, ◌+◌, ◌≤◌, max, Bool, true, false, cond, List, [], ◌∷◌, length, map, Option, Some, None, refl, sym, ap, ◌∙◌, subst, arith}
-use Rattle.std.specs.Prelude.{ℤ, slice_get}
+use Rattle.std.proofs.Common.{◌≡◌, ℕ, zero, suc, ◌+◌, ◌≤◌, max, Bool, true, false, cond, List, [], ◌∷◌, length, map, Option, Some, None, refl, sym, ap, ◌∙◌, arith}
+use Rattle.std.specs.Prelude.{ℤ}
 use Rattle.std.specs.List.{position_or_len}
 use Rattle.std.specs.Option.{option_map_or}
 use Rattle.sdl_ast.specs.declared.expression.Identifier.{Identifier}
@@ -18,7 +18,7 @@ use Rattle.sdl_sound.specs.Longest.{Piece, cost_of, action_cost, end_cost, end_c
 use Rattle.sdl_meaning.specs.Act.{is_truth, value_of, perform, end_in, end_with, covers_integer, covers_truth, told, try_ranges, find_truth, leave, decide, act, choose, pick, closed, entered, follow, join_in, take_places}
 use Rattle.sdl_meaning.specs.Outcomes.{Scope, state_at, Outcome, goes_on, over, then_do}
 use Rattle.sdl_meaning.specs.Named.{NamedText, NamedChoice, NamedConnections, NamedPiece}
-use Rattle.sdl_meaning.proofs.Costs.{cost_by, cost_bind, end_in_cost, value_cost, perform_cost, take_cost}
+use Rattle.sdl_meaning.proofs.Costs.{cost_by, cost_bind, value_cost, perform_cost, take_cost}
 use Rattle.sdl_meaning.proofs.Choices.{IsOver}
 use Rattle.sdl_meaning.proofs.Branches.{integer_answered}
 use Rattle.sdl_meaning.proofs.Follows.{follow_over}

@@ -16,7 +16,6 @@ use Rattle.sdl_ast.specs.declared.tree.End.{End}
 use Rattle.sdl_ast.specs.declared.tree.End.TheVariants.{NextState, Stop, Join}
 use Rattle.sdl_ast.specs.declared.tree.Literal as literal
 use Rattle.sdl_ast.specs.declared.tree.Literal.TheVariants as literals
-use Rattle.sdl_ast.specs.declared.tree.Constant.{Constant}
 use Rattle.sdl_ast.specs.declared.tree.Relation as tree_relation
 use Rattle.sdl_ast.specs.declared.tree.Relation.TheVariants as signs
 use Rattle.sdl_ast.specs.declared.tree.Range.{Range}

@@ -1,13 +1,9 @@
 -- Where a transition stands, how a walk is over, what a part of a transition does, and its names (Z.100, transitions).
-use Rattle.std.specs.Prelude.{ℕ, if◌then◌else◌, Option}
+use Rattle.std.specs.Prelude.{ℕ, Option}
 use Rattle.sdl_ast.specs.declared.expression.Identifier.{Identifier}
-use Rattle.sdl_ast.specs.declared.tree.Sort.TheVariants.{Boolean}
-use Rattle.sdl_ast.specs.declared.tree.End.{End}
-use Rattle.sdl_ast.specs.declared.tree.Constant.{Constant}
-use Rattle.sdl_ast.specs.Plain.{number, truth, variable, does, PlainProcess, PlainBlock}
+use Rattle.sdl_ast.specs.Plain.{PlainProcess, PlainBlock}
 use Rattle.turn_code.specs.declared.machine.End as code_end
 use Rattle.turn_code.specs.declared.trouble.Trouble.{Trouble}
-use Rattle.turn_code.specs.Values.{holds}
 use Rattle.turn_code.specs.Run.{Progress}
 use Rattle.sdl_tables.specs.Names.{number_of, variable_names, states_of, timers_of, connector_names, signal_names}
 

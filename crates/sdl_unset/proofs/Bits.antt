@@ -1,11 +1,9 @@
 -- Bits of variables, and what transitions do one after another.
-use Rattle.std.proofs.Common.{◌≡◌, ◌≢◌, ℕ, zero, suc, ◌+◌, ◌-◌, ◌*◌, ◌%◌, ◌^◌, ◌<◌, ◌≤◌, min, max, Bool, true, false, not, ◌&&◌, ◌||◌, if◌then◌else◌, eqb, List, [], ◌∷◌, ◌++◌, length, cond, None, Some, get_or, refl, sym, ap, ◌∙◌, subst, arith, inl, inr, position}
+use Rattle.std.proofs.Common.{◌≡◌, ◌≢◌, ℕ, zero, suc, ◌-◌, ◌*◌, ◌%◌, ◌^◌, ◌<◌, ◌≤◌, Bool, true, false, not, ◌&&◌, ◌||◌, if◌then◌else◌, eqb, List, [], ◌∷◌, ◌++◌, None, Some, get_or, refl, sym, ap, ◌∙◌, subst, arith, inl, inr}
 use Rattle.std.specs.Prelude.{slice_get}
-use Rattle.std.specs.List.{position_or_len}
 use Rattle.std.specs.Int.{bit_at, bit_not, w32}
 use Rattle.std.proofs.lemmas.Nat.Bits.{bit_at_and, bit_at_or, bit_at_not, bit_at-lt, bit_at-zero, bit_at_ones, bit_at-pow_same, bit_at-pow_other}
-use Rattle.std.proofs.lemmas.Bool.{cases_eq, cases_Bool, or_parts, lt-ltb}
-use Rattle.std.proofs.lemmas.List.Folds.{list_any-append}
+use Rattle.std.proofs.lemmas.Bool.{cases_eq, cases_Bool}
 use Rattle.std.proofs.lemmas.List.{map-append}
 use Rattle.std.proofs.lemmas.List.Quantifiers.{position-Some}
 use Rattle.std.proofs.Math.Bool.{or-false, and-false as and_false}
@@ -24,10 +22,10 @@ use Rattle.sdl_sound.specs.Paths.{Event, reads, sets, tree_events, reads_first, 
 use Rattle.sdl_unset.specs.Flows.{Tells, Does}
 use Rattle.sdl_unset.specs.declared.firsts.Firsts.{Firsts}
 use Rattle.sdl_unset.specs.declared.flow.Flow.{Flow}
-use Rattle.sdl_sound.proofs.Numbered.{same_folded, folded_same, nowhere, same_back as same_name-sym, same_trans as same_name-trans, later_differs}
+use Rattle.sdl_sound.proofs.Numbered.{nowhere, same_back as same_name-sym, same_trans as same_name-trans, later_differs}
 use Rattle.sdl_sound.proofs.Walks.{reads_first-append, sets_in-append}
 use Rattle.plain_laws.proofs.Numbers.{most_is_one, least_is_one}
-use Rattle.plain_laws.proofs.Lists.{append-nil_left, append-nil_right}
+use Rattle.plain_laws.proofs.Lists.{append-nil_right}
 
 -- ---- bits
 

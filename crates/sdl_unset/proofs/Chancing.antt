@@ -1,5 +1,5 @@
 -- What the walks of a text may do with a variable: as Booleans, and as walks.
-use Rattle.std.proofs.Common.{◌≡◌, ℕ, zero, suc, ◌+◌, ◌<◌, ◌≤◌, true, false, not, ◌&&◌, List, [], ◌∷◌, ◌++◌, length, Option, Some, refl, sym, ap, ◌∙◌, subst, arith, inl, inr, ◌⊎◌}
+use Rattle.std.proofs.Common.{◌≡◌, ℕ, zero, suc, ◌+◌, ◌<◌, ◌≤◌, true, false, not, ◌&&◌, List, [], ◌++◌, length, Option, Some, refl, sym, ap, ◌∙◌, subst, arith, inl, inr}
 use Rattle.std.specs.Prelude.{⊤}
 use Rattle.std.specs.Option.{option_map_or}
 use Rattle.std.proofs.lemmas.Bool.{not-true, and_parts as and_true, and_from as both_true, or_cases as or_true, or_left as true_or}
@@ -8,8 +8,8 @@ use Rattle.sdl_ast.specs.declared.expression.Identifier.{Identifier}
 use Rattle.sdl_ast.specs.declared.tree.End.{End}
 use Rattle.sdl_ast.specs.declared.tree.End.TheVariants.{NextState, Stop, Join}
 use Rattle.sdl_ast.specs.Plain.{Text, falls, ends, does, decides, Choice, nothing_else, otherwise, answer, PlainConnection, PlainProcess}
-use Rattle.sdl_tables.specs.Names.{same_name, is_state, connection_named, states_of}
-use Rattle.sdl_sound.specs.Paths.{Event, reads as reading, sets as setting, tree_events, action_events, reads_first, sets_in, Way, onward, stops, enters as into, GoesOn, Walks, IsChosen, last_way, Follows}
+use Rattle.sdl_tables.specs.Names.{is_state, connection_named, states_of}
+use Rattle.sdl_sound.specs.Paths.{Event, tree_events, action_events, reads_first, sets_in, Way, onward, stops, enters as into, GoesOn, Walks, IsChosen, last_way, Follows}
 use Rattle.sdl_sound.specs.Chances.{Chances, no_chances, event_chances, behind, beside, last_chances, chances, choice_chances, chances_by, text_chances}
 use Rattle.sdl_sound.proofs.Walks.{reads_first-append, sets_in-append, reads-later}
 use Rattle.sdl_unset.proofs.WalkChances.{walk_chances, IsPart, walk-at, CountsWalks, walks-part}

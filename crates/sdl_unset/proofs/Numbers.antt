@@ -1,9 +1,8 @@
 -- From paths by names to paths by numbers.
-use Rattle.std.proofs.Common.{◌≡◌, ℕ, zero, suc, ◌<◌, true, false, List, [], ◌∷◌, ◌++◌, length, Option, None, Some, refl, sym, ap, ◌∙◌, subst, arith, if◌then◌else◌, true≢false, inl, inr}
+use Rattle.std.proofs.Common.{◌≡◌, ℕ, zero, suc, ◌<◌, true, false, List, [], ◌∷◌, ◌++◌, length, Option, None, Some, refl, sym, ap, ◌∙◌, subst, arith, true≢false, inl, inr}
 use Rattle.std.specs.Prelude.{slice_get, Contains}
-use Rattle.std.specs.List.{AllZip, list_any, flat_map}
+use Rattle.std.specs.List.{AllZip, flat_map}
 use Rattle.std.specs.Option.{option_map_or}
-use Rattle.std.proofs.lemmas.Option.{slice_get-get_or}
 use Rattle.sdl_lex.specs.Spelling.{folded}
 use Rattle.unset_paths.specs.declared.Summary.{Summary}
 use Rattle.unset_paths.specs.declared.Graph.{Graph}
@@ -15,11 +14,11 @@ use Rattle.sdl_ast.specs.Plain.{Tree, Text, falls, ends, does, decides, Choice, 
 use Rattle.sdl_ast.specs.declared.tree.End.TheVariants.{NextState, Stop, Join}
 use Rattle.sdl_ast.specs.declared.expression.Identifier.{Identifier}
 use Rattle.sdl_tables.specs.Names.{same_name, is_in, number_of, variable_names, variables_of, states_of, Input, inputs_of, input_parts}
-use Rattle.sdl_sound.specs.Names.{unknown, statement_unknown, place_names, input_unknown, saves_unknown, process_unknown}
+use Rattle.sdl_sound.specs.Names.{statement_unknown, place_names, input_unknown, saves_unknown, process_unknown}
 use Rattle.sdl_sound.specs.Statements.{Statement, statements_of, choice_statements}
 use Rattle.sdl_sound.specs.Actions.{in_statements}
 use Rattle.sdl_sound.specs.Laws.{IsTextOf}
-use Rattle.sdl_sound.specs.Paths.{Event, reads, tree_events, action_events, Way, onward, stops, enters as into, GoesOn, Walks, IsChosen, Follows, IsWalk, Transition, Place, start_transition, input_transition, reads_first, sets_in, inputs_in, ReadsFrom, ReadsUnset, NeverReadsUnset}
+use Rattle.sdl_sound.specs.Paths.{Event, tree_events, action_events, Way, onward, stops, enters as into, GoesOn, Walks, IsChosen, Follows, IsWalk, Transition, Place, start_transition, input_transition, reads_first, sets_in, inputs_in, ReadsFrom, ReadsUnset, NeverReadsUnset}
 use Rattle.sdl_unset.specs.Graphs.{IsSummaryOf, IsGraphOf}
 use Rattle.sdl_sound.specs.declared.fault.Step.{Step}
 use Rattle.sdl_sound.specs.declared.fault.Step.TheVariants.{Start, Input as Takes}

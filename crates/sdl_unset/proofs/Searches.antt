@@ -1,7 +1,6 @@
 -- Steps of the searches.
 use Rattle.std.proofs.Common.{◌≡◌, ℕ, zero, suc, ◌+◌, ◌<◌, ◌≤◌, Bool, true, false, List, [], ◌∷◌, ◌++◌, map, length, take, Option, None, Some, find, cond, refl, sym, ap, ◌∙◌, subst, arith, get_or, inl, inr, ◌⊎◌, ◌≢◌, ◌*◌, ◌%◌, ◌^◌, if◌then◌else◌, length-take-le}
 use Rattle.std.specs.Prelude.{slice_get, IfSome, IfNone}
-use Rattle.std.specs.List.{AllZip}
 use Rattle.std.specs.Option.{option_map, option_map_or}
 use Rattle.std.specs.Int.{bit_at, w32}
 use Rattle.std.specs.Int.RustNames.{bit_or}
@@ -25,7 +24,6 @@ use Rattle.sdl_tables.specs.Rows.{row_input, rows_inputs}
 use Rattle.sdl_unset.specs.Fates.{is_set_in, set_bit, IsFate, AreSet, IsUnsetAt, fate_path, HasFirst, IsNamed, declared_name, IsSpelled}
 use Rattle.sdl_tables.specs.declared.process_table.InputRow.{InputRow}
 use Rattle.sdl_sound.specs.declared.fault.Step.TheVariants.{Input as Takes}
-use Rattle.sdl_sound.proofs.Numbered.{same_folded, folded_same}
 use Rattle.sdl_unset.proofs.PathNames.{inputs_back}
 use Rattle.sdl_unset.proofs.Settling.{numbered_length}
 

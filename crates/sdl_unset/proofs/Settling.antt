@@ -1,7 +1,7 @@
 -- From the fates of the variables to the sets of the states.
-use Rattle.std.proofs.Common.{◌≡◌, ℕ, zero, suc, ◌+◌, ◌<◌, Bool, true, false, not, List, [], ◌∷◌, map, length, Option, None, Some, ◌++◌, refl, sym, ap, ◌∙◌, subst, arith, get_or, if◌then◌else◌, true≢false, inl, inr, ◌⊎◌}
+use Rattle.std.proofs.Common.{◌≡◌, ℕ, suc, ◌+◌, ◌<◌, Bool, true, false, not, List, [], ◌∷◌, map, length, Option, None, Some, ◌++◌, refl, sym, ap, ◌∙◌, subst, arith, get_or, if◌then◌else◌, true≢false, inl, inr, ◌⊎◌}
 use Rattle.std.specs.Prelude.{slice_get, All}
-use Rattle.std.specs.List.{AllZip, enumerate_from}
+use Rattle.std.specs.List.{enumerate_from}
 use Rattle.std.specs.Option.{option_map_or}
 use Rattle.std.specs.Int.{bit_at}
 use Rattle.std.specs.Global.{Vec}

@@ -1,5 +1,5 @@
 -- The names of a path are spelled as they are declared.
-use Rattle.std.proofs.Common.{◌≡◌, ℕ, Bool, true, false, ◌||◌, if◌then◌else◌, List, [], ◌∷◌, ◌++◌, map, Option, None, Some, find, refl, sym, ap, ◌∙◌, subst, true≢false}
+use Rattle.std.proofs.Common.{◌≡◌, ℕ, Bool, true, false, ◌||◌, if◌then◌else◌, List, [], ◌∷◌, ◌++◌, map, Option, None, Some, refl, sym, ap, ◌∙◌, subst, true≢false}
 use Rattle.std.specs.Prelude.{slice_get, Contains, All}
 use Rattle.std.specs.List.{AllZip, flat_map, position_or_len}
 use Rattle.std.specs.Option.{option_map, option_map_or, option_and_then}
@@ -16,7 +16,6 @@ use Rattle.sdl_sound.specs.Names.{unknown, trigger_names, place_names, stimulus_
 use Rattle.sdl_unset.specs.Fates.{IsNamed, declared_name, IsSpelled}
 use Rattle.sdl_sound.specs.Spellings.{IsSpelling, IsDeclaredStep}
 use Rattle.sdl_sound.specs.declared.fault.Step.{Step}
-use Rattle.sdl_sound.specs.declared.fault.Step.TheVariants.{Start, Input as Takes}
 use Rattle.sdl_sound.proofs.Items.{Each, each_map, each_with, each_nil, each_unfound, each_at}
 use Rattle.sdl_unset.proofs.Ranks.{inputs_by}
 use Rattle.sdl_sound.proofs.Numbered.{folded_same, number_names}

@@ -1,5 +1,5 @@
 -- What is known of all processes, one after another.
-use Rattle.std.proofs.Common.{◌≡◌, ℕ, zero, suc, ◌+◌, ◌<◌, ◌≤◌, Bool, true, false, nat_lt, ◌||◌, cond, List, [], ◌∷◌, ◌++◌, map, length, take, Option, None, Some, find, refl, sym, ap, ◌∙◌, subst, arith, get_or, true≢false, inl, inr, ◌⊎◌}
+use Rattle.std.proofs.Common.{◌≡◌, ℕ, zero, suc, ◌+◌, ◌<◌, ◌≤◌, Bool, true, false, nat_lt, cond, List, [], ◌∷◌, ◌++◌, map, length, take, Option, None, Some, find, refl, sym, ap, ◌∙◌, subst, arith, get_or, inl, inr, ◌⊎◌}
 use Rattle.std.specs.Prelude.{slice_get, Contains, All, IfSome}
 use Rattle.std.specs.List.{AllZip, flat_map, list_any}
 use Rattle.std.specs.Global.{Vec}

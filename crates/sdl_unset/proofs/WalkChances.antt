@@ -1,12 +1,12 @@
 -- What one walk of a text does with a variable is among what may happen in the text.
-use Rattle.std.proofs.Common.{◌≡◌, ℕ, ◌+◌, Bool, true, false, not, ◌&&◌, ◌||◌, List, [], ◌∷◌, ◌++◌, refl, sym, ap, ◌∙◌, subst, inl, inr, ◌⊎◌}
+use Rattle.std.proofs.Common.{◌≡◌, ℕ, Bool, true, false, not, ◌&&◌, ◌||◌, List, [], ◌++◌, refl, sym, ap, ◌∙◌, subst, inl, inr}
 use Rattle.std.proofs.lemmas.Bool.{and_parts as and_true, and_from as both_true, or_cases as or_true, or_left as true_or, or_right as or_else}
 use Rattle.std.proofs.lemmas.List.{append-nil}
 use Rattle.sdl_ast.specs.declared.expression.Identifier.{Identifier}
 use Rattle.sdl_ast.specs.declared.tree.End.TheVariants.{NextState, Stop, Join}
 use Rattle.sdl_ast.specs.Plain.{Text, falls, ends, does, decides, Choice, nothing_else, otherwise, answer}
-use Rattle.sdl_tables.specs.Names.{same_name, is_state}
-use Rattle.sdl_sound.specs.Paths.{Event, reads as reading, sets as setting, tree_events, action_events, reads_first, sets_in, Way, onward, stops, enters as into, GoesOn, Walks, IsChosen}
+use Rattle.sdl_tables.specs.Names.{is_state}
+use Rattle.sdl_sound.specs.Paths.{Event, tree_events, action_events, reads_first, sets_in, Way, onward, stops, enters as into, GoesOn, Walks, IsChosen}
 use Rattle.sdl_sound.specs.Chances.{Chances, no_chances, leaving, event_chances, behind, beside, end_chances, chances, choice_chances}
 use Rattle.sdl_sound.proofs.Walks.{reads_first-append, sets_in-append}
 

@@ -1,5 +1,5 @@
 -- What becomes of the variables of a process, and how a path by numbers is named.
-use Rattle.std.specs.Prelude.{◌≡◌, ℕ, ◌<◌, ◌≤◌, Bool, true, false, not, List, [], Option, Some, length, slice_get, if◌then◌else◌, ⊤}
+use Rattle.std.specs.Prelude.{◌≡◌, ℕ, ◌<◌, Bool, true, false, not, List, [], Option, Some, length, slice_get, if◌then◌else◌, ⊤}
 use Rattle.std.specs.Option.{option_map_or, option_and_then}
 use Rattle.std.specs.Global.{Vec}
 use Rattle.unset_paths.specs.declared.Graph.{Graph}

@@ -1,8 +1,8 @@
-use Rattle.std.proofs.Common.{◌≡◌, true, List, ℕ, Option, None, Some, refl, sym, ap, ◌∙◌}
+use Rattle.std.proofs.Common.{◌≡◌, List, Option, None, Some, refl, sym, ap, ◌∙◌}
 use Rattle.std.specs.Prelude.{slice_get}
 use Rattle.std.specs.Option.{option_map_or, option_and_then}
 use Rattle.sdl_ast.specs.declared.expression.Identifier.{Identifier}
-use Rattle.sdl_tables.specs.Names.{same_name, number_of}
+use Rattle.sdl_tables.specs.Names.{number_of}
 use Rattle.sdl_ast.specs.Views.{process_of}
 use Rattle.sdl_unset.specs.Fates.{timer_named}
 use Rattle.sdl_sound.proofs.Numbered.{folded_same}
