@@ -4,7 +4,7 @@ use Rattle.std.proofs.lemmas.List.{drop_all}
 use Rattle.sdl_ast.specs.declared.tree.Join.{Join}
 use Rattle.sdl_ast.specs.declared.tree.Transition.{Transition}
 use Rattle.sdl_ast.specs.declared.tree.Statement.{Statement}
-use Rattle.sdl_ast.specs.declared.tree.Statement.TheVariants.{Act, Decide}
+use Rattle.sdl_ast.specs.declared.tree.Statement.TheVariants.{Decide}
 use Rattle.sdl_ast.specs.declared.tree.Answer.{Answer}
 use Rattle.sdl_ast.specs.declared.tree.Decision.{Decision, out-Decision}
 use Rattle.sdl_ast.specs.Plain.{Text, Choice, nothing_else, otherwise, answer, PlainAnswer, all_answers}

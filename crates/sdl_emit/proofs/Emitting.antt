@@ -1,5 +1,5 @@
 -- How the code of a text is put together, statement by statement and body by body.
-use Rattle.std.proofs.Common.{◌≡◌, ℕ, zero, suc, ◌+◌, ◌<◌, ◌≤◌, Bool, true, false, cond, List, [], ◌∷◌, ◌++◌, length, drop, map, Option, Some, None, refl, sym, ap, ◌∙◌, subst, arith, append_assoc, append-nil, length-append}
+use Rattle.std.proofs.Common.{◌≡◌, ℕ, ◌+◌, ◌<◌, ◌≤◌, Bool, true, false, cond, List, [], ◌∷◌, ◌++◌, length, drop, map, Option, Some, None, refl, sym, ap, ◌∙◌, subst, arith, append_assoc, append-nil, length-append}
 use Rattle.std.specs.Prelude.{get_or, slice_get}
 use Rattle.std.specs.List.{sum_by}
 use Rattle.std.specs.Option.{option_map, option_map_or}
@@ -10,8 +10,8 @@ use Rattle.sdl_ast.specs.declared.tree.Answer.{Answer}
 use Rattle.sdl_ast.specs.declared.tree.Statement.{Statement}
 use Rattle.sdl_ast.specs.declared.tree.Transition.{Transition}
 use Rattle.sdl_ast.specs.declared.tree.Connection.{Connection}
-use Rattle.sdl_ast.specs.Plain.{Tree, Text, falls, ends, does, decides, Choice, nothing_else, otherwise, answer, PlainStatement, act, decide, before, PlainAnswer, all_answers, PlainConnection}
-use Rattle.sdl_ast.specs.Views.{text_of, plain_statement, plain_answer, statement_of, statements_before, answers_before, else_choice, connection_of}
+use Rattle.sdl_ast.specs.Plain.{Tree, Text, falls, decides, Choice, nothing_else, otherwise, answer, PlainStatement, act, decide, before, PlainAnswer, all_answers, PlainConnection}
+use Rattle.sdl_ast.specs.Views.{plain_statement, plain_answer, statement_of, statements_before, answers_before, else_choice, connection_of}
 use Rattle.turn_code.specs.declared.instruction.Instruction.{Instruction}
 use Rattle.sdl_tables.specs.Names.{Variable, variables_of}
 use Rattle.sdl_sound.specs.Longest.{Piece, cost_of, action_cost, size, tests_size, bodies_size}
@@ -19,9 +19,8 @@ use Rattle.sdl_meaning.specs.Act.{is_truth}
 use Rattle.sdl_meaning.specs.Outcomes.{Scope}
 use Rattle.sdl_meaning.specs.Named.{NamedText, NamedChoice, NamedConnections}
 use Rattle.sdl_meaning.specs.Code.{tree_code, action_code, leave_code, body_size, else_size, answers_size, tests_code, pick_code, bodies_place, else_place, answers_place, after_choice, text_code, else_code, answers_code, bodies_code, truth_code, integer_code, text_at, size_at, places_code, place_in, connections_code, text_place, connections_place, piece_code}
-use Rattle.sdl_meaning.proofs.Sizes.{places_size, tree_size, action_size, leave_size, tests_are, text_size_is, bodies_size_is, answers_size_is, else_size_is}
+use Rattle.sdl_meaning.proofs.Sizes.{places_size, tree_size, leave_size, tests_are, text_size_is, answers_size_is, else_size_is}
 use Rattle.std.proofs.lemmas.Option.{slice_get-map as slice_map}
-use Rattle.sdl_ast.proofs.Views.{answer_of-is}
 
 -- ---- one more item of a list
 

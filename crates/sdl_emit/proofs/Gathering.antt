@@ -1,18 +1,18 @@
 -- Which connections stand behind a text: each that it joins or one of them does, once.
-use Rattle.std.proofs.Common.{◌≡◌, ℕ, zero, suc, ◌+◌, ◌-◌, ◌<◌, ◌≤◌, ◌⊎◌, inl, inr, ⊎_elim, Bool, true, false, cond, List, [], ◌∷◌, ◌++◌, length, map, take, Option, Some, None, IsSome, refl, sym, ap, ◌∙◌, subst, arith, append_assoc, append-nil, length-append}
+use Rattle.std.proofs.Common.{◌≡◌, ℕ, zero, suc, ◌+◌, ◌<◌, ◌≤◌, ◌⊎◌, inl, inr, ⊎_elim, Bool, true, false, cond, List, [], ◌∷◌, ◌++◌, length, take, Some, IsSome, refl, sym, ap, ◌∙◌, subst, arith, append_assoc, append-nil, length-append}
 use Rattle.std.specs.Prelude.{slice_get, get_or, fold, Contains}
-use Rattle.std.specs.List.{list_any, flat_map}
+use Rattle.std.specs.List.{flat_map}
 use Rattle.std.specs.Option.{option_map_or, option_map}
 use Rattle.std.proofs.lemmas.List.{length-map}
 use Rattle.std.proofs.lemmas.List.Concat.{flat_map-append}
 use Rattle.std.proofs.lemmas.List.{get_or_default}
 use Rattle.std.proofs.lemmas.List.Elements.{Contains-append_left, Contains-append_right, Contains-append_cases}
-use Rattle.std.proofs.lemmas.Option.{slice_get-get_or, get_or_from_slice_get}
+use Rattle.std.proofs.lemmas.Option.{slice_get-get_or}
 use Rattle.sdl_ast.specs.declared.tree.Join.{Join}
 use Rattle.sdl_ast.specs.declared.tree.Connection.{Connection}
 use Rattle.sdl_ast.specs.declared.tree.Process.{Process}
 use Rattle.sdl_ast.specs.Plain.{Text, falls, PlainConnection}
-use Rattle.sdl_ast.specs.Views.{text_of, connection_of, process_of}
+use Rattle.sdl_ast.specs.Views.{connection_of, process_of}
 use Rattle.sdl_meaning.specs.Outcomes.{Scope, connector_at}
 use Rattle.sdl_meaning.specs.Named.{NamedText, NamedConnections}
 use Rattle.sdl_emit.specs.Placing.{HaveNumbers}

@@ -1,5 +1,5 @@
 -- The code of a DECISION once its jumps are led to what follows it, and its choice or its tests stand in the places kept for them.
-use Rattle.std.proofs.Common.{◌≡◌, ℕ, zero, suc, ◌+◌, ◌<◌, ◌≤◌, Bool, true, false, cond, ◌&&◌, ◌||◌, List, [], ◌∷◌, ◌++◌, length, map, drop, replicate, Option, refl, sym, ap, ◌∙◌, arith, append_assoc, append-nil, length-append}
+use Rattle.std.proofs.Common.{◌≡◌, ℕ, zero, suc, ◌+◌, ◌<◌, ◌≤◌, Bool, true, false, cond, ◌&&◌, ◌||◌, List, [], ◌∷◌, ◌++◌, length, map, replicate, Option, refl, sym, ap, ◌∙◌, arith, append_assoc, append-nil, length-append}
 use Rattle.std.specs.Prelude.{slice_set}
 use Rattle.std.specs.List.{list_any}
 use Rattle.std.proofs.lemmas.List.{length-replicate}
@@ -12,12 +12,11 @@ use Rattle.sdl_ast.specs.Views.{plain_answer, statement_of, answers_before, else
 use Rattle.turn_code.specs.declared.numbers.CodePlace.{CodePlace}
 use Rattle.turn_code.specs.declared.instruction.Instruction.{Instruction}
 use Rattle.turn_code.specs.declared.instruction.Instruction.TheVariants as i
-use Rattle.sdl_tables.specs.Names.{variables_of}
 use Rattle.sdl_sound.specs.Going.{goes_on, choice_goes_on}
-use Rattle.sdl_sound.specs.Longest.{size, tests_size, bodies_size}
+use Rattle.sdl_sound.specs.Longest.{tests_size}
 use Rattle.sdl_meaning.specs.Outcomes.{Scope}
-use Rattle.sdl_meaning.specs.Code.{jump, leave_code, body_size, else_size, answers_size, names_truth, picked, pick_code, ranges_code, tests_code, bodies_place, answers_place, else_place, after_choice, text_code, else_code, answers_code, truth_code, integer_code}
-use Rattle.sdl_landing.specs.Landing.{code_place, starts_from, leave_place, answers_leave, else_leave, landed, filled, first_or, behind_first, has_any, picked_by, tests_by}
+use Rattle.sdl_meaning.specs.Code.{jump, leave_code, body_size, else_size, answers_size, names_truth, picked, ranges_code, tests_code, bodies_place, answers_place, after_choice, text_code, else_code, answers_code, truth_code, integer_code}
+use Rattle.sdl_landing.specs.Landing.{code_place, starts_from, leave_place, answers_leave, else_leave, landed, filled, has_any, picked_by, tests_by}
 use Rattle.sdl_meaning.proofs.Sizes.{leave_size, tests_are, text_size_is, else_size_is}
 use Rattle.sdl_emit.proofs.Emitting.{bodies_size_parts, answers_length, body_length, truth_whole, integer_whole}
 use Rattle.std.proofs.Math.Bool.{or-false as or_false, and_assoc as and_three}

@@ -94,7 +94,7 @@ impl Production for SignalDeclaration {
 
     ghost never_longer = { signal_keeps };
 
-    #[tactic(auto, unfolding(sdl_productions::specs::Productions::signal_at))]
+    #[tactic(auto, unfolding(sdl_productions::specs::DeclarationProductions::signal_at))]
     fn read<'a>(
         alloc: Global,
         tokens: &'a [Token],
@@ -106,7 +106,7 @@ impl Production for SignalDeclaration {
 }
 
 /// Reads `SIGNAL signal {, signal} ;`.
-#[tactic(auto, unfolding(sdl_productions::specs::Productions::signals_at))]
+#[tactic(auto, unfolding(sdl_productions::specs::DeclarationProductions::signals_at))]
 pub(crate) fn read_signals<'a>(
     alloc: Global,
     tokens: &'a [Token],
@@ -120,7 +120,7 @@ pub(crate) fn read_signals<'a>(
 }
 
 /// Reads `FROM (name | ENV) TO (name | ENV) WITH name {, name} ;`.
-#[tactic(auto, unfolding(sdl_productions::specs::Productions::path_at))]
+#[tactic(auto, unfolding(sdl_productions::specs::DeclarationProductions::path_at))]
 fn read_path<'a>(alloc: Global, tokens: &'a [Token]) -> Result<(Path, &'a [Token]), Stop<'a>>
     ensures { Mirrors path_of result (path_at tokens.now) }
 {
@@ -162,7 +162,7 @@ fn paths_of<'a>(alloc: Global, first: Path, second: Option<Path>) -> Result<Vec<
 }
 
 /// Reads `SIGNALROUTE name path [path]`.
-#[tactic(auto, unfolding(sdl_productions::specs::Productions::route_at))]
+#[tactic(auto, unfolding(sdl_productions::specs::DeclarationProductions::route_at))]
 pub(crate) fn read_route<'a>(
     alloc: Global,
     tokens: &'a [Token],
@@ -178,7 +178,7 @@ pub(crate) fn read_route<'a>(
 }
 
 /// Reads `CONNECT name {, name} AND name {, name} ;`.
-#[tactic(auto, unfolding(sdl_productions::specs::Productions::connect_at))]
+#[tactic(auto, unfolding(sdl_productions::specs::DeclarationProductions::connect_at))]
 pub(crate) fn read_connect<'a>(
     alloc: Global,
     tokens: &'a [Token],
@@ -194,7 +194,7 @@ pub(crate) fn read_connect<'a>(
 }
 
 /// Reads `- number`.
-#[tactic(auto, unfolding(sdl_productions::specs::Productions::negative_at))]
+#[tactic(auto, unfolding(sdl_productions::specs::DeclarationProductions::negative_at))]
 fn read_negative<'a>(tokens: &'a [Token]) -> Result<(Constant, &'a [Token]), Stop<'a>>
     ensures { Mirrors same result (negative_at tokens.now) }
 {
@@ -205,7 +205,7 @@ fn read_negative<'a>(tokens: &'a [Token]) -> Result<(Constant, &'a [Token]), Sto
 }
 
 /// Reads `[ - ] number`, TRUE or FALSE.
-#[tactic(auto, unfolding(sdl_productions::specs::Productions::constant_at))]
+#[tactic(auto, unfolding(sdl_productions::specs::DeclarationProductions::constant_at))]
 pub(crate) fn read_constant<'a>(tokens: &'a [Token]) -> Result<(Constant, &'a [Token]), Stop<'a>>
     ensures { Mirrors same result (constant_at tokens.now) }
 {
@@ -216,7 +216,7 @@ pub(crate) fn read_constant<'a>(tokens: &'a [Token]) -> Result<(Constant, &'a [T
 }
 
 /// Reads `:= constant`.
-#[tactic(auto, unfolding(sdl_productions::specs::Productions::initial_at))]
+#[tactic(auto, unfolding(sdl_productions::specs::DeclarationProductions::initial_at))]
 fn read_initial<'a>(tokens: &'a [Token]) -> Result<(Constant, &'a [Token]), Stop<'a>>
     ensures { Mirrors same result (initial_at tokens.now) }
 {
@@ -246,7 +246,7 @@ impl Production for Group {
 
     ghost never_longer = { group_keeps };
 
-    #[tactic(auto, unfolding(sdl_productions::specs::Productions::group_at))]
+    #[tactic(auto, unfolding(sdl_productions::specs::DeclarationProductions::group_at))]
     fn read<'a>(alloc: Global, tokens: &'a [Token]) -> Result<(Group, &'a [Token]), Stop<'a>> {
         let (names, rest) = attempt!(read_separated::<Identifier>(alloc, tokens));
         let (sort, rest) = attempt!(take(rest, AnySort));
@@ -263,7 +263,7 @@ impl Production for Group {
 }
 
 /// Reads `DCL group {, group} ;`.
-#[tactic(auto, unfolding(sdl_productions::specs::Productions::variables_at))]
+#[tactic(auto, unfolding(sdl_productions::specs::DeclarationProductions::variables_at))]
 fn read_variables<'a>(
     alloc: Global,
     tokens: &'a [Token],
@@ -277,7 +277,7 @@ fn read_variables<'a>(
 }
 
 /// Reads `TIMER name {, name} ;`.
-#[tactic(auto, unfolding(sdl_productions::specs::Productions::timers_at))]
+#[tactic(auto, unfolding(sdl_productions::specs::DeclarationProductions::timers_at))]
 fn read_timers<'a>(
     alloc: Global,
     tokens: &'a [Token],
@@ -299,7 +299,7 @@ impl Production for Declaration {
 
     ghost never_longer = { declaration_keeps };
 
-    #[tactic(auto, unfolding(sdl_productions::specs::Productions::declaration_at))]
+    #[tactic(auto, unfolding(sdl_productions::specs::DeclarationProductions::declaration_at))]
     fn read<'a>(
         alloc: Global,
         tokens: &'a [Token],

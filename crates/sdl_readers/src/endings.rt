@@ -13,7 +13,7 @@ use sdl_lex::{Name, Symbol, Token, Word};
 use sdl_tokens::{AnyName, AnyQuoted, Closing, Stop, stands_next, take};
 
 /// Reads `COMMENT quoted`.
-#[tactic(auto, unfolding(sdl_productions::specs::Productions::comment_at))]
+#[tactic(auto, unfolding(sdl_productions::specs::DeclarationProductions::comment_at))]
 fn read_comment<'a>(tokens: &'a [Token]) -> Result<(u32, &'a [Token]), Stop<'a>>
     ensures { Mirrors same result (comment_at tokens.now) }
 {
@@ -33,7 +33,7 @@ fn read_optional_comment<'a>(tokens: &'a [Token]) -> Result<(Option<u32>, &'a [T
 }
 
 /// Reads `[ COMMENT quoted ] ;`.
-#[tactic(auto, unfolding(sdl_productions::specs::Productions::terminator_at))]
+#[tactic(auto, unfolding(sdl_productions::specs::DeclarationProductions::terminator_at))]
 pub(crate) fn terminator<'a>(tokens: &'a [Token]) -> Result<(u32, &'a [Token]), Stop<'a>>
     ensures { Mirrors same result (terminator_at tokens.now) }
 {

@@ -1,4 +1,4 @@
-use Rattle.std.proofs.Common.{◌≡◌, ◌∙◌, ◌++◌, ap}
+use Rattle.std.proofs.Common.{◌∙◌, ◌++◌, ap}
 use Rattle.sdl_ast.specs.Views.{text_of}
 use Rattle.sdl_names.specs.Scopes.{scope_in}
 use Rattle.sdl_meaning.specs.Code.{code_joins}

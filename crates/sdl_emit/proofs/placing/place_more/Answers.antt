@@ -1,4 +1,4 @@
-use Rattle.std.proofs.Common.{◌≡◌, List, ℕ, ap, subst, arith}
+use Rattle.std.proofs.Common.{◌≡◌, List, ℕ, subst, arith}
 use Rattle.std.specs.Prelude.{OnOk, fold}
 use Rattle.sdl_names.specs.Scopes.{scope_in}
 use Rattle.sdl_meaning.specs.Code.{text_at, add_number}
