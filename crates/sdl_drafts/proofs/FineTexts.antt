@@ -1,5 +1,5 @@
 -- What is right in the texts of a process, for one origin and for several.
-use Rattle.std.proofs.Common.{◌≡◌, ℕ, ◌+◌, ◌≤◌, true, false, cond, ◌&&◌, List, [], ◌∷◌, ◌++◌, length, Option, Some, None, refl, sym, ap, ◌∙◌, arith, nat_lt}
+use Rattle.std.proofs.Common.{◌≡◌, ℕ, ◌+◌, ◌≤◌, true, false, cond, ◌&&◌, List, [], ◌∷◌, ◌++◌, length, Option, Some, None, refl, ap, ◌∙◌, arith, nat_lt}
 use Rattle.std.specs.Prelude.{nat_eq}
 use Rattle.std.specs.List.{flat_map, list_any}
 use Rattle.std.proofs.lemmas.Bool.Decides.{nat_tests}
@@ -24,7 +24,7 @@ use Rattle.sdl_drafts.specs.Drafts.{IsTrigger}
 use Rattle.sdl_drafts.proofs.Known.{FineStatement}
 use Rattle.sdl_meaning.proofs.Sorting.{passed}
 use Rattle.sdl_sound.proofs.Items.{Each, each_with, each_false, each_nil}
-use Rattle.std.proofs.lemmas.Bool.{and_from as and_both, ltb-false as at_most}
+use Rattle.std.proofs.lemmas.Bool.{ltb-false as at_most}
 use Rattle.plain_laws.proofs.Lists.{append-nil_left as nil_front, append-nil_right as nil_back}
 
 pub unequal_number : (m n : ℕ) → nat_eq m n ≡ false → m ≡ n → ⊥

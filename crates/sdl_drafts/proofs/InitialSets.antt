@@ -11,14 +11,12 @@ use Rattle.sdl_ast.specs.declared.tree.Literal as literal
 use Rattle.sdl_ast.specs.declared.tree.Literal.TheVariants as literals
 use Rattle.sdl_ast.specs.declared.tree.Sort as tree_sort
 use Rattle.sdl_ast.specs.declared.tree.Sort.TheVariants as tree_sorts
-use Rattle.sdl_ast.specs.Plain.{PlainStimulus}
 use Rattle.turn_code.specs.declared.value.Sort.{Sort}
 use Rattle.turn_code.specs.Values.{sort_of}
 use Rattle.turn_code.specs.Sets.{Has, initial_bits, initial_set}
 use Rattle.turn_code.specs.Rules.{StartsRight}
 use Rattle.sdl_tables.specs.Names.{Variable, Input, same_name}
 use Rattle.sdl_sound.specs.Paths.{sets, sets_in, initial_sets}
-use Rattle.sdl_sound.specs.Names.{place_names}
 use Rattle.sdl_sound.specs.Sorts.{same_sort, literal_sort, wrong_constant, wrong_initial}
 use Rattle.sdl_meaning.specs.Outcomes.{Scope}
 use Rattle.sdl_meaning.specs.Declarations.{sort_of_tree, literal_value, constant_value, drafted}

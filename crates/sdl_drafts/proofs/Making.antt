@@ -1,10 +1,7 @@
 -- What a piece is made of, for the function that makes it.
-use Rattle.std.proofs.Common.{◌≡◌, ℕ, zero, suc, ◌+◌, ◌<◌, ◌≤◌, List, [], ◌∷◌, length, map, get_or, Some, refl, sym, ap, ◌∙◌, subst, arith}
-use Rattle.std.specs.Prelude.{slice_get, Contains}
-use Rattle.std.specs.List.{sum_by}
+use Rattle.std.proofs.Common.{◌≡◌, ℕ, ◌<◌, List, [], ◌∷◌, length, map, get_or, refl, sym, ap, ◌∙◌, subst}
 use Rattle.std.proofs.lemmas.List.{length-map}
 use Rattle.std.proofs.lemmas.List.Elements.{Contains-get_or}
-use Rattle.sdl_ast.specs.Plain.{PlainConnection}
 use Rattle.turn_code.specs.declared.value.Sort.{Sort}
 use Rattle.turn_code.specs.declared.draft.DraftPiece.{DraftPiece}
 use Rattle.turn_code.specs.Rules.{greatest, depths}
@@ -14,7 +11,7 @@ use Rattle.turn_code.specs.declared.draft.PlaceFacts.{PlaceFacts}
 use Rattle.sdl_sound.specs.Longest.{Piece, piece_budget, piece_depth, piece_effects}
 use Rattle.sdl_sound.specs.Orders.{IsOrder}
 use Rattle.sdl_meaning.specs.Outcomes.{Scope}
-use Rattle.sdl_meaning.specs.Code.{ArePlaced, size_at, connections_place, piece_code}
+use Rattle.sdl_meaning.specs.Code.{ArePlaced, piece_code}
 use Rattle.sdl_meaning.specs.Named.{NamedPiece}
 use Rattle.sdl_facts.specs.Facts.{shapes_from, piece_sets}
 use Rattle.sdl_meaning.specs.Declarations.{drafted_signals, drafted_variables}

@@ -12,9 +12,8 @@ use Rattle.turn_code.specs.declared.draft.DraftState.{DraftState}
 use Rattle.turn_code.specs.declared.draft.DraftInput.{DraftInput}
 use Rattle.turn_code.specs.declared.numbers.StateNumber.{StateNumber}
 use Rattle.turn_code.specs.Transitions.{Transition, start_of, input_of, input_at, start_at, place_at, process_at, transition_at}
-use Rattle.turn_code.specs.Fits.{FitsTransition}
 use Rattle.turn_code.specs.Run.{Ran, run}
-use Rattle.turn_code.specs.Outcome.{outcome_in, Means}
+use Rattle.turn_code.specs.Outcome.{outcome_in}
 use Rattle.sdl_tables.specs.Names.{Input, processes_of, inputs_by_state}
 use Rattle.sdl_sound.specs.Longest.{start_piece, input_piece}
 use Rattle.sdl_sound.specs.Sound.{Sound}

@@ -9,7 +9,7 @@ use Rattle.std.proofs.lemmas.Option.{slice_get-map}
 use Rattle.std.proofs.lemmas.Nat.Bits.{bit_at-zero}
 use Rattle.sdl_ast.specs.declared.expression.Identifier.{Identifier}
 use Rattle.sdl_ast.specs.declared.tree.Sort as tree_sort
-use Rattle.sdl_ast.specs.Plain.{PlainStimulus, PlainConnection, PlainProcess}
+use Rattle.sdl_ast.specs.Plain.{PlainConnection, PlainProcess}
 use Rattle.turn_code.specs.declared.value.Sort.{Sort}
 use Rattle.turn_code.specs.declared.variable_set.VariableSet.{VariableSet}
 use Rattle.turn_code.specs.declared.instruction.Instruction.{Instruction}
@@ -36,7 +36,6 @@ use Rattle.sdl_sound.specs.Chances.{text_chances}
 use Rattle.sdl_sound.specs.Paths as Paths
 use Rattle.sdl_sound.specs.Paths.{sets_in, initial_sets, start_transition, input_transition}
 use Rattle.sdl_sound.specs.Settled.{IsSettled}
-use Rattle.sdl_sound.specs.Names.{place_names}
 use Rattle.sdl_sound.specs.Sorts.{wrong_place, too_many_places, parameter_sorts}
 use Rattle.sdl_sound.specs.Receivers.{paths_of, answers}
 use Rattle.sdl_meaning.specs.Outcomes.{Scope, variable_at, signal_at}

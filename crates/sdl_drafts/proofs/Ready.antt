@@ -1,5 +1,5 @@
 -- The processes of a sound block are ready to be compiled.
-use Rattle.std.proofs.Common.{◌≡◌, ℕ, zero, suc, ◌+◌, ◌<◌, ◌≤◌, Bool, true, false, not, cond, List, [], ◌∷◌, ◌++◌, length, map, Option, Some, None, IsSome, refl, sym, ap, ◌∙◌, arith, nat_lt}
+use Rattle.std.proofs.Common.{◌≡◌, ℕ, zero, suc, ◌+◌, ◌<◌, ◌≤◌, Bool, true, false, not, cond, List, [], ◌∷◌, ◌++◌, length, map, Option, Some, None, IsSome, refl, ap, ◌∙◌, arith, nat_lt}
 use Rattle.std.specs.Prelude.{slice_get, zip, nat_eq}
 use Rattle.std.specs.List.{flat_map, list_all, filter, enumerate_from, position_or_len}
 use Rattle.std.specs.Option.{option_map}
@@ -9,7 +9,7 @@ use Rattle.sdl_ast.specs.Plain.{Text, PlainStimulus, PlainInput, PlainClause, in
 use Rattle.turn_code.specs.declared.input.Party.{Party}
 use Rattle.sdl_tables.specs.Names.{is_in, Variable, Input, signal_names, process_names, variables_of, variable_names, timers_of, connector_names, states_of, clause_parts, clause_inputs, part_inputs, part_saves, given_to, of_state, by_state, is_state, input_parts, inputs_by_state, saves_by_state}
 use Rattle.sdl_tables.specs.Scopes.{repeats}
-use Rattle.sdl_sound.specs.Statements.{Statement, asks, statements_of}
+use Rattle.sdl_sound.specs.Statements.{Statement, statements_of}
 use Rattle.sdl_sound.specs.Actions.{Origin, begins, takes, input_origins, start_origins, joining_origins, connection_origins, in_input, in_connection, in_statements}
 use Rattle.sdl_sound.specs.Joins.{reaches}
 use Rattle.sdl_sound.specs.Orders.{IsOrder}
@@ -33,7 +33,7 @@ use Rattle.sdl_drafts.proofs.Receiving.{has_receiver, answers_sender, all_front,
 use Rattle.std.proofs.lemmas.Option.{slice_get-map as slice_map}
 use Rattle.sdl_sound.proofs.Items.{Each, each_front, each_back, each_append, each_always, each_with, each_map, each_flat, each_unflat, all_items, each_nil, each_at_place as each_at}
 use Rattle.turn_code.proofs.Lists.{within as in_list}
-use Rattle.std.proofs.lemmas.Bool.{eqb-true as equal_number, and_from as and_both, ltb-false as at_most}
+use Rattle.std.proofs.lemmas.Bool.{eqb-true as equal_number, ltb-false as at_most}
 use Rattle.plain_laws.proofs.Truths.{and_second as and_right, and_first as and_left}
 use Rattle.plain_laws.proofs.Lists.{append-nil_left as nil_front, append-nil_right as nil_back}
 use Rattle.sdl_drafts.proofs.FineTexts.{unequal_number, FineText, FineReached, FineWhole, FineInput, FineProcess, fine_statements, all_sorted, statements_single}

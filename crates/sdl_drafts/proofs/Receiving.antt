@@ -40,7 +40,6 @@ use Rattle.sdl_meaning.proofs.Reached.{or_split}
 use Rattle.sdl_tables.proofs.Mentions.{party_self as same_party_self}
 use Rattle.plain_laws.proofs.Truths.{and_second as and_right, and_first as and_left}
 use Rattle.plain_laws.proofs.Lists.{contains_there}
-use Rattle.sdl_tables.proofs.Numbers.{same_self}
 
 -- ---- lists
 

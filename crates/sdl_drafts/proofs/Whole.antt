@@ -1,6 +1,6 @@
 -- The draft of a block, from what its parts are.
 use Rattle.std.proofs.Common.{◌≡◌, ℕ, zero, suc, ◌<◌, ◌≤◌, false, List, [], ◌∷◌, ◌++◌, length, get_or, map, Option, Some, None, refl, sym, ap, ◌∙◌, subst, arith, nat_lt, length-append}
-use Rattle.std.specs.Prelude.{slice_get, All, Contains, find, sum_by, option_map}
+use Rattle.std.specs.Prelude.{slice_get, All, find, sum_by, option_map}
 use Rattle.std.specs.List.{AllZip, flat_map, list_any, position_or_len}
 use Rattle.std.specs.Option.{option_map_or}
 use Rattle.std.specs.Global.{Vec}
@@ -44,7 +44,6 @@ use Rattle.sdl_drafts.proofs.Kept.{piece_keeps}
 use Rattle.sdl_meaning.proofs.Reached.{placed_reached}
 use Rattle.sdl_drafts.proofs.Lawful.{lawful}
 use Rattle.sdl_sound.specs.Sound.{Sound}
-use Rattle.sdl_sound.specs.Settled.{AreSettled}
 use Rattle.sdl_sound.specs.declared.fault.Limit.{Limit}
 use Rattle.sdl_meaning.specs.Act.{scope_of}
 use Rattle.sdl_meaning.specs.Outcomes.{Scope}

@@ -1,5 +1,5 @@
 -- Actions, ends and INPUT's places: each of their instructions is right.
-use Rattle.std.proofs.Common.{◌≡◌, ℕ, zero, suc, ◌+◌, ◌<◌, ◌≤◌, ◌≤ℤ◌, pos, Bool, true, false, cond, List, [], ◌∷◌, ◌++◌, length, map, reverse, drop, Option, Some, None, IsSome, refl, sym, ap, ◌∙◌, subst, arith, nat_eq}
+use Rattle.std.proofs.Common.{◌≡◌, ℕ, zero, suc, ◌+◌, ◌<◌, ◌≤◌, ◌≤ℤ◌, pos, true, false, List, [], ◌∷◌, ◌++◌, length, map, reverse, drop, Option, Some, None, IsSome, refl, sym, ap, ◌∙◌, subst, arith, nat_eq}
 use Rattle.std.specs.Prelude.{slice_get, zip}
 use Rattle.std.specs.List.{flat_map}
 use Rattle.std.specs.Option.{option_to_list}
@@ -38,7 +38,7 @@ use Rattle.sdl_facts.specs.Reads.{ReadTasks, ReadSendings, ReadAction}
 use Rattle.sdl_meaning.proofs.Sorting.{fits, has_this, passed, variable_has_sort}
 use Rattle.sdl_facts.proofs.Straight.{AreRight}
 use Rattle.sdl_facts.proofs.Stretches.{right_joined}
-use Rattle.sdl_facts.proofs.Shapes.{Counted, CountedAction, sort_given, trees_shape, this_sort, tree_leads, trees_leads, put_out, variable_store, action_leads, param_leads, places_leads}
+use Rattle.sdl_facts.proofs.Shapes.{Counted, CountedAction, sort_given, trees_shape, this_sort, tree_leads, trees_leads, put_out, variable_store, param_leads}
 use Rattle.sdl_facts.proofs.Rights.{one_of, none_in, store_right, tree_right, trees_right}
 use Rattle.sdl_meaning.proofs.Numbers.{not_marked as not_flagged}
 use Rattle.plain_laws.proofs.Lists.{append-nil_left as nil_front, append-nil_right as nil_back}

@@ -1,5 +1,5 @@
 -- Where the code of a text goes on: ahead, or where a connection stands that it joins.
-use Rattle.std.proofs.Common.{◌≡◌, ℕ, zero, suc, ◌+◌, ◌<◌, ◌≤◌, Bool, true, false, cond, List, [], ◌∷◌, ◌++◌, length, Some, refl, sym, ap, ◌∙◌, subst, arith, length-append}
+use Rattle.std.proofs.Common.{◌≡◌, ℕ, zero, suc, ◌+◌, ◌<◌, ◌≤◌, Bool, true, false, cond, List, [], ◌∷◌, ◌++◌, length, Some, refl, sym, ap, ◌∙◌, subst, arith}
 use Rattle.std.specs.Prelude.{slice_get}
 use Rattle.std.specs.List.{list_any}
 use Rattle.std.proofs.lemmas.List.{length-map}
@@ -8,10 +8,9 @@ use Rattle.sdl_ast.specs.declared.tree.Range.{Range}
 use Rattle.sdl_ast.specs.declared.tree.Range.TheVariants.{Value as IsValue, Compared, Between}
 use Rattle.sdl_ast.specs.declared.tree.End.{End}
 use Rattle.sdl_ast.specs.declared.tree.End.TheVariants.{NextState, Stop, Join}
-use Rattle.sdl_ast.specs.Plain.{Tree, Text, falls, ends, does, decides, Choice, nothing_else, otherwise, answer}
+use Rattle.sdl_ast.specs.Plain.{Text, falls, ends, does, decides, Choice, nothing_else, otherwise, answer}
 use Rattle.turn_code.specs.declared.instruction.Instruction.{Instruction}
-use Rattle.turn_code.specs.declared.instruction.Instruction.TheVariants as i
-use Rattle.turn_code.specs.Code.{jumps, behind, successors}
+use Rattle.turn_code.specs.Code.{behind, successors}
 use Rattle.sdl_tables.specs.Names.{variables_of}
 use Rattle.sdl_sound.specs.Going.{goes_on as may_go_on}
 use Rattle.sdl_sound.specs.Longest.{cost_of, action_cost, jump_size, tests_size, size, bodies_size}

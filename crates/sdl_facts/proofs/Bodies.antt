@@ -1,5 +1,5 @@
 -- The sets of a text statement by statement, and those of a DECISION answer by answer.
-use Rattle.std.proofs.Common.{◌≡◌, ℕ, ◌+◌, ◌<◌, ◌≤◌, Bool, true, false, cond, ◌&&◌, ◌||◌, List, [], ◌∷◌, ◌++◌, length, drop, Option, Some, None, refl, sym, ap, ◌∙◌, subst, append_assoc, append-nil}
+use Rattle.std.proofs.Common.{◌≡◌, ℕ, ◌≤◌, Bool, true, false, cond, ◌||◌, List, [], ◌∷◌, ◌++◌, length, drop, Option, Some, None, refl, sym, ap, ◌∙◌, append_assoc, append-nil}
 use Rattle.std.proofs.lemmas.List.{drop_all}
 use Rattle.sdl_ast.specs.declared.tree.Action.{Action}
 use Rattle.sdl_ast.specs.declared.tree.Answer.{Answer}
@@ -8,15 +8,14 @@ use Rattle.sdl_ast.specs.declared.tree.Range.{Range}
 use Rattle.sdl_ast.specs.declared.tree.Statement.{Statement}
 use Rattle.sdl_ast.specs.declared.tree.Statement.TheVariants.{Act, Decide}
 use Rattle.sdl_ast.specs.declared.tree.Transition.{Transition}
-use Rattle.sdl_ast.specs.Plain.{Tree, Text, falls, does, decides, Choice, nothing_else, otherwise, answer, PlainStatement, act, decide, before}
+use Rattle.sdl_ast.specs.Plain.{Text, falls, does, decides, Choice, answer, PlainStatement, act, decide, before}
 use Rattle.sdl_ast.specs.Views.{tree_of, action_of, choice_of, plain_statement, statement_of, statements_before, answers_before, else_choice}
 use Rattle.sdl_ast.proofs.Views.{statement_of-act, statement_of-decide}
 use Rattle.turn_code.specs.declared.variable_set.VariableSet.{VariableSet}
 use Rattle.sdl_sound.specs.Going.{goes_on, choice_goes_on}
-use Rattle.sdl_meaning.specs.Act.{is_truth}
 use Rattle.sdl_meaning.specs.Outcomes.{Scope}
 use Rattle.sdl_facts.specs.Reads.{action_set, meet, left, answers_left, choice_left}
-use Rattle.sdl_facts.specs.Entries.{met, answers_met, choice_met}
+use Rattle.sdl_facts.specs.Entries.{met, answers_met}
 use Rattle.sdl_facts.specs.Facts.{action_sets, leave_sets, text_sets, answers_sets, decision_sets}
 
 -- ---- behind the last item of a list

@@ -1,19 +1,15 @@
 -- What is counted at the places of a text is the greatest on a walk through it.
-use Rattle.std.proofs.Common.{◌≡◌, ℕ, zero, suc, ◌+◌, ◌<◌, ◌≤◌, max, Bool, true, false, cond, ◌||◌, ◌&&◌, List, [], ◌∷◌, ◌++◌, length, map, Option, Some, None, refl, sym, ap, ◌∙◌, subst, arith}
-use Rattle.std.specs.Prelude.{slice_get, nat_eq, nat_lt, not}
+use Rattle.std.proofs.Common.{◌≡◌, ℕ, ◌+◌, ◌≤◌, max, Bool, true, false, cond, ◌||◌, ◌&&◌, List, [], ◌∷◌, ◌++◌, length, Option, refl, ap, ◌∙◌, arith}
+use Rattle.std.specs.Prelude.{nat_eq, nat_lt, not}
 use Rattle.std.specs.List.{sum_by}
 use Rattle.std.proofs.lemmas.Bool.Decides.{nat_tests}
 use Rattle.std.specs.List.{list_any}
-use Rattle.std.proofs.lemmas.List.{length-map}
 use Rattle.std.proofs.lemmas.List.Sums.{sum_by-cons}
-use Rattle.sdl_ast.specs.declared.tree.Join as tree_join
 use Rattle.sdl_ast.specs.declared.tree.Range.{Range}
 use Rattle.sdl_ast.specs.declared.tree.Range.TheVariants.{Value as IsValue, Compared, Between}
 use Rattle.sdl_ast.specs.declared.tree.Sort.TheVariants as tree_sorts
 use Rattle.sdl_ast.specs.declared.tree.Literal.{Literal}
 use Rattle.sdl_ast.specs.declared.tree.Literal.TheVariants as literals
-use Rattle.sdl_ast.specs.declared.tree.End.{End}
-use Rattle.sdl_ast.specs.declared.tree.End.TheVariants.{NextState, Stop, Join}
 use Rattle.sdl_ast.specs.Plain.{Tree, number, truth, variable, unary, binary, PlainAssignment, PlainSending, PlainAction, task, output, set_timer, reset_timer, Text, falls, ends, does, decides, Choice, nothing_else, otherwise, answer}
 use Rattle.sdl_ast.specs.declared.expression.UnaryOperator.{UnaryOperator}
 use Rattle.sdl_ast.specs.declared.expression.UnaryOperator.TheVariants.{Negate, Not}
@@ -22,21 +18,17 @@ use Rattle.sdl_ast.specs.declared.expression.BinaryOperator.TheVariants.{Or, Xor
 use Rattle.sdl_ast.specs.declared.tree.Destination.{Destination}
 use Rattle.turn_code.specs.declared.instruction.Instruction.{Instruction}
 use Rattle.turn_code.specs.declared.instruction.Instruction.TheVariants as i
-use Rattle.turn_code.specs.Code.{jumps, behind, successors}
-use Rattle.turn_code.specs.Rules.{greatest}
-use Rattle.sdl_tables.specs.Names.{variables_of}
+use Rattle.turn_code.specs.Code.{jumps, behind}
 use Rattle.sdl_sound.specs.Going.{goes_on as may_go_on, choice_goes_on}
-use Rattle.sdl_sound.specs.Decisions.{has_else, has_values, is_value, names_value, times_named, answers_both, is_answered}
+use Rattle.sdl_sound.specs.Decisions.{has_else, has_values, is_value, names_value, times_named, answers_both}
 use Rattle.sdl_sound.specs.Sorts.{same_sort, literal_sort, answers_truth}
-use Rattle.sdl_sound.specs.Longest.{is_division, cost_of, action_cost, end_count, jump_size, tests_size, size, bodies_size}
+use Rattle.sdl_sound.specs.Longest.{is_division, end_count}
 use Rattle.sdl_meaning.specs.Act.{is_truth, divisor_of}
-use Rattle.sdl_meaning.specs.Outcomes.{Scope, variable_at, state_at, timer_at, signal_at, connector_at}
-use Rattle.sdl_meaning.specs.Named.{NamedText, NamedChoice}
-use Rattle.sdl_meaning.specs.Code.{number_or_zero, load, store, next, set_to, reset, put, jump, unary_code, binary_code, division_code, tree_code, trees_code, tasks_code, receiver_code, sendings_code, action_code, end_code, leave_code, is_literal, names_truth, body_size, range_code, ranges_code, tests_code, else_size, pick_code, picked, bodies_place, else_place, answers_place, after_choice, text_code, else_code, answers_code, bodies_code}
+use Rattle.sdl_meaning.specs.Outcomes.{Scope, variable_at, timer_at, signal_at}
+use Rattle.sdl_meaning.specs.Named.{NamedChoice}
+use Rattle.sdl_meaning.specs.Code.{number_or_zero, load, store, next, set_to, reset, put, jump, unary_code, binary_code, division_code, tree_code, trees_code, tasks_code, receiver_code, sendings_code, action_code, is_literal, names_truth, body_size, range_code, pick_code, picked}
 use Rattle.sdl_facts.proofs.Straight.{IsStep, AreSteps, steps_append}
-use Rattle.sdl_meaning.proofs.Sizes.{tree_size, action_size, tests_are, leave_size, decision_is, text_size_is, bodies_size_is, answers_size_is, else_size_is}
-use Rattle.sdl_meaning.proofs.RunParts.{HasAt, has_front, has_back}
-use Rattle.sdl_meaning.proofs.Branches.{EachEnd, EachJoin, ChoiceJoin, integer_answered, no_names}
+use Rattle.sdl_meaning.proofs.Branches.{no_names}
 use Rattle.sdl_meaning.proofs.Choices.{AreTruths, are_truths}
 use Rattle.sdl_meaning.proofs.Measured.{some_values}
 use Rattle.plain_laws.proofs.Truths.{and_second, and_first}

@@ -1,5 +1,5 @@
 -- The most operands at the places of a piece are those of its longest path.
-use Rattle.std.proofs.Common.{◌≡◌, ℕ, zero, suc, ◌+◌, ◌<◌, ◌≤◌, max, Bool, true, false, cond, List, [], ◌∷◌, ◌++◌, length, map, Option, Some, None, IsSome, refl, sym, ap, ◌∙◌, subst, arith}
+use Rattle.std.proofs.Common.{◌≡◌, ℕ, zero, suc, ◌+◌, ◌<◌, ◌≤◌, max, Bool, true, false, cond, List, [], ◌∷◌, ◌++◌, length, map, Some, IsSome, refl, sym, ap, ◌∙◌, subst, arith}
 use Rattle.std.specs.Prelude.{slice_get, get_or, Contains}
 use Rattle.std.specs.List.{flat_map}
 use Rattle.std.proofs.lemmas.List.Concat.{flat_map-append}
@@ -13,15 +13,13 @@ use Rattle.sdl_ast.specs.declared.tree.End.TheVariants.{NextState, Stop, Join}
 use Rattle.sdl_ast.specs.Plain.{Tree, PlainAction, Text, falls, ends, does, decides, Choice, nothing_else, otherwise, answer, PlainConnection}
 use Rattle.turn_code.specs.declared.value.Sort.{Sort}
 use Rattle.turn_code.specs.declared.instruction.Instruction.{Instruction}
-use Rattle.turn_code.specs.declared.instruction.Instruction.TheVariants as i
-use Rattle.turn_code.specs.declared.variable_set.VariableSet.{VariableSet}
 use Rattle.turn_code.specs.declared.draft.DraftSignal.{DraftSignal}
 use Rattle.turn_code.specs.declared.draft.DraftVariable.{DraftVariable}
 use Rattle.turn_code.specs.Rules.{greatest, depths}
 use Rattle.turn_code.specs.declared.draft.PlaceFacts.{PlaceFacts}
-use Rattle.turn_code.specs.Code.{shape_after, sort_at}
+use Rattle.turn_code.specs.Code.{sort_at}
 use Rattle.sdl_tables.specs.Names.{Variable, variables_of, connection_named}
-use Rattle.sdl_sound.specs.Statements.{Statement, acts, asks, covers, finishes, statements_of, choice_statements}
+use Rattle.sdl_sound.specs.Statements.{Statement, acts, asks, covers, statements_of, choice_statements}
 use Rattle.sdl_sound.specs.Sorts.{wrong_action, wrong_statement, variable_sort}
 use Rattle.sdl_sound.specs.Going.{goes_on as may_go_on}
 use Rattle.sdl_sound.specs.Decisions.{has_else}
@@ -29,10 +27,10 @@ use Rattle.sdl_sound.specs.Longest.{Piece, cost_of, action_cost, depth_of, actio
 use Rattle.sdl_meaning.specs.Act.{is_truth}
 use Rattle.sdl_meaning.specs.Outcomes.{Scope, variable_at, connector_at}
 use Rattle.sdl_meaning.specs.Declarations.{sort_of_tree, drafted_signals, drafted_variables}
-use Rattle.sdl_meaning.specs.Named.{NamedText, NamedChoice, NamedAction, NamedTree, NamedConnections, NamedPiece, AreSorted}
+use Rattle.sdl_meaning.specs.Named.{NamedText, NamedChoice, NamedAction, NamedTree, NamedPiece, AreSorted}
 use Rattle.sdl_facts.specs.Facts.{shapes_from}
 use Rattle.sdl_meaning.specs.Code.{number_or_zero, jump, tree_code, action_code, end_code, leave_code, body_size, range_code, ranges_code, tests_code, pick_code, bodies_place, else_place, answers_place, after_choice, text_code, else_code, answers_code, bodies_code, places_code, text_at, size_at, code_joins, ArePlaced, place_in, connections_code, text_place, connections_place, piece_code}
-use Rattle.sdl_facts.proofs.Stretches.{after, left_shape, deepest, Leads}
+use Rattle.sdl_facts.proofs.Stretches.{after, left_shape, deepest}
 use Rattle.sdl_facts.proofs.Shapes.{depth_some, tree_leads, action_leads, places_leads}
 use Rattle.sdl_facts.proofs.Actions.{counted_action}
 use Rattle.sdl_meaning.proofs.Sorting.{variable_sorted, signal_sorted, tree_has_sort}
@@ -42,7 +40,6 @@ use Rattle.turn_code.proofs.Lists.{first_of as contains_first}
 use Rattle.sdl_meaning.proofs.Acts.{joined_placed, placed_closed}
 use Rattle.sdl_meaning.proofs.Measured.{Below, depth_below, fixed, all_placed, each_of, each_named}
 use Rattle.sdl_meaning.proofs.SameMeasures.{depth_same}
-use Rattle.turn_code.proofs.Lists.{within as none_past}
 use Rattle.sdl_emit.proofs.Gathering.{text_there}
 use Rattle.plain_laws.proofs.Lists.{append-nil_left as nil_front, append-nil_right as nil_back}
 use Rattle.sdl_facts.proofs.OwnDepths.{none_joined, own, choice_own, else_own, answers_own, both_own, AllRight, ChoiceRight}

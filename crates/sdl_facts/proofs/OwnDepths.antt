@@ -1,14 +1,7 @@
 -- The depth of a text without what it joins, and what is asked of all its actions.
-use Rattle.std.proofs.Common.{◌≡◌, ℕ, max, List, Option, None, refl, arith}
+use Rattle.std.proofs.Common.{◌≡◌, ℕ, max, List, refl, arith}
 use Rattle.sdl_ast.specs.Plain.{PlainAction, Text, falls, ends, does, decides, Choice, nothing_else, otherwise, answer}
-use Rattle.turn_code.specs.declared.instruction.Instruction.TheVariants as i
-use Rattle.turn_code.specs.declared.variable_set.VariableSet.{VariableSet}
-use Rattle.turn_code.specs.Code.{shape_after}
-use Rattle.sdl_sound.specs.Statements.{finishes}
 use Rattle.sdl_sound.specs.Longest.{depth, choice_depth}
-use Rattle.sdl_meaning.specs.Named.{NamedConnections}
-use Rattle.sdl_facts.proofs.Stretches.{Leads}
-use Rattle.turn_code.proofs.Lists.{within as none_past}
 
 -- ---- the depth of a text alone, without what it joins
 

@@ -1,26 +1,24 @@
 -- What is counted at the places of a whole piece: each place counts its own and the greatest where the code goes on, and the
 -- first place counts the longest path.
-use Rattle.std.proofs.Common.{◌≡◌, ℕ, zero, suc, ◌+◌, ◌-◌, ◌<◌, ◌≤◌, max, ⊎_elim, Bool, true, false, cond, List, [], ◌∷◌, ◌++◌, length, map, Option, Some, None, IsSome, refl, sym, ap, ◌∙◌, subst, arith, length-append}
-use Rattle.std.specs.Prelude.{slice_get, get_or, Contains}
-use Rattle.std.specs.List.{sum_by, flat_map}
+use Rattle.std.proofs.Common.{◌≡◌, ℕ, zero, suc, ◌+◌, ◌<◌, ◌≤◌, ⊎_elim, false, List, [], ◌∷◌, ◌++◌, length, map, Option, Some, None, IsSome, refl, sym, ap, ◌∙◌, subst, arith}
+use Rattle.std.specs.Prelude.{slice_get, Contains}
+use Rattle.std.specs.List.{sum_by}
 use Rattle.std.proofs.lemmas.Bool.{cases_lt}
-use Rattle.std.proofs.lemmas.List.Sums.{sum_by-cons}
 use Rattle.sdl_ast.specs.declared.expression.Identifier.{Identifier}
 use Rattle.sdl_ast.specs.declared.tree.Join as tree_join
 use Rattle.sdl_ast.specs.Plain.{Tree, number, truth, variable, unary, binary, Text, falls, ends, does, decides, PlainConnection}
 use Rattle.sdl_ast.specs.declared.tree.End.{End}
 use Rattle.sdl_ast.specs.declared.tree.End.TheVariants.{NextState, Stop, Join}
 use Rattle.turn_code.specs.declared.instruction.Instruction.{Instruction}
-use Rattle.turn_code.specs.declared.instruction.Instruction.TheVariants as i
 use Rattle.turn_code.specs.Code.{successors}
 use Rattle.turn_code.specs.Rules.{greatest}
 use Rattle.sdl_tables.specs.Names.{Variable, variables_of}
-use Rattle.sdl_sound.specs.Going.{goes_on as may_go_on, choice_goes_on}
+use Rattle.sdl_sound.specs.Going.{goes_on as may_go_on}
 use Rattle.sdl_sound.specs.Statements.{joins_of}
-use Rattle.sdl_sound.specs.Longest.{cost_of, end_cost, Piece, size, places_cost, joined as measure_joined}
-use Rattle.sdl_meaning.specs.Outcomes.{Scope, variable_at, connector_at}
+use Rattle.sdl_sound.specs.Longest.{cost_of, end_cost, Piece, size, joined as measure_joined}
+use Rattle.sdl_meaning.specs.Outcomes.{Scope, connector_at}
 use Rattle.sdl_meaning.specs.Named.{NamedText, NamedConnections, NamedPiece}
-use Rattle.sdl_meaning.specs.Code.{number_or_zero, store, text_code, places_code, text_at, size_at, code_joins, joined, ArePlaced, place_in, connections_code, text_place, connections_place, piece_code}
+use Rattle.sdl_meaning.specs.Code.{number_or_zero, text_code, places_code, text_at, size_at, code_joins, joined, ArePlaced, place_in, connections_code, text_place, connections_place, piece_code}
 use Rattle.sdl_counts.specs.Counts.{number_at, read_at, AreCounts, AreCountsFrom}
 use Rattle.sdl_facts.proofs.Straight.{AreSteps}
 use Rattle.sdl_meaning.proofs.Sizes.{places_size, text_size_is}
@@ -32,7 +30,7 @@ use Rattle.sdl_meaning.proofs.Acts.{joined_placed, placed_closed, connection_sta
 use Rattle.sdl_facts.proofs.Counting.{IsWeight, tally, tally_over}
 use Rattle.sdl_facts.proofs.Tallies.{steps_count, text_count}
 use Rattle.sdl_facts.proofs.Ahead.{Goes, AllOf, goes_append, steps_go, text_goes, at_place}
-use Rattle.sdl_counts.proofs.Passes.{same_all, read_ahead, read_back}
+use Rattle.sdl_counts.proofs.Passes.{read_ahead, read_back}
 use Rattle.sdl_meaning.proofs.Measured.{all_placed, fixed, each_of, each_named}
 use Rattle.turn_code.proofs.Lists.{within as none_past}
 use Rattle.sdl_emit.proofs.Gathering.{text_there}

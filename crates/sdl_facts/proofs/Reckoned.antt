@@ -1,26 +1,23 @@
 -- What is known of connections before a piece is counted, and what its counts are.
-use Rattle.std.proofs.Common.{◌≡◌, ℕ, suc, ◌+◌, ◌<◌, ◌≤◌, min, ⊎_elim, Bool, true, false, cond, List, [], ◌∷◌, ◌++◌, length, length-append, set, replicate, Option, Some, None, IsSome, refl, sym, ap, ◌∙◌, subst, arith, length-set, get_or-set_same, get_or-set_other}
-use Rattle.std.specs.Prelude.{slice_get, get_or, nat_eq, is_some, Contains, All}
+use Rattle.std.proofs.Common.{◌≡◌, ℕ, suc, ◌+◌, ◌<◌, ◌≤◌, ⊎_elim, Bool, true, false, cond, List, [], ◌∷◌, ◌++◌, length, length-append, set, replicate, Some, IsSome, refl, sym, ap, ◌∙◌, subst, arith, length-set, get_or-set_same, get_or-set_other}
+use Rattle.std.specs.Prelude.{slice_get, get_or, nat_eq, is_some, Contains}
 use Rattle.std.specs.List.{sum_by}
 use Rattle.std.specs.Option.{option_map_or}
 use Rattle.std.proofs.lemmas.Bool.{cases_eq, eqb-true as same_number}
-use Rattle.std.proofs.lemmas.Bool.Decides.{nat_tests}
-use Rattle.std.proofs.lemmas.List.{get_or_default}
 use Rattle.std.proofs.lemmas.List.Sums.{sum_by-cons}
 use Rattle.std.proofs.lemmas.Option.{slice_get-get_or}
 use Rattle.sdl_ast.specs.declared.tree.Join as tree_join
 use Rattle.sdl_ast.specs.Plain.{Text, PlainConnection, PlainProcess}
 use Rattle.turn_code.specs.declared.instruction.Instruction.{Instruction}
-use Rattle.turn_code.specs.Code.{effects_of}
 use Rattle.sdl_tables.specs.Names.{Variable, variables_of}
 use Rattle.sdl_sound.specs.Going.{goes_on as may_go_on}
-use Rattle.sdl_sound.specs.Longest.{Piece, size, budget, effects, joined as measure_joined, piece_budget, piece_effects}
+use Rattle.sdl_sound.specs.Longest.{Piece, budget, effects, joined as measure_joined}
 use Rattle.sdl_measures.specs.Measures.{capped, IsMeasureOf, AreMeasures}
 use Rattle.sdl_measures.specs.declared.measures.Measure.{Measure}
 use Rattle.sdl_counts.specs.declared.counts.Counted.{Counted}
 use Rattle.sdl_counts.specs.declared.counts.Counted.TheVariants.{Instructions, Effects}
 use Rattle.sdl_meaning.specs.Outcomes.{Scope, connector_at}
-use Rattle.sdl_meaning.specs.Named.{NamedText, NamedConnections, NamedPiece}
+use Rattle.sdl_meaning.specs.Named.{NamedText, NamedPiece}
 use Rattle.sdl_names.specs.Scopes.{places_by}
 use Rattle.sdl_facts.specs.Made.{IsSmall}
 use Rattle.sdl_meaning.specs.Code.{number_or_zero, places_code, text_code, text_at, size_at, code_joins, ArePlaced, place_in, text_place, connections_place, connections_code, piece_code}
@@ -28,13 +25,13 @@ use Rattle.sdl_counts.specs.Counts.{weight, number_at, AreCounts, AreCountsFrom,
 use Rattle.sdl_facts.specs.Counts.{measure_of, measured, piece_count}
 use Rattle.sdl_meaning.proofs.Sizes.{places_size, text_size_is, connections_size}
 use Rattle.sdl_meaning.proofs.Branches.{EachJoin}
-use Rattle.sdl_meaning.proofs.Joining.{HasConnection, has_connection}
+use Rattle.sdl_meaning.proofs.Joining.{has_connection}
 use Rattle.sdl_facts.proofs.Counting.{IsWeight, tally}
-use Rattle.sdl_meaning.proofs.Measured.{Below, budget_below, effects_below, all_placed, fixed, each_of, each_named}
+use Rattle.sdl_meaning.proofs.Measured.{Below, budget_below, effects_below, all_placed, each_of, each_named}
 use Rattle.sdl_meaning.proofs.SameMeasures.{budget_same, effects_same}
 use Rattle.sdl_emit.proofs.Gathering.{text_there}
-use Rattle.sdl_facts.proofs.Piecewise.{size_some, first_counts, are_counts, counts_of, join_is}
-use Rattle.sdl_facts.proofs.Weights.{one, one_weighs, effects_weigh, tally_budget, tally_effects, places_ones, places_none}
+use Rattle.sdl_facts.proofs.Piecewise.{size_some, first_counts, are_counts, join_is}
+use Rattle.sdl_facts.proofs.Weights.{effects_weigh, tally_budget, tally_effects, places_ones, places_none}
 use Rattle.turn_code.proofs.Lists.{at_place as contains_at}
 use Rattle.sdl_meaning.proofs.Acts.{tail_contains as in_tail}
 use Rattle.sdl_emit.proofs.Spacing.{zero_at}

@@ -1,8 +1,7 @@
 -- Counting instructions gives the longest path, counting effects the most effects.
-use Rattle.std.proofs.Common.{◌≡◌, ℕ, zero, suc, ◌+◌, ◌≤◌, max, Bool, true, false, cond, ◌&&◌, List, [], ◌∷◌, ◌++◌, length, Option, Some, None, refl, sym, ap, ◌∙◌, subst, arith, length-append}
+use Rattle.std.proofs.Common.{◌≡◌, ℕ, ◌+◌, ◌≤◌, max, Bool, true, false, cond, List, [], ◌∷◌, ◌++◌, length, Option, Some, None, refl, ap, ◌∙◌, arith}
 use Rattle.std.specs.Prelude.{nat_lt}
 use Rattle.std.specs.List.{sum_by}
-use Rattle.std.proofs.lemmas.Bool.Decides.{nat_tests}
 use Rattle.std.proofs.lemmas.List.Sums.{sum_by-cons, sum_by-append}
 use Rattle.sdl_ast.specs.declared.expression.Identifier.{Identifier}
 use Rattle.sdl_ast.specs.declared.expression.UnaryOperator.{UnaryOperator}
@@ -20,7 +19,7 @@ use Rattle.turn_code.specs.declared.instruction.Instruction.TheVariants as i
 use Rattle.turn_code.specs.Code.{effects_of}
 use Rattle.sdl_tables.specs.Names.{variables_of}
 use Rattle.sdl_sound.specs.Decisions.{has_values, has_else, answers_both}
-use Rattle.sdl_sound.specs.Longest.{is_division, action_cost, action_effects, places_cost, end_cost, tests_budget, budget, case_budget, pick_budget, effects, choice_effects}
+use Rattle.sdl_sound.specs.Longest.{is_division, action_effects, places_cost, end_cost, tests_budget, budget, case_budget, pick_budget, effects, choice_effects}
 use Rattle.sdl_meaning.specs.Act.{is_truth, divisor_of}
 use Rattle.sdl_meaning.specs.Outcomes.{Scope, variable_at, timer_at, signal_at}
 use Rattle.sdl_meaning.specs.Named.{NamedText, NamedChoice}

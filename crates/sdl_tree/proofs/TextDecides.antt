@@ -4,7 +4,7 @@ use Rattle.sdl_lex.specs.declared.lexemes.Token.{Token}
 use Rattle.sdl_lex.specs.declared.lexemes.Word.TheVariants as words
 use Rattle.sdl_lex.specs.declared.lexemes.Symbol.TheVariants.{Open}
 use Rattle.sdl_ast.specs.declared.tree.End.{End}
-use Rattle.sdl_ast.specs.Plain.{PlainAction, Text, falls, ends, does, decides, Choice, nothing_else, otherwise, answer, PlainStatement, act, decide, PlainAnswer, PlainQuestion, PlainHead, before, all_before, all_answers}
+use Rattle.sdl_ast.specs.Plain.{PlainAction, Text, falls, ends, does, decides, Choice, nothing_else, otherwise, answer, PlainStatement, act, decide, PlainAnswer, PlainQuestion, PlainHead, all_before, all_answers}
 use Rattle.sdl_bodies.specs.Bodies.{Keeping, whole_texts, WholeBranching, WholeBody, WholeReached, WholeMove, reaches, closes, with_answer}
 use Rattle.sdl_ast.specs.Views.{end_text}
 use Rattle.sdl_tokens.specs.Tokens.{begins, a_word, a_symbol, an_action, an_end, a_choice}

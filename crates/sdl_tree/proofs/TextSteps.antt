@@ -6,11 +6,10 @@ use Rattle.sdl_lex.specs.declared.lexemes.Lexeme.{Lexeme}
 use Rattle.sdl_lex.specs.declared.lexemes.Lexeme.TheVariants as lexemes
 use Rattle.sdl_lex.specs.declared.lexemes.Word.TheVariants as words
 use Rattle.sdl_lex.specs.declared.lexemes.Symbol.TheVariants.{Open}
-use Rattle.sdl_ast.specs.Plain.{Text, ends, does, decides, Choice, nothing_else, otherwise, answer, PlainStatement, decide, PlainAnswer, PlainHead, before, all_before, all_answers}
+use Rattle.sdl_ast.specs.Plain.{Text, decides, Choice, nothing_else, otherwise, answer, PlainStatement, decide, PlainAnswer, PlainHead, before, all_before, all_answers}
 use Rattle.sdl_bodies.specs.Bodies.{whole_texts, WholeBranching, WholeBody, WholeReached, WholeMove, reaches, closes, with_answer}
 use Rattle.sdl_ast.specs.Views.{end_text}
 use Rattle.sdl_tokens.specs.Tokens.{begins, a_word, a_symbol, an_action, an_end, a_choice, word_place, symbol_place, choice_place}
-use Rattle.sdl_tokens.specs.Grammar as grammar
 use Rattle.sdl_tree.specs.Syntax.{action_syntax, question_syntax, else_head_syntax, some_head_syntax, no_head_syntax, head_syntax, end_decision_syntax, end_syntax, TextReads, ChoiceReads}
 use Rattle.sdl_expressions.specs.Machine.{whole_trees, expression_at}
 use Rattle.sdl_tokens.specs.Readings.{Reading, read, fails, At, then_read}
@@ -82,11 +81,11 @@ all_answers-more [] x others = refl
 all_answers-more (y ∷ xs) x others = ap (answer y.at y.ranges y.text) (all_answers-more xs x others)
 
 -- the two halves of a reading
-record Split {A B : Type 0} (p : At A) (q : A → At B) (ts : List Token) (y : B) (us : List Token) : Type 0 where
-  value : A
-  between : List Token
-  first : p ts ≡ read value between
-  second : q value between ≡ read y us
+pub record Split {A B : Type 0} (p : At A) (q : A → At B) (ts : List Token) (y : B) (us : List Token) : Type 0 where
+  pub value : A
+  pub between : List Token
+  pub first : p ts ≡ read value between
+  pub second : q value between ≡ read y us
 
 pub split : {A B : Type 0} (p : At A) (q : A → At B) (ts : List Token) (y : B) (us : List Token) → then_read (p ts) q ≡ read y us → Split p q ts y us
 split {A} {B} p q ts y us h = by_result p q ts y us (p ts) refl h
@@ -119,11 +118,11 @@ pub record Answered (K : Text → List Token → Type 0) (d : WholeBranching) (h
   pub reads : ChoiceReads ts others us
   pub closed : Closed K d (answer h.at h.ranges text others) us
 
-pub InBody : (Text → List Token → Type 0) → WholeBranching → Option PlainHead → Text → List Token → Type 0
+unfoldable pub InBody : (Text → List Token → Type 0) → WholeBranching → Option PlainHead → Text → List Token → Type 0
 InBody K d (Some h) text ts = Answered K d h text ts
 InBody K d None text ts = Closed K d (otherwise text) ts
 
-pub Behind : List WholeBody → Text → List Token → (Text → List Token → Type 0)
+unfoldable pub Behind : List WholeBody → Text → List Token → (Text → List Token → Type 0)
 Behind [] whole us text ts = (text ≡ whole) × (ts ≡ us)
 Behind (body ∷ outer) whole us text ts = InBody (Behind outer whole us) body.branching body.head text ts
 
@@ -133,7 +132,7 @@ pub record Stands (s : WholeReached) (ts : List Token) (whole : Text) (us : List
   pub reads : TextReads ts text vs
   pub behind : Behind s.outer whole us (all_before s.here text) vs
 
-pub Follows : WholeMove → List Token → Text → List Token → Type 0
+unfoldable pub Follows : WholeMove → List Token → Text → List Token → Type 0
 Follows (reaches s) ts whole us = Stands s ts whole us
 Follows (closes text) ts whole us = (text ≡ whole) × (ts ≡ us)
 

@@ -10,7 +10,6 @@ use Rattle.sdl_ast.specs.declared.tree.Literal.TheVariants as literals
 use Rattle.sdl_ast.specs.declared.tree.Range.{Range}
 use Rattle.sdl_ast.specs.declared.tree.Range.TheVariants as ranges
 use Rattle.sdl_ast.specs.Plain.{Choice}
-use Rattle.turn_code.specs.declared.value.Sort.{Sort}
 use Rattle.turn_code.specs.declared.value.Sort.TheVariants.{Integer, Boolean}
 use Rattle.sdl_sound.specs.Sorts.{has_sort}
 use Rattle.sdl_sound.specs.Decisions.{has_else, is_value, names_value, times_named, answers_both}

@@ -1,22 +1,19 @@
 -- The sets with which connections begin are within the sets at all JOINs to them.
-use Rattle.std.proofs.Common.{◌≡◌, ℕ, zero, suc, ◌<◌, ◌≤◌, Bool, true, false, cond, List, [], ◌∷◌, ◌⊎◌, inl, inr, ⊎_elim, length, map, Option, Some, None, IsSome, refl, sym, ap, ◌∙◌, subst, arith}
-use Rattle.std.specs.Prelude.{slice_get, slice_set, Contains}
+use Rattle.std.proofs.Common.{◌≡◌, ℕ, zero, suc, ◌<◌, Bool, true, false, cond, List, [], ◌∷◌, length, Option, Some, None, refl, sym, ap, ◌∙◌, subst, arith}
+use Rattle.std.specs.Prelude.{slice_get, slice_set}
 use Rattle.std.specs.Option.{option_map_or}
-use Rattle.std.proofs.lemmas.List.{length-map}
 use Rattle.sdl_ast.specs.declared.expression.Identifier.{Identifier}
 use Rattle.sdl_ast.specs.declared.tree.Join as tree_join
 use Rattle.sdl_ast.specs.declared.tree.End.{End}
 use Rattle.sdl_ast.specs.declared.tree.End.TheVariants.{NextState, Stop, Join}
-use Rattle.sdl_ast.specs.Plain.{Tree, Text, falls, ends, does, decides, Choice, nothing_else, otherwise, answer, PlainConnection}
+use Rattle.sdl_ast.specs.Plain.{Text, falls, ends, does, decides, Choice, nothing_else, otherwise, answer, PlainConnection}
 use Rattle.turn_code.specs.declared.variable_set.VariableSet.{VariableSet}
 use Rattle.turn_code.specs.Sets.{Has, IsWithin}
-use Rattle.sdl_sound.specs.Statements.{joins_of}
 use Rattle.sdl_meaning.specs.Act.{is_truth}
 use Rattle.sdl_meaning.specs.Outcomes.{Scope, connector_at}
 use Rattle.sdl_meaning.specs.Code.{number_or_zero}
-use Rattle.sdl_meaning.specs.Named.{NamedText, NamedChoice}
-use Rattle.sdl_facts.specs.Reads.{action_set, everything, meet, choice_left}
-use Rattle.sdl_facts.specs.Entries.{entry_at, met_at, end_met, met, answers_met, else_met, connection_met, connections_met}
+use Rattle.sdl_facts.specs.Reads.{action_set, meet, choice_left}
+use Rattle.sdl_facts.specs.Entries.{entry_at, end_met, met, answers_met, else_met, connection_met, connections_met}
 use Rattle.sdl_meaning.proofs.Branches.{EachEnd, EachJoin, ChoiceJoin}
 use Rattle.sdl_valid.proofs.UnsetLaws.{meet_front, meet_back}
 

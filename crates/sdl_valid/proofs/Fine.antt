@@ -18,7 +18,6 @@ use Rattle.turn_code.specs.declared.instruction.Instruction.{Instruction}
 use Rattle.turn_code.specs.declared.instruction.Instruction.TheVariants as i
 use Rattle.turn_code.specs.declared.variable_set.VariableSet.{VariableSet}
 use Rattle.turn_code.specs.declared.draft.Draft.{Draft}
-use Rattle.turn_code.specs.Code.{behind}
 use Rattle.turn_code.specs.Transitions.{Transition}
 use Rattle.sdl_tables.specs.Names.{Variable, variables_of}
 use Rattle.sdl_sound.specs.Actions.{Origin}
@@ -35,7 +34,7 @@ use Rattle.sdl_facts.specs.Reads.{ReadTree, action_set, left, choice_left, ReadT
 use Rattle.sdl_facts.specs.Entries.{entry_at}
 use Rattle.sdl_meaning.proofs.Sorting.{tree_has_sort}
 use Rattle.sdl_meaning.proofs.Sizes.{tree_size, action_size, tests_are}
-use Rattle.sdl_facts.proofs.Straight.{IsRight, AreRight}
+use Rattle.sdl_facts.proofs.Straight.{AreRight}
 use Rattle.sdl_facts.proofs.Stretches.{Leads, left_shape}
 use Rattle.sdl_facts.proofs.Shapes.{tree_leads, action_leads}
 use Rattle.sdl_facts.proofs.Rights.{plain_right, tree_right, one_of as one_at}
@@ -45,7 +44,6 @@ use Rattle.sdl_valid.proofs.UnsetLaws.{not_true}
 use Rattle.sdl_valid.proofs.Entering.{number_at, TextFits, ChoiceFits}
 use Rattle.sdl_facts.proofs.Spots.{Spot, leave_spots, text_spots, else_spots, answers_spots, bodies_spots}
 use Rattle.plain_laws.proofs.Truths.{and_second}
-use Rattle.turn_code.proofs.Lists.{within as there}
 use Rattle.std.proofs.lemmas.Bool.{and_from as both_true}
 use Rattle.sdl_valid.proofs.RightTexts.{RightTree, RightText, RightChoice, two_at, Leaves, choice_leaves}
 use Rattle.sdl_valid.proofs.ChoiceLaws.{none_named, both_named, truth_sort, number_sort, answered_truth, answered_number}

@@ -1,30 +1,27 @@
 -- What a piece needs for its facts: its text and its connections read what is set, and the sets of connections fit.
-use Rattle.std.proofs.Common.{◌≡◌, ℕ, zero, suc, ◌+◌, ◌<◌, ◌≤◌, Bool, true, false, cond, List, [], ◌∷◌, ◌++◌, ◌⊎◌, inl, inr, ⊎_elim, length, map, Option, Some, None, IsSome, refl, sym, ap, ◌∙◌, subst, arith, length-append, append_assoc}
+use Rattle.std.proofs.Common.{◌≡◌, ℕ, zero, suc, ◌+◌, ◌<◌, ◌≤◌, Bool, true, false, List, [], ◌∷◌, ◌++◌, inl, inr, length, map, Some, refl, sym, ap, ◌∙◌, subst, arith, length-append, append_assoc}
 use Rattle.std.specs.Prelude.{slice_get, nat_eq}
 use Rattle.std.specs.Int.{bit_at}
 use Rattle.std.proofs.lemmas.Bool.Decides.{nat_tests}
 use Rattle.std.proofs.lemmas.List.{length-map}
 use Rattle.sdl_ast.specs.declared.expression.Identifier.{Identifier}
-use Rattle.sdl_ast.specs.declared.tree.Join as tree_join
-use Rattle.sdl_ast.specs.Plain.{Tree, PlainAction, Text, falls, ends, does, decides, Choice, nothing_else, otherwise, answer, PlainConnection}
+use Rattle.sdl_ast.specs.Plain.{Text, PlainConnection}
 use Rattle.turn_code.specs.declared.variable_set.VariableSet.{VariableSet}
 use Rattle.turn_code.specs.declared.draft.DraftState.{DraftState}
 use Rattle.turn_code.specs.Sets.{Has}
-use Rattle.sdl_tables.specs.Names.{variable_names, variables_of, states_of}
+use Rattle.sdl_tables.specs.Names.{variable_names}
 use Rattle.sdl_sound.specs.Orders.{IsOrder}
 use Rattle.sdl_sound.specs.Paths.{Event, sets_in}
-use Rattle.sdl_sound.specs.Chances.{Chances, text_chances, chances_by}
-use Rattle.sdl_meaning.specs.Outcomes.{Scope, connector_at}
-use Rattle.sdl_meaning.specs.Code.{number_or_zero}
-use Rattle.sdl_meaning.specs.Named.{NamedText, NamedWhole, NamedConnections}
+use Rattle.sdl_sound.specs.Chances.{text_chances, chances_by}
+use Rattle.sdl_meaning.specs.Outcomes.{Scope}
+use Rattle.sdl_meaning.specs.Named.{NamedText, NamedConnections}
 use Rattle.sdl_facts.specs.Reads.{everything, ReadText}
 use Rattle.sdl_facts.specs.Entries.{entry_at, met, connections_met}
 use Rattle.sdl_meaning.proofs.Numbers.{AreNumbered}
 use Rattle.sdl_meaning.proofs.Branches.{EachJoin}
 use Rattle.sdl_meaning.proofs.Joining.{has_connection, each_join}
 use Rattle.sdl_valid.proofs.Walks.{Holds, by_bool}
-use Rattle.sdl_valid.proofs.Unset.{Calm, Safe, IsFewer, of_text, piece_reads}
-use Rattle.sdl_valid.proofs.UnsetLaws.{not_true}
+use Rattle.sdl_valid.proofs.Unset.{Safe, IsFewer, of_text, piece_reads}
 use Rattle.sdl_valid.proofs.Entering.{number_at, IsOther, IsIn, JoinsNone, AreApart, Fits, AllFit, TextFits, fits_less, met_fits, met_length, connections_shrink, connections_fit}
 
 -- ---- the order of connections

@@ -1,15 +1,14 @@
 -- Each place of a piece is right: its text's, and those of the connections that it comes to.
-use Rattle.std.proofs.Common.{◌≡◌, ℕ, zero, suc, ◌+◌, ◌<◌, ◌≤◌, Bool, true, false, cond, List, [], ◌∷◌, ◌++◌, length, map, drop, Option, Some, None, IsSome, get_or, refl, sym, ap, ◌∙◌, subst, arith, length-append, append_assoc, nat_eq}
+use Rattle.std.proofs.Common.{◌≡◌, ℕ, zero, suc, ◌+◌, ◌≤◌, Bool, true, false, cond, List, [], ◌∷◌, ◌++◌, length, map, Option, Some, None, IsSome, refl, sym, ap, ◌∙◌, subst, arith, length-append, append_assoc, nat_eq}
 use Rattle.std.specs.Prelude.{slice_get, Contains, zip}
 use Rattle.std.specs.List.{flat_map}
 use Rattle.std.specs.Option.{option_map_or}
-use Rattle.std.proofs.lemmas.Bool.Decides.{nat_tests}
-use Rattle.std.proofs.lemmas.List.{append-nil, length-map}
+use Rattle.std.proofs.lemmas.List.{length-map}
 use Rattle.sdl_ast.specs.declared.tree.Sort as tree_sort
 use Rattle.sdl_ast.specs.declared.tree.Join as tree_join
 use Rattle.sdl_ast.specs.declared.tree.End.{End}
 use Rattle.sdl_ast.specs.declared.tree.End.TheVariants.{NextState, Stop, Join}
-use Rattle.sdl_ast.specs.Plain.{Tree, number, truth, variable, unary, binary, PlainAction, Text, falls, ends, does, decides, PlainConnection}
+use Rattle.sdl_ast.specs.Plain.{Text, falls, ends, does, decides, PlainConnection}
 use Rattle.turn_code.specs.declared.value.Sort.{Sort}
 use Rattle.turn_code.specs.declared.instruction.Instruction.{Instruction}
 use Rattle.turn_code.specs.declared.variable_set.VariableSet.{VariableSet}
@@ -19,27 +18,24 @@ use Rattle.sdl_tables.specs.Names.{Variable, variables_of}
 use Rattle.sdl_sound.specs.Actions.{Origin}
 use Rattle.sdl_sound.specs.Going.{goes_on}
 use Rattle.sdl_sound.specs.Sorts.{wrong_place}
-use Rattle.sdl_sound.specs.Longest.{Piece, is_division, cost_of, action_cost, places_cost, size}
-use Rattle.sdl_meaning.specs.Act.{is_truth}
+use Rattle.sdl_sound.specs.Longest.{Piece, action_cost, size}
 use Rattle.sdl_meaning.specs.Outcomes.{Scope, connector_at}
-use Rattle.sdl_meaning.specs.Code.{number_or_zero, tree_code, action_code, end_code, code_joins, joined, ArePlaced, text_at, size_at, place_in, connections_place, text_place, places_code, text_code, connections_code}
-use Rattle.sdl_meaning.specs.Named.{NamedText, NamedWhole, NamedConnections, NamedPiece}
+use Rattle.sdl_meaning.specs.Code.{number_or_zero, tree_code, action_code, end_code, code_joins, joined, ArePlaced, text_at, size_at, place_in, connections_place, text_place, places_code}
+use Rattle.sdl_meaning.specs.Named.{NamedText, NamedConnections, NamedPiece}
 use Rattle.sdl_meaning.specs.Declarations.{sort_of_tree}
 use Rattle.sdl_facts.specs.Reads.{action_set, places_set, ReadText}
 use Rattle.sdl_facts.specs.Entries.{entry_at}
-use Rattle.sdl_facts.specs.Facts.{shapes_from}
-use Rattle.sdl_meaning.proofs.Sizes.{tree_size, action_size, places_size, text_size_is}
-use Rattle.sdl_facts.proofs.Straight.{AreRight}
+use Rattle.sdl_meaning.proofs.Sizes.{tree_size, action_size, places_size}
 use Rattle.sdl_facts.proofs.Stretches.{left_set}
 use Rattle.sdl_facts.proofs.Shapes.{action_leads, places_leads}
 use Rattle.sdl_facts.proofs.Actions.{Stands, Reaching, counted_action, places_right}
 use Rattle.sdl_meaning.proofs.Branches.{EachJoin}
-use Rattle.sdl_meaning.proofs.Joining.{contains_map, HasConnection, has_connection, each_join}
+use Rattle.sdl_meaning.proofs.Joining.{contains_map, has_connection, each_join}
 use Rattle.sdl_meaning.proofs.Acts.{joined_placed, placed_closed, tail_contains}
 use Rattle.sdl_valid.proofs.Entering.{number_at, TextFits}
-use Rattle.sdl_facts.proofs.Spots.{Spot, instructions, over, text_spots, connections_spots, piece_spots, text_instructions}
+use Rattle.sdl_facts.proofs.Spots.{Spot, over, text_spots, connections_spots, piece_spots}
 use Rattle.sdl_valid.proofs.RightTexts.{RightText}
-use Rattle.sdl_valid.proofs.Stretches.{Enters, IsFine, AllFine, HasSpots, Chain, Stretch, has_front, has_back, fine_append, chain_append, enters_here}
+use Rattle.sdl_valid.proofs.Stretches.{Enters, AllFine, HasSpots, Chain, has_front, has_back, fine_append, chain_append, enters_here}
 use Rattle.sdl_valid.proofs.Fine.{Begins, stretch, text_fine}
 use Rattle.sdl_valid.proofs.TextLengths.{text_length, over_length}
 use Rattle.std.proofs.lemmas.Bool.{eqb-true as same_place}

@@ -3,7 +3,7 @@ use Rattle.std.proofs.Common.{◌≡◌, ℕ, suc, ◌+◌, Bool, true, false, c
 use Rattle.std.proofs.lemmas.List.{length-map}
 use Rattle.sdl_ast.specs.Plain.{Text, Choice}
 use Rattle.turn_code.specs.declared.value.Sort.{Sort}
-use Rattle.turn_code.specs.declared.value.Sort.TheVariants.{Boolean}
+use Rattle.turn_code.specs.declared.value.Sort.TheVariants.{Integer, Boolean}
 use Rattle.turn_code.specs.declared.instruction.Instruction.{Instruction}
 use Rattle.turn_code.specs.declared.variable_set.VariableSet.{VariableSet}
 use Rattle.turn_code.specs.declared.draft.Draft.{Draft}
@@ -34,6 +34,9 @@ instructions_length l = length-map l (λ (p : Spot). p.instruction)
 module _ (d : Draft) (t : Transition) (c : Scope) (to : ℕ → ℕ) where
   abbrev N : List Sort → VariableSet → List Instruction → List Spot
   N s m code = over d.signals t.process.variables t.parameters s m code
+
+  abbrev Number : List Sort
+  Number = Integer ∷ []
 
   abbrev T : ℕ → VariableSet → Text → List Spot
   T n m u = text_spots d.signals t.process.variables t.parameters c to n m u

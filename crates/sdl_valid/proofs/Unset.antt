@@ -1,6 +1,6 @@
 -- Where a variable isn't said to be set, no walk reads it from there, and none comes with it unset to a state that wants it.
-use Rattle.std.proofs.Common.{◌≡◌, ℕ, zero, suc, ◌+◌, ◌-◌, ◌^◌, ◌<◌, ◌≤◌, Bool, true, false, not, cond, ◌==◌, ◌||◌, ◌&&◌, List, [], ◌∷◌, ◌++◌, ◌⊎◌, inl, inr, ⊎_elim, length, get_or, map, Option, Some, None, IsSome, refl, sym, ap, ◌∙◌, subst, arith}
-use Rattle.std.specs.Prelude.{slice_get, slice_set, find, nat_eq}
+use Rattle.std.proofs.Common.{◌≡◌, ℕ, zero, suc, ◌+◌, ◌-◌, ◌<◌, ◌≤◌, Bool, true, false, not, cond, ◌==◌, ◌||◌, ◌&&◌, List, [], ◌∷◌, ◌++◌, ◌⊎◌, inl, inr, ⊎_elim, length, get_or, map, Option, Some, None, IsSome, refl, sym, ap, ◌∙◌, subst, arith}
+use Rattle.std.specs.Prelude.{slice_get, slice_set, nat_eq}
 use Rattle.std.specs.Int.{bit_at}
 use Rattle.std.specs.List.{flat_map}
 use Rattle.std.specs.Option.{option_map_or}
@@ -22,8 +22,8 @@ use Rattle.sdl_meaning.specs.Act.{is_truth}
 use Rattle.sdl_meaning.specs.Outcomes.{Scope, variable_at, state_at, connector_at}
 use Rattle.sdl_meaning.specs.Code.{number_or_zero}
 use Rattle.sdl_meaning.specs.Named.{NamedTree, NamedAction, NamedText, NamedChoice}
-use Rattle.sdl_facts.specs.Reads.{ReadTree, ReadAction, tasks_set, action_set, everything, meet, left, answers_left, else_left, choice_left, EndsSet, ReadText, ReadChoice}
-use Rattle.sdl_facts.specs.Entries.{entry_at, met_at, end_met, met, answers_met, else_met, connection_met, connections_met}
+use Rattle.sdl_facts.specs.Reads.{ReadTree, ReadAction, tasks_set, action_set, everything, meet, left, answers_left, else_left, choice_left, ReadText, ReadChoice}
+use Rattle.sdl_facts.specs.Entries.{entry_at, met_at, met, answers_met, else_met, connection_met, connections_met}
 use Rattle.sdl_meaning.proofs.Branches.{EachJoin, ChoiceJoin}
 use Rattle.sdl_meaning.proofs.Numbers.{AreNumbered}
 use Rattle.sdl_meaning.proofs.Sorting.{place_in, first_of_some, found_at}

@@ -1,6 +1,6 @@
 -- Sets of variables, where less may happen, and what stays set.
-use Rattle.std.proofs.Common.{◌≡◌, ℕ, zero, suc, ◌-◌, ◌^◌, ◌<◌, min, Bool, true, false, not, ◌||◌, ◌&&◌, List, [], ◌∷◌, Option, Some, None, refl, ap, ◌∙◌, arith}
-use Rattle.std.specs.Prelude.{bit_and, find}
+use Rattle.std.proofs.Common.{◌≡◌, ℕ, zero, suc, ◌<◌, min, Bool, true, false, not, ◌||◌, ◌&&◌, List, [], ◌∷◌, Option, Some, None, refl, ap, ◌∙◌, arith}
+use Rattle.std.specs.Prelude.{bit_and}
 use Rattle.std.specs.Int.{bit_at}
 use Rattle.std.specs.List.{flat_map}
 use Rattle.std.specs.Option.{option_map_or}
@@ -13,13 +13,12 @@ use Rattle.sdl_ast.specs.Plain.{Tree, PlainAssignment, PlainSending, PlainAction
 use Rattle.turn_code.specs.declared.variable_set.VariableSet.{VariableSet}
 use Rattle.turn_code.specs.Sets.{Has, IsWithin, with_variable}
 use Rattle.sdl_tables.specs.Names.{states_of, connection_named}
-use Rattle.sdl_sound.specs.Paths.{sets, tree_events, sending_events, action_events, sets_in}
+use Rattle.sdl_sound.specs.Paths.{tree_events, sending_events, action_events, sets_in}
 use Rattle.sdl_sound.specs.Chances.{Chances, no_chances, event_chances, behind, beside, last_chances, end_chances, chances, choice_chances, chances_by}
 use Rattle.sdl_sound.specs.Names.{tree_names}
 use Rattle.sdl_meaning.specs.Outcomes.{Scope, variable_at}
 use Rattle.sdl_meaning.specs.Code.{number_or_zero}
-use Rattle.sdl_facts.specs.Reads.{tasks_set, action_set, everything, meet, left, answers_left, else_left, choice_left, EndsSet}
-use Rattle.sdl_facts.specs.Entries.{end_met}
+use Rattle.sdl_facts.specs.Reads.{tasks_set, action_set, everything, meet, left, answers_left, else_left, choice_left}
 use Rattle.sdl_valid.proofs.Walks.{has_more, sets_append, reads_set_none}
 use Rattle.plain_laws.proofs.Truths.{neither_first as or_front, neither_second as or_back}
 

@@ -1,10 +1,7 @@
-use Rattle.std.proofs.Common.{◌≡◌, length, ap, sym, ◌∙◌, subst, arith, get_or, ◌<◌, List, [], ℕ}
+use Rattle.std.proofs.Common.{length, ap, ◌∙◌, subst, arith, List, [], ℕ}
 use Rattle.std.specs.List.{sum_by}
-use Rattle.sdl_ast.specs.Views.{text_of}
-use Rattle.sdl_tables.specs.Names.{variables_of}
-use Rattle.sdl_sound.specs.Longest.{size}
 use Rattle.sdl_names.specs.Scopes.{scope_in, piece_in}
-use Rattle.sdl_meaning.specs.Code.{size_at, connections_place, piece_code}
+use Rattle.sdl_meaning.specs.Code.{size_at, piece_code}
 use Rattle.turn_code.specs.Rules.{greatest, depths}
 use Rattle.sdl_facts.specs.Facts.{shapes_from, piece_sets}
 use Rattle.sdl_meaning.specs.Declarations.{drafted_signals}

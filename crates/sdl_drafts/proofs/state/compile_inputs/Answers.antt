@@ -1,4 +1,4 @@
-use Rattle.std.proofs.Common.{◌+◌, take, sym, subst}
+use Rattle.std.proofs.Common.{take, sym, subst}
 use Rattle.std.specs.List.{AllZip, flat_map}
 use Rattle.sdl_sound.specs.Standing.{taken_by}
 use Rattle.sdl_sound.proofs.Spread.{flat_more}

@@ -1,4 +1,4 @@
-use Rattle.std.proofs.Common.{◌<◌, length, map, subst, sym, ap, arith, add-one}
+use Rattle.std.proofs.Common.{◌<◌, length, subst, sym, ap, arith, add-one}
 use Rattle.std.specs.Global.{Vec}
 use Rattle.sdl_ast.specs.Views.{process_of}
 use Rattle.sdl_ast.specs.declared.expression.Identifier.{Identifier}

@@ -1,4 +1,4 @@
-use Rattle.std.proofs.Common.{rules, ◌≡◌, ◌∙◌, zero, suc, List, [], ◌∷◌, map, replicate, length, ap, refl}
+use Rattle.std.proofs.Common.{rules, ◌≡◌, ◌∙◌, List, [], ◌∷◌, map, replicate, length, ap, refl}
 use Rattle.std.proofs.lemmas.List.{length-map}
 use Rattle.sdl_ast.specs.Plain.{PlainConnection}
 use Rattle.sdl_ast.specs.Views.{connection_of}

@@ -1,20 +1,18 @@
-use Rattle.std.proofs.Common.{rules, ◌≡◌, [], ◌∷◌, ◌++◌, ◌&&◌, ◌||◌, ◌+◌, ℕ, map, drop, ap, refl, sym, ◌∙◌, subst, append-nil}
+use Rattle.std.proofs.Common.{rules, [], ◌++◌, ◌&&◌, ◌||◌, ◌+◌, ℕ, map, drop, ap, refl, sym, ◌∙◌, subst, append-nil}
 use Rattle.std.proofs.lemmas.Result.{on_ok_weaker, IfOk-weaker}
 use Rattle.std.proofs.Math.Bool.{and-true, and-false}
 use Rattle.std.proofs.lemmas.List.{drop_all}
-use Rattle.sdl_ast.specs.Plain.{Text, Choice, falls}
+use Rattle.sdl_ast.specs.Plain.{Text, falls}
 use Rattle.sdl_ast.specs.declared.tree.Decision.{out-Decision, the_lemmas}
-use Rattle.sdl_ast.specs.Views.{plain_answer, text_of, choice_of, statements_before, answers_before, end_text, else_choice, action_of, statement_of}
+use Rattle.sdl_ast.specs.Views.{plain_answer, text_of, choice_of, statements_before, answers_before, end_text, else_choice, action_of}
 use Rattle.sdl_ast.proofs.Views.{text_of-is}
 use Rattle.sdl_sound.specs.Going.{goes_on, choice_goes_on}
 use Rattle.sdl_names.specs.Scopes.{scope_in, question_in, NamedElse}
 use Rattle.sdl_landing.proofs.Picking.{one_answer}
-use Rattle.sdl_emit.proofs.Emitting.{one_statement, statement_named, rest_named, others_named, answer_named, choice_named}
+use Rattle.sdl_emit.proofs.Emitting.{one_statement, statement_named, rest_named, others_named, answer_named}
 use Rattle.sdl_emit.proofs.Landed.{rest_goes}
-use Rattle.turn_code.specs.declared.variable_set.VariableSet.{VariableSet}
-use Rattle.sdl_meaning.specs.Act.{is_truth}
 use Rattle.sdl_meaning.specs.Named.{NamedText, NamedChoice}
-use Rattle.sdl_facts.specs.Reads.{everything, left, answers_left, else_left, choice_left}
+use Rattle.sdl_facts.specs.Reads.{everything, left, answers_left, else_left}
 use Rattle.sdl_facts.specs.Entries.{met, answers_met, else_met}
 use Rattle.sdl_facts.specs.Facts.{action_sets, text_sets, answers_sets, else_sets, decision_sets}
 use Rattle.sdl_facts.proofs.Bodies.{statements_past, answers_past, acted, decided, rest_sets, rest_met, rest_left, others_sets, others_met, others_left, others_go, no_sets, none_met, none_left, body_goes, body_ends}

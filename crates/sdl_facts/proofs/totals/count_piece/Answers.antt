@@ -1,5 +1,5 @@
-use Rattle.std.proofs.Common.{◌≡◌, ℕ, ◌+◌, ◌<◌, ◌≤◌, length, sym, ap, ◌∙◌, arith}
-use Rattle.std.specs.Prelude.{get_or, Contains}
+use Rattle.std.proofs.Common.{length, sym, ap, ◌∙◌, arith}
+use Rattle.std.specs.Prelude.{get_or}
 use Rattle.std.proofs.lemmas.List.{get_or_default}
 use Rattle.sdl_counts.specs.declared.counts.Counted.TheVariants.{Instructions}
 use Rattle.sdl_names.specs.Scopes.{scope_in, piece_in}
