@@ -59,12 +59,12 @@ all_ready_at c (js ∷ iss) (suc k) is h e = all_ready_at c iss k is h.1 e
 -- ---- initial values
 
 -- a variable with an initial value, whose name is this one
-record StartsSet (vs : List Variable) (x : List ℕ) : Type 0 where
-  number : ℕ
-  name : Identifier
-  there : slice_get (map (λ (v : Variable). v.name) vs) number ≡ Some name
-  same : same_name x name.name ≡ true
-  set : Has (initial_set (map drafted vs)) number
+pub record StartsSet (vs : List Variable) (x : List ℕ) : Type 0 where
+  pub number : ℕ
+  pub name : Identifier
+  pub there : slice_get (map (λ (v : Variable). v.name) vs) number ≡ Some name
+  pub same : same_name x name.name ≡ true
+  pub set : Has (initial_set (map drafted vs)) number
 
 -- bit v of the set of all these variables is that of the first, or bit v - 1 of the set of the others
 bit_first : (b n : ℕ) → b < 2 → bit_at (b + 2 * n) 0 ≡ b
