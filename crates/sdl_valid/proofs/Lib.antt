@@ -10,3 +10,7 @@ pub mod Unset
 pub mod UnsetLaws
 pub mod Validity
 pub mod Walks
+pub use Rattle.sdl_facts.proofs.Actions
+pub use Rattle.sdl_facts.proofs.Depths
+pub use Rattle.sdl_facts.proofs.PlaceSets
+pub use Rattle.sdl_facts.proofs.Spots
