@@ -14,7 +14,7 @@ use Rattle.link_heart.specs.Laws.{KeptLaw}
 use Rattle.link_term.specs.Hearing.{Reads, as_unit, as_error, AreTaken, nothing, unit, errored, sixteen, silent, octet, Heard}
 use Rattle.link_term.specs.Kept.{window_of, Took, Sends}
 use Rattle.link_term.specs.Speaking.{left, Spoke}
-use Rattle.link_term.specs.Term.{Term}
+use Rattle.link_term.specs.Term.{Term, with_heart}
 use Rattle.link_term.specs.Laws.{acknowledged_read, acknowledged_taken, acknowledged_along, StaysKept}
 use Rattle.link_term.proofs.Delivering.{tidied_side}
 
@@ -63,8 +63,12 @@ module _ (law : KeptLaw) where
 pub took_nothing : (t : Term) → Took t t
 took_nothing t = record { gone = []; loses = no_loss (window_of t) }
 
-pub took_same : (old inside new : Term) → inside ≡ old → new ≡ inside → Took old new
-took_same old inside new is same = let P : Term → Type 0 = λ t. Took old t in subst P (sym (same ∙ is)) (took_nothing old)
+pub took_from : (old inside new : Term) → inside ≡ old → Took inside new → Took old new
+took_from old inside new is took = let P : Term → Type 0 = λ t. Took t new in subst P is took
+
+pub took_none : (old t : Term) (h : Heart) → t ≡ old → h ≡ t.heart → Took old (with_heart t h)
+took_none old t h is same =
+    let P : Heart → Type 0 = λ x. Took old (with_heart t x) in subst P (sym same) (took_from old t t is (took_nothing t))
 
 pub took_more : (t m u : Term) → Took t m → Took m u → Took t u
 took_more t m u first second = record {

@@ -1,6 +1,6 @@
 use Rattle.std.proofs.Common.{refl, arith}
 use Rattle.link_term.proofs.Cutting.{heard_from, heard_none}
-use Rattle.link_term.proofs.Losing.{took_heard, took_same}
+use Rattle.link_term.proofs.Losing.{took_heard, took_from, took_none}
 use Rattle.link_term.proofs.Quiet.{heard_part, some_taken}
 use Rattle.link_term.proofs.Taking.{room_for, taken_from}
 use Rattle.link_term.proofs.terminal.Terminal.take_part.Goals as goal
@@ -48,3 +48,7 @@ returns-clause-took c =
         c.as_slice.ensures.value (c.if-not-make_room.ensures.tidied refl) c.take_events.ensures)
         refl in
     took_from c.args.self.now _ _ c.self.view_is (took_heard c.unacknowledged_messages_stay.ensures _ _ c.self.invariant.0 _ c.self.invariant.1 part)
+
+pub returns-then-not-make_room-clause-took : goal.returns-then-not-make_room-clause-took
+returns-then-not-make_room-clause-took c =
+    took_none c.args.self.now _ c.make_room.new.heart c.self.view_is (c.if-not-make_room.ensures.left refl)
