@@ -162,7 +162,7 @@ impl Heart {
     }
 
     /// Makes room in the journal where fewer than [`LOW`] places of it are free and it holds events.
-    #[tactic(auto, unfolding(crate::specs::Machine::tidied))]
+    #[tactic(auto, unfolding(crate::specs::Machine::tidied, link_machine::specs::Ledger::rebased))]
     pub fn tidy(&mut self) -> Result<(), AllocError>
         ensures ok { OnOk result (self.new ≡ tidied self.old) }
         ensures room { OnOk result (is_low self.new ≡ false) }
@@ -170,9 +170,16 @@ impl Heart {
         ensures err { OnErr result (self.new ≡ self.old) }
         ensures low { OnErr result (is_low self.old ≡ true) }
     {
-        if !self.book.journal().is_empty() && self.book.room() < LOW {
+        if self.is_low() {
             self.book.rebase()?;
         }
         Ok(())
+    }
+
+    /// Whether the journal holds events, and fewer than [`LOW`] places of it are free.
+    fn is_low(&self) -> bool
+        ensures { result ≡ is_low self.now }
+    {
+        !self.book.journal().is_empty() && self.book.room() < LOW
     }
 }

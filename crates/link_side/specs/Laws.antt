@@ -119,7 +119,7 @@ HandsOutInOrder = (h : Half) (cs : List Call) → h.messages ++ accepted h cs �
 
 -- a unit that goes out, if one does, has this backward number and bit
 abbrev pub Tells : Backward → Option UnitOut → Type 0
-Tells b None = Unit {0}
+Tells b None = Prim.Unit {0}
 Tells b (Some out) = ((head_of out.unit).bsn ≡ b.bsn) × ((head_of out.unit).bib ≡ b.bib)
 
 -- While acknowledgement is withheld, each unit that goes out tells of the number and the bit of when that was asked for, whatever was heard
