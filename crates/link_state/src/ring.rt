@@ -1,8 +1,7 @@
 //! What waits for the environment.
 
-ghost use Rattle.std.specs.Prelude.{◌≡◌, ◌<◌, ◌∷◌, ◌++◌, [], length, slice_get, IfOk, IfSome, IfNone};
+ghost use Rattle.std.specs.Prelude.{◌≡◌, ◌∷◌, [], length, slice_get, IfOk, IfSome, IfNone};
 ghost use Rattle.std.specs.Option.{option_copied};
-ghost use Rattle.circular_buffer.specs.Buffer.{buffer};
 ghost use Rattle.link_machine.specs.Core.{Ring as Waiting};
 ghost use Rattle.link_machine.specs.Effects.{has_room, with_emitted};
 ghost use Rattle.link_machine.specs.Step.{tail_of};
@@ -82,18 +81,10 @@ impl Ring {
         let alloc = *self.items.allocator();
         let mut items = HeapCircularBuffer::with_capacity(alloc, self.items.capacity())?;
         for emitted in &self.items {
-            push_in_room(&mut items, copied(emitted));
+            let _full = items.try_push_back(copied(emitted)).is_err();
         }
         Ok(Ring { items })
     }
-}
-
-/// Puts a signal behind the others where there is room.
-fn push_in_room(items: &mut HeapCircularBuffer<Emitted>, emitted: Emitted)
-    requires { length items.old.items < items.old.capacity }
-    ensures { items.new ≡ buffer (items.old.items ++ emitted ∷ []) items.old.capacity }
-{
-    let _full = items.try_push_back(emitted).is_err();
 }
 
 /// The same signal once more. It takes no memory.
