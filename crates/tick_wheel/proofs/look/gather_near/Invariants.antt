@@ -1,7 +1,7 @@
 use Rattle.std.proofs.Common.{◌≡◌, ◌≤◌, ◌+◌, length, min, vec_capacity}
 use Rattle.slot_lists.specs.Sizes.{SLOTS}
 use Rattle.tick_wheel.specs.Slots.{due_of, visited}
-use Rattle.tick_wheel.proofs.gather_near.Given as goal
+use Rattle.tick_wheel.proofs.look.gather_near.Given as goal
 
 abbrev pub invariant-loop-step : goal.invariant-loop-step
 invariant-loop-step l = record {

@@ -1,7 +1,7 @@
 use Rattle.std.proofs.Common.{◌+◌, ◌++◌, sym, ap, ◌∙◌, arith, get_or, length, length-append, []}
 use Rattle.tick_wheel.specs.Slots.{due_of, visited}
 use Rattle.tick_wheel.proofs.Gathering.{visited-more, more-few, due_of-few, due_of-append}
-use Rattle.tick_wheel.proofs.gather_near.Goals as goal
+use Rattle.tick_wheel.proofs.look.gather_near.Goals as goal
 
 pub gather-count-requires-clause-few : goal.gather-count-requires-clause-few
 gather-count-requires-clause-few c =

@@ -1,7 +1,7 @@
 use Rattle.std.proofs.Common.{◌≡◌, ◌≤◌, ◌++◌, take, length, get_or, [], ◌-◌, vec_capacity}
 use Rattle.std.specs.List.{slice_get}
 use Rattle.tick_wheel.specs.Slots.{due_of}
-use Rattle.tick_wheel.proofs.gather.Given as goal
+use Rattle.tick_wheel.proofs.look.gather.Given as goal
 
 abbrev pub invariant-loop-here : goal.invariant-loop-here
 invariant-loop-here l =

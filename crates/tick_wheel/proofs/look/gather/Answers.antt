@@ -2,7 +2,7 @@ use Rattle.std.proofs.Common.{◌++◌, sym, ap, ◌∙◌, arith, get_or, [], N
 use Rattle.tick_wheel.specs.Slots.{due_before}
 use Rattle.tick_wheel.proofs.Lists.{held, within, none-left}
 use Rattle.tick_wheel.proofs.Gathering.{room-left, gathered-more, gathered-all}
-use Rattle.tick_wheel.proofs.gather.Goals as goal
+use Rattle.tick_wheel.proofs.look.gather.Goals as goal
 
 pub bounds-table-from : goal.bounds-table-from
 bounds-table-from c =
