@@ -22,8 +22,8 @@ impl Draws {
 
     /// A timer.
     fn timer(&mut self) -> Timer {
-        let process = self.below(128) as u8 % 128;
-        let number = self.below(8) as u8 % 8;
+        let process = (self.below(128) % 128) as u8;
+        let number = (self.below(8) % 8) as u8;
         Timer::new(process, number)
     }
 
