@@ -1,5 +1,7 @@
 """What the tools share that try a built program: how a run ends, cases side by side, a library of C to load before it, and the last line."""
 import concurrent.futures
+import importlib.machinery
+import importlib.util
 import os
 import pathlib
 import shutil
@@ -49,15 +51,28 @@ class Count:
         print(f"{self.name}: skipped: {why}", flush=True)
 
     def all(self, cases, call):
-        """Counts cases, made side by side; `call` gives the fault of one, if it has one. A case is a name and what it is made of."""
-        with concurrent.futures.ThreadPoolExecutor(len(os.sched_getaffinity(0))) as pool:
-            for (name, *_), fault in zip(cases, pool.map(lambda it: call(*it[1:]), cases)):
-                self.case(name, fault)
+        """Counts cases; `call` gives the fault of one, if it has one. A case is a name and what it is made of."""
+        for (name, *_), fault in zip(cases, side_by_side(call, [it[1:] for it in cases])):
+            self.case(name, fault)
 
     def end(self):
         """Prints the last line. Gives the exit status."""
         print(f"{self.passed} passed, {self.failed} failed" + (f", {self.skipped} skipped" if self.skipped else ""), flush=True)
         return 1 if self.failed else 0
+
+
+def side_by_side(call, given):
+    """What `call` gives for each of these, in their order, asked on all processors."""
+    with concurrent.futures.ProcessPoolExecutor(len(os.sched_getaffinity(0))) as pool:
+        return list(pool.map(call, *zip(*given), chunksize=max(1, min(16, len(given) // 40)))) if given else []
+
+
+def tool(name):
+    """A tool of this folder as a module."""
+    loader = importlib.machinery.SourceFileLoader(name, str(ROOT / "tools" / name))
+    module = importlib.util.module_from_spec(importlib.util.spec_from_loader(name, loader))
+    loader.exec_module(module)
+    return module
 
 
 def missing(*programs):
