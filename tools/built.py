@@ -61,10 +61,15 @@ class Count:
         return 1 if self.failed else 0
 
 
+def called(given):
+    call, words = given
+    return call(*words)
+
+
 def side_by_side(call, given):
     """What `call` gives for each of these, in their order, asked on all processors."""
     with concurrent.futures.ProcessPoolExecutor(len(os.sched_getaffinity(0))) as pool:
-        return list(pool.map(call, *zip(*given), chunksize=max(1, min(16, len(given) // 40)))) if given else []
+        return list(pool.map(called, [(call, it) for it in given], chunksize=max(1, min(16, len(given) // 40))))
 
 
 def tool(name):
