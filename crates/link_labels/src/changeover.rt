@@ -1,5 +1,5 @@
 //! Messages of changeover.
-ghost use Rattle.std.specs.Prelude.{◌≡◌, ◌↔◌, ◌≤◌, Some, length};
+ghost use Rattle.std.specs.Prelude.{◌≡◌, ◌↔◌, ◌≤◌, Some, IfSome, length};
 ghost use Rattle.link_labels.specs.Labels.{IsLabel};
 ghost use Rattle.link_labels.specs.Changeovers.{IsKind, behind_label, Says};
 
@@ -43,7 +43,8 @@ fn kind_of(octets: &[u8]) -> Option<Kind>
 
 /// The message that octets are, and none where they are not just those of one.
 pub fn read_changeover(octets: &[u8]) -> Option<Changeover>
-    ensures { (m : Changeover) → (result ≡ Some m) ↔ Says octets.now m }
+    ensures exact { (m : Changeover) → (result ≡ Some m) ↔ Says octets.now m }
+    ensures whole { IfSome result (λ m. IsLabel m.label) }
 {
     let label = label_of_octets(octets)?;
     let kind = kind_of(&octets[4..])?;

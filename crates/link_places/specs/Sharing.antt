@@ -32,3 +32,11 @@ counts_of ms = map (λ s. length (of s ms)) selections
 -- the link of a selection among those that may take it: of n links the (s mod n)th, and of none none
 unfoldable pub pick : List ℕ → ℕ → Option ℕ
 pick links s = slice_get links (s % length links)
+
+abbrev pub entry_by : Option (Option ℕ) → Option ℕ
+entry_by None = None
+entry_by (Some link) = link
+
+-- the link of a selection by a table
+unfoldable pub link_of : List (Option ℕ) → ℕ → Option ℕ
+link_of table s = entry_by (slice_get table s)

@@ -5,7 +5,9 @@
 mod laws;
 mod marks;
 mod sharing;
+mod table;
 
 pub use laws::steps_keep_places;
 pub use marks::{Answer, Changing, Marks, PATIENCE, SELECTIONS};
 pub use sharing::{Counts, count_on, counts_of, pick, selection_of};
+pub use table::Table;
