@@ -17,7 +17,7 @@ use Rattle.link_machine.specs.declared.reply.Refusal.{Refusal}
 use Rattle.link_machine.specs.declared.reply.Refusal.TheVariants.{NoActor, NoRoute, Stranger}
 use Rattle.link_machine.specs.declared.reply.Reply.{Reply}
 use Rattle.link_machine.specs.declared.reply.Reply.TheVariants as reply
-use Rattle.actor_book.specs.Shown.{variable_of}
+use Rattle.book_rest.specs.Shown.{variable_of}
 use Rattle.book_rest.specs.Turns.{MOST_TURNS, rests, refusal_in}
 use Rattle.script_lines.specs.Commands.{PlainOffer, PlainCommand, offer, flood, call, tick, env, rest, value, expect}
 use Rattle.script_lines.specs.declared.verbs.Call.{Call}

@@ -7,8 +7,7 @@ ghost use Rattle.book_play.specs.Answers.{process_named, by_event, variable_line
 use crate::calls::{actor_of, call};
 use crate::names::{process_named, variable_named};
 use crate::offers::{flood, offer};
-use actor_book::{Book, Refusal};
-use book_rest::rest;
+use book_rest::{Book, Refusal, rest};
 use script_lines::Command;
 use script_replies::{refused_line, shown_line, taken_line};
 use std::alloc::{AllocError, Global};

@@ -5,7 +5,7 @@ ghost use Rattle.link_machine.specs.declared.event.Event.TheVariants as event;
 ghost use Rattle.book_play.specs.Answers.{process_named, by_event, finishes, standing_line, standing_at, state_line, called, calls};
 
 use crate::names::process_named;
-use actor_book::{Book, Refusal};
+use book_rest::{Book, Refusal};
 use script_lines::Call;
 use script_replies::{begun_line, finished_line, refused_line, skipped_line, standing_line};
 use std::alloc::{AllocError, Global};

@@ -14,3 +14,5 @@ pub use calls::state_line;
 pub use player::MISSED;
 pub use playing::play_book;
 pub use printer::Printer;
+pub use script_replies::refused_line;
+pub use text_check::{FAILED, HELD, SetWord, load_set, refuse, write_line, write_refusal};

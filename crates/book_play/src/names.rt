@@ -2,7 +2,7 @@
 ghost use Rattle.std.specs.Prelude.{◌≡◌, option_map};
 ghost use Rattle.book_play.specs.Answers.{process_named, signal_named, variable_named};
 
-use actor_book::Book;
+use book_rest::Book;
 use turn_code::{ProcessNumber, SignalNumber, VariableNumber};
 
 /// The process of this name.

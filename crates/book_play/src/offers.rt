@@ -6,8 +6,7 @@ ghost use Rattle.link_machine.specs.declared.event.Event.TheVariants.{Offer as O
 ghost use Rattle.book_play.specs.Answers.{process_named, signal_named, took, offered, looked_up, floods, flooded, why};
 
 use crate::names::{process_named, signal_named};
-use actor_book::{Book, Refusal};
-use book_rest::rest;
+use book_rest::{Book, Refusal, rest};
 use script_lines::Offer;
 use turn_code::{ProcessNumber, SignalNumber, Value};
 

@@ -6,7 +6,7 @@ ghost use Rattle.book_play.specs.Played.{last_of, IsRun, IsMissed, IsMissedBy};
 
 use crate::answers::answer;
 use crate::printer::Printer;
-use actor_book::Book;
+use book_rest::Book;
 use script_lines::{Command, Said};
 use std::alloc::Global;
 use std::io::{self, Write};

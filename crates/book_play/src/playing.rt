@@ -6,7 +6,7 @@ ghost use Rattle.book_play.specs.Played.{first_book, last_of, IsRun, IsWritten, 
 
 use crate::player::Player;
 use crate::printer::Printer;
-use actor_book::{Book, Limits};
+use book_rest::{Book, Limits};
 use script_lines::{Said, Script, Settings};
 use std::alloc::Global;
 use std::io::Write;

@@ -4,12 +4,12 @@ use Rattle.std.specs.Prelude.{slice_get}
 use Rattle.turn_code.specs.Transitions.{Transition, transition_at}
 use Rattle.turn_code.specs.declared.input.Place.{Place}
 use Rattle.turn_code.specs.declared.draft.Draft.{Draft}
-use Rattle.turn_machine.specs.Turn.{Turn, turn_of}
-use Rattle.link_machine.specs.Ledger.{Ledger, state_of, turn_with, turn_given, turn_at, turn_out}
-use Rattle.link_machine.specs.declared.actor.Actor.{Actor}
-use Rattle.link_machine.specs.declared.actor.Given.{Given}
-use Rattle.link_machine.specs.declared.actor.Standing.{Standing}
-use Rattle.link_machine.specs.declared.actor.Standing.TheVariants.{At, Stopped}
+use Rattle.actor_book.specs.Turn.{Turn, turn_of}
+use Rattle.actor_book.specs.Ledger.{Ledger, state_of, turn_with, turn_given, turn_at, turn_out}
+use Rattle.actor_book.specs.link_machine_types.actor.Actor.{Actor}
+use Rattle.actor_book.specs.link_machine_types.actor.Given.{Given}
+use Rattle.actor_book.specs.link_machine_types.actor.Standing.{Standing}
+use Rattle.actor_book.specs.link_machine_types.actor.Standing.TheVariants.{At, Stopped}
 pub use Rattle.actor_book.proofs.Ending.{still_own}
 
 with_own : (n : ℕ) (s : Place) (g : Given) (q : Option Transition) (t : Turn) → turn_with n s g q ≡ Some t → t.actor ≡ n

@@ -1,8 +1,8 @@
 -- Turns that begin and end at once.
 use Rattle.std.proofs.Common.{◌≡◌, ℕ, sym, ap, ◌∙◌}
-use Rattle.link_machine.specs.Ledger.{Ledger, ask}
-use Rattle.link_machine.specs.Step.{Answer}
-use Rattle.link_machine.specs.declared.event.Event.TheVariants.{Begin}
+use Rattle.actor_book.specs.Ledger.{Ledger, ask}
+use Rattle.actor_book.specs.Step.{Answer}
+use Rattle.actor_book.specs.link_machine_types.event.Event.TheVariants.{Begin}
 use Rattle.actor_book.specs.Whole.{HasTurned, turned}
 use Rattle.book_rest.specs.declared.turn.Turn.TheVariants.{Made}
 use Rattle.book_rest.specs.Turns.{refusal_in, begins_by, tried}

@@ -1,6 +1,6 @@
 -- What turns and rests are, said without the order in which actors are tried.
 use Rattle.std.specs.Prelude.{◌≡◌, ◌≢◌, ℕ, zero, suc, ◌+◌, ◌<◌}
-use Rattle.link_machine.specs.Ledger.{Ledger}
+use Rattle.actor_book.specs.Ledger.{Ledger}
 use Rattle.book_rest.specs.declared.turn.Turn.TheVariants.{Made, Blocked, Idle}
 use Rattle.book_rest.specs.Turns.{Tried, stays, tried, actors_in, least_turn, rests}
 

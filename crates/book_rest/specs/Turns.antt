@@ -1,12 +1,12 @@
 -- One turn of a link that is left to itself, and a rest of them.
 use Rattle.std.specs.Prelude.{ℕ, zero, suc, ◌+◌, Option, Some, None, length}
-use Rattle.link_machine.specs.Ledger.{Ledger, state_of, ask}
-use Rattle.link_machine.specs.Step.{Answer, Stuck, Says}
-use Rattle.link_machine.specs.declared.event.Event.TheVariants.{Begin, Skip, Finish}
-use Rattle.link_machine.specs.declared.reply.Refusal.{Refusal}
-use Rattle.link_machine.specs.declared.reply.Refusal.TheVariants.{JournalFull, SkipFirst}
-use Rattle.link_machine.specs.declared.reply.Reply.{Reply}
-use Rattle.link_machine.specs.declared.reply.Reply.TheVariants.{Refused}
+use Rattle.actor_book.specs.Ledger.{Ledger, state_of, ask}
+use Rattle.actor_book.specs.Step.{Answer, Stuck, Says}
+use Rattle.actor_book.specs.link_machine_types.event.Event.TheVariants.{Begin, Skip, Finish}
+use Rattle.actor_book.specs.link_machine_types.reply.Refusal.{Refusal}
+use Rattle.actor_book.specs.link_machine_types.reply.Refusal.TheVariants.{JournalFull, SkipFirst}
+use Rattle.actor_book.specs.link_machine_types.reply.Reply.{Reply}
+use Rattle.actor_book.specs.link_machine_types.reply.Reply.TheVariants.{Refused}
 use Rattle.book_rest.specs.declared.turn.Turn.{Turn}
 use Rattle.book_rest.specs.declared.turn.Turn.TheVariants.{Made, Blocked, Idle}
 

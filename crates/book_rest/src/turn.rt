@@ -3,8 +3,7 @@
 ghost use Rattle.std.specs.Prelude.{◌≡◌};
 ghost use Rattle.book_rest.specs.Turns.{turn_refused, skips, tried, actors_in, least_turn, rests, MOST_TURNS};
 
-use actor_book::Book;
-use link_machine::Refusal;
+use actor_book::{Book, Refusal};
 
 /// How many turns and skips a rest has at most.
 pub const REST: u32 = 10_000;

@@ -4,7 +4,7 @@ ghost use Rattle.su_octets.specs.Whole.{IsWhole};
 ghost use Rattle.link_machine.specs.Ledger.{ask};
 ghost use Rattle.link_machine.specs.declared.event.Event.TheVariants.{Advance};
 ghost use Rattle.link_machine.specs.declared.reply.Reply.TheVariants as reply;
-ghost use Rattle.actor_book.specs.Answered.{answer_by};
+ghost use Rattle.book_rest.specs.Answered.{answer_by};
 ghost use Rattle.link_side.specs.Laws.{Loses};
 ghost use Rattle.link_side.specs.Limits.{KEPT_MESSAGES};
 ghost use Rattle.link_heart.specs.Offering.{command_event, offer_event};
@@ -13,7 +13,7 @@ ghost use Rattle.link_heart.specs.Machine.{with_book, with_side, heard, rested, 
 use crate::commands::{Command, command_number, command_signal};
 use crate::laws::{accepted_messages_wait_in_order, unacknowledged_messages_stay};
 use crate::names::{Names, actor_of, notice_signal, notice_values};
-use actor_book::Book;
+use book_rest::Book;
 use link_machine::Refusal;
 use link_side::{Offer, Side, UnitOut, error_offers};
 use std::alloc::AllocError;

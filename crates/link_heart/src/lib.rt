@@ -9,6 +9,7 @@ mod laws;
 mod names;
 mod resting;
 
+pub use book_rest::{Book, Limits};
 pub use commands::Command;
 pub use heart::{Heart, LOW};
 pub use known::{Missing, ProcessName, SignalName};

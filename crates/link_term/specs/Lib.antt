@@ -6,3 +6,7 @@ pub mod Speaking
 pub mod Laws
 pub mod Opening
 pub mod Printed
+pub use Rattle.link_heart.specs.Machine
+pub use Rattle.link_heart.specs.Offering
+pub use Rattle.link_heart.specs.declared as link_heart_types
+pub use Rattle.mtp2_text.specs.declared as mtp2_text_types

@@ -2,7 +2,7 @@
 use Rattle.std.specs.Prelude.{◌≡◌, ℕ, List, []}
 use Rattle.profile_limits.specs.Limits.{MOST_ENVIRONMENT, MOST_JOURNAL, MOST_PORT}
 use Rattle.turn_code.specs.declared.draft.Draft.{Draft}
-use Rattle.turn_verify.specs.Loaded.{IsLoaded, IsRefused}
+use Rattle.mtp2_text.specs.Loaded.{IsLoaded, IsRefused}
 use Rattle.bit_line.specs.Deframing.{Stands}
 use Rattle.bit_line.specs.Stuffers.{Gave}
 use Rattle.resend_store.specs.declared.messages.Mode.{Mode}

@@ -2,7 +2,7 @@
 use Rattle.std.specs.Prelude.{ℕ, List, codes}
 use Rattle.link_machine.specs.Printed.{refusal_text}
 use Rattle.link_heart.specs.Printed.{missing_text}
-use Rattle.turn_verify.specs.Printed.{fault_text}
+use Rattle.mtp2_text.specs.Printed.{fault_text}
 use Rattle.link_term.specs.declared.answers.CallError.{CallError}
 use Rattle.link_term.specs.declared.answers.CallError.TheVariants as call
 use Rattle.link_term.specs.declared.opening.NewError.{NewError}

@@ -5,15 +5,13 @@ ghost use Rattle.link_heart.specs.Known.{AreNames};
 ghost use Rattle.link_term.specs.Opening.{PORT, ENVIRONMENT, JOURNAL, IsOver, IsNew, IsLacking, IsRefusedNew};
 
 use crate::terminal::Terminal;
-use actor_book::{Book, Limits};
-use link_heart::{Missing, Names};
-use mtp2_text::{STANDARD, standard};
+use link_heart::{Book, Limits, Missing, Names};
+use mtp2_text::{LoadFault, STANDARD, standard};
 use resend_store::Mode;
 use std::alloc::{AllocError, Global};
 use std::fmt;
 use thiserror::Error;
 use turn_check::Verified;
-use turn_verify::LoadFault;
 
 /// Why there is no new terminal.
 #[derive(Debug, Drop, Error)]

@@ -12,9 +12,8 @@ ghost use Rattle.link_side.specs.Limits.{KEPT_MESSAGES};
 ghost use Rattle.link_term.specs.Kept.{window_of};
 ghost use Rattle.link_term.specs.Term.{with_half};
 
-use actor_book::Book;
 use bit_line::{Deframer, Stuffer};
-use link_heart::{Heart, Names};
+use link_heart::{Book, Heart, Names};
 use link_side::{Report, Side};
 use resend_store::{Mode, Msu, PutError, RetrieveError};
 use std::alloc::{AllocError, Global};

@@ -1,8 +1,8 @@
 -- What a command line asks for.
 use Rattle.std.specs.Prelude.{◌≡◌, ◌≤◌, ℕ, List, Option, Some, None, codes}
 use Rattle.profile_limits.specs.Limits.{LEAST_WORKERS, MOST_WORKERS}
-use Rattle.mtp2_text.specs.declared.standard_text.TheConstants.{STANDARD}
-use Rattle.mtp2_text.specs.declared.monitors_text.TheConstants.{MONITORS}
+use Rattle.text_check.specs.mtp2_text_types.standard_text.TheConstants.{STANDARD}
+use Rattle.text_check.specs.mtp2_text_types.monitors_text.TheConstants.{MONITORS}
 use Rattle.text_check.specs.declared.sets.SetWord.{SetWord}
 use Rattle.text_check.specs.declared.sets.SetWord.TheVariants.{Standard as standard_set, Monitors as monitors_set}
 use Rattle.mtp2_play.specs.declared.words.Named.{Named}

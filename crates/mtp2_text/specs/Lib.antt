@@ -1,0 +1,3 @@
+pub use Rattle.turn_verify.specs.Loaded
+pub use Rattle.turn_verify.specs.Printed
+pub use Rattle.turn_verify.specs.declared as turn_verify_types

@@ -4,8 +4,8 @@
 ghost use Rattle.std.specs.Prelude.{List, IfOk, IfErr, IsUtf8};
 ghost use Rattle.sdl_lex.specs.declared.lexemes.Token as lexeme;
 ghost use Rattle.sdl_ast.specs.Plain.{PlainBlock};
-ghost use Rattle.sdl_drafts.specs.Blocks.{MatchesBlock};
-ghost use Rattle.sdl_drafts.specs.Meant.{IsSetOf};
+ghost use Rattle.turn_verify.specs.Blocks.{MatchesBlock};
+ghost use Rattle.turn_verify.specs.Meant.{IsSetOf};
 ghost use Rattle.turn_verify.specs.Loaded.{IsLoaded, IsRead, IsSoundText, Gives, IsRefused};
 
 mod monitors_text;
@@ -14,7 +14,7 @@ mod standard_text;
 pub use monitors_text::MONITORS;
 pub use standard_text::STANDARD;
 use std::alloc::Global;
-use turn_verify::{LoadFault, Verified, load};
+pub use turn_verify::{LexFault, LoadFault, Verified, load};
 
 /// The set of a text.
 fn set_of(alloc: Global, text: &str) -> Result<Verified, LoadFault>

@@ -5,10 +5,10 @@ use Rattle.profile_limits.specs.Limits.{USUAL_ENVIRONMENT, USUAL_JOURNAL, USUAL_
 use Rattle.turn_code.specs.declared.draft.Draft.{Draft}
 use Rattle.link_machine.specs.Ledger.{Ledger}
 use Rattle.link_machine.specs.Kept.{opened_book}
-use Rattle.mtp2_text.specs.declared.standard_text.TheConstants.{STANDARD}
+use Rattle.text_check.specs.mtp2_text_types.standard_text.TheConstants.{STANDARD}
 use Rattle.turn_pool.specs.Receipts.{AllStand}
 use Rattle.turn_pool.specs.declared.receipt.Receipt.{Receipt}
-use Rattle.turn_verify.specs.Loaded.{IsLoaded}
+use Rattle.text_check.specs.Loaded.{IsLoaded}
 
 -- how many signals each port of a link holds, how many may wait for the environment, and how many events its journal holds: as where nobody says it
 abbrev pub PORT : ℕ

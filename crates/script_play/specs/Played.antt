@@ -6,12 +6,12 @@ use Rattle.turn_code.specs.declared.draft.Draft.{Draft}
 use Rattle.script_lines.specs.Scripts.{PlainScript, script_of}
 use Rattle.script_lines.specs.declared.script.ScriptFault.{ScriptFault}
 use Rattle.script_lines.specs.declared.script.ScriptFault.TheVariants.{BadLine, NoMemory}
-use Rattle.book_play.specs.Played.{first_book, IsWritten, IsMissed}
+use Rattle.term_play.specs.Played.{first_book, IsWritten, IsMissed}
 use Rattle.term_lines.specs.TermScripts.{PlainAnyScript, book, terminal, PlainTermScript, as_book, any_script_of}
-use Rattle.text_check.specs.Checked.{IsGiven, IsSetOf, PrintsRefusal}
-use Rattle.text_check.specs.Printed.{line_of}
-use Rattle.text_check.specs.declared.sets.SetWord.{SetWord}
-use Rattle.text_check.specs.declared.sets.SetWord.TheVariants.{Standard, Monitors, Text}
+use Rattle.term_play.specs.Checked.{IsGiven, IsSetOf, PrintsRefusal}
+use Rattle.term_play.specs.Printed.{line_of}
+use Rattle.term_play.specs.text_check_types.sets.SetWord.{SetWord}
+use Rattle.term_play.specs.text_check_types.sets.SetWord.TheVariants.{Standard, Monitors, Text}
 use Rattle.term_play.specs.TermRuns.{IsOfNew, IsTermWritten, IsTermMissed}
 
 -- terminals run the set `standard` alone

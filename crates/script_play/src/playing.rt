@@ -1,18 +1,16 @@
 //! The command `play`.
 ghost use Rattle.std.specs.Prelude.{◌≡◌, ◌⊎◌, List, ℕ, Bool, Ok, IfOk, IfErr, IfSome};
 ghost use Rattle.text_reader.specs.Reading.{Keeps};
-ghost use Rattle.text_check.specs.Checked.{given, IsAccepted};
+ghost use Rattle.term_play.specs.Checked.{given, IsAccepted};
 ghost use Rattle.term_lines.specs.TermScripts.{plain_any_script, IsInRange, Tells};
 ghost use Rattle.script_play.specs.Played.{has_terminals, reading_of, IsObeyed, IsPlayed, IsMissedIn, IsPlayedInPart, IsNoScript, PrintsFault, IsOnSet, IsRefused};
 
-use book_play::play_book;
 use script_lines::{ScriptFault, book_script};
 use std::alloc::Global;
 use std::io::{Read, Write};
 use std::str;
 use term_lines::{AnyScript, any_script};
-use term_play::play_terminal;
-use text_check::{FAILED, SetWord, load_set, refuse, write_refusal};
+use term_play::{FAILED, SetWord, load_set, play_book, play_terminal, refuse, write_refusal};
 use text_reader::{TextRead, line_at_limit, read_text};
 use turn_check::Verified;
 

@@ -3,3 +3,5 @@ pub mod Plain
 pub mod Views
 pub mod Places
 pub mod Heights
+pub use Rattle.sdl_lex.specs.Limits as LexLimits
+pub use Rattle.sdl_lex.specs.Spelling

@@ -16,3 +16,5 @@ pub use tree::{
 
 /// The greatest height of a tree.
 pub const MAX_HEIGHT: u32 = 32;
+
+pub use sdl_lex::Name;

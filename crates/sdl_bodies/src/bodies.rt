@@ -14,7 +14,7 @@ use sdl_ast::{
     Action, Answer, Decision, End, Expression, Range, Statement, Transition, high_in_action,
     high_in_decision,
 };
-use sdl_tokens::Stop;
+use sdl_expressions::Stop;
 
 /// What a DECISION asks. The place is that of the word DECISION.
 #[derive(Drop)]

@@ -6,7 +6,7 @@ ghost use Rattle.sdl_bodies.specs.BodyViews.{marked_view};
 ghost use Rattle.sdl_bodies.specs.Marks.{more, gathered};
 
 use sdl_ast::{Answer, Connection, Entity, StateClause, StatePart, Statement};
-use sdl_tokens::{Stop, push};
+use sdl_expressions::{Stop, push};
 use std::alloc::Global;
 
 /// What was read, or the place of the first TASK, OUTPUT, SET or DECISION in it that is too high.

@@ -19,7 +19,7 @@ use Rattle.sdl_sound.specs.Divisors.{statement_divisors}
 use Rattle.sdl_sound.specs.Decisions.{statement_unanswered}
 use Rattle.sdl_sound.specs.Receivers.{answers_origin, answers_all, arrives, lost_sending, lost_action, lost_statement, doubtful_statement}
 use Rattle.sdl_meaning.specs.Outcomes.{Scope}
-use Rattle.sdl_facts.specs.Made.{IsSmall}
+use Rattle.sdl_valid.specs.Made.{IsSmall}
 use Rattle.sdl_drafts.specs.Drafts.{IsTrigger}
 use Rattle.sdl_drafts.proofs.Known.{FineStatement}
 use Rattle.sdl_meaning.proofs.Sorting.{passed}

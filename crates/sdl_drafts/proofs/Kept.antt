@@ -9,9 +9,9 @@ use Rattle.sdl_sound.specs.Longest.{Piece, piece_depth}
 use Rattle.sdl_meaning.specs.Outcomes.{Scope}
 use Rattle.sdl_counts.specs.Counts.{weight, number_at}
 use Rattle.sdl_counts.specs.declared.counts.Counted.TheVariants.{Effects}
-use Rattle.sdl_facts.specs.Made.{IsLongestOf, AreCountsOf, IsPieceOf}
+use Rattle.sdl_valid.specs.Made.{IsLongestOf, AreCountsOf, IsPieceOf}
 use Rattle.sdl_meaning.specs.Named.{NamedPiece, AreSorted}
-use Rattle.sdl_facts.proofs.Depths.{facts_deep}
+use Rattle.sdl_valid.proofs.Depths.{facts_deep}
 use Rattle.sdl_counts.proofs.Passes.{same_all as same_greatest}
 
 count_of : (fs : List PlaceFacts) (k : ℕ) → number_at (map (λ (f : PlaceFacts). f.count) fs) k ≡ count_in (slice_get fs k)

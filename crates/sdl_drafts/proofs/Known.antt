@@ -28,7 +28,7 @@ use Rattle.sdl_meaning.specs.Named.{NamedTree, NamedTrees, NamedTasks, HasReceiv
 use Rattle.sdl_drafts.specs.Drafts.{IsTrigger}
 use Rattle.sdl_sound.proofs.Items.{Each, each_front, each_back}
 use Rattle.sdl_meaning.proofs.Sorting.{passed}
-use Rattle.sdl_facts.proofs.Actions.{as_many}
+use Rattle.sdl_valid.proofs.Actions.{as_many}
 use Rattle.plain_laws.proofs.Lists.{append-nil_left as nil_front, append-nil_right as nil_back}
 
 -- a list has an item that passes: the first one has a place

@@ -13,16 +13,16 @@ use Rattle.sdl_sound.specs.Orders.{IsOrder}
 use Rattle.sdl_meaning.specs.Outcomes.{Scope}
 use Rattle.sdl_meaning.specs.Code.{ArePlaced, piece_code}
 use Rattle.sdl_meaning.specs.Named.{NamedPiece}
-use Rattle.sdl_facts.specs.Facts.{shapes_from, piece_sets}
+use Rattle.sdl_valid.specs.Facts.{shapes_from, piece_sets}
 use Rattle.sdl_meaning.specs.Declarations.{drafted_signals, drafted_variables}
-use Rattle.sdl_facts.specs.Made.{IsPieceOf}
+use Rattle.sdl_valid.specs.Made.{IsPieceOf}
 use Rattle.sdl_counts.specs.declared.counts.Counted.TheVariants.{Instructions, Effects}
-use Rattle.sdl_facts.specs.Entries.{piece_entries}
+use Rattle.sdl_valid.specs.Entries.{piece_entries}
 use Rattle.sdl_counts.specs.Counts.{weight, number_at, AreCounts}
-use Rattle.sdl_facts.specs.Settings.{IsReadyPiece, count_from, effects_from}
-use Rattle.sdl_facts.proofs.Spots.{Spot, piece_spots, piece_instructions}
-use Rattle.sdl_facts.proofs.PlaceSets.{piece_set_at}
-use Rattle.sdl_facts.proofs.Depths.{facts_deep}
+use Rattle.sdl_valid.specs.Settings.{IsReadyPiece, count_from, effects_from}
+use Rattle.sdl_valid.proofs.Spots.{Spot, piece_spots, piece_instructions}
+use Rattle.sdl_valid.proofs.PlaceSets.{piece_set_at}
+use Rattle.sdl_valid.proofs.Depths.{facts_deep}
 use Rattle.sdl_meaning.proofs.Reached.{placed_stands}
 use Rattle.turn_code.proofs.Lists.{within as there_within}
 

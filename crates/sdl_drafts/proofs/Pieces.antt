@@ -15,8 +15,8 @@ use Rattle.sdl_meaning.specs.Outcomes.{Scope}
 use Rattle.sdl_meaning.specs.Code.{text_at, ArePlaced}
 use Rattle.sdl_meaning.specs.Named.{AnswersSenders, AnswersAll}
 use Rattle.sdl_drafts.specs.Drafts.{Means}
-use Rattle.sdl_facts.specs.Made.{IsPieceOf}
-use Rattle.sdl_facts.specs.Settings.{IsReadyPiece}
+use Rattle.sdl_valid.specs.Made.{IsPieceOf}
+use Rattle.sdl_valid.specs.Settings.{IsReadyPiece}
 use Rattle.sdl_meaning.proofs.Acts.{run_is_act}
 use Rattle.sdl_meaning.proofs.Reached.{placed_reached}
 

@@ -41,23 +41,23 @@ use Rattle.sdl_sound.specs.Receivers.{paths_of, answers}
 use Rattle.sdl_meaning.specs.Outcomes.{Scope, variable_at, signal_at}
 use Rattle.sdl_meaning.specs.Code.{number_or_zero}
 use Rattle.sdl_meaning.specs.Named.{AreSorted, NamedText, NamedConnections, NamedPiece}
-use Rattle.sdl_facts.specs.Facts.{shapes_from}
-use Rattle.sdl_facts.specs.Made.{IsPieceOf, IsSmall}
+use Rattle.sdl_valid.specs.Facts.{shapes_from}
+use Rattle.sdl_valid.specs.Made.{IsPieceOf, IsSmall}
 use Rattle.sdl_meaning.specs.Declarations.{sort_of_tree, drafted, drafted_signal, drafted_variables, drafted_signals, trigger_with, trigger_of, trigger_sorts}
 use Rattle.sdl_drafts.specs.Drafts.{IsTrigger, IsReadyInput, IsReadyProcess, SavesAll, IsInputOf, AreInputsOf, sets_of, IsProcessOf}
 use Rattle.sdl_drafts.specs.Blocks.{Declares, IsValidProcess}
-use Rattle.sdl_facts.specs.Reads.{everything, ReadText, places_set}
-use Rattle.sdl_facts.specs.Entries.{entry_at, met, connections_met, piece_entries}
+use Rattle.sdl_valid.specs.Reads.{everything, ReadText, places_set}
+use Rattle.sdl_valid.specs.Entries.{entry_at, met, connections_met, piece_entries}
 use Rattle.sdl_drafts.specs.Routes.{IsKnownPath}
 use Rattle.sdl_sound.proofs.Items.{Each, each_at_place as each_at}
 use Rattle.sdl_meaning.proofs.Numbers.{AreNumbered, are_numbered, number_there}
 use Rattle.sdl_meaning.proofs.Sorting.{number_small, variable_sorted, signal_sorted, unsigned_sorts}
-use Rattle.sdl_facts.proofs.Actions.{Stands, Reaching}
-use Rattle.sdl_facts.proofs.Spots.{Spot, instructions, shapes, piece_spots, piece_instructions}
-use Rattle.sdl_facts.proofs.PlaceSets.{piece_set_at}
+use Rattle.sdl_valid.proofs.Actions.{Stands, Reaching}
+use Rattle.sdl_valid.proofs.Spots.{Spot, instructions, shapes, piece_spots, piece_instructions}
+use Rattle.sdl_valid.proofs.PlaceSets.{piece_set_at}
 use Rattle.sdl_valid.proofs.RightTexts.{RightText}
 use Rattle.sdl_valid.proofs.Stretches.{chain_shapes}
-use Rattle.sdl_valid.proofs.Standing.{start_enters, piece_made}
+use Rattle.sdl_valid.proofs.StandingLaws.{start_enters, piece_made}
 use Rattle.sdl_valid.proofs.Settling.{all_fit, all_read}
 use Rattle.sdl_drafts.proofs.Righting.{right_text}
 use Rattle.sdl_drafts.proofs.Receiving.{answers_input, arriving}

@@ -22,7 +22,7 @@ use Rattle.sdl_sound.specs.Decisions.{statement_unanswered}
 use Rattle.sdl_sound.specs.Receivers.{paths_of, answers, answers_origin, answers_all, lost_statement, doubtful_statement}
 use Rattle.sdl_meaning.specs.Act.{to_sender}
 use Rattle.sdl_meaning.specs.Outcomes.{Scope}
-use Rattle.sdl_facts.specs.Made.{IsSmall}
+use Rattle.sdl_valid.specs.Made.{IsSmall}
 use Rattle.sdl_meaning.specs.Named.{NamedWhole, NamedConnections, IsSentTo, AnswersSenders, AnswersAll}
 use Rattle.sdl_meaning.specs.Declarations.{sort_of_tree}
 use Rattle.sdl_drafts.specs.Drafts.{IsTrigger, IsReadyInput, AreReady, AllReady, AreTriggers, AllTriggers, IsReadyProcess}

@@ -47,7 +47,7 @@ use Rattle.sdl_sound.specs.Sound.{Sound}
 use Rattle.sdl_sound.specs.declared.fault.Limit.{Limit}
 use Rattle.sdl_meaning.specs.Act.{scope_of}
 use Rattle.sdl_meaning.specs.Outcomes.{Scope}
-use Rattle.sdl_facts.specs.Made.{IsSmall, IsPieceOf}
+use Rattle.sdl_valid.specs.Made.{IsSmall, IsPieceOf}
 use Rattle.sdl_meaning.specs.Declarations.{sort_of_tree, drafted_signal, drafted_signals}
 use Rattle.sdl_drafts.specs.Drafts.{IsReadyProcess, IsInputOf, AreInputsOf, IsProcessOf, sets_of}
 use Rattle.sdl_drafts.specs.Blocks.{drafted_routes, Declares}

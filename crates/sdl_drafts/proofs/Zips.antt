@@ -16,10 +16,10 @@ use Rattle.sdl_ast.specs.Views.{input_of, stimulus_of, text_of}
 use Rattle.sdl_tables.specs.Rows.{stimulus_inputs}
 use Rattle.sdl_tables.specs.Names.{Input, states_of, of_state, by_state}
 use Rattle.sdl_meaning.specs.Outcomes.{Scope}
-use Rattle.sdl_names.specs.Scopes.{input_by}
+use Rattle.sdl_valid.specs.Scopes.{input_by}
 use Rattle.sdl_drafts.specs.Drafts.{AllReady, AreReady, IsReadyInput, IsInputOf, AreInputsOf, MatchesInput, MatchesInputs, IsTrigger, AreTriggers, AllTriggers, sets_of}
 use Rattle.sdl_meaning.specs.Declarations.{trigger_sorts}
-use Rattle.sdl_facts.specs.Settings.{IsReadyPiece}
+use Rattle.sdl_valid.specs.Settings.{IsReadyPiece}
 use Rattle.sdl_meaning.proofs.Counted.{size_is}
 use Rattle.sdl_drafts.proofs.Pieces.{means}
 

@@ -2,7 +2,7 @@
 use Rattle.std.specs.Prelude.{◌≡◌}
 use Rattle.sdl_ast.specs.Views.{block_of, process_of}
 use Rattle.sdl_sound.specs.Orders.{IsOrder}
-use Rattle.sdl_measures.specs.Measures.{AreMeasures}
+use Rattle.sdl_valid.specs.Measures.{AreMeasures}
 use Rattle.sdl_trimmed.specs.Trimmed.{AreTrimmed}
 use Rattle.sdl_drafts.specs.declared.state.Context.{Context}
 use Rattle.sdl_meaning.specs.Declarations.{drafted_signals, drafted_variables}

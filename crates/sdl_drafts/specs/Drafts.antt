@@ -18,7 +18,7 @@ use Rattle.sdl_sound.specs.Settled.{AreSettled}
 use Rattle.sdl_meaning.specs.Act.{Act, scope_of}
 use Rattle.sdl_meaning.specs.Outcomes.{Scope}
 use Rattle.sdl_meaning.specs.Named.{AreSorted, NamedPiece, IsSentTo, AnswersAll}
-use Rattle.sdl_facts.specs.Made.{IsCodeOf, IsLongestOf, IsPieceOf, IsSmall}
+use Rattle.sdl_valid.specs.Made.{IsCodeOf, IsLongestOf, IsPieceOf, IsSmall}
 use Rattle.sdl_meaning.specs.Declarations.{drafted_variables, trigger_of, trigger_sorts}
 
 -- ---- what a draft says

@@ -12,7 +12,7 @@ use Rattle.sdl_sound.specs.Longest.{Piece}
 use Rattle.sdl_sound.specs.Sound.{Sound}
 use Rattle.sdl_meaning.specs.Act.{Act, scope_of}
 use Rattle.sdl_meaning.specs.Outcomes.{Scope}
-use Rattle.sdl_facts.specs.Made.{IsLongestOf}
+use Rattle.sdl_valid.specs.Made.{IsLongestOf}
 use Rattle.sdl_drafts.specs.Blocks.{MatchesBlock}
 use Rattle.sdl_drafts.specs.Meaning.{piece_at, RunsAsMeant}
 

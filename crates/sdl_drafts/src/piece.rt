@@ -2,19 +2,19 @@
 ghost use Rattle.std.specs.Prelude.{◌≡◌, ◌≤◌, length, Option, IfOk};
 ghost use Rattle.sdl_ast.specs.declared.expression.Identifier as tree_identifier;
 ghost use Rattle.sdl_ast.specs.Views.{text_of};
-ghost use Rattle.sdl_emit.specs.Bodies.{IsBody};
-ghost use Rattle.sdl_names.specs.Scopes.{scope_in, piece_in};
+ghost use Rattle.sdl_valid.specs.Bodies.{IsBody};
+ghost use Rattle.sdl_valid.specs.Scopes.{scope_in, piece_in};
 ghost use Rattle.sdl_meaning.specs.Named.{AnswersAll};
 ghost use Rattle.sdl_sound.specs.Longest.{places_cost};
 ghost use Rattle.sdl_drafts.specs.Drafts.{Means};
-ghost use Rattle.sdl_facts.specs.Made.{IsPieceOf};
-ghost use Rattle.sdl_facts.specs.Settings.{IsSetting, IsReadyPiece, count_from, effects_from};
+ghost use Rattle.sdl_valid.specs.Made.{IsPieceOf};
+ghost use Rattle.sdl_valid.specs.Settings.{IsSetting, IsReadyPiece, count_from, effects_from};
 ghost use Rattle.profile_limits.specs.Limits.{MOST_PARAMETERS};
 
 use sdl_ast::{Identifier, Transition};
-use sdl_emit::{Body, connection_places, emit_piece, place_connections, text_size};
-use sdl_facts::{
-    Layout, Marks, Setting, Standing, greatest_depth, piece_counts, place_facts, place_sets,
+use sdl_valid::{
+    Body, Layout, Marks, Setting, Standing, connection_places, emit_piece, greatest_depth,
+    piece_counts, place_connections, place_facts, place_sets, text_size,
 };
 use std::alloc::{AllocError, Global};
 use turn_code::{Cert, DraftPiece, PlaceFacts, Sequence};

@@ -16,7 +16,7 @@ use Rattle.sdl_ast.specs.Views.{connection_of, process_of}
 use Rattle.sdl_meaning.specs.Outcomes.{Scope, connector_at}
 use Rattle.sdl_meaning.specs.Named.{NamedText, NamedConnections}
 use Rattle.sdl_emit.specs.Placing.{HaveNumbers}
-use Rattle.sdl_landing.specs.Marks.{has}
+use Rattle.sdl_actions.specs.Marks.{has}
 use Rattle.sdl_meaning.specs.Code.{number_or_zero, code_joins, joined, text_at, add_number, numbers_once, ArePlaced}
 use Rattle.std.proofs.lemmas.Option.{slice_get-map as slice_map}
 use Rattle.sdl_meaning.proofs.Joining.{has_connection}

@@ -8,3 +8,4 @@ pub mod Marked
 pub mod Once
 pub mod Spacing
 pub mod Trimming
+pub use Rattle.sdl_actions.proofs.Picking

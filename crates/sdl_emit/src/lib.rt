@@ -8,4 +8,6 @@ mod texts;
 
 pub use bodies::{Body, text_size};
 pub use placing::{connection_places, place_connections};
+pub use sdl_actions::{Names, UseTable, find_uses};
+pub use sdl_measures::Measure;
 pub use texts::emit_piece;

@@ -6,7 +6,7 @@ ghost use Rattle.sdl_measures.specs.Counting.{measure_at};
 ghost use Rattle.sdl_measures.specs.Measures.{AreMeasures};
 ghost use Rattle.sdl_trimmed.specs.Trimmed.{AreTrimmed};
 ghost use Rattle.sdl_emit.specs.Bodies.{IsBody};
-ghost use Rattle.sdl_names.specs.Scopes.{scope_in, places_by};
+ghost use Rattle.sdl_actions.specs.Scopes.{scope_in, places_by};
 ghost use Rattle.sdl_emit.specs.Placing.{decision_joins, numbers_of, HaveNumbers, AreMarked};
 ghost use Rattle.sdl_meaning.specs.Named.{NamedText, NamedConnections};
 ghost use Rattle.sdl_meaning.specs.Outcomes.{Scope, connector_at};
@@ -14,10 +14,9 @@ ghost use Rattle.sdl_meaning.specs.Code.{number_or_zero, code_joins, else_joins,
 ghost use Rattle.profile_limits.specs.Limits.{MOST_INSTRUCTIONS};
 
 use crate::bodies::Body;
+use sdl_actions::{Names, add_once};
 use sdl_ast::{Decision, End, Join, Statement, Transition};
-use sdl_landing::add_once;
 use sdl_measures::Measure;
-use sdl_names::Names;
 use std::alloc::{AllocError, Global};
 
 /// The JOIN with which a text may end.

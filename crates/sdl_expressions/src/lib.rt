@@ -9,3 +9,4 @@ mod part;
 mod signs;
 
 pub use operands::expression;
+pub use sdl_tokens::{Stop, push};

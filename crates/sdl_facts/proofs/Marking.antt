@@ -17,8 +17,8 @@ use Rattle.turn_code.specs.Sets.{with_variable}
 use Rattle.sdl_meaning.specs.Act.{is_truth}
 use Rattle.sdl_meaning.specs.Outcomes.{Scope, variable_at}
 use Rattle.sdl_meaning.specs.Named.{NamedText, NamedTasks, NamedChoice, NamedConnections}
-use Rattle.sdl_names.specs.Scopes.{NamedElse}
-use Rattle.sdl_landing.proofs.Picking.{one_answer}
+use Rattle.sdl_emit.specs.Scopes.{NamedElse}
+use Rattle.sdl_emit.proofs.Picking.{one_answer}
 use Rattle.sdl_meaning.specs.Code.{number_or_zero, text_at}
 use Rattle.sdl_facts.specs.Reads.{tasks_set, places_set, everything, meet, answers_left, else_left, choice_left}
 use Rattle.sdl_facts.specs.Entries.{entry_at, met, connection_met, connections_met, answers_met, else_met, choice_met}

@@ -12,13 +12,13 @@ use Rattle.turn_code.specs.declared.instruction.Instruction.{Instruction}
 use Rattle.sdl_tables.specs.Names.{Variable, variables_of}
 use Rattle.sdl_sound.specs.Going.{goes_on as may_go_on}
 use Rattle.sdl_sound.specs.Longest.{Piece, budget, effects, joined as measure_joined}
-use Rattle.sdl_measures.specs.Measures.{capped, IsMeasureOf, AreMeasures}
-use Rattle.sdl_measures.specs.declared.measures.Measure.{Measure}
+use Rattle.sdl_emit.specs.Measures.{capped, IsMeasureOf, AreMeasures}
+use Rattle.sdl_emit.specs.sdl_measures_types.measures.Measure.{Measure}
 use Rattle.sdl_counts.specs.declared.counts.Counted.{Counted}
 use Rattle.sdl_counts.specs.declared.counts.Counted.TheVariants.{Instructions, Effects}
 use Rattle.sdl_meaning.specs.Outcomes.{Scope, connector_at}
 use Rattle.sdl_meaning.specs.Named.{NamedText, NamedPiece}
-use Rattle.sdl_names.specs.Scopes.{places_by}
+use Rattle.sdl_emit.specs.Scopes.{places_by}
 use Rattle.sdl_facts.specs.Made.{IsSmall}
 use Rattle.sdl_meaning.specs.Code.{number_or_zero, places_code, text_code, text_at, size_at, code_joins, ArePlaced, place_in, text_place, connections_place, connections_code, piece_code}
 use Rattle.sdl_counts.specs.Counts.{weight, number_at, AreCounts, AreCountsFrom, AreWithin}

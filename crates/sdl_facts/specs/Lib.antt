@@ -4,3 +4,7 @@ pub mod Facts
 pub mod Made
 pub mod Reads
 pub mod Settings
+pub use Rattle.sdl_emit.specs.Bodies
+pub use Rattle.sdl_emit.specs.Measures
+pub use Rattle.sdl_emit.specs.Scopes
+pub use Rattle.sdl_emit.specs.Uses

@@ -6,7 +6,7 @@ use Rattle.turn_code.specs.declared.value.Sort.{Sort}
 use Rattle.turn_code.specs.declared.draft.PlaceFacts.{PlaceFacts}
 use Rattle.sdl_sound.specs.Longest.{Piece}
 use Rattle.sdl_sound.specs.Orders.{IsOrder}
-use Rattle.sdl_measures.specs.Measures.{AreMeasures}
+use Rattle.sdl_emit.specs.Measures.{AreMeasures}
 use Rattle.sdl_trimmed.specs.Trimmed.{AreTrimmed}
 use Rattle.sdl_meaning.specs.Named.{AreSorted, NamedPiece}
 use Rattle.sdl_facts.specs.declared.setting.Setting.{Setting}

@@ -3,7 +3,7 @@ ghost use Rattle.std.specs.Prelude.{◌≡◌, ◌++◌, true, OnOk, IfOk, map};
 ghost use Rattle.sdl_ast.specs.Views.{connection_of, process_of};
 ghost use Rattle.sdl_trimmed.specs.Trimmed.{AreTrimmed};
 ghost use Rattle.sdl_emit.specs.Bodies.{IsBody};
-ghost use Rattle.sdl_names.specs.Scopes.{scope_in, piece_in};
+ghost use Rattle.sdl_emit.specs.Scopes.{scope_in, piece_in};
 ghost use Rattle.sdl_meaning.specs.Named.{NamedConnections, NamedPiece};
 ghost use Rattle.sdl_facts.specs.Reads.{everything};
 ghost use Rattle.sdl_facts.specs.Entries.{entry_at, AreOfAll, connection_met, connections_met};
@@ -13,8 +13,7 @@ ghost use Rattle.sdl_meaning.specs.Code.{text_at};
 use crate::marks::mark_text;
 use crate::sets::{everything, mark_places};
 use sdl_ast::{Connection, Identifier, Transition};
-use sdl_emit::Body;
-use sdl_names::Names;
+use sdl_emit::{Body, Names};
 use std::alloc::{AllocError, Global};
 use turn_code::VariableSet;
 

@@ -4,7 +4,7 @@ ghost use Rattle.sdl_ast.specs.Plain.{Text, falls};
 ghost use Rattle.sdl_ast.specs.Views.{text_of, statement_of, choice_of, else_choice};
 ghost use Rattle.sdl_sound.specs.Going.{goes_on, choice_goes_on};
 ghost use Rattle.sdl_ast.specs.declared.tree.Decision.{out-Decision};
-ghost use Rattle.sdl_names.specs.Scopes.{scope_in, question_in, NamedElse};
+ghost use Rattle.sdl_emit.specs.Scopes.{scope_in, question_in, NamedElse};
 ghost use Rattle.sdl_meaning.specs.Act.{is_truth};
 ghost use Rattle.sdl_meaning.specs.Outcomes.{connector_at};
 ghost use Rattle.sdl_meaning.specs.Code.{number_or_zero};
@@ -15,7 +15,7 @@ ghost use Rattle.sdl_facts.specs.Facts.{leave_sets, text_sets, else_sets, answer
 
 use crate::sets::{everything, mark, mark_action, mark_expression, mark_tests, meet};
 use sdl_ast::{Decision, End, Join, Statement, Transition};
-use sdl_names::Names;
+use sdl_emit::Names;
 use sdl_sound::{both, one_of};
 use std::alloc::AllocError;
 use turn_code::VariableSet;

@@ -2,7 +2,7 @@
 ghost use Rattle.std.specs.Prelude.{◌≡◌, ◌<◌, [], ◌∷◌, ◌++◌, OnOk, IfOk, map};
 ghost use Rattle.sdl_ast.specs.Views.{tree_of, assignment_of, sending_of, action_of, choice_of};
 ghost use Rattle.sdl_sound.specs.Longest.{is_division};
-ghost use Rattle.sdl_names.specs.Scopes.{scope_in};
+ghost use Rattle.sdl_emit.specs.Scopes.{scope_in};
 ghost use Rattle.sdl_meaning.specs.Named.{NamedTasks, NamedAction, NamedPlaces};
 ghost use Rattle.turn_code.specs.Sets.{with_variable};
 ghost use Rattle.sdl_facts.specs.Reads.{tasks_set, action_set, everything, meet, places_set};
@@ -10,7 +10,7 @@ ghost use Rattle.sdl_facts.specs.Facts.{tree_sets, trees_sets, sendings_sets, ta
 ghost use Rattle.profile_limits.specs.Limits.{MOST_VARIABLES};
 
 use sdl_ast::{Action, Assignment, Decision, Expression, Identifier, Range, Sending};
-use sdl_names::Names;
+use sdl_emit::Names;
 use sdl_sound::is_division;
 use std::alloc::AllocError;
 use turn_code::{VariableNumber, VariableSet};

@@ -1,8 +1,7 @@
 //! What the transitions of a process come with.
 
 use sdl_ast::Transition;
-use sdl_measures::Measure;
-use sdl_names::Names;
+use sdl_emit::{Measure, Names};
 use turn_code::{DraftSignal, DraftVariable, Sort, VariableSet};
 
 /// What comes with a transition: the names that it may use, its process's variables, its block's

@@ -6,14 +6,14 @@ ghost use Rattle.sdl_counts.specs.Counts.{weight, number_at, AreCounts, AreWithi
 ghost use Rattle.sdl_facts.specs.Counts.{measured, piece_count};
 ghost use Rattle.sdl_sound.specs.Longest.{piece_budget, piece_effects};
 ghost use Rattle.sdl_meaning.specs.Code.{ArePlaced, place_in, connections_place, piece_code};
-ghost use Rattle.sdl_names.specs.Scopes.{scope_in, piece_in, places_by};
+ghost use Rattle.sdl_emit.specs.Scopes.{scope_in, piece_in, places_by};
 ghost use Rattle.sdl_facts.specs.Settings.{IsSetting, IsReadyPiece};
 ghost use Rattle.profile_limits.specs.Limits.{MOST_INSTRUCTIONS};
 
 use crate::setting::Setting;
 use sdl_ast::{Identifier, Transition};
 use sdl_counts::{Counted, count_places};
-use sdl_measures::Measure;
+use sdl_emit::Measure;
 use std::alloc::{AllocError, Global};
 use turn_code::Instruction;
 

@@ -3,16 +3,16 @@ use Rattle.std.proofs.Common.{◌≡◌, ℕ, zero, suc, ◌+◌, ◌≤◌, max
 use Rattle.std.specs.Prelude.{ℤ}
 use Rattle.std.specs.List.{position_or_len}
 use Rattle.std.specs.Option.{option_map_or}
-use Rattle.sdl_ast.specs.declared.expression.Identifier.{Identifier}
-use Rattle.sdl_ast.specs.declared.tree.Range.{Range}
-use Rattle.sdl_ast.specs.declared.tree.End.{End}
-use Rattle.sdl_ast.specs.declared.tree.End.TheVariants.{NextState, Stop, Join}
-use Rattle.sdl_ast.specs.Plain.{Tree, Text, falls, ends, does, decides, Choice, nothing_else, otherwise, answer, PlainConnection}
+use Rattle.sdl_sound.specs.sdl_ast_types.expression.Identifier.{Identifier}
+use Rattle.sdl_sound.specs.sdl_ast_types.tree.Range.{Range}
+use Rattle.sdl_sound.specs.sdl_ast_types.tree.End.{End}
+use Rattle.sdl_sound.specs.sdl_ast_types.tree.End.TheVariants.{NextState, Stop, Join}
+use Rattle.sdl_sound.specs.Plain.{Tree, Text, falls, ends, does, decides, Choice, nothing_else, otherwise, answer, PlainConnection}
 use Rattle.turn_code.specs.declared.value.Value.{Value}
 use Rattle.turn_code.specs.declared.value.Value.TheVariants.{Int, Bool as Truth}
 use Rattle.turn_code.specs.declared.input.Party.{Party}
 use Rattle.turn_code.specs.Run.{Progress, tick}
-use Rattle.sdl_tables.specs.Names.{same_name, variables_of, connection_named}
+use Rattle.sdl_sound.specs.TableNames.{same_name, variables_of, connection_named}
 use Rattle.sdl_sound.specs.Decisions.{has_else}
 use Rattle.sdl_sound.specs.Longest.{Piece, cost_of, action_cost, end_cost, end_count, tests_budget, budget, case_budget, pick_budget, joined_by, places_cost, piece_budget}
 use Rattle.sdl_meaning.specs.Act.{is_truth, value_of, perform, end_in, end_with, covers_integer, covers_truth, told, try_ranges, find_truth, leave, decide, act, choose, pick, closed, entered, follow, join_in, take_places}

@@ -2,25 +2,25 @@
 use Rattle.std.specs.Prelude.{ℕ, zero, suc, ◌+◌, ℤ, pos, ◌+ℤ◌, ◌-ℤ◌, ◌*ℤ◌, neg_ℤ, int_lt, int_div, int_rem, Bool, true, false, not, ◌||◌, ◌&&◌, if◌then◌else◌, List, [], ◌∷◌, length, Option, Some, None, slice_get, slice_set}
 use Rattle.std.specs.Int.{int_rem_euclid}
 use Rattle.std.specs.Option.{option_map}
-use Rattle.sdl_ast.specs.declared.expression.Identifier.{Identifier}
-use Rattle.sdl_ast.specs.declared.expression.UnaryOperator.{UnaryOperator}
-use Rattle.sdl_ast.specs.declared.expression.UnaryOperator.TheVariants.{Negate, Not}
-use Rattle.sdl_ast.specs.declared.expression.BinaryOperator.{BinaryOperator}
-use Rattle.sdl_ast.specs.declared.expression.BinaryOperator.TheVariants.{Or, Xor, And, Equal, NotEqual, Less, LessEqual, Greater, GreaterEqual, Add, Subtract, Multiply, Divide, Modulo, Remainder}
-use Rattle.sdl_ast.specs.declared.tree.Sort.TheVariants.{Boolean}
-use Rattle.sdl_ast.specs.declared.tree.Party as tree_party
-use Rattle.sdl_ast.specs.declared.tree.Party.TheVariants as tree_parties
-use Rattle.sdl_ast.specs.declared.tree.Destination.{Destination}
-use Rattle.sdl_ast.specs.declared.tree.Destination.TheVariants as address
-use Rattle.sdl_ast.specs.declared.tree.End.{End}
-use Rattle.sdl_ast.specs.declared.tree.End.TheVariants.{NextState, Stop, Join}
-use Rattle.sdl_ast.specs.declared.tree.Literal as literal
-use Rattle.sdl_ast.specs.declared.tree.Literal.TheVariants as literals
-use Rattle.sdl_ast.specs.declared.tree.Relation as tree_relation
-use Rattle.sdl_ast.specs.declared.tree.Relation.TheVariants as signs
-use Rattle.sdl_ast.specs.declared.tree.Range.{Range}
-use Rattle.sdl_ast.specs.declared.tree.Range.TheVariants as ranges
-use Rattle.sdl_ast.specs.Plain.{Tree, number, truth, variable, unary, binary, PlainAssignment, PlainSending, PlainAction, task, output, set_timer, reset_timer, Text, falls, ends, does, decides, Choice, nothing_else, otherwise, answer, PlainConnection, PlainProcess, PlainBlock}
+use Rattle.sdl_sound.specs.sdl_ast_types.expression.Identifier.{Identifier}
+use Rattle.sdl_sound.specs.sdl_ast_types.expression.UnaryOperator.{UnaryOperator}
+use Rattle.sdl_sound.specs.sdl_ast_types.expression.UnaryOperator.TheVariants.{Negate, Not}
+use Rattle.sdl_sound.specs.sdl_ast_types.expression.BinaryOperator.{BinaryOperator}
+use Rattle.sdl_sound.specs.sdl_ast_types.expression.BinaryOperator.TheVariants.{Or, Xor, And, Equal, NotEqual, Less, LessEqual, Greater, GreaterEqual, Add, Subtract, Multiply, Divide, Modulo, Remainder}
+use Rattle.sdl_sound.specs.sdl_ast_types.tree.Sort.TheVariants.{Boolean}
+use Rattle.sdl_sound.specs.sdl_ast_types.tree.Party as tree_party
+use Rattle.sdl_sound.specs.sdl_ast_types.tree.Party.TheVariants as tree_parties
+use Rattle.sdl_sound.specs.sdl_ast_types.tree.Destination.{Destination}
+use Rattle.sdl_sound.specs.sdl_ast_types.tree.Destination.TheVariants as address
+use Rattle.sdl_sound.specs.sdl_ast_types.tree.End.{End}
+use Rattle.sdl_sound.specs.sdl_ast_types.tree.End.TheVariants.{NextState, Stop, Join}
+use Rattle.sdl_sound.specs.sdl_ast_types.tree.Literal as literal
+use Rattle.sdl_sound.specs.sdl_ast_types.tree.Literal.TheVariants as literals
+use Rattle.sdl_sound.specs.sdl_ast_types.tree.Relation as tree_relation
+use Rattle.sdl_sound.specs.sdl_ast_types.tree.Relation.TheVariants as signs
+use Rattle.sdl_sound.specs.sdl_ast_types.tree.Range.{Range}
+use Rattle.sdl_sound.specs.sdl_ast_types.tree.Range.TheVariants as ranges
+use Rattle.sdl_sound.specs.Plain.{Tree, number, truth, variable, unary, binary, PlainAssignment, PlainSending, PlainAction, task, output, set_timer, reset_timer, Text, falls, ends, does, decides, Choice, nothing_else, otherwise, answer, PlainConnection, PlainProcess, PlainBlock}
 use Rattle.turn_code.specs.declared.value.Value.{Value}
 use Rattle.turn_code.specs.declared.value.Value.TheVariants.{Int, Bool as Truth}
 use Rattle.turn_code.specs.declared.input.Input.{Input}
@@ -33,7 +33,7 @@ use Rattle.turn_code.specs.declared.effect.Effect.TheVariants as effects
 use Rattle.turn_code.specs.declared.trouble.Trouble.TheVariants.{Unset, WrongSort, Underflow, NoState, NoReceiver, NoAnswer, Outside}
 use Rattle.turn_code.specs.Values.{wrap, holds, is_between, differ}
 use Rattle.turn_code.specs.Run.{Progress, tick, with_variables, with_effect, sending, begun, Ran, ended, got_stuck}
-use Rattle.sdl_tables.specs.Names.{number_of, variables_of, connection_named, process_names}
+use Rattle.sdl_sound.specs.TableNames.{number_of, variables_of, connection_named, process_names}
 use Rattle.sdl_sound.specs.Longest.{Piece, is_division}
 use Rattle.sdl_sound.specs.Sorts.{has_sort, sort_in}
 use Rattle.sdl_sound.specs.Receivers.{party_of, receivers, carries}

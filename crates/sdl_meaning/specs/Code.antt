@@ -2,22 +2,22 @@
 use Rattle.std.specs.Prelude.{◌≡◌, ℕ, ◌+◌, ◌==◌, ℤ, pos, Bool, true, false, if◌then◌else◌, List, [], ◌∷◌, ◌++◌, length, map, take, Option, Some, None, slice_get, Contains, fold}
 use Rattle.std.specs.List.{list_any, flat_map}
 use Rattle.std.specs.Option.{option_map_or}
-use Rattle.sdl_ast.specs.declared.expression.Identifier.{Identifier}
-use Rattle.sdl_ast.specs.declared.expression.UnaryOperator.{UnaryOperator}
-use Rattle.sdl_ast.specs.declared.expression.UnaryOperator.TheVariants.{Negate, Not}
-use Rattle.sdl_ast.specs.declared.expression.BinaryOperator.{BinaryOperator}
-use Rattle.sdl_ast.specs.declared.expression.BinaryOperator.TheVariants.{Or, Xor, And, Equal, NotEqual, Less, LessEqual, Greater, GreaterEqual, Add, Subtract, Multiply, Divide, Modulo, Remainder}
-use Rattle.sdl_ast.specs.declared.tree.Party.TheVariants as tree_parties
-use Rattle.sdl_ast.specs.declared.tree.Destination.{Destination}
-use Rattle.sdl_ast.specs.declared.tree.Destination.TheVariants as address
-use Rattle.sdl_ast.specs.declared.tree.End.{End}
-use Rattle.sdl_ast.specs.declared.tree.End.TheVariants.{NextState, Stop, Join}
-use Rattle.sdl_ast.specs.declared.tree.Join as tree_join
-use Rattle.sdl_ast.specs.declared.tree.Range.{Range}
-use Rattle.sdl_ast.specs.declared.tree.Range.TheVariants as ranges
-use Rattle.sdl_ast.specs.declared.tree.Literal.{Literal}
-use Rattle.sdl_ast.specs.declared.tree.Literal.TheVariants as literals
-use Rattle.sdl_ast.specs.Plain.{Tree, number, truth, variable, unary, binary, PlainAssignment, PlainSending, PlainAction, task, output, set_timer, reset_timer, Text, falls, ends, does, decides, Choice, nothing_else, otherwise, answer}
+use Rattle.sdl_sound.specs.sdl_ast_types.expression.Identifier.{Identifier}
+use Rattle.sdl_sound.specs.sdl_ast_types.expression.UnaryOperator.{UnaryOperator}
+use Rattle.sdl_sound.specs.sdl_ast_types.expression.UnaryOperator.TheVariants.{Negate, Not}
+use Rattle.sdl_sound.specs.sdl_ast_types.expression.BinaryOperator.{BinaryOperator}
+use Rattle.sdl_sound.specs.sdl_ast_types.expression.BinaryOperator.TheVariants.{Or, Xor, And, Equal, NotEqual, Less, LessEqual, Greater, GreaterEqual, Add, Subtract, Multiply, Divide, Modulo, Remainder}
+use Rattle.sdl_sound.specs.sdl_ast_types.tree.Party.TheVariants as tree_parties
+use Rattle.sdl_sound.specs.sdl_ast_types.tree.Destination.{Destination}
+use Rattle.sdl_sound.specs.sdl_ast_types.tree.Destination.TheVariants as address
+use Rattle.sdl_sound.specs.sdl_ast_types.tree.End.{End}
+use Rattle.sdl_sound.specs.sdl_ast_types.tree.End.TheVariants.{NextState, Stop, Join}
+use Rattle.sdl_sound.specs.sdl_ast_types.tree.Join as tree_join
+use Rattle.sdl_sound.specs.sdl_ast_types.tree.Range.{Range}
+use Rattle.sdl_sound.specs.sdl_ast_types.tree.Range.TheVariants as ranges
+use Rattle.sdl_sound.specs.sdl_ast_types.tree.Literal.{Literal}
+use Rattle.sdl_sound.specs.sdl_ast_types.tree.Literal.TheVariants as literals
+use Rattle.sdl_sound.specs.Plain.{Tree, number, truth, variable, unary, binary, PlainAssignment, PlainSending, PlainAction, task, output, set_timer, reset_timer, Text, falls, ends, does, decides, Choice, nothing_else, otherwise, answer}
 use Rattle.turn_code.specs.declared.input.Party.{Party}
 use Rattle.turn_code.specs.declared.input.Party.TheVariants.{Environment}
 use Rattle.turn_code.specs.declared.instruction.Receiver.{Receiver}
@@ -26,7 +26,7 @@ use Rattle.turn_code.specs.declared.instruction.Relation.TheVariants as relation
 use Rattle.turn_code.specs.declared.instruction.Instruction.{Instruction}
 use Rattle.turn_code.specs.declared.instruction.Instruction.TheVariants as i
 use Rattle.turn_code.specs.Values.{wrap}
-use Rattle.sdl_tables.specs.Names.{variables_of}
+use Rattle.sdl_sound.specs.TableNames.{variables_of}
 use Rattle.sdl_sound.specs.Going.{goes_on}
 use Rattle.sdl_sound.specs.Statements.{end_joins}
 use Rattle.sdl_sound.specs.Longest.{Piece, is_division, cost_of, action_cost, jump_size, tests_size, size, bodies_size, places_cost}

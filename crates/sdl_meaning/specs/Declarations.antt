@@ -1,12 +1,12 @@
 -- What a draft says of what a text declares.
 use Rattle.std.specs.Prelude.{ℕ, List, [], map, Option, None, Some, option_map, slice_get}
-use Rattle.sdl_ast.specs.declared.expression.Identifier.{Identifier}
-use Rattle.sdl_ast.specs.declared.tree.Constant.{Constant}
-use Rattle.sdl_ast.specs.declared.tree.Literal as literal
-use Rattle.sdl_ast.specs.declared.tree.Literal.TheVariants as literals
-use Rattle.sdl_ast.specs.declared.tree.Sort as tree_sort
-use Rattle.sdl_ast.specs.declared.tree.Sort.TheVariants as tree_sorts
-use Rattle.sdl_ast.specs.Plain.{PlainSignal, PlainProcess, PlainBlock}
+use Rattle.sdl_sound.specs.sdl_ast_types.expression.Identifier.{Identifier}
+use Rattle.sdl_sound.specs.sdl_ast_types.tree.Constant.{Constant}
+use Rattle.sdl_sound.specs.sdl_ast_types.tree.Literal as literal
+use Rattle.sdl_sound.specs.sdl_ast_types.tree.Literal.TheVariants as literals
+use Rattle.sdl_sound.specs.sdl_ast_types.tree.Sort as tree_sort
+use Rattle.sdl_sound.specs.sdl_ast_types.tree.Sort.TheVariants as tree_sorts
+use Rattle.sdl_sound.specs.Plain.{PlainSignal, PlainProcess, PlainBlock}
 use Rattle.turn_code.specs.declared.value.Sort.{Sort}
 use Rattle.turn_code.specs.declared.value.Sort.TheVariants.{Integer, Boolean}
 use Rattle.turn_code.specs.declared.value.Value.{Value}
@@ -16,7 +16,7 @@ use Rattle.turn_code.specs.declared.draft.DraftVariable.{DraftVariable}
 use Rattle.turn_code.specs.declared.draft.Trigger.{Trigger}
 use Rattle.turn_code.specs.declared.draft.Trigger.TheVariants.{Signal, Timer}
 use Rattle.turn_code.specs.Transitions.{parameters_of}
-use Rattle.sdl_tables.specs.Names.{Variable, number_of, variables_of, timers_of, signals_of, signal_names}
+use Rattle.sdl_sound.specs.TableNames.{Variable, number_of, variables_of, timers_of, signals_of, signal_names}
 use Rattle.sdl_sound.specs.Sorts.{parameter_sorts}
 use Rattle.sdl_meaning.specs.Outcomes.{Scope}
 use Rattle.sdl_meaning.specs.Code.{number_or_zero}

@@ -1,18 +1,18 @@
 -- Texts all of whose names are declared, whose signals have receivers, and whose questions are answered.
 use Rattle.std.specs.Prelude.{◌≡◌, ℕ, ◌<◌, ◌≤◌, true, false, List, [], ◌∷◌, length, All, Contains, Option, None, Some, IsSome, slice_get}
-use Rattle.sdl_ast.specs.declared.expression.Identifier.{Identifier}
-use Rattle.sdl_ast.specs.declared.tree.Party as tree_party
-use Rattle.sdl_ast.specs.declared.tree.Destination.{Destination}
-use Rattle.sdl_ast.specs.declared.tree.Destination.TheVariants as address
-use Rattle.sdl_ast.specs.declared.tree.End.{End}
-use Rattle.sdl_ast.specs.declared.tree.End.TheVariants.{NextState, Stop, Join}
-use Rattle.sdl_ast.specs.declared.tree.Join as tree_join
-use Rattle.sdl_ast.specs.declared.tree.Range.{Range}
-use Rattle.sdl_ast.specs.Plain.{Tree, number, truth, variable, unary, binary, PlainAssignment, PlainSending, PlainAction, task, output, set_timer, reset_timer, Text, falls, ends, does, decides, Choice, nothing_else, otherwise, answer, PlainConnection}
+use Rattle.sdl_sound.specs.sdl_ast_types.expression.Identifier.{Identifier}
+use Rattle.sdl_sound.specs.sdl_ast_types.tree.Party as tree_party
+use Rattle.sdl_sound.specs.sdl_ast_types.tree.Destination.{Destination}
+use Rattle.sdl_sound.specs.sdl_ast_types.tree.Destination.TheVariants as address
+use Rattle.sdl_sound.specs.sdl_ast_types.tree.End.{End}
+use Rattle.sdl_sound.specs.sdl_ast_types.tree.End.TheVariants.{NextState, Stop, Join}
+use Rattle.sdl_sound.specs.sdl_ast_types.tree.Join as tree_join
+use Rattle.sdl_sound.specs.sdl_ast_types.tree.Range.{Range}
+use Rattle.sdl_sound.specs.Plain.{Tree, number, truth, variable, unary, binary, PlainAssignment, PlainSending, PlainAction, task, output, set_timer, reset_timer, Text, falls, ends, does, decides, Choice, nothing_else, otherwise, answer, PlainConnection}
 use Rattle.turn_code.specs.declared.input.Party.{Party}
 use Rattle.std.specs.List.{flat_map}
 use Rattle.profile_limits.specs.Limits.{MOST_PARAMETERS}
-use Rattle.sdl_tables.specs.Names.{variables_of}
+use Rattle.sdl_sound.specs.TableNames.{variables_of}
 use Rattle.sdl_sound.specs.Statements.{statements_of, joins_of}
 use Rattle.sdl_sound.specs.Going.{goes_on, choice_goes_on}
 use Rattle.sdl_sound.specs.Sorts.{answers_question, wrong_statement}

@@ -1,11 +1,11 @@
 -- Where a transition stands, how a walk is over, what a part of a transition does, and its names (Z.100, transitions).
 use Rattle.std.specs.Prelude.{ℕ, Option}
-use Rattle.sdl_ast.specs.declared.expression.Identifier.{Identifier}
-use Rattle.sdl_ast.specs.Plain.{PlainProcess, PlainBlock}
+use Rattle.sdl_sound.specs.sdl_ast_types.expression.Identifier.{Identifier}
+use Rattle.sdl_sound.specs.Plain.{PlainProcess, PlainBlock}
 use Rattle.turn_code.specs.declared.machine.End as code_end
 use Rattle.turn_code.specs.declared.trouble.Trouble.{Trouble}
 use Rattle.turn_code.specs.Run.{Progress}
-use Rattle.sdl_tables.specs.Names.{number_of, variable_names, states_of, timers_of, connector_names, signal_names}
+use Rattle.sdl_sound.specs.TableNames.{number_of, variable_names, states_of, timers_of, connector_names, signal_names}
 
 -- Where a transition stands: its names are those of its process and of its block, and their numbers are the places there.
 pub record Scope : Type 0 where

@@ -1,2 +1,2 @@
 -- Lists of places with nothing in them: handed on.
-pub use Rattle.plain_laws.proofs.Lists.{append-nil_left, append-nil_right}
+pub use Rattle.sdl_tables.proofs.Lists.{append-nil_left, append-nil_right}

@@ -1,7 +1,7 @@
 -- What is asked of each statement of a process.
 use Rattle.std.specs.Prelude.{ℕ, List, [], ◌∷◌, ◌++◌, if◌then◌else◌, map}
 use Rattle.std.specs.List.{flat_map}
-use Rattle.sdl_ast.specs.Plain.{PlainStimulus, PlainInput, PlainConnection, PlainProcess}
+use Rattle.sdl_tables.specs.Plain.{PlainStimulus, PlainInput, PlainConnection, PlainProcess}
 use Rattle.sdl_tables.specs.Names.{input_parts}
 use Rattle.sdl_sound.specs.Statements.{Statement, statements_of}
 use Rattle.sdl_sound.specs.Joins.{reaches}

@@ -1,10 +1,10 @@
 -- What the walks of a text may do with one variable. (Z.100: the transitions of a process graph.)
 use Rattle.std.specs.Prelude.{ℕ, zero, suc, Bool, true, false, not, ◌&&◌, ◌||◌, List, length}
 use Rattle.std.specs.Option.{option_map_or}
-use Rattle.sdl_ast.specs.declared.expression.Identifier.{Identifier}
-use Rattle.sdl_ast.specs.declared.tree.End.{End}
-use Rattle.sdl_ast.specs.declared.tree.End.TheVariants.{NextState, Stop, Join}
-use Rattle.sdl_ast.specs.Plain.{Text, falls, ends, does, decides, Choice, nothing_else, otherwise, answer, PlainProcess}
+use Rattle.sdl_tables.specs.sdl_ast_types.expression.Identifier.{Identifier}
+use Rattle.sdl_tables.specs.sdl_ast_types.tree.End.{End}
+use Rattle.sdl_tables.specs.sdl_ast_types.tree.End.TheVariants.{NextState, Stop, Join}
+use Rattle.sdl_tables.specs.Plain.{Text, falls, ends, does, decides, Choice, nothing_else, otherwise, answer, PlainProcess}
 use Rattle.sdl_tables.specs.Names.{is_state, connection_named, states_of}
 use Rattle.sdl_sound.specs.Paths.{Event, tree_events, action_events, reads_first, sets_in}
 

@@ -2,11 +2,11 @@
 -- once. (Z.100: decisions; that ELSE is wanted is this profile's own.)
 use Rattle.std.specs.Prelude.{ℕ, ◌+◌, Bool, true, false, ◌&&◌, List, [], ◌∷◌, if◌then◌else◌, length, nat_eq, nat_lt, sum_by}
 use Rattle.std.specs.List.{flat_map}
-use Rattle.sdl_ast.specs.declared.tree.Literal.{Literal}
-use Rattle.sdl_ast.specs.declared.tree.Literal.TheVariants.{Integer, Boolean}
-use Rattle.sdl_ast.specs.declared.tree.Range.{Range}
-use Rattle.sdl_ast.specs.declared.tree.Range.TheVariants.{Value, Compared, Between}
-use Rattle.sdl_ast.specs.Plain.{Tree, Choice, nothing_else, otherwise, answer, PlainBlock}
+use Rattle.sdl_tables.specs.sdl_ast_types.tree.Literal.{Literal}
+use Rattle.sdl_tables.specs.sdl_ast_types.tree.Literal.TheVariants.{Integer, Boolean}
+use Rattle.sdl_tables.specs.sdl_ast_types.tree.Range.{Range}
+use Rattle.sdl_tables.specs.sdl_ast_types.tree.Range.TheVariants.{Value, Compared, Between}
+use Rattle.sdl_tables.specs.Plain.{Tree, Choice, nothing_else, otherwise, answer, PlainBlock}
 use Rattle.sdl_tables.specs.Names.{Variable, variables_of, processes_of}
 use Rattle.sdl_sound.specs.Statements.{Statement, acts, asks, covers, finishes}
 use Rattle.sdl_sound.specs.Actions.{in_statements}

@@ -2,10 +2,10 @@
 -- bodies goes on. (Z.100: nextstate, terminators.)
 use Rattle.std.specs.Prelude.{ℕ, List, [], ◌∷◌, ◌++◌, if◌then◌else◌}
 use Rattle.std.specs.List.{flat_map}
-use Rattle.sdl_ast.specs.declared.expression.Identifier.{Identifier}
-use Rattle.sdl_ast.specs.declared.tree.End.{End}
-use Rattle.sdl_ast.specs.declared.tree.End.TheVariants.{NextState, Stop, Join}
-use Rattle.sdl_ast.specs.Plain.{PlainAction, task, output, set_timer, reset_timer, Text, falls, ends, does, decides, Choice, nothing_else, otherwise, answer, PlainConnection, PlainInput, PlainProcess, PlainBlock}
+use Rattle.sdl_tables.specs.sdl_ast_types.expression.Identifier.{Identifier}
+use Rattle.sdl_tables.specs.sdl_ast_types.tree.End.{End}
+use Rattle.sdl_tables.specs.sdl_ast_types.tree.End.TheVariants.{NextState, Stop, Join}
+use Rattle.sdl_tables.specs.Plain.{PlainAction, task, output, set_timer, reset_timer, Text, falls, ends, does, decides, Choice, nothing_else, otherwise, answer, PlainConnection, PlainInput, PlainProcess, PlainBlock}
 use Rattle.sdl_tables.specs.Names.{is_in, processes_of, states_of, input_parts}
 use Rattle.sdl_sound.specs.Going.{choice_goes_on}
 

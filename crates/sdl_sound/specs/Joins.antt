@@ -3,8 +3,8 @@
 use Rattle.std.specs.Prelude.{ℕ, zero, suc, Bool, ◌||◌, List, [], ◌∷◌, if◌then◌else◌, length, filter}
 use Rattle.std.specs.List.{list_any, flat_map}
 use Rattle.std.specs.Option.{option_map_or}
-use Rattle.sdl_ast.specs.declared.tree.Join.{Join}
-use Rattle.sdl_ast.specs.Plain.{Text, PlainConnection, PlainProcess, PlainBlock}
+use Rattle.sdl_tables.specs.sdl_ast_types.tree.Join.{Join}
+use Rattle.sdl_tables.specs.Plain.{Text, PlainConnection, PlainProcess, PlainBlock}
 use Rattle.sdl_tables.specs.Names.{same_name, connection_named, processes_of}
 use Rattle.sdl_sound.specs.Statements.{joins_of}
 

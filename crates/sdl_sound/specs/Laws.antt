@@ -1,6 +1,6 @@
 -- What holds of the transitions of all sound processes.
 use Rattle.std.specs.Prelude.{◌≡◌, ◌⊎◌, ℕ, ◌≤◌, true, false, List, [], Contains, ◌++◌, Option, Some}
-use Rattle.sdl_ast.specs.Plain.{Text, PlainConnection, PlainProcess, PlainBlock}
+use Rattle.sdl_tables.specs.Plain.{Text, PlainConnection, PlainProcess, PlainBlock}
 use Rattle.sdl_tables.specs.Names.{Input, inputs_of, processes_of, number_of, states_of}
 use Rattle.sdl_sound.specs.Joins.{process_cycles}
 use Rattle.sdl_sound.specs.Longest.{text_budget, text_size}

@@ -3,13 +3,13 @@
 use Rattle.std.specs.Prelude.{ℕ, zero, suc, ◌+◌, Bool, true, false, List, [], ◌∷◌, Option, None, Some, if◌then◌else◌, length, max, map, sum_by}
 use Rattle.std.specs.List.{flat_map}
 use Rattle.std.specs.Option.{option_map_or}
-use Rattle.sdl_ast.specs.declared.expression.Identifier.{Identifier}
-use Rattle.sdl_ast.specs.declared.expression.BinaryOperator.{BinaryOperator}
-use Rattle.sdl_ast.specs.declared.expression.BinaryOperator.TheVariants.{Or, Xor, And, Equal, NotEqual, Less, LessEqual, Greater, GreaterEqual, Add, Subtract, Multiply, Divide, Modulo, Remainder}
-use Rattle.sdl_ast.specs.declared.tree.Range.{Range}
-use Rattle.sdl_ast.specs.declared.tree.End.{End}
-use Rattle.sdl_ast.specs.declared.tree.End.TheVariants.{NextState, Stop, Join}
-use Rattle.sdl_ast.specs.Plain.{Tree, number, truth, variable, unary, binary, PlainAssignment, PlainSending, PlainAction, task, output, set_timer, reset_timer, Text, falls, ends, does, decides, Choice, nothing_else, otherwise, answer, PlainProcess}
+use Rattle.sdl_tables.specs.sdl_ast_types.expression.Identifier.{Identifier}
+use Rattle.sdl_tables.specs.sdl_ast_types.expression.BinaryOperator.{BinaryOperator}
+use Rattle.sdl_tables.specs.sdl_ast_types.expression.BinaryOperator.TheVariants.{Or, Xor, And, Equal, NotEqual, Less, LessEqual, Greater, GreaterEqual, Add, Subtract, Multiply, Divide, Modulo, Remainder}
+use Rattle.sdl_tables.specs.sdl_ast_types.tree.Range.{Range}
+use Rattle.sdl_tables.specs.sdl_ast_types.tree.End.{End}
+use Rattle.sdl_tables.specs.sdl_ast_types.tree.End.TheVariants.{NextState, Stop, Join}
+use Rattle.sdl_tables.specs.Plain.{Tree, number, truth, variable, unary, binary, PlainAssignment, PlainSending, PlainAction, task, output, set_timer, reset_timer, Text, falls, ends, does, decides, Choice, nothing_else, otherwise, answer, PlainProcess}
 use Rattle.sdl_tables.specs.Names.{Variable, variables_of, connection_named, Input, inputs_by_state}
 use Rattle.sdl_sound.specs.Going.{goes_on}
 use Rattle.sdl_sound.specs.Joins.{reached}

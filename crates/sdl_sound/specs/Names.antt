@@ -2,14 +2,14 @@
 use Rattle.std.specs.Prelude.{ℕ, List, [], ◌∷◌, ◌++◌, Option, None, Some, if◌then◌else◌}
 use Rattle.std.specs.List.{flat_map}
 use Rattle.std.specs.Option.{option_to_list}
-use Rattle.sdl_ast.specs.declared.expression.Identifier.{Identifier}
-use Rattle.sdl_ast.specs.declared.tree.Destination.{Destination}
-use Rattle.sdl_ast.specs.declared.tree.Destination.TheVariants.{Sender, Process as To}
-use Rattle.sdl_ast.specs.declared.tree.Party.{Party}
-use Rattle.sdl_ast.specs.declared.tree.Party.TheVariants.{Environment, Process}
-use Rattle.sdl_ast.specs.declared.tree.End.{End}
-use Rattle.sdl_ast.specs.declared.tree.End.TheVariants.{NextState, Stop, Join}
-use Rattle.sdl_ast.specs.Plain.{Tree, number, truth, variable, unary, binary, PlainAssignment, PlainSending, PlainAction, task, output, set_timer, reset_timer, PlainStimulus, PlainInput, PlainState, PlainProcess, PlainPath, PlainRoute, PlainBlock}
+use Rattle.sdl_tables.specs.sdl_ast_types.expression.Identifier.{Identifier}
+use Rattle.sdl_tables.specs.sdl_ast_types.tree.Destination.{Destination}
+use Rattle.sdl_tables.specs.sdl_ast_types.tree.Destination.TheVariants.{Sender, Process as To}
+use Rattle.sdl_tables.specs.sdl_ast_types.tree.Party.{Party}
+use Rattle.sdl_tables.specs.sdl_ast_types.tree.Party.TheVariants.{Environment, Process}
+use Rattle.sdl_tables.specs.sdl_ast_types.tree.End.{End}
+use Rattle.sdl_tables.specs.sdl_ast_types.tree.End.TheVariants.{NextState, Stop, Join}
+use Rattle.sdl_tables.specs.Plain.{Tree, number, truth, variable, unary, binary, PlainAssignment, PlainSending, PlainAction, task, output, set_timer, reset_timer, PlainStimulus, PlainInput, PlainState, PlainProcess, PlainPath, PlainRoute, PlainBlock}
 use Rattle.sdl_tables.specs.Names.{is_in, routes_of, processes_of, signal_names, process_names, variable_names, timers_of, connector_names, input_parts, part_saves}
 use Rattle.sdl_sound.specs.Statements.{Statement, acts, asks, covers, finishes}
 use Rattle.sdl_sound.specs.Actions.{in_statements}

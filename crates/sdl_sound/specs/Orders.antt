@@ -2,9 +2,9 @@
 use Rattle.std.specs.Prelude.{◌≡◌, ◌<◌, ℕ, List, [], Option, Some, Result, Ok, Err, length, map, slice_get, Contains, option_to_list}
 use Rattle.std.specs.List.{AllZip, flat_map}
 use Rattle.std.specs.Global.{Vec}
-use Rattle.sdl_ast.specs.declared.expression.Identifier.{Identifier}
-use Rattle.sdl_ast.specs.declared.tree.Join.{Join}
-use Rattle.sdl_ast.specs.Plain.{PlainConnection, PlainProcess, PlainBlock}
+use Rattle.sdl_tables.specs.sdl_ast_types.expression.Identifier.{Identifier}
+use Rattle.sdl_tables.specs.sdl_ast_types.tree.Join.{Join}
+use Rattle.sdl_tables.specs.Plain.{PlainConnection, PlainProcess, PlainBlock}
 use Rattle.sdl_tables.specs.Names.{number_of, connector_names, processes_of}
 use Rattle.sdl_sound.specs.Statements.{joins_of}
 use Rattle.sdl_sound.specs.Joins.{process_cycles, join_cycles}

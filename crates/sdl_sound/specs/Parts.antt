@@ -1,11 +1,11 @@
 -- The statements in the parts of a transition, as the code goes over them.
 use Rattle.std.specs.Prelude.{List, [], ◌∷◌, Option, None, Some}
-use Rattle.sdl_ast.specs.declared.tree.End.{End}
-use Rattle.sdl_ast.specs.declared.tree.Statement as the_statement
-use Rattle.sdl_ast.specs.declared.tree.Decision.{Decision, out-Decision}
-use Rattle.sdl_ast.specs.declared.tree.Answer.{Answer}
-use Rattle.sdl_ast.specs.Plain.{Tree, falls}
-use Rattle.sdl_ast.specs.Views.{tree_of, text_of, statement_of, choice_of}
+use Rattle.sdl_tables.specs.sdl_ast_types.tree.End.{End}
+use Rattle.sdl_tables.specs.sdl_ast_types.tree.Statement as the_statement
+use Rattle.sdl_tables.specs.sdl_ast_types.tree.Decision.{Decision, out-Decision}
+use Rattle.sdl_tables.specs.sdl_ast_types.tree.Answer.{Answer}
+use Rattle.sdl_tables.specs.Plain.{Tree, falls}
+use Rattle.sdl_tables.specs.Views.{tree_of, text_of, statement_of, choice_of}
 use Rattle.sdl_sound.specs.Statements.{Statement, asks, covers, finishes, statements_of, choice_statements}
 
 abbrev pub statement_parts : the_statement.Statement → List Statement

@@ -1,8 +1,8 @@
 -- Control paths in the order of the text.
 use Rattle.std.specs.Prelude.{◌≡◌, ◌⊎◌, ℕ, ◌<◌, true, ⊤, List, [], ◌∷◌, length, Some, slice_get}
 use Rattle.std.specs.List.{AllZip}
-use Rattle.sdl_ast.specs.declared.expression.Identifier.{Identifier}
-use Rattle.sdl_ast.specs.Plain.{PlainProcess}
+use Rattle.sdl_tables.specs.sdl_ast_types.expression.Identifier.{Identifier}
+use Rattle.sdl_tables.specs.Plain.{PlainProcess}
 use Rattle.sdl_tables.specs.Names.{same_name, states_of, Input, inputs_of}
 use Rattle.sdl_sound.specs.Paths.{ReadsUnset}
 use Rattle.sdl_sound.specs.declared.fault.Step.{Step}

@@ -1,6 +1,6 @@
 -- Which refusal a block gets.
 use Rattle.std.specs.Prelude.{◌≡◌, [], None, Some, Contains, All, ⊤}
-use Rattle.sdl_ast.specs.Plain.{PlainBlock, PlainProcess}
+use Rattle.sdl_tables.specs.Plain.{PlainBlock, PlainProcess}
 use Rattle.sdl_tables.specs.Names.{processes_of}
 use Rattle.sdl_sound.specs.Names.{unknown_names}
 use Rattle.sdl_sound.specs.Ends.{stray_ends}

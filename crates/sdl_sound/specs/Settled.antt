@@ -2,8 +2,8 @@
 use Rattle.std.specs.Prelude.{◌≡◌, ℕ, ◌<◌, true, false, List, ◌++◌, Option, Some, length, All, slice_get}
 use Rattle.std.specs.List.{AllZip}
 use Rattle.std.specs.Int.{bit_at}
-use Rattle.sdl_ast.specs.Plain.{PlainProcess}
-use Rattle.sdl_ast.specs.declared.expression.Identifier.{Identifier}
+use Rattle.sdl_tables.specs.Plain.{PlainProcess}
+use Rattle.sdl_tables.specs.sdl_ast_types.expression.Identifier.{Identifier}
 use Rattle.sdl_tables.specs.Names.{number_of, variable_names, variables_of, states_of, Input, inputs_by_state}
 use Rattle.sdl_sound.specs.Paths.{Event, IsWalk, Transition, start_transition, input_transition, reads_first, sets_in}
 

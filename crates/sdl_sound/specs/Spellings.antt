@@ -1,8 +1,8 @@
 -- Names that are spelled as they are declared.
 use Rattle.std.specs.Prelude.{◌≡◌, ℕ, List, All, ⊤}
 use Rattle.std.specs.List.{Any}
-use Rattle.sdl_ast.specs.declared.expression.Identifier.{Identifier}
-use Rattle.sdl_ast.specs.Plain.{PlainProcess, PlainBlock}
+use Rattle.sdl_tables.specs.sdl_ast_types.expression.Identifier.{Identifier}
+use Rattle.sdl_tables.specs.Plain.{PlainProcess, PlainBlock}
 use Rattle.sdl_tables.specs.Names.{variable_names, states_of}
 use Rattle.sdl_sound.specs.Names.{trigger_names}
 use Rattle.sdl_sound.specs.declared.fault.Step.{Step}

@@ -3,8 +3,8 @@ use Rattle.std.specs.Prelude.{List}
 use Rattle.std.specs.Borrow.{Bor}
 use Rattle.std.specs.Global.{Vec}
 use Rattle.std.specs.List.{flat_map}
-use Rattle.sdl_ast.specs.declared.tree.InputPart.{InputPart}
-use Rattle.sdl_ast.specs.Views.{input_of}
+use Rattle.sdl_tables.specs.sdl_ast_types.tree.InputPart.{InputPart}
+use Rattle.sdl_tables.specs.Views.{input_of}
 use Rattle.sdl_tables.specs.Names.{Input}
 use Rattle.sdl_tables.specs.Rows.{stimulus_inputs}
 

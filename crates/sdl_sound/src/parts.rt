@@ -2,7 +2,7 @@
 ghost use Rattle.std.specs.Prelude.{◌≡◌, ◌&&◌, ◌||◌};
 ghost use Rattle.sdl_sound.specs.Longest.{is_division};
 
-use sdl_ast::BinaryOperator;
+use sdl_tables::BinaryOperator;
 
 /// Whether the right operand stands in the instruction itself.
 pub fn is_division(operator: BinaryOperator) -> bool

@@ -1,13 +1,12 @@
 //! The INPUTs of each state, each once however many signals it names: what is alike for all of them is found once.
 ghost use Rattle.std.specs.Prelude.{◌≡◌, ◌++◌, [], ℕ, ◌<◌, ◌==◌, if◌then◌else◌, map, length, IfOk, OnOk, vec_len};
 ghost use Rattle.std.specs.List.{flat_map};
-ghost use Rattle.sdl_ast.specs.Views.{state_of, input_of, process_of};
+ghost use Rattle.sdl_tables.specs.Views.{state_of, input_of, process_of};
 ghost use Rattle.sdl_tables.specs.Names.{states_of, given_to, part_inputs, inputs_by_state};
 ghost use Rattle.sdl_tables.specs.Rows.{row_at, stimulus_inputs};
 ghost use Rattle.sdl_sound.specs.Standing.{taken_in};
 
-use sdl_ast::{InputPart, StateClause, StatePart};
-use sdl_tables::{NameTable, ProcessTable};
+use sdl_tables::{InputPart, NameTable, ProcessTable, StateClause, StatePart};
 use std::alloc::{AllocError, Global};
 
 /// One INPUT more.

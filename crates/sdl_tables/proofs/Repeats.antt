@@ -6,7 +6,7 @@ use Rattle.std.proofs.lemmas.List.{append-nil}
 use Rattle.std.proofs.lemmas.List.Sums.{fold-append}
 use Rattle.std.proofs.lemmas.Slice.Eq.{bytes_eq-Decides}
 use Rattle.std.proofs.Math.Bool.{or-true, or-false, or_assoc}
-use Rattle.sdl_lex.specs.Spelling.{folded}
+use Rattle.sdl_ast.specs.Spelling.{folded}
 use Rattle.sdl_ast.specs.declared.expression.Identifier.{Identifier}
 use Rattle.sdl_tables.specs.Names.{same_name, is_in, add_name, names_once}
 use Rattle.sdl_tables.specs.Scopes.{repeats, Marks}

@@ -11,8 +11,7 @@ use crate::fault::TableFault;
 use crate::name_table::NameTable;
 use crate::process_table::ProcessTable;
 use crate::route_index::RouteIndex;
-use sdl_ast::{Block, Party, Route, SignalDeclaration};
-use sdl_lex::Name;
+use sdl_ast::{Block, Name, Party, Route, SignalDeclaration};
 use std::alloc::Global;
 use std::marker::Model;
 

@@ -3,9 +3,9 @@ ghost use Rattle.std.specs.Prelude.{◌≡◌, nat_eq, bytes_eq, refl};
 ghost use Rattle.std.specs.Cmp.{on_equiv, on_per, on_total, partial_equiv_from_equiv, partial_order_from_agreeing_total};
 ghost use Rattle.std.specs.Cmp.Lexicographic.{slice_cmp, nat_list_eq_equiv, nat_list_cmp_total, texts_ties};
 ghost use Rattle.std.specs.Ordering.{nat_cmp, as_partial_cmp};
-ghost use Rattle.sdl_lex.specs.Spelling.{folded};
+ghost use Rattle.sdl_ast.specs.Spelling.{folded};
 
-use sdl_lex::Name;
+use sdl_ast::Name;
 use std::cmp::Ordering;
 use std::marker::Model;
 

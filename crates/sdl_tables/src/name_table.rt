@@ -3,8 +3,7 @@ ghost use Rattle.std.specs.Prelude.{◌≡◌, ◌<◌, [], length, IfOk, OnOk, 
 ghost use Rattle.sdl_tables.specs.Names.{is_in, number_of, add_name};
 
 use crate::folded_name::FoldedName;
-use sdl_ast::Identifier;
-use sdl_lex::Name;
+use sdl_ast::{Identifier, Name};
 use std::alloc::{AllocError, Global};
 use std::collections::BTreeMap;
 use std::marker::Model;

@@ -14,10 +14,9 @@ use crate::scope::{Scope, add_names, earlier, first_shared, index_names};
 use crate::state_names::{Which, collect_names, push_ids};
 use crate::triggers::trigger_double;
 use sdl_ast::{
-    Connection, Constant, Declaration, Group, Identifier, InputPart, Process, Sort, StateClause,
-    StatePart, Stimulus,
+    Connection, Constant, Declaration, Group, Identifier, InputPart, Name, Process, Sort,
+    StateClause, StatePart, Stimulus,
 };
-use sdl_lex::Name;
 use std::alloc::{AllocError, Global};
 use std::marker::Model;
 

@@ -2,7 +2,7 @@
 ghost use Rattle.std.specs.Prelude.{◌≡◌, [], ◌∷◌, ◌++◌, List, if◌then◌else◌, ◌&&◌, map, IfOk, OnOk, None};
 ghost use Rattle.std.specs.BTreeMap.{get};
 ghost use Rattle.std.specs.List.{flat_map};
-ghost use Rattle.sdl_lex.specs.Spelling.{folded};
+ghost use Rattle.sdl_ast.specs.Spelling.{folded};
 ghost use Rattle.sdl_ast.specs.declared.tree.Party as tree;
 ghost use Rattle.sdl_ast.specs.Views.{path_of, route_of};
 ghost use Rattle.sdl_tables.specs.Names.{same_name};
@@ -11,8 +11,7 @@ ghost use Rattle.sdl_tables.specs.declared.route_index.End.{End as Key};
 ghost use Rattle.sdl_tables.specs.RouteIndexes.{Mention, held, end_cmp, same_end, mentions_of, side_of, end_of, passage_of, listed, is_carried, Indexes};
 
 use crate::folded_name::FoldedName;
-use sdl_ast::{Party, Path, Route};
-use sdl_lex::Name;
+use sdl_ast::{Name, Party, Path, Route};
 use std::alloc::{AllocError, Global};
 use std::collections::{BTreeMap, BTreeSet};
 

@@ -15,7 +15,7 @@ use Rattle.sdl_expressions.specs.Machine.{whole_trees, low_trees, lowered, expre
 use Rattle.sdl_expressions.proofs.Lowering.{mapped, Lowers, give_lowers, then_lowers, next_lowers, choice_lowers}
 use Rattle.sdl_bodies.specs.Marks.{Marked, kept, by_place, marked, more, decided}
 use Rattle.sdl_bodies.specs.Bodies.{whole_texts, marked_texts, plain_answer_of, WholeBranching, WholeBody, WholeReached, WholeMove, MarkedBranching, MarkedBody, MarkedReached, MarkedMove, reaches, closes, with_answer}
-use Rattle.sdl_productions.specs.Productions.{action_at, question_at, head_at, end_decision_at, end_at, head_step, closing_step, answer_step, body_step, behind_step, end_step, decision_step, action_step, step_at, after_move, steps_for, steps_from, at_first, text_at}
+use Rattle.sdl_readers.specs.Productions.{action_at, question_at, head_at, end_decision_at, end_at, head_step, closing_step, answer_step, body_step, behind_step, end_step, decision_step, action_step, step_at, after_move, steps_for, steps_from, at_first, text_at}
 use Rattle.sdl_tree.proofs.LoweredActions.{lowered_action, lowered_question, action_lowers, question_lowers}
 use Rattle.sdl_tree.proofs.LowHeights.{Keeps, keeps, action_stays}
 use Rattle.sdl_bodies.proofs.MarkLemmas.{one_marked, list_more, or_first-assoc, or_first-none}

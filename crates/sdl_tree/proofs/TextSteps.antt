@@ -13,7 +13,7 @@ use Rattle.sdl_tokens.specs.Tokens.{begins, a_word, a_symbol, an_action, an_end,
 use Rattle.sdl_tree.specs.Syntax.{action_syntax, question_syntax, else_head_syntax, some_head_syntax, no_head_syntax, head_syntax, end_decision_syntax, end_syntax, TextReads, ChoiceReads}
 use Rattle.sdl_expressions.specs.Machine.{whole_trees, expression_at}
 use Rattle.sdl_tokens.specs.Readings.{Reading, read, fails, At, then_read}
-use Rattle.sdl_productions.specs.Productions.{action_at, question_at, head_at, end_decision_at, end_at, head_step, closing_step, answer_step, body_step, behind_step, end_step, decision_step, action_step, step_at}
+use Rattle.sdl_readers.specs.Productions.{action_at, question_at, head_at, end_decision_at, end_at, head_step, closing_step, answer_step, body_step, behind_step, end_step, decision_step, action_step, step_at}
 use Rattle.sdl_tokens.proofs.Decides.{Seen, Decides, give_decides, choice_decides, optional_decides, ◌>>=◌}
 
 -- what is known of the flat parts

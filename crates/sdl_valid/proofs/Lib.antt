@@ -5,8 +5,12 @@ pub mod RightTexts
 pub mod Stretches
 pub mod TextLengths
 pub mod Settling
-pub mod Standing
+pub mod StandingLaws
 pub mod Unset
 pub mod UnsetLaws
 pub mod Validity
 pub mod Walks
+pub use Rattle.sdl_facts.proofs.Actions
+pub use Rattle.sdl_facts.proofs.Depths
+pub use Rattle.sdl_facts.proofs.PlaceSets
+pub use Rattle.sdl_facts.proofs.Spots

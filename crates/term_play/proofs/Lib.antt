@@ -1,3 +1,5 @@
 mod TermAnswers
 mod TermRuns
 mod UnitLaws
+pub use Rattle.book_play.proofs.Long
+pub use Rattle.book_play.proofs.Prints

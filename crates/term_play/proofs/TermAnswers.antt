@@ -20,11 +20,11 @@ use Rattle.link_side.specs.Limits.{KEPT_MESSAGES}
 use Rattle.link_side.specs.Reporting.{Reported, status_reported, message_reported, reported}
 use Rattle.link_side.specs.declared.signals.LinkStatus.{LinkStatus}
 use Rattle.link_side.specs.declared.signals.Report.{Report}
-use Rattle.link_heart.specs.Offering.{command_event}
-use Rattle.link_heart.specs.declared.commands.Command.{Command}
-use Rattle.link_heart.specs.declared.names.Names.{Names}
-use Rattle.link_heart.specs.Machine.{with_book, offered, tidied, is_low}
-use Rattle.link_heart.specs.declared.heart.Heart.{Heart}
+use Rattle.link_term.specs.Offering.{command_event}
+use Rattle.link_term.specs.link_heart_types.commands.Command.{Command}
+use Rattle.link_term.specs.link_heart_types.names.Names.{Names}
+use Rattle.link_term.specs.Machine.{with_book, offered, tidied, is_low}
+use Rattle.link_term.specs.link_heart_types.heart.Heart.{Heart}
 use Rattle.link_term.specs.Term.{Term, with_heart, with_half, IsAnswer, Leaves}
 use Rattle.link_term.specs.Hearing.{Heard}
 use Rattle.link_term.specs.declared.answers.CallError.{CallError}

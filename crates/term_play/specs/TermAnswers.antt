@@ -12,11 +12,11 @@ use Rattle.link_machine.specs.declared.event.Event.TheVariants.{Advance}
 use Rattle.link_machine.specs.declared.reply.Reply.{Reply}
 use Rattle.link_machine.specs.declared.reply.Reply.TheVariants as reply
 use Rattle.link_side.specs.Limits.{KEPT_MESSAGES}
-use Rattle.link_heart.specs.Machine.{Sent, offered, sent, tidied, is_low}
-use Rattle.link_heart.specs.Offering.{command_event}
-use Rattle.link_heart.specs.declared.commands.Command.{Command}
-use Rattle.link_heart.specs.declared.commands.Command.TheVariants as command
-use Rattle.link_heart.specs.declared.heart.Heart.{Heart}
+use Rattle.link_term.specs.Machine.{Sent, offered, sent, tidied, is_low}
+use Rattle.link_term.specs.Offering.{command_event}
+use Rattle.link_term.specs.link_heart_types.commands.Command.{Command}
+use Rattle.link_term.specs.link_heart_types.commands.Command.TheVariants as command
+use Rattle.link_term.specs.link_heart_types.heart.Heart.{Heart}
 use Rattle.link_term.specs.Term.{Term, with_heart, with_half}
 use Rattle.link_term.specs.Hearing.{Heard}
 use Rattle.link_term.specs.declared.answers.CallError.{CallError}
@@ -24,7 +24,7 @@ use Rattle.link_term.specs.declared.answers.CallError.TheVariants.{Refused, NoMe
 use Rattle.term_lines.specs.declared.orders.Order.{Order}
 use Rattle.term_lines.specs.declared.orders.Order.TheVariants as word
 use Rattle.term_lines.specs.TermCommands.{PlainTermCommand, order, unit, line, msu, out, ticks, state, shown, expected}
-use Rattle.script_replies.specs.Refused.{refused_text}
+use Rattle.book_play.specs.Refused.{refused_text}
 use Rattle.book_play.specs.Answers.{answer_text, process_named, state_line, value_line}
 use Rattle.term_play.specs.UnitLines.{IsLineOf}
 

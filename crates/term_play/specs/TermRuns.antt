@@ -2,11 +2,11 @@
 use Rattle.std.specs.Prelude.{◌≡◌, ℕ, List, [], ◌∷◌, ◌++◌, Option, None, Some}
 use Rattle.std.specs.List.{flat_map}
 use Rattle.std.specs.Io.KnownBytes.{Appends}
-use Rattle.mtp2_text.specs.declared.standard_text.TheConstants.{STANDARD}
+use Rattle.link_term.specs.mtp2_text_types.standard_text.TheConstants.{STANDARD}
 use Rattle.resend_store.specs.declared.messages.Mode.{Mode}
 use Rattle.link_term.specs.Term.{Term}
 use Rattle.link_term.specs.Opening.{IsNew}
-use Rattle.text_check.specs.Printed.{line_of}
+use Rattle.book_play.specs.Printed.{line_of}
 use Rattle.book_play.specs.Played.{last_in, Misses}
 use Rattle.term_lines.specs.TermCommands.{expected}
 use Rattle.term_lines.specs.TermScripts.{PlainTermSaid}

@@ -1,16 +1,15 @@
 //! What is printed for each command of a terminal's script.
 ghost use Rattle.std.specs.Prelude.{◌≡◌, ◌≤◌, IfOk, IfSome, OnOk, codes, length};
 ghost use Rattle.link_machine.specs.declared.event.Event.TheVariants.{Advance};
-ghost use Rattle.link_heart.specs.Offering.{command_event};
+ghost use Rattle.link_term.specs.Offering.{command_event};
 ghost use Rattle.term_lines.specs.TermCommands.{plain_term_command};
 ghost use Rattle.term_play.specs.TermAnswers.{command_of, IsAsked, IsRefusedLine, IsMessageOf, IsPut, without_reports, Listens, Receives, Answers};
 
 use crate::orders::command_of;
 use crate::unit_line::line_of_unit;
 use arrayvec::ArrayVec;
-use book_play::{state_line, text_line, value_line};
+use book_play::{refused_line, state_line, text_line, value_line};
 use link_term::{CallError, Msu, PutError, Terminal};
-use script_replies::refused_line;
 use std::alloc::{AllocError, Global};
 use term_lines::{Order, TermCommand};
 

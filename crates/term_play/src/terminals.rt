@@ -6,12 +6,11 @@ ghost use Rattle.term_play.specs.TermAnswers.{next_of, behind_next, unit_line};
 ghost use Rattle.term_play.specs.TermRuns.{last_of, HasPrinted, HasGivenOut, IsTermRun, IsTermWritten, IsTermMissed, IsTermMissedBy, IsOfNew};
 
 use crate::answers::answer;
-use book_play::{MISSED, Printer, text_line};
+use book_play::{FAILED, HELD, MISSED, Printer, text_line, write_line};
 use link_term::Terminal;
 use std::alloc::Global;
 use std::io::{self, Write};
 use term_lines::{TermCommand, TermSaid, TermScript};
-use text_check::{FAILED, HELD, write_line};
 
 /// A terminal, and what is printed for it.
 #[derive(Drop)]

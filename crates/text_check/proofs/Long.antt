@@ -7,8 +7,8 @@ use Rattle.sdl_lex.specs.Lexed.{Answers, over_long, in_room}
 use Rattle.sdl_lex.specs.declared.lexemes.Token.{Token}
 use Rattle.sdl_lex.specs.declared.lexemes.LexFault.TheVariants.{TooLong}
 use Rattle.turn_code.specs.declared.draft.Draft.{Draft}
-use Rattle.turn_verify.specs.Loaded.{IsUnlexed, line_at}
-use Rattle.turn_verify.specs.declared.loading.LoadFault.TheVariants.{Lex}
+use Rattle.mtp2_text.specs.Loaded.{IsUnlexed, line_at}
+use Rattle.mtp2_text.specs.turn_verify_types.loading.LoadFault.TheVariants.{Lex}
 use Rattle.text_reader.specs.Reading.{LONGEST, Keeps, IsReading}
 use Rattle.text_reader.specs.declared.reading.TextRead.{TextRead}
 use Rattle.text_check.specs.declared.sets.SetFault.{SetFault}

@@ -5,8 +5,8 @@ use Rattle.mtp2_text.specs.declared.standard_text.TheConstants.{STANDARD}
 use Rattle.mtp2_text.specs.declared.monitors_text.TheConstants.{MONITORS}
 use Rattle.text_reader.specs.Reading.{LONGEST}
 use Rattle.turn_code.specs.declared.draft.Draft.{Draft}
-use Rattle.turn_verify.specs.Loaded.{IsSound, IsLoaded, IsRefused}
-use Rattle.turn_verify.specs.declared.loading.LoadFault.TheVariants.{NoMemory}
+use Rattle.mtp2_text.specs.Loaded.{IsSound, IsLoaded, IsRefused}
+use Rattle.mtp2_text.specs.turn_verify_types.loading.LoadFault.TheVariants.{NoMemory}
 use Rattle.text_check.specs.declared.sets.SetFault.{SetFault}
 use Rattle.text_check.specs.declared.sets.SetFault.TheVariants.{NotRead, NotText, Load}
 use Rattle.text_check.specs.declared.sets.SetWord.{SetWord}

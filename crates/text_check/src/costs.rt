@@ -4,12 +4,12 @@ ghost use Rattle.std.specs.Io.KnownBytes.{Appends};
 ghost use Rattle.std.specs.List.{flat_map};
 ghost use Rattle.text_check.specs.Printed.{trigger_text, start_line, input_line, state_lines, process_lines, set_lines};
 
+use mtp2_text::Verified;
 use printed_lines::write_line;
 use std::alloc::{AllocError, Global};
 use std::fmt;
 use std::io::{self, Write};
 use turn_code::{Cert, Draft, DraftInput, DraftProcess, DraftState, Trigger};
-use turn_verify::Verified;
 
 /// What a transition costs, as it is printed.
 #[derive(Clone, Copy)]

@@ -6,5 +6,6 @@ mod costs;
 mod sets;
 
 pub use checking::{check, write_refusal};
+pub use mtp2_text::standard;
 pub use printed_lines::{FAILED, HELD, REFUSED, USAGE, refuse, write_line};
 pub use sets::{SetFault, SetWord, load_set};

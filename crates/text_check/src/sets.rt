@@ -1,17 +1,16 @@
 //! Sets of processes, as commands name them.
 ghost use Rattle.std.specs.Prelude.{◌≡◌, ◌↔◌, List, ℕ, IfOk, IfErr, IsFalse};
 ghost use Rattle.text_reader.specs.Reading.{Keeps};
-ghost use Rattle.turn_verify.specs.Loaded.{IsRefused};
+ghost use Rattle.mtp2_text.specs.Loaded.{IsRefused};
 ghost use Rattle.text_check.specs.Checked.{given, IsGiven, IsRefusal, IsRefusalOf, IsSetOf, IsText, IsTooLong};
 ghost use Rattle.text_check.specs.declared.sets.SetFault.TheVariants.{NotRead};
 
-use mtp2_text::{MONITORS, STANDARD, monitors, standard};
+use mtp2_text::{LexFault, LoadFault, MONITORS, STANDARD, Verified, load, monitors, standard};
 use std::alloc::Global;
 use std::io::Read;
 use std::{fmt, str};
 use text_reader::{MOST_BYTES, TextRead, line_at_limit, read_text};
 use thiserror::Error;
-use turn_verify::{LexFault, LoadFault, Verified, load};
 
 /// A set of processes, as a command names it.
 #[derive(Drop)]

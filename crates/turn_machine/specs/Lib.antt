@@ -3,3 +3,5 @@ pub mod Given
 pub mod Fitting
 pub mod Safety
 pub mod Ends
+pub use Rattle.turn_check.specs.Answered
+pub use Rattle.turn_check.specs.Named

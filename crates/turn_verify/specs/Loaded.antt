@@ -16,8 +16,8 @@ use Rattle.sdl_sound.specs.Sound.{Sound}
 use Rattle.sdl_sound.specs.Refusals.{Refuses}
 use Rattle.sdl_sound.specs.declared.fault.RuleFault.{RuleFault}
 use Rattle.sdl_sound.specs.declared.fault.RuleFault.TheVariants as rules
-use Rattle.sdl_drafts.specs.Blocks.{MatchesBlock}
-use Rattle.sdl_drafts.specs.Meaning.{RunsAsMeant}
+use Rattle.sdl_compile.specs.Blocks.{MatchesBlock}
+use Rattle.sdl_compile.specs.Meaning.{RunsAsMeant}
 use Rattle.turn_code.specs.declared.draft.Draft.{Draft}
 use Rattle.turn_verify.specs.declared.loading.LoadFault.{LoadFault}
 use Rattle.turn_verify.specs.declared.loading.LoadFault.TheVariants.{Lex, Parse, Rule, NoMemory}

@@ -6,7 +6,7 @@ use Rattle.script_play.specs.Played.{reading_of, no_text, bad_line}
 use Rattle.script_play.proofs.Refusals.{too_long, no_script}
 use Rattle.script_play.proofs.Texts.{not_held, not_missed}
 use Rattle.script_play.proofs.playing.play_text.Goals as goal
-use Rattle.text_check.proofs.Long.{all_kept}
+use Rattle.term_play.proofs.Long.{all_kept}
 use Rattle.plain_laws.proofs.Numbers.{not_refused}
 
 pub returns-then-not-read-clause-held : goal.returns-then-not-read-clause-held

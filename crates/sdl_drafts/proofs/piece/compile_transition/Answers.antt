@@ -1,4 +1,4 @@
-use Rattle.sdl_names.specs.Scopes.{scope_in, piece_in}
+use Rattle.sdl_valid.specs.Scopes.{scope_in, piece_in}
 use Rattle.sdl_drafts.proofs.Pieces.{means}
 use Rattle.sdl_meaning.proofs.Counted.{size_is}
 use Rattle.sdl_drafts.proofs.piece.compile_transition.Goals as goal

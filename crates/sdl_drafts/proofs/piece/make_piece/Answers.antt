@@ -1,11 +1,11 @@
 use Rattle.std.proofs.Common.{length, ap, ◌∙◌, subst, arith, List, [], ℕ}
 use Rattle.std.specs.List.{sum_by}
-use Rattle.sdl_names.specs.Scopes.{scope_in, piece_in}
+use Rattle.sdl_valid.specs.Scopes.{scope_in, piece_in}
 use Rattle.sdl_meaning.specs.Code.{size_at, piece_code}
 use Rattle.turn_code.specs.Rules.{greatest, depths}
-use Rattle.sdl_facts.specs.Facts.{shapes_from, piece_sets}
+use Rattle.sdl_valid.specs.Facts.{shapes_from, piece_sets}
 use Rattle.sdl_meaning.specs.Declarations.{drafted_signals}
-use Rattle.sdl_facts.specs.Settings.{count_from, effects_from}
+use Rattle.sdl_valid.specs.Settings.{count_from, effects_from}
 use Rattle.sdl_counts.specs.declared.counts.Counted.TheVariants.{Instructions, Effects}
 use Rattle.sdl_counts.specs.Counts.{weight, AreCounts}
 use Rattle.sdl_meaning.proofs.Counted.{size_is, size_fits}

@@ -1,5 +1,5 @@
 use Rattle.std.proofs.Common.{◌≡◌, map, take, drop}
-use Rattle.sdl_names.specs.Scopes.{scope_in}
+use Rattle.sdl_valid.specs.Scopes.{scope_in}
 use Rattle.sdl_meaning.specs.Declarations.{trigger_of}
 use Rattle.sdl_drafts.specs.Drafts.{AreTriggers}
 use Rattle.sdl_drafts.proofs.state.compile_saves.Given as goal

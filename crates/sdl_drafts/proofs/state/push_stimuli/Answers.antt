@@ -1,7 +1,7 @@
 use Rattle.std.proofs.Common.{List, ◌++◌, ◌+◌, ◌∙◌, map, take, ap, sym, subst, append-nil, take_all}
 use Rattle.std.specs.List.{AllZip}
 use Rattle.turn_code.specs.declared.draft.DraftInput.{DraftInput}
-use Rattle.sdl_names.specs.Scopes.{scope_in, input_by}
+use Rattle.sdl_valid.specs.Scopes.{scope_in, input_by}
 use Rattle.sdl_drafts.specs.Drafts.{IsInputOf, AreReady}
 use Rattle.sdl_drafts.proofs.Zips.{ready_at, stimuli_taken}
 use Rattle.sdl_drafts.proofs.state.push_stimuli.Goals as goal

@@ -1,7 +1,7 @@
 use Rattle.std.proofs.Common.{List, ◌++◌, map, take}
 use Rattle.std.specs.List.{AllZip}
 use Rattle.sdl_tables.specs.Names.{Input}
-use Rattle.sdl_names.specs.Scopes.{scope_in, input_by}
+use Rattle.sdl_valid.specs.Scopes.{scope_in, input_by}
 use Rattle.sdl_drafts.specs.Drafts.{IsInputOf}
 use Rattle.sdl_drafts.proofs.state.push_stimuli.Given as goal
 

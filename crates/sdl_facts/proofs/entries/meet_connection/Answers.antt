@@ -1,6 +1,6 @@
 use Rattle.std.proofs.Common.{ap, ◌∙◌}
 use Rattle.sdl_ast.specs.Views.{text_of}
-use Rattle.sdl_names.specs.Scopes.{scope_in}
+use Rattle.sdl_emit.specs.Scopes.{scope_in}
 use Rattle.sdl_meaning.specs.Code.{text_at}
 use Rattle.sdl_facts.specs.Entries.{entry_at, met}
 use Rattle.sdl_emit.proofs.Emitting.{each_named}

@@ -1,5 +1,5 @@
 use Rattle.std.proofs.Common.{sym, subst, drop}
-use Rattle.sdl_names.specs.Scopes.{scope_in}
+use Rattle.sdl_emit.specs.Scopes.{scope_in}
 use Rattle.sdl_facts.specs.Entries.{AreOfAll}
 use Rattle.sdl_facts.proofs.Unchanged.{connections_kept}
 use Rattle.sdl_facts.proofs.entries.meet_connections.Goals as goal

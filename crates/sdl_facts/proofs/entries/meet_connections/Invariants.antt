@@ -1,5 +1,5 @@
 use Rattle.std.proofs.Common.{◌≡◌, ◌≤◌, drop, length}
-use Rattle.sdl_names.specs.Scopes.{scope_in}
+use Rattle.sdl_emit.specs.Scopes.{scope_in}
 use Rattle.sdl_facts.specs.Entries.{connections_met}
 use Rattle.sdl_facts.proofs.entries.meet_connections.Given as goal
 

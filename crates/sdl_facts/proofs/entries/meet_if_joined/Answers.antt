@@ -1,5 +1,5 @@
 use Rattle.std.proofs.Common.{◌≡◌, ap, sym, ◌∙◌}
-use Rattle.sdl_names.specs.Scopes.{scope_in}
+use Rattle.sdl_emit.specs.Scopes.{scope_in}
 use Rattle.sdl_facts.specs.Reads.{everything}
 use Rattle.sdl_facts.specs.Entries.{entry_at}
 use Rattle.sdl_facts.proofs.Unchanged.{connection_same}

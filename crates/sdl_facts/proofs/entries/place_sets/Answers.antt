@@ -2,7 +2,7 @@ use Rattle.std.proofs.Common.{◌++◌, map, sym, ap, ◌∙◌, subst}
 use Rattle.sdl_ast.specs.declared.tree.Process.{Process}
 use Rattle.sdl_ast.specs.Plain.{PlainConnection}
 use Rattle.sdl_ast.specs.Views.{connection_of, text_of}
-use Rattle.sdl_names.specs.Scopes.{scope_in}
+use Rattle.sdl_emit.specs.Scopes.{scope_in}
 use Rattle.sdl_facts.specs.Reads.{everything}
 use Rattle.sdl_facts.specs.Entries.{AreOfAll}
 use Rattle.sdl_facts.proofs.Marking.{piece_whole}

@@ -7,8 +7,8 @@ use Rattle.sdl_ast.specs.declared.tree.Decision.{out-Decision, the_lemmas}
 use Rattle.sdl_ast.specs.Views.{plain_answer, text_of, choice_of, statements_before, answers_before, end_text, else_choice, action_of}
 use Rattle.sdl_ast.proofs.Views.{text_of-is}
 use Rattle.sdl_sound.specs.Going.{goes_on, choice_goes_on}
-use Rattle.sdl_names.specs.Scopes.{scope_in, question_in, NamedElse}
-use Rattle.sdl_landing.proofs.Picking.{one_answer}
+use Rattle.sdl_emit.specs.Scopes.{scope_in, question_in, NamedElse}
+use Rattle.sdl_emit.proofs.Picking.{one_answer}
 use Rattle.sdl_emit.proofs.Emitting.{one_statement, statement_named, rest_named, others_named, answer_named}
 use Rattle.sdl_emit.proofs.Landed.{rest_goes}
 use Rattle.sdl_meaning.specs.Named.{NamedText, NamedChoice}

@@ -2,7 +2,7 @@ use Rattle.std.proofs.Common.{◌≡◌, ◌++◌, ◌&&◌, ◌||◌, drop}
 use Rattle.sdl_ast.specs.declared.tree.Decision.{out-Decision}
 use Rattle.sdl_ast.specs.Views.{text_of, choice_of, statements_before, answers_before, else_choice, end_text}
 use Rattle.sdl_sound.specs.Going.{goes_on, choice_goes_on}
-use Rattle.sdl_names.specs.Scopes.{scope_in, question_in}
+use Rattle.sdl_emit.specs.Scopes.{scope_in, question_in}
 use Rattle.sdl_meaning.specs.Named.{NamedText, NamedChoice}
 use Rattle.sdl_facts.specs.Reads.{everything, left, answers_left}
 use Rattle.sdl_facts.specs.Entries.{met, answers_met}

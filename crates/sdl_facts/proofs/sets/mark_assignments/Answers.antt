@@ -2,7 +2,7 @@ use Rattle.std.proofs.Common.{◌≡◌, ◌∙◌, ap}
 use Rattle.turn_code.specs.Sets.{with_variable}
 use Rattle.sdl_meaning.specs.Outcomes.{variable_at}
 use Rattle.sdl_meaning.specs.Code.{number_or_zero}
-use Rattle.sdl_names.specs.Scopes.{scope_in}
+use Rattle.sdl_emit.specs.Scopes.{scope_in}
 use Rattle.sdl_facts.proofs.Marking.{tasks_loop, behind_loop, named_loop}
 use Rattle.sdl_facts.proofs.sets.mark_assignments.Goals as goal
 

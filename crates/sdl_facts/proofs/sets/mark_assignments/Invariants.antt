@@ -1,6 +1,6 @@
 use Rattle.std.proofs.Common.{◌≡◌, ◌++◌, drop, map}
 use Rattle.sdl_ast.specs.Views.{assignment_of}
-use Rattle.sdl_names.specs.Scopes.{scope_in}
+use Rattle.sdl_emit.specs.Scopes.{scope_in}
 use Rattle.sdl_meaning.specs.Named.{NamedTasks}
 use Rattle.sdl_facts.specs.Reads.{tasks_set}
 use Rattle.sdl_facts.specs.Facts.{tasks_sets}

@@ -1,7 +1,7 @@
 use Rattle.std.proofs.Common.{rules, arith, ◌≤◌, ◌<◌, get_or}
 use Rattle.std.proofs.lemmas.List.Elements.{All-get_or}
 use Rattle.std.proofs.lemmas.Option.{slice_get-get_or}
-use Rattle.sdl_names.specs.Scopes.{places_by}
+use Rattle.sdl_emit.specs.Scopes.{places_by}
 use Rattle.sdl_facts.specs.Counts.{measured}
 use Rattle.sdl_facts.proofs.Reckoned.{none_filled, one_filled, all_filled}
 use Rattle.sdl_facts.proofs.totals.known_counts.Goals as goal

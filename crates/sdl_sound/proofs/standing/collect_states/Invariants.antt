@@ -1,6 +1,6 @@
 use Rattle.std.proofs.Common.{◌≡◌, ℕ, ◌<◌, vec_len, take, length, map}
 use Rattle.std.specs.List.{flat_map}
-use Rattle.sdl_ast.specs.Views.{state_of}
+use Rattle.sdl_tables.specs.Views.{state_of}
 use Rattle.sdl_tables.specs.Names.{given_to, part_inputs}
 use Rattle.sdl_tables.specs.Rows.{row_at}
 use Rattle.sdl_sound.specs.Standing.{taken_in}

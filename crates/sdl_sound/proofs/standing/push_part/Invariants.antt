@@ -1,6 +1,6 @@
 use Rattle.std.proofs.Common.{◌≡◌, map, ◌++◌, take}
 use Rattle.std.specs.List.{flat_map}
-use Rattle.sdl_ast.specs.Views.{clause_of}
+use Rattle.sdl_tables.specs.Views.{clause_of}
 use Rattle.sdl_tables.specs.Names.{clause_inputs}
 use Rattle.sdl_sound.specs.Standing.{taken_in}
 use Rattle.sdl_sound.proofs.standing.push_part.Given as goal

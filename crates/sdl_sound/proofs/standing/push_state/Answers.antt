@@ -1,5 +1,5 @@
 use Rattle.std.proofs.Common.{arith}
-use Rattle.sdl_ast.specs.Views.{state_of}
+use Rattle.sdl_tables.specs.Views.{state_of}
 use Rattle.sdl_tables.specs.Names.{part_inputs}
 use Rattle.sdl_tables.proofs.States.{rows_at-set}
 use Rattle.sdl_sound.specs.Standing.{taken_in}

@@ -1,5 +1,5 @@
 use Rattle.std.proofs.Common.{◌≡◌, ℕ, ◌<◌, ◌++◌, vec_len, take}
-use Rattle.sdl_ast.specs.Views.{state_of}
+use Rattle.sdl_tables.specs.Views.{state_of}
 use Rattle.sdl_tables.specs.Names.{given_to, part_inputs}
 use Rattle.sdl_tables.specs.Rows.{row_at}
 use Rattle.sdl_sound.specs.Standing.{taken_in}

@@ -1,6 +1,6 @@
 use Rattle.std.proofs.Common.{◌∙◌, ap, map, arith}
-use Rattle.sdl_ast.specs.declared.tree.Process.{Process}
-use Rattle.sdl_ast.specs.Views.{process_of, state_of}
+use Rattle.sdl_tables.specs.sdl_ast_types.tree.Process.{Process}
+use Rattle.sdl_tables.specs.Views.{process_of, state_of}
 use Rattle.sdl_tables.specs.Names.{part_inputs}
 use Rattle.sdl_tables.proofs.States.{rows-collected}
 use Rattle.sdl_sound.specs.Standing.{taken_in}

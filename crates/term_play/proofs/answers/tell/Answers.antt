@@ -1,6 +1,6 @@
 use Rattle.std.proofs.lemmas.Result.{IfOk-weaker}
-use Rattle.link_heart.specs.Machine.{tidied}
-use Rattle.link_heart.specs.Offering.{command_event}
+use Rattle.link_term.specs.Machine.{tidied}
+use Rattle.link_term.specs.Offering.{command_event}
 use Rattle.link_machine.specs.declared.reply.Reply.TheVariants as reply
 use Rattle.term_play.specs.TermAnswers.{command_of, IsAsked}
 use Rattle.term_play.proofs.TermAnswers.{names_stay, asked_ok, asked_refused, asked_same}

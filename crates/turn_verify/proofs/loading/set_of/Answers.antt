@@ -1,7 +1,7 @@
 use Rattle.std.proofs.Common.{false, subst}
 use Rattle.std.specs.Prelude.{IsTrue, IfOk}
 use Rattle.sdl_ast.specs.Views.{block_of}
-use Rattle.sdl_drafts.specs.Blocks.{MatchesBlock}
+use Rattle.sdl_compile.specs.Blocks.{MatchesBlock}
 use Rattle.turn_verify.proofs.Loads.{no_refusal, gives_unless, refused_unless}
 use Rattle.turn_verify.proofs.loading.set_of.Goals as goal
 

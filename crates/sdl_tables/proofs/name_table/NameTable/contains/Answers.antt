@@ -3,7 +3,7 @@ use Rattle.std.specs.BTreeMap.{get}
 use Rattle.std.specs.Cmp.Lexicographic.{slice_cmp}
 use Rattle.std.specs.Ordering.{nat_cmp}
 use Rattle.sdl_tables.specs.Names.{is_in}
-use Rattle.sdl_lex.specs.Spelling.{folded}
+use Rattle.sdl_ast.specs.Spelling.{folded}
 use Rattle.sdl_tables.proofs.Tables.{has, is_some-position}
 use Rattle.sdl_tables.proofs.name_table.NameTable.contains.Goals as goal
 

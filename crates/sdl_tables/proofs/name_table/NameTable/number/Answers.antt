@@ -2,7 +2,7 @@ use Rattle.std.proofs.Common.{◌∙◌, ap}
 use Rattle.std.specs.BTreeMap.{get}
 use Rattle.std.specs.Cmp.Lexicographic.{slice_cmp}
 use Rattle.std.specs.Ordering.{nat_cmp}
-use Rattle.sdl_lex.specs.Spelling.{folded}
+use Rattle.sdl_ast.specs.Spelling.{folded}
 use Rattle.sdl_tables.specs.Names.{number_of}
 use Rattle.sdl_tables.proofs.name_table.NameTable.number.Goals as goal
 

@@ -1,0 +1,1 @@
+pub use Rattle.sdl_landing.proofs.Picking
