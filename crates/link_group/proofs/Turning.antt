@@ -110,8 +110,8 @@ pub room-left : (s n : ℕ) (ms items : List Msu) (t u : Term) → items ≡ dro
     → length (of s ms) + length t.heart.side.sender.kept ≤ MOST_KEPT → length (of s items) + length u.heart.side.sender.kept ≤ MOST_KEPT
 room-left s n ms items t u e is room =
     sum (length (of s (take n ms))) (length (of s (drop n ms))) (length (kept t)) (length (of s ms)) (length (of s items)) (length (kept u))
-      (of-parts s n ms) (ap length (of-turned s n ms items e))
-      (ap (λ (x : Term). length (kept x)) is ∙ ap length (takes-kept (of s (take n ms)) t) ∙ length-append (kept t) (of s (take n ms))) room
+    (of-parts s n ms) (ap length (of-turned s n ms items e))
+    (ap (λ (x : Term). length (kept x)) is ∙ ap length (takes-kept (of s (take n ms)) t) ∙ length-append (kept t) (of s (take n ms))) room
 
 -- the element at a place, in front of all behind it
 pub begun : (n : ℕ) (ms : List Msu) → n < length ms → (m : Msu) × (drop n ms ≡ m ∷ drop (n + 1) ms) × (take (n + 1) ms ≡ take n ms ++ m ∷ [])
@@ -135,8 +135,8 @@ more-taken s n ms items t u v h e is now =
     let at = begun n ms h in
     let front : items ≡ at.0 ∷ (drop (n + 1) ms ++ off s (take n ms)) = e ∙ ap (λ (xs : List Msu). xs ++ off s (take n ms)) at.1 in
     now ∙ ap (λ (xs : List Msu). term_takes (of s (take 1 xs)) u) front ∙ ap (term_takes (of s (at.0 ∷ []))) is
-      ∙ takes-takes (of s (take n ms)) (of s (at.0 ∷ [])) t ∙ ap (λ (xs : List Msu). term_takes xs t) (sym (of-append s (take n ms) (at.0 ∷ [])))
-      ∙ ap (λ (xs : List Msu). term_takes (of s xs) t) (sym at.2)
+    ∙ takes-takes (of s (take n ms)) (of s (at.0 ∷ [])) t ∙ ap (λ (xs : List Msu). term_takes xs t) (sym (of-append s (take n ms) (at.0 ∷ [])))
+    ∙ ap (λ (xs : List Msu). term_takes (of s xs) t) (sym at.2)
 
 pub all-items : (s n : ℕ) (ms items : List Msu) → n ≡ length ms → items ≡ drop n ms ++ off s (take n ms) → items ≡ off s ms
 all-items s n ms items e is = is ∙ ap (λ (k : ℕ). drop k ms ++ off s (take k ms)) e ∙ ap (λ (xs : List Msu). xs ++ off s (take (length ms) ms)) (none ms) ∙ ap (off s) (all ms)
@@ -144,6 +144,7 @@ all-items s n ms items e is = is ∙ ap (λ (k : ℕ). drop k ms ++ off s (take 
     none : (xs : List Msu) → drop (length xs) xs ≡ []
     none [] = refl
     none (x ∷ xs) = none xs
+
     all : (xs : List Msu) → take (length xs) xs ≡ xs
     all [] = refl
     all (x ∷ xs) = ap (λ (ys : List Msu). x ∷ ys) (all xs)

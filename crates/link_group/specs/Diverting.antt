@@ -44,9 +44,17 @@ places_from may n (k ∷ ks) = if may k then n ∷ places_from may (n + 1) ks el
 unfoldable pub open_links : Bool → List Link → List ℕ
 open_links failed ks = places_from (is_open failed) 0 ks
 
+abbrev pub on_by : ℕ → Option Msu → Bool
+on_by s None = false
+on_by s (Some m) = is_on s m
+
 -- whether a link holds messages of a selection
 unfoldable pub holds : ℕ → Link → Bool
 holds s k = list_any (is_on s) (held k)
+
+abbrev pub holds_at : ℕ → Option Link → Bool
+holds_at s None = false
+holds_at s (Some k) = holds s k
 
 -- ---- messages go to a link
 
@@ -69,9 +77,15 @@ pub record Diversion : Type 0 where
   -- what is still in hand
   pub rest : List Msu
 
+abbrev pub room_fault : ℕ → Link → Option DivertFault
+room_fault n k = if has_room n k then None else Some divert.Full
+
+abbrev pub division : List Link → List (Option ℕ) → List Msu → Diversion
+division ks ts ms = record { links = ks; table = ts; rest = ms }
+
 abbrev pub take_fault : ℕ → Option Link → Option DivertFault
 take_fault n None = Some divert.NoLink
-take_fault n (Some k) = if has_room n k then None else Some divert.Full
+take_fault n (Some k) = room_fault n k
 
 abbrev pub move_fault_by : Diversion → ℕ → Option ℕ → Option DivertFault
 move_fault_by d n None = Some divert.NoLink
@@ -113,7 +127,7 @@ moves ls (suc k) s d = goes_on (moves ls k (s + 1)) d (moved ls s d) (move_fault
 -- the hand goes back to its own link, as a whole and in order
 abbrev pub back_fault_by : Option Link → List Msu → Option DivertFault
 back_fault_by None ms = Some divert.NoLink
-back_fault_by (Some k) ms = if is_serving k then (if has_room (length ms) k then None else Some divert.Full) else Some divert.NoLink
+back_fault_by (Some k) ms = if is_serving k then room_fault (length ms) k else Some divert.NoLink
 
 unfoldable pub back_fault : ℕ → Diversion → Option DivertFault
 back_fault l d = if length d.rest == 0 then None else back_fault_by (slice_get d.links l) d.rest
@@ -127,17 +141,16 @@ gives_back l d (Some fault) = record { at = d; fault = Some fault }
 
 -- ---- the whole
 
+unfoldable pub hands_over : List ℕ → ℕ → Diversion → Diverted
+hands_over ls l d = if length ls == 0 then gives_back l d (back_fault l d) else moves ls SELECTIONS 0 d
+
 unfoldable pub diverted : LinkSet → ℕ → List Msu → Diverted
-diverted c l ms =
-    let ls = open_links false c.links in
-    let d : Diversion = record { links = c.links; table = c.table; rest = ms } in
-    if length ls == 0 then gives_back l d (back_fault l d) else moves ls SELECTIONS 0 d
+diverted c l ms = hands_over (open_links false c.links) l (division c.links c.table ms)
 
 -- As a changeover ends, each selection that is still the link's, and of which it holds nothing, gets its link among those that may take it.
-unfoldable pub ends_on : List ℕ → ℕ → Option Link → Option ℕ → ℕ → Option ℕ
-ends_on ls l None was s = was
-ends_on ls l (Some k) None s = None
-ends_on ls l (Some k) (Some j) s = if (j == l) && not (holds s k) then pick ls s else Some j
+abbrev pub ends_on : List ℕ → ℕ → Option Link → Option ℕ → ℕ → Option ℕ
+ends_on ls l k None s = None
+ends_on ls l k (Some j) s = if (j == l) && not (holds_at s k) then pick ls s else Some j
 
 abbrev pub ends_at : Link → Link
 ends_at k = with_marks (ended k.marks) k

@@ -5,3 +5,4 @@ pub mod Changing
 pub mod Diverting
 pub mod Placing
 pub mod Printed
+pub mod Ending

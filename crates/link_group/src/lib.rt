@@ -3,13 +3,17 @@
 #![tactic(auto)]
 
 mod diverting;
+mod ending;
 mod errors;
 mod group;
 mod link;
 mod links;
+mod open;
+mod placing;
 mod retrieved;
 mod sending;
 
+pub use ending::DivertError;
 pub use errors::{AbandonError, DivertFault, FailError, RebalanceError, RetrieveError, SendError};
 pub use group::{Group, Sif};
 pub use retrieved::Retrieved;

@@ -1,5 +1,6 @@
 //! Messages in hand.
-ghost use Rattle.std.specs.Prelude.{◌≡◌, length};
+ghost use Rattle.std.specs.Prelude.{◌≡◌, All, length};
+ghost use Rattle.resend_store.specs.Messages.{IsMessage};
 
 use link_term::Msu;
 use std::collections::VecDeque;
@@ -8,6 +9,7 @@ use std::collections::VecDeque;
 pub struct Retrieved {
     pub(crate) link: usize,
     pub(crate) messages: VecDeque<Msu>,
+    ghost whole: { All IsMessage messages.items },
 }
 
 impl Retrieved {

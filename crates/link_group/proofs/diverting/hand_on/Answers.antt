@@ -10,15 +10,16 @@ loop-turn-init c = (off-none c.args.selection c.args.messages.now.items, of-none
 pub turn_one-requires-clause-room : goal.turn_one-requires-clause-room
 turn_one-requires-clause-room c =
     room-left c.args.selection c.loop-turn._turn c.args.messages.now.items c.loop-turn.messages.items c.args.terminal.now c.loop-turn.terminal
-      c.loop-turn.invariant.0 c.loop-turn.invariant.1 c.requires.room
+    c.loop-turn.invariant.0 c.loop-turn.invariant.1 c.requires.room
 
 pub loop-turn-preserved : goal.loop-turn-preserved
 loop-turn-preserved c = (
-    more-items c.args.selection c.loop-turn._turn c.args.messages.now.items c.loop-turn.messages.items c.turn_one.new.messages.items (search rules)
+  more-items c.args.selection c.loop-turn._turn c.args.messages.now.items c.loop-turn.messages.items c.turn_one.new.messages.items (search rules)
       c.loop-turn.invariant.0 c.turn_one.ensures.messages,
-    more-taken c.args.selection c.loop-turn._turn c.args.messages.now.items c.loop-turn.messages.items c.args.terminal.now c.loop-turn.terminal c.turn_one.new.terminal (search rules)
+  more-taken c.args.selection c.loop-turn._turn c.args.messages.now.items c.loop-turn.messages.items c.args.terminal.now c.loop-turn.terminal c.turn_one.new.terminal (search rules)
       c.loop-turn.invariant.0 c.loop-turn.invariant.1 c.turn_one.ensures.terminal,
-    c.turn_one.ensures.whole)
+  c.turn_one.ensures.whole,
+)
 
 pub turn_one-requires-clause-whole : goal.turn_one-requires-clause-whole
 turn_one-requires-clause-whole c = c.loop-turn.invariant.2

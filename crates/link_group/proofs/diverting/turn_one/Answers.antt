@@ -34,9 +34,9 @@ pub returns-else-selection_of-selection-clause-whole :
     goal.returns-else-selection_of-selection-clause-whole
 returns-else-selection_of-selection-clause-whole c =
     rw c.push_back_reserved.ensures.items
-      (All-push IsMessage c.pop_front.new.self.items c.in-Some.msu
-        (whole-rest c.args.messages.now.items c.pop_front.new.self.items c.in-Some.msu c.in-Some.ensures.items c.requires.whole)
-        (whole-first c.args.messages.now.items c.pop_front.new.self.items c.in-Some.msu c.in-Some.ensures.items c.requires.whole))
+    (All-push IsMessage c.pop_front.new.self.items c.in-Some.msu
+    (whole-rest c.args.messages.now.items c.pop_front.new.self.items c.in-Some.msu c.in-Some.ensures.items c.requires.whole)
+    (whole-first c.args.messages.now.items c.pop_front.new.self.items c.in-Some.msu c.in-Some.ensures.items c.requires.whole))
 
 pub returns-in-None-clause-terminal : goal.returns-in-None-clause-terminal
 returns-in-None-clause-terminal c = none-terminal c.args.selection c.args.messages.now.items c.args.terminal.now (search rules)

@@ -11,4 +11,4 @@ returns-in-Some-clause-set c = λ m is.
 pub returns-in-Some-clause-reply : goal.returns-in-Some-clause-reply
 returns-in-Some-clause-reply c = λ m is.
     subst (λ (x : Option Changeover). IsReply (reply_to c.args.self.now x) c.hear.result)
-      (sym (one_reading c.args.sif.now c.read_changeover.result m c.read_changeover.ensures.exact is ∙ c.in-Some.is)) c.hear.ensures.reply
+    (sym (one_reading c.args.sif.now c.read_changeover.result m c.read_changeover.ensures.exact is ∙ c.in-Some.is)) c.hear.ensures.reply
