@@ -6,3 +6,4 @@ pub mod Diverting
 pub mod Placing
 pub mod Printed
 pub mod Ending
+pub mod New

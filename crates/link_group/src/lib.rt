@@ -8,6 +8,7 @@ mod errors;
 mod group;
 mod link;
 mod links;
+mod new;
 mod open;
 mod placing;
 mod retrieved;
