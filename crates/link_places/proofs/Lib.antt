@@ -1,0 +1,5 @@
+pub mod Lists
+pub mod Equal
+pub mod Counting
+mod Keeping
+mod Moving

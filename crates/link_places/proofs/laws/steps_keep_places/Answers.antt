@@ -1,0 +1,11 @@
+use Rattle.link_places.proofs.Keeping.{empty-places, keeps-at_one_link}
+use Rattle.link_places.proofs.Moving.{keeps-diverted, keeps-placed_anew}
+use Rattle.link_places.proofs.laws.steps_keep_places.Goals as goal
+
+pub returns : goal.returns
+returns c = record {
+  first = empty-places;
+  at_one_link = keeps-at_one_link;
+  diverted = keeps-diverted;
+  placed_anew = keeps-placed_anew;
+}

@@ -1,0 +1,5 @@
+pub mod Limits
+pub mod Sharing
+pub mod Marks
+pub mod Places
+pub mod Laws
