@@ -1,4 +1,0 @@
-mod Filling
-mod Telling
-mod Passing
-mod Saying

@@ -1,5 +1,0 @@
-pub mod Fields
-pub mod Turning
-pub mod Opening
-pub mod Below
-pub mod Diversions
