@@ -3,7 +3,7 @@ ghost use Rattle.std.specs.Prelude.{◌≡◌, ◌<◌, ◌≤◌, ◌↔◌, �
 ghost use Rattle.std.specs.Option.{option_copied};
 ghost use Rattle.resend_store.specs.Limits.{MOST_WAITING, MOST_KEPT};
 ghost use Rattle.resend_store.specs.Messages.{IsMessage};
-ghost use Rattle.resend_store.specs.Window.{IsWindow, waiting, with_put, retrieved, emptied, count_known};
+ghost use Rattle.resend_store.specs.Window.{IsWindow, waiting, with_put, retrieved, emptied, count_by, count_known};
 ghost use Rattle.link_side.specs.Effects.{effect, backward_of, renewed, directed, kind_named, kind_by, is_busy_named, withheld_by, told, latest};
 ghost use Rattle.link_side.specs.Half.{IsBackward, first_half};
 ghost use Rattle.link_side.specs.Limits.{KEPT_MESSAGES};
@@ -165,6 +165,17 @@ impl Side {
         ensures within { result < 128 }
     {
         self.receiver.bsn()
+    }
+
+    /// Whether a number, below 128, acknowledges no more than is sent.
+    pub fn knows(&self, fsn: u8) -> bool
+        requires { fsn < 128 }
+        ensures { IsTrue result ↔ (count_by self.now.sender fsn ≤ self.now.sender.sent) }
+    {
+        let _window = self.sender.held();
+        let sent = self.sender.sent();
+        let acknowledged = (usize::from(self.sender.fsn()) + 128 - sent) % 128;
+        (usize::from(fsn) + 128 - acknowledged) % 128 <= sent
     }
 
     /// Whether a further message that is accepted can be kept.

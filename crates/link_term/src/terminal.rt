@@ -2,7 +2,7 @@
 ghost use Rattle.std.specs.Prelude.{◌≡◌, ◌↔◌, ◌<◌, ◌≤◌, [], IsTrue, false, length, All, IfOk, OnOk, OnErr, IfSome, Err, slice_get};
 ghost use Rattle.std.specs.Option.{option_copied};
 ghost use Rattle.resend_store.specs.Messages.{IsMessage};
-ghost use Rattle.resend_store.specs.Window.{IsWindow, waiting, with_put, retrieved, emptied, count_known};
+ghost use Rattle.resend_store.specs.Window.{IsWindow, waiting, with_put, retrieved, emptied, count_by, count_known};
 ghost use Rattle.bit_line.specs.Deframing.{Stands};
 ghost use Rattle.bit_line.specs.Stuffers.{Gave};
 ghost use Rattle.link_side.specs.Half.{first_half};
@@ -165,6 +165,14 @@ impl Terminal {
         ensures within { result < 128 }
     {
         self.heart.side.accepted()
+    }
+
+    /// Whether a number, below 128, can be that of the message that the far side accepted last: `retrieve` doesn't answer E2 to it.
+    pub fn knows(&self, fsn: u8) -> bool
+        requires { fsn < 128 }
+        ensures { IsTrue result ↔ (count_by self.now.heart.side.sender fsn ≤ self.now.heart.side.sender.sent) }
+    {
+        self.heart.side.knows(fsn)
     }
 
     /// Whether a further message can be accepted. `line_in` takes no octet where none can: reports make room.

@@ -1,0 +1,5 @@
+pub mod Fields
+pub mod Turning
+pub mod Opening
+pub mod Below
+pub mod Diversions

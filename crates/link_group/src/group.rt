@@ -1,0 +1,82 @@
+//! The set.
+ghost use Rattle.std.specs.Prelude.{◌≡◌, ◌↔◌, ◌<◌, length, IsTrue, slice_get};
+ghost use Rattle.link_places.specs.Sharing.{link_of};
+ghost use Rattle.link_group.specs.Limits.{MOST_LINKS, POINT_CODES};
+ghost use Rattle.link_labels.specs.Changeovers.{IsKind, Says};
+ghost use Rattle.link_group.specs.Changing.{message};
+ghost use Rattle.link_group.specs.OneLink.{held, window, is_changing};
+ghost use Rattle.link_group.specs.Set.{read_at};
+
+use crate::link::Link;
+use arrayvec::ArrayVec;
+use link_labels::{Changeover, Kind, Label};
+use link_places::Table;
+use std::marker::Model;
+
+/// The octets of a message of changeover, as a signalling information field.
+pub type Sif = ArrayVec<u8, 6>;
+
+/// The links between two signalling points, 1 to 16.
+#[derive(Drop)]
+pub struct Group {
+    pub(crate) own: u16,
+    pub(crate) peer: u16,
+    pub(crate) links: Vec<Link>,
+    pub(crate) table: Table,
+    pub(crate) unsure: u64,
+}
+
+impl Model for Group {
+    ghost use Rattle.std.specs.Prelude.{◌<◌, ◌≤◌, length};
+    ghost use Rattle.std.specs.Coded.{codes};
+    ghost use Rattle.tick_wheel.specs.Timers.{timers_code};
+    ghost use Rattle.link_group.specs.Limits.{MOST_LINKS, POINT_CODES};
+    ghost use Rattle.link_group.specs.Set.{LinkSet};
+
+    ghost Value = { LinkSet };
+
+    ghost coded = { Prim.hlevel (codes, timers_code) };
+
+    ghost view = { λ g. record { own = g.own; peer = g.peer; links = g.links.items; table = g.table.links; unsure = g.unsure } };
+
+    ghost invariant = { λ g. (length g.links.items ≤ MOST_LINKS) × (g.own < POINT_CODES) × (g.peer < POINT_CODES) };
+}
+
+/// The field of a message of changeover from one point to another.
+pub(crate) fn sif_of(own: u16, peer: u16, link: usize, kind: Kind) -> Sif
+    requires own { own < POINT_CODES }
+    requires peer { peer < POINT_CODES }
+    requires link { link < MOST_LINKS }
+    requires kind { IsKind kind }
+    ensures { Says result.items (message own peer link kind) }
+{
+    let label = Label {
+        dpc: peer,
+        opc: own,
+        sls: link as u8,
+    };
+    Changeover { label, kind }.octets()
+}
+
+impl Group {
+    /// How many messages it was never known of whether they arrived; it stays at its greatest value.
+    pub fn unsure(&self) -> u64
+        ensures { result ≡ self.now.unsure }
+    {
+        self.unsure
+    }
+
+    /// The link of a selection, if it has one.
+    pub fn link_of(&self, selection: u8) -> Option<usize>
+        ensures { result ≡ link_of self.now.table selection }
+    {
+        self.table.link_of(selection)
+    }
+
+    /// How many links there are.
+    pub fn len(&self) -> usize
+        ensures { result ≡ length self.now.links }
+    {
+        self.links.len()
+    }
+}

@@ -1,0 +1,128 @@
+//! Messages to send, and messages of a changeover.
+ghost use Rattle.std.specs.Prelude.{◌≡◌, Option, Some, OnOk, OnErr, IfOk, slice_get, length, ◌≤◌, All};
+ghost use Rattle.link_labels.specs.Labels.{label_in, IsLabel};
+ghost use Rattle.link_labels.specs.Changeovers.{Says};
+ghost use Rattle.link_labels.specs.declared.changeover.Changeover.{Changeover as PlainChangeover};
+ghost use Rattle.link_group.specs.OneLink.{fault_of, retrieve_refusal, abandon_refusal};
+ghost use Rattle.link_group.specs.Set.{send_fault, sent};
+ghost use Rattle.link_group.specs.Changing.{fail_fault, failed, order_at, IsReply, IsRead, after_message, reply_to, retrieve_fault_at, after_retrieve, messages_for, abandon_fault_at, after_abandon, unsent_at};
+
+use crate::errors::{AbandonError, FailError, RetrieveError, SendError};
+use crate::group::{Group, Sif, sif_of};
+use crate::links;
+use crate::retrieved::Retrieved;
+use link_labels::{Changeover, Label, read_changeover};
+use link_places::selection_of;
+use link_term::Msu;
+
+impl Group {
+    /// Takes a message to send, whose field begins with this label. It waits behind all others with the link of its selection.
+    ///
+    /// # Errors
+    ///
+    /// `K1 NoLink` where its selection has no link, or that link is out of service and not in changeover, `K2 Waiting` where that link is in
+    /// changeover, `E1 Full` where as many wait there as may. Nothing changes then.
+    #[tactic(auto, using(crate::proofs::Fields::long_enough), unfolding(crate::specs::Set::send_fault, crate::specs::Set::sent))]
+    pub fn send(&mut self, label: Label, msu: Msu) -> Result<(), SendError>
+        requires { label_in msu.sif.items ≡ Some label }
+        ensures fault { fault_of result ≡ send_fault self.old msu }
+        ensures ok { OnOk result (self.new ≡ sent self.old msu) }
+        ensures err { OnErr result (self.new ≡ self.old) }
+    {
+        match self.table.link_of(selection_of(&msu)) {
+            Some(at) => links::put(self.links.as_mut_slice(), at, msu),
+            None => Err(SendError::NoLink),
+        }
+    }
+
+    /// A link fails: its changeover begins. The field of the order to send for it, by another link (Q.704, changeover).
+    ///
+    /// # Errors
+    ///
+    /// `K1 NoLink` where it isn't there, `K2 Waiting` where its changeover goes on. Nothing changes then.
+    #[tactic(auto, unfolding(crate::specs::Changing::fail_fault, crate::specs::Changing::failed))]
+    pub fn fail(&mut self, link: usize) -> Result<Sif, FailError>
+        ensures fault { fault_of result ≡ fail_fault self.old link }
+        ensures order { IfOk result (λ sif. Says sif.items (order_at self.old link)) }
+        ensures ok { OnOk result (self.new ≡ failed self.old link) }
+        ensures err { OnErr result (self.new ≡ self.old) }
+    {
+        let kind = links::fail(self.links.as_mut_slice(), link)?;
+        Ok(sif_of(self.own, self.peer, link, kind))
+    }
+
+    /// What a message leads to.
+    fn hear(&mut self, message: Changeover) -> Option<Sif>
+        requires { IsLabel message.label }
+        ensures set { self.new ≡ after_message self.old (Some message) }
+        ensures reply { IsReply (reply_to self.old (Some message)) result }
+    {
+        if message.label.dpc != self.own {
+            return None;
+        }
+        if message.label.opc != self.peer {
+            return None;
+        }
+        let link = usize::from(message.label.sls);
+        match links::hear(self.links.as_mut_slice(), link, message.kind) {
+            Some(kind) => Some(sif_of(self.own, self.peer, link, kind)),
+            None => None,
+        }
+    }
+
+    /// Takes the field of a message that came, and gives that of the answer to send, if any. Octets that aren't just a message of changeover,
+    /// from the other point to this one and of a link that is there, change nothing and get no answer.
+    pub fn changeover_message(&mut self, sif: &[u8]) -> Option<Sif>
+        ensures set { (m : Option PlainChangeover) → IsRead sif.now m → self.new ≡ after_message self.old m }
+        ensures reply { (m : Option PlainChangeover) → IsRead sif.now m → IsReply (reply_to self.old m) result }
+    {
+        match read_changeover(sif) {
+            Some(message) => self.hear(message),
+            None => None,
+        }
+    }
+
+    /// Hands out the messages of a link in changeover that the far side may lack: those behind the one of which it told the number last, the
+    /// unacknowledged ones first, and where it told none, those that were never sent (Q.704, retrieval).
+    ///
+    /// # Errors
+    ///
+    /// `K1 NoLink` where it isn't there or no changeover goes on, `K2 Waiting` where they are handed out already, or nothing was told and fewer
+    /// than 1,400 ticks have passed since the changeover began, `K4 Unsure` and their count where messages were sent and it isn't known which
+    /// of them arrived; then want of memory. Nothing changes then.
+    #[tactic(auto, unfolding(crate::specs::Changing::retrieve_fault_at, crate::specs::Changing::after_retrieve, crate::specs::Changing::messages_for))]
+    pub fn retrieve(&mut self, link: usize) -> Result<Retrieved, RetrieveError>
+        ensures fault { retrieve_refusal result ≡ retrieve_fault_at self.old link }
+        ensures link { IfOk result (λ hand. hand.link ≡ link) }
+        ensures messages { IfOk result (λ hand. hand.messages.items ≡ messages_for self.old link) }
+        ensures ok { OnOk result (self.new ≡ after_retrieve self.old link) }
+        ensures err { OnErr result (self.new ≡ self.old) }
+    {
+        match links::retrieve(self.links.as_mut_slice(), link) {
+            Ok(messages) => Ok(Retrieved { link, messages }),
+            Err(fault) => Err(fault),
+        }
+    }
+
+    /// Gives up the messages of a link in changeover that were sent: they count as unsure. Hands out those that were never sent.
+    ///
+    /// # Errors
+    ///
+    /// `K1 NoLink` as for `retrieve`, `K2 Waiting` where that isn't refused as unsure; then want of memory. Nothing changes then.
+    #[tactic(auto, unfolding(crate::specs::Changing::abandon_fault_at, crate::specs::Changing::after_abandon, crate::specs::Changing::unsent_at))]
+    pub fn abandon(&mut self, link: usize) -> Result<Retrieved, AbandonError>
+        ensures fault { abandon_refusal result ≡ abandon_fault_at self.old link }
+        ensures link { IfOk result (λ hand. hand.link ≡ link) }
+        ensures messages { IfOk result (λ hand. hand.messages.items ≡ unsent_at self.old link) }
+        ensures ok { OnOk result (self.new ≡ after_abandon self.old link) }
+        ensures err { OnErr result (self.new ≡ self.old) }
+    {
+        match links::abandon(self.links.as_mut_slice(), link) {
+            Ok((messages, sent)) => {
+                self.unsure = self.unsure.saturating_add(sent as u64);
+                Ok(Retrieved { link, messages })
+            }
+            Err(fault) => Err(fault),
+        }
+    }
+}
