@@ -3,3 +3,4 @@ pub mod Turning
 pub mod Opening
 pub mod Below
 pub mod Diversions
+pub mod ByLinks

@@ -7,3 +7,5 @@ pub mod Placing
 pub mod Printed
 pub mod Ending
 pub mod New
+pub mod Lines
+pub mod Reading

@@ -13,6 +13,10 @@ use Rattle.link_group.specs.declared.errors.DivertFault.{DivertFault}
 use Rattle.link_group.specs.declared.errors.DivertFault.TheVariants as divert
 use Rattle.link_group.specs.declared.errors.RebalanceError.{RebalanceError}
 use Rattle.link_group.specs.declared.errors.RebalanceError.TheVariants as rebalance
+use Rattle.link_group.specs.declared.errors.LinkError.{LinkError}
+use Rattle.link_group.specs.declared.errors.LinkError.TheVariants as link
+use Rattle.link_group.specs.declared.errors.LineError.{LineError}
+use Rattle.link_group.specs.declared.errors.LineError.TheVariants as line
 
 abbrev pub send_error_text : SendError → List ℕ
 send_error_text send.NoLink = codes "K1 NoLink"
@@ -41,3 +45,10 @@ divert_fault_text divert.Full = codes "E1 Full"
 abbrev pub rebalance_error_text : RebalanceError → List ℕ
 rebalance_error_text rebalance.Waiting = codes "K2 Waiting"
 rebalance_error_text rebalance.NotEmpty = codes "K3 NotEmpty"
+
+abbrev pub link_error_text : LinkError → List ℕ
+link_error_text link.NoLink = codes "K1 NoLink"
+
+abbrev pub line_error_text : LineError → List ℕ
+line_error_text line.NoLink = codes "K1 NoLink"
+line_error_text line.NoMemory = codes "out of memory"

@@ -1,7 +1,7 @@
 //! Why a call of a link set is refused.
 
 ghost use Rattle.std.specs.Prelude.{Some};
-ghost use Rattle.link_group.specs.Printed.{send_error_text, fail_error_text, retrieve_error_text, abandon_error_text, divert_fault_text, rebalance_error_text};
+ghost use Rattle.link_group.specs.Printed.{send_error_text, fail_error_text, retrieve_error_text, abandon_error_text, divert_fault_text, rebalance_error_text, link_error_text, line_error_text};
 
 use std::fmt;
 use thiserror::Error;
@@ -66,6 +66,22 @@ pub enum RebalanceError {
     Waiting,
     /// A selection that would move has messages held by its link.
     NotEmpty,
+}
+
+/// Why nothing is done by a link.
+#[derive(Clone, Copy, Debug, PartialEq, Eq, Error)]
+pub enum LinkError {
+    /// There is no such link.
+    NoLink,
+}
+
+/// Why nothing goes out on a link.
+#[derive(Clone, Copy, Debug, PartialEq, Eq, Error)]
+pub enum LineError {
+    /// There is no such link.
+    NoLink,
+    /// There is no memory.
+    NoMemory,
 }
 
 impl fmt::Display for SendError {
@@ -134,6 +150,27 @@ impl fmt::Display for RebalanceError {
         f.write_str(match self {
             Self::Waiting => "K2 Waiting",
             Self::NotEmpty => "K3 NotEmpty",
+        })
+    }
+}
+
+impl fmt::Display for LinkError {
+    ghost output = { λ e. Some (link_error_text e) };
+
+    fn fmt<W: fmt::Write>(&self, f: &mut fmt::Formatter<W>) -> fmt::Result {
+        f.write_str(match self {
+            Self::NoLink => "K1 NoLink",
+        })
+    }
+}
+
+impl fmt::Display for LineError {
+    ghost output = { λ e. Some (line_error_text e) };
+
+    fn fmt<W: fmt::Write>(&self, f: &mut fmt::Formatter<W>) -> fmt::Result {
+        f.write_str(match self {
+            Self::NoLink => "K1 NoLink",
+            Self::NoMemory => "out of memory",
         })
     }
 }

@@ -6,15 +6,21 @@ mod diverting;
 mod ending;
 mod errors;
 mod group;
+mod lines;
 mod link;
 mod links;
 mod new;
 mod open;
 mod placing;
+mod reading;
 mod retrieved;
 mod sending;
 
 pub use ending::DivertError;
-pub use errors::{AbandonError, DivertFault, FailError, RebalanceError, RetrieveError, SendError};
+pub use errors::{
+    AbandonError, DivertFault, FailError, LineError, LinkError, RebalanceError, RetrieveError,
+    SendError,
+};
 pub use group::{Group, Sif};
+pub use reading::Ended;
 pub use retrieved::Retrieved;

@@ -1,0 +1,33 @@
+-- A call of one link's terminal.
+use Rattle.std.proofs.Common.{◌≡◌, ℕ, ◌<◌, zero, suc, Option, List, [], ◌∷◌, ◌++◌, Some, length, take, drop, get_or, slice_set, refl, sym, ap, ◌∙◌, subst, arith}
+use Rattle.std.specs.Prelude.{slice_get}
+use Rattle.link_group.specs.declared.link.Link.{Link}
+use Rattle.link_group.specs.Set.{LinkSet}
+use Rattle.link_group.specs.Lines.{AtLink, ByLink, seen}
+
+there-is : (ks : List Link) (l : ℕ) (d : Link) → l < length ks → slice_get ks l ≡ Some (get_or ks l d)
+there-is [] l d h = absurd (omega (arith, h))
+there-is (k ∷ ks) zero d h = refl
+there-is (k ∷ ks) (suc l) d h = there-is ks l d (omega (arith, h))
+
+pub at_link : (did : Link → Link → Type 0) (l : ℕ) (ks : List Link) (d k : Link) → l < length ks → did (get_or ks l d) k → AtLink did l ks (slice_set ks l k)
+at_link did l ks d k h was = record { before = get_or ks l d; there = there-is ks l d h; after = k; links = refl; was = was }
+
+pub by_link : (did : Link → Link → Type 0) (l : ℕ) (c d : LinkSet) (ks new mid : List Link) (own peer unsure : ℕ) (table : List (Option ℕ))
+    → d ≡ seen l (record { own = own; peer = peer; links = mid; table = table; unsure = unsure }) → AtLink did l ks new → mid ≡ new → ks ≡ c.links
+    → c.own ≡ own → c.peer ≡ peer → c.table ≡ table → c.unsure ≡ unsure → ByLink did l c d
+by_link did l c d ks new mid own peer unsure table is at m same o p t u = record {
+  links = new;
+  at = subst (λ (xs : List Link). AtLink did l xs new) same at;
+  set = rw (o, p, t, u, sym m) is;
+}
+
+all-of : (n : ℕ) (xs rest : List Link) → length xs ≡ n → take n (xs ++ rest) ≡ xs
+all-of zero [] rest e = refl
+all-of zero (x ∷ xs) rest e = absurd (omega (arith, e))
+all-of (suc n) [] rest e = absurd (omega (arith, e))
+all-of (suc n) (x ∷ xs) rest e = ap (λ (ys : List Link). x ∷ ys) (all-of n xs rest (omega (arith, e)))
+
+-- what stands in a vector once a slice of all of it was written
+pub written : (n : ℕ) (xs items : List Link) → length xs ≡ n → take n (xs ++ drop (length xs) items) ≡ xs
+written n xs items e = all-of n xs (drop (length xs) items) e

@@ -1,0 +1,9 @@
+use Rattle.std.proofs.Common.{rules}
+use Rattle.link_group.specs.Lines.{Spoken}
+use Rattle.link_group.proofs.ByLinks.{by_link, written}
+use Rattle.link_group.proofs.group.Group.line_out.Goals as goal
+
+pub returns-in-Ok-clause-ok : goal.returns-in-Ok-clause-ok
+returns-in-Ok-clause-ok c =
+    by_link (Spoken c.args.units c.in-Ok.octets.items) c.args.link c.args.self.now c.see.new.self _ c.speak_at.new.links _ c.self.inside.own c.self.inside.peer c.self.inside.unsure c.self.inside.table.links
+    c.see.ensures c.in-Ok.ensures.ok (written c.self.inside.links.len c.speak_at.new.links c.self.inside.links.items (search rules)) (search rules) (search rules) (search rules) (search rules) (search rules)

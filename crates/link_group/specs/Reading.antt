@@ -1,0 +1,15 @@
+-- What a set tells of one link.
+use Rattle.std.specs.Prelude.{ℕ, length, Option, Some, None, slice_get}
+use Rattle.resend_store.specs.declared.messages.Msu.{Msu}
+use Rattle.link_group.specs.declared.link.Link.{Link}
+use Rattle.link_group.specs.OneLink.{held, window}
+
+abbrev pub held_count : Link → ℕ
+held_count k = length (held k)
+
+abbrev pub sent_count : Link → ℕ
+sent_count k = (window k).sent
+
+abbrev pub message_at : ℕ → Option Link → Option Msu
+message_at place None = None
+message_at place (Some k) = slice_get (held k) place
