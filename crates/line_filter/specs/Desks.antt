@@ -1,0 +1,16 @@
+-- What the parts of a run do to a desk, and to what is told.
+use Rattle.std.specs.Prelude.{ℕ, List, Option}
+use Rattle.std.specs.Io.KnownBytes.{Appends}
+use Rattle.line_filter.specs.Acts.{Act}
+use Rattle.line_filter.specs.Orders.{Timed}
+use Rattle.line_filter.specs.Runs.{State}
+use Rattle.line_filter.specs.declared.desk.Desk.{Desk}
+
+abbrev pub state_of : {T O P : Type 0} → (O → Option (List Timed)) → Desk T O P → State T
+state_of left d = record { term = d.terminal; voice = d.voice; left = left d.orders }
+
+-- bytes were told of which R speaks
+pub record Told (R : List ℕ → Type 0) (old new : Option (List ℕ)) : Type 0 where
+  pub bytes : List ℕ
+  pub are : R bytes
+  pub appends : Appends old new bytes

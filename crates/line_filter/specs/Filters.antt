@@ -1,0 +1,60 @@
+-- What a filter reads, writes and tells.
+use Rattle.std.specs.Prelude.{◌≡◌, ℕ, ◌+◌, Bool, true, List, [], ◌++◌, length, map, replicate, Option}
+use Rattle.std.specs.Io.KnownBytes.{Appends, Consumes, IsAtEnd}
+use Rattle.std.specs.Int.{w8, reverse_bits}
+use Rattle.line_filter.specs.Acts.{Act}
+use Rattle.line_filter.specs.Runs.{State, Runs}
+use Rattle.line_filter.specs.declared.filter.Bits.{Bits}
+use Rattle.line_filter.specs.declared.filter.Bits.TheVariants.{Low, High}
+
+-- an octet of the line as a byte, whose lowest bit or whose highest is the first; and the other way round
+abbrev pub turned : Bits → ℕ → ℕ
+turned Low octet = octet
+turned High octet = reverse_bits w8 octet
+
+-- an octet of 1s, which is the same both ways
+abbrev pub SILENCE : ℕ
+SILENCE = 255
+
+-- how many of them may go out before any octet came in
+abbrev pub MOST_AHEAD : ℕ
+MOST_AHEAD = 8000
+
+-- of octets that came in, these went each way; the others are dropped, where an order ended the run
+pub record Goes {T : Type 0} (acts : T → Act → T → Type 0) (count : ℕ) (s : State T) (octets out bytes : List ℕ) (goes_on : Bool) (next : ℕ) (t : State T) : Type 0 where
+  pub come : List ℕ
+  pub dropped : List ℕ
+  pub runs : Runs acts count s come out bytes goes_on t
+  pub all : octets ≡ come ++ dropped
+  pub none_dropped : goes_on ≡ true → dropped ≡ []
+  pub counted : next ≡ count + length come
+
+-- the octets as bytes, read and written
+pub record Serves {T : Type 0} (acts : T → Act → T → Type 0) (bits : Bits) (count : ℕ) (s : State T) (read written bytes : List ℕ) (goes_on : Bool) (next : ℕ)
+    (t : State T) : Type 0 where
+  pub out : List ℕ
+  pub goes : Goes acts count s (map (turned bits) read) out bytes goes_on next t
+  pub written_is : written ≡ map (turned bits) out
+
+-- what was to be read, what is written, and what is told, before and after
+pub record Streams : Type 0 where
+  pub read : Option (List ℕ)
+  pub written : Option (List ℕ)
+  pub told : Option (List ℕ)
+
+-- some bytes were read, and what they lead to was written and told behind octets of silence
+pub record Served {T : Type 0} (acts : T → Act → T → Type 0) (bits : Bits) (ahead count : ℕ) (s : State T) (goes_on : Bool) (next : ℕ) (t : State T) (old new : Streams)
+    : Type 0 where
+  pub read : List ℕ
+  pub written : List ℕ
+  pub bytes : List ℕ
+  pub serves : Serves acts bits count s read written bytes goes_on next t
+  pub consumes : Consumes old.read new.read read
+  pub appends : Appends old.written new.written (replicate ahead SILENCE ++ written)
+  pub tells : Appends old.told new.told bytes
+
+-- The run is over: all octets went each way, or an order ended it.
+pub record IsOver {T : Type 0} (acts : T → Act → T → Type 0) (bits : Bits) (ahead count : ℕ) (s : State T) (next : ℕ) (t : State T) (old new : Streams) : Type 0 where
+  pub goes_on : Bool
+  pub served : Served acts bits ahead count s goes_on next t old new
+  pub end_met : goes_on ≡ true → IsAtEnd new.read

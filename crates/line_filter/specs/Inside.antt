@@ -1,0 +1,7 @@
+-- What holds of every voice: what was stuffed stands for units.
+use Rattle.std.specs.Prelude.{ℕ, List}
+use Rattle.bit_line.specs.Stuffers.{Gave}
+use Rattle.bit_line.specs.declared.stuffer.Stuffer.{Stuffer}
+
+abbrev pub IsVoice : Stuffer → Type 0
+IsVoice s = (given : List ℕ) × (sent : List (List ℕ)) × Gave given sent s

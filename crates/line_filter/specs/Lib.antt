@@ -1,0 +1,7 @@
+pub mod Acts
+pub mod Speaking
+pub mod Orders
+pub mod Runs
+pub mod Inside
+pub mod Desks
+pub mod Filters

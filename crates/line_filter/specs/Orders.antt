@@ -1,0 +1,59 @@
+-- Orders, with the milliseconds before which they aren't obeyed.
+use Rattle.std.specs.Prelude.{◌≡◌, ℕ, ◌<◌, ◌≤◌, List, [], ◌∷◌, ◌++◌, Option, None, Some, codes, string_bytes}
+use Rattle.std.specs.Fmt.{decimal}
+use Rattle.line_filter.specs.Acts.{Act, reported, obeyed}
+use Rattle.line_filter.specs.declared.terminal.Answer.{Answer}
+use Rattle.line_filter.specs.declared.terminal.Answer.TheVariants.{Done, Said, Refused}
+
+pub record Timed : Type 0 where
+  pub at : ℕ
+  pub text : List ℕ
+
+-- the next order, where it is known which are left
+abbrev pub NextIs : ℕ → Option (List Timed) → List ℕ → Option (List Timed) → Type 0
+NextIs now None text new = Unit {0}
+NextIs now (Some []) text new = ⊥
+NextIs now (Some (o ∷ os)) text None = ⊥
+NextIs now (Some (o ∷ os)) text (Some left) = (left ≡ os) × (o.text ≡ text) × (o.at ≤ now)
+
+-- none is due yet
+abbrev pub NoneIsDue : ℕ → Option (List Timed) → Option (List Timed) → Type 0
+NoneIsDue now None new = Unit {0}
+NoneIsDue now (Some []) None = ⊥
+NoneIsDue now (Some []) (Some left) = left ≡ []
+NoneIsDue now (Some (o ∷ os)) None = ⊥
+NoneIsDue now (Some (o ∷ os)) (Some left) = (left ≡ o ∷ os) × (now < o.at)
+
+-- a line that is told: the millisecond, and a text
+abbrev pub told : ℕ → List ℕ → List ℕ
+told now text = (decimal now ++ 32 ∷ text) ++ 10 ∷ []
+
+-- the lines of an order that was obeyed, or refused
+abbrev pub answered : ℕ → List ℕ → Answer → List ℕ
+answered now order Done = told now (codes "ok " ++ order)
+answered now order (Said text) = told now (codes "ok " ++ order) ++ told now (string_bytes text)
+answered now order (Refused text) = told now (codes "refused " ++ string_bytes text)
+
+abbrev pub QUIT : List ℕ
+QUIT = codes "quit"
+
+-- what a terminal has to tell, told in order
+pub data Tells {T : Type 0} (acts : T → Act → T → Type 0) (now : ℕ) (t : T) : List ℕ → T → Type 0 where
+  nothing : Tells acts now t [] t
+  says : {bytes : List ℕ} {u : T} (text : List ℕ) (w : T) → Tells acts now t bytes u → acts u (reported (Some text)) w
+      → Tells acts now t (bytes ++ told now text) w
+
+-- all of it
+pub record TellsAll {T : Type 0} (acts : T → Act → T → Type 0) (now : ℕ) (t : T) (bytes : List ℕ) (u : T) : Type 0 where
+  pub last : T
+  pub tells : Tells acts now t bytes last
+  pub none_left : acts last (reported None) u
+
+-- an order is obeyed, and behind it all that the terminal has to tell is told
+pub record Obeys {T : Type 0} (acts : T → Act → T → Type 0) (now : ℕ) (t : T) (order : List ℕ) (bytes : List ℕ) (u : T) : Type 0 where
+  pub answer : Answer
+  pub middle : T
+  pub act : acts t (obeyed order answer) middle
+  pub more : List ℕ
+  pub tells : TellsAll acts now middle more u
+  pub are : bytes ≡ answered now order answer ++ more

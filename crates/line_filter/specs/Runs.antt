@@ -1,0 +1,79 @@
+-- A run: what goes out and what is told for the octets that come in and the orders.
+use Rattle.std.specs.Prelude.{◌≡◌, ℕ, ◌+◌, ◌/◌, ◌%◌, Bool, true, false, List, [], ◌∷◌, ◌++◌, length, Option, codes}
+use Rattle.line_filter.specs.Acts.{Act, heard, passed}
+use Rattle.line_filter.specs.Speaking.{Voice, Gives}
+use Rattle.line_filter.specs.Orders.{Timed, NextIs, NoneIsDue, QUIT, told, TellsAll, Obeys}
+
+-- how many octets are a millisecond, on a line of 64 kbit/s
+abbrev pub OCTETS : ℕ
+OCTETS = 8
+
+pub record State (T : Type 0) : Type 0 where
+  pub term : T
+  pub voice : Voice
+  pub left : Option (List Timed)
+
+-- One octet goes out, one comes in, and what there is to tell is told. That one goes out doesn't depend on the one that comes in.
+pub record Exchanges {T : Type 0} (acts : T → Act → T → Type 0) (now : ℕ) (s : State T) (comes gives : ℕ) (bytes : List ℕ) (t : State T) : Type 0 where
+  pub asked : T
+  pub heard_it : T
+  pub out : Gives acts s.term s.voice gives asked t.voice
+  pub hears : acts asked (heard comes) heard_it
+  pub tells : TellsAll acts now heard_it bytes t.term
+  pub orders : t.left ≡ s.left
+
+-- orders that are due are obeyed in their order, up to one that ends the run
+pub data ObeysDue {T : Type 0} (acts : T → Act → T → Type 0) (now : ℕ) (t : T) (left : Option (List Timed)) : List ℕ → T → Option (List Timed) → Type 0 where
+  no_order : ObeysDue acts now t left [] t left
+  one_order : {bytes : List ℕ} {u : T} {fewer : Option (List Timed)} (text more : List ℕ) (w : T) (last : Option (List Timed))
+      → ObeysDue acts now t left bytes u fewer → NextIs now fewer text last → (text ≡ QUIT → ⊥) → Obeys acts now u text more w
+      → ObeysDue acts now t left (bytes ++ more) w last
+
+-- either none is left that is due, or one ends the run
+abbrev pub Ends : ℕ → Option (List Timed) → List ℕ → Bool → Option (List Timed) → Type 0
+Ends now left bytes true last = (bytes ≡ []) × NoneIsDue now left last
+Ends now left bytes false last = (bytes ≡ told now (codes "ok quit")) × NextIs now left QUIT last
+
+pub record ObeysAll {T : Type 0} (acts : T → Act → T → Type 0) (now : ℕ) (s : State T) (bytes : List ℕ) (goes_on : Bool) (t : State T) : Type 0 where
+  pub first : List ℕ
+  pub fewer : Option (List Timed)
+  pub obeys : ObeysDue acts now s.term s.left first t.term fewer
+  pub second : List ℕ
+  pub ends : Ends now fewer second goes_on t.left
+  pub voice : t.voice ≡ s.voice
+  pub are : bytes ≡ first ++ second
+
+-- a millisecond passes: what there is to tell is told, and orders are obeyed
+pub record Minds {T : Type 0} (acts : T → Act → T → Type 0) (now : ℕ) (s : State T) (bytes : List ℕ) (goes_on : Bool) (t : State T) : Type 0 where
+  pub ticked : T
+  pub tick : acts s.term passed ticked
+  pub first : List ℕ
+  pub calm : State T
+  pub tells : TellsAll acts now ticked first calm.term
+  pub voice : calm.voice ≡ s.voice
+  pub orders : calm.left ≡ s.left
+  pub second : List ℕ
+  pub obeys : ObeysAll acts now calm second goes_on t
+  pub are : bytes ≡ first ++ second
+
+-- behind so many octets: each eighth is a millisecond
+pub data Behind {T : Type 0} (acts : T → Act → T → Type 0) (count : ℕ) (s : State T) : List ℕ → Bool → State T → Type 0 where
+  between : (count % OCTETS ≡ 0 → ⊥) → Behind acts count s [] true s
+  eighth : {bytes : List ℕ} {goes_on : Bool} {t : State T} → count % OCTETS ≡ 0 → Minds acts (count / OCTETS) s bytes goes_on t
+      → Behind acts count s bytes goes_on t
+
+-- an octet each way, behind so many
+pub record Steps {T : Type 0} (acts : T → Act → T → Type 0) (count : ℕ) (s : State T) (comes gives : ℕ) (bytes : List ℕ) (goes_on : Bool) (t : State T) : Type 0 where
+  pub middle : State T
+  pub first : List ℕ
+  pub exchanges : Exchanges acts (count / OCTETS) s comes gives first middle
+  pub second : List ℕ
+  pub behind : Behind acts (count + 1) middle second goes_on t
+  pub are : bytes ≡ first ++ second
+
+-- Octets each way, behind so many, and the bytes that are told. It goes on until an order ends it.
+pub data Runs {T : Type 0} (acts : T → Act → T → Type 0) (count : ℕ) (s : State T) : List ℕ → List ℕ → List ℕ → Bool → State T → Type 0 where
+  begins : Runs acts count s [] [] [] true s
+  octet : {come out bytes : List ℕ} {t : State T} (comes gives : ℕ) (more : List ℕ) (goes_on : Bool) (u : State T)
+      → Runs acts count s come out bytes true t → Steps acts (count + length come) t comes gives more goes_on u
+      → Runs acts count s (come ++ comes ∷ []) (out ++ gives ∷ []) (bytes ++ more) goes_on u

@@ -1,0 +1,187 @@
+//! A terminal on a line, its orders, and where it tells what becomes of it.
+ghost use Rattle.std.specs.Prelude.{◌≡◌, ◌↔◌, ℕ, ◌+◌, ◌/◌, ◌++◌, ◌∷◌, [], IfOk, OnOk, IsTrue};
+ghost use Rattle.std.specs.Io.KnownBytes.{Appends};
+ghost use Rattle.line_filter.specs.Orders.{QUIT, TellsAll, Obeys, told, answered};
+ghost use Rattle.line_filter.specs.Runs.{OCTETS, Exchanges, ObeysAll, Minds, Behind, Steps};
+ghost use Rattle.line_filter.specs.Desks.{state_of, Told};
+
+use crate::orders::Orders;
+use crate::terminal::{Answer, LineTerminal};
+use crate::voice::Voice;
+use printed_lines::write_line;
+use std::alloc::Global;
+use std::io::{self, ErrorKind, Write};
+
+/// How many octets are a millisecond, on a line of 64 kbit/s.
+const OCTETS: u64 = 8;
+
+/// A terminal on a line.
+#[derive(Drop)]
+pub struct Desk<T, O, P> {
+    /// The terminal.
+    pub terminal: T,
+    /// What goes out.
+    pub voice: Voice,
+    /// What gives orders.
+    pub orders: O,
+    /// Where things are told.
+    pub reports: P,
+    /// How many octets came in.
+    pub count: u64,
+}
+
+/// Tells a line, the millisecond first.
+fn tell<P: Write>(alloc: Global, now: u64, text: &str, reports: &mut P) -> io::Result<()>
+    ensures { OnOk result (Appends (P.contents reports.old) (P.contents reports.new) (told now text.now)) }
+{
+    write_line(alloc, reports, &format_args!("{now} {text}"))
+}
+
+/// Tells all that the terminal has to tell.
+fn tell_all<T: LineTerminal, P: Write>(
+    alloc: Global,
+    terminal: &mut T,
+    now: u64,
+    reports: &mut P,
+) -> io::Result<()>
+    ensures { OnOk result (Told (λ bytes. TellsAll T.acts now terminal.old bytes terminal.new) (P.contents reports.old) (P.contents reports.new)) }
+{
+    for _told in 0..u64::MAX {
+        match terminal.report(alloc)? {
+            Some(text) => tell(alloc, now, &text, reports)?,
+            None => return Ok(()),
+        }
+    }
+    Err(io::Error::from(ErrorKind::Other))
+}
+
+/// Tells what an order was answered.
+fn tell_answer<P: Write>(
+    alloc: Global,
+    now: u64,
+    order: &str,
+    answer: &Answer,
+    reports: &mut P,
+) -> io::Result<()>
+    ensures { OnOk result (Appends (P.contents reports.old) (P.contents reports.new) (answered now order.now answer.now)) }
+{
+    match answer {
+        Answer::Done => write_line(alloc, reports, &format_args!("{now} ok {order}")),
+        Answer::Said(text) => {
+            write_line(alloc, reports, &format_args!("{now} ok {order}"))?;
+            write_line(alloc, reports, &format_args!("{now} {text}"))
+        }
+        Answer::Refused(text) => {
+            write_line(alloc, reports, &format_args!("{now} refused {text}"))
+        }
+    }
+}
+
+/// Obeys an order, and tells what comes of it.
+fn obey<T: LineTerminal, P: Write>(
+    alloc: Global,
+    terminal: &mut T,
+    now: u64,
+    order: &str,
+    reports: &mut P,
+) -> io::Result<()>
+    ensures { OnOk result (Told (λ bytes. Obeys T.acts now terminal.old order.now bytes terminal.new) (P.contents reports.old) (P.contents reports.new)) }
+{
+    let answer = terminal.obey(alloc, order)?;
+    tell_answer(alloc, now, order, &answer, reports)?;
+    tell_all(alloc, terminal, now, reports)?;
+    Ok(())
+}
+
+/// Whether an order ends the run.
+fn is_quit(order: &str) -> bool
+    ensures { IsTrue result ↔ (order.now ≡ QUIT) }
+{
+    order == "quit"
+}
+
+impl<T: LineTerminal, O: Orders, P: Write> Desk<T, O, P> {
+    /// One octet goes out, and one comes in.
+    fn exchange(&mut self, alloc: Global, octet: u8) -> io::Result<u8>
+        ensures made { IfOk result (λ gives. Told (λ bytes. Exchanges T.acts (self.old.count / OCTETS) (state_of O.left self.old) octet gives bytes
+            (state_of O.left self.new)) (P.contents self.old.reports) (P.contents self.new.reports)) }
+        ensures count { self.new.count ≡ self.old.count }
+    {
+        let out = self.voice.next(&mut self.terminal)?;
+        self.terminal.line_in(octet)?;
+        tell_all(
+            alloc,
+            &mut self.terminal,
+            self.count / OCTETS,
+            &mut self.reports,
+        )?;
+        Ok(out)
+    }
+
+    /// Obeys the orders that are due. Whether the run goes on.
+    fn obey_due(&mut self, alloc: Global, now: u64) -> io::Result<bool>
+        ensures made { IfOk result (λ goes_on. Told (λ bytes. ObeysAll T.acts now (state_of O.left self.old) bytes goes_on (state_of O.left self.new))
+            (P.contents self.old.reports) (P.contents self.new.reports)) }
+        ensures count { self.new.count ≡ self.old.count }
+    {
+        for _obeyed in 0..u64::MAX {
+            let Some(order) = self.orders.next(alloc, now)? else {
+                return Ok(true);
+            };
+            if is_quit(&order) {
+                tell(alloc, now, "ok quit", &mut self.reports)?;
+                return Ok(false);
+            }
+            obey(
+                alloc,
+                &mut self.terminal,
+                now,
+                &order,
+                &mut self.reports,
+            )?;
+        }
+        Err(io::Error::from(ErrorKind::Other))
+    }
+
+    /// A millisecond has passed. Whether the run goes on.
+    fn mind(&mut self, alloc: Global, now: u64) -> io::Result<bool>
+        ensures made { IfOk result (λ goes_on. Told (λ bytes. Minds T.acts now (state_of O.left self.old) bytes goes_on (state_of O.left self.new))
+            (P.contents self.old.reports) (P.contents self.new.reports)) }
+        ensures count { self.new.count ≡ self.old.count }
+    {
+        self.terminal.tick()?;
+        tell_all(alloc, &mut self.terminal, now, &mut self.reports)?;
+        let goes_on = self.obey_due(alloc, now)?;
+        Ok(goes_on)
+    }
+
+    /// What comes behind so many octets: each eighth is a millisecond. Whether the run goes on.
+    fn go_behind(&mut self, alloc: Global, count: u64) -> io::Result<bool>
+        ensures made { IfOk result (λ goes_on. Told (λ bytes. Behind T.acts count (state_of O.left self.old) bytes goes_on (state_of O.left self.new))
+            (P.contents self.old.reports) (P.contents self.new.reports)) }
+        ensures count { self.new.count ≡ self.old.count }
+    {
+        if count % OCTETS != 0 {
+            return Ok(true);
+        }
+        let goes_on = self.mind(alloc, count / OCTETS)?;
+        Ok(goes_on)
+    }
+
+    /// An octet each way, the one that goes out put behind the others. Whether the run goes on.
+    pub(crate) fn step(&mut self, alloc: Global, octet: u8, out: &mut Vec<u8>) -> io::Result<bool>
+        ensures made { IfOk result (λ goes_on. (gives : ℕ) × (out.new.items ≡ out.old.items ++ gives ∷ [])
+            × Told (λ bytes. Steps T.acts self.old.count (state_of O.left self.old) octet gives bytes goes_on (state_of O.left self.new))
+                (P.contents self.old.reports) (P.contents self.new.reports)) }
+        ensures count { OnOk result (self.new.count ≡ self.old.count + 1) }
+    {
+        if self.count == u64::MAX {
+            return Err(io::Error::from(ErrorKind::Other));
+        }
+        let gives = self.exchange(alloc, octet)?;
+        out.push(gives)?;
+        self.count += 1;
+        let goes_on = self.go_behind(alloc, self.count)?;
+        Ok(goes_on)
+    }
+}

@@ -1,0 +1,136 @@
+//! The filter.
+ghost use Rattle.std.specs.Prelude.{◌≡◌, ◌≤◌, ℕ, ◌++◌, List, map, replicate, OnOk, IfOk};
+ghost use Rattle.std.specs.Io.KnownBytes.{Appends};
+ghost use Rattle.line_filter.specs.Desks.{state_of, Told};
+ghost use Rattle.line_filter.specs.Filters.{turned, SILENCE, MOST_AHEAD, Goes, Serves, IsOver};
+
+use crate::desk::Desk;
+use crate::orders::Orders;
+use crate::terminal::LineTerminal;
+use std::alloc::Global;
+use std::io::{self, ErrorKind, Read, Write};
+
+/// How many octets the line is asked for at once.
+const PART: usize = 4096;
+
+/// An octet of 1s.
+const SILENCE: u8 = 255;
+
+/// How many of them may go out before any octet came in.
+pub const MOST_AHEAD: usize = 8_000;
+
+/// Which bit of an octet is the first on the line.
+#[derive(Clone, Copy, PartialEq, Eq, Debug)]
+pub enum Bits {
+    /// The lowest.
+    Low,
+    /// The highest, as channels of cards have it.
+    High,
+}
+
+impl Bits {
+    /// An octet as it stands on the line, or the other way round.
+    fn turn(self, octet: u8) -> u8
+        ensures { result ≡ turned self octet }
+    {
+        match self {
+            Bits::Low => octet,
+            Bits::High => octet.reverse_bits(),
+        }
+    }
+
+    /// Octets the other way round, where their first bit is the highest.
+    fn turn_all(self, octets: &mut [u8])
+        ensures { octets.new ≡ map (turned self) octets.old }
+    {
+        for octet in octets.iter_mut() {
+            *octet = self.turn(*octet);
+        }
+    }
+}
+
+impl<T: LineTerminal, O: Orders, P: Write> Desk<T, O, P> {
+    /// Octets each way, those that go out put behind the others. Whether the run goes on.
+    fn pass(&mut self, alloc: Global, octets: &[u8], out: &mut Vec<u8>) -> io::Result<bool>
+        ensures { IfOk result (λ goes_on. (given : List ℕ) × (out.new.items ≡ out.old.items ++ given)
+            × Told (λ bytes. Goes T.acts self.old.count (state_of O.left self.old) octets.now given bytes goes_on self.new.count (state_of O.left self.new))
+                (P.contents self.old.reports) (P.contents self.new.reports)) }
+    {
+        for octet in octets {
+            if !self.step(alloc, *octet, out)? {
+                return Ok(false);
+            }
+        }
+        Ok(true)
+    }
+
+    /// What bytes of the line lead to, written as one. Whether the run goes on.
+    fn serve<W: Write>(
+        &mut self,
+        alloc: Global,
+        bits: Bits,
+        part: &mut [u8],
+        out: &mut Vec<u8>,
+        writer: &mut W,
+    ) -> io::Result<bool>
+        ensures { IfOk result (λ goes_on. (written : List ℕ) × Appends (W.contents writer.old) (W.contents writer.new) written
+            × Told (λ bytes. Serves T.acts bits self.old.count (state_of O.left self.old) part.old written bytes goes_on self.new.count
+                (state_of O.left self.new)) (P.contents self.old.reports) (P.contents self.new.reports)) }
+    {
+        bits.turn_all(part);
+        out.clear();
+        let goes_on = self.pass(alloc, part, out)?;
+        bits.turn_all(out.as_mut_slice());
+        writer.write_all(out.as_slice())?;
+        Ok(goes_on)
+    }
+}
+
+/// Writes so many octets of silence.
+fn write_ahead<W: Write>(writer: &mut W, ahead: usize) -> io::Result<()>
+    requires { ahead ≤ MOST_AHEAD }
+    ensures { OnOk result (Appends (W.contents writer.old) (W.contents writer.new) (replicate ahead SILENCE)) }
+{
+    let silence = [SILENCE; MOST_AHEAD];
+    writer.write_all(&silence[..ahead])
+}
+
+/// Has a terminal speak on a line: writes so many octets of silence, and then one octet for each that it reads, up to the end of what
+/// there is to read or an order that ends the run. What comes out doesn't depend on how the line is cut by reads.
+///
+/// # Errors
+///
+/// Where a read, a write or the terminal fails.
+pub fn run_line<T: LineTerminal, O: Orders, P: Write, R: Read, W: Write>(
+    alloc: Global,
+    desk: &mut Desk<T, O, P>,
+    bits: Bits,
+    ahead: usize,
+    reader: &mut R,
+    writer: &mut W,
+) -> io::Result<()>
+    requires { ahead ≤ MOST_AHEAD }
+    ensures { OnOk result (IsOver T.acts bits ahead desk.old.count (state_of O.left desk.old) desk.new.count (state_of O.left desk.new)
+        (record { read = R.remaining reader.old; written = W.contents writer.old; told = P.contents desk.old.reports })
+        (record { read = R.remaining reader.new; written = W.contents writer.new; told = P.contents desk.new.reports })) }
+{
+    write_ahead(writer, ahead)?;
+    let mut part = [0; PART];
+    let mut out = Vec::with_capacity(alloc, PART)?;
+    for _read in 0..u64::MAX {
+        match reader.read(&mut part) {
+            Ok(0) => return Ok(()),
+            Ok(count) => {
+                if !desk.serve(alloc, bits, &mut part[..count], &mut out, writer)? {
+                    return Ok(());
+                }
+            }
+            Err(error) => {
+                if error.kind() != ErrorKind::Interrupted {
+                    return Err(error);
+                }
+            }
+        }
+    }
+    Err(io::Error::from(ErrorKind::Other))
+}

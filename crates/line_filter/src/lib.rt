@@ -1,0 +1,16 @@
+//! A line as a filter: one octet goes out for each that comes in, and eight of them are a millisecond.
+//!
+//! What stands at its end is any terminal that is asked for units, hears octets, and lets milliseconds pass.
+#![tactic(auto)]
+
+mod desk;
+mod filter;
+mod orders;
+mod terminal;
+mod voice;
+
+pub use desk::Desk;
+pub use filter::{Bits, MOST_AHEAD, run_line};
+pub use orders::{NoOrders, Orders};
+pub use terminal::{Answer, LineTerminal};
+pub use voice::Voice;

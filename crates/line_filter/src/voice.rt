@@ -1,0 +1,94 @@
+//! The octets that go out.
+ghost use Rattle.std.specs.Prelude.{◌≡◌, ◌+◌, ◌-◌, ◌^◌, ◌<◌, true, ◌++◌, ◌∷◌, replicate, IfOk};
+ghost use Rattle.su_octets.specs.Bits.{low_bits};
+ghost use Rattle.su_octets.specs.Whole.{IsWhole};
+ghost use Rattle.line_filter.specs.Speaking.{IsSilent, Stuffs, Fills, Gives};
+
+use crate::terminal::LineTerminal;
+use arrayvec::ArrayVec;
+use bit_line::Stuffer;
+use std::io;
+use std::marker::Model;
+use su_octets::Unit;
+
+/// What a terminal's units are made into: octets, one after another.
+#[derive(Drop)]
+pub struct Voice {
+    sending: Stuffer,
+    /// The octets that are whole of the last unit.
+    ready: ArrayVec<u8, 352>,
+    /// How many of them went out.
+    gone: usize,
+}
+
+impl Model for Voice {
+    ghost use Rattle.std.specs.Prelude.{drop};
+    ghost use Rattle.std.specs.Coded.{codes};
+    ghost use Rattle.line_filter.specs.Speaking.{Voice as PlainVoice};
+    ghost use Rattle.line_filter.specs.Inside.{IsVoice};
+
+    ghost Value = { PlainVoice };
+
+    ghost coded = { Prim.hlevel (codes) };
+
+    ghost view = { λ v. record { sending = v.sending; ready = drop v.gone v.ready.items } };
+
+    ghost invariant = { λ v. IsVoice v.sending };
+}
+
+/// The octet that has these bits first, and then 1s.
+fn filled(bits: u8, len: u8) -> u8
+    requires few { len < 8 }
+    requires fits { bits < 2 ^ len }
+    ensures { low_bits 8 result ≡ low_bits len bits ++ replicate (8 - len) true }
+{
+    bits + (255 - ((1 << len) - 1))
+}
+
+impl Voice {
+    /// Nothing went out.
+    pub fn new() -> Self
+        ensures { IsSilent result }
+    {
+        Voice {
+            sending: Stuffer::new(),
+            ready: ArrayVec::new(),
+            gone: 0,
+        }
+    }
+
+    /// The first octet of a unit.
+    fn begin(&mut self, unit: &Unit) -> u8
+        requires { IsWhole unit.now }
+        ensures { Stuffs self.old.sending unit.now (result ∷ self.new.ready) self.new.sending }
+    {
+        self.sending.put_to(unit, &mut self.ready);
+        self.gone = 1;
+        self.ready[0]
+    }
+
+    /// The octet that ends with 1s.
+    fn fall_silent(&mut self) -> u8
+        ensures fills { Fills self.old.sending result self.new.sending }
+        ensures ready { self.new.ready ≡ self.old.ready }
+    {
+        let (bits, len) = self.sending.rest();
+        self.sending = Stuffer::new();
+        filled(bits, len)
+    }
+
+    /// The octet that goes out next.
+    pub fn next<T: LineTerminal>(&mut self, terminal: &mut T) -> io::Result<u8>
+        ensures { IfOk result (λ octet. Gives T.acts terminal.old self.old octet terminal.new self.new) }
+    {
+        if self.gone < self.ready.len() {
+            let octet = self.ready[self.gone];
+            self.gone += 1;
+            return Ok(octet);
+        }
+        match terminal.unit_out()? {
+            Some(unit) => Ok(self.begin(&unit)),
+            None => Ok(self.fall_silent()),
+        }
+    }
+}
