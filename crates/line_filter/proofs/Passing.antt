@@ -25,10 +25,10 @@ steps_as acts m n s t comes gives bytes goes_on is steps = let P : ℕ → Type 
 -- a run that goes on behind another is one run: it doesn't depend on the cut
 pub runs_joined : {T : Type 0} (acts : T → Act → T → Type 0) (count : ℕ) (s m t : State T) (goes_on : Bool) (xs ys os ps bs cs : List ℕ)
     → Runs acts count s xs os bs true m → Runs acts (count + length xs) m ys ps cs goes_on t → Runs acts count s (xs ++ ys) (os ++ ps) (bs ++ cs) goes_on t
-runs_joined acts count s m .m .true xs .[] os .[] bs .[] first begins =
+runs_joined acts count s m _ _ xs _ os _ bs _ first begins =
     runs_as acts count s m true xs (xs ++ []) os (os ++ []) bs (bs ++ []) (sym (append-nil xs)) (sym (append-nil os)) (sym (append-nil bs)) first
-runs_joined acts count s m t goes_on xs ys os ps bs cs first (octet {come} {out} {bytes} {u} comes gives more goes t rest steps) =
-    runs_as acts count s t goes_on ((xs ++ come) ++ comes ∷ []) (xs ++ (come ++ comes ∷ [])) ((os ++ out) ++ gives ∷ []) (os ++ (out ++ gives ∷ []))
+runs_joined acts count s m _ _ xs _ os _ bs _ first (octet {come} {out} {bytes} {u} comes gives more goes t rest steps) =
+    runs_as acts count s t goes ((xs ++ come) ++ comes ∷ []) (xs ++ (come ++ comes ∷ [])) ((os ++ out) ++ gives ∷ []) (os ++ (out ++ gives ∷ []))
     ((bs ++ bytes) ++ more) (bs ++ (bytes ++ more)) (append_assoc xs come (comes ∷ [])) (append_assoc os out (gives ∷ [])) (append_assoc bs bytes more)
     (octet comes gives more goes t (runs_joined acts count s m u true xs come os out bs bytes first rest)
     (steps_as acts ((count + length xs) + length come) (count + length (xs ++ come)) u t comes gives more goes
@@ -209,3 +209,7 @@ served_more {T} acts bits ahead count s m t goes_on next last old new later part
           (Appends-trans old.written new.written later.written (replicate ahead SILENCE ++ so_far.written) written so_far.appends appends);
       tells = Appends-trans old.told new.told later.told so_far.bytes more.bytes so_far.tells more.appends;
     }
+
+pub steps_on : {T : Type 0} (acts : T → Act → T → Type 0) (count : ℕ) (s t : State T) (comes gives : ℕ) (goes_on is : Bool) (old new : Option (List ℕ)) → goes_on ≡ is
+    → Told (λ bytes. Steps acts count s comes gives bytes goes_on t) old new → Told (λ bytes. Steps acts count s comes gives bytes is t) old new
+steps_on acts count s t comes gives goes_on is old new same told = let P : Bool → Type 0 = λ b. Told (λ bytes. Steps acts count s comes gives bytes b t) old new in subst P same told

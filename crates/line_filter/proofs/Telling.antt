@@ -1,6 +1,6 @@
 -- What is told, part behind part.
 use Rattle.std.proofs.Common.{◌≡◌, ℕ, ◌+◌, ◌/◌, ◌%◌, Bool, true, false, List, [], ◌∷◌, ◌++◌, length, Option, None, Some, refl, sym, ap, ◌∙◌, subst, append_assoc, append-nil}
-use Rattle.std.specs.Prelude.{codes}
+use Rattle.std.specs.Prelude.{codes, IsTrue}
 use Rattle.std.specs.Io.KnownBytes.{Appends}
 use Rattle.std.proofs.KnownBytes.{Appends-nil, Appends-trans}
 use Rattle.line_filter.specs.Acts.{Act, heard, passed, reported, obeyed}
@@ -12,6 +12,9 @@ use Rattle.line_filter.specs.Desks.{Told}
 
 pub moved : {A : Type 0} (x y : A) → x ≡ y → (P : A → Type 0) → P x → P y
 moved x y is P h = subst P is h
+
+pub not_both : (b : Bool) → b ≡ false → IsTrue b → ⊥
+not_both b no yes = absurd (let e : false ≡ true = sym no ∙ yes in cc)
 
 pub told_none : {T : Type 0} (acts : T → Act → T → Type 0) (now : ℕ) (t : T) (old : Option (List ℕ)) → Told (λ bytes. Tells acts now t bytes t) old old
 told_none acts now t old = record { bytes = []; are = nothing; appends = Appends-nil old }

@@ -48,7 +48,7 @@ fn tell_all<T: LineTerminal, P: Write>(
 {
     for _told in 0..u64::MAX {
         match terminal.report(alloc)? {
-            Some(text) => tell(alloc, now, &text, reports)?,
+            Some(text) => tell(alloc, now, text.as_str(), reports)?,
             None => return Ok(()),
         }
     }
@@ -128,7 +128,8 @@ impl<T: LineTerminal, O: Orders, P: Write> Desk<T, O, P> {
             let Some(order) = self.orders.next(alloc, now)? else {
                 return Ok(true);
             };
-            if is_quit(&order) {
+            let text = order.as_str();
+            if is_quit(text) {
                 tell(alloc, now, "ok quit", &mut self.reports)?;
                 return Ok(false);
             }
@@ -136,7 +137,7 @@ impl<T: LineTerminal, O: Orders, P: Write> Desk<T, O, P> {
                 alloc,
                 &mut self.terminal,
                 now,
-                &order,
+                text,
                 &mut self.reports,
             )?;
         }
@@ -175,13 +176,14 @@ impl<T: LineTerminal, O: Orders, P: Write> Desk<T, O, P> {
                 (P.contents self.old.reports) (P.contents self.new.reports)) }
         ensures count { OnOk result (self.new.count ≡ self.old.count + 1) }
     {
-        if self.count == u64::MAX {
+        let count = self.count;
+        if count == u64::MAX {
             return Err(io::Error::from(ErrorKind::Other));
         }
         let gives = self.exchange(alloc, octet)?;
         out.push(gives)?;
-        self.count += 1;
-        let goes_on = self.go_behind(alloc, self.count)?;
+        self.count = count + 1;
+        let goes_on = self.go_behind(alloc, count + 1)?;
         Ok(goes_on)
     }
 }

@@ -57,7 +57,8 @@ impl<T: LineTerminal, O: Orders, P: Write> Desk<T, O, P> {
                 (P.contents self.old.reports) (P.contents self.new.reports)) }
     {
         for octet in octets {
-            if !self.step(alloc, *octet, out)? {
+            let goes_on = self.step(alloc, *octet, out)?;
+            if !goes_on {
                 return Ok(false);
             }
         }
@@ -121,7 +122,8 @@ pub fn run_line<T: LineTerminal, O: Orders, P: Write, R: Read, W: Write>(
         match reader.read(&mut part) {
             Ok(0) => return Ok(()),
             Ok(count) => {
-                if !desk.serve(alloc, bits, &mut part[..count], &mut out, writer)? {
+                let goes_on = desk.serve(alloc, bits, &mut part[..count], &mut out, writer)?;
+                if !goes_on {
                     return Ok(());
                 }
             }
