@@ -29,6 +29,7 @@ impl Model for Link {
     ghost use Rattle.std.specs.Prelude.{◌≤◌, length};
     ghost use Rattle.std.specs.Coded.{codes};
     ghost use Rattle.tick_wheel.specs.Timers.{timers_code};
+    ghost use Rattle.tick_wheel.specs.Turning.{timers_of};
     ghost use Rattle.link_machine.specs.Core.{Core};
     ghost use Rattle.profile_limits.specs.Limits.{MOST_PROCESSES};
 
@@ -38,7 +39,7 @@ impl Model for Link {
 
     ghost view = { λ l. record {
       actors = l.actors.items;
-      timers = l.wheel;
+      timers = timers_of l.wheel;
       ring = l.ring;
       turns = l.turns;
       finishes = l.finishes;
@@ -74,11 +75,18 @@ impl Link {
         self.wheel.clock()
     }
 
-    /// What waits for the environment, what has waited longest first.
-    pub fn waiting(&self) -> &[Emitted]
-        ensures { result.now ≡ self.now.ring.items }
+    /// How many signals wait for the environment.
+    pub fn waiting(&self) -> usize
+        ensures { result ≡ length self.now.ring.items }
     {
-        self.ring.items()
+        self.ring.len()
+    }
+
+    /// The signal that waits for the environment at a place: 0 is that of the one that has waited longest.
+    pub fn waiting_at(&self, place: usize) -> Option<&Emitted>
+        ensures { option_copied result ≡ slice_get self.now.ring.items place }
+    {
+        self.ring.get(place)
     }
 
     /// How many turns have begun.

@@ -11,9 +11,14 @@
 //!   whether the messages of each spell of service came in order, none twice and none missing. A run is six words: basic or cyclic, the
 //!   seed, the rate (of so many bits one is flipped, one dropped and one doubled, 0 for none), how many messages go each way, how many are
 //!   given to each end in a round, how many units go one way in a round.
+//! - `ports`: a port in each line ([`ports`]), which is held against a plain one, a vector, through many calls by a seeded generator. Shows
+//!   how often there was no room, how often an item was taken behind saved ones, and in how many calls the two differed.
 //! - `reports`: what is done with two such terminals, a step in each line ([`steps`]), over a line without damage. Shows what the near one
 //!   hands out at each step that asks for it: messages before what was told of the link, that it came into service, that it went down and
 //!   why, that the far side's processor is out and back; and how many line octets many units are that go out at once.
+//! - `wheels`: in each line a seed and a number of calls. A wheel and a table of deadlines that is walked get the same calls, drawn by a
+//!   generator: timers set and reset, ticks that pass, one, few, a turn of the wheel, more than may. Shows how many timers were due, how many
+//!   the wheel looked at, and whether the two always said the same.
 //! - `rounds`: what is measured, in each line a thing ([`rounds`]). Shows what its smallest round has; where a number of rounds is given
 //!   also how fast it went.
 #![tactic(auto)]
@@ -26,19 +31,24 @@ mod lines;
 mod message;
 mod noise;
 mod pair;
+mod plain_port;
+mod ports;
 mod reports;
 mod rounds;
 mod run;
 mod shown;
 mod steps;
 mod texts;
+mod wheels;
 
 use crate::calls::Stopped;
 use crate::heard::compare;
 use crate::lines::make_runs;
+use crate::ports::hold_ports;
 use crate::reports::report_all;
 use crate::rounds::make_rounds;
 use crate::texts::{check_text, play_script};
+use crate::wheels::make_wheels;
 use std::io::{self, BufReader, ErrorKind, Read};
 use std::rt::Runtime;
 use std::str;
@@ -64,8 +74,10 @@ fn make<R: Runtime + AllocGlobal + Threads + Wait + Sync>(
     match kind {
         "heard" => compare(rt.alloc(), text, trial),
         "runs" => make_runs(rt.alloc(), text, trial),
+        "ports" => hold_ports(rt.alloc(), text, trial),
         "reports" => report_all(rt.alloc(), text, trial),
         "rounds" => make_rounds(rt, text, trial),
+        "wheels" => make_wheels(rt.alloc(), text, trial),
         _ => Err(Stopped::BadLine),
     }
 }
