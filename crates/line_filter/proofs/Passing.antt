@@ -7,7 +7,7 @@ use Rattle.std.proofs.lemmas.List.{map-append}
 use Rattle.line_filter.specs.Acts.{Act}
 use Rattle.line_filter.specs.Runs.{State, Steps, Runs, begins, octet}
 use Rattle.line_filter.specs.Desks.{Told}
-use Rattle.line_filter.specs.Filters.{turned, SILENCE, Goes, Serves, Streams, Served}
+use Rattle.line_filter.specs.Filters.{turned, SILENCE, Goes, Serves, Streams, Served, IsOver}
 use Rattle.line_filter.specs.declared.filter.Bits.{Bits}
 
 runs_as : {T : Type 0} (acts : T → Act → T → Type 0) (count : ℕ) (s t : State T) (goes_on : Bool) (xs ys os ps bs cs : List ℕ) → xs ≡ ys → os ≡ ps → bs ≡ cs
@@ -23,15 +23,15 @@ steps_as : {T : Type 0} (acts : T → Act → T → Type 0) (m n : ℕ) (s t : S
 steps_as acts m n s t comes gives bytes goes_on is steps = let P : ℕ → Type 0 = λ k. Steps acts k s comes gives bytes goes_on t in subst P is steps
 
 -- a run that goes on behind another is one run: it doesn't depend on the cut
-pub runs_joined : {T : Type 0} (acts : T → Act → T → Type 0) (count : ℕ) (s m t : State T) (goes_on : Bool) (xs ys os ps bs cs : List ℕ)
+pub runs_joined : {T : Type 0} (acts : T → Act → T → Type 0) (count : ℕ) (s m : State T) (xs os bs : List ℕ) (t : State T) (goes_on : Bool) (ys ps cs : List ℕ)
     → Runs acts count s xs os bs true m → Runs acts (count + length xs) m ys ps cs goes_on t → Runs acts count s (xs ++ ys) (os ++ ps) (bs ++ cs) goes_on t
-runs_joined acts count s m _ _ xs _ os _ bs _ first begins =
+runs_joined acts count s m xs os bs _ _ _ _ _ first begins =
     runs_as acts count s m true xs (xs ++ []) os (os ++ []) bs (bs ++ []) (sym (append-nil xs)) (sym (append-nil os)) (sym (append-nil bs)) first
-runs_joined acts count s m _ _ xs _ os _ bs _ first (octet {come} {out} {bytes} {u} comes gives more goes t rest steps) =
-    runs_as acts count s t goes ((xs ++ come) ++ comes ∷ []) (xs ++ (come ++ comes ∷ [])) ((os ++ out) ++ gives ∷ []) (os ++ (out ++ gives ∷ []))
+runs_joined acts count s m xs os bs _ _ _ _ _ first (octet {come} {out} {bytes} {t} comes gives more goes last rest steps) =
+    runs_as acts count s last goes ((xs ++ come) ++ comes ∷ []) (xs ++ (come ++ comes ∷ [])) ((os ++ out) ++ gives ∷ []) (os ++ (out ++ gives ∷ []))
     ((bs ++ bytes) ++ more) (bs ++ (bytes ++ more)) (append_assoc xs come (comes ∷ [])) (append_assoc os out (gives ∷ [])) (append_assoc bs bytes more)
-    (octet comes gives more goes t (runs_joined acts count s m u true xs come os out bs bytes first rest)
-    (steps_as acts ((count + length xs) + length come) (count + length (xs ++ come)) u t comes gives more goes
+    (octet comes gives more goes last (runs_joined acts count s m xs os bs t true come out bytes first rest)
+    (steps_as acts ((count + length xs) + length come) (count + length (xs ++ come)) t last comes gives more goes
     (let e : (count + length xs) + length come ≡ count + length (xs ++ come) = omega (arith, length-append xs come) in e) steps))
 
 -- ---- a part of octets
@@ -190,7 +190,7 @@ served_more {T} acts bits ahead count s m t goes_on next last old new later part
         goes = record {
           come = a.come ++ b.come;
           dropped = b.dropped;
-          runs = runs_joined acts count s m t goes_on a.come b.come so_far.serves.out more.are.out so_far.bytes more.bytes a.runs (subst P a.counted b.runs);
+          runs = runs_joined acts count s m a.come so_far.serves.out so_far.bytes t goes_on b.come more.are.out more.bytes a.runs (subst P a.counted b.runs);
           all =
               map-append (turned bits) so_far.read part
               ∙ (ap (λ l. l ++ map (turned bits) part) (a.all ∙ none_left a.come a.dropped (a.none_dropped refl))
@@ -213,3 +213,41 @@ served_more {T} acts bits ahead count s m t goes_on next last old new later part
 pub steps_on : {T : Type 0} (acts : T → Act → T → Type 0) (count : ℕ) (s t : State T) (comes gives : ℕ) (goes_on is : Bool) (old new : Option (List ℕ)) → goes_on ≡ is
     → Told (λ bytes. Steps acts count s comes gives bytes goes_on t) old new → Told (λ bytes. Steps acts count s comes gives bytes is t) old new
 steps_on acts count s t comes gives goes_on is old new same told = let P : Bool → Type 0 = λ b. Told (λ bytes. Steps acts count s comes gives bytes b t) old new in subst P same told
+
+-- the end of what there is to read
+pub over_end : {T : Type 0} (acts : T → Act → T → Type 0) (bits : Bits) (ahead count : ℕ) (s t : State T) (next : ℕ) (old new last : Streams) (part : List ℕ)
+    → Served acts bits ahead count s true next t old new → Consumes new.read last.read part → part ≡ [] → IsAtEnd last.read → last.written ≡ new.written → last.told ≡ new.told
+    → IsOver acts bits ahead count s next t old last
+over_end acts bits ahead count s t next old new last part so_far consumes none end same_written same_told =
+    let P : Option (List ℕ) → Type 0 = λ o. Appends old.written o (replicate ahead SILENCE ++ so_far.written) in
+    let Q : Option (List ℕ) → Type 0 = λ o. Appends old.told o so_far.bytes in
+    let R : List ℕ → Type 0 = λ l. Consumes old.read last.read l in
+    record {
+      goes_on = true;
+      served = record {
+        read = so_far.read;
+        written = so_far.written;
+        bytes = so_far.bytes;
+        serves = so_far.serves;
+        consumes = subst R (none_left so_far.read part none) (Consumes-trans old.read new.read last.read so_far.read part so_far.consumes consumes);
+        appends = subst P (sym same_written) so_far.appends;
+        tells = subst Q (sym same_told) so_far.tells;
+      };
+      end_met = λ h. end;
+    }
+
+pub over_quit : {T : Type 0} (acts : T → Act → T → Type 0) (bits : Bits) (ahead count : ℕ) (s m t : State T) (goes_on : Bool) (next last : ℕ) (old new later : Streams) (part written : List ℕ)
+    → Served acts bits ahead count s true next m old new → Consumes new.read later.read part → Appends new.written later.written written
+    → Told (λ bytes. Serves acts bits next m part written bytes goes_on last t) new.told later.told → goes_on ≡ false → IsOver acts bits ahead count s last t old later
+over_quit acts bits ahead count s m t goes_on next last old new later part written so_far consumes appends more is = record {
+  goes_on = goes_on;
+  served = served_more acts bits ahead count s m t goes_on next last old new later part written so_far consumes appends more;
+  end_met = λ h. absurd (let e : false ≡ true = sym is ∙ h in cc);
+}
+
+pub served_on : {T : Type 0} (acts : T → Act → T → Type 0) (bits : Bits) (ahead count : ℕ) (s m t : State T) (goes_on : Bool) (next last : ℕ) (old new later : Streams) (part written : List ℕ)
+    → Served acts bits ahead count s true next m old new → Consumes new.read later.read part → Appends new.written later.written written
+    → Told (λ bytes. Serves acts bits next m part written bytes goes_on last t) new.told later.told → goes_on ≡ true → Served acts bits ahead count s true last t old later
+served_on acts bits ahead count s m t goes_on next last old new later part written so_far consumes appends more is =
+    let P : Bool → Type 0 = λ b. Served acts bits ahead count s b last t old later in
+    subst P is (served_more acts bits ahead count s m t goes_on next last old new later part written so_far consumes appends more)

@@ -14,7 +14,7 @@ pub moved : {A : Type 0} (x y : A) → x ≡ y → (P : A → Type 0) → P x �
 moved x y is P h = subst P is h
 
 pub not_both : (b : Bool) → b ≡ false → IsTrue b → ⊥
-not_both b no yes = absurd (let e : false ≡ true = sym no ∙ yes in cc)
+not_both b denied shown = absurd (let e : false ≡ true = sym denied ∙ shown in cc)
 
 pub told_none : {T : Type 0} (acts : T → Act → T → Type 0) (now : ℕ) (t : T) (old : Option (List ℕ)) → Told (λ bytes. Tells acts now t bytes t) old old
 told_none acts now t old = record { bytes = []; are = nothing; appends = Appends-nil old }

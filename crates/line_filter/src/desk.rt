@@ -133,13 +133,7 @@ impl<T: LineTerminal, O: Orders, P: Write> Desk<T, O, P> {
                 tell(alloc, now, "ok quit", &mut self.reports)?;
                 return Ok(false);
             }
-            obey(
-                alloc,
-                &mut self.terminal,
-                now,
-                text,
-                &mut self.reports,
-            )?;
+            obey(alloc, &mut self.terminal, now, text, &mut self.reports)?;
         }
         Err(io::Error::from(ErrorKind::Other))
     }
@@ -173,7 +167,7 @@ impl<T: LineTerminal, O: Orders, P: Write> Desk<T, O, P> {
     pub(crate) fn step(&mut self, alloc: Global, octet: u8, out: &mut Vec<u8>) -> io::Result<bool>
         ensures made { IfOk result (λ goes_on. (gives : ℕ) × (out.new.items ≡ out.old.items ++ gives ∷ [])
             × Told (λ bytes. Steps T.acts self.old.count (state_of O.left self.old) octet gives bytes goes_on (state_of O.left self.new))
-                (P.contents self.old.reports) (P.contents self.new.reports)) }
+            (P.contents self.old.reports) (P.contents self.new.reports)) }
         ensures count { OnOk result (self.new.count ≡ self.old.count + 1) }
     {
         let count = self.count;

@@ -54,7 +54,7 @@ impl<T: LineTerminal, O: Orders, P: Write> Desk<T, O, P> {
     fn pass(&mut self, alloc: Global, octets: &[u8], out: &mut Vec<u8>) -> io::Result<bool>
         ensures { IfOk result (λ goes_on. (given : List ℕ) × (out.new.items ≡ out.old.items ++ given)
             × Told (λ bytes. Goes T.acts self.old.count (state_of O.left self.old) octets.now given bytes goes_on self.new.count (state_of O.left self.new))
-                (P.contents self.old.reports) (P.contents self.new.reports)) }
+            (P.contents self.old.reports) (P.contents self.new.reports)) }
     {
         for octet in octets {
             let goes_on = self.step(alloc, *octet, out)?;
@@ -76,7 +76,7 @@ impl<T: LineTerminal, O: Orders, P: Write> Desk<T, O, P> {
     ) -> io::Result<bool>
         ensures { IfOk result (λ goes_on. (written : List ℕ) × Appends (W.contents writer.old) (W.contents writer.new) written
             × Told (λ bytes. Serves T.acts bits self.old.count (state_of O.left self.old) part.old written bytes goes_on self.new.count
-                (state_of O.left self.new)) (P.contents self.old.reports) (P.contents self.new.reports)) }
+            (state_of O.left self.new)) (P.contents self.old.reports) (P.contents self.new.reports)) }
     {
         bits.turn_all(part);
         out.clear();

@@ -1,0 +1,48 @@
+-- What a line of a stream of orders says.
+use Rattle.std.specs.Prelude.{ℕ, ◌==◌, Bool, if◌then◌else◌, List, [], ◌∷◌, ◌++◌, Option, None, Some, codes, string_bytes}
+use Rattle.std.specs.List.{flat_map}
+use Rattle.std.specs.Str.{bytes_eq}
+use Rattle.script_lines.specs.Numbers.{count_of}
+use Rattle.script_lines.specs.Lines.{is_silent}
+use Rattle.line_orders.specs.declared.says.LineSays.{LineSays}
+use Rattle.line_orders.specs.declared.says.LineSays.TheVariants as code
+
+pub data PlainSays : Type 0 where
+  nothing : PlainSays
+  at : ℕ → PlainSays                          -- what follows waits until this millisecond
+  order : List ℕ → PlainSays
+  order_at : ℕ → List ℕ → PlainSays           -- both
+
+abbrev pub plain_says : LineSays → PlainSays
+plain_says code.Nothing = nothing
+plain_says (code.At millisecond) = at millisecond
+plain_says (code.Order text) = order (string_bytes text)
+plain_says (code.OrderAt millisecond text) = order_at millisecond (string_bytes text)
+
+-- words, parted by one space
+abbrev pub joined : List ℕ → List (List ℕ) → List ℕ
+joined first words = first ++ flat_map (λ (word : List ℕ). 32 ∷ word) words
+
+-- a report: the millisecond, `ok` and the order that was obeyed then; reports of other kinds say nothing
+abbrev pub by_report : ℕ → List (List ℕ) → PlainSays
+by_report millisecond [] = nothing
+by_report millisecond (ok ∷ []) = nothing
+by_report millisecond (ok ∷ first ∷ words) = if bytes_eq ok (codes "ok") then order_at millisecond (joined first words) else nothing
+
+-- `at`, and a millisecond
+abbrev pub by_time : Option ℕ → List ℕ → List (List ℕ) → PlainSays
+by_time None first words = order (joined first words)
+by_time (Some millisecond) first words = at millisecond
+
+abbrev pub by_at : Bool → List ℕ → List (List ℕ) → PlainSays
+by_at is_at first (word ∷ []) = if is_at then by_time (count_of word) first (word ∷ []) else order (joined first (word ∷ []))
+by_at is_at first words = order (joined first words)
+
+abbrev pub by_first : Option ℕ → List ℕ → List (List ℕ) → PlainSays
+by_first (Some millisecond) first words = by_report millisecond words
+by_first None first words = by_at (bytes_eq first (codes "at")) first words
+
+-- Blank lines and comments say nothing, and a line that is no order says one that no terminal obeys.
+abbrev pub says_of : List (List ℕ) → PlainSays
+says_of [] = nothing
+says_of (first ∷ words) = if is_silent (first ∷ words) then nothing else by_first (count_of first) first words
