@@ -9,9 +9,9 @@ use Rattle.line_orders.specs.declared.says.LineSays.TheVariants as code
 
 pub data PlainSays : Type 0 where
   nothing : PlainSays
-  at : ℕ → PlainSays                          -- what follows waits until this millisecond
+  at : ℕ → PlainSays  -- what follows waits until this millisecond
   order : List ℕ → PlainSays
-  order_at : ℕ → List ℕ → PlainSays           -- both
+  order_at : ℕ → List ℕ → PlainSays  -- both
 
 abbrev pub plain_says : LineSays → PlainSays
 plain_says code.Nothing = nothing

@@ -4,5 +4,5 @@
 mod says;
 mod stream;
 
-pub use says::{LineSays, says};
+pub use says::{LineSays, line_says};
 pub use stream::{LineOrders, MOST_OCTETS};

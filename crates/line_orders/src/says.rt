@@ -103,7 +103,7 @@ fn words_say(alloc: Global, words: &[&str]) -> Result<LineSays, AllocError>
 }
 
 /// What a line says, without its end.
-pub fn says(alloc: Global, line: &str) -> Result<LineSays, AllocError>
+pub fn line_says(alloc: Global, line: &str) -> Result<LineSays, AllocError>
     ensures { IfOk result (λ s. plain_says s ≡ says_of (words_of line.now)) }
 {
     let words = words_in(alloc, line)?;

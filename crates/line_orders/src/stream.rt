@@ -1,7 +1,7 @@
 //! Orders, read on as they come.
 ghost use Rattle.std.specs.Prelude.{None};
 
-use crate::says::{LineSays, says};
+use crate::says::{LineSays, line_says};
 use line_filter::Orders;
 use std::alloc::{AllocError, Global};
 use std::io::{self, ErrorKind, Read};
@@ -95,7 +95,7 @@ impl<R: Read> LineOrders<R> {
         self.too_long = false;
         match str::from_utf8(line) {
             Ok(text) if is_whole => {
-                let said = says(alloc, text)?;
+                let said = line_says(alloc, text)?;
                 self.note(said);
             }
             _ => self.waiting = Some(String::new(alloc)),
