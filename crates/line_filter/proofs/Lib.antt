@@ -1,3 +1,4 @@
 mod Filling
 mod Telling
 mod Passing
+mod Saying

@@ -5,12 +5,14 @@
 
 mod desk;
 mod filter;
+mod laws;
 mod orders;
 mod terminal;
 mod voice;
 
 pub use desk::Desk;
 pub use filter::{Bits, MOST_AHEAD, run_line};
+pub use laws::what_goes_out_was_said;
 pub use orders::{NoOrders, Orders};
 pub use terminal::{Answer, LineTerminal};
 pub use voice::Voice;
