@@ -53,11 +53,11 @@ class Far(Terminal):
             return None
         kind, self.busy = 5 if self.busy else self.kind, False
         fsn, fib, message = self.sender.next_unit() if kind == 9 else self.sender.idle()
-        bsn = self.receiver.last if self.withheld is None else self.withheld
+        bsn, bib = self.backward()
         if message is not None:
             self.offer("TXC", "MsuSent")
         body = message if message is not None else b"" if kind in (8, 9) else bytes([kind])
-        return bytes([bsn | self.receiver.bib << 7, fsn | fib << 7, min(len(body), 63)]) + body, message is not None
+        return bytes([bsn | bib << 7, fsn | fib << 7, min(len(body), 63)]) + body, message is not None
 
 
 class End:

@@ -67,11 +67,11 @@ class Terminal:
         if signal == "Fresh":
             self.sender.fresh()
             self.receiver.fresh()
-            self.faults, self.withheld = [], None if self.withheld is None else 127
+            self.faults, self.withheld = [], None if self.withheld is None else (127, 1)
         elif signal == "Take":
             self.take = values[0]
         elif signal == "Withhold":
-            self.withheld = self.receiver.last if values[0] else None
+            self.withheld = (self.receiver.last, self.receiver.bib) if values[0] else None
         elif signal != "Line":
             self.statuses = [*self.statuses, (signal, *values)][-64:]
         elif values[0] == 5:
@@ -137,6 +137,10 @@ class Terminal:
         self.faults = [*self.faults, fault][-3:]
         return count or 0, self.faults.count("number") > 1 or self.faults.count("indicator") > 1
 
+    def backward(self):
+        """The number and the bit that tell the other end what was accepted."""
+        return (self.receiver.last, self.receiver.bib) if self.withheld is None else self.withheld
+
     def unit_out(self):
         """The line printed for the unit that goes out; None for silence."""
         self.rebase()
@@ -144,8 +148,8 @@ class Terminal:
             return None
         kind, self.busy = 5 if self.busy else self.kind, False
         fsn, fib, message = self.sender.next_unit() if kind == 9 else self.sender.idle()
-        bsn = self.receiver.last if self.withheld is None else self.withheld
-        head = f"bsn {bsn} bib {self.receiver.bib} fsn {fsn} fib {fib}"
+        bsn, bib = self.backward()
+        head = f"bsn {bsn} bib {bib} fsn {fsn} fib {fib}"
         if message is not None:
             self.offer("TXC", "MsuSent")
             return f"MSU {head} sio {message[0]:02X} octets {len(message) - 1}"

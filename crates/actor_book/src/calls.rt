@@ -1,9 +1,10 @@
 //! What the environment and the clock do to a link.
 
-ghost use Rattle.std.specs.Prelude.{◌≡◌, ◌≤◌, ◌<◌, ◌+◌, ◌^◌, [], length, IfOk, OnOk, OnErr, Some, None, Option};
+ghost use Rattle.std.specs.Prelude.{◌≡◌, ◌≤◌, ◌<◌, ◌+◌, ◌^◌, [], length, IfOk, IfErr, OnOk, OnErr, Some, None, Option};
 ghost use Rattle.link_machine.specs.Ledger.{ask, next};
 ghost use Rattle.link_machine.specs.declared.event.Event.TheVariants.{Offer as Offered, Skip, Advance, TakeEnv};
 ghost use Rattle.link_machine.specs.declared.reply.Reply.TheVariants as reply;
+ghost use Rattle.actor_book.specs.Accepted.{Takes, refusal_of};
 ghost use Rattle.actor_book.specs.Answered.{answer_by};
 ghost use Rattle.profile_limits.specs.Limits.{MOST_PARAMETERS};
 
@@ -83,6 +84,8 @@ impl Book {
     pub fn advance(&mut self, ticks: u64) -> Result<Passed, Refusal>
         ensures book { self.new ≡ (ask self.old (Advance ticks)).book }
         ensures answer { answer_by (λ p. reply.Passed p.due) result ≡ (ask self.old (Advance ticks)).answer }
+        ensures takes { OnOk result (Takes self.old (Advance ticks)) }
+        ensures refuses { IfErr result (λ refusal. refusal_of self.old (Advance ticks) ≡ Some refusal) }
         ensures place { IfOk result (λ p. p.place ≡ next self.old) }
         ensures next { OnOk result (next self.new ≡ next self.old + 1) }
         ensures err { OnErr result (self.new ≡ self.old) }

@@ -1,6 +1,7 @@
 //! What a book shows.
 
-ghost use Rattle.std.specs.Prelude.{◌≡◌, ◌≤◌, ◌+◌, count_by, Option, Some, None, option_map, option_and_then, slice_get};
+ghost use Rattle.std.specs.Prelude.{◌≡◌, ◌≤◌, ◌+◌, length, count_by, Option, Some, None, option_map, option_and_then, slice_get};
+ghost use Rattle.std.specs.Option.{option_copied};
 ghost use Rattle.link_machine.specs.Ledger.{state_of};
 ghost use Rattle.link_machine.specs.Kept.{is_finish};
 ghost use Rattle.link_machine.specs.declared.actor.Actor.{Actor as PlainActor};
@@ -82,11 +83,18 @@ impl Book {
         self.link.clock()
     }
 
-    /// What waits for the environment, what has waited longest first.
-    pub fn waiting(&self) -> &[Emitted]
-        ensures { result.now ≡ (state_of self.now).ring.items }
+    /// How many signals wait for the environment.
+    pub fn waiting(&self) -> usize
+        ensures { result ≡ length (state_of self.now).ring.items }
     {
         self.link.waiting()
+    }
+
+    /// The signal that waits for the environment at a place: 0 is that of the one that has waited longest.
+    pub fn waiting_at(&self, place: usize) -> Option<&Emitted>
+        ensures { option_copied result ≡ slice_get (state_of self.now).ring.items place }
+    {
+        self.link.waiting_at(place)
     }
 
     /// How many turns have ended: those of the base and those of the journal.

@@ -49,8 +49,8 @@ impl Book {
         self.refusal_with(1, refusal)
     }
 
-    /// Why so many ticks can't pass, if they can't.
-    pub(crate) fn advance_refusal(&self, ticks: u64) -> Option<Refusal>
+    /// Why so many ticks can't pass now, if they can't: what `advance` would answer.
+    pub fn advance_refusal(&self, ticks: u64) -> Option<Refusal>
         ensures { result ≡ refusal_of self.now (Advance ticks) }
     {
         let refusal = self.link.advance_refusal(ticks);

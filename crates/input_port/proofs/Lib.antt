@@ -1,3 +1,4 @@
 pub mod Bits
 pub mod Places
 pub mod Queues
+pub mod Rings

@@ -1,13 +1,15 @@
 //! The port and its items.
 
-ghost use Rattle.std.specs.Prelude.{◌≡◌, ℕ, ◌+◌, ◌<◌, ◌≤◌, ◌↔◌, ◌==◌, false, List, [], ◌∷◌, ◌++◌, length, remove, slice_get, vec_len, vec_capacity, IfOk, IfSome, IfNone, OnOk, OnErr, OnSome, IsErrOf};
+ghost use Rattle.std.specs.Prelude.{◌≡◌, ℕ, ◌+◌, ◌<◌, ◌≤◌, ◌↔◌, ◌==◌, false, List, [], ◌∷◌, ◌++◌, length, take, drop, remove, slice_get, IfOk, IfSome, IfNone, OnOk, OnErr, OnSome, IsErrOf};
 ghost use Rattle.std.specs.Option.{option_copied};
+ghost use Rattle.circular_buffer.specs.Buffer.{buffer};
 ghost use Rattle.input_port.specs.Saves.{saves};
 ghost use Rattle.input_port.specs.Queue.{is_signal, is_of_timer, signal_count, has_timer, without_timer, first_unsaved, without_first, Takes, IsQueue};
 ghost use Rattle.profile_limits.specs.Limits.{LEAST_PORT, MOST_PORT, MOST_TIMERS_EACH};
 
 use crate::save::{Saved, TIMERS};
 use arrayvec::ArrayVec;
+use circular_buffer::HeapCircularBuffer;
 use std::alloc::{AllocError, Global};
 use std::fmt;
 use std::marker::Model;
@@ -72,16 +74,16 @@ impl fmt::Display for PutError {
 
 /// The items that wait for a process, in the order in which they came.
 ///
-/// The signals among them are as many as its capacity at most. Each timer has a place of its own beside these.
-/// After `new` only `copy` takes memory.
+/// The signals among them are as many as its capacity at most. Each timer has a place of its own beside these, so
+/// the ring that they lie in has a place for each item that may come. After `new` only `copy` takes memory.
 #[derive(Debug, Drop)]
 pub struct Port {
     capacity: usize,
-    items: Vec<Item>,
+    items: HeapCircularBuffer<Item>,
 }
 
 impl Model for Port {
-    ghost use Rattle.std.specs.Prelude.{◌+◌, ◌≤◌, vec_capacity};
+    ghost use Rattle.std.specs.Prelude.{◌≡◌, ◌+◌};
     ghost use Rattle.input_port.specs.Queue.{Queue, IsQueue};
     ghost use Rattle.profile_limits.specs.Limits.{MOST_TIMERS_EACH};
 
@@ -89,7 +91,7 @@ impl Model for Port {
 
     ghost view = { λ p. record { capacity = p.capacity; items = p.items.items } };
 
-    ghost invariant = { λ p. IsQueue p.capacity p.items.items × (p.capacity + MOST_TIMERS_EACH ≤ vec_capacity p.items) };
+    ghost invariant = { λ p. IsQueue p.capacity p.items.items × (p.items.capacity ≡ p.capacity + MOST_TIMERS_EACH) };
 }
 
 impl Port {
@@ -101,7 +103,7 @@ impl Port {
     {
         Ok(Port {
             capacity,
-            items: Vec::with_capacity(alloc, capacity + usize::from(TIMERS))?,
+            items: HeapCircularBuffer::with_capacity(alloc, capacity + usize::from(TIMERS))?,
         })
     }
 
@@ -110,7 +112,7 @@ impl Port {
         ensures { IfOk result (λ port. port ≡ self.now) }
     {
         let alloc = *self.items.allocator();
-        let mut items = Vec::with_capacity(alloc, self.capacity + usize::from(TIMERS))?;
+        let mut items = HeapCircularBuffer::with_capacity(alloc, self.items.capacity())?;
         copy_to(&mut items, &self.items)?;
         Ok(Port {
             capacity: self.capacity,
@@ -127,18 +129,18 @@ impl Port {
         self.capacity
     }
 
-    /// The items, in order.
-    pub fn items(&self) -> &[Item]
-        ensures value { result.now ≡ self.now.items }
-        ensures sound { IsQueue self.now.capacity self.now.items }
+    /// The item at a place: 0 is that of the one that came first.
+    pub fn get(&self, place: usize) -> Option<&Item>
+        ensures { option_copied result ≡ slice_get self.now.items place }
     {
-        self.items.as_slice()
+        self.items.get(place)
     }
 
     /// How many items there are: 72 at most.
     pub fn len(&self) -> usize
         ensures value { result ≡ length self.now.items }
         ensures in_range { result ≤ self.now.capacity + MOST_TIMERS_EACH }
+        ensures sound { IsQueue self.now.capacity self.now.items }
     {
         self.items.len()
     }
@@ -193,8 +195,7 @@ impl Port {
     pub fn first(&self, saved: &Saved) -> Option<&Item>
         ensures { option_copied result ≡ first_unsaved (saves saved.now) self.now.items }
     {
-        let place = place_of_first(&self.items, saved)?;
-        Some(&self.items[place])
+        self.items.get(place_of_first(&self.items, saved)?)
     }
 
     /// Takes the first item that isn't saved out of the port. The others stay, in their order.
@@ -206,14 +207,16 @@ impl Port {
         ensures order { IfSome result (λ item. Takes (saves saved.now) self.old.items item self.new.items) }
     {
         let place = place_of_first(&self.items, saved)?;
-        Some(self.items.remove(place))
+        take_at(&mut self.items, place)
     }
 
     /// Drops the item of a timer, if it has one here.
     pub fn drop_timer(&mut self, timer: TimerNumber)
         ensures { self.new ≡ record self.old { items = without_timer self.old.items timer.0 } }
     {
-        remove_timer(&mut self.items, timer);
+        if self.has_timer(timer) {
+            remove_timer(&mut self.items, timer);
+        }
     }
 
     /// Drops all items, those of timers too.
@@ -225,28 +228,29 @@ impl Port {
 }
 
 /// How many of the items are signals.
-fn count_signals(items: &[Item]) -> usize
-    ensures { result ≡ signal_count items.now }
+fn count_signals(items: &HeapCircularBuffer<Item>) -> usize
+    ensures { result ≡ signal_count items.now.items }
 {
     items.iter().filter(|item| item.is_signal()).count()
 }
 
 /// Whether one of the items is that of a timer.
-fn any_of_timer(items: &[Item], timer: TimerNumber) -> bool
-    ensures { result ≡ has_timer items.now timer.0 }
+fn any_of_timer(items: &HeapCircularBuffer<Item>, timer: TimerNumber) -> bool
+    ensures { result ≡ has_timer items.now.items timer.0 }
 {
     items.iter().any(|item| item.is_of_timer(timer))
 }
 
 /// The place of the first item that isn't saved.
-fn place_of_first(items: &[Item], saved: &Saved) -> Option<usize>
-    ensures found { IfSome result (λ place. slice_get items.now place ≡ first_unsaved (saves saved.now) items.now) }
-    ensures in_range { IfSome result (λ place. place < length items.now) }
-    ensures left { IfSome result (λ place. remove items.now place ≡ without_first (saves saved.now) items.now) }
-    ensures none { IfNone result (first_unsaved (saves saved.now) items.now ≡ None) }
-    ensures all_left { IfNone result (without_first (saves saved.now) items.now ≡ items.now) }
+fn place_of_first(items: &HeapCircularBuffer<Item>, saved: &Saved) -> Option<usize>
+    ensures found { IfSome result (λ place. slice_get items.now.items place ≡ first_unsaved (saves saved.now) items.now.items) }
+    ensures in_range { IfSome result (λ place. place < length items.now.items) }
+    ensures left { IfSome result (λ place. remove items.now.items place ≡ without_first (saves saved.now) items.now.items) }
+    ensures none { IfNone result (first_unsaved (saves saved.now) items.now.items ≡ None) }
+    ensures all_left { IfNone result (without_first (saves saved.now) items.now.items ≡ items.now.items) }
 {
-    for (place, item) in items.iter().enumerate() {
+    for place in 0..items.len() {
+        let item = items.get(place)?;
         if !saved.has(item) {
             return Some(place);
         }
@@ -254,13 +258,40 @@ fn place_of_first(items: &[Item], saved: &Saved) -> Option<usize>
     None
 }
 
-/// Appends an item where there is room.
-fn push_in_room(items: &mut Vec<Item>, item: Item)
-    requires { vec_len items.old < vec_capacity items.old }
-    ensures items { items.new.items ≡ items.old.items ++ item ∷ [] }
-    ensures capacity { vec_capacity items.old ≤ vec_capacity items.new }
+/// Puts an item behind the others where there is room.
+fn push_in_room(items: &mut HeapCircularBuffer<Item>, item: Item)
+    requires { length items.old.items < items.old.capacity }
+    ensures { items.new ≡ buffer (items.old.items ++ item ∷ []) items.old.capacity }
 {
-    items.push(item).unwrap();
+    let _full = items.try_push_back(item).is_err();
+}
+
+/// Moves so many items from the front to the back, one after another.
+fn move_to_back(items: &mut HeapCircularBuffer<Item>, count: usize)
+    requires { count ≤ length items.old.items }
+    ensures { items.new ≡ buffer (drop count items.old.items ++ take count items.old.items) items.old.capacity }
+{
+    let _within = items.len();
+    for _moved in 0..count {
+        if let Some(item) = items.pop_front() {
+            push_in_room(items, item);
+        }
+    }
+}
+
+/// Takes the item at a place. Those before it go to the back, and then those behind it, so that all that stay are in
+/// their order again.
+fn take_at(items: &mut HeapCircularBuffer<Item>, place: usize) -> Option<Item>
+    requires { place < length items.old.items }
+    ensures item { result ≡ slice_get items.old.items place }
+    ensures rest { items.new ≡ buffer (remove items.old.items place) items.old.capacity }
+{
+    move_to_back(items, place);
+    let item = items.pop_front();
+    if 0 < place {
+        move_to_back(items, items.len() - place);
+    }
+    item
 }
 
 /// An equal item.
@@ -277,21 +308,29 @@ fn copy_of(item: &Item) -> Result<Item, AllocError>
     }
 }
 
-/// Appends a copy of each item.
-fn copy_to(copies: &mut Vec<Item>, items: &[Item]) -> Result<(), AllocError>
-    ensures items { OnOk result (copies.new.items ≡ copies.old.items ++ items.now) }
-    ensures capacity { OnOk result (vec_capacity copies.old ≤ vec_capacity copies.new) }
+/// Puts a copy of each item behind those that are there, where there is room for all.
+fn copy_to(
+    copies: &mut HeapCircularBuffer<Item>,
+    items: &HeapCircularBuffer<Item>,
+) -> Result<(), AllocError>
+    requires { length copies.old.items + length items.now.items ≤ copies.old.capacity }
+    ensures { OnOk result (copies.new ≡ buffer (copies.old.items ++ items.now.items) copies.old.capacity) }
 {
     for item in items {
-        copies.push(copy_of(item)?)?;
+        push_in_room(copies, copy_of(item)?);
     }
     Ok(())
 }
 
-/// Removes the item of a timer.
-fn remove_timer(items: &mut Vec<Item>, timer: TimerNumber)
-    ensures items { items.new.items ≡ without_timer items.old.items timer.0 }
-    ensures capacity { vec_capacity items.new ≡ vec_capacity items.old }
+/// Removes the item of a timer: each goes from the front to the back but this.
+fn remove_timer(items: &mut HeapCircularBuffer<Item>, timer: TimerNumber)
+    ensures { items.new ≡ buffer (without_timer items.old.items timer.0) items.old.capacity }
 {
-    items.retain(|item| !item.is_of_timer(timer));
+    for _moved in 0..items.len() {
+        if let Some(item) = items.pop_front() {
+            if !item.is_of_timer(timer) {
+                push_in_room(items, item);
+            }
+        }
+    }
 }

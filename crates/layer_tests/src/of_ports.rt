@@ -104,12 +104,12 @@ fn takes(port: &mut Port, names: &[Name], wanted: Option<(Name, i32)>) -> bool {
 
 /// Whether these wait, in this order.
 fn holds(port: &Port, names: &[Name]) -> bool {
-    for (place, item) in port.items().iter().enumerate() {
-        if names.get(place) != Some(&name_of(item)) {
+    for (place, name) in names.iter().enumerate() {
+        if port.get(place).map(name_of) != Some(*name) {
             return false;
         }
     }
-    port.items().len() == names.len()
+    port.get(names.len()).is_none() && port.len() == names.len()
 }
 
 /// Whether a port does what a step says.
@@ -169,6 +169,23 @@ const HAS_TIMERS: [Step; 17] = [
     Step::Counts(0, 0, 1),
 ];
 
+/// One signal has room, again and again.
+const HAS_ROOM_FOR_ONE: [Step; 13] = [
+    Step::Takes(&[], None),
+    Step::Put(0, 0),
+    Step::Full(1),
+    Step::Takes(&[0], None),
+    Step::Takes(&[], Some((0, 0))),
+    Step::Counts(0, 0, 1),
+    Step::Put(1, 1),
+    Step::PutTimer(207),
+    Step::Full(2),
+    Step::Takes(&[1], Some((207, 0))),
+    Step::Takes(&[], Some((1, 1))),
+    Step::Put(2, 2),
+    Step::Holds(&[2]),
+];
+
 /// What waits in the one that is copied.
 const PUTS_FIVE: [Step; 5] = [
     Step::Put(0, 0),
@@ -221,6 +238,77 @@ fn first_other_of_new(alloc: Global, capacity: usize, steps: &[Step]) -> Option<
 fn ports_keep_their_order(rt: HostRuntime) {
     assert_eq!(rt; first_other_of_new(rt.alloc(), 2, &SAVES), None);
     assert_eq!(rt; first_other_of_new(rt.alloc(), 1, &HAS_TIMERS), None);
+    assert_eq!(rt; first_other_of_new(rt.alloc(), 1, &HAS_ROOM_FOR_ONE), None);
+}
+
+/// The names of so many signals and of eight timers.
+fn full_names(signals: Name) -> ArrayVec<Name, 72> {
+    let mut names = ArrayVec::new();
+    for name in 0..signals.min(64) {
+        let _full = names.try_push(name).is_err();
+    }
+    for name in 200..208u8 {
+        let _full = names.try_push(name).is_err();
+    }
+    names
+}
+
+/// Puts what has this name, with its name as the number of a signal.
+fn puts(port: &mut Port, name: Name) -> bool {
+    if name < 200 {
+        does(port, Step::Put(name, i32::from(name)))
+    } else {
+        puts_timer(port, name)
+    }
+}
+
+/// Puts all that have these names.
+fn puts_all(port: &mut Port, names: &[Name]) -> bool {
+    for name in names {
+        if !puts(port, *name) {
+            return false;
+        }
+    }
+    true
+}
+
+/// Whether an item is taken from a place, where those before it are saved, and the others stay in their order. Then it is put again.
+fn takes_from(port: &mut Port, names: &mut ArrayVec<Name, 72>, place: usize) -> bool {
+    let Some(name) = names.get(place).copied() else {
+        return false;
+    };
+    let before = &names.as_slice()[..place.min(names.len())];
+    let taken = takes(port, before, Some((name, i32::from(name))));
+    let _name = names.pop_at(place);
+    let left = holds(port, names.as_slice());
+    let _full = names.try_push(name).is_err();
+    taken && left && puts(port, name) && holds(port, names.as_slice())
+}
+
+/// The first place from which an item isn't taken as it should be, in a full port where eight timers' signals wait, and whose ring goes
+/// round twice.
+fn first_wrong_take(alloc: Global, signals: Name) -> Option<usize> {
+    let mut names = full_names(signals);
+    let mut port = made(alloc, usize::from(signals))?;
+    if !puts_all(&mut port, names.as_slice()) {
+        return Some(0);
+    }
+    let places = names.len();
+    for _round in 0..2 {
+        for place in 0..places {
+            if !takes_from(&mut port, &mut names, place) {
+                return Some(place);
+            }
+        }
+    }
+    None
+}
+
+#[test]
+fn an_item_is_taken_from_each_place(rt: HostRuntime) {
+    assert_eq!(rt; first_wrong_take(rt.alloc(), 1), None);
+    assert_eq!(rt; first_wrong_take(rt.alloc(), 2), None);
+    assert_eq!(rt; first_wrong_take(rt.alloc(), 64), None);
 }
 
 /// A copy; where memory is refused once, one that is asked for again, of what is still as it was.

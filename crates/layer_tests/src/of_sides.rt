@@ -170,21 +170,28 @@ const HAS_FAULTS: [Step; 10] = [
     Step::Hear(0x85, 0x7f, false, None, false),
 ];
 
-const IS_CONGESTED: [Step; 16] = [
+/// What is lost meanwhile is asked for at the end. Asked for again, number and bit are read anew; a fresh start makes them 127 and 1.
+const IS_CONGESTED: [Step; 22] = [
     Step::Tell(EnvSignal::Line(5)),
     Step::Tell(EnvSignal::Withhold(true)),
     Step::Out("LSSU bsn 127 bib 1 fsn 127 fib 1 status SIB false"),
     Step::Hear(0xff, 0x80, true, None, false),
+    Step::Hear(0xff, 0x82, true, None, false),
     Step::Out("FISU bsn 127 bib 1 fsn 127 fib 1 false"),
-    Step::Tell(EnvSignal::Withhold(false)),
-    Step::Out("FISU bsn 0 bib 1 fsn 127 fib 1 false"),
     Step::Tell(EnvSignal::Withhold(true)),
+    Step::Out("FISU bsn 0 bib 0 fsn 127 fib 1 false"),
     Step::Tell(EnvSignal::Fresh),
     Step::Out("FISU bsn 127 bib 1 fsn 127 fib 1 false"),
+    Step::Hear(0xff, 0x80, true, None, false),
+    Step::Hear(0xff, 0x82, true, None, false),
+    Step::Out("FISU bsn 127 bib 1 fsn 127 fib 1 false"),
+    Step::Tell(EnvSignal::Withhold(false)),
+    Step::Out("FISU bsn 0 bib 0 fsn 127 fib 1 false"),
     Step::Tell(EnvSignal::Line(5)),
     Step::Tell(EnvSignal::Line(-1)),
     Step::Tell(EnvSignal::Line(264)),
-    Step::Out("LSSU bsn 127 bib 1 fsn 127 fib 1 status SIB false"),
+    Step::Out("LSSU bsn 0 bib 0 fsn 127 fib 1 status SIB false"),
+    Step::Deliver(0x80),
     Step::Deliver(0x80),
     Step::Report(LinkStatus::InService),
 ];

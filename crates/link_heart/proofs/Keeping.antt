@@ -179,6 +179,9 @@ loss_stays gone a b c h k = record {
 no_loss_joined : (a b c : Half) → LosesNone a b → LosesNone b c → LosesNone a c
 no_loss_joined a b c h k = loss_stays [] a.sender b.sender c.sender h k
 
+one_sent : (none a b c : ℕ) → none + a ≤ b → b ≤ c + 1 → a ≤ c + 1
+one_sent none a b c h k = omega (arith, h, k)
+
 pub kept_law : KeepsUnacknowledged → KeptLaw
 kept_law law = record {
   events = offered_keeps LosesNone no_loss no_loss_joined law.on_signal;
@@ -187,4 +190,6 @@ kept_law law = record {
       (law.on_unit t.side u) (unit_keeps LosesNone no_loss no_loss_joined law.on_signal u t);
   errors = error_keeps LosesNone no_loss no_loss_joined law.on_signal;
   sends = λ t. sym (sent_keeps LosesNone no_loss no_loss_joined law.on_signal t).kept ∙ law.unit_out t.side;
+  one_sent = λ t. one_sent (length {A = Msu} []) (sent t).heart.side.sender.sent (gone t.side).half.sender.sent t.side.sender.sent
+      (sent_keeps LosesNone no_loss no_loss_joined law.on_signal t).sent (law.one_sent t.side);
 }

@@ -40,3 +40,4 @@ pub record KeptLaw : Type 0 where
   pub units : (u : Unit) (t : Heart) → Loses (acknowledged_of t.side u) t.side.sender (unit_taken u t).side.sender
   pub errors : (t : Heart) → Loses [] t.side.sender (error_taken t).side.sender
   pub sends : (t : Heart) → (sent t).heart.side.sender.kept ≡ t.side.sender.kept
+  pub one_sent : (t : Heart) → (sent t).heart.side.sender.sent ≤ t.side.sender.sent + 1

@@ -1,12 +1,13 @@
 -- What a terminal does: each call is one of these steps, on the history of its actors and what it keeps beside them.
-use Rattle.std.specs.Prelude.{ℕ, zero, suc, Bool, true, false, nat_lt, cond, if◌then◌else◌, Option, Some, None, List, [], ◌∷◌, length}
+use Rattle.std.specs.Prelude.{ℕ, zero, suc, ◌&&◌, Bool, true, false, nat_lt, cond, if◌then◌else◌, Option, Some, None, List, [], ◌∷◌, length}
 use Rattle.resend_store.specs.declared.messages.Msu.{Msu}
 use Rattle.su_octets.specs.declared.units.Unit.{Unit}
-use Rattle.link_machine.specs.Ledger.{Ledger, state_of, ask, room, rebased}
+use Rattle.link_machine.specs.Ledger.{Ledger, runs, state_of, refusal_by, ask, room, rebased}
 use Rattle.link_machine.specs.Step.{Answer, Stuck, Says}
 use Rattle.link_machine.specs.declared.event.Event.{Event}
 use Rattle.link_machine.specs.declared.event.Event.TheVariants.{Advance, TakeEnv}
 use Rattle.link_machine.specs.declared.reply.Emitted.{Emitted}
+use Rattle.link_machine.specs.declared.reply.Refusal.{Refusal}
 use Rattle.link_machine.specs.declared.reply.Reply.{Reply}
 use Rattle.link_machine.specs.declared.reply.Reply.TheVariants as reply
 use Rattle.book_rest.specs.declared.turn.Turn.{Turn}
@@ -132,5 +133,15 @@ LOW = 32768
 abbrev pub places : Heart → ℕ
 places t = room t.book (state_of t.book)
 
+-- whether that is to be done: a journal that holds nothing can't be emptied
+abbrev pub is_low : Heart → Bool
+is_low t = nat_lt 0 (length t.book.journal) && nat_lt (places t) LOW
+
 unfoldable pub tidied : Heart → Heart
-tidied t = if nat_lt (places t) LOW then with_book t (rebased t.book) else t
+tidied t = if is_low t then with_book t (rebased t.book) else t
+
+-- ---- ticks
+
+-- why so many ticks can't pass, if they can't
+abbrev pub tick_refusal : ℕ → Heart → Option Refusal
+tick_refusal n t = refusal_by (runs t.book.set) t.book (Advance n)

@@ -1,16 +1,17 @@
 //! A terminal's actors, and what it keeps beside them.
-ghost use Rattle.std.specs.Prelude.{◌≡◌, ◌+◌, ◌<◌, ◌≤◌, [], length, OnOk, OnErr, IfSome};
+ghost use Rattle.std.specs.Prelude.{◌≡◌, ◌+◌, ◌<◌, ◌≤◌, [], true, false, length, None, Some, OnOk, OnErr, IfErr, IfSome};
 ghost use Rattle.su_octets.specs.Whole.{IsWhole};
 ghost use Rattle.link_machine.specs.Ledger.{ask};
 ghost use Rattle.link_machine.specs.declared.event.Event.TheVariants.{Advance};
 ghost use Rattle.link_machine.specs.declared.reply.Reply.TheVariants as reply;
 ghost use Rattle.book_rest.specs.Answered.{answer_by};
+ghost use Rattle.link_side.specs.Laws.{Loses};
 ghost use Rattle.link_side.specs.Limits.{KEPT_MESSAGES};
 ghost use Rattle.link_heart.specs.Offering.{command_event, offer_event};
-ghost use Rattle.link_heart.specs.Machine.{with_book, with_side, heard, rested, offered, all_offered, noted_by, unit_taken, error_taken, told_of, sent, places, tidied};
+ghost use Rattle.link_heart.specs.Machine.{with_book, with_side, heard, rested, offered, all_offered, noted_by, unit_taken, error_taken, told_of, sent, tidied, is_low, tick_refusal};
 
 use crate::commands::{Command, command_number, command_signal};
-use crate::laws::accepted_messages_wait_in_order;
+use crate::laws::{accepted_messages_wait_in_order, unacknowledged_messages_stay};
 use crate::names::{Names, actor_of, notice_signal, notice_values};
 use book_rest::Book;
 use link_machine::Refusal;
@@ -41,8 +42,10 @@ impl Heart {
     pub fn command(&mut self, command: Command) -> Result<(), Refusal>
         ensures answer { answer_by (λ _. reply.Offered) result ≡ (ask self.old.book (command_event self.old.names command)).answer }
         ensures ok { OnOk result (self.new ≡ offered (command_event self.old.names command) self.old) }
+        ensures keeps { Loses [] self.old.side.sender self.new.side.sender }
         ensures err { OnErr result (self.new ≡ self.old) }
     {
+        unacknowledged_messages_stay();
         let actor = command_number(&self.names, command);
         let signal = command_signal(&self.names, command);
         match self.book.offer(actor, signal, &[]) {
@@ -58,13 +61,17 @@ impl Heart {
     ///
     /// # Errors
     ///
-    /// Those of `Book::advance`. Then nothing changes.
+    /// Those that `tick_refusal` tells. Then nothing changes.
     #[tactic(auto, unfolding(crate::specs::Machine::offered))]
     pub fn tick(&mut self, ticks: u64) -> Result<usize, Refusal>
         ensures answer { answer_by reply.Passed result ≡ (ask self.old.book (Advance ticks)).answer }
+        ensures passes { OnOk result (tick_refusal ticks self.old ≡ None) }
+        ensures refuses { IfErr result (λ refusal. tick_refusal ticks self.old ≡ Some refusal) }
         ensures ok { OnOk result (self.new ≡ offered (Advance ticks) self.old) }
+        ensures keeps { Loses [] self.old.side.sender self.new.side.sender }
         ensures err { OnErr result (self.new ≡ self.old) }
     {
+        unacknowledged_messages_stay();
         match self.book.advance(ticks) {
             Ok(passed) => {
                 self.rest();
@@ -72,6 +79,13 @@ impl Heart {
             }
             Err(refusal) => Err(refusal),
         }
+    }
+
+    /// Why so many ticks can't pass now, if they can't: `W1 TooFar`, `W2 ClockFull`, `B8 JournalFull`.
+    pub fn tick_refusal(&self, ticks: u64) -> Option<Refusal>
+        ensures { result ≡ tick_refusal ticks self.now }
+    {
+        self.book.advance_refusal(ticks)
     }
 
     /// Makes an offer to an actor, which is dropped where the book refuses it, and lets the actors come to rest.
@@ -124,8 +138,11 @@ impl Heart {
     pub fn send_unit(&mut self) -> Option<Unit>
         ensures unit { result ≡ (sent self.old).unit }
         ensures heart { self.new ≡ (sent self.old).heart }
+        ensures kept { self.new.side.sender.kept ≡ self.old.side.sender.kept }
+        ensures one_sent { self.new.side.sender.sent ≤ self.old.side.sender.sent + 1 }
         ensures whole { IfSome result IsWhole }
     {
+        unacknowledged_messages_stay();
         match self.side.unit_out() {
             Some(UnitOut { unit, offer }) => {
                 self.tell(offer);
@@ -144,16 +161,25 @@ impl Heart {
         }
     }
 
-    /// Makes room in the journal where fewer than [`LOW`] places of it are free.
-    #[tactic(auto, unfolding(crate::specs::Machine::tidied))]
+    /// Makes room in the journal where fewer than [`LOW`] places of it are free and it holds events.
+    #[tactic(auto, unfolding(crate::specs::Machine::tidied, link_machine::specs::Ledger::rebased))]
     pub fn tidy(&mut self) -> Result<(), AllocError>
         ensures ok { OnOk result (self.new ≡ tidied self.old) }
+        ensures room { OnOk result (is_low self.new ≡ false) }
+        ensures side { self.new.side ≡ self.old.side }
         ensures err { OnErr result (self.new ≡ self.old) }
-        ensures low { OnErr result (places self.old < LOW) }
+        ensures low { OnErr result (is_low self.old ≡ true) }
     {
-        if self.book.room() < LOW {
+        if self.is_low() {
             self.book.rebase()?;
         }
         Ok(())
+    }
+
+    /// Whether the journal holds events, and fewer than [`LOW`] places of it are free.
+    fn is_low(&self) -> bool
+        ensures { result ≡ is_low self.now }
+    {
+        !self.book.journal().is_empty() && self.book.room() < LOW
     }
 }

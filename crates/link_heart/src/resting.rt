@@ -37,7 +37,7 @@ impl Heart {
     fn empty_ring(&mut self)
         ensures { self.new ≡ emptied self.old }
     {
-        let mut left = self.book.waiting().len();
+        let mut left = self.book.waiting();
         while left > 0 && self.take_one() {
             left -= 1;
         }

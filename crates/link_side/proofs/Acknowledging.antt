@@ -11,7 +11,7 @@ use Rattle.su_octets.specs.declared.units.Unit.TheVariants as unit
 use Rattle.link_side.specs.Half.{Half}
 use Rattle.link_side.specs.Judging.{judged, by_stores, through, left_aside, Stored, stored, refused, taken, acknowledged, is_abnormal}
 use Rattle.link_side.specs.Laws.{Loses, KeepsUnacknowledged, acknowledged_messages, acknowledged_by, acknowledged_of}
-use Rattle.link_side.proofs.Keeping.{same_loses, effect-loses, gone-kept, reported-sender, kept_if}
+use Rattle.link_side.proofs.Keeping.{same_loses, effect-loses, gone-kept, gone-sent, reported-sender, kept_if}
 use Rattle.std.proofs.lemmas.Bool.{ltb-false as not_more}
 
 -- ---- lists
@@ -118,5 +118,6 @@ keeps_unacknowledged = record {
   on_unit = λ h u. (judged-takes h u).loses;
   waits = λ h u. (judged-takes h u).waits;
   unit_out = gone-kept;
+  one_sent = gone-sent;
   report = reported-sender;
 }

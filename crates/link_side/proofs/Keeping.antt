@@ -1,5 +1,5 @@
 -- Which calls take nothing from the messages that are kept to send, and which leave those that wait to be handed out.
-use Rattle.std.proofs.Common.{◌≡◌, ℤ, ◌+◌, ◌≤◌, nat_lt, Bool, true, false, Option, Some, None, List, [], length, slice_get, refl, sym, ap, arith}
+use Rattle.std.proofs.Common.{◌≡◌, ℕ, ℤ, ◌+◌, ◌≤◌, nat_lt, Bool, true, false, Option, Some, None, List, [], length, slice_get, refl, sym, ap, arith}
 use Rattle.std.specs.Prelude.{if◌then◌else◌}
 use Rattle.resend_store.specs.declared.messages.Msu.{Msu}
 use Rattle.resend_store.specs.declared.messages.Mode.{Mode}
@@ -120,6 +120,66 @@ unfolding gone
 gone-kept h = elim h.busy
     as (λ b. (if b then status_gone (record h { busy = false }) BUSY_CODE else gone_by h h.line).half.sender.kept ≡ h.sender.kept)
     [ true ↦ refl | false ↦ gone_by-kept h h.line ]
+
+-- ---- how many count as sent
+
+at_most : (n m : ℕ) → n ≡ m → n ≤ m
+at_most n m h = omega (arith, h)
+
+no_more : (n : ℕ) → n ≤ n + 1
+no_more n = omega arith
+
+same_if : (b : Bool) (x y : Window) (n : ℕ) → x.sent ≡ n → y.sent ≡ n → (if b then x else y).sent ≡ n
+same_if true x y n p q = p
+same_if false x y n p q = q
+
+most_if : (b : Bool) (x y : Sending) (n : ℕ) → x.left.sent ≤ n → y.left.sent ≤ n → (if b then x else y).left.sent ≤ n
+most_if true x y n p q = p
+most_if false x y n p q = q
+
+after_new-sent : (m : Mode) (w : Window) → (after_new m w).sent ≡ w.sent
+after_new-sent Basic w = refl
+after_new-sent Cyclic w = same_if (at_limit w) (round w) w w.sent refl refl
+
+sends_new-sent : (w : Window) → (sends_new w).left.sent ≤ w.sent + 1
+sends_new-sent w = at_most (sends_new w).left.sent (w.sent + 1) (after_new-sent w.mode (record w { sent = w.sent + 1 }))
+
+ordinary-sent : (w : Window) → (next_ordinary w).left.sent ≤ w.sent + 1
+ordinary-sent w = most_if (may_send w) (sends_new w) (if nat_lt 0 w.sent then cycles w else fill_in w) (w.sent + 1) (sends_new-sent w)
+    (most_if (nat_lt 0 w.sent) (cycles w) (fill_in w) (w.sent + 1) (no_more w.sent) (no_more w.sent))
+
+basic-sent : (w : Window) → (next_basic w).left.sent ≤ w.sent + 1
+basic-sent w = most_if (nat_lt 0 w.again) (repeats w) (if may_send w then sends_new w else fill_in w) (w.sent + 1) (no_more w.sent)
+    (most_if (may_send w) (sends_new w) (fill_in w) (w.sent + 1) (sends_new-sent w) (no_more w.sent))
+
+forced-sent : (w : Window) → (next_forced w).left.sent ≤ w.sent + 1
+forced-sent w = most_if (nat_lt 0 w.again) (repeats w)
+    (if at_limit w then repeats (round w) else next_ordinary (record w { forced = false })) (w.sent + 1) (no_more w.sent)
+    (most_if (at_limit w) (repeats (round w)) (next_ordinary (record w { forced = false })) (w.sent + 1) (no_more w.sent)
+    (ordinary-sent (record w { forced = false })))
+
+next_by-sent : (m : Mode) (w : Window) → (next_by m w).left.sent ≤ w.sent + 1
+next_by-sent Basic w = basic-sent w
+next_by-sent Cyclic w =
+    most_if w.forced (next_forced w) (next_ordinary w) (w.sent + 1) (forced-sent w) (ordinary-sent w)
+
+gives-sent : (w : Window) → (gives w).left.sent ≤ w.sent + 1
+unfolding gives
+gives-sent w = next_by-sent w.mode w
+
+gone_by-sent : (h : Half) (line : Option LineKind) → (gone_by h line).half.sender.sent ≤ h.sender.sent + 1
+gone_by-sent h None = no_more h.sender.sent
+gone_by-sent h (Some (kind.Status code)) = no_more h.sender.sent
+gone_by-sent h (Some kind.FillIn) = no_more h.sender.sent
+gone_by-sent h (Some kind.Messages) = gives-sent h.sender
+
+pub gone-sent : (h : Half) → (gone h).half.sender.sent ≤ h.sender.sent + 1
+unfolding gone
+gone-sent h = elim h.busy
+    as (λ b. (if b then status_gone (record h { busy = false }) BUSY_CODE else gone_by h h.line).half.sender.sent ≤ h.sender.sent + 1)
+    [ true ↦ no_more h.sender.sent | false ↦ gone_by-sent h h.line ]
+
+-- ---- what waits to be handed out
 
 gone_by-messages : (h : Half) (line : Option LineKind) → (gone_by h line).half.messages ≡ h.messages
 gone_by-messages h None = refl

@@ -1,7 +1,8 @@
 -- What the signals that actors send to the environment do.
 use Rattle.std.specs.Prelude.{ℕ, ℤ, pos, negsuc, ◌-◌, ◌==◌, nat_lt, Bool, true, false, if◌then◌else◌, Option, Some, None, List, [], ◌∷◌, ◌++◌, length, drop}
 use Rattle.resend_store.specs.Window.{refreshed}
-use Rattle.resend_store.specs.Intake.{first_intake}
+use Rattle.resend_store.specs.Intake.{Intake, first_intake}
+use Rattle.link_side.specs.declared.signals.Backward.{Backward}
 use Rattle.link_side.specs.declared.signals.EnvSignal.{EnvSignal}
 use Rattle.link_side.specs.declared.signals.EnvSignal.TheVariants as signal
 use Rattle.link_side.specs.declared.signals.LineKind.{LineKind}
@@ -12,17 +13,21 @@ use Rattle.link_side.specs.Limits.{KEPT_STATUSES}
 use Rattle.link_side.specs.Faults.{no_faults}
 use Rattle.link_side.specs.Half.{Half}
 
--- a number that is withheld becomes that of a receiver that has accepted nothing
-abbrev pub renewed_number : Option ℕ → Option ℕ
-renewed_number (Some number) = Some 127
-renewed_number None = None
+-- the number of the message that a receiver accepted last, and its bit in force
+abbrev pub backward_of : Intake → Backward
+backward_of r = record { bsn = r.last; bib = r.bib }
+
+-- those that are withheld become those of a receiver that has accepted nothing
+abbrev pub renewed_backward : Option Backward → Option Backward
+renewed_backward (Some b) = Some (record { bsn = 127; bib = 1 })
+renewed_backward None = None
 
 -- The link is aligned anew: both stores begin anew, and units before that tell of no fault.
 unfoldable pub renewed : Half → Half
 renewed h = record h {
   sender = refreshed h.sender;
   receiver = first_intake h.receiver.mode;
-  withheld = renewed_number h.withheld;
+  withheld = renewed_backward h.withheld;
   faults = no_faults;
 }
 
@@ -58,9 +63,9 @@ latest statuses = drop (length statuses - KEPT_STATUSES) statuses
 unfoldable pub told : LinkStatus → Half → Half
 told s h = record h { statuses = latest (h.statuses ++ s ∷ []) }
 
--- While it is withheld the number stays that of the message accepted last when that began.
+-- While acknowledgement is withheld, number and bit stay as they are when that is asked for, whatever comes (Q.703, 9).
 abbrev pub withheld_by : Bool → Half → Half
-withheld_by true h = record h { withheld = Some h.receiver.last }
+withheld_by true h = record h { withheld = Some (backward_of h.receiver) }
 withheld_by false h = record h { withheld = None }
 
 unfoldable pub effect : EnvSignal → Half → Half

@@ -6,10 +6,12 @@ use Rattle.su_octets.specs.declared.units.Head.{Head}
 use Rattle.su_octets.specs.declared.units.Unit.{Unit}
 use Rattle.su_octets.specs.declared.units.Unit.TheVariants as unit
 use Rattle.link_side.specs.declared.offers.UnitOut.{UnitOut}
+use Rattle.link_side.specs.declared.signals.Backward.{Backward}
 use Rattle.link_side.specs.declared.signals.LineKind.{LineKind}
 use Rattle.link_side.specs.declared.signals.LineKind.TheVariants as kind
 use Rattle.link_side.specs.Limits.{BUSY_CODE}
 use Rattle.link_side.specs.Half.{Half}
+use Rattle.link_side.specs.Effects.{backward_of}
 use Rattle.link_side.specs.Offers.{message_sent}
 
 -- what a sender gives next
@@ -20,13 +22,14 @@ gives w = next w
 unfoldable pub idle_fsn : Window → ℕ
 idle_fsn w = (fill_in w).unit.fsn
 
--- the backward number that goes out: that of the message accepted last, or the one that is withheld at
-abbrev pub bsn_out : Half → ℕ
-bsn_out h = unwrap_or h.withheld h.receiver.last
+-- The backward number and bit that go out: those of the receiver, or, while acknowledgement is withheld, those that were the receiver's
+-- as that began.
+abbrev pub backward_out : Half → Backward
+backward_out h = unwrap_or h.withheld (backward_of h.receiver)
 
--- The head of a unit around the sender's number and bit; the backward bit is always the receiver's.
+-- the head of a unit around the sender's number and bit
 abbrev pub head_with : Half → ℕ → ℕ → Head
-head_with h fsn fib = record { bsn = bsn_out h; bib = h.receiver.bib; fsn = fsn; fib = fib }
+head_with h fsn fib = record { bsn = (backward_out h).bsn; bib = (backward_out h).bib; fsn = fsn; fib = fib }
 
 -- that of a unit which the sender has no part in
 unfoldable pub idle_head : Half → Head

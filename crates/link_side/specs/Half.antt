@@ -1,5 +1,5 @@
 -- What a signalling link terminal keeps beside its actors and its line.
-use Rattle.std.specs.Prelude.{ℕ, Bool, false, Option, None, List, []}
+use Rattle.std.specs.Prelude.{◌<◌, Bool, false, Option, None, List, []}
 use Rattle.resend_store.specs.Window.{Window, start}
 use Rattle.resend_store.specs.Intake.{Intake, first_intake}
 use Rattle.resend_store.specs.declared.messages.Mode.{Mode}
@@ -7,7 +7,13 @@ use Rattle.resend_store.specs.declared.messages.Msu.{Msu}
 use Rattle.link_side.specs.declared.faults.Fault.{Fault}
 use Rattle.link_side.specs.declared.signals.LineKind.{LineKind}
 use Rattle.link_side.specs.declared.signals.LinkStatus.{LinkStatus}
+use Rattle.link_side.specs.declared.signals.Backward.{Backward}
 use Rattle.link_side.specs.Faults.{no_faults}
+
+-- a number and a bit as units have them
+pub record IsBackward (b : Backward) : Type 0 where
+  pub number : b.bsn < 128
+  pub indicator : b.bib < 2
 
 pub record Half : Type 0 where
   -- the messages to send, and the numbers that they go out with
@@ -16,8 +22,8 @@ pub record Half : Type 0 where
   pub receiver : Intake
   -- whether fill-in and message signal units go through both
   pub take : Bool
-  -- the backward sequence number that goes out in place of the one accepted last
-  pub withheld : Option ℕ
+  -- the backward sequence number and indicator bit that go out in place of the receiver's
+  pub withheld : Option Backward
   -- what goes out; nothing before that was said for the first time
   pub line : Option LineKind
   -- whether one unit that tells of congestion goes out first

@@ -1,7 +1,7 @@
 -- What the fields of a side stand for, and keep.
-use Rattle.std.specs.Prelude.{◌<◌, IfSome}
+use Rattle.std.specs.Prelude.{IfSome}
 use Rattle.link_side.specs.declared.side.Side.TheInside.{Inside}
-use Rattle.link_side.specs.Half.{Half}
+use Rattle.link_side.specs.Half.{Half, IsBackward}
 
 abbrev pub half_of : Inside → Half
 half_of s = record {
@@ -19,4 +19,4 @@ half_of s = record {
 }
 
 abbrev pub IsSide : Inside → Type 0
-IsSide s = IfSome s.withheld (λ number. number < 128)
+IsSide s = IfSome s.withheld IsBackward

@@ -5,15 +5,18 @@ use Rattle.resend_store.specs.declared.messages.Msu.{Msu}
 use Rattle.resend_store.specs.declared.messages.Verdict.{Verdict}
 use Rattle.resend_store.specs.declared.messages.Verdict.TheVariants.{Accept, Discard, Nack}
 use Rattle.resend_store.specs.declared.refusals.UnitError.{UnitError}
+use Rattle.su_octets.specs.Frame.{head_of}
 use Rattle.su_octets.specs.declared.units.Head.{Head}
 use Rattle.su_octets.specs.declared.units.Unit.{Unit}
 use Rattle.su_octets.specs.declared.units.Unit.TheVariants as unit
+use Rattle.link_side.specs.declared.offers.UnitOut.{UnitOut}
+use Rattle.link_side.specs.declared.signals.Backward.{Backward}
 use Rattle.link_side.specs.declared.signals.EnvSignal.{EnvSignal}
 use Rattle.link_side.specs.declared.signals.EnvSignal.TheVariants as signal
 use Rattle.link_side.specs.declared.signals.Report.{Report}
 use Rattle.link_side.specs.declared.signals.Report.TheVariants as report
 use Rattle.link_side.specs.Half.{Half}
-use Rattle.link_side.specs.Effects.{effect}
+use Rattle.link_side.specs.Effects.{effect, backward_of}
 use Rattle.link_side.specs.Judging.{hears, is_abnormal, judged}
 use Rattle.link_side.specs.Going.{gone}
 use Rattle.link_side.specs.Reporting.{reported}
@@ -40,12 +43,13 @@ acknowledged_of h (unit.Msu head sio sif) = acknowledged_by h head
 acknowledged_of h (unit.Lssu head status second) = []
 
 -- Of what is kept to send a unit from the far side takes away the messages that it acknowledges, and those that wait to be sent go on
--- waiting; a signal, a unit that goes out and a report take nothing.
+-- waiting; a signal, a unit that goes out and a report take nothing. By a unit that goes out one more at most counts as sent.
 pub record KeepsUnacknowledged : Type 0 where
   pub on_signal : (s : EnvSignal) (h : Half) → Loses [] h.sender (effect s h).sender
   pub on_unit : (h : Half) (u : Unit) → Loses (acknowledged_of h u) h.sender (judged h u).half.sender
   pub waits : (h : Half) (u : Unit) → waiting (judged h u).half.sender ≡ waiting h.sender
   pub unit_out : (h : Half) → (gone h).half.sender.kept ≡ h.sender.kept
+  pub one_sent : (h : Half) → (gone h).half.sender.sent ≤ h.sender.sent + 1
   pub report : (h : Half) → (reported h).half.sender ≡ h.sender
 
 unfoldable pub is_accept : Result Verdict UnitError → Bool
@@ -112,6 +116,20 @@ handed h (c ∷ cs) = handed_by h c ++ handed (after_call h c) cs
 -- What waited and what was accepted is what was handed out, then what waits now: none lost, none twice, all in order.
 abbrev pub HandsOutInOrder : Type 0
 HandsOutInOrder = (h : Half) (cs : List Call) → h.messages ++ accepted h cs ≡ handed h cs ++ (after h cs).messages
+
+-- a unit that goes out, if one does, has this backward number and bit
+abbrev pub Tells : Backward → Option UnitOut → Type 0
+Tells b None = Prim.Unit {0}
+Tells b (Some out) = ((head_of out.unit).bsn ≡ b.bsn) × ((head_of out.unit).bib ≡ b.bib)
+
+-- While acknowledgement is withheld, each unit that goes out tells of the number and the bit of when that was asked for, whatever was heard
+-- since: units that come don't change what is withheld.
+pub record Withholds : Type 0 where
+  pub begins : (h : Half) → (effect (signal.Withhold true) h).withheld ≡ Some (backward_of h.receiver)
+  pub on_unit : (h : Half) (u : Unit) → (judged h u).half.withheld ≡ h.withheld
+  pub unit_out : (h : Half) → (gone h).half.withheld ≡ h.withheld
+  pub tells : (h : Half) (b : Backward) → h.withheld ≡ Some b → Tells b (gone h).out
+  pub ends : (h : Half) → (effect (signal.Withhold false) h).withheld ≡ None
 
 -- Once a busy status was asked for, it goes out, and everything is as before: so it goes out once.
 abbrev pub BusyGoesOutOnce : Type 0

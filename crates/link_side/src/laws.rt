@@ -1,5 +1,5 @@
 //! Laws over every list of calls.
-ghost use Rattle.link_side.specs.Laws.{KeepsUnacknowledged, HandsOutInOrder, BusyGoesOutOnce};
+ghost use Rattle.link_side.specs.Laws.{KeepsUnacknowledged, HandsOutInOrder, BusyGoesOutOnce, Withholds};
 
 /// Of the messages that are kept to send a unit from the far side takes away those that it acknowledges, the oldest of those that
 /// were sent. Nothing else takes any but `retrieve`, which hands out what stands behind the number that it is given or, without one,
@@ -12,6 +12,12 @@ pub fn unacknowledged_messages_are_kept()
 /// accepted ones: none is lost, none comes twice, and their order stays.
 pub fn accepted_messages_are_handed_out_in_order()
     ensures { HandsOutInOrder }
+{}
+
+/// From when acknowledgement is withheld until that ends, each unit that goes out has the backward number and bit of when it began,
+/// whatever comes: a message that is accepted then isn't acknowledged, and one that is lost isn't asked for.
+pub fn withheld_acknowledgement_stays()
+    ensures { Withholds }
 {}
 
 /// A busy status that is asked for goes out once, and then what went out before.

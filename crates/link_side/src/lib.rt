@@ -15,8 +15,9 @@ mod signals;
 pub use faults::Fault;
 pub use hearing::Offers;
 pub use laws::{
-    accepted_messages_are_handed_out_in_order, busy_goes_out_once, unacknowledged_messages_are_kept,
+    accepted_messages_are_handed_out_in_order, busy_goes_out_once,
+    unacknowledged_messages_are_kept, withheld_acknowledgement_stays,
 };
 pub use offers::{Notice, Offer, Party, UnitOut, error_offers};
 pub use side::Side;
-pub use signals::{BUSY, EnvSignal, LineKind, LinkStatus, MESSAGES, Report, STATUSES};
+pub use signals::{BUSY, Backward, EnvSignal, LineKind, LinkStatus, MESSAGES, Report, STATUSES};

@@ -2,11 +2,12 @@
 ghost use Rattle.std.specs.Prelude.{◌≡◌, ◌<◌, IfSome};
 ghost use Rattle.resend_store.specs.Messages.{IsMessage};
 ghost use Rattle.su_octets.specs.Whole.{IsWhole, IsWholeHead};
-ghost use Rattle.link_side.specs.Going.{gives, bsn_out, head_with, idle_head, quiet, filled, status_gone, sender_gone, gone};
+ghost use Rattle.link_side.specs.Half.{IsBackward};
+ghost use Rattle.link_side.specs.Going.{gives, backward_out, head_with, idle_head, quiet, filled, status_gone, sender_gone, gone};
 
 use crate::offers::{Notice, Offer, Party, UnitOut};
 use crate::side::Side;
-use crate::signals::{BUSY, LineKind};
+use crate::signals::{BUSY, Backward, LineKind};
 use resend_store::{Msu, Outgoing, Sender};
 use su_octets::{Head, Unit};
 
@@ -58,22 +59,18 @@ impl Side {
         ensures value { result ≡ head_with self.now fsn fib }
         ensures whole { IsWholeHead result }
     {
-        Head {
-            bsn: self.bsn_out(),
-            bib: self.receiver.bib(),
-            fsn,
-            fib,
-        }
+        let Backward { bsn, bib } = self.backward_out();
+        Head { bsn, bib, fsn, fib }
     }
 
-    /// The backward number that goes out.
-    fn bsn_out(&self) -> u8
-        ensures value { result ≡ bsn_out self.now }
-        ensures within { result < 128 }
+    /// The backward number and bit that go out.
+    fn backward_out(&self) -> Backward
+        ensures value { result ≡ backward_out self.now }
+        ensures whole { IsBackward result }
     {
         match self.withheld {
-            Some(number) => number,
-            None => self.receiver.bsn(),
+            Some(backward) => backward,
+            None => self.backward(),
         }
     }
 

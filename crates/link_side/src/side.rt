@@ -3,14 +3,14 @@ ghost use Rattle.std.specs.Prelude.{◌≡◌, ◌<◌, ◌≤◌, ◌↔◌, �
 ghost use Rattle.std.specs.Option.{option_copied};
 ghost use Rattle.resend_store.specs.Limits.{MOST_WAITING, MOST_KEPT};
 ghost use Rattle.resend_store.specs.Messages.{IsMessage};
-ghost use Rattle.resend_store.specs.Window.{waiting, with_put, retrieved, emptied, count_known};
-ghost use Rattle.link_side.specs.Effects.{effect, renewed, directed, kind_named, kind_by, is_busy_named, withheld_by, told, latest};
-ghost use Rattle.link_side.specs.Half.{first_half};
+ghost use Rattle.resend_store.specs.Window.{IsWindow, waiting, with_put, retrieved, emptied, count_known};
+ghost use Rattle.link_side.specs.Effects.{effect, backward_of, renewed, directed, kind_named, kind_by, is_busy_named, withheld_by, told, latest};
+ghost use Rattle.link_side.specs.Half.{IsBackward, first_half};
 ghost use Rattle.link_side.specs.Limits.{KEPT_MESSAGES};
 ghost use Rattle.link_side.specs.Reporting.{reported};
 
 use crate::faults::LastThree;
-use crate::signals::{BUSY, EnvSignal, LineKind, LinkStatus, MESSAGES, Report, STATUSES};
+use crate::signals::{BUSY, Backward, EnvSignal, LineKind, LinkStatus, MESSAGES, Report, STATUSES};
 use kept_queue::KeptQueue;
 use resend_store::{Mode, Msu, PutError, Receiver, RetrieveError, Sender};
 use std::alloc::{AllocError, Global};
@@ -25,8 +25,8 @@ pub struct Side {
     pub(crate) sender: Sender,
     pub(crate) receiver: Receiver,
     pub(crate) take: bool,
-    /// The backward number that goes out in place of the receiver's.
-    pub(crate) withheld: Option<u8>,
+    /// The backward number and bit that go out in place of the receiver's.
+    pub(crate) withheld: Option<Backward>,
     pub(crate) line: Option<LineKind>,
     /// Whether one unit of status 'busy' goes out first.
     pub(crate) busy: bool,
@@ -139,7 +139,8 @@ impl Side {
 
     /// How many messages are kept to send: unacknowledged and waiting ones.
     pub fn held(&self) -> usize
-        ensures { result ≡ length self.now.sender.kept }
+        ensures value { result ≡ length self.now.sender.kept }
+        ensures window { IsWindow self.now.sender }
     {
         self.sender.held()
     }
@@ -177,6 +178,7 @@ impl Side {
     #[tactic(auto, unfolding(crate::specs::Reporting::reported))]
     pub fn report(&mut self) -> Option<Report>
         ensures report { result ≡ (reported self.old).report }
+        ensures sender { self.new.sender ≡ self.old.sender }
         ensures half { self.new ≡ (reported self.old).half }
     {
         match self.messages.pop() {
@@ -211,7 +213,7 @@ impl Side {
         self.receiver.fresh();
         self.faults = LastThree::new();
         if self.withheld.is_some() {
-            self.withheld = Some(127);
+            self.withheld = Some(self.backward());
         }
     }
 
@@ -228,11 +230,22 @@ impl Side {
         }
     }
 
-    /// Keeps the backward number where it is, or lets it follow the receiver's again.
+    /// Keeps the backward number and bit as they are, or lets them follow the receiver's again.
     fn withhold(&mut self, on: bool)
         ensures { self.new ≡ withheld_by on self.old }
     {
-        self.withheld = if on { Some(self.receiver.bsn()) } else { None };
+        self.withheld = if on { Some(self.backward()) } else { None };
+    }
+
+    /// The receiver's number and bit.
+    pub(crate) fn backward(&self) -> Backward
+        ensures value { result ≡ backward_of self.now.receiver }
+        ensures whole { IsBackward result }
+    {
+        Backward {
+            bsn: self.receiver.bsn(),
+            bib: self.receiver.bib(),
+        }
     }
 
     /// One more status waits; where there are too many the oldest gives way.

@@ -14,14 +14,15 @@ pub const BUSY: u8 = 5;
 /// A signal of an actor to the environment of its link.
 #[derive(Clone, Copy, Debug, PartialEq, Eq)]
 pub enum EnvSignal {
-    /// Both stores begin anew: the link is aligned again (Q.703, 7). A number that is withheld becomes 127.
+    /// Both stores begin anew: the link is aligned again (Q.703, 7). A number and a bit that are withheld become 127 and 1.
     Fresh,
     /// Whether fill-in and message signal units go through the stores from now on.
     Take(bool),
     /// What goes out from now on: link status signal units with the code 0 to 4; 5 one with that code, and then as before; 8
     /// fill-in units; 9 what the sender gives. Other numbers change nothing.
     Line(i32),
-    /// Whether the backward sequence number stays where it is from now on (Q.703, 9). The indicator bit moves on.
+    /// Whether acknowledgement is withheld from now on: the backward sequence number and the backward indicator bit stay as they are,
+    /// whatever comes (Q.703, 9). What fell due meanwhile shows as it ends.
     Withhold(bool),
     /// The link is in service.
     InServiceNow,
@@ -31,6 +32,15 @@ pub enum EnvSignal {
     RemoteOut,
     /// It is back.
     RemoteBack,
+}
+
+/// What a unit says of the other direction: which message was accepted last, and by its bit whether one was lost (Q.703, 5.2).
+#[derive(Clone, Copy, Debug, PartialEq, Eq)]
+pub struct Backward {
+    /// The backward sequence number, 0 to 127.
+    pub bsn: u8,
+    /// The backward indicator bit, 0 or 1.
+    pub bib: u8,
 }
 
 /// What goes out on the line, one unit after another.

@@ -74,11 +74,18 @@ impl Link {
         self.wheel.clock()
     }
 
-    /// What waits for the environment, what has waited longest first.
-    pub fn waiting(&self) -> &[Emitted]
-        ensures { result.now ≡ self.now.ring.items }
+    /// How many signals wait for the environment.
+    pub fn waiting(&self) -> usize
+        ensures { result ≡ length self.now.ring.items }
     {
-        self.ring.items()
+        self.ring.len()
+    }
+
+    /// The signal that waits for the environment at a place: 0 is that of the one that has waited longest.
+    pub fn waiting_at(&self, place: usize) -> Option<&Emitted>
+        ensures { option_copied result ≡ slice_get self.now.ring.items place }
+    {
+        self.ring.get(place)
     }
 
     /// How many turns have begun.

@@ -116,7 +116,7 @@ impl Link {
     pub fn take_refusal(&self) -> Option<Refusal>
         ensures { (set : PlainDraft) → result ≡ refuses set self.now TakeEnv }
     {
-        if self.ring.items().is_empty() {
+        if self.ring.len() == 0 {
             Some(Refusal::Empty)
         } else {
             None

@@ -1,10 +1,12 @@
 //! What waits for the environment.
 
-ghost use Rattle.std.specs.Prelude.{◌≡◌, ◌+◌, ◌<◌, ◌≤◌, ◌∷◌, ◌++◌, [], length, vec_len, vec_capacity, IfOk, IfSome, IfNone, OnOk};
+ghost use Rattle.std.specs.Prelude.{◌≡◌, ◌∷◌, [], length, slice_get, IfOk, IfSome, IfNone};
+ghost use Rattle.std.specs.Option.{option_copied};
 ghost use Rattle.link_machine.specs.Core.{Ring as Waiting};
 ghost use Rattle.link_machine.specs.Effects.{has_room, with_emitted};
 ghost use Rattle.link_machine.specs.Step.{tail_of};
 
+use circular_buffer::HeapCircularBuffer;
 use link_machine::Emitted;
 use std::alloc::{AllocError, Global};
 use std::marker::Model;
@@ -14,19 +16,15 @@ use turn_code::copied_values;
 /// After `new` only `copy` takes memory.
 #[derive(Drop)]
 pub struct Ring {
-    capacity: usize,
-    items: Vec<Emitted>,
+    items: HeapCircularBuffer<Emitted>,
 }
 
 impl Model for Ring {
-    ghost use Rattle.std.specs.Prelude.{◌≤◌, length, vec_capacity};
     ghost use Rattle.link_machine.specs.Core.{Ring as Waiting};
 
     ghost Value = { Waiting };
 
-    ghost view = { λ r. record { capacity = r.capacity; items = r.items.items } };
-
-    ghost invariant = { λ r. (length r.items.items ≤ r.capacity) × (r.capacity ≤ vec_capacity r.items) };
+    ghost view = { λ r. record { capacity = r.items.capacity; items = r.items.items } };
 }
 
 impl Ring {
@@ -35,32 +33,36 @@ impl Ring {
         ensures { IfOk result (λ ring. ring ≡ record { capacity = capacity; items = [] }) }
     {
         Ok(Ring {
-            capacity,
-            items: Vec::with_capacity(alloc, capacity)?,
+            items: HeapCircularBuffer::with_capacity(alloc, capacity)?,
         })
     }
 
-    /// The signals, the one that has waited longest first.
-    pub fn items(&self) -> &[Emitted]
-        ensures { result.now ≡ self.now.items }
+    /// How many signals there are.
+    pub(crate) fn len(&self) -> usize
+        ensures { result ≡ length self.now.items }
     {
-        self.items.as_slice()
+        self.items.len()
+    }
+
+    /// The signal at a place: 0 is that of the one that has waited longest.
+    pub(crate) fn get(&self, place: usize) -> Option<&Emitted>
+        ensures { option_copied result ≡ slice_get self.now.items place }
+    {
+        self.items.get(place)
     }
 
     /// Whether there is room for one more.
     pub(crate) fn has_room(&self) -> bool
         ensures { result ≡ has_room self.now }
     {
-        self.items.len() < self.capacity
+        self.items.len() < self.items.capacity()
     }
 
     /// Puts a signal behind the others, where there is room.
     pub(crate) fn put(&mut self, emitted: Emitted)
         ensures { self.new ≡ with_emitted self.old emitted }
     {
-        if self.items.len() < self.capacity {
-            push_in_room(&mut self.items, emitted);
-        }
+        let _full = self.items.try_push_back(emitted).is_err();
     }
 
     /// Takes the signal that has waited longest.
@@ -69,10 +71,7 @@ impl Ring {
         ensures first { IfSome result (λ x. self.old.items ≡ x ∷ self.new.items) }
         ensures none { IfNone result (self.old.items ≡ []) }
     {
-        if self.items.is_empty() {
-            return None;
-        }
-        Some(self.items.remove(0))
+        self.items.pop_front()
     }
 
     /// An equal ring.
@@ -80,24 +79,12 @@ impl Ring {
         ensures { IfOk result (λ ring. ring ≡ self.now) }
     {
         let alloc = *self.items.allocator();
-        let mut items = Vec::with_capacity(alloc, self.capacity)?;
+        let mut items = HeapCircularBuffer::with_capacity(alloc, self.items.capacity())?;
         for emitted in &self.items {
-            items.push(copied(emitted))?;
+            let _full = items.try_push_back(copied(emitted)).is_err();
         }
-        Ok(Ring {
-            capacity: self.capacity,
-            items,
-        })
+        Ok(Ring { items })
     }
-}
-
-/// Appends a signal where there is room.
-fn push_in_room(items: &mut Vec<Emitted>, emitted: Emitted)
-    requires { vec_len items.old < vec_capacity items.old }
-    ensures items { items.new.items ≡ items.old.items ++ emitted ∷ [] }
-    ensures capacity { vec_capacity items.old ≤ vec_capacity items.new }
-{
-    items.push_reserved(emitted);
 }
 
 /// The same signal once more. It takes no memory.

@@ -1,5 +1,5 @@
 -- What octets do to the messages that wait to be handed out.
-use Rattle.std.proofs.Common.{◌≡◌, ℕ, nat_lt, Bool, true, false, List, ◌++◌, refl, sym, ap, ◌∙◌, append-nil, append_assoc}
+use Rattle.std.proofs.Common.{◌≡◌, ℕ, Bool, true, false, List, ◌++◌, refl, sym, ap, ◌∙◌, append-nil, append_assoc}
 use Rattle.std.specs.Prelude.{if◌then◌else◌}
 use Rattle.resend_store.specs.declared.messages.Msu.{Msu}
 use Rattle.su_octets.specs.Bits.{low_bits}
@@ -7,7 +7,7 @@ use Rattle.bit_line.specs.declared.events.LineEvent.{LineEvent}
 use Rattle.link_machine.specs.Ledger.{rebased}
 use Rattle.link_side.specs.Half.{Half}
 use Rattle.link_heart.specs.declared.heart.Heart.{Heart}
-use Rattle.link_heart.specs.Machine.{with_book, tidied, places, LOW, error_taken}
+use Rattle.link_heart.specs.Machine.{with_book, tidied, is_low, error_taken}
 use Rattle.link_heart.specs.Laws.{MessagesLaw}
 use Rattle.link_term.specs.Hearing.{Reads, as_unit, as_error, AreTaken, nothing, unit, errored, sixteen, silent, octet}
 use Rattle.link_term.specs.Laws.{accepted_read, accepted_taken, accepted_along, Delivers}
@@ -18,7 +18,7 @@ side_if false x y h p q = q
 
 pub tidied_side : (t : Heart) → (tidied t).side ≡ t.side
 unfolding tidied
-tidied_side t = side_if (nat_lt (places t) LOW) (with_book t (rebased t.book)) t t.side refl refl
+tidied_side t = side_if (is_low t) (with_book t (rebased t.book)) t t.side refl refl
 
 joined : (a b c x y : List Msu) → b ≡ a ++ x → c ≡ b ++ y → c ≡ a ++ (x ++ y)
 joined a b c x y h k = k ∙ ap (λ (ms : List Msu). ms ++ y) h ∙ append_assoc a x y

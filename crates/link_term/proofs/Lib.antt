@@ -4,3 +4,4 @@ pub mod Delivering
 pub mod Losing
 pub mod Taking
 pub mod Quiet
+pub mod Room

@@ -1,15 +1,20 @@
--- What octets take from the messages that are kept to send.
-use Rattle.std.proofs.Common.{◌≡◌, ℕ, ◌+◌, ◌≤◌, List, [], ◌++◌, length, refl, sym, ap, ◌∙◌, subst, length-append, append_assoc, arith}
+-- What calls take from the messages that are kept to send, and how many of these count as sent.
+use Rattle.std.proofs.Common.{◌≡◌, ℕ, zero, suc, ◌+◌, ◌≤◌, Bool, List, [], ◌++◌, length, refl, sym, ap, ◌∙◌, subst, length-append, append_assoc, arith}
 use Rattle.resend_store.specs.declared.messages.Msu.{Msu}
 use Rattle.resend_store.specs.Window.{Window}
 use Rattle.su_octets.specs.Bits.{low_bits}
+use Rattle.bit_line.specs.Deframing.{Stands}
 use Rattle.bit_line.specs.declared.events.LineEvent.{LineEvent}
+use Rattle.bit_line.proofs.EventLaws.{stands_events}
 use Rattle.link_side.specs.Half.{Half}
 use Rattle.link_side.specs.Laws.{Loses}
 use Rattle.link_heart.specs.declared.heart.Heart.{Heart}
-use Rattle.link_heart.specs.Machine.{error_taken, tidied}
+use Rattle.link_heart.specs.Machine.{error_taken, sent, tidied}
 use Rattle.link_heart.specs.Laws.{KeptLaw}
-use Rattle.link_term.specs.Hearing.{Reads, as_unit, as_error, AreTaken, nothing, unit, errored, sixteen, silent, octet}
+use Rattle.link_term.specs.Hearing.{Reads, as_unit, as_error, AreTaken, nothing, unit, errored, sixteen, silent, octet, Heard}
+use Rattle.link_term.specs.Kept.{window_of, Took, Sends}
+use Rattle.link_term.specs.Speaking.{left, Spoke}
+use Rattle.link_term.specs.Term.{Term, with_heart}
 use Rattle.link_term.specs.Laws.{acknowledged_read, acknowledged_taken, acknowledged_along, StaysKept}
 use Rattle.link_term.proofs.Delivering.{tidied_side}
 
@@ -52,3 +57,63 @@ module _ (law : KeptLaw) where
       losses_joined (acknowledged_taken taken) (acknowledged_along hears) t.side.sender u.side.sender v.side.sender
       (subst P (ap (λ (h : Half). h.sender) (tidied_side t)) (taken_loses given (tidied t) u taken))
       (stays_kept (bits ++ low_bits 8 first) (all ++ given) now u v octets hears)
+
+-- ---- calls
+
+pub took_nothing : (t : Term) → Took t t
+took_nothing t = record { gone = []; loses = no_loss (window_of t) }
+
+pub took_from : (old inside new : Term) → inside ≡ old → Took inside new → Took old new
+took_from old inside new is took = let P : Term → Type 0 = λ t. Took t new in subst P is took
+
+pub took_none : (old t : Term) (h : Heart) → t ≡ old → h ≡ t.heart → Took old (with_heart t h)
+took_none old t h is same =
+    let P : Heart → Type 0 = λ x. Took old (with_heart t x) in subst P (sym same) (took_from old t t is (took_nothing t))
+
+pub took_more : (t m u : Term) → Took t m → Took m u → Took t u
+took_more t m u first second = record {
+  gone = first.gone ++ second.gone;
+  loses = losses_joined first.gone second.gone (window_of t) (window_of m) (window_of u) first.loses second.loses;
+}
+
+-- octets that are taken take away the messages that they acknowledge
+pub took_heard : StaysKept → (t u : Term) (bits : List Bool) (octets : List ℕ) → Stands bits t.line → Heard t octets u → Took t u
+took_heard law t u bits octets stands heard =
+    let are = stands_events bits t.line stands in
+    let along = heard.hears bits are.0 stands are.1 in
+    record { gone = acknowledged_along along.2; loses = law bits are.0 along.0 t.heart u.heart octets along.2 }
+
+one_more : (a b c k : ℕ) → a ≤ b + k → b ≤ c + 1 → a ≤ c + suc k
+one_more a b c k h j = omega (arith, h, j)
+
+none_yet : (n : ℕ) → n ≤ n + zero
+none_yet n = omega arith
+
+at_most : (a b n m : ℕ) → a ≤ b + n → n ≤ m → a ≤ b + m
+at_most a b n m h le = omega (arith, h, le)
+
+module _ (law : KeptLaw) where
+  left_kept : (k : ℕ) (t : Heart) → (left k t).side.sender.kept ≡ t.side.sender.kept
+  left_kept zero t = refl
+  left_kept (suc k) t =
+      left_kept k (sent (tidied t)).heart ∙ law.sends (tidied t) ∙ ap (λ (h : Half). h.sender.kept) (tidied_side t)
+
+  left_sent : (k : ℕ) (t : Heart) → (left k t).side.sender.sent ≤ t.side.sender.sent + k
+  left_sent zero t = none_yet t.side.sender.sent
+  left_sent (suc k) t =
+      let next : Heart = (sent (tidied t)).heart in
+      let P : Half → Type 0 = λ h. next.side.sender.sent ≤ h.sender.sent + 1 in
+      one_more (left k next).side.sender.sent next.side.sender.sent t.side.sender.sent k (left_sent k next)
+      (subst P (tidied_side t) (law.one_sent (tidied t)))
+
+  left_sends : (t : Term) (n most : ℕ) (h : Heart) → n ≤ most → h ≡ left n t.heart → Sends most t (record t { heart = h })
+  left_sends t n most h few is = record {
+    kept = ap (λ (x : Heart). x.side.sender.kept) is ∙ left_kept n t.heart;
+    sent = at_most h.side.sender.sent t.heart.side.sender.sent n most
+        (let P : Heart → Type 0 = λ x. x.side.sender.sent ≤ t.heart.side.sender.sent + n in subst P (sym is) (left_sent n t.heart)) few;
+  }
+
+  -- units that went out
+  pub spoke_sends : (t u : Term) (before after : List ℕ) (n most : ℕ) → n ≤ most → Spoke t before n u after → Sends most t u
+  spoke_sends t u before after n most few spoke =
+      let s = left_sends t n most u.heart few spoke.heart in record { kept = s.kept; sent = s.sent }

@@ -1,5 +1,5 @@
 -- Octets of which none but the last reports anything.
-use Rattle.std.proofs.Common.{◌≡◌, ℕ, nat_lt, ◌+◌, ◌-◌, ◌<◌, ◌≤◌, Bool, true, false, Option, List, [], ◌∷◌, ◌++◌, length, reverse, take, get_or, refl, sym, ap, ◌∙◌, subst, append-nil, append_assoc, length-append, arith}
+use Rattle.std.proofs.Common.{◌≡◌, ℕ, ◌+◌, ◌-◌, ◌<◌, ◌≤◌, Bool, true, false, Option, List, [], ◌∷◌, ◌++◌, length, reverse, take, get_or, refl, sym, ap, ◌∙◌, subst, append-nil, append_assoc, length-append, arith}
 use Rattle.std.specs.Prelude.{if◌then◌else◌, ◌≢◌}
 use Rattle.std.proofs.lemmas.List.{take_more, reverse-append}
 use Rattle.su_octets.specs.Bits.{low_bits, bits_of}
@@ -13,7 +13,7 @@ use Rattle.link_machine.specs.Ledger.{Ledger, rebased, next}
 use Rattle.link_side.specs.Half.{Half}
 use Rattle.link_side.specs.Limits.{KEPT_MESSAGES}
 use Rattle.link_heart.specs.declared.heart.Heart.{Heart}
-use Rattle.link_heart.specs.Machine.{with_book, tidied, places, LOW}
+use Rattle.link_heart.specs.Machine.{with_book, tidied, is_low}
 use Rattle.link_term.specs.Term.{Term}
 use Rattle.link_term.specs.Hearing.{AreTaken, nothing, Hears, silent, octet, Heard}
 use Rattle.link_term.proofs.Cutting.{no_bits, next_bits, one_bits}
@@ -37,19 +37,19 @@ rebased_stays : (t : Heart) → tidied (with_book t (rebased t.book)) ≡ with_b
 unfolding tidied
 rebased_stays t =
     let u : Heart = with_book t (rebased t.book) in
-    either_way (nat_lt (places u) LOW) (with_book u (rebased u.book)) u (ap (λ (b : Ledger). with_book t b) (rebased_twice t.book))
+    either_way (is_low u) (with_book u (rebased u.book)) u (ap (λ (b : Ledger). with_book t b) (rebased_twice t.book))
 
 abbrev tidied_by : Bool → Heart → Heart
 tidied_by c t = if c then with_book t (rebased t.book) else t
 
-made_twice : (c : Bool) (t : Heart) → c ≡ nat_lt (places t) LOW → tidied (tidied_by c t) ≡ tidied_by c t
+made_twice : (c : Bool) (t : Heart) → c ≡ is_low t → tidied (tidied_by c t) ≡ tidied_by c t
 unfolding tidied
 made_twice true t h = rebased_stays t
 made_twice false t h = ap (λ (c : Bool). tidied_by c t) (sym h)
 
 pub tidied_twice : (t : Heart) → tidied (tidied t) ≡ tidied t
 unfolding tidied
-tidied_twice t = made_twice (nat_lt (places t) LOW) t refl
+tidied_twice t = made_twice (is_low t) t refl
 
 -- ---- no report in all is none on the way
 

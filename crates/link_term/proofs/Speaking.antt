@@ -1,12 +1,12 @@
 -- Units out, one after another.
-use Rattle.std.proofs.Common.{◌≡◌, ℕ, ◌+◌, ◌-◌, ◌*◌, ◌<◌, ◌≤◌, zero, suc, Option, Some, None, List, [], ◌∷◌, ◌++◌, refl, sym, ap, ◌∙◌, subst, append-nil, append_assoc, arith}
+use Rattle.std.proofs.Common.{◌≡◌, ℕ, ◌+◌, ◌-◌, ◌*◌, ◌<◌, ◌≤◌, zero, suc, true, Option, Some, None, List, [], ◌∷◌, ◌++◌, refl, sym, ap, ◌∙◌, subst, append-nil, append_assoc, arith}
 use Rattle.std.specs.Option.{option_to_list}
 use Rattle.su_octets.specs.Frame.{Frame, SpareBitsAreZero}
 use Rattle.su_octets.specs.declared.units.Unit as units
 use Rattle.bit_line.specs.Stuffers.{Gave}
 use Rattle.bit_line.specs.declared.stuffer.Stuffer.{Stuffer}
 use Rattle.link_heart.specs.declared.heart.Heart.{Heart}
-use Rattle.link_heart.specs.Machine.{sent, tidied, places, LOW}
+use Rattle.link_heart.specs.Machine.{sent, tidied, is_low}
 use Rattle.link_term.specs.Term.{Term}
 use Rattle.link_term.specs.Speaking.{AreFrames, Speaks, given, left, Spoke, IsSpoken}
 
@@ -144,12 +144,12 @@ at_least_one : (n : ℕ) → 1 ≤ n → 0 < n
 at_least_one n h = omega (arith, h)
 
 pub spoken_less : (t m u : Term) (n asked : ℕ) (b octets : List ℕ) → 1 ≤ n → n < asked → Spoke t [] n m b → u ≡ m → octets ≡ b
-    → places m.heart < LOW → IsSpoken t asked u octets
+    → is_low m.heart ≡ true → IsSpoken t asked u octets
 spoken_less t m u n asked b octets one less spoke h k low = record {
   count = n;
   most = omega (arith, less);
   first = λ some. at_least_one n one;
-  fewer = λ fewer. let P : Term → Type 0 = λ x. places x.heart < LOW in subst P (sym h) low;
+  fewer = λ fewer. let P : Term → Type 0 = λ x. is_low x.heart ≡ true in subst P (sym h) low;
   spoke = spoke_same t m u [] b octets n h k spoke;
 }
 

@@ -1,5 +1,6 @@
 pub mod Term
 pub mod Inside
+pub mod Kept
 pub mod Hearing
 pub mod Speaking
 pub mod Laws

@@ -1,12 +1,12 @@
 -- What goes out on the line.
-use Rattle.std.specs.Prelude.{◌≡◌, ℕ, ◌<◌, ◌≤◌, zero, suc, List, [], ◌∷◌, ◌++◌}
+use Rattle.std.specs.Prelude.{◌≡◌, ℕ, ◌<◌, ◌≤◌, zero, suc, true, List, [], ◌∷◌, ◌++◌}
 use Rattle.std.specs.Option.{option_to_list}
 use Rattle.su_octets.specs.Frame.{Frame, SpareBitsAreZero}
 use Rattle.su_octets.specs.declared.units.Unit as units
 use Rattle.bit_line.specs.Stuffers.{Gave}
 use Rattle.bit_line.specs.declared.stuffer.Stuffer.{Stuffer}
 use Rattle.link_heart.specs.declared.heart.Heart.{Heart}
-use Rattle.link_heart.specs.Machine.{sent, tidied, places, LOW}
+use Rattle.link_heart.specs.Machine.{sent, tidied, is_low}
 use Rattle.link_term.specs.Term.{Term}
 
 -- the octets of units, with spare bits 0
@@ -44,5 +44,5 @@ pub record IsSpoken (old : Term) (asked : ℕ) (new : Term) (octets : List ℕ) 
   pub count : ℕ
   pub most : count ≤ asked
   pub first : 0 < asked → 0 < count
-  pub fewer : count < asked → places new.heart < LOW
+  pub fewer : count < asked → is_low new.heart ≡ true
   pub spoke : Spoke old [] count new octets

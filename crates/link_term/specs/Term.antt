@@ -1,5 +1,5 @@
 -- A terminal: its actors with what it keeps beside them, and both directions of the line.
-use Rattle.std.specs.Prelude.{◌≡◌, ◌<◌, Result, Ok, Err}
+use Rattle.std.specs.Prelude.{◌≡◌, ℕ, true, Some, Result, Ok, Err}
 use Rattle.bit_line.specs.declared.deframer.Deframer.{Deframer}
 use Rattle.bit_line.specs.declared.stuffer.Stuffer.{Stuffer}
 use Rattle.link_machine.specs.Step.{Answer, Says}
@@ -7,7 +7,7 @@ use Rattle.link_machine.specs.declared.reply.Reply.{Reply}
 use Rattle.link_machine.specs.declared.reply.Reply.TheVariants as reply
 use Rattle.link_side.specs.Half.{Half}
 use Rattle.link_heart.specs.declared.heart.Heart.{Heart}
-use Rattle.link_heart.specs.Machine.{with_side, tidied, places, LOW}
+use Rattle.link_heart.specs.Machine.{with_side, tidied, is_low, tick_refusal}
 use Rattle.link_term.specs.declared.answers.CallError.{CallError}
 use Rattle.link_term.specs.declared.answers.CallError.TheVariants.{Refused, NoMemory}
 
@@ -28,7 +28,12 @@ IsAnswer f (Ok x) a = Says (f x) ≡ a
 IsAnswer f (Err (Refused r)) a = Says (reply.Refused r) ≡ a
 IsAnswer f (Err NoMemory) a = Unit {0}
 
+-- Why a tick does not happen: the ticks can't pass once room was made in the journal, or there was no memory for that where it was needed.
+abbrev pub IsTickError : ℕ → Heart → CallError → Type 0
+IsTickError n t (Refused r) = tick_refusal n (tidied t) ≡ Some r
+IsTickError n t NoMemory = is_low t ≡ true
+
 -- A call that is refused leaves the state. Room may have been made in the journal, if there was memory for that where it was needed.
 abbrev pub Leaves : Term → Term → CallError → Type 0
 Leaves old new (Refused r) = new ≡ with_heart old (tidied old.heart)
-Leaves old new NoMemory = (new ≡ old) × (places old.heart < LOW)
+Leaves old new NoMemory = (new ≡ old) × (is_low old.heart ≡ true)

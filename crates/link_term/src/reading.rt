@@ -1,11 +1,13 @@
 //! The line in.
 ghost use Rattle.std.specs.Prelude.{◌≡◌, ◌⊎◌, ◌+◌, ◌<◌, ◌≤◌, ◌∷◌, [], true, false, length, take};
 ghost use Rattle.bit_line.specs.Events.{closings};
-ghost use Rattle.link_heart.specs.Machine.{places, tidied, LOW};
+ghost use Rattle.link_heart.specs.Machine.{tidied, is_low};
 ghost use Rattle.link_heart.specs.declared.heart.Heart.{Heart as PlainHeart};
 ghost use Rattle.link_side.specs.Limits.{KEPT_MESSAGES};
 ghost use Rattle.link_term.specs.Hearing.{Reads, AreTaken, Heard};
+ghost use Rattle.link_term.specs.Kept.{Took};
 
+use crate::laws::unacknowledged_messages_stay;
 use crate::terminal::Terminal;
 use bit_line::LineEvent;
 use link_heart::Heart;
@@ -52,7 +54,7 @@ fn make_room(heart: &mut Heart) -> bool
     ensures room { result ≡ true → length heart.old.side.messages < KEPT_MESSAGES }
     ensures tidied { result ≡ true → heart.new ≡ tidied heart.old }
     ensures left { result ≡ false → heart.new ≡ heart.old }
-    ensures stops { result ≡ false → (KEPT_MESSAGES ≤ length heart.old.side.messages) ⊎ (places heart.old < LOW) }
+    ensures stops { result ≡ false → (KEPT_MESSAGES ≤ length heart.old.side.messages) ⊎ (is_low heart.old ≡ true) }
 {
     if !heart.side.has_room() {
         return false;
@@ -72,9 +74,11 @@ impl Terminal {
         requires { 0 < length octets.now }
         ensures most { result ≤ length octets.now }
         ensures heard { Heard self.old (take result octets.now) self.new }
+        ensures took { Took self.old self.new }
         ensures left { result ≡ 0 → self.new ≡ self.old }
-        ensures stops { result ≡ 0 → (KEPT_MESSAGES ≤ length self.old.heart.side.messages) ⊎ (places self.old.heart < LOW) }
+        ensures stops { result ≡ 0 → (KEPT_MESSAGES ≤ length self.old.heart.side.messages) ⊎ (is_low self.old.heart ≡ true) }
     {
+        unacknowledged_messages_stay();
         if !make_room(&mut self.heart) {
             return 0;
         }
@@ -91,8 +95,9 @@ impl Terminal {
     pub fn line_in(&mut self, octets: &[u8]) -> usize
         ensures few { result ≤ length octets.now }
         ensures heard { Heard self.old (take result octets.now) self.new }
+        ensures took { Took self.old self.new }
         ensures stops { result < length octets.now
-            → (KEPT_MESSAGES ≤ length self.new.heart.side.messages) ⊎ (places self.new.heart < LOW) }
+            → (KEPT_MESSAGES ≤ length self.new.heart.side.messages) ⊎ (is_low self.new.heart ≡ true) }
     {
         let mut taken = 0;
         while taken < octets.len() {

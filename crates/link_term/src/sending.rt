@@ -1,11 +1,13 @@
 //! The line out.
-ghost use Rattle.std.specs.Prelude.{◌≡◌, ◌+◌, ◌<◌, ◌≤◌, ◌∷◌, [], vec_len, vec_capacity, OnOk, OnErr, IfOk};
+ghost use Rattle.std.specs.Prelude.{◌≡◌, ◌+◌, ◌≤◌, ◌∷◌, [], true, vec_len, vec_capacity, OnOk, OnErr, IfOk};
 ghost use Rattle.su_octets.specs.Whole.{IsWhole};
-ghost use Rattle.link_heart.specs.Machine.{places, LOW};
+ghost use Rattle.link_heart.specs.Machine.{is_low};
+ghost use Rattle.link_term.specs.Kept.{Sends};
 ghost use Rattle.link_term.specs.Speaking.{Speaks, Spoke, IsSpoken};
 
 use crate::terminal::Terminal;
 use bit_line::Stuffer;
+use link_heart::unacknowledged_messages_stay;
 use std::alloc::AllocError;
 use su_octets::Unit;
 
@@ -33,7 +35,7 @@ impl Terminal {
         requires { vec_len octets.old + LONGEST ≤ vec_capacity octets.old }
         ensures ok { OnOk result (Spoke self.old octets.old.items 1 self.new octets.new.items) }
         ensures err { OnErr result (self.new ≡ self.old) }
-        ensures low { OnErr result (places self.old.heart < LOW) }
+        ensures low { OnErr result (is_low self.old.heart ≡ true) }
         ensures same { OnErr result (octets.new.items ≡ octets.old.items) }
         ensures len { vec_len octets.new ≤ vec_len octets.old + LONGEST }
         ensures capacity { vec_capacity octets.old ≤ vec_capacity octets.new }
@@ -56,8 +58,10 @@ impl Terminal {
     /// Where there is no memory for the octets of so many units, or none to make room in the journal for the first: nothing changed.
     pub fn line_out(&mut self, units: usize) -> Result<Vec<u8>, AllocError>
         ensures ok { IfOk result (λ octets. IsSpoken self.old units self.new octets.items) }
+        ensures sends { Sends units self.old self.new }
         ensures err { OnErr result (self.new ≡ self.old) }
     {
+        unacknowledged_messages_stay();
         let Some(room) = units.checked_mul(LONGEST) else {
             return Err(AllocError);
         };

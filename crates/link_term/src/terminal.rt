@@ -2,13 +2,14 @@
 ghost use Rattle.std.specs.Prelude.{◌≡◌, ◌↔◌, ◌<◌, ◌≤◌, [], IsTrue, false, length, All, IfOk, OnOk, OnErr, IfSome, Err, slice_get};
 ghost use Rattle.std.specs.Option.{option_copied};
 ghost use Rattle.resend_store.specs.Messages.{IsMessage};
-ghost use Rattle.resend_store.specs.Window.{waiting, with_put, retrieved, emptied, count_known};
+ghost use Rattle.resend_store.specs.Window.{IsWindow, waiting, with_put, retrieved, emptied, count_known};
 ghost use Rattle.bit_line.specs.Deframing.{Stands};
 ghost use Rattle.bit_line.specs.Stuffers.{Gave};
 ghost use Rattle.link_side.specs.Half.{first_half};
 ghost use Rattle.link_side.specs.Reporting.{reported};
 ghost use Rattle.resend_store.specs.Limits.{MOST_WAITING, MOST_KEPT};
 ghost use Rattle.link_side.specs.Limits.{KEPT_MESSAGES};
+ghost use Rattle.link_term.specs.Kept.{window_of};
 ghost use Rattle.link_term.specs.Term.{with_half};
 
 use bit_line::{Deframer, Stuffer};
@@ -48,7 +49,7 @@ impl Model for Terminal {
 
 impl Terminal {
     /// A terminal over the book of a set, in which its signals and processes have these numbers. Nothing has come and nothing goes out.
-    pub fn of_book(
+    pub(crate) fn of_book(
         alloc: Global,
         book: Book,
         names: Names,
@@ -115,6 +116,7 @@ impl Terminal {
     /// What is to be handed out next: messages first, then what was told of the link, each in order.
     pub fn report(&mut self) -> Option<Report>
         ensures report { result ≡ (reported self.old.heart.side).report }
+        ensures same { window_of self.new ≡ window_of self.old }
         ensures half { self.new ≡ with_half self.old (reported self.old.heart.side).half }
     {
         self.heart.side.report()
@@ -137,7 +139,8 @@ impl Terminal {
 
     /// How many messages are kept to send: unacknowledged and waiting ones.
     pub fn held(&self) -> usize
-        ensures { result ≡ length self.now.heart.side.sender.kept }
+        ensures value { result ≡ length self.now.heart.side.sender.kept }
+        ensures window { IsWindow self.now.heart.side.sender }
     {
         self.heart.side.held()
     }

@@ -57,7 +57,7 @@ use Rattle.sdl_valid.proofs.Spots.{Spot, instructions, shapes, piece_spots, piec
 use Rattle.sdl_valid.proofs.PlaceSets.{piece_set_at}
 use Rattle.sdl_valid.proofs.RightTexts.{RightText}
 use Rattle.sdl_valid.proofs.Stretches.{chain_shapes}
-use Rattle.sdl_valid.proofs.Standing.{start_enters, piece_made}
+use Rattle.sdl_valid.proofs.StandingLaws.{start_enters, piece_made}
 use Rattle.sdl_valid.proofs.Settling.{all_fit, all_read}
 use Rattle.sdl_drafts.proofs.Righting.{right_text}
 use Rattle.sdl_drafts.proofs.Receiving.{answers_input, arriving}

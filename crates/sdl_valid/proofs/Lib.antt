@@ -5,7 +5,7 @@ pub mod RightTexts
 pub mod Stretches
 pub mod TextLengths
 pub mod Settling
-pub mod Standing
+pub mod StandingLaws
 pub mod Unset
 pub mod UnsetLaws
 pub mod Validity

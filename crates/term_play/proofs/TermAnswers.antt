@@ -1,6 +1,6 @@
 -- What commands make of a terminal.
 use Rattle.std.proofs.Common.{◌≡◌, ℕ, zero, suc, ◌+◌, ◌-◌, ◌<◌, ◌≤◌, List, [], ◌∷◌, ◌++◌, length, take, drop, Option, None, Some, Result, Ok, Err, Bool, true, false, inl, inr, refl, sym, ap, subst, arith, ◌∙◌}
-use Rattle.std.specs.Prelude.{◌⊎◌, ◌↔◌, codes, if◌then◌else◌, nat_lt, slice_get, is_some}
+use Rattle.std.specs.Prelude.{◌⊎◌, ◌↔◌, codes, if◌then◌else◌, slice_get, is_some}
 use Rattle.std.specs.Fmt.{decimal}
 use Rattle.std.proofs.Math.Seq.{drop-nil}
 use Rattle.std.proofs.lemmas.Bool.{cases_lt}
@@ -23,7 +23,7 @@ use Rattle.link_side.specs.declared.signals.Report.{Report}
 use Rattle.link_term.specs.Offering.{command_event}
 use Rattle.link_term.specs.link_heart_types.commands.Command.{Command}
 use Rattle.link_term.specs.link_heart_types.names.Names.{Names}
-use Rattle.link_term.specs.Machine.{with_book, offered, tidied, places, LOW}
+use Rattle.link_term.specs.Machine.{with_book, offered, tidied, is_low}
 use Rattle.link_term.specs.link_heart_types.heart.Heart.{Heart}
 use Rattle.link_term.specs.Term.{Term, with_heart, with_half, IsAnswer, Leaves}
 use Rattle.link_term.specs.Hearing.{Heard}
@@ -66,7 +66,7 @@ names_by false x y same = refl
 -- room in the journal changes no numbers of names
 pub names_stay : (h : Heart) → (tidied h).names ≡ h.names
 unfolding tidied
-names_stay h = names_by (nat_lt (places h) LOW) (with_book h (rebased h.book)) h refl
+names_stay h = names_by (is_low h) (with_book h (rebased h.book)) h refl
 
 -- the same event, by other names of its command
 pub asked_same : (n m : Names) (c d : Command) (t u : Term) (text : List ℕ) → n ≡ m → c ≡ d → IsAsked (command_event n c) t text u

@@ -1,5 +1,5 @@
 -- What each command of a terminal's script makes of the terminal, and the lines that it prints.
-use Rattle.std.specs.Prelude.{◌≡◌, ◌⊎◌, ℕ, ◌<◌, ◌≤◌, zero, suc, List, [], ◌∷◌, ◌++◌, length, Option, None, Some, codes}
+use Rattle.std.specs.Prelude.{◌≡◌, ◌⊎◌, ℕ, ◌<◌, ◌≤◌, zero, suc, true, List, [], ◌∷◌, ◌++◌, length, Option, None, Some, codes}
 use Rattle.resend_store.specs.Limits.{MOST_WAITING}
 use Rattle.resend_store.specs.Window.{waiting, with_put}
 use Rattle.resend_store.specs.declared.messages.Msu.{Msu}
@@ -12,7 +12,7 @@ use Rattle.link_machine.specs.declared.event.Event.TheVariants.{Advance}
 use Rattle.link_machine.specs.declared.reply.Reply.{Reply}
 use Rattle.link_machine.specs.declared.reply.Reply.TheVariants as reply
 use Rattle.link_side.specs.Limits.{KEPT_MESSAGES}
-use Rattle.link_term.specs.Machine.{Sent, offered, sent, tidied, places, LOW}
+use Rattle.link_term.specs.Machine.{Sent, offered, sent, tidied, is_low}
 use Rattle.link_term.specs.Offering.{command_event}
 use Rattle.link_term.specs.link_heart_types.commands.Command.{Command}
 use Rattle.link_term.specs.link_heart_types.commands.Command.TheVariants as command
@@ -88,7 +88,7 @@ without_reports t = with_half t (record t.heart.side { messages = []; statuses =
 
 -- why a terminal takes no further octet: as many messages wait as may, or there is no memory to make room in the journal
 abbrev pub TakesNoMore : Term → Type 0
-TakesNoMore t = (KEPT_MESSAGES ≤ length t.heart.side.messages) ⊎ (places t.heart < LOW)
+TakesNoMore t = (KEPT_MESSAGES ≤ length t.heart.side.messages) ⊎ (is_low t.heart ≡ true)
 
 -- Octets of the line come in, part after part, and behind each part all reports are taken out. A part has all that is left, or ends where
 -- the terminal takes no more.

@@ -11,6 +11,8 @@
 //!   whether the messages of each spell of service came in order, none twice and none missing. A run is six words: basic or cyclic, the
 //!   seed, the rate (of so many bits one is flipped, one dropped and one doubled, 0 for none), how many messages go each way, how many are
 //!   given to each end in a round, how many units go one way in a round.
+//! - `ports`: a port in each line ([`ports`]), which is held against a plain one, a vector, through many calls by a seeded generator. Shows
+//!   how often there was no room, how often an item was taken behind saved ones, and in how many calls the two differed.
 //! - `reports`: what is done with two such terminals, a step in each line ([`steps`]), over a line without damage. Shows what the near one
 //!   hands out at each step that asks for it: messages before what was told of the link, that it came into service, that it went down and
 //!   why, that the far side's processor is out and back; and how many line octets many units are that go out at once.
@@ -26,6 +28,8 @@ mod lines;
 mod message;
 mod noise;
 mod pair;
+mod plain_port;
+mod ports;
 mod reports;
 mod rounds;
 mod run;
@@ -36,6 +40,7 @@ mod texts;
 use crate::calls::Stopped;
 use crate::heard::compare;
 use crate::lines::make_runs;
+use crate::ports::hold_ports;
 use crate::reports::report_all;
 use crate::rounds::make_rounds;
 use crate::texts::{check_text, play_script};
@@ -64,6 +69,7 @@ fn make<R: Runtime + AllocGlobal + Threads + Wait + Sync>(
     match kind {
         "heard" => compare(rt.alloc(), text, trial),
         "runs" => make_runs(rt.alloc(), text, trial),
+        "ports" => hold_ports(rt.alloc(), text, trial),
         "reports" => report_all(rt.alloc(), text, trial),
         "rounds" => make_rounds(rt, text, trial),
         _ => Err(Stopped::BadLine),

@@ -20,7 +20,7 @@ impl Noise {
     }
 
     /// The next number of the generator (Knuth's constants).
-    fn draw(&mut self) -> u64 {
+    pub fn draw(&mut self) -> u64 {
         self.state = self
             .state
             .wrapping_mul(6_364_136_223_846_793_005)

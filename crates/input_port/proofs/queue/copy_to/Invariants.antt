@@ -1,8 +1,10 @@
-use Rattle.std.proofs.Common.{◌≡◌, ◌≤◌, ◌++◌, take, vec_capacity}
+use Rattle.std.proofs.Common.{◌≡◌, ◌++◌, List}
+use Rattle.circular_buffer.specs.Buffer.{buffer}
+use Rattle.input_port.specs.declared.queue.Item.{Item}
 use Rattle.input_port.proofs.queue.copy_to.Given as goal
 
 abbrev pub invariant-loop-item : goal.invariant-loop-item
 invariant-loop-item l = record {
-  copied : l.copies.items ≡ l.fn.copies.items ++ take l.item-index l.items;
-  capacity : vec_capacity l.fn.copies ≤ vec_capacity l.copies;
+  copied : l.copies.items ++ l.item-iterator ≡ l.fn.copies.items ++ l.items.items;
+  capacity : l.copies.capacity ≡ l.fn.copies.capacity;
 }

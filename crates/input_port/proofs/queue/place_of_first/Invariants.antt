@@ -5,6 +5,6 @@ use Rattle.input_port.proofs.queue.place_of_first.Given as goal
 
 abbrev pub invariant-loop-place : goal.invariant-loop-place
 invariant-loop-place l = record {
-  first : first_unsaved (saves l.saved) (drop l.place l.items) ≡ first_unsaved (saves l.saved) l.items;
-  left : take l.place l.items ++ without_first (saves l.saved) (drop l.place l.items) ≡ without_first (saves l.saved) l.items;
+  first : first_unsaved (saves l.saved) (drop l.place l.items.items) ≡ first_unsaved (saves l.saved) l.items.items;
+  left : take l.place l.items.items ++ without_first (saves l.saved) (drop l.place l.items.items) ≡ without_first (saves l.saved) l.items.items;
 }

@@ -1,10 +1,9 @@
-use Rattle.std.proofs.Common.{length, ap}
 use Rattle.link_heart.specs.Machine.{one_taken, emptied}
 use Rattle.link_heart.proofs.Repeats.{goes_on, ends, is_spent, empties, rests}
 use Rattle.link_heart.proofs.heart.Heart.empty_ring.Goals as goal
 
 pub loop-left-init : goal.loop-left-init
-loop-left-init c = empties c.args.self.now (length c.waiting-left.result.now) (ap length c.waiting-left.ensures)
+loop-left-init c = empties c.args.self.now c.waiting-left.result c.waiting-left.ensures
 
 pub loop-left-preserved : goal.loop-left-preserved
 loop-left-preserved c =

@@ -2,10 +2,10 @@ use Rattle.std.proofs.Common.{rules}
 use Rattle.link_machine.specs.Refusals.{refuses}
 use Rattle.link_state.proofs.link.Link.take_refusal.Goals as goal
 
-pub returns-then-is_empty : goal.returns-then-is_empty
+pub returns-then-len-eq0 : goal.returns-then-len-eq0
 unfolding refuses
-returns-then-is_empty c = search rules
+returns-then-len-eq0 c = search rules
 
-pub returns-else-is_empty : goal.returns-else-is_empty
+pub returns-else-len-eq0 : goal.returns-else-len-eq0
 unfolding refuses
-returns-else-is_empty c = search rules
+returns-else-len-eq0 c = search rules

@@ -1,5 +1,6 @@
 use Rattle.std.proofs.Common.{refl, arith}
 use Rattle.link_term.proofs.Cutting.{heard_from, heard_none}
+use Rattle.link_term.proofs.Losing.{took_heard, took_from, took_none}
 use Rattle.link_term.proofs.Quiet.{heard_part, some_taken}
 use Rattle.link_term.proofs.Taking.{room_for, taken_from}
 use Rattle.link_term.proofs.terminal.Terminal.take_part.Goals as goal
@@ -37,3 +38,17 @@ returns-clause-stops c none =
     some_taken c.self.inside.line c.self.invariant.0 c.args.octets.now c.feed_until-taken.result.0 c.feed_until-taken.result.1.items
     c.self.invariant.1 c.requires c.feed_until-taken.ensures.all c.feed_until-taken.ensures.before in
     let f : ⊥ = omega (arith, none, least) in absurd f
+
+pub returns-clause-took : goal.returns-clause-took
+returns-clause-took c =
+    let part = heard_part _ _ c.args.octets.now c.feed_until-taken.result.0 c.feed_until-taken.result.1.items c.requires c.feed_until-taken.ensures.most
+        c.feed_until-taken.ensures.all c.feed_until-taken.ensures.stands c.feed_until-taken.ensures.events c.feed_until-taken.ensures.before
+        (c.if-not-make_room.ensures.room refl)
+        (taken_from c.as_slice.result.now c.feed_until-taken.result.1.items c.make_room.new.heart c.self.inside.heart c.take_events.new.heart
+        c.as_slice.ensures.value (c.if-not-make_room.ensures.tidied refl) c.take_events.ensures)
+        refl in
+    took_from c.args.self.now _ _ c.self.view_is (took_heard c.unacknowledged_messages_stay.ensures _ _ c.self.invariant.0 _ c.self.invariant.1 part)
+
+pub returns-then-not-make_room-clause-took : goal.returns-then-not-make_room-clause-took
+returns-then-not-make_room-clause-took c =
+    took_none c.args.self.now _ c.make_room.new.heart c.self.view_is (c.if-not-make_room.ensures.left refl)
