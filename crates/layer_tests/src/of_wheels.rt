@@ -1,5 +1,4 @@
 //! Timers: when each is due, in which order, step by step.
-use arrayvec::ArrayVec;
 use std::alloc::Global;
 use tick_wheel::{AdvanceError, Due, Timer, Wheel};
 
@@ -19,11 +18,13 @@ enum Step {
     TooFar(u64),
     /// A timer has that deadline, or none.
     Waits(Name, Option<u64>),
+    /// So many timers were looked at.
+    Looked(u64),
 }
 
 /// The timer of a name.
 fn timer(name: Name) -> Timer {
-    Timer::new(name.0.min(15), name.1.min(7))
+    Timer::new(name.0.min(127), name.1.min(7))
 }
 
 /// Sets a timer, if the deadline is above the clock.
@@ -48,7 +49,9 @@ fn are_due(due: &[Due], names: &[Name]) -> bool {
 /// Whether these are due as so many ticks pass.
 fn passes(wheel: &mut Wheel, ticks: u64, names: &[Name], clock: u64) -> bool {
     match wheel.advance(ticks) {
-        Ok(due) => are_due(due.as_slice(), names) && wheel.clock() == clock,
+        Ok(count) => {
+            are_due(wheel.due(), names) && count == names.len() && wheel.clock() == clock
+        }
         Err(_) => false,
     }
 }
@@ -67,19 +70,34 @@ fn does(wheel: &mut Wheel, step: Step) -> bool {
             wheel.deadline_of(timer(name)) == deadline
                 && wheel.is_active(timer(name)) == deadline.is_some()
         }
+        Step::Looked(count) => wheel.looked() == count,
     }
 }
 
-/// Each is due once, at its deadline.
-const ONCE: [Step; 8] = [
+/// Each is due once, at its deadline. Both are looked at where the first is due, since they are congruent modulo 256.
+const ONCE: [Step; 11] = [
     Step::Set((0, 0), 256),
-    Step::Set((15, 7), 512),
-    Step::Waits((15, 7), Some(512)),
+    Step::Set((127, 7), 512),
+    Step::Waits((127, 7), Some(512)),
     Step::Passes(255, &[], 255),
+    Step::Looked(0),
     Step::Passes(1, &[(0, 0)], 256),
-    Step::Passes(256, &[(15, 7)], 512),
+    Step::Looked(2),
+    Step::Passes(256, &[(127, 7)], 512),
+    Step::Looked(3),
     Step::Waits((0, 0), None),
-    Step::Waits((15, 7), None),
+    Step::Waits((127, 7), None),
+];
+
+/// One turn of the wheel apart: the first alone is due.
+const APART: [Step; 7] = [
+    Step::Set((4, 1), 1),
+    Step::Set((4, 2), 257),
+    Step::Passes(0, &[], 0),
+    Step::Passes(1, &[(4, 1)], 1),
+    Step::Waits((4, 2), Some(257)),
+    Step::Passes(256, &[(4, 2)], 257),
+    Step::Looked(3),
 ];
 
 /// By deadline, then process, then number.
@@ -107,12 +125,13 @@ const AGAIN: [Step; 8] = [
 ];
 
 /// However far a deadline is. What is set in a copy isn't in the one that was copied.
-const FAR: [Step; 5] = [
+const FAR: [Step; 6] = [
     Step::Set((0, 0), 257),
     Step::Set((1, 0), 2_147_483_647),
     Step::Passes(1, &[(0, 1)], 1),
     Step::Passes(65_535, &[(0, 0)], 65_536),
     Step::Waits((1, 0), Some(2_147_483_647)),
+    Step::Looked(4),
 ];
 
 /// What the one has that was copied.
@@ -151,6 +170,7 @@ fn first_other_of_new(alloc: Global, steps: &[Step]) -> Option<usize> {
 #[test]
 fn timers_are_due_in_order(rt: HostRuntime) {
     assert_eq!(rt; first_other_of_new(rt.alloc(), &ONCE), None);
+    assert_eq!(rt; first_other_of_new(rt.alloc(), &APART), None);
     assert_eq!(rt; first_other_of_new(rt.alloc(), &IN_ORDER), None);
     assert_eq!(rt; first_other_of_new(rt.alloc(), &AGAIN), None);
 }

@@ -8,9 +8,8 @@ ghost use Rattle.profile_limits.specs.Limits.{LAST_TICK, MOST_TICKS};
 
 use crate::actors::notify;
 use crate::link::Link;
-use arrayvec::ArrayVec;
 use link_machine::{Actor, Refusal};
-use tick_wheel::{Due, FARTHEST, LAST_CLOCK, TIMERS, Wheel};
+use tick_wheel::{Due, FARTHEST, LAST_CLOCK, Wheel};
 use turn_code::TimerNumber;
 
 /// Why so many ticks can't pass, if they can't.
@@ -37,16 +36,17 @@ fn notify_all(actors: &mut [Actor], due: &[Due])
     }
 }
 
-/// So many ticks pass. The timers that are due, in order.
-fn pass(wheel: &mut Wheel, ticks: u64) -> ArrayVec<Due, TIMERS>
+/// So many ticks pass. How many timers are due; the wheel has them, in order.
+fn pass(wheel: &mut Wheel, ticks: u64) -> usize
     requires near { ticks ≤ MOST_TICKS }
     requires clock { wheel.old.clock + ticks ≤ LAST_TICK }
     ensures clock { wheel.new.clock ≡ wheel.old.clock + ticks }
     ensures rest { wheel.new.deadlines ≡ not_due wheel.old.deadlines (wheel.old.clock + ticks) }
-    ensures due { result.items ≡ due wheel.old.deadlines (wheel.old.clock + ticks) }
+    ensures due { wheel.new.due ≡ due wheel.old.deadlines (wheel.old.clock + ticks) }
+    ensures count { result ≡ length wheel.new.due }
 {
     match wheel.advance(ticks) {
-        Ok(due) => due,
+        Ok(count) => count,
         Err(_) => unreachable!(),
     }
 }
@@ -59,8 +59,8 @@ impl Link {
         ensures link { self.new ≡ passed ticks self.old }
         ensures due { result ≡ length (due_in self.old ticks) }
     {
-        let due = pass(&mut self.wheel, ticks);
-        notify_all(&mut self.actors, due.as_slice());
-        due.len()
+        let count = pass(&mut self.wheel, ticks);
+        notify_all(&mut self.actors, self.wheel.due());
+        count
     }
 }

@@ -4,6 +4,7 @@ ghost use Rattle.std.specs.Prelude.{◌≡◌, ◌≤◌, ◌<◌, ◌+◌, ◌*
 ghost use Rattle.link_machine.specs.Core.{change};
 ghost use Rattle.link_machine.specs.Effects.{laid, laid_all, lost_by, losses, delivered, undelivered, drops, until, without, delay, ended, started, finished, lost_in, without_timers, without_first_timers, arrival_of, timers_after, settled};
 ghost use Rattle.link_machine.specs.Step.{report_of};
+ghost use Rattle.tick_wheel.specs.Turning.{timers_of};
 ghost use Rattle.link_state.specs.Outcomes.{outcome_with, with_variables, HasTimer, HaveTimers};
 ghost use Rattle.profile_limits.specs.Limits.{MOST_EFFECTS, MOST_PROCESSES, MOST_TIMERS_EACH, MOST_TURNS_BEGUN};
 
@@ -175,7 +176,7 @@ impl Link {
 /// All timers of a process wait no longer.
 fn reset_all(wheel: &mut Wheel, process: u8)
     requires { process < MOST_PROCESSES }
-    ensures { wheel.new ≡ without_timers wheel.old process }
+    ensures { timers_of wheel.new ≡ without_timers (timers_of wheel.old) process }
 {
     for timer in 0..8u8 {
         wheel.reset(Timer::new(process, timer));

@@ -29,6 +29,7 @@ impl Model for Link {
     ghost use Rattle.std.specs.Prelude.{◌≤◌, length};
     ghost use Rattle.std.specs.Coded.{codes};
     ghost use Rattle.tick_wheel.specs.Timers.{timers_code};
+    ghost use Rattle.tick_wheel.specs.Turning.{timers_of};
     ghost use Rattle.link_machine.specs.Core.{Core};
     ghost use Rattle.profile_limits.specs.Limits.{MOST_PROCESSES};
 
@@ -38,7 +39,7 @@ impl Model for Link {
 
     ghost view = { λ l. record {
       actors = l.actors.items;
-      timers = l.wheel;
+      timers = timers_of l.wheel;
       ring = l.ring;
       turns = l.turns;
       finishes = l.finishes;

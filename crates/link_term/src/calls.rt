@@ -1,5 +1,5 @@
 //! Commands, ticks, and units out.
-ghost use Rattle.std.specs.Prelude.{◌≡◌, true, false, None, Some, IsOk, OnOk, OnErr, IfOk, IfErr, IfSome};
+ghost use Rattle.std.specs.Prelude.{◌≡◌, true, false, None, IsOk, OnOk, OnErr, IfOk, IfErr, IfSome};
 ghost use Rattle.su_octets.specs.Whole.{IsWhole};
 ghost use Rattle.link_machine.specs.Ledger.{ask};
 ghost use Rattle.link_machine.specs.declared.event.Event.TheVariants.{Advance};

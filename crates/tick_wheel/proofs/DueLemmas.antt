@@ -1,5 +1,5 @@
--- A sorted permutation of what is due in a table is what is due in its map.
-use Rattle.std.proofs.Common.{◌≡◌, ℕ, ◌<◌, ◌≤◌, ◌+◌, Bool, true, false, ◌||◌, ◌&&◌, cond, T, ◌++◌, take, drop, List, [], ◌∷◌, length, get_or, map, is_some, Option, Some, None, refl, sym, ap, subst, ◌∙◌, inl, inr, arith, nat_le, ◌==◌, Decides, Ordering}
+-- What is due in a table is what is due in its map.
+use Rattle.std.proofs.Common.{◌≡◌, ℕ, ◌≤◌, ◌+◌, Bool, true, false, ◌||◌, ◌&&◌, cond, T, ◌++◌, take, drop, List, [], ◌∷◌, length, get_or, map, is_some, Option, Some, None, refl, sym, ap, subst, ◌∙◌, inl, inr, arith, nat_le, ◌==◌, Decides, Ordering}
 use Rattle.std.specs.declared.cmp.Ordering.TheVariants.{Less, Equal, Greater}
 use Rattle.std.specs.Ordering.{eq_by_cmp, is_lt, is_eq, ordering_reverse, ordering_then, nat_cmp}
 use Rattle.std.specs.List.{filter, list_any, IsDistinct, AllByRecursion}
@@ -9,7 +9,7 @@ use Rattle.std.specs.FinMap as finite
 use Rattle.std.specs.FinMap.{find, is_sorted, get-from_sorted, get-from_entries, get-entries, entries_sorted, contains_key-keys, entries-from_sorted, same_map}
 use Rattle.std.specs.FinMap.Entries.{below_all}
 use Rattle.std.proofs.lemmas.List.Sorted.{list_any-IsPermutation}
-use Rattle.std.proofs.lemmas.Map.Keys.{sorted_from_all_adjacent, sorted_head, sorted_tail, IsDistinct-cons, IsDistinct-IsPermutation, apart_from_distinct}
+use Rattle.std.proofs.lemmas.Map.Keys.{sorted_from_all_adjacent, sorted_head, sorted_tail, IsDistinct-IsPermutation, apart_from_distinct}
 use Rattle.std.proofs.lemmas.Cmp.{eq_by_cmp_equiv}
 use Rattle.std.proofs.Math.Seq.{take-append_seam}
 use Rattle.std.proofs.lemmas.Bool.{false≢true, and_from as both}
@@ -17,12 +17,20 @@ use Rattle.std.proofs.lemmas.Bool.Decides.{Decides-like, Decides-and, Decides-eq
 use Rattle.std.proofs.lemmas.Map.Views.{Contains-from_any, list_any-from_Contains, tells_apart}
 use Rattle.std.proofs.lemmas.Option.{same_Some}
 use Rattle.tick_wheel.specs.TimerId.{TimerId, timer_cmp}
-use Rattle.tick_wheel.specs.Table.{timer_at, entries_from, due_from, deadlines_of}
+use Rattle.tick_wheel.specs.Table.{timer_at, entries_from, deadlines_of}
 use Rattle.tick_wheel.specs.Timers.{Deadlines, due, due_cmp, in_order, pairs, IsDue}
 use Rattle.tick_wheel.specs.declared.Due.{Due}
-use Rattle.tick_wheel.proofs.Orders.{dues_total, exact_dues, exact_timers, pairs_apart}
+use Rattle.tick_wheel.proofs.Orders.{dues_total, exact_dues, exact_timers}
 use Rattle.tick_wheel.proofs.TableLemmas.{entries-deadlines_of, get-deadlines_of, not_found}
 use Rattle.plain_laws.proofs.Options.{is_Equal as tied}
+
+-- what is due at a clock, in the order of the places
+abbrev pub due_from : ℕ → ℕ → List (Option ℕ) → List Due
+due_from clock place [] = []
+due_from clock place (None ∷ table) = due_from clock (place + 1) table
+due_from clock place (Some deadline ∷ table) =
+    let later = due_from clock (place + 1) table in
+    cond (nat_le deadline clock) (record { deadline = deadline; timer = timer_at place } ∷ later) later
 
 -- the entries of a set
 abbrev marked : List Due → List (Due × Unit {0})
@@ -57,12 +65,15 @@ in_order-sorted pairs h =
     ap finite.keys same ∙ ap (map (λ (e : Due × Unit {0}). e.0)) (entries-from_sorted due_cmp (marked pairs) sorted) ∙ unmarked pairs
 
 -- the order doesn't depend on how the list stood
-in_order-IsPermutation : (xs ys : List Due) → IsPermutation xs ys → in_order xs ≡ in_order ys
+pub in_order-same : (xs ys : List Due) → ((d : Due) → list_any (eq_by_cmp due_cmp d) xs ≡ list_any (eq_by_cmp due_cmp d) ys) → in_order xs ≡ in_order ys
 unfolding in_order
-in_order-IsPermutation xs ys p = ap finite.keys (same_map dues_total exact_dues _ _ (λ q.
+in_order-same xs ys same = ap finite.keys (same_map dues_total exact_dues _ _ (λ q.
     get-from_entries dues_total (marked xs) q ∙ find_marked q xs
-    ∙ ap (λ b. cond b (Some (tt {0})) None) (list_any-IsPermutation (eq_by_cmp due_cmp q) xs ys p)
+    ∙ ap (λ b. cond b (Some (tt {0})) None) (same q)
     ∙ sym (find_marked q ys) ∙ sym (get-from_entries dues_total (marked ys) q)))
+
+in_order-IsPermutation : (xs ys : List Due) → IsPermutation xs ys → in_order xs ≡ in_order ys
+in_order-IsPermutation xs ys p = in_order-same xs ys (λ q. list_any-IsPermutation (eq_by_cmp due_cmp q) xs ys p)
 
 -- neighbours that don't fall and differ rise
 rises : (r : Ordering) → is_lt (ordering_reverse r) ≡ false → is_eq r ≡ false → r ≡ Less
@@ -83,46 +94,18 @@ in_order-from_sort xs ys distinct moved sorted =
     sym (in_order-sorted ys (IsStrictlySortedBy-from_distinct ys sorted (IsDistinct-IsPermutation (eq_by_cmp due_cmp) (eq_by_cmp_equiv dues_total).symm xs ys moved distinct)))
     ∙ sym (in_order-IsPermutation xs ys moved)
 
--- what is due later in a table differs from a pair in front
-due_apart : (clock d i place : ℕ) (table : List (Option ℕ)) → i < place → AllByRecursion (λ e. eq_by_cmp due_cmp (record { deadline = d; timer = timer_at i }) e ≡ false) (due_from clock place table)
-due_apart clock d i place [] h = tt
-due_apart clock d i place (None ∷ table) h = due_apart clock d i (place + 1) table (omega arith)
-due_apart clock d i place (Some f ∷ table) h =
-    let later = due_apart clock d i (place + 1) table (omega arith) in
-    elim (nat_le f clock) as (λ b. AllByRecursion (λ e. eq_by_cmp due_cmp (record { deadline = d; timer = timer_at i }) e ≡ false) (cond b (record { deadline = f; timer = timer_at place } ∷ due_from clock (place + 1) table) (due_from clock (place + 1) table))) [
-      | true ↦ (pairs_apart d f i place h, later)
-      | false ↦ later
-    ]
-
-pub due_from-distinct : (clock place : ℕ) (table : List (Option ℕ)) → IsDistinct (eq_by_cmp due_cmp) (due_from clock place table)
-unfolding IsDistinct
-due_from-distinct clock place [] = tt
-due_from-distinct clock place (None ∷ table) = due_from-distinct clock (place + 1) table
-due_from-distinct clock place (Some d ∷ table) =
-    let later = due_from-distinct clock (place + 1) table in
-    elim (nat_le d clock) as (λ b. IsDistinct (eq_by_cmp due_cmp) (cond b (record { deadline = d; timer = timer_at place } ∷ due_from clock (place + 1) table) (due_from clock (place + 1) table))) [
-      | true ↦ IsDistinct-cons (eq_by_cmp due_cmp) _ _ (due_apart clock d place (place + 1) table (omega arith)) later
-      | false ↦ later
-    ]
-
 -- the pairs of a map with a deadline that has come, in the order of the table
 due_from-filter : (clock place : ℕ) (table : List (Option ℕ)) → filter (λ d. nat_le d.deadline clock) (map (λ (e : TimerId × ℕ). record { deadline = e.1; timer = e.0 }) (entries_from place table)) ≡ due_from clock place table
 due_from-filter clock place [] = refl
 due_from-filter clock place (None ∷ table) = due_from-filter clock (place + 1) table
 due_from-filter clock place (Some d ∷ table) = rw (due_from-filter clock (place + 1) table) refl
 
-pub due-from_sort : (table : List (Option ℕ)) (clock : ℕ) (ys : List Due) → IsPermutation (due_from clock 0 table) ys → IsSorted due_cmp ys → ys ≡ due (deadlines_of table) clock
-unfolding due
-due-from_sort table clock ys moved sorted =
-    in_order-from_sort (due_from clock 0 table) ys (due_from-distinct clock 0 table) moved sorted
-    ∙ ap in_order (sym (due_from-filter clock 0 table) ∙ ap (λ es. filter (λ d. nat_le d.deadline clock) (map (λ (e : TimerId × ℕ). record { deadline = e.1; timer = e.0 }) es)) (sym (entries-deadlines_of table)))
-
 -- a list that is written back over one as long
 pub written_back : {A : Type 0} (xs ys : List A) (n : ℕ) → length ys ≡ n → take n (ys ++ drop (length ys) xs) ≡ ys
 written_back xs ys n e = rw (← e) (take-append_seam ys (drop (length ys) xs))
 
 -- whether a deadline is the one of a pair, and has come by a clock
-abbrev is_that : Due → ℕ → Option ℕ → Bool
+abbrev pub is_that : Due → ℕ → Option ℕ → Bool
 is_that d clock None = false
 is_that d clock (Some deadline) = (d.deadline == deadline) && nat_le deadline clock
 
@@ -131,7 +114,7 @@ is_eq-then Less s = refl
 is_eq-then Equal s = refl
 is_eq-then Greater s = refl
 
-same_pair : (d e : Due) → eq_by_cmp due_cmp d e ≡ ((d.deadline == e.deadline) && eq_by_cmp timer_cmp d.timer e.timer)
+pub same_pair : (d e : Due) → eq_by_cmp due_cmp d e ≡ ((d.deadline == e.deadline) && eq_by_cmp timer_cmp d.timer e.timer)
 same_pair d e = is_eq-then (nat_cmp d.deadline e.deadline) (timer_cmp d.timer e.timer) ∙ ap (λ b. b && eq_by_cmp timer_cmp d.timer e.timer) (unsigned_tied d.deadline e.deadline)
 
 -- by cases on: the pair has this deadline, this timer; the deadline has come
@@ -145,7 +128,7 @@ front_is true false false later d clock none = refl
 front_is false false true later d clock none = refl
 front_is false false false later d clock none = refl
 
-any_of : (p : Due → Bool) (b : Bool) (x : Due) (xs : List Due) → list_any p (cond b (x ∷ xs) xs) ≡ cond b (p x || list_any p xs) (list_any p xs)
+pub any_of : (p : Due → Bool) (b : Bool) (x : Due) (xs : List Due) → list_any p (cond b (x ∷ xs) xs) ≡ cond b (p x || list_any p xs) (list_any p xs)
 any_of p true x xs = refl
 any_of p false x xs = refl
 
@@ -168,30 +151,24 @@ due_from-has clock place (Some f ∷ table) d =
     ∙ ap (cond this ((d.deadline == f) && nat_le f clock)) rest
     ∙ sym (is_that-cond d clock this (Some f) (find timer_cmp d.timer (entries_from (place + 1) table)))
 
+-- the pairs that are in a list where their timers have such deadlines in a table, and those have come, are in order what is due
+pub due-from_has : (table : List (Option ℕ)) (clock : ℕ) (xs : List Due) → ((d : Due) → list_any (eq_by_cmp due_cmp d) xs ≡ is_that d clock (finite.get (deadlines_of table) d.timer)) → in_order xs ≡ due (deadlines_of table) clock
+unfolding due
+due-from_has table clock xs has =
+    in_order-same xs (due_from clock 0 table) (λ d. has d ∙ ap (is_that d clock) (get-deadlines_of table d.timer) ∙ sym (due_from-has clock 0 table d))
+    ∙ ap in_order (sym (due_from-filter clock 0 table) ∙ ap (λ es. filter (λ d. nat_le d.deadline clock) (map (λ (e : TimerId × ℕ). record { deadline = e.1; timer = e.0 }) es)) (sym (entries-deadlines_of table)))
+
 Decides-le : (a b : ℕ) → Decides (nat_le a b) (a ≤ b)
 Decides-le a b = elim (leb_tells a b) [
   | inl within ↦ (λ _. within.1, λ _. within.0)
   | inr above ↦ (λ e. absurd (false≢true (sym above.0 ∙ e)), λ h. absurd (omega (arith, h, above.1)))
 ]
 
-is_that-means : (d : Due) (clock : ℕ) (o : Option ℕ) → Decides (is_that d clock o) ((o ≡ Some d.deadline) × (d.deadline ≤ clock))
+pub is_that-means : (d : Due) (clock : ℕ) (o : Option ℕ) → Decides (is_that d clock o) ((o ≡ Some d.deadline) × (d.deadline ≤ clock))
 is_that-means d clock None = (λ e. absurd (false≢true e), λ h. let none : None ≡ Some d.deadline = h.0 in cc)
 is_that-means d clock (Some f) =
     Decides-like ((d.deadline == f) && nat_le f clock) (λ (h : (d.deadline ≡ f) × (f ≤ clock)). (ap Some (sym h.0), omega (arith, h.0, h.1))) (λ h. let same : f ≡ d.deadline = same_Some f d.deadline h.0 in (sym same, omega (arith, same, h.1)))
     (Decides-and (d.deadline == f) (nat_le f clock) (Decides-eqb d.deadline f) (Decides-le f clock))
-
--- a sorted permutation of what is due in a table is what is due
-pub IsDue-from_sort : (table : List (Option ℕ)) (clock : ℕ) (ys : List Due) → IsPermutation (due_from clock 0 table) ys → IsSorted due_cmp ys → IsDue (deadlines_of table) clock ys
-IsDue-from_sort table clock ys moved sorted =
-    let deadlines = deadlines_of table in
-    let among : (d : Due) → list_any (eq_by_cmp due_cmp d) ys ≡ is_that d clock (finite.get deadlines d.timer) = λ d.
-    sym (list_any-IsPermutation (eq_by_cmp due_cmp d) (due_from clock 0 table) ys moved) ∙ due_from-has clock 0 table d ∙ ap (is_that d clock) (sym (get-deadlines_of table d.timer)) in
-    record {
-      exactly = λ d.
-          let means = is_that-means d clock (finite.get deadlines d.timer) in
-          (λ h. means.0 (sym (among d) ∙ list_any-from_Contains (eq_by_cmp_equiv dues_total) d ys h), λ h. Contains-from_any (tells_apart exact_dues) d ys (among d ∙ means.1 h));
-      in_order = IsStrictlySortedBy-from_distinct ys sorted (IsDistinct-IsPermutation (eq_by_cmp due_cmp) (eq_by_cmp_equiv dues_total).symm (due_from clock 0 table) ys moved (due_from-distinct clock 0 table));
-    }
 
 -- ---- any map
 
@@ -258,17 +235,22 @@ in_order-rises xs =
     let m = finite.from_entries {R = due_cmp} (marked xs) in
     keys_rise (finite.entries m) (entries_sorted m)
 
+-- a pair is among what is due where its timer has its deadline, and that has come
+pub due-has : (deadlines : Deadlines) (clock : ℕ) (d : Due) → list_any (eq_by_cmp due_cmp d) (due deadlines clock) ≡ is_that d clock (finite.get deadlines d.timer)
+unfolding due
+due-has deadlines clock d =
+    let es = finite.entries deadlines in
+    in_order-has d (due_among clock es) ∙ due_among-has clock es d (entries_sorted deadlines) ∙ ap (is_that d clock) (sym (get-entries deadlines d.timer))
+
+pub due-rises : (deadlines : Deadlines) (clock : ℕ) → IsStrictlySortedBy due_cmp (due deadlines clock)
+unfolding due
+due-rises deadlines clock = in_order-rises (due_among clock (finite.entries deadlines))
+
 -- in each map at each clock
 pub all_due : (deadlines : Deadlines) (clock : ℕ) → IsDue deadlines clock (due deadlines clock)
-unfolding due
-all_due deadlines clock =
-    let es = finite.entries deadlines in
-    let ys = in_order (due_among clock es) in
-    let among : (d : Due) → list_any (eq_by_cmp due_cmp d) ys ≡ is_that d clock (finite.get deadlines d.timer) = λ d.
-    in_order-has d (due_among clock es) ∙ due_among-has clock es d (entries_sorted deadlines) ∙ ap (is_that d clock) (sym (get-entries deadlines d.timer)) in
-    record {
-      exactly = λ d.
-          let means = is_that-means d clock (finite.get deadlines d.timer) in
-          (λ h. means.0 (sym (among d) ∙ list_any-from_Contains (eq_by_cmp_equiv dues_total) d ys h), λ h. Contains-from_any (tells_apart exact_dues) d ys (among d ∙ means.1 h));
-      in_order = in_order-rises (due_among clock es);
-    }
+all_due deadlines clock = record {
+  exactly = λ d.
+      let means = is_that-means d clock (finite.get deadlines d.timer) in
+      (λ h. means.0 (sym (due-has deadlines clock d) ∙ list_any-from_Contains (eq_by_cmp_equiv dues_total) d (due deadlines clock) h), λ h. Contains-from_any (tells_apart exact_dues) d (due deadlines clock) (due-has deadlines clock d ∙ means.1 h));
+  in_order = due-rises deadlines clock;
+}

@@ -127,7 +127,7 @@ deadlines_of-clear table k h = same_map timers_total exact_timers _ _ (λ q.
     ∙ ap (cond (eq_by_cmp timer_cmp q (timer_at k)) None) (sym (get-deadlines_of table q))
     ∙ sym (get-remove timers_total (deadlines_of table) (timer_at k) q))
 
-kept_is : (clock : ℕ) (o : Option ℕ) → kept clock o ≡ cond (not (option_map_or (λ d. nat_le d clock) o false)) o None
+pub kept_is : (clock : ℕ) (o : Option ℕ) → kept clock o ≡ cond (not (option_map_or (λ d. nat_le d clock) o false)) o None
 kept_is clock None = refl
 kept_is clock (Some d) = elim (nat_le d clock) as (λ b. cond b None (Some d) ≡ cond (not b) (Some d) None) [ true ↦ refl | false ↦ refl ]
 
@@ -168,7 +168,7 @@ NoneDue-set clock (x ∷ table) (suc k) d e h = λ i. same_head _ _ _ _ h i ∷ 
 pub kept-later : (clock d : ℕ) → clock < d → kept clock (Some d) ≡ Some d
 kept-later clock d h = let off : nat_le d clock ≡ false = grind (arith, nat_tests) in ap (λ b. cond b None (Some d)) off
 
-kept-kept : (clock : ℕ) (d : Option ℕ) → kept clock (kept clock d) ≡ kept clock d
+pub kept-kept : (clock : ℕ) (d : Option ℕ) → kept clock (kept clock d) ≡ kept clock d
 kept-kept clock None = refl
 kept-kept clock (Some d) = elim (nat_le d clock) as (λ b. nat_le d clock ≡ b → kept clock (cond b None (Some d)) ≡ cond b None (Some d)) [
   | true ↦ λ _. refl

@@ -1,4 +1,6 @@
 pub mod Printed
-pub mod Table
 pub mod TimerId
 pub mod Timers
+pub mod Table
+pub mod Turning
+pub mod Slots

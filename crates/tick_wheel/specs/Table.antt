@@ -1,10 +1,13 @@
 -- A table with a place for each timer: eight places for process 0, then eight for process 1, and so on.
-use Rattle.std.specs.Prelude.{◌≡◌, ℕ, ◌+◌, ◌/◌, ◌%◌, List, [], ◌∷◌, map, Option, Some, None, nat_le, if◌then◌else◌}
+use Rattle.std.specs.Prelude.{◌≡◌, ℕ, ◌+◌, ◌*◌, ◌/◌, ◌%◌, List, [], ◌∷◌, map, Option, Some, None, nat_le, if◌then◌else◌}
 use Rattle.std.specs.FinMap as finite
 use Rattle.profile_limits.specs.Limits.{MOST_TIMERS_EACH}
-use Rattle.tick_wheel.specs.TimerId.{TimerId}
+use Rattle.tick_wheel.specs.TimerId.{TimerId, MOST_ACTORS}
 use Rattle.tick_wheel.specs.Timers.{Deadlines}
-use Rattle.tick_wheel.specs.declared.Due.{Due}
+
+-- how many places the table has
+abbrev pub PLACES : ℕ
+PLACES = MOST_ACTORS * MOST_TIMERS_EACH
 
 -- the timer of a place
 abbrev pub timer_at : ℕ → TimerId
@@ -19,14 +22,6 @@ entries_from place (Some deadline ∷ table) = (timer_at place, deadline) ∷ en
 -- the map that a table stands for
 unfoldable pub deadlines_of : List (Option ℕ) → Deadlines
 deadlines_of table = finite.from_sorted (entries_from 0 table)
-
--- what is due at a clock, in the order of the places
-abbrev pub due_from : ℕ → ℕ → List (Option ℕ) → List Due
-due_from clock place [] = []
-due_from clock place (None ∷ table) = due_from clock (place + 1) table
-due_from clock place (Some deadline ∷ table) =
-    let later = due_from clock (place + 1) table in
-    if nat_le deadline clock then record { deadline = deadline; timer = timer_at place } ∷ later else later
 
 -- what a place holds once what is due has left it
 abbrev pub kept : ℕ → Option ℕ → Option ℕ

@@ -1,22 +1,29 @@
 //! The timers of a link: which are active, until when, and which are due as the clock goes on.
 #![tactic(auto)]
 
-ghost use Rattle.std.specs.Prelude.{◌≡◌, ℕ, ◌+◌, ◌*◌, ◌^◌, ◌<◌, ◌≤◌, ◌↔◌, IfOk, IfSome, OnOk, OnErr, IsErrOf};
-ghost use Rattle.std.specs.Prelude.{length, map as list_map};
+ghost use Rattle.std.specs.Prelude.{◌≡◌, ◌+◌, ◌<◌, ◌≤◌, ◌↔◌, [], min, length, IfOk, IfSome, OnOk, OnErr, IsErrOf};
+ghost use Rattle.std.specs.List.{IsDistinct};
+ghost use Rattle.std.specs.List.Sorted.{IsPermutation, IsSorted};
+ghost use Rattle.std.specs.Ordering.{eq_by_cmp};
 ghost use Rattle.std.specs.FinMap as map;
-ghost use Rattle.profile_limits.specs.Limits.{MOST_PROCESSES, MOST_TIMERS_EACH, MOST_TIMERS, MOST_TICKS, LAST_TICK};
-ghost use Rattle.tick_wheel.specs.Table.{timer_at, due_from, kept};
+ghost use Rattle.profile_limits.specs.Limits.{MOST_TIMERS_EACH, MOST_TICKS, LAST_TICK};
+ghost use Rattle.tick_wheel.specs.TimerId.{MOST_ACTORS};
+ghost use Rattle.tick_wheel.specs.Table.{timer_at, PLACES};
+ghost use Rattle.tick_wheel.specs.Slots.{without_all};
+ghost use Rattle.tick_wheel.specs.Turning.{near_count, MOST_LOOKED};
 
-use arrayvec::ArrayVec;
+use look::{copied_due, gather_near, slot_of};
+use slot_lists::SlotLists;
 use std::alloc::{AllocError, Global};
 use std::fmt;
 use std::marker::Model;
 use thiserror::Error;
 
 pub mod laws;
+mod look;
 
-/// How many timers there may be.
-pub const TIMERS: usize = 128;
+/// How many timers there may be: 8 for each of 128 actors.
+pub const TIMERS: usize = 1024;
 
 /// The most ticks that one call may add to the clock.
 pub const FARTHEST: u64 = 65_535;
@@ -24,7 +31,7 @@ pub const FARTHEST: u64 = 65_535;
 /// The last tick that a clock can show.
 pub const LAST_CLOCK: u64 = 1 << 62;
 
-/// A timer: the number of its process, below 16, and its own number there, below 8.
+/// A timer: the number of its process, below 128, and its own number there, below 8.
 ///
 /// Timers are in the order of the process, then of the number.
 #[derive(Clone, Copy, Debug, PartialEq, Eq, PartialOrd, Ord)]
@@ -35,22 +42,22 @@ pub struct Timer {
 
 impl Model for Timer {
     ghost use Rattle.std.specs.Prelude.{◌<◌};
-    ghost use Rattle.tick_wheel.specs.TimerId.{TimerId};
-    ghost use Rattle.profile_limits.specs.Limits.{MOST_PROCESSES, MOST_TIMERS_EACH};
+    ghost use Rattle.tick_wheel.specs.TimerId.{TimerId, MOST_ACTORS};
+    ghost use Rattle.profile_limits.specs.Limits.{MOST_TIMERS_EACH};
 
     ghost Value = { TimerId };
 
     ghost view = { λ t. record { process = t.process; number = t.number } };
 
-    ghost invariant = { λ t. (t.process < MOST_PROCESSES) × (t.number < MOST_TIMERS_EACH) };
+    ghost invariant = { λ t. (t.process < MOST_ACTORS) × (t.number < MOST_TIMERS_EACH) };
 
     ghost inverse = { λ v. record { process = v.process; number = v.number } };
 }
 
 impl Timer {
-    /// Timer `number`, below 8, of process `process`, below 16.
+    /// Timer `number`, below 8, of process `process`, below 128.
     pub const fn new(process: u8, number: u8) -> Self
-        requires process { process < MOST_PROCESSES }
+        requires process { process < MOST_ACTORS }
         requires number { number < MOST_TIMERS_EACH }
         ensures { result ≡ record { process = process; number = number } }
     {
@@ -60,7 +67,7 @@ impl Timer {
     /// The number of the process.
     pub const fn process(self) -> u8
         ensures value { result ≡ self.process }
-        ensures in_range { result < MOST_PROCESSES }
+        ensures in_range { result < MOST_ACTORS }
     {
         self.process
     }
@@ -74,19 +81,19 @@ impl Timer {
     }
 
     /// The timer of a place in a table with eight places for each process.
-    fn at(place: usize) -> Self
-        requires { place < MOST_TIMERS }
+    fn at(place: u16) -> Self
+        requires { place < PLACES }
         ensures { result ≡ timer_at place }
     {
         Timer::new((place / 8) as u8, (place % 8) as u8)
     }
 
     /// The timer's place in a table with eight places for each process.
-    fn place(self) -> usize
+    fn place(self) -> u16
         ensures timer { timer_at result ≡ self }
-        ensures in_range { result < MOST_TIMERS }
+        ensures in_range { result < PLACES }
     {
-        usize::from(self.process) * 8 + usize::from(self.number)
+        u16::from(self.process) * 8 + u16::from(self.number)
     }
 }
 
@@ -140,34 +147,50 @@ impl fmt::Display for AdvanceError {
 pub struct Wheel {
     clock: u64,
     deadlines: Vec<Option<u64>>,
+    lists: SlotLists,
+    due: Vec<Due>,
+    looked: u64,
 }
 
 impl Model for Wheel {
-    ghost use Rattle.std.specs.Prelude.{◌≡◌, ◌≤◌, ◌^◌, length};
-    ghost use Rattle.tick_wheel.specs.Timers.{Timers, timers_code};
-    ghost use Rattle.tick_wheel.specs.Table.{deadlines_of, NoneDue};
-    ghost use Rattle.profile_limits.specs.Limits.{MOST_TIMERS, LAST_TICK};
+    ghost use Rattle.std.specs.Prelude.{◌≤◌, vec_capacity};
+    ghost use Rattle.tick_wheel.specs.Turning.{Turning, turning_code};
+    ghost use Rattle.tick_wheel.specs.Table.{deadlines_of, PLACES};
+    ghost use Rattle.tick_wheel.specs.Slots.{IsWheel};
 
-    ghost Value = { Timers };
+    ghost Value = { Turning };
 
-    ghost coded = { timers_code };
+    ghost coded = { turning_code };
 
-    ghost view = { λ w. record { clock = w.clock; deadlines = deadlines_of w.deadlines.items } };
+    ghost view = { λ w. record {
+      clock = w.clock;
+      deadlines = deadlines_of w.deadlines.items;
+      due = w.due.items;
+      looked = w.looked;
+    } };
 
-    ghost invariant = { λ w. (length w.deadlines.items ≡ MOST_TIMERS) × (w.clock ≤ LAST_TICK) × NoneDue w.clock w.deadlines.items };
+    ghost invariant = { λ w. IsWheel w.clock w.deadlines.items w.lists × (PLACES ≤ vec_capacity w.due) };
 }
 
 impl Wheel {
-    ghost use Rattle.tick_wheel.specs.Timers.{due, not_due, IsDue};
+    ghost use Rattle.tick_wheel.specs.Timers.{due, due_cmp, in_order, not_due, IsDue};
 
     /// No timer is active, and the clock shows 0.
     pub fn new(alloc: Global) -> Result<Self, AllocError>
         ensures clock { IfOk result (λ wheel. wheel.clock ≡ 0) }
         ensures deadlines { IfOk result (λ wheel. wheel.deadlines ≡ map.empty) }
+        ensures due { IfOk result (λ wheel. wheel.due ≡ []) }
+        ensures looked { IfOk result (λ wheel. wheel.looked ≡ 0) }
     {
+        let deadlines = vec![in alloc; None; TIMERS]?;
+        let lists = SlotLists::new(alloc)?;
+        let due = Vec::with_capacity(alloc, TIMERS)?;
         Ok(Wheel {
             clock: 0,
-            deadlines: vec![in alloc; None; TIMERS]?,
+            deadlines,
+            lists,
+            due,
+            looked: 0,
         })
     }
 
@@ -175,9 +198,16 @@ impl Wheel {
     pub fn copy(&self) -> Result<Self, AllocError>
         ensures { IfOk result (λ wheel. wheel ≡ self.now) }
     {
+        let alloc = *self.due.allocator();
+        let deadlines = Vec::from_slice(alloc, &self.deadlines)?;
+        let lists = self.lists.copy()?;
+        let due = copied_due(alloc, &self.due)?;
         Ok(Wheel {
             clock: self.clock,
-            deadlines: self.deadlines.clone()?,
+            deadlines,
+            lists,
+            due,
+            looked: self.looked,
         })
     }
 
@@ -189,12 +219,26 @@ impl Wheel {
         self.clock
     }
 
+    /// What the last call of `advance` that wasn't refused found due, in order.
+    pub fn due(&self) -> &[Due]
+        ensures { result.now ≡ self.now.due }
+    {
+        self.due.as_slice()
+    }
+
+    /// How many timers all calls of `advance` have looked at. It stays at 2^64 - 1 once it is there.
+    pub fn looked(&self) -> u64
+        ensures { result ≡ self.now.looked }
+    {
+        self.looked
+    }
+
     /// The deadline of a timer, if it is active.
     pub fn deadline_of(&self, timer: Timer) -> Option<u64>
         ensures value { result ≡ map.get self.now.deadlines timer }
         ensures later { IfSome result (λ deadline. self.now.clock < deadline) }
     {
-        self.deadlines[timer.place()]
+        self.deadlines[usize::from(timer.place())]
     }
 
     /// Whether a timer is active here, so has a deadline: it was set, and since then it was neither reset nor due. (By Z.100 it stays
@@ -210,78 +254,100 @@ impl Wheel {
         requires { self.old.clock < deadline }
         ensures clock { self.new.clock ≡ self.old.clock }
         ensures deadlines { self.new.deadlines ≡ map.insert self.old.deadlines timer deadline }
+        ensures kept { (self.new.due ≡ self.old.due) × (self.new.looked ≡ self.old.looked) }
     {
-        self.deadlines[timer.place()] = Some(deadline);
+        let place = timer.place();
+        self.deadlines[usize::from(place)] = Some(deadline);
+        self.lists.put(slot_of(deadline), place);
     }
 
     /// Makes a timer inactive, if it is active.
     pub fn reset(&mut self, timer: Timer)
         ensures clock { self.new.clock ≡ self.old.clock }
         ensures deadlines { self.new.deadlines ≡ map.remove self.old.deadlines timer }
+        ensures kept { (self.new.due ≡ self.old.due) × (self.new.looked ≡ self.old.looked) }
     {
-        self.deadlines[timer.place()] = None;
+        let place = timer.place();
+        self.deadlines[usize::from(place)] = None;
+        self.lists.take_out(place);
     }
 
-    /// Lets `ticks` pass, and answers the timers that are due then, in their order. These are no longer active.
+    /// Lets `ticks` pass, and answers how many timers are due then. These are no longer active; `due` has them, in their order.
     ///
     /// `W1 TooFar` for more than 65,535 ticks, else `W2 ClockFull` where the clock would pass 2^62. Then nothing changes.
-    pub fn advance(&mut self, ticks: u64) -> Result<ArrayVec<Due, TIMERS>, AdvanceError>
+    ///
+    /// It looks at the timers alone whose deadline is congruent, modulo 256, to one of the clocks that pass.
+    pub fn advance(&mut self, ticks: u64) -> Result<usize, AdvanceError>
         ensures too_far { IsErrOf result AdvanceError.TooFar ↔ (MOST_TICKS < ticks) }
         ensures clock_full { IsErrOf result AdvanceError.ClockFull ↔ (ticks ≤ MOST_TICKS) × (LAST_TICK < self.old.clock + ticks) }
         ensures refused { OnErr result (self.new ≡ self.old) }
 
-        ensures due { IfOk result (λ answer. answer.items ≡ due self.old.deadlines (self.old.clock + ticks)) }
-        ensures meaning { IfOk result (λ answer. IsDue self.old.deadlines (self.old.clock + ticks) answer.items) }
+        ensures count { IfOk result (λ count. count ≡ length self.new.due) }
+        ensures due { OnOk result (self.new.due ≡ due self.old.deadlines (self.old.clock + ticks)) }
+        ensures meaning { OnOk result (IsDue self.old.deadlines (self.old.clock + ticks) self.new.due) }
         ensures clock { OnOk result (self.new.clock ≡ self.old.clock + ticks) }
         ensures rest { OnOk result (self.new.deadlines ≡ not_due self.old.deadlines (self.old.clock + ticks)) }
+        ensures looked { OnOk result (self.new.looked ≡ min (self.old.looked + near_count self.old.deadlines self.old.clock ticks) MOST_LOOKED) }
     {
         if ticks > FARTHEST {
             return Err(AdvanceError::TooFar);
         }
-        let clock = self.clock + ticks;
-        if clock > LAST_CLOCK {
+        if self.clock + ticks > LAST_CLOCK {
             return Err(AdvanceError::ClockFull);
         }
-        self.clock = clock;
-        let mut due = due_in(&self.deadlines, clock);
-        due.sort_unstable();
-        forget_due(&mut self.deadlines, clock);
-        Ok(due)
+        self.look(ticks);
+        self.sort_due();
+        self.reset_due();
+        self.pass(ticks);
+        Ok(self.due.len())
     }
-}
 
-/// What is due at the clock, in the order of the table.
-fn due_in(table: &[Option<u64>], clock: u64) -> ArrayVec<Due, TIMERS>
-    requires { length table.now ≡ MOST_TIMERS }
-    ensures { result.items ≡ due_from clock 0 table.now }
-{
-    let mut due = ArrayVec::new();
-    for (place, deadline) in table.iter().enumerate() {
-        if let Some(deadline) = *deadline
-            && deadline <= clock
-        {
-            let timer = Timer::at(place);
-            due.push(Due { deadline, timer });
+    /// Lists the timers that will be due once so many ticks have passed, in any order, and counts those that it looks at.
+    fn look(&mut self, ticks: u64)
+        requires near { ticks ≤ MOST_TICKS }
+        requires clock { self.old.clock + ticks ≤ LAST_TICK }
+        ensures clock { self.new.clock ≡ self.old.clock }
+        ensures deadlines { self.new.deadlines ≡ self.old.deadlines }
+        ensures due { in_order self.new.due ≡ due self.old.deadlines (self.old.clock + ticks) }
+        ensures once { IsDistinct (eq_by_cmp due_cmp) self.new.due }
+        ensures looked { self.new.looked ≡ min (self.old.looked + near_count self.old.deadlines self.old.clock ticks) MOST_LOOKED }
+    {
+        self.due.clear();
+        let count = gather_near(
+            &self.lists,
+            &self.deadlines,
+            self.clock,
+            ticks,
+            &mut self.due,
+        );
+        self.looked = self.looked.saturating_add(count);
+    }
+
+    /// Puts what is due in order.
+    fn sort_due(&mut self)
+        ensures permutation { IsPermutation self.old.due self.new.due }
+        ensures sorted { IsSorted due_cmp self.new.due }
+        ensures rest { self.new ≡ record self.old { due = self.new.due } }
+    {
+        self.due.sort_unstable();
+    }
+
+    /// Makes inactive what is due.
+    fn reset_due(&mut self)
+        ensures { self.new ≡ record self.old { deadlines = without_all self.old.due self.old.deadlines } }
+    {
+        for number in 0..self.due.len() {
+            let timer = self.due[number].timer;
+            self.reset(timer);
         }
     }
-    due
-}
 
-/// What a place holds once what is due at the clock has left it.
-fn still_active(deadline: Option<u64>, clock: u64) -> Option<u64>
-    ensures { result ≡ kept clock deadline }
-{
-    match deadline {
-        Some(until) if until <= clock => None,
-        other => other,
-    }
-}
-
-/// Takes what is due at the clock out of the table.
-fn forget_due(table: &mut [Option<u64>], clock: u64)
-    ensures { table.new ≡ list_map (kept clock) table.old }
-{
-    for deadline in table.iter_mut() {
-        *deadline = still_active(*deadline, clock);
+    /// So many ticks pass, after which nothing is due.
+    fn pass(&mut self, ticks: u64)
+        requires clock { self.old.clock + ticks ≤ LAST_TICK }
+        requires none { not_due self.old.deadlines (self.old.clock + ticks) ≡ self.old.deadlines }
+        ensures { self.new ≡ record self.old { clock = self.old.clock + ticks } }
+    {
+        self.clock += ticks;
     }
 }

@@ -16,6 +16,9 @@
 //! - `reports`: what is done with two such terminals, a step in each line ([`steps`]), over a line without damage. Shows what the near one
 //!   hands out at each step that asks for it: messages before what was told of the link, that it came into service, that it went down and
 //!   why, that the far side's processor is out and back; and how many line octets many units are that go out at once.
+//! - `wheels`: in each line a seed and a number of calls. A wheel and a table of deadlines that is walked get the same calls, drawn by a
+//!   generator: timers set and reset, ticks that pass, one, few, a turn of the wheel, more than may. Shows how many timers were due, how many
+//!   the wheel looked at, and whether the two always said the same.
 //! - `rounds`: what is measured, in each line a thing ([`rounds`]). Shows what its smallest round has; where a number of rounds is given
 //!   also how fast it went.
 #![tactic(auto)]
@@ -36,6 +39,7 @@ mod run;
 mod shown;
 mod steps;
 mod texts;
+mod wheels;
 
 use crate::calls::Stopped;
 use crate::heard::compare;
@@ -44,6 +48,7 @@ use crate::ports::hold_ports;
 use crate::reports::report_all;
 use crate::rounds::make_rounds;
 use crate::texts::{check_text, play_script};
+use crate::wheels::make_wheels;
 use std::io::{self, BufReader, ErrorKind, Read};
 use std::rt::Runtime;
 use std::str;
@@ -72,6 +77,7 @@ fn make<R: Runtime + AllocGlobal + Threads + Wait + Sync>(
         "ports" => hold_ports(rt.alloc(), text, trial),
         "reports" => report_all(rt.alloc(), text, trial),
         "rounds" => make_rounds(rt, text, trial),
+        "wheels" => make_wheels(rt.alloc(), text, trial),
         _ => Err(Stopped::BadLine),
     }
 }

@@ -135,10 +135,13 @@ impl Held {
         if place > 0 {
             self.behind = self.behind.saturating_add(1);
         }
-        let found = are_same(self.port.first(saved), match self.plain.first(saved) {
-            Some(place) => self.plain.items().get(place),
-            None => None,
-        });
+        let found = are_same(
+            self.port.first(saved),
+            match self.plain.first(saved) {
+                Some(place) => self.plain.items().get(place),
+                None => None,
+            },
+        );
         let got = self.port.take(saved);
         let wanted = self.plain.take(saved);
         self.count(found && are_same(got.as_ref(), wanted.as_ref()));
@@ -192,7 +195,11 @@ impl Held {
 /// A line of it: makes so many calls, and writes what was found.
 fn hold(alloc: Global, text: &mut String, line: &str) -> Result<(), Stopped> {
     let mut words = line.split_whitespace();
-    let (Some(seed), Some(capacity), Some(calls)) = (number(&mut words), number(&mut words), number(&mut words)) else {
+    let (Some(seed), Some(capacity), Some(calls)) = (
+        number(&mut words),
+        number(&mut words),
+        number(&mut words),
+    ) else {
         return Err(Stopped::BadLine);
     };
     let mut noise = Noise::new(u64::from(seed), 0);
@@ -200,8 +207,16 @@ fn hold(alloc: Global, text: &mut String, line: &str) -> Result<(), Stopped> {
     for _ in 0..calls {
         held.call(&mut noise)?;
     }
-    let Held { full, behind, differences, .. } = held;
-    writeln!(text, "port {capacity}: {calls} calls, {full} without room, {behind} behind saved ones, differences {differences}")?;
+    let Held {
+        full,
+        behind,
+        differences,
+        ..
+    } = held;
+    writeln!(
+        text,
+        "port {capacity}: {calls} calls, {full} without room, {behind} behind saved ones, differences {differences}"
+    )?;
     Ok(())
 }
 

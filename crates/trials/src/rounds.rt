@@ -13,6 +13,9 @@
 //! - `book [ROUNDS]`: turns of a book, and runs of code. Shows how many turns and instructions there were; with a number of rounds how many
 //!   in a second: `counter`, turns of the counter from offer to finish; `standard`, turns of the profile's processes, a book opened anew for
 //!   each power-on and start; `long`, instructions of a piece of 512, whose job is copied for each run.
+//! - `wheel [ROUNDS]`: 8, 64 and 1,024 timers that aren't due yet, in all slots alike, and 10,000 ticks, one by one. Shows how many timers
+//!   were looked at; with a number of rounds how many ticks passed in a second, `wheel` in a wheel and `table` in a table of deadlines that
+//!   is walked whole.
 //! - `code SET`: the code of the set of such a name as numbers ([`code`]).
 //! - `open` and `full`: a book of the profile is held at the greatest limits, and in `full` its journal is filled. Shows how many events it
 //!   has.
@@ -34,12 +37,14 @@ mod service;
 mod sets;
 mod store;
 mod traffic;
+mod wheel_rounds;
 
 use crate::calls::Stopped;
 use crate::rounds::book_rounds::{Question, ask_set, write_books};
 use crate::rounds::line_rounds::write_line;
 use crate::rounds::link_rounds::write_link;
 use crate::rounds::sets::Set;
+use crate::rounds::wheel_rounds::write_wheels;
 use crate::run::number;
 use std::rt::Runtime;
 use std::str::SplitWhitespace;
@@ -84,6 +89,7 @@ fn make_line<R: Runtime + AllocGlobal + Threads + Wait + Sync>(
     match words.next().unwrap_or("") {
         "line" => write_line(rt, rt.alloc(), text, number(&mut words)),
         "link" => write_link(rt, rt.alloc(), text, number(&mut words)),
+        "wheel" => write_wheels(rt, rt.alloc(), text, number(&mut words)),
         "book" => write_books(rt, text, number(&mut words)),
         word => write_question(rt, text, word, &mut words),
     }

@@ -1,15 +1,20 @@
-use Rattle.std.proofs.Common.{None, refl, ◌∙◌, arith}
-use Rattle.std.proofs.lemmas.List.{length-set}
+use Rattle.std.proofs.Common.{None, ◌∙◌, ap, set, subst₂, sym, arith}
 use Rattle.std.specs.FinMap as finite
-use Rattle.tick_wheel.proofs.TableLemmas.{deadlines_of-clear, NoneDue-set}
+use Rattle.tick_wheel.specs.Slots.{IsWheel}
+use Rattle.tick_wheel.specs.Table.{deadlines_of}
+use Rattle.tick_wheel.proofs.TableLemmas.{deadlines_of-clear}
+use Rattle.tick_wheel.proofs.Keeping.{IsWheel-reset}
 use Rattle.tick_wheel.proofs.Wheel.reset.Goals as goal
 
 pub returns-clause-deadlines : goal.returns-clause-deadlines
 returns-clause-deadlines c =
-    deadlines_of-clear c.self.inside.deadlines.items c.place.result (omega (arith, c.self.invariant.0))
-    ∙ (λ i. finite.remove (c.self.view_is i).deadlines (c.place.ensures.timer i))
+    let table = c.self.inside.deadlines.items in
+    ap (λ k. deadlines_of (set table k None)) c.from.ensures
+    ∙ deadlines_of-clear table c.place-place.result (omega (arith, c.place-place.ensures.in_range, c.self.invariant.0.len))
+    ∙ (λ i. finite.remove (c.self.view_is i).deadlines (c.place-place.ensures.timer i))
 
 pub invariant_of-self : goal.invariant_of-self
 invariant_of-self c =
     let table = c.self.inside.deadlines.items in
-    (length-set table c.place.result None ∙ c.self.invariant.0, c.self.invariant.1, NoneDue-set c.self.inside.clock table c.place.result None refl c.self.invariant.2)
+    let place = c.place-place.result in
+    (subst₂ (IsWheel c.self.inside.clock) (ap (λ k. set table k None) (sym c.from.ensures)) (sym c.take_out.ensures) (IsWheel-reset c.self.inside.clock table c.self.inside.lists c.self.invariant.0 place c.place-place.ensures.in_range), c.self.invariant.1)

@@ -42,11 +42,11 @@ returns-clause-stops c none =
 pub returns-clause-took : goal.returns-clause-took
 returns-clause-took c =
     let part = heard_part _ _ c.args.octets.now c.feed_until-taken.result.0 c.feed_until-taken.result.1.items c.requires c.feed_until-taken.ensures.most
-        c.feed_until-taken.ensures.all c.feed_until-taken.ensures.stands c.feed_until-taken.ensures.events c.feed_until-taken.ensures.before
-        (c.if-not-make_room.ensures.room refl)
-        (taken_from c.as_slice.result.now c.feed_until-taken.result.1.items c.make_room.new.heart c.self.inside.heart c.take_events.new.heart
-        c.as_slice.ensures.value (c.if-not-make_room.ensures.tidied refl) c.take_events.ensures)
-        refl in
+    c.feed_until-taken.ensures.all c.feed_until-taken.ensures.stands c.feed_until-taken.ensures.events c.feed_until-taken.ensures.before
+    (c.if-not-make_room.ensures.room refl)
+    (taken_from c.as_slice.result.now c.feed_until-taken.result.1.items c.make_room.new.heart c.self.inside.heart c.take_events.new.heart
+    c.as_slice.ensures.value (c.if-not-make_room.ensures.tidied refl) c.take_events.ensures)
+    refl in
     took_from c.args.self.now _ _ c.self.view_is (took_heard c.unacknowledged_messages_stay.ensures _ _ c.self.invariant.0 _ c.self.invariant.1 part)
 
 pub returns-then-not-make_room-clause-took : goal.returns-then-not-make_room-clause-took
