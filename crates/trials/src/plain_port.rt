@@ -8,6 +8,7 @@ use turn_code::TimerNumber;
 pub const TIMERS: u8 = 8;
 
 /// The items that wait for a process, in the order in which they came.
+#[derive(Drop)]
 pub struct PlainPort {
     capacity: usize,
     items: Vec<Item>,
@@ -51,17 +52,23 @@ impl PlainPort {
 
     /// Puts the signal of a timer behind the other items.
     pub fn put_timer(&mut self, timer: TimerNumber) -> Result<(), AllocError> {
-        self.items.push(Item::Timer(timer))
+        self.items.push(Item::Timer(timer))?;
+        Ok(())
     }
 
     /// The place of the first item that isn't saved.
-    pub fn first(&self, saved: &Saved) -> Option<usize> {
+    pub fn place_of_first(&self, saved: &Saved) -> Option<usize> {
         self.items.iter().position(|item| !saved.has(item))
+    }
+
+    /// The first item that isn't saved.
+    pub fn first(&self, saved: &Saved) -> Option<&Item> {
+        self.items.get(self.place_of_first(saved)?)
     }
 
     /// Takes the first item that isn't saved.
     pub fn take(&mut self, saved: &Saved) -> Option<Item> {
-        let place = self.first(saved)?;
+        let place = self.place_of_first(saved)?;
         if place < self.items.len() {
             Some(self.items.remove(place))
         } else {

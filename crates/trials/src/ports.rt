@@ -13,6 +13,7 @@ use turn_code::{Party, ProcessNumber, SignalNumber, TimerNumber, Value};
 const SIGNALS: u64 = 4;
 
 /// A port with a plain one beside it, and what was found.
+#[derive(Drop)]
 struct Held {
     port: Port,
     plain: PlainPort,
@@ -88,6 +89,23 @@ fn are_same(one: Option<&Item>, other: Option<&Item>) -> bool {
     }
 }
 
+/// Puts the signal of a timer into both, if it has none there. Whether both had one, or none.
+fn put_timer_in(
+    port: &mut Port,
+    plain: &mut PlainPort,
+    timer: TimerNumber,
+) -> Result<bool, AllocError> {
+    if port.has_timer(timer) {
+        return Ok(plain.has_timer(timer));
+    }
+    if plain.has_timer(timer) || timer.0 >= TIMERS {
+        return Ok(false);
+    }
+    port.put_timer(timer);
+    plain.put_timer(timer)?;
+    Ok(true)
+}
+
 impl Held {
     fn new(alloc: Global, capacity: usize) -> Result<Held, AllocError> {
         let capacity = capacity.clamp(1, 64);
@@ -118,30 +136,29 @@ impl Held {
         Ok(())
     }
 
-    /// Puts the signal of a timer that has none here.
+    /// Puts the signal of a timer, if it has none here.
     fn put_timer(&mut self, timer: TimerNumber) -> Result<(), AllocError> {
-        let there = self.plain.has_timer(timer);
-        self.count(self.port.has_timer(timer) == there);
-        if !there && !self.port.has_timer(timer) && timer.0 < TIMERS {
-            self.port.put_timer(timer);
-            self.plain.put_timer(timer)?;
-        }
+        let same = put_timer_in(&mut self.port, &mut self.plain, timer)?;
+        self.count(same);
         Ok(())
+    }
+
+    /// Whether both find the same item first.
+    fn finds(&self, saved: &Saved) -> bool {
+        are_same(self.port.first(saved), self.plain.first(saved))
+    }
+
+    /// Whether a saved item stands before the first that isn't.
+    fn is_behind(&self, saved: &Saved) -> bool {
+        self.plain.place_of_first(saved).unwrap_or(0) > 0
     }
 
     /// Finds and takes the first item that isn't saved.
     fn take(&mut self, saved: &Saved) {
-        let place = self.plain.first(saved).unwrap_or(0);
-        if place > 0 {
+        if self.is_behind(saved) {
             self.behind = self.behind.saturating_add(1);
         }
-        let found = are_same(
-            self.port.first(saved),
-            match self.plain.first(saved) {
-                Some(place) => self.plain.items().get(place),
-                None => None,
-            },
-        );
+        let found = self.finds(saved);
         let got = self.port.take(saved);
         let wanted = self.plain.take(saved);
         self.count(found && are_same(got.as_ref(), wanted.as_ref()));
@@ -207,12 +224,7 @@ fn hold(alloc: Global, text: &mut String, line: &str) -> Result<(), Stopped> {
     for _ in 0..calls {
         held.call(&mut noise)?;
     }
-    let Held {
-        full,
-        behind,
-        differences,
-        ..
-    } = held;
+    let (full, behind, differences) = (held.full, held.behind, held.differences);
     writeln!(
         text,
         "port {capacity}: {calls} calls, {full} without room, {behind} behind saved ones, differences {differences}"
