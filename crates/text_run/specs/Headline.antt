@@ -26,8 +26,8 @@ opened_by d l = opened_book d l.port l.env l.journal
 -- what events do to a link that was opened with a set, by a meaning of its turns: the answers, the book and its state are the machine's.
 -- The machine has an answer Stuck, for a turn whose meaning gives nothing; what is answered has none.
 pub record RunsBy (act : Meaning) (d : Draft) (l : LimitNumbers) (es : List Event) (book : Ledger) (replies : List Reply) : Type 0 where
-  pub replies : map Says replies ≡ answers_by act (opened_by d l) es
-  pub book : book ≡ after_by act (opened_by d l) es
+  pub answers : map Says replies ≡ answers_by act (opened_by d l) es
+  pub after : book ≡ after_by act (opened_by d l) es
   pub state : state_of book ≡ state_by act book
 
 -- the turn that an actor has out counts at most its budget, and that is the longest path of the text's transition
