@@ -1,5 +1,5 @@
-/* A library to load before a program: the request for memory whose number, from 1, stands in REFUSE is refused, and the number of all
-   requests is written to standard error where COUNT is set, and each with its size where SIZES is. */
+/* A library to load before a program: the request for memory whose number, from 1, stands in REFUSE is refused, which is told on standard
+   error as `refused`. The number of all requests is told there where COUNT is set, and each with its size where SIZES is. */
 #define _GNU_SOURCE
 #include <errno.h>
 #include <stddef.h>
@@ -18,20 +18,21 @@ static long requests;
 
 static int told = -1;
 
+static void tell(size_t size) {
+    char line[40];
+    (void)!syscall(SYS_write, 2, line, snprintf(line, sizeof line, "request %zu\n", size));
+}
+
 static int refuse(size_t size) {
     if (refused < 0) {
         const char *word = getenv("REFUSE");
-        refused = word ? atol(word) : 0;
         told = getenv("SIZES") != NULL;
+        refused = word ? atol(word) : 0;
     }
-    requests++;
-    if (told == 1) {
-        char line[40];
-        told = 2;
-        (void)!write(2, line, snprintf(line, sizeof line, "request %zu\n", size));
-        told = 1;
-    }
-    if (refused != requests) return 0;
+    long number = __atomic_add_fetch(&requests, 1, __ATOMIC_SEQ_CST);
+    if (told == 1) tell(size);
+    if (refused != number) return 0;
+    (void)!syscall(SYS_write, 2, "refused\n", 8);
     errno = ENOMEM;
     return 1;
 }
@@ -48,13 +49,13 @@ int posix_memalign(void **place, size_t align, size_t size) {
     return *place ? 0 : ENOMEM;
 }
 
-__attribute__((destructor)) static void tell(void) {
+__attribute__((destructor)) static void count(void) {
     if (getenv("COUNT")) dprintf(2, "requests %ld\n", requests);
 }
 
 /* A program that ends so runs no destructor. */
 void _exit(int status) {
-    tell();
+    count();
     syscall(SYS_exit_group, status);
     __builtin_unreachable();
 }

@@ -1,0 +1,108 @@
+"""What the tools share that try a built program: how a run ends, cases side by side, a library of C to load before it, and the last line."""
+import concurrent.futures
+import importlib.machinery
+import importlib.util
+import os
+import pathlib
+import shutil
+import subprocess
+import sys
+
+ROOT = pathlib.Path(__file__).resolve().parent.parent
+# The programs that `rt ci` leaves, or others in their place.
+PLAY = pathlib.Path(os.environ.get("MTP2_PLAY", ROOT / "crates" / "mtp2_play" / "out" / "mtp2_play"))
+TRIALS = pathlib.Path(os.environ.get("TRIALS", ROOT / "crates" / "trials" / "out" / "trials"))
+# Seconds that one run may take.
+LIMIT = 60
+
+
+class Run:
+    """How a run of a program ended: its status, what it wrote, and what it said on standard error. A run that was stopped has the word
+    `signal N` or `too slow` for its status."""
+
+    def __init__(self, words, given=b"", program=PLAY, folder=ROOT, limit=LIMIT, out=None, **variables):
+        how = {"executable": str(program), "cwd": folder, "env": {**os.environ, **variables}, "stderr": subprocess.PIPE}
+        source = {"stdin": given} if hasattr(given, "fileno") else {"input": given}
+        try:
+            done = subprocess.run(["mtp2_play", *words], timeout=limit, stdout=out or subprocess.PIPE, **source, **how)
+        except subprocess.TimeoutExpired:
+            self.status, self.wrote, self.said = "too slow", b"", b""
+            return
+        self.status = done.returncode if done.returncode >= 0 else f"signal {-done.returncode}"
+        self.wrote, self.said = done.stdout or b"", done.stderr
+
+
+class Count:
+    """How many cases passed and failed. What failed is told as it is found."""
+
+    def __init__(self, name):
+        self.name, self.passed, self.failed, self.skipped = name, 0, 0, 0
+
+    def case(self, name, fault):
+        """Counts a case, whose fault is none where it passed."""
+        if fault:
+            self.failed += 1
+            print(f"{self.name}: {name}: {fault}", flush=True)
+        else:
+            self.passed += 1
+
+    def skip(self, number, why):
+        self.skipped += number
+        print(f"{self.name}: skipped: {why}", flush=True)
+
+    def all(self, cases, call):
+        """Counts cases; `call` gives the fault of one, if it has one. A case is a name and what it is made of."""
+        for (name, *_), fault in zip(cases, side_by_side(call, [it[1:] for it in cases])):
+            self.case(name, fault)
+
+    def end(self):
+        """Prints the last line. Gives the exit status."""
+        print(f"{self.passed} passed, {self.failed} failed" + (f", {self.skipped} skipped" if self.skipped else ""), flush=True)
+        return 1 if self.failed else 0
+
+
+def called(given):
+    call, words = given
+    return call(*words)
+
+
+def side_by_side(call, given):
+    """What `call` gives for each of these, in their order, asked on all processors."""
+    with concurrent.futures.ProcessPoolExecutor(len(os.sched_getaffinity(0))) as pool:
+        return list(pool.map(called, [(call, it) for it in given], chunksize=max(1, min(16, len(given) // 40))))
+
+
+def tool(name):
+    """A tool of this folder as a module."""
+    loader = importlib.machinery.SourceFileLoader(name, str(ROOT / "tools" / name))
+    module = importlib.util.module_from_spec(importlib.util.spec_from_loader(name, loader))
+    loader.exec_module(module)
+    return module
+
+
+def missing(*programs):
+    """Whether a program isn't there, which is told."""
+    lacking = [it for it in programs if not os.access(it, os.X_OK)]
+    for it in lacking:
+        print(f"{it} isn't there: `rt ci` or `rt run` builds it", file=sys.stderr)
+    return bool(lacking)
+
+
+def library(folder, name):
+    """Compiles a library of tools/ into a folder; None where there is no C compiler."""
+    compiler = next((it for it in map(shutil.which, ["cc", "clang", "gcc"]) if it), None)
+    if compiler is None:
+        return None
+    made = pathlib.Path(folder) / f"{name}.so"
+    subprocess.run([compiler, "-O1", "-shared", "-fPIC", "-o", made, ROOT / "tools" / f"{name}.c", "-ldl"], check=True)
+    return str(made)
+
+
+def differs(wanted, found):
+    """The first line in which two texts differ, for a person to read; none where they are the same."""
+    if wanted == found:
+        return None
+    ones, others = wanted.split(b"\n"), found.split(b"\n")
+    at = next((number for number, (one, other) in enumerate(zip(ones, others)) if one != other), min(len(ones), len(others)))
+    shown = lambda lines: lines[at][:200].decode(errors="replace") if at < len(lines) else "(the end)"
+    return f"line {at + 1} is {shown(others)!r} and not {shown(ones)!r}"
