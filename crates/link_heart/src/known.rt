@@ -1,7 +1,7 @@
 //! The numbers that a terminal's names have in its set.
 ghost use Rattle.std.specs.Prelude.{◌≡◌, All, IfOk, IfErr};
 ghost use Rattle.link_heart.specs.Known.{IsProcess, IsSignal, AreParties, AreOrders, AreNotices, AreOutputs, AreNames};
-ghost use Rattle.link_heart.specs.Wanted.{wanted, Has, HasSignal, HasSignals, HasProcesses, IsFirstLacking};
+ghost use Rattle.link_heart.specs.Wanted.{wanted, Has, HasSignals, HasProcesses, IsFirstLacking};
 
 use crate::names::{Names, Notices, Orders, Outputs, Parties};
 use crate::wanted::{Wanted, all_wanted, first_lacking};
