@@ -19,7 +19,7 @@ use Rattle.link_refusals.specs.declared.errors.RetrieveError.{RetrieveError}
 use Rattle.link_refusals.specs.declared.errors.RetrieveError.TheVariants as retrieve
 use Rattle.link_refusals.specs.declared.errors.AbandonError.TheVariants as abandon
 use Rattle.group_links.specs.declared.link.Link.{Link}
-use Rattle.group_links.specs.OneLink.{window, held, is_changing, put_fault, puts, known, unsure_by, retrieve_fault, retrieve_fault_by, retrieve_fault_in, number_of, hands_out, abandon_by, abandon_fault}
+use Rattle.group_links.specs.OneLink.{window, held, is_changing, put_fault, puts, known, known_at, unsure_by, retrieve_fault, retrieve_fault_by, retrieve_fault_in, number_of, hands_out, abandon_by, abandon_fault}
 use Rattle.group_links.specs.Links.{change, fault_at}
 use Rattle.group_links.specs.Failing.{handed, given_up, messages_by, none_known, sent_by}
 use Rattle.group_links.specs.Moving.{hand_by}
@@ -190,7 +190,7 @@ told_by k None is e = absurd (some_none e)
 told_by k (Some c) is e =
     let first = row_passes (is_some c.hand) retrieve.Waiting _ e in
     let second = row_passes _ retrieve.Waiting _ first.1 in
-    rw is (hand_none c.hand first.0, refl, second.1)
+    (ap hand_by is ∙ hand_none c.hand first.0, ap is_some is, ap (λ (x : Option Changing). unsure_by (window k).sent (known_at k x)) is ∙ second.1)
   where
     hand_none : (h : Option (List ℕ)) → is_some h ≡ false → h ≡ None
     hand_none None x = refl

@@ -43,7 +43,7 @@ link_at f s h = ap entry_by (slice_get-map f selections s ∙ ap (option_map f) 
 
 none_case : (s : ℕ) (m : Msu) (ms : List Msu) (b : Bool) → is_on s m ≡ b → b ≡ false → of s ms ≡ [] → of s (m ∷ ms) ≡ []
 unfolding of
-none_case s m ms b is no e = ap (λ (x : Bool). cond x (m ∷ of s ms) (of s ms)) (is ∙ no) ∙ e
+none_case s m ms b is off e = ap (λ (x : Bool). cond x (m ∷ of s ms) (of s ms)) (is ∙ off) ∙ e
 
 pub none_on : (s : ℕ) (ms : List Msu) → list_any (is_on s) ms ≡ false → of s ms ≡ []
 none_on s [] e = of-nil s
@@ -99,7 +99,7 @@ unfolding placed_anew
 stays_placed laws c hands accepted gone stays =
     let ls : List ℕ = open_links false c.links in
     record {
-      places = placed laws c _ hands accepted gone (λ l. refl)
+      places = placed laws c (placed_anew c) hands accepted gone (λ l. refl)
           (λ s lt. with_first _ _ (link_of c.table s) _ (link_at (anew_on c.links c.table ls) s lt)
           (anew_cases (changing_at c.links (link_of c.table s)) (held_by_any s c.links) (link_of c.table s) (pick ls s) _
           (λ still none. stands_none c hands accepted gone s (link_of c.table s) stays still none))) stays.places;
@@ -159,7 +159,7 @@ stays_rebalanced laws c hands accepted gone stays e =
     let second = row_passes (any_below (in_way c.links c.table ls) SELECTIONS) rebalance.NotEmpty None first.1 in
     let none : (l : ℕ) → hands l ≡ [] = all_idle c.links hands stays.fits first.0 in
     record {
-      places = placed laws c _ hands accepted gone (λ l. held_mapped forgiven c.links l (λ k. refl))
+      places = placed laws c (rebalanced c) hands accepted gone (λ l. held_mapped forgiven c.links l (λ k. refl))
           (λ s lt. with_first _ _ (link_of c.table s) _ (link_at (pick ls) s lt)
           (same_links c hands accepted gone s (link_of c.table s) (pick ls s) none
           (in_way_none c.links c.table ls s (below (in_way c.links c.table ls) SELECTIONS s second.0 lt)))) stays.places;
