@@ -20,6 +20,6 @@ pub use group_links::{
     RetrieveError, SendError,
 };
 pub use hands::{Ended, Hands};
-pub use link_labels::{Label, label_of};
+pub use link_labels::Label;
 pub use link_term::{CallError, Command, Mode, Msu, Report, Terminal};
 pub use retrieved::Retrieved;
