@@ -1,6 +1,5 @@
 pub mod Fields
-pub mod Turning
-pub mod Opening
-pub mod Below
-pub mod Diversions
 pub mod ByLinks
+pub mod Commands
+pub mod Room
+pub mod Keeping
