@@ -92,10 +92,7 @@ impl Client for Offers {
             }
             thread::yield_now();
         }
-        self.due = [
-            self.waits(pool, seat, 0, 3),
-            self.waits(pool, seat, 1, 5),
-        ];
+        self.due = [self.waits(pool, seat, 0, 3), self.waits(pool, seat, 1, 5)];
         pool.close();
         self.closing = [
             pool.offer(0, 0, UP, &[], seat).err(),
@@ -218,6 +215,15 @@ fn want_of_memory_hands_the_books_back(rt: HostRuntime) {
     if let Some(books) = links(rt.alloc(), ECHO, 2, 16) {
         let answer = answer(&rt, rt.alloc(), books, 2);
         assert!(rt; answer == 1 || answer == 2);
+    }
+}
+
+/// Holds whether or not threads can be started.
+#[test]
+fn want_of_threads_hands_the_books_back(rt: HostRuntime) {
+    if let Some(books) = links(rt.alloc(), ECHO, 2, 16) {
+        let answer = answer(&rt, rt.alloc(), books, 2);
+        assert!(rt; answer == 1 || answer == 3);
     }
 }
 

@@ -108,7 +108,7 @@ fn soak_prints_what_it_finds(rt: HostRuntime) {
 /// a link that there isn't, the one behind the last among them, offers to a process and of a signal that there aren't, too many ticks, and a value
 /// too many.
 const BOTH: &str =
-    "links 2\noffer LSC PowerOn\non 9\noffer LSC PowerOn\ntick 1\non 2\ntick 1\non 1\noffer Nobody PowerOn\noffer LSC Nothing\ntick 65536\noffer LSC PowerOn\ntick 5\noffer TXC AckSeen true true\noffer TXC AckSeen true\n";
+    "links 2\noffer LSC PowerOn\non 9\noffer LSC PowerOn\ntick 1\non 2\ntick 1\non 16\ntick 1\non 1\noffer Nobody PowerOn\noffer LSC Nothing\ntick 65536\noffer LSC PowerOn\ntick 5\noffer TXC AckSeen true true\noffer TXC AckSeen true\n";
 
 /// What a value stands for in a row: 9 for none.
 fn value_told(value: Option<&Value>) -> u64 {
@@ -172,7 +172,7 @@ fn a_script_is_done(rt: HostRuntime) {
 }
 
 /// How many ticks a long script has.
-const TICKS: usize = 300;
+const TICKS: usize = 2_000;
 
 /// A script of many ticks.
 fn long_text(alloc: Global) -> Result<String, AllocError> {
@@ -206,7 +206,7 @@ fn long_kept<R: Threads + Wait + Sync>(rt: &R, alloc: Global) -> Option<(usize, 
 
 #[test]
 fn a_long_script_has_all_its_receipts(rt: HostRuntime) {
-    assert_eq!(rt; long_kept(&rt, rt.alloc()), Some((TICKS, Some(300))));
+    assert_eq!(rt; long_kept(&rt, rt.alloc()), Some((TICKS, Some(2_000))));
 }
 
 /// How often the client asks.

@@ -58,7 +58,10 @@ fn exchanged(alloc: Global) -> Option<[Option<Value>; 2]> {
 /// A turn of another link, of the same process with another input, is refused and comes back; its own link takes that very one.
 #[test]
 fn a_turn_ends_on_its_own_link(rt: HostRuntime) {
-    assert_eq!(rt; exchanged(rt.alloc()), Some([Some(Value::Int(5)), Some(Value::Int(7))]));
+    assert_eq!(rt;
+        exchanged(rt.alloc()),
+        Some([Some(Value::Int(5)), Some(Value::Int(7))])
+    );
 }
 
 /// Makes the state of a link, of which a turn is out, its base, and ends the turn. How many turns the base has out, the link's numbers then, and
@@ -84,7 +87,10 @@ fn start_behind_rebase(alloc: Global) -> Option<(usize, [u64; 5], bool)> {
 /// One turn has ended, of three instructions; the journal begins at 1 and the next event comes at 2; no turn had ended in the base.
 #[test]
 fn a_turn_ends_behind_a_rebase(rt: HostRuntime) {
-    assert_eq!(rt; start_behind_rebase(rt.alloc()), Some((1, [1, 3, 1, 2, 0], true)));
+    assert_eq!(rt;
+        start_behind_rebase(rt.alloc()),
+        Some((1, [1, 3, 1, 2, 0], true))
+    );
 }
 
 /// How many processes the large set has: as many as one may.
@@ -166,5 +172,8 @@ fn large_rebased(alloc: Global) -> Option<(u64, [u64; 5])> {
 /// 100 rounds of 16 offers and turns are 4,800 events, an offer and a begin are two more; of 1,584 outputs 1,024 find room.
 #[test]
 fn a_book_that_holds_much_is_rebased(rt: HostRuntime) {
-    assert_eq!(rt; large_rebased(rt.alloc()), Some((0, [4_802, 1, 1_024, 15, 1_600])));
+    assert_eq!(rt;
+        large_rebased(rt.alloc()),
+        Some((0, [4_802, 1, 1_024, 15, 1_600]))
+    );
 }

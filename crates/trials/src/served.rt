@@ -138,7 +138,10 @@ fn write_figures(text: &mut String, sums: Sums, made: &Made) -> Result<(), Alloc
         turns,
         instructions,
     } = sums;
-    writeln!(text, "events {events}, turns {turns}, instructions {instructions}")?;
+    writeln!(
+        text,
+        "events {events}, turns {turns}, instructions {instructions}"
+    )?;
     let Made {
         offers,
         ticks,
@@ -146,7 +149,10 @@ fn write_figures(text: &mut String, sums: Sums, made: &Made) -> Result<(), Alloc
         rebases,
         ..
     } = *made;
-    writeln!(text, "offers {offers}, ticks {ticks}, taken {taken}, rebases {rebases}")?;
+    writeln!(
+        text,
+        "offers {offers}, ticks {ticks}, taken {taken}, rebases {rebases}"
+    )?;
     write_refusals(text, made)
 }
 
@@ -157,7 +163,11 @@ fn write_closed(
     made: &Made,
     is_long: bool,
 ) -> Result<(), AllocError> {
-    text.push_str(if agree(closed) { "seats agree\n" } else { "seats DIFFER\n" })?;
+    text.push_str(if agree(closed) {
+        "seats agree\n"
+    } else {
+        "seats DIFFER\n"
+    })?;
     if is_long {
         write_figures(text, sums_of(&closed.books), made)?;
     }
@@ -175,8 +185,17 @@ fn serve_links<R: Runtime + AllocGlobal + Threads + Wait + Sync>(
     let books = books_of(rt.alloc(), set, plan.links)?;
     let time = plan.minutes.map(minutes);
     let start = now(rt)?;
-    let mut client = Wanderer::new(rt, set, ways, plan.links, plan.seed, plan.steps, time, start);
-    match serve(rt, rt.alloc(), books, plan.workers as usize, &Open, &mut client) {
+    let mut client = Wanderer::new(
+        rt, set, ways, plan.links, plan.seed, plan.steps, time, start,
+    );
+    match serve(
+        rt,
+        rt.alloc(),
+        books,
+        plan.workers as usize,
+        &Open,
+        &mut client,
+    ) {
         Ok(closed) => {
             write_closed(text, &closed, &client.made, time.is_some())?;
             Ok(())

@@ -175,7 +175,10 @@ impl<'a, C: Clock> Wanderer<'a, C> {
             }
         }
         let refusal = pool.offer(link, way.actor, way.signal, &values, seat).err();
-        self.made.offers = self.made.offers.saturating_add(u64::from(refusal.is_none()));
+        self.made.offers = self
+            .made
+            .offers
+            .saturating_add(u64::from(refusal.is_none()));
         refusal
     }
 
@@ -217,7 +220,10 @@ impl<'a, C: Clock> Wanderer<'a, C> {
         link: usize,
     ) -> Option<PoolRefusal> {
         let refusal = pool.rebase(link, seat).err();
-        self.made.rebases = self.made.rebases.saturating_add(u64::from(refusal.is_none()));
+        self.made.rebases = self
+            .made
+            .rebases
+            .saturating_add(u64::from(refusal.is_none()));
         refusal
     }
 
