@@ -4,7 +4,6 @@ use crate::links::{ECHO, UP, book_of};
 use actor_book::{Book, Event, Limits, Offer, run_events};
 use arrayvec::ArrayVec;
 use std::alloc::Global;
-use text_run::run_text;
 use turn_machine::run;
 
 /// The book of a link, with room for one signal and 16 events.
@@ -54,12 +53,13 @@ fn is_answered(alloc: Global, book: &mut Book) -> bool {
     }
 }
 
-/// The numbers of a book behind the events, in one call from the text on.
+/// The numbers of a book behind the events.
 fn ran(alloc: Global) -> Option<[u64; 5]> {
-    let limits = Limits::new(1, 1, 16)?;
-    match run_text(alloc, ECHO, limits, &events()) {
-        Ok(run) if run.replies.len() == 7 => Some(numbers(&run.book)),
-        _ => None,
+    let mut book = opened(alloc)?;
+    if is_answered(alloc, &mut book) {
+        Some(numbers(&book))
+    } else {
+        None
     }
 }
 

@@ -19,7 +19,6 @@
 //! - `wheels`: in each line a seed and a number of calls. A wheel and a table of deadlines that is walked get the same calls, drawn by a
 //!   generator: timers set and reset, ticks that pass, one, few, a turn of the wheel, more than may. Shows how many timers were due, how many
 //!   the wheel looked at, and whether the two always said the same.
-//! - `served`: workers that serve links while a client does what a seeded generator says ([`served`]). Shows whether the seats agree.
 //! - `rounds`: what is measured, in each line a thing ([`rounds`]). Shows what its smallest round has; where a number of rounds is given
 //!   also how fast it went.
 #![tactic(auto)]
@@ -37,11 +36,9 @@ mod ports;
 mod reports;
 mod rounds;
 mod run;
-mod served;
 mod shown;
 mod steps;
 mod texts;
-mod wanderer;
 mod wheels;
 
 use crate::calls::Stopped;
@@ -50,7 +47,6 @@ use crate::lines::make_runs;
 use crate::ports::hold_ports;
 use crate::reports::report_all;
 use crate::rounds::make_rounds;
-use crate::served::serve_all;
 use crate::texts::{check_text, play_script};
 use crate::wheels::make_wheels;
 use std::io::{self, BufReader, ErrorKind, Read};
@@ -81,7 +77,6 @@ fn make<R: Runtime + AllocGlobal + Threads + Wait + Sync>(
         "ports" => hold_ports(rt.alloc(), text, trial),
         "reports" => report_all(rt.alloc(), text, trial),
         "rounds" => make_rounds(rt, text, trial),
-        "served" => serve_all(rt, text, trial),
         "wheels" => make_wheels(rt.alloc(), text, trial),
         _ => Err(Stopped::BadLine),
     }

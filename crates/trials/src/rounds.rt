@@ -26,7 +26,7 @@
 mod book_rounds;
 mod books;
 mod client;
-pub mod clock;
+mod clock;
 mod code;
 mod draws;
 mod line;

@@ -1,23 +1,36 @@
-//! Workers that serve links while a client does what a seeded generator says. The first line of a trial has numbers: the seed, how many links and
-//! workers there are, how many steps the client makes, and, where it is to go on for long, so many minutes in place of the steps. Behind it stands
-//! the text of a set, or `standard`. Shows whether the seats agree with the journals; with minutes also what was done and how often it was
-//! refused.
+//! Links that are served.
 
-use crate::calls::Stopped;
-use crate::rounds::clock::now;
-use crate::run::number;
+use crate::stopped::Stopped;
 use crate::wanderer::{Made, NAMES, Wanderer, Way};
 use actor_book::{Book, Limits};
 use mtp2_text::standard;
-use pool_soak::{Open, agree};
 use std::alloc::{AllocError, Global};
 use std::rt::Runtime;
+use std::str::SplitWhitespace;
 use std::sync::Wait;
 use std::thread::Threads;
-use std::time::Duration;
+use std::time::{Duration, Instant};
 use turn_code::{Party, ProcessNumber, SignalNumber};
-use turn_pool::{Closed, PoolFault, serve};
+use turn_pool::{Closed, Gate, JobName, PoolFault, serve};
 use turn_verify::{LoadFault, Verified, load};
+
+/// A gate that looks at nobody.
+#[derive(Drop)]
+struct Open;
+
+impl Gate for Open {
+    fn enter(&self, _name: JobName) {}
+
+    fn leave(&self, _name: JobName) {}
+}
+
+/// The next word, as a number.
+fn number(words: &mut SplitWhitespace<'_>) -> Option<u32> {
+    match words.next() {
+        Some(word) => word.parse::<u32>().ok(),
+        None => None,
+    }
+}
 
 /// The numbers of a trial.
 #[derive(Clone, Copy)]
@@ -82,20 +95,30 @@ fn ways_of(alloc: Global, set: &Verified) -> Result<Vec<Way>, AllocError> {
     Ok(ways)
 }
 
-/// A book on which nothing has happened, with ports of 16, 64 signals kept for the environment and a journal of 4,096.
-fn book_of(alloc: Global, set: &Verified) -> Result<Book, Stopped> {
-    match Limits::new(16, 64, 4_096) {
-        Some(limits) => Ok(Book::open(alloc, set, limits)?),
-        None => Err(Stopped::Refused),
+/// One more book on which nothing has happened.
+fn add_book(
+    alloc: Global,
+    set: &Verified,
+    limits: Limits,
+    books: &mut Vec<Book>,
+) -> Result<(), Stopped> {
+    let Ok(book) = Book::open(alloc, set, limits) else {
+        return Err(Stopped::NoMemory);
+    };
+    match books.push(book) {
+        Ok(_) => Ok(()),
+        Err(_) => Err(Stopped::NoMemory),
     }
 }
 
-/// So many of them.
+/// So many of them, with ports of 16, 64 signals kept for the environment and a journal of 4,096.
 fn books_of(alloc: Global, set: &Verified, links: u32) -> Result<Vec<Book>, Stopped> {
+    let Some(limits) = Limits::new(16, 64, 4_096) else {
+        return Err(Stopped::Refused);
+    };
     let mut books = Vec::new(alloc);
     for _ in 0..links {
-        let book = book_of(alloc, set)?;
-        books.push(book)?;
+        add_book(alloc, set, limits, &mut books)?;
     }
     Ok(books)
 }
@@ -125,7 +148,8 @@ fn sums_of(books: &[Book]) -> Sums {
 
 /// Writes how often the client was refused, by name.
 fn write_refusals(text: &mut String, made: &Made) -> Result<(), AllocError> {
-    for (name, times) in NAMES.iter().zip(made.refused.iter()) {
+    for place in 0..8 {
+        let (name, times) = (NAMES[place], made.refused[place]);
         writeln!(text, "refused {name}: {times}")?;
     }
     Ok(())
@@ -156,6 +180,15 @@ fn write_figures(text: &mut String, sums: Sums, made: &Made) -> Result<(), Alloc
     write_refusals(text, made)
 }
 
+/// Whether the seats have as many events as the journals.
+fn agree(closed: &Closed, events: u64) -> bool {
+    let mut counted = closed.client;
+    for seat in &closed.workers {
+        counted = counted.saturating_add(*seat);
+    }
+    counted == events
+}
+
 /// Writes what is left of a pool.
 fn write_closed(
     text: &mut String,
@@ -163,15 +196,25 @@ fn write_closed(
     made: &Made,
     is_long: bool,
 ) -> Result<(), AllocError> {
-    text.push_str(if agree(closed) {
-        "seats agree\n"
+    let sums = sums_of(&closed.books);
+    let word = if agree(closed, sums.events) {
+        "agree"
     } else {
-        "seats DIFFER\n"
-    })?;
+        "DIFFER"
+    };
+    writeln!(text, "seats {word}")?;
     if is_long {
-        write_figures(text, sums_of(&closed.books), made)?;
+        write_figures(text, sums, made)?;
     }
     Ok(())
+}
+
+/// What time it is.
+fn now<R: Runtime>(rt: &R) -> Result<Instant, Stopped> {
+    match Instant::now(rt) {
+        Ok(instant) => Ok(instant),
+        Err(_) => Err(Stopped::NoClock),
+    }
 }
 
 /// Serves the links of a plan with a client that wanders about on them.
@@ -183,7 +226,10 @@ fn serve_links<R: Runtime + AllocGlobal + Threads + Wait + Sync>(
     ways: &[Way],
 ) -> Result<(), Stopped> {
     let books = books_of(rt.alloc(), set, plan.links)?;
-    let time = plan.minutes.map(minutes);
+    let time = match plan.minutes {
+        Some(number) => Some(minutes(number)),
+        None => None,
+    };
     let start = now(rt)?;
     let mut client = Wanderer::new(
         rt, set, ways, plan.links, plan.seed, plan.steps, time, start,
@@ -207,7 +253,7 @@ fn serve_links<R: Runtime + AllocGlobal + Threads + Wait + Sync>(
 
 /// So many minutes.
 fn minutes(number: u32) -> Duration {
-    Duration::from_secs(u64::from(number) * 60)
+    Duration::from_secs(u64::from(number).saturating_mul(60))
 }
 
 /// Serves links of a set while a client does what a generator says, and writes what came of it.

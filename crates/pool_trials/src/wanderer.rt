@@ -1,7 +1,5 @@
 //! A client that does at each step what a seeded generator says.
 
-use crate::noise::Noise;
-use crate::rounds::clock::since;
 use actor_book::Refusal;
 use arrayvec::ArrayVec;
 use std::rt::Clock;
@@ -12,6 +10,23 @@ use std::time::{Duration, Instant};
 use turn_code::{SignalNumber, Sort, Value};
 use turn_pool::{Client, Pool, PoolRefusal, Seat};
 use turn_verify::Verified;
+
+/// Numbers that look random, the same in each run.
+#[derive(Clone, Copy)]
+struct Draws {
+    state: u64,
+}
+
+impl Draws {
+    /// The next of them (Knuth's constants).
+    fn draw(&mut self) -> u64 {
+        self.state = self
+            .state
+            .wrapping_mul(6_364_136_223_846_793_005)
+            .wrapping_add(1_442_695_040_888_963_407);
+        self.state >> 33
+    }
+}
 
 /// A signal that a route brings an actor from the environment.
 #[derive(Clone, Copy)]
@@ -48,7 +63,7 @@ pub struct Wanderer<'a, C> {
     rt: &'a C,
     set: &'a Verified,
     ways: &'a [Way],
-    draws: Noise,
+    draws: Draws,
     links: u32,
     left: u32,
     time: Option<Duration>,
@@ -91,7 +106,9 @@ impl<'a, C: Clock> Wanderer<'a, C> {
             rt,
             set,
             ways,
-            draws: Noise::new(u64::from(seed), 0),
+            draws: Draws {
+                state: u64::from(seed),
+            },
             links,
             left: steps,
             time,
@@ -126,7 +143,7 @@ impl<'a, C: Clock> Wanderer<'a, C> {
 
     /// Whether so much time has passed.
     fn is_late(&self, time: Duration) -> bool {
-        match since(self.rt, self.start) {
+        match self.start.elapsed(self.rt) {
             Ok(passed) => passed >= time,
             Err(_) => true,
         }
