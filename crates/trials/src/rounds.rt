@@ -16,6 +16,8 @@
 //! - `wheel [ROUNDS]`: 8, 64 and 1,024 timers that aren't due yet, in all slots alike, and 10,000 ticks, one by one. Shows how many timers
 //!   were looked at; with a number of rounds how many ticks passed in a second, `wheel` in a wheel and `table` in a table of deadlines that
 //!   is walked whole.
+//! - `port [ROUNDS]`: a port of 64 signals, all there; 10,000 times one is taken behind 0, 32 or 63 saved ones and put behind all others
+//!   again. Shows how many were taken; with a number of rounds how many a second, `port` from a port and `plain` from a vector.
 //! - `code SET`: the code of the set of such a name as numbers ([`code`]).
 //! - `open` and `full`: a book of the profile is held at the greatest limits, and in `full` its journal is filled. Shows how many events it
 //!   has.
@@ -33,6 +35,7 @@ mod line;
 mod line_rounds;
 mod link_rounds;
 mod pool_rounds;
+mod port_rounds;
 mod service;
 mod sets;
 mod store;
@@ -43,6 +46,7 @@ use crate::calls::Stopped;
 use crate::rounds::book_rounds::{Question, ask_set, write_books};
 use crate::rounds::line_rounds::write_line;
 use crate::rounds::link_rounds::write_link;
+use crate::rounds::port_rounds::write_ports;
 use crate::rounds::sets::Set;
 use crate::rounds::wheel_rounds::write_wheels;
 use crate::run::number;
@@ -90,6 +94,7 @@ fn make_line<R: Runtime + AllocGlobal + Threads + Wait + Sync>(
         "line" => write_line(rt, rt.alloc(), text, number(&mut words)),
         "link" => write_link(rt, rt.alloc(), text, number(&mut words)),
         "wheel" => write_wheels(rt, rt.alloc(), text, number(&mut words)),
+        "port" => write_ports(rt, rt.alloc(), text, number(&mut words)),
         "book" => write_books(rt, text, number(&mut words)),
         word => write_question(rt, text, word, &mut words),
     }
