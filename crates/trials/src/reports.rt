@@ -1,6 +1,6 @@
 //! What is done with two ends over a line without damage, and what the near one hands out.
 
-use crate::calls::{Stopped, hear, next_report, pass, put, speak, take, tell};
+use crate::calls::{Stopped, hear, next_report, pass, put, speak, tell};
 use crate::message::message_of;
 use crate::pair::{Pair, try_pair};
 use crate::steps::{Step, step_of};
@@ -30,23 +30,6 @@ fn carry(from: &mut Terminal, to: &mut Terminal) -> Result<(), Stopped> {
     } else {
         Err(Stopped::NoMemory)
     }
-}
-
-/// Octets of the line come to a terminal at once. Where it takes fewer for want of memory, it is given the others once more, as if they had
-/// never been given.
-fn hear_all(terminal: &mut Terminal, octets: &[u8]) -> Result<(), Stopped> {
-    let taken = take(terminal, octets);
-    if taken == octets.len() || hear(terminal, &octets[taken..]) {
-        Ok(())
-    } else {
-        Err(Stopped::NoMemory)
-    }
-}
-
-/// So many units from one terminal to the other, at once.
-fn carry_at_once(from: &mut Terminal, to: &mut Terminal, units: u16) -> Result<(), Stopped> {
-    let octets = speak(from, usize::from(units))?;
-    hear_all(to, octets.as_slice())
 }
 
 /// So many octets of 1s come to a terminal.
@@ -126,9 +109,6 @@ impl Pair {
             Step::Lose => self.lose(),
             Step::Ones(octets) => hear_ones(&mut self.near.terminal, octets),
             Step::Units(units) => write_octets(text, &mut self.near.terminal, units),
-            Step::Hears(units) => {
-                carry_at_once(&mut self.far.terminal, &mut self.near.terminal, units)
-            }
             Step::Wait(ticks) => self.pass(ticks),
             Step::Show => write_reports(text, &mut self.near.terminal),
         }

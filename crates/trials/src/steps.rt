@@ -1,9 +1,8 @@
 //! Steps as they are written: `near COMMAND` and `far COMMAND` tell an end something (`power_on`, `start`, `stop`, `outage`, `back`);
 //! `near_sends N` and `far_sends N` give it a message with a field of so many octets; in an `exchange` units go to the far end and then
 //! come from there, `lose` loses those to the far end; `ones N` is so many octets of 1s for the near end, `wait N` so many milliseconds at
-//! both; `units N` has so many units go out at the near end at once, and tells how many line octets they are; `hears N` has so many go out
-//! at the far end at once, and come to the near one at once; `show` hands out all that the near end has. Where the first line is `cyclic`,
-//! both ends repeat their messages in turn.
+//! both; `units N` has so many units go out at the near end at once, and tells how many line octets they are; `show` hands out all that
+//! the near end has. Where the first line is `cyclic`, both ends repeat their messages in turn.
 
 use link_term::Command;
 
@@ -26,8 +25,6 @@ pub enum Step {
     Ones(u16),
     /// So many units go out at the near end at once.
     Units(u16),
-    /// So many units go out at the far end at once, and come to the near one.
-    Hears(u16),
     /// So many milliseconds pass at both ends.
     Wait(u16),
     /// The near one hands out all that it has.
@@ -62,7 +59,6 @@ fn counted(word: &str, number: u16) -> Option<Step> {
         "far_sends" => Some(Step::FarSends(number)),
         "ones" => Some(Step::Ones(number)),
         "units" => Some(Step::Units(number)),
-        "hears" => Some(Step::Hears(number)),
         "wait" => Some(Step::Wait(number)),
         _ => None,
     }
