@@ -2,6 +2,7 @@
 import concurrent.futures
 import importlib.machinery
 import importlib.util
+import multiprocessing
 import os
 import pathlib
 import shutil
@@ -66,9 +67,10 @@ def called(given):
     return call(*words)
 
 
-def side_by_side(call, given):
-    """What `call` gives for each of these, in their order, asked on all processors."""
-    with concurrent.futures.ProcessPoolExecutor(len(os.sched_getaffinity(0))) as pool:
+def side_by_side(call, given, jobs=None):
+    """What `call` gives for each of these, in their order, asked on all processors, or in so many processes."""
+    how = {"max_workers": jobs or len(os.sched_getaffinity(0)), "mp_context": multiprocessing.get_context("fork")}
+    with concurrent.futures.ProcessPoolExecutor(**how) as pool:
         return list(pool.map(called, [(call, it) for it in given], chunksize=max(1, min(16, len(given) // 40))))
 
 
@@ -89,13 +91,15 @@ def missing(*programs):
 
 
 def library(folder, name):
-    """Compiles a library of tools/ into a folder; None where there is no C compiler."""
-    compiler = next((it for it in map(shutil.which, ["cc", "clang", "gcc"]) if it), None)
-    if compiler is None:
-        return None
-    made = pathlib.Path(folder) / f"{name}.so"
-    subprocess.run([compiler, "-O1", "-shared", "-fPIC", "-o", made, ROOT / "tools" / f"{name}.c", "-ldl"], check=True)
-    return str(made)
+    """Compiles a library of tools/ into a folder; None where there is no C compiler, or one that can't even compile the least of libraries."""
+    least, made = pathlib.Path(folder) / "least.c", pathlib.Path(folder) / f"{name}.so"
+    least.write_text("#define _GNU_SOURCE\n#include <dlfcn.h>\n#include <stdio.h>\n#include <unistd.h>\nint least(void) { return dlsym(RTLD_NEXT, \"read\") != NULL; }\n")
+    for compiler in filter(None, map(shutil.which, ["cc", "clang", "gcc"])):
+        words = [compiler, "-O1", "-shared", "-fPIC", "-o", made]
+        if subprocess.run([*words, least, "-ldl"], stdout=subprocess.DEVNULL, stderr=subprocess.DEVNULL).returncode == 0:
+            subprocess.run([*words, ROOT / "tools" / f"{name}.c", "-ldl"], check=True)
+            return str(made)
+    return None
 
 
 def differs(wanted, found):
