@@ -1,0 +1,262 @@
+-- What each command of a link set's script makes of the set and of the messages in hand, and the lines that it prints.
+use Rattle.std.specs.Prelude.{◌≡◌, ℕ, ◌<◌, ◌≤◌, zero, suc, true, List, [], ◌∷◌, ◌++◌, length, map, drop, Option, None, Some, slice_get, codes}
+use Rattle.std.specs.Fmt.{decimal}
+use Rattle.hex.specs.Hex.{encode_upper}
+use Rattle.resend_store.specs.declared.messages.Msu.{Msu}
+use Rattle.su_octets.specs.Printed.{unit_text}
+use Rattle.su_octets.specs.declared.units.Unit as units
+use Rattle.link_machine.specs.declared.reply.Refusal.{Refusal}
+use Rattle.link_term.specs.link_heart_types.commands.Command.{Command}
+use Rattle.link_labels.specs.declared.changeover.Changeover.{Changeover}
+use Rattle.link_labels.specs.Changeovers.{Says}
+use Rattle.link_places.specs.Sharing.{link_of}
+use Rattle.group_links.specs.declared.link.Link.{Link}
+use Rattle.link_refusals.specs.declared.errors.SendError.{SendError}
+use Rattle.link_refusals.specs.declared.errors.FailError.{FailError}
+use Rattle.link_refusals.specs.declared.errors.RetrieveError.{RetrieveError}
+use Rattle.link_refusals.specs.declared.errors.AbandonError.{AbandonError}
+use Rattle.link_refusals.specs.declared.errors.RebalanceError.{RebalanceError}
+use Rattle.link_refusals.specs.declared.errors.DivertFault.{DivertFault}
+use Rattle.link_group.specs.Set.{LinkSet, send_fault, sent}
+use Rattle.link_group.specs.Changing.{fail_fault, failed, order_at, IsRead, after_message, reply_to, retrieve_fault_at, after_retrieve, messages_for, abandon_fault_at, after_abandon, unsent_at}
+use Rattle.link_group.specs.Diverting.{diverted, after_divert}
+use Rattle.link_group.specs.Placing.{rebalance_fault, rebalanced}
+use Rattle.link_group.specs.Lines.{ByLink, Alone, Listened, Sent, Reported, Commanded, Refused, is_barred}
+use Rattle.link_group.specs.Ticks.{tick_fault, all_due, after_ticks, roomy}
+use Rattle.link_group.specs.Reading.{held_count, sent_count}
+use Rattle.link_group.specs.Printed.{send_error_text, fail_error_text, retrieve_error_text, abandon_error_text, divert_fault_text, rebalance_error_text}
+use Rattle.link_group.specs.Hands.{Hand, IsTaken}
+use Rattle.group_lines.specs.declared.words.GroupWord.{GroupWord}
+use Rattle.group_lines.specs.declared.words.GroupWord.TheVariants as words
+use Rattle.group_lines.specs.GroupCommands.{PlainGroupCommand, order, unit, line, out, ticks, state, shown, expected, on, sending, message, own}
+use Rattle.term_play.specs.Refused.{refused_text}
+use Rattle.term_play.specs.Answers.{process_named, state_line, value_line}
+use Rattle.term_play.specs.TermAnswers.{command_of, IsMessageOf}
+use Rattle.term_play.specs.UnitLines.{IsLineOf}
+
+-- Of a script that runs: the set, the messages that were handed out and are still in hand, and the link that lines speak of.
+pub record Playing : Type 0 where
+  pub set : LinkSet
+  pub hands : List Hand
+  pub on : ℕ
+
+-- ---- lines
+
+abbrev pub NO_LINK : List ℕ
+NO_LINK = codes "refused K1 NoLink"
+
+-- `ok`, or a refusal
+abbrev pub said_by : {E : Type 0} → (E → List ℕ) → Option E → List ℕ
+said_by text None = codes "ok"
+said_by text (Some e) = codes "refused " ++ text e
+
+-- what a call that isn't refused makes of a set; one that is refused changes nothing
+abbrev pub set_by : {E : Type 0} → Option E → LinkSet → LinkSet → LinkSet
+set_by None new old = new
+set_by (Some e) new old = old
+
+abbrev pub octets_line : List ℕ → List ℕ
+octets_line octets = codes "ok " ++ encode_upper octets
+
+abbrev pub count_line : ℕ → List ℕ
+count_line n = codes "ok " ++ decimal n
+
+-- ---- commands to the terminal of a link
+
+-- The actors of the link's terminal are asked; Start waits while a changeover of the link hasn't handed its messages out. Only room in the
+-- journal is made where they refuse.
+pub data IsTold (e : Command) (l : ℕ) (c : LinkSet) : List ℕ → LinkSet → Type 0 where
+  no_link : length c.links ≤ l → IsTold e l c NO_LINK c
+  waits : (k : Link) → slice_get c.links l ≡ Some k → is_barred e k ≡ true → IsTold e l c (codes "refused K2 Waiting") c
+  refused : (r : Refusal) (d : LinkSet) → Alone (Refused e r) l c d → IsTold e l c (refused_text r) d
+  taken : (d : LinkSet) → ByLink (Commanded e) l c d → IsTold e l c (codes "ok") d
+
+-- ---- octets of the line
+
+-- all reports of a link are taken out, one after another
+pub data GivesReports (l : ℕ) : LinkSet → LinkSet → Type 0 where
+  last : (c d : LinkSet) → ByLink (Reported None) l c d → GivesReports l c d
+  one : (c m d : LinkSet) (r : _) → ByLink (Reported (Some r)) l c m → GivesReports l m d → GivesReports l c d
+
+-- Octets of the line come in, part after part, and behind each part all reports are taken out. A part has one octet at least; it has all that
+-- is left, or ends where the terminal takes no more.
+pub data Listens (l : ℕ) : LinkSet → List ℕ → LinkSet → Type 0 where
+  done : (c : LinkSet) → Listens l c [] c
+  part : (c m w d : LinkSet) (octets : List ℕ) (taken : ℕ) → 0 < taken → ByLink (Listened octets taken) l c m → GivesReports l m w
+      → Listens l w (drop taken octets) d → Listens l c octets d
+
+pub data TakesLine (l : ℕ) (octets : List ℕ) (c : LinkSet) : List ℕ → LinkSet → Type 0 where
+  no_link : length c.links ≤ l → TakesLine l octets c NO_LINK c
+  heard : (d : LinkSet) → l < length c.links → Listens l c octets d → TakesLine l octets c (codes "ok") d
+
+-- what comes in of a signal unit, whose octets without the check octets these are
+pub record TakesUnit (l : ℕ) (octets : List ℕ) (c : LinkSet) (text : List ℕ) (d : LinkSet) : Type 0 where
+  pub come : List ℕ
+  pub are : IsLineOf octets come
+  pub takes : TakesLine l come c text d
+
+-- ---- units that go out
+
+-- So many units are asked of a link, and each that goes out has a line. Where none goes out, the line `silent` says so, and no more are
+-- asked for.
+pub data GoOut (l : ℕ) : ℕ → LinkSet → List (List ℕ) → LinkSet → Type 0 where
+  nothing : (c : LinkSet) → GoOut l zero c [] c
+  silent : (n : ℕ) (c d : LinkSet) → ByLink (Sent None) l c d → GoOut l (suc n) c (codes "silent" ∷ []) d
+  one_goes : (n : ℕ) (c m d : LinkSet) (x : units.Unit) (lines : List (List ℕ)) → ByLink (Sent (Some x)) l c m → GoOut l n m lines d
+      → GoOut l (suc n) c (unit_text x ∷ lines) d
+
+-- a refusal is one line, however many are asked for
+pub data GivesOut (l n : ℕ) (c : LinkSet) : List (List ℕ) → LinkSet → Type 0 where
+  no_link : length c.links ≤ l → GivesOut l n c (NO_LINK ∷ []) c
+  goes : (lines : List (List ℕ)) (d : LinkSet) → l < length c.links → GoOut l n c lines d → GivesOut l n c lines d
+
+-- ---- ticks
+
+-- They pass on all links, or on none.
+pub data Passes (n : ℕ) (c : LinkSet) : List ℕ → LinkSet → Type 0 where
+  passed : tick_fault n c.links ≡ None → Passes n c (codes "ok due " ++ decimal (all_due n c.links)) (after_ticks n c)
+  refused : (r : Refusal) → tick_fault n c.links ≡ Some r → Passes n c (refused_text r) (record c { links = map roomy c.links })
+
+-- ---- messages to send, and changeover
+
+pub record IsSent (octets : List ℕ) (c : LinkSet) (text : List ℕ) (d : LinkSet) : Type 0 where
+  pub message : Msu
+  pub octets_are : IsMessageOf octets message
+  pub says : text ≡ said_by send_error_text (send_fault c message)
+  pub makes : d ≡ set_by (send_fault c message) (sent c message) c
+
+-- a changeover begins, and the octets of the order for it are printed
+pub data Fails (l : ℕ) (c : LinkSet) : List ℕ → LinkSet → Type 0 where
+  refused : (e : FailError) → fail_fault c l ≡ Some e → Fails l c (codes "refused " ++ fail_error_text e) c
+  begins : (sif : List ℕ) → fail_fault c l ≡ None → Says sif (order_at c l) → Fails l c (octets_line sif) (failed c l)
+
+-- the octets of an answer, if there is one
+abbrev pub IsReplied : Option Changeover → List ℕ → Type 0
+IsReplied None text = text ≡ codes "ok"
+IsReplied (Some m) text = (sif : List ℕ) × Says sif m × (text ≡ octets_line sif)
+
+-- what came is read, and what it is the message of, if any, is taken
+pub record IsHeard (octets : List ℕ) (c : LinkSet) (text : List ℕ) (d : LinkSet) : Type 0 where
+  pub makes : (m : Option Changeover) → IsRead octets m → d ≡ after_message c m
+  pub says : (m : Option Changeover) → IsRead octets m → IsReplied (reply_to c m) text
+
+abbrev pub with_hand : List Hand → ℕ → List Msu → List Hand
+with_hand hands l messages = hands ++ record { link = l; messages = messages } ∷ []
+
+-- messages are handed out, and kept behind the other hands
+pub data Retrieves (l : ℕ) (c : LinkSet) (hands : List Hand) : List ℕ → LinkSet → List Hand → Type 0 where
+  refused : (e : RetrieveError) → retrieve_fault_at c l ≡ Some e → Retrieves l c hands (codes "refused " ++ retrieve_error_text e) c hands
+  given : retrieve_fault_at c l ≡ None
+      → Retrieves l c hands (count_line (length (messages_for c l))) (after_retrieve c l) (with_hand hands l (messages_for c l))
+
+pub data Abandons (l : ℕ) (c : LinkSet) (hands : List Hand) : List ℕ → LinkSet → List Hand → Type 0 where
+  refused : (e : AbandonError) → abandon_fault_at c l ≡ Some e → Abandons l c hands (codes "refused " ++ abandon_error_text e) c hands
+  given : abandon_fault_at c l ≡ None
+      → Abandons l c hands (count_line (length (unsent_at c l))) (after_abandon c l) (with_hand hands l (unsent_at c l))
+
+-- The messages of a hand are diverted. Of one that isn't wholly diverted the rest is kept behind the other hands.
+pub data DivertsHand (l : ℕ) (c : LinkSet) (messages : List Msu) (others : List Hand) : List ℕ → LinkSet → List Hand → Type 0 where
+  whole : (diverted c l messages).fault ≡ None → DivertsHand l c messages others (codes "ok") (after_divert c l messages) others
+  part : (e : DivertFault) → (diverted c l messages).fault ≡ Some e
+      → DivertsHand l c messages others
+      (codes "refused " ++ divert_fault_text e ++ codes " left " ++ decimal (length (diverted c l messages).at.rest)) (after_divert c l messages)
+      (with_hand others l (diverted c l messages).at.rest)
+
+-- that of the link, the first if there were several
+pub data Diverts (l : ℕ) (c : LinkSet) (hands : List Hand) : List ℕ → LinkSet → List Hand → Type 0 where
+  no_link : length c.links ≤ l → Diverts l c hands NO_LINK c hands
+  no_hand : l < length c.links → IsTaken l hands None hands → Diverts l c hands (codes "refused K2 Waiting") c hands
+  hand : (h : Hand) (others next : List Hand) (text : List ℕ) (d : LinkSet) → l < length c.links → IsTaken l hands (Some h) others
+      → DivertsHand l c h.messages others text d next → Diverts l c hands text d next
+
+pub record Rebalances (c : LinkSet) (text : List ℕ) (d : LinkSet) : Type 0 where
+  pub says : text ≡ said_by rebalance_error_text (rebalance_fault c)
+  pub makes : d ≡ set_by (rebalance_fault c) (rebalanced c) c
+
+-- ---- what is shown
+
+abbrev pub entry_text : ℕ → Option ℕ → List ℕ
+entry_text s None = decimal s ++ codes " -"
+entry_text s (Some l) = decimal s ++ codes " " ++ decimal l
+
+-- a selection and its link
+abbrev pub entry_at : List (Option ℕ) → ℕ → List ℕ
+entry_at ts s = entry_text s (link_of ts s)
+
+-- those from 0 to one
+unfoldable pub entries_to : List (Option ℕ) → ℕ → List ℕ
+entries_to ts zero = entry_at ts zero
+entries_to ts (suc s) = entries_to ts s ++ codes ", " ++ entry_at ts (suc s)
+
+abbrev pub table_line : List (Option ℕ) → List ℕ
+table_line ts = entries_to ts 15
+
+abbrev pub held_line : Option Link → List ℕ
+held_line None = NO_LINK
+held_line (Some k) = decimal (held_count k) ++ codes " sent " ++ decimal (sent_count k)
+
+abbrev pub state_at : List ℕ → Option Link → List ℕ
+state_at process None = NO_LINK
+state_at process (Some k) = state_line k.terminal.heart.book (process_named k.terminal.heart.book process)
+
+abbrev pub value_at : List ℕ → List ℕ → Option Link → List ℕ
+value_at process variable None = NO_LINK
+value_at process variable (Some k) = value_line k.terminal.heart.book variable (process_named k.terminal.heart.book process)
+
+-- ---- all commands
+
+-- the set alone changes
+pub record OnSet (P : List ℕ → LinkSet → Type 0) (p : Playing) (lines : List (List ℕ)) (q : Playing) : Type 0 where
+  pub text : List ℕ
+  pub one : lines ≡ text ∷ []
+  pub set : P text q.set
+  pub hands : q.hands ≡ p.hands
+  pub on : q.on ≡ p.on
+
+-- the set and the hands
+pub record OnHands (P : List ℕ → LinkSet → List Hand → Type 0) (p : Playing) (lines : List (List ℕ)) (q : Playing) : Type 0 where
+  pub text : List ℕ
+  pub one : lines ≡ text ∷ []
+  pub all : P text q.set q.hands
+  pub on : q.on ≡ p.on
+
+-- nothing changes
+pub record Shows (text : List ℕ) (p : Playing) (lines : List (List ℕ)) (q : Playing) : Type 0 where
+  pub one : lines ≡ text ∷ []
+  pub same : q ≡ p
+
+-- so many units are asked of the link
+pub record Outputs (n : ℕ) (p : Playing) (lines : List (List ℕ)) (q : Playing) : Type 0 where
+  pub goes : GivesOut p.on n p.set lines q.set
+  pub hands : q.hands ≡ p.hands
+  pub on : q.on ≡ p.on
+
+-- the lines below speak of another link, which may or may not be there; nothing is printed
+pub record TurnsTo (l : ℕ) (p : Playing) (lines : List (List ℕ)) (q : Playing) : Type 0 where
+  pub none : lines ≡ []
+  pub makes : q ≡ record p { on = l }
+
+abbrev pub ObeysWord : GroupWord → Playing → List (List ℕ) → Playing → Type 0
+ObeysWord words.Fail p lines q = OnSet (Fails p.on p.set) p lines q
+ObeysWord words.Retrieve p lines q = OnHands (Retrieves p.on p.set p.hands) p lines q
+ObeysWord words.Abandon p lines q = OnHands (Abandons p.on p.set p.hands) p lines q
+ObeysWord words.Divert p lines q = OnHands (Diverts p.on p.set p.hands) p lines q
+ObeysWord words.Rebalance p lines q = OnSet (Rebalances p.set) p lines q
+ObeysWord words.Table p lines q = Shows (table_line p.set.table) p lines q
+ObeysWord words.Held p lines q = Shows (held_line (slice_get p.set.links p.on)) p lines q
+ObeysWord words.Unsure p lines q = Shows (decimal p.set.unsure) p lines q
+
+-- A command was obeyed: what it makes of what there is, and the lines that it prints. `expect` is no command to a link set.
+abbrev pub Obeys : PlainGroupCommand → Playing → List (List ℕ) → Playing → Type 0
+Obeys (order o) p lines q = OnSet (IsTold (command_of o) p.on p.set) p lines q
+Obeys (unit octets) p lines q = OnSet (TakesUnit p.on octets p.set) p lines q
+Obeys (line octets) p lines q = OnSet (TakesLine p.on octets p.set) p lines q
+Obeys (out n) p lines q = Outputs n p lines q
+Obeys (ticks n) p lines q = OnSet (Passes n p.set) p lines q
+Obeys (state process) p lines q = Shows (state_at process (slice_get p.set.links p.on)) p lines q
+Obeys (shown process variable) p lines q = Shows (value_at process variable (slice_get p.set.links p.on)) p lines q
+Obeys (expected text) p lines q = ⊥
+Obeys (on l) p lines q = TurnsTo l p lines q
+Obeys (sending octets) p lines q = OnSet (IsSent octets p.set) p lines q
+Obeys (message octets) p lines q = OnSet (IsHeard octets p.set) p lines q
+Obeys (own word) p lines q = ObeysWord word p lines q

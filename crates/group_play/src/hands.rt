@@ -1,0 +1,122 @@
+//! Messages that are handed out, kept, and diverted.
+ghost use Rattle.std.specs.Prelude.{◌≡◌, ◌<◌, IfOk, length};
+ghost use Rattle.link_group.specs.Diverting.{Owns};
+ghost use Rattle.group_play.specs.GroupAnswers.{Retrieves, Abandons, Diverts, DivertsHand, MOST_HANDS, IsRetrieveLine, IsAbandonLine};
+
+use crate::saying::{count_line, done, no_link, refused};
+use link_group::{AbandonError, DivertError, Group, Hands, RetrieveError, Retrieved};
+use std::alloc::{AllocError, Global};
+use term_play::text_line;
+
+/// How many hands may be kept.
+const MOST_HANDS: usize = 16;
+
+/// The line of a refused retrieval; none where memory is wanting.
+fn unretrieved(alloc: Global, error: RetrieveError) -> Result<Vec<u8>, AllocError>
+    ensures { IfOk result (λ v. IsRetrieveLine error v.items) }
+{
+    if error == RetrieveError::NoMemory {
+        return Err(AllocError);
+    }
+    refused(alloc, &error)
+}
+
+/// `retrieve`. More hands than may be kept would be told as want of memory, but none comes here: a link has one hand at most.
+pub(crate) fn retrieve(
+    alloc: Global,
+    group: &mut Group,
+    hands: &mut Hands,
+    link: usize,
+) -> Result<Vec<u8>, AllocError>
+    ensures { IfOk result (λ v. Retrieves link group.old hands.old v.items group.new hands.new) }
+{
+    if hands.len() >= MOST_HANDS {
+        return Err(AllocError);
+    }
+    match group.retrieve(link) {
+        Ok(hand) => {
+            let count = hand.len();
+            hands.keep(hand);
+            count_line(alloc, count)
+        }
+        Err(error) => unretrieved(alloc, error),
+    }
+}
+
+/// The line where messages aren't given up; none where memory is wanting.
+fn unabandoned(alloc: Global, error: AbandonError) -> Result<Vec<u8>, AllocError>
+    ensures { IfOk result (λ v. IsAbandonLine error v.items) }
+{
+    if error == AbandonError::NoMemory {
+        return Err(AllocError);
+    }
+    refused(alloc, &error)
+}
+
+/// `abandon`. As for `retrieve`.
+pub(crate) fn abandon(
+    alloc: Global,
+    group: &mut Group,
+    hands: &mut Hands,
+    link: usize,
+) -> Result<Vec<u8>, AllocError>
+    ensures { IfOk result (λ v. Abandons link group.old hands.old v.items group.new hands.new) }
+{
+    if hands.len() >= MOST_HANDS {
+        return Err(AllocError);
+    }
+    match group.abandon(link) {
+        Ok(hand) => {
+            let count = hand.len();
+            hands.keep(hand);
+            count_line(alloc, count)
+        }
+        Err(error) => unabandoned(alloc, error),
+    }
+}
+
+/// Diverts a hand, and keeps what is left of it.
+fn divert_hand(
+    alloc: Global,
+    group: &mut Group,
+    hands: &mut Hands,
+    hand: Retrieved,
+) -> Result<Vec<u8>, AllocError>
+    requires owned { Owns group.old hand.link hand.messages.items }
+    requires room { length hands.old < MOST_HANDS }
+    ensures { IfOk result (λ v. DivertsHand hand.link group.old hand.messages.items hands.old v.items group.new hands.new) }
+{
+    match group.divert(hand) {
+        Ok(()) => done(alloc),
+        Err(DivertError { fault, rest }) => {
+            let left = rest.len();
+            hands.keep(rest);
+            text_line(alloc, &format_args!("refused {fault} left {left}"))
+        }
+    }
+}
+
+/// `divert`. A hand that isn't the set's would be told as want of memory, but none comes here: each was the set's own answer.
+pub(crate) fn divert(
+    alloc: Global,
+    group: &mut Group,
+    hands: &mut Hands,
+    link: usize,
+) -> Result<Vec<u8>, AllocError>
+    ensures { IfOk result (λ v. Diverts link group.old hands.old v.items group.new hands.new) }
+{
+    if link >= group.len() {
+        return no_link(alloc);
+    }
+    if hands.len() > MOST_HANDS {
+        return Err(AllocError);
+    }
+    let Some(hand) = hands.take(link) else {
+        return Vec::from_slice(alloc, b"refused K2 Waiting");
+    };
+    if !group.owns(&hand) {
+        hands.keep(hand);
+        return Err(AllocError);
+    }
+    divert_hand(alloc, group, hands, hand)
+}
