@@ -1,5 +1,5 @@
 //! The commands of a link set's script.
-ghost use Rattle.std.specs.Prelude.{◌≡◌, IfOk, option_map, option_and_then};
+ghost use Rattle.std.specs.Prelude.{◌≡◌, ◌∷◌, [], IfOk, option_map, option_and_then};
 ghost use Rattle.script_lines.specs.Lines.{texts};
 ghost use Rattle.script_lines.specs.Numbers.{count_of};
 ghost use Rattle.term_lines.specs.Octets.{octets_of};
@@ -100,10 +100,7 @@ fn command_by<'a>(
 }
 
 /// The command of a terminal's script that the words read as, where a link set's script has it too: all but `msu`.
-fn shared_in<'a>(
-    alloc: Global,
-    words: &[&'a str],
-) -> Result<Option<GroupCommand<'a>>, AllocError>
+fn shared_in<'a>(alloc: Global, words: &[&'a str]) -> Result<Option<GroupCommand<'a>>, AllocError>
     ensures { IfOk result (λ r. option_map plain_group_command r ≡ option_and_then shared_of (term_command_of (texts words.now))) }
 {
     let Some(command) = term_command_in(alloc, words)? else {
@@ -122,6 +119,20 @@ fn shared_in<'a>(
     }
 }
 
+/// What two words read as.
+fn pair_in<'a>(
+    alloc: Global,
+    first: &'a str,
+    word: &'a str,
+) -> Result<Option<GroupCommand<'a>>, AllocError>
+    ensures { IfOk result (λ r. option_map plain_group_command r ≡ group_command_of (first.now ∷ word.now ∷ [])) }
+{
+    match group_verb_in(first) {
+        Some(verb) => command_by(alloc, verb, word),
+        None => shared_in(alloc, &[first, word]),
+    }
+}
+
 /// The command that the words of a line read as, if they read as one.
 pub fn group_command_in<'a>(
     alloc: Global,
@@ -131,10 +142,7 @@ pub fn group_command_in<'a>(
 {
     match words {
         [word] => Ok(own_in(word)),
-        [first, word] => match group_verb_in(first) {
-            Some(verb) => command_by(alloc, verb, word),
-            None => shared_in(alloc, words),
-        },
+        [first, word] => pair_in(alloc, first, word),
         _ => shared_in(alloc, words),
     }
 }

@@ -1,5 +1,6 @@
 -- What each command of a link set's script makes of the set and of the messages in hand, and the lines that it prints.
-use Rattle.std.specs.Prelude.{◌≡◌, ℕ, ◌<◌, ◌≤◌, zero, suc, true, List, [], ◌∷◌, ◌++◌, length, map, drop, Option, None, Some, slice_get, codes}
+use Rattle.std.specs.Prelude.{◌≡◌, ℕ, ◌<◌, ◌≤◌, zero, suc, ◌==◌, Bool, true, false, List, [], ◌∷◌, ◌++◌, length, map, drop, Option, None, Some, slice_get, codes}
+use Rattle.std.specs.List.{list_any}
 use Rattle.std.specs.Fmt.{decimal}
 use Rattle.hex.specs.Hex.{encode_upper}
 use Rattle.resend_store.specs.declared.messages.Msu.{Msu}
@@ -10,22 +11,28 @@ use Rattle.link_term.specs.link_heart_types.commands.Command.{Command}
 use Rattle.link_labels.specs.declared.changeover.Changeover.{Changeover}
 use Rattle.link_labels.specs.Changeovers.{Says}
 use Rattle.link_places.specs.Sharing.{link_of}
-use Rattle.group_links.specs.declared.link.Link.{Link}
-use Rattle.link_refusals.specs.declared.errors.SendError.{SendError}
-use Rattle.link_refusals.specs.declared.errors.FailError.{FailError}
-use Rattle.link_refusals.specs.declared.errors.RetrieveError.{RetrieveError}
-use Rattle.link_refusals.specs.declared.errors.AbandonError.{AbandonError}
-use Rattle.link_refusals.specs.declared.errors.RebalanceError.{RebalanceError}
-use Rattle.link_refusals.specs.declared.errors.DivertFault.{DivertFault}
+use Rattle.link_group.specs.group_links_types.link.Link.{Link}
+use Rattle.link_group.specs.link_refusals_types.errors.CommandError.{CommandError}
+use Rattle.link_group.specs.link_refusals_types.errors.CommandError.TheVariants as barring
+use Rattle.link_group.specs.link_refusals_types.errors.FailError.{FailError}
+use Rattle.link_group.specs.link_refusals_types.errors.RetrieveError.{RetrieveError}
+use Rattle.link_group.specs.link_refusals_types.errors.AbandonError.{AbandonError}
+use Rattle.link_group.specs.link_refusals_types.errors.AbandonError.TheVariants as abandoning
+use Rattle.link_group.specs.link_refusals_types.errors.DivertFault.{DivertFault}
+use Rattle.link_group.specs.declared.hands.Kept.{Kept}
+use Rattle.link_group.specs.declared.hands.Hands.{Hands}
 use Rattle.link_group.specs.Set.{LinkSet, send_fault, sent}
 use Rattle.link_group.specs.Changing.{fail_fault, failed, order_at, IsRead, after_message, reply_to, retrieve_fault_at, after_retrieve, messages_for, abandon_fault_at, after_abandon, unsent_at}
 use Rattle.link_group.specs.Diverting.{diverted, after_divert}
 use Rattle.link_group.specs.Placing.{rebalance_fault, rebalanced}
-use Rattle.link_group.specs.Lines.{ByLink, Alone, Listened, Sent, Reported, Commanded, Refused, is_barred}
-use Rattle.link_group.specs.Ticks.{tick_fault, all_due, after_ticks, roomy}
+use Rattle.link_group.specs.Lines.{ByLink, Alone}
+use Rattle.link_group.specs.Doing.{Listened, Sent, Reported}
+use Rattle.link_group.specs.Commanding.{Commanded, Refused, is_barred}
+use Rattle.link_group.specs.OneLink.{but_memory}
+use Rattle.link_group.specs.Ticking.{all_due}
+use Rattle.link_group.specs.Ticks.{with_room, tick_fault, after_ticks}
 use Rattle.link_group.specs.Reading.{held_count, sent_count}
 use Rattle.link_group.specs.Printed.{send_error_text, fail_error_text, retrieve_error_text, abandon_error_text, divert_fault_text, rebalance_error_text}
-use Rattle.link_group.specs.Hands.{Hand, IsTaken}
 use Rattle.group_lines.specs.declared.words.GroupWord.{GroupWord}
 use Rattle.group_lines.specs.declared.words.GroupWord.TheVariants as words
 use Rattle.group_lines.specs.GroupCommands.{PlainGroupCommand, order, unit, line, out, ticks, state, shown, expected, on, sending, message, own}
@@ -34,11 +41,25 @@ use Rattle.term_play.specs.Answers.{process_named, state_line, value_line}
 use Rattle.term_play.specs.TermAnswers.{command_of, IsMessageOf}
 use Rattle.term_play.specs.UnitLines.{IsLineOf}
 
--- Of a script that runs: the set, the messages that were handed out and are still in hand, and the link that lines speak of.
+-- messages that a link handed out and that are still in hand
+pub record Hand : Type 0 where
+  pub link : ℕ
+  pub messages : List Msu
+
+-- Of a script that runs: the set, the hands that are out, and the link that lines speak of.
 pub record Playing : Type 0 where
   pub set : LinkSet
   pub hands : List Hand
   pub on : ℕ
+
+abbrev pub plain_hand : Kept → Hand
+plain_hand k = record { link = k.link; messages = k.messages.items }
+
+abbrev pub hands_of : Hands → List Hand
+hands_of h = map plain_hand h.kept.items
+
+abbrev pub at : LinkSet → Hands → ℕ → Playing
+at c h l = record { set = c; hands = hands_of h; on = l }
 
 -- ---- lines
 
@@ -71,6 +92,13 @@ pub data IsTold (e : Command) (l : ℕ) (c : LinkSet) : List ℕ → LinkSet →
   refused : (r : Refusal) (d : LinkSet) → Alone (Refused e r) l c d → IsTold e l c (refused_text r) d
   taken : (d : LinkSet) → ByLink (Commanded e) l c d → IsTold e l c (codes "ok") d
 
+-- the line of a refused order; want of memory has none
+abbrev pub IsBarredLine : CommandError → List ℕ → Type 0
+IsBarredLine barring.NoLink text = text ≡ NO_LINK
+IsBarredLine barring.Waiting text = text ≡ codes "refused K2 Waiting"
+IsBarredLine (barring.Refused r) text = text ≡ refused_text r
+IsBarredLine barring.NoMemory text = ⊥
+
 -- ---- octets of the line
 
 -- all reports of a link are taken out, one after another
@@ -84,6 +112,13 @@ pub data Listens (l : ℕ) : LinkSet → List ℕ → LinkSet → Type 0 where
   done : (c : LinkSet) → Listens l c [] c
   part : (c m w d : LinkSet) (octets : List ℕ) (taken : ℕ) → 0 < taken → ByLink (Listened octets taken) l c m → GivesReports l m w
       → Listens l w (drop taken octets) d → Listens l c octets d
+
+-- a part, and the reports behind it
+pub record TakesPart (l : ℕ) (octets : List ℕ) (taken : ℕ) (c d : LinkSet) : Type 0 where
+  pub some : 0 < taken
+  pub between : LinkSet
+  pub heard : ByLink (Listened octets taken) l c between
+  pub reports : GivesReports l between d
 
 pub data TakesLine (l : ℕ) (octets : List ℕ) (c : LinkSet) : List ℕ → LinkSet → Type 0 where
   no_link : length c.links ≤ l → TakesLine l octets c NO_LINK c
@@ -114,8 +149,8 @@ pub data GivesOut (l n : ℕ) (c : LinkSet) : List (List ℕ) → LinkSet → Ty
 
 -- They pass on all links, or on none.
 pub data Passes (n : ℕ) (c : LinkSet) : List ℕ → LinkSet → Type 0 where
-  passed : tick_fault n c.links ≡ None → Passes n c (codes "ok due " ++ decimal (all_due n c.links)) (after_ticks n c)
-  refused : (r : Refusal) → tick_fault n c.links ≡ Some r → Passes n c (refused_text r) (record c { links = map roomy c.links })
+  passed : tick_fault n c ≡ None → Passes n c (codes "ok due " ++ decimal (all_due n (with_room c.links))) (after_ticks n c)
+  refused : (r : Refusal) → tick_fault n c ≡ Some r → Passes n c (refused_text r) (record c { links = with_room c.links })
 
 -- ---- messages to send, and changeover
 
@@ -140,8 +175,21 @@ pub record IsHeard (octets : List ℕ) (c : LinkSet) (text : List ℕ) (d : Link
   pub makes : (m : Option Changeover) → IsRead octets m → d ≡ after_message c m
   pub says : (m : Option Changeover) → IsRead octets m → IsReplied (reply_to c m) text
 
+-- a link has one hand at most
+abbrev pub MOST_HANDS : ℕ
+MOST_HANDS = 16
+
 abbrev pub with_hand : List Hand → ℕ → List Msu → List Hand
 with_hand hands l messages = hands ++ record { link = l; messages = messages } ∷ []
+
+-- the lines of refusals; want of memory has none
+abbrev pub IsRetrieveLine : RetrieveError → List ℕ → Type 0
+IsRetrieveLine e text = (but_memory e ≡ Some e) × (text ≡ codes "refused " ++ retrieve_error_text e)
+
+abbrev pub IsAbandonLine : AbandonError → List ℕ → Type 0
+IsAbandonLine abandoning.NoMemory text = ⊥
+IsAbandonLine abandoning.NoLink text = text ≡ codes "refused " ++ abandon_error_text abandoning.NoLink
+IsAbandonLine abandoning.Waiting text = text ≡ codes "refused " ++ abandon_error_text abandoning.Waiting
 
 -- messages are handed out, and kept behind the other hands
 pub data Retrieves (l : ℕ) (c : LinkSet) (hands : List Hand) : List ℕ → LinkSet → List Hand → Type 0 where
@@ -162,11 +210,22 @@ pub data DivertsHand (l : ℕ) (c : LinkSet) (messages : List Msu) (others : Lis
       (codes "refused " ++ divert_fault_text e ++ codes " left " ++ decimal (length (diverted c l messages).at.rest)) (after_divert c l messages)
       (with_hand others l (diverted c l messages).at.rest)
 
--- that of the link, the first if there were several
+abbrev pub is_of : ℕ → Hand → Bool
+is_of l h = h.link == l
+
+-- the hand of a link among all, the first if there were several, and the others
+pub record IsFound (l : ℕ) (hands : List Hand) (h : Hand) (others : List Hand) : Type 0 where
+  pub front : List Hand
+  pub back : List Hand
+  pub stood : hands ≡ front ++ h ∷ back
+  pub link : h.link ≡ l
+  pub first : list_any (is_of l) front ≡ false
+  pub left : others ≡ front ++ back
+
 pub data Diverts (l : ℕ) (c : LinkSet) (hands : List Hand) : List ℕ → LinkSet → List Hand → Type 0 where
   no_link : length c.links ≤ l → Diverts l c hands NO_LINK c hands
-  no_hand : l < length c.links → IsTaken l hands None hands → Diverts l c hands (codes "refused K2 Waiting") c hands
-  hand : (h : Hand) (others next : List Hand) (text : List ℕ) (d : LinkSet) → l < length c.links → IsTaken l hands (Some h) others
+  no_hand : l < length c.links → list_any (is_of l) hands ≡ false → Diverts l c hands (codes "refused K2 Waiting") c hands
+  hand : (h : Hand) (others next : List Hand) (text : List ℕ) (d : LinkSet) → l < length c.links → IsFound l hands h others
       → DivertsHand l c h.messages others text d next → Diverts l c hands text d next
 
 pub record Rebalances (c : LinkSet) (text : List ℕ) (d : LinkSet) : Type 0 where
@@ -206,24 +265,50 @@ value_at process variable (Some k) = value_line k.terminal.heart.book variable (
 -- ---- all commands
 
 -- the set alone changes
-pub record OnSet (P : List ℕ → LinkSet → Type 0) (p : Playing) (lines : List (List ℕ)) (q : Playing) : Type 0 where
-  pub text : List ℕ
-  pub one : lines ≡ text ∷ []
+pub record OnSet (P : List ℕ → LinkSet → Type 0) (p : Playing) (text : List ℕ) (q : Playing) : Type 0 where
   pub set : P text q.set
   pub hands : q.hands ≡ p.hands
   pub on : q.on ≡ p.on
 
 -- the set and the hands
-pub record OnHands (P : List ℕ → LinkSet → List Hand → Type 0) (p : Playing) (lines : List (List ℕ)) (q : Playing) : Type 0 where
-  pub text : List ℕ
-  pub one : lines ≡ text ∷ []
-  pub all : P text q.set q.hands
+pub record OnHands (P : List ℕ → LinkSet → List Hand → Type 0) (p : Playing) (text : List ℕ) (q : Playing) : Type 0 where
+  pub both : P text q.set q.hands
   pub on : q.on ≡ p.on
 
 -- nothing changes
-pub record Shows (text : List ℕ) (p : Playing) (lines : List (List ℕ)) (q : Playing) : Type 0 where
-  pub one : lines ≡ text ∷ []
+pub record Shows (shown : List ℕ) (p : Playing) (text : List ℕ) (q : Playing) : Type 0 where
+  pub says : text ≡ shown
   pub same : q ≡ p
+
+abbrev pub WordAnswers : GroupWord → Playing → List ℕ → Playing → Type 0
+WordAnswers words.Fail p text q = OnSet (Fails p.on p.set) p text q
+WordAnswers words.Retrieve p text q = OnHands (Retrieves p.on p.set p.hands) p text q
+WordAnswers words.Abandon p text q = OnHands (Abandons p.on p.set p.hands) p text q
+WordAnswers words.Divert p text q = OnHands (Diverts p.on p.set p.hands) p text q
+WordAnswers words.Rebalance p text q = OnSet (Rebalances p.set) p text q
+WordAnswers words.Table p text q = Shows (table_line p.set.table) p text q
+WordAnswers words.Held p text q = Shows (held_line (slice_get p.set.links p.on)) p text q
+WordAnswers words.Unsure p text q = Shows (decimal p.set.unsure) p text q
+
+-- What a command that prints one line makes of what there is, and that line. `out`, `on` and `expect` are none of these.
+abbrev pub Answers : PlainGroupCommand → Playing → List ℕ → Playing → Type 0
+Answers (order o) p text q = OnSet (IsTold (command_of o) p.on p.set) p text q
+Answers (unit octets) p text q = OnSet (TakesUnit p.on octets p.set) p text q
+Answers (line octets) p text q = OnSet (TakesLine p.on octets p.set) p text q
+Answers (out n) p text q = Unit {0}
+Answers (ticks n) p text q = OnSet (Passes n p.set) p text q
+Answers (state process) p text q = Shows (state_at process (slice_get p.set.links p.on)) p text q
+Answers (shown process variable) p text q = Shows (value_at process variable (slice_get p.set.links p.on)) p text q
+Answers (expected said) p text q = Unit {0}
+Answers (on l) p text q = Unit {0}
+Answers (sending octets) p text q = OnSet (IsSent octets p.set) p text q
+Answers (message octets) p text q = OnSet (IsHeard octets p.set) p text q
+Answers (own word) p text q = WordAnswers word p text q
+
+pub record AnswersOne (c : PlainGroupCommand) (p : Playing) (lines : List (List ℕ)) (q : Playing) : Type 0 where
+  pub text : List ℕ
+  pub one : lines ≡ text ∷ []
+  pub answers : Answers c p text q
 
 -- so many units are asked of the link
 pub record Outputs (n : ℕ) (p : Playing) (lines : List (List ℕ)) (q : Playing) : Type 0 where
@@ -236,27 +321,9 @@ pub record TurnsTo (l : ℕ) (p : Playing) (lines : List (List ℕ)) (q : Playin
   pub none : lines ≡ []
   pub makes : q ≡ record p { on = l }
 
-abbrev pub ObeysWord : GroupWord → Playing → List (List ℕ) → Playing → Type 0
-ObeysWord words.Fail p lines q = OnSet (Fails p.on p.set) p lines q
-ObeysWord words.Retrieve p lines q = OnHands (Retrieves p.on p.set p.hands) p lines q
-ObeysWord words.Abandon p lines q = OnHands (Abandons p.on p.set p.hands) p lines q
-ObeysWord words.Divert p lines q = OnHands (Diverts p.on p.set p.hands) p lines q
-ObeysWord words.Rebalance p lines q = OnSet (Rebalances p.set) p lines q
-ObeysWord words.Table p lines q = Shows (table_line p.set.table) p lines q
-ObeysWord words.Held p lines q = Shows (held_line (slice_get p.set.links p.on)) p lines q
-ObeysWord words.Unsure p lines q = Shows (decimal p.set.unsure) p lines q
-
--- A command was obeyed: what it makes of what there is, and the lines that it prints. `expect` is no command to a link set.
+-- a command was obeyed: what it makes of what there is, and the lines that it prints; `expect` is no command to a link set
 abbrev pub Obeys : PlainGroupCommand → Playing → List (List ℕ) → Playing → Type 0
-Obeys (order o) p lines q = OnSet (IsTold (command_of o) p.on p.set) p lines q
-Obeys (unit octets) p lines q = OnSet (TakesUnit p.on octets p.set) p lines q
-Obeys (line octets) p lines q = OnSet (TakesLine p.on octets p.set) p lines q
 Obeys (out n) p lines q = Outputs n p lines q
-Obeys (ticks n) p lines q = OnSet (Passes n p.set) p lines q
-Obeys (state process) p lines q = Shows (state_at process (slice_get p.set.links p.on)) p lines q
-Obeys (shown process variable) p lines q = Shows (value_at process variable (slice_get p.set.links p.on)) p lines q
-Obeys (expected text) p lines q = ⊥
 Obeys (on l) p lines q = TurnsTo l p lines q
-Obeys (sending octets) p lines q = OnSet (IsSent octets p.set) p lines q
-Obeys (message octets) p lines q = OnSet (IsHeard octets p.set) p lines q
-Obeys (own word) p lines q = ObeysWord word p lines q
+Obeys (expected text) p lines q = ⊥
+Obeys c p lines q = AnswersOne c p lines q

@@ -1,5 +1,5 @@
 -- What a run of a link set's script has printed, and what it made of the set and of the messages in hand.
-use Rattle.std.specs.Prelude.{◌≡◌, ℕ, List, [], ◌∷◌, ◌++◌, All, length, Option, None, Some}
+use Rattle.std.specs.Prelude.{◌≡◌, ℕ, Bool, is_some, List, [], ◌∷◌, ◌++◌, All, length, Option, None, Some}
 use Rattle.std.specs.List.{flat_map}
 use Rattle.std.specs.Io.KnownBytes.{Appends}
 use Rattle.link_term.specs.mtp2_text_types.standard_text.TheConstants.{STANDARD}
@@ -13,7 +13,11 @@ use Rattle.group_lines.specs.GroupScripts.{PlainGroupSaid}
 use Rattle.term_play.specs.Printed.{line_of}
 use Rattle.term_play.specs.Played.{last_in, Misses}
 use Rattle.term_play.specs.TermRuns.{latest, HasPrinted}
-use Rattle.group_play.specs.GroupAnswers.{Playing, GoOut, GivesOut, Obeys}
+use Rattle.su_octets.specs.declared.units.Unit.{Unit as Unit_out}
+use Rattle.link_group.specs.Lines.{ByLink}
+use Rattle.link_group.specs.Doing.{Sent}
+use Rattle.term_play.specs.TermAnswers.{unit_line}
+use Rattle.group_play.specs.GroupAnswers.{Playing, at, GoOut, GivesOut, Obeys}
 use Rattle.group_play.specs.declared.player.GroupPlayer.{GroupPlayer}
 
 -- ---- where a script begins
@@ -29,11 +33,21 @@ OTHER_POINT = 2
 abbrev pub begun : LinkSet → Playing
 begun c = record { set = c; hands = []; on = 0 }
 
+-- as many new terminals as a script's first line says, with its error correction
+pub record AreNew (head : GroupHead) (terminals : List Term) : Type 0 where
+  pub number : length terminals ≡ head.links
+  pub are_new : All (IsNew STANDARD.now head.mode) terminals
+
+-- a set of such terminals between this point and the other
+pub record IsNewSet (head : GroupHead) (c : LinkSet) : Type 0 where
+  pub terminals : List Term
+  pub new : AreNew head terminals
+  pub set : c ≡ new_set OWN_POINT OTHER_POINT terminals
+
 -- P holds of the beginning of a script: a set of so many terminals over the profile's text, all new, with this error correction
 pub record IsOfNewSet (head : GroupHead) (P : Playing → Type 0) : Type 0 where
   pub terminals : List Term
-  pub number : length terminals ≡ head.links
-  pub are_new : All (IsNew STANDARD.now head.mode) terminals
+  pub new : AreNew head terminals
   pub holds : P (begun (new_set OWN_POINT OTHER_POINT terminals))
 
 -- ---- runs
@@ -57,12 +71,25 @@ pub record IsGroupRun (first : Playing) (commands : List PlainGroupSaid) (old ne
   pub written : Appends old new (flat_map line_of lines)
 
 abbrev pub playing_of : GroupPlayer → Playing
-playing_of p = record { set = p.group; hands = p.hands; on = p.on }
+playing_of p = at p.group p.hands p.on
 
 abbrev pub last_of : GroupPlayer → Option (List ℕ)
 last_of p = last_in p.printer
 
--- so many units were asked of a link, and their lines printed, or that it isn't there
+-- a unit was asked of a link, and its line printed, or `silent`
+pub record HasGone (went : Bool) (l : ℕ) (old new last next : Option (List ℕ)) (c d : LinkSet) : Type 0 where
+  pub unit : Option Unit_out
+  pub some : went ≡ is_some unit
+  pub sent : ByLink (Sent unit) l c d
+  pub printed : HasPrinted old new last next (unit_line unit ∷ [])
+
+-- so many units were asked of a link that is there, and their lines printed
+pub record HasGoneOut (l units : ℕ) (old new last next : Option (List ℕ)) (c d : LinkSet) : Type 0 where
+  pub lines : List (List ℕ)
+  pub out : GoOut l units c lines d
+  pub printed : HasPrinted old new last next lines
+
+-- the same of a link that may not be there
 pub record HasGivenOut (l units : ℕ) (old new last next : Option (List ℕ)) (c d : LinkSet) : Type 0 where
   pub lines : List (List ℕ)
   pub out : GivesOut l units c lines d

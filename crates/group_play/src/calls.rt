@@ -1,7 +1,7 @@
 //! Calls of the set that are told or answered by one line.
 ghost use Rattle.std.specs.Prelude.{◌≡◌, IfOk};
-ghost use Rattle.term_play.specs.TermAnswers.{command_of};
-ghost use Rattle.group_play.specs.GroupAnswers.{IsTold, Passes, IsSent, Fails, IsHeard, Rebalances, IsBarredLine, IsTickLine};
+ghost use Rattle.term_play.specs.TermAnswers.{command_of, IsRefusedLine};
+ghost use Rattle.group_play.specs.GroupAnswers.{IsTold, Passes, IsSent, Fails, IsHeard, Rebalances, IsBarredLine};
 
 use crate::saying::{done, no_link, octets_line, refused};
 use link_group::{CallError, CommandError, Group, label_of};
@@ -38,7 +38,7 @@ pub(crate) fn tell(
 
 /// The line of refused ticks; none where memory is wanting.
 fn held_up(alloc: Global, error: CallError) -> Result<Vec<u8>, AllocError>
-    ensures { IfOk result (λ v. IsTickLine error v.items) }
+    ensures { IfOk result (λ v. IsRefusedLine error v.items) }
 {
     match error {
         CallError::Refused(refusal) => refused_line(alloc, refusal),
@@ -58,11 +58,7 @@ pub(crate) fn tick(alloc: Global, group: &mut Group, ticks: u32) -> Result<Vec<u
 
 /// `send HEX`. Octets that are no message with a label would be told as want of memory, but none comes here: a script with such a line is
 /// refused as it is read.
-pub(crate) fn send(
-    alloc: Global,
-    group: &mut Group,
-    octets: &[u8],
-) -> Result<Vec<u8>, AllocError>
+pub(crate) fn send(alloc: Global, group: &mut Group, octets: &[u8]) -> Result<Vec<u8>, AllocError>
     ensures { IfOk result (λ v. IsSent octets.now group.old v.items group.new) }
 {
     let Some(msu) = message(octets) else {
@@ -88,11 +84,7 @@ pub(crate) fn fail(alloc: Global, group: &mut Group, link: usize) -> Result<Vec<
 }
 
 /// `message HEX`.
-pub(crate) fn hear(
-    alloc: Global,
-    group: &mut Group,
-    octets: &[u8],
-) -> Result<Vec<u8>, AllocError>
+pub(crate) fn hear(alloc: Global, group: &mut Group, octets: &[u8]) -> Result<Vec<u8>, AllocError>
     ensures { IfOk result (λ v. IsHeard octets.now group.old v.items group.new) }
 {
     match group.changeover_message(octets) {

@@ -1,7 +1,7 @@
 //! Messages that are handed out, kept, and diverted.
 ghost use Rattle.std.specs.Prelude.{◌≡◌, ◌<◌, IfOk, length};
 ghost use Rattle.link_group.specs.Diverting.{Owns};
-ghost use Rattle.group_play.specs.GroupAnswers.{Retrieves, Abandons, Diverts, DivertsHand, MOST_HANDS, IsRetrieveLine, IsAbandonLine};
+ghost use Rattle.group_play.specs.GroupAnswers.{hands_of, with_hand, Retrieves, Abandons, Diverts, DivertsHand, MOST_HANDS, IsRetrieveLine, IsAbandonLine};
 
 use crate::saying::{count_line, done, no_link, refused};
 use link_group::{AbandonError, DivertError, Group, Hands, RetrieveError, Retrieved};
@@ -11,14 +11,27 @@ use term_play::text_line;
 /// How many hands may be kept.
 const MOST_HANDS: usize = 16;
 
+/// Keeps a hand behind the others.
+fn keep(hands: &mut Hands, hand: Retrieved)
+    requires { length hands.old.kept.items < MOST_HANDS }
+    ensures { hands_of hands.new ≡ with_hand (hands_of hands.old) hand.link hand.messages.items }
+{
+    match hands.put(hand) {
+        Ok(()) => {}
+        Err(_hand) => unreachable!(),
+    }
+}
+
 /// The line of a refused retrieval; none where memory is wanting.
 fn unretrieved(alloc: Global, error: RetrieveError) -> Result<Vec<u8>, AllocError>
     ensures { IfOk result (λ v. IsRetrieveLine error v.items) }
 {
-    if error == RetrieveError::NoMemory {
-        return Err(AllocError);
+    match error {
+        RetrieveError::NoMemory => Err(AllocError),
+        RetrieveError::NoLink | RetrieveError::Waiting | RetrieveError::Unsure(_) => {
+            refused(alloc, &error)
+        }
     }
-    refused(alloc, &error)
 }
 
 /// `retrieve`. More hands than may be kept would be told as want of memory, but none comes here: a link has one hand at most.
@@ -28,7 +41,7 @@ pub(crate) fn retrieve(
     hands: &mut Hands,
     link: usize,
 ) -> Result<Vec<u8>, AllocError>
-    ensures { IfOk result (λ v. Retrieves link group.old hands.old v.items group.new hands.new) }
+    ensures { IfOk result (λ v. Retrieves link group.old (hands_of hands.old) v.items group.new (hands_of hands.new)) }
 {
     if hands.len() >= MOST_HANDS {
         return Err(AllocError);
@@ -36,7 +49,7 @@ pub(crate) fn retrieve(
     match group.retrieve(link) {
         Ok(hand) => {
             let count = hand.len();
-            hands.keep(hand);
+            keep(hands, hand);
             count_line(alloc, count)
         }
         Err(error) => unretrieved(alloc, error),
@@ -47,10 +60,10 @@ pub(crate) fn retrieve(
 fn unabandoned(alloc: Global, error: AbandonError) -> Result<Vec<u8>, AllocError>
     ensures { IfOk result (λ v. IsAbandonLine error v.items) }
 {
-    if error == AbandonError::NoMemory {
-        return Err(AllocError);
+    match error {
+        AbandonError::NoMemory => Err(AllocError),
+        AbandonError::NoLink | AbandonError::Waiting => refused(alloc, &error),
     }
-    refused(alloc, &error)
 }
 
 /// `abandon`. As for `retrieve`.
@@ -60,7 +73,7 @@ pub(crate) fn abandon(
     hands: &mut Hands,
     link: usize,
 ) -> Result<Vec<u8>, AllocError>
-    ensures { IfOk result (λ v. Abandons link group.old hands.old v.items group.new hands.new) }
+    ensures { IfOk result (λ v. Abandons link group.old (hands_of hands.old) v.items group.new (hands_of hands.new)) }
 {
     if hands.len() >= MOST_HANDS {
         return Err(AllocError);
@@ -68,7 +81,7 @@ pub(crate) fn abandon(
     match group.abandon(link) {
         Ok(hand) => {
             let count = hand.len();
-            hands.keep(hand);
+            keep(hands, hand);
             count_line(alloc, count)
         }
         Err(error) => unabandoned(alloc, error),
@@ -83,14 +96,14 @@ fn divert_hand(
     hand: Retrieved,
 ) -> Result<Vec<u8>, AllocError>
     requires owned { Owns group.old hand.link hand.messages.items }
-    requires room { length hands.old < MOST_HANDS }
-    ensures { IfOk result (λ v. DivertsHand hand.link group.old hand.messages.items hands.old v.items group.new hands.new) }
+    requires room { length hands.old.kept.items < MOST_HANDS }
+    ensures { IfOk result (λ v. DivertsHand hand.link group.old hand.messages.items (hands_of hands.old) v.items group.new (hands_of hands.new)) }
 {
     match group.divert(hand) {
         Ok(()) => done(alloc),
         Err(DivertError { fault, rest }) => {
             let left = rest.len();
-            hands.keep(rest);
+            keep(hands, rest);
             text_line(alloc, &format_args!("refused {fault} left {left}"))
         }
     }
@@ -103,7 +116,7 @@ pub(crate) fn divert(
     hands: &mut Hands,
     link: usize,
 ) -> Result<Vec<u8>, AllocError>
-    ensures { IfOk result (λ v. Diverts link group.old hands.old v.items group.new hands.new) }
+    ensures { IfOk result (λ v. Diverts link group.old (hands_of hands.old) v.items group.new (hands_of hands.new)) }
 {
     if link >= group.len() {
         return no_link(alloc);
@@ -115,7 +128,7 @@ pub(crate) fn divert(
         return Vec::from_slice(alloc, b"refused K2 Waiting");
     };
     if !group.owns(&hand) {
-        hands.keep(hand);
+        keep(hands, hand);
         return Err(AllocError);
     }
     divert_hand(alloc, group, hands, hand)

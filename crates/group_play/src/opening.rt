@@ -1,7 +1,8 @@
 //! The set in which a script begins.
-ghost use Rattle.std.specs.Prelude.{◌≡◌, All, IfOk, IfSome, length};
+ghost use Rattle.std.specs.Prelude.{◌≡◌, ◌++◌, ◌∷◌, [], IfOk, IfSome, OnOk};
 ghost use Rattle.link_term.specs.mtp2_text_types.standard_text.TheConstants.{STANDARD};
 ghost use Rattle.link_term.specs.Opening.{IsNew};
+ghost use Rattle.link_term.specs.Term.{Term};
 ghost use Rattle.group_lines.specs.GroupScripts.{IsFew};
 ghost use Rattle.group_play.specs.GroupRuns.{AreNew, IsNewSet};
 
@@ -11,6 +12,7 @@ use std::alloc::{AllocError, Global};
 
 /// This end's point code, and the other end's.
 const OWN_POINT: u16 = 1;
+
 const OTHER_POINT: u16 = 2;
 
 /// A terminal for a link of a set.

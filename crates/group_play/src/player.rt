@@ -1,9 +1,8 @@
 //! A link set's script as it runs.
-ghost use Rattle.std.specs.Prelude.{◌≡◌, ◌⊎◌, ◌++◌, ◌∷◌, [], List, ℕ, Option, map, IfOk, OnOk, true, false};
-ghost use Rattle.group_lines.specs.GroupCommands.{plain_group_command};
+ghost use Rattle.std.specs.Prelude.{◌≡◌, ◌⊎◌, ◌++◌, ◌∷◌, [], List, ℕ, Option, map, IfOk, true, false};
 ghost use Rattle.group_lines.specs.GroupScripts.{PlainGroupSaid, plain_group_said};
 ghost use Rattle.group_play.specs.GroupAnswers.{Playing};
-ghost use Rattle.group_play.specs.GroupRuns.{playing_of, last_of, HasObeyed, IsGroupRun, IsGroupMissed, IsGroupMissedBy};
+ghost use Rattle.group_play.specs.GroupRuns.{playing_of, last_of, IsGroupRun, IsGroupMissed, IsGroupMissedBy};
 
 use crate::answers::answer;
 use crate::outputs::give_out;
@@ -22,44 +21,6 @@ pub struct GroupPlayer {
 }
 
 impl GroupPlayer {
-    /// Does what a command that prints one line says.
-    fn say<W: Write>(
-        &mut self,
-        alloc: Global,
-        command: &GroupCommand<'_>,
-        writer: &mut W,
-    ) -> io::Result<()> {
-        let line = answer(alloc, &mut self.group, &mut self.hands, self.on, command)?;
-        self.printer.print(line, writer)?;
-        Ok(())
-    }
-
-    /// Does what a command says that isn't an expectation.
-    fn act<W: Write>(
-        &mut self,
-        alloc: Global,
-        command: &GroupCommand<'_>,
-        writer: &mut W,
-    ) -> io::Result<()>
-        ensures { OnOk result (HasObeyed (plain_group_command command.now) (W.contents writer.old) (W.contents writer.new) (last_of self.old) (last_of self.new) (playing_of self.old) (playing_of self.new)) }
-    {
-        match command {
-            GroupCommand::On(link) => {
-                self.on = *link as usize;
-                Ok(())
-            }
-            GroupCommand::Out(units) => give_out(
-                alloc,
-                &mut self.group,
-                self.on,
-                *units,
-                &mut self.printer,
-                writer,
-            ),
-            command => self.say(alloc, command, writer),
-        }
-    }
-
     /// Does what a command says. Whether the run goes on.
     fn obey<W: Write>(
         &mut self,
@@ -82,8 +43,24 @@ impl GroupPlayer {
                 write_line(alloc, writer, &format_args!("failed line {line}"))?;
                 Ok(false)
             }
+            GroupCommand::On(link) => {
+                self.on = *link as usize;
+                Ok(true)
+            }
+            GroupCommand::Out(units) => {
+                give_out(
+                    alloc,
+                    &mut self.group,
+                    self.on,
+                    *units,
+                    &mut self.printer,
+                    writer,
+                )?;
+                Ok(true)
+            }
             command => {
-                self.act(alloc, command, writer)?;
+                let line = answer(alloc, &mut self.group, &mut self.hands, self.on, command)?;
+                self.printer.print(line, writer)?;
                 Ok(true)
             }
         }

@@ -1,5 +1,5 @@
 //! Whole scripts of link sets.
-ghost use Rattle.std.specs.Prelude.{◌≡◌, ◌⊎◌, ◌++◌, List, ℕ, Option, map};
+ghost use Rattle.std.specs.Prelude.{◌≡◌, ◌⊎◌, ◌++◌, [], List, ℕ, Option, map};
 ghost use Rattle.group_lines.specs.GroupScripts.{PlainGroupSaid, plain_group_said, IsFew};
 ghost use Rattle.group_play.specs.GroupAnswers.{Playing};
 ghost use Rattle.group_play.specs.GroupRuns.{begun, playing_of, last_of, IsGroupRun, IsGroupWritten, IsGroupMissed, IsOfNewSet};
@@ -41,7 +41,7 @@ fn play_set<W: Write>(
     commands: &[GroupSaid<'_>],
     writer: &mut W,
 ) -> u8
-    requires { hands ≡ [] }
+    requires { hands.kept.items ≡ [] }
     ensures held { result ≡ 0 → IsGroupWritten (map plain_group_said commands.now) (W.contents writer.old) (W.contents writer.new) (begun group) }
     ensures missed { result ≡ 1 → IsGroupMissed (map plain_group_said commands.now) (W.contents writer.old) (W.contents writer.new) (begun group) }
     ensures status { (result ≡ 0) ⊎ (result ≡ 1) ⊎ (result ≡ 4) }

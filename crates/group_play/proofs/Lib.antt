@@ -1,0 +1,6 @@
+mod CallAnswers
+mod HandAnswers
+mod LineAnswers
+mod ShownAnswers
+mod GroupRuns
+mod Openings
