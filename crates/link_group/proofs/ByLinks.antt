@@ -1,17 +1,9 @@
 -- A call of one link's terminal.
-use Rattle.std.proofs.Common.{◌≡◌, ℕ, ◌<◌, zero, suc, Option, List, [], ◌∷◌, ◌++◌, Some, length, take, drop, get_or, slice_set, refl, sym, ap, ◌∙◌, subst, arith}
-use Rattle.std.specs.Prelude.{slice_get}
-use Rattle.link_group.specs.declared.link.Link.{Link}
+use Rattle.std.proofs.Common.{◌≡◌, ℕ, zero, suc, Option, List, [], ◌∷◌, ◌++◌, length, take, drop, refl, sym, ap, subst, arith}
+use Rattle.group_links.specs.declared.link.Link.{Link}
 use Rattle.link_group.specs.Set.{LinkSet}
-use Rattle.link_group.specs.Lines.{AtLink, ByLink, seen}
-
-there-is : (ks : List Link) (l : ℕ) (d : Link) → l < length ks → slice_get ks l ≡ Some (get_or ks l d)
-there-is [] l d h = absurd (omega (arith, h))
-there-is (k ∷ ks) zero d h = refl
-there-is (k ∷ ks) (suc l) d h = there-is ks l d (omega (arith, h))
-
-pub at_link : (did : Link → Link → Type 0) (l : ℕ) (ks : List Link) (d k : Link) → l < length ks → did (get_or ks l d) k → AtLink did l ks (slice_set ks l k)
-at_link did l ks d k h was = record { before = get_or ks l d; there = there-is ks l d h; after = k; links = refl; was = was }
+use Rattle.group_links.specs.Doing.{AtLink}
+use Rattle.link_group.specs.Lines.{ByLink, seen}
 
 pub by_link : (did : Link → Link → Type 0) (l : ℕ) (c d : LinkSet) (ks new mid : List Link) (own peer unsure : ℕ) (table : List (Option ℕ))
     → d ≡ seen l (record { own = own; peer = peer; links = mid; table = table; unsure = unsure }) → AtLink did l ks new → mid ≡ new → ks ≡ c.links

@@ -1,6 +1,4 @@
 pub mod Fields
-pub mod Turning
-pub mod Opening
-pub mod Below
-pub mod Diversions
 pub mod ByLinks
+pub mod Commands
+pub mod Hands

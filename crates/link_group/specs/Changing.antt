@@ -1,43 +1,32 @@
 -- Changeover of a link that failed (Q.704): how it begins, what is said of it, and which messages are handed out.
-use Rattle.std.specs.Prelude.{◌≡◌, ℕ, ◌+◌, ◌^◌, ◌-◌, ◌==◌, ◌&&◌, min, nat_lt, Bool, true, false, if◌then◌else◌, List, [], length, Option, Some, None, is_some, slice_get}
+use Rattle.std.specs.Prelude.{ℕ, ◌+◌, ◌^◌, ◌-◌, ◌==◌, ◌&&◌, min, Bool, if◌then◌else◌, List, Option, Some, None, slice_get}
 use Rattle.arrayvec.specs.ArrayVec.{ArrayVec}
 use Rattle.resend_store.specs.declared.messages.Msu.{Msu}
-use Rattle.resend_store.specs.Window.{retrieved}
 use Rattle.link_labels.specs.declared.changeover.Changeover.{Changeover}
 use Rattle.link_labels.specs.declared.changeover.Kind.{Kind}
 use Rattle.link_labels.specs.declared.changeover.Kind.TheVariants as kind
 use Rattle.link_labels.specs.Changeovers.{Says}
-use Rattle.link_places.specs.declared.marks.Answer.{Answer}
-use Rattle.link_places.specs.declared.marks.Answer.TheVariants as answer
 use Rattle.link_places.specs.Marks.{begins, told}
-use Rattle.link_group.specs.declared.link.Link.{Link}
-use Rattle.link_group.specs.declared.errors.FailError.{FailError}
-use Rattle.link_group.specs.declared.errors.FailError.TheVariants as fail
-use Rattle.link_group.specs.declared.errors.RetrieveError.{RetrieveError}
-use Rattle.link_group.specs.declared.errors.RetrieveError.TheVariants as retrieve
-use Rattle.link_group.specs.declared.errors.AbandonError.{AbandonError}
-use Rattle.link_group.specs.declared.errors.AbandonError.TheVariants as abandon
-use Rattle.link_group.specs.OneLink.{window, accepted_at, is_changing, with_marks, retrieve_fault, number_of, hands_out, abandon_fault}
-use Rattle.link_group.specs.Set.{LinkSet, change, fault_at}
+use Rattle.group_links.specs.declared.link.Link.{Link}
+use Rattle.link_refusals.specs.declared.errors.FailError.{FailError}
+use Rattle.link_refusals.specs.declared.errors.FailError.TheVariants as fail
+use Rattle.link_refusals.specs.declared.errors.RetrieveError.{RetrieveError}
+use Rattle.link_refusals.specs.declared.errors.RetrieveError.TheVariants as retrieve
+use Rattle.link_refusals.specs.declared.errors.AbandonError.{AbandonError}
+use Rattle.link_refusals.specs.declared.errors.AbandonError.TheVariants as abandon
+use Rattle.group_links.specs.OneLink.{retrieve_fault, number_of, abandon_fault}
+use Rattle.link_group.specs.Set.{LinkSet}
+use Rattle.group_links.specs.Links.{change, fault_at}
+use Rattle.group_links.specs.Failing.{fail_fault_of, begins_at, order_of, hears, replies_at, handed, messages_by, given_up, sent_by, none_known}
 
 -- ---- a link fails
-
-abbrev pub fail_fault_of : Link → Option FailError
-fail_fault_of k = if is_changing k then Some fail.Waiting else None
 
 -- K1 without the link, K2 where its changeover goes on
 unfoldable pub fail_fault : LinkSet → ℕ → Option FailError
 fail_fault c l = fault_at fail.NoLink fail_fault_of (slice_get c.links l)
 
-abbrev pub begins_at : Link → Link
-begins_at k = with_marks (begins k.marks) k
-
 unfoldable pub failed : LinkSet → ℕ → LinkSet
 failed c l = record c { links = change c.links l begins_at }
-
--- An order for a link that was started anew is an emergency one: the numbers of which it would speak are gone.
-abbrev pub order_of : Link → Kind
-order_of k = if k.marks.anew then kind.EmergencyOrder else kind.Order (accepted_at k)
 
 -- a message from one point to another about a link
 abbrev pub message : ℕ → ℕ → ℕ → Kind → Changeover
@@ -54,37 +43,7 @@ order_by c l (Some k) = to_peer c l (order_of k)
 unfoldable pub order_at : LinkSet → ℕ → Changeover
 order_at c l = order_by c l (slice_get c.links l)
 
-abbrev pub acknowledgement_of : Link → Kind
-acknowledgement_of k = if k.marks.anew then kind.EmergencyAcknowledgement else kind.Acknowledgement (accepted_at k)
-
 -- ---- what the other point says of it
-
--- A number is none for a link that was started anew.
-abbrev pub told_of : Link → ℕ → Answer
-told_of k fsn = if k.marks.anew then answer.Unknown else answer.Accepted fsn
-
-abbrev pub told_by : Kind → Link → Answer
-told_by (kind.Order fsn) k = told_of k fsn
-told_by (kind.Acknowledgement fsn) k = told_of k fsn
-told_by kind.EmergencyOrder k = answer.Unknown
-told_by kind.EmergencyAcknowledgement k = answer.Unknown
-
-abbrev pub is_order : Kind → Bool
-is_order (kind.Order fsn) = true
-is_order (kind.Acknowledgement fsn) = false
-is_order kind.EmergencyOrder = true
-is_order kind.EmergencyAcknowledgement = false
-
--- An order begins the changeover where none goes on. It is an answer, as an acknowledgement is.
-abbrev pub hears : Kind → Link → Link
-hears what k = with_marks (told (told_by what k) (if is_order what then begins k.marks else k.marks)) k
-
--- an order is answered, an emergency order by an emergency acknowledgement
-abbrev pub replies : Kind → Link → Option Kind
-replies (kind.Order fsn) k = Some (acknowledgement_of k)
-replies (kind.Acknowledgement fsn) k = None
-replies kind.EmergencyOrder k = Some kind.EmergencyAcknowledgement
-replies kind.EmergencyAcknowledgement k = None
 
 -- a message to this point from the other
 abbrev pub is_for : LinkSet → Changeover → Bool
@@ -98,11 +57,6 @@ after_message c (Some m) = if is_for c m then record c { links = change c.links 
 abbrev pub reply_by : LinkSet → ℕ → Option Kind → Option Changeover
 reply_by c l None = None
 reply_by c l (Some what) = Some (to_peer c l what)
-
--- what a link answers, if it is there
-abbrev pub replies_at : Kind → Option Link → Option Kind
-replies_at what None = None
-replies_at what (Some k) = replies what k
 
 abbrev pub reply_to : LinkSet → Option Changeover → Option Changeover
 reply_to c None = None
@@ -124,15 +78,8 @@ IsReply (Some m) (Some sif) = Says sif.items m
 unfoldable pub retrieve_fault_at : LinkSet → ℕ → Option RetrieveError
 retrieve_fault_at c l = fault_at retrieve.NoLink retrieve_fault (slice_get c.links l)
 
-abbrev pub handed : Link → Link
-handed k = hands_out (number_of k) k
-
 unfoldable pub after_retrieve : LinkSet → ℕ → LinkSet
 after_retrieve c l = record c { links = change c.links l handed }
-
-abbrev pub messages_by : (Link → Option ℕ) → Option Link → List Msu
-messages_by f None = []
-messages_by f (Some k) = retrieved (window k) (f k)
 
 -- exactly those behind the one of which the number was told, and without one those that were never sent
 unfoldable pub messages_for : LinkSet → ℕ → List Msu
@@ -143,22 +90,12 @@ messages_for c l = messages_by number_of (slice_get c.links l)
 unfoldable pub abandon_fault_at : LinkSet → ℕ → Option AbandonError
 abandon_fault_at c l = fault_at abandon.NoLink abandon_fault (slice_get c.links l)
 
-abbrev pub given_up : Link → Link
-given_up k = hands_out None k
-
-abbrev pub sent_by : Option Link → ℕ
-sent_by None = 0
-sent_by (Some k) = (window k).sent
-
 -- They count as unsure; the count stays at its greatest value.
 unfoldable pub after_abandon : LinkSet → ℕ → LinkSet
 after_abandon c l = record c {
   links = change c.links l given_up;
   unsure = min (2 ^ 64 - 1) (c.unsure + sent_by (slice_get c.links l));
 }
-
-abbrev pub none_known : Link → Option ℕ
-none_known k = None
 
 -- the unsent ones
 unfoldable pub unsent_at : LinkSet → ℕ → List Msu

@@ -1,40 +1,17 @@
 -- What a set does by one of its terminals, and what it makes of a link that comes into service.
-use Rattle.std.specs.Prelude.{◌≡◌, ℕ, ◌<◌, ◌≤◌, ◌&&◌, ◌⊎◌, Bool, true, false, not, if◌then◌else◌, List, length, take, map, Option, Some, None, slice_get, slice_set}
+use Rattle.std.specs.Prelude.{◌≡◌, ℕ, ◌≤◌, if◌then◌else◌, List, length, map, slice_get}
 use Rattle.std.specs.List.{list_any}
-use Rattle.link_side.specs.Limits.{KEPT_MESSAGES}
-use Rattle.link_heart.specs.Machine.{is_low, sent, tidied}
-use Rattle.link_term.specs.Term.{Term, with_half, with_heart}
-use Rattle.link_term.specs.Kept.{Took, Sends}
-use Rattle.link_term.specs.Hearing.{Heard}
-use Rattle.link_term.specs.Speaking.{IsSpoken}
-use Rattle.link_side.specs.Reporting.{reported}
-use Rattle.link_side.specs.declared.signals.Report.{Report}
-use Rattle.su_octets.specs.declared.units.Unit.{Unit}
-use Rattle.link_places.specs.Marks.{serves}
-use Rattle.link_group.specs.declared.link.Link.{Link}
-use Rattle.link_group.specs.Set.{LinkSet, change}
+use Rattle.group_links.specs.declared.link.Link.{Link}
+use Rattle.link_group.specs.Set.{LinkSet}
+use Rattle.group_links.specs.Links.{change}
+use Rattle.link_heart.specs.declared.commands.Command.{Command}
+use Rattle.link_refusals.specs.declared.errors.CommandError.{CommandError}
+use Rattle.link_refusals.specs.declared.errors.CommandError.TheVariants as error
+use Rattle.group_links.specs.Commanding.{Barred, Refused, Lacks}
 use Rattle.link_group.specs.Placing.{placed_anew}
+use Rattle.group_links.specs.Doing.{AtLink, asked, came_first, came_by}
 
 -- ---- a link comes into service
-
--- it came into service since that was last asked
-abbrev pub came : Link → Bool
-came k = k.terminal.heart.side.came
-
--- for the first time
-abbrev pub came_first : Link → Bool
-came_first k = came k && not k.marks.served
-
--- It counts as one that has been in service, and no longer as started anew.
-abbrev pub asked : Link → Link
-asked k = record {
-  terminal = with_half k.terminal (record k.terminal.heart.side { came = false });
-  marks = if came k then serves k.marks else k.marks;
-}
-
-abbrev pub came_by : Option Link → Bool
-came_by None = false
-came_by (Some k) = came_first k
 
 -- As a link comes into service for the first time the table is made anew.
 unfoldable pub seen : ℕ → LinkSet → LinkSet
@@ -49,43 +26,23 @@ all_seen c =
 
 -- ---- a call of one terminal
 
--- the terminal of the link at a place did this, and nothing else changed
-pub record AtLink (did : Link → Link → Type 0) (l : ℕ) (old new : List Link) : Type 0 where
-  pub before : Link
-  pub there : slice_get old l ≡ Some before
-  pub after : Link
-  pub links : new ≡ slice_set old l after
-  pub was : did before after
-
 -- a call of the terminal of the link at a place, and what is made of a link that comes into service by it
 pub record ByLink (did : Link → Link → Type 0) (l : ℕ) (c d : LinkSet) : Type 0 where
   pub links : List Link
   pub at : AtLink did l c.links links
   pub set : d ≡ seen l (record c { links = links })
 
--- so much of the octets was taken
-pub record Listened (octets : List ℕ) (taken : ℕ) (old new : Link) : Type 0 where
-  pub few : taken ≤ length octets
-  pub heard : Heard old.terminal (take taken octets) new.terminal
-  pub stops : taken < length octets → (KEPT_MESSAGES ≤ length new.terminal.heart.side.messages) ⊎ (is_low new.terminal.heart ≡ true)
-  pub took : Took old.terminal new.terminal
-  pub marks : new.marks ≡ old.marks
+-- a call of the terminal of the link at a place, by which nothing else changed
+pub record Alone (did : Link → Link → Type 0) (l : ℕ) (c d : LinkSet) : Type 0 where
+  pub links : List Link
+  pub at : AtLink did l c.links links
+  pub set : d ≡ record c { links = links }
 
--- so many units were asked for, and these octets went out
-pub record Spoken (units : ℕ) (octets : List ℕ) (old new : Link) : Type 0 where
-  pub spoken : IsSpoken old.terminal units new.terminal octets
-  pub sends : Sends units old.terminal new.terminal
-  pub marks : new.marks ≡ old.marks
+-- ---- commands
 
--- this unit went out
-pub record Sent (unit : Option Unit) (old new : Link) : Type 0 where
-  pub unit_is : unit ≡ (sent (tidied old.terminal.heart)).unit
-  pub terminal : new.terminal ≡ with_heart old.terminal (sent (tidied old.terminal.heart)).heart
-  pub sends : Sends 1 old.terminal new.terminal
-  pub marks : new.marks ≡ old.marks
-
--- this was handed out
-pub record Reported (report : Option Report) (old new : Link) : Type 0 where
-  pub report_is : report ≡ (reported old.terminal.heart.side).report
-  pub terminal : new.terminal ≡ with_half old.terminal (reported old.terminal.heart.side).half
-  pub marks : new.marks ≡ old.marks
+-- Why a command was refused, and what came of it. Nothing changed, but that the journal of a terminal that refused it may have room now.
+abbrev pub IsCommandError : Command → ℕ → LinkSet → LinkSet → CommandError → Type 0
+IsCommandError command l c d error.NoLink = (length c.links ≤ l) × (d ≡ c)
+IsCommandError command l c d error.Waiting = Alone (Barred command) l c d × (d ≡ c)
+IsCommandError command l c d (error.Refused refusal) = Alone (Refused command refusal) l c d
+IsCommandError command l c d error.NoMemory = Alone (Lacks command) l c d × (d ≡ c)

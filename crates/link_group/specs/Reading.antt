@@ -1,8 +1,10 @@
 -- What a set tells of one link.
 use Rattle.std.specs.Prelude.{ℕ, length, Option, Some, None, slice_get}
+use Rattle.link_machine.specs.Ledger.{Ledger}
+use Rattle.link_term.specs.Term.{Term}
 use Rattle.resend_store.specs.declared.messages.Msu.{Msu}
-use Rattle.link_group.specs.declared.link.Link.{Link}
-use Rattle.link_group.specs.OneLink.{held, window}
+use Rattle.group_links.specs.declared.link.Link.{Link}
+use Rattle.group_links.specs.OneLink.{held, window}
 
 abbrev pub held_count : Link → ℕ
 held_count k = length (held k)
@@ -13,3 +15,9 @@ sent_count k = (window k).sent
 abbrev pub message_at : ℕ → Option Link → Option Msu
 message_at place None = None
 message_at place (Some k) = slice_get (held k) place
+
+abbrev pub terminal_of : Link → Term
+terminal_of k = k.terminal
+
+abbrev pub book_of : Link → Ledger
+book_of k = k.terminal.heart.book

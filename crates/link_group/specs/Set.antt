@@ -1,11 +1,12 @@
 -- A set of links between two signalling points.
-use Rattle.std.specs.Prelude.{◌≡◌, ℕ, List, Option, Some, None, slice_get, slice_set}
+use Rattle.std.specs.Prelude.{ℕ, List, Option, Some, None, slice_get}
 use Rattle.resend_store.specs.declared.messages.Msu.{Msu}
 use Rattle.link_places.specs.Sharing.{selection_of, link_of}
-use Rattle.link_group.specs.declared.link.Link.{Link}
-use Rattle.link_group.specs.declared.errors.SendError.{SendError}
-use Rattle.link_group.specs.declared.errors.SendError.TheVariants as send
-use Rattle.link_group.specs.OneLink.{put_fault, puts}
+use Rattle.group_links.specs.declared.link.Link.{Link}
+use Rattle.link_refusals.specs.declared.errors.SendError.{SendError}
+use Rattle.link_refusals.specs.declared.errors.SendError.TheVariants as send
+use Rattle.group_links.specs.OneLink.{put_fault, puts}
+use Rattle.group_links.specs.Links.{change, fault_at}
 
 pub record LinkSet : Type 0 where
   -- the codes of this point and of the other
@@ -16,19 +17,6 @@ pub record LinkSet : Type 0 where
   pub table : List (Option ℕ)
   -- how many messages it was never known of whether they arrived
   pub unsure : ℕ
-
-abbrev pub set_at : List Link → ℕ → (Link → Link) → Option Link → List Link
-set_at ks n f None = ks
-set_at ks n f (Some k) = slice_set ks n (f k)
-
--- the links with that at a place changed, if there is one
-unfoldable pub change : List Link → ℕ → (Link → Link) → List Link
-change ks n f = set_at ks n f (slice_get ks n)
-
--- the answer of a link, and another where there is none
-abbrev pub fault_at : {E : Type 0} → E → (Link → Option E) → Option Link → Option E
-fault_at none f None = Some none
-fault_at none f (Some k) = f k
 
 -- ---- a message to send
 
@@ -47,8 +35,3 @@ change_by ks (Some l) f = change ks l f
 -- It waits behind all others with the link of its selection.
 unfoldable pub sent : LinkSet → Msu → LinkSet
 sent c m = record c { links = change_by c.links (link_of c.table (selection_of m)) (puts m) }
-
--- what a link has, if it is there
-abbrev pub read_at : {A : Type 0} → (Link → A) → Option Link → Option A
-read_at f None = None
-read_at f (Some k) = Some (f k)

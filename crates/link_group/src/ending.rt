@@ -1,20 +1,15 @@
-//! Diversion of a hand, and the end of a changeover.
-ghost use Rattle.std.specs.Prelude.{◌≡◌, ◌↔◌, ◌<◌, ◌≤◌, IsTrue, All, length, slice_get, map, IfErr, OnOk, OnErr, Some, None};
+//! Diversion of a hand.
+ghost use Rattle.std.specs.Prelude.{◌≡◌, ◌↔◌, ◌<◌, IsTrue, All, IfErr, Some, None};
 ghost use Rattle.resend_store.specs.Messages.{IsMessage};
-ghost use Rattle.link_places.specs.Limits.{SELECTIONS};
-ghost use Rattle.link_places.specs.Sharing.{selections, link_of, pick};
-ghost use Rattle.link_group.specs.OneLink.{fault_of};
-ghost use Rattle.link_group.specs.Set.{change};
-ghost use Rattle.link_group.specs.Diverting.{hand_of, Owns, open_links, division, moves, gives_back, back_fault, hands_over, diverted, ends_on, ends_at, keeps_at, after_by, after_divert};
+ghost use Rattle.group_links.specs.OneLink.{fault_of};
+ghost use Rattle.group_links.specs.Moving.{hand_of, open_links};
+ghost use Rattle.link_group.specs.Diverting.{Owns, diverted, after_divert};
 ghost use Rattle.link_group.specs.Ending.{fault_in};
 
-use crate::diverting::{give_back, share_all};
-use crate::errors::DivertFault;
 use crate::group::Group;
-use crate::link::Link;
-use crate::open::{holds_at, open_links};
 use crate::retrieved::Retrieved;
-use link_places::{Counts, Table, counts_of, pick};
+use group_links::{DivertFault, end_at, end_table, hand_of, hand_over, keep_at, open_links};
+use link_places::counts_of;
 use link_term::Msu;
 use std::collections::VecDeque;
 
@@ -24,102 +19,6 @@ pub struct DivertError {
     pub fault: DivertFault,
     /// What is left.
     pub rest: Retrieved,
-}
-
-/// How many messages of each selection are in the hand of the link at a place.
-fn hand_of(links: &[Link], at: usize) -> Option<Counts>
-    ensures { result ≡ hand_of (slice_get links.now at) }
-{
-    match links.get(at) {
-        Some(link) => match link.marks.changing {
-            Some(changing) => changing.hand,
-            None => None,
-        },
-        None => None,
-    }
-}
-
-/// The link that a selection has as the changeover of a link ends.
-fn end_on(links: &[Link], table: &Table, able: &[usize], at: usize, selection: u8) -> Option<usize>
-    ensures { result ≡ ends_on able.now at (slice_get links.now at) (link_of table.now.links selection) selection }
-{
-    let Some(link) = table.link_of(selection) else {
-        return None;
-    };
-    if link != at {
-        return Some(link);
-    }
-    if holds_at(links, at, selection) {
-        return Some(link);
-    }
-    pick(able, selection)
-}
-
-/// The table as the changeover of a link ends.
-fn end_table(links: &[Link], table: &Table, able: &[usize], at: usize) -> Table
-    ensures { result.links ≡ map (λ s. ends_on able.now at (slice_get links.now at) (link_of table.now.links s) s) selections }
-{
-    Table {
-        links: [
-            end_on(links, table, able, at, 0),
-            end_on(links, table, able, at, 1),
-            end_on(links, table, able, at, 2),
-            end_on(links, table, able, at, 3),
-            end_on(links, table, able, at, 4),
-            end_on(links, table, able, at, 5),
-            end_on(links, table, able, at, 6),
-            end_on(links, table, able, at, 7),
-            end_on(links, table, able, at, 8),
-            end_on(links, table, able, at, 9),
-            end_on(links, table, able, at, 10),
-            end_on(links, table, able, at, 11),
-            end_on(links, table, able, at, 12),
-            end_on(links, table, able, at, 13),
-            end_on(links, table, able, at, 14),
-            end_on(links, table, able, at, 15),
-        ],
-    }
-}
-
-/// The changeover of the link at a place ends.
-#[tactic(auto, unfolding(crate::specs::Set::change))]
-fn end_at(links: &mut [Link], at: usize)
-    ensures { links.new ≡ change links.old at ends_at }
-{
-    if at < links.len() {
-        links[at].marks = links[at].marks.ended();
-    }
-}
-
-/// So much is left in the hand of the link at a place.
-#[tactic(auto, unfolding(crate::specs::Set::change))]
-fn keep_at(links: &mut [Link], at: usize, messages: &VecDeque<Msu>)
-    ensures { links.new ≡ change links.old at (keeps_at messages.now.items) }
-{
-    if at < links.len() {
-        links[at].marks = links[at].marks.with_hand(counts_of(messages));
-    }
-}
-
-/// Diverts a hand to the links that may take it, or gives it back where there are none.
-#[tactic(auto, unfolding(crate::specs::Diverting::hands_over))]
-fn hand_over(
-    links: &mut [Link],
-    table: &mut Table,
-    able: &[usize],
-    at: usize,
-    messages: &mut VecDeque<Msu>,
-) -> Result<(), DivertFault>
-    requires { All IsMessage messages.old.items }
-    ensures fault { fault_of result ≡ (hands_over able.now at (division links.old table.old.links messages.old.items)).fault }
-    ensures moved { division links.new table.new.links messages.new.items ≡ (hands_over able.now at (division links.old table.old.links messages.old.items)).at }
-    ensures whole { All IsMessage messages.new.items }
-{
-    if able.is_empty() {
-        give_back(links, at, table, messages)
-    } else {
-        share_all(links, table, able, messages)
-    }
 }
 
 impl Group {

@@ -1,14 +1,12 @@
 //! The set.
-ghost use Rattle.std.specs.Prelude.{◌≡◌, ◌↔◌, ◌<◌, length, IsTrue, slice_get};
+ghost use Rattle.std.specs.Prelude.{◌≡◌, ◌<◌, length, ◌≤◌};
 ghost use Rattle.link_places.specs.Sharing.{link_of};
-ghost use Rattle.link_group.specs.Limits.{MOST_LINKS, POINT_CODES};
+ghost use Rattle.group_links.specs.Limits.{MOST_LINKS, POINT_CODES};
 ghost use Rattle.link_labels.specs.Changeovers.{IsKind, Says};
 ghost use Rattle.link_group.specs.Changing.{message};
-ghost use Rattle.link_group.specs.OneLink.{held, window, is_changing};
-ghost use Rattle.link_group.specs.Set.{read_at};
 
-use crate::link::Link;
 use arrayvec::ArrayVec;
+use group_links::Link;
 use link_labels::{Changeover, Kind, Label};
 use link_places::Table;
 use std::marker::Model;
@@ -27,10 +25,8 @@ pub struct Group {
 }
 
 impl Model for Group {
-    ghost use Rattle.std.specs.Prelude.{◌<◌, ◌≤◌, length};
     ghost use Rattle.std.specs.Coded.{codes};
     ghost use Rattle.tick_wheel.specs.Timers.{timers_code};
-    ghost use Rattle.link_group.specs.Limits.{MOST_LINKS, POINT_CODES};
     ghost use Rattle.link_group.specs.Set.{LinkSet};
 
     ghost Value = { LinkSet };

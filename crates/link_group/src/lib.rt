@@ -2,25 +2,24 @@
 //! link fails its messages go to the others, none twice and in order.
 #![tactic(auto)]
 
-mod diverting;
 mod ending;
-mod errors;
 mod group;
+mod hands;
 mod lines;
-mod link;
-mod links;
 mod new;
-mod open;
 mod placing;
 mod reading;
 mod retrieved;
 mod sending;
+mod ticks;
 
 pub use ending::DivertError;
-pub use errors::{
-    AbandonError, DivertFault, FailError, LineError, LinkError, RebalanceError, RetrieveError,
-    SendError,
-};
 pub use group::{Group, Sif};
-pub use reading::Ended;
+pub use group_links::{
+    AbandonError, CommandError, DivertFault, FailError, LineError, LinkError, RebalanceError,
+    RetrieveError, SendError,
+};
+pub use hands::{Ended, Hands};
+pub use link_labels::{Label, label_of};
+pub use link_term::{CallError, Command, Mode, Msu, Report, Terminal};
 pub use retrieved::Retrieved;

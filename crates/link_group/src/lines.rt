@@ -1,104 +1,15 @@
 //! What a set does by one of its terminals.
-ghost use Rattle.std.specs.Prelude.{◌≡◌, ◌↔◌, ◌≤◌, ◌<◌, length, slice_get, IfSome, IfOk, OnErr, Some, None, Err};
-ghost use Rattle.link_group.specs.Set.{change};
-ghost use Rattle.link_group.specs.Lines.{AtLink, ByLink, Listened, Spoken, Sent, Reported, asked, came_first, came_by, seen};
+ghost use Rattle.std.specs.Prelude.{◌≡◌, ◌↔◌, ◌≤◌, ◌<◌, length, IfOk, IfErr, OnOk, OnErr, Err};
+ghost use Rattle.link_group.specs.Lines.{ByLink, seen, IsCommandError};
+ghost use Rattle.group_links.specs.Doing.{Listened, Spoken, Sent, Reported};
+ghost use Rattle.group_links.specs.Commanding.{Commanded};
 
-use crate::errors::{LineError, LinkError};
 use crate::group::Group;
-use crate::link::Link;
-use link_term::Report;
-use std::alloc::AllocError;
+use group_links::{
+    CommandError, LineError, LinkError, command_at, listen_at, see_at, send_at, speak_at, tell_at,
+};
+use link_term::{Command, Report};
 use su_octets::Unit;
-
-impl Link {
-    /// Whether it came into service for the first time since this was last asked.
-    pub(crate) fn see(&mut self) -> bool
-        ensures first { result ≡ came_first self.old }
-        ensures link { self.new ≡ asked self.old }
-    {
-        let served = self.marks.served;
-        if !self.terminal.came_into_service() {
-            return false;
-        }
-        self.marks = self.marks.serves();
-        !served
-    }
-
-    fn listen(&mut self, octets: &[u8]) -> usize
-        ensures { Listened octets.now result self.old self.new }
-    {
-        self.terminal.line_in(octets)
-    }
-
-    fn speak(&mut self, units: usize) -> Result<Vec<u8>, AllocError>
-        ensures ok { IfOk result (λ octets. Spoken units octets.items self.old self.new) }
-        ensures err { OnErr result (self.new ≡ self.old) }
-    {
-        self.terminal.line_out(units)
-    }
-
-    fn send(&mut self) -> Result<Option<Unit>, AllocError>
-        ensures ok { IfOk result (λ unit. Sent unit self.old self.new) }
-        ensures err { OnErr result (self.new ≡ self.old) }
-    {
-        self.terminal.unit_out()
-    }
-
-    fn tell(&mut self) -> Option<Report>
-        ensures { Reported result self.old self.new }
-    {
-        self.terminal.report()
-    }
-}
-
-/// Whether the link at a place came into service for the first time.
-#[tactic(auto, unfolding(crate::specs::Set::change))]
-fn see_at(links: &mut [Link], at: usize) -> bool
-    ensures first { result ≡ came_by (slice_get links.old at) }
-    ensures links { links.new ≡ change links.old at asked }
-{
-    if at < links.len() {
-        links[at].see()
-    } else {
-        false
-    }
-}
-
-fn listen_at(links: &mut [Link], at: usize, octets: &[u8]) -> usize
-    requires { at < length links.old }
-    ensures { AtLink (Listened octets.now result) at links.old links.new }
-{
-    links[at].listen(octets)
-}
-
-fn speak_at(links: &mut [Link], at: usize, units: usize) -> Result<Vec<u8>, AllocError>
-    requires { at < length links.old }
-    ensures ok { IfOk result (λ octets. AtLink (Spoken units octets.items) at links.old links.new) }
-    ensures err { OnErr result (links.new ≡ links.old) }
-{
-    match links[at].speak(units) {
-        Ok(octets) => Ok(octets),
-        Err(fault) => Err(fault),
-    }
-}
-
-fn send_at(links: &mut [Link], at: usize) -> Result<Option<Unit>, AllocError>
-    requires { at < length links.old }
-    ensures ok { IfOk result (λ unit. AtLink (Sent unit) at links.old links.new) }
-    ensures err { OnErr result (links.new ≡ links.old) }
-{
-    match links[at].send() {
-        Ok(unit) => Ok(unit),
-        Err(fault) => Err(fault),
-    }
-}
-
-fn tell_at(links: &mut [Link], at: usize) -> Option<Report>
-    requires { at < length links.old }
-    ensures { AtLink (Reported result) at links.old links.new }
-{
-    links[at].tell()
-}
 
 impl Group {
     /// Looks whether a link came into service: as it does so for the first time, the table is made anew.
@@ -189,5 +100,27 @@ impl Group {
         let report = tell_at(self.links.as_mut_slice(), link);
         self.see(link);
         Ok(report)
+    }
+    /// `Terminal::command` of a link.
+    ///
+    /// # Errors
+    ///
+    /// `K1 NoLink` where it isn't there, `K2 Waiting` for Start from the beginning of its changeover until its messages are handed out: nothing
+    /// changes. Else those of `Terminal::command`: nothing changes but that there may be room in its journal.
+    pub fn command(&mut self, link: usize, command: Command) -> Result<(), CommandError>
+        ensures none { (result ≡ Err CommandError.NoLink) ↔ (length self.old.links ≤ link) }
+        ensures ok { OnOk result (ByLink (Commanded command) link self.old self.new) }
+        ensures err { IfErr result (IsCommandError command link self.old self.new) }
+    {
+        if link >= self.links.len() {
+            return Err(CommandError::NoLink);
+        }
+        match command_at(self.links.as_mut_slice(), link, command) {
+            Ok(()) => {
+                self.see(link);
+                Ok(())
+            }
+            Err(fault) => Err(fault),
+        }
     }
 }

@@ -1,43 +1,13 @@
 //! New sets.
-ghost use Rattle.std.specs.Prelude.{◌≡◌, ◌<◌, ◌≤◌, [], All, map, vec_len, vec_capacity, IfOk, IfErr};
-ghost use Rattle.link_group.specs.Limits.{MOST_LINKS, POINT_CODES};
-ghost use Rattle.link_group.specs.New.{IsUnused, fresh, new_set};
+ghost use Rattle.std.specs.Prelude.{◌≡◌, ◌<◌, ◌≤◌, All, vec_len, IfOk, IfErr};
+ghost use Rattle.group_links.specs.Limits.{MOST_LINKS, POINT_CODES};
+ghost use Rattle.group_links.specs.New.{IsUnused};
+ghost use Rattle.link_group.specs.New.{new_set};
 
 use crate::group::Group;
-use crate::link::Link;
-use crate::open::open_links;
-use crate::placing::table_of;
-use link_places::Marks;
+use group_links::{all_fresh, open_links, table_of};
 use link_term::Terminal;
 use std::alloc::Global;
-
-/// A link over a terminal.
-fn fresh(terminal: Terminal) -> Link
-    ensures { result ≡ fresh terminal }
-{
-    let served = terminal.in_service();
-    Link {
-        terminal,
-        marks: Marks {
-            served,
-            anew: false,
-            failed: false,
-            changing: None,
-        },
-    }
-}
-
-/// Links over terminals, for which there is room.
-fn all_fresh(terminals: Vec<Terminal>, mut links: Vec<Link>) -> Vec<Link>
-    requires empty { links.items ≡ [] }
-    requires room { vec_len terminals ≤ vec_capacity links }
-    ensures { result.items ≡ map fresh terminals.items }
-{
-    for terminal in terminals {
-        links.push_reserved(fresh(terminal));
-    }
-    links
-}
 
 impl Group {
     /// The set of these links, by number, between this point and the other, both with codes below 16,384. There is one link at least and 16 at

@@ -1,14 +1,14 @@
-//! What a set tells of itself, and its end.
-ghost use Rattle.std.specs.Prelude.{◌≡◌, length, slice_get};
+//! What a set tells of its links.
+ghost use Rattle.std.specs.Prelude.{◌≡◌, slice_get};
 ghost use Rattle.std.specs.Option.{option_copied};
-ghost use Rattle.link_group.specs.OneLink.{held, window, is_changing};
-ghost use Rattle.link_group.specs.Set.{read_at};
-ghost use Rattle.link_group.specs.Reading.{held_count, sent_count, message_at};
-ghost use Rattle.link_group.specs.Placing.{changing_by};
+ghost use Rattle.group_links.specs.OneLink.{held};
+ghost use Rattle.group_links.specs.Links.{read_at};
+ghost use Rattle.link_group.specs.Reading.{held_count, sent_count, message_at, terminal_of, book_of};
+ghost use Rattle.group_links.specs.Tables.{changing_by};
 
 use crate::group::Group;
-use crate::retrieved::Retrieved;
-use link_term::Msu;
+use link_heart::Book;
+use link_term::{Msu, Terminal};
 
 impl Group {
     /// How many messages a link holds, if it is there.
@@ -51,22 +51,23 @@ impl Group {
         }
     }
 
-    /// Ends the set. What is given takes the hands that are still out; nothing counts as unsure by that.
-    pub fn end(self) -> Ended {
-        Ended {}
+    /// The terminal of a link, if it is there.
+    pub fn terminal(&self, link: usize) -> Option<&Terminal>
+        ensures { option_copied result ≡ read_at terminal_of (slice_get self.now.links link) }
+    {
+        match self.links.get(link) {
+            Some(link) => Some(&link.terminal),
+            None => None,
+        }
     }
-}
 
-/// A set that has ended.
-#[derive(Debug, Drop)]
-pub struct Ended {}
-
-impl Ended {
-    /// Takes messages that are still in hand, and drops them.
-    pub fn take(&mut self, hand: Retrieved) {
-        let Retrieved {
-            link: _,
-            messages: _messages,
-        } = hand;
+    /// The actors of a link, with their journal, if it is there.
+    pub fn book(&self, link: usize) -> Option<&Book>
+        ensures { option_copied result ≡ read_at book_of (slice_get self.now.links link) }
+    {
+        match self.links.get(link) {
+            Some(link) => Some(link.terminal.book()),
+            None => None,
+        }
     }
 }

@@ -1,16 +1,19 @@
 //! Messages to send, and messages of a changeover.
-ghost use Rattle.std.specs.Prelude.{◌≡◌, Option, Some, OnOk, OnErr, IfOk, slice_get, length, ◌≤◌, All};
+ghost use Rattle.std.specs.Prelude.{◌≡◌, Option, Some, OnOk, OnErr, IfOk, ◌<◌};
+ghost use Rattle.link_places.specs.Limits.{SELECTIONS};
+ghost use Rattle.link_places.specs.Sharing.{selection_of};
 ghost use Rattle.link_labels.specs.Labels.{label_in, IsLabel};
 ghost use Rattle.link_labels.specs.Changeovers.{Says};
 ghost use Rattle.link_labels.specs.declared.changeover.Changeover.{Changeover as PlainChangeover};
-ghost use Rattle.link_group.specs.OneLink.{fault_of, retrieve_refusal, abandon_refusal};
+ghost use Rattle.group_links.specs.OneLink.{fault_of, retrieve_refusal, abandon_refusal};
 ghost use Rattle.link_group.specs.Set.{send_fault, sent};
 ghost use Rattle.link_group.specs.Changing.{fail_fault, failed, order_at, IsReply, IsRead, after_message, reply_to, retrieve_fault_at, after_retrieve, messages_for, abandon_fault_at, after_abandon, unsent_at};
 
-use crate::errors::{AbandonError, FailError, RetrieveError, SendError};
 use crate::group::{Group, Sif, sif_of};
-use crate::links;
 use crate::retrieved::Retrieved;
+use group_links::{
+    AbandonError, FailError, RetrieveError, SendError, abandon_at, fail_at, hear_at, put_at, retrieve_at,
+};
 use link_labels::{Changeover, Label, read_changeover};
 use link_places::selection_of;
 use link_term::Msu;
@@ -28,9 +31,10 @@ impl Group {
         ensures fault { fault_of result ≡ send_fault self.old msu }
         ensures ok { OnOk result (self.new ≡ sent self.old msu) }
         ensures err { OnErr result (self.new ≡ self.old) }
+        ensures within { selection_of msu < SELECTIONS }
     {
         match self.table.link_of(selection_of(&msu)) {
-            Some(at) => links::put(self.links.as_mut_slice(), at, msu),
+            Some(at) => put_at(self.links.as_mut_slice(), at, msu),
             None => Err(SendError::NoLink),
         }
     }
@@ -47,7 +51,7 @@ impl Group {
         ensures ok { OnOk result (self.new ≡ failed self.old link) }
         ensures err { OnErr result (self.new ≡ self.old) }
     {
-        let kind = links::fail(self.links.as_mut_slice(), link)?;
+        let kind = fail_at(self.links.as_mut_slice(), link)?;
         Ok(sif_of(self.own, self.peer, link, kind))
     }
 
@@ -64,7 +68,7 @@ impl Group {
             return None;
         }
         let link = usize::from(message.label.sls);
-        match links::hear(self.links.as_mut_slice(), link, message.kind) {
+        match hear_at(self.links.as_mut_slice(), link, message.kind) {
             Some(kind) => Some(sif_of(self.own, self.peer, link, kind)),
             None => None,
         }
@@ -98,7 +102,7 @@ impl Group {
         ensures ok { OnOk result (self.new ≡ after_retrieve self.old link) }
         ensures err { OnErr result (self.new ≡ self.old) }
     {
-        match links::retrieve(self.links.as_mut_slice(), link) {
+        match retrieve_at(self.links.as_mut_slice(), link) {
             Ok(messages) => Ok(Retrieved { link, messages }),
             Err(fault) => Err(fault),
         }
@@ -117,7 +121,7 @@ impl Group {
         ensures ok { OnOk result (self.new ≡ after_abandon self.old link) }
         ensures err { OnErr result (self.new ≡ self.old) }
     {
-        match links::abandon(self.links.as_mut_slice(), link) {
+        match abandon_at(self.links.as_mut_slice(), link) {
             Ok((messages, sent)) => {
                 self.unsure = self.unsure.saturating_add(sent as u64);
                 Ok(Retrieved { link, messages })

@@ -1,4 +1,4 @@
-use Rattle.std.proofs.Common.{rules, ◌≡◌, ◌∙◌, sym, Option}
+use Rattle.std.proofs.Common.{rules}
 use Rattle.link_group.proofs.Fields.{order_says}
 use Rattle.link_group.proofs.group.Group.fail.Goals as goal
 

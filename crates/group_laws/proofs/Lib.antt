@@ -1,0 +1,9 @@
+mod Getting
+mod Fitting
+mod Staying
+mod Calling
+mod Placing
+mod Working
+mod Diverting
+mod Ending
+mod Each

@@ -1,0 +1,15 @@
+//! Laws of link sets. The call costs nothing.
+ghost use Rattle.group_laws.specs.Laws.{EachInOnePlace};
+
+use link_heart::unacknowledged_messages_stay;
+use link_places::steps_keep_places;
+
+/// Over every list of calls of a set and of its terminals: of each selection what was accepted is what has left, acknowledged or unsure, and
+/// then, in order, what stands in the one place that the selection has; nothing of it stands elsewhere, and a link whose messages are in hand
+/// holds none.
+pub fn each_message_stands_in_one_place()
+    ensures { EachInOnePlace }
+{
+    steps_keep_places();
+    unacknowledged_messages_stay();
+}

@@ -1,0 +1,48 @@
+-- Commands that were refused.
+use Rattle.std.proofs.Common.{◌≡◌, ℕ, zero, suc, List, [], ◌∷◌, Option, Some, None, Result, Ok, Err, slice_set, refl, sym, ap, ◌∙◌, subst}
+use Rattle.std.specs.Prelude.{slice_get}
+use Rattle.link_heart.specs.declared.commands.Command.{Command}
+use Rattle.link_refusals.specs.declared.errors.CommandError.{CommandError}
+use Rattle.link_refusals.specs.declared.errors.CommandError.TheVariants as error
+use Rattle.group_links.specs.declared.link.Link.{Link}
+use Rattle.group_links.specs.Doing.{AtLink}
+use Rattle.group_links.specs.Commanding.{Commands, Commanded, Barred, Refused, Lacks}
+use Rattle.link_group.specs.Set.{LinkSet}
+use Rattle.link_group.specs.Lines.{Alone, IsCommandError}
+
+set_same : (ks : List Link) (l : ℕ) (k : Link) → slice_get ks l ≡ Some k → slice_set ks l k ≡ ks
+set_same [] l k e = refl
+set_same (x ∷ ks) zero k e = let same : x ≡ k = cc in ap (λ (y : Link). y ∷ ks) (sym same)
+set_same (x ∷ ks) (suc l) k e = ap (λ (ys : List Link). x ∷ ys) (set_same ks l k e)
+
+alone : (did : Link → Link → Type 0) (l : ℕ) (c : LinkSet) (ks : List Link) → AtLink did l c.links ks → Alone did l c (record c { links = ks })
+alone did l c ks at = record { links = ks; at = at; set = refl }
+
+unchanged : (did : Link → Link → Type 0) (l : ℕ) (c : LinkSet) (ks : List Link) (at : AtLink did l c.links ks) → at.after ≡ at.before → ks ≡ c.links
+unchanged did l c ks at same = at.links ∙ ap (slice_set c.links l) same ∙ set_same c.links l at.before at.there
+
+same_set : (c : LinkSet) (ks : List Link) → ks ≡ c.links → record c { links = ks } ≡ c
+same_set c ks e = ap (λ (xs : List Link). record c { links = xs }) e
+
+error_at : {A : Type 0} (command : Command) (l : ℕ) (c : LinkSet) (ks : List Link) (f : CommandError) → AtLink (Commands {A = A} command (Err f)) l c.links ks
+    → IsCommandError command l c (record c { links = ks }) f
+error_at command l c ks error.NoLink at = absurd at.was
+error_at command l c ks error.Waiting at =
+    let here : AtLink (Barred command) l c.links ks = record { before = at.before; there = at.there; after = at.after; links = at.links; was = at.was } in
+    (alone (Barred command) l c ks here, same_set c ks (unchanged (Barred command) l c ks here here.was.same))
+error_at command l c ks (error.Refused r) at =
+    alone (Refused command r) l c ks (record { before = at.before; there = at.there; after = at.after; links = at.links; was = at.was })
+error_at command l c ks error.NoMemory at =
+    let here : AtLink (Lacks command) l c.links ks = record { before = at.before; there = at.there; after = at.after; links = at.links; was = at.was } in
+    (alone (Lacks command) l c ks here, same_set c ks (unchanged (Lacks command) l c ks here here.was.same))
+
+pub command_error : {A : Type 0} (command : Command) (l : ℕ) (c d : LinkSet) (ks new mid : List Link) (own peer unsure : ℕ) (table : List (Option ℕ)) (f : CommandError)
+    → d ≡ record { own = own; peer = peer; links = mid; table = table; unsure = unsure } → AtLink (Commands {A = A} command (Err f)) l ks new → mid ≡ new → ks ≡ c.links
+    → c.own ≡ own → c.peer ≡ peer → c.table ≡ table → c.unsure ≡ unsure → IsCommandError command l c d f
+command_error {A} command l c d ks new mid own peer unsure table f is at m same o p t u =
+    let whole : record c { links = new } ≡ d = sym (rw (o, p, t, u, sym m) is) in
+    subst (λ (x : LinkSet). IsCommandError command l c x f) whole
+    (error_at {A = A} command l c new f (subst (λ (xs : List Link). AtLink (Commands {A = A} command (Err f)) l xs new) same at))
+
+pub commanded : {A : Type 0} (command : Command) (l : ℕ) (ks new : List Link) (x : A) → AtLink (Commands command (Ok x)) l ks new → AtLink (Commanded command) l ks new
+commanded command l ks new x at = record { before = at.before; there = at.there; after = at.after; links = at.links; was = at.was }

@@ -1,6 +1,0 @@
-use Rattle.link_group.specs.Lines.{Sent}
-use Rattle.link_group.proofs.ByLinks.{at_link}
-use Rattle.link_group.proofs.lines.send_at.Goals as goal
-
-pub returns-in-Ok-clause-ok : goal.returns-in-Ok-clause-ok
-returns-in-Ok-clause-ok c = at_link (Sent c.in-Ok.unit) c.args.at c.args.links.now c.index-links-at.result c.send.new.self c.requires c.in-Ok.ensures.ok

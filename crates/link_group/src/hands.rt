@@ -1,0 +1,114 @@
+//! Hands that are kept until they are diverted, and the end of a set.
+ghost use Rattle.std.specs.Prelude.{◌≡◌, ◌↔◌, ◌≤◌, ◌<◌, ◌++◌, ◌∷◌, [], All, length, vec_capacity, IfOk, IfErr, OnOk, OnErr, IsErr};
+ghost use Rattle.resend_store.specs.Messages.{IsMessage};
+ghost use Rattle.link_group.specs.Holding.{kept, is_of, IsPlace, IsTaken};
+
+use crate::group::Group;
+use crate::retrieved::Retrieved;
+use link_term::Msu;
+use std::alloc::{AllocError, Global};
+use std::collections::VecDeque;
+
+/// As many hands as a set may have links.
+const MOST_HANDS: usize = 16;
+
+/// A hand that is kept.
+#[derive(Drop)]
+pub(crate) struct Kept {
+    pub(crate) link: usize,
+    pub(crate) messages: VecDeque<Msu>,
+    ghost whole: { All IsMessage messages.items },
+}
+
+/// What was retrieved and isn't diverted yet, 16 hands at most. It can't be dropped: `Group::end` takes it.
+pub struct Hands {
+    pub(crate) kept: Vec<Kept>,
+    ghost room: { 16 ≤ vec_capacity kept },
+}
+
+impl Hands {
+    /// None yet.
+    ///
+    /// # Errors
+    ///
+    /// Where there is no memory for 16 of them; what they hold takes none.
+    pub fn new(alloc: Global) -> Result<Hands, AllocError>
+        ensures { IfOk result (λ hands. hands.kept.items ≡ []) }
+    {
+        let kept = Vec::with_capacity(alloc, MOST_HANDS)?;
+        Ok(Hands { kept })
+    }
+
+    /// How many are kept.
+    pub fn len(&self) -> usize
+        ensures { result ≡ length self.now.kept.items }
+    {
+        self.kept.len()
+    }
+
+    /// Keeps one more, behind the others.
+    ///
+    /// # Errors
+    ///
+    /// The hand itself, where 16 are kept.
+    pub fn put(&mut self, hand: Retrieved) -> Result<(), Retrieved>
+        ensures full { IsErr result ↔ (16 ≤ length self.old.kept.items) }
+        ensures ok { OnOk result (self.new.kept.items ≡ self.old.kept.items ++ kept hand ∷ []) }
+        ensures back { IfErr result (λ back. kept back ≡ kept hand) }
+        ensures same { OnErr result (self.new.kept.items ≡ self.old.kept.items) }
+    {
+        if self.kept.len() >= MOST_HANDS {
+            return Err(hand);
+        }
+        let Retrieved { link, messages } = hand;
+        self.kept.push_reserved(Kept { link, messages });
+        Ok(())
+    }
+
+    /// The place of the first hand of a link.
+    fn place_of(&self, link: usize) -> Option<usize>
+        ensures { IsPlace (is_of link) self.now.kept.items result }
+    {
+        for place in 0..self.kept.len() {
+            if self.kept[place].link == link {
+                return Some(place);
+            }
+        }
+        None
+    }
+
+    /// Takes out the first hand of a link, if there is one.
+    pub fn take(&mut self, link: usize) -> Option<Retrieved>
+        ensures { IsTaken link self.old.kept.items result self.new.kept.items }
+    {
+        match self.place_of(link) {
+            Some(place) => {
+                let Kept { link, messages } = self.kept.remove(place);
+                Some(Retrieved { link, messages })
+            }
+            None => None,
+        }
+    }
+}
+
+/// A set that has ended.
+#[derive(Debug, Drop)]
+pub struct Ended {}
+
+impl Ended {
+    /// Takes messages that are still in hand, and drops them.
+    pub fn take(&mut self, hand: Retrieved) {
+        let Retrieved {
+            link: _,
+            messages: _messages,
+        } = hand;
+    }
+}
+
+impl Group {
+    /// Ends the set, with what is still in hand. Nothing counts as unsure by that. What is given takes hands that are kept elsewhere.
+    pub fn end(self, hands: Hands) -> Ended {
+        let Hands { kept: _kept } = hands;
+        Ended {}
+    }
+}
