@@ -8,7 +8,8 @@ use Rattle.script_lines.specs.Lines.{line_at}
 use Rattle.script_lines.specs.Scripts.{script_of, IsFaultOf}
 use Rattle.script_lines.specs.declared.script.ScriptFault.{ScriptFault}
 use Rattle.script_lines.specs.declared.script.ScriptFault.TheVariants.{BadLine, NoMemory}
-use Rattle.term_lines.specs.TermScripts.{PlainAnyScript, as_book, any_script_of, Tells}
+use Rattle.term_lines.specs.TermScripts.{as_book}
+use Rattle.group_lines.specs.GroupScripts.{as_other, play_script_of, Tells}
 use Rattle.script_play.specs.Played.{reading_of, IsNoScript, bad_line, PrintsFault}
 use Rattle.plain_laws.proofs.Lists.{take_twice}
 
@@ -16,13 +17,13 @@ long_book : (bytes : List ℕ) → nat_lt LONGEST (length bytes) ≡ true → sc
 unfolding script_of
 long_book bytes long = rw long refl
 
-long_any : (bytes : List ℕ) → nat_lt LONGEST (length bytes) ≡ true → any_script_of bytes ≡ Err (line_at bytes LONGEST)
-unfolding any_script_of
+long_any : (bytes : List ℕ) → nat_lt LONGEST (length bytes) ≡ true → play_script_of bytes ≡ Err (line_at bytes LONGEST)
+unfolding play_script_of
 long_any bytes long = rw long refl
 
 long_text : (terminals : Bool) (bytes : List ℕ) → nat_lt LONGEST (length bytes) ≡ true → reading_of terminals bytes ≡ Err (line_at bytes LONGEST)
 long_text true bytes long = long_any bytes long
-long_text false bytes long = ap as_book (long_book bytes long)
+long_text false bytes long = ap (λ r. as_other (as_book r)) (long_book bytes long)
 
 -- a text that is too long has a bad line
 pub too_long : (terminals : Bool) (bytes : List ℕ) (read : TextRead) (line : ℕ) → Keeps bytes read → nat_lt LONGEST (length read.kept.items) ≡ true
@@ -44,5 +45,5 @@ no_script terminals old new text bytes NoMemory same utf8 tells printed = absurd
 -- the fault of a book's script
 pub book_fault : (terminals : Bool) (text : List ℕ) (fault : ScriptFault) → terminals ≡ false → IsFaultOf text fault
     → Tells (reading_of terminals text) fault
-book_fault terminals text (BadLine line) is tells = ap (λ t. reading_of t text) is ∙ ap as_book tells
+book_fault terminals text (BadLine line) is tells = ap (λ t. reading_of t text) is ∙ ap (λ r. as_other (as_book r)) tells
 book_fault terminals text NoMemory is tells = tt

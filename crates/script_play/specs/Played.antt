@@ -6,46 +6,57 @@ use Rattle.turn_code.specs.declared.draft.Draft.{Draft}
 use Rattle.script_lines.specs.Scripts.{PlainScript, script_of}
 use Rattle.script_lines.specs.declared.script.ScriptFault.{ScriptFault}
 use Rattle.script_lines.specs.declared.script.ScriptFault.TheVariants.{BadLine, NoMemory}
-use Rattle.term_play.specs.Played.{first_book, IsWritten, IsMissed}
-use Rattle.term_lines.specs.TermScripts.{PlainAnyScript, book, terminal, PlainTermScript, as_book, any_script_of}
-use Rattle.term_play.specs.Checked.{IsGiven, IsSetOf, PrintsRefusal}
-use Rattle.term_play.specs.Printed.{line_of}
-use Rattle.term_play.specs.text_check_types.sets.SetWord.{SetWord}
-use Rattle.term_play.specs.text_check_types.sets.SetWord.TheVariants.{Standard, Monitors, Text}
-use Rattle.term_play.specs.TermRuns.{IsOfNew, IsTermWritten, IsTermMissed}
+use Rattle.group_play.specs.Played.{first_book, IsWritten, IsMissed}
+use Rattle.term_lines.specs.TermScripts.{PlainAnyScript, book, terminal, as_book}
+use Rattle.group_lines.specs.GroupScripts.{PlainPlayScript, other, group, as_other, play_script_of}
+use Rattle.group_play.specs.Checked.{IsGiven, IsSetOf, PrintsRefusal}
+use Rattle.group_play.specs.Printed.{line_of}
+use Rattle.group_play.specs.text_check_types.sets.SetWord.{SetWord}
+use Rattle.group_play.specs.text_check_types.sets.SetWord.TheVariants.{Standard, Monitors, Text}
+use Rattle.group_play.specs.TermRuns.{IsOfNew, IsTermWritten, IsTermMissed}
+use Rattle.group_play.specs.GroupRuns.{IsOfNewSet, IsGroupWritten, IsGroupMissed}
 
--- terminals run the set `standard` alone
+-- terminals, and sets of links, run the set `standard` alone
 abbrev pub has_terminals : {R : Type 0} → SetWord R → Bool
 has_terminals Standard = true
 has_terminals Monitors = false
 has_terminals (Text reader) = false
 
--- what a text reads as: a script of either kind where there are terminals, else a book's
-abbrev pub reading_of : Bool → List ℕ → Result PlainAnyScript ℕ
-reading_of true text = any_script_of text
-reading_of false text = as_book (script_of text)
+-- what a text reads as: a script of any kind where there are terminals, else a book's
+abbrev pub reading_of : Bool → List ℕ → Result PlainPlayScript ℕ
+reading_of true text = play_script_of text
+reading_of false text = as_other (as_book (script_of text))
 
 -- all commands of a script were obeyed, and their lines written: by a book of the set, or by a new terminal, whose set is the profile's
-abbrev pub IsObeyed : Draft → PlainAnyScript → Option (List ℕ) → Option (List ℕ) → Type 0
-IsObeyed d (book s) old new = IsWritten (first_book d s.settings) s.commands old new
-IsObeyed d (terminal s) old new = IsOfNew s.mode (IsTermWritten s.commands old new)
+abbrev pub IsOtherObeyed : Draft → PlainAnyScript → Option (List ℕ) → Option (List ℕ) → Type 0
+IsOtherObeyed d (book s) old new = IsWritten (first_book d s.settings) s.commands old new
+IsOtherObeyed d (terminal s) old new = IsOfNew s.mode (IsTermWritten s.commands old new)
+
+-- or by a set of links with such terminals
+abbrev pub IsObeyed : Draft → PlainPlayScript → Option (List ℕ) → Option (List ℕ) → Type 0
+IsObeyed d (other s) old new = IsOtherObeyed d s old new
+IsObeyed d (group s) old new = IsOfNewSet s.head (IsGroupWritten s.commands old new)
 
 -- the bytes are a script, all of whose commands were obeyed
 pub record IsPlayed (terminals : Bool) (old new : Option (List ℕ)) (d : Draft) (bytes : List ℕ) : Type 0 where
   pub utf8 : IsUtf8 bytes
-  pub script : PlainAnyScript
+  pub script : PlainPlayScript
   pub reads : reading_of terminals bytes ≡ Ok script
   pub run : IsObeyed d script old new
 
 -- an expectation of a script failed behind commands that were obeyed
-abbrev pub IsMissedIn : Draft → PlainAnyScript → Option (List ℕ) → Option (List ℕ) → Type 0
-IsMissedIn d (book s) old new = IsMissed (first_book d s.settings) s.commands old new
-IsMissedIn d (terminal s) old new = IsOfNew s.mode (IsTermMissed s.commands old new)
+abbrev pub IsOtherMissed : Draft → PlainAnyScript → Option (List ℕ) → Option (List ℕ) → Type 0
+IsOtherMissed d (book s) old new = IsMissed (first_book d s.settings) s.commands old new
+IsOtherMissed d (terminal s) old new = IsOfNew s.mode (IsTermMissed s.commands old new)
+
+abbrev pub IsMissedIn : Draft → PlainPlayScript → Option (List ℕ) → Option (List ℕ) → Type 0
+IsMissedIn d (other s) old new = IsOtherMissed d s old new
+IsMissedIn d (group s) old new = IsOfNewSet s.head (IsGroupMissed s.commands old new)
 
 -- the bytes are a script, an expectation of which failed
 pub record IsPlayedInPart (terminals : Bool) (old new : Option (List ℕ)) (d : Draft) (bytes : List ℕ) : Type 0 where
   pub utf8 : IsUtf8 bytes
-  pub script : PlainAnyScript
+  pub script : PlainPlayScript
   pub reads : reading_of terminals bytes ≡ Ok script
   pub missed : IsMissedIn d script old new
 

@@ -1,21 +1,26 @@
 //! The command `play`.
 ghost use Rattle.std.specs.Prelude.{◌≡◌, ◌⊎◌, List, ℕ, Bool, Ok, IfOk, IfErr, IfSome};
 ghost use Rattle.text_reader.specs.Reading.{Keeps};
-ghost use Rattle.term_play.specs.Checked.{given, IsAccepted};
-ghost use Rattle.term_lines.specs.TermScripts.{plain_any_script, IsInRange, Tells};
-ghost use Rattle.script_play.specs.Played.{has_terminals, reading_of, IsObeyed, IsPlayed, IsMissedIn, IsPlayedInPart, IsNoScript, PrintsFault, IsOnSet, IsRefused};
+ghost use Rattle.group_play.specs.Checked.{given, IsAccepted};
+ghost use Rattle.term_lines.specs.TermScripts.{plain_any_script, IsInRange};
+ghost use Rattle.group_lines.specs.GroupScripts.{plain_play_script, IsFit, Tells};
+ghost use Rattle.script_play.specs.Played.{has_terminals, reading_of, IsOtherObeyed, IsObeyed, IsPlayed, IsOtherMissed, IsMissedIn, IsPlayedInPart, IsNoScript, PrintsFault, IsOnSet, IsRefused};
 
+use group_lines::{PlayScript, play_script_in};
+use group_play::{
+    FAILED, SetWord, load_set, play_book, play_group, play_terminal, refuse, write_refusal,
+};
 use script_lines::{ScriptFault, book_script};
 use std::alloc::Global;
 use std::io::{Read, Write};
 use std::str;
-use term_lines::{AnyScript, any_script};
-use term_play::{FAILED, SetWord, load_set, play_book, play_terminal, refuse, write_refusal};
+use term_lines::AnyScript;
 use text_reader::{TextRead, line_at_limit, read_text};
 use turn_check::Verified;
 
-/// Runs a script on a set of processes, or, where its first line is `terminal basic` or `terminal cyclic` and the set is `standard`, on a
-/// signalling link terminal, and prints a line for each command but `expect`, and for each unit that goes out.
+/// Runs a script on a set of processes, or, where the set is `standard`, on a signalling link terminal, where its first line is
+/// `terminal basic` or `terminal cyclic`, or on N links between two points, where it is `group basic N` or `group cyclic N`; and prints a line
+/// for each command but `on` and `expect`, and for each unit that goes out.
 ///
 /// Both texts are read whole before anything is written: the set, then the script. A refusal of the set comes before one of
 /// the script, and a line of the script that is none is refused before anything runs. A line goes out in one write.
@@ -77,16 +82,16 @@ fn script_in<'a>(
     alloc: Global,
     terminals: bool,
     text: &'a str,
-) -> Result<AnyScript<'a>, ScriptFault>
-    ensures script { IfOk result (λ s. reading_of terminals text.now ≡ Ok (plain_any_script s)) }
-    ensures within { IfOk result IsInRange }
+) -> Result<PlayScript<'a>, ScriptFault>
+    ensures script { IfOk result (λ s. reading_of terminals text.now ≡ Ok (plain_play_script s)) }
+    ensures fit { IfOk result IsFit }
     ensures fault { IfErr result (Tells (reading_of terminals text.now)) }
 {
     if terminals {
-        return any_script(alloc, text);
+        return play_script_in(alloc, text);
     }
     match book_script(alloc, text) {
-        Ok(script) => Ok(AnyScript::Book(script)),
+        Ok(script) => Ok(PlayScript::Other(AnyScript::Book(script))),
         Err(fault) => Err(fault),
     }
 }
@@ -121,20 +126,38 @@ fn play_text<W: Write>(
     }
 }
 
-/// Runs a script.
-fn play_script<W: Write>(
+/// Runs a script of a book or of a terminal.
+fn play_other<W: Write>(
     alloc: Global,
     set: &Verified,
     script: &AnyScript<'_>,
     writer: &mut W,
 ) -> u8
     requires { IsInRange script.now }
-    ensures held { result ≡ 0 → IsObeyed set.now (plain_any_script script.now) (W.contents writer.old) (W.contents writer.new) }
-    ensures missed { result ≡ 1 → IsMissedIn set.now (plain_any_script script.now) (W.contents writer.old) (W.contents writer.new) }
+    ensures held { result ≡ 0 → IsOtherObeyed set.now (plain_any_script script.now) (W.contents writer.old) (W.contents writer.new) }
+    ensures missed { result ≡ 1 → IsOtherMissed set.now (plain_any_script script.now) (W.contents writer.old) (W.contents writer.new) }
     ensures status { (result ≡ 0) ⊎ (result ≡ 1) ⊎ (result ≡ 4) }
 {
     match script {
         AnyScript::Book(script) => play_book(alloc, set, script, writer),
         AnyScript::Terminal(script) => play_terminal(alloc, script, writer),
+    }
+}
+
+/// Runs a script.
+fn play_script<W: Write>(
+    alloc: Global,
+    set: &Verified,
+    script: &PlayScript<'_>,
+    writer: &mut W,
+) -> u8
+    requires { IsFit script.now }
+    ensures held { result ≡ 0 → IsObeyed set.now (plain_play_script script.now) (W.contents writer.old) (W.contents writer.new) }
+    ensures missed { result ≡ 1 → IsMissedIn set.now (plain_play_script script.now) (W.contents writer.old) (W.contents writer.new) }
+    ensures status { (result ≡ 0) ⊎ (result ≡ 1) ⊎ (result ≡ 4) }
+{
+    match script {
+        PlayScript::Other(script) => play_other(alloc, set, script, writer),
+        PlayScript::Group(script) => play_group(alloc, script, writer),
     }
 }

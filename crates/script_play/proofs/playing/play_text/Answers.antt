@@ -1,12 +1,12 @@
 use Rattle.std.proofs.Common.{◌≡◌, ◌∙◌, ◌+◌, ◌==◌, List, ℕ, Ok, ap, sym, subst, rules}
 use Rattle.std.specs.Prelude.{IsTrue, IsUtf8, count_by, take}
 use Rattle.text_reader.specs.Reading.{LONGEST}
-use Rattle.term_lines.specs.TermScripts.{plain_any_script}
+use Rattle.group_lines.specs.GroupScripts.{plain_play_script}
 use Rattle.script_play.specs.Played.{reading_of, no_text, bad_line}
 use Rattle.script_play.proofs.Refusals.{too_long, no_script}
 use Rattle.script_play.proofs.Texts.{not_held, not_missed}
 use Rattle.script_play.proofs.playing.play_text.Goals as goal
-use Rattle.term_play.proofs.Long.{all_kept}
+use Rattle.group_play.proofs.Long.{all_kept}
 use Rattle.plain_laws.proofs.Numbers.{not_refused}
 
 pub returns-then-not-read-clause-held : goal.returns-then-not-read-clause-held
@@ -22,7 +22,7 @@ returns-in-Ok-script_in-clause-held g c zero bytes keeps =
     c.in-Ok.ensures.cases.0 ∙ (c.deref-2.ensures.value ∙ all_kept bytes c.args.read.now keeps (sym c.is_too_long.ensures ∙ c.if-is_too_long.false)) in
     record {
       utf8 = keeps.utf8.0 is_text;
-      script = plain_any_script c.in-Ok-script_in.script;
+      script = plain_play_script c.in-Ok-script_in.script;
       reads = ap (reading_of c.args.terminals) (sym same) ∙ c.in-Ok-script_in.ensures.script;
       run = c.play_script.ensures.held zero;
     }
@@ -46,7 +46,7 @@ returns-in-Ok-script_in-clause-missed g c one bytes keeps =
     c.in-Ok.ensures.cases.0 ∙ (c.deref-2.ensures.value ∙ all_kept bytes c.args.read.now keeps (sym c.is_too_long.ensures ∙ c.if-is_too_long.false)) in
     record {
       utf8 = keeps.utf8.0 is_text;
-      script = plain_any_script c.in-Ok-script_in.script;
+      script = plain_play_script c.in-Ok-script_in.script;
       reads = ap (reading_of c.args.terminals) (sym same) ∙ c.in-Ok-script_in.ensures.script;
       missed = c.play_script.ensures.missed one;
     }
