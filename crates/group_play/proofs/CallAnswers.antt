@@ -24,7 +24,7 @@ use Rattle.link_group.specs.link_refusals_types.errors.SendError.{SendError}
 use Rattle.link_group.specs.link_refusals_types.errors.FailError.{FailError}
 use Rattle.link_group.specs.link_refusals_types.errors.RebalanceError.{RebalanceError}
 use Rattle.term_play.specs.TermAnswers.{IsMessageOf, IsRefusedLine}
-use Rattle.group_play.specs.GroupAnswers.{said_by, set_by, octets_line, IsTold, no_link, waits, IsBarredLine, Passes, passed, IsSent, Fails, begins, IsReplied, Rebalances}
+use Rattle.group_play.specs.GroupAnswers.{said_by, set_by, octets_line, IsTold, IsBarredLine, Passes, IsSent, Fails, IsReplied, Rebalances}
 use Rattle.group_play.specs.GroupAnswers as answers
 
 -- ---- lines
@@ -52,13 +52,13 @@ told_at e l c d w text said is makes told =
 pub told_taken : (e f : Command) (l : ℕ) (c d : LinkSet) (text : List ℕ) → e ≡ f → text ≡ codes "ok" → ByLink (Commanded e) l c d → IsTold f l c text d
 told_taken e f l c d text same is by_link =
     let P : Command → Type 0 = λ x. IsTold x l c text d in
-    subst P same (told_at e l c d d text (codes "ok") is refl (answers.taken d by_link))
+    subst P same (told_at e l c d d text (codes "ok") is refl (answers.told_taken d by_link))
 
 told_error : (e : Command) (l : ℕ) (c d : LinkSet) (text : List ℕ) (x : CommandError) → IsBarredLine x text → IsCommandError e l c d x → IsTold e l c text d
-told_error e l c d text barring.NoLink is was = told_at e l c d c text _ is was.1 (no_link was.0)
+told_error e l c d text barring.NoLink is was = told_at e l c d c text _ is was.1 (answers.told_nowhere was.0)
 told_error e l c d text barring.Waiting is was =
-    told_at e l c d c text _ is was.1 (waits was.0.at.before was.0.at.there was.0.at.was.bars)
-told_error e l c d text (barring.Refused r) is was = told_at e l c d d text _ is refl (answers.refused r d was)
+    told_at e l c d c text _ is was.1 (answers.told_waits was.0.at.before was.0.at.there was.0.at.was.bars)
+told_error e l c d text (barring.Refused r) is was = told_at e l c d d text _ is refl (answers.told_refused r d was)
 told_error e l c d text barring.NoMemory is was = absurd is
 
 pub told_refused : (e f : Command) (l : ℕ) (c d : LinkSet) (text : List ℕ) (x : CommandError) → e ≡ f → IsBarredLine x text → IsCommandError e l c d x
@@ -75,10 +75,10 @@ passes_at n c d w text said is makes passes =
 
 pub ticks_pass : (n : ℕ) (c d : LinkSet) (text : List ℕ) (due : ℕ) → text ≡ codes "ok due " ++ decimal due → due ≡ all_due n (with_room c.links)
     → tick_fault n c ≡ None → d ≡ after_ticks n c → Passes n c text d
-ticks_pass n c d text due is all none makes = passes_at n c d _ text _ (is ∙ ap (λ k. codes "ok due " ++ decimal k) all) makes (passed none)
+ticks_pass n c d text due is all none makes = passes_at n c d _ text _ (is ∙ ap (λ k. codes "ok due " ++ decimal k) all) makes (answers.passed none)
 
 pub ticks_wait : (n : ℕ) (c d : LinkSet) (text : List ℕ) (x : CallError) → IsRefusedLine x text → IsTickError n c d x → Passes n c text d
-ticks_wait n c d text (calling.Refused r) is was = passes_at n c d _ text _ is was.1 (answers.refused r was.0)
+ticks_wait n c d text (calling.Refused r) is was = passes_at n c d _ text _ is was.1 (answers.held_up r was.0)
 ticks_wait n c d text calling.NoMemory is was = absurd is
 
 -- ---- messages
@@ -87,7 +87,7 @@ pub sent_ok : (octets : List ℕ) (c d : LinkSet) (m : Msu) (text : List ℕ) �
     → d ≡ sent c m → IsSent octets c text d
 sent_ok octets c d m text are is fault makes =
     record {
-      message = m;
+      msu = m;
       octets_are = are;
       says = says_ok send_error_text (send_fault c m) text is fault;
       makes = makes_ok (send_fault c m) d (sent c m) c makes fault;
@@ -97,7 +97,7 @@ pub sent_why : (octets : List ℕ) (c d : LinkSet) (m : Msu) (e : SendError) (te
     → text ≡ codes "refused " ++ send_error_text e → Some e ≡ send_fault c m → d ≡ c → IsSent octets c text d
 sent_why octets c d m e text are is fault makes =
     record {
-      message = m;
+      msu = m;
       octets_are = are;
       says = says_why send_error_text (send_fault c m) e text is fault;
       makes = makes_none (send_fault c m) e d (sent c m) c makes fault;
@@ -113,11 +113,11 @@ fails_at l c d w text said is makes fails =
 
 pub fails_ok : (l : ℕ) (c d : LinkSet) (sif text : List ℕ) → text ≡ octets_line sif → None ≡ fail_fault c l → Says sif (order_at c l) → d ≡ failed c l
     → Fails l c text d
-fails_ok l c d sif text is fault says makes = fails_at l c d _ text _ is makes (begins sif (sym fault) says)
+fails_ok l c d sif text is fault says makes = fails_at l c d _ text _ is makes (answers.fails_begins sif (sym fault) says)
 
 pub fails_why : (l : ℕ) (c d : LinkSet) (e : FailError) (text : List ℕ) → text ≡ codes "refused " ++ fail_error_text e → Some e ≡ fail_fault c l → d ≡ c
     → Fails l c text d
-fails_why l c d e text is fault makes = fails_at l c d _ text _ is makes (answers.refused e (sym fault))
+fails_why l c d e text is fault makes = fails_at l c d _ text _ is makes (answers.fails_refused e (sym fault))
 
 pub replied_with : (o : Option Changeover) (sif : ArrayVec ℕ) (text : List ℕ) → text ≡ octets_line sif.items → IsReply o (Some sif) → IsReplied o text
 replied_with None sif text is reply = absurd reply

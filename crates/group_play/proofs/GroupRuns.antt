@@ -20,7 +20,7 @@ use Rattle.term_play.specs.Printed.{line_of}
 use Rattle.term_play.specs.TermAnswers.{unit_line}
 use Rattle.term_play.specs.TermRuns.{latest, HasPrinted}
 use Rattle.term_play.proofs.TermRuns.{printed_none, printed_one, printed_both}
-use Rattle.group_play.specs.GroupAnswers.{Playing, NO_LINK, GoOut, nothing, silent, one_goes, GivesOut, goes, Outputs, Answers, Obeys}
+use Rattle.group_play.specs.GroupAnswers.{Playing, NO_LINK, GoOut, none_goes, silent, one_goes, GivesOut, Outputs, Answers, Obeys}
 use Rattle.group_play.specs.GroupAnswers as answers
 use Rattle.group_play.specs.GroupRuns.{Goes, begins, prints, holds, IsGroupRun, HasGone, HasGoneOut, HasGivenOut, IsGroupMissedBy, IsGroupMissed}
 
@@ -93,20 +93,20 @@ all_gone l k asked old now last mid c d most least so_far =
     let number : k + 0 ≡ asked = omega (arith, most, least) in
     record {
       lines = so_far.lines;
-      out = out_same l (k + 0) asked c d _ _ number (append-nil so_far.lines) (so_far.others 0 [] d (nothing d));
+      out = out_same l (k + 0) asked c d _ _ number (append-nil so_far.lines) (so_far.others 0 [] d (none_goes d));
       printed = so_far.printed;
     }
 
 -- of a link that is there, or isn't
 pub given_there : (l n : ℕ) (old new last next : Option (List ℕ)) (c d : LinkSet) → l < length c.links → HasGoneOut l n old new last next c d
     → HasGivenOut l n old new last next c d
-given_there l n old new last next c d there gone = record { lines = gone.lines; out = goes gone.lines d there gone.out; printed = gone.printed }
+given_there l n old new last next c d there gone = record { lines = gone.lines; out = answers.out_goes gone.lines d there gone.out; printed = gone.printed }
 
 pub given_nowhere : (l n : ℕ) (old new last next : Option (List ℕ)) (c : LinkSet) (text : List ℕ) → length c.links ≤ l → text ≡ NO_LINK
     → next ≡ Some text → Appends old new (line_of text) → HasGivenOut l n old new last next c c
 given_nowhere l n old new last next c text past is latest_is written =
     let P : List ℕ → Type 0 = λ t. HasPrinted old new last next (t ∷ []) in
-    record { lines = NO_LINK ∷ []; out = answers.no_link past; printed = subst P is (printed_one old new last next text latest_is written) }
+    record { lines = NO_LINK ∷ []; out = answers.out_nowhere past; printed = subst P is (printed_one old new last next text latest_is written) }
 
 -- ---- runs
 

@@ -1,5 +1,5 @@
 -- Hands that are kept, taken out and diverted.
-use Rattle.std.proofs.Common.{◌≡◌, ℕ, ◌==◌, ◌<◌, ◌≤◌, Bool, true, false, ◌||◌, List, [], ◌∷◌, ◌++◌, length, map, Option, None, Some, Result, Ok, Err, refl, sym, ap, subst, arith, ◌∙◌}
+use Rattle.std.proofs.Common.{◌≡◌, ℕ, ◌==◌, ◌<◌, ◌≤◌, Bool, true, false, ◌||◌, List, [], ◌∷◌, ◌++◌, length, length-append, map, Option, None, Some, Result, Ok, Err, refl, sym, ap, subst, arith, ◌∙◌}
 use Rattle.std.specs.Prelude.{codes}
 use Rattle.std.specs.List.{list_any}
 use Rattle.std.specs.Fmt.{decimal}
@@ -42,12 +42,12 @@ pub retrieved : (l k n : ℕ) (c d : LinkSet) (hs gs : List Hand) (ms : List Msu
     → None ≡ retrieve_fault_at c l → k ≡ l → ms ≡ messages_for c l → d ≡ after_retrieve c l → gs ≡ with_hand hs k ms → Retrieves l c hs text d gs
 retrieved l k n c d hs gs ms text is number fault link messages makes keeps =
     retrieves_at l c d _ hs gs _ text _ (is ∙ ap count_line (number ∙ ap length messages)) makes
-    (keeps ∙ (ap (λ x. with_hand hs x ms) link ∙ ap (with_hand hs l) messages)) (answers.given (sym fault))
+    (keeps ∙ (ap (λ x. with_hand hs x ms) link ∙ ap (with_hand hs l) messages)) (answers.retrieves_given (sym fault))
 
 pub unretrieved : (l : ℕ) (c d : LinkSet) (hs : List Hand) (e : RetrieveError) (text : List ℕ) → IsRetrieveLine e text
     → but_memory e ≡ retrieve_fault_at c l → d ≡ c → Retrieves l c hs text d hs
 unretrieved l c d hs e text line fault makes =
-    retrieves_at l c d _ hs hs _ text _ line.1 makes refl (answers.refused e (sym fault ∙ line.0))
+    retrieves_at l c d _ hs hs _ text _ line.1 makes refl (answers.retrieves_refused e (sym fault ∙ line.0))
 
 abandons_at : (l : ℕ) (c d w : LinkSet) (hs gs fs : List Hand) (text said : List ℕ) → text ≡ said → d ≡ w → gs ≡ fs
     → Abandons l c hs said w fs → Abandons l c hs text d gs
@@ -61,7 +61,7 @@ pub abandoned : (l k n : ℕ) (c d : LinkSet) (hs gs : List Hand) (ms : List Msu
     → None ≡ abandon_fault_at c l → k ≡ l → ms ≡ unsent_at c l → d ≡ after_abandon c l → gs ≡ with_hand hs k ms → Abandons l c hs text d gs
 abandoned l k n c d hs gs ms text is number fault link messages makes keeps =
     abandons_at l c d _ hs gs _ text _ (is ∙ ap count_line (number ∙ ap length messages)) makes
-    (keeps ∙ (ap (λ x. with_hand hs x ms) link ∙ ap (with_hand hs l) messages)) (answers.given (sym fault))
+    (keeps ∙ (ap (λ x. with_hand hs x ms) link ∙ ap (with_hand hs l) messages)) (answers.abandons_given (sym fault))
 
 abbrev pub IsRefusedBy : LinkSet → ℕ → AbandonError → Type 0
 IsRefusedBy c l e = abandon_refusal {A = Retrieved} (Err e) ≡ abandon_fault_at c l
@@ -69,9 +69,9 @@ IsRefusedBy c l e = abandon_refusal {A = Retrieved} (Err e) ≡ abandon_fault_at
 pub unabandoned : (l : ℕ) (c d : LinkSet) (hs : List Hand) (e : AbandonError) (text : List ℕ) → IsAbandonLine e text
     → IsRefusedBy c l e → d ≡ c → Abandons l c hs text d hs
 unabandoned l c d hs abandoning.NoLink text line fault makes =
-    abandons_at l c d _ hs hs _ text _ line makes refl (answers.refused abandoning.NoLink (sym fault))
+    abandons_at l c d _ hs hs _ text _ line makes refl (answers.abandons_refused abandoning.NoLink (sym fault))
 unabandoned l c d hs abandoning.Waiting text line fault makes =
-    abandons_at l c d _ hs hs _ text _ line makes refl (answers.refused abandoning.Waiting (sym fault))
+    abandons_at l c d _ hs hs _ text _ line makes refl (answers.abandons_refused abandoning.Waiting (sym fault))
 unabandoned l c d hs abandoning.NoMemory text line fault makes = absurd line
 
 -- ---- diverted
@@ -86,7 +86,7 @@ diverts_hand_at l c d w ms hs gs fs text said is makes keeps was =
 
 pub diverted_whole : (l : ℕ) (c d : LinkSet) (ms : List Msu) (hs : List Hand) (text : List ℕ) → text ≡ codes "ok"
     → None ≡ (diverted c l ms).fault → d ≡ after_divert c l ms → DivertsHand l c ms hs text d hs
-diverted_whole l c d ms hs text is fault makes = diverts_hand_at l c d _ ms hs hs _ text _ is makes refl (answers.whole (sym fault))
+diverted_whole l c d ms hs text is fault makes = diverts_hand_at l c d _ ms hs hs _ text _ is makes refl (answers.diverts_whole (sym fault))
 
 pub diverted_part : (l k n : ℕ) (c d : LinkSet) (ms rest : List Msu) (hs gs : List Hand) (e : DivertFault) (text : List ℕ)
     → text ≡ codes "refused " ++ divert_fault_text e ++ codes " left " ++ decimal n → n ≡ length rest → Some e ≡ (diverted c l ms).fault
@@ -94,7 +94,7 @@ pub diverted_part : (l k n : ℕ) (c d : LinkSet) (ms rest : List Msu) (hs gs : 
 diverted_part l k n c d ms rest hs gs e text is number fault left link makes keeps =
     diverts_hand_at l c d _ ms hs gs _ text _
     (is ∙ ap (λ x. codes "refused " ++ divert_fault_text e ++ codes " left " ++ decimal x) (number ∙ ap length left)) makes
-    (keeps ∙ (ap (λ x. with_hand hs x rest) link ∙ ap (with_hand hs l) left)) (answers.part e (sym fault))
+    (keeps ∙ (ap (λ x. with_hand hs x rest) link ∙ ap (with_hand hs l) left)) (answers.diverts_part e (sym fault))
 
 -- ---- taken out
 
@@ -108,7 +108,13 @@ pub none_kept : (l : ℕ) (c : LinkSet) (old new : List Kept) (text : List ℕ) 
 none_kept l c old new text there none is =
     let P : List ℕ → Type 0 = λ x. Diverts l c (map plain_hand old) x c (map plain_hand new) in
     let Q : List Kept → Type 0 = λ x. Diverts l c (map plain_hand old) (codes "refused K2 Waiting") c (map plain_hand x) in
-    subst P (sym is) (subst Q (sym none.same) (answers.no_hand there (any_plain l old ∙ none.none)))
+    subst P (sym is) (subst Q (sym none.same) (answers.diverts_none there (any_plain l old ∙ none.none)))
+
+-- there is room for what was taken out
+pub room_left : (l n : ℕ) (old new : List Kept) (hand : Retrieved) → TakenOut l old hand new → length old ≤ n → length new < n
+room_left l n old new hand taken few =
+    omega
+    (arith, ap length taken.stood, length-append taken.front (kept hand ∷ taken.back), ap length taken.left, length-append taken.front taken.back, few)
 
 -- one is taken out and diverted
 pub one_kept : (l : ℕ) (c d : LinkSet) (old others next : List Kept) (hand : Retrieved) (text : List ℕ) → l < length c.links → TakenOut l old hand others
@@ -116,7 +122,7 @@ pub one_kept : (l : ℕ) (c d : LinkSet) (old others next : List Kept) (hand : R
     → Diverts l c (map plain_hand old) text d (map plain_hand next)
 one_kept l c d old others next hand text there taken diverts =
     let P : ℕ → Type 0 = λ k. DivertsHand k c hand.messages.items (map plain_hand others) text d (map plain_hand next) in
-    answers.hand (plain_hand (kept hand)) (map plain_hand others) (map plain_hand next) text d there
+    answers.diverts_one (plain_hand (kept hand)) (map plain_hand others) (map plain_hand next) text d there
     (record {
       front = map plain_hand taken.front;
       back = map plain_hand taken.back;

@@ -14,7 +14,7 @@ use Rattle.link_group.specs.Placing.{placed_anew}
 use Rattle.plain_laws.proofs.Places.{get_set_same}
 use Rattle.std.proofs.lemmas.Option.{slice_get_within}
 use Rattle.term_play.proofs.TermAnswers.{reports, fewer_reports}
-use Rattle.group_play.specs.GroupAnswers.{GivesReports, Listens, done, part, TakesPart, TakesLine, heard}
+use Rattle.group_play.specs.GroupAnswers.{HasReported, was_one, was_none, GivesReports, Listens, TakesPart, TakesLine}
 use Rattle.group_play.specs.GroupAnswers as answers
 
 -- ---- reports
@@ -51,11 +51,6 @@ link_behind did l c d by_link =
     ap (λ (x : LinkSet). slice_get x.links l) by_link.set
     ∙ (ap (λ ks. slice_get ks l) (seen_links l (record c { links = by_link.links })) ∙ change_there asked by_link.links l by_link.at.after there)
 
--- a report was taken out, or there was none
-pub data HasReported (l : ℕ) (c d : LinkSet) : Bool → Type 0 where
-  was_one : (r : Report) → ByLink (Reported (Some r)) l c d → HasReported l c d true
-  was_none : ByLink (Reported None) l c d → HasReported l c d false
-
 pub fewer_left : (l : ℕ) (c d : LinkSet) (r : Report) → ByLink (Reported (Some r)) l c d → reports_at l d < reports_at l c
 fewer_left l c d r by_link =
     let k : Link = by_link.at.before in
@@ -65,6 +60,19 @@ fewer_left l c d r by_link =
     let before : reports_at l c ≡ reports k.terminal.heart.side = ap reports_by by_link.at.there in
     let after : reports_at l d ≡ reports j.terminal.heart.side = ap reports_by (link_behind (Reported (Some r)) l c d by_link) in
     omega (arith, less, before, after)
+
+-- one was taken out
+pub fewer_after : (l : ℕ) (c d : LinkSet) (one : Bool) → one ≡ true → HasReported l c d one → reports_at l d < reports_at l c
+fewer_after l c d true is (was_one r by_link) = fewer_left l c d r by_link
+fewer_after l c d false is (was_none by_link) = absurd (let e : false ≡ true = is in cc)
+
+pub one_given : (l : ℕ) (c m d : LinkSet) (one : Bool) → one ≡ true → HasReported l c m one → GivesReports l m d → GivesReports l c d
+one_given l c m d true is (was_one r by_link) others = answers.one_given c m d r by_link others
+one_given l c m d false is (was_none by_link) others = absurd (let e : false ≡ true = is in cc)
+
+pub none_given : (l : ℕ) (c d : LinkSet) (one : Bool) → one ≡ false → HasReported l c d one → GivesReports l c d
+none_given l c d true is (was_one r by_link) = absurd (let e : true ≡ false = is in cc)
+none_given l c d false is (was_none by_link) = answers.last_given c d by_link
 
 -- ---- octets of the line
 
@@ -79,7 +87,7 @@ nothing_behind n xs long =
 
 -- nothing is left
 pub listens_end : (l : ℕ) (c : LinkSet) (octets : List ℕ) (from : ℕ) → length octets ≤ from → Listens l c (drop from octets) c
-listens_end l c octets from over = let P : List ℕ → Type 0 = λ xs. Listens l c xs c in subst P (sym (nothing_behind from octets over)) (done c)
+listens_end l c octets from over = let P : List ℕ → Type 0 = λ xs. Listens l c xs c in subst P (sym (nothing_behind from octets over)) (answers.heard_all c)
 
 -- a part of what is left
 pub listens_more : (l : ℕ) (c w d : LinkSet) (octets xs : List ℕ) (from n : ℕ) → xs ≡ drop from octets → TakesPart l xs n c w
@@ -88,14 +96,14 @@ listens_more l c w d octets xs from n same takes others =
     let P : List ℕ → Type 0 = λ ys. Listens l w ys d in
     let Q : List ℕ → Type 0 = λ ys. Listens l c ys d in
     let rest : drop (from + n) octets ≡ drop n xs = sym (drop-drop n from octets) ∙ ap (drop n) (sym same) in
-    subst Q same (part c takes.between w d xs n takes.some takes.heard takes.reports (subst P rest others))
+    subst Q same (answers.heard_part c takes.between w d xs n takes.some takes.heard takes.reports (subst P rest others))
 
 -- ---- lines
 
 pub line_heard : (l : ℕ) (octets : List ℕ) (c d : LinkSet) (text : List ℕ) → text ≡ codes "ok" → l < length c.links → Listens l c octets d
     → TakesLine l octets c text d
 line_heard l octets c d text is there listens =
-    let P : List ℕ → Type 0 = λ x. TakesLine l octets c x d in subst P (sym is) (heard d there listens)
+    let P : List ℕ → Type 0 = λ x. TakesLine l octets c x d in subst P (sym is) (answers.line_heard d there listens)
 
 pub line_nowhere : (l : ℕ) (octets : List ℕ) (c : LinkSet) (text : List ℕ) → text ≡ answers.NO_LINK → length c.links ≤ l → TakesLine l octets c text c
-line_nowhere l octets c text is past = let P : List ℕ → Type 0 = λ x. TakesLine l octets c x c in subst P (sym is) (answers.no_link past)
+line_nowhere l octets c text is past = let P : List ℕ → Type 0 = λ x. TakesLine l octets c x c in subst P (sym is) (answers.line_nowhere past)

@@ -8,6 +8,7 @@ use Rattle.su_octets.specs.Printed.{unit_text}
 use Rattle.su_octets.specs.declared.units.Unit as units
 use Rattle.link_machine.specs.declared.reply.Refusal.{Refusal}
 use Rattle.link_term.specs.link_heart_types.commands.Command.{Command}
+use Rattle.link_side.specs.declared.signals.Report.{Report}
 use Rattle.link_labels.specs.declared.changeover.Changeover.{Changeover}
 use Rattle.link_labels.specs.Changeovers.{Says}
 use Rattle.link_places.specs.Sharing.{link_of}
@@ -35,7 +36,8 @@ use Rattle.link_group.specs.Reading.{held_count, sent_count}
 use Rattle.link_group.specs.Printed.{send_error_text, fail_error_text, retrieve_error_text, abandon_error_text, divert_fault_text, rebalance_error_text}
 use Rattle.group_lines.specs.declared.words.GroupWord.{GroupWord}
 use Rattle.group_lines.specs.declared.words.GroupWord.TheVariants as words
-use Rattle.group_lines.specs.GroupCommands.{PlainGroupCommand, order, unit, line, out, ticks, state, shown, expected, on, sending, message, own}
+use Rattle.group_lines.specs.GroupCommands.{PlainGroupCommand}
+use Rattle.group_lines.specs.GroupCommands as commands
 use Rattle.term_play.specs.Refused.{refused_text}
 use Rattle.term_play.specs.Answers.{process_named, state_line, value_line}
 use Rattle.term_play.specs.TermAnswers.{command_of, IsMessageOf}
@@ -87,10 +89,10 @@ count_line n = codes "ok " ++ decimal n
 -- The actors of the link's terminal are asked; Start waits while a changeover of the link hasn't handed its messages out. Only room in the
 -- journal is made where they refuse.
 pub data IsTold (e : Command) (l : ℕ) (c : LinkSet) : List ℕ → LinkSet → Type 0 where
-  no_link : length c.links ≤ l → IsTold e l c NO_LINK c
-  waits : (k : Link) → slice_get c.links l ≡ Some k → is_barred e k ≡ true → IsTold e l c (codes "refused K2 Waiting") c
-  refused : (r : Refusal) (d : LinkSet) → Alone (Refused e r) l c d → IsTold e l c (refused_text r) d
-  taken : (d : LinkSet) → ByLink (Commanded e) l c d → IsTold e l c (codes "ok") d
+  told_nowhere : length c.links ≤ l → IsTold e l c NO_LINK c
+  told_waits : (k : Link) → slice_get c.links l ≡ Some k → is_barred e k ≡ true → IsTold e l c (codes "refused K2 Waiting") c
+  told_refused : (r : Refusal) (d : LinkSet) → Alone (Refused e r) l c d → IsTold e l c (refused_text r) d
+  told_taken : (d : LinkSet) → ByLink (Commanded e) l c d → IsTold e l c (codes "ok") d
 
 -- the line of a refused order; want of memory has none
 abbrev pub IsBarredLine : CommandError → List ℕ → Type 0
@@ -101,16 +103,21 @@ IsBarredLine barring.NoMemory text = ⊥
 
 -- ---- octets of the line
 
+-- whether a report of a link was taken out
+pub data HasReported (l : ℕ) (c d : LinkSet) : Bool → Type 0 where
+  was_one : (r : Report) → ByLink (Reported (Some r)) l c d → HasReported l c d true
+  was_none : ByLink (Reported None) l c d → HasReported l c d false
+
 -- all reports of a link are taken out, one after another
 pub data GivesReports (l : ℕ) : LinkSet → LinkSet → Type 0 where
-  last : (c d : LinkSet) → ByLink (Reported None) l c d → GivesReports l c d
-  one : (c m d : LinkSet) (r : _) → ByLink (Reported (Some r)) l c m → GivesReports l m d → GivesReports l c d
+  last_given : (c d : LinkSet) → ByLink (Reported None) l c d → GivesReports l c d
+  one_given : (c m d : LinkSet) (r : Report) → ByLink (Reported (Some r)) l c m → GivesReports l m d → GivesReports l c d
 
 -- Octets of the line come in, part after part, and behind each part all reports are taken out. A part has one octet at least; it has all that
 -- is left, or ends where the terminal takes no more.
 pub data Listens (l : ℕ) : LinkSet → List ℕ → LinkSet → Type 0 where
-  done : (c : LinkSet) → Listens l c [] c
-  part : (c m w d : LinkSet) (octets : List ℕ) (taken : ℕ) → 0 < taken → ByLink (Listened octets taken) l c m → GivesReports l m w
+  heard_all : (c : LinkSet) → Listens l c [] c
+  heard_part : (c m w d : LinkSet) (octets : List ℕ) (taken : ℕ) → 0 < taken → ByLink (Listened octets taken) l c m → GivesReports l m w
       → Listens l w (drop taken octets) d → Listens l c octets d
 
 -- a part, and the reports behind it
@@ -121,8 +128,8 @@ pub record TakesPart (l : ℕ) (octets : List ℕ) (taken : ℕ) (c d : LinkSet)
   pub reports : GivesReports l between d
 
 pub data TakesLine (l : ℕ) (octets : List ℕ) (c : LinkSet) : List ℕ → LinkSet → Type 0 where
-  no_link : length c.links ≤ l → TakesLine l octets c NO_LINK c
-  heard : (d : LinkSet) → l < length c.links → Listens l c octets d → TakesLine l octets c (codes "ok") d
+  line_nowhere : length c.links ≤ l → TakesLine l octets c NO_LINK c
+  line_heard : (d : LinkSet) → l < length c.links → Listens l c octets d → TakesLine l octets c (codes "ok") d
 
 -- what comes in of a signal unit, whose octets without the check octets these are
 pub record TakesUnit (l : ℕ) (octets : List ℕ) (c : LinkSet) (text : List ℕ) (d : LinkSet) : Type 0 where
@@ -135,35 +142,35 @@ pub record TakesUnit (l : ℕ) (octets : List ℕ) (c : LinkSet) (text : List �
 -- So many units are asked of a link, and each that goes out has a line. Where none goes out, the line `silent` says so, and no more are
 -- asked for.
 pub data GoOut (l : ℕ) : ℕ → LinkSet → List (List ℕ) → LinkSet → Type 0 where
-  nothing : (c : LinkSet) → GoOut l zero c [] c
+  none_goes : (c : LinkSet) → GoOut l zero c [] c
   silent : (n : ℕ) (c d : LinkSet) → ByLink (Sent None) l c d → GoOut l (suc n) c (codes "silent" ∷ []) d
   one_goes : (n : ℕ) (c m d : LinkSet) (x : units.Unit) (lines : List (List ℕ)) → ByLink (Sent (Some x)) l c m → GoOut l n m lines d
       → GoOut l (suc n) c (unit_text x ∷ lines) d
 
 -- a refusal is one line, however many are asked for
 pub data GivesOut (l n : ℕ) (c : LinkSet) : List (List ℕ) → LinkSet → Type 0 where
-  no_link : length c.links ≤ l → GivesOut l n c (NO_LINK ∷ []) c
-  goes : (lines : List (List ℕ)) (d : LinkSet) → l < length c.links → GoOut l n c lines d → GivesOut l n c lines d
+  out_nowhere : length c.links ≤ l → GivesOut l n c (NO_LINK ∷ []) c
+  out_goes : (lines : List (List ℕ)) (d : LinkSet) → l < length c.links → GoOut l n c lines d → GivesOut l n c lines d
 
 -- ---- ticks
 
 -- They pass on all links, or on none.
 pub data Passes (n : ℕ) (c : LinkSet) : List ℕ → LinkSet → Type 0 where
   passed : tick_fault n c ≡ None → Passes n c (codes "ok due " ++ decimal (all_due n (with_room c.links))) (after_ticks n c)
-  refused : (r : Refusal) → tick_fault n c ≡ Some r → Passes n c (refused_text r) (record c { links = with_room c.links })
+  held_up : (r : Refusal) → tick_fault n c ≡ Some r → Passes n c (refused_text r) (record c { links = with_room c.links })
 
 -- ---- messages to send, and changeover
 
 pub record IsSent (octets : List ℕ) (c : LinkSet) (text : List ℕ) (d : LinkSet) : Type 0 where
-  pub message : Msu
-  pub octets_are : IsMessageOf octets message
-  pub says : text ≡ said_by send_error_text (send_fault c message)
-  pub makes : d ≡ set_by (send_fault c message) (sent c message) c
+  pub msu : Msu
+  pub octets_are : IsMessageOf octets msu
+  pub says : text ≡ said_by send_error_text (send_fault c msu)
+  pub makes : d ≡ set_by (send_fault c msu) (sent c msu) c
 
 -- a changeover begins, and the octets of the order for it are printed
 pub data Fails (l : ℕ) (c : LinkSet) : List ℕ → LinkSet → Type 0 where
-  refused : (e : FailError) → fail_fault c l ≡ Some e → Fails l c (codes "refused " ++ fail_error_text e) c
-  begins : (sif : List ℕ) → fail_fault c l ≡ None → Says sif (order_at c l) → Fails l c (octets_line sif) (failed c l)
+  fails_refused : (e : FailError) → fail_fault c l ≡ Some e → Fails l c (codes "refused " ++ fail_error_text e) c
+  fails_begins : (sif : List ℕ) → fail_fault c l ≡ None → Says sif (order_at c l) → Fails l c (octets_line sif) (failed c l)
 
 -- the octets of an answer, if there is one
 abbrev pub IsReplied : Option Changeover → List ℕ → Type 0
@@ -193,19 +200,19 @@ IsAbandonLine abandoning.Waiting text = text ≡ codes "refused " ++ abandon_err
 
 -- messages are handed out, and kept behind the other hands
 pub data Retrieves (l : ℕ) (c : LinkSet) (hands : List Hand) : List ℕ → LinkSet → List Hand → Type 0 where
-  refused : (e : RetrieveError) → retrieve_fault_at c l ≡ Some e → Retrieves l c hands (codes "refused " ++ retrieve_error_text e) c hands
-  given : retrieve_fault_at c l ≡ None
+  retrieves_refused : (e : RetrieveError) → retrieve_fault_at c l ≡ Some e → Retrieves l c hands (codes "refused " ++ retrieve_error_text e) c hands
+  retrieves_given : retrieve_fault_at c l ≡ None
       → Retrieves l c hands (count_line (length (messages_for c l))) (after_retrieve c l) (with_hand hands l (messages_for c l))
 
 pub data Abandons (l : ℕ) (c : LinkSet) (hands : List Hand) : List ℕ → LinkSet → List Hand → Type 0 where
-  refused : (e : AbandonError) → abandon_fault_at c l ≡ Some e → Abandons l c hands (codes "refused " ++ abandon_error_text e) c hands
-  given : abandon_fault_at c l ≡ None
+  abandons_refused : (e : AbandonError) → abandon_fault_at c l ≡ Some e → Abandons l c hands (codes "refused " ++ abandon_error_text e) c hands
+  abandons_given : abandon_fault_at c l ≡ None
       → Abandons l c hands (count_line (length (unsent_at c l))) (after_abandon c l) (with_hand hands l (unsent_at c l))
 
 -- The messages of a hand are diverted. Of one that isn't wholly diverted the rest is kept behind the other hands.
 pub data DivertsHand (l : ℕ) (c : LinkSet) (messages : List Msu) (others : List Hand) : List ℕ → LinkSet → List Hand → Type 0 where
-  whole : (diverted c l messages).fault ≡ None → DivertsHand l c messages others (codes "ok") (after_divert c l messages) others
-  part : (e : DivertFault) → (diverted c l messages).fault ≡ Some e
+  diverts_whole : (diverted c l messages).fault ≡ None → DivertsHand l c messages others (codes "ok") (after_divert c l messages) others
+  diverts_part : (e : DivertFault) → (diverted c l messages).fault ≡ Some e
       → DivertsHand l c messages others
       (codes "refused " ++ divert_fault_text e ++ codes " left " ++ decimal (length (diverted c l messages).at.rest)) (after_divert c l messages)
       (with_hand others l (diverted c l messages).at.rest)
@@ -223,9 +230,9 @@ pub record IsFound (l : ℕ) (hands : List Hand) (h : Hand) (others : List Hand)
   pub left : others ≡ front ++ back
 
 pub data Diverts (l : ℕ) (c : LinkSet) (hands : List Hand) : List ℕ → LinkSet → List Hand → Type 0 where
-  no_link : length c.links ≤ l → Diverts l c hands NO_LINK c hands
-  no_hand : l < length c.links → list_any (is_of l) hands ≡ false → Diverts l c hands (codes "refused K2 Waiting") c hands
-  hand : (h : Hand) (others next : List Hand) (text : List ℕ) (d : LinkSet) → l < length c.links → IsFound l hands h others
+  diverts_nowhere : length c.links ≤ l → Diverts l c hands NO_LINK c hands
+  diverts_none : l < length c.links → list_any (is_of l) hands ≡ false → Diverts l c hands (codes "refused K2 Waiting") c hands
+  diverts_one : (h : Hand) (others next : List Hand) (text : List ℕ) (d : LinkSet) → l < length c.links → IsFound l hands h others
       → DivertsHand l c h.messages others text d next → Diverts l c hands text d next
 
 pub record Rebalances (c : LinkSet) (text : List ℕ) (d : LinkSet) : Type 0 where
@@ -292,18 +299,18 @@ WordAnswers words.Unsure p text q = Shows (decimal p.set.unsure) p text q
 
 -- What a command that prints one line makes of what there is, and that line. `out`, `on` and `expect` are none of these.
 abbrev pub Answers : PlainGroupCommand → Playing → List ℕ → Playing → Type 0
-Answers (order o) p text q = OnSet (IsTold (command_of o) p.on p.set) p text q
-Answers (unit octets) p text q = OnSet (TakesUnit p.on octets p.set) p text q
-Answers (line octets) p text q = OnSet (TakesLine p.on octets p.set) p text q
-Answers (out n) p text q = Unit {0}
-Answers (ticks n) p text q = OnSet (Passes n p.set) p text q
-Answers (state process) p text q = Shows (state_at process (slice_get p.set.links p.on)) p text q
-Answers (shown process variable) p text q = Shows (value_at process variable (slice_get p.set.links p.on)) p text q
-Answers (expected said) p text q = Unit {0}
-Answers (on l) p text q = Unit {0}
-Answers (sending octets) p text q = OnSet (IsSent octets p.set) p text q
-Answers (message octets) p text q = OnSet (IsHeard octets p.set) p text q
-Answers (own word) p text q = WordAnswers word p text q
+Answers (commands.order o) p text q = OnSet (IsTold (command_of o) p.on p.set) p text q
+Answers (commands.unit octets) p text q = OnSet (TakesUnit p.on octets p.set) p text q
+Answers (commands.line octets) p text q = OnSet (TakesLine p.on octets p.set) p text q
+Answers (commands.out n) p text q = Unit {0}
+Answers (commands.ticks n) p text q = OnSet (Passes n p.set) p text q
+Answers (commands.state process) p text q = Shows (state_at process (slice_get p.set.links p.on)) p text q
+Answers (commands.shown process variable) p text q = Shows (value_at process variable (slice_get p.set.links p.on)) p text q
+Answers (commands.expected said) p text q = Unit {0}
+Answers (commands.on l) p text q = Unit {0}
+Answers (commands.sending octets) p text q = OnSet (IsSent octets p.set) p text q
+Answers (commands.message octets) p text q = OnSet (IsHeard octets p.set) p text q
+Answers (commands.own word) p text q = WordAnswers word p text q
 
 pub record AnswersOne (c : PlainGroupCommand) (p : Playing) (lines : List (List ℕ)) (q : Playing) : Type 0 where
   pub text : List ℕ
@@ -323,7 +330,7 @@ pub record TurnsTo (l : ℕ) (p : Playing) (lines : List (List ℕ)) (q : Playin
 
 -- a command was obeyed: what it makes of what there is, and the lines that it prints; `expect` is no command to a link set
 abbrev pub Obeys : PlainGroupCommand → Playing → List (List ℕ) → Playing → Type 0
-Obeys (out n) p lines q = Outputs n p lines q
-Obeys (on l) p lines q = TurnsTo l p lines q
-Obeys (expected text) p lines q = ⊥
+Obeys (commands.out n) p lines q = Outputs n p lines q
+Obeys (commands.on l) p lines q = TurnsTo l p lines q
+Obeys (commands.expected text) p lines q = ⊥
 Obeys c p lines q = AnswersOne c p lines q

@@ -1,21 +1,30 @@
 //! What comes in on a link.
 ghost use Rattle.std.specs.Prelude.{◌≡◌, ◌<◌, IfOk, OnOk, length};
-ghost use Rattle.group_play.specs.GroupAnswers.{GivesReports, TakesPart, Listens, TakesLine, TakesUnit};
+ghost use Rattle.group_play.specs.GroupAnswers.{HasReported, GivesReports, TakesPart, Listens, TakesLine, TakesUnit};
 
 use crate::saying::{done, no_link};
 use link_group::{Group, LinkError};
 use std::alloc::{AllocError, Global};
 use term_play::line_of_unit;
 
+/// Takes a report of a link out. Whether there was one.
+fn drop_report(group: &mut Group, link: usize) -> Result<bool, LinkError>
+    ensures { IfOk result (HasReported link group.old group.new) }
+{
+    match group.report(link) {
+        Ok(Some(_report)) => Ok(true),
+        Ok(None) => Ok(false),
+        Err(error) => Err(error),
+    }
+}
+
 /// Takes all reports of a link out: a script doesn't print them.
 fn drop_reports(group: &mut Group, link: usize) -> Result<(), LinkError>
     ensures { OnOk result (GivesReports link group.old group.new) }
 {
     'reports: loop {
-        match group.report(link) {
-            Ok(Some(_)) => {}
-            Ok(None) => return Ok(()),
-            Err(error) => return Err(error),
+        if !drop_report(group, link)? {
+            return Ok(());
         }
     }
 }

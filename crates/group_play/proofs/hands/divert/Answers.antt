@@ -1,6 +1,6 @@
 use Rattle.std.proofs.Common.{arith}
 use Rattle.std.proofs.lemmas.Result.{IfOk-weaker}
-use Rattle.group_play.specs.GroupAnswers.{hands_of, Diverts, no_link}
+use Rattle.group_play.specs.GroupAnswers.{hands_of, Diverts}
 use Rattle.group_play.proofs.HandAnswers.{none_kept, one_kept}
 use Rattle.group_play.proofs.hands.divert.Goals as goal
 
