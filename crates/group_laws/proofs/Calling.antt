@@ -165,7 +165,7 @@ give_at laws c hands accepted gone more l unsure k fsn left f stays there free s
           (λ j h. ap held_by (change_other f c.links l j h)) (λ j h. hand_other hands l j ms h) refl;
       fits = fits_changed f c.links hands (with_hand_of hands l ms) ms l stays.fits (λ j h. hand_other hands l j ms h) (hand_here hands l ms)
           (λ x e. let same : x ≡ k = same_link x k (sym e ∙ there) in
-              subst (λ (y : Link). FitsLink y ms) (sym (ap f same ∙ is)) (given_fits fsn k (hands l) some fits))
+          subst (λ (y : Link). FitsLink y ms) (sym (ap f same ∙ is)) (given_fits fsn k (hands l) some fits))
           (λ e. absurd (some_none (sym there ∙ e)));
       table = stays.table;
     }

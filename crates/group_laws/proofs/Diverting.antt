@@ -122,7 +122,7 @@ link_unset ts s r x h = ap entry_by (set_other ts s r x h)
 
 pub moves_to : (laws : StepsKeepPlaces) (c : LinkSet) (hands : ℕ → List Msu) (accepted : List Msu) (gone : List Gone) (l s t : ℕ) (d : Diversion) (k : Link) → s < SELECTIONS
     → IsOther l hands t → slice_get d.links t ≡ Some k → (length (of s d.rest) == 0) ≡ false → Moving c hands accepted gone l d → Moving c hands accepted gone l (moved_by s d (Some t))
-moves_to laws c hands accepted gone l s t d k small open there some m =
+moves_to laws c hands accepted gone l s t d k small able there some m =
     let ms : List Msu = of s d.rest in
     let e : Diversion = moved_by s d (Some t) in
     let p = places_of (within c d) (with_hand_of hands l d.rest) accepted gone in
@@ -132,11 +132,11 @@ moves_to laws c hands accepted gone l s t d k small open there some m =
     ap held_by (change_here (takes_on ms) d.links t (Some k) there) ∙ takes_held ms k ∙ ap (λ (o : Option Link). held_by o ++ ms) (sym there) in
     let table : s < length d.table = subst (λ (n : ℕ). s < n) (sym m.stays.table) small in
     let step : Diverts s l t p q = record {
-      other = λ x. open.other (sym x);
+      other = λ x. able.other (sym x);
       some = λ x. some_of ms some (ap (of s) (sym here) ∙ x);
       accepted = refl;
       gone = refl;
-      free = hand_other hands l t d.rest open.other ∙ open.free;
+      free = hand_other hands l t d.rest able.other ∙ able.free;
       held = held_t ∙ ap (λ (x : List Msu). held_at (within c d) t ++ of s x) (sym here);
       hand = hand_here hands l (off s d.rest) ∙ ap (off s) (sym here);
       held_else = λ j h. ap held_by (change_other (takes_on ms) d.links t j h);
@@ -153,7 +153,7 @@ moves_to laws c hands accepted gone l s t d k small open there some m =
             (λ x here f. fits_takes ms (with_hand_of hands l (off s d.rest) t) x (small_of s d.rest all) f);
         table = length_set d.table s (Some t) ∙ m.stays.table;
       };
-      out = subst (λ (o : Option Link). IsOut o) (sym (change_other (takes_on ms) d.links t l (λ x. open.other (sym x)))) m.out;
+      out = subst (λ (o : Option Link). IsOut o) (sym (change_other (takes_on ms) d.links t l (λ x. able.other (sym x)))) m.out;
     }
 
 -- ---- one after another
@@ -161,28 +161,28 @@ moves_to laws c hands accepted gone l s t d k small open there some m =
 move_there : (laws : StepsKeepPlaces) (c : LinkSet) (hands : ℕ → List Msu) (accepted : List Msu) (gone : List Gone) (l s t : ℕ) (d : Diversion) (o : Option Link) → s < SELECTIONS
     → IsOther l hands t → slice_get d.links t ≡ o → take_fault (length (of s d.rest)) o ≡ None → (length (of s d.rest) == 0) ≡ false → Moving c hands accepted gone l d
     → Moving c hands accepted gone l (moved_by s d (Some t))
-move_there laws c hands accepted gone l s t d None small open there fault some m = absurd (some_none fault)
-move_there laws c hands accepted gone l s t d (Some k) small open there fault some m = moves_to laws c hands accepted gone l s t d k small open there some m
+move_there laws c hands accepted gone l s t d None small able there fault some m = absurd (some_none fault)
+move_there laws c hands accepted gone l s t d (Some k) small able there fault some m = moves_to laws c hands accepted gone l s t d k small able there some m
 
 move_by : (laws : StepsKeepPlaces) (c : LinkSet) (hands : ℕ → List Msu) (accepted : List Msu) (gone : List Gone) (l s : ℕ) (d : Diversion) (o : Option ℕ) → s < SELECTIONS
     → ((t : ℕ) → o ≡ Some t → IsOther l hands t) → move_fault_by d (length (of s d.rest)) o ≡ None → (length (of s d.rest) == 0) ≡ false → Moving c hands accepted gone l d
     → Moving c hands accepted gone l (moved_by s d o)
-move_by laws c hands accepted gone l s d None small open fault some m = absurd (some_none fault)
-move_by laws c hands accepted gone l s d (Some t) small open fault some m =
-    move_there laws c hands accepted gone l s t d (slice_get d.links t) small (open t refl) refl fault some m
+move_by laws c hands accepted gone l s d None small able fault some m = absurd (some_none fault)
+move_by laws c hands accepted gone l s d (Some t) small able fault some m =
+    move_there laws c hands accepted gone l s t d (slice_get d.links t) small (able t refl) refl fault some m
 
 move_one : (laws : StepsKeepPlaces) (c : LinkSet) (hands : ℕ → List Msu) (accepted : List Msu) (gone : List Gone) (l s : ℕ) (ls : List ℕ) (d : Diversion) (b : Bool) → s < SELECTIONS
     → Others l hands ls → (length (of s d.rest) == 0) ≡ b → (if b then None else move_fault_by d (length (of s d.rest)) (pick ls s)) ≡ None → Moving c hands accepted gone l d
     → Moving c hands accepted gone l (if b then d else moved_by s d (pick ls s))
 unfolding pick
-move_one laws c hands accepted gone l s ls d true small open is fault m = m
-move_one laws c hands accepted gone l s ls d false small open is fault m =
-    move_by laws c hands accepted gone l s d (pick ls s) small (λ t e. open (s % length ls) t e) fault is m
+move_one laws c hands accepted gone l s ls d true small able is fault m = m
+move_one laws c hands accepted gone l s ls d false small able is fault m =
+    move_by laws c hands accepted gone l s d (pick ls s) small (λ t e. able (s % length ls) t e) fault is m
 
 pub stays_moving : (laws : StepsKeepPlaces) (c : LinkSet) (hands : ℕ → List Msu) (accepted : List Msu) (gone : List Gone) (l s : ℕ) (ls : List ℕ) (d : Diversion) → s < SELECTIONS
     → Others l hands ls → move_fault ls s d ≡ None → Moving c hands accepted gone l d → Moving c hands accepted gone l (moved ls s d)
 unfolding move_fault moved
-stays_moving laws c hands accepted gone l s ls d small open fault m = move_one laws c hands accepted gone l s ls d (length (of s d.rest) == 0) small open refl fault m
+stays_moving laws c hands accepted gone l s ls d small able fault m = move_one laws c hands accepted gone l s ls d (length (of s d.rest) == 0) small able refl fault m
 
 -- ---- what is left of the selections so far
 
@@ -230,11 +230,11 @@ goes laws c hands accepted gone l s ls d rest (Some fault) is m next = record { 
 pub moves_stay : (laws : StepsKeepPlaces) (c : LinkSet) (hands : ℕ → List Msu) (accepted : List Msu) (gone : List Gone) (l k s : ℕ) (ls : List ℕ) (d : Diversion) → k + s ≡ SELECTIONS
     → Others l hands ls → NoneBelow s d.rest → Moving c hands accepted gone l d → Gone_on c hands accepted gone l (moves ls k s d)
 unfolding moves
-moves_stay laws c hands accepted gone l zero s ls d is open none m = ends c hands accepted gone l s d (omega (arith, is)) none m
-moves_stay laws c hands accepted gone l (suc k) s ls d is open none m =
+moves_stay laws c hands accepted gone l zero s ls d is able none m = ends c hands accepted gone l s d (omega (arith, is)) none m
+moves_stay laws c hands accepted gone l (suc k) s ls d is able none m =
     goes laws c hands accepted gone l s ls d (moves ls k (s + 1)) (move_fault ls s d) refl m
-    (λ e. moves_stay laws c hands accepted gone l k (s + 1) ls (moved ls s d) (omega (arith, is)) open (none_behind ls s d e none)
-        (stays_moving laws c hands accepted gone l s ls d (omega (arith, is)) open e m))
+    (λ e. moves_stay laws c hands accepted gone l k (s + 1) ls (moved ls s d) (omega (arith, is)) able (none_behind ls s d e none)
+    (stays_moving laws c hands accepted gone l s ls d (omega (arith, is)) able e m))
 
 -- ---- nothing is left of any selection
 

@@ -48,21 +48,23 @@ own_by hands l j (inr x) = ap (λ (b : Bool). if b then hands l else hands j) x.
 
 -- ---- the links that may take messages
 
-places_open : (may : Link → Bool) (n : ℕ) (ks : List Link) (i t : ℕ) → slice_get (places_from may n ks) i ≡ Some t → (j : ℕ) × (k : Link) × (t ≡ n + j) × (slice_get ks j ≡ Some k) × (may k ≡ true)
+-- a link that passes a test, and its place
+abbrev pub IsFound : (Link → Bool) → ℕ → List Link → ℕ → Type 0
+IsFound may n ks t = (j : ℕ) × (k : Link) × (t ≡ n + j) × (slice_get ks j ≡ Some k) × (may k ≡ true)
+
+found_next : (may : Link → Bool) (n : ℕ) (k : Link) (ks : List Link) (t : ℕ) → IsFound may (n + 1) ks t → IsFound may n (k ∷ ks) t
+found_next may n k ks t r = let at : t ≡ n + suc r.0 = omega (arith, r.2) in (suc r.0, r.1, at, r.3, r.4)
+
+found_by : (may : Link → Bool) (n : ℕ) (k : Link) (ks : List Link) (rest : List ℕ) (i t : ℕ) (b : Bool) → may k ≡ b → slice_get (if b then n ∷ rest else rest) i ≡ Some t
+    → ((i : ℕ) → slice_get rest i ≡ Some t → IsFound may (n + 1) ks t) → IsFound may n (k ∷ ks) t
+found_by may n k ks rest zero t true is e next = let same : n ≡ t = cc in let at : t ≡ n + 0 = omega (arith, same) in (0, k, at, refl, is)
+found_by may n k ks rest (suc i) t true is e next = found_next may n k ks t (next i e)
+found_by may n k ks rest i t false is e next = found_next may n k ks t (next i e)
+
+places_open : (may : Link → Bool) (n : ℕ) (ks : List Link) (i t : ℕ) → slice_get (places_from may n ks) i ≡ Some t → IsFound may n ks t
 unfolding places_from
 places_open may n [] i t e = absurd (none_some e)
-places_open may n (k ∷ ks) i t e = by (may k) refl i e
-  where
-    next : (i : ℕ) → slice_get (places_from may (n + 1) ks) i ≡ Some t → (j : ℕ) × (x : Link) × (t ≡ n + j) × (slice_get (k ∷ ks) j ≡ Some x) × (may x ≡ true)
-    next i e =
-        let r = places_open may (n + 1) ks i t e in
-        let at : t ≡ n + suc r.0 = omega (arith, r.2) in
-        (suc r.0, r.1, at, r.3, r.4)
-    by : (b : Bool) → may k ≡ b → (i : ℕ) → slice_get (if b then n ∷ places_from may (n + 1) ks else places_from may (n + 1) ks) i ≡ Some t
-        → (j : ℕ) × (x : Link) × (t ≡ n + j) × (slice_get (k ∷ ks) j ≡ Some x) × (may x ≡ true)
-    by true is zero e = let same : n ≡ t = cc in let at : t ≡ n + 0 = omega (arith, same) in (0, k, at, refl, is)
-    by true is (suc i) e = next i e
-    by false is i e = next i e
+places_open may n (k ∷ ks) i t e = found_by may n k ks (places_from may (n + 1) ks) i t (may k) refl e (λ j x. places_open may (n + 1) ks j t x)
 
 not_failed : (k : Link) → is_open false k ≡ true → k.marks.failed ≡ false
 not_failed k e = flip k.marks.failed (and_second (is_serving k) (false || not k.marks.failed) e)
@@ -80,12 +82,12 @@ unfailed k ms e fits = by (is_some k.marks.changing) refl
 
 open_other : (ks : List Link) (hands : ℕ → List Msu) (l t : ℕ) (own k : Link) → Fits ks hands → slice_get ks l ≡ Some own → own.marks.failed ≡ true → slice_get ks t ≡ Some k → is_open false k ≡ true
     → IsOther l hands t
-open_other ks hands l t own k fits there failed here open =
+open_other ks hands l t own k fits there failed here able =
     let fit : FitsLink k (hands t) = fits_there ks hands t k fits here in
     record {
       other = λ e. let same : own ≡ k = one own k (sym there ∙ ap (slice_get ks) (sym e) ∙ here) in
-          let f : true ≡ false = sym failed ∙ ap (λ (x : Link). x.marks.failed) same ∙ not_failed k open in cc;
-      free = fit.marks.idle (no_hand k.marks.changing (unfailed k (hands t) (not_failed k open) fit.marks));
+          let f : true ≡ false = sym failed ∙ ap (λ (x : Link). x.marks.failed) same ∙ not_failed k able in cc;
+      free = fit.marks.idle (no_hand k.marks.changing (unfailed k (hands t) (not_failed k able) fit.marks));
     }
   where
     one : (a b : Link) → Some a ≡ Some b → a ≡ b
@@ -162,7 +164,7 @@ equal_by a b (inr x) e = let f : false ≡ true = sym x.0 ∙ e in cc
 back_by : (laws : StepsKeepPlaces) (c : LinkSet) (hands : ℕ → List Msu) (accepted : List Msu) (gone : List Gone) (l : ℕ) (d : Diversion) (b : Bool) → (length d.rest == 0) ≡ b
     → Moving c hands accepted gone l d
     → Went c hands accepted gone l
-        (record { at = if b then d else record { links = change d.links l (takes_on d.rest); table = d.table; rest = [] }; fault = None })
+    (record { at = if b then d else record { links = change d.links l (takes_on d.rest); table = d.table; rest = [] }; fault = None })
 back_by laws c hands accepted gone l d true is m =
     record { moving = m; whole = λ e. nil_from_length d.rest (equal_by (length d.rest) 0 (eqb_tells (length d.rest) 0) is) }
 back_by laws c hands accepted gone l d false is m = record { moving = takes_back laws c hands accepted gone l d (slice_get d.links l) refl m.out m; whole = λ e. refl }
@@ -214,7 +216,7 @@ ends laws c hands accepted gone l d none m =
     record {
       places = placed laws (within c d) (after_by c l d None) (with_hand_of hands l []) accepted gone (λ j. held_changed ends_at d.links l j (λ k. refl))
           (λ s lt. with_first _ _ (link_of d.table s) _ (link_at (λ r. ends_on ls l (slice_get d.links l) (link_of d.table r) r) s lt)
-              (end_links c hands accepted gone l s ls d (link_of d.table s))) now.places;
+          (end_links c hands accepted gone l s ls d (link_of d.table s))) now.places;
       fits = fits_change ends_at d.links (with_hand_of hands l []) l now.fits (λ k e f. fits_ends k (with_hand_of hands l [] l) (hand_here hands l []) f);
       table = refl;
     }
@@ -255,5 +257,5 @@ stays_diverted laws c hands accepted gone l stays own =
     by_test (λ (x : Diverted). Went c hands accepted gone l x) (length ls == 0) (gives_back l d (back_fault l d)) (moves ls SELECTIONS 0 d)
     (λ e. gives laws c hands accepted gone l d (back_fault l d) start)
     (λ e. shares c hands accepted gone l (moves ls SELECTIONS 0 d)
-        (moves_stay laws c hands accepted gone l SELECTIONS 0 ls d refl (others c.links hands l h.link stays.fits h.there h.failed) (λ r lt. absurd (omega (arith, lt))) start)) in
+    (moves_stay laws c hands accepted gone l SELECTIONS 0 ls d refl (others c.links hands l h.link stays.fits h.there h.failed) (λ r lt. absurd (omega (arith, lt))) start)) in
     finish laws c hands accepted gone l w.at w.fault went.whole went.moving

@@ -101,8 +101,8 @@ stays_placed laws c hands accepted gone stays =
     record {
       places = placed laws c _ hands accepted gone (λ l. refl)
           (λ s lt. with_first _ _ (link_of c.table s) _ (link_at (anew_on c.links c.table ls) s lt)
-              (anew_cases (changing_at c.links (link_of c.table s)) (held_by_any s c.links) (link_of c.table s) (pick ls s) _
-              (λ still none. stands_none c hands accepted gone s (link_of c.table s) stays still none))) stays.places;
+          (anew_cases (changing_at c.links (link_of c.table s)) (held_by_any s c.links) (link_of c.table s) (pick ls s) _
+          (λ still none. stands_none c hands accepted gone s (link_of c.table s) stays still none))) stays.places;
       fits = stays.fits;
       table = refl;
     }
@@ -161,8 +161,8 @@ stays_rebalanced laws c hands accepted gone stays e =
     record {
       places = placed laws c _ hands accepted gone (λ l. held_mapped forgiven c.links l (λ k. refl))
           (λ s lt. with_first _ _ (link_of c.table s) _ (link_at (pick ls) s lt)
-              (same_links c hands accepted gone s (link_of c.table s) (pick ls s) none
-              (in_way_none c.links c.table ls s (below (in_way c.links c.table ls) SELECTIONS s second.0 lt)))) stays.places;
+          (same_links c hands accepted gone s (link_of c.table s) (pick ls s) none
+          (in_way_none c.links c.table ls s (below (in_way c.links c.table ls) SELECTIONS s second.0 lt)))) stays.places;
       fits = fits_map forgiven c.links hands stays.fits (λ k l there f. fits_forgiven k (hands l) (any_at is_changing c.links l k first.0 there) f);
       table = refl;
     }

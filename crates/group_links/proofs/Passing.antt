@@ -4,7 +4,8 @@ use Rattle.std.specs.Prelude.{All, if◌then◌else◌, slice_get, sum_by}
 use Rattle.std.specs.List.{list_any}
 use Rattle.std.proofs.lemmas.List.{drop_more, drop_all}
 use Rattle.std.proofs.lemmas.List.Elements.{All-map}
-use Rattle.std.proofs.lemmas.List.Folds.{sum_by-drop_more, list_any_more}
+use Rattle.std.proofs.lemmas.List.Folds.{list_any_more}
+use Rattle.std.proofs.lemmas.List.Sums.{sum_by-drop_more}
 use Rattle.link_machine.specs.declared.reply.Refusal.{Refusal}
 use Rattle.link_heart.specs.declared.heart.Heart.{Heart}
 use Rattle.link_heart.specs.Machine.{with_book, tidied, is_low, offered, tick_refusal}
@@ -129,7 +130,7 @@ due_more n ks i k due x new h here is grown so =
 
 pub due_none : (n : ℕ) (ks : List Link) → min (2 ^ 64 - 1) (0 + sum_by (due_at n) ks) ≡ all_due n ks
 unfolding all_due
-due_none n ks = refl
+due_none n ks = let plain : 0 + sum_by (due_at n) ks ≡ sum_by (due_at n) ks = omega arith in ap (λ (y : ℕ). min (2 ^ 64 - 1) y) plain
 
 pub due_last : (n : ℕ) (ks : List Link) (i due : ℕ) → length ks ≡ i → due < 2 ^ 64 → min (2 ^ 64 - 1) (due + sum_by (due_at n) (drop i ks)) ≡ all_due n ks → due ≡ all_due n ks
 due_last n ks i due e fits so =

@@ -6,9 +6,9 @@ ghost use Rattle.link_labels.specs.Changeovers.{IsKind};
 ghost use Rattle.group_links.specs.Failing.{fail_fault_of, begins_at, order_of, acknowledgement_of, told_by, replies, hears};
 ghost use Rattle.group_links.specs.OneLink.{fault_of, put_fault, puts, window, known, unsure_by, retrieve_fault, retrieve_refusal, number_of, hands_out, abandon_fault, abandon_refusal};
 
-use link_refusals::{AbandonError, FailError, RetrieveError, SendError};
 use link_labels::Kind;
 use link_places::{Answer, Changing, Marks, PATIENCE, counts_of};
+use link_refusals::{AbandonError, FailError, RetrieveError, SendError};
 use link_term::{Msu, RetrieveError as StoreError, Terminal};
 use std::alloc::AllocError;
 use std::collections::VecDeque;

@@ -6,9 +6,9 @@ ghost use Rattle.group_links.specs.OneLink.{fault_of, put_fault, puts, number_of
 ghost use Rattle.group_links.specs.Links.{change, fault_at, read_at};
 ghost use Rattle.group_links.specs.Failing.{begins_at, fail_fault_of, hears, replies_at, order_of, handed, given_up, messages_by, none_known, sent_by};
 
-use link_refusals::{AbandonError, FailError, RetrieveError, SendError};
 use crate::link::Link;
 use link_labels::Kind;
+use link_refusals::{AbandonError, FailError, RetrieveError, SendError};
 use link_term::Msu;
 use std::collections::VecDeque;
 

@@ -5,12 +5,12 @@ ghost use Rattle.resend_store.specs.Messages.{IsMessage};
 ghost use Rattle.link_places.specs.Limits.{SELECTIONS};
 ghost use Rattle.link_places.specs.Sharing.{of, off};
 ghost use Rattle.group_links.specs.OneLink.{fault_of, held};
-ghost use Rattle.group_links.specs.Moving.{term_takes, takes_on, division, room_fault, take_fault, move_fault, moved, moves, back_fault_by, back_fault, back};
+ghost use Rattle.group_links.specs.Moving.{term_takes, takes_on, division, room_fault, take_fault, move_fault, moved, moves, back_fault_by, back_fault, back, hands_over};
 ghost use Rattle.group_links.specs.Links.{change};
 
-use link_refusals::DivertFault;
 use crate::link::Link;
 use link_places::{Table, count_on, pick, selection_of};
+use link_refusals::DivertFault;
 use link_term::{Msu, Terminal};
 use resend_store::MAX_KEPT;
 use std::collections::VecDeque;

@@ -12,7 +12,8 @@ ghost use Rattle.link_group.specs.Changing.{fail_fault, failed, order_at, IsRepl
 use crate::group::{Group, Sif, sif_of};
 use crate::retrieved::Retrieved;
 use group_links::{
-    AbandonError, FailError, RetrieveError, SendError, abandon_at, fail_at, hear_at, put_at, retrieve_at,
+    AbandonError, FailError, RetrieveError, SendError, abandon_at, fail_at, hear_at, put_at,
+    retrieve_at,
 };
 use link_labels::{Changeover, Label, read_changeover};
 use link_places::selection_of;

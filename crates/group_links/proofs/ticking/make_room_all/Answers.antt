@@ -1,5 +1,7 @@
 use Rattle.std.proofs.Common.{rules, ap, sym, ◌∙◌, slice_set}
 use Rattle.std.proofs.lemmas.List.Edits.{map_over_more}
+use Rattle.link_heart.specs.Machine.{is_low}
+use Rattle.group_links.specs.declared.link.Link.{Link}
 use Rattle.group_links.specs.Ticking.{roomy}
 use Rattle.group_links.proofs.Passing.{lacks_room}
 use Rattle.group_links.proofs.ticking.make_room_all.Goals as goal
@@ -12,4 +14,4 @@ loop-at-preserved c =
 pub returns-in-Err-clause-err : goal.returns-in-Err-clause-err
 returns-in-Err-clause-err c =
     lacks_room c.args.links.now c.loop-at.links c.loop-at.at c.index-links-at.result c.make_room.new.link (search rules) (search rules) c.loop-at.invariant c.index-links-at.is
-    c.in-Err.ensures.err c.in-Err.ensures.low
+    (c.in-Err.ensures.err ∙ sym c.index-links-at.is) (ap (λ (x : Link). is_low x.terminal.heart) c.index-links-at.is ∙ c.in-Err.ensures.low)
