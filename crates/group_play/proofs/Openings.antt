@@ -3,39 +3,39 @@ use Rattle.std.proofs.Common.{◌≡◌, ℕ, ◌+◌, List, [], ◌∷◌, ◌+
 use Rattle.std.specs.Prelude.{All}
 use Rattle.std.proofs.lemmas.List.Elements.{All-nil, All-append, All-weaker}
 use Rattle.resend_store.specs.declared.messages.Mode.{Mode}
-use Rattle.link_term.specs.mtp2_text_types.standard_text.TheConstants.{STANDARD}
+use Rattle.turn_code.specs.declared.draft.Draft.{Draft}
 use Rattle.link_side.specs.Half.{first_half}
 use Rattle.link_term.specs.Term.{Term}
-use Rattle.link_term.specs.Opening.{IsNew}
+use Rattle.link_term.specs.Opening.{IsOver}
 use Rattle.link_group.specs.New.{IsUnused}
 use Rattle.group_lines.specs.declared.heads.GroupHead.{GroupHead}
 use Rattle.group_play.specs.GroupRuns.{AreNew}
 
 -- one that is new holds no message
-unused : (text : List ℕ) (mode : Mode) (t : Term) → IsNew text mode t → IsUnused t
+unused : (d : Draft) (mode : Mode) (t : Term) → IsOver d mode t → IsUnused t
 unfolding first_half
-unused text mode t new = ap (λ s. s.sender.kept) new.2.side
+unused d mode t new = ap (λ s. s.sender.kept) new.side
 
-pub all_unused : (head : GroupHead) (ts : List Term) → AreNew head ts → All IsUnused ts
-all_unused head ts new = All-weaker (IsNew STANDARD.now head.mode) IsUnused (unused STANDARD.now head.mode) ts new.are_new
+pub all_unused : (d : Draft) (head : GroupHead) (ts : List Term) → AreNew d head ts → All IsUnused ts
+all_unused d head ts new = All-weaker (IsOver d head.mode) IsUnused (unused d head.mode) ts new.are_new
 
 -- so many so far
-pub record AreSoFar (mode : Mode) (n : ℕ) (ts : List Term) : Type 0 where
+pub record AreSoFar (d : Draft) (mode : Mode) (n : ℕ) (ts : List Term) : Type 0 where
   pub number : length ts ≡ n
-  pub are_new : All (IsNew STANDARD.now mode) ts
+  pub are_new : All (IsOver d mode) ts
 
-pub none_yet : (mode : Mode) (ts : List Term) → ts ≡ [] → AreSoFar mode 0 ts
-none_yet mode ts none =
-    let P : List Term → Type 0 = λ xs. AreSoFar mode 0 xs in
-    subst P (sym none) (record { number = refl; are_new = All-nil (IsNew STANDARD.now mode) })
+pub none_yet : (d : Draft) (mode : Mode) (ts : List Term) → ts ≡ [] → AreSoFar d mode 0 ts
+none_yet d mode ts none =
+    let P : List Term → Type 0 = λ xs. AreSoFar d mode 0 xs in
+    subst P (sym none) (record { number = refl; are_new = All-nil (IsOver d mode) })
 
-pub one_more : (mode : Mode) (n : ℕ) (old new : List Term) (t : Term) → IsNew STANDARD.now mode t → new ≡ old ++ t ∷ [] → AreSoFar mode n old
-    → AreSoFar mode (n + 1) new
-one_more mode n old new t is more so_far =
-    let P : List Term → Type 0 = λ xs. AreSoFar mode (n + 1) xs in
+pub one_more : (d : Draft) (mode : Mode) (n : ℕ) (old new : List Term) (t : Term) → IsOver d mode t → new ≡ old ++ t ∷ [] → AreSoFar d mode n old
+    → AreSoFar d mode (n + 1) new
+one_more d mode n old new t is more so_far =
+    let P : List Term → Type 0 = λ xs. AreSoFar d mode (n + 1) xs in
     let number : length (old ++ t ∷ []) ≡ n + 1 = omega (arith, length-append old (t ∷ []), so_far.number) in
     subst P (sym more)
-    (record { number = number; are_new = All-append (IsNew STANDARD.now mode) old (t ∷ []) so_far.are_new (is, tt) })
+    (record { number = number; are_new = All-append (IsOver d mode) old (t ∷ []) so_far.are_new (is, tt) })
 
-pub all_made : (head : GroupHead) (n : ℕ) (ts : List Term) → n ≡ head.links → AreSoFar head.mode n ts → AreNew head ts
-all_made head n ts all so_far = record { number = so_far.number ∙ all; are_new = so_far.are_new }
+pub all_made : (d : Draft) (head : GroupHead) (n : ℕ) (ts : List Term) → n ≡ head.links → AreSoFar d head.mode n ts → AreNew d head ts
+all_made d head n ts all so_far = record { number = so_far.number ∙ all; are_new = so_far.are_new }

@@ -2,9 +2,12 @@
 use Rattle.std.specs.Prelude.{◌≡◌, ℕ, Bool, is_some, List, [], ◌∷◌, ◌++◌, All, length, Option, None, Some}
 use Rattle.std.specs.List.{flat_map}
 use Rattle.std.specs.Io.KnownBytes.{Appends}
-use Rattle.link_term.specs.mtp2_text_types.standard_text.TheConstants.{STANDARD}
+use Rattle.turn_code.specs.declared.draft.Draft.{Draft}
 use Rattle.link_term.specs.Term.{Term}
-use Rattle.link_term.specs.Opening.{IsNew}
+use Rattle.link_term.specs.Opening.{IsOver}
+use Rattle.link_term.specs.Wanted.{wanted, IsFirstLacking}
+use Rattle.link_term.specs.declared.opening.OpenError.{OpenError}
+use Rattle.link_term.specs.declared.opening.OpenError.TheVariants.{NoName, NoMemory}
 use Rattle.link_group.specs.Set.{LinkSet}
 use Rattle.link_group.specs.New.{new_set}
 use Rattle.group_lines.specs.declared.heads.GroupHead.{GroupHead}
@@ -33,21 +36,26 @@ OTHER_POINT = 2
 abbrev pub begun : LinkSet → Playing
 begun c = record { set = c; hands = []; on = 0 }
 
--- as many new terminals as a script's first line says, with its error correction
-pub record AreNew (head : GroupHead) (terminals : List Term) : Type 0 where
+-- as many new terminals over a set of processes as a script's first line says, with its error correction
+pub record AreNew (d : Draft) (head : GroupHead) (terminals : List Term) : Type 0 where
   pub number : length terminals ≡ head.links
-  pub are_new : All (IsNew STANDARD.now head.mode) terminals
+  pub are_new : All (IsOver d head.mode) terminals
 
--- a set of such terminals between this point and the other
-pub record IsNewSet (head : GroupHead) (c : LinkSet) : Type 0 where
+-- links with such terminals between this point and the other
+pub record IsNewSet (d : Draft) (head : GroupHead) (c : LinkSet) : Type 0 where
   pub terminals : List Term
-  pub new : AreNew head terminals
+  pub new : AreNew d head terminals
   pub set : c ≡ new_set OWN_POINT OTHER_POINT terminals
 
--- P holds of the beginning of a script: a set of so many terminals over the profile's text, all new, with this error correction
-pub record IsOfNewSet (head : GroupHead) (P : Playing → Type 0) : Type 0 where
+-- the name is the first that the set of processes lacks of those that a terminal wants; want of memory says nothing
+abbrev pub LacksOne : Draft → OpenError → Type 0
+LacksOne d (NoName name) = IsFirstLacking d name wanted
+LacksOne d NoMemory = Unit {0}
+
+-- P holds of the beginning of a script: links with so many terminals over a set of processes, all new, with this error correction
+pub record IsOfNewSet (d : Draft) (head : GroupHead) (P : Playing → Type 0) : Type 0 where
   pub terminals : List Term
-  pub new : AreNew head terminals
+  pub new : AreNew d head terminals
   pub holds : P (begun (new_set OWN_POINT OTHER_POINT terminals))
 
 -- ---- runs

@@ -1,62 +1,68 @@
 //! The set in which a script begins.
-ghost use Rattle.std.specs.Prelude.{◌≡◌, ◌++◌, ◌∷◌, [], IfOk, IfSome, OnOk};
-ghost use Rattle.link_term.specs.mtp2_text_types.standard_text.TheConstants.{STANDARD};
-ghost use Rattle.link_term.specs.Opening.{IsNew};
+ghost use Rattle.std.specs.Prelude.{◌≡◌, ◌++◌, ◌∷◌, [], IfOk, IfErr, OnOk};
+ghost use Rattle.link_term.specs.Opening.{IsOver};
 ghost use Rattle.link_term.specs.Term.{Term};
 ghost use Rattle.group_lines.specs.GroupScripts.{IsFew};
-ghost use Rattle.group_play.specs.GroupRuns.{AreNew, IsNewSet};
+ghost use Rattle.group_play.specs.GroupRuns.{AreNew, IsNewSet, LacksOne};
 
 use group_lines::GroupHead;
 use link_group::{Group, Mode, Terminal};
-use std::alloc::{AllocError, Global};
+use link_term::OpenError;
+use std::alloc::Global;
+use turn_check::Verified;
 
 /// This end's point code, and the other end's.
 const OWN_POINT: u16 = 1;
 
 const OTHER_POINT: u16 = 2;
 
-/// A terminal for a link of a set.
-fn terminal(alloc: Global, mode: Mode) -> Result<Terminal, AllocError>
-    ensures { IfOk result (IsNew STANDARD.now mode) }
+/// One terminal more over a set of processes.
+fn push_terminal(
+    alloc: Global,
+    set: &Verified,
+    mode: Mode,
+    terminals: &mut Vec<Terminal>,
+) -> Result<(), OpenError>
+    ensures ok { OnOk result ((t : Term) × IsOver set.now mode t × (terminals.new.items ≡ terminals.old.items ++ t ∷ [])) }
+    ensures err { IfErr result (LacksOne set.now) }
 {
-    match Terminal::new(alloc, mode) {
-        Ok(terminal) => Ok(terminal),
-        Err(_) => Err(AllocError),
-    }
-}
-
-/// One terminal more.
-fn push_terminal(alloc: Global, mode: Mode, terminals: &mut Vec<Terminal>) -> Result<(), AllocError>
-    ensures { OnOk result ((t : Term) × IsNew STANDARD.now mode t × (terminals.new.items ≡ terminals.old.items ++ t ∷ [])) }
-{
-    let terminal = terminal(alloc, mode)?;
+    let terminal = match Terminal::of_set(alloc, mode, set) {
+        Ok(terminal) => terminal,
+        Err(error) => return Err(error),
+    };
     match terminals.push(terminal) {
         Ok(()) => Ok(()),
-        Err(_) => Err(AllocError),
+        Err(_) => Err(OpenError::NoMemory),
     }
 }
 
 /// So many.
-fn terminals(alloc: Global, head: GroupHead) -> Result<Vec<Terminal>, AllocError>
-    ensures { IfOk result (λ v. AreNew head v.items) }
+fn terminals(alloc: Global, set: &Verified, head: GroupHead) -> Result<Vec<Terminal>, OpenError>
+    ensures ok { IfOk result (λ v. AreNew set.now head v.items) }
+    ensures err { IfErr result (LacksOne set.now) }
 {
     let mut terminals = Vec::new(alloc);
     for made in 0..head.links {
-        push_terminal(alloc, head.mode, &mut terminals)?;
+        match push_terminal(alloc, set, head.mode, &mut terminals) {
+            Ok(()) => {}
+            Err(error) => return Err(error),
+        }
     }
     Ok(terminals)
 }
 
-/// A set of so many new terminals between this point and the other; none where there is no memory.
-pub(crate) fn open_set(alloc: Global, head: GroupHead) -> Option<Group>
+/// Links with so many new terminals over a set of processes, between this point and the other.
+pub(crate) fn open_set(alloc: Global, set: &Verified, head: GroupHead) -> Result<Group, OpenError>
     requires { IsFew head.links }
-    ensures { IfSome result (IsNewSet head) }
+    ensures ok { IfOk result (IsNewSet set.now head) }
+    ensures err { IfErr result (LacksOne set.now) }
 {
-    let Ok(terminals) = terminals(alloc, head) else {
-        return None;
+    let terminals = match terminals(alloc, set, head) {
+        Ok(terminals) => terminals,
+        Err(error) => return Err(error),
     };
     match Group::new(alloc, OWN_POINT, OTHER_POINT, terminals) {
-        Ok(group) => Some(group),
-        Err(_) => None,
+        Ok(group) => Ok(group),
+        Err(_) => Err(OpenError::NoMemory),
     }
 }

@@ -1,16 +1,16 @@
 //! The command `play`.
-ghost use Rattle.std.specs.Prelude.{◌≡◌, ◌⊎◌, List, ℕ, Bool, Ok, IfOk, IfErr, IfSome};
+ghost use Rattle.std.specs.Prelude.{◌≡◌, ◌⊎◌, List, ℕ, IfSome};
 ghost use Rattle.text_reader.specs.Reading.{Keeps};
 ghost use Rattle.group_play.specs.Checked.{given, IsAccepted};
 ghost use Rattle.term_lines.specs.TermScripts.{plain_any_script, IsInRange};
-ghost use Rattle.group_lines.specs.GroupScripts.{plain_play_script, IsFit, Tells};
-ghost use Rattle.script_play.specs.Played.{has_terminals, reading_of, IsOtherObeyed, IsObeyed, IsPlayed, IsOtherMissed, IsMissedIn, IsPlayedInPart, IsNoScript, PrintsFault, IsOnSet, IsRefused};
+ghost use Rattle.group_lines.specs.GroupScripts.{plain_play_script, IsFit};
+ghost use Rattle.script_play.specs.Played.{IsOtherObeyed, IsObeyed, IsPlayed, IsOtherMissed, IsMissedIn, IsPlayedInPart, HasNoOther, HasNoTerminal, IsNotRun, PrintsFault, IsOnSet, IsRefused};
 
 use group_lines::{PlayScript, play_script_in};
 use group_play::{
     FAILED, SetWord, load_set, play_book, play_group, play_terminal, refuse, write_refusal,
 };
-use script_lines::{ScriptFault, book_script};
+use script_lines::ScriptFault;
 use std::alloc::Global;
 use std::io::{Read, Write};
 use std::str;
@@ -18,12 +18,13 @@ use term_lines::AnyScript;
 use text_reader::{TextRead, line_at_limit, read_text};
 use turn_check::Verified;
 
-/// Runs a script on a set of processes, or, where the set is `standard`, on a signalling link terminal, where its first line is
-/// `terminal basic` or `terminal cyclic`, or on N links between two points, where it is `group basic N` or `group cyclic N`; and prints a line
-/// for each command but `on` and `expect`, and for each unit that goes out.
+/// Runs a script on a set of processes, or, where its first line is `terminal basic` or `terminal cyclic`, on a signalling link terminal over
+/// that set, or, where it is `group basic N` or `group cyclic N`, on N links between two points with such terminals; and prints a line for each
+/// command but `on` and `expect`, and for each unit that goes out.
 ///
 /// Both texts are read whole before anything is written: the set, then the script. A refusal of the set comes before one of
-/// the script, and a line of the script that is none is refused before anything runs. A line goes out in one write.
+/// the script, a line of the script that is none is refused before anything runs, and then a set that lacks a name that a terminal wants, for
+/// a script of a terminal or of links. A line goes out in one write.
 ///
 /// Gives the exit status: 0 where each command ran and its line was written, 1 after `failed line N` where an expectation
 /// failed, 2 after a line `refused CODE Name ..` alone where the set or the script was refused, or 4 where memory, a read or
@@ -36,33 +37,21 @@ pub fn play<S: Read + Drop, R: Read + Drop, W: Write>(
 ) -> u8
     ensures accepted { (result ≡ 0) ⊎ (result ≡ 1) → IfSome (given S.remaining set) IsAccepted }
     ensures held { result ≡ 0
-        → IsOnSet (given S.remaining set) (R.remaining script) (IsPlayed (has_terminals set) (W.contents writer.old) (W.contents writer.new)) }
+        → IsOnSet (given S.remaining set) (R.remaining script) (IsPlayed (W.contents writer.old) (W.contents writer.new)) }
     ensures missed { result ≡ 1
-        → IsOnSet (given S.remaining set) (R.remaining script) (IsPlayedInPart (has_terminals set) (W.contents writer.old) (W.contents writer.new)) }
+        → IsOnSet (given S.remaining set) (R.remaining script) (IsPlayedInPart (W.contents writer.old) (W.contents writer.new)) }
     ensures refused { result ≡ 2
-        → IsRefused (has_terminals set) (given S.remaining set) (R.remaining script) (W.contents writer.old) (W.contents writer.new) }
+        → IsRefused (given S.remaining set) (R.remaining script) (W.contents writer.old) (W.contents writer.new) }
     ensures status { (result ≡ 0) ⊎ (result ≡ 1) ⊎ (result ≡ 2) ⊎ (result ≡ 4) }
 {
-    let terminals = has_terminals(&set);
     let set = load_set(alloc, set);
     let read = read_text(alloc, &mut script);
     match set {
         Ok(set) => match read {
-            Ok(read) => play_text(alloc, &set, terminals, &read, writer),
+            Ok(read) => play_text(alloc, &set, &read, writer),
             Err(_) => FAILED,
         },
         Err(fault) => write_refusal(alloc, writer, &fault),
-    }
-}
-
-/// Whether a set runs on terminals too.
-fn has_terminals<S>(set: &SetWord<S>) -> bool
-    ensures { result ≡ has_terminals set.now }
-{
-    match set {
-        SetWord::Standard => true,
-        SetWord::Monitors => false,
-        SetWord::Text(_) => false,
     }
 }
 
@@ -77,37 +66,12 @@ fn refuse_script<W: Write>(alloc: Global, writer: &mut W, fault: ScriptFault) ->
     }
 }
 
-/// The script of a text, which is a book's where there are no terminals.
-fn script_in<'a>(
-    alloc: Global,
-    terminals: bool,
-    text: &'a str,
-) -> Result<PlayScript<'a>, ScriptFault>
-    ensures script { IfOk result (λ s. reading_of terminals text.now ≡ Ok (plain_play_script s)) }
-    ensures fit { IfOk result IsFit }
-    ensures fault { IfErr result (Tells (reading_of terminals text.now)) }
-{
-    if terminals {
-        return play_script_in(alloc, text);
-    }
-    match book_script(alloc, text) {
-        Ok(script) => Ok(PlayScript::Other(AnyScript::Book(script))),
-        Err(fault) => Err(fault),
-    }
-}
-
 /// Runs the script of a text that was read.
-fn play_text<W: Write>(
-    alloc: Global,
-    set: &Verified,
-    terminals: bool,
-    read: &TextRead,
-    writer: &mut W,
-) -> u8
-    ensures held { result ≡ 0 → (bytes : List ℕ) → Keeps bytes read.now → IsPlayed terminals (W.contents writer.old) (W.contents writer.new) set.now bytes }
+fn play_text<W: Write>(alloc: Global, set: &Verified, read: &TextRead, writer: &mut W) -> u8
+    ensures held { result ≡ 0 → (bytes : List ℕ) → Keeps bytes read.now → IsPlayed (W.contents writer.old) (W.contents writer.new) set.now bytes }
     ensures missed { result ≡ 1 → (bytes : List ℕ) → Keeps bytes read.now
-        → IsPlayedInPart terminals (W.contents writer.old) (W.contents writer.new) set.now bytes }
-    ensures refused { result ≡ 2 → (bytes : List ℕ) → Keeps bytes read.now → IsNoScript terminals (W.contents writer.old) (W.contents writer.new) bytes }
+        → IsPlayedInPart (W.contents writer.old) (W.contents writer.new) set.now bytes }
+    ensures refused { result ≡ 2 → (bytes : List ℕ) → Keeps bytes read.now → IsNotRun (W.contents writer.old) (W.contents writer.new) set.now bytes }
     ensures status { (result ≡ 0) ⊎ (result ≡ 1) ⊎ (result ≡ 2) ⊎ (result ≡ 4) }
 {
     if !read.is_text {
@@ -118,7 +82,7 @@ fn play_text<W: Write>(
         return refuse_script(alloc, writer, ScriptFault::BadLine(line));
     }
     match str::from_utf8(&read.kept) {
-        Ok(text) => match script_in(alloc, terminals, text) {
+        Ok(text) => match play_script_in(alloc, text) {
             Ok(script) => play_script(alloc, set, &script, writer),
             Err(fault) => refuse_script(alloc, writer, fault),
         },
@@ -136,11 +100,12 @@ fn play_other<W: Write>(
     requires { IsInRange script.now }
     ensures held { result ≡ 0 → IsOtherObeyed set.now (plain_any_script script.now) (W.contents writer.old) (W.contents writer.new) }
     ensures missed { result ≡ 1 → IsOtherMissed set.now (plain_any_script script.now) (W.contents writer.old) (W.contents writer.new) }
-    ensures status { (result ≡ 0) ⊎ (result ≡ 1) ⊎ (result ≡ 4) }
+    ensures refused { result ≡ 2 → HasNoOther set.now (plain_any_script script.now) (W.contents writer.old) (W.contents writer.new) }
+    ensures status { (result ≡ 0) ⊎ (result ≡ 1) ⊎ (result ≡ 2) ⊎ (result ≡ 4) }
 {
     match script {
         AnyScript::Book(script) => play_book(alloc, set, script, writer),
-        AnyScript::Terminal(script) => play_terminal(alloc, script, writer),
+        AnyScript::Terminal(script) => play_terminal(alloc, set, script, writer),
     }
 }
 
@@ -154,10 +119,11 @@ fn play_script<W: Write>(
     requires { IsFit script.now }
     ensures held { result ≡ 0 → IsObeyed set.now (plain_play_script script.now) (W.contents writer.old) (W.contents writer.new) }
     ensures missed { result ≡ 1 → IsMissedIn set.now (plain_play_script script.now) (W.contents writer.old) (W.contents writer.new) }
-    ensures status { (result ≡ 0) ⊎ (result ≡ 1) ⊎ (result ≡ 4) }
+    ensures refused { result ≡ 2 → HasNoTerminal set.now (plain_play_script script.now) (W.contents writer.old) (W.contents writer.new) }
+    ensures status { (result ≡ 0) ⊎ (result ≡ 1) ⊎ (result ≡ 2) ⊎ (result ≡ 4) }
 {
     match script {
         PlayScript::Other(script) => play_other(alloc, set, script, writer),
-        PlayScript::Group(script) => play_group(alloc, script, writer),
+        PlayScript::Group(script) => play_group(alloc, set, script, writer),
     }
 }

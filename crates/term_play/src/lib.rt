@@ -12,5 +12,5 @@ pub use book_play::{
     text_line, value_line, write_line, write_refusal,
 };
 pub use orders::command_of;
-pub use terminals::play_terminal;
+pub use terminals::{play_terminal, refuse_set};
 pub use unit_line::line_of_unit;

@@ -3,4 +3,4 @@ use Rattle.group_play.proofs.Openings.{AreSoFar}
 use Rattle.group_play.proofs.opening.terminals.Given as goal
 
 abbrev pub invariant-loop-made : goal.invariant-loop-made
-invariant-loop-made l = AreSoFar l.head.mode l.made l.terminals.items
+invariant-loop-made l = AreSoFar l.set l.head.mode l.made l.terminals.items
