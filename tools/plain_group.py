@@ -14,6 +14,7 @@ import sys
 import plain_term
 from plain_term import ROOT, BadLine, Failed, Refused, Terminal, copied, do, is_terminal, octets_in, spoken, wanted, whole
 from plain_term import command as terminal_command
+from plain_check import Refusal, check
 from plain_play import LONGEST, number
 
 TEXT = ROOT / "examples" / "standard.sdl"
@@ -388,9 +389,20 @@ def run(player, commands, say):
 
 
 def play(word, script, say):
-    """Plays a script of any kind on a set, and gives the status."""
-    if word != "standard" or head(script) is None:
-        return plain_term.play(word, script, say)
+    """Plays a script of any kind on a set of processes, and gives the status."""
+    return play_text(plain_term.text_of(word).encode(), script, say)
+
+
+def play_text(text, script, say):
+    """Plays a script of any kind on a text, and gives the status."""
+    if head(script) is None:
+        return plain_term.play_text(text, script, say)
+    try:
+        text.decode()
+        check(text)
+    except (UnicodeDecodeError, Refusal) as why:
+        say("refused F1 NotText" if isinstance(why, UnicodeDecodeError) else f"refused {why}")
+        return 2
     commands = []
     for at, words in spoken(script)[1:]:
         try:
@@ -398,8 +410,13 @@ def play(word, script, say):
         except BadLine:
             say(f"refused X1 BadLine line {at}")
             return 2
+    player = Player(text, *head(script))
+    lacking = [it for it in plain_term.WANTED if not plain_term.has(player.group.links[0].book, it)]
+    if lacking:
+        say(f"refused X2 NoName {lacking[0]}")
+        return 2
     try:
-        run(Player(TEXT.read_bytes(), *head(script)), commands, say)
+        run(player, commands, say)
     except Failed as why:
         say(f"failed line {why}")
         return 1
