@@ -12,7 +12,7 @@ use Rattle.link_group.specs.Holding.{kept, TakenOut, NoneOf}
 use Rattle.link_group.specs.Holding as holding
 use Rattle.link_group.specs.OneLink.{but_memory, abandon_refusal}
 use Rattle.link_group.specs.Printed.{retrieve_error_text, abandon_error_text, divert_fault_text}
-use Rattle.link_group.specs.declared.hands.Kept.{Kept}
+use Rattle.link_group.specs.declared.retrieved.Kept.{Kept}
 use Rattle.link_group.specs.declared.retrieved.Retrieved.{Retrieved}
 use Rattle.link_group.specs.link_refusals_types.errors.RetrieveError.{RetrieveError}
 use Rattle.link_group.specs.link_refusals_types.errors.AbandonError.{AbandonError}

@@ -20,7 +20,7 @@ use Rattle.link_group.specs.link_refusals_types.errors.RetrieveError.{RetrieveEr
 use Rattle.link_group.specs.link_refusals_types.errors.AbandonError.{AbandonError}
 use Rattle.link_group.specs.link_refusals_types.errors.AbandonError.TheVariants as abandoning
 use Rattle.link_group.specs.link_refusals_types.errors.DivertFault.{DivertFault}
-use Rattle.link_group.specs.declared.hands.Kept.{Kept}
+use Rattle.link_group.specs.declared.retrieved.Kept.{Kept}
 use Rattle.link_group.specs.declared.hands.Hands.{Hands}
 use Rattle.link_group.specs.Set.{LinkSet, send_fault, sent}
 use Rattle.link_group.specs.Changing.{fail_fault, failed, order_at, IsRead, after_message, reply_to, retrieve_fault_at, after_retrieve, messages_for, abandon_fault_at, after_abandon, unsent_at}
