@@ -1,5 +1,5 @@
 -- A command to the terminal of a link.
-use Rattle.std.specs.Prelude.{◌≡◌, ◌&&◌, Bool, true, false, not, if◌then◌else◌, Option, Some, None, is_some, Result, Ok, Err}
+use Rattle.std.specs.Prelude.{◌≡◌, ◌&&◌, Bool, true, false, not, if◌then◌else◌, Option, Some, None, is_some}
 use Rattle.link_machine.specs.Ledger.{ask}
 use Rattle.link_machine.specs.Step.{Says}
 use Rattle.link_machine.specs.declared.reply.Refusal.{Refusal}
@@ -69,10 +69,10 @@ pub record Lacks (command : Command) (old new : Link) : Type 0 where
   pub low : is_low old.terminal.heart ≡ true
   pub same : new ≡ old
 
--- what a link makes of a command, by what it answers
-abbrev pub Commands : {A : Type 0} → Command → Result A CommandError → Link → Link → Type 0
-Commands command (Ok x) old new = Commanded command old new
-Commands command (Err error.NoLink) old new = ⊥
-Commands command (Err error.Waiting) old new = Barred command old new
-Commands command (Err (error.Refused refusal)) old new = Refused command refusal old new
-Commands command (Err error.NoMemory) old new = Lacks command old new
+-- what a link makes of a command, by why it isn't done
+abbrev pub Commands : Command → Option CommandError → Link → Link → Type 0
+Commands command None old new = Commanded command old new
+Commands command (Some error.NoLink) old new = ⊥
+Commands command (Some error.Waiting) old new = Barred command old new
+Commands command (Some (error.Refused refusal)) old new = Refused command refusal old new
+Commands command (Some error.NoMemory) old new = Lacks command old new

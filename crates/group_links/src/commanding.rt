@@ -2,6 +2,7 @@
 ghost use Rattle.std.specs.Prelude.{◌≡◌, ◌<◌, length};
 ghost use Rattle.group_links.specs.Commanding.{is_start, is_barred, starts_anew, Commands};
 ghost use Rattle.group_links.specs.Doing.{AtLink};
+ghost use Rattle.group_links.specs.OneLink.{fault_of};
 
 use crate::link::Link;
 use link_refusals::CommandError;
@@ -48,7 +49,7 @@ impl Link {
     }
 
     fn command(&mut self, command: Command) -> Result<(), CommandError>
-        ensures { Commands command result self.old self.new }
+        ensures { Commands command (fault_of result) self.old self.new }
     {
         if self.bars(command) {
             return Err(CommandError::Waiting);
@@ -74,7 +75,7 @@ impl Link {
 /// `K2 Waiting` for Start in a changeover whose messages aren't handed out yet: nothing changes. Else those of `Terminal::command`.
 pub fn command_at(links: &mut [Link], at: usize, command: Command) -> Result<(), CommandError>
     requires { at < length links.old }
-    ensures { AtLink (Commands command result) at links.old links.new }
+    ensures { AtLink (Commands command (fault_of result)) at links.old links.new }
 {
     links[at].command(command)
 }

@@ -1,5 +1,5 @@
 -- Commands that were refused.
-use Rattle.std.proofs.Common.{◌≡◌, ℕ, zero, suc, List, [], ◌∷◌, Option, Some, None, Result, Ok, Err, slice_set, refl, sym, ap, ◌∙◌, subst}
+use Rattle.std.proofs.Common.{◌≡◌, ℕ, zero, suc, List, [], ◌∷◌, Option, Some, None, slice_set, refl, sym, ap, ◌∙◌, subst}
 use Rattle.std.specs.Prelude.{slice_get}
 use Rattle.link_heart.specs.declared.commands.Command.{Command}
 use Rattle.link_refusals.specs.declared.errors.CommandError.{CommandError}
@@ -24,7 +24,7 @@ unchanged did l c ks at same = at.links ∙ ap (slice_set c.links l) same ∙ se
 same_set : (c : LinkSet) (ks : List Link) → ks ≡ c.links → record c { links = ks } ≡ c
 same_set c ks e = ap (λ (xs : List Link). record c { links = xs }) e
 
-error_at : {A : Type 0} (command : Command) (l : ℕ) (c : LinkSet) (ks : List Link) (f : CommandError) → AtLink (Commands {A = A} command (Err f)) l c.links ks
+error_at : (command : Command) (l : ℕ) (c : LinkSet) (ks : List Link) (f : CommandError) → AtLink (Commands command (Some f)) l c.links ks
     → IsCommandError command l c (record c { links = ks }) f
 error_at command l c ks error.NoLink at = absurd at.was
 error_at command l c ks error.Waiting at =
@@ -36,13 +36,13 @@ error_at command l c ks error.NoMemory at =
     let here : AtLink (Lacks command) l c.links ks = record { before = at.before; there = at.there; after = at.after; links = at.links; was = at.was } in
     (alone (Lacks command) l c ks here, same_set c ks (unchanged (Lacks command) l c ks here here.was.same))
 
-pub command_error : {A : Type 0} (command : Command) (l : ℕ) (c d : LinkSet) (ks new mid : List Link) (own peer unsure : ℕ) (table : List (Option ℕ)) (f : CommandError)
-    → d ≡ record { own = own; peer = peer; links = mid; table = table; unsure = unsure } → AtLink (Commands {A = A} command (Err f)) l ks new → mid ≡ new → ks ≡ c.links
+pub command_error : (command : Command) (l : ℕ) (c d : LinkSet) (ks new mid : List Link) (own peer unsure : ℕ) (table : List (Option ℕ)) (f : CommandError)
+    → d ≡ record { own = own; peer = peer; links = mid; table = table; unsure = unsure } → AtLink (Commands command (Some f)) l ks new → mid ≡ new → ks ≡ c.links
     → c.own ≡ own → c.peer ≡ peer → c.table ≡ table → c.unsure ≡ unsure → IsCommandError command l c d f
-command_error {A} command l c d ks new mid own peer unsure table f is at m same o p t u =
+command_error command l c d ks new mid own peer unsure table f is at m same o p t u =
     let whole : record c { links = new } ≡ d = sym (rw (o, p, t, u, sym m) is) in
     subst (λ (x : LinkSet). IsCommandError command l c x f) whole
-    (error_at {A = A} command l c new f (subst (λ (xs : List Link). AtLink (Commands {A = A} command (Err f)) l xs new) same at))
+    (error_at command l c new f (subst (λ (xs : List Link). AtLink (Commands command (Some f)) l xs new) same at))
 
-pub commanded : {A : Type 0} (command : Command) (l : ℕ) (ks new : List Link) (x : A) → AtLink (Commands command (Ok x)) l ks new → AtLink (Commanded command) l ks new
-commanded command l ks new x at = record { before = at.before; there = at.there; after = at.after; links = at.links; was = at.was }
+pub commanded : (command : Command) (l : ℕ) (ks new : List Link) → AtLink (Commands command None) l ks new → AtLink (Commanded command) l ks new
+commanded command l ks new at = record { before = at.before; there = at.there; after = at.after; links = at.links; was = at.was }

@@ -1,4 +1,5 @@
 pub mod Fields
 pub mod ByLinks
 pub mod Commands
-pub mod Hands
+pub mod Room
+pub mod Keeping

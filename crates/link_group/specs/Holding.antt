@@ -1,7 +1,8 @@
 -- Hands that are kept.
-use Rattle.std.specs.Prelude.{◌≡◌, ℕ, ◌==◌, ◌<◌, length, take, slice_get, option_map, Bool, true, false, List, ◌∷◌, ◌++◌, Option, Some, None}
+use Rattle.std.specs.Prelude.{◌≡◌, ℕ, ◌==◌, ◌<◌, length, take, slice_get, option_map, All, Bool, true, false, List, ◌∷◌, ◌++◌, Option, Some, None}
 use Rattle.std.specs.List.{list_any}
-use Rattle.link_group.specs.declared.hands.Kept.{Kept}
+use Rattle.resend_store.specs.Messages.{IsMessage}
+use Rattle.link_group.specs.declared.retrieved.Kept.{Kept}
 use Rattle.link_group.specs.declared.retrieved.Retrieved.{Retrieved}
 
 abbrev pub is_of : ℕ → Kept → Bool
@@ -9,6 +10,9 @@ is_of l k = k.link == l
 
 abbrev pub kept : Retrieved → Kept
 kept hand = record { link = hand.link; messages = hand.messages }
+
+abbrev pub IsWhole : Kept → Type 0
+IsWhole k = All IsMessage k.messages.items
 
 -- the place of the first that a test finds, if there is one
 abbrev pub IsPlace : (Kept → Bool) → List Kept → Option ℕ → Type 0

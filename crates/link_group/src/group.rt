@@ -1,5 +1,5 @@
 //! The set.
-ghost use Rattle.std.specs.Prelude.{◌≡◌, ◌<◌, length, ◌≤◌};
+ghost use Rattle.std.specs.Prelude.{◌≡◌, ◌<◌, length};
 ghost use Rattle.link_places.specs.Sharing.{link_of};
 ghost use Rattle.group_links.specs.Limits.{MOST_LINKS, POINT_CODES};
 ghost use Rattle.link_labels.specs.Changeovers.{IsKind, Says};
@@ -25,8 +25,10 @@ pub struct Group {
 }
 
 impl Model for Group {
+    ghost use Rattle.std.specs.Prelude.{◌<◌, ◌≤◌, length};
     ghost use Rattle.std.specs.Coded.{codes};
     ghost use Rattle.tick_wheel.specs.Timers.{timers_code};
+    ghost use Rattle.group_links.specs.Limits.{MOST_LINKS, POINT_CODES};
     ghost use Rattle.link_group.specs.Set.{LinkSet};
 
     ghost Value = { LinkSet };

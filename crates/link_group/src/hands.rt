@@ -1,29 +1,19 @@
 //! Hands that are kept until they are diverted, and the end of a set.
 ghost use Rattle.std.specs.Prelude.{◌≡◌, ◌↔◌, ◌≤◌, ◌<◌, ◌++◌, ◌∷◌, [], All, length, vec_capacity, IfOk, IfErr, OnOk, OnErr, IsErr};
-ghost use Rattle.resend_store.specs.Messages.{IsMessage};
-ghost use Rattle.link_group.specs.Holding.{kept, is_of, IsPlace, IsTaken};
+ghost use Rattle.link_group.specs.Holding.{kept, is_of, IsWhole, IsPlace, IsTaken};
 
 use crate::group::Group;
-use crate::retrieved::Retrieved;
-use link_term::Msu;
+use crate::retrieved::{Kept, Retrieved};
 use std::alloc::{AllocError, Global};
-use std::collections::VecDeque;
 
 /// As many hands as a set may have links.
 const MOST_HANDS: usize = 16;
-
-/// A hand that is kept.
-#[derive(Drop)]
-pub(crate) struct Kept {
-    pub(crate) link: usize,
-    pub(crate) messages: VecDeque<Msu>,
-    ghost whole: { All IsMessage messages.items },
-}
 
 /// What was retrieved and isn't diverted yet, 16 hands at most. It can't be dropped: `Group::end` takes it.
 pub struct Hands {
     pub(crate) kept: Vec<Kept>,
     ghost room: { 16 ≤ vec_capacity kept },
+    ghost whole: { All IsWhole kept.items },
 }
 
 impl Hands {

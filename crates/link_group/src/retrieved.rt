@@ -27,3 +27,10 @@ impl Retrieved {
         self.messages.len()
     }
 }
+
+/// A hand that is kept.
+#[derive(Drop)]
+pub(crate) struct Kept {
+    pub(crate) link: usize,
+    pub(crate) messages: VecDeque<Msu>,
+}
