@@ -73,13 +73,18 @@ passes_at n c d w text said is makes passes =
     let Q : LinkSet → Type 0 = λ x. Passes n c text x in
     subst Q (sym makes) (subst P (sym is) passes)
 
-pub ticks_pass : (n : ℕ) (c d : LinkSet) (text : List ℕ) (due : ℕ) → text ≡ codes "ok due " ++ decimal due → due ≡ all_due n (with_room c.links)
-    → tick_fault n c ≡ None → d ≡ after_ticks n c → Passes n c text d
-ticks_pass n c d text due is all none makes = passes_at n c d _ text _ (is ∙ ap (λ k. codes "ok due " ++ decimal k) all) makes (answers.passed none)
+pub ticks_pass : (n m : ℕ) (c d : LinkSet) (text : List ℕ) (due : ℕ) → m ≡ n → text ≡ codes "ok due " ++ decimal due → due ≡ all_due m (with_room c.links)
+    → tick_fault m c ≡ None → d ≡ after_ticks m c → Passes n c text d
+ticks_pass n m c d text due same is all none makes =
+    let P : ℕ → Type 0 = λ k. Passes k c text d in
+    subst P same (passes_at m c d _ text _ (is ∙ ap (λ k. codes "ok due " ++ decimal k) all) makes (answers.passed none))
 
-pub ticks_wait : (n : ℕ) (c d : LinkSet) (text : List ℕ) (x : CallError) → IsRefusedLine x text → IsTickError n c d x → Passes n c text d
-ticks_wait n c d text (calling.Refused r) is was = passes_at n c d _ text _ is was.1 (answers.held_up r was.0)
-ticks_wait n c d text calling.NoMemory is was = absurd is
+ticks_wait_by : (n : ℕ) (c d : LinkSet) (text : List ℕ) (x : CallError) → IsRefusedLine x text → IsTickError n c d x → Passes n c text d
+ticks_wait_by n c d text (calling.Refused r) is was = passes_at n c d _ text _ is was.1 (answers.held_up r was.0)
+ticks_wait_by n c d text calling.NoMemory is was = absurd is
+
+pub ticks_wait : (n m : ℕ) (c d : LinkSet) (text : List ℕ) (x : CallError) → m ≡ n → IsRefusedLine x text → IsTickError m c d x → Passes n c text d
+ticks_wait n m c d text x same is was = let P : ℕ → Type 0 = λ k. Passes k c text d in subst P same (ticks_wait_by m c d text x is was)
 
 -- ---- messages
 

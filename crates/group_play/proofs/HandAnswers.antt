@@ -1,6 +1,6 @@
 -- Hands that are kept, taken out and diverted.
 use Rattle.std.proofs.Common.{◌≡◌, ℕ, ◌==◌, ◌<◌, ◌≤◌, Bool, true, false, ◌||◌, List, [], ◌∷◌, ◌++◌, length, length-append, map, Option, None, Some, Result, Ok, Err, refl, sym, ap, subst, arith, ◌∙◌}
-use Rattle.std.specs.Prelude.{codes}
+use Rattle.std.specs.Prelude.{codes, ◌↔◌, IsErr, OnOk}
 use Rattle.std.specs.List.{list_any}
 use Rattle.std.specs.Fmt.{decimal}
 use Rattle.std.proofs.lemmas.List.{map-append}
@@ -27,6 +27,14 @@ use Rattle.group_play.specs.GroupAnswers as answers
 pub kept_more : (old new : List Kept) (hand : Retrieved) → new ≡ old ++ kept hand ∷ []
     → map plain_hand new ≡ with_hand (map plain_hand old) hand.link hand.messages.items
 kept_more old new hand is = ap (map plain_hand) is ∙ map-append plain_hand old (kept hand ∷ [])
+
+-- where there is room
+pub kept_by : (r : Result (Unit {0}) Retrieved) (old new : List Kept) (hand : Retrieved) → IsErr r ↔ (16 ≤ length old) → length old < 16
+    → OnOk r (new ≡ old ++ kept hand ∷ []) → map plain_hand new ≡ with_hand (map plain_hand old) hand.link hand.messages.items
+kept_by (Ok x) old new hand full room is = kept_more old new hand is
+kept_by (Err e) old new hand full room is =
+    let many : 16 ≤ length old = full.0 refl in
+    absurd (let f : ⊥ = omega (arith, many, room) in f)
 
 -- ---- handed out
 
@@ -101,6 +109,10 @@ diverted_part l k n c d ms rest hs gs e text is number fault left link makes kee
 any_plain : (l : ℕ) (ks : List Kept) → list_any (is_of l) (map plain_hand ks) ≡ list_any (holding.is_of l) ks
 any_plain l [] = refl
 any_plain l (k ∷ ks) = ap (λ b. (k.link == l) || b) (any_plain l ks)
+
+-- past the last link
+pub nowhere : (l : ℕ) (c : LinkSet) (hs : List Hand) (text : List ℕ) → length c.links ≤ l → text ≡ answers.NO_LINK → Diverts l c hs text c hs
+nowhere l c hs text past is = let P : List ℕ → Type 0 = λ x. Diverts l c hs x c hs in subst P (sym is) (answers.diverts_nowhere past)
 
 -- none of the link
 pub none_kept : (l : ℕ) (c : LinkSet) (old new : List Kept) (text : List ℕ) → l < length c.links → NoneOf l old new → text ≡ codes "refused K2 Waiting"

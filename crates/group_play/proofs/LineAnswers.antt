@@ -1,6 +1,6 @@
 -- What comes in on a link of a set.
 use Rattle.std.proofs.Common.{◌≡◌, ℕ, zero, suc, ◌+◌, ◌-◌, ◌<◌, ◌≤◌, List, [], ◌∷◌, ◌++◌, length, drop, Option, None, Some, Bool, true, false, if◌then◌else◌, refl, sym, ap, subst, arith, ◌∙◌}
-use Rattle.std.specs.Prelude.{codes, slice_get, slice_set}
+use Rattle.std.specs.Prelude.{codes, is_some, slice_get, slice_set}
 use Rattle.std.proofs.lemmas.List.{length-drop, drop-drop}
 use Rattle.link_side.specs.Reporting.{reported}
 use Rattle.link_side.specs.declared.signals.Report.{Report}
@@ -60,6 +60,11 @@ fewer_left l c d r by_link =
     let before : reports_at l c ≡ reports k.terminal.heart.side = ap reports_by by_link.at.there in
     let after : reports_at l d ≡ reports j.terminal.heart.side = ap reports_by (link_behind (Reported (Some r)) l c d by_link) in
     omega (arith, less, before, after)
+
+-- by what was handed out
+pub reported_by : (l : ℕ) (c d : LinkSet) (o : Option Report) (b : Bool) → b ≡ is_some o → ByLink (Reported o) l c d → HasReported l c d b
+reported_by l c d None b is by_link = let P : Bool → Type 0 = λ x. HasReported l c d x in subst P (sym is) (was_none by_link)
+reported_by l c d (Some r) b is by_link = let P : Bool → Type 0 = λ x. HasReported l c d x in subst P (sym is) (was_one r by_link)
 
 -- one was taken out
 pub fewer_after : (l : ℕ) (c d : LinkSet) (one : Bool) → one ≡ true → HasReported l c d one → reports_at l d < reports_at l c

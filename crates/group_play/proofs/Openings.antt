@@ -1,23 +1,27 @@
 -- New terminals.
 use Rattle.std.proofs.Common.{◌≡◌, ℕ, ◌+◌, List, [], ◌∷◌, ◌++◌, length, length-append, refl, sym, ap, subst, arith, ◌∙◌}
 use Rattle.std.specs.Prelude.{All}
-use Rattle.std.proofs.lemmas.List.Elements.{All-nil, All-append, All-weaker}
+use Rattle.std.proofs.lemmas.List.Elements.{All-nil, All-cons, All-append, All-weaker}
 use Rattle.resend_store.specs.declared.messages.Mode.{Mode}
 use Rattle.turn_code.specs.declared.draft.Draft.{Draft}
 use Rattle.link_side.specs.Half.{first_half}
 use Rattle.link_term.specs.Term.{Term}
 use Rattle.link_term.specs.Opening.{IsOver}
-use Rattle.link_group.specs.New.{IsUnused}
+use Rattle.link_term.specs.Kept.{window_of}
 use Rattle.group_lines.specs.declared.heads.GroupHead.{GroupHead}
 use Rattle.group_play.specs.GroupRuns.{AreNew}
 
--- one that is new holds no message
-unused : (d : Draft) (mode : Mode) (t : Term) → IsOver d mode t → IsUnused t
+-- it holds no message
+abbrev pub IsEmpty : Term → Type 0
+IsEmpty t = (window_of t).kept ≡ []
+
+-- nor does one that is new
+unused : (d : Draft) (mode : Mode) (t : Term) → IsOver d mode t → IsEmpty t
 unfolding first_half
 unused d mode t new = ap (λ s. s.sender.kept) new.side
 
-pub all_unused : (d : Draft) (head : GroupHead) (ts : List Term) → AreNew d head ts → All IsUnused ts
-all_unused d head ts new = All-weaker (IsOver d head.mode) IsUnused (unused d head.mode) ts new.are_new
+pub all_unused : (d : Draft) (head : GroupHead) (ts : List Term) → AreNew d head ts → All IsEmpty ts
+all_unused d head ts new = All-weaker (IsOver d head.mode) IsEmpty (unused d head.mode) ts new.are_new
 
 -- so many so far
 pub record AreSoFar (d : Draft) (mode : Mode) (n : ℕ) (ts : List Term) : Type 0 where
@@ -35,7 +39,7 @@ one_more d mode n old new t is more so_far =
     let P : List Term → Type 0 = λ xs. AreSoFar d mode (n + 1) xs in
     let number : length (old ++ t ∷ []) ≡ n + 1 = omega (arith, length-append old (t ∷ []), so_far.number) in
     subst P (sym more)
-    (record { number = number; are_new = All-append (IsOver d mode) old (t ∷ []) so_far.are_new (is, tt) })
+    (record { number = number; are_new = All-append (IsOver d mode) old (t ∷ []) so_far.are_new (All-cons (IsOver d mode) t [] is (All-nil (IsOver d mode))) })
 
 pub all_made : (d : Draft) (head : GroupHead) (n : ℕ) (ts : List Term) → n ≡ head.links → AreSoFar d head.mode n ts → AreNew d head ts
 all_made d head n ts all so_far = record { number = so_far.number ∙ all; are_new = so_far.are_new }

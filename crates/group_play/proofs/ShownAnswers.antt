@@ -1,5 +1,5 @@
 -- What is shown of a set.
-use Rattle.std.proofs.Common.{◌≡◌, ℕ, suc, ◌+◌, List, ◌++◌, Option, None, Some, refl, sym, ap, ◌∙◌}
+use Rattle.std.proofs.Common.{◌≡◌, ℕ, suc, ◌+◌, List, ◌++◌, Option, None, Some, refl, sym, ap, arith, ◌∙◌}
 use Rattle.std.specs.Prelude.{codes}
 use Rattle.std.specs.Fmt.{decimal}
 use Rattle.link_machine.specs.Ledger.{Ledger}
@@ -12,7 +12,15 @@ use Rattle.group_play.specs.GroupAnswers.{NO_LINK, entry_at, entries_to, held_li
 pub entries_more : (ts : List (Option ℕ)) (n : ℕ) (old new : List ℕ) → old ≡ entries_to ts n → new ≡ old ++ codes ", " ++ entry_at ts (n + 1)
     → new ≡ entries_to ts (n + 1)
 unfolding entries_to
-entries_more ts n old new is more = more ∙ ap (λ t. t ++ codes ", " ++ entry_at ts (n + 1)) is
+entries_more ts n old new is more =
+    let number : suc n ≡ n + 1 = omega arith in
+    more
+    ∙ (ap (λ t. t ++ codes ", " ++ entry_at ts (n + 1)) is
+    ∙ (ap (λ k. entries_to ts n ++ codes ", " ++ entry_at ts k) (sym number) ∙ ap (entries_to ts) number))
+
+pub entries_first : (ts : List (Option ℕ)) (old : List ℕ) → old ≡ entry_at ts 0 → old ≡ entries_to ts 0
+unfolding entries_to
+entries_first ts old is = is
 
 pub held_is : (o : Option Link) (n m : ℕ) (text : List ℕ) → Some n ≡ read_at held_count o → Some m ≡ read_at sent_count o
     → text ≡ decimal n ++ codes " sent " ++ decimal m → text ≡ held_line o

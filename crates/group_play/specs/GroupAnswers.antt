@@ -123,6 +123,7 @@ pub data Listens (l : ℕ) : LinkSet → List ℕ → LinkSet → Type 0 where
 -- a part, and the reports behind it
 pub record TakesPart (l : ℕ) (octets : List ℕ) (taken : ℕ) (c d : LinkSet) : Type 0 where
   pub some : 0 < taken
+  pub few : taken ≤ length octets
   pub between : LinkSet
   pub heard : ByLink (Listened octets taken) l c between
   pub reports : GivesReports l between d

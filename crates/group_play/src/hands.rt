@@ -109,7 +109,25 @@ fn divert_hand(
     }
 }
 
-/// `divert`. A hand that isn't the set's would be told as want of memory, but none comes here: each was the set's own answer.
+/// Diverts a hand that was taken out. One that isn't the set's would be told as want of memory, but none comes here: each was the set's own
+/// answer.
+fn divert_taken(
+    alloc: Global,
+    group: &mut Group,
+    hands: &mut Hands,
+    hand: Retrieved,
+) -> Result<Vec<u8>, AllocError>
+    requires { length hands.old.kept.items < MOST_HANDS }
+    ensures { IfOk result (λ v. DivertsHand hand.link group.old hand.messages.items (hands_of hands.old) v.items group.new (hands_of hands.new)) }
+{
+    if group.owns(&hand) {
+        return divert_hand(alloc, group, hands, hand);
+    }
+    keep(hands, hand);
+    Err(AllocError)
+}
+
+/// `divert`. As for `retrieve`.
 pub(crate) fn divert(
     alloc: Global,
     group: &mut Group,
@@ -124,12 +142,8 @@ pub(crate) fn divert(
     if hands.len() > MOST_HANDS {
         return Err(AllocError);
     }
-    let Some(hand) = hands.take(link) else {
-        return Vec::from_slice(alloc, b"refused K2 Waiting");
-    };
-    if !group.owns(&hand) {
-        keep(hands, hand);
-        return Err(AllocError);
+    match hands.take(link) {
+        Some(hand) => divert_taken(alloc, group, hands, hand),
+        None => Vec::from_slice(alloc, b"refused K2 Waiting"),
     }
-    divert_hand(alloc, group, hands, hand)
 }

@@ -12,8 +12,7 @@ fn drop_report(group: &mut Group, link: usize) -> Result<bool, LinkError>
     ensures { IfOk result (HasReported link group.old group.new) }
 {
     match group.report(link) {
-        Ok(Some(_report)) => Ok(true),
-        Ok(None) => Ok(false),
+        Ok(report) => Ok(report.is_some()),
         Err(error) => Err(error),
     }
 }

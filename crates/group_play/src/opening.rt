@@ -26,13 +26,15 @@ fn push_terminal(
     ensures ok { OnOk result ((t : Term) × IsOver set.now mode t × (terminals.new.items ≡ terminals.old.items ++ t ∷ [])) }
     ensures err { IfErr result (LacksOne set.now) }
 {
-    let terminal = match Terminal::of_set(alloc, mode, set) {
-        Ok(terminal) => terminal,
-        Err(error) => return Err(error),
-    };
-    match terminals.push(terminal) {
-        Ok(()) => Ok(()),
-        Err(_) => Err(OpenError::NoMemory),
+    if terminals.reserve(1).is_err() {
+        return Err(OpenError::NoMemory);
+    }
+    match Terminal::of_set(alloc, mode, set) {
+        Ok(terminal) => {
+            terminals.push_reserved(terminal);
+            Ok(())
+        }
+        Err(error) => Err(error),
     }
 }
 

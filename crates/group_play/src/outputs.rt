@@ -1,6 +1,7 @@
 //! What goes out on a link.
 ghost use Rattle.std.specs.Prelude.{◌≡◌, ◌<◌, ◌∷◌, [], Option, List, ℕ, is_some, IfOk, OnOk, length};
-ghost use Rattle.link_group.specs.Lines.{ByLink, Sent};
+ghost use Rattle.link_group.specs.Lines.{ByLink};
+ghost use Rattle.link_group.specs.Doing.{Sent};
 ghost use Rattle.term_play.specs.Played.{last_in};
 ghost use Rattle.group_play.specs.GroupAnswers.{NO_LINK};
 ghost use Rattle.group_play.specs.GroupRuns.{HasGone, HasGivenOut, HasGoneOut};

@@ -1,5 +1,5 @@
-use Rattle.group_play.proofs.HandAnswers.{kept_more}
+use Rattle.group_play.proofs.HandAnswers.{kept_by}
 use Rattle.group_play.proofs.hands.keep.Goals as goal
 
-pub returns-in-Ok : goal.returns-in-Ok
-returns-in-Ok c = kept_more _ _ c.args.hand c.in-Ok.ensures.ok
+pub returns : goal.returns
+returns c = kept_by c.put.result _ _ c.args.hand c.put.ensures.full c.requires c.put.ensures.ok
