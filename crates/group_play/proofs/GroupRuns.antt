@@ -20,9 +20,11 @@ use Rattle.term_play.specs.Printed.{line_of}
 use Rattle.term_play.specs.TermAnswers.{unit_line}
 use Rattle.term_play.specs.TermRuns.{latest, HasPrinted}
 use Rattle.term_play.proofs.TermRuns.{printed_none, printed_one, printed_both}
-use Rattle.group_play.specs.GroupAnswers.{Playing, NO_LINK, GoOut, none_goes, silent, one_goes, GivesOut, Outputs, Answers, Obeys}
+use Rattle.group_play.specs.GroupAnswers.{Playing, plain_hand, at, NO_LINK, GoOut, none_goes, silent, one_goes, GivesOut, Outputs, Answers, Obeys}
 use Rattle.group_play.specs.GroupAnswers as answers
-use Rattle.group_play.specs.GroupRuns.{Goes, begins, prints, holds, IsGroupRun, HasGone, HasGoneOut, HasGivenOut, IsGroupMissedBy, IsGroupMissed}
+use Rattle.link_group.specs.declared.retrieved.Kept.{Kept}
+use Rattle.link_group.specs.declared.hands.Hands.{Hands}
+use Rattle.group_play.specs.GroupRuns.{begun, Goes, begins, prints, holds, IsGroupRun, HasGone, HasGoneOut, HasGivenOut, IsGroupMissedBy, IsGroupMissed}
 
 -- ---- units that go out
 
@@ -113,6 +115,12 @@ given_nowhere l n old new last next c text past is latest_is written =
 -- nothing was obeyed yet
 pub run_begins : (t : Playing) (now : Option (List ℕ)) → IsGroupRun t [] now now t None
 run_begins t now = record { lines = []; goes = begins; written = Appends-nil now }
+
+-- nor on a set with no hand out
+pub new_run : (c : LinkSet) (h : Hands) (now : Option (List ℕ)) → h.kept.items ≡ [] → IsGroupRun (begun c) [] now now (at c h 0) None
+new_run c h now none =
+    let P : List Kept → Type 0 = λ ks. IsGroupRun (begun c) [] now now (record { set = c; hands = map plain_hand ks; on = 0 }) None in
+    subst P (sym none) (run_begins (begun c) now)
 
 -- an expectation that holds
 pub run_held : (t : Playing) (before : List PlainGroupSaid) (said : PlainGroupSaid) (text : List ℕ) (first written : Option (List ℕ)) (now : Playing)

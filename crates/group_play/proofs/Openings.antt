@@ -1,5 +1,5 @@
 -- New terminals.
-use Rattle.std.proofs.Common.{◌≡◌, ℕ, ◌+◌, List, [], ◌∷◌, ◌++◌, length, length-append, refl, sym, ap, subst, arith, ◌∙◌}
+use Rattle.std.proofs.Common.{◌≡◌, ℕ, ◌+◌, List, [], ◌∷◌, ◌++◌, length, length-append, Option, refl, sym, ap, subst, arith, ◌∙◌}
 use Rattle.std.specs.Prelude.{All}
 use Rattle.std.proofs.lemmas.List.Elements.{All-nil, All-cons, All-append, All-weaker}
 use Rattle.resend_store.specs.declared.messages.Mode.{Mode}
@@ -9,7 +9,10 @@ use Rattle.link_term.specs.Term.{Term}
 use Rattle.link_term.specs.Opening.{IsOver}
 use Rattle.link_term.specs.Kept.{window_of}
 use Rattle.group_lines.specs.declared.heads.GroupHead.{GroupHead}
-use Rattle.group_play.specs.GroupRuns.{AreNew}
+use Rattle.link_term.specs.declared.opening.OpenError.{OpenError}
+use Rattle.link_term.specs.declared.opening.OpenError.TheVariants.{NoName, NoMemory}
+use Rattle.term_play.specs.TermRuns.{PrintsLacking, LacksName}
+use Rattle.group_play.specs.GroupRuns.{AreNew, LacksOne}
 
 -- it holds no message
 abbrev pub IsEmpty : Term → Type 0
@@ -43,3 +46,9 @@ one_more d mode n old new t is more so_far =
 
 pub all_made : (d : Draft) (head : GroupHead) (n : ℕ) (ts : List Term) → n ≡ head.links → AreSoFar d head.mode n ts → AreNew d head ts
 all_made d head n ts all so_far = record { number = so_far.number ∙ all; are_new = so_far.are_new }
+
+-- ---- no terminal
+
+pub lacks_name : (d : Draft) (old new : Option (List ℕ)) (error : OpenError) → PrintsLacking error old new → LacksOne d error → LacksName d old new
+lacks_name d old new (NoName name) printed lacks = record { name = name; lacks = lacks; printed = printed }
+lacks_name d old new NoMemory printed lacks = absurd printed

@@ -33,7 +33,8 @@ fn print_unit<W: Write>(
 ) -> io::Result<bool>
     ensures { IfOk result (λ on. HasGone on link (W.contents writer.old) (W.contents writer.new) (last_in printer.old) (last_in printer.new) group.old group.new) }
 {
-    match next_unit(group, link)? {
+    let unit = next_unit(group, link)?;
+    match unit {
         Some(unit) => {
             let line = text_line(alloc, &unit)?;
             printer.print(line, writer)?;
@@ -82,5 +83,6 @@ pub(crate) fn give_out<W: Write>(
         printer.print(line, writer)?;
         return Ok(());
     }
-    print_units(alloc, group, link, units, printer, writer)
+    print_units(alloc, group, link, units, printer, writer)?;
+    Ok(())
 }
