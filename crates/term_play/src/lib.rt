@@ -6,6 +6,7 @@ mod orders;
 mod terminals;
 mod unit_line;
 
+pub use answers::answer;
 pub use book_play::{FAILED, SetWord, load_set, play_book, refuse, write_refusal};
 pub use terminals::play_terminal;
 pub use unit_line::line_of_unit;

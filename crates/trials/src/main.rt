@@ -19,6 +19,8 @@
 //! - `wheels`: in each line a seed and a number of calls. A wheel and a table of deadlines that is walked get the same calls, drawn by a
 //!   generator: timers set and reset, ticks that pass, one, few, a turn of the wheel, more than may. Shows how many timers were due, how many
 //!   the wheel looked at, and whether the two always said the same.
+//! - `lives`: two ends on a line, octet by octet, by their orders ([`lives`]). Shows what each sent and told, and whether the first sends the
+//!   same where it reads octet by octet, and where its reports are its orders.
 //! - `rounds`: what is measured, in each line a thing ([`rounds`]). Shows what its smallest round has; where a number of rounds is given
 //!   also how fast it went.
 #![tactic(auto)]
@@ -28,6 +30,7 @@ mod end;
 mod figures;
 mod heard;
 mod lines;
+mod lives;
 mod message;
 mod noise;
 mod pair;
@@ -44,6 +47,7 @@ mod wheels;
 use crate::calls::Stopped;
 use crate::heard::compare;
 use crate::lines::make_runs;
+use crate::lives::live_all;
 use crate::ports::hold_ports;
 use crate::reports::report_all;
 use crate::rounds::make_rounds;
@@ -75,6 +79,7 @@ fn make<R: Runtime + AllocGlobal + Threads + Wait + Sync>(
         "heard" => compare(rt.alloc(), text, trial),
         "runs" => make_runs(rt.alloc(), text, trial),
         "ports" => hold_ports(rt.alloc(), text, trial),
+        "lives" => live_all(rt.alloc(), text, trial),
         "reports" => report_all(rt.alloc(), text, trial),
         "rounds" => make_rounds(rt, text, trial),
         "wheels" => make_wheels(rt.alloc(), text, trial),
