@@ -1,2 +1,3 @@
-mod Times
+mod Digits
 mod Looking
+mod Leaving

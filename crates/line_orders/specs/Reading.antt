@@ -11,10 +11,12 @@ left_of remaining o = option_map (left_in o.lines) (remaining o.reader)
 -- where it was known which are left, these are left still
 abbrev pub Stays : Option (List Timed) → Option (List Timed) → Type 0
 Stays None new = Unit {0}
-Stays (Some os) new = new ≡ Some os
+Stays (Some os) None = ⊥
+Stays (Some os) (Some new) = new ≡ os
 
 -- what was read changes nothing of what is left; where there is nothing more to read, none is left
 abbrev pub IsRead : Bool → Option (List Timed) → Option (List Timed) → Type 0
 IsRead true old new = Stays old new
 IsRead false None new = Unit {0}
-IsRead false (Some os) new = (os ≡ []) × (new ≡ Some [])
+IsRead false (Some os) None = ⊥
+IsRead false (Some os) (Some new) = (os ≡ []) × (new ≡ [])

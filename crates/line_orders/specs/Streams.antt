@@ -1,5 +1,5 @@
 -- The orders of a stream, each with the millisecond before which it isn't obeyed.
-use Rattle.std.specs.Prelude.{ℕ, ◌==◌, nat_le, Bool, ◌&&◌, if◌then◌else◌, List, [], ◌∷◌, ◌++◌, length, Option, None, Some, drop, option_map, string_bytes}
+use Rattle.std.specs.Prelude.{◌≡◌, ℕ, ◌<◌, ◌==◌, nat_le, Bool, ◌&&◌, if◌then◌else◌, List, [], ◌∷◌, ◌++◌, length, Option, None, Some, drop, option_map, string_bytes}
 use Rattle.std.specs.Str.{is_utf8}
 use Rattle.script_lines.specs.Words.{words_of}
 use Rattle.line_filter.specs.Orders.{Timed}
@@ -43,12 +43,23 @@ orders_of octets = timed 0 (whole_lines [] octets)
 
 -- ---- while they are read
 
+abbrev pub waiting_by : ℕ → Option (List ℕ) → List Timed
+waiting_by since None = []
+waiting_by since (Some text) = record { at = since; text = text } ∷ []
+
 abbrev pub waiting_of : OrderLines → List Timed
-waiting_of l = waiting_by l.since (option_map string_bytes l.waiting) where
-  waiting_by : ℕ → Option (List ℕ) → List Timed
-  waiting_by since None = []
-  waiting_by since (Some text) = record { at = since; text = text } ∷ []
+waiting_of l = waiting_by l.since (option_map string_bytes l.waiting)
+
+-- those of the lines that have no end yet, where these octets are still to be read
+abbrev pub behind_of : OrderLines → List ℕ → List Timed
+behind_of l more = timed l.since (whole_lines l.line.items (drop l.from l.part.items ++ more))
 
 -- those that are left, where these octets are still to be read
 unfoldable pub left_in : OrderLines → List ℕ → List Timed
-left_in l more = waiting_of l ++ timed l.since (whole_lines l.line.items (drop l.from l.part.items ++ more))
+left_in l more = waiting_of l ++ behind_of l more
+
+-- the next one waits
+pub record IsHeld (now : ℕ) (l : OrderLines) : Type 0 where
+  pub later : now < l.since
+  pub text : List ℕ
+  pub left : (more : List ℕ) → left_in l more ≡ record { at = l.since; text = text } ∷ behind_of l more

@@ -1,7 +1,7 @@
 //! Lines as their octets come.
-ghost use Rattle.std.specs.Prelude.{◌≡◌, ◌<◌, ◌≤◌, ◌++◌, ◌∷◌, ◌×◌, [], ℕ, List, Some, None, IfOk, IfSome, IsNone, IsSome, OnOk, length, string_bytes};
+ghost use Rattle.std.specs.Prelude.{◌≡◌, ◌<◌, ◌≤◌, ◌++◌, ◌∷◌, [], ℕ, List, Some, None, IfOk, IfSome, IsNone, IsSome, OnOk, length, string_bytes};
 ghost use Rattle.line_orders.specs.Says.{plain_says};
-ghost use Rattle.line_orders.specs.Streams.{line_says, said_at, wait_behind, waiting_of, timed, whole_lines, left_in, orders_of};
+ghost use Rattle.line_orders.specs.Streams.{line_says, said_at, wait_behind, waiting_of, timed, whole_lines, left_in, orders_of, IsHeld};
 
 use crate::says::{LineSays, line_says};
 use std::alloc::{AllocError, Global};
@@ -106,10 +106,11 @@ impl OrderLines {
         let octet = self.part[self.from];
         self.from += 1;
         if octet == b'\n' {
-            self.end_line(alloc)
-        } else {
-            self.lengthen(octet)
+            self.end_line(alloc)?;
+            return Ok(());
         }
+        self.lengthen(octet)?;
+        Ok(())
     }
 
     /// Octets that were read, where all before were looked at.
@@ -119,7 +120,8 @@ impl OrderLines {
     {
         self.part.clear();
         self.from = 0;
-        self.part.extend_from_slice(octets)
+        self.part.extend_from_slice(octets)?;
+        Ok(())
     }
 
     /// The order that comes next, if it is due.
@@ -127,7 +129,7 @@ impl OrderLines {
         requires { IsSome self.old.waiting }
         ensures due { IfSome result (λ text. (self.old.since ≤ now)
             × ((more : List ℕ) → left_in self.old more ≡ (record { at = self.old.since; text = string_bytes text }) ∷ left_in self.new more)) }
-        ensures none { IsNone result → (now < self.old.since) × (self.new ≡ self.old) }
+        ensures none { IsNone result → IsHeld now self.old × (self.new ≡ self.old) }
     {
         if now < self.since {
             return None;

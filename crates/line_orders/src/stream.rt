@@ -1,5 +1,5 @@
 //! Orders, read on as they come.
-ghost use Rattle.std.specs.Prelude.{◌≡◌, ◌≤◌, IfOk, OnOk, length, option_map};
+ghost use Rattle.std.specs.Prelude.{◌≡◌, ◌≤◌, None, IfOk, length, option_map};
 ghost use Rattle.line_orders.specs.Streams.{orders_of};
 ghost use Rattle.line_orders.specs.Reading.{left_of, Stays, IsRead};
 
@@ -34,7 +34,8 @@ impl<R: Read> LineOrders<R> {
 
     /// Reads on, where all was looked at. Whether there may be more.
     fn read_on(&mut self) -> io::Result<bool>
-        requires { length self.old.lines.part.items ≤ self.old.lines.from }
+        requires looked { length self.old.lines.part.items ≤ self.old.lines.from }
+        requires none { self.old.lines.waiting ≡ None }
         ensures { IfOk result (λ on. IsRead on (left_of R.remaining self.old) (left_of R.remaining self.new)) }
     {
         let mut part = [0; PART];
@@ -61,12 +62,16 @@ impl<R: Read> Orders for LineOrders<R> {
     fn next(&mut self, alloc: Global, now: u64) -> io::Result<Option<String>> {
         for _octet in 0..u64::MAX {
             if self.lines.waiting.is_some() {
-                return Ok(self.lines.take_due(now));
+                let due = self.lines.take_due(now);
+                return Ok(due);
             }
             if self.lines.from < self.lines.part.len() {
                 self.lines.look(alloc)?;
-            } else if !self.read_on()? {
-                return Ok(None);
+            } else {
+                let goes_on = self.read_on()?;
+                if !goes_on {
+                    return Ok(None);
+                }
             }
         }
         Err(io::Error::from(ErrorKind::Other))
