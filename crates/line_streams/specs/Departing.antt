@@ -17,7 +17,7 @@ pub record IsLossTold (lost : ℕ) (line text : List ℕ) : Type 0 where
 
 -- what is to go on for a line: the line, and before it how many were lost, where some were
 pub data IsToGo (lost : ℕ) (line : List ℕ) : List ℕ → Type 0 where
-  alone : lost ≡ 0 → IsToGo lost line line
+  alone : {text : List ℕ} → lost ≡ 0 → text ≡ line → IsToGo lost line text
   with_loss : {text : List ℕ} → 0 < lost → IsLossTold lost line text → IsToGo lost line text
 
 -- A line was told. It goes on whole, or there was no room, and it is counted.

@@ -1,4 +1,5 @@
 //! Octets that a thread reads, as far as they have come.
+ghost use Rattle.std.specs.Prelude.{◌≤◌, IfOk, length};
 
 use rtrb::{Consumer, Producer, RingBuffer};
 use std::alloc::Global;
@@ -54,7 +55,9 @@ impl Read for Arrivals {
 }
 
 /// Reads what there is into a part; none at the end. An interrupted read is tried again.
-fn read_part(file: &mut File, part: &mut [u8]) -> io::Result<usize> {
+fn read_part(file: &mut File, part: &mut [u8]) -> io::Result<usize>
+    ensures { IfOk result (λ n. n ≤ length part.new) }
+{
     for _read in 0..u64::MAX {
         match file.read(part) {
             Ok(count) => return Ok(count),

@@ -20,8 +20,12 @@ pub struct Outlet {
 fn time_of(line: &[u8]) -> Option<&[u8]>
     ensures { IfSome result (λ time. Begins line.now time.now) }
 {
-    let place = line.iter().position(|octet| *octet == b' ')?;
-    Some(&line[..place])
+    for place in 0..line.len() {
+        if line[place] == b' ' {
+            return Some(&line[..place]);
+        }
+    }
+    None
 }
 
 /// A line, and before it how many were lost.
