@@ -2,10 +2,10 @@
 """A plain terminal on a line, written apart from the program: to hold `mtp2_play line` against. Its terminal is that of plain_term.py; the octets, the orders and
 the reports are as docs/links.md says them, on whole lists.
 
-usage: tools/plain_filter.py MODE [--orders FILE] [--reports FILE] [--bits low|high] [--ahead N]      a filter, as `mtp2_play line` is; it reads all before it writes
-       tools/plain_filter.py --two MODE MILLISECONDS FIRST SECOND     two of them tied crosswise, by their files of orders: what each tells, and how many octets
+usage: tools/plain_tied.py MODE [--orders FILE] [--reports FILE] [--bits low|high] [--ahead N]      a filter, as `mtp2_play line` is; it reads all before it writes
+       tools/plain_tied.py --two MODE MILLISECONDS FIRST SECOND     two of them tied crosswise, by their files of orders: what each tells, and how many octets
                                                                       each sent, with their CRC-32
-       tools/plain_filter.py --lives [--check]                        examples/line/lives.txt with its lives worked out; with --check nothing is printed, and the
+       tools/plain_tied.py --tied [--check]                        examples/line/tied.txt with its lives worked out; with --check nothing is printed, and the
                                                                       status is 1 where it differs"""
 import argparse
 import pathlib
@@ -19,7 +19,7 @@ from plain_term import COMMANDS, ROOT, BadLine, octets_in
 from plain_units import FLAG, bits_of, check_octets, octets_of, stuffed
 
 MOST = 600
-LIVES = ROOT / "examples" / "line" / "lives.txt"
+TIED = ROOT / "examples" / "line" / "tied.txt"
 DIGITS = re.compile(r"[0-9]+")
 STATUSES = {"InServiceNow": "in service", "RemoteOut": "far out", "RemoteBack": "far back"}
 
@@ -142,9 +142,9 @@ def two(mode, milliseconds, first, second, damaged=None):
         yield from end.told
 
 
-def lives():
+def tied():
     """The table of lives, with the lines that are to be shown for each."""
-    head, *entries = LIVES.read_text().split("\n== ")
+    head, *entries = TIED.read_text().split("\n== ")
     yield head
     for entry in entries:
         name, text = entry.split("\n--\n")[0].strip("\n").split("\n", 1)
@@ -160,11 +160,11 @@ def main(words):
     if words[:1] == ["--two"] and len(words) == 5:
         print("\n".join(two(words[1], int(words[2]), *(pathlib.Path(it).read_bytes() for it in words[3:]))))
         return 0
-    if words[:1] == ["--lives"]:
-        made = "".join(lives())
+    if words[:1] == ["--tied"]:
+        made = "".join(tied())
         if words[1:] != ["--check"]:
             sys.stdout.write(made)
-        return int(made != LIVES.read_text())
+        return int(made != TIED.read_text())
     read = argparse.ArgumentParser()
     read.add_argument("mode", choices=["basic", "cyclic"])
     read.add_argument("--orders"), read.add_argument("--reports")
