@@ -5,7 +5,6 @@ import re
 import plain_term
 from plain_check import Refusal, check
 from plain_play import LONGEST, BadLine, command, number
-from plain_play import play as play_book
 from plain_units import bits_of, check_octets, stuffed
 
 NO_TEXT = ["refused F1 NotText"], 2
@@ -32,7 +31,7 @@ def check_says(text):
 def play_says(text, script):
     """Of `play` on a text."""
     said = []
-    return said, play_book(text, script, said.append)
+    return said, plain_term.play_text(text, script, said.append)
 
 
 def terminal_says(script):

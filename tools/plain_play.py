@@ -4,7 +4,7 @@
 usage: tools/plain_play.py TEXT SCRIPT     prints the lines that play prints for them, and ends with its status
 
 It goes through the statements of the text themselves, knows no instruction, and has no proofs. It reads texts by plain_check.py. A set is
-a text alone, and scripts of terminals aren't played."""
+a text alone, and scripts of terminals aren't played (plain_term.py does)."""
 import pathlib
 import re
 import sys

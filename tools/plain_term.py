@@ -1,19 +1,22 @@
 #!/usr/bin/env python3
-"""A plain player of terminal scripts, written apart from the program: to hold `mtp2_play play standard` against.
+"""A plain player of terminal scripts, written apart from the program: to hold `mtp2_play play` against.
 
 usage: tools/plain_term.py SET SCRIPT      prints the lines that play prints for them, and ends with its status
        tools/plain_term.py --table FILE    plays each entry of a table of scripts, and ends with status 1 where one prints something else
 
-SET is `standard`, `monitors` or the file of a text. Its actors are those of plain_play.py, which plays book scripts too. The line, the stores and the terminal
+SET is `standard`, `monitors` or the file of a text; ` | OLD -> NEW` behind it is an edit, made everywhere in the text, and there may be several.
+Its actors are those of plain_play.py, which plays book scripts too. The line, the stores and the terminal
 are as Q.703 and the profile say them, on whole lists: no bit of the line and no message is ever forgotten.
 
 A table is written as tools/table says, with these differences: `== SET: NAME` begins an entry, copies are also written out in the wanted lines, and
-comment lines among them are nothing; `%A-B{..}` are copies with the numbers A to B. `<UP>` as a line is the way into service, `<STATES>` asks for the
+comment lines among them are nothing; `%A-B{..}` are copies with the numbers A to B. `<UP>` as a line is the way into service, `<PROVING>`
+the script of that name, `<STATES>` asks for the
 states of all processes; among the wanted lines they stand for what is printed, where the states follow behind the word."""
 import pathlib
 import re
 import sys
 
+from plain_check import Refusal, check
 from plain_play import LONGEST, BadLine, Book, Failed, Refused, number, play as play_book, shown
 from plain_units import FLAG, Line, Receiver, Sender, bits_of, check_octets, decoded, octets_of, stuffed
 
@@ -24,6 +27,23 @@ COPIES = re.compile(r"%(?:(\d+)-)?(\d+)\{([^}]*)\}")
 UP = ["command power", "command start", "unit FFFF0100", "unit FFFF0101", "tick 8200", "unit FFFF00"]
 IS_UP = ["ok", "ok", "ok", "ok", "ok due 1", "ok"]
 PROCESSES = ["LSC", "IAC", "AERM", "SUERM", "TXC", "RC", "POC", "CC"]
+# What a terminal wants of a text, in its order: processes, signals to a process, and signals to the environment, with the sorts of their parameters.
+WANTED = """LSC AERM SUERM TXC RC CC
+LSC/PowerOn LSC/StartLink LSC/StopLink LSC/Emergency LSC/Calm LSC/LocalOut LSC/LocalBack CC/Busy CC/Free
+AERM/Good SUERM/Good AERM/Errored SUERM/Errored TXC/AckSeen RC/Bad RC/Unit TXC/MsuSent
+ENV/Fresh ENV/Take ENV/Line ENV/Withhold ENV/InServiceNow ENV/Down ENV/RemoteOut ENV/RemoteBack""".split()
+SORTS = {"AckSeen": "BOOLEAN", "Unit": "INTEGER", "Take": "BOOLEAN", "Line": "INTEGER", "Withhold": "BOOLEAN", "Down": "INTEGER"}
+
+
+def text_of(word):
+    """The text of a set, with its edits."""
+    file, *edits = word.split(" | ")
+    text = (ROOT / "examples" / SETS.get(file, file)).read_text()
+    for old, new in (it.split(" -> ") for it in edits):
+        if old not in text:
+            raise ValueError(f"{word}: there is no {old}")
+        text = text.replace(old, new)
+    return text
 
 
 # The terminal.
@@ -156,6 +176,17 @@ class Terminal:
         return f"FISU {head}" if kind in (8, 9) else f"LSSU {head} status {STATUSES[kind]}"
 
 
+def has(book, wanted):
+    """Whether a text has a name that a terminal wants."""
+    party, _, name = wanted.partition("/")
+    if not name:
+        return any(it.process.name.lower() == party.lower() for it in book.actors)
+    _, sorts = book.signals.get(name.lower(), (name, None))
+    paths = [(a, b) for a, b, signal in book.paths if signal == name.lower()]
+    brought = any(a != "ENV" and b == "ENV" for a, b in paths) if party == "ENV" else ("ENV", party.lower()) in paths
+    return brought and sorts == ([SORTS[name]] if name in SORTS else [])
+
+
 # Scripts.
 
 COMMANDS = {
@@ -269,10 +300,20 @@ def run(terminal, commands, say):
 
 def play(word, script, say):
     """Plays a script on a set, and gives the status."""
-    text = (ROOT / "examples" / SETS.get(word, word)).read_bytes()
-    if word != "standard" or not is_terminal(script):
+    return play_text(text_of(word).encode(), script, say)
+
+
+def play_text(text, script, say):
+    """Plays a script on a text, and gives the status."""
+    if not is_terminal(script):
         return play_book(text, script, say)
     (_, (_, mode)), *lines = spoken(script)
+    try:
+        text.decode()
+        check(text)
+    except (UnicodeDecodeError, Refusal) as why:
+        say("refused F1 NotText" if isinstance(why, UnicodeDecodeError) else f"refused {why}")
+        return 2
     commands = []
     for at, words in lines:
         try:
@@ -280,8 +321,13 @@ def play(word, script, say):
         except BadLine:
             say(f"refused X1 BadLine line {at}")
             return 2
+    terminal = Terminal(text, mode == "cyclic")
+    lacking = [it for it in WANTED if not has(terminal.book, it)]
+    if lacking:
+        say(f"refused X2 NoName {lacking[0]}")
+        return 2
     try:
-        run(Terminal(text, mode == "cyclic"), commands, say)
+        run(terminal, commands, say)
     except Failed as why:
         say(f"failed line {why}")
         return 1
@@ -297,6 +343,8 @@ def copied(text):
 
 def whole(line):
     """The lines of a script that a line of a table stands for."""
+    if line == "<PROVING>":
+        return (ROOT / "examples" / "links" / "proving.script").read_text().rstrip("\n").split("\n")
     return {"<UP>": UP, "<STATES>": [f"state {it}" for it in PROCESSES]}.get(line, [line])
 
 

@@ -1,5 +1,5 @@
 -- Steps one after another.
-use Rattle.std.proofs.Common.{◌≡◌, ℕ, ◌+◌, ◌-◌, ◌<◌, ◌≤◌, zero, suc, Bool, true, false, cond, length, refl, sym, ap, ◌∙◌, arith}
+use Rattle.std.proofs.Common.{◌≡◌, ℕ, ◌-◌, ◌<◌, ◌≤◌, suc, Bool, true, false, cond, length, refl, sym, ap, ◌∙◌, arith}
 use Rattle.link_machine.specs.Ledger.{state_of}
 use Rattle.book_rest.specs.Turns.{MOST_TURNS}
 use Rattle.link_heart.specs.declared.heart.Heart.{Heart}

@@ -1,10 +1,10 @@
 -- A rest as a run of turns.
-use Rattle.std.proofs.Common.{◌≡◌, ℕ, zero, suc, Bool, true, false, cond, refl, sym, ap, ◌∙◌, subst}
+use Rattle.std.proofs.Common.{◌≡◌, ℕ, zero, suc, cond, refl, sym, ap, ◌∙◌, subst}
 use Rattle.link_machine.specs.Ledger.{Ledger}
 use Rattle.book_rest.specs.declared.turn.Turn.{Turn}
 use Rattle.book_rest.specs.declared.turn.Turn.TheVariants.{Made, Blocked, Idle}
 use Rattle.book_rest.specs.Turns.{MOST_TURNS, Tried, tried, least_turn}
-use Rattle.book_rest.specs.Laws.{IsLeast, NoneCan, IsTurn, of_least, of_none, StaysLaw, TurnLaw}
+use Rattle.book_rest.specs.Laws.{IsLeast, IsTurn, of_least, of_none, StaysLaw, TurnLaw}
 use Rattle.link_heart.specs.declared.heart.Heart.{Heart}
 use Rattle.link_heart.specs.Machine.{Step, repeated, with_book, emptied, moved_by, moved, rested}
 use Rattle.link_heart.specs.Laws.{IsRun, spent, none_can, blocked, goes, RestLaw}

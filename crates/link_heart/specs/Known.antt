@@ -1,13 +1,13 @@
 -- Which names a terminal knows, and which numbers they have in a set.
-use Rattle.std.specs.Prelude.{ℕ, List, codes}
+use Rattle.std.specs.Prelude.{ℕ, List, [], ◌∷◌, codes}
 use Rattle.turn_code.specs.declared.draft.Draft.{Draft}
-use Rattle.turn_check.specs.Named.{process_names, signal_names, IsFirst, IsNowhere}
-use Rattle.link_heart.specs.declared.known.ProcessName.{ProcessName}
-use Rattle.link_heart.specs.declared.known.ProcessName.TheVariants as process
-use Rattle.link_heart.specs.declared.known.SignalName.{SignalName}
-use Rattle.link_heart.specs.declared.known.SignalName.TheVariants as signal
-use Rattle.link_heart.specs.declared.known.Missing.{Missing}
-use Rattle.link_heart.specs.declared.known.Missing.TheVariants.{Process, Signal}
+use Rattle.turn_code.specs.declared.value.Sort.{Sort}
+use Rattle.turn_code.specs.declared.value.Sort.TheVariants.{Integer, Boolean}
+use Rattle.turn_check.specs.Named.{process_names, signal_names, IsFirst}
+use Rattle.link_heart.specs.declared.words.ProcessName.{ProcessName}
+use Rattle.link_heart.specs.declared.words.ProcessName.TheVariants as process
+use Rattle.link_heart.specs.declared.words.SignalName.{SignalName}
+use Rattle.link_heart.specs.declared.words.SignalName.TheVariants as signal
 use Rattle.link_heart.specs.declared.names.Names.{Names}
 use Rattle.link_heart.specs.declared.names.Notices.{Notices}
 use Rattle.link_heart.specs.declared.names.Orders.{Orders}
@@ -47,10 +47,31 @@ signal_word signal.Down = codes "Down"
 signal_word signal.RemoteOut = codes "RemoteOut"
 signal_word signal.RemoteBack = codes "RemoteBack"
 
--- a set has no process, or no signal, of that name
-abbrev pub Lacks : Draft → Missing → Type 0
-Lacks d (Process p) = IsNowhere (process_names d) (process_word p)
-Lacks d (Signal s) = IsNowhere (signal_names d) (signal_word s)
+-- the sorts of the parameters that a signal has where a terminal sends or hears it
+abbrev pub signal_sorts : SignalName → List Sort
+signal_sorts signal.PowerOn = []
+signal_sorts signal.StartLink = []
+signal_sorts signal.StopLink = []
+signal_sorts signal.Emergency = []
+signal_sorts signal.Calm = []
+signal_sorts signal.LocalOut = []
+signal_sorts signal.LocalBack = []
+signal_sorts signal.Busy = []
+signal_sorts signal.Free = []
+signal_sorts signal.Good = []
+signal_sorts signal.Errored = []
+signal_sorts signal.AckSeen = Boolean ∷ []
+signal_sorts signal.Bad = []
+signal_sorts signal.Unit = Integer ∷ []
+signal_sorts signal.MsuSent = []
+signal_sorts signal.Fresh = []
+signal_sorts signal.Take = Boolean ∷ []
+signal_sorts signal.Line = Integer ∷ []
+signal_sorts signal.Withhold = Boolean ∷ []
+signal_sorts signal.InServiceNow = []
+signal_sorts signal.Down = Integer ∷ []
+signal_sorts signal.RemoteOut = []
+signal_sorts signal.RemoteBack = []
 
 -- the number is that of the first process, or signal, of that name
 abbrev pub IsProcess : Draft → ℕ → ProcessName → Type 0

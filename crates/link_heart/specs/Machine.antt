@@ -1,6 +1,5 @@
 -- What a terminal does: each call is one of these steps, on the history of its actors and what it keeps beside them.
 use Rattle.std.specs.Prelude.{ℕ, zero, suc, ◌&&◌, Bool, true, false, nat_lt, cond, if◌then◌else◌, Option, Some, None, List, [], ◌∷◌, length}
-use Rattle.resend_store.specs.declared.messages.Msu.{Msu}
 use Rattle.su_octets.specs.declared.units.Unit.{Unit}
 use Rattle.link_machine.specs.Ledger.{Ledger, runs, state_of, refusal_by, ask, room, rebased}
 use Rattle.link_machine.specs.Step.{Answer, Stuck, Says}
@@ -19,11 +18,10 @@ use Rattle.link_side.specs.declared.signals.EnvSignal.{EnvSignal}
 use Rattle.link_side.specs.Half.{Half}
 use Rattle.link_side.specs.Effects.{effect}
 use Rattle.link_side.specs.Judging.{Judged, judged}
-use Rattle.link_side.specs.Going.{Gone, gone}
+use Rattle.link_side.specs.Going.{gone}
 use Rattle.link_side.specs.Offers.{error_offers}
-use Rattle.link_heart.specs.declared.commands.Command.{Command}
 use Rattle.link_heart.specs.declared.heart.Heart.{Heart}
-use Rattle.link_heart.specs.Offering.{told_by, offer_event, command_event}
+use Rattle.link_heart.specs.Offering.{told_by, offer_event}
 
 abbrev pub with_book : Heart → Ledger → Heart
 with_book t b = record t { book = b }

@@ -1,9 +1,11 @@
--- How a name that a set lacks is printed.
+-- How what a terminal wants of its set is printed.
 use Rattle.std.specs.Prelude.{ℕ, List, ◌++◌, codes}
 use Rattle.link_heart.specs.Known.{process_word, signal_word}
-use Rattle.link_heart.specs.declared.known.Missing.{Missing}
-use Rattle.link_heart.specs.declared.known.Missing.TheVariants.{Process, Signal}
+use Rattle.link_heart.specs.declared.wanted.Wanted.{Wanted}
+use Rattle.link_heart.specs.declared.wanted.Wanted.TheVariants.{Process, Sent, Heard}
 
-abbrev pub missing_text : Missing → List ℕ
-missing_text (Process name) = codes "no such process " ++ process_word name
-missing_text (Signal name) = codes "no such signal " ++ signal_word name
+-- a process by its name, a signal behind the party that gets it
+abbrev pub wanted_text : Wanted → List ℕ
+wanted_text (Process name) = process_word name
+wanted_text (Sent to name) = process_word to ++ codes "/" ++ signal_word name
+wanted_text (Heard name) = codes "ENV/" ++ signal_word name

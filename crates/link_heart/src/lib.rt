@@ -8,10 +8,14 @@ mod known;
 mod laws;
 mod names;
 mod resting;
+mod routes;
+mod wanted;
+mod words;
 
 pub use book_rest::{Book, Limits};
 pub use commands::Command;
 pub use heart::{Heart, LOW};
-pub use known::{Missing, ProcessName, SignalName};
 pub use laws::{accepted_messages_wait_in_order, rests_are_runs, unacknowledged_messages_stay};
 pub use names::{Names, Notices, Orders, Outputs, Parties};
+pub use wanted::Wanted;
+pub use words::{ProcessName, SignalName};

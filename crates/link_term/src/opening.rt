@@ -1,11 +1,12 @@
 //! New terminals.
-ghost use Rattle.std.specs.Prelude.{◌≡◌, IfOk, IfErr};
+ghost use Rattle.std.specs.Prelude.{◌≡◌, All, IfOk, IfErr};
 ghost use Rattle.link_machine.specs.Kept.{opened_book};
 ghost use Rattle.link_heart.specs.Known.{AreNames};
-ghost use Rattle.link_term.specs.Opening.{PORT, ENVIRONMENT, JOURNAL, IsOver, IsNew, IsLacking, IsRefusedNew};
+ghost use Rattle.link_heart.specs.Wanted.{wanted, Has};
+ghost use Rattle.link_term.specs.Opening.{PORT, ENVIRONMENT, JOURNAL, IsOver, IsNew, IsRefusedOver, IsRefusedNew};
 
 use crate::terminal::Terminal;
-use link_heart::{Book, Limits, Missing, Names};
+use link_heart::{Book, Limits, Names, Wanted};
 use mtp2_text::{LoadFault, STANDARD, standard};
 use resend_store::Mode;
 use std::alloc::{AllocError, Global};
@@ -13,15 +14,37 @@ use std::fmt;
 use thiserror::Error;
 use turn_check::Verified;
 
-/// Why there is no new terminal.
+/// Why there is no terminal over a set.
+#[derive(Clone, Copy, PartialEq, Eq, Debug, Error)]
+pub enum OpenError {
+    /// `X2 NoName`: the set lacks a process or a signal that a terminal speaks to or hears. It is the first one, in the order in which a
+    /// terminal asks for them.
+    NoName(Wanted),
+    /// There is no memory.
+    NoMemory,
+}
+
+impl fmt::Display for OpenError {
+    ghost use Rattle.std.specs.Prelude.{Some};
+    ghost use Rattle.link_term.specs.Printed.{open_error_text};
+
+    ghost output = { λ e. Some (open_error_text e) };
+
+    fn fmt<W: fmt::Write>(&self, f: &mut fmt::Formatter<W>) -> fmt::Result {
+        match self {
+            Self::NoName(name) => write!(f, "X2 NoName {name}"),
+            Self::NoMemory => f.write_str("out of memory"),
+        }
+    }
+}
+
+/// Why there is no terminal over the program's own set.
 #[derive(Debug, Drop, Error)]
 pub enum NewError {
     /// The text of the processes is refused, or there is no memory to load it.
     Load(LoadFault),
-    /// It lacks a process or a signal that a terminal speaks to or hears.
-    Name(Missing),
-    /// There is no memory.
-    NoMemory,
+    /// There is no terminal over its set.
+    Open(OpenError),
 }
 
 impl fmt::Display for NewError {
@@ -33,8 +56,7 @@ impl fmt::Display for NewError {
     fn fmt<W: fmt::Write>(&self, f: &mut fmt::Formatter<W>) -> fmt::Result {
         match self {
             Self::Load(fault) => write!(f, "{fault}"),
-            Self::Name(missing) => write!(f, "{missing}"),
-            Self::NoMemory => f.write_str("out of memory"),
+            Self::Open(error) => write!(f, "{error}"),
         }
     }
 }
@@ -58,46 +80,61 @@ fn open_book(alloc: Global, set: &Verified) -> Result<Book, AllocError>
     }
 }
 
-/// A terminal over a set in which the names have these numbers.
+/// A terminal over a set that has all names, with these numbers.
 fn open_terminal(
     alloc: Global,
     set: &Verified,
     names: Names,
     mode: Mode,
 ) -> Result<Terminal, AllocError>
-    requires { AreNames set.now names }
+    requires names { AreNames set.now names }
+    requires all { All (Has set.now) wanted }
     ensures { IfOk result (IsOver set.now mode) }
 {
     let book = open_book(alloc, set)?;
     Terminal::of_book(alloc, book, names, mode)
 }
 
-/// A terminal over a set.
-fn terminal_of(alloc: Global, set: &Verified, mode: Mode) -> Result<Terminal, NewError>
-    ensures ok { IfOk result (IsOver set.now mode) }
-    ensures err { IfErr result (IsLacking set.now) }
-{
-    match Names::find(set) {
-        Ok(names) => match open_terminal(alloc, set, names, mode) {
-            Ok(terminal) => Ok(terminal),
-            Err(_) => Err(NewError::NoMemory),
-        },
-        Err(missing) => Err(NewError::Name(missing)),
-    }
-}
-
 impl Terminal {
-    /// A terminal over the set of the text [`mtp2_text::STANDARD`], out of service and before its power is switched on.
+    /// A terminal over a set of processes (Q.703), out of service and before its power is switched on.
+    ///
+    /// The set is any one that has what a terminal speaks to and hears, by name, case aside: the processes LSC, AERM, SUERM, TXC, RC and CC;
+    /// a route from ENV to LSC with PowerOn, StartLink, StopLink, Emergency, Calm, LocalOut and LocalBack, to CC with Busy and Free, to AERM
+    /// and to SUERM with Good and Errored, to TXC with AckSeen(Boolean) and MsuSent, to RC with Bad and Unit(Integer); and routes from some
+    /// process to ENV with Fresh, Take(Boolean), Line(Integer), Withhold(Boolean), InServiceNow, Down(Integer), RemoteOut and RemoteBack.
+    /// What else it has is its own.
     ///
     /// # Errors
     ///
-    /// What `load` answers for the text, which the table of texts shows to be accepted; a name that the text lacks; want of memory.
+    /// `X2 NoName` with the first of these that the set lacks: one that isn't there, has other parameters, or is on no such route. Want of
+    /// memory, of a set that has them all.
+    pub fn of_set(alloc: Global, mode: Mode, set: &Verified) -> Result<Terminal, OpenError>
+        ensures ok { IfOk result (IsOver set.now mode) }
+        ensures err { IfErr result (IsRefusedOver set.now) }
+    {
+        match Names::find(set) {
+            Ok(names) => match open_terminal(alloc, set, names, mode) {
+                Ok(terminal) => Ok(terminal),
+                Err(_) => Err(OpenError::NoMemory),
+            },
+            Err(name) => Err(OpenError::NoName(name)),
+        }
+    }
+
+    /// A terminal over the set of the text [`mtp2_text::STANDARD`], as [`Terminal::of_set`].
+    ///
+    /// # Errors
+    ///
+    /// What `load` answers for the text, which the table of texts shows to be accepted; what [`Terminal::of_set`] does for its set.
     pub fn new(alloc: Global, mode: Mode) -> Result<Terminal, NewError>
         ensures ok { IfOk result (IsNew STANDARD.now mode) }
         ensures err { IfErr result (IsRefusedNew STANDARD.now) }
     {
         match standard(alloc) {
-            Ok(set) => terminal_of(alloc, &set, mode),
+            Ok(set) => match Terminal::of_set(alloc, mode, &set) {
+                Ok(terminal) => Ok(terminal),
+                Err(error) => Err(NewError::Open(error)),
+            },
             Err(fault) => Err(NewError::Load(fault)),
         }
     }

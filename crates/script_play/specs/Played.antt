@@ -1,61 +1,64 @@
 -- What the status of `play` says of the script and of what was written.
-use Rattle.std.specs.Prelude.{◌≡◌, ◌++◌, ℕ, Bool, true, false, List, Option, Result, Ok, Err, IsUtf8, codes}
+use Rattle.std.specs.Prelude.{◌≡◌, ◌++◌, ℕ, List, Option, Ok, Err, IsUtf8, codes}
 use Rattle.std.specs.Fmt.{decimal}
 use Rattle.std.specs.Io.KnownBytes.{Appends}
 use Rattle.turn_code.specs.declared.draft.Draft.{Draft}
-use Rattle.script_lines.specs.Scripts.{PlainScript, script_of}
 use Rattle.script_lines.specs.declared.script.ScriptFault.{ScriptFault}
 use Rattle.script_lines.specs.declared.script.ScriptFault.TheVariants.{BadLine, NoMemory}
 use Rattle.term_play.specs.Played.{first_book, IsWritten, IsMissed}
-use Rattle.term_lines.specs.TermScripts.{PlainAnyScript, book, terminal, PlainTermScript, as_book, any_script_of}
+use Rattle.term_lines.specs.TermScripts.{PlainAnyScript, book, terminal, any_script_of}
 use Rattle.term_play.specs.Checked.{IsGiven, IsSetOf, PrintsRefusal}
 use Rattle.term_play.specs.Printed.{line_of}
-use Rattle.term_play.specs.text_check_types.sets.SetWord.{SetWord}
-use Rattle.term_play.specs.text_check_types.sets.SetWord.TheVariants.{Standard, Monitors, Text}
-use Rattle.term_play.specs.TermRuns.{IsOfNew, IsTermWritten, IsTermMissed}
+use Rattle.term_play.specs.TermRuns.{IsOfNew, IsTermWritten, IsTermMissed, LacksName}
 
--- terminals run the set `standard` alone
-abbrev pub has_terminals : {R : Type 0} → SetWord R → Bool
-has_terminals Standard = true
-has_terminals Monitors = false
-has_terminals (Text reader) = false
-
--- what a text reads as: a script of either kind where there are terminals, else a book's
-abbrev pub reading_of : Bool → List ℕ → Result PlainAnyScript ℕ
-reading_of true text = any_script_of text
-reading_of false text = as_book (script_of text)
-
--- all commands of a script were obeyed, and their lines written: by a book of the set, or by a new terminal, whose set is the profile's
+-- all commands of a script were obeyed, and their lines written: by a book of the set, or by a new terminal over it
 abbrev pub IsObeyed : Draft → PlainAnyScript → Option (List ℕ) → Option (List ℕ) → Type 0
 IsObeyed d (book s) old new = IsWritten (first_book d s.settings) s.commands old new
-IsObeyed d (terminal s) old new = IsOfNew s.mode (IsTermWritten s.commands old new)
+IsObeyed d (terminal s) old new = IsOfNew d s.mode (IsTermWritten s.commands old new)
 
 -- the bytes are a script, all of whose commands were obeyed
-pub record IsPlayed (terminals : Bool) (old new : Option (List ℕ)) (d : Draft) (bytes : List ℕ) : Type 0 where
+pub record IsPlayed (old new : Option (List ℕ)) (d : Draft) (bytes : List ℕ) : Type 0 where
   pub utf8 : IsUtf8 bytes
   pub script : PlainAnyScript
-  pub reads : reading_of terminals bytes ≡ Ok script
+  pub reads : any_script_of bytes ≡ Ok script
   pub run : IsObeyed d script old new
 
 -- an expectation of a script failed behind commands that were obeyed
 abbrev pub IsMissedIn : Draft → PlainAnyScript → Option (List ℕ) → Option (List ℕ) → Type 0
 IsMissedIn d (book s) old new = IsMissed (first_book d s.settings) s.commands old new
-IsMissedIn d (terminal s) old new = IsOfNew s.mode (IsTermMissed s.commands old new)
+IsMissedIn d (terminal s) old new = IsOfNew d s.mode (IsTermMissed s.commands old new)
 
 -- the bytes are a script, an expectation of which failed
-pub record IsPlayedInPart (terminals : Bool) (old new : Option (List ℕ)) (d : Draft) (bytes : List ℕ) : Type 0 where
+pub record IsPlayedInPart (old new : Option (List ℕ)) (d : Draft) (bytes : List ℕ) : Type 0 where
   pub utf8 : IsUtf8 bytes
   pub script : PlainAnyScript
-  pub reads : reading_of terminals bytes ≡ Ok script
+  pub reads : any_script_of bytes ≡ Ok script
   pub missed : IsMissedIn d script old new
 
 -- ---- refusals
 
 -- the bytes are no script, and the line that says so is all that was written
-pub data IsNoScript (terminals : Bool) (old new : Option (List ℕ)) (bytes : List ℕ) : Type 0 where
-  no_text : (IsUtf8 bytes → ⊥) → Appends old new (line_of (codes "refused F1 NotText")) → IsNoScript terminals old new bytes
-  bad_line : (line : ℕ) → IsUtf8 bytes → reading_of terminals bytes ≡ Err line
-      → Appends old new (line_of (codes "refused X1 BadLine line " ++ decimal line)) → IsNoScript terminals old new bytes
+pub data IsNoScript (old new : Option (List ℕ)) (bytes : List ℕ) : Type 0 where
+  no_text : (IsUtf8 bytes → ⊥) → Appends old new (line_of (codes "refused F1 NotText")) → IsNoScript old new bytes
+  bad_line : (line : ℕ) → IsUtf8 bytes → any_script_of bytes ≡ Err line
+      → Appends old new (line_of (codes "refused X1 BadLine line " ++ decimal line)) → IsNoScript old new bytes
+
+-- a set that lacks a name has no terminal, and runs the scripts of books alone
+abbrev pub HasNoTerminal : Draft → PlainAnyScript → Option (List ℕ) → Option (List ℕ) → Type 0
+HasNoTerminal d (book s) old new = ⊥
+HasNoTerminal d (terminal s) old new = LacksName d old new
+
+-- the bytes are a terminal's script, and the set lacks a name that a terminal wants: the line of the first such name is all that was written
+pub record IsWithoutTerminal (old new : Option (List ℕ)) (d : Draft) (bytes : List ℕ) : Type 0 where
+  pub utf8 : IsUtf8 bytes
+  pub script : PlainAnyScript
+  pub reads : any_script_of bytes ≡ Ok script
+  pub lacks : HasNoTerminal d script old new
+
+-- why nothing ran on a set: the bytes are no script, whatever the set has; or they are one of a terminal, for which it lacks a name
+pub data IsNotRun (old new : Option (List ℕ)) (d : Draft) (bytes : List ℕ) : Type 0 where
+  no_script : IsNoScript old new bytes → IsNotRun old new d bytes
+  no_terminal : IsWithoutTerminal old new d bytes → IsNotRun old new d bytes
 
 -- a bad line is named by its number; want of memory is no refusal
 abbrev pub PrintsFault : ScriptFault → Option (List ℕ) → Option (List ℕ) → Type 0
@@ -68,7 +71,7 @@ pub record IsOnSet (set script : Option (List ℕ)) (P : Draft → List ℕ → 
   pub is_set : IsGiven set (λ bytes. IsSetOf bytes draft)
   pub of_script : IsGiven script (P draft)
 
--- why nothing ran: the set is refused, whatever the script is; or the set is accepted, and the script is refused
-pub data IsRefused (terminals : Bool) (set script old new : Option (List ℕ)) : Type 0 where
-  set_refused : IsGiven set (PrintsRefusal old new) → IsRefused terminals set script old new
-  script_refused : IsOnSet set script (λ d. IsNoScript terminals old new) → IsRefused terminals set script old new
+-- why nothing ran: the set is refused, whatever the script is; or the set is accepted, and the script is refused, or is none for the set
+pub data IsRefused (set script old new : Option (List ℕ)) : Type 0 where
+  set_refused : IsGiven set (PrintsRefusal old new) → IsRefused set script old new
+  script_refused : IsOnSet set script (IsNotRun old new) → IsRefused set script old new

@@ -1,11 +1,11 @@
 //! The command `play`.
-ghost use Rattle.std.specs.Prelude.{◌≡◌, ◌⊎◌, List, ℕ, Bool, Ok, IfOk, IfErr, IfSome};
+ghost use Rattle.std.specs.Prelude.{◌≡◌, ◌⊎◌, List, ℕ, IfSome};
 ghost use Rattle.text_reader.specs.Reading.{Keeps};
 ghost use Rattle.term_play.specs.Checked.{given, IsAccepted};
-ghost use Rattle.term_lines.specs.TermScripts.{plain_any_script, IsInRange, Tells};
-ghost use Rattle.script_play.specs.Played.{has_terminals, reading_of, IsObeyed, IsPlayed, IsMissedIn, IsPlayedInPart, IsNoScript, PrintsFault, IsOnSet, IsRefused};
+ghost use Rattle.term_lines.specs.TermScripts.{plain_any_script, IsInRange};
+ghost use Rattle.script_play.specs.Played.{IsObeyed, IsPlayed, IsMissedIn, IsPlayedInPart, HasNoTerminal, IsNotRun, PrintsFault, IsOnSet, IsRefused};
 
-use script_lines::{ScriptFault, book_script};
+use script_lines::ScriptFault;
 use std::alloc::Global;
 use std::io::{Read, Write};
 use std::str;
@@ -14,11 +14,12 @@ use term_play::{FAILED, SetWord, load_set, play_book, play_terminal, refuse, wri
 use text_reader::{TextRead, line_at_limit, read_text};
 use turn_check::Verified;
 
-/// Runs a script on a set of processes, or, where its first line is `terminal basic` or `terminal cyclic` and the set is `standard`, on a
-/// signalling link terminal, and prints a line for each command but `expect`, and for each unit that goes out.
+/// Runs a script on a set of processes, or, where its first line is `terminal basic` or `terminal cyclic`, on a signalling link terminal over
+/// that set, and prints a line for each command but `expect`, and for each unit that goes out.
 ///
 /// Both texts are read whole before anything is written: the set, then the script. A refusal of the set comes before one of
-/// the script, and a line of the script that is none is refused before anything runs. A line goes out in one write.
+/// the script, a line of the script that is none is refused before anything runs, and then a set that lacks a name that a terminal wants, for
+/// a terminal's script. A line goes out in one write.
 ///
 /// Gives the exit status: 0 where each command ran and its line was written, 1 after `failed line N` where an expectation
 /// failed, 2 after a line `refused CODE Name ..` alone where the set or the script was refused, or 4 where memory, a read or
@@ -31,33 +32,21 @@ pub fn play<S: Read + Drop, R: Read + Drop, W: Write>(
 ) -> u8
     ensures accepted { (result ≡ 0) ⊎ (result ≡ 1) → IfSome (given S.remaining set) IsAccepted }
     ensures held { result ≡ 0
-        → IsOnSet (given S.remaining set) (R.remaining script) (IsPlayed (has_terminals set) (W.contents writer.old) (W.contents writer.new)) }
+        → IsOnSet (given S.remaining set) (R.remaining script) (IsPlayed (W.contents writer.old) (W.contents writer.new)) }
     ensures missed { result ≡ 1
-        → IsOnSet (given S.remaining set) (R.remaining script) (IsPlayedInPart (has_terminals set) (W.contents writer.old) (W.contents writer.new)) }
+        → IsOnSet (given S.remaining set) (R.remaining script) (IsPlayedInPart (W.contents writer.old) (W.contents writer.new)) }
     ensures refused { result ≡ 2
-        → IsRefused (has_terminals set) (given S.remaining set) (R.remaining script) (W.contents writer.old) (W.contents writer.new) }
+        → IsRefused (given S.remaining set) (R.remaining script) (W.contents writer.old) (W.contents writer.new) }
     ensures status { (result ≡ 0) ⊎ (result ≡ 1) ⊎ (result ≡ 2) ⊎ (result ≡ 4) }
 {
-    let terminals = has_terminals(&set);
     let set = load_set(alloc, set);
     let read = read_text(alloc, &mut script);
     match set {
         Ok(set) => match read {
-            Ok(read) => play_text(alloc, &set, terminals, &read, writer),
+            Ok(read) => play_text(alloc, &set, &read, writer),
             Err(_) => FAILED,
         },
         Err(fault) => write_refusal(alloc, writer, &fault),
-    }
-}
-
-/// Whether a set runs on terminals too.
-fn has_terminals<S>(set: &SetWord<S>) -> bool
-    ensures { result ≡ has_terminals set.now }
-{
-    match set {
-        SetWord::Standard => true,
-        SetWord::Monitors => false,
-        SetWord::Text(_) => false,
     }
 }
 
@@ -72,37 +61,12 @@ fn refuse_script<W: Write>(alloc: Global, writer: &mut W, fault: ScriptFault) ->
     }
 }
 
-/// The script of a text, which is a book's where there are no terminals.
-fn script_in<'a>(
-    alloc: Global,
-    terminals: bool,
-    text: &'a str,
-) -> Result<AnyScript<'a>, ScriptFault>
-    ensures script { IfOk result (λ s. reading_of terminals text.now ≡ Ok (plain_any_script s)) }
-    ensures within { IfOk result IsInRange }
-    ensures fault { IfErr result (Tells (reading_of terminals text.now)) }
-{
-    if terminals {
-        return any_script(alloc, text);
-    }
-    match book_script(alloc, text) {
-        Ok(script) => Ok(AnyScript::Book(script)),
-        Err(fault) => Err(fault),
-    }
-}
-
 /// Runs the script of a text that was read.
-fn play_text<W: Write>(
-    alloc: Global,
-    set: &Verified,
-    terminals: bool,
-    read: &TextRead,
-    writer: &mut W,
-) -> u8
-    ensures held { result ≡ 0 → (bytes : List ℕ) → Keeps bytes read.now → IsPlayed terminals (W.contents writer.old) (W.contents writer.new) set.now bytes }
+fn play_text<W: Write>(alloc: Global, set: &Verified, read: &TextRead, writer: &mut W) -> u8
+    ensures held { result ≡ 0 → (bytes : List ℕ) → Keeps bytes read.now → IsPlayed (W.contents writer.old) (W.contents writer.new) set.now bytes }
     ensures missed { result ≡ 1 → (bytes : List ℕ) → Keeps bytes read.now
-        → IsPlayedInPart terminals (W.contents writer.old) (W.contents writer.new) set.now bytes }
-    ensures refused { result ≡ 2 → (bytes : List ℕ) → Keeps bytes read.now → IsNoScript terminals (W.contents writer.old) (W.contents writer.new) bytes }
+        → IsPlayedInPart (W.contents writer.old) (W.contents writer.new) set.now bytes }
+    ensures refused { result ≡ 2 → (bytes : List ℕ) → Keeps bytes read.now → IsNotRun (W.contents writer.old) (W.contents writer.new) set.now bytes }
     ensures status { (result ≡ 0) ⊎ (result ≡ 1) ⊎ (result ≡ 2) ⊎ (result ≡ 4) }
 {
     if !read.is_text {
@@ -113,7 +77,7 @@ fn play_text<W: Write>(
         return refuse_script(alloc, writer, ScriptFault::BadLine(line));
     }
     match str::from_utf8(&read.kept) {
-        Ok(text) => match script_in(alloc, terminals, text) {
+        Ok(text) => match any_script(alloc, text) {
             Ok(script) => play_script(alloc, set, &script, writer),
             Err(fault) => refuse_script(alloc, writer, fault),
         },
@@ -131,10 +95,11 @@ fn play_script<W: Write>(
     requires { IsInRange script.now }
     ensures held { result ≡ 0 → IsObeyed set.now (plain_any_script script.now) (W.contents writer.old) (W.contents writer.new) }
     ensures missed { result ≡ 1 → IsMissedIn set.now (plain_any_script script.now) (W.contents writer.old) (W.contents writer.new) }
-    ensures status { (result ≡ 0) ⊎ (result ≡ 1) ⊎ (result ≡ 4) }
+    ensures refused { result ≡ 2 → HasNoTerminal set.now (plain_any_script script.now) (W.contents writer.old) (W.contents writer.new) }
+    ensures status { (result ≡ 0) ⊎ (result ≡ 1) ⊎ (result ≡ 2) ⊎ (result ≡ 4) }
 {
     match script {
         AnyScript::Book(script) => play_book(alloc, set, script, writer),
-        AnyScript::Terminal(script) => play_terminal(alloc, script, writer),
+        AnyScript::Terminal(script) => play_terminal(alloc, set, script, writer),
     }
 }

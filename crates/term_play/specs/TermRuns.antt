@@ -1,11 +1,16 @@
 -- What a run of a terminal's script has printed, and what it made of its terminal.
-use Rattle.std.specs.Prelude.{◌≡◌, ℕ, List, [], ◌∷◌, ◌++◌, Option, None, Some}
+use Rattle.std.specs.Prelude.{◌≡◌, ℕ, List, [], ◌∷◌, ◌++◌, Option, None, Some, codes}
 use Rattle.std.specs.List.{flat_map}
 use Rattle.std.specs.Io.KnownBytes.{Appends}
-use Rattle.link_term.specs.mtp2_text_types.standard_text.TheConstants.{STANDARD}
+use Rattle.turn_code.specs.declared.draft.Draft.{Draft}
 use Rattle.resend_store.specs.declared.messages.Mode.{Mode}
 use Rattle.link_term.specs.Term.{Term}
-use Rattle.link_term.specs.Opening.{IsNew}
+use Rattle.link_term.specs.Opening.{IsOver}
+use Rattle.link_term.specs.Wanted.{wanted, IsFirstLacking}
+use Rattle.link_term.specs.WantedText.{wanted_text}
+use Rattle.link_term.specs.declared.opening.OpenError.{OpenError}
+use Rattle.link_term.specs.declared.opening.OpenError.TheVariants.{NoName, NoMemory}
+use Rattle.link_term.specs.link_heart_types.wanted.Wanted.{Wanted}
 use Rattle.book_play.specs.Printed.{line_of}
 use Rattle.book_play.specs.Played.{last_in, Misses}
 use Rattle.term_lines.specs.TermCommands.{expected}
@@ -71,8 +76,21 @@ pub record IsTermMissed (commands : List PlainTermSaid) (old new : Option (List 
   pub run : IsTermRun first before old middle now last
   pub missed : IsTermMissedBy said last middle new
 
--- P holds of a terminal over the profile's text that is new, with this error correction
-pub record IsOfNew (mode : Mode) (P : Term → Type 0) : Type 0 where
+-- P holds of a terminal over the set that is new, with this error correction
+pub record IsOfNew (d : Draft) (mode : Mode) (P : Term → Type 0) : Type 0 where
   pub terminal : Term
-  pub is_new : IsNew STANDARD.now mode terminal
+  pub is_new : IsOver d mode terminal
   pub holds : P terminal
+
+-- ---- no terminal
+
+-- the line that names what is lacking is all that is written; want of memory is no refusal
+abbrev pub PrintsLacking : OpenError → Option (List ℕ) → Option (List ℕ) → Type 0
+PrintsLacking (NoName name) old new = Appends old new (line_of (codes "refused X2 NoName " ++ wanted_text name))
+PrintsLacking NoMemory old new = ⊥
+
+-- the set lacks a name that a terminal wants, and the line that says the first of them is all that was written
+pub record LacksName (d : Draft) (old new : Option (List ℕ)) : Type 0 where
+  pub name : Wanted
+  pub lacks : IsFirstLacking d name wanted
+  pub printed : Appends old new (line_of (codes "refused X2 NoName " ++ wanted_text name))

@@ -3,14 +3,15 @@ ghost use Rattle.std.specs.Prelude.{◌≡◌, ◌⊎◌, ◌++◌, ◌∷◌, [
 ghost use Rattle.link_term.specs.Term.{Term};
 ghost use Rattle.term_lines.specs.TermScripts.{PlainTermSaid, plain_term_said};
 ghost use Rattle.term_play.specs.TermAnswers.{next_of, behind_next, unit_line};
-ghost use Rattle.term_play.specs.TermRuns.{last_of, HasPrinted, HasGivenOut, IsTermRun, IsTermWritten, IsTermMissed, IsTermMissedBy, IsOfNew};
+ghost use Rattle.term_play.specs.TermRuns.{last_of, HasPrinted, HasGivenOut, IsTermRun, IsTermWritten, IsTermMissed, IsTermMissedBy, IsOfNew, PrintsLacking, LacksName};
 
 use crate::answers::answer;
-use book_play::{FAILED, HELD, MISSED, Printer, text_line, write_line};
-use link_term::Terminal;
+use book_play::{FAILED, HELD, MISSED, Printer, refuse, text_line, write_line};
+use link_term::{OpenError, Terminal};
 use std::alloc::Global;
 use std::io::{self, Write};
 use term_lines::{TermCommand, TermSaid, TermScript};
+use turn_check::Verified;
 
 /// A terminal, and what is printed for it.
 #[derive(Drop)]
@@ -112,24 +113,59 @@ impl TermPlayer {
     }
 }
 
-/// Runs a terminal's script, and prints what each command but `expect` gives: one line, but for `out`, which prints one for each unit.
-///
-/// Gives the exit status: 0 where each command ran and its lines were written, 1 after `failed line N` where an expectation failed, 4 where
-/// memory or a write fails. Nothing is written after a write that failed.
-pub fn play_terminal<W: Write>(alloc: Global, script: &TermScript<'_>, writer: &mut W) -> u8
+/// Runs the commands of a script on a new terminal. Gives the exit status.
+fn play_on<W: Write>(
+    alloc: Global,
+    terminal: Terminal,
+    script: &TermScript<'_>,
+    writer: &mut W,
+) -> u8
     ensures held { result ≡ 0
-        → IsOfNew script.now.mode (IsTermWritten (map plain_term_said script.now.commands.items) (W.contents writer.old) (W.contents writer.new)) }
+        → IsTermWritten (map plain_term_said script.now.commands.items) (W.contents writer.old) (W.contents writer.new) terminal }
     ensures missed { result ≡ 1
-        → IsOfNew script.now.mode (IsTermMissed (map plain_term_said script.now.commands.items) (W.contents writer.old) (W.contents writer.new)) }
+        → IsTermMissed (map plain_term_said script.now.commands.items) (W.contents writer.old) (W.contents writer.new) terminal }
     ensures status { (result ≡ 0) ⊎ (result ≡ 1) ⊎ (result ≡ 4) }
 {
-    let Ok(terminal) = Terminal::new(alloc, script.mode) else {
-        return FAILED;
-    };
     let printer = Printer { last: None };
     let mut player = TermPlayer { terminal, printer };
     match player.run(alloc, &script.commands, writer) {
         Ok(status) => status,
         Err(_) => FAILED,
+    }
+}
+
+/// Writes why there is no terminal over a set. Gives the exit status.
+fn refuse_set<W: Write>(alloc: Global, writer: &mut W, error: OpenError) -> u8
+    ensures printed { result ≡ 2 → PrintsLacking error (W.contents writer.old) (W.contents writer.new) }
+    ensures status { (result ≡ 2) ⊎ (result ≡ 4) }
+{
+    match error {
+        OpenError::NoName(_) => refuse(alloc, writer, &format_args!("refused {error}")),
+        OpenError::NoMemory => FAILED,
+    }
+}
+
+/// Runs a terminal's script on a terminal over a set, and prints what each command but `expect` gives: one line, but for `out`, which prints
+/// one for each unit.
+///
+/// Gives the exit status: 0 where each command ran and its lines were written, 1 after `failed line N` where an expectation failed, 2 after
+/// `refused X2 NoName NAME` alone where the set lacks a name that a terminal speaks to or hears, 4 where memory or a write fails. Nothing is
+/// written after a write that failed.
+pub fn play_terminal<W: Write>(
+    alloc: Global,
+    set: &Verified,
+    script: &TermScript<'_>,
+    writer: &mut W,
+) -> u8
+    ensures held { result ≡ 0
+        → IsOfNew set.now script.now.mode (IsTermWritten (map plain_term_said script.now.commands.items) (W.contents writer.old) (W.contents writer.new)) }
+    ensures missed { result ≡ 1
+        → IsOfNew set.now script.now.mode (IsTermMissed (map plain_term_said script.now.commands.items) (W.contents writer.old) (W.contents writer.new)) }
+    ensures refused { result ≡ 2 → LacksName set.now (W.contents writer.old) (W.contents writer.new) }
+    ensures status { (result ≡ 0) ⊎ (result ≡ 1) ⊎ (result ≡ 2) ⊎ (result ≡ 4) }
+{
+    match Terminal::of_set(alloc, script.mode, set) {
+        Ok(terminal) => play_on(alloc, terminal, script, writer),
+        Err(error) => refuse_set(alloc, writer, error),
     }
 }

@@ -1,7 +1,7 @@
 //! Calls of a terminal, and why they stop a trial. What their clauses say ends here: a trial shows what none of them says.
 ghost use Rattle.std.specs.Prelude.{◌≤◌, length};
 
-use link_term::{CallError, Command, Mode, Msu, NewError, Report, Terminal};
+use link_term::{CallError, Command, Mode, Msu, NewError, OpenError, Report, Terminal};
 use std::alloc::{AllocError, Global};
 
 /// Why a trial stopped.
@@ -35,7 +35,7 @@ fn why_stopped(error: CallError) -> Stopped {
 pub fn terminal(alloc: Global, mode: Mode) -> Result<Terminal, Stopped> {
     match Terminal::new(alloc, mode) {
         Ok(terminal) => Ok(terminal),
-        Err(NewError::NoMemory) => Err(Stopped::NoMemory),
+        Err(NewError::Open(OpenError::NoMemory)) => Err(Stopped::NoMemory),
         Err(_) => Err(Stopped::Refused),
     }
 }

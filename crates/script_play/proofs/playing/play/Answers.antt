@@ -1,5 +1,4 @@
-use Rattle.std.proofs.Common.{subst, Bool}
-use Rattle.script_play.specs.Played.{IsPlayed, IsPlayedInPart, IsNoScript, set_refused, script_refused}
+use Rattle.script_play.specs.Played.{set_refused, script_refused}
 use Rattle.script_play.proofs.Texts.{not_held, not_missed}
 use Rattle.script_play.proofs.playing.play.Goals as goal
 use Rattle.term_play.proofs.Prints.{refusal_printed}
@@ -11,10 +10,7 @@ returns-in-Ok-read-clause-held g c zero = record {
   of_script = record {
     bytes = c.in-Ok-read.ensures.bytes;
     are_known = c.in-Ok-read.ensures.are_known;
-    holds =
-        let P : Bool → Type 0 =
-        λ t. IsPlayed t (g.W.Write.contents c.args.writer.now) (g.W.Write.contents c.play_text.new.writer) c.in-Ok.set c.in-Ok-read.ensures.bytes in
-        subst P c.has_terminals-terminals.ensures (c.play_text.ensures.held zero c.in-Ok-read.ensures.bytes c.in-Ok-read.ensures.keeps);
+    holds = c.play_text.ensures.held zero c.in-Ok-read.ensures.bytes c.in-Ok-read.ensures.keeps;
   };
 }
 
@@ -28,10 +24,7 @@ returns-in-Ok-read-clause-missed g c one = record {
   of_script = record {
     bytes = c.in-Ok-read.ensures.bytes;
     are_known = c.in-Ok-read.ensures.are_known;
-    holds =
-        let P : Bool → Type 0 =
-        λ t. IsPlayedInPart t (g.W.Write.contents c.args.writer.now) (g.W.Write.contents c.play_text.new.writer) c.in-Ok.set c.in-Ok-read.ensures.bytes in
-        subst P c.has_terminals-terminals.ensures (c.play_text.ensures.missed one c.in-Ok-read.ensures.bytes c.in-Ok-read.ensures.keeps);
+    holds = c.play_text.ensures.missed one c.in-Ok-read.ensures.bytes c.in-Ok-read.ensures.keeps;
   };
 }
 
@@ -46,10 +39,7 @@ returns-in-Ok-read-clause-refused g c two =
       of_script = record {
         bytes = c.in-Ok-read.ensures.bytes;
         are_known = c.in-Ok-read.ensures.are_known;
-        holds =
-            let P : Bool → Type 0 =
-            λ t. IsNoScript t (g.W.Write.contents c.args.writer.now) (g.W.Write.contents c.play_text.new.writer) c.in-Ok-read.ensures.bytes in
-            subst P c.has_terminals-terminals.ensures (c.play_text.ensures.refused two c.in-Ok-read.ensures.bytes c.in-Ok-read.ensures.keeps);
+        holds = c.play_text.ensures.refused two c.in-Ok-read.ensures.bytes c.in-Ok-read.ensures.keeps;
       };
     })
 

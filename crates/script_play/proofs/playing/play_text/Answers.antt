@@ -1,13 +1,12 @@
 use Rattle.std.proofs.Common.{◌≡◌, ◌∙◌, ◌+◌, ◌==◌, List, ℕ, Ok, ap, sym, subst, rules}
 use Rattle.std.specs.Prelude.{IsTrue, IsUtf8, count_by, take}
 use Rattle.text_reader.specs.Reading.{LONGEST}
-use Rattle.term_lines.specs.TermScripts.{plain_any_script}
-use Rattle.script_play.specs.Played.{reading_of, no_text, bad_line}
-use Rattle.script_play.proofs.Refusals.{too_long, no_script}
+use Rattle.term_lines.specs.TermScripts.{plain_any_script, any_script_of}
+use Rattle.script_play.specs.Played.{no_text, bad_line, no_script, no_terminal}
+use Rattle.script_play.proofs.Refusals.{too_long, no_script_in}
 use Rattle.script_play.proofs.Texts.{not_held, not_missed}
 use Rattle.script_play.proofs.playing.play_text.Goals as goal
 use Rattle.term_play.proofs.Long.{all_kept}
-use Rattle.plain_laws.proofs.Numbers.{not_refused}
 
 pub returns-then-not-read-clause-held : goal.returns-then-not-read-clause-held
 returns-then-not-read-clause-held g c zero bytes keeps = absurd (not_held _ c.refuse.ensures.status zero)
@@ -15,20 +14,20 @@ returns-then-not-read-clause-held g c zero bytes keeps = absurd (not_held _ c.re
 pub returns-then-is_too_long-clause-held : goal.returns-then-is_too_long-clause-held
 returns-then-is_too_long-clause-held g c zero bytes keeps = absurd (not_held _ c.refuse_script.ensures.status zero)
 
-pub returns-in-Ok-script_in-clause-held : goal.returns-in-Ok-script_in-clause-held
-returns-in-Ok-script_in-clause-held g c zero bytes keeps =
+pub returns-in-Ok-any_script-clause-held : goal.returns-in-Ok-any_script-clause-held
+returns-in-Ok-any_script-clause-held g c zero bytes keeps =
     let is_text : IsTrue c.args.read.now.is_text = search rules in
     let same : c.in-Ok.text.now ≡ bytes =
     c.in-Ok.ensures.cases.0 ∙ (c.deref-2.ensures.value ∙ all_kept bytes c.args.read.now keeps (sym c.is_too_long.ensures ∙ c.if-is_too_long.false)) in
     record {
       utf8 = keeps.utf8.0 is_text;
-      script = plain_any_script c.in-Ok-script_in.script;
-      reads = ap (reading_of c.args.terminals) (sym same) ∙ c.in-Ok-script_in.ensures.script;
+      script = plain_any_script c.in-Ok-any_script.script;
+      reads = ap any_script_of (sym same) ∙ c.in-Ok-any_script.ensures.script;
       run = c.play_script.ensures.held zero;
     }
 
-pub returns-in-Err-script_in-clause-held : goal.returns-in-Err-script_in-clause-held
-returns-in-Err-script_in-clause-held g c zero bytes keeps = absurd (not_held _ c.refuse_script-in-Err-script_in.ensures.status zero)
+pub returns-in-Err-any_script-clause-held : goal.returns-in-Err-any_script-clause-held
+returns-in-Err-any_script-clause-held g c zero bytes keeps = absurd (not_held _ c.refuse_script-in-Err-any_script.ensures.status zero)
 
 pub returns-in-Err-clause-held : goal.returns-in-Err-clause-held
 returns-in-Err-clause-held g c zero bytes keeps = absurd (not_held _ c.refuse-in-Err.ensures.status zero)
@@ -39,51 +38,63 @@ returns-then-not-read-clause-missed g c one bytes keeps = absurd (not_missed _ c
 pub returns-then-is_too_long-clause-missed : goal.returns-then-is_too_long-clause-missed
 returns-then-is_too_long-clause-missed g c one bytes keeps = absurd (not_missed _ c.refuse_script.ensures.status one)
 
-pub returns-in-Ok-script_in-clause-missed : goal.returns-in-Ok-script_in-clause-missed
-returns-in-Ok-script_in-clause-missed g c one bytes keeps =
+pub returns-in-Ok-any_script-clause-missed : goal.returns-in-Ok-any_script-clause-missed
+returns-in-Ok-any_script-clause-missed g c one bytes keeps =
     let is_text : IsTrue c.args.read.now.is_text = search rules in
     let same : c.in-Ok.text.now ≡ bytes =
     c.in-Ok.ensures.cases.0 ∙ (c.deref-2.ensures.value ∙ all_kept bytes c.args.read.now keeps (sym c.is_too_long.ensures ∙ c.if-is_too_long.false)) in
     record {
       utf8 = keeps.utf8.0 is_text;
-      script = plain_any_script c.in-Ok-script_in.script;
-      reads = ap (reading_of c.args.terminals) (sym same) ∙ c.in-Ok-script_in.ensures.script;
+      script = plain_any_script c.in-Ok-any_script.script;
+      reads = ap any_script_of (sym same) ∙ c.in-Ok-any_script.ensures.script;
       missed = c.play_script.ensures.missed one;
     }
 
-pub returns-in-Err-script_in-clause-missed : goal.returns-in-Err-script_in-clause-missed
-returns-in-Err-script_in-clause-missed g c one bytes keeps = absurd (not_missed _ c.refuse_script-in-Err-script_in.ensures.status one)
+pub returns-in-Err-any_script-clause-missed : goal.returns-in-Err-any_script-clause-missed
+returns-in-Err-any_script-clause-missed g c one bytes keeps = absurd (not_missed _ c.refuse_script-in-Err-any_script.ensures.status one)
 
 pub returns-in-Err-clause-missed : goal.returns-in-Err-clause-missed
 returns-in-Err-clause-missed g c one bytes keeps = absurd (not_missed _ c.refuse-in-Err.ensures.status one)
 
 pub returns-then-not-read-clause-refused : goal.returns-then-not-read-clause-refused
 returns-then-not-read-clause-refused g c two bytes keeps =
-    no_text
+    no_script
+    (no_text
     (λ utf8.
     let is_text : IsTrue c.args.read.now.is_text = keeps.utf8.1 utf8 in
     let f : ⊥ = search rules in f)
-    (c.refuse.ensures.printed two)
+    (c.refuse.ensures.printed two))
 
 pub returns-then-is_too_long-clause-refused : goal.returns-then-is_too_long-clause-refused
 returns-then-is_too_long-clause-refused g c two bytes keeps =
     let is_text : IsTrue c.args.read.now.is_text = search rules in
     let P : List ℕ → Type 0 = λ kept. c.line_at_limit-line.result ≡ count_by (λ b. b == 10) (take LONGEST kept) + 1 in
-    bad_line c.line_at_limit-line.result (keeps.utf8.0 is_text)
-    (too_long c.args.terminals bytes c.args.read.now c.line_at_limit-line.result keeps (sym c.is_too_long.ensures ∙ c.if-is_too_long.true)
+    no_script
+    (bad_line c.line_at_limit-line.result (keeps.utf8.0 is_text)
+    (too_long bytes c.args.read.now c.line_at_limit-line.result keeps (sym c.is_too_long.ensures ∙ c.if-is_too_long.true)
     (subst P c.deref.ensures.value c.line_at_limit-line.ensures))
-    (c.refuse_script.ensures.printed two)
+    (c.refuse_script.ensures.printed two))
 
-pub returns-in-Ok-script_in-clause-refused : goal.returns-in-Ok-script_in-clause-refused
-returns-in-Ok-script_in-clause-refused g c two bytes keeps = absurd (not_refused _ c.play_script.ensures.status two)
-
-pub returns-in-Err-script_in-clause-refused : goal.returns-in-Err-script_in-clause-refused
-returns-in-Err-script_in-clause-refused g c two bytes keeps =
+pub returns-in-Ok-any_script-clause-refused : goal.returns-in-Ok-any_script-clause-refused
+returns-in-Ok-any_script-clause-refused g c two bytes keeps =
     let is_text : IsTrue c.args.read.now.is_text = search rules in
     let same : c.in-Ok.text.now ≡ bytes =
     c.in-Ok.ensures.cases.0 ∙ (c.deref-2.ensures.value ∙ all_kept bytes c.args.read.now keeps (sym c.is_too_long.ensures ∙ c.if-is_too_long.false)) in
-    no_script c.args.terminals _ _ c.in-Ok.text.now bytes c.in-Err-script_in.fault same (keeps.utf8.0 is_text) c.in-Err-script_in.ensures.fault
-    (c.refuse_script-in-Err-script_in.ensures.printed two)
+    no_terminal (record {
+      utf8 = keeps.utf8.0 is_text;
+      script = plain_any_script c.in-Ok-any_script.script;
+      reads = ap any_script_of (sym same) ∙ c.in-Ok-any_script.ensures.script;
+      lacks = c.play_script.ensures.refused two;
+    })
+
+pub returns-in-Err-any_script-clause-refused : goal.returns-in-Err-any_script-clause-refused
+returns-in-Err-any_script-clause-refused g c two bytes keeps =
+    let is_text : IsTrue c.args.read.now.is_text = search rules in
+    let same : c.in-Ok.text.now ≡ bytes =
+    c.in-Ok.ensures.cases.0 ∙ (c.deref-2.ensures.value ∙ all_kept bytes c.args.read.now keeps (sym c.is_too_long.ensures ∙ c.if-is_too_long.false)) in
+    no_script
+    (no_script_in _ _ c.in-Ok.text.now bytes c.in-Err-any_script.fault same (keeps.utf8.0 is_text) c.in-Err-any_script.ensures.fault
+    (c.refuse_script-in-Err-any_script.ensures.printed two))
 
 pub returns-in-Err-clause-refused : goal.returns-in-Err-clause-refused
 returns-in-Err-clause-refused g c two bytes keeps =

@@ -1,5 +1,5 @@
 use Rattle.link_heart.specs.Machine.{one_taken, emptied}
-use Rattle.link_heart.proofs.Repeats.{goes_on, ends, is_spent, empties, rests}
+use Rattle.link_heart.proofs.Repeats.{goes_on, ends, is_spent, empties}
 use Rattle.link_heart.proofs.heart.Heart.empty_ring.Goals as goal
 
 pub loop-left-init : goal.loop-left-init

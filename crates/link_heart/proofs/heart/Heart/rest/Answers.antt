@@ -1,6 +1,5 @@
-use Rattle.std.proofs.Common.{length, ap}
 use Rattle.link_heart.specs.Machine.{moved, rested}
-use Rattle.link_heart.proofs.Repeats.{goes_on, ends, is_spent, empties, rests}
+use Rattle.link_heart.proofs.Repeats.{goes_on, ends, is_spent, rests}
 use Rattle.link_heart.proofs.heart.Heart.rest.Goals as goal
 
 pub loop-left-init : goal.loop-left-init
