@@ -1,15 +1,15 @@
 //! The command `line`.
 ghost use Rattle.std.specs.Prelude.{◌≡◌, ◌⊎◌, IfOk};
 
-use crate::words::LineEnd;
+use crate::words::{LineEnd, Named, own_set};
 use line_orders::LineOrders;
-use line_play::{MOST_AHEAD, NewError, Terminal, link_desk, run_link};
+use line_play::{MOST_AHEAD, SetWord, Terminal, link_desk, new_terminal, run_link};
 use line_streams::{Errors, open_orders, open_reports};
-use std::fs::File;
-use std::io;
+use std::fs::{self, File};
+use std::io::{self, Read};
 use std::rt::{Files, Runtime};
 use std::thread::Threads;
-use text_check::{FAILED, refuse};
+use text_check::FAILED;
 
 /// Has a terminal speak on the line of standard input and standard output.
 fn speak<R: Runtime + Files<File = File> + AllocGlobal + Threads>(
@@ -24,33 +24,61 @@ fn speak<R: Runtime + Files<File = File> + AllocGlobal + Threads>(
     let reports = open_reports(rt, alloc, end.reports, Errors { rt })?;
     let mut desk = link_desk(terminal, orders, reports);
     let ahead = end.ahead.min(MOST_AHEAD);
-    let status = run_link(alloc, &mut desk, end.bits, ahead, &mut rt.reader(), &mut io::writer(rt));
+    let status = run_link(
+        alloc,
+        &mut desk,
+        end.bits,
+        ahead,
+        &mut rt.reader(),
+        &mut io::writer(rt),
+    );
     desk.reports.end(rt);
     Ok(status)
 }
 
-/// Tells on standard error why there is no terminal.
-fn tell_refusal<R: Runtime + AllocGlobal>(rt: &R, error: &NewError) -> u8
-    ensures { (result ≡ 2) ⊎ (result ≡ 4) }
+/// Has a terminal over a set speak on the line.
+fn run_on<R: Runtime + Files<File = File> + AllocGlobal + Threads, S: Read + Drop>(
+    rt: &R,
+    end: &LineEnd<'_>,
+    set: SetWord<S>,
+) -> u8
+    ensures { (result ≡ 0) ⊎ (result ≡ 2) ⊎ (result ≡ 4) }
 {
-    match error {
-        NewError::NoMemory => FAILED,
-        error => refuse(rt.alloc(), &mut Errors { rt }, &format_args!("refused {error}")),
+    match new_terminal(rt.alloc(), end.mode, set, &mut Errors { rt }) {
+        Ok(terminal) => match speak(rt, end, terminal) {
+            Ok(status) => status,
+            Err(_) => FAILED,
+        },
+        Err(status) => status,
     }
 }
 
-/// Runs `line`.
+/// Has a terminal over a set of the program's own speak on the line.
+fn run_own<R: Runtime + Files<File = File> + AllocGlobal + Threads>(
+    rt: &R,
+    end: &LineEnd<'_>,
+) -> u8
+    ensures { (result ≡ 0) ⊎ (result ≡ 2) ⊎ (result ≡ 4) }
+{
+    match own_set(&end.set) {
+        Some(own) => run_on(rt, end, own),
+        None => FAILED,
+    }
+}
+
+/// Runs `line`. Standard input is the line: a request for it as a text, which no command line makes, fails.
 pub fn run_line<R: Runtime + Files<File = File> + AllocGlobal + Threads>(
     rt: &R,
     end: &LineEnd<'_>,
 ) -> u8
     ensures { (result ≡ 0) ⊎ (result ≡ 2) ⊎ (result ≡ 4) }
 {
-    match Terminal::new(rt.alloc(), end.mode) {
-        Ok(terminal) => match speak(rt, end, terminal) {
-            Ok(status) => status,
+    match end.set {
+        Named::File(path) => match fs::open(rt, path) {
+            Ok(file) => run_on(rt, end, SetWord::Text(file)),
             Err(_) => FAILED,
         },
-        Err(error) => tell_refusal(rt, &error),
+        Named::Standard | Named::Monitors => run_own(rt, end),
+        Named::Stdin => FAILED,
     }
 }
