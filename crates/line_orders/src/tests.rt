@@ -45,14 +45,20 @@ fn obeyed(alloc: Global, stream: &[u8], most: usize) -> io::Result<String> {
 
 const ROWS: [(&[u8], &str); 6] = [
     (b"", ""),
-    (b"power\n\n# one\n  state   LSC \nstop", "1 power\n1 state LSC\n"),
+    (
+        b"power\n\n# one\n  state   LSC \nstop",
+        "1 power\n1 state LSC\n",
+    ),
     (
         b"at 3\nstart\n5 in service\n7 ok msu 85\nat 2\nquit\n",
         "3 start\n7 msu 85\n7 quit\n",
     ),
     (b"at\nat x\n4 ok\n4 refused X1 BadLine\n", "1 at\n1 at x\n"),
     (b"\xff\nback\n", "1 \n1 back\n"),
-    (b"99999999999999999999 ok stop\nfree\n", "1 99999999999999999999 ok stop\n1 free\n"),
+    (
+        b"99999999999999999999 ok stop\nfree\n",
+        "1 99999999999999999999 ok stop\n1 free\n",
+    ),
 ];
 
 #[test]

@@ -66,6 +66,7 @@ fn word_command<'a>(word: &str) -> Option<TermCommand<'a>>
 }
 
 /// What the words of an order tell a terminal, if they tell it something.
+#[tactic(auto, unfolding(crate::specs::Commands::line_command_of))]
 pub fn line_command<'a>(
     alloc: Global,
     words: &[&'a str],

@@ -36,6 +36,7 @@ fn hear(terminal: &mut Terminal, octet: u8) -> io::Result<()>
 }
 
 /// Lets a millisecond pass.
+#[tactic(auto, unfolding(crate::specs::LinkActs::after_tick))]
 fn pass(terminal: &mut Terminal) -> io::Result<()>
     ensures { OnOk result (terminal.new ≡ after_tick terminal.old) }
 {

@@ -7,9 +7,9 @@ ghost use Rattle.line_play.specs.Lines.{IsNewDesk, end_acts};
 use crate::link_end::LinkEnd;
 use line_filter::{Bits, Desk, Orders, Voice, run_line};
 use link_term::Terminal;
+use printed_lines::{FAILED, HELD};
 use std::alloc::Global;
 use std::io::{Read, Write};
-use printed_lines::{FAILED, HELD};
 
 /// A terminal on a line, before any octet came or went, with what gives it orders and where it tells what becomes of it.
 pub fn link_desk<O, P>(terminal: Terminal, orders: O, reports: P) -> Desk<LinkEnd, O, P>

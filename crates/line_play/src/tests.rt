@@ -11,8 +11,11 @@ use std::io::{self, ErrorKind};
 type End<'a> = Desk<LinkEnd, LineOrders<&'a [u8]>, Vec<u8>>;
 
 /// What the ends are told: both start with short proving, one sends a message, goes out of service and comes back.
-const FIRST: &[u8] = b"power\nemergency\nstart\nat 2000\nmsu 850102030405\nstate LSC\nnonsense\nat 2300\nstop\nat 2600\nstart\n";
-const SECOND: &[u8] = b"# as a report tells it\n2 in service\n1 ok power\n1 ok emergency\n2 ok start\nat 2100\nmsu 85AABBCCDD\nat 2500\nstart\n";
+const FIRST: &[u8] =
+    b"power\nemergency\nstart\nat 2000\nmsu 850102030405\nstate LSC\nnonsense\nat 2300\nstop\nat 2600\nstart\n";
+
+const SECOND: &[u8] =
+    b"# as a report tells it\n2 in service\n1 ok power\n1 ok emergency\n2 ok start\nat 2100\nmsu 85AABBCCDD\nat 2500\nstart\n";
 
 /// How many milliseconds pass.
 const LIFE: u32 = 5000;

@@ -33,6 +33,7 @@ fn message_text(alloc: Global, message: &Msu) -> Result<String, AllocError>
 
 /// What is told of a report: `in service`, `down R` with the reason, `far out`, `far back`, or `message HEX` with the octets of the
 /// message, its service information octet first.
+#[tactic(auto, unfolding(crate::specs::Told::report_text))]
 pub fn report_text(alloc: Global, report: &Report) -> Result<String, AllocError>
     ensures { IfOk result (λ text. string_bytes text ≡ report_text report.now) }
 {

@@ -31,8 +31,9 @@ impl Arrivals {
     pub fn start<R: Files + Threads>(rt: &R, alloc: Global, file: File) -> io::Result<Arrivals> {
         let (producer, consumer) = RingBuffer::new(alloc, PART)?;
         let (reader, writer) = rt.pipe()?;
-        let _thread = thread::spawn(rt, move || carry_in(file, producer, reader))
-            .map_err(io::Error::from)?;
+        let _thread = thread::spawn(rt, move || carry_in(file, producer, reader)).map_err(
+            io::Error::from,
+        )?;
         Ok(Arrivals {
             ring: consumer,
             taken: writer,

@@ -54,10 +54,7 @@ fn run_on<R: Runtime + Files<File = File> + AllocGlobal + Threads, S: Read + Dro
 }
 
 /// Has a terminal over a set of the program's own speak on the line.
-fn run_own<R: Runtime + Files<File = File> + AllocGlobal + Threads>(
-    rt: &R,
-    end: &LineEnd<'_>,
-) -> u8
+fn run_own<R: Runtime + Files<File = File> + AllocGlobal + Threads>(rt: &R, end: &LineEnd<'_>) -> u8
     ensures { (result ≡ 0) ⊎ (result ≡ 2) ⊎ (result ≡ 4) }
 {
     match own_set(&end.set) {

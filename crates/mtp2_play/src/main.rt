@@ -27,7 +27,10 @@ use unit_frame::frame;
 pub use words::{LineEnd, Named, Request, Source};
 
 /// Runs one command, and gives the exit status.
-fn run<R: Runtime + Files<File = File> + AllocGlobal + Threads + Wait + Sync>(rt: &R, request: &Request<'_>) -> u8
+fn run<R: Runtime + Files<File = File> + AllocGlobal + Threads + Wait + Sync>(
+    rt: &R,
+    request: &Request<'_>,
+) -> u8
     ensures { (result ≡ 0) ⊎ (result ≡ 1) ⊎ (result ≡ 2) ⊎ (result ≡ 4) }
 {
     match request {
@@ -154,7 +157,10 @@ fn answer<R: Runtime + AllocGlobal>(rt: &R, error: &Error) -> u8
 }
 
 /// Does what the words of a command line say, the program's own name first. Gives the exit status.
-fn serve<R: Runtime + Files<File = File> + AllocGlobal + Threads + Wait + Sync>(rt: &R, given: &[String]) -> u8 {
+fn serve<R: Runtime + Files<File = File> + AllocGlobal + Threads + Wait + Sync>(
+    rt: &R,
+    given: &[String],
+) -> u8 {
     match words::read(rt.alloc(), given) {
         Ok(request) => run(rt, &request),
         Err(error) => answer(rt, &error),
@@ -162,7 +168,9 @@ fn serve<R: Runtime + Files<File = File> + AllocGlobal + Threads + Wait + Sync>(
 }
 
 /// Reads the command line, and does what it says.
-fn start<R: Runtime + Files<File = File> + AllocGlobal + Threads + Wait + Sync>(rt: &R) -> io::Result<u8> {
+fn start<R: Runtime + Files<File = File> + AllocGlobal + Threads + Wait + Sync>(
+    rt: &R,
+) -> io::Result<u8> {
     let given: Vec<String> = env::args(rt)?.collect(rt.alloc())?;
     Ok(serve(rt, given.as_slice()))
 }

@@ -293,10 +293,9 @@ fn soak_command<'a>(alloc: Global) -> Result<Command<'a>, AllocError> {
 
 /// The options of the command `line`.
 fn with_line_options<'a>(alloc: Global, command: Command<'a>) -> Result<Command<'a>, AllocError> {
-    let text = Arg::new(alloc, "text")
-        .long("text")
-        .value_name("TEXT")
-        .help("standard (as where nothing is said), or a file with the text of a set of processes");
+    let text = Arg::new(alloc, "text").long("text").value_name("TEXT").help(
+        "standard (as where nothing is said), or a file with the text of a set of processes",
+    );
     let orders = Arg::new(alloc, "orders")
         .long("orders")
         .value_name("PATH")
@@ -309,10 +308,9 @@ fn with_line_options<'a>(alloc: Global, command: Command<'a>) -> Result<Command<
         .long("bits")
         .value_name("low|high")
         .help("Which bit of an octet is the first on the line; low where nothing is said");
-    let ahead = Arg::new(alloc, "ahead")
-        .long("ahead")
-        .value_name("N")
-        .help("How many octets of 1s go out before any octet came in, 0 to 8000; else none");
+    let ahead = Arg::new(alloc, "ahead").long("ahead").value_name("N").help(
+        "How many octets of 1s go out before any octet came in, 0 to 8000; else none",
+    );
     command
         .arg(text)?
         .arg(orders)?
@@ -327,7 +325,9 @@ fn line_command<'a>(alloc: Global) -> Result<Command<'a>, AllocError> {
         .help("The error correction: basic or cyclic")
         .required(true);
     let command = Command::new(alloc, "line")
-        .about("Puts one end of a signalling link on a channel of 64 kbit/s: line octets come on standard input and go to standard output")
+        .about(
+            "Puts one end of a signalling link on a channel of 64 kbit/s: line octets come on standard input and go to standard output",
+        )
         .after_help(
             "Writes one octet for each that it reads; 8 octets are a millisecond, and no clock is read. Orders: power, start, stop, emergency, calm,\noutage, back, busy, free, msu HEX, at MS (what follows waits until that millisecond), state P, value P x, quit; # begins a comment,\nand a report MS ok ORDER is obeyed as at MS and that order. Reports, each behind its millisecond: in service, down R, far out,\nfar back, message HEX, state P S, value P x V, ok ORDER, refused CODE Name, lost N (what a FIFO had no room for).\nExits with 0 at the end of input or after quit, 2 after refused CODE Name on standard error where the text is refused, 4 where memory,\na file, a read or a write fails.",
         )

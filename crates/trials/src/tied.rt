@@ -59,11 +59,7 @@ fn life_of(text: &str) -> Option<Life<'_>> {
 /// A new end.
 fn new_end<'a>(alloc: Global, mode: Mode, orders: &'a [u8]) -> Result<End<'a>, Stopped> {
     let terminal = terminal(alloc, mode)?;
-    Ok(link_desk(
-        terminal,
-        LineOrders::new(alloc, orders),
-        Vec::new(alloc),
-    ))
+    Ok(link_desk(terminal, LineOrders::new(alloc, orders), Vec::new(alloc)))
 }
 
 /// An end hears octets, and speaks behind what was sent.
@@ -173,7 +169,14 @@ fn is_same_by_ones(alloc: Global, life: &Life<'_>, traffic: &Traffic) -> Result<
         is_interrupted: false,
     };
     let mut sent = Vec::new(alloc);
-    let status = run_link(alloc, &mut end, Bits::High, AHEAD.len(), &mut reader, &mut sent);
+    let status = run_link(
+        alloc,
+        &mut end,
+        Bits::High,
+        AHEAD.len(),
+        &mut reader,
+        &mut sent,
+    );
     let sent = reversed(alloc, &sent)?;
     Ok(status == 0 && sent.as_slice() == traffic.there.as_slice())
 }
@@ -204,9 +207,11 @@ fn is_stopped(alloc: Global, life: &Life<'_>, traffic: &Traffic) -> Result<bool,
         writes: 0,
     };
     let status = run_link(alloc, &mut end, Bits::Low, 0, &mut reader, &mut writer);
-    Ok(status == 4
-        && writer.kept.len() == AHEAD.len() + 2 * PART
-        && traffic.there.starts_with(&writer.kept))
+    Ok(
+        status == 4
+            && writer.kept.len() == AHEAD.len() + 2 * PART
+            && traffic.there.starts_with(&writer.kept),
+    )
 }
 
 /// A figure of octets: their CRC-32, begun by so many.

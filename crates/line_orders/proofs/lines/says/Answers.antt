@@ -16,7 +16,7 @@ pub returns-in-Ok : goal.returns-in-Ok
 returns-in-Ok c =
     let read = c.in-Ok.ensures.cases in
     let same : line_says c.args.line.now ≡ says_of (words_of c.args.line.now) =
-        text_says c.args.line.now c.if-line-gt-MOST_OCTETS.false (is_utf8-from_IsUtf8 _ read.1) in
+    text_says c.args.line.now c.if-line-gt-MOST_OCTETS.false (is_utf8-from_IsUtf8 _ read.1) in
     IfOk-weaker c.line_says.result _ _ (λ s h. h ∙ (ap (λ t. says_of (words_of t)) read.0 ∙ sym same)) c.line_says.ensures
 
 pub returns-in-Err : goal.returns-in-Err
