@@ -1,18 +1,15 @@
 -- Why there is no terminal over a set.
-use Rattle.std.proofs.Common.{◌≡◌, ℕ, List, Option, absurd}
+use Rattle.std.proofs.Common.{ℕ, List, Option}
 use Rattle.turn_code.specs.declared.draft.Draft.{Draft}
-use Rattle.resend_store.specs.declared.messages.Mode.{Mode}
-use Rattle.link_term.specs.Opening.{IsOver, IsRefusedOver}
-use Rattle.link_term.specs.Term.{Term}
+use Rattle.link_term.specs.Opening.{IsRefusedOver}
 use Rattle.link_term.specs.declared.opening.OpenError.{OpenError}
 use Rattle.link_term.specs.declared.opening.OpenError.TheVariants.{NoName, NoMemory}
-use Rattle.term_play.specs.Checked.{IsGiven, IsSetOf, IsRefusalOf, IsRefusal, PrintsRefusal}
+use Rattle.term_play.specs.Checked.{IsGiven, IsSetOf, PrintsRefusal}
 use Rattle.term_play.specs.TermRuns.{PrintsLacking, LacksName}
-use Rattle.line_play.specs.Opening.{IsNewOver, IsNoSet, by_fault, by_name}
+use Rattle.line_play.specs.Opening.{IsNoSet, by_fault, by_name}
 
-pub new_over : (known : Option (List ℕ)) (mode : Mode) (d : Draft) (t : Term) → IsGiven known (λ bytes. IsSetOf bytes d) → IsOver d mode t
-    → IsGiven known (IsNewOver mode t)
-new_over known mode d t h over = record { bytes = h.bytes; are_known = h.are_known; holds = record { draft = d; is_set = h.holds; over = over } }
+pub no_text : (known old new : Option (List ℕ)) → IsGiven known (PrintsRefusal old new) → IsGiven known (IsNoSet old new)
+no_text known old new h = record { bytes = h.bytes; are_known = h.are_known; holds = by_fault h.holds }
 
 lacking : (d : Draft) (error : OpenError) (old new : Option (List ℕ)) → IsRefusedOver d error → PrintsLacking error old new → LacksName d old new
 lacking d (NoName w) old new h printed = record { name = w; lacks = h; printed = printed }

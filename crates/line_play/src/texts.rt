@@ -1,5 +1,5 @@
 //! What is told.
-ghost use Rattle.std.specs.Prelude.{◌≡◌, ◌++◌, List, ℕ, ⊥, IfOk, IfSome, IsNone, codes, string_bytes};
+ghost use Rattle.std.specs.Prelude.{◌≡◌, ◌++◌, ◌∷◌, List, ℕ, IfOk, IfSome, IsNone, codes, string_bytes};
 ghost use Rattle.line_play.specs.Told.{status_text, message_text, report_text, IsAnswerOf, IsBadLine};
 
 use line_filter::Answer;
