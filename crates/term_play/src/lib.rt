@@ -6,7 +6,7 @@ mod orders;
 mod terminals;
 mod unit_line;
 
-pub use answers::message;
+pub use answers::{answer, message};
 pub use book_play::{
     FAILED, HELD, MISSED, Printer, SetWord, load_set, play_book, refuse, refused_line, state_line,
     text_line, value_line, write_line, write_refusal,
