@@ -91,12 +91,7 @@ fn play_text<W: Write>(alloc: Global, set: &Verified, read: &TextRead, writer: &
 }
 
 /// Runs a script of a book or of a terminal.
-fn play_other<W: Write>(
-    alloc: Global,
-    set: &Verified,
-    script: &AnyScript<'_>,
-    writer: &mut W,
-) -> u8
+fn play_other<W: Write>(alloc: Global, set: &Verified, script: &AnyScript<'_>, writer: &mut W) -> u8
     requires { IsInRange script.now }
     ensures held { result ≡ 0 → IsOtherObeyed set.now (plain_any_script script.now) (W.contents writer.old) (W.contents writer.new) }
     ensures missed { result ≡ 1 → IsOtherMissed set.now (plain_any_script script.now) (W.contents writer.old) (W.contents writer.new) }
