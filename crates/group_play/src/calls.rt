@@ -4,7 +4,8 @@ ghost use Rattle.term_play.specs.TermAnswers.{command_of, IsRefusedLine};
 ghost use Rattle.group_play.specs.GroupAnswers.{IsTold, Passes, IsSent, Fails, IsHeard, Rebalances, IsBarredLine};
 
 use crate::saying::{done, no_link, octets_line, refused};
-use link_group::{CallError, CommandError, Group, label_of};
+use link_group::{CallError, CommandError, Group};
+use link_labels::label_of;
 use std::alloc::{AllocError, Global};
 use term_lines::Order;
 use term_play::{command_of, message, refused_line, text_line};
