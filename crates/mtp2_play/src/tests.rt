@@ -66,13 +66,18 @@ const ASKED: [(&[&str], &str); 25] = [
         &["mtp2_play", "soak", "x", "--workers", "16"],
         "soak File(\"x\") 16",
     ),
-    (
-        &["mtp2_play", "line", "basic"],
-        "line Basic Standard Low 0",
-    ),
+    (&["mtp2_play", "line", "basic"], "line Basic Standard Low 0"),
     (
         &[
-            "mtp2_play", "line", "cyclic", "--bits", "high", "--ahead", "8000", "--text", "a",
+            "mtp2_play",
+            "line",
+            "cyclic",
+            "--bits",
+            "high",
+            "--ahead",
+            "8000",
+            "--text",
+            "a",
         ],
         "line Cyclic File(\"a\") High 8000",
     ),
