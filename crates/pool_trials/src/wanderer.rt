@@ -158,8 +158,8 @@ impl<'a, C: Clock> Wanderer<'a, C> {
         match self.below(8) {
             0 => Value::Int(i32::MAX),
             1 => Value::Int(i32::MIN),
-            2 => Value::Int(self.below(1_000_000) as i32),
-            small => Value::Int(small as i32),
+            2 => Value::Int(i32::try_from(self.below(1_000_000)).unwrap_or(0)),
+            small => Value::Int(i32::try_from(small).unwrap_or(0)),
         }
     }
 
@@ -169,8 +169,8 @@ impl<'a, C: Clock> Wanderer<'a, C> {
         match self.ways.get(place) {
             Some(way) if self.below(64) != 0 => *way,
             _ => Way {
-                actor: self.below(18) as u16,
-                signal: SignalNumber(self.below(256) as u8),
+                actor: u16::try_from(self.below(18)).unwrap_or(0),
+                signal: SignalNumber(u8::try_from(self.below(256)).unwrap_or(0)),
             },
         }
     }
