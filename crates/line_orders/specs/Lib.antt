@@ -1,1 +1,3 @@
 pub mod Says
+pub mod Streams
+pub mod Reading

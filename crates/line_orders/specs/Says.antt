@@ -2,10 +2,14 @@
 use Rattle.std.specs.Prelude.{ℕ, ◌==◌, Bool, if◌then◌else◌, List, [], ◌∷◌, ◌++◌, Option, None, Some, codes, string_bytes}
 use Rattle.std.specs.List.{flat_map}
 use Rattle.std.specs.Str.{bytes_eq}
-use Rattle.script_lines.specs.Numbers.{count_of}
+use Rattle.script_lines.specs.Numbers.{number_up_to}
 use Rattle.script_lines.specs.Lines.{is_silent}
 use Rattle.line_orders.specs.declared.says.LineSays.{LineSays}
 use Rattle.line_orders.specs.declared.says.LineSays.TheVariants as code
+
+-- a millisecond: digits alone, as far as 64 bits hold it
+abbrev pub millisecond_of : List ℕ → Option ℕ
+millisecond_of word = number_up_to 18446744073709551615 word
 
 pub data PlainSays : Type 0 where
   nothing : PlainSays
@@ -35,7 +39,7 @@ by_time None first words = order (joined first words)
 by_time (Some millisecond) first words = at millisecond
 
 abbrev pub by_at : Bool → List ℕ → List (List ℕ) → PlainSays
-by_at is_at first (word ∷ []) = if is_at then by_time (count_of word) first (word ∷ []) else order (joined first (word ∷ []))
+by_at is_at first (word ∷ []) = if is_at then by_time (millisecond_of word) first (word ∷ []) else order (joined first (word ∷ []))
 by_at is_at first words = order (joined first words)
 
 abbrev pub by_first : Option ℕ → List ℕ → List (List ℕ) → PlainSays
@@ -45,4 +49,4 @@ by_first None first words = by_at (bytes_eq first (codes "at")) first words
 -- Blank lines and comments say nothing, and a line that is no order says one that no terminal obeys.
 abbrev pub says_of : List (List ℕ) → PlainSays
 says_of [] = nothing
-says_of (first ∷ words) = if is_silent (first ∷ words) then nothing else by_first (count_of first) first words
+says_of (first ∷ words) = if is_silent (first ∷ words) then nothing else by_first (millisecond_of first) first words

@@ -5,7 +5,8 @@ ghost use Rattle.script_lines.specs.Lines.{texts, is_silent};
 ghost use Rattle.script_lines.specs.Words.{words_of};
 ghost use Rattle.line_orders.specs.Says.{order, plain_says, joined, by_report, by_at, by_first, says_of};
 
-use script_lines::{count, words_in};
+use crate::times::millisecond;
+use script_lines::words_in;
 use std::alloc::{AllocError, Global};
 
 /// What a line of a stream of orders says.
@@ -14,11 +15,11 @@ pub enum LineSays {
     /// Nothing: it is blank, a comment, or a report of what isn't an order.
     Nothing,
     /// `at MS`: what follows waits until this millisecond.
-    At(u32),
+    At(u64),
     /// An order: its words, parted by one space.
     Order(String),
     /// `MS ok ORDER`, a report: an order, and the millisecond at which it was obeyed.
-    OrderAt(u32, String),
+    OrderAt(u64, String),
 }
 
 /// Words, parted by one space.
@@ -45,7 +46,7 @@ fn is_silent(words: &[&str]) -> bool
 }
 
 /// What a report says, by the words behind its millisecond.
-fn report_says(alloc: Global, millisecond: u32, words: &[&str]) -> Result<LineSays, AllocError>
+fn report_says(alloc: Global, millisecond: u64, words: &[&str]) -> Result<LineSays, AllocError>
     ensures { IfOk result (λ s. plain_says s ≡ by_report millisecond (texts words.now)) }
 {
     match words {
@@ -74,7 +75,7 @@ fn plain_line_says(alloc: Global, first: &str, words: &[&str]) -> Result<LineSay
     match words {
         [word] => {
             if first == "at" {
-                match count(word) {
+                match millisecond(word) {
                     Some(millisecond) => Ok(LineSays::At(millisecond)),
                     None => order_says(alloc, first, words),
                 }
@@ -94,7 +95,7 @@ fn words_say(alloc: Global, words: &[&str]) -> Result<LineSays, AllocError>
         return Ok(LineSays::Nothing);
     }
     match words {
-        [first, more @ ..] => match count(first) {
+        [first, more @ ..] => match millisecond(first) {
             Some(millisecond) => report_says(alloc, millisecond, more),
             None => plain_line_says(alloc, first, more),
         },

@@ -47,7 +47,7 @@ pub fn order_in(word: &str) -> Option<Order>
 }
 
 /// The kind of error correction that a word names, in this case alone.
-fn mode_named(word: &str) -> Option<Mode>
+pub fn mode_named(word: &str) -> Option<Mode>
     ensures { result ≡ mode_named word.now }
 {
     if word == "basic" {

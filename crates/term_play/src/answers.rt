@@ -43,8 +43,9 @@ fn tick(alloc: Global, terminal: &mut Terminal, ticks: u32) -> Result<Vec<u8>, A
     }
 }
 
-/// The message of these octets: its service information octet, and its signalling information field.
-fn message(octets: &[u8]) -> Option<Msu>
+/// The message of these octets: its service information octet, and its signalling information field. None of no octets, nor where the field
+/// has more than 272.
+pub fn message(octets: &[u8]) -> Option<Msu>
     ensures { IfSome result (IsMessageOf octets.now) }
 {
     match octets {

@@ -134,8 +134,8 @@ fn play_on<W: Write>(
     }
 }
 
-/// Writes why there is no terminal over a set. Gives the exit status.
-fn refuse_set<W: Write>(alloc: Global, writer: &mut W, error: OpenError) -> u8
+/// Writes why there is no terminal over a set: `refused X2 NoName NAME`. Gives the exit status, 2, or 4 where memory or a write fails.
+pub fn refuse_set<W: Write>(alloc: Global, writer: &mut W, error: OpenError) -> u8
     ensures printed { result ≡ 2 → PrintsLacking error (W.contents writer.old) (W.contents writer.new) }
     ensures status { (result ≡ 2) ⊎ (result ≡ 4) }
 {

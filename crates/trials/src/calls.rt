@@ -35,8 +35,23 @@ fn why_stopped(error: CallError) -> Stopped {
 pub fn terminal(alloc: Global, mode: Mode) -> Result<Terminal, Stopped> {
     match Terminal::new(alloc, mode) {
         Ok(terminal) => Ok(terminal),
-        Err(NewError::Open(OpenError::NoMemory)) => Err(Stopped::NoMemory),
-        Err(_) => Err(Stopped::Refused),
+        Err(error) => Err(why_not_made(&error)),
+    }
+}
+
+/// Why a terminal wasn't made.
+fn why_not_made(error: &NewError) -> Stopped {
+    match error {
+        NewError::Load(_) => Stopped::Refused,
+        NewError::Open(error) => why_not_opened(error),
+    }
+}
+
+/// Why a terminal wasn't made over a set.
+fn why_not_opened(error: &OpenError) -> Stopped {
+    match error {
+        OpenError::NoName(_) => Stopped::Refused,
+        OpenError::NoMemory => Stopped::NoMemory,
     }
 }
 

@@ -1,0 +1,8 @@
+mod CallAnswers
+mod HandAnswers
+mod LineAnswers
+mod ShownAnswers
+mod GroupRuns
+mod Openings
+pub use Rattle.term_play.proofs.Long
+pub use Rattle.term_play.proofs.Prints

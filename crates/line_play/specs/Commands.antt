@@ -1,0 +1,37 @@
+-- What an order on a line says.
+use Rattle.std.specs.Prelude.{ℕ, Bool, true, false, if◌then◌else◌, List, [], ◌∷◌, Option, None, Some, option_map, option_and_then}
+use Rattle.term_lines.specs.Orders.{order_of}
+use Rattle.term_lines.specs.TermCommands.{PlainTermCommand, order, unit, line, msu, out, ticks, state, shown, expected, term_command_of}
+
+-- of a script's commands those that leave the line and its time alone
+abbrev pub is_on_line : PlainTermCommand → Bool
+is_on_line (order o) = true
+is_on_line (unit octets) = false
+is_on_line (line octets) = false
+is_on_line (msu octets) = true
+is_on_line (out n) = false
+is_on_line (ticks n) = false
+is_on_line (state process) = true
+is_on_line (shown process variable) = true
+is_on_line (expected text) = false
+
+-- those that ask for something, and change nothing
+abbrev pub is_question : PlainTermCommand → Bool
+is_question (order o) = false
+is_question (unit octets) = false
+is_question (line octets) = false
+is_question (msu octets) = false
+is_question (out n) = false
+is_question (ticks n) = false
+is_question (state process) = true
+is_question (shown process variable) = true
+is_question (expected text) = false
+
+abbrev pub where_on_line : PlainTermCommand → Option PlainTermCommand
+where_on_line command = if is_on_line command then Some command else None
+
+-- what a terminal is told may stand alone, without `command`
+unfoldable pub line_command_of : List (List ℕ) → Option PlainTermCommand
+line_command_of [] = None
+line_command_of (word ∷ []) = option_map order (order_of word)
+line_command_of (first ∷ word ∷ words) = option_and_then where_on_line (term_command_of (first ∷ word ∷ words))

@@ -1,0 +1,52 @@
+-- What a signalling link terminal does on a line.
+use Rattle.std.specs.Prelude.{◌≡◌, ℕ, List, [], ◌∷◌, Option, None, Some, option_map}
+use Rattle.su_octets.specs.declared.units.Unit as units
+use Rattle.script_lines.specs.Words.{words_of}
+use Rattle.link_machine.specs.declared.event.Event.TheVariants.{Advance}
+use Rattle.link_side.specs.Reporting.{reported}
+use Rattle.link_term.specs.Machine.{offered, tidied}
+use Rattle.link_term.specs.Term.{Term, with_heart, with_half}
+use Rattle.link_term.specs.Hearing.{Heard}
+use Rattle.term_lines.specs.TermCommands.{PlainTermCommand}
+use Rattle.term_play.specs.TermAnswers.{next_of, behind_next, Answers}
+use Rattle.line_filter.specs.Acts.{Act, asked, heard, passed, reported as told, obeyed}
+use Rattle.line_filter.specs.declared.terminal.Answer.{Answer}
+use Rattle.line_play.specs.Commands.{is_question, line_command_of}
+use Rattle.line_play.specs.Told.{report_text, IsAnswerOf, IsBadLine}
+
+-- it was asked for its next unit
+pub record Gives (t : Term) (unit : Option units.Unit) (u : Term) : Type 0 where
+  pub unit_is : unit ≡ (next_of t).unit
+  pub after : u ≡ behind_next t
+
+-- a millisecond passed, which its processes took as a tick
+unfoldable pub after_tick : Term → Term
+after_tick t = with_heart t (offered (Advance 1) (tidied t.heart))
+
+-- what is told next is handed out
+pub record Tells (t : Term) (text : Option (List ℕ)) (u : Term) : Type 0 where
+  pub text_is : text ≡ option_map report_text (reported t.heart.side).report
+  pub after : u ≡ with_half t (reported t.heart.side).half
+
+-- an order is obeyed as a script's command is, of which it would print this line
+pub record ObeysOne (command : PlainTermCommand) (t : Term) (order : List ℕ) (answer : Answer) (u : Term) : Type 0 where
+  pub line : List ℕ
+  pub answers : Answers command t line u
+  pub answer_is : IsAnswerOf (is_question command) order line answer
+
+-- what reads as no order is refused, and nothing changes
+pub record Refuses (t : Term) (answer : Answer) (u : Term) : Type 0 where
+  pub bad : IsBadLine answer
+  pub same : u ≡ t
+
+abbrev pub ObeysBy : Option PlainTermCommand → Term → List ℕ → Answer → Term → Type 0
+ObeysBy None t order answer u = Refuses t answer u
+ObeysBy (Some command) t order answer u = ObeysOne command t order answer u
+
+-- how a terminal changes by what it does
+abbrev pub link_acts : Term → Act → Term → Type 0
+link_acts t (asked unit) u = Gives t unit u
+link_acts t (heard octet) u = Heard t (octet ∷ []) u
+link_acts t passed u = u ≡ after_tick t
+link_acts t (told text) u = Tells t text u
+link_acts t (obeyed order answer) u = ObeysBy (line_command_of (words_of order)) t order answer u

@@ -1,0 +1,16 @@
+//! A signalling link terminal on a line: what it does there, how it obeys and tells, and a whole run.
+#![tactic(auto)]
+
+mod commands;
+mod link_end;
+mod opening;
+mod running;
+mod texts;
+
+pub use commands::{line_command, mode_named};
+pub use line_filter::{Bits, Desk, MOST_AHEAD};
+pub use link_end::LinkEnd;
+pub use link_term::{Mode, Terminal};
+pub use opening::new_terminal;
+pub use running::{link_desk, run_link};
+pub use term_play::SetWord;

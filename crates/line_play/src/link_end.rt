@@ -1,0 +1,114 @@
+//! A signalling link terminal at the end of a line.
+ghost use Rattle.std.specs.Prelude.{◌≡◌, ◌∷◌, [], IfOk, OnOk, option_map, string_bytes};
+ghost use Rattle.script_lines.specs.Lines.{texts};
+ghost use Rattle.term_lines.specs.TermCommands.{plain_term_command};
+ghost use Rattle.link_term.specs.Hearing.{Heard};
+ghost use Rattle.line_play.specs.Commands.{line_command_of};
+ghost use Rattle.line_play.specs.LinkActs.{link_acts, after_tick, Tells, ObeysOne, ObeysBy};
+
+use crate::commands::{is_question, line_command};
+use crate::texts::{answer_of, bad_line, report_text};
+use line_filter::{Answer, LineTerminal};
+use link_term::Terminal;
+use script_lines::words_in;
+use std::alloc::Global;
+use std::io::{self, ErrorKind};
+use su_octets::Unit;
+use term_lines::TermCommand;
+use term_play::answer;
+
+/// A signalling link terminal at the end of a line.
+#[derive(Drop)]
+pub struct LinkEnd {
+    /// The terminal.
+    pub terminal: Terminal,
+}
+
+/// Hears an octet of the line. Where nothing waits to be told, it takes it unless memory is wanting.
+fn hear(terminal: &mut Terminal, octet: u8) -> io::Result<()>
+    ensures { OnOk result (Heard terminal.old (octet ∷ []) terminal.new) }
+{
+    if terminal.line_in(&[octet]) == 1 {
+        Ok(())
+    } else {
+        Err(io::Error::from(ErrorKind::OutOfMemory))
+    }
+}
+
+/// Lets a millisecond pass.
+#[tactic(auto, unfolding(crate::specs::LinkActs::after_tick))]
+fn pass(terminal: &mut Terminal) -> io::Result<()>
+    ensures { OnOk result (terminal.new ≡ after_tick terminal.old) }
+{
+    match terminal.tick(1) {
+        Ok(_) => Ok(()),
+        Err(_) => Err(io::Error::from(ErrorKind::OutOfMemory)),
+    }
+}
+
+/// What is to be told next.
+fn hand_out(alloc: Global, terminal: &mut Terminal) -> io::Result<Option<String>>
+    ensures { IfOk result (λ text. Tells terminal.old (option_map string_bytes text) terminal.new) }
+{
+    match terminal.report() {
+        Some(report) => {
+            let text = report_text(alloc, &report)?;
+            Ok(Some(text))
+        }
+        None => Ok(None),
+    }
+}
+
+/// Does what a command says.
+fn obey_command(
+    alloc: Global,
+    terminal: &mut Terminal,
+    order: &str,
+    command: &TermCommand<'_>,
+) -> io::Result<Answer>
+    ensures { IfOk result (λ a. ObeysOne (plain_term_command command.now) terminal.old order.now a terminal.new) }
+{
+    let line = answer(alloc, terminal, command)?;
+    answer_of(alloc, is_question(command), order, &line)
+}
+
+/// Does what the words of an order say.
+fn obey_words(
+    alloc: Global,
+    terminal: &mut Terminal,
+    order: &str,
+    words: &[&str],
+) -> io::Result<Answer>
+    ensures { IfOk result (λ a. ObeysBy (line_command_of (texts words.now)) terminal.old order.now a terminal.new) }
+{
+    match line_command(alloc, words)? {
+        Some(command) => obey_command(alloc, terminal, order, &command),
+        None => Ok(bad_line(alloc)?),
+    }
+}
+
+impl LineTerminal for LinkEnd {
+    ghost acts = { λ old act new. link_acts old.terminal act new.terminal };
+
+    fn unit_out(&mut self) -> io::Result<Option<Unit>> {
+        let unit = self.terminal.unit_out()?;
+        Ok(unit)
+    }
+
+    fn line_in(&mut self, octet: u8) -> io::Result<()> {
+        hear(&mut self.terminal, octet)
+    }
+
+    fn tick(&mut self) -> io::Result<()> {
+        pass(&mut self.terminal)
+    }
+
+    fn report(&mut self, alloc: Global) -> io::Result<Option<String>> {
+        hand_out(alloc, &mut self.terminal)
+    }
+
+    fn obey(&mut self, alloc: Global, order: &str) -> io::Result<Answer> {
+        let words = words_in(alloc, order)?;
+        obey_words(alloc, &mut self.terminal, order, &words)
+    }
+}

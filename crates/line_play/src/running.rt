@@ -1,0 +1,47 @@
+//! A terminal on a line, from its first octet to its last.
+ghost use Rattle.std.specs.Prelude.{◌≡◌, ◌≤◌, ◌⊎◌};
+ghost use Rattle.line_filter.specs.Desks.{state_of};
+ghost use Rattle.line_filter.specs.Filters.{MOST_AHEAD, IsOver};
+ghost use Rattle.line_play.specs.Lines.{IsNewDesk, end_acts};
+
+use crate::link_end::LinkEnd;
+use line_filter::{Bits, Desk, Orders, Voice, run_line};
+use link_term::Terminal;
+use printed_lines::{FAILED, HELD};
+use std::alloc::Global;
+use std::io::{Read, Write};
+
+/// A terminal on a line, before any octet came or went, with what gives it orders and where it tells what becomes of it.
+pub fn link_desk<O, P>(terminal: Terminal, orders: O, reports: P) -> Desk<LinkEnd, O, P>
+    ensures { IsNewDesk terminal orders reports result }
+{
+    Desk {
+        terminal: LinkEnd { terminal },
+        voice: Voice::new(),
+        orders,
+        reports,
+        count: 0,
+    }
+}
+
+/// Runs a terminal on its line, to the end of what there is to read or to an order that ends the run: so many octets of 1s go out first,
+/// at most [`line_filter::MOST_AHEAD`]. Gives the exit status: 0, or 4 where memory, a read or a write fails.
+pub fn run_link<O: Orders, P: Write, R: Read, W: Write>(
+    alloc: Global,
+    desk: &mut Desk<LinkEnd, O, P>,
+    bits: Bits,
+    ahead: usize,
+    reader: &mut R,
+    writer: &mut W,
+) -> u8
+    requires { ahead ≤ MOST_AHEAD }
+    ensures over { result ≡ 0 → IsOver end_acts bits ahead desk.old.count (state_of O.left desk.old) desk.new.count (state_of O.left desk.new)
+        (record { read = R.remaining reader.old; written = W.contents writer.old; told = P.contents desk.old.reports })
+        (record { read = R.remaining reader.new; written = W.contents writer.new; told = P.contents desk.new.reports }) }
+    ensures status { (result ≡ 0) ⊎ (result ≡ 4) }
+{
+    match run_line(alloc, desk, bits, ahead, reader, writer) {
+        Ok(()) => HELD,
+        Err(_) => FAILED,
+    }
+}

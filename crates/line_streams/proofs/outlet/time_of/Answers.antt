@@ -1,0 +1,5 @@
+use Rattle.line_streams.proofs.Times.{begins_at}
+use Rattle.line_streams.proofs.outlet.time_of.Goals as goal
+
+pub returns-then-line-place-eq32 : goal.returns-then-line-place-eq32
+returns-then-line-place-eq32 c = begins_at c.args.line.now _ c.loop-place-test.true c.if-line-place-eq32.true

@@ -1,0 +1,27 @@
+-- What goes on of the lines that are told where nothing may wait.
+use Rattle.std.specs.Prelude.{◌≡◌, ℕ, ◌+◌, ◌<◌, List, [], ◌∷◌, ◌++◌, length, codes}
+use Rattle.std.specs.Fmt.{decimal}
+use Rattle.rtrb.specs.Ring.{sent, known_free}
+use Rattle.line_streams.specs.declared.outlet.Outlet.{Outlet}
+
+-- what a line begins with, up to a space: its millisecond
+pub record Begins (line time : List ℕ) : Type 0 where
+  pub rest : List ℕ
+  pub parts : line ≡ time ++ 32 ∷ rest
+
+-- the line that tells how many lines before this one are lost, with this one's millisecond, and this one
+pub record IsLossTold (lost : ℕ) (line text : List ℕ) : Type 0 where
+  pub time : List ℕ
+  pub begins : Begins line time
+  pub are : text ≡ (((time ++ codes " lost ") ++ decimal lost) ++ 10 ∷ []) ++ line
+
+-- what is to go on for a line: the line, and before it how many were lost, where some were
+pub data IsToGo (lost : ℕ) (line : List ℕ) : List ℕ → Type 0 where
+  alone : {text : List ℕ} → lost ≡ 0 → text ≡ line → IsToGo lost line text
+  with_loss : {text : List ℕ} → 0 < lost → IsLossTold lost line text → IsToGo lost line text
+
+-- A line was told. It goes on whole, or there was no room, and it is counted.
+pub data TellsOn (line : List ℕ) (old new : Outlet) : Type 0 where
+  goes : (text : List ℕ) → IsToGo old.lost line text → sent new.ring ≡ sent old.ring ++ text → new.lost ≡ 0 → TellsOn line old new
+  is_lost : (text : List ℕ) → IsToGo old.lost line text → known_free new.ring < length text → sent new.ring ≡ sent old.ring → new.lost ≡ old.lost + 1
+      → TellsOn line old new

@@ -1,0 +1,133 @@
+//! Lines that a thread has go on.
+
+use crate::outlet::Outlet;
+use rtrb::{Consumer, RingBuffer};
+use std::alloc::Global;
+use std::fs::File;
+use std::io::{self, PipeReader, PipeWriter, Read, Write};
+use std::rt::Files;
+use std::sync::Arc;
+use std::sync::atomic::{AtomicU64, Ordering};
+use std::thread;
+use std::thread::Threads;
+
+/// How many octets may wait to go on.
+const ROOM: usize = 65_536;
+
+/// How many octets go on at once.
+const PART: usize = 4096;
+
+/// Lines that a thread has go on. Where it can't, since nobody takes them at the other end, lines are lost and counted, and nothing waits.
+///
+/// The thread isn't joined: it is left as the program ends.
+#[derive(Drop)]
+pub struct Departures {
+    alloc: Global,
+    outlet: Outlet,
+    /// How many octets went into the outlet.
+    put: u64,
+    /// How many the thread has had go on.
+    gone: Arc<AtomicU64>,
+    /// 1 where the thread sleeps, and nobody has waked it.
+    sleeps: Arc<AtomicU64>,
+    /// Where it is waked.
+    wakes: PipeWriter,
+}
+
+impl Departures {
+    /// Has a thread write to a file.
+    ///
+    /// # Errors
+    ///
+    /// Where there is no memory, no pipe or no thread.
+    pub fn start<R: Files + Threads>(rt: &R, alloc: Global, file: File) -> io::Result<Departures> {
+        let (producer, consumer) = RingBuffer::new(alloc, ROOM)?;
+        let (reader, writer) = rt.pipe()?;
+        let gone = Arc::new(alloc, AtomicU64::new(0))?;
+        let sleeps = Arc::new(alloc, AtomicU64::new(0))?;
+        let mut bed = Bed {
+            ring: consumer,
+            gone: Arc::try_clone(&gone)?,
+            sleeps: Arc::try_clone(&sleeps)?,
+            wakes: reader,
+        };
+        let mut file = file;
+        let _thread = thread::spawn(rt, move || carry_out(&mut file, &mut bed))?;
+        Ok(Departures {
+            alloc,
+            outlet: Outlet {
+                ring: producer,
+                lost: 0,
+            },
+            put: 0,
+            gone,
+            sleeps,
+            wakes: writer,
+        })
+    }
+
+    /// Wakes the thread if it sleeps.
+    fn wake(&mut self) -> io::Result<()> {
+        if self.sleeps.swap(0, Ordering::SeqCst) == 1 {
+            self.wakes.write_all(&[1])?;
+        }
+        Ok(())
+    }
+
+    /// Whether all that was put has gone on.
+    pub fn are_gone(&self) -> bool {
+        self.gone.load(Ordering::SeqCst) == self.put
+    }
+}
+
+impl Write for Departures {
+    fn write(&mut self, line: &[u8]) -> io::Result<usize> {
+        let count = self.outlet.put(self.alloc, line)?;
+        self.put = self.put.wrapping_add(count as u64);
+        self.wake()?;
+        Ok(line.len())
+    }
+
+    fn flush(&mut self) -> io::Result<()> {
+        Ok(())
+    }
+}
+
+/// What the thread has.
+#[derive(Drop)]
+struct Bed {
+    ring: Consumer<u8>,
+    gone: Arc<AtomicU64>,
+    sleeps: Arc<AtomicU64>,
+    wakes: PipeReader,
+}
+
+impl Bed {
+    /// Sleeps until there may be more. Whether it was waked, and not left alone.
+    fn sleep(&mut self) -> bool {
+        self.sleeps.store(1, Ordering::SeqCst);
+        if !self.ring.is_empty() && self.sleeps.swap(0, Ordering::SeqCst) == 1 {
+            return true;
+        }
+        let mut one = [0; 1];
+        self.wakes.read_exact(&mut one).is_ok()
+    }
+}
+
+/// Has all go on that comes, up to a write that fails.
+fn carry_out(file: &mut File, bed: &mut Bed) {
+    let mut part = [0; PART];
+    for _part in 0..u64::MAX {
+        let count = bed.ring.pop_partial_slice(&mut part);
+        if count == 0 {
+            if !bed.sleep() {
+                return;
+            }
+        } else {
+            if file.write_all(&part[..count]).is_err() {
+                return;
+            }
+            bed.gone.fetch_add(count as u64, Ordering::SeqCst);
+        }
+    }
+}

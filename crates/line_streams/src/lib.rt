@@ -1,0 +1,12 @@
+//! Where orders of a line come from, and where its reports go: files, and what may keep its other side waiting, by a thread each.
+#![tactic(auto)]
+
+mod arrivals;
+mod departures;
+mod opening;
+mod outlet;
+
+pub use arrivals::Arrivals;
+pub use departures::Departures;
+pub use opening::{Errors, OrderStream, ReportStream, open_orders, open_reports};
+pub use outlet::Outlet;

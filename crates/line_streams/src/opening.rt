@@ -1,0 +1,148 @@
+//! What is opened for orders and for reports.
+
+use crate::arrivals::Arrivals;
+use crate::departures::Departures;
+use std::alloc::Global;
+use std::fs::{self, File, OpenOptions};
+use std::io::{self, ErrorKind, Read, Write};
+use std::rt::Files;
+use std::str;
+use std::thread::{self, Threads};
+use std::time::{Clock, Duration};
+
+/// How often, a millisecond apart, it is asked at the end whether all reports went on.
+const MOST_WAITS: u32 = 1_000;
+
+/// Where orders come from.
+#[derive(Drop)]
+pub enum OrderStream {
+    /// There are none.
+    Nothing,
+    /// A regular file, read on as it grows.
+    File(File),
+    /// What may keep a reader waiting, as a FIFO.
+    Fifo(Arrivals),
+}
+
+impl Read for OrderStream {
+    fn read(&mut self, part: &mut [u8]) -> io::Result<usize> {
+        match self {
+            OrderStream::Nothing => Ok(0),
+            OrderStream::File(file) => file.read(part),
+            OrderStream::Fifo(arrivals) => arrivals.read(part),
+        }
+    }
+}
+
+/// Opens a file to read and to write: a FIFO then neither waits for its other side nor ends as that goes.
+fn open_both<R: Files<File = File>>(rt: &R, path: &str) -> io::Result<File> {
+    let mut how = OpenOptions::new();
+    how.read(true).write(true);
+    how.open(rt, path)
+}
+
+/// Opens what orders come from; none without a path.
+///
+/// # Errors
+///
+/// Where the path can't be opened, or there is no memory, no pipe or no thread.
+pub fn open_orders<R: Files<File = File> + Threads>(
+    rt: &R,
+    alloc: Global,
+    path: Option<&str>,
+) -> io::Result<OrderStream> {
+    let Some(path) = path else {
+        return Ok(OrderStream::Nothing);
+    };
+    if rt.metadata(path)?.is_file() {
+        return Ok(OrderStream::File(fs::open(rt, path)?));
+    }
+    let file = open_both(rt, path)?;
+    Ok(OrderStream::Fifo(Arrivals::start(rt, alloc, file)?))
+}
+
+/// Standard error.
+#[derive(Drop)]
+pub struct Errors<'a, R: Eprint> {
+    /// What prints there.
+    pub rt: &'a R,
+}
+
+impl<R: Eprint> Write for Errors<'_, R> {
+    fn write(&mut self, line: &[u8]) -> io::Result<usize> {
+        match str::from_utf8(line) {
+            Ok(text) => {
+                self.rt.eprint(text)?;
+                Ok(line.len())
+            }
+            Err(_) => Err(io::Error::from(ErrorKind::InvalidData)),
+        }
+    }
+
+    fn flush(&mut self) -> io::Result<()> {
+        Ok(())
+    }
+}
+
+/// Where reports go.
+#[derive(Drop)]
+pub enum ReportStream<E> {
+    /// Standard error, or what stands in its place.
+    Errors(E),
+    /// A regular file.
+    File(File),
+    /// What may keep a writer waiting, as a FIFO.
+    Fifo(Departures),
+}
+
+impl<E: Write> Write for ReportStream<E> {
+    fn write(&mut self, line: &[u8]) -> io::Result<usize> {
+        match self {
+            ReportStream::Errors(errors) => errors.write(line),
+            ReportStream::File(file) => file.write(line),
+            ReportStream::Fifo(departures) => departures.write(line),
+        }
+    }
+
+    fn flush(&mut self) -> io::Result<()> {
+        Ok(())
+    }
+}
+
+impl<E> ReportStream<E> {
+    /// Waits at the end for reports that are still to go on, a second at most.
+    pub fn end<R: Clock>(&self, rt: &R) {
+        let ReportStream::Fifo(departures) = self else {
+            return;
+        };
+        for _wait in 0..MOST_WAITS {
+            if departures.are_gone() {
+                return;
+            }
+            thread::sleep(rt, Duration::from_millis(1));
+        }
+    }
+}
+
+/// Opens where reports go: without a path there where `errors` writes. A regular file is made, or emptied.
+///
+/// # Errors
+///
+/// Where the path can't be opened, or there is no memory, no pipe or no thread.
+pub fn open_reports<R: Files<File = File> + Threads, E: Drop>(
+    rt: &R,
+    alloc: Global,
+    path: Option<&str>,
+    errors: E,
+) -> io::Result<ReportStream<E>> {
+    let Some(path) = path else {
+        return Ok(ReportStream::Errors(errors));
+    };
+    match rt.metadata(path) {
+        Ok(data) if !data.is_file() => {
+            let file = open_both(rt, path)?;
+            Ok(ReportStream::Fifo(Departures::start(rt, alloc, file)?))
+        }
+        _ => Ok(ReportStream::File(fs::create(rt, path)?)),
+    }
+}

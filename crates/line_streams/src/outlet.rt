@@ -1,0 +1,87 @@
+//! Lines that go on as far as there is room.
+ghost use Rattle.std.specs.Prelude.{◌≡◌, ◌<◌, ◌++◌, ◌+◌, length, true, false, OnOk, IfOk, IfSome};
+ghost use Rattle.rtrb.specs.Ring.{sent, known_free};
+ghost use Rattle.line_streams.specs.Departing.{Begins, IsLossTold, IsToGo, TellsOn};
+
+use rtrb::Producer;
+use std::alloc::Global;
+use std::io::{self, ErrorKind};
+
+/// Lines that go on, as far as there is room.
+#[derive(Drop)]
+pub struct Outlet {
+    /// What waits to go on.
+    pub ring: Producer<u8>,
+    /// How many lines found no room since the last that did.
+    pub lost: u64,
+}
+
+/// The millisecond that a line begins with.
+fn time_of(line: &[u8]) -> Option<&[u8]>
+    ensures { IfSome result (λ time. Begins line.now time.now) }
+{
+    for place in 0..line.len() {
+        if line[place] == b' ' {
+            return Some(&line[..place]);
+        }
+    }
+    None
+}
+
+/// A line, and before it how many were lost.
+fn loss_told(alloc: Global, lost: u64, time: &[u8], line: &[u8]) -> io::Result<Vec<u8>>
+    requires { Begins line.now time.now }
+    ensures { IfOk result (λ text. IsLossTold lost line.now text.items) }
+{
+    let mut text = Vec::from_slice(alloc, time)?;
+    let loss = format!(in alloc; " lost {lost}\n")?;
+    text.extend_from_slice(loss.as_bytes())?;
+    text.extend_from_slice(line)?;
+    Ok(text)
+}
+
+/// What is to go on for a line.
+fn to_go(alloc: Global, lost: u64, line: &[u8]) -> io::Result<Vec<u8>>
+    ensures { IfOk result (λ text. IsToGo lost line.now text.items) }
+{
+    if lost == 0 {
+        return Ok(Vec::from_slice(alloc, line)?);
+    }
+    match time_of(line) {
+        Some(time) => loss_told(alloc, lost, time, line),
+        None => Err(io::Error::from(ErrorKind::InvalidInput)),
+    }
+}
+
+impl Outlet {
+    /// Octets go on, all or none. Whether they do.
+    fn send(&mut self, octets: &[u8]) -> bool
+        ensures sent { result ≡ true → sent self.new.ring ≡ sent self.old.ring ++ octets.now }
+        ensures same { result ≡ false → sent self.new.ring ≡ sent self.old.ring }
+        ensures full { result ≡ false → known_free self.new.ring < length octets.now }
+        ensures lost { self.new.lost ≡ self.old.lost }
+    {
+        self.ring.push_entire_slice(octets).is_ok()
+    }
+
+    /// Has a line go on whole, behind how many were lost before it, if there is room for that; else it is lost. How many octets go on.
+    ///
+    /// # Errors
+    ///
+    /// Where there is no memory, or a line behind lost ones has no space. The line isn't counted then.
+    pub fn put(&mut self, alloc: Global, line: &[u8]) -> io::Result<usize>
+        ensures { OnOk result (TellsOn line.now self.old self.new) }
+    {
+        let text = to_go(alloc, self.lost, line)?;
+        let Some(more) = self.lost.checked_add(1) else {
+            return Err(io::Error::from(ErrorKind::Other));
+        };
+        if self.send(&text) {
+            self.lost = 0;
+            Ok(text.len())
+        } else {
+            self.lost = more;
+            Ok(0)
+        }
+    }
+}
