@@ -9,15 +9,23 @@ mod of_books;
 #[cfg(test)]
 mod of_checks;
 #[cfg(test)]
+mod of_closing;
+#[cfg(test)]
 mod of_compile;
 #[cfg(test)]
 mod of_pools;
+#[cfg(test)]
+mod of_rebases;
+#[cfg(test)]
+mod of_refusals;
 #[cfg(test)]
 mod of_rules;
 #[cfg(test)]
 mod of_runs;
 #[cfg(test)]
 mod of_soak;
+#[cfg(test)]
+mod of_strangers;
 #[cfg(test)]
 mod of_tree;
 #[cfg(test)]

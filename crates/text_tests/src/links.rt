@@ -20,6 +20,14 @@ pub const ECHOES: &str =
 pub const ENDLESS: &str =
     "BLOCK B; SIGNAL Up; SIGNALROUTE r FROM P TO P WITH Up; PROCESS P (1,1); START; OUTPUT Up; NEXTSTATE Run; STATE Run; INPUT Up; OUTPUT Up; NEXTSTATE Run; ENDSTATE Run; ENDPROCESS P; ENDBLOCK B;";
 
+/// A process that sends itself two signals in every turn, of which its state takes only the first.
+pub const WASTEFUL: &str =
+    "BLOCK B; SIGNAL Up, Down; SIGNALROUTE r FROM P TO P WITH Up, Down; PROCESS P (1,1); START; OUTPUT Up, Down; NEXTSTATE Run; STATE Run; INPUT Up; OUTPUT Up, Down; NEXTSTATE Run; ENDSTATE Run; ENDPROCESS P; ENDBLOCK B;";
+
+/// A process that sends each Up of the environment back, and doesn't take Down, the second signal.
+pub const PICKY: &str =
+    "BLOCK B; SIGNAL Up, Down; SIGNALROUTE i FROM ENV TO P WITH Up, Down; SIGNALROUTE o FROM P TO ENV WITH Up; PROCESS P (1,1); START; NEXTSTATE Run; STATE Run; INPUT Up; OUTPUT Up; NEXTSTATE Run; ENDSTATE Run; ENDPROCESS P; ENDBLOCK B;";
+
 /// So many links of a set.
 pub fn opened(
     alloc: Global,
@@ -34,11 +42,23 @@ pub fn opened(
     Ok(books)
 }
 
-/// So many links of a text, with ports of one signal and rings of four.
-pub fn links(alloc: Global, text: &str, count: usize, journal: usize) -> Option<Vec<Book>> {
-    let limits = Limits::new(1, 4, journal)?;
+/// So many links of a text.
+pub fn links_of(alloc: Global, text: &str, count: usize, limits: Limits) -> Option<Vec<Book>> {
     match load(alloc, text) {
         Ok(set) => opened(alloc, &set, count, limits).ok(),
+        Err(_) => None,
+    }
+}
+
+/// So many links of a text, with ports of one signal and rings of four.
+pub fn links(alloc: Global, text: &str, count: usize, journal: usize) -> Option<Vec<Book>> {
+    links_of(alloc, text, count, Limits::new(1, 4, journal)?)
+}
+
+/// The book of one link of a text.
+pub fn book_of(alloc: Global, text: &str, limits: Limits) -> Option<Book> {
+    match load(alloc, text) {
+        Ok(set) => Book::open(alloc, &set, limits).ok(),
         Err(_) => None,
     }
 }

@@ -1,19 +1,14 @@
 //! Books over their public calls, on a text that is loaded: that the calls which take memory succeed where there is some, and change nothing
 //! where there is none; that a turn ends once.
-use crate::links::{ECHO, UP};
+use crate::links::{ECHO, UP, book_of};
 use actor_book::{Book, Event, Limits, Offer, run_events};
 use arrayvec::ArrayVec;
 use std::alloc::Global;
 use turn_machine::run;
-use turn_verify::load;
 
 /// The book of a link, with room for one signal and 16 events.
 fn opened(alloc: Global) -> Option<Book> {
-    let limits = Limits::new(1, 1, 16)?;
-    match load(alloc, ECHO) {
-        Ok(set) => Book::open(alloc, &set, limits).ok(),
-        Err(_) => None,
-    }
+    book_of(alloc, ECHO, Limits::new(1, 1, 16)?)
 }
 
 /// The environment sends Up.
@@ -40,7 +35,7 @@ fn events() -> [Event; 7] {
 
 /// Turns that ended, instructions that ran, the place where the journal begins, that of the next event, and the turns that had ended where
 /// the journal begins.
-fn numbers(book: &Book) -> [u64; 5] {
+pub(crate) fn numbers(book: &Book) -> [u64; 5] {
     [
         book.finishes(),
         book.instructions(),
@@ -88,7 +83,7 @@ fn answers_to(alloc: Global, count: usize) -> Option<usize> {
 
 #[test]
 fn a_long_list_of_events_runs(rt: HostRuntime) {
-    assert_eq!(rt; answers_to(rt.alloc(), 3_000), Some(3_000));
+    assert_eq!(rt; answers_to(rt.alloc(), 5_000), Some(5_000));
 }
 
 /// The same once its journal is emptied.

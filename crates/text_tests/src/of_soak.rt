@@ -3,7 +3,7 @@ use crate::of_pools::rise;
 use actor_book::{Book, Event, Limits, Refusal, Standing};
 use mtp2_text::{monitors, standard};
 use pool_soak::{Open, Soak, soak, soak_script, soaked};
-use std::alloc::Global;
+use std::alloc::{AllocError, Global};
 use std::sync::Wait;
 use std::sync::ledger::Ledger;
 use std::thread;
@@ -16,7 +16,7 @@ use turn_pool::{Client, Closed, Pool, Receipt, Seat, serve};
 const AGREES: &[u8] = b"seats agree\naudit yes\n";
 
 /// A script, a number of workers, the exit status, and what is printed.
-const ROWS: [(&[u8], usize, u8, &[u8]); 14] = [
+const ROWS: [(&[u8], usize, u8, &[u8]); 15] = [
     (
         b"links 2\noffer LSC PowerOn\non 1\noffer LSC PowerOn\n",
         2,
@@ -38,6 +38,12 @@ const ROWS: [(&[u8], usize, u8, &[u8]); 14] = [
     (
         b"links 16\noffer AERM Errored 1 2 3 4 5\non 15\noffer TXC AckSeen true\n",
         4,
+        0,
+        AGREES,
+    ),
+    (
+        b"links 16\non 16\noffer LSC PowerOn\ntick 1\non 15\ntick 1\n",
+        3,
         0,
         AGREES,
     ),
@@ -99,9 +105,10 @@ fn soak_prints_what_it_finds(rt: HostRuntime) {
 }
 
 /// Two links, an offer on each, and on the second 5 ticks and an offer with a value; among them what is refused: an offer and ticks on
-/// a link that there isn't, offers to a process and of a signal that there aren't, and too many ticks.
+/// a link that there isn't, the one behind the last among them, offers to a process and of a signal that there aren't, too many ticks, and a value
+/// too many.
 const BOTH: &str =
-    "links 2\noffer LSC PowerOn\non 9\noffer LSC PowerOn\ntick 1\non 1\noffer Nobody PowerOn\noffer LSC Nothing\ntick 65536\noffer LSC PowerOn\ntick 5\noffer TXC AckSeen true\n";
+    "links 2\noffer LSC PowerOn\non 9\noffer LSC PowerOn\ntick 1\non 2\ntick 1\non 16\ntick 1\non 1\noffer Nobody PowerOn\noffer LSC Nothing\ntick 65536\noffer LSC PowerOn\ntick 5\noffer TXC AckSeen true true\noffer TXC AckSeen true\n";
 
 /// What a value stands for in a row: 9 for none.
 fn value_told(value: Option<&Value>) -> u64 {
@@ -162,6 +169,44 @@ fn script_is_done<R: Threads + Wait + Sync>(rt: &R, alloc: Global) -> Option<boo
 #[test]
 fn a_script_is_done(rt: HostRuntime) {
     assert_eq!(rt; script_is_done(&rt, rt.alloc()), Some(true));
+}
+
+/// How many ticks a long script has.
+const TICKS: usize = 2_000;
+
+/// A script of many ticks.
+fn long_text(alloc: Global) -> Result<String, AllocError> {
+    let mut text = String::new(alloc);
+    text.push_str("links 1\n")?;
+    for _ in 0..TICKS {
+        text.push_str("tick 1\n")?;
+    }
+    Ok(text)
+}
+
+/// How many receipts a script's client has, and the clock of its first link in the end.
+fn kept<R: Threads + Wait + Sync>(
+    rt: &R,
+    alloc: Global,
+    soak: &Soak<'_>,
+) -> Option<(usize, Option<u64>)> {
+    let (closed, receipts) = soaked(rt, alloc, soak, 2)?;
+    let clock = closed.books.get(0).map(Book::clock);
+    Some((receipts.len(), clock))
+}
+
+/// The same of the long script.
+fn long_kept<R: Threads + Wait + Sync>(rt: &R, alloc: Global) -> Option<(usize, Option<u64>)> {
+    let text = long_text(alloc).ok()?;
+    match soak_script(alloc, text.as_str()) {
+        Ok(soak) => kept(rt, alloc, &soak),
+        Err(_) => None,
+    }
+}
+
+#[test]
+fn a_long_script_has_all_its_receipts(rt: HostRuntime) {
+    assert_eq!(rt; long_kept(&rt, rt.alloc()), Some((TICKS, Some(2_000))));
 }
 
 /// How often the client asks.

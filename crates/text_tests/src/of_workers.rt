@@ -1,6 +1,6 @@
 //! Workers: that they run at once, that they end what they begin, that they come to an end.
-use crate::links::{ECHO, ECHOES, ENDLESS, UP, links};
-use actor_book::Book;
+use crate::links::{ECHO, ECHOES, ENDLESS, UP, WASTEFUL, links, links_of};
+use actor_book::{Book, Limits};
 use std::alloc::Global;
 use std::sync::Wait;
 use std::sync::atomic::{AtomicBool, AtomicUsize, Ordering};
@@ -267,10 +267,13 @@ fn took_turns(books: &[Book]) -> bool {
     true
 }
 
-/// How many turns had begun as the pool closed, and how many began in all, on two links that always have something to do; nothing where
-/// one of them had more turns than the other.
-fn turns_begun<R: Threads + Wait + Sync>(rt: &R, alloc: Global) -> Option<(usize, usize)> {
-    let books = links(alloc, ENDLESS, 2, 65536)?;
+/// How many turns had begun as the pool closed, and how many began in all, on links that always have something to do; nothing where one of
+/// them had more turns than another.
+fn turns_begun<R: Threads + Wait + Sync>(
+    rt: &R,
+    alloc: Global,
+    books: Vec<Book>,
+) -> Option<(usize, usize)> {
     let gate = Counts {
         begun: AtomicUsize::new(0),
     };
@@ -289,14 +292,33 @@ fn turns_begun<R: Threads + Wait + Sync>(rt: &R, alloc: Global) -> Option<(usize
     }
 }
 
+/// Whether many turns began on such links, and after closing so many at most.
+fn comes_to_an_end<R: Threads + Wait + Sync>(
+    rt: &R,
+    alloc: Global,
+    books: Option<Vec<Book>>,
+    most: usize,
+) -> Option<bool> {
+    let (closing, all) = turns_begun(rt, alloc, books?)?;
+    Some(closing >= MANY && all >= closing && all <= closing.saturating_add(most))
+}
+
 #[test]
 fn a_worker_goes_round_and_ends_though_there_is_more_to_do(rt: HostRuntime) {
-    let (closing, all) = turns_begun(&rt, rt.alloc()).unwrap_or((0, 0));
-    assert!(rt; closing >= MANY && all >= closing);
-    assert!(rt;
-        all <= closing.saturating_add(1000),
-        "1,000 at most after closing"
-    );
+    let books = links(rt.alloc(), ENDLESS, 2, 65536);
+    assert_eq!(rt; comes_to_an_end(&rt, rt.alloc(), books, 1000), Some(true));
+}
+
+/// A link on which a signal is thrown away for each that is taken.
+fn wasteful(alloc: Global) -> Option<Vec<Book>> {
+    links_of(alloc, WASTEFUL, 1, Limits::new(3, 4, 65536)?)
+}
+
+/// Of 1,000 begins and skips half are begins.
+#[test]
+fn a_worker_counts_skips_after_closing(rt: HostRuntime) {
+    let books = wasteful(rt.alloc());
+    assert_eq!(rt; comes_to_an_end(&rt, rt.alloc(), books, 600), Some(true));
 }
 
 /// A gate that holds the worker as its second turn has ended, until a client has looked.
