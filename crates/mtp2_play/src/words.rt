@@ -162,9 +162,11 @@ fn play_command<'a>(alloc: Global) -> Result<Command<'a>, AllocError> {
         .help("A file with the script, or stdin for standard input (for one of the two alone)")
         .required(true);
     Command::new(alloc, "play")
-        .about("Runs a script on a set of processes, or on one end of a signalling link")
+        .about(
+            "Runs a script on a set of processes, or on one end of a signalling link or of a set of links",
+        )
         .after_help(
-            "First lines: ports N (1 to 64), env N (1 to 1024), journal N (16 to 65536).\nCommands: offer P SIG v.., begin P, finish P, skip P, tick N, env, rest, flood N P SIG v.., state P, value P x, expect TEXT.\nA script may begin with terminal basic or terminal cyclic: then one end of a link runs on the set, with the commands\ncommand W (power, start, stop, emergency, calm, outage, back, busy, free), unit HEX, line HEX, msu HEX, out N, tick N, state P, value P x, expect TEXT.\nPrints a line for each command but expect, and for each unit that goes out; one that is refused prints refused CODE Name (B1 to B12, W1, W2, E1), and the run goes on.\nExits with 0, or 1 after failed line N where an expect failed, 2 after refused CODE Name where the set or the script is refused\n(F1, L1 to L3, P1, P2, S1 to S11, X1; X2 NoName NAME where the set lacks a name that a terminal wants), 4 where memory, a file, a read or a write fails.",
+            "First lines: ports N (1 to 64), env N (1 to 1024), journal N (16 to 65536).\nCommands: offer P SIG v.., begin P, finish P, skip P, tick N, env, rest, flood N P SIG v.., state P, value P x, expect TEXT.\nA script may begin with terminal basic or terminal cyclic: then one end of a link runs on the set, with the commands\ncommand W (power, start, stop, emergency, calm, outage, back, busy, free), unit HEX, line HEX, msu HEX, out N, tick N, state P, value P x, expect TEXT.\nWith group basic N or group cyclic N (1 to 16) one end of N links runs, with these commands of link L behind on L, but for msu send HEX, and\nfail, message HEX, retrieve, abandon, divert, rebalance, table, held, unsure.\nPrints a line for each command but on and expect, and for each unit that goes out; one that is refused prints refused CODE Name (B1 to B12, W1, W2, E1, K1 to K4), and the run goes on.\nExits with 0, or 1 after failed line N where an expect failed, 2 after refused CODE Name where the set or the script is refused\n(F1, L1 to L3, P1, P2, S1 to S11, X1; X2 NoName NAME where the set lacks a name that a terminal wants), 4 where memory, a file, a read or a write fails.",
         )
         .arg(set)?
         .arg(script)

@@ -5,34 +5,45 @@ use Rattle.std.specs.Io.KnownBytes.{Appends}
 use Rattle.turn_code.specs.declared.draft.Draft.{Draft}
 use Rattle.script_lines.specs.declared.script.ScriptFault.{ScriptFault}
 use Rattle.script_lines.specs.declared.script.ScriptFault.TheVariants.{BadLine, NoMemory}
-use Rattle.term_play.specs.Played.{first_book, IsWritten, IsMissed}
-use Rattle.term_lines.specs.TermScripts.{PlainAnyScript, book, terminal, any_script_of}
-use Rattle.term_play.specs.Checked.{IsGiven, IsSetOf, PrintsRefusal}
-use Rattle.term_play.specs.Printed.{line_of}
-use Rattle.term_play.specs.TermRuns.{IsOfNew, IsTermWritten, IsTermMissed, LacksName}
+use Rattle.group_play.specs.Played.{first_book, IsWritten, IsMissed}
+use Rattle.term_lines.specs.TermScripts.{PlainAnyScript, book, terminal}
+use Rattle.group_lines.specs.GroupScripts.{PlainPlayScript, other, group, play_script_of}
+use Rattle.group_play.specs.Checked.{IsGiven, IsSetOf, PrintsRefusal}
+use Rattle.group_play.specs.Printed.{line_of}
+use Rattle.group_play.specs.TermRuns.{IsOfNew, IsTermWritten, IsTermMissed, LacksName}
+use Rattle.group_play.specs.GroupRuns.{IsOfNewSet, IsGroupWritten, IsGroupMissed}
 
 -- all commands of a script were obeyed, and their lines written: by a book of the set, or by a new terminal over it
-abbrev pub IsObeyed : Draft → PlainAnyScript → Option (List ℕ) → Option (List ℕ) → Type 0
-IsObeyed d (book s) old new = IsWritten (first_book d s.settings) s.commands old new
-IsObeyed d (terminal s) old new = IsOfNew d s.mode (IsTermWritten s.commands old new)
+abbrev pub IsOtherObeyed : Draft → PlainAnyScript → Option (List ℕ) → Option (List ℕ) → Type 0
+IsOtherObeyed d (book s) old new = IsWritten (first_book d s.settings) s.commands old new
+IsOtherObeyed d (terminal s) old new = IsOfNew d s.mode (IsTermWritten s.commands old new)
+
+-- or by a set of links with such terminals
+abbrev pub IsObeyed : Draft → PlainPlayScript → Option (List ℕ) → Option (List ℕ) → Type 0
+IsObeyed d (other s) old new = IsOtherObeyed d s old new
+IsObeyed d (group s) old new = IsOfNewSet d s.head (IsGroupWritten s.commands old new)
 
 -- the bytes are a script, all of whose commands were obeyed
 pub record IsPlayed (old new : Option (List ℕ)) (d : Draft) (bytes : List ℕ) : Type 0 where
   pub utf8 : IsUtf8 bytes
-  pub script : PlainAnyScript
-  pub reads : any_script_of bytes ≡ Ok script
+  pub script : PlainPlayScript
+  pub reads : play_script_of bytes ≡ Ok script
   pub run : IsObeyed d script old new
 
 -- an expectation of a script failed behind commands that were obeyed
-abbrev pub IsMissedIn : Draft → PlainAnyScript → Option (List ℕ) → Option (List ℕ) → Type 0
-IsMissedIn d (book s) old new = IsMissed (first_book d s.settings) s.commands old new
-IsMissedIn d (terminal s) old new = IsOfNew d s.mode (IsTermMissed s.commands old new)
+abbrev pub IsOtherMissed : Draft → PlainAnyScript → Option (List ℕ) → Option (List ℕ) → Type 0
+IsOtherMissed d (book s) old new = IsMissed (first_book d s.settings) s.commands old new
+IsOtherMissed d (terminal s) old new = IsOfNew d s.mode (IsTermMissed s.commands old new)
+
+abbrev pub IsMissedIn : Draft → PlainPlayScript → Option (List ℕ) → Option (List ℕ) → Type 0
+IsMissedIn d (other s) old new = IsOtherMissed d s old new
+IsMissedIn d (group s) old new = IsOfNewSet d s.head (IsGroupMissed s.commands old new)
 
 -- the bytes are a script, an expectation of which failed
 pub record IsPlayedInPart (old new : Option (List ℕ)) (d : Draft) (bytes : List ℕ) : Type 0 where
   pub utf8 : IsUtf8 bytes
-  pub script : PlainAnyScript
-  pub reads : any_script_of bytes ≡ Ok script
+  pub script : PlainPlayScript
+  pub reads : play_script_of bytes ≡ Ok script
   pub missed : IsMissedIn d script old new
 
 -- ---- refusals
@@ -40,22 +51,26 @@ pub record IsPlayedInPart (old new : Option (List ℕ)) (d : Draft) (bytes : Lis
 -- the bytes are no script, and the line that says so is all that was written
 pub data IsNoScript (old new : Option (List ℕ)) (bytes : List ℕ) : Type 0 where
   no_text : (IsUtf8 bytes → ⊥) → Appends old new (line_of (codes "refused F1 NotText")) → IsNoScript old new bytes
-  bad_line : (line : ℕ) → IsUtf8 bytes → any_script_of bytes ≡ Err line
+  bad_line : (line : ℕ) → IsUtf8 bytes → play_script_of bytes ≡ Err line
       → Appends old new (line_of (codes "refused X1 BadLine line " ++ decimal line)) → IsNoScript old new bytes
 
 -- a set that lacks a name has no terminal, and runs the scripts of books alone
-abbrev pub HasNoTerminal : Draft → PlainAnyScript → Option (List ℕ) → Option (List ℕ) → Type 0
-HasNoTerminal d (book s) old new = ⊥
-HasNoTerminal d (terminal s) old new = LacksName d old new
+abbrev pub HasNoOther : Draft → PlainAnyScript → Option (List ℕ) → Option (List ℕ) → Type 0
+HasNoOther d (book s) old new = ⊥
+HasNoOther d (terminal s) old new = LacksName d old new
 
--- the bytes are a terminal's script, and the set lacks a name that a terminal wants: the line of the first such name is all that was written
+abbrev pub HasNoTerminal : Draft → PlainPlayScript → Option (List ℕ) → Option (List ℕ) → Type 0
+HasNoTerminal d (other s) old new = HasNoOther d s old new
+HasNoTerminal d (group s) old new = LacksName d old new
+
+-- the bytes are a script of a terminal or of links, and the set lacks a name that a terminal wants: the line of the first such name is all that was written
 pub record IsWithoutTerminal (old new : Option (List ℕ)) (d : Draft) (bytes : List ℕ) : Type 0 where
   pub utf8 : IsUtf8 bytes
-  pub script : PlainAnyScript
-  pub reads : any_script_of bytes ≡ Ok script
+  pub script : PlainPlayScript
+  pub reads : play_script_of bytes ≡ Ok script
   pub lacks : HasNoTerminal d script old new
 
--- why nothing ran on a set: the bytes are no script, whatever the set has; or they are one of a terminal, for which it lacks a name
+-- why nothing ran on a set: the bytes are no script, whatever the set has; or they are one of a terminal or of links, for which it lacks a name
 pub data IsNotRun (old new : Option (List ℕ)) (d : Draft) (bytes : List ℕ) : Type 0 where
   no_script : IsNoScript old new bytes → IsNotRun old new d bytes
   no_terminal : IsWithoutTerminal old new d bytes → IsNotRun old new d bytes

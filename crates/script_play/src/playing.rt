@@ -1,25 +1,30 @@
 //! The command `play`.
 ghost use Rattle.std.specs.Prelude.{◌≡◌, ◌⊎◌, List, ℕ, IfSome};
 ghost use Rattle.text_reader.specs.Reading.{Keeps};
-ghost use Rattle.term_play.specs.Checked.{given, IsAccepted};
+ghost use Rattle.group_play.specs.Checked.{given, IsAccepted};
 ghost use Rattle.term_lines.specs.TermScripts.{plain_any_script, IsInRange};
-ghost use Rattle.script_play.specs.Played.{IsObeyed, IsPlayed, IsMissedIn, IsPlayedInPart, HasNoTerminal, IsNotRun, PrintsFault, IsOnSet, IsRefused};
+ghost use Rattle.group_lines.specs.GroupScripts.{plain_play_script, IsFit};
+ghost use Rattle.script_play.specs.Played.{IsOtherObeyed, IsObeyed, IsPlayed, IsOtherMissed, IsMissedIn, IsPlayedInPart, HasNoOther, HasNoTerminal, IsNotRun, PrintsFault, IsOnSet, IsRefused};
 
+use group_lines::{PlayScript, play_script_in};
+use group_play::{
+    FAILED, SetWord, load_set, play_book, play_group, play_terminal, refuse, write_refusal,
+};
 use script_lines::ScriptFault;
 use std::alloc::Global;
 use std::io::{Read, Write};
 use std::str;
-use term_lines::{AnyScript, any_script};
-use term_play::{FAILED, SetWord, load_set, play_book, play_terminal, refuse, write_refusal};
+use term_lines::AnyScript;
 use text_reader::{TextRead, line_at_limit, read_text};
 use turn_check::Verified;
 
 /// Runs a script on a set of processes, or, where its first line is `terminal basic` or `terminal cyclic`, on a signalling link terminal over
-/// that set, and prints a line for each command but `expect`, and for each unit that goes out.
+/// that set, or, where it is `group basic N` or `group cyclic N`, on N links between two points with such terminals; and prints a line for each
+/// command but `on` and `expect`, and for each unit that goes out.
 ///
 /// Both texts are read whole before anything is written: the set, then the script. A refusal of the set comes before one of
 /// the script, a line of the script that is none is refused before anything runs, and then a set that lacks a name that a terminal wants, for
-/// a terminal's script. A line goes out in one write.
+/// a script of a terminal or of links. A line goes out in one write.
 ///
 /// Gives the exit status: 0 where each command ran and its line was written, 1 after `failed line N` where an expectation
 /// failed, 2 after a line `refused CODE Name ..` alone where the set or the script was refused, or 4 where memory, a read or
@@ -77,7 +82,7 @@ fn play_text<W: Write>(alloc: Global, set: &Verified, read: &TextRead, writer: &
         return refuse_script(alloc, writer, ScriptFault::BadLine(line));
     }
     match str::from_utf8(&read.kept) {
-        Ok(text) => match any_script(alloc, text) {
+        Ok(text) => match play_script_in(alloc, text) {
             Ok(script) => play_script(alloc, set, &script, writer),
             Err(fault) => refuse_script(alloc, writer, fault),
         },
@@ -85,21 +90,35 @@ fn play_text<W: Write>(alloc: Global, set: &Verified, read: &TextRead, writer: &
     }
 }
 
-/// Runs a script.
-fn play_script<W: Write>(
-    alloc: Global,
-    set: &Verified,
-    script: &AnyScript<'_>,
-    writer: &mut W,
-) -> u8
+/// Runs a script of a book or of a terminal.
+fn play_other<W: Write>(alloc: Global, set: &Verified, script: &AnyScript<'_>, writer: &mut W) -> u8
     requires { IsInRange script.now }
-    ensures held { result ≡ 0 → IsObeyed set.now (plain_any_script script.now) (W.contents writer.old) (W.contents writer.new) }
-    ensures missed { result ≡ 1 → IsMissedIn set.now (plain_any_script script.now) (W.contents writer.old) (W.contents writer.new) }
-    ensures refused { result ≡ 2 → HasNoTerminal set.now (plain_any_script script.now) (W.contents writer.old) (W.contents writer.new) }
+    ensures held { result ≡ 0 → IsOtherObeyed set.now (plain_any_script script.now) (W.contents writer.old) (W.contents writer.new) }
+    ensures missed { result ≡ 1 → IsOtherMissed set.now (plain_any_script script.now) (W.contents writer.old) (W.contents writer.new) }
+    ensures refused { result ≡ 2 → HasNoOther set.now (plain_any_script script.now) (W.contents writer.old) (W.contents writer.new) }
     ensures status { (result ≡ 0) ⊎ (result ≡ 1) ⊎ (result ≡ 2) ⊎ (result ≡ 4) }
 {
     match script {
         AnyScript::Book(script) => play_book(alloc, set, script, writer),
         AnyScript::Terminal(script) => play_terminal(alloc, set, script, writer),
+    }
+}
+
+/// Runs a script.
+fn play_script<W: Write>(
+    alloc: Global,
+    set: &Verified,
+    script: &PlayScript<'_>,
+    writer: &mut W,
+) -> u8
+    requires { IsFit script.now }
+    ensures held { result ≡ 0 → IsObeyed set.now (plain_play_script script.now) (W.contents writer.old) (W.contents writer.new) }
+    ensures missed { result ≡ 1 → IsMissedIn set.now (plain_play_script script.now) (W.contents writer.old) (W.contents writer.new) }
+    ensures refused { result ≡ 2 → HasNoTerminal set.now (plain_play_script script.now) (W.contents writer.old) (W.contents writer.new) }
+    ensures status { (result ≡ 0) ⊎ (result ≡ 1) ⊎ (result ≡ 2) ⊎ (result ≡ 4) }
+{
+    match script {
+        PlayScript::Other(script) => play_other(alloc, set, script, writer),
+        PlayScript::Group(script) => play_group(alloc, set, script, writer),
     }
 }

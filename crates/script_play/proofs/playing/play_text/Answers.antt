@@ -1,12 +1,12 @@
 use Rattle.std.proofs.Common.{◌≡◌, ◌∙◌, ◌+◌, ◌==◌, List, ℕ, Ok, ap, sym, subst, rules}
 use Rattle.std.specs.Prelude.{IsTrue, IsUtf8, count_by, take}
 use Rattle.text_reader.specs.Reading.{LONGEST}
-use Rattle.term_lines.specs.TermScripts.{plain_any_script, any_script_of}
+use Rattle.group_lines.specs.GroupScripts.{plain_play_script, play_script_of}
 use Rattle.script_play.specs.Played.{no_text, bad_line, no_script, no_terminal}
 use Rattle.script_play.proofs.Refusals.{too_long, no_script_in}
 use Rattle.script_play.proofs.Texts.{not_held, not_missed}
 use Rattle.script_play.proofs.playing.play_text.Goals as goal
-use Rattle.term_play.proofs.Long.{all_kept}
+use Rattle.group_play.proofs.Long.{all_kept}
 
 pub returns-then-not-read-clause-held : goal.returns-then-not-read-clause-held
 returns-then-not-read-clause-held g c zero bytes keeps = absurd (not_held _ c.refuse.ensures.status zero)
@@ -14,20 +14,20 @@ returns-then-not-read-clause-held g c zero bytes keeps = absurd (not_held _ c.re
 pub returns-then-is_too_long-clause-held : goal.returns-then-is_too_long-clause-held
 returns-then-is_too_long-clause-held g c zero bytes keeps = absurd (not_held _ c.refuse_script.ensures.status zero)
 
-pub returns-in-Ok-any_script-clause-held : goal.returns-in-Ok-any_script-clause-held
-returns-in-Ok-any_script-clause-held g c zero bytes keeps =
+pub returns-in-Ok-play_script_in-clause-held : goal.returns-in-Ok-play_script_in-clause-held
+returns-in-Ok-play_script_in-clause-held g c zero bytes keeps =
     let is_text : IsTrue c.args.read.now.is_text = search rules in
     let same : c.in-Ok.text.now ≡ bytes =
     c.in-Ok.ensures.cases.0 ∙ (c.deref-2.ensures.value ∙ all_kept bytes c.args.read.now keeps (sym c.is_too_long.ensures ∙ c.if-is_too_long.false)) in
     record {
       utf8 = keeps.utf8.0 is_text;
-      script = plain_any_script c.in-Ok-any_script.script;
-      reads = ap any_script_of (sym same) ∙ c.in-Ok-any_script.ensures.script;
+      script = plain_play_script c.in-Ok-play_script_in.script;
+      reads = ap play_script_of (sym same) ∙ c.in-Ok-play_script_in.ensures.script;
       run = c.play_script.ensures.held zero;
     }
 
-pub returns-in-Err-any_script-clause-held : goal.returns-in-Err-any_script-clause-held
-returns-in-Err-any_script-clause-held g c zero bytes keeps = absurd (not_held _ c.refuse_script-in-Err-any_script.ensures.status zero)
+pub returns-in-Err-play_script_in-clause-held : goal.returns-in-Err-play_script_in-clause-held
+returns-in-Err-play_script_in-clause-held g c zero bytes keeps = absurd (not_held _ c.refuse_script-in-Err-play_script_in.ensures.status zero)
 
 pub returns-in-Err-clause-held : goal.returns-in-Err-clause-held
 returns-in-Err-clause-held g c zero bytes keeps = absurd (not_held _ c.refuse-in-Err.ensures.status zero)
@@ -38,20 +38,20 @@ returns-then-not-read-clause-missed g c one bytes keeps = absurd (not_missed _ c
 pub returns-then-is_too_long-clause-missed : goal.returns-then-is_too_long-clause-missed
 returns-then-is_too_long-clause-missed g c one bytes keeps = absurd (not_missed _ c.refuse_script.ensures.status one)
 
-pub returns-in-Ok-any_script-clause-missed : goal.returns-in-Ok-any_script-clause-missed
-returns-in-Ok-any_script-clause-missed g c one bytes keeps =
+pub returns-in-Ok-play_script_in-clause-missed : goal.returns-in-Ok-play_script_in-clause-missed
+returns-in-Ok-play_script_in-clause-missed g c one bytes keeps =
     let is_text : IsTrue c.args.read.now.is_text = search rules in
     let same : c.in-Ok.text.now ≡ bytes =
     c.in-Ok.ensures.cases.0 ∙ (c.deref-2.ensures.value ∙ all_kept bytes c.args.read.now keeps (sym c.is_too_long.ensures ∙ c.if-is_too_long.false)) in
     record {
       utf8 = keeps.utf8.0 is_text;
-      script = plain_any_script c.in-Ok-any_script.script;
-      reads = ap any_script_of (sym same) ∙ c.in-Ok-any_script.ensures.script;
+      script = plain_play_script c.in-Ok-play_script_in.script;
+      reads = ap play_script_of (sym same) ∙ c.in-Ok-play_script_in.ensures.script;
       missed = c.play_script.ensures.missed one;
     }
 
-pub returns-in-Err-any_script-clause-missed : goal.returns-in-Err-any_script-clause-missed
-returns-in-Err-any_script-clause-missed g c one bytes keeps = absurd (not_missed _ c.refuse_script-in-Err-any_script.ensures.status one)
+pub returns-in-Err-play_script_in-clause-missed : goal.returns-in-Err-play_script_in-clause-missed
+returns-in-Err-play_script_in-clause-missed g c one bytes keeps = absurd (not_missed _ c.refuse_script-in-Err-play_script_in.ensures.status one)
 
 pub returns-in-Err-clause-missed : goal.returns-in-Err-clause-missed
 returns-in-Err-clause-missed g c one bytes keeps = absurd (not_missed _ c.refuse-in-Err.ensures.status one)
@@ -75,26 +75,26 @@ returns-then-is_too_long-clause-refused g c two bytes keeps =
     (subst P c.deref.ensures.value c.line_at_limit-line.ensures))
     (c.refuse_script.ensures.printed two))
 
-pub returns-in-Ok-any_script-clause-refused : goal.returns-in-Ok-any_script-clause-refused
-returns-in-Ok-any_script-clause-refused g c two bytes keeps =
+pub returns-in-Ok-play_script_in-clause-refused : goal.returns-in-Ok-play_script_in-clause-refused
+returns-in-Ok-play_script_in-clause-refused g c two bytes keeps =
     let is_text : IsTrue c.args.read.now.is_text = search rules in
     let same : c.in-Ok.text.now ≡ bytes =
     c.in-Ok.ensures.cases.0 ∙ (c.deref-2.ensures.value ∙ all_kept bytes c.args.read.now keeps (sym c.is_too_long.ensures ∙ c.if-is_too_long.false)) in
     no_terminal (record {
       utf8 = keeps.utf8.0 is_text;
-      script = plain_any_script c.in-Ok-any_script.script;
-      reads = ap any_script_of (sym same) ∙ c.in-Ok-any_script.ensures.script;
+      script = plain_play_script c.in-Ok-play_script_in.script;
+      reads = ap play_script_of (sym same) ∙ c.in-Ok-play_script_in.ensures.script;
       lacks = c.play_script.ensures.refused two;
     })
 
-pub returns-in-Err-any_script-clause-refused : goal.returns-in-Err-any_script-clause-refused
-returns-in-Err-any_script-clause-refused g c two bytes keeps =
+pub returns-in-Err-play_script_in-clause-refused : goal.returns-in-Err-play_script_in-clause-refused
+returns-in-Err-play_script_in-clause-refused g c two bytes keeps =
     let is_text : IsTrue c.args.read.now.is_text = search rules in
     let same : c.in-Ok.text.now ≡ bytes =
     c.in-Ok.ensures.cases.0 ∙ (c.deref-2.ensures.value ∙ all_kept bytes c.args.read.now keeps (sym c.is_too_long.ensures ∙ c.if-is_too_long.false)) in
     no_script
-    (no_script_in _ _ c.in-Ok.text.now bytes c.in-Err-any_script.fault same (keeps.utf8.0 is_text) c.in-Err-any_script.ensures.fault
-    (c.refuse_script-in-Err-any_script.ensures.printed two))
+    (no_script_in _ _ c.in-Ok.text.now bytes c.in-Err-play_script_in.fault same (keeps.utf8.0 is_text) c.in-Err-play_script_in.ensures.fault
+    (c.refuse_script-in-Err-play_script_in.ensures.printed two))
 
 pub returns-in-Err-clause-refused : goal.returns-in-Err-clause-refused
 returns-in-Err-clause-refused g c two bytes keeps =
