@@ -1,0 +1,9 @@
+//! The whole way of a text, in one call: it is loaded, a link is opened with its set, and events happen to that. Its one clause says what a
+//! text's processes do on any events in any order.
+#![tactic(auto)]
+
+mod running;
+
+pub use actor_book::{Book, Event, Limits, Reply};
+pub use running::{TextRun, run_text};
+pub use turn_verify::LoadFault;

@@ -1,0 +1,63 @@
+//! A text is loaded and run.
+ghost use Rattle.std.specs.Prelude.{◌≡◌, IfOk, OnOk, map};
+ghost use Rattle.sdl_lex.specs.declared.lexemes.Token as lexeme;
+ghost use Rattle.sdl_ast.specs.Plain.{PlainBlock};
+ghost use Rattle.turn_code.specs.Outcome.{Meaning, Means};
+ghost use Rattle.turn_verify.specs.Loaded.{IsLoaded, IsRead, IsSoundText, IsRefused, Gives};
+ghost use Rattle.turn_verify.specs.Blocks.{MatchesBlock};
+ghost use Rattle.turn_verify.specs.Meant.{IsSetOf, IsCertifiedAs};
+ghost use Rattle.text_run.specs.Headline.{Headline, RunsBy, EachEndsWithin, opened_by};
+
+use actor_book::{Book, Event, Limits, Reply, run_events};
+use link_machine::laws::set_law;
+use std::alloc::{AllocError, Global};
+use turn_verify::{LoadFault, Verified, load};
+
+/// A text that was run: the link's book behind the last event, and what was answered to each.
+#[derive(Drop)]
+pub struct TextRun {
+    pub book: Book,
+    pub replies: Vec<Reply>,
+}
+
+/// Loads a text, opens a link with its set, and lets events happen to it in order.
+///
+/// A text goes on exactly where it has tokens, reads as a tree that is at most 32 high, and breaks no rule. Whatever the events and their
+/// order, no transition of it then reads a variable that is unset, meets a wrong operand, lacks an answer, a next state or a receiver, or
+/// leaves its code: each does what its text means (Z.100), and takes at most as many instructions as its certificate's budget, which is
+/// the cost of the longest path through its text. A full port or a full environment is answered by name.
+///
+/// # Errors
+///
+/// A fault that the text has, of the first layer that finds one, with its line where it has one; or [`LoadFault::NoMemory`], which says
+/// nothing of the text.
+pub fn run_text(
+    alloc: Global,
+    text: &str,
+    limits: Limits,
+    events: &[Event],
+) -> Result<TextRun, LoadFault>
+    ensures { Headline text.now limits events.now result }
+{
+    let set = load(alloc, text)?;
+    match run_set(alloc, &set, limits, events) {
+        Ok(run) => Ok(run),
+        Err(_) => Err(LoadFault::NoMemory),
+    }
+}
+
+/// Opens a link with a set, and lets events happen to it.
+fn run_set(
+    alloc: Global,
+    set: &Verified,
+    limits: Limits,
+    events: &[Event],
+) -> Result<TextRun, AllocError>
+    ensures runs { IfOk result (λ run. (act : Meaning) → Means act set.now → RunsBy act set.now limits events.now run.book run.replies.items) }
+    ensures within { OnOk result ((b : PlainBlock) → IsCertifiedAs b set.now → EachEndsWithin b (opened_by set.now limits) events.now) }
+{
+    set_law();
+    let mut book = Book::open(alloc, set, limits)?;
+    let replies = run_events(alloc, &mut book, events)?;
+    Ok(TextRun { book, replies })
+}
