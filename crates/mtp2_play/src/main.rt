@@ -1,35 +1,43 @@
-//! `mtp2_play`: the program. It checks and plays process texts, has threads work on links, and reads signal units.
+//! `mtp2_play`: the program. It checks and plays process texts, has threads work on links, puts one end of a link on a line, and reads
+//! signal units.
 #![tactic(auto)]
 
 ghost use Rattle.std.specs.Prelude.{◌≡◌, ◌⊎◌};
 ghost use Rattle.text_check.specs.Checked.{IsGiven, PrintsCosts, PrintsRefusal};
 ghost use Rattle.mtp2_play.specs.Words.{own_text_of};
 
+mod lines;
 mod words;
 
+use crate::lines::run_line;
 use clap::Error;
 use clap::error::ErrorKind;
 use pool_soak::soak;
 use script_play::play;
 use std::alloc::Global;
+use std::fs::File;
 use std::io::{self, Read, Write};
 use std::process::ExitCode;
-use std::rt::Runtime;
+use std::rt::{Files, Runtime};
 use std::sync::Wait;
 use std::thread::Threads;
 use std::{env, fs};
 use text_check::{FAILED, HELD, SetWord, USAGE, check};
 use unit_frame::frame;
-pub use words::{Named, Request, Source};
+pub use words::{LineEnd, Named, Request, Source};
 
 /// Runs one command, and gives the exit status.
-fn run<R: Runtime + AllocGlobal + Threads + Wait + Sync>(rt: &R, request: &Request<'_>) -> u8
+fn run<R: Runtime + Files<File = File> + AllocGlobal + Threads + Wait + Sync>(
+    rt: &R,
+    request: &Request<'_>,
+) -> u8
     ensures { (result ≡ 0) ⊎ (result ≡ 1) ⊎ (result ≡ 2) ⊎ (result ≡ 4) }
 {
     match request {
         Request::Check { set } => run_check(rt, *set),
         Request::Play { set, script } => run_play(rt, *set, *script),
         Request::Soak { script, workers } => run_soak(rt, *script, *workers),
+        Request::Line { end } => run_line(rt, end),
         Request::Frame { octets } => frame(rt.alloc(), octets, &mut io::writer(rt)),
     }
 }
@@ -149,7 +157,10 @@ fn answer<R: Runtime + AllocGlobal>(rt: &R, error: &Error) -> u8
 }
 
 /// Does what the words of a command line say, the program's own name first. Gives the exit status.
-fn serve<R: Runtime + AllocGlobal + Threads + Wait + Sync>(rt: &R, given: &[String]) -> u8 {
+fn serve<R: Runtime + Files<File = File> + AllocGlobal + Threads + Wait + Sync>(
+    rt: &R,
+    given: &[String],
+) -> u8 {
     match words::read(rt.alloc(), given) {
         Ok(request) => run(rt, &request),
         Err(error) => answer(rt, &error),
@@ -157,7 +168,9 @@ fn serve<R: Runtime + AllocGlobal + Threads + Wait + Sync>(rt: &R, given: &[Stri
 }
 
 /// Reads the command line, and does what it says.
-fn start<R: Runtime + AllocGlobal + Threads + Wait + Sync>(rt: &R) -> io::Result<u8> {
+fn start<R: Runtime + Files<File = File> + AllocGlobal + Threads + Wait + Sync>(
+    rt: &R,
+) -> io::Result<u8> {
     let given: Vec<String> = env::args(rt)?.collect(rt.alloc())?;
     Ok(serve(rt, given.as_slice()))
 }

@@ -1,4 +1,4 @@
-use crate::{Request, serve, words};
+use crate::{LineEnd, Request, serve, words};
 use std::alloc::Global;
 use std::fs;
 use std::rt::Runtime;
@@ -22,13 +22,18 @@ fn asked(alloc: Global, given: &[&str]) -> Result<String, Fail> {
         Ok(Request::Soak { script, workers }) => {
             Ok(format!(in alloc; "soak {script:?} {workers}")?)
         }
+        Ok(Request::Line { end }) => {
+            let LineEnd { mode, set, .. } = end;
+            let LineEnd { bits, ahead, .. } = end;
+            Ok(format!(in alloc; "line {mode:?} {set:?} {bits:?} {ahead}")?)
+        }
         Ok(Request::Frame { octets }) => Ok(format!(in alloc; "frame {octets}")?),
         Err(_) => Ok(String::new(alloc)),
     }
 }
 
 /// Words of a command line, the program's name first, and what they ask for; nothing where the program has no such command.
-const ASKED: [(&[&str], &str); 20] = [
+const ASKED: [(&[&str], &str); 25] = [
     (&["mtp2_play", "frame", "FF"], "frame FF"),
     (&["mtp2_play", "frame", ""], "frame "),
     (&["mtp2_play", "frame", "-F"], ""),
@@ -61,6 +66,24 @@ const ASKED: [(&[&str], &str); 20] = [
         &["mtp2_play", "soak", "x", "--workers", "16"],
         "soak File(\"x\") 16",
     ),
+    (&["mtp2_play", "line", "basic"], "line Basic Standard Low 0"),
+    (
+        &[
+            "mtp2_play",
+            "line",
+            "cyclic",
+            "--bits",
+            "high",
+            "--ahead",
+            "8000",
+            "--text",
+            "a",
+        ],
+        "line Cyclic File(\"a\") High 8000",
+    ),
+    (&["mtp2_play", "line", "Basic"], ""),
+    (&["mtp2_play", "line", "basic", "--bits", "top"], ""),
+    (&["mtp2_play", "line", "basic", "--ahead", "8001"], ""),
     (&["mtp2_play", "soak", "x", "--workers", "17"], ""),
     (&["mtp2_play", "soak", "x", "--workers", "y"], ""),
     (&["mtp2_play"], ""),
@@ -76,7 +99,7 @@ fn reads_the_command_line(rt: HostRuntime) -> Result<(), Fail> {
 
 /// Command lines, and the status that each ends with. A script asks for the state of a process that one of the sets has and the other
 /// hasn't, so the status tells the set. Standard input is empty here: no set's text, a script without commands, and none of `soak`.
-const ENDED: [(&[&str], u8); 34] = [
+const ENDED: [(&[&str], u8); 38] = [
     (&["mtp2_play"], 3),
     (&["mtp2_play", "--help"], 0),
     (&["mtp2_play", "check", "--help"], 0),
@@ -111,6 +134,10 @@ const ENDED: [(&[&str], u8); 34] = [
     (&["mtp2_play", "soak", "nowhere", "--workers", "1"], 4),
     (&["mtp2_play", "soak", "lsc.script", "--workers", "0"], 3),
     (&["mtp2_play", "soak", "lsc.script", "--workers", "17"], 3),
+    (&["mtp2_play", "line", "basic"], 0),
+    (&["mtp2_play", "line", "basic", "--text", "one.sdl"], 2),
+    (&["mtp2_play", "line", "basic", "--text", "stdin"], 3),
+    (&["mtp2_play", "line", "basic", "--orders", "nowhere"], 4),
 ];
 
 /// Writes the files that the command lines name.

@@ -1,11 +1,13 @@
 //! The command line.
-ghost use Rattle.std.specs.Prelude.{◌≡◌, ◌↔◌, ◌≤◌, Some, IfSome, IsNone, IsTrue};
+ghost use Rattle.std.specs.Prelude.{◌≡◌, ◌↔◌, ◌≤◌, Some, IfSome, IsNone, IsTrue, option_map};
 ghost use Rattle.clap.specs.Words.{subcommand_name_of};
+ghost use Rattle.line_play.specs.Filters.{MOST_AHEAD};
 ghost use Rattle.profile_limits.specs.Limits.{LEAST_WORKERS, MOST_WORKERS};
-ghost use Rattle.mtp2_play.specs.Words.{command_of, own_set_of, IsNamed, IsSource, AreStdin, IsPlay, IsSoak};
+ghost use Rattle.mtp2_play.specs.Words.{command_of, own_set_of, IsNamed, IsSource, AreStdin, IsPlay, IsSoak, AreBits, IsText, IsLineOf};
 
 use clap::error::ErrorKind;
 use clap::{Arg, ArgMatches, Command, Error};
+use line_play::{Bits, MOST_AHEAD, Mode, mode_named};
 use std::alloc::{AllocError, Global};
 use text_check::SetWord;
 
@@ -31,6 +33,23 @@ pub enum Source<'a> {
     File(&'a str),
 }
 
+/// One end of a link on the line of standard input and standard output.
+#[derive(Clone, Copy, PartialEq, Eq, Debug)]
+pub struct LineEnd<'a> {
+    /// The kind of error correction.
+    pub mode: Mode,
+    /// The set of its processes.
+    pub set: Named<'a>,
+    /// Where its orders stand; none, where nothing is said.
+    pub orders: Option<&'a str>,
+    /// Where its reports go; standard error, where nothing is said.
+    pub reports: Option<&'a str>,
+    /// Which bit of an octet is the first on the line.
+    pub bits: Bits,
+    /// How many octets of 1s go out before any octet came in, 0 to 8,000.
+    pub ahead: usize,
+}
+
 /// What the command line asks for.
 #[derive(Debug, Drop)]
 pub enum Request<'a> {
@@ -40,6 +59,8 @@ pub enum Request<'a> {
     Play { set: Named<'a>, script: Source<'a> },
     /// `soak SCRIPT --workers N`: a file with a script, or standard input, and the number of threads, 1 to 16.
     Soak { script: Source<'a>, workers: usize },
+    /// `line basic|cyclic`: one end of a link on a line.
+    Line { end: LineEnd<'a> },
     /// `frame HEX`: the octets of a signal unit in hexadecimal digits, with its check octets.
     Frame { octets: &'a str },
 }
@@ -122,6 +143,84 @@ fn soaked<'a>(script: &'a str, workers: &str) -> Option<Request<'a>>
     }
 }
 
+/// Which bit is the first, by the word for it: the lowest, where there is none.
+fn bits_of(word: Option<&str>) -> Option<Bits>
+    ensures { IfSome result (AreBits (option_map (λ w. w.now) word)) }
+{
+    match word {
+        None => Some(Bits::Low),
+        Some("low") => Some(Bits::Low),
+        Some("high") => Some(Bits::High),
+        Some(_) => None,
+    }
+}
+
+/// How many octets go ahead, by the word for it: none where there is none.
+fn ahead_of(word: Option<&str>) -> Option<usize>
+    ensures { IfSome result (λ n. n ≤ MOST_AHEAD) }
+{
+    let Some(word) = word else {
+        return Some(0);
+    };
+    match word.parse::<usize>() {
+        Ok(ahead) if ahead <= MOST_AHEAD => Some(ahead),
+        _ => None,
+    }
+}
+
+/// The set of a terminal on a line, by the word for it: `standard` where there is none. Standard input is the line, and no text.
+fn text_of<'a>(word: Option<&'a str>) -> Option<Named<'a>>
+    ensures { IfSome result (IsText (option_map (λ w. w.now) word)) }
+{
+    match word {
+        None => Some(Named::Standard),
+        Some("stdin") => None,
+        Some(word) => Some(set_named(word)),
+    }
+}
+
+/// The words of `line`.
+#[derive(Clone, Copy)]
+struct LineWords<'a> {
+    mode: &'a str,
+    text: Option<&'a str>,
+    orders: Option<&'a str>,
+    reports: Option<&'a str>,
+    bits: Option<&'a str>,
+    ahead: Option<&'a str>,
+}
+
+/// The end of a link that words name.
+fn lined<'a>(words: &LineWords<'a>) -> Option<LineEnd<'a>>
+    ensures { IfSome result (IsLineOf words.now.mode.now (option_map (λ w. w.now) words.now.text) (option_map (λ w. w.now) words.now.bits)
+        (option_map (λ w. w.now) words.now.orders) (option_map (λ w. w.now) words.now.reports)) }
+{
+    let mode = mode_named(words.mode)?;
+    let set = text_of(words.text)?;
+    let bits = bits_of(words.bits)?;
+    let ahead = ahead_of(words.ahead)?;
+    Some(LineEnd {
+        mode,
+        set,
+        orders: words.orders,
+        reports: words.reports,
+        bits,
+        ahead,
+    })
+}
+
+/// The end of a link that the matches of `line` stand for.
+fn line_of<'a>(given: &ArgMatches<'a>) -> Option<LineEnd<'a>> {
+    lined(&LineWords {
+        mode: given.get_str("MODE")?,
+        text: given.get_str("text"),
+        orders: given.get_str("orders"),
+        reports: given.get_str("reports"),
+        bits: given.get_str("bits"),
+        ahead: given.get_str("ahead"),
+    })
+}
+
 /// The program's commands.
 fn commands<'a>(alloc: Global) -> Result<Command<'a>, AllocError> {
     Command::new(alloc, "mtp2_play")
@@ -133,6 +232,7 @@ fn commands<'a>(alloc: Global) -> Result<Command<'a>, AllocError> {
         .subcommand(check_command(alloc)?)?
         .subcommand(play_command(alloc)?)?
         .subcommand(soak_command(alloc)?)?
+        .subcommand(line_command(alloc)?)?
         .subcommand(frame_command(alloc)?)
 }
 
@@ -193,6 +293,50 @@ fn soak_command<'a>(alloc: Global) -> Result<Command<'a>, AllocError> {
         .arg(workers)
 }
 
+/// The options of the command `line`.
+fn with_line_options<'a>(alloc: Global, command: Command<'a>) -> Result<Command<'a>, AllocError> {
+    let text = Arg::new(alloc, "text").long("text").value_name("TEXT").help(
+        "standard (as where nothing is said), or a file with the text of a set of processes",
+    );
+    let orders = Arg::new(alloc, "orders")
+        .long("orders")
+        .value_name("PATH")
+        .help("A file or a FIFO with orders, one a line, read on as it grows");
+    let reports = Arg::new(alloc, "reports")
+        .long("reports")
+        .value_name("PATH")
+        .help("A file or a FIFO for reports, one a line; else they go to standard error");
+    let bits = Arg::new(alloc, "bits")
+        .long("bits")
+        .value_name("low|high")
+        .help("Which bit of an octet is the first on the line; low where nothing is said");
+    let ahead = Arg::new(alloc, "ahead").long("ahead").value_name("N").help(
+        "How many octets of 1s go out before any octet came in, 0 to 8000; else none",
+    );
+    command
+        .arg(text)?
+        .arg(orders)?
+        .arg(reports)?
+        .arg(bits)?
+        .arg(ahead)
+}
+
+/// The command `line`.
+fn line_command<'a>(alloc: Global) -> Result<Command<'a>, AllocError> {
+    let mode = Arg::new(alloc, "MODE")
+        .help("The error correction: basic or cyclic")
+        .required(true);
+    let command = Command::new(alloc, "line")
+        .about(
+            "Puts one end of a signalling link on a channel of 64 kbit/s: line octets come on standard input and go to standard output",
+        )
+        .after_help(
+            "Writes one octet for each that it reads; 8 octets are a millisecond, and no clock is read. Orders: power, start, stop, emergency, calm,\noutage, back, busy, free, msu HEX, at MS (what follows waits until that millisecond), state P, value P x, quit; # begins a comment,\nand a report MS ok ORDER is obeyed as at MS and that order. Reports, each behind its millisecond: in service, down R, far out,\nfar back, message HEX, state P S, value P x V, ok ORDER, refused CODE Name, lost N (what a FIFO had no room for).\nExits with 0 at the end of input or after quit, 2 after refused CODE Name on standard error where the text is refused, 4 where memory,\na file, a read or a write fails.",
+        )
+        .arg(mode)?;
+    with_line_options(alloc, command)
+}
+
 /// The command `frame`.
 fn frame_command<'a>(alloc: Global) -> Result<Command<'a>, AllocError> {
     let octets = Arg::new(alloc, "HEX")
@@ -214,7 +358,7 @@ pub fn read<'a>(alloc: Global, given: &'a [String]) -> Result<Request<'a>, Error
         Some(request) => Ok(request),
         None => Err(commands.error(
             ErrorKind::InvalidSubcommand,
-            "no such command, standard input for the set and for the script, or not 1 to 16 workers",
+            "no such command, standard input for the set and for the script, not 1 to 16 workers, or a word that line doesn't know",
         )?),
     }
 }
@@ -230,6 +374,9 @@ fn request_of<'a>(matches: &ArgMatches<'a>) -> Option<Request<'a>>
         }),
         "play" => played(given.get_str("SET")?, given.get_str("SCRIPT")?),
         "soak" => soaked(given.get_str("SCRIPT")?, given.get_str("workers")?),
+        "line" => Some(Request::Line {
+            end: line_of(given)?,
+        }),
         "frame" => Some(Request::Frame {
             octets: given.get_str("HEX")?,
         }),

@@ -19,6 +19,8 @@
 //! - `wheels`: in each line a seed and a number of calls. A wheel and a table of deadlines that is walked get the same calls, drawn by a
 //!   generator: timers set and reset, ticks that pass, one, few, a turn of the wheel, more than may. Shows how many timers were due, how many
 //!   the wheel looked at, and whether the two always said the same.
+//! - `tied`: two ends on a line, octet by octet, by their orders ([`tied`]). Shows what each sent and told, and whether the first sends the
+//!   same where it reads octet by octet, and where its reports are its orders.
 //! - `rounds`: what is measured, in each line a thing ([`rounds`]). Shows what its smallest round has; where a number of rounds is given
 //!   also how fast it went.
 #![tactic(auto)]
@@ -39,6 +41,7 @@ mod run;
 mod shown;
 mod steps;
 mod texts;
+mod tied;
 mod wheels;
 
 use crate::calls::Stopped;
@@ -48,6 +51,7 @@ use crate::ports::hold_ports;
 use crate::reports::report_all;
 use crate::rounds::make_rounds;
 use crate::texts::{check_text, play_script};
+use crate::tied::live_all;
 use crate::wheels::make_wheels;
 use std::io::{self, BufReader, ErrorKind, Read};
 use std::rt::Runtime;
@@ -75,6 +79,7 @@ fn make<R: Runtime + AllocGlobal + Threads + Wait + Sync>(
         "heard" => compare(rt.alloc(), text, trial),
         "runs" => make_runs(rt.alloc(), text, trial),
         "ports" => hold_ports(rt.alloc(), text, trial),
+        "tied" => live_all(rt.alloc(), text, trial),
         "reports" => report_all(rt.alloc(), text, trial),
         "rounds" => make_rounds(rt, text, trial),
         "wheels" => make_wheels(rt.alloc(), text, trial),
