@@ -11,4 +11,3 @@ pub use Rattle.link_heart.specs.Offering
 pub use Rattle.link_heart.specs.Wanted
 pub use Rattle.link_heart.specs.Printed as WantedText
 pub use Rattle.link_heart.specs.declared as link_heart_types
-pub use Rattle.mtp2_text.specs.declared as mtp2_text_types

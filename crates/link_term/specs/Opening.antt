@@ -1,8 +1,7 @@
--- A terminal over the set of a text.
-use Rattle.std.specs.Prelude.{◌≡◌, ℕ, List, [], All}
+-- A terminal over a set.
+use Rattle.std.specs.Prelude.{◌≡◌, ℕ, [], All}
 use Rattle.profile_limits.specs.Limits.{MOST_ENVIRONMENT, MOST_JOURNAL, MOST_PORT}
 use Rattle.turn_code.specs.declared.draft.Draft.{Draft}
-use Rattle.mtp2_text.specs.Loaded.{IsLoaded, IsRefused}
 use Rattle.bit_line.specs.Deframing.{Stands}
 use Rattle.bit_line.specs.Stuffers.{Gave}
 use Rattle.resend_store.specs.declared.messages.Mode.{Mode}
@@ -10,8 +9,6 @@ use Rattle.link_machine.specs.Kept.{opened_book}
 use Rattle.link_side.specs.Half.{first_half}
 use Rattle.link_heart.specs.Known.{AreNames}
 use Rattle.link_heart.specs.Wanted.{wanted, Has, IsFirstLacking}
-use Rattle.link_term.specs.declared.opening.NewError.{NewError}
-use Rattle.link_term.specs.declared.opening.NewError.TheVariants.{Load, Open}
 use Rattle.link_term.specs.declared.opening.OpenError.{OpenError}
 use Rattle.link_term.specs.declared.opening.OpenError.TheVariants.{NoName, NoMemory}
 use Rattle.link_term.specs.Term.{Term}
@@ -39,11 +36,3 @@ pub record IsOver (d : Draft) (mode : Mode) (t : Term) : Type 0 where
 abbrev pub IsRefusedOver : Draft → OpenError → Type 0
 IsRefusedOver d (NoName name) = IsFirstLacking d name wanted
 IsRefusedOver d NoMemory = All (Has d) wanted
-
-abbrev pub IsNew : List ℕ → Mode → Term → Type 0
-IsNew text mode t = (d : Draft) × IsLoaded text d × IsOver d mode t
-
--- the text is refused, or there is no terminal over its set
-abbrev pub IsRefusedNew : List ℕ → NewError → Type 0
-IsRefusedNew text (Load fault) = IsRefused text fault
-IsRefusedNew text (Open error) = (d : Draft) × IsLoaded text d × IsRefusedOver d error

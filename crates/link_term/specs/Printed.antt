@@ -2,11 +2,8 @@
 use Rattle.std.specs.Prelude.{ℕ, List, ◌++◌, codes}
 use Rattle.link_machine.specs.Printed.{refusal_text}
 use Rattle.link_heart.specs.Printed.{wanted_text}
-use Rattle.mtp2_text.specs.Printed.{fault_text}
 use Rattle.link_term.specs.declared.answers.CallError.{CallError}
 use Rattle.link_term.specs.declared.answers.CallError.TheVariants as call
-use Rattle.link_term.specs.declared.opening.NewError.{NewError}
-use Rattle.link_term.specs.declared.opening.NewError.TheVariants as new
 use Rattle.link_term.specs.declared.opening.OpenError.{OpenError}
 use Rattle.link_term.specs.declared.opening.OpenError.TheVariants as opening
 
@@ -19,8 +16,3 @@ call_error_text call.NoMemory = codes "out of memory"
 abbrev pub open_error_text : OpenError → List ℕ
 open_error_text (opening.NoName name) = codes "X2 NoName " ++ wanted_text name
 open_error_text opening.NoMemory = codes "out of memory"
-
--- what is wrong with the text and its line, or why there is no terminal over its set
-abbrev pub new_error_text : NewError → List ℕ
-new_error_text (new.Load fault) = fault_text fault
-new_error_text (new.Open error) = open_error_text error

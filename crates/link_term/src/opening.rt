@@ -3,11 +3,10 @@ ghost use Rattle.std.specs.Prelude.{◌≡◌, All, IfOk, IfErr};
 ghost use Rattle.link_machine.specs.Kept.{opened_book};
 ghost use Rattle.link_heart.specs.Known.{AreNames};
 ghost use Rattle.link_heart.specs.Wanted.{wanted, Has};
-ghost use Rattle.link_term.specs.Opening.{PORT, ENVIRONMENT, JOURNAL, IsOver, IsNew, IsRefusedOver, IsRefusedNew};
+ghost use Rattle.link_term.specs.Opening.{PORT, ENVIRONMENT, JOURNAL, IsOver, IsRefusedOver};
 
 use crate::terminal::Terminal;
 use link_heart::{Book, Limits, Names, Wanted};
-use mtp2_text::{LoadFault, STANDARD, standard};
 use resend_store::Mode;
 use std::alloc::{AllocError, Global};
 use std::fmt;
@@ -34,29 +33,6 @@ impl fmt::Display for OpenError {
         match self {
             Self::NoName(name) => write!(f, "X2 NoName {name}"),
             Self::NoMemory => f.write_str("out of memory"),
-        }
-    }
-}
-
-/// Why there is no terminal over the program's own set.
-#[derive(Debug, Drop, Error)]
-pub enum NewError {
-    /// The text of the processes is refused, or there is no memory to load it.
-    Load(LoadFault),
-    /// There is no terminal over its set.
-    Open(OpenError),
-}
-
-impl fmt::Display for NewError {
-    ghost use Rattle.std.specs.Prelude.{Some};
-    ghost use Rattle.link_term.specs.Printed.{new_error_text};
-
-    ghost output = { λ e. Some (new_error_text e) };
-
-    fn fmt<W: fmt::Write>(&self, f: &mut fmt::Formatter<W>) -> fmt::Result {
-        match self {
-            Self::Load(fault) => write!(f, "{fault}"),
-            Self::Open(error) => write!(f, "{error}"),
         }
     }
 }
@@ -118,24 +94,6 @@ impl Terminal {
                 Err(_) => Err(OpenError::NoMemory),
             },
             Err(name) => Err(OpenError::NoName(name)),
-        }
-    }
-
-    /// A terminal over the set of the text [`mtp2_text::STANDARD`], as [`Terminal::of_set`].
-    ///
-    /// # Errors
-    ///
-    /// What `load` answers for the text, which the table of texts shows to be accepted; what [`Terminal::of_set`] does for its set.
-    pub fn new(alloc: Global, mode: Mode) -> Result<Terminal, NewError>
-        ensures ok { IfOk result (IsNew STANDARD.now mode) }
-        ensures err { IfErr result (IsRefusedNew STANDARD.now) }
-    {
-        match standard(alloc) {
-            Ok(set) => match Terminal::of_set(alloc, mode, &set) {
-                Ok(terminal) => Ok(terminal),
-                Err(error) => Err(NewError::Open(error)),
-            },
-            Err(fault) => Err(NewError::Load(fault)),
         }
     }
 }

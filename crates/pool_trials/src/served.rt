@@ -3,7 +3,7 @@
 use crate::stopped::Stopped;
 use crate::wanderer::{Made, NAMES, Wanderer, Way};
 use actor_book::{Book, Limits};
-use mtp2_text::standard;
+use mtp2_text::{LoadFault, Verified, load, standard};
 use std::alloc::{AllocError, Global};
 use std::rt::Runtime;
 use std::str::SplitWhitespace;
@@ -12,7 +12,6 @@ use std::thread::Threads;
 use std::time::{Duration, Instant};
 use turn_code::{Party, ProcessNumber, SignalNumber};
 use turn_pool::{Closed, Gate, JobName, PoolFault, serve};
-use turn_verify::{LoadFault, Verified, load};
 
 /// A gate that looks at nobody.
 #[derive(Drop)]

@@ -2,6 +2,7 @@
 
 use actor_book::Refusal;
 use arrayvec::ArrayVec;
+use mtp2_text::Verified;
 use std::rt::Clock;
 use std::sync::Wait;
 use std::sync::ledger::Ledger;
@@ -9,7 +10,6 @@ use std::thread;
 use std::time::{Duration, Instant};
 use turn_code::{SignalNumber, Sort, Value};
 use turn_pool::{Client, Pool, PoolRefusal, Seat};
-use turn_verify::Verified;
 
 /// Numbers that look random, the same in each run.
 #[derive(Clone, Copy)]

@@ -1,9 +1,9 @@
 //! Links of small sets, whose texts stand here.
 use actor_book::{Book, Limits};
+use mtp2_text::load;
 use std::alloc::{AllocError, Global};
 use turn_check::Verified;
 use turn_code::SignalNumber;
-use turn_verify::load;
 
 /// The one signal, without parameters.
 pub const UP: SignalNumber = SignalNumber(0);

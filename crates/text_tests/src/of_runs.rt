@@ -1,9 +1,9 @@
 //! Texts that are loaded, and turns of them: what they send, where they end, and how many instructions they take.
 use arrayvec::ArrayVec;
+use mtp2_text::{Verified, load};
 use std::alloc::Global;
 use turn_code::{Effect, End, Party, Place, ProcessNumber, StateNumber, Value};
 use turn_machine::{Done, Job, Received, fits, run};
-use turn_verify::{Verified, load};
 
 /// A sender of two numbers: a sum that wraps, and a remainder that isn't below 0.
 const NUMBERS: &str = "BLOCK B; SIGNAL N(Integer); SIGNALROUTE r FROM Z TO ENV WITH N;

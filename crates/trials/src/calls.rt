@@ -1,7 +1,9 @@
 //! Calls of a terminal, and why they stop a trial. What their clauses say ends here: a trial shows what none of them says.
 ghost use Rattle.std.specs.Prelude.{◌≤◌, length};
 
-use link_term::{CallError, Command, Mode, Msu, NewError, OpenError, Report, Terminal};
+use standard_link::{
+    CallError, Command, Mode, Msu, NewError, OpenError, Report, Terminal, new_terminal,
+};
 use std::alloc::{AllocError, Global};
 
 /// Why a trial stopped.
@@ -33,7 +35,7 @@ fn why_stopped(error: CallError) -> Stopped {
 
 /// A new terminal.
 pub fn terminal(alloc: Global, mode: Mode) -> Result<Terminal, Stopped> {
-    match Terminal::new(alloc, mode) {
+    match new_terminal(alloc, mode) {
         Ok(terminal) => Ok(terminal),
         Err(error) => Err(why_not_made(&error)),
     }

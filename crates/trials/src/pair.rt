@@ -5,7 +5,7 @@ use crate::end::End;
 use crate::lines::make_run;
 use crate::reports::do_steps;
 use crate::run::Run;
-use link_term::Mode;
+use standard_link::Mode;
 use std::alloc::Global;
 
 /// Both ends.

@@ -1,6 +1,6 @@
 //! Runs as they are written.
 
-use link_term::Mode;
+use standard_link::Mode;
 use std::str::SplitWhitespace;
 
 /// A run over a line.

@@ -6,11 +6,11 @@ use crate::rounds::clock::{now, rate, since};
 use crate::rounds::code::write_set;
 use crate::rounds::pool_rounds::write_pool;
 use crate::rounds::sets::{Set, load_set};
+use standard_link::Verified;
 use std::alloc::Global;
 use std::rt::{Clock, Runtime};
 use std::sync::Wait;
 use std::thread::Threads;
-use turn_verify::Verified;
 
 /// How often a book of the profile is opened in a round.
 const OPENINGS: u32 = 100;

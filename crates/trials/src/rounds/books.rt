@@ -6,12 +6,12 @@ use crate::rounds::clock::{now, since};
 use crate::rounds::pool_rounds::drive;
 use actor_book::{Book, Limits};
 use book_rest::rest;
+use standard_link::Verified;
 use std::alloc::{AllocError, Global};
 use std::rt::Clock;
 use std::time::Duration;
 use turn_code::{SignalNumber, Value};
 use turn_machine::{Job, run};
-use turn_verify::Verified;
 
 /// How many signals come to the counter before it has its turns.
 const SIGNALS: u32 = 64;

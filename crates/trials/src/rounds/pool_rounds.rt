@@ -7,13 +7,13 @@ use crate::rounds::clock::{now, since};
 use actor_book::Book;
 use book_rest::rest;
 use pool_soak::{Open, agree};
+use standard_link::Verified;
 use std::alloc::{AllocError, Global};
 use std::rt::Runtime;
 use std::sync::Wait;
 use std::thread::Threads;
 use std::time::Duration;
 use turn_pool::serve;
-use turn_verify::Verified;
 
 /// How many rounds are made where no number is asked for, and with how many workers.
 const FEW: u32 = 3;

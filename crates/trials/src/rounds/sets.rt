@@ -1,9 +1,8 @@
 //! The sets whose turns are measured.
 
 use crate::calls::Stopped;
-use mtp2_text::standard;
+use standard_link::{LoadFault, Verified, load, standard};
 use std::alloc::{AllocError, Global};
-use turn_verify::{LoadFault, Verified, load};
 
 /// The text of the counter.
 const COUNTER: &str = "BLOCK B; SIGNAL Up(Integer); SIGNALROUTE r FROM ENV TO P WITH Up;
