@@ -11,6 +11,14 @@ LONGEST_NAME = 32
 abbrev pub MOST_PROCESSES : ℕ
 MOST_PROCESSES = 16
 
+-- how many instances a process may have
+abbrev pub MOST_INSTANCES : ℕ
+MOST_INSTANCES = 8
+
+-- how many actors a set may have: 8 instances of each of 16 processes
+abbrev pub MOST_ACTORS : ℕ
+MOST_ACTORS = 128
+
 -- how many states a process may have
 abbrev pub MOST_STATES : ℕ
 MOST_STATES = 64

@@ -45,6 +45,13 @@ few_variables d p valid =
     let limit = few_variables_at d p valid in
     omega arith
 
+instances_few : (d : Draft) (p : ℕ) → IsValid d → (o : Option DraftProcess) → slice_get d.processes p ≡ o → instances_of o ≤ 8
+instances_few d p valid None e = omega arith
+instances_few d p valid (Some process) e = (process_small d p process valid e).instances
+
+pub few_instances : (d : Draft) (p : ℕ) → IsValid d → instances_at d p ≤ 8
+few_instances d p valid = instances_few d p valid (slice_get d.processes p) refl
+
 timers_few : (d : Draft) (p : ℕ) → IsValid d → (o : Option DraftProcess) → slice_get d.processes p ≡ o → length (timers_of o) ≤ 8
 timers_few d p valid None e = omega arith
 timers_few d p valid (Some process) e = (process_small d p process valid e).timers
