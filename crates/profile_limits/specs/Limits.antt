@@ -31,10 +31,6 @@ MOST_VARIABLES = 32
 abbrev pub MOST_TIMERS_EACH : ℕ
 MOST_TIMERS_EACH = 8
 
--- how many timers all processes of a set may have together: 8 for each of 16
-abbrev pub MOST_TIMERS : ℕ
-MOST_TIMERS = 128
-
 -- how many signals a set may have
 abbrev pub MOST_SIGNALS : ℕ
 MOST_SIGNALS = 128
