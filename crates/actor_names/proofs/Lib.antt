@@ -1,2 +1,2 @@
 pub mod Standing
-mod Numbering
+pub mod Numbering

@@ -4,5 +4,7 @@
 
 pub mod laws;
 mod name;
+mod number;
 
 pub use name::ActorName;
+pub use number::number_of;
