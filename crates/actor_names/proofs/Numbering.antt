@@ -181,7 +181,7 @@ ones_before (y ∷ ys) (suc p) one few =
     let sums = sum_by-cons (λ (p : DraftProcess). p.instances) y (take p ys) in
     omega (arith, head, rest, sums)
 
-there : {A : Type 0} (xs : List A) (n : ℕ) → n < length xs → (x : A) × (slice_get xs n ≡ Some x)
+pub there : {A : Type 0} (xs : List A) (n : ℕ) → n < length xs → (x : A) × (slice_get xs n ≡ Some x)
 there [] n few = absurd (omega (arith, few))
 there (x ∷ xs) zero few = (x, refl)
 there (x ∷ xs) (suc n) few = there xs n (omega (arith, few))

@@ -7,4 +7,4 @@ mod name;
 mod number;
 
 pub use name::ActorName;
-pub use number::number_of;
+pub use number::{first_of, number_of};

@@ -1,13 +1,14 @@
 //! The names that a terminal looks for in its set.
 ghost use Rattle.std.specs.Prelude.{◌≡◌, IfOk, IfErr};
 ghost use Rattle.turn_check.specs.Named.{process_names, signal_names, IsFirst, IsNowhere};
-ghost use Rattle.link_heart.specs.Known.{process_word, signal_word, AreParties, AreOrders, AreNotices, AreOutputs, AreNames, Lacks};
+ghost use Rattle.link_heart.specs.Known.{process_word, signal_word, IsActor, AreParties, AreOrders, AreNotices, AreOutputs, AreNames, Lacks};
 
 use crate::names::{Names, Notices, Orders, Outputs, Parties};
+use actor_names::first_of;
 use std::fmt;
 use thiserror::Error;
 use turn_check::Verified;
-use turn_code::{ProcessNumber, SignalNumber};
+use turn_code::SignalNumber;
 
 /// A process that the environment sends signals to.
 #[derive(Clone, Copy, PartialEq, Eq, Debug)]
@@ -118,13 +119,13 @@ impl SignalName {
     }
 }
 
-/// The number of a process.
-fn process(set: &Verified, name: ProcessName) -> Result<ProcessNumber, Missing>
-    ensures ok { IfOk result (λ n. IsFirst (process_names set.now) n.0 (process_word name)) }
+/// The number of the first instance of a process.
+fn actor(set: &Verified, name: ProcessName) -> Result<u16, Missing>
+    ensures ok { IfOk result (λ n. IsActor set.now n name) }
     ensures err { IfErr result (Lacks set.now) }
 {
     match set.process_of(name.word()) {
-        Some(number) => Ok(number),
+        Some(process) => Ok(first_of(set, process)),
         None => Err(Missing::Process(name)),
     }
 }
@@ -140,18 +141,18 @@ fn signal(set: &Verified, name: SignalName) -> Result<SignalNumber, Missing>
     }
 }
 
-/// The processes.
+/// The actors.
 fn parties(set: &Verified) -> Result<Parties, Missing>
     ensures ok { IfOk result (AreParties set.now) }
     ensures err { IfErr result (Lacks set.now) }
 {
     Ok(Parties {
-        lsc: process(set, ProcessName::Lsc)?,
-        aerm: process(set, ProcessName::Aerm)?,
-        suerm: process(set, ProcessName::Suerm)?,
-        txc: process(set, ProcessName::Txc)?,
-        rc: process(set, ProcessName::Rc)?,
-        cc: process(set, ProcessName::Cc)?,
+        lsc: actor(set, ProcessName::Lsc)?,
+        aerm: actor(set, ProcessName::Aerm)?,
+        suerm: actor(set, ProcessName::Suerm)?,
+        txc: actor(set, ProcessName::Txc)?,
+        rc: actor(set, ProcessName::Rc)?,
+        cc: actor(set, ProcessName::Cc)?,
     })
 }
 
