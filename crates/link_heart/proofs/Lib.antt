@@ -1,3 +1,4 @@
 pub mod Repeats
 pub mod Runs
 pub mod Keeping
+pub mod Actors
