@@ -102,8 +102,10 @@ fn opened_actors(
     ensures few { IfOk result (λ actors. length actors.items ≤ MOST_ACTORS) }
 {
     let mut actors = Vec::new(alloc);
-    for (number, process) in processes.iter().enumerate() {
-        open_process(alloc, &mut actors, number as u8, process, port)?;
+    let mut number = 0;
+    for process in processes {
+        open_process(alloc, &mut actors, number, process, port)?;
+        number += 1;
     }
     Ok(actors)
 }
