@@ -14,13 +14,7 @@ use turn_code::{Place, ProcessNumber};
 use turn_machine::{Job, Received};
 
 /// The job of a turn.
-fn job_with(
-    set: &Verified,
-    number: u16,
-    process: ProcessNumber,
-    place: Place,
-    given: &Given,
-) -> Job
+fn job_with(set: &Verified, number: u16, process: ProcessNumber, place: Place, given: &Given) -> Job
     requires { Fits set.now process.0 place given.now.number given.now.input }
     ensures { Some result ≡ turn_with number process place given.now (transition_at set.now process.0 place given.now.number) }
 {
@@ -78,14 +72,8 @@ fn is_job_with(
 {
     match set.transition(process, place, given.number) {
         Some(transition) => {
-            is_turn(
-                job,
-                number,
-                given.turn,
-                place,
-                given.number,
-                &given.input,
-            ) && runs_piece(job, process, transition.piece)
+            is_turn(job, number, given.turn, place, given.number, &given.input)
+                && runs_piece(job, process, transition.piece)
         }
         None => false,
     }

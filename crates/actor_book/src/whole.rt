@@ -32,14 +32,7 @@ fn run_with(
     requires { Fits set.now process.0 place given.now.number given.now.input }
     ensures { (number : ℕ) → IsEnding (turn_with number process place given.now (transition_at set.now process.0 place given.now.number)) result machine.new }
 {
-    run_in(
-        set,
-        process,
-        place,
-        given.number,
-        &given.input,
-        machine,
-    )
+    run_in(set, process, place, given.number, &given.input, machine)
 }
 
 /// Runs the turn that an actor has out to its end.

@@ -12,7 +12,6 @@ use Rattle.actor_names.specs.Laws.{instances_in, IsInstance, ActorsLaw}
 use Rattle.actor_names.specs.declared.name.ActorName.{ActorName}
 use Rattle.actor_names.proofs.Standing.{stands_there}
 
-
 -- ---- lists
 
 in_front : {A : Type 0} (xs ys : List A) (n : ℕ) (x : A) → slice_get xs n ≡ Some x → slice_get (xs ++ ys) n ≡ Some x
