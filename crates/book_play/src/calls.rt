@@ -18,7 +18,13 @@ fn begin(alloc: Global, book: &mut Book, actor: Called) -> Result<Vec<u8>, Alloc
     ensures line { IfOk result (λ v. v.items ≡ (by_event book.old actor.name.process.0 (event.Begin actor.number)).line) }
 {
     match book.begin(actor.number) {
-        Ok(job) => begun_line(alloc, book.set(), actor.name.process, job.place(), job.input_number()),
+        Ok(job) => begun_line(
+            alloc,
+            book.set(),
+            actor.name.process,
+            job.place(),
+            job.input_number(),
+        ),
         Err(refusal) => refused_line(alloc, refusal),
     }
 }
@@ -69,12 +75,7 @@ pub fn state_line(alloc: Global, book: &Book, name: &str) -> Result<Vec<u8>, All
 }
 
 /// A call on an actor.
-fn called(
-    alloc: Global,
-    book: &mut Book,
-    call: Call,
-    actor: Called,
-) -> Result<Vec<u8>, AllocError>
+fn called(alloc: Global, book: &mut Book, call: Call, actor: Called) -> Result<Vec<u8>, AllocError>
     ensures book { book.new ≡ (called book.old call actor).book }
     ensures line { IfOk result (λ v. v.items ≡ (called book.old call actor).line) }
 {
