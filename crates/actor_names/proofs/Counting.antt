@@ -3,13 +3,11 @@ use Rattle.std.proofs.Common.{◌≡◌, ℕ, zero, suc, ◌+◌, ◌-◌, ◌<�
 use Rattle.std.specs.Prelude.{slice_get, sum_by}
 use Rattle.std.proofs.lemmas.List.Sums.{sum_by-cons}
 use Rattle.std.proofs.lemmas.Option.{same_Some, none-some}
-use Rattle.turn_code.specs.Valid.{IsValid, IsValidTransition}
-use Rattle.turn_code.specs.Transitions.{start_of}
-use Rattle.turn_code.specs.declared.input.Place.TheVariants.{Start}
+use Rattle.turn_code.specs.Valid.{IsValid}
 use Rattle.turn_code.specs.declared.draft.Draft.{Draft}
 use Rattle.turn_code.specs.declared.draft.DraftProcess.{DraftProcess}
 use Rattle.turn_check.specs.Named.{instances_of, instances_at}
-use Rattle.turn_check.proofs.Whole.{start_at_0}
+use Rattle.turn_check.proofs.Whole.{process_small}
 use Rattle.actor_names.specs.Names.{named, actors_of, place_of}
 use Rattle.actor_names.specs.Laws.{instances_in, IsInstance}
 use Rattle.actor_names.specs.declared.name.ActorName.{ActorName}
@@ -30,9 +28,7 @@ process_more ps n few = ap (λ (k : ℕ). instances_in (take k ps)) (let e : n +
 
 -- each process of a valid set has an instance
 some_instance : (d : Draft) → IsValid d → (p : ℕ) (x : DraftProcess) → slice_get d.processes p ≡ Some x → 1 ≤ x.instances
-some_instance d valid p x e =
-    let t : IsValidTransition d (start_of p x) = valid.each p Start 0 (start_of p x) (start_at_0 d p x e) in
-    ((t.limit 0).process refl refl).some
+some_instance d valid p x e = (process_small d p x valid e).some
 
 -- instance k + 1 of a process is behind the processes before and the k instances before
 numbered_at : (d : Draft) (p k n : ℕ) (x : DraftProcess) → slice_get d.processes p ≡ Some x → k < x.instances → n ≡ instances_in (take p d.processes) + k

@@ -300,15 +300,7 @@ const FITS: [Fit; 8] = [
     // no such input
     (IN_RUN, 1, None, Some(0), Some(1), OUTSIDE, false),
     // no route
-    (
-        IN_RUN,
-        0,
-        None,
-        Some(0),
-        Some(1),
-        OWN,
-        false,
-    ),
+    (IN_RUN, 0, None, Some(0), Some(1), OWN, false),
     // no sender
     (IN_RUN, 0, None, Some(0), Some(1), None, false),
     // no parameter

@@ -58,7 +58,7 @@ processes_more port n m ps p before now all less is same so h =
     let Before : List DraftProcess → Type 0 = λ xs. before ++ opened_from port n xs ≡ all in
     let After : ℕ → Type 0 = λ k. now ++ opened_from port k (drop (n + 1) ps) ≡ all in
     let made : now ≡ before ++ map (opened_actor port p) (instances_from n 1 p.instances) =
-        h ∙ ap (λ (k : ℕ). before ++ map (opened_actor port p) (instances_from k 1 p.instances)) same in
+    h ∙ ap (λ (k : ℕ). before ++ map (opened_actor port p) (instances_from k 1 p.instances)) same in
     subst After (let e : suc n ≡ n + 1 = omega arith in e) (process_more port n p (drop (n + 1) ps) before now all (subst Before cut so) made)
 
 pub few_more : (n : ℕ) (ps : List DraftProcess) (p : DraftProcess) → n < length ps → AllByRecursion HasFew (drop n ps) → AllByRecursion HasFew (drop (n + 1) ps)

@@ -10,9 +10,7 @@ use actor_names::ActorName;
 use arrayvec::ArrayVec;
 use input_port::{Arrival, TIMERS};
 use link_machine::{Actor, Cause, Standing};
-use turn_code::{
-    Effect, End, InstanceNumber, Place, ProcessNumber, TimerNumber, Value,
-};
+use turn_code::{Effect, End, InstanceNumber, Place, ProcessNumber, TimerNumber, Value};
 
 /// A signal comes to an actor. One that has stopped takes none, nor does one whose port is full.
 fn receive(actor: &mut Actor, arrival: Arrival)

@@ -8,9 +8,7 @@ ghost use Rattle.tick_wheel.specs.Turning.{timers_of};
 ghost use Rattle.link_state.specs.Outcomes.{outcome_with, with_variables, HasTimer, HaveTimers};
 ghost use Rattle.profile_limits.specs.Limits.{MOST_ACTORS, MOST_EFFECTS, MOST_TIMERS_EACH, MOST_TURNS_BEGUN};
 
-use crate::actors::{
-    deliver_to, end_turn, forget_timer, number_for, refusal_at, settle_at,
-};
+use crate::actors::{deliver_to, end_turn, forget_timer, number_for, refusal_at, settle_at};
 use crate::link::Link;
 use actor_names::ActorName;
 use arrayvec::ArrayVec;

@@ -21,11 +21,7 @@ use turn_code::{Input, Trigger, Value, copied_variables};
 const TURNS: u64 = 1 << 40;
 
 /// Why an actor can't begin a turn, if it can't.
-pub(crate) fn begin_refusal(
-    set: &Verified,
-    turns: u64,
-    actor: &Actor,
-) -> Option<Refusal>
+pub(crate) fn begin_refusal(set: &Verified, turns: u64, actor: &Actor) -> Option<Refusal>
     ensures { result ≡ first_of (begin_rows set.now turns actor.now) }
 {
     if actor.is_out() {

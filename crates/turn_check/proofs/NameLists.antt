@@ -9,7 +9,7 @@ use Rattle.turn_code.specs.declared.draft.Draft.{Draft}
 use Rattle.turn_code.specs.declared.draft.DraftSignal.{DraftSignal}
 use Rattle.turn_code.specs.declared.draft.DraftProcess.{DraftProcess}
 use Rattle.turn_code.specs.declared.draft.DraftVariable.{DraftVariable}
-use Rattle.turn_check.specs.Named.{IsNamed, IsNowhere, process_names, signal_names, variable_names, variables_of, variables_at, timer_names, timers_of}
+use Rattle.turn_check.specs.Named.{IsNamed, IsNowhere, instances_of, instances_at, process_names, signal_names, variable_names, variables_of, variables_at, timer_names, timers_of}
 use Rattle.turn_check.proofs.Whole.{process_small, start_small}
 
 pub nowhere : (names : List (List ℕ)) (name : List ℕ) (n : ℕ) → length names ≤ n → ((k : ℕ) → k < n → IsNamed (slice_get names k) name → ⊥)
