@@ -22,9 +22,7 @@ use crate::transitions::{Section, read_start};
 use sdl_ast::{Block, Connection, Declaration, Entity, Identifier, Process, Start, StatePart};
 use sdl_bodies::{Marked, gathered};
 use sdl_lex::{Symbol, Token, Word};
-use sdl_tokens::{
-    AnyCount, AnyEntity, AnyName, AnyNumber, Stop, ThatNumber, stands_next, take,
-};
+use sdl_tokens::{AnyCount, AnyEntity, AnyName, AnyNumber, Stop, ThatNumber, stands_next, take};
 use std::alloc::Global;
 
 /// Reads `[number]`, this number again.
@@ -43,10 +41,7 @@ fn read_optional_number<'a>(
 
 /// Reads `, [number]`, this number again.
 #[tactic(auto, unfolding(sdl_productions::specs::Productions::second_number_at))]
-fn read_second<'a>(
-    first: u32,
-    tokens: &'a [Token],
-) -> Result<(Option<u32>, &'a [Token]), Stop<'a>>
+fn read_second<'a>(first: u32, tokens: &'a [Token]) -> Result<(Option<u32>, &'a [Token]), Stop<'a>>
     ensures { Mirrors same result (second_number_at first tokens.now) }
 {
     let (_, rest) = attempt!(take(tokens, Symbol::Comma));

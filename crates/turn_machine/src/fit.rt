@@ -10,7 +10,8 @@ use crate::received::Received;
 use arrayvec::ArrayVec;
 use turn_check::Verified;
 use turn_code::{
-    Address, DraftVariable, Party, Place, ProcessNumber, Sort, Trigger, Value, VariableNumber, VariableSet,
+    Address, DraftVariable, Party, Place, ProcessNumber, Sort, Trigger, Value, VariableNumber,
+    VariableSet,
 };
 
 /// Whether an input fits input `input_number` at a place of a process: its parameters and set variables have their
