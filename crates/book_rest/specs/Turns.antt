@@ -30,7 +30,7 @@ refusal_by (Refused r) = Some r
 refusal_by _ = None
 
 abbrev pub refusal_in : Answer → Option Refusal
-refusal_in Stuck = None
+refusal_in (Stuck x) = None
 refusal_in (Says r) = refusal_by r
 
 abbrev pub skips_by : Ledger → Ledger → Option Refusal → Tried

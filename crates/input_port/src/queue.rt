@@ -14,14 +14,15 @@ use std::alloc::{AllocError, Global};
 use std::fmt;
 use std::marker::Model;
 use thiserror::Error;
-use turn_code::{Party, SignalNumber, TimerNumber, Value};
+use turn_code::{Address, SignalNumber, TimerNumber, Value};
 
 /// A signal that has come for a process.
 #[derive(Clone, Debug, Drop)]
 pub struct Arrival {
     pub signal: SignalNumber,
     pub parameters: ArrayVec<Value, 4>,
-    pub sender: Party,
+    /// Who sent it.
+    pub sender: Address,
 }
 
 /// What waits in a port.

@@ -11,5 +11,6 @@ pub mod FitsFinish
 pub mod FitsBegin
 pub mod FitsOffer
 pub mod FitsSteps
+pub mod Opened
 pub mod Places
 pub mod Numbers

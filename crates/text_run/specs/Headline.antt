@@ -24,7 +24,8 @@ abbrev pub opened_by : Draft → LimitNumbers → Ledger
 opened_by d l = opened_book d l.port l.env l.journal
 
 -- what events do to a link that was opened with a set, by a meaning of its turns: the answers, the book and its state are the machine's.
--- The machine has an answer Stuck, for a turn whose meaning gives nothing; what is answered has none.
+-- The machine has an answer Stuck, for a turn whose meaning gives a trouble in place of an outcome: Unset, WrongSort, Underflow, NoState,
+-- NoReceiver, NoAnswer or Outside. What is answered has none.
 pub record RunsBy (act : Meaning) (d : Draft) (l : LimitNumbers) (es : List Event) (book : Ledger) (replies : List Reply) : Type 0 where
   pub answers : map Says replies ≡ answers_by act (opened_by d l) es
   pub after : book ≡ after_by act (opened_by d l) es

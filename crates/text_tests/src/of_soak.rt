@@ -240,8 +240,7 @@ impl TurnsOn {
     fn takes<R: Wait, L: Ledger>(&mut self, pool: &Pool<'_, R, L>, seat: &mut Seat<L>) -> bool {
         match pool.take_env(0, seat) {
             Ok((emitted, _)) => {
-                let is_line = emitted.sender == u16::from(self.sender.0)
-                    && emitted.signal == self.line;
+                let is_line = emitted.sender.process == self.sender && emitted.signal == self.line;
                 let three = [Value::Int(3)];
                 self.has_met = is_line && emitted.parameters.as_slice() == three.as_slice();
                 is_line

@@ -7,6 +7,7 @@ use crate::gate::{Gate, JobName};
 use crate::moves::{Move, Moved, work};
 use crate::pool::Pool;
 use actor_book::{Book, Refusal};
+use actor_names::ActorName;
 use event_seats::Seat;
 use std::sync::Wait;
 use std::sync::ledger::Ledger;
@@ -36,8 +37,8 @@ fn next_step(book: &Book) -> Option<Move>
     }
     let set = book.set();
     let link = book.state();
-    let _few = link.actors();
-    for actor in 0..16 {
+    let count = link.actors().len() as u16;
+    for actor in 0..count {
         match move_at(actor, link.begin_refusal(set, actor)) {
             Some(step) => return Some(step),
             None => {}
@@ -46,16 +47,25 @@ fn next_step(book: &Book) -> Option<Move>
     None
 }
 
-/// Does one step on a link, under its lock, if an actor there can do something.
+/// The number of the actor whose step it is.
+fn actor_of(step: &Move) -> u16 {
+    match step {
+        Move::Begin(actor) | Move::Skip(actor) => *actor,
+        Move::Finish(done) => done.job().actor(),
+    }
+}
+
+/// Does one step on a link, under its lock, if an actor there can do something: what the book answered, and the actor.
 fn step<R: Wait, L: Ledger>(
     pool: &Pool<'_, R, L>,
     seat: &mut Seat<L>,
     link: usize,
-) -> Option<Moved> {
+) -> Option<(Moved, ActorName)> {
     let mut slot = pool.links.get(link)?.lock(pool.rt);
     let step = next_step(slot.book())?;
+    let name = slot.book().name_of(actor_of(&step))?;
     let mut totals = pool.account();
-    Some(work(&mut slot, seat, &mut totals, step))
+    Some((work(&mut slot, seat, &mut totals, step), name))
 }
 
 /// Ends a turn that is out on a link.
@@ -71,12 +81,12 @@ fn end<R: Wait, L: Ledger>(
 }
 
 /// What a gate is told of a job: the link where its turn is out, its actor and its turn.
-fn name_of(link: usize, job: &Job) -> JobName
-    ensures { result ≡ record { link = link; actor = job.now.actor; turn = job.now.turn } }
+fn name_of(link: usize, actor: ActorName, job: &Job) -> JobName
+    ensures { result ≡ record { link = link; actor = actor; turn = job.now.turn } }
 {
     JobName {
         link,
-        actor: job.actor(),
+        actor,
         turn: job.turn(),
     }
 }
@@ -87,9 +97,10 @@ fn run_job<R: Wait, L: Ledger, G: Gate>(
     gate: &G,
     seat: &mut Seat<L>,
     link: usize,
+    actor: ActorName,
     job: Job,
 ) {
-    let name = name_of(link, &job);
+    let name = name_of(link, actor, &job);
     gate.enter(name);
     let _ended = end(pool, seat, link, Move::Finish(run(job)));
     gate.leave(name);
@@ -103,11 +114,11 @@ fn turn<R: Wait, L: Ledger, G: Gate>(
     link: usize,
 ) -> bool {
     match step(pool, seat, link) {
-        Some(Moved::Begun(Ok(job))) => {
-            run_job(pool, gate, seat, link, job);
+        Some((Moved::Begun(Ok(job)), actor)) => {
+            run_job(pool, gate, seat, link, actor, job);
             true
         }
-        Some(Moved::Skipped(Ok(_))) => true,
+        Some((Moved::Skipped(Ok(_)), _)) => true,
         _ => false,
     }
 }

@@ -1,0 +1,17 @@
+use Rattle.std.proofs.Common.{refl, arith}
+use Rattle.actor_names.proofs.Counting.{process_more, first_number}
+use Rattle.actor_names.proofs.number.first_of.Goals as goal
+
+pub loop-number-init : goal.loop-number-init
+loop-number-init c = (refl, omega arith)
+
+pub loop-number-preserved : goal.loop-number-preserved
+loop-number-preserved c =
+    let more = process_more c.args.set.now.processes c.loop-number.number (omega (arith, c.requires, c.loop-number-test.true)) in
+    (omega (arith, more, c.instances.ensures.value, c.loop-number.invariant.0), omega (arith, c.instances.ensures.most, c.loop-number.invariant.1))
+
+pub returns-clause-number : goal.returns-clause-number
+returns-clause-number c = first_number c.args.set.now c.draft.ensures.valid c.args.process.0 c.loop-number.count c.requires c.loop-number.invariant.0
+
+pub returns-clause-few : goal.returns-clause-few
+returns-clause-few c = c.loop-number.invariant.1
