@@ -2,7 +2,7 @@
 ghost use Rattle.std.specs.Prelude.{◌≡◌, ℕ, map};
 ghost use Rattle.sdl_lex.specs.declared.lexemes.Symbol.TheVariants as symbols;
 ghost use Rattle.sdl_tokens.specs.Readings.{token, optional};
-ghost use Rattle.sdl_ast.specs.Plain.{PlainEntity, process};
+ghost use Rattle.sdl_ast.specs.Plain.{PlainEntity, process, process_head};
 ghost use Rattle.sdl_readers.specs.SectionViews.{head_of};
 ghost use Rattle.sdl_bodies.specs.BodyViews.{marked_view};
 ghost use Rattle.sdl_bodies.specs.Marks.{Marked, map_marked, body_marked, process_marked};
@@ -92,7 +92,17 @@ pub(crate) struct ProcessHead {
     instances: u32,
 }
 
-/// Reads `PROCESS name [ ( number [, [number]] ) ] ;`; one instance where no number is written.
+/// A process of this name, with so many instances; one where no number is written.
+fn head_with(name: Identifier, instances: Option<u32>) -> ProcessHead
+    ensures { head_of result ≡ process_head name instances }
+{
+    match instances {
+        Some(instances) => ProcessHead { name, instances },
+        None => ProcessHead { name, instances: 1 },
+    }
+}
+
+/// Reads `PROCESS name [ ( number [, [number]] ) ] ;`.
 #[tactic(auto, unfolding(sdl_productions::specs::Productions::process_head_at))]
 fn read_process_head<'a>(tokens: &'a [Token]) -> Result<(ProcessHead, &'a [Token]), Stop<'a>>
     ensures { Mirrors head_of result (process_head_at tokens.now) }
@@ -101,11 +111,7 @@ fn read_process_head<'a>(tokens: &'a [Token]) -> Result<(ProcessHead, &'a [Token
     let (name, rest) = attempt!(take(rest, AnyName));
     let (instances, rest) = attempt!(read_optional_instances(rest));
     let (_, rest) = attempt!(terminator(rest));
-    let instances = match instances {
-        Some(count) => count,
-        None => 1,
-    };
-    Ok((ProcessHead { name, instances }, rest))
+    Ok((head_with(name, instances), rest))
 }
 
 /// What stands before the START of a process.
