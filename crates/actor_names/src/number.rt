@@ -13,14 +13,16 @@ pub fn number_of(set: &Verified, name: ActorName) -> Option<u16>
     ensures { result ≡ place_of name (actors_of set.now.processes) }
 {
     let _valid = set.draft();
-    let instance = u16::from(name.instance.0);
+    let instance = name.instance.0;
     if instance < 1 {
         return None;
     }
-    if set.instances(name.process) < u32::from(instance) {
+    let most = set.instances(name.process);
+    let wanted = u32::from(instance);
+    if most < wanted {
         return None;
     }
-    Some(first_of(set, name.process) + instance - 1)
+    Some(first_of(set, name.process) + u16::from(instance) - 1)
 }
 
 /// The number of the first instance of a process of a set.

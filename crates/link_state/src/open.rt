@@ -78,7 +78,8 @@ fn open_process(
     requires few { HasFew process.now }
     ensures { OnOk result (actors.new.items ≡ actors.old.items ++ map (opened_actor port process.now) (instances_from number 1 process.now.instances)) }
 {
-    for done in 0..process.instances as u8 {
+    let count = process.instances as u8;
+    for done in 0..count {
         let name = ActorName {
             process: ProcessNumber(number),
             instance: InstanceNumber(done + 1),

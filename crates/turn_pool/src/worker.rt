@@ -37,8 +37,9 @@ fn next_step(book: &Book) -> Option<Move>
     }
     let set = book.set();
     let link = book.state();
-    let count = link.actors().len() as u16;
-    for actor in 0..count {
+    let there = link.actors();
+    let count = there.len();
+    for actor in 0..count as u16 {
         match move_at(actor, link.begin_refusal(set, actor)) {
             Some(step) => return Some(step),
             None => {}

@@ -11,7 +11,7 @@ loop-number-preserved c =
     (omega (arith, more, c.instances.ensures.value, c.loop-number.invariant.0), omega (arith, c.instances.ensures.most, c.loop-number.invariant.1))
 
 pub returns-clause-number : goal.returns-clause-number
-returns-clause-number c = first_number c.args.set.now c.draft.ensures.valid c.args.process.0 c.loop-number.count c.requires c.loop-number.invariant.0
+returns-clause-number c = first_number c.args.set.now c.draft-valid.ensures.valid c.args.process.0 c.loop-number.count c.requires c.loop-number.invariant.0
 
 pub returns-clause-few : goal.returns-clause-few
 returns-clause-few c = c.loop-number.invariant.1

@@ -3,6 +3,9 @@ use Rattle.link_machine.specs.declared.actor.Actor.{Actor}
 use Rattle.link_state.proofs.Opened.{all_left, none_left, instance_more}
 use Rattle.link_state.proofs.open.open_process.Goals as goal
 
+pub overflow_cast-count : goal.overflow_cast-count
+overflow_cast-count c = omega (arith, c.requires.few.instances)
+
 pub loop-done-init : goal.loop-done-init
 loop-done-init c = ap (λ (xs : List Actor). c.args.actors.now.items ++ xs) (all_left c.args.port c.args.process.now c.args.number)
 

@@ -9,6 +9,9 @@ pub open_process-requires-clause-few : goal.open_process-requires-clause-few
 open_process-requires-clause-few c =
     few_here c.loop-process.process-index c.args.processes.now c.process-item.result c.loop-process-test.true c.process-item.is c.loop-process.invariant.1
 
+pub overflow_add-number : goal.overflow_add-number
+overflow_add-number c = omega (arith, c.loop-process.invariant.2, c.loop-process-test.true, c.requires.count)
+
 pub loop-process-preserved : goal.loop-process-preserved
 loop-process-preserved c =
     let ps = c.args.processes.now in

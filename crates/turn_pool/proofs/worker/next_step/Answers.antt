@@ -5,6 +5,6 @@ use Rattle.turn_pool.proofs.worker.next_step.Goals as goal
 
 pub returns : goal.returns
 returns c room =
-    let actors = c.actors.ensures.value ∙ ap (λ (w : Core). w.actors) c.state-link.ensures in
+    let actors = c.actors-there.ensures.value ∙ ap (λ (w : Core). w.actors) c.state-link.ensures in
     let few = ap length actors in
-    all_of c.args.book.now c.loop-actor.actor c.loop-actor.invariant (omega (arith, few, c.actors.ensures.few, c.len.ensures, c.loop-actor-test.false))
+    all_of c.args.book.now c.loop-actor.actor c.loop-actor.invariant (omega (arith, few, c.actors-there.ensures.few, c.len-count.ensures, c.loop-actor-test.false))
