@@ -1,3 +1,4 @@
+pub mod Giving
 pub mod Refusing
 pub mod Turning
 pub mod Opening
