@@ -1,7 +1,8 @@
 -- What one end of a link wrote on its line for what it read there.
-use Rattle.std.specs.Prelude.{◌≡◌, ℕ, min, List, Option}
+use Rattle.std.specs.Prelude.{◌≡◌, ⊤, ℕ, min, List, [], Option, None, Some}
 use Rattle.resend_store.specs.declared.messages.Mode.{Mode}
 use Rattle.link_term.specs.Term.{Term}
+use Rattle.line_filter.specs.Orders.{Timed}
 use Rattle.line_filter.specs.Runs.{State}
 use Rattle.line_filter.specs.Speaking.{IsSilent}
 use Rattle.line_filter.specs.Filters.{MOST_AHEAD, IsOver}
@@ -16,11 +17,18 @@ pub record Line : Type 0 where
   pub read : Option (List ℕ)
   pub written : Option (List ℕ)
 
--- A terminal spoke from its first octet to its last, by some orders: what was written is what it gave for what was read, behind so many octets of silence.
-pub record Spoke (term : Term) (bits : Bits) (ahead : ℕ) (old new : Line) : Type 0 where
+-- where no word names orders, there are none
+abbrev pub AreOrdered : {A : Type 0} → Option A → Option (List Timed) → Type 0
+AreOrdered None left = left ≡ Some []
+AreOrdered (Some path) left = ⊤
+
+-- A terminal spoke from its first octet to its last: what was written is what it gave for what was read, behind so many octets of silence, and by
+-- which orders is known where there are none.
+pub record Spoke {A : Type 0} (orders : Option A) (term : Term) (bits : Bits) (ahead : ℕ) (old new : Line) : Type 0 where
   pub first : State LinkEnd
   pub is_term : first.term.terminal ≡ term
   pub silent : IsSilent first.voice
+  pub ordered : AreOrdered orders first.left
   pub last : State LinkEnd
   pub count : ℕ
   pub told_before : Option (List ℕ)
@@ -32,4 +40,4 @@ pub record Spoke (term : Term) (bits : Bits) (ahead : ℕ) (old new : Line) : Ty
 pub record SpokeOver (end : LineEnd) (old new : Line) (bytes : List ℕ) : Type 0 where
   pub term : Term
   pub is_new : IsNewOver end.mode term bytes
-  pub spoke : Spoke term end.bits (min end.ahead MOST_AHEAD) old new
+  pub spoke : Spoke end.orders term end.bits (min end.ahead MOST_AHEAD) old new

@@ -1,9 +1,12 @@
 //! One end of a link on its line, from its first octet to its last.
-ghost use Rattle.std.specs.Prelude.{◌≡◌, ◌⊎◌, min};
+ghost use Rattle.std.specs.Prelude.{◌≡◌, ◌⊎◌, None, IfOk, min};
 ghost use Rattle.line_filter.specs.Filters.{MOST_AHEAD};
 ghost use Rattle.line_filter.specs.Speaking.{IsSilent};
+ghost use Rattle.line_orders.specs.Reading.{left_of};
 ghost use Rattle.line_play.specs.Checked.{given, IsGiven};
-ghost use Rattle.line_command.specs.Spoken.{Spoke, SpokeOver};
+ghost use Rattle.line_play.specs.Opening.{IsNoSet};
+ghost use Rattle.line_streams.specs.Known.{known_of};
+ghost use Rattle.line_command.specs.Spoken.{AreOrdered, Spoke, SpokeOver};
 
 use crate::words::LineEnd;
 use line_filter::Orders;
@@ -29,7 +32,9 @@ struct Streams<'a, H: Eprint> {
 fn open_streams<'a, H: Files<File = File> + Threads + Eprint + AllocGlobal>(
     host: &'a H,
     end: &LineEnd<'_>,
-) -> io::Result<Streams<'a, H>> {
+) -> io::Result<Streams<'a, H>>
+    ensures { IfOk result (λ s. AreOrdered end.now.orders (left_of known_of s.orders)) }
+{
     let alloc = host.alloc();
     let orders = open_orders(host, alloc, end.orders)?;
     let reports = open_reports(host, alloc, end.reports, Errors { rt: host })?;
@@ -48,8 +53,9 @@ fn serve<O: Orders, P: Write, R: Read, W: Write>(
     writer: &mut W,
 ) -> u8
     requires silent { IsSilent desk.old.voice }
+    requires ordered { AreOrdered end.now.orders (O.left desk.old.orders) }
     requires new { desk.old.count ≡ 0 }
-    ensures spoke { result ≡ 0 → Spoke desk.old.terminal.terminal end.now.bits (min end.now.ahead MOST_AHEAD)
+    ensures spoke { result ≡ 0 → Spoke end.now.orders desk.old.terminal.terminal end.now.bits (min end.now.ahead MOST_AHEAD)
         (record { read = R.remaining reader.old; written = W.contents writer.old })
         (record { read = R.remaining reader.new; written = W.contents writer.new }) }
     ensures status { (result ≡ 0) ⊎ (result ≡ 4) }
@@ -66,7 +72,7 @@ fn speak<H: Files<File = File> + Threads + Eprint + Clock + AllocGlobal, R: Read
     reader: &mut R,
     writer: &mut W,
 ) -> u8
-    ensures spoke { result ≡ 0 → Spoke terminal end.now.bits (min end.now.ahead MOST_AHEAD)
+    ensures spoke { result ≡ 0 → Spoke end.now.orders terminal end.now.bits (min end.now.ahead MOST_AHEAD)
         (record { read = R.remaining reader.old; written = W.contents writer.old })
         (record { read = R.remaining reader.new; written = W.contents writer.new }) }
     ensures status { (result ≡ 0) ⊎ (result ≡ 4) }
@@ -94,6 +100,7 @@ pub fn run_line<
     ensures spoke { result ≡ 0 → IsGiven (given S.remaining set) (SpokeOver end.now
         (record { read = R.remaining reader.old; written = W.contents writer.old })
         (record { read = R.remaining reader.new; written = W.contents writer.new })) }
+    ensures refused { result ≡ 2 → IsGiven (given S.remaining set) (IsNoSet None None) }
     ensures status { (result ≡ 0) ⊎ (result ≡ 2) ⊎ (result ≡ 4) }
 {
     match new_terminal(host.alloc(), end.mode, set, &mut Errors { rt: host }) {

@@ -1,5 +1,5 @@
 //! What words say of one end of a link.
-ghost use Rattle.std.specs.Prelude.{◌≡◌, ◌⊎◌, None, IfSome, IsNone, option_map};
+ghost use Rattle.std.specs.Prelude.{◌≡◌, IfSome, IsNone, option_map};
 ghost use Rattle.line_play.specs.Orders.{mode_named};
 ghost use Rattle.line_command.specs.Words.{bits_named, bits_of, ahead_named, ahead_of, IsEndOf, IsNoEnd};
 
@@ -51,7 +51,7 @@ fn bits_named(word: &str) -> Option<Bits>
 
 /// Which bit of an octet is the first, by the word for it.
 fn bits_of(word: Option<&str>) -> Option<Bits>
-    ensures { result ≡ bits_of (option_map (λ w. w.now) word) }
+    ensures { result ≡ bits_of (option_map (λ w. w.now) word.entry) }
 {
     match word {
         Some(word) => bits_named(word),
@@ -71,7 +71,7 @@ fn ahead_named(word: &str) -> Option<usize>
 
 /// How many octets go ahead, by the word for it.
 fn ahead_of(word: Option<&str>) -> Option<usize>
-    ensures { result ≡ ahead_of (option_map (λ w. w.now) word) }
+    ensures { result ≡ ahead_of (option_map (λ w. w.now) word.entry) }
 {
     match word {
         Some(word) => ahead_named(word),

@@ -127,7 +127,8 @@ fn soaked<'a>(script: &'a str, workers: &str) -> Option<Request<'a>>
 
 /// The set of a terminal on a line that a word names. Standard input is the line, and no text.
 fn text_named(word: &str) -> Option<Named<'_>>
-    ensures { IfSome result (λ set. IsTextNamed set word.now) }
+    ensures some { IfSome result (λ set. IsTextNamed set word.now) }
+    ensures none { IsNone result → word.now ≡ codes "stdin" }
 {
     match word {
         "standard" => Some(Named::Standard),
@@ -139,7 +140,7 @@ fn text_named(word: &str) -> Option<Named<'_>>
 
 /// The set of a terminal on a line, by the word for it: `standard` where there is none.
 fn text_of<'a>(word: Option<&'a str>) -> Option<Named<'a>>
-    ensures { IfSome result (IsText (option_map (λ w. w.now) word)) }
+    ensures { IfSome result (IsText (option_map (λ w. w.now) word.entry)) }
 {
     match word {
         Some(word) => text_named(word),
