@@ -19,7 +19,7 @@ pub data IsSaid : List (Option (List ℕ)) → List Bool → List (List ℕ) →
 -- the answer that the octet which goes out next wants: none, the octets of the unit that the terminal gave, or that it gave none
 abbrev pub answer_of : {T : Type 0} {acts : T → Act → T → Type 0} {t u : T} {v w : Voice} {gives : ℕ} → Gives acts t v gives u w → List (Option (List ℕ))
 answer_of (fixed ready sending same) = []
-answer_of (fresh unit ready act stuffs) = Some stuffs.frame ∷ []
+answer_of (fresh x ready act stuffs) = Some stuffs.frame ∷ []
 answer_of (silent ready act none fills) = None ∷ []
 
 -- the terminal's answers along a run, the newest first
