@@ -1,7 +1,7 @@
 -- A desk's run is what its terminal spoke.
 use Rattle.std.proofs.Common.{◌≡◌, refl, ℕ, List, Option}
 use Rattle.std.specs.Prelude.{min}
-use Rattle.link_term.specs.Term.{Term}
+use Rattle.line_play.specs.Term.{Term}
 use Rattle.line_filter.specs.Desks.{state_of}
 use Rattle.line_filter.specs.Filters.{MOST_AHEAD, IsOver, Streams}
 use Rattle.line_filter.specs.Orders.{Timed}

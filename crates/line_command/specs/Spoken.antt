@@ -1,7 +1,6 @@
 -- What one end of a link wrote on its line for what it read there.
 use Rattle.std.specs.Prelude.{◌≡◌, ⊤, ℕ, min, List, [], Option, None, Some}
-use Rattle.resend_store.specs.declared.messages.Mode.{Mode}
-use Rattle.link_term.specs.Term.{Term}
+use Rattle.line_play.specs.Term.{Term}
 use Rattle.line_filter.specs.Orders.{Timed}
 use Rattle.line_filter.specs.Runs.{State}
 use Rattle.line_filter.specs.Speaking.{IsSilent}
