@@ -72,6 +72,8 @@ class End:
         for name, *_ in link.statuses:
             if name == "Down":
                 self.due[at], self.started[at] = True, False
+            if name == "InServiceNow":
+                self.uneven = True
         link.messages, link.statuses = [], []
 
     def hear(self, at, octets):
@@ -110,7 +112,6 @@ class End:
             try:
                 self.set.divert(at, self.hands[at])
                 del self.hands[at]
-                self.uneven = True
             except Refused:
                 self.due[at] = False
             return

@@ -6,6 +6,7 @@
 //! - An end calls `fail` for a link, and hears what is said of its changeover, only while that is down there.
 //! - A cut is healed some rounds after both ends have their hand out and no message of changeover about it is under way. Then both ends start the
 //!   link.
+//! - An end shares selections out anew once a link came into service, as soon as that isn't refused.
 
 use crate::calls::{Stopped, serves};
 use crate::dice::Dice;

@@ -38,7 +38,7 @@ impl SetEnd {
     fn go_on(&mut self, link: usize, dice: &mut Dice) -> Result<(), Stopped> {
         let place = link % 16;
         match divert(&mut self.group, &mut self.hands, link) {
-            Went::On => self.uneven = true,
+            Went::On => {}
             Went::Left(_) => self.due[place] = false,
             Went::Nowhere => {
                 if hand_out_late(&mut self.group, &mut self.hands, link, dice)? {
