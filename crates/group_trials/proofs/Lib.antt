@@ -1,2 +1,2 @@
 mod Openings
-mod Keeping
+mod Kept

@@ -1,5 +1,5 @@
 use Rattle.std.proofs.Common.{arith}
-use Rattle.group_trials.proofs.Keeping.{room_left}
+use Rattle.group_trials.proofs.Kept.{room_left}
 use Rattle.group_trials.proofs.keeping.divert.Goals as goal
 
 pub divert_taken-requires : goal.divert_taken-requires
