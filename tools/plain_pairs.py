@@ -14,7 +14,7 @@ from plain_term import FLAG, ROOT, bits_of, check_octets, octets_of, stuffed
 RUNS = ROOT / "examples" / "links" / "pairs.txt"
 TEXT = (ROOT / "examples" / "standard.sdl").read_bytes()
 FILLER = bytes.fromhex("FF7E00FE3F5AFFFF117E7EC38001F81FAAFF3E990000F7EF")
-MOST_ROUNDS, GIVEN, UNITS, TICKS, CUTS, HEALS, MOST_MAIL = 6000, 8, 16, 300, 25, 6, 64
+MOST_ROUNDS, GIVEN, UNITS, TICKS, CUTS, HEALS, MOST_MAIL = 6000, 8, 16, 300, 12, 6, 64
 NEAR, FAR = 1, 16383
 
 
@@ -72,6 +72,8 @@ class End:
         for name, *_ in link.statuses:
             if name == "Down":
                 self.due[at], self.started[at] = True, False
+            if name == "InServiceNow":
+                self.uneven = True
         link.messages, link.statuses = [], []
 
     def hear(self, at, octets):
@@ -110,7 +112,6 @@ class End:
             try:
                 self.set.divert(at, self.hands[at])
                 del self.hands[at]
-                self.uneven = True
             except Refused:
                 self.due[at] = False
             return
@@ -153,8 +154,8 @@ class Pair:
         self.cuts += 1
 
     def cut_one(self):
-        at = self.draw() % 16
-        if self.one_in(CUTS) and at < self.links and not self.cut[at] and self.near.free(at) and self.far.free(at):
+        at = self.draw() % self.links
+        if self.one_in(CUTS) and not self.cut[at] and self.near.free(at) and self.far.free(at):
             self.cut_link(at)
 
     def send(self, to, sif):

@@ -26,16 +26,19 @@ use Rattle.group_laws.specs.Reached.{Gone, acknowledged, unsure, unacknowledged_
 
 -- ---- messages that have left
 
+both : (gone more : List Gone) → unsure_in (gone ++ more) ≡ unsure_in gone + unsure_in more
+both gone more = sum_by-append (λ (g : Gone). cond g.unsure 1 0) gone more
+
 known_none : (ms : List Msu) → unsure_in (acknowledged ms) ≡ 0
 known_none [] = refl
 known_none (m ∷ ms) = omega (arith, known_none ms)
 
 all_unsure : (ms : List Msu) → unsure_in (unsure ms) ≡ length ms
 all_unsure [] = refl
-all_unsure (m ∷ ms) = omega (arith, all_unsure ms)
-
-both : (gone more : List Gone) → unsure_in (gone ++ more) ≡ unsure_in gone + unsure_in more
-both gone more = sum_by-append (λ (g : Gone). cond g.unsure 1 0) gone more
+all_unsure (m ∷ ms) =
+    let one : unsure_in (unsure (m ∷ [])) ≡ 1 = refl in
+    let step : unsure_in (unsure (m ∷ ms)) ≡ unsure_in (unsure (m ∷ [])) + unsure_in (unsure ms) = both (unsure (m ∷ [])) (unsure ms) in
+    omega (arith, one, step, all_unsure ms)
 
 -- of those that were acknowledged none is unsure
 none_more : (n most : ℕ) (gone : List Gone) (ms : List Msu) → n ≡ min most (unsure_in gone) → n ≡ min most (unsure_in (gone ++ acknowledged ms))

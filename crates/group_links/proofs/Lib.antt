@@ -1,4 +1,3 @@
-pub mod Giving
 pub mod Refusing
 pub mod Turning
 pub mod Opening

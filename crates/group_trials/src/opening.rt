@@ -1,6 +1,8 @@
 //! New sets.
-ghost use Rattle.std.specs.Prelude.{◌≡◌, ◌<◌, ◌≤◌, ◌+◌, All, vec_len, length, IfOk, OnOk};
-ghost use Rattle.group_links.specs.New.{IsUnused};
+ghost use Rattle.std.specs.Prelude.{◌≡◌, ◌++◌, ◌∷◌, [], IfOk, OnOk};
+ghost use Rattle.link_term.specs.Opening.{IsOver};
+ghost use Rattle.link_term.specs.Term.{Term};
+ghost use Rattle.group_trials.specs.Opened.{AreNew};
 
 use crate::calls::Stopped;
 use crate::messages::Way;
@@ -15,11 +17,11 @@ fn push_terminal(
     mode: Mode,
     terminals: &mut Vec<Terminal>,
 ) -> Result<(), Stopped>
-    requires { All IsUnused terminals.old.items }
-    ensures unused { OnOk result (All IsUnused terminals.new.items) }
-    ensures more { OnOk result (length terminals.new.items ≡ length terminals.old.items + 1) }
+    ensures { OnOk result ((t : Term) × IsOver set.now mode t × (terminals.new.items ≡ terminals.old.items ++ t ∷ [])) }
 {
-    terminals.reserve(1)?;
+    if terminals.reserve(1).is_err() {
+        return Err(Stopped::NoMemory);
+    }
     match Terminal::of_set(alloc, mode, set) {
         Ok(terminal) => {
             terminals.push_reserved(terminal);
@@ -29,19 +31,21 @@ fn push_terminal(
     }
 }
 
-/// So many terminals that hold no message.
+/// So many.
 fn terminals(
     alloc: Global,
     set: &Verified,
     mode: Mode,
     links: usize,
 ) -> Result<Vec<Terminal>, Stopped>
-    ensures unused { IfOk result (λ v. All IsUnused v.items) }
-    ensures number { IfOk result (λ v. length v.items ≡ links) }
+    ensures { IfOk result (λ v. AreNew set.now mode links v.items) }
 {
     let mut terminals = Vec::new(alloc);
     for made in 0..links {
-        push_terminal(alloc, set, mode, &mut terminals)?;
+        match push_terminal(alloc, set, mode, &mut terminals) {
+            Ok(()) => {}
+            Err(stopped) => return Err(stopped),
+        }
     }
     Ok(terminals)
 }
@@ -57,7 +61,10 @@ pub fn open_set(
     if links < 1 || links > 16 || way.from >= 16_384 || way.to >= 16_384 {
         return Err(Stopped::BadLine);
     }
-    let terminals = terminals(alloc, set, mode, links)?;
+    let terminals = match terminals(alloc, set, mode, links) {
+        Ok(terminals) => terminals,
+        Err(stopped) => return Err(stopped),
+    };
     match Group::new(alloc, way.from, way.to, terminals) {
         Ok(group) => Ok(group),
         Err(_) => Err(Stopped::NoMemory),

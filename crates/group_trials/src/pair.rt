@@ -1,11 +1,11 @@
 //! Two sets back to back, round by round.
+ghost use Rattle.std.specs.Prelude.{◌≤◌};
 
 use crate::calls::Stopped;
 use crate::dice::Dice;
 use crate::run::Run;
 use crate::schedule::Schedule;
 use crate::set_end::SetEnd;
-use link_group::Command;
 
 /// How many rounds a run has at most.
 const MOST_ROUNDS: u32 = 6_000;
@@ -18,13 +18,15 @@ const UNITS: usize = 16;
 /// How many milliseconds a round takes.
 const TICKS: u64 = 300;
 
-/// What a cut link hears in a round at most: 1s. Half of it at least.
+/// What a cut link hears in a round at most, and half of it at least.
 const ONES: [u8; 400] = [0xFF; 400];
 
-/// How many 1s a cut link hears.
-fn ones(dice: &mut Dice) -> &'static [u8] {
+/// How many octets of 1s a cut link hears.
+fn ones(dice: &mut Dice) -> usize
+    ensures { result ≤ 400 }
+{
     let more = (dice.draw() % 201) as usize;
-    ONES.get(..200usize.saturating_add(more)).unwrap_or(&[])
+    200 + more
 }
 
 /// Units go one way on a link; on a cut one 1s come in their place.
@@ -37,7 +39,8 @@ fn carry(
 ) -> Result<(), Stopped> {
     let octets = from.speak(link, UNITS)?;
     if is_cut {
-        to.hear(link, ones(dice))
+        let count = ones(dice);
+        to.hear(link, &ONES[..count])
     } else {
         to.hear(link, octets.as_slice())
     }

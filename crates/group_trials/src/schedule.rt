@@ -6,6 +6,7 @@
 //! - An end calls `fail` for a link, and hears what is said of its changeover, only while that is down there.
 //! - A cut is healed some rounds after both ends have their hand out and no message of changeover about it is under way. Then both ends start the
 //!   link.
+//! - An end shares selections out anew once a link came into service, as soon as that isn't refused.
 
 use crate::calls::{Stopped, serves};
 use crate::dice::Dice;
@@ -13,7 +14,7 @@ use crate::set_end::{MOST_MAIL, SetEnd};
 use link_group::Sif;
 
 /// In how many rounds one link is cut, and one cut is healed.
-const CUTS: u32 = 25;
+const CUTS: u32 = 12;
 
 const HEALS: u32 = 6;
 
@@ -40,8 +41,8 @@ fn link_in(sif: &Sif) -> usize {
 
 /// Whether a message about a link is under way to an end.
 fn has_mail(end: &SetEnd, link: usize) -> bool {
-    for sif in &end.mail {
-        if link_in(sif) == link {
+    for place in 0..end.mail.len() {
+        if link_in(&end.mail[place]) == link {
             return true;
         }
     }
@@ -76,8 +77,8 @@ impl Schedule {
 
     /// Cuts a link now and then.
     pub fn cut_one(&mut self, near: &mut SetEnd, far: &mut SetEnd, links: usize, dice: &mut Dice) {
-        let link = (dice.draw() % 16) as usize;
-        if !dice.one_in(CUTS) || link >= links || self.is_cut(link) {
+        let link = (dice.draw() % (links as u64).max(1)) as usize;
+        if !dice.one_in(CUTS) || self.is_cut(link) {
             return;
         }
         if near.is_free(link) && far.is_free(link) {
@@ -107,7 +108,11 @@ impl Schedule {
     /// Sends a message of changeover to an end, or loses it.
     pub fn send(&mut self, to: &mut SetEnd, sif: Sif, dice: &mut Dice) {
         self.orders = self.orders.wrapping_add(1);
-        if dice.one_in(self.lost) || to.mail.len() >= MOST_MAIL || to.mail.push_back(sif).is_err() {
+        if dice.one_in(self.lost) || to.mail.len() >= MOST_MAIL {
+            self.losses = self.losses.wrapping_add(1);
+            return;
+        }
+        if to.mail.push_back(sif).is_err() {
             self.losses = self.losses.wrapping_add(1);
         }
     }

@@ -23,7 +23,7 @@ pub struct SetEnd {
     pub due: [bool; 16],
     /// Whether each link was told to start since it went down.
     started: [bool; 16],
-    /// Whether selections are to be shared out anew.
+    /// Whether selections are to be shared out anew, since a link came into service.
     pub uneven: bool,
 }
 
@@ -81,6 +81,7 @@ impl SetEnd {
         match report {
             Report::Message(msu) => self.counts.take(Way { from: to, to: from }, &msu),
             Report::Status(LinkStatus::Down(_)) => self.fall(link),
+            Report::Status(LinkStatus::InService) => self.uneven = true,
             Report::Status(_) => {}
         }
     }

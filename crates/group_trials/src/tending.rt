@@ -1,139 +1,61 @@
 //! What an end does for a link in changeover.
-ghost use Rattle.std.specs.Prelude.{◌≡◌, ◌<◌, length};
-ghost use Rattle.link_group.specs.Diverting.{Owns};
 
-use crate::calls::{Stopped, abandon, retrieve, serves};
+use crate::calls::{Stopped, serves};
 use crate::dice::Dice;
+use crate::keeping::{Given, Went, divert, give_up, hand_out};
 use crate::set_end::SetEnd;
-use link_group::{AbandonError, DivertError, Group, Hands, RetrieveError, Retrieved, Sif};
+use link_group::{Group, Hands, RetrieveError, Sif};
 
-/// How many hands may be kept.
-const MOST_HANDS: usize = 16;
-
-/// Keeps a hand behind the others.
-fn keep(hands: &mut Hands, hand: Retrieved)
-    requires { length hands.old.kept.items < MOST_HANDS }
-{
-    match hands.put(hand) {
-        Ok(()) => {}
-        Err(_hand) => unreachable!(),
-    }
-}
-
-/// Diverts a hand, and keeps what is left of it. Whether all of it went.
-fn divert_hand(group: &mut Group, hands: &mut Hands, hand: Retrieved) -> bool
-    requires owned { Owns group.old hand.link hand.messages.items }
-    requires room { length hands.old.kept.items < MOST_HANDS }
-{
-    match group.divert(hand) {
-        Ok(()) => true,
-        Err(DivertError { fault: _, rest }) => {
-            keep(hands, rest);
-            false
-        }
-    }
-}
-
-/// The same of one that was taken out.
-fn divert_taken(group: &mut Group, hands: &mut Hands, hand: Retrieved) -> bool
-    requires { length hands.old.kept.items < MOST_HANDS }
-{
-    if group.owns(&hand) {
-        return divert_hand(group, hands, hand);
-    }
-    keep(hands, hand);
-    false
-}
-
-/// Where a link's messages are.
-#[derive(Clone, Copy)]
-enum Went {
-    /// Where they were.
-    Nowhere,
-    /// In hand.
-    Out,
-    /// With other links.
-    On,
-}
-
-/// Gives up what may or may not have arrived, and hands out the rest.
-fn give_up(group: &mut Group, hands: &mut Hands, link: usize) -> Result<Went, Stopped>
-    requires { length hands.old.kept.items < MOST_HANDS }
-{
-    match abandon(group, link) {
-        Ok(hand) => {
-            keep(hands, hand);
-            Ok(Went::Out)
-        }
-        Err(AbandonError::NoMemory) => Err(Stopped::NoMemory),
-        Err(AbandonError::NoLink) => Ok(Went::Nowhere),
-        Err(AbandonError::Waiting) => Ok(Went::Nowhere),
-    }
-}
-
-/// Hands out a link's messages, if that isn't refused. Where it isn't known which arrived, a late answer may still come, and is waited for.
-fn hand_out(
+/// Gives up what may or may not have arrived, now and then: a late answer may still come. Whether the rest is in hand.
+fn give_up_late(
     group: &mut Group,
     hands: &mut Hands,
     link: usize,
     dice: &mut Dice,
-) -> Result<Went, Stopped> {
-    if hands.len() >= MOST_HANDS {
-        return Ok(Went::Nowhere);
+) -> Result<bool, Stopped> {
+    if !dice.one_in(4) {
+        return Ok(false);
     }
-    match retrieve(group, link) {
-        Ok(hand) => {
-            keep(hands, hand);
-            Ok(Went::Out)
-        }
-        Err(RetrieveError::Unsure(_)) => {
-            if dice.one_in(4) {
-                give_up(group, hands, link)
-            } else {
-                Ok(Went::Nowhere)
-            }
-        }
-        Err(RetrieveError::NoMemory) => Err(Stopped::NoMemory),
-        Err(RetrieveError::NoLink) => Ok(Went::Nowhere),
-        Err(RetrieveError::Waiting) => Ok(Went::Nowhere),
-    }
+    Ok(give_up(group, hands, link)?.is_some())
 }
 
-/// The next step of a changeover that goes on: its messages are handed out, and then diverted.
-fn go_on(
+/// Hands out a link's messages, if that isn't refused. Whether they are in hand.
+fn hand_out_late(
     group: &mut Group,
     hands: &mut Hands,
     link: usize,
     dice: &mut Dice,
-) -> Result<Went, Stopped> {
-    if hands.len() > MOST_HANDS {
-        return Ok(Went::Nowhere);
-    }
-    match hands.take(link) {
-        Some(hand) => {
-            if divert_taken(group, hands, hand) {
-                Ok(Went::On)
-            } else {
-                Ok(Went::Out)
-            }
-        }
-        None => hand_out(group, hands, link, dice),
+) -> Result<bool, Stopped> {
+    match hand_out(group, hands, link)? {
+        Given::Out(_) => Ok(true),
+        Given::Refused(RetrieveError::Unsure(_)) => give_up_late(group, hands, link, dice),
+        Given::Refused(_) => Ok(false),
     }
 }
 
 impl SetEnd {
+    /// The next step of a changeover that goes on: messages in hand are diverted, and else they are handed out.
+    fn go_on(&mut self, link: usize, dice: &mut Dice) -> Result<(), Stopped> {
+        let place = link % 16;
+        match divert(&mut self.group, &mut self.hands, link) {
+            Went::On => {}
+            Went::Left(_) => self.due[place] = false,
+            Went::Nowhere => {
+                if hand_out_late(&mut self.group, &mut self.hands, link, dice)? {
+                    self.due[place] = false;
+                }
+            }
+        }
+        Ok(())
+    }
+
     /// The next step for a link that is down or in changeover. The order to send, where its changeover begins here.
     pub fn tend(&mut self, link: usize, dice: &mut Dice) -> Result<Option<Sif>, Stopped> {
-        let place = link % 16;
         if self.group.in_changeover(link) {
-            match go_on(&mut self.group, &mut self.hands, link, dice)? {
-                Went::Out => self.due[place] = false,
-                Went::On => self.uneven = true,
-                Went::Nowhere => {}
-            }
+            self.go_on(link, dice)?;
             return Ok(None);
         }
-        if self.due[place] && !serves(&self.group, link) && dice.one_in(3) {
+        if self.due[link % 16] && !serves(&self.group, link) && dice.one_in(3) {
             return Ok(self.group.fail(link).ok());
         }
         Ok(None)

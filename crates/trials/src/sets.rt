@@ -1,12 +1,12 @@
-//! Link sets back to back.
+//! Link sets over the program's own set of processes.
 
 use crate::calls::Stopped;
-use group_trials::{Stopped as SetStopped, run_sets};
-use standard_link::standard;
+use group_trials::{Stopped as SetStopped, make_calls, run_sets};
+use standard_link::{Verified, standard};
 use std::alloc::Global;
 
 /// Why a trial of sets stopped.
-fn why_stopped(stopped: SetStopped) -> Stopped {
+pub fn why_stopped(stopped: SetStopped) -> Stopped {
     match stopped {
         SetStopped::NoMemory => Stopped::NoMemory,
         SetStopped::Refused => Stopped::Refused,
@@ -14,13 +14,22 @@ fn why_stopped(stopped: SetStopped) -> Stopped {
     }
 }
 
-/// Makes runs of two sets over the program's own set of processes, and writes what came of each.
-pub fn make_sets(alloc: Global, text: &mut String, runs: &str) -> Result<(), Stopped> {
-    let Ok(set) = standard(alloc) else {
-        return Err(Stopped::NoMemory);
-    };
-    match run_sets(alloc, text, &set, runs) {
-        Ok(()) => Ok(()),
-        Err(stopped) => Err(why_stopped(stopped)),
+/// The processes.
+pub fn standard_set(alloc: Global) -> Result<Verified, Stopped> {
+    match standard(alloc) {
+        Ok(set) => Ok(set),
+        Err(_) => Err(Stopped::NoMemory),
     }
+}
+
+/// Makes runs of two sets back to back, and writes what came of each.
+pub fn make_sets(alloc: Global, text: &mut String, runs: &str) -> Result<(), Stopped> {
+    let set = standard_set(alloc)?;
+    run_sets(alloc, text, &set, runs).map_err(why_stopped)
+}
+
+/// Makes each public call of a set, and writes what it answers.
+pub fn call_each(alloc: Global, text: &mut String) -> Result<(), Stopped> {
+    let set = standard_set(alloc)?;
+    make_calls(alloc, text, &set).map_err(why_stopped)
 }
