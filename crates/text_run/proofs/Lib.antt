@@ -1,2 +1,2 @@
-mod Certified
+mod Ending
 mod Whole
