@@ -30,8 +30,10 @@ module _ (b : PlainBlock) (d : Draft) (is_set : IsSetOf b d) (n : ℕ) (t : Turn
   of_transition : (s : Place) (g : Given) (x : Transition) (o : Option Transition) → transition_at d n s g.number ≡ Some x → FitsTransition d x g.input
       → o ≡ Some x → turn_with n s g o ≡ Some t → IsOfText b n t
   of_transition s g x o there fits same h =
-      let e : Some (turn_of n g.turn (record { 0 = n }) s g.number x.piece.code x.piece.certificate g.input) ≡ Some t = rw same at h in
-      subst (IsOfText b n) (same_Some _ t e) (record {
+      let made : Turn = turn_of n g.turn (record { 0 = n }) s g.number x.piece.code x.piece.certificate g.input in
+      let e : Some made ≡ Some t = rw same at h in
+      let is : made ≡ t = same_Some made t e in
+      subst (λ (t : Turn). IsOfText b n t) is (record {
         meant = is_set.means n s g.number x g.input there fits;
         longest = is_set.certified.each n s g.number x there;
       })
