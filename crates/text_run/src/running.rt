@@ -1,9 +1,6 @@
 //! A text is loaded and run.
 ghost use Rattle.std.specs.Prelude.{IfOk};
-ghost use Rattle.sdl_lex.specs.declared.lexemes.Token as lexeme;
 ghost use Rattle.sdl_ast.specs.Plain.{PlainBlock};
-ghost use Rattle.turn_verify.specs.Loaded.{IsLoaded, IsRead, IsSoundText, IsRefused, Gives};
-ghost use Rattle.turn_verify.specs.Blocks.{MatchesBlock};
 ghost use Rattle.turn_verify.specs.Meant.{IsSetOf};
 ghost use Rattle.text_run.specs.Headline.{Headline, RunsAsRead};
 

@@ -73,12 +73,21 @@ fn run(alloc: Global, text: &str) -> Option<Result<[u32; 7], u32>> {
 /// START counts 3, and the turn of a 7 counts 7.
 #[test]
 fn a_text_runs(rt: HostRuntime) {
-    assert_eq!(rt; run(rt.alloc(), COUNTER), Some(Ok([2, 103, 1, 10, 2, 107, 20])));
+    assert_eq!(rt;
+        run(rt.alloc(), COUNTER),
+        Some(Ok([2, 103, 1, 10, 2, 107, 20]))
+    );
 }
 
 #[test]
 fn a_text_is_refused_by_its_layer(rt: HostRuntime) {
     assert_eq!(rt; run(rt.alloc(), "BLOCK B?"), Some(Err(1)));
     assert_eq!(rt; run(rt.alloc(), "BLOCK B"), Some(Err(2)));
-    assert_eq!(rt; run(rt.alloc(), "BLOCK B; PROCESS P; START; NEXTSTATE S; ENDPROCESS; ENDBLOCK;"), Some(Err(3)));
+    assert_eq!(rt;
+        run(
+            rt.alloc(),
+            "BLOCK B; PROCESS P; START; NEXTSTATE S; ENDPROCESS; ENDBLOCK;"
+        ),
+        Some(Err(3))
+    );
 }
