@@ -13,6 +13,8 @@ ROOT = pathlib.Path(__file__).resolve().parent.parent
 # The programs that `rt ci` leaves, or others in their place.
 PLAY = pathlib.Path(os.environ.get("MTP2_PLAY", ROOT / "crates" / "mtp2_play" / "out" / "mtp2_play"))
 TRIALS = pathlib.Path(os.environ.get("TRIALS", ROOT / "crates" / "trials" / "out" / "trials"))
+# The tests that want a loaded text, each run by its name.
+TESTS = pathlib.Path(os.environ.get("TEXT_TESTS", ROOT / "crates" / "text_tests" / "out" / "text_tests_tests"))
 # Seconds that one run may take.
 LIMIT = 60
 
