@@ -21,7 +21,7 @@ def kit():
     sys.modules["kit_rt"] = module
     loader.exec_module(module)
     keep_sums(module.rtlib.Crate)
-    cut_libraries(module.rtlib)
+    cut_libraries(module)
     return module
 
 
@@ -53,15 +53,17 @@ def keep_sums(crates):
     crates.below, crates.stamp = below, stamp
 
 
-def cut_libraries(lib):
+def cut_libraries(rt):
     """Has `rt` build each library with what other crates can cite of it and without its proofs, as `rt ci` does.
 
     A library as `rt check` builds it has all its proofs, and a crate loads those of every function that it calls and, by these, of all
     that these call, down to the lowest crate: minutes of processor and gigabytes in an upper crate, before its own first function. What
-    is proved and what is stated are the same. A library without its proofs is proved from nothing; where a check of the crate left
-    work in out/, the library is built over that, in seconds, proofs and all. Statements fit only the very libraries that they were
-    built over, so which these were is kept beside them, and where one is another now, the library is built again."""
-    crates, built, whole = lib.Crate, lib.Crate.is_built, lib.Crate.build_rlib
+    is proved and what is stated are the same. A library that `rt ci` proved and kept on this machine is taken as it is. Else one without
+    its proofs is proved from nothing; where a check of the crate left work in out/, the library is built over that, in seconds, proofs
+    and all. Statements fit only the very libraries that they were built over, so which these were is kept beside them, and where one is
+    another now, the library is built again."""
+    lib = rt.rtlib
+    crates, built, whole, store = lib.Crate, lib.Crate.is_built, lib.Crate.build_rlib, []
     if "--statements" not in lib.help_of("build"):
         return
 
@@ -71,24 +73,42 @@ def cut_libraries(lib):
     def over(crate):
         return "\n".join(f"{it.name} {lib.sum_of(f'{it.rlib}/format')}" for it in crate.below())
 
+    def note(crate, below, stamp):
+        for name, text in (("over", below), ("stamp", stamp)):
+            with open(f"{kept(crate)}/{name}", "w", encoding="utf-8") as it:
+                it.write(text)
+
     def is_built(crate):
         return built(crate) and lib.text_of(f"{kept(crate)}/over") == over(crate)
+
+    def take(crate):
+        """Has the library that `rt ci` kept of the same files, over the same libraries, stand in out/, if there is one."""
+        if not hasattr(rt, "Kept"):
+            return False
+        if not store:
+            rt.Crate.allowed = rt.handles_of(os.path.dirname(os.path.dirname(crate.folder)))
+            store.append(rt.Kept([]))
+        for it in crate.below():
+            if it.name not in store[0].rlibs:
+                store[0].is_built(it)
+        return store[0].give(crate, False, store[0].key(crate))
 
     def build_rlib(crate, flags, anew):
         if anew:
             return whole(crate, flags, anew)
         if is_built(crate):
             return 0
-        stamp = crate.stamp()
+        stamp, below = crate.stamp(), over(crate)
         shutil.rmtree(kept(crate), ignore_errors=True)
         os.makedirs(kept(crate))
-        below, is_begun = over(crate), crate.has_kept()
+        if take(crate):
+            note(crate, below, stamp)
+            return 0
+        is_begun = crate.has_kept()
         words = [*crate.words(flags, keeps=is_begun), *(lib.KEPT if is_begun else ["--statements"]), "-o", crate.rlib]
         status = crate.call(lib.RATTLE, "build", *words)
         if status == 0 and stamp == crate.stamp():
-            for name, text in (("over", below), ("stamp", stamp)):
-                with open(f"{kept(crate)}/{name}", "w", encoding="utf-8") as it:
-                    it.write(text)
+            note(crate, below, stamp)
         return status
 
     crates.is_built, crates.build_rlib = is_built, build_rlib
