@@ -82,7 +82,8 @@ def cut_libraries(rt):
         return built(crate) and lib.text_of(f"{kept(crate)}/over") == over(crate)
 
     def take(crate):
-        """Has the library that `rt ci` kept of the same files, over the same libraries, stand in out/, if there is one."""
+        """Has the library that `rt ci` kept of the same files, over the same libraries, stand in out/, if there is one. Where a run of it is
+        proving just that, it is waited for."""
         if not hasattr(rt, "Kept"):
             return False
         if not store:
@@ -91,7 +92,11 @@ def cut_libraries(rt):
         for it in crate.below():
             if it.name not in store[0].rlibs:
                 store[0].is_built(it)
-        return store[0].give(crate, False, store[0].key(crate))
+        key = store[0].key(crate)
+        if store[0].give(crate, False, key):
+            return True
+        with store[0].in_turn(crate, False, key) as has_waited:
+            return has_waited and store[0].give(crate, False, key)
 
     def build_rlib(crate, flags, anew):
         if anew:
@@ -112,3 +117,5 @@ def cut_libraries(rt):
         return status
 
     crates.is_built, crates.build_rlib = is_built, build_rlib
+    # (a quick pass over the sources of all crates below, before any of them is built, takes ten minutes and 10 GB in an upper crate)
+    crates.front_end = lambda _: 0
