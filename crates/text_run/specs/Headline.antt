@@ -9,7 +9,7 @@ use Rattle.turn_verify.specs.Meant.{IsSetOf, IsCertifiedBy, meaning_of}
 use Rattle.turn_verify.specs.declared.loading.LoadFault.{LoadFault}
 use Rattle.turn_verify.specs.declared.loading.LoadFault.TheVariants.{Lex, Parse, Rule, NoMemory}
 use Rattle.actor_book.specs.Limits.{LimitNumbers}
-use Rattle.link_machine.specs.Step.{Says, report_of}
+use Rattle.link_machine.specs.Step.{Answer, Says, report_of}
 use Rattle.link_machine.specs.Ledger.{Ledger, ask, answers_by, after_by, state_by, state_of, turn_out}
 use Rattle.link_machine.specs.Kept.{opened_book}
 use Rattle.link_machine.specs.declared.event.Event.{Event}
