@@ -4,14 +4,14 @@ use crate::calls::Stopped;
 use crate::rounds::clock::{now, since};
 use crate::sets::{standard_set, why_stopped};
 use group_trials::FullSet;
+use standard_link::Verified;
 use std::alloc::Global;
 use std::rt::Clock;
 use std::time::Duration;
-use turn_check::Verified;
 
 /// What a round has, and how long it took.
 #[derive(Clone, Copy)]
-struct Round {
+struct Moved {
     sent: u32,
     sending: Duration,
     diverted: usize,
@@ -19,7 +19,7 @@ struct Round {
 }
 
 /// Fills a link, and diverts what it holds.
-fn measure(rt: &impl Clock, full: &mut FullSet) -> Result<Round, Stopped> {
+fn measure(rt: &impl Clock, full: &mut FullSet) -> Result<Moved, Stopped> {
     let window = full.send_window().map_err(why_stopped)?;
     let start = now(rt)?;
     let more = full.send_more();
@@ -27,7 +27,7 @@ fn measure(rt: &impl Clock, full: &mut FullSet) -> Result<Round, Stopped> {
     let start = now(rt)?;
     let diverted = full.divert().map_err(why_stopped)?;
     let diverting = since(rt, start)?;
-    Ok(Round {
+    Ok(Moved {
         sent: window.wrapping_add(more),
         sending,
         diverted,
@@ -36,7 +36,7 @@ fn measure(rt: &impl Clock, full: &mut FullSet) -> Result<Round, Stopped> {
 }
 
 /// A round on a new set.
-fn round(rt: &impl Clock, alloc: Global, set: &Verified) -> Result<Round, Stopped> {
+fn round(rt: &impl Clock, alloc: Global, set: &Verified) -> Result<Moved, Stopped> {
     match FullSet::open(alloc, set) {
         Ok(mut full) => {
             let round = measure(rt, &mut full);
@@ -61,7 +61,7 @@ fn write_times(
     rounds: u32,
 ) -> Result<(), Stopped> {
     for _ in 0..rounds {
-        let Round {
+        let Moved {
             sent: _,
             sending,
             diverted: _,
@@ -85,7 +85,7 @@ pub fn write_sets(
     match asked {
         Some(rounds) => write_times(rt, alloc, text, &set, rounds),
         None => {
-            let Round { sent, diverted, .. } = round(rt, alloc, &set)?;
+            let Moved { sent, diverted, .. } = round(rt, alloc, &set)?;
             writeln!(text, "sent {sent}\ndiverted {diverted}")?;
             Ok(())
         }
