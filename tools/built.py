@@ -13,8 +13,10 @@ ROOT = pathlib.Path(__file__).resolve().parent.parent
 # The programs that `rt ci` leaves, or others in their place.
 PLAY = pathlib.Path(os.environ.get("MTP2_PLAY", ROOT / "crates" / "mtp2_play" / "out" / "mtp2_play"))
 TRIALS = pathlib.Path(os.environ.get("TRIALS", ROOT / "crates" / "trials" / "out" / "trials"))
-# Seconds that one run may take.
-LIMIT = 60
+# The tests that want a loaded text, each run by its name.
+TESTS = pathlib.Path(os.environ.get("TEXT_TESTS", ROOT / "crates" / "text_tests" / "out" / "text_tests_tests"))
+# Seconds that one run may take: few take more than one, and this is for a machine that has much else to do.
+LIMIT = 600
 
 
 class Run:
@@ -70,7 +72,12 @@ def called(given):
 def side_by_side(call, given, jobs=None):
     """What `call` gives for each of these, in their order, asked on all processors, or in so many processes."""
     how = {"max_workers": jobs or len(os.sched_getaffinity(0)), "mp_context": multiprocessing.get_context("fork")}
-    with concurrent.futures.ProcessPoolExecutor(**how) as pool:
+    try:
+        processes = concurrent.futures.ProcessPoolExecutor(**how)
+    except (ImportError, OSError):
+        # (a machine without shared memory has no queue for them)
+        return [call(*it) for it in given]
+    with processes as pool:
         return list(pool.map(called, [(call, it) for it in given], chunksize=max(1, min(16, len(given) // 40))))
 
 
@@ -90,14 +97,36 @@ def missing(*programs):
     return bool(lacking)
 
 
+# The least that a library here needs of a machine, and a program before which it is loaded.
+LEAST = """#define _GNU_SOURCE
+#include <dlfcn.h>
+#include <stdio.h>
+#include <unistd.h>
+__attribute__((constructor)) static void least(void) { if (dlsym(RTLD_NEXT, "read")) (void)!write(1, "loaded", 6); }
+"""
+BEFORE = "int main(void) { return 0; }\n"
+
+
+def loads(compiler, folder):
+    """Whether a compiler makes a library that can be loaded before a program, the two least that there are."""
+    library, program = pathlib.Path(folder) / "least.so", pathlib.Path(folder) / "before"
+    (folder / "least.c").write_text(LEAST)
+    (folder / "before.c").write_text(BEFORE)
+    silent = {"stdin": subprocess.DEVNULL, "stderr": subprocess.DEVNULL}
+    try:
+        for words in [["-shared", "-fPIC", "-o", library, folder / "least.c", "-ldl"], ["-o", program, folder / "before.c"]]:
+            subprocess.run([compiler, *words], stdout=subprocess.DEVNULL, check=True, **silent)
+        return subprocess.run([program], stdout=subprocess.PIPE, env={**os.environ, "LD_PRELOAD": str(library)}, **silent).stdout == b"loaded"
+    except (OSError, subprocess.CalledProcessError):
+        return False
+
+
 def library(folder, name):
-    """Compiles a library of tools/ into a folder; None where there is no C compiler, or one that can't even compile the least of libraries."""
-    least, made = pathlib.Path(folder) / "least.c", pathlib.Path(folder) / f"{name}.so"
-    least.write_text("#define _GNU_SOURCE\n#include <dlfcn.h>\n#include <stdio.h>\n#include <unistd.h>\nint least(void) { return dlsym(RTLD_NEXT, \"read\") != NULL; }\n")
+    """Compiles a library of tools/ into a folder; None where there is no C compiler, or nothing that it makes can be loaded before a program."""
+    made = pathlib.Path(folder) / f"{name}.so"
     for compiler in filter(None, map(shutil.which, ["cc", "clang", "gcc"])):
-        words = [compiler, "-O1", "-shared", "-fPIC", "-o", made]
-        if subprocess.run([*words, least, "-ldl"], stdout=subprocess.DEVNULL, stderr=subprocess.DEVNULL).returncode == 0:
-            subprocess.run([*words, ROOT / "tools" / f"{name}.c", "-ldl"], check=True)
+        if loads(compiler, pathlib.Path(folder)):
+            subprocess.run([compiler, "-O1", "-shared", "-fPIC", "-o", made, ROOT / "tools" / f"{name}.c", "-ldl"], check=True)
             return str(made)
     return None
 

@@ -125,8 +125,9 @@ class Link(Terminal):
 
 
 class Group:
-    def __init__(self, text, cyclic, links):
-        self.links, self.table, self.unsure = [Link(text, cyclic) for _ in range(links)], [None] * 16, 0
+    def __init__(self, links, own=OWN, peer=OTHER):
+        self.links, self.table, self.unsure = links, [None] * 16, 0
+        self.own, self.peer = own, peer
 
     def link(self, at):
         if at >= len(self.links):
@@ -201,7 +202,7 @@ class Group:
     def message(self, at, heading, anew_heading):
         """A message that tells the number of the last one accepted on a link, or that it isn't known."""
         link = self.links[at]
-        return labelled(OTHER, OWN, at, [anew_heading] if link.anew else [heading, link.receiver.last])
+        return labelled(self.peer, self.own, at, [anew_heading] if link.anew else [heading, link.receiver.last])
 
     def fail(self, at):
         if self.link(at).changing:
@@ -212,7 +213,7 @@ class Group:
     def changeover_message(self, sif):
         """The answer to a message that came, if there is one."""
         message = changeover_in(sif)
-        if message is None or message[0][:2] != (OWN, OTHER) or message[0][2] >= len(self.links):
+        if message is None or message[0][:2] != (self.own, self.peer) or message[0][2] >= len(self.links):
             return None
         (_, _, at), heading, fsn = message
         link = self.links[at]
@@ -221,7 +222,7 @@ class Group:
         link.tell("unknown" if fsn is None or link.anew else fsn)
         if heading == COO:
             return self.message(at, COA, ECA)
-        return labelled(OTHER, OWN, at, [ECA]) if heading == ECO else None
+        return labelled(self.peer, self.own, at, [ECA]) if heading == ECO else None
 
     def retrieve(self, at):
         why = self.link(at).why_not()
@@ -296,7 +297,7 @@ class Player:
     """A set, the hands of its links, and the link that lines speak of."""
 
     def __init__(self, text, cyclic, links):
-        self.group, self.hands, self.on = Group(text, cyclic, links), {}, 0
+        self.group, self.hands, self.on = Group([Link(text, cyclic) for _ in range(links)]), {}, 0
 
     def do(self, word, *rest):
         """Does a command, and gives the lines to print for it."""

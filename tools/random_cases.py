@@ -1,4 +1,4 @@
-"""What random_texts, random_scripts and random_terminals share: cases made by number and seed, side by side on all processors, held against what the plain
+"""What random_texts, random_scripts, random_terminals and random_groups share: cases made by number and seed, side by side on all processors, held against what the plain
 programs of this folder say. A case that differs is left in out/NAME/, with both answers."""
 import collections
 import os

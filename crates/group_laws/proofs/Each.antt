@@ -7,8 +7,8 @@ use Rattle.resend_store.specs.Window.{Window}
 use Rattle.link_side.specs.Half.{Half}
 use Rattle.link_heart.specs.Machine.{tidied}
 use Rattle.link_heart.specs.Laws.{KeptLaw}
-use Rattle.link_term.specs.Kept.{window_of}
-use Rattle.link_term.specs.Term.{Term, with_heart}
+use Rattle.group_links.specs.Kept.{window_of}
+use Rattle.group_links.specs.Term.{Term, with_heart}
 use Rattle.link_places.specs.declared.marks.Marks.{Marks}
 use Rattle.link_places.specs.Laws.{StepsKeepPlaces}
 use Rattle.link_places.specs.Places.{OnePlace}

@@ -7,3 +7,4 @@ mod Working
 mod Diverting
 mod Ending
 mod Each
+mod Counting

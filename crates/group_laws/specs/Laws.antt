@@ -1,5 +1,6 @@
 -- What holds over every list of calls.
-use Rattle.std.specs.Prelude.{ℕ, List, [], Option, Some, None, slice_get}
+use Rattle.std.specs.Prelude.{◌≡◌, ◌-◌, ◌^◌, ℕ, min, List, [], Option, Some, None, slice_get}
+use Rattle.std.specs.List.{count_by}
 use Rattle.resend_store.specs.declared.messages.Msu.{Msu}
 use Rattle.link_places.specs.Places.{Places, OnePlace}
 use Rattle.link_places.specs.Sharing.{link_of}
@@ -29,3 +30,12 @@ places_of c hands accepted gone = record {
 abbrev pub EachInOnePlace : Type 0
 EachInOnePlace = (c : LinkSet) (hands : ℕ → List Msu) (accepted : List Msu) (gone : List Gone) → Reached c hands accepted gone
     → OnePlace (places_of c hands accepted gone)
+
+-- of how many of those that have left it was never known whether they arrived
+abbrev pub unsure_in : List Gone → ℕ
+unsure_in gone = count_by (λ g. g.unsure) gone
+
+-- That is what the set's count of unsure messages says, up to its greatest value.
+abbrev pub UnsureAreCounted : Type 0
+UnsureAreCounted = (c : LinkSet) (hands : ℕ → List Msu) (accepted : List Msu) (gone : List Gone) → Reached c hands accepted gone
+    → c.unsure ≡ min (2 ^ 64 - 1) (unsure_in gone)

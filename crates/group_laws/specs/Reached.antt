@@ -9,7 +9,7 @@ use Rattle.link_places.specs.Limits.{SELECTIONS}
 use Rattle.link_places.specs.Sharing.{selection_of}
 use Rattle.link_machine.specs.declared.reply.Refusal.{Refusal}
 use Rattle.link_heart.specs.declared.commands.Command.{Command}
-use Rattle.link_term.specs.Term.{Term}
+use Rattle.group_links.specs.Term.{Term}
 use Rattle.link_refusals.specs.declared.errors.DivertFault.{DivertFault}
 use Rattle.group_links.specs.declared.link.Link.{Link}
 use Rattle.group_links.specs.OneLink.{window, held, number_of}

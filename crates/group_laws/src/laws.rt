@@ -1,5 +1,5 @@
-//! Laws of link sets. The call costs nothing.
-ghost use Rattle.group_laws.specs.Laws.{EachInOnePlace};
+//! Laws of link sets. The calls cost nothing.
+ghost use Rattle.group_laws.specs.Laws.{EachInOnePlace, UnsureAreCounted};
 
 use link_heart::unacknowledged_messages_stay;
 use link_places::steps_keep_places;
@@ -13,3 +13,9 @@ pub fn each_message_stands_in_one_place()
     steps_keep_places();
     unacknowledged_messages_stay();
 }
+
+/// Over every list of calls of a set and of its terminals: `unsure` is how many of the messages that have left are unsure, up to its greatest
+/// value.
+pub fn unsure_messages_are_counted()
+    ensures { UnsureAreCounted }
+{}

@@ -3,4 +3,4 @@
 
 mod laws;
 
-pub use laws::each_message_stands_in_one_place;
+pub use laws::{each_message_stands_in_one_place, unsure_messages_are_counted};

@@ -7,8 +7,8 @@ use Rattle.std.proofs.lemmas.List.Elements.{All-map}
 use Rattle.std.proofs.lemmas.List.Folds.{list_any_more}
 use Rattle.std.proofs.lemmas.List.Sums.{sum_by-drop_more}
 use Rattle.link_machine.specs.declared.reply.Refusal.{Refusal}
-use Rattle.link_heart.specs.declared.heart.Heart.{Heart}
-use Rattle.link_heart.specs.Machine.{with_book, tidied, is_low, offered, tick_refusal}
+use Rattle.link_term.specs.link_heart_types.heart.Heart.{Heart}
+use Rattle.link_term.specs.Machine.{with_book, tidied, is_low, offered, tick_refusal}
 use Rattle.link_machine.specs.Ledger.{ask, rebased}
 use Rattle.link_machine.specs.Step.{Says}
 use Rattle.link_machine.specs.declared.event.Event.TheVariants.{Advance}

@@ -4,10 +4,10 @@ use Rattle.link_machine.specs.Ledger.{ask}
 use Rattle.link_machine.specs.Step.{Says}
 use Rattle.link_machine.specs.declared.reply.Refusal.{Refusal}
 use Rattle.link_machine.specs.declared.reply.Reply.TheVariants as reply
-use Rattle.link_heart.specs.Machine.{is_low, tidied, offered}
-use Rattle.link_heart.specs.Offering.{command_event}
-use Rattle.link_heart.specs.declared.commands.Command.{Command}
-use Rattle.link_heart.specs.declared.commands.Command.TheVariants as order
+use Rattle.link_term.specs.Machine.{is_low, tidied, offered}
+use Rattle.link_term.specs.Offering.{command_event}
+use Rattle.link_term.specs.link_heart_types.commands.Command.{Command}
+use Rattle.link_term.specs.link_heart_types.commands.Command.TheVariants as order
 use Rattle.link_term.specs.Term.{with_heart}
 use Rattle.link_term.specs.Kept.{Keeps}
 use Rattle.link_places.specs.declared.marks.Marks.{Marks}

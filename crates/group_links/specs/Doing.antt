@@ -1,7 +1,7 @@
 -- What a link does by its terminal, and that it comes into service.
 use Rattle.std.specs.Prelude.{◌≡◌, ℕ, ◌<◌, ◌≤◌, ◌&&◌, ◌⊎◌, Bool, true, false, not, if◌then◌else◌, List, length, take, Option, Some, None, slice_get, slice_set}
 use Rattle.link_side.specs.Limits.{KEPT_MESSAGES}
-use Rattle.link_heart.specs.Machine.{is_low, sent, tidied}
+use Rattle.link_term.specs.Machine.{is_low, sent, tidied}
 use Rattle.link_term.specs.Term.{with_half, with_heart}
 use Rattle.link_term.specs.Kept.{Took, Sends, window_of}
 use Rattle.link_term.specs.Hearing.{Heard}
@@ -30,6 +30,11 @@ asked k = record {
 abbrev pub came_by : Option Link → Bool
 came_by None = false
 came_by (Some k) = came_first k
+
+-- Its journal is low: it needs memory to make room there.
+abbrev pub low_at : Option Link → Bool
+low_at None = false
+low_at (Some k) = is_low k.terminal.heart
 
 -- the terminal of the link at a place did this, and nothing else changed
 pub record AtLink (did : Link → Link → Type 0) (l : ℕ) (old new : List Link) : Type 0 where

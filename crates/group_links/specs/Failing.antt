@@ -1,7 +1,7 @@
 -- Changeover at one link (Q.704): how it begins, what is said of it, and which messages are handed out.
-use Rattle.std.specs.Prelude.{ℕ, ◌-◌, Bool, true, false, if◌then◌else◌, List, [], Option, Some, None}
+use Rattle.std.specs.Prelude.{ℕ, ◌-◌, Bool, true, false, if◌then◌else◌, List, [], length, Option, Some, None}
 use Rattle.resend_store.specs.declared.messages.Msu.{Msu}
-use Rattle.resend_store.specs.Window.{retrieved}
+use Rattle.resend_store.specs.Window.{unacknowledged, retrieved}
 use Rattle.link_labels.specs.declared.changeover.Changeover.{Changeover}
 use Rattle.link_labels.specs.declared.changeover.Kind.{Kind}
 use Rattle.link_labels.specs.declared.changeover.Kind.TheVariants as kind
@@ -68,9 +68,10 @@ messages_by f (Some k) = retrieved (window k) (f k)
 abbrev pub given_up : Link → Link
 given_up k = hands_out None k
 
+-- how many of its messages are sent and not acknowledged
 abbrev pub sent_by : Option Link → ℕ
 sent_by None = 0
-sent_by (Some k) = (window k).sent
+sent_by (Some k) = length (unacknowledged (window k))
 
 abbrev pub none_known : Link → Option ℕ
 none_known k = None

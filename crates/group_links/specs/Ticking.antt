@@ -6,7 +6,7 @@ use Rattle.link_machine.specs.declared.event.Event.TheVariants.{Advance}
 use Rattle.link_machine.specs.declared.reply.Refusal.{Refusal}
 use Rattle.link_machine.specs.declared.reply.Reply.{Reply}
 use Rattle.link_machine.specs.declared.reply.Reply.TheVariants as reply
-use Rattle.link_heart.specs.Machine.{is_low, tidied, offered, tick_refusal}
+use Rattle.link_term.specs.Machine.{is_low, tidied, offered, tick_refusal}
 use Rattle.link_term.specs.Term.{with_heart}
 use Rattle.link_places.specs.Marks.{waits}
 use Rattle.group_links.specs.declared.link.Link.{Link}

@@ -1,8 +1,9 @@
 //! What a link does by its terminal.
 ghost use Rattle.std.specs.List.{list_any};
-ghost use Rattle.std.specs.Prelude.{◌≡◌, ◌||◌, map, ◌<◌, length, slice_get, IfOk, OnErr, Err};
+ghost use Rattle.std.specs.Prelude.{◌≡◌, ◌||◌, map, ◌<◌, length, slice_get, true, IfOk, OnErr, Err};
+ghost use Rattle.link_term.specs.Machine.{is_low};
 ghost use Rattle.group_links.specs.Links.{change};
-ghost use Rattle.group_links.specs.Doing.{AtLink, Listened, Spoken, Sent, Reported, asked, came_first, came_by};
+ghost use Rattle.group_links.specs.Doing.{AtLink, Listened, Spoken, Sent, Reported, low_at, asked, came_first, came_by};
 
 use crate::link::Link;
 use link_term::Report;
@@ -39,6 +40,7 @@ impl Link {
     fn send(&mut self) -> Result<Option<Unit>, AllocError>
         ensures ok { IfOk result (λ unit. Sent unit self.old self.new) }
         ensures err { OnErr result (self.new ≡ self.old) }
+        ensures low { OnErr result (is_low self.old.terminal.heart ≡ true) }
     {
         self.terminal.unit_out()
     }
@@ -117,6 +119,7 @@ pub fn send_at(links: &mut [Link], at: usize) -> Result<Option<Unit>, AllocError
     requires { at < length links.old }
     ensures ok { IfOk result (λ unit. AtLink (Sent unit) at links.old links.new) }
     ensures err { OnErr result (links.new ≡ links.old) }
+    ensures low { OnErr result (low_at (slice_get links.old at) ≡ true) }
 {
     match links[at].send() {
         Ok(unit) => Ok(unit),

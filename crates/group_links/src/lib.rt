@@ -20,6 +20,7 @@ pub use link_refusals::{
     AbandonError, CommandError, DivertFault, FailError, LineError, LinkError, RebalanceError,
     RetrieveError, SendError,
 };
+pub use link_term::{CallError, Command, LinkStatus, Mode, Msu, Report, Terminal};
 pub use links::{abandon_at, fail_at, hear_at, put_at, retrieve_at};
 pub use moving::hand_over;
 pub use new::all_fresh;

@@ -85,9 +85,12 @@ pub fn abandon_at(links: &mut [Link], at: usize) -> Result<(VecDeque<Msu>, usize
     ensures err { OnErr result (links.new ≡ links.old) }
 {
     if at < links.len() {
-        let sent = links[at].terminal.sent();
+        let held = links[at].terminal.held();
         match links[at].abandon() {
-            Ok(messages) => Ok((messages, sent)),
+            Ok(messages) => {
+                let sent = held - messages.len();
+                Ok((messages, sent))
+            }
             Err(fault) => Err(fault),
         }
     } else {

@@ -1,6 +1,6 @@
 //! Ticks at the links of a set.
 ghost use Rattle.std.specs.Prelude.{◌≡◌, All, map, false, true, None, OnOk, OnErr};
-ghost use Rattle.link_heart.specs.Machine.{is_low, tick_refusal};
+ghost use Rattle.link_term.specs.Machine.{is_low, tick_refusal};
 ghost use Rattle.group_links.specs.Ticking.{roomy, HasRoom, LacksRoom, first_refusal, passed, due_at, all_due};
 
 use crate::link::Link;

@@ -5,9 +5,9 @@ use Rattle.std.specs.Fmt.{decimal}
 use Rattle.arrayvec.specs.ArrayVec.{ArrayVec}
 use Rattle.resend_store.specs.declared.messages.Msu.{Msu}
 use Rattle.link_machine.specs.declared.reply.Refusal.{Refusal}
-use Rattle.link_term.specs.link_heart_types.commands.Command.{Command}
-use Rattle.link_term.specs.declared.answers.CallError.{CallError}
-use Rattle.link_term.specs.declared.answers.CallError.TheVariants as calling
+use Rattle.term_play.specs.link_heart_types.commands.Command.{Command}
+use Rattle.term_play.specs.link_term_types.answers.CallError.{CallError}
+use Rattle.term_play.specs.link_term_types.answers.CallError.TheVariants as calling
 use Rattle.link_labels.specs.declared.changeover.Changeover.{Changeover}
 use Rattle.link_labels.specs.Changeovers.{Says}
 use Rattle.link_group.specs.Set.{LinkSet, send_fault, sent}

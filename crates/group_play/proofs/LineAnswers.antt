@@ -4,7 +4,7 @@ use Rattle.std.specs.Prelude.{codes, is_some, slice_get, slice_set}
 use Rattle.std.proofs.lemmas.List.{length-drop, drop-drop}
 use Rattle.link_side.specs.Reporting.{reported}
 use Rattle.link_side.specs.declared.signals.Report.{Report}
-use Rattle.link_term.specs.Term.{Term}
+use Rattle.term_play.specs.Term.{Term}
 use Rattle.link_group.specs.group_links_types.link.Link.{Link}
 use Rattle.link_group.specs.Set.{LinkSet}
 use Rattle.link_group.specs.Links.{change, set_at}

@@ -5,12 +5,12 @@ use Rattle.std.proofs.lemmas.List.Elements.{All-nil, All-cons, All-append, All-w
 use Rattle.resend_store.specs.declared.messages.Mode.{Mode}
 use Rattle.turn_code.specs.declared.draft.Draft.{Draft}
 use Rattle.link_side.specs.Half.{first_half}
-use Rattle.link_term.specs.Term.{Term}
-use Rattle.link_term.specs.Opening.{IsOver}
-use Rattle.link_term.specs.Kept.{window_of}
+use Rattle.term_play.specs.Term.{Term}
+use Rattle.term_play.specs.Opening.{IsOver}
+use Rattle.term_play.specs.Kept.{window_of}
 use Rattle.group_lines.specs.declared.heads.GroupHead.{GroupHead}
-use Rattle.link_term.specs.declared.opening.OpenError.{OpenError}
-use Rattle.link_term.specs.declared.opening.OpenError.TheVariants.{NoName, NoMemory}
+use Rattle.term_play.specs.link_term_types.opening.OpenError.{OpenError}
+use Rattle.term_play.specs.link_term_types.opening.OpenError.TheVariants.{NoName, NoMemory}
 use Rattle.term_play.specs.TermRuns.{PrintsLacking, LacksName}
 use Rattle.group_play.specs.GroupRuns.{AreNew, LacksOne}
 

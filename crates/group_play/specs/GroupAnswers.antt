@@ -7,7 +7,7 @@ use Rattle.resend_store.specs.declared.messages.Msu.{Msu}
 use Rattle.su_octets.specs.Printed.{unit_text}
 use Rattle.su_octets.specs.declared.units.Unit as units
 use Rattle.link_machine.specs.declared.reply.Refusal.{Refusal}
-use Rattle.link_term.specs.link_heart_types.commands.Command.{Command}
+use Rattle.term_play.specs.link_heart_types.commands.Command.{Command}
 use Rattle.link_side.specs.declared.signals.Report.{Report}
 use Rattle.link_labels.specs.declared.changeover.Changeover.{Changeover}
 use Rattle.link_labels.specs.Changeovers.{Says}

@@ -3,11 +3,11 @@ use Rattle.std.specs.Prelude.{◌≡◌, ℕ, Bool, is_some, List, [], ◌∷◌
 use Rattle.std.specs.List.{flat_map}
 use Rattle.std.specs.Io.KnownBytes.{Appends}
 use Rattle.turn_code.specs.declared.draft.Draft.{Draft}
-use Rattle.link_term.specs.Term.{Term}
-use Rattle.link_term.specs.Opening.{IsOver}
-use Rattle.link_term.specs.Wanted.{wanted, IsFirstLacking}
-use Rattle.link_term.specs.declared.opening.OpenError.{OpenError}
-use Rattle.link_term.specs.declared.opening.OpenError.TheVariants.{NoName, NoMemory}
+use Rattle.term_play.specs.Term.{Term}
+use Rattle.term_play.specs.Opening.{IsOver}
+use Rattle.term_play.specs.Wanted.{wanted, IsFirstLacking}
+use Rattle.term_play.specs.link_term_types.opening.OpenError.{OpenError}
+use Rattle.term_play.specs.link_term_types.opening.OpenError.TheVariants.{NoName, NoMemory}
 use Rattle.link_group.specs.Set.{LinkSet}
 use Rattle.link_group.specs.New.{new_set}
 use Rattle.group_lines.specs.declared.heads.GroupHead.{GroupHead}

@@ -1,14 +1,14 @@
 //! The set in which a script begins.
 ghost use Rattle.std.specs.Prelude.{◌≡◌, ◌++◌, ◌∷◌, [], IfOk, IfErr, OnOk};
-ghost use Rattle.link_term.specs.Opening.{IsOver};
-ghost use Rattle.link_term.specs.Term.{Term};
+ghost use Rattle.term_play.specs.Opening.{IsOver};
+ghost use Rattle.term_play.specs.Term.{Term};
 ghost use Rattle.group_lines.specs.GroupScripts.{IsFew};
 ghost use Rattle.group_play.specs.GroupRuns.{AreNew, IsNewSet, LacksOne};
 
 use group_lines::GroupHead;
 use link_group::{Group, Mode, Terminal};
-use link_term::OpenError;
 use std::alloc::Global;
+use term_play::OpenError;
 use turn_check::Verified;
 
 /// This end's point code, and the other end's.

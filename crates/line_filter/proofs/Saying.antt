@@ -8,7 +8,7 @@ use Rattle.bit_line.specs.declared.stuffer.Stuffer.{Stuffer}
 use Rattle.line_filter.specs.Acts.{Act}
 use Rattle.line_filter.specs.Speaking.{Voice, IsSilent, Gives, fixed, fresh, silent}
 use Rattle.line_filter.specs.Runs.{State, Behind, between, eighth, Steps, Runs, begins, octet}
-use Rattle.line_filter.specs.Laws.{IsSaid, nothing, unit, silence, Speaks}
+use Rattle.line_filter.specs.Laws.{IsSaid, nothing, unit, silence, answer_of, answers_along, Speaks}
 use Rattle.line_filter.proofs.Filling.{bits_of_more}
 
 bits_joined : (xs ys : List ℕ) → bits_of (xs ++ ys) ≡ bits_of xs ++ bits_of ys
@@ -25,10 +25,9 @@ all_out out ready before since none parts = sym (append-nil out) ∙ (ap (λ l. 
 gave_by : (given : List ℕ) (frames : List (List ℕ)) (old new : Stuffer) → new ≡ old → Gave given frames old → Gave given frames new
 gave_by given frames old new is gave = let P : Stuffer → Type 0 = λ s. Gave given frames s in subst P (sym is) gave
 
-gives_speaks : {T : Type 0} (acts : T → Act → T → Type 0) (t : T) (v : Voice) (o : ℕ) (u : T) (w : Voice) (out : List ℕ) → Speaks out v → Gives acts t v o u w
-    → Speaks (out ++ o ∷ []) w
-gives_speaks acts t v o u w out s (fixed ready sending same) = record {
-  answers = s.answers;
+gives_speaks : {T : Type 0} (acts : T → Act → T → Type 0) (t : T) (v : Voice) (o : ℕ) (u : T) (w : Voice) (out : List ℕ) (answers : List (Option (List ℕ)))
+    → Speaks answers out v → (g : Gives acts t v o u w) → Speaks (answer_of g ++ answers) (out ++ o ∷ []) w
+gives_speaks acts t v o u w out answers s (fixed ready sending same) = record {
   bits = s.bits;
   frames = s.frames;
   said = s.said;
@@ -38,8 +37,7 @@ gives_speaks acts t v o u w out s (fixed ready sending same) = record {
   bits_before = s.bits_before;
   gave = gave_by s.since s.frames v.sending w.sending sending s.gave;
 }
-gives_speaks acts t v o u w out s (fresh x ready act stuffs) = record {
-  answers = Some stuffs.frame ∷ s.answers;
+gives_speaks acts t v o u w out answers s (fresh x ready act stuffs) = record {
   bits = s.bits;
   frames = s.frames ++ stuffs.frame ∷ [];
   said = unit stuffs.frame s.said;
@@ -51,8 +49,7 @@ gives_speaks acts t v o u w out s (fresh x ready act stuffs) = record {
   bits_before = s.bits_before;
   gave = stuffs.gave s.since s.frames s.gave;
 }
-gives_speaks acts t v o u w out s (silent ready act none fills) = record {
-  answers = None ∷ s.answers;
+gives_speaks acts t v o u w out answers s (silent ready act none fills) = record {
   bits = s.bits ++ (line_of s.frames ++ replicate fills.ones true);
   frames = [];
   said = silence fills.ones fills.some fills.few s.said;
@@ -70,30 +67,29 @@ behind_voice : {T : Type 0} (acts : T → Act → T → Type 0) (count : ℕ) (s
 behind_voice acts count s _ _ _ (between not) = refl
 behind_voice acts count s _ _ _ (eighth is minds) = minds.obeys.voice ∙ minds.voice
 
-speaks_as : (xs ys : List ℕ) (v w : Voice) → xs ≡ ys → w ≡ v → Speaks xs v → Speaks ys w
-speaks_as xs ys v w h k s =
-    let P : List ℕ → Type 0 = λ l. Speaks l v in
-    let Q : Voice → Type 0 = λ x. Speaks ys x in
+speaks_as : (answers : List (Option (List ℕ))) (xs ys : List ℕ) (v w : Voice) → xs ≡ ys → w ≡ v → Speaks answers xs v → Speaks answers ys w
+speaks_as answers xs ys v w h k s =
+    let P : List ℕ → Type 0 = λ l. Speaks answers l v in
+    let Q : Voice → Type 0 = λ x. Speaks answers ys x in
     subst Q (sym k) (subst P h s)
 
-runs_speak : {T : Type 0} (acts : T → Act → T → Type 0) (count : ℕ) (s : State T) (t : State T) (goes_on : Bool) (come out bytes : List ℕ) → Speaks [] s.voice
-    → Runs acts count s come out bytes goes_on t → Speaks out t.voice
+runs_speak : {T : Type 0} (acts : T → Act → T → Type 0) (count : ℕ) (s : State T) (t : State T) (goes_on : Bool) (come out bytes : List ℕ) → Speaks [] [] s.voice
+    → (r : Runs acts count s come out bytes goes_on t) → Speaks (answers_along r) out t.voice
 runs_speak acts count s _ _ _ _ _ first begins = first
 runs_speak acts count s _ _ _ _ _ first (octet {come} {out} {bytes} {t} comes gives more goes last rest steps) =
-    speaks_as (out ++ gives ∷ []) (out ++ gives ∷ []) steps.middle.voice last.voice refl
+    speaks_as (answer_of steps.exchanges.out ++ answers_along rest) (out ++ gives ∷ []) (out ++ gives ∷ []) steps.middle.voice last.voice refl
     (behind_voice acts ((count + length come) + 1) steps.middle last steps.second goes steps.behind)
-    (gives_speaks acts t.term t.voice gives steps.exchanges.asked steps.middle.voice out (runs_speak acts count s t true come out bytes first rest) steps.exchanges.out)
+    (gives_speaks acts t.term t.voice gives steps.exchanges.asked steps.middle.voice out (answers_along rest) (runs_speak acts count s t true come out bytes first rest) steps.exchanges.out)
 
 no_bits : bits_of [] ≡ []
 unfolding bits_of
 no_bits = refl
 
 pub all_said : {T : Type 0} (acts : T → Act → T → Type 0) (count : ℕ) (s t : State T) (goes_on : Bool) (come out bytes : List ℕ) → IsSilent s.voice
-    → Runs acts count s come out bytes goes_on t → Speaks out t.voice
+    → (r : Runs acts count s come out bytes goes_on t) → Speaks (answers_along r) out t.voice
 all_said acts count s t goes_on come out bytes none runs =
     runs_speak acts count s t goes_on come out bytes
     (record {
-      answers = [];
       bits = [];
       frames = [];
       said = nothing;

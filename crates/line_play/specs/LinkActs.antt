@@ -4,7 +4,7 @@ use Rattle.su_octets.specs.declared.units.Unit as units
 use Rattle.script_lines.specs.Words.{words_of}
 use Rattle.link_machine.specs.declared.event.Event.TheVariants.{Advance}
 use Rattle.link_side.specs.Reporting.{reported}
-use Rattle.link_term.specs.Machine.{offered, tidied}
+use Rattle.link_term.specs.Machine.{offered, tidied, tick_refusal}
 use Rattle.link_term.specs.Term.{Term, with_heart, with_half}
 use Rattle.link_term.specs.Hearing.{Heard}
 use Rattle.term_lines.specs.TermCommands.{PlainTermCommand}
@@ -22,6 +22,11 @@ pub record Gives (t : Term) (unit : Option units.Unit) (u : Term) : Type 0 where
 -- a millisecond passed, which its processes took as a tick
 unfoldable pub after_tick : Term → Term
 after_tick t = with_heart t (offered (Advance 1) (tidied t.heart))
+
+-- a millisecond passes, and isn't refused
+pub record Passes (t u : Term) : Type 0 where
+  pub after : u ≡ after_tick t
+  pub passes : tick_refusal 1 (tidied t.heart) ≡ None
 
 -- what is told next is handed out
 pub record Tells (t : Term) (text : Option (List ℕ)) (u : Term) : Type 0 where
@@ -47,6 +52,6 @@ ObeysBy (Some command) t order answer u = ObeysOne command t order answer u
 abbrev pub link_acts : Term → Act → Term → Type 0
 link_acts t (asked unit) u = Gives t unit u
 link_acts t (heard octet) u = Heard t (octet ∷ []) u
-link_acts t passed u = u ≡ after_tick t
+link_acts t passed u = Passes t u
 link_acts t (told text) u = Tells t text u
 link_acts t (obeyed order answer) u = ObeysBy (line_command_of (words_of order)) t order answer u

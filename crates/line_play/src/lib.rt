@@ -14,6 +14,3 @@ pub use link_term::{Mode, Terminal};
 pub use opening::new_terminal;
 pub use running::{link_desk, run_link};
 pub use term_play::SetWord;
-
-#[cfg(test)]
-mod tests;

@@ -1,10 +1,10 @@
 //! A signalling link terminal at the end of a line.
-ghost use Rattle.std.specs.Prelude.{◌≡◌, ◌∷◌, [], IfOk, OnOk, option_map, string_bytes};
+ghost use Rattle.std.specs.Prelude.{◌∷◌, [], IfOk, OnOk, option_map, string_bytes};
 ghost use Rattle.script_lines.specs.Lines.{texts};
 ghost use Rattle.term_lines.specs.TermCommands.{plain_term_command};
 ghost use Rattle.link_term.specs.Hearing.{Heard};
 ghost use Rattle.line_play.specs.Commands.{line_command_of};
-ghost use Rattle.line_play.specs.LinkActs.{link_acts, after_tick, Tells, ObeysOne, ObeysBy};
+ghost use Rattle.line_play.specs.LinkActs.{link_acts, Passes, Tells, ObeysOne, ObeysBy};
 
 use crate::commands::{is_question, line_command};
 use crate::texts::{answer_of, bad_line, report_text};
@@ -38,7 +38,7 @@ fn hear(terminal: &mut Terminal, octet: u8) -> io::Result<()>
 /// Lets a millisecond pass.
 #[tactic(auto, unfolding(crate::specs::LinkActs::after_tick))]
 fn pass(terminal: &mut Terminal) -> io::Result<()>
-    ensures { OnOk result (terminal.new ≡ after_tick terminal.old) }
+    ensures { OnOk result (Passes terminal.old terminal.new) }
 {
     match terminal.tick(1) {
         Ok(_) => Ok(()),

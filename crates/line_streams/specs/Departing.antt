@@ -1,11 +1,13 @@
 -- What goes on of the lines that are told where nothing may wait.
-use Rattle.std.specs.Prelude.{◌≡◌, ℕ, ◌+◌, ◌<◌, List, [], ◌∷◌, ◌++◌, length, codes}
+use Rattle.std.specs.Prelude.{◌≡◌, ℕ, ◌+◌, ◌<◌, ◌==◌, false, List, [], ◌∷◌, ◌++◌, length, codes}
 use Rattle.std.specs.Fmt.{decimal}
+use Rattle.std.specs.List.{list_any}
 use Rattle.rtrb.specs.Ring.{sent, known_free}
 use Rattle.line_streams.specs.declared.outlet.Outlet.{Outlet}
 
--- what a line begins with, up to a space: its millisecond
+-- what a line begins with, up to its first space: its millisecond
 pub record Begins (line time : List ℕ) : Type 0 where
+  pub first : list_any (λ (b : ℕ). b == 32) time ≡ false
   pub rest : List ℕ
   pub parts : line ≡ time ++ 32 ∷ rest
 

@@ -1,10 +1,12 @@
 //! Lines that a thread has go on.
+ghost use Rattle.std.specs.Prelude.{◌≡◌, OnOk};
+ghost use Rattle.line_streams.specs.Departing.{TellsOn};
 
 use crate::outlet::Outlet;
 use rtrb::{Consumer, RingBuffer};
 use std::alloc::Global;
 use std::fs::File;
-use std::io::{self, PipeReader, PipeWriter, Read, Write};
+use std::io::{self, ErrorKind, PipeReader, PipeWriter, Read, Write};
 use std::rt::Files;
 use std::sync::Arc;
 use std::sync::atomic::{AtomicU64, Ordering};
@@ -67,10 +69,26 @@ impl Departures {
     }
 
     /// Wakes the thread if it sleeps.
-    fn wake(&mut self) -> io::Result<()> {
+    fn wake(&mut self) -> io::Result<()>
+        ensures { self.new.outlet ≡ self.old.outlet }
+    {
         if self.sleeps.swap(0, Ordering::SeqCst) == 1 {
             self.wakes.write_all(&[1])?;
         }
+        Ok(())
+    }
+
+    /// Has a line go on whole, or counts it as lost.
+    ///
+    /// # Errors
+    ///
+    /// Where there is no memory, or the thread can't be waked.
+    pub fn tell(&mut self, line: &[u8]) -> io::Result<()>
+        ensures { OnOk result (TellsOn line.now self.old.outlet self.new.outlet) }
+    {
+        let count = self.outlet.put(self.alloc, line)?;
+        self.put = self.put.wrapping_add(count as u64);
+        self.wake()?;
         Ok(())
     }
 
@@ -82,9 +100,11 @@ impl Departures {
 
 impl Write for Departures {
     fn write(&mut self, line: &[u8]) -> io::Result<usize> {
-        let count = self.outlet.put(self.alloc, line)?;
-        self.put = self.put.wrapping_add(count as u64);
-        self.wake()?;
+        // (the thread ends where a write of its own failed)
+        if self.outlet.ring.is_abandoned() {
+            return Err(io::Error::from(ErrorKind::BrokenPipe));
+        }
+        self.tell(line)?;
         Ok(line.len())
     }
 

@@ -1,4 +1,6 @@
 //! What is opened for orders and for reports.
+ghost use Rattle.std.specs.Prelude.{IfOk};
+ghost use Rattle.line_streams.specs.Known.{known_of, ComeFrom, GoTo};
 
 use crate::arrivals::Arrivals;
 use crate::departures::Departures;
@@ -25,6 +27,8 @@ pub enum OrderStream {
 }
 
 impl Read for OrderStream {
+    ghost remaining = { known_of };
+
     fn read(&mut self, part: &mut [u8]) -> io::Result<usize> {
         match self {
             OrderStream::Nothing => Ok(0),
@@ -50,7 +54,9 @@ pub fn open_orders<R: Files<File = File> + Threads>(
     rt: &R,
     alloc: Global,
     path: Option<&str>,
-) -> io::Result<OrderStream> {
+) -> io::Result<OrderStream>
+    ensures { IfOk result (ComeFrom path.entry) }
+{
     let Some(path) = path else {
         return Ok(OrderStream::Nothing);
     };
@@ -134,7 +140,9 @@ pub fn open_reports<R: Files<File = File> + Threads, E: Drop>(
     alloc: Global,
     path: Option<&str>,
     errors: E,
-) -> io::Result<ReportStream<E>> {
+) -> io::Result<ReportStream<E>>
+    ensures { IfOk result (GoTo path.entry errors) }
+{
     let Some(path) = path else {
         return Ok(ReportStream::Errors(errors));
     };

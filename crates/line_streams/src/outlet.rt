@@ -70,7 +70,8 @@ impl Outlet {
     ///
     /// Where there is no memory, or a line behind lost ones has no space. The line isn't counted then.
     pub fn put(&mut self, alloc: Global, line: &[u8]) -> io::Result<usize>
-        ensures { OnOk result (TellsOn line.now self.old self.new) }
+        ensures told { OnOk result (TellsOn line.now self.old self.new) }
+        ensures count { IfOk result (λ n. length (sent self.new.ring) ≡ length (sent self.old.ring) + n) }
     {
         let text = to_go(alloc, self.lost, line)?;
         let Some(more) = self.lost.checked_add(1) else {

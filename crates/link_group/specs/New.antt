@@ -1,6 +1,6 @@
 -- A new set.
 use Rattle.std.specs.Prelude.{ℕ, false, List, map}
-use Rattle.link_term.specs.Term.{Term}
+use Rattle.group_links.specs.Term.{Term}
 use Rattle.link_places.specs.Sharing.{selections, pick}
 use Rattle.link_group.specs.Set.{LinkSet}
 use Rattle.group_links.specs.Moving.{open_links}

@@ -1,7 +1,7 @@
 -- What a set tells of one link.
 use Rattle.std.specs.Prelude.{ℕ, length, Option, Some, None, slice_get}
 use Rattle.link_machine.specs.Ledger.{Ledger}
-use Rattle.link_term.specs.Term.{Term}
+use Rattle.group_links.specs.Term.{Term}
 use Rattle.resend_store.specs.declared.messages.Msu.{Msu}
 use Rattle.group_links.specs.declared.link.Link.{Link}
 use Rattle.group_links.specs.OneLink.{held, window}

@@ -8,9 +8,8 @@ ghost use Rattle.link_group.specs.Ending.{fault_in};
 
 use crate::group::Group;
 use crate::retrieved::Retrieved;
-use group_links::{DivertFault, end_at, end_table, hand_of, hand_over, keep_at, open_links};
+use group_links::{DivertFault, Msu, end_at, end_table, hand_of, hand_over, keep_at, open_links};
 use link_places::counts_of;
-use link_term::Msu;
 use std::collections::VecDeque;
 
 /// Why messages in hand weren't all diverted, and those that are still in hand.

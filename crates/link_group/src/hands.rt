@@ -81,9 +81,11 @@ impl Hands {
     }
 }
 
-/// A set that has ended.
+/// A set that has ended. `Group::end` alone makes one.
 #[derive(Debug, Drop)]
-pub struct Ended {}
+pub struct Ended {
+    own: (),
+}
 
 impl Ended {
     /// Takes messages that are still in hand, and drops them.
@@ -99,6 +101,6 @@ impl Group {
     /// Ends the set, with what is still in hand. Nothing counts as unsure by that. What is given takes hands that are kept elsewhere.
     pub fn end(self, hands: Hands) -> Ended {
         let Hands { kept: _kept } = hands;
-        Ended {}
+        Ended { own: () }
     }
 }

@@ -16,10 +16,9 @@ mod ticks;
 pub use ending::DivertError;
 pub use group::{Group, Sif};
 pub use group_links::{
-    AbandonError, CommandError, DivertFault, FailError, LineError, LinkError, RebalanceError,
-    RetrieveError, SendError,
+    AbandonError, CallError, Command, CommandError, DivertFault, FailError, LineError, LinkError,
+    LinkStatus, Mode, Msu, RebalanceError, Report, RetrieveError, SendError, Terminal,
 };
 pub use hands::{Ended, Hands};
 pub use link_labels::Label;
-pub use link_term::{CallError, Command, Mode, Msu, Report, Terminal};
 pub use retrieved::Retrieved;

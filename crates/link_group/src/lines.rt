@@ -1,14 +1,14 @@
 //! What a set does by one of its terminals.
-ghost use Rattle.std.specs.Prelude.{◌≡◌, ◌↔◌, ◌≤◌, ◌<◌, length, IfOk, IfErr, OnOk, OnErr, Err};
+ghost use Rattle.std.specs.Prelude.{◌≡◌, ◌↔◌, ◌≤◌, ◌<◌, length, true, slice_get, IfOk, IfErr, OnOk, OnErr, Err};
 ghost use Rattle.link_group.specs.Lines.{ByLink, seen, IsCommandError};
-ghost use Rattle.group_links.specs.Doing.{Listened, Spoken, Sent, Reported};
+ghost use Rattle.group_links.specs.Doing.{Listened, Spoken, Sent, Reported, low_at};
 ghost use Rattle.group_links.specs.Commanding.{Commanded};
 
 use crate::group::Group;
 use group_links::{
-    CommandError, LineError, LinkError, command_at, listen_at, see_at, send_at, speak_at, tell_at,
+    Command, CommandError, LineError, LinkError, Report, command_at, listen_at, see_at, send_at,
+    speak_at, tell_at,
 };
-use link_term::{Command, Report};
 use su_octets::Unit;
 
 impl Group {
@@ -66,11 +66,12 @@ impl Group {
     ///
     /// # Errors
     ///
-    /// `K1 NoLink` where it isn't there, then want of memory: nothing changes.
+    /// `K1 NoLink` where it isn't there, then want of memory to make room in its journal: nothing changes.
     pub fn unit_out(&mut self, link: usize) -> Result<Option<Unit>, LineError>
         ensures ok { IfOk result (λ unit. ByLink (Sent unit) link self.old self.new) }
         ensures fault { (result ≡ Err LineError.NoLink) ↔ (length self.old.links ≤ link) }
         ensures err { OnErr result (self.new ≡ self.old) }
+        ensures low { (result ≡ Err LineError.NoMemory) → low_at (slice_get self.old.links link) ≡ true }
     {
         if link >= self.links.len() {
             return Err(LineError::NoLink);

@@ -5,8 +5,7 @@ ghost use Rattle.group_links.specs.New.{IsUnused};
 ghost use Rattle.link_group.specs.New.{new_set};
 
 use crate::group::Group;
-use group_links::{all_fresh, open_links, table_of};
-use link_term::Terminal;
+use group_links::{Terminal, all_fresh, open_links, table_of};
 use std::alloc::Global;
 
 impl Group {

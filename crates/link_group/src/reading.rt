@@ -7,8 +7,8 @@ ghost use Rattle.link_group.specs.Reading.{held_count, sent_count, message_at, t
 ghost use Rattle.group_links.specs.Tables.{changing_by};
 
 use crate::group::Group;
+use group_links::{Msu, Terminal};
 use link_heart::Book;
-use link_term::{Msu, Terminal};
 
 impl Group {
     /// How many messages a link holds, if it is there.

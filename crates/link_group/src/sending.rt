@@ -12,12 +12,11 @@ ghost use Rattle.link_group.specs.Changing.{fail_fault, failed, order_at, IsRepl
 use crate::group::{Group, Sif, sif_of};
 use crate::retrieved::Retrieved;
 use group_links::{
-    AbandonError, FailError, RetrieveError, SendError, abandon_at, fail_at, hear_at, put_at,
+    AbandonError, FailError, Msu, RetrieveError, SendError, abandon_at, fail_at, hear_at, put_at,
     retrieve_at,
 };
 use link_labels::{Changeover, Label, read_changeover};
 use link_places::selection_of;
-use link_term::Msu;
 
 impl Group {
     /// Takes a message to send, whose field begins with this label. It waits behind all others with the link of its selection.

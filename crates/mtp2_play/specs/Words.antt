@@ -1,5 +1,5 @@
 -- What a command line asks for.
-use Rattle.std.specs.Prelude.{◌≡◌, ◌≤◌, ℕ, List, Option, Some, None, option_map, codes}
+use Rattle.std.specs.Prelude.{◌≡◌, ◌≤◌, ℕ, List, Option, Some, None, codes}
 use Rattle.profile_limits.specs.Limits.{LEAST_WORKERS, MOST_WORKERS}
 use Rattle.text_check.specs.mtp2_text_types.standard_text.TheConstants.{STANDARD}
 use Rattle.text_check.specs.mtp2_text_types.monitors_text.TheConstants.{MONITORS}
@@ -11,11 +11,6 @@ use Rattle.mtp2_play.specs.declared.words.Source.{Source}
 use Rattle.mtp2_play.specs.declared.words.Source.TheVariants.{Stdin as stdin, File as script_file}
 use Rattle.mtp2_play.specs.declared.words.Request.{Request}
 use Rattle.mtp2_play.specs.declared.words.Request.TheVariants.{Check, Play, Soak, Line, Frame}
-use Rattle.mtp2_play.specs.declared.words.LineEnd.{LineEnd}
-use Rattle.line_play.specs.line_filter_types.filter.Bits.{Bits}
-use Rattle.line_play.specs.line_filter_types.filter.Bits.TheVariants.{Low, High}
-use Rattle.line_play.specs.Orders.{mode_named}
-use Rattle.line_play.specs.Filters.{MOST_AHEAD}
 
 -- a file may have any name but these
 pub record IsFileName (word : List ℕ) : Type 0 where
@@ -63,7 +58,7 @@ abbrev pub IsPlay : List ℕ → List ℕ → Request → Type 0
 IsPlay set_word script_word (Check set) = ⊥
 IsPlay set_word script_word (Play set script) = IsPlayOf set_word script_word set script
 IsPlay set_word script_word (Soak script workers) = ⊥
-IsPlay set_word script_word (Line end) = ⊥
+IsPlay set_word script_word (Line set end) = ⊥
 IsPlay set_word script_word (Frame octets) = ⊥
 
 -- what `soak` asks for by the word for the script
@@ -71,33 +66,25 @@ abbrev pub IsSoak : List ℕ → Request → Type 0
 IsSoak script_word (Check set) = ⊥
 IsSoak script_word (Play set script) = ⊥
 IsSoak script_word (Soak script workers) = IsSource script script_word × (LEAST_WORKERS ≤ workers) × (workers ≤ MOST_WORKERS)
-IsSoak script_word (Line end) = ⊥
+IsSoak script_word (Line set end) = ⊥
 IsSoak script_word (Frame octets) = ⊥
 
--- the words of options, where they are given
-abbrev pub AreBits : Option (List ℕ) → Bits → Type 0
-AreBits None bits = bits ≡ Low
-AreBits (Some word) Low = word ≡ codes "low"
-AreBits (Some word) High = word ≡ codes "high"
+-- the set that a word names for a terminal on a line: standard input is the line, and no text
+abbrev pub IsTextNamed : Named → List ℕ → Type 0
+IsTextNamed Standard word = word ≡ codes "standard"
+IsTextNamed Monitors word = word ≡ codes "monitors"
+IsTextNamed Stdin word = ⊥
+IsTextNamed (File path) word = (path.now ≡ word) × IsFileName word
 
+-- the same by a word that may be there
 abbrev pub IsText : Option (List ℕ) → Named → Type 0
-IsText text Stdin = ⊥
 IsText None set = set ≡ Standard
-IsText (Some word) set = IsNamed set word
-
--- what `line` asks for by its word and its options
-pub record IsLineOf (mode_word : List ℕ) (text bits orders reports : Option (List ℕ)) (end : LineEnd) : Type 0 where
-  pub mode_is : mode_named mode_word ≡ Some end.mode
-  pub set_is : IsText text end.set
-  pub bits_are : AreBits bits end.bits
-  pub orders_are : option_map (λ word. word.now) end.orders ≡ orders
-  pub reports_are : option_map (λ word. word.now) end.reports ≡ reports
-  pub few : end.ahead ≤ MOST_AHEAD
+IsText (Some word) set = IsTextNamed set word
 
 -- the word that names the command
 abbrev pub command_of : Request → List ℕ
 command_of (Check set) = codes "check"
 command_of (Play set script) = codes "play"
 command_of (Soak script workers) = codes "soak"
-command_of (Line end) = codes "line"
+command_of (Line set end) = codes "line"
 command_of (Frame octets) = codes "frame"

@@ -21,23 +21,24 @@ use std::process::ExitCode;
 use std::rt::{Files, Runtime};
 use std::sync::Wait;
 use std::thread::Threads;
+use std::time::Clock;
 use std::{env, fs};
 use text_check::{FAILED, HELD, SetWord, USAGE, check};
 use unit_frame::frame;
-pub use words::{LineEnd, Named, Request, Source};
+pub use words::{Named, Request, Source};
 
 /// Runs one command, and gives the exit status.
-fn run<R: Runtime + Files<File = File> + AllocGlobal + Threads + Wait + Sync>(
-    rt: &R,
-    request: &Request<'_>,
-) -> u8
+fn run<
+    R: Runtime + AllocGlobal + Threads + Wait + Sync,
+    H: Files<File = File> + Threads + Eprint + Print + Input + Clock + AllocGlobal,
+>(rt: &R, host: &H, request: &Request<'_>) -> u8
     ensures { (result ≡ 0) ⊎ (result ≡ 1) ⊎ (result ≡ 2) ⊎ (result ≡ 4) }
 {
     match request {
         Request::Check { set } => run_check(rt, *set),
         Request::Play { set, script } => run_play(rt, *set, *script),
         Request::Soak { script, workers } => run_soak(rt, *script, *workers),
-        Request::Line { end } => run_line(rt, end),
+        Request::Line { set, end } => run_line(host, set, end),
         Request::Frame { octets } => frame(rt.alloc(), octets, &mut io::writer(rt)),
     }
 }
@@ -157,26 +158,27 @@ fn answer<R: Runtime + AllocGlobal>(rt: &R, error: &Error) -> u8
 }
 
 /// Does what the words of a command line say, the program's own name first. Gives the exit status.
-fn serve<R: Runtime + Files<File = File> + AllocGlobal + Threads + Wait + Sync>(
-    rt: &R,
-    given: &[String],
-) -> u8 {
+fn serve<
+    R: Runtime + AllocGlobal + Threads + Wait + Sync,
+    H: Files<File = File> + Threads + Eprint + Print + Input + Clock + AllocGlobal,
+>(rt: &R, host: &H, given: &[String]) -> u8 {
     match words::read(rt.alloc(), given) {
-        Ok(request) => run(rt, &request),
+        Ok(request) => run(rt, host, &request),
         Err(error) => answer(rt, &error),
     }
 }
 
-/// Reads the command line, and does what it says.
-fn start<R: Runtime + Files<File = File> + AllocGlobal + Threads + Wait + Sync>(
-    rt: &R,
-) -> io::Result<u8> {
+/// Reads the command line, and does what it says. A command on a line has the host itself, whose files are those of the system.
+fn start<
+    R: Runtime + AllocGlobal + Threads + Wait + Sync,
+    H: Files<File = File> + Threads + Eprint + Print + Input + Clock + AllocGlobal,
+>(rt: &R, host: &H) -> io::Result<u8> {
     let given: Vec<String> = env::args(rt)?.collect(rt.alloc())?;
-    Ok(serve(rt, given.as_slice()))
+    Ok(serve(rt, host, given.as_slice()))
 }
 
 fn main(rt: HostRuntime) -> ExitCode {
-    let status = start(&rt).unwrap_or(FAILED);
+    let status = start(&rt, &rt).unwrap_or(FAILED);
     if status == FAILED {
         let _ = rt.eprintln("mtp2_play: failed");
     }

@@ -1,4 +1,5 @@
-use crate::{LineEnd, Request, serve, words};
+use crate::{Request, serve, words};
+use line_command::LineEnd;
 use std::alloc::Global;
 use std::fs;
 use std::rt::Runtime;
@@ -22,9 +23,13 @@ fn asked(alloc: Global, given: &[&str]) -> Result<String, Fail> {
         Ok(Request::Soak { script, workers }) => {
             Ok(format!(in alloc; "soak {script:?} {workers}")?)
         }
-        Ok(Request::Line { end }) => {
-            let LineEnd { mode, set, .. } = end;
-            let LineEnd { bits, ahead, .. } = end;
+        Ok(Request::Line { set, end }) => {
+            let LineEnd {
+                mode,
+                bits,
+                ahead,
+                ..
+            } = end;
             Ok(format!(in alloc; "line {mode:?} {set:?} {bits:?} {ahead}")?)
         }
         Ok(Request::Frame { octets }) => Ok(format!(in alloc; "frame {octets}")?),
@@ -158,7 +163,7 @@ fn ends_with_the_status_of_what_was_asked(rt: HostRuntime) -> Result<(), Fail> {
     write_files(&rt)?;
     for (given, wanted) in ENDED {
         let line = line(rt.alloc(), given)?;
-        let ended = serve(&rt, line.as_slice());
+        let ended = serve(&rt, &rt, line.as_slice());
         assert_eq!(rt; ended, wanted, "{given:?}");
     }
     Ok(())

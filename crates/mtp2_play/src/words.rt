@@ -1,13 +1,12 @@
 //! The command line.
-ghost use Rattle.std.specs.Prelude.{◌≡◌, ◌↔◌, ◌≤◌, Some, IfSome, IsNone, IsTrue, option_map};
+ghost use Rattle.std.specs.Prelude.{◌≡◌, ◌↔◌, ◌≤◌, Some, IfSome, IsNone, IsTrue, option_map, codes};
 ghost use Rattle.clap.specs.Words.{subcommand_name_of};
-ghost use Rattle.line_play.specs.Filters.{MOST_AHEAD};
 ghost use Rattle.profile_limits.specs.Limits.{LEAST_WORKERS, MOST_WORKERS};
-ghost use Rattle.mtp2_play.specs.Words.{command_of, own_set_of, IsNamed, IsSource, AreStdin, IsPlay, IsSoak, AreBits, IsText, IsLineOf};
+ghost use Rattle.mtp2_play.specs.Words.{command_of, own_set_of, IsNamed, IsSource, AreStdin, IsPlay, IsSoak, IsTextNamed, IsText};
 
 use clap::error::ErrorKind;
 use clap::{Arg, ArgMatches, Command, Error};
-use line_play::{Bits, MOST_AHEAD, Mode, mode_named};
+use line_command::{LineEnd, LineWords, line_end};
 use std::alloc::{AllocError, Global};
 use text_check::SetWord;
 
@@ -33,23 +32,6 @@ pub enum Source<'a> {
     File(&'a str),
 }
 
-/// One end of a link on the line of standard input and standard output.
-#[derive(Clone, Copy, PartialEq, Eq, Debug)]
-pub struct LineEnd<'a> {
-    /// The kind of error correction.
-    pub mode: Mode,
-    /// The set of its processes.
-    pub set: Named<'a>,
-    /// Where its orders stand; none, where nothing is said.
-    pub orders: Option<&'a str>,
-    /// Where its reports go; standard error, where nothing is said.
-    pub reports: Option<&'a str>,
-    /// Which bit of an octet is the first on the line.
-    pub bits: Bits,
-    /// How many octets of 1s go out before any octet came in, 0 to 8,000.
-    pub ahead: usize,
-}
-
 /// What the command line asks for.
 #[derive(Debug, Drop)]
 pub enum Request<'a> {
@@ -59,8 +41,8 @@ pub enum Request<'a> {
     Play { set: Named<'a>, script: Source<'a> },
     /// `soak SCRIPT --workers N`: a file with a script, or standard input, and the number of threads, 1 to 16.
     Soak { script: Source<'a>, workers: usize },
-    /// `line basic|cyclic`: one end of a link on a line.
-    Line { end: LineEnd<'a> },
+    /// `line basic|cyclic`: one end of a link on a line, with a set as for `check`.
+    Line { set: Named<'a>, end: LineEnd<'a> },
     /// `frame HEX`: the octets of a signal unit in hexadecimal digits, with its check octets.
     Frame { octets: &'a str },
 }
@@ -143,82 +125,48 @@ fn soaked<'a>(script: &'a str, workers: &str) -> Option<Request<'a>>
     }
 }
 
-/// Which bit is the first, by the word for it: the lowest, where there is none.
-fn bits_of(word: Option<&str>) -> Option<Bits>
-    ensures { IfSome result (AreBits (option_map (λ w. w.now) word)) }
+/// The set of a terminal on a line that a word names. Standard input is the line, and no text.
+fn text_named(word: &str) -> Option<Named<'_>>
+    ensures some { IfSome result (λ set. IsTextNamed set word.now) }
+    ensures none { IsNone result → word.now ≡ codes "stdin" }
 {
     match word {
-        None => Some(Bits::Low),
-        Some("low") => Some(Bits::Low),
-        Some("high") => Some(Bits::High),
-        Some(_) => None,
+        "standard" => Some(Named::Standard),
+        "monitors" => Some(Named::Monitors),
+        "stdin" => None,
+        path => Some(Named::File(path)),
     }
 }
 
-/// How many octets go ahead, by the word for it: none where there is none.
-fn ahead_of(word: Option<&str>) -> Option<usize>
-    ensures { IfSome result (λ n. n ≤ MOST_AHEAD) }
-{
-    let Some(word) = word else {
-        return Some(0);
-    };
-    match word.parse::<usize>() {
-        Ok(ahead) if ahead <= MOST_AHEAD => Some(ahead),
-        _ => None,
-    }
-}
-
-/// The set of a terminal on a line, by the word for it: `standard` where there is none. Standard input is the line, and no text.
+/// The set of a terminal on a line, by the word for it: `standard` where there is none.
 fn text_of<'a>(word: Option<&'a str>) -> Option<Named<'a>>
-    ensures { IfSome result (IsText (option_map (λ w. w.now) word)) }
+    ensures { IfSome result (IsText (option_map (λ w. w.now) word.entry)) }
 {
     match word {
+        Some(word) => text_named(word),
         None => Some(Named::Standard),
-        Some("stdin") => None,
-        Some(word) => Some(set_named(word)),
     }
-}
-
-/// The words of `line`.
-#[derive(Clone, Copy)]
-struct LineWords<'a> {
-    mode: &'a str,
-    text: Option<&'a str>,
-    orders: Option<&'a str>,
-    reports: Option<&'a str>,
-    bits: Option<&'a str>,
-    ahead: Option<&'a str>,
-}
-
-/// The end of a link that words name.
-fn lined<'a>(words: &LineWords<'a>) -> Option<LineEnd<'a>>
-    ensures { IfSome result (IsLineOf words.now.mode.now (option_map (λ w. w.now) words.now.text) (option_map (λ w. w.now) words.now.bits)
-        (option_map (λ w. w.now) words.now.orders) (option_map (λ w. w.now) words.now.reports)) }
-{
-    let mode = mode_named(words.mode)?;
-    let set = text_of(words.text)?;
-    let bits = bits_of(words.bits)?;
-    let ahead = ahead_of(words.ahead)?;
-    Some(LineEnd {
-        mode,
-        set,
-        orders: words.orders,
-        reports: words.reports,
-        bits,
-        ahead,
-    })
 }
 
 /// The end of a link that the matches of `line` stand for.
 fn line_of<'a>(given: &ArgMatches<'a>) -> Option<LineEnd<'a>> {
-    lined(&LineWords {
-        mode: given.get_str("MODE")?,
-        text: given.get_str("text"),
+    let mode = given.get_str("MODE")?;
+    line_end(&LineWords {
+        mode,
         orders: given.get_str("orders"),
         reports: given.get_str("reports"),
         bits: given.get_str("bits"),
         ahead: given.get_str("ahead"),
     })
+}
+
+/// What the matches of `line` ask for.
+fn lined<'a>(given: &ArgMatches<'a>) -> Option<Request<'a>>
+    ensures { IfSome result (λ r. command_of r ≡ codes "line") }
+{
+    let set = text_of(given.get_str("text"))?;
+    let end = line_of(given)?;
+    Some(Request::Line { set, end })
 }
 
 /// The program's commands.
@@ -374,9 +322,7 @@ fn request_of<'a>(matches: &ArgMatches<'a>) -> Option<Request<'a>>
         }),
         "play" => played(given.get_str("SET")?, given.get_str("SCRIPT")?),
         "soak" => soaked(given.get_str("SCRIPT")?, given.get_str("workers")?),
-        "line" => Some(Request::Line {
-            end: line_of(given)?,
-        }),
+        "line" => lined(given),
         "frame" => Some(Request::Frame {
             octets: given.get_str("HEX")?,
         }),

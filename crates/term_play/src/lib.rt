@@ -11,6 +11,7 @@ pub use book_play::{
     FAILED, HELD, MISSED, Printer, SetWord, load_set, play_book, refuse, refused_line, state_line,
     text_line, value_line, write_line, write_refusal,
 };
+pub use link_term::OpenError;
 pub use orders::command_of;
 pub use terminals::{play_terminal, refuse_set};
 pub use unit_line::line_of_unit;

@@ -1,1 +1,2 @@
-mod Certified
+mod Ending
+mod Whole

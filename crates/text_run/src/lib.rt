@@ -3,6 +3,8 @@
 #![tactic(auto)]
 
 mod running;
+#[cfg(test)]
+mod tests;
 
 pub use actor_book::{Book, Event, Limits, Reply};
 pub use running::{TextRun, run_text};

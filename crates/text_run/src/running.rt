@@ -1,15 +1,11 @@
 //! A text is loaded and run.
-ghost use Rattle.std.specs.Prelude.{◌≡◌, IfOk, OnOk, map};
-ghost use Rattle.sdl_lex.specs.declared.lexemes.Token as lexeme;
+ghost use Rattle.std.specs.Prelude.{IfOk};
 ghost use Rattle.sdl_ast.specs.Plain.{PlainBlock};
-ghost use Rattle.turn_code.specs.Outcome.{Meaning, Means};
-ghost use Rattle.turn_verify.specs.Loaded.{IsLoaded, IsRead, IsSoundText, IsRefused, Gives};
-ghost use Rattle.turn_verify.specs.Blocks.{MatchesBlock};
-ghost use Rattle.turn_verify.specs.Meant.{IsSetOf, IsCertifiedAs};
-ghost use Rattle.text_run.specs.Headline.{Headline, RunsBy, EachEndsWithin, opened_by};
+ghost use Rattle.turn_verify.specs.Meant.{IsSetOf};
+ghost use Rattle.text_run.specs.Headline.{Headline, RunsAsRead};
 
 use actor_book::{Book, Event, Limits, Reply, run_events};
-use link_machine::laws::set_law;
+use link_machine::laws::{finish_law, fits_law, keeps_law, set_law};
 use std::alloc::{AllocError, Global};
 use turn_verify::{LoadFault, Verified, load};
 
@@ -53,10 +49,14 @@ fn run_set(
     limits: Limits,
     events: &[Event],
 ) -> Result<TextRun, AllocError>
-    ensures runs { IfOk result (λ run. (act : Meaning) → Means act set.now → RunsBy act set.now limits events.now run.book run.replies.items) }
-    ensures within { OnOk result ((b : PlainBlock) → IsCertifiedAs b set.now → EachEndsWithin b (opened_by set.now limits) events.now) }
+    ensures { IfOk result (λ run. (b : PlainBlock) → IsSetOf b set.now → RunsAsRead b set.now limits events.now run.book run.replies.items) }
 {
+    keeps_law();
     set_law();
+    fits_law();
+    finish_law();
+    let _valid = set.draft();
+    let _few = limits.journal();
     let mut book = Book::open(alloc, set, limits)?;
     let replies = run_events(alloc, &mut book, events)?;
     Ok(TextRun { book, replies })

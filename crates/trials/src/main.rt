@@ -11,6 +11,10 @@
 //!   whether the messages of each spell of service came in order, none twice and none missing. A run is six words: basic or cyclic, the
 //!   seed, the rate (of so many bits one is flipped, one dropped and one doubled, 0 for none), how many messages go each way, how many are
 //!   given to each end in a round, how many units go one way in a round.
+//! - `sets`: a run in each line ([`group_trials::run_sets`]). Two link sets, whose links are tied together, carry messages, while a seeded schedule cuts
+//!   and heals links; what they say of a changeover is handed over as data, and some of it lost. Shows what was sent and arrived, how much is unsure, and
+//!   whether messages came once and in order of each selection, none missing but unsure ones.
+//! - `set_calls`: each public call of a link set. Shows what it answers.
 //! - `ports`: a port in each line ([`ports`]), which is held against a plain one, a vector, through many calls by a seeded generator. Shows
 //!   how often there was no room, how often an item was taken behind saved ones, and in how many calls the two differed.
 //! - `reports`: what is done with two such terminals, a step in each line ([`steps`]), over a line without damage. Shows what the near one
@@ -38,6 +42,7 @@ mod ports;
 mod reports;
 mod rounds;
 mod run;
+mod sets;
 mod shown;
 mod steps;
 mod texts;
@@ -50,6 +55,7 @@ use crate::lines::make_runs;
 use crate::ports::hold_ports;
 use crate::reports::report_all;
 use crate::rounds::make_rounds;
+use crate::sets::{call_each, make_sets};
 use crate::texts::{check_text, play_script};
 use crate::tied::live_all;
 use crate::wheels::make_wheels;
@@ -82,6 +88,8 @@ fn make<R: Runtime + AllocGlobal + Threads + Wait + Sync>(
         "tied" => live_all(rt.alloc(), text, trial),
         "reports" => report_all(rt.alloc(), text, trial),
         "rounds" => make_rounds(rt, text, trial),
+        "sets" => make_sets(rt.alloc(), text, trial),
+        "set_calls" => call_each(rt.alloc(), text),
         "wheels" => make_wheels(rt.alloc(), text, trial),
         _ => Err(Stopped::BadLine),
     }

@@ -18,6 +18,9 @@
 //!   is walked whole.
 //! - `port [ROUNDS]`: a port of 64 signals, all there; 10,000 times one is taken behind 0, 32 or 63 saved ones and put behind all others
 //!   again. Shows how many were taken; with a number of rounds how many a second, `port` from a port and `plain` from a vector.
+//! - `set [ROUNDS]`: two links, of which the first is given 127 messages that go out and 1,024 that wait; it fails, and all go to the second. Shows how
+//!   many were taken and diverted; with a number of rounds, of each, nanoseconds for one of the 1,024 and microseconds for the diversion, from the
+//!   order on.
 //! - `code SET`: the code of the set of such a name as numbers ([`code`]).
 //! - `open` and `full`: a book of the profile is held at the greatest limits, and in `full` its journal is filled. Shows how many events it
 //!   has.
@@ -37,6 +40,7 @@ mod link_rounds;
 mod pool_rounds;
 mod port_rounds;
 mod service;
+mod set_rounds;
 mod sets;
 mod store;
 mod traffic;
@@ -47,6 +51,7 @@ use crate::rounds::book_rounds::{Question, ask_set, write_books};
 use crate::rounds::line_rounds::write_line;
 use crate::rounds::link_rounds::write_link;
 use crate::rounds::port_rounds::write_ports;
+use crate::rounds::set_rounds::write_sets;
 use crate::rounds::sets::Set;
 use crate::rounds::wheel_rounds::write_wheels;
 use crate::run::number;
@@ -95,6 +100,7 @@ fn make_line<R: Runtime + AllocGlobal + Threads + Wait + Sync>(
         "link" => write_link(rt, rt.alloc(), text, number(&mut words)),
         "wheel" => write_wheels(rt, rt.alloc(), text, number(&mut words)),
         "port" => write_ports(rt, rt.alloc(), text, number(&mut words)),
+        "set" => write_sets(rt, rt.alloc(), text, number(&mut words)),
         "book" => write_books(rt, text, number(&mut words)),
         word => write_question(rt, text, word, &mut words),
     }

@@ -141,7 +141,7 @@ impl Write for Twice {
         if self.writes == 2 {
             return Err(io::Error::from(ErrorKind::Other));
         }
-        self.writes += 1;
+        self.writes = self.writes.wrapping_add(1);
         self.kept.extend_from_slice(octets)?;
         Ok(octets.len())
     }

@@ -1,6 +1,6 @@
 use Rattle.std.proofs.Common.{rules, ap, sym, ◌∙◌, slice_set}
 use Rattle.std.proofs.lemmas.List.Edits.{map_over_more}
-use Rattle.link_heart.specs.Machine.{is_low}
+use Rattle.link_term.specs.Machine.{is_low}
 use Rattle.group_links.specs.declared.link.Link.{Link}
 use Rattle.group_links.specs.Ticking.{roomy}
 use Rattle.group_links.proofs.Passing.{lacks_room}

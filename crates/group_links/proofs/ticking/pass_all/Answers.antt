@@ -1,6 +1,6 @@
 use Rattle.std.proofs.Common.{rules, arith, ap, sym, ◌∙◌, slice_set}
 use Rattle.std.proofs.lemmas.List.Edits.{map_over_more}
-use Rattle.link_heart.specs.Machine.{is_low, tick_refusal}
+use Rattle.link_term.specs.Machine.{is_low, tick_refusal}
 use Rattle.group_links.specs.declared.link.Link.{Link}
 use Rattle.group_links.specs.Ticking.{passed, due_at}
 use Rattle.group_links.proofs.Passing.{due_none, due_more, due_last, room_here, may_here, stands_here}

@@ -1,0 +1,50 @@
+//! Each public call of a set of two links.
+
+use crate::calls::Stopped;
+use crate::each_call::{WAY, bring_up, change_over, fill, give_them_up};
+use crate::far_end::FarEnd;
+use crate::opening::open_set;
+use link_group::{Group, Hands, Mode};
+use std::alloc::Global;
+use turn_check::Verified;
+
+/// Makes all calls, and writes what they answer.
+fn call_each(text: &mut String, group: &mut Group, hands: &mut Hands) -> Result<(), Stopped> {
+    let mut first = FarEnd::new();
+    let mut second = FarEnd::new();
+    bring_up(text, group, &mut first, &mut second)?;
+    fill(text, group, &mut first)?;
+    change_over(text, group, hands)?;
+    give_them_up(text, group, hands)
+}
+
+/// Ends a set: one hand by itself, and the others with it.
+fn end(group: Group, mut hands: Hands) {
+    match hands.take(1) {
+        Some(hand) => {
+            let mut ended = group.end(hands);
+            ended.take(hand);
+        }
+        None => {
+            let _ended = group.end(hands);
+        }
+    }
+}
+
+/// Makes each public call of a set of two links with terminals over a set of processes, and writes what it answers. What wants memory is called once more,
+/// since it changed nothing.
+///
+/// # Errors
+///
+/// Where there is no memory, then once more; or a terminal isn't made over the set or refuses what it is told.
+pub fn make_calls(alloc: Global, text: &mut String, set: &Verified) -> Result<(), Stopped> {
+    let mut group = open_set(alloc, set, Mode::Basic, 2, WAY)?;
+    match Hands::new(alloc) {
+        Ok(mut hands) => {
+            let made = call_each(text, &mut group, &mut hands);
+            end(group, hands);
+            made
+        }
+        Err(_) => Err(Stopped::NoMemory),
+    }
+}

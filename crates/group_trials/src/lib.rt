@@ -1,0 +1,25 @@
+//! Trials of link sets: two of them back to back, whose lines are cut and healed by a seeded schedule, and each public call of a set once.
+#![tactic(auto)]
+
+mod calling;
+mod calls;
+mod counts;
+mod dice;
+mod each_call;
+mod far_end;
+mod full_set;
+mod keeping;
+mod messages;
+mod opening;
+mod pair;
+mod run;
+mod schedule;
+mod set_end;
+mod shown;
+mod tending;
+mod working;
+
+pub use calling::make_calls;
+pub use calls::Stopped;
+pub use full_set::FullSet;
+pub use working::run_sets;

@@ -1,0 +1,3 @@
+pub mod Words
+pub mod Spoken
+pub use Rattle.line_play.specs.Checked

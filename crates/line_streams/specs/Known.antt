@@ -1,0 +1,26 @@
+-- Where orders come from, and where reports go.
+use Rattle.std.specs.Prelude.{◌≡◌, ⊤, ℕ, List, [], Option, None, Some}
+use Rattle.line_streams.specs.declared.opening.OrderStream.{OrderStream}
+use Rattle.line_streams.specs.declared.opening.OrderStream.TheVariants.{Nothing, File as from_file, Fifo as from_fifo}
+use Rattle.line_streams.specs.declared.opening.ReportStream.{ReportStream}
+use Rattle.line_streams.specs.declared.opening.ReportStream.TheVariants.{Errors, File as to_file, Fifo as to_fifo}
+
+-- what there is to read: what a file or a FIFO holds isn't known
+abbrev pub known_of : OrderStream → Option (List ℕ)
+known_of Nothing = Some []
+known_of (from_file file) = None
+known_of (from_fifo arrivals) = None
+
+-- from nowhere without a path, and else from what it names
+abbrev pub ComeFrom : {A : Type 0} → Option A → OrderStream → Type 0
+ComeFrom None stream = stream ≡ Nothing
+ComeFrom (Some path) Nothing = ⊥
+ComeFrom (Some path) (from_file file) = ⊤
+ComeFrom (Some path) (from_fifo arrivals) = ⊤
+
+-- without a path they go where the errors go, and else to what it names
+abbrev pub GoTo : {A E : Type 0} → Option A → E → ReportStream E → Type 0
+GoTo None errors stream = stream ≡ Errors errors
+GoTo (Some path) errors (Errors others) = ⊥
+GoTo (Some path) errors (to_file file) = ⊤
+GoTo (Some path) errors (to_fifo departures) = ⊤

@@ -1,0 +1,35 @@
+//! Link sets over the program's own set of processes.
+
+use crate::calls::Stopped;
+use group_trials::{Stopped as SetStopped, make_calls, run_sets};
+use standard_link::{Verified, standard};
+use std::alloc::Global;
+
+/// Why a trial of sets stopped.
+pub fn why_stopped(stopped: SetStopped) -> Stopped {
+    match stopped {
+        SetStopped::NoMemory => Stopped::NoMemory,
+        SetStopped::Refused => Stopped::Refused,
+        SetStopped::BadLine => Stopped::BadLine,
+    }
+}
+
+/// The processes.
+pub fn standard_set(alloc: Global) -> Result<Verified, Stopped> {
+    match standard(alloc) {
+        Ok(set) => Ok(set),
+        Err(_) => Err(Stopped::NoMemory),
+    }
+}
+
+/// Makes runs of two sets back to back, and writes what came of each.
+pub fn make_sets(alloc: Global, text: &mut String, runs: &str) -> Result<(), Stopped> {
+    let set = standard_set(alloc)?;
+    run_sets(alloc, text, &set, runs).map_err(why_stopped)
+}
+
+/// Makes each public call of a set, and writes what it answers.
+pub fn call_each(alloc: Global, text: &mut String) -> Result<(), Stopped> {
+    let set = standard_set(alloc)?;
+    make_calls(alloc, text, &set).map_err(why_stopped)
+}
