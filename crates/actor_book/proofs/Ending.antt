@@ -28,7 +28,7 @@ use Rattle.turn_code.specs.declared.draft.DraftState.{DraftState}
 use Rattle.turn_code.specs.declared.draft.DraftInput.{DraftInput}
 use Rattle.turn_machine.specs.Turn.{Turn, IsRunnable, turn_of, outcome_of}
 use Rattle.link_state.specs.Outcomes.{outcome_with, HasTimer, HaveTimers}
-use Rattle.actor_names.specs.declared.name.ActorName.{ActorName}
+use Rattle.link_machine.specs.actor_names_types.name.ActorName.{ActorName}
 use Rattle.link_machine.specs.Core.{Core, is_out, names_in, outs}
 use Rattle.link_machine.specs.Effects.{finished}
 use Rattle.link_machine.specs.Fits.{CoreFits, GivenFits}

@@ -9,8 +9,7 @@ ghost use Rattle.link_machine.specs.declared.actor.Actor.{Actor as PlainActor};
 ghost use Rattle.actor_book.specs.Shown.{variable_of};
 
 use crate::book::Book;
-use actor_names::ActorName;
-use link_machine::{Actor, Emitted, Event, Standing};
+use link_machine::{Actor, ActorName, Emitted, Event, Standing};
 use link_state::Link;
 use turn_check::Verified;
 use turn_code::{Value, VariableNumber};

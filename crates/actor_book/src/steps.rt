@@ -12,10 +12,9 @@ ghost use Rattle.actor_book.specs.Accepted.{Takes};
 ghost use Rattle.profile_limits.specs.Limits.{MOST_ACTORS, MOST_EFFECTS};
 
 use crate::book::Book;
-use actor_names::ActorName;
 use arrayvec::ArrayVec;
 use link_machine::laws::{fits_law, keeps_law, out_law, state_law};
-use link_machine::{Emitted, Event, Offer, Report};
+use link_machine::{ActorName, Emitted, Event, Offer, Report};
 use link_state::Link;
 use turn_code::laws::{effects_law, run_law};
 use turn_code::{SignalNumber, Trigger, Value};

@@ -4,7 +4,7 @@ use Rattle.std.specs.Prelude.{slice_get}
 use Rattle.turn_code.specs.declared.draft.Draft.{Draft}
 use Rattle.turn_code.specs.declared.draft.DraftProcess.{DraftProcess}
 use Rattle.turn_check.specs.Named.{IsNamed, IsFirst, process_names}
-use Rattle.actor_names.specs.Names.{named, actors_of, place_of}
+use Rattle.link_machine.specs.Names.{named, actors_of, place_of}
 use Rattle.link_heart.specs.Known.{process_word, IsProcess, IsActor}
 use Rattle.link_heart.specs.declared.words.ProcessName.{ProcessName}
 

@@ -3,7 +3,7 @@ use Rattle.std.specs.Prelude.{◌≡◌, ℕ, List, [], ◌∷◌, Some, codes}
 use Rattle.turn_code.specs.declared.draft.Draft.{Draft}
 use Rattle.turn_code.specs.declared.value.Sort.{Sort}
 use Rattle.turn_code.specs.declared.value.Sort.TheVariants.{Integer, Boolean}
-use Rattle.actor_names.specs.Names.{named, actors_of, place_of}
+use Rattle.link_machine.specs.Names.{named, actors_of, place_of}
 use Rattle.turn_check.specs.Named.{process_names, signal_names, IsFirst}
 use Rattle.link_heart.specs.declared.words.ProcessName.{ProcessName}
 use Rattle.link_heart.specs.declared.words.ProcessName.TheVariants as process

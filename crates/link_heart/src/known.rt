@@ -6,7 +6,7 @@ ghost use Rattle.link_heart.specs.Wanted.{wanted, Has, HasSignals, HasProcesses,
 use crate::names::{Names, Notices, Orders, Outputs, Parties};
 use crate::wanted::{Wanted, all_wanted, first_lacking};
 use crate::words::{ProcessName, SignalName};
-use actor_names::first_of;
+use link_machine::first_of;
 use turn_check::Verified;
 use turn_code::{ProcessNumber, SignalNumber};
 

@@ -14,3 +14,4 @@ pub mod FitsSteps
 pub mod Opened
 pub mod Places
 pub mod Numbers
+pub use Rattle.actor_names.proofs.Numbering

@@ -3,8 +3,8 @@ use Rattle.std.proofs.Common.{◌≡◌, ℕ, zero, suc, ◌+◌, ◌-◌, ◌*�
 use Rattle.std.specs.List.{AllByRecursion}
 use Rattle.std.proofs.lemmas.List.{length-append, length-map, drop_more, drop_all}
 use Rattle.turn_code.specs.declared.draft.DraftProcess.{DraftProcess}
-use Rattle.actor_names.specs.Names.{named, instances_from}
-use Rattle.actor_names.proofs.Numbering.{instances_count}
+use Rattle.link_machine.specs.Names.{named, instances_from}
+use Rattle.link_machine.proofs.Numbering.{instances_count}
 use Rattle.link_machine.specs.Kept.{opened_actor, opened_from}
 use Rattle.link_machine.specs.declared.actor.Actor.{Actor}
 use Rattle.link_state.specs.Opening.{HasFew}

@@ -2,14 +2,13 @@
 
 ghost use Rattle.std.specs.Prelude.{◌≡◌, ◌<◌, length, IfSome, slice_get};
 ghost use Rattle.link_machine.specs.Core.{change, change_found, found_in, names_in, outs};
-ghost use Rattle.actor_names.specs.Names.{place_of, number_for};
+ghost use Rattle.link_machine.specs.Names.{place_of, number_for};
 ghost use Rattle.link_machine.specs.Effects.{receives, drops, hears, moved, refusal_in, refusal_at as refused_at};
 ghost use Rattle.link_state.specs.Outcomes.{with_variables};
 
-use actor_names::ActorName;
 use arrayvec::ArrayVec;
 use input_port::{Arrival, TIMERS};
-use link_machine::{Actor, Cause, Standing};
+use link_machine::{Actor, ActorName, Cause, Standing};
 use turn_code::{Effect, End, InstanceNumber, Place, ProcessNumber, TimerNumber, Value};
 
 /// A signal comes to an actor. One that has stopped takes none, nor does one whose port is full.

@@ -10,10 +10,9 @@ ghost use Rattle.profile_limits.specs.Limits.{MOST_ACTORS, MOST_EFFECTS, MOST_TI
 
 use crate::actors::{deliver_to, end_turn, forget_timer, number_for, refusal_at, settle_at};
 use crate::link::Link;
-use actor_names::ActorName;
 use arrayvec::ArrayVec;
 use input_port::Arrival;
-use link_machine::{Cause, Emitted, Lost, Report};
+use link_machine::{ActorName, Cause, Emitted, Lost, Report};
 use tick_wheel::{Timer, Wheel};
 use turn_code::{Address, Effect, End, Party, Sending, TimerNumber, Value, copied_values};
 

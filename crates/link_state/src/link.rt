@@ -9,8 +9,7 @@ ghost use Rattle.profile_limits.specs.Limits.{MOST_ACTORS};
 
 use crate::actors::count_outs;
 use crate::ring::Ring;
-use actor_names::ActorName;
-use link_machine::{Actor, Emitted, Standing};
+use link_machine::{Actor, ActorName, Emitted, Standing};
 use std::marker::Model;
 use tick_wheel::Wheel;
 use turn_code::{Value, VariableNumber};

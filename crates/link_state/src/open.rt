@@ -2,16 +2,15 @@
 
 ghost use Rattle.std.specs.Prelude.{◌≡◌, ◌≤◌, ◌<◌, ◌+◌, ◌++◌, [], length, map, IfOk, OnOk};
 ghost use Rattle.std.specs.List.{AllByRecursion};
-ghost use Rattle.actor_names.specs.Names.{instances_from};
+ghost use Rattle.link_machine.specs.Names.{instances_from};
 ghost use Rattle.link_machine.specs.Kept.{opened, opened_actor, opened_from};
 ghost use Rattle.link_state.specs.Opening.{HasFew};
 ghost use Rattle.profile_limits.specs.Limits.{LEAST_PORT, MOST_ACTORS, MOST_PORT, MOST_PROCESSES};
 
 use crate::link::Link;
 use crate::ring::Ring;
-use actor_names::ActorName;
 use input_port::Port;
-use link_machine::{Actor, Given, Standing};
+use link_machine::{Actor, ActorName, Given, Standing};
 use std::alloc::{AllocError, Global};
 use tick_wheel::Wheel;
 use turn_check::{Verified, initial_values_of};

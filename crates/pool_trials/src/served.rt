@@ -2,8 +2,7 @@
 
 use crate::stopped::Stopped;
 use crate::wanderer::{Made, NAMES, Wanderer, Way};
-use actor_book::{Book, Limits};
-use actor_names::{ActorName, number_of};
+use actor_book::{ActorName, Book, Limits, number_of};
 use mtp2_text::{LoadFault, Verified, load, standard};
 use std::alloc::{AllocError, Global};
 use std::rt::Runtime;

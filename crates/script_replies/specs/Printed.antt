@@ -12,7 +12,7 @@ use Rattle.turn_code.specs.declared.draft.Draft.{Draft}
 use Rattle.turn_code.specs.declared.draft.Trigger.{Trigger}
 use Rattle.turn_code.specs.declared.draft.Trigger.TheVariants.{Signal, Timer}
 use Rattle.turn_check.specs.Named.{instances_at, process_names, signal_names, timer_names, state_names, trigger_at}
-use Rattle.actor_names.specs.declared.name.ActorName.{ActorName}
+use Rattle.link_machine.specs.actor_names_types.name.ActorName.{ActorName}
 use Rattle.link_machine.specs.declared.actor.Standing.{Standing}
 use Rattle.link_machine.specs.declared.actor.Standing.TheVariants.{At, Stopped}
 use Rattle.link_machine.specs.declared.reply.Report.{Report}

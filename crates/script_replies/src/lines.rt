@@ -5,8 +5,7 @@ ghost use Rattle.script_replies.specs.Printed.{place_text, begun_text, end_text,
 
 use crate::names::{input_text, process_text, signal_text, state_text, trigger_text};
 use crate::shown::{Counts, Shown};
-use actor_names::ActorName;
-use link_machine::{Emitted, Report, Standing};
+use link_machine::{ActorName, Emitted, Report, Standing};
 use std::alloc::{AllocError, Global};
 use turn_check::Verified;
 use turn_code::{End, Place, ProcessNumber, StateNumber, Trigger, Value};

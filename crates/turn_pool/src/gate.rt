@@ -1,7 +1,7 @@
 //! What a pool asks of others.
 
 use crate::pool::Pool;
-use actor_names::ActorName;
+use actor_book::ActorName;
 use event_seats::Seat;
 use std::sync::Wait;
 use std::sync::ledger::Ledger;

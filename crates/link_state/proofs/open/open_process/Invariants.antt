@@ -1,5 +1,5 @@
 use Rattle.std.proofs.Common.{◌≡◌, ◌++◌, map}
-use Rattle.actor_names.specs.Names.{instances_from}
+use Rattle.link_machine.specs.Names.{instances_from}
 use Rattle.link_machine.specs.Kept.{opened_actor}
 use Rattle.link_state.proofs.Opened.{left_of}
 use Rattle.link_state.proofs.open.open_process.Given as goal
