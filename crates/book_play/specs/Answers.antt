@@ -72,7 +72,7 @@ by_event b p e = record { book = (ask b e).book; line = answer_text b.set p (ask
 
 -- ---- commands on an actor
 
--- the job that the actor has out runs and is handed in; without one there is no such turn
+-- the turn that the actor has out ends by what the set's own code does; without one there is no such turn (B6)
 abbrev pub finishes : Ledger → Called → Option Turn → Answered
 finishes b x None = refused b Stranger
 finishes b x (Some turn) = by_event b x.name.process.0 (event.Finish x.number)

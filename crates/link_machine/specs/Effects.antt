@@ -93,7 +93,7 @@ abbrev pub without_first_timers : Timers → ℕ → ℕ → Timers
 without_first_timers ts n zero = ts
 without_first_timers ts n (suc k) = without (without_first_timers ts n k) n k
 
--- without all timers that actor n may have
+-- no timer of actor n is active; the others are as they were
 unfoldable pub without_timers : Timers → ℕ → Timers
 without_timers ts n = without_first_timers ts n MOST_TIMERS_EACH
 

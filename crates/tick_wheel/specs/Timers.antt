@@ -36,7 +36,7 @@ pairs deadlines = map (λ e. record { deadline = e.1; timer = e.0 }) (finite.ent
 unfoldable pub in_order : List Due → List Due
 in_order pairs = finite.keys (finite.from_entries {R = due_cmp} (map (λ d. (d, tt {0})) pairs))
 
--- what is due at a clock: the pairs with a deadline at most the clock, in order
+-- what is due at a clock: the pairs with a deadline at most the clock, in order; IsDue says the same without a map
 unfoldable pub due : Deadlines → ℕ → List Due
 due deadlines clock = in_order (filter (λ d. nat_le d.deadline clock) (pairs deadlines))
 
