@@ -54,7 +54,7 @@ first_instance word r h e =
 
 -- ---- actors
 
-called : ℕ → ℕ → Option ℕ → Option Called
+abbrev called : ℕ → ℕ → Option ℕ → Option Called
 called p k o = option_map (λ n. let c : Called = record { name = named p k; number = n } in c) o
 
 pub found_there : (d : Draft) (p k : ℕ) (o : Option ℕ) (n : ℕ) (r : Called) → o ≡ place_of (named p k) (actors_of d.processes) → o ≡ Some n

@@ -14,5 +14,5 @@ pub returns-in_ok-passed-in-None : goal.returns-in_ok-passed-in-None
 returns-in_ok-passed-in-None c =
     let b = block_of c.args.block.now in
     find-right (exceeds b) number_limits later_limits c.first_passed.result (sym c.in_ok-counted.ensures ∙ c.in-None.is)
-    (c.first_passed.ensures b (subst (λ (l : List PlainProcess). AllPassed l c.in_ok-passed-in-None.passed) c.tables.ensures c.in_ok-passed-in-None.ensures)
-    (c.has_wrong_instances.ensures ∙ ap (λ (l : List PlainProcess). list_any (λ p. wrong_instances p.instances) l) c.tables.ensures))
+    (c.first_passed.ensures b (subst (λ (l : List PlainProcess). AllPassed l c.in_ok-passed-in-None.passed) c.tables-tables.ensures c.in_ok-passed-in-None.ensures)
+    (c.has_wrong_instances.ensures ∙ ap (λ (l : List PlainProcess). list_any (λ p. wrong_instances p.instances) l) c.tables-tables.ensures))
