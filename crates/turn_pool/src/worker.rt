@@ -1,12 +1,12 @@
 //! Workers.
 
 ghost use Rattle.std.specs.Prelude.{◌≡◌};
-ghost use Rattle.turn_pool.specs.Turns.{move_by, IsNext};
+ghost use Rattle.turn_pool.specs.Turns.{move_by, IsNext, told_of, told};
 
 use crate::gate::{Gate, JobName};
 use crate::moves::{Move, Moved, work};
 use crate::pool::Pool;
-use actor_book::{ActorName, Book, Refusal};
+use actor_book::{Book, Refusal};
 use event_seats::Seat;
 use std::sync::Wait;
 use std::sync::ledger::Ledger;
@@ -47,25 +47,46 @@ fn next_step(book: &Book) -> Option<Move>
     None
 }
 
-/// The number of the actor whose step it is.
-fn actor_of(step: &Move) -> u16 {
-    match step {
-        Move::Begin(actor) | Move::Skip(actor) => *actor,
-        Move::Finish(done) => done.job().actor(),
+/// What a gate is told of a turn: the link where it is out, what its actor is called there, and the turn's number.
+fn name_of(link: usize, book: &Book, job: &Job) -> Option<JobName>
+    ensures { result ≡ told_of link book.now job.now }
+{
+    match book.name_of(job.actor()) {
+        Some(actor) => Some(JobName {
+            link,
+            actor,
+            turn: job.turn(),
+        }),
+        None => None,
     }
 }
 
-/// Does one step on a link, under its lock, if an actor there can do something: what the book answered, and the actor.
+/// What a gate is told of a worker's step, where that began a turn.
+fn name_in(link: usize, book: &Book, moved: &Moved) -> Option<JobName>
+    ensures { result ≡ told link book.now moved.now }
+{
+    match moved {
+        Moved::Begun(begun) => match begun {
+            Ok(job) => name_of(link, book, job),
+            Err(_) => None,
+        },
+        Moved::Skipped(_) | Moved::Finished(_) => None,
+    }
+}
+
+/// Does one step on a link, under its lock, if an actor there can do something: what the book answered, and what a gate is told of a turn that
+/// began.
 fn step<R: Wait, L: Ledger>(
     pool: &Pool<'_, R, L>,
     seat: &mut Seat<L>,
     link: usize,
-) -> Option<(Moved, ActorName)> {
+) -> Option<(Moved, Option<JobName>)> {
     let mut slot = pool.links.get(link)?.lock(pool.rt);
     let step = next_step(slot.book())?;
-    let name = slot.book().name_of(actor_of(&step))?;
     let mut totals = pool.account();
-    Some((work(&mut slot, seat, &mut totals, step), name))
+    let moved = work(&mut slot, seat, &mut totals, step);
+    let name = name_in(link, slot.book(), &moved);
+    Some((moved, name))
 }
 
 /// Ends a turn that is out on a link.
@@ -80,29 +101,16 @@ fn end<R: Wait, L: Ledger>(
     Some(work(&mut slot, seat, &mut totals, step))
 }
 
-/// What a gate is told of a job: the link where its turn is out, its actor and its turn.
-fn name_of(link: usize, actor: ActorName, job: &Job) -> JobName
-    ensures { result ≡ record { link = link; actor = actor; turn = job.now.turn } }
-{
-    JobName {
-        link,
-        actor,
-        turn: job.turn(),
-    }
-}
-
 /// Runs a job with no lock held, and ends its turn.
 fn run_job<R: Wait, L: Ledger, G: Gate>(
     pool: &Pool<'_, R, L>,
     gate: &G,
     seat: &mut Seat<L>,
-    link: usize,
-    actor: ActorName,
+    name: JobName,
     job: Job,
 ) {
-    let name = name_of(link, actor, &job);
     gate.enter(name);
-    let _ended = end(pool, seat, link, Move::Finish(run(job)));
+    let _ended = end(pool, seat, name.link, Move::Finish(run(job)));
     gate.leave(name);
 }
 
@@ -114,8 +122,8 @@ fn turn<R: Wait, L: Ledger, G: Gate>(
     link: usize,
 ) -> bool {
     match step(pool, seat, link) {
-        Some((Moved::Begun(Ok(job)), actor)) => {
-            run_job(pool, gate, seat, link, actor, job);
+        Some((Moved::Begun(Ok(job)), Some(name))) => {
+            run_job(pool, gate, seat, name, job);
             true
         }
         Some((Moved::Skipped(Ok(_)), _)) => true,
