@@ -185,7 +185,7 @@ impl Port {
 
     /// Puts the signal of a timer, which has no item here, behind the other items.
     pub fn put_timer(&mut self, timer: TimerNumber)
-        requires number { timer.0 < TIMERS }
+        requires number { timer.0 < MOST_TIMERS_EACH }
         requires absent { has_timer self.old.items timer.0 ≡ false }
         ensures { self.new ≡ record self.old { items = self.old.items ++ Item.Timer timer ∷ [] } }
     {

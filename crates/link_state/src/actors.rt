@@ -5,9 +5,10 @@ ghost use Rattle.link_machine.specs.Core.{change, change_found, found_in, names_
 ghost use Rattle.link_machine.specs.Names.{place_of, number_for};
 ghost use Rattle.link_machine.specs.Effects.{receives, drops, hears, moved, refusal_in, refusal_at as refused_at};
 ghost use Rattle.link_state.specs.Outcomes.{with_variables};
+ghost use Rattle.profile_limits.specs.Limits.{MOST_TIMERS_EACH};
 
 use arrayvec::ArrayVec;
-use input_port::{Arrival, TIMERS};
+use input_port::Arrival;
 use link_machine::{Actor, ActorName, Cause, Standing};
 use turn_code::{Effect, End, InstanceNumber, Place, ProcessNumber, TimerNumber, Value};
 
@@ -148,7 +149,7 @@ pub(crate) fn forget_timer(actors: &mut [Actor], number: usize, timer: TimerNumb
 /// The signal of a timer comes to an actor.
 #[tactic(auto, using(crate::proofs::TimerItems::none_left))]
 fn hear(actor: &mut Actor, timer: TimerNumber)
-    requires { timer.0 < TIMERS }
+    requires { timer.0 < MOST_TIMERS_EACH }
     ensures { actor.new ≡ hears timer.0 actor.old }
 {
     actor.port.drop_timer(timer);
@@ -157,7 +158,7 @@ fn hear(actor: &mut Actor, timer: TimerNumber)
 
 /// The signal of a timer comes to actor `number`.
 pub(crate) fn notify(actors: &mut [Actor], number: usize, timer: TimerNumber)
-    requires { timer.0 < TIMERS }
+    requires { timer.0 < MOST_TIMERS_EACH }
     ensures { actors.new ≡ change actors.old number (hears timer.0) }
 {
     if number < actors.len() {
