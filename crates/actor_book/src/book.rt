@@ -104,8 +104,10 @@ impl Book {
         }
     }
 
-    /// What holds of every book.
-    pub(crate) fn keeps(&self)
+    /// What holds of every book, wherever it comes from, as from a lock: its state is the replay of its journal, all fits in each state
+    /// on the way (signals came along routes that bring them, timers are their receivers' own, a turn that is out has an input that fits
+    /// it), and its numbers stay within their bounds. That is what the laws of [`link_machine`] ask. It does nothing and costs nothing.
+    pub fn keeps(&self)
         ensures { IsKept self.now }
     {
         let _ = &self.limit;
