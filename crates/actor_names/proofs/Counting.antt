@@ -73,11 +73,11 @@ actor_number d valid name first least most e =
 
 -- no such instance
 has_none : (d : Draft) (name : ActorName) → (IsInstance d.processes name → ⊥) → place_of name (actors_of d.processes) ≡ None
-has_none d name no = by_place (place_of name (actors_of d.processes)) refl
+has_none d name never = by_place (place_of name (actors_of d.processes)) refl
   where
     by_place : (o : Option ℕ) → place_of name (actors_of d.processes) ≡ o → o ≡ None
     by_place None e = refl
-    by_place (Some n) e = absurd (no (actors_law.instances d.processes n name ((actors_law.numbers d.processes n name).1 e)))
+    by_place (Some n) e = absurd (never (actors_law.instances d.processes n name ((actors_law.numbers d.processes n name).1 e)))
 
 pub below_one : (d : Draft) (name : ActorName) → name.instance.0 < 1 → place_of name (actors_of d.processes) ≡ None
 below_one d name low = has_none d name (λ (x : IsInstance d.processes name). let least = x.least in omega (arith, least, low))

@@ -148,11 +148,11 @@ first_place x [] n e = absurd (none-some x e)
 first_place x (y ∷ ys) zero e =
     let same : same_actor x y ≡ true = subst (λ (z : ActorName). same_actor x z ≡ true) (sym (same_Some y x e)) (own_name x) in
     (0, ap (λ (b : Bool). if b then Some 0 else option_map (λ n. suc n) (place_of x ys)) same)
-first_place x (y ∷ ys) (suc n) e = by (same_actor x y)
+first_place x (y ∷ ys) (suc n) e = by (first_place x ys n e) (same_actor x y)
   where
-    by : (b : Bool) → (m : ℕ) × ((if b then Some 0 else option_map (λ n. suc n) (place_of x ys)) ≡ Some m)
-    by true = (0, refl)
-    by false = let rest = first_place x ys n e in (suc rest.0, ap (option_map (λ n. suc n)) rest.1)
+    by : (m : ℕ) × (place_of x ys ≡ Some m) → (b : Bool) → (m : ℕ) × ((if b then Some 0 else option_map (λ n. suc n) (place_of x ys)) ≡ Some m)
+    by rest true = (0, refl)
+    by rest false = (suc rest.0, ap (option_map (λ n. suc n)) rest.1)
 
 place_first : (ps : List DraftProcess) (n : ℕ) (x : ActorName) → slice_get (actors_of ps) n ≡ Some x → place_of x (actors_of ps) ≡ Some n
 place_first ps n x e =

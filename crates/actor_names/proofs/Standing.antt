@@ -21,15 +21,15 @@ one_actor x y e = by_process (x.process.0 == y.process.0) refl e
 -- a name stands where its place is
 pub stands_there : (x : ActorName) (names : List ActorName) (n : ℕ) → place_of x names ≡ Some n → slice_get names n ≡ Some x
 stands_there x [] n e = absurd (none-some n e)
-stands_there x (y ∷ ys) n e = by_first (same_actor x y) refl e
+stands_there x (y ∷ ys) n e = by_first (λ m f. stands_there x ys m f) (same_actor x y) refl e
   where
-    by_rest : (o : Option ℕ) (n : ℕ) → place_of x ys ≡ o → option_map (λ n. suc n) o ≡ Some n → slice_get (y ∷ ys) n ≡ Some x
-    by_rest None n f e = absurd (none-some n e)
-    by_rest (Some m) n f e = subst (λ (n : ℕ). slice_get (y ∷ ys) n ≡ Some x) (same_Some (suc m) n e) (stands_there x ys m f)
+    by_rest : ((m : ℕ) → place_of x ys ≡ Some m → slice_get ys m ≡ Some x) → (o : Option ℕ) (n : ℕ) → place_of x ys ≡ o → option_map (λ n. suc n) o ≡ Some n → slice_get (y ∷ ys) n ≡ Some x
+    by_rest rest None n f e = absurd (none-some n e)
+    by_rest rest (Some m) n f e = subst (λ (n : ℕ). slice_get (y ∷ ys) n ≡ Some x) (same_Some (suc m) n e) (rest m f)
 
-    by_first : (b : Bool) → same_actor x y ≡ b → (if b then Some 0 else option_map (λ n. suc n) (place_of x ys)) ≡ Some n → slice_get (y ∷ ys) n ≡ Some x
-    by_first true f e = subst (λ (n : ℕ). slice_get (y ∷ ys) n ≡ Some x) (same_Some 0 n e) (ap (λ (z : ActorName). Some z) (sym (one_actor x y f)))
-    by_first false f e = by_rest (place_of x ys) n refl e
+    by_first : ((m : ℕ) → place_of x ys ≡ Some m → slice_get ys m ≡ Some x) → (b : Bool) → same_actor x y ≡ b → (if b then Some 0 else option_map (λ n. suc n) (place_of x ys)) ≡ Some n → slice_get (y ∷ ys) n ≡ Some x
+    by_first rest true f e = subst (λ (n : ℕ). slice_get (y ∷ ys) n ≡ Some x) (same_Some 0 n e) (ap (λ (z : ActorName). Some z) (sym (one_actor x y f)))
+    by_first rest false f e = by_rest rest (place_of x ys) n refl e
 
 -- whoever gets a signal to a process is an actor of that process
 pub record IsOfProcess (names : List ActorName) (p : ProcessNumber) (n : ℕ) : Type 0 where

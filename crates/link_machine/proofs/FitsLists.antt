@@ -51,7 +51,7 @@ change_map {A} g xs n f keeps = by (slice_get xs n) refl
     by (Some x) e = map_set g xs n x (f x) e (keeps x)
 
 -- an actor keeps its name
-pub NamesStay : (Actor → Actor) → Type 0
+unfoldable pub NamesStay : (Actor → Actor) → Type 0
 NamesStay f = (a : Actor) → (f a).name ≡ a.name
 
 pub names_change : (xs : List Actor) (n : ℕ) (f : Actor → Actor) → NamesStay f → names_in (change xs n f) ≡ names_in xs

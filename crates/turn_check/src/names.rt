@@ -19,10 +19,17 @@ impl Verified {
     }
 
     /// How many instances of a process run, 1 to 8; 0 where there is no such process.
-    #[tactic(auto, using(crate::proofs::NameLists::few_instances))]
     pub fn instances(&self, process: ProcessNumber) -> u32
         ensures value { result ≡ instances_at self.now process.0 }
         ensures most { result ≤ MOST_INSTANCES }
+    {
+        let _valid = self.draft();
+        self.drafted_instances(process)
+    }
+
+    /// The same, as the draft has it.
+    fn drafted_instances(&self, process: ProcessNumber) -> u32
+        ensures { result ≡ instances_at self.now process.0 }
     {
         match self
             .draft()

@@ -1,4 +1,4 @@
-use Rattle.std.proofs.Common.{sym, arith}
+use Rattle.std.proofs.Common.{ℕ, ◌+◌, ◌-◌, Some, sym, ap, ◌∙◌, arith}
 use Rattle.actor_names.proofs.Counting.{is_there, actor_number, below_one, above_all}
 use Rattle.actor_names.proofs.number.number_of.Goals as goal
 
@@ -16,5 +16,6 @@ first_of-requires c =
 
 pub returns : goal.returns
 returns c =
-    sym (actor_number c.args.set.now c.draft-valid.ensures.valid c.args.name c.first_of.result (omega (arith, c.if-instance-lt1.false))
+    ap (λ (k : ℕ). Some (c.first_of.result + k - 1)) c.from.ensures
+    ∙ sym (actor_number c.args.set.now c.draft-valid.ensures.valid c.args.name c.first_of.result (omega (arith, c.if-instance-lt1.false))
     (omega (arith, c.if-most-wanted.false, c.instances-most.ensures.value, c.from-wanted.ensures)) c.first_of.ensures.number)
