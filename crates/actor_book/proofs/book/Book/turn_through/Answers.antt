@@ -1,6 +1,5 @@
-use Rattle.std.proofs.Common.{ap, sym, ◌∙◌, Option, subst, ◌+◌}
-use Rattle.turn_machine.specs.Turn.{Turn}
-use Rattle.link_machine.specs.Ledger.{Ledger, Asked, ask, turn_out}
+use Rattle.std.proofs.Common.{ap, sym, ◌∙◌, subst}
+use Rattle.link_machine.specs.Ledger.{Ledger, ask, turn_out}
 use Rattle.link_machine.specs.declared.event.Event.TheVariants.{Begin, Finish}
 use Rattle.actor_book.specs.Whole.{TookWithin}
 use Rattle.actor_book.proofs.Beginning.{has_begun}
