@@ -1,9 +1,11 @@
-use Rattle.std.proofs.Common.{refl, arith}
+use Rattle.std.proofs.Common.{List, ◌++◌, refl, ap, arith}
+use Rattle.link_machine.specs.Kept.{opened_from}
+use Rattle.link_machine.specs.declared.actor.Actor.{Actor}
 use Rattle.link_state.proofs.Opened.{processes_more, few_more, few_here, processes_done, actors_few}
 use Rattle.link_state.proofs.open.opened_actors.Goals as goal
 
 pub loop-process-init : goal.loop-process-init
-loop-process-init c = (refl, c.requires.few, refl)
+loop-process-init c = (ap (λ (xs : List Actor). xs ++ opened_from c.args.port 0 c.args.processes.now) c.new-actors.ensures.items, c.requires.few, refl)
 
 pub open_process-requires-clause-few : goal.open_process-requires-clause-few
 open_process-requires-clause-few c =
