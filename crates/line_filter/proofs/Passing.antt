@@ -170,7 +170,7 @@ served_kept acts bits ahead count s t goes_on next old new last so_far kept same
       tells = subst Q (sym same_told) so_far.tells;
     }
 
-none_left : (come dropped : List ℕ) → dropped ≡ [] → come ++ dropped ≡ come
+pub none_left : (come dropped : List ℕ) → dropped ≡ [] → come ++ dropped ≡ come
 none_left come dropped none = ap (λ l. come ++ l) none ∙ append-nil come
 
 -- a part more
