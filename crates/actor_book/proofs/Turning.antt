@@ -1,21 +1,20 @@
 -- Turns of actors, from their beginning to their end.
-use Rattle.std.proofs.Common.{◌≡◌, ℕ, ◌+◌, ◌≤◌, true, List, length, Option, Some, None, refl, sym, ap, ◌∙◌, subst}
-use Rattle.std.specs.Prelude.{IsSome, is_some, slice_get}
-use Rattle.turn_code.specs.Machine.{progress_of}
-use Rattle.turn_code.specs.Outcome.{Outcome, outcome_in}
-use Rattle.turn_code.specs.Transitions.{Transition, transition_at}
+use Rattle.std.proofs.Common.{◌≡◌, ℕ, ◌≤◌, List, Option, Some, None, refl, sym, ap, ◌∙◌, subst}
+use Rattle.std.specs.Prelude.{IsSome, slice_get}
+use Rattle.turn_code.specs.Outcome.{outcome_in}
+use Rattle.turn_code.specs.Transitions.{transition_at}
 use Rattle.turn_code.specs.declared.value.Value.{Value}
 use Rattle.turn_code.specs.declared.effect.Effect.{Effect}
+use Rattle.turn_code.specs.declared.numbers.ProcessNumber.{ProcessNumber}
 use Rattle.turn_code.specs.declared.input.Place.{Place}
 use Rattle.turn_code.specs.declared.machine.End.{End}
 use Rattle.turn_code.specs.declared.machine.Machine.{Machine}
 use Rattle.turn_code.specs.declared.draft.Draft.{Draft}
 use Rattle.turn_machine.specs.Ends.{EndsSo}
-use Rattle.turn_machine.specs.Turn.{Turn, turn_of, outcome_of}
+use Rattle.turn_machine.specs.Turn.{Turn, turn_of}
 use Rattle.link_machine.specs.Core.{Core}
-use Rattle.link_machine.specs.Kept.{IsKept}
-use Rattle.link_machine.specs.Laws.{FitsLaw, StateLaw, SetLaw}
-use Rattle.link_machine.specs.Ledger.{Ledger, state_of, ask, turn_with, turn_at, turn_out}
+use Rattle.link_machine.specs.Laws.{StateLaw, SetLaw}
+use Rattle.link_machine.specs.Ledger.{Ledger, state_of, turn_with, turn_at, turn_out}
 use Rattle.link_machine.specs.declared.actor.Actor.{Actor}
 use Rattle.link_machine.specs.declared.actor.Given.{Given}
 use Rattle.link_machine.specs.declared.event.Event.TheVariants.{Begin}
@@ -40,11 +39,11 @@ the_turn None h = absurd (cc)
 the_turn (Some t) h = (t, refl)
 
 -- a given turn that ran where its code stands
-pub ends_with : (d : Draft) (n : ℕ) (s : Place) (g : Given) (e : End) (m : Machine) → EndsSo d n s g.number g.input e m
-    → IsEnding (turn_with n s g (transition_at d n s g.number)) e m
-ends_with d n s g e m h = record {
-  turn = turn_of n g.turn (record { 0 = n }) s g.number h.transition.piece.code h.transition.piece.certificate g.input;
-  is = ap (turn_with n s g) h.there;
+pub ends_with : (d : Draft) (n : ℕ) (p : ProcessNumber) (s : Place) (g : Given) (e : End) (m : Machine) → EndsSo d p.0 s g.number g.input e m
+    → IsEnding (turn_with n p s g (transition_at d p.0 s g.number)) e m
+ends_with d n p s g e m h = record {
+  turn = turn_of n g.turn p s g.number h.transition.piece.code h.transition.piece.certificate g.input;
+  is = ap (turn_with n p s g) h.there;
   ran = ap outcome_in h.ran;
   within = h.within;
   few = h.few;

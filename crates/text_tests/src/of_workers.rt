@@ -1,5 +1,5 @@
 //! Workers: that they run at once, that they end what they begin, that they come to an end.
-use crate::links::{ECHO, ECHOES, ENDLESS, UP, WASTEFUL, links, links_of};
+use crate::links::{ECHO, ECHOES, ENDLESS, TWINS, WASTEFUL, links, links_of};
 use actor_book::{Book, Limits};
 use std::alloc::Global;
 use std::sync::Wait;
@@ -10,13 +10,13 @@ use std::thread::Threads;
 use turn_pool::{Client, Gate, JobName, Pool, Seat, serve};
 
 /// How often a loop looks for what is to come.
-const LOOKS: u32 = 1_000_000_000;
+pub(crate) const LOOKS: u32 = 1_000_000_000;
 
 /// Which turns are held at the gate, and until when.
 #[derive(Clone, Copy)]
 struct Plan {
     text: &'static str,
-    /// Each of the links has so many processes.
+    /// Each of the links has so many instances of processes.
     processes: u64,
     links: usize,
     workers: usize,
@@ -37,7 +37,7 @@ struct Plan {
 }
 
 /// What can only come to an end where turns run at once, under no lock, and where a turn that has begun is ended.
-const PLANS: [Plan; 3] = [
+const PLANS: [Plan; 4] = [
     // two actors of one link: the first turn is held until the second has ended
     Plan {
         text: ECHOES,
@@ -51,6 +51,20 @@ const PLANS: [Plan; 3] = [
         wanted_begun: 2,
         wanted_ended: 2,
         names: 112,
+    },
+    // two instances of one process: the same
+    Plan {
+        text: TWINS,
+        processes: 2,
+        links: 1,
+        workers: 2,
+        held: 1,
+        until_begun: 2,
+        until_ended: 1,
+        until_returned: false,
+        wanted_begun: 2,
+        wanted_ended: 2,
+        names: 100_012,
     },
     // four links: each turn is held until four have begun
     Plan {
@@ -82,11 +96,13 @@ const PLANS: [Plan; 3] = [
     },
 ];
 
-/// A number for what a gate is told of a turn: 1, and 1,000 for each link, 100 for each actor and 10 for each turn before its own.
+/// A number for what a gate is told of a turn: 1, and 100,000 for each instance, 1,000 for each link, 100 for each process and 10 for each turn
+/// before its own.
 fn number_of(name: JobName) -> usize {
     let turn = name.turn.min(9) as usize;
-    let actor = usize::from(name.actor).min(9);
-    1 + 1_000 * name.link.min(9) + 100 * actor + 10 * turn
+    let process = usize::from(name.actor.process.0).min(9);
+    let before = usize::from(name.actor.instance.0).saturating_sub(1);
+    1 + 100_000 * before + 1_000 * name.link.min(9) + 100 * process + 10 * turn
 }
 
 /// A gate that holds turns as a plan says.
@@ -186,7 +202,18 @@ fn all_ended(books: &[Book], turns: u64) -> usize {
     ended
 }
 
-/// On how many links of a plan each START has run and ended; none where a turn was held in vain, or the gate was told of others.
+/// Whether each worker has two events on its seat: in each of the plans it begins one turn and ends it.
+fn made_two_each(workers: &[u64]) -> bool {
+    for events in workers {
+        if *events != 2 {
+            return false;
+        }
+    }
+    true
+}
+
+/// On how many links of a plan each START has run and ended; none where a turn was held in vain, the gate was told of others, or a worker's
+/// count isn't its own.
 fn links_ended<R: Threads + Wait + Sync>(rt: &R, alloc: Global, plan: Plan) -> Option<usize> {
     let books = links(alloc, plan.text, plan.links, 64)?;
     let gate = Holds::new(plan);
@@ -198,7 +225,9 @@ fn links_ended<R: Threads + Wait + Sync>(rt: &R, alloc: Global, plan: Plan) -> O
         &gate,
         &mut LooksOn { gate: &gate },
     ) {
-        Ok(closed) if gate.was_told() => Some(all_ended(&closed.books, plan.processes)),
+        Ok(closed) if gate.was_told() && made_two_each(&closed.workers) => {
+            Some(all_ended(&closed.books, plan.processes))
+        }
         _ => None,
     }
 }
@@ -319,82 +348,4 @@ fn wasteful(alloc: Global) -> Option<Vec<Book>> {
 fn a_worker_counts_skips_after_closing(rt: HostRuntime) {
     let books = wasteful(rt.alloc());
     assert_eq!(rt; comes_to_an_end(&rt, rt.alloc(), books, 600), Some(true));
-}
-
-/// A gate that holds the worker as its second turn has ended, until a client has looked.
-#[derive(Drop)]
-struct HoldsEnded {
-    left: AtomicUsize,
-    looked: AtomicBool,
-    in_vain: AtomicBool,
-}
-
-impl HoldsEnded {
-    /// Whether the client comes to look.
-    fn is_looked_at(&self) -> bool {
-        for _ in 0..LOOKS {
-            if self.looked.load(Ordering::SeqCst) {
-                return true;
-            }
-            thread::yield_now();
-        }
-        false
-    }
-}
-
-impl Gate for HoldsEnded {
-    fn enter(&self, _name: JobName) {}
-
-    fn leave(&self, _name: JobName) {
-        let before = self.left.fetch_add(1, Ordering::SeqCst);
-        if before == 1 && !self.is_looked_at() {
-            self.in_vain.store(true, Ordering::SeqCst);
-        }
-    }
-}
-
-/// A client that offers a signal, and takes what came of it while the gate holds the worker.
-#[derive(Drop)]
-struct TakesHeld<'a> {
-    gate: &'a HoldsEnded,
-    taken: bool,
-}
-
-impl Client for TakesHeld<'_> {
-    fn drive<R: Wait, L: Ledger>(&mut self, pool: &Pool<'_, R, L>, seat: &mut Seat<L>) {
-        let _offered = pool.offer(0, 0, UP, &[], seat);
-        for _ in 0..LOOKS {
-            if self.gate.left.load(Ordering::SeqCst) >= 2 {
-                break;
-            }
-            thread::yield_now();
-        }
-        self.taken = pool.take_env(0, seat).is_ok();
-        self.gate.looked.store(true, Ordering::SeqCst);
-    }
-}
-
-/// Whether what a turn sent could be taken while the gate was being told of its end.
-fn is_taken_held<R: Threads + Wait + Sync>(rt: &R, alloc: Global) -> bool {
-    let Some(books) = links(alloc, ECHO, 1, 64) else {
-        return false;
-    };
-    let gate = HoldsEnded {
-        left: AtomicUsize::new(0),
-        looked: AtomicBool::new(false),
-        in_vain: AtomicBool::new(false),
-    };
-    let mut client = TakesHeld {
-        gate: &gate,
-        taken: false,
-    };
-    match serve(rt, alloc, books, 1, &gate, &mut client) {
-        Ok(_) => client.taken && !gate.in_vain.load(Ordering::SeqCst),
-        Err(_) => false,
-    }
-}
-
-#[test]
-fn a_gate_is_told_of_a_turn_behind_its_end_and_under_no_lock(rt: HostRuntime) {
-    assert!(rt; is_taken_held(&rt, rt.alloc()));
 }
