@@ -13,6 +13,8 @@ mod of_closing;
 #[cfg(test)]
 mod of_compile;
 #[cfg(test)]
+mod of_gates;
+#[cfg(test)]
 mod of_pools;
 #[cfg(test)]
 mod of_rebases;

@@ -1,5 +1,5 @@
 //! Workers: that they run at once, that they end what they begin, that they come to an end.
-use crate::links::{ECHO, ECHOES, ENDLESS, UP, WASTEFUL, links, links_of};
+use crate::links::{ECHO, ECHOES, ENDLESS, WASTEFUL, links, links_of};
 use actor_book::{Book, Limits};
 use std::alloc::Global;
 use std::sync::Wait;
@@ -10,7 +10,7 @@ use std::thread::Threads;
 use turn_pool::{Client, Gate, JobName, Pool, Seat, serve};
 
 /// How often a loop looks for what is to come.
-const LOOKS: u32 = 1_000_000_000;
+pub(crate) const LOOKS: u32 = 1_000_000_000;
 
 /// Which turns are held at the gate, and until when.
 #[derive(Clone, Copy)]
@@ -186,7 +186,18 @@ fn all_ended(books: &[Book], turns: u64) -> usize {
     ended
 }
 
-/// On how many links of a plan each START has run and ended; none where a turn was held in vain, or the gate was told of others.
+/// Whether each worker has two events on its seat: in each of the plans it begins one turn and ends it.
+fn made_two_each(workers: &[u64]) -> bool {
+    for events in workers {
+        if *events != 2 {
+            return false;
+        }
+    }
+    true
+}
+
+/// On how many links of a plan each START has run and ended; none where a turn was held in vain, the gate was told of others, or a worker's
+/// count isn't its own.
 fn links_ended<R: Threads + Wait + Sync>(rt: &R, alloc: Global, plan: Plan) -> Option<usize> {
     let books = links(alloc, plan.text, plan.links, 64)?;
     let gate = Holds::new(plan);
@@ -198,7 +209,9 @@ fn links_ended<R: Threads + Wait + Sync>(rt: &R, alloc: Global, plan: Plan) -> O
         &gate,
         &mut LooksOn { gate: &gate },
     ) {
-        Ok(closed) if gate.was_told() => Some(all_ended(&closed.books, plan.processes)),
+        Ok(closed) if gate.was_told() && made_two_each(&closed.workers) => {
+            Some(all_ended(&closed.books, plan.processes))
+        }
         _ => None,
     }
 }
@@ -319,82 +332,4 @@ fn wasteful(alloc: Global) -> Option<Vec<Book>> {
 fn a_worker_counts_skips_after_closing(rt: HostRuntime) {
     let books = wasteful(rt.alloc());
     assert_eq!(rt; comes_to_an_end(&rt, rt.alloc(), books, 600), Some(true));
-}
-
-/// A gate that holds the worker as its second turn has ended, until a client has looked.
-#[derive(Drop)]
-struct HoldsEnded {
-    left: AtomicUsize,
-    looked: AtomicBool,
-    in_vain: AtomicBool,
-}
-
-impl HoldsEnded {
-    /// Whether the client comes to look.
-    fn is_looked_at(&self) -> bool {
-        for _ in 0..LOOKS {
-            if self.looked.load(Ordering::SeqCst) {
-                return true;
-            }
-            thread::yield_now();
-        }
-        false
-    }
-}
-
-impl Gate for HoldsEnded {
-    fn enter(&self, _name: JobName) {}
-
-    fn leave(&self, _name: JobName) {
-        let before = self.left.fetch_add(1, Ordering::SeqCst);
-        if before == 1 && !self.is_looked_at() {
-            self.in_vain.store(true, Ordering::SeqCst);
-        }
-    }
-}
-
-/// A client that offers a signal, and takes what came of it while the gate holds the worker.
-#[derive(Drop)]
-struct TakesHeld<'a> {
-    gate: &'a HoldsEnded,
-    taken: bool,
-}
-
-impl Client for TakesHeld<'_> {
-    fn drive<R: Wait, L: Ledger>(&mut self, pool: &Pool<'_, R, L>, seat: &mut Seat<L>) {
-        let _offered = pool.offer(0, 0, UP, &[], seat);
-        for _ in 0..LOOKS {
-            if self.gate.left.load(Ordering::SeqCst) >= 2 {
-                break;
-            }
-            thread::yield_now();
-        }
-        self.taken = pool.take_env(0, seat).is_ok();
-        self.gate.looked.store(true, Ordering::SeqCst);
-    }
-}
-
-/// Whether what a turn sent could be taken while the gate was being told of its end.
-fn is_taken_held<R: Threads + Wait + Sync>(rt: &R, alloc: Global) -> bool {
-    let Some(books) = links(alloc, ECHO, 1, 64) else {
-        return false;
-    };
-    let gate = HoldsEnded {
-        left: AtomicUsize::new(0),
-        looked: AtomicBool::new(false),
-        in_vain: AtomicBool::new(false),
-    };
-    let mut client = TakesHeld {
-        gate: &gate,
-        taken: false,
-    };
-    match serve(rt, alloc, books, 1, &gate, &mut client) {
-        Ok(_) => client.taken && !gate.in_vain.load(Ordering::SeqCst),
-        Err(_) => false,
-    }
-}
-
-#[test]
-fn a_gate_is_told_of_a_turn_behind_its_end_and_under_no_lock(rt: HostRuntime) {
-    assert!(rt; is_taken_held(&rt, rt.alloc()));
 }
