@@ -155,7 +155,7 @@ fn a_client_that_closes_twice(rt: HostRuntime) {
 }
 
 /// How often links are served to a client that offers once more before it returns.
-const SERVED: u32 = 100;
+const SERVED: u32 = 20;
 
 /// A client that has a signal of the last link sent back, so that its worker is at work, pauses so often, and offers one on the first link.
 #[derive(Drop)]
