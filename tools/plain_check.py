@@ -277,7 +277,7 @@ def check(b):
     for nm, over in [('Processes', len(info) > 16), ('States', any(len(i[3]) > 64 for i in info)), ('Variables', any(len(i[1]) > 32 for i in info)),
                      ('Timers', any(len(i[2]) > 8 for i in info)), ('Signals', len(sigs) > 128), ('Params', any(len(s[1]) > 4 for s in sigs)),
                      ('Pieces', len(rows) > 4096), ('Piece', any(piece_size(r[3], r[4], r[5]) > 512 for r in rows)), ('Depth', any(m[1] > 16 for m in ms)),
-                     ('Effects', any(m[2] > 32 for m in ms))]:
+                     ('Effects', any(m[2] > 32 for m in ms)), ('Instances', any(p[5] > 8 for p in procs))]:
         if over: raise Refusal('S10 Limit ' + nm)
     best = None
     for pi, (p, vs, ts, states, V, conn, truth) in enumerate(info):

@@ -24,7 +24,7 @@ class Process:
     """What the text says of a process."""
 
     def __init__(self, parsed, signals):
-        (self.name, _), declarations, (_, self.start), states, connections = parsed
+        (self.name, _), declarations, (_, self.start), states, connections, self.instances = parsed
         self.variables, self.timers, self.states = {}, {}, {}
         for it in declarations:
             if it[0] == "timer":
@@ -49,11 +49,15 @@ class Process:
 
 
 class Actor:
-    """A process that runs."""
+    """An instance of a process, by its number from 1."""
 
-    def __init__(self, process):
-        self.process, self.place, self.port, self.out = process, "START", [], None
+    def __init__(self, process, number):
+        self.process, self.number, self.place, self.port, self.out = process, number, "START", [], None
         self.variables = dict(process.variables)
+
+    def shown(self):
+        """Its name, as `env` prints it."""
+        return f"{self.process.name}.{self.number}" if self.process.instances > 1 else self.process.name
 
     def first(self):
         """The place in the port of the first item that isn't saved, if there is one."""
@@ -67,14 +71,22 @@ class Book:
     def __init__(self, text, ports, env, journal):
         entities = P(text, lex(text)).block()
         self.signals = {lo(name): (name[0], sorts) for it in entities if it[0] == "signals" for name, sorts in it[1]}
-        self.actors = [Actor(Process(it[1], self.signals)) for it in entities if it[0] == "process"]
+        processes = [Process(it[1], self.signals) for it in entities if it[0] == "process"]
+        self.actors = [Actor(it, number) for it in processes for number in range(1, it.instances + 1)]
         party = lambda it: it if it == "ENV" else lo(it)
         self.paths = [(party(a), party(b), lo(s)) for it in entities if it[0] == "route" for a, b, ss in it[2] for s in ss]
         self.ports, self.room, self.journal = ports, env, journal
         self.timers, self.clock, self.ring, self.events = {}, 0, [], 0
 
-    def actor(self, name):
-        found = next((it for it in self.actors if it.process.name.lower() == name.lower()), None)
+    def instance(self, name, number):
+        """The actor of that process and that number, if there is one."""
+        return next((it for it in self.actors if it.process.name.lower() == name.lower() and it.number == number), None)
+
+    def actor(self, word):
+        """The actor that a word of a script names: `P.k`, or `P`, which is `P.1`."""
+        name, dot, number = word.partition(".")
+        digits = re.fullmatch(r"[0-9]+", number)
+        found = self.instance(name, 1 if not dot else int(number) if digits else 0)
         if found is None:
             raise Refused("B10 NoActor")
         return found
@@ -153,10 +165,11 @@ class Book:
             if to == "ENV":
                 if len(self.ring) >= self.room:
                     return False
-                self.ring.append((actor.process.name, self.signals[signal][0], values))
+                self.ring.append((actor.shown(), self.signals[signal][0], values))
                 return True
-            receiver = self.actor(to)
-            return receiver.place is not None and self.put(receiver, (signal, values, actor.process.name.lower()))
+            # who sent, or of a process the instance with the sender's number, and the first where there is none
+            receiver = to if isinstance(to, Actor) else self.instance(to, actor.number) or self.instance(to, 1)
+            return receiver.place is not None and self.put(receiver, (signal, values, actor))
         key = actor, effect[1]
         self.timers.pop(key, None)
         actor.port[:] = [it for it in actor.port if it[0] != effect[1]]

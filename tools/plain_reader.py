@@ -109,16 +109,18 @@ class P:
     def path(s):
         s.take('FROM'); a = s.place(); s.take('TO'); b = s.place(); s.take('WITH'); w = s.names(); s.end()
         return (a, b, w)
-    def one(s):
-        if s.k() != 'num' or s.t[s.i][1] != 1: s.fail()
-        s.i += 1
+    def count(s):
+        # how many instances a process has: 1 where nothing is said
+        if not s.opt('('): return 1
+        if s.k() != 'num' or s.t[s.i][1] == 0: s.fail()
+        n = s.take('num')[1]
+        if s.opt(',') and s.k() == 'num':
+            if s.t[s.i][1] != n: s.fail()
+            s.i += 1
+        s.take(')')
+        return n
     def process(s):
-        s.take('PROCESS'); n = s.name()
-        if s.opt('('):
-            s.one()
-            if s.opt(','):
-                if s.k() == 'num': s.one()
-            s.take(')')
+        s.take('PROCESS'); n = s.name(); count = s.count()
         s.end(); decls = []
         while s.k() in ('DCL', 'TIMER'):
             if s.opt('DCL'):
@@ -147,7 +149,7 @@ class P:
             if s.opt('ENDSTATE'): s.closing(ns[0]); s.end()
             states.append((ns, cl))
         s.take('ENDPROCESS'); s.closing(n); s.end()
-        return (n, decls, start, states, conns)
+        return (n, decls, start, states, conns, count)
     def const(s):
         at = s.at()
         if s.opt('-'): return ('INTEGER', -s.take('num')[1], at)

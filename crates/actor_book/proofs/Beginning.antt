@@ -5,6 +5,7 @@ use Rattle.turn_code.specs.Transitions.{Transition, transition_at}
 use Rattle.turn_code.specs.declared.input.Place.{Place}
 use Rattle.turn_code.specs.declared.draft.Draft.{Draft}
 use Rattle.turn_machine.specs.Turn.{Turn}
+use Rattle.turn_code.specs.declared.numbers.ProcessNumber.{ProcessNumber}
 use Rattle.link_machine.specs.Core.{Core, set_at, change}
 use Rattle.link_machine.specs.Fits.{CoreFits, ActorFits, GivenFits}
 use Rattle.link_machine.specs.Kept.{IsKept}
@@ -38,35 +39,35 @@ changed_from xs n f a (Some x) e h = let same : x ≡ a = cc in set_there xs n x
 changed_there : (xs : List Actor) (n : ℕ) (f : Actor → Actor) (a : Actor) → slice_get xs n ≡ Some a → slice_get (change xs n f) n ≡ Some (f a)
 changed_there xs n f a h = changed_from xs n f a (slice_get xs n) refl h
 
-never_none : (n : ℕ) (s : Place) (g : Given) (q : Option Transition) (t : Transition) → q ≡ Some t → turn_with n s g q ≡ None → ⊥
-never_none n s g None t h e = absurd (cc)
-never_none n s g (Some x) t h e = absurd (cc)
+never_none : (n : ℕ) (p : ProcessNumber) (s : Place) (g : Given) (q : Option Transition) (t : Transition) → q ≡ Some t → turn_with n p s g q ≡ None → ⊥
+never_none n p s g None t h e = absurd (cc)
+never_none n p s g (Some x) t h e = absurd (cc)
 
-given_out : (d : Draft) (n : ℕ) (s : Standing) (g : Given) → GivenFits d n s (Some g) → turn_given d n s (Some g) ≡ None → ⊥
-given_out d n (At s) g f e = never_none n s g (transition_at d n s g.number) f.transition f.there e
-given_out d n Stopped g f e = f
+given_out : (d : Draft) (n : ℕ) (p : ProcessNumber) (s : Standing) (g : Given) → GivenFits d p.0 s (Some g) → turn_given d n p s (Some g) ≡ None → ⊥
+given_out d n p (At s) g f e = never_none n p s g (transition_at d p.0 s g.number) f.transition f.there e
+given_out d n p Stopped g f e = f
 
-begun_given : (d : Draft) (n turn : ℕ) (a : Actor) → turn_at d n (Some (begun d n turn a)) ≡ turn_given d n a.standing (Some (given_now d n turn a))
+begun_given : (d : Draft) (n turn : ℕ) (a : Actor) → turn_at d n (Some (begun d turn a)) ≡ turn_given d n a.name.process a.standing (Some (given_now d turn a))
 unfolding begun
 begun_given d n turn a = refl
 
-fits_begun : (d : Draft) (n turn : ℕ) (a : Actor) → ActorFits d n (begun d n turn a) → GivenFits d n a.standing (Some (given_now d n turn a))
+fits_begun : (d : Draft) (turn : ℕ) (a : Actor) → ActorFits d (begun d turn a) → GivenFits d a.name.process.0 a.standing (Some (given_now d turn a))
 unfolding begun
-fits_begun d n turn a f = f.given
+fits_begun d turn a f = f.given
 
 module _ (state : StateLaw) (sets : SetLaw) (b : Ledger) (n : ℕ) (takes : Takes b (Begin n)) where
   may : MayBegin b.set (state_of b) n
   may = may_begin b.set (state_of b) n (link_takes b (Begin n) takes)
 
-  actors_after : (state_of (ask b (Begin n)).book).actors ≡ change (state_of b).actors n (begun b.set n (state_of b).turns)
+  actors_after : (state_of (ask b (Begin n)).book).actors ≡ change (state_of b).actors n (begun b.set (state_of b).turns)
   unfolding step
   actors_after = ap (λ (w : Core). w.actors) (state b (Begin n) takes)
 
-  actor_after : slice_get (state_of (ask b (Begin n)).book).actors n ≡ Some (begun b.set n (state_of b).turns may.actor)
+  actor_after : slice_get (state_of (ask b (Begin n)).book).actors n ≡ Some (begun b.set (state_of b).turns may.actor)
   actor_after = ap (λ (xs : List Actor). slice_get xs n) actors_after
-      ∙ changed_there (state_of b).actors n (begun b.set n (state_of b).turns) may.actor may.there
+      ∙ changed_there (state_of b).actors n (begun b.set (state_of b).turns) may.actor may.there
 
-  out_after : turn_out (ask b (Begin n)).book n ≡ turn_given b.set n may.actor.standing (Some (given_now b.set n (state_of b).turns may.actor))
+  out_after : turn_out (ask b (Begin n)).book n ≡ turn_given b.set n may.actor.name.process may.actor.standing (Some (given_now b.set (state_of b).turns may.actor))
   unfolding turn_out
   out_after = ap (λ (d : Draft). turn_at d n (slice_get (state_of (ask b (Begin n)).book).actors n)) (sets.asks b (Begin n))
       ∙ ap (turn_at b.set n) actor_after
@@ -75,37 +76,37 @@ module _ (state : StateLaw) (sets : SetLaw) (b : Ledger) (n : ℕ) (takes : Take
   pub has_begun : FitsLaw → IsKept (ask b (Begin n)).book → turn_out (ask b (Begin n)).book n ≡ None → ⊥
   has_begun fits kept h =
       let core : CoreFits (ask b (Begin n)).book.set (state_of (ask b (Begin n)).book) = fits (ask b (Begin n)).book kept in
-      let actor : ActorFits (ask b (Begin n)).book.set n (begun b.set n (state_of b).turns may.actor) =
-      core.each n (begun b.set n (state_of b).turns may.actor) actor_after in
-      let own : ActorFits b.set n (begun b.set n (state_of b).turns may.actor) =
-      subst (λ (d : Draft). ActorFits d n (begun b.set n (state_of b).turns may.actor)) (sets.asks b (Begin n)) actor in
-      given_out b.set n may.actor.standing (given_now b.set n (state_of b).turns may.actor) (fits_begun b.set n (state_of b).turns may.actor own)
+      let actor : ActorFits (ask b (Begin n)).book.set (begun b.set (state_of b).turns may.actor) =
+      core.each n (begun b.set (state_of b).turns may.actor) actor_after in
+      let own : ActorFits b.set (begun b.set (state_of b).turns may.actor) =
+      subst (λ (d : Draft). ActorFits d (begun b.set (state_of b).turns may.actor)) (sets.asks b (Begin n)) actor in
+      given_out b.set n may.actor.name.process may.actor.standing (given_now b.set (state_of b).turns may.actor) (fits_begun b.set (state_of b).turns may.actor own)
       (sym out_after ∙ h)
 
 abbrev begun_at : ℕ → Place → ℕ → Begun
 begun_at turn place number = record { turn = turn; place = place; number = number }
 
-given_is : (d : Draft) (n turn : ℕ) (a : Actor) (t : Turn) → turn_given d n a.standing (Some (given_now d n turn a)) ≡ Some t
-    → begun_of t ≡ begun_now d n turn a
+given_is : (d : Draft) (n turn : ℕ) (a : Actor) (t : Turn) → turn_given d n a.name.process a.standing (Some (given_now d turn a)) ≡ Some t
+    → begun_of t ≡ begun_now d turn a
 unfolding given_now
 given_is d n turn a t h =
-    let out : AreOut d n a.standing (Some (given_now d n turn a)) t = out_given d n a.standing (Some (given_now d n turn a)) t h in
-    let same : given_now d n turn a ≡ out.given = cc in
+    let out : AreOut d n a.name.process a.standing (Some (given_now d turn a)) t = out_given d n a.name.process a.standing (Some (given_now d turn a)) t h in
+    let same : given_now d turn a ≡ out.given = cc in
     let place : place_of a.standing ≡ out.place = ap place_of out.standing in
     ap begun_of out.turn
     ∙ ap (λ (g : Given). begun_at g.turn out.place g.number) (sym same)
-    ∙ ap (λ (p : Place). begun_at turn p (number_in (looks d n a))) (sym place)
+    ∙ ap (λ (p : Place). begun_at turn p (number_in (looks d a))) (sym place)
 
 module _ (state : StateLaw) (sets : SetLaw) (b : Ledger) (n : ℕ) (takes : Takes b (Begin n)) where
   reply_is : (b : Ledger) (n : ℕ) (a : Actor) → slice_get (state_of b).actors n ≡ Some a
-      → (step b.set (runs b.set) (state_of b) (Begin n)).answer ≡ Says (reply.Begun (begun_now b.set n (state_of b).turns a))
+      → (step b.set (runs b.set) (state_of b) (Begin n)).answer ≡ Says (reply.Begun (begun_now b.set (state_of b).turns a))
   unfolding step
-  reply_is b n a h = ap (λ (o : Option Actor). Says (begin_reply b.set n (state_of b).turns o)) h
+  reply_is b n a h = ap (λ (o : Option Actor). Says (begin_reply b.set (state_of b).turns o)) h
 
   pub begin_answer : (t : Turn) → turn_out (ask b (Begin n)).book n ≡ Some t → Says (begun_by t) ≡ (ask b (Begin n)).answer
   begin_answer t h =
       let may : MayBegin b.set (state_of b) n = may state sets b n takes in
-      let out : turn_given b.set n may.actor.standing (Some (given_now b.set n (state_of b).turns may.actor)) ≡ Some t =
+      let out : turn_given b.set n may.actor.name.process may.actor.standing (Some (given_now b.set (state_of b).turns may.actor)) ≡ Some t =
       sym (out_after state sets b n takes) ∙ h in
       ap (λ (x : Begun). Says (reply.Begun x)) (given_is b.set n (state_of b).turns may.actor t out)
       ∙ sym (reply_is b n may.actor may.there)

@@ -1,10 +1,12 @@
 -- The turn that an actor has out, and what its end makes of the link.
 use Rattle.std.proofs.Common.{◌≡◌, ℕ, ◌+◌, ◌*◌, ◌^◌, ◌≤◌, ◌<◌, Bool, true, cond, get_or, zero, suc, List, [], ◌∷◌, length, Option, Some, None, refl, sym, ap, ◌∙◌, subst, arith}
-use Rattle.std.specs.Prelude.{slice_get, option_map, count_by}
+use Rattle.std.specs.Prelude.{slice_get, option_map, count_by, Result, Ok, Err}
 use Rattle.std.proofs.lemmas.List.Sums.{get_or-le-sum_by}
-use Rattle.std.proofs.lemmas.Option.{slice_get_within, get_or_from_slice_get}
+use Rattle.std.proofs.lemmas.Option.{same_Some, slice_get_within, slice_get-map, get_or_from_slice_get}
 use Rattle.std.proofs.lemmas.Slice.Zip.{AllZip-long}
-use Rattle.turn_code.specs.Outcome.{Outcome, outcome_in}
+use Rattle.turn_code.specs.Outcome.{Outcome, outcome_in, result_in}
+use Rattle.turn_code.specs.declared.trouble.Trouble.{Trouble}
+use Rattle.turn_code.specs.declared.numbers.ProcessNumber.{ProcessNumber}
 use Rattle.turn_code.specs.Run.{Progress, Ran, run, ended, got_stuck, unfinished}
 use Rattle.turn_code.specs.Effects.{EffectsLaw, IsRightEffect, AreRightEffects}
 use Rattle.turn_code.specs.Rules.{KeepsProcessLimits, KeepsPieceLimits}
@@ -26,7 +28,8 @@ use Rattle.turn_code.specs.declared.draft.DraftState.{DraftState}
 use Rattle.turn_code.specs.declared.draft.DraftInput.{DraftInput}
 use Rattle.turn_machine.specs.Turn.{Turn, IsRunnable, turn_of, outcome_of}
 use Rattle.link_state.specs.Outcomes.{outcome_with, HasTimer, HaveTimers}
-use Rattle.link_machine.specs.Core.{Core, is_out, outs}
+use Rattle.link_machine.specs.actor_names_types.name.ActorName.{ActorName}
+use Rattle.link_machine.specs.Core.{Core, is_out, names_in, outs}
 use Rattle.link_machine.specs.Effects.{finished}
 use Rattle.link_machine.specs.Fits.{CoreFits, GivenFits}
 use Rattle.link_machine.specs.Kept.{IsKept}
@@ -35,7 +38,7 @@ use Rattle.actor_book.specs.Accepted.{Takes}
 use Rattle.actor_book.specs.Inside.{IsBook}
 use Rattle.actor_book.proofs.Taking.{after_step}
 use Rattle.link_machine.specs.Ledger.{Ledger, runs, run_of, state_of, turn_with, turn_given, turn_at, turn_out}
-use Rattle.link_machine.specs.Step.{Stepped, Says, step, finish_by, outcome_given, outcome_at, report_of}
+use Rattle.link_machine.specs.Step.{Stepped, Says, step, finish_by, finish_at, result_given, report_of}
 use Rattle.link_machine.specs.declared.actor.Actor.{Actor}
 use Rattle.link_machine.specs.declared.actor.Given.{Given}
 use Rattle.link_machine.specs.declared.actor.Standing.{Standing}
@@ -63,26 +66,38 @@ from_parts (Some x) e vs es count h k l m =
 
 -- ---- the turn that is out, and its outcome
 
-with_turn : (n : ℕ) (s : Place) (g : Given) (q : Option Transition) (t : Turn) → turn_with n s g q ≡ Some t → run_of q g.input ≡ outcome_of t
-with_turn n s g None t h = absurd (cc)
-with_turn n s g (Some x) t h =
-    let same : turn_of n g.turn (record { 0 = n }) s g.number x.piece.code x.piece.certificate g.input ≡ t = cc in
-    ap outcome_of same
+ok_of : (r : Ran) (o : Outcome) → outcome_in r ≡ Some o → result_in r ≡ Ok o
+ok_of (ended e t) o h = ap (λ (x : Outcome). Ok x) (same_Some _ o h)
+ok_of (got_stuck x) o h = absurd (cc)
+ok_of unfinished o h = absurd (cc)
 
-given_turn : (d : Draft) (n : ℕ) (s : Standing) (o : Option Given) (t : Turn) → turn_given d n s o ≡ Some t → outcome_given (runs d) n s o ≡ outcome_of t
+with_turn : (n : ℕ) (p : ProcessNumber) (s : Place) (g : Given) (q : Option Transition) (t : Turn) (o : Outcome) → turn_with n p s g q ≡ Some t → outcome_of t ≡ Some o
+    → run_of q g.input ≡ Ok o
+with_turn n p s g None t o h k = absurd (cc)
+with_turn n p s g (Some x) t o h k =
+    let same : turn_of n g.turn p s g.number x.piece.code x.piece.certificate g.input ≡ t = cc in
+    ok_of (run x.piece.code g.input) o (ap outcome_of same ∙ k)
+
+given_turn : (d : Draft) (n : ℕ) (p : ProcessNumber) (s : Standing) (g : Option Given) (t : Turn) (o : Outcome) → turn_given d n p s g ≡ Some t → outcome_of t ≡ Some o
+    → result_given (runs d) p.0 s g ≡ Some (Ok o)
 unfolding runs
-given_turn d n (At s) None t h = absurd (cc)
-given_turn d n (At s) (Some g) t h = with_turn n s g (transition_at d n s g.number) t h
-given_turn d n Stopped o t h = absurd (cc)
+given_turn d n p (At s) None t o h k = absurd (cc)
+given_turn d n p (At s) (Some g) t o h k = ap (λ (r : Result Outcome Trouble). Some r) (with_turn n p s g (transition_at d p.0 s g.number) t o h k)
+given_turn d n p Stopped g t o h k = absurd (cc)
 
-turn_outcome : (d : Draft) (n : ℕ) (o : Option Actor) (t : Turn) → turn_at d n o ≡ Some t → outcome_at (runs d) n o ≡ outcome_of t
-turn_outcome d n None t h = absurd (cc)
-turn_outcome d n (Some a) t h = given_turn d n a.standing a.given t h
+turn_finish : (d : Draft) (n : ℕ) (w : Core) (a : Option Actor) (me : ActorName) (t : Turn) (o : Outcome) → option_map (λ (x : Actor). x.name) a ≡ Some me
+    → turn_at d n a ≡ Some t → outcome_of t ≡ Some o → finish_at (runs d) n w a ≡ finish_by n me w (Some (Ok o))
+turn_finish d n w None me t o called h k = absurd (cc)
+turn_finish d n w (Some a) me t o called h k =
+    ap (finish_by n a.name w) (given_turn d n a.name.process a.standing a.given t o h k)
+    ∙ ap (λ (x : ActorName). finish_by n x w (Some (Ok o))) (same_Some a.name me called)
 
-pub ends_with : (b : Ledger) (n : ℕ) (t : Turn) (o : Outcome) → turn_out b n ≡ Some t → outcome_of t ≡ Some o
-    → step b.set (runs b.set) (state_of b) (Finish n) ≡ finish_by n (state_of b) (Some o)
+pub ends_with : (b : Ledger) (n : ℕ) (me : ActorName) (t : Turn) (o : Outcome) → slice_get (names_in (state_of b).actors) n ≡ Some me → turn_out b n ≡ Some t → outcome_of t ≡ Some o
+    → step b.set (runs b.set) (state_of b) (Finish n) ≡ finish_by n me (state_of b) (Some (Ok o))
 unfolding turn_out step
-ends_with b n t o h k = ap (finish_by n (state_of b)) (turn_outcome b.set n (slice_get (state_of b).actors n) t h ∙ k)
+ends_with b n me t o called h k =
+    turn_finish b.set n (state_of b) (slice_get (state_of b).actors n) me t o
+    (sym (slice_get-map (λ (x : Actor). x.name) (state_of b).actors n) ∙ called) h k
 
 -- ---- what is known of an actor with a turn out
 
@@ -94,36 +109,36 @@ pub record IsOut (b : Ledger) (n : ℕ) (t : Turn) : Type 0 where
   pub given : Given
   pub out : actor.given ≡ Some given
   pub transition : Transition
-  pub found : transition_at b.set n place given.number ≡ Some transition
-  pub turn : t ≡ turn_of n given.turn (record { 0 = n }) place given.number transition.piece.code transition.piece.certificate given.input
+  pub found : transition_at b.set actor.name.process.0 place given.number ≡ Some transition
+  pub turn : t ≡ turn_of n given.turn actor.name.process place given.number transition.piece.code transition.piece.certificate given.input
 
-pub record AreOut (d : Draft) (n : ℕ) (s : Standing) (o : Option Given) (t : Turn) : Type 0 where
+pub record AreOut (d : Draft) (n : ℕ) (p : ProcessNumber) (s : Standing) (o : Option Given) (t : Turn) : Type 0 where
   pub place : Place
   pub standing : s ≡ At place
   pub given : Given
   pub out : o ≡ Some given
   pub transition : Transition
-  pub found : transition_at d n place given.number ≡ Some transition
-  pub turn : t ≡ turn_of n given.turn (record { 0 = n }) place given.number transition.piece.code transition.piece.certificate given.input
+  pub found : transition_at d p.0 place given.number ≡ Some transition
+  pub turn : t ≡ turn_of n given.turn p place given.number transition.piece.code transition.piece.certificate given.input
 
-out_with : (n : ℕ) (s : Place) (g : Given) (q : Option Transition) (t : Turn) → turn_with n s g q ≡ Some t
-    → (x : Transition) × (q ≡ Some x) × (t ≡ turn_of n g.turn (record { 0 = n }) s g.number x.piece.code x.piece.certificate g.input)
-out_with n s g None t h = absurd (cc)
-out_with n s g (Some x) t h =
-    let same : turn_of n g.turn (record { 0 = n }) s g.number x.piece.code x.piece.certificate g.input ≡ t = cc in
+out_with : (n : ℕ) (p : ProcessNumber) (s : Place) (g : Given) (q : Option Transition) (t : Turn) → turn_with n p s g q ≡ Some t
+    → (x : Transition) × (q ≡ Some x) × (t ≡ turn_of n g.turn p s g.number x.piece.code x.piece.certificate g.input)
+out_with n p s g None t h = absurd (cc)
+out_with n p s g (Some x) t h =
+    let same : turn_of n g.turn p s g.number x.piece.code x.piece.certificate g.input ≡ t = cc in
     (x, refl, sym same)
 
-pub out_given : (d : Draft) (n : ℕ) (s : Standing) (o : Option Given) (t : Turn) → turn_given d n s o ≡ Some t → AreOut d n s o t
-out_given d n (At s) None t h = absurd (cc)
-out_given d n (At s) (Some g) t h =
-    let found = out_with n s g (transition_at d n s g.number) t h in
+pub out_given : (d : Draft) (n : ℕ) (p : ProcessNumber) (s : Standing) (o : Option Given) (t : Turn) → turn_given d n p s o ≡ Some t → AreOut d n p s o t
+out_given d n p (At s) None t h = absurd (cc)
+out_given d n p (At s) (Some g) t h =
+    let found = out_with n p s g (transition_at d p.0 s g.number) t h in
     record { place = s; standing = refl; given = g; out = refl; transition = found.0; found = found.1; turn = found.2 }
-out_given d n Stopped o t h = absurd (cc)
+out_given d n p Stopped o t h = absurd (cc)
 
 out_actor : (d : Draft) (n : ℕ) (o : Option Actor) (t : Turn) → turn_at d n o ≡ Some t
-    → (a : Actor) × (o ≡ Some a) × AreOut d n a.standing a.given t
+    → (a : Actor) × (o ≡ Some a) × AreOut d n a.name.process a.standing a.given t
 out_actor d n None t h = absurd (cc)
-out_actor d n (Some a) t h = (a, refl, out_given d n a.standing a.given t h)
+out_actor d n (Some a) t h = (a, refl, out_given d n a.name.process a.standing a.given t h)
 
 pub is_turn_out : (b : Ledger) (n : ℕ) (t : Turn) → turn_out b n ≡ Some t → IsOut b n t
 unfolding turn_out
@@ -237,28 +252,30 @@ pub timers_right : EffectsLaw → (b : Ledger) (n : ℕ) (t : Turn) (e : End) (v
 timers_right law b n t e vs es count kept core h ran =
     let o = is_turn_out b n t h in
     let actor = core.each n o.actor o.there in
-    let fits : Fits b.set n o.place o.given.number o.given.input =
-    given_fits b.set n o.actor.standing o.actor.given o.place o.given o.standing o.out actor.given in
-    let valid : IsValidTransition b.set fits.transition = kept.stands.valid.each n o.place o.given.number fits.transition fits.there in
+    let p = o.actor.name.process.0 in
+    let fits : Fits b.set p o.place o.given.number o.given.input =
+    given_fits b.set p o.actor.standing o.actor.given o.place o.given o.standing o.out actor.given in
+    let valid : IsValidTransition b.set fits.transition = kept.stands.valid.each p o.place o.given.number fits.transition fits.there in
     let same : o.transition ≡ fits.transition = cc in
     let s : Progress = record { variables = vs; effects = es; count = count } in
     let run_is : outcome_in (run fits.transition.piece.code o.given.input) ≡ Some (outcome_with e vs es count) =
     ap (λ (x : Transition). outcome_in (run x.piece.code o.given.input)) (sym same) ∙ ap outcome_of (sym o.turn) ∙ ran in
     let right : AreRightEffects b.set fits.transition es =
     law b.set fits.transition o.given.input e s valid fits.fits (ran_so (run fits.transition.piece.code o.given.input) e s run_is) in
-    have_timers b.set fits.transition es (few_timers b.set n o.place o.given.number fits.transition kept.stands.valid fits.there) right
+    have_timers b.set fits.transition es (few_timers b.set p o.place o.given.number fits.transition kept.stands.valid fits.there) right
 
 -- ---- the end of a turn, with the link in memory
 
-pub ends_so : (b : Ledger) (w : Core) (n : ℕ) (t : Turn) (o : Outcome) → w ≡ state_of b → turn_out b n ≡ Some t → outcome_of t ≡ Some o
-    → step b.set (runs b.set) w (Finish n) ≡ finish_by n w (Some o)
-ends_so b w n t o same h k =
-    subst (λ (x : Core). step b.set (runs b.set) x (Finish n) ≡ finish_by n x (Some o)) (sym same) (ends_with b n t o h k)
+pub ends_so : (b : Ledger) (w : Core) (n : ℕ) (me : ActorName) (t : Turn) (o : Outcome) → w ≡ state_of b → slice_get (names_in w.actors) n ≡ Some me
+    → turn_out b n ≡ Some t → outcome_of t ≡ Some o → step b.set (runs b.set) w (Finish n) ≡ finish_by n me w (Some (Ok o))
+ends_so b w n me t o same called h k =
+    subst (λ (x : Core). step b.set (runs b.set) x (Finish n) ≡ finish_by n me x (Some (Ok o))) (sym same)
+    (ends_with b n me t o (subst (λ (x : Core). slice_get (names_in x.actors) n ≡ Some me) same called) h k)
 
 pub few_effects : (b : Ledger) (n : ℕ) (t : Turn) → IsKept b → turn_out b n ≡ Some t → t.certificate.effects ≤ 32
 few_effects b n t kept h =
     let o = is_turn_out b n t h in
-    let valid : IsValidTransition b.set o.transition = kept.stands.valid.each n o.place o.given.number o.transition o.found in
+    let valid : IsValidTransition b.set o.transition = kept.stands.valid.each o.actor.name.process.0 o.place o.given.number o.transition o.found in
     let limits : KeepsPieceLimits o.transition.piece = (valid.limit 0).piece refl in
     subst (λ (x : Turn). x.certificate.effects ≤ 32) (sym o.turn) limits.effects
 
@@ -282,15 +299,16 @@ module _ (b old : Ledger) (w : Core) (n : ℕ) (t : Turn) (view : b ≡ old) whe
         timers_right law b n t e vs es count inside.kept (fits b inside.kept) (still_out b old n t view h) ran
 
     -- the link's own end of the turn is the machine's step
-    pub link_ends : (k : ℕ) (o : Outcome) → k ≡ n → outcome_of t ≡ Some o → finished k o w ≡ after_step b w (Finish n)
-    link_ends k o same ran =
-        ap (λ (j : ℕ). finished j o w) same ∙ sym (ap (λ (s : Stepped). s.to) (ends_so b w n t o inside.state (still_out b old n t view h) ran))
+    pub link_ends : (k : ℕ) (me : ActorName) (o : Outcome) → k ≡ n → slice_get (names_in w.actors) n ≡ Some me → outcome_of t ≡ Some o
+        → finished k me o w ≡ after_step b w (Finish n)
+    link_ends k me o same called ran =
+        ap (λ (j : ℕ). finished j me o w) same ∙ sym (ap (λ (s : Stepped). s.to) (ends_so b w n me t o inside.state called (still_out b old n t view h) ran))
 
-    pub link_reports : (k : ℕ) (o : Outcome) → k ≡ n → outcome_of t ≡ Some o
-        → Says (reply.Finished (report_of k o w)) ≡ (step b.set (runs b.set) w (Finish n)).answer
-    link_reports k o same ran =
-        ap (λ (j : ℕ). Says (reply.Finished (report_of j o w))) same
-        ∙ sym (ap (λ (s : Stepped). s.answer) (ends_so b w n t o inside.state (still_out b old n t view h) ran))
+    pub link_reports : (k : ℕ) (me : ActorName) (o : Outcome) → k ≡ n → slice_get (names_in w.actors) n ≡ Some me → outcome_of t ≡ Some o
+        → Says (reply.Finished (report_of k me o w)) ≡ (step b.set (runs b.set) w (Finish n)).answer
+    link_reports k me o same called ran =
+        ap (λ (j : ℕ). Says (reply.Finished (report_of j me o w))) same
+        ∙ sym (ap (λ (s : Stepped). s.answer) (ends_so b w n me t o inside.state called (still_out b old n t view h) ran))
 
 -- ---- how many variables a turn leaves
 

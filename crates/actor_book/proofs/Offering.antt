@@ -60,11 +60,11 @@ offered_from : (d : Draft) (o : Offered) (a : Actor) → IsValid d → first_of 
 unfolding offer_rows
 offered_from d o a valid h =
     let third : Option Refusal = if is_full a.port then Some refusal.Full else first_of [] in
-    let second : Option Refusal = if not (is_offered d o.actor o.signal o.values.items) then Some refusal.NoRoute else third in
+    let second : Option Refusal = if not (is_offered d a.name.process.0 o.signal o.values.items) then Some refusal.NoRoute else third in
     let one : (has_stopped a.standing ≡ false) × (second ≡ None) = row_passes (has_stopped a.standing) refusal.Stopped second h in
-    let two : (not (is_offered d o.actor o.signal o.values.items) ≡ false) × (third ≡ None) =
-    row_passes (not (is_offered d o.actor o.signal o.values.items)) refusal.NoRoute third one.1 in
-    few_offered d o.actor o.signal o.values.items valid (not_true (is_offered d o.actor o.signal o.values.items) two.0)
+    let two : (not (is_offered d a.name.process.0 o.signal o.values.items) ≡ false) × (third ≡ None) =
+    row_passes (not (is_offered d a.name.process.0 o.signal o.values.items)) refusal.NoRoute third one.1 in
+    few_offered d a.name.process.0 o.signal o.values.items valid (not_true (is_offered d a.name.process.0 o.signal o.values.items) two.0)
 
 link_offered : (d : Draft) (w : Core) (o : Offered) → IsValid d → refuses d w (Offer o) ≡ None → length o.values.items ≤ 4
 unfolding refuses

@@ -75,32 +75,32 @@ pub record MayBegin (d : Draft) (w : Core) (n : ℕ) : Type 0 where
   pub actor : Actor
   pub there : slice_get w.actors n ≡ Some actor
   pub inside : n < length w.actors
-  pub something : is_nothing (looks d n actor) ≡ false
+  pub something : is_nothing (looks d actor) ≡ false
   pub turns : w.turns < 2 ^ 40
 
-begin_from : (d : Draft) (w : Core) (n : ℕ) (a : Actor) → slice_get w.actors n ≡ Some a → first_of (begin_rows d n w.turns a) ≡ None → MayBegin d w n
+begin_from : (d : Draft) (w : Core) (n : ℕ) (a : Actor) → slice_get w.actors n ≡ Some a → first_of (begin_rows d w.turns a) ≡ None → MayBegin d w n
 unfolding begin_rows
 begin_from d w n a e h =
     let none : Option Refusal = first_of [] in
     let fourth : Option Refusal = if is_counted_out w.turns then Some refusal.CountFull else none in
-    let third : Option Refusal = if is_ignored (looks d n a) then Some refusal.SkipFirst else fourth in
-    let second : Option Refusal = if is_nothing (looks d n a) then Some refusal.Nothing else third in
+    let third : Option Refusal = if is_ignored (looks d a) then Some refusal.SkipFirst else fourth in
+    let second : Option Refusal = if is_nothing (looks d a) then Some refusal.Nothing else third in
     let one : (is_out a ≡ false) × (second ≡ None) = row_passes (is_out a) refusal.Busy second h in
-    let two : (is_nothing (looks d n a) ≡ false) × (third ≡ None) = row_passes (is_nothing (looks d n a)) refusal.Nothing third one.1 in
-    let three : (is_ignored (looks d n a) ≡ false) × (fourth ≡ None) = row_passes (is_ignored (looks d n a)) refusal.SkipFirst fourth two.1 in
+    let two : (is_nothing (looks d a) ≡ false) × (third ≡ None) = row_passes (is_nothing (looks d a)) refusal.Nothing third one.1 in
+    let three : (is_ignored (looks d a) ≡ false) × (fourth ≡ None) = row_passes (is_ignored (looks d a)) refusal.SkipFirst fourth two.1 in
     let four : (is_counted_out w.turns ≡ false) × (none ≡ None) = row_passes (is_counted_out w.turns) refusal.CountFull none three.1 in
     record { actor = a; there = e; inside = slice_get_within w.actors n a e; something = two.0; turns = below (2 ^ 40) w.turns four.0 }
 
 pub may_begin : (d : Draft) (w : Core) (n : ℕ) → refuses d w (Begin n) ≡ None → MayBegin d w n
 unfolding refuses
 may_begin d w n h =
-    let found = is_there w.actors n (λ a. first_of (begin_rows d n w.turns a)) h in
+    let found = is_there w.actors n (λ a. first_of (begin_rows d w.turns a)) h in
     begin_from d w n found.actor found.there found.passes
 
 -- an item may be thrown away
 pub record MaySkip (d : Draft) (w : Core) (n : ℕ) : Type 0 where
   pub inside : n < length w.actors
-  pub some : skipped_by d n (slice_get w.actors n) ≡ None → ⊥
+  pub some : skipped_by d (slice_get w.actors n) ≡ None → ⊥
 
 item_there : (d : Draft) (n : ℕ) (q : ℕ) (o : Option Item) → is_nothing (found_item d n q o) ≡ false → option_map trigger_of o ≡ None → ⊥
 item_there d n q None h e = absurd (cc)
@@ -112,35 +112,35 @@ something_at d n (At Start) xs h k x = absurd (cc)
 something_at d n (At (State q)) xs h k x = item_there d n q.0 (first_unsaved (is_saved d n q.0) xs) h x
 something_at d n HasStopped xs h k x = absurd (cc)
 
-something_there : (d : Draft) (n : ℕ) (a : Actor) → is_nothing (looks d n a) ≡ false → is_ignored (looks d n a) ≡ true
-    → option_map trigger_of (item_at d n a.standing a.port.items) ≡ None → ⊥
+something_there : (d : Draft) (a : Actor) → is_nothing (looks d a) ≡ false → is_ignored (looks d a) ≡ true
+    → option_map trigger_of (item_at d a.name.process.0 a.standing a.port.items) ≡ None → ⊥
 unfolding looks
-something_there d n a h k x = something_at d n a.standing a.port.items h k x
+something_there d a h k x = something_at d a.name.process.0 a.standing a.port.items h k x
 
-skip_from : (d : Draft) (w : Core) (n : ℕ) (a : Actor) → slice_get w.actors n ≡ Some a → first_of (skip_rows d n a) ≡ None → MaySkip d w n
+skip_from : (d : Draft) (w : Core) (n : ℕ) (a : Actor) → slice_get w.actors n ≡ Some a → first_of (skip_rows d a) ≡ None → MaySkip d w n
 unfolding skip_rows
 skip_from d w n a e h =
     let none : Option Refusal = first_of [] in
-    let third : Option Refusal = if not (is_ignored (looks d n a)) then Some refusal.NotIgnored else none in
-    let second : Option Refusal = if is_nothing (looks d n a) then Some refusal.Nothing else third in
+    let third : Option Refusal = if not (is_ignored (looks d a)) then Some refusal.NotIgnored else none in
+    let second : Option Refusal = if is_nothing (looks d a) then Some refusal.Nothing else third in
     let one : (is_out a ≡ false) × (second ≡ None) = row_passes (is_out a) refusal.Busy second h in
-    let two : (is_nothing (looks d n a) ≡ false) × (third ≡ None) = row_passes (is_nothing (looks d n a)) refusal.Nothing third one.1 in
-    let three : (not (is_ignored (looks d n a)) ≡ false) × (none ≡ None) = row_passes (not (is_ignored (looks d n a))) refusal.NotIgnored none two.1 in
+    let two : (is_nothing (looks d a) ≡ false) × (third ≡ None) = row_passes (is_nothing (looks d a)) refusal.Nothing third one.1 in
+    let three : (not (is_ignored (looks d a)) ≡ false) × (none ≡ None) = row_passes (not (is_ignored (looks d a))) refusal.NotIgnored none two.1 in
     record {
       inside = slice_get_within w.actors n a e;
-      some = λ x. something_there d n a two.0 (not_true (is_ignored (looks d n a)) three.0) (ap (skipped_by d n) (sym e) ∙ x);
+      some = λ x. something_there d a two.0 (not_true (is_ignored (looks d a)) three.0) (ap (skipped_by d) (sym e) ∙ x);
     }
 
 pub may_skip : (d : Draft) (w : Core) (n : ℕ) → refuses d w (Skip n) ≡ None → MaySkip d w n
 unfolding refuses
 may_skip d w n h =
-    let found = is_there w.actors n (λ a. first_of (skip_rows d n a)) h in
+    let found = is_there w.actors n (λ a. first_of (skip_rows d a)) h in
     skip_from d w n found.actor found.there found.passes
 
 skip_says : (d : Draft) (n : ℕ) (t : Trigger) (o : Option Item) → option_map trigger_of o ≡ Some t → skip_reply_of o ≡ reply.Skipped t
 skip_says d n t None h = absurd (cc)
 skip_says d n t (Some x) h = let same : trigger_of x ≡ t = cc in ap reply.Skipped same
 
-pub skip_replies : (d : Draft) (n : ℕ) (t : Trigger) (o : Option Actor) → skipped_by d n o ≡ Some t → skip_reply d n o ≡ reply.Skipped t
-skip_replies d n t None h = absurd (cc)
-skip_replies d n t (Some a) h = skip_says d n t (item_at d n a.standing a.port.items) h
+pub skip_replies : (d : Draft) (t : Trigger) (o : Option Actor) → skipped_by d o ≡ Some t → skip_reply d o ≡ reply.Skipped t
+skip_replies d t None h = absurd (cc)
+skip_replies d t (Some a) h = skip_says d a.name.process.0 t (item_at d a.name.process.0 a.standing a.port.items) h

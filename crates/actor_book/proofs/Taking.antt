@@ -173,7 +173,7 @@ inside_opened keeps d set port env journal limit base w js c valid most h k v l 
 -- ---- what fits in the link in memory
 
 pub fits_in : FitsLaw → (b : Ledger) (w : Core) (c : ℕ) → IsBook b w c → (xs : List Actor) (n : ℕ) (a : Actor) → xs ≡ w.actors → slice_get xs n ≡ Some a
-    → GivenFits b.set n a.standing a.given
+    → GivenFits b.set a.name.process.0 a.standing a.given
 fits_in fits b w c inside xs n a h k =
     let same : xs ≡ (state_of b).actors = h ∙ ap (λ (x : Core). x.actors) inside.state in
     let there : slice_get (state_of b).actors n ≡ Some a = ap (λ (ys : List Actor). slice_get ys n) (sym same) ∙ k in

@@ -6,6 +6,7 @@ use Rattle.turn_code.specs.Outcome.{Outcome, outcome_in}
 use Rattle.turn_code.specs.Transitions.{Transition, transition_at}
 use Rattle.turn_code.specs.declared.value.Value.{Value}
 use Rattle.turn_code.specs.declared.effect.Effect.{Effect}
+use Rattle.turn_code.specs.declared.numbers.ProcessNumber.{ProcessNumber}
 use Rattle.turn_code.specs.declared.input.Place.{Place}
 use Rattle.turn_code.specs.declared.machine.End.{End}
 use Rattle.turn_code.specs.declared.machine.Machine.{Machine}
@@ -40,11 +41,11 @@ the_turn None h = absurd (cc)
 the_turn (Some t) h = (t, refl)
 
 -- a given turn that ran where its code stands
-pub ends_with : (d : Draft) (n : ℕ) (s : Place) (g : Given) (e : End) (m : Machine) → EndsSo d n s g.number g.input e m
-    → IsEnding (turn_with n s g (transition_at d n s g.number)) e m
-ends_with d n s g e m h = record {
-  turn = turn_of n g.turn (record { 0 = n }) s g.number h.transition.piece.code h.transition.piece.certificate g.input;
-  is = ap (turn_with n s g) h.there;
+pub ends_with : (d : Draft) (n : ℕ) (p : ProcessNumber) (s : Place) (g : Given) (e : End) (m : Machine) → EndsSo d p.0 s g.number g.input e m
+    → IsEnding (turn_with n p s g (transition_at d p.0 s g.number)) e m
+ends_with d n p s g e m h = record {
+  turn = turn_of n g.turn p s g.number h.transition.piece.code h.transition.piece.certificate g.input;
+  is = ap (turn_with n p s g) h.there;
   ran = ap outcome_in h.ran;
   within = h.within;
   few = h.few;

@@ -17,7 +17,7 @@ use turn_check::Verified;
 use turn_code::Machine;
 use turn_machine::new_machine;
 
-/// The processes of a link as actors, with the journal of what happened to them.
+/// The instances of the processes of a link as actors, with the journal of what happened to them.
 ///
 /// After `open` no call but `rebase` takes memory.
 #[derive(Drop)]
@@ -49,8 +49,8 @@ impl Model for Book {
 }
 
 impl Book {
-    /// The book of a set of processes: each process is an actor, numbered from 0 in text order, before its START. It keeps
-    /// the set, and makes all its room.
+    /// The book of a set of processes: each instance of each process is an actor, numbered from 0 by process in text order, then by
+    /// instance, before its START. It keeps the set, and makes all its room.
     pub fn open(alloc: Global, set: &Verified, limits: Limits) -> Result<Book, AllocError>
         ensures { IfOk result (λ b. b ≡ opened_book set.now limits.port limits.env limits.journal) }
     {

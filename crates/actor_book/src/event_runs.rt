@@ -15,8 +15,9 @@ use std::alloc::{AllocError, Global};
 /// Lets events happen to a link, one after another: an accepted one goes into the journal, a refused one changes nothing. The answers
 /// in order. It makes its room before the first event.
 ///
-/// No turn gets stuck; each does what the set's own code does, and what the code means: by anything that the set means the answers are
-/// the same, and so are the book and the state afterwards.
+/// No turn gets stuck: none reads a variable that isn't set, meets an operand of the wrong sort or one that isn't there, lacks a next state, a
+/// receiver or an answer, or leaves its code. Each does what the set's own code does, and what the code means: by anything that the set means
+/// the answers are the same, and so are the book and the state afterwards.
 pub fn run_events(
     alloc: Global,
     book: &mut Book,

@@ -6,7 +6,6 @@ ghost use Rattle.turn_code.specs.Transitions.{transition_at};
 ghost use Rattle.link_machine.specs.Fits.{GivenFits};
 ghost use Rattle.link_machine.specs.Ledger.{turn_at, turn_given, turn_with};
 ghost use Rattle.link_machine.specs.declared.actor.Actor.{Actor as PlainActor};
-ghost use Rattle.profile_limits.specs.Limits.{MOST_PROCESSES};
 
 use link_machine::{Actor, Given, Standing};
 use same_job::{is_turn, runs_piece};
@@ -15,16 +14,16 @@ use turn_code::{Place, ProcessNumber};
 use turn_machine::{Job, Received};
 
 /// The job of a turn.
-fn job_with(set: &Verified, number: u8, place: Place, given: &Given) -> Job
-    requires { Fits set.now number place given.now.number given.now.input }
-    ensures { Some result ≡ turn_with number place given.now (transition_at set.now number place given.now.number) }
+fn job_with(set: &Verified, number: u16, process: ProcessNumber, place: Place, given: &Given) -> Job
+    requires { Fits set.now process.0 place given.now.number given.now.input }
+    ensures { Some result ≡ turn_with number process place given.now (transition_at set.now process.0 place given.now.number) }
 {
     let input = given.input.copy();
     Job::new(
         set,
-        u16::from(number),
+        number,
         given.turn,
-        ProcessNumber(number),
+        process,
         place,
         given.number,
         input.variables,
@@ -36,14 +35,14 @@ fn job_with(set: &Verified, number: u8, place: Place, given: &Given) -> Job
 }
 
 /// The job of an actor, if it has a turn out.
-fn job_of(set: &Verified, number: u8, actor: &Actor) -> Option<Job>
-    requires { GivenFits set.now number actor.now.standing actor.now.given }
-    ensures { result ≡ turn_given set.now number actor.now.standing actor.now.given }
+fn job_of(set: &Verified, number: u16, actor: &Actor) -> Option<Job>
+    requires { GivenFits set.now actor.now.name.process.0 actor.now.standing actor.now.given }
+    ensures { result ≡ turn_given set.now number actor.now.name.process actor.now.standing actor.now.given }
 {
     match actor.standing {
         Standing::Stopped => None,
         Standing::At(place) => match &actor.given {
-            Some(given) => Some(job_with(set, number, place, given)),
+            Some(given) => Some(job_with(set, number, actor.name.process, place, given)),
             None => None,
         },
     }
@@ -51,43 +50,43 @@ fn job_of(set: &Verified, number: u8, actor: &Actor) -> Option<Job>
 
 /// The job of actor `number`, if there is one that has a turn out.
 pub(crate) fn job_at(set: &Verified, actors: &[Actor], number: u16) -> Option<Job>
-    requires few { length actors.now ≤ MOST_PROCESSES }
-    requires fits { (a : PlainActor) → slice_get actors.now number ≡ Some a → GivenFits set.now number a.standing a.given }
+    requires { (a : PlainActor) → slice_get actors.now number ≡ Some a → GivenFits set.now a.name.process.0 a.standing a.given }
     ensures { result ≡ turn_at set.now number (slice_get actors.now number) }
 {
     match actors.get(usize::from(number)) {
-        Some(found) => job_of(set, number as u8, found),
+        Some(found) => job_of(set, number, found),
         None => None,
     }
 }
 
 /// Whether a job is that of a turn.
-fn is_job_with(set: &Verified, number: u8, place: Place, given: &Given, job: &Job) -> bool
-    ensures { IsTrue result ↔ (turn_with number place given.now (transition_at set.now number place given.now.number) ≡ Some job.now) }
+fn is_job_with(
+    set: &Verified,
+    number: u16,
+    process: ProcessNumber,
+    place: Place,
+    given: &Given,
+    job: &Job,
+) -> bool
+    ensures { IsTrue result ↔ (turn_with number process place given.now (transition_at set.now process.0 place given.now.number) ≡ Some job.now) }
 {
-    match set.transition(ProcessNumber(number), place, given.number) {
+    match set.transition(process, place, given.number) {
         Some(transition) => {
-            is_turn(
-                job,
-                u16::from(number),
-                given.turn,
-                place,
-                given.number,
-                &given.input,
-            ) && runs_piece(job, ProcessNumber(number), transition.piece)
+            is_turn(job, number, given.turn, place, given.number, &given.input)
+                && runs_piece(job, process, transition.piece)
         }
         None => false,
     }
 }
 
 /// Whether a job is that of an actor with a turn out.
-fn is_job_of(set: &Verified, number: u8, actor: &Actor, job: &Job) -> bool
-    ensures { IsTrue result ↔ (turn_given set.now number actor.now.standing actor.now.given ≡ Some job.now) }
+fn is_job_of(set: &Verified, number: u16, actor: &Actor, job: &Job) -> bool
+    ensures { IsTrue result ↔ (turn_given set.now number actor.now.name.process actor.now.standing actor.now.given ≡ Some job.now) }
 {
     match actor.standing {
         Standing::Stopped => false,
         Standing::At(place) => match &actor.given {
-            Some(given) => is_job_with(set, number, place, given, job),
+            Some(given) => is_job_with(set, number, actor.name.process, place, given, job),
             None => false,
         },
     }
@@ -95,12 +94,11 @@ fn is_job_of(set: &Verified, number: u8, actor: &Actor, job: &Job) -> bool
 
 /// Whether a job is the one that its actor has out. The code is compared with that of the set.
 pub(crate) fn is_job_out(set: &Verified, actors: &[Actor], job: &Job) -> bool
-    requires few { length actors.now ≤ MOST_PROCESSES }
     ensures { IsTrue result ↔ (turn_at set.now job.now.actor (slice_get actors.now job.now.actor) ≡ Some job.now) }
 {
     let number = job.actor();
     match actors.get(usize::from(number)) {
-        Some(found) => is_job_of(set, number as u8, found, job),
+        Some(found) => is_job_of(set, number, found, job),
         None => false,
     }
 }

@@ -20,6 +20,7 @@ pub use calls::{Passed, Taken};
 pub use event_runs::run_events;
 pub use limits::Limits;
 pub use link_machine::{
-    Actor, Begun, Cause, Emitted, Event, Lost, Offer, Refusal, Reply, Report, Standing,
+    Actor, ActorName, Begun, Cause, Emitted, Event, Lost, Offer, Refusal, Reply, Report, Standing,
+    number_of,
 };
 pub use link_state::Link;

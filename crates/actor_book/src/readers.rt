@@ -2,13 +2,14 @@
 
 ghost use Rattle.std.specs.Prelude.{◌≡◌, ◌≤◌, ◌+◌, length, count_by, Option, Some, None, option_map, option_and_then, slice_get};
 ghost use Rattle.std.specs.Option.{option_copied};
+ghost use Rattle.link_machine.specs.Core.{names_in};
 ghost use Rattle.link_machine.specs.Ledger.{state_of};
 ghost use Rattle.link_machine.specs.Kept.{is_finish};
 ghost use Rattle.link_machine.specs.declared.actor.Actor.{Actor as PlainActor};
 ghost use Rattle.actor_book.specs.Shown.{variable_of};
 
 use crate::book::Book;
-use link_machine::{Actor, Emitted, Event, Standing};
+use link_machine::{Actor, ActorName, Emitted, Event, Standing};
 use link_state::Link;
 use turn_check::Verified;
 use turn_code::{Value, VariableNumber};
@@ -57,6 +58,13 @@ impl Book {
         ensures { result.now ≡ self.now.journal }
     {
         self.journal.as_slice()
+    }
+
+    /// What an actor is called. None where there is no such actor.
+    pub fn name_of(&self, actor: u16) -> Option<ActorName>
+        ensures { result ≡ slice_get (names_in (state_of self.now).actors) actor }
+    {
+        self.link.name_of(actor)
     }
 
     /// Where an actor is; while it has a turn out, where it was before. None where there is no such actor.

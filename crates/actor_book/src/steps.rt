@@ -1,19 +1,20 @@
 //! Events that a book takes: the link's step, and the event's place in the journal.
 
-ghost use Rattle.std.specs.Prelude.{◌≡◌, ◌≤◌, ◌<◌, ◌+◌, ◌++◌, ◌∷◌, [], None, Some, Option, length, option_map, vec_capacity};
+ghost use Rattle.std.specs.Prelude.{◌≡◌, ◌≤◌, ◌<◌, ◌+◌, ◌++◌, ◌∷◌, [], None, Some, Option, length, option_map, slice_get, vec_capacity};
 ghost use Rattle.turn_code.specs.Outcome.{Outcome};
 ghost use Rattle.turn_machine.specs.Turn.{IsRunnable, outcome_of};
 ghost use Rattle.link_machine.specs.Ledger.{ask, next, turn_out};
+ghost use Rattle.link_machine.specs.Core.{names_in};
 ghost use Rattle.link_machine.specs.Step.{Says};
 ghost use Rattle.link_machine.specs.declared.event.Event.TheVariants.{Offer as Offered, Begin, Skip, Finish, Advance, TakeEnv};
 ghost use Rattle.link_machine.specs.declared.reply.Reply.TheVariants as reply;
 ghost use Rattle.actor_book.specs.Accepted.{Takes};
-ghost use Rattle.profile_limits.specs.Limits.{MOST_EFFECTS, MOST_PROCESSES};
+ghost use Rattle.profile_limits.specs.Limits.{MOST_ACTORS, MOST_EFFECTS};
 
 use crate::book::Book;
 use arrayvec::ArrayVec;
 use link_machine::laws::{fits_law, keeps_law, out_law, state_law};
-use link_machine::{Emitted, Event, Offer, Report};
+use link_machine::{ActorName, Emitted, Event, Offer, Report};
 use link_state::Link;
 use turn_code::laws::{effects_law, run_law};
 use turn_code::{SignalNumber, Trigger, Value};
@@ -28,14 +29,25 @@ pub(crate) fn note(journal: &mut Vec<Event>, event: Event)
     journal.push_reserved(event);
 }
 
-/// The number of an actor that is there, of which a link has 16 at most.
+/// The number of an actor that is there, of which a link has 128 at most.
 pub(crate) fn number_in(link: &Link, actor: u16) -> u8
     requires { actor < length link.now.actors }
     ensures value { result ≡ actor }
-    ensures few { result < MOST_PROCESSES }
+    ensures few { result < MOST_ACTORS }
 {
     let _few = link.actors();
     actor as u8
+}
+
+/// What an actor that is there is called.
+pub(crate) fn name_in(link: &Link, actor: u16) -> ActorName
+    requires { actor < length link.now.actors }
+    ensures { slice_get (names_in link.now.actors) actor ≡ Some result }
+{
+    match link.name_of(actor) {
+        Some(name) => name,
+        None => unreachable!(),
+    }
 }
 
 /// How many variables a job is given.
@@ -152,8 +164,10 @@ impl Book {
         fits_law();
         effects_law();
         let number = number_in(&self.link, actor);
+        let name = name_in(&self.link, actor);
         let report = self.link.finish(
             number,
+            name,
             done.end(),
             variables_after(done),
             done.effects(),

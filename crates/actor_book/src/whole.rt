@@ -1,6 +1,6 @@
 //! Turns of actors, from their beginning to their end.
 
-ghost use Rattle.std.specs.Prelude.{◌≡◌, ◌≤◌, ◌+◌, IsSome, IfOk, IfErr, OnOk, OnErr, Option, Some, None, length, slice_get};
+ghost use Rattle.std.specs.Prelude.{◌≡◌, ℕ, ◌≤◌, ◌+◌, IsSome, IfOk, IfErr, OnOk, OnErr, Option, Some, None, length, slice_get};
 ghost use Rattle.turn_code.specs.Fits.{Fits};
 ghost use Rattle.turn_code.specs.Transitions.{transition_at};
 ghost use Rattle.link_machine.specs.Fits.{GivenFits};
@@ -11,10 +11,9 @@ ghost use Rattle.link_machine.specs.declared.event.Event.TheVariants.{Begin, Fin
 ghost use Rattle.link_machine.specs.declared.reply.Reply.TheVariants as reply;
 ghost use Rattle.actor_book.specs.Accepted.{Takes};
 ghost use Rattle.actor_book.specs.Whole.{IsEnding, HasTurned, TookWithin, turned};
-ghost use Rattle.profile_limits.specs.Limits.{MOST_PROCESSES};
 
 use crate::book::Book;
-use crate::steps::{note, number_in};
+use crate::steps::{name_in, note, number_in};
 use link_machine::laws::{fits_law, keeps_law, out_law, set_law, state_law};
 use link_machine::{Actor, Event, Given, Refusal, Report, Standing};
 use turn_check::Verified;
@@ -23,30 +22,29 @@ use turn_code::{End, Machine, Place, ProcessNumber, copied_variables};
 use turn_machine::run_in;
 
 /// Runs the turn that an actor was given to its end.
-fn run_with(set: &Verified, number: u8, place: Place, given: &Given, machine: &mut Machine) -> End
-    requires { Fits set.now number place given.now.number given.now.input }
-    ensures { IsEnding (turn_with number place given.now (transition_at set.now number place given.now.number)) result machine.new }
+fn run_with(
+    set: &Verified,
+    process: ProcessNumber,
+    place: Place,
+    given: &Given,
+    machine: &mut Machine,
+) -> End
+    requires { Fits set.now process.0 place given.now.number given.now.input }
+    ensures { (number : ℕ) → IsEnding (turn_with number process place given.now (transition_at set.now process.0 place given.now.number)) result machine.new }
 {
-    run_in(
-        set,
-        ProcessNumber(number),
-        place,
-        given.number,
-        &given.input,
-        machine,
-    )
+    run_in(set, process, place, given.number, &given.input, machine)
 }
 
 /// Runs the turn that an actor has out to its end.
-fn run_of(set: &Verified, number: u8, actor: &Actor, machine: &mut Machine) -> End
-    requires fits { GivenFits set.now number actor.now.standing actor.now.given }
-    requires out { IsSome (turn_given set.now number actor.now.standing actor.now.given) }
-    ensures { IsEnding (turn_given set.now number actor.now.standing actor.now.given) result machine.new }
+fn run_of(set: &Verified, number: u16, actor: &Actor, machine: &mut Machine) -> End
+    requires fits { GivenFits set.now actor.now.name.process.0 actor.now.standing actor.now.given }
+    requires out { IsSome (turn_given set.now number actor.now.name.process actor.now.standing actor.now.given) }
+    ensures { IsEnding (turn_given set.now number actor.now.name.process actor.now.standing actor.now.given) result machine.new }
 {
     match actor.standing {
         Standing::Stopped => unreachable!(),
         Standing::At(place) => match &actor.given {
-            Some(given) => run_with(set, number, place, given, machine),
+            Some(given) => run_with(set, actor.name.process, place, given, machine),
             None => unreachable!(),
         },
     }
@@ -54,13 +52,12 @@ fn run_of(set: &Verified, number: u8, actor: &Actor, machine: &mut Machine) -> E
 
 /// Runs the turn that actor `number` has out to its end.
 fn run_at(set: &Verified, actors: &[Actor], number: u16, machine: &mut Machine) -> End
-    requires few { length actors.now ≤ MOST_PROCESSES }
-    requires fits { (a : PlainActor) → slice_get actors.now number ≡ Some a → GivenFits set.now number a.standing a.given }
+    requires fits { (a : PlainActor) → slice_get actors.now number ≡ Some a → GivenFits set.now a.name.process.0 a.standing a.given }
     requires out { IsSome (turn_at set.now number (slice_get actors.now number)) }
     ensures { IsEnding (turn_at set.now number (slice_get actors.now number)) result machine.new }
 {
     match actors.get(usize::from(number)) {
-        Some(found) => run_of(set, number as u8, found, machine),
+        Some(found) => run_of(set, number, found, machine),
         None => unreachable!(),
     }
 }
@@ -120,8 +117,10 @@ impl Book {
         effects_law();
         let end = run_at(&self.set, self.link.actors(), actor, &mut self.machine);
         let number = number_in(&self.link, actor);
+        let name = name_in(&self.link, actor);
         let report = self.link.finish(
             number,
+            name,
             end,
             copied_variables(&self.machine.variables),
             self.machine.effects.as_slice(),

@@ -1,5 +1,4 @@
 mod Floods
-mod Lookups
 mod Runs
 mod Saids
 mod Texts

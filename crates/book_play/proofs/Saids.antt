@@ -9,6 +9,7 @@ use Rattle.link_machine.specs.declared.event.Event.TheVariants.{Finish}
 use Rattle.link_machine.specs.declared.reply.Refusal.{Refusal}
 use Rattle.link_machine.specs.declared.reply.Reply.{Reply}
 use Rattle.book_rest.proofs.Owned.{own_actor}
+use Rattle.actor_words.specs.declared.word.Called.{Called}
 use Rattle.book_play.specs.Answers.{Answered, reply_text, answer_text, by_event, finishes}
 
 -- ---- lines
@@ -32,22 +33,22 @@ line_said b now d p e f r items same_event set book says line =
 
 -- ---- turns that are out
 
--- handing in the turn that process p has out
-event_is : (b : Ledger) (n p : ℕ) (t u : Turn) → n ≡ p → Some t ≡ turn_out b n → u ≡ t → Finish u.actor ≡ Finish p
-event_is b n p t u same h k = ap Finish (ap (λ (x : Turn). x.actor) k ∙ (own_actor b n t (sym h) ∙ same))
+-- handing in the turn that an actor has out
+event_is : (b : Ledger) (n : ℕ) (t u : Turn) → Some t ≡ turn_out b n → u ≡ t → Finish u.actor ≡ Finish n
+event_is b n t u h k = ap Finish (ap (λ (x : Turn). x.actor) k ∙ own_actor b n t (sym h))
 
-finish_is : (b : Ledger) (n p : ℕ) (t : Turn) → n ≡ p → Some t ≡ turn_out b n → by_event b p (Finish p) ≡ finishes b p (turn_out b p)
-finish_is b n p t same h = ap (finishes b p) (h ∙ ap (turn_out b) same)
+finish_is : (b : Ledger) (x : Called) (t : Turn) → Some t ≡ turn_out b x.number → by_event b x.name.process.0 (Finish x.number) ≡ finishes b x (turn_out b x.number)
+finish_is b x t h = ap (finishes b x) h
 
-pub finish_book : (b now : Ledger) (n p : ℕ) (t u : Turn) → n ≡ p → Some t ≡ turn_out b n → u ≡ t → now ≡ (ask b (Finish u.actor)).book
-    → now ≡ (finishes b p (turn_out b p)).book
-finish_book b now n p t u same h k book =
+pub finish_book : (b now : Ledger) (x : Called) (t u : Turn) → Some t ≡ turn_out b x.number → u ≡ t → now ≡ (ask b (Finish u.actor)).book
+    → now ≡ (finishes b x (turn_out b x.number)).book
+finish_book b now x t u h k book =
     book
-    ∙ (ap (λ (e : Event). (ask b e).book) (event_is b n p t u same h k) ∙ ap (λ (a : Answered). a.book) (finish_is b n p t same h))
+    ∙ (ap (λ (e : Event). (ask b e).book) (event_is b x.number t u h k) ∙ ap (λ (a : Answered). a.book) (finish_is b x t h))
 
-pub finish_line : (b now : Ledger) (d : Draft) (n p : ℕ) (t u : Turn) (r : Reply) (items : List ℕ) → n ≡ p → Some t ≡ turn_out b n → u ≡ t → d ≡ now.set
-    → now ≡ (ask b (Finish u.actor)).book → (ask b (Finish u.actor)).answer ≡ Says r → items ≡ reply_text d p r
-    → items ≡ (finishes b p (turn_out b p)).line
-finish_line b now d n p t u r items same h k set book says line =
-    line_said b now d p (Finish u.actor) (Finish p) r items (event_is b n p t u same h k) set book (sym says) line
-    ∙ ap (λ (a : Answered). a.line) (finish_is b n p t same h)
+pub finish_line : (b now : Ledger) (d : Draft) (x : Called) (t u : Turn) (r : Reply) (items : List ℕ) → Some t ≡ turn_out b x.number → u ≡ t → d ≡ now.set
+    → now ≡ (ask b (Finish u.actor)).book → (ask b (Finish u.actor)).answer ≡ Says r → items ≡ reply_text d x.name.process.0 r
+    → items ≡ (finishes b x (turn_out b x.number)).line
+finish_line b now d x t u r items h k set book says line =
+    line_said b now d x.name.process.0 (Finish u.actor) (Finish x.number) r items (event_is b x.number t u h k) set book (sym says) line
+    ∙ ap (λ (a : Answered). a.line) (finish_is b x t h)

@@ -1,11 +1,11 @@
 -- What each command of a book script makes of a book, and the line that it prints.
-use Rattle.std.specs.Prelude.{ℕ, zero, suc, Bool, List, [], ◌∷◌, ◌++◌, map, Option, None, Some, Result, Ok, Err, option_map, slice_get, if◌then◌else◌, codes}
+use Rattle.std.specs.Prelude.{ℕ, zero, suc, List, [], ◌∷◌, ◌++◌, Option, None, Some, Result, Ok, Err, option_map, slice_get, codes}
 use Rattle.std.specs.Fmt.{decimal}
-use Rattle.std.specs.Char.{to_ascii_lowercase}
-use Rattle.std.specs.Str.{bytes_eq}
 use Rattle.turn_code.specs.declared.value.Value.{Value}
 use Rattle.turn_code.specs.declared.draft.Draft.{Draft}
-use Rattle.turn_check.specs.Named.{process_names, signal_names, variable_names}
+use Rattle.turn_check.specs.Named.{signal_names, variable_names}
+use Rattle.actor_words.specs.Words.{number_of, actor_called}
+use Rattle.actor_words.specs.declared.word.Called.{Called}
 use Rattle.turn_machine.specs.Turn.{Turn}
 use Rattle.link_machine.specs.Ledger.{Ledger, state_of, ask, turn_out}
 use Rattle.link_machine.specs.Step.{Answer, Stuck, Says}
@@ -27,17 +27,9 @@ use Rattle.script_replies.specs.Refused.{refused_text}
 
 -- ---- names
 
--- the two differ in the case of letters alone
-abbrev pub same_name : List ℕ → List ℕ → Bool
-same_name a b = bytes_eq (map to_ascii_lowercase a) (map to_ascii_lowercase b)
-
--- the number of the first of these names that is that one but for case, if one is
-unfoldable pub number_of : List (List ℕ) → List ℕ → Option ℕ
-number_of [] name = None
-number_of (x ∷ xs) name = if same_name x name then Some 0 else option_map (λ n. suc n) (number_of xs name)
-
-abbrev pub process_named : Ledger → List ℕ → Option ℕ
-process_named b name = number_of (process_names b.set) name
+-- the actor that a word names: an instance of a process
+abbrev pub actor_named : Ledger → List ℕ → Option Called
+actor_named b word = actor_called b.set word
 
 abbrev pub signal_named : Ledger → List ℕ → Option ℕ
 signal_named b name = number_of (signal_names b.set) name
@@ -59,7 +51,7 @@ reply_text d p (reply.Refused r) = refused_text r
 
 -- no turn of a book gets stuck
 abbrev pub answer_text : Draft → ℕ → Answer → List ℕ
-answer_text d p Stuck = []
+answer_text d p (Stuck x) = []
 answer_text d p (Says r) = reply_text d p r
 
 -- a book after a command, and the line that the command prints
@@ -78,36 +70,36 @@ refused b r = says b (refused_text r)
 abbrev pub by_event : Ledger → ℕ → Event → Answered
 by_event b p e = record { book = (ask b e).book; line = answer_text b.set p (ask b e).answer }
 
--- ---- commands on a process
+-- ---- commands on an actor
 
--- the job that the process has out runs and is handed in; without one there is no such turn
-abbrev pub finishes : Ledger → ℕ → Option Turn → Answered
-finishes b p None = refused b Stranger
-finishes b p (Some turn) = by_event b p (event.Finish p)
+-- the turn that the actor has out ends by what the set's own code does; without one there is no such turn (B6)
+abbrev pub finishes : Ledger → Called → Option Turn → Answered
+finishes b x None = refused b Stranger
+finishes b x (Some turn) = by_event b x.name.process.0 (event.Finish x.number)
 
--- its state; an actor has its process's number
+-- its state
 abbrev pub standing_line : Ledger → ℕ → Option Standing → List ℕ
 standing_line b p None = refused_text NoActor
 standing_line b p (Some s) = standing_text b.set p s
 
 abbrev pub standing_at : Ledger → ℕ → Option Standing
-standing_at b p = option_map (λ (a : Actor). a.standing) (slice_get (state_of b).actors p)
+standing_at b n = option_map (λ (a : Actor). a.standing) (slice_get (state_of b).actors n)
 
--- the line of `state` for the process of that number, if there is one
-abbrev pub state_line : Ledger → Option ℕ → List ℕ
+-- the line of `state` for an actor, if there is one
+abbrev pub state_line : Ledger → Option Called → List ℕ
 state_line b None = refused_text NoActor
-state_line b (Some p) = standing_line b p (standing_at b p)
+state_line b (Some x) = standing_line b x.name.process.0 (standing_at b x.number)
 
-abbrev pub called : Ledger → Call → ℕ → Answered
-called b Begin p = by_event b p (event.Begin p)
-called b Finish p = finishes b p (turn_out b p)
-called b Skip p = by_event b p (event.Skip p)
-called b State p = says b (state_line b (Some p))
+abbrev pub called : Ledger → Call → Called → Answered
+called b Begin x = by_event b x.name.process.0 (event.Begin x.number)
+called b Finish x = finishes b x (turn_out b x.number)
+called b Skip x = by_event b x.name.process.0 (event.Skip x.number)
+called b State x = says b (state_line b (Some x))
 
--- the process of that name, if there is one
-abbrev pub calls : Ledger → Call → Option ℕ → Answered
+-- the actor of that name, if there is one
+abbrev pub calls : Ledger → Call → Option Called → Answered
 calls b c None = refused b NoActor
-calls b c (Some p) = called b c p
+calls b c (Some x) = called b c x
 
 -- ---- variables
 
@@ -116,12 +108,12 @@ shown None = codes "unset"
 shown (Some v) = value_text v
 
 abbrev pub variable_line : Ledger → ℕ → Option ℕ → List ℕ
-variable_line b p None = codes "unset"
-variable_line b p (Some x) = shown (variable_of (slice_get (state_of b).actors p) x)
+variable_line b n None = codes "unset"
+variable_line b n (Some x) = shown (variable_of (slice_get (state_of b).actors n) x)
 
-abbrev pub value_line : Ledger → List ℕ → Option ℕ → List ℕ
+abbrev pub value_line : Ledger → List ℕ → Option Called → List ℕ
 value_line b name None = refused_text NoActor
-value_line b name (Some p) = variable_line b p (variable_named b p name)
+value_line b name (Some x) = variable_line b x.number (variable_named b x.name.process.0 name)
 
 -- ---- offers
 
@@ -133,11 +125,11 @@ pub record Took : Type 0 where
 abbrev pub took : Ledger → Event → Took
 took b e = record { book = (ask b e).book; refusal = refusal_in (ask b e).answer }
 
-abbrev pub offered_by : Ledger → List Value → Option ℕ → Option ℕ → Took
+abbrev pub offered_by : Ledger → List Value → Option Called → Option ℕ → Took
 offered_by b values None s = record { book = b; refusal = Some NoActor }
-offered_by b values (Some p) None = record { book = b; refusal = Some NoRoute }
-offered_by b values (Some p) (Some s) =
-    took b (event.Offer (record { actor = p; signal = record { 0 = s }; values = record { items = values } }))
+offered_by b values (Some x) None = record { book = b; refusal = Some NoRoute }
+offered_by b values (Some x) (Some s) =
+    took b (event.Offer (record { actor = x.number; signal = record { 0 = s }; values = record { items = values } }))
 
 -- why a call was refused, if it was
 abbrev pub why : {A : Type 0} → Result A Refusal → Option Refusal
@@ -146,13 +138,13 @@ why (Err r) = Some r
 
 -- one offer; the names are looked up
 abbrev pub offered : Ledger → PlainOffer → Took
-offered b o = offered_by b o.values (process_named b o.process) (signal_named b o.signal)
+offered b o = offered_by b o.values (actor_named b o.process) (signal_named b o.signal)
 
--- whether the process and the signal are there
-abbrev pub looked_up : Option ℕ → Option ℕ → Option Refusal
+-- whether the actor and the signal are there
+abbrev pub looked_up : Option Called → Option ℕ → Option Refusal
 looked_up None s = Some NoActor
-looked_up (Some p) None = Some NoRoute
-looked_up (Some p) (Some s) = None
+looked_up (Some x) None = Some NoRoute
+looked_up (Some x) (Some s) = None
 
 -- where the first offer is taken there are a rest and the others
 abbrev pub goes_on : Took → Took → Option Refusal → Took
@@ -185,10 +177,10 @@ rested b = record { book = (rests MOST_TURNS b).book; line = codes "rest " ++ de
 -- what a command makes of a book, and the line that it prints; `expect` is nothing to a book
 unfoldable pub obeyed : Ledger → PlainCommand → Answered
 obeyed b (offer o) = done (offered b o)
-obeyed b (flood n o) = done (flooded n o b (looked_up (process_named b o.process) (signal_named b o.signal)))
-obeyed b (call c name) = calls b c (process_named b name)
+obeyed b (flood n o) = done (flooded n o b (looked_up (actor_named b o.process) (signal_named b o.signal)))
+obeyed b (call c name) = calls b c (actor_named b name)
 obeyed b (tick n) = by_event b 0 (event.Advance n)
 obeyed b env = by_event b 0 event.TakeEnv
 obeyed b rest = rested b
-obeyed b (value process name) = says b (value_line b name (process_named b process))
+obeyed b (value process name) = says b (value_line b name (actor_named b process))
 obeyed b (expect text) = says b []

@@ -2,17 +2,17 @@
 ghost use Rattle.std.specs.Prelude.{◌≡◌, IfOk, IfSome};
 ghost use Rattle.script_lines.specs.Commands.{plain_command};
 ghost use Rattle.link_machine.specs.declared.event.Event.TheVariants as event;
-ghost use Rattle.book_play.specs.Answers.{process_named, by_event, variable_line, value_line, variable_named, done_text, why, rested, obeyed};
+ghost use Rattle.book_play.specs.Answers.{actor_named, by_event, variable_line, value_line, variable_named, done_text, why, rested, obeyed};
 
-use crate::calls::{actor_of, call};
-use crate::names::{process_named, variable_named};
+use crate::calls::call;
+use crate::names::{actor_named, variable_named};
 use crate::offers::{flood, offer};
+use actor_words::Called;
 use book_rest::{Book, Refusal, rest};
 use script_lines::Command;
 use script_replies::{refused_line, shown_line, taken_line};
 use std::alloc::{AllocError, Global};
 use std::fmt::Display;
-use turn_code::ProcessNumber;
 
 /// A line of printed text.
 pub fn text_line<L: Display>(alloc: Global, line: &L) -> Result<Vec<u8>, AllocError>
@@ -57,35 +57,35 @@ fn take_env(alloc: Global, book: &mut Book) -> Result<Vec<u8>, AllocError>
     }
 }
 
-/// The value of a variable of a process, by its name, or `unset`.
+/// The value of a variable of an actor, by its name, or `unset`.
 fn variable_line(
     alloc: Global,
     book: &Book,
-    process: ProcessNumber,
+    actor: Called,
     name: &str,
 ) -> Result<Vec<u8>, AllocError>
-    ensures { IfOk result (λ v. v.items ≡ variable_line book.now process.0 (variable_named book.now process.0 name.now)) }
+    ensures { IfOk result (λ v. v.items ≡ variable_line book.now actor.number (variable_named book.now actor.name.process.0 name.now)) }
 {
-    let Some(variable) = variable_named(book, process, name) else {
+    let Some(variable) = variable_named(book, actor.name.process, name) else {
         return Vec::from_slice(alloc, b"unset");
     };
-    match book.variable(actor_of(process), variable) {
+    match book.variable(actor.number, variable) {
         Some(value) => shown_line(alloc, value),
         None => Vec::from_slice(alloc, b"unset"),
     }
 }
 
-/// The line of `value P x`: the value of a variable, by its name, or `unset`; a refusal where there is no such process.
+/// The line of `value P x`: the value of a variable, by its name, or `unset`; a refusal where there is no such actor.
 pub fn value_line(
     alloc: Global,
     book: &Book,
     process: &str,
     name: &str,
 ) -> Result<Vec<u8>, AllocError>
-    ensures { IfOk result (λ v. v.items ≡ value_line book.now name.now (process_named book.now process.now)) }
+    ensures { IfOk result (λ v. v.items ≡ value_line book.now name.now (actor_named book.now process.now)) }
 {
-    match process_named(book, process) {
-        Some(process) => variable_line(alloc, book, process, name),
+    match actor_named(book, process) {
+        Some(actor) => variable_line(alloc, book, actor, name),
         None => refused_line(alloc, Refusal::NoActor),
     }
 }

@@ -1,15 +1,16 @@
-//! Names of processes, signals and variables, as scripts write them: in any case.
+//! Names of actors, signals and variables, as scripts write them: in any case.
 ghost use Rattle.std.specs.Prelude.{◌≡◌, option_map};
-ghost use Rattle.book_play.specs.Answers.{process_named, signal_named, variable_named};
+ghost use Rattle.book_play.specs.Answers.{actor_named, signal_named, variable_named};
 
+use actor_words::{Called, actor_called};
 use book_rest::Book;
 use turn_code::{ProcessNumber, SignalNumber, VariableNumber};
 
-/// The process of this name.
-pub fn process_named(book: &Book, name: &str) -> Option<ProcessNumber>
-    ensures { option_map (λ p. p.0) result ≡ process_named book.now name.now }
+/// The actor that a word names: `P.k`, or `P`, which is `P.1`.
+pub fn actor_named(book: &Book, word: &str) -> Option<Called>
+    ensures { result ≡ actor_named book.now word.now }
 {
-    book.set().process_of(name)
+    actor_called(book.set(), word)
 }
 
 /// The signal of this name.

@@ -3,25 +3,25 @@ ghost use Rattle.std.specs.Prelude.{◌≡◌};
 ghost use Rattle.script_lines.specs.Commands.{plain_offer};
 ghost use Rattle.script_replies.specs.Refused.{refused_text};
 ghost use Rattle.link_machine.specs.declared.event.Event.TheVariants.{Offer as Offered};
-ghost use Rattle.book_play.specs.Answers.{process_named, signal_named, took, offered, looked_up, floods, flooded, why};
+ghost use Rattle.book_play.specs.Answers.{actor_named, signal_named, took, offered, looked_up, floods, flooded, why};
 
-use crate::names::{process_named, signal_named};
+use crate::names::{actor_named, signal_named};
 use book_rest::{Book, Refusal, rest};
 use script_lines::Offer;
-use turn_code::{ProcessNumber, SignalNumber, Value};
+use turn_code::{SignalNumber, Value};
 
-/// The environment offers a signal to the actor of a process, which has the same number.
+/// The environment offers a signal to the actor of that number.
 fn offer_to(
     book: &mut Book,
-    process: ProcessNumber,
+    actor: u16,
     signal: SignalNumber,
     values: &[Value],
 ) -> Result<(), Refusal>
-    ensures book { let e = Offered (record { actor = process.0; signal = signal; values = record { items = values.now } }) in book.new ≡ (took book.old e).book }
-    ensures refusal { let e = Offered (record { actor = process.0; signal = signal; values = record { items = values.now } }) in
+    ensures book { let e = Offered (record { actor = actor; signal = signal; values = record { items = values.now } }) in book.new ≡ (took book.old e).book }
+    ensures refusal { let e = Offered (record { actor = actor; signal = signal; values = record { items = values.now } }) in
         why result ≡ (took book.old e).refusal }
 {
-    match book.offer(u16::from(process.0), signal, values) {
+    match book.offer(actor, signal, values) {
         Ok(_) => Ok(()),
         Err(refusal) => Err(refusal),
     }
@@ -32,20 +32,20 @@ pub fn offer(book: &mut Book, given: &Offer<'_>) -> Result<(), Refusal>
     ensures book { book.new ≡ (offered book.old (plain_offer given.now)).book }
     ensures refusal { why result ≡ (offered book.old (plain_offer given.now)).refusal }
 {
-    let Some(process) = process_named(book, given.process) else {
+    let Some(actor) = actor_named(book, given.process) else {
         return Err(Refusal::NoActor);
     };
     let Some(signal) = signal_named(book, given.signal) else {
         return Err(Refusal::NoRoute);
     };
-    offer_to(book, process, signal, &given.values)
+    offer_to(book, actor.number, signal, &given.values)
 }
 
-/// Whether the process and the signal are there.
+/// Whether the actor and the signal are there.
 fn look_up(book: &Book, given: &Offer<'_>) -> Result<(), Refusal>
-    ensures { why result ≡ looked_up (process_named book.now given.now.process.now) (signal_named book.now given.now.signal.now) }
+    ensures { why result ≡ looked_up (actor_named book.now given.now.process.now) (signal_named book.now given.now.signal.now) }
 {
-    if process_named(book, given.process).is_none() {
+    if actor_named(book, given.process).is_none() {
         return Err(Refusal::NoActor);
     }
     if signal_named(book, given.signal).is_none() {
@@ -72,9 +72,9 @@ fn offers(book: &mut Book, times: u32, given: &Offer<'_>) -> Result<(), Refusal>
 /// The same; the names are looked up before the first offer, which there may be none of.
 pub fn flood(book: &mut Book, times: u32, given: &Offer<'_>) -> Result<(), Refusal>
     ensures book { let o = plain_offer given.now in
-        book.new ≡ (flooded times o book.old (looked_up (process_named book.old o.process) (signal_named book.old o.signal))).book }
+        book.new ≡ (flooded times o book.old (looked_up (actor_named book.old o.process) (signal_named book.old o.signal))).book }
     ensures refusal { let o = plain_offer given.now in
-        why result ≡ (flooded times o book.old (looked_up (process_named book.old o.process) (signal_named book.old o.signal))).refusal }
+        why result ≡ (flooded times o book.old (looked_up (actor_named book.old o.process) (signal_named book.old o.signal))).refusal }
 {
     match look_up(book, given) {
         Ok(()) => offers(book, times, given),

@@ -54,7 +54,7 @@ fn refused(refusal: Refusal) -> Turn
     }
 }
 
-/// How many actors a link has, 16 at most.
+/// How many actors a link has, 128 at most.
 fn actors_in(book: &Book) -> u16
     ensures { result ≡ actors_in book.now }
 {

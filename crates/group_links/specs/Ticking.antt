@@ -51,7 +51,7 @@ due_by (reply.Passed due) = due
 due_by _ = 0
 
 abbrev pub due_in : Answer → ℕ
-due_in Stuck = 0
+due_in (Stuck x) = 0
 due_in (Says r) = due_by r
 
 -- how many timers are due by them

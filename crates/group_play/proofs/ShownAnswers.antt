@@ -6,7 +6,7 @@ use Rattle.link_machine.specs.Ledger.{Ledger}
 use Rattle.link_group.specs.group_links_types.link.Link.{Link}
 use Rattle.link_group.specs.Links.{read_at}
 use Rattle.link_group.specs.Reading.{held_count, sent_count, book_of}
-use Rattle.term_play.specs.Answers.{process_named, state_line, value_line}
+use Rattle.term_play.specs.Answers.{actor_named, state_line, value_line}
 use Rattle.group_play.specs.GroupAnswers.{NO_LINK, entry_at, entries_to, held_line, state_at, value_at}
 
 pub entries_more : (ts : List (Option ℕ)) (n : ℕ) (old new : List ℕ) → old ≡ entries_to ts n → new ≡ old ++ codes ", " ++ entry_at ts (n + 1)
@@ -38,20 +38,20 @@ pub sent_nowhere : (o : Option Link) (text : List ℕ) → None ≡ read_at sent
 sent_nowhere None text none is = is
 sent_nowhere (Some k) text none is = absurd (cc)
 
-pub state_is : (o : Option Link) (b : Ledger) (process text : List ℕ) → Some b ≡ read_at book_of o → text ≡ state_line b (process_named b process)
+pub state_is : (o : Option Link) (b : Ledger) (process text : List ℕ) → Some b ≡ read_at book_of o → text ≡ state_line b (actor_named b process)
     → text ≡ state_at process o
 state_is None b process text is shown = absurd (cc)
-state_is (Some k) b process text is shown = let same : b ≡ book_of k = cc in shown ∙ ap (λ x. state_line x (process_named x process)) same
+state_is (Some k) b process text is shown = let same : b ≡ book_of k = cc in shown ∙ ap (λ x. state_line x (actor_named x process)) same
 
 pub state_nowhere : (o : Option Link) (process text : List ℕ) → None ≡ read_at book_of o → text ≡ NO_LINK → text ≡ state_at process o
 state_nowhere None process text none is = is
 state_nowhere (Some k) process text none is = absurd (cc)
 
 pub value_is : (o : Option Link) (b : Ledger) (process variable text : List ℕ) → Some b ≡ read_at book_of o
-    → text ≡ value_line b variable (process_named b process) → text ≡ value_at process variable o
+    → text ≡ value_line b variable (actor_named b process) → text ≡ value_at process variable o
 value_is None b process variable text is shown = absurd (cc)
 value_is (Some k) b process variable text is shown =
-    let same : b ≡ book_of k = cc in shown ∙ ap (λ x. value_line x variable (process_named x process)) same
+    let same : b ≡ book_of k = cc in shown ∙ ap (λ x. value_line x variable (actor_named x process)) same
 
 pub value_nowhere : (o : Option Link) (process variable text : List ℕ) → None ≡ read_at book_of o → text ≡ NO_LINK → text ≡ value_at process variable o
 value_nowhere None process variable text none is = is

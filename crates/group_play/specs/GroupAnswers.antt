@@ -39,7 +39,7 @@ use Rattle.group_lines.specs.declared.words.GroupWord.TheVariants as words
 use Rattle.group_lines.specs.GroupCommands.{PlainGroupCommand}
 use Rattle.group_lines.specs.GroupCommands as commands
 use Rattle.term_play.specs.Refused.{refused_text}
-use Rattle.term_play.specs.Answers.{process_named, state_line, value_line}
+use Rattle.term_play.specs.Answers.{actor_named, state_line, value_line}
 use Rattle.term_play.specs.TermAnswers.{command_of, IsMessageOf}
 use Rattle.term_play.specs.UnitLines.{IsLineOf}
 
@@ -264,11 +264,11 @@ held_line (Some k) = decimal (held_count k) ++ codes " sent " ++ decimal (sent_c
 
 abbrev pub state_at : List ℕ → Option Link → List ℕ
 state_at process None = NO_LINK
-state_at process (Some k) = state_line k.terminal.heart.book (process_named k.terminal.heart.book process)
+state_at process (Some k) = state_line k.terminal.heart.book (actor_named k.terminal.heart.book process)
 
 abbrev pub value_at : List ℕ → List ℕ → Option Link → List ℕ
 value_at process variable None = NO_LINK
-value_at process variable (Some k) = value_line k.terminal.heart.book variable (process_named k.terminal.heart.book process)
+value_at process variable (Some k) = value_line k.terminal.heart.book variable (actor_named k.terminal.heart.book process)
 
 -- ---- all commands
 

@@ -5,4 +5,4 @@ mod queue;
 mod save;
 
 pub use queue::{Arrival, Item, Port, PutError};
-pub use save::{SIGNALS, Saved, TIMERS};
+pub use save::Saved;

@@ -14,14 +14,15 @@ use std::alloc::{AllocError, Global};
 use std::fmt;
 use std::marker::Model;
 use thiserror::Error;
-use turn_code::{Party, SignalNumber, TimerNumber, Value};
+use turn_code::{Address, SignalNumber, TimerNumber, Value};
 
 /// A signal that has come for a process.
 #[derive(Clone, Debug, Drop)]
 pub struct Arrival {
     pub signal: SignalNumber,
     pub parameters: ArrayVec<Value, 4>,
-    pub sender: Party,
+    /// Who sent it.
+    pub sender: Address,
 }
 
 /// What waits in a port.
@@ -184,7 +185,7 @@ impl Port {
 
     /// Puts the signal of a timer, which has no item here, behind the other items.
     pub fn put_timer(&mut self, timer: TimerNumber)
-        requires number { timer.0 < TIMERS }
+        requires number { timer.0 < MOST_TIMERS_EACH }
         requires absent { has_timer self.old.items timer.0 ≡ false }
         ensures { self.new ≡ record self.old { items = self.old.items ++ Item.Timer timer ∷ [] } }
     {

@@ -2,15 +2,16 @@
 
 ghost use Rattle.std.specs.Prelude.{◌≡◌, ℕ, ◌<◌, ◌||◌, ◌==◌, false};
 ghost use Rattle.input_port.specs.Saves.{saves_signal, saves_timer, saves};
+ghost use Rattle.profile_limits.specs.Limits.{MOST_SIGNALS, MOST_TIMERS_EACH};
 
 use crate::queue::Item;
 use turn_code::{SignalNumber, TimerNumber};
 
 /// How many signals a set of processes may have.
-pub const SIGNALS: u8 = 128;
+const SIGNALS: u8 = 128;
 
 /// How many timers a process may have.
-pub const TIMERS: u8 = 8;
+pub(crate) const TIMERS: u8 = 8;
 
 /// The signals and timers that a state saves: a bit for each.
 #[derive(Clone, Copy, PartialEq, Eq, Debug, Default)]
@@ -34,7 +35,7 @@ impl Saved {
 
     /// A signal is saved from now on, besides what is.
     pub fn add_signal(&mut self, signal: SignalNumber)
-        requires { signal.0 < SIGNALS }
+        requires { signal.0 < MOST_SIGNALS }
         ensures signals { (number : ℕ) → saves_signal self.new number ≡ (number == signal.0 || saves_signal self.old number) }
         ensures timers { (number : ℕ) → saves_timer self.new number ≡ saves_timer self.old number }
     {
@@ -43,7 +44,7 @@ impl Saved {
 
     /// The signal of a timer is saved from now on, besides what is.
     pub fn add_timer(&mut self, timer: TimerNumber)
-        requires { timer.0 < TIMERS }
+        requires { timer.0 < MOST_TIMERS_EACH }
         ensures signals { (number : ℕ) → saves_signal self.new number ≡ saves_signal self.old number }
         ensures timers { (number : ℕ) → saves_timer self.new number ≡ (number == timer.0 || saves_timer self.old number) }
     {

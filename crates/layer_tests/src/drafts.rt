@@ -104,6 +104,7 @@ fn variables(alloc: Global, initial: Option<Value>) -> Result<Sequence<DraftVari
 fn process(alloc: Global, recipe: &Recipe, start: DraftPiece) -> Result<DraftProcess, AllocError> {
     Ok(DraftProcess {
         name: named("P")?,
+        instances: recipe.instances,
         variables: variables(alloc, recipe.initial)?,
         timers: one(alloc, named("Tick")?)?,
         start,

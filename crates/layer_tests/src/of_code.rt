@@ -208,14 +208,20 @@ fn operands(values: &[Value]) -> Operands {
     operands
 }
 
-/// An input with the parameter 5 from process 3.
+/// The second instance of process 3.
+const FROM: Address = Address {
+    party: Party::Process(ProcessNumber(3)),
+    instance: Some(InstanceNumber(2)),
+};
+
+/// An input with the parameter 5 from there.
 fn input() -> Input {
     let mut parameters = ArrayVec::new();
     parameters.push(Value::Int(5));
     Input {
         variables: ArrayVec::new(),
         parameters,
-        sender: Some(Party::Process(ProcessNumber(3))),
+        sender: Some(FROM),
     }
 }
 
@@ -291,7 +297,7 @@ fn each_trouble_is_named(rt: HostRuntime) {
 }
 
 /// What the one effect sends, and where: three values at most.
-fn sent(effects: &[Effect]) -> Option<(SignalNumber, Party, [Option<Value>; 3])> {
+fn sent(effects: &[Effect]) -> Option<(SignalNumber, Address, [Option<Value>; 3])> {
     match effects {
         [Effect::Output(sending)] => {
             let values = sending.parameters.as_slice();
@@ -313,7 +319,7 @@ fn answered() -> Option<
     (
         After,
         Option<Value>,
-        Option<(SignalNumber, Party, [Option<Value>; 3])>,
+        Option<(SignalNumber, Address, [Option<Value>; 3])>,
     ),
 > {
     let mut machine = machine(&[Value::Int(1), Value::Int(2), Value::Int(3)]);
@@ -325,9 +331,9 @@ fn answered() -> Option<
     Some((follows, top, sent(machine.effects.as_slice())))
 }
 
-const ANSWER: (SignalNumber, Party, [Option<Value>; 3]) = (
+const ANSWER: (SignalNumber, Address, [Option<Value>; 3]) = (
     SignalNumber(4),
-    Party::Process(ProcessNumber(3)),
+    FROM,
     [Some(Value::Int(2)), Some(Value::Int(3)), None],
 );
 

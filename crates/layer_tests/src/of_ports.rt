@@ -2,7 +2,7 @@
 use arrayvec::ArrayVec;
 use input_port::{Arrival, Item, Port, Saved};
 use std::alloc::Global;
-use turn_code::{Party, ProcessNumber, SignalNumber, TimerNumber, Value};
+use turn_code::{Address, Party, ProcessNumber, SignalNumber, TimerNumber, Value};
 
 /// A signal by its number, a timer by 200 and its own.
 type Name = u8;
@@ -35,10 +35,14 @@ enum Step {
 fn arrival(signal: Name, number: i32) -> Arrival {
     let mut parameters = ArrayVec::new();
     parameters.push(Value::Int(number));
-    let sender = if number < 100 {
+    let party = if number < 100 {
         Party::Environment
     } else {
         Party::Process(ProcessNumber(3))
+    };
+    let sender = Address {
+        party,
+        instance: None,
     };
     Arrival {
         signal: SignalNumber(signal),

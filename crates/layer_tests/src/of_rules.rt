@@ -46,6 +46,8 @@ pub(crate) enum Change {
     Parameters(&'static [Sort]),
     /// So many states stand behind Run.
     More(u32),
+    /// So many instances run.
+    Instances(u32),
 }
 
 pub(crate) fn changed(change: Change) -> Recipe {
@@ -65,6 +67,7 @@ pub(crate) fn changed(change: Change) -> Recipe {
         }
         Change::Parameters(parameters) => recipe.parameters = parameters,
         Change::More(more) => recipe.more = more,
+        Change::Instances(count) => recipe.instances = count,
     }
     recipe
 }
@@ -78,7 +81,7 @@ const INPUT_1: Spot = Spot {
 };
 
 /// Changes, and what becomes of the counter with each.
-const SETS: [(Change, Verdict); 12] = [
+const SETS: [(Change, Verdict); 15] = [
     (Change::Nothing, Verdict::Accepted),
     (Change::Initial(Value::Int(1)), Verdict::Accepted),
     (
@@ -107,12 +110,15 @@ const SETS: [(Change, Verdict); 12] = [
         Change::Input(Trigger::Timer(TICK), ANSWER),
         Verdict::Refused(Rule::Number, INPUT_1),
     ),
-    // a signal has 4 parameters at most, a process 64 states
+    // a signal has 4 parameters at most, a process 64 states and 8 instances
     (
         Change::Parameters(&[Sort::Integer; 5]),
         Verdict::Refused(Rule::Limit, START_0),
     ),
     (Change::More(63), Verdict::Accepted),
+    (Change::Instances(8), Verdict::Accepted),
+    (Change::Instances(0), Verdict::Refused(Rule::Limit, START_0)),
+    (Change::Instances(9), Verdict::Refused(Rule::Limit, START_0)),
     (
         Change::More(100_000),
         Verdict::Refused(Rule::Limit, START_0),

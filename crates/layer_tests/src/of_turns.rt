@@ -5,8 +5,8 @@ use arrayvec::ArrayVec;
 use std::alloc::{AllocError, Global};
 use turn_check::Verified;
 use turn_code::{
-    Cert, Effect, End, Instruction, Party, Place, ProcessNumber, Receiver, SignalNumber, Sort,
-    TimerNumber, Value,
+    Address, Cert, Effect, End, InstanceNumber, Instruction, Party, Place, ProcessNumber, Receiver,
+    SignalNumber, Sort, TimerNumber, Value,
 };
 use turn_machine::{Done, Job, Received, fits, run};
 
@@ -62,7 +62,16 @@ const EFFECTS: Plan = Plan {
 
 const IN_RUN: Place = Place::State(RUN);
 
-const OUTSIDE: Option<Party> = Some(Party::Environment);
+const OUTSIDE: Option<Address> = Some(Address {
+    party: Party::Environment,
+    instance: None,
+});
+
+/// The first instance of the process itself.
+const OWN: Option<Address> = Some(Address {
+    party: Party::Process(P),
+    instance: Some(InstanceNumber(1)),
+});
 
 /// Values of n and total.
 fn variables(n: Option<i32>, total: Option<i32>) -> ArrayVec<Option<Value>, 32> {
@@ -73,7 +82,7 @@ fn variables(n: Option<i32>, total: Option<i32>) -> ArrayVec<Option<Value>, 32> 
 }
 
 /// What comes with at most one value, from a sender or from none.
-fn received(value: Option<i32>, sender: Option<Party>) -> Received {
+fn received(value: Option<i32>, sender: Option<Address>) -> Received {
     let mut parameters = ArrayVec::new();
     if let Some(number) = value {
         parameters.push(Value::Int(number));
@@ -187,7 +196,7 @@ fn seen_as(effect: &Effect) -> Told {
     match effect {
         Effect::Output(sending) => Told::Output(
             sending.signal,
-            sending.receiver,
+            sending.receiver.party,
             sending.parameters.as_slice().first().copied(),
         ),
         Effect::Set(timer, delay) => Told::Set(*timer, *delay),
@@ -280,7 +289,7 @@ type Fit = (
     Option<i32>,
     Option<i32>,
     Option<i32>,
-    Option<Party>,
+    Option<Address>,
     bool,
 );
 
@@ -291,15 +300,7 @@ const FITS: [Fit; 8] = [
     // no such input
     (IN_RUN, 1, None, Some(0), Some(1), OUTSIDE, false),
     // no route
-    (
-        IN_RUN,
-        0,
-        None,
-        Some(0),
-        Some(1),
-        Some(Party::Process(P)),
-        false,
-    ),
+    (IN_RUN, 0, None, Some(0), Some(1), OWN, false),
     // no sender
     (IN_RUN, 0, None, Some(0), Some(1), None, false),
     // no parameter
@@ -350,7 +351,7 @@ fn compared() -> Result<[bool; 4], AllocError> {
     Ok([
         one.same(&once_more(&one)?),
         one.same(&received(Some(2), OUTSIDE)),
-        one.same(&received(Some(1), Some(Party::Process(P)))),
+        one.same(&received(Some(1), OWN)),
         one.same(&received(None, None)),
     ])
 }

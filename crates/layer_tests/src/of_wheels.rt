@@ -39,7 +39,7 @@ fn sets(wheel: &mut Wheel, name: Name, deadline: u64) -> bool {
 /// Whether these are due, in this order.
 fn are_due(due: &[Due], names: &[Name]) -> bool {
     for (place, one) in due.iter().enumerate() {
-        if names.get(place) != Some(&(one.timer.process(), one.timer.number())) {
+        if names.get(place) != Some(&(one.timer.actor(), one.timer.number())) {
             return false;
         }
     }

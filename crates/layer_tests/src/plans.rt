@@ -53,6 +53,8 @@ pub struct Recipe {
     pub up: Plan,
     /// How many states stand behind Run, which wait for nothing.
     pub more: u32,
+    /// How many instances of P run.
+    pub instances: u32,
 }
 
 /// What becomes of a set.
@@ -119,6 +121,7 @@ pub fn counter() -> Recipe {
         trigger: Trigger::Signal(UP),
         up: ADD,
         more: 0,
+        instances: 1,
     }
 }
 

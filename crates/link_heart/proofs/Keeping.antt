@@ -45,7 +45,7 @@ module _ (R : Half → Half → Type 0) (same : (h : Half) → R h h) (joined : 
   reply_keeps t b _ = same t.side
 
   answer_keeps : (t : Heart) (b : Ledger) (a : Answer) → R t.side (taken_answer t b a).heart.side
-  answer_keeps t b Stuck = same t.side
+  answer_keeps t b (Stuck x) = same t.side
   answer_keeps t b (Says r) = reply_keeps t b r
 
   one_keeps : (t : Heart) → R t.side (one_taken t).heart.side

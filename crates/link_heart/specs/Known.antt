@@ -1,8 +1,9 @@
 -- Which names a terminal knows, and which numbers they have in a set.
-use Rattle.std.specs.Prelude.{ℕ, List, [], ◌∷◌, codes}
+use Rattle.std.specs.Prelude.{◌≡◌, ℕ, List, [], ◌∷◌, Some, codes}
 use Rattle.turn_code.specs.declared.draft.Draft.{Draft}
 use Rattle.turn_code.specs.declared.value.Sort.{Sort}
 use Rattle.turn_code.specs.declared.value.Sort.TheVariants.{Integer, Boolean}
+use Rattle.link_machine.specs.Names.{named, actors_of, place_of}
 use Rattle.turn_check.specs.Named.{process_names, signal_names, IsFirst}
 use Rattle.link_heart.specs.declared.words.ProcessName.{ProcessName}
 use Rattle.link_heart.specs.declared.words.ProcessName.TheVariants as process
@@ -73,20 +74,27 @@ signal_sorts signal.Down = Integer ∷ []
 signal_sorts signal.RemoteOut = []
 signal_sorts signal.RemoteBack = []
 
--- the number is that of the first process, or signal, of that name
+-- the number is that of the first process of that name
 abbrev pub IsProcess : Draft → ℕ → ProcessName → Type 0
 IsProcess d n p = IsFirst (process_names d) n (process_word p)
 
+-- the number is that of the first instance of the first process of that name
+pub record IsActor (d : Draft) (n : ℕ) (p : ProcessName) : Type 0 where
+  pub process : ℕ
+  pub called : IsProcess d process p
+  pub number : place_of (named process 1) (actors_of d.processes) ≡ Some n
+
+-- the number is that of the first signal of that name
 abbrev pub IsSignal : Draft → ℕ → SignalName → Type 0
 IsSignal d n s = IsFirst (signal_names d) n (signal_word s)
 
 pub record AreParties (d : Draft) (x : Parties) : Type 0 where
-  pub lsc : IsProcess d x.lsc.0 process.Lsc
-  pub aerm : IsProcess d x.aerm.0 process.Aerm
-  pub suerm : IsProcess d x.suerm.0 process.Suerm
-  pub txc : IsProcess d x.txc.0 process.Txc
-  pub rc : IsProcess d x.rc.0 process.Rc
-  pub cc : IsProcess d x.cc.0 process.Cc
+  pub lsc : IsActor d x.lsc process.Lsc
+  pub aerm : IsActor d x.aerm process.Aerm
+  pub suerm : IsActor d x.suerm process.Suerm
+  pub txc : IsActor d x.txc process.Txc
+  pub rc : IsActor d x.rc process.Rc
+  pub cc : IsActor d x.cc process.Cc
 
 pub record AreOrders (d : Draft) (x : Orders) : Type 0 where
   pub power_on : IsSignal d x.power_on.0 signal.PowerOn

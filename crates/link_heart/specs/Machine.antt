@@ -54,7 +54,7 @@ taken_reply t b (reply.Taken x) = record { heart = heard x (with_book t b); goes
 taken_reply t b _ = record { heart = t; goes = false }
 
 abbrev pub taken_answer : Heart → Ledger → Answer → Step
-taken_answer t b Stuck = record { heart = t; goes = false }
+taken_answer t b (Stuck x) = record { heart = t; goes = false }
 taken_answer t b (Says r) = taken_reply t b r
 
 -- what has waited longest for the environment is taken and heeded

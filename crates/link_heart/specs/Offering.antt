@@ -20,12 +20,12 @@ use Rattle.link_heart.specs.declared.names.Notices.{Notices}
 use Rattle.link_heart.specs.declared.names.Outputs.{Outputs}
 use Rattle.link_heart.specs.declared.names.Parties.{Parties}
 
--- the number of an actor is that of its process
+-- the number of an actor
 abbrev pub number_of : Parties → Party → ℕ
-number_of ps Aerm = ps.aerm.0
-number_of ps Suerm = ps.suerm.0
-number_of ps Txc = ps.txc.0
-number_of ps Rc = ps.rc.0
+number_of ps Aerm = ps.aerm
+number_of ps Suerm = ps.suerm
+number_of ps Txc = ps.txc
+number_of ps Rc = ps.rc
 
 -- ---- notices
 
@@ -55,15 +55,15 @@ offer_event n o = event_to (number_of n.parties o.to) (notice_signal n.notices o
 
 -- congestion is for congestion control, all else for link state control
 abbrev pub command_number : Names → Command → ℕ
-command_number n command.PowerOn = n.parties.lsc.0
-command_number n command.Start = n.parties.lsc.0
-command_number n command.Stop = n.parties.lsc.0
-command_number n command.Emergency = n.parties.lsc.0
-command_number n command.Calm = n.parties.lsc.0
-command_number n command.Outage = n.parties.lsc.0
-command_number n command.Back = n.parties.lsc.0
-command_number n command.Busy = n.parties.cc.0
-command_number n command.Free = n.parties.cc.0
+command_number n command.PowerOn = n.parties.lsc
+command_number n command.Start = n.parties.lsc
+command_number n command.Stop = n.parties.lsc
+command_number n command.Emergency = n.parties.lsc
+command_number n command.Calm = n.parties.lsc
+command_number n command.Outage = n.parties.lsc
+command_number n command.Back = n.parties.lsc
+command_number n command.Busy = n.parties.cc
+command_number n command.Free = n.parties.cc
 
 abbrev pub command_signal : Names → Command → SignalNumber
 command_signal n command.PowerOn = n.orders.power_on

@@ -32,7 +32,7 @@ pub enum Command {
 pub(crate) fn command_number(names: &Names, command: Command) -> u16
     ensures { result ≡ command_number names.now command }
 {
-    let process = match command {
+    match command {
         Command::Busy | Command::Free => names.parties.cc,
         Command::PowerOn
         | Command::Start
@@ -41,8 +41,7 @@ pub(crate) fn command_number(names: &Names, command: Command) -> u16
         | Command::Calm
         | Command::Outage
         | Command::Back => names.parties.lsc,
-    };
-    u16::from(process.0)
+    }
 }
 
 /// The signal that it gets.

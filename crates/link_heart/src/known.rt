@@ -1,11 +1,12 @@
 //! The numbers that a terminal's names have in its set.
 ghost use Rattle.std.specs.Prelude.{◌≡◌, All, IfOk, IfErr};
-ghost use Rattle.link_heart.specs.Known.{IsProcess, IsSignal, AreParties, AreOrders, AreNotices, AreOutputs, AreNames};
+ghost use Rattle.link_heart.specs.Known.{IsProcess, IsActor, IsSignal, AreParties, AreOrders, AreNotices, AreOutputs, AreNames};
 ghost use Rattle.link_heart.specs.Wanted.{wanted, Has, HasSignals, HasProcesses, IsFirstLacking};
 
 use crate::names::{Names, Notices, Orders, Outputs, Parties};
 use crate::wanted::{Wanted, all_wanted, first_lacking};
 use crate::words::{ProcessName, SignalName};
+use link_machine::first_of;
 use turn_check::Verified;
 use turn_code::{ProcessNumber, SignalNumber};
 
@@ -20,6 +21,14 @@ fn process(set: &Verified, name: ProcessName) -> ProcessNumber
     }
 }
 
+/// The number of its first instance.
+fn actor(set: &Verified, name: ProcessName) -> u16
+    requires { HasProcesses set.now }
+    ensures { IsActor set.now result name }
+{
+    first_of(set, process(set, name))
+}
+
 /// The number of a signal, which the set has.
 fn signal(set: &Verified, name: SignalName) -> SignalNumber
     requires { HasSignals set.now }
@@ -31,18 +40,18 @@ fn signal(set: &Verified, name: SignalName) -> SignalNumber
     }
 }
 
-/// The processes.
+/// The actors.
 fn parties(set: &Verified) -> Parties
     requires { HasProcesses set.now }
     ensures { AreParties set.now result }
 {
     Parties {
-        lsc: process(set, ProcessName::Lsc),
-        aerm: process(set, ProcessName::Aerm),
-        suerm: process(set, ProcessName::Suerm),
-        txc: process(set, ProcessName::Txc),
-        rc: process(set, ProcessName::Rc),
-        cc: process(set, ProcessName::Cc),
+        lsc: actor(set, ProcessName::Lsc),
+        aerm: actor(set, ProcessName::Aerm),
+        suerm: actor(set, ProcessName::Suerm),
+        txc: actor(set, ProcessName::Txc),
+        rc: actor(set, ProcessName::Rc),
+        cc: actor(set, ProcessName::Cc),
     }
 }
 

@@ -1,27 +1,27 @@
-//! The numbers that the processes and signals of the environment have in a set.
+//! The numbers that the actors and signals of the environment have in a set.
 ghost use Rattle.std.specs.Prelude.{◌≡◌};
 ghost use Rattle.link_heart.specs.Offering.{number_of, notice_signal, notice_values, value_told, integer_told, boolean_told, plain_told, told_by};
 
 use arrayvec::ArrayVec;
 use link_machine::Emitted;
 use link_side::{EnvSignal, Notice, Party};
-use turn_code::{ProcessNumber, SignalNumber, Value};
+use turn_code::{SignalNumber, Value};
 
-/// The processes that the environment sends signals to.
+/// The actors that the environment sends signals to, by number: the first instance of each process.
 #[derive(Clone, Copy, PartialEq, Eq, Debug)]
 pub struct Parties {
     /// Link state control.
-    pub lsc: ProcessNumber,
+    pub lsc: u16,
     /// The alignment error rate monitor.
-    pub aerm: ProcessNumber,
+    pub aerm: u16,
     /// The signal unit error rate monitor.
-    pub suerm: ProcessNumber,
+    pub suerm: u16,
     /// Transmission control.
-    pub txc: ProcessNumber,
+    pub txc: u16,
     /// Reception control.
-    pub rc: ProcessNumber,
+    pub rc: u16,
     /// Congestion control.
-    pub cc: ProcessNumber,
+    pub cc: u16,
 }
 
 /// The signals by which the environment hands on commands.
@@ -71,17 +71,16 @@ pub struct Names {
     pub outputs: Outputs,
 }
 
-/// The number of an actor: that of its process.
+/// The number of an actor.
 pub(crate) fn actor_of(parties: &Parties, party: Party) -> u16
     ensures { result ≡ number_of parties.now party }
 {
-    let process = match party {
+    match party {
         Party::Aerm => parties.aerm,
         Party::Suerm => parties.suerm,
         Party::Txc => parties.txc,
         Party::Rc => parties.rc,
-    };
-    u16::from(process.0)
+    }
 }
 
 /// The signal of a notice.

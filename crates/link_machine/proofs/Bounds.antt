@@ -3,7 +3,6 @@ use Rattle.std.proofs.Common.{◌≡◌, ℕ, ◌+◌, ◌-◌, ◌*◌, ◌^◌
 use Rattle.std.specs.Prelude.{slice_get, nat_lt, nat_le}
 use Rattle.std.proofs.lemmas.Bool.Decides.{leb_tells}
 use Rattle.std.proofs.lemmas.List.{length-append}
-use Rattle.turn_code.specs.Outcome.{Outcome}
 use Rattle.turn_code.specs.Safe.{SafeLaw, RunLaw}
 use Rattle.turn_code.specs.Valid.{IsValid}
 use Rattle.turn_code.specs.declared.draft.Draft.{Draft}
@@ -11,7 +10,7 @@ use Rattle.link_machine.specs.Core.{Core, is_out, outs, change}
 use Rattle.link_machine.specs.Looking.{looks, begun, skipped}
 use Rattle.link_machine.specs.Effects.{receives}
 use Rattle.link_machine.specs.Fits.{CoreFits}
-use Rattle.link_machine.specs.Step.{step, finish_by, offered_arrival, passed}
+use Rattle.link_machine.specs.Step.{Stepped, step, offered_arrival, passed}
 use Rattle.link_machine.specs.Refusals.{refuses, first_of, of_actor, begin_rows, advance_rows, is_nothing, is_ignored, is_counted_out, needs, with_room}
 use Rattle.link_machine.specs.Ledger.{Ledger, runs, next, room}
 use Rattle.link_machine.specs.Kept.{IsBounded, is_finish}
@@ -61,13 +60,13 @@ record MayBegin (turns : ℕ) (o : Option Actor) : Type 0 where
   free : is_out actor ≡ false
   few : turns < 2 ^ 40
 
-may_begin : (d : Draft) (n turns : ℕ) (o : Option Actor) → of_actor (λ a. first_of (begin_rows d n turns a)) o ≡ None → MayBegin turns o
+may_begin : (d : Draft) (turns : ℕ) (o : Option Actor) → of_actor (λ a. first_of (begin_rows d turns a)) o ≡ None → MayBegin turns o
 unfolding begin_rows
-may_begin d n turns None h = cc
-may_begin d n turns (Some a) h =
+may_begin d turns None h = cc
+may_begin d turns (Some a) h =
     let out = row_passes (is_out a) _ _ h in
-    let found = row_passes (is_nothing (looks d n a)) _ _ out.1 in
-    let heard = row_passes (is_ignored (looks d n a)) _ _ found.1 in
+    let found = row_passes (is_nothing (looks d a)) _ _ out.1 in
+    let heard = row_passes (is_ignored (looks d a)) _ _ found.1 in
     let counted = row_passes (is_counted_out turns) _ _ heard.1 in
     record { actor = a; there = refl; free = out.0; few = leb-false (2 ^ 40) turns counted.0 }
 
@@ -102,8 +101,8 @@ unfolding step
 moves_begin n d w h may =
     let some : w.finishes + outs w.actors ≡ w.turns = h.finishes in
     let few : w.turns < 2 ^ 40 = may.few in
-    let more : outs (change w.actors n (begun d n w.turns)) ≡ outs w.actors + 1 =
-    outs_more (begun d n w.turns) w.actors n may.actor may.there may.free (begun_out d n w.turns may.actor) in
+    let more : outs (change w.actors n (begun d w.turns)) ≡ outs w.actors + 1 =
+    outs_more (begun d w.turns) w.actors n may.actor may.there may.free (begun_out d w.turns may.actor) in
     record {
       outs = omega arith;
       finishes = omega arith;
@@ -116,13 +115,13 @@ unfolding step refuses passed
 moves safe law d w (Offer o) valid fits h c =
     moves_on (Offer o) (step d (runs d) w (Offer o)).to w refl refl (outs_change (receives (offered_arrival o)) w.actors o.actor (receives_keeps (offered_arrival o))) refl refl refl
     c.clock c
-moves safe law d w (Begin n) valid fits h c = moves_begin n d w c (may_begin d n w.turns (slice_get w.actors n) h)
+moves safe law d w (Begin n) valid fits h c = moves_begin n d w c (may_begin d w.turns (slice_get w.actors n) h)
 moves safe law d w (Skip n) valid fits h c =
-    moves_on (Skip n) (step d (runs d) w (Skip n)).to w refl refl (outs_change (skipped d n) w.actors n (skipped_keeps d n)) refl refl refl c.clock c
+    moves_on (Skip n) (step d (runs d) w (Skip n)).to w refl refl (outs_change (skipped d) w.actors n (skipped_keeps d)) refl refl refl c.clock c
 moves safe law d w (Finish n) valid fits h c =
-    let e : ActorEnds d n (slice_get w.actors n) = turn_ends safe law d w n valid fits h in
-    subst (λ (o : Option Outcome). Moves (Finish n) (finish_by n w o).to w) (sym e.ended)
-    (moves_finish n w e.outcome.progress.count _ (less_finished n e.outcome w e.actor e.there e.out) e.count c)
+    let e : ActorEnds d n w (slice_get w.actors n) = turn_ends safe law d w n valid fits h in
+    subst (λ (x : Stepped). Moves (Finish n) x.to w) (sym e.ended)
+    (moves_finish n w e.outcome.progress.count _ (less_finished n e.actor.name e.outcome w e.actor e.there e.out) e.count c)
 moves safe law d w (Advance k) valid fits h c =
     moves_on (Advance k) (passed k w) w refl refl (outs_passed k w) refl refl refl (may_advance w.timers.clock k h) c
 moves safe law d w TakeEnv valid fits h c = moves_on TakeEnv (step d (runs d) w TakeEnv).to w refl refl refl refl refl refl c.clock c

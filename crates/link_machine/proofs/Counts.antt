@@ -15,7 +15,10 @@ use Rattle.turn_code.specs.declared.machine.End.TheVariants.{State, Stop}
 use Rattle.input_port.specs.declared.queue.Arrival.{Arrival}
 use Rattle.tick_wheel.specs.Timers.{Timers}
 use Rattle.tick_wheel.specs.declared.Due.{Due}
-use Rattle.link_machine.specs.Core.{Core, set_at, change, is_out, outs}
+use Rattle.turn_code.specs.declared.numbers.InstanceNumber.{InstanceNumber}
+use Rattle.actor_names.specs.Names.{number_for}
+use Rattle.actor_names.specs.declared.name.ActorName.{ActorName}
+use Rattle.link_machine.specs.Core.{Core, set_at, change, change_found, is_out, outs, names_in}
 use Rattle.link_machine.specs.Looking.{begun, skipped}
 use Rattle.link_machine.specs.Effects.{reached, receives, drops, hears, delivered, laid, laid_all, settled, moved, ended, started, finished, timers_after, without_first_timers, without_timers}
 use Rattle.link_machine.specs.Step.{notified, due_in, passed}
@@ -51,6 +54,10 @@ kept_at f xs n (Some a) keeps h =
 
 pub outs_change : (f : Actor → Actor) (xs : List Actor) (n : ℕ) → Keeps f → outs (change xs n f) ≡ outs xs
 outs_change f xs n keeps = kept_at f xs n (slice_get xs n) keeps refl
+
+pub outs_found : (f : Actor → Actor) (xs : List Actor) (o : Option ℕ) → Keeps f → outs (change_found xs o f) ≡ outs xs
+outs_found f xs None keeps = refl
+outs_found f xs (Some n) keeps = outs_change f xs n keeps
 
 -- an actor that begins a turn
 more_at : (f : Actor → Actor) (xs : List Actor) (n : ℕ) (o : Option Actor) (a : Actor) → slice_get xs n ≡ o → o ≡ Some a
@@ -100,18 +107,18 @@ pub hears_keeps : (timer : ℕ) → Keeps (hears timer)
 unfolding Keeps
 hears_keeps timer a = refl
 
-pub skipped_keeps : (d : Draft) (n : ℕ) → Keeps (skipped d n)
+pub skipped_keeps : (d : Draft) → Keeps (skipped d)
 unfolding Keeps skipped
-skipped_keeps d n a = refl
+skipped_keeps d a = refl
 
 pub moved_keeps : (e : End) → Keeps (moved e)
 unfolding Keeps
 moved_keeps (State q) a = refl
 moved_keeps Stop a = refl
 
-pub begun_out : (d : Draft) (n turn : ℕ) (a : Actor) → is_out (begun d n turn a) ≡ true
+pub begun_out : (d : Draft) (turn : ℕ) (a : Actor) → is_out (begun d turn a) ≡ true
 unfolding begun
-begun_out d n turn a = refl
+begun_out d turn a = refl
 
 pub settled_in : (o : Outcome) (a : Actor) → is_out (settled o a) ≡ false
 settled_in o a = refl
@@ -126,21 +133,21 @@ pub record Same (v w : Core) : Type 0 where
   pub instructions : v.instructions ≡ w.instructions
   pub clock : v.timers.clock ≡ w.timers.clock
 
-same_delivered : (n : ℕ) (w : Core) (s : Sending) (p : Party) → Same (delivered n w s p) w
-same_delivered n w s Environment = record { outs = refl; turns = refl; finishes = refl; instructions = refl; clock = refl }
-same_delivered n w s (Process m) = record {
-  outs = outs_change (receives _) w.actors m.0 (receives_keeps _);
+same_delivered : (me : ActorName) (w : Core) (s : Sending) (p : Party) (k : Option InstanceNumber) → Same (delivered me w s p k) w
+same_delivered me w s Environment k = record { outs = refl; turns = refl; finishes = refl; instructions = refl; clock = refl }
+same_delivered me w s (Process m) k = record {
+  outs = outs_found (receives _) w.actors (number_for (names_in w.actors) me m k) (receives_keeps _);
   turns = refl;
   finishes = refl;
   instructions = refl;
   clock = refl;
 }
 
-same_laid : (n : ℕ) (w : Core) (e : Effect) → Same (laid n w e) w
-same_laid n w (Output s) = same_delivered n w s s.receiver
-same_laid n w (Set t z) =
+same_laid : (n : ℕ) (me : ActorName) (w : Core) (e : Effect) → Same (laid n me w e) w
+same_laid n me w (Output s) = same_delivered me w s s.receiver.party s.receiver.instance
+same_laid n me w (Set t z) =
     record { outs = outs_change (drops t.0) w.actors n (drops_keeps t.0); turns = refl; finishes = refl; instructions = refl; clock = refl }
-same_laid n w (Reset t) =
+same_laid n me w (Reset t) =
     record { outs = outs_change (drops t.0) w.actors n (drops_keeps t.0); turns = refl; finishes = refl; instructions = refl; clock = refl }
 
 same_then : {u v w : Core} → Same u v → Same v w → Same u w
@@ -152,9 +159,9 @@ same_then a b = record {
   clock = a.clock ∙ b.clock;
 }
 
-pub same_laid_all : (n : ℕ) (w : Core) (es : List Effect) → Same (laid_all n w es) w
-same_laid_all n w [] = record { outs = refl; turns = refl; finishes = refl; instructions = refl; clock = refl }
-same_laid_all n w (e ∷ es) = same_then (same_laid_all n (laid n w e) es) (same_laid n w e)
+pub same_laid_all : (n : ℕ) (me : ActorName) (w : Core) (es : List Effect) → Same (laid_all n me w es) w
+same_laid_all n me w [] = record { outs = refl; turns = refl; finishes = refl; instructions = refl; clock = refl }
+same_laid_all n me w (e ∷ es) = same_then (same_laid_all n me (laid n me w e) es) (same_laid n me w e)
 
 first_timers_clock : (ts : Timers) (n k : ℕ) → (without_first_timers ts n k).clock ≡ ts.clock
 first_timers_clock ts n zero = refl
@@ -201,11 +208,11 @@ same_less a b = record {
   clock = a.clock ∙ b.clock;
 }
 
-pub less_finished : (n : ℕ) (o : Outcome) (w : Core) (a : Actor) → slice_get w.actors n ≡ Some a → is_out a ≡ true
-    → OneLess o.progress.count (finished n o w) w
+pub less_finished : (n : ℕ) (me : ActorName) (o : Outcome) (w : Core) (a : Actor) → slice_get w.actors n ≡ Some a → is_out a ≡ true
+    → OneLess o.progress.count (finished n me o w) w
 unfolding finished
-less_finished n o w a h out =
-    same_less (same_then (same_ended n o.end (laid_all n (started n o w) o.progress.effects)) (same_laid_all n (started n o w) o.progress.effects))
+less_finished n me o w a h out =
+    same_less (same_then (same_ended n o.end (laid_all n me (started n o w) o.progress.effects)) (same_laid_all n me (started n o w) o.progress.effects))
     (less_started n o w a h out)
 
 -- ---- ticks
@@ -213,8 +220,8 @@ less_finished n o w a h out =
 outs_notified : (actors : List Actor) (xs : List Due) → outs (notified actors xs) ≡ outs actors
 outs_notified actors [] = refl
 outs_notified actors (x ∷ xs) =
-    outs_notified (change actors x.timer.process (hears x.timer.number)) xs
-    ∙ outs_change (hears x.timer.number) actors x.timer.process (hears_keeps x.timer.number)
+    outs_notified (change actors x.timer.actor (hears x.timer.number)) xs
+    ∙ outs_change (hears x.timer.number) actors x.timer.actor (hears_keeps x.timer.number)
 
 -- how many actors have a turn out after some ticks
 pub outs_passed : (k : ℕ) (w : Core) → outs (passed k w).actors ≡ outs w.actors

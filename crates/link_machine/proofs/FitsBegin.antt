@@ -28,7 +28,7 @@ use Rattle.link_machine.specs.Refusals.{is_nothing, is_ignored}
 use Rattle.link_machine.specs.declared.actor.Actor.{Actor}
 use Rattle.link_machine.specs.declared.actor.Standing.{Standing}
 use Rattle.link_machine.specs.declared.actor.Standing.TheVariants.{At, Stopped}
-use Rattle.link_machine.proofs.FitsLists.{found_first}
+use Rattle.link_machine.proofs.FitsLists.{NamesStay, found_first}
 use Rattle.link_machine.proofs.FitsActors.{Sits, Rests, with_items}
 
 -- ---- the item that is taken
@@ -139,17 +139,29 @@ module _ (start_fits : StartLaw) (d : Draft) (valid : IsValid d) (n : ℕ) (a : 
 
 -- ---- the actor then
 
-pub sits_begun : StartLaw → (d : Draft) → IsValid d → (n turn : ℕ) (a : Actor) → Sits d (Rests d) n a → is_nothing (looks d n a) ≡ false → is_ignored (looks d n a) ≡ false
-    → Sits d (Rests d) n (begun d n turn a)
+pub sits_begun : StartLaw → (d : Draft) → IsValid d → (n turn : ℕ) (a : Actor) → Sits d (Rests d) n a → is_nothing (looks d a) ≡ false → is_ignored (looks d a) ≡ false
+    → Sits d (Rests d) n (begun d turn a)
 unfolding looks given_now begun
-sits_begun start_fits d valid n turn a h something heard = record {
-  process = h.process;
-  there = h.there;
-  variables = h.variables;
-  rest = (h.rest.0, turn_given start_fits d valid n a h.process h.there h.variables turn a.port.items a.standing h.items h.rest.0 something heard);
-  items = all_left (ItemFits d n h.process) d n a.standing a.port.items h.items;
-}
+sits_begun start_fits d valid n turn a h something heard =
+    let p = a.name.process.0 in
+    record {
+      process = h.process;
+      there = h.there;
+      variables = h.variables;
+      rest = (h.rest.0, turn_given start_fits d valid p a h.process h.there h.variables turn a.port.items a.standing h.items h.rest.0 something heard);
+      items = all_left (ItemFits d p h.process) d p a.standing a.port.items h.items;
+    }
 
-pub sits_skipped : (d : Draft) (n : ℕ) (a : Actor) → Sits d (Rests d) n a → Sits d (Rests d) n (skipped d n a)
+pub sits_skipped : (d : Draft) (n : ℕ) (a : Actor) → Sits d (Rests d) n a → Sits d (Rests d) n (skipped d a)
 unfolding skipped
-sits_skipped d n a h = with_items d (Rests d) n a h (left_at d n a.standing a.port.items) (all_left (ItemFits d n h.process) d n a.standing a.port.items h.items)
+sits_skipped d n a h =
+    let p = a.name.process.0 in
+    with_items d (Rests d) n a h (left_at d p a.standing a.port.items) (all_left (ItemFits d p h.process) d p a.standing a.port.items h.items)
+
+pub begun_stays : (d : Draft) (turn : ℕ) → NamesStay (begun d turn)
+unfolding NamesStay begun
+begun_stays d turn a = refl
+
+pub skipped_stays : (d : Draft) → NamesStay (skipped d)
+unfolding NamesStay skipped
+skipped_stays d a = refl

@@ -1,11 +1,13 @@
 -- Lists of which one element changes, and lists each of whose elements has a property.
-use Rattle.std.proofs.Common.{◌≡◌, ◌≢◌, ℕ, zero, suc, Bool, true, false, cond, List, [], ◌∷◌, length, Option, Some, None, refl, sym, ◌∙◌, subst, inl, inr, arith, length-set}
-use Rattle.std.specs.Prelude.{slice_get, position, filter, Contains}
+use Rattle.std.proofs.Common.{◌≡◌, ◌≢◌, ℕ, zero, suc, Bool, true, false, cond, List, [], ◌∷◌, length, map, ap, Option, Some, None, refl, sym, ◌∙◌, subst, inl, inr, arith, length-set}
+use Rattle.std.specs.Prelude.{slice_get, slice_set, option_map, position, filter, Contains}
 use Rattle.std.specs.List.{AllByRecursion}
-use Rattle.std.proofs.lemmas.Option.{same_Some, none-some, slice_get-get_or}
+use Rattle.std.proofs.lemmas.Option.{same_Some, none-some, slice_get-get_or, slice_get-map}
 use Rattle.std.proofs.lemmas.Bool.Decides.{eqb_tells}
 use Rattle.std.proofs.lemmas.List.Quantifiers.{position-Some}
-use Rattle.link_machine.specs.Core.{change, set_at}
+use Rattle.actor_names.specs.declared.name.ActorName.{ActorName}
+use Rattle.link_machine.specs.Core.{change, change_found, set_at, names_in}
+use Rattle.link_machine.specs.declared.actor.Actor.{Actor}
 use Rattle.plain_laws.proofs.Places.{written_same, get_set_other as written_other}
 
 -- what holds of each element with its place
@@ -34,6 +36,38 @@ change-length {A} xs n f = by (slice_get xs n)
     by : (o : Option A) → length (set_at xs n f o) ≡ length xs
     by None = refl
     by (Some x) = length-set xs n (f x)
+
+-- what is read of each element stays, where the change keeps it
+map_set : {A B : Type 0} (g : A → B) (xs : List A) (n : ℕ) (x y : A) → slice_get xs n ≡ Some x → g y ≡ g x → map g (slice_set xs n y) ≡ map g xs
+map_set g [] n x y e h = absurd (none-some x e)
+map_set g (z ∷ xs) zero x y e h = ap (λ u. u ∷ map g xs) (h ∙ ap g (sym (same_Some z x e)))
+map_set g (z ∷ xs) (suc n) x y e h = ap (λ us. g z ∷ us) (map_set g xs n x y e h)
+
+change_map : {A B : Type 0} (g : A → B) (xs : List A) (n : ℕ) (f : A → A) → ((a : A) → g (f a) ≡ g a) → map g (change xs n f) ≡ map g xs
+change_map {A} g xs n f keeps = by (slice_get xs n) refl
+  where
+    by : (o : Option A) → slice_get xs n ≡ o → map g (set_at xs n f o) ≡ map g xs
+    by None e = refl
+    by (Some x) e = map_set g xs n x (f x) e (keeps x)
+
+-- an actor keeps its name
+unfoldable pub NamesStay : (Actor → Actor) → Type 0
+NamesStay f = (a : Actor) → (f a).name ≡ a.name
+
+pub names_change : (xs : List Actor) (n : ℕ) (f : Actor → Actor) → NamesStay f → names_in (change xs n f) ≡ names_in xs
+unfolding NamesStay
+names_change xs n f keeps = change_map (λ (a : Actor). a.name) xs n f keeps
+
+pub names_found : (xs : List Actor) (o : Option ℕ) (f : Actor → Actor) → NamesStay f → names_in (change_found xs o f) ≡ names_in xs
+names_found xs None f keeps = refl
+names_found xs (Some n) f keeps = names_change xs n f keeps
+
+-- an actor's name by its number
+pub name_there : (xs : List Actor) (n : ℕ) (a : Actor) → slice_get xs n ≡ Some a → slice_get (names_in xs) n ≡ Some a.name
+name_there xs n a e = slice_get-map (λ (a : Actor). a.name) xs n ∙ ap (option_map (λ (a : Actor). a.name)) e
+
+pub name_is : (xs : List Actor) (n : ℕ) (a : Actor) (x : ActorName) → slice_get xs n ≡ Some a → slice_get (names_in xs) n ≡ Some x → a.name ≡ x
+name_is xs n a x e at = same_Some a.name x (sym (name_there xs n a e) ∙ at)
 
 -- the others have a property as before, and the one that changes has it then
 pub change_each : {A : Type 0} (P Q : ℕ → A → Type 0) (xs : List A) (n : ℕ) (f : A → A) → EachAt P xs

@@ -61,15 +61,15 @@ some_brings n s rs e =
     let found = Any-from_list_any (offers n s) rs e in
     (found.0, found.1, found.2, found.3, route_brings n s found.1 found.4)
 
-pub offered_arrives : (d : Draft) (o : Offered) → is_offered d o.actor o.signal o.values.items ≡ true → Arrived d o.actor (offered_arrival o)
+pub offered_arrives : (d : Draft) (n : ℕ) (o : Offered) → is_offered d n o.signal o.values.items ≡ true → Arrived d n (offered_arrival o)
 unfolding is_offered
-offered_arrives d o e =
+offered_arrives d n o e =
     let there = nat_lt o.signal.0 (length d.signals) in
     let sorts = same_sorts (map sort_of o.values.items) (parameters_of (slice_get d.signals o.signal.0)) in
-    let outer = both_pass (list_any (offers o.actor o.signal) d.routes) (there && sorts) e in
+    let outer = both_pass (list_any (offers n o.signal) d.routes) (there && sorts) e in
     let inner = both_pass there sorts outer.1 in
     record {
       there = (Decides-ltb o.signal.0 (length d.signals)).0 inner.0;
       sorts = equal_sorts (map sort_of o.values.items) (parameters_of (slice_get d.signals o.signal.0)) inner.1;
-      brought = some_brings o.actor o.signal d.routes outer.0;
+      brought = some_brings n o.signal d.routes outer.0;
     }

@@ -12,7 +12,8 @@ use Rattle.turn_code.specs.declared.machine.End.TheVariants.{State, Stop}
 use Rattle.tick_wheel.specs.TimerId.{TimerId, timer_cmp}
 use Rattle.tick_wheel.specs.Timers.{Timers, Deadlines, is_due, not_due}
 use Rattle.link_machine.specs.Effects.{timer_of, until, without, without_first_timers, without_timers, timers_after}
-use Rattle.link_machine.specs.Fits.{TimerFits, TimersFit}
+use Rattle.actor_names.specs.declared.name.ActorName.{ActorName}
+use Rattle.link_machine.specs.Fits.{IsCalled, TimerFits, TimersFit}
 use Rattle.tick_wheel.proofs.Orders.{timers_total as total, exact_timers as exact}
 use Rattle.plain_laws.proofs.Options.{is_Equal as tied}
 
@@ -46,9 +47,10 @@ retained d m clock fits = λ t u h.
 
 -- ---- what a turn does to them
 
-pub until_fits : (d : Draft) (ts : Timers) (n timer k : ℕ) (p : DraftProcess) → slice_get d.processes n ≡ Some p → timer < length p.timers → TimersFit d ts.deadlines
+pub until_fits : (d : Draft) (ts : Timers) (n timer k : ℕ) (me : ActorName) (p : DraftProcess) → IsCalled d n me → slice_get d.processes me.process.0 ≡ Some p → timer < length p.timers → TimersFit d ts.deadlines
     → TimersFit d (until ts n timer k).deadlines
-until_fits d ts n timer k p there within fits = inserted d ts.deadlines (timer_of n timer) (ts.clock + k) fits (record { process = p; there = there; number = within })
+until_fits d ts n timer k me p called there within fits =
+    inserted d ts.deadlines (timer_of n timer) (ts.clock + k) fits (record { name = me; actor = called; process = p; there = there; number = within })
 
 pub without_fits : (d : Draft) (ts : Timers) (n timer : ℕ) → TimersFit d ts.deadlines → TimersFit d (without ts n timer).deadlines
 without_fits d ts n timer fits = removed d ts.deadlines (timer_of n timer) fits

@@ -1,17 +1,20 @@
 -- What holds of every book is kept.
-use Rattle.std.proofs.Common.{◌≡◌, ℕ, ◌+◌, ◌^◌, ◌≤◌, cond, List, [], ◌∷◌, ◌++◌, length, map, Option, Some, None, refl, sym, ap, ◌∙◌, subst, arith}
+use Rattle.std.proofs.Common.{◌≡◌, ℕ, ◌+◌, ◌^◌, ◌≤◌, Bool, false, cond, List, [], ◌∷◌, ◌++◌, length, Option, Some, None, refl, sym, ap, ◌∙◌, subst, arith}
 use Rattle.std.specs.Prelude.{count_by}
 use Rattle.std.proofs.lemmas.List.Sums.{sum_by-cons, sum_by_push}
 use Rattle.turn_code.specs.Safe.{SafeLaw, RunLaw}
 use Rattle.turn_code.specs.Valid.{IsValid}
 use Rattle.turn_code.specs.declared.draft.Draft.{Draft}
 use Rattle.turn_code.specs.declared.draft.DraftProcess.{DraftProcess}
-use Rattle.link_machine.specs.Core.{Core, outs}
+use Rattle.std.specs.List.{AllByRecursion}
+use Rattle.link_machine.specs.Core.{Core, is_out, outs}
+use Rattle.link_machine.specs.declared.actor.Actor.{Actor}
+use Rattle.link_machine.proofs.Opened.{opened_all}
 use Rattle.link_machine.specs.Fits.{CoreFits}
 use Rattle.link_machine.specs.Step.{Stepped, step}
 use Rattle.link_machine.specs.Refusals.{refuses}
 use Rattle.link_machine.specs.Ledger.{Ledger, runs, state_of, refusal_by, asked, ask, ask_by, room, rebased, after_by}
-use Rattle.link_machine.specs.Kept.{Stands, IsBounded, AreNumbered, IsKept, is_finish, opened_actor, opened, opened_book}
+use Rattle.link_machine.specs.Kept.{Stands, IsBounded, AreNumbered, IsKept, is_finish, opened_from, opened, opened_book}
 use Rattle.link_machine.specs.Laws.{WithinAt, AllWithin}
 use Rattle.link_machine.specs.declared.event.Event.{Event}
 use Rattle.link_machine.specs.declared.event.Event.TheVariants.{Offer, Begin, Skip, Finish, Advance, TakeEnv}
@@ -114,19 +117,22 @@ rebases b h =
 
 -- ---- a book that is opened
 
-outs_opened : (port : ℕ) (ps : List DraftProcess) → outs (map (opened_actor port) ps) ≡ 0
-outs_opened port [] = refl
-outs_opened port (p ∷ ps) =
-    let first : outs (map (opened_actor port) (p ∷ ps)) ≡ weight (opened_actor port p) + outs (map (opened_actor port) ps) =
-    sum_by-cons weight (opened_actor port p) (map (opened_actor port) ps) in
-    let rest = outs_opened port ps in
+none_out : (xs : List Actor) → AllByRecursion (λ (a : Actor). is_out a ≡ false) xs → outs xs ≡ 0
+none_out [] all = refl
+none_out (a ∷ xs) all =
+    let first : outs (a ∷ xs) ≡ weight a + outs xs = sum_by-cons weight a xs in
+    let one : weight a ≡ 0 = ap (λ (b : Bool). cond b 1 0) all.0 in
+    let rest = none_out xs all.1 in
     omega arith
+
+outs_opened : (port : ℕ) (ps : List DraftProcess) → outs (opened_from port 0 ps) ≡ 0
+outs_opened port ps = none_out (opened_from port 0 ps) (opened_all (λ (a : Actor). is_out a ≡ false) port 0 ps (λ k p x there e. refl))
 
 pub opens : ((d : Draft) (port env : ℕ) → IsValid d → CoreFits d (opened d port env))
     → (d : Draft) (port env journal : ℕ) → IsValid d → journal ≤ 65536 → IsKept (opened_book d port env journal)
 unfolding opened opened_book
 opens fits d port env journal valid small =
-    let none : outs (map (opened_actor port) d.processes) ≡ 0 = outs_opened port d.processes in
+    let none : outs (opened_from port 0 d.processes) ≡ 0 = outs_opened port d.processes in
     record {
       stands = record { valid = valid; along = fits d port env valid; finishes = omega arith };
       bounded = record {

@@ -11,5 +11,7 @@ pub mod FitsFinish
 pub mod FitsBegin
 pub mod FitsOffer
 pub mod FitsSteps
+pub mod Opened
 pub mod Places
 pub mod Numbers
+pub use Rattle.actor_names.proofs.Numbering

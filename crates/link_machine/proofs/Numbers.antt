@@ -1,7 +1,7 @@
 -- The numbers of the turns that are out.
 use Rattle.std.proofs.Common.{◌≡◌, ◌≢◌, ℕ, ◌+◌, ◌<◌, ◌≤◌, ◌⊎◌, inl, inr, List, [], ◌∷◌, map, Option, Some, None, refl, sym, ap, ◌∙◌, subst, arith}
-use Rattle.std.specs.Prelude.{slice_get, option_map}
-use Rattle.std.proofs.lemmas.Option.{same_Some, none-some, slice_get-map}
+use Rattle.std.specs.Prelude.{slice_get, Result, Ok, Err}
+use Rattle.std.proofs.lemmas.Option.{same_Some, none-some}
 use Rattle.turn_code.specs.Outcome.{Outcome}
 use Rattle.turn_code.specs.Safe.{SafeLaw, RunLaw}
 use Rattle.turn_code.specs.Transitions.{Transition, transition_at}
@@ -13,18 +13,23 @@ use Rattle.turn_code.specs.declared.effect.Sending.{Sending}
 use Rattle.turn_code.specs.declared.input.Party.{Party}
 use Rattle.turn_code.specs.declared.input.Party.TheVariants.{Environment, Process}
 use Rattle.turn_code.specs.declared.input.Place.{Place}
+use Rattle.turn_code.specs.declared.numbers.InstanceNumber.{InstanceNumber}
+use Rattle.turn_code.specs.declared.numbers.ProcessNumber.{ProcessNumber}
+use Rattle.turn_code.specs.declared.trouble.Trouble.{Trouble}
+use Rattle.actor_names.specs.Names.{number_for}
+use Rattle.actor_names.specs.declared.name.ActorName.{ActorName}
 use Rattle.turn_code.specs.declared.machine.End.{End}
 use Rattle.turn_code.specs.declared.machine.End.TheVariants.{State, Stop}
 use Rattle.turn_machine.specs.Turn.{Turn, turn_of}
 use Rattle.input_port.specs.declared.queue.Arrival.{Arrival}
 use Rattle.tick_wheel.specs.declared.Due.{Due}
-use Rattle.link_machine.specs.Core.{Core, change}
+use Rattle.link_machine.specs.Core.{Core, change, change_found, names_in}
 use Rattle.link_machine.specs.Looking.{begun, skipped, given_now}
 use Rattle.link_machine.specs.Effects.{arrival_of, reached, receives, drops, hears, delivered, laid, laid_all, settled, moved, started, finished}
 use Rattle.link_machine.specs.Refusals.{refuses}
-use Rattle.link_machine.specs.Step.{Stepped, step, finish_by, outcome_at, offered_arrival, notified, due_in, passed}
+use Rattle.link_machine.specs.Step.{Stepped, step, finish_by, finish_at, result_given, offered_arrival, notified, due_in, passed}
 use Rattle.link_machine.specs.Ledger.{Ledger, runs, state_of, refusal_by, asked, ask, ask_by, room, rebased, after_by, turn_with, turn_given, turn_at, turn_out}
-use Rattle.link_machine.specs.Kept.{HasOut, AreNumbered, IsKept, opened_actor, opened}
+use Rattle.link_machine.specs.Kept.{HasOut, AreNumbered, IsKept, opened_actor, opened_from, opened}
 use Rattle.link_machine.specs.Laws.{IsOver, OverLaw}
 use Rattle.link_machine.specs.declared.actor.Actor.{Actor}
 use Rattle.link_machine.specs.declared.actor.Given.{Given}
@@ -37,6 +42,7 @@ use Rattle.link_machine.proofs.Replays.{with_event, ask_set, state_more, state_l
 use Rattle.link_machine.proofs.Ends.{turn_ends, passes_otherwise, out_law}
 use Rattle.link_machine.proofs.Counts.{same_laid_all, same_ended}
 use Rattle.link_machine.proofs.FitsLists.{change_each}
+use Rattle.link_machine.proofs.Opened.{opened_all, each_of}
 
 -- ---- one actor changes
 
@@ -57,6 +63,10 @@ changed_out W xs n f others one k g h =
 fewer_change : (f : Actor → Actor) (xs : List Actor) (n : ℕ) → ((a : Actor) → (f a).given ≡ a.given) → Fewer (change xs n f) xs
 fewer_change f xs n same = changed_out (λ (k : ℕ) (g : Given). HasOut xs k g) xs n f (λ k g other h. h) (λ a g there e. record { actor = a; there = there; out = sym (same a) ∙ e })
 
+fewer_found : (f : Actor → Actor) (xs : List Actor) (o : Option ℕ) → ((a : Actor) → (f a).given ≡ a.given) → Fewer (change_found xs o f) xs
+fewer_found f xs None same = λ k g h. h
+fewer_found f xs (Some n) same = fewer_change f xs n same
+
 receives_given : (arrival : Arrival) (a : Actor) → (receives arrival a).given ≡ a.given
 receives_given arrival a = by a.standing
   where
@@ -64,45 +74,45 @@ receives_given arrival a = by a.standing
     by (At s) = refl
     by Stopped = refl
 
-skipped_given : (d : Draft) (n : ℕ) (a : Actor) → (skipped d n a).given ≡ a.given
+skipped_given : (d : Draft) (a : Actor) → (skipped d a).given ≡ a.given
 unfolding skipped
-skipped_given d n a = refl
+skipped_given d a = refl
 
 moved_given : (e : End) (a : Actor) → (moved e a).given ≡ a.given
 moved_given (State q) a = refl
 moved_given Stop a = refl
 
-begun_given : (d : Draft) (n turn : ℕ) (a : Actor) (g : Given) → (begun d n turn a).given ≡ Some g → g.turn ≡ turn
+begun_given : (d : Draft) (turn : ℕ) (a : Actor) (g : Given) → (begun d turn a).given ≡ Some g → g.turn ≡ turn
 unfolding begun given_now
-begun_given d n turn a g e = sym (ap (λ (x : Given). x.turn) (same_Some (given_now d n turn a) g e))
+begun_given d turn a g e = sym (ap (λ (x : Given). x.turn) (same_Some (given_now d turn a) g e))
 
 -- ---- a turn that ends
 
-fewer_delivered : (n : ℕ) (w : Core) (s : Sending) (p : Party) → Fewer (delivered n w s p).actors w.actors
-fewer_delivered n w s Environment = λ k g h. h
-fewer_delivered n w s (Process m) = fewer_change (receives (arrival_of n s)) w.actors m.0 (receives_given (arrival_of n s))
+fewer_delivered : (me : ActorName) (w : Core) (s : Sending) (p : Party) (k : Option InstanceNumber) → Fewer (delivered me w s p k).actors w.actors
+fewer_delivered me w s Environment i = λ k g h. h
+fewer_delivered me w s (Process m) i = fewer_found (receives (arrival_of me s)) w.actors (number_for (names_in w.actors) me m i) (receives_given (arrival_of me s))
 
-fewer_laid : (n : ℕ) (w : Core) (e : Effect) → Fewer (laid n w e).actors w.actors
-fewer_laid n w (Output s) = fewer_delivered n w s s.receiver
-fewer_laid n w (Set t z) = fewer_change (drops t.0) w.actors n (λ a. refl)
-fewer_laid n w (Reset t) = fewer_change (drops t.0) w.actors n (λ a. refl)
+fewer_laid : (n : ℕ) (me : ActorName) (w : Core) (e : Effect) → Fewer (laid n me w e).actors w.actors
+fewer_laid n me w (Output s) = fewer_delivered me w s s.receiver.party s.receiver.instance
+fewer_laid n me w (Set t z) = fewer_change (drops t.0) w.actors n (λ a. refl)
+fewer_laid n me w (Reset t) = fewer_change (drops t.0) w.actors n (λ a. refl)
 
-fewer_laid_all : (n : ℕ) (es : List Effect) (w : Core) → Fewer (laid_all n w es).actors w.actors
-fewer_laid_all n [] w = λ k g h. h
-fewer_laid_all n (e ∷ es) w = λ k g h. fewer_laid n w e k g (fewer_laid_all n es (laid n w e) k g h)
+fewer_laid_all : (n : ℕ) (me : ActorName) (es : List Effect) (w : Core) → Fewer (laid_all n me w es).actors w.actors
+fewer_laid_all n me [] w = λ k g h. h
+fewer_laid_all n me (e ∷ es) w = λ k g h. fewer_laid n me w e k g (fewer_laid_all n me es (laid n me w e) k g h)
 
 -- the others have the same turns out, and the actor has none
-out_finished : (n : ℕ) (o : Outcome) (w : Core) (k : ℕ) (g : Given) → HasOut (finished n o w).actors k g → (k ≢ n) × HasOut w.actors k g
+out_finished : (n : ℕ) (me : ActorName) (o : Outcome) (w : Core) (k : ℕ) (g : Given) → HasOut (finished n me o w).actors k g → (k ≢ n) × HasOut w.actors k g
 unfolding finished
-out_finished n o w k g h =
+out_finished n me o w k g h =
     changed_out (λ (k : ℕ) (g : Given). (k ≢ n) × HasOut w.actors k g) w.actors n (settled o) (λ k g other h. (other, h)) (λ a g there e. absurd (none-some g e)) k g
-    (fewer_laid_all n o.progress.effects (started n o w) k g
-    (fewer_change (moved o.end) (laid_all n (started n o w) o.progress.effects).actors n (moved_given o.end) k g h))
+    (fewer_laid_all n me o.progress.effects (started n o w) k g
+    (fewer_change (moved o.end) (laid_all n me (started n o w) o.progress.effects).actors n (moved_given o.end) k g h))
 
-turns_finished : (n : ℕ) (o : Outcome) (w : Core) → (finished n o w).turns ≡ w.turns
+turns_finished : (n : ℕ) (me : ActorName) (o : Outcome) (w : Core) → (finished n me o w).turns ≡ w.turns
 unfolding finished
-turns_finished n o w =
-    (same_ended n o.end (laid_all n (started n o w) o.progress.effects)).turns ∙ (same_laid_all n (started n o w) o.progress.effects).turns
+turns_finished n me o w =
+    (same_ended n o.end (laid_all n me (started n o w) o.progress.effects)).turns ∙ (same_laid_all n me (started n o w) o.progress.effects).turns
 
 -- ---- one event
 
@@ -121,15 +131,20 @@ record Turns (v w : Core) : Type 0 where
 no_more : (v w : Core) → v.turns ≡ w.turns → Fewer v.actors w.actors → Turns v w
 no_more v w same fewer = record { actor = 0; grows = omega (arith, same); each = λ k g h. inl (fewer k g h) }
 
-turns_finish : (n : ℕ) (w : Core) (o : Option Outcome) → Turns (finish_by n w o).to w
-turns_finish n w None = no_more w w refl (λ k g h. h)
-turns_finish n w (Some o) = no_more (finished n o w) w (turns_finished n o w) (λ k g h. (out_finished n o w k g h).1)
+turns_finish : (n : ℕ) (me : ActorName) (w : Core) (r : Option (Result Outcome Trouble)) → Turns (finish_by n me w r).to w
+turns_finish n me w None = no_more w w refl (λ k g h. h)
+turns_finish n me w (Some (Err x)) = no_more w w refl (λ k g h. h)
+turns_finish n me w (Some (Ok o)) = no_more (finished n me o w) w (turns_finished n me o w) (λ k g h. (out_finished n me o w k g h).1)
+
+turns_finish_at : (d : Draft) (n : ℕ) (w : Core) (o : Option Actor) → Turns (finish_at (runs d) n w o).to w
+turns_finish_at d n w None = no_more w w refl (λ k g h. h)
+turns_finish_at d n w (Some a) = turns_finish n a.name w (result_given (runs d) a.name.process.0 a.standing a.given)
 
 fewer_notified : (xs : List Due) (actors : List Actor) → Fewer (notified actors xs) actors
 fewer_notified [] actors = λ k g h. h
 fewer_notified (x ∷ xs) actors = λ k g h.
-    fewer_change (hears x.timer.number) actors x.timer.process (λ a. refl) k g
-    (fewer_notified xs (change actors x.timer.process (hears x.timer.number)) k g h)
+    fewer_change (hears x.timer.number) actors x.timer.actor (λ a. refl) k g
+    (fewer_notified xs (change actors x.timer.actor (hears x.timer.number)) k g h)
 
 turns_step : (d : Draft) (w : Core) (e : Event) → Turns (step d (runs d) w e).to w
 unfolding step passed
@@ -139,11 +154,11 @@ turns_step d w (Begin n) =
     record {
       actor = n;
       grows = omega arith;
-      each = changed_out (λ (k : ℕ) (g : Given). HasOut w.actors k g ⊎ IsNew n v w k g) w.actors n (begun d n w.turns) (λ k g other h. inl h)
-          (λ a g there e. inr (record { at = refl; number = begun_given d n w.turns a g e; next = refl }));
+      each = changed_out (λ (k : ℕ) (g : Given). HasOut w.actors k g ⊎ IsNew n v w k g) w.actors n (begun d w.turns) (λ k g other h. inl h)
+          (λ a g there e. inr (record { at = refl; number = begun_given d w.turns a g e; next = refl }));
     }
-turns_step d w (Skip n) = no_more (step d (runs d) w (Skip n)).to w refl (fewer_change (skipped d n) w.actors n (skipped_given d n))
-turns_step d w (Finish n) = turns_finish n w (outcome_at (runs d) n (slice_get w.actors n))
+turns_step d w (Skip n) = no_more (step d (runs d) w (Skip n)).to w refl (fewer_change (skipped d) w.actors n (skipped_given d))
+turns_step d w (Finish n) = turns_finish_at d n w (slice_get w.actors n)
 turns_step d w (Advance k) = no_more (passed k w) w refl (fewer_notified (due_in w k) w.actors)
 turns_step d w TakeEnv = no_more (step d (runs d) w TakeEnv).to w refl (λ k g h. h)
 
@@ -177,12 +192,9 @@ numbered_next v w t h = record {
 pub numbered_step : (d : Draft) (w : Core) (e : Event) → AreNumbered w → AreNumbered (step d (runs d) w e).to
 numbered_step d w e h = numbered_next (step d (runs d) w e).to w (turns_step d w e) h
 
-none_opened : (port : ℕ) (ps : List DraftProcess) (n : ℕ) (g : Given) → HasOut (map (opened_actor port) ps) n g → ⊥
-none_opened port ps n g h = by (slice_get ps n) (sym (slice_get-map (opened_actor port) ps n) ∙ h.there)
-  where
-    by : (o : Option DraftProcess) → option_map (opened_actor port) o ≡ Some h.actor → ⊥
-    by None e = none-some h.actor e
-    by (Some p) e = none-some g (ap (λ (a : Actor). a.given) (same_Some (opened_actor port p) h.actor e) ∙ h.out)
+none_opened : (port : ℕ) (ps : List DraftProcess) (n : ℕ) (g : Given) → HasOut (opened_from port 0 ps) n g → ⊥
+none_opened port ps n g h =
+    none-some g (sym (each_of (λ (a : Actor). a.given ≡ None) (opened_from port 0 ps) (opened_all (λ (a : Actor). a.given ≡ None) port 0 ps (λ k p x there e. refl)) n h.actor h.there) ∙ h.out)
 
 pub numbered_opened : (d : Draft) (port env : ℕ) → AreNumbered (opened d port env)
 unfolding opened
@@ -199,10 +211,10 @@ record IsGiven (actors : List Actor) (n : ℕ) (t : Turn) : Type 0 where
   out : HasOut actors n given
   number : given.turn ≡ t.turn
 
-turn_number : (n : ℕ) (s : Place) (g : Given) (q : Option Transition) (t : Turn) → turn_with n s g q ≡ Some t → g.turn ≡ t.turn
-turn_number n s g None t e = absurd (none-some t e)
-turn_number n s g (Some x) t e =
-    ap (λ (u : Turn). u.turn) (same_Some (turn_of n g.turn (record { 0 = n }) s g.number x.piece.code x.piece.certificate g.input) t e)
+turn_number : (n : ℕ) (p : ProcessNumber) (s : Place) (g : Given) (q : Option Transition) (t : Turn) → turn_with n p s g q ≡ Some t → g.turn ≡ t.turn
+turn_number n p s g None t e = absurd (none-some t e)
+turn_number n p s g (Some x) t e =
+    ap (λ (u : Turn). u.turn) (same_Some (turn_of n g.turn p s g.number x.piece.code x.piece.certificate g.input) t e)
 
 -- a turn that is given has that number
 record HasNumber (o : Option Given) (t : Turn) : Type 0 where
@@ -210,10 +222,10 @@ record HasNumber (o : Option Given) (t : Turn) : Type 0 where
   there : o ≡ Some given
   number : given.turn ≡ t.turn
 
-given_number : (d : Draft) (n : ℕ) (s : Standing) (g : Option Given) (t : Turn) → turn_given d n s g ≡ Some t → HasNumber g t
-given_number d n (At s) None t e = absurd (none-some t e)
-given_number d n (At s) (Some g) t e = record { given = g; there = refl; number = turn_number n s g (transition_at d n s g.number) t e }
-given_number d n Stopped g t e = absurd (none-some t e)
+given_number : (d : Draft) (n : ℕ) (p : ProcessNumber) (s : Standing) (g : Option Given) (t : Turn) → turn_given d n p s g ≡ Some t → HasNumber g t
+given_number d n p (At s) None t e = absurd (none-some t e)
+given_number d n p (At s) (Some g) t e = record { given = g; there = refl; number = turn_number n p s g (transition_at d p.0 s g.number) t e }
+given_number d n p Stopped g t e = absurd (none-some t e)
 
 turn_is_given : (d : Draft) (actors : List Actor) (n : ℕ) (t : Turn) → turn_at d n (slice_get actors n) ≡ Some t → IsGiven actors n t
 turn_is_given d actors n t e = by (slice_get actors n) refl e
@@ -221,7 +233,7 @@ turn_is_given d actors n t e = by (slice_get actors n) refl e
     by : (o : Option Actor) → slice_get actors n ≡ o → turn_at d n o ≡ Some t → IsGiven actors n t
     by None there e = absurd (none-some t e)
     by (Some a) there e =
-        let has : HasNumber a.given t = given_number d n a.standing a.given t e in
+        let has : HasNumber a.given t = given_number d n a.name.process a.standing a.given t e in
         record { given = has.given; out = record { actor = a; there = there; out = has.there }; number = has.number }
 
 over_next : (v w : Core) (turn : ℕ) → Turns v w → IsOver w turn → IsOver v turn
@@ -249,15 +261,15 @@ over_ask b e turn h =
     (subst (λ (w : Core). IsOver w turn) (sym (state_more b e))
     (over_next (step b.set (runs b.set) (state_of b) e).to (state_of b) turn (turns_step b.set (state_of b) e) h))
 
-over_finished : (n : ℕ) (o : Outcome) (w : Core) (t : Turn) → AreNumbered w → IsGiven w.actors n t → IsOver (finished n o w) t.turn
-over_finished n o w t numbers is =
+over_finished : (n : ℕ) (me : ActorName) (o : Outcome) (w : Core) (t : Turn) → AreNumbered w → IsGiven w.actors n t → IsOver (finished n me o w) t.turn
+over_finished n me o w t numbers is =
     let same : is.given.turn ≡ t.turn = is.number in
     let under : is.given.turn < w.turns = numbers.below n is.given is.out in
-    let turns : (finished n o w).turns ≡ w.turns = turns_finished n o w in
+    let turns : (finished n me o w).turns ≡ w.turns = turns_finished n me o w in
     record {
       began = omega arith;
       nowhere = λ k g out equal.
-          let others = out_finished n o w k g out in
+          let others = out_finished n me o w k g out in
           others.0 (numbers.apart k n g is.given others.1 is.out (equal ∙ sym same));
     }
 
@@ -268,8 +280,8 @@ over_finish safe law b n t kept h =
     let accepted : refusal_by (runs b.set) b (Finish n) ≡ None = out_law.own b n t kept h in
     let e = turn_ends safe law b.set w n kept.stands.valid (fits_law b kept) (passes_otherwise (room b w) (Finish n) (refuses b.set w (Finish n)) accepted) in
     subst (λ (v : Core). IsOver v t.turn) (sym (state_law b (Finish n) accepted))
-    (subst (λ (o : Option Outcome). IsOver (finish_by n w o).to t.turn) (sym e.ended)
-    (over_finished n e.outcome w t kept.numbered (turn_is_given b.set w.actors n t h)))
+    (subst (λ (x : Stepped). IsOver x.to t.turn) (sym e.ended)
+    (over_finished n e.actor.name e.outcome w t kept.numbered (turn_is_given b.set w.actors n t h)))
 
 over_by : (d : Draft) (b : Ledger) (es : List Event) (turn : ℕ) → b.set ≡ d → IsOver (state_of b) turn → IsOver (state_of (after_by (runs d) b es)) turn
 over_by d b [] turn same h = h

@@ -1,13 +1,14 @@
 -- A book by the code of its set and by what the set means.
 use Rattle.std.proofs.Common.{◌≡◌, ℕ, List, [], ◌∷◌, ◌++◌, Option, Some, None, refl, sym, ap, ◌∙◌, subst}
-use Rattle.std.specs.Prelude.{slice_get}
-use Rattle.turn_code.specs.Outcome.{Meaning, Means}
+use Rattle.std.specs.Prelude.{slice_get, Result}
+use Rattle.turn_code.specs.declared.trouble.Trouble.{Trouble}
+use Rattle.turn_code.specs.Outcome.{Outcome, Meaning, Means}
 use Rattle.turn_code.specs.Transitions.{Transition}
 use Rattle.turn_code.specs.Valid.{IsValid}
 use Rattle.turn_code.specs.declared.draft.Draft.{Draft}
 use Rattle.link_machine.specs.Core.{Core}
 use Rattle.link_machine.specs.Fits.{CoreFits, ActorFits, GivenFits}
-use Rattle.link_machine.specs.Step.{Answer, Stepped, step, finish_by, outcome_given, outcome_at}
+use Rattle.link_machine.specs.Step.{Answer, Stepped, step, finish_by, finish_at, result_given}
 use Rattle.link_machine.specs.Refusals.{refuses, refuses_in}
 use Rattle.link_machine.specs.Ledger.{Ledger, Asked, runs, run_of, replay, state_by, state_of, refusal_by, asked, ask_by, room, answers_by, after_by}
 use Rattle.link_machine.specs.Kept.{FitsAlong}
@@ -28,25 +29,26 @@ StepFits = (d : Draft) (w : Core) (e : Event) → IsValid d → CoreFits d w →
 
 -- ---- one event
 
-same_given : (act : Meaning) (d : Draft) (n : ℕ) (s : Standing) (g : Option Given) → Means act d → GivenFits d n s g
-    → outcome_given act n s g ≡ outcome_given (runs d) n s g
+same_given : (act : Meaning) (d : Draft) (p : ℕ) (s : Standing) (g : Option Given) → Means act d → GivenFits d p s g
+    → result_given act p s g ≡ result_given (runs d) p s g
 unfolding runs
-same_given act d n (At s) None means fits = refl
-same_given act d n (At s) (Some g) means fits =
-    means n s g.number fits.transition g.input fits.there fits.fits ∙ sym (ap (λ (t : Option Transition). run_of t g.input) fits.there)
-same_given act d n Stopped g means fits = refl
+same_given act d p (At s) None means fits = refl
+same_given act d p (At s) (Some g) means fits =
+    ap (λ (r : Result Outcome Trouble). Some r)
+    (means p s g.number fits.transition g.input fits.there fits.fits ∙ sym (ap (λ (t : Option Transition). run_of t g.input) fits.there))
+same_given act d p Stopped g means fits = refl
 
-same_at : (act : Meaning) (d : Draft) (n : ℕ) (o : Option Actor) → Means act d → ((a : Actor) → o ≡ Some a → ActorFits d n a)
-    → outcome_at act n o ≡ outcome_at (runs d) n o
-same_at act d n None means fits = refl
-same_at act d n (Some a) means fits = same_given act d n a.standing a.given means (fits a refl).given
+same_at : (act : Meaning) (d : Draft) (n : ℕ) (w : Core) (o : Option Actor) → Means act d → ((a : Actor) → o ≡ Some a → ActorFits d a)
+    → finish_at act n w o ≡ finish_at (runs d) n w o
+same_at act d n w None means fits = refl
+same_at act d n w (Some a) means fits = ap (finish_by n a.name w) (same_given act d a.name.process.0 a.standing a.given means (fits a refl).given)
 
 same_step : (act : Meaning) (d : Draft) (w : Core) (e : Event) → Means act d → CoreFits d w → step d act w e ≡ step d (runs d) w e
 unfolding step
 same_step act d w (Offer o) means fits = refl
 same_step act d w (Begin n) means fits = refl
 same_step act d w (Skip n) means fits = refl
-same_step act d w (Finish n) means fits = ap (finish_by n w) (same_at act d n (slice_get w.actors n) means (fits.each n))
+same_step act d w (Finish n) means fits = same_at act d n w (slice_get w.actors n) means (fits.each n)
 same_step act d w (Advance k) means fits = refl
 same_step act d w TakeEnv means fits = refl
 

@@ -3,6 +3,7 @@ use Rattle.std.specs.Prelude.{ℕ, zero, suc, ◌+◌, ◌==◌, ℤ, pos, negsu
 use Rattle.std.specs.FinMap as map
 use Rattle.profile_limits.specs.Limits.{MOST_TIMERS_EACH}
 use Rattle.turn_code.specs.Outcome.{Outcome}
+use Rattle.turn_code.specs.declared.numbers.InstanceNumber.{InstanceNumber}
 use Rattle.turn_code.specs.declared.input.Party.{Party}
 use Rattle.turn_code.specs.declared.input.Party.TheVariants.{Environment, Process}
 use Rattle.turn_code.specs.declared.input.Place.TheVariants.{State as AtState}
@@ -16,7 +17,9 @@ use Rattle.input_port.specs.declared.queue.Arrival.{Arrival}
 use Rattle.input_port.specs.declared.queue.Item.TheVariants.{Signal, Timer}
 use Rattle.tick_wheel.specs.TimerId.{TimerId}
 use Rattle.tick_wheel.specs.Timers.{Timers}
-use Rattle.link_machine.specs.Core.{Core, Ring, change}
+use Rattle.actor_names.specs.Names.{address_of, number_for}
+use Rattle.actor_names.specs.declared.name.ActorName.{ActorName}
+use Rattle.link_machine.specs.Core.{Core, Ring, change, change_found, found_in, names_in}
 use Rattle.link_machine.specs.declared.actor.Actor.{Actor}
 use Rattle.link_machine.specs.declared.actor.Standing.{Standing}
 use Rattle.link_machine.specs.declared.actor.Standing.TheVariants.{At, Stopped}
@@ -72,7 +75,7 @@ with_emitted r x = if has_room r then record r { items = r.items ++ x ∷ [] } e
 -- ---- timers
 
 abbrev pub timer_of : ℕ → ℕ → TimerId
-timer_of n timer = record { process = n; number = timer }
+timer_of n timer = record { actor = n; number = timer }
 
 -- how long a SET of this length waits: 1 tick where it is less than that
 abbrev pub delay : ℤ → ℕ
@@ -85,57 +88,58 @@ until ts n timer k = record { clock = ts.clock; deadlines = map.insert ts.deadli
 abbrev pub without : Timers → ℕ → ℕ → Timers
 without ts n timer = record { clock = ts.clock; deadlines = map.remove ts.deadlines (timer_of n timer) }
 
--- without the first k timers of process n
+-- without the first k timers of actor n
 abbrev pub without_first_timers : Timers → ℕ → ℕ → Timers
 without_first_timers ts n zero = ts
 without_first_timers ts n (suc k) = without (without_first_timers ts n k) n k
 
--- without all timers that process n may have
+-- no timer of actor n is active; the others are as they were
 unfoldable pub without_timers : Timers → ℕ → Timers
 without_timers ts n = without_first_timers ts n MOST_TIMERS_EACH
 
--- ---- one effect of a turn of actor n
+-- ---- one effect of a turn of actor n, which is called `me`
 
-abbrev pub arrival_of : ℕ → Sending → Arrival
-arrival_of n s = record { signal = s.signal; parameters = s.parameters; sender = Process (record { 0 = n }) }
+abbrev pub arrival_of : ActorName → Sending → Arrival
+arrival_of me s = record { signal = s.signal; parameters = s.parameters; sender = address_of me }
 
-abbrev pub emitted_of : ℕ → Sending → Emitted
-emitted_of n s = record { sender = n; signal = s.signal; parameters = s.parameters }
+abbrev pub emitted_of : ActorName → Sending → Emitted
+emitted_of me s = record { sender = me; signal = s.signal; parameters = s.parameters }
 
-abbrev pub delivered : ℕ → Core → Sending → Party → Core
-delivered n w s Environment = record w { ring = with_emitted w.ring (emitted_of n s) }
-delivered n w s (Process m) = record w { actors = change w.actors m.0 (receives (arrival_of n s)) }
+-- a signal comes to the environment, or to an actor of a process: to the instance that is named, where one is
+abbrev pub delivered : ActorName → Core → Sending → Party → Option InstanceNumber → Core
+delivered me w s Environment k = record w { ring = with_emitted w.ring (emitted_of me s) }
+delivered me w s (Process p) k = record w { actors = change_found w.actors (number_for (names_in w.actors) me p k) (receives (arrival_of me s)) }
 
-abbrev pub undelivered : Core → Party → Option Cause
-undelivered w Environment = if has_room w.ring then None else Some cause.EnvFull
-undelivered w (Process m) = refusal_in (slice_get w.actors m.0)
+abbrev pub undelivered : ActorName → Core → Party → Option InstanceNumber → Option Cause
+undelivered me w Environment k = if has_room w.ring then None else Some cause.EnvFull
+undelivered me w (Process p) k = refusal_in (found_in w.actors (number_for (names_in w.actors) me p k))
 
 -- what an effect does: an output comes to its receiver; a SET or RESET takes the signal of the timer away, and a SET sets it anew
-abbrev pub laid : ℕ → Core → Effect → Core
-laid n w (Output s) = delivered n w s s.receiver
-laid n w (Set t z) = record w { actors = change w.actors n (drops t.0); timers = until w.timers n t.0 (delay z) }
-laid n w (Reset t) = record w { actors = change w.actors n (drops t.0); timers = without w.timers n t.0 }
+abbrev pub laid : ℕ → ActorName → Core → Effect → Core
+laid n me w (Output s) = delivered me w s s.receiver.party s.receiver.instance
+laid n me w (Set t z) = record w { actors = change w.actors n (drops t.0); timers = until w.timers n t.0 (delay z) }
+laid n me w (Reset t) = record w { actors = change w.actors n (drops t.0); timers = without w.timers n t.0 }
 
 abbrev pub lost_for : ℕ → Option Cause → Option Lost
 lost_for k None = None
 lost_for k (Some c) = Some (record { place = k; cause = c })
 
 -- an output that nobody gets, with its place among the effects
-abbrev pub lost_by : Core → ℕ → Effect → Option Lost
-lost_by w k (Output s) = lost_for k (undelivered w s.receiver)
-lost_by w k (Set t z) = None
-lost_by w k (Reset t) = None
+abbrev pub lost_by : ActorName → Core → ℕ → Effect → Option Lost
+lost_by me w k (Output s) = lost_for k (undelivered me w s.receiver.party s.receiver.instance)
+lost_by me w k (Set t z) = None
+lost_by me w k (Reset t) = None
 
 -- ---- all effects of a turn, in text order
 
-abbrev pub laid_all : ℕ → Core → List Effect → Core
-laid_all n w [] = w
-laid_all n w (e ∷ es) = laid_all n (laid n w e) es
+abbrev pub laid_all : ℕ → ActorName → Core → List Effect → Core
+laid_all n me w [] = w
+laid_all n me w (e ∷ es) = laid_all n me (laid n me w e) es
 
 -- the outputs that nobody gets, where the first effect has place k
-abbrev pub losses : ℕ → Core → ℕ → List Effect → List Lost
-losses n w k [] = []
-losses n w k (e ∷ es) = option_to_list (lost_by w k e) ++ losses n (laid n w e) (k + 1) es
+abbrev pub losses : ℕ → ActorName → Core → ℕ → List Effect → List Lost
+losses n me w k [] = []
+losses n me w k (e ∷ es) = option_to_list (lost_by me w k e) ++ losses n me (laid n me w e) (k + 1) es
 
 -- ---- the end of a turn
 
@@ -159,9 +163,9 @@ ended n e w = record w { actors = change w.actors n (moved e); timers = timers_a
 abbrev pub started : ℕ → Outcome → Core → Core
 started n o w = record w { actors = change w.actors n (settled o); finishes = w.finishes + 1; instructions = w.instructions + o.progress.count }
 
-unfoldable pub finished : ℕ → Outcome → Core → Core
-finished n o w = ended n o.end (laid_all n (started n o w) o.progress.effects)
+unfoldable pub finished : ℕ → ActorName → Outcome → Core → Core
+finished n me o w = ended n o.end (laid_all n me (started n o w) o.progress.effects)
 
 -- the outputs of the turn that nobody gets
-unfoldable pub lost_in : ℕ → Outcome → Core → List Lost
-lost_in n o w = losses n (started n o w) 0 o.progress.effects
+unfoldable pub lost_in : ℕ → ActorName → Outcome → Core → List Lost
+lost_in n me o w = losses n me (started n o w) 0 o.progress.effects

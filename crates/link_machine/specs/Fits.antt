@@ -17,9 +17,11 @@ use Rattle.turn_code.specs.declared.draft.DraftState.{DraftState}
 use Rattle.input_port.specs.declared.queue.Arrival.{Arrival}
 use Rattle.input_port.specs.declared.queue.Item.{Item}
 use Rattle.input_port.specs.declared.queue.Item.TheVariants.{Signal, Timer}
+use Rattle.actor_names.specs.Names.{actors_of}
+use Rattle.actor_names.specs.declared.name.ActorName.{ActorName}
 use Rattle.tick_wheel.specs.TimerId.{TimerId}
 use Rattle.tick_wheel.specs.Timers.{Deadlines}
-use Rattle.link_machine.specs.Core.{Core}
+use Rattle.link_machine.specs.Core.{Core, names_in}
 use Rattle.link_machine.specs.declared.actor.Actor.{Actor}
 use Rattle.link_machine.specs.declared.actor.Given.{Given}
 use Rattle.link_machine.specs.declared.actor.Standing.{Standing}
@@ -30,7 +32,7 @@ use Rattle.link_machine.specs.declared.reply.Emitted.{Emitted}
 pub record Arrived (d : Draft) (n : ℕ) (a : Arrival) : Type 0 where
   pub there : a.signal.0 < length d.signals
   pub sorts : map sort_of a.parameters.items ≡ parameters_of (slice_get d.signals a.signal.0)
-  pub brought : Any (Brings a.sender n a.signal) d.routes
+  pub brought : Any (Brings a.sender.party n a.signal) d.routes
 
 -- a signal that came so, or the signal of a timer of the process
 abbrev pub ItemFits : Draft → ℕ → DraftProcess → Item → Type 0
@@ -55,35 +57,42 @@ GivenFits d n (At s) (Some g) = Fits d n s g.number g.input
 GivenFits d n Stopped None = Unit {0}
 GivenFits d n Stopped (Some g) = ⊥
 
--- actor n
-pub record ActorFits (d : Draft) (n : ℕ) (a : Actor) : Type 0 where
+-- an actor of a process of the set
+pub record ActorFits (d : Draft) (a : Actor) : Type 0 where
   pub process : DraftProcess
-  pub there : slice_get d.processes n ≡ Some process
+  pub there : slice_get d.processes a.name.process.0 ≡ Some process
   pub variables : HaveSorts process.variables a.variables.items
   pub standing : StandingFits process a.standing a.variables.items
-  pub items : AllByRecursion (ItemFits d n process) a.port.items
-  pub given : GivenFits d n a.standing a.given
+  pub items : AllByRecursion (ItemFits d a.name.process.0 process) a.port.items
+  pub given : GivenFits d a.name.process.0 a.standing a.given
 
--- the timer is one of its process
+-- actor n of the set is called so
+abbrev pub IsCalled : Draft → ℕ → ActorName → Type 0
+IsCalled d n me = slice_get (actors_of d.processes) n ≡ Some me
+
+-- the timer is one of its actor's process
 pub record TimerFits (d : Draft) (t : TimerId) : Type 0 where
+  pub name : ActorName
+  pub actor : IsCalled d t.actor name
   pub process : DraftProcess
-  pub there : slice_get d.processes t.process ≡ Some process
+  pub there : slice_get d.processes name.process.0 ≡ Some process
   pub number : t.number < length process.timers
 
 abbrev pub TimersFit : Draft → Deadlines → Type 0
 TimersFit d deadlines = (t : TimerId) (until : ℕ) → finite.get deadlines t ≡ Some until → TimerFits d t
 
--- a process of the set sent it, its signal is one of the set's, its parameters have that signal's sorts, and a route carries it to the
+-- an actor of the set sent it, its signal is one of the set's, its parameters have that signal's sorts, and a route carries it to the
 -- environment
 pub record EmittedFits (d : Draft) (x : Emitted) : Type 0 where
-  pub sender : x.sender < length d.processes
+  pub number : ℕ
+  pub sender : IsCalled d number x.sender
   pub there : x.signal.0 < length d.signals
   pub sorts : map sort_of x.parameters.items ≡ parameters_of (slice_get d.signals x.signal.0)
-  pub reaches : Reaches d.routes x.sender Environment x.signal
+  pub reaches : Reaches d.routes x.sender.process.0 Environment x.signal
 
--- all of a link: there is an actor for each process
+-- all of a link: its actors are those of the set
 pub record CoreFits (d : Draft) (w : Core) : Type 0 where
-  pub each : (n : ℕ) (a : Actor) → slice_get w.actors n ≡ Some a → ActorFits d n a
-  pub count : length w.actors ≡ length d.processes
+  pub each : (n : ℕ) (a : Actor) → slice_get w.actors n ≡ Some a → ActorFits d a
+  pub names : names_in w.actors ≡ actors_of d.processes
   pub timers : TimersFit d w.timers.deadlines
   pub ring : AllByRecursion (EmittedFits d) w.ring.items

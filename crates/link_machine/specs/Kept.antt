@@ -1,5 +1,5 @@
 -- What holds of every book: its state is the replay of its journal, all fits in each state on the way, and its numbers stay within their bounds.
-use Rattle.std.specs.Prelude.{◌≡◌, ℕ, ◌+◌, ◌*◌, ◌<◌, ◌≤◌, Bool, true, false, List, [], ◌∷◌, length, map, count_by, None, Some, slice_get}
+use Rattle.std.specs.Prelude.{◌≡◌, ℕ, ◌+◌, ◌*◌, ◌<◌, ◌≤◌, Bool, true, false, suc, List, [], ◌∷◌, ◌++◌, length, map, count_by, None, Some, slice_get}
 use Rattle.std.specs.FinMap as finite
 use Rattle.profile_limits.specs.Limits.{LAST_PLACE, LAST_TICK, MOST_INSTRUCTIONS, MOST_JOURNAL, MOST_TURNS_BEGUN}
 use Rattle.turn_code.specs.Valid.{IsValid}
@@ -7,6 +7,8 @@ use Rattle.turn_code.specs.Start.{initial_values}
 use Rattle.turn_code.specs.declared.input.Place.TheVariants.{Start}
 use Rattle.turn_code.specs.declared.draft.Draft.{Draft}
 use Rattle.turn_code.specs.declared.draft.DraftProcess.{DraftProcess}
+use Rattle.actor_names.specs.Names.{instances_from}
+use Rattle.actor_names.specs.declared.name.ActorName.{ActorName}
 use Rattle.link_machine.specs.Core.{Core, outs}
 use Rattle.link_machine.specs.Fits.{CoreFits}
 use Rattle.link_machine.specs.Step.{step}
@@ -64,18 +66,24 @@ pub record IsKept (b : Ledger) : Type 0 where
 
 -- ---- how a book begins
 
--- an actor before its START, with room for so many signals
-abbrev pub opened_actor : ℕ → DraftProcess → Actor
-opened_actor port p = record {
+-- an actor of a process before its START, with room for so many signals
+abbrev pub opened_actor : ℕ → DraftProcess → ActorName → Actor
+opened_actor port p name = record {
+  name = name;
   standing = At Start;
   variables = record { items = initial_values p.variables };
   port = record { capacity = port; items = [] };
   given = None;
 }
 
+-- the actors of processes, of which the first is process n
+abbrev pub opened_from : ℕ → ℕ → List DraftProcess → List Actor
+opened_from port n [] = []
+opened_from port n (p ∷ ps) = map (opened_actor port p) (instances_from n 1 p.instances) ++ opened_from port (suc n) ps
+
 unfoldable pub opened : Draft → ℕ → ℕ → Core
 opened d port env = record {
-  actors = map (opened_actor port) d.processes;
+  actors = opened_from port 0 d.processes;
   timers = record { clock = 0; deadlines = finite.empty };
   ring = record { capacity = env; items = [] };
   turns = 0;

@@ -11,7 +11,8 @@ use Rattle.turn_code.specs.declared.draft.Draft.{Draft}
 use Rattle.turn_code.specs.declared.draft.DraftProcess.{DraftProcess}
 use Rattle.turn_machine.specs.Turn.{Turn, outcome_of}
 use Rattle.input_port.specs.declared.queue.Item.{Item}
-use Rattle.link_machine.specs.Core.{Core}
+use Rattle.actor_names.specs.declared.name.ActorName.{ActorName}
+use Rattle.link_machine.specs.Core.{Core, names_in}
 use Rattle.link_machine.specs.Looking.{trigger_of, input_for, input_with}
 use Rattle.link_machine.specs.Fits.{ItemFits, IsReadyAt, CoreFits}
 use Rattle.link_machine.specs.Step.{Answer, Stuck, Says, step, report_of}
@@ -59,7 +60,9 @@ TextLaw = (act : Meaning) (b : Ledger) (es : List Event) → IsKept b → Means 
 pub record FinishesWithin (b : Ledger) (n : ℕ) (t : Turn) : Type 0 where
   pub outcome : Outcome
   pub ran : outcome_of t ≡ Some outcome
-  pub answer : (ask b (Finish n)).answer ≡ Says (reply.Finished (report_of n outcome (state_of b)))
+  pub name : ActorName
+  pub called : slice_get (names_in (state_of b).actors) n ≡ Some name
+  pub answer : (ask b (Finish n)).answer ≡ Says (reply.Finished (report_of n name outcome (state_of b)))
   pub within : outcome.progress.count ≤ t.certificate.budget
 
 abbrev pub FinishLaw : Type 0
@@ -119,7 +122,7 @@ pub record PlaceLaw : Type 0 where
   pub below : (b : Ledger) → IsKept b → next b < PAST_PLACES
 
 abbrev pub IsSaid : Answer → Type 0
-IsSaid Stuck = ⊥
+IsSaid (Stuck x) = ⊥
 IsSaid (Says r) = Unit {0}
 
 -- no turn ever gets stuck

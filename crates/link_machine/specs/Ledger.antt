@@ -1,11 +1,14 @@
 -- The history of a link: a base state, and the events since then. The state at any time is the replay of these.
-use Rattle.std.specs.Prelude.{ℕ, ◌+◌, ◌-◌, List, [], ◌∷◌, ◌++◌, length, Option, None, Some, slice_get, nat_lt, nat_le, if◌then◌else◌}
+use Rattle.std.specs.Prelude.{ℕ, ◌+◌, ◌-◌, List, [], ◌∷◌, ◌++◌, length, Option, None, Some, Result, Err, slice_get, nat_lt, nat_le, if◌then◌else◌}
 use Rattle.profile_limits.specs.Limits.{LAST_PLACE}
-use Rattle.turn_code.specs.Outcome.{Outcome, Meaning, outcome_in}
+use Rattle.turn_code.specs.Outcome.{Outcome, Meaning, result_in}
 use Rattle.turn_code.specs.Run.{run}
 use Rattle.turn_code.specs.Transitions.{Transition, transition_at}
 use Rattle.turn_code.specs.declared.input.Place.{Place}
 use Rattle.turn_code.specs.declared.input.Input.{Input}
+use Rattle.turn_code.specs.declared.numbers.ProcessNumber.{ProcessNumber}
+use Rattle.turn_code.specs.declared.trouble.Trouble.{Trouble}
+use Rattle.turn_code.specs.declared.trouble.Trouble.TheVariants.{Outside}
 use Rattle.turn_code.specs.declared.draft.Draft.{Draft}
 use Rattle.turn_machine.specs.Turn.{Turn, turn_of}
 use Rattle.link_machine.specs.Core.{Core, outs}
@@ -29,9 +32,10 @@ pub record Ledger : Type 0 where
 
 -- ---- the meaning of turns that the code of a set has
 
-abbrev pub run_of : Option Transition → Input → Option Outcome
-run_of None x = None
-run_of (Some t) x = outcome_in (run t.piece.code x)
+-- where there is no such transition, that is outside of the code
+abbrev pub run_of : Option Transition → Input → Result Outcome Trouble
+run_of None x = Err Outside
+run_of (Some t) x = result_in (run t.piece.code x)
 
 -- what the set's own code does
 unfoldable pub runs : Draft → Meaning
@@ -101,19 +105,19 @@ after_by m b (e ∷ es) = after_by m (ask_by m b e).book es
 
 -- ---- the turn that an actor has out
 
-abbrev pub turn_with : ℕ → Place → Given → Option Transition → Option Turn
-turn_with n s g None = None
-turn_with n s g (Some t) =
-    Some (turn_of n g.turn (record { 0 = n }) s g.number t.piece.code t.piece.certificate g.input)
+-- of actor n, which is of process p
+abbrev pub turn_with : ℕ → ProcessNumber → Place → Given → Option Transition → Option Turn
+turn_with n p s g None = None
+turn_with n p s g (Some t) = Some (turn_of n g.turn p s g.number t.piece.code t.piece.certificate g.input)
 
-abbrev pub turn_given : Draft → ℕ → Standing → Option Given → Option Turn
-turn_given d n (At s) (Some g) = turn_with n s g (transition_at d n s g.number)
-turn_given d n (At s) None = None
-turn_given d n Stopped g = None
+abbrev pub turn_given : Draft → ℕ → ProcessNumber → Standing → Option Given → Option Turn
+turn_given d n p (At s) (Some g) = turn_with n p s g (transition_at d p.0 s g.number)
+turn_given d n p (At s) None = None
+turn_given d n p Stopped g = None
 
 abbrev pub turn_at : Draft → ℕ → Option Actor → Option Turn
 turn_at d n None = None
-turn_at d n (Some a) = turn_given d n a.standing a.given
+turn_at d n (Some a) = turn_given d n a.name.process a.standing a.given
 
 -- the job of an actor that has a turn out
 unfoldable pub turn_out : Ledger → ℕ → Option Turn

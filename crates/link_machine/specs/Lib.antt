@@ -8,3 +8,5 @@ pub mod Looking
 pub mod Printed
 pub mod Refusals
 pub mod Step
+pub use Rattle.actor_names.specs.Names
+pub use Rattle.actor_names.specs.declared as actor_names_types

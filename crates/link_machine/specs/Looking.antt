@@ -56,9 +56,9 @@ found_at d n (At (State q)) xs = found_item d n q.0 (first_unsaved (is_saved d n
 found_at d n (At Start) xs = found.Start
 found_at d n Stopped xs = found.Nothing
 
--- what actor n of the set finds
-unfoldable pub looks : Draft → ℕ → Actor → Found
-looks d n a = found_at d n a.standing a.port.items
+-- what an actor of the set finds
+unfoldable pub looks : Draft → Actor → Found
+looks d a = found_at d a.name.process.0 a.standing a.port.items
 
 -- ---- what a turn is given: the variables, the parameters and the sender of the item that is taken; START is given the
 -- variables alone, and a timer's signal has neither parameters nor a sender
@@ -79,19 +79,19 @@ number_in found.Start = 0
 number_in (found.Input i) = i
 number_in found.Ignored = 0
 
--- ---- what begins and skips leave of actor n
+-- ---- what begins and skips leave of an actor
 
-abbrev pub taken : Draft → ℕ → Actor → List Item
-taken d n a = left_at d n a.standing a.port.items
+abbrev pub taken : Draft → Actor → List Item
+taken d a = left_at d a.name.process.0 a.standing a.port.items
 
-unfoldable pub given_now : Draft → ℕ → ℕ → Actor → Given
-given_now d n turn a =
-    record { turn = turn; number = number_in (looks d n a); input = input_with a (item_at d n a.standing a.port.items) }
+unfoldable pub given_now : Draft → ℕ → Actor → Given
+given_now d turn a =
+    record { turn = turn; number = number_in (looks d a); input = input_with a (item_at d a.name.process.0 a.standing a.port.items) }
 
 -- the item is taken out of the port, and the actor has this turn out
-unfoldable pub begun : Draft → ℕ → ℕ → Actor → Actor
-begun d n turn a = record a { port = record a.port { items = taken d n a }; given = Some (given_now d n turn a) }
+unfoldable pub begun : Draft → ℕ → Actor → Actor
+begun d turn a = record a { port = record a.port { items = taken d a }; given = Some (given_now d turn a) }
 
 -- the item is taken out of the port, and nothing else happens
-unfoldable pub skipped : Draft → ℕ → Actor → Actor
-skipped d n a = record a { port = record a.port { items = taken d n a } }
+unfoldable pub skipped : Draft → Actor → Actor
+skipped d a = record a { port = record a.port { items = taken d a } }

@@ -69,7 +69,7 @@ is_offered d n s vs = list_any (offers n s) d.routes
 unfoldable pub offer_rows : Draft → Offered → Actor → List (Bool × Refusal)
 offer_rows d o a =
     (has_stopped a.standing, Stopped)
-    ∷ (not (is_offered d o.actor o.signal o.values.items), NoRoute)
+    ∷ (not (is_offered d a.name.process.0 o.signal o.values.items), NoRoute)
     ∷ (is_full a.port, Full)
     ∷ []
 
@@ -91,19 +91,19 @@ is_ignored found.Ignored = true
 abbrev pub is_counted_out : ℕ → Bool
 is_counted_out turns = nat_le MOST_TURNS_BEGUN turns
 
-unfoldable pub begin_rows : Draft → ℕ → ℕ → Actor → List (Bool × Refusal)
-begin_rows d n turns a =
+unfoldable pub begin_rows : Draft → ℕ → Actor → List (Bool × Refusal)
+begin_rows d turns a =
     (is_out a, Busy)
-    ∷ (is_nothing (looks d n a), Nothing)
-    ∷ (is_ignored (looks d n a), SkipFirst)
+    ∷ (is_nothing (looks d a), Nothing)
+    ∷ (is_ignored (looks d a), SkipFirst)
     ∷ (is_counted_out turns, CountFull)
     ∷ []
 
-unfoldable pub skip_rows : Draft → ℕ → Actor → List (Bool × Refusal)
-skip_rows d n a =
+unfoldable pub skip_rows : Draft → Actor → List (Bool × Refusal)
+skip_rows d a =
     (is_out a, Busy)
-    ∷ (is_nothing (looks d n a), Nothing)
-    ∷ (not (is_ignored (looks d n a)), NotIgnored)
+    ∷ (is_nothing (looks d a), Nothing)
+    ∷ (not (is_ignored (looks d a)), NotIgnored)
     ∷ []
 
 abbrev pub finish_row : Option Actor → Option Refusal
@@ -127,8 +127,8 @@ of_actor f (Some a) = f a
 -- why a link refuses an event, its journal aside
 unfoldable pub refuses : Draft → Core → Event → Option Refusal
 refuses d w (Offer o) = of_actor (λ a. first_of (offer_rows d o a)) (slice_get w.actors o.actor)
-refuses d w (Begin n) = of_actor (λ a. first_of (begin_rows d n w.turns a)) (slice_get w.actors n)
-refuses d w (Skip n) = of_actor (λ a. first_of (skip_rows d n a)) (slice_get w.actors n)
+refuses d w (Begin n) = of_actor (λ a. first_of (begin_rows d w.turns a)) (slice_get w.actors n)
+refuses d w (Skip n) = of_actor (λ a. first_of (skip_rows d a)) (slice_get w.actors n)
 refuses d w (Finish n) = finish_row (slice_get w.actors n)
 refuses d w (Advance k) = first_of (advance_rows w.timers.clock k)
 refuses d w TakeEnv = empty_row w.ring

@@ -1,12 +1,15 @@
 -- The machine of a link: what an accepted event makes of its state, and what is answered (Z.100, the behaviour of a set of processes).
-use Rattle.std.specs.Prelude.{ℕ, ◌+◌, List, [], ◌∷◌, length, Option, None, Some, slice_get}
+use Rattle.std.specs.Prelude.{ℕ, ◌+◌, List, [], ◌∷◌, length, Option, None, Some, Result, Ok, Err, slice_get}
+use Rattle.turn_code.specs.Run.{of_party}
 use Rattle.turn_code.specs.Outcome.{Outcome, Meaning}
+use Rattle.turn_code.specs.declared.trouble.Trouble.{Trouble}
 use Rattle.turn_code.specs.declared.input.Place.{Place}
 use Rattle.turn_code.specs.declared.input.Place.TheVariants.{Start}
 use Rattle.turn_code.specs.declared.input.Party.TheVariants.{Environment}
 use Rattle.turn_code.specs.declared.draft.Draft.{Draft}
 use Rattle.input_port.specs.declared.queue.Arrival.{Arrival}
 use Rattle.input_port.specs.declared.queue.Item.{Item}
+use Rattle.actor_names.specs.declared.name.ActorName.{ActorName}
 use Rattle.tick_wheel.specs.Timers.{due, not_due}
 use Rattle.tick_wheel.specs.declared.Due.{Due}
 use Rattle.link_machine.specs.Core.{Core, change}
@@ -21,14 +24,16 @@ use Rattle.link_machine.specs.declared.event.Event.TheVariants.{Offer, Begin, Sk
 use Rattle.link_machine.specs.declared.event.Offer.{Offer as Offered}
 use Rattle.link_machine.specs.declared.reply.Begun.{Begun}
 use Rattle.link_machine.specs.declared.reply.Emitted.{Emitted}
-use Rattle.link_machine.specs.declared.reply.Refusal.TheVariants.{Empty, NoActor, Nothing}
+use Rattle.link_machine.specs.declared.reply.Refusal.TheVariants.{Empty, NoActor, Nothing, Stranger}
 use Rattle.link_machine.specs.declared.reply.Report.{Report}
 use Rattle.link_machine.specs.declared.reply.Reply.{Reply}
 use Rattle.link_machine.specs.declared.reply.Reply.TheVariants as reply
 
--- what the machine answers: that a turn's meaning gets stuck, or what a link replies. No reply says the first.
+-- What the machine answers: that a turn gets stuck, and in which trouble, or what a link replies. No reply says the first: a turn that reads a
+-- variable that isn't set, meets an operand of the wrong sort or one that isn't there, has no next state, no receiver or no answer, or leaves its
+-- code.
 pub data Answer : Type 0 where
-  Stuck : Answer
+  Stuck : Trouble → Answer
   Says : Reply → Answer
 
 -- what an event makes of the state, and what is answered
@@ -39,7 +44,7 @@ pub record Stepped : Type 0 where
 -- ---- offers
 
 abbrev pub offered_arrival : Offered → Arrival
-offered_arrival o = record { signal = o.signal; parameters = o.values; sender = Environment }
+offered_arrival o = record { signal = o.signal; parameters = o.values; sender = of_party Environment }
 
 -- ---- begins and skips
 
@@ -47,46 +52,48 @@ abbrev pub place_of : Standing → Place
 place_of (At s) = s
 place_of Stopped = Start
 
-abbrev pub begun_now : Draft → ℕ → ℕ → Actor → Begun
-begun_now d n turn a = record { turn = turn; place = place_of a.standing; number = number_in (looks d n a) }
+abbrev pub begun_now : Draft → ℕ → Actor → Begun
+begun_now d turn a = record { turn = turn; place = place_of a.standing; number = number_in (looks d a) }
 
-abbrev pub begin_reply : Draft → ℕ → ℕ → Option Actor → Reply
-begin_reply d n turn None = reply.Refused NoActor
-begin_reply d n turn (Some a) = reply.Begun (begun_now d n turn a)
+abbrev pub begin_reply : Draft → ℕ → Option Actor → Reply
+begin_reply d turn None = reply.Refused NoActor
+begin_reply d turn (Some a) = reply.Begun (begun_now d turn a)
 
 abbrev pub skip_reply_of : Option Item → Reply
 skip_reply_of None = reply.Refused Nothing
 skip_reply_of (Some x) = reply.Skipped (trigger_of x)
 
-abbrev pub skip_reply : Draft → ℕ → Option Actor → Reply
-skip_reply d n None = reply.Refused NoActor
-skip_reply d n (Some a) = skip_reply_of (item_at d n a.standing a.port.items)
+abbrev pub skip_reply : Draft → Option Actor → Reply
+skip_reply d None = reply.Refused NoActor
+skip_reply d (Some a) = skip_reply_of (item_at d a.name.process.0 a.standing a.port.items)
 
 -- ---- finishes
 
-abbrev pub outcome_given : Meaning → ℕ → Standing → Option Given → Option Outcome
-outcome_given m n (At s) (Some g) = m n s g.number g.input
-outcome_given m n (At s) None = None
-outcome_given m n Stopped g = None
+-- how the turn that an actor of process p has out ends, by a meaning of turns; none where it has none out
+abbrev pub result_given : Meaning → ℕ → Standing → Option Given → Option (Result Outcome Trouble)
+result_given m p (At s) (Some g) = Some (m p s g.number g.input)
+result_given m p (At s) None = None
+result_given m p Stopped g = None
 
--- how the turn that an actor has out ends, by a meaning of turns; none where it gets stuck, or there is none
-abbrev pub outcome_at : Meaning → ℕ → Option Actor → Option Outcome
-outcome_at m n None = None
-outcome_at m n (Some a) = outcome_given m n a.standing a.given
+abbrev pub report_of : ℕ → ActorName → Outcome → Core → Report
+report_of n me o w = record { end = o.end; count = o.progress.count; lost = record { items = lost_in n me o w } }
 
-abbrev pub report_of : ℕ → Outcome → Core → Report
-report_of n o w = record { end = o.end; count = o.progress.count; lost = record { items = lost_in n o w } }
+-- actor n, which is called `me`, ends its turn so
+abbrev pub finish_by : ℕ → ActorName → Core → Option (Result Outcome Trouble) → Stepped
+finish_by n me w None = record { to = w; answer = Says (reply.Refused Stranger) }
+finish_by n me w (Some (Err x)) = record { to = w; answer = Stuck x }
+finish_by n me w (Some (Ok o)) = record { to = finished n me o w; answer = Says (reply.Finished (report_of n me o w)) }
 
-abbrev pub finish_by : ℕ → Core → Option Outcome → Stepped
-finish_by n w None = record { to = w; answer = Stuck }
-finish_by n w (Some o) = record { to = finished n o w; answer = Says (reply.Finished (report_of n o w)) }
+abbrev pub finish_at : Meaning → ℕ → Core → Option Actor → Stepped
+finish_at m n w None = record { to = w; answer = Says (reply.Refused Stranger) }
+finish_at m n w (Some a) = finish_by n a.name w (result_given m a.name.process.0 a.standing a.given)
 
 -- ---- the clock and the environment
 
--- each due timer's signal comes to its process's port, in order
+-- each due timer's signal comes to its actor's port, in order
 abbrev pub notified : List Actor → List Due → List Actor
 notified actors [] = actors
-notified actors (x ∷ xs) = notified (change actors x.timer.process (hears x.timer.number)) xs
+notified actors (x ∷ xs) = notified (change actors x.timer.actor (hears x.timer.number)) xs
 
 abbrev pub due_in : Core → ℕ → List Due
 due_in w k = due w.timers.deadlines (w.timers.clock + k)
@@ -111,14 +118,14 @@ take_reply (x ∷ xs) = reply.Taken x
 unfoldable pub step : Draft → Meaning → Core → Event → Stepped
 step d m w (Offer o) = record { to = record w { actors = change w.actors o.actor (receives (offered_arrival o)) }; answer = Says reply.Offered }
 step d m w (Begin n) = record {
-  to = record w { actors = change w.actors n (begun d n w.turns); turns = w.turns + 1 };
-  answer = Says (begin_reply d n w.turns (slice_get w.actors n));
+  to = record w { actors = change w.actors n (begun d w.turns); turns = w.turns + 1 };
+  answer = Says (begin_reply d w.turns (slice_get w.actors n));
 }
 step d m w (Skip n) = record {
-  to = record w { actors = change w.actors n (skipped d n) };
-  answer = Says (skip_reply d n (slice_get w.actors n));
+  to = record w { actors = change w.actors n (skipped d) };
+  answer = Says (skip_reply d (slice_get w.actors n));
 }
-step d m w (Finish n) = finish_by n w (outcome_at m n (slice_get w.actors n))
+step d m w (Finish n) = finish_at m n w (slice_get w.actors n)
 step d m w (Advance k) = record { to = passed k w; answer = Says (reply.Passed (length (due_in w k))) }
 step d m w TakeEnv = record {
   to = record w { ring = record w.ring { items = tail_of w.ring.items } };

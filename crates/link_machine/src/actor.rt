@@ -2,6 +2,7 @@
 
 ghost use Rattle.std.specs.Prelude.{◌≡◌};
 
+use actor_names::ActorName;
 use arrayvec::ArrayVec;
 use input_port::Port;
 use turn_code::{Input, Place, Value};
@@ -26,9 +27,11 @@ pub struct Given {
     pub input: Input,
 }
 
-/// One process of a link as it runs.
+/// An instance of a process of a link as it runs.
 #[derive(Drop)]
 pub struct Actor {
+    /// Its process, and which instance it is.
+    pub name: ActorName,
     /// Where it is; while a turn is out, where it was before.
     pub standing: Standing,
     /// The value of each variable, none where it isn't set; while a turn is out, as they were before.

@@ -8,7 +8,7 @@ use turn_code::{SignalNumber, Value, copied_values, same_values};
 /// A signal that the environment sends to an actor.
 #[derive(Drop)]
 pub struct Offer {
-    /// The number of the actor, from 0 in text order of the processes.
+    /// The number of the actor, from 0: by process in text order, then by instance.
     pub actor: u16,
     pub signal: SignalNumber,
     /// The values of its parameters.

@@ -9,6 +9,7 @@ pub mod laws;
 mod reply;
 
 pub use actor::{Actor, Given, Standing};
+pub use actor_names::{ActorName, first_of, number_of};
 pub use event::{Event, Offer};
 pub use found::Found;
 pub use reply::{Begun, Cause, Emitted, Lost, Refusal, Reply, Report};

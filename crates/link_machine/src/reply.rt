@@ -3,6 +3,7 @@
 ghost use Rattle.std.specs.Prelude.{◌≡◌};
 ghost use Rattle.link_machine.specs.Printed.{refusal_text};
 
+use actor_names::ActorName;
 use arrayvec::ArrayVec;
 use std::fmt;
 use thiserror::Error;
@@ -109,8 +110,8 @@ pub struct Report {
 /// A signal that an actor sent to the environment.
 #[derive(Drop)]
 pub struct Emitted {
-    /// The number of the actor that sent it.
-    pub sender: u16,
+    /// The actor that sent it.
+    pub sender: ActorName,
     pub signal: SignalNumber,
     pub parameters: ArrayVec<Value, 4>,
 }

@@ -2,3 +2,4 @@ mod Offering
 mod Passing
 mod SmallSaves
 mod TimerItems
+mod Opened

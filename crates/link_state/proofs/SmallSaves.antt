@@ -14,7 +14,7 @@ use Rattle.turn_code.specs.declared.draft.Trigger.{Trigger}
 use Rattle.turn_code.specs.declared.draft.Trigger.TheVariants.{Signal, Timer}
 use Rattle.turn_check.specs.Named.{states_of, saves_of, saves_at}
 use Rattle.link_state.specs.Saving.{IsSmall}
-use Rattle.link_state.specs.Opening.{HasFewVariables}
+use Rattle.link_state.specs.Opening.{HasFew}
 use Rattle.turn_check.proofs.Whole.{start_at_0 as starts}
 
 -- ---- lists by places and by recursion
@@ -56,16 +56,17 @@ of_process d valid n k (Some p) e =
 pub small_saves : (d : Draft) → IsValid d → (n k : ℕ) → AllByRecursion IsSmall (saves_at d n k)
 small_saves d valid n k = of_process d valid n k (slice_get d.processes n) refl
 
--- ---- variables
+-- ---- variables and instances
 
-few_at : (d : Draft) → IsValid d → (n : ℕ) (p : DraftProcess) → slice_get d.processes n ≡ Some p → HasFewVariables p
+few_at : (d : Draft) → IsValid d → (n : ℕ) (p : DraftProcess) → slice_get d.processes n ≡ Some p → HasFew p
 few_at d valid n p e =
     let t : IsValidTransition d (start_of n p) = valid.each n Start 0 (start_of n p) (starts d n p e) in
-    ((t.limit 0).process refl refl).variables
+    let limits = (t.limit 0).process refl refl in
+    record { variables = limits.variables; instances = limits.instances }
 
-from_places : (ps : List DraftProcess) → ((n : ℕ) (p : DraftProcess) → slice_get ps n ≡ Some p → HasFewVariables p) → AllByRecursion HasFewVariables ps
+from_places : (ps : List DraftProcess) → ((n : ℕ) (p : DraftProcess) → slice_get ps n ≡ Some p → HasFew p) → AllByRecursion HasFew ps
 from_places [] h = tt {0}
 from_places (p ∷ ps) h = (h 0 p refl, from_places ps (λ n q e. h (suc n) q e))
 
-pub few_variables : (d : Draft) → IsValid d → AllByRecursion HasFewVariables d.processes
-few_variables d valid = from_places d.processes (few_at d valid)
+pub few_each : (d : Draft) → IsValid d → AllByRecursion HasFew d.processes
+few_each d valid = from_places d.processes (few_at d valid)

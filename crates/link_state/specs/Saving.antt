@@ -13,6 +13,6 @@ IsSmall (Signal n) = n.0 < MOST_SIGNALS
 IsSmall (Timer n) = n.0 < MOST_TIMERS_EACH
 
 -- the signal or timer of the item that an actor would throw away
-abbrev pub skipped_by : Draft → ℕ → Option Actor → Option Trigger
-skipped_by d n None = None
-skipped_by d n (Some a) = option_map trigger_of (item_at d n a.standing a.port.items)
+abbrev pub skipped_by : Draft → Option Actor → Option Trigger
+skipped_by d None = None
+skipped_by d (Some a) = option_map trigger_of (item_at d a.name.process.0 a.standing a.port.items)

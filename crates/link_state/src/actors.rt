@@ -1,14 +1,16 @@
 //! Changes of one actor, and of one actor among all.
 
-ghost use Rattle.std.specs.Prelude.{◌≡◌, ◌<◌, slice_get};
-ghost use Rattle.link_machine.specs.Core.{change, outs};
-ghost use Rattle.link_machine.specs.Effects.{receives, drops, hears, moved, refusal_in, refusal_at};
+ghost use Rattle.std.specs.Prelude.{◌≡◌, ◌<◌, length, IfSome, slice_get};
+ghost use Rattle.link_machine.specs.Core.{change, change_found, found_in, names_in, outs};
+ghost use Rattle.link_machine.specs.Names.{place_of, number_for};
+ghost use Rattle.link_machine.specs.Effects.{receives, drops, hears, moved, refusal_in, refusal_at as refused_at};
 ghost use Rattle.link_state.specs.Outcomes.{with_variables};
+ghost use Rattle.profile_limits.specs.Limits.{MOST_TIMERS_EACH};
 
 use arrayvec::ArrayVec;
-use input_port::{Arrival, TIMERS};
-use link_machine::{Actor, Cause, Standing};
-use turn_code::{Effect, End, Place, TimerNumber, Value};
+use input_port::Arrival;
+use link_machine::{Actor, ActorName, Cause, Standing};
+use turn_code::{Effect, End, InstanceNumber, Place, ProcessNumber, TimerNumber, Value};
 
 /// A signal comes to an actor. One that has stopped takes none, nor does one whose port is full.
 fn receive(actor: &mut Actor, arrival: Arrival)
@@ -31,9 +33,70 @@ pub(crate) fn deliver(actors: &mut [Actor], number: usize, arrival: Arrival)
     }
 }
 
+/// A signal comes to the actor with a number that is found, if it is.
+pub(crate) fn deliver_to(actors: &mut [Actor], found: Option<usize>, arrival: Arrival)
+    ensures { actors.new ≡ change_found actors.old found (receives arrival) }
+{
+    match found {
+        Some(number) => deliver(actors, number, arrival),
+        None => {}
+    }
+}
+
+/// The number of the actor with a name, if there is one.
+fn place_of(actors: &[Actor], name: ActorName) -> Option<usize>
+    ensures value { result ≡ place_of name (names_in actors.now) }
+    ensures inside { IfSome result (λ place. place < length actors.now) }
+{
+    let _few = actors.len();
+    match actors {
+        [] => None,
+        [first, others @ ..] => {
+            if name.same(first.name) {
+                return Some(0);
+            }
+            match place_of(others, name) {
+                Some(place) => Some(place + 1),
+                None => None,
+            }
+        }
+    }
+}
+
+/// The number of the actor that gets a signal of another one to a process: the instance that is named, where one is; else the one with the
+/// sender's own number where it is there, and the first one where it isn't.
+pub(crate) fn number_for(
+    actors: &[Actor],
+    sender: ActorName,
+    process: ProcessNumber,
+    instance: Option<InstanceNumber>,
+) -> Option<usize>
+    ensures { result ≡ number_for (names_in actors.now) sender process instance }
+{
+    match instance {
+        Some(instance) => place_of(actors, ActorName { process, instance }),
+        None => {
+            let own = ActorName {
+                process,
+                instance: sender.instance,
+            };
+            match place_of(actors, own) {
+                Some(number) => Some(number),
+                None => place_of(
+                    actors,
+                    ActorName {
+                        process,
+                        instance: InstanceNumber(1),
+                    },
+                ),
+            }
+        }
+    }
+}
+
 /// Why an actor doesn't take a signal, if it doesn't.
 fn refusal_by(actor: &Actor) -> Option<Cause>
-    ensures { result ≡ refusal_at actor.now.port actor.now.standing }
+    ensures { result ≡ refused_at actor.now.port actor.now.standing }
 {
     match actor.standing {
         Standing::At(_) => {
@@ -48,11 +111,21 @@ fn refusal_by(actor: &Actor) -> Option<Cause>
 }
 
 /// Why actor `number` doesn't take a signal, if it doesn't.
-pub(crate) fn refusal_of(actors: &[Actor], number: usize) -> Option<Cause>
+fn refusal_of(actors: &[Actor], number: usize) -> Option<Cause>
     ensures { result ≡ refusal_in (slice_get actors.now number) }
 {
     match actors.get(number) {
         Some(actor) => refusal_by(actor),
+        None => Some(Cause::Stopped),
+    }
+}
+
+/// Why the actor with a number that is found doesn't take a signal, if it doesn't.
+pub(crate) fn refusal_at(actors: &[Actor], found: Option<usize>) -> Option<Cause>
+    ensures { result ≡ refusal_in (found_in actors.now found) }
+{
+    match found {
+        Some(number) => refusal_of(actors, number),
         None => Some(Cause::Stopped),
     }
 }
@@ -76,7 +149,7 @@ pub(crate) fn forget_timer(actors: &mut [Actor], number: usize, timer: TimerNumb
 /// The signal of a timer comes to an actor.
 #[tactic(auto, using(crate::proofs::TimerItems::none_left))]
 fn hear(actor: &mut Actor, timer: TimerNumber)
-    requires { timer.0 < TIMERS }
+    requires { timer.0 < MOST_TIMERS_EACH }
     ensures { actor.new ≡ hears timer.0 actor.old }
 {
     actor.port.drop_timer(timer);
@@ -85,7 +158,7 @@ fn hear(actor: &mut Actor, timer: TimerNumber)
 
 /// The signal of a timer comes to actor `number`.
 pub(crate) fn notify(actors: &mut [Actor], number: usize, timer: TimerNumber)
-    requires { timer.0 < TIMERS }
+    requires { timer.0 < MOST_TIMERS_EACH }
     ensures { actors.new ≡ change actors.old number (hears timer.0) }
 {
     if number < actors.len() {

@@ -26,13 +26,13 @@ pub(crate) fn advance_refusal(clock: u64, ticks: u64) -> Option<Refusal>
     None
 }
 
-/// Each due timer's signal comes to its process's port, in order.
+/// Each due timer's signal comes to its actor's port, in order.
 fn notify_all(actors: &mut [Actor], due: &[Due])
     ensures { actors.new ≡ notified actors.old due.now }
 {
     for one in due {
-        let process = usize::from(one.timer.process());
-        notify(actors, process, TimerNumber(one.timer.number()));
+        let actor = usize::from(one.timer.actor());
+        notify(actors, actor, TimerNumber(one.timer.number()));
     }
 }
 

@@ -6,81 +6,81 @@ ghost use Rattle.link_machine.specs.Effects.{laid, laid_all, lost_by, losses, de
 ghost use Rattle.link_machine.specs.Step.{report_of};
 ghost use Rattle.tick_wheel.specs.Turning.{timers_of};
 ghost use Rattle.link_state.specs.Outcomes.{outcome_with, with_variables, HasTimer, HaveTimers};
-ghost use Rattle.profile_limits.specs.Limits.{MOST_EFFECTS, MOST_PROCESSES, MOST_TIMERS_EACH, MOST_TURNS_BEGUN};
+ghost use Rattle.profile_limits.specs.Limits.{MOST_ACTORS, MOST_EFFECTS, MOST_TIMERS_EACH, MOST_TURNS_BEGUN};
 
-use crate::actors::{deliver, end_turn, forget_timer, refusal_of, settle_at};
+use crate::actors::{deliver_to, end_turn, forget_timer, number_for, refusal_at, settle_at};
 use crate::link::Link;
 use arrayvec::ArrayVec;
 use input_port::Arrival;
-use link_machine::{Cause, Emitted, Lost, Report};
+use link_machine::{ActorName, Cause, Emitted, Lost, Report};
 use tick_wheel::{Timer, Wheel};
-use turn_code::{Effect, End, Party, ProcessNumber, Sending, TimerNumber, Value, copied_values};
+use turn_code::{Address, Effect, End, Party, Sending, TimerNumber, Value, copied_values};
 
 impl Link {
-    /// What one effect of a turn does.
-    fn lay(&mut self, sender: u8, effect: &Effect)
-        requires process { sender < MOST_PROCESSES }
+    /// What one effect of a turn of an actor with this number and this name does.
+    fn lay(&mut self, actor: u8, name: ActorName, effect: &Effect)
+        requires actor { actor < MOST_ACTORS }
         requires timer { HasTimer effect.now }
-        ensures { self.new ≡ laid sender self.old effect.now }
+        ensures { self.new ≡ laid actor name self.old effect.now }
     {
         match effect {
-            Effect::Output(sending) => self.send(sender, sending),
-            Effect::Set(timer, ticks) => self.set(sender, *timer, *ticks),
-            Effect::Reset(timer) => self.reset(sender, *timer),
+            Effect::Output(sending) => self.send(name, sending),
+            Effect::Set(timer, ticks) => self.set(actor, *timer, *ticks),
+            Effect::Reset(timer) => self.reset(actor, *timer),
         }
     }
 
-    /// An output comes to its receiver, if that takes it.
-    fn send(&mut self, sender: u8, sending: &Sending)
-        ensures { self.new ≡ delivered sender self.old sending.now sending.now.receiver }
+    /// An output of an actor comes to its receiver, if that takes it.
+    fn send(&mut self, sender: ActorName, sending: &Sending)
+        ensures { self.new ≡ delivered sender self.old sending.now sending.now.receiver.party sending.now.receiver.instance }
     {
-        match sending.receiver {
+        let Address { party, instance } = sending.receiver;
+        match party {
             Party::Environment => self.ring.put(Emitted {
-                sender: u16::from(sender),
+                sender,
                 signal: sending.signal,
                 parameters: copied_values(&sending.parameters),
             }),
-            Party::Process(receiver) => deliver(
-                &mut self.actors,
-                usize::from(receiver.0),
-                arrival_of(sender, sending),
-            ),
+            Party::Process(process) => {
+                let found = number_for(&self.actors, sender, process, instance);
+                deliver_to(&mut self.actors, found, arrival_of(sender, sending));
+            }
         }
     }
 
     /// A timer waits anew, and its signal leaves the port.
-    fn set(&mut self, sender: u8, timer: TimerNumber, ticks: i32)
-        requires process { sender < MOST_PROCESSES }
+    fn set(&mut self, actor: u8, timer: TimerNumber, ticks: i32)
+        requires actor { actor < MOST_ACTORS }
         requires timer { timer.0 < MOST_TIMERS_EACH }
         ensures { self.new ≡ record self.old {
-          actors = change self.old.actors sender (drops timer.0);
-          timers = until self.old.timers sender timer.0 (delay ticks);
+          actors = change self.old.actors actor (drops timer.0);
+          timers = until self.old.timers actor timer.0 (delay ticks);
         } }
     {
-        forget_timer(&mut self.actors, usize::from(sender), timer);
+        forget_timer(&mut self.actors, usize::from(actor), timer);
         let deadline = self.wheel.clock() + delay_of(ticks);
-        self.wheel.set(Timer::new(sender, timer.0), deadline);
+        self.wheel.set(Timer::new(actor, timer.0), deadline);
     }
 
     /// A timer waits no longer, and its signal leaves the port.
-    fn reset(&mut self, sender: u8, timer: TimerNumber)
-        requires process { sender < MOST_PROCESSES }
+    fn reset(&mut self, actor: u8, timer: TimerNumber)
+        requires actor { actor < MOST_ACTORS }
         requires timer { timer.0 < MOST_TIMERS_EACH }
         ensures { self.new ≡ record self.old {
-          actors = change self.old.actors sender (drops timer.0);
-          timers = without self.old.timers sender timer.0;
+          actors = change self.old.actors actor (drops timer.0);
+          timers = without self.old.timers actor timer.0;
         } }
     {
-        forget_timer(&mut self.actors, usize::from(sender), timer);
-        self.wheel.reset(Timer::new(sender, timer.0));
+        forget_timer(&mut self.actors, usize::from(actor), timer);
+        self.wheel.reset(Timer::new(actor, timer.0));
     }
 
-    /// The output that nobody gets, if an effect is one.
-    fn loss(&self, place: usize, effect: &Effect) -> Option<Lost>
-        ensures { result ≡ lost_by self.now place effect.now }
+    /// The output of an actor that nobody gets, if an effect is one.
+    fn loss(&self, sender: ActorName, place: usize, effect: &Effect) -> Option<Lost>
+        ensures { result ≡ lost_by sender self.now place effect.now }
     {
         match effect {
-            Effect::Output(sending) => match self.cause(sending.receiver) {
+            Effect::Output(sending) => match self.cause(sender, sending.receiver) {
                 Some(cause) => Some(Lost { place, cause }),
                 None => None,
             },
@@ -88,11 +88,12 @@ impl Link {
         }
     }
 
-    /// Why a receiver doesn't take a signal, if it doesn't.
-    fn cause(&self, receiver: Party) -> Option<Cause>
-        ensures { result ≡ undelivered self.now receiver }
+    /// Why a receiver doesn't take a signal of an actor, if it doesn't.
+    fn cause(&self, sender: ActorName, receiver: Address) -> Option<Cause>
+        ensures { result ≡ undelivered sender self.now receiver.party receiver.instance }
     {
-        match receiver {
+        let Address { party, instance } = receiver;
+        match party {
             Party::Environment => {
                 if self.ring.has_room() {
                     None
@@ -100,48 +101,52 @@ impl Link {
                     Some(Cause::EnvFull)
                 }
             }
-            Party::Process(receiver) => refusal_of(&self.actors, usize::from(receiver.0)),
+            Party::Process(process) => {
+                let found = number_for(&self.actors, sender, process, instance);
+                refusal_at(&self.actors, found)
+            }
         }
     }
 
     /// What the effects of a turn do, one after another. The outputs that nobody gets.
-    fn lay_all(&mut self, sender: u8, effects: &[Effect]) -> ArrayVec<Lost, 32>
-        requires process { sender < MOST_PROCESSES }
+    fn lay_all(&mut self, actor: u8, name: ActorName, effects: &[Effect]) -> ArrayVec<Lost, 32>
+        requires actor { actor < MOST_ACTORS }
         requires timers { HaveTimers effects.now }
         requires few { length effects.now ≤ MOST_EFFECTS }
-        ensures link { self.new ≡ laid_all sender self.old effects.now }
-        ensures lost { result.items ≡ losses sender self.old 0 effects.now }
+        ensures link { self.new ≡ laid_all actor name self.old effects.now }
+        ensures lost { result.items ≡ losses actor name self.old 0 effects.now }
     {
         let mut lost = ArrayVec::new();
         for (place, effect) in effects.iter().enumerate() {
-            if let Some(loss) = self.loss(place, effect) {
+            if let Some(loss) = self.loss(name, place, effect) {
                 lost.push(loss);
             }
-            self.lay(sender, effect);
+            self.lay(actor, name, effect);
         }
         lost
     }
 
-    /// A turn of an actor ends with this end, these variables and effects, after so many instructions: the variables come
-    /// first, then the effects one after another, then the end.
+    /// A turn of an actor with this number and this name ends with this end, these variables and effects, after so many instructions: the
+    /// variables come first, then the effects one after another, then the end.
     pub fn finish(
         &mut self,
         actor: u8,
+        name: ActorName,
         end: End,
         variables: ArrayVec<Option<Value>, 32>,
         effects: &[Effect],
         count: u32,
     ) -> Report
-        requires process { actor < MOST_PROCESSES }
+        requires actor { actor < MOST_ACTORS }
         requires timers { HaveTimers effects.now }
         requires few { length effects.now ≤ MOST_EFFECTS }
         requires finishes { self.old.finishes < MOST_TURNS_BEGUN }
         requires instructions { self.old.instructions + count < 2 ^ 64 }
-        ensures link { self.new ≡ finished actor (outcome_with end variables.items effects.now count) self.old }
-        ensures report { result ≡ report_of actor (outcome_with end variables.items effects.now count) self.old }
+        ensures link { self.new ≡ finished actor name (outcome_with end variables.items effects.now count) self.old }
+        ensures report { result ≡ report_of actor name (outcome_with end variables.items effects.now count) self.old }
     {
         self.start(actor, variables, count);
-        let lost = self.lay_all(actor, effects);
+        let lost = self.lay_all(actor, name, effects);
         self.end(actor, end);
         Report { end, count, lost }
     }
@@ -163,7 +168,7 @@ impl Link {
 
     /// A turn ends: the next state comes, or a stop, which empties the port and resets the timers.
     fn end(&mut self, actor: u8, end: End)
-        requires { actor < MOST_PROCESSES }
+        requires { actor < MOST_ACTORS }
         ensures { self.new ≡ ended actor end self.old }
     {
         end_turn(&mut self.actors, usize::from(actor), end);
@@ -173,13 +178,13 @@ impl Link {
     }
 }
 
-/// All timers of a process wait no longer.
-fn reset_all(wheel: &mut Wheel, process: u8)
-    requires { process < MOST_PROCESSES }
-    ensures { timers_of wheel.new ≡ without_timers (timers_of wheel.old) process }
+/// All timers of an actor wait no longer.
+fn reset_all(wheel: &mut Wheel, actor: u8)
+    requires { actor < MOST_ACTORS }
+    ensures { timers_of wheel.new ≡ without_timers (timers_of wheel.old) actor }
 {
     for timer in 0..8u8 {
-        wheel.reset(Timer::new(process, timer));
+        wheel.reset(Timer::new(actor, timer));
     }
 }
 
@@ -193,12 +198,12 @@ fn delay_of(ticks: i32) -> u64
 }
 
 /// The signal as it comes to its receiver.
-fn arrival_of(sender: u8, sending: &Sending) -> Arrival
+fn arrival_of(sender: ActorName, sending: &Sending) -> Arrival
     ensures { result ≡ arrival_of sender sending.now }
 {
     Arrival {
         signal: sending.signal,
         parameters: copied_values(&sending.parameters),
-        sender: Party::Process(ProcessNumber(sender)),
+        sender: sender.address(),
     }
 }

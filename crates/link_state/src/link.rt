@@ -2,14 +2,14 @@
 
 ghost use Rattle.std.specs.Prelude.{◌≡◌, ◌≤◌, ◌<◌, ◌+◌, [], length, map, slice_get, option_map, option_and_then, Option, Some, None, IfOk, IfSome};
 ghost use Rattle.std.specs.Option.{option_copied};
-ghost use Rattle.link_machine.specs.Core.{outs};
+ghost use Rattle.link_machine.specs.Core.{names_in, outs};
 ghost use Rattle.link_machine.specs.declared.actor.Actor.{Actor as PlainActor};
 ghost use Rattle.link_machine.specs.declared.actor.Standing.{Standing as PlainStanding};
-ghost use Rattle.profile_limits.specs.Limits.{MOST_PROCESSES};
+ghost use Rattle.profile_limits.specs.Limits.{MOST_ACTORS};
 
 use crate::actors::count_outs;
 use crate::ring::Ring;
-use link_machine::{Actor, Emitted, Standing};
+use link_machine::{Actor, ActorName, Emitted, Standing};
 use std::marker::Model;
 use tick_wheel::Wheel;
 use turn_code::{Value, VariableNumber};
@@ -31,7 +31,7 @@ impl Model for Link {
     ghost use Rattle.tick_wheel.specs.Timers.{timers_code};
     ghost use Rattle.tick_wheel.specs.Turning.{timers_of};
     ghost use Rattle.link_machine.specs.Core.{Core};
-    ghost use Rattle.profile_limits.specs.Limits.{MOST_PROCESSES};
+    ghost use Rattle.profile_limits.specs.Limits.{MOST_ACTORS};
 
     ghost Value = { Core };
 
@@ -46,14 +46,14 @@ impl Model for Link {
       instructions = l.instructions;
     } };
 
-    ghost invariant = { λ l. length l.actors.items ≤ MOST_PROCESSES };
+    ghost invariant = { λ l. length l.actors.items ≤ MOST_ACTORS };
 }
 
 impl Link {
-    /// The actors, by number. There are 16 at most.
+    /// The actors, by number. There are 128 at most.
     pub fn actors(&self) -> &[Actor]
         ensures value { result.now ≡ self.now.actors }
-        ensures few { length result.now ≤ MOST_PROCESSES }
+        ensures few { length result.now ≤ MOST_ACTORS }
     {
         self.actors.as_slice()
     }
@@ -64,6 +64,16 @@ impl Link {
     {
         match self.actors.get(usize::from(actor)) {
             Some(found) => Some(found.standing),
+            None => None,
+        }
+    }
+
+    /// What an actor is called. None where there is no such actor.
+    pub fn name_of(&self, actor: u16) -> Option<ActorName>
+        ensures { result ≡ slice_get (names_in self.now.actors) actor }
+    {
+        match self.actors.get(usize::from(actor)) {
+            Some(found) => Some(found.name),
             None => None,
         }
     }

@@ -49,11 +49,11 @@ fn saved_of(triggers: &[Trigger]) -> Saved
 }
 
 /// What a state saves, as a port asks for it.
-fn saved_in(set: &Verified, number: u8, state: StateNumber) -> Saved
-    ensures { (x : PlainItem) → saves result x ≡ is_saved set.now number state.0 x }
+fn saved_in(set: &Verified, process: u8, state: StateNumber) -> Saved
+    ensures { (x : PlainItem) → saves result x ≡ is_saved set.now process state.0 x }
 {
     let _valid = set.draft();
-    saved_of(set.saves(ProcessNumber(number), state))
+    saved_of(set.saves(ProcessNumber(process), state))
 }
 
 /// The first item that a state doesn't save.
@@ -93,10 +93,10 @@ fn found_at(set: &Verified, number: u8, standing: Standing, port: &Port) -> Foun
 }
 
 /// What an actor finds.
-pub(crate) fn look(set: &Verified, number: u8, actor: &Actor) -> Found
-    ensures { result ≡ looks set.now number actor.now }
+pub(crate) fn look(set: &Verified, actor: &Actor) -> Found
+    ensures { result ≡ looks set.now actor.now }
 {
-    found_at(set, number, actor.standing, &actor.port)
+    found_at(set, actor.name.process.0, actor.standing, &actor.port)
 }
 
 /// Takes the first item that an actor's state doesn't save; at START, and behind a STOP, there is none.

@@ -1,6 +1,6 @@
 //! Signals of the environment.
 
-ghost use Rattle.std.specs.Prelude.{◌≡◌, ◌≤◌, ◌<◌, ◌&&◌, ◌==◌, nat_lt, length, map, Option, Some, None, slice_get};
+ghost use Rattle.std.specs.Prelude.{◌≡◌, ℕ, ◌≤◌, ◌<◌, ◌&&◌, ◌==◌, nat_lt, length, map, Option, Some, None, slice_get};
 ghost use Rattle.std.specs.List.{list_any};
 ghost use Rattle.turn_code.specs.Values.{sort_of};
 ghost use Rattle.turn_code.specs.Transitions.{parameters_of};
@@ -16,7 +16,7 @@ use arrayvec::ArrayVec;
 use input_port::Arrival;
 use link_machine::{Actor, Refusal, Standing};
 use turn_check::Verified;
-use turn_code::{DraftRoute, DraftSignal, Party, SignalNumber, Sort, Value};
+use turn_code::{Address, DraftRoute, DraftSignal, Party, SignalNumber, Sort, Value};
 
 /// Whether the party is the environment.
 fn is_environment(party: Party) -> bool
@@ -29,17 +29,17 @@ fn is_environment(party: Party) -> bool
 }
 
 /// Whether the party is this process.
-fn is_process(number: u16, party: Party) -> bool
+fn is_process(number: u8, party: Party) -> bool
     ensures { result ≡ is_process number party }
 {
     match party {
         Party::Environment => false,
-        Party::Process(process) => u16::from(process.0) == number,
+        Party::Process(process) => process.0 == number,
     }
 }
 
 /// Whether a route brings a signal from the environment to a process.
-fn offers(number: u16, signal: SignalNumber, route: &DraftRoute) -> bool
+fn offers(number: u8, signal: SignalNumber, route: &DraftRoute) -> bool
     ensures { result ≡ offers number signal route.now }
 {
     is_environment(route.from)
@@ -90,8 +90,8 @@ fn takes(signals: &[DraftSignal], signal: SignalNumber, values: &[Value]) -> boo
     }
 }
 
-/// Whether a route brings a signal with these values from the environment to an actor.
-fn is_offered(set: &Verified, number: u16, signal: SignalNumber, values: &[Value]) -> bool
+/// Whether a route brings a signal with these values from the environment to a process.
+fn is_offered(set: &Verified, number: u8, signal: SignalNumber, values: &[Value]) -> bool
     ensures { result ≡ is_offered set.now number signal values.now }
 {
     some_route_offers(set.draft().routes.as_slice(), number, signal)
@@ -99,7 +99,7 @@ fn is_offered(set: &Verified, number: u16, signal: SignalNumber, values: &[Value
 }
 
 /// Whether some route brings a signal from the environment to a process.
-fn some_route_offers(routes: &[DraftRoute], number: u16, signal: SignalNumber) -> bool
+fn some_route_offers(routes: &[DraftRoute], number: u8, signal: SignalNumber) -> bool
     ensures { result ≡ list_any (offers number signal) routes.now }
 {
     routes.iter().any(|route| offers(number, signal, route))
@@ -118,17 +118,16 @@ fn has_stopped(standing: Standing) -> bool
 /// Why an actor refuses a signal of the environment, if it does.
 pub(crate) fn offer_refusal(
     set: &Verified,
-    number: u16,
     signal: SignalNumber,
     values: &[Value],
     actor: &Actor,
 ) -> Option<Refusal>
-    ensures { result ≡ first_of (offer_rows set.now (record { actor = number; signal = signal; values = record { items = values.now } }) actor.now) }
+    ensures { (number : ℕ) → result ≡ first_of (offer_rows set.now (record { actor = number; signal = signal; values = record { items = values.now } }) actor.now) }
 {
     if has_stopped(actor.standing) {
         return Some(Refusal::Stopped);
     }
-    if !is_offered(set, number, signal, values) {
+    if !is_offered(set, actor.name.process.0, signal, values) {
         return Some(Refusal::NoRoute);
     }
     if actor.port.signals() == actor.port.capacity() {
@@ -145,7 +144,10 @@ impl Link {
         let arrival = Arrival {
             signal,
             parameters: values,
-            sender: Party::Environment,
+            sender: Address {
+                party: Party::Environment,
+                instance: None,
+            },
         };
         deliver(&mut self.actors, usize::from(actor), arrival);
     }

@@ -1,28 +1,35 @@
 //! How a link begins, and copies of it.
 
-ghost use Rattle.std.specs.Prelude.{◌≡◌, ◌≤◌, ◌<◌, ◌+◌, [], length, map, IfOk};
+ghost use Rattle.std.specs.Prelude.{◌≡◌, ◌≤◌, ◌<◌, ◌+◌, ◌++◌, [], length, map, IfOk, OnOk};
 ghost use Rattle.std.specs.List.{AllByRecursion};
-ghost use Rattle.link_machine.specs.Kept.{opened, opened_actor};
-ghost use Rattle.link_state.specs.Opening.{HasFewVariables};
-ghost use Rattle.profile_limits.specs.Limits.{LEAST_PORT, MOST_PORT, MOST_PROCESSES};
+ghost use Rattle.link_machine.specs.Names.{instances_from};
+ghost use Rattle.link_machine.specs.Kept.{opened, opened_actor, opened_from};
+ghost use Rattle.link_state.specs.Opening.{HasFew};
+ghost use Rattle.profile_limits.specs.Limits.{LEAST_PORT, MOST_ACTORS, MOST_PORT, MOST_PROCESSES};
 
 use crate::link::Link;
 use crate::ring::Ring;
 use input_port::Port;
-use link_machine::{Actor, Given, Standing};
+use link_machine::{Actor, ActorName, Given, Standing};
 use std::alloc::{AllocError, Global};
 use tick_wheel::Wheel;
 use turn_check::{Verified, initial_values_of};
-use turn_code::{DraftProcess, Place, copied_variables};
+use turn_code::{DraftProcess, InstanceNumber, Place, ProcessNumber, copied_variables};
 
-/// An actor before its START, with a port for so many signals.
-fn opened_actor(alloc: Global, process: &DraftProcess, port: usize) -> Result<Actor, AllocError>
+/// An actor of a process before its START, with a port for so many signals.
+fn opened_actor(
+    alloc: Global,
+    process: &DraftProcess,
+    name: ActorName,
+    port: usize,
+) -> Result<Actor, AllocError>
     requires least { LEAST_PORT ≤ port }
     requires most { port ≤ MOST_PORT }
-    requires few { HasFewVariables process.now }
-    ensures { IfOk result (λ actor. actor ≡ opened_actor port process.now) }
+    requires few { HasFew process.now }
+    ensures { IfOk result (λ actor. actor ≡ opened_actor port process.now name) }
 {
     Ok(Actor {
+        name,
         standing: Standing::At(Place::Start),
         variables: initial_values_of(process.variables.as_slice()),
         port: Port::new(alloc, port)?,
@@ -49,6 +56,7 @@ fn copied_actor(actor: &Actor) -> Result<Actor, AllocError>
     ensures { IfOk result (λ copy. copy ≡ actor.now) }
 {
     Ok(Actor {
+        name: actor.name,
         standing: actor.standing,
         variables: copied_variables(&actor.variables),
         port: actor.port.copy()?,
@@ -56,7 +64,31 @@ fn copied_actor(actor: &Actor) -> Result<Actor, AllocError>
     })
 }
 
-/// An actor for each process, before its START, with a port for so many signals.
+/// The actors of one process more: each of its instances before its START, with a port for so many signals.
+fn open_process(
+    alloc: Global,
+    actors: &mut Vec<Actor>,
+    number: u8,
+    process: &DraftProcess,
+    port: usize,
+) -> Result<(), AllocError>
+    requires least { LEAST_PORT ≤ port }
+    requires most { port ≤ MOST_PORT }
+    requires few { HasFew process.now }
+    ensures { OnOk result (actors.new.items ≡ actors.old.items ++ map (opened_actor port process.now) (instances_from number 1 process.now.instances)) }
+{
+    let count = process.instances as u8;
+    for done in 0..count {
+        let name = ActorName {
+            process: ProcessNumber(number),
+            instance: InstanceNumber(done + 1),
+        };
+        actors.push(opened_actor(alloc, process, name, port)?)?;
+    }
+    Ok(())
+}
+
+/// The actors of all processes, before their START, with a port for so many signals each.
 fn opened_actors(
     alloc: Global,
     processes: &[DraftProcess],
@@ -64,12 +96,16 @@ fn opened_actors(
 ) -> Result<Vec<Actor>, AllocError>
     requires least { LEAST_PORT ≤ port }
     requires most { port ≤ MOST_PORT }
-    requires few { AllByRecursion HasFewVariables processes.now }
-    ensures { IfOk result (λ actors. actors.items ≡ map (opened_actor port) processes.now) }
+    requires few { AllByRecursion HasFew processes.now }
+    requires count { length processes.now ≤ MOST_PROCESSES }
+    ensures actors { IfOk result (λ actors. actors.items ≡ opened_from port 0 processes.now) }
+    ensures few { IfOk result (λ actors. length actors.items ≤ MOST_ACTORS) }
 {
-    let mut actors = Vec::with_capacity(alloc, processes.len())?;
+    let mut actors = Vec::new(alloc);
+    let mut number = 0;
     for process in processes {
-        actors.push(opened_actor(alloc, process, port)?)?;
+        open_process(alloc, &mut actors, number, process, port)?;
+        number += 1;
     }
     Ok(actors)
 }
@@ -88,15 +124,15 @@ fn copied_actors(alloc: Global, actors: &[Actor]) -> Result<Vec<Actor>, AllocErr
 /// The processes of a set.
 fn processes_of(set: &Verified) -> &[DraftProcess]
     ensures value { result.now ≡ set.now.processes }
-    ensures few { AllByRecursion HasFewVariables result.now }
+    ensures few { AllByRecursion HasFew result.now }
     ensures count { length result.now ≤ MOST_PROCESSES }
 {
     set.draft().processes.as_slice()
 }
 
 impl Link {
-    /// The link of a set as it begins: each process is an actor before its START, with a port for so many signals, and there is
-    /// room for so many signals to the environment.
+    /// The link of a set as it begins: each instance of each process is an actor before its START, with a port for so many signals, and
+    /// there is room for so many signals to the environment.
     pub fn open(alloc: Global, set: &Verified, port: usize, env: usize) -> Result<Link, AllocError>
         requires least { LEAST_PORT ≤ port }
         requires most { port ≤ MOST_PORT }

@@ -5,7 +5,6 @@ ghost use Rattle.link_machine.specs.Refusals.{refuses, refuses_in, of_actor, fir
 ghost use Rattle.link_machine.specs.declared.event.Event.{Event as PlainEvent};
 ghost use Rattle.link_machine.specs.declared.event.Event.TheVariants.{Offer as Offered, Begin, Skip, Finish, Advance, TakeEnv};
 ghost use Rattle.turn_code.specs.declared.draft.Draft.{Draft as PlainDraft};
-ghost use Rattle.profile_limits.specs.Limits.{MOST_PROCESSES};
 
 use crate::clock::advance_refusal;
 use crate::link::Link;
@@ -42,37 +41,27 @@ fn offer_refusal_at(
     ensures { result ≡ of_actor (λ a. first_of (offer_rows set.now (record { actor = actor; signal = signal; values = record { items = values.now } }) a)) (slice_get actors.now actor) }
 {
     match actors.get(usize::from(actor)) {
-        Some(found) => offer_refusal(set, actor, signal, values, found),
+        Some(found) => offer_refusal(set, signal, values, found),
         None => Some(Refusal::NoActor),
     }
 }
 
-/// The number of an actor in fewer bits.
-fn small(actor: u16) -> u8
-    requires { actor < MOST_PROCESSES }
-    ensures { result ≡ actor }
-{
-    actor as u8
-}
-
 /// Why actor `actor` can't begin a turn, if it can't.
 fn begin_refusal_at(set: &Verified, actor: u16, turns: u64, actors: &[Actor]) -> Option<Refusal>
-    requires { length actors.now ≤ MOST_PROCESSES }
-    ensures { result ≡ of_actor (λ a. first_of (begin_rows set.now actor turns a)) (slice_get actors.now actor) }
+    ensures { result ≡ of_actor (λ a. first_of (begin_rows set.now turns a)) (slice_get actors.now actor) }
 {
     match actors.get(usize::from(actor)) {
-        Some(found) => begin_refusal(set, small(actor), turns, found),
+        Some(found) => begin_refusal(set, turns, found),
         None => Some(Refusal::NoActor),
     }
 }
 
 /// Why actor `actor` can't throw a signal away, if it can't.
 fn skip_refusal_at(set: &Verified, actor: u16, actors: &[Actor]) -> Option<Refusal>
-    requires { length actors.now ≤ MOST_PROCESSES }
-    ensures { result ≡ of_actor (λ a. first_of (skip_rows set.now actor a)) (slice_get actors.now actor) }
+    ensures { result ≡ of_actor (λ a. first_of (skip_rows set.now a)) (slice_get actors.now actor) }
 {
     match actors.get(usize::from(actor)) {
-        Some(found) => skip_refusal(set, small(actor), found),
+        Some(found) => skip_refusal(set, found),
         None => Some(Refusal::NoActor),
     }
 }

@@ -21,18 +21,13 @@ use turn_code::{Input, Trigger, Value, copied_variables};
 const TURNS: u64 = 1 << 40;
 
 /// Why an actor can't begin a turn, if it can't.
-pub(crate) fn begin_refusal(
-    set: &Verified,
-    number: u8,
-    turns: u64,
-    actor: &Actor,
-) -> Option<Refusal>
-    ensures { result ≡ first_of (begin_rows set.now number turns actor.now) }
+pub(crate) fn begin_refusal(set: &Verified, turns: u64, actor: &Actor) -> Option<Refusal>
+    ensures { result ≡ first_of (begin_rows set.now turns actor.now) }
 {
     if actor.is_out() {
         return Some(Refusal::Busy);
     }
-    match look(set, number, actor) {
+    match look(set, actor) {
         Found::Nothing => Some(Refusal::Nothing),
         Found::Ignored => Some(Refusal::SkipFirst),
         Found::Start | Found::Input(_) => {
@@ -46,13 +41,13 @@ pub(crate) fn begin_refusal(
 }
 
 /// Why an actor can't throw a signal away, if it can't.
-pub(crate) fn skip_refusal(set: &Verified, number: u8, actor: &Actor) -> Option<Refusal>
-    ensures { result ≡ first_of (skip_rows set.now number actor.now) }
+pub(crate) fn skip_refusal(set: &Verified, actor: &Actor) -> Option<Refusal>
+    ensures { result ≡ first_of (skip_rows set.now actor.now) }
 {
     if actor.is_out() {
         return Some(Refusal::Busy);
     }
-    match look(set, number, actor) {
+    match look(set, actor) {
         Found::Nothing => Some(Refusal::Nothing),
         Found::Start | Found::Input(_) => Some(Refusal::NotIgnored),
         Found::Ignored => None,
@@ -88,11 +83,11 @@ fn input_with(variables: &ArrayVec<Option<Value>, 32>, item: Option<Item>) -> In
 }
 
 /// An actor takes the item that it finds, and has a turn out.
-fn begin(set: &Verified, number: u8, turn: u64, actor: &mut Actor)
-    ensures { actor.new ≡ begun set.now number turn actor.old }
+fn begin(set: &Verified, turn: u64, actor: &mut Actor)
+    ensures { actor.new ≡ begun set.now turn actor.old }
 {
-    let found = look(set, number, actor);
-    let item = take(set, number, actor.standing, &mut actor.port);
+    let found = look(set, actor);
+    let item = take(set, actor.name.process.0, actor.standing, &mut actor.port);
     let input = input_with(&actor.variables, item);
     actor.given = Some(Given {
         turn,
@@ -102,11 +97,11 @@ fn begin(set: &Verified, number: u8, turn: u64, actor: &mut Actor)
 }
 
 /// An actor throws away the item that it finds.
-fn skip(set: &Verified, number: u8, actor: &mut Actor) -> Option<Trigger>
-    ensures actor { actor.new ≡ skipped set.now number actor.old }
-    ensures skipped { result ≡ option_map trigger_of (item_at set.now number actor.old.standing actor.old.port.items) }
+fn skip(set: &Verified, actor: &mut Actor) -> Option<Trigger>
+    ensures actor { actor.new ≡ skipped set.now actor.old }
+    ensures skipped { result ≡ option_map trigger_of (item_at set.now actor.old.name.process.0 actor.old.standing actor.old.port.items) }
 {
-    match take(set, number, actor.standing, &mut actor.port) {
+    match take(set, actor.name.process.0, actor.standing, &mut actor.port) {
         Some(item) => Some(trigger_of(&item)),
         None => None,
     }
@@ -114,20 +109,20 @@ fn skip(set: &Verified, number: u8, actor: &mut Actor) -> Option<Trigger>
 
 /// Actor `number` takes the item that it finds, and has a turn out.
 fn begin_at(set: &Verified, number: u8, turn: u64, actors: &mut [Actor])
-    ensures { actors.new ≡ change actors.old number (begun set.now number turn) }
+    ensures { actors.new ≡ change actors.old number (begun set.now turn) }
 {
     if usize::from(number) < actors.len() {
-        begin(set, number, turn, &mut actors[usize::from(number)]);
+        begin(set, turn, &mut actors[usize::from(number)]);
     }
 }
 
 /// Actor `number` throws away the item that it finds.
 fn skip_at(set: &Verified, number: u8, actors: &mut [Actor]) -> Option<Trigger>
-    ensures actors { actors.new ≡ change actors.old number (skipped set.now number) }
-    ensures skipped { result ≡ skipped_by set.now number (slice_get actors.old number) }
+    ensures actors { actors.new ≡ change actors.old number (skipped set.now) }
+    ensures skipped { result ≡ skipped_by set.now (slice_get actors.old number) }
 {
     if usize::from(number) < actors.len() {
-        skip(set, number, &mut actors[usize::from(number)])
+        skip(set, &mut actors[usize::from(number)])
     } else {
         None
     }
@@ -137,7 +132,7 @@ impl Link {
     /// An actor begins a turn: it takes the item that it finds, and has the turn out.
     pub fn begin(&mut self, set: &Verified, actor: u8)
         requires { self.old.turns < MOST_TURNS_BEGUN }
-        ensures { self.new ≡ record self.old { actors = change self.old.actors actor (begun set.now actor self.old.turns); turns = self.old.turns + 1 } }
+        ensures { self.new ≡ record self.old { actors = change self.old.actors actor (begun set.now self.old.turns); turns = self.old.turns + 1 } }
     {
         begin_at(set, actor, self.turns, &mut self.actors);
         self.turns += 1;
@@ -145,8 +140,8 @@ impl Link {
 
     /// An actor throws away the item that it finds.
     pub fn skip(&mut self, set: &Verified, actor: u8) -> Option<Trigger>
-        ensures link { self.new ≡ record self.old { actors = change self.old.actors actor (skipped set.now actor) } }
-        ensures skipped { result ≡ skipped_by set.now actor (slice_get self.old.actors actor) }
+        ensures link { self.new ≡ record self.old { actors = change self.old.actors actor (skipped set.now) } }
+        ensures skipped { result ≡ skipped_by set.now (slice_get self.old.actors actor) }
     {
         skip_at(set, actor, &mut self.actors)
     }

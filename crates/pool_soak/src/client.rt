@@ -1,6 +1,7 @@
 //! The client that does what a script says.
 
 use crate::script::Step;
+use actor_words::actor_called;
 use script_lines::Offer;
 use std::sync::Wait;
 use std::sync::ledger::Ledger;
@@ -39,14 +40,13 @@ impl Script<'_> {
         link: usize,
         offer: &Offer<'_>,
     ) {
-        let Some(process) = self.set.process_of(offer.process) else {
+        let Some(actor) = actor_called(self.set, offer.process) else {
             return;
         };
         let Some(signal) = self.set.signal_of(offer.signal) else {
             return;
         };
-        let actor = u16::from(process.0);
-        if let Ok(receipt) = pool.offer(link, actor, signal, &offer.values, seat) {
+        if let Ok(receipt) = pool.offer(link, actor.number, signal, &offer.values, seat) {
             self.keep(receipt);
         }
     }

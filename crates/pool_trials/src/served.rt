@@ -2,7 +2,7 @@
 
 use crate::stopped::Stopped;
 use crate::wanderer::{Made, NAMES, Wanderer, Way};
-use actor_book::{Book, Limits};
+use actor_book::{ActorName, Book, Limits, number_of};
 use mtp2_text::{LoadFault, Verified, load, standard};
 use std::alloc::{AllocError, Global};
 use std::rt::Runtime;
@@ -10,7 +10,7 @@ use std::str::SplitWhitespace;
 use std::sync::Wait;
 use std::thread::Threads;
 use std::time::{Duration, Instant};
-use turn_code::{Party, ProcessNumber, SignalNumber};
+use turn_code::{InstanceNumber, Party, ProcessNumber, SignalNumber};
 use turn_pool::{Closed, Gate, JobName, PoolFault, serve};
 
 /// A gate that looks at nobody.
@@ -70,16 +70,33 @@ fn set_of(alloc: Global, text: &str) -> Result<Verified, Stopped> {
     }
 }
 
-/// Adds the signals that routes bring a process from the environment.
-fn add_ways(ways: &mut Vec<Way>, set: &Verified, process: u8) -> Result<(), AllocError> {
-    let to = Party::Process(ProcessNumber(process));
+/// Adds the signals that routes bring an actor of a process from the environment.
+fn add_ways(
+    ways: &mut Vec<Way>,
+    set: &Verified,
+    process: ProcessNumber,
+    actor: u16,
+) -> Result<(), AllocError> {
+    let to = Party::Process(process);
     for signal in 0..set.signal_count().min(256) {
         let signal = SignalNumber(signal as u8);
         if set.carries(Party::Environment, to, signal) {
-            ways.push(Way {
-                actor: u16::from(process),
-                signal,
-            })?;
+            ways.push(Way { actor, signal })?;
+        }
+    }
+    Ok(())
+}
+
+/// The same of all actors of a process.
+fn add_actors(
+    ways: &mut Vec<Way>,
+    set: &Verified,
+    process: ProcessNumber,
+) -> Result<(), AllocError> {
+    for instance in 1..9u8 {
+        let instance = InstanceNumber(instance);
+        if let Some(actor) = number_of(set, ActorName { process, instance }) {
+            add_ways(ways, set, process, actor)?;
         }
     }
     Ok(())
@@ -89,7 +106,7 @@ fn add_ways(ways: &mut Vec<Way>, set: &Verified, process: u8) -> Result<(), Allo
 fn ways_of(alloc: Global, set: &Verified) -> Result<Vec<Way>, AllocError> {
     let mut ways = Vec::new(alloc);
     for process in 0..set.process_count().min(256) {
-        add_ways(&mut ways, set, process as u8)?;
+        add_actors(&mut ways, set, ProcessNumber(process as u8))?;
     }
     Ok(ways)
 }

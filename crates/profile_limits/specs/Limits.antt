@@ -11,6 +11,14 @@ LONGEST_NAME = 32
 abbrev pub MOST_PROCESSES : ℕ
 MOST_PROCESSES = 16
 
+-- how many instances a process may have
+abbrev pub MOST_INSTANCES : ℕ
+MOST_INSTANCES = 8
+
+-- how many actors a set may have: 8 instances of each of 16 processes
+abbrev pub MOST_ACTORS : ℕ
+MOST_ACTORS = 128
+
 -- how many states a process may have
 abbrev pub MOST_STATES : ℕ
 MOST_STATES = 64
@@ -22,10 +30,6 @@ MOST_VARIABLES = 32
 -- how many timers a process may have
 abbrev pub MOST_TIMERS_EACH : ℕ
 MOST_TIMERS_EACH = 8
-
--- how many timers all processes of a set may have together: 8 for each of 16
-abbrev pub MOST_TIMERS : ℕ
-MOST_TIMERS = 128
 
 -- how many signals a set may have
 abbrev pub MOST_SIGNALS : ℕ

@@ -46,11 +46,12 @@ pub record AreInRange (s : Settings) : Type 0 where
   pub least_journal : LEAST_JOURNAL ≤ s.journal
   pub most_journal : s.journal ≤ MOST_JOURNAL
 
--- what the first lines set, the last one of a kind for good, and the lines behind them
+-- what is left of the lines from one on: where it sets a number the head goes on behind it, and else the head is over and the line stays
 abbrev pub head_by : Settings → List PlainLine → (Settings → Settings × List PlainLine) → Option Setting → Settings × List PlainLine
 head_by s lines go None = (s, lines)
 head_by s lines go (Some setting) = go (set setting s)
 
+-- what the first lines set, the last one of a kind for good, and the lines from the first on that sets nothing
 abbrev pub after_head : Settings → List PlainLine → Settings × List PlainLine
 after_head s [] = (s, [])
 after_head s (line ∷ more) = head_by s (line ∷ more) (λ t. after_head t more) (setting_of line.words)

@@ -11,7 +11,8 @@ use Rattle.turn_code.specs.declared.input.Place.TheVariants.{Start, State}
 use Rattle.turn_code.specs.declared.draft.Draft.{Draft}
 use Rattle.turn_code.specs.declared.draft.Trigger.{Trigger}
 use Rattle.turn_code.specs.declared.draft.Trigger.TheVariants.{Signal, Timer}
-use Rattle.turn_check.specs.Named.{process_names, signal_names, timer_names, state_names, trigger_at}
+use Rattle.turn_check.specs.Named.{instances_at, process_names, signal_names, timer_names, state_names, trigger_at}
+use Rattle.link_machine.specs.actor_names_types.name.ActorName.{ActorName}
 use Rattle.link_machine.specs.declared.actor.Standing.{Standing}
 use Rattle.link_machine.specs.declared.actor.Standing.TheVariants.{At, Stopped}
 use Rattle.link_machine.specs.declared.reply.Report.{Report}
@@ -70,9 +71,12 @@ skipped_text d p x = codes "ok " ++ trigger_text d p x
 
 -- ---- what waited for the environment
 
--- an actor is numbered as its process, of which there are less than 256
-abbrev pub sender_text : Draft → ℕ → List ℕ
-sender_text d n = if nat_lt n 256 then process_text d n else []
+-- `P`, or `P.k` where process P has more than one instance
+abbrev pub instance_text : ℕ → ℕ → List ℕ
+instance_text n k = if nat_lt 1 n then codes "." ++ decimal k else []
+
+abbrev pub sender_text : Draft → ActorName → List ℕ
+sender_text d x = process_text d x.process.0 ++ instance_text (instances_at d x.process.0) x.instance.0
 
 abbrev pub taken_text : Draft → Emitted → List ℕ
 taken_text d x = sender_text d x.sender ++ codes " " ++ signal_text d x.signal.0 ++ flat_map (λ v. 32 ∷ value_text v) x.parameters.items

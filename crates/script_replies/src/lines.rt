@@ -5,7 +5,7 @@ ghost use Rattle.script_replies.specs.Printed.{place_text, begun_text, end_text,
 
 use crate::names::{input_text, process_text, signal_text, state_text, trigger_text};
 use crate::shown::{Counts, Shown};
-use link_machine::{Emitted, Report, Standing};
+use link_machine::{ActorName, Emitted, Report, Standing};
 use std::alloc::{AllocError, Global};
 use turn_check::Verified;
 use turn_code::{End, Place, ProcessNumber, StateNumber, Trigger, Value};
@@ -106,22 +106,30 @@ fn push_values(alloc: Global, line: &mut Vec<u8>, values: &[Value]) -> Result<()
     Ok(())
 }
 
-/// The name of the process that sent a signal.
-fn sender_text(set: &Verified, sender: u16) -> &[u8]
-    ensures { result.now ≡ sender_text set.now sender }
+/// Who sent a signal, behind what is there: the process, and the instance where there is more than one.
+fn push_sender(
+    alloc: Global,
+    line: &mut Vec<u8>,
+    set: &Verified,
+    sender: ActorName,
+) -> Result<(), AllocError>
+    ensures { OnOk result (line.new.items ≡ line.old.items ++ sender_text set.now sender) }
 {
-    if sender < 256 {
-        process_text(set, ProcessNumber(sender as u8))
-    } else {
-        &[]
+    line.extend_from_slice(process_text(set, sender.process))?;
+    if 1 < set.instances(sender.process) {
+        let number = sender.instance.0;
+        let text = format!(in alloc; ".{number}")?;
+        line.extend_from_slice(text.as_bytes())?;
     }
+    Ok(())
 }
 
 /// `SENDER SIG v..`: what waited for the environment.
 pub fn taken_line(alloc: Global, set: &Verified, emitted: &Emitted) -> Result<Vec<u8>, AllocError>
     ensures { IfOk result (λ v. v.items ≡ taken_text set.now emitted.now) }
 {
-    let mut line = Vec::from_slice(alloc, sender_text(set, emitted.sender))?;
+    let mut line = Vec::new(alloc);
+    push_sender(alloc, &mut line, set, emitted.sender)?;
     line.push(b' ')?;
     line.extend_from_slice(signal_text(set, emitted.signal))?;
     push_values(alloc, &mut line, emitted.parameters.as_slice())?;

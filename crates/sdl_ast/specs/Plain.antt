@@ -145,13 +145,24 @@ pub data PlainDeclaration : Type 0 where
   variables : List PlainGroup → PlainDeclaration
   timers : List Identifier → PlainDeclaration
 
+-- What a process begins with: its name, and how many instances of it run.
+pub record PlainProcessHead : Type 0 where
+  pub name : Identifier
+  pub instances : ℕ
+
 -- A PROCESS.
 pub record PlainProcess : Type 0 where
   pub name : Identifier
+  pub instances : ℕ
   pub declarations : List PlainDeclaration
   pub start : PlainStart
   pub states : List PlainState
   pub connections : List PlainConnection
+
+-- one instance where no number of them is written
+abbrev pub process_head : Identifier → Option ℕ → PlainProcessHead
+process_head name None = record { name = name; instances = 1 }
+process_head name (Some n) = record { name = name; instances = n }
 
 -- A part of the body of a process: a STATE part or a CONNECTION. They stand in any order.
 pub data PlainSection : Type 0 where
@@ -167,9 +178,10 @@ connection_in (in_state s) = None
 connection_in (in_connection c) = Some c
 
 -- a process with these parts of its body: STATE parts and CONNECTIONs apart, each in the order of the text
-abbrev pub process_from : Identifier → List PlainDeclaration → PlainStart → List PlainSection → PlainProcess
-process_from name declarations start sections = record {
-  name = name;
+abbrev pub process_from : PlainProcessHead → List PlainDeclaration → PlainStart → List PlainSection → PlainProcess
+process_from head declarations start sections = record {
+  name = head.name;
+  instances = head.instances;
   declarations = declarations;
   start = start;
   states = filter_map state_in sections;

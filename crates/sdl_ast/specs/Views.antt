@@ -140,6 +140,7 @@ declaration_of (Timers names) = timers names.items
 abbrev pub process_of : the_process.Process → PlainProcess
 process_of p = record {
   name = p.name;
+  instances = p.instances;
   declarations = map declaration_of p.declarations.items;
   start = start_of p.start;
   states = map state_of p.states.items;

@@ -73,6 +73,8 @@ pub enum Party {
 #[derive(Debug, Drop)]
 pub struct Process {
     pub name: Identifier,
+    /// How many instances of it run: in a text 1 or more.
+    pub instances: u32,
     pub declarations: Vec<Declaration>,
     pub start: Start,
     pub states: Vec<StatePart>,

@@ -1,7 +1,6 @@
 -- What is read, or the place of the first TASK, OUTPUT, SET or DECISION in it that is too high.
 use Rattle.std.specs.Prelude.{ℕ, min, List, [], ◌∷◌, ◌++◌, Option, Some, None}
-use Rattle.sdl_ast.specs.declared.expression.Identifier.{Identifier}
-use Rattle.sdl_ast.specs.Plain.{PlainAnswer, Choice, PlainStatement, decide, all_answers, PlainQuestion, PlainStart, PlainDeclaration, PlainState, PlainConnection, PlainProcess}
+use Rattle.sdl_ast.specs.Plain.{PlainAnswer, Choice, PlainStatement, decide, all_answers, PlainQuestion, PlainStart, PlainDeclaration, PlainState, PlainConnection, PlainProcessHead, PlainProcess}
 use Rattle.sdl_ast.specs.Heights.{high_in_statement}
 
 pub data Marked (A : Type 0) : Type 0 where
@@ -40,16 +39,16 @@ decided asked (kept answers) (kept others) = marked high_in_statement (decide as
 decided asked (kept answers) (too_high at) = too_high asked.at
 decided asked (too_high at) others = too_high asked.at
 
-abbrev pub process_with : Identifier → List PlainDeclaration → PlainStart → List PlainState → List PlainConnection → PlainProcess
-process_with name declarations start states connections = record { name = name; declarations = declarations; start = start; states = states; connections = connections }
+abbrev pub process_with : PlainProcessHead → List PlainDeclaration → PlainStart → List PlainState → List PlainConnection → PlainProcess
+process_with head declarations start states connections = record { name = head.name; instances = head.instances; declarations = declarations; start = start; states = states; connections = connections }
 
 -- STATE parts and CONNECTIONs stand mixed in the text, so the lesser of two marks stays
-abbrev pub body_marked : Identifier → List PlainDeclaration → PlainStart → Marked (List PlainState) → Marked (List PlainConnection) → Marked PlainProcess
-body_marked name declarations start (kept states) (kept connections) = kept (process_with name declarations start states connections)
-body_marked name declarations start (kept states) (too_high at) = too_high at
-body_marked name declarations start (too_high at) (kept connections) = too_high at
-body_marked name declarations start (too_high at) (too_high other) = too_high (min at other)
+abbrev pub body_marked : PlainProcessHead → List PlainDeclaration → PlainStart → Marked (List PlainState) → Marked (List PlainConnection) → Marked PlainProcess
+body_marked head declarations start (kept states) (kept connections) = kept (process_with head declarations start states connections)
+body_marked head declarations start (kept states) (too_high at) = too_high at
+body_marked head declarations start (too_high at) (kept connections) = too_high at
+body_marked head declarations start (too_high at) (too_high other) = too_high (min at other)
 
-abbrev pub process_marked : Identifier → List PlainDeclaration → Marked PlainStart → Marked (List PlainState) → Marked (List PlainConnection) → Marked PlainProcess
-process_marked name declarations (kept start) states connections = body_marked name declarations start states connections
-process_marked name declarations (too_high at) states connections = too_high at
+abbrev pub process_marked : PlainProcessHead → List PlainDeclaration → Marked PlainStart → Marked (List PlainState) → Marked (List PlainConnection) → Marked PlainProcess
+process_marked head declarations (kept start) states connections = body_marked head declarations start states connections
+process_marked head declarations (too_high at) states connections = too_high at

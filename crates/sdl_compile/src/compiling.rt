@@ -5,8 +5,7 @@ ghost use Rattle.turn_code.specs.Valid.{IsValid};
 ghost use Rattle.sdl_drafts.specs.Blocks.{MatchesBlock};
 ghost use Rattle.sdl_drafts.specs.Meaning.{RunsAsMeant};
 
-use sdl_drafts::{Surveys, compile_block};
-use sdl_rules::Resolved;
+use sdl_drafts::{Resolved, Surveys, compile_block};
 use std::alloc::{AllocError, Global};
 use turn_code::Draft;
 

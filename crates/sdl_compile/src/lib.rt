@@ -5,3 +5,4 @@ mod compiling;
 
 pub use compiling::compile;
 pub use sdl_drafts::laws::set_law;
+pub use sdl_drafts::{ControlPath, Limit, Resolved, RuleFault, Step, resolve};

@@ -75,6 +75,8 @@ pub record FineProcess (c : Scope) : Type 0 where
   pub saves : Each (Each (IsTrigger c)) (saves_by_state c.process)
   pub connections : Each (λ (k : PlainConnection). FineText c (connection_origins c.process k) k.at k.text) c.process.connections
   pub initial : flat_map wrong_initial (variables_of c.process) ≡ []
+  pub some : 1 ≤ c.process.instances
+  pub instances : c.process.instances ≤ 8
   pub states : length (states_of c.process) ≤ 64
   pub variables : length (variables_of c.process) ≤ 32
   pub timers : length (timers_of c.process) ≤ 8

@@ -11,7 +11,7 @@ use Rattle.sdl_ast.specs.declared.tree.End.{End}
 use Rattle.sdl_ast.specs.declared.tree.End.TheVariants.{NextState, Stop, Join}
 use Rattle.sdl_ast.specs.declared.tree.Range.{Range}
 use Rattle.sdl_ast.specs.Plain.{Tree, number, truth, variable, unary, binary, PlainAssignment, PlainSending, PlainAction, task, output, set_timer, reset_timer, Text, falls, ends, does, decides, Choice, nothing_else, otherwise, answer}
-use Rattle.turn_code.specs.declared.input.Party.{Party}
+use Rattle.turn_code.specs.declared.input.Address.{Address}
 use Rattle.sdl_tables.specs.Names.{same_name, is_in, number_of, variables_of, variable_names, timers_of, connector_names, states_of, signal_names, process_names}
 use Rattle.sdl_sound.specs.Statements.{Statement, finishes, statements_of, choice_statements}
 use Rattle.sdl_sound.specs.Actions.{Origin}
@@ -233,7 +233,7 @@ module _ (c : Scope) where
   -- ---- answers to the sender
 
   module _ (is : List Origin) (from : Option Identifier)
-      (gets : (x : Identifier) → answers_all c.block c.process is x.name ≡ true → (sender : Option Party) → IsSentTo c from sender → IsSome (to_sender c x sender)) where
+      (gets : (x : Identifier) → answers_all c.block c.process is x.name ≡ true → (sender : Option Address) → IsSentTo c from sender → IsSome (to_sender c x sender)) where
     answer_all : (at : ℕ) (list : List PlainSending) → flat_map (lost_sending c.block c.process is (Some (address.Sender at))) list ≡ [] → AnswerAll c from list
     answer_all at [] l = tt
     answer_all at (x ∷ rest) l =

@@ -6,7 +6,7 @@ use Rattle.std.specs.Option.{option_map}
 use Rattle.sdl_ast.specs.declared.expression.Identifier.{Identifier}
 use Rattle.sdl_ast.specs.Plain.{PlainProcess, PlainBlock}
 use Rattle.turn_code.specs.declared.input.Input as code_input
-use Rattle.turn_code.specs.declared.input.Party.{Party}
+use Rattle.turn_code.specs.declared.input.Address.{Address}
 use Rattle.turn_code.specs.declared.input.Place.{Place}
 use Rattle.turn_code.specs.declared.input.Place.TheVariants.{Start, State}
 use Rattle.turn_code.specs.declared.draft.Draft.{Draft}
@@ -52,14 +52,14 @@ paired R (x ∷ xs) (z ∷ ys) (suc n) y zips e =
 
 module _ (b : PlainBlock) (d : Draft) (matches : MatchesBlock b d) (known : Each (IsKnownPath b) (paths_of b)) where
   -- who fits may have sent it
-  may_send : (n : ℕ) (p : PlainProcess) (id : Identifier) (sender : Option Party) → slice_get (process_names b) n ≡ Some p.name → IsBrought d n (Some (trigger_of (scope_of b p) id)) sender → IsSentTo (scope_of b p) (Some id) sender
+  may_send : (n : ℕ) (p : PlainProcess) (id : Identifier) (sender : Option Address) → slice_get (process_names b) n ≡ Some p.name → IsBrought d n (Some (trigger_of (scope_of b p) id)) sender → IsSentTo (scope_of b p) (Some id) sender
   may_send n p id sender at brought = by_number (signal_at (scope_of b p) id) refl sender brought
     where
-      by_number : (o : Option ℕ) → signal_at (scope_of b p) id ≡ o → (sender : Option Party)
+      by_number : (o : Option ℕ) → signal_at (scope_of b p) id ≡ o → (sender : Option Address)
           → IsBrought d n (Some (trigger_with o (number_or_zero (number_of (timers_of p) id.name)))) sender → IsSentIf (scope_of b p) id o sender
       by_number None e sender h = tt
       by_number (Some m) e None h = h
-      by_number (Some m) e (Some s) h = sent_by b p n id (record { 0 = m }) s at e known (subst (Any (Brings s n (record { 0 = m }))) matches.routes h)
+      by_number (Some m) e (Some s) h = sent_by b p n id (record { 0 = m }) s at e known (subst (Any (Brings s.party n (record { 0 = m }))) matches.routes h)
 
   start_meant : (n : ℕ) (i : ℕ) (t : Transition) (x : code_input.Input) (p : PlainProcess) (dp : DraftProcess) → slice_get (processes_of b) n ≡ Some p → MatchesProcess b p dp → start_at n dp i ≡ Some t → IsMeant b n Start i x (run t.piece.code x)
   start_meant n zero t x p dp there m e =

@@ -13,7 +13,7 @@ use Rattle.turn_code.specs.declared.draft.DraftInput.{DraftInput}
 use Rattle.turn_code.specs.declared.numbers.StateNumber.{StateNumber}
 use Rattle.turn_code.specs.Transitions.{Transition, start_of, input_of, input_at, start_at, place_at, process_at, transition_at}
 use Rattle.turn_code.specs.Run.{Ran, run}
-use Rattle.turn_code.specs.Outcome.{outcome_in}
+use Rattle.turn_code.specs.Outcome.{result_in}
 use Rattle.sdl_tables.specs.Names.{Input, processes_of, inputs_by_state}
 use Rattle.sdl_sound.specs.Longest.{start_piece, input_piece}
 use Rattle.sdl_sound.specs.Sound.{Sound}
@@ -24,10 +24,10 @@ use Rattle.sdl_drafts.specs.Meaning.{input_of_state, IsMeant, RunsAsMeant}
 use Rattle.sdl_drafts.specs.Meant.{meant_by, meant_in, meaning_of, IsCertifiedBy, IsSetOf}
 use Rattle.sdl_drafts.proofs.Meaning.{paired, runs_as_meant}
 
-as_function : (b : PlainBlock) (n : ℕ) (s : Place) (i : ℕ) (x : code_input.Input) (r : Ran) → IsMeant b n s i x r → meaning_of b n s i x ≡ outcome_in r
+as_function : (b : PlainBlock) (n : ℕ) (s : Place) (i : ℕ) (x : code_input.Input) (r : Ran) → IsMeant b n s i x r → meaning_of b n s i x ≡ result_in r
 unfolding meaning_of
 as_function b n s i x r m =
-    ap (meant_in b s i x) m.there ∙ ap (λ q. meant_by (scope_of b m.process) q x) m.piece_there ∙ ap outcome_in (sym m.act)
+    ap (meant_in b s i x) m.there ∙ ap (λ q. meant_by (scope_of b m.process) q x) m.piece_there ∙ ap result_in (sym m.act)
 
 module _ (b : PlainBlock) (d : Draft) (matches : MatchesBlock b d) where
   start_certified : (n : ℕ) (i : ℕ) (t : Transition) (p : PlainProcess) (dp : DraftProcess) → slice_get (processes_of b) n ≡ Some p → MatchesProcess b p dp

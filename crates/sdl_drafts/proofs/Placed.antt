@@ -251,6 +251,8 @@ module _ (c : Scope) (n : ℕ) (d : DraftProcess) (fine : FineProcess c) (ready 
         initial = subst (All StartsRight) (sym made.variables) (all_start_right (variables_of c.process) fine.initial);
         saves = all_saved c draft.signals d (saves_by_state c.process) d.states ss timer_count fine.saves made.saves;
         limits = record {
+          some = let is = made.instances in let one = fine.some in omega (arith, is, one);
+          instances = let is = made.instances in let few = fine.instances in omega (arith, is, few);
           states = omega (arith, count, fine.states);
           variables = omega (arith, xs, ys, fine.variables);
           timers = omega (arith, timer_count, fine.timers);

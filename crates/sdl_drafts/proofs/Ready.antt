@@ -6,13 +6,14 @@ use Rattle.std.specs.Option.{option_map}
 use Rattle.std.proofs.lemmas.List.{length-map}
 use Rattle.sdl_ast.specs.declared.expression.Identifier.{Identifier}
 use Rattle.sdl_ast.specs.Plain.{Text, PlainStimulus, PlainInput, PlainClause, input, save, PlainState, PlainConnection, PlainProcess, PlainBlock}
-use Rattle.turn_code.specs.declared.input.Party.{Party}
+use Rattle.turn_code.specs.declared.input.Address.{Address}
 use Rattle.sdl_tables.specs.Names.{is_in, Variable, Input, signal_names, process_names, variables_of, variable_names, timers_of, connector_names, states_of, clause_parts, clause_inputs, part_inputs, part_saves, given_to, of_state, by_state, is_state, input_parts, inputs_by_state, saves_by_state}
 use Rattle.sdl_tables.specs.Scopes.{repeats}
 use Rattle.sdl_sound.specs.Statements.{Statement, statements_of}
 use Rattle.sdl_sound.specs.Actions.{Origin, begins, takes, input_origins, start_origins, joining_origins, connection_origins, in_input, in_connection, in_statements}
 use Rattle.sdl_sound.specs.Joins.{reaches}
 use Rattle.sdl_sound.specs.Orders.{IsOrder}
+use Rattle.sdl_sound.specs.Limits.{wrong_instances}
 use Rattle.sdl_sound.specs.Longest.{input_piece, pieces_of}
 use Rattle.sdl_sound.specs.Names.{unknown, statement_unknown, trigger_names, place_names, stimulus_unknown, input_unknown, saves_unknown, process_unknown}
 use Rattle.sdl_sound.specs.Ends.{strays, input_strays, connection_strays, process_strays}
@@ -34,7 +35,7 @@ use Rattle.std.proofs.lemmas.Option.{slice_get-map as slice_map}
 use Rattle.sdl_sound.proofs.Items.{Each, each_front, each_back, each_append, each_always, each_with, each_map, each_flat, each_unflat, all_items, each_nil, each_at_place as each_at}
 use Rattle.turn_code.proofs.Lists.{within as in_list}
 use Rattle.std.proofs.lemmas.Bool.{eqb-true as equal_number, ltb-false as at_most}
-use Rattle.plain_laws.proofs.Truths.{and_second as and_right, and_first as and_left}
+use Rattle.plain_laws.proofs.Truths.{and_second as and_right, and_first as and_left, neither_first, neither_second}
 use Rattle.plain_laws.proofs.Lists.{append-nil_left as nil_front, append-nil_right as nil_back}
 use Rattle.sdl_drafts.proofs.FineTexts.{unequal_number, FineText, FineReached, FineWhole, FineInput, FineProcess, fine_statements, all_sorted, statements_single}
 
@@ -203,8 +204,8 @@ module _ (c : Scope) where
 
   pub process_fine : process_unknown b p ≡ [] → wrong_declarations b p ≡ [] → in_statements (λ from. wrong_statement b vs) p ≡ [] → in_statements (lost_statement b p) p ≡ [] → in_statements (λ from. doubtful_statement b p) p ≡ []
       → in_statements (λ from. statement_unanswered vs) p ≡ [] → in_statements (λ from. statement_divisors) p ≡ [] → process_strays p ≡ [] → nat_lt 64 (length (states_of p)) ≡ false → nat_lt 32 (length vs) ≡ false
-      → nat_lt 8 (length (timers_of p)) ≡ false → Each (IsSmall c) (pieces_of p) → repeats [] (variable_names p) ≡ [] → repeats [] (connector_names p) ≡ [] → FineProcess c
-  process_fine u w s l d a v e states variables timers small distinct connectors =
+      → nat_lt 8 (length (timers_of p)) ≡ false → wrong_instances p.instances ≡ false → Each (IsSmall c) (pieces_of p) → repeats [] (variable_names p) ≡ [] → repeats [] (connector_names p) ≡ [] → FineProcess c
+  process_fine u w s l d a v e states variables timers instances small distinct connectors =
       let parts = flat_map (input_unknown b p) (input_parts p) in
       let saved = flat_map (saves_unknown b p) p.states in
       let inside = in_statements (λ from. statement_unknown b p) p in
@@ -238,6 +239,8 @@ module _ (c : Scope) where
         states = at_most 64 (length (states_of p)) states;
         variables = at_most 32 (length vs) variables;
         timers = at_most 8 (length (timers_of p)) timers;
+        some = at_most p.instances 1 (neither_first (nat_lt p.instances 1) (nat_lt 8 p.instances) instances);
+        instances = at_most 8 p.instances (neither_second (nat_lt p.instances 1) (nat_lt 8 p.instances) instances);
         small = small;
         distinct = distinct;
         connectors = connectors;
@@ -288,7 +291,7 @@ module _ (c : Scope) where
               omega (arith, r.1, steps_are w.0 m w.1, steps_are r.0 o r.2);
         }
 
-    answers_reached : (o : Origin) (from : Option Identifier) (t : Text) → ((x : Identifier) → answers_all c.block c.process (o ∷ []) x.name ≡ true → (sender : Option Party) → IsSentTo c from sender → IsSome (to_sender c x sender))
+    answers_reached : (o : Origin) (from : Option Identifier) (t : Text) → ((x : Identifier) → answers_all c.block c.process (o ∷ []) x.name ≡ true → (sender : Option Address) → IsSentTo c from sender → IsSome (to_sender c x sender))
         → (ks : List PlainConnection) → Each (FineReached c o t) ks → Each (λ (k : PlainConnection). AnswersSenders c from k.text) (filter (λ (k : PlainConnection). reaches p t k.name.name) ks)
     answers_reached o from t gets [] fine = tt
     answers_reached o from t gets (k ∷ ks) fine = by_test (reaches p t k.name.name) refl (answers_reached o from t gets ks fine.1)
@@ -298,7 +301,7 @@ module _ (c : Scope) where
         by_test true e rest = (answers_text c (o ∷ []) from gets k.text (fine.0 e), rest)
         by_test false e rest = rest
 
-    answers_whole : (o : Origin) (from : Option Identifier) (at : ℕ) (t : Text) → ((x : Identifier) → answers_all c.block c.process (o ∷ []) x.name ≡ true → (sender : Option Party) → IsSentTo c from sender → IsSome (to_sender c x sender))
+    answers_whole : (o : Origin) (from : Option Identifier) (at : ℕ) (t : Text) → ((x : Identifier) → answers_all c.block c.process (o ∷ []) x.name ≡ true → (sender : Option Address) → IsSentTo c from sender → IsSome (to_sender c x sender))
         → FineWhole c o at t → AnswersAll c from t
     answers_whole o from at t gets fine = record {
       text = answers_text c (o ∷ []) from gets t fine.text.statements;

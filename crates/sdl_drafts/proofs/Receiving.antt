@@ -13,6 +13,7 @@ use Rattle.sdl_ast.specs.Plain.{PlainStimulus, PlainPath, PlainBlock}
 use Rattle.turn_code.specs.declared.numbers.SignalNumber.{SignalNumber}
 use Rattle.turn_code.specs.declared.numbers.ProcessNumber.{ProcessNumber}
 use Rattle.turn_code.specs.declared.input.Party as code_party
+use Rattle.turn_code.specs.declared.input.Address as code_address
 use Rattle.turn_code.specs.declared.input.Party.TheVariants as code_parties
 use Rattle.turn_code.specs.declared.draft.Draft.{Draft}
 use Rattle.turn_code.specs.declared.draft.DraftRoute.{DraftRoute}
@@ -22,7 +23,7 @@ use Rattle.turn_code.specs.Routes.{IsProcess, IsPartyOf, the_process, Takes, Rea
 use Rattle.turn_code.specs.Rules.{ReachesReceiver, AnswersSender}
 use Rattle.sdl_tables.specs.Names.{same_name, is_in, number_of, signal_names, process_names, timers_of}
 use Rattle.sdl_sound.specs.Receivers.{same_party, party_of, paths_of, brings, carries, path_receivers, path_senders, add_party, receivers, senders, answers, answers_all, arrives, is_doubtful}
-use Rattle.sdl_meaning.specs.Act.{numbered, the_one, if_named, to_sender}
+use Rattle.sdl_meaning.specs.Act.{numbered, the_one, addressed, if_named, to_sender}
 use Rattle.sdl_meaning.specs.Outcomes.{Scope}
 use Rattle.sdl_meaning.specs.Code.{number_or_zero, party_or_environment, receiver_code}
 use Rattle.sdl_meaning.specs.Named.{HasReceiver, IsSentIf, IsSentTo}
@@ -198,15 +199,21 @@ module _ (c : Scope) (n : ℕ) (numbers : AreNumbered (process_names c.block)) (
       by_number None k = absurd (let k : ⊥ = cc in k)
       by_number (Some v) k = refl
 
+  some_addressed : (o : Option code_party.Party) → IsSome o → IsSome (addressed o)
+  some_addressed None h = absurd (let k : ⊥ = cc in k)
+  some_addressed (Some p) h = refl
+
   one_numbered : (x : List ℕ) (qs : List Party) → Each (λ q. carries c.block own q x ≡ true) qs → nat_lt 0 (length qs) ≡ true → nat_lt 1 (length qs) ≡ false → IsSome (the_one c qs)
   one_numbered x [] h e f = absurd (let k : 0 < 0 = grind (arith, nat_tests) in omega (arith, k))
   one_numbered x (q ∷ []) h e f = some_numbered q (known_reached q x (paths_of c.block) known h.0)
   one_numbered x (q ∷ r ∷ qs) h e f = absurd (let k : length (q ∷ r ∷ qs) < 2 = grind (arith, nat_tests) in omega (arith, k))
 
   pub has_receiver : (is : List Origin) (to : Option Destination) (x : Identifier) → arrives c.block c.process is to x.name ≡ true → is_doubtful c.block c.process to x.name ≡ false → HasReceiver c to x
-  has_receiver is None x e f = one_numbered x.name (receivers c.block own x.name) (received c.block own x.name) e f
+  has_receiver is None x e f =
+      some_addressed (the_one c (receivers c.block own x.name)) (one_numbered x.name (receivers c.block own x.name) (received c.block own x.name) e f)
   has_receiver is (Some (address.Process id)) x e f =
-      subst (λ b. IsSome (cond b (numbered c (Process id)) None)) (sym e) (some_numbered (Process id) (known_reached (Process id) x.name (paths_of c.block) known e))
+      subst (λ b. IsSome (addressed (cond b (numbered c (Process id)) None))) (sym e)
+      (some_addressed (numbered c (Process id)) (some_numbered (Process id) (known_reached (Process id) x.name (paths_of c.block) known e)))
   has_receiver is (Some (address.Sender at)) x e f = tt
 
   -- ---- answers to the sender
@@ -256,7 +263,7 @@ module _ (c : Scope) (n : ℕ) (numbers : AreNumbered (process_names c.block)) (
   not_both false e f = let k : ⊥ = cc in k
 
   -- whoever sent what this input waits for gets the answer
-  pub answers_sender : (i : PlainStimulus) (x : Identifier) → IsTrigger c i.name → answers c.block c.process x.name i.name.name ≡ true → (sender : Option code_party.Party) → IsSentTo c (Some i.name) sender → IsSome (to_sender c x sender)
+  pub answers_sender : (i : PlainStimulus) (x : Identifier) → IsTrigger c i.name → answers c.block c.process x.name i.name.name ≡ true → (sender : Option code_address.Address) → IsSentTo c (Some i.name) sender → IsSome (to_sender c x sender)
   answers_sender i x trigger e sender sent = by_number (number_of sigs i.name.name) refl sender sent
     where
       timers : List Identifier
@@ -268,7 +275,7 @@ module _ (c : Scope) (n : ℕ) (numbers : AreNumbered (process_names c.block)) (
       all : list_all (λ q. carries c.block own q x.name) (senders c.block own i.name.name) ≡ true
       all = and_right (not (is_in timers i.name.name)) (list_all (λ q. carries c.block own q x.name) (senders c.block own i.name.name)) e
 
-      by_number : (o : Option ℕ) → number_of sigs i.name.name ≡ o → (sender : Option code_party.Party) → IsSentIf c i.name o sender → IsSome (to_sender c x sender)
+      by_number : (o : Option ℕ) → number_of sigs i.name.name ≡ o → (sender : Option code_address.Address) → IsSentIf c i.name o sender → IsSome (to_sender c x sender)
       by_number None f s h = absurd (not_both (is_in timers i.name.name) (is_in_some timers i.name.name (trigger f)) no_timer)
       by_number (Some v) f None h = absurd h
       by_number (Some v) f (Some p) h =

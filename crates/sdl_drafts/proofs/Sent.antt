@@ -10,6 +10,7 @@ use Rattle.sdl_ast.specs.declared.tree.Party.TheVariants as tree_parties
 use Rattle.sdl_ast.specs.Plain.{PlainPath, PlainProcess, PlainBlock}
 use Rattle.turn_code.specs.declared.numbers.SignalNumber.{SignalNumber}
 use Rattle.turn_code.specs.declared.input.Party.{Party}
+use Rattle.turn_code.specs.declared.input.Address.{Address}
 use Rattle.turn_code.specs.Routes.{IsProcess, Brings}
 use Rattle.sdl_tables.specs.Names.{same_name, is_in, number_of, signal_names, process_names}
 use Rattle.sdl_sound.specs.Receivers.{same_party, party_of, brings, paths_of}
@@ -133,8 +134,8 @@ paths_bring b p n x m sender (path ∷ paths) at e known (suc k, r, l, f, h) =
     or_true false t e = e
 
 -- a sender from whom a draft's route brings the signal may have sent it
-pub sent_by : (b : PlainBlock) (p : PlainProcess) (n : ℕ) (id : Identifier) (m : SignalNumber) (sender : Party)
-    → slice_get (process_names b) n ≡ Some p.name → signal_at (scope_of b p) id ≡ Some m.0 → Each (IsKnownPath b) (paths_of b) → Any (Brings sender n m) (map (drafted_path b) (paths_of b)) → IsBroughtBy (scope_of b p) id (Some sender)
+pub sent_by : (b : PlainBlock) (p : PlainProcess) (n : ℕ) (id : Identifier) (m : SignalNumber) (sender : Address)
+    → slice_get (process_names b) n ≡ Some p.name → signal_at (scope_of b p) id ≡ Some m.0 → Each (IsKnownPath b) (paths_of b) → Any (Brings sender.party n m) (map (drafted_path b) (paths_of b)) → IsBroughtBy (scope_of b p) id (Some sender)
 sent_by b p n id m sender at e known h =
-    let r = paths_bring b p n id.name m sender (paths_of b) at e known h in
+    let r = paths_bring b p n id.name m sender.party (paths_of b) at e known h in
     (r.party, r.named_so, r.brought)

@@ -29,7 +29,7 @@ use Rattle.sdl_tables.specs.Scopes.{repeats, process_scopes, scopes, signal_time
 use Rattle.sdl_sound.specs.Longest.{Piece, text_budget, text_size, piece_size, piece_depth, piece_effects, input_piece, pieces_of}
 use Rattle.sdl_sound.specs.Names.{unknown, party_names, path_unknown, route_unknown, process_unknown}
 use Rattle.sdl_sound.specs.Ends.{process_strays}
-use Rattle.sdl_sound.specs.Limits.{exceeds, limits}
+use Rattle.sdl_sound.specs.Limits.{exceeds, wrong_instances, limits}
 use Rattle.sdl_sound.specs.Sorts.{wrong_statement, wrong_declarations, parameter_sorts}
 use Rattle.sdl_sound.specs.Divisors.{statement_divisors}
 use Rattle.sdl_sound.specs.Decisions.{statement_unanswered}
@@ -225,12 +225,12 @@ module _ (b : PlainBlock) (sound : Sound b) where
 
   fine_processes : (qs : List PlainProcess) → Each (λ p. process_unknown b p ≡ []) qs → Each (λ p. wrong_declarations b p ≡ []) qs → Each (λ p. wrongs p ≡ []) qs → Each (λ p. losts p ≡ []) qs → Each (λ p. doubts p ≡ []) qs
       → Each (λ p. missing p ≡ []) qs → Each (λ p. divisors p ≡ []) qs → Each (λ p. process_strays p ≡ []) qs → Each (λ p. nat_lt 64 (length (states_of p)) ≡ false) qs → Each (λ p. nat_lt 32 (length (variables_of p)) ≡ false) qs
-      → Each (λ p. nat_lt 8 (length (timers_of p)) ≡ false) qs → Each (λ p. Each (IsSmall (scope_of b p)) (pieces_of p)) qs → Each (λ p. repeats [] (variable_names p) ≡ []) qs → Each (λ p. repeats [] (connector_names p) ≡ []) qs
+      → Each (λ p. nat_lt 8 (length (timers_of p)) ≡ false) qs → Each (λ p. wrong_instances p.instances ≡ false) qs → Each (λ p. Each (IsSmall (scope_of b p)) (pieces_of p)) qs → Each (λ p. repeats [] (variable_names p) ≡ []) qs → Each (λ p. repeats [] (connector_names p) ≡ []) qs
       → Each (λ p. FineProcess (scope_of b p)) qs
-  fine_processes [] u w s l d a v e q x t small distinct others = tt
-  fine_processes (p ∷ qs) u w s l d a v e q x t small distinct others = (
-    process_fine (scope_of b p) u.0 w.0 s.0 l.0 d.0 a.0 v.0 e.0 q.0 x.0 t.0 small.0 distinct.0 others.0,
-    fine_processes qs u.1 w.1 s.1 l.1 d.1 a.1 v.1 e.1 q.1 x.1 t.1 small.1 distinct.1 others.1,
+  fine_processes [] u w s l d a v e q x t i small distinct others = tt
+  fine_processes (p ∷ qs) u w s l d a v e q x t i small distinct others = (
+    process_fine (scope_of b p) u.0 w.0 s.0 l.0 d.0 a.0 v.0 e.0 q.0 x.0 t.0 i.0 small.0 distinct.0 others.0,
+    fine_processes qs u.1 w.1 s.1 l.1 d.1 a.1 v.1 e.1 q.1 x.1 t.1 i.1 small.1 distinct.1 others.1,
   )
 
   signal_limit : length (signal_names b) ≤ 128
@@ -297,7 +297,8 @@ module _ (b : PlainBlock) (sound : Sound b) where
         fine_processes ps (each_nil (process_unknown b) ps (nil_back routes (flat_map (process_unknown b) ps) sound.known)) (each_nil (wrong_declarations b) ps (nil_front declared wrong sound.sorted))
         (each_nil wrongs ps (nil_back declared wrong sound.sorted)) (each_nil losts ps sound.received) (each_nil doubts ps sound.single) (each_nil missing ps sound.answered) (each_nil divisors ps sound.divided) (each_nil process_strays ps sound.ended)
         (each_false (λ (p : PlainProcess). nat_lt 64 (length (states_of p))) ps within.1.0) (each_false (λ (p : PlainProcess). nat_lt 32 (length (variables_of p))) ps within.1.1.0)
-        (each_false (λ (p : PlainProcess). nat_lt 8 (length (timers_of p))) ps within.1.1.1.0) small_each distinct_variables distinct_connectors
+        (each_false (λ (p : PlainProcess). nat_lt 8 (length (timers_of p))) ps within.1.1.1.0)
+        (each_false (λ (p : PlainProcess). wrong_instances p.instances) ps within.1.1.1.1.1.1.1.1.1.1.0) small_each distinct_variables distinct_connectors
 
     are_ready : Each (λ p. IsReadyProcess (scope_of b p)) ps
     are_ready =

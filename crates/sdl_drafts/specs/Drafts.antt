@@ -47,9 +47,10 @@ IsNamedAs id d = d.name ≡ id.name
 abbrev pub SavesAll : Scope → List Identifier → DraftState → Type 0
 SavesAll c ids d = d.saves ≡ map (trigger_of c) ids
 
--- the draft of a process of a block: variables, timers, states, inputs and saves have their names and numbers in the order of the text
+-- the draft of a process of a block: as many instances; variables, timers, states, inputs and saves have their names and numbers in the order of the text
 pub record MatchesProcess (b : PlainBlock) (p : PlainProcess) (d : DraftProcess) : Type 0 where
   pub name : d.name ≡ p.name.name
+  pub instances : d.instances ≡ p.instances
   pub variables : d.variables ≡ drafted_variables p
   pub timers : d.timers ≡ map (λ id. id.name) (timers_of p)
   pub start : Means (scope_of b p) None (start_piece p) d.start
@@ -120,6 +121,7 @@ sets_of ds = map (λ (d : DraftState). d.set.0) ds
 
 -- what its pieces are, which have the sets of their states
 pub record IsProcessOf (b : PlainBlock) (p : PlainProcess) (d : DraftProcess) : Type 0 where
+  pub instances : d.instances ≡ p.instances
   pub variables : d.variables ≡ drafted_variables p
   pub timers : d.timers ≡ map (λ id. id.name) (timers_of p)
   pub start : IsPieceOf (scope_of b p) [] (initial_set d.variables) (start_piece p) d.start

@@ -1,12 +1,14 @@
 -- The meaning of a block as a function, and what a draft that has it keeps.
-use Rattle.std.specs.Prelude.{◌≡◌, ℕ, List, Option, None, Some, slice_get}
+use Rattle.std.specs.Prelude.{◌≡◌, ℕ, List, Option, None, Some, Result, Err, slice_get}
 use Rattle.sdl_ast.specs.Plain.{PlainProcess, PlainBlock}
 use Rattle.turn_code.specs.declared.input.Input.{Input}
 use Rattle.turn_code.specs.declared.input.Place.{Place}
 use Rattle.turn_code.specs.declared.draft.Cert.{Cert}
 use Rattle.turn_code.specs.declared.draft.Draft.{Draft}
 use Rattle.turn_code.specs.Transitions.{Transition, transition_at}
-use Rattle.turn_code.specs.Outcome.{Outcome, outcome_in, Meaning, Means}
+use Rattle.turn_code.specs.declared.trouble.Trouble.{Trouble}
+use Rattle.turn_code.specs.declared.trouble.Trouble.TheVariants.{Outside}
+use Rattle.turn_code.specs.Outcome.{Outcome, result_in, Meaning, Means}
 use Rattle.sdl_tables.specs.Names.{processes_of}
 use Rattle.sdl_sound.specs.Longest.{Piece}
 use Rattle.sdl_sound.specs.Sound.{Sound}
@@ -16,13 +18,13 @@ use Rattle.sdl_valid.specs.Made.{IsLongestOf}
 use Rattle.sdl_drafts.specs.Blocks.{MatchesBlock}
 use Rattle.sdl_drafts.specs.Meaning.{piece_at, RunsAsMeant}
 
--- what a transition gives on an input; none where there is no such transition, or it is stuck
-abbrev pub meant_by : Scope → Option Piece → Input → Option Outcome
-meant_by c None x = None
-meant_by c (Some q) x = outcome_in (Act c q x)
+-- what a transition gives on an input, or how it gets stuck; where there is no such transition, that is outside of the text
+abbrev pub meant_by : Scope → Option Piece → Input → Result Outcome Trouble
+meant_by c None x = Err Outside
+meant_by c (Some q) x = result_in (Act c q x)
 
-abbrev pub meant_in : PlainBlock → Place → ℕ → Input → Option PlainProcess → Option Outcome
-meant_in b s i x None = None
+abbrev pub meant_in : PlainBlock → Place → ℕ → Input → Option PlainProcess → Result Outcome Trouble
+meant_in b s i x None = Err Outside
 meant_in b s i x (Some p) = meant_by (scope_of b p) (piece_at p s i) x
 
 -- what the block's input i at place s of process n gives on an input

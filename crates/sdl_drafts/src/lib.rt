@@ -10,3 +10,4 @@ mod state;
 mod variables;
 
 pub use block::{Surveys, compile_block};
+pub use sdl_rules::{ControlPath, Limit, Resolved, RuleFault, Step, resolve};

@@ -118,7 +118,7 @@ pub struct Survey<'a> {
 
 /// Compiles a process of a block with these signals.
 ///
-/// Its variables, timers, states, inputs and saves have their names and numbers in the order of the
+/// It has as many instances. Its variables, timers, states, inputs and saves have their names and numbers in the order of the
 /// text, each piece does what its transition means, and each certificate names the longest path. Want
 /// of memory is the only error.
 pub fn compile_process<'a>(
@@ -159,6 +159,7 @@ pub fn compile_process<'a>(
     let states = compile_all(alloc, &context, survey.sets)?;
     Ok(DraftProcess {
         name: draft_name(&process.name.name),
+        instances: process.instances,
         variables: Sequence::from(variables),
         timers: Sequence::from(timers),
         start: first,

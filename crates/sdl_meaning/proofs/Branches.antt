@@ -17,7 +17,7 @@ use Rattle.sdl_sound.specs.Plain.{Tree, Text, falls, ends, does, decides, Choice
 use Rattle.turn_code.specs.declared.value.Value.{Value}
 use Rattle.turn_code.specs.declared.value.Value.TheVariants.{Int, Bool as Truth}
 use Rattle.turn_code.specs.declared.input.Input.{Input}
-use Rattle.turn_code.specs.declared.input.Party.{Party}
+use Rattle.turn_code.specs.declared.input.Address.{Address}
 use Rattle.turn_code.specs.declared.instruction.Instruction.{Instruction}
 use Rattle.turn_code.specs.declared.instruction.Instruction.TheVariants as i
 use Rattle.turn_code.specs.Run.{Progress, tick, goes}
@@ -80,7 +80,7 @@ decide_over true (Int z) s f g h k = tt
 decide_over false (Int z) s f g h k = h z
 decide_over false (Truth t) s f g h k = tt
 
-module _ (c : Scope) (join : List ℕ → Progress → Outcome (Unit {0})) (sender : Option Party) (joins_over : (x : List ℕ) (s : Progress) → IsOver (join x s)) where
+module _ (c : Scope) (join : List ℕ → Progress → Outcome (Unit {0})) (sender : Option Address) (joins_over : (x : List ℕ) (s : Progress) → IsOver (join x s)) where
   end_with_over : (e : End) (s : Progress) → IsOver (end_with c join e s)
   end_with_over (NextState n) s = end_over (state_at c n.state) s
   end_with_over (Stop at) s = tt

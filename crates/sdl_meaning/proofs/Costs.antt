@@ -11,7 +11,7 @@ use Rattle.sdl_sound.specs.sdl_ast_types.tree.Destination.{Destination}
 use Rattle.sdl_sound.specs.Plain.{Tree, number, truth, variable, unary, binary, PlainAssignment, PlainSending, PlainAction, task, output, set_timer, reset_timer}
 use Rattle.turn_code.specs.declared.value.Value.{Value}
 use Rattle.turn_code.specs.declared.value.Value.TheVariants.{Int, Bool as Truth}
-use Rattle.turn_code.specs.declared.input.Party.{Party}
+use Rattle.turn_code.specs.declared.input.Address.{Address}
 use Rattle.turn_code.specs.declared.trouble.Trouble.TheVariants.{WrongSort}
 use Rattle.turn_code.specs.Run.{Progress, tick}
 use Rattle.sdl_sound.specs.Longest.{is_division, cost_of, assignment_cost, assignments_cost, sending_cost, sendings_cost, action_cost, place_cost, places_cost}
@@ -91,17 +91,17 @@ values_cost c (t ∷ ts) s =
     (λ x v le. cost_bind (v.count + sum_by cost_of ts) (s.count + sum_by cost_of (t ∷ ts)) (values_of c ts v) (λ xs s. goes_on (x ∷ xs) s) (omega (arith, le, sum_by-cons cost_of t ts)) (values_cost c ts v)
     (λ xs w le2. omega (arith, le, le2, sum_by-cons cost_of t ts)))
 
-put_cost : (n : Option ℕ) (p : Option Party) (xs : List Value) (s : Progress) → cost_by (put_out n p xs s) ≤ s.count
+put_cost : (n : Option ℕ) (p : Option Address) (xs : List Value) (s : Progress) → cost_by (put_out n p xs s) ≤ s.count
 put_cost None p xs s = omega arith
 put_cost (Some n) None xs s = omega arith
 put_cost (Some n) (Some p) xs s = omega arith
 
-send_cost : (c : Scope) (sender : Option Party) (to : Option Destination) (x : PlainSending) (s : Progress) → cost_by (send c sender to x s) ≤ s.count + sending_cost x
+send_cost : (c : Scope) (sender : Option Address) (to : Option Destination) (x : PlainSending) (s : Progress) → cost_by (send c sender to x s) ≤ s.count + sending_cost x
 send_cost c sender to x s =
     cost_bind (s.count + sum_by cost_of x.parameters) (s.count + sending_cost x) (values_of c x.parameters s) (λ xs s. put_out (signal_at c x.signal) (receiver_of c sender to x.signal) xs (tick s)) (omega arith) (values_cost c x.parameters s)
     (λ xs v le. let h = put_cost (signal_at c x.signal) (receiver_of c sender to x.signal) xs (tick v) in omega (arith, h, le))
 
-send_all_cost : (c : Scope) (sender : Option Party) (to : Option Destination) (xs : List PlainSending) (s : Progress) → cost_by (send_all c sender to xs s) ≤ s.count + sendings_cost xs
+send_all_cost : (c : Scope) (sender : Option Address) (to : Option Destination) (xs : List PlainSending) (s : Progress) → cost_by (send_all c sender to xs s) ≤ s.count + sendings_cost xs
 send_all_cost c sender to [] s = omega arith
 send_all_cost c sender to (x ∷ xs) s =
     cost_bind (s.count + sending_cost x) (s.count + sendings_cost (x ∷ xs)) (send c sender to x s) (λ _ s. send_all c sender to xs s) (omega (arith, sum_by-cons sending_cost x xs)) (send_cost c sender to x s)
@@ -127,7 +127,7 @@ stop_cost : (o : Option ℕ) (s : Progress) → cost_by (stop_timer o s) ≤ s.c
 stop_cost None s = omega arith
 stop_cost (Some t) s = omega arith
 
-pub perform_cost : (c : Scope) (sender : Option Party) (a : PlainAction) (s : Progress) → cost_by (perform c sender a s) ≤ s.count + action_cost a
+pub perform_cost : (c : Scope) (sender : Option Address) (a : PlainAction) (s : Progress) → cost_by (perform c sender a s) ≤ s.count + action_cost a
 perform_cost c sender (task at ts) s = assign_cost c ts s
 perform_cost c sender (output at xs to) s = send_all_cost c sender to xs s
 perform_cost c sender (set_timer at t n) s =

@@ -7,7 +7,7 @@ use Rattle.sdl_sound.specs.sdl_ast_types.tree.Join as tree_join
 use Rattle.sdl_sound.specs.Plain.{Text, falls, PlainConnection}
 use Rattle.turn_code.specs.declared.value.Value.{Value}
 use Rattle.turn_code.specs.declared.input.Input.{Input}
-use Rattle.turn_code.specs.declared.input.Party.{Party}
+use Rattle.turn_code.specs.declared.input.Address.{Address}
 use Rattle.turn_code.specs.declared.instruction.Instruction.{Instruction}
 use Rattle.turn_code.specs.Run.{Progress}
 use Rattle.sdl_sound.specs.TableNames.{variables_of, connection_named}
@@ -27,7 +27,7 @@ closed_over : (o : Outcome (Unit {0})) → IsOver (closed o)
 closed_over (goes_on x s) = tt
 closed_over (over e s) = tt
 
-pub follow_over : (c : Scope) (sender : Option Party) (n : ℕ) (x : List ℕ) (s : Progress) → IsOver (follow c sender n x s)
+pub follow_over : (c : Scope) (sender : Option Address) (n : ℕ) (x : List ℕ) (s : Progress) → IsOver (follow c sender n x s)
 follow_over c sender zero x s = tt
 follow_over c sender (suc n) x s = by_connection (connection_named c.process x)
   where

@@ -15,6 +15,7 @@ use Rattle.turn_code.specs.declared.value.Value.{Value}
 use Rattle.turn_code.specs.declared.value.Value.TheVariants.{Int, Bool as Truth}
 use Rattle.turn_code.specs.declared.input.Input.{Input}
 use Rattle.turn_code.specs.declared.input.Party.{Party}
+use Rattle.turn_code.specs.declared.input.Address.{Address}
 use Rattle.turn_code.specs.declared.trouble.Trouble.TheVariants.{Underflow, WrongSort}
 use Rattle.turn_code.specs.declared.effect.Effect.TheVariants as effects
 use Rattle.turn_code.specs.declared.instruction.Relation.{Relation}
@@ -26,7 +27,7 @@ use Rattle.turn_code.specs.Run as run
 use Rattle.turn_code.specs.Run.{Progress, tick, with_variables, with_effect, sending, sent, After, goes, stuck, step, go_on, exec, begun}
 use Rattle.sdl_sound.specs.Longest.{is_division}
 use Rattle.sdl_sound.specs.Receivers.{party_of, receivers}
-use Rattle.sdl_meaning.specs.Act.{slot, end_in, read, written, write, reckons, compares, joins, working, is_truth, apply_one, apply_two, divisor_of, divide, value_of, values_of, is_carried, named, numbered, the_one, if_named, to_sender, receiver_of, assign, put_out, send, send_all, start_timer, stop_timer, perform, pass, take_places}
+use Rattle.sdl_meaning.specs.Act.{slot, end_in, read, written, write, reckons, compares, joins, working, is_truth, apply_one, apply_two, divisor_of, divide, value_of, values_of, is_carried, named, numbered, the_one, addressed, if_named, to_sender, receiver_of, assign, put_out, send, send_all, start_timer, stop_timer, perform, pass, take_places}
 use Rattle.sdl_meaning.specs.Outcomes.{Scope, variable_at, timer_at, signal_at, at_end, in_trouble, Outcome, goes_on, over, then_do}
 use Rattle.sdl_meaning.specs.Named.{NamedTree, NamedTrees, NamedTasks, HasReceiver, NamedSending, NamedSendings, NamedAction, NamedPlaces, IsSentTo, AnswersTo, AnswersAction}
 use Rattle.sdl_meaning.specs.Code.{number_or_zero, load, store, next, set_to, reset, put, unary_code, binary_code, division_code, tree_code, trees_code, tasks_code, party_or_environment, receiver_code, sendings_code, action_code, places_code}
@@ -248,16 +249,16 @@ module _ (inp : Input) (code : List Instruction) where
 
   -- ---- signals that go out
 
-  some_is : (o : Option Party) → IsSome o → Some (party_or_environment o) ≡ o
+  some_is : (o : Option Party) → IsSome (addressed o) → Some (run.of_party (party_or_environment o)) ≡ addressed o
   some_is None h = absurd (let k : ⊥ = cc in k)
   some_is (Some p) h = refl
 
   -- the party in the code is the receiver
-  carried_is : (b : Bool) (o : Option Party) → IsSome (cond b o None) → Some (party_or_environment o) ≡ cond b o None
+  carried_is : (b : Bool) (o : Option Party) → IsSome (addressed (cond b o None)) → Some (run.of_party (party_or_environment o)) ≡ addressed (cond b o None)
   carried_is true o h = some_is o h
   carried_is false o h = absurd (let k : ⊥ = cc in k)
 
-  named_is : (c : Scope) (n : Identifier) (q : Option tree_party.Party) (p : Party) → IsSome (if_named c n q p) → Some p ≡ if_named c n q p
+  named_is : (c : Scope) (n : Identifier) (q : Option tree_party.Party) (p : Address) → IsSome (if_named c n q p) → Some p ≡ if_named c n q p
   named_is c n None p h = absurd (let k : ⊥ = cc in k)
   named_is c n (Some q) p h = by_test (is_carried c n q) h
     where
@@ -265,16 +266,16 @@ module _ (inp : Input) (code : List Instruction) where
       by_test true h = refl
       by_test false h = absurd (let k : ⊥ = cc in k)
 
-  sender_is : (c : Scope) (n : Identifier) (o : Option Party) → IsSome (to_sender c n o) → o ≡ to_sender c n o
+  sender_is : (c : Scope) (n : Identifier) (o : Option Address) → IsSome (to_sender c n o) → o ≡ to_sender c n o
   sender_is c n None h = refl
-  sender_is c n (Some p) h = named_is c n (named c p) p h
+  sender_is c n (Some p) h = named_is c n (named c p.party) p h
 
-  receiver_is : (c : Scope) (to : Option Destination) (n : Identifier) → IsSome (receiver_of c inp.sender to n) → run.party_of (receiver_code c to n) inp.sender ≡ receiver_of c inp.sender to n
+  receiver_is : (c : Scope) (to : Option Destination) (n : Identifier) → IsSome (receiver_of c inp.sender to n) → run.address_of (receiver_code c to n) inp.sender ≡ receiver_of c inp.sender to n
   receiver_is c None n h = some_is (the_one c (receivers c.block (party_of c.process) n.name)) h
   receiver_is c (Some (address.Process id)) n h = carried_is (is_carried c n (tree_parties.Process id)) (numbered c (tree_parties.Process id)) h
   receiver_is c (Some (address.Sender at)) n h = sender_is c n inp.sender h
 
-  put_fits : (n : ℕ) (o : Option Party) (xs : List Value) (pc end : ℕ) (os : List Value) (s : Progress) → IsSome o → pc + 1 ≡ end → Fits {A = Unit {0}} (sent (record { 0 = n }) o xs (pc + 1) os (tick s)) s end (λ _. os) (put_out (Some n) o xs (tick s))
+  put_fits : (n : ℕ) (o : Option Address) (xs : List Value) (pc end : ℕ) (os : List Value) (s : Progress) → IsSome o → pc + 1 ≡ end → Fits {A = Unit {0}} (sent (record { 0 = n }) o xs (pc + 1) os (tick s)) s end (λ _. os) (put_out (Some n) o xs (tick s))
   put_fits n None xs pc end os s h e = absurd (let k : ⊥ = cc in k)
   put_fits n (Some p) xs pc end os s h e = (ap (λ m. goes m os (with_effect (tick s) (sending (record { 0 = n }) p xs))) e, refl)
 
@@ -283,7 +284,7 @@ module _ (inp : Input) (code : List Instruction) where
   put_does c to id (Some n) xs count pc end os s named reached e at f =
       let r = receiver_of c inp.sender to id in
       let is : run.act (put n (receiver_code c to id) count) inp (pc + 1) (pushed xs os) (tick s) ≡ sent (record { 0 = n }) r xs (pc + 1) os (tick s) =
-      operands_are xs os count (λ vs rest. sent (record { 0 = n }) (run.party_of (receiver_code c to id) inp.sender) vs (pc + 1) rest (tick s)) e
+      operands_are xs os count (λ vs rest. sent (record { 0 = n }) (run.address_of (receiver_code c to id) inp.sender) vs (pc + 1) rest (tick s)) e
       ∙ ap (λ p. sent (record { 0 = n }) p xs (pc + 1) os (tick s)) (receiver_is c to id reached) in
       one {A = Unit {0}} pc end (pushed xs os) s (λ _. os) (put n (receiver_code c to id) count) (put_out (Some n) r xs (tick s)) at
       (subst (λ st. Fits {A = Unit {0}} st s end (λ _. os) (put_out (Some n) r xs (tick s))) (sym is) (put_fits n r xs pc end os s reached f))

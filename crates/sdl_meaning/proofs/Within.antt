@@ -10,7 +10,7 @@ use Rattle.sdl_sound.specs.sdl_ast_types.tree.End.TheVariants.{NextState, Stop, 
 use Rattle.sdl_sound.specs.Plain.{Tree, Text, falls, ends, does, decides, Choice, nothing_else, otherwise, answer, PlainConnection}
 use Rattle.turn_code.specs.declared.value.Value.{Value}
 use Rattle.turn_code.specs.declared.value.Value.TheVariants.{Int, Bool as Truth}
-use Rattle.turn_code.specs.declared.input.Party.{Party}
+use Rattle.turn_code.specs.declared.input.Address.{Address}
 use Rattle.turn_code.specs.Run.{Progress, tick}
 use Rattle.sdl_sound.specs.TableNames.{same_name, variables_of, connection_named}
 use Rattle.sdl_sound.specs.Decisions.{has_else}
@@ -78,7 +78,7 @@ finds_within (r ∷ rs) t s f g b k le first others = by_test (covers_truth r t)
     by_test (Some true) h = first
     by_test (Some false) h = h
 
-module _ (c : Scope) (join : List ℕ → Progress → Outcome (Unit {0})) (sender : Option Party) (most : List ℕ → ℕ)
+module _ (c : Scope) (join : List ℕ → Progress → Outcome (Unit {0})) (sender : Option Address) (most : List ℕ → ℕ)
     (joins_over : (x : List ℕ) (s : Progress) → IsOver (join x s)) (joins_cost : (x : List ℕ) (s : Progress) → cost_by (join x s) ≤ s.count + most x) where
   end_within : (e : End) (s : Progress) (k : ℕ) → Within (s.count + (end_cost e + end_count most e)) k (end_with c join e s)
   end_within (NextState n) s k = by_state (state_at c n.state)
@@ -162,7 +162,7 @@ closed_cost : (b : ℕ) (o : Outcome (Unit {0})) → Within b 0 o → cost_by (c
 closed_cost b (goes_on x v) h = omega (arith, h)
 closed_cost b (over e v) h = h
 
-module _ (c : Scope) (sender : Option Party) (connections : NamedConnections c) where
+module _ (c : Scope) (sender : Option Address) (connections : NamedConnections c) where
   -- the longest path from a connection on, where at most n JOINs are followed
   abbrev pub most_by : ℕ → List ℕ → ℕ
   most_by n x = joined_by (λ vs join text. budget vs join text 0) c.process n x

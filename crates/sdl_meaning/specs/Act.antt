@@ -25,6 +25,7 @@ use Rattle.turn_code.specs.declared.value.Value.{Value}
 use Rattle.turn_code.specs.declared.value.Value.TheVariants.{Int, Bool as Truth}
 use Rattle.turn_code.specs.declared.input.Input.{Input}
 use Rattle.turn_code.specs.declared.input.Party.{Party}
+use Rattle.turn_code.specs.declared.input.Address.{Address}
 use Rattle.turn_code.specs.declared.input.Party.TheVariants.{Environment, Process}
 use Rattle.turn_code.specs.declared.machine.End.TheVariants as code_ends
 use Rattle.turn_code.specs.declared.instruction.Relation.{Relation}
@@ -32,7 +33,7 @@ use Rattle.turn_code.specs.declared.instruction.Relation.TheVariants as relation
 use Rattle.turn_code.specs.declared.effect.Effect.TheVariants as effects
 use Rattle.turn_code.specs.declared.trouble.Trouble.TheVariants.{Unset, WrongSort, Underflow, NoState, NoReceiver, NoAnswer, Outside}
 use Rattle.turn_code.specs.Values.{wrap, holds, is_between, differ}
-use Rattle.turn_code.specs.Run.{Progress, tick, with_variables, with_effect, sending, begun, Ran, ended, got_stuck}
+use Rattle.turn_code.specs.Run.{Progress, tick, with_variables, with_effect, of_party, sending, begun, Ran, ended, got_stuck}
 use Rattle.sdl_sound.specs.TableNames.{number_of, variables_of, connection_named, process_names}
 use Rattle.sdl_sound.specs.Longest.{Piece, is_division}
 use Rattle.sdl_sound.specs.Sorts.{has_sort, sort_in}
@@ -171,20 +172,25 @@ the_one c [] = None
 the_one c (q ∷ []) = numbered c q
 the_one c (q ∷ r ∷ qs) = None
 
-abbrev pub if_named : Scope → Identifier → Option tree_party.Party → Party → Option Party
+abbrev pub if_named : Scope → Identifier → Option tree_party.Party → Address → Option Address
 if_named c n None p = None
 if_named c n (Some q) p = if is_carried c n q then Some p else None
 
 -- the sender, if there is one and it can get the signal
-abbrev pub to_sender : Scope → Identifier → Option Party → Option Party
+abbrev pub to_sender : Scope → Identifier → Option Address → Option Address
 to_sender c n None = None
-to_sender c n (Some p) = if_named c n (named c p) p
+to_sender c n (Some p) = if_named c n (named c p.party) p
+
+-- a party, with no word of its instance
+abbrev pub addressed : Option Party → Option Address
+addressed None = None
+addressed (Some p) = Some (of_party p)
 
 -- who gets a signal that goes out: whom TO names, if a route carries it there; else the one to whom routes carry it
-abbrev pub receiver_of : Scope → Option Party → Option Destination → Identifier → Option Party
-receiver_of c sender None n = the_one c (receivers c.block (party_of c.process) n.name)
+abbrev pub receiver_of : Scope → Option Address → Option Destination → Identifier → Option Address
+receiver_of c sender None n = addressed (the_one c (receivers c.block (party_of c.process) n.name))
 receiver_of c sender (Some (address.Process id)) n =
-    if is_carried c n (tree_parties.Process id) then numbered c (tree_parties.Process id) else None
+    addressed (if is_carried c n (tree_parties.Process id) then numbered c (tree_parties.Process id) else None)
 receiver_of c sender (Some (address.Sender at)) n = to_sender c n sender
 
 -- ---- actions
@@ -196,17 +202,17 @@ assign c (a ∷ rest) s =
     then_do (value_of c a.value s) (λ x s. then_do (write (variable_at c a.variable) x s) (λ _ s. assign c rest s))
 
 -- a signal goes out with its parameters, where there is such a signal and somebody gets it
-abbrev pub put_out : Option ℕ → Option Party → List Value → Progress → Outcome (Unit {0})
+abbrev pub put_out : Option ℕ → Option Address → List Value → Progress → Outcome (Unit {0})
 put_out None to xs s = over (in_trouble NoReceiver) s
 put_out (Some n) None xs s = over (in_trouble NoReceiver) s
 put_out (Some n) (Some p) xs s = goes_on (tt {0}) (with_effect s (sending (record { 0 = n }) p xs))
 
-abbrev pub send : Scope → Option Party → Option Destination → PlainSending → Progress → Outcome (Unit {0})
+abbrev pub send : Scope → Option Address → Option Destination → PlainSending → Progress → Outcome (Unit {0})
 send c sender to x s =
     then_do (values_of c x.parameters s) (λ xs s. put_out (signal_at c x.signal) (receiver_of c sender to x.signal) xs (tick s))
 
 -- the signals of an OUTPUT, one after another
-abbrev pub send_all : Scope → Option Party → Option Destination → List PlainSending → Progress → Outcome (Unit {0})
+abbrev pub send_all : Scope → Option Address → Option Destination → List PlainSending → Progress → Outcome (Unit {0})
 send_all c sender to [] s = goes_on (tt {0}) s
 send_all c sender to (x ∷ rest) s = then_do (send c sender to x s) (λ _ s. send_all c sender to rest s)
 
@@ -222,7 +228,7 @@ stop_timer None s = over (in_trouble Unset) s
 stop_timer (Some t) s = goes_on (tt {0}) (with_effect s (effects.Reset (record { 0 = t })))
 
 -- one action, where the signal of the transition came from this sender
-abbrev pub perform : Scope → Option Party → PlainAction → Progress → Outcome (Unit {0})
+abbrev pub perform : Scope → Option Address → PlainAction → Progress → Outcome (Unit {0})
 perform c sender (task at ts) s = assign c ts s
 perform c sender (output at xs to) s = send_all c sender to xs s
 perform c sender (set_timer at t n) s = then_do (value_of c t s) (λ x s. start_timer (timer_at c n) x (tick s))
@@ -309,7 +315,7 @@ decide false (Truth b) s by_integer by_truth = over (in_trouble WrongSort) (tick
 
 abbrev mutual
   -- a transition from some statement on
-  pub act : Scope → (List ℕ → Progress → Outcome (Unit {0})) → Option Party → Text → Progress → Outcome (Unit {0})
+  pub act : Scope → (List ℕ → Progress → Outcome (Unit {0})) → Option Address → Text → Progress → Outcome (Unit {0})
   act c join sender falls s = goes_on (tt {0}) s
   act c join sender (ends e) s = end_with c join e s
   act c join sender (does a rest) s = then_do (perform c sender a s) (λ _ s. act c join sender rest s)
@@ -319,14 +325,14 @@ abbrev mutual
       act c join sender rest s))
 
   -- the answers to an Integer question from some answer on: the first range that holds tells the body; ELSE is for what is left
-  pub choose : Scope → (List ℕ → Progress → Outcome (Unit {0})) → Option Party → Choice → ℤ → Progress → Outcome (Unit {0})
+  pub choose : Scope → (List ℕ → Progress → Outcome (Unit {0})) → Option Address → Choice → ℤ → Progress → Outcome (Unit {0})
   choose c join sender nothing_else x s = over (in_trouble NoAnswer) s
   choose c join sender (otherwise body) x s = leave (act c join sender body (tick s))
   choose c join sender (answer at rs body others) x s =
       then_do (try_ranges rs x s) (λ found s. if found then leave (act c join sender body s) else choose c join sender others x s)
 
   -- the answers to a Boolean question
-  pub pick : Scope → (List ℕ → Progress → Outcome (Unit {0})) → Option Party → Choice → Bool → Progress → Outcome (Unit {0})
+  pub pick : Scope → (List ℕ → Progress → Outcome (Unit {0})) → Option Address → Choice → Bool → Progress → Outcome (Unit {0})
   pick c join sender nothing_else b s = over (in_trouble NoAnswer) s
   pick c join sender (otherwise body) b s = leave (act c join sender body s)
   pick c join sender (answer at rs body others) b s =
@@ -345,13 +351,13 @@ entered None s go = over (in_trouble Outside) s
 entered (Some k) s go = go k.text
 
 -- what a JOIN to the connection with a name goes on with, where at most so many JOINs are followed
-abbrev pub follow : Scope → Option Party → ℕ → List ℕ → Progress → Outcome (Unit {0})
+abbrev pub follow : Scope → Option Address → ℕ → List ℕ → Progress → Outcome (Unit {0})
 follow c sender zero x s = over (in_trouble Outside) s
 follow c sender (suc n) x s =
     entered (connection_named c.process x) s (λ t. closed (act c (follow c sender n) sender t s))
 
 -- as many JOINs are followed as there are connections
-abbrev pub join_in : Scope → Option Party → List ℕ → Progress → Outcome (Unit {0})
+abbrev pub join_in : Scope → Option Address → List ℕ → Progress → Outcome (Unit {0})
 join_in c sender = follow c sender (length c.process.connections)
 
 -- ---- transitions

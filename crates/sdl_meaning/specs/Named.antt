@@ -9,7 +9,7 @@ use Rattle.sdl_sound.specs.sdl_ast_types.tree.End.TheVariants.{NextState, Stop, 
 use Rattle.sdl_sound.specs.sdl_ast_types.tree.Join as tree_join
 use Rattle.sdl_sound.specs.sdl_ast_types.tree.Range.{Range}
 use Rattle.sdl_sound.specs.Plain.{Tree, number, truth, variable, unary, binary, PlainAssignment, PlainSending, PlainAction, task, output, set_timer, reset_timer, Text, falls, ends, does, decides, Choice, nothing_else, otherwise, answer, PlainConnection}
-use Rattle.turn_code.specs.declared.input.Party.{Party}
+use Rattle.turn_code.specs.declared.input.Address.{Address}
 use Rattle.std.specs.List.{flat_map}
 use Rattle.profile_limits.specs.Limits.{MOST_PARAMETERS}
 use Rattle.sdl_sound.specs.TableNames.{variables_of}
@@ -123,17 +123,17 @@ pub record NamedPiece (c : Scope) (q : Piece) : Type 0 where
 -- ---- who sends what a transition waits for
 
 -- there is a sender, from whom a route carries the signal to this process
-abbrev pub IsBroughtBy : Scope → Identifier → Option Party → Type 0
+abbrev pub IsBroughtBy : Scope → Identifier → Option Address → Type 0
 IsBroughtBy c n None = ⊥
-IsBroughtBy c n (Some p) = (q : tree_party.Party) × (named c p ≡ Some q) × (carries c.block q (party_of c.process) n.name ≡ true)
+IsBroughtBy c n (Some p) = (q : tree_party.Party) × (named c p.party ≡ Some q) × (carries c.block q (party_of c.process) n.name ≡ true)
 
 -- for a signal; a timer's comes from anybody
-abbrev pub IsSentIf : Scope → Identifier → Option ℕ → Option Party → Type 0
+abbrev pub IsSentIf : Scope → Identifier → Option ℕ → Option Address → Type 0
 IsSentIf c n None sender = Unit {0}
 IsSentIf c n (Some k) sender = IsBroughtBy c n sender
 
 -- who may have sent what a transition waits for: START waits for nothing
-abbrev pub IsSentTo : Scope → Option Identifier → Option Party → Type 0
+abbrev pub IsSentTo : Scope → Option Identifier → Option Address → Type 0
 IsSentTo c None sender = Unit {0}
 IsSentTo c (Some n) sender = IsSentIf c n (signal_at c n) sender
 
@@ -141,7 +141,7 @@ IsSentTo c (Some n) sender = IsSentIf c n (signal_at c n) sender
 abbrev pub AnswerAll : Scope → Option Identifier → List PlainSending → Type 0
 AnswerAll c from [] = Unit {0}
 AnswerAll c from (x ∷ rest) =
-    ((sender : Option Party) → IsSentTo c from sender → IsSome (to_sender c x.signal sender)) × AnswerAll c from rest
+    ((sender : Option Address) → IsSentTo c from sender → IsSome (to_sender c x.signal sender)) × AnswerAll c from rest
 
 abbrev pub AnswersTo : Scope → Option Identifier → Option Destination → List PlainSending → Type 0
 AnswersTo c from None xs = Unit {0}

@@ -14,7 +14,8 @@ ghost use Rattle.sdl_measures.specs.Rows.{marked_size, stimulus_piece, IsExtent,
 ghost use Rattle.sdl_sound.specs.Standing.{taken_by, taken_in};
 ghost use Rattle.sdl_ast.specs.Plain.{Text, PlainProcess, PlainBlock};
 ghost use Rattle.sdl_measures.specs.Counting.{measure_at};
-ghost use Rattle.sdl_sound.specs.Limits.{exceeds, number_limits, transition_limits, first_limit};
+ghost use Rattle.sdl_sound.specs.declared.fault.Limit.TheVariants.{Instances};
+ghost use Rattle.sdl_sound.specs.Limits.{exceeds, wrong_instances, number_limits, later_limits, first_limit};
 
 use crate::counts::{places_cost, places_depth};
 use crate::measures::{Measure, NOTHING, measure_transition};
@@ -277,6 +278,24 @@ fn has_many_timers(tables: &[ProcessTable]) -> bool
     any
 }
 
+/// Whether a process has more than 8 instances, or none.
+fn has_wrong_instances(tables: &[ProcessTable]) -> bool
+    ensures { result ≡ list_any (λ p. wrong_instances p.instances) (map process_of tables.now) }
+{
+    let mut any = false;
+    for table in tables {
+        any |= is_wrong_count(table.process().instances);
+    }
+    any
+}
+
+/// Whether a process can't have so many instances.
+fn is_wrong_count(instances: u32) -> bool
+    ensures { result ≡ wrong_instances instances }
+{
+    instances < 1 || 8 < instances
+}
+
 /// Whether a signal has more than 4 parameters.
 fn has_many_parameters(rows: &[&SignalDeclaration]) -> bool
     ensures { result ≡ list_any (λ s. nat_lt MOST_PARAMETERS (length s.parameters)) (map (λ s. signal_of s.now) rows.now) }
@@ -340,9 +359,9 @@ fn first_count(alloc: Global, block: &BlockTable) -> Result<Option<Limit>, Alloc
     Ok(None)
 }
 
-/// The first limit on a transition.
-fn first_passed(passed: Passed) -> Option<Limit>
-    ensures { (b : PlainBlock) → AllPassed (processes_of b) passed → result ≡ find (exceeds b) transition_limits }
+/// The first limit on a transition, or last that on instances, where it is passed.
+fn first_passed(passed: Passed, instances: bool) -> Option<Limit>
+    ensures { (b : PlainBlock) → AllPassed (processes_of b) passed → instances ≡ exceeds b Instances → result ≡ find (exceeds b) later_limits }
 {
     if passed.size {
         return Some(Limit::Piece);
@@ -352,6 +371,9 @@ fn first_passed(passed: Passed) -> Option<Limit>
     }
     if passed.effects {
         return Some(Limit::Effects);
+    }
+    if instances {
+        return Some(Limit::Instances);
     }
     None
 }
@@ -369,8 +391,9 @@ pub fn first_limit(
     match counted {
         Some(which) => Ok(Some(which)),
         None => {
-            let passed = pass_processes(alloc, block.tables(), measures)?;
-            Ok(first_passed(passed))
+            let tables = block.tables();
+            let passed = pass_processes(alloc, tables, measures)?;
+            Ok(first_passed(passed, has_wrong_instances(tables)))
         }
     }
 }

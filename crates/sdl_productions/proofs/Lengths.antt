@@ -4,7 +4,7 @@ use Rattle.sdl_lex.specs.declared.lexemes.Word.TheVariants as words
 use Rattle.sdl_lex.specs.declared.lexemes.Symbol.TheVariants.{Semicolon, Comma, Assign, Open, Close, Plus, Minus, Colon}
 use Rattle.sdl_ast.specs.Plain.{Tree, PlainHead}
 use Rattle.sdl_bodies.specs.Bodies.{Keeping, whole_texts, Branching, Body, Reached, Move, reaches, closes, with_answer}
-use Rattle.sdl_tokens.specs.Tokens.{a_word, a_symbol, a_number, a_name, a_sort, a_party, a_constant, a_one, a_closing, a_quoted, a_destination, a_declaration, a_clause, an_action, an_end, a_choice, a_relation, a_section}
+use Rattle.sdl_tokens.specs.Tokens.{a_word, a_symbol, a_number, a_name, a_sort, a_party, a_constant, a_count, the_number, a_closing, a_quoted, a_destination, a_declaration, a_clause, an_action, an_end, a_choice, a_relation, a_section}
 use Rattle.sdl_expressions.specs.Machine.{low_trees, expression_at}
 use Rattle.sdl_tokens.specs.Readings.{At, optional, token, Shortens, NeverLonger}
 use Rattle.sdl_productions.specs.Productions.{place_at, stimulus_at, assignment_at, assigned_at, quoted_at, item_at, task_at, sending_at, destination_at, output_at, delay_at, set_at, reset_at, action_at, next_state_at, stop_at, end_at, head_step, closing_step, answer_step, body_step, behind_step, end_step, decision_step, action_step, step_at, after_move, steps_for, steps_from, at_first, text_at, input_at, save_at, clause_at, closing_at, end_state_at, state_at, start_at, second_number_at, instances_at, process_head_at, process_at, entity_at, compared_at, upper_at, value_at, range_at, answer_head_at, else_head_at, some_head_at, no_head_at, head_at, question_at, end_decision_at, join_at, end_connection_at, connection_at, state_section_at, connection_section_at, section_at}
@@ -348,25 +348,25 @@ pub start_keeps : NeverLonger start_at
 unfolding start_at
 start_keeps = keeps_token (a_word words.Start) >>= λ at. terminator_keeps >>= λ _. text_keeps whole_texts >>= λ text. keeps_give _
 
-pub second_number_keeps : NeverLonger second_number_at
+pub second_number_keeps : (first : ℕ) → NeverLonger (second_number_at first)
 unfolding second_number_at
-second_number_keeps = keeps_token (a_symbol Comma) >>= λ _. keeps_optional a_number (keeps_token a_one)
+second_number_keeps first = keeps_token (a_symbol Comma) >>= λ _. keeps_optional a_number (keeps_token (the_number first))
 
 pub instances_keeps : NeverLonger instances_at
 unfolding instances_at
 instances_keeps =
-    keeps_token (a_symbol Open) >>= λ _. keeps_token a_one >>= λ first. keeps_optional (a_symbol Comma) second_number_keeps >>=
+    keeps_token (a_symbol Open) >>= λ _. keeps_token a_count >>= λ first. keeps_optional (a_symbol Comma) (second_number_keeps first) >>=
     λ _. keeps_token (a_symbol Close) >>= λ _. keeps_give _
 
 pub process_head_takes : Shortens process_head_at
 unfolding process_head_at
 process_head_takes =
     first_takes (shortens_token (a_word words.Process)) λ _.
-    name_keeps >>= λ name. keeps_optional (a_symbol Open) instances_keeps >>= λ _. terminator_keeps >>= λ _. keeps_give _
+    name_keeps >>= λ name. keeps_optional (a_symbol Open) instances_keeps >>= λ instances. terminator_keeps >>= λ _. keeps_give _
 
 pub process_takes : Shortens process_at
 unfolding process_at
-process_takes = first_takes process_head_takes λ name. keeps_many a_declaration declaration_keeps >>= λ declarations. start_keeps >>= λ start. keeps_many a_section section_keeps >>= λ sections. keeps_token (a_word words.EndProcess) >>= λ _. closing_keeps name.name >>= λ _. keeps_give _
+process_takes = first_takes process_head_takes λ head. keeps_many a_declaration declaration_keeps >>= λ declarations. start_keeps >>= λ start. keeps_many a_section section_keeps >>= λ sections. keeps_token (a_word words.EndProcess) >>= λ _. closing_keeps head.name.name >>= λ _. keeps_give _
 
 pub entity_takes : Shortens entity_at
 unfolding entity_at

@@ -53,10 +53,10 @@ start_keeps = keeps_token (a_word words.Start) >>= λ at. terminator_keeps >>= �
 process_takes : Shortens marked_process
 unfolding marked_process
 process_takes =
-    first_takes process_head_takes λ name.
+    first_takes process_head_takes λ head.
     keeps_many _ declaration_keeps >>= λ declarations. start_keeps >>=
     λ start. keeps_many a_section marked_section_keeps >>= λ sections. keeps_token (a_word words.EndProcess) >>=
-    λ _. closing_keeps name.name >>= λ _. keeps_give _
+    λ _. closing_keeps head.name.name >>= λ _. keeps_give _
 
 pub marked_entity_takes : Shortens marked_entity
 unfolding marked_entity

@@ -70,13 +70,13 @@ marked_start = do
 
 unfoldable pub marked_process : At (Marked PlainEntity)
 marked_process = do
-  name ← process_head_at
+  head ← process_head_at
   declarations ← many a_declaration declaration_at
   start ← marked_start
   sections ← many a_section marked_section
   _ ← token (a_word words.EndProcess)
-  _ ← closing_at name.name
-  give (map_marked (λ p. process p) (process_marked name declarations start (gathered (filter_map marked_state_in sections)) (gathered (filter_map marked_connection_in sections))))
+  _ ← closing_at head.name.name
+  give (map_marked (λ p. process p) (process_marked head declarations start (gathered (filter_map marked_state_in sections)) (gathered (filter_map marked_connection_in sections))))
 
 unfoldable pub marked_entity : At (Marked PlainEntity)
 marked_entity = choice (a_word words.Signal) (kept_at signals_at) (choice (a_word words.SignalRoute) (kept_at route_at) (choice (a_word words.Connect) (kept_at connect_at) marked_process))

@@ -11,8 +11,8 @@ use Rattle.sdl_ast.specs.declared.tree.End.{End}
 use Rattle.sdl_ast.specs.declared.tree.End.TheVariants.{NextState, Stop, Join}
 use Rattle.sdl_ast.specs.declared.tree.Range.{Range}
 use Rattle.sdl_ast.specs.declared.tree.Range.TheVariants.{Compared}
-use Rattle.sdl_ast.specs.Plain.{Tree, PlainAssignment, PlainSending, PlainAction, task, output, set_timer, reset_timer, PlainQuestion, PlainHead, PlainStimulus, PlainClause, input, save, PlainState, PlainStart, PlainEntity, process, PlainBlock, PlainConnection, PlainSection, in_state, in_connection, process_from, from_to}
-use Rattle.sdl_tokens.specs.Tokens.{a_word, a_symbol, a_number, a_name, a_one, a_closing, a_quoted, a_destination, an_entity, a_declaration, a_clause, an_action, an_end, a_choice, a_relation, a_section}
+use Rattle.sdl_ast.specs.Plain.{Tree, PlainAssignment, PlainSending, PlainAction, task, output, set_timer, reset_timer, PlainQuestion, PlainHead, PlainStimulus, PlainClause, input, save, PlainState, PlainStart, PlainEntity, process, PlainBlock, PlainConnection, PlainSection, in_state, in_connection, PlainProcessHead, process_head, process_from, from_to}
+use Rattle.sdl_tokens.specs.Tokens.{a_word, a_symbol, a_number, a_name, a_count, the_number, a_closing, a_quoted, a_destination, an_entity, a_declaration, a_clause, an_action, an_end, a_choice, a_relation, a_section}
 use Rattle.sdl_expressions.specs.Machine.{expression_at}
 use Rattle.sdl_bodies.specs.Bodies.{Keeping, whole_texts, Branching, Body, Reached, Move, reaches, closes, with_answer}
 use Rattle.sdl_tokens.specs.Readings.{At, fails, give, token, ◌>>=◌, many, choice, optional, separated_from, separated, list_in_parentheses}
@@ -325,36 +325,36 @@ start_at = do
   text ← text_at whole_texts
   give (record { at = at; text = text })
 
-unfoldable pub second_number_at : At (Option ℕ)
-second_number_at = do
+unfoldable pub second_number_at : ℕ → At (Option ℕ)
+second_number_at first = do
   _ ← token (a_symbol Comma)
-  optional a_number (token a_one)
+  optional a_number (token (the_number first))
 
 unfoldable pub instances_at : At ℕ
 instances_at = do
   _ ← token (a_symbol Open)
-  first ← token a_one
-  _ ← optional (a_symbol Comma) second_number_at
+  first ← token a_count
+  _ ← optional (a_symbol Comma) (second_number_at first)
   _ ← token (a_symbol Close)
   give first
 
-unfoldable pub process_head_at : At Identifier
+unfoldable pub process_head_at : At PlainProcessHead
 process_head_at = do
   _ ← token (a_word words.Process)
   name ← token a_name
-  _ ← optional (a_symbol Open) instances_at
+  instances ← optional (a_symbol Open) instances_at
   _ ← terminator_at
-  give name
+  give (process_head name instances)
 
 unfoldable pub process_at : At PlainEntity
 process_at = do
-  name ← process_head_at
+  head ← process_head_at
   declarations ← many a_declaration declaration_at
   start ← start_at
   sections ← many a_section section_at
   _ ← token (a_word words.EndProcess)
-  _ ← closing_at name.name
-  give (process (process_from name declarations start sections))
+  _ ← closing_at head.name.name
+  give (process (process_from head declarations start sections))
 
 unfoldable pub entity_at : At PlainEntity
 entity_at = choice (a_word words.Signal) signals_at (choice (a_word words.SignalRoute) route_at (choice (a_word words.Connect) connect_at process_at))

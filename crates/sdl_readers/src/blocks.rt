@@ -2,12 +2,13 @@
 ghost use Rattle.std.specs.Prelude.{◌≡◌, ℕ, map};
 ghost use Rattle.sdl_lex.specs.declared.lexemes.Symbol.TheVariants as symbols;
 ghost use Rattle.sdl_tokens.specs.Readings.{token, optional};
-ghost use Rattle.sdl_ast.specs.Plain.{PlainEntity, process};
+ghost use Rattle.sdl_ast.specs.Plain.{PlainEntity, process, process_head};
+ghost use Rattle.sdl_readers.specs.SectionViews.{head_of};
 ghost use Rattle.sdl_bodies.specs.BodyViews.{marked_view};
 ghost use Rattle.sdl_bodies.specs.Marks.{Marked, map_marked, body_marked, process_marked};
 ghost use Rattle.sdl_productions.specs.MarkedParts.{marked_process, marked_entity, marked_block};
 ghost use Rattle.sdl_productions.specs.Productions.{second_number_at, instances_at, process_head_at};
-ghost use Rattle.sdl_tokens.specs.Tokens.{a_number, a_one, a_symbol, an_entity};
+ghost use Rattle.sdl_tokens.specs.Tokens.{a_number, the_number, a_symbol, an_entity};
 ghost use Rattle.sdl_ast.specs.Views.{declaration_of, start_of, state_of, connection_of, entity_of, block_of};
 ghost use Rattle.sdl_tokens.specs.Mirrors.{Mirrors, same};
 ghost use Rattle.sdl_productions.proofs.MarkedLengths.{marked_entity_takes, marked_entity_keeps};
@@ -21,55 +22,59 @@ use crate::transitions::{Section, read_start};
 use sdl_ast::{Block, Connection, Declaration, Entity, Identifier, Process, Start, StatePart};
 use sdl_bodies::{Marked, gathered};
 use sdl_lex::{Symbol, Token, Word};
-use sdl_tokens::{AnyEntity, AnyName, AnyNumber, One, Stop, stands_next, take};
+use sdl_tokens::{AnyCount, AnyEntity, AnyName, AnyNumber, Stop, ThatNumber, stands_next, take};
 use std::alloc::Global;
 
-/// Reads `[1]`.
-fn read_optional_one<'a>(tokens: &'a [Token]) -> Result<(Option<u32>, &'a [Token]), Stop<'a>>
-    ensures { Mirrors same result (optional a_number (token a_one) tokens.now) }
+/// Reads `[number]`, this number again.
+fn read_optional_number<'a>(
+    first: u32,
+    tokens: &'a [Token],
+) -> Result<(Option<u32>, &'a [Token]), Stop<'a>>
+    ensures { Mirrors same result (optional a_number (token (the_number first)) tokens.now) }
 {
     if !stands_next(tokens, AnyNumber) {
         return Ok((None, tokens));
     }
-    let (found, rest) = attempt!(take(tokens, One));
+    let (found, rest) = attempt!(take(tokens, ThatNumber(first)));
     Ok((Some(found), rest))
 }
 
-/// Reads `, [1]`.
+/// Reads `, [number]`, this number again.
 #[tactic(auto, unfolding(sdl_productions::specs::Productions::second_number_at))]
-fn read_second<'a>(tokens: &'a [Token]) -> Result<(Option<u32>, &'a [Token]), Stop<'a>>
-    ensures { Mirrors same result (second_number_at tokens.now) }
+fn read_second<'a>(first: u32, tokens: &'a [Token]) -> Result<(Option<u32>, &'a [Token]), Stop<'a>>
+    ensures { Mirrors same result (second_number_at first tokens.now) }
 {
     let (_, rest) = attempt!(take(tokens, Symbol::Comma));
-    Ok(attempt!(read_optional_one(rest)))
+    Ok(attempt!(read_optional_number(first, rest)))
 }
 
-/// Reads `[ , [1] ]`.
+/// Reads `[ , [number] ]`, this number again.
 fn read_optional_second<'a>(
+    first: u32,
     tokens: &'a [Token],
 ) -> Result<(Option<Option<u32>>, &'a [Token]), Stop<'a>>
-    ensures { Mirrors same result (optional (a_symbol symbols.Comma) second_number_at tokens.now) }
+    ensures { Mirrors same result (optional (a_symbol symbols.Comma) (second_number_at first) tokens.now) }
 {
     if !stands_next(tokens, Symbol::Comma) {
         return Ok((None, tokens));
     }
-    let (found, rest) = attempt!(read_second(tokens));
+    let (found, rest) = attempt!(read_second(first, tokens));
     Ok((Some(found), rest))
 }
 
-/// Reads `( 1 [ , [1] ] )`: the numbers of instances at first and at most.
+/// Reads `( number [ , [number] ] )`: how many instances there are at first, and at most, which is the same.
 #[tactic(auto, unfolding(sdl_productions::specs::Productions::instances_at))]
 fn read_instances<'a>(tokens: &'a [Token]) -> Result<(u32, &'a [Token]), Stop<'a>>
     ensures { Mirrors same result (instances_at tokens.now) }
 {
     let (_, rest) = attempt!(take(tokens, Symbol::Open));
-    let (first, rest) = attempt!(take(rest, One));
-    let (_, rest) = attempt!(read_optional_second(rest));
+    let (first, rest) = attempt!(take(rest, AnyCount));
+    let (_, rest) = attempt!(read_optional_second(first, rest));
     let (_, rest) = attempt!(take(rest, Symbol::Close));
     Ok((first, rest))
 }
 
-/// Reads `[ ( 1 [ , [1] ] ) ]`.
+/// Reads `[ ( number [ , [number] ] ) ]`.
 fn read_optional_instances<'a>(tokens: &'a [Token]) -> Result<(Option<u32>, &'a [Token]), Stop<'a>>
     ensures { Mirrors same result (optional (a_symbol symbols.Open) instances_at tokens.now) }
 {
@@ -80,39 +85,57 @@ fn read_optional_instances<'a>(tokens: &'a [Token]) -> Result<(Option<u32>, &'a 
     Ok((Some(found), rest))
 }
 
-/// Reads `PROCESS name [ ( 1 [, [1]] ) ] ;`.
+/// What a process begins with: its name, and how many instances of it run.
+#[derive(Clone, Copy)]
+pub(crate) struct ProcessHead {
+    name: Identifier,
+    instances: u32,
+}
+
+/// A process of this name, with so many instances; one where no number is written.
+fn head_with(name: Identifier, instances: Option<u32>) -> ProcessHead
+    ensures { head_of result ≡ process_head name instances }
+{
+    match instances {
+        Some(instances) => ProcessHead { name, instances },
+        None => ProcessHead { name, instances: 1 },
+    }
+}
+
+/// Reads `PROCESS name [ ( number [, [number]] ) ] ;`.
 #[tactic(auto, unfolding(sdl_productions::specs::Productions::process_head_at))]
-fn read_process_head<'a>(tokens: &'a [Token]) -> Result<(Identifier, &'a [Token]), Stop<'a>>
-    ensures { Mirrors same result (process_head_at tokens.now) }
+fn read_process_head<'a>(tokens: &'a [Token]) -> Result<(ProcessHead, &'a [Token]), Stop<'a>>
+    ensures { Mirrors head_of result (process_head_at tokens.now) }
 {
     let (_, rest) = attempt!(take(tokens, Word::Process));
     let (name, rest) = attempt!(take(rest, AnyName));
-    let (_, rest) = attempt!(read_optional_instances(rest));
+    let (instances, rest) = attempt!(read_optional_instances(rest));
     let (_, rest) = attempt!(terminator(rest));
-    Ok((name, rest))
+    Ok((head_with(name, instances), rest))
 }
 
 /// What stands before the START of a process.
 #[derive(Drop)]
-struct ProcessHead {
-    name: Identifier,
+struct ProcessFront {
+    head: ProcessHead,
     declarations: Vec<Declaration>,
 }
 
 /// A process; STATE parts and CONNECTIONs stand mixed, so the lesser of their marks stays.
 fn body_of(
-    head: ProcessHead,
+    front: ProcessFront,
     start: Start,
     states: Marked<Vec<StatePart>>,
     connections: Marked<Vec<Connection>>,
 ) -> Marked<Entity>
-    ensures { marked_view entity_of result ≡ map_marked (λ p. process p) (body_marked head.name (map declaration_of head.declarations.items) (start_of start) (marked_view (λ v. map state_of v.items) states) (marked_view (λ v. map connection_of v.items) connections)) }
+    ensures { marked_view entity_of result ≡ map_marked (λ p. process p) (body_marked (head_of front.head) (map declaration_of front.declarations.items) (start_of start) (marked_view (λ v. map state_of v.items) states) (marked_view (λ v. map connection_of v.items) connections)) }
 {
-    let ProcessHead { name, declarations } = head;
+    let ProcessFront { head, declarations } = front;
     match (states, connections) {
         (Marked::Kept(states), Marked::Kept(connections)) => {
             Marked::Kept(Entity::Process(Process {
-                name,
+                name: head.name,
+                instances: head.instances,
                 declarations,
                 start,
                 states,
@@ -127,15 +150,15 @@ fn body_of(
 
 /// A process, where nothing in it is too high.
 fn process_of(
-    head: ProcessHead,
+    front: ProcessFront,
     start: Marked<Start>,
     states: Marked<Vec<StatePart>>,
     connections: Marked<Vec<Connection>>,
 ) -> Marked<Entity>
-    ensures { marked_view entity_of result ≡ map_marked (λ p. process p) (process_marked head.name (map declaration_of head.declarations.items) (marked_view start_of start) (marked_view (λ v. map state_of v.items) states) (marked_view (λ v. map connection_of v.items) connections)) }
+    ensures { marked_view entity_of result ≡ map_marked (λ p. process p) (process_marked (head_of front.head) (map declaration_of front.declarations.items) (marked_view start_of start) (marked_view (λ v. map state_of v.items) states) (marked_view (λ v. map connection_of v.items) connections)) }
 {
     match start {
-        Marked::Kept(start) => body_of(head, start, states, connections),
+        Marked::Kept(start) => body_of(front, start, states, connections),
         Marked::TooHigh(at) => Marked::TooHigh(at),
     }
 }
@@ -148,20 +171,20 @@ fn read_process<'a>(
 ) -> Result<(Marked<Entity>, &'a [Token]), Stop<'a>>
     ensures { Mirrors (marked_view entity_of) result (marked_process tokens.now) }
 {
-    let (name, rest) = attempt!(read_process_head(tokens));
+    let (head, rest) = attempt!(read_process_head(tokens));
     let (declarations, rest) = attempt!(read_many::<Declaration>(alloc, rest));
     let (start, rest) = attempt!(read_start(alloc, rest));
     let (sections, rest) = attempt!(read_many::<Section>(alloc, rest));
     let (_, rest) = attempt!(take(rest, Word::EndProcess));
-    let (_, rest) = attempt!(read_closing(rest, name.name));
+    let (_, rest) = attempt!(read_closing(rest, head.name.name));
     let Sections {
         states,
         connections,
     } = attempt!(parted(alloc, sections));
     let states = attempt!(gathered(alloc, states));
     let connections = attempt!(gathered(alloc, connections));
-    let head = ProcessHead { name, declarations };
-    Ok((process_of(head, start, states, connections), rest))
+    let front = ProcessFront { head, declarations };
+    Ok((process_of(front, start, states, connections), rest))
 }
 
 impl Production for Marked<Entity> {

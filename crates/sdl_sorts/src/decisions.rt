@@ -1,4 +1,5 @@
-//! The rule on answers: the first DECISION of Integers without ELSE, or of Booleans in which TRUE or FALSE isn't answered exactly once.
+//! The rule on answers: the first DECISION of Integers without ELSE, of Booleans in which TRUE or FALSE isn't answered exactly once (ELSE
+//! answers what no answer names, and something has to be left for it), or with an answer for no value, which no text can have.
 ghost use Rattle.std.specs.Prelude.{◌≡◌, ℕ, ◌+◌, not, length, nat_eq, nat_lt, sum_by};
 ghost use Rattle.std.specs.List.{list_all};
 ghost use Rattle.sdl_ast.specs.declared.tree.Decision.{out-Decision};
@@ -117,7 +118,7 @@ fn has_else(decision: &Decision) -> bool
     decision.otherwise.is_some()
 }
 
-/// Whether TRUE and FALSE are answered once, of a Boolean question.
+/// Whether TRUE and FALSE are answered once each, of a Boolean question; with ELSE at most one of them is named.
 fn answers_both(decision: &Decision) -> bool
     ensures { result ≡ answers_both (choice_of decision.now) }
 {

@@ -1,5 +1,6 @@
--- Which DECISIONs aren't answered: those of Integers without ELSE, and those of Booleans in which TRUE or FALSE isn't answered exactly
--- once. (Z.100: decisions; that ELSE is wanted is this profile's own.)
+-- Which DECISIONs aren't answered: those of Integers without ELSE; those of Booleans in which TRUE or FALSE isn't answered exactly once, where
+-- ELSE answers what no answer names, and one of the two has to be left for it; and those with an answer for no value, which no text can have.
+-- (Z.100: decisions; that ELSE is wanted is this profile's own.)
 use Rattle.std.specs.Prelude.{ℕ, ◌+◌, Bool, true, false, ◌&&◌, List, [], ◌∷◌, if◌then◌else◌, length, nat_eq, nat_lt, sum_by}
 use Rattle.std.specs.List.{flat_map}
 use Rattle.sdl_tables.specs.sdl_ast_types.tree.Literal.{Literal}
@@ -12,7 +13,7 @@ use Rattle.sdl_sound.specs.Statements.{Statement, acts, asks, covers, finishes}
 use Rattle.sdl_sound.specs.Actions.{in_statements}
 use Rattle.sdl_sound.specs.Sorts.{is_truth}
 
--- ---- S8: an Integer DECISION without ELSE, or a Boolean one in which a value isn't answered exactly once
+-- ---- S8
 
 abbrev pub has_else : Choice → Bool
 has_else nothing_else = false

@@ -1,12 +1,16 @@
 -- S10: the limits of this profile, in this order.
-use Rattle.std.specs.Prelude.{Bool, List, [], ◌∷◌, ◌++◌, Option, length, nat_lt, find, sum_by}
+use Rattle.std.specs.Prelude.{ℕ, Bool, ◌||◌, List, [], ◌∷◌, ◌++◌, Option, length, nat_lt, find, sum_by}
 use Rattle.std.specs.List.{list_any}
-use Rattle.profile_limits.specs.Limits.{MOST_EFFECTS, MOST_INSTRUCTIONS, MOST_OPERANDS, MOST_PARAMETERS, MOST_PIECES, MOST_PROCESSES, MOST_SIGNALS, MOST_STATES, MOST_TIMERS_EACH, MOST_VARIABLES}
+use Rattle.profile_limits.specs.Limits.{MOST_EFFECTS, MOST_INSTANCES, MOST_INSTRUCTIONS, MOST_OPERANDS, MOST_PARAMETERS, MOST_PIECES, MOST_PROCESSES, MOST_SIGNALS, MOST_STATES, MOST_TIMERS_EACH, MOST_VARIABLES}
 use Rattle.sdl_tables.specs.Plain.{PlainBlock}
 use Rattle.sdl_tables.specs.Names.{signals_of, processes_of, variables_of, timers_of, states_of}
 use Rattle.sdl_sound.specs.Longest.{pieces_of, piece_size, piece_depth, piece_effects}
 use Rattle.sdl_sound.specs.declared.fault.Limit.{Limit}
-use Rattle.sdl_sound.specs.declared.fault.Limit.TheVariants.{Processes, States, Variables, Timers, Signals, Params, Pieces, Piece as PieceSize, Depth, Effects}
+use Rattle.sdl_sound.specs.declared.fault.Limit.TheVariants.{Processes, States, Variables, Timers, Signals, Params, Pieces, Piece as PieceSize, Depth, Effects, Instances}
+
+-- fewer than 1, which no text can have, or more than there may be
+abbrev pub wrong_instances : ℕ → Bool
+wrong_instances n = nat_lt n 1 || nat_lt MOST_INSTANCES n
 
 abbrev pub exceeds : PlainBlock → Limit → Bool
 exceeds b Processes = nat_lt MOST_PROCESSES (length (processes_of b))
@@ -19,17 +23,18 @@ exceeds b Pieces = nat_lt MOST_PIECES (sum_by (λ p. length (pieces_of p)) (proc
 exceeds b PieceSize = list_any (λ p. list_any (λ q. nat_lt MOST_INSTRUCTIONS (piece_size p q)) (pieces_of p)) (processes_of b)
 exceeds b Depth = list_any (λ p. list_any (λ q. nat_lt MOST_OPERANDS (piece_depth p q)) (pieces_of p)) (processes_of b)
 exceeds b Effects = list_any (λ p. list_any (λ q. nat_lt MOST_EFFECTS (piece_effects p q)) (pieces_of p)) (processes_of b)
+exceeds b Instances = list_any (λ p. wrong_instances p.instances) (processes_of b)
 
 -- those on how many there are
 abbrev pub number_limits : List Limit
 number_limits = Processes ∷ States ∷ Variables ∷ Timers ∷ Signals ∷ Params ∷ Pieces ∷ []
 
--- those on a transition
-abbrev pub transition_limits : List Limit
-transition_limits = PieceSize ∷ Depth ∷ Effects ∷ []
+-- those on a transition, and last that on instances
+abbrev pub later_limits : List Limit
+later_limits = PieceSize ∷ Depth ∷ Effects ∷ Instances ∷ []
 
 abbrev pub limits : List Limit
-limits = number_limits ++ transition_limits
+limits = number_limits ++ later_limits
 
 -- the first limit that the block passes
 abbrev pub first_limit : PlainBlock → Option Limit

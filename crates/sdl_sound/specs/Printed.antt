@@ -21,6 +21,7 @@ limit_text limits.Pieces = codes "Pieces"
 limit_text limits.Piece = codes "Piece"
 limit_text limits.Depth = codes "Depth"
 limit_text limits.Effects = codes "Effects"
+limit_text limits.Instances = codes "Instances"
 
 -- START, or a state and an input, with `/` between them
 abbrev pub step_text : Step → List ℕ

@@ -30,6 +30,8 @@ pub enum Limit {
     Depth,
     /// More than 32 outputs, settings and resettings of timers in a turn.
     Effects,
+    /// More than 8 instances of a process, or, which no text can have, none.
+    Instances,
 }
 
 /// A transition on a control path.
@@ -56,6 +58,7 @@ impl fmt::Display for Limit {
             Self::Piece => "Piece",
             Self::Depth => "Depth",
             Self::Effects => "Effects",
+            Self::Instances => "Instances",
         })
     }
 }

@@ -299,13 +299,21 @@ constant_value at None = None
 abbrev pub a_constant : Token → Option Constant
 a_constant t = constant_value t.start (literal_value (a_number t) (a_truth t))
 
-abbrev pub only_one : Option ℕ → Option ℕ
-only_one (Some k) = if k == 1 then Some k else None
-only_one None = None
+abbrev pub not_zero : Option ℕ → Option ℕ
+not_zero (Some k) = if nat_le 1 k then Some k else None
+not_zero None = None
 
--- the number 1, however it is written
-abbrev pub a_one : Token → Option ℕ
-a_one t = only_one (a_number t)
+-- a number of 1 or more
+abbrev pub a_count : Token → Option ℕ
+a_count t = not_zero (a_number t)
+
+abbrev pub equals : ℕ → Option ℕ → Option ℕ
+equals n (Some k) = if k == n then Some k else None
+equals n None = None
+
+-- this number, however it is written
+abbrev pub the_number : ℕ → Token → Option ℕ
+the_number n t = equals n (a_number t)
 
 abbrev pub closes : List ℕ → Option Identifier → Option Identifier
 closes n (Some m) = if bytes_eq (folded m.name) (folded n) then Some m else None

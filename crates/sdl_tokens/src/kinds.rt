@@ -1,6 +1,6 @@
 //! The kinds of tokens: words, symbols, names, numbers, and what a single token may be in a production.
 ghost use Rattle.std.specs.Prelude.{◌≡◌};
-ghost use Rattle.sdl_tokens.specs.Tokens.{same_word, same_symbol, a_word, a_symbol, a_number, a_name, a_sort, a_truth, environment, a_party, a_destination, a_constant, a_one, a_closing, a_quoted, a_relation, relation_value, sender_value, literal_value};
+ghost use Rattle.sdl_tokens.specs.Tokens.{same_word, same_symbol, a_word, a_symbol, a_number, a_name, a_sort, a_truth, environment, a_party, a_destination, a_constant, a_count, the_number, a_closing, a_quoted, a_relation, relation_value, sender_value, literal_value};
 
 use crate::comparison::Comparison;
 use crate::tokens::Kind;
@@ -117,18 +117,35 @@ impl Kind for AnyNumber {
     }
 }
 
-/// The number 1, however it is written.
+/// A number of 1 or more.
 #[derive(Clone, Copy)]
-pub struct One;
+pub struct AnyCount;
 
-impl Kind for One {
+impl Kind for AnyCount {
     type Value = u32;
 
-    ghost stands = { λ k. a_one };
+    ghost stands = { λ k. a_count };
 
     fn value(self, token: &Token) -> Option<u32> {
         match number_of(token) {
-            Some(value) => (value == 1).then_some(value),
+            Some(value) => (1 <= value).then_some(value),
+            None => None,
+        }
+    }
+}
+
+/// This number, however it is written.
+#[derive(Clone, Copy)]
+pub struct ThatNumber(pub u32);
+
+impl Kind for ThatNumber {
+    type Value = u32;
+
+    ghost stands = { λ k. the_number k.0 };
+
+    fn value(self, token: &Token) -> Option<u32> {
+        match number_of(token) {
+            Some(value) => (value == self.0).then_some(value),
             None => None,
         }
     }

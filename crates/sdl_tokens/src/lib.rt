@@ -9,8 +9,8 @@ mod tokens;
 
 pub use comparison::Comparison;
 pub use kinds::{
-    AnyConstant, AnyDestination, AnyName, AnyNumber, AnyParty, AnyQuoted, AnyRelation, AnySort,
-    Closing, One,
+    AnyConstant, AnyCount, AnyDestination, AnyName, AnyNumber, AnyParty, AnyQuoted, AnyRelation,
+    AnySort, Closing, ThatNumber,
 };
 pub use starts::{AnyAction, AnyChoice, AnyClause, AnyDeclaration, AnyEnd, AnyEntity, AnySection};
 pub use stop::{Stop, push};

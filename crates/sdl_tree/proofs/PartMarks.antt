@@ -7,7 +7,7 @@ use Rattle.sdl_lex.specs.declared.lexemes.Word.TheVariants as words
 use Rattle.sdl_lex.specs.declared.lexemes.Symbol.TheVariants.{Colon}
 use Rattle.sdl_ast.specs.declared.expression.Identifier.{Identifier}
 use Rattle.sdl_tokens.specs.Tokens.{a_symbol, a_word, a_name, an_entity, a_declaration, a_clause, a_section}
-use Rattle.sdl_ast.specs.Plain.{Text, PlainStimulus, PlainClause, input, save, PlainState, PlainConnection, PlainSection, in_state, in_connection, state_in, connection_in, process_from, PlainStart, PlainDeclaration, PlainEntity, signals, route, connect, process, PlainBlock}
+use Rattle.sdl_ast.specs.Plain.{Text, PlainStimulus, PlainClause, input, save, PlainState, PlainConnection, PlainSection, in_state, in_connection, state_in, connection_in, PlainProcessHead, process_from, PlainStart, PlainDeclaration, PlainEntity, signals, route, connect, process, PlainBlock}
 use Rattle.sdl_ast.specs.Heights.{or_first, first_of, lesser, high_in_text, high_in_clause, high_in_state, high_in_connection, high_in_entity, first_too_high}
 use Rattle.sdl_readers.specs.Productions.{stimulus_at, text_at, input_at, save_at, clause_at, closing_at, end_state_at, state_at, end_connection_at, connection_at, state_section_at, connection_section_at, section_at, start_at, process_head_at, process_at, entity_at, block_at}
 use Rattle.sdl_readers.specs.DeclarationProductions.{names_at, terminator_at, signal_at, signals_at, path_at, route_at, connect_at, declaration_at}
@@ -176,42 +176,42 @@ start_lowers =
     then_lowers marked_text (marked high_in_start) (text_at whole_texts) _ (text_at marked_texts) _ text_lowers λ text.
     give_one high_in_start (high_in_text text) (start_with at) text refl
 
-process_by : (name : Identifier) (declarations : List PlainDeclaration) (start : PlainStart) (states : List PlainState) (connections : List PlainConnection) (p q r : Option ℕ)
-    → map_marked (λ x. process x) (process_marked name declarations (by_place p start) (by_place q states) (by_place r connections))
-    ≡ by_place (or_first p (lesser q r)) (process (process_with name declarations start states connections))
-process_by name declarations start states connections (Some at) q r = refl
-process_by name declarations start states connections None None None = refl
-process_by name declarations start states connections None None (Some at) = refl
-process_by name declarations start states connections None (Some at) None = refl
-process_by name declarations start states connections None (Some at) (Some other) = refl
+process_by : (head : PlainProcessHead) (declarations : List PlainDeclaration) (start : PlainStart) (states : List PlainState) (connections : List PlainConnection) (p q r : Option ℕ)
+    → map_marked (λ x. process x) (process_marked head declarations (by_place p start) (by_place q states) (by_place r connections))
+    ≡ by_place (or_first p (lesser q r)) (process (process_with head declarations start states connections))
+process_by head declarations start states connections (Some at) q r = refl
+process_by head declarations start states connections None None None = refl
+process_by head declarations start states connections None None (Some at) = refl
+process_by head declarations start states connections None (Some at) None = refl
+process_by head declarations start states connections None (Some at) (Some other) = refl
 
-process_is : (name : Identifier) (declarations : List PlainDeclaration) (start : PlainStart) (sections : List PlainSection)
-    → map_marked (λ x. process x) (process_marked name declarations (marked high_in_start start) (gathered (filter_map marked_state_in (map section_mark sections))) (gathered (filter_map marked_connection_in (map section_mark sections))))
-    ≡ marked high_in_entity (process (process_from name declarations start sections))
+process_is : (head : PlainProcessHead) (declarations : List PlainDeclaration) (start : PlainStart) (sections : List PlainSection)
+    → map_marked (λ x. process x) (process_marked head declarations (marked high_in_start start) (gathered (filter_map marked_state_in (map section_mark sections))) (gathered (filter_map marked_connection_in (map section_mark sections))))
+    ≡ marked high_in_entity (process (process_from head declarations start sections))
 unfolding high_in_start
-process_is name declarations start sections =
+process_is head declarations start sections =
     let states : List PlainState = filter_map state_in sections in
     let connections : List PlainConnection = filter_map connection_in sections in
-    ap (λ ss. map_marked (λ x. process x) (process_marked name declarations (marked high_in_start start) ss (gathered (filter_map marked_connection_in (map section_mark sections)))))
+    ap (λ ss. map_marked (λ x. process x) (process_marked head declarations (marked high_in_start start) ss (gathered (filter_map marked_connection_in (map section_mark sections)))))
     (ap gathered (states_marked sections) ∙ list_gathered high_in_state states)
-    ∙ ap (λ cs. map_marked (λ x. process x) (process_marked name declarations (marked high_in_start start) (marked (first_of high_in_state) states) cs))
+    ∙ ap (λ cs. map_marked (λ x. process x) (process_marked head declarations (marked high_in_start start) (marked (first_of high_in_state) states) cs))
     (ap gathered (connections_marked sections) ∙ list_gathered high_in_connection connections)
-    ∙ process_by name declarations start states connections (high_in_text start.text) (first_of high_in_state states) (first_of high_in_connection connections)
+    ∙ process_by head declarations start states connections (high_in_text start.text) (first_of high_in_state states) (first_of high_in_connection connections)
 
-give_process_lowers : (name : Identifier) (declarations : List PlainDeclaration) (start : PlainStart) (sections : List PlainSection)
-    → Lowers (marked high_in_entity) (give (process (process_from name declarations start sections)))
-    (give (map_marked (λ x. process x) (process_marked name declarations (marked high_in_start start) (gathered (filter_map marked_state_in (map section_mark sections))) (gathered (filter_map marked_connection_in (map section_mark sections))))))
+give_process_lowers : (head : PlainProcessHead) (declarations : List PlainDeclaration) (start : PlainStart) (sections : List PlainSection)
+    → Lowers (marked high_in_entity) (give (process (process_from head declarations start sections)))
+    (give (map_marked (λ x. process x) (process_marked head declarations (marked high_in_start start) (gathered (filter_map marked_state_in (map section_mark sections))) (gathered (filter_map marked_connection_in (map section_mark sections))))))
 unfolding Lowers mapped
-give_process_lowers name declarations start sections ts = ap (λ m. read m ts) (process_is name declarations start sections)
+give_process_lowers head declarations start sections ts = ap (λ m. read m ts) (process_is head declarations start sections)
 
 process_lowers : Lowers (marked high_in_entity) process_at marked_process
 unfolding process_at marked_process
 process_lowers =
-    next_lowers (marked high_in_entity) process_head_at _ _ λ name. next_lowers (marked high_in_entity) (many a_declaration declaration_at) _ _ λ declarations.
+    next_lowers (marked high_in_entity) process_head_at _ _ λ head. next_lowers (marked high_in_entity) (many a_declaration declaration_at) _ _ λ declarations.
     then_lowers (marked high_in_start) (marked high_in_entity) start_at _ marked_start _ start_lowers λ start.
     then_lowers (map section_mark) (marked high_in_entity) (many a_section section_at) _ (many a_section marked_section) _ (many_lowers section_mark a_section section_at marked_section section_lowers) λ sections.
-    next_lowers (marked high_in_entity) (token (a_word words.EndProcess)) _ _ λ _. next_lowers (marked high_in_entity) (closing_at name.name) _ _ λ _.
-    give_process_lowers name declarations start sections
+    next_lowers (marked high_in_entity) (token (a_word words.EndProcess)) _ _ λ _. next_lowers (marked high_in_entity) (closing_at head.name.name) _ _ λ _.
+    give_process_lowers head declarations start sections
 
 entity_lowers : Lowers (marked high_in_entity) entity_at marked_entity
 unfolding entity_at marked_entity

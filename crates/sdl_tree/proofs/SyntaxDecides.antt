@@ -5,8 +5,8 @@ use Rattle.sdl_lex.specs.declared.lexemes.Word.TheVariants as words
 use Rattle.sdl_lex.specs.declared.lexemes.Symbol.TheVariants.{Comma, Assign, Open, Close, Plus, Colon}
 use Rattle.sdl_ast.specs.declared.tree.End.TheVariants.{NextState, Stop, Join}
 use Rattle.sdl_ast.specs.declared.tree.Range.TheVariants.{Compared}
-use Rattle.sdl_ast.specs.Plain.{task, output, set_timer, reset_timer, process, input, save, in_state, in_connection, process_from, from_to}
-use Rattle.sdl_tokens.specs.Tokens.{a_word, a_symbol, a_number, a_name, a_one, a_closing, a_quoted, a_destination, an_entity, a_declaration, a_clause, a_relation, a_section}
+use Rattle.sdl_ast.specs.Plain.{task, output, set_timer, reset_timer, process, input, save, in_state, in_connection, process_head, process_from, from_to}
+use Rattle.sdl_tokens.specs.Tokens.{a_word, a_symbol, a_number, a_name, a_count, the_number, a_closing, a_quoted, a_destination, an_entity, a_declaration, a_clause, a_relation, a_section}
 use Rattle.sdl_bodies.specs.Bodies.{whole_texts}
 use Rattle.sdl_tree.specs.Syntax.{place_syntax, stimulus_syntax, assignment_syntax, assigned_syntax, quoted_syntax, item_syntax, task_syntax, sending_syntax, destination_syntax, output_syntax, delay_syntax, set_syntax, reset_syntax, action_syntax, next_state_syntax, stop_syntax, end_syntax, text_syntax, input_syntax, save_syntax, clause_syntax, closing_syntax, end_state_syntax, state_syntax, start_syntax, second_number_syntax, instances_syntax, process_head_syntax, process_syntax, entity_syntax, block_syntax, compared_syntax, upper_syntax, value_syntax, range_syntax, answer_head_syntax, else_head_syntax, some_head_syntax, no_head_syntax, head_syntax, question_syntax, end_decision_syntax, join_syntax, end_connection_syntax, connection_syntax, state_section_syntax, connection_section_syntax, section_syntax}
 use Rattle.sdl_readers.specs.Productions.{place_at, stimulus_at, assignment_at, assigned_at, quoted_at, item_at, task_at, sending_at, destination_at, output_at, delay_at, set_at, reset_at, action_at, next_state_at, stop_at, end_at, text_at, input_at, save_at, clause_at, closing_at, end_state_at, state_at, start_at, second_number_at, instances_at, process_head_at, process_at, entity_at, block_at, compared_at, upper_at, value_at, range_at, answer_head_at, else_head_at, some_head_at, no_head_at, head_at, question_at, end_decision_at, join_at, end_connection_at, connection_at, state_section_at, connection_section_at, section_at}
@@ -302,18 +302,18 @@ start_decides = do
   text ← text_decides
   give_decides (record { at = at; text = text })
 
-second_number_decides : Decides second_number_syntax second_number_at
+second_number_decides : (first : ℕ) → Decides (second_number_syntax first) (second_number_at first)
 unfolding second_number_syntax second_number_at
-second_number_decides = do
+second_number_decides first = do
   _ ← token_decides (a_symbol Comma)
-  optional_decides a_number (token_decides a_one)
+  optional_decides a_number (token_decides (the_number first))
 
 instances_decides : Decides instances_syntax instances_at
 unfolding instances_syntax instances_at
 instances_decides = do
   _ ← token_decides (a_symbol Open)
-  first ← token_decides a_one
-  _ ← optional_decides (a_symbol Comma) second_number_decides
+  first ← token_decides a_count
+  _ ← optional_decides (a_symbol Comma) (second_number_decides first)
   _ ← token_decides (a_symbol Close)
   give_decides first
 
@@ -322,20 +322,20 @@ unfolding process_head_syntax process_head_at
 process_head_decides = do
   _ ← token_decides (a_word words.Process)
   name ← token_decides a_name
-  _ ← optional_decides (a_symbol Open) instances_decides
+  instances ← optional_decides (a_symbol Open) instances_decides
   _ ← terminator_decides
-  give_decides name
+  give_decides (process_head name instances)
 
 process_decides : Decides process_syntax process_at
 unfolding process_syntax process_at
 process_decides = do
-  name ← process_head_decides
+  head ← process_head_decides
   declarations ← many_decides a_declaration declaration_takes declaration_decides
   start ← start_decides
   sections ← many_decides a_section section_takes section_decides
   _ ← token_decides (a_word words.EndProcess)
-  _ ← closing_decides name.name
-  give_decides (process (process_from name declarations start sections))
+  _ ← closing_decides head.name.name
+  give_decides (process (process_from head declarations start sections))
 
 entity_decides : Decides entity_syntax entity_at
 unfolding entity_syntax entity_at

@@ -11,8 +11,8 @@ use Rattle.sdl_ast.specs.declared.tree.End.{End}
 use Rattle.sdl_ast.specs.declared.tree.End.TheVariants.{NextState, Stop, Join}
 use Rattle.sdl_ast.specs.declared.tree.Range.{Range}
 use Rattle.sdl_ast.specs.declared.tree.Range.TheVariants.{Compared}
-use Rattle.sdl_ast.specs.Plain.{PlainAssignment, PlainSending, PlainAction, task, output, set_timer, reset_timer, Text, falls, ends, does, decides, Choice, nothing_else, otherwise, answer, PlainQuestion, PlainHead, Tree, PlainStimulus, PlainClause, input, save, PlainState, PlainStart, PlainEntity, process, PlainBlock, PlainConnection, PlainSection, in_state, in_connection, process_from, from_to}
-use Rattle.sdl_tokens.specs.Tokens.{begins, a_word, a_symbol, a_number, a_name, a_one, a_closing, a_quoted, a_destination, an_entity, a_declaration, a_clause, an_action, an_end, a_choice, a_relation, a_section}
+use Rattle.sdl_ast.specs.Plain.{PlainAssignment, PlainSending, PlainAction, task, output, set_timer, reset_timer, Text, falls, ends, does, decides, Choice, nothing_else, otherwise, answer, PlainQuestion, PlainHead, Tree, PlainStimulus, PlainClause, input, save, PlainState, PlainStart, PlainEntity, process, PlainBlock, PlainConnection, PlainSection, in_state, in_connection, PlainProcessHead, process_head, process_from, from_to}
+use Rattle.sdl_tokens.specs.Tokens.{begins, a_word, a_symbol, a_number, a_name, a_count, the_number, a_closing, a_quoted, a_destination, an_entity, a_declaration, a_clause, an_action, an_end, a_choice, a_relation, a_section}
 use Rattle.sdl_tokens.specs.Grammar.{Grammar, give, token, ◌>>=◌, many, choice, optional, separated_from, separated, list_in_parentheses}
 use Rattle.sdl_expressions.specs.Expressions.{expression_syntax}
 use Rattle.sdl_tree.specs.DeclarationSyntax.{names_syntax, terminator_syntax, signals_syntax, route_syntax, connect_syntax, constant_syntax, declaration_syntax}
@@ -327,40 +327,40 @@ start_syntax = do
   text ← text_syntax
   give (record { at = at; text = text })
 
--- , [ 1 ]
-unfoldable pub second_number_syntax : Grammar (Option ℕ)
-second_number_syntax = do
+-- , [ number ]: the first number again
+unfoldable pub second_number_syntax : ℕ → Grammar (Option ℕ)
+second_number_syntax first = do
   _ ← token (a_symbol Comma)
-  optional a_number (token a_one)
+  optional a_number (token (the_number first))
 
--- ( 1 [ , [1] ] )
+-- ( number [ , [number] ] ): how many instances there are as it begins, and at most
 unfoldable pub instances_syntax : Grammar ℕ
 instances_syntax = do
   _ ← token (a_symbol Open)
-  first ← token a_one
-  _ ← optional (a_symbol Comma) second_number_syntax
+  first ← token a_count
+  _ ← optional (a_symbol Comma) (second_number_syntax first)
   _ ← token (a_symbol Close)
   give first
 
--- what stands between PROCESS and its body: name [ ( 1 [, [1]] ) ] ;
-unfoldable pub process_head_syntax : Grammar Identifier
+-- what stands between PROCESS and its body: name [ ( number [, [number]] ) ] ;
+unfoldable pub process_head_syntax : Grammar PlainProcessHead
 process_head_syntax = do
   _ ← token (a_word words.Process)
   name ← token a_name
-  _ ← optional (a_symbol Open) instances_syntax
+  instances ← optional (a_symbol Open) instances_syntax
   _ ← terminator_syntax
-  give name
+  give (process_head name instances)
 
--- PROCESS name [ ( 1 [, [1]] ) ] ; { DCL .. | TIMER .. } START .. { STATE .. | CONNECTION .. } ENDPROCESS [name] ;
+-- PROCESS name [ ( number [, [number]] ) ] ; { DCL .. | TIMER .. } START .. { STATE .. | CONNECTION .. } ENDPROCESS [name] ;
 unfoldable pub process_syntax : Grammar PlainEntity
 process_syntax = do
-  name ← process_head_syntax
+  head ← process_head_syntax
   declarations ← many a_declaration declaration_syntax
   start ← start_syntax
   sections ← many a_section section_syntax
   _ ← token (a_word words.EndProcess)
-  _ ← closing_syntax name.name
-  give (process (process_from name declarations start sections))
+  _ ← closing_syntax head.name.name
+  give (process (process_from head declarations start sections))
 
 -- a SIGNAL, a SIGNALROUTE, a CONNECT or a PROCESS
 unfoldable pub entity_syntax : Grammar PlainEntity

@@ -12,7 +12,7 @@ use Rattle.sdl_ast.specs.declared.tree.Process as the_process
 use Rattle.sdl_ast.specs.Plain.{PlainProcess, PlainBlock}
 use Rattle.sdl_ast.specs.Views.{process_of}
 use Rattle.sdl_tables.specs.Names.{processes_of, variables_of, variable_names, routes_of}
-use Rattle.sdl_sound.specs.Limits.{exceeds, transition_limits, first_limit}
+use Rattle.sdl_sound.specs.Limits.{exceeds, later_limits, first_limit}
 use Rattle.sdl_sound.specs.Names.{process_unknown, unknown_names, route_unknown}
 use Rattle.sdl_sound.specs.Actions.{in_statements}
 use Rattle.sdl_sound.specs.Decisions.{statement_unanswered, unanswered}
@@ -64,9 +64,9 @@ none_many (q ∷ ps) (suc k) p none e = none_many ps k p (or_false _ _ none).1 e
 -- no process has more than 32 variables
 pub few_variables : (b : PlainBlock) → first_limit b ≡ None → All (λ p. length (variables_of p) ≤ 32) (processes_of b)
 few_variables b none k d within =
-    let after_one = States ∷ Variables ∷ Timers ∷ Signals ∷ Params ∷ Pieces ∷ transition_limits in
-    let after_two = Variables ∷ Timers ∷ Signals ∷ Params ∷ Pieces ∷ transition_limits in
-    let after_three = Timers ∷ Signals ∷ Params ∷ Pieces ∷ transition_limits in
+    let after_one = States ∷ Variables ∷ Timers ∷ Signals ∷ Params ∷ Pieces ∷ later_limits in
+    let after_two = Variables ∷ Timers ∷ Signals ∷ Params ∷ Pieces ∷ later_limits in
+    let after_three = Timers ∷ Signals ∷ Params ∷ Pieces ∷ later_limits in
     let one : find (exceeds b) after_one ≡ None = (none_before (exceeds b Processes) Processes (find (exceeds b) after_one) none).1 in
     let two : find (exceeds b) after_two ≡ None = (none_before (exceeds b States) States (find (exceeds b) after_two) one).1 in
     let three : exceeds b Variables ≡ false = (none_before (exceeds b Variables) Variables (find (exceeds b) after_three) two).0 in

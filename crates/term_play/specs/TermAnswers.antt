@@ -25,7 +25,7 @@ use Rattle.term_lines.specs.declared.orders.Order.{Order}
 use Rattle.term_lines.specs.declared.orders.Order.TheVariants as word
 use Rattle.term_lines.specs.TermCommands.{PlainTermCommand, order, unit, line, msu, out, ticks, state, shown, expected}
 use Rattle.book_play.specs.Refused.{refused_text}
-use Rattle.book_play.specs.Answers.{answer_text, process_named, state_line, value_line}
+use Rattle.book_play.specs.Answers.{answer_text, actor_named, state_line, value_line}
 use Rattle.term_play.specs.UnitLines.{IsLineOf}
 
 -- ---- calls that are one event of the book
@@ -50,7 +50,7 @@ after_reply _ e h = offered e (tidied h)
 
 -- no turn of a book gets stuck
 abbrev pub after_answer : Answer → Event → Heart → Heart
-after_answer Stuck e h = tidied h
+after_answer (Stuck x) e h = tidied h
 after_answer (Says r) e h = after_reply r e h
 
 -- the event is asked of the book, and what the book answers is printed as for a book script
@@ -133,8 +133,8 @@ Answers (line octets) t text u = (text ≡ codes "ok") × Listens t octets u
 Answers (msu octets) t text u = IsPut octets t text u
 Answers (out n) t text u = Unit {0}
 Answers (ticks n) t text u = IsAsked (Advance n) t text u
-Answers (state process) t text u = (text ≡ state_line t.heart.book (process_named t.heart.book process)) × (u ≡ t)
-Answers (shown process variable) t text u = (text ≡ value_line t.heart.book variable (process_named t.heart.book process)) × (u ≡ t)
+Answers (state process) t text u = (text ≡ state_line t.heart.book (actor_named t.heart.book process)) × (u ≡ t)
+Answers (shown process variable) t text u = (text ≡ value_line t.heart.book variable (actor_named t.heart.book process)) × (u ≡ t)
 Answers (expected text) t said u = Unit {0}
 
 pub record AnswersOne (c : PlainTermCommand) (t : Term) (lines : List (List ℕ)) (u : Term) : Type 0 where

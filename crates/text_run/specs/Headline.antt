@@ -9,9 +9,11 @@ use Rattle.turn_verify.specs.Meant.{IsSetOf, IsCertifiedBy, meaning_of}
 use Rattle.turn_verify.specs.declared.loading.LoadFault.{LoadFault}
 use Rattle.turn_verify.specs.declared.loading.LoadFault.TheVariants.{Lex, Parse, Rule, NoMemory}
 use Rattle.actor_book.specs.Limits.{LimitNumbers}
+use Rattle.link_machine.specs.Fits.{IsCalled}
 use Rattle.link_machine.specs.Step.{Answer, Says, report_of}
 use Rattle.link_machine.specs.Ledger.{Ledger, ask, answers_by, after_by, state_by, state_of, turn_out}
 use Rattle.link_machine.specs.Kept.{opened_book}
+use Rattle.link_machine.specs.actor_names_types.name.ActorName.{ActorName}
 use Rattle.link_machine.specs.declared.event.Event.{Event}
 use Rattle.link_machine.specs.declared.event.Event.TheVariants.{Offer, Begin, Skip, Finish, Advance, TakeEnv}
 use Rattle.link_machine.specs.declared.reply.Reply.{Reply}
@@ -24,23 +26,26 @@ abbrev pub opened_by : Draft → LimitNumbers → Ledger
 opened_by d l = opened_book d l.port l.env l.journal
 
 -- What events do to a link that was opened with a set, by a meaning of its turns: the replies, the book and its state are the machine's.
--- The machine has an answer Stuck too, for a turn whose meaning gives nothing; no reply is that. A full port is its `Refused Full` (B1) for
--- an offer, and `Full` among a report's lost outputs for an output; a full environment is `EnvFull` there.
+-- The machine has an answer Stuck too, for a turn whose meaning gives a trouble in place of an outcome: Unset, WrongSort, Underflow, NoState,
+-- NoReceiver, NoAnswer or Outside; no reply is that. A full port is its `Refused Full` (B1) for an offer, and `Full` among a report's lost
+-- outputs for an output; a full environment is `EnvFull` there.
 pub record RunsBy (act : Meaning) (d : Draft) (l : LimitNumbers) (es : List Event) (book : Ledger) (replies : List Reply) : Type 0 where
   pub answers : map Says replies ≡ answers_by act (opened_by d l) es
   pub after : book ≡ after_by act (opened_by d l) es
   pub state : state_of book ≡ state_by act book
 
--- The turn that an actor has out comes to an end. The text's transition gives that end, with its variables, effects and count, on the turn's
--- input: so it reads no variable that is unset, has no wrong operand nor lacks one, no answer, next state or receiver, and doesn't leave its
--- text, on each of which it would give none (Trouble). The answer says so; the count is within the certificate's budget; and that is the
--- longest path of the transition.
+-- The turn that an actor has out comes to an end. The text's transition of the actor's process gives that end, with its variables, effects and
+-- count, on the turn's input: so it reads no variable that is unset, has no wrong operand nor lacks one, no answer, next state or receiver, and
+-- doesn't leave its text, for each of which it would give a trouble. The answer says so; the count is within the certificate's budget; and that
+-- is the longest path of the transition.
 pub record EndsAsMeant (b : PlainBlock) (k : Ledger) (n : ℕ) (t : Turn) : Type 0 where
   pub outcome : Outcome
-  pub meant : meaning_of b n t.place t.input_number t.input ≡ Some outcome
-  pub answer : (ask k (Finish n)).answer ≡ Says (reply.Finished (report_of n outcome (state_of k)))
+  pub name : ActorName
+  pub called : IsCalled k.set n name
+  pub meant : meaning_of b name.process.0 t.place t.input_number t.input ≡ Ok outcome
+  pub answer : (ask k (Finish n)).answer ≡ Says (reply.Finished (report_of n name outcome (state_of k)))
   pub within : outcome.progress.count ≤ t.certificate.budget
-  pub longest : IsCertifiedBy b n t.place t.input_number t.certificate
+  pub longest : IsCertifiedBy b name.process.0 t.place t.input_number t.certificate
 
 -- so where an event is the end of a turn
 abbrev pub EndsAt : PlainBlock → Ledger → Event → Type 0

@@ -2,7 +2,7 @@
 use arrayvec::ArrayVec;
 use mtp2_text::{Verified, load};
 use std::alloc::Global;
-use turn_code::{Effect, End, Party, Place, ProcessNumber, StateNumber, Value};
+use turn_code::{Address, Effect, End, Party, Place, ProcessNumber, StateNumber, Value};
 use turn_machine::{Done, Job, Received, fits, run};
 
 /// A sender of two numbers: a sum that wraps, and a remainder that isn't below 0.
@@ -34,7 +34,7 @@ struct Given(
     Place,
     &'static [Option<Value>],
     Option<Value>,
-    Option<Party>,
+    Option<Address>,
 );
 
 /// What a turn gives: its end, its count of instructions, and the variables then.
@@ -61,7 +61,10 @@ const CHOICES: [(Given, Turn); 4] = [
     ),
 ];
 
-const OUTSIDE: Option<Party> = Some(Party::Environment);
+const OUTSIDE: Option<Address> = Some(Address {
+    party: Party::Environment,
+    instance: None,
+});
 
 /// FALSE and 7.
 const BEFORE: &[Option<Value>] = &[Some(Value::Bool(false)), Some(Value::Int(7))];
@@ -96,7 +99,7 @@ fn variables(values: &[Option<Value>]) -> ArrayVec<Option<Value>, 32> {
     all
 }
 
-fn received(parameter: Option<Value>, sender: Option<Party>) -> Received {
+fn received(parameter: Option<Value>, sender: Option<Address>) -> Received {
     let mut parameters = ArrayVec::new();
     if let Some(value) = parameter {
         parameters.push(value);

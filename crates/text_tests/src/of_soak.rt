@@ -108,7 +108,7 @@ fn soak_prints_what_it_finds(rt: HostRuntime) {
 /// a link that there isn't, the one behind the last among them, offers to a process and of a signal that there aren't, too many ticks, and a value
 /// too many.
 const BOTH: &str =
-    "links 2\noffer LSC PowerOn\non 9\noffer LSC PowerOn\ntick 1\non 2\ntick 1\non 16\ntick 1\non 1\noffer Nobody PowerOn\noffer LSC Nothing\ntick 65536\noffer LSC PowerOn\ntick 5\noffer TXC AckSeen true true\noffer TXC AckSeen true\n";
+    "links 2\noffer LSC PowerOn\non 9\noffer LSC PowerOn\ntick 1\non 2\ntick 1\non 16\ntick 1\non 1\noffer Nobody PowerOn\noffer LSC.2 PowerOn\noffer LSC. PowerOn\noffer LSC Nothing\ntick 65536\noffer lsc.01 PowerOn\ntick 5\noffer TXC AckSeen true true\noffer TXC AckSeen true\n";
 
 /// What a value stands for in a row: 9 for none.
 fn value_told(value: Option<&Value>) -> u64 {
@@ -240,8 +240,7 @@ impl TurnsOn {
     fn takes<R: Wait, L: Ledger>(&mut self, pool: &Pool<'_, R, L>, seat: &mut Seat<L>) -> bool {
         match pool.take_env(0, seat) {
             Ok((emitted, _)) => {
-                let is_line = emitted.sender == u16::from(self.sender.0)
-                    && emitted.signal == self.line;
+                let is_line = emitted.sender.process == self.sender && emitted.signal == self.line;
                 let three = [Value::Int(3)];
                 self.has_met = is_line && emitted.parameters.as_slice() == three.as_slice();
                 is_line

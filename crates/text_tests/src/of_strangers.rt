@@ -180,7 +180,7 @@ fn fill(book: &mut Book) -> u64 {
 /// Who sent what waits for the environment at a place; 99 where nothing does.
 fn sender_at(book: &Book, place: usize) -> u64 {
     match book.waiting_at(place) {
-        Some(emitted) => u64::from(emitted.sender),
+        Some(emitted) => u64::from(emitted.sender.process.0),
         None => 99,
     }
 }

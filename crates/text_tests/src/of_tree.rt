@@ -21,7 +21,7 @@ const TASK: Around = (
 );
 
 const TASK_SHOWN: Around = (
-    "Block { name: Identifier { name: \"B\", at: 6 }, entities: [Process(Process { name: Identifier { name: \"P\", at: 17 }, \
+    "Block { name: Identifier { name: \"B\", at: 6 }, entities: [Process(Process { name: Identifier { name: \"P\", at: 17 }, instances: 1, \
 declarations: [], start: Start { at: 20, transition: Transition { statements: [Act(Task(Task { at: 27, assignments: [Assignment \
 { variable: Identifier { name: \"x\", at: 32 }, value: ",
     " }] }))], end: None } }, states: [], connections: [] })] }",
@@ -34,7 +34,7 @@ const ANSWER: Around = (
 );
 
 const ANSWER_SHOWN: Around = (
-    "Block { name: Identifier { name: \"B\", at: 6 }, entities: [Process(Process { name: Identifier { name: \"P\", at: 17 }, \
+    "Block { name: Identifier { name: \"B\", at: 6 }, entities: [Process(Process { name: Identifier { name: \"P\", at: 17 }, instances: 1, \
 declarations: [], start: Start { at: 20, transition: Transition { statements: [Decide(Decision { at: 27, question: Number { at: \
 36, value: 1 }, answers: [Answer { at: 39, ranges: [",
     "], body: Transition { statements: [], end: None } }], otherwise: None })], end: None } }, states: [], connections: [] })] }",
@@ -47,7 +47,7 @@ const WHOLE: [Row; 3] = [
         "Block { name: Identifier { name: \"B\", at: 6 }, entities: [Signals([SignalDeclaration { name: Identifier { name: \"Up\", at: \
 16 }, parameters: [Integer] }]), Route(Route { name: Identifier { name: \"r\", at: 41 }, paths: [Path { from: Environment, to: \
 Process(Identifier { name: \"P\", at: 55 }), signals: [Identifier { name: \"Up\", at: 62 }] }] }), Process(Process { name: \
-Identifier { name: \"P\", at: 74 }, declarations: [Variables([Group { names: [Identifier { name: \"n\", at: 87 }, Identifier { \
+Identifier { name: \"P\", at: 74 }, instances: 1, declarations: [Variables([Group { names: [Identifier { name: \"n\", at: 87 }, Identifier { \
 name: \"total\", at: 90 }], sort: Integer, initial: None }])], start: Start { at: 105, transition: Transition { statements: \
 [Act(Task(Task { at: 112, assignments: [Assignment { variable: Identifier { name: \"total\", at: 117 }, value: Number { at: \
 126, value: 0 } }] }))], end: Some(NextState(NextState { at: 129, state: Identifier { name: \"Run\", at: 139 } })) } }, states: \
@@ -60,7 +60,7 @@ name: \"Run\", at: 203 } })) } })] }], connections: [] })] }",
     ),
     (
         "BLOCK b; PROCESS p; START; STATE s; CONNECTION c: STOP; STATE t, u; CONNECTION d: JOIN c; ENDPROCESS; ENDBLOCK;",
-        "Block { name: Identifier { name: \"b\", at: 6 }, entities: [Process(Process { name: Identifier { name: \"p\", at: 17 }, \
+        "Block { name: Identifier { name: \"b\", at: 6 }, entities: [Process(Process { name: Identifier { name: \"p\", at: 17 }, instances: 1, \
 declarations: [], start: Start { at: 20, transition: Transition { statements: [], end: None } }, states: [StatePart { names: \
 [Identifier { name: \"s\", at: 33 }], clauses: [] }, StatePart { names: [Identifier { name: \"t\", at: 62 }, Identifier { name: \
 \"u\", at: 65 }], clauses: [] }], connections: [Connection { at: 36, name: Identifier { name: \"c\", at: 47 }, transition: \
@@ -70,7 +70,7 @@ transition: Transition { statements: [], end: Some(Join(Join { at: 82, connector
     ),
     (
         "BLOCK B; PROCESS P; START; DECISION x; (1): STOP; (2, 3): JOIN c; ELSE: TASK y := 1; ENDDECISION; STOP; ENDPROCESS; ENDBLOCK;",
-        "Block { name: Identifier { name: \"B\", at: 6 }, entities: [Process(Process { name: Identifier { name: \"P\", at: 17 }, \
+        "Block { name: Identifier { name: \"B\", at: 6 }, entities: [Process(Process { name: Identifier { name: \"P\", at: 17 }, instances: 1, \
 declarations: [], start: Start { at: 20, transition: Transition { statements: [Decide(Decision { at: 27, question: Variable { \
 at: 36, name: Identifier { name: \"x\", at: 36 } }, answers: [Answer { at: 39, ranges: [Value(Constant { at: 40, value: \
 Integer(1) })], body: Transition { statements: [], end: Some(Stop(44)) } }, Answer { at: 50, ranges: [Value(Constant { at: 51, \

@@ -85,7 +85,7 @@ const PLANS: [Plan; 3] = [
 /// A number for what a gate is told of a turn: 1, and 1,000 for each link, 100 for each actor and 10 for each turn before its own.
 fn number_of(name: JobName) -> usize {
     let turn = name.turn.min(9) as usize;
-    let actor = usize::from(name.actor).min(9);
+    let actor = usize::from(name.actor.process.0).min(9);
     1 + 1_000 * name.link.min(9) + 100 * actor + 10 * turn
 }
 

@@ -38,10 +38,10 @@ same_number i j = elim (eqb_tells i j) [
   ]
 ]
 
-own_place : (q : TimerId) → q.number < MOST_TIMERS_EACH → q ≡ timer_at (q.process * MOST_TIMERS_EACH + q.number)
-own_place q h = (let a : q.process ≡ (q.process * MOST_TIMERS_EACH + q.number) / MOST_TIMERS_EACH = omega arith in
-    let b : q.number ≡ (q.process * MOST_TIMERS_EACH + q.number) % MOST_TIMERS_EACH = omega arith in
-    λ i. record { process = a i; number = b i })
+own_place : (q : TimerId) → q.number < MOST_TIMERS_EACH → q ≡ timer_at (q.actor * MOST_TIMERS_EACH + q.number)
+own_place q h = (let a : q.actor ≡ (q.actor * MOST_TIMERS_EACH + q.number) / MOST_TIMERS_EACH = omega arith in
+    let b : q.number ≡ (q.actor * MOST_TIMERS_EACH + q.number) % MOST_TIMERS_EACH = omega arith in
+    λ i. record { actor = a i; number = b i })
 
 -- a number that no timer of a place has
 strange : (q : TimerId) (i : ℕ) → MOST_TIMERS_EACH ≤ q.number → eq_by_cmp timer_cmp q (timer_at i) ≡ false
@@ -265,7 +265,7 @@ module _ (clock : ℕ) (table : List (Option ℕ)) (lists : List (List ℕ)) (w 
   pub visited-due : (ticks : ℕ) → in_order (due_of (clock + ticks) table (visited lists clock (min ticks SLOTS))) ≡ due (deadlines_of table) (clock + ticks)
   visited-due ticks = due-from_has table (clock + ticks) (due_of (clock + ticks) table (visited lists clock (min ticks SLOTS))) (λ d. elim (leb_tells MOST_TIMERS_EACH d.timer.number) [
     | inl out ↦ due_of-strange (clock + ticks) table (visited lists clock (min ticks SLOTS)) d out.1 ∙ ap (is_that d (clock + ticks)) (sym (get-deadlines_of table d.timer ∙ strange-found d.timer 0 table out.1))
-    | inr within ↦ (let p = d.timer.process * MOST_TIMERS_EACH + d.timer.number in
+    | inr within ↦ (let p = d.timer.actor * MOST_TIMERS_EACH + d.timer.number in
         let own : d.timer ≡ timer_at p = own_place d.timer within.1 in
         due_of-has (clock + ticks) table (visited lists clock (min ticks SLOTS)) p d own
         ∙ ap (λ b. b && is_that d (clock + ticks) (get_or table p None)) (visited-has clock table lists w (min ticks SLOTS) p)

@@ -14,10 +14,10 @@ use Rattle.tick_wheel.specs.declared.Due.{Due}
 use Rattle.plain_laws.proofs.Options.{is_Equal}
 
 pub timers_total : IsTotalOrder timer_cmp
-timers_total = then_total (on_total (λ (t : TimerId). t.process) nat_cmp_total) (on_total (λ (t : TimerId). t.number) nat_cmp_total)
+timers_total = then_total (on_total (λ (t : TimerId). t.actor) nat_cmp_total) (on_total (λ (t : TimerId). t.number) nat_cmp_total)
 
 pub exact_timers : IsAntisymmetric timer_cmp
-exact_timers a b h = ap (λ (p : ℕ × ℕ). record { process = p.0; number = p.1 }) (exact_pairs nat_cmp nat_cmp exact_unsigned exact_unsigned (a.process, a.number) (b.process, b.number) h)
+exact_timers a b h = ap (λ (p : ℕ × ℕ). record { actor = p.0; number = p.1 }) (exact_pairs nat_cmp nat_cmp exact_unsigned exact_unsigned (a.actor, a.number) (b.actor, b.number) h)
 
 pub dues_total : IsTotalOrder due_cmp
 dues_total = then_total (on_total (λ (d : Due). d.deadline) nat_cmp_total) (on_total (λ (d : Due). d.timer) timers_total)

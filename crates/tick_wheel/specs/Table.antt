@@ -1,8 +1,8 @@
--- A table with a place for each timer: eight places for process 0, then eight for process 1, and so on.
+-- A table with a place for each timer: eight places for actor 0, then eight for actor 1, and so on.
 use Rattle.std.specs.Prelude.{◌≡◌, ℕ, ◌+◌, ◌*◌, ◌/◌, ◌%◌, List, [], ◌∷◌, map, Option, Some, None, nat_le, if◌then◌else◌}
 use Rattle.std.specs.FinMap as finite
-use Rattle.profile_limits.specs.Limits.{MOST_TIMERS_EACH}
-use Rattle.tick_wheel.specs.TimerId.{TimerId, MOST_ACTORS}
+use Rattle.profile_limits.specs.Limits.{MOST_ACTORS, MOST_TIMERS_EACH}
+use Rattle.tick_wheel.specs.TimerId.{TimerId}
 use Rattle.tick_wheel.specs.Timers.{Deadlines}
 
 -- how many places the table has
@@ -11,7 +11,7 @@ PLACES = MOST_ACTORS * MOST_TIMERS_EACH
 
 -- the timer of a place
 abbrev pub timer_at : ℕ → TimerId
-timer_at place = record { process = place / MOST_TIMERS_EACH; number = place % MOST_TIMERS_EACH }
+timer_at place = record { actor = place / MOST_TIMERS_EACH; number = place % MOST_TIMERS_EACH }
 
 -- the timers with a deadline, of a table that begins at a place
 abbrev pub entries_from : ℕ → List (Option ℕ) → List (TimerId × ℕ)

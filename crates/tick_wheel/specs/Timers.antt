@@ -19,12 +19,12 @@ pub record Timers : Type 0 where
 
 -- as the pair of its parts, a timer as the pair of its numbers
 abbrev pub timer_id_code : Coded TimerId
-timer_id_code = code_by (ℕ × ℕ) (coded× coded_ℕ coded_ℕ) (λ t. (t.process, t.number)) (λ p. record { process = p.0; number = p.1 }) (λ _. refl)
+timer_id_code = code_by (ℕ × ℕ) (coded× coded_ℕ coded_ℕ) (λ t. (t.actor, t.number)) (λ p. record { actor = p.0; number = p.1 }) (λ _. refl)
 
 abbrev pub timers_code : Coded Timers
 timers_code = code_by (ℕ × Deadlines) (coded× coded_ℕ (finite.code timer_id_code coded_ℕ)) (λ t. (t.clock, t.deadlines)) (λ p. record { clock = p.0; deadlines = p.1 }) (λ _. refl)
 
--- by deadline, then by process, then by number
+-- by deadline, then by actor, then by number
 abbrev pub due_cmp : Due → Due → Ordering
 due_cmp a b = ordering_then (nat_cmp a.deadline b.deadline) (timer_cmp a.timer b.timer)
 
@@ -36,7 +36,7 @@ pairs deadlines = map (λ e. record { deadline = e.1; timer = e.0 }) (finite.ent
 unfoldable pub in_order : List Due → List Due
 in_order pairs = finite.keys (finite.from_entries {R = due_cmp} (map (λ d. (d, tt {0})) pairs))
 
--- what is due at a clock: the pairs with a deadline at most the clock, in order
+-- what is due at a clock: the pairs with a deadline at most the clock, in order; IsDue says the same without a map
 unfoldable pub due : Deadlines → ℕ → List Due
 due deadlines clock = in_order (filter (λ d. nat_le d.deadline clock) (pairs deadlines))
 

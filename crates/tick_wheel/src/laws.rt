@@ -3,7 +3,7 @@
 ghost use Rattle.tick_wheel.specs.Timers.{DueLaw};
 
 /// What is due at a clock, in any map, is each timer whose deadline is at most the clock, once, by deadline, then by
-/// process, then by number.
+/// actor, then by number.
 pub fn due_law()
     ensures { DueLaw }
 {}

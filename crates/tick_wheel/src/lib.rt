@@ -6,8 +6,7 @@ ghost use Rattle.std.specs.List.{IsDistinct};
 ghost use Rattle.std.specs.List.Sorted.{IsPermutation, IsSorted};
 ghost use Rattle.std.specs.Ordering.{eq_by_cmp};
 ghost use Rattle.std.specs.FinMap as map;
-ghost use Rattle.profile_limits.specs.Limits.{MOST_TIMERS_EACH, MOST_TICKS, LAST_TICK};
-ghost use Rattle.tick_wheel.specs.TimerId.{MOST_ACTORS};
+ghost use Rattle.profile_limits.specs.Limits.{MOST_ACTORS, MOST_TIMERS_EACH, MOST_TICKS, LAST_TICK};
 ghost use Rattle.tick_wheel.specs.Table.{timer_at, PLACES};
 ghost use Rattle.tick_wheel.specs.Slots.{without_all};
 ghost use Rattle.tick_wheel.specs.Turning.{near_count, MOST_LOOKED};
@@ -31,48 +30,48 @@ pub const FARTHEST: u64 = 65_535;
 /// The last tick that a clock can show.
 pub const LAST_CLOCK: u64 = 1 << 62;
 
-/// A timer: the number of its process, below 128, and its own number there, below 8.
+/// A timer: the number of its actor, below 128, and its own number there, below 8.
 ///
-/// Timers are in the order of the process, then of the number.
+/// Timers are in the order of the actor, then of the number.
 #[derive(Clone, Copy, Debug, PartialEq, Eq, PartialOrd, Ord)]
 pub struct Timer {
-    process: u8,
+    actor: u8,
     number: u8,
 }
 
 impl Model for Timer {
     ghost use Rattle.std.specs.Prelude.{◌<◌};
-    ghost use Rattle.tick_wheel.specs.TimerId.{TimerId, MOST_ACTORS};
-    ghost use Rattle.profile_limits.specs.Limits.{MOST_TIMERS_EACH};
+    ghost use Rattle.tick_wheel.specs.TimerId.{TimerId};
+    ghost use Rattle.profile_limits.specs.Limits.{MOST_ACTORS, MOST_TIMERS_EACH};
 
     ghost Value = { TimerId };
 
-    ghost view = { λ t. record { process = t.process; number = t.number } };
+    ghost view = { λ t. record { actor = t.actor; number = t.number } };
 
-    ghost invariant = { λ t. (t.process < MOST_ACTORS) × (t.number < MOST_TIMERS_EACH) };
+    ghost invariant = { λ t. (t.actor < MOST_ACTORS) × (t.number < MOST_TIMERS_EACH) };
 
-    ghost inverse = { λ v. record { process = v.process; number = v.number } };
+    ghost inverse = { λ v. record { actor = v.actor; number = v.number } };
 }
 
 impl Timer {
-    /// Timer `number`, below 8, of process `process`, below 128.
-    pub const fn new(process: u8, number: u8) -> Self
-        requires process { process < MOST_ACTORS }
+    /// Timer `number`, below 8, of actor `actor`, below 128.
+    pub const fn new(actor: u8, number: u8) -> Self
+        requires actor { actor < MOST_ACTORS }
         requires number { number < MOST_TIMERS_EACH }
-        ensures { result ≡ record { process = process; number = number } }
+        ensures { result ≡ record { actor = actor; number = number } }
     {
-        Timer { process, number }
+        Timer { actor, number }
     }
 
-    /// The number of the process.
-    pub const fn process(self) -> u8
-        ensures value { result ≡ self.process }
+    /// The number of the actor.
+    pub const fn actor(self) -> u8
+        ensures value { result ≡ self.actor }
         ensures in_range { result < MOST_ACTORS }
     {
-        self.process
+        self.actor
     }
 
-    /// The timer's own number in its process.
+    /// The timer's own number there.
     pub const fn number(self) -> u8
         ensures value { result ≡ self.number }
         ensures in_range { result < MOST_TIMERS_EACH }
@@ -80,7 +79,7 @@ impl Timer {
         self.number
     }
 
-    /// The timer of a place in a table with eight places for each process.
+    /// The timer of a place in a table with eight places for each actor.
     fn at(place: u16) -> Self
         requires { place < PLACES }
         ensures { result ≡ timer_at place }
@@ -88,21 +87,21 @@ impl Timer {
         Timer::new((place / 8) as u8, (place % 8) as u8)
     }
 
-    /// The timer's place in a table with eight places for each process.
+    /// The timer's place in a table with eight places for each actor.
     fn place(self) -> u16
         ensures timer { timer_at result ≡ self }
         ensures in_range { result < PLACES }
     {
-        u16::from(self.process) * 8 + u16::from(self.number)
+        u16::from(self.actor) * 8 + u16::from(self.number)
     }
 }
 
 impl Default for Timer {
     ghost use Rattle.std.specs.Prelude.{◌≡◌};
 
-    ghost is_default = { λ timer. timer ≡ record { process = 0; number = 0 } };
+    ghost is_default = { λ timer. timer ≡ record { actor = 0; number = 0 } };
 
-    /// Timer 0 of process 0.
+    /// Timer 0 of actor 0.
     fn default() -> Self {
         Timer::new(0, 0)
     }
@@ -110,7 +109,7 @@ impl Default for Timer {
 
 /// A timer that is due, with the deadline that it was set to.
 ///
-/// These are in the order of the deadline, then of the process, then of the timer's number.
+/// These are in the order of the deadline, then of the actor, then of the timer's number.
 #[derive(Clone, Copy, Debug, Default, PartialEq, Eq, PartialOrd, Ord)]
 pub struct Due {
     pub deadline: u64,
@@ -242,7 +241,7 @@ impl Wheel {
     }
 
     /// Whether a timer is active here, so has a deadline: it was set, and since then it was neither reset nor due. (By Z.100 it stays
-    /// active until its signal is taken: whether that waits, the port of its process tells.)
+    /// active until its signal is taken: whether that waits, the port of its actor tells.)
     pub fn is_active(&self, timer: Timer) -> bool
         ensures { result ≡ map.contains_key self.now.deadlines timer }
     {

@@ -7,7 +7,7 @@ use crate::run::number;
 use arrayvec::ArrayVec;
 use input_port::{Arrival, Item, Port, Saved};
 use std::alloc::{AllocError, Global};
-use turn_code::{Party, ProcessNumber, SignalNumber, TimerNumber, Value};
+use turn_code::{Address, Party, ProcessNumber, SignalNumber, TimerNumber, Value};
 
 /// How many signals there are.
 const SIGNALS: u64 = 4;
@@ -39,10 +39,14 @@ fn timer_of(noise: &mut Noise) -> TimerNumber {
 fn arrival_of(signal: u8, value: u8) -> Arrival {
     let mut parameters = ArrayVec::new();
     parameters.push(Value::Int(i32::from(value)));
-    let sender = if value % 2 == 0 {
+    let party = if value % 2 == 0 {
         Party::Environment
     } else {
         Party::Process(ProcessNumber(value))
+    };
+    let sender = Address {
+        party,
+        instance: None,
     };
     Arrival {
         signal: SignalNumber(signal),

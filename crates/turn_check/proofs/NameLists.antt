@@ -9,7 +9,7 @@ use Rattle.turn_code.specs.declared.draft.Draft.{Draft}
 use Rattle.turn_code.specs.declared.draft.DraftSignal.{DraftSignal}
 use Rattle.turn_code.specs.declared.draft.DraftProcess.{DraftProcess}
 use Rattle.turn_code.specs.declared.draft.DraftVariable.{DraftVariable}
-use Rattle.turn_check.specs.Named.{IsNamed, IsNowhere, process_names, signal_names, variable_names, variables_of, variables_at, timer_names, timers_of}
+use Rattle.turn_check.specs.Named.{IsNamed, IsNowhere, instances_of, instances_at, process_names, signal_names, variable_names, variables_of, variables_at, timer_names, timers_of}
 use Rattle.turn_check.proofs.Whole.{process_small, start_small}
 
 pub nowhere : (names : List (List ℕ)) (name : List ℕ) (n : ℕ) → length names ≤ n → ((k : ℕ) → k < n → IsNamed (slice_get names k) name → ⊥)
@@ -44,6 +44,13 @@ few_variables d p valid =
     let same = length-map (variables_at d p) (λ (x : DraftVariable). x.name) in
     let limit = few_variables_at d p valid in
     omega arith
+
+instances_few : (d : Draft) (p : ℕ) → IsValid d → (o : Option DraftProcess) → slice_get d.processes p ≡ o → instances_of o ≤ 8
+instances_few d p valid None e = omega arith
+instances_few d p valid (Some process) e = (process_small d p process valid e).instances
+
+pub few_instances : (d : Draft) (p : ℕ) → IsValid d → instances_at d p ≤ 8
+few_instances d p valid = instances_few d p valid (slice_get d.processes p) refl
 
 timers_few : (d : Draft) (p : ℕ) → IsValid d → (o : Option DraftProcess) → slice_get d.processes p ≡ o → length (timers_of o) ≤ 8
 timers_few d p valid None e = omega arith

@@ -32,6 +32,14 @@ variables_at d p = variables_of (slice_get d.processes p)
 abbrev pub inputs_at : Draft → ℕ → ℕ → List DraftInput
 inputs_at d p q = inputs_of (slice_get (states_at d p) q)
 
+abbrev pub instances_of : Option DraftProcess → ℕ
+instances_of None = 0
+instances_of (Some p) = p.instances
+
+-- how many instances of a process run, 0 where there is no such process
+abbrev pub instances_at : Draft → ℕ → ℕ
+instances_at d p = instances_of (slice_get d.processes p)
+
 abbrev pub timers_of : Option DraftProcess → List (List ℕ)
 timers_of None = []
 timers_of (Some p) = p.timers

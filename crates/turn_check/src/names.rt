@@ -1,7 +1,8 @@
 //! The names and numbers of a valid set.
 
-ghost use Rattle.std.specs.Prelude.{◌≡◌, length, option_copied, slice_get};
-ghost use Rattle.turn_check.specs.Named.{states_at, timer_names, saves_at, variables_at, inputs_at, process_names, signal_names, variable_names, state_names, trigger_at, trigger_name};
+ghost use Rattle.std.specs.Prelude.{◌≡◌, ◌≤◌, length, option_copied, slice_get};
+ghost use Rattle.turn_check.specs.Named.{instances_at, states_at, timer_names, saves_at, variables_at, inputs_at, process_names, signal_names, variable_names, state_names, trigger_at, trigger_name};
+ghost use Rattle.profile_limits.specs.Limits.{MOST_INSTANCES};
 
 use crate::verified::Verified;
 use turn_code::{
@@ -15,6 +16,30 @@ impl Verified {
         ensures { result ≡ length self.now.processes }
     {
         self.draft().processes.len()
+    }
+
+    /// How many instances of a process run, 1 to 8; 0 where there is no such process.
+    pub fn instances(&self, process: ProcessNumber) -> u32
+        ensures value { result ≡ instances_at self.now process.0 }
+        ensures most { result ≤ MOST_INSTANCES }
+    {
+        let _valid = self.draft();
+        self.drafted_instances(process)
+    }
+
+    /// The same, as the draft has it.
+    fn drafted_instances(&self, process: ProcessNumber) -> u32
+        ensures { result ≡ instances_at self.now process.0 }
+    {
+        match self
+            .draft()
+            .processes
+            .as_slice()
+            .get(usize::from(process.0))
+        {
+            Some(process) => process.instances,
+            None => 0,
+        }
     }
 
     /// The number of signals.

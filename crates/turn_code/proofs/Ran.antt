@@ -2,14 +2,14 @@
 use Rattle.std.proofs.Common.{◌≡◌, ℕ, zero, suc, ◌+◌, ◌≤◌, ℤ, pos, Bool as Truth, true, false, if◌then◌else◌, List, [], ◌∷◌, length, take, drop, reverse, Option, Some, None, refl, arith}
 use Rattle.std.specs.Prelude.{slice_get, int_lt, nat_le}
 use Rattle.turn_code.specs.Values.{holds, is_between}
-use Rattle.turn_code.specs.Run.{Progress, After, goes, ends, stuck, loaded, stored, given, on_top, on_integer, on_boolean, on_integers, on_booleans, on_operands, sent, party_of, act, act_if, step, tick, Ran, ended, go_on, exec, CountIs}
+use Rattle.turn_code.specs.Run.{Progress, After, goes, ends, stuck, loaded, stored, given, on_top, on_integer, on_boolean, on_integers, on_booleans, on_operands, sent, address_of, act, act_if, step, tick, Ran, ended, go_on, exec, CountIs}
 use Rattle.turn_code.specs.Transitions.{Transition}
 use Rattle.turn_code.specs.Safe.{EndsWell, IsSafeAfter, IsSafe}
 use Rattle.turn_code.specs.declared.value.Value.{Value}
 use Rattle.turn_code.specs.declared.value.Value.TheVariants.{Int, Bool}
 use Rattle.turn_code.specs.declared.numbers.SignalNumber.{SignalNumber}
 use Rattle.turn_code.specs.declared.input.Input.{Input}
-use Rattle.turn_code.specs.declared.input.Party.{Party}
+use Rattle.turn_code.specs.declared.input.Address.{Address}
 use Rattle.turn_code.specs.declared.instruction.Instruction.{Instruction}
 use Rattle.turn_code.specs.declared.instruction.Instruction.TheVariants.{Int as PutInt, Bool as PutBool, Load, Store, Param, Add, Sub, Mul, Div, Mod, Rem, Neg, Not, And, Or, Xor, Same, Compare, Case, CaseWithin, Pick, Drop, Jump, Output, Set, Reset, Next, Stop}
 use Rattle.turn_code.specs.declared.machine.End.{End}
@@ -28,7 +28,7 @@ given_count : (k : ℕ) (os : List Value) (s : Progress) (o : Option Value) → 
 given_count k os s None = tt
 given_count k os s (Some x) = refl
 
-sent_count : (n : SignalNumber) (o : Option Party) (vs : List Value) (k : ℕ) (os : List Value) (s : Progress) → CountIs s.count (sent n o vs k os s)
+sent_count : (n : SignalNumber) (o : Option Address) (vs : List Value) (k : ℕ) (os : List Value) (s : Progress) → CountIs s.count (sent n o vs k os s)
 sent_count n None vs k os s = tt
 sent_count n (Some p) vs k os s = refl
 
@@ -91,7 +91,7 @@ act_count (CaseWithin p l m) x k os s = integer_count s.count os _ (λ a rest. c
 act_count (Pick p q) x k os s = boolean_count s.count os _ (λ b rest. refl)
 act_count Drop x k os s = integer_count s.count os _ (λ a rest. refl)
 act_count (Jump p) x k os s = refl
-act_count (Output n r c) x k os s = operands_count s.count c os _ (λ vs rest. sent_count n (party_of r x.sender) vs k rest s)
+act_count (Output n r c) x k os s = operands_count s.count c os _ (λ vs rest. sent_count n (address_of r x.sender) vs k rest s)
 act_count (Set t) x k os s = integer_count s.count os _ (λ a rest. refl)
 act_count (Reset t) x k os s = refl
 act_count (Next q) x k os s = refl

@@ -6,7 +6,7 @@ use Rattle.turn_code.proofs.Lists.{only}
 use Rattle.turn_code.proofs.Stands.{IsFine, act_fine}
 use Rattle.turn_code.proofs.SafeRuns.{Stands, code_at, before, goes_on, stands_at_start}
 use Rattle.turn_code.specs.Values.{sort_of, holds, is_between}
-use Rattle.turn_code.specs.Run.{Progress, After, goes, ends, stuck, loaded, stored, given, on_top, on_integer, on_boolean, on_integers, on_booleans, sent, sending, party_of, act, act_if, tick, Ran, ended, got_stuck, unfinished, go_on, exec, run, begun}
+use Rattle.turn_code.specs.Run.{Progress, After, goes, ends, stuck, loaded, stored, given, on_top, on_integer, on_boolean, on_integers, on_booleans, sent, sending, of_party, address_of, act, act_if, tick, Ran, ended, got_stuck, unfinished, go_on, exec, run, begun}
 use Rattle.turn_code.specs.Code.{takes, timers_in, successors}
 use Rattle.turn_code.specs.Routes.{IsProcess, Brings, IsPartyOf, Reaches, Answers}
 use Rattle.turn_code.specs.Transitions.{Transition, parameters_of}
@@ -22,6 +22,7 @@ use Rattle.turn_code.specs.declared.effect.Effect.TheVariants as effect
 use Rattle.turn_code.specs.declared.numbers.SignalNumber.{SignalNumber}
 use Rattle.turn_code.specs.declared.input.Input.{Input}
 use Rattle.turn_code.specs.declared.input.Party.{Party}
+use Rattle.turn_code.specs.declared.input.Address.{Address}
 use Rattle.turn_code.specs.declared.instruction.Receiver.{Receiver}
 use Rattle.turn_code.specs.declared.instruction.Receiver.TheVariants.{Party as ToParty, Sender as ToSender}
 use Rattle.turn_code.specs.declared.instruction.Instruction.{Instruction}
@@ -41,7 +42,7 @@ EffectsAre P (stuck z) = Unit {0}
 
 -- what is asked of the effect that an instruction adds
 abbrev pub Adds : (List Effect → Type 0) → Instruction → Input → List Value → List Effect → Type 0
-Adds P (Output n r c) x os es = (p : Party) → party_of r x.sender ≡ Some p → P (es ++ sending n p (reverse (take c os)) ∷ [])
+Adds P (Output n r c) x os es = (p : Address) → address_of r x.sender ≡ Some p → P (es ++ sending n p (reverse (take c os)) ∷ [])
 Adds P (Set t) x os es = (z : ℤ) → P (es ++ effect.Set t z ∷ [])
 Adds P (Reset t) x os es = P (es ++ effect.Reset t ∷ [])
 Adds P _ x os es = Unit {0}
@@ -60,8 +61,8 @@ module _ (P : List Effect → Type 0) (s : Progress) (old : P s.effects) where
   given_keeps k os None = tt
   given_keeps k os (Some x) = old
 
-  sent_keeps : (n : SignalNumber) (o : Option Party) (vs : List Value) (k : ℕ) (os : List Value)
-      → ((p : Party) → o ≡ Some p → P (s.effects ++ sending n p vs ∷ [])) → EffectsAre P (sent n o vs k os s)
+  sent_keeps : (n : SignalNumber) (o : Option Address) (vs : List Value) (k : ℕ) (os : List Value)
+      → ((p : Address) → o ≡ Some p → P (s.effects ++ sending n p vs ∷ [])) → EffectsAre P (sent n o vs k os s)
   sent_keeps n None vs k os h = tt
   sent_keeps n (Some p) vs k os h = h p refl
 
@@ -122,7 +123,7 @@ act_keeps P (Pick p q) x k os s h a = boolean_keeps P os _ (λ b rest. h)
 act_keeps P Drop x k os s h a = integer_keeps P os _ (λ y rest. h)
 act_keeps P (Jump p) x k os s h a = h
 act_keeps P (Output n r c) x k os s h a =
-    either_keeps P (nat_le c (length os)) _ (stuck Underflow) (sent_keeps P s h n (party_of r x.sender) (reverse (take c os)) k (drop c os) a) tt
+    either_keeps P (nat_le c (length os)) _ (stuck Underflow) (sent_keeps P s h n (address_of r x.sender) (reverse (take c os)) k (drop c os) a) tt
 act_keeps P (Set t) x k os s h a = integer_keeps P os _ (λ z rest. a z)
 act_keeps P (Reset t) x k os s h a = a
 act_keeps P (Next q) x k os s h a = h
@@ -163,17 +164,17 @@ answered d p m n sender brings answers =
     let here : Answers d.processes d.routes p m n r = subst (Answers d.processes d.routes p m n) brings.3 (answers brings.0 r brings.2) in
     subst (IsReached d p n) brings.4.from (here (subst (IsProcess p) (sym brings.4.to) refl) brings.4.signal)
 
-receiver_reached : (d : Draft) (t : Transition) (x : Input) (n : SignalNumber) (r : Receiver) (p : Party) → IsBrought d t.number t.trigger x.sender
-    → ReachesReceiver d t.number n t.trigger r → party_of r x.sender ≡ Some p → IsReached d t.number n p
-receiver_reached d t x n (ToParty q) p brought reaches e = let same : q ≡ p = cc in subst (IsReached d t.number n) same reaches
+receiver_reached : (d : Draft) (t : Transition) (x : Input) (n : SignalNumber) (r : Receiver) (p : Address) → IsBrought d t.number t.trigger x.sender
+    → ReachesReceiver d t.number n t.trigger r → address_of r x.sender ≡ Some p → IsReached d t.number n p.party
+receiver_reached d t x n (ToParty q) p brought reaches e = let same : of_party q ≡ p = cc in subst (λ (a : Address). IsReached d t.number n a.party) same reaches
 receiver_reached d t x n ToSender p brought reaches e = by t.trigger x.sender brought reaches e
   where
-    by : (trigger : Option Trigger) (sender : Option Party) → IsBrought d t.number trigger sender → ReachesReceiver d t.number n trigger ToSender
-        → party_of ToSender sender ≡ Some p → IsReached d t.number n p
+    by : (trigger : Option Trigger) (sender : Option Address) → IsBrought d t.number trigger sender → ReachesReceiver d t.number n trigger ToSender
+        → address_of ToSender sender ≡ Some p → IsReached d t.number n p.party
     by None sender b h e = absurd h
     by (Some (Timer m)) sender b h e = absurd h
     by (Some (Signal m)) None b h e = absurd b
-    by (Some (Signal m)) (Some q) b h e = let same : q ≡ p = cc in subst (IsReached d t.number n) same (answered d t.number m n q b h)
+    by (Some (Signal m)) (Some q) b h e = let same : q ≡ p = cc in subst (λ (a : Address). IsReached d t.number n a.party) same (answered d t.number m n q.party b h)
 
 -- ---- the run
 right_more : (d : Draft) (t : Transition) (es : List Effect) (e : Effect) → AreRightEffects d t es → IsRightEffect d t e → AreRightEffects d t (es ++ e ∷ [])

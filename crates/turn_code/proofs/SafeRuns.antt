@@ -6,7 +6,7 @@ use Rattle.turn_code.proofs.Greatest.{all_contains, greatest_has, greatest_in}
 use Rattle.turn_code.proofs.Stands.{IsSent, Before, IsWay, Goes, IsIn, IsFine, act_fine}
 use Rattle.turn_code.specs.Values.{sort_of}
 use Rattle.turn_code.specs.Sets.{IsWithin}
-use Rattle.turn_code.specs.Run.{Progress, After, goes, ends, stuck, party_of, act, act_if, tick, begun}
+use Rattle.turn_code.specs.Run.{Progress, After, goes, ends, stuck, of_party, address_of, act, act_if, tick, begun}
 use Rattle.turn_code.specs.Code.{takes, set_after, states_in, jumps, behind, successors, effects_of, sends}
 use Rattle.turn_code.specs.Transitions.{Transition}
 use Rattle.turn_code.specs.Rules.{Agree, KeepsOutput, KeepsPieceLimits, KeepsSetLimits, ReachesReceiver, greatest, count_in, effects_in, counts_at, effects_at, depths}
@@ -21,7 +21,7 @@ use Rattle.turn_code.specs.declared.instruction.Instruction.{Instruction}
 use Rattle.turn_code.specs.declared.instruction.Instruction.TheVariants.{Output}
 use Rattle.turn_code.specs.declared.numbers.SignalNumber.{SignalNumber}
 use Rattle.turn_code.specs.declared.input.Input.{Input}
-use Rattle.turn_code.specs.declared.input.Party.{Party}
+use Rattle.turn_code.specs.declared.input.Address.{Address}
 use Rattle.turn_code.specs.declared.machine.End.{End}
 use Rattle.turn_code.specs.declared.machine.End.TheVariants.{State, Stop}
 use Rattle.turn_code.specs.declared.draft.Draft.{Draft}
@@ -43,12 +43,12 @@ pub record Stands (t : Transition) (k : ℕ) (os : List Value) (s : Progress) (n
 
 -- the output of a transition on an input that fits it has somebody who gets it
 receiver_there : (d : Draft) (t : Transition) (x : Input) (n : SignalNumber) (r : Receiver) → IsBrought d t.number t.trigger x.sender
-    → ReachesReceiver d t.number n t.trigger r → (p : Party) × (party_of r x.sender ≡ Some p)
-receiver_there d t x n (ToParty p) brought reaches = (p, refl)
+    → ReachesReceiver d t.number n t.trigger r → (p : Address) × (address_of r x.sender ≡ Some p)
+receiver_there d t x n (ToParty p) brought reaches = (of_party p, refl)
 receiver_there d t x n ToSender brought reaches = by t.trigger x.sender brought reaches
   where
-    by : (trigger : Option Trigger) (sender : Option Party) → IsBrought d t.number trigger sender → ReachesReceiver d t.number n trigger ToSender
-        → (p : Party) × (party_of ToSender sender ≡ Some p)
+    by : (trigger : Option Trigger) (sender : Option Address) → IsBrought d t.number trigger sender → ReachesReceiver d t.number n trigger ToSender
+        → (p : Address) × (address_of ToSender sender ≡ Some p)
     by None sender b h = absurd h
     by (Some (Timer m)) sender b h = absurd h
     by (Some (Signal m)) None b h = absurd b

@@ -11,7 +11,7 @@ use Rattle.std.proofs.lemmas.Bool.Decides.{eqb_tells}
 use Rattle.turn_code.proofs.Lists.{within, zip_length, zip_set, get_map, map_length, map_drop, one_more, only, first_of}
 use Rattle.turn_code.specs.Values.{sort_of, wrap, holds, is_between, differ}
 use Rattle.turn_code.specs.Sets.{Has, with_variable}
-use Rattle.turn_code.specs.Run.{Progress, After, goes, ends, stuck, with_effect, loaded, stored, given, on_top, on_integer, on_boolean, on_integers, on_booleans, on_operands, sent, sending, party_of, act}
+use Rattle.turn_code.specs.Run.{Progress, After, goes, ends, stuck, with_effect, loaded, stored, given, on_top, on_integer, on_boolean, on_integers, on_booleans, on_operands, sent, sending, address_of, act}
 use Rattle.turn_code.specs.Code.{sort_at, takes, gives, shape_left, shape_after, reads, sets, set_after, parameters_in, divisors_in, states_in, jumps, behind, effects_of}
 use Rattle.turn_code.specs.Transitions.{parameters_of}
 use Rattle.turn_code.specs.Rules.{Agree}
@@ -22,7 +22,7 @@ use Rattle.turn_code.specs.declared.value.Value.{Value}
 use Rattle.turn_code.specs.declared.value.Value.TheVariants.{Int, Bool}
 use Rattle.turn_code.specs.declared.effect.Effect.TheVariants as effect
 use Rattle.turn_code.specs.declared.input.Input.{Input}
-use Rattle.turn_code.specs.declared.input.Party.{Party}
+use Rattle.turn_code.specs.declared.input.Address.{Address}
 use Rattle.turn_code.specs.declared.instruction.Receiver.{Receiver}
 use Rattle.turn_code.specs.declared.instruction.Instruction.{Instruction}
 use Rattle.turn_code.specs.declared.instruction.Instruction.TheVariants.{Int as PutInt, Bool as PutBool, Load, Store, Param, Add, Sub, Mul, Div, Mod, Rem, Neg, Not, And, Or, Xor, Same, Compare, Case, CaseWithin, Pick, Drop, Jump, Output, Set, Reset, Next, Stop}
@@ -39,7 +39,7 @@ use Rattle.plain_laws.proofs.Pairwise.{zip_at}
 
 -- an output takes as many parameters as its signal has, and somebody gets it
 abbrev pub IsSent : List DraftSignal → Input → Instruction → Type 0
-IsSent ss x (Output n r c) = (c ≡ length (parameters_of (slice_get ss n.0))) × (p : Party) × (party_of r x.sender ≡ Some p)
+IsSent ss x (Output n r c) = (c ≡ length (parameters_of (slice_get ss n.0))) × (p : Address) × (address_of r x.sender ≡ Some p)
 IsSent ss x _ = Unit {0}
 
 -- what is known as the instruction i begins, where ss are the signals, xs the variables, ps the sorts of the parameters and m the variables that are set
@@ -277,7 +277,7 @@ module _ (ss : List DraftSignal) (xs : List DraftVariable) (ps : List Sort) (m :
   picks i p q os rest s false b two same none e = jumped i p os rest s b (rw two (first_of p (q ∷ []))) same none e
 
   sent_fine : (n : SignalNumber) (r : Receiver) (c : ℕ) (os : List Value) (s : Progress) → Before ss xs ps m (Output n r c) x os s.variables
-      → IsFine ss xs ps m (Output n r c) k os s (on_operands c os (λ vs rest. sent n (party_of r x.sender) vs (k + 1) rest s))
+      → IsFine ss xs ps m (Output n r c) k os s (on_operands c os (λ vs rest. sent n (address_of r x.sender) vs (k + 1) rest s))
   sent_fine n r c os s b =
       let count : c ≡ length (parameters_of (slice_get ss n.0)) = b.sent.0 in
       let party = b.sent.1 in

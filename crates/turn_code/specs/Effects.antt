@@ -17,8 +17,8 @@ use Rattle.turn_code.specs.declared.draft.Draft.{Draft}
 pub record IsRightSending (d : Draft) (t : Transition) (s : Sending) : Type 0 where
   pub signal : s.signal.0 < length d.signals
   pub parameters : map sort_of s.parameters.items ≡ parameters_of (slice_get d.signals s.signal.0)
-  pub receiver : IsPartyOf d.processes s.receiver
-  pub reaches : Reaches d.routes t.number s.receiver s.signal
+  pub receiver : IsPartyOf d.processes s.receiver.party
+  pub reaches : Reaches d.routes t.number s.receiver.party s.signal
 
 -- a timer that is set or reset is one of the process
 abbrev pub IsRightEffect : Draft → Transition → Effect → Type 0

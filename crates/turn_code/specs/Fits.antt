@@ -9,7 +9,7 @@ use Rattle.turn_code.specs.declared.value.Value.{Value}
 use Rattle.turn_code.specs.declared.variable_set.VariableSet.{VariableSet}
 use Rattle.turn_code.specs.declared.input.Input.{Input}
 use Rattle.turn_code.specs.declared.input.Place.{Place}
-use Rattle.turn_code.specs.declared.input.Party.{Party}
+use Rattle.turn_code.specs.declared.input.Address.{Address}
 use Rattle.turn_code.specs.declared.draft.Draft.{Draft}
 use Rattle.turn_code.specs.declared.draft.DraftVariable.{DraftVariable}
 use Rattle.turn_code.specs.declared.draft.Trigger.{Trigger}
@@ -28,11 +28,11 @@ abbrev pub AreSet : VariableSet → List (Option Value) → Type 0
 AreSet s vs = (v : ℕ) → Has s v → (x : Value) × (slice_get vs v ≡ Some (Some x))
 
 -- a signal comes from its sender by a route; nothing is asked of START and of a timer
-abbrev pub IsBrought : Draft → ℕ → Option Trigger → Option Party → Type 0
+abbrev pub IsBrought : Draft → ℕ → Option Trigger → Option Address → Type 0
 IsBrought d p None sender = Unit {0}
 IsBrought d p (Some (Timer n)) sender = Unit {0}
 IsBrought d p (Some (Signal n)) None = ⊥
-IsBrought d p (Some (Signal n)) (Some sender) = Any (Brings sender p n) d.routes
+IsBrought d p (Some (Signal n)) (Some sender) = Any (Brings sender.party p n) d.routes
 
 -- the input fits the transition
 pub record FitsTransition (d : Draft) (t : Transition) (x : Input) : Type 0 where

@@ -1,5 +1,5 @@
 -- How a transition ends, and the meaning of a set as a function.
-use Rattle.std.specs.Prelude.{◌≡◌, ℕ, Option, Some, None}
+use Rattle.std.specs.Prelude.{◌≡◌, ℕ, Option, Some, None, Result, Ok, Err}
 use Rattle.turn_code.specs.Run.{Progress, Ran, run, ended, got_stuck, unfinished}
 use Rattle.turn_code.specs.Transitions.{Transition, transition_at}
 use Rattle.turn_code.specs.Fits.{FitsTransition}
@@ -7,8 +7,10 @@ use Rattle.turn_code.specs.declared.input.Input.{Input}
 use Rattle.turn_code.specs.declared.input.Place.{Place}
 use Rattle.turn_code.specs.declared.machine.End.{End}
 use Rattle.turn_code.specs.declared.draft.Draft.{Draft}
+use Rattle.turn_code.specs.declared.trouble.Trouble.{Trouble}
+use Rattle.turn_code.specs.declared.trouble.Trouble.TheVariants.{Outside}
 
--- the end of a transition and what it leaves
+-- how a transition ends and what it leaves
 pub record Outcome : Type 0 where
   pub end : End
   pub progress : Progress
@@ -18,11 +20,17 @@ outcome_in (ended e s) = Some (record { end = e; progress = s })
 outcome_in (got_stuck x) = None
 outcome_in unfinished = None
 
--- what input i at place s of process p gives on an input; none where there is no such transition, or nothing that it gives
+-- an outcome, or why it can't go on; one that isn't over within the instructions that a turn may run has left its code
+abbrev pub result_in : Ran → Result Outcome Trouble
+result_in (ended e s) = Ok (record { end = e; progress = s })
+result_in (got_stuck x) = Err x
+result_in unfinished = Err Outside
+
+-- what input i at place s of process p gives on an input: an outcome, or the kind of trouble in which it gets stuck
 abbrev pub Meaning : Type 0
-Meaning = (p : ℕ) (s : Place) (i : ℕ) (x : Input) → Option Outcome
+Meaning = (p : ℕ) (s : Place) (i : ℕ) (x : Input) → Result Outcome Trouble
 
 -- the code of each transition gives what is meant, on each input that fits it
 abbrev pub Means : Meaning → Draft → Type 0
 Means act d = (p : ℕ) (s : Place) (i : ℕ) (t : Transition) (x : Input) → transition_at d p s i ≡ Some t → FitsTransition d t x
-    → act p s i x ≡ outcome_in (run t.piece.code x)
+    → act p s i x ≡ result_in (run t.piece.code x)

@@ -12,6 +12,7 @@ use Rattle.turn_code.specs.declared.instruction.Instruction.{Instruction}
 use Rattle.turn_code.specs.declared.instruction.Instruction.TheVariants.{Int as PutInt, Bool as PutBool, Load, Store, Param, Add, Sub, Mul, Div, Mod, Rem, Neg, Not, And, Or, Xor, Same, Compare, Case, CaseWithin, Pick, Drop, Jump, Output, Set, Reset, Next, Stop}
 use Rattle.turn_code.specs.declared.input.Input.{Input}
 use Rattle.turn_code.specs.declared.input.Party.{Party}
+use Rattle.turn_code.specs.declared.input.Address.{Address}
 use Rattle.turn_code.specs.declared.effect.Effect.{Effect}
 use Rattle.turn_code.specs.declared.effect.Effect.TheVariants as effect
 use Rattle.turn_code.specs.declared.machine.End.{End}
@@ -108,15 +109,19 @@ joined f k os s = on_booleans os (λ x y rest. goes k (Bool (f x y) ∷ rest) s)
 abbrev pub tested : (ℤ → Truth) → ℕ → ℕ → List Value → Progress → After
 tested f j k os s = on_integer os (λ x rest. if f x then goes j rest s else goes k (Int x ∷ rest) s)
 
--- who gets a signal; nobody where it is for a sender and there is none
-abbrev pub party_of : Receiver → Option Party → Option Party
-party_of (ToParty p) sender = Some p
-party_of ToSender sender = sender
+-- a party, where no instance is named
+abbrev pub of_party : Party → Address
+of_party p = record { party = p; instance = None }
 
-abbrev pub sending : SignalNumber → Party → List Value → Effect
+-- who gets a signal: a party, or the one who sent; nobody where it is for a sender and there is none
+abbrev pub address_of : Receiver → Option Address → Option Address
+address_of (ToParty p) sender = Some (of_party p)
+address_of ToSender sender = sender
+
+abbrev pub sending : SignalNumber → Address → List Value → Effect
 sending n p vs = effect.Output (record { signal = n; receiver = p; parameters = record { items = vs } })
 
-abbrev pub sent : SignalNumber → Option Party → List Value → ℕ → List Value → Progress → After
+abbrev pub sent : SignalNumber → Option Address → List Value → ℕ → List Value → Progress → After
 sent n None vs k os s = stuck NoReceiver
 sent n (Some p) vs k os s = goes k os (with_effect s (sending n p vs))
 
@@ -145,7 +150,7 @@ act (CaseWithin p a b) x k os s = tested (is_between a b) p.0 k os s
 act (Pick p q) x k os s = on_boolean os (λ b rest. goes (if b then q.0 else p.0) rest s)
 act Drop x k os s = on_integer os (λ y rest. goes k rest s)
 act (Jump p) x k os s = goes p.0 os s
-act (Output n r c) x k os s = on_operands c os (λ vs rest. sent n (party_of r x.sender) vs k rest s)
+act (Output n r c) x k os s = on_operands c os (λ vs rest. sent n (address_of r x.sender) vs k rest s)
 act (Set t) x k os s = on_integer os (λ y rest. goes k rest (with_effect s (effect.Set t y)))
 act (Reset t) x k os s = goes k os (with_effect s (effect.Reset t))
 act (Next q) x k os s = ends (end.State q) s

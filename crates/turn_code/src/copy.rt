@@ -90,6 +90,7 @@ impl DraftProcess {
     {
         Ok(DraftProcess {
             name: self.name.copy(),
+            instances: self.instances,
             variables: copied_variables(&self.variables)?,
             timers: copied_names(&self.timers)?,
             start: self.start.copy()?,

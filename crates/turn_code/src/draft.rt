@@ -44,6 +44,8 @@ pub struct DraftRoute {
 pub struct DraftProcess {
     /// Its name.
     pub name: Name,
+    /// How many instances of it run, 1 to 8.
+    pub instances: u32,
     /// Its variables in text order.
     pub variables: Sequence<DraftVariable>,
     /// The names of its timers in text order.

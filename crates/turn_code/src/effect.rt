@@ -2,7 +2,7 @@
 
 ghost use Rattle.std.specs.Prelude.{◌≡◌};
 
-use crate::input::{Party, copied_values};
+use crate::input::{Address, copied_values};
 use crate::numbers::{SignalNumber, TimerNumber};
 use crate::value::Value;
 use arrayvec::ArrayVec;
@@ -23,8 +23,8 @@ pub enum Effect {
 pub struct Sending {
     /// The signal.
     pub signal: SignalNumber,
-    /// Who gets it.
-    pub receiver: Party,
+    /// Who gets it; a process without an instance where the transition names none.
+    pub receiver: Address,
     /// Its parameters.
     pub parameters: ArrayVec<Value, 4>,
 }

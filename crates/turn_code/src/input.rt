@@ -2,7 +2,7 @@
 
 ghost use Rattle.std.specs.Prelude.{◌≡◌, ⊤};
 
-use crate::numbers::{ProcessNumber, StateNumber};
+use crate::numbers::{InstanceNumber, ProcessNumber, StateNumber};
 use crate::value::Value;
 use arrayvec::ArrayVec;
 use std::alloc::AllocError;
@@ -25,6 +25,15 @@ pub enum Party {
     Process(ProcessNumber),
 }
 
+/// Who sent a signal, or is to get one.
+#[derive(Clone, Copy, PartialEq, Eq, Debug)]
+pub struct Address {
+    /// ENV, or the process.
+    pub party: Party,
+    /// Which instance of the process; none for ENV, and where no instance is named.
+    pub instance: Option<InstanceNumber>,
+}
+
 /// What a transition runs on.
 #[derive(Drop)]
 pub struct Input {
@@ -33,7 +42,7 @@ pub struct Input {
     /// The parameters of the signal.
     pub parameters: ArrayVec<Value, 4>,
     /// Who sent the signal; not looked at for START and for a timer.
-    pub sender: Option<Party>,
+    pub sender: Option<Address>,
 }
 
 impl Input {

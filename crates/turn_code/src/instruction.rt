@@ -1,6 +1,6 @@
 //! The instructions.
 
-use crate::input::Party;
+use crate::input::{Address, Party};
 use crate::numbers::{CodePlace, SignalNumber, StateNumber, TimerNumber, VariableNumber};
 
 /// How two Integers are compared.
@@ -88,14 +88,17 @@ pub enum Instruction {
 
 impl Receiver {
     ghost use Rattle.std.specs.Prelude.{◌≡◌};
-    ghost use Rattle.turn_code.specs.Run.{party_of};
+    ghost use Rattle.turn_code.specs.Run.{address_of};
 
-    /// The party, where the sender is this one, or nobody.
-    pub(crate) fn party(self, sender: Option<Party>) -> Option<Party>
-        ensures { result ≡ party_of self sender }
+    /// The party, without an instance, or the sender, where it is this one or nobody.
+    pub(crate) fn address(self, sender: Option<Address>) -> Option<Address>
+        ensures { result ≡ address_of self sender }
     {
         match self {
-            Receiver::Party(party) => Some(party),
+            Receiver::Party(party) => Some(Address {
+                party,
+                instance: None,
+            }),
             Receiver::Sender => sender,
         }
     }

@@ -24,12 +24,13 @@ pub use draft::{
     DraftVariable, PlaceFacts, Trigger,
 };
 pub use effect::{Effect, Sending};
-pub use input::{Input, Party, Place, copied_values, copied_variables};
+pub use input::{Address, Input, Party, Place, copied_values, copied_variables};
 pub use instruction::{Instruction, Receiver, Relation};
 pub use machine::{After, End, Machine, step_plain};
 pub use name::Name;
 pub use numbers::{
-    CodePlace, ProcessNumber, SignalNumber, StateNumber, TimerNumber, VariableNumber,
+    CodePlace, InstanceNumber, ProcessNumber, SignalNumber, StateNumber, TimerNumber,
+    VariableNumber,
 };
 pub use operands::Operands;
 pub use rule::Rule;

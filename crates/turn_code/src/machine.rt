@@ -2,7 +2,7 @@
 
 ghost use Rattle.std.specs.Prelude.{◌≡◌, ◌+◌, ◌<◌, ◌≤◌, ◌∷◌, length, slice_get, neg_ℤ, not, if◌then◌else◌};
 ghost use Rattle.turn_code.specs.Values.{wrap, holds, is_between};
-ghost use Rattle.turn_code.specs.Run.{CountIs, step, act, goes, ends, loaded, stored, given, on_two, on_top, on_integer, on_integers, on_boolean, on_operands, divided, joined, tested, sent, party_of, tick, with_effect};
+ghost use Rattle.turn_code.specs.Run.{CountIs, step, act, goes, ends, loaded, stored, given, on_two, on_top, on_integer, on_integers, on_boolean, on_operands, divided, joined, tested, sent, address_of, tick, with_effect};
 ghost use Rattle.turn_code.specs.Machine.{progress_of, after_of, StaysIfStuck, HasRoom, HasRoomFor};
 ghost use Rattle.turn_code.specs.Operation.{meaning_of, truth_of};
 ghost use Rattle.turn_division.specs.Division.{division_of};
@@ -345,13 +345,13 @@ impl Machine {
         requires room { length self.old.effects.items < MOST_EFFECTS }
         requires few { count ≤ MOST_PARAMETERS }
         requires count { self.old.count < MOST_INSTRUCTIONS }
-        ensures exact { after_of result self.new ≡ on_operands count self.old.operands (λ vs rest. sent signal (party_of to input.now.sender) vs next rest (tick (progress_of self.old))) }
+        ensures exact { after_of result self.new ≡ on_operands count self.old.operands (λ vs rest. sent signal (address_of to input.now.sender) vs next rest (tick (progress_of self.old))) }
         ensures stays { StaysIfStuck result self.old self.new }
     {
         if self.operands.len() < usize::from(count) {
             return After::Stuck(Trouble::Underflow);
         }
-        let Some(receiver) = to.party(input.sender) else {
+        let Some(receiver) = to.address(input.sender) else {
             return After::Stuck(Trouble::NoReceiver);
         };
         let parameters = self.operands.pop_parameters(usize::from(count));

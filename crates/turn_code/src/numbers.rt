@@ -4,6 +4,10 @@
 #[derive(Clone, Copy, PartialEq, Eq, Debug, Default)]
 pub struct ProcessNumber(pub u8);
 
+/// An instance of a process, from 1.
+#[derive(Clone, Copy, PartialEq, Eq, Debug)]
+pub struct InstanceNumber(pub u8);
+
 /// A signal of a set, from 0 in text order.
 #[derive(Clone, Copy, PartialEq, Eq, Debug, Default)]
 pub struct SignalNumber(pub u8);

@@ -2,7 +2,7 @@
 use Rattle.std.proofs.Common.{◌≡◌, ℕ, zero, suc, ◌+◌, ◌<◌, ◌≤◌, Bool as Truth, true, false, if◌then◌else◌, IsTrue, List, [], ◌∷◌, ◌++◌, length, take, drop, reverse, Option, Some, None, refl, sym, ap, ◌∙◌, subst, arith}
 use Rattle.std.proofs.lemmas.List.{length-append}
 use Rattle.std.specs.Prelude.{slice_get, nat_le}
-use Rattle.turn_code.specs.Run.{Progress, After, goes, ends, stuck, step, act, act_if, loaded, given, sent, sending, party_of, with_effect, tick, Ran, ended, go_on, exec}
+use Rattle.turn_code.specs.Run.{Progress, After, goes, ends, stuck, step, act, act_if, loaded, given, sent, sending, address_of, with_effect, tick, Ran, ended, go_on, exec}
 use Rattle.turn_code.specs.Code.{effects_of}
 use Rattle.turn_code.specs.Machine.{grows, HasRoom}
 use Rattle.turn_code.specs.Transitions.{Transition}
@@ -14,7 +14,7 @@ use Rattle.turn_code.specs.declared.numbers.SignalNumber.{SignalNumber}
 use Rattle.turn_code.specs.declared.effect.Effect.{Effect}
 use Rattle.turn_code.specs.declared.effect.Effect.TheVariants as effect
 use Rattle.turn_code.specs.declared.input.Input.{Input}
-use Rattle.turn_code.specs.declared.input.Party.{Party}
+use Rattle.turn_code.specs.declared.input.Address.{Address}
 use Rattle.turn_code.specs.declared.instruction.Instruction.{Instruction}
 use Rattle.turn_code.specs.declared.instruction.Instruction.TheVariants.{Int as PutInt, Bool as PutBool, Load, Param, Output, Set, Reset}
 use Rattle.turn_code.specs.declared.machine.End.{End}
@@ -84,7 +84,7 @@ module _ (t : Transition) (limits : KeepsPieceLimits t.piece) (x : Input) (n : �
       let most = limits.effects in
       omega arith
 
-  sent_fits : (signal : SignalNumber) (o : Option Party) (vs : List Value) (k : ℕ) (os : List Value) (s : Progress)
+  sent_fits : (signal : SignalNumber) (o : Option Address) (vs : List Value) (k : ℕ) (os : List Value) (s : Progress)
       → IsSafeAfter t (IsSafe t x n) (sent signal o vs k os s) → length s.effects < 32
   sent_fits signal None vs k os s h = absurd h
   sent_fits signal (Some p) vs k os s h = effect_fits n k os s (sending signal p vs) h
@@ -95,8 +95,8 @@ module _ (t : Transition) (limits : KeepsPieceLimits t.piece) (x : Input) (n : �
 
   effects_fit : (i : Instruction) (k : ℕ) (os : List Value) (s : Progress) → 0 < effects_of i → IsSafeAfter t (IsSafe t x n) (act i x k os s) → length s.effects < 32
   effects_fit (Output m r c) k os s g h =
-      sent_fits m (party_of r x.sender) (reverse (take c os)) k (drop c os) s
-      (not_short (nat_le c (length os)) (sent m (party_of r x.sender) (reverse (take c os)) k (drop c os) s) h)
+      sent_fits m (address_of r x.sender) (reverse (take c os)) k (drop c os) s
+      (not_short (nat_le c (length os)) (sent m (address_of r x.sender) (reverse (take c os)) k (drop c os) s) h)
   effects_fit (Set m) k [] s g h = absurd h
   effects_fit (Set m) k (Int z ∷ os) s g h = effect_fits n k os s (effect.Set m z) h
   effects_fit (Set m) k (Bool b ∷ os) s g h = absurd h

@@ -10,7 +10,8 @@ use crate::received::Received;
 use arrayvec::ArrayVec;
 use turn_check::Verified;
 use turn_code::{
-    DraftVariable, Party, Place, ProcessNumber, Sort, Trigger, Value, VariableNumber, VariableSet,
+    Address, DraftVariable, Party, Place, ProcessNumber, Sort, Trigger, Value, VariableNumber,
+    VariableSet,
 };
 
 /// Whether an input fits input `input_number` at a place of a process: its parameters and set variables have their
@@ -102,14 +103,14 @@ fn is_brought(
     verified: &Verified,
     process: ProcessNumber,
     trigger: Option<Trigger>,
-    sender: Option<Party>,
+    sender: Option<Address>,
 ) -> bool
     ensures { IsTrue result ↔ IsBroughtBy verified.now.routes process.0 trigger sender }
 {
     match trigger {
         None | Some(Trigger::Timer(_)) => true,
         Some(Trigger::Signal(signal)) => match sender {
-            Some(sender) => verified.carries(sender, Party::Process(process), signal),
+            Some(sender) => verified.carries(sender.party, Party::Process(process), signal),
             None => false,
         },
     }

@@ -4,7 +4,7 @@ ghost use Rattle.std.specs.Prelude.{◌≡◌, ◌↔◌, IsTrue, ⊤};
 
 use arrayvec::ArrayVec;
 use std::alloc::AllocError;
-use turn_code::{Party, Value, copied_values, same_values};
+use turn_code::{Address, Value, copied_values, same_values};
 
 /// What an input brings to a transition.
 #[derive(Drop)]
@@ -12,7 +12,7 @@ pub struct Received {
     /// The parameters of the signal; none at START.
     pub parameters: ArrayVec<Value, 4>,
     /// Who sent the signal; not looked at for START and for a timer.
-    pub sender: Option<Party>,
+    pub sender: Option<Address>,
 }
 
 impl Received {

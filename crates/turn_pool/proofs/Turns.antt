@@ -11,10 +11,10 @@ past : (b : Ledger) (n : ℕ) → length (state_of b).actors ≤ n → move_of b
 unfolding refuses
 past b n many = rw (slice_get_past (state_of b).actors n many) refl
 
-at : (b : Ledger) (n : ℕ) (t : Bool) → nat_lt n 16 ≡ t → ((k : ℕ) → k < 16 → move_of b k ≡ None) → length (state_of b).actors ≤ 16 → move_of b n ≡ None
-at b n true is first few = first n (ltb-true n 16 is)
-at b n false is first few = let from : 16 ≤ n = ltb-false n 16 is in past b n (omega (arith, few, from))
+at : (b : Ledger) (m n : ℕ) (t : Bool) → nat_lt n m ≡ t → ((k : ℕ) → k < m → move_of b k ≡ None) → length (state_of b).actors ≤ m → move_of b n ≡ None
+at b m n true is first few = first n (ltb-true n m is)
+at b m n false is first few = let from : m ≤ n = ltb-false n m is in past b n (omega (arith, few, from))
 
--- where none of the first 16 can do anything no actor can
-pub all_of : (b : Ledger) → ((n : ℕ) → n < 16 → move_of b n ≡ None) → length (state_of b).actors ≤ 16 → (n : ℕ) → move_of b n ≡ None
-all_of b first few n = at b n (nat_lt n 16) refl first few
+-- where none of the first m can do anything, and there are no more, no actor can
+pub all_of : (b : Ledger) (m : ℕ) → ((n : ℕ) → n < m → move_of b n ≡ None) → length (state_of b).actors ≤ m → (n : ℕ) → move_of b n ≡ None
+all_of b m first few n = at b m n (nat_lt n m) refl first few

@@ -1,12 +1,18 @@
 -- Whose turn it is on a link.
-use Rattle.std.specs.Prelude.{◌≡◌, ◌<◌, ℕ, Option, None, Some}
+use Rattle.std.specs.Prelude.{◌≡◌, ◌<◌, ℕ, Option, None, Some, Ok, Err, option_map, slice_get}
+use Rattle.turn_machine.specs.Turn.{Turn}
+use Rattle.link_machine.specs.Core.{names_in}
 use Rattle.link_machine.specs.Ledger.{Ledger, room, state_of}
 use Rattle.link_machine.specs.Refusals.{refuses}
+use Rattle.link_machine.specs.actor_names_types.name.ActorName.{ActorName}
 use Rattle.link_machine.specs.declared.event.Event.TheVariants.{Begin}
 use Rattle.link_machine.specs.declared.reply.Refusal.{Refusal}
 use Rattle.link_machine.specs.declared.reply.Refusal.TheVariants.{SkipFirst}
 use Rattle.turn_pool.specs.declared.moves.Move.{Move}
 use Rattle.turn_pool.specs.declared.moves.Move.TheVariants as move
+use Rattle.turn_pool.specs.declared.moves.Moved.{Moved}
+use Rattle.turn_pool.specs.declared.moves.Moved.TheVariants as moved
+use Rattle.turn_pool.specs.declared.gate.JobName.{JobName}
 
 -- what an actor does whose turn is refused for this reason, or for none
 abbrev pub move_by : ℕ → Option Refusal → Option Move
@@ -29,3 +35,14 @@ pub record IsFirst (b : Ledger) (step : Move) : Type 0 where
 abbrev pub IsNext : Ledger → Option Move → Type 0
 IsNext b (Some step) = IsFirst b step
 IsNext b None = 0 < room b (state_of b) → (n : ℕ) → move_of b n ≡ None
+
+-- what a gate is told of a turn: the link where it is out, what its actor is called there, and its number; nothing where that link has no such actor
+abbrev pub told_of : ℕ → Ledger → Turn → Option JobName
+told_of link b t = option_map (λ (x : ActorName). record { link = link; actor = x; turn = t.turn }) (slice_get (names_in (state_of b).actors) t.actor)
+
+-- where a step began one
+abbrev pub told : ℕ → Ledger → Moved → Option JobName
+told link b (moved.Begun (Ok job)) = told_of link b job
+told link b (moved.Begun (Err refusal)) = None
+told link b (moved.Skipped answer) = None
+told link b (moved.Finished answer) = None

@@ -1,6 +1,7 @@
 //! What a pool asks of others.
 
 use crate::pool::Pool;
+use actor_book::ActorName;
 use event_seats::Seat;
 use std::sync::Wait;
 use std::sync::ledger::Ledger;
@@ -10,8 +11,8 @@ use std::sync::ledger::Ledger;
 pub struct JobName {
     /// The number of the link, from 0.
     pub link: usize,
-    /// The number of the actor.
-    pub actor: u16,
+    /// The actor: its process, and which instance it is.
+    pub actor: ActorName,
     /// The number of the turn, from 0 over all actors of the link.
     pub turn: u64,
 }

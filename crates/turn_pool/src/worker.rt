@@ -1,7 +1,7 @@
 //! Workers.
 
 ghost use Rattle.std.specs.Prelude.{◌≡◌};
-ghost use Rattle.turn_pool.specs.Turns.{move_by, IsNext};
+ghost use Rattle.turn_pool.specs.Turns.{move_by, IsNext, told_of, told};
 
 use crate::gate::{Gate, JobName};
 use crate::moves::{Move, Moved, work};
@@ -36,8 +36,9 @@ fn next_step(book: &Book) -> Option<Move>
     }
     let set = book.set();
     let link = book.state();
-    let _few = link.actors();
-    for actor in 0..16 {
+    let there = link.actors();
+    let count = there.len();
+    for actor in 0..count as u16 {
         match move_at(actor, link.begin_refusal(set, actor)) {
             Some(step) => return Some(step),
             None => {}
@@ -46,16 +47,46 @@ fn next_step(book: &Book) -> Option<Move>
     None
 }
 
-/// Does one step on a link, under its lock, if an actor there can do something.
+/// What a gate is told of a turn: the link where it is out, what its actor is called there, and the turn's number.
+fn name_of(link: usize, book: &Book, job: &Job) -> Option<JobName>
+    ensures { result ≡ told_of link book.now job.now }
+{
+    match book.name_of(job.actor()) {
+        Some(actor) => Some(JobName {
+            link,
+            actor,
+            turn: job.turn(),
+        }),
+        None => None,
+    }
+}
+
+/// What a gate is told of a worker's step, where that began a turn.
+fn name_in(link: usize, book: &Book, moved: &Moved) -> Option<JobName>
+    ensures { result ≡ told link book.now moved.now }
+{
+    match moved {
+        Moved::Begun(begun) => match begun {
+            Ok(job) => name_of(link, book, job),
+            Err(_) => None,
+        },
+        Moved::Skipped(_) | Moved::Finished(_) => None,
+    }
+}
+
+/// Does one step on a link, under its lock, if an actor there can do something: what the book answered, and what a gate is told of a turn that
+/// began.
 fn step<R: Wait, L: Ledger>(
     pool: &Pool<'_, R, L>,
     seat: &mut Seat<L>,
     link: usize,
-) -> Option<Moved> {
+) -> Option<(Moved, Option<JobName>)> {
     let mut slot = pool.links.get(link)?.lock(pool.rt);
     let step = next_step(slot.book())?;
     let mut totals = pool.account();
-    Some(work(&mut slot, seat, &mut totals, step))
+    let moved = work(&mut slot, seat, &mut totals, step);
+    let name = name_in(link, slot.book(), &moved);
+    Some((moved, name))
 }
 
 /// Ends a turn that is out on a link.
@@ -70,28 +101,16 @@ fn end<R: Wait, L: Ledger>(
     Some(work(&mut slot, seat, &mut totals, step))
 }
 
-/// What a gate is told of a job: the link where its turn is out, its actor and its turn.
-fn name_of(link: usize, job: &Job) -> JobName
-    ensures { result ≡ record { link = link; actor = job.now.actor; turn = job.now.turn } }
-{
-    JobName {
-        link,
-        actor: job.actor(),
-        turn: job.turn(),
-    }
-}
-
 /// Runs a job with no lock held, and ends its turn.
 fn run_job<R: Wait, L: Ledger, G: Gate>(
     pool: &Pool<'_, R, L>,
     gate: &G,
     seat: &mut Seat<L>,
-    link: usize,
+    name: JobName,
     job: Job,
 ) {
-    let name = name_of(link, &job);
     gate.enter(name);
-    let _ended = end(pool, seat, link, Move::Finish(run(job)));
+    let _ended = end(pool, seat, name.link, Move::Finish(run(job)));
     gate.leave(name);
 }
 
@@ -103,11 +122,11 @@ fn turn<R: Wait, L: Ledger, G: Gate>(
     link: usize,
 ) -> bool {
     match step(pool, seat, link) {
-        Some(Moved::Begun(Ok(job))) => {
-            run_job(pool, gate, seat, link, job);
+        Some((Moved::Begun(Ok(job)), Some(name))) => {
+            run_job(pool, gate, seat, name, job);
             true
         }
-        Some(Moved::Skipped(Ok(_))) => true,
+        Some((Moved::Skipped(Ok(_)), _)) => true,
         _ => false,
     }
 }

@@ -114,7 +114,11 @@ fn piece_keeps_limits(piece: &DraftPiece) -> bool
 pub fn process_keeps_limits(process: &DraftProcess) -> bool
     ensures { IsTrue result ↔ KeepsProcessLimits process.now }
 {
-    process.states.len() <= 64 && process.variables.len() <= 32 && process.timers.len() <= 8
+    1 <= process.instances
+        && process.instances <= 8
+        && process.states.len() <= 64
+        && process.variables.len() <= 32
+        && process.timers.len() <= 8
 }
 
 /// Whether what a transition waits for is there, and at START what the states of its process save.

@@ -5,8 +5,8 @@
 mod loading;
 
 pub use loading::{LoadFault, load};
+pub use sdl_compile::{ControlPath, Limit, RuleFault, Step};
 pub use sdl_lex::LexFault;
-pub use sdl_rules::{ControlPath, Limit, RuleFault, Step};
 pub use sdl_tree::ParseFault;
 pub use turn_check::{Spot, Transition, Verified, VerifyFault, verify};
 pub use turn_code::{

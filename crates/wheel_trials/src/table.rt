@@ -78,7 +78,7 @@ impl Table {
 
 /// The place of a timer.
 fn place_of(timer: Timer) -> usize {
-    usize::from(timer.process()) * 8 + usize::from(timer.number())
+    usize::from(timer.actor()) * 8 + usize::from(timer.number())
 }
 
 /// The timer of a place.

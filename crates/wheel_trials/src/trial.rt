@@ -22,9 +22,9 @@ impl Draws {
 
     /// A timer.
     fn timer(&mut self) -> Timer {
-        let process = (self.below(128) % 128) as u8;
+        let actor = (self.below(128) % 128) as u8;
         let number = (self.below(8) % 8) as u8;
-        Timer::new(process, number)
+        Timer::new(actor, number)
     }
 
     /// How far a deadline is: near, in the next turns of a wheel, or as far as a SET goes.

@@ -7,7 +7,7 @@ use arrayvec::ArrayVec;
 use input_port::{Arrival, Item, Port, Saved};
 use std::alloc::{AllocError, Global};
 use std::rt::Clock;
-use turn_code::{Party, SignalNumber, Value};
+use turn_code::{Address, Party, SignalNumber, Value};
 
 /// How many signals the port may have, and has.
 const CAPACITY: usize = 64;
@@ -28,10 +28,14 @@ const TAKEN: u8 = 1;
 fn arrival_of(signal: u8) -> Arrival {
     let mut parameters = ArrayVec::new();
     parameters.push(Value::Int(7));
+    let sender = Address {
+        party: Party::Environment,
+        instance: None,
+    };
     Arrival {
         signal: SignalNumber(signal),
         parameters,
-        sender: Party::Environment,
+        sender,
     }
 }
 

@@ -8,17 +8,16 @@ use Rattle.book_play.proofs.calls.finish.Goals as goal
 pub unreachable-requires : goal.unreachable-requires
 unreachable-requires c =
     false≢true (c.in-Err.ensures.accepted.1
-    (still_own c.args.book.now c.actor_of.result c.in-Some.job c.run.result (sym c.in-Some.ensures) c.run.ensures))
+    (still_own c.args.book.now c.args.actor.number c.in-Some.job c.run.result (sym c.in-Some.ensures) c.run.ensures))
 
 pub returns-clause-book : goal.returns-clause-book
 returns-clause-book c =
-    finish_book c.args.book.now c.finish.new.self c.actor_of.result c.args.process.0 c.in-Some.job c.run.result c.actor_of.ensures c.in-Some.ensures c.run.ensures
-    c.in-Ok.ensures.book
+    finish_book c.args.book.now c.finish.new.self c.args.actor c.in-Some.job c.run.result c.in-Some.ensures c.run.ensures c.in-Ok.ensures.book
 
 pub returns-clause-line : goal.returns-clause-line
 returns-clause-line c =
     IfOk-weaker c.finished_line.result _ _
     (λ v h.
-    finish_line c.args.book.now c.finish.new.self c.set.result.now c.actor_of.result c.args.process.0 c.in-Some.job c.run.result _ v.items c.actor_of.ensures
-    c.in-Some.ensures c.run.ensures c.set.ensures c.in-Ok.ensures.book c.in-Ok.ensures.report h)
+    finish_line c.args.book.now c.finish.new.self c.set.result.now c.args.actor c.in-Some.job c.run.result _ v.items c.in-Some.ensures c.run.ensures c.set.ensures
+    c.in-Ok.ensures.book c.in-Ok.ensures.report h)
     c.finished_line.ensures

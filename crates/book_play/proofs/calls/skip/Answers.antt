@@ -1,6 +1,5 @@
-use Rattle.std.proofs.Common.{ap}
+use Rattle.std.proofs.Common.{refl}
 use Rattle.std.proofs.lemmas.Result.{IfOk-weaker}
-use Rattle.link_machine.specs.declared.event.Event.TheVariants.{Skip}
 use Rattle.book_play.proofs.Saids.{line_said}
 use Rattle.book_play.proofs.calls.skip.Goals as goal
 
@@ -8,5 +7,5 @@ pub returns-in-Ok-clause-line : goal.returns-in-Ok-clause-line
 returns-in-Ok-clause-line c =
     IfOk-weaker c.skipped_line.result _ _
     (λ v h.
-    line_said c.args.book.now c.skip.new.self c.set.result.now c.args.process.0 _ _ _ v.items (ap Skip c.actor_of.ensures) c.set.ensures c.in-Ok.ensures.book c.in-Ok.ensures.answer h)
+    line_said c.args.book.now c.skip.new.self c.set.result.now c.args.actor.name.process.0 _ _ _ v.items refl c.set.ensures c.in-Ok.ensures.book c.in-Ok.ensures.answer h)
     c.skipped_line.ensures

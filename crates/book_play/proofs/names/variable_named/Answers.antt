@@ -1,8 +1,8 @@
 use Rattle.std.proofs.Common.{◌∙◌, ap}
 use Rattle.turn_code.specs.declared.draft.Draft.{Draft}
 use Rattle.turn_check.specs.Named.{variable_names}
-use Rattle.book_play.specs.Answers.{number_of}
-use Rattle.book_play.proofs.Lookups.{looked}
+use Rattle.actor_words.specs.Words.{number_of}
+use Rattle.actor_words.proofs.Lookups.{looked}
 use Rattle.book_play.proofs.names.variable_named.Goals as goal
 
 pub returns : goal.returns

@@ -4,4 +4,4 @@ use Rattle.tick_wheel.specs.Turning.{timers_of}
 use Rattle.link_state.proofs.effects.reset_all.Given as goal
 
 abbrev pub invariant-loop-timer : goal.invariant-loop-timer
-invariant-loop-timer l = timers_of l.wheel ≡ without_first_timers (timers_of l.initial.wheel) l.process l.timer
+invariant-loop-timer l = timers_of l.wheel ≡ without_first_timers (timers_of l.initial.wheel) l.actor l.timer

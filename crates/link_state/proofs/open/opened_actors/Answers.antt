@@ -1,18 +1,34 @@
-use Rattle.std.proofs.Common.{◌++◌, ◌∷◌, [], take, map, sym, subst, ap, ◌∙◌}
-use Rattle.std.specs.List.{AllByRecursion}
-use Rattle.std.proofs.lemmas.List.{drop_more, map_push, take_more}
-use Rattle.link_machine.specs.Kept.{opened_actor}
-use Rattle.link_state.specs.Opening.{HasFewVariables}
+use Rattle.std.proofs.Common.{List, ◌++◌, refl, ap, arith}
+use Rattle.link_machine.specs.Kept.{opened_from}
+use Rattle.link_machine.specs.declared.actor.Actor.{Actor}
+use Rattle.link_state.proofs.Opened.{processes_more, few_more, few_here, processes_done, actors_few}
 use Rattle.link_state.proofs.open.opened_actors.Goals as goal
+
+pub loop-process-init : goal.loop-process-init
+loop-process-init c = (ap (λ (xs : List Actor). xs ++ opened_from c.args.port 0 c.args.processes.now) c.new-actors.ensures.items, c.requires.few, refl)
+
+pub open_process-requires-clause-few : goal.open_process-requires-clause-few
+open_process-requires-clause-few c =
+    few_here c.loop-process.process-index c.args.processes.now c.process-item.result c.loop-process-test.true c.process-item.is c.loop-process.invariant.1
+
+pub overflow_add-number : goal.overflow_add-number
+overflow_add-number c = omega (arith, c.loop-process.invariant.2, c.loop-process-test.true, c.requires.count)
 
 pub loop-process-preserved : goal.loop-process-preserved
 loop-process-preserved c =
-    let xs = c.args.processes.now in
-    let at = c.loop-process.process-index in
-    let f = opened_actor c.args.port in (
-      c.in_ok-push.ensures.items
-          ∙ ap (λ t. t ++ c.in_ok-opened_actor.field-0 ∷ []) c.loop-process.invariant.0
-          ∙ ap (λ a. map f (take at xs) ++ a ∷ []) (c.in_ok-opened_actor.ensures ∙ ap f c.process-item.is)
-          ∙ sym (ap (map f) (take_more xs at c.process-item.result c.loop-process-test.true) ∙ map_push f (take at xs) _),
-      (subst (AllByRecursion HasFewVariables) (drop_more xs at c.process-item.result c.loop-process-test.true) c.loop-process.invariant.1).1,
+    let ps = c.args.processes.now in
+    let at = c.loop-process.process-index in (
+      processes_more c.args.port at c.loop-process.number ps c.process-item.result c.loop-process.actors.items _ _ c.loop-process-test.true c.process-item.is
+          c.loop-process.invariant.2 c.loop-process.invariant.0 c.in_ok-open_process.ensures,
+      few_more at ps c.process-item.result c.loop-process-test.true c.loop-process.invariant.1,
+      omega (arith, c.loop-process.invariant.2),
     )
+
+pub returns-clause-actors : goal.returns-clause-actors
+returns-clause-actors c =
+    processes_done c.args.port c.loop-process.process-index c.args.processes.now c.loop-process.actors.items _ c.loop-process-test.false c.loop-process.invariant.0
+
+pub returns-clause-few : goal.returns-clause-few
+returns-clause-few c =
+    actors_few c.args.port c.args.processes.now c.loop-process.actors.items c.requires.few c.requires.count
+    (processes_done c.args.port c.loop-process.process-index c.args.processes.now c.loop-process.actors.items _ c.loop-process-test.false c.loop-process.invariant.0)

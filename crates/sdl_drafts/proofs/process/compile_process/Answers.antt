@@ -27,6 +27,7 @@ returns-clause-matches c =
     let made = made_in sc (inputs_by_state p) c.in_ok-states.states.items c.from-3.result (sym c.from-3.ensures) c.in_ok-states.ensures.made in
     record {
       name = c.draft_name.ensures ∙ ap (λ (q : Process). q.name.name) same;
+      instances = ap (λ (q : Process). q.instances) same;
       variables = c.from.ensures ∙ c.in_ok-variables.ensures ∙ ap (map drafted) c.rows.ensures;
       timers = c.from-2.ensures ∙ c.in_ok-timers.ensures ∙ ap (map (λ (id : Identifier). id.name)) c.timers.ensures;
       start = c.in_ok-first.ensures.means;

@@ -5,7 +5,6 @@ use Rattle.turn_pool.proofs.worker.next_step.Goals as goal
 
 pub returns : goal.returns
 returns c room =
-    let actors = c.actors-few.ensures.value ∙ ap (λ (w : Core). w.actors) c.state-link.ensures in
+    let actors = c.actors-there.ensures.value ∙ ap (λ (w : Core). w.actors) c.state-link.ensures in
     let few = ap length actors in
-    all_of c.args.book.now (λ n within. c.loop-actor.invariant n (omega (arith, within, c.loop-actor-test.false)))
-    (omega (arith, few, c.actors-few.ensures.few))
+    all_of c.args.book.now c.loop-actor.actor c.loop-actor.invariant (omega (arith, few, c.actors-there.ensures.few, c.len-count.ensures, c.loop-actor-test.false))

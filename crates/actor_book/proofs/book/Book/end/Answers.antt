@@ -10,6 +10,9 @@ use Rattle.actor_book.proofs.book.Book.end.Goals as goal
 pub number_in-number-requires : goal.number_in-number-requires
 number_in-number-requires c = out_in _ _ _ c.args.actor _ c.self.view_is _ c.self.invariant c.requires
 
+pub name_in-name-requires : goal.name_in-name-requires
+name_in-name-requires c = out_in _ _ _ c.args.actor _ c.self.view_is _ c.self.invariant c.requires
+
 pub finish-report-requires-clause-timers : goal.finish-report-requires-clause-timers
 finish-report-requires-clause-timers c =
     timers_in _ _ _ c.args.actor _ c.self.view_is _ c.self.invariant c.requires c.effects_law.ensures c.fits_law.ensures _ _ _ _
@@ -29,7 +32,7 @@ pub invariant_of-self : goal.invariant_of-self
 invariant_of-self c =
     new_inside c.keeps_law.ensures _ _ c.self.view_is _ _ c.self.invariant _ (takes_in _ _ _ c.args.actor _ c.self.view_is _ c.self.invariant c.requires c.out_law.ensures)
     c.state_law.ensures _ _ _ c.note.ensures.items
-    (c.finish-report.ensures.link ∙ link_ends _ _ _ c.args.actor _ c.self.view_is _ c.self.invariant c.requires _ _ c.number_in-number.ensures.value
+    (c.finish-report.ensures.link ∙ link_ends _ _ _ c.args.actor _ c.self.view_is _ c.self.invariant c.requires _ _ _ c.number_in-number.ensures.value c.name_in-name.ensures
     (from_parts (outcome_of c.args.done.now) _ _ _ _ c.end.ensures c.variables_after.ensures c.effects.ensures.value c.count.ensures.value))
     c.note.ensures.capacity
 
@@ -41,7 +44,7 @@ returns-clause-book c =
 pub returns-clause-answer : goal.returns-clause-answer
 returns-clause-answer c =
     ap (λ (r : Report). Says (reply.Finished r)) c.finish-report.ensures.report
-    ∙ link_reports _ _ _ c.args.actor _ c.self.view_is _ c.self.invariant c.requires _ _ c.number_in-number.ensures.value
+    ∙ link_reports _ _ _ c.args.actor _ c.self.view_is _ c.self.invariant c.requires _ _ _ c.number_in-number.ensures.value c.name_in-name.ensures
     (from_parts (outcome_of c.args.done.now) _ _ _ _ c.end.ensures c.variables_after.ensures c.effects.ensures.value c.count.ensures.value)
     ∙ new_answer c.keeps_law.ensures _ _ c.self.view_is _ _ c.self.invariant _ (takes_in _ _ _ c.args.actor _ c.self.view_is _ c.self.invariant c.requires c.out_law.ensures)
 

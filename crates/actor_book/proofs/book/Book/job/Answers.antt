@@ -6,8 +6,8 @@ use Rattle.link_machine.specs.declared.actor.Actor.{Actor}
 use Rattle.actor_book.proofs.Taking.{fits_in}
 use Rattle.actor_book.proofs.book.Book.job.Goals as goal
 
-pub job_at-requires-clause-fits : goal.job_at-requires-clause-fits
-job_at-requires-clause-fits c a h =
+pub job_at-requires : goal.job_at-requires
+job_at-requires c a h =
     fits_in c.fits_law.ensures _ _ _ c.self.invariant c.actors.result.now c.args.actor a c.actors.ensures.value h
 
 pub returns : goal.returns

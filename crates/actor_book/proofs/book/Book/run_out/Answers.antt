@@ -19,6 +19,9 @@ run_at-end-requires-clause-out c = out_at _ _ _ _ c.self.view_is c.self.invarian
 pub number_in-number-requires : goal.number_in-number-requires
 number_in-number-requires c = out_in _ _ _ c.args.actor _ c.self.view_is _ c.self.invariant (the_turn _ c.requires).1
 
+pub name_in-name-requires : goal.name_in-name-requires
+name_in-name-requires c = out_in _ _ _ c.args.actor _ c.self.view_is _ c.self.invariant (the_turn _ c.requires).1
+
 pub finish-report-requires-clause-timers : goal.finish-report-requires-clause-timers
 finish-report-requires-clause-timers c =
     let k = ends_out _ _ _ _ c.self.view_is c.self.invariant _ c.args.actor c.actors.ensures.value _ c.run_at-end.new.machine _ _
@@ -45,7 +48,7 @@ invariant_of-self c =
     (ap (λ (v : ArrayVec (Option Value)). v.items) c.copied_variables.ensures) c.as_slice.ensures.value c.run_at-end.ensures in
     new_inside c.keeps_law.ensures _ _ c.self.view_is _ _ c.self.invariant _ (takes_in _ _ _ c.args.actor _ c.self.view_is _ c.self.invariant k.is c.out_law.ensures)
     c.state_law.ensures _ _ _ c.note.ensures.items
-    (c.finish-report.ensures.link ∙ link_ends _ _ _ c.args.actor _ c.self.view_is _ c.self.invariant k.is _ _ c.number_in-number.ensures.value k.ran)
+    (c.finish-report.ensures.link ∙ link_ends _ _ _ c.args.actor _ c.self.view_is _ c.self.invariant k.is _ _ _ c.number_in-number.ensures.value c.name_in-name.ensures k.ran)
     c.note.ensures.capacity
 
 pub returns-clause-book : goal.returns-clause-book
@@ -58,7 +61,7 @@ returns-clause-answer c =
     let k = ends_out _ _ _ _ c.self.view_is c.self.invariant _ c.args.actor c.actors.ensures.value _ c.run_at-end.new.machine _ _
     (ap (λ (v : ArrayVec (Option Value)). v.items) c.copied_variables.ensures) c.as_slice.ensures.value c.run_at-end.ensures in
     ap (λ (r : Report). Says (reply.Finished r)) c.finish-report.ensures.report
-    ∙ link_reports _ _ _ c.args.actor _ c.self.view_is _ c.self.invariant k.is _ _ c.number_in-number.ensures.value k.ran
+    ∙ link_reports _ _ _ c.args.actor _ c.self.view_is _ c.self.invariant k.is _ _ _ c.number_in-number.ensures.value c.name_in-name.ensures k.ran
     ∙ new_answer c.keeps_law.ensures _ _ c.self.view_is _ _ c.self.invariant _
     (takes_in _ _ _ c.args.actor _ c.self.view_is _ c.self.invariant k.is c.out_law.ensures)
 

@@ -22,7 +22,7 @@ invariant_of-self c =
 pub unreachable-requires : goal.unreachable-requires
 unreachable-requires c =
     (may_skip _ _ c.args.actor (link_passes c.keeps_law.ensures _ _ c.self.view_is _ _ c.self.invariant _ c.requires)).some
-    (ap (λ k. skipped_by c.self.inside.set k (slice_get c.self.inside.link.actors k)) (sym c.number_in-number.ensures.value)
+    (ap (λ k. skipped_by c.self.inside.set (slice_get c.self.inside.link.actors k)) (sym c.number_in-number.ensures.value)
     ∙ sym c.skip.ensures.skipped ∙ c.in-None.is)
 
 pub returns-clause-book : goal.returns-clause-book
@@ -31,9 +31,9 @@ returns-clause-book c = new_book c.keeps_law.ensures _ _ c.self.view_is _ _ c.se
 pub returns-clause-answer : goal.returns-clause-answer
 unfolding step
 returns-clause-answer c =
-    let thrown = ap (λ k. skipped_by c.self.inside.set k (slice_get c.self.inside.link.actors k)) (sym c.number_in-number.ensures.value)
+    let thrown = ap (λ k. skipped_by c.self.inside.set (slice_get c.self.inside.link.actors k)) (sym c.number_in-number.ensures.value)
     ∙ sym c.skip.ensures.skipped ∙ c.in-Some.is in
-    ap Says (sym (skip_replies c.self.inside.set c.args.actor c.in-Some.trigger _ thrown)) ∙ new_answer c.keeps_law.ensures _ _ c.self.view_is _ _ c.self.invariant _ c.requires
+    ap Says (sym (skip_replies c.self.inside.set c.in-Some.trigger _ thrown)) ∙ new_answer c.keeps_law.ensures _ _ c.self.view_is _ _ c.self.invariant _ c.requires
 
 pub returns-clause-next : goal.returns-clause-next
 returns-clause-next c = new_next c.keeps_law.ensures _ _ c.self.view_is _ _ c.self.invariant _ c.requires _ c.note.ensures.items

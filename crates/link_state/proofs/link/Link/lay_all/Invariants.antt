@@ -5,8 +5,8 @@ use Rattle.link_state.proofs.link.Link.lay_all.Given as goal
 
 abbrev pub invariant-loop-place : goal.invariant-loop-place
 invariant-loop-place l = record {
-  link : laid_all l.sender l.self (drop l.place l.effects) ≡ laid_all l.sender l.initial.self l.effects;
-  lost : l.lost.items ++ losses l.sender l.self l.place (drop l.place l.effects) ≡ losses l.sender l.initial.self 0 l.effects;
+  link : laid_all l.actor l.name l.self (drop l.place l.effects) ≡ laid_all l.actor l.name l.initial.self l.effects;
+  lost : l.lost.items ++ losses l.actor l.name l.self l.place (drop l.place l.effects) ≡ losses l.actor l.name l.initial.self 0 l.effects;
   few : length l.lost.items ≤ l.place;
   timers : HaveTimers (drop l.place l.effects);
 }

@@ -5,7 +5,7 @@ use Rattle.std.specs.Char.{to_ascii_lowercase}
 use Rattle.std.proofs.lemmas.Bool.{false_from_ne_true}
 use Rattle.std.proofs.lemmas.Slice.Eq.{bytes_eq-Decides}
 use Rattle.turn_check.specs.Named.{SameName, IsFirst, IsNowhere}
-use Rattle.book_play.specs.Answers.{same_name, number_of}
+use Rattle.actor_words.specs.Words.{same_name, number_of}
 
 same : (x name : List ℕ) → SameName x name → same_name x name ≡ true
 same x name is = (bytes_eq-Decides (map to_ascii_lowercase x) (map to_ascii_lowercase name)).1 is
