@@ -69,7 +69,7 @@ fn check_text<S: Read + Drop, W: Write>(alloc: Global, text: S, writer: &mut W) 
 
 /// Runs `check` on the set that the command line names.
 fn run_check<R: Runtime + AllocGlobal, W: Write>(rt: &R, set: Named<'_>, writer: &mut W) -> u8
-    ensures printed { IsChecked set result (W.contents writer.old) (W.contents writer.new) }
+    ensures printed { IsChecked set.entry result (W.contents writer.old) (W.contents writer.new) }
     ensures status { (result ≡ 0) ⊎ (result ≡ 2) ⊎ (result ≡ 4) }
 {
     match set {
@@ -126,7 +126,7 @@ fn play_own<R: Runtime + AllocGlobal, W: Write>(
     script: Source<'_>,
     writer: &mut W,
 ) -> u8
-    ensures printed { IsPlayedOn set result (W.contents writer.old) (W.contents writer.new) }
+    ensures printed { IsPlayedOn set.entry result (W.contents writer.old) (W.contents writer.new) }
     ensures status { (result ≡ 0) ⊎ (result ≡ 1) ⊎ (result ≡ 2) ⊎ (result ≡ 4) }
 {
     match words::own_set(&set) {
@@ -159,7 +159,7 @@ fn run_play<R: Runtime + AllocGlobal, W: Write>(
     script: Source<'_>,
     writer: &mut W,
 ) -> u8
-    ensures printed { IsPlayedOn set result (W.contents writer.old) (W.contents writer.new) }
+    ensures printed { IsPlayedOn set.entry result (W.contents writer.old) (W.contents writer.new) }
     ensures status { (result ≡ 0) ⊎ (result ≡ 1) ⊎ (result ≡ 2) ⊎ (result ≡ 4) }
 {
     match set {
