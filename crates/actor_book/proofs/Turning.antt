@@ -1,9 +1,8 @@
 -- Turns of actors, from their beginning to their end.
-use Rattle.std.proofs.Common.{◌≡◌, ℕ, ◌+◌, ◌≤◌, true, List, length, Option, Some, None, refl, sym, ap, ◌∙◌, subst}
-use Rattle.std.specs.Prelude.{IsSome, is_some, slice_get}
-use Rattle.turn_code.specs.Machine.{progress_of}
-use Rattle.turn_code.specs.Outcome.{Outcome, outcome_in}
-use Rattle.turn_code.specs.Transitions.{Transition, transition_at}
+use Rattle.std.proofs.Common.{◌≡◌, ℕ, ◌≤◌, List, Option, Some, None, refl, sym, ap, ◌∙◌, subst}
+use Rattle.std.specs.Prelude.{IsSome, slice_get}
+use Rattle.turn_code.specs.Outcome.{outcome_in}
+use Rattle.turn_code.specs.Transitions.{transition_at}
 use Rattle.turn_code.specs.declared.value.Value.{Value}
 use Rattle.turn_code.specs.declared.effect.Effect.{Effect}
 use Rattle.turn_code.specs.declared.numbers.ProcessNumber.{ProcessNumber}
@@ -12,11 +11,10 @@ use Rattle.turn_code.specs.declared.machine.End.{End}
 use Rattle.turn_code.specs.declared.machine.Machine.{Machine}
 use Rattle.turn_code.specs.declared.draft.Draft.{Draft}
 use Rattle.turn_machine.specs.Ends.{EndsSo}
-use Rattle.turn_machine.specs.Turn.{Turn, turn_of, outcome_of}
+use Rattle.turn_machine.specs.Turn.{Turn, turn_of}
 use Rattle.link_machine.specs.Core.{Core}
-use Rattle.link_machine.specs.Kept.{IsKept}
-use Rattle.link_machine.specs.Laws.{FitsLaw, StateLaw, SetLaw}
-use Rattle.link_machine.specs.Ledger.{Ledger, state_of, ask, turn_with, turn_at, turn_out}
+use Rattle.link_machine.specs.Laws.{StateLaw, SetLaw}
+use Rattle.link_machine.specs.Ledger.{Ledger, state_of, turn_with, turn_at, turn_out}
 use Rattle.link_machine.specs.declared.actor.Actor.{Actor}
 use Rattle.link_machine.specs.declared.actor.Given.{Given}
 use Rattle.link_machine.specs.declared.event.Event.TheVariants.{Begin}

@@ -2,6 +2,7 @@ pub mod Accepted
 pub mod Answered
 pub mod Inside
 pub mod Limits
+pub mod Meant
 pub mod Running
 pub mod Shown
 pub mod Whole

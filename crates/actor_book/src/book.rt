@@ -1,6 +1,7 @@
 //! The book.
 
 ghost use Rattle.std.specs.Prelude.{◌≡◌, ◌≤◌, ◌<◌, ◌+◌, ◌^◌, [], length, IfOk, OnOk, OnErr, Some, None, Option};
+ghost use Rattle.link_machine.specs.Core.{outs};
 ghost use Rattle.link_machine.specs.Ledger.{rebased, next, room, state_of};
 ghost use Rattle.link_machine.specs.Kept.{IsKept, opened_book};
 ghost use Rattle.link_machine.specs.Refusals.{with_room, needs};
@@ -100,12 +101,23 @@ impl Book {
         if self.next() >= 1 << 56 {
             0
         } else {
-            self.limit - (self.journal.len() + self.link.outs())
+            self.limit - (self.journal.len() + self.outs())
         }
     }
 
-    /// What holds of every book.
-    pub(crate) fn keeps(&self)
+    /// How many turns are out: those that have begun and haven't ended. No actor is looked at.
+    fn outs(&self) -> usize
+        ensures { result ≡ outs (state_of self.now).actors }
+    {
+        self.keeps();
+        let link = self.state();
+        (link.turns() - link.finishes()) as usize
+    }
+
+    /// What holds of every book, wherever it comes from, as from a lock: its state is the replay of its journal, all fits in each state
+    /// on the way (signals came along routes that bring them, timers are their receivers' own, a turn that is out has an input that fits
+    /// it), and its numbers stay within their bounds. That is what the laws of [`link_machine`] ask. It does nothing and costs nothing.
+    pub fn keeps(&self)
         ensures { IsKept self.now }
     {
         let _ = &self.limit;

@@ -6,10 +6,11 @@ ghost use Rattle.link_machine.specs.Step.{Says};
 ghost use Rattle.link_machine.specs.declared.event.Event.TheVariants.{Begin, Finish};
 ghost use Rattle.link_machine.specs.declared.reply.Reply.TheVariants as reply;
 ghost use Rattle.actor_book.specs.Answered.{answer_by, begun_by};
+ghost use Rattle.actor_book.specs.Meant.{FinishesByText};
 
 use crate::book::Book;
 use crate::jobs::{is_job_out, job_at};
-use link_machine::laws::{fits_law, keeps_law, set_law, state_law};
+use link_machine::laws::{fits_law, keeps_law, set_law, state_law, text_law};
 use link_machine::{Event, Refusal, Report};
 use turn_machine::{Done, Job};
 
@@ -43,7 +44,8 @@ impl Book {
     }
 
     /// An actor ends the turn that it has out: its effects take place in text order, and then it comes to its next state, or
-    /// stops. Its end, its count of instructions, and the outputs that reached nobody.
+    /// stops. Its end, its count of instructions, and the outputs that reached nobody. All that is what the set means: where it comes
+    /// from a text, what the text's transition does.
     ///
     /// # Errors
     ///
@@ -52,6 +54,7 @@ impl Book {
         ensures accepted { IsOk result ↔ (turn_out self.old done.actor ≡ Some done) }
         ensures book { OnOk result (self.new ≡ (ask self.old (Finish done.actor)).book) }
         ensures report { IfOk result (λ report. (ask self.old (Finish done.actor)).answer ≡ Says (reply.Finished report)) }
+        ensures by_text { IfOk result (λ report. FinishesByText self.old done.actor report self.new) }
         ensures within { IfOk result (λ report. report.count ≤ done.certificate.budget) }
         ensures next { OnOk result (next self.new ≡ next self.old + 1) }
         ensures back { IfErr result (λ d. d ≡ done) }
@@ -60,6 +63,8 @@ impl Book {
         if !self.has_out(&done) {
             return Err(done);
         }
+        text_law();
+        self.keeps();
         let actor = done.job().actor();
         Ok(self.end(actor, &done))
     }

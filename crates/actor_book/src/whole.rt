@@ -10,11 +10,12 @@ ghost use Rattle.link_machine.specs.declared.actor.Actor.{Actor as PlainActor};
 ghost use Rattle.link_machine.specs.declared.event.Event.TheVariants.{Begin, Finish};
 ghost use Rattle.link_machine.specs.declared.reply.Reply.TheVariants as reply;
 ghost use Rattle.actor_book.specs.Accepted.{Takes};
+ghost use Rattle.actor_book.specs.Meant.{TurnsByText, RefusesByText};
 ghost use Rattle.actor_book.specs.Whole.{IsEnding, HasTurned, TookWithin, turned};
 
 use crate::book::Book;
 use crate::steps::{name_in, note, number_in};
-use link_machine::laws::{fits_law, keeps_law, out_law, set_law, state_law};
+use link_machine::laws::{fits_law, keeps_law, out_law, set_law, state_law, text_law};
 use link_machine::{Actor, Event, Given, Refusal, Report, Standing};
 use turn_check::Verified;
 use turn_code::laws::effects_law;
@@ -65,7 +66,8 @@ fn run_at(set: &Verified, actors: &[Actor], number: u16, machine: &mut Machine) 
 impl Book {
     /// An actor has a whole turn: it begins it as `begin` does, its code runs where it stands in the set, and it ends as `finish` ends
     /// it. Both events are in the journal. No job is made and no code is copied, so it is what a link has that keeps its turns to itself.
-    /// The turn's end, its count of instructions, and the outputs that reached nobody.
+    /// The turn's end, its count of instructions, and the outputs that reached nobody. All that is what the set means: where it comes from
+    /// a text, what the text's transition does.
     ///
     /// # Errors
     ///
@@ -74,11 +76,15 @@ impl Book {
     pub fn turn(&mut self, actor: u16) -> Result<Report, Refusal>
         ensures book { OnOk result (self.new ≡ (turned self.old actor).book) }
         ensures report { IfOk result (λ report. (turned self.old actor).answer ≡ Says (reply.Finished report)) }
+        ensures by_text { IfOk result (λ report. TurnsByText self.old actor report self.new) }
         ensures took { IfOk result (λ report. HasTurned self.old actor report.count) }
         ensures next { OnOk result (next self.new ≡ next self.old + 2) }
         ensures refused { IfErr result (λ refusal. Says (reply.Refused refusal) ≡ (ask self.old (Begin actor)).answer) }
+        ensures refused_by_text { IfErr result (RefusesByText self.old actor) }
         ensures err { OnErr result (self.new ≡ self.old) }
     {
+        text_law();
+        self.keeps();
         match self.begin_refusal(actor) {
             Some(refusal) => Err(refusal),
             None => Ok(self.turn_through(actor)),
@@ -90,6 +96,7 @@ impl Book {
         requires { Takes self.old (Begin actor) }
         ensures book { self.new ≡ (turned self.old actor).book }
         ensures report { (turned self.old actor).answer ≡ Says (reply.Finished result) }
+        ensures by_text { TurnsByText self.old actor result self.new }
         ensures took { HasTurned self.old actor result.count }
         ensures next { next self.new ≡ next self.old + 2 }
     {
@@ -97,6 +104,7 @@ impl Book {
         state_law();
         set_law();
         fits_law();
+        text_law();
         self.keeps();
         self.start(actor);
         self.run_out(actor)

@@ -8,9 +8,10 @@ use Rattle.link_machine.specs.declared.event.Event.{Event}
 use Rattle.link_machine.specs.declared.event.Event.TheVariants.{Finish}
 use Rattle.link_machine.specs.declared.reply.Refusal.{Refusal}
 use Rattle.link_machine.specs.declared.reply.Reply.{Reply}
-use Rattle.book_rest.proofs.Owned.{own_actor}
+use Rattle.book_rest.proofs.Owned.{own_actor, says}
 use Rattle.actor_words.specs.declared.word.Called.{Called}
-use Rattle.book_play.specs.Answers.{Answered, reply_text, answer_text, by_event, finishes}
+use Rattle.book_play.specs.Answers.{reply_text, answer_text, by_event}
+use Rattle.script_replies.specs.Refused.{refused_text}
 
 -- ---- lines
 
@@ -37,18 +38,17 @@ line_said b now d p e f r items same_event set book says line =
 event_is : (b : Ledger) (n : ℕ) (t u : Turn) → Some t ≡ turn_out b n → u ≡ t → Finish u.actor ≡ Finish n
 event_is b n t u h k = ap Finish (ap (λ (x : Turn). x.actor) k ∙ own_actor b n t (sym h))
 
-finish_is : (b : Ledger) (x : Called) (t : Turn) → Some t ≡ turn_out b x.number → by_event b x.name.process.0 (Finish x.number) ≡ finishes b x (turn_out b x.number)
-finish_is b x t h = ap (finishes b x) h
-
 pub finish_book : (b now : Ledger) (x : Called) (t u : Turn) → Some t ≡ turn_out b x.number → u ≡ t → now ≡ (ask b (Finish u.actor)).book
-    → now ≡ (finishes b x (turn_out b x.number)).book
-finish_book b now x t u h k book =
-    book
-    ∙ (ap (λ (e : Event). (ask b e).book) (event_is b x.number t u h k) ∙ ap (λ (a : Answered). a.book) (finish_is b x t h))
+    → now ≡ (ask b (Finish x.number)).book
+finish_book b now x t u h k book = book ∙ ap (λ (e : Event). (ask b e).book) (event_is b x.number t u h k)
 
 pub finish_line : (b now : Ledger) (d : Draft) (x : Called) (t u : Turn) (r : Reply) (items : List ℕ) → Some t ≡ turn_out b x.number → u ≡ t → d ≡ now.set
     → now ≡ (ask b (Finish u.actor)).book → (ask b (Finish u.actor)).answer ≡ Says r → items ≡ reply_text d x.name.process.0 r
-    → items ≡ (finishes b x (turn_out b x.number)).line
+    → items ≡ (by_event b x.name.process.0 (Finish x.number)).line
 finish_line b now d x t u r items h k set book says line =
     line_said b now d x.name.process.0 (Finish u.actor) (Finish x.number) r items (event_is b x.number t u h k) set book (sym says) line
-    ∙ ap (λ (a : Answered). a.line) (finish_is b x t h)
+
+-- without a turn that is out
+pub stranger_line : (b : Ledger) (x : Called) (r : Refusal) (items : List ℕ) → refusal_by (runs b.set) b (Finish x.number) ≡ Some r → items ≡ refused_text r
+    → items ≡ (by_event b x.name.process.0 (Finish x.number)).line
+stranger_line b x r items refused line = line ∙ ap (λ (a : Answer). answer_text b.set x.name.process.0 a) (sym (says b (Finish x.number) r refused))

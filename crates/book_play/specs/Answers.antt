@@ -6,15 +6,14 @@ use Rattle.turn_code.specs.declared.draft.Draft.{Draft}
 use Rattle.turn_check.specs.Named.{signal_names, variable_names}
 use Rattle.actor_words.specs.Words.{number_of, actor_called}
 use Rattle.actor_words.specs.declared.word.Called.{Called}
-use Rattle.turn_machine.specs.Turn.{Turn}
-use Rattle.link_machine.specs.Ledger.{Ledger, state_of, ask, turn_out}
+use Rattle.link_machine.specs.Ledger.{Ledger, state_of, ask}
 use Rattle.link_machine.specs.Step.{Answer, Stuck, Says}
 use Rattle.link_machine.specs.declared.actor.Actor.{Actor}
 use Rattle.link_machine.specs.declared.actor.Standing.{Standing}
 use Rattle.link_machine.specs.declared.event.Event.{Event}
 use Rattle.link_machine.specs.declared.event.Event.TheVariants as event
 use Rattle.link_machine.specs.declared.reply.Refusal.{Refusal}
-use Rattle.link_machine.specs.declared.reply.Refusal.TheVariants.{NoActor, NoRoute, Stranger}
+use Rattle.link_machine.specs.declared.reply.Refusal.TheVariants.{NoActor, NoRoute}
 use Rattle.link_machine.specs.declared.reply.Reply.{Reply}
 use Rattle.link_machine.specs.declared.reply.Reply.TheVariants as reply
 use Rattle.book_rest.specs.Shown.{variable_of}
@@ -72,11 +71,6 @@ by_event b p e = record { book = (ask b e).book; line = answer_text b.set p (ask
 
 -- ---- commands on an actor
 
--- the turn that the actor has out ends by what the set's own code does; without one there is no such turn (B6)
-abbrev pub finishes : Ledger → Called → Option Turn → Answered
-finishes b x None = refused b Stranger
-finishes b x (Some turn) = by_event b x.name.process.0 (event.Finish x.number)
-
 -- its state
 abbrev pub standing_line : Ledger → ℕ → Option Standing → List ℕ
 standing_line b p None = refused_text NoActor
@@ -92,7 +86,7 @@ state_line b (Some x) = standing_line b x.name.process.0 (standing_at b x.number
 
 abbrev pub called : Ledger → Call → Called → Answered
 called b Begin x = by_event b x.name.process.0 (event.Begin x.number)
-called b Finish x = finishes b x (turn_out b x.number)
+called b Finish x = by_event b x.name.process.0 (event.Finish x.number)
 called b Skip x = by_event b x.name.process.0 (event.Skip x.number)
 called b State x = says b (state_line b (Some x))
 

@@ -1,12 +1,12 @@
 //! Calls on one actor.
 ghost use Rattle.std.specs.Prelude.{◌≡◌, IfOk, option_map};
-ghost use Rattle.link_machine.specs.Ledger.{turn_out};
 ghost use Rattle.link_machine.specs.declared.event.Event.TheVariants as event;
-ghost use Rattle.book_play.specs.Answers.{actor_named, by_event, finishes, standing_line, standing_at, state_line, called, calls};
+ghost use Rattle.book_play.specs.Answers.{actor_named, by_event, standing_line, standing_at, state_line, called, calls};
 
 use crate::names::actor_named;
 use actor_words::Called;
 use book_rest::{Book, Refusal};
+use link_machine::laws::out_law;
 use script_lines::Call;
 use script_replies::{begun_line, finished_line, refused_line, skipped_line, standing_line};
 use std::alloc::{AllocError, Global};
@@ -31,9 +31,11 @@ fn begin(alloc: Global, book: &mut Book, actor: Called) -> Result<Vec<u8>, Alloc
 
 /// `finish P`: the job that P has out is made once more, runs, and is handed in.
 fn finish(alloc: Global, book: &mut Book, actor: Called) -> Result<Vec<u8>, AllocError>
-    ensures book { book.new ≡ (finishes book.old actor (turn_out book.old actor.number)).book }
-    ensures line { IfOk result (λ v. v.items ≡ (finishes book.old actor (turn_out book.old actor.number)).line) }
+    ensures book { book.new ≡ (by_event book.old actor.name.process.0 (event.Finish actor.number)).book }
+    ensures line { IfOk result (λ v. v.items ≡ (by_event book.old actor.name.process.0 (event.Finish actor.number)).line) }
 {
+    out_law();
+    book.keeps();
     let Some(job) = book.job(actor.number) else {
         return refused_line(alloc, Refusal::Stranger);
     };

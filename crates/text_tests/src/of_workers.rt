@@ -1,5 +1,5 @@
 //! Workers: that they run at once, that they end what they begin, that they come to an end.
-use crate::links::{ECHO, ECHOES, ENDLESS, WASTEFUL, links, links_of};
+use crate::links::{ECHO, ECHOES, ENDLESS, TWINS, WASTEFUL, links, links_of};
 use actor_book::{Book, Limits};
 use std::alloc::Global;
 use std::sync::Wait;
@@ -16,7 +16,7 @@ pub(crate) const LOOKS: u32 = 1_000_000_000;
 #[derive(Clone, Copy)]
 struct Plan {
     text: &'static str,
-    /// Each of the links has so many processes.
+    /// Each of the links has so many instances of processes.
     processes: u64,
     links: usize,
     workers: usize,
@@ -37,7 +37,7 @@ struct Plan {
 }
 
 /// What can only come to an end where turns run at once, under no lock, and where a turn that has begun is ended.
-const PLANS: [Plan; 3] = [
+const PLANS: [Plan; 4] = [
     // two actors of one link: the first turn is held until the second has ended
     Plan {
         text: ECHOES,
@@ -51,6 +51,20 @@ const PLANS: [Plan; 3] = [
         wanted_begun: 2,
         wanted_ended: 2,
         names: 112,
+    },
+    // two instances of one process: the same
+    Plan {
+        text: TWINS,
+        processes: 2,
+        links: 1,
+        workers: 2,
+        held: 1,
+        until_begun: 2,
+        until_ended: 1,
+        until_returned: false,
+        wanted_begun: 2,
+        wanted_ended: 2,
+        names: 100_012,
     },
     // four links: each turn is held until four have begun
     Plan {
@@ -82,11 +96,13 @@ const PLANS: [Plan; 3] = [
     },
 ];
 
-/// A number for what a gate is told of a turn: 1, and 1,000 for each link, 100 for each actor and 10 for each turn before its own.
+/// A number for what a gate is told of a turn: 1, and 100,000 for each instance, 1,000 for each link, 100 for each process and 10 for each turn
+/// before its own.
 fn number_of(name: JobName) -> usize {
     let turn = name.turn.min(9) as usize;
-    let actor = usize::from(name.actor.process.0).min(9);
-    1 + 1_000 * name.link.min(9) + 100 * actor + 10 * turn
+    let process = usize::from(name.actor.process.0).min(9);
+    let before = usize::from(name.actor.instance.0).saturating_sub(1);
+    1 + 100_000 * before + 1_000 * name.link.min(9) + 100 * process + 10 * turn
 }
 
 /// A gate that holds turns as a plan says.

@@ -1,24 +1,25 @@
 -- What a client's call is answered.
 use Rattle.std.proofs.Common.{◌≡◌, ℕ, sym, ap, ◌∙◌}
 use Rattle.link_machine.specs.Step.{Says}
+use Rattle.link_machine.specs.Kept.{IsKept}
 use Rattle.link_machine.specs.Ledger.{Ledger, ask, next}
 use Rattle.link_machine.specs.declared.event.Event.{Event}
 use Rattle.link_machine.specs.declared.reply.Reply.{Reply}
 use Rattle.turn_pool.specs.declared.receipt.PoolRefusal.{PoolRefusal}
 use Rattle.turn_pool.specs.declared.receipt.PoolRefusal.TheVariants.{NoLink, Closing, NoMemory, Refused}
 use Rattle.turn_pool.specs.declared.receipt.Receipt.{Receipt}
-use Rattle.turn_pool.specs.Receipts.{IsHeld, IsOwn, IsTaken, IsRefusal, IsRebaseRefusal}
+use Rattle.turn_pool.specs.Receipts.{IsOwn, IsTaken, IsRefusal, IsRebaseRefusal}
 
 abbrev of_link : ℕ → Receipt → Receipt
 of_link link r = record { link = link; place = r.place; event = r.event }
 
 -- the receipt of a book that took the event, made out for the link that the client named
-pub taken_by : (link number : ℕ) (e : Event) (says : Reply) (b : Ledger) (given r : Receipt) → IsHeld b → Says says ≡ (ask b e).answer
+pub taken_by : (link number : ℕ) (e : Event) (says : Reply) (b : Ledger) (given r : Receipt) → IsKept b → Says says ≡ (ask b e).answer
     → given ≡ record { link = number; place = next b; event = e }
     → r ≡ record { link = link; place = given.place; event = given.event } → IsTaken link e says r
-taken_by link number e says b given r held answer names is = record {
+taken_by link number e says b given r kept answer names is = record {
   book = b;
-  held = held;
+  kept = kept;
   answers = sym answer;
   names = is ∙ ap (of_link link) names;
 }

@@ -1,7 +1,6 @@
 -- Receipts, held against the journals.
-use Rattle.std.specs.Prelude.{◌≡◌, ◌<◌, ℕ, List, Option, None, Some, Result, Ok, Err, slice_get}
-use Rattle.profile_limits.specs.Limits.{PAST_PLACES}
-use Rattle.turn_code.specs.Valid.{IsValid}
+use Rattle.std.specs.Prelude.{◌≡◌, ℕ, List, Option, None, Some, Result, Ok, Err, slice_get}
+use Rattle.link_machine.specs.Kept.{IsKept}
 use Rattle.link_machine.specs.Ledger.{Ledger, ask, event_at, next, rebased}
 use Rattle.link_machine.specs.Step.{Says}
 use Rattle.link_machine.specs.declared.event.Event.{Event}
@@ -11,7 +10,6 @@ use Rattle.link_machine.specs.declared.reply.Reply.TheVariants as reply
 use Rattle.turn_pool.specs.declared.receipt.PoolRefusal.{PoolRefusal}
 use Rattle.turn_pool.specs.declared.receipt.PoolRefusal.TheVariants.{NoLink, Closing, NoMemory, Refused}
 use Rattle.turn_pool.specs.declared.receipt.Receipt.{Receipt}
-use Rattle.turn_pool.specs.Serves.{CountsFinishes}
 
 -- the event at a place of a link's journal
 abbrev pub event_in : Option Ledger → ℕ → Option Event
@@ -31,31 +29,25 @@ pub record FailsAt (books : List Ledger) (receipts : List Receipt) (position : �
   pub there : slice_get receipts position ≡ Some receipt
   pub fails : StandsIn books receipt → ⊥
 
--- ---- what a client's call comes to; which book it met no contract can say, but that it is one that a pool can hold
-
--- what is known of each book of a pool: its set is valid, its finishes are those of its base and its journal, its places stay below that number
-pub record IsHeld (b : Ledger) : Type 0 where
-  pub valid : IsValid b.set
-  pub finishes : CountsFinishes b
-  pub places : next b < PAST_PLACES
+-- ---- what a client's call comes to; which book it met no contract can say, but that it is one that is kept as every book is
 
 -- a book takes the event and replies so; the receipt names the link, the place that the event gets in that book, and the event
 pub record IsTaken (link : ℕ) (e : Event) (says : Reply) (r : Receipt) : Type 0 where
   pub book : Ledger
-  pub held : IsHeld book
+  pub kept : IsKept book
   pub answers : (ask book e).answer ≡ Says says
   pub names : r ≡ record { link = link; place = next book; event = e }
 
 -- a book refuses the event for this reason
 pub record IsRefused (e : Event) (r : Refusal) : Type 0 where
   pub book : Ledger
-  pub held : IsHeld book
+  pub kept : IsKept book
   pub answers : (ask book e).answer ≡ Says (reply.Refused r)
 
 -- the place of the next event of a book whose state became its base
 pub record IsRebased (place : ℕ) : Type 0 where
   pub book : Ledger
-  pub held : IsHeld book
+  pub kept : IsKept book
   pub names : place ≡ next (rebased book)
 
 -- the refusals of the pool itself, before it asks a book

@@ -1,13 +1,13 @@
 //! A link's book with its share of the account.
 
 ghost use Rattle.std.specs.Prelude.{◌≡◌, ◌≤◌, ◌<◌, ◌+◌, ◌^◌, ◌++◌, ◌∷◌, [], List, Option, Some, None, IfOk, IfErr, OnOk, OnErr};
+ghost use Rattle.link_machine.specs.Kept.{IsKept};
 ghost use Rattle.link_machine.specs.Ledger.{ask, event_at, next, rebased, turn_out};
 ghost use Rattle.link_machine.specs.declared.event.Event.{Event as PlainEvent};
 ghost use Rattle.link_machine.specs.declared.event.Event.TheVariants.{Offer as Offered, Advance, TakeEnv};
 ghost use Rattle.link_machine.specs.declared.reply.Reply.TheVariants as reply;
 ghost use Rattle.actor_book.specs.Answered.{answer_by};
 ghost use Rattle.turn_pool.specs.Moves.{Begins, Skips, Finishes};
-ghost use Rattle.turn_pool.specs.Receipts.{IsHeld};
 
 use crate::receipt::Receipt;
 use actor_book::{Book, Emitted, Event, Refusal, Report};
@@ -61,13 +61,11 @@ impl<L: Ledger> Slot<L> {
         &self.book
     }
 
-    /// What is known of each book.
+    /// What holds of its book, as of every book.
     pub(crate) fn keeps(&self)
-        ensures { IsHeld self.now.book }
+        ensures { IsKept self.now.book }
     {
-        let _valid = self.book.set().draft();
-        let _finishes = self.book.finishes();
-        let _place = self.book.next();
+        self.book.keeps();
     }
 
     /// A signal of the environment comes to an actor, as by [`Book::offer`].

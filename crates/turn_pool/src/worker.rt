@@ -122,6 +122,7 @@ fn turn<R: Wait, L: Ledger, G: Gate>(
     link: usize,
 ) -> bool {
     match step(pool, seat, link) {
+        // (a turn that began has a name, since its actor is there)
         Some((Moved::Begun(Ok(job)), Some(name))) => {
             run_job(pool, gate, seat, name, job);
             true

@@ -1,9 +1,24 @@
-use Rattle.std.proofs.Common.{sym}
+use Rattle.std.proofs.Common.{sym, ◌∙◌}
 use Rattle.std.proofs.lemmas.Result.{IfOk-weaker}
 use Rattle.std.proofs.lemmas.Bool.{false≢true}
-use Rattle.book_rest.proofs.Owned.{still_own}
-use Rattle.book_play.proofs.Saids.{finish_book, finish_line}
+use Rattle.link_machine.specs.declared.event.Event.TheVariants.{Finish}
+use Rattle.link_machine.specs.declared.reply.Refusal.TheVariants.{Stranger}
+use Rattle.book_rest.proofs.Owned.{no_turn, stays, still_own}
+use Rattle.book_play.proofs.Saids.{finish_book, finish_line, stranger_line}
 use Rattle.book_play.proofs.calls.finish.Goals as goal
+
+pub returns-in_default-clause-book : goal.returns-in_default-clause-book
+returns-in_default-clause-book c =
+    sym (stays c.args.book.now (Finish c.args.actor.number) Stranger
+    ((c.out_law.ensures.stranger c.args.book.now c.args.actor.number c.keeps.ensures).0 (sym c.job.ensures ∙ no_turn c.job.result c.in_default.not-Some)))
+
+pub returns-in_default-clause-line : goal.returns-in_default-clause-line
+returns-in_default-clause-line c =
+    IfOk-weaker c.refused_line.result _ _
+    (λ v h.
+    stranger_line c.args.book.now c.args.actor Stranger v.items
+    ((c.out_law.ensures.stranger c.args.book.now c.args.actor.number c.keeps.ensures).0 (sym c.job.ensures ∙ no_turn c.job.result c.in_default.not-Some)) h)
+    c.refused_line.ensures
 
 pub unreachable-requires : goal.unreachable-requires
 unreachable-requires c =

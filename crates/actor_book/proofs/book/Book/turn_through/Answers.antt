@@ -1,9 +1,9 @@
-use Rattle.std.proofs.Common.{ap, sym, ◌∙◌, Option, subst, ◌+◌}
-use Rattle.turn_machine.specs.Turn.{Turn}
-use Rattle.link_machine.specs.Ledger.{Ledger, Asked, ask, turn_out}
+use Rattle.std.proofs.Common.{ap, sym, ◌∙◌, subst}
+use Rattle.link_machine.specs.Ledger.{Ledger, ask, turn_out}
 use Rattle.link_machine.specs.declared.event.Event.TheVariants.{Begin, Finish}
 use Rattle.actor_book.specs.Whole.{TookWithin}
 use Rattle.actor_book.proofs.Beginning.{has_begun}
+use Rattle.actor_book.proofs.Meant.{turns_by_text}
 use Rattle.actor_book.proofs.Turning.{some_of, has_turned}
 use Rattle.actor_book.proofs.book.Book.turn_through.Goals as goal
 
@@ -24,3 +24,9 @@ pub returns-clause-took : goal.returns-clause-took
 returns-clause-took c =
     has_turned c.state_law.ensures c.set_law.ensures c.args.self.now c.args.actor _ c.requires
     (subst (λ (b : Ledger). TookWithin (turn_out b c.args.actor) c.run_out.result.count) c.start.ensures.book c.run_out.ensures.within)
+
+pub returns-clause-by_text : goal.returns-clause-by_text
+returns-clause-by_text c =
+    turns_by_text c.text_law.ensures c.keeps_law.ensures c.set_law.ensures c.args.self.now c.args.actor _ _ c.keeps.ensures
+    (c.run_out.ensures.book ∙ ap (λ (b : Ledger). (ask b (Finish c.args.actor)).book) c.start.ensures.book)
+    (sym (c.run_out.ensures.answer ∙ ap (λ (b : Ledger). (ask b (Finish c.args.actor)).answer) c.start.ensures.book))

@@ -11,4 +11,4 @@ returns-in_err-open_link-clause-refused g c =
 
 pub returns-in-Ok-clause-place : goal.returns-in-Ok-clause-place
 returns-in-Ok-clause-place g c =
-    record { book = c.deref_mut-slot.result.now.book; held = c.keeps.ensures; names = c.in-Ok.ensures.place ∙ ap next c.in-Ok.ensures.book }
+    record { book = c.deref_mut-slot.result.now.book; kept = c.keeps.ensures; names = c.in-Ok.ensures.place ∙ ap next c.in-Ok.ensures.book }

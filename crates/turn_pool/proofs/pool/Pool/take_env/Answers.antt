@@ -14,4 +14,4 @@ returns-in-Ok-clause-taken g c =
     taken_by c.args.link _ TakeEnv _ c.deref_mut-slot.result.now.book c.in-Ok.receipt _ c.keeps.ensures c.in-Ok.ensures.answer c.in-Ok.ensures.receipt c.of_link.ensures
 
 pub returns-clause-refused : goal.returns-clause-refused
-returns-clause-refused g c = record { book = c.deref_mut-slot.result.now.book; held = c.keeps.ensures; answers = sym c.in-Err.ensures.answer }
+returns-clause-refused g c = record { book = c.deref_mut-slot.result.now.book; kept = c.keeps.ensures; answers = sym c.in-Err.ensures.answer }
