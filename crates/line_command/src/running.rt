@@ -6,7 +6,7 @@ ghost use Rattle.line_orders.specs.Reading.{left_of};
 ghost use Rattle.line_play.specs.Checked.{given, IsGiven};
 ghost use Rattle.line_play.specs.Opening.{IsNoSet};
 ghost use Rattle.line_streams.specs.Known.{known_of};
-ghost use Rattle.line_command.specs.Spoken.{AreOrdered, Spoke, SpokeOver};
+ghost use Rattle.line_command.specs.Spoken.{AreOrdered, Spoke, SpokeOver, Begun, BegunOver, IsUntouched};
 
 use crate::words::LineEnd;
 use line_filter::Orders;
@@ -58,6 +58,9 @@ fn serve<O: Orders, P: Write, R: Read, W: Write>(
     ensures spoke { result ≡ 0 → Spoke end.now.orders desk.old.terminal.terminal end.now.bits (min end.now.ahead MOST_AHEAD)
         (record { read = R.remaining reader.old; written = W.contents writer.old })
         (record { read = R.remaining reader.new; written = W.contents writer.new }) }
+    ensures begun { Begun end.now.orders desk.old.terminal.terminal end.now.bits (min end.now.ahead MOST_AHEAD)
+        (record { read = R.remaining reader.old; written = W.contents writer.old })
+        (record { read = R.remaining reader.new; written = W.contents writer.new }) }
     ensures status { (result ≡ 0) ⊎ (result ≡ 4) }
 {
     let ahead = end.ahead.min(MOST_AHEAD);
@@ -75,6 +78,11 @@ fn speak<H: Files<File = File> + Threads + Eprint + Clock + AllocGlobal, R: Read
     ensures spoke { result ≡ 0 → Spoke end.now.orders terminal end.now.bits (min end.now.ahead MOST_AHEAD)
         (record { read = R.remaining reader.old; written = W.contents writer.old })
         (record { read = R.remaining reader.new; written = W.contents writer.new }) }
+    ensures begun { IsUntouched (record { read = R.remaining reader.old; written = W.contents writer.old })
+        (record { read = R.remaining reader.new; written = W.contents writer.new })
+        ⊎ Begun end.now.orders terminal end.now.bits (min end.now.ahead MOST_AHEAD)
+        (record { read = R.remaining reader.old; written = W.contents writer.old })
+        (record { read = R.remaining reader.new; written = W.contents writer.new }) }
     ensures status { (result ≡ 0) ⊎ (result ≡ 4) }
 {
     let Ok(Streams { orders, reports }) = open_streams(host, end) else {
@@ -82,15 +90,19 @@ fn speak<H: Files<File = File> + Threads + Eprint + Clock + AllocGlobal, R: Read
     };
     let mut desk = link_desk(terminal, orders, reports);
     let status = serve(host.alloc(), end, &mut desk, reader, writer);
-    desk.reports.end(host);
-    status
+    let now = desk.millisecond();
+    match desk.reports.end(host, now) {
+        Ok(()) => status,
+        Err(_) => FAILED,
+    }
 }
 
 /// Puts one end of a link on a line: line octets come from a reader, and one goes to a writer for each, behind those that go ahead (of which
 /// 8,000 are the most). The text of its processes is read first, then its orders and reports are opened, and then its line.
 ///
 /// Gives the exit status: 0 at the end of what there is to read, or at the order `quit`; 2 where the text is refused or lacks a name that a
-/// terminal wants, which is told on standard error; 4 where memory, a file, a read or a write fails.
+/// terminal wants, which is told on standard error; 4 where memory, a file, a read or a write fails, of reports too. However it ends, what is
+/// written on the line is a beginning of what the terminal gives for octets that were read.
 pub fn run_line<
     H: Files<File = File> + Threads + Eprint + Clock + AllocGlobal,
     S: Read + Drop,
@@ -100,7 +112,14 @@ pub fn run_line<
     ensures spoke { result ≡ 0 → IsGiven (given S.remaining set) (SpokeOver end.now
         (record { read = R.remaining reader.old; written = W.contents writer.old })
         (record { read = R.remaining reader.new; written = W.contents writer.new })) }
+    ensures begun { IsUntouched (record { read = R.remaining reader.old; written = W.contents writer.old })
+        (record { read = R.remaining reader.new; written = W.contents writer.new })
+        ⊎ IsGiven (given S.remaining set) (BegunOver end.now
+        (record { read = R.remaining reader.old; written = W.contents writer.old })
+        (record { read = R.remaining reader.new; written = W.contents writer.new })) }
     ensures refused { result ≡ 2 → IsGiven (given S.remaining set) (IsNoSet None None) }
+    ensures untouched { result ≡ 2 → IsUntouched (record { read = R.remaining reader.old; written = W.contents writer.old })
+        (record { read = R.remaining reader.new; written = W.contents writer.new }) }
     ensures status { (result ≡ 0) ⊎ (result ≡ 2) ⊎ (result ≡ 4) }
 {
     match new_terminal(host.alloc(), end.mode, set, &mut Errors { rt: host }) {

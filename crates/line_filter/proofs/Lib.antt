@@ -2,3 +2,4 @@ mod Filling
 mod Telling
 mod Passing
 mod Saying
+mod Beginning

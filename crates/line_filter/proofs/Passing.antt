@@ -1,5 +1,5 @@
 -- Octets, part behind part.
-use Rattle.std.proofs.Common.{◌≡◌, ℕ, ◌+◌, ◌-◌, ◌<◌, ◌≤◌, Bool, true, false, List, [], ◌∷◌, ◌++◌, length, take, drop, map, Option, refl, sym, ap, ◌∙◌, subst, append_assoc, append-nil, length-append, get_or, set, zero, suc, arith}
+use Rattle.std.proofs.Common.{◌≡◌, ℕ, ◌+◌, ◌<◌, Bool, true, false, List, [], ◌∷◌, ◌++◌, length, take, drop, map, Option, refl, sym, ap, ◌∙◌, subst, append_assoc, append-nil, length-append, get_or, set, zero, suc, arith}
 use Rattle.std.specs.Prelude.{replicate}
 use Rattle.std.specs.Io.KnownBytes.{Appends, Consumes, IsAtEnd, Keeps}
 use Rattle.std.proofs.KnownBytes.{Appends-nil, Appends-trans, Consumes-nil, Consumes-trans, Consumes-kept}
@@ -170,7 +170,7 @@ served_kept acts bits ahead count s t goes_on next old new last so_far kept same
       tells = subst Q (sym same_told) so_far.tells;
     }
 
-none_left : (come dropped : List ℕ) → dropped ≡ [] → come ++ dropped ≡ come
+pub none_left : (come dropped : List ℕ) → dropped ≡ [] → come ++ dropped ≡ come
 none_left come dropped none = ap (λ l. come ++ l) none ∙ append-nil come
 
 -- a part more

@@ -1,5 +1,5 @@
 -- What goes out is what was said.
-use Rattle.std.proofs.Common.{◌≡◌, ℕ, ◌+◌, ◌<◌, ◌≤◌, Bool, true, List, [], ◌∷◌, ◌++◌, length, Option, None, Some, refl, sym, ap, ◌∙◌, subst, append_assoc, append-nil}
+use Rattle.std.proofs.Common.{◌≡◌, ℕ, ◌+◌, Bool, true, List, [], ◌∷◌, ◌++◌, length, Option, refl, sym, ap, ◌∙◌, subst, append_assoc, append-nil}
 use Rattle.std.specs.Prelude.{replicate}
 use Rattle.su_octets.specs.Bits.{low_bits, bits_of}
 use Rattle.bit_line.specs.Sending.{line_of}
@@ -7,9 +7,8 @@ use Rattle.bit_line.specs.Stuffers.{Gave}
 use Rattle.bit_line.specs.declared.stuffer.Stuffer.{Stuffer}
 use Rattle.line_filter.specs.Acts.{Act}
 use Rattle.line_filter.specs.Speaking.{Voice, IsSilent, Gives, fixed, fresh, silent}
-use Rattle.line_filter.specs.Runs.{State, Behind, between, eighth, Steps, Runs, begins, octet}
-use Rattle.line_filter.specs.Laws.{IsSaid, nothing, unit, silence, answer_of, answers_along, Speaks}
-use Rattle.line_filter.proofs.Filling.{bits_of_more}
+use Rattle.line_filter.specs.Runs.{State, Behind, between, eighth, Runs, begins, octet}
+use Rattle.line_filter.specs.Laws.{nothing, unit, silence, answer_of, answers_along, Speaks}
 
 bits_joined : (xs ys : List ℕ) → bits_of (xs ++ ys) ≡ bits_of xs ++ bits_of ys
 unfolding bits_of

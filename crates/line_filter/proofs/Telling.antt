@@ -1,12 +1,12 @@
 -- What is told, part behind part.
-use Rattle.std.proofs.Common.{◌≡◌, ℕ, ◌+◌, ◌/◌, ◌%◌, Bool, true, false, List, [], ◌∷◌, ◌++◌, length, Option, None, Some, refl, sym, ap, ◌∙◌, subst, append_assoc, append-nil}
+use Rattle.std.proofs.Common.{◌≡◌, ℕ, ◌+◌, ◌/◌, ◌%◌, Bool, true, false, List, [], ◌++◌, Option, None, Some, refl, sym, ◌∙◌, subst, append-nil}
 use Rattle.std.specs.Prelude.{codes, IsTrue}
 use Rattle.std.specs.Io.KnownBytes.{Appends}
 use Rattle.std.proofs.KnownBytes.{Appends-nil, Appends-trans}
 use Rattle.line_filter.specs.Acts.{Act, heard, passed, reported, obeyed}
-use Rattle.line_filter.specs.Speaking.{Voice, Gives}
+use Rattle.line_filter.specs.Speaking.{Gives}
 use Rattle.line_filter.specs.Orders.{Timed, NextIs, NoneIsDue, QUIT, told, answered, Tells, nothing, says, TellsAll, Obeys}
-use Rattle.line_filter.specs.Runs.{OCTETS, State, Exchanges, ObeysDue, no_order, one_order, Ends, ObeysAll, Minds, Behind, between, eighth, Steps}
+use Rattle.line_filter.specs.Runs.{OCTETS, State, Exchanges, ObeysDue, no_order, one_order, ObeysAll, Minds, Behind, between, eighth, Steps}
 use Rattle.line_filter.specs.declared.terminal.Answer.{Answer}
 use Rattle.line_filter.specs.Desks.{Told}
 

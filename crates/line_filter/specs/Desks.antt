@@ -1,7 +1,6 @@
 -- What the parts of a run do to a desk, and to what is told.
 use Rattle.std.specs.Prelude.{ℕ, List, Option}
 use Rattle.std.specs.Io.KnownBytes.{Appends}
-use Rattle.line_filter.specs.Acts.{Act}
 use Rattle.line_filter.specs.Orders.{Timed}
 use Rattle.line_filter.specs.Runs.{State}
 use Rattle.line_filter.specs.declared.desk.Desk.{Desk}

@@ -58,3 +58,33 @@ pub record IsOver {T : Type 0} (acts : T → Act → T → Type 0) (bits : Bits)
   pub goes_on : Bool
   pub served : Served acts bits ahead count s goes_on next t old new
   pub end_met : goes_on ≡ true → IsAtEnd new.read
+
+-- a beginning of these bytes is written, or all of them
+pub record WritesPart (old new : Option (List ℕ)) (bytes : List ℕ) : Type 0 where
+  pub part : List ℕ
+  pub rest : List ℕ
+  pub parts : bytes ≡ part ++ rest
+  pub appends : Appends old new part
+
+-- of bytes that were read the first went each way, and what goes out for them behind octets of silence is written, or a beginning of that
+pub record ServesPart {T : Type 0} (acts : T → Act → T → Type 0) (bits : Bits) (ahead count : ℕ) (s : State T) (read : List ℕ) (old new : Option (List ℕ)) : Type 0 where
+  pub come : List ℕ
+  pub not_come : List ℕ
+  pub all : map (turned bits) read ≡ come ++ not_come
+  pub out : List ℕ
+  pub bytes : List ℕ
+  pub goes_on : Bool
+  pub last : State T
+  pub runs : Runs acts count s come out bytes goes_on last
+  pub writes : WritesPart old new (replicate ahead SILENCE ++ map (turned bits) out)
+
+-- what is left to read on the line, and what was written there
+pub record Line : Type 0 where
+  pub read : Option (List ℕ)
+  pub written : Option (List ℕ)
+
+-- A run is begun: what is written is a beginning of what a run writes for octets that were read. However it ends, also where something fails.
+pub record IsBegun {T : Type 0} (acts : T → Act → T → Type 0) (bits : Bits) (ahead count : ℕ) (s : State T) (old new : Line) : Type 0 where
+  pub read : List ℕ
+  pub consumes : Consumes old.read new.read read
+  pub serves : ServesPart acts bits ahead count s read old.written new.written

@@ -1,5 +1,5 @@
 -- The octets that go out: the stuffing of the units that a terminal gives, and 1s where it gives none.
-use Rattle.std.specs.Prelude.{◌≡◌, ℕ, ◌<◌, ◌≤◌, Bool, true, List, [], ◌∷◌, ◌++◌, replicate, Option, None, Some}
+use Rattle.std.specs.Prelude.{◌≡◌, ℕ, ◌<◌, ◌≤◌, true, List, [], ◌∷◌, ◌++◌, replicate, None, Some}
 use Rattle.su_octets.specs.Bits.{bits_of}
 use Rattle.su_octets.specs.Frame.{Frame, SpareBitsAreZero}
 use Rattle.su_octets.specs.declared.units.Unit as units

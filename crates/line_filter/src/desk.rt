@@ -100,6 +100,15 @@ fn is_quit(order: &str) -> bool
     order == "quit"
 }
 
+impl<T, O, P> Desk<T, O, P> {
+    /// The millisecond of its line.
+    pub fn millisecond(&self) -> u64
+        ensures { result ≡ self.now.count / OCTETS }
+    {
+        self.count / OCTETS
+    }
+}
+
 impl<T: LineTerminal, O: Orders, P: Write> Desk<T, O, P> {
     /// One octet goes out, and one comes in.
     fn exchange(&mut self, alloc: Global, octet: u8) -> io::Result<u8>

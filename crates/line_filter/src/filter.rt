@@ -2,11 +2,12 @@
 ghost use Rattle.std.specs.Prelude.{◌≡◌, ◌≤◌, ℕ, ◌++◌, List, map, replicate, OnOk, IfOk};
 ghost use Rattle.std.specs.Io.KnownBytes.{Appends};
 ghost use Rattle.line_filter.specs.Desks.{state_of, Told};
-ghost use Rattle.line_filter.specs.Filters.{turned, SILENCE, MOST_AHEAD, Goes, Serves, IsOver};
+ghost use Rattle.line_filter.specs.Filters.{turned, SILENCE, MOST_AHEAD, Goes, Serves, IsOver, WritesPart, ServesPart, IsBegun};
 
 use crate::desk::Desk;
 use crate::orders::Orders;
 use crate::terminal::LineTerminal;
+use crate::writing::write_part;
 use std::alloc::Global;
 use std::io::{self, ErrorKind, Read, Write};
 
@@ -74,15 +75,16 @@ impl<T: LineTerminal, O: Orders, P: Write> Desk<T, O, P> {
         out: &mut Vec<u8>,
         writer: &mut W,
     ) -> io::Result<bool>
-        ensures { IfOk result (λ goes_on. (written : List ℕ) × Appends (W.contents writer.old) (W.contents writer.new) written
+        ensures all { IfOk result (λ goes_on. (written : List ℕ) × Appends (W.contents writer.old) (W.contents writer.new) written
             × Told (λ bytes. Serves T.acts bits self.old.count (state_of O.left self.old) part.old written bytes goes_on self.new.count
             (state_of O.left self.new)) (P.contents self.old.reports) (P.contents self.new.reports)) }
+        ensures part { ServesPart T.acts bits 0 self.old.count (state_of O.left self.old) part.old (W.contents writer.old) (W.contents writer.new) }
     {
         bits.turn_all(part);
         out.clear();
         let goes_on = self.pass(alloc, part, out)?;
         bits.turn_all(out.as_mut_slice());
-        writer.write_all(out.as_slice())?;
+        write_part(writer, out.as_slice())?;
         Ok(goes_on)
     }
 }
@@ -90,10 +92,11 @@ impl<T: LineTerminal, O: Orders, P: Write> Desk<T, O, P> {
 /// Writes so many octets of silence.
 fn write_ahead<W: Write>(writer: &mut W, ahead: usize) -> io::Result<()>
     requires { ahead ≤ MOST_AHEAD }
-    ensures { OnOk result (Appends (W.contents writer.old) (W.contents writer.new) (replicate ahead SILENCE)) }
+    ensures all { OnOk result (Appends (W.contents writer.old) (W.contents writer.new) (replicate ahead SILENCE)) }
+    ensures part { WritesPart (W.contents writer.old) (W.contents writer.new) (replicate ahead SILENCE) }
 {
     let silence = [SILENCE; MOST_AHEAD];
-    writer.write_all(&silence[..ahead])
+    write_part(writer, &silence[..ahead])
 }
 
 /// Has a terminal speak on a line: writes so many octets of silence, and then one octet for each that it reads, up to the end of what
@@ -101,7 +104,7 @@ fn write_ahead<W: Write>(writer: &mut W, ahead: usize) -> io::Result<()>
 ///
 /// # Errors
 ///
-/// Where a read, a write or the terminal fails.
+/// Where a read, a write or the terminal fails. What is written then is a beginning of that, for octets that were read.
 pub fn run_line<T: LineTerminal, O: Orders, P: Write, R: Read, W: Write>(
     alloc: Global,
     desk: &mut Desk<T, O, P>,
@@ -111,9 +114,12 @@ pub fn run_line<T: LineTerminal, O: Orders, P: Write, R: Read, W: Write>(
     writer: &mut W,
 ) -> io::Result<()>
     requires { ahead ≤ MOST_AHEAD }
-    ensures { OnOk result (IsOver T.acts bits ahead desk.old.count (state_of O.left desk.old) desk.new.count (state_of O.left desk.new)
+    ensures over { OnOk result (IsOver T.acts bits ahead desk.old.count (state_of O.left desk.old) desk.new.count (state_of O.left desk.new)
         (record { read = R.remaining reader.old; written = W.contents writer.old; told = P.contents desk.old.reports })
         (record { read = R.remaining reader.new; written = W.contents writer.new; told = P.contents desk.new.reports })) }
+    ensures begun { IsBegun T.acts bits ahead desk.old.count (state_of O.left desk.old)
+        (record { read = R.remaining reader.old; written = W.contents writer.old })
+        (record { read = R.remaining reader.new; written = W.contents writer.new }) }
 {
     write_ahead(writer, ahead)?;
     let mut part = [0; PART];

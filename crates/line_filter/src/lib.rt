@@ -9,6 +9,7 @@ mod laws;
 mod orders;
 mod terminal;
 mod voice;
+mod writing;
 
 pub use desk::Desk;
 pub use filter::{Bits, MOST_AHEAD, run_line};

@@ -1,7 +1,7 @@
 //! A terminal on a line, from its first octet to its last.
 ghost use Rattle.std.specs.Prelude.{◌≡◌, ◌≤◌, ◌⊎◌};
 ghost use Rattle.line_filter.specs.Desks.{state_of};
-ghost use Rattle.line_filter.specs.Filters.{MOST_AHEAD, IsOver};
+ghost use Rattle.line_filter.specs.Filters.{MOST_AHEAD, IsOver, IsBegun};
 ghost use Rattle.line_play.specs.Lines.{IsNewDesk, end_acts};
 
 use crate::link_end::LinkEnd;
@@ -25,7 +25,8 @@ pub fn link_desk<O, P>(terminal: Terminal, orders: O, reports: P) -> Desk<LinkEn
 }
 
 /// Runs a terminal on its line, to the end of what there is to read or to an order that ends the run: so many octets of 1s go out first,
-/// at most [`line_filter::MOST_AHEAD`]. Gives the exit status: 0, or 4 where memory, a read or a write fails.
+/// at most [`line_filter::MOST_AHEAD`]. Gives the exit status: 0, or 4 where memory, a read or a write fails. What is written then is a
+/// beginning of what goes out for octets that were read.
 pub fn run_link<O: Orders, P: Write, R: Read, W: Write>(
     alloc: Global,
     desk: &mut Desk<LinkEnd, O, P>,
@@ -38,6 +39,9 @@ pub fn run_link<O: Orders, P: Write, R: Read, W: Write>(
     ensures over { result ≡ 0 → IsOver end_acts bits ahead desk.old.count (state_of O.left desk.old) desk.new.count (state_of O.left desk.new)
         (record { read = R.remaining reader.old; written = W.contents writer.old; told = P.contents desk.old.reports })
         (record { read = R.remaining reader.new; written = W.contents writer.new; told = P.contents desk.new.reports }) }
+    ensures begun { IsBegun end_acts bits ahead desk.old.count (state_of O.left desk.old)
+        (record { read = R.remaining reader.old; written = W.contents writer.old })
+        (record { read = R.remaining reader.new; written = W.contents writer.new }) }
     ensures status { (result ≡ 0) ⊎ (result ≡ 4) }
 {
     match run_line(alloc, desk, bits, ahead, reader, writer) {

@@ -1,5 +1,6 @@
 -- Where orders come from, and where reports go.
 use Rattle.std.specs.Prelude.{◌≡◌, ⊤, ℕ, List, [], Option, None, Some}
+use Rattle.line_streams.specs.Departing.{TellsLost}
 use Rattle.line_streams.specs.declared.opening.OrderStream.{OrderStream}
 use Rattle.line_streams.specs.declared.opening.OrderStream.TheVariants.{Nothing, File as from_file, Fifo as from_fifo}
 use Rattle.line_streams.specs.declared.opening.ReportStream.{ReportStream}
@@ -24,3 +25,11 @@ GoTo None errors stream = stream ≡ Errors errors
 GoTo (Some path) errors (Errors others) = ⊥
 GoTo (Some path) errors (to_file file) = ⊤
 GoTo (Some path) errors (to_fifo departures) = ⊤
+
+-- Reports are at their end: where nothing may wait for their other side it is told how many are lost, and else there is nothing to do.
+abbrev pub EndsTold : {E : Type 0} → ℕ → ReportStream E → ReportStream E → Type 0
+EndsTold now (Errors errors) new = new ≡ Errors errors
+EndsTold now (to_file file) new = new ≡ to_file file
+EndsTold now (to_fifo old) (Errors errors) = ⊥
+EndsTold now (to_fifo old) (to_file file) = ⊥
+EndsTold now (to_fifo old) (to_fifo new) = TellsLost now old.outlet new.outlet

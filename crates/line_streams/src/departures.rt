@@ -1,6 +1,7 @@
 //! Lines that a thread has go on.
 ghost use Rattle.std.specs.Prelude.{◌≡◌, OnOk};
-ghost use Rattle.line_streams.specs.Departing.{TellsOn};
+ghost use Rattle.rtrb.specs.Ring.{sent};
+ghost use Rattle.line_streams.specs.Departing.{TellsOn, TellsLost};
 
 use crate::outlet::Outlet;
 use rtrb::{Consumer, RingBuffer};
@@ -12,6 +13,10 @@ use std::sync::Arc;
 use std::sync::atomic::{AtomicU64, Ordering};
 use std::thread;
 use std::thread::Threads;
+use std::time::{Clock, Duration};
+
+/// How often, a millisecond apart, it is asked at the end whether all went on.
+const MOST_WAITS: u32 = 1_000;
 
 /// How many octets may wait to go on.
 const ROOM: usize = 65_536;
@@ -96,12 +101,52 @@ impl Departures {
     pub fn are_gone(&self) -> bool {
         self.gone.load(Ordering::SeqCst) == self.put
     }
+
+    /// Whether the thread has ended, which it does where a write of its own failed.
+    fn has_failed(&mut self) -> bool
+        ensures sent { sent self.new.outlet.ring ≡ sent self.old.outlet.ring }
+        ensures lost { self.new.outlet.lost ≡ self.old.outlet.lost }
+    {
+        self.outlet.ring.is_abandoned()
+    }
+
+    /// Has it told, with this millisecond, how many lines were lost behind the last that went on, if some were and there is room.
+    fn tell_lost(&mut self, now: u64) -> io::Result<()>
+        ensures { OnOk result (TellsLost now self.old.outlet self.new.outlet) }
+    {
+        let count = self.outlet.put_lost(self.alloc, now)?;
+        self.put = self.put.wrapping_add(count as u64);
+        self.wake()?;
+        Ok(())
+    }
+
+    /// Waits at the end until all has gone on, a second at most. As soon as there is room it is told, with this millisecond, how many
+    /// lines were lost behind the last that went on.
+    ///
+    /// # Errors
+    ///
+    /// Where there is no memory, a write of the thread's failed, or it can't be waked.
+    pub fn end<R: Clock>(&mut self, rt: &R, now: u64) -> io::Result<()>
+        ensures { OnOk result (TellsLost now self.old.outlet self.new.outlet) }
+    {
+        self.tell_lost(now)?;
+        for _wait in 0..MOST_WAITS {
+            if self.are_gone() && self.outlet.lost == 0 {
+                return Ok(());
+            }
+            if self.has_failed() {
+                return Err(io::Error::from(ErrorKind::BrokenPipe));
+            }
+            thread::sleep(rt, Duration::from_millis(1));
+            self.tell_lost(now)?;
+        }
+        Ok(())
+    }
 }
 
 impl Write for Departures {
     fn write(&mut self, line: &[u8]) -> io::Result<usize> {
-        // (the thread ends where a write of its own failed)
-        if self.outlet.ring.is_abandoned() {
+        if self.has_failed() {
             return Err(io::Error::from(ErrorKind::BrokenPipe));
         }
         self.tell(line)?;

@@ -1,6 +1,6 @@
 //! What is opened for orders and for reports.
-ghost use Rattle.std.specs.Prelude.{IfOk};
-ghost use Rattle.line_streams.specs.Known.{known_of, ComeFrom, GoTo};
+ghost use Rattle.std.specs.Prelude.{IfOk, OnOk};
+ghost use Rattle.line_streams.specs.Known.{known_of, ComeFrom, GoTo, EndsTold};
 
 use crate::arrivals::Arrivals;
 use crate::departures::Departures;
@@ -9,11 +9,8 @@ use std::fs::{self, File, OpenOptions};
 use std::io::{self, ErrorKind, Read, Write};
 use std::rt::Files;
 use std::str;
-use std::thread::{self, Threads};
-use std::time::{Clock, Duration};
-
-/// How often, a millisecond apart, it is asked at the end whether all reports went on.
-const MOST_WAITS: u32 = 1_000;
+use std::thread::Threads;
+use std::time::Clock;
 
 /// Where orders come from.
 #[derive(Drop)]
@@ -116,16 +113,18 @@ impl<E: Write> Write for ReportStream<E> {
 }
 
 impl<E> ReportStream<E> {
-    /// Waits at the end for reports that are still to go on, a second at most.
-    pub fn end<R: Clock>(&self, rt: &R) {
-        let ReportStream::Fifo(departures) = self else {
-            return;
-        };
-        for _wait in 0..MOST_WAITS {
-            if departures.are_gone() {
-                return;
-            }
-            thread::sleep(rt, Duration::from_millis(1));
+    /// Waits at the end for reports that are still to go on, a second at most, and has it told with this millisecond how many were lost behind
+    /// the last that went on, once there is room for that.
+    ///
+    /// # Errors
+    ///
+    /// Where there is no memory, or a write of them failed.
+    pub fn end<R: Clock>(&mut self, rt: &R, now: u64) -> io::Result<()>
+        ensures { OnOk result (EndsTold now self.old self.new) }
+    {
+        match self {
+            ReportStream::Errors(_) | ReportStream::File(_) => Ok(()),
+            ReportStream::Fifo(departures) => departures.end(rt, now),
         }
     }
 }

@@ -1,7 +1,7 @@
 //! Lines that go on as far as there is room.
 ghost use Rattle.std.specs.Prelude.{◌≡◌, ◌<◌, ◌++◌, ◌+◌, length, true, false, OnOk, IfOk, IfSome};
 ghost use Rattle.rtrb.specs.Ring.{sent, known_free};
-ghost use Rattle.line_streams.specs.Departing.{Begins, IsLossTold, IsToGo, TellsOn};
+ghost use Rattle.line_streams.specs.Departing.{Begins, IsLossTold, IsToGo, TellsOn, TellsLost};
 
 use rtrb::Producer;
 use std::alloc::Global;
@@ -82,6 +82,29 @@ impl Outlet {
             Ok(text.len())
         } else {
             self.lost = more;
+            Ok(0)
+        }
+    }
+
+    /// Has a line go on that tells, with this millisecond, how many lines were lost behind the last that went on: if some were, and there is
+    /// room. How many octets go on.
+    ///
+    /// # Errors
+    ///
+    /// Where there is no memory.
+    pub fn put_lost(&mut self, alloc: Global, now: u64) -> io::Result<usize>
+        ensures told { OnOk result (TellsLost now self.old self.new) }
+        ensures count { IfOk result (λ n. length (sent self.new.ring) ≡ length (sent self.old.ring) + n) }
+    {
+        if self.lost == 0 {
+            return Ok(0);
+        }
+        let lost = self.lost;
+        let text = format!(in alloc; "{now} lost {lost}\n")?;
+        if self.send(text.as_bytes()) {
+            self.lost = 0;
+            Ok(text.len())
+        } else {
             Ok(0)
         }
     }

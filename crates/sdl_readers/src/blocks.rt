@@ -1,5 +1,5 @@
 //! Processes, and the block that holds them.
-ghost use Rattle.std.specs.Prelude.{◌≡◌, ℕ, map};
+ghost use Rattle.std.specs.Prelude.{◌≡◌, ℕ, map, Some};
 ghost use Rattle.sdl_lex.specs.declared.lexemes.Symbol.TheVariants as symbols;
 ghost use Rattle.sdl_tokens.specs.Readings.{token, optional};
 ghost use Rattle.sdl_ast.specs.Plain.{PlainEntity, process, process_head};
@@ -117,7 +117,8 @@ fn read_process_head<'a>(tokens: &'a [Token]) -> Result<(ProcessHead, &'a [Token
 /// What stands before the START of a process.
 #[derive(Drop)]
 struct ProcessFront {
-    head: ProcessHead,
+    name: Identifier,
+    instances: u32,
     declarations: Vec<Declaration>,
 }
 
@@ -128,14 +129,18 @@ fn body_of(
     states: Marked<Vec<StatePart>>,
     connections: Marked<Vec<Connection>>,
 ) -> Marked<Entity>
-    ensures { marked_view entity_of result ≡ map_marked (λ p. process p) (body_marked (head_of front.head) (map declaration_of front.declarations.items) (start_of start) (marked_view (λ v. map state_of v.items) states) (marked_view (λ v. map connection_of v.items) connections)) }
+    ensures { marked_view entity_of result ≡ map_marked (λ p. process p) (body_marked (process_head front.name (Some front.instances)) (map declaration_of front.declarations.items) (start_of start) (marked_view (λ v. map state_of v.items) states) (marked_view (λ v. map connection_of v.items) connections)) }
 {
-    let ProcessFront { head, declarations } = front;
+    let ProcessFront {
+        name,
+        instances,
+        declarations,
+    } = front;
     match (states, connections) {
         (Marked::Kept(states), Marked::Kept(connections)) => {
             Marked::Kept(Entity::Process(Process {
-                name: head.name,
-                instances: head.instances,
+                name,
+                instances,
                 declarations,
                 start,
                 states,
@@ -155,7 +160,7 @@ fn process_of(
     states: Marked<Vec<StatePart>>,
     connections: Marked<Vec<Connection>>,
 ) -> Marked<Entity>
-    ensures { marked_view entity_of result ≡ map_marked (λ p. process p) (process_marked (head_of front.head) (map declaration_of front.declarations.items) (marked_view start_of start) (marked_view (λ v. map state_of v.items) states) (marked_view (λ v. map connection_of v.items) connections)) }
+    ensures { marked_view entity_of result ≡ map_marked (λ p. process p) (process_marked (process_head front.name (Some front.instances)) (map declaration_of front.declarations.items) (marked_view start_of start) (marked_view (λ v. map state_of v.items) states) (marked_view (λ v. map connection_of v.items) connections)) }
 {
     match start {
         Marked::Kept(start) => body_of(front, start, states, connections),
@@ -171,19 +176,23 @@ fn read_process<'a>(
 ) -> Result<(Marked<Entity>, &'a [Token]), Stop<'a>>
     ensures { Mirrors (marked_view entity_of) result (marked_process tokens.now) }
 {
-    let (head, rest) = attempt!(read_process_head(tokens));
+    let (ProcessHead { name, instances }, rest) = attempt!(read_process_head(tokens));
     let (declarations, rest) = attempt!(read_many::<Declaration>(alloc, rest));
     let (start, rest) = attempt!(read_start(alloc, rest));
     let (sections, rest) = attempt!(read_many::<Section>(alloc, rest));
     let (_, rest) = attempt!(take(rest, Word::EndProcess));
-    let (_, rest) = attempt!(read_closing(rest, head.name.name));
+    let (_, rest) = attempt!(read_closing(rest, name.name));
     let Sections {
         states,
         connections,
     } = attempt!(parted(alloc, sections));
     let states = attempt!(gathered(alloc, states));
     let connections = attempt!(gathered(alloc, connections));
-    let front = ProcessFront { head, declarations };
+    let front = ProcessFront {
+        name,
+        instances,
+        declarations,
+    };
     Ok((process_of(front, start, states, connections), rest))
 }
 
