@@ -1,11 +1,11 @@
 -- A run, one command more.
-use Rattle.std.proofs.Common.{◌≡◌, ℕ, ◌+◌, ◌<◌, List, [], ◌∷◌, ◌++◌, length, map, take, drop, get_or, append_assoc, Option, None, Some, refl, sym, ap, subst, ◌∙◌}
+use Rattle.std.proofs.Common.{◌≡◌, ℕ, ◌+◌, ◌<◌, List, [], ◌∷◌, ◌++◌, length, map, take, drop, get_or, append_assoc, Option, Some, refl, sym, ap, subst, ◌∙◌}
 use Rattle.std.specs.List.{flat_map}
 use Rattle.std.specs.Io.KnownBytes.{Appends}
 use Rattle.std.proofs.KnownBytes.{Appends-trans}
 use Rattle.std.proofs.lemmas.List.{flat_map_more, take_more, map-append, take-append-drop, drop_more}
 use Rattle.script_lines.specs.declared.script.Said.{Said}
-use Rattle.script_lines.specs.Commands.{PlainCommand, offer, flood, call, tick, env, rest, value, expect, plain_command}
+use Rattle.script_lines.specs.Commands.{expect, plain_command}
 use Rattle.script_lines.specs.Scripts.{PlainSaid, plain_said}
 use Rattle.script_lines.specs.declared.commands.Command.{Command}
 use Rattle.script_lines.specs.declared.commands.Command.TheVariants as code

@@ -1,12 +1,12 @@
 -- What a run of a script has printed, and what it made of its book.
-use Rattle.std.specs.Prelude.{◌≡◌, ℕ, Bool, true, false, List, [], ◌∷◌, ◌++◌, Option, None, Some, option_map, codes}
+use Rattle.std.specs.Prelude.{◌≡◌, ℕ, List, [], ◌∷◌, ◌++◌, Option, None, Some, option_map, codes}
 use Rattle.std.specs.Fmt.{decimal}
 use Rattle.std.specs.List.{flat_map}
 use Rattle.std.specs.Io.KnownBytes.{Appends}
 use Rattle.turn_code.specs.declared.draft.Draft.{Draft}
 use Rattle.link_machine.specs.Ledger.{Ledger}
 use Rattle.link_machine.specs.Kept.{opened_book}
-use Rattle.script_lines.specs.Commands.{PlainCommand, expect}
+use Rattle.script_lines.specs.Commands.{expect}
 use Rattle.script_lines.specs.Scripts.{PlainSaid}
 use Rattle.script_lines.specs.declared.settings.Settings.{Settings}
 use Rattle.text_check.specs.Printed.{line_of}

@@ -2,9 +2,10 @@
 //! signal units.
 #![tactic(auto)]
 
-ghost use Rattle.std.specs.Prelude.{◌≡◌, ◌⊎◌};
-ghost use Rattle.text_check.specs.Checked.{IsGiven, PrintsCosts, PrintsRefusal};
-ghost use Rattle.mtp2_play.specs.Words.{own_text_of};
+ghost use Rattle.std.specs.Prelude.{◌≡◌, ◌⊎◌, None};
+ghost use Rattle.text_check.specs.Checked.{given, IsGiven, PrintsCosts, PrintsRefusal};
+ghost use Rattle.script_play.specs.Played.{IsOnSet, IsPlayed, IsPlayedInPart, IsRefused};
+ghost use Rattle.mtp2_play.specs.Printed.{IsAnswered, IsChecked, IsPlayedOn, IsServed};
 
 mod lines;
 mod words;
@@ -27,26 +28,27 @@ use text_check::{FAILED, HELD, SetWord, USAGE, check};
 use unit_frame::frame;
 pub use words::{Named, Request, Source};
 
-/// Runs one command, and gives the exit status.
+/// Runs one command, and gives the exit status. What it prints goes to the writer, but for `line`, which has the host's streams.
 fn run<
     R: Runtime + AllocGlobal + Threads + Wait + Sync,
     H: Files<File = File> + Threads + Eprint + Print + Input + Clock + AllocGlobal,
->(rt: &R, host: &H, request: &Request<'_>) -> u8
-    ensures { (result ≡ 0) ⊎ (result ≡ 1) ⊎ (result ≡ 2) ⊎ (result ≡ 4) }
+    W: Write,
+>(rt: &R, host: &H, request: &Request<'_>, writer: &mut W) -> u8
+    ensures printed { IsAnswered request.now result (W.contents writer.old) (W.contents writer.new) }
+    ensures status { (result ≡ 0) ⊎ (result ≡ 1) ⊎ (result ≡ 2) ⊎ (result ≡ 4) }
 {
     match request {
-        Request::Check { set } => run_check(rt, *set),
-        Request::Play { set, script } => run_play(rt, *set, *script),
-        Request::Soak { script, workers } => run_soak(rt, *script, *workers),
+        Request::Check { set } => run_check(rt, *set, writer),
+        Request::Play { set, script } => run_play(rt, *set, *script, writer),
+        Request::Soak { script, workers } => run_soak(rt, *script, *workers, writer),
         Request::Line { set, end } => run_line(host, set, end),
-        Request::Frame { octets } => frame(rt.alloc(), octets, &mut io::writer(rt)),
+        Request::Frame { octets } => frame(rt.alloc(), octets, writer),
     }
 }
 
 /// Runs `check` on a set of the program's own.
 fn check_own<W: Write>(alloc: Global, set: &Named<'_>, writer: &mut W) -> u8
-    ensures costs { result ≡ 0 → IsGiven (own_text_of set.now) (PrintsCosts (W.contents writer.old) (W.contents writer.new)) }
-    ensures refusal { result ≡ 2 → IsGiven (own_text_of set.now) (PrintsRefusal (W.contents writer.old) (W.contents writer.new)) }
+    ensures printed { IsChecked set.now result (W.contents writer.old) (W.contents writer.new) }
     ensures status { (result ≡ 0) ⊎ (result ≡ 2) ⊎ (result ≡ 4) }
 {
     match words::own_set(set) {
@@ -55,92 +57,149 @@ fn check_own<W: Write>(alloc: Global, set: &Named<'_>, writer: &mut W) -> u8
     }
 }
 
-/// Runs `check` on the text of a file.
-fn check_file<R: Runtime + AllocGlobal>(rt: &R, path: &str) -> u8
-    ensures { (result ≡ 0) ⊎ (result ≡ 2) ⊎ (result ≡ 4) }
+/// Runs `check` on a text that comes from a reader.
+#[tactic(auto, using(crate::proofs::Known::costs, crate::proofs::Known::refusal))]
+fn check_text<S: Read + Drop, W: Write>(alloc: Global, text: S, writer: &mut W) -> u8
+    ensures costs { result ≡ 0 → IsGiven None (PrintsCosts (W.contents writer.old) (W.contents writer.new)) }
+    ensures refusal { result ≡ 2 → IsGiven None (PrintsRefusal (W.contents writer.old) (W.contents writer.new)) }
+    ensures status { (result ≡ 0) ⊎ (result ≡ 2) ⊎ (result ≡ 4) }
 {
-    match fs::open(rt, path) {
-        Ok(file) => check(rt.alloc(), SetWord::Text(file), &mut io::writer(rt)),
-        Err(_) => FAILED,
-    }
+    check(alloc, SetWord::Text(text), writer)
 }
 
 /// Runs `check` on the set that the command line names.
-fn run_check<R: Runtime + AllocGlobal>(rt: &R, set: Named<'_>) -> u8
-    ensures { (result ≡ 0) ⊎ (result ≡ 2) ⊎ (result ≡ 4) }
+fn run_check<R: Runtime + AllocGlobal, W: Write>(rt: &R, set: Named<'_>, writer: &mut W) -> u8
+    ensures printed { IsChecked set.entry result (W.contents writer.old) (W.contents writer.new) }
+    ensures status { (result ≡ 0) ⊎ (result ≡ 2) ⊎ (result ≡ 4) }
 {
     match set {
-        Named::Standard | Named::Monitors => check_own(rt.alloc(), &set, &mut io::writer(rt)),
-        Named::Stdin => check(rt.alloc(), SetWord::Text(rt.reader()), &mut io::writer(rt)),
-        Named::File(path) => check_file(rt, path),
+        Named::Standard | Named::Monitors => check_own(rt.alloc(), &set, writer),
+        Named::Stdin => check_text(rt.alloc(), rt.reader(), writer),
+        Named::File(path) => match fs::open(rt, path) {
+            Ok(file) => check_text(rt.alloc(), file, writer),
+            Err(_) => FAILED,
+        },
     }
 }
 
-/// Runs a script on a set.
-fn play_on<R: Runtime + AllocGlobal, S: Read + Drop, T: Read + Drop>(
-    rt: &R,
+/// Runs a script that comes from a reader on a set.
+#[tactic(auto, using(crate::proofs::Known::played, crate::proofs::Known::in_part, crate::proofs::Known::not_run))]
+fn play_on<S: Read + Drop, T: Read + Drop, W: Write>(
+    alloc: Global,
     set: SetWord<S>,
     script: T,
+    writer: &mut W,
 ) -> u8
-    ensures { (result ≡ 0) ⊎ (result ≡ 1) ⊎ (result ≡ 2) ⊎ (result ≡ 4) }
+    ensures held { result ≡ 0 → IsOnSet (given S.remaining set) None (IsPlayed (W.contents writer.old) (W.contents writer.new)) }
+    ensures missed { result ≡ 1 → IsOnSet (given S.remaining set) None (IsPlayedInPart (W.contents writer.old) (W.contents writer.new)) }
+    ensures refused { result ≡ 2 → IsRefused (given S.remaining set) None (W.contents writer.old) (W.contents writer.new) }
+    ensures status { (result ≡ 0) ⊎ (result ≡ 1) ⊎ (result ≡ 2) ⊎ (result ≡ 4) }
 {
-    play(rt.alloc(), set, script, &mut io::writer(rt))
+    play(alloc, set, script, writer)
 }
 
 /// Runs a script of a file, or of standard input, on a set.
-fn play_source<R: Runtime + AllocGlobal, S: Read + Drop>(
+fn play_source<R: Runtime + AllocGlobal, S: Read + Drop, W: Write>(
     rt: &R,
     set: SetWord<S>,
     script: Source<'_>,
+    writer: &mut W,
 ) -> u8
-    ensures { (result ≡ 0) ⊎ (result ≡ 1) ⊎ (result ≡ 2) ⊎ (result ≡ 4) }
+    ensures held { result ≡ 0 → IsOnSet (given S.remaining set) None (IsPlayed (W.contents writer.old) (W.contents writer.new)) }
+    ensures missed { result ≡ 1 → IsOnSet (given S.remaining set) None (IsPlayedInPart (W.contents writer.old) (W.contents writer.new)) }
+    ensures refused { result ≡ 2 → IsRefused (given S.remaining set) None (W.contents writer.old) (W.contents writer.new) }
+    ensures status { (result ≡ 0) ⊎ (result ≡ 1) ⊎ (result ≡ 2) ⊎ (result ≡ 4) }
 {
     match script {
-        Source::Stdin => play_on(rt, set, rt.reader()),
+        Source::Stdin => play_on(rt.alloc(), set, rt.reader(), writer),
         Source::File(path) => match fs::open(rt, path) {
-            Ok(file) => play_on(rt, set, file),
+            Ok(file) => play_on(rt.alloc(), set, file, writer),
             Err(_) => FAILED,
         },
     }
 }
 
 /// Runs a script on a set of the program's own.
-fn play_own<R: Runtime + AllocGlobal>(rt: &R, set: Named<'_>, script: Source<'_>) -> u8
-    ensures { (result ≡ 0) ⊎ (result ≡ 1) ⊎ (result ≡ 2) ⊎ (result ≡ 4) }
+fn play_own<R: Runtime + AllocGlobal, W: Write>(
+    rt: &R,
+    set: Named<'_>,
+    script: Source<'_>,
+    writer: &mut W,
+) -> u8
+    ensures printed { IsPlayedOn set.entry result (W.contents writer.old) (W.contents writer.new) }
+    ensures status { (result ≡ 0) ⊎ (result ≡ 1) ⊎ (result ≡ 2) ⊎ (result ≡ 4) }
 {
     match words::own_set(&set) {
-        Some(own) => play_source(rt, own, script),
+        Some(own) => play_source(rt, own, script, writer),
         None => FAILED,
     }
 }
 
+/// Runs a script on a set whose text comes from a reader.
+#[tactic(auto, using(crate::proofs::Known::played_on_some, crate::proofs::Known::in_part_on_some, crate::proofs::Known::not_run_on_some))]
+fn play_text<R: Runtime + AllocGlobal, S: Read + Drop, W: Write>(
+    rt: &R,
+    text: S,
+    script: Source<'_>,
+    writer: &mut W,
+) -> u8
+    ensures held { result ≡ 0 → IsOnSet None None (IsPlayed (W.contents writer.old) (W.contents writer.new)) }
+    ensures missed { result ≡ 1 → IsOnSet None None (IsPlayedInPart (W.contents writer.old) (W.contents writer.new)) }
+    ensures refused { result ≡ 2 → IsRefused None None (W.contents writer.old) (W.contents writer.new) }
+    ensures status { (result ≡ 0) ⊎ (result ≡ 1) ⊎ (result ≡ 2) ⊎ (result ≡ 4) }
+{
+    play_source(rt, SetWord::Text(text), script, writer)
+}
+
 /// Runs `play` on the set and the script that the command line names. A file that can't be opened is a failure, whatever there is to say
 /// of the other text.
-fn run_play<R: Runtime + AllocGlobal>(rt: &R, set: Named<'_>, script: Source<'_>) -> u8
-    ensures { (result ≡ 0) ⊎ (result ≡ 1) ⊎ (result ≡ 2) ⊎ (result ≡ 4) }
+fn run_play<R: Runtime + AllocGlobal, W: Write>(
+    rt: &R,
+    set: Named<'_>,
+    script: Source<'_>,
+    writer: &mut W,
+) -> u8
+    ensures printed { IsPlayedOn set.entry result (W.contents writer.old) (W.contents writer.new) }
+    ensures status { (result ≡ 0) ⊎ (result ≡ 1) ⊎ (result ≡ 2) ⊎ (result ≡ 4) }
 {
     match set {
-        Named::Standard | Named::Monitors => play_own(rt, set, script),
-        Named::Stdin => play_source(rt, SetWord::Text(rt.reader()), script),
+        Named::Standard | Named::Monitors => play_own(rt, set, script, writer),
+        Named::Stdin => play_text(rt, rt.reader(), script, writer),
         Named::File(path) => match fs::open(rt, path) {
-            Ok(file) => play_source(rt, SetWord::Text(file), script),
+            Ok(file) => play_text(rt, file, script, writer),
             Err(_) => FAILED,
         },
     }
 }
 
+/// Runs `soak` on a script that comes from a reader.
+#[tactic(auto, using(crate::proofs::Known::soaked, crate::proofs::Known::in_vain, crate::proofs::Known::turned_down))]
+fn soak_on<R: Runtime + AllocGlobal + Threads + Wait + Sync, S: Read + Drop, W: Write>(
+    rt: &R,
+    script: S,
+    workers: usize,
+    writer: &mut W,
+) -> u8
+    ensures printed { IsServed workers result (W.contents writer.old) (W.contents writer.new) }
+    ensures status { (result ≡ 0) ⊎ (result ≡ 1) ⊎ (result ≡ 2) ⊎ (result ≡ 4) }
+{
+    soak(rt, rt.alloc(), script, workers, writer)
+}
+
 /// Runs `soak` on the script that the command line names.
-fn run_soak<R: Runtime + AllocGlobal + Threads + Wait + Sync>(
+fn run_soak<R: Runtime + AllocGlobal + Threads + Wait + Sync, W: Write>(
     rt: &R,
     script: Source<'_>,
     workers: usize,
+    writer: &mut W,
 ) -> u8
-    ensures { (result ≡ 0) ⊎ (result ≡ 1) ⊎ (result ≡ 2) ⊎ (result ≡ 4) }
+    ensures printed { IsServed workers result (W.contents writer.old) (W.contents writer.new) }
+    ensures status { (result ≡ 0) ⊎ (result ≡ 1) ⊎ (result ≡ 2) ⊎ (result ≡ 4) }
 {
     match script {
-        Source::Stdin => soak(rt, rt.alloc(), rt.reader(), workers, &mut io::writer(rt)),
+        Source::Stdin => soak_on(rt, rt.reader(), workers, writer),
         Source::File(path) => match fs::open(rt, path) {
-            Ok(file) => soak(rt, rt.alloc(), file, workers, &mut io::writer(rt)),
+            Ok(file) => soak_on(rt, file, workers, writer),
             Err(_) => FAILED,
         },
     }
@@ -163,7 +222,7 @@ fn serve<
     H: Files<File = File> + Threads + Eprint + Print + Input + Clock + AllocGlobal,
 >(rt: &R, host: &H, given: &[String]) -> u8 {
     match words::read(rt.alloc(), given) {
-        Ok(request) => run(rt, host, &request),
+        Ok(request) => run(rt, host, &request, &mut io::writer(rt)),
         Err(error) => answer(rt, &error),
     }
 }

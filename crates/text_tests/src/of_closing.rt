@@ -1,13 +1,15 @@
 //! Clients that end in different ways: whatever they do, workers leave nothing undone.
 use crate::links::{PICKY, UP, links_of};
+use crate::of_pools::ASKS;
 use actor_book::{Book, Limits, Refusal};
 use pool_soak::Open;
 use std::alloc::Global;
 use std::sync::Wait;
 use std::sync::ledger::Ledger;
+use std::thread;
 use std::thread::Threads;
 use turn_code::SignalNumber;
-use turn_pool::{Client, Pool, PoolRefusal, Seat, serve};
+use turn_pool::{Client, Closed, Pool, PoolRefusal, Seat, serve};
 
 /// The signal that [`PICKY`]'s process doesn't take.
 const DOWN: SignalNumber = SignalNumber(1);
@@ -150,4 +152,81 @@ fn a_client_that_closes_twice(rt: HostRuntime) {
         ended(&rt, rt.alloc(), closing(2), 1),
         Some(([None, CLOSING], LINKS))
     );
+}
+
+/// How often links are served to a client that offers once more before it returns.
+const SERVED: u32 = 20;
+
+/// A client that has a signal of the last link sent back, so that its worker is at work, pauses so often, and offers one on the first link.
+#[derive(Drop)]
+struct Lasts {
+    pauses: u32,
+    has_offered: bool,
+}
+
+impl Client for Lasts {
+    fn drive<R: Wait, L: Ledger>(&mut self, pool: &Pool<'_, R, L>, seat: &mut Seat<L>) {
+        let asked = pool.offer(LINKS - 1, 0, UP, &[], seat).is_ok();
+        for _ in 0..ASKS {
+            if !asked || pool.take_env(LINKS - 1, seat).is_ok() {
+                break;
+            }
+            thread::yield_now();
+        }
+        for _ in 0..self.pauses {
+            thread::yield_now();
+        }
+        self.has_offered = pool.offer(0, 0, UP, &[], seat).is_ok();
+    }
+}
+
+/// Whether nothing is out and nothing waits on these links.
+fn are_at_rest(books: &[Book]) -> bool {
+    for book in books {
+        let state = book.state();
+        if state.outs() != 0 || state.begin_refusal(book.set(), 0) != Some(Refusal::Nothing) {
+            return false;
+        }
+    }
+    true
+}
+
+/// Has one worker serve links. The links, and whether they are at rest behind an offer that was accepted last.
+fn served_last<R: Threads + Wait + Sync>(
+    rt: &R,
+    alloc: Global,
+    books: Vec<Book>,
+    pauses: u32,
+) -> Option<(Vec<Book>, bool)> {
+    let mut client = Lasts {
+        pauses,
+        has_offered: false,
+    };
+    match serve(rt, alloc, books, 1, &Open, &mut client) {
+        Ok(closed) => {
+            let Closed { books, .. } = closed;
+            let is_done = client.has_offered && are_at_rest(&books);
+            Some((books, is_done))
+        }
+        Err(_) => None,
+    }
+}
+
+/// How often links came to rest behind such a client, of so many times.
+fn rested<R: Threads + Wait + Sync>(rt: &R, alloc: Global, times: u32) -> Option<u32> {
+    let mut books = links_of(alloc, PICKY, LINKS, Limits::new(16, 16, 4_096)?)?;
+    let mut count = 0u32;
+    for pauses in 0..times {
+        let (back, is_done) = served_last(rt, alloc, books, pauses)?;
+        books = back;
+        count = count.saturating_add(u32::from(is_done));
+    }
+    Some(count)
+}
+
+/// A worker that goes round with nothing to do, asks behind that whether the pool is closing, and then ends would leave some of what was offered
+/// meanwhile.
+#[test]
+fn what_is_offered_last_is_taken(rt: HostRuntime) {
+    assert_eq!(rt; rested(&rt, rt.alloc(), SERVED), Some(SERVED));
 }

@@ -1,4 +1,5 @@
-//! Turns that are ended elsewhere than where they began: on another link, and behind a rebase; and rebases of books that hold much.
+//! Turns that are ended elsewhere than where they began: on another link, and behind a rebase; and rebases of books with a turn out, and of those that hold
+//! much.
 use crate::links::{UP, book_of, links};
 use crate::of_books::numbers;
 use crate::texts::COUNTER;
@@ -91,6 +92,47 @@ fn a_turn_ends_behind_a_rebase(rt: HostRuntime) {
         start_behind_rebase(rt.alloc()),
         Some((1, [1, 3, 1, 2, 0], true))
     );
+}
+
+/// How often a link with a turn out is rebased in a row.
+const REBASES: u32 = 20;
+
+/// Lets a tick pass on a link of which a turn is out, and makes its state its base. Whether its journal is empty then and the base has the turn
+/// out; where there is no memory, whether both are as they were.
+fn is_rebased_or_stays(book: &mut Book) -> bool {
+    let ticked = book.advance(1).is_ok();
+    let (first, next, outs) = (book.first(), book.next(), book.base().outs());
+    let wanted = if book.rebase().is_ok() {
+        (next, 1)
+    } else {
+        (first, outs)
+    };
+    ticked && (book.first(), book.base().outs()) == wanted && book.next() == next
+}
+
+/// Whether all rebases of a link with a turn out do what they should, and the turn can be ended behind them.
+fn is_out_throughout(book: &mut Book) -> bool {
+    let Ok(job) = book.begin(0) else {
+        return false;
+    };
+    for _ in 0..REBASES {
+        if !is_rebased_or_stays(book) {
+            return false;
+        }
+    }
+    book.state().outs() == 1 && book.finish(run(job)).is_ok()
+}
+
+/// The same of a new link; nothing where there is none.
+fn new_is_out_throughout(alloc: Global) -> Option<bool> {
+    let mut book = book_of(alloc, COUNTER, Limits::new(1, 1, 16)?)?;
+    Some(is_out_throughout(&mut book))
+}
+
+/// Holds whichever request for memory is refused: one rebase changes nothing then.
+#[test]
+fn want_of_memory_leaves_a_turn_out(rt: HostRuntime) {
+    assert!(rt; new_is_out_throughout(rt.alloc()) != Some(false));
 }
 
 /// How many processes the large set has: as many as one may.

@@ -1,5 +1,5 @@
 -- What an event makes of a book's journal.
-use Rattle.std.proofs.Common.{◌≡◌, ℕ, zero, suc, ◌+◌, ◌-◌, nat_lt, false, Bool, if◌then◌else◌, [], ◌∷◌, ◌++◌, length, slice_get, Option, Some, None, refl, ap, ◌∙◌, arith}
+use Rattle.std.proofs.Common.{◌≡◌, ℕ, ◌+◌, ◌-◌, Bool, if◌then◌else◌, [], ◌∷◌, ◌++◌, length, slice_get, Option, Some, None, refl, ap, ◌∙◌, arith}
 use Rattle.std.proofs.lemmas.Bool.{le-ltb}
 use Rattle.link_machine.specs.Step.{Says, Stepped, step}
 use Rattle.link_machine.specs.Ledger.{Ledger, runs, state_of, refusal_by, asked, ask, ask_by, next, event_at}

@@ -1,5 +1,5 @@
 -- Which actors can do nothing.
-use Rattle.std.proofs.Common.{◌≡◌, ℕ, ◌<◌, ◌≤◌, nat_lt, Bool, true, false, List, length, slice_get, None, refl, arith}
+use Rattle.std.proofs.Common.{◌≡◌, ℕ, ◌<◌, ◌≤◌, nat_lt, Bool, true, false, length, None, refl, arith}
 use Rattle.std.proofs.lemmas.Option.{slice_get_past}
 use borrow.Author.Tests.{ltb-false, ltb-true}
 use Rattle.link_machine.specs.Ledger.{Ledger, state_of}

@@ -1,5 +1,5 @@
 -- Receipts, held against the journals.
-use Rattle.std.specs.Prelude.{◌≡◌, ℕ, List, Option, None, Some, Result, Ok, Err, slice_get}
+use Rattle.std.specs.Prelude.{◌≡◌, ℕ, List, Option, None, Some, slice_get}
 use Rattle.link_machine.specs.Kept.{IsKept}
 use Rattle.link_machine.specs.Ledger.{Ledger, ask, event_at, next, rebased}
 use Rattle.link_machine.specs.Step.{Says}

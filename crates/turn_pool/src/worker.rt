@@ -114,6 +114,29 @@ fn run_job<R: Wait, L: Ledger, G: Gate>(
     gate.leave(name);
 }
 
+/// Runs the turn that a step began, where it began one. Whether it began one, or threw an item away.
+fn follow<R: Wait, L: Ledger, G: Gate>(
+    pool: &Pool<'_, R, L>,
+    gate: &G,
+    seat: &mut Seat<L>,
+    moved: Moved,
+    name: Option<JobName>,
+) -> bool {
+    match moved {
+        Moved::Begun(Ok(job)) => match name {
+            Some(name) => {
+                run_job(pool, gate, seat, name, job);
+                true
+            }
+            // (a turn that began has a name, since its actor is there)
+            None => false,
+        },
+        Moved::Begun(Err(_)) => false,
+        Moved::Skipped(skipped) => skipped.is_ok(),
+        Moved::Finished(_) => false,
+    }
+}
+
 /// Lets an actor of a link do something, if one can. Whether one did.
 fn turn<R: Wait, L: Ledger, G: Gate>(
     pool: &Pool<'_, R, L>,
@@ -122,13 +145,8 @@ fn turn<R: Wait, L: Ledger, G: Gate>(
     link: usize,
 ) -> bool {
     match step(pool, seat, link) {
-        // (a turn that began has a name, since its actor is there)
-        Some((Moved::Begun(Ok(job)), Some(name))) => {
-            run_job(pool, gate, seat, name, job);
-            true
-        }
-        Some((Moved::Skipped(Ok(_)), _)) => true,
-        _ => false,
+        Some((moved, name)) => follow(pool, gate, seat, moved, name),
+        None => false,
     }
 }
 

@@ -1,7 +1,6 @@
-use Rattle.std.proofs.Common.{◌≡◌, ◌∙◌, Some, ap, sym}
+use Rattle.std.proofs.Common.{◌∙◌, Some, ap}
 use Rattle.script_lines.specs.Commands.{plain_command}
 use Rattle.script_lines.specs.Scripts.{plain_said}
-use Rattle.book_play.specs.Played.{last_of}
 use Rattle.book_play.proofs.Runs.{run_held, run_printed, no_expectation}
 use Rattle.book_play.proofs.player.Player.obey.Goals as goal
 

@@ -1,0 +1,43 @@
+-- What each command prints, by the exit status that it gives. Of a text that isn't the program's own it is said of some bytes, since none are known of a file
+-- or of standard input.
+use Rattle.std.specs.Prelude.{◌≡◌, ◌⊎◌, ◌≤◌, ℕ, List, Option, None}
+use Rattle.profile_limits.specs.Limits.{LEAST_WORKERS, MOST_WORKERS}
+use Rattle.text_check.specs.Checked.{IsGiven, PrintsCosts, PrintsRefusal}
+use Rattle.script_play.specs.Played.{IsOnSet, IsPlayed, IsPlayedInPart, IsRefused}
+use Rattle.pool_soak.specs.Findings.{IsSoaked, IsSoakedInVain, IsTurnedDown}
+use Rattle.unit_frame.specs.Printed.{PrintsUnit, PrintsFault}
+use Rattle.mtp2_play.specs.Words.{own_text_of}
+use Rattle.mtp2_play.specs.declared.words.Named.{Named}
+use Rattle.mtp2_play.specs.declared.words.Request.{Request}
+use Rattle.mtp2_play.specs.declared.words.Request.TheVariants.{Check, Play, Soak, Line, Frame}
+
+-- what `check` prints of a set: its costs, or why it is refused
+pub record IsChecked (set : Named) (status : ℕ) (old new : Option (List ℕ)) : Type 0 where
+  pub costs : status ≡ 0 → IsGiven (own_text_of set) (PrintsCosts old new)
+  pub refusal : status ≡ 2 → IsGiven (own_text_of set) (PrintsRefusal old new)
+
+-- what `play` prints of a script on a set: what came of its commands, of those before one whose expectation failed, or why nothing ran
+pub record IsPlayedOn (set : Named) (status : ℕ) (old new : Option (List ℕ)) : Type 0 where
+  pub held : status ≡ 0 → IsOnSet (own_text_of set) None (IsPlayed old new)
+  pub missed : status ≡ 1 → IsOnSet (own_text_of set) None (IsPlayedInPart old new)
+  pub refused : status ≡ 2 → IsRefused (own_text_of set) None old new
+
+-- what `soak` prints of a script: its two lines, where so many workers can work, or why it is refused
+pub record IsServed (workers status : ℕ) (old new : Option (List ℕ)) : Type 0 where
+  pub held : status ≡ 0 → IsGiven None (IsSoaked old new)
+  pub differs : status ≡ 1 → IsGiven None (IsSoakedInVain old new)
+  pub refused : status ≡ 2 → IsGiven None (IsTurnedDown old new)
+  pub served : (status ≡ 0) ⊎ (status ≡ 1) → (LEAST_WORKERS ≤ workers) × (workers ≤ MOST_WORKERS)
+
+-- what `frame` prints of a word: the unit that it spells, or why it spells none
+pub record IsFramed (word : List ℕ) (status : ℕ) (old new : Option (List ℕ)) : Type 0 where
+  pub held : status ≡ 0 → PrintsUnit old new word
+  pub refused : status ≡ 2 → PrintsFault old new word
+
+-- what a request has printed; `line` speaks on the streams of the system
+abbrev pub IsAnswered : Request → ℕ → Option (List ℕ) → Option (List ℕ) → Type 0
+IsAnswered (Check set) status old new = IsChecked set status old new
+IsAnswered (Play set script) status old new = IsPlayedOn set status old new
+IsAnswered (Soak script workers) status old new = IsServed workers status old new
+IsAnswered (Line set end) status old new = Unit {0}
+IsAnswered (Frame octets) status old new = IsFramed octets.now status old new
