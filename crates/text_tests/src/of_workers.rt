@@ -7,7 +7,7 @@ use std::sync::atomic::{AtomicBool, AtomicUsize, Ordering};
 use std::sync::ledger::Ledger;
 use std::thread;
 use std::thread::Threads;
-use turn_pool::{Client, Gate, JobName, Pool, Seat, serve};
+use turn_pool::{Client, Closed, Gate, JobName, Pool, Seat, serve};
 
 /// How often a loop looks for what is to come.
 pub(crate) const LOOKS: u32 = 1_000_000_000;
@@ -212,6 +212,15 @@ fn made_two_each(workers: &[u64]) -> bool {
     true
 }
 
+/// On how many links each START has run and ended; none where the gate was told of others than a plan has, or a worker's count isn't its own.
+fn ended_as_planned(gate: &Holds, plan: Plan, closed: &Closed) -> Option<usize> {
+    if gate.was_told() && made_two_each(&closed.workers) {
+        Some(all_ended(&closed.books, plan.processes))
+    } else {
+        None
+    }
+}
+
 /// On how many links of a plan each START has run and ended; none where a turn was held in vain, the gate was told of others, or a worker's
 /// count isn't its own.
 fn links_ended<R: Threads + Wait + Sync>(rt: &R, alloc: Global, plan: Plan) -> Option<usize> {
@@ -225,10 +234,8 @@ fn links_ended<R: Threads + Wait + Sync>(rt: &R, alloc: Global, plan: Plan) -> O
         &gate,
         &mut LooksOn { gate: &gate },
     ) {
-        Ok(closed) if gate.was_told() && made_two_each(&closed.workers) => {
-            Some(all_ended(&closed.books, plan.processes))
-        }
-        _ => None,
+        Ok(closed) => ended_as_planned(&gate, plan, &closed),
+        Err(_) => None,
     }
 }
 
