@@ -14,4 +14,5 @@ pub mod FitsSteps
 pub mod Opened
 pub mod Places
 pub mod Numbers
+pub mod Fullness
 pub use Rattle.actor_names.proofs.Numbering

@@ -1,6 +1,7 @@
 pub mod Core
 pub mod Effects
 pub mod Fits
+pub mod Full
 pub mod Kept
 pub mod Laws
 pub mod Ledger

@@ -1,5 +1,6 @@
 //! What follows from the machine alone. Each call costs nothing.
 
+ghost use Rattle.link_machine.specs.Full.{FullLaw};
 ghost use Rattle.link_machine.specs.Laws.{KeepsLaw, SetLaw, StateLaw, FitsLaw, ItemLaw, TextLaw, FinishLaw, WithinLaw, NeverStuckLaw, OutLaw, OverLaw, PlaceLaw};
 
 use tick_wheel::laws::due_law;
@@ -92,3 +93,9 @@ pub fn never_stuck_law()
     safe_law();
     run_law();
 }
+
+/// What is full is told by name: an offer to a full port is refused so, and an output to a full port or a full environment is in the report of
+/// its turn, with its place.
+pub fn full_law()
+    ensures { FullLaw }
+{}

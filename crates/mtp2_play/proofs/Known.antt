@@ -3,6 +3,7 @@ use Rattle.std.proofs.Common.{ℕ, List, Option, None}
 use Rattle.text_check.specs.Checked.{IsGiven, PrintsCosts, PrintsRefusal}
 use Rattle.script_play.specs.Played.{IsOnSet, IsPlayed, IsPlayedInPart, IsNotRun, IsRefused, set_refused, script_refused}
 use Rattle.pool_soak.specs.Findings.{IsSoaked, IsSoakedInVain, IsTurnedDown}
+use Rattle.line_command.specs.Opening.{IsNoSet}
 
 some_bytes : (known : Option (List ℕ)) (P : List ℕ → Type 0) → IsGiven known P → IsGiven None P
 some_bytes known P g = record { bytes = g.bytes; are_known = tt; holds = g.holds }
@@ -14,6 +15,11 @@ costs known old new g = some_bytes known (PrintsCosts old new) g
 
 pub refusal : (known old new : Option (List ℕ)) → IsGiven known (PrintsRefusal old new) → IsGiven None (PrintsRefusal old new)
 refusal known old new g = some_bytes known (PrintsRefusal old new) g
+
+-- ---- `line`
+
+pub no_set : (known : Option (List ℕ)) → IsGiven known (IsNoSet None None) → IsGiven None (IsNoSet None None)
+no_set known g = some_bytes known (IsNoSet None None) g
 
 -- ---- `soak`
 

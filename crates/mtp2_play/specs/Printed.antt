@@ -6,15 +6,21 @@ use Rattle.text_check.specs.Checked.{IsGiven, PrintsCosts, PrintsRefusal}
 use Rattle.script_play.specs.Played.{IsOnSet, IsPlayed, IsPlayedInPart, IsRefused}
 use Rattle.pool_soak.specs.Findings.{IsSoaked, IsSoakedInVain, IsTurnedDown}
 use Rattle.unit_frame.specs.Printed.{PrintsUnit, PrintsFault}
+use Rattle.line_command.specs.Opening.{IsNoSet}
 use Rattle.mtp2_play.specs.Words.{own_text_of}
 use Rattle.mtp2_play.specs.declared.words.Named.{Named}
 use Rattle.mtp2_play.specs.declared.words.Request.{Request}
 use Rattle.mtp2_play.specs.declared.words.Request.TheVariants.{Check, Play, Soak, Line, Frame}
 
+-- the exit statuses of a command that has no expectations: done, refused, failed
+abbrev pub IsDone : ℕ → Type 0
+IsDone status = (status ≡ 0) ⊎ (status ≡ 2) ⊎ (status ≡ 4)
+
 -- what `check` prints of a set: its costs, or why it is refused
 pub record IsChecked (set : Named) (status : ℕ) (old new : Option (List ℕ)) : Type 0 where
   pub costs : status ≡ 0 → IsGiven (own_text_of set) (PrintsCosts old new)
   pub refusal : status ≡ 2 → IsGiven (own_text_of set) (PrintsRefusal old new)
+  pub ends : IsDone status
 
 -- what `play` prints of a script on a set: what came of its commands, of those before one whose expectation failed, or why nothing ran
 pub record IsPlayedOn (set : Named) (status : ℕ) (old new : Option (List ℕ)) : Type 0 where
@@ -33,11 +39,18 @@ pub record IsServed (workers status : ℕ) (old new : Option (List ℕ)) : Type 
 pub record IsFramed (word : List ℕ) (status : ℕ) (old new : Option (List ℕ)) : Type 0 where
   pub held : status ≡ 0 → PrintsUnit old new word
   pub refused : status ≡ 2 → PrintsFault old new word
+  pub ends : IsDone status
 
--- what a request has printed; `line` speaks on the streams of the system
+-- `line` prints nothing here, since it speaks on the streams of the system; a set is refused for its text, or for a name that it lacks
+pub record IsSpoken (set : Named) (status : ℕ) (old new : Option (List ℕ)) : Type 0 where
+  pub silent : new ≡ old
+  pub refused : status ≡ 2 → IsGiven (own_text_of set) (IsNoSet None None)
+  pub ends : IsDone status
+
+-- what a request has printed, and with which exit status
 abbrev pub IsAnswered : Request → ℕ → Option (List ℕ) → Option (List ℕ) → Type 0
 IsAnswered (Check set) status old new = IsChecked set status old new
 IsAnswered (Play set script) status old new = IsPlayedOn set status old new
 IsAnswered (Soak script workers) status old new = IsServed workers status old new
-IsAnswered (Line set end) status old new = Unit {0}
+IsAnswered (Line set end) status old new = IsSpoken set status old new
 IsAnswered (Frame octets) status old new = IsFramed octets.now status old new

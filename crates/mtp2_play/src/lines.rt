@@ -1,5 +1,9 @@
 //! The command `line`.
-ghost use Rattle.std.specs.Prelude.{◌≡◌, ◌⊎◌};
+ghost use Rattle.std.specs.Prelude.{◌≡◌, ◌⊎◌, None};
+ghost use Rattle.text_check.specs.Checked.{given, IsGiven};
+ghost use Rattle.line_command.specs.Opening.{IsNoSet};
+ghost use Rattle.mtp2_play.specs.Words.{own_text_of};
+ghost use Rattle.mtp2_play.specs.Printed.{IsDone};
 
 use crate::words::{Named, own_set};
 use line_command::{LineEnd, SetWord, run_line as run_on};
@@ -15,9 +19,22 @@ fn line_on<
     H: Files<File = File> + Threads + Eprint + Print + Input + Clock + AllocGlobal,
     S: Read + Drop,
 >(host: &H, end: &LineEnd<'_>, set: SetWord<S>) -> u8
-    ensures { (result ≡ 0) ⊎ (result ≡ 2) ⊎ (result ≡ 4) }
+    ensures refused { result ≡ 2 → IsGiven (given S.remaining set) (IsNoSet None None) }
+    ensures status { IsDone result }
 {
     run_on(host, end, set, &mut host.reader(), &mut io::writer(host))
+}
+
+/// Has a terminal over a set whose text comes from a reader speak on the line.
+#[tactic(auto, using(crate::proofs::Known::no_set))]
+fn line_text<
+    H: Files<File = File> + Threads + Eprint + Print + Input + Clock + AllocGlobal,
+    S: Read + Drop,
+>(host: &H, end: &LineEnd<'_>, text: S) -> u8
+    ensures refused { result ≡ 2 → IsGiven None (IsNoSet None None) }
+    ensures status { IsDone result }
+{
+    line_on(host, end, SetWord::Text(text))
 }
 
 /// Has a terminal over a set of the program's own speak on the line.
@@ -26,7 +43,8 @@ fn line_own<H: Files<File = File> + Threads + Eprint + Print + Input + Clock + A
     set: &Named<'_>,
     end: &LineEnd<'_>,
 ) -> u8
-    ensures { (result ≡ 0) ⊎ (result ≡ 2) ⊎ (result ≡ 4) }
+    ensures refused { result ≡ 2 → IsGiven (own_text_of set.now) (IsNoSet None None) }
+    ensures status { IsDone result }
 {
     match own_set(set) {
         Some(own) => line_on(host, end, own),
@@ -40,11 +58,12 @@ pub fn run_line<H: Files<File = File> + Threads + Eprint + Print + Input + Clock
     set: &Named<'_>,
     end: &LineEnd<'_>,
 ) -> u8
-    ensures { (result ≡ 0) ⊎ (result ≡ 2) ⊎ (result ≡ 4) }
+    ensures refused { result ≡ 2 → IsGiven (own_text_of set.now) (IsNoSet None None) }
+    ensures status { IsDone result }
 {
     match set {
         Named::File(path) => match fs::open(host, path) {
-            Ok(file) => line_on(host, end, SetWord::Text(file)),
+            Ok(file) => line_text(host, end, file),
             Err(_) => FAILED,
         },
         Named::Standard | Named::Monitors => line_own(host, set, end),

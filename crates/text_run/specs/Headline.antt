@@ -10,6 +10,7 @@ use Rattle.turn_verify.specs.declared.loading.LoadFault.{LoadFault}
 use Rattle.turn_verify.specs.declared.loading.LoadFault.TheVariants.{Lex, Parse, Rule, NoMemory}
 use Rattle.actor_book.specs.Limits.{LimitNumbers}
 use Rattle.link_machine.specs.Fits.{IsCalled}
+use Rattle.link_machine.specs.Full.{FullLaw}
 use Rattle.link_machine.specs.Step.{Answer, Says, report_of}
 use Rattle.link_machine.specs.Ledger.{Ledger, ask, answers_by, after_by, state_by, state_of, turn_out}
 use Rattle.link_machine.specs.Kept.{opened_book}
@@ -61,11 +62,13 @@ abbrev pub EachEnds : PlainBlock → Ledger → List Event → Type 0
 EachEnds b k [] = Unit {0}
 EachEnds b k (e ∷ es) = EndsAt b k e × EachEnds b (ask k e).book es
 
--- What a block's set does: its numbers and names are in the order of the text, and each turn is what the text's transition means.
+-- What a block's set does: its numbers and names are in the order of the text, each turn is what the text's transition means, and of the machine by
+-- which it answers it holds that what is full is told by name.
 pub record RunsAsRead (b : PlainBlock) (d : Draft) (l : LimitNumbers) (es : List Event) (book : Ledger) (replies : List Reply) : Type 0 where
   pub is_set : IsSetOf b d
   pub runs : RunsBy (meaning_of b) d l es book replies
   pub ends : EachEnds b (opened_by d l) es
+  pub full : FullLaw
 
 -- The text has tokens, reads as a block that is low enough, and breaks no rule; and this is what its set does, however it is read.
 pub record IsRun (text : List ℕ) (l : LimitNumbers) (es : List Event) (book : Ledger) (replies : List Reply) : Type 0 where

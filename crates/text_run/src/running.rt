@@ -5,7 +5,7 @@ ghost use Rattle.turn_verify.specs.Meant.{IsSetOf};
 ghost use Rattle.text_run.specs.Headline.{Headline, RunsAsRead};
 
 use actor_book::{Book, Event, Limits, Reply, run_events};
-use link_machine::laws::{finish_law, fits_law, keeps_law, set_law};
+use link_machine::laws::{finish_law, fits_law, full_law, keeps_law, set_law};
 use std::alloc::{AllocError, Global};
 use turn_verify::{LoadFault, Verified, load};
 
@@ -55,6 +55,7 @@ fn run_set(
     set_law();
     fits_law();
     finish_law();
+    full_law();
     let _valid = set.draft();
     let _few = limits.journal();
     let mut book = Book::open(alloc, set, limits)?;

@@ -3,3 +3,4 @@ pub mod Calls
 pub mod Finishes
 pub mod Standing
 pub mod Turns
+pub mod Naming

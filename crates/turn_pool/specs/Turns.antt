@@ -1,8 +1,8 @@
 -- Whose turn it is on a link.
-use Rattle.std.specs.Prelude.{◌≡◌, ◌<◌, ℕ, Option, None, Some, Ok, Err, option_map, slice_get}
+use Rattle.std.specs.Prelude.{IsSome, ◌≡◌, ◌<◌, ℕ, Option, None, Some, Ok, Err, option_map, slice_get}
 use Rattle.turn_machine.specs.Turn.{Turn}
 use Rattle.link_machine.specs.Core.{names_in}
-use Rattle.link_machine.specs.Ledger.{Ledger, room, state_of}
+use Rattle.link_machine.specs.Ledger.{Ledger, room, state_of, turn_out}
 use Rattle.link_machine.specs.Refusals.{refuses}
 use Rattle.link_machine.specs.actor_names_types.name.ActorName.{ActorName}
 use Rattle.link_machine.specs.declared.event.Event.TheVariants.{Begin}
@@ -46,3 +46,7 @@ told link b (moved.Begun (Ok job)) = told_of link b job
 told link b (moved.Begun (Err refusal)) = None
 told link b (moved.Skipped answer) = None
 told link b (moved.Finished answer) = None
+
+-- where a step began a turn that is out there is a name
+abbrev pub NamesBegun : Ledger → Moved → Option JobName → Type 0
+NamesBegun b m name = (n : ℕ) (job : Turn) → m ≡ moved.Begun (Ok job) → turn_out b n ≡ Some job → IsSome name

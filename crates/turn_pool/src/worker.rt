@@ -1,7 +1,7 @@
 //! Workers.
 
 ghost use Rattle.std.specs.Prelude.{◌≡◌};
-ghost use Rattle.turn_pool.specs.Turns.{move_by, IsNext, told_of, told};
+ghost use Rattle.turn_pool.specs.Turns.{move_by, IsNext, told_of, told, NamesBegun};
 
 use crate::gate::{Gate, JobName};
 use crate::moves::{Move, Moved, work};
@@ -63,6 +63,14 @@ fn name_of(link: usize, book: &Book, job: &Job) -> Option<JobName>
 
 /// What a gate is told of a worker's step, where that began a turn.
 fn name_in(link: usize, book: &Book, moved: &Moved) -> Option<JobName>
+    ensures value { result ≡ told link book.now moved.now }
+    ensures begun { NamesBegun book.now moved.now result }
+{
+    told_in(link, book, moved)
+}
+
+/// The same, where nothing is known of the turn.
+fn told_in(link: usize, book: &Book, moved: &Moved) -> Option<JobName>
     ensures { result ≡ told link book.now moved.now }
 {
     match moved {

@@ -11,4 +11,5 @@ returns c b is_set = record {
       c.in_ok-replies.ensures.by_text c.in_ok-replies.ensures.book_by_text c.in_ok-replies.ensures.state_by_text (meaning_of b) is_set.means;
   ends = ends_opened c.keeps_law.ensures c.set_law.ensures c.fits_law.ensures c.finish_law.ensures c.args.set.now c.args.limits c.args.events.now
       c.draft-valid.ensures.valid (subst (λ n. n ≤ MOST_JOURNAL) c.journal-few.ensures.value c.journal-few.ensures.most) b is_set;
+  full = c.full_law.ensures;
 }

@@ -1,0 +1,35 @@
+-- A turn that began and is out has a name.
+use Rattle.std.proofs.Common.{◌≡◌, ℕ, Option, Some, None, Result, Ok, Err, refl, sym, ap, ◌∙◌, subst}
+use Rattle.std.specs.Prelude.{IsSome, option_map, slice_get}
+use Rattle.turn_machine.specs.Turn.{Turn}
+use Rattle.link_machine.specs.actor_names_types.name.ActorName.{ActorName}
+use Rattle.link_machine.specs.Core.{names_in}
+use Rattle.link_machine.specs.Ledger.{Ledger, state_of, turn_at, turn_out}
+use Rattle.link_machine.specs.declared.actor.Actor.{Actor}
+use Rattle.link_machine.proofs.FitsLists.{name_there}
+use Rattle.link_machine.specs.declared.reply.Refusal.{Refusal}
+use Rattle.actor_book.proofs.Ending.{own_actor}
+use Rattle.turn_pool.specs.Turns.{told_of, told, NamesBegun}
+use Rattle.turn_pool.specs.declared.gate.JobName.{JobName}
+use Rattle.turn_pool.specs.declared.moves.Moved.{Moved}
+use Rattle.turn_pool.specs.declared.moves.Moved.TheVariants as moved
+
+-- whoever has a turn out is there
+actor_there : (b : Ledger) (n : ℕ) (t : Turn) (o : Option Actor) → slice_get (state_of b).actors n ≡ o → turn_at b.set n o ≡ Some t
+    → (a : Actor) × (slice_get (state_of b).actors n ≡ Some a)
+actor_there b n t None at h = absurd (cc)
+actor_there b n t (Some a) at h = (a, at)
+
+is_told : (link : ℕ) (b : Ledger) (t : Turn) (x : ActorName) → slice_get (names_in (state_of b).actors) t.actor ≡ Some x → IsSome (told_of link b t)
+is_told link b t x h =
+    subst (λ (o : Option ActorName). IsSome (option_map (λ (x : ActorName). let j : JobName = record { link = link; actor = x; turn = t.turn } in j) o)) (sym h) tt
+
+named : (link : ℕ) (b : Ledger) (n : ℕ) (t : Turn) → turn_out b n ≡ Some t → IsSome (told_of link b t)
+unfolding turn_out
+named link b n t h =
+    let there = actor_there b n t (slice_get (state_of b).actors n) refl h in
+    is_told link b t there.0.name
+    (ap (λ (k : ℕ). slice_get (names_in (state_of b).actors) k) (own_actor b n t t h refl) ∙ name_there (state_of b).actors n there.0 there.1)
+
+pub begun_named : (link : ℕ) (b : Ledger) (m : Moved) → NamesBegun b m (told link b m)
+begun_named link b m n job is out = subst (λ (x : Moved). IsSome (told link b x)) (sym is) (named link b n job out)
