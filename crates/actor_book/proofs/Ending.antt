@@ -28,6 +28,7 @@ use Rattle.turn_code.specs.declared.draft.DraftState.{DraftState}
 use Rattle.turn_code.specs.declared.draft.DraftInput.{DraftInput}
 use Rattle.turn_machine.specs.Turn.{Turn, IsRunnable, turn_of, outcome_of}
 use Rattle.link_state.specs.Outcomes.{outcome_with, HasTimer, HaveTimers}
+use Rattle.link_machine.specs.Names.{actors_of}
 use Rattle.link_machine.specs.actor_names_types.name.ActorName.{ActorName}
 use Rattle.link_machine.specs.Core.{Core, is_out, names_in, outs}
 use Rattle.link_machine.specs.Effects.{finished}
@@ -309,6 +310,10 @@ module _ (b old : Ledger) (w : Core) (n : ℕ) (t : Turn) (view : b ≡ old) whe
     link_reports k me o same called ran =
         ap (λ (j : ℕ). Says (reply.Finished (report_of j me o w))) same
         ∙ sym (ap (λ (s : Stepped). s.answer) (ends_so b w n me t o inside.state called (still_out b old n t view h) ran))
+
+-- the actors of a book are those of its set
+pub names_known : (b : Ledger) (w : Core) (capacity : ℕ) → FitsLaw → IsBook b w capacity → names_in w.actors ≡ actors_of b.set.processes
+names_known b w capacity fits inside = ap (λ (x : Core). names_in x.actors) inside.state ∙ (fits b inside.kept).names
 
 -- ---- how many variables a turn leaves
 

@@ -127,6 +127,7 @@ impl Book {
         let number = number_in(&self.link, actor);
         let name = name_in(&self.link, actor);
         let report = self.link.finish(
+            &self.set,
             number,
             name,
             end,

@@ -1,15 +1,16 @@
 //! Changes of one actor, and of one actor among all.
 
-ghost use Rattle.std.specs.Prelude.{◌≡◌, ◌<◌, length, IfSome, slice_get};
+ghost use Rattle.std.specs.Prelude.{◌≡◌, ◌↔◌, ◌<◌, IsTrue, Some, slice_get};
 ghost use Rattle.link_machine.specs.Core.{change, change_found, found_in, names_in, outs};
-ghost use Rattle.link_machine.specs.Names.{place_of, number_for};
+ghost use Rattle.link_machine.specs.Names.{actors_of, place_of, number_for};
 ghost use Rattle.link_machine.specs.Effects.{receives, drops, hears, moved, refusal_in, refusal_at as refused_at};
 ghost use Rattle.link_state.specs.Outcomes.{with_variables};
 ghost use Rattle.profile_limits.specs.Limits.{MOST_TIMERS_EACH};
 
 use arrayvec::ArrayVec;
 use input_port::Arrival;
-use link_machine::{Actor, ActorName, Cause, Standing};
+use link_machine::{Actor, ActorName, Cause, Standing, number_of};
+use turn_check::Verified;
 use turn_code::{Effect, End, InstanceNumber, Place, ProcessNumber, TimerNumber, Value};
 
 /// A signal comes to an actor. One that has stopped takes none, nor does one whose port is full.
@@ -43,46 +44,55 @@ pub(crate) fn deliver_to(actors: &mut [Actor], found: Option<usize>, arrival: Ar
     }
 }
 
-/// The number of the actor with a name, if there is one.
-fn place_of(actors: &[Actor], name: ActorName) -> Option<usize>
-    ensures value { result ≡ place_of name (names_in actors.now) }
-    ensures inside { IfSome result (λ place. place < length actors.now) }
+/// Whether the actor with a number is called so.
+fn is_called(actors: &[Actor], number: usize, name: ActorName) -> bool
+    ensures { IsTrue result ↔ (slice_get (names_in actors.now) number ≡ Some name) }
 {
-    let _few = actors.len();
-    match actors {
-        [] => None,
-        [first, others @ ..] => {
-            if name.same(first.name) {
-                return Some(0);
-            }
-            match place_of(others, name) {
-                Some(place) => Some(place + 1),
-                None => None,
-            }
-        }
+    match actors.get(number) {
+        Some(actor) => name.same(actor.name),
+        None => false,
+    }
+}
+
+/// The number of the actor of a set with a name, if there is one. No actor is looked at but the one with the number of the process, which it is
+/// where each process before that has one instance.
+fn place_of(set: &Verified, actors: &[Actor], name: ActorName) -> Option<usize>
+    requires { names_in actors.now ≡ actors_of set.now.processes }
+    ensures { result ≡ place_of name (names_in actors.now) }
+{
+    let likely = usize::from(name.process.0);
+    if is_called(actors, likely, name) {
+        return Some(likely);
+    }
+    match number_of(set, name) {
+        Some(number) => Some(usize::from(number)),
+        None => None,
     }
 }
 
 /// The number of the actor that gets a signal of another one to a process: the instance that is named, where one is; else the one with the
 /// sender's own number where it is there, and the first one where it isn't.
 pub(crate) fn number_for(
+    set: &Verified,
     actors: &[Actor],
     sender: ActorName,
     process: ProcessNumber,
     instance: Option<InstanceNumber>,
 ) -> Option<usize>
+    requires { names_in actors.now ≡ actors_of set.now.processes }
     ensures { result ≡ number_for (names_in actors.now) sender process instance }
 {
     match instance {
-        Some(instance) => place_of(actors, ActorName { process, instance }),
+        Some(instance) => place_of(set, actors, ActorName { process, instance }),
         None => {
             let own = ActorName {
                 process,
                 instance: sender.instance,
             };
-            match place_of(actors, own) {
+            match place_of(set, actors, own) {
                 Some(number) => Some(number),
                 None => place_of(
+                    set,
                     actors,
                     ActorName {
                         process,

@@ -1,7 +1,8 @@
 //! The effects of a turn as it ends.
 
 ghost use Rattle.std.specs.Prelude.{◌≡◌, ◌≤◌, ◌<◌, ◌+◌, ◌*◌, ◌^◌, [], ◌++◌, length};
-ghost use Rattle.link_machine.specs.Core.{change};
+ghost use Rattle.link_machine.specs.Core.{change, names_in};
+ghost use Rattle.link_machine.specs.Names.{actors_of};
 ghost use Rattle.link_machine.specs.Effects.{laid, laid_all, lost_by, losses, delivered, undelivered, drops, until, without, delay, ended, started, finished, lost_in, without_timers, without_first_timers, arrival_of, timers_after, settled};
 ghost use Rattle.link_machine.specs.Step.{report_of};
 ghost use Rattle.tick_wheel.specs.Turning.{timers_of};
@@ -14,24 +15,27 @@ use arrayvec::ArrayVec;
 use input_port::Arrival;
 use link_machine::{ActorName, Cause, Emitted, Lost, Report};
 use tick_wheel::{Timer, Wheel};
+use turn_check::Verified;
 use turn_code::{Address, Effect, End, Party, Sending, TimerNumber, Value, copied_values};
 
 impl Link {
     /// What one effect of a turn of an actor with this number and this name does.
-    fn lay(&mut self, actor: u8, name: ActorName, effect: &Effect)
+    fn lay(&mut self, set: &Verified, actor: u8, name: ActorName, effect: &Effect)
+        requires names { names_in self.old.actors ≡ actors_of set.now.processes }
         requires actor { actor < MOST_ACTORS }
         requires timer { HasTimer effect.now }
         ensures { self.new ≡ laid actor name self.old effect.now }
     {
         match effect {
-            Effect::Output(sending) => self.send(name, sending),
+            Effect::Output(sending) => self.send(set, name, sending),
             Effect::Set(timer, ticks) => self.set(actor, *timer, *ticks),
             Effect::Reset(timer) => self.reset(actor, *timer),
         }
     }
 
     /// An output of an actor comes to its receiver, if that takes it.
-    fn send(&mut self, sender: ActorName, sending: &Sending)
+    fn send(&mut self, set: &Verified, sender: ActorName, sending: &Sending)
+        requires names { names_in self.old.actors ≡ actors_of set.now.processes }
         ensures { self.new ≡ delivered sender self.old sending.now sending.now.receiver.party sending.now.receiver.instance }
     {
         let Address { party, instance } = sending.receiver;
@@ -42,7 +46,7 @@ impl Link {
                 parameters: copied_values(&sending.parameters),
             }),
             Party::Process(process) => {
-                let found = number_for(&self.actors, sender, process, instance);
+                let found = number_for(set, &self.actors, sender, process, instance);
                 deliver_to(&mut self.actors, found, arrival_of(sender, sending));
             }
         }
@@ -76,11 +80,12 @@ impl Link {
     }
 
     /// The output of an actor that nobody gets, if an effect is one.
-    fn loss(&self, sender: ActorName, place: usize, effect: &Effect) -> Option<Lost>
+    fn loss(&self, set: &Verified, sender: ActorName, place: usize, effect: &Effect) -> Option<Lost>
+        requires { names_in self.now.actors ≡ actors_of set.now.processes }
         ensures { result ≡ lost_by sender self.now place effect.now }
     {
         match effect {
-            Effect::Output(sending) => match self.cause(sender, sending.receiver) {
+            Effect::Output(sending) => match self.cause(set, sender, sending.receiver) {
                 Some(cause) => Some(Lost { place, cause }),
                 None => None,
             },
@@ -89,7 +94,8 @@ impl Link {
     }
 
     /// Why a receiver doesn't take a signal of an actor, if it doesn't.
-    fn cause(&self, sender: ActorName, receiver: Address) -> Option<Cause>
+    fn cause(&self, set: &Verified, sender: ActorName, receiver: Address) -> Option<Cause>
+        requires { names_in self.now.actors ≡ actors_of set.now.processes }
         ensures { result ≡ undelivered sender self.now receiver.party receiver.instance }
     {
         let Address { party, instance } = receiver;
@@ -102,14 +108,22 @@ impl Link {
                 }
             }
             Party::Process(process) => {
-                let found = number_for(&self.actors, sender, process, instance);
+                let found = number_for(set, &self.actors, sender, process, instance);
                 refusal_at(&self.actors, found)
             }
         }
     }
 
     /// What the effects of a turn do, one after another. The outputs that nobody gets.
-    fn lay_all(&mut self, actor: u8, name: ActorName, effects: &[Effect]) -> ArrayVec<Lost, 32>
+    #[tactic(auto, using(crate::proofs::Naming::laid_kept))]
+    fn lay_all(
+        &mut self,
+        set: &Verified,
+        actor: u8,
+        name: ActorName,
+        effects: &[Effect],
+    ) -> ArrayVec<Lost, 32>
+        requires names { names_in self.old.actors ≡ actors_of set.now.processes }
         requires actor { actor < MOST_ACTORS }
         requires timers { HaveTimers effects.now }
         requires few { length effects.now ≤ MOST_EFFECTS }
@@ -118,10 +132,10 @@ impl Link {
     {
         let mut lost = ArrayVec::new();
         for (place, effect) in effects.iter().enumerate() {
-            if let Some(loss) = self.loss(name, place, effect) {
+            if let Some(loss) = self.loss(set, name, place, effect) {
                 lost.push(loss);
             }
-            self.lay(actor, name, effect);
+            self.lay(set, actor, name, effect);
         }
         lost
     }
@@ -130,6 +144,7 @@ impl Link {
     /// variables come first, then the effects one after another, then the end.
     pub fn finish(
         &mut self,
+        set: &Verified,
         actor: u8,
         name: ActorName,
         end: End,
@@ -137,6 +152,7 @@ impl Link {
         effects: &[Effect],
         count: u32,
     ) -> Report
+        requires names { names_in self.old.actors ≡ actors_of set.now.processes }
         requires actor { actor < MOST_ACTORS }
         requires timers { HaveTimers effects.now }
         requires few { length effects.now ≤ MOST_EFFECTS }
@@ -146,7 +162,7 @@ impl Link {
         ensures report { result ≡ report_of actor name (outcome_with end variables.items effects.now count) self.old }
     {
         self.start(actor, variables, count);
-        let lost = self.lay_all(actor, name, effects);
+        let lost = self.lay_all(set, actor, name, effects);
         self.end(actor, end);
         Report { end, count, lost }
     }

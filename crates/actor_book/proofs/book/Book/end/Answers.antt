@@ -4,7 +4,7 @@ use Rattle.link_machine.specs.declared.reply.Report.{Report}
 use Rattle.link_machine.specs.declared.reply.Reply.TheVariants as reply
 use Rattle.turn_machine.specs.Turn.{outcome_of}
 use Rattle.actor_book.proofs.Taking.{fits, new_book, new_answer, new_inside, new_next}
-use Rattle.actor_book.proofs.Ending.{from_parts, still_out, out_in, finishes_in, takes_in, timers_in, few_effects, link_ends, link_reports}
+use Rattle.actor_book.proofs.Ending.{names_known, from_parts, still_out, out_in, finishes_in, takes_in, timers_in, few_effects, link_ends, link_reports}
 use Rattle.actor_book.proofs.book.Book.end.Goals as goal
 
 pub number_in-number-requires : goal.number_in-number-requires
@@ -12,6 +12,9 @@ number_in-number-requires c = out_in _ _ _ c.args.actor _ c.self.view_is _ c.sel
 
 pub name_in-name-requires : goal.name_in-name-requires
 name_in-name-requires c = out_in _ _ _ c.args.actor _ c.self.view_is _ c.self.invariant c.requires
+
+pub finish-report-requires-clause-names : goal.finish-report-requires-clause-names
+finish-report-requires-clause-names c = names_known _ _ _ c.fits_law.ensures c.self.invariant
 
 pub finish-report-requires-clause-timers : goal.finish-report-requires-clause-timers
 finish-report-requires-clause-timers c =

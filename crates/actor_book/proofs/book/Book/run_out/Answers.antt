@@ -5,7 +5,7 @@ use Rattle.link_machine.specs.Step.{Says}
 use Rattle.link_machine.specs.declared.reply.Report.{Report}
 use Rattle.link_machine.specs.declared.reply.Reply.TheVariants as reply
 use Rattle.actor_book.proofs.Taking.{fits, fits_in, new_book, new_answer, new_inside, new_next}
-use Rattle.actor_book.proofs.Ending.{still_out, out_in, finishes_in, takes_in, timers_in, few_effects, link_ends, link_reports}
+use Rattle.actor_book.proofs.Ending.{names_known, still_out, out_in, finishes_in, takes_in, timers_in, few_effects, link_ends, link_reports}
 use Rattle.actor_book.proofs.Turning.{the_turn, out_at, ends_out, took}
 use Rattle.actor_book.proofs.book.Book.run_out.Goals as goal
 
@@ -21,6 +21,9 @@ number_in-number-requires c = out_in _ _ _ c.args.actor _ c.self.view_is _ c.sel
 
 pub name_in-name-requires : goal.name_in-name-requires
 name_in-name-requires c = out_in _ _ _ c.args.actor _ c.self.view_is _ c.self.invariant (the_turn _ c.requires).1
+
+pub finish-report-requires-clause-names : goal.finish-report-requires-clause-names
+finish-report-requires-clause-names c = names_known _ _ _ c.fits_law.ensures c.self.invariant
 
 pub finish-report-requires-clause-timers : goal.finish-report-requires-clause-timers
 finish-report-requires-clause-timers c =

@@ -1,10 +1,13 @@
 use Rattle.std.proofs.Common.{◌≡◌, ◌≤◌, ◌++◌, drop, length}
+use Rattle.link_machine.specs.Names.{actors_of}
+use Rattle.link_machine.specs.Core.{names_in}
 use Rattle.link_machine.specs.Effects.{laid_all, losses}
 use Rattle.link_state.specs.Outcomes.{HaveTimers}
 use Rattle.link_state.proofs.link.Link.lay_all.Given as goal
 
 abbrev pub invariant-loop-place : goal.invariant-loop-place
 invariant-loop-place l = record {
+  names : names_in l.self.actors ≡ actors_of l.set.processes;
   link : laid_all l.actor l.name l.self (drop l.place l.effects) ≡ laid_all l.actor l.name l.initial.self l.effects;
   lost : l.lost.items ++ losses l.actor l.name l.self l.place (drop l.place l.effects) ≡ losses l.actor l.name l.initial.self 0 l.effects;
   few : length l.lost.items ≤ l.place;

@@ -1,0 +1,9 @@
+use Rattle.std.proofs.Common.{sym, ap, ◌∙◌}
+use Rattle.link_machine.specs.Core.{names_in}
+use Rattle.link_machine.specs.Names.{place_of}
+use Rattle.link_state.proofs.Naming.{placed_at}
+use Rattle.link_state.proofs.actors.place_of.Goals as goal
+
+pub returns-then-is_called : goal.returns-then-is_called
+returns-then-is_called c =
+    sym (placed_at c.args.set.now.processes (names_in c.args.actors.now) c.args.name.process.0 c.args.name c.requires (c.is_called.ensures.0 c.if-is_called.true))
