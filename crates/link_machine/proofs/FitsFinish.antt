@@ -1,6 +1,6 @@
 -- A turn that ends leaves all fitting.
 use Rattle.std.proofs.Common.{◌≡◌, ◌≢◌, ℕ, zero, suc, Bool, true, false, if◌then◌else◌, List, [], ◌∷◌, ◌++◌, Option, Some, None, refl, sym, ap, ◌∙◌, subst}
-use Rattle.std.specs.Prelude.{slice_get, option_map, Any, Result, Ok, Err}
+use Rattle.std.specs.Prelude.{slice_get, option_map, Any, Result, Ok}
 use Rattle.std.specs.List.{AllByRecursion}
 use Rattle.std.proofs.lemmas.Option.{same_Some}
 use Rattle.turn_code.specs.Routes.{the_process, Carries, Brings, Reaches}
