@@ -5,7 +5,6 @@ use Rattle.std.specs.List.{AllByRecursion}
 use Rattle.std.proofs.lemmas.Option.{same_Some, none-some}
 use Rattle.turn_code.specs.Outcome.{Outcome, Meaning}
 use Rattle.turn_code.specs.declared.numbers.ProcessNumber.{ProcessNumber}
-use Rattle.turn_code.specs.declared.numbers.InstanceNumber.{InstanceNumber}
 use Rattle.turn_code.specs.declared.input.Place.{Place}
 use Rattle.turn_code.specs.declared.input.Party.{Party}
 use Rattle.turn_code.specs.declared.input.Party.TheVariants.{Environment, Process}
@@ -17,7 +16,7 @@ use Rattle.actor_names.specs.Names.{number_for}
 use Rattle.actor_names.specs.declared.name.ActorName.{ActorName}
 use Rattle.link_machine.specs.Core.{Core, found_in, names_in}
 use Rattle.link_machine.specs.Effects.{is_full, has_room, refusal_at, refusal_in, undelivered, laid, laid_all, lost_for, lost_by, losses, started, lost_in}
-use Rattle.link_machine.specs.Full.{HasFullPort, MeetsFull, FindsFull, lost_at, IsLost, behind, FullLaw}
+use Rattle.link_machine.specs.Full.{MeetsFull, FindsFull, lost_at, IsLost, behind, FullLaw}
 use Rattle.link_machine.specs.Refusals.{first_of, has_stopped, is_offered, offer_rows, of_actor, refuses, needs, with_room}
 use Rattle.link_machine.specs.Step.{Says, Stepped, step}
 use Rattle.link_machine.specs.Ledger.{Ledger, state_by, room, refusal_by, asked, ask_by}
