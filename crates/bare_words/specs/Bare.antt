@@ -155,32 +155,35 @@ bare_act Stop k b = over end.Stop None b
 abbrev pub HasRoom : Bare → Type 0
 HasRoom b = b.depth < MOST_OPERANDS
 
+abbrev pub Takes : ℕ → Bare → Type 0
+Takes n b = (n ≤ b.depth) × (b.depth ≤ MOST_OPERANDS)
+
 abbrev pub HasWords : Instruction → Bare → Type 0
 HasWords (PutInt z) b = HasRoom b
 HasWords (PutBool t) b = HasRoom b
 HasWords (Load v) b = HasRoom b × (v.0 < MOST_VARIABLES)
-HasWords (Store v) b = (1 ≤ b.depth) × (v.0 < MOST_VARIABLES)
+HasWords (Store v) b = Takes 1 b × (v.0 < MOST_VARIABLES)
 HasWords (Param j) b = HasRoom b × (j < MOST_PARAMETERS)
-HasWords Add b = 2 ≤ b.depth
-HasWords Sub b = 2 ≤ b.depth
-HasWords Mul b = 2 ≤ b.depth
-HasWords (Div z) b = (1 ≤ b.depth) × (pos 1 ≤ℤ z)
-HasWords (Mod z) b = (1 ≤ b.depth) × (pos 1 ≤ℤ z)
-HasWords (Rem z) b = (1 ≤ b.depth) × (pos 1 ≤ℤ z)
-HasWords Neg b = 1 ≤ b.depth
-HasWords Not b = 1 ≤ b.depth
-HasWords And b = 2 ≤ b.depth
-HasWords Or b = 2 ≤ b.depth
-HasWords Xor b = 2 ≤ b.depth
-HasWords Same b = 2 ≤ b.depth
-HasWords (Compare r) b = 2 ≤ b.depth
-HasWords (Case r z p) b = 1 ≤ b.depth
-HasWords (CaseWithin p x y) b = 1 ≤ b.depth
-HasWords (Pick p q) b = 1 ≤ b.depth
-HasWords Drop b = 1 ≤ b.depth
+HasWords Add b = Takes 2 b
+HasWords Sub b = Takes 2 b
+HasWords Mul b = Takes 2 b
+HasWords (Div z) b = Takes 1 b × (pos 1 ≤ℤ z)
+HasWords (Mod z) b = Takes 1 b × (pos 1 ≤ℤ z)
+HasWords (Rem z) b = Takes 1 b × (pos 1 ≤ℤ z)
+HasWords Neg b = Takes 1 b
+HasWords Not b = Takes 1 b
+HasWords And b = Takes 2 b
+HasWords Or b = Takes 2 b
+HasWords Xor b = Takes 2 b
+HasWords Same b = Takes 2 b
+HasWords (Compare r) b = Takes 2 b
+HasWords (Case r z p) b = Takes 1 b
+HasWords (CaseWithin p x y) b = Takes 1 b
+HasWords (Pick p q) b = Takes 1 b
+HasWords Drop b = Takes 1 b
 HasWords (Jump p) b = Unit {0}
-HasWords (Output n r c) b = (c ≤ MOST_PARAMETERS) × (c ≤ b.depth)
-HasWords (Set t) b = 1 ≤ b.depth
+HasWords (Output n r c) b = (c ≤ MOST_PARAMETERS) × Takes c b
+HasWords (Set t) b = Takes 1 b
 HasWords (Reset t) b = Unit {0}
 HasWords (Next q) b = Unit {0}
 HasWords Stop b = Unit {0}

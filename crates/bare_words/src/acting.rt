@@ -3,8 +3,8 @@ ghost use Rattle.std.specs.Prelude.{◌≡◌, ◌<◌, ◌≤◌, ◌≤ℤ◌,
 ghost use Rattle.turn_code.specs.Values.{holds, is_between};
 ghost use Rattle.turn_code.specs.Operation.{meaning_of, truth_of};
 ghost use Rattle.turn_division.specs.Division.{division_of};
-ghost use Rattle.profile_limits.specs.Limits.{MOST_OPERANDS, MOST_PARAMETERS, MOST_VARIABLES};
-ghost use Rattle.bare_words.specs.Bare.{bare_of, did, HasWords, bare_act, pushed, put, loaded, stored, given, combined, divided, negated_word, inverted, joined, compared, tested, picked, dropped, sent, timed, words_taken};
+ghost use Rattle.profile_limits.specs.Limits.{MOST_PARAMETERS, MOST_VARIABLES};
+ghost use Rattle.bare_words.specs.Bare.{bare_of, did, Takes, HasRoom, HasWords, bare_act, pushed, put, loaded, stored, given, combined, divided, negated_word, inverted, joined, compared, tested, picked, dropped, sent, timed, words_taken};
 
 use crate::after::{After, Given, Next};
 use crate::words::Words;
@@ -78,7 +78,7 @@ impl Words {
 
     /// A word more on top.
     fn push(&mut self, word: i32)
-        requires { (bare_of self.old).depth < MOST_OPERANDS }
+        requires { HasRoom (bare_of self.old) }
         ensures { bare_of self.new ≡ pushed (bare_of self.old) word }
     {
         self.operands[usize::from(self.depth)] = word;
@@ -87,7 +87,7 @@ impl Words {
 
     /// The topmost word, which is taken away.
     fn pop(&mut self) -> i32
-        requires { 1 ≤ (bare_of self.old).depth }
+        requires { Takes 1 (bare_of self.old) }
         ensures { bare_of self.old ≡ pushed (bare_of self.new) result }
     {
         self.depth -= 1;
@@ -96,7 +96,7 @@ impl Words {
 
     /// Puts a word on top.
     fn put(&mut self, word: i32, next: usize) -> After
-        requires { (bare_of self.old).depth < MOST_OPERANDS }
+        requires { HasRoom (bare_of self.old) }
         ensures { did result self.new ≡ put word next (bare_of self.old) }
     {
         self.push(word);
@@ -105,7 +105,7 @@ impl Words {
 
     /// Puts the word of a variable on top.
     fn load(&mut self, variable: VariableNumber, next: usize) -> After
-        requires room { (bare_of self.old).depth < MOST_OPERANDS }
+        requires room { HasRoom (bare_of self.old) }
         requires there { variable.0 < MOST_VARIABLES }
         ensures { did result self.new ≡ loaded variable next (bare_of self.old) }
     {
@@ -114,7 +114,7 @@ impl Words {
 
     /// Takes a word, which is the variable's from then on; it is set.
     fn store(&mut self, variable: VariableNumber, next: usize) -> After
-        requires some { 1 ≤ (bare_of self.old).depth }
+        requires some { Takes 1 (bare_of self.old) }
         requires there { variable.0 < MOST_VARIABLES }
         ensures { did result self.new ≡ stored variable next (bare_of self.old) }
     {
@@ -126,7 +126,7 @@ impl Words {
 
     /// Puts the word of a parameter on top.
     fn parameter(&mut self, place: u8, next: usize) -> After
-        requires room { (bare_of self.old).depth < MOST_OPERANDS }
+        requires room { HasRoom (bare_of self.old) }
         requires there { place < MOST_PARAMETERS }
         ensures { did result self.new ≡ given place next (bare_of self.old) }
     {
@@ -135,7 +135,7 @@ impl Words {
 
     /// What an operation makes of two words.
     fn combine(&mut self, operation: Operation, next: usize) -> After
-        requires { 2 ≤ (bare_of self.old).depth }
+        requires { Takes 2 (bare_of self.old) }
         ensures { did result self.new ≡ combined (meaning_of operation) next (bare_of self.old) }
     {
         let right = self.pop();
@@ -145,7 +145,7 @@ impl Words {
 
     /// What a division makes of a word.
     fn divide(&mut self, division: Division, divisor: i32, next: usize) -> After
-        requires some { 1 ≤ (bare_of self.old).depth }
+        requires some { Takes 1 (bare_of self.old) }
         requires divisor { pos 1 ≤ℤ divisor }
         ensures { did result self.new ≡ divided (division_of division) divisor next (bare_of self.old) }
     {
@@ -155,7 +155,7 @@ impl Words {
 
     /// The word with the other sign.
     fn negate(&mut self, next: usize) -> After
-        requires { 1 ≤ (bare_of self.old).depth }
+        requires { Takes 1 (bare_of self.old) }
         ensures { did result self.new ≡ negated_word next (bare_of self.old) }
     {
         let number = self.pop();
@@ -164,7 +164,7 @@ impl Words {
 
     /// The word of the other Boolean.
     fn invert(&mut self, next: usize) -> After
-        requires { 1 ≤ (bare_of self.old).depth }
+        requires { Takes 1 (bare_of self.old) }
         ensures { did result self.new ≡ inverted next (bare_of self.old) }
     {
         let word = self.pop();
@@ -173,7 +173,7 @@ impl Words {
 
     /// What a connective makes of the words of two Booleans.
     fn connect(&mut self, connective: Connective, next: usize) -> After
-        requires { 2 ≤ (bare_of self.old).depth }
+        requires { Takes 2 (bare_of self.old) }
         ensures { did result self.new ≡ joined (truth_of connective) next (bare_of self.old) }
     {
         let right = self.pop();
@@ -183,7 +183,7 @@ impl Words {
 
     /// Whether two words stand so to each other.
     fn compare(&mut self, relation: Relation, next: usize) -> After
-        requires { 2 ≤ (bare_of self.old).depth }
+        requires { Takes 2 (bare_of self.old) }
         ensures { did result self.new ≡ compared relation next (bare_of self.old) }
     {
         let right = self.pop();
@@ -193,7 +193,7 @@ impl Words {
 
     /// Takes a word away where it passes, and goes on at a place; else it stays.
     fn case(&mut self, relation: Relation, to: i32, place: CodePlace, next: usize) -> After
-        requires { 1 ≤ (bare_of self.old).depth }
+        requires { Takes 1 (bare_of self.old) }
         ensures { did result self.new ≡ tested (λ x. holds relation x to) place.0 next (bare_of self.old) }
     {
         let number = self.pop();
@@ -205,7 +205,7 @@ impl Words {
 
     /// The same where it is from the least number to the greatest.
     fn within(&mut self, least: i32, most: i32, place: CodePlace, next: usize) -> After
-        requires { 1 ≤ (bare_of self.old).depth }
+        requires { Takes 1 (bare_of self.old) }
         ensures { did result self.new ≡ tested (is_between least most) place.0 next (bare_of self.old) }
     {
         let number = self.pop();
@@ -217,7 +217,7 @@ impl Words {
 
     /// Takes the word of a Boolean, and goes on at the first place where it is 0, else at the second one.
     fn pick(&mut self, no: CodePlace, yes: CodePlace) -> After
-        requires { 1 ≤ (bare_of self.old).depth }
+        requires { Takes 1 (bare_of self.old) }
         ensures { did result self.new ≡ picked no.0 yes.0 (bare_of self.old) }
     {
         let word = self.pop();
@@ -227,7 +227,7 @@ impl Words {
 
     /// Takes a word and throws it away.
     fn throw_away(&mut self, next: usize) -> After
-        requires { 1 ≤ (bare_of self.old).depth }
+        requires { Takes 1 (bare_of self.old) }
         ensures { did result self.new ≡ dropped next (bare_of self.old) }
     {
         let _ = self.pop();
@@ -237,7 +237,7 @@ impl Words {
     /// The topmost words, so many of 4 at most, the topmost last, and 0 behind them.
     fn taken(&self, count: u8) -> [i32; 4]
         requires few { count ≤ MOST_PARAMETERS }
-        requires there { count ≤ (bare_of self.now).depth }
+        requires there { Takes count (bare_of self.now) }
         ensures { result ≡ words_taken count (bare_of self.now) }
     {
         let first = usize::from(self.depth - count);
@@ -251,7 +251,7 @@ impl Words {
     /// Takes so many words, and gives a signal out with them.
     fn output(&mut self, signal: SignalNumber, to: Receiver, count: u8, next: usize) -> After
         requires few { count ≤ MOST_PARAMETERS }
-        requires there { count ≤ (bare_of self.old).depth }
+        requires there { Takes count (bare_of self.old) }
         ensures { did result self.new ≡ sent signal to count next (bare_of self.old) }
     {
         let words = self.taken(count);
@@ -261,7 +261,7 @@ impl Words {
 
     /// Takes a word, and sets a timer to so long after the clock.
     fn set_timer(&mut self, timer: TimerNumber, next: usize) -> After
-        requires { 1 ≤ (bare_of self.old).depth }
+        requires { Takes 1 (bare_of self.old) }
         ensures { did result self.new ≡ timed timer next (bare_of self.old) }
     {
         let delay = self.pop();
