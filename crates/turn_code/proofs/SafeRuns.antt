@@ -11,6 +11,7 @@ use Rattle.turn_code.specs.Code.{takes, set_after, states_in, jumps, behind, suc
 use Rattle.turn_code.specs.Transitions.{Transition}
 use Rattle.turn_code.specs.Rules.{Agree, KeepsOutput, KeepsPieceLimits, KeepsSetLimits, ReachesReceiver, greatest, count_in, effects_in, counts_at, effects_at, depths}
 use Rattle.turn_code.specs.Valid.{IsValidTransition}
+use Rattle.turn_code.specs.At.{IsAt}
 use Rattle.turn_code.specs.Fits.{HaveSorts, AreSet, IsBrought, FitsTransition}
 use Rattle.turn_code.specs.Safe.{EndIsReady, IsSafeAfter, IsSafe, SendsFew}
 use Rattle.turn_code.specs.declared.value.Sort.{Sort}
@@ -33,16 +34,12 @@ use Rattle.plain_laws.proofs.Places.{there_is as there, among_at as at_place}
 
 -- what is claimed of place k holds of these operands and of what was done so far, its count is at most n, and its effects are not too many
 pub record Stands (t : Transition) (k : ℕ) (os : List Value) (s : Progress) (n : ℕ) : Type 0 where
-  pub facts : PlaceFacts
-  pub is : slice_get t.piece.facts k ≡ Some facts
-  pub shape : map sort_of os ≡ facts.shape
-  pub variables : HaveSorts t.process.variables s.variables
-  pub set : AreSet facts.set s.variables
-  pub count : facts.count ≤ n
-  pub effects : length s.effects + facts.effects ≤ t.piece.certificate.effects
+  pub at : IsAt t k os s.variables
+  pub count : at.facts.count ≤ n
+  pub effects : length s.effects + at.facts.effects ≤ t.piece.certificate.effects
 
 -- the output of a transition on an input that fits it has somebody who gets it
-receiver_there : (d : Draft) (t : Transition) (x : Input) (n : SignalNumber) (r : Receiver) → IsBrought d t.number t.trigger x.sender
+pub receiver_there : (d : Draft) (t : Transition) (x : Input) (n : SignalNumber) (r : Receiver) → IsBrought d t.number t.trigger x.sender
     → ReachesReceiver d t.number n t.trigger r → (p : Address) × (address_of r x.sender ≡ Some p)
 receiver_there d t x n (ToParty p) brought reaches = (of_party p, refl)
 receiver_there d t x n ToSender brought reaches = by t.trigger x.sender brought reaches
@@ -94,11 +91,11 @@ module _ (d : Draft) (t : Transition) (valid : IsValidTransition d t) where
       let own : f.effects ≡ effects_of i + greatest (effects_at t.piece (successors i k)) = (valid.budget k).effects i f ie fe in
       omega arith
 
-  deep : (k : ℕ) (os : List Value) (s : Progress) (n : ℕ) → Stands t k os s n → length os ≤ t.piece.certificate.depth
+  pub deep : (k : ℕ) (os : List Value) (s : Progress) (n : ℕ) → Stands t k os s n → length os ≤ t.piece.certificate.depth
   deep k os s n h =
-      let here : length h.facts.shape ≤ greatest (depths t.piece.facts) = greatest_in (λ (f : PlaceFacts). length f.shape) t.piece.facts k h.facts h.is in
+      let here : length h.at.facts.shape ≤ greatest (depths t.piece.facts) = greatest_in (λ (f : PlaceFacts). length f.shape) t.piece.facts k h.at.facts h.at.is in
       let depth : t.piece.certificate.depth ≡ greatest (depths t.piece.facts) = ((valid.budget 0).certificate refl).depth in
-      let long : length os ≡ length h.facts.shape = sym (map_length sort_of os) ∙ ap length h.shape in
+      let long : length os ≡ length h.at.facts.shape = sym (map_length sort_of os) ∙ ap length h.at.shape in
       omega arith
 
   pub limits : KeepsPieceLimits t.piece
@@ -116,21 +113,21 @@ module _ (d : Draft) (t : Transition) (valid : IsValidTransition d t) where
       by _ h = omega arith
 
   module _ (x : Input) (fits : FitsTransition d t x) where
-    sent_at : (i : Instruction) → KeepsOutput d t i → IsSent d.signals x i
+    pub sent_at : (i : Instruction) → KeepsOutput d t i → IsSent d.signals x i
     sent_at (Output n r c) h =
         let to = receiver_there d t x n r fits.brought h.receiver in
         (h.parameters, to.0, to.1)
     sent_at _ h = tt
 
     pub before : (k : ℕ) (os : List Value) (s : Progress) (n : ℕ) (h : Stands t k os s n) (i : Instruction) → slice_get t.piece.code k ≡ Some i
-        → Before d.signals t.process.variables t.parameters h.facts.set i x os s.variables
+        → Before d.signals t.process.variables t.parameters h.at.facts.set i x os s.variables
     before k os s n h i ie = record {
       sorts = fits.parameters;
-      variables = h.variables;
-      set = h.set;
-      under = subst (λ u. length (takes d.signals t.process.variables i) ≤ length u) (sym h.shape) (valid.under k i h.facts ie h.is);
-      agree = subst (λ u. Agree (takes d.signals t.process.variables i) u) (sym h.shape) ((valid.sort k).each i h.facts ie h.is);
-      reads_set = (valid.unset k).reads_set i h.facts ie h.is;
+      variables = h.at.variables;
+      set = h.at.set;
+      under = subst (λ u. length (takes d.signals t.process.variables i) ≤ length u) (sym h.at.shape) (valid.under k i h.at.facts ie h.at.is);
+      agree = subst (λ u. Agree (takes d.signals t.process.variables i) u) (sym h.at.shape) ((valid.sort k).each i h.at.facts ie h.at.is);
+      reads_set = (valid.unset k).reads_set i h.at.facts ie h.at.is;
       reads_there = (valid.number k).reads_there i ie;
       sets_there = (valid.number k).sets_there i ie;
       parameters = (valid.number k).parameters i ie;
@@ -138,7 +135,7 @@ module _ (d : Draft) (t : Transition) (valid : IsValidTransition d t) where
       sent = sent_at i ((valid.number k).outputs i ie);
     }
 
-    on_way : (k : ℕ) (i : Instruction) (f : PlaceFacts) → slice_get t.piece.code k ≡ Some i → slice_get t.piece.facts k ≡ Some f
+    pub on_way : (k : ℕ) (i : Instruction) (f : PlaceFacts) → slice_get t.piece.code k ≡ Some i → slice_get t.piece.facts k ≡ Some f
         → (j : ℕ) (left : List Sort) → IsWay d.signals t.process.variables t.parameters i k f.shape j left
         → Contains (successors i k) j × ((g : PlaceFacts) → slice_get t.piece.facts j ≡ Some g → left ≡ g.shape)
     on_way k i f ie fe j left (inl (next, e)) =
@@ -147,23 +144,19 @@ module _ (d : Draft) (t : Transition) (valid : IsValidTransition d t) where
         (in_first (jumps i) (behind i k) j next, λ g ge. e ∙ sym ((valid.shape k).jumped i f ie fe j g next ge))
 
     pub goes_on : (k : ℕ) (os : List Value) (s : Progress) (m : ℕ) (h : Stands t k os s (suc m)) (i : Instruction) → slice_get t.piece.code k ≡ Some i
-        → (j : ℕ) (os' : List Value) (s' : Progress) → Goes d.signals t.process.variables t.parameters h.facts.set i k os j os' (tick s) s' → Stands t j os' s' m
+        → (j : ℕ) (os' : List Value) (s' : Progress) → Goes d.signals t.process.variables t.parameters h.at.facts.set i k os j os' (tick s) s' → Stands t j os' s' m
     goes_on k os s m h i ie j os' s' w =
-        let way = on_way k i h.facts ie h.is j (map sort_of os')
-        (subst (λ u. IsWay d.signals t.process.variables t.parameters i k u j (map sort_of os')) h.shape w.way) in
-        let g = next_at k h.facts i h.is ie j way.0 in
-        let inside : IsWithin g.0.set (set_after i h.facts.set) = (valid.unset k).each i h.facts ie h.is j g.0 way.0 g.1 in
-        let above = count_above k h.facts i h.is ie j g.0 way.0 g.1 in
-        let richer = effects_above k h.facts i h.is ie j g.0 way.0 g.1 in
-        let most : h.facts.count ≤ suc m = h.count in
-        let rich : length s.effects + h.facts.effects ≤ t.piece.certificate.effects = h.effects in
+        let way = on_way k i h.at.facts ie h.at.is j (map sort_of os')
+        (subst (λ u. IsWay d.signals t.process.variables t.parameters i k u j (map sort_of os')) h.at.shape w.way) in
+        let g = next_at k h.at.facts i h.at.is ie j way.0 in
+        let inside : IsWithin g.0.set (set_after i h.at.facts.set) = (valid.unset k).each i h.at.facts ie h.at.is j g.0 way.0 g.1 in
+        let above = count_above k h.at.facts i h.at.is ie j g.0 way.0 g.1 in
+        let richer = effects_above k h.at.facts i h.at.is ie j g.0 way.0 g.1 in
+        let most : h.at.facts.count ≤ suc m = h.count in
+        let rich : length s.effects + h.at.facts.effects ≤ t.piece.certificate.effects = h.effects in
         let more : length s'.effects ≡ length s.effects + effects_of i = w.effects in
         record {
-          facts = g.0;
-          is = g.1;
-          shape = way.1 g.0 g.1;
-          variables = w.variables;
-          set = λ v has. w.set v (inside v has);
+          at = record { facts = g.0; is = g.1; shape = way.1 g.0 g.1; variables = w.variables; set = λ v has. w.set v (inside v has) };
           count = omega arith;
           effects = omega arith;
         }
@@ -179,26 +172,26 @@ module _ (d : Draft) (t : Transition) (valid : IsValidTransition d t) where
 
     after_safe : (k : ℕ) (os : List Value) (s : Progress) (m : ℕ) (h : Stands t k os s (suc m)) (i : Instruction) → slice_get t.piece.code k ≡ Some i
         → ((j : ℕ) (os' : List Value) (s' : Progress) → Stands t j os' s' m → IsSafe t x m j os' s')
-        → (a : After) → IsFine d.signals t.process.variables t.parameters h.facts.set i k os (tick s) a → IsSafeAfter t (IsSafe t x m) a
+        → (a : After) → IsFine d.signals t.process.variables t.parameters h.at.facts.set i k os (tick s) a → IsSafeAfter t (IsSafe t x m) a
     after_safe k os s m h i ie rest (goes j os' s') w = rest j os' s' (goes_on k os s m h i ie j os' s' w)
     after_safe k os s m h i ie rest (ends e s') w =
-        let own = effects_own k h.facts i h.is ie in
-        let rich : length s.effects + h.facts.effects ≤ t.piece.certificate.effects = h.effects in
+        let own = effects_own k h.at.facts i h.at.is ie in
+        let rich : length s.effects + h.at.facts.effects ≤ t.piece.certificate.effects = h.effects in
         let more : length s'.effects ≡ length s.effects + effects_of i = w.effects in
-        record { variables = w.variables; ready = ready k h.facts i h.is ie e s'.variables w.named w.set; effects = omega arith }
+        record { variables = w.variables; ready = ready k h.at.facts i h.at.is ie e s'.variables w.named w.set; effects = omega arith }
     after_safe k os s m h i ie rest (stuck z) w = absurd w
 
     pub safe : (n k : ℕ) (os : List Value) (s : Progress) → Stands t k os s n → IsSafe t x n k os s
     safe zero k os s h =
-        let i = code_at k h.facts h.is in
-        let own : h.facts.count ≡ 1 + greatest (counts_at t.piece (successors i.0 k)) = (valid.budget k).counts i.0 h.facts i.1 h.is in
-        let most : h.facts.count ≤ 0 = h.count in
+        let i = code_at k h.at.facts h.at.is in
+        let own : h.at.facts.count ≡ 1 + greatest (counts_at t.piece (successors i.0 k)) = (valid.budget k).counts i.0 h.at.facts i.1 h.at.is in
+        let most : h.at.facts.count ≤ 0 = h.count in
         absurd (omega arith)
     safe (suc m) k os s h =
-        let i = code_at k h.facts h.is in
-        let fine = act_fine d.signals t.process.variables t.parameters h.facts.set x k i.0 os (tick s) (before k os s (suc m) h i.0 i.1) in
+        let i = code_at k h.at.facts h.at.is in
+        let fine = act_fine d.signals t.process.variables t.parameters h.at.facts.set x k i.0 os (tick s) (before k os s (suc m) h i.0 i.1) in
         let over = after_safe k os s m h i.0 i.1 (λ j os' s' n. safe m j os' s' n) (act i.0 x (k + 1) os (tick s)) fine in
-        let rich : length s.effects + h.facts.effects ≤ t.piece.certificate.effects = h.effects in
+        let rich : length s.effects + h.at.facts.effects ≤ t.piece.certificate.effects = h.effects in
         (deep k os s (suc m) h, omega arith, subst (λ o. IsSafeAfter t (IsSafe t x m) (act_if o x (k + 1) os (tick s))) (sym i.1) over)
 
     pub stands_at_start : Stands t 0 [] (begun x) t.piece.certificate.budget
@@ -211,11 +204,13 @@ module _ (d : Draft) (t : Transition) (valid : IsValidTransition d t) where
         let effects : t.piece.certificate.effects ≡ effects_in (slice_get t.piece.facts 0) = ((valid.budget 0).certificate refl).effects in
         let effects' : t.piece.certificate.effects ≡ f.0.effects = rw f.1 at effects in
         record {
-          facts = f.0;
-          is = f.1;
-          shape = sym empty;
-          variables = fits.variables;
-          set = subst (λ m. AreSet m x.variables.items) (sym same) fits.set;
+          at = record {
+            facts = f.0;
+            is = f.1;
+            shape = sym empty;
+            variables = fits.variables;
+            set = subst (λ m. AreSet m x.variables.items) (sym same) fits.set;
+          };
           count = omega arith;
           effects = omega arith;
         }

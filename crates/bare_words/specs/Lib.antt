@@ -1,0 +1,4 @@
+pub mod Bare
+pub mod Meant
+pub mod Sorts
+pub mod Steps
