@@ -17,6 +17,7 @@ use Rattle.bare_words.specs.declared.after.After.{After}
 use Rattle.bare_words.specs.declared.after.Next.TheVariants.{Goes, Ends}
 use Rattle.bare_words.specs.Bare.{bare_of}
 use Rattle.bare_words.specs.Meant.{AreWordsOf, Grow}
+use Rattle.bare_words.specs.Sorts.{AreSortsOf}
 
 -- The code is a valid transition's, with parameters of its sorts, and its signal came from who is known to have sent it. The words at its place k stand for
 -- operands, variables and parameters that may be there.
@@ -24,7 +25,8 @@ pub record Stand (d : Draft) (t : Transition) (p : Piece) (k : ℕ) (w : Words) 
   pub limits : KeepsSetLimits d
   pub variables : length t.process.variables ≤ MOST_VARIABLES
   pub valid : IsValidTransition d t
-  pub code : t.piece.code ≡ p.code
+  pub code : t.piece.code ≡ p.code.now
+  pub sorts : AreSortsOf d.signals t.process.variables p.sorts.now
   pub sender : x.sender ≡ p.sender
   pub brought : IsBrought d t.number t.trigger x.sender
   pub parameters : map sort_of x.parameters.items ≡ t.parameters

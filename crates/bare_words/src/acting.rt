@@ -1,9 +1,10 @@
 //! What an instruction does on words.
-ghost use Rattle.std.specs.Prelude.{◌≡◌, ◌<◌, ◌≤◌, ◌≤ℤ◌, pos};
+ghost use Rattle.std.specs.Prelude.{◌≡◌, ◌<◌, ◌≤◌, ◌≤ℤ◌, pos, Some, None};
 ghost use Rattle.turn_code.specs.Values.{holds, is_between};
 ghost use Rattle.turn_code.specs.Operation.{meaning_of, truth_of};
 ghost use Rattle.turn_division.specs.Division.{division_of};
 ghost use Rattle.profile_limits.specs.Limits.{MOST_PARAMETERS, MOST_VARIABLES};
+ghost use Rattle.bare_words.specs.declared.after.Next.TheVariants.{Goes, Ends};
 ghost use Rattle.bare_words.specs.Bare.{bare_of, did, Takes, HasRoom, HasWords, bare_act, pushed, put, loaded, stored, given, combined, divided, negated_word, inverted, joined, compared, tested, picked, dropped, sent, timed, words_taken};
 
 use crate::after::{After, Given, Next};
@@ -15,7 +16,9 @@ use turn_code::{
 use turn_division::Division;
 
 /// The code goes on at a place, and nothing is given out.
-fn go(place: usize) -> After {
+fn go(place: usize) -> After
+    ensures { result ≡ record { effect = None; next = Goes place } }
+{
     After {
         effect: None,
         next: Next::Goes(place),
@@ -23,15 +26,19 @@ fn go(place: usize) -> After {
 }
 
 /// The code goes on at a place, and this is given out.
-fn give(given: Given, next: usize) -> After {
+fn give(effect: Given, next: usize) -> After
+    ensures { result ≡ record { effect = Some effect; next = Goes next } }
+{
     After {
-        effect: Some(given),
+        effect: Some(effect),
         next: Next::Goes(next),
     }
 }
 
 /// The transition ends so.
-fn end(end: End) -> After {
+fn end(end: End) -> After
+    ensures { result ≡ record { effect = None; next = Ends end } }
+{
     After {
         effect: None,
         next: Next::Ends(end),

@@ -3,7 +3,7 @@
 use turn_code::{End, Receiver, SignalNumber, TimerNumber};
 
 /// An effect as the instruction names it, on words. A small value: no list is copied with it.
-#[derive(Clone, Copy, PartialEq, Eq, Debug)]
+#[derive(Clone, Copy)]
 pub enum Given {
     /// This signal goes to this receiver, with so many of these words.
     Output(SignalNumber, Receiver, u8, [i32; 4]),
@@ -14,7 +14,7 @@ pub enum Given {
 }
 
 /// Where the code goes on.
-#[derive(Clone, Copy, PartialEq, Eq, Debug)]
+#[derive(Clone, Copy)]
 pub enum Next {
     /// At this place.
     Goes(usize),
@@ -23,7 +23,7 @@ pub enum Next {
 }
 
 /// What follows an instruction.
-#[derive(Clone, Copy, PartialEq, Eq, Debug)]
+#[derive(Clone, Copy)]
 pub struct After {
     /// What it gives out, if anything.
     pub effect: Option<Given>,

@@ -1,37 +1,15 @@
 //! The code that is run, where it stands.
-ghost use Rattle.std.specs.Prelude.{◌≡◌};
 
+use crate::sorts::Sorts;
 use turn_code::{Address, Instruction};
 
-/// A transition's code where it stands, and who sent the signal that it waited for, if that is known: what words have lost of an input.
-///
-/// The sorts of parameters and of variables are of no use to a step: whoever makes effects and variables of words has them.
+/// The code of a transition where it stands, with what words have lost of an input and of its set.
 #[derive(Clone, Copy)]
 pub struct Piece<'a> {
-    code: &'a [Instruction],
-    sender: Option<Address>,
-}
-
-impl<'a> Piece<'a> {
-    /// Code, with who sent the signal.
-    pub fn new(code: &'a [Instruction], sender: Option<Address>) -> Piece<'a>
-        ensures code { result.code.now ≡ code.now }
-        ensures sender { result.sender ≡ sender }
-    {
-        Piece { code, sender }
-    }
-
-    /// The instruction at a place.
-    pub(crate) fn code(&self) -> &'a [Instruction]
-        ensures { result.now ≡ self.now.code.now }
-    {
-        self.code
-    }
-
-    /// Who sent the signal.
-    pub fn sender(&self) -> Option<Address>
-        ensures { result ≡ self.now.sender }
-    {
-        self.sender
-    }
+    /// Its instructions.
+    pub code: &'a [Instruction],
+    /// Who sent the signal that the transition waited for, if that is known.
+    pub sender: Option<Address>,
+    /// The sorts of signals' parameters and of the process's variables. No step looks at them: effects and variables are made of words with them.
+    pub sorts: &'a Sorts,
 }

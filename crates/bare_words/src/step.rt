@@ -11,5 +11,5 @@ pub fn step_bare(piece: &Piece<'_>, place: usize, words: &mut Words) -> After
     requires { StandAt piece.now place words.old }
     ensures { IsStep piece.now place words.old result words.new }
 {
-    words.act(piece.code()[place], place + 1)
+    words.act(piece.code[place], place + 1)
 }

@@ -1,7 +1,7 @@
 //! The words of a run.
 
 /// What a run has at one moment, in words.
-#[derive(Clone, Copy, PartialEq, Eq, Debug)]
+#[derive(Clone, Copy)]
 pub struct Words {
     /// Its operands, the first one at the bottom; those from `depth` on are of no account.
     pub operands: [i32; 16],
