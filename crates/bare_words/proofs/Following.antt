@@ -94,7 +94,7 @@ both_ways : (Q : Did → After → Type 0) (t : Truth) (a b : Did) (c e : After)
 both_ways Q true a b c e h i = h
 both_ways Q false a b c e h i = i
 
-sort_there : (xs : List DraftVariable) (v : ℕ) (y : DraftVariable) → slice_get xs v ≡ Some y → sort_at xs v ≡ y.sort ∷ []
+pub sort_there : (xs : List DraftVariable) (v : ℕ) (y : DraftVariable) → slice_get xs v ≡ Some y → sort_at xs v ≡ y.sort ∷ []
 sort_there xs v y e = rw e refl
 
 module _ (ss : List DraftSignal) (xs : List DraftVariable) (ps : List Sort) (m : VariableSet) (x : Input) (k : ℕ) where

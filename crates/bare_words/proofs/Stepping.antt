@@ -1,6 +1,7 @@
 -- A step on words is the step on the values that they stand for.
-use Rattle.std.proofs.Common.{◌≡◌, ℕ, ◌+◌, ◌<◌, ◌≤◌, IsTrue, List, ◌∷◌, length, Option, Some, refl, sym, ap, subst, arith}
+use Rattle.std.proofs.Common.{◌≡◌, ℕ, ◌+◌, ◌<◌, ◌≤◌, IsTrue, List, ◌∷◌, length, get_or, Option, Some, refl, sym, ap, ◌∙◌, subst, arith}
 use Rattle.std.specs.Prelude.{slice_get}
+use Rattle.std.proofs.lemmas.Option.{get_or_from_slice_get}
 use Rattle.turn_code.proofs.Lists.{within}
 use Rattle.turn_code.proofs.Stands.{Before, IsFine, act_fine}
 use Rattle.turn_code.proofs.SafeRuns.{code_at, deep, sends_few, before_at, way_to}
@@ -55,7 +56,7 @@ module _ (d : Draft) (t : Transition) (p : Piece) (k : ℕ) (old : Words) (x : I
   known : (i : Instruction) → slice_get p.code.now k ≡ Some i → Before d.signals t.process.variables t.parameters h.at.facts.set i x os s.variables
   known i ie = before_at d t h.valid x h.parameters h.brought k os s.variables h.at i (own_code i ie)
 
-  Fine : Instruction → Tagged → Type 0
+  abbrev Fine : Instruction → Tagged → Type 0
   Fine i a = IsFine d.signals t.process.variables t.parameters h.at.facts.set i k os (tick s) a
 
   fine : (i : Instruction) → slice_get p.code.now k ≡ Some i → Fine i (act i x (k + 1) os (tick s))
@@ -110,3 +111,19 @@ module _ (d : Draft) (t : Transition) (p : Piece) (k : ℕ) (old : Words) (x : I
       let own : Follows d t p x s a new (act i x (k + 1) os (tick s)) =
       follow new a i ie (act i x (k + 1) os (tick s)) (subst (λ u. Meets x (tick s) u (act i x (k + 1) os (tick s))) (sym e) meets) (fine i ie) in
       subst (λ o. Follows d t p x s a new (act_if o x (k + 1) os (tick s))) (sym (own_code i ie)) own
+
+  -- the same of the element that the code reads there, whatever stands for one that isn't there
+  pub wanted_here : (e : Instruction) → length old.params ≡ 4 → HasWords (get_or p.code.now k e) (bare_of old)
+  wanted_here e four =
+      let i = stands_on in
+      subst (λ u. HasWords u (bare_of old)) (sym (get_or_from_slice_get p.code.now k i.0 e i.1)) (wanted i.0 i.1 four)
+
+  pub followed_here : (e : Instruction) (new : Words) (a : After) → length old.variables ≡ 32 → did a new ≡ bare_act (get_or p.code.now k e) (k + 1) (bare_of old)
+      → Follows d t p x s a new (step t.piece.code x k os s)
+  followed_here e new a wide is =
+      let i = stands_on in
+      followed new a i.0 i.1 wide (is ∙ ap (λ u. bare_act u (k + 1) (bare_of old)) (get_or_from_slice_get p.code.now k i.0 e i.1))
+
+  -- the code is no longer than it may be
+  pub short : length p.code.now ≤ 512
+  short = subst (λ u. length u ≤ 512) h.code ((h.valid.limit 0).piece refl).size

@@ -1,0 +1,4 @@
+pub mod Standing
+pub mod Following
+pub mod Wanting
+pub mod Stepping
