@@ -37,7 +37,7 @@ fn boolean_bits(sorts: &[Sort]) -> u8
 }
 
 /// Which of some variables are Booleans, by bits from the lowest on.
-fn variable_bits(variables: &[DraftVariable]) -> u32
+pub fn variable_bits(variables: &[DraftVariable]) -> u32
     requires { length variables.now ≤ MOST_VARIABLES }
     ensures value { result ≡ sort_bits (sorts_of variables.now) }
     ensures small { result < 2 ^ length variables.now }
@@ -52,7 +52,7 @@ fn variable_bits(variables: &[DraftVariable]) -> u32
 }
 
 /// For each signal, which of its parameters are Booleans.
-fn parameter_bits(signals: &[DraftSignal]) -> [u8; 128]
+pub fn parameter_bits(signals: &[DraftSignal]) -> [u8; 128]
     requires few { length signals.now ≤ MOST_SIGNALS }
     requires small { All (λ (s : AnySignal). length s.parameters ≤ MOST_PARAMETERS) signals.now }
     ensures { AreBitsOf signals.now result }
