@@ -1,6 +1,5 @@
-use Rattle.std.proofs.Common.{◌∙◌}
-use Rattle.std.proofs.lemmas.Option.{get_or_from_slice_get}
-use Rattle.bare_words.specs.Sorts.{sort_bits, sorts_of}
+use Rattle.std.proofs.Common.{rules}
+use Rattle.turn_check.proofs.Sorting.{sorted_at}
 use Rattle.turn_check.proofs.verified.Verified.sorts.Goals as goal
 
 pub returns : goal.returns
