@@ -11,6 +11,6 @@ mod words;
 
 pub use after::{After, Given, Next};
 pub use piece::Piece;
-pub use sorts::{Sorts, value_of};
+pub use sorts::{Sorts, parameter_bits, value_of, variable_bits};
 pub use step::step_bare;
 pub use words::Words;

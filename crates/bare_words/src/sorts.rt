@@ -5,7 +5,7 @@ ghost use Rattle.turn_code.specs.declared.value.Value.{Value as AnyValue};
 ghost use Rattle.turn_code.specs.declared.effect.Effect.{Effect as AnyEffect};
 ghost use Rattle.turn_code.specs.declared.draft.DraftSignal.{DraftSignal as AnySignal};
 ghost use Rattle.bare_words.specs.Meant.{word_of, IsEffectOf};
-ghost use Rattle.bare_words.specs.Sorts.{is_boolean, sort_bits, sorts_of, AreBitsOf, AreSortsOf, IsOfSorts, HasReceiver};
+ghost use Rattle.bare_words.specs.Sorts.{is_boolean, sort_bits, sorts_of, AreBitsOf, IsOfSorts, HasReceiver};
 ghost use Rattle.profile_limits.specs.Limits.{MOST_PARAMETERS, MOST_SIGNALS, MOST_VARIABLES};
 
 use crate::after::Given;
@@ -36,8 +36,8 @@ fn boolean_bits(sorts: &[Sort]) -> u8
     }
 }
 
-/// Which of some variables are Booleans, by bits from the lowest on.
-fn variable_bits(variables: &[DraftVariable]) -> u32
+/// Which of a process's variables are Booleans, by bits from the lowest on: what its `Sorts` have.
+pub fn variable_bits(variables: &[DraftVariable]) -> u32
     requires { length variables.now ≤ MOST_VARIABLES }
     ensures value { result ≡ sort_bits (sorts_of variables.now) }
     ensures small { result < 2 ^ length variables.now }
@@ -51,8 +51,8 @@ fn variable_bits(variables: &[DraftVariable]) -> u32
     }
 }
 
-/// For each signal, which of its parameters are Booleans.
-fn parameter_bits(signals: &[DraftSignal]) -> [u8; 128]
+/// For each signal of a set, which of its parameters are Booleans, by bits from the lowest on: what `Sorts` have. 0 where there is no signal.
+pub fn parameter_bits(signals: &[DraftSignal]) -> [u8; 128]
     requires few { length signals.now ≤ MOST_SIGNALS }
     requires small { All (λ (s : AnySignal). length s.parameters ≤ MOST_PARAMETERS) signals.now }
     ensures { AreBitsOf signals.now result }
@@ -90,19 +90,6 @@ fn add_values(values: &mut ArrayVec<Value, 4>, bits: u8, words: &[i32])
 }
 
 impl Sorts {
-    /// Those of a set's signals and of a process's variables.
-    pub fn of(signals: &[DraftSignal], variables: &[DraftVariable]) -> Sorts
-        requires few { length signals.now ≤ MOST_SIGNALS }
-        requires small { All (λ (s : AnySignal). length s.parameters ≤ MOST_PARAMETERS) signals.now }
-        requires variables { length variables.now ≤ MOST_VARIABLES }
-        ensures { AreSortsOf signals.now variables.now result }
-    {
-        Sorts {
-            parameters: parameter_bits(signals),
-            variables: variable_bits(variables),
-        }
-    }
-
     /// Which parameters of a signal are Booleans.
     fn bits(&self, signal: SignalNumber) -> u8
         ensures { result ≡ slice_index_or self.now.parameters signal.0 0 }

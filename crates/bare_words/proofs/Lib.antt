@@ -1,0 +1,3 @@
+pub mod Piled
+pub mod SortBits
+pub mod Making
