@@ -1,2 +1,3 @@
 pub mod NameLists
 pub mod Whole
+pub mod Sorting
