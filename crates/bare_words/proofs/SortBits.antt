@@ -1,8 +1,8 @@
 -- Sorts in bits, and the values of words.
-use Rattle.std.proofs.Common.{◌≡◌, ◌≢◌, ℕ, zero, suc, ◌+◌, ◌*◌, ◌/◌, ◌%◌, ◌<◌, ◌≤◌, ℤ, pos, Bool as Truth, true, false, eqb, if◌then◌else◌, List, [], ◌∷◌, ◌++◌, length, map, drop, Option, Some, refl, sym, ap, ◌∙◌, subst, ⊎_elim, arith}
+use Rattle.std.proofs.Common.{◌≡◌, ◌≢◌, ℕ, zero, suc, ◌+◌, ◌-◌, ◌*◌, ◌/◌, ◌%◌, ◌<◌, ◌≤◌, ℤ, pos, Bool as Truth, true, false, eqb, if◌then◌else◌, List, [], ◌∷◌, ◌++◌, length, map, take, drop, take_all, Option, Some, refl, sym, ap, ◌∙◌, subst, ⊎_elim, arith}
 use Rattle.std.specs.Prelude.{slice_get, slice_set, slice_index_or}
 use Rattle.std.proofs.lemmas.Bool.Decides.{eqb_tells}
-use Rattle.std.proofs.lemmas.List.{append_assoc}
+use Rattle.std.proofs.lemmas.List.{append_assoc, length-drop}
 use Rattle.plain_laws.proofs.Places.{get_set_same, get_set_other}
 use Rattle.turn_code.specs.Values.{sort_of}
 use Rattle.turn_code.specs.declared.value.Sort.{Sort}
@@ -37,12 +37,13 @@ others Boolean bits rest e = omega arith
 pub added : (xs olds mids news : List Value) (ws : List ℤ) (bits : ℕ) (v : Value) → 1 ≤ length ws
     → ((x : Value) → word_of x ≡ slice_index_or ws 0 (pos 0) → is_boolean (sort_of x) ≡ eqb (bits % 2) 1 → v ≡ x)
     → mids ≡ olds ++ v ∷ []
-    → ((ys : List Value) → drop 1 ws ≡ map word_of ys → bits / 2 ≡ sort_bits (map sort_of ys) → news ≡ mids ++ ys)
+    → ((ys : List Value) → take (length ws - 1) (drop 1 ws) ≡ map word_of ys → bits / 2 ≡ sort_bits (map sort_of ys) → news ≡ mids ++ ys)
     → ws ≡ map word_of xs → bits ≡ sort_bits (map sort_of xs) → news ≡ olds ++ xs
 added [] olds mids news ws bits v some one more rest words are = let none : length ws ≡ 0 = ap length words in absurd (omega arith)
 added (x ∷ xs) olds mids news ws bits v some one more rest words are =
     let first : slice_index_or ws 0 (pos 0) ≡ word_of x = ap (λ u. slice_index_or u 0 (pos 0)) words in
-    let behind : drop 1 ws ≡ map word_of xs = ap (drop 1) words in
+    let all : take (length ws - 1) (drop 1 ws) ≡ drop 1 ws = take_all (length ws - 1) (drop 1 ws) (omega (arith, length-drop 1 ws)) in
+    let behind : take (length ws - 1) (drop 1 ws) ≡ map word_of xs = all ∙ ap (drop 1) words in
     let is : v ≡ x = one x (sym first) (sym (lowest (sort_of x) bits (sort_bits (map sort_of xs)) are)) in
     rest xs behind (others (sort_of x) bits (sort_bits (map sort_of xs)) are)
     ∙ ap (λ u. u ++ xs) (more ∙ ap (λ u. olds ++ u ∷ []) is) ∙ append_assoc olds (x ∷ []) xs

@@ -15,10 +15,11 @@ loop-place-preserved c =
     (length (slice_set c.loop-place.words c.loop-place.place x) ≡ 4)
     × (slice_set c.loop-place.words c.loop-place.place x
     ≡ take (c.loop-place.place + 1) (drop c.from-first.result ops) ++ replicate (4 - (c.loop-place.place + 1)) (pos 0)))
-    (sym (to_z-of_z fits))
-    (length-set c.loop-place.words c.loop-place.place c.operand-word.result ∙ c.loop-place.invariant.0,
-    one_filled (drop c.from-first.result ops) c.loop-place.words 4 c.loop-place.place c.operand-word.result below
-    (word_behind ops c.from-first.result c.loop-place.place there ∙ ap Some (sym c.operand-word.ensures)) c.loop-place.invariant.1)
+    (sym (to_z-of_z fits)) (
+      length-set c.loop-place.words c.loop-place.place c.operand-word.result ∙ c.loop-place.invariant.0,
+      one_filled (drop c.from-first.result ops) c.loop-place.words 4 c.loop-place.place c.operand-word.result below
+          (word_behind ops c.from-first.result c.loop-place.place there ∙ ap Some (sym c.operand-word.ensures)) c.loop-place.invariant.1,
+    )
 
 pub returns : goal.returns
 returns c =
