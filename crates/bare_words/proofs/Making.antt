@@ -1,5 +1,5 @@
 -- Effects that are made of words.
-use Rattle.std.proofs.Common.{◌≡◌, ℕ, ℤ, List, [], ◌++◌, map, take, Option, Some, refl, sym, ap, ◌∙◌, subst}
+use Rattle.std.proofs.Common.{◌≡◌, ℕ, ℤ, List, [], ◌++◌, map, take, Option, Some, sym, ap, ◌∙◌, subst}
 use Rattle.std.specs.Prelude.{slice_index_or}
 use Rattle.turn_code.specs.Values.{sort_of}
 use Rattle.turn_code.specs.Run.{address_of, sending}
