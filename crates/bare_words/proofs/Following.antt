@@ -1,10 +1,10 @@
 -- One instruction on words that stand for values does what it does on the values: for each way of taking operands.
-use Rattle.std.proofs.Common.{◌≡◌, ℕ, zero, suc, ◌+◌, ◌-◌, ◌<◌, ◌≤◌, Bool as Truth, true, false, not, ◌&&◌, ◌||◌, if◌then◌else◌, ℤ, pos, ◌+ℤ◌, ◌-ℤ◌, ◌*ℤ◌, neg_ℤ, List, [], ◌∷◌, ◌++◌, length, map, take, drop, reverse, Option, Some, None, refl, sym, ap, ◌∙◌, subst, arith}
-use Rattle.std.specs.Prelude.{slice_get, slice_set, slice_index_or, nat_le, int_lt, int_div, int_rem, ◌≤ℤ◌}
+use Rattle.std.proofs.Common.{◌≡◌, ℕ, ◌-◌, ◌<◌, ◌≤◌, Bool as Truth, true, false, not, ◌&&◌, ◌||◌, if◌then◌else◌, ℤ, pos, ◌+ℤ◌, ◌-ℤ◌, ◌*ℤ◌, neg_ℤ, List, [], ◌∷◌, length, map, take, drop, reverse, Option, Some, None, refl, sym, ap, ◌∙◌, subst, arith}
+use Rattle.std.specs.Prelude.{slice_get, slice_set, nat_le, int_lt, int_div, int_rem, ◌≤ℤ◌}
 use Rattle.std.specs.Int.{int_rem_euclid}
 use Rattle.std.proofs.lemmas.Bool.{le-leb}
 use Rattle.std.proofs.lemmas.List.{length-reverse}
-use Rattle.turn_code.proofs.Lists.{within, zip_length, map_length, only}
+use Rattle.turn_code.proofs.Lists.{zip_length, map_length, only}
 use Rattle.turn_code.proofs.Stands.{Before, if_so, above_0}
 use Rattle.turn_code.specs.Values.{sort_of, wrap, holds, is_between, differ}
 use Rattle.turn_code.specs.Sets.{Has}
@@ -28,8 +28,6 @@ use Rattle.turn_code.specs.declared.instruction.Receiver.{Receiver}
 use Rattle.turn_code.specs.declared.instruction.Relation.{Relation}
 use Rattle.turn_code.specs.declared.instruction.Instruction.{Instruction}
 use Rattle.turn_code.specs.declared.instruction.Instruction.TheVariants.{Int as PutInt, Bool as PutBool, Load, Store, Param, Add, Sub, Mul, Div, Mod, Rem, Neg, Not, And, Or, Xor, Same, Compare, Case, CaseWithin, Pick, Drop, Jump, Output, Set, Reset, Next, Stop}
-use Rattle.turn_code.specs.declared.machine.End.{End}
-use Rattle.turn_code.specs.declared.machine.End.TheVariants as end
 use Rattle.turn_code.specs.declared.trouble.Trouble.TheVariants.{WrongSort, Underflow}
 use Rattle.turn_code.specs.declared.variable_set.VariableSet.{VariableSet}
 use Rattle.turn_code.specs.declared.draft.DraftSignal.{DraftSignal}

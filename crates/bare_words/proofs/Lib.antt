@@ -1,3 +1,6 @@
+pub mod Piled
+pub mod SortBits
+pub mod Making
 pub mod Standing
 pub mod Following
 pub mod Wanting

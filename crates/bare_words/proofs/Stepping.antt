@@ -1,12 +1,11 @@
 -- A step on words is the step on the values that they stand for.
-use Rattle.std.proofs.Common.{◌≡◌, ℕ, ◌+◌, ◌<◌, ◌≤◌, IsTrue, List, ◌∷◌, length, get_or, Option, Some, refl, sym, ap, ◌∙◌, subst, arith}
+use Rattle.std.proofs.Common.{◌≡◌, ℕ, ◌+◌, ◌<◌, ◌≤◌, List, length, get_or, Option, Some, refl, sym, ap, ◌∙◌, subst, arith}
 use Rattle.std.specs.Prelude.{slice_get}
 use Rattle.std.proofs.lemmas.Option.{get_or_from_slice_get}
 use Rattle.turn_code.proofs.Lists.{within}
 use Rattle.turn_code.proofs.Stands.{Before, IsFine, act_fine}
 use Rattle.turn_code.proofs.SafeRuns.{code_at, deep, sends_few, before_at, way_to}
 use Rattle.turn_code.specs.Code.{sends}
-use Rattle.turn_code.specs.Machine.{grows}
 use Rattle.turn_code.specs.Run.{Progress, After as Tagged, goes, ends, stuck, act, act_if, tick, step}
 use Rattle.turn_code.specs.Transitions.{Transition}
 use Rattle.turn_code.specs.At.{IsAt}
@@ -15,7 +14,6 @@ use Rattle.turn_code.specs.declared.input.Input.{Input}
 use Rattle.turn_code.specs.declared.draft.Draft.{Draft}
 use Rattle.turn_code.specs.declared.instruction.Instruction.{Instruction}
 use Rattle.turn_code.specs.declared.machine.End.{End}
-use Rattle.turn_code.specs.declared.trouble.Trouble.{Trouble}
 use Rattle.bare_words.specs.declared.piece.Piece.{Piece}
 use Rattle.bare_words.specs.declared.words.Words.{Words}
 use Rattle.bare_words.specs.declared.after.After.{After}
@@ -24,7 +22,7 @@ use Rattle.bare_words.specs.declared.after.Next.{Next as Onward}
 use Rattle.bare_words.specs.declared.after.Next.TheVariants.{Goes, Ends}
 use Rattle.bare_words.specs.Bare.{Bare, bare_of, did, did_next, bare_act, HasWords}
 use Rattle.bare_words.specs.Meant.{AreWordsOf, Grow}
-use Rattle.bare_words.specs.Steps.{Stand, StandAt, Follows, IsStep}
+use Rattle.bare_words.specs.Steps.{Stand, Follows}
 use Rattle.bare_words.proofs.Wanting.{grown_room, has_words}
 use Rattle.bare_words.proofs.Following.{Meets, act_meets}
 

@@ -1,14 +1,14 @@
 -- What an instruction wants of the words is there, where they stand for values that are claimed of its place.
-use Rattle.std.proofs.Common.{◌≡◌, ℕ, suc, ◌+◌, ◌<◌, ◌≤◌, IsTrue, List, [], ◌∷◌, length, map, Option, Some, None, refl, sym, ap, ◌∙◌, subst, arith}
+use Rattle.std.proofs.Common.{◌≡◌, ℕ, ◌<◌, ◌≤◌, IsTrue, List, ◌∷◌, length, map, Option, Some, None, refl, sym, ap, ◌∙◌, subst, arith}
 use Rattle.std.specs.Prelude.{slice_get, pos, ◌≤ℤ◌}
 use Rattle.std.proofs.lemmas.List.{length-reverse}
 use Rattle.turn_code.proofs.Lists.{within, map_length, only}
 use Rattle.turn_code.proofs.Stands.{Before}
 use Rattle.turn_code.specs.Values.{sort_of}
 use Rattle.turn_code.specs.Machine.{grows}
-use Rattle.turn_code.specs.Run.{Progress, After, goes, ends, stuck, loaded, given, act}
+use Rattle.turn_code.specs.Run.{Progress, After, goes, stuck, loaded, given, act}
 use Rattle.turn_code.specs.Transitions.{parameters_of}
-use Rattle.turn_code.specs.Code.{sort_at, takes, sends}
+use Rattle.turn_code.specs.Code.{takes, sends}
 use Rattle.turn_code.specs.declared.value.Sort.{Sort}
 use Rattle.turn_code.specs.declared.value.Value.{Value}
 use Rattle.turn_code.specs.declared.value.Value.TheVariants.{Int, Bool}

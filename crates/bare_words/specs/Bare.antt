@@ -1,5 +1,5 @@
 -- What an instruction does on bare words: a Boolean is 0 or 1, and nothing says which sort a word has.
-use Rattle.std.specs.Prelude.{◌≡◌, ℕ, ◌+◌, ◌-◌, ◌^◌, ◌<◌, ◌≤◌, ℤ, pos, ◌≤ℤ◌, neg_ℤ, bit_or, ◌+ℤ◌, ◌-ℤ◌, ◌*ℤ◌, int_div, int_rem, Bool as Truth, true, false, not, ◌&&◌, ◌||◌, if◌then◌else◌, List, [], ◌∷◌, ◌++◌, length, take, drop, reverse, replicate, Option, Some, None, slice_index_or, slice_set}
+use Rattle.std.specs.Prelude.{ℕ, ◌+◌, ◌-◌, ◌^◌, ◌<◌, ◌≤◌, ℤ, pos, ◌≤ℤ◌, neg_ℤ, bit_or, ◌+ℤ◌, ◌-ℤ◌, ◌*ℤ◌, int_div, int_rem, Bool as Truth, true, false, not, ◌&&◌, ◌||◌, if◌then◌else◌, List, ◌∷◌, ◌++◌, take, drop, reverse, replicate, Option, Some, None, slice_index_or, slice_set}
 use Rattle.std.specs.Ordering.{int_eq}
 use Rattle.std.specs.Int.{int_rem_euclid}
 use Rattle.profile_limits.specs.Limits.{MOST_OPERANDS, MOST_PARAMETERS, MOST_VARIABLES}

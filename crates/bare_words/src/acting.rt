@@ -1,9 +1,9 @@
 //! What an instruction does on words.
-ghost use Rattle.std.specs.Prelude.{◌≡◌, ◌<◌, ◌≤◌, ◌≤ℤ◌, pos, Some, None};
+ghost use Rattle.std.specs.Prelude.{◌≡◌, ◌<◌, ◌≤◌, ◌≤ℤ◌, pos, Some, None, slice_index_or};
 ghost use Rattle.turn_code.specs.Values.{holds, is_between};
 ghost use Rattle.turn_code.specs.Operation.{meaning_of, truth_of};
 ghost use Rattle.turn_division.specs.Division.{division_of};
-ghost use Rattle.profile_limits.specs.Limits.{MOST_PARAMETERS, MOST_VARIABLES};
+ghost use Rattle.profile_limits.specs.Limits.{MOST_OPERANDS, MOST_PARAMETERS, MOST_VARIABLES};
 ghost use Rattle.bare_words.specs.declared.after.Next.TheVariants.{Goes, Ends};
 ghost use Rattle.bare_words.specs.Bare.{bare_of, did, Takes, HasRoom, HasWords, bare_act, pushed, put, loaded, stored, given, combined, divided, negated_word, inverted, joined, compared, tested, picked, dropped, sent, timed, words_taken};
 
@@ -241,6 +241,14 @@ impl Words {
         go(next)
     }
 
+    /// The word at a place from the bottom.
+    fn operand(&self, place: usize) -> i32
+        requires { place < MOST_OPERANDS }
+        ensures { result ≡ slice_index_or self.now.operands place (pos 0) }
+    {
+        self.operands[place]
+    }
+
     /// The topmost words, so many of 4 at most, the topmost last, and 0 behind them.
     fn taken(&self, count: u8) -> [i32; 4]
         requires few { count ≤ MOST_PARAMETERS }
@@ -250,7 +258,8 @@ impl Words {
         let first = usize::from(self.depth - count);
         let mut words = [0; 4];
         for place in 0..usize::from(count) {
-            words[place] = self.operands[first + place];
+            let word = self.operand(first + place);
+            words[place] = word;
         }
         words
     }

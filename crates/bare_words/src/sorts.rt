@@ -5,14 +5,14 @@ ghost use Rattle.turn_code.specs.declared.value.Value.{Value as AnyValue};
 ghost use Rattle.turn_code.specs.declared.effect.Effect.{Effect as AnyEffect};
 ghost use Rattle.turn_code.specs.declared.draft.DraftSignal.{DraftSignal as AnySignal};
 ghost use Rattle.bare_words.specs.Meant.{word_of, IsEffectOf};
-ghost use Rattle.bare_words.specs.Sorts.{is_boolean, sort_bits, sorts_of, AreBitsOf, AreSortsOf, IsOfSorts, HasReceiver};
+ghost use Rattle.bare_words.specs.Sorts.{is_boolean, sort_bits, sorts_of, AreBitsOf, IsOfSorts, HasReceiver};
 ghost use Rattle.profile_limits.specs.Limits.{MOST_PARAMETERS, MOST_SIGNALS, MOST_VARIABLES};
 
 use crate::after::Given;
 use arrayvec::ArrayVec;
 use turn_code::{Address, DraftSignal, DraftVariable, Effect, Sending, SignalNumber, Sort, Value};
 
-/// Of the parameters of a set's signals and of the variables of a process: which are Booleans. A job has it by value, and a set keeps it.
+/// Of the parameters of a set's signals and of the variables of a process: which are Booleans. With these effects and variables are made of words.
 #[derive(Clone, Copy)]
 pub struct Sorts {
     /// Bit j of the number for a signal says it of its parameter j.
@@ -36,7 +36,7 @@ fn boolean_bits(sorts: &[Sort]) -> u8
     }
 }
 
-/// Which of some variables are Booleans, by bits from the lowest on.
+/// Which of a process's variables are Booleans, by bits from the lowest on: what its `Sorts` have.
 pub fn variable_bits(variables: &[DraftVariable]) -> u32
     requires { length variables.now ≤ MOST_VARIABLES }
     ensures value { result ≡ sort_bits (sorts_of variables.now) }
@@ -51,7 +51,7 @@ pub fn variable_bits(variables: &[DraftVariable]) -> u32
     }
 }
 
-/// For each signal, which of its parameters are Booleans.
+/// For each signal of a set, which of its parameters are Booleans, by bits from the lowest on: what `Sorts` have. 0 where there is no signal.
 pub fn parameter_bits(signals: &[DraftSignal]) -> [u8; 128]
     requires few { length signals.now ≤ MOST_SIGNALS }
     requires small { All (λ (s : AnySignal). length s.parameters ≤ MOST_PARAMETERS) signals.now }
@@ -90,19 +90,6 @@ fn add_values(values: &mut ArrayVec<Value, 4>, bits: u8, words: &[i32])
 }
 
 impl Sorts {
-    /// Those of a set's signals and of a process's variables.
-    pub fn of(signals: &[DraftSignal], variables: &[DraftVariable]) -> Sorts
-        requires few { length signals.now ≤ MOST_SIGNALS }
-        requires small { All (λ (s : AnySignal). length s.parameters ≤ MOST_PARAMETERS) signals.now }
-        requires variables { length variables.now ≤ MOST_VARIABLES }
-        ensures { AreSortsOf signals.now variables.now result }
-    {
-        Sorts {
-            parameters: parameter_bits(signals),
-            variables: variable_bits(variables),
-        }
-    }
-
     /// Which parameters of a signal are Booleans.
     fn bits(&self, signal: SignalNumber) -> u8
         ensures { result ≡ slice_index_or self.now.parameters signal.0 0 }
@@ -113,7 +100,8 @@ impl Sorts {
         }
     }
 
-    /// The effect that was given out: with the sorts of its signal, to whom the instruction names, or to who sent the signal of the transition.
+    /// The effect that was given out: with the sorts of its signal, to whom the instruction names, or to who sent the signal of the transition. Each effect of
+    /// a valid transition has those sorts (turn_code's proofs/RightEffects: adds).
     pub fn effect(&self, given: Given, sender: Option<Address>) -> Effect
         requires { HasReceiver given sender }
         ensures { (e : AnyEffect) → IsEffectOf sender given e → IsOfSorts self.now e → result ≡ e }
