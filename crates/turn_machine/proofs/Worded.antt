@@ -86,9 +86,13 @@ one_more_kept old b vs n o less here h =
       params = params_stay b n o ∙ h.params;
     }
 
-pub kept_to_more : (old b new : Bare) (vs : List (Option Value)) (n : ℕ) (o : Option Value) → n < 32 → slice_get vs n ≡ Some o → IsKeptTo old b vs n
+kept_to_more : (old b new : Bare) (vs : List (Option Value)) (n : ℕ) (o : Option Value) → n < 32 → slice_get vs n ≡ Some o → IsKeptTo old b vs n
     → new ≡ kept_value b n o → IsKeptTo old new vs (n + 1)
 kept_to_more old b new vs n o less here h e = subst (λ (u : Bare). IsKeptTo old u vs (n + 1)) (sym e) (one_more_kept old b vs n o less here h)
+
+pub kept_to_next : (old b new : Bare) (vs : List (Option Value)) (n : ℕ) (d : Option Value) → n < length vs → length vs ≤ 32 → IsKeptTo old b vs n
+    → new ≡ kept_value b n (get_or vs n d) → IsKeptTo old new vs (n + 1)
+kept_to_next old b new vs n d less few h e = kept_to_more old b new vs n (get_or vs n d) (omega arith) (slice_get-get_or vs n d less) h e
 
 pub words_made : (old new : Bare) (vs : List (Option Value)) (ps : List Value) → old.stack ≡ [] → old.depth ≡ 0
     → ((j : ℕ) (x : Value) → slice_get ps j ≡ Some x → slice_get old.params j ≡ Some (word_of x)) → IsKeptTo old new vs (length vs) → AreWordsOf new [] vs ps

@@ -12,18 +12,18 @@ use turn_code::{Input, Value};
 
 /// The words of an input, with no operand.
 pub(crate) fn words_of(input: &Input) -> Words
-    requires few { length input.now.variables.items ≤ MOST_VARIABLES }
-    requires small { length input.now.parameters.items ≤ MOST_PARAMETERS }
     ensures { AreWordsOf (bare_of result) [] input.now.variables.items input.now.parameters.items }
 {
+    let variables = input.variables.as_slice();
+    let parameters = input.parameters.as_slice();
     let mut words = Words {
         operands: [0; 16],
         depth: 0,
         variables: [0; 32],
         set: 0,
-        params: words_of_parameters(input.parameters.as_slice()),
+        params: words_of_parameters(parameters),
     };
-    keep_all(&mut words, input.variables.as_slice());
+    keep_all(&mut words, variables);
     words
 }
 
@@ -44,6 +44,7 @@ fn words_of_parameters(values: &[Value]) -> [i32; 4]
 fn keep_all(words: &mut Words, values: &[Option<Value>])
     requires few { length values.now ≤ MOST_VARIABLES }
     requires none { words.old.set ≡ 0 }
+    requires room { length words.old.variables ≡ MOST_VARIABLES }
     ensures { IsKeptTo (bare_of words.old) (bare_of words.new) values.now (length values.now) }
 {
     for place in 0..values.len() {
