@@ -8,7 +8,7 @@ ghost use Rattle.turn_code.specs.declared.draft.DraftProcess.{DraftProcess as Pl
 ghost use Rattle.bare_words.specs.Sorts.{AreSortsOf};
 ghost use Rattle.turn_check.specs.Faults.{IsBroken};
 ghost use Rattle.turn_check.specs.Sorted.{AreVariableBits};
-ghost use Rattle.profile_limits.specs.Limits.{MOST_PROCESSES, MOST_VARIABLES};
+ghost use Rattle.bare_words.specs.Limits.{MOST_PROCESSES, MOST_VARIABLES};
 
 use crate::fault::VerifyFault;
 use crate::walk::check_draft;

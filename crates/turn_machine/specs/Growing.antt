@@ -1,11 +1,11 @@
 -- Effects, after one more was given out on words.
 use Rattle.std.specs.Prelude.{◌≡◌, ◌<◌, List, [], ◌∷◌, ◌++◌, length, Option, Some, None}
-use Rattle.profile_limits.specs.Limits.{MOST_EFFECTS}
+use Rattle.turn_check.specs.Limits.{MOST_EFFECTS}
 use Rattle.turn_code.specs.declared.effect.Effect.{Effect}
-use Rattle.bare_words.specs.declared.after.Given.{Given}
-use Rattle.bare_words.specs.declared.piece.Piece.{Piece}
-use Rattle.bare_words.specs.Meant.{IsEffectOf}
-use Rattle.bare_words.specs.Sorts.{IsOfSorts}
+use Rattle.turn_check.specs.bare_words_types.after.Given.{Given}
+use Rattle.turn_check.specs.bare_words_types.piece.Piece.{Piece}
+use Rattle.turn_check.specs.Meant.{IsEffectOf}
+use Rattle.turn_check.specs.Sorts.{IsOfSorts}
 
 -- the effect that was given out is behind the others, with the sorts of its signal, where there was room for one more
 abbrev pub IsGrown : Piece → Option Given → List Effect → List Effect → Type 0

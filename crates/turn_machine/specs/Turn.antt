@@ -1,8 +1,8 @@
 -- A turn, as contracts see a job, and a job that ran.
 use Rattle.std.specs.Prelude.{◌≡◌, ℕ, ◌≤◌, List, length, Option, Some}
-use Rattle.profile_limits.specs.Limits.{MOST_VARIABLES}
-use Rattle.bare_words.specs.Sorts.{AreSortsOf}
-use Rattle.bare_words.specs.declared.sorts.Sorts.{Sorts}
+use Rattle.turn_check.specs.Limits.{MOST_VARIABLES}
+use Rattle.turn_check.specs.Sorts.{AreSortsOf}
+use Rattle.turn_check.specs.bare_words_types.sorts.Sorts.{Sorts}
 use Rattle.turn_code.specs.Run.{run, ended}
 use Rattle.turn_code.specs.Transitions.{Transition, transition_at}
 use Rattle.turn_code.specs.Rules.{KeepsSetLimits}

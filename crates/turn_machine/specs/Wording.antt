@@ -1,12 +1,12 @@
 -- Values in words, and words as values.
 use Rattle.std.specs.Prelude.{◌≡◌, ℕ, ◌<◌, ◌≤◌, if◌then◌else◌, List, length, Option, Some, None, slice_get}
 use Rattle.std.specs.Int.{bit_at}
-use Rattle.profile_limits.specs.Limits.{MOST_VARIABLES}
+use Rattle.turn_check.specs.Limits.{MOST_VARIABLES}
 use Rattle.turn_code.specs.Values.{sort_of}
 use Rattle.turn_code.specs.declared.value.Value.{Value}
-use Rattle.bare_words.specs.Bare.{Bare, kept}
-use Rattle.bare_words.specs.Meant.{word_of, IsKept}
-use Rattle.bare_words.specs.Sorts.{is_boolean}
+use Rattle.turn_check.specs.Bare.{Bare, kept}
+use Rattle.turn_check.specs.Meant.{word_of, IsKept}
+use Rattle.turn_check.specs.Sorts.{is_boolean}
 
 -- the words after a variable's value is kept, if it has one
 abbrev pub kept_value : Bare → ℕ → Option Value → Bare

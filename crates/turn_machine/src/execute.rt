@@ -6,7 +6,7 @@ ghost use Rattle.turn_machine.specs.Growing.{CanGrow, IsGrown};
 ghost use Rattle.turn_machine.specs.Safety.{IsUnderWay, HasEnded};
 
 use arrayvec::ArrayVec;
-use bare_words::{Given, Next, Piece, Words, step_bare};
+use turn_check::{Given, Next, Piece, Words, step_bare};
 use turn_code::{Cert, Effect, End, Input, Machine};
 
 /// Runs a piece with these counts from its first instruction to its end, on the words of an input. The machine has no effect and took no instruction yet; it

@@ -8,7 +8,7 @@ ghost use Rattle.turn_machine.specs.Turn.{Begins, IsRunnable, IsRunnableBy};
 use crate::copy::copied_code;
 use crate::received::Received;
 use arrayvec::ArrayVec;
-use bare_words::Sorts;
+use turn_check::Sorts;
 use std::alloc::AllocError;
 use std::marker::Model;
 use turn_check::Verified;

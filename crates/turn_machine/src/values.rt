@@ -1,13 +1,13 @@
 //! The values of words.
 
 ghost use Rattle.std.specs.Prelude.{◌≡◌, ◌<◌, ◌≤◌, List, Option as Maybe, length};
-ghost use Rattle.bare_words.specs.Bare.{bare_of};
+ghost use Rattle.turn_check.specs.Bare.{bare_of};
 ghost use Rattle.turn_code.specs.declared.value.Value.{Value as AnyValue};
 ghost use Rattle.turn_machine.specs.Wording.{IsVariable, AreVariables};
-ghost use Rattle.profile_limits.specs.Limits.{MOST_VARIABLES};
+ghost use Rattle.turn_check.specs.Limits.{MOST_VARIABLES};
 
 use arrayvec::ArrayVec;
-use bare_words::{Words, value_of};
+use turn_check::{Words, value_of};
 use turn_code::{Value, VariableNumber, VariableSet};
 
 /// The variables become those that the words stand for: so many, Booleans where their bit says it, and none where one isn't set.

@@ -1,22 +1,11 @@
 use Rattle.std.proofs.Common.{◌≤◌, length, subst, sym}
 use Rattle.std.specs.Prelude.{List, All}
-use Rattle.turn_code.specs.declared.draft.DraftSignal.{DraftSignal}
 use Rattle.turn_code.specs.declared.draft.DraftProcess.{DraftProcess}
 use Rattle.turn_check.proofs.Sorting.{all_small, is_sorted}
 use Rattle.turn_check.proofs.verified.sorted.Goals as goal
 
-pub parameter_bits-requires-clause-few : goal.parameter_bits-requires-clause-few
-parameter_bits-requires-clause-few c = subst (λ (u : List DraftSignal). length u ≤ 128) (sym c.as_slice.ensures) c.requires.limits.signals
-
-pub parameter_bits-requires-clause-small : goal.parameter_bits-requires-clause-small
-parameter_bits-requires-clause-small c =
-    subst (λ (u : List DraftSignal). All (λ (s : DraftSignal). length s.parameters ≤ 4) u) (sym c.as_slice.ensures) c.requires.limits.parameters
-
-pub bits_of_variables-requires-clause-few : goal.bits_of_variables-requires-clause-few
-bits_of_variables-requires-clause-few c = subst (λ (u : List DraftProcess). length u ≤ 16) (sym c.as_slice-2.ensures) c.requires.limits.processes
-
-pub bits_of_variables-requires-clause-small : goal.bits_of_variables-requires-clause-small
-bits_of_variables-requires-clause-small c =
+pub bits_of_variables-variables-requires-clause-small : goal.bits_of_variables-variables-requires-clause-small
+bits_of_variables-variables-requires-clause-small c =
     subst (λ (u : List DraftProcess). All (λ (p : DraftProcess). length p.variables ≤ 32) u) (sym c.as_slice-2.ensures)
     (all_small c.args.draft c.requires)
 
