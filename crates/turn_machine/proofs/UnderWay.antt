@@ -1,16 +1,14 @@
 -- One instruction more of a run on words.
 use Rattle.std.proofs.Common.{◌≡◌, ℕ, zero, suc, ◌+◌, ◌<◌, ◌≤◌, List, [], ◌∷◌, ◌++◌, length, Option, Some, None, refl, sym, ap, ◌∙◌, subst, arith}
 use Rattle.std.proofs.lemmas.List.{length-append}
-use Rattle.std.proofs.lemmas.Option.{get_or_from_slice_get, same_Some}
-use Rattle.std.specs.Prelude.{slice_get, slice_index_or, map}
-use Rattle.std.specs.List.{AllZip}
+use Rattle.std.proofs.lemmas.Option.{get_or_from_slice_get}
+use Rattle.std.specs.Prelude.{slice_get, map}
 use Rattle.turn_code.specs.Values.{sort_of}
-use Rattle.turn_code.specs.Run.{Progress, After as Tagged, goes, ends, stuck, step, act, act_if, tick, CountIs, ended, got_stuck, unfinished, go_on, exec, run, begun}
+use Rattle.turn_code.specs.Run.{Progress, After as Tagged, goes, ends, stuck, step, act, act_if, tick, CountIs, go_on, exec, run, begun}
 use Rattle.turn_code.specs.Transitions.{Transition, parameters_of}
-use Rattle.turn_code.specs.Rules.{KeepsPieceLimits}
-use Rattle.turn_code.specs.Fits.{HasSort, HaveSorts, FitsTransition}
+use Rattle.turn_code.specs.Fits.{HasSort}
 use Rattle.turn_code.specs.Effects.{IsRightEffect, AreRightEffects}
-use Rattle.turn_code.specs.Safe.{EndsWell, IsSafeAfter, IsSafe}
+use Rattle.turn_code.specs.Safe.{IsSafeAfter, IsSafe}
 use Rattle.turn_code.specs.declared.value.Value.{Value}
 use Rattle.turn_code.specs.declared.effect.Effect.{Effect}
 use Rattle.turn_code.specs.declared.effect.Effect.TheVariants as effect
@@ -21,7 +19,6 @@ use Rattle.turn_code.specs.declared.machine.End.{End}
 use Rattle.turn_code.specs.declared.draft.Cert.{Cert}
 use Rattle.turn_code.specs.declared.draft.Draft.{Draft}
 use Rattle.turn_code.specs.declared.draft.DraftSignal.{DraftSignal}
-use Rattle.turn_code.specs.declared.draft.DraftVariable.{DraftVariable}
 use Rattle.turn_code.proofs.Lists.{zip_length}
 use Rattle.turn_code.proofs.SafeRuns.{code_at, stands_at_start}
 use Rattle.turn_code.proofs.RightEffects.{EffectsAre, act_keeps, adds}
@@ -36,7 +33,7 @@ use Rattle.turn_check.specs.bare_words_types.after.Next.TheVariants.{Goes, Ends}
 use Rattle.turn_check.specs.Bare.{bare_of}
 use Rattle.turn_check.specs.Meant.{AreWordsOf, IsEffectOf, Grow}
 use Rattle.turn_check.specs.Sorts.{AreSortsOf, IsOfSorts, HasReceiver, sort_bits}
-use Rattle.turn_check.specs.Steps.{Stand, StandAt, Follows, IsStep}
+use Rattle.turn_check.specs.Steps.{StandAt, Follows, IsStep}
 use Rattle.turn_machine.specs.Growing.{IsGrown, CanGrow}
 use Rattle.turn_machine.specs.Safety.{IsSafeWithin, IsUnderWay, HasEnded}
 use Rattle.turn_machine.proofs.Worded.{variables_told}

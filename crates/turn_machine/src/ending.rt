@@ -11,8 +11,7 @@ use crate::execute::execute;
 use crate::values::set_variables;
 use crate::wording::words_of;
 use arrayvec::ArrayVec;
-use turn_check::{Piece, Sorts};
-use turn_check::Verified;
+use turn_check::{Piece, Sorts, Verified};
 use turn_code::laws::safe_law;
 use turn_code::{Cert, End, Input, Instruction, Machine, Operands, Place, ProcessNumber};
 

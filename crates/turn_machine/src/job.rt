@@ -8,10 +8,9 @@ ghost use Rattle.turn_machine.specs.Turn.{Begins, IsRunnable, IsRunnableBy};
 use crate::copy::copied_code;
 use crate::received::Received;
 use arrayvec::ArrayVec;
-use turn_check::Sorts;
 use std::alloc::AllocError;
 use std::marker::Model;
-use turn_check::Verified;
+use turn_check::{Sorts, Verified};
 use turn_code::{Cert, Input, Instruction, Place, ProcessNumber, Value};
 
 /// A transition that is to run, with all that it needs: its code and the sorts of what it names by value, and an input that fits it.
