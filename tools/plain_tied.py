@@ -58,8 +58,8 @@ def orders_of(stream):
 class Filter:
     """One end. What it sent and what it told are whole lists."""
 
-    def __init__(self, mode, orders=b"", ahead=0):
-        self.terminal, self.orders = Far(TEXT, mode == "cyclic"), list(orders_of(orders))
+    def __init__(self, mode, orders=b"", ahead=0, text=TEXT):
+        self.terminal, self.orders = Far(text, mode == "cyclic"), list(orders_of(orders))
         self.sent, self.told, self.count, self.over = [255] * ahead, [], 0, False
         self.ready, self.rest, self.begun = [], [], False
 
