@@ -75,7 +75,7 @@ impl Book {
         Ok(place)
     }
 
-    /// So many ticks pass: the signals of the timers that are due come to the ports of their processes.
+    /// So many ticks pass: the signals of the timers that are due come to the ports of their actors.
     ///
     /// # Errors
     ///

@@ -1,4 +1,4 @@
-//! The book of a link: its processes as actors with their ports, timers, clock and what waits for the environment, and a
+//! The book of a link: its actors with their ports, timers, clock and what waits for the environment, and a
 //! journal of what happened to them. Each call is one event of the link, and the state is at any time the replay of the
 //! journal on the state where it begins.
 #![tactic(auto)]

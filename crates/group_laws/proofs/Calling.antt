@@ -1,5 +1,5 @@
 -- Messages to send, and messages handed out.
-use Rattle.std.proofs.Common.{◌≡◌, ◌≢◌, ℕ, ◌<◌, ◌==◌, Bool, true, false, cond, List, [], ◌∷◌, ◌++◌, Option, Some, None, take, drop, refl, sym, ap, ◌∙◌, subst, inl, inr, arith}
+use Rattle.std.proofs.Common.{◌≡◌, ◌≢◌, ℕ, ◌<◌, ◌==◌, Bool, true, false, cond, List, [], ◌∷◌, ◌++◌, Option, Some, None, take, drop, refl, sym, ap, ◌∙◌, subst, inl, inr}
 use Rattle.std.specs.Prelude.{◌⊎◌, All, is_some, if◌then◌else◌, slice_get}
 use Rattle.std.proofs.lemmas.Bool.Decides.{eqb_tells}
 use Rattle.std.proofs.lemmas.List.{append-nil, take-append-drop}
@@ -13,22 +13,21 @@ use Rattle.link_places.specs.Laws.{StepsKeepPlaces}
 use Rattle.link_places.specs.Limits.{SELECTIONS}
 use Rattle.link_places.specs.Marks.{hand_in, with_hand}
 use Rattle.link_places.specs.Sharing.{selection_of, is_on, of, link_of, counts_of}
-use Rattle.link_refusals.specs.declared.errors.SendError.{SendError}
 use Rattle.link_refusals.specs.declared.errors.SendError.TheVariants as send
 use Rattle.link_refusals.specs.declared.errors.RetrieveError.{RetrieveError}
 use Rattle.link_refusals.specs.declared.errors.RetrieveError.TheVariants as retrieve
 use Rattle.link_refusals.specs.declared.errors.AbandonError.TheVariants as abandon
 use Rattle.group_links.specs.declared.link.Link.{Link}
-use Rattle.group_links.specs.OneLink.{window, held, is_changing, put_fault, puts, known, known_at, unsure_by, retrieve_fault, retrieve_fault_by, retrieve_fault_in, number_of, hands_out, abandon_by, abandon_fault}
+use Rattle.group_links.specs.OneLink.{window, held, is_changing, put_fault, puts, known_at, unsure_by, retrieve_fault, retrieve_fault_by, retrieve_fault_in, number_of, hands_out, abandon_by, abandon_fault}
 use Rattle.group_links.specs.Links.{change, fault_at}
-use Rattle.group_links.specs.Failing.{handed, given_up, messages_by, none_known, sent_by}
+use Rattle.group_links.specs.Failing.{handed, given_up, messages_by, none_known}
 use Rattle.group_links.specs.Moving.{hand_by}
 use Rattle.link_group.specs.Set.{LinkSet, send_fault, send_fault_by, change_by, sent}
 use Rattle.link_group.specs.Changing.{retrieve_fault_at, after_retrieve, messages_for, abandon_fault_at, after_abandon, unsent_at}
 use Rattle.group_laws.specs.Laws.{held_by, held_at}
 use Rattle.group_laws.specs.Reached.{Gone, acknowledged, unsure, messages_gone, with_hand_of, told_front, unacknowledged_at}
 use Rattle.group_laws.proofs.Getting.{change_here, change_other}
-use Rattle.group_laws.proofs.Fitting.{IsSmall, none_small, FitsMarks, FitsLink, Fits, fits_there, fits_change, fits_changed}
+use Rattle.group_laws.proofs.Fitting.{IsSmall, none_small, FitsMarks, FitsLink, fits_there, fits_change, fits_changed}
 use Rattle.group_laws.proofs.Staying.{Stays, gone_marked, at_one, leaves}
 
 -- ---- hands

@@ -1,7 +1,7 @@
 -- Over every list of calls a set counts those of its messages that are unsure.
-use Rattle.std.proofs.Common.{◌≡◌, ◌+◌, ◌-◌, ◌^◌, ℕ, Bool, true, false, cond, List, [], ◌∷◌, ◌++◌, Option, Some, None, length, map, refl, sym, ap, ◌∙◌, arith}
+use Rattle.std.proofs.Common.{◌≡◌, ◌+◌, ◌-◌, ◌^◌, ℕ, cond, List, [], ◌∷◌, ◌++◌, Option, Some, None, length, map, refl, sym, ap, ◌∙◌, arith}
 use Rattle.std.specs.Prelude.{min, slice_get}
-use Rattle.std.specs.List.{sum_by, list_any}
+use Rattle.std.specs.List.{list_any}
 use Rattle.std.proofs.lemmas.List.Sums.{sum_by-append}
 use Rattle.plain_laws.proofs.Truths.{by_test}
 use Rattle.resend_store.specs.declared.messages.Msu.{Msu}
@@ -19,7 +19,7 @@ use Rattle.link_group.specs.Changing.{is_for, failed, after_message, after_retri
 use Rattle.link_group.specs.Diverting.{diverted, after_by, after_divert}
 use Rattle.link_group.specs.Placing.{placed_anew, rebalanced}
 use Rattle.link_group.specs.Lines.{seen, all_seen, ByLink, Alone}
-use Rattle.link_group.specs.Ticks.{with_room, after_ticks, NoRoom}
+use Rattle.link_group.specs.Ticks.{with_room, after_ticks}
 use Rattle.link_group.specs.New.{new_set}
 use Rattle.group_laws.specs.Laws.{unsure_in, UnsureAreCounted}
 use Rattle.group_laws.specs.Reached.{Gone, acknowledged, unsure, unacknowledged_at, told_front, Reached, opens, sends, fails, hears, retrieves, abandons, diverts, rebalances, listens, speaks, gives, reports, commands, refuses, ticks, makes_room, lacks_room}

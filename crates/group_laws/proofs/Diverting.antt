@@ -1,28 +1,27 @@
 -- A hand that is diverted, selection by selection.
-use Rattle.std.proofs.Common.{◌≡◌, ◌≢◌, ℕ, ◌+◌, ◌<◌, ◌==◌, ◌&&◌, ◌||◌, ◌%◌, zero, suc, Bool, true, false, not, cond, List, [], ◌∷◌, ◌++◌, Option, Some, None, length, slice_set, refl, sym, ap, ◌∙◌, subst, inl, inr, arith}
-use Rattle.std.specs.Prelude.{◌⊎◌, All, is_some, if◌then◌else◌, slice_get}
+use Rattle.std.proofs.Common.{◌≡◌, ◌≢◌, ℕ, ◌+◌, ◌<◌, ◌==◌, ◌%◌, zero, suc, Bool, true, false, not, cond, List, [], ◌∷◌, ◌++◌, Option, Some, None, length, slice_set, refl, sym, ap, ◌∙◌, subst, inl, inr, arith}
+use Rattle.std.specs.Prelude.{◌⊎◌, All, if◌then◌else◌, slice_get}
 use Rattle.std.proofs.lemmas.Bool.Decides.{eqb_tells}
-use Rattle.std.proofs.lemmas.List.{append-nil, nil_from_length}
-use Rattle.std.proofs.lemmas.List.Elements.{All-append, All-filter, All-head, All-tail}
+use Rattle.std.proofs.lemmas.List.{nil_from_length}
+use Rattle.std.proofs.lemmas.List.Elements.{All-append, All-filter, All-head}
 use Rattle.plain_laws.proofs.Lists.{cons-nil}
-use Rattle.plain_laws.proofs.Options.{none_some, some_none}
+use Rattle.plain_laws.proofs.Options.{some_none}
 use Rattle.resend_store.specs.declared.messages.Msu.{Msu}
 use Rattle.link_places.specs.Laws.{StepsKeepPlaces}
 use Rattle.link_places.specs.Limits.{SELECTIONS}
-use Rattle.link_places.specs.Places.{standing, OnePlace, Diverts}
+use Rattle.link_places.specs.Places.{Diverts}
 use Rattle.link_places.specs.Sharing.{selection_of, is_on, of, off, entry_by, link_of, pick}
 use Rattle.link_places.proofs.Equal.{Same, same}
-use Rattle.link_places.proofs.Lists.{of-nil, of-off, of-off_other}
+use Rattle.link_places.proofs.Lists.{of-off, of-off_other}
 use Rattle.link_refusals.specs.declared.errors.DivertFault.{DivertFault}
 use Rattle.group_links.specs.declared.link.Link.{Link}
 use Rattle.group_links.specs.OneLink.{held}
-use Rattle.group_links.specs.Links.{change}
 use Rattle.group_links.specs.Moving.{hand_by, term_takes, takes_on, Diversion, take_fault, move_fault_by, move_fault, moved_by, moved, Diverted, goes_on, moves}
 use Rattle.link_group.specs.Set.{LinkSet}
 use Rattle.group_laws.specs.Laws.{held_by, held_at, places_of}
 use Rattle.group_laws.specs.Reached.{Gone, with_hand_of}
 use Rattle.group_laws.proofs.Calling.{hand_here, hand_other}
-use Rattle.group_laws.proofs.Fitting.{IsSmall, FitsMarks, FitsLink, FitsAt, Fits, fits_there, fits_change}
+use Rattle.group_laws.proofs.Fitting.{IsSmall, FitsMarks, FitsLink, FitsAt, Fits, fits_change}
 use Rattle.group_laws.proofs.Getting.{set_here, set_other, change_here, change_other}
 use Rattle.group_laws.proofs.Staying.{Stays}
 

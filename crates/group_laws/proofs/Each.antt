@@ -1,6 +1,6 @@
 -- Over every list of calls each message stands in its one place.
-use Rattle.std.proofs.Common.{◌≡◌, ℕ, ◌<◌, Bool, true, false, List, [], ◌++◌, Option, Some, None, length, map, refl, sym, ap, ◌∙◌, subst, arith}
-use Rattle.std.specs.Prelude.{All, if◌then◌else◌, is_some, slice_get, get_or, option_map}
+use Rattle.std.proofs.Common.{◌≡◌, ℕ, Bool, true, false, List, [], Option, Some, None, refl, sym, ap, ◌∙◌, subst}
+use Rattle.std.specs.Prelude.{All, if◌then◌else◌, slice_get, get_or, option_map}
 use Rattle.std.proofs.lemmas.Option.{slice_get-map, slice_get_within, get_or_from_slice_get}
 use Rattle.resend_store.specs.declared.messages.Msu.{Msu}
 use Rattle.resend_store.specs.Window.{Window}
@@ -11,22 +11,20 @@ use Rattle.group_links.specs.Kept.{window_of}
 use Rattle.group_links.specs.Term.{Term, with_heart}
 use Rattle.link_places.specs.declared.marks.Marks.{Marks}
 use Rattle.link_places.specs.Laws.{StepsKeepPlaces}
-use Rattle.link_places.specs.Places.{OnePlace}
 use Rattle.group_links.specs.declared.link.Link.{Link}
-use Rattle.group_links.specs.OneLink.{window, held}
+use Rattle.group_links.specs.OneLink.{held}
 use Rattle.group_links.specs.Commanding.{starts_anew, started, Commanded, Refused}
 use Rattle.group_links.specs.Doing.{Listened, Spoken, Sent, Reported}
 use Rattle.group_links.specs.New.{IsUnused, fresh}
-use Rattle.link_group.specs.Lines.{ByLink, Alone}
 use Rattle.link_group.specs.New.{new_set}
 use Rattle.link_group.specs.Set.{LinkSet}
-use Rattle.group_laws.specs.Laws.{held_by, held_at, places_of, EachInOnePlace}
+use Rattle.group_laws.specs.Laws.{held_by, EachInOnePlace}
 use Rattle.group_laws.specs.Reached.{Gone, Reached, opens, sends, fails, hears, retrieves, abandons, diverts, rebalances, listens, speaks, gives, reports, commands, refuses, ticks, makes_room, lacks_room}
 use Rattle.group_laws.proofs.Calling.{stays_sent, stays_retrieved, stays_abandoned}
 use Rattle.group_laws.proofs.Ending.{stays_diverted}
-use Rattle.group_laws.proofs.Fitting.{IsSmall, none_small, FitsAt, FitsLink}
+use Rattle.group_laws.proofs.Fitting.{IsSmall, none_small, FitsAt}
 use Rattle.group_laws.proofs.Placing.{stays_rebalanced}
-use Rattle.group_laws.proofs.Staying.{Stays, gone_none}
+use Rattle.group_laws.proofs.Staying.{Stays}
 use Rattle.group_laws.proofs.Working.{stays_failed, stays_heard, link_works, link_keeps, alone_keeps, side_tidied, stays_roomy, stays_ticked, stays_lacking}
 
 -- ---- a new set

@@ -1,6 +1,6 @@
 -- The end of a diversion.
-use Rattle.std.proofs.Common.{◌≡◌, ◌≢◌, ℕ, ◌+◌, ◌<◌, ◌==◌, ◌&&◌, ◌||◌, zero, suc, Bool, true, false, not, List, [], ◌∷◌, ◌++◌, Option, Some, None, length, map, refl, sym, ap, ◌∙◌, subst, inl, inr, arith}
-use Rattle.std.specs.Prelude.{◌⊎◌, All, is_some, if◌then◌else◌, slice_get}
+use Rattle.std.proofs.Common.{◌≡◌, ◌≢◌, ℕ, ◌+◌, ◌==◌, ◌&&◌, ◌||◌, zero, suc, Bool, true, false, not, List, [], ◌∷◌, ◌++◌, Option, Some, None, length, refl, sym, ap, ◌∙◌, subst, inl, inr, arith}
+use Rattle.std.specs.Prelude.{◌⊎◌, is_some, if◌then◌else◌, slice_get}
 use Rattle.std.proofs.lemmas.Bool.Decides.{eqb_tells}
 use Rattle.std.proofs.lemmas.List.{append-nil, nil_from_length}
 use Rattle.plain_laws.proofs.Options.{none_some, some_none}
@@ -10,10 +10,9 @@ use Rattle.link_places.specs.declared.marks.Changing.{Changing}
 use Rattle.link_places.specs.declared.marks.Marks.{Marks}
 use Rattle.link_places.specs.Laws.{StepsKeepPlaces}
 use Rattle.link_places.specs.Limits.{SELECTIONS}
-use Rattle.link_places.specs.Marks.{hand_in, with_hand, ended}
+use Rattle.link_places.specs.Marks.{hand_in, with_hand}
 use Rattle.link_places.specs.Places.{standing}
-use Rattle.link_places.specs.Sharing.{of, selections, counts_of, link_of, pick}
-use Rattle.link_places.proofs.Lists.{of-nil}
+use Rattle.link_places.specs.Sharing.{counts_of, link_of, pick}
 use Rattle.link_refusals.specs.declared.errors.DivertFault.{DivertFault}
 use Rattle.group_links.specs.declared.link.Link.{Link}
 use Rattle.group_links.specs.OneLink.{held, is_serving}
@@ -24,8 +23,8 @@ use Rattle.link_group.specs.Diverting.{Owns, diverted, after_by, after_divert}
 use Rattle.group_laws.specs.Laws.{held_by, held_at, places_of}
 use Rattle.group_laws.specs.Reached.{Gone, messages_gone, with_hand_of, left_by, left_in_hand}
 use Rattle.group_laws.proofs.Calling.{hand_here, hand_other, no_hand}
-use Rattle.group_laws.proofs.Diverting.{within, IsOut, IsOther, Others, Moving, NoneBelow, Gone_on, takes_held, takes_marks, fits_takes, rest_small, fits_rehanded, moves_stay, all_gone}
-use Rattle.group_laws.proofs.Fitting.{IsSmall, none_small, FitsMarks, FitsLink, FitsAt, Fits, fits_there, fits_change, fits_held}
+use Rattle.group_laws.proofs.Diverting.{within, IsOut, IsOther, Others, Moving, Gone_on, takes_held, takes_marks, fits_takes, rest_small, fits_rehanded, moves_stay, all_gone}
+use Rattle.group_laws.proofs.Fitting.{none_small, FitsMarks, FitsLink, FitsAt, Fits, fits_there, fits_change}
 use Rattle.group_laws.proofs.Getting.{change_here, change_other, held_changed}
 use Rattle.group_laws.proofs.Placing.{link_at, holds_at_none, nothing, with_first}
 use Rattle.group_laws.proofs.Staying.{Stays, placed, leaves}

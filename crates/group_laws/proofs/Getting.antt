@@ -1,9 +1,8 @@
 -- What stands at a place of a list once another was set, and of a set's links once one was changed.
-use Rattle.std.proofs.Common.{◌≡◌, ℕ, ◌<◌, zero, suc, List, [], ◌∷◌, Option, Some, None, length, slice_set, refl, sym, ap, ◌∙◌, arith, inl, inr}
+use Rattle.std.proofs.Common.{◌≡◌, ℕ, ◌<◌, zero, suc, List, [], ◌∷◌, Option, Some, None, length, slice_set, refl, ap, ◌∙◌, arith, inl, inr}
 use Rattle.std.specs.Prelude.{slice_get, option_map, map}
 use Rattle.std.proofs.lemmas.Option.{slice_get-map}
 use Rattle.plain_laws.proofs.Options.{none_some}
-use Rattle.resend_store.specs.declared.messages.Msu.{Msu}
 use Rattle.group_links.specs.declared.link.Link.{Link}
 use Rattle.link_places.proofs.Equal.{Same, same}
 use Rattle.group_links.specs.OneLink.{held}

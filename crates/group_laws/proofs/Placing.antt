@@ -1,6 +1,6 @@
 -- Selections get links: as a link first comes into service, and as a set is rebalanced.
-use Rattle.std.proofs.Common.{◌≡◌, ◌≢◌, ℕ, ◌+◌, ◌<◌, ◌==◌, ◌||◌, zero, suc, Bool, true, false, cond, List, [], ◌∷◌, ◌++◌, Option, Some, None, length, map, refl, sym, ap, ◌∙◌, subst, inl, inr, arith}
-use Rattle.std.specs.Prelude.{◌⊎◌, is_some, if◌then◌else◌, slice_get, option_map}
+use Rattle.std.proofs.Common.{◌≡◌, ◌≢◌, ℕ, ◌+◌, ◌<◌, ◌==◌, zero, suc, Bool, true, false, cond, List, [], ◌∷◌, ◌++◌, Option, Some, None, map, refl, sym, ap, ◌∙◌, inl, inr, arith}
+use Rattle.std.specs.Prelude.{◌⊎◌, if◌then◌else◌, slice_get, option_map}
 use Rattle.std.specs.List.{list_any}
 use Rattle.std.proofs.lemmas.Bool.Decides.{eqb_tells}
 use Rattle.std.proofs.lemmas.List.FromFn.{get_or-range_with_len}
@@ -24,7 +24,7 @@ use Rattle.link_group.specs.Placing.{placed_anew, rebalance_fault, rebalanced}
 use Rattle.group_laws.specs.Laws.{held_by, held_at, places_of}
 use Rattle.group_laws.specs.Reached.{Gone}
 use Rattle.group_laws.proofs.Calling.{no_hand}
-use Rattle.group_laws.proofs.Fitting.{FitsAt, FitsLink, Fits, fits_there, fits_map}
+use Rattle.group_laws.proofs.Fitting.{FitsAt, FitsLink, Fits, fits_map}
 use Rattle.group_laws.proofs.Getting.{held_mapped}
 use Rattle.group_laws.proofs.Staying.{Stays, placed}
 

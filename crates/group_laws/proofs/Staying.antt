@@ -1,12 +1,12 @@
 -- A set in which each message stands in its one place, and what keeps it so.
-use Rattle.std.proofs.Common.{◌≡◌, ℕ, ◌<◌, Bool, true, false, List, [], ◌∷◌, ◌++◌, Option, Some, None, length, map, refl, sym, ap, ◌∙◌, append_assoc, inl, inr, arith}
-use Rattle.std.specs.Prelude.{◌⊎◌, All, slice_get}
+use Rattle.std.proofs.Common.{◌≡◌, ℕ, ◌<◌, Bool, List, [], ◌∷◌, ◌++◌, Option, Some, length, map, refl, sym, ap, ◌∙◌, inl}
+use Rattle.std.specs.Prelude.{◌⊎◌}
 use Rattle.std.proofs.lemmas.List.{append-nil, map-append}
 use Rattle.link_places.proofs.Lists.{of-nil}
 use Rattle.resend_store.specs.declared.messages.Msu.{Msu}
 use Rattle.link_places.specs.Limits.{SELECTIONS}
 use Rattle.link_places.specs.Laws.{StepsKeepPlaces}
-use Rattle.link_places.specs.Places.{Places, standing, OnePlace, AtOneLink, PlacesAnew}
+use Rattle.link_places.specs.Places.{standing, OnePlace}
 use Rattle.link_places.specs.Sharing.{of, link_of}
 use Rattle.link_group.specs.Set.{LinkSet}
 use Rattle.group_laws.specs.Laws.{held_at, places_of}

@@ -1,9 +1,8 @@
 -- Changeovers that begin and are heard of, calls of one terminal, and ticks.
-use Rattle.std.proofs.Common.{◌≡◌, ℕ, zero, suc, Bool, true, false, List, [], ◌∷◌, ◌++◌, Option, Some, None, map, take, drop, slice_set, refl, sym, ap, ◌∙◌, append_assoc, subst, inl, inr}
+use Rattle.std.proofs.Common.{◌≡◌, ℕ, zero, suc, Bool, true, false, List, [], ◌∷◌, ◌++◌, Option, Some, None, map, take, drop, slice_set, refl, sym, ap, ◌∙◌, subst, inl, inr}
 use Rattle.std.specs.Prelude.{◌⊎◌, if◌then◌else◌, slice_get, option_map}
 use Rattle.std.specs.List.{list_any}
 use Rattle.plain_laws.proofs.Lists.{append-nil_right}
-use Rattle.plain_laws.proofs.Options.{some_none}
 use Rattle.plain_laws.proofs.Truths.{by_test}
 use Rattle.resend_store.specs.declared.messages.Msu.{Msu}
 use Rattle.link_labels.specs.declared.changeover.Changeover.{Changeover}
@@ -15,22 +14,22 @@ use Rattle.link_heart.specs.Laws.{KeptLaw}
 use Rattle.link_heart.specs.Machine.{with_book, is_low, tidied}
 use Rattle.link_places.specs.declared.marks.Marks.{Marks}
 use Rattle.link_places.specs.Laws.{StepsKeepPlaces}
-use Rattle.link_places.specs.Marks.{begins, told, serves, waits}
-use Rattle.link_places.proofs.Equal.{Same, same}
+use Rattle.link_places.specs.Marks.{begins, serves}
+use Rattle.link_places.proofs.Equal.{same}
 use Rattle.group_links.specs.declared.link.Link.{Link}
-use Rattle.group_links.specs.OneLink.{window, held}
+use Rattle.group_links.specs.OneLink.{held}
 use Rattle.group_links.specs.Links.{set_at, change}
 use Rattle.group_links.specs.Failing.{begins_at, told_by, is_order, hears}
 use Rattle.group_links.specs.Doing.{came, came_first, asked, came_by, AtLink}
-use Rattle.group_links.specs.Ticking.{roomy, passed, LacksRoom}
+use Rattle.group_links.specs.Ticking.{roomy, passed}
 use Rattle.link_group.specs.Set.{LinkSet}
-use Rattle.link_group.specs.Changing.{fail_fault, failed, is_for, after_message}
+use Rattle.link_group.specs.Changing.{failed, is_for, after_message}
 use Rattle.link_group.specs.Placing.{placed_anew}
 use Rattle.link_group.specs.Lines.{seen, all_seen, ByLink, Alone}
 use Rattle.link_group.specs.Ticks.{with_room, after_ticks, NoRoom}
-use Rattle.group_laws.specs.Laws.{held_by, held_at, places_of}
-use Rattle.group_laws.specs.Reached.{Gone, acknowledged, messages_gone}
-use Rattle.group_laws.proofs.Fitting.{FitsMarks, FitsLink, FitsAt, Fits, fits_there, fits_change, fits_map, fits_alike, fits_begins, fits_told, fits_waits, fits_held, less_fits}
+use Rattle.group_laws.specs.Laws.{held_by, held_at}
+use Rattle.group_laws.specs.Reached.{Gone, acknowledged}
+use Rattle.group_laws.proofs.Fitting.{FitsMarks, FitsLink, FitsAt, fits_there, fits_change, fits_map, fits_alike, fits_begins, fits_told, fits_waits, fits_held, less_fits}
 use Rattle.group_laws.proofs.Getting.{change_here, change_other, held_changed, held_mapped}
 use Rattle.group_laws.proofs.Placing.{stays_placed}
 use Rattle.group_laws.proofs.Staying.{Stays, gone_marked, gone_none, quiet, leaves}

@@ -1,8 +1,7 @@
 -- Changeover at one link (Q.704): how it begins, what is said of it, and which messages are handed out.
-use Rattle.std.specs.Prelude.{ℕ, ◌-◌, Bool, true, false, if◌then◌else◌, List, [], length, Option, Some, None}
+use Rattle.std.specs.Prelude.{ℕ, Bool, true, false, if◌then◌else◌, List, [], length, Option, Some, None}
 use Rattle.resend_store.specs.declared.messages.Msu.{Msu}
 use Rattle.resend_store.specs.Window.{unacknowledged, retrieved}
-use Rattle.link_labels.specs.declared.changeover.Changeover.{Changeover}
 use Rattle.link_labels.specs.declared.changeover.Kind.{Kind}
 use Rattle.link_labels.specs.declared.changeover.Kind.TheVariants as kind
 use Rattle.link_places.specs.declared.marks.Answer.{Answer}

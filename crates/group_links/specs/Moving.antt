@@ -5,7 +5,7 @@ use Rattle.resend_store.specs.declared.messages.Msu.{Msu}
 use Rattle.resend_store.specs.Limits.{MOST_KEPT}
 use Rattle.link_term.specs.Term.{Term, with_half}
 use Rattle.link_places.specs.declared.marks.Changing.{Changing}
-use Rattle.link_places.specs.Sharing.{is_on, of, off, selections, counts_of, pick}
+use Rattle.link_places.specs.Sharing.{is_on, of, off, counts_of, pick}
 use Rattle.link_places.specs.Marks.{with_hand, ended}
 use Rattle.link_places.specs.Limits.{SELECTIONS}
 use Rattle.group_links.specs.declared.link.Link.{Link}

@@ -1,5 +1,5 @@
 -- The link that a selection gets.
-use Rattle.std.specs.Prelude.{ℕ, ◌==◌, ◌||◌, zero, suc, Bool, true, false, if◌then◌else◌, List, Option, Some, None, slice_get}
+use Rattle.std.specs.Prelude.{ℕ, ◌==◌, ◌||◌, zero, suc, Bool, false, if◌then◌else◌, List, Option, Some, None, slice_get}
 use Rattle.std.specs.List.{list_any}
 use Rattle.link_places.specs.Sharing.{pick, link_of}
 use Rattle.group_links.specs.declared.link.Link.{Link}

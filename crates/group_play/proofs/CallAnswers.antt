@@ -1,10 +1,9 @@
 -- What calls make of a set.
-use Rattle.std.proofs.Common.{◌≡◌, ℕ, List, ◌++◌, length, Option, None, Some, Result, Ok, Err, refl, sym, ap, subst, ◌∙◌}
+use Rattle.std.proofs.Common.{◌≡◌, ℕ, List, ◌++◌, Option, None, Some, refl, sym, ap, subst, ◌∙◌}
 use Rattle.std.specs.Prelude.{codes}
 use Rattle.std.specs.Fmt.{decimal}
 use Rattle.arrayvec.specs.ArrayVec.{ArrayVec}
 use Rattle.resend_store.specs.declared.messages.Msu.{Msu}
-use Rattle.link_machine.specs.declared.reply.Refusal.{Refusal}
 use Rattle.term_play.specs.link_heart_types.commands.Command.{Command}
 use Rattle.term_play.specs.link_term_types.answers.CallError.{CallError}
 use Rattle.term_play.specs.link_term_types.answers.CallError.TheVariants as calling

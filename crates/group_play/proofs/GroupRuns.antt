@@ -1,5 +1,5 @@
 -- A run, one command more, and the units that go out on a link.
-use Rattle.std.proofs.Common.{◌≡◌, ℕ, zero, suc, ◌+◌, ◌-◌, ◌<◌, ◌≤◌, Bool, true, false, List, [], ◌∷◌, ◌++◌, length, map, take, drop, get_or, append_assoc, append-nil, Option, None, Some, refl, sym, ap, subst, arith, ◌∙◌}
+use Rattle.std.proofs.Common.{◌≡◌, ℕ, suc, ◌+◌, ◌-◌, ◌<◌, ◌≤◌, Bool, true, false, List, [], ◌∷◌, ◌++◌, length, map, take, drop, get_or, append_assoc, append-nil, Option, None, Some, refl, sym, ap, subst, arith, ◌∙◌}
 use Rattle.std.specs.Prelude.{codes, is_some}
 use Rattle.std.specs.List.{flat_map}
 use Rattle.std.specs.Io.KnownBytes.{Appends}
@@ -11,16 +11,16 @@ use Rattle.su_octets.specs.declared.units.Unit as units
 use Rattle.link_group.specs.Set.{LinkSet}
 use Rattle.link_group.specs.Lines.{ByLink}
 use Rattle.link_group.specs.Doing.{Sent}
-use Rattle.group_lines.specs.GroupCommands.{PlainGroupCommand, expected, plain_group_command}
+use Rattle.group_lines.specs.GroupCommands.{expected, plain_group_command}
 use Rattle.group_lines.specs.GroupScripts.{PlainGroupSaid, plain_group_said}
 use Rattle.group_lines.specs.declared.script.GroupSaid.{GroupSaid}
 use Rattle.group_lines.specs.declared.commands.GroupCommand.{GroupCommand}
 use Rattle.group_lines.specs.declared.commands.GroupCommand.TheVariants as code
 use Rattle.term_play.specs.Printed.{line_of}
 use Rattle.term_play.specs.TermAnswers.{unit_line}
-use Rattle.term_play.specs.TermRuns.{latest, HasPrinted}
+use Rattle.term_play.specs.TermRuns.{HasPrinted}
 use Rattle.term_play.proofs.TermRuns.{printed_none, printed_one, printed_both}
-use Rattle.group_play.specs.GroupAnswers.{Playing, plain_hand, at, NO_LINK, GoOut, none_goes, silent, one_goes, GivesOut, Outputs, Answers, Obeys}
+use Rattle.group_play.specs.GroupAnswers.{Playing, plain_hand, at, NO_LINK, GoOut, none_goes, silent, one_goes, Outputs, Answers, Obeys}
 use Rattle.group_play.specs.GroupAnswers as answers
 use Rattle.link_group.specs.declared.retrieved.Kept.{Kept}
 use Rattle.link_group.specs.declared.hands.Hands.{Hands}

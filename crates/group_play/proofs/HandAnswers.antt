@@ -1,5 +1,5 @@
 -- Hands that are kept, taken out and diverted.
-use Rattle.std.proofs.Common.{◌≡◌, ℕ, ◌==◌, ◌<◌, ◌≤◌, Bool, true, false, ◌||◌, List, [], ◌∷◌, ◌++◌, length, length-append, map, Option, None, Some, Result, Ok, Err, refl, sym, ap, subst, arith, ◌∙◌}
+use Rattle.std.proofs.Common.{◌≡◌, ℕ, ◌==◌, ◌<◌, ◌≤◌, ◌||◌, List, [], ◌∷◌, ◌++◌, length, length-append, map, None, Some, Result, Ok, Err, refl, sym, ap, subst, arith, ◌∙◌}
 use Rattle.std.specs.Prelude.{codes, ◌↔◌, IsErr, OnOk}
 use Rattle.std.specs.List.{list_any}
 use Rattle.std.specs.Fmt.{decimal}
@@ -11,14 +11,14 @@ use Rattle.link_group.specs.Diverting.{diverted, after_divert}
 use Rattle.link_group.specs.Holding.{kept, TakenOut, NoneOf}
 use Rattle.link_group.specs.Holding as holding
 use Rattle.link_group.specs.OneLink.{but_memory, abandon_refusal}
-use Rattle.link_group.specs.Printed.{retrieve_error_text, abandon_error_text, divert_fault_text}
+use Rattle.link_group.specs.Printed.{divert_fault_text}
 use Rattle.link_group.specs.declared.retrieved.Kept.{Kept}
 use Rattle.link_group.specs.declared.retrieved.Retrieved.{Retrieved}
 use Rattle.link_group.specs.link_refusals_types.errors.RetrieveError.{RetrieveError}
 use Rattle.link_group.specs.link_refusals_types.errors.AbandonError.{AbandonError}
 use Rattle.link_group.specs.link_refusals_types.errors.AbandonError.TheVariants as abandoning
 use Rattle.link_group.specs.link_refusals_types.errors.DivertFault.{DivertFault}
-use Rattle.group_play.specs.GroupAnswers.{Hand, plain_hand, with_hand, is_of, IsFound, count_line, Retrieves, Abandons, DivertsHand, Diverts, IsRetrieveLine, IsAbandonLine}
+use Rattle.group_play.specs.GroupAnswers.{Hand, plain_hand, with_hand, is_of, count_line, Retrieves, Abandons, DivertsHand, Diverts, IsRetrieveLine, IsAbandonLine}
 use Rattle.group_play.specs.GroupAnswers as answers
 
 -- ---- kept

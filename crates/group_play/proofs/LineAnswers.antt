@@ -1,14 +1,12 @@
 -- What comes in on a link of a set.
-use Rattle.std.proofs.Common.{◌≡◌, ℕ, zero, suc, ◌+◌, ◌-◌, ◌<◌, ◌≤◌, List, [], ◌∷◌, ◌++◌, length, drop, Option, None, Some, Bool, true, false, if◌then◌else◌, refl, sym, ap, subst, arith, ◌∙◌}
+use Rattle.std.proofs.Common.{◌≡◌, ℕ, ◌+◌, ◌<◌, ◌≤◌, List, [], ◌∷◌, length, drop, Option, None, Some, Bool, true, false, if◌then◌else◌, refl, sym, ap, subst, arith, ◌∙◌}
 use Rattle.std.specs.Prelude.{codes, is_some, slice_get, slice_set}
 use Rattle.std.proofs.lemmas.List.{length-drop, drop-drop}
-use Rattle.link_side.specs.Reporting.{reported}
 use Rattle.link_side.specs.declared.signals.Report.{Report}
-use Rattle.term_play.specs.Term.{Term}
 use Rattle.link_group.specs.group_links_types.link.Link.{Link}
 use Rattle.link_group.specs.Set.{LinkSet}
 use Rattle.link_group.specs.Links.{change, set_at}
-use Rattle.link_group.specs.Doing.{Reported, Listened, asked, came_by}
+use Rattle.link_group.specs.Doing.{Reported, asked, came_by}
 use Rattle.link_group.specs.Lines.{ByLink, seen}
 use Rattle.link_group.specs.Placing.{placed_anew}
 use Rattle.plain_laws.proofs.Places.{get_set_same}

@@ -1,5 +1,5 @@
 -- Hands that are kept.
-use Rattle.std.proofs.Common.{◌≡◌, ℕ, ◌≤◌, ◌<◌, List, ◌∷◌, ◌++◌, length, length-append, ap, arith}
+use Rattle.std.proofs.Common.{ℕ, ◌≤◌, ◌<◌, List, ◌∷◌, length, length-append, ap, arith}
 use Rattle.link_group.specs.declared.retrieved.Kept.{Kept}
 use Rattle.link_group.specs.declared.retrieved.Retrieved.{Retrieved}
 use Rattle.link_group.specs.Holding.{kept, TakenOut}

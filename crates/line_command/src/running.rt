@@ -98,11 +98,12 @@ fn speak<H: Files<File = File> + Threads + Eprint + Clock + AllocGlobal, R: Read
 }
 
 /// Puts one end of a link on a line: line octets come from a reader, and one goes to a writer for each, behind those that go ahead (of which
-/// 8,000 are the most). The text of its processes is read first, then its orders and reports are opened, and then its line.
+/// 8,000 are the most).
 ///
 /// Gives the exit status: 0 at the end of what there is to read, or at the order `quit`; 2 where the text is refused or lacks a name that a
-/// terminal wants, which is told on standard error; 4 where memory, a file, a read or a write fails, of reports too. However it ends, what is
-/// written on the line is a beginning of what the terminal gives for octets that were read.
+/// terminal wants; 4 where memory, a file, a read or a write fails, of reports too. However it ends, what is written on the line is a beginning
+/// of what the terminal gives for octets that were read. (Tests alone show that a refusal is told on standard error, and that the text of its
+/// processes is read first, then its orders and reports are opened, and then its line.)
 pub fn run_line<
     H: Files<File = File> + Threads + Eprint + Clock + AllocGlobal,
     S: Read + Drop,

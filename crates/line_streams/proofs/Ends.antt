@@ -1,5 +1,5 @@
 -- What is told at the end.
-use Rattle.std.proofs.Common.{◌≡◌, ℕ, ◌<◌, ◌++◌, List, length, sym, ap, ◌∙◌, subst, arith}
+use Rattle.std.proofs.Common.{◌≡◌, ℕ, ◌<◌, ◌++◌, length, ap, ◌∙◌, subst, arith}
 use Rattle.std.specs.Fmt.{decimal}
 use Rattle.rtrb.specs.Ring.{sent, known_free}
 use Rattle.line_streams.specs.Departing.{loss_line, TellsLost, none_lost, some_lost, no_room}

@@ -6,7 +6,6 @@ use Rattle.link_labels.specs.declared.changeover.Changeover.{Changeover}
 use Rattle.link_labels.specs.declared.changeover.Kind.{Kind}
 use Rattle.link_labels.specs.declared.changeover.Kind.TheVariants as kind
 use Rattle.link_labels.specs.Changeovers.{Says}
-use Rattle.link_places.specs.Marks.{begins, told}
 use Rattle.group_links.specs.declared.link.Link.{Link}
 use Rattle.link_refusals.specs.declared.errors.FailError.{FailError}
 use Rattle.link_refusals.specs.declared.errors.FailError.TheVariants as fail

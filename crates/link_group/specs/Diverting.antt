@@ -1,7 +1,7 @@
 -- Diversion (Q.704): the messages in hand go to the other links.
 use Rattle.std.specs.Prelude.{◌≡◌, ℕ, false, List, map, Option, Some, None, slice_get}
 use Rattle.resend_store.specs.declared.messages.Msu.{Msu}
-use Rattle.link_places.specs.Sharing.{of, selections, counts_of, link_of}
+use Rattle.link_places.specs.Sharing.{selections, counts_of, link_of}
 use Rattle.link_refusals.specs.declared.errors.DivertFault.{DivertFault}
 use Rattle.link_group.specs.Set.{LinkSet}
 use Rattle.group_links.specs.Links.{change}

@@ -5,7 +5,7 @@ use Rattle.turn_code.specs.declared.draft.Draft.{Draft}
 use Rattle.turn_code.specs.declared.draft.DraftProcess.{DraftProcess}
 use Rattle.turn_check.specs.Named.{IsNamed, IsFirst, process_names}
 use Rattle.link_machine.specs.Names.{named, actors_of, place_of}
-use Rattle.link_heart.specs.Known.{process_word, IsProcess, IsActor}
+use Rattle.link_heart.specs.Known.{IsProcess, IsActor}
 use Rattle.link_heart.specs.declared.words.ProcessName.{ProcessName}
 
 there_by_name : (ps : List DraftProcess) (p : ℕ) (name : List ℕ) → IsNamed (slice_get (map (λ (p : DraftProcess). p.name) ps) p) name → p < length ps

@@ -1,6 +1,6 @@
 -- Each turn that is out ends.
 use Rattle.std.proofs.Common.{◌≡◌, ℕ, ◌≤◌, Bool, true, false, if◌then◌else◌, arith, Option, Some, None, refl, sym, ap, ◌∙◌, subst, le-ltb, le_trans}
-use Rattle.std.specs.Prelude.{◌↔◌, is_some, slice_get, nat_lt, Result, Ok, Err}
+use Rattle.std.specs.Prelude.{◌↔◌, is_some, slice_get, nat_lt, Result, Ok}
 use Rattle.std.proofs.lemmas.Option.{none-some}
 use Rattle.turn_code.specs.Outcome.{Outcome, outcome_in, result_in}
 use Rattle.turn_code.specs.declared.trouble.Trouble.{Trouble}

@@ -50,7 +50,7 @@ left_fits P saved (y ∷ xs) all =
       | false ↦ all.1
     ]
 
-all_left : (P : Item → Type 0) (d : Draft) (n : ℕ) (s : Standing) (xs : List Item) → AllByRecursion P xs → AllByRecursion P (left_at d n s xs)
+pub all_left : (P : Item → Type 0) (d : Draft) (n : ℕ) (s : Standing) (xs : List Item) → AllByRecursion P xs → AllByRecursion P (left_at d n s xs)
 all_left P d n (At (State q)) xs all = left_fits P (is_saved d n q.0) xs all
 all_left P d n (At Start) xs all = all
 all_left P d n Stopped xs all = all

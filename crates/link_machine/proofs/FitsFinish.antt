@@ -1,6 +1,6 @@
 -- A turn that ends leaves all fitting.
 use Rattle.std.proofs.Common.{◌≡◌, ◌≢◌, ℕ, zero, suc, Bool, true, false, if◌then◌else◌, List, [], ◌∷◌, ◌++◌, Option, Some, None, refl, sym, ap, ◌∙◌, subst}
-use Rattle.std.specs.Prelude.{slice_get, option_map, Any, Result, Ok, Err}
+use Rattle.std.specs.Prelude.{slice_get, option_map, Any, Result, Ok}
 use Rattle.std.specs.List.{AllByRecursion}
 use Rattle.std.proofs.lemmas.Option.{same_Some}
 use Rattle.turn_code.specs.Routes.{the_process, Carries, Brings, Reaches}
@@ -31,7 +31,7 @@ use Rattle.actor_names.specs.Names.{actors_of, number_for}
 use Rattle.actor_names.specs.declared.name.ActorName.{ActorName}
 use Rattle.actor_names.proofs.Standing.{right_process}
 use Rattle.link_machine.specs.Core.{Core, Ring, change, names_in}
-use Rattle.link_machine.specs.Effects.{arrival_of, emitted_of, has_room, delivered, receives, drops, laid, laid_all, delay, settled, moved, ended, started, finished}
+use Rattle.link_machine.specs.Effects.{arrival_of, emitted_of, has_room, delivered, receives, drops, laid, laid_all, delay, without, settled, moved, timers_after, ended, started, finished}
 use Rattle.link_machine.specs.Fits.{Arrived, IsReadyAt, GivenFits, IsCalled, EmittedFits, CoreFits}
 use Rattle.link_machine.specs.Step.{result_given, finish_by, finish_at}
 use Rattle.link_machine.specs.Ledger.{run_of, runs}
@@ -42,7 +42,7 @@ use Rattle.link_machine.specs.declared.actor.Standing.TheVariants.{At, Stopped}
 use Rattle.link_machine.specs.declared.reply.Emitted.{Emitted}
 use Rattle.link_machine.proofs.FitsLists.{NamesStay, change_each, names_change, name_there, name_is}
 use Rattle.link_machine.proofs.FitsActors.{Asked, Sits, LinkSits, Rests, link_of, core_of, sits_receives, sits_drops, with_actors, with_found, receives_stay, drops_stay}
-use Rattle.link_machine.proofs.FitsTimers.{until_fits, without_fits, after_fits}
+use Rattle.link_machine.proofs.FitsTimers.{part_fits, until_fits, without_part, after_part}
 use Rattle.plain_laws.proofs.Lists.{each_push as all_push}
 
 -- ---- a transition's process
@@ -139,7 +139,7 @@ module _ (d : Draft) (R : Asked) (n : ℕ) (me : ActorName) (t : Transition) (nu
       record { each = dropped.each; names = dropped.names; timers = until_fits d w.timers n timer.0 (delay z) me t.process called there right sits.timers; ring = sits.ring }
   laid_sits w (Reset timer) sits right =
       let dropped = dropped_sits w timer.0 sits in
-      record { each = dropped.each; names = dropped.names; timers = without_fits d w.timers n timer.0 sits.timers; ring = sits.ring }
+      record { each = dropped.each; names = dropped.names; timers = part_fits d (without w.timers n timer.0).deadlines w.timers.deadlines (without_part w.timers n timer.0) sits.timers; ring = sits.ring }
 
   all_laid_sits : (es : List Effect) (w : Core) → LinkSits d R w → AreRightEffects d t es → LinkSits d R (laid_all n me w es)
   all_laid_sits [] w sits right = sits
@@ -203,7 +203,7 @@ module _ (d : Draft) (n : ℕ) (me : ActorName) (t : Transition) (called : IsCal
         (λ k a other h. record { process = h.process; there = h.there; variables = h.variables; rest = h.rest.0 other; items = h.items })
         (λ a at h. moves e a now (own_process w (Acts d n now) a sits at) ready h);
     names = names_change w.actors n (moved e) (moved_stays e) ∙ sits.names;
-    timers = after_fits d e w.timers n sits.timers;
+    timers = part_fits d (timers_after e w.timers n).deadlines w.timers.deadlines (after_part e w.timers n) sits.timers;
     ring = sits.ring;
   }
 

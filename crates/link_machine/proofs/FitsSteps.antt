@@ -1,5 +1,5 @@
 -- All fits in a link as it is opened, and in the next state of one where all fits.
-use Rattle.std.proofs.Common.{◌≡◌, ℕ, ◌+◌, ◌<◌, Bool, true, false, not, List, [], ◌∷◌, length, Option, Some, None, refl, sym, ap, ◌∙◌, subst, arith}
+use Rattle.std.proofs.Common.{◌≡◌, ℕ, ◌+◌, ◌<◌, Bool, true, false, not, List, [], ◌∷◌, length, Some, None, refl, sym, ap, ◌∙◌, subst, arith}
 use Rattle.std.specs.Prelude.{slice_get}
 use Rattle.std.specs.List.{AllByRecursion}
 use Rattle.std.proofs.lemmas.Option.{same_Some}
@@ -14,7 +14,7 @@ use Rattle.turn_code.specs.declared.input.Input.{Input}
 use Rattle.turn_code.specs.declared.input.Place.TheVariants.{Start}
 use Rattle.turn_code.specs.declared.draft.Draft.{Draft}
 use Rattle.turn_code.specs.declared.draft.DraftProcess.{DraftProcess}
-use Rattle.tick_wheel.specs.Timers.{due, DueLaw}
+use Rattle.tick_wheel.specs.Timers.{due, not_due, DueLaw}
 use Rattle.tick_wheel.specs.declared.Due.{Due}
 use Rattle.actor_names.specs.Names.{actors_of}
 use Rattle.actor_names.specs.declared.name.ActorName.{ActorName}
@@ -35,7 +35,7 @@ use Rattle.link_machine.specs.declared.reply.Refusal.{Refusal}
 use Rattle.link_machine.specs.declared.reply.Refusal.TheVariants as refusal
 use Rattle.link_machine.proofs.FitsLists.{EachAt, names_change, name_is, all_from_each}
 use Rattle.link_machine.proofs.FitsActors.{Asked, Sits, LinkSits, Rests, link_of, core_of, sits_receives, sits_hears, change_sits, with_actors, receives_stay, hears_stay}
-use Rattle.link_machine.proofs.FitsTimers.{no_timers, retained}
+use Rattle.link_machine.proofs.FitsTimers.{no_timers, part_fits, retained}
 use Rattle.link_machine.proofs.FitsFinish.{finish_fits}
 use Rattle.link_machine.proofs.FitsBegin.{sits_begun, sits_skipped, begun_stays, skipped_stays}
 use Rattle.link_machine.proofs.FitsOffer.{offered_arrives}
@@ -98,7 +98,7 @@ passed_sits is_due d R w k sits =
     record {
       each = notified_sits d R (due_in w k) w.actors fit sits.names sits.each;
       names = notified_names (due_in w k) w.actors ∙ sits.names;
-      timers = retained d w.timers.deadlines clock sits.timers;
+      timers = part_fits d (not_due w.timers.deadlines clock) w.timers.deadlines (retained w.timers.deadlines clock) sits.timers;
       ring = sits.ring;
     }
 

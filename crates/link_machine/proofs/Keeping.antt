@@ -7,6 +7,7 @@ use Rattle.turn_code.specs.Valid.{IsValid}
 use Rattle.turn_code.specs.declared.draft.Draft.{Draft}
 use Rattle.turn_code.specs.declared.draft.DraftProcess.{DraftProcess}
 use Rattle.std.specs.List.{AllByRecursion}
+use Rattle.tick_wheel.specs.Timers.{DueLaw}
 use Rattle.link_machine.specs.Core.{Core, is_out, outs}
 use Rattle.link_machine.specs.declared.actor.Actor.{Actor}
 use Rattle.link_machine.proofs.Opened.{opened_all}
@@ -14,7 +15,7 @@ use Rattle.link_machine.specs.Fits.{CoreFits}
 use Rattle.link_machine.specs.Step.{Stepped, step}
 use Rattle.link_machine.specs.Refusals.{refuses}
 use Rattle.link_machine.specs.Ledger.{Ledger, runs, state_of, refusal_by, asked, ask, ask_by, room, rebased, after_by}
-use Rattle.link_machine.specs.Kept.{Stands, IsBounded, AreNumbered, IsKept, is_finish, opened_from, opened, opened_book}
+use Rattle.link_machine.specs.Kept.{Stands, IsBounded, AreNumbered, AreSilent, IsKept, is_finish, opened_from, opened, opened_book}
 use Rattle.link_machine.specs.Laws.{WithinAt, AllWithin}
 use Rattle.link_machine.specs.declared.event.Event.{Event}
 use Rattle.link_machine.specs.declared.event.Event.TheVariants.{Offer, Begin, Skip, Finish, Advance, TakeEnv}
@@ -24,6 +25,7 @@ use Rattle.link_machine.proofs.Ends.{passes_otherwise, finish_law}
 use Rattle.link_machine.proofs.Texts.{StepFits, fits_next}
 use Rattle.link_machine.proofs.Counts.{weight}
 use Rattle.link_machine.proofs.Numbers.{numbered_step, numbered_opened}
+use Rattle.link_machine.proofs.Silence.{silent_step, silent_opened}
 use Rattle.link_machine.proofs.Bounds.{IsCounted, Moves, moves, room_passes, bounded_next}
 
 -- ---- an event
@@ -38,7 +40,7 @@ finishes_more es e base now next h k =
     sum_by_push (λ (x : Event). cond (is_finish x) 1 0) es e in
     omega arith
 
-module _ (steps : StepFits) (safe : SafeLaw) (law : RunLaw) where
+module _ (steps : StepFits) (due : DueLaw) (safe : SafeLaw) (law : RunLaw) where
   stands_next : (b : Ledger) (e : Event) → IsKept b → refusal_by (runs b.set) b e ≡ None
       → Moves e (step b.set (runs b.set) (state_of b) e).to (state_of b) → Stands (with_event b e)
   stands_next b e h passes m = record {
@@ -60,6 +62,7 @@ module _ (steps : StepFits) (safe : SafeLaw) (law : RunLaw) where
             (bounded_next b e (step b.set (runs b.set) (state_of b) e).to (state_of b) h.bounded m
             (room_passes (room b (state_of b)) e (refuses b.set (state_of b) e) passes));
         numbered = subst (λ (w : Core). AreNumbered w) (sym (state_more b e)) (numbered_step b.set (state_of b) e h.numbered);
+        silent = subst (λ (w : Core). AreSilent w) (sym (state_more b e)) (silent_step due b.set (state_of b) e h.silent);
       }
 
   kept_asked : (b : Ledger) (e : Event) (s : Stepped) (o : Option Refusal) → IsKept b → (o ≡ None → IsKept (with_event b e)) → IsKept (asked b e s o).book
@@ -72,12 +75,12 @@ module _ (steps : StepFits) (safe : SafeLaw) (law : RunLaw) where
 
 -- ---- a list of events
 
-module _ (steps : StepFits) (safe : SafeLaw) (law : RunLaw) where
+module _ (steps : StepFits) (due : DueLaw) (safe : SafeLaw) (law : RunLaw) where
   kept_after : (d : Draft) (b : Ledger) (es : List Event) → b.set ≡ d → IsKept b → IsKept (after_by (runs d) b es)
   kept_after d b [] same h = h
   kept_after d b (e ∷ es) same h =
       kept_after d (ask_by (runs d) b e).book es (ask_set (runs d) b e ∙ same)
-      (subst (λ (x : Draft). IsKept (ask_by (runs x) b e).book) same (asks steps safe law b e h))
+      (subst (λ (x : Draft). IsKept (ask_by (runs x) b e).book) same (asks steps due safe law b e h))
 
   pub lists : (b : Ledger) (es : List Event) → IsKept b → IsKept (after_by (runs b.set) b es)
   lists b es h = kept_after b.set b es refl h
@@ -92,7 +95,7 @@ module _ (steps : StepFits) (safe : SafeLaw) (law : RunLaw) where
 
   pub within_law : (b : Ledger) (es : List Event) → IsKept b → AllWithin b es
   within_law b [] h = tt
-  within_law b (e ∷ es) h = (within_at b e h, within_law (ask b e).book es (asks steps safe law b e h))
+  within_law b (e ∷ es) h = (within_at b e h, within_law (ask b e).book es (asks steps due safe law b e h))
 
 -- ---- a rebase
 
@@ -113,6 +116,7 @@ rebases b h =
         clock = h.bounded.clock;
       };
       numbered = h.numbered;
+      silent = h.silent;
     }
 
 -- ---- a book that is opened
@@ -145,4 +149,5 @@ opens fits d port env journal valid small =
         clock = omega arith;
       };
       numbered = numbered_opened d port env;
+      silent = silent_opened d port env;
     }

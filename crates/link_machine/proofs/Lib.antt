@@ -14,5 +14,6 @@ pub mod FitsSteps
 pub mod Opened
 pub mod Places
 pub mod Numbers
+pub mod Silence
 pub mod Fullness
 pub use Rattle.actor_names.proofs.Numbering

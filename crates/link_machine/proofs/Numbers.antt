@@ -1,5 +1,5 @@
 -- The numbers of the turns that are out.
-use Rattle.std.proofs.Common.{◌≡◌, ◌≢◌, ℕ, ◌+◌, ◌<◌, ◌≤◌, ◌⊎◌, inl, inr, List, [], ◌∷◌, map, Option, Some, None, refl, sym, ap, ◌∙◌, subst, arith}
+use Rattle.std.proofs.Common.{◌≡◌, ◌≢◌, ℕ, ◌+◌, ◌<◌, ◌≤◌, ◌⊎◌, inl, inr, List, [], ◌∷◌, Option, Some, None, refl, sym, ap, ◌∙◌, subst, arith}
 use Rattle.std.specs.Prelude.{slice_get, Result, Ok, Err}
 use Rattle.std.proofs.lemmas.Option.{same_Some, none-some}
 use Rattle.turn_code.specs.Outcome.{Outcome}
@@ -29,7 +29,7 @@ use Rattle.link_machine.specs.Effects.{arrival_of, reached, receives, drops, hea
 use Rattle.link_machine.specs.Refusals.{refuses}
 use Rattle.link_machine.specs.Step.{Stepped, step, finish_by, finish_at, result_given, offered_arrival, notified, due_in, passed}
 use Rattle.link_machine.specs.Ledger.{Ledger, runs, state_of, refusal_by, asked, ask, ask_by, room, rebased, after_by, turn_with, turn_given, turn_at, turn_out}
-use Rattle.link_machine.specs.Kept.{HasOut, AreNumbered, IsKept, opened_actor, opened_from, opened}
+use Rattle.link_machine.specs.Kept.{HasOut, AreNumbered, IsKept, opened_from, opened}
 use Rattle.link_machine.specs.Laws.{IsOver, OverLaw}
 use Rattle.link_machine.specs.declared.actor.Actor.{Actor}
 use Rattle.link_machine.specs.declared.actor.Given.{Given}

@@ -1,5 +1,5 @@
 -- What a turn does to its link as it ends (Z.100, output, set, reset, stop).
-use Rattle.std.specs.Prelude.{ℕ, zero, suc, ◌+◌, ◌==◌, ℤ, pos, negsuc, Bool, List, [], ◌∷◌, ◌++◌, length, max, nat_lt, Option, None, Some, option_to_list, slice_get, if◌then◌else◌}
+use Rattle.std.specs.Prelude.{ℕ, zero, suc, ◌+◌, ◌==◌, ℤ, pos, negsuc, Bool, List, [], ◌∷◌, ◌++◌, length, max, nat_lt, Option, None, Some, option_to_list, if◌then◌else◌}
 use Rattle.std.specs.FinMap as map
 use Rattle.profile_limits.specs.Limits.{MOST_TIMERS_EACH}
 use Rattle.turn_code.specs.Outcome.{Outcome}

@@ -1,5 +1,5 @@
 -- What is full is told by name.
-use Rattle.std.specs.Prelude.{◌≡◌, ℕ, true, false, List, [], ◌∷◌, ◌++◌, length, Some, slice_get}
+use Rattle.std.specs.Prelude.{◌≡◌, ℕ, true, false, List, ◌∷◌, ◌++◌, length, Some, slice_get}
 use Rattle.turn_code.specs.Outcome.{Outcome}
 use Rattle.turn_code.specs.declared.numbers.ProcessNumber.{ProcessNumber}
 use Rattle.turn_code.specs.declared.input.Place.{Place}

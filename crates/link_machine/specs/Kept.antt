@@ -1,4 +1,5 @@
--- What holds of every book: its state is the replay of its journal, all fits in each state on the way, and its numbers stay within their bounds.
+-- What holds of every book: all fits in each state from its base to the present one, its numbers stay within their bounds, each turn that is out has a
+-- number of its own, and no timer that is active has a signal waiting.
 use Rattle.std.specs.Prelude.{◌≡◌, ℕ, ◌+◌, ◌*◌, ◌<◌, ◌≤◌, Bool, true, false, suc, List, [], ◌∷◌, ◌++◌, length, map, count_by, None, Some, slice_get}
 use Rattle.std.specs.FinMap as finite
 use Rattle.profile_limits.specs.Limits.{LAST_PLACE, LAST_TICK, MOST_INSTRUCTIONS, MOST_JOURNAL, MOST_TURNS_BEGUN}
@@ -7,9 +8,12 @@ use Rattle.turn_code.specs.Start.{initial_values}
 use Rattle.turn_code.specs.declared.input.Place.TheVariants.{Start}
 use Rattle.turn_code.specs.declared.draft.Draft.{Draft}
 use Rattle.turn_code.specs.declared.draft.DraftProcess.{DraftProcess}
+use Rattle.input_port.specs.Queue.{has_timer}
+use Rattle.tick_wheel.specs.Timers.{Deadlines}
 use Rattle.actor_names.specs.Names.{instances_from}
 use Rattle.actor_names.specs.declared.name.ActorName.{ActorName}
 use Rattle.link_machine.specs.Core.{Core, outs}
+use Rattle.link_machine.specs.Effects.{timer_of}
 use Rattle.link_machine.specs.Fits.{CoreFits}
 use Rattle.link_machine.specs.Step.{step}
 use Rattle.link_machine.specs.Ledger.{Ledger, runs, state_of}
@@ -59,10 +63,19 @@ pub record AreNumbered (w : Core) : Type 0 where
   pub below : (n : ℕ) (g : Given) → HasOut w.actors n g → g.turn < w.turns
   pub apart : (m n : ℕ) (f g : Given) → HasOut w.actors m f → HasOut w.actors n g → f.turn ≡ g.turn → m ≡ n
 
+-- of actor n: a timer that is active, so has a deadline, has no signal waiting in the port
+abbrev pub IsSilent : Deadlines → ℕ → Actor → Type 0
+IsSilent deadlines n a = (timer until : ℕ) → finite.get deadlines (timer_of n timer) ≡ Some until → has_timer a.port.items timer ≡ false
+
+-- so of each actor
+pub record AreSilent (w : Core) : Type 0 where
+  pub each : (n : ℕ) (a : Actor) → slice_get w.actors n ≡ Some a → IsSilent w.timers.deadlines n a
+
 pub record IsKept (b : Ledger) : Type 0 where
   pub stands : Stands b
   pub bounded : IsBounded b (state_of b)
   pub numbered : AreNumbered (state_of b)
+  pub silent : AreSilent (state_of b)
 
 -- ---- how a book begins
 

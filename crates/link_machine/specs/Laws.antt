@@ -17,7 +17,7 @@ use Rattle.link_machine.specs.Looking.{trigger_of, input_for, input_with}
 use Rattle.link_machine.specs.Fits.{ItemFits, IsReadyAt, CoreFits}
 use Rattle.link_machine.specs.Step.{Answer, Stuck, Says, step, report_of}
 use Rattle.link_machine.specs.Ledger.{Ledger, runs, state_by, state_of, next, event_at, refusal_by, ask, rebased, answers_by, after_by, turn_out}
-use Rattle.link_machine.specs.Kept.{HasOut, IsKept, opened_book}
+use Rattle.link_machine.specs.Kept.{HasOut, AreSilent, IsKept, opened_book}
 use Rattle.link_machine.specs.declared.actor.Actor.{Actor}
 use Rattle.link_machine.specs.declared.actor.Given.{Given}
 use Rattle.link_machine.specs.declared.event.Event.{Event}
@@ -46,6 +46,10 @@ StateLaw = (b : Ledger) (e : Event) → refusal_by (runs b.set) b e ≡ None
 
 abbrev pub FitsLaw : Type 0
 FitsLaw = (b : Ledger) → IsKept b → CoreFits b.set (state_of b)
+
+-- in no state of a book has a timer that is active a signal waiting
+abbrev pub TimerLaw : Type 0
+TimerLaw = (b : Ledger) → IsKept b → AreSilent (state_of b)
 
 -- a list of events has the same answers, and leaves the same book in the same state, by the code of the set and by anything that the set means
 pub record SameByText (act : Meaning) (b : Ledger) (es : List Event) : Type 0 where

@@ -1,13 +1,14 @@
 //! What follows from the machine alone. Each call costs nothing.
 
 ghost use Rattle.link_machine.specs.Full.{FullLaw};
-ghost use Rattle.link_machine.specs.Laws.{KeepsLaw, SetLaw, StateLaw, FitsLaw, ItemLaw, TextLaw, FinishLaw, WithinLaw, NeverStuckLaw, OutLaw, OverLaw, PlaceLaw};
+ghost use Rattle.link_machine.specs.Laws.{KeepsLaw, SetLaw, StateLaw, FitsLaw, TimerLaw, ItemLaw, TextLaw, FinishLaw, WithinLaw, NeverStuckLaw, OutLaw, OverLaw, PlaceLaw};
 
 use tick_wheel::laws::due_law;
 use turn_code::laws::{effects_law, run_law, safe_law, start_law};
 
-/// Each event, each list of events and each rebase keeps what holds of every book: its state is the replay of its journal,
-/// all fits in each state on the way, its numbers stay within their bounds.
+/// A book begins with what holds of every book, and each event, each list of events and each rebase keeps it: all fits in each state from its base
+/// to the present one, its numbers stay within their bounds, each turn that is out has a number of its own, and no timer that is active has a signal
+/// waiting.
 pub fn keeps_law()
     ensures { KeepsLaw }
 {
@@ -31,6 +32,12 @@ pub fn state_law()
 /// All fits in the present state of a book.
 pub fn fits_law()
     ensures { FitsLaw }
+{}
+
+/// In no state of a book, so in none to which any list of events leads, has a timer that is active a signal waiting in its actor's port: the signal
+/// comes as the deadline goes, and a SET, a RESET and a STOP take it away (Z.100, timers).
+pub fn timer_law()
+    ensures { TimerLaw }
 {}
 
 /// What may wait for a process fits each input that waits for it, in every state of the process.

@@ -1,13 +1,11 @@
 -- Each step keeps every message in its one place.
-use Rattle.std.proofs.Common.{◌≡◌, ◌≢◌, ℕ, ◌<◌, ◌==◌, Bool, true, false, List, [], ◌∷◌, ◌++◌, Option, Some, None, refl, sym, ap, ◌∙◌, append_assoc, inl, inr}
+use Rattle.std.proofs.Common.{◌≡◌, ℕ, ◌<◌, List, [], ◌++◌, Option, Some, None, refl, sym, ap, ◌∙◌, append_assoc, inl, inr}
 use Rattle.std.specs.Prelude.{◌⊎◌}
-use Rattle.std.proofs.lemmas.Bool.Decides.{eqb_tells}
 use Rattle.std.proofs.lemmas.List.{append-nil}
 use Rattle.plain_laws.proofs.Lists.{append-nil_left, append-nil_right}
-use Rattle.plain_laws.proofs.Options.{none_some, some_none}
 use Rattle.resend_store.specs.declared.messages.Msu.{Msu}
 use Rattle.link_places.specs.Limits.{SELECTIONS}
-use Rattle.link_places.specs.Sharing.{of, off}
+use Rattle.link_places.specs.Sharing.{of}
 use Rattle.link_places.specs.Places.{Places, standing, OnePlace, IsEmpty, AtOneLink}
 use Rattle.link_places.proofs.Lists.{of-append, of-nil, of-three}
 use Rattle.link_places.proofs.Equal.{Same, same, Is, is}

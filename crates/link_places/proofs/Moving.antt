@@ -5,7 +5,7 @@ use Rattle.std.proofs.lemmas.List.{append-nil}
 use Rattle.plain_laws.proofs.Lists.{append-nil_left, append-nil_right}
 use Rattle.resend_store.specs.declared.messages.Msu.{Msu}
 use Rattle.link_places.specs.Limits.{SELECTIONS}
-use Rattle.link_places.specs.Sharing.{of, off}
+use Rattle.link_places.specs.Sharing.{of}
 use Rattle.link_places.specs.Places.{Places, standing, OnePlace, Diverts, PlacesAnew}
 use Rattle.link_places.proofs.Lists.{of-append, of-nil, of-of, of-of_other, of-off, of-off_other}
 use Rattle.link_places.proofs.Equal.{Same, same, Is, is, some_same}

@@ -1,5 +1,5 @@
 -- What a link set marks at each of its links.
-use Rattle.std.specs.Prelude.{ℕ, ◌+◌, Bool, true, false, min, List, Option, Some, None}
+use Rattle.std.specs.Prelude.{ℕ, ◌+◌, true, false, min, List, Option, Some, None}
 use Rattle.link_places.specs.declared.marks.Marks.{Marks}
 use Rattle.link_places.specs.declared.marks.Changing.{Changing}
 use Rattle.link_places.specs.declared.marks.Answer.{Answer}

@@ -1,5 +1,5 @@
 -- Signals and timers within the bounds of a set.
-use Rattle.std.specs.Prelude.{ℕ, ◌<◌, Option, None, Some, option_map}
+use Rattle.std.specs.Prelude.{◌<◌, Option, None, Some, option_map}
 use Rattle.profile_limits.specs.Limits.{MOST_SIGNALS, MOST_TIMERS_EACH}
 use Rattle.turn_code.specs.declared.draft.Draft.{Draft}
 use Rattle.turn_code.specs.declared.draft.Trigger.{Trigger}

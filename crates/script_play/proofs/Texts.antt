@@ -1,5 +1,5 @@
 -- The texts of scripts.
-use Rattle.std.proofs.Common.{◌≡◌, ℕ, ◌<◌, take, inl, inr, arith}
+use Rattle.std.proofs.Common.{◌≡◌, ℕ, inl, inr, arith}
 use Rattle.std.specs.Prelude.{◌⊎◌}
 
 -- a refusal is no status 0

@@ -1,5 +1,5 @@
 -- What may happen to a variable in a transition of a sound process, where its sets are settled.
-use Rattle.std.proofs.Common.{◌≡◌, ℕ, zero, suc, ◌<◌, true, false, List, [], ◌∷◌, ◌⊎◌, inl, inr, refl, sym, ap, ◌∙◌, subst}
+use Rattle.std.proofs.Common.{ℕ, List, inl, inr, refl, sym, ap, subst}
 use Rattle.std.specs.Prelude.{Contains}
 use Rattle.std.specs.List.{enumerate_from}
 use Rattle.sdl_ast.specs.declared.expression.Identifier.{Identifier}

@@ -1,5 +1,5 @@
 -- A text no rule is broken in has its sorts, divisors and receivers right.
-use Rattle.std.proofs.Common.{List, []}
+use Rattle.std.proofs.Common.{List}
 use Rattle.sdl_ast.specs.Plain.{Tree, Text, falls, ends, does, decides, Choice, nothing_else, otherwise, answer}
 use Rattle.sdl_sound.specs.Statements.{statements_of, choice_statements}
 use Rattle.sdl_sound.specs.Actions.{Origin}

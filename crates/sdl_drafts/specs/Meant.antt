@@ -1,5 +1,5 @@
 -- The meaning of a block as a function, and what a draft that has it keeps.
-use Rattle.std.specs.Prelude.{◌≡◌, ℕ, List, Option, None, Some, Result, Err, slice_get}
+use Rattle.std.specs.Prelude.{◌≡◌, ℕ, Option, None, Some, Result, Err, slice_get}
 use Rattle.sdl_ast.specs.Plain.{PlainProcess, PlainBlock}
 use Rattle.turn_code.specs.declared.input.Input.{Input}
 use Rattle.turn_code.specs.declared.input.Place.{Place}

@@ -1,5 +1,5 @@
 -- Marks of nodes: how many are new, and that two that differ aren't one.
-use Rattle.std.proofs.Common.{◌≡◌, ℕ, zero, suc, ◌-◌, false, List, [], ◌∷◌, refl, ap, sym, ◌∙◌, ◌⊎◌, Option, Some, None}
+use Rattle.std.proofs.Common.{◌≡◌, ℕ, zero, suc, false, List, [], ◌∷◌, refl, ap, sym, ◌∙◌, Option, Some, None}
 use Rattle.std.specs.Prelude.{slice_get, slice_set}
 use Rattle.sdl_joins.specs.Searched.{is_new, unseen}
 use Rattle.sdl_joins.specs.declared.graph.Mark.{Mark}

@@ -8,7 +8,7 @@ use Rattle.turn_code.specs.declared.instruction.Instruction.{Instruction}
 use Rattle.turn_code.specs.declared.instruction.Instruction.TheVariants as i
 use Rattle.sdl_sound.specs.Going.{goes_on}
 use Rattle.sdl_meaning.specs.Outcomes.{Scope}
-use Rattle.sdl_meaning.specs.Code.{jump, body_size, text_code, leave_code, names_truth, ranges_code}
+use Rattle.sdl_meaning.specs.Code.{jump, body_size, text_code, names_truth, ranges_code}
 
 abbrev pub code_place : ℕ → CodePlace
 code_place n = record { 0 = n }

@@ -1,9 +1,8 @@
 -- What connections count, whichever way JOINs are followed, and that what is measured in order is that.
-use Rattle.std.proofs.Common.{◌≡◌, ℕ, zero, suc, ◌+◌, ◌-◌, ◌<◌, ◌≤◌, max, min, Bool, true, false, List, [], ◌∷◌, ◌++◌, length, take, map, get_or, refl, ap, sym, ◌∙◌, subst, arith, if◌then◌else◌, inl, inr, ◌⊎◌, Option, Some, None}
+use Rattle.std.proofs.Common.{◌≡◌, ℕ, zero, suc, ◌+◌, ◌-◌, ◌<◌, ◌≤◌, Bool, true, false, List, [], ◌∷◌, ◌++◌, length, get_or, refl, ap, sym, ◌∙◌, subst, arith, if◌then◌else◌, inl, inr, Option, Some, None}
 use Rattle.std.specs.Prelude.{slice_get, slice_set, Contains}
 use Rattle.std.specs.Option.{option_map_or}
 use Rattle.std.proofs.lemmas.Bool.{cases_eq}
-use Rattle.std.proofs.lemmas.List.{length-set}
 use Rattle.std.proofs.lemmas.List.Elements.{Contains-append_left, Contains-append_right}
 use Rattle.std.proofs.lemmas.Option.{slice_get_within, slice_get-get_or}
 use Rattle.sdl_ast.specs.declared.tree.Range.{Range}
@@ -13,19 +12,18 @@ use Rattle.sdl_ast.specs.declared.tree.End.TheVariants as how
 use Rattle.sdl_ast.specs.Plain.{Text, falls, ends, does, decides, Choice, nothing_else, otherwise, answer, PlainConnection, PlainProcess}
 use Rattle.sdl_tables.specs.Names.{Variable, variables_of, number_of, connector_names, connection_named}
 use Rattle.sdl_tables.specs.Scopes.{repeats}
-use Rattle.sdl_sound.specs.Statements.{joins_of}
 use Rattle.sdl_joins.specs.JoinLists.{text_joins, choice_joins}
-use Rattle.sdl_sound.specs.Longest.{cost_of, depth_of, action_cost, action_depth, action_effects, end_cost, end_count, tests_budget, budget, case_budget, pick_budget, depth, choice_depth, effects, choice_effects, size, joined_by, joined, text_budget, text_depth, text_effects}
+use Rattle.sdl_sound.specs.Longest.{cost_of, end_count, tests_budget, budget, case_budget, pick_budget, depth, choice_depth, effects, choice_effects, size, joined_by, joined, text_depth, text_effects}
 use Rattle.sdl_sound.specs.Sorts.{is_truth}
 use Rattle.sdl_sound.specs.Orders.{IsOrder}
 use Rattle.sdl_measures.specs.Measures.{capped, IsMeasureOf, AreMeasures}
-use Rattle.sdl_measures.specs.Counting.{IsMeasured, measure_at, measure_named, budget_named, depth_named, effects_named, no_measure}
+use Rattle.sdl_measures.specs.Counting.{IsMeasured, measure_at, measure_named, depth_named, effects_named, no_measure}
 use Rattle.sdl_measures.specs.declared.measures.Measure.{Measure}
 use Rattle.sdl_sound.proofs.Lists.{get_one}
 use Rattle.sdl_joins.proofs.Joining.{joins_are}
-use Rattle.sdl_joins.proofs.Connectors.{IsNumbered, numbered, own_number}
+use Rattle.sdl_joins.proofs.Connectors.{numbered, own_number}
 use Rattle.sdl_sound.proofs.Numbered.{unnumbered}
-use Rattle.plain_laws.proofs.Places.{get_set_same, get_set_other, among_at, at_among}
+use Rattle.plain_laws.proofs.Places.{get_set_same, get_set_other}
 use Rattle.plain_laws.proofs.Pairwise.{zip_by, zip_at, zip_length}
 
 -- ---- counts that are told alike

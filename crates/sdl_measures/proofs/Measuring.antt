@@ -1,17 +1,17 @@
 -- Counts of a text, one construct at a time, up to the greatest that is told.
-use Rattle.std.proofs.Common.{◌≡◌, ℕ, zero, suc, ◌+◌, ◌<◌, ◌≤◌, max, min, Bool, true, false, not, ◌&&◌, ◌||◌, List, [], ◌∷◌, ◌++◌, length, take, drop, map, get_or, refl, ap, sym, ◌∙◌, subst, arith, if◌then◌else◌}
+use Rattle.std.proofs.Common.{◌≡◌, ℕ, zero, suc, ◌+◌, ◌<◌, ◌≤◌, max, Bool, true, false, not, ◌&&◌, ◌||◌, List, [], ◌∷◌, ◌++◌, length, take, drop, get_or, refl, ap, sym, ◌∙◌, arith, if◌then◌else◌}
 use Rattle.std.proofs.lemmas.List.{take_more}
 use Rattle.sdl_ast.specs.declared.tree.Range.{Range}
 use Rattle.sdl_ast.specs.declared.tree.Statement.{Statement}
 use Rattle.sdl_ast.specs.declared.tree.Answer.{Answer}
-use Rattle.sdl_ast.specs.Plain.{Tree, Text, falls, ends, does, decides, Choice, nothing_else, otherwise, answer, PlainAction, PlainProcess}
+use Rattle.sdl_ast.specs.Plain.{Tree, Text, does, decides, Choice, nothing_else, otherwise, answer, PlainAction, PlainProcess}
 use Rattle.sdl_ast.specs.Views.{statement_of, answer_of, statements_before, answers_before}
 use Rattle.sdl_tables.specs.Names.{variables_of}
-use Rattle.sdl_sound.specs.Longest.{cost_of, depth_of, action_cost, action_depth, action_effects, tests_budget, budget, case_budget, pick_budget, depth, choice_depth, effects, choice_effects, size, bodies_size, tests_size, jump_size}
+use Rattle.sdl_sound.specs.Longest.{cost_of, depth_of, action_cost, action_depth, action_effects, tests_budget, budget, case_budget, pick_budget, depth, effects, size, bodies_size, tests_size, jump_size}
 use Rattle.sdl_sound.specs.Going.{goes_on, choice_goes_on}
 use Rattle.sdl_sound.specs.Sorts.{is_truth}
 use Rattle.sdl_measures.specs.Measures.{capped}
-use Rattle.sdl_measures.specs.Counting.{IsBehind, IsMeasured, AreMeasured, budget_named, depth_named, effects_named, no_measure, answers_budget, answers_tests}
+use Rattle.sdl_measures.specs.Counting.{IsMeasured, AreMeasured, budget_named, effects_named, no_measure}
 use Rattle.sdl_measures.specs.declared.measures.Measure.{Measure}
 
 -- ---- tests

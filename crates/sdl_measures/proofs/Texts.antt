@@ -1,5 +1,5 @@
 -- Depths of lists with one element more, and the first of two lists.
-use Rattle.std.proofs.Common.{◌≡◌, ℕ, ◌+◌, ◌≤◌, Bool, true, false, List, [], ◌∷◌, ◌++◌, max, length, Option, None, Some, cond, find, refl, sym, ap, arith}
+use Rattle.std.proofs.Common.{◌≡◌, ℕ, ◌+◌, ◌≤◌, Bool, true, false, List, [], ◌∷◌, ◌++◌, max, length, Option, None, Some, cond, find, arith}
 use Rattle.sdl_ast.specs.declared.expression.Identifier.{Identifier}
 use Rattle.sdl_ast.specs.Plain.{Tree, PlainAssignment, PlainSending}
 use Rattle.sdl_sound.specs.Longest.{depth_of, assignments_depth, parameters_depth, sendings_depth, place_depth, places_depth}

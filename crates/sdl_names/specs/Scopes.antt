@@ -1,5 +1,5 @@
 -- What the compiler has at hand, as definitions see it.
-use Rattle.std.specs.Prelude.{◌≡◌, ℕ, List, Option, None, Some, get_or}
+use Rattle.std.specs.Prelude.{ℕ, List, Option, None, Some, get_or}
 use Rattle.sdl_ast.specs.declared.expression.Identifier.{Identifier}
 use Rattle.sdl_ast.specs.declared.tree.Transition.{Transition}
 use Rattle.sdl_ast.specs.declared.tree.Decision.{Decision, out-Decision}

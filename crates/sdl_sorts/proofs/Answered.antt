@@ -1,11 +1,11 @@
 -- What the rule on answers asks of the answers of a DECISION, over the list in which the code keeps them.
-use Rattle.std.proofs.Common.{◌≡◌, ℕ, ◌+◌, Bool, true, ◌&&◌, List, [], ◌∷◌, length, Option, None, Some, refl, sym, ap, ◌∙◌, arith}
+use Rattle.std.proofs.Common.{◌≡◌, ◌+◌, Bool, true, ◌&&◌, List, [], ◌∷◌, length, Option, None, Some, refl, sym, ap, ◌∙◌}
 use Rattle.std.specs.Prelude.{nat_lt, sum_by, is_some}
 use Rattle.std.specs.List.{list_all}
 use Rattle.std.proofs.lemmas.List.Sums.{sum_by-cons}
 use Rattle.sdl_ast.specs.declared.tree.Answer.{Answer}
 use Rattle.sdl_ast.specs.declared.tree.Transition.{Transition}
-use Rattle.sdl_ast.specs.Views.{text_of, answers_before, else_choice}
+use Rattle.sdl_ast.specs.Views.{answers_before, else_choice}
 use Rattle.sdl_sound.specs.Decisions.{has_else, names_value, times_named, has_values}
 use Rattle.sdl_ast.proofs.Views.{answer_of-is}
 

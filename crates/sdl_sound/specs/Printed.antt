@@ -1,5 +1,5 @@
 -- How limits, control paths and broken rules are printed.
-use Rattle.std.specs.Prelude.{ℕ, List, ◌∷◌, ◌++◌, codes}
+use Rattle.std.specs.Prelude.{ℕ, List, ◌++◌, codes}
 use Rattle.std.specs.List.{flat_map}
 use Rattle.sdl_sound.specs.declared.fault.Limit.{Limit}
 use Rattle.sdl_sound.specs.declared.fault.Limit.TheVariants as limits

@@ -4,8 +4,8 @@ use Rattle.std.proofs.Common.{◌≡◌, Bool, true, false, List, [], ◌∷◌,
 use Rattle.sdl_lex.specs.declared.lexemes.Token.{Token}
 use Rattle.sdl_tokens.specs.Tokens.{begins}
 use Rattle.sdl_tokens.specs.Grammar as grammar
-use Rattle.sdl_tokens.specs.Grammar.{Grammar, Gives, Takes, Then, Many, no_more, one_more}
-use Rattle.sdl_tokens.specs.Readings.{Reading, read, fails, At, then_read, stands_for, either, many_for, many, choice, give, token, prepend, Shortens}
+use Rattle.sdl_tokens.specs.Grammar.{Grammar, Takes, Then}
+use Rattle.sdl_tokens.specs.Readings.{Reading, read, fails, At, then_read, stands_for, either, choice, give, token}
 use Rattle.sdl_tokens.specs.Readings as reading
 
 abbrev pub first : List Token → Option Token

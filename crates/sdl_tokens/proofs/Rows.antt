@@ -5,7 +5,7 @@ use Rattle.sdl_lex.specs.declared.lexemes.Symbol.TheVariants.{Open, Close, Comma
 use Rattle.sdl_tokens.specs.Tokens.{begins, a_symbol}
 use Rattle.sdl_tokens.specs.Grammar as grammar
 use Rattle.sdl_tokens.specs.Grammar.{Grammar, Many, no_more, one_more}
-use Rattle.sdl_tokens.specs.Readings.{Reading, read, fails, At, then_read, stands_for, either, many_for, many, choice, give, token, prepend, Shortens}
+use Rattle.sdl_tokens.specs.Readings.{Reading, read, fails, At, then_read, stands_for, either, many_for, many, give, token, prepend, Shortens}
 use Rattle.sdl_tokens.specs.Readings as reading
 use Rattle.sdl_tokens.proofs.Decides.{first, rest_of, with_rest, Seen, Decides, first-append, begins-first, give_decides, token_decides, ◌>>=◌, choice_decides}
 

@@ -2,7 +2,7 @@
 use Rattle.std.specs.Prelude.{ℕ, Bool, if◌then◌else◌, List, [], ◌∷◌, Option, None, Some, option_map, option_and_then, codes}
 use Rattle.std.specs.Str.{bytes_eq}
 use Rattle.script_lines.specs.Numbers.{count_of}
-use Rattle.script_lines.specs.Commands.{PlainCommand, only_of, command_of}
+use Rattle.script_lines.specs.Commands.{PlainCommand, command_of}
 use Rattle.script_lines.specs.Commands.{call, tick, value, expect, offer, flood, env, rest}
 use Rattle.script_lines.specs.declared.verbs.Call.{Call}
 use Rattle.script_lines.specs.declared.verbs.Call.TheVariants.{Begin, Finish, Skip, State}

@@ -1,5 +1,5 @@
 -- What commands make of a terminal.
-use Rattle.std.proofs.Common.{◌≡◌, ℕ, zero, suc, ◌+◌, ◌-◌, ◌<◌, ◌≤◌, List, [], ◌∷◌, ◌++◌, length, take, drop, Option, None, Some, Result, Ok, Err, Bool, true, false, inl, inr, refl, sym, ap, subst, arith, ◌∙◌}
+use Rattle.std.proofs.Common.{◌≡◌, ℕ, zero, suc, ◌+◌, ◌<◌, ◌≤◌, List, [], ◌∷◌, ◌++◌, length, take, drop, Option, None, Some, Result, Ok, Err, Bool, true, false, inl, inr, refl, sym, ap, subst, arith, ◌∙◌}
 use Rattle.std.specs.Prelude.{◌⊎◌, ◌↔◌, codes, if◌then◌else◌, slice_get, is_some}
 use Rattle.std.specs.Fmt.{decimal}
 use Rattle.std.proofs.Math.Seq.{drop-nil}
@@ -11,12 +11,11 @@ use Rattle.resend_store.specs.declared.refusals.PutError.{PutError}
 use Rattle.resend_store.specs.declared.refusals.PutError.TheVariants.{Full}
 use Rattle.resend_store.specs.declared.messages.Msu.{Msu}
 use Rattle.link_machine.specs.Ledger.{ask, rebased}
-use Rattle.link_machine.specs.Step.{Answer, Says}
+use Rattle.link_machine.specs.Step.{Says}
 use Rattle.link_machine.specs.declared.event.Event.{Event}
 use Rattle.link_machine.specs.declared.reply.Reply.{Reply}
 use Rattle.link_machine.specs.declared.reply.Reply.TheVariants as reply
 use Rattle.link_side.specs.Half.{Half}
-use Rattle.link_side.specs.Limits.{KEPT_MESSAGES}
 use Rattle.link_side.specs.Reporting.{Reported, status_reported, message_reported, reported}
 use Rattle.link_side.specs.declared.signals.LinkStatus.{LinkStatus}
 use Rattle.link_side.specs.declared.signals.Report.{Report}

@@ -9,7 +9,7 @@ use Rattle.std.proofs.lemmas.List.{flat_map_more, take_more, map-append, take-ap
 use Rattle.su_octets.specs.Printed.{unit_text}
 use Rattle.su_octets.specs.declared.units.Unit as units
 use Rattle.link_term.specs.Term.{Term}
-use Rattle.term_lines.specs.TermCommands.{PlainTermCommand, expected, plain_term_command}
+use Rattle.term_lines.specs.TermCommands.{expected, plain_term_command}
 use Rattle.term_lines.specs.TermScripts.{PlainTermSaid, plain_term_said}
 use Rattle.term_lines.specs.declared.script.TermSaid.{TermSaid}
 use Rattle.term_lines.specs.declared.commands.TermCommand.{TermCommand}

@@ -1,7 +1,7 @@
 -- Bits of a unit, one more.
-use Rattle.std.proofs.Common.{◌≡◌, ℕ, ◌+◌, ◌*◌, ◌/◌, ◌%◌, ◌<◌, ◌≤◌, zero, suc, Bool, true, false, List, [], ◌∷◌, ◌++◌, length, take, drop, get_or, reverse, append_assoc, append-nil, length-append, refl, sym, ap, subst, arith, ◌∙◌}
+use Rattle.std.proofs.Common.{◌≡◌, ℕ, ◌+◌, ◌*◌, ◌/◌, ◌%◌, ◌<◌, zero, suc, Bool, true, false, List, [], ◌∷◌, ◌++◌, length, take, drop, get_or, reverse, append_assoc, append-nil, length-append, refl, sym, ap, subst, arith, ◌∙◌}
 use Rattle.su_octets.specs.Bits.{low_bits, bits_of}
-use Rattle.bit_line.specs.Stuffing.{trailing, stuffed}
+use Rattle.bit_line.specs.Stuffing.{stuffed}
 use Rattle.bit_line.proofs.BitLists.{reverse-cons}
 use Rattle.bit_line.proofs.SendLaws as laws
 use Rattle.bit_line.specs.Sending.{flag}

@@ -1,18 +1,16 @@
 -- Texts of which no more is kept than a text may have.
-use Rattle.std.proofs.Common.{◌≡◌, ℕ, [], ◌+◌, ◌<◌, ◌≤◌, ◌==◌, nat_lt, true, false, List, length, take, Option, Some, Result, Ok, Err, IfOk, IfErr, refl, ap, sym, ◌∙◌, arith, subst, length-take}
-use Rattle.std.specs.Prelude.{count_by, IsUtf8, IsTrue, min}
+use Rattle.std.proofs.Common.{◌≡◌, ℕ, ◌+◌, ◌<◌, ◌≤◌, ◌==◌, nat_lt, true, false, List, length, take, Option, Some, Result, Ok, Err, IfOk, IfErr, refl, ap, ◌∙◌, arith, subst, length-take}
+use Rattle.std.specs.Prelude.{count_by}
 use borrow.Author.Tests.{ltb-true, ltb-false}
 use Rattle.std.proofs.lemmas.List.{take_all}
 use Rattle.sdl_lex.specs.Lexed.{Answers, over_long, in_room}
 use Rattle.sdl_lex.specs.declared.lexemes.Token.{Token}
 use Rattle.sdl_lex.specs.declared.lexemes.LexFault.TheVariants.{TooLong}
 use Rattle.turn_code.specs.declared.draft.Draft.{Draft}
-use Rattle.mtp2_text.specs.Loaded.{IsUnlexed, line_at}
-use Rattle.mtp2_text.specs.turn_verify_types.loading.LoadFault.TheVariants.{Lex}
+use Rattle.mtp2_text.specs.Loaded.{IsUnlexed}
 use Rattle.text_reader.specs.Reading.{LONGEST, Keeps, IsReading}
 use Rattle.text_reader.specs.declared.reading.TextRead.{TextRead}
 use Rattle.text_check.specs.declared.sets.SetFault.{SetFault}
-use Rattle.text_check.specs.declared.sets.SetFault.TheVariants.{Load}
 use Rattle.text_check.specs.Checked.{IsGiven, IsNotAccepted, IsSetOf, IsRefusal, IsRefusalOf, IsTooLong}
 use Rattle.plain_laws.proofs.Lists.{take_twice}
 

@@ -1,5 +1,5 @@
 -- The lines that `check` prints, as bytes: names as they are declared, and numbers in decimal.
-use Rattle.std.specs.Prelude.{ℕ, List, [], ◌∷◌, ◌++◌, Option, None, Some, codes, slice_get, option_map, unwrap_or}
+use Rattle.std.specs.Prelude.{ℕ, List, [], ◌++◌, codes, slice_get, option_map, unwrap_or}
 use Rattle.std.specs.List.{flat_map}
 use Rattle.std.specs.Fmt.{decimal}
 use Rattle.turn_code.specs.declared.draft.Cert.{Cert}

@@ -11,7 +11,7 @@ use Rattle.turn_verify.specs.declared.loading.LoadFault.TheVariants.{Lex, Parse,
 use Rattle.actor_book.specs.Limits.{LimitNumbers}
 use Rattle.link_machine.specs.Fits.{IsCalled}
 use Rattle.link_machine.specs.Full.{FullLaw}
-use Rattle.link_machine.specs.Step.{Answer, Says, report_of}
+use Rattle.link_machine.specs.Step.{Says, report_of}
 use Rattle.link_machine.specs.Ledger.{Ledger, ask, answers_by, after_by, state_by, state_of, turn_out}
 use Rattle.link_machine.specs.Kept.{opened_book}
 use Rattle.link_machine.specs.actor_names_types.name.ActorName.{ActorName}

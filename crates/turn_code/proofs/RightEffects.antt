@@ -12,6 +12,7 @@ use Rattle.turn_code.specs.Routes.{IsProcess, Brings, IsPartyOf, Reaches, Answer
 use Rattle.turn_code.specs.Transitions.{Transition, parameters_of}
 use Rattle.turn_code.specs.Rules.{Agree, ReachesReceiver, KeepsOutput, greatest, counts_at}
 use Rattle.turn_code.specs.Valid.{IsValidTransition}
+use Rattle.turn_code.specs.At.{IsAt}
 use Rattle.turn_code.specs.Fits.{IsBrought, FitsTransition}
 use Rattle.turn_code.specs.Effects.{IsRightEffect, AreRightEffects}
 use Rattle.turn_code.specs.declared.value.Sort.{Sort}
@@ -98,7 +99,7 @@ booleans_keep P (Bool y ∷ Bool x ∷ os) go h = h x y os
 booleans_keep P (Bool y ∷ Int x ∷ os) go h = tt
 booleans_keep P (Int y ∷ x ∷ os) go h = tt
 
-act_keeps : (P : List Effect → Type 0) (i : Instruction) (x : Input) (k : ℕ) (os : List Value) (s : Progress) → P s.effects → Adds P i x os s.effects → EffectsAre P (act i x k os s)
+pub act_keeps : (P : List Effect → Type 0) (i : Instruction) (x : Input) (k : ℕ) (os : List Value) (s : Progress) → P s.effects → Adds P i x os s.effects → EffectsAre P (act i x k os s)
 act_keeps P (PutInt z) x k os s h a = h
 act_keeps P (PutBool b) x k os s h a = h
 act_keeps P (Load v) x k os s h a = loaded_keeps P s h k os (slice_get s.variables v.0)
@@ -188,9 +189,9 @@ GaveRight d t (got_stuck z) = Unit {0}
 GaveRight d t unfinished = Unit {0}
 
 module _ (d : Draft) (t : Transition) (valid : IsValidTransition d t) (x : Input) (fits : FitsTransition d t x) where
-  adds : (k : ℕ) (os : List Value) (s : Progress) (n : ℕ) (h : Stands t k os s n) (i : Instruction) → slice_get t.piece.code k ≡ Some i
+  pub adds : (k : ℕ) (os : List Value) (s : Progress) (h : IsAt t k os s.variables) (i : Instruction) → slice_get t.piece.code k ≡ Some i
       → AreRightEffects d t s.effects → Adds (AreRightEffects d t) i x os s.effects
-  adds k os s n h i ie right =
+  adds k os s h i ie right =
       by i ((valid.number k).outputs i ie) ((valid.number k).timers i ie)
       (subst (λ u. length (takes d.signals t.process.variables i) ≤ length u) (sym h.shape) (valid.under k i h.facts ie h.is))
       (subst (λ u. Agree (takes d.signals t.process.variables i) u) (sym h.shape) ((valid.sort k).each i h.facts ie h.is))
@@ -213,7 +214,7 @@ module _ (d : Draft) (t : Transition) (valid : IsValidTransition d t) (x : Input
 
   after_right : (big : ℕ) (k : ℕ) (os : List Value) (s : Progress) (m : ℕ) (h : Stands t k os s (suc m)) (i : Instruction) → slice_get t.piece.code k ≡ Some i
       → ((j : ℕ) (os' : List Value) (s' : Progress) → Stands t j os' s' m → AreRightEffects d t s'.effects → GaveRight d t (exec t.piece.code x big j os' s'))
-      → (a : After) → IsFine d.signals t.process.variables t.parameters h.facts.set i k os (tick s) a → EffectsAre (AreRightEffects d t) a
+      → (a : After) → IsFine d.signals t.process.variables t.parameters h.at.facts.set i k os (tick s) a → EffectsAre (AreRightEffects d t) a
       → GaveRight d t (go_on (exec t.piece.code x big) a)
   after_right big k os s m h i ie rest (goes j os' s') w right = rest j os' s' (goes_on d t valid x fits k os s m h i ie j os' s' w) right
   after_right big k os s m h i ie rest (ends e s') w right = right
@@ -222,14 +223,14 @@ module _ (d : Draft) (t : Transition) (valid : IsValidTransition d t) (x : Input
   gave_right : (big n k : ℕ) (os : List Value) (s : Progress) → Stands t k os s n → AreRightEffects d t s.effects → GaveRight d t (exec t.piece.code x big k os s)
   gave_right zero n k os s h right = tt
   gave_right (suc big) zero k os s h right =
-      let i = code_at d t valid k h.facts h.is in
-      let own : h.facts.count ≡ 1 + greatest (counts_at t.piece (successors i.0 k)) = (valid.budget k).counts i.0 h.facts i.1 h.is in
-      let most : h.facts.count ≤ 0 = h.count in
+      let i = code_at d t valid k h.at.facts h.at.is in
+      let own : h.at.facts.count ≡ 1 + greatest (counts_at t.piece (successors i.0 k)) = (valid.budget k).counts i.0 h.at.facts i.1 h.at.is in
+      let most : h.at.facts.count ≤ 0 = h.count in
       absurd (omega arith)
   gave_right (suc big) (suc m) k os s h right =
-      let i = code_at d t valid k h.facts h.is in
-      let fine = act_fine d.signals t.process.variables t.parameters h.facts.set x k i.0 os (tick s) (before d t valid x fits k os s (suc m) h i.0 i.1) in
-      let kept = act_keeps (AreRightEffects d t) i.0 x (k + 1) os (tick s) right (adds k os s (suc m) h i.0 i.1 right) in
+      let i = code_at d t valid k h.at.facts h.at.is in
+      let fine = act_fine d.signals t.process.variables t.parameters h.at.facts.set x k i.0 os (tick s) (before d t valid x fits k os s (suc m) h i.0 i.1) in
+      let kept = act_keeps (AreRightEffects d t) i.0 x (k + 1) os (tick s) right (adds k os s h.at i.0 i.1 right) in
       let over = after_right big k os s m h i.0 i.1 (λ j os' s' g r. gave_right big m j os' s' g r) (act i.0 x (k + 1) os (tick s)) fine kept in
       subst (λ o. GaveRight d t (go_on (exec t.piece.code x big) (act_if o x (k + 1) os (tick s)))) (sym i.1) over
 

@@ -86,7 +86,7 @@ IsFine ss xs ps m i k os s (stuck x) = ⊥
 
 -- ---- operands of the right sorts are there
 
-integer_on_top : (P : After → Type 0) (os : List Value) (go : ℤ → List Value → After) → 1 ≤ length (map sort_of os) → Agree (Integer ∷ []) (map sort_of os)
+pub integer_on_top : (P : After → Type 0) (os : List Value) (go : ℤ → List Value → After) → 1 ≤ length (map sort_of os) → Agree (Integer ∷ []) (map sort_of os)
     → ((z : ℤ) (rest : List Value) → map sort_of rest ≡ drop 1 (map sort_of os) → P (go z rest)) → P (on_integer os go)
 integer_on_top P [] go h a f = absurd (omega arith)
 integer_on_top P (Int z ∷ os) go h a f = f z os refl
@@ -114,7 +114,7 @@ booleans_on_top P (Bool y ∷ Bool x ∷ os) go h a f = f x y os refl
 booleans_on_top P (Bool y ∷ Int x ∷ os) go h a f = let e : Integer ≡ Boolean = a.1.0 in cc
 booleans_on_top P (Int y ∷ x ∷ os) go h a f = let e : Integer ≡ Boolean = a.0 in cc
 
-if_so : (P : After → Type 0) (b : Truth) (y z : After) → b ≡ true → P y → P (if b then y else z)
+pub if_so : (P : After → Type 0) (b : Truth) (y z : After) → b ≡ true → P y → P (if b then y else z)
 if_so P true y z e h = h
 if_so P false y z e h = cc
 
@@ -122,7 +122,7 @@ either_way : (P : After → Type 0) (b : Truth) (y z : After) → P y → P z �
 either_way P true y z h i = h
 either_way P false y z h i = i
 
-above_0 : (z : ℤ) → pos 1 ≤ℤ z → int_lt (pos 0) z ≡ true
+pub above_0 : (z : ℤ) → pos 1 ≤ℤ z → int_lt (pos 0) z ≡ true
 above_0 (pos zero) h = absurd (omega (arith, ints))
 above_0 (pos (suc n)) h = lt-ltb 0 (suc n) (omega arith)
 above_0 (negsuc n) h = absurd (omega (arith, ints))

@@ -10,6 +10,7 @@ pub mod Transitions
 pub mod Rules
 pub mod Valid
 pub mod Fits
+pub mod At
 pub mod Outcome
 pub mod Effects
 pub mod Start

@@ -91,7 +91,7 @@ impl Receiver {
     ghost use Rattle.turn_code.specs.Run.{address_of};
 
     /// The party, without an instance, or the sender, where it is this one or nobody.
-    pub(crate) fn address(self, sender: Option<Address>) -> Option<Address>
+    pub fn address(self, sender: Option<Address>) -> Option<Address>
         ensures { result ≡ address_of self sender }
     {
         match self {

@@ -33,6 +33,7 @@ pub use numbers::{
     VariableNumber,
 };
 pub use operands::Operands;
+pub use operation::{Connective, Operation, negated};
 pub use rule::Rule;
 pub use same::{same_values, same_variables};
 pub use sequence::Sequence;

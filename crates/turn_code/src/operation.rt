@@ -8,24 +8,31 @@ use crate::instruction::Relation;
 
 /// An operation on two Integers, which wraps round.
 #[derive(Clone, Copy)]
-pub(crate) enum Operation {
+pub enum Operation {
+    /// The sum.
     Add,
+    /// The difference, the right one taken from the left one.
     Subtract,
+    /// The product.
     Multiply,
 }
 
 /// An operation on two Booleans.
 #[derive(Clone, Copy)]
-pub(crate) enum Connective {
+pub enum Connective {
+    /// Whether both are TRUE.
     And,
+    /// Whether one is TRUE.
     Or,
+    /// Whether they differ.
     Xor,
+    /// Whether they are the same.
     Same,
 }
 
 impl Operation {
     /// Its value.
-    pub(crate) fn apply(self, left: i32, right: i32) -> i32
+    pub fn apply(self, left: i32, right: i32) -> i32
         ensures { result ≡ wrap (meaning_of self left right) }
     {
         match self {
@@ -38,7 +45,7 @@ impl Operation {
 
 impl Connective {
     /// Its value.
-    pub(crate) fn apply(self, left: bool, right: bool) -> bool
+    pub fn apply(self, left: bool, right: bool) -> bool
         ensures { result ≡ truth_of self left right }
     {
         match self {
@@ -52,7 +59,7 @@ impl Connective {
 
 impl Relation {
     /// Whether the left one stands so to the right one.
-    pub(crate) fn holds(self, left: i32, right: i32) -> bool
+    pub fn holds(self, left: i32, right: i32) -> bool
         ensures { result ≡ holds self left right }
     {
         match self {
@@ -67,7 +74,7 @@ impl Relation {
 }
 
 /// The number with the other sign, which wraps round.
-pub(crate) fn negated(number: i32) -> i32
+pub fn negated(number: i32) -> i32
     ensures { result ≡ wrap (neg_ℤ number) }
 {
     number.wrapping_neg()

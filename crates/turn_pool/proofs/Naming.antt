@@ -1,5 +1,5 @@
 -- A turn that began and is out has a name.
-use Rattle.std.proofs.Common.{◌≡◌, ℕ, Option, Some, None, Result, Ok, Err, refl, sym, ap, ◌∙◌, subst}
+use Rattle.std.proofs.Common.{◌≡◌, ℕ, Option, Some, None, refl, sym, ap, ◌∙◌, subst}
 use Rattle.std.specs.Prelude.{IsSome, option_map, slice_get}
 use Rattle.turn_machine.specs.Turn.{Turn}
 use Rattle.link_machine.specs.actor_names_types.name.ActorName.{ActorName}
@@ -7,12 +7,10 @@ use Rattle.link_machine.specs.Core.{names_in}
 use Rattle.link_machine.specs.Ledger.{Ledger, state_of, turn_at, turn_out}
 use Rattle.link_machine.specs.declared.actor.Actor.{Actor}
 use Rattle.link_machine.proofs.FitsLists.{name_there}
-use Rattle.link_machine.specs.declared.reply.Refusal.{Refusal}
 use Rattle.actor_book.proofs.Ending.{own_actor}
 use Rattle.turn_pool.specs.Turns.{told_of, told, NamesBegun}
 use Rattle.turn_pool.specs.declared.gate.JobName.{JobName}
 use Rattle.turn_pool.specs.declared.moves.Moved.{Moved}
-use Rattle.turn_pool.specs.declared.moves.Moved.TheVariants as moved
 
 -- whoever has a turn out is there
 actor_there : (b : Ledger) (n : ℕ) (t : Turn) (o : Option Actor) → slice_get (state_of b).actors n ≡ o → turn_at b.set n o ≡ Some t

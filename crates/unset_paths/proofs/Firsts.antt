@@ -1,6 +1,6 @@
 -- The search finds the first path: visits stand in order, and the one by the path that is named first is kept.
-use Rattle.std.proofs.Common.{◌≡◌, ℕ, suc, zero, ◌+◌, ◌<◌, ◌≤◌, Bool, true, false, List, [], ◌∷◌, ◌++◌, length, take, refl, ap, sym, ◌∙◌, subst, arith, inl, inr, Option, Some, None, Vec, Global, append_assoc, length-append}
-use Rattle.std.specs.Prelude.{All, slice_get, Contains, IfSome, IfNone, option_and_then}
+use Rattle.std.proofs.Common.{◌≡◌, ℕ, ◌+◌, ◌<◌, ◌≤◌, Bool, true, false, List, [], ◌∷◌, ◌++◌, length, take, refl, ap, sym, ◌∙◌, subst, arith, inl, inr, Option, Some, None, Vec, Global, append_assoc, length-append}
+use Rattle.std.specs.Prelude.{All, slice_get, Contains, IfSome, option_and_then}
 use Rattle.std.proofs.lemmas.List.Elements.{All-contains, All-cons, All-nil, Contains-append_left, Contains-append_cases}
 use Rattle.std.proofs.lemmas.List.{get_or-take, length-take-le}
 use Rattle.std.proofs.lemmas.Option.{get_or_from_slice_get, slice_get_within, slice_get_past, slice_get-get_or}
@@ -14,9 +14,9 @@ use Rattle.unset_paths.specs.declared.Step.TheVariants.{Start, Input}
 use Rattle.unset_paths.specs.Graph.{has, Leads, Passes, ReadsFrom, ReadsUnset, Reached, IsShortest, IsSeen, Covers, IsExpanded}
 use Rattle.unset_paths.specs.Order.{Before, NotAfter, IsFirst, AreSorted, IsSorted}
 use Rattle.unset_paths.specs.Visits.{Grows, Enters, IsBy, AreVisited, AreExpanded, AreLevels, ComesBefore, AreKept, AreUnder, IsVisitedBy, LeadsBy, AreNear, AreAllSorted, AreLeast}
-use Rattle.unset_paths.proofs.Walking.{slice_get_front, leads_by}
+use Rattle.unset_paths.proofs.Walking.{slice_get_front}
 use Rattle.unset_paths.proofs.Levels.{last_place, reads_within, place_before}
-use Rattle.unset_paths.proofs.Orders.{before_trans, before_by, by_before, not_after_trans, no_longer, one_more, before_last, not_after_more, before_steps, not_after_step, comes_before}
+use Rattle.unset_paths.proofs.Orders.{before_trans, before_by, not_after_trans, no_longer, one_more, before_last, not_after_more, before_steps, not_after_step, comes_before}
 use Rattle.plain_laws.proofs.Places.{among_at as reached_place}
 
 -- ---- one visit more

@@ -1,9 +1,9 @@
 -- What a search finds is there, and what it doesn't find isn't.
 use Rattle.std.proofs.Common.{◌≡◌, ℕ, suc, zero, ◌+◌, ◌<◌, ◌≤◌, Bool, true, false, List, [], ◌∷◌, ◌++◌, length, refl, ap, sym, ◌∙◌, subst, arith, inl, inr, Option, Some, None, Vec, Global, take, get_or, length-append}
-use Rattle.std.specs.Prelude.{slice_get, Contains, All, IfSome, IfNone, is_some, replicate, option_and_then}
+use Rattle.std.specs.Prelude.{slice_get, Contains, IfSome, IfNone, is_some, replicate, option_and_then}
 use Rattle.std.proofs.lemmas.List.Elements.{All-contains, All-more}
 use Rattle.std.proofs.lemmas.List.{take_all}
-use Rattle.std.proofs.lemmas.Option.{slice_get_within, get_or_from_slice_get, slice_get-get_or, slice_get_past}
+use Rattle.std.proofs.lemmas.Option.{slice_get_within, slice_get-get_or, slice_get_past}
 use Rattle.std.proofs.lemmas.Bool.{cases_eq, cases_lt}
 use Rattle.unset_paths.proofs.Seen.{covers_on, grows_not}
 use Rattle.unset_paths.specs.declared.Passage.{Passage}

@@ -1,11 +1,11 @@
-use Rattle.std.proofs.Common.{◌≡◌, ◌+◌, ◌++◌, ◌∷◌, [], List, take, arith, refl, sym, ap, subst, ◌∙◌, Some, length, length-append, ℕ}
+use Rattle.std.proofs.Common.{◌≡◌, ◌+◌, ◌++◌, ◌∷◌, [], List, arith, refl, sym, ap, subst, ◌∙◌, Some, length, length-append, ℕ}
 use Rattle.std.specs.Prelude.{slice_get}
 use Rattle.std.proofs.lemmas.Option.{slice_get_read}
 use Rattle.unset_paths.specs.Graph.{Covers, IsSafe}
 use Rattle.unset_paths.specs.Visits.{StayInOrder, AreKept, AreUnder, AreAllSorted}
 use Rattle.unset_paths.proofs.Seen.{grows_on, enters_on}
 use Rattle.unset_paths.proofs.Walking.{safe_more, safe_all, by_input}
-use Rattle.unset_paths.proofs.Firsts.{more_visits, kept_next, near_more, near_none, taken_at}
+use Rattle.unset_paths.proofs.Firsts.{more_visits, kept_next, near_more, taken_at}
 use Rattle.unset_paths.specs.Order.{AreSorted}
 use Rattle.unset_paths.specs.declared.Step.{Step}
 use Rattle.unset_paths.specs.declared.Step.TheVariants.{Input}

@@ -1,4 +1,4 @@
-use Rattle.std.proofs.Common.{Some, None, refl, sym, ap}
+use Rattle.std.proofs.Common.{Some, None, sym, ap}
 use Rattle.std.specs.Prelude.{is_some}
 use Rattle.term_play.proofs.TermRuns.{printed_unit}
 use Rattle.group_play.proofs.outputs.print_unit.Goals as goal

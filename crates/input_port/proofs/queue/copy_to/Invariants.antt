@@ -1,6 +1,4 @@
-use Rattle.std.proofs.Common.{◌≡◌, ◌++◌, List}
-use Rattle.circular_buffer.specs.Buffer.{buffer}
-use Rattle.input_port.specs.declared.queue.Item.{Item}
+use Rattle.std.proofs.Common.{◌≡◌, ◌++◌}
 use Rattle.input_port.proofs.queue.copy_to.Given as goal
 
 abbrev pub invariant-loop-item : goal.invariant-loop-item

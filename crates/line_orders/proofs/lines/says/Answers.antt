@@ -1,11 +1,11 @@
-use Rattle.std.proofs.Common.{◌≡◌, ◌≤◌, true, false, length, sym, ap, ◌∙◌, arith}
+use Rattle.std.proofs.Common.{◌≡◌, true, false, sym, ap, ◌∙◌}
 use Rattle.std.specs.Str.{is_utf8}
 use Rattle.std.proofs.lemmas.Bool.{false_from_ne_true}
 use Rattle.std.proofs.lemmas.Result.{IfOk-weaker}
 use Rattle.std.proofs.lemmas.Str.{IsUtf8-from_is_utf8, is_utf8-from_IsUtf8}
 use Rattle.script_lines.specs.Words.{words_of}
 use Rattle.line_orders.specs.Says.{order, says_of}
-use Rattle.line_orders.specs.Streams.{MOST_OCTETS, line_says}
+use Rattle.line_orders.specs.Streams.{line_says}
 use Rattle.line_orders.proofs.Looking.{long_says, no_text_says, text_says}
 use Rattle.line_orders.proofs.lines.says.Goals as goal
 

@@ -1,6 +1,5 @@
-use Rattle.std.proofs.Common.{sym, ap, ◌∙◌}
+use Rattle.std.proofs.Common.{sym}
 use Rattle.link_machine.specs.Core.{names_in}
-use Rattle.link_machine.specs.Names.{place_of}
 use Rattle.link_state.proofs.Naming.{placed_at}
 use Rattle.link_state.proofs.actors.place_of.Goals as goal
 

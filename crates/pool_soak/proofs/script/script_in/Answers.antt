@@ -1,7 +1,7 @@
-use Rattle.std.proofs.Common.{◌≡◌, ◌∙◌, List, Result, Ok, ℕ, ap, sym, map, subst}
+use Rattle.std.proofs.Common.{◌∙◌, List, ap, sym, map, subst}
 use Rattle.script_lines.specs.declared.lines.Line.{Line}
 use Rattle.script_lines.specs.Lines.{plain_line}
-use Rattle.pool_soak.specs.Scripts.{PlainSoak, plain_soak, empty, read, IsBadAt}
+use Rattle.pool_soak.specs.Scripts.{plain_soak, empty, read, IsBadAt}
 use Rattle.pool_soak.proofs.Loops.{good, unknown, fault}
 use Rattle.pool_soak.proofs.script.script_in.Goals as goal
 

@@ -1,4 +1,4 @@
-use Rattle.std.proofs.Common.{◌≡◌, ◌∙◌, List, ℕ, Ok, Err, inl, inr, ap, sym, subst}
+use Rattle.std.proofs.Common.{◌≡◌, ◌∙◌, Ok, inl, inr, ap, sym, subst}
 use Rattle.std.specs.Prelude.{IsUtf8}
 use Rattle.pool_soak.specs.Scripts.{soak_of, plain_soak, IsFaultOf}
 use Rattle.text_check.proofs.Long.{all_kept}

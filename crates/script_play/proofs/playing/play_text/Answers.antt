@@ -1,4 +1,4 @@
-use Rattle.std.proofs.Common.{◌≡◌, ◌∙◌, ◌+◌, ◌==◌, List, ℕ, Ok, ap, sym, subst, rules}
+use Rattle.std.proofs.Common.{◌≡◌, ◌∙◌, ◌+◌, ◌==◌, List, ℕ, ap, sym, subst, rules}
 use Rattle.std.specs.Prelude.{IsTrue, IsUtf8, count_by, take}
 use Rattle.text_reader.specs.Reading.{LONGEST}
 use Rattle.group_lines.specs.GroupScripts.{plain_play_script, play_script_of}

@@ -1,4 +1,4 @@
-use Rattle.std.proofs.Common.{rules, arith, refl, ◌-◌}
+use Rattle.std.proofs.Common.{arith, ◌-◌}
 use Rattle.std.proofs.lemmas.Option.{slice_get-get_or}
 use Rattle.sdl_counts.specs.Counts.{weight}
 use Rattle.sdl_counts.proofs.Passes.{step}

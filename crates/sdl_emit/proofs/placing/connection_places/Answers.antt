@@ -1,10 +1,10 @@
-use Rattle.std.proofs.Common.{rules, ◌≡◌, ℕ, ◌-◌, ◌<◌, ◌≤◌, ◌+◌, List, length, replicate, set, Some, refl, sym, ap, ◌∙◌, subst, arith, length-set}
-use Rattle.std.specs.Prelude.{slice_get, get_or, All}
+use Rattle.std.proofs.Common.{rules, ◌≡◌, ℕ, ◌-◌, ◌<◌, ◌+◌, length, replicate, set, sym, ap, ◌∙◌, subst, arith, length-set}
+use Rattle.std.specs.Prelude.{get_or}
 use Rattle.std.proofs.lemmas.Option.{slice_get-get_or}
 use Rattle.std.proofs.lemmas.List.{length-map, length-replicate}
 use Rattle.sdl_ast.specs.Views.{connection_of}
 use Rattle.sdl_actions.specs.Scopes.{scope_in}
-use Rattle.sdl_emit.proofs.Spacing.{Spaced, none_spaced, one_fits, one_spaced, all_spaced, all_low}
+use Rattle.sdl_emit.proofs.Spacing.{Spaced, none_spaced, one_fits, one_spaced}
 use Rattle.sdl_emit.proofs.placing.connection_places.Goals as goal
 
 pub loop-left-init : goal.loop-left-init

@@ -1,4 +1,4 @@
-use Rattle.std.proofs.Common.{◌≡◌, ℕ, length}
+use Rattle.std.proofs.Common.{◌≡◌, length}
 use Rattle.sdl_actions.specs.Scopes.{scope_in}
 use Rattle.sdl_emit.proofs.Spacing.{Spaced}
 use Rattle.sdl_emit.proofs.placing.connection_places.Given as goal

@@ -1,11 +1,11 @@
-use Rattle.std.proofs.Common.{rules, ◌≡◌, ◌+◌, ◌&&◌, ℕ, Bool, [], ◌∷◌, ◌++◌, ◌≤◌, true, false, length, drop, refl, sym, ap, ◌∙◌, subst, arith, append-nil}
+use Rattle.std.proofs.Common.{rules, ◌≡◌, ◌+◌, ◌&&◌, Bool, [], ◌∷◌, ◌++◌, ◌≤◌, true, false, length, drop, sym, ap, ◌∙◌, subst, arith, append-nil}
 use Rattle.std.specs.Prelude.{slice_set}
 use Rattle.std.proofs.lemmas.Result.{on_ok_weaker, IfOk-weaker}
 use Rattle.std.proofs.Math.Bool.{and-true, and-false}
 use Rattle.std.proofs.lemmas.List.{drop_all}
-use Rattle.sdl_ast.specs.Plain.{Text, Choice, falls}
+use Rattle.sdl_ast.specs.Plain.{Text, falls}
 use Rattle.sdl_ast.specs.declared.tree.Decision.{out-Decision, the_lemmas}
-use Rattle.sdl_ast.specs.Views.{text_of, action_of, statement_of, decision_of, choice_of, answers_before, statements_before, end_text, else_choice}
+use Rattle.sdl_ast.specs.Views.{text_of, action_of, decision_of, choice_of, answers_before, statements_before, end_text, else_choice}
 use Rattle.turn_code.specs.declared.instruction.Instruction.TheVariants as i
 use Rattle.sdl_actions.specs.Scopes.{scope_in, places_by, question_in}
 use Rattle.sdl_tables.specs.Names.{variables_of}

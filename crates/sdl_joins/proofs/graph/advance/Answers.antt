@@ -1,15 +1,14 @@
-use Rattle.std.proofs.Common.{rules, arith, ◌≡◌, ◌<◌, ◌≤◌, ◌-◌, ◌++◌, ◌∷◌, [], ℕ, suc, List, Some, true, false, length, take, refl, ap, sym, ◌∙◌, subst}
-use Rattle.std.specs.Prelude.{slice_get, slice_set, slice_index_or, All}
+use Rattle.std.proofs.Common.{rules, arith, ◌≡◌, ◌<◌, ◌≤◌, ◌-◌, ℕ, suc, List, Some, true, false, length, take, refl, ap, sym, ◌∙◌}
+use Rattle.std.specs.Prelude.{slice_get, slice_index_or}
 use Rattle.std.specs.Option.{option_map_or}
 use Rattle.std.proofs.lemmas.List.{length-map}
-use Rattle.std.proofs.lemmas.Option.{slice_get_read, slice_get_within, slice_get-get_or, slice_get_past}
+use Rattle.std.proofs.lemmas.Option.{slice_get_read, slice_get_within, slice_get-get_or}
 use Rattle.sdl_joins.specs.Links.{nexts, graph_in}
-use Rattle.sdl_joins.specs.Searched.{is_new, is_done, IsSearch, Advances}
+use Rattle.sdl_joins.specs.Searched.{is_new, is_done}
 use Rattle.sdl_joins.specs.declared.graph.Mark.{Mark}
-use Rattle.sdl_joins.specs.declared.graph.Mark.TheVariants.{Open, Done}
-use Rattle.sdl_joins.specs.declared.graph.Frame.{Frame}
+use Rattle.sdl_joins.specs.declared.graph.Mark.TheVariants.{Open}
 use Rattle.sdl_joins.proofs.Marking.{nexts_within}
-use Rattle.sdl_joins.proofs.Ordering.{passed_to, advances_done, advances_on, advances_as, comes_back, open_by_tests, new_at, frame_at}
+use Rattle.sdl_joins.proofs.Ordering.{passed_to, advances_done, advances_on, advances_as, comes_back, open_by_tests, new_at}
 use Rattle.sdl_sound.proofs.Lists.{within_row}
 use Rattle.sdl_joins.proofs.graph.advance.Goals as goal
 

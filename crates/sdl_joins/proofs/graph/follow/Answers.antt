@@ -1,9 +1,9 @@
-use Rattle.std.proofs.Common.{rules, arith, ◌≡◌, ◌<◌, ◌≤◌, ◌*◌, ℕ, List, Some, true, length, map, refl, ap, sym, ◌∙◌, subst}
+use Rattle.std.proofs.Common.{rules, arith, ◌≡◌, ◌<◌, ℕ, List, Some, true, length, refl, sym, ◌∙◌, subst}
 use Rattle.std.proofs.lemmas.List.{length-map}
-use Rattle.std.specs.Prelude.{slice_get, Contains, All}
+use Rattle.std.specs.Prelude.{slice_get, All}
 use Rattle.std.proofs.lemmas.Option.{slice_get_read, slice_get_within}
-use Rattle.sdl_joins.specs.Links.{nexts, goes, graph_in}
-use Rattle.sdl_joins.specs.Searched.{IsMarked, AreFound, Finds}
+use Rattle.sdl_joins.specs.Links.{nexts, graph_in}
+use Rattle.sdl_joins.specs.Searched.{Finds}
 use Rattle.sdl_joins.proofs.Ways.{goes_itself}
 use Rattle.sdl_joins.proofs.Marking.{followed_more, reached_more, follows_all, nexts_within, longer}
 use Rattle.sdl_joins.proofs.graph.follow.Goals as goal

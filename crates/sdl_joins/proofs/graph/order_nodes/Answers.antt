@@ -1,10 +1,8 @@
-use Rattle.std.proofs.Common.{rules, arith, ◌≡◌, ◌<◌, ◌≤◌, [], ℕ, List, Some, length, refl, ap, sym, ◌∙◌, subst}
-use Rattle.std.specs.Prelude.{slice_get, replicate}
+use Rattle.std.proofs.Common.{rules, arith, ◌≡◌, length, sym}
+use Rattle.std.specs.Prelude.{replicate}
 use Rattle.std.proofs.lemmas.List.{length-map}
 use Rattle.std.proofs.lemmas.Option.{slice_get_within}
 use Rattle.sdl_joins.specs.Links.{graph_in}
-use Rattle.sdl_joins.specs.Searched.{IsSearch}
-use Rattle.sdl_joins.specs.declared.graph.Mark.{Mark}
 use Rattle.sdl_joins.specs.declared.graph.Mark.TheVariants.{New}
 use Rattle.sdl_joins.proofs.Ordering.{search_none, search_as, is_order}
 use Rattle.sdl_joins.proofs.graph.order_nodes.Goals as goal

@@ -1,5 +1,3 @@
-use Rattle.std.proofs.Common.{take, sym}
-use Rattle.sdl_joins.specs.Searched.{Finds}
 use Rattle.sdl_joins.proofs.Marking.{finds_more}
 use Rattle.sdl_joins.proofs.graph.see_all.Goals as goal
 

@@ -1,11 +1,10 @@
-use Rattle.std.proofs.Common.{rules, arith, ◌≡◌, ◌<◌, ◌++◌, ◌∷◌, [], ℕ, List, Some, true, false, length, refl, ap, sym, ◌∙◌, subst}
-use Rattle.std.specs.Prelude.{slice_get, slice_set}
+use Rattle.std.proofs.Common.{rules, ◌≡◌, List, Some, true, false, length, refl, ap, sym, ◌∙◌}
+use Rattle.std.specs.Prelude.{slice_get}
 use Rattle.std.specs.Option.{option_map_or}
-use Rattle.std.proofs.lemmas.List.{length-map}
 use Rattle.sdl_joins.specs.Links.{graph_in}
-use Rattle.sdl_joins.specs.Searched.{is_new, IsSearch, Advances, Visits}
+use Rattle.sdl_joins.specs.Searched.{is_new}
 use Rattle.sdl_joins.specs.declared.graph.Mark.{Mark}
-use Rattle.sdl_joins.specs.declared.graph.Mark.TheVariants.{New, Open}
+use Rattle.sdl_joins.specs.declared.graph.Mark.TheVariants.{New}
 use Rattle.sdl_joins.proofs.Ordering.{enters_first, new_at, not_new_at, seen_set, search_as}
 use Rattle.sdl_joins.proofs.graph.visit.Goals as goal
 use Rattle.sdl_joins.proofs.graph.visit.Goals.{then-is_new+in_ok-enter, else-is_new}

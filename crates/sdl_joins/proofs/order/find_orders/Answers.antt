@@ -1,4 +1,4 @@
-use Rattle.std.proofs.Common.{◌≡◌, ◌+◌, ◌++◌, ◌∷◌, [], ℕ, List, Ok, Err, Vec, Global, length, map, take, refl, ap, sym, ◌∙◌, subst}
+use Rattle.std.proofs.Common.{◌≡◌, ◌+◌, ◌++◌, ◌∷◌, [], ℕ, List, Ok, Err, Vec, Global, map, take, sym, subst}
 use Rattle.sdl_ast.specs.Views.{process_of}
 use Rattle.sdl_sound.specs.Orders.{IsOrdered}
 use Rattle.sdl_joins.proofs.Returning.{SoFar, so_far_order, so_far_back}

@@ -1,4 +1,4 @@
-use Rattle.std.proofs.Common.{rules, arith, ◌≡◌, ◌<◌, ◌∷◌, [], ℕ, Bool, List, Some, None, true, false, if◌then◌else◌, length, refl, ap, sym, ◌∙◌, subst}
+use Rattle.std.proofs.Common.{rules, arith, ◌≡◌, ◌<◌, ◌∷◌, [], List, Some, None, true, false, if◌then◌else◌, length, refl, ap, sym, ◌∙◌}
 use Rattle.std.specs.Prelude.{slice_get}
 use Rattle.std.proofs.lemmas.List.{length-map}
 use Rattle.std.proofs.lemmas.Option.{slice_get_read}
@@ -6,7 +6,6 @@ use Rattle.sdl_ast.specs.declared.expression.Identifier.{Identifier}
 use Rattle.sdl_ast.specs.Views.{process_of}
 use Rattle.sdl_tables.specs.Names.{number_of, connector_names}
 use Rattle.sdl_joins.specs.Links.{graph_in}
-use Rattle.sdl_sound.specs.Orders.{links_of}
 use Rattle.sdl_joins.proofs.Connectors.{links_length}
 use Rattle.sdl_joins.proofs.Returning.{one_within, back_none, back_is, marked_place}
 use Rattle.sdl_joins.proofs.order.place_back.Goals as goal

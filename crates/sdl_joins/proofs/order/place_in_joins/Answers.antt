@@ -1,4 +1,4 @@
-use Rattle.std.proofs.Common.{◌≡◌, ℕ, List, Option, Some, length, refl, subst}
+use Rattle.std.proofs.Common.{◌≡◌, ℕ, Option, Some, length, refl, subst}
 use Rattle.std.specs.Prelude.{slice_get, Contains}
 use Rattle.std.proofs.lemmas.Option.{slice_get_read}
 use Rattle.sdl_ast.specs.Views.{process_of}

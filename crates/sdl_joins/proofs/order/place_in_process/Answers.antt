@@ -1,13 +1,11 @@
-use Rattle.std.proofs.Common.{◌≡◌, ◌<◌, ℕ, [], List, Option, Some, map, length, refl, ap, sym, ◌∙◌, subst}
+use Rattle.std.proofs.Common.{◌≡◌, ℕ, [], List, Option, Some, map, length, refl, ap, sym, ◌∙◌, subst}
 use Rattle.std.specs.Prelude.{slice_get, Contains}
 use Rattle.std.specs.List.{flat_map}
 use Rattle.std.specs.Option.{option_map}
 use Rattle.std.proofs.lemmas.Option.{slice_get_read, slice_get-map}
 use Rattle.sdl_ast.specs.declared.tree.Join.{Join}
-use Rattle.sdl_ast.specs.declared.tree.Connection.{Connection}
 use Rattle.sdl_ast.specs.Plain.{PlainConnection}
 use Rattle.sdl_ast.specs.Views.{process_of, connection_of}
-use Rattle.sdl_tables.specs.Names.{number_of, connector_names}
 use Rattle.sdl_tables.specs.Scopes.{Marks}
 use Rattle.sdl_sound.specs.Joins.{comes_back, connection_cycles}
 use Rattle.sdl_sound.proofs.Places.{none-more, place-among}

@@ -1,4 +1,4 @@
-use Rattle.std.proofs.Common.{◌≡◌, ◌≤◌, length, min}
+use Rattle.std.proofs.Common.{◌≡◌, min}
 use Rattle.sdl_measures.proofs.counts.sendings_effects.Given as goal
 
 abbrev pub invariant-loop-sending : goal.invariant-loop-sending

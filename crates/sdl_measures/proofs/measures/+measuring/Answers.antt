@@ -1,11 +1,11 @@
-use Rattle.std.proofs.Common.{rules, arith, ◌≡◌, ◌+◌, ◌-◌, ◌<◌, ◌≤◌, ℕ, suc, Bool, List, [], Option, Some, None, length, drop, get_or, max, if◌then◌else◌, refl, ap, sym, ◌∙◌, subst}
+use Rattle.std.proofs.Common.{arith, ◌≡◌, ◌+◌, ◌-◌, ◌<◌, suc, List, [], Option, length, drop, max, if◌then◌else◌, refl, ap, sym, ◌∙◌, subst}
 use Rattle.sdl_ast.specs.declared.tree.Statement.{Statement}
 use Rattle.sdl_ast.specs.declared.tree.Answer.{Answer}
 use Rattle.sdl_ast.specs.declared.tree.Range.{Range}
 use Rattle.sdl_ast.specs.declared.tree.Transition.{Transition}
 use Rattle.sdl_ast.specs.declared.tree.Decision.{out-Decision}
 use Rattle.sdl_ast.specs.Plain.{Text, Choice, PlainStatement, before}
-use Rattle.sdl_ast.specs.Views.{tree_of, text_of, end_text, statement_of, statements_before, answers_before, else_choice, answer_of, choice_of, process_of}
+use Rattle.sdl_ast.specs.Views.{tree_of, text_of, end_text, statement_of, statements_before, answers_before, else_choice, choice_of, process_of}
 use Rattle.sdl_tables.specs.Names.{variables_of}
 use Rattle.sdl_sound.specs.Longest.{budget, effects, tests_budget}
 use Rattle.sdl_measures.specs.Measures.{capped}

@@ -1,6 +1,6 @@
-use Rattle.std.proofs.Common.{◌≡◌, ◌+◌, ◌≤◌, ℕ, length, drop}
+use Rattle.std.proofs.Common.{◌+◌, ◌≤◌, ℕ, length, drop}
 use Rattle.sdl_ast.specs.declared.tree.Decision.{out-Decision}
-use Rattle.sdl_ast.specs.Views.{text_of, choice_of, statements_before, answers_before, else_choice, end_text, process_of}
+use Rattle.sdl_ast.specs.Views.{statements_before, answers_before, else_choice, end_text, process_of}
 use Rattle.sdl_measures.specs.Counting.{IsBehind, IsMeasured, AreMeasured}
 use Rattle.sdl_measures.proofs.measures.+measuring.Given as goal
 

@@ -1,15 +1,14 @@
-use Rattle.std.proofs.Common.{rules, arith, ◌≡◌, ◌+◌, ◌<◌, ℕ, List, Some, length, map, refl, ap, sym, ◌∙◌, subst}
-use Rattle.std.specs.Prelude.{slice_get, slice_set, slice_index_or}
+use Rattle.std.proofs.Common.{arith, ◌≡◌, ◌<◌, List, Some, length, map, refl, ap, sym, ◌∙◌, subst}
+use Rattle.std.specs.Prelude.{slice_get, slice_index_or}
 use Rattle.std.specs.Option.{option_map}
-use Rattle.std.proofs.lemmas.List.{length-set, length-map, length-replicate}
+use Rattle.std.proofs.lemmas.List.{length-set, length-map}
 use Rattle.std.proofs.lemmas.Option.{slice_get_read, slice_get-get_or, slice_get-map}
-use Rattle.sdl_ast.specs.declared.tree.Connection.{Connection}
 use Rattle.sdl_ast.specs.Plain.{PlainConnection}
 use Rattle.sdl_ast.specs.Views.{connection_of, process_of}
 use Rattle.sdl_measures.specs.Counting.{IsMeasured}
 use Rattle.sdl_measures.specs.declared.measures.Measure.{Measure}
 use Rattle.sdl_joins.proofs.Connectors.{distinct_connectors}
-use Rattle.sdl_measures.proofs.Joined.{MeasuredTo, measured_more, all_measured}
+use Rattle.sdl_measures.proofs.Joined.{measured_more, all_measured}
 use Rattle.sdl_measures.proofs.measures.measure_process.Goals as goal
 
 pub loop-number-preserved : goal.loop-number-preserved

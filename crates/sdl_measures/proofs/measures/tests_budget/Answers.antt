@@ -1,4 +1,4 @@
-use Rattle.std.proofs.Common.{◌≡◌, ℕ, arith}
+use Rattle.std.proofs.Common.{arith}
 use Rattle.sdl_measures.proofs.Measuring.{tests_more_by}
 use Rattle.sdl_measures.proofs.measures.tests_budget.Goals as goal
 

@@ -1,4 +1,4 @@
-use Rattle.std.proofs.Common.{◌≡◌, ℕ, ◌+◌, ◌-◌, ◌<◌, List, [], length, drop, get_or, sym, ap, subst, ◌∙◌, take_all, arith}
+use Rattle.std.proofs.Common.{◌≡◌, ◌+◌, ◌-◌, ◌<◌, List, [], length, drop, get_or, sym, ap, subst, ◌∙◌, take_all, arith}
 use Rattle.std.specs.List.{flat_map}
 use Rattle.sdl_ast.specs.declared.tree.Answer.{Answer}
 use Rattle.sdl_ast.specs.declared.tree.Statement.{Statement}

@@ -1,6 +1,4 @@
-use Rattle.std.proofs.Common.{◌≡◌, ◌+◌, ◌++◌, ◌∷◌, [], map, take, ap, sym, ◌∙◌, subst}
-use Rattle.std.proofs.lemmas.List.{length-map}
-use Rattle.sdl_ast.specs.Plain.{Tree}
+use Rattle.std.proofs.Common.{sym, subst}
 use Rattle.sdl_ast.specs.Views.{tree_of, process_of}
 use Rattle.sdl_tables.specs.Names.{variables_of}
 use Rattle.sdl_tables.specs.Scopes.{Marks}

@@ -3,7 +3,7 @@ use denote.Ref.{Bor}
 use Rattle.sdl_ast.specs.declared.tree.SignalDeclaration.{SignalDeclaration}
 use Rattle.sdl_ast.specs.Views.{entity_of, signal_of}
 use Rattle.sdl_tables.specs.Names.{signals_in}
-use Rattle.sdl_tables.proofs.Growing.{join_on, join_nothing, pushed}
+use Rattle.sdl_tables.proofs.Growing.{join_on, join_nothing}
 use Rattle.sdl_tables.proofs.block_parts.collect_signals.Goals as goal
 use Rattle.sdl_tables.proofs.block_parts.collect_signals.Goals.{in-Signals+in_ok-push_signals-in-Signals, in-Route, in-Connect, in-Process}
 use Rattle.plain_laws.proofs.Lists.{mapped_more}

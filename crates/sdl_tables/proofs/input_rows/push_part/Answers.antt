@@ -1,8 +1,8 @@
-use Rattle.std.proofs.Common.{[], ◌++◌, map, ap, sym, ◌∙◌}
+use Rattle.std.proofs.Common.{◌++◌, map, ap, sym, ◌∙◌}
 use Rattle.sdl_ast.specs.Views.{clause_of}
 use Rattle.sdl_tables.specs.Rows.{row_input}
 use Rattle.sdl_tables.specs.Names.{clause_inputs}
-use Rattle.sdl_tables.proofs.Growing.{join_on, join_nothing, pushed}
+use Rattle.sdl_tables.proofs.Growing.{join_on, join_nothing}
 use Rattle.sdl_tables.proofs.input_rows.push_part.Goals as goal
 use Rattle.sdl_tables.proofs.input_rows.push_part.Goals.{in-Input+in_ok-push_input-in-Input, in-Save}
 use Rattle.plain_laws.proofs.Lists.{mapped_more}

@@ -1,7 +1,7 @@
-use Rattle.std.proofs.Common.{[], ◌++◌, map, ap, sym, ◌∙◌}
+use Rattle.std.proofs.Common.{[], ◌++◌, ap, sym, ◌∙◌}
 use Rattle.sdl_ast.specs.Views.{declaration_of}
 use Rattle.sdl_tables.specs.Names.{timers_in}
-use Rattle.sdl_tables.proofs.Growing.{join_on, join_nothing, pushed}
+use Rattle.sdl_tables.proofs.Growing.{join_on, join_nothing}
 use Rattle.sdl_tables.proofs.process_table.collect_timers.Goals as goal
 use Rattle.sdl_tables.proofs.process_table.collect_timers.Goals.{in-Variables, in-Timers+in_ok-push_ids-in-Timers}
 use Rattle.plain_laws.proofs.Lists.{mapped_more}

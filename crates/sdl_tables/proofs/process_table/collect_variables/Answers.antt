@@ -3,7 +3,7 @@ use Rattle.std.specs.List.{flat_map}
 use Rattle.sdl_ast.specs.Views.{declaration_of, group_of}
 use Rattle.sdl_tables.specs.Rows.{variable_of}
 use Rattle.sdl_tables.specs.Names.{declared_variables, group_variables}
-use Rattle.sdl_tables.proofs.Growing.{join_on, join_nothing, pushed}
+use Rattle.sdl_tables.proofs.Growing.{join_on, join_nothing}
 use Rattle.sdl_tables.proofs.process_table.collect_variables.Goals as goal
 use Rattle.sdl_tables.proofs.process_table.collect_variables.Goals.{in-Variables+in_ok-push_groups-in-Variables, in-Timers}
 use Rattle.plain_laws.proofs.Lists.{mapped_more}

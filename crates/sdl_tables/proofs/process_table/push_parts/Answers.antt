@@ -1,4 +1,4 @@
-use Rattle.std.proofs.Common.{[], ◌++◌, map, ap, sym, ◌∙◌}
+use Rattle.std.proofs.Common.{◌++◌, map, ap, sym, ◌∙◌}
 use denote.Ref.{Bor}
 use Rattle.sdl_ast.specs.declared.tree.InputPart.{InputPart}
 use Rattle.sdl_ast.specs.Views.{clause_of, input_of}

@@ -1,4 +1,3 @@
-use Rattle.std.proofs.Common.{arith}
 use Rattle.bit_line.proofs.SendLaws as laws
 use Rattle.term_play.proofs.UnitLaws.{sent_same}
 use Rattle.term_play.proofs.unit_line.push_octet.Goals as goal

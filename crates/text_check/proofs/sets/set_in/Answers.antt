@@ -1,4 +1,4 @@
-use Rattle.std.proofs.Common.{◌≡◌, ◌∙◌, List, ℕ, sym, ap, subst, rules}
+use Rattle.std.proofs.Common.{◌≡◌, ◌∙◌, List, ℕ, sym, subst, rules}
 use Rattle.std.specs.Prelude.{IsTrue, IsUtf8}
 use Rattle.text_check.specs.Checked.{IsTooLong}
 use Rattle.text_check.proofs.Long.{all_kept, too_many, not_accepted, set_kept, fault_kept}

@@ -1,4 +1,3 @@
-use Rattle.std.proofs.Common.{sym, ◌∙◌}
 use Rattle.turn_check.specs.Seen.{seen}
 use Rattle.turn_machine.proofs.Jobs.{safe_in, ends_in}
 use Rattle.turn_machine.proofs.ending.run_in.Goals as goal

@@ -1,12 +1,7 @@
-use Rattle.std.proofs.Common.{◌≡◌, ◌≤◌, ◌<◌, ℕ, List, length, Ok, Err, Result, inl, inr, refl, sym, ap, ◌∙◌, subst, arith}
-use Rattle.std.proofs.lemmas.Bool.{cases_lt}
+use Rattle.std.proofs.Common.{◌≤◌, ℕ, List, length, refl, ap, ◌∙◌, subst, arith}
 use Rattle.su_octets.specs.Frame.{Frame}
 use Rattle.su_octets.specs.Bits.{bits_of}
-use Rattle.su_octets.specs.declared.units.Unit.{Unit as SignalUnit}
-use Rattle.su_octets.specs.declared.units.UnitFault.{UnitFault}
-use Rattle.su_octets.specs.declared.units.UnitFault.TheVariants.{TooLong}
 use Rattle.bit_line.specs.Stuffing.{stuffing_of}
-use Rattle.hex.specs.Hex.{decode_of}
 use Rattle.unit_frame.proofs.Readings.{no_unit, fits}
 use Rattle.unit_frame.proofs.command.read.Goals as goal
 

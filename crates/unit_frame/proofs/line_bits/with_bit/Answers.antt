@@ -1,5 +1,4 @@
-use Rattle.std.proofs.Common.{◌≡◌, ◌∷◌, List, Bool, true, false, refl, sym, subst, rules}
-use Rattle.unit_frame.specs.LineBits.{Counts}
+use Rattle.std.proofs.Common.{◌≡◌, true, false, refl, rules}
 use Rattle.unit_frame.proofs.LineCounts.{counts_zero, counts_one, counts_fifth}
 use Rattle.unit_frame.proofs.line_bits.with_bit.Goals as goal
 

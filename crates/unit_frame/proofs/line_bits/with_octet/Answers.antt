@@ -1,4 +1,4 @@
-use Rattle.std.proofs.Common.{arith, rules}
+use Rattle.std.proofs.Common.{arith}
 use Rattle.unit_frame.proofs.LineCounts.{counts_none, counts_bit}
 use Rattle.unit_frame.proofs.line_bits.with_octet.Goals as goal
 

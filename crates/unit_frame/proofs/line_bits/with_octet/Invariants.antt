@@ -1,4 +1,4 @@
-use Rattle.std.proofs.Common.{ℕ, ◌+◌, ◌*◌, ◌≤◌, ◌<◌, Bool, List, ◌++◌, reverse}
+use Rattle.std.proofs.Common.{◌+◌, ◌*◌, ◌≤◌, ◌<◌, Bool, List, ◌++◌, reverse}
 use Rattle.su_octets.specs.Bits.{low_bits}
 use Rattle.unit_frame.specs.LineBits.{Counts}
 use Rattle.unit_frame.proofs.line_bits.with_octet.Given as goal

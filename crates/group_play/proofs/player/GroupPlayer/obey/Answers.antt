@@ -1,4 +1,4 @@
-use Rattle.std.proofs.Common.{◌≡◌, ◌∙◌, Some, ap, sym, refl}
+use Rattle.std.proofs.Common.{◌∙◌, Some, ap, refl}
 use Rattle.group_lines.specs.GroupCommands.{plain_group_command}
 use Rattle.group_lines.specs.GroupScripts.{plain_group_said}
 use Rattle.term_play.proofs.TermRuns.{printed_one, printed_none}

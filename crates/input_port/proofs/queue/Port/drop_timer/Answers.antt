@@ -1,6 +1,5 @@
-use Rattle.std.proofs.Common.{List, sym, ap, ◌∙◌}
-use Rattle.input_port.specs.declared.queue.Item.{Item}
-use Rattle.input_port.specs.Queue.{Queue, is_of_timer}
+use Rattle.std.proofs.Common.{sym, ◌∙◌}
+use Rattle.input_port.specs.Queue.{is_of_timer}
 use Rattle.input_port.proofs.Queues.{IsQueue-without}
 use Rattle.input_port.proofs.Rings.{held, all_stay}
 use Rattle.input_port.proofs.queue.Port.drop_timer.Goals as goal

@@ -1,4 +1,4 @@
-use Rattle.std.proofs.Common.{◌≡◌, List, sym, ap, ◌∙◌, IfSome, subst}
+use Rattle.std.proofs.Common.{List, ap, ◌∙◌, IfSome, subst}
 use Rattle.circular_buffer.specs.Buffer.{Buffer}
 use Rattle.input_port.specs.declared.queue.Item.{Item}
 use Rattle.input_port.specs.Saves.{saves}

@@ -1,4 +1,4 @@
-use Rattle.std.proofs.Common.{◌≡◌, ◌∙◌, Some, ap, sym}
+use Rattle.std.proofs.Common.{◌∙◌, Some, ap}
 use Rattle.term_lines.specs.TermCommands.{plain_term_command}
 use Rattle.term_lines.specs.TermScripts.{plain_term_said}
 use Rattle.term_play.proofs.TermRuns.{run_held, run_printed, printed_one, obeys_one, obeys_out}
