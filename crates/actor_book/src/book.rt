@@ -116,8 +116,8 @@ impl Book {
 
     /// What holds of every book, wherever it comes from, as from a lock: its set is valid, all fits in each state from its base on (signals
     /// came along routes that bring them, timers are their receivers' own, a turn that is out has an input that fits it), its numbers stay
-    /// within their bounds, each turn that is out has a number of its own, and no timer that is active has a signal waiting. That is what the
-    /// laws of [`link_machine`] ask. It does nothing and costs nothing.
+    /// within their bounds, each turn that is out has a number of its own, and no timer that has a deadline has a signal waiting. That is what
+    /// the laws of [`link_machine`] ask. It does nothing and costs nothing.
     pub fn keeps(&self)
         ensures { IsKept self.now }
     {

@@ -15,7 +15,7 @@ use Rattle.link_places.specs.Places.{standing}
 use Rattle.link_places.specs.Sharing.{counts_of, link_of, pick}
 use Rattle.link_refusals.specs.declared.errors.DivertFault.{DivertFault}
 use Rattle.group_links.specs.declared.link.Link.{Link}
-use Rattle.group_links.specs.OneLink.{held, is_serving}
+use Rattle.group_links.specs.OneLink.{is_serving}
 use Rattle.group_links.specs.Links.{change}
 use Rattle.group_links.specs.Moving.{hand_by, hand_of, is_open, places_from, open_links, holds_at, takes_on, Diversion, division, Diverted, moves, back_fault, back, gives_back, hands_over, ends_on, ends_at, keeps_at}
 use Rattle.link_group.specs.Set.{LinkSet}

@@ -10,7 +10,7 @@ use Rattle.link_places.specs.Places.{standing, OnePlace}
 use Rattle.link_places.specs.Sharing.{of, link_of}
 use Rattle.link_group.specs.Set.{LinkSet}
 use Rattle.group_laws.specs.Laws.{held_at, places_of}
-use Rattle.group_laws.specs.Reached.{Gone, acknowledged, unsure, messages_gone}
+use Rattle.group_laws.specs.Reached.{Gone, acknowledged, messages_gone}
 use Rattle.group_laws.proofs.Fitting.{Fits}
 
 pub record Stays (c : LinkSet) (hands : ℕ → List Msu) (accepted : List Msu) (gone : List Gone) : Type 0 where

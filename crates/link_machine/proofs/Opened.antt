@@ -17,7 +17,7 @@ each_of P [] all n a e = absurd (none-some a e)
 each_of P (x ∷ xs) all zero a e = subst P (same_Some x a e) all.0
 each_of P (x ∷ xs) all (suc n) a e = each_of P xs all.1 n a e
 
-both_parts : {A : Type 0} (P : A → Type 0) (xs ys : List A) → AllByRecursion P xs → AllByRecursion P ys → AllByRecursion P (xs ++ ys)
+pub both_parts : {A : Type 0} (P : A → Type 0) (xs ys : List A) → AllByRecursion P xs → AllByRecursion P ys → AllByRecursion P (xs ++ ys)
 both_parts P [] ys all more = more
 both_parts P (x ∷ xs) ys all more = (all.0, both_parts P xs ys all.1 more)
 

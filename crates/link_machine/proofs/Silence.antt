@@ -1,4 +1,4 @@
--- A timer that is active has no signal waiting.
+-- A timer that has a deadline has no signal waiting.
 use Rattle.std.proofs.Common.{◌≡◌, ℕ, ◌+◌, ◌≤◌, inl, inr, Bool, true, false, not, ◌||◌, cond, if◌then◌else◌, List, [], ◌∷◌, ◌++◌, Option, Some, None, refl, sym, ap, ◌∙◌, subst, arith}
 use Rattle.std.specs.Prelude.{slice_get, nat_le, Result, Ok, Err}
 use Rattle.std.specs.List.{AllByRecursion}

@@ -1,5 +1,5 @@
 -- What holds of every book: all fits in each state from its base to the present one, its numbers stay within their bounds, each turn that is out has a
--- number of its own, and no timer that is active has a signal waiting.
+-- number of its own, and no timer that has a deadline has a signal waiting.
 use Rattle.std.specs.Prelude.{◌≡◌, ℕ, ◌+◌, ◌*◌, ◌<◌, ◌≤◌, Bool, true, false, suc, List, [], ◌∷◌, ◌++◌, length, map, count_by, None, Some, slice_get}
 use Rattle.std.specs.FinMap as finite
 use Rattle.profile_limits.specs.Limits.{LAST_PLACE, LAST_TICK, MOST_INSTRUCTIONS, MOST_JOURNAL, MOST_TURNS_BEGUN}
@@ -63,7 +63,7 @@ pub record AreNumbered (w : Core) : Type 0 where
   pub below : (n : ℕ) (g : Given) → HasOut w.actors n g → g.turn < w.turns
   pub apart : (m n : ℕ) (f g : Given) → HasOut w.actors m f → HasOut w.actors n g → f.turn ≡ g.turn → m ≡ n
 
--- of actor n: a timer that is active, so has a deadline, has no signal waiting in the port
+-- of actor n: a timer that has a deadline has no signal waiting in the port
 abbrev pub IsSilent : Deadlines → ℕ → Actor → Type 0
 IsSilent deadlines n a = (timer until : ℕ) → finite.get deadlines (timer_of n timer) ≡ Some until → has_timer a.port.items timer ≡ false
 

@@ -47,7 +47,7 @@ StateLaw = (b : Ledger) (e : Event) → refusal_by (runs b.set) b e ≡ None
 abbrev pub FitsLaw : Type 0
 FitsLaw = (b : Ledger) → IsKept b → CoreFits b.set (state_of b)
 
--- in no state of a book has a timer that is active a signal waiting
+-- in no state of a book has a timer that has a deadline a signal waiting
 abbrev pub TimerLaw : Type 0
 TimerLaw = (b : Ledger) → IsKept b → AreSilent (state_of b)
 

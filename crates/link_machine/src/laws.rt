@@ -7,8 +7,8 @@ use tick_wheel::laws::due_law;
 use turn_code::laws::{effects_law, run_law, safe_law, start_law};
 
 /// A book begins with what holds of every book, and each event, each list of events and each rebase keeps it: all fits in each state from its base
-/// to the present one, its numbers stay within their bounds, each turn that is out has a number of its own, and no timer that is active has a signal
-/// waiting.
+/// to the present one, its numbers stay within their bounds, each turn that is out has a number of its own, and no timer that has a deadline has a
+/// signal waiting.
 pub fn keeps_law()
     ensures { KeepsLaw }
 {
@@ -34,8 +34,8 @@ pub fn fits_law()
     ensures { FitsLaw }
 {}
 
-/// In no state of a book, so in none to which any list of events leads, has a timer that is active a signal waiting in its actor's port: the signal
-/// comes as the deadline goes, and a SET, a RESET and a STOP take it away (Z.100, timers).
+/// In no state of a book, so in none to which any list of events leads, has a timer that has a deadline (one that `Wheel::is_active` names) a signal
+/// waiting in its actor's port: the signal comes as the deadline goes, and a SET, a RESET and a STOP take it away.
 pub fn timer_law()
     ensures { TimerLaw }
 {}
@@ -101,8 +101,8 @@ pub fn never_stuck_law()
     run_law();
 }
 
-/// What is full is told by name: an offer to a full port is refused so, and an output to a full port or a full environment is in the report of
-/// its turn, with its place.
+/// What is full is told by name, and nothing else is: an offer is refused as B1 Full exactly where it comes along a route to a full port, and of a
+/// turn's outputs exactly those to a full port or a full environment are told so in its report, with their places.
 pub fn full_law()
     ensures { FullLaw }
 {}

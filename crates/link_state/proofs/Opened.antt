@@ -1,7 +1,8 @@
 -- The actors of a set as they are made, process by process and instance by instance.
-use Rattle.std.proofs.Common.{◌≡◌, ℕ, suc, ◌+◌, ◌-◌, ◌*◌, ◌<◌, ◌≤◌, List, [], ◌∷◌, ◌++◌, length, map, drop, get_or, sym, ap, subst, ◌∙◌, append_assoc, append-nil, arith}
+use Rattle.std.proofs.Common.{◌≡◌, ℕ, suc, ◌+◌, ◌-◌, ◌*◌, ◌<◌, ◌≤◌, List, [], ◌∷◌, ◌++◌, length, map, drop, get_or, take, sum_by, sym, ap, subst, ◌∙◌, append_assoc, append-nil, arith}
 use Rattle.std.specs.List.{AllByRecursion}
-use Rattle.std.proofs.lemmas.List.{length-append, length-map, drop_more, drop_all}
+use Rattle.std.proofs.lemmas.List.{length-append, length-map, drop_more, drop_all, take_all}
+use Rattle.std.proofs.lemmas.List.Sums.{sum_by_more}
 use Rattle.turn_code.specs.declared.draft.DraftProcess.{DraftProcess}
 use Rattle.link_machine.specs.Names.{named, instances_from}
 use Rattle.link_machine.proofs.Numbering.{instances_count}
@@ -88,3 +89,16 @@ actors_few port ps now all few is =
     let count = opened_few port 0 ps all in
     let same = ap length is in
     omega (arith, count, few, same)
+
+-- ---- how many there are
+
+pub count_more : (n k : ℕ) (ps : List DraftProcess) (p : DraftProcess) → n < length ps → p ≡ get_or ps n p → k ≡ sum_by (λ (x : DraftProcess). x.instances) (take n ps)
+    → k + p.instances ≡ sum_by (λ (x : DraftProcess). x.instances) (take (n + 1) ps)
+count_more n k ps p less is so =
+    let more = sum_by_more (λ (x : DraftProcess). x.instances) ps n p less in
+    let same = ap (λ (x : DraftProcess). x.instances) is in
+    omega (arith, more, same, so)
+
+pub count_done : (n k : ℕ) (ps : List DraftProcess) → length ps ≤ n → k ≡ sum_by (λ (x : DraftProcess). x.instances) (take n ps)
+    → k ≡ sum_by (λ (x : DraftProcess). x.instances) ps
+count_done n k ps over so = so ∙ ap (sum_by (λ (x : DraftProcess). x.instances)) (take_all n ps over)

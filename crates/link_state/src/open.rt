@@ -1,9 +1,10 @@
 //! How a link begins, and copies of it.
 
-ghost use Rattle.std.specs.Prelude.{◌≡◌, ◌≤◌, ◌<◌, ◌+◌, ◌++◌, [], length, map, IfOk, OnOk};
+ghost use Rattle.std.specs.Prelude.{◌≡◌, ◌≤◌, ◌<◌, ◌+◌, ◌++◌, [], length, map, sum_by, IfOk, OnOk};
 ghost use Rattle.std.specs.List.{AllByRecursion};
 ghost use Rattle.link_machine.specs.Names.{instances_from};
 ghost use Rattle.link_machine.specs.Kept.{opened, opened_actor, opened_from};
+ghost use Rattle.turn_code.specs.declared.draft.DraftProcess.{DraftProcess as PlainProcess};
 ghost use Rattle.link_state.specs.Opening.{HasFew};
 ghost use Rattle.profile_limits.specs.Limits.{LEAST_PORT, MOST_ACTORS, MOST_PORT, MOST_PROCESSES};
 
@@ -88,7 +89,20 @@ fn open_process(
     Ok(())
 }
 
-/// The actors of all processes, before their START, with a port for so many signals each.
+/// How many actors the instances of processes are.
+fn count_actors(processes: &[DraftProcess]) -> usize
+    requires few { AllByRecursion HasFew processes.now }
+    requires count { length processes.now ≤ MOST_PROCESSES }
+    ensures { result ≡ sum_by (λ (p : PlainProcess). p.instances) processes.now }
+{
+    let mut count = 0;
+    for process in processes {
+        count += process.instances as usize;
+    }
+    count
+}
+
+/// The actors of all processes, before their START, with a port for so many signals each. Room for all of them is made at once.
 fn opened_actors(
     alloc: Global,
     processes: &[DraftProcess],
@@ -101,7 +115,7 @@ fn opened_actors(
     ensures actors { IfOk result (λ actors. actors.items ≡ opened_from port 0 processes.now) }
     ensures few { IfOk result (λ actors. length actors.items ≤ MOST_ACTORS) }
 {
-    let mut actors = Vec::new(alloc);
+    let mut actors = Vec::with_capacity(alloc, count_actors(processes))?;
     let mut number = 0;
     for process in processes {
         open_process(alloc, &mut actors, number, process, port)?;

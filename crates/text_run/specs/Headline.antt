@@ -63,7 +63,7 @@ EachEnds b k [] = Unit {0}
 EachEnds b k (e ∷ es) = EndsAt b k e × EachEnds b (ask k e).book es
 
 -- What a block's set does: its numbers and names are in the order of the text, each turn is what the text's transition means, and of the machine by
--- which it answers it holds that what is full is told by name.
+-- which it answers it holds, whatever its turns mean, that what is full is told by name, and nothing else.
 pub record RunsAsRead (b : PlainBlock) (d : Draft) (l : LimitNumbers) (es : List Event) (book : Ledger) (replies : List Reply) : Type 0 where
   pub is_set : IsSetOf b d
   pub runs : RunsBy (meaning_of b) d l es book replies

@@ -1,6 +1,6 @@
-//! Turns that are ended elsewhere than where they began: on another link, and behind a rebase; and rebases of books with a turn out, and of those that hold
-//! much.
-use crate::links::{UP, book_of, links};
+//! Turns that are ended elsewhere than where they began: on another link, as another instance's, and behind a rebase; and rebases of books with a turn out,
+//! and of those that hold much.
+use crate::links::{TWINS, UP, book_of, links};
 use crate::of_books::numbers;
 use crate::texts::COUNTER;
 use actor_book::{Book, Event, Limits};
@@ -62,6 +62,36 @@ fn a_turn_ends_on_its_own_link(rt: HostRuntime) {
     assert_eq!(rt;
         exchanged(rt.alloc()),
         Some([Some(Value::Int(5)), Some(Value::Int(7))])
+    );
+}
+
+/// Has the first instance of a process begin on one link and the second on another, ends the first one's turn on the other link, where only the second is out,
+/// and then what came back on its own, and the second one's too. The numbers of both links.
+fn ended_as_itself(one: &mut Book, other: &mut Book) -> Option<[[u64; 5]; 2]> {
+    let job = one.begin(0).ok()?;
+    let own = other.begin(1).ok()?;
+    let back = refused_by(other, run(job))?;
+    one.finish(back).ok()?;
+    other.finish(run(own)).ok()?;
+    Some([numbers(one), numbers(other)])
+}
+
+/// The same of new links.
+fn twins_exchanged(alloc: Global) -> Option<[[u64; 5]; 2]> {
+    let mut books = links(alloc, TWINS, 2, 16)?;
+    let [one, other] = books.as_mut_slice() else {
+        return None;
+    };
+    ended_as_itself(one, other)
+}
+
+/// The START of one instance is none of another instance's, though process, turn number, place and input are the same: it is refused and comes back, and both
+/// are taken where they are out. Each link has one turn, of one instruction, and two events.
+#[test]
+fn a_turn_ends_as_its_own_instance(rt: HostRuntime) {
+    assert_eq!(rt;
+        twins_exchanged(rt.alloc()),
+        Some([[1, 1, 0, 2, 0], [1, 1, 0, 2, 0]])
     );
 }
 

@@ -9,6 +9,8 @@ mod execute;
 mod fit;
 mod job;
 mod received;
+mod values;
+mod wording;
 
 pub use done::{Done, run};
 pub use ending::{new_machine, run_in};

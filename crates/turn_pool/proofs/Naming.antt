@@ -1,6 +1,7 @@
 -- A turn that began and is out has a name.
 use Rattle.std.proofs.Common.{◌≡◌, ℕ, Option, Some, None, refl, sym, ap, ◌∙◌, subst}
 use Rattle.std.specs.Prelude.{IsSome, option_map, slice_get}
+use Rattle.std.proofs.lemmas.Option.{none-some}
 use Rattle.turn_machine.specs.Turn.{Turn}
 use Rattle.link_machine.specs.actor_names_types.name.ActorName.{ActorName}
 use Rattle.link_machine.specs.Core.{names_in}
@@ -15,12 +16,12 @@ use Rattle.turn_pool.specs.declared.moves.Moved.{Moved}
 -- whoever has a turn out is there
 actor_there : (b : Ledger) (n : ℕ) (t : Turn) (o : Option Actor) → slice_get (state_of b).actors n ≡ o → turn_at b.set n o ≡ Some t
     → (a : Actor) × (slice_get (state_of b).actors n ≡ Some a)
-actor_there b n t None at h = absurd (cc)
+actor_there b n t None at h = absurd (none-some t h)
 actor_there b n t (Some a) at h = (a, at)
 
 is_told : (link : ℕ) (b : Ledger) (t : Turn) (x : ActorName) → slice_get (names_in (state_of b).actors) t.actor ≡ Some x → IsSome (told_of link b t)
 is_told link b t x h =
-    subst (λ (o : Option ActorName). IsSome (option_map (λ (x : ActorName). let j : JobName = record { link = link; actor = x; turn = t.turn } in j) o)) (sym h) tt
+    subst (λ (o : Option ActorName). IsSome (option_map (λ (x : ActorName). let j : JobName = record { link = link; actor = x; turn = t.turn } in j) o)) (sym h) refl
 
 named : (link : ℕ) (b : Ledger) (n : ℕ) (t : Turn) → turn_out b n ≡ Some t → IsSome (told_of link b t)
 unfolding turn_out

@@ -136,7 +136,7 @@ fn follow<R: Wait, L: Ledger, G: Gate>(
                 run_job(pool, gate, seat, name, job);
                 true
             }
-            // (a turn that began has a name, since its actor is there)
+            // (a turn that began is out, and has a name by `begun` of `name_in`)
             None => false,
         },
         Moved::Begun(Err(_)) => false,

@@ -5,7 +5,7 @@ use Rattle.link_state.proofs.Opened.{processes_more, few_more, few_here, process
 use Rattle.link_state.proofs.open.opened_actors.Goals as goal
 
 pub loop-process-init : goal.loop-process-init
-loop-process-init c = (ap (λ (xs : List Actor). xs ++ opened_from c.args.port 0 c.args.processes.now) c.new-actors.ensures.items, c.requires.few, refl)
+loop-process-init c = (ap (λ (xs : List Actor). xs ++ opened_from c.args.port 0 c.args.processes.now) c.in_ok-actors.ensures.items, c.requires.few, refl)
 
 pub open_process-requires-clause-few : goal.open_process-requires-clause-few
 open_process-requires-clause-few c =

@@ -17,7 +17,7 @@ use Rattle.sdl_ast.proofs.Views.{text_of-is, decision_of-is}
 use Rattle.sdl_emit.proofs.Emitting.{one_statement, statement_named, statement_fits, answer_named, rest_named, rest_fits, rest_code, others_fit, others_code, others_named, else_size_alone, else_code_alone, else_named, choice_named, choice_fits, decision_code}
 use Rattle.sdl_actions.proofs.Picking.{one_answer}
 use Rattle.sdl_emit.proofs.Leaving.{statements_past, answers_past, acted, decided, is_decision, no_code, no_leave, no_starts, left_code, left_told}
-use Rattle.sdl_actions.specs.Landing.{code_place, starts_from, answers_leave, else_leave, landed, filled, has_any, picked_by, tests_by}
+use Rattle.sdl_actions.specs.Landing.{starts_from, answers_leave, else_leave, landed, filled, has_any, picked_by, tests_by}
 use Rattle.sdl_emit.proofs.Landed.{jumps_more, starts_more, else_leave_alone, rest_goes, truth_answers_fit, truth_else_fits, truth_else_low, truth_low, truth_lands, truth_goes, place_is, integer_else_fits, integer_answers_fit, integer_low, integer_tests_fit, integer_lands, integer_goes}
 use Rattle.sdl_emit.proofs.texts.+texts.Goals as goal
 

@@ -1,4 +1,4 @@
-use Rattle.std.proofs.Common.{true, false, drop, ap, ◌∙◌}
+use Rattle.std.proofs.Common.{drop, ap, ◌∙◌}
 use Rattle.std.proofs.lemmas.Bool.{ne_eqb}
 use Rattle.line_orders.proofs.Looking.{looked_at_end, looked_at_other}
 use Rattle.line_orders.proofs.lines.OrderLines.look.Goals as goal
