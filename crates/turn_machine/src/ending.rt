@@ -86,7 +86,6 @@ fn begin(machine: &mut Machine)
     ensures effects { machine.new.effects.items ≡ [] }
     ensures count { machine.new.count ≡ 0 }
 {
-    machine.operands = Operands::new();
     machine.effects.clear();
     machine.count = 0;
 }

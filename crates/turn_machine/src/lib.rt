@@ -17,3 +17,4 @@ pub use ending::{new_machine, run_in};
 pub use fit::fits;
 pub use job::Job;
 pub use received::Received;
+pub use turn_check::{After, Given, Next, Piece, Sorts, Words, step_bare, value_of};
