@@ -25,6 +25,11 @@ def kit():
     return module
 
 
+def by_hand(root, name):
+    """The edits of a crate that aren't the gate's: tools/edits tries them."""
+    return sorted((root / "edits" / name).glob("*.edit"))
+
+
 def keep_sums(crates):
     """Has `rt` ask each library below a crate once a run: which libraries stand below it, and for the sum over its sources.
 

@@ -2,6 +2,7 @@
 from the program, on whole lists and from the standards."""
 import re
 
+import plain_group
 import plain_term
 from plain_check import Refusal, check
 from plain_play import LONGEST, BadLine, command, number
@@ -31,15 +32,15 @@ def check_says(text):
 def play_says(text, script):
     """Of `play` on a text."""
     said = []
-    return said, plain_term.play_text(text, script, said.append)
+    return said, plain_group.play_text(text, script, said.append)
 
 
-def terminal_says(script):
-    """Of `play standard`."""
+def standard_says(script):
+    """Of `play standard`, a script of any kind."""
     if not is_text(script):
         return NO_TEXT
     said = []
-    return said, plain_term.play("standard", script, said.append)
+    return said, plain_group.play("standard", script, said.append)
 
 
 def soak_says(script):

@@ -96,7 +96,7 @@ class Terminal:
             self.statuses = [*self.statuses, (signal, *values)][-64:]
         elif values[0] == 5:
             self.busy = True
-        else:
+        elif values[0] in (0, 1, 2, 3, 4, 8, 9):
             self.kind, self.busy = values[0], False
 
     def offer(self, actor, signal, *values):

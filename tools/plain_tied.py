@@ -58,8 +58,8 @@ def orders_of(stream):
 class Filter:
     """One end. What it sent and what it told are whole lists."""
 
-    def __init__(self, mode, orders=b"", ahead=0):
-        self.terminal, self.orders = Far(TEXT, mode == "cyclic"), list(orders_of(orders))
+    def __init__(self, mode, orders=b"", ahead=0, text=TEXT):
+        self.terminal, self.orders = Far(text, mode == "cyclic"), list(orders_of(orders))
         self.sent, self.told, self.count, self.over = [255] * ahead, [], 0, False
         self.ready, self.rest, self.begun = [], [], False
 
@@ -142,18 +142,23 @@ def two(mode, milliseconds, first, second, damaged=None):
         yield from end.told
 
 
-def tied():
-    """The table of lives, with the lines that are to be shown for each."""
-    head, *entries = TIED.read_text().split("\n== ")
-    yield head
-    for entry in entries:
-        name, text = entry.split("\n--\n")[0].strip("\n").split("\n", 1)
+def entries():
+    """The lives of the table: the name, what stands before its line `--`, the words for `two`, and the lines behind it."""
+    for entry in TIED.read_text().split("\n== ")[1:]:
+        given, shown = entry.split("\n--\n")
+        name, text = given.strip("\n").split("\n", 1)
         line, orders = text.split("\n", 1)
         words = line.split(" ")
         first, second = (it.encode() for it in orders.split("..\n", 1))
-        shown = two(words[0], int(words[1]), first, second, int(words[2]) if words[2:] else None)
+        yield name, text, (words[0], int(words[1]), first, second, int(words[2]) if words[2:] else None), shown.rstrip("\n").split("\n")
+
+
+def tied():
+    """The table of lives, with the lines that are to be shown for each."""
+    yield TIED.read_text().split("\n== ")[0]
+    for name, text, words, _ in entries():
         again = ["octet by octet: the same", "by its reports: the same", "up to a third write: the same"]
-        yield "\n".join([f"\n== {name}", text, "--", *shown, *again, ""])
+        yield "\n".join([f"\n== {name}", text, "--", *two(*words), *again, ""])
 
 
 def main(words):

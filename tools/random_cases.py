@@ -1,4 +1,4 @@
-"""What random_texts, random_scripts, random_terminals and random_groups share: cases made by number and seed, side by side on all processors, held against what the plain
+"""What random_texts, random_scripts, random_terminals, random_groups and random_lines share: cases made by number and seed, side by side on all processors, held against what the plain
 programs of this folder say. A case that differs is left in out/NAME/, with both answers."""
 import collections
 import os
@@ -35,17 +35,18 @@ def differs(name, make, seed, number):
     words, given, said, shown = make(dice(seed, number))
     if said is None:
         return "not known", None
-    lines, status = said
+    lines, status, *told = said
     run = Run(words, given)
-    wrote = "".join(f"{it}\n" for it in lines).encode()
-    if (run.wrote, run.status) == (wrote, status):
-        last = lines[-1].split(" ") if lines else [""]
+    is_octets = isinstance(lines, bytes)
+    wrote = lines if is_octets else "".join(f"{it}\n" for it in lines).encode()
+    if (run.wrote, run.status) == (wrote, status) and told in ([], [run.said]):
+        last = lines[-1].split(" ") if lines and not is_octets else [""]
         return " ".join(last[:2]) if last[0] == "refused" and status == 2 else f"status {status}", None
     room = ROOT / "out" / name
     room.mkdir(parents=True, exist_ok=True)
     (room / f"{number}.given").write_bytes(given)
-    (room / f"{number}.program").write_bytes(run.wrote + f"exit {run.status}\n".encode())
-    (room / f"{number}.plain").write_bytes(wrote + f"exit {status}\n".encode())
+    (room / f"{number}.program").write_bytes(run.wrote + f"exit {run.status}\n".encode() + run.said)
+    (room / f"{number}.plain").write_bytes(wrote + f"exit {status}\n".encode() + b"".join(told))
     return "differs", f"{number}: {shown}"
 
 
@@ -61,7 +62,8 @@ def several(name, make, seed, numbers):
 
 def hold(name, make, words, count):
     """Makes so many cases, and tells which differ and what the others came to. `make` gives for dice the words of a command line, what stands in standard
-    input, the lines and the status that are wanted, or none where they aren't known, and what is shown of the case. Gives the exit status."""
+    input, the lines or the octets and the status that are wanted (and what has to be told on standard error, where that is compared), or none where they aren't known,
+    and what is shown of the case. Gives the exit status."""
     asked = Asked(words, count)
     if missing(PLAY):
         return 2

@@ -12,7 +12,7 @@ use crate::after::Given;
 use arrayvec::ArrayVec;
 use turn_code::{Address, DraftSignal, DraftVariable, Effect, Sending, SignalNumber, Sort, Value};
 
-/// Of the parameters of a set's signals and of the variables of a process: which are Booleans. A job has it by value, and a set keeps it.
+/// Of the parameters of a set's signals and of the variables of a process: which are Booleans. With these effects and variables are made of words.
 #[derive(Clone, Copy)]
 pub struct Sorts {
     /// Bit j of the number for a signal says it of its parameter j.
@@ -100,7 +100,8 @@ impl Sorts {
         }
     }
 
-    /// The effect that was given out: with the sorts of its signal, to whom the instruction names, or to who sent the signal of the transition.
+    /// The effect that was given out: with the sorts of its signal, to whom the instruction names, or to who sent the signal of the transition. Each effect of
+    /// a valid transition has those sorts (turn_code's proofs/RightEffects: adds).
     pub fn effect(&self, given: Given, sender: Option<Address>) -> Effect
         requires { HasReceiver given sender }
         ensures { (e : AnyEffect) → IsEffectOf sender given e → IsOfSorts self.now e → result ≡ e }

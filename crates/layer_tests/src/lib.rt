@@ -1,4 +1,4 @@
-//! Tests of the lower layers over their public calls: units and lines, stores and one side of a link, ports, timers,
+//! Tests of the lower layers over their public calls: units and lines, orders for a line, stores and one side of a link, ports, timers,
 //! tokens, unset paths and code; valid sets and turns, on sets that are written as plain data.
 //! They stand in a crate of their own so that the layers aren't proved a second time with them, and in one, so that these are loaded and
 //! compiled once.
@@ -10,6 +10,8 @@ mod drafts;
 mod of_code;
 #[cfg(test)]
 mod of_lines;
+#[cfg(test)]
+mod of_orders;
 #[cfg(test)]
 mod of_paths;
 #[cfg(test)]

@@ -9,6 +9,3 @@ mod times;
 pub use lines::{MOST_OCTETS, OrderLines};
 pub use says::{LineSays, line_says};
 pub use stream::LineOrders;
-
-#[cfg(test)]
-mod tests;

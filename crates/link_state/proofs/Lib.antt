@@ -3,4 +3,4 @@ mod Passing
 mod SmallSaves
 mod TimerItems
 mod Opened
-pub mod Naming
+mod Naming

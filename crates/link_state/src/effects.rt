@@ -115,7 +115,6 @@ impl Link {
     }
 
     /// What the effects of a turn do, one after another. The outputs that nobody gets.
-    #[tactic(auto, using(crate::proofs::Naming::laid_kept))]
     fn lay_all(
         &mut self,
         set: &Verified,

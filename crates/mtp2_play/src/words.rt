@@ -304,10 +304,22 @@ pub fn read<'a>(alloc: Global, given: &'a [String]) -> Result<Request<'a>, Error
     let matches = commands.try_get_matches_from_mut(given)?;
     match request_of(&matches) {
         Some(request) => Ok(request),
-        None => Err(commands.error(
-            ErrorKind::InvalidSubcommand,
-            "no such command, standard input for the set and for the script, not 1 to 16 workers, or a word that line doesn't know",
-        )?),
+        None => Err(commands.error(ErrorKind::InvalidSubcommand, complaint_of(&matches))?),
+    }
+}
+
+/// What is said where the words of a command are there, and one of them says nothing.
+fn complaint_of(matches: &ArgMatches<'_>) -> &'static str {
+    let Some(name) = matches.subcommand_name() else {
+        return "no such command";
+    };
+    match name {
+        "play" => "standard input can be the set or the script, not both",
+        "soak" => "--workers is a number from 1 to 16",
+        "line" => {
+            "MODE is basic or cyclic, --bits low or high, --ahead a number up to 8000; standard input is the line, so it can't be --text"
+        }
+        _ => "no such command",
     }
 }
 

@@ -27,6 +27,8 @@ mod of_runs;
 #[cfg(test)]
 mod of_soak;
 #[cfg(test)]
+mod of_steppers;
+#[cfg(test)]
 mod of_strangers;
 #[cfg(test)]
 mod of_tree;

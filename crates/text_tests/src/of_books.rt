@@ -1,9 +1,10 @@
 //! Books over their public calls, on a text that is loaded: that the calls which take memory succeed where there is some, and change nothing
 //! where there is none; that a turn ends once.
-use crate::links::{ECHO, UP, book_of};
+use crate::links::{ECHO, SAVER, UP, book_of};
 use actor_book::{Book, Event, Limits, Offer, run_events};
 use arrayvec::ArrayVec;
 use std::alloc::Global;
+use turn_code::SignalNumber;
 use turn_machine::run;
 
 /// The book of a link, with room for one signal and 16 events.
@@ -11,11 +12,11 @@ fn opened(alloc: Global) -> Option<Book> {
     book_of(alloc, ECHO, Limits::new(1, 1, 16)?)
 }
 
-/// The environment sends Up.
-fn up() -> Event {
+/// The environment sends a signal.
+fn sent(signal: SignalNumber) -> Event {
     Event::Offer(Offer {
         actor: 0,
-        signal: UP,
+        signal,
         values: ArrayVec::new(),
     })
 }
@@ -25,11 +26,28 @@ fn events() -> [Event; 7] {
     [
         Event::Begin(0),
         Event::Finish(0),
-        up(),
-        up(),
+        sent(UP),
+        sent(UP),
         Event::Begin(0),
         Event::Finish(0),
         Event::TakeEnv,
+    ]
+}
+
+/// Nine events of [`SAVER`], whose port has room for two signals: the third finds it full, the second is taken before the first, which is then out.
+fn saved() -> [Event; 9] {
+    let a = SignalNumber(0);
+    let c = SignalNumber(1);
+    [
+        Event::Begin(0),
+        Event::Finish(0),
+        sent(a),
+        sent(c),
+        sent(c),
+        Event::Begin(0),
+        sent(c),
+        Event::Finish(0),
+        Event::Begin(0),
     ]
 }
 
@@ -45,10 +63,10 @@ pub(crate) fn numbers(book: &Book) -> [u64; 5] {
     ]
 }
 
-/// Whether the seven events are answered.
-fn is_answered(alloc: Global, book: &mut Book) -> bool {
-    match run_events(alloc, book, &events()) {
-        Ok(replies) => replies.len() == 7,
+/// Whether events are answered, each of them.
+fn is_answered(alloc: Global, book: &mut Book, events: &[Event]) -> bool {
+    match run_events(alloc, book, events) {
+        Ok(replies) => replies.len() == events.len(),
         Err(_) => false,
     }
 }
@@ -56,7 +74,7 @@ fn is_answered(alloc: Global, book: &mut Book) -> bool {
 /// The numbers of a book behind the events.
 fn ran(alloc: Global) -> Option<[u64; 5]> {
     let mut book = opened(alloc)?;
-    if is_answered(alloc, &mut book) {
+    if is_answered(alloc, &mut book, &events()) {
         Some(numbers(&book))
     } else {
         None
@@ -89,7 +107,7 @@ fn a_long_list_of_events_runs(rt: HostRuntime) {
 /// The same once its journal is emptied.
 fn rebased(alloc: Global) -> Option<[u64; 5]> {
     let mut book = opened(alloc)?;
-    if is_answered(alloc, &mut book) && book.rebase().is_ok() {
+    if is_answered(alloc, &mut book, &events()) && book.rebase().is_ok() {
         Some(numbers(&book))
     } else {
         None
@@ -107,15 +125,19 @@ fn is_emptied(book: &mut Book, next: u64) -> bool {
     book.first() == first && book.next() == next
 }
 
-/// Whether the events have run, or nothing has changed; and the same of the journal.
+/// Whether the events of [`SAVER`] have run, of which one is refused, or nothing has changed; and the same of the journal, with a turn out.
 fn changes_or_stays(alloc: Global, book: &mut Book) -> bool {
-    let next = if is_answered(alloc, book) { 6 } else { 0 };
+    let next = if is_answered(alloc, book, &saved()) {
+        8
+    } else {
+        0
+    };
     book.next() == next && is_emptied(book, next)
 }
 
 /// The same of a new book; nothing where there is none.
 fn new_changes_or_stays(alloc: Global) -> Option<bool> {
-    let mut book = opened(alloc)?;
+    let mut book = book_of(alloc, SAVER, Limits::new(2, 1, 16)?)?;
     Some(changes_or_stays(alloc, &mut book))
 }
 

@@ -1,34 +1,43 @@
 //! Sets of processes that are known to be valid.
 
-ghost use Rattle.std.specs.Prelude.{◌≡◌, ◌↔◌, option_map, IsOk, IfOk, IfErr, IfSome, Some, slice_get};
+ghost use Rattle.std.specs.Prelude.{◌≡◌, ◌↔◌, ◌≤◌, All, length, option_map, IsOk, IfOk, IfErr, IfSome, Some, slice_get, slice_index_or};
 ghost use Rattle.turn_code.specs.Transitions.{Transition as Plain, transition_at, start_of, start_at as start_found, input_at as input_found};
 ghost use Rattle.turn_rules.specs.Seen.{seen};
 ghost use Rattle.turn_code.specs.Valid.{IsValid};
+ghost use Rattle.turn_code.specs.declared.draft.DraftProcess.{DraftProcess as PlainProcess};
+ghost use Rattle.bare_words.specs.Sorts.{AreSortsOf};
 ghost use Rattle.turn_check.specs.Faults.{IsBroken};
+ghost use Rattle.turn_check.specs.Sorted.{AreVariableBits};
+ghost use Rattle.bare_words.specs.Limits.{MOST_PROCESSES, MOST_VARIABLES};
 
 use crate::fault::VerifyFault;
 use crate::walk::check_draft;
+use bare_words::{Sorts, parameter_bits, variable_bits};
 use std::alloc::AllocError;
 use std::marker::Model;
 use turn_code::laws::{path_law, safe_law};
 use turn_code::{Cert, Draft, DraftProcess, DraftSignal, Place, ProcessNumber, StateNumber};
 use turn_rules::{Transition, input_transition, start_transition};
 
-/// A valid draft, seen as that draft. Only `verify` makes one.
+/// A valid draft, seen as that draft. It keeps beside it which parameters and variables are Booleans. Only `verify` makes one.
 #[derive(Drop)]
 pub struct Verified {
     draft: Draft,
+    /// Bit j of the number for a signal says it of its parameter j.
+    parameters: [u8; 128],
+    /// Bit v of the number for a process says it of its variable v.
+    variables: [u32; 16],
 }
 
 impl Model for Verified {
     ghost use Rattle.turn_code.specs.declared.draft.Draft.{Draft as PlainDraft};
-    ghost use Rattle.turn_code.specs.Valid.{IsValid};
+    ghost use Rattle.turn_check.specs.Sorted.{IsSorted};
 
     ghost Value = { PlainDraft };
 
     ghost view = { λ v. v.draft };
 
-    ghost invariant = { λ v. IsValid v.draft };
+    ghost invariant = { λ v. IsSorted v.draft v.parameters v.variables };
 }
 
 /// Checks a draft against rules V1 to V9, and keeps it where none is broken. It takes no memory.
@@ -38,8 +47,45 @@ pub fn verify(draft: Draft) -> Result<Verified, VerifyFault>
     ensures refused { IfErr result (λ e. IsBroken draft e) }
 {
     match check_draft(&draft) {
-        Ok(()) => Ok(Verified { draft }),
+        Ok(()) => Ok(sorted(draft)),
         Err(fault) => Err(fault),
+    }
+}
+
+/// A valid draft, with the sorts of its parameters and variables.
+fn sorted(draft: Draft) -> Verified
+    requires { IsValid draft }
+    ensures { result ≡ draft }
+{
+    let parameters = parameter_bits(draft.signals.as_slice());
+    let variables = bits_of_variables(draft.processes.as_slice());
+    Verified {
+        draft,
+        parameters,
+        variables,
+    }
+}
+
+/// For each process, which of its variables are Booleans.
+fn bits_of_variables(processes: &[DraftProcess]) -> [u32; 16]
+    requires few { length processes.now ≤ MOST_PROCESSES }
+    requires small { All (λ (p : PlainProcess). length p.variables ≤ MOST_VARIABLES) processes.now }
+    ensures { AreVariableBits processes.now result }
+{
+    let mut bits = [0; 16];
+    for number in 0..processes.len() {
+        bits[number] = variable_bits(processes[number].variables.as_slice());
+    }
+    bits
+}
+
+/// The bits at a place, none where there is none.
+fn bits_at(bits: &[u32], place: usize) -> u32
+    ensures { result ≡ slice_index_or bits.now place 0 }
+{
+    match bits.get(place) {
+        Some(bits) => *bits,
+        None => 0,
     }
 }
 
@@ -59,9 +105,17 @@ impl Verified {
         ensures { IfOk result (λ v. v ≡ self.now) }
     {
         self.keeps();
-        Ok(Verified {
-            draft: self.draft.copy()?,
-        })
+        Ok(sorted(self.draft.copy()?))
+    }
+
+    /// Which parameters of the set's signals, and which variables of a process, are Booleans.
+    pub fn sorts(&self, process: ProcessNumber) -> Sorts
+        ensures { (p : PlainProcess) → slice_get self.now.processes process.0 ≡ Some p → AreSortsOf self.now.signals p.variables result }
+    {
+        Sorts {
+            parameters: self.parameters,
+            variables: bits_at(&self.variables, usize::from(process.0)),
+        }
     }
 
     /// The counts of input `input` at a place of a process; START has the input 0. None where there is none.

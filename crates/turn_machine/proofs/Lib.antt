@@ -1,2 +1,3 @@
+pub mod Worded
 pub mod UnderWay
 pub mod Jobs

@@ -1,205 +1,282 @@
--- One instruction more of a safe run.
-use Rattle.std.proofs.Common.{◌≡◌, ℕ, zero, suc, ◌+◌, ◌<◌, ◌≤◌, Bool as Truth, true, false, if◌then◌else◌, IsTrue, List, [], ◌∷◌, ◌++◌, length, take, drop, reverse, Option, Some, None, refl, sym, ap, ◌∙◌, subst, arith}
+-- One instruction more of a run on words.
+use Rattle.std.proofs.Common.{◌≡◌, ℕ, zero, suc, ◌+◌, ◌<◌, ◌≤◌, List, [], ◌∷◌, ◌++◌, length, Option, Some, None, refl, sym, ap, ◌∙◌, subst, arith}
 use Rattle.std.proofs.lemmas.List.{length-append}
-use Rattle.std.specs.Prelude.{slice_get, nat_le}
-use Rattle.turn_code.specs.Run.{Progress, After, goes, ends, stuck, step, act, act_if, loaded, given, sent, sending, address_of, with_effect, tick, Ran, ended, go_on, exec}
-use Rattle.turn_code.specs.Code.{effects_of}
-use Rattle.turn_code.specs.Machine.{grows, HasRoom}
-use Rattle.turn_code.specs.Transitions.{Transition}
-use Rattle.turn_code.specs.Rules.{KeepsPieceLimits}
-use Rattle.turn_code.specs.Safe.{EndsWell, IsSafeAfter, IsSafe, SendsFew}
+use Rattle.std.proofs.lemmas.Option.{get_or_from_slice_get}
+use Rattle.std.specs.Prelude.{slice_get, map}
+use Rattle.turn_code.specs.Values.{sort_of}
+use Rattle.turn_code.specs.Run.{Progress, After as Tagged, goes, ends, stuck, step, act, act_if, tick, CountIs, go_on, exec, run, begun}
+use Rattle.turn_code.specs.Transitions.{Transition, parameters_of}
+use Rattle.turn_code.specs.Fits.{HasSort}
+use Rattle.turn_code.specs.Effects.{IsRightEffect, AreRightEffects}
+use Rattle.turn_code.specs.Safe.{IsSafeAfter, IsSafe}
 use Rattle.turn_code.specs.declared.value.Value.{Value}
-use Rattle.turn_code.specs.declared.value.Value.TheVariants.{Int, Bool}
-use Rattle.turn_code.specs.declared.numbers.SignalNumber.{SignalNumber}
 use Rattle.turn_code.specs.declared.effect.Effect.{Effect}
 use Rattle.turn_code.specs.declared.effect.Effect.TheVariants as effect
 use Rattle.turn_code.specs.declared.input.Input.{Input}
 use Rattle.turn_code.specs.declared.input.Address.{Address}
 use Rattle.turn_code.specs.declared.instruction.Instruction.{Instruction}
-use Rattle.turn_code.specs.declared.instruction.Instruction.TheVariants.{Int as PutInt, Bool as PutBool, Load, Param, Output, Set, Reset}
 use Rattle.turn_code.specs.declared.machine.End.{End}
-use Rattle.turn_code.specs.declared.trouble.Trouble.{Trouble}
-use Rattle.turn_code.specs.declared.trouble.Trouble.TheVariants.{Underflow}
 use Rattle.turn_code.specs.declared.draft.Cert.{Cert}
-use Rattle.turn_machine.specs.Safety.{IsSafeWithin, IsUnderWay, whole_run}
+use Rattle.turn_code.specs.declared.draft.Draft.{Draft}
+use Rattle.turn_code.specs.declared.draft.DraftSignal.{DraftSignal}
+use Rattle.turn_code.proofs.Lists.{zip_length}
+use Rattle.turn_code.proofs.SafeRuns.{code_at, stands_at_start}
+use Rattle.turn_code.proofs.RightEffects.{EffectsAre, act_keeps, adds}
+use Rattle.turn_code.proofs.Ran.{step_count}
+use Rattle.turn_check.specs.bare_words_types.piece.Piece.{Piece}
+use Rattle.turn_check.specs.bare_words_types.sorts.Sorts.{Sorts}
+use Rattle.turn_check.specs.bare_words_types.words.Words.{Words}
+use Rattle.turn_check.specs.bare_words_types.after.After.{After}
+use Rattle.turn_check.specs.bare_words_types.after.Given.{Given}
+use Rattle.turn_check.specs.bare_words_types.after.Given.TheVariants as gives
+use Rattle.turn_check.specs.bare_words_types.after.Next.TheVariants.{Goes, Ends}
+use Rattle.turn_check.specs.Bare.{bare_of}
+use Rattle.turn_check.specs.Meant.{AreWordsOf, IsEffectOf, Grow}
+use Rattle.turn_check.specs.Sorts.{AreSortsOf, IsOfSorts, HasReceiver, sort_bits}
+use Rattle.turn_check.specs.Steps.{StandAt, Follows, IsStep}
+use Rattle.turn_machine.specs.Growing.{IsGrown, CanGrow}
+use Rattle.turn_machine.specs.Safety.{IsSafeWithin, IsUnderWay, HasEnded}
+use Rattle.turn_machine.proofs.Worded.{variables_told}
 
-begun_empty : (code : List Instruction) (x : Input) (c : Cert) (s : Progress) → IsSafeWithin code x c s → s.count ≡ 0
-    → IsUnderWay code x c 0 (whole_run code x s) 0 [] s
-unfolding whole_run
-begun_empty code x c s h none =
+-- ---- effects that grow
+last_right : (d : Draft) (t : Transition) (es : List Effect) (e : Effect) → AreRightEffects d t (es ++ e ∷ []) → IsRightEffect d t e
+last_right d t [] e h = h.0
+last_right d t (x ∷ es) e h = last_right d t es e h.1
+
+there_is : (xs : List DraftSignal) (i : ℕ) → i < length xs → (x : DraftSignal) × (slice_get xs i ≡ Some x)
+there_is [] i within = absurd (omega (arith, within))
+there_is (x ∷ xs) zero within = (x, refl)
+there_is (x ∷ xs) (suc i) within = there_is xs i (omega (arith, within))
+
+of_sorts : (d : Draft) (t : Transition) (s : Sorts) (e : Effect) → AreSortsOf d.signals t.process.variables s → IsRightEffect d t e → IsOfSorts s e
+of_sorts d t s (effect.Output m) sorts right =
+    let signal = there_is d.signals m.signal.0 right.signal in
+    let own : map sort_of m.parameters.items ≡ signal.0.parameters = right.parameters ∙ ap parameters_of signal.1 in
+    get_or_from_slice_get s.parameters m.signal.0 (sort_bits signal.0.parameters) 0 (sorts.signals m.signal.0 signal.0 signal.1) ∙ ap sort_bits (sym own)
+of_sorts d t s (effect.Set n z) sorts right = tt
+of_sorts d t s (effect.Reset n) sorts right = tt
+
+grown : (d : Draft) (t : Transition) (p : Piece) (o : Option Given) (old new : List Effect) → AreSortsOf d.signals t.process.variables p.sorts.now
+    → AreRightEffects d t new → length new ≤ 32 → Grow p.sender o old new → IsGrown p o old new
+grown d t p None old new sorts right few g = g
+grown d t p (Some given) old new sorts right few g =
+    let right' : AreRightEffects d t (old ++ g.0 ∷ []) = subst (λ (u : List Effect). AreRightEffects d t u) g.2 right in
+    let long : length new ≡ length old + 1 = ap length g.2 ∙ length-append old (g.0 ∷ []) in
+    let room : length old < 32 = omega arith in
+    (g.0, g.1, of_sorts d t p.sorts.now g.0 sorts (last_right d t old g.0 right'), room, g.2)
+
+-- somebody gets what is given out
+received : (from : Option Address) (given : Given) (e : Effect) → IsEffectOf from given e → HasReceiver given from
+received from (gives.Output n r c ws) (effect.Output s) h = (s.receiver, h.3, h.1)
+received from (gives.Output n r c ws) (effect.Set t z) h = absurd h
+received from (gives.Output n r c ws) (effect.Reset t) h = absurd h
+received from (gives.Set n z) e h = tt
+received from (gives.Reset n) e h = tt
+
+pub can_give : (p : Piece) (o : Option Given) (given : Given) (old : List Effect) → o ≡ Some given → CanGrow p o old → HasReceiver given p.sender
+can_give p o given old is can =
+    let own : CanGrow p (Some given) old = subst (λ (u : Option Given). CanGrow p u old) is can in
+    received p.sender given own.1.0 own.1.1
+
+pub has_room : (p : Piece) (o : Option Given) (given : Given) (old : List Effect) → o ≡ Some given → CanGrow p o old → length old < 32
+has_room p o given old is can =
+    let own : CanGrow p (Some given) old = subst (λ (u : Option Given). CanGrow p u old) is can in
+    own.1.3
+
+pub gave_one : (p : Piece) (o : Option Given) (given : Given) (old new es : List Effect) (r : Effect) → o ≡ Some given
+    → ((e : Effect) → IsEffectOf p.sender given e → IsOfSorts p.sorts.now e → r ≡ e) → new ≡ old ++ r ∷ [] → IsGrown p o old es → new ≡ es
+gave_one p o given old new es r is one more h =
+    let own : IsGrown p (Some given) old es = subst (λ (u : Option Given). IsGrown p u old es) is h in
+    more ∙ ap (λ (u : Effect). old ++ u ∷ []) (one own.0 own.1 own.2) ∙ sym own.4
+
+-- ---- the whole run, from its beginning
+whole_is : (code : List Instruction) (x : Input) → exec code x 512 0 [] (begun x) ≡ run code x
+unfolding run
+whole_is code x = refl
+
+pub begun_so : (p : Piece) (x : Input) (c : Cert) (w : Words) (es : List Effect) (n : ℕ) → IsSafeWithin p.code.now x p.sorts.now c → p.sender ≡ x.sender
+    → AreWordsOf (bare_of w) [] x.variables.items x.parameters.items → es ≡ [] → n ≡ 0 → IsUnderWay p x c 0 0 w es n
+begun_so p x c w es n h from words none zero_is =
     let budget : h.transition.piece.certificate.budget ≡ c.budget = ap (λ (c : Cert). c.budget) h.certificate_is in
     record {
+      draft = h.draft;
       transition = h.transition;
-      code_is = h.code_is;
       certificate_is = h.certificate_is;
-      limits = h.limits;
-      few = h.few;
+      fits = h.fits;
+      operands = [];
+      progress = begun x;
+      stand = record {
+        limits = h.limits;
+        variables = h.few;
+        valid = h.valid;
+        code = h.code_is;
+        sorts = h.sorts;
+        sender = sym from;
+        brought = h.fits.brought;
+        parameters = h.fits.parameters;
+        at = (stands_at_start h.draft h.transition h.valid x h.fits).at;
+        words = words;
+      };
       left = h.transition.piece.certificate.budget;
       fuel = 512;
       budget_is = omega arith;
       fuel_is = omega arith;
       less = h.small;
-      count = none;
       safe = h.safe;
-      same = refl;
+      same = whole_is h.transition.piece.code x;
+      right = tt;
+      effects = none;
+      count = zero_is;
+      counted = zero_is;
     }
-
-pub begun_safely : (code : List Instruction) (x : Input) (c : Cert) (s : Progress) (os : List Value) → IsSafeWithin code x c s → s.count ≡ 0
-    → os ≡ [] → IsUnderWay code x c 0 (whole_run code x s) 0 os s
-begun_safely code x c s os h none e =
-    subst (λ os. IsUnderWay code x c 0 (whole_run code x s) 0 os s) (sym e) (begun_empty code x c s h none)
-
--- ---- room
-module _ (t : Transition) (limits : KeepsPieceLimits t.piece) (x : Input) (n : ℕ) where
-  -- one operand more, and the run is safe
-  more_fits : (n k : ℕ) (y : Value) (os : List Value) (s : Progress) → IsSafe t x n k (y ∷ os) s → length os < 16
-  more_fits zero k y os s h = absurd h
-  more_fits (suc n) k y os s h =
-      let deep : length (y ∷ os) ≤ t.piece.certificate.depth = h.0 in
-      let most = limits.depth in
-      omega arith
-
-  loaded_fits : (k : ℕ) (os : List Value) (s : Progress) (o : Option (Option Value)) → IsSafeAfter t (IsSafe t x n) (loaded k os s o) → length os < 16
-  loaded_fits k os s None h = absurd h
-  loaded_fits k os s (Some None) h = absurd h
-  loaded_fits k os s (Some (Some y)) h = more_fits n k y os s h
-
-  given_fits : (k : ℕ) (os : List Value) (s : Progress) (o : Option Value) → IsSafeAfter t (IsSafe t x n) (given k os s o) → length os < 16
-  given_fits k os s None h = absurd h
-  given_fits k os s (Some y) h = more_fits n k y os s h
-
-  act_fits : (i : Instruction) (k : ℕ) (os : List Value) (s : Progress) → IsTrue (grows i) → IsSafeAfter t (IsSafe t x n) (act i x k os s) → length os < 16
-  act_fits (PutInt z) k os s g h = more_fits n k _ os s h
-  act_fits (PutBool b) k os s g h = more_fits n k _ os s h
-  act_fits (Load v) k os s g h = loaded_fits k os s (slice_get s.variables v.0) h
-  act_fits (Param j) k os s g h = given_fits k os s (slice_get x.parameters.items j) h
-  act_fits _ k os s g h = cc
-
-  -- one effect more, and the run is safe
-  effect_fits : (n k : ℕ) (os : List Value) (s : Progress) (e : Effect) → IsSafe t x n k os (with_effect s e) → length s.effects < 32
-  effect_fits zero k os s e h = absurd h
-  effect_fits (suc n) k os s e h =
-      let rich : length (s.effects ++ e ∷ []) ≤ t.piece.certificate.effects = h.1 in
-      let long = length-append s.effects (e ∷ []) in
-      let most = limits.effects in
-      omega arith
-
-  sent_fits : (signal : SignalNumber) (o : Option Address) (vs : List Value) (k : ℕ) (os : List Value) (s : Progress)
-      → IsSafeAfter t (IsSafe t x n) (sent signal o vs k os s) → length s.effects < 32
-  sent_fits signal None vs k os s h = absurd h
-  sent_fits signal (Some p) vs k os s h = effect_fits n k os s (sending signal p vs) h
-
-  not_short : (b : Truth) (a : After) → IsSafeAfter t (IsSafe t x n) (if b then a else stuck Underflow) → IsSafeAfter t (IsSafe t x n) a
-  not_short true a h = h
-  not_short false a h = absurd h
-
-  effects_fit : (i : Instruction) (k : ℕ) (os : List Value) (s : Progress) → 0 < effects_of i → IsSafeAfter t (IsSafe t x n) (act i x k os s) → length s.effects < 32
-  effects_fit (Output m r c) k os s g h =
-      sent_fits m (address_of r x.sender) (reverse (take c os)) k (drop c os) s
-      (not_short (nat_le c (length os)) (sent m (address_of r x.sender) (reverse (take c os)) k (drop c os) s) h)
-  effects_fit (Set m) k [] s g h = absurd h
-  effects_fit (Set m) k (Int z ∷ os) s g h = effect_fits n k os s (effect.Set m z) h
-  effects_fit (Set m) k (Bool b ∷ os) s g h = absurd h
-  effects_fit (Reset m) k os s g h = effect_fits n k os s (effect.Reset m) h
-  effects_fit _ k os s g h = absurd (omega (arith, g))
-
-room_at : (t : Transition) (x : Input) (n k : ℕ) (os : List Value) (s : Progress) → KeepsPieceLimits t.piece → SendsFew t.piece.code → IsSafe t x n k os s
-    → HasRoom t.piece.code k os s.effects
-room_at t x zero k os s limits few h i e = absurd h
-room_at t x (suc n) k os s limits few h i e =
-    let after = subst (λ o. IsSafeAfter t (IsSafe t x n) (act_if o x (k + 1) os (tick s))) e h.2 in
-    record {
-      operands = λ g. act_fits t limits x n i (k + 1) os (tick s) g after;
-      effects = λ g. effects_fit t limits x n i (k + 1) os (tick s) g after;
-      parameters = few k i e;
-    }
-
-pub has_room : (code : List Instruction) (x : Input) (c : Cert) (taken : ℕ) (whole : Ran) (k : ℕ) (os : List Value) (s : Progress)
-    → IsUnderWay code x c taken whole k os s → HasRoom code k os s.effects
-has_room code x c taken whole k os s h =
-    subst (λ code. HasRoom code k os s.effects) h.code_is (room_at h.transition x h.left k os s h.limits h.few h.safe)
 
 -- ---- one instruction
--- the run after an instruction, where less is what is left of the budget
-pub record Stepped (code : List Instruction) (x : Input) (c : Cert) (taken : ℕ) (whole : Ran) (a : After) : Type 0 where
-  pub transition : Transition
-  pub code_is : transition.piece.code ≡ code
-  pub certificate_is : transition.piece.certificate ≡ c
-  pub limits : KeepsPieceLimits transition.piece
-  pub few : SendsFew transition.piece.code
-  pub left : ℕ
-  pub fuel : ℕ
-  pub budget_is : taken + suc left ≡ c.budget
-  pub fuel_is : taken + suc fuel ≡ 512
-  pub less : left ≤ fuel
-  pub safe : IsSafeAfter transition (IsSafe transition x left) a
-  pub same : go_on (exec code x fuel) a ≡ whole
+-- what is known after one
+pub record HasGone (p : Piece) (x : Input) (c : Cert) (taken : ℕ) (w : Words) (a : After) (es : List Effect) (n : ℕ) : Type 0 where
+  pub new : List Effect
+  pub grows : IsGrown p a.effect es new
+  pub onward : (j : ℕ) → a.next ≡ Goes j → IsUnderWay p x c (taken + 1) j w new (n + 1)
+  pub over : (e : End) → a.next ≡ Ends e → HasEnded p x c e w new (n + 1)
 
-step_by : (code : List Instruction) (x : Input) (c : Cert) (taken left fuel : ℕ) (whole : Ran) (k : ℕ) (os : List Value) (s : Progress) (t : Transition)
-    → t.piece.code ≡ code → t.piece.certificate ≡ c → KeepsPieceLimits t.piece → SendsFew t.piece.code
-    → left ≤ fuel → taken + left ≡ c.budget → taken + fuel ≡ 512 → IsSafe t x left k os s → exec code x fuel k os s ≡ whole
-    → Stepped code x c taken whole (step code x k os s)
-step_by code x c taken zero fuel whole k os s t e ce limits few le b f safe same = absurd safe
-step_by code x c taken (suc left) zero whole k os s t e ce limits few le b f safe same = absurd (omega arith)
-step_by code x c taken (suc left) (suc fuel) whole k os s t e ce limits few le b f safe same = record {
-  transition = t;
-  code_is = e;
-  certificate_is = ce;
-  limits = limits;
-  few = few;
-  left = left;
-  fuel = fuel;
-  budget_is = b;
-  fuel_is = f;
-  less = omega arith;
-  safe = subst (λ code. IsSafeAfter t (IsSafe t x left) (step code x k os s)) e safe.2;
-  same = same;
-}
+safe_few : (t : Transition) (x : Input) (left k : ℕ) (os : List Value) (s : Progress) → IsSafe t x left k os s → length s.effects ≤ t.piece.certificate.effects
+safe_few t x zero k os s h = absurd h
+safe_few t x (suc left) k os s h = h.1
 
-pub stepped : (code : List Instruction) (x : Input) (c : Cert) (taken : ℕ) (whole : Ran) (k : ℕ) (os : List Value) (s : Progress)
-    → IsUnderWay code x c taken whole k os s → Stepped code x c taken whole (step code x k os s)
-stepped code x c taken whole k os s h =
-    step_by code x c taken h.left h.fuel whole k os s h.transition h.code_is h.certificate_is h.limits h.few h.less h.budget_is h.fuel_is h.safe h.same
+grown_here : (d : Draft) (t : Transition) (p : Piece) (x : Input) (o : Option Given) (old new es : List Effect) → AreSortsOf d.signals t.process.variables p.sorts.now
+    → x.sender ≡ p.sender → AreRightEffects d t new → length new ≤ 32 → es ≡ old → Grow x.sender o old new → IsGrown p o es new
+grown_here d t p x o old new es sorts from right few same g =
+    subst (λ (u : List Effect). IsGrown p o u new) (sym same) (
+    grown d t p o old new sorts right few (subst (λ (u : Option Address). Grow u o old new) from g))
 
-pub goes_on : (code : List Instruction) (x : Input) (c : Cert) (taken : ℕ) (whole : Ran) (a : After) (j : ℕ) (os : List Value) (s : Progress)
-    → Stepped code x c taken whole a → goes j os s ≡ a → s.count ≡ taken + 1 → IsUnderWay code x c (taken + 1) whole j os s
-goes_on code x c taken whole a j os s h e count =
-    let b = h.budget_is in
-    let f = h.fuel_is in
-    record {
-      transition = h.transition;
-      code_is = h.code_is;
-      certificate_is = h.certificate_is;
-      limits = h.limits;
-      few = h.few;
-      left = h.left;
-      fuel = h.fuel;
-      budget_is = omega arith;
-      fuel_is = omega arith;
-      less = h.less;
-      count = count;
-      safe = subst (IsSafeAfter h.transition (IsSafe h.transition x h.left)) (sym e) h.safe;
-      same = ap (go_on (exec code x h.fuel)) e ∙ h.same;
-    }
+module _ (p : Piece) (x : Input) (c : Cert) (taken k : ℕ) (w : Words) (es : List Effect) (n : ℕ) (h : IsUnderWay p x c taken k w es n) where
+  most_effects : h.transition.piece.certificate.effects ≤ 32
+  most_effects = ((h.stand.valid.limit 0).piece refl).effects
 
-pub ends_so : (code : List Instruction) (x : Input) (c : Cert) (taken : ℕ) (whole : Ran) (a : After) (q : End) (s : Progress)
-    → Stepped code x c taken whole a → ends q s ≡ a → whole ≡ ended q s
-ends_so code x c taken whole a q s h e = sym h.same ∙ sym (ap (go_on (exec code x h.fuel)) e)
+  gone_by : (w' : Words) (a : After) (left fuel : ℕ) (g : Tagged) → taken + suc left ≡ c.budget → taken + suc fuel ≡ 512 → left ≤ fuel
+      → Follows h.draft h.transition p x h.progress a w' g → IsSafeAfter h.transition (IsSafe h.transition x left) g
+      → go_on (exec h.transition.piece.code x fuel) g ≡ run h.transition.piece.code x → EffectsAre (AreRightEffects h.draft h.transition) g
+      → CountIs (h.progress.count + 1) g → HasGone p x c taken w' a es n
+  gone_by w' a left fuel (goes j os s) budget fuel_is less f safe same right count =
+      let rich : length s.effects ≤ h.transition.piece.certificate.effects = safe_few h.transition x left j os s safe in
+      let most = most_effects in
+      let few : length s.effects ≤ 32 = omega arith in
+      let was : n ≡ h.progress.count = h.count in
+      let took : n ≡ taken = h.counted in
+      let now : s.count ≡ h.progress.count + 1 = count in
+      let further : IsUnderWay p x c (taken + 1) j w' s.effects (n + 1) = record {
+        draft = h.draft;
+        transition = h.transition;
+        certificate_is = h.certificate_is;
+        fits = h.fits;
+        operands = os;
+        progress = s;
+        stand = f.2;
+        left = left;
+        fuel = fuel;
+        budget_is = omega arith;
+        fuel_is = omega arith;
+        less = less;
+        safe = safe;
+        same = same;
+        right = right;
+        effects = refl;
+        count = omega arith;
+        counted = omega arith;
+      } in
+      record {
+        new = s.effects;
+        grows = grown_here h.draft h.transition p x a.effect h.progress.effects s.effects es h.stand.sorts h.stand.sender right few h.effects f.1;
+        onward = λ i e. let there : j ≡ i = cc in subst (λ (u : ℕ). IsUnderWay p x c (taken + 1) u w' s.effects (n + 1)) there further;
+        over = λ q e. cc;
+      }
+  gone_by w' a left fuel (ends q s) budget fuel_is less f safe same right count =
+      let rich : length s.effects ≤ h.transition.piece.certificate.effects = safe.effects in
+      let most = most_effects in
+      let few : length s.effects ≤ 32 = omega arith in
+      let was : n ≡ h.progress.count = h.count in
+      let took : n ≡ taken = h.counted in
+      let now : s.count ≡ h.progress.count + 1 = count in
+      let effects_is : h.transition.piece.certificate.effects ≡ c.effects = ap (λ (c : Cert). c.effects) h.certificate_is in
+      let long = zip_length HasSort h.transition.process.variables s.variables safe.variables in
+      let first = zip_length HasSort h.transition.process.variables x.variables.items h.fits.variables in
+      let done : HasEnded p x c q w' s.effects (n + 1) = record {
+        progress = s;
+        ran = ap (λ u. run u x) (sym h.stand.code) ∙ sym same;
+        effects = refl;
+        count = omega arith;
+        within = omega arith;
+        few = omega arith;
+        variables = variables_told (bare_of w') h.transition.process.variables s.variables p.sorts.now.variables f.2.1.variables safe.variables h.stand.sorts.variables;
+        long = omega arith;
+      } in
+      record {
+        new = s.effects;
+        grows = grown_here h.draft h.transition p x a.effect h.progress.effects s.effects es h.stand.sorts h.stand.sender right few h.effects f.1;
+        onward = λ i e. cc;
+        over = λ e is. let same_end : q ≡ e = cc in subst (λ (u : End). HasEnded p x c u w' s.effects (n + 1)) same_end done;
+      }
+  gone_by w' a left fuel (stuck z) budget fuel_is less f safe same right count = absurd f
 
-pub ends_within : (code : List Instruction) (x : Input) (c : Cert) (taken : ℕ) (whole : Ran) (a : After) (q : End) (s : Progress)
-    → Stepped code x c taken whole a → ends q s ≡ a → length s.effects ≤ c.effects
-ends_within code x c taken whole a q s h e =
-    let well : EndsWell h.transition q s = subst (IsSafeAfter h.transition (IsSafe h.transition x h.left)) (sym e) h.safe in
-    subst (λ (c : Cert). length s.effects ≤ c.effects) h.certificate_is well.effects
+  right_after : EffectsAre (AreRightEffects h.draft h.transition) (step h.transition.piece.code x k h.operands h.progress)
+  right_after =
+      let i = code_at h.draft h.transition h.stand.valid k h.stand.at.facts h.stand.at.is in
+      let own : EffectsAre (AreRightEffects h.draft h.transition) (act i.0 x (k + 1) h.operands (tick h.progress)) =
+      act_keeps (AreRightEffects h.draft h.transition) i.0 x (k + 1) h.operands (tick h.progress) h.right
+      (adds h.draft h.transition h.stand.valid x h.fits k h.operands h.progress h.stand.at i.0 i.1 h.right) in
+      subst (λ o. EffectsAre (AreRightEffects h.draft h.transition) (act_if o x (k + 1) h.operands (tick h.progress))) (sym i.1) own
 
-pub never_stuck : (code : List Instruction) (x : Input) (c : Cert) (taken : ℕ) (whole : Ran) (a : After) (z : Trouble)
-    → Stepped code x c taken whole a → stuck z ≡ a → ⊥
-never_stuck code x c taken whole a z h e = subst (IsSafeAfter h.transition (IsSafe h.transition x h.left)) (sym e) h.safe
+  gone_at : (w' : Words) (a : After) (left fuel : ℕ) → taken + left ≡ c.budget → taken + fuel ≡ 512 → left ≤ fuel
+      → IsStep p k w a w' → IsSafe h.transition x left k h.operands h.progress
+      → exec h.transition.piece.code x fuel k h.operands h.progress ≡ run h.transition.piece.code x → HasGone p x c taken w' a es n
+  gone_at w' a zero fuel budget fuel_is less is safe same = absurd safe
+  gone_at w' a (suc left) zero budget fuel_is less is safe same = absurd (omega arith)
+  gone_at w' a (suc left) (suc fuel) budget fuel_is less is safe same =
+      gone_by w' a left fuel (step h.transition.piece.code x k h.operands h.progress) budget fuel_is (omega arith)
+      (is h.draft h.transition x h.operands h.progress h.stand) safe.2 same right_after (step_count h.transition.piece.code x k h.operands h.progress)
+
+  pub gone : (w' : Words) (a : After) → IsStep p k w a w' → HasGone p x c taken w' a es n
+  gone w' a is = gone_at w' a h.left h.fuel h.budget_is h.fuel_is h.less is h.safe h.same
+
+  -- the words stand for values there
+  pub stands : StandAt p k w
+  stands = record {
+    draft = h.draft;
+    transition = h.transition;
+    input = x;
+    operands = h.operands;
+    progress = h.progress;
+    stand = h.stand;
+  }
+
+  -- there are such effects
+  pub can_grow : (w' : Words) (a : After) → IsStep p k w a w' → CanGrow p a.effect es
+  can_grow w' a is = let g = gone w' a is in (g.new, g.grows)
+
+  pub goes_on : (w' : Words) (a : After) (es' : List Effect) (n' j : ℕ) → IsStep p k w a w' → ((u : List Effect) → IsGrown p a.effect es u → es' ≡ u)
+      → n' ≡ n + 1 → a.next ≡ Goes j → IsUnderWay p x c (taken + 1) j w' es' n'
+  goes_on w' a es' n' j is one more next =
+      let g = gone w' a is in
+      subst (λ (m : ℕ). IsUnderWay p x c (taken + 1) j w' es' m) (sym more) (
+      subst (λ (u : List Effect). IsUnderWay p x c (taken + 1) j w' u (n + 1)) (sym (one g.new g.grows)) (g.onward j next))
+
+  pub ends_so : (w' : Words) (a : After) (es' : List Effect) (n' : ℕ) (e : End) → IsStep p k w a w' → ((u : List Effect) → IsGrown p a.effect es u → es' ≡ u)
+      → n' ≡ n + 1 → a.next ≡ Ends e → HasEnded p x c e w' es' n'
+  ends_so w' a es' n' e is one more next =
+      let g = gone w' a is in
+      subst (λ (m : ℕ). HasEnded p x c e w' es' m) (sym more) (
+      subst (λ (u : List Effect). HasEnded p x c e w' u (n + 1)) (sym (one g.new g.grows)) (g.over e next))
 
 -- a run that took its whole budget is over
-pub not_over : (code : List Instruction) (x : Input) (c : Cert) (whole : Ran) (k : ℕ) (os : List Value) (s : Progress)
-    → IsUnderWay code x c c.budget whole k os s → ⊥
-not_over code x c whole k os s h =
-    let n = stepped code x c c.budget whole k os s h in
-    let b = n.budget_is in
-    omega arith
+pub not_over : (p : Piece) (x : Input) (c : Cert) (k : ℕ) (w : Words) (es : List Effect) (n : ℕ) → IsUnderWay p x c c.budget k w es n → ⊥
+not_over p x c k w es n h = by h.left h.budget_is h.safe
+  where
+    by : (left : ℕ) → c.budget + left ≡ c.budget → IsSafe h.transition x left k h.operands h.progress → ⊥
+    by zero e safe = safe
+    by (suc left) e safe = absurd (omega arith)
+
+-- ---- what a machine has at the end
+pub progress_made : (s : Progress) (vs : List (Option Value)) (es : List Effect) (n : ℕ) → vs ≡ s.variables → es ≡ s.effects → n ≡ s.count
+    → s ≡ record { variables = vs; effects = es; count = n }
+progress_made s vs es n v e c =
+    let with : List (Option Value) → List Effect → ℕ → Progress = λ a b m. record { variables = a; effects = b; count = m } in
+    sym (ap (λ a. with a es n) v ∙ ap (λ b. with s.variables b n) e ∙ ap (λ m. with s.variables s.effects m) c)

@@ -1,6 +1,8 @@
 pub mod Turn
 pub mod Given
 pub mod Fitting
+pub mod Wording
+pub mod Growing
 pub mod Safety
 pub mod Ends
 pub use Rattle.turn_check.specs.Answered

@@ -1,41 +1,70 @@
--- Code that runs to its end.
-use Rattle.std.specs.Prelude.{◌≡◌, ℕ, ◌+◌, ◌≤◌, List, []}
-use Rattle.profile_limits.specs.Limits.{MOST_INSTRUCTIONS}
-use Rattle.turn_code.specs.Run.{Progress, Ran, exec}
+-- Code that runs to its end, on words.
+use Rattle.std.specs.Prelude.{◌≡◌, ℕ, ◌+◌, ◌≤◌, List, [], length}
+use Rattle.turn_check.specs.Limits.{MOST_INSTRUCTIONS, MOST_VARIABLES}
+use Rattle.turn_code.specs.Run.{Progress, exec, run, ended, begun}
 use Rattle.turn_code.specs.Transitions.{Transition}
-use Rattle.turn_code.specs.Rules.{KeepsPieceLimits}
-use Rattle.turn_code.specs.Safe.{IsSafe, SendsFew}
+use Rattle.turn_code.specs.Rules.{KeepsSetLimits}
+use Rattle.turn_code.specs.Valid.{IsValidTransition}
+use Rattle.turn_code.specs.Fits.{FitsTransition}
+use Rattle.turn_code.specs.Effects.{AreRightEffects}
+use Rattle.turn_code.specs.Safe.{IsSafe}
 use Rattle.turn_code.specs.declared.value.Value.{Value}
+use Rattle.turn_code.specs.declared.effect.Effect.{Effect}
 use Rattle.turn_code.specs.declared.input.Input.{Input}
 use Rattle.turn_code.specs.declared.instruction.Instruction.{Instruction}
+use Rattle.turn_code.specs.declared.machine.End.{End}
 use Rattle.turn_code.specs.declared.draft.Cert.{Cert}
+use Rattle.turn_code.specs.declared.draft.Draft.{Draft}
+use Rattle.turn_check.specs.bare_words_types.piece.Piece.{Piece}
+use Rattle.turn_check.specs.bare_words_types.sorts.Sorts.{Sorts}
+use Rattle.turn_check.specs.bare_words_types.words.Words.{Words}
+use Rattle.turn_check.specs.Bare.{bare_of}
+use Rattle.turn_check.specs.Sorts.{AreSortsOf}
+use Rattle.turn_check.specs.Steps.{Stand}
+use Rattle.turn_machine.specs.Wording.{AreVariables}
 
--- as many instructions as a turn may run, from the first on, with no operand
-unfoldable pub whole_run : List Instruction → Input → Progress → Ran
-whole_run code x s = exec code x MOST_INSTRUCTIONS 0 [] s
-
--- the code and its counts are those of a transition within the limits, whose run from here is safe within its budget
-pub record IsSafeWithin (code : List Instruction) (x : Input) (c : Cert) (s : Progress) : Type 0 where
+-- the code and its counts are those of a valid transition, the input fits it, the sorts are its own, and its run is safe within its budget
+pub record IsSafeWithin (code : List Instruction) (x : Input) (s : Sorts) (c : Cert) : Type 0 where
+  pub draft : Draft
   pub transition : Transition
+  pub limits : KeepsSetLimits draft
+  pub valid : IsValidTransition draft transition
+  pub few : length transition.process.variables ≤ MOST_VARIABLES
   pub code_is : transition.piece.code ≡ code
   pub certificate_is : transition.piece.certificate ≡ c
-  pub limits : KeepsPieceLimits transition.piece
-  pub few : SendsFew transition.piece.code
+  pub sorts : AreSortsOf draft.signals transition.process.variables s
+  pub fits : FitsTransition draft transition x
   pub small : transition.piece.certificate.budget ≤ MOST_INSTRUCTIONS
-  pub safe : IsSafe transition x transition.piece.certificate.budget 0 [] s
+  pub safe : IsSafe transition x transition.piece.certificate.budget 0 [] (begun x)
 
--- a run that is at place k, which took so many instructions and goes on as the whole does
-pub record IsUnderWay (code : List Instruction) (x : Input) (c : Cert) (taken : ℕ) (whole : Ran) (k : ℕ) (os : List Value) (s : Progress) : Type 0 where
+-- a run that is at place k, which took so many instructions and goes on as the whole does: its words, effects and count are those of a run on values
+pub record IsUnderWay (p : Piece) (x : Input) (c : Cert) (taken k : ℕ) (w : Words) (es : List Effect) (n : ℕ) : Type 0 where
+  pub draft : Draft
   pub transition : Transition
-  pub code_is : transition.piece.code ≡ code
   pub certificate_is : transition.piece.certificate ≡ c
-  pub limits : KeepsPieceLimits transition.piece
-  pub few : SendsFew transition.piece.code
+  pub fits : FitsTransition draft transition x
+  pub operands : List Value
+  pub progress : Progress
+  pub stand : Stand draft transition p k w x operands progress
   pub left : ℕ
   pub fuel : ℕ
   pub budget_is : taken + left ≡ c.budget
   pub fuel_is : taken + fuel ≡ MOST_INSTRUCTIONS
   pub less : left ≤ fuel
-  pub count : s.count ≡ taken
-  pub safe : IsSafe transition x left k os s
-  pub same : exec code x fuel k os s ≡ whole
+  pub safe : IsSafe transition x left k operands progress
+  pub same : exec transition.piece.code x fuel k operands progress ≡ run transition.piece.code x
+  pub right : AreRightEffects draft transition progress.effects
+  pub effects : es ≡ progress.effects
+  pub count : n ≡ progress.count
+  pub counted : n ≡ taken
+
+-- a run that has ended so: its effects and its count are those of the run on values, within the certificate, and the words stand for its variables
+pub record HasEnded (p : Piece) (x : Input) (c : Cert) (e : End) (w : Words) (es : List Effect) (n : ℕ) : Type 0 where
+  pub progress : Progress
+  pub ran : run p.code.now x ≡ ended e progress
+  pub effects : es ≡ progress.effects
+  pub count : n ≡ progress.count
+  pub within : n ≤ c.budget
+  pub few : length es ≤ c.effects
+  pub variables : AreVariables (bare_of w) p.sorts.now.variables progress.variables
+  pub long : length progress.variables ≡ length x.variables.items

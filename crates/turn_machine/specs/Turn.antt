@@ -1,5 +1,8 @@
 -- A turn, as contracts see a job, and a job that ran.
 use Rattle.std.specs.Prelude.{◌≡◌, ℕ, ◌≤◌, List, length, Option, Some}
+use Rattle.turn_check.specs.Limits.{MOST_VARIABLES}
+use Rattle.turn_check.specs.Sorts.{AreSortsOf}
+use Rattle.turn_check.specs.bare_words_types.sorts.Sorts.{Sorts}
 use Rattle.turn_code.specs.Run.{run, ended}
 use Rattle.turn_code.specs.Transitions.{Transition, transition_at}
 use Rattle.turn_code.specs.Rules.{KeepsSetLimits}
@@ -49,6 +52,12 @@ pub record IsRunnable (j : Turn) : Type 0 where
   pub code : transition.piece.code ≡ j.code
   pub certificate : transition.piece.certificate ≡ j.certificate
   pub fits : FitsTransition draft transition j.input
+
+-- so with the sorts of its draft's signals, and of its process's variables, which are not too many
+pub record IsRunnableBy (j : Turn) (s : Sorts) : Type 0 where
+  pub runnable : IsRunnable j
+  pub few : length runnable.transition.process.variables ≤ MOST_VARIABLES
+  pub sorts : AreSortsOf runnable.draft.signals runnable.transition.process.variables s
 
 -- the outcome of the run of a turn's own code on its own input
 abbrev pub outcome_of : Turn → Option Outcome

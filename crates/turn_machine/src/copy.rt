@@ -1,7 +1,7 @@
 //! Copies that take no memory.
 
 ghost use Rattle.std.specs.Prelude.{◌≡◌, ◌≤◌, length};
-ghost use Rattle.profile_limits.specs.Limits.{MOST_INSTRUCTIONS};
+ghost use Rattle.turn_check.specs.Limits.{MOST_INSTRUCTIONS};
 
 use arrayvec::ArrayVec;
 use turn_code::{Effect, Instruction};

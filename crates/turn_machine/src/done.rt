@@ -39,7 +39,13 @@ pub fn run(job: Job) -> Done
 {
     safe_law();
     let mut machine = new_machine();
-    let end = run_code(job.code(), job.input(), job.certificate(), &mut machine);
+    let end = run_code(
+        job.code(),
+        job.input(),
+        job.sorts(),
+        job.certificate(),
+        &mut machine,
+    );
     let Machine {
         operands: _,
         variables,

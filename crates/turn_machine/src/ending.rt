@@ -3,15 +3,17 @@
 ghost use Rattle.std.specs.Prelude.{◌≡◌, ◌≤◌, [], length};
 ghost use Rattle.turn_code.specs.Fits.{Fits};
 ghost use Rattle.turn_code.specs.Machine.{progress_of};
-ghost use Rattle.turn_code.specs.Run.{begun, run, ended};
+ghost use Rattle.turn_code.specs.Run.{run, ended};
 ghost use Rattle.turn_machine.specs.Ends.{EndsSo};
 ghost use Rattle.turn_machine.specs.Safety.{IsSafeWithin};
 
 use crate::execute::execute;
+use crate::values::set_variables;
+use crate::wording::words_of;
 use arrayvec::ArrayVec;
-use turn_check::Verified;
+use turn_check::{Piece, Sorts, Verified};
 use turn_code::laws::safe_law;
-use turn_code::{Cert, End, Input, Instruction, Machine, Operands, Place, ProcessNumber, Value};
+use turn_code::{Cert, End, Input, Instruction, Machine, Operands, Place, ProcessNumber};
 
 /// A machine that has run nothing yet. It may serve one run after another: each begins it anew.
 pub fn new_machine() -> Machine
@@ -45,6 +47,7 @@ pub fn run_in(
         Some(transition) => run_code(
             transition.piece.code.as_slice(),
             input,
+            &verified.sorts(process),
             transition.piece.certificate,
             machine,
         ),
@@ -52,37 +55,37 @@ pub fn run_in(
     }
 }
 
-/// Runs code with these counts from its first instruction to its end, on an input.
+/// Runs code with these counts from its first instruction to its end, on an input: on words, of which the machine gets the variables as it ends.
 pub(crate) fn run_code(
     code: &[Instruction],
     input: &Input,
+    sorts: &Sorts,
     certificate: Cert,
     machine: &mut Machine,
 ) -> End
-    requires { IsSafeWithin code.now input.now certificate (begun input.now) }
+    requires { IsSafeWithin code.now input.now sorts.now certificate }
     ensures ran { run code.now input.now ≡ ended result (progress_of machine.new) }
     ensures within { machine.new.count ≤ certificate.budget }
     ensures few { length machine.new.effects.items ≤ certificate.effects }
 {
-    begin(machine, input);
-    execute(code, input, certificate, machine)
+    begin(machine);
+    let piece = Piece {
+        code,
+        sender: input.sender,
+        sorts,
+    };
+    let mut words = words_of(input);
+    let end = execute(&piece, input, certificate, &mut words, machine);
+    let count = input.variables.len() as u8;
+    set_variables(&mut machine.variables, &words, sorts.variables, count);
+    end
 }
 
 /// A run begins.
-fn begin(machine: &mut Machine, input: &Input)
-    ensures operands { machine.new.operands ≡ [] }
-    ensures progress { progress_of machine.new ≡ begun input.now }
+fn begin(machine: &mut Machine)
+    ensures effects { machine.new.effects.items ≡ [] }
+    ensures count { machine.new.count ≡ 0 }
 {
-    machine.operands = Operands::new();
-    set_variables(&mut machine.variables, &input.variables);
     machine.effects.clear();
     machine.count = 0;
-}
-
-/// The variables become those of an input.
-fn set_variables(variables: &mut ArrayVec<Option<Value>, 32>, to: &ArrayVec<Option<Value>, 32>)
-    ensures { variables.new.items ≡ to.now.items }
-{
-    variables.clear();
-    variables.try_extend_from_slice(to.as_slice()).unwrap();
 }

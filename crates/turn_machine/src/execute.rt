@@ -1,35 +1,51 @@
 //! The loop over the instructions of a piece.
 
-ghost use Rattle.std.specs.Prelude.{◌≡◌, ◌≤◌, [], length};
-ghost use Rattle.turn_code.specs.Run.{ended};
-ghost use Rattle.turn_code.specs.Machine.{progress_of};
-ghost use Rattle.turn_machine.specs.Safety.{IsSafeWithin, whole_run};
+ghost use Rattle.std.specs.Prelude.{◌≡◌, List};
+ghost use Rattle.turn_code.specs.declared.effect.Effect.{Effect as AnyEffect};
+ghost use Rattle.turn_machine.specs.Growing.{CanGrow, IsGrown};
+ghost use Rattle.turn_machine.specs.Safety.{IsUnderWay, HasEnded};
 
-use turn_code::{After, Cert, End, Input, Instruction, Machine, step_plain};
+use arrayvec::ArrayVec;
+use turn_check::{Given, Next, Piece, Words, step_bare};
+use turn_code::{Cert, Effect, End, Input, Machine};
 
-/// Runs code with these counts from its first instruction to its end, on an input. The machine has no operand and took
-/// no instruction yet.
+/// Runs a piece with these counts from its first instruction to its end, on the words of an input. The machine has no effect and took no instruction yet; it
+/// gets those of the run.
 pub(crate) fn execute(
-    code: &[Instruction],
+    piece: &Piece<'_>,
     input: &Input,
     certificate: Cert,
+    words: &mut Words,
     machine: &mut Machine,
 ) -> End
-    requires operands { machine.old.operands ≡ [] }
-    requires count { machine.old.count ≡ 0 }
-    requires safe { IsSafeWithin code.now input.now certificate (progress_of machine.old) }
-    ensures ran { whole_run code.now input.now (progress_of machine.old) ≡ ended result (progress_of machine.new) }
-    ensures within { machine.new.count ≤ certificate.budget }
-    ensures few { length machine.new.effects.items ≤ certificate.effects }
+    requires { IsUnderWay piece.now input.now certificate 0 0 words.old machine.old.effects.items machine.old.count }
+    ensures { HasEnded piece.now input.now certificate result words.new machine.new.effects.items machine.new.count }
 {
+    let _ = input;
     let mut place = 0;
     for taken in 0..certificate.budget {
         let _ = taken;
-        match step_plain(code, input, place, machine) {
-            After::Goes(next) => place = next,
-            After::Ends(end) => return end,
-            After::Stuck(_) => unreachable!(),
+        let after = step_bare(piece, place, words);
+        machine.count += 1;
+        give(&mut machine.effects, after.effect, piece);
+        match after.next {
+            Next::Goes(next) => place = next,
+            Next::Ends(end) => return end,
         }
     }
     unreachable!()
+}
+
+/// Adds the effect that was given out, if one was.
+fn give(effects: &mut ArrayVec<Effect, 32>, given: Option<Given>, piece: &Piece<'_>)
+    requires { CanGrow piece.now given effects.old.items }
+    ensures { (es : List AnyEffect) → IsGrown piece.now given effects.old.items es → effects.new.items ≡ es }
+{
+    match given {
+        Some(given) => {
+            let effect = piece.sorts.effect(given, piece.sender);
+            effects.push(effect);
+        }
+        None => {}
+    }
 }

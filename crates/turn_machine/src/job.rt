@@ -3,17 +3,17 @@
 ghost use Rattle.std.specs.Prelude.{◌≡◌, ⊤};
 ghost use Rattle.turn_code.specs.Fits.{Fits};
 ghost use Rattle.turn_machine.specs.Given.{input_of};
-ghost use Rattle.turn_machine.specs.Turn.{Begins, IsRunnable};
+ghost use Rattle.turn_machine.specs.Turn.{Begins, IsRunnable, IsRunnableBy};
 
 use crate::copy::copied_code;
 use crate::received::Received;
 use arrayvec::ArrayVec;
 use std::alloc::AllocError;
 use std::marker::Model;
-use turn_check::Verified;
+use turn_check::{Sorts, Verified};
 use turn_code::{Cert, Input, Instruction, Place, ProcessNumber, Value};
 
-/// A transition that is to run, with all that it needs: its code by value, and an input that fits it.
+/// A transition that is to run, with all that it needs: its code and the sorts of what it names by value, and an input that fits it.
 #[derive(Drop)]
 pub struct Job {
     actor: u16,
@@ -23,17 +23,18 @@ pub struct Job {
     input_number: usize,
     code: ArrayVec<Instruction, 512>,
     certificate: Cert,
+    sorts: Sorts,
     input: Input,
 }
 
 impl Model for Job {
-    ghost use Rattle.turn_machine.specs.Turn.{Turn, IsRunnable, turn_of};
+    ghost use Rattle.turn_machine.specs.Turn.{Turn, IsRunnableBy, turn_of};
 
     ghost Value = { Turn };
 
     ghost view = { λ j. turn_of j.actor j.turn j.process j.place j.input_number j.code.items j.certificate j.input };
 
-    ghost invariant = { λ j. IsRunnable (turn_of j.actor j.turn j.process j.place j.input_number j.code.items j.certificate j.input) };
+    ghost invariant = { λ j. IsRunnableBy (turn_of j.actor j.turn j.process j.place j.input_number j.code.items j.certificate j.input) j.sorts };
 }
 
 impl Job {
@@ -66,6 +67,7 @@ impl Job {
                 input_number,
                 code: copied_code(transition.piece.code.as_slice()),
                 certificate: transition.piece.certificate,
+                sorts: verified.sorts(process),
                 input,
             },
             None => unreachable!(),
@@ -121,6 +123,13 @@ impl Job {
         self.certificate
     }
 
+    /// Which parameters of the set's signals, and which variables of the process, are Booleans.
+    pub(crate) fn sorts(&self) -> &Sorts
+        ensures { IsRunnableBy self.now result.now }
+    {
+        &self.sorts
+    }
+
     /// The input.
     pub fn input(&self) -> &Input
         ensures value { result.now ≡ self.now.input }
@@ -141,6 +150,7 @@ impl Job {
             input_number: self.input_number,
             code: copied_code(self.code.as_slice()),
             certificate: self.certificate,
+            sorts: self.sorts,
             input: self.input.copy(),
         }
     }

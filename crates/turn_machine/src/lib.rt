@@ -9,9 +9,12 @@ mod execute;
 mod fit;
 mod job;
 mod received;
+mod values;
+mod wording;
 
 pub use done::{Done, run};
 pub use ending::{new_machine, run_in};
 pub use fit::fits;
 pub use job::Job;
 pub use received::Received;
+pub use turn_check::{After, Given, Next, Piece, Sorts, Words, step_bare, value_of};

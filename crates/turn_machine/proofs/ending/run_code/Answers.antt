@@ -1,8 +1,18 @@
-use Rattle.turn_code.specs.Machine.{progress_of}
-use Rattle.turn_machine.proofs.Jobs.{run_from}
+use Rattle.std.proofs.Common.{◌≡◌, refl, sym, ap, ◌∙◌}
+use Rattle.turn_code.specs.Run.{ended}
+use Rattle.turn_machine.proofs.UnderWay.{begun_so, progress_made}
 use Rattle.turn_machine.proofs.ending.run_code.Goals as goal
+
+pub execute-end-requires : goal.execute-end-requires
+execute-end-requires c =
+    begun_so (record { code = c.args.code; sender = c.args.input.now.sender; sorts = c.args.sorts }) c.args.input.now c.args.certificate c.words_of-words.result
+    c.begin.new.machine.effects.items c.begin.new.machine.count c.requires refl c.words_of-words.ensures c.begin.ensures.effects c.begin.ensures.count
 
 pub returns-clause-ran : goal.returns-clause-ran
 returns-clause-ran c =
-    run_from c.args.code.now c.args.input.now (progress_of c.begin.new.machine) (progress_of c.execute.new.machine) c.execute.result
-    c.begin.ensures.progress c.execute.ensures.ran
+    let h = c.execute-end.ensures in
+    let variables : c.set_variables.new.variables.items ≡ h.progress.variables =
+    c.set_variables.ensures h.progress.variables (h.long ∙ sym c.len-count.ensures.value) h.variables in
+    h.ran
+    ∙ ap (λ s. ended c.execute-end.result s)
+    (progress_made h.progress c.set_variables.new.variables.items c.execute-end.new.machine.effects.items c.execute-end.new.machine.count variables h.effects h.count)

@@ -13,5 +13,5 @@ copied_code-requires c =
 pub invariant_of-result : goal.invariant_of-result
 invariant_of-result c =
     job_runs c.args.verified.now c.args.actor c.args.turn c.args.process c.args.place c.args.input_number
-    (input_of c.args.variables c.args.received) (seen c.in-Some.transition) c.copied_code.result.items c.draft.ensures.valid c.in-Some.ensures
-    c.requires (c.copied_code.ensures ∙ c.as_slice.ensures)
+    (input_of c.args.variables c.args.received) (seen c.in-Some.transition) c.copied_code.result.items c.sorts.result c.draft.ensures.valid
+    c.in-Some.ensures c.requires (c.copied_code.ensures ∙ c.as_slice.ensures) c.sorts.ensures

@@ -1,6 +1,6 @@
 //! Streams of orders, read in parts of some sizes.
-use crate::LineOrders;
 use line_filter::Orders;
+use line_orders::LineOrders;
 use std::alloc::Global;
 use std::io::{self, ErrorKind, Read};
 
