@@ -166,11 +166,13 @@ impl Tally {
 
 /// Whether both have the same effects.
 fn same_effects(one: &[Effect], other: &[Effect]) -> bool {
-    match (one, other) {
-        ([], []) => true,
-        ([effect, one @ ..], [like, other @ ..]) => effect.same(like) && same_effects(one, other),
-        _ => false,
+    for place in 0..one.len() {
+        match other.get(place) {
+            Some(like) if one[place].same(like) => {}
+            _ => return false,
+        }
     }
+    one.len() == other.len()
 }
 
 /// Whether both have the same variables, effects and count.
