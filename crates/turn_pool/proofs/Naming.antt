@@ -1,6 +1,7 @@
--- A turn that began and is out has a name.
+-- A turn that began is out, and has a name.
 use Rattle.std.proofs.Common.{◌≡◌, ℕ, Option, Some, None, refl, sym, ap, ◌∙◌, subst}
-use Rattle.std.specs.Prelude.{IsSome, option_map, slice_get}
+use Rattle.std.specs.Prelude.{IsSome, Ok, is_some, option_map, slice_get}
+use Rattle.std.proofs.lemmas.Bool.{false≢true}
 use Rattle.std.proofs.lemmas.Option.{none-some}
 use Rattle.turn_machine.specs.Turn.{Turn}
 use Rattle.link_machine.specs.actor_names_types.name.ActorName.{ActorName}
@@ -9,9 +10,13 @@ use Rattle.link_machine.specs.Ledger.{Ledger, state_of, turn_at, turn_out}
 use Rattle.link_machine.specs.declared.actor.Actor.{Actor}
 use Rattle.link_machine.proofs.FitsLists.{name_there}
 use Rattle.actor_book.proofs.Ending.{own_actor}
-use Rattle.turn_pool.specs.Turns.{told_of, told, NamesBegun}
+use Rattle.turn_pool.specs.Moves.{Moves}
+use Rattle.turn_pool.specs.Turns.{told_of, told, NamesBegun, IsNamed}
 use Rattle.turn_pool.specs.declared.gate.JobName.{JobName}
+use Rattle.turn_pool.specs.declared.moves.Move.{Move}
+use Rattle.turn_pool.specs.declared.moves.Move.TheVariants as move
 use Rattle.turn_pool.specs.declared.moves.Moved.{Moved}
+use Rattle.turn_pool.specs.declared.moves.Moved.TheVariants as moved
 
 -- whoever has a turn out is there
 actor_there : (b : Ledger) (n : ℕ) (t : Turn) (o : Option Actor) → slice_get (state_of b).actors n ≡ o → turn_at b.set n o ≡ Some t
@@ -32,3 +37,18 @@ named link b n t h =
 
 pub begun_named : (link : ℕ) (b : Ledger) (m : Moved) → NamesBegun b m (told link b m)
 begun_named link b m n job is out = subst (λ (x : Moved). IsSome (told link b x)) (sym is) (named link b n job out)
+
+-- ---- a step
+
+begun_out : (b c : Ledger) (s : Move) (job : Turn) → Moves b s (moved.Begun (Ok job)) c → (n : ℕ) × (turn_out c n ≡ Some job)
+begun_out b c (move.Begin n) job h = (n, h.job)
+begun_out b c (move.Skip n) job h = absurd h
+begun_out b c (move.Finish done) job h = absurd h
+
+pub step_named : (b c : Ledger) (s : Move) (m : Moved) (name : Option JobName) → Moves b s m c → NamesBegun c m name → IsNamed m name
+step_named b c s m name moves begun = λ job is.
+    let out = begun_out b c s job (subst (λ (x : Moved). Moves b s x c) is moves) in
+    begun out.0 job is out.1
+
+pub no_name : (m : Moved) (job : Turn) (name : Option JobName) → IsNamed m name → m ≡ moved.Begun (Ok job) → name ≡ None → ⊥
+no_name m job name named is none = false≢true (sym (ap (λ (o : Option JobName). is_some o) none) ∙ named job is)

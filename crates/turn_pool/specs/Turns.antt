@@ -50,3 +50,7 @@ told link b (moved.Finished answer) = None
 -- where a step began a turn that is out there is a name
 abbrev pub NamesBegun : Ledger → Moved → Option JobName → Type 0
 NamesBegun b m name = (n : ℕ) (job : Turn) → m ≡ moved.Begun (Ok job) → turn_out b n ≡ Some job → IsSome name
+
+-- a turn that a step began has a name
+abbrev pub IsNamed : Moved → Option JobName → Type 0
+IsNamed m name = (job : Turn) → m ≡ moved.Begun (Ok job) → IsSome name

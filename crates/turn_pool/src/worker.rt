@@ -1,13 +1,14 @@
 //! Workers.
 
-ghost use Rattle.std.specs.Prelude.{◌≡◌};
-ghost use Rattle.turn_pool.specs.Turns.{move_by, IsNext, told_of, told, NamesBegun};
+ghost use Rattle.std.specs.Prelude.{◌≡◌, IfSome};
+ghost use Rattle.turn_pool.specs.Turns.{move_by, IsNext, told_of, told, NamesBegun, IsNamed};
 
 use crate::gate::{Gate, JobName};
 use crate::moves::{Move, Moved, work};
 use crate::pool::Pool;
+use crate::slot::Slot;
 use actor_book::{Book, Refusal};
-use event_seats::Seat;
+use event_seats::{Counts, Seat};
 use std::sync::Wait;
 use std::sync::ledger::Ledger;
 use std::thread;
@@ -82,19 +83,35 @@ fn told_in(link: usize, book: &Book, moved: &Moved) -> Option<JobName>
     }
 }
 
+/// Does one step on a link that is lent: what the book answered, and what a gate is told of a turn that began.
+fn step_on<L: Ledger, T: Counts<L>>(
+    slot: &mut Slot<L>,
+    seat: &mut Seat<L>,
+    totals: &mut T,
+    link: usize,
+    step: Move,
+) -> (Moved, Option<JobName>)
+    ensures value { result.1 ≡ told link slot.new.book result.0 }
+    ensures named { IsNamed result.0 result.1 }
+{
+    let moved = work(slot, seat, totals, step);
+    let name = name_in(link, slot.book(), &moved);
+    (moved, name)
+}
+
 /// Does one step on a link, under its lock, if an actor there can do something: what the book answered, and what a gate is told of a turn that
 /// began.
 fn step<R: Wait, L: Ledger>(
     pool: &Pool<'_, R, L>,
     seat: &mut Seat<L>,
     link: usize,
-) -> Option<(Moved, Option<JobName>)> {
+) -> Option<(Moved, Option<JobName>)>
+    ensures { IfSome result (λ r. IsNamed r.0 r.1) }
+{
     let mut slot = pool.links.get(link)?.lock(pool.rt);
     let step = next_step(slot.book())?;
     let mut totals = pool.account();
-    let moved = work(&mut slot, seat, &mut totals, step);
-    let name = name_in(link, slot.book(), &moved);
-    Some((moved, name))
+    Some(step_on(&mut slot, seat, &mut totals, link, step))
 }
 
 /// Ends a turn that is out on a link.
@@ -129,15 +146,16 @@ fn follow<R: Wait, L: Ledger, G: Gate>(
     seat: &mut Seat<L>,
     moved: Moved,
     name: Option<JobName>,
-) -> bool {
+) -> bool
+    requires { IsNamed moved name }
+{
     match moved {
         Moved::Begun(Ok(job)) => match name {
             Some(name) => {
                 run_job(pool, gate, seat, name, job);
                 true
             }
-            // (a turn that began is out, and has a name by `begun` of `name_in`)
-            None => false,
+            None => unreachable!(),
         },
         Moved::Begun(Err(_)) => false,
         Moved::Skipped(skipped) => skipped.is_ok(),
