@@ -1,4 +1,5 @@
-//! Turns by two steppers, on words and on values with their sorts: each transition of a set runs on ten inputs, with numbers at the ends of their range.
+//! Turns by two steppers, on words and on values with their sorts: each transition of a set runs on ten inputs, with numbers at the ends of their range, and
+//! each of its places is stepped from.
 
 ghost use Rattle.std.specs.Prelude.{◌≤◌, IsTrue, IfSome};
 ghost use Rattle.turn_code.specs.Code.{sends};
@@ -7,6 +8,7 @@ ghost use Rattle.turn_code.specs.Machine.{HasRoom, HasRoomFor};
 
 use arrayvec::ArrayVec;
 use mtp2_text::{LoadFault, Verified, load, monitors, standard};
+use step_trials::tally_of as steps_of;
 use turn_code::{
     Address, After, DraftVariable, Effect, End, Input, Instruction, Machine, Operands, Party,
     Place, ProcessNumber, Sort, StateNumber, Value, copied_variables, same_variables, step_plain,
@@ -303,4 +305,23 @@ fn the_monitors_run_alike_on_words(rt: HostRuntime) {
 fn every_operation_runs_alike_on_words(rt: HostRuntime) {
     // START and three inputs
     assert_eq!(rt; tally_in(load(rt.alloc(), MILL)), alike(40));
+}
+
+/// Whether the steps at each place of a set were alike, and at least so many.
+fn steps_alike(set: Result<Verified, LoadFault>, least: u32) -> bool {
+    match set {
+        Ok(set) => {
+            let tally = steps_of(&set);
+            tally.unlike == 0 && tally.steps >= least
+        }
+        Err(_) => false,
+    }
+}
+
+#[test]
+fn steps_are_alike_at_each_place(rt: HostRuntime) {
+    // at the first place of each transition alone there are sixteen
+    assert_eq!(rt; steps_alike(standard(rt.alloc()), 1_488), true);
+    assert_eq!(rt; steps_alike(monitors(rt.alloc()), 160), true);
+    assert_eq!(rt; steps_alike(load(rt.alloc(), MILL), 64), true);
 }

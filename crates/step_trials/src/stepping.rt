@@ -1,0 +1,50 @@
+//! One step on words.
+
+ghost use Rattle.turn_code.specs.Fits.{Fits};
+
+use crate::standing::hold_at;
+use crate::wording::words_with;
+use arrayvec::ArrayVec;
+use turn_check::Verified;
+use turn_code::{Input, Place, ProcessNumber, Value};
+use turn_machine::{After, Piece, Words, step_bare};
+
+/// What a step on words gave, and the words then.
+#[derive(Clone, Copy)]
+pub struct Stepped {
+    pub after: After,
+    pub words: Words,
+}
+
+/// A step on words at a place of a transition's code, with these operands, the topmost first; none where they may not be there.
+pub fn step_words(
+    set: &Verified,
+    process: ProcessNumber,
+    from: Place,
+    number: usize,
+    place: usize,
+    operands: &ArrayVec<Value, 16>,
+    input: &Input,
+) -> Option<Stepped>
+    requires { Fits set.now process.0 from number input.now }
+{
+    let _ = set.draft();
+    let values = operands.as_slice();
+    match set.transition(process, from, number) {
+        Some(transition) => {
+            if !hold_at(transition.piece, place, values, input.variables.as_slice()) {
+                return None;
+            }
+            let sorts = set.sorts(process);
+            let piece = Piece {
+                code: transition.piece.code.as_slice(),
+                sender: input.sender,
+                sorts: &sorts,
+            };
+            let mut words = words_with(input, values);
+            let after = step_bare(&piece, place, &mut words);
+            Some(Stepped { after, words })
+        }
+        None => None,
+    }
+}
