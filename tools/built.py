@@ -23,8 +23,8 @@ class Run:
     """How a run of a program ended: its status, what it wrote, and what it said on standard error. A run that was stopped has the word
     `signal N` or `too slow` for its status."""
 
-    def __init__(self, words, given=b"", program=PLAY, folder=ROOT, limit=LIMIT, out=None, restore_signals=True, **variables):
-        how = {"executable": str(program), "cwd": folder, "env": {**os.environ, **variables}, "stderr": subprocess.PIPE, "restore_signals": restore_signals}
+    def __init__(self, words, given=b"", program=PLAY, folder=ROOT, limit=LIMIT, out=None, **variables):
+        how = {"executable": str(program), "cwd": folder, "env": {**os.environ, **variables}, "stderr": subprocess.PIPE}
         source = {"stdin": given} if hasattr(given, "fileno") else {"input": given}
         try:
             done = subprocess.run(["mtp2_play", *words], timeout=limit, stdout=out or subprocess.PIPE, **source, **how)
