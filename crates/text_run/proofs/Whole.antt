@@ -8,7 +8,7 @@ use Rattle.turn_code.specs.declared.draft.Draft.{Draft}
 use Rattle.turn_verify.specs.Meant.{IsSetOf}
 use Rattle.actor_book.specs.Limits.{LimitNumbers}
 use Rattle.link_machine.specs.Step.{Says}
-use Rattle.link_machine.specs.Ledger.{Ledger, answers_by, after_by, state_by, state_of}
+use Rattle.link_machine.specs.Ledger.{Ledger, runs, answers_by, after_by, state_by, state_of}
 use Rattle.link_machine.specs.Kept.{IsKept, opened_book}
 use Rattle.link_machine.specs.Laws.{KeepsLaw, SetLaw, FitsLaw, FinishLaw}
 use Rattle.link_machine.specs.declared.event.Event.{Event}
@@ -34,6 +34,13 @@ module _ (d : Draft) (l : LimitNumbers) (es : List Event) (new : Ledger) (rs : L
 
   pub runs_by : (old : Ledger) → old ≡ opened_by d l → Ran old
   runs_by old e = subst Ran (sym e) ran_opened
+
+  coded_opened : map Says rs ≡ answers_by (runs (opened_by d l).set) (opened_by d l) es → map Says rs ≡ answers_by (runs d) (opened_by d l) es
+  unfolding opened_book
+  coded_opened h = h
+
+  pub coded_by : (old : Ledger) → old ≡ opened_by d l → map Says rs ≡ answers_by (runs old.set) old es → map Says rs ≡ answers_by (runs d) (opened_by d l) es
+  coded_by old e h = coded_opened (subst (λ (k : Ledger). map Says rs ≡ answers_by (runs k.set) k es) e h)
 
 -- the turns of a link that was opened with a block's set
 pub ends_opened : KeepsLaw → SetLaw → FitsLaw → FinishLaw → (d : Draft) (l : LimitNumbers) (es : List Event) → IsValid d → l.journal ≤ MOST_JOURNAL

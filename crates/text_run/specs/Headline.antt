@@ -12,7 +12,7 @@ use Rattle.actor_book.specs.Limits.{LimitNumbers}
 use Rattle.link_machine.specs.Fits.{IsCalled}
 use Rattle.link_machine.specs.Full.{FullLaw}
 use Rattle.link_machine.specs.Step.{Says, report_of}
-use Rattle.link_machine.specs.Ledger.{Ledger, ask, answers_by, after_by, state_by, state_of, turn_out}
+use Rattle.link_machine.specs.Ledger.{Ledger, runs as code_runs, ask, answers_by, after_by, state_by, state_of, turn_out}
 use Rattle.link_machine.specs.Kept.{opened_book}
 use Rattle.link_machine.specs.actor_names_types.name.ActorName.{ActorName}
 use Rattle.link_machine.specs.declared.event.Event.{Event}
@@ -62,11 +62,13 @@ abbrev pub EachEnds : PlainBlock → Ledger → List Event → Type 0
 EachEnds b k [] = Unit {0}
 EachEnds b k (e ∷ es) = EndsAt b k e × EachEnds b (ask k e).book es
 
--- What a block's set does: its numbers and names are in the order of the text, each turn is what the text's transition means, and of the machine by
--- which it answers it holds, whatever its turns mean, that what is full is told by name, and nothing else.
+-- What a block's set does: its numbers and names are in the order of the text, each turn is what the text's transition means, by the set's own code
+-- the answers are the same, and of the machine by which it answers it holds, whatever its turns mean, that what is full is told by name, and of
+-- offers and outputs nothing else.
 pub record RunsAsRead (b : PlainBlock) (d : Draft) (l : LimitNumbers) (es : List Event) (book : Ledger) (replies : List Reply) : Type 0 where
   pub is_set : IsSetOf b d
   pub runs : RunsBy (meaning_of b) d l es book replies
+  pub coded : map Says replies ≡ answers_by (code_runs d) (opened_by d l) es
   pub ends : EachEnds b (opened_by d l) es
   pub full : FullLaw
 

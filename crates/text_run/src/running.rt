@@ -21,8 +21,9 @@ pub struct TextRun {
 /// A text goes on exactly where it has tokens, reads as a tree that is at most 32 high, and breaks no rule. Whatever the events and their
 /// order, no transition of it then reads a variable that is unset, meets a wrong operand, lacks an operand, an answer, a next state or a
 /// receiver, or leaves its code: each does what its text means (Z.100), and takes at most as many instructions as its certificate's budget,
-/// which is the cost of the longest path through its text. What is full is told by name, and nothing else is: an offer to a full port is refused
-/// as B1 Full, and what a turn sends to a full port or a full environment is reported as lost, with its place among the turn's effects.
+/// which is the cost of the longest path through its text. What is full is told by name: of the offers those to a full port are refused as B1
+/// Full, and of a turn's outputs those to a full port or a full environment are reported as lost for that, with their places among the turn's
+/// effects; and these alone.
 ///
 /// # Errors
 ///
