@@ -104,8 +104,12 @@ impl Verified {
     pub fn copy(&self) -> Result<Verified, AllocError>
         ensures { IfOk result (λ v. v ≡ self.now) }
     {
-        self.keeps();
-        Ok(sorted(self.draft.copy()?))
+        let draft = self.draft.copy()?;
+        Ok(Verified {
+            draft,
+            parameters: self.parameters,
+            variables: self.variables,
+        })
     }
 
     /// Which parameters of the set's signals, and which variables of a process, are Booleans.

@@ -94,9 +94,9 @@ whole_is : (code : List Instruction) (x : Input) → exec code x 512 0 [] (begun
 unfolding run
 whole_is code x = refl
 
-pub begun_so : (p : Piece) (x : Input) (c : Cert) (w : Words) (es : List Effect) (n : ℕ) → IsSafeWithin p.code.now x p.sorts.now c → p.sender ≡ x.sender
-    → AreWordsOf (bare_of w) [] x.variables.items x.parameters.items → es ≡ [] → n ≡ 0 → IsUnderWay p x c 0 0 w es n
-begun_so p x c w es n h from words none zero_is =
+pub begun_so : (p : Piece) (x : Input) (c : Cert) (w : Words) (es : List Effect) → IsSafeWithin p.code.now x p.sorts.now c → p.sender ≡ x.sender
+    → AreWordsOf (bare_of w) [] x.variables.items x.parameters.items → es ≡ [] → IsUnderWay p x c 0 0 w es
+begun_so p x c w es h from words none =
     let budget : h.transition.piece.certificate.budget ≡ c.budget = ap (λ (c : Cert). c.budget) h.certificate_is in
     record {
       draft = h.draft;
@@ -126,17 +126,16 @@ begun_so p x c w es n h from words none zero_is =
       same = whole_is h.transition.piece.code x;
       right = tt;
       effects = none;
-      count = zero_is;
-      counted = zero_is;
+      count = refl;
     }
 
 -- ---- one instruction
 -- what is known after one
-pub record HasGone (p : Piece) (x : Input) (c : Cert) (taken : ℕ) (w : Words) (a : After) (es : List Effect) (n : ℕ) : Type 0 where
+pub record HasGone (p : Piece) (x : Input) (c : Cert) (taken : ℕ) (w : Words) (a : After) (es : List Effect) : Type 0 where
   pub new : List Effect
   pub grows : IsGrown p a.effect es new
-  pub onward : (j : ℕ) → a.next ≡ Goes j → IsUnderWay p x c (taken + 1) j w new (n + 1)
-  pub over : (e : End) → a.next ≡ Ends e → HasEnded p x c e w new (n + 1)
+  pub onward : (j : ℕ) → a.next ≡ Goes j → IsUnderWay p x c (taken + 1) j w new
+  pub over : (e : End) → a.next ≡ Ends e → HasEnded p x c e w new (taken + 1)
 
 safe_few : (t : Transition) (x : Input) (left k : ℕ) (os : List Value) (s : Progress) → IsSafe t x left k os s → length s.effects ≤ t.piece.certificate.effects
 safe_few t x zero k os s h = absurd h
@@ -148,22 +147,21 @@ grown_here d t p x o old new es sorts from right few same g =
     subst (λ (u : List Effect). IsGrown p o u new) (sym same) (
     grown d t p o old new sorts right few (subst (λ (u : Option Address). Grow u o old new) from g))
 
-module _ (p : Piece) (x : Input) (c : Cert) (taken k : ℕ) (w : Words) (es : List Effect) (n : ℕ) (h : IsUnderWay p x c taken k w es n) where
+module _ (p : Piece) (x : Input) (c : Cert) (taken k : ℕ) (w : Words) (es : List Effect) (h : IsUnderWay p x c taken k w es) where
   most_effects : h.transition.piece.certificate.effects ≤ 32
   most_effects = ((h.stand.valid.limit 0).piece refl).effects
 
   gone_by : (w' : Words) (a : After) (left fuel : ℕ) (g : Tagged) → taken + suc left ≡ c.budget → taken + suc fuel ≡ 512 → left ≤ fuel
       → Follows h.draft h.transition p x h.progress a w' g → IsSafeAfter h.transition (IsSafe h.transition x left) g
       → go_on (exec h.transition.piece.code x fuel) g ≡ run h.transition.piece.code x → EffectsAre (AreRightEffects h.draft h.transition) g
-      → CountIs (h.progress.count + 1) g → HasGone p x c taken w' a es n
+      → CountIs (h.progress.count + 1) g → HasGone p x c taken w' a es
   gone_by w' a left fuel (goes j os s) budget fuel_is less f safe same right count =
       let rich : length s.effects ≤ h.transition.piece.certificate.effects = safe_few h.transition x left j os s safe in
       let most = most_effects in
       let few : length s.effects ≤ 32 = omega arith in
-      let was : n ≡ h.progress.count = h.count in
-      let took : n ≡ taken = h.counted in
+      let was : taken ≡ h.progress.count = h.count in
       let now : s.count ≡ h.progress.count + 1 = count in
-      let further : IsUnderWay p x c (taken + 1) j w' s.effects (n + 1) = record {
+      let further : IsUnderWay p x c (taken + 1) j w' s.effects = record {
         draft = h.draft;
         transition = h.transition;
         certificate_is = h.certificate_is;
@@ -181,25 +179,23 @@ module _ (p : Piece) (x : Input) (c : Cert) (taken k : ℕ) (w : Words) (es : Li
         right = right;
         effects = refl;
         count = omega arith;
-        counted = omega arith;
       } in
       record {
         new = s.effects;
         grows = grown_here h.draft h.transition p x a.effect h.progress.effects s.effects es h.stand.sorts h.stand.sender right few h.effects f.1;
-        onward = λ i e. let there : j ≡ i = cc in subst (λ (u : ℕ). IsUnderWay p x c (taken + 1) u w' s.effects (n + 1)) there further;
+        onward = λ i e. let there : j ≡ i = cc in subst (λ (u : ℕ). IsUnderWay p x c (taken + 1) u w' s.effects) there further;
         over = λ q e. cc;
       }
   gone_by w' a left fuel (ends q s) budget fuel_is less f safe same right count =
       let rich : length s.effects ≤ h.transition.piece.certificate.effects = safe.effects in
       let most = most_effects in
       let few : length s.effects ≤ 32 = omega arith in
-      let was : n ≡ h.progress.count = h.count in
-      let took : n ≡ taken = h.counted in
+      let was : taken ≡ h.progress.count = h.count in
       let now : s.count ≡ h.progress.count + 1 = count in
       let effects_is : h.transition.piece.certificate.effects ≡ c.effects = ap (λ (c : Cert). c.effects) h.certificate_is in
       let long = zip_length HasSort h.transition.process.variables s.variables safe.variables in
       let first = zip_length HasSort h.transition.process.variables x.variables.items h.fits.variables in
-      let done : HasEnded p x c q w' s.effects (n + 1) = record {
+      let done : HasEnded p x c q w' s.effects (taken + 1) = record {
         progress = s;
         ran = ap (λ u. run u x) (sym h.stand.code) ∙ sym same;
         effects = refl;
@@ -213,7 +209,7 @@ module _ (p : Piece) (x : Input) (c : Cert) (taken k : ℕ) (w : Words) (es : Li
         new = s.effects;
         grows = grown_here h.draft h.transition p x a.effect h.progress.effects s.effects es h.stand.sorts h.stand.sender right few h.effects f.1;
         onward = λ i e. cc;
-        over = λ e is. let same_end : q ≡ e = cc in subst (λ (u : End). HasEnded p x c u w' s.effects (n + 1)) same_end done;
+        over = λ e is. let same_end : q ≡ e = cc in subst (λ (u : End). HasEnded p x c u w' s.effects (taken + 1)) same_end done;
       }
   gone_by w' a left fuel (stuck z) budget fuel_is less f safe same right count = absurd f
 
@@ -227,14 +223,14 @@ module _ (p : Piece) (x : Input) (c : Cert) (taken k : ℕ) (w : Words) (es : Li
 
   gone_at : (w' : Words) (a : After) (left fuel : ℕ) → taken + left ≡ c.budget → taken + fuel ≡ 512 → left ≤ fuel
       → IsStep p k w a w' → IsSafe h.transition x left k h.operands h.progress
-      → exec h.transition.piece.code x fuel k h.operands h.progress ≡ run h.transition.piece.code x → HasGone p x c taken w' a es n
+      → exec h.transition.piece.code x fuel k h.operands h.progress ≡ run h.transition.piece.code x → HasGone p x c taken w' a es
   gone_at w' a zero fuel budget fuel_is less is safe same = absurd safe
   gone_at w' a (suc left) zero budget fuel_is less is safe same = absurd (omega arith)
   gone_at w' a (suc left) (suc fuel) budget fuel_is less is safe same =
       gone_by w' a left fuel (step h.transition.piece.code x k h.operands h.progress) budget fuel_is (omega arith)
       (is h.draft h.transition x h.operands h.progress h.stand) safe.2 same right_after (step_count h.transition.piece.code x k h.operands h.progress)
 
-  pub gone : (w' : Words) (a : After) → IsStep p k w a w' → HasGone p x c taken w' a es n
+  pub gone : (w' : Words) (a : After) → IsStep p k w a w' → HasGone p x c taken w' a es
   gone w' a is = gone_at w' a h.left h.fuel h.budget_is h.fuel_is h.less is h.safe h.same
 
   -- the words stand for values there
@@ -252,23 +248,21 @@ module _ (p : Piece) (x : Input) (c : Cert) (taken k : ℕ) (w : Words) (es : Li
   pub can_grow : (w' : Words) (a : After) → IsStep p k w a w' → CanGrow p a.effect es
   can_grow w' a is = let g = gone w' a is in (g.new, g.grows)
 
-  pub goes_on : (w' : Words) (a : After) (es' : List Effect) (n' j : ℕ) → IsStep p k w a w' → ((u : List Effect) → IsGrown p a.effect es u → es' ≡ u)
-      → n' ≡ n + 1 → a.next ≡ Goes j → IsUnderWay p x c (taken + 1) j w' es' n'
-  goes_on w' a es' n' j is one more next =
+  pub goes_on : (w' : Words) (a : After) (es' : List Effect) (j : ℕ) → IsStep p k w a w' → ((u : List Effect) → IsGrown p a.effect es u → es' ≡ u)
+      → a.next ≡ Goes j → IsUnderWay p x c (taken + 1) j w' es'
+  goes_on w' a es' j is one next =
       let g = gone w' a is in
-      subst (λ (m : ℕ). IsUnderWay p x c (taken + 1) j w' es' m) (sym more) (
-      subst (λ (u : List Effect). IsUnderWay p x c (taken + 1) j w' u (n + 1)) (sym (one g.new g.grows)) (g.onward j next))
+      subst (λ (u : List Effect). IsUnderWay p x c (taken + 1) j w' u) (sym (one g.new g.grows)) (g.onward j next)
 
-  pub ends_so : (w' : Words) (a : After) (es' : List Effect) (n' : ℕ) (e : End) → IsStep p k w a w' → ((u : List Effect) → IsGrown p a.effect es u → es' ≡ u)
-      → n' ≡ n + 1 → a.next ≡ Ends e → HasEnded p x c e w' es' n'
-  ends_so w' a es' n' e is one more next =
+  pub ends_so : (w' : Words) (a : After) (es' : List Effect) (e : End) → IsStep p k w a w' → ((u : List Effect) → IsGrown p a.effect es u → es' ≡ u)
+      → a.next ≡ Ends e → HasEnded p x c e w' es' (taken + 1)
+  ends_so w' a es' e is one next =
       let g = gone w' a is in
-      subst (λ (m : ℕ). HasEnded p x c e w' es' m) (sym more) (
-      subst (λ (u : List Effect). HasEnded p x c e w' u (n + 1)) (sym (one g.new g.grows)) (g.over e next))
+      subst (λ (u : List Effect). HasEnded p x c e w' u (taken + 1)) (sym (one g.new g.grows)) (g.over e next)
 
 -- a run that took its whole budget is over
-pub not_over : (p : Piece) (x : Input) (c : Cert) (k : ℕ) (w : Words) (es : List Effect) (n : ℕ) → IsUnderWay p x c c.budget k w es n → ⊥
-not_over p x c k w es n h = by h.left h.budget_is h.safe
+pub not_over : (p : Piece) (x : Input) (c : Cert) (k : ℕ) (w : Words) (es : List Effect) → IsUnderWay p x c c.budget k w es → ⊥
+not_over p x c k w es h = by h.left h.budget_is h.safe
   where
     by : (left : ℕ) → c.budget + left ≡ c.budget → IsSafe h.transition x left k h.operands h.progress → ⊥
     by zero e safe = safe

@@ -37,8 +37,8 @@ pub record IsSafeWithin (code : List Instruction) (x : Input) (s : Sorts) (c : C
   pub small : transition.piece.certificate.budget ≤ MOST_INSTRUCTIONS
   pub safe : IsSafe transition x transition.piece.certificate.budget 0 [] (begun x)
 
--- a run that is at place k, which took so many instructions and goes on as the whole does: its words, effects and count are those of a run on values
-pub record IsUnderWay (p : Piece) (x : Input) (c : Cert) (taken k : ℕ) (w : Words) (es : List Effect) (n : ℕ) : Type 0 where
+-- a run that is at place k, which took so many instructions and goes on as the whole does: its words and effects are those of a run on values
+pub record IsUnderWay (p : Piece) (x : Input) (c : Cert) (taken k : ℕ) (w : Words) (es : List Effect) : Type 0 where
   pub draft : Draft
   pub transition : Transition
   pub certificate_is : transition.piece.certificate ≡ c
@@ -55,8 +55,7 @@ pub record IsUnderWay (p : Piece) (x : Input) (c : Cert) (taken k : ℕ) (w : Wo
   pub same : exec transition.piece.code x fuel k operands progress ≡ run transition.piece.code x
   pub right : AreRightEffects draft transition progress.effects
   pub effects : es ≡ progress.effects
-  pub count : n ≡ progress.count
-  pub counted : n ≡ taken
+  pub count : taken ≡ progress.count
 
 -- a run that has ended so: its effects and its count are those of the run on values, within the certificate, and the words stand for its variables
 pub record HasEnded (p : Piece) (x : Input) (c : Cert) (e : End) (w : Words) (es : List Effect) (n : ℕ) : Type 0 where

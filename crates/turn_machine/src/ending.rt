@@ -83,9 +83,7 @@ pub(crate) fn run_code(
 
 /// A run begins.
 fn begin(machine: &mut Machine)
-    ensures effects { machine.new.effects.items ≡ [] }
-    ensures count { machine.new.count ≡ 0 }
+    ensures { machine.new.effects.items ≡ [] }
 {
     machine.effects.clear();
-    machine.count = 0;
 }

@@ -9,8 +9,8 @@ use arrayvec::ArrayVec;
 use turn_check::{Given, Next, Piece, Words, step_bare};
 use turn_code::{Cert, Effect, End, Input, Machine};
 
-/// Runs a piece with these counts from its first instruction to its end, on the words of an input. The machine has no effect and took no instruction yet; it
-/// gets those of the run.
+/// Runs a piece with these counts from its first instruction to its end, on the words of an input. The machine has no effect yet; it gets those of the run, and
+/// how many instructions it took. (`input` is there for the contract alone.)
 pub(crate) fn execute(
     piece: &Piece<'_>,
     input: &Input,
@@ -18,19 +18,20 @@ pub(crate) fn execute(
     words: &mut Words,
     machine: &mut Machine,
 ) -> End
-    requires { IsUnderWay piece.now input.now certificate 0 0 words.old machine.old.effects.items machine.old.count }
+    requires { IsUnderWay piece.now input.now certificate 0 0 words.old machine.old.effects.items }
     ensures { HasEnded piece.now input.now certificate result words.new machine.new.effects.items machine.new.count }
 {
     let _ = input;
     let mut place = 0;
     for taken in 0..certificate.budget {
-        let _ = taken;
         let after = step_bare(piece, place, words);
-        machine.count += 1;
         give(&mut machine.effects, after.effect, piece);
         match after.next {
             Next::Goes(next) => place = next,
-            Next::Ends(end) => return end,
+            Next::Ends(end) => {
+                machine.count = taken + 1;
+                return end;
+            }
         }
     }
     unreachable!()
