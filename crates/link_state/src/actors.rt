@@ -1,13 +1,12 @@
 //! Changes of one actor, and of one actor among all.
 
-ghost use Rattle.std.specs.Prelude.{◌≡◌, ◌↔◌, ◌<◌, IsTrue, Some, slice_get};
+ghost use Rattle.std.specs.Prelude.{◌≡◌, ◌↔◌, ◌<◌, ◌≤◌, IsTrue, Some, length, slice_get};
 ghost use Rattle.link_machine.specs.Core.{change, change_found, found_in, names_in, outs};
 ghost use Rattle.link_machine.specs.Names.{actors_of, place_of, number_for};
 ghost use Rattle.link_machine.specs.Effects.{receives, drops, hears, moved, refusal_in, refusal_at as refused_at};
 ghost use Rattle.link_state.specs.Outcomes.{with_variables};
-ghost use Rattle.profile_limits.specs.Limits.{MOST_TIMERS_EACH};
+ghost use Rattle.profile_limits.specs.Limits.{MOST_TIMERS_EACH, MOST_VARIABLES};
 
-use arrayvec::ArrayVec;
 use input_port::Arrival;
 use link_machine::{Actor, ActorName, Cause, Standing, number_of};
 use turn_check::Verified;
@@ -177,16 +176,19 @@ pub(crate) fn notify(actors: &mut [Actor], number: usize, timer: TimerNumber)
 }
 
 /// An actor has these variables, and no turn out.
-fn settle(actor: &mut Actor, variables: ArrayVec<Option<Value>, 32>)
-    ensures { actor.new ≡ with_variables variables.items actor.old }
+fn settle(actor: &mut Actor, variables: &[Option<Value>])
+    requires { length variables.now ≤ MOST_VARIABLES }
+    ensures { actor.new ≡ with_variables variables.now actor.old }
 {
-    actor.variables = variables;
+    actor.variables.clear();
+    actor.variables.try_extend_from_slice(variables).unwrap();
     actor.given = None;
 }
 
 /// Actor `number` has these variables, and no turn out.
-pub(crate) fn settle_at(actors: &mut [Actor], number: usize, variables: ArrayVec<Option<Value>, 32>)
-    ensures { actors.new ≡ change actors.old number (with_variables variables.items) }
+pub(crate) fn settle_at(actors: &mut [Actor], number: usize, variables: &[Option<Value>])
+    requires { length variables.now ≤ MOST_VARIABLES }
+    ensures { actors.new ≡ change actors.old number (with_variables variables.now) }
 {
     if number < actors.len() {
         settle(&mut actors[number], variables);

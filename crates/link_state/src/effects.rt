@@ -7,7 +7,7 @@ ghost use Rattle.link_machine.specs.Effects.{laid, laid_all, lost_by, losses, de
 ghost use Rattle.link_machine.specs.Step.{report_of};
 ghost use Rattle.tick_wheel.specs.Turning.{timers_of};
 ghost use Rattle.link_state.specs.Outcomes.{outcome_with, with_variables, HasTimer, HaveTimers};
-ghost use Rattle.profile_limits.specs.Limits.{MOST_ACTORS, MOST_EFFECTS, MOST_TIMERS_EACH, MOST_TURNS_BEGUN};
+ghost use Rattle.profile_limits.specs.Limits.{MOST_ACTORS, MOST_EFFECTS, MOST_TIMERS_EACH, MOST_TURNS_BEGUN, MOST_VARIABLES};
 
 use crate::actors::{deliver_to, end_turn, forget_timer, number_for, refusal_at, settle_at};
 use crate::link::Link;
@@ -80,7 +80,7 @@ impl Link {
     }
 
     /// The output of an actor that nobody gets, if an effect is one.
-    fn loss(&self, set: &Verified, sender: ActorName, place: usize, effect: &Effect) -> Option<Lost>
+    fn loss(&self, set: &Verified, sender: ActorName, place: u8, effect: &Effect) -> Option<Lost>
         requires { names_in self.now.actors ≡ actors_of set.now.processes }
         ensures { result ≡ lost_by sender self.now place effect.now }
     {
@@ -131,7 +131,7 @@ impl Link {
     {
         let mut lost = ArrayVec::new();
         for (place, effect) in effects.iter().enumerate() {
-            if let Some(loss) = self.loss(set, name, place, effect) {
+            if let Some(loss) = self.loss(set, name, place as u8, effect) {
                 lost.push(loss);
             }
             self.lay(set, actor, name, effect);
@@ -147,18 +147,19 @@ impl Link {
         actor: u8,
         name: ActorName,
         end: End,
-        variables: ArrayVec<Option<Value>, 32>,
+        variables: &[Option<Value>],
         effects: &[Effect],
         count: u32,
     ) -> Report
+        requires variables { length variables.now ≤ MOST_VARIABLES }
         requires names { names_in self.old.actors ≡ actors_of set.now.processes }
         requires actor { actor < MOST_ACTORS }
         requires timers { HaveTimers effects.now }
         requires few { length effects.now ≤ MOST_EFFECTS }
         requires finishes { self.old.finishes < MOST_TURNS_BEGUN }
         requires instructions { self.old.instructions + count < 2 ^ 64 }
-        ensures link { self.new ≡ finished actor name (outcome_with end variables.items effects.now count) self.old }
-        ensures report { result ≡ report_of actor name (outcome_with end variables.items effects.now count) self.old }
+        ensures link { self.new ≡ finished actor name (outcome_with end variables.now effects.now count) self.old }
+        ensures report { result ≡ report_of actor name (outcome_with end variables.now effects.now count) self.old }
     {
         self.start(actor, variables, count);
         let lost = self.lay_all(set, actor, name, effects);
@@ -167,11 +168,12 @@ impl Link {
     }
 
     /// The actor gets the variables that its turn leaves, and the turn is counted.
-    fn start(&mut self, actor: u8, variables: ArrayVec<Option<Value>, 32>, count: u32)
+    fn start(&mut self, actor: u8, variables: &[Option<Value>], count: u32)
+        requires variables { length variables.now ≤ MOST_VARIABLES }
         requires finishes { self.old.finishes < MOST_TURNS_BEGUN }
         requires instructions { self.old.instructions + count < 2 ^ 64 }
         ensures { self.new ≡ record self.old {
-          actors = change self.old.actors actor (with_variables variables.items);
+          actors = change self.old.actors actor (with_variables variables.now);
           finishes = self.old.finishes + 1;
           instructions = self.old.instructions + count;
         } }
