@@ -7,8 +7,8 @@ ghost use Rattle.input_port.specs.Saves.{saves};
 ghost use Rattle.input_port.specs.Queue.{first_unsaved, without_first};
 ghost use Rattle.input_port.specs.declared.queue.Item.{Item as PlainItem};
 ghost use Rattle.turn_check.specs.Answered.{same_trigger};
-ghost use Rattle.link_machine.specs.Looking.{trigger_of, is_saved, looks, found_at, as_input, item_at, left_at, taken, input_for};
-ghost use Rattle.link_state.specs.Saving.{IsSmall};
+ghost use Rattle.link_machine.specs.Looking.{trigger_of, is_saved, looks, found_at, as_input, number_in, item_at, left_at, taken, input_for};
+ghost use Rattle.link_state.specs.Saving.{IsSmall, number_with};
 
 use input_port::{Item, Port, Saved};
 use link_machine::{Actor, Found, Standing};
@@ -56,7 +56,8 @@ fn saved_in(set: &Verified, process: u8, state: StateNumber) -> Saved
     saved_of(set.saves(ProcessNumber(process), state))
 }
 
-/// The first item that a state doesn't save.
+/// The first item that a state doesn't save. Of an empty port nothing is asked.
+#[tactic(auto, using(crate::proofs::Looking::none_in))]
 fn first_item<'a>(
     set: &Verified,
     number: u8,
@@ -65,6 +66,9 @@ fn first_item<'a>(
 ) -> Option<&'a Item>
     ensures { option_copied result ≡ first_unsaved (is_saved set.now number state.0) port.now.items }
 {
+    if port.is_empty() {
+        return None;
+    }
     port.first(&saved_in(set, number, state))
 }
 
@@ -75,6 +79,29 @@ fn found_as(set: &Verified, number: u8, state: StateNumber, item: &Item) -> Foun
     match set.input_for(ProcessNumber(number), state, trigger_of(item)) {
         Some(input) => Found::Input(input),
         None => Found::Ignored,
+    }
+}
+
+/// The number of the input that an item is to an actor that took it, 0 where it took none.
+pub(crate) fn number_of(set: &Verified, number: u8, standing: Standing, item: &Option<Item>) -> usize
+    ensures { result ≡ number_with set.now number standing item.now }
+{
+    match standing {
+        Standing::Stopped | Standing::At(Place::Start) => 0,
+        Standing::At(Place::State(state)) => match item {
+            Some(item) => number_in(found_as(set, number, state, item)),
+            None => 0,
+        },
+    }
+}
+
+/// The number of the input that is found, 0 at START.
+fn number_in(found: Found) -> usize
+    ensures { result ≡ number_in found }
+{
+    match found {
+        Found::Input(number) => number,
+        Found::Nothing | Found::Start | Found::Ignored => 0,
     }
 }
 
