@@ -1,6 +1,6 @@
 -- What an actor finds, by what it takes.
-use Rattle.std.proofs.Common.{◌≡◌, ℕ, Bool, true, List, refl}
-use Rattle.std.specs.Prelude.{◌==◌, length, Option, None, [], ◌∷◌}
+use Rattle.std.proofs.Common.{◌≡◌, ℕ, Bool, true, List, refl, rules}
+use Rattle.std.specs.Prelude.{◌==◌, length, None, [], ◌∷◌}
 use Rattle.turn_code.specs.declared.input.Place.TheVariants.{Start, State}
 use Rattle.turn_code.specs.declared.draft.Draft.{Draft}
 use Rattle.input_port.specs.Queue.{first_unsaved}
@@ -13,7 +13,7 @@ use Rattle.link_state.specs.Saving.{number_with}
 -- of nothing, nothing is the first that isn't saved
 pub none_in : (saved : Item → Bool) (xs : List Item) → (length xs == 0) ≡ true → first_unsaved saved xs ≡ None
 none_in saved [] h = refl
-none_in saved (x ∷ xs) h = absurd (cc)
+none_in saved (x ∷ xs) h = absurd (search rules)
 
 -- the number of what is found is that of what is taken
 pub number_found : (d : Draft) (n : ℕ) (s : Standing) (xs : List Item) → number_with d n s (item_at d n s xs) ≡ number_in (found_at d n s xs)

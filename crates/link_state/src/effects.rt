@@ -20,13 +20,7 @@ use turn_code::{Address, Effect, End, Party, Sending, TimerNumber, Value, copied
 
 impl Link {
     /// What one effect of a turn of an actor with this number and this name does. Why nobody got it, if it is an output and nobody did.
-    fn lay(
-        &mut self,
-        set: &Verified,
-        actor: u8,
-        name: ActorName,
-        effect: &Effect,
-    ) -> Option<Cause>
+    fn lay(&mut self, set: &Verified, actor: u8, name: ActorName, effect: &Effect) -> Option<Cause>
         requires names { names_in self.old.actors ≡ actors_of set.now.processes }
         requires actor { actor < MOST_ACTORS }
         requires timer { HasTimer effect.now }

@@ -83,7 +83,12 @@ fn found_as(set: &Verified, number: u8, state: StateNumber, item: &Item) -> Foun
 }
 
 /// The number of the input that an item is to an actor that took it, 0 where it took none.
-pub(crate) fn number_of(set: &Verified, number: u8, standing: Standing, item: &Option<Item>) -> usize
+pub(crate) fn number_of(
+    set: &Verified,
+    number: u8,
+    standing: Standing,
+    item: &Option<Item>,
+) -> usize
     ensures { result ≡ number_with set.now number standing item.now }
 {
     match standing {

@@ -1,4 +1,4 @@
-use Rattle.std.proofs.Common.{rules, ◌∙◌}
+use Rattle.std.proofs.Common.{rules}
 use Rattle.link_machine.specs.Looking.{begun, given_now, looks}
 use Rattle.link_state.proofs.Looking.{number_found}
 use Rattle.link_state.proofs.turn.begin.Goals as goal
