@@ -14,6 +14,7 @@ use turn_code::{SignalNumber, Value};
 
 impl Book {
     /// The link's refusal of an event, or else that of a journal with too few free places, which is looked at only then.
+    #[inline]
     fn refusal_with(&self, needed: usize, refusal: Option<Refusal>) -> Option<Refusal>
         ensures { (e : PlainEvent) → needs e ≡ needed → refusal ≡ refuses self.now.set (state_of self.now) e → result ≡ refusal_of self.now e }
     {

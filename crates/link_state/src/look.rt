@@ -7,7 +7,7 @@ ghost use Rattle.input_port.specs.Saves.{saves};
 ghost use Rattle.input_port.specs.Queue.{first_unsaved, without_first};
 ghost use Rattle.input_port.specs.declared.queue.Item.{Item as PlainItem};
 ghost use Rattle.turn_check.specs.Answered.{same_trigger};
-ghost use Rattle.link_machine.specs.Looking.{trigger_of, is_saved, looks, found_at, as_input, number_in, item_at, left_at, taken, input_for};
+ghost use Rattle.link_machine.specs.Looking.{trigger_of, is_saved, looks, found_at, found_item, as_input, number_in, item_at, left_at, taken, input_for};
 ghost use Rattle.link_state.specs.Saving.{IsSmall, number_with};
 
 use input_port::{Item, Port, Saved};
@@ -56,8 +56,7 @@ fn saved_in(set: &Verified, process: u8, state: StateNumber) -> Saved
     saved_of(set.saves(ProcessNumber(process), state))
 }
 
-/// The first item that a state doesn't save. Of an empty port nothing is asked.
-#[tactic(auto, using(crate::proofs::Looking::none_in))]
+/// The first item that a state doesn't save.
 fn first_item<'a>(
     set: &Verified,
     number: u8,
@@ -66,9 +65,6 @@ fn first_item<'a>(
 ) -> Option<&'a Item>
     ensures { option_copied result ≡ first_unsaved (is_saved set.now number state.0) port.now.items }
 {
-    if port.is_empty() {
-        return None;
-    }
     port.first(&saved_in(set, number, state))
 }
 
@@ -110,21 +106,44 @@ fn number_in(found: Found) -> usize
     }
 }
 
+/// What an actor finds in a state.
+#[inline(never)]
+fn found_in(set: &Verified, number: u8, state: StateNumber, port: &Port) -> Found
+    ensures { result ≡ found_item set.now number state.0 (first_unsaved (is_saved set.now number state.0) port.now.items) }
+{
+    match first_item(set, number, state, port) {
+        Some(item) => found_as(set, number, state, item),
+        None => Found::Nothing,
+    }
+}
+
+/// The same. Of an empty port, as most are, nothing is asked.
+#[inline]
+#[tactic(auto, using(crate::proofs::Looking::nothing_in))]
+fn found_there(set: &Verified, number: u8, state: StateNumber, port: &Port) -> Found
+    ensures { result ≡ found_item set.now number state.0 (first_unsaved (is_saved set.now number state.0) port.now.items) }
+{
+    if port.is_empty() {
+        Found::Nothing
+    } else {
+        found_in(set, number, state, port)
+    }
+}
+
 /// What an actor finds.
+#[inline]
 fn found_at(set: &Verified, number: u8, standing: Standing, port: &Port) -> Found
     ensures { result ≡ found_at set.now number standing port.now.items }
 {
     match standing {
         Standing::Stopped => Found::Nothing,
         Standing::At(Place::Start) => Found::Start,
-        Standing::At(Place::State(state)) => match first_item(set, number, state, port) {
-            Some(item) => found_as(set, number, state, item),
-            None => Found::Nothing,
-        },
+        Standing::At(Place::State(state)) => found_there(set, number, state, port),
     }
 }
 
 /// What an actor finds.
+#[inline]
 pub(crate) fn look(set: &Verified, actor: &Actor) -> Found
     ensures { result ≡ looks set.now actor.now }
 {
