@@ -13,11 +13,15 @@ use link_state::{Link, with_room};
 use turn_code::{SignalNumber, Value};
 
 impl Book {
-    /// The link's refusal of an event, or else that of a journal with too few free places.
+    /// The link's refusal of an event, or else that of a journal with too few free places, which is looked at only then.
+    #[inline]
     fn refusal_with(&self, needed: usize, refusal: Option<Refusal>) -> Option<Refusal>
         ensures { (e : PlainEvent) → needs e ≡ needed → refusal ≡ refuses self.now.set (state_of self.now) e → result ≡ refusal_of self.now e }
     {
-        with_room(self.room(), needed, refusal)
+        if refusal.is_some() {
+            return refusal;
+        }
+        with_room(self.room(), needed, None)
     }
 
     /// Why a signal of the environment is refused, if it is.

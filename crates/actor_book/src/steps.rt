@@ -9,10 +9,9 @@ ghost use Rattle.link_machine.specs.Step.{Says};
 ghost use Rattle.link_machine.specs.declared.event.Event.TheVariants.{Offer as Offered, Begin, Skip, Finish, Advance, TakeEnv};
 ghost use Rattle.link_machine.specs.declared.reply.Reply.TheVariants as reply;
 ghost use Rattle.actor_book.specs.Accepted.{Takes};
-ghost use Rattle.profile_limits.specs.Limits.{MOST_ACTORS, MOST_EFFECTS};
+ghost use Rattle.profile_limits.specs.Limits.{MOST_ACTORS, MOST_EFFECTS, MOST_VARIABLES};
 
 use crate::book::Book;
-use arrayvec::ArrayVec;
 use link_machine::laws::{fits_law, keeps_law, out_law, state_law};
 use link_machine::{ActorName, Emitted, Event, Offer, Report};
 use link_state::Link;
@@ -60,15 +59,13 @@ fn input_variables(job: &Job) -> usize
 }
 
 /// The variables as a turn ended.
-fn variables_after(done: &Done) -> ArrayVec<Option<Value>, 32>
-    ensures { option_map (λ (o : Outcome). o.progress.variables) (outcome_of done.now) ≡ Some result.items }
+fn variables_after(done: &Done) -> &[Option<Value>]
+    ensures few { length result.now ≤ MOST_VARIABLES }
+    ensures value { option_map (λ (o : Outcome). o.progress.variables) (outcome_of done.now) ≡ Some result.now }
 {
     run_law();
     let _few = input_variables(done.job());
-    match ArrayVec::try_from(done.variables()) {
-        Ok(variables) => variables,
-        Err(_) => unreachable!(),
-    }
+    done.variables()
 }
 
 impl Book {

@@ -19,7 +19,7 @@ use link_machine::laws::{fits_law, keeps_law, out_law, set_law, state_law, text_
 use link_machine::{Actor, Event, Given, Refusal, Report, Standing};
 use turn_check::Verified;
 use turn_code::laws::effects_law;
-use turn_code::{End, Machine, Place, ProcessNumber, copied_variables};
+use turn_code::{End, Machine, Place, ProcessNumber};
 use turn_machine::run_in;
 
 /// Runs the turn that an actor was given to its end.
@@ -131,7 +131,7 @@ impl Book {
             number,
             name,
             end,
-            copied_variables(&self.machine.variables),
+            self.machine.variables.as_slice(),
             self.machine.effects.as_slice(),
             self.machine.count,
         );

@@ -91,8 +91,8 @@ pub enum Cause {
 /// An output that reached nobody.
 #[derive(Clone, Copy, PartialEq, Eq, Debug)]
 pub struct Lost {
-    /// Its place among the effects of the turn, from 0.
-    pub place: usize,
+    /// Its place among the effects of the turn, from 0 and below 32.
+    pub place: u8,
     pub cause: Cause,
 }
 

@@ -4,3 +4,4 @@ mod SmallSaves
 mod TimerItems
 mod Opened
 mod Naming
+mod Looking

@@ -1,46 +1,55 @@
 //! Changes of one actor, and of one actor among all.
 
-ghost use Rattle.std.specs.Prelude.{◌≡◌, ◌↔◌, ◌<◌, IsTrue, Some, slice_get};
+ghost use Rattle.std.specs.Prelude.{◌≡◌, ◌↔◌, ◌<◌, ◌≤◌, IsTrue, Some, length, slice_get};
 ghost use Rattle.link_machine.specs.Core.{change, change_found, found_in, names_in, outs};
 ghost use Rattle.link_machine.specs.Names.{actors_of, place_of, number_for};
-ghost use Rattle.link_machine.specs.Effects.{receives, drops, hears, moved, refusal_in, refusal_at as refused_at};
+ghost use Rattle.link_machine.specs.Effects.{receives, drops, hears, moved, refusal_in, refusal_at};
 ghost use Rattle.link_state.specs.Outcomes.{with_variables};
-ghost use Rattle.profile_limits.specs.Limits.{MOST_TIMERS_EACH};
+ghost use Rattle.profile_limits.specs.Limits.{MOST_TIMERS_EACH, MOST_VARIABLES};
 
-use arrayvec::ArrayVec;
-use input_port::Arrival;
+use input_port::{Arrival, PutError};
 use link_machine::{Actor, ActorName, Cause, Standing, number_of};
 use turn_check::Verified;
 use turn_code::{Effect, End, InstanceNumber, Place, ProcessNumber, TimerNumber, Value};
 
-/// A signal comes to an actor. One that has stopped takes none, nor does one whose port is full.
-fn receive(actor: &mut Actor, arrival: Arrival)
-    ensures { actor.new ≡ receives arrival actor.old }
+/// A signal comes to an actor. One that has stopped takes none, nor does one whose port is full: why it didn't take it, if it didn't.
+fn receive(actor: &mut Actor, arrival: Arrival) -> Option<Cause>
+    ensures actor { actor.new ≡ receives arrival actor.old }
+    ensures cause { result ≡ refusal_at actor.old.port actor.old.standing }
 {
     match actor.standing {
-        Standing::At(_) => {
-            let _full = actor.port.put(arrival);
-        }
-        Standing::Stopped => {}
+        Standing::At(_) => match actor.port.put(arrival) {
+            Ok(()) => None,
+            Err(PutError::Full) => Some(Cause::Full),
+        },
+        Standing::Stopped => Some(Cause::Stopped),
     }
 }
 
-/// A signal comes to actor `number`, if there is one.
-pub(crate) fn deliver(actors: &mut [Actor], number: usize, arrival: Arrival)
-    ensures { actors.new ≡ change actors.old number (receives arrival) }
+/// A signal comes to actor `number`, if there is one. Why nobody took it, if so.
+pub(crate) fn deliver(actors: &mut [Actor], number: usize, arrival: Arrival) -> Option<Cause>
+    ensures actors { actors.new ≡ change actors.old number (receives arrival) }
+    ensures cause { result ≡ refusal_in (slice_get actors.old number) }
 {
     if number < actors.len() {
-        receive(&mut actors[number], arrival);
+        receive(&mut actors[number], arrival)
+    } else {
+        Some(Cause::Stopped)
     }
 }
 
-/// A signal comes to the actor with a number that is found, if it is.
-pub(crate) fn deliver_to(actors: &mut [Actor], found: Option<usize>, arrival: Arrival)
-    ensures { actors.new ≡ change_found actors.old found (receives arrival) }
+/// A signal comes to the actor with a number that is found, if it is. Why nobody took it, if so.
+pub(crate) fn deliver_to(
+    actors: &mut [Actor],
+    found: Option<usize>,
+    arrival: Arrival,
+) -> Option<Cause>
+    ensures actors { actors.new ≡ change_found actors.old found (receives arrival) }
+    ensures cause { result ≡ refusal_in (found_in actors.old found) }
 {
     match found {
         Some(number) => deliver(actors, number, arrival),
-        None => {}
+        None => Some(Cause::Stopped),
     }
 }
 
@@ -104,42 +113,6 @@ pub(crate) fn number_for(
     }
 }
 
-/// Why an actor doesn't take a signal, if it doesn't.
-fn refusal_by(actor: &Actor) -> Option<Cause>
-    ensures { result ≡ refused_at actor.now.port actor.now.standing }
-{
-    match actor.standing {
-        Standing::At(_) => {
-            if actor.port.signals() == actor.port.capacity() {
-                Some(Cause::Full)
-            } else {
-                None
-            }
-        }
-        Standing::Stopped => Some(Cause::Stopped),
-    }
-}
-
-/// Why actor `number` doesn't take a signal, if it doesn't.
-fn refusal_of(actors: &[Actor], number: usize) -> Option<Cause>
-    ensures { result ≡ refusal_in (slice_get actors.now number) }
-{
-    match actors.get(number) {
-        Some(actor) => refusal_by(actor),
-        None => Some(Cause::Stopped),
-    }
-}
-
-/// Why the actor with a number that is found doesn't take a signal, if it doesn't.
-pub(crate) fn refusal_at(actors: &[Actor], found: Option<usize>) -> Option<Cause>
-    ensures { result ≡ refusal_in (found_in actors.now found) }
-{
-    match found {
-        Some(number) => refusal_of(actors, number),
-        None => Some(Cause::Stopped),
-    }
-}
-
 /// The signal of a timer leaves an actor's port.
 fn forget(actor: &mut Actor, timer: TimerNumber)
     ensures { actor.new ≡ drops timer.0 actor.old }
@@ -177,16 +150,19 @@ pub(crate) fn notify(actors: &mut [Actor], number: usize, timer: TimerNumber)
 }
 
 /// An actor has these variables, and no turn out.
-fn settle(actor: &mut Actor, variables: ArrayVec<Option<Value>, 32>)
-    ensures { actor.new ≡ with_variables variables.items actor.old }
+fn settle(actor: &mut Actor, variables: &[Option<Value>])
+    requires { length variables.now ≤ MOST_VARIABLES }
+    ensures { actor.new ≡ with_variables variables.now actor.old }
 {
-    actor.variables = variables;
+    actor.variables.clear();
+    actor.variables.try_extend_from_slice(variables).unwrap();
     actor.given = None;
 }
 
 /// Actor `number` has these variables, and no turn out.
-pub(crate) fn settle_at(actors: &mut [Actor], number: usize, variables: ArrayVec<Option<Value>, 32>)
-    ensures { actors.new ≡ change actors.old number (with_variables variables.items) }
+pub(crate) fn settle_at(actors: &mut [Actor], number: usize, variables: &[Option<Value>])
+    requires { length variables.now ≤ MOST_VARIABLES }
+    ensures { actors.new ≡ change actors.old number (with_variables variables.now) }
 {
     if number < actors.len() {
         settle(&mut actors[number], variables);

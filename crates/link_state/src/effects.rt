@@ -1,15 +1,15 @@
 //! The effects of a turn as it ends.
 
-ghost use Rattle.std.specs.Prelude.{◌≡◌, ◌≤◌, ◌<◌, ◌+◌, ◌*◌, ◌^◌, [], ◌++◌, length};
+ghost use Rattle.std.specs.Prelude.{◌≡◌, ℕ, ◌≤◌, ◌<◌, ◌+◌, ◌*◌, ◌^◌, [], ◌++◌, length};
 ghost use Rattle.link_machine.specs.Core.{change, names_in};
 ghost use Rattle.link_machine.specs.Names.{actors_of};
-ghost use Rattle.link_machine.specs.Effects.{laid, laid_all, lost_by, losses, delivered, undelivered, drops, until, without, delay, ended, started, finished, lost_in, without_timers, without_first_timers, arrival_of, timers_after, settled};
+ghost use Rattle.link_machine.specs.Effects.{laid, laid_all, lost_by, lost_for, losses, delivered, undelivered, drops, until, without, delay, ended, started, finished, lost_in, without_timers, without_first_timers, arrival_of, timers_after, settled};
 ghost use Rattle.link_machine.specs.Step.{report_of};
 ghost use Rattle.tick_wheel.specs.Turning.{timers_of};
 ghost use Rattle.link_state.specs.Outcomes.{outcome_with, with_variables, HasTimer, HaveTimers};
-ghost use Rattle.profile_limits.specs.Limits.{MOST_ACTORS, MOST_EFFECTS, MOST_TIMERS_EACH, MOST_TURNS_BEGUN};
+ghost use Rattle.profile_limits.specs.Limits.{MOST_ACTORS, MOST_EFFECTS, MOST_TIMERS_EACH, MOST_TURNS_BEGUN, MOST_VARIABLES};
 
-use crate::actors::{deliver_to, end_turn, forget_timer, number_for, refusal_at, settle_at};
+use crate::actors::{deliver_to, end_turn, forget_timer, number_for, settle_at};
 use crate::link::Link;
 use arrayvec::ArrayVec;
 use input_port::Arrival;
@@ -19,35 +19,46 @@ use turn_check::Verified;
 use turn_code::{Address, Effect, End, Party, Sending, TimerNumber, Value, copied_values};
 
 impl Link {
-    /// What one effect of a turn of an actor with this number and this name does.
-    fn lay(&mut self, set: &Verified, actor: u8, name: ActorName, effect: &Effect)
+    /// What one effect of a turn of an actor with this number and this name does. Why nobody got it, if it is an output and nobody did.
+    fn lay(&mut self, set: &Verified, actor: u8, name: ActorName, effect: &Effect) -> Option<Cause>
         requires names { names_in self.old.actors ≡ actors_of set.now.processes }
         requires actor { actor < MOST_ACTORS }
         requires timer { HasTimer effect.now }
-        ensures { self.new ≡ laid actor name self.old effect.now }
+        ensures link { self.new ≡ laid actor name self.old effect.now }
+        ensures lost { (place : ℕ) → lost_for place result ≡ lost_by name self.old place effect.now }
     {
         match effect {
             Effect::Output(sending) => self.send(set, name, sending),
-            Effect::Set(timer, ticks) => self.set(actor, *timer, *ticks),
-            Effect::Reset(timer) => self.reset(actor, *timer),
+            Effect::Set(timer, ticks) => {
+                self.set(actor, *timer, *ticks);
+                None
+            }
+            Effect::Reset(timer) => {
+                self.reset(actor, *timer);
+                None
+            }
         }
     }
 
-    /// An output of an actor comes to its receiver, if that takes it.
-    fn send(&mut self, set: &Verified, sender: ActorName, sending: &Sending)
+    /// An output of an actor comes to its receiver, if that takes it. Why it doesn't, if it doesn't.
+    fn send(&mut self, set: &Verified, sender: ActorName, sending: &Sending) -> Option<Cause>
         requires names { names_in self.old.actors ≡ actors_of set.now.processes }
-        ensures { self.new ≡ delivered sender self.old sending.now sending.now.receiver.party sending.now.receiver.instance }
+        ensures link { self.new ≡ delivered sender self.old sending.now sending.now.receiver.party sending.now.receiver.instance }
+        ensures cause { result ≡ undelivered sender self.old sending.now.receiver.party sending.now.receiver.instance }
     {
         let Address { party, instance } = sending.receiver;
         match party {
-            Party::Environment => self.ring.put(Emitted {
-                sender,
-                signal: sending.signal,
-                parameters: copied_values(&sending.parameters),
-            }),
+            Party::Environment => {
+                let taken = self.ring.put(Emitted {
+                    sender,
+                    signal: sending.signal,
+                    parameters: copied_values(&sending.parameters),
+                });
+                if taken { None } else { Some(Cause::EnvFull) }
+            }
             Party::Process(process) => {
                 let found = number_for(set, &self.actors, sender, process, instance);
-                deliver_to(&mut self.actors, found, arrival_of(sender, sending));
+                deliver_to(&mut self.actors, found, arrival_of(sender, sending))
             }
         }
     }
@@ -79,41 +90,6 @@ impl Link {
         self.wheel.reset(Timer::new(actor, timer.0));
     }
 
-    /// The output of an actor that nobody gets, if an effect is one.
-    fn loss(&self, set: &Verified, sender: ActorName, place: usize, effect: &Effect) -> Option<Lost>
-        requires { names_in self.now.actors ≡ actors_of set.now.processes }
-        ensures { result ≡ lost_by sender self.now place effect.now }
-    {
-        match effect {
-            Effect::Output(sending) => match self.cause(set, sender, sending.receiver) {
-                Some(cause) => Some(Lost { place, cause }),
-                None => None,
-            },
-            Effect::Set(_, _) | Effect::Reset(_) => None,
-        }
-    }
-
-    /// Why a receiver doesn't take a signal of an actor, if it doesn't.
-    fn cause(&self, set: &Verified, sender: ActorName, receiver: Address) -> Option<Cause>
-        requires { names_in self.now.actors ≡ actors_of set.now.processes }
-        ensures { result ≡ undelivered sender self.now receiver.party receiver.instance }
-    {
-        let Address { party, instance } = receiver;
-        match party {
-            Party::Environment => {
-                if self.ring.has_room() {
-                    None
-                } else {
-                    Some(Cause::EnvFull)
-                }
-            }
-            Party::Process(process) => {
-                let found = number_for(set, &self.actors, sender, process, instance);
-                refusal_at(&self.actors, found)
-            }
-        }
-    }
-
     /// What the effects of a turn do, one after another. The outputs that nobody gets.
     fn lay_all(
         &mut self,
@@ -131,10 +107,10 @@ impl Link {
     {
         let mut lost = ArrayVec::new();
         for (place, effect) in effects.iter().enumerate() {
-            if let Some(loss) = self.loss(set, name, place, effect) {
-                lost.push(loss);
+            if let Some(cause) = self.lay(set, actor, name, effect) {
+                let place = place as u8;
+                lost.push(Lost { place, cause });
             }
-            self.lay(set, actor, name, effect);
         }
         lost
     }
@@ -147,18 +123,19 @@ impl Link {
         actor: u8,
         name: ActorName,
         end: End,
-        variables: ArrayVec<Option<Value>, 32>,
+        variables: &[Option<Value>],
         effects: &[Effect],
         count: u32,
     ) -> Report
+        requires variables { length variables.now ≤ MOST_VARIABLES }
         requires names { names_in self.old.actors ≡ actors_of set.now.processes }
         requires actor { actor < MOST_ACTORS }
         requires timers { HaveTimers effects.now }
         requires few { length effects.now ≤ MOST_EFFECTS }
         requires finishes { self.old.finishes < MOST_TURNS_BEGUN }
         requires instructions { self.old.instructions + count < 2 ^ 64 }
-        ensures link { self.new ≡ finished actor name (outcome_with end variables.items effects.now count) self.old }
-        ensures report { result ≡ report_of actor name (outcome_with end variables.items effects.now count) self.old }
+        ensures link { self.new ≡ finished actor name (outcome_with end variables.now effects.now count) self.old }
+        ensures report { result ≡ report_of actor name (outcome_with end variables.now effects.now count) self.old }
     {
         self.start(actor, variables, count);
         let lost = self.lay_all(set, actor, name, effects);
@@ -167,11 +144,12 @@ impl Link {
     }
 
     /// The actor gets the variables that its turn leaves, and the turn is counted.
-    fn start(&mut self, actor: u8, variables: ArrayVec<Option<Value>, 32>, count: u32)
+    fn start(&mut self, actor: u8, variables: &[Option<Value>], count: u32)
+        requires variables { length variables.now ≤ MOST_VARIABLES }
         requires finishes { self.old.finishes < MOST_TURNS_BEGUN }
         requires instructions { self.old.instructions + count < 2 ^ 64 }
         ensures { self.new ≡ record self.old {
-          actors = change self.old.actors actor (with_variables variables.items);
+          actors = change self.old.actors actor (with_variables variables.now);
           finishes = self.old.finishes + 1;
           instructions = self.old.instructions + count;
         } }

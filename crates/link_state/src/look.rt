@@ -7,8 +7,8 @@ ghost use Rattle.input_port.specs.Saves.{saves};
 ghost use Rattle.input_port.specs.Queue.{first_unsaved, without_first};
 ghost use Rattle.input_port.specs.declared.queue.Item.{Item as PlainItem};
 ghost use Rattle.turn_check.specs.Answered.{same_trigger};
-ghost use Rattle.link_machine.specs.Looking.{trigger_of, is_saved, looks, found_at, as_input, item_at, left_at, taken, input_for};
-ghost use Rattle.link_state.specs.Saving.{IsSmall};
+ghost use Rattle.link_machine.specs.Looking.{trigger_of, is_saved, looks, found_at, found_item, as_input, number_in, item_at, left_at, taken, input_for};
+ghost use Rattle.link_state.specs.Saving.{IsSmall, number_with};
 
 use input_port::{Item, Port, Saved};
 use link_machine::{Actor, Found, Standing};
@@ -78,21 +78,72 @@ fn found_as(set: &Verified, number: u8, state: StateNumber, item: &Item) -> Foun
     }
 }
 
+/// The number of the input that an item is to an actor that took it, 0 where it took none.
+pub(crate) fn number_of(
+    set: &Verified,
+    number: u8,
+    standing: Standing,
+    item: &Option<Item>,
+) -> usize
+    ensures { result ≡ number_with set.now number standing item.now }
+{
+    match standing {
+        Standing::Stopped | Standing::At(Place::Start) => 0,
+        Standing::At(Place::State(state)) => match item {
+            Some(item) => number_in(found_as(set, number, state, item)),
+            None => 0,
+        },
+    }
+}
+
+/// The number of the input that is found, 0 at START.
+fn number_in(found: Found) -> usize
+    ensures { result ≡ number_in found }
+{
+    match found {
+        Found::Input(number) => number,
+        Found::Nothing | Found::Start | Found::Ignored => 0,
+    }
+}
+
+/// What an actor finds in a state.
+#[inline(never)]
+fn found_in(set: &Verified, number: u8, state: StateNumber, port: &Port) -> Found
+    ensures { result ≡ found_item set.now number state.0 (first_unsaved (is_saved set.now number state.0) port.now.items) }
+{
+    match first_item(set, number, state, port) {
+        Some(item) => found_as(set, number, state, item),
+        None => Found::Nothing,
+    }
+}
+
+/// The same. Of an empty port, as most are, nothing is asked.
+#[inline]
+#[tactic(auto, using(crate::proofs::Looking::nothing_in))]
+fn found_there(set: &Verified, number: u8, state: StateNumber, port: &Port) -> Found
+    ensures { result ≡ found_item set.now number state.0 (first_unsaved (is_saved set.now number state.0) port.now.items) }
+{
+    if port.is_empty() {
+        Found::Nothing
+    } else {
+        found_in(set, number, state, port)
+    }
+}
+
 /// What an actor finds.
+#[inline]
 fn found_at(set: &Verified, number: u8, standing: Standing, port: &Port) -> Found
     ensures { result ≡ found_at set.now number standing port.now.items }
 {
     match standing {
         Standing::Stopped => Found::Nothing,
         Standing::At(Place::Start) => Found::Start,
-        Standing::At(Place::State(state)) => match first_item(set, number, state, port) {
-            Some(item) => found_as(set, number, state, item),
-            None => Found::Nothing,
-        },
+        Standing::At(Place::State(state)) => found_there(set, number, state, port),
     }
 }
 
 /// What an actor finds.
+#[inline]
 pub(crate) fn look(set: &Verified, actor: &Actor) -> Found
     ensures { result ≡ looks set.now actor.now }
 {

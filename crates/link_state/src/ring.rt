@@ -51,18 +51,12 @@ impl Ring {
         self.items.get(place)
     }
 
-    /// Whether there is room for one more.
-    pub(crate) fn has_room(&self) -> bool
-        ensures { result ≡ has_room self.now }
+    /// Puts a signal behind the others, where there is room. Whether there was.
+    pub(crate) fn put(&mut self, emitted: Emitted) -> bool
+        ensures ring { self.new ≡ with_emitted self.old emitted }
+        ensures room { result ≡ has_room self.old }
     {
-        self.items.len() < self.items.capacity()
-    }
-
-    /// Puts a signal behind the others, where there is room.
-    pub(crate) fn put(&mut self, emitted: Emitted)
-        ensures { self.new ≡ with_emitted self.old emitted }
-    {
-        let _full = self.items.try_push_back(emitted).is_err();
+        self.items.try_push_back(emitted).is_ok()
     }
 
     /// Takes the signal that has waited longest.

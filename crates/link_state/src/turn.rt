@@ -2,7 +2,7 @@
 
 ghost use Rattle.std.specs.Prelude.{◌≡◌, ◌<◌, ◌+◌, ◌^◌, Option, Some, None, option_map, slice_get};
 ghost use Rattle.link_machine.specs.Core.{change, is_out};
-ghost use Rattle.link_machine.specs.Looking.{looks, item_at, number_in, input_with, given_now, begun, skipped};
+ghost use Rattle.link_machine.specs.Looking.{looks, item_at, input_with, given_now, begun, skipped};
 ghost use Rattle.link_machine.specs.Refusals.{begin_rows, skip_rows, first_of};
 ghost use Rattle.link_machine.specs.Looking.{trigger_of};
 ghost use Rattle.link_machine.specs.declared.actor.Actor.{Actor as PlainActor};
@@ -10,7 +10,7 @@ ghost use Rattle.link_state.specs.Saving.{skipped_by};
 ghost use Rattle.profile_limits.specs.Limits.{MOST_TURNS_BEGUN};
 
 use crate::link::Link;
-use crate::look::{look, take, trigger_of};
+use crate::look::{look, number_of, take, trigger_of};
 use arrayvec::ArrayVec;
 use input_port::Item;
 use link_machine::{Actor, Found, Given, Refusal};
@@ -54,16 +54,6 @@ pub(crate) fn skip_refusal(set: &Verified, actor: &Actor) -> Option<Refusal>
     }
 }
 
-/// The number of the input that is found, 0 at START.
-fn number_of(found: Found) -> usize
-    ensures { result ≡ number_in found }
-{
-    match found {
-        Found::Input(number) => number,
-        Found::Nothing | Found::Start | Found::Ignored => 0,
-    }
-}
-
 /// What a turn is given.
 fn input_with(variables: &ArrayVec<Option<Value>, 32>, item: Option<Item>) -> Input
     ensures { (a : PlainActor) → a.variables ≡ variables.now → result ≡ input_with a item }
@@ -86,12 +76,13 @@ fn input_with(variables: &ArrayVec<Option<Value>, 32>, item: Option<Item>) -> In
 fn begin(set: &Verified, turn: u64, actor: &mut Actor)
     ensures { actor.new ≡ begun set.now turn actor.old }
 {
-    let found = look(set, actor);
-    let item = take(set, actor.name.process.0, actor.standing, &mut actor.port);
+    let process = actor.name.process.0;
+    let item = take(set, process, actor.standing, &mut actor.port);
+    let number = number_of(set, process, actor.standing, &item);
     let input = input_with(&actor.variables, item);
     actor.given = Some(Given {
         turn,
-        number: number_of(found),
+        number,
         input,
     });
 }

@@ -1,7 +1,10 @@
 use Rattle.std.proofs.Common.{rules}
-use Rattle.link_machine.specs.Looking.{begun, given_now}
+use Rattle.link_machine.specs.Looking.{begun, given_now, looks}
+use Rattle.link_state.proofs.Looking.{number_found}
 use Rattle.link_state.proofs.turn.begin.Goals as goal
 
 pub returns : goal.returns
-unfolding begun given_now
-returns c = search rules
+unfolding begun given_now looks
+returns c =
+    let number = number_found c.args.set.now c.args.actor.now.name.process.0 c.args.actor.now.standing c.args.actor.now.port.items in
+    search rules

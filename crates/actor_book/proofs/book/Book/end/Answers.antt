@@ -19,7 +19,7 @@ finish-report-requires-clause-names c = names_known _ _ _ c.fits_law.ensures c.s
 pub finish-report-requires-clause-timers : goal.finish-report-requires-clause-timers
 finish-report-requires-clause-timers c =
     timers_in _ _ _ c.args.actor _ c.self.view_is _ c.self.invariant c.requires c.effects_law.ensures c.fits_law.ensures _ _ _ _
-    (from_parts (outcome_of c.args.done.now) _ _ _ _ c.end.ensures c.variables_after.ensures c.effects.ensures.value c.count.ensures.value)
+    (from_parts (outcome_of c.args.done.now) _ _ _ _ c.end.ensures c.variables_after.ensures.value c.effects.ensures.value c.count.ensures.value)
 
 pub finish-report-requires-clause-few : goal.finish-report-requires-clause-few
 finish-report-requires-clause-few c =
@@ -36,7 +36,7 @@ invariant_of-self c =
     new_inside c.keeps_law.ensures _ _ c.self.view_is _ _ c.self.invariant _ (takes_in _ _ _ c.args.actor _ c.self.view_is _ c.self.invariant c.requires c.out_law.ensures)
     c.state_law.ensures _ _ _ c.note.ensures.items
     (c.finish-report.ensures.link ∙ link_ends _ _ _ c.args.actor _ c.self.view_is _ c.self.invariant c.requires _ _ _ c.number_in-number.ensures.value c.name_in-name.ensures
-    (from_parts (outcome_of c.args.done.now) _ _ _ _ c.end.ensures c.variables_after.ensures c.effects.ensures.value c.count.ensures.value))
+    (from_parts (outcome_of c.args.done.now) _ _ _ _ c.end.ensures c.variables_after.ensures.value c.effects.ensures.value c.count.ensures.value))
     c.note.ensures.capacity
 
 pub returns-clause-book : goal.returns-clause-book
@@ -48,7 +48,7 @@ pub returns-clause-answer : goal.returns-clause-answer
 returns-clause-answer c =
     ap (λ (r : Report). Says (reply.Finished r)) c.finish-report.ensures.report
     ∙ link_reports _ _ _ c.args.actor _ c.self.view_is _ c.self.invariant c.requires _ _ _ c.number_in-number.ensures.value c.name_in-name.ensures
-    (from_parts (outcome_of c.args.done.now) _ _ _ _ c.end.ensures c.variables_after.ensures c.effects.ensures.value c.count.ensures.value)
+    (from_parts (outcome_of c.args.done.now) _ _ _ _ c.end.ensures c.variables_after.ensures.value c.effects.ensures.value c.count.ensures.value)
     ∙ new_answer c.keeps_law.ensures _ _ c.self.view_is _ _ c.self.invariant _ (takes_in _ _ _ c.args.actor _ c.self.view_is _ c.self.invariant c.requires c.out_law.ensures)
 
 pub returns-clause-next : goal.returns-clause-next

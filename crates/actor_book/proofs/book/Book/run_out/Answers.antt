@@ -1,6 +1,4 @@
-use Rattle.std.proofs.Common.{ap, ◌∙◌, le_trans, Option}
-use Rattle.arrayvec.specs.ArrayVec.{ArrayVec}
-use Rattle.turn_code.specs.declared.value.Value.{Value}
+use Rattle.std.proofs.Common.{ap, ◌∙◌, le_trans}
 use Rattle.link_machine.specs.Step.{Says}
 use Rattle.link_machine.specs.declared.reply.Report.{Report}
 use Rattle.link_machine.specs.declared.reply.Reply.TheVariants as reply
@@ -27,14 +25,12 @@ finish-report-requires-clause-names c = names_known _ _ _ c.fits_law.ensures c.s
 
 pub finish-report-requires-clause-timers : goal.finish-report-requires-clause-timers
 finish-report-requires-clause-timers c =
-    let k = ends_out _ _ _ _ c.self.view_is c.self.invariant _ c.args.actor c.actors.ensures.value _ c.run_at-end.new.machine _ _
-    (ap (λ (v : ArrayVec (Option Value)). v.items) c.copied_variables.ensures) c.as_slice.ensures.value c.run_at-end.ensures in
+    let k = ends_out _ _ _ _ c.self.view_is c.self.invariant _ c.args.actor c.actors.ensures.value _ c.run_at-end.new.machine _ _ c.as_slice.ensures.value c.as_slice-2.ensures.value c.run_at-end.ensures in
     timers_in _ _ _ c.args.actor _ c.self.view_is _ c.self.invariant k.is c.effects_law.ensures c.fits_law.ensures _ _ _ _ k.ran
 
 pub finish-report-requires-clause-few : goal.finish-report-requires-clause-few
 finish-report-requires-clause-few c =
-    let k = ends_out _ _ _ _ c.self.view_is c.self.invariant _ c.args.actor c.actors.ensures.value _ c.run_at-end.new.machine _ _
-    (ap (λ (v : ArrayVec (Option Value)). v.items) c.copied_variables.ensures) c.as_slice.ensures.value c.run_at-end.ensures in
+    let k = ends_out _ _ _ _ c.self.view_is c.self.invariant _ c.args.actor c.actors.ensures.value _ c.run_at-end.new.machine _ _ c.as_slice.ensures.value c.as_slice-2.ensures.value c.run_at-end.ensures in
     le_trans k.few (few_effects _ c.args.actor _ c.self.invariant.kept (still_out _ _ _ _ c.self.view_is k.is))
 
 pub finish-report-requires-clause-finishes : goal.finish-report-requires-clause-finishes
@@ -47,8 +43,7 @@ note-requires c =
 
 pub invariant_of-self : goal.invariant_of-self
 invariant_of-self c =
-    let k = ends_out _ _ _ _ c.self.view_is c.self.invariant _ c.args.actor c.actors.ensures.value _ c.run_at-end.new.machine _ _
-    (ap (λ (v : ArrayVec (Option Value)). v.items) c.copied_variables.ensures) c.as_slice.ensures.value c.run_at-end.ensures in
+    let k = ends_out _ _ _ _ c.self.view_is c.self.invariant _ c.args.actor c.actors.ensures.value _ c.run_at-end.new.machine _ _ c.as_slice.ensures.value c.as_slice-2.ensures.value c.run_at-end.ensures in
     new_inside c.keeps_law.ensures _ _ c.self.view_is _ _ c.self.invariant _ (takes_in _ _ _ c.args.actor _ c.self.view_is _ c.self.invariant k.is c.out_law.ensures)
     c.state_law.ensures _ _ _ c.note.ensures.items
     (c.finish-report.ensures.link ∙ link_ends _ _ _ c.args.actor _ c.self.view_is _ c.self.invariant k.is _ _ _ c.number_in-number.ensures.value c.name_in-name.ensures k.ran)
@@ -61,8 +56,7 @@ returns-clause-book c =
 
 pub returns-clause-answer : goal.returns-clause-answer
 returns-clause-answer c =
-    let k = ends_out _ _ _ _ c.self.view_is c.self.invariant _ c.args.actor c.actors.ensures.value _ c.run_at-end.new.machine _ _
-    (ap (λ (v : ArrayVec (Option Value)). v.items) c.copied_variables.ensures) c.as_slice.ensures.value c.run_at-end.ensures in
+    let k = ends_out _ _ _ _ c.self.view_is c.self.invariant _ c.args.actor c.actors.ensures.value _ c.run_at-end.new.machine _ _ c.as_slice.ensures.value c.as_slice-2.ensures.value c.run_at-end.ensures in
     ap (λ (r : Report). Says (reply.Finished r)) c.finish-report.ensures.report
     ∙ link_reports _ _ _ c.args.actor _ c.self.view_is _ c.self.invariant k.is _ _ _ c.number_in-number.ensures.value c.name_in-name.ensures k.ran
     ∙ new_answer c.keeps_law.ensures _ _ c.self.view_is _ _ c.self.invariant _
@@ -70,8 +64,7 @@ returns-clause-answer c =
 
 pub returns-clause-within : goal.returns-clause-within
 returns-clause-within c =
-    let k = ends_out _ _ _ _ c.self.view_is c.self.invariant _ c.args.actor c.actors.ensures.value _ c.run_at-end.new.machine _ _
-    (ap (λ (v : ArrayVec (Option Value)). v.items) c.copied_variables.ensures) c.as_slice.ensures.value c.run_at-end.ensures in
+    let k = ends_out _ _ _ _ c.self.view_is c.self.invariant _ c.args.actor c.actors.ensures.value _ c.run_at-end.new.machine _ _ c.as_slice.ensures.value c.as_slice-2.ensures.value c.run_at-end.ensures in
     took _ _ _ _ _ _ (ap (λ (r : Report). r.count) c.finish-report.ensures.report) k
 
 pub returns-clause-next : goal.returns-clause-next
