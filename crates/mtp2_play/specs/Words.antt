@@ -1,6 +1,8 @@
 -- What a command line asks for.
-use Rattle.std.specs.Prelude.{◌≡◌, ◌≤◌, ℕ, List, Option, Some, None, codes}
+use Rattle.std.specs.Prelude.{◌≡◌, ℕ, if◌then◌else◌, List, Option, Some, None, option_and_then, codes}
+use Rattle.std.specs.Int.{is_in_range}
 use Rattle.profile_limits.specs.Limits.{LEAST_WORKERS, MOST_WORKERS}
+use Rattle.script_lines.specs.Numbers.{count_of}
 use Rattle.text_check.specs.mtp2_text_types.standard_text.TheConstants.{STANDARD}
 use Rattle.text_check.specs.mtp2_text_types.monitors_text.TheConstants.{MONITORS}
 use Rattle.text_check.specs.declared.sets.SetWord.{SetWord}
@@ -61,13 +63,21 @@ IsPlay set_word script_word (Soak script workers) = ⊥
 IsPlay set_word script_word (Line set end) = ⊥
 IsPlay set_word script_word (Frame octets) = ⊥
 
--- what `soak` asks for by the word for the script
-abbrev pub IsSoak : List ℕ → Request → Type 0
-IsSoak script_word (Check set) = ⊥
-IsSoak script_word (Play set script) = ⊥
-IsSoak script_word (Soak script workers) = IsSource script script_word × (LEAST_WORKERS ≤ workers) × (workers ≤ MOST_WORKERS)
-IsSoak script_word (Line set end) = ⊥
-IsSoak script_word (Frame octets) = ⊥
+-- as many workers as may serve
+abbrev pub as_many : ℕ → Option ℕ
+as_many n = if is_in_range LEAST_WORKERS MOST_WORKERS n then Some n else None
+
+-- the number of workers that a word says: a count, and such a one
+abbrev pub workers_of : List ℕ → Option ℕ
+workers_of word = option_and_then as_many (count_of word)
+
+-- what `soak` asks for by two words
+abbrev pub IsSoak : List ℕ → List ℕ → Request → Type 0
+IsSoak script_word workers_word (Check set) = ⊥
+IsSoak script_word workers_word (Play set script) = ⊥
+IsSoak script_word workers_word (Soak script workers) = IsSource script script_word × (workers_of workers_word ≡ Some workers)
+IsSoak script_word workers_word (Line set end) = ⊥
+IsSoak script_word workers_word (Frame octets) = ⊥
 
 -- the set that a word names for a terminal on a line: standard input is the line, and no text
 abbrev pub IsTextNamed : Named → List ℕ → Type 0

@@ -243,8 +243,3 @@ fn main(rt: HostRuntime) -> ExitCode {
     }
     ExitCode::from(status)
 }
-
-#[cfg(test)]
-mod stream_tests;
-#[cfg(test)]
-mod tests;

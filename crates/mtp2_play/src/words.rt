@@ -1,12 +1,12 @@
 //! The command line.
-ghost use Rattle.std.specs.Prelude.{◌≡◌, ◌↔◌, ◌≤◌, Some, IfSome, IsNone, IsTrue, option_map, codes};
+ghost use Rattle.std.specs.Prelude.{◌≡◌, ◌↔◌, Some, None, IfSome, IsNone, IsTrue, option_map, codes};
 ghost use Rattle.clap.specs.Words.{subcommand_name_of};
-ghost use Rattle.profile_limits.specs.Limits.{LEAST_WORKERS, MOST_WORKERS};
-ghost use Rattle.mtp2_play.specs.Words.{command_of, own_set_of, IsNamed, IsSource, AreStdin, IsPlay, IsSoak, IsTextNamed, IsText};
+ghost use Rattle.mtp2_play.specs.Words.{command_of, own_set_of, workers_of, IsNamed, IsSource, AreStdin, IsPlay, IsSoak, IsTextNamed, IsText};
 
 use clap::error::ErrorKind;
 use clap::{Arg, ArgMatches, Command, Error};
 use line_command::{LineEnd, LineWords, line_end};
+use script_lines::count;
 use std::alloc::{AllocError, Global};
 use text_check::SetWord;
 
@@ -102,19 +102,20 @@ fn played<'a>(set: &'a str, script: &'a str) -> Option<Request<'a>>
     })
 }
 
-/// The number of workers that a word says, 1 to 16.
+/// The number of workers that a word says: digits without a sign, 1 to 16.
 fn workers_of(word: &str) -> Option<usize>
-    ensures { IfSome result (λ n. (LEAST_WORKERS ≤ n) × (n ≤ MOST_WORKERS)) }
+    ensures { result ≡ workers_of word.now }
 {
-    match word.parse::<usize>() {
-        Ok(workers) if 1 <= workers && workers <= 16 => Some(workers),
+    match count(word) {
+        Some(workers) if 1 <= workers && workers <= 16 => Some(workers as usize),
         _ => None,
     }
 }
 
-/// The script and the number of workers that two words name.
+/// The script and the number of workers that two words name; none where the second says no such number.
 fn soaked<'a>(script: &'a str, workers: &str) -> Option<Request<'a>>
-    ensures { IfSome result (IsSoak script.now) }
+    ensures soak { IfSome result (IsSoak script.now workers.now) }
+    ensures none { IsNone result → workers_of workers.now ≡ None }
 {
     match workers_of(workers) {
         Some(workers) => Some(Request::Soak {
