@@ -29,7 +29,7 @@ struct event { int kind, actor, signal, count; struct value value[4]; };
 struct emitted { int sender, signal, count; struct value value[4]; };
 struct book {
     const struct set *set;
-    int port, env, most, emitted, events;
+    int port, env, most, first, emitted, events;
     uint64_t clock, turns, finishes, instructions, deadline[16][8];
     struct actor actor[16];
     struct emitted *ring;
@@ -167,24 +167,30 @@ static void take_out(struct actor *a, int i) {
     a->items--;
 }
 
-/* 0 where there is nothing, 2 where a signal is to be skipped first */
-static int begin(struct book *b, int actor, struct job *job) {
+/* what an actor would run, and the signal that it takes for it: 0 where there is nothing, 2 where a signal is to be skipped first */
+static int next_piece(struct book *b, int actor, const struct piece **piece, struct item *given) {
     struct actor *a = &b->actor[actor];
     if (actor >= b->set->processes || a->out || a->standing == STOPPED) return 0;
     const struct process *p = &b->set->process[actor];
     if (a->standing == START) {
-        job->piece = &p->start;
+        *piece = &p->start;
     } else {
         const struct state *s = &p->state[a->standing];
         int i = first_item(a, s), k = 0;
         if (i < 0) return 0;
         while (k < s->inputs && !same(s->input[k].trigger, a->item[i].trigger)) k++;
         if (k == s->inputs) return 2;
-        job->piece = &s->input[k].piece;
-        job->given = a->item[i];
+        *piece = &s->input[k].piece;
+        *given = a->item[i];
         take_out(a, i);
     }
-    if (b->events + 2 > b->most) return 0;
+    return b->events + 2 <= b->most;
+}
+
+static int begin(struct book *b, int actor, struct job *job) {
+    int found = next_piece(b, actor, &job->piece, &job->given);
+    if (found != 1) return found;
+    struct actor *a = &b->actor[actor];
     job->actor = actor;
     job->turn = a->turn = ++b->turns;
     memcpy(job->variable, a->variable, sizeof a->variable);
@@ -216,12 +222,11 @@ static int holds(int relation, int32_t x, int32_t y) {
 
 static int32_t wrapped(int64_t n) { return (int32_t)(uint32_t)(uint64_t)n; }
 
-static void run(const struct job *job, struct done *done) {
+/* runs code on these variables, and says in `done` how it ended, with which effects */
+static void run_code(const struct instruction *code, const struct item *given, struct value *variable, struct done *done) {
     struct value stack[17], *top = stack;
-    const struct instruction *code = job->piece->code;
     int at = 0;
-    done->actor = job->actor; done->turn = job->turn; done->effects = 0; done->count = 0;
-    memcpy(done->variable, job->variable, sizeof done->variable);
+    done->effects = 0; done->count = 0;
 #define PUT(s, v) do { top->sort = (s); top->n = (v); top++; } while (0)
 #define TWO(s, v) do { int32_t x = top[-2].n, y = top[-1].n; (void)x; (void)y; top--; top[-1].sort = (s); top[-1].n = (v); } while (0)
     for (;;) {
@@ -230,9 +235,9 @@ static void run(const struct job *job, struct done *done) {
         switch (it->which) {
         case 0: PUT(INTEGER, it->a); break;
         case 1: PUT(BOOLEAN, it->a); break;
-        case 2: *top++ = done->variable[it->a]; break;
-        case 3: done->variable[it->a] = *--top; break;
-        case 4: *top++ = job->given.value[it->a]; break;
+        case 2: *top++ = variable[it->a]; break;
+        case 3: variable[it->a] = *--top; break;
+        case 4: *top++ = given->value[it->a]; break;
         case 5: TWO(INTEGER, wrapped((int64_t)x + y)); break;
         case 6: TWO(INTEGER, wrapped((int64_t)x - y)); break;
         case 7: TWO(INTEGER, wrapped((int64_t)x * y)); break;
@@ -253,7 +258,7 @@ static void run(const struct job *job, struct done *done) {
         case 22: at = it->a; break;
         case 23: {
             struct effect *e = &done->effect[done->effects++];
-            e->kind = 0; e->number = it->a; e->to = it->b == SENDER ? job->given.sender : it->b; e->count = it->c;
+            e->kind = 0; e->number = it->a; e->to = it->b == SENDER ? given->sender : it->b; e->count = it->c;
             top -= it->c;
             memcpy(e->value, top, sizeof(struct value) * (size_t)it->c);
             break;
@@ -266,6 +271,12 @@ static void run(const struct job *job, struct done *done) {
     }
 }
 
+static void run(const struct job *job, struct done *done) {
+    done->actor = job->actor; done->turn = job->turn;
+    memcpy(done->variable, job->variable, sizeof done->variable);
+    run_code(job->piece->code, &job->given, done->variable, done);
+}
+
 static void drop_timer(struct actor *a, int timer) {
     for (int i = 0; i < a->items; i++)
         if (a->item[i].trigger.kind == 1 && a->item[i].trigger.number == timer) { take_out(a, i); return; }
@@ -274,7 +285,7 @@ static void drop_timer(struct actor *a, int timer) {
 static void lay(struct book *b, int sender, const struct effect *e) {
     if (e->kind == 0 && e->to == ENV) {
         if (b->emitted < b->env) {
-            struct emitted *m = &b->ring[b->emitted++];
+            struct emitted *m = &b->ring[(b->first + b->emitted++) % b->env];
             m->sender = sender; m->signal = e->number; m->count = e->count;
             memcpy(m->value, e->value, sizeof(struct value) * (size_t)e->count);
         }
@@ -286,36 +297,68 @@ static void lay(struct book *b, int sender, const struct effect *e) {
     }
 }
 
+static void end_turn(struct book *b, int actor, const struct done *done) {
+    struct actor *a = &b->actor[actor];
+    b->finishes++;
+    b->instructions += done->count;
+    for (int i = 0; i < done->effects; i++) lay(b, actor, &done->effect[i]);
+    a->standing = done->end;
+    if (done->end == STOPPED) { a->items = 0; memset(b->deadline[actor], 0, sizeof b->deadline[0]); }
+    keep(b, 3, actor);
+}
+
 static int finish(struct book *b, const struct done *done) {
     struct actor *a = &b->actor[done->actor];
     if (!a->out || a->turn != done->turn) return 0;
     memcpy(a->variable, done->variable, sizeof a->variable);
     a->out = 0;
-    b->finishes++;
-    b->instructions += done->count;
-    for (int i = 0; i < done->effects; i++) lay(b, done->actor, &done->effect[i]);
-    a->standing = done->end;
-    if (done->end == STOPPED) { a->items = 0; memset(b->deadline[done->actor], 0, sizeof b->deadline[0]); }
-    keep(b, 3, done->actor);
+    end_turn(b, done->actor, done);
     return 1;
 }
 
-static int try_actor(struct book *b, int actor) {
+static int turn_by_job(struct book *b, int actor) {
     struct job job;
     struct done done;
     int began = begin(b, actor, &job);
     if (began == 2) return skip(b, actor);
-    if (!began) return 0;
+    if (began != 1) return 0;
     run(&job, &done);
     return finish(b, &done);
 }
 
-static void rest(struct book *b) {
+/* the same without a job: the code runs where it stands, on the actor's own variables */
+static int turn_by_book(struct book *b, int actor) {
+    const struct piece *piece;
+    struct item given;
+    struct done done;
+    int found = next_piece(b, actor, &piece, &given);
+    if (found == 2) return skip(b, actor);
+    if (found != 1) return 0;
+    b->turns++;
+    keep(b, 1, actor);
+    run_code(piece->code, &given, b->actor[actor].variable, &done);
+    end_turn(b, actor, &done);
+    return 1;
+}
+
+typedef int turn(struct book *b, int actor);
+
+static void rest(struct book *b, turn *turn) {
     for (int turns = 0; turns < 10000; turns++) {
         int actor = 0;
-        while (actor < b->set->processes && !try_actor(b, actor)) actor++;
+        while (actor < b->set->processes && !turn(b, actor)) actor++;
         if (actor == b->set->processes) return;
     }
+}
+
+/* the environment takes the signal that has waited longest */
+static int take_env(struct book *b, struct emitted *taken) {
+    if (!b->emitted || b->events >= b->most) return 0;
+    *taken = b->ring[b->first];
+    b->first = (b->first + 1) % b->env;
+    b->emitted--;
+    keep(b, 5, 0);
+    return 1;
 }
 
 /* ---- the rounds */
@@ -343,51 +386,90 @@ static int peak(char **words) {
     return 0;
 }
 
-int main(int argc, char **argv) {
-    if (argc > 2 && !strcmp(argv[1], "peak")) return peak(argv + 2);
-    if (argc < 4) { fprintf(stderr, "plain_book COUNTER STANDARD LONG [ROUNDS], or plain_book peak PROGRAM WORD ..\n"); return 1; }
-    struct set *counter = read_set(argv[1]), *standard = read_set(argv[2]), *longs = read_set(argv[3]);
-    int asked = argc > 4 ? atoi(argv[4]) : 0, rounds = asked ? asked : 1;
-    struct book *b = open_book(counter, 64, 64, 65536);
-    try_actor(b, 0);
+/* turns of the counter, from offer to end */
+static void count(const struct set *set, const char *name, turn *turn, int rounds, int asked) {
+    struct book *b = open_book(set, 64, 64, 65536);
+    turn(b, 0);
     double start = now();
     for (int r = 0; r < rounds; r++) {
         b->events = 0;
         for (int i = 0; i < 300; i++) {
             for (int k = 0; k < 64; k++) { struct value v = { INTEGER, k }; offer(b, 0, 0, &v, 1); }
-            for (int k = 0; k < 64; k++) try_actor(b, 0);
+            for (int k = 0; k < 64; k++) turn(b, 0);
         }
     }
-    report("counter", b->finishes, start, asked);
+    report(name, b->finishes, start, asked);
     close_book(b);
+}
 
+/* turns of the profile, a book opened for each power-on and start */
+static void open_links(const struct set *set, const char *name, int rounds, int asked) {
     uint64_t turns = 0;
-    start = now();
+    double start = now();
     for (int r = 0; r < 100 * rounds; r++) {
-        b = open_book(standard, 16, 64, 256);
-        rest(b);
+        struct book *b = open_book(set, 16, 64, 256);
+        rest(b, turn_by_job);
         offer(b, 0, 0, NULL, 0);
-        rest(b);
+        rest(b, turn_by_job);
         offer(b, 0, 1, NULL, 0);
-        rest(b);
+        rest(b, turn_by_job);
         turns += b->finishes;
         close_book(b);
     }
-    report("standard", turns, start, asked);
+    report(name, turns, start, asked);
+}
 
-    b = open_book(longs, 1, 1, 16);
-    try_actor(b, 0);
+static void signal_comes(struct book *b, turn *turn, int signal) {
+    struct emitted taken;
+    offer(b, 0, signal, NULL, 0);
+    rest(b, turn);
+    while (take_env(b, &taken)) {}
+}
+
+/* turns of the profile in one book, whose link starts and stops */
+static void cycle(const struct set *set, const char *name, turn *turn, int rounds, int asked) {
+    struct book *b = open_book(set, 64, 64, 65536);
+    rest(b, turn);
+    signal_comes(b, turn, 0);
+    double start = now();
+    for (int r = 0; r < rounds; r++) {
+        b->events = 0;
+        for (int i = 0; i < 300; i++) { signal_comes(b, turn, 1); signal_comes(b, turn, 2); }
+    }
+    report(name, b->finishes, start, asked);
+    close_book(b);
+}
+
+/* instructions of the long piece, run again and again where it stands */
+static void run_long(const struct set *set, const char *name, int rounds, int asked) {
+    struct book *b = open_book(set, 1, 1, 16);
     struct value seven = { INTEGER, 7 };
     struct job job;
     struct done done;
     uint64_t instructions = 0;
-    if (!offer(b, 0, 0, &seven, 1) || begin(b, 0, &job) != 1) return 1;
-    start = now();
+    turn_by_job(b, 0);
+    if (!offer(b, 0, 0, &seven, 1) || begin(b, 0, &job) != 1) exit(1);
+    double start = now();
     for (int r = 0; r < 1000 * rounds; r++) {
         run(&job, &done);
         instructions += done.count;
         __asm__ volatile("" : : "r"(&done) : "memory");
     }
-    report("long", instructions, start, asked);
+    report(name, instructions, start, asked);
+    close_book(b);
+}
+
+int main(int argc, char **argv) {
+    if (argc > 2 && !strcmp(argv[1], "peak")) return peak(argv + 2);
+    if (argc < 4) { fprintf(stderr, "plain_book COUNTER STANDARD LONG [ROUNDS], or plain_book peak PROGRAM WORD ..\n"); return 1; }
+    struct set *counter = read_set(argv[1]), *standard = read_set(argv[2]), *longs = read_set(argv[3]);
+    int asked = argc > 4 ? atoi(argv[4]) : 0, rounds = asked ? asked : 1;
+    count(counter, "counter", turn_by_job, rounds, asked);
+    open_links(standard, "standard", rounds, asked);
+    run_long(longs, "long", rounds, asked);
+    count(counter, "counter_own", turn_by_book, rounds, asked);
+    cycle(standard, "standard_own", turn_by_book, rounds, asked);
+    cycle(standard, "standard_job", turn_by_job, rounds, asked);
+    run_long(longs, "straight", rounds, asked);
     return 0;
 }

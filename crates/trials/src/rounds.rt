@@ -11,8 +11,10 @@
 //!   octets a second: `in` and `out` through the terminal, `deframer` and `stuffer` through these alone on the same octets; and `ticks`,
 //!   ticks a second that come one by one.
 //! - `book [ROUNDS]`: turns of a book, and runs of code. Shows how many turns and instructions there were; with a number of rounds how many
-//!   in a second: `counter`, turns of the counter from offer to finish; `standard`, turns of the profile's processes, a book opened anew for
-//!   each power-on and start; `long`, instructions of a piece of 512, whose job is copied for each run.
+//!   in a second: `counter`, turns of the counter by jobs, from offer to finish; `standard`, turns of the profile's processes, a book opened
+//!   anew for each power-on and start; `long`, instructions of a piece of 512, whose job is copied for each run; `counter_own`, turns of the
+//!   counter that its book makes without a job; `standard_own` and `standard_job`, turns of the profile's processes in one book, whose link
+//!   starts and stops, made by the book and by jobs; `straight`, instructions of the piece of 512, run where it stands in its set.
 //! - `wheel [ROUNDS]`: 8, 64 and 1,024 timers that aren't due yet, in all slots alike, and 10,000 ticks, one by one. Shows how many timers
 //!   were looked at; with a number of rounds how many ticks passed in a second, `wheel` in a wheel and `table` in a table of deadlines that
 //!   is walked whole.
@@ -39,11 +41,14 @@ mod line_rounds;
 mod link_rounds;
 mod pool_rounds;
 mod port_rounds;
+mod rows;
 mod service;
 mod set_rounds;
 mod sets;
 mod store;
+mod straight;
 mod traffic;
+mod turns;
 mod wheel_rounds;
 
 use crate::calls::Stopped;

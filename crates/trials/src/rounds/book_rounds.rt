@@ -5,7 +5,10 @@ use crate::rounds::books::{Measured, Task, with_book};
 use crate::rounds::clock::{now, rate, since};
 use crate::rounds::code::write_set;
 use crate::rounds::pool_rounds::write_pool;
+use crate::rounds::rows::{ROWS, Row};
 use crate::rounds::sets::{Set, load_set};
+use crate::rounds::straight::run_straight;
+use crate::rounds::turns::By;
 use standard_link::Verified;
 use std::alloc::Global;
 use std::rt::{Clock, Runtime};
@@ -18,8 +21,8 @@ const OPENINGS: u32 = 100;
 /// What is asked of a set.
 #[derive(Clone, Copy)]
 pub enum Question {
-    /// What a round of its book has, or how many things in a second in so many rounds.
-    Turns(Option<u32>),
+    /// What a round of a row has, or how many things in a second in so many rounds.
+    Turns(Row, Option<u32>),
     /// Its code.
     Code,
     /// How many events a book has that is held, and whether its journal is filled.
@@ -56,18 +59,22 @@ fn open_links(
     Ok(Measured { things, time })
 }
 
-/// Turns of the set, or instructions of the long piece.
+/// What a row measures, in so many rounds.
 fn measure(
     rt: &impl Clock,
     alloc: Global,
-    set: Set,
+    row: Row,
     loaded: &Verified,
     rounds: u32,
 ) -> Result<Measured, Stopped> {
-    match set {
-        Set::Counter => with_book(rt, alloc, loaded, Task::Count(rounds)),
-        Set::Long => with_book(rt, alloc, loaded, Task::Run(rounds)),
-        Set::Standard => open_links(rt, alloc, loaded, rounds),
+    match row {
+        Row::Counter => with_book(rt, alloc, loaded, Task::Count(By::Job, rounds)),
+        Row::CounterOwn => with_book(rt, alloc, loaded, Task::Count(By::Book, rounds)),
+        Row::Standard => open_links(rt, alloc, loaded, rounds),
+        Row::StandardOwn => with_book(rt, alloc, loaded, Task::Cycle(By::Book, rounds)),
+        Row::StandardJob => with_book(rt, alloc, loaded, Task::Cycle(By::Job, rounds)),
+        Row::Long => with_book(rt, alloc, loaded, Task::Run(rounds)),
+        Row::Straight => run_straight(rt, loaded, rounds),
     }
 }
 
@@ -76,16 +83,16 @@ fn write_turns(
     rt: &impl Clock,
     alloc: Global,
     text: &mut String,
-    set: Set,
+    row: Row,
     loaded: &Verified,
     asked: Option<u32>,
 ) -> Result<(), Stopped> {
-    let measured = measure(rt, alloc, set, loaded, asked.unwrap_or(1))?;
+    let measured = measure(rt, alloc, row, loaded, asked.unwrap_or(1))?;
     let number = match asked {
         Some(_) => rate(measured.things, measured.time),
         None => measured.things,
     };
-    let name = set.name();
+    let name = row.name();
     writeln!(text, "{name} {number}")?;
     Ok(())
 }
@@ -108,12 +115,11 @@ fn write_held(
 fn answer<R: Runtime + AllocGlobal + Threads + Wait + Sync>(
     rt: &R,
     text: &mut String,
-    set: Set,
     loaded: &Verified,
     question: Question,
 ) -> Result<(), Stopped> {
     match question {
-        Question::Turns(asked) => write_turns(rt, rt.alloc(), text, set, loaded, asked),
+        Question::Turns(row, asked) => write_turns(rt, rt.alloc(), text, row, loaded, asked),
         Question::Code => Ok(write_set(text, loaded.draft())?),
         Question::Held(is_full) => write_held(rt, rt.alloc(), text, loaded, is_full),
         Question::Pool(asked, workers) => write_pool(rt, text, loaded, asked, workers),
@@ -128,7 +134,7 @@ pub fn ask_set<R: Runtime + AllocGlobal + Threads + Wait + Sync>(
     question: Question,
 ) -> Result<(), Stopped> {
     let loaded = load_set(rt.alloc(), set)?;
-    answer(rt, text, set, &loaded, question)
+    answer(rt, text, &loaded, question)
 }
 
 /// Makes the rounds of books, and writes what came of them.
@@ -137,8 +143,8 @@ pub fn write_books<R: Runtime + AllocGlobal + Threads + Wait + Sync>(
     text: &mut String,
     asked: Option<u32>,
 ) -> Result<(), Stopped> {
-    for set in [Set::Counter, Set::Standard, Set::Long] {
-        ask_set(rt, text, set, Question::Turns(asked))?;
+    for row in ROWS {
+        ask_set(rt, text, row.set(), Question::Turns(row, asked))?;
     }
     Ok(())
 }

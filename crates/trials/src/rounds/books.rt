@@ -4,6 +4,7 @@ use crate::calls::Stopped;
 use crate::rounds::client::{POWER_ON, START};
 use crate::rounds::clock::{now, since};
 use crate::rounds::pool_rounds::drive;
+use crate::rounds::turns::{By, cycle_times, send, settle, turn};
 use actor_book::{Book, Limits};
 use book_rest::rest;
 use standard_link::Verified;
@@ -20,13 +21,18 @@ const SIGNALS: u32 = 64;
 const BATCHES: u32 = 300;
 
 /// How often the long piece runs in a round.
-const RUNS: u32 = 1000;
+pub const RUNS: u32 = 1000;
+
+/// How often a link of the profile is started and stopped in a round.
+const CYCLES: u32 = 300;
 
 /// What is done with a new book.
 #[derive(Clone, Copy)]
 pub enum Task {
     /// So many rounds of the counter.
-    Count(u32),
+    Count(By, u32),
+    /// So many rounds in which a link of the profile starts and stops.
+    Cycle(By, u32),
     /// So many rounds of the long piece.
     Run(u32),
     /// A link of the profile is powered on and started.
@@ -66,57 +72,69 @@ pub fn book_of(
 /// The new book of a task.
 fn book_for(alloc: Global, set: &Verified, task: Task) -> Result<Book, Stopped> {
     match task {
-        Task::Count(_) | Task::Drive(_) => book_of(alloc, set, 64, 64, 65_536),
+        Task::Count(..) | Task::Cycle(..) | Task::Drive(_) => book_of(alloc, set, 64, 64, 65_536),
         Task::Run(_) => book_of(alloc, set, 1, 1, 16),
         Task::PowerOn => book_of(alloc, set, 16, 64, 256),
         Task::Hold | Task::Fill => book_of(alloc, set, 64, 1024, 65_536),
     }
 }
 
-/// One turn of the first process, from its beginning to its end.
-fn turn(book: &mut Book) {
-    if let Ok(job) = book.begin(0) {
-        let _ = book.finish(run(job));
-    }
-}
-
-/// So many turns of it.
-fn turn_times(book: &mut Book, times: u32) {
+/// So many turns of the first process.
+fn turn_times(book: &mut Book, by: By, times: u32) {
     for _ in 0..times {
-        turn(book);
+        turn(book, by);
     }
 }
 
 /// Signals come to the counter, which then has as many turns.
-fn batch(book: &mut Book) {
+fn batch(book: &mut Book, by: By) {
     for signal in 0..SIGNALS {
         let _ = book.offer(0, SignalNumber(0), &[Value::Int(signal as i32)]);
     }
-    turn_times(book, SIGNALS);
+    turn_times(book, by, SIGNALS);
 }
 
 /// A round of the counter, with a journal that begins empty.
-fn count_up(book: &mut Book) -> Result<(), AllocError> {
+fn count_up(book: &mut Book, by: By) -> Result<(), AllocError> {
     book.rebase()?;
     for _ in 0..BATCHES {
-        batch(book);
+        batch(book, by);
     }
     Ok(())
 }
 
 /// So many rounds of the counter. How many turns its book had.
-fn count_times(book: &mut Book, rounds: u32) -> Result<u64, AllocError> {
+fn count_times(book: &mut Book, by: By, rounds: u32) -> Result<u64, AllocError> {
     for _ in 0..rounds {
-        count_up(book)?;
+        count_up(book, by)?;
     }
     Ok(book.finishes())
 }
 
 /// Turns of the counter, behind its first.
-fn count(rt: &impl Clock, book: &mut Book, rounds: u32) -> Result<Measured, Stopped> {
-    turn(book);
+fn count(rt: &impl Clock, book: &mut Book, by: By, rounds: u32) -> Result<Measured, Stopped> {
+    turn(book, by);
     let start = now(rt)?;
-    let things = count_times(book, rounds)?;
+    let things = count_times(book, by, rounds)?;
+    let time = since(rt, start)?;
+    Ok(Measured { things, time })
+}
+
+/// So many rounds in which a link starts and stops, each with a journal that begins empty. How many turns its book had.
+fn cycle_up(book: &mut Book, by: By, rounds: u32) -> Result<u64, AllocError> {
+    for _ in 0..rounds {
+        book.rebase()?;
+        cycle_times(book, by, CYCLES);
+    }
+    Ok(book.finishes())
+}
+
+/// Turns of the profile's processes, behind those by which their link is powered on.
+fn cycle(rt: &impl Clock, book: &mut Book, by: By, rounds: u32) -> Result<Measured, Stopped> {
+    settle(book, by);
+    send(book, by, POWER_ON);
+    let start = now(rt)?;
+    let things = cycle_up(book, by, rounds)?;
     let time = since(rt, start)?;
     Ok(Measured { things, time })
 }
@@ -140,7 +158,7 @@ fn run_job(rt: &impl Clock, job: &Job, rounds: u32) -> Result<Measured, Stopped>
 
 /// Instructions of a turn of the long piece.
 fn run_long(rt: &impl Clock, book: &mut Book, rounds: u32) -> Result<Measured, Stopped> {
-    turn(book);
+    turn(book, By::Job);
     let _ = book.offer(0, SignalNumber(0), &[Value::Int(7)]);
     match book.begin(0) {
         Ok(job) => run_job(rt, &job, rounds),
@@ -180,14 +198,15 @@ fn do_untimed(book: &mut Book, task: Task) -> u64 {
         Task::Hold => hold(book),
         Task::Fill => fill(book),
         Task::Drive(rounds) => drive(book, rounds),
-        Task::Count(_) | Task::Run(_) => 0,
+        Task::Count(..) | Task::Cycle(..) | Task::Run(_) => 0,
     }
 }
 
 /// Does a task with its book.
 fn do_task(rt: &impl Clock, book: &mut Book, task: Task) -> Result<Measured, Stopped> {
     match task {
-        Task::Count(rounds) => count(rt, book, rounds),
+        Task::Count(by, rounds) => count(rt, book, by, rounds),
+        Task::Cycle(by, rounds) => cycle(rt, book, by, rounds),
         Task::Run(rounds) => run_long(rt, book, rounds),
         _ => Ok(Measured {
             things: do_untimed(book, task),

@@ -24,7 +24,7 @@ pub const POWER_ON: SignalNumber = SignalNumber(0);
 
 pub const START: SignalNumber = SignalNumber(1);
 
-const STOP: SignalNumber = SignalNumber(2);
+pub const STOP: SignalNumber = SignalNumber(2);
 
 /// The signal of a round.
 pub fn signal_of(round: u32) -> SignalNumber {

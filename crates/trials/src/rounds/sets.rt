@@ -34,15 +34,6 @@ impl Set {
             _ => Set::Standard,
         }
     }
-
-    /// Its name.
-    pub fn name(self) -> &'static str {
-        match self {
-            Set::Counter => "counter",
-            Set::Long => "long",
-            Set::Standard => "standard",
-        }
-    }
 }
 
 /// The text of a process whose input takes 512 instructions.

@@ -1,0 +1,69 @@
+//! Runs of the long piece where its code stands.
+
+ghost use Rattle.std.specs.Prelude.{IfSome};
+ghost use Rattle.turn_code.specs.Fits.{Fits};
+
+use crate::calls::Stopped;
+use crate::rounds::books::{Measured, RUNS};
+use crate::rounds::clock::{now, since};
+use arrayvec::ArrayVec;
+use standard_link::Verified;
+use std::rt::Clock;
+use turn_code::{Address, Input, Party, Place, ProcessNumber, StateNumber, Value};
+use turn_machine::{Received, fits, new_machine, run_in};
+
+/// The process that has the long piece.
+const PROCESS: ProcessNumber = ProcessNumber(0);
+
+/// Its one state.
+const STATE: Place = Place::State(StateNumber(0));
+
+/// What the long piece runs on: no number yet, a total of 0, and a 7 from the environment; none where that doesn't fit the first input of the place.
+fn input_at(set: &Verified, process: ProcessNumber, place: Place) -> Option<Input>
+    ensures { IfSome result (λ input. Fits set.now process.0 place 0 input) }
+{
+    let mut variables = ArrayVec::new();
+    variables.push(None);
+    variables.push(Some(Value::Int(0)));
+    let mut parameters = ArrayVec::new();
+    parameters.push(Value::Int(7));
+    let received = Received {
+        parameters,
+        sender: Some(Address {
+            party: Party::Environment,
+            instance: None,
+        }),
+    };
+    if fits(set, process, place, 0, &variables, &received) {
+        return Some(Input {
+            variables,
+            parameters: received.parameters,
+            sender: received.sender,
+        });
+    }
+    None
+}
+
+/// So many runs of the first input of a place, where its code stands. How many instructions they took.
+fn run_times(set: &Verified, process: ProcessNumber, place: Place, input: &Input, times: u32) -> u64
+    requires { Fits set.now process.0 place 0 input.now }
+{
+    let mut machine = new_machine();
+    let mut instructions = 0u64;
+    for _ in 0..times {
+        let _end = run_in(set, process, place, 0, input, &mut machine);
+        instructions = instructions.saturating_add(u64::from(machine.count));
+    }
+    instructions
+}
+
+/// Instructions of the long piece, of which no job is made.
+pub fn run_straight(rt: &impl Clock, set: &Verified, rounds: u32) -> Result<Measured, Stopped> {
+    let Some(input) = input_at(set, PROCESS, STATE) else {
+        return Err(Stopped::Refused);
+    };
+    let start = now(rt)?;
+    let things = run_times(set, PROCESS, STATE, &input, rounds.saturating_mul(RUNS));
+    let time = since(rt, start)?;
+    Ok(Measured { things, time })
+}
