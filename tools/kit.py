@@ -13,7 +13,7 @@ def kit():
     if not found:
         return None
     path = os.path.realpath(found)
-    # (the prover keeps the memory that it frees until it ends, for its own next use, and doesn't hand each page back and ask for it once more: 4 to 9 % of its time)
+    # (the prover keeps the memory that it frees for its own next use, and hands no page back before it ends: two page faults in five are gone so)
     os.environ.setdefault("MIMALLOC_PURGE_DELAY", "-1")
     sys.dont_write_bytecode = True
     # (`rt` finds the rest of itself beside itself)
