@@ -15,7 +15,7 @@ use arrayvec::ArrayVec;
 use input_port::Item;
 use link_machine::{Actor, Found, Given, Refusal};
 use turn_check::Verified;
-use turn_code::{Input, Trigger, Value, copied_variables};
+use turn_code::{Address, Input, Trigger, Value};
 
 /// How many turns can be counted.
 const TURNS: u64 = 1 << 40;
@@ -54,21 +54,27 @@ pub(crate) fn skip_refusal(set: &Verified, actor: &Actor) -> Option<Refusal>
     }
 }
 
+/// The parameters and the sender that an item brings to a turn.
+fn brought_by(item: Option<Item>) -> (ArrayVec<Value, 4>, Option<Address>)
+    ensures { (a : PlainActor) → record { variables = a.variables; parameters = result.0; sender = result.1 } ≡ input_with a item }
+{
+    match item {
+        Some(Item::Signal(arrival)) => (arrival.parameters, Some(arrival.sender)),
+        Some(Item::Timer(_)) | None => (ArrayVec::new(), None),
+    }
+}
+
 /// What a turn is given.
 fn input_with(variables: &ArrayVec<Option<Value>, 32>, item: Option<Item>) -> Input
     ensures { (a : PlainActor) → a.variables ≡ variables.now → result ≡ input_with a item }
 {
-    match item {
-        Some(Item::Signal(arrival)) => Input {
-            variables: copied_variables(variables),
-            parameters: arrival.parameters,
-            sender: Some(arrival.sender),
-        },
-        Some(Item::Timer(_)) | None => Input {
-            variables: copied_variables(variables),
-            parameters: ArrayVec::new(),
-            sender: None,
-        },
+    let (parameters, sender) = brought_by(item);
+    let mut own = ArrayVec::new();
+    own.try_extend_from_slice(variables.as_slice()).unwrap();
+    Input {
+        variables: own,
+        parameters,
+        sender,
     }
 }
 
