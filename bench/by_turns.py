@@ -9,32 +9,64 @@ import sys
 
 ROOT = pathlib.Path(__file__).resolve().parent.parent
 ROUNDS = ROOT / "bench" / "rounds"
-NONE_BEFORE = """no program of the commit before: TRIALS_BEFORE names none. To make one:
-    git worktree add --detach FOLDER COMMIT; (cd FOLDER/crates/trials && ../../tools/rt run); TRIALS_BEFORE=FOLDER/crates/trials/out/trials"""
+BUILT = ROOT / "crates" / "trials" / "out" / "trials"
+NONE_BEFORE = """no program of the commit before: TRIALS_BEFORE names none. To make one (FOLDER a whole path):
+    git worktree add --detach FOLDER COMMIT; (cd FOLDER/crates/trials && ../../tools/rt run </dev/null); TRIALS_BEFORE=FOLDER/crates/trials/out/trials"""
+
+
+def asked(words, head, *usual):
+    """The numbers of a command line, the first of 1 or more; those that it doesn't have are the usual ones. Else all ends with how it is called, as the head says."""
+    if len(words) > len(usual) or not all(it.isdecimal() for it in words) or (words and int(words[0]) == 0):
+        sys.exit(head.rsplit("\n\n", 1)[1])
+    return [*map(int, words), *usual[len(words):]]
 
 
 def runs(usual):
     """How often each program runs."""
-    return max(1, int(os.environ.get("RUNS", usual)))
+    said = os.environ.get("RUNS") or str(usual)
+    if not said.isdecimal() or int(said) == 0:
+        sys.exit(f"RUNS: {said} is no number of runs")
+    return int(said)
 
 
-def programs():
+def that_runs(word, name):
+    """The path of a program; where there is none, all ends."""
+    if not os.path.isfile(name) or not os.access(name, os.X_OK):
+        sys.exit(f"{word}: {name} is no program that can be run")
+    return os.path.abspath(name)
+
+
+def programs(wants_before=True):
     """The programs by `before` and `now`, in the order in which they run."""
-    if subprocess.run([ROUNDS]).returncode:
-        sys.exit(1)
-    now = {"now": os.environ.get("TRIALS") or str(ROOT / "crates" / "trials" / "out" / "trials")}
-    before = os.environ.get("TRIALS_BEFORE")
-    if not before:
+    known = {}
+    if wants_before and os.environ.get("TRIALS_BEFORE"):
+        known["before"] = that_runs("TRIALS_BEFORE", os.environ["TRIALS_BEFORE"])
+    elif wants_before:
         print(NONE_BEFORE, flush=True)
-    elif not os.access(before, os.X_OK):
-        sys.exit(f"TRIALS_BEFORE: {before} is no program")
-    return {"before": before, **now} if before else now
+    if os.environ.get("TRIALS"):
+        known["now"] = that_runs("TRIALS", os.environ["TRIALS"])
+    elif subprocess.run([ROUNDS]).returncode:
+        sys.exit(1)
+    else:
+        known["now"] = that_runs("trials", str(BUILT))
+    return known
 
 
 def shown(program, *words):
-    """The lines that a program shows of what the words say, as words; none where it doesn't know them."""
-    run = subprocess.run([ROUNDS, *map(str, words)], env={**os.environ, "TRIALS": program}, capture_output=True, text=True)
-    return [line.split() for line in run.stdout.splitlines()] if run.returncode == 0 else []
+    """The lines that a program shows of what the words say, as words; none where it fails, as it does where it doesn't know them: then it is told that it did."""
+    run = subprocess.run([ROUNDS, *map(str, words)], env={**os.environ, "TRIALS": program}, stdout=subprocess.PIPE, text=True)
+    if run.returncode:
+        print(f"{program}: failed at the words {' '.join(map(str, words))}", file=sys.stderr)
+        return []
+    return [line.split() for line in run.stdout.splitlines()]
+
+
+def said_by(command):
+    """What a command says; where it fails, all ends."""
+    run = subprocess.run(command, stdout=subprocess.PIPE, text=True)
+    if run.returncode:
+        sys.exit(f"{command[0]}: ended with status {run.returncode}")
+    return run.stdout
 
 
 def numbers(lines):

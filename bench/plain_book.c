@@ -167,24 +167,27 @@ static void take_out(struct actor *a, int i) {
     a->items--;
 }
 
-/* what an actor would run, and the signal that it takes for it: 0 where there is nothing, 2 where a signal is to be skipped first */
+/* what an actor would run, and the signal that it takes for it: 0 where there is nothing, or no room in the journal for a turn's beginning and end; 2 where a
+   signal is to be skipped first */
 static int next_piece(struct book *b, int actor, const struct piece **piece, struct item *given) {
     struct actor *a = &b->actor[actor];
     if (actor >= b->set->processes || a->out || a->standing == STOPPED) return 0;
     const struct process *p = &b->set->process[actor];
+    int has_room = b->events + 2 <= b->most;
     if (a->standing == START) {
         *piece = &p->start;
-    } else {
-        const struct state *s = &p->state[a->standing];
-        int i = first_item(a, s), k = 0;
-        if (i < 0) return 0;
-        while (k < s->inputs && !same(s->input[k].trigger, a->item[i].trigger)) k++;
-        if (k == s->inputs) return 2;
-        *piece = &s->input[k].piece;
-        *given = a->item[i];
-        take_out(a, i);
+        return has_room;
     }
-    return b->events + 2 <= b->most;
+    const struct state *s = &p->state[a->standing];
+    int i = first_item(a, s), k = 0;
+    if (i < 0) return 0;
+    while (k < s->inputs && !same(s->input[k].trigger, a->item[i].trigger)) k++;
+    if (k == s->inputs) return 2;
+    if (!has_room) return 0;
+    *piece = &s->input[k].piece;
+    *given = a->item[i];
+    take_out(a, i);
+    return 1;
 }
 
 static int begin(struct book *b, int actor, struct job *job) {
@@ -402,17 +405,17 @@ static void count(const struct set *set, const char *name, turn *turn, int round
     close_book(b);
 }
 
-/* turns of the profile, a book opened for each power-on and start */
+/* turns of the profile, a book opened for each power-on and start; rests make no job */
 static void open_links(const struct set *set, const char *name, int rounds, int asked) {
     uint64_t turns = 0;
     double start = now();
     for (int r = 0; r < 100 * rounds; r++) {
         struct book *b = open_book(set, 16, 64, 256);
-        rest(b, turn_by_job);
+        rest(b, turn_by_book);
         offer(b, 0, 0, NULL, 0);
-        rest(b, turn_by_job);
+        rest(b, turn_by_book);
         offer(b, 0, 1, NULL, 0);
-        rest(b, turn_by_job);
+        rest(b, turn_by_book);
         turns += b->finishes;
         close_book(b);
     }
