@@ -72,8 +72,11 @@ impl Book {
         })
     }
 
-    /// Makes the present state the base, and empties the journal. Actors may have turns out. It makes its room before it
-    /// changes anything.
+    /// Makes the present state the base, and empties the journal. Actors may have turns out.
+    ///
+    /// # Errors
+    ///
+    /// Where there is no memory: nothing changes.
     pub fn rebase(&mut self) -> Result<(), AllocError>
         ensures ok { OnOk result (self.new ≡ rebased self.old) }
         ensures err { OnErr result (self.new ≡ self.old) }

@@ -28,6 +28,10 @@ fn offer_to(
 }
 
 /// The environment offers a signal; the names are looked up.
+///
+/// # Errors
+///
+/// `B10 NoActor` for an actor, else `B3 NoRoute` for a signal, that isn't there, else the refusals of `Book::offer`. Nothing changes then.
 pub fn offer(book: &mut Book, given: &Offer<'_>) -> Result<(), Refusal>
     ensures book { book.new ≡ (offered book.old (plain_offer given.now)).book }
     ensures refusal { why result ≡ (offered book.old (plain_offer given.now)).refusal }
@@ -70,6 +74,10 @@ fn offers(book: &mut Book, times: u32, given: &Offer<'_>) -> Result<(), Refusal>
 }
 
 /// The same; the names are looked up before the first offer, which there may be none of.
+///
+/// # Errors
+///
+/// The first refusal ends it: the offers before it stay made.
 pub fn flood(book: &mut Book, times: u32, given: &Offer<'_>) -> Result<(), Refusal>
     ensures book { let o = plain_offer given.now in
         book.new ≡ (flooded times o book.old (looked_up (actor_named book.old o.process) (signal_named book.old o.signal))).book }

@@ -24,6 +24,10 @@ impl Printer {
     }
 
     /// Writes a line with its end in one write. It is the last one from then on.
+    ///
+    /// # Errors
+    ///
+    /// Where there is no memory, or the write fails, of which part may have gone out; the last line stays.
     pub fn print<W: Write>(&mut self, mut line: Vec<u8>, writer: &mut W) -> io::Result<()>
         ensures last { OnOk result (last_in self.new ≡ Some line.items) }
         ensures written { OnOk result (Appends (W.contents writer.old) (W.contents writer.new) (line_of line.items)) }

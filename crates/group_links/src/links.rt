@@ -13,6 +13,11 @@ use link_term::Msu;
 use std::collections::VecDeque;
 
 /// Takes a message to send.
+///
+/// # Errors
+///
+/// `K1 NoLink` where there is no such link, or it is out of service and not in changeover, `K2 Waiting` where it is in changeover, `E1 Full`
+/// where 1,024 messages wait. Nothing changes then.
 #[tactic(auto, unfolding(crate::specs::Links::change))]
 pub fn put_at(links: &mut [Link], at: usize, msu: Msu) -> Result<(), SendError>
     requires { 2 ≤ length msu.sif.items }
@@ -28,6 +33,10 @@ pub fn put_at(links: &mut [Link], at: usize, msu: Msu) -> Result<(), SendError>
 }
 
 /// The changeover of a link begins.
+///
+/// # Errors
+///
+/// `K1 NoLink` where there is no such link, `K2 Waiting` where its changeover goes on. Nothing changes then.
 #[tactic(auto, unfolding(crate::specs::Links::change))]
 pub fn fail_at(links: &mut [Link], at: usize) -> Result<Kind, FailError>
     ensures fault { fault_of result ≡ fault_at FailError.NoLink fail_fault_of (slice_get links.old at) }
@@ -59,6 +68,11 @@ pub fn hear_at(links: &mut [Link], at: usize, kind: Kind) -> Option<Kind>
 }
 
 /// Hands out the messages of a link.
+///
+/// # Errors
+///
+/// `K1 NoLink` where there is no such link or no changeover goes on there, `K2 Waiting` where they are out or an answer may still come, `K4 Unsure`
+/// with the number of those of which nothing is known, and then want of memory. Nothing changes then.
 #[tactic(auto, unfolding(crate::specs::Links::change))]
 pub fn retrieve_at(links: &mut [Link], at: usize) -> Result<VecDeque<Msu>, RetrieveError>
     ensures fault { retrieve_refusal result ≡ fault_at RetrieveError.NoLink retrieve_fault (slice_get links.old at) }
@@ -75,6 +89,11 @@ pub fn retrieve_at(links: &mut [Link], at: usize) -> Result<VecDeque<Msu>, Retri
 }
 
 /// Hands out the unsent messages of a link, and tells how many were sent.
+///
+/// # Errors
+///
+/// `K1 NoLink` where there is no such link or no changeover goes on there, `K2 Waiting` where [`retrieve_at`] isn't refused as unsure, and then want
+/// of memory. Nothing changes then.
 #[tactic(auto, unfolding(crate::specs::Links::change))]
 pub fn abandon_at(links: &mut [Link], at: usize) -> Result<(VecDeque<Msu>, usize), AbandonError>
     ensures fault { abandon_refusal result ≡ fault_at AbandonError.NoLink abandon_fault (slice_get links.old at) }

@@ -215,6 +215,10 @@ fn give_back(
 }
 
 /// Diverts a hand to the links that may take it, or gives it back where there are none.
+///
+/// # Errors
+///
+/// `K1 NoLink` where no link may take it, `E1 Full` where the link of a selection would hold more than 1,151: what didn't go stays in `messages`.
 #[tactic(auto, unfolding(crate::specs::Moving::hands_over))]
 pub fn hand_over(
     links: &mut [Link],

@@ -99,12 +99,13 @@ fn write_ahead<W: Write>(writer: &mut W, ahead: usize) -> io::Result<()>
     write_part(writer, &silence[..ahead])
 }
 
-/// Has a terminal speak on a line: writes so many octets of silence, and then one octet for each that it reads, up to the end of what
-/// there is to read or an order that ends the run. What comes out doesn't depend on how the line is cut by reads.
+/// Has a terminal speak on a line: writes so many octets of silence, 8,000 at most, and then one octet for each that it reads, up to the end
+/// of what there is to read or an order that ends the run. What comes out doesn't depend on how the line is cut by reads.
 ///
 /// # Errors
 ///
-/// Where a read, a write or the terminal fails. What is written then is a beginning of that, for octets that were read.
+/// Where memory, a read, a write or the terminal fails, or after 2^64 - 1 octets or reads. What is written then is a beginning of that, for
+/// octets that were read.
 pub fn run_line<T: LineTerminal, O: Orders, P: Write, R: Read, W: Write>(
     alloc: Global,
     desk: &mut Desk<T, O, P>,

@@ -10,7 +10,8 @@ pub trait Orders {
     // those that are left, where that is known
     ghost left: { Self → Option (List Timed) };
 
-    /// The next order, if it is due at this millisecond.
+    /// The next order, if it is due at this millisecond; none where the next one waits, or there is none yet. It fails where a read does, or
+    /// memory is wanting, and isn't asked again then.
     fn next(&mut self, alloc: Global, now: u64) -> io::Result<Option<String>>
         ensures order { IfOk result (λ r. IfSome r (λ text. NextIs now (left self.old) (string_bytes text) (left self.new))) }
         ensures none { IfOk result (λ r. IsNone r → NoneIsDue now (left self.old) (left self.new)) };

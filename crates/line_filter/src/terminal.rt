@@ -23,16 +23,16 @@ pub trait LineTerminal {
     // how it changes by what it does
     ghost acts: { Self → Act → Self → Type 0 };
 
-    /// Its next unit, if one is to go out.
+    /// Its next unit, if one is to go out. It fails where memory is wanting.
     fn unit_out(&mut self) -> io::Result<Option<Unit>>
         ensures act { IfOk result (λ unit. acts self.old (asked unit) self.new) }
         ensures whole { IfOk result (λ unit. IfSome unit IsWhole) };
 
-    /// Takes an octet of the line, its first bit the lowest.
+    /// Takes an octet of the line, its first bit the lowest. It fails where it can't be taken: then the run ends.
     fn line_in(&mut self, octet: u8) -> io::Result<()>
         ensures { OnOk result (acts self.old (heard octet) self.new) };
 
-    /// Lets a millisecond pass.
+    /// Lets a millisecond pass. It fails where none can.
     fn tick(&mut self) -> io::Result<()>
         ensures { OnOk result (acts self.old passed self.new) };
 
@@ -40,7 +40,7 @@ pub trait LineTerminal {
     fn report(&mut self, alloc: Global) -> io::Result<Option<String>>
         ensures { IfOk result (λ text. acts self.old (reported (option_map string_bytes text)) self.new) };
 
-    /// Obeys an order.
+    /// Obeys an order. What it refuses is an answer and no failure; it fails where memory is wanting.
     fn obey(&mut self, alloc: Global, order: &str) -> io::Result<Answer>
         ensures { IfOk result (λ answer. acts self.old (obeyed order.now answer) self.new) };
 }

@@ -77,7 +77,11 @@ impl Voice {
         filled(bits, len)
     }
 
-    /// The octet that goes out next.
+    /// The octet that goes out next. The terminal is asked for a unit only where none is under way.
+    ///
+    /// # Errors
+    ///
+    /// Where the terminal can't give a unit: no octet goes out.
     pub fn next<T: LineTerminal>(&mut self, terminal: &mut T) -> io::Result<u8>
         ensures { IfOk result (λ octet. Gives T.acts terminal.old self.old octet terminal.new self.new) }
     {

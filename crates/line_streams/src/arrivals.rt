@@ -12,7 +12,8 @@ use std::thread::Threads;
 /// How many octets are read at once.
 const PART: usize = 4096;
 
-/// Octets that a thread reads: a read gives those that are there, none where there are none yet, and never waits.
+/// Octets that a thread reads: a read gives those that are there, none where there are none yet, and never waits. It fails once a read of the
+/// thread's has failed and all that it read before was taken.
 ///
 /// The thread isn't joined: it may wait for what never comes, and is left as the program ends.
 #[derive(Drop)]

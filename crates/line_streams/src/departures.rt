@@ -87,7 +87,8 @@ impl Departures {
     ///
     /// # Errors
     ///
-    /// Where there is no memory, or the thread can't be waked.
+    /// Where there is no memory, a line behind lost ones has no space, or the thread can't be waked (then the line has gone on, or is counted,
+    /// all the same).
     pub fn tell(&mut self, line: &[u8]) -> io::Result<()>
         ensures { OnOk result (TellsOn line.now self.old.outlet self.new.outlet) }
     {

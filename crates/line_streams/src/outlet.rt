@@ -68,7 +68,7 @@ impl Outlet {
     ///
     /// # Errors
     ///
-    /// Where there is no memory, or a line behind lost ones has no space. The line isn't counted then.
+    /// Where there is no memory, a line behind lost ones has no space, or 2^64 - 1 are lost. Nothing goes on then, and the line isn't counted.
     pub fn put(&mut self, alloc: Global, line: &[u8]) -> io::Result<usize>
         ensures told { OnOk result (TellsOn line.now self.old self.new) }
         ensures count { IfOk result (λ n. length (sent self.new.ring) ≡ length (sent self.old.ring) + n) }
@@ -91,7 +91,7 @@ impl Outlet {
     ///
     /// # Errors
     ///
-    /// Where there is no memory.
+    /// Where there is no memory. Nothing goes on then.
     pub fn put_lost(&mut self, alloc: Global, now: u64) -> io::Result<usize>
         ensures told { OnOk result (TellsLost now self.old self.new) }
         ensures count { IfOk result (λ n. length (sent self.new.ring) ≡ length (sent self.old.ring) + n) }

@@ -67,8 +67,8 @@ impl Group {
     ///
     /// # Errors
     ///
-    /// `K1 NoLink` where no link may take them, `E1 Full` where the link of a selection would hold more than 1,151: none of that selection went.
-    /// With the fault comes what is still in hand.
+    /// `K1 NoLink` where no link may take them, their own neither; `E1 Full` where the link of a selection would hold more than 1,151: none of that
+    /// selection went, nor of those behind it (of a hand that is to go back, none at all). With the fault comes what is still in hand.
     pub fn divert(&mut self, retrieved: Retrieved) -> Result<(), DivertError>
         requires { Owns self.old retrieved.link retrieved.messages.items }
         ensures fault { fault_in result ≡ (diverted self.old retrieved.link retrieved.messages.items).fault }

@@ -162,6 +162,10 @@ impl Heart {
     }
 
     /// Makes room in the journal where fewer than [`LOW`] places of it are free and it holds events.
+    ///
+    /// # Errors
+    ///
+    /// Where there is no memory, and there was too little room: nothing changes.
     #[tactic(auto, unfolding(crate::specs::Machine::tidied, link_machine::specs::Ledger::rebased))]
     pub fn tidy(&mut self) -> Result<(), AllocError>
         ensures ok { OnOk result (self.new ≡ tidied self.old) }

@@ -10,11 +10,11 @@ use thiserror::Error;
 /// Why a message isn't taken.
 #[derive(Clone, Copy, Debug, PartialEq, Eq, Error)]
 pub enum SendError {
-    /// Its selection has no link, or that link is out of service.
+    /// Its selection has no link, or that link is out of service and not in changeover.
     NoLink,
     /// Its link is in changeover.
     Waiting,
-    /// As many messages wait as may.
+    /// 1,024 messages or more wait with its link.
     Full,
 }
 
@@ -32,7 +32,7 @@ pub enum FailError {
 pub enum RetrieveError {
     /// There is no such link, or no changeover goes on there.
     NoLink,
-    /// They are handed out already, or the far side may still answer.
+    /// They are handed out already, or nothing was told and fewer than 1,400 ticks have passed since the changeover began.
     Waiting,
     /// It isn't known whether so many of them have arrived.
     Unsure(usize),
@@ -54,9 +54,9 @@ pub enum AbandonError {
 /// Why messages in hand aren't diverted.
 #[derive(Clone, Copy, Debug, PartialEq, Eq, Error)]
 pub enum DivertFault {
-    /// No link may take them.
+    /// No link may take them: no other one is in service that didn't fail, and their own is out of service.
     NoLink,
-    /// The link that has to take those of a selection has no room for all of them.
+    /// The link that has to take those of a selection, or all of them where they go back, would hold more than 1,151.
     Full,
 }
 

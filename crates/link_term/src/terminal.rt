@@ -22,7 +22,7 @@ use std::marker::Model;
 
 /// One end of a signalling link: the processes of a set as actors, the store for retransmission, and both directions of the line.
 ///
-/// After it is made only `command`, `tick`, `unit_out`, `line_in` and `line_out` may want memory, to make room in the journal, and
+/// After it is made only `command`, `tick`, `unit_out`, `line_in`, `line_out` and `make_room` may want memory, to make room in the journal, and
 /// `line_out` and `retrieve`, for what they give.
 #[derive(Drop)]
 pub struct Terminal {

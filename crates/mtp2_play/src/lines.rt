@@ -52,7 +52,8 @@ fn line_own<H: Files<File = File> + Threads + Eprint + Print + Input + Clock + A
     }
 }
 
-/// Runs `line`. Standard input is the line: a request for it as a text, which no command line makes, fails.
+/// Runs `line`. Gives the exit status: 0 at the end of the line or at the order `quit`, 2 where the text is refused or lacks a name, 4 where
+/// memory, a file, a read or a write fails. Standard input is the line: a request for it as a text, which no command line makes, is 4 too.
 pub fn run_line<H: Files<File = File> + Threads + Eprint + Print + Input + Clock + AllocGlobal>(
     host: &H,
     set: &Named<'_>,

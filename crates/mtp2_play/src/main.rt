@@ -205,8 +205,8 @@ fn run_soak<R: Runtime + AllocGlobal + Threads + Wait + Sync, W: Write>(
     }
 }
 
-/// Prints what the command line is answered where it names no command to run: help with status 0,
-/// a fault with status 3, both as the printing goes; want of memory is status 4.
+/// Prints what the command line is answered where it names no command to run. Gives the exit status: 0 for help, 3 for a fault, 4 where memory
+/// is wanting or it can't be printed.
 fn answer<R: Runtime + AllocGlobal>(rt: &R, error: &Error) -> u8
     ensures { (result ≡ 0) ⊎ (result ≡ 3) ⊎ (result ≡ 4) }
 {

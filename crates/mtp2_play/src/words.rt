@@ -41,7 +41,7 @@ pub enum Request<'a> {
     Play { set: Named<'a>, script: Source<'a> },
     /// `soak SCRIPT --workers N`: a file with a script, or standard input, and the number of threads, 1 to 16.
     Soak { script: Source<'a>, workers: usize },
-    /// `line basic|cyclic`: one end of a link on a line, with a set as for `check`.
+    /// `line basic|cyclic`: one end of a link on a line, with a set as for `check`, but never standard input, which is the line.
     Line { set: Named<'a>, end: LineEnd<'a> },
     /// `frame HEX`: the octets of a signal unit in hexadecimal digits, with its check octets.
     Frame { octets: &'a str },
@@ -300,6 +300,11 @@ fn frame_command<'a>(alloc: Global) -> Result<Command<'a>, AllocError> {
 }
 
 /// Reads the words of the command line, the program's own name first.
+///
+/// # Errors
+///
+/// What clap says of words that are none of a command, or ask for help, and `InvalidSubcommand` where one of a command's words says nothing:
+/// standard input for two things, a number out of range, no such mode. Or want of memory.
 pub fn read<'a>(alloc: Global, given: &'a [String]) -> Result<Request<'a>, Error> {
     let mut commands = commands(alloc)?;
     let matches = commands.try_get_matches_from_mut(given)?;

@@ -20,11 +20,11 @@ pub enum Setting {
 /// What the first lines of a script set.
 #[derive(Clone, Copy, PartialEq, Eq, Debug)]
 pub struct Settings {
-    /// How many signals a port holds.
+    /// How many signals a port holds, 1 to 64; 16 where nothing is said.
     pub ports: u32,
-    /// How many signals for the environment are kept.
+    /// How many signals for the environment are kept, 1 to 1,024; 64 where nothing is said.
     pub env: u32,
-    /// How many events the journal holds.
+    /// How many events the journal holds, 16 to 65,536; 4,096 where nothing is said.
     pub journal: u32,
 }
 

@@ -89,7 +89,11 @@ impl TermPlayer {
         }
     }
 
-    /// Does what the commands say, in order, up to an expectation that fails. Gives the exit status.
+    /// Does what the commands say, in order, up to an expectation that fails. Gives the exit status, 0 or 1 where one failed.
+    ///
+    /// # Errors
+    ///
+    /// Where a write fails, or memory is wanting.
     fn run<W: Write>(
         &mut self,
         alloc: Global,

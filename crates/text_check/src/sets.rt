@@ -26,7 +26,7 @@ pub enum SetWord<R> {
 /// Why there is no set.
 #[derive(Debug, Drop, Error)]
 pub enum SetFault {
-    /// A read failed.
+    /// A read failed, the text had no end within 1,000,000 reads, or there was no memory for what was read.
     NotRead,
     /// The bytes are not UTF-8.
     NotText,

@@ -63,6 +63,10 @@ fn keep(kept: &mut Vec<u8>, part: &[u8]) -> Result<(), AllocError>
 
 /// Reads all that a reader gives, to its end. It is asked at most 1,000,000 times, and counts as failed where that
 /// is not enough. A call that was interrupted is made again.
+///
+/// # Errors
+///
+/// Where a read fails, an interrupted one aside, where 1,000,000 reads don't come to the end, or where there is no memory.
 pub fn read_text<R: Read>(alloc: Global, reader: &mut R) -> io::Result<TextRead>
     ensures { IfOk result (IsReading (R.remaining reader.old)) }
 {

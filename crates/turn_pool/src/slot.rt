@@ -176,6 +176,10 @@ impl<L: Ledger> Slot<L> {
     }
 
     /// Makes the present state the base, and empties the journal, as [`Book::rebase`] does. The place of the journal's next event.
+    ///
+    /// # Errors
+    ///
+    /// Where there is no memory: nothing changes.
     pub fn rebase(&mut self) -> Result<u64, AllocError>
         ensures book { OnOk result (self.new.book ≡ rebased self.old.book) }
         ensures place { IfOk result (λ place. place ≡ next self.new.book) }
