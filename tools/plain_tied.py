@@ -47,10 +47,10 @@ def orders_of(stream):
             continue
         elif millisecond(words[0]) is not None:
             if words[1:2] == ["ok"] and words[2:]:
-                since = millisecond(words[0])
+                since = max(since, millisecond(words[0]))
                 yield since, " ".join(words[2:])
         elif words[0] == "at" and len(words) == 2 and millisecond(words[1]) is not None:
-            since = millisecond(words[1])
+            since = max(since, millisecond(words[1]))
         else:
             yield since, " ".join(words)
 

@@ -298,17 +298,17 @@ WordAnswers words.Table p text q = Shows (table_line p.set.table) p text q
 WordAnswers words.Held p text q = Shows (held_line (slice_get p.set.links p.on)) p text q
 WordAnswers words.Unsure p text q = Shows (decimal p.set.unsure) p text q
 
--- What a command that prints one line makes of what there is, and that line. `out`, `on` and `expect` are none of these.
+-- What a command that prints one line makes of what there is, and that line. `out`, `on` and `expect` are none of these: nothing is done for them here.
 abbrev pub Answers : PlainGroupCommand → Playing → List ℕ → Playing → Type 0
 Answers (commands.order o) p text q = OnSet (IsTold (command_of o) p.on p.set) p text q
 Answers (commands.unit octets) p text q = OnSet (TakesUnit p.on octets p.set) p text q
 Answers (commands.line octets) p text q = OnSet (TakesLine p.on octets p.set) p text q
-Answers (commands.out n) p text q = Unit {0}
+Answers (commands.out n) p text q = (text ≡ []) × (q ≡ p)
 Answers (commands.ticks n) p text q = OnSet (Passes n p.set) p text q
 Answers (commands.state process) p text q = Shows (state_at process (slice_get p.set.links p.on)) p text q
 Answers (commands.shown process variable) p text q = Shows (value_at process variable (slice_get p.set.links p.on)) p text q
-Answers (commands.expected said) p text q = Unit {0}
-Answers (commands.on l) p text q = Unit {0}
+Answers (commands.expected said) p text q = (text ≡ []) × (q ≡ p)
+Answers (commands.on l) p text q = (text ≡ []) × (q ≡ p)
 Answers (commands.sending octets) p text q = OnSet (IsSent octets p.set) p text q
 Answers (commands.message octets) p text q = OnSet (IsHeard octets p.set) p text q
 Answers (commands.own word) p text q = WordAnswers word p text q

@@ -8,7 +8,7 @@ use crate::run::{Run, run_of};
 use crate::schedule::Schedule;
 use crate::set_end::{MOST_MAIL, SetEnd};
 use crate::shown::write_run;
-use link_group::{Group, Hands};
+use link_group::Hands;
 use std::alloc::Global;
 use std::collections::VecDeque;
 use turn_check::Verified;
@@ -18,11 +18,14 @@ const NEAR: u16 = 1;
 
 const FAR: u16 = 16_383;
 
-/// An end with a new set.
-fn open_end(alloc: Global, group: Group, way: Way) -> Result<SetEnd, Stopped> {
+/// An end with a new set of a run.
+fn open_end(alloc: Global, set: &Verified, run: Run, way: Way) -> Result<SetEnd, Stopped> {
     let mail = VecDeque::with_capacity(alloc, MOST_MAIL)?;
-    let hands = Hands::new(alloc)?;
-    Ok(SetEnd::new(group, hands, way, mail))
+    let group = open_set(alloc, set, run.mode, run.links, way)?;
+    match Hands::new(alloc) {
+        Ok(hands) => Ok(SetEnd::new(group, hands, way, mail)),
+        Err(_) => Err(Stopped::NoMemory),
+    }
 }
 
 /// Makes a run, and writes what came of it.
@@ -38,28 +41,26 @@ fn make_run(
     Ok(())
 }
 
-/// Makes a run with one end, and the set of the other.
+/// Makes a run with one end, and the other made anew.
 fn run_with(
     alloc: Global,
     text: &mut String,
-    mut near: SetEnd,
-    group: Group,
+    set: &Verified,
+    near: &mut SetEnd,
     run: Run,
 ) -> Result<(), Stopped> {
     let way = Way {
         from: FAR,
         to: NEAR,
     };
-    let made = match open_end(alloc, group, way) {
+    match open_end(alloc, set, run, way) {
         Ok(mut far) => {
-            let made = make_run(text, &mut near, &mut far, run);
+            let made = make_run(text, near, &mut far, run);
             far.end();
             made
         }
         Err(stopped) => Err(stopped),
-    };
-    near.end();
-    made
+    }
 }
 
 /// Makes the run of a line with two new sets.
@@ -71,14 +72,12 @@ fn run_line(alloc: Global, text: &mut String, set: &Verified, line: &str) -> Res
         from: NEAR,
         to: FAR,
     };
-    let back = Way {
-        from: FAR,
-        to: NEAR,
-    };
-    let group = open_set(alloc, set, run.mode, run.links, way)?;
-    let other = open_set(alloc, set, run.mode, run.links, back)?;
-    match open_end(alloc, group, way) {
-        Ok(near) => run_with(alloc, text, near, other, run),
+    match open_end(alloc, set, run, way) {
+        Ok(mut near) => {
+            let made = run_with(alloc, text, set, &mut near, run);
+            near.end();
+            made
+        }
         Err(stopped) => Err(stopped),
     }
 }

@@ -2,3 +2,4 @@ pub mod Words
 pub mod Spoken
 pub use Rattle.line_play.specs.Checked
 pub use Rattle.line_play.specs.Opening
+pub use Rattle.line_filter.specs.Filters

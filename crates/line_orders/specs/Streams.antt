@@ -1,5 +1,5 @@
 -- The orders of a stream, each with the millisecond before which it isn't obeyed.
-use Rattle.std.specs.Prelude.{◌≡◌, ℕ, ◌<◌, ◌==◌, nat_le, ◌&&◌, if◌then◌else◌, List, [], ◌∷◌, ◌++◌, length, Option, None, Some, drop, option_map, string_bytes}
+use Rattle.std.specs.Prelude.{◌≡◌, ℕ, ◌<◌, ◌==◌, nat_le, max, ◌&&◌, if◌then◌else◌, List, [], ◌∷◌, ◌++◌, length, Option, None, Some, drop, option_map, string_bytes}
 use Rattle.std.specs.Str.{is_utf8}
 use Rattle.script_lines.specs.Words.{words_of}
 use Rattle.line_filter.specs.Orders.{Timed}
@@ -19,19 +19,19 @@ whole_lines line (b ∷ bs) = if b == 10 then line ∷ whole_lines [] bs else wh
 unfoldable pub line_says : List ℕ → PlainSays
 line_says line = if nat_le (length line) MOST_OCTETS && is_utf8 line then says_of (words_of line) else order []
 
--- the order that a line says, if it says one, where what it says isn't to wait longer than this
+-- the order that a line says, if it says one, behind lines of which what follows waits until this millisecond
 abbrev pub said_at : ℕ → PlainSays → List Timed
 said_at since nothing = []
 said_at since (at millisecond) = []
 said_at since (order text) = record { at = since; text = text } ∷ []
-said_at since (order_at millisecond text) = record { at = millisecond; text = text } ∷ []
+said_at since (order_at millisecond text) = record { at = max since millisecond; text = text } ∷ []
 
--- until when what follows waits
+-- until when what follows waits: no line calls off what one before it said
 abbrev pub wait_behind : ℕ → PlainSays → ℕ
 wait_behind since nothing = since
-wait_behind since (at millisecond) = millisecond
+wait_behind since (at millisecond) = max since millisecond
 wait_behind since (order text) = since
-wait_behind since (order_at millisecond text) = millisecond
+wait_behind since (order_at millisecond text) = max since millisecond
 
 abbrev pub timed : ℕ → List (List ℕ) → List Timed
 timed since [] = []

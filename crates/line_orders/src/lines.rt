@@ -61,10 +61,10 @@ impl OrderLines {
     {
         match said {
             LineSays::Nothing => {}
-            LineSays::At(millisecond) => self.since = millisecond,
+            LineSays::At(millisecond) => self.since = self.since.max(millisecond),
             LineSays::Order(order) => self.waiting = Some(order),
             LineSays::OrderAt(millisecond, order) => {
-                self.since = millisecond;
+                self.since = self.since.max(millisecond);
                 self.waiting = Some(order);
             }
         }

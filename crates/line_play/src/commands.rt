@@ -1,26 +1,12 @@
 //! What an order on a line says.
 ghost use Rattle.std.specs.Prelude.{◌≡◌, IfOk, option_map};
 ghost use Rattle.script_lines.specs.Lines.{texts};
-ghost use Rattle.term_lines.specs.Orders.{order_of, mode_named};
+ghost use Rattle.term_lines.specs.Orders.{order_of};
 ghost use Rattle.term_lines.specs.TermCommands.{order, plain_term_command};
 ghost use Rattle.line_play.specs.Commands.{is_on_line, is_question, line_command_of};
 
-use link_term::Mode;
 use std::alloc::{AllocError, Global};
 use term_lines::{TermCommand, order_in, term_command_in};
-
-/// The kind of error correction that a word names: `basic` or `cyclic`, in this case alone (Q.703, 1.4).
-pub fn mode_named(word: &str) -> Option<Mode>
-    ensures { result ≡ mode_named word.now }
-{
-    if word == "basic" {
-        Some(Mode::Basic)
-    } else if word == "cyclic" {
-        Some(Mode::Cyclic)
-    } else {
-        None
-    }
-}
 
 /// Whether a command leaves the line and its time alone.
 fn is_on_line(command: &TermCommand<'_>) -> bool

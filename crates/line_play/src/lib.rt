@@ -7,10 +7,11 @@ mod opening;
 mod running;
 mod texts;
 
-pub use commands::{line_command, mode_named};
+pub use commands::line_command;
 pub use line_filter::{Bits, Desk, MOST_AHEAD};
 pub use link_end::LinkEnd;
 pub use link_term::{Mode, Terminal};
 pub use opening::new_terminal;
 pub use running::{link_desk, run_link};
+pub use term_lines::mode_named;
 pub use term_play::SetWord;

@@ -1,5 +1,5 @@
 //! Lines that go on as far as there is room.
-ghost use Rattle.std.specs.Prelude.{◌≡◌, ◌<◌, ◌++◌, ◌+◌, length, true, false, OnOk, IfOk, IfSome};
+ghost use Rattle.std.specs.Prelude.{◌≡◌, ◌<◌, ◌++◌, ◌+◌, length, true, false, OnOk, OnErr, IfOk, IfSome};
 ghost use Rattle.rtrb.specs.Ring.{sent, known_free};
 ghost use Rattle.line_streams.specs.Departing.{Begins, IsLossTold, IsToGo, TellsOn, TellsLost};
 
@@ -72,6 +72,7 @@ impl Outlet {
     pub fn put(&mut self, alloc: Global, line: &[u8]) -> io::Result<usize>
         ensures told { OnOk result (TellsOn line.now self.old self.new) }
         ensures count { IfOk result (λ n. length (sent self.new.ring) ≡ length (sent self.old.ring) + n) }
+        ensures err { OnErr result (self.new ≡ self.old) }
     {
         let text = to_go(alloc, self.lost, line)?;
         let Some(more) = self.lost.checked_add(1) else {
@@ -95,6 +96,7 @@ impl Outlet {
     pub fn put_lost(&mut self, alloc: Global, now: u64) -> io::Result<usize>
         ensures told { OnOk result (TellsLost now self.old self.new) }
         ensures count { IfOk result (λ n. length (sent self.new.ring) ≡ length (sent self.old.ring) + n) }
+        ensures err { OnErr result (self.new ≡ self.old) }
     {
         if self.lost == 0 {
             return Ok(0);

@@ -1,9 +1,13 @@
 -- What holds of bytes of which something may be known holds of some bytes.
-use Rattle.std.proofs.Common.{ℕ, List, Option, None}
+use Rattle.std.proofs.Common.{ℕ, ◌⊎◌, inl, inr, List, Option, None}
 use Rattle.text_check.specs.Checked.{IsGiven, PrintsCosts, PrintsRefusal}
 use Rattle.script_play.specs.Played.{IsOnSet, IsPlayed, IsPlayedInPart, IsNotRun, IsRefused, set_refused, script_refused}
 use Rattle.pool_soak.specs.Findings.{IsSoaked, IsSoakedInVain, IsTurnedDown}
+use Rattle.line_command.specs.Filters.{Line}
 use Rattle.line_command.specs.Opening.{IsNoSet}
+use Rattle.line_command.specs.Spoken.{SpokeOver, BegunOver}
+use Rattle.line_command.specs.declared.words.LineEnd.{LineEnd}
+use Rattle.mtp2_play.specs.Printed.{IsSpoken}
 
 some_bytes : (known : Option (List ℕ)) (P : List ℕ → Type 0) → IsGiven known P → IsGiven None P
 some_bytes known P g = record { bytes = g.bytes; are_known = tt; holds = g.holds }
@@ -18,8 +22,17 @@ refusal known old new g = some_bytes known (PrintsRefusal old new) g
 
 -- ---- `line`
 
-pub no_set : (known : Option (List ℕ)) → IsGiven known (IsNoSet None None) → IsGiven None (IsNoSet None None)
-no_set known g = some_bytes known (IsNoSet None None) g
+pub spoken : (known : Option (List ℕ)) (end : LineEnd) (status : ℕ) (old new : Line) → IsSpoken known end status old new → IsSpoken None end status old new
+spoken known end status old new s = record {
+  spoke = λ h. some_bytes known (SpokeOver end old new) (s.spoke h);
+  begun = elim s.begun [
+    | inl same ↦ inl same
+    | inr it ↦ inr (some_bytes known (BegunOver end old new) it)
+  ];
+  refused = λ h. some_bytes known (IsNoSet None None) (s.refused h);
+  untouched = s.untouched;
+  ends = s.ends;
+}
 
 -- ---- `soak`
 

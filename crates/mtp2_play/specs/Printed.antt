@@ -1,16 +1,29 @@
 -- What each command prints, by the exit status that it gives. Of a text that isn't the program's own it is said of some bytes, since none are known of a file
 -- or of standard input.
-use Rattle.std.specs.Prelude.{◌≡◌, ◌⊎◌, ◌≤◌, ℕ, List, Option, None}
+use Rattle.std.specs.Prelude.{◌≡◌, ◌≢◌, ◌⊎◌, ◌≤◌, ℕ, List, Option, None}
+use Rattle.clap.specs.declared.error.kind.ErrorKind.{ErrorKind}
+use Rattle.clap.specs.declared.error.kind.ErrorKind.TheVariants.{DisplayHelp, DisplayVersion}
 use Rattle.profile_limits.specs.Limits.{LEAST_WORKERS, MOST_WORKERS}
 use Rattle.text_check.specs.Checked.{IsGiven, PrintsCosts, PrintsRefusal}
 use Rattle.script_play.specs.Played.{IsOnSet, IsPlayed, IsPlayedInPart, IsRefused}
 use Rattle.pool_soak.specs.Findings.{IsSoaked, IsSoakedInVain, IsTurnedDown}
 use Rattle.unit_frame.specs.Printed.{PrintsUnit, PrintsFault}
+use Rattle.line_command.specs.Filters.{Line as Octets}
 use Rattle.line_command.specs.Opening.{IsNoSet}
+use Rattle.line_command.specs.Spoken.{SpokeOver, BegunOver, IsUntouched}
+use Rattle.line_command.specs.declared.words.LineEnd.{LineEnd}
 use Rattle.mtp2_play.specs.Words.{own_text_of}
 use Rattle.mtp2_play.specs.declared.words.Named.{Named}
 use Rattle.mtp2_play.specs.declared.words.Request.{Request}
 use Rattle.mtp2_play.specs.declared.words.Request.TheVariants.{Check, Play, Soak, Line, Frame}
+
+-- the exit statuses: done, an expectation failed or something differs, refused, usage, failed
+abbrev pub IsStatus : ℕ → Type 0
+IsStatus status = (status ≡ 0) ⊎ (status ≡ 1) ⊎ (status ≡ 2) ⊎ (status ≡ 3) ⊎ (status ≡ 4)
+
+-- what a command line is told that doesn't ask for help
+abbrev pub IsFault : ErrorKind → Type 0
+IsFault kind = (kind ≢ DisplayHelp) × (kind ≢ DisplayVersion)
 
 -- the exit statuses of a command that has no expectations: done, refused, failed
 abbrev pub IsDone : ℕ → Type 0
@@ -41,16 +54,19 @@ pub record IsFramed (word : List ℕ) (status : ℕ) (old new : Option (List ℕ
   pub refused : status ≡ 2 → PrintsFault old new word
   pub ends : IsDone status
 
--- `line` prints nothing here, since it speaks on the streams of the system; a set is refused for its text, or for a name that it lacks
-pub record IsSpoken (set : Named) (status : ℕ) (old new : Option (List ℕ)) : Type 0 where
-  pub silent : new ≡ old
-  pub refused : status ≡ 2 → IsGiven (own_text_of set) (IsNoSet None None)
+-- What `line` makes of its line, over the set of these bytes: where it is done a new terminal over the set spoke there as it was told, and however it ends
+-- what was written is a beginning of that. A set is refused for its text, or for a name that it lacks, before anything is read or written.
+pub record IsSpoken (known : Option (List ℕ)) (end : LineEnd) (status : ℕ) (old new : Octets) : Type 0 where
+  pub spoke : status ≡ 0 → IsGiven known (SpokeOver end old new)
+  pub begun : IsUntouched old new ⊎ IsGiven known (BegunOver end old new)
+  pub refused : status ≡ 2 → IsGiven known (IsNoSet None None)
+  pub untouched : status ≡ 2 → IsUntouched old new
   pub ends : IsDone status
 
--- what a request has printed, and with which exit status
-abbrev pub IsAnswered : Request → ℕ → Option (List ℕ) → Option (List ℕ) → Type 0
-IsAnswered (Check set) status old new = IsChecked set status old new
-IsAnswered (Play set script) status old new = IsPlayedOn set status old new
-IsAnswered (Soak script workers) status old new = IsServed workers status old new
-IsAnswered (Line set end) status old new = IsSpoken set status old new
-IsAnswered (Frame octets) status old new = IsFramed octets.now status old new
+-- what a request has printed, and with which exit status; only `line` reads what is handed to it here
+abbrev pub IsAnswered : Request → ℕ → Octets → Octets → Type 0
+IsAnswered (Check set) status old new = IsChecked set status old.written new.written
+IsAnswered (Play set script) status old new = IsPlayedOn set status old.written new.written
+IsAnswered (Soak script workers) status old new = IsServed workers status old.written new.written
+IsAnswered (Line set end) status old new = IsSpoken (own_text_of set) end status old new
+IsAnswered (Frame octets) status old new = IsFramed octets.now status old.written new.written

@@ -2,10 +2,12 @@
 //! signal units.
 #![tactic(auto)]
 
-ghost use Rattle.std.specs.Prelude.{◌≡◌, ◌⊎◌, None};
+ghost use Rattle.std.specs.Prelude.{◌≡◌, ◌≢◌, ◌⊎◌, None, IfOk};
+ghost use Rattle.clap.specs.Words.{kind_of};
+ghost use Rattle.clap.specs.declared.error.kind.ErrorKind.TheVariants.{OutOfMemory};
 ghost use Rattle.text_check.specs.Checked.{given, IsGiven, PrintsCosts, PrintsRefusal};
 ghost use Rattle.script_play.specs.Played.{IsOnSet, IsPlayed, IsPlayedInPart, IsRefused};
-ghost use Rattle.mtp2_play.specs.Printed.{IsAnswered, IsChecked, IsPlayedOn, IsServed};
+ghost use Rattle.mtp2_play.specs.Printed.{IsAnswered, IsChecked, IsFault, IsPlayedOn, IsServed, IsStatus};
 
 mod lines;
 mod words;
@@ -28,20 +30,23 @@ use text_check::{FAILED, HELD, SetWord, USAGE, check};
 use unit_frame::frame;
 pub use words::{Named, Request, Source};
 
-/// Runs one command, and gives the exit status. What it prints goes to the writer, but for `line`, which has the host's streams.
+/// Runs one command, and gives the exit status. What it prints goes to the writer; the octets of a line come from the reader.
 fn run<
     R: Runtime + AllocGlobal + Threads + Wait + Sync,
-    H: Files<File = File> + Threads + Eprint + Print + Input + Clock + AllocGlobal,
+    H: Files<File = File> + Threads + Eprint + Clock + AllocGlobal,
+    I: Read,
     W: Write,
->(rt: &R, host: &H, request: &Request<'_>, writer: &mut W) -> u8
-    ensures printed { IsAnswered request.now result (W.contents writer.old) (W.contents writer.new) }
+>(rt: &R, host: &H, request: &Request<'_>, reader: &mut I, writer: &mut W) -> u8
+    ensures printed { IsAnswered request.now result
+        (record { read = I.remaining reader.old; written = W.contents writer.old })
+        (record { read = I.remaining reader.new; written = W.contents writer.new }) }
     ensures status { (result ≡ 0) ⊎ (result ≡ 1) ⊎ (result ≡ 2) ⊎ (result ≡ 4) }
 {
     match request {
         Request::Check { set } => run_check(rt, *set, writer),
         Request::Play { set, script } => run_play(rt, *set, *script, writer),
         Request::Soak { script, workers } => run_soak(rt, *script, *workers, writer),
-        Request::Line { set, end } => run_line(host, set, end),
+        Request::Line { set, end } => run_line(host, set, end, reader, writer),
         Request::Frame { octets } => frame(rt.alloc(), octets, writer),
     }
 }
@@ -208,7 +213,9 @@ fn run_soak<R: Runtime + AllocGlobal + Threads + Wait + Sync, W: Write>(
 /// Prints what the command line is answered where it names no command to run. Gives the exit status: 0 for help, 3 for a fault, 4 where memory
 /// is wanting or it can't be printed.
 fn answer<R: Runtime + AllocGlobal>(rt: &R, error: &Error) -> u8
-    ensures { (result ≡ 0) ⊎ (result ≡ 3) ⊎ (result ≡ 4) }
+    ensures help { result ≡ 0 → IsFault (kind_of error.now) → ⊥ }
+    ensures usage { result ≡ 3 → IsFault (kind_of error.now) × (kind_of error.now ≢ OutOfMemory) }
+    ensures status { (result ≡ 0) ⊎ (result ≡ 3) ⊎ (result ≡ 4) }
 {
     if error.kind() == ErrorKind::OutOfMemory || error.print(rt).is_err() {
         return FAILED;
@@ -219,10 +226,12 @@ fn answer<R: Runtime + AllocGlobal>(rt: &R, error: &Error) -> u8
 /// Does what the words of a command line say, the program's own name first. Gives the exit status.
 fn serve<
     R: Runtime + AllocGlobal + Threads + Wait + Sync,
-    H: Files<File = File> + Threads + Eprint + Print + Input + Clock + AllocGlobal,
->(rt: &R, host: &H, given: &[String]) -> u8 {
+    H: Files<File = File> + Threads + Eprint + Clock + AllocGlobal,
+>(rt: &R, host: &H, given: &[String]) -> u8
+    ensures { IsStatus result }
+{
     match words::read(rt.alloc(), given) {
-        Ok(request) => run(rt, host, &request, &mut io::writer(rt)),
+        Ok(request) => run(rt, host, &request, &mut rt.reader(), &mut io::writer(rt)),
         Err(error) => answer(rt, &error),
     }
 }
@@ -230,8 +239,10 @@ fn serve<
 /// Reads the command line, and does what it says. A command on a line has the host itself, whose files are those of the system.
 fn start<
     R: Runtime + AllocGlobal + Threads + Wait + Sync,
-    H: Files<File = File> + Threads + Eprint + Print + Input + Clock + AllocGlobal,
->(rt: &R, host: &H) -> io::Result<u8> {
+    H: Files<File = File> + Threads + Eprint + Clock + AllocGlobal,
+>(rt: &R, host: &H) -> io::Result<u8>
+    ensures { IfOk result IsStatus }
+{
     let given: Vec<String> = env::args(rt)?.collect(rt.alloc())?;
     Ok(serve(rt, host, given.as_slice()))
 }

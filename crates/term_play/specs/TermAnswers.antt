@@ -75,6 +75,10 @@ pub data Puts (m : Msu) (t : Term) : List ℕ → Term → Type 0 where
 abbrev pub IsMessageOf : List ℕ → Msu → Type 0
 IsMessageOf octets m = octets ≡ m.sio ∷ m.sif.items
 
+-- octets are no message: there is none, or there are more than one and the 272 of a signalling information field
+abbrev pub AreNoMessage : List ℕ → Type 0
+AreNoMessage octets = (octets ≡ []) ⊎ (273 < length octets)
+
 pub record IsPut (octets : List ℕ) (t : Term) (text : List ℕ) (u : Term) : Type 0 where
   pub message : Msu
   pub octets_are : IsMessageOf octets message
@@ -125,17 +129,17 @@ pub data GoOut : ℕ → Term → List (List ℕ) → Term → Type 0 where
 
 -- ---- all commands
 
--- What a command that prints one line makes of a terminal, and that line. `out` and `expect` are none of these.
+-- What a command that prints one line makes of a terminal, and that line. `out` and `expect` are none of these: nothing is done for them here.
 abbrev pub Answers : PlainTermCommand → Term → List ℕ → Term → Type 0
 Answers (order o) t text u = IsAsked (command_event t.heart.names (command_of o)) t text u
 Answers (unit octets) t text u = (text ≡ codes "ok") × Receives octets t u
 Answers (line octets) t text u = (text ≡ codes "ok") × Listens t octets u
 Answers (msu octets) t text u = IsPut octets t text u
-Answers (out n) t text u = Unit {0}
+Answers (out n) t text u = (text ≡ []) × (u ≡ t)
 Answers (ticks n) t text u = IsAsked (Advance n) t text u
 Answers (state process) t text u = (text ≡ state_line t.heart.book (actor_named t.heart.book process)) × (u ≡ t)
 Answers (shown process variable) t text u = (text ≡ value_line t.heart.book variable (actor_named t.heart.book process)) × (u ≡ t)
-Answers (expected text) t said u = Unit {0}
+Answers (expected text) t said u = (said ≡ []) × (u ≡ t)
 
 pub record AnswersOne (c : PlainTermCommand) (t : Term) (lines : List (List ℕ)) (u : Term) : Type 0 where
   pub text : List ℕ

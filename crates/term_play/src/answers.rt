@@ -1,9 +1,9 @@
 //! What is printed for each command of a terminal's script.
-ghost use Rattle.std.specs.Prelude.{◌≡◌, ◌≤◌, IfOk, IfSome, OnOk, codes, length};
+ghost use Rattle.std.specs.Prelude.{◌≡◌, ◌≤◌, IfOk, IfSome, IsNone, OnOk, codes, length};
 ghost use Rattle.link_machine.specs.declared.event.Event.TheVariants.{Advance};
 ghost use Rattle.link_term.specs.Offering.{command_event};
 ghost use Rattle.term_lines.specs.TermCommands.{plain_term_command};
-ghost use Rattle.term_play.specs.TermAnswers.{command_of, IsAsked, IsRefusedLine, IsMessageOf, IsPut, without_reports, Listens, Receives, Answers};
+ghost use Rattle.term_play.specs.TermAnswers.{command_of, IsAsked, IsRefusedLine, IsMessageOf, AreNoMessage, IsPut, without_reports, Listens, Receives, Answers};
 
 use crate::orders::command_of;
 use crate::unit_line::line_of_unit;
@@ -46,7 +46,8 @@ fn tick(alloc: Global, terminal: &mut Terminal, ticks: u32) -> Result<Vec<u8>, A
 /// The message of these octets: its service information octet, and its signalling information field. None of no octets, nor where the field
 /// has more than 272.
 pub fn message(octets: &[u8]) -> Option<Msu>
-    ensures { IfSome result (IsMessageOf octets.now) }
+    ensures some { IfSome result (IsMessageOf octets.now) }
+    ensures none { IsNone result → AreNoMessage octets.now }
 {
     match octets {
         [sio, sif @ ..] => {
