@@ -1,8 +1,9 @@
 //! The command line.
-ghost use Rattle.std.specs.Prelude.{◌≡◌, ◌↔◌, ◌⊎◌, Some, None, IfSome, IsNone, IsTrue, option_map, codes};
-ghost use Rattle.clap.specs.Words.{subcommand_name_of, subcommand_rows_of};
+ghost use Rattle.std.specs.Prelude.{◌≡◌, ◌↔◌, ◌⊎◌, Some, None, true, map, string_bytes, IfSome, IfOk, IfErr, IsNone, IsTrue, option_map, codes};
+ghost use Rattle.clap.specs.Words.{kind_of, subcommand_name_of, subcommand_of, subcommand_rows_of, takes};
 ghost use Rattle.mtp2_play.specs.Words.{command_of, own_set_of, workers_of, IsNamed, IsSource, AreStdin, IsPlay, IsSoak, IsTextNamed, IsText};
 ghost use Rattle.mtp2_play.specs.Asked.{given_by, AsksEnd, AsksNothing, IsAsked, IsAskedBy, IsNoCheck, IsNoFrame, IsNoLine, IsNoPlay, IsNoSoak, SaysNoEnd, SaysNothing};
+ghost use Rattle.mtp2_play.specs.Commands.{all_commands};
 
 use crate::commands::all_commands;
 use clap::error::ErrorKind;
@@ -237,7 +238,11 @@ fn asked<'a>(name: &str, given: &ArgMatches<'a>) -> Option<Request<'a>>
 }
 
 /// Reads the words of the command line, the program's own name first.
-pub fn read<'a>(alloc: Global, given: &'a [String]) -> Result<Request<'a>, Error> {
+pub fn read<'a>(alloc: Global, given: &'a [String]) -> Result<Request<'a>, Error>
+    ensures asked { IfOk result (IsAskedBy (subcommand_of all_commands (map string_bytes given.now))) }
+    ensures refused { IfErr result (λ e. takes all_commands (map string_bytes given.now) ≡ true
+        → (kind_of e ≡ ErrorKind.OutOfMemory) ⊎ SaysNothing (subcommand_of all_commands (map string_bytes given.now))) }
+{
     let mut commands = all_commands(alloc)?;
     let matches = commands.try_get_matches_from_mut(given)?;
     match request_of(&matches) {
