@@ -1,5 +1,5 @@
 -- What the words of a command's matches ask for, by what single words say.
-use Rattle.std.proofs.Common.{◌≡◌, ◌∙◌, List, Option, Some, None, IfSome, IsSomeAnd, refl, sym, ap, subst, inl, inr, option_map, option_and_then, box_value, codes}
+use Rattle.std.proofs.Common.{◌≡◌, ◌∙◌, List, Option, Some, None, IfSome, IsSomeAnd, refl, sym, ap, subst, inr, option_map, option_and_then, box_value, codes}
 use Rattle.std.proofs.lemmas.Option.{none-some, same_Some}
 use Rattle.clap.specs.Words.{Row, Text, found_of, rows_of, subcommand_name_of, subcommand_rows_of}
 use Rattle.clap.specs.declared.parser.matches.ArgMatches.{ArgMatches}

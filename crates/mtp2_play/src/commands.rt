@@ -125,16 +125,10 @@ fn soak_command<'a>(alloc: Global) -> Result<Command<'a>, AllocError>
     .arg(workers)
 }
 
-/// The options of the command `line`.
+/// The options that say what an end of a link does on its line.
 fn with_line_options<'a>(alloc: Global, command: Command<'a>) -> Result<Command<'a>, AllocError>
     ensures { has_globals command.entry ≡ false → IfOk result (IsCommand (with_line_options (app_of command.entry))) }
 {
-    let text = option_word(
-        alloc,
-        "text",
-        "TEXT",
-        "standard (as where nothing is said), or a file with the text of a set of processes",
-    );
     let orders = option_word(
         alloc,
         "orders",
@@ -159,26 +153,28 @@ fn with_line_options<'a>(alloc: Global, command: Command<'a>) -> Result<Command<
         "N",
         "How many octets of 1s go out before any octet came in, 0 to 8000; else none",
     );
-    command
-        .arg(text)?
-        .arg(orders)?
-        .arg(reports)?
-        .arg(bits)?
-        .arg(ahead)
+    command.arg(orders)?.arg(reports)?.arg(bits)?.arg(ahead)
 }
 
-/// The command `line`, without its options.
+/// The command `line`, without what its end does on its line.
 fn line_begun<'a>(alloc: Global) -> Result<Command<'a>, AllocError>
     ensures { IfOk result (IsCommand line_begun) }
 {
     let mode = plain_word(alloc, "MODE", "The error correction: basic or cyclic");
+    let text = option_word(
+        alloc,
+        "text",
+        "TEXT",
+        "standard (as where nothing is said), or a file with the text of a set of processes",
+    );
     bare_command(
         alloc,
         "line",
         "Puts one end of a signalling link on a channel of 64 kbit/s: line octets come on standard input and go to standard output",
         "Writes one octet for each that it reads; 8 octets are a millisecond, and no clock is read. Orders: power, start, stop, emergency, calm,\noutage, back, busy, free, msu HEX, at MS (what follows waits until that millisecond), state P, value P x, quit; # begins a comment,\nand a report MS ok ORDER is obeyed as at MS and that order. Reports, each behind its millisecond: in service, down R, far out,\nfar back, message HEX, state P S, value P x V, ok ORDER, refused CODE Name, lost N (what a FIFO had no room for).\nExits with 0 at the end of input or after quit, 2 after refused CODE Name on standard error where the text is refused, 4 where memory,\na file, a read or a write fails.",
     )
-    .arg(mode)
+    .arg(mode)?
+    .arg(text)
 }
 
 /// The command `line`.

@@ -1,4 +1,4 @@
-use Rattle.std.proofs.Common.{Option, IfSome, IsNone, sym, inr}
+use Rattle.std.proofs.Common.{sym, inr}
 use Rattle.line_command.specs.declared.words.LineWords.{LineWords}
 use Rattle.mtp2_play.specs.Asked.{given_by, AreUnderIds}
 use Rattle.mtp2_play.proofs.Asking.{ends}

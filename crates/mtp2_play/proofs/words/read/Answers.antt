@@ -1,4 +1,4 @@
-use Rattle.std.proofs.Common.{List, String, map, string_bytes, inl, inr, refl}
+use Rattle.std.proofs.Common.{List, map, string_bytes, inl, inr, refl}
 use Rattle.std.proofs.lemmas.Result.{err_from_is_err_and}
 use Rattle.clap.specs.Words.{Text}
 use Rattle.mtp2_play.proofs.Building.{reads, refuses, says_nothing}

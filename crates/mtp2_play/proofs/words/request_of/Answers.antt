@@ -1,4 +1,4 @@
-use Rattle.std.proofs.Common.{List, Option, Some, ◌≡◌}
+use Rattle.std.proofs.Common.{Some, ◌≡◌}
 use Rattle.clap.specs.Words.{found_of, rows_of, subcommand_rows_of}
 use Rattle.mtp2_play.proofs.Asking.{entered, asked_by, asks_nothing}
 use Rattle.mtp2_play.proofs.words.request_of.Goals as goal
