@@ -1,1 +1,4 @@
+mod Asking
+mod Building
+mod Examples
 mod Known

@@ -1,2 +1,4 @@
 pub mod Words
 pub mod Printed
+pub mod Asked
+pub mod Commands

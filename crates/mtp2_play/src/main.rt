@@ -9,6 +9,7 @@ ghost use Rattle.text_check.specs.Checked.{given, IsGiven, PrintsCosts, PrintsRe
 ghost use Rattle.script_play.specs.Played.{IsOnSet, IsPlayed, IsPlayedInPart, IsRefused};
 ghost use Rattle.mtp2_play.specs.Printed.{IsAnswered, IsChecked, IsFault, IsPlayedOn, IsServed, IsStatus};
 
+mod commands;
 mod lines;
 mod words;
 
