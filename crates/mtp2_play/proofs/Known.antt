@@ -1,6 +1,8 @@
 -- What holds of bytes of which something may be known holds of some bytes.
-use Rattle.std.proofs.Common.{ℕ, ◌⊎◌, inl, inr, List, Option, None}
-use Rattle.text_check.specs.Checked.{IsGiven, PrintsCosts, PrintsRefusal}
+use Rattle.std.proofs.Common.{◌≡◌, ℕ, ◌⊎◌, inl, inr, List, Option, None, Some, rules}
+use Rattle.text_check.specs.Checked.{given, IsGiven, PrintsCosts, PrintsRefusal}
+use Rattle.text_check.specs.declared.sets.SetWord.{SetWord}
+use Rattle.text_check.specs.declared.sets.SetWord.TheVariants.{Standard as standard_set, Monitors as monitors_set, Text}
 use Rattle.script_play.specs.Played.{IsOnSet, IsPlayed, IsPlayedInPart, IsNotRun, IsRefused, set_refused, script_refused}
 use Rattle.pool_soak.specs.Findings.{IsSoaked, IsSoakedInVain, IsTurnedDown}
 use Rattle.line_command.specs.Filters.{Line}
@@ -8,6 +10,9 @@ use Rattle.line_command.specs.Opening.{IsNoSet}
 use Rattle.line_command.specs.Spoken.{SpokeOver, BegunOver}
 use Rattle.line_command.specs.declared.words.LineEnd.{LineEnd}
 use Rattle.mtp2_play.specs.Printed.{IsSpoken}
+use Rattle.mtp2_play.specs.Words.{own_set_of, own_text_of}
+use Rattle.mtp2_play.specs.declared.words.Named.{Named}
+use Rattle.mtp2_play.specs.declared.words.Named.TheVariants.{Standard, Monitors, Stdin, File}
 
 some_bytes : (known : Option (List ℕ)) (P : List ℕ → Type 0) → IsGiven known P → IsGiven None P
 some_bytes known P g = record { bytes = g.bytes; are_known = tt; holds = g.holds }
@@ -33,6 +38,18 @@ spoken known end status old new s = record {
   untouched = s.untouched;
   ends = s.ends;
 }
+
+-- the set of the program's own that is named is over its text
+pub spoken_over_own : {R : Type 0} (remaining : R → Option (List ℕ)) (set : Named) (own : SetWord R) (end : LineEnd) (status : ℕ) (old new : Line)
+    → own_set_of set ≡ Some own → IsSpoken (given remaining own) end status old new → IsSpoken (own_text_of set) end status old new
+spoken_over_own remaining Standard standard_set end status old new is s = s
+spoken_over_own remaining Standard monitors_set end status old new is s = search (rules, is)
+spoken_over_own remaining Standard (Text text) end status old new is s = search (rules, is)
+spoken_over_own remaining Monitors standard_set end status old new is s = search (rules, is)
+spoken_over_own remaining Monitors monitors_set end status old new is s = s
+spoken_over_own remaining Monitors (Text text) end status old new is s = search (rules, is)
+spoken_over_own remaining Stdin own end status old new is s = search (rules, is)
+spoken_over_own remaining (File path) own end status old new is s = search (rules, is)
 
 -- ---- `soak`
 
