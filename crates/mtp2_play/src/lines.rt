@@ -43,11 +43,13 @@ fn line_text<
 }
 
 /// Has a terminal over a set of the program's own speak on a line.
-fn line_own<
-    H: Files<File = File> + Threads + Eprint + Clock + AllocGlobal,
-    R: Read,
-    W: Write,
->(host: &H, set: &Named<'_>, end: &LineEnd<'_>, reader: &mut R, writer: &mut W) -> u8
+fn line_own<H: Files<File = File> + Threads + Eprint + Clock + AllocGlobal, R: Read, W: Write>(
+    host: &H,
+    set: &Named<'_>,
+    end: &LineEnd<'_>,
+    reader: &mut R,
+    writer: &mut W,
+) -> u8
     ensures { IsSpoken (own_text_of set.now) end.now result
         (record { read = R.remaining reader.old; written = W.contents writer.old })
         (record { read = R.remaining reader.new; written = W.contents writer.new }) }
@@ -61,11 +63,13 @@ fn line_own<
 /// Runs `line`: line octets come from a reader, and go to a writer. Gives the exit status: 0 at the end of the line or at the order `quit`, 2 where
 /// the text is refused or lacks a name, 4 where memory, a file, a read or a write fails. Standard input is the line: a request for it as a text, which
 /// no command line makes, is 4 too.
-pub fn run_line<
-    H: Files<File = File> + Threads + Eprint + Clock + AllocGlobal,
-    R: Read,
-    W: Write,
->(host: &H, set: &Named<'_>, end: &LineEnd<'_>, reader: &mut R, writer: &mut W) -> u8
+pub fn run_line<H: Files<File = File> + Threads + Eprint + Clock + AllocGlobal, R: Read, W: Write>(
+    host: &H,
+    set: &Named<'_>,
+    end: &LineEnd<'_>,
+    reader: &mut R,
+    writer: &mut W,
+) -> u8
     ensures { IsSpoken (own_text_of set.now) end.now result
         (record { read = R.remaining reader.old; written = W.contents writer.old })
         (record { read = R.remaining reader.new; written = W.contents writer.new }) }
