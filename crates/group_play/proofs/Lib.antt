@@ -1,5 +1,6 @@
 mod CallAnswers
 mod HandAnswers
+mod Keeping
 mod LineAnswers
 mod ShownAnswers
 mod GroupRuns

@@ -1,5 +1,5 @@
 -- What each command of a link set's script makes of the set and of the messages in hand, and the lines that it prints.
-use Rattle.std.specs.Prelude.{◌≡◌, ℕ, ◌<◌, ◌≤◌, zero, suc, ◌==◌, Bool, true, false, List, [], ◌∷◌, ◌++◌, length, map, drop, Option, None, Some, slice_get, codes}
+use Rattle.std.specs.Prelude.{◌≡◌, ℕ, ◌<◌, ◌≤◌, zero, suc, ◌==◌, ◌||◌, nat_lt, nat_le, is_some, Bool, true, false, List, [], ◌∷◌, ◌++◌, length, map, drop, Option, None, Some, slice_get, codes}
 use Rattle.std.specs.List.{list_any}
 use Rattle.std.specs.Fmt.{decimal}
 use Rattle.hex.specs.Hex.{encode_upper}
@@ -27,6 +27,7 @@ use Rattle.link_group.specs.Changing.{fail_fault, failed, order_at, IsRead, afte
 use Rattle.link_group.specs.Diverting.{diverted, after_divert}
 use Rattle.link_group.specs.Placing.{rebalance_fault, rebalanced}
 use Rattle.link_group.specs.Lines.{ByLink, Alone}
+use Rattle.link_group.specs.Moving.{hand_of}
 use Rattle.link_group.specs.Doing.{Listened, Sent, Reported}
 use Rattle.link_group.specs.Commanding.{Commanded, Refused, is_barred}
 use Rattle.link_group.specs.OneLink.{but_memory}
@@ -186,6 +187,10 @@ pub record IsHeard (octets : List ℕ) (c : LinkSet) (text : List ℕ) (d : Link
 -- a link has one hand at most
 abbrev pub MOST_HANDS : ℕ
 MOST_HANDS = 16
+
+-- Of so many hands that are kept: there is room for one more, or the link gives none, since it isn't there or its messages are in hand.
+abbrev pub can_keep : LinkSet → ℕ → ℕ → Bool
+can_keep c kept l = nat_lt kept MOST_HANDS || (nat_le (length c.links) l || is_some (hand_of (slice_get c.links l)))
 
 abbrev pub with_hand : List Hand → ℕ → List Msu → List Hand
 with_hand hands l messages = hands ++ record { link = l; messages = messages } ∷ []

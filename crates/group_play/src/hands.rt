@@ -1,7 +1,7 @@
 //! Messages that are handed out, kept, and diverted.
 ghost use Rattle.std.specs.Prelude.{◌≡◌, ◌<◌, IfOk, length};
 ghost use Rattle.link_group.specs.Diverting.{Owns};
-ghost use Rattle.group_play.specs.GroupAnswers.{hands_of, with_hand, Retrieves, Abandons, Diverts, DivertsHand, MOST_HANDS, IsRetrieveLine, IsAbandonLine};
+ghost use Rattle.group_play.specs.GroupAnswers.{can_keep, hands_of, with_hand, Retrieves, Abandons, Diverts, DivertsHand, MOST_HANDS, IsRetrieveLine, IsAbandonLine};
 
 use crate::saying::{count_line, done, no_link, refused};
 use link_group::{AbandonError, DivertError, Group, Hands, RetrieveError, Retrieved};
@@ -34,7 +34,15 @@ fn unretrieved(alloc: Global, error: RetrieveError) -> Result<Vec<u8>, AllocErro
     }
 }
 
-/// `retrieve`. More hands than may be kept would be told as want of memory, but none comes here: a link has one hand at most.
+/// Whether a hand could be kept that a link gave: there is room, or the link gives none, since it isn't there or its messages are in hand.
+fn can_keep(group: &Group, hands: &Hands, link: usize) -> bool
+    ensures { result ≡ can_keep group.now (length hands.now.kept.items) link }
+{
+    hands.len() < MOST_HANDS || link >= group.len() || group.in_hand(link)
+}
+
+/// `retrieve`. A hand that couldn't be kept would be told as want of memory, but none comes here: where as many are kept as a set may have links,
+/// each link's messages are in hand.
 pub(crate) fn retrieve(
     alloc: Global,
     group: &mut Group,
@@ -43,7 +51,7 @@ pub(crate) fn retrieve(
 ) -> Result<Vec<u8>, AllocError>
     ensures { IfOk result (λ v. Retrieves link group.old (hands_of hands.old) v.items group.new (hands_of hands.new)) }
 {
-    if hands.len() >= MOST_HANDS {
+    if !can_keep(group, hands, link) {
         return Err(AllocError);
     }
     match group.retrieve(link) {
@@ -75,7 +83,7 @@ pub(crate) fn abandon(
 ) -> Result<Vec<u8>, AllocError>
     ensures { IfOk result (λ v. Abandons link group.old (hands_of hands.old) v.items group.new (hands_of hands.new)) }
 {
-    if hands.len() >= MOST_HANDS {
+    if !can_keep(group, hands, link) {
         return Err(AllocError);
     }
     match group.abandon(link) {
@@ -127,7 +135,7 @@ fn divert_taken(
     Err(AllocError)
 }
 
-/// `divert`. As for `retrieve`.
+/// `divert`. More hands than may be kept would be told as want of memory, but as many as that are never kept.
 pub(crate) fn divert(
     alloc: Global,
     group: &mut Group,

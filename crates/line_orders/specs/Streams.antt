@@ -19,7 +19,8 @@ whole_lines line (b ∷ bs) = if b == 10 then line ∷ whole_lines [] bs else wh
 unfoldable pub line_says : List ℕ → PlainSays
 line_says line = if nat_le (length line) MOST_OCTETS && is_utf8 line then says_of (words_of line) else order []
 
--- the order that a line says, if it says one, behind lines of which what follows waits until this millisecond
+-- the order that a line says, if it says one, where what follows the lines before it waits until this millisecond; its own millisecond counts where it is
+-- later
 abbrev pub said_at : ℕ → PlainSays → List Timed
 said_at since nothing = []
 said_at since (at millisecond) = []

@@ -1,13 +1,14 @@
 //! What a set tells of its links.
-ghost use Rattle.std.specs.Prelude.{◌≡◌, slice_get};
+ghost use Rattle.std.specs.Prelude.{◌≡◌, is_some, slice_get};
 ghost use Rattle.std.specs.Option.{option_copied};
 ghost use Rattle.group_links.specs.OneLink.{held};
 ghost use Rattle.group_links.specs.Links.{read_at};
 ghost use Rattle.link_group.specs.Reading.{held_count, sent_count, message_at, terminal_of, book_of};
 ghost use Rattle.group_links.specs.Tables.{changing_by};
+ghost use Rattle.group_links.specs.Moving.{hand_of};
 
 use crate::group::Group;
-use group_links::{Msu, Terminal};
+use group_links::{Msu, Terminal, hand_of};
 use link_heart::Book;
 
 impl Group {
@@ -49,6 +50,13 @@ impl Group {
             Some(link) => link.marks.changing.is_some(),
             None => false,
         }
+    }
+
+    /// Whether messages of a link are in hand: handed out, and not all diverted yet.
+    pub fn in_hand(&self, link: usize) -> bool
+        ensures { result ≡ is_some (hand_of (slice_get self.now.links link)) }
+    {
+        hand_of(self.links.as_slice(), link).is_some()
     }
 
     /// The terminal of a link, if it is there.

@@ -2,3 +2,4 @@ pub mod Words
 pub mod Printed
 pub mod Asked
 pub mod Commands
+pub mod Served

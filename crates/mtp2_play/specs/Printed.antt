@@ -21,7 +21,7 @@ use Rattle.mtp2_play.specs.declared.words.Request.TheVariants.{Check, Play, Soak
 abbrev pub IsStatus : ℕ → Type 0
 IsStatus status = (status ≡ 0) ⊎ (status ≡ 1) ⊎ (status ≡ 2) ⊎ (status ≡ 3) ⊎ (status ≡ 4)
 
--- what a command line is told that doesn't ask for help
+-- what a command line is told that asks neither for help nor for the version, want of memory too
 abbrev pub IsFault : ErrorKind → Type 0
 IsFault kind = (kind ≢ DisplayHelp) × (kind ≢ DisplayVersion)
 

@@ -34,7 +34,7 @@ own_set_of Monitors = Some monitors_set
 own_set_of Stdin = None
 own_set_of (File path) = None
 
--- the text of the set of the program's own that is named
+-- the text of the set of the program's own that is named, if it is one
 abbrev pub own_text_of : Named → Option (List ℕ)
 own_text_of Standard = Some STANDARD.now
 own_text_of Monitors = Some MONITORS.now
@@ -86,7 +86,7 @@ IsTextNamed Monitors word = word ≡ codes "monitors"
 IsTextNamed Stdin word = ⊥
 IsTextNamed (File path) word = (path.now ≡ word) × IsFileName word
 
--- the same by a word that may be there
+-- the same by a word that may be there; `standard` where there is none
 abbrev pub IsText : Option (List ℕ) → Named → Type 0
 IsText None set = set ≡ Standard
 IsText (Some word) set = IsTextNamed set word

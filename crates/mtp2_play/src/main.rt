@@ -2,12 +2,13 @@
 //! signal units.
 #![tactic(auto)]
 
-ghost use Rattle.std.specs.Prelude.{◌≡◌, ◌≢◌, ◌⊎◌, None, IfOk};
+ghost use Rattle.std.specs.Prelude.{◌≡◌, ◌≢◌, ◌⊎◌, None, IfOk, map, string_bytes};
 ghost use Rattle.clap.specs.Words.{kind_of};
 ghost use Rattle.clap.specs.declared.error.kind.ErrorKind.TheVariants.{OutOfMemory};
 ghost use Rattle.text_check.specs.Checked.{given, IsGiven, PrintsCosts, PrintsRefusal};
 ghost use Rattle.script_play.specs.Played.{IsOnSet, IsPlayed, IsPlayedInPart, IsRefused};
 ghost use Rattle.mtp2_play.specs.Printed.{IsAnswered, IsChecked, IsFault, IsPlayedOn, IsServed, IsStatus};
+ghost use Rattle.mtp2_play.specs.Served.{ComesTo};
 
 mod commands;
 mod lines;
@@ -229,7 +230,8 @@ fn serve<
     R: Runtime + AllocGlobal + Threads + Wait + Sync,
     H: Files<File = File> + Threads + Eprint + Clock + AllocGlobal,
 >(rt: &R, host: &H, given: &[String]) -> u8
-    ensures { IsStatus result }
+    ensures served { ComesTo (map string_bytes given.now) result }
+    ensures status { IsStatus result }
 {
     match words::read(rt.alloc(), given) {
         Ok(request) => run(rt, host, &request, &mut rt.reader(), &mut io::writer(rt)),

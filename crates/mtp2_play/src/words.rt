@@ -1,9 +1,10 @@
 //! The command line.
-ghost use Rattle.std.specs.Prelude.{◌≡◌, ◌↔◌, ◌⊎◌, Some, None, true, map, string_bytes, IfSome, IfOk, IfErr, IsNone, IsTrue, option_map, codes};
-ghost use Rattle.clap.specs.Words.{kind_of, subcommand_name_of, subcommand_of, subcommand_rows_of, takes};
+ghost use Rattle.std.specs.Prelude.{◌≡◌, ◌↔◌, ◌⊎◌, Some, None, [], true, map, string_bytes, IfSome, IfOk, IfErr, IsNone, IsTrue, option_map, codes};
+ghost use Rattle.clap.specs.Words.{fault_of, kind_of, subcommand_name_of, subcommand_of, subcommand_rows_of, takes};
 ghost use Rattle.mtp2_play.specs.Words.{command_of, own_set_of, workers_of, IsNamed, IsSource, AreStdin, IsPlay, IsSoak, IsTextNamed, IsText};
 ghost use Rattle.mtp2_play.specs.Asked.{given_by, AsksEnd, AsksNothing, IsAsked, IsAskedBy, IsNoCheck, IsNoFrame, IsNoLine, IsNoPlay, IsNoSoak, SaysNoEnd, SaysNothing};
 ghost use Rattle.mtp2_play.specs.Commands.{all_commands};
+ghost use Rattle.mtp2_play.specs.Served.{IsTurnedDown};
 
 use crate::commands::all_commands;
 use clap::error::ErrorKind;
@@ -242,11 +243,13 @@ fn asked<'a>(name: &str, given: &ArgMatches<'a>) -> Option<Request<'a>>
 /// # Errors
 ///
 /// What clap says of words that are none of a command, or ask for help, and `InvalidSubcommand` where one of a command's words says nothing:
-/// standard input for two things, a number out of range, no such mode. Or want of memory.
+/// standard input for two things, a number out of range, no such mode or bits. Or want of memory.
 pub fn read<'a>(alloc: Global, given: &'a [String]) -> Result<Request<'a>, Error>
+    ensures taken { IfOk result (λ _. fault_of all_commands (map string_bytes given.now) ≡ []) }
     ensures asked { IfOk result (IsAskedBy (subcommand_of all_commands (map string_bytes given.now))) }
-    ensures refused { IfErr result (λ e. takes all_commands (map string_bytes given.now) ≡ true
-        → (kind_of e ≡ ErrorKind.OutOfMemory) ⊎ SaysNothing (subcommand_of all_commands (map string_bytes given.now))) }
+    ensures refused { IfErr result (λ e. IsTurnedDown (map string_bytes given.now) (kind_of e)) }
+    ensures in_vain { IfErr result (λ e. takes all_commands (map string_bytes given.now) ≡ true → (kind_of e ≡ ErrorKind.OutOfMemory)
+        ⊎ ((kind_of e ≡ ErrorKind.InvalidSubcommand) × SaysNothing (subcommand_of all_commands (map string_bytes given.now)))) }
 {
     let mut commands = all_commands(alloc)?;
     let matches = commands.try_get_matches_from_mut(given)?;

@@ -75,7 +75,7 @@ pub data Puts (m : Msu) (t : Term) : List ℕ → Term → Type 0 where
 abbrev pub IsMessageOf : List ℕ → Msu → Type 0
 IsMessageOf octets m = octets ≡ m.sio ∷ m.sif.items
 
--- octets are no message: there is none, or there are more than one and the 272 of a signalling information field
+-- octets are no message: there are no octets, or more than 273, which are one and the 272 of a signalling information field
 abbrev pub AreNoMessage : List ℕ → Type 0
 AreNoMessage octets = (octets ≡ []) ⊎ (273 < length octets)
 

@@ -1,7 +1,12 @@
+use Rattle.std.proofs.Common.{sym}
 use Rattle.std.proofs.lemmas.Result.{IfOk-weaker}
 use Rattle.group_play.specs.GroupAnswers.{hands_of, Abandons}
 use Rattle.group_play.proofs.HandAnswers.{abandoned, unabandoned}
+use Rattle.group_play.proofs.Keeping.{room_to_abandon}
 use Rattle.group_play.proofs.hands.abandon.Goals as goal
+
+pub keep-requires : goal.keep-requires
+keep-requires c = room_to_abandon c.args.group.now _ c.args.link (sym c.can_keep.ensures) (sym c.in-Ok.ensures.fault)
 
 pub returns-in-Ok : goal.returns-in-Ok
 returns-in-Ok c =
