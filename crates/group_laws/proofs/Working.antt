@@ -15,11 +15,12 @@ use Rattle.link_heart.specs.Machine.{with_book, is_low, tidied}
 use Rattle.link_places.specs.declared.marks.Marks.{Marks}
 use Rattle.link_places.specs.Laws.{StepsKeepPlaces}
 use Rattle.link_places.specs.Marks.{begins, serves}
+use Rattle.link_places.specs.Saying.{answer_in}
 use Rattle.link_places.proofs.Equal.{same}
 use Rattle.group_links.specs.declared.link.Link.{Link}
 use Rattle.group_links.specs.OneLink.{held}
 use Rattle.group_links.specs.Links.{set_at, change}
-use Rattle.group_links.specs.Failing.{begins_at, told_by, is_order, hears}
+use Rattle.group_links.specs.Failing.{begins_at, is_order, hears}
 use Rattle.group_links.specs.Doing.{came, came_first, asked, came_by, AtLink}
 use Rattle.group_links.specs.Ticking.{roomy, passed}
 use Rattle.link_group.specs.Set.{LinkSet}
@@ -60,7 +61,7 @@ stays_failed laws c hands accepted gone l stays = one_changes laws c hands accep
 
 fits_heard : (what : Kind) (k : Link) (ms : List Msu) → FitsMarks k.marks ms → FitsMarks (hears what k).marks ms
 fits_heard what k ms fits =
-    fits_told (told_by what k) (if is_order what then begins k.marks else k.marks) ms
+    fits_told (answer_in what k.marks) (if is_order what then begins k.marks else k.marks) ms
     (by_test (λ (m : Marks). FitsMarks m ms) (is_order what) (begins k.marks) k.marks (λ e. fits_begins k.marks ms fits) (λ e. fits))
 
 pub stays_heard : (laws : StepsKeepPlaces) (c : LinkSet) (hands : ℕ → List Msu) (accepted : List Msu) (gone : List Gone) (m : Option Changeover) → Stays c hands accepted gone

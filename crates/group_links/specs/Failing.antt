@@ -4,9 +4,8 @@ use Rattle.resend_store.specs.declared.messages.Msu.{Msu}
 use Rattle.resend_store.specs.Window.{unacknowledged, retrieved}
 use Rattle.link_labels.specs.declared.changeover.Kind.{Kind}
 use Rattle.link_labels.specs.declared.changeover.Kind.TheVariants as kind
-use Rattle.link_places.specs.declared.marks.Answer.{Answer}
-use Rattle.link_places.specs.declared.marks.Answer.TheVariants as answer
 use Rattle.link_places.specs.Marks.{begins, told}
+use Rattle.link_places.specs.Saying.{order_after, answer_in, reply_after}
 use Rattle.group_links.specs.declared.link.Link.{Link}
 use Rattle.link_refusals.specs.declared.errors.FailError.{FailError}
 use Rattle.link_refusals.specs.declared.errors.FailError.TheVariants as fail
@@ -18,22 +17,8 @@ fail_fault_of k = if is_changing k then Some fail.Waiting else None
 abbrev pub begins_at : Link → Link
 begins_at k = with_marks (begins k.marks) k
 
--- An order for a link that was started anew is an emergency one: the numbers of which it would speak are gone.
 abbrev pub order_of : Link → Kind
-order_of k = if k.marks.anew then kind.EmergencyOrder else kind.Order (accepted_at k)
-
-abbrev pub acknowledgement_of : Link → Kind
-acknowledgement_of k = if k.marks.anew then kind.EmergencyAcknowledgement else kind.Acknowledgement (accepted_at k)
-
--- A number is none for a link that was started anew.
-abbrev pub told_of : Link → ℕ → Answer
-told_of k fsn = if k.marks.anew then answer.Unknown else answer.Accepted fsn
-
-abbrev pub told_by : Kind → Link → Answer
-told_by (kind.Order fsn) k = told_of k fsn
-told_by (kind.Acknowledgement fsn) k = told_of k fsn
-told_by kind.EmergencyOrder k = answer.Unknown
-told_by kind.EmergencyAcknowledgement k = answer.Unknown
+order_of k = order_after k.marks (accepted_at k)
 
 abbrev pub is_order : Kind → Bool
 is_order (kind.Order fsn) = true
@@ -43,14 +28,10 @@ is_order kind.EmergencyAcknowledgement = false
 
 -- An order begins the changeover where none goes on. It is an answer, as an acknowledgement is.
 abbrev pub hears : Kind → Link → Link
-hears what k = with_marks (told (told_by what k) (if is_order what then begins k.marks else k.marks)) k
+hears what k = with_marks (told (answer_in what k.marks) (if is_order what then begins k.marks else k.marks)) k
 
--- an order is answered, an emergency order by an emergency acknowledgement
 abbrev pub replies : Kind → Link → Option Kind
-replies (kind.Order fsn) k = Some (acknowledgement_of k)
-replies (kind.Acknowledgement fsn) k = None
-replies kind.EmergencyOrder k = Some kind.EmergencyAcknowledgement
-replies kind.EmergencyAcknowledgement k = None
+replies what k = reply_after what k.marks (accepted_at k)
 
 -- what a link answers, if it is there
 abbrev pub replies_at : Kind → Option Link → Option Kind

@@ -1,5 +1,5 @@
 -- One link of a set: its terminal, and what is marked there.
-use Rattle.std.specs.Prelude.{ℕ, ◌==◌, ◌&&◌, nat_lt, nat_le, Bool, not, if◌then◌else◌, List, length, Option, Some, None, is_some, Result, Ok, Err}
+use Rattle.std.specs.Prelude.{ℕ, ◌==◌, nat_le, Bool, if◌then◌else◌, List, length, Option, Some, None, is_some, Result, Ok, Err}
 use Rattle.resend_store.specs.declared.messages.Msu.{Msu}
 use Rattle.resend_store.specs.Limits.{MOST_WAITING}
 use Rattle.resend_store.specs.Window.{Window, waiting, with_put, retrieved, emptied, count_by}
@@ -7,11 +7,9 @@ use Rattle.link_term.specs.Term.{with_half}
 use Rattle.link_term.specs.Kept.{window_of}
 use Rattle.link_places.specs.declared.marks.Marks.{Marks}
 use Rattle.link_places.specs.declared.marks.Changing.{Changing}
-use Rattle.link_places.specs.declared.marks.Answer.{Answer}
-use Rattle.link_places.specs.declared.marks.Answer.TheVariants as answer
-use Rattle.link_places.specs.Limits.{PATIENCE}
 use Rattle.link_places.specs.Sharing.{counts_of}
 use Rattle.link_places.specs.Marks.{with_hand}
+use Rattle.link_places.specs.Saying.{is_out, is_waiting, number_in}
 use Rattle.group_links.specs.declared.link.Link.{Link}
 use Rattle.link_refusals.specs.declared.errors.SendError.{SendError}
 use Rattle.link_refusals.specs.declared.errors.SendError.TheVariants as send
@@ -63,12 +61,6 @@ puts m k = with_window (with_put (window k) m) k
 
 -- ---- its messages for a changeover
 
--- the number that the far side told, where it told one; sequence numbers have 7 bits
-abbrev pub number_in : Option Answer → Option ℕ
-number_in None = None
-number_in (Some answer.Unknown) = None
-number_in (Some (answer.Accepted fsn)) = if nat_lt fsn 128 then Some fsn else None
-
 -- A number that would acknowledge more than is sent counts as none.
 abbrev pub known_by : Window → Option ℕ → Option ℕ
 known_by w None = None
@@ -85,8 +77,8 @@ unsure_by sent None = if sent == 0 then None else Some (retrieve.Unsure sent)
 -- K2 while its hand is out, and before an answer for as long as is waited; then K4
 unfoldable pub retrieve_fault_in : Link → Changing → Option RetrieveError
 retrieve_fault_in k c =
-    if is_some c.hand then Some retrieve.Waiting
-    else (if not (is_some c.answer) && nat_lt c.waited PATIENCE then Some retrieve.Waiting
+    if is_out c then Some retrieve.Waiting
+    else (if is_waiting c then Some retrieve.Waiting
     else unsure_by (window k).sent (known k c))
 
 -- K1 where no changeover goes on

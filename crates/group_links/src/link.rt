@@ -3,11 +3,11 @@ ghost use Rattle.std.specs.Prelude.{◌≡◌, ◌<◌, ◌≤◌, All, length, 
 ghost use Rattle.resend_store.specs.Messages.{IsMessage};
 ghost use Rattle.resend_store.specs.Window.{retrieved};
 ghost use Rattle.link_labels.specs.Changeovers.{IsKind};
-ghost use Rattle.group_links.specs.Failing.{fail_fault_of, begins_at, order_of, acknowledgement_of, told_by, replies, hears};
+ghost use Rattle.group_links.specs.Failing.{fail_fault_of, begins_at, order_of, replies, hears};
 ghost use Rattle.group_links.specs.OneLink.{fault_of, put_fault, puts, window, known, unsure_by, retrieve_fault, retrieve_refusal, number_of, hands_out, abandon_fault, abandon_refusal};
 
 use link_labels::Kind;
-use link_places::{Answer, Changing, Marks, PATIENCE, counts_of};
+use link_places::{Changing, Marks, counts_of};
 use link_refusals::{AbandonError, FailError, RetrieveError, SendError};
 use link_term::{Msu, RetrieveError as StoreError, Terminal};
 use std::alloc::AllocError;
@@ -29,7 +29,7 @@ impl Link {
         ensures ok { OnOk result (self.new ≡ puts msu self.old) }
         ensures err { OnErr result (self.new ≡ self.old) }
     {
-        if self.marks.changing.is_some() {
+        if self.marks.is_changing() {
             return Err(SendError::Waiting);
         }
         if !self.terminal.in_service() {
@@ -47,15 +47,11 @@ impl Link {
         ensures value { result ≡ known self.now changing }
         ensures within { IfSome result (λ fsn. fsn < 128) }
     {
-        match changing.answer {
-            Some(Answer::Accepted(fsn)) if fsn < 128 => {
-                if self.terminal.knows(fsn) {
-                    Some(fsn)
-                } else {
-                    None
-                }
-            }
-            _ => None,
+        let fsn = changing.number()?;
+        if self.terminal.knows(fsn) {
+            Some(fsn)
+        } else {
+            None
         }
     }
 
@@ -82,10 +78,10 @@ impl Link {
         let Some(changing) = self.marks.changing else {
             return Some(RetrieveError::NoLink);
         };
-        if changing.hand.is_some() {
+        if changing.is_out() {
             return Some(RetrieveError::Waiting);
         }
-        if changing.answer.is_none() && changing.waited < PATIENCE {
+        if changing.is_waiting() {
             return Some(RetrieveError::Waiting);
         }
         self.unsure(changing)
@@ -166,64 +162,12 @@ impl Link {
         ensures ok { OnOk result (self.new ≡ begins_at self.old) }
         ensures err { OnErr result (self.new ≡ self.old) }
     {
-        if self.marks.changing.is_some() {
+        if self.marks.is_changing() {
             return Err(FailError::Waiting);
         }
-        let kind = self.order();
+        let kind = self.marks.order(self.terminal.accepted());
         self.marks = self.marks.begins();
         Ok(kind)
-    }
-
-    /// An order for it, an emergency one where it was started anew.
-    fn order(&self) -> Kind
-        ensures value { result ≡ order_of self.now }
-        ensures whole { IsKind result }
-    {
-        if self.marks.anew {
-            Kind::EmergencyOrder
-        } else {
-            Kind::Order(self.terminal.accepted())
-        }
-    }
-
-    /// An acknowledgement for it, an emergency one where it was started anew.
-    fn acknowledgement(&self) -> Kind
-        ensures value { result ≡ acknowledgement_of self.now }
-        ensures whole { IsKind result }
-    {
-        if self.marks.anew {
-            Kind::EmergencyAcknowledgement
-        } else {
-            Kind::Acknowledgement(self.terminal.accepted())
-        }
-    }
-
-    /// What the other point's message tells.
-    fn told(&self, kind: Kind) -> Answer
-        ensures { result ≡ told_by kind self.now }
-    {
-        match kind {
-            Kind::Order(fsn) | Kind::Acknowledgement(fsn) => {
-                if self.marks.anew {
-                    Answer::Unknown
-                } else {
-                    Answer::Accepted(fsn)
-                }
-            }
-            Kind::EmergencyOrder | Kind::EmergencyAcknowledgement => Answer::Unknown,
-        }
-    }
-
-    /// What is answered.
-    fn reply(&self, kind: Kind) -> Option<Kind>
-        ensures value { result ≡ replies kind self.now }
-        ensures whole { IfSome result IsKind }
-    {
-        match kind {
-            Kind::Order(_) => Some(self.acknowledgement()),
-            Kind::EmergencyOrder => Some(Kind::EmergencyAcknowledgement),
-            Kind::Acknowledgement(_) | Kind::EmergencyAcknowledgement => None,
-        }
     }
 
     /// The other point says something of it. What is answered.
@@ -232,8 +176,8 @@ impl Link {
         ensures whole { IfSome result IsKind }
         ensures heard { self.new ≡ hears kind self.old }
     {
-        let answer = self.told(kind);
-        let reply = self.reply(kind);
+        let answer = self.marks.answer_in(kind);
+        let reply = self.marks.reply(kind, self.terminal.accepted());
         if reply.is_some() {
             self.marks = self.marks.begins();
         }

@@ -4,6 +4,7 @@
 
 mod laws;
 mod marks;
+mod saying;
 mod sharing;
 mod table;
 
