@@ -13,7 +13,7 @@ use Rattle.line_play.specs.Lines.{end_acts}
 use Rattle.line_play.specs.Opening.{IsNewOver}
 use Rattle.line_play.specs.declared.link_end.LinkEnd.{LinkEnd}
 use Rattle.line_command.specs.Spoken.{AreOrdered, Spoke, SpokeOver, Begun, BegunOver, IsUntouched}
-use Rattle.line_command.specs.declared.words.LineEnd.{LineEnd}
+use Rattle.command_words.specs.declared.ends.LineEnd.{LineEnd}
 
 pub spoke : {A O P : Type 0} (orders : Option A) (left : O → Option (List Timed)) (bits : Bits) (ahead count : ℕ) (old new : Desk LinkEnd O P)
     (read written told_before read_on written_on told : Option (List ℕ)) → IsSilent old.voice → AreOrdered orders (left old.orders) → old.count ≡ 0

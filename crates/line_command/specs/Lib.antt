@@ -1,4 +1,3 @@
-pub mod Words
 pub mod Spoken
 pub use Rattle.line_play.specs.Checked
 pub use Rattle.line_play.specs.Opening

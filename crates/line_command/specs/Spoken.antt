@@ -9,7 +9,7 @@ use Rattle.line_filter.specs.declared.filter.Bits.{Bits}
 use Rattle.line_play.specs.Lines.{end_acts}
 use Rattle.line_play.specs.Opening.{IsNewOver}
 use Rattle.line_play.specs.declared.link_end.LinkEnd.{LinkEnd}
-use Rattle.line_command.specs.declared.words.LineEnd.{LineEnd}
+use Rattle.command_words.specs.declared.ends.LineEnd.{LineEnd}
 
 -- where no word names orders, there are none
 abbrev pub AreOrdered : {A : Type 0} → Option A → Option (List Timed) → Type 0

@@ -8,7 +8,7 @@ ghost use Rattle.line_play.specs.Opening.{IsNoSet};
 ghost use Rattle.line_streams.specs.Known.{known_of};
 ghost use Rattle.line_command.specs.Spoken.{AreOrdered, Spoke, SpokeOver, Begun, BegunOver, IsUntouched};
 
-use crate::words::LineEnd;
+use command_words::LineEnd;
 use line_filter::Orders;
 use line_orders::LineOrders;
 use line_play::{Desk, LinkEnd, MOST_AHEAD, SetWord, Terminal, link_desk, new_terminal, run_link};

@@ -8,11 +8,11 @@ use Rattle.pool_soak.specs.Findings.{IsSoaked, IsSoakedInVain, IsTurnedDown}
 use Rattle.line_command.specs.Filters.{Line}
 use Rattle.line_command.specs.Opening.{IsNoSet}
 use Rattle.line_command.specs.Spoken.{SpokeOver, BegunOver}
-use Rattle.line_command.specs.declared.words.LineEnd.{LineEnd}
+use Rattle.command_words.specs.declared.ends.LineEnd.{LineEnd}
 use Rattle.mtp2_play.specs.Printed.{IsSpoken}
-use Rattle.mtp2_play.specs.Words.{own_set_of, own_text_of}
-use Rattle.mtp2_play.specs.declared.words.Named.{Named}
-use Rattle.mtp2_play.specs.declared.words.Named.TheVariants.{Standard, Monitors, Stdin, File}
+use Rattle.mtp2_play.specs.Sets.{own_set_of, own_text_of}
+use Rattle.command_words.specs.declared.words.Named.{Named}
+use Rattle.command_words.specs.declared.words.Named.TheVariants.{Standard, Monitors, Stdin, File}
 
 some_bytes : (known : Option (List ℕ)) (P : List ℕ → Type 0) → IsGiven known P → IsGiven None P
 some_bytes known P g = record { bytes = g.bytes; are_known = tt; holds = g.holds }

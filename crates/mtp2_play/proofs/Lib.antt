@@ -1,4 +1,1 @@
-mod Asking
-mod Building
-mod Examples
 mod Known

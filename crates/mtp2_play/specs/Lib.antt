@@ -1,5 +1,3 @@
-pub mod Words
+pub mod Sets
 pub mod Printed
-pub mod Asked
-pub mod Commands
 pub mod Served

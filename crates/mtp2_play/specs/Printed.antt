@@ -11,11 +11,11 @@ use Rattle.unit_frame.specs.Printed.{PrintsUnit, PrintsFault}
 use Rattle.line_command.specs.Filters.{Line as Octets}
 use Rattle.line_command.specs.Opening.{IsNoSet}
 use Rattle.line_command.specs.Spoken.{SpokeOver, BegunOver, IsUntouched}
-use Rattle.line_command.specs.declared.words.LineEnd.{LineEnd}
-use Rattle.mtp2_play.specs.Words.{own_text_of}
-use Rattle.mtp2_play.specs.declared.words.Named.{Named}
-use Rattle.mtp2_play.specs.declared.words.Request.{Request}
-use Rattle.mtp2_play.specs.declared.words.Request.TheVariants.{Check, Play, Soak, Line, Frame}
+use Rattle.command_words.specs.declared.ends.LineEnd.{LineEnd}
+use Rattle.mtp2_play.specs.Sets.{own_text_of}
+use Rattle.command_words.specs.declared.words.Named.{Named}
+use Rattle.command_words.specs.declared.words.Request.{Request}
+use Rattle.command_words.specs.declared.words.Request.TheVariants.{Check, Play, Soak, Line, Frame}
 
 -- the exit statuses: done, an expectation failed or something differs, refused, usage, failed
 abbrev pub IsStatus : ℕ → Type 0

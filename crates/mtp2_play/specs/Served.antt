@@ -1,18 +1,14 @@
 -- What comes of the words of a command line.
 use Rattle.std.specs.Prelude.{◌≡◌, ◌⊎◌, ◌≢◌, ℕ, List}
-use Rattle.clap.specs.Words.{IsAmong, Text, fault_of, subcommand_of}
+use Rattle.clap.specs.Words.{Text, subcommand_of}
 use Rattle.clap.specs.declared.error.kind.ErrorKind.{ErrorKind}
-use Rattle.clap.specs.declared.error.kind.ErrorKind.TheVariants.{OutOfMemory, InvalidSubcommand}
+use Rattle.clap.specs.declared.error.kind.ErrorKind.TheVariants.{OutOfMemory}
 use Rattle.line_command.specs.Filters.{Line as Octets}
-use Rattle.mtp2_play.specs.Asked.{IsAskedBy, SaysNothing}
-use Rattle.mtp2_play.specs.Commands.{all_commands}
+use Rattle.command_words.specs.Asked.{IsAskedBy}
+use Rattle.command_words.specs.Commands.{all_commands}
+use Rattle.command_words.specs.TurnedDown.{IsTurnedDown}
+use Rattle.command_words.specs.declared.words.Request.{Request}
 use Rattle.mtp2_play.specs.Printed.{IsAnswered, IsFault}
-use Rattle.mtp2_play.specs.declared.words.Request.{Request}
-
--- Why they ask for nothing that is run: memory is wanting, they have such a fault (a call for help is one), or they have none and ask for nothing.
-abbrev pub IsTurnedDown : List Text → ErrorKind → Type 0
-IsTurnedDown words kind = (kind ≡ OutOfMemory) ⊎ (IsAmong kind (fault_of all_commands words)
-    ⊎ ((kind ≡ InvalidSubcommand) × SaysNothing (subcommand_of all_commands words)))
 
 -- the exit status where that is told: 0 for help and the version alone, 3 for a fault of the words alone, 4 where it couldn't be told
 pub record IsTold (kind : ErrorKind) (status : ℕ) : Type 0 where

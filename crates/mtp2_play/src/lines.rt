@@ -1,11 +1,12 @@
 //! The command `line`.
 ghost use Rattle.std.specs.Prelude.{◌≡◌, ◌⊎◌, None};
 ghost use Rattle.text_check.specs.Checked.{given};
-ghost use Rattle.mtp2_play.specs.Words.{own_text_of};
+ghost use Rattle.mtp2_play.specs.Sets.{own_text_of};
 ghost use Rattle.mtp2_play.specs.Printed.{IsSpoken};
 
-use crate::words::{Named, own_set};
-use line_command::{LineEnd, SetWord, run_line as run_on};
+use crate::sets::own_set;
+use command_words::{LineEnd, Named};
+use line_command::{SetWord, run_line as run_on};
 use std::fs::{self, File};
 use std::io::{Read, Write};
 use std::rt::Files;

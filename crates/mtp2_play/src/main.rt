@@ -10,13 +10,12 @@ ghost use Rattle.script_play.specs.Played.{IsOnSet, IsPlayed, IsPlayedInPart, Is
 ghost use Rattle.mtp2_play.specs.Printed.{IsAnswered, IsChecked, IsFault, IsPlayedOn, IsServed, IsStatus};
 ghost use Rattle.mtp2_play.specs.Served.{ComesTo};
 
-mod commands;
 mod lines;
-mod words;
+mod sets;
 
 use crate::lines::run_line;
-use clap::Error;
-use clap::error::ErrorKind;
+use crate::sets::own_set;
+use command_words::{Error, ErrorKind, Named, Request, Source, read};
 use pool_soak::soak;
 use script_play::play;
 use std::alloc::Global;
@@ -30,7 +29,6 @@ use std::time::Clock;
 use std::{env, fs};
 use text_check::{FAILED, HELD, SetWord, USAGE, check};
 use unit_frame::frame;
-pub use words::{Named, Request, Source};
 
 /// Runs one command, and gives the exit status. What it prints goes to the writer; the octets of a line come from the reader.
 fn run<
@@ -58,7 +56,7 @@ fn check_own<W: Write>(alloc: Global, set: &Named<'_>, writer: &mut W) -> u8
     ensures printed { IsChecked set.now result (W.contents writer.old) (W.contents writer.new) }
     ensures status { (result ≡ 0) ⊎ (result ≡ 2) ⊎ (result ≡ 4) }
 {
-    match words::own_set(set) {
+    match own_set(set) {
         Some(own) => check(alloc, own, writer),
         None => FAILED,
     }
@@ -136,7 +134,7 @@ fn play_own<R: Runtime + AllocGlobal, W: Write>(
     ensures printed { IsPlayedOn set.entry result (W.contents writer.old) (W.contents writer.new) }
     ensures status { (result ≡ 0) ⊎ (result ≡ 1) ⊎ (result ≡ 2) ⊎ (result ≡ 4) }
 {
-    match words::own_set(&set) {
+    match own_set(&set) {
         Some(own) => play_source(rt, own, script, writer),
         None => FAILED,
     }
@@ -233,7 +231,7 @@ fn serve<
     ensures served { ComesTo (map string_bytes given.now) result }
     ensures status { IsStatus result }
 {
-    match words::read(rt.alloc(), given) {
+    match read(rt.alloc(), given) {
         Ok(request) => run(rt, host, &request, &mut rt.reader(), &mut io::writer(rt)),
         Err(error) => answer(rt, &error),
     }

@@ -1,0 +1,11 @@
+//! What the words of the program's command line ask for.
+#![tactic(auto)]
+
+mod commands;
+mod ends;
+mod words;
+
+pub use clap::Error;
+pub use clap::error::ErrorKind;
+pub use ends::{LineEnd, LineWords, line_end};
+pub use words::{Named, Request, Source, read};

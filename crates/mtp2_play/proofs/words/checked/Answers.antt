@@ -1,6 +1,0 @@
-use Rattle.mtp2_play.specs.Asked.{given_by}
-use Rattle.mtp2_play.proofs.Asking.{named}
-use Rattle.mtp2_play.proofs.words.checked.Goals as goal
-
-pub returns-clause-asked : goal.returns-clause-asked
-returns-clause-asked c = named (given_by c.args.given.now) _ _ c.in_ok-get_str.ensures c.set_named-set.ensures

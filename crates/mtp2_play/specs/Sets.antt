@@ -1,0 +1,22 @@
+-- The sets of the program's own, by the words that name them.
+use Rattle.std.specs.Prelude.{ℕ, List, Option, Some, None}
+use Rattle.text_check.specs.mtp2_text_types.standard_text.TheConstants.{STANDARD}
+use Rattle.text_check.specs.mtp2_text_types.monitors_text.TheConstants.{MONITORS}
+use Rattle.text_check.specs.declared.sets.SetWord.{SetWord}
+use Rattle.text_check.specs.declared.sets.SetWord.TheVariants.{Standard as standard_set, Monitors as monitors_set}
+use Rattle.command_words.specs.declared.words.Named.{Named}
+use Rattle.command_words.specs.declared.words.Named.TheVariants.{Standard, Monitors, Stdin, File}
+
+-- the set of the program's own that is named, if it is one
+abbrev pub own_set_of : {R : Type 0} → Named → Option (SetWord R)
+own_set_of Standard = Some standard_set
+own_set_of Monitors = Some monitors_set
+own_set_of Stdin = None
+own_set_of (File path) = None
+
+-- the text of the set of the program's own that is named, if it is one
+abbrev pub own_text_of : Named → Option (List ℕ)
+own_text_of Standard = Some STANDARD.now
+own_text_of Monitors = Some MONITORS.now
+own_text_of Stdin = None
+own_text_of (File path) = None
