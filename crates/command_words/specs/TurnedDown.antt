@@ -6,7 +6,7 @@ use Rattle.clap.specs.declared.error.kind.ErrorKind.TheVariants.{OutOfMemory, In
 use Rattle.command_words.specs.Asked.{SaysNothing}
 use Rattle.command_words.specs.Commands.{all_commands}
 
--- Memory is wanting, they have such a fault (a call for help is one), or they have none and ask for nothing.
+-- Memory is wanting; they have a fault of this kind, as a call for help is one; or one of them says nothing.
 abbrev pub IsTurnedDown : List Text → ErrorKind → Type 0
 IsTurnedDown words kind = (kind ≡ OutOfMemory) ⊎ (IsAmong kind (fault_of all_commands words)
     ⊎ ((kind ≡ InvalidSubcommand) × SaysNothing (subcommand_of all_commands words)))
