@@ -40,14 +40,15 @@ fn give_all(text: &mut String, group: &mut Group, from: u32, to: u32) -> Result<
     Ok(())
 }
 
-/// Writes what a link holds, and whether it is in changeover.
+/// Writes what a link holds, whether it is in changeover, and whether messages of it are in hand.
 fn write_link(text: &mut String, group: &Group, link: usize) -> Result<(), AllocError> {
     let held = group.held(link).unwrap_or(0);
     let sent = group.sent(link).unwrap_or(0);
     let changing = group.in_changeover(link);
+    let in_hand = group.in_hand(link);
     writeln!(
         text,
-        "link {link}: {held} held, {sent} sent, in changeover {changing}"
+        "link {link}: {held} held, {sent} sent, in changeover {changing}, in hand {in_hand}"
     )
 }
 
