@@ -33,6 +33,10 @@ def millisecond(word):
     return int(word) if DIGITS.fullmatch(word) and int(word) < 2**64 else None
 
 
+# What a report that is no order has behind its millisecond.
+REPORTED = ("in", "down", "far", "message", "state", "value", "refused", "lost")
+
+
 def orders_of(stream):
     """The orders of a stream's whole lines, each with the millisecond before which it waits."""
     since = 0
@@ -49,6 +53,8 @@ def orders_of(stream):
             if words[1:2] == ["ok"] and words[2:]:
                 since = max(since, millisecond(words[0]))
                 yield since, " ".join(words[2:])
+            elif words[1:2] == [] or words[1] not in REPORTED:
+                yield since, " ".join(words)
         elif words[0] == "at" and len(words) == 2 and millisecond(words[1]) is not None:
             since = max(since, millisecond(words[1]))
         else:

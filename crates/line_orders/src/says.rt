@@ -3,7 +3,7 @@ ghost use Rattle.std.specs.Prelude.{◌≡◌, IfOk, codes, string_bytes};
 ghost use Rattle.std.specs.Str.{bytes_eq};
 ghost use Rattle.script_lines.specs.Lines.{texts, is_silent};
 ghost use Rattle.script_lines.specs.Words.{words_of};
-ghost use Rattle.line_orders.specs.Says.{order, plain_says, joined, by_report, by_at, by_first, says_of};
+ghost use Rattle.line_orders.specs.Says.{order, plain_says, joined, is_report, by_other, by_report, by_at, by_first, says_of};
 
 use crate::times::millisecond;
 use script_lines::words_in;
@@ -12,7 +12,7 @@ use std::alloc::{AllocError, Global};
 /// What a line of a stream of orders says.
 #[derive(Debug, Drop, PartialEq, Eq)]
 pub enum LineSays {
-    /// Nothing: it is blank, a comment, or a report of what isn't an order.
+    /// Nothing: it is blank, a comment, or a report of something else than an order that was obeyed.
     Nothing,
     /// `at MS`: what follows waits until this millisecond.
     At(u64),
@@ -45,27 +45,56 @@ fn is_silent(words: &[&str]) -> bool
     }
 }
 
-/// What a report says, by the words behind its millisecond.
-fn report_says(alloc: Global, millisecond: u64, words: &[&str]) -> Result<LineSays, AllocError>
-    ensures { IfOk result (λ s. plain_says s ≡ by_report millisecond (texts words.now)) }
-{
-    match words {
-        [ok, first, more @ ..] => {
-            if *ok == "ok" {
-                Ok(LineSays::OrderAt(millisecond, joined(alloc, first, more)?))
-            } else {
-                Ok(LineSays::Nothing)
-            }
-        }
-        _ => Ok(LineSays::Nothing),
-    }
-}
-
 /// The order of these words.
 fn order_says(alloc: Global, first: &str, words: &[&str]) -> Result<LineSays, AllocError>
     ensures { IfOk result (λ s. plain_says s ≡ order (joined first.now (texts words.now))) }
 {
     Ok(LineSays::Order(joined(alloc, first, words)?))
+}
+
+/// Whether a report has this word behind its millisecond, and isn't that of an order that was obeyed.
+fn is_report(word: &str) -> bool
+    ensures { result ≡ is_report word.now }
+{
+    word == "in"
+        || word == "down"
+        || word == "far"
+        || word == "message"
+        || word == "state"
+        || word == "value"
+        || word == "refused"
+        || word == "lost"
+}
+
+/// What a line says behind its first word, a millisecond, where that isn't the report of an order that was obeyed.
+fn other_says(alloc: Global, first: &str, words: &[&str]) -> Result<LineSays, AllocError>
+    ensures { IfOk result (λ s. plain_says s ≡ by_other first.now (texts words.now)) }
+{
+    match words.first() {
+        Some(word) if is_report(word) => Ok(LineSays::Nothing),
+        _ => order_says(alloc, first, words),
+    }
+}
+
+/// What a line says behind its first word, a millisecond.
+fn report_says(
+    alloc: Global,
+    first: &str,
+    millisecond: u64,
+    words: &[&str],
+) -> Result<LineSays, AllocError>
+    ensures { IfOk result (λ s. plain_says s ≡ by_report millisecond first.now (texts words.now)) }
+{
+    match words {
+        [word, next, more @ ..] => {
+            if *word == "ok" {
+                Ok(LineSays::OrderAt(millisecond, joined(alloc, next, more)?))
+            } else {
+                other_says(alloc, first, words)
+            }
+        }
+        _ => other_says(alloc, first, words),
+    }
 }
 
 /// `at MS`, or an order.
@@ -96,7 +125,7 @@ fn words_say(alloc: Global, words: &[&str]) -> Result<LineSays, AllocError>
     }
     match words {
         [first, more @ ..] => match millisecond(first) {
-            Some(millisecond) => report_says(alloc, millisecond, more),
+            Some(millisecond) => report_says(alloc, first, millisecond, more),
             None => plain_line_says(alloc, first, more),
         },
         [] => Ok(LineSays::Nothing),
