@@ -56,9 +56,9 @@ unfolding retrieve_fault_at
 room_to_retrieve c kept l can e = elim (or_cases (nat_lt kept MOST_HANDS) _ can) [
   | inl few ↦ ltb-true kept MOST_HANDS few
   | inr none ↦ elim (or_cases (nat_le (length c.links) l) _ none) [
-      | inl past ↦ absurd (retrieves_nowhere (slice_get c.links l) (slice_get_past c.links l (leb-true (length c.links) l past)) e)
-      | inr out ↦ absurd (retrieves_none (slice_get c.links l) out e)
-    ]
+    | inl past ↦ absurd (retrieves_nowhere (slice_get c.links l) (slice_get_past c.links l (leb-true (length c.links) l past)) e)
+    | inr out ↦ absurd (retrieves_none (slice_get c.links l) out e)
+  ]
 ]
 
 pub room_to_abandon : (c : LinkSet) (kept l : ℕ) → can_keep c kept l ≡ true → abandon_fault_at c l ≡ None → kept < MOST_HANDS
@@ -66,7 +66,7 @@ unfolding abandon_fault_at
 room_to_abandon c kept l can e = elim (or_cases (nat_lt kept MOST_HANDS) _ can) [
   | inl few ↦ ltb-true kept MOST_HANDS few
   | inr none ↦ elim (or_cases (nat_le (length c.links) l) _ none) [
-      | inl past ↦ absurd (abandons_nowhere (slice_get c.links l) (slice_get_past c.links l (leb-true (length c.links) l past)) e)
-      | inr out ↦ absurd (abandons_none (slice_get c.links l) out e)
-    ]
+    | inl past ↦ absurd (abandons_nowhere (slice_get c.links l) (slice_get_past c.links l (leb-true (length c.links) l past)) e)
+    | inr out ↦ absurd (abandons_none (slice_get c.links l) out e)
+  ]
 ]

@@ -30,11 +30,17 @@ returns-in-Some-clause-asked c =
 pub returns-clause-refused : goal.returns-clause-refused
 returns-clause-refused c =
     let words : List Text = map string_bytes c.args.given.now in
-    inr (inr (c.in_ok-error.ensures.kind, says_nothing c.in_ok-commands.commands words c.in_ok-matches.matches c.in_ok-commands.ensures
-    c.in_ok-matches.ensures.ok.2 (c.in-None.ensures.none refl)))
+    inr (inr (
+      c.in_ok-error.ensures.kind,
+      says_nothing c.in_ok-commands.commands words c.in_ok-matches.matches c.in_ok-commands.ensures
+          c.in_ok-matches.ensures.ok.2 (c.in-None.ensures.none refl),
+    ))
 
 pub returns-clause-in_vain : goal.returns-clause-in_vain
 returns-clause-in_vain c =
     let words : List Text = map string_bytes c.args.given.now in
-    λ t. inr (c.in_ok-error.ensures.kind, says_nothing c.in_ok-commands.commands words c.in_ok-matches.matches c.in_ok-commands.ensures
-    c.in_ok-matches.ensures.ok.2 (c.in-None.ensures.none refl))
+    λ t. inr (
+      c.in_ok-error.ensures.kind,
+      says_nothing c.in_ok-commands.commands words c.in_ok-matches.matches c.in_ok-commands.ensures
+          c.in_ok-matches.ensures.ok.2 (c.in-None.ensures.none refl),
+    )
