@@ -1,10 +1,9 @@
 -- How commands are built.
-use Rattle.std.proofs.Common.{◌≡◌, ◌∙◌, ◌||◌, Bool, true, false, List, [], Option, Result, Ok, Err, refl, sym, ap, ap₂, subst, inl, inr}
-use Rattle.clap.specs.Words.{App, FailsBy, HasKind, HasMatchesOf, Row, Rule, Text, app_of, fault_of, is_simple, is_simple_and_free, kind_of, rule_of, subcommand_of, subcommand_rows_of, takes, with_rule, with_subcommand, AddsArg, AddsSubcommand}
+use Rattle.std.proofs.Common.{◌≡◌, ◌∙◌, ◌||◌, Bool, true, false, List, [], Option, refl, sym, ap, ap₂, subst, inl, inr, ◌⊎◌}
+use Rattle.clap.specs.Words.{App, HasMatchesOf, IsAmong, Row, Rule, Text, app_of, fault_of, is_simple, is_simple_and_free, rule_of, subcommand_of, subcommand_rows_of, takes, with_rule, with_subcommand, AddsArg, AddsSubcommand}
 use Rattle.clap.specs.declared.builder.command.Command.{Command}
 use Rattle.clap.specs.declared.builder.arg.Arg.{Arg}
 use Rattle.clap.specs.declared.parser.matches.ArgMatches.{ArgMatches}
-use Rattle.clap.specs.declared.error.Error.{Error}
 use Rattle.clap.specs.declared.error.kind.ErrorKind.{ErrorKind}
 use Rattle.clap.specs.declared.error.kind.ErrorKind.TheVariants.{OutOfMemory}
 use Rattle.command_words.specs.Asked.{IsAskedBy, SaysNothing}
@@ -60,22 +59,19 @@ refuses commands words kind c h t = h (ap (λ a. takes a words) c.app_is ∙ t)
 are_free : is_simple_and_free all_commands ≡ true
 are_free = refl
 
-abbrev Fails : (commands : Command) (words : List Text) → Result ArgMatches Error → Type 0
-Fails commands words r = is_simple_and_free (app_of commands) ≡ true → FailsBy (fault_of (app_of commands) words) r
-
 -- words that are taken have none
-pub has_no_fault : (commands : Command) (words : List Text) (matches : ArgMatches) → IsCommand all_commands commands → Fails commands words (Ok matches)
-    → fault_of all_commands words ≡ []
-has_no_fault commands words matches c h =
+pub has_no_fault : (commands : Command) (words : List Text) → IsCommand all_commands commands
+    → (is_simple_and_free (app_of commands) ≡ true → fault_of (app_of commands) words ≡ []) → fault_of all_commands words ≡ []
+has_no_fault commands words c h =
     ap (λ a. fault_of a words) (sym c.app_is) ∙ h (ap is_simple_and_free c.app_is ∙ are_free)
 
-turned_down_by : (words : List Text) (error : Error) → HasKind (fault_of all_commands words) error → IsTurnedDown words (kind_of error)
-turned_down_by words error (inl wanting) = inl wanting
-turned_down_by words error (inr among) = inr (inl among)
+turned_down_by : (words : List Text) (kind : ErrorKind) → (kind ≡ OutOfMemory) ⊎ IsAmong kind (fault_of all_commands words) → IsTurnedDown words kind
+turned_down_by words kind (inl wanting) = inl wanting
+turned_down_by words kind (inr among) = inr (inl among)
 
 -- and others have the one that is told
-pub has_fault : (commands : Command) (words : List Text) (error : Error) → IsCommand all_commands commands → Fails commands words (Err error)
-    → IsTurnedDown words (kind_of error)
-has_fault commands words error c h =
-    let P : App → Type 0 = λ a. HasKind (fault_of a words) error in
-    turned_down_by words error (subst P c.app_is (h (ap is_simple_and_free c.app_is ∙ are_free)))
+pub has_fault : (commands : Command) (words : List Text) (kind : ErrorKind) → IsCommand all_commands commands
+    → (is_simple_and_free (app_of commands) ≡ true → (kind ≡ OutOfMemory) ⊎ IsAmong kind (fault_of (app_of commands) words)) → IsTurnedDown words kind
+has_fault commands words kind c h =
+    let P : App → Type 0 = λ a. (kind ≡ OutOfMemory) ⊎ IsAmong kind (fault_of a words) in
+    turned_down_by words kind (subst P c.app_is (h (ap is_simple_and_free c.app_is ∙ are_free)))

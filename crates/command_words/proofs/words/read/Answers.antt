@@ -19,7 +19,7 @@ returns-in_err-matches-clause-in_vain c =
 pub returns-in-Some-clause-taken : goal.returns-in-Some-clause-taken
 returns-in-Some-clause-taken c =
     let words : List Text = map string_bytes c.args.given.now in
-    has_no_fault c.in_ok-commands.commands words c.in_ok-matches.matches c.in_ok-commands.ensures c.in_ok-matches.ensures.kinds
+    has_no_fault c.in_ok-commands.commands words c.in_ok-commands.ensures c.in_ok-matches.ensures.kinds
 
 pub returns-in-Some-clause-asked : goal.returns-in-Some-clause-asked
 returns-in-Some-clause-asked c =
@@ -31,7 +31,7 @@ pub returns-clause-refused : goal.returns-clause-refused
 returns-clause-refused c =
     let words : List Text = map string_bytes c.args.given.now in
     inr (inr (
-      c.in_ok-error.ensures.kind,
+      c.in_ok-error-in-None.ensures.kind,
       says_nothing c.in_ok-commands.commands words c.in_ok-matches.matches c.in_ok-commands.ensures
           c.in_ok-matches.ensures.ok.2 (c.in-None.ensures.none refl),
     ))
@@ -40,7 +40,7 @@ pub returns-clause-in_vain : goal.returns-clause-in_vain
 returns-clause-in_vain c =
     let words : List Text = map string_bytes c.args.given.now in
     λ t. inr (
-      c.in_ok-error.ensures.kind,
+      c.in_ok-error-in-None.ensures.kind,
       says_nothing c.in_ok-commands.commands words c.in_ok-matches.matches c.in_ok-commands.ensures
           c.in_ok-matches.ensures.ok.2 (c.in-None.ensures.none refl),
     )
