@@ -1,5 +1,5 @@
 -- There is room for a hand that a link gives.
-use Rattle.std.proofs.Common.{◌≡◌, ℕ, ◌<◌, ◌≤◌, ◌||◌, ◌&&◌, Bool, true, false, not, List, length, Option, Some, None, refl, sym, ap, subst, ◌∙◌}
+use Rattle.std.proofs.Common.{◌≡◌, ℕ, ◌<◌, Bool, true, false, length, Option, Some, None, refl, sym, ap, ◌∙◌, inl, inr}
 use Rattle.std.specs.Prelude.{nat_lt, nat_le, if◌then◌else◌, is_some, slice_get}
 use Rattle.std.proofs.lemmas.Bool.{or_cases, ltb-true, leb-true}
 use Rattle.std.proofs.lemmas.Option.{none-some, slice_get_past}

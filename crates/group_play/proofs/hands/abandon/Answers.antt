@@ -1,4 +1,4 @@
-use Rattle.std.proofs.Common.{sym}
+use Rattle.std.proofs.Common.{sym, ◌∙◌}
 use Rattle.std.proofs.lemmas.Result.{IfOk-weaker}
 use Rattle.group_play.specs.GroupAnswers.{hands_of, Abandons}
 use Rattle.group_play.proofs.HandAnswers.{abandoned, unabandoned}
@@ -6,7 +6,7 @@ use Rattle.group_play.proofs.Keeping.{room_to_abandon}
 use Rattle.group_play.proofs.hands.abandon.Goals as goal
 
 pub keep-requires : goal.keep-requires
-keep-requires c = room_to_abandon c.args.group.now _ c.args.link (sym c.can_keep.ensures) (sym c.in-Ok.ensures.fault)
+keep-requires c = room_to_abandon c.args.group.now _ c.args.link (sym c.can_keep.ensures ∙ c.if-not-can_keep.false) (sym c.in-Ok.ensures.fault)
 
 pub returns-in-Ok : goal.returns-in-Ok
 returns-in-Ok c =
