@@ -1,5 +1,5 @@
 -- What holds of bytes of which something may be known holds of some bytes.
-use Rattle.std.proofs.Common.{◌≡◌, ℕ, ◌⊎◌, inl, inr, List, Option, None, Some, rules}
+use Rattle.std.proofs.Common.{◌≡◌, ℕ, inl, inr, List, Option, None, Some, rules}
 use Rattle.text_check.specs.Checked.{given, IsGiven, PrintsCosts, PrintsRefusal}
 use Rattle.text_check.specs.declared.sets.SetWord.{SetWord}
 use Rattle.text_check.specs.declared.sets.SetWord.TheVariants.{Standard as standard_set, Monitors as monitors_set, Text}
