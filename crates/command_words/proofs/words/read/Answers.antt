@@ -31,6 +31,7 @@ pub returns-clause-refused : goal.returns-clause-refused
 returns-clause-refused c =
     let words : List Text = map string_bytes c.args.given.now in
     inr (inr (
+      has_no_fault c.in_ok-commands.commands words c.in_ok-commands.ensures c.in_ok-matches.ensures.kinds,
       c.in_ok-error-in-None.ensures.kind,
       says_nothing c.in_ok-commands.commands words c.in_ok-matches.matches c.in_ok-commands.ensures
           c.in_ok-matches.ensures.ok.2 (c.in-None.ensures.none refl),
