@@ -53,7 +53,10 @@ const ROWS: [(&[u8], &str); 6] = [
         b"at 3\nstart\n5 in service\n7 ok msu 85\nat 2\nquit\n",
         "3 start\n7 msu 85\n7 quit\n",
     ),
-    (b"at\nat x\n4 ok\n4 refused X1 BadLine\n", "1 at\n1 at x\n"),
+    (
+        b"at\nat x\n4 ok\n4 refused X1 BadLine\n",
+        "1 at\n1 at x\n1 4 ok\n",
+    ),
     (b"\xff\nback\n", "1 \n1 back\n"),
     (
         b"99999999999999999999 ok stop\nfree\n",
