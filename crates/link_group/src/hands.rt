@@ -88,7 +88,8 @@ pub struct Ended {
 }
 
 impl Ended {
-    /// Takes messages that are still in hand, and drops them.
+    /// Takes messages that are still in hand, and drops them. Give it hands of the set that has ended: it takes those of another too, whose
+    /// link then waits for them for good.
     pub fn take(&mut self, hand: Retrieved) {
         let Retrieved {
             link: _,

@@ -52,7 +52,7 @@ impl Group {
         }
     }
 
-    /// Whether messages of a link are in hand: handed out, and not all diverted yet.
+    /// Whether a link's hand is out: its messages are handed out, and not all diverted yet. One without messages counts too.
     pub fn in_hand(&self, link: usize) -> bool
         ensures { result ≡ is_some (hand_of (slice_get self.now.links link)) }
     {

@@ -41,7 +41,7 @@ impl Marks {
         self.changing.is_some()
     }
 
-    /// An order for a link that accepted the message of this number last, an emergency one where it was started anew.
+    /// The order to send for this link, which accepted the message of this number last; an emergency one where it was started anew.
     pub fn order(self, accepted: u8) -> Kind
         requires { accepted < 128 }
         ensures value { result ≡ order_after self accepted }
@@ -54,7 +54,7 @@ impl Marks {
         }
     }
 
-    /// An acknowledgement for such a link, an emergency one where it was started anew.
+    /// The acknowledgement to send for it, an emergency one where it was started anew.
     fn acknowledgement(self, accepted: u8) -> Kind
         requires { accepted < 128 }
         ensures value { result ≡ acknowledgement_after self accepted }
@@ -67,7 +67,8 @@ impl Marks {
         }
     }
 
-    /// What a message of the other point tells of such a link.
+    /// What the other point's message tells of this link: the number that it accepted last, but nothing where the link was started anew
+    /// or the message is an emergency one.
     pub fn answer_in(self, kind: Kind) -> Answer
         ensures { result ≡ answer_in kind self }
     {
@@ -83,7 +84,7 @@ impl Marks {
         }
     }
 
-    /// What is answered to it, if anything.
+    /// What is answered to the other point's message, where it is an order; acknowledgements get no answer.
     pub fn reply(self, kind: Kind, accepted: u8) -> Option<Kind>
         requires { accepted < 128 }
         ensures value { result ≡ reply_after kind self accepted }

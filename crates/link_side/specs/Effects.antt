@@ -63,7 +63,7 @@ latest statuses = drop (length statuses - KEPT_STATUSES) statuses
 unfoldable pub told : LinkStatus → Half → Half
 told s h = record h { statuses = latest (h.statuses ++ s ∷ []) }
 
--- While acknowledgement is withheld, number and bit stay as they are when that is asked for, whatever comes (Q.703, 9).
+-- While acknowledgement is withheld, number and bit stay as they are when that is asked for last, whatever unit comes (Q.703, 9).
 abbrev pub withheld_by : Bool → Half → Half
 withheld_by true h = record h { withheld = Some (backward_of h.receiver) }
 withheld_by false h = record h { withheld = None }

@@ -15,7 +15,7 @@ pub fn accepted_messages_are_handed_out_in_order()
 {}
 
 /// From when acknowledgement is withheld until that ends, each unit that goes out has the backward number and bit of when it began,
-/// whatever comes: a message that is accepted then isn't acknowledged, and one that is lost isn't asked for.
+/// whatever unit comes: a message that is accepted then isn't acknowledged, and one that is lost isn't asked for.
 pub fn withheld_acknowledgement_stays()
     ensures { Withholds }
 {}

@@ -22,7 +22,7 @@ pub enum EnvSignal {
     /// fill-in units; 9 what the sender gives. Other numbers change nothing.
     Line(i32),
     /// Whether acknowledgement is withheld from now on: the backward sequence number and the backward indicator bit stay as they are,
-    /// whatever comes (Q.703, 9). What fell due meanwhile shows as it ends.
+    /// whatever unit comes (Q.703, 9). What fell due meanwhile shows as it ends.
     Withhold(bool),
     /// The link is in service.
     InServiceNow,

@@ -366,7 +366,7 @@ impl<'a> ProcessTable<'a> {
     }
 
     /// The names that each of its states saves, by number; those of a state in the order of the text. They are made
-    /// here, as many as there are inputs at most.
+    /// here: a name for each state and each signal that it saves, so many more than the text is long.
     pub fn saves(&self, alloc: Global) -> Result<Vec<Vec<Identifier>>, AllocError>
         ensures { IfOk result (λ v. map row_names v.items ≡ saves_by_state (process_of self.now)) }
     {

@@ -64,8 +64,8 @@ pub fn message(octets: &[u8]) -> Option<Msu>
     }
 }
 
-/// `msu HEX`. Octets that are no message would be told as want of memory, but none comes here: a script with such a line is refused as
-/// it is read.
+/// `msu HEX`. Octets that are no message would be told as want of memory, but none comes here: a line with such octets is no command,
+/// in a script (which is refused as it is read) and among the orders of a line.
 fn put(alloc: Global, terminal: &mut Terminal, octets: &[u8]) -> Result<Vec<u8>, AllocError>
     ensures { IfOk result (λ v. IsPut octets.now terminal.old v.items terminal.new) }
 {

@@ -5,7 +5,7 @@ macro_rules! link_state_control {
     ([$($before:literal)*] $next:ident $($rest:ident)*) => {
         $next!([$($before)*
 "/* Link state control. em: the emergency is on; lpo, rpo: this side's and the other side's processor is out; r: why the link goes down
-   (0 it was stopped, 1 alignment failed, 2 an error monitor or a store gave up, 3 the other side went out, 4 T1 ran out). */
+   (0 it was stopped, 1 alignment failed, 2 a monitor, store, T6, or T7 gave up, 3 the other side went out, 4 T1 ran out). */
 PROCESS LSC (1, 1);
 DCL em, lpo, rpo Boolean := FALSE, k, r Integer := 0;
 TIMER T1;
