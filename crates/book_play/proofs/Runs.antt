@@ -9,7 +9,7 @@ use Rattle.script_lines.specs.Commands.{expect, plain_command}
 use Rattle.script_lines.specs.Scripts.{PlainSaid, plain_said}
 use Rattle.script_lines.specs.declared.commands.Command.{Command}
 use Rattle.script_lines.specs.declared.commands.Command.TheVariants as code
-use Rattle.text_check.specs.Printed.{line_of}
+use Rattle.printed_lines.specs.Lines.{line_of}
 use Rattle.link_machine.specs.Ledger.{Ledger}
 use Rattle.book_play.specs.Answers.{Answered, obeyed}
 use Rattle.book_play.specs.Played.{Goes, prints, holds, IsRun, IsMissedBy, IsMissed}

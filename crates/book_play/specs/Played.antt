@@ -9,7 +9,7 @@ use Rattle.link_machine.specs.Kept.{opened_book}
 use Rattle.script_lines.specs.Commands.{expect}
 use Rattle.script_lines.specs.Scripts.{PlainSaid}
 use Rattle.script_lines.specs.declared.settings.Settings.{Settings}
-use Rattle.text_check.specs.Printed.{line_of}
+use Rattle.printed_lines.specs.Lines.{line_of}
 use Rattle.book_play.specs.Answers.{obeyed}
 use Rattle.book_play.specs.declared.player.Player.{Player}
 use Rattle.book_play.specs.declared.printer.Printer.{Printer}

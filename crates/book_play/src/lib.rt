@@ -13,6 +13,6 @@ pub use answers::{text_line, value_line};
 pub use calls::state_line;
 pub use player::MISSED;
 pub use playing::play_book;
+pub use printed_lines::{FAILED, HELD, refuse, write_line};
 pub use printer::Printer;
 pub use script_replies::refused_line;
-pub use text_check::{FAILED, HELD, SetWord, load_set, refuse, write_line, write_refusal};

@@ -7,10 +7,10 @@ ghost use Rattle.book_play.specs.Played.{last_of, IsRun, IsMissed, IsMissedBy};
 use crate::answers::answer;
 use crate::printer::Printer;
 use book_rest::Book;
+use printed_lines::{HELD, write_line};
 use script_lines::{Command, Said};
 use std::alloc::Global;
 use std::io::{self, Write};
-use text_check::{HELD, write_line};
 
 /// The exit status where an expectation failed.
 pub const MISSED: u8 = 1;

@@ -7,10 +7,10 @@ ghost use Rattle.book_play.specs.Played.{first_book, last_of, IsRun, IsWritten, 
 use crate::player::Player;
 use crate::printer::Printer;
 use book_rest::{Book, Limits};
+use printed_lines::FAILED;
 use script_lines::{Said, Script, Settings};
 use std::alloc::Global;
 use std::io::Write;
-use text_check::FAILED;
 use turn_check::Verified;
 
 /// How much a link may hold, as a script sets it.

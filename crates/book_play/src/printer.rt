@@ -1,7 +1,7 @@
 //! The lines that a script prints, and the one that was printed last.
 ghost use Rattle.std.specs.Prelude.{◌≡◌, ◌↔◌, ℕ, List, Some, OnOk, true};
 ghost use Rattle.std.specs.Io.KnownBytes.{Appends};
-ghost use Rattle.text_check.specs.Printed.{line_of};
+ghost use Rattle.printed_lines.specs.Lines.{line_of};
 ghost use Rattle.book_play.specs.Played.{last_in};
 
 use std::io::{self, Write};

@@ -16,7 +16,7 @@ use Rattle.group_lines.specs.GroupScripts.{PlainGroupSaid, plain_group_said}
 use Rattle.group_lines.specs.declared.script.GroupSaid.{GroupSaid}
 use Rattle.group_lines.specs.declared.commands.GroupCommand.{GroupCommand}
 use Rattle.group_lines.specs.declared.commands.GroupCommand.TheVariants as code
-use Rattle.term_play.specs.Printed.{line_of}
+use Rattle.term_play.specs.Lines.{line_of}
 use Rattle.term_play.specs.TermAnswers.{unit_line}
 use Rattle.term_play.specs.TermRuns.{HasPrinted}
 use Rattle.term_play.proofs.TermRuns.{printed_none, printed_one, printed_both}

@@ -13,7 +13,7 @@ use Rattle.link_group.specs.New.{new_set}
 use Rattle.group_lines.specs.declared.heads.GroupHead.{GroupHead}
 use Rattle.group_lines.specs.GroupCommands.{expected}
 use Rattle.group_lines.specs.GroupScripts.{PlainGroupSaid}
-use Rattle.term_play.specs.Printed.{line_of}
+use Rattle.term_play.specs.Lines.{line_of}
 use Rattle.term_play.specs.Played.{last_in, Misses}
 use Rattle.term_play.specs.TermRuns.{latest, HasPrinted}
 use Rattle.su_octets.specs.declared.units.Unit.{Unit as Unit_out}

@@ -13,4 +13,4 @@ mod saying;
 mod shown;
 
 pub use playing::play_group;
-pub use term_play::{FAILED, SetWord, load_set, play_book, play_terminal, refuse, write_refusal};
+pub use term_play::{FAILED, play_book, play_terminal, refuse};

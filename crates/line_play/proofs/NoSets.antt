@@ -4,7 +4,7 @@ use Rattle.turn_code.specs.declared.draft.Draft.{Draft}
 use Rattle.link_term.specs.Opening.{IsRefusedOver}
 use Rattle.link_term.specs.declared.opening.OpenError.{OpenError}
 use Rattle.link_term.specs.declared.opening.OpenError.TheVariants.{NoName, NoMemory}
-use Rattle.term_play.specs.Checked.{IsGiven, IsSetOf, PrintsRefusal}
+use Rattle.text_check.specs.Checked.{IsGiven, IsSetOf, PrintsRefusal}
 use Rattle.term_play.specs.TermRuns.{PrintsLacking, LacksName}
 use Rattle.line_play.specs.Opening.{IsNoSet, by_fault, by_name}
 

@@ -4,7 +4,7 @@ use Rattle.turn_code.specs.declared.draft.Draft.{Draft}
 use Rattle.resend_store.specs.declared.messages.Mode.{Mode}
 use Rattle.link_term.specs.Opening.{IsOver}
 use Rattle.link_term.specs.Term.{Term}
-use Rattle.term_play.specs.Checked.{IsSetOf, PrintsRefusal}
+use Rattle.text_check.specs.Checked.{IsSetOf, PrintsRefusal}
 use Rattle.term_play.specs.TermRuns.{LacksName}
 
 -- the bytes are a text whose set has all that a terminal wants, and the terminal is a new one over it

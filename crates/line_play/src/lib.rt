@@ -14,4 +14,4 @@ pub use link_term::{Mode, Terminal};
 pub use opening::new_terminal;
 pub use running::{link_desk, run_link};
 pub use term_lines::mode_named;
-pub use term_play::SetWord;
+pub use text_check::SetWord;

@@ -8,8 +8,8 @@ use Rattle.script_lines.specs.declared.script.ScriptFault.TheVariants.{BadLine, 
 use Rattle.group_play.specs.Played.{first_book, IsWritten, IsMissed}
 use Rattle.term_lines.specs.TermScripts.{PlainAnyScript, book, terminal}
 use Rattle.group_lines.specs.GroupScripts.{PlainPlayScript, other, group, play_script_of}
-use Rattle.group_play.specs.Checked.{IsGiven, IsSetOf, PrintsRefusal}
-use Rattle.group_play.specs.Printed.{line_of}
+use Rattle.text_check.specs.Checked.{IsGiven, IsSetOf, PrintsRefusal}
+use Rattle.group_play.specs.Lines.{line_of}
 use Rattle.group_play.specs.TermRuns.{IsOfNew, IsTermWritten, IsTermMissed, LacksName}
 use Rattle.group_play.specs.GroupRuns.{IsOfNewSet, IsGroupWritten, IsGroupMissed}
 

@@ -14,7 +14,7 @@ use Rattle.term_lines.specs.TermScripts.{PlainTermSaid, plain_term_said}
 use Rattle.term_lines.specs.declared.script.TermSaid.{TermSaid}
 use Rattle.term_lines.specs.declared.commands.TermCommand.{TermCommand}
 use Rattle.term_lines.specs.declared.commands.TermCommand.TheVariants as code
-use Rattle.book_play.specs.Printed.{line_of}
+use Rattle.book_play.specs.Lines.{line_of}
 use Rattle.term_play.specs.TermAnswers.{next_of, behind_next, unit_line, GoOut, nothing, silent, one_goes, Answers, Obeys}
 use Rattle.term_play.specs.TermRuns.{latest, Goes, begins, prints, holds, IsTermRun, HasPrinted, HasGivenOut, IsTermMissedBy, IsTermMissed}
 

@@ -2,11 +2,9 @@ pub mod UnitLines
 pub mod TermAnswers
 pub mod TermRuns
 pub use Rattle.book_play.specs.Answers
-pub use Rattle.book_play.specs.Checked
+pub use Rattle.book_play.specs.Lines
 pub use Rattle.book_play.specs.Played
-pub use Rattle.book_play.specs.Printed
 pub use Rattle.book_play.specs.Refused
-pub use Rattle.book_play.specs.text_check_types
 pub use Rattle.link_term.specs.Kept
 pub use Rattle.link_term.specs.Opening
 pub use Rattle.link_term.specs.Term

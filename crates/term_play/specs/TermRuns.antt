@@ -11,7 +11,7 @@ use Rattle.link_term.specs.WantedText.{wanted_text}
 use Rattle.link_term.specs.declared.opening.OpenError.{OpenError}
 use Rattle.link_term.specs.declared.opening.OpenError.TheVariants.{NoName, NoMemory}
 use Rattle.link_term.specs.link_heart_types.wanted.Wanted.{Wanted}
-use Rattle.book_play.specs.Printed.{line_of}
+use Rattle.book_play.specs.Lines.{line_of}
 use Rattle.book_play.specs.Played.{last_in, Misses}
 use Rattle.term_lines.specs.TermCommands.{expected}
 use Rattle.term_lines.specs.TermScripts.{PlainTermSaid}

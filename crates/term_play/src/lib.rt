@@ -8,8 +8,8 @@ mod unit_line;
 
 pub use answers::{answer, message};
 pub use book_play::{
-    FAILED, HELD, MISSED, Printer, SetWord, load_set, play_book, refuse, refused_line, state_line,
-    text_line, value_line, write_line, write_refusal,
+    FAILED, HELD, MISSED, Printer, play_book, refuse, refused_line, state_line, text_line,
+    value_line, write_line,
 };
 pub use link_term::OpenError;
 pub use orders::command_of;

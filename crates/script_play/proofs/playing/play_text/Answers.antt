@@ -6,7 +6,7 @@ use Rattle.script_play.specs.Played.{no_text, bad_line, no_script, no_terminal}
 use Rattle.script_play.proofs.Refusals.{too_long, no_script_in}
 use Rattle.script_play.proofs.Texts.{not_held, not_missed}
 use Rattle.script_play.proofs.playing.play_text.Goals as goal
-use Rattle.group_play.proofs.Long.{all_kept}
+use Rattle.text_check.proofs.Long.{all_kept}
 
 pub returns-then-not-read-clause-held : goal.returns-then-not-read-clause-held
 returns-then-not-read-clause-held g c zero bytes keeps = absurd (not_held _ c.refuse.ensures.status zero)
