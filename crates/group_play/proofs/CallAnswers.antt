@@ -1,5 +1,5 @@
 -- What calls make of a set.
-use Rattle.std.proofs.Common.{◌≡◌, ℕ, List, ◌++◌, Option, None, Some, refl, sym, ap, subst, ◌∙◌}
+use Rattle.std.proofs.Common.{◌≡◌, ℕ, ◌<◌, suc, List, [], ◌∷◌, ◌++◌, get_or, Option, None, Some, refl, sym, ap, subst, ◌∙◌}
 use Rattle.std.specs.Prelude.{codes}
 use Rattle.std.specs.Fmt.{decimal}
 use Rattle.arrayvec.specs.ArrayVec.{ArrayVec}
@@ -8,6 +8,7 @@ use Rattle.term_play.specs.link_heart_types.commands.Command.{Command}
 use Rattle.term_play.specs.link_term_types.answers.CallError.{CallError}
 use Rattle.term_play.specs.link_term_types.answers.CallError.TheVariants as calling
 use Rattle.link_labels.specs.declared.changeover.Changeover.{Changeover}
+use Rattle.su_octets.specs.Bits.{AreOctets}
 use Rattle.link_labels.specs.Changeovers.{Says}
 use Rattle.link_group.specs.Set.{LinkSet, send_fault, sent}
 use Rattle.link_group.specs.Changing.{fail_fault, failed, order_at, IsReply}
@@ -109,23 +110,30 @@ sent_why octets c d m e text are is fault makes =
 
 -- ---- changeover
 
+octets_fit : (octets : List ℕ) → ((i : ℕ) → get_or octets i 0 < 256) → AreOctets octets
+octets_fit [] fit = tt
+octets_fit (o ∷ os) fit = (fit 0, octets_fit os (λ i. fit (suc i)))
+
 fails_at : (l : ℕ) (c d w : LinkSet) (text said : List ℕ) → text ≡ said → d ≡ w → Fails l c said w → Fails l c text d
 fails_at l c d w text said is makes fails =
     let P : List ℕ → Type 0 = λ x. Fails l c x w in
     let Q : LinkSet → Type 0 = λ x. Fails l c text x in
     subst Q (sym makes) (subst P (sym is) fails)
 
-pub fails_ok : (l : ℕ) (c d : LinkSet) (sif text : List ℕ) → text ≡ octets_line sif → None ≡ fail_fault c l → Says sif (order_at c l) → d ≡ failed c l
-    → Fails l c text d
-fails_ok l c d sif text is fault says makes = fails_at l c d _ text _ is makes (answers.fails_begins sif (sym fault) says)
+pub fails_ok : (l : ℕ) (c d : LinkSet) (octets sif text : List ℕ) → octets ≡ sif → ((i : ℕ) → get_or octets i 0 < 256) → text ≡ octets_line octets
+    → None ≡ fail_fault c l → Says sif (order_at c l) → d ≡ failed c l → Fails l c text d
+fails_ok l c d octets sif text same fit is fault says makes =
+    fails_at l c d _ text _ (is ∙ ap octets_line same) makes (answers.fails_begins sif (sym fault) (subst AreOctets same (octets_fit octets fit)) says)
 
 pub fails_why : (l : ℕ) (c d : LinkSet) (e : FailError) (text : List ℕ) → text ≡ codes "refused " ++ fail_error_text e → Some e ≡ fail_fault c l → d ≡ c
     → Fails l c text d
 fails_why l c d e text is fault makes = fails_at l c d _ text _ is makes (answers.fails_refused e (sym fault))
 
-pub replied_with : (o : Option Changeover) (sif : ArrayVec ℕ) (text : List ℕ) → text ≡ octets_line sif.items → IsReply o (Some sif) → IsReplied o text
-replied_with None sif text is reply = absurd reply
-replied_with (Some m) sif text is reply = (sif.items, reply, is)
+pub replied_with : (o : Option Changeover) (octets : List ℕ) (sif : ArrayVec ℕ) (text : List ℕ) → octets ≡ sif.items
+    → ((i : ℕ) → get_or octets i 0 < 256) → text ≡ octets_line octets → IsReply o (Some sif) → IsReplied o text
+replied_with None octets sif text same fit is reply = absurd reply
+replied_with (Some m) octets sif text same fit is reply =
+    (sif.items, subst AreOctets same (octets_fit octets fit), reply, is ∙ ap octets_line same)
 
 pub replied_none : (o : Option Changeover) (text : List ℕ) → text ≡ codes "ok" → IsReply o None → IsReplied o text
 replied_none None text is reply = is

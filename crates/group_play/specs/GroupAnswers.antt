@@ -10,6 +10,7 @@ use Rattle.link_machine.specs.declared.reply.Refusal.{Refusal}
 use Rattle.term_play.specs.link_heart_types.commands.Command.{Command}
 use Rattle.link_side.specs.declared.signals.Report.{Report}
 use Rattle.link_labels.specs.declared.changeover.Changeover.{Changeover}
+use Rattle.su_octets.specs.Bits.{AreOctets}
 use Rattle.link_labels.specs.Changeovers.{Says}
 use Rattle.link_places.specs.Sharing.{link_of}
 use Rattle.link_group.specs.group_links_types.link.Link.{Link}
@@ -172,12 +173,12 @@ pub record IsSent (octets : List ℕ) (c : LinkSet) (text : List ℕ) (d : LinkS
 -- a changeover begins, and the octets of the order for it are printed
 pub data Fails (l : ℕ) (c : LinkSet) : List ℕ → LinkSet → Type 0 where
   fails_refused : (e : FailError) → fail_fault c l ≡ Some e → Fails l c (codes "refused " ++ fail_error_text e) c
-  fails_begins : (sif : List ℕ) → fail_fault c l ≡ None → Says sif (order_at c l) → Fails l c (octets_line sif) (failed c l)
+  fails_begins : (sif : List ℕ) → fail_fault c l ≡ None → AreOctets sif → Says sif (order_at c l) → Fails l c (octets_line sif) (failed c l)
 
 -- the octets of an answer, if there is one
 abbrev pub IsReplied : Option Changeover → List ℕ → Type 0
 IsReplied None text = text ≡ codes "ok"
-IsReplied (Some m) text = (sif : List ℕ) × Says sif m × (text ≡ octets_line sif)
+IsReplied (Some m) text = (sif : List ℕ) × AreOctets sif × Says sif m × (text ≡ octets_line sif)
 
 -- what came is read, and what it is the message of, if any, is taken
 pub record IsHeard (octets : List ℕ) (c : LinkSet) (text : List ℕ) (d : LinkSet) : Type 0 where

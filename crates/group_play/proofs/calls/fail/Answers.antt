@@ -1,13 +1,12 @@
-use Rattle.std.proofs.Common.{ap, ◌∙◌}
 use Rattle.std.proofs.lemmas.Result.{IfOk-weaker}
-use Rattle.group_play.specs.GroupAnswers.{Fails, octets_line}
+use Rattle.group_play.specs.GroupAnswers.{Fails}
 use Rattle.group_play.proofs.CallAnswers.{fails_ok, fails_why}
 use Rattle.group_play.proofs.calls.fail.Goals as goal
 
 pub returns-in-Ok : goal.returns-in-Ok
 returns-in-Ok c =
     IfOk-weaker c.octets_line.result _ (λ v. Fails c.args.link c.args.group.now v.items c.fail.new.self)
-    (λ v is. fails_ok c.args.link _ _ c.in-Ok.sif.items v.items (is ∙ ap octets_line c.as_slice.ensures.value) c.in-Ok.ensures.fault c.in-Ok.ensures.order c.in-Ok.ensures.ok) c.octets_line.ensures
+    (λ v is. fails_ok c.args.link _ _ _ c.in-Ok.sif.items v.items c.as_slice.ensures.value (λ i. (c.as_slice.type_inv i).fits) is c.in-Ok.ensures.fault c.in-Ok.ensures.order c.in-Ok.ensures.ok) c.octets_line.ensures
 
 pub returns-in-Err : goal.returns-in-Err
 returns-in-Err c =
