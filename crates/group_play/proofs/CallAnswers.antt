@@ -110,7 +110,7 @@ sent_why octets c d m e text are is fault makes =
 
 -- ---- changeover
 
-octets_fit : (octets : List ℕ) → ((i : ℕ) → get_or octets i 0 < 256) → AreOctets octets
+pub octets_fit : (octets : List ℕ) → ((i : ℕ) → get_or octets i 0 < 256) → AreOctets octets
 octets_fit [] fit = tt
 octets_fit (o ∷ os) fit = (fit 0, octets_fit os (λ i. fit (suc i)))
 
@@ -120,20 +120,20 @@ fails_at l c d w text said is makes fails =
     let Q : LinkSet → Type 0 = λ x. Fails l c text x in
     subst Q (sym makes) (subst P (sym is) fails)
 
-pub fails_ok : (l : ℕ) (c d : LinkSet) (octets sif text : List ℕ) → octets ≡ sif → ((i : ℕ) → get_or octets i 0 < 256) → text ≡ octets_line octets
+pub fails_ok : (l : ℕ) (c d : LinkSet) (octets sif text : List ℕ) → octets ≡ sif → AreOctets sif → text ≡ octets_line octets
     → None ≡ fail_fault c l → Says sif (order_at c l) → d ≡ failed c l → Fails l c text d
 fails_ok l c d octets sif text same fit is fault says makes =
-    fails_at l c d _ text _ (is ∙ ap octets_line same) makes (answers.fails_begins sif (sym fault) (subst AreOctets same (octets_fit octets fit)) says)
+    fails_at l c d _ text _ (is ∙ ap octets_line same) makes (answers.fails_begins sif (sym fault) fit says)
 
 pub fails_why : (l : ℕ) (c d : LinkSet) (e : FailError) (text : List ℕ) → text ≡ codes "refused " ++ fail_error_text e → Some e ≡ fail_fault c l → d ≡ c
     → Fails l c text d
 fails_why l c d e text is fault makes = fails_at l c d _ text _ is makes (answers.fails_refused e (sym fault))
 
 pub replied_with : (o : Option Changeover) (octets : List ℕ) (sif : ArrayVec ℕ) (text : List ℕ) → octets ≡ sif.items
-    → ((i : ℕ) → get_or octets i 0 < 256) → text ≡ octets_line octets → IsReply o (Some sif) → IsReplied o text
+    → AreOctets sif.items → text ≡ octets_line octets → IsReply o (Some sif) → IsReplied o text
 replied_with None octets sif text same fit is reply = absurd reply
 replied_with (Some m) octets sif text same fit is reply =
-    (sif.items, subst AreOctets same (octets_fit octets fit), reply, is ∙ ap octets_line same)
+    (sif.items, fit, reply, is ∙ ap octets_line same)
 
 pub replied_none : (o : Option Changeover) (text : List ℕ) → text ≡ codes "ok" → IsReply o None → IsReplied o text
 replied_none None text is reply = is

@@ -3,7 +3,7 @@ ghost use Rattle.std.specs.Prelude.{◌≡◌, IfOk};
 ghost use Rattle.term_play.specs.TermAnswers.{command_of, IsRefusedLine};
 ghost use Rattle.group_play.specs.GroupAnswers.{IsTold, Passes, IsSent, Fails, IsHeard, Rebalances, IsBarredLine};
 
-use crate::saying::{done, no_link, octets_line, refused};
+use crate::saying::{done, no_link, octets_law, octets_line, refused};
 use link_group::{CallError, CommandError, Group};
 use link_labels::label_of;
 use std::alloc::{AllocError, Global};
@@ -79,7 +79,10 @@ pub(crate) fn fail(alloc: Global, group: &mut Group, link: usize) -> Result<Vec<
     ensures { IfOk result (λ v. Fails link group.old v.items group.new) }
 {
     match group.fail(link) {
-        Ok(sif) => octets_line(alloc, sif.as_slice()),
+        Ok(sif) => {
+            octets_law(sif.as_slice());
+            octets_line(alloc, sif.as_slice())
+        }
         Err(error) => refused(alloc, &error),
     }
 }
@@ -89,7 +92,10 @@ pub(crate) fn hear(alloc: Global, group: &mut Group, octets: &[u8]) -> Result<Ve
     ensures { IfOk result (λ v. IsHeard octets.now group.old v.items group.new) }
 {
     match group.changeover_message(octets) {
-        Some(sif) => octets_line(alloc, sif.as_slice()),
+        Some(sif) => {
+            octets_law(sif.as_slice());
+            octets_line(alloc, sif.as_slice())
+        }
         None => done(alloc),
     }
 }

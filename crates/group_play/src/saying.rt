@@ -1,5 +1,6 @@
 //! Lines that are printed for several commands.
 ghost use Rattle.std.specs.Prelude.{◌≡◌, ◌++◌, IfOk, IfSome, codes};
+ghost use Rattle.su_octets.specs.Bits.{AreOctets};
 ghost use Rattle.group_play.specs.GroupAnswers.{NO_LINK, octets_line, count_line};
 
 use std::alloc::{AllocError, Global};
@@ -26,6 +27,11 @@ pub(crate) fn no_link(alloc: Global) -> Result<Vec<u8>, AllocError>
 {
     Vec::from_slice(alloc, b"refused K1 NoLink")
 }
+
+/// Each octet is below 256.
+pub(crate) fn octets_law(octets: &[u8])
+    ensures { AreOctets octets.now }
+{}
 
 /// `ok` and octets.
 pub(crate) fn octets_line(alloc: Global, octets: &[u8]) -> Result<Vec<u8>, AllocError>

@@ -1,3 +1,5 @@
+use Rattle.std.proofs.Common.{subst}
+use Rattle.su_octets.specs.Bits.{AreOctets}
 use Rattle.std.proofs.lemmas.Result.{IfOk-weaker}
 use Rattle.group_play.specs.GroupAnswers.{Fails}
 use Rattle.group_play.proofs.CallAnswers.{fails_ok, fails_why}
@@ -6,7 +8,7 @@ use Rattle.group_play.proofs.calls.fail.Goals as goal
 pub returns-in-Ok : goal.returns-in-Ok
 returns-in-Ok c =
     IfOk-weaker c.octets_line.result _ (λ v. Fails c.args.link c.args.group.now v.items c.fail.new.self)
-    (λ v is. fails_ok c.args.link _ _ _ c.in-Ok.sif.items v.items c.as_slice.ensures.value (λ i. (c.as_slice.type_inv i).fits) is c.in-Ok.ensures.fault c.in-Ok.ensures.order c.in-Ok.ensures.ok) c.octets_line.ensures
+    (λ v is. fails_ok c.args.link _ _ _ c.in-Ok.sif.items v.items c.as_slice-in-Ok.ensures.value (subst AreOctets c.as_slice.ensures.value c.octets_law.ensures) is c.in-Ok.ensures.fault c.in-Ok.ensures.order c.in-Ok.ensures.ok) c.octets_line.ensures
 
 pub returns-in-Err : goal.returns-in-Err
 returns-in-Err c =

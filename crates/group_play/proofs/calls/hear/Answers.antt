@@ -1,3 +1,5 @@
+use Rattle.std.proofs.Common.{subst}
+use Rattle.su_octets.specs.Bits.{AreOctets}
 use Rattle.std.proofs.lemmas.Result.{IfOk-weaker}
 use Rattle.group_play.specs.GroupAnswers.{IsHeard}
 use Rattle.group_play.proofs.CallAnswers.{replied_with, replied_none}
@@ -6,7 +8,7 @@ use Rattle.group_play.proofs.calls.hear.Goals as goal
 pub returns-in-Some : goal.returns-in-Some
 returns-in-Some c =
     IfOk-weaker c.octets_line.result _ (λ v. IsHeard c.args.octets.now c.args.group.now v.items c.changeover_message.new.self)
-    (λ v is. record { makes = c.changeover_message.ensures.set; says = λ m read. replied_with _ _ c.in-Some.sif v.items c.as_slice.ensures.value (λ i. (c.as_slice.type_inv i).fits) is (c.in-Some.ensures.reply m read) })
+    (λ v is. record { makes = c.changeover_message.ensures.set; says = λ m read. replied_with _ _ c.in-Some.sif v.items c.as_slice-in-Some.ensures.value (subst AreOctets c.as_slice.ensures.value c.octets_law.ensures) is (c.in-Some.ensures.reply m read) })
     c.octets_line.ensures
 
 pub returns-in-None : goal.returns-in-None
