@@ -135,8 +135,7 @@ fn grow(uses: &mut Uses, last: usize) -> Result<(), AllocError>
     Ok(())
 }
 
-/// One name more. A tree that was made by hand may have places past the end of each text: there are
-/// `MAX_TEXT` slots at most, and nothing is kept past them.
+/// One name more. A tree made by hand may have places past the end of each text: nothing is kept past `MAX_TEXT` slots.
 fn add_use(uses: &mut Uses, names: &Names, id: &Identifier, meant: Meant) -> Result<(), AllocError>
     requires known { AreUses (scope_in names.now) uses.old.items }
     requires is { IsUse (scope_in names.now) id.now.name meant }
