@@ -1,12 +1,12 @@
 -- What a turn's end is by anything that the set means: so by the text from which the set comes, too.
 use Rattle.std.specs.Prelude.{◌≡◌, ℕ}
 use Rattle.turn_code.specs.Outcome.{Meaning, Means}
-use Rattle.link_machine.specs.Ledger.{Ledger, Asked, ask_by, state_by, state_of}
-use Rattle.link_machine.specs.Step.{Answer, Says}
-use Rattle.link_machine.specs.declared.event.Event.TheVariants.{Begin, Finish}
-use Rattle.link_machine.specs.declared.reply.Refusal.{Refusal}
-use Rattle.link_machine.specs.declared.reply.Report.{Report}
-use Rattle.link_machine.specs.declared.reply.Reply.TheVariants as reply
+use Rattle.actor_machine.specs.Ledger.{Ledger, Asked, ask_by, state_by, state_of}
+use Rattle.actor_machine.specs.Step.{Answer, Says}
+use Rattle.actor_machine.specs.declared.event.Event.TheVariants.{Begin, Finish}
+use Rattle.actor_machine.specs.declared.reply.Refusal.{Refusal}
+use Rattle.actor_machine.specs.declared.reply.Report.{Report}
+use Rattle.actor_machine.specs.declared.reply.Reply.TheVariants as reply
 
 -- by a meaning of turns an event is answered so and leaves this book, whose state is the one by that meaning
 pub record ComesTo (act : Meaning) (asked : Asked) (answer : Answer) (after : Ledger) : Type 0 where

@@ -1,7 +1,7 @@
 -- What a book shows of its actors.
 use Rattle.std.specs.Prelude.{ℕ, Option, None, Some, slice_get}
 use Rattle.turn_code.specs.declared.value.Value.{Value}
-use Rattle.link_machine.specs.declared.actor.Actor.{Actor}
+use Rattle.actor_machine.specs.declared.actor.Actor.{Actor}
 
 abbrev pub value_in : Option (Option Value) → Option Value
 value_in None = None

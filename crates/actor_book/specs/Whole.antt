@@ -5,10 +5,10 @@ use Rattle.turn_code.specs.declared.effect.Effect.{Effect}
 use Rattle.turn_code.specs.declared.machine.End.{End}
 use Rattle.turn_code.specs.declared.machine.Machine.{Machine}
 use Rattle.turn_machine.specs.Turn.{Turn, outcome_of}
-use Rattle.link_state.specs.Outcomes.{outcome_with}
-use Rattle.link_machine.specs.Ledger.{Ledger, Asked, ask, turn_out}
-use Rattle.link_machine.specs.Step.{Says}
-use Rattle.link_machine.specs.declared.event.Event.TheVariants.{Begin, Finish}
+use Rattle.actor_state.specs.Outcomes.{outcome_with}
+use Rattle.actor_machine.specs.Ledger.{Ledger, Asked, ask, turn_out}
+use Rattle.actor_machine.specs.Step.{Says}
+use Rattle.actor_machine.specs.declared.event.Event.TheVariants.{Begin, Finish}
 use Rattle.actor_book.specs.Answered.{begun_by}
 
 -- the book as actor n has begun a turn

@@ -3,18 +3,18 @@
 ghost use Rattle.std.specs.Prelude.{◌≡◌, ◌≤◌, ◌<◌, ◌+◌, ◌++◌, ◌∷◌, [], None, Some, Option, length, option_map, slice_get, vec_capacity};
 ghost use Rattle.turn_code.specs.Outcome.{Outcome};
 ghost use Rattle.turn_machine.specs.Turn.{IsRunnable, outcome_of};
-ghost use Rattle.link_machine.specs.Ledger.{ask, next, turn_out};
-ghost use Rattle.link_machine.specs.Core.{names_in};
-ghost use Rattle.link_machine.specs.Step.{Says};
-ghost use Rattle.link_machine.specs.declared.event.Event.TheVariants.{Offer as Offered, Begin, Skip, Finish, Advance, TakeEnv};
-ghost use Rattle.link_machine.specs.declared.reply.Reply.TheVariants as reply;
+ghost use Rattle.actor_machine.specs.Ledger.{ask, next, turn_out};
+ghost use Rattle.actor_machine.specs.Core.{names_in};
+ghost use Rattle.actor_machine.specs.Step.{Says};
+ghost use Rattle.actor_machine.specs.declared.event.Event.TheVariants.{Offer as Offered, Begin, Skip, Finish, Advance, TakeEnv};
+ghost use Rattle.actor_machine.specs.declared.reply.Reply.TheVariants as reply;
 ghost use Rattle.actor_book.specs.Accepted.{Takes};
-ghost use Rattle.profile_limits.specs.Limits.{MOST_ACTORS, MOST_EFFECTS, MOST_VARIABLES};
+ghost use Rattle.plain_limits.specs.Limits.{MOST_ACTORS, MOST_EFFECTS, MOST_VARIABLES};
 
 use crate::book::Book;
-use link_machine::laws::{fits_law, keeps_law, out_law, state_law};
-use link_machine::{ActorName, Emitted, Event, Offer, Report};
-use link_state::Link;
+use actor_machine::laws::{fits_law, keeps_law, out_law, state_law};
+use actor_machine::{ActorName, Emitted, Event, Offer, Report};
+use actor_state::Link;
 use turn_code::laws::{effects_law, run_law};
 use turn_code::{SignalNumber, Trigger, Value};
 use turn_machine::{Done, Job};

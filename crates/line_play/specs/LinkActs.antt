@@ -2,13 +2,13 @@
 use Rattle.std.specs.Prelude.{◌≡◌, ℕ, List, [], ◌∷◌, Option, None, Some, option_map}
 use Rattle.su_octets.specs.declared.units.Unit as units
 use Rattle.script_lines.specs.Words.{words_of}
-use Rattle.link_machine.specs.declared.event.Event.TheVariants.{Advance}
-use Rattle.link_side.specs.Reporting.{reported}
+use Rattle.actor_machine.specs.declared.event.Event.TheVariants.{Advance}
+use Rattle.link_transceiver.specs.Reporting.{reported}
 use Rattle.link_term.specs.Machine.{offered, tidied, tick_refusal}
 use Rattle.link_term.specs.Term.{Term, with_heart, with_half}
 use Rattle.link_term.specs.Hearing.{Heard}
-use Rattle.term_lines.specs.TermCommands.{PlainTermCommand}
-use Rattle.term_play.specs.TermAnswers.{next_of, behind_next, Answers}
+use Rattle.script_links.specs.TermCommands.{PlainTermCommand}
+use Rattle.script_terminal.specs.TermAnswers.{next_of, behind_next, Answers}
 use Rattle.line_filter.specs.Acts.{Act, asked, heard, passed, reported as told, obeyed}
 use Rattle.line_filter.specs.declared.terminal.Answer.{Answer}
 use Rattle.line_play.specs.Commands.{is_question, line_command_of}

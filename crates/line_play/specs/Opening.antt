@@ -4,8 +4,8 @@ use Rattle.turn_code.specs.declared.draft.Draft.{Draft}
 use Rattle.resend_store.specs.declared.messages.Mode.{Mode}
 use Rattle.link_term.specs.Opening.{IsOver}
 use Rattle.link_term.specs.Term.{Term}
-use Rattle.text_check.specs.Checked.{IsSetOf, PrintsRefusal}
-use Rattle.term_play.specs.TermRuns.{LacksName}
+use Rattle.script_check.specs.Checked.{IsSetOf, PrintsRefusal}
+use Rattle.script_terminal.specs.TermRuns.{LacksName}
 
 -- the bytes are a text whose set has all that a terminal wants, and the terminal is a new one over it
 pub record IsNewOver (mode : Mode) (t : Term) (bytes : List ℕ) : Type 0 where

@@ -3,10 +3,10 @@ use Rattle.std.specs.Prelude.{◌≡◌, ℕ, Bool, true, false, List, ◌∷◌
 use Rattle.std.specs.Fmt.{signed_decimal}
 use Rattle.hex.specs.Hex.{encode_upper}
 use Rattle.resend_store.specs.declared.messages.Msu.{Msu}
-use Rattle.link_side.specs.declared.signals.Report.{Report}
-use Rattle.link_side.specs.declared.signals.Report.TheVariants.{Message, Status}
-use Rattle.link_side.specs.declared.signals.LinkStatus.{LinkStatus}
-use Rattle.link_side.specs.declared.signals.LinkStatus.TheVariants.{InService, Down, RemoteOut, RemoteBack}
+use Rattle.link_transceiver.specs.declared.signals.Report.{Report}
+use Rattle.link_transceiver.specs.declared.signals.Report.TheVariants.{Message, Status}
+use Rattle.link_transceiver.specs.declared.signals.LinkStatus.{LinkStatus}
+use Rattle.link_transceiver.specs.declared.signals.LinkStatus.TheVariants.{InService, Down, RemoteOut, RemoteBack}
 use Rattle.line_filter.specs.declared.terminal.Answer.{Answer}
 use Rattle.line_filter.specs.declared.terminal.Answer.TheVariants as answer
 

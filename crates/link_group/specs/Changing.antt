@@ -2,21 +2,21 @@
 use Rattle.std.specs.Prelude.{ℕ, ◌+◌, ◌^◌, ◌-◌, ◌==◌, ◌&&◌, min, Bool, if◌then◌else◌, List, Option, Some, None, slice_get}
 use Rattle.arrayvec.specs.ArrayVec.{ArrayVec}
 use Rattle.resend_store.specs.declared.messages.Msu.{Msu}
-use Rattle.link_labels.specs.declared.changeover.Changeover.{Changeover}
-use Rattle.link_labels.specs.declared.changeover.Kind.{Kind}
-use Rattle.link_labels.specs.declared.changeover.Kind.TheVariants as kind
-use Rattle.link_labels.specs.Changeovers.{Says}
-use Rattle.group_links.specs.declared.link.Link.{Link}
-use Rattle.link_refusals.specs.declared.errors.FailError.{FailError}
-use Rattle.link_refusals.specs.declared.errors.FailError.TheVariants as fail
-use Rattle.link_refusals.specs.declared.errors.RetrieveError.{RetrieveError}
-use Rattle.link_refusals.specs.declared.errors.RetrieveError.TheVariants as retrieve
-use Rattle.link_refusals.specs.declared.errors.AbandonError.{AbandonError}
-use Rattle.link_refusals.specs.declared.errors.AbandonError.TheVariants as abandon
-use Rattle.group_links.specs.OneLink.{retrieve_fault, number_of, abandon_fault}
+use Rattle.group_changeover.specs.declared.changeover.Changeover.{Changeover}
+use Rattle.group_changeover.specs.declared.changeover.Kind.{Kind}
+use Rattle.group_changeover.specs.declared.changeover.Kind.TheVariants as kind
+use Rattle.group_changeover.specs.Changeovers.{Says}
+use Rattle.group_members.specs.declared.link.Link.{Link}
+use Rattle.group_changeover.specs.declared.errors.FailError.{FailError}
+use Rattle.group_changeover.specs.declared.errors.FailError.TheVariants as fail
+use Rattle.group_changeover.specs.declared.errors.RetrieveError.{RetrieveError}
+use Rattle.group_changeover.specs.declared.errors.RetrieveError.TheVariants as retrieve
+use Rattle.group_changeover.specs.declared.errors.AbandonError.{AbandonError}
+use Rattle.group_changeover.specs.declared.errors.AbandonError.TheVariants as abandon
+use Rattle.group_members.specs.OneLink.{retrieve_fault, number_of, abandon_fault}
 use Rattle.link_group.specs.Set.{LinkSet}
-use Rattle.group_links.specs.Links.{change, fault_at}
-use Rattle.group_links.specs.Failing.{fail_fault_of, begins_at, order_of, hears, replies_at, handed, messages_by, given_up, sent_by, none_known}
+use Rattle.group_members.specs.Links.{change, fault_at}
+use Rattle.group_members.specs.Failing.{fail_fault_of, begins_at, order_of, hears, replies_at, handed, messages_by, given_up, sent_by, none_known}
 
 -- ---- a link fails
 

@@ -1,11 +1,11 @@
 -- Diversion (Q.704): the messages in hand go to the other links.
 use Rattle.std.specs.Prelude.{◌≡◌, ℕ, false, List, map, Option, Some, None, slice_get}
 use Rattle.resend_store.specs.declared.messages.Msu.{Msu}
-use Rattle.link_places.specs.Sharing.{selections, counts_of, link_of}
-use Rattle.link_refusals.specs.declared.errors.DivertFault.{DivertFault}
+use Rattle.group_changeover.specs.Sharing.{selections, counts_of, link_of}
+use Rattle.group_changeover.specs.declared.errors.DivertFault.{DivertFault}
 use Rattle.link_group.specs.Set.{LinkSet}
-use Rattle.group_links.specs.Links.{change}
-use Rattle.group_links.specs.Moving.{Diversion, Diverted, hand_of, open_links, division, hands_over, ends_on, ends_at, keeps_at}
+use Rattle.group_members.specs.Links.{change}
+use Rattle.group_members.specs.Moving.{Diversion, Diverted, hand_of, open_links, division, hands_over, ends_on, ends_at, keeps_at}
 
 -- a hand of that link is out, with so many messages of each selection
 unfoldable pub Owns : LinkSet → ℕ → List Msu → Type 0

@@ -1,15 +1,15 @@
 -- What a set does by one of its terminals, and what it makes of a link that comes into service.
 use Rattle.std.specs.Prelude.{◌≡◌, ℕ, ◌≤◌, if◌then◌else◌, List, length, map, slice_get}
 use Rattle.std.specs.List.{list_any}
-use Rattle.group_links.specs.declared.link.Link.{Link}
+use Rattle.group_members.specs.declared.link.Link.{Link}
 use Rattle.link_group.specs.Set.{LinkSet}
-use Rattle.group_links.specs.Links.{change}
-use Rattle.link_heart.specs.declared.commands.Command.{Command}
-use Rattle.link_refusals.specs.declared.errors.CommandError.{CommandError}
-use Rattle.link_refusals.specs.declared.errors.CommandError.TheVariants as error
-use Rattle.group_links.specs.Commanding.{Barred, Refused, Lacks}
+use Rattle.group_members.specs.Links.{change}
+use Rattle.link_processes.specs.declared.commands.Command.{Command}
+use Rattle.group_changeover.specs.declared.errors.CommandError.{CommandError}
+use Rattle.group_changeover.specs.declared.errors.CommandError.TheVariants as error
+use Rattle.group_members.specs.Commanding.{Barred, Refused, Lacks}
 use Rattle.link_group.specs.Placing.{placed_anew}
-use Rattle.group_links.specs.Doing.{AtLink, asked, came_first, came_by}
+use Rattle.group_members.specs.Doing.{AtLink, asked, came_first, came_by}
 
 -- ---- a link comes into service
 

@@ -1,14 +1,14 @@
 -- Selections get links: as a link first comes into service, and as a set is rebalanced.
 use Rattle.std.specs.Prelude.{true, false, if◌then◌else◌, map, Option, Some, None}
 use Rattle.std.specs.List.{list_any}
-use Rattle.link_places.specs.Limits.{SELECTIONS}
-use Rattle.link_places.specs.Sharing.{selections, pick}
-use Rattle.link_refusals.specs.declared.errors.RebalanceError.{RebalanceError}
-use Rattle.link_refusals.specs.declared.errors.RebalanceError.TheVariants as rebalance
-use Rattle.group_links.specs.OneLink.{is_changing}
+use Rattle.group_changeover.specs.Limits.{SELECTIONS}
+use Rattle.group_changeover.specs.Sharing.{selections, pick}
+use Rattle.group_changeover.specs.declared.errors.RebalanceError.{RebalanceError}
+use Rattle.group_changeover.specs.declared.errors.RebalanceError.TheVariants as rebalance
+use Rattle.group_members.specs.OneLink.{is_changing}
 use Rattle.link_group.specs.Set.{LinkSet}
-use Rattle.group_links.specs.Moving.{open_links}
-use Rattle.group_links.specs.Tables.{anew_on, in_way, any_below, forgiven}
+use Rattle.group_members.specs.Moving.{open_links}
+use Rattle.group_members.specs.Tables.{anew_on, in_way, any_below, forgiven}
 
 -- the table made anew
 unfoldable pub placed_anew : LinkSet → LinkSet

@@ -1,15 +1,15 @@
 //! Diversion of a hand.
 ghost use Rattle.std.specs.Prelude.{◌≡◌, ◌↔◌, ◌<◌, IsTrue, All, IfErr, Some, None};
 ghost use Rattle.resend_store.specs.Messages.{IsMessage};
-ghost use Rattle.group_links.specs.OneLink.{fault_of};
-ghost use Rattle.group_links.specs.Moving.{hand_of, open_links};
+ghost use Rattle.group_members.specs.OneLink.{fault_of};
+ghost use Rattle.group_members.specs.Moving.{hand_of, open_links};
 ghost use Rattle.link_group.specs.Diverting.{Owns, diverted, after_divert};
 ghost use Rattle.link_group.specs.Ending.{fault_in};
 
 use crate::group::Group;
 use crate::retrieved::Retrieved;
-use group_links::{DivertFault, Msu, end_at, end_table, hand_of, hand_over, keep_at, open_links};
-use link_places::counts_of;
+use group_changeover::counts_of;
+use group_members::{DivertFault, Msu, end_at, end_table, hand_of, hand_over, keep_at, open_links};
 use std::collections::VecDeque;
 
 /// Why messages in hand weren't all diverted, and those that are still in hand.

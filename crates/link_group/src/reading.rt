@@ -1,15 +1,15 @@
 //! What a set tells of its links.
 ghost use Rattle.std.specs.Prelude.{◌≡◌, is_some, slice_get};
 ghost use Rattle.std.specs.Option.{option_copied};
-ghost use Rattle.group_links.specs.OneLink.{held};
-ghost use Rattle.group_links.specs.Links.{read_at};
+ghost use Rattle.group_members.specs.OneLink.{held};
+ghost use Rattle.group_members.specs.Links.{read_at};
 ghost use Rattle.link_group.specs.Reading.{held_count, sent_count, message_at, terminal_of, book_of};
-ghost use Rattle.group_links.specs.Tables.{changing_by};
-ghost use Rattle.group_links.specs.Moving.{hand_of};
+ghost use Rattle.group_members.specs.Tables.{changing_by};
+ghost use Rattle.group_members.specs.Moving.{hand_of};
 
 use crate::group::Group;
-use group_links::{Msu, Terminal, hand_of};
-use link_heart::Book;
+use group_members::{Msu, Terminal, hand_of};
+use link_processes::Book;
 
 impl Group {
     /// How many messages a link holds, if it is there.

@@ -2,7 +2,7 @@
 ghost use Rattle.std.specs.Prelude.{◌≡◌, All, length};
 ghost use Rattle.resend_store.specs.Messages.{IsMessage};
 
-use group_links::Msu;
+use group_members::Msu;
 use std::collections::VecDeque;
 
 /// The messages that a link which failed handed out. It can't be dropped: a set takes it, to divert them, or as it ends.

@@ -1,22 +1,21 @@
 //! Messages to send, and messages of a changeover.
 ghost use Rattle.std.specs.Prelude.{◌≡◌, Option, Some, OnOk, OnErr, IfOk, ◌<◌};
-ghost use Rattle.link_places.specs.Limits.{SELECTIONS};
-ghost use Rattle.link_places.specs.Sharing.{selection_of};
-ghost use Rattle.link_labels.specs.Labels.{label_in, IsLabel};
-ghost use Rattle.link_labels.specs.Changeovers.{Says};
-ghost use Rattle.link_labels.specs.declared.changeover.Changeover.{Changeover as PlainChangeover};
-ghost use Rattle.group_links.specs.OneLink.{fault_of, retrieve_refusal, abandon_refusal};
+ghost use Rattle.group_changeover.specs.Limits.{SELECTIONS};
+ghost use Rattle.group_changeover.specs.Sharing.{selection_of};
+ghost use Rattle.group_changeover.specs.Labels.{label_in, IsLabel};
+ghost use Rattle.group_changeover.specs.Changeovers.{Says};
+ghost use Rattle.group_changeover.specs.declared.changeover.Changeover.{Changeover as PlainChangeover};
+ghost use Rattle.group_members.specs.OneLink.{fault_of, retrieve_refusal, abandon_refusal};
 ghost use Rattle.link_group.specs.Set.{send_fault, sent};
 ghost use Rattle.link_group.specs.Changing.{fail_fault, failed, order_at, IsReply, IsRead, after_message, reply_to, retrieve_fault_at, after_retrieve, messages_for, abandon_fault_at, after_abandon, unsent_at};
 
 use crate::group::{Group, Sif, sif_of};
 use crate::retrieved::Retrieved;
-use group_links::{
+use group_changeover::{Changeover, Label, read_changeover, selection_of};
+use group_members::{
     AbandonError, FailError, Msu, RetrieveError, SendError, abandon_at, fail_at, hear_at, put_at,
     retrieve_at,
 };
-use link_labels::{Changeover, Label, read_changeover};
-use link_places::selection_of;
 
 impl Group {
     /// Takes a message to send, whose field begins with this label. It waits behind all others with the link of its selection.

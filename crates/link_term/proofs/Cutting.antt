@@ -7,7 +7,7 @@ use Rattle.su_octets.proofs.BitLists.{bits_of-append}
 use Rattle.bit_line.specs.Deframing.{Stands}
 use Rattle.bit_line.specs.Events.{AreEvents}
 use Rattle.bit_line.specs.declared.events.LineEvent.{LineEvent}
-use Rattle.link_heart.specs.declared.heart.Heart.{Heart}
+use Rattle.link_processes.specs.declared.heart.Heart.{Heart}
 use Rattle.link_term.specs.Term.{Term, with_heart}
 use Rattle.link_term.specs.Hearing.{Hears, silent, octet, Heard}
 use Rattle.link_term.specs.Laws.{CuttingsAgree}

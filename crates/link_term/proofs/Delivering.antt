@@ -4,11 +4,11 @@ use Rattle.std.specs.Prelude.{if◌then◌else◌}
 use Rattle.resend_store.specs.declared.messages.Msu.{Msu}
 use Rattle.su_octets.specs.Bits.{low_bits}
 use Rattle.bit_line.specs.declared.events.LineEvent.{LineEvent}
-use Rattle.link_machine.specs.Ledger.{rebased}
-use Rattle.link_side.specs.Half.{Half}
-use Rattle.link_heart.specs.declared.heart.Heart.{Heart}
-use Rattle.link_heart.specs.Machine.{with_book, tidied, is_low, error_taken}
-use Rattle.link_heart.specs.Laws.{MessagesLaw}
+use Rattle.actor_machine.specs.Ledger.{rebased}
+use Rattle.link_transceiver.specs.Half.{Half}
+use Rattle.link_processes.specs.declared.heart.Heart.{Heart}
+use Rattle.link_processes.specs.Machine.{with_book, tidied, is_low, error_taken}
+use Rattle.link_processes.specs.Laws.{MessagesLaw}
 use Rattle.link_term.specs.Hearing.{Reads, as_unit, as_error, AreTaken, nothing, unit, errored, sixteen, silent, octet}
 use Rattle.link_term.specs.Laws.{accepted_read, accepted_taken, accepted_along, Delivers}
 

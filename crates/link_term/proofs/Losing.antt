@@ -6,11 +6,11 @@ use Rattle.su_octets.specs.Bits.{low_bits}
 use Rattle.bit_line.specs.Deframing.{Stands}
 use Rattle.bit_line.specs.declared.events.LineEvent.{LineEvent}
 use Rattle.bit_line.proofs.EventLaws.{stands_events}
-use Rattle.link_side.specs.Half.{Half}
-use Rattle.link_side.specs.Laws.{Loses}
-use Rattle.link_heart.specs.declared.heart.Heart.{Heart}
-use Rattle.link_heart.specs.Machine.{error_taken, sent, tidied}
-use Rattle.link_heart.specs.Laws.{KeptLaw}
+use Rattle.link_transceiver.specs.Half.{Half}
+use Rattle.link_transceiver.specs.Laws.{Loses}
+use Rattle.link_processes.specs.declared.heart.Heart.{Heart}
+use Rattle.link_processes.specs.Machine.{error_taken, sent, tidied}
+use Rattle.link_processes.specs.Laws.{KeptLaw}
 use Rattle.link_term.specs.Hearing.{Reads, as_unit, as_error, AreTaken, nothing, unit, errored, sixteen, silent, octet, Heard}
 use Rattle.link_term.specs.Kept.{window_of, Took, Sends}
 use Rattle.link_term.specs.Speaking.{left, Spoke}

@@ -9,11 +9,11 @@ use Rattle.bit_line.specs.Events.{AreEvents, Runs, reports}
 use Rattle.bit_line.specs.declared.events.LineEvent.{LineEvent}
 use Rattle.bit_line.specs.declared.deframer.Deframer.{Deframer}
 use Rattle.bit_line.proofs.EventLaws.{one_events, stands_events}
-use Rattle.link_machine.specs.Ledger.{Ledger, rebased, next}
-use Rattle.link_side.specs.Half.{Half}
-use Rattle.link_side.specs.Limits.{KEPT_MESSAGES}
-use Rattle.link_heart.specs.declared.heart.Heart.{Heart}
-use Rattle.link_heart.specs.Machine.{with_book, tidied, is_low}
+use Rattle.actor_machine.specs.Ledger.{Ledger, rebased, next}
+use Rattle.link_transceiver.specs.Half.{Half}
+use Rattle.link_transceiver.specs.Limits.{KEPT_MESSAGES}
+use Rattle.link_processes.specs.declared.heart.Heart.{Heart}
+use Rattle.link_processes.specs.Machine.{with_book, tidied, is_low}
 use Rattle.link_term.specs.Term.{Term}
 use Rattle.link_term.specs.Hearing.{AreTaken, nothing, Hears, silent, octet, Heard}
 use Rattle.link_term.proofs.Cutting.{no_bits, next_bits, one_bits}

@@ -1,10 +1,10 @@
 -- Room that is there.
 use Rattle.std.proofs.Common.{◌≡◌, ℕ, Bool, true, false, Some, None, Result, Ok, Err, IfErr, IsOk, refl, sym, ap, ◌∙◌}
 use Rattle.std.specs.Prelude.{if◌then◌else◌}
-use Rattle.link_machine.specs.Ledger.{rebased}
-use Rattle.link_machine.specs.declared.reply.Refusal.{Refusal}
-use Rattle.link_heart.specs.declared.heart.Heart.{Heart}
-use Rattle.link_heart.specs.Machine.{with_book, tidied, is_low, tick_refusal}
+use Rattle.actor_machine.specs.Ledger.{rebased}
+use Rattle.actor_machine.specs.declared.reply.Refusal.{Refusal}
+use Rattle.link_processes.specs.declared.heart.Heart.{Heart}
+use Rattle.link_processes.specs.Machine.{with_book, tidied, is_low, tick_refusal}
 use Rattle.link_term.specs.declared.answers.CallError.{CallError}
 use Rattle.link_term.specs.declared.answers.CallError.TheVariants.{Refused, NoMemory}
 use Rattle.link_term.specs.Term.{IsTickError}

@@ -5,8 +5,8 @@ use Rattle.su_octets.specs.Frame.{Frame, SpareBitsAreZero}
 use Rattle.su_octets.specs.declared.units.Unit as units
 use Rattle.bit_line.specs.Stuffers.{Gave}
 use Rattle.bit_line.specs.declared.stuffer.Stuffer.{Stuffer}
-use Rattle.link_heart.specs.declared.heart.Heart.{Heart}
-use Rattle.link_heart.specs.Machine.{sent, tidied, is_low}
+use Rattle.link_processes.specs.declared.heart.Heart.{Heart}
+use Rattle.link_processes.specs.Machine.{sent, tidied, is_low}
 use Rattle.link_term.specs.Term.{Term}
 use Rattle.link_term.specs.Speaking.{AreFrames, Speaks, given, left, Spoke, IsSpoken}
 

@@ -5,10 +5,10 @@ use Rattle.su_octets.specs.declared.units.Unit as units
 use Rattle.bit_line.specs.Events.{closings}
 use Rattle.bit_line.specs.declared.events.LineEvent.{LineEvent}
 use Rattle.bit_line.specs.declared.events.LineEvent.TheVariants as event
-use Rattle.link_side.specs.Half.{Half}
-use Rattle.link_heart.specs.declared.heart.Heart.{Heart}
-use Rattle.link_heart.specs.Machine.{unit_taken, error_taken, tidied}
-use Rattle.link_side.specs.Limits.{KEPT_MESSAGES}
+use Rattle.link_transceiver.specs.Half.{Half}
+use Rattle.link_processes.specs.declared.heart.Heart.{Heart}
+use Rattle.link_processes.specs.Machine.{unit_taken, error_taken, tidied}
+use Rattle.link_transceiver.specs.Limits.{KEPT_MESSAGES}
 use Rattle.link_term.specs.Hearing.{Reads, as_unit, as_error, AreTaken, nothing, unit, errored, sixteen}
 use Rattle.link_term.proofs.Delivering.{tidied_side}
 

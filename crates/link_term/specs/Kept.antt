@@ -2,7 +2,7 @@
 use Rattle.std.specs.Prelude.{◌≡◌, ℕ, ◌+◌, ◌≤◌, List, []}
 use Rattle.resend_store.specs.declared.messages.Msu.{Msu}
 use Rattle.resend_store.specs.Window.{Window}
-use Rattle.link_side.specs.Laws.{Loses}
+use Rattle.link_transceiver.specs.Laws.{Loses}
 use Rattle.link_term.specs.Term.{Term}
 
 abbrev pub window_of : Term → Window

@@ -2,8 +2,8 @@
 use Rattle.std.specs.Prelude.{◌≡◌, ℕ, Bool, List, [], ◌++◌}
 use Rattle.resend_store.specs.declared.messages.Msu.{Msu}
 use Rattle.bit_line.specs.declared.events.LineEvent.{LineEvent}
-use Rattle.link_heart.specs.declared.heart.Heart.{Heart}
-use Rattle.link_side.specs.Laws.{Loses, accepted_of, acknowledged_of}
+use Rattle.link_processes.specs.declared.heart.Heart.{Heart}
+use Rattle.link_transceiver.specs.Laws.{Loses, accepted_of, acknowledged_of}
 use Rattle.link_term.specs.Term.{Term}
 use Rattle.link_term.specs.Hearing.{Reads, as_unit, as_error, AreTaken, nothing, unit, errored, sixteen, Hears, silent, octet, Heard}
 

@@ -1,14 +1,14 @@
 -- A terminal over a set.
 use Rattle.std.specs.Prelude.{◌≡◌, ℕ, [], All}
-use Rattle.profile_limits.specs.Limits.{MOST_ENVIRONMENT, MOST_JOURNAL, MOST_PORT}
+use Rattle.plain_limits.specs.Limits.{MOST_ENVIRONMENT, MOST_JOURNAL, MOST_PORT}
 use Rattle.turn_code.specs.declared.draft.Draft.{Draft}
 use Rattle.bit_line.specs.Deframing.{Stands}
 use Rattle.bit_line.specs.Stuffers.{Gave}
 use Rattle.resend_store.specs.declared.messages.Mode.{Mode}
-use Rattle.link_machine.specs.Kept.{opened_book}
-use Rattle.link_side.specs.Half.{first_half}
-use Rattle.link_heart.specs.Known.{AreNames}
-use Rattle.link_heart.specs.Wanted.{wanted, Has, IsFirstLacking}
+use Rattle.actor_machine.specs.Kept.{opened_book}
+use Rattle.link_transceiver.specs.Half.{first_half}
+use Rattle.link_processes.specs.Known.{AreNames}
+use Rattle.link_processes.specs.Wanted.{wanted, Has, IsFirstLacking}
 use Rattle.link_term.specs.declared.opening.OpenError.{OpenError}
 use Rattle.link_term.specs.declared.opening.OpenError.TheVariants.{NoName, NoMemory}
 use Rattle.link_term.specs.Term.{Term}

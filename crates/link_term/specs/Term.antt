@@ -2,12 +2,12 @@
 use Rattle.std.specs.Prelude.{◌≡◌, ℕ, true, Some, Result, Ok, Err}
 use Rattle.bit_line.specs.declared.deframer.Deframer.{Deframer}
 use Rattle.bit_line.specs.declared.stuffer.Stuffer.{Stuffer}
-use Rattle.link_machine.specs.Step.{Answer, Says}
-use Rattle.link_machine.specs.declared.reply.Reply.{Reply}
-use Rattle.link_machine.specs.declared.reply.Reply.TheVariants as reply
-use Rattle.link_side.specs.Half.{Half}
-use Rattle.link_heart.specs.declared.heart.Heart.{Heart}
-use Rattle.link_heart.specs.Machine.{with_side, tidied, is_low, tick_refusal}
+use Rattle.actor_machine.specs.Step.{Answer, Says}
+use Rattle.actor_machine.specs.declared.reply.Reply.{Reply}
+use Rattle.actor_machine.specs.declared.reply.Reply.TheVariants as reply
+use Rattle.link_transceiver.specs.Half.{Half}
+use Rattle.link_processes.specs.declared.heart.Heart.{Heart}
+use Rattle.link_processes.specs.Machine.{with_side, tidied, is_low, tick_refusal}
 use Rattle.link_term.specs.declared.answers.CallError.{CallError}
 use Rattle.link_term.specs.declared.answers.CallError.TheVariants.{Refused, NoMemory}
 

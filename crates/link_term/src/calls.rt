@@ -1,18 +1,18 @@
 //! Commands, ticks, and units out.
 ghost use Rattle.std.specs.Prelude.{◌≡◌, true, false, None, IsOk, OnOk, OnErr, IfOk, IfErr, IfSome};
 ghost use Rattle.su_octets.specs.Whole.{IsWhole};
-ghost use Rattle.link_machine.specs.Ledger.{ask};
-ghost use Rattle.link_machine.specs.declared.event.Event.TheVariants.{Advance};
-ghost use Rattle.link_machine.specs.declared.reply.Reply.TheVariants as reply;
-ghost use Rattle.link_heart.specs.Offering.{command_event};
-ghost use Rattle.link_heart.specs.Machine.{offered, sent, tidied, is_low, tick_refusal};
+ghost use Rattle.actor_machine.specs.Ledger.{ask};
+ghost use Rattle.actor_machine.specs.declared.event.Event.TheVariants.{Advance};
+ghost use Rattle.actor_machine.specs.declared.reply.Reply.TheVariants as reply;
+ghost use Rattle.link_processes.specs.Offering.{command_event};
+ghost use Rattle.link_processes.specs.Machine.{offered, sent, tidied, is_low, tick_refusal};
 ghost use Rattle.link_term.specs.Kept.{Keeps, Sends};
 ghost use Rattle.link_term.specs.Term.{with_heart, IsAnswer, IsTickError, Leaves};
 
 use crate::answers::CallError;
 use crate::terminal::Terminal;
-use link_heart::Command;
-use link_machine::Refusal;
+use actor_machine::Refusal;
+use link_processes::Command;
 use std::alloc::AllocError;
 use su_octets::Unit;
 

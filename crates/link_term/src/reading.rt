@@ -1,16 +1,16 @@
 //! The line in.
 ghost use Rattle.std.specs.Prelude.{◌≡◌, ◌⊎◌, ◌+◌, ◌<◌, ◌≤◌, ◌∷◌, [], true, false, length, take};
 ghost use Rattle.bit_line.specs.Events.{closings};
-ghost use Rattle.link_heart.specs.Machine.{tidied, is_low};
-ghost use Rattle.link_heart.specs.declared.heart.Heart.{Heart as PlainHeart};
-ghost use Rattle.link_side.specs.Limits.{KEPT_MESSAGES};
+ghost use Rattle.link_processes.specs.Machine.{tidied, is_low};
+ghost use Rattle.link_processes.specs.declared.heart.Heart.{Heart as PlainHeart};
+ghost use Rattle.link_transceiver.specs.Limits.{KEPT_MESSAGES};
 ghost use Rattle.link_term.specs.Hearing.{Reads, AreTaken, Heard};
 ghost use Rattle.link_term.specs.Kept.{Took};
 
 use crate::laws::unacknowledged_messages_stay;
 use crate::terminal::Terminal;
 use bit_line::LineEvent;
-use link_heart::Heart;
+use link_processes::Heart;
 use su_octets::decode;
 
 /// What the octets of a unit from the line lead to.

@@ -3,19 +3,19 @@
 use Rattle.std.specs.Prelude.{◌≡◌, ◌≢◌, ◌⊎◌, ◌≤◌, ℕ, List, Option, None}
 use Rattle.clap.specs.declared.error.kind.ErrorKind.{ErrorKind}
 use Rattle.clap.specs.declared.error.kind.ErrorKind.TheVariants.{DisplayHelp, DisplayVersion}
-use Rattle.profile_limits.specs.Limits.{LEAST_WORKERS, MOST_WORKERS}
-use Rattle.text_check.specs.Checked.{IsGiven, PrintsCosts, PrintsRefusal}
+use Rattle.plain_limits.specs.Limits.{LEAST_WORKERS, MOST_WORKERS}
+use Rattle.script_check.specs.Checked.{IsGiven, PrintsCosts, PrintsRefusal}
 use Rattle.script_play.specs.Played.{IsOnSet, IsPlayed, IsPlayedInPart, IsRefused}
 use Rattle.pool_soak.specs.Findings.{IsSoaked, IsSoakedInVain, IsTurnedDown}
-use Rattle.unit_frame.specs.Printed.{PrintsUnit, PrintsFault}
-use Rattle.line_command.specs.Filters.{Line as Octets}
-use Rattle.line_command.specs.Opening.{IsNoSet}
-use Rattle.line_command.specs.Spoken.{SpokeOver, BegunOver, IsUntouched}
-use Rattle.command_words.specs.declared.ends.LineEnd.{LineEnd}
+use Rattle.mtp2_frame.specs.Printed.{PrintsUnit, PrintsFault}
+use Rattle.mtp2_line.specs.Filters.{Line as Octets}
+use Rattle.mtp2_line.specs.Opening.{IsNoSet}
+use Rattle.mtp2_line.specs.Spoken.{SpokeOver, BegunOver, IsUntouched}
+use Rattle.mtp2_words.specs.declared.ends.LineEnd.{LineEnd}
 use Rattle.mtp2_play.specs.Sets.{own_text_of}
-use Rattle.command_words.specs.declared.words.Named.{Named}
-use Rattle.command_words.specs.declared.words.Request.{Request}
-use Rattle.command_words.specs.declared.words.Request.TheVariants.{Check, Play, Soak, Line, Frame}
+use Rattle.mtp2_words.specs.declared.words.Named.{Named}
+use Rattle.mtp2_words.specs.declared.words.Request.{Request}
+use Rattle.mtp2_words.specs.declared.words.Request.TheVariants.{Check, Play, Soak, Line, Frame}
 
 -- the exit statuses: done, an expectation failed or something differs, refused, usage, failed
 abbrev pub IsStatus : ℕ → Type 0

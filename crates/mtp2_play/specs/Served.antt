@@ -3,11 +3,11 @@ use Rattle.std.specs.Prelude.{◌≡◌, ◌⊎◌, ◌≢◌, ℕ, List, []}
 use Rattle.clap.specs.Words.{Text, fault_of, subcommand_of}
 use Rattle.clap.specs.declared.error.kind.ErrorKind.{ErrorKind}
 use Rattle.clap.specs.declared.error.kind.ErrorKind.TheVariants.{OutOfMemory}
-use Rattle.line_command.specs.Filters.{Line as Octets}
-use Rattle.command_words.specs.Asked.{IsAskedBy}
-use Rattle.command_words.specs.Commands.{all_commands}
-use Rattle.command_words.specs.TurnedDown.{IsTurnedDown}
-use Rattle.command_words.specs.declared.words.Request.{Request}
+use Rattle.mtp2_line.specs.Filters.{Line as Octets}
+use Rattle.mtp2_words.specs.Asked.{IsAskedBy}
+use Rattle.mtp2_words.specs.Commands.{all_commands}
+use Rattle.mtp2_words.specs.TurnedDown.{IsTurnedDown}
+use Rattle.mtp2_words.specs.declared.words.Request.{Request}
 use Rattle.mtp2_play.specs.Printed.{IsAnswered, IsFault}
 
 -- the exit status where that is told: 0 for help and the version alone, 3 for a fault of the words alone, else 4

@@ -1,14 +1,14 @@
 -- The books that `soak` has worked on.
 use Rattle.std.specs.Prelude.{◌≡◌, ℕ, List, length, Option, None, Some}
 use Rattle.std.specs.List.{All}
-use Rattle.profile_limits.specs.Limits.{USUAL_ENVIRONMENT, USUAL_JOURNAL, USUAL_PORT}
+use Rattle.plain_limits.specs.Limits.{USUAL_ENVIRONMENT, USUAL_JOURNAL, USUAL_PORT}
 use Rattle.turn_code.specs.declared.draft.Draft.{Draft}
-use Rattle.link_machine.specs.Ledger.{Ledger}
-use Rattle.link_machine.specs.Kept.{opened_book}
-use Rattle.text_check.specs.mtp2_text_types.standard_text.TheConstants.{STANDARD}
+use Rattle.actor_machine.specs.Ledger.{Ledger}
+use Rattle.actor_machine.specs.Kept.{opened_book}
+use Rattle.script_check.specs.mtp2_text_types.standard_text.TheConstants.{STANDARD}
 use Rattle.turn_pool.specs.Receipts.{AllStand}
 use Rattle.turn_pool.specs.declared.receipt.Receipt.{Receipt}
-use Rattle.text_check.specs.Loaded.{IsLoaded}
+use Rattle.script_check.specs.Loaded.{IsLoaded}
 
 -- how many signals each port of a link holds, how many may wait for the environment, and how many events its journal holds: as where nobody says it
 abbrev pub PORT : ℕ

@@ -4,9 +4,9 @@ use Rattle.std.specs.Io.KnownBytes.{Appends}
 use Rattle.script_lines.specs.Printed.{script_fault_text}
 use Rattle.script_lines.specs.declared.script.ScriptFault.{ScriptFault}
 use Rattle.script_lines.specs.declared.script.ScriptFault.TheVariants.{BadLine, NoMemory}
-use Rattle.text_check.specs.Printed.{line_of}
+use Rattle.script_check.specs.Printed.{line_of}
 use Rattle.pool_soak.specs.Scripts.{PlainSoak, soak_of}
-use Rattle.soak_findings.specs.Findings.{finding_text, seats_finding, audit_finding}
+use Rattle.pool_soak.specs.FindingLines.{finding_text, seats_finding, audit_finding}
 
 -- two lines: whether the seats agree, and whether the receipts stand
 abbrev pub lines_with : Bool → Bool → List ℕ

@@ -2,8 +2,8 @@
 use Rattle.std.specs.Prelude.{ℕ, ◌≡◌, nat_lt, ◌&&◌, if◌then◌else◌, List, [], ◌∷◌, ◌++◌, length, map, Option, None, Some, option_and_then, Result, Ok, Err, codes}
 use Rattle.std.specs.Int.{is_in_range}
 use Rattle.std.specs.Str.{bytes_eq}
-use Rattle.profile_limits.specs.Limits.{MOST_LINKS}
-use Rattle.text_reader.specs.Reading.{LONGEST}
+use Rattle.plain_limits.specs.Limits.{MOST_LINKS}
+use Rattle.plain_text.specs.Reading.{LONGEST}
 use Rattle.script_lines.specs.Numbers.{count_of}
 use Rattle.script_lines.specs.Lines.{PlainLine, lines_of, line_at}
 use Rattle.script_lines.specs.Commands.{PlainOffer, PlainCommand, plain_offer, command_of}

@@ -5,13 +5,13 @@ use Rattle.std.specs.Io.KnownBytes.{Appends}
 use Rattle.turn_code.specs.declared.draft.Draft.{Draft}
 use Rattle.script_lines.specs.declared.script.ScriptFault.{ScriptFault}
 use Rattle.script_lines.specs.declared.script.ScriptFault.TheVariants.{BadLine, NoMemory}
-use Rattle.group_play.specs.Played.{first_book, IsWritten, IsMissed}
-use Rattle.term_lines.specs.TermScripts.{PlainAnyScript, book, terminal}
-use Rattle.group_lines.specs.GroupScripts.{PlainPlayScript, other, group, play_script_of}
-use Rattle.text_check.specs.Checked.{IsGiven, IsSetOf, PrintsRefusal}
-use Rattle.group_play.specs.Lines.{line_of}
-use Rattle.group_play.specs.TermRuns.{IsOfNew, IsTermWritten, IsTermMissed, LacksName}
-use Rattle.group_play.specs.GroupRuns.{IsOfNewSet, IsGroupWritten, IsGroupMissed}
+use Rattle.script_group.specs.Played.{first_book, IsWritten, IsMissed}
+use Rattle.script_links.specs.TermScripts.{PlainAnyScript, book, terminal}
+use Rattle.script_links.specs.GroupScripts.{PlainPlayScript, other, group, play_script_of}
+use Rattle.script_check.specs.Checked.{IsGiven, IsSetOf, PrintsRefusal}
+use Rattle.script_group.specs.Lines.{line_of}
+use Rattle.script_group.specs.TermRuns.{IsOfNew, IsTermWritten, IsTermMissed, LacksName}
+use Rattle.script_group.specs.GroupRuns.{IsOfNewSet, IsGroupWritten, IsGroupMissed}
 
 -- all commands of a script were obeyed, and their lines written: by a book of the set, or by a new terminal over it
 abbrev pub IsOtherObeyed : Draft → PlainAnyScript → Option (List ℕ) → Option (List ℕ) → Type 0

@@ -6,8 +6,8 @@ use Rattle.sdl_ast.specs.Views.{choice_of, else_choice}
 use Rattle.sdl_meaning.specs.Act.{is_truth}
 use Rattle.sdl_meaning.specs.Outcomes.{Scope, connector_at}
 use Rattle.sdl_meaning.specs.Code.{number_or_zero, else_joins, answers_joins}
-use Rattle.sdl_actions.specs.Marks.{has}
-use Rattle.sdl_actions.specs.Scopes.{question_in}
+use Rattle.sdl_emit.specs.Marks.{has}
+use Rattle.sdl_emit.specs.Scopes.{question_in}
 
 -- those of a DECISION: the JOINs of ELSE come last in a Boolean one, and first in an Integer one
 abbrev pub decision_joins : Scope → Decision → List Join

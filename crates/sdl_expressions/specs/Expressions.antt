@@ -15,7 +15,7 @@ use Rattle.sdl_ast.specs.declared.expression.BinaryOperator.TheVariants.{Or, Xor
 use Rattle.sdl_expressions.specs.declared.level.Level.{Level}
 use Rattle.sdl_expressions.specs.declared.level.Level.TheVariants.{Disjunctions, Conjunctions, Relations, Sums, Products}
 use Rattle.sdl_ast.specs.Plain.{Tree, number, truth, variable, unary, binary}
-use Rattle.sdl_tokens.specs.Grammar.{Grammar}
+use Rattle.sdl_expressions.specs.Grammar.{Grammar}
 use Rattle.sdl_ast.specs.Places.{place_of, placed}
 
 -- What a token is in an expression, some at a place.

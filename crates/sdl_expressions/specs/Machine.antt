@@ -13,7 +13,7 @@ use Rattle.sdl_ast.specs.Plain.{Tree, number, truth, variable, unary, binary}
 use Rattle.sdl_expressions.specs.Expressions.{Sign, leaf, joins, minus, denies, opens, closes, other, sign}
 use Rattle.sdl_ast.specs.Places.{place_of, placed}
 use Rattle.sdl_ast.specs.Heights.{tree_height}
-use Rattle.sdl_tokens.specs.Readings.{Reading, read, fails, At}
+use Rattle.sdl_expressions.specs.Readings.{Reading, read, fails, At}
 
 -- how an operator is put on operands
 pub record Build : Type 0 where

@@ -1,6 +1,6 @@
 -- What the compiler makes of a transition.
 use Rattle.std.specs.Prelude.{◌≡◌, ℕ, ◌≤◌, List, [], map}
-use Rattle.profile_limits.specs.Limits.{MOST_EFFECTS, MOST_INSTRUCTIONS, MOST_OPERANDS}
+use Rattle.plain_limits.specs.Limits.{MOST_EFFECTS, MOST_INSTRUCTIONS, MOST_OPERANDS}
 use Rattle.turn_code.specs.declared.value.Sort.{Sort}
 use Rattle.turn_code.specs.declared.variable_set.VariableSet.{VariableSet}
 use Rattle.turn_code.specs.declared.instruction.Instruction.{Instruction}
@@ -13,8 +13,8 @@ use Rattle.sdl_meaning.specs.Outcomes.{Scope}
 use Rattle.sdl_meaning.specs.Code.{ArePlaced, piece_code}
 use Rattle.sdl_meaning.specs.Declarations.{drafted_signals, drafted_variables}
 use Rattle.sdl_facts.specs.Facts.{shapes_from, piece_sets}
-use Rattle.sdl_counts.specs.declared.counts.Counted.TheVariants.{Instructions, Effects}
-use Rattle.sdl_counts.specs.Counts.{weight, number_at, AreCounts}
+use Rattle.sdl_facts.specs.declared.counts.Counted.TheVariants.{Instructions, Effects}
+use Rattle.sdl_facts.specs.PlaceCounts.{weight, number_at, AreCounts}
 
 -- the certificate names the longest path
 pub record IsLongestOf (c : Scope) (q : Piece) (k : Cert) : Type 0 where

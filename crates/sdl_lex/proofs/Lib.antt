@@ -1,9 +1,10 @@
 pub mod ChainLemmas
 pub mod KindLemmas
 pub mod NameLemmas
+pub mod NameRoom
 pub mod OneLemmas
-pub mod TokenLemmas
 pub mod QuoteLemmas
 pub mod SliceLemmas
+pub mod TokenLemmas
 pub mod UniqueLemmas
 pub mod WordLemmas

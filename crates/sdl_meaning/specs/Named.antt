@@ -11,7 +11,7 @@ use Rattle.sdl_sound.specs.sdl_ast_types.tree.Range.{Range}
 use Rattle.sdl_sound.specs.Plain.{Tree, number, truth, variable, unary, binary, PlainAssignment, PlainSending, PlainAction, task, output, set_timer, reset_timer, Text, falls, ends, does, decides, Choice, nothing_else, otherwise, answer, PlainConnection}
 use Rattle.turn_code.specs.declared.input.Address.{Address}
 use Rattle.std.specs.List.{flat_map}
-use Rattle.profile_limits.specs.Limits.{MOST_PARAMETERS}
+use Rattle.plain_limits.specs.Limits.{MOST_PARAMETERS}
 use Rattle.sdl_sound.specs.TableNames.{variables_of}
 use Rattle.sdl_sound.specs.Statements.{statements_of, joins_of}
 use Rattle.sdl_sound.specs.Going.{goes_on, choice_goes_on}

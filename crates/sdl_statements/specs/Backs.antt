@@ -6,12 +6,12 @@ use Rattle.sdl_ast.specs.declared.tree.Party.{Party}
 use Rattle.sdl_ast.specs.Plain.{PlainProcess, PlainBlock}
 use Rattle.sdl_tables.specs.Routes.{carries}
 use Rattle.sdl_sound.specs.Receivers.{party_of}
-use Rattle.sdl_senders.specs.Parties.{party_number}
+use Rattle.sdl_scopes.specs.Parties.{party_number}
 use Rattle.sdl_sound.specs.Actions.{Origin}
-use Rattle.sdl_senders.specs.Known.{Knows}
-use Rattle.sdl_senders.specs.Reaches.{is_marked}
+use Rattle.sdl_scopes.specs.Known.{Knows}
+use Rattle.sdl_scopes.specs.Reaches.{is_marked}
 use Rattle.sdl_statements.specs.declared.back_table.BackTable.{BackTable}
-use Rattle.sdl_senders.specs.declared.known.KnownSenders.{KnownSenders}
+use Rattle.sdl_scopes.specs.declared.known.KnownSenders.{KnownSenders}
 
 -- a process gets a signal to each party whose number is marked
 abbrev pub GetThere : PlainBlock → PlainProcess → List ℕ → List Bool → Type 0

@@ -12,12 +12,12 @@ use Rattle.sdl_sound.specs.Joins.{comes, reaches}
 use Rattle.sdl_sound.specs.Orders.{targets_of}
 use Rattle.sdl_sound.specs.Actions.{connection_origins}
 use Rattle.sdl_statements.specs.Distinct.{has_sender, distinct}
-use Rattle.sdl_senders.specs.Known.{AreSenders}
-use Rattle.sdl_senders.specs.Reaches.{PlainSent, sent_of, senders_in, is_marked}
+use Rattle.sdl_scopes.specs.Known.{AreSenders}
+use Rattle.sdl_scopes.specs.Reaches.{PlainSent, sent_of, senders_in, is_marked}
 use Rattle.sdl_statements.specs.declared.reaching.Joining.{Joining}
-use Rattle.sdl_senders.specs.declared.sent.Sent.{Sent}
-use Rattle.sdl_senders.specs.declared.sender.Sender.{Sender}
-use Rattle.sdl_senders.specs.declared.sender.Sender.TheVariants.{Nobody}
+use Rattle.sdl_scopes.specs.declared.sent.Sent.{Sent}
+use Rattle.sdl_scopes.specs.declared.sender.Sender.{Sender}
+use Rattle.sdl_scopes.specs.declared.sender.Sender.TheVariants.{Nobody}
 use Rattle.sdl_statements.specs.declared.sender_table.SenderTable.{SenderTable}
 
 -- the rows of what an INPUT takes, and the numbers of the connections that it joins

@@ -8,10 +8,10 @@ use Rattle.sdl_ast.specs.declared.tree.Party.{Party}
 use Rattle.sdl_ast.specs.Plain.{PlainStimulus, PlainInput, PlainProcess, PlainBlock}
 use Rattle.sdl_tables.specs.Names.{number_of, add_name, input_parts}
 use Rattle.sdl_sound.specs.Receivers.{answers}
-use Rattle.sdl_senders.specs.Parties.{party_number, IsSender, gets_back}
-use Rattle.sdl_senders.specs.declared.sender.Numbered.{Numbered}
-use Rattle.sdl_senders.specs.declared.sender.Sender.{Sender}
-use Rattle.sdl_senders.specs.declared.sender.Sender.TheVariants as sent_by
+use Rattle.sdl_scopes.specs.Parties.{party_number, IsSender, gets_back}
+use Rattle.sdl_scopes.specs.declared.sender.Numbered.{Numbered}
+use Rattle.sdl_scopes.specs.declared.sender.Sender.{Sender}
+use Rattle.sdl_scopes.specs.declared.sender.Sender.TheVariants as sent_by
 use Rattle.sdl_statements.specs.declared.sender_table.SenderTable.{SenderTable}
 
 abbrev pub numbered : PlainBlock → Party → Numbered

@@ -5,8 +5,8 @@ use Rattle.sdl_ast.specs.Plain.{PlainProcess, PlainBlock}
 use Rattle.sdl_ast.specs.declared.expression.Identifier.{Identifier}
 use Rattle.sdl_tables.specs.Names.{number_of}
 use Rattle.sdl_sound.specs.Receivers.{party_of, carries, answers}
-use Rattle.sdl_senders.specs.Parties.{party_number, IsSender, gets_back}
-use Rattle.sdl_senders.specs.Reaches.{is_marked}
+use Rattle.sdl_scopes.specs.Parties.{party_number, IsSender, gets_back}
+use Rattle.sdl_scopes.specs.Reaches.{is_marked}
 use Rattle.sdl_ast.specs.declared.tree.Party as the_party
 use Rattle.sdl_statements.specs.declared.gathered.Gathered.{Gathered}
 use Rattle.sdl_statements.specs.declared.sources.Senders.{Senders}

@@ -12,8 +12,8 @@ use Rattle.sdl_ast.specs.declared.tree.End.TheVariants.{NextState, Stop, Join}
 use Rattle.sdl_ast.specs.declared.tree.Range.{Range}
 use Rattle.sdl_ast.specs.declared.tree.Range.TheVariants.{Compared}
 use Rattle.sdl_ast.specs.Plain.{PlainAssignment, PlainSending, PlainAction, task, output, set_timer, reset_timer, Text, falls, ends, does, decides, Choice, nothing_else, otherwise, answer, PlainQuestion, PlainHead, Tree, PlainStimulus, PlainClause, input, save, PlainState, PlainStart, PlainEntity, process, PlainBlock, PlainConnection, PlainSection, in_state, in_connection, PlainProcessHead, process_head, process_from, from_to}
-use Rattle.sdl_tokens.specs.Tokens.{begins, a_word, a_symbol, a_number, a_name, a_count, the_number, a_closing, a_quoted, a_destination, an_entity, a_declaration, a_clause, an_action, an_end, a_choice, a_relation, a_section}
-use Rattle.sdl_tokens.specs.Grammar.{Grammar, give, token, ◌>>=◌, many, choice, optional, separated_from, separated, list_in_parentheses}
+use Rattle.sdl_expressions.specs.Tokens.{begins, a_word, a_symbol, a_number, a_name, a_count, the_number, a_closing, a_quoted, a_destination, an_entity, a_declaration, a_clause, an_action, an_end, a_choice, a_relation, a_section}
+use Rattle.sdl_expressions.specs.Grammar.{Grammar, give, token, ◌>>=◌, many, choice, optional, separated_from, separated, list_in_parentheses}
 use Rattle.sdl_expressions.specs.Expressions.{expression_syntax}
 use Rattle.sdl_tree.specs.DeclarationSyntax.{names_syntax, terminator_syntax, signals_syntax, route_syntax, connect_syntax, constant_syntax, declaration_syntax}
 

@@ -2,13 +2,13 @@
 use Rattle.std.specs.Prelude.{◌≡◌, ℕ, ◌<◌, Bool, true, false, not, List, [], Option, Some, length, slice_get, if◌then◌else◌, ⊤}
 use Rattle.std.specs.Option.{option_map_or, option_and_then}
 use Rattle.std.specs.Global.{Vec}
-use Rattle.unset_paths.specs.declared.Graph.{Graph}
-use Rattle.unset_paths.specs.declared.Fate.{Fate}
-use Rattle.unset_paths.specs.declared.Fate.TheVariants.{Unset, Set}
-use Rattle.unset_paths.specs.declared.Step as number
-use Rattle.unset_paths.specs.declared.Step.TheVariants.{Start as First, Input as By}
-use Rattle.unset_paths.specs.Graph.{IsClosedSet, ReadsUnset, IsShortest}
-use Rattle.unset_paths.specs.Order.{NotAfter, IsFirst}
+use Rattle.sdl_unset.specs.declared.paths.Graph.{Graph}
+use Rattle.sdl_unset.specs.declared.paths.Fate.{Fate}
+use Rattle.sdl_unset.specs.declared.paths.Fate.TheVariants.{Unset, Set}
+use Rattle.sdl_unset.specs.declared.paths.Step as number
+use Rattle.sdl_unset.specs.declared.paths.Step.TheVariants.{Start as First, Input as By}
+use Rattle.sdl_unset.specs.Graph.{IsClosedSet, ReadsUnset, IsShortest}
+use Rattle.sdl_unset.specs.Order.{NotAfter, IsFirst}
 use Rattle.sdl_ast.specs.Plain.{PlainProcess, PlainBlock}
 use Rattle.sdl_ast.specs.declared.expression.Identifier.{Identifier}
 use Rattle.sdl_tables.specs.Names.{same_name, number_of, variables_of, timers_of, states_of, Input, inputs_of, signal_named}

@@ -3,11 +3,11 @@ use Rattle.std.specs.Prelude.{◌≡◌, ◌↔◌, ℕ, ◌<◌, Bool, true, fa
 use Rattle.std.specs.List.{AllZip}
 use Rattle.std.specs.Option.{option_map_or}
 use Rattle.std.specs.Global.{Vec}
-use Rattle.profile_limits.specs.Limits.{MOST_VARIABLES}
-use Rattle.unset_paths.specs.Graph.{has, Passes}
-use Rattle.unset_paths.specs.Order.{AreSorted}
-use Rattle.unset_paths.specs.declared.Passage.{Passage}
-use Rattle.unset_paths.specs.declared.Summary.{Summary}
+use Rattle.plain_limits.specs.Limits.{MOST_VARIABLES}
+use Rattle.sdl_unset.specs.Graph.{has, Passes}
+use Rattle.sdl_unset.specs.Order.{AreSorted}
+use Rattle.sdl_unset.specs.declared.paths.Passage.{Passage}
+use Rattle.sdl_unset.specs.declared.paths.Summary.{Summary}
 use Rattle.sdl_ast.specs.declared.expression.Identifier.{Identifier}
 use Rattle.sdl_ast.specs.declared.tree.End.{End}
 use Rattle.sdl_ast.specs.Plain.{PlainAction, task, output, set_timer, reset_timer, Text, Choice, PlainProcess}

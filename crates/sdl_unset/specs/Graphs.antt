@@ -2,10 +2,10 @@
 use Rattle.std.specs.Prelude.{◌≡◌, ℕ, true, List, Some, slice_get, ◌↔◌}
 use Rattle.std.specs.List.{AllZip}
 use Rattle.std.specs.Global.{Vec}
-use Rattle.unset_paths.specs.declared.Summary.{Summary}
-use Rattle.unset_paths.specs.declared.Graph.{Graph}
-use Rattle.unset_paths.specs.Graph.{has, Passes}
-use Rattle.unset_paths.specs.Order.{AreSorted}
+use Rattle.sdl_unset.specs.declared.paths.Summary.{Summary}
+use Rattle.sdl_unset.specs.declared.paths.Graph.{Graph}
+use Rattle.sdl_unset.specs.Graph.{has, Passes}
+use Rattle.sdl_unset.specs.Order.{AreSorted}
 use Rattle.sdl_ast.specs.Plain.{PlainProcess}
 use Rattle.sdl_ast.specs.declared.expression.Identifier.{Identifier}
 use Rattle.sdl_tables.specs.Names.{variable_names, Input, inputs_by_state}

@@ -2,8 +2,8 @@
 use Rattle.std.specs.Prelude.{◌≡◌, ℕ, zero, suc, ◌+◌, ◌%◌, ◌<◌, ◌≤◌, Bool, false, nat_eq, nat_le, if◌then◌else◌, List, [], ◌∷◌, ◌++◌, length, get_or, Option, None, Some}
 use Rattle.std.specs.List.{list_any, IsDistinct}
 use Rattle.std.specs.FinMap as finite
-use Rattle.profile_limits.specs.Limits.{LAST_TICK}
-use Rattle.slot_lists.specs.Sizes.{SLOTS}
+use Rattle.plain_limits.specs.Limits.{LAST_TICK}
+use Rattle.tick_wheel.specs.Sizes.{SLOTS}
 use Rattle.tick_wheel.specs.Table.{NoneDue, timer_at, PLACES}
 use Rattle.tick_wheel.specs.Timers.{Deadlines}
 use Rattle.tick_wheel.specs.declared.Due.{Due}

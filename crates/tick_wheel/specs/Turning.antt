@@ -3,7 +3,7 @@ use Rattle.std.specs.Prelude.{ℕ, ◌+◌, ◌-◌, ◌%◌, ◌^◌, Bool, nat
 use Rattle.std.specs.List.{list_any, range_with_len}
 use Rattle.std.specs.Coded.{Coded, code_by, coded×, coded_ℕ, coded_list}
 use Rattle.std.specs.FinMap as finite
-use Rattle.slot_lists.specs.Sizes.{SLOTS}
+use Rattle.tick_wheel.specs.Sizes.{SLOTS}
 use Rattle.tick_wheel.specs.TimerId.{TimerId}
 use Rattle.tick_wheel.specs.Timers.{Deadlines, Timers, timer_id_code, pairs}
 use Rattle.tick_wheel.specs.declared.Due.{Due}

@@ -1,6 +1,6 @@
 -- What the certificate of a transition says of its code.
 use Rattle.std.specs.Prelude.{◌≡◌, ℕ, ◌≤◌, Some}
-use Rattle.bare_words.specs.Limits.{MOST_EFFECTS, MOST_INSTRUCTIONS, MOST_OPERANDS}
+use Rattle.turn_words.specs.Limits.{MOST_EFFECTS, MOST_INSTRUCTIONS, MOST_OPERANDS}
 use Rattle.turn_code.specs.Transitions.{Transition, transition_at}
 use Rattle.turn_code.specs.Rules.{greatest, depths}
 use Rattle.turn_code.specs.Paths.{IsLongest, IsMostEffects}

@@ -3,7 +3,7 @@ use Rattle.std.specs.Prelude.{◌≡◌, ℕ, List, Some, slice_get}
 use Rattle.turn_code.specs.Valid.{IsValid}
 use Rattle.turn_code.specs.declared.draft.Draft.{Draft}
 use Rattle.turn_code.specs.declared.draft.DraftProcess.{DraftProcess}
-use Rattle.bare_words.specs.Sorts.{sort_bits, sorts_of, AreBitsOf}
+use Rattle.turn_words.specs.Sorts.{sort_bits, sorts_of, AreBitsOf}
 
 -- at the place of each process stand the bits of its variables
 abbrev pub AreVariableBits : List DraftProcess → List ℕ → Type 0

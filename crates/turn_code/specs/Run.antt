@@ -1,7 +1,7 @@
 -- What code does: one instruction on a list of values with their sorts, and a run of as many of them as a turn may take.
 use Rattle.std.specs.Prelude.{◌≡◌, ℕ, zero, suc, ◌+◌, ℤ, pos, ◌+ℤ◌, ◌-ℤ◌, ◌*ℤ◌, neg_ℤ, int_lt, int_div, int_rem, Bool as Truth, not, ◌&&◌, ◌||◌, if◌then◌else◌, nat_le, List, [], ◌∷◌, ◌++◌, length, take, drop, reverse, Option, Some, None, slice_get, slice_set}
 use Rattle.std.specs.Int.{int_rem_euclid}
-use Rattle.profile_limits.specs.Limits.{MOST_INSTRUCTIONS}
+use Rattle.plain_limits.specs.Limits.{MOST_INSTRUCTIONS}
 use Rattle.turn_code.specs.Values.{wrap, holds, is_between, differ}
 use Rattle.turn_code.specs.declared.value.Value.{Value}
 use Rattle.turn_code.specs.declared.value.Value.TheVariants.{Int, Bool}

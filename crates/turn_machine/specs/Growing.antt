@@ -2,8 +2,8 @@
 use Rattle.std.specs.Prelude.{◌≡◌, ◌<◌, List, [], ◌∷◌, ◌++◌, length, Option, Some, None}
 use Rattle.turn_check.specs.Limits.{MOST_EFFECTS}
 use Rattle.turn_code.specs.declared.effect.Effect.{Effect}
-use Rattle.turn_check.specs.bare_words_types.after.Given.{Given}
-use Rattle.turn_check.specs.bare_words_types.piece.Piece.{Piece}
+use Rattle.turn_check.specs.turn_words_types.after.Given.{Given}
+use Rattle.turn_check.specs.turn_words_types.piece.Piece.{Piece}
 use Rattle.turn_check.specs.Meant.{IsEffectOf}
 use Rattle.turn_check.specs.Sorts.{IsOfSorts}
 

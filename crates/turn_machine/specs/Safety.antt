@@ -15,9 +15,9 @@ use Rattle.turn_code.specs.declared.instruction.Instruction.{Instruction}
 use Rattle.turn_code.specs.declared.machine.End.{End}
 use Rattle.turn_code.specs.declared.draft.Cert.{Cert}
 use Rattle.turn_code.specs.declared.draft.Draft.{Draft}
-use Rattle.turn_check.specs.bare_words_types.piece.Piece.{Piece}
-use Rattle.turn_check.specs.bare_words_types.sorts.Sorts.{Sorts}
-use Rattle.turn_check.specs.bare_words_types.words.Words.{Words}
+use Rattle.turn_check.specs.turn_words_types.piece.Piece.{Piece}
+use Rattle.turn_check.specs.turn_words_types.sorts.Sorts.{Sorts}
+use Rattle.turn_check.specs.turn_words_types.words.Words.{Words}
 use Rattle.turn_check.specs.Bare.{bare_of}
 use Rattle.turn_check.specs.Sorts.{AreSortsOf}
 use Rattle.turn_check.specs.Steps.{Stand}

@@ -2,7 +2,7 @@
 use Rattle.std.specs.Prelude.{◌≡◌, ℕ, ◌≤◌, List, length, Option, Some}
 use Rattle.turn_check.specs.Limits.{MOST_VARIABLES}
 use Rattle.turn_check.specs.Sorts.{AreSortsOf}
-use Rattle.turn_check.specs.bare_words_types.sorts.Sorts.{Sorts}
+use Rattle.turn_check.specs.turn_words_types.sorts.Sorts.{Sorts}
 use Rattle.turn_code.specs.Run.{run, ended}
 use Rattle.turn_code.specs.Transitions.{Transition, transition_at}
 use Rattle.turn_code.specs.Rules.{KeepsSetLimits}

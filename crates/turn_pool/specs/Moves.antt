@@ -2,12 +2,12 @@
 use Rattle.std.specs.Prelude.{◌≡◌, ◌↔◌, ℕ, Result, Ok, Err, IsOk, IfOk, Some}
 use Rattle.turn_code.specs.declared.draft.Trigger.{Trigger}
 use Rattle.turn_machine.specs.Turn.{Turn}
-use Rattle.link_machine.specs.Ledger.{Ledger, ask, turn_out}
-use Rattle.link_machine.specs.Step.{Says}
-use Rattle.link_machine.specs.declared.event.Event.TheVariants.{Begin, Skip, Finish}
-use Rattle.link_machine.specs.declared.reply.Refusal.{Refusal}
-use Rattle.link_machine.specs.declared.reply.Report.{Report}
-use Rattle.link_machine.specs.declared.reply.Reply.TheVariants as reply
+use Rattle.actor_machine.specs.Ledger.{Ledger, ask, turn_out}
+use Rattle.actor_machine.specs.Step.{Says}
+use Rattle.actor_machine.specs.declared.event.Event.TheVariants.{Begin, Skip, Finish}
+use Rattle.actor_machine.specs.declared.reply.Refusal.{Refusal}
+use Rattle.actor_machine.specs.declared.reply.Report.{Report}
+use Rattle.actor_machine.specs.declared.reply.Reply.TheVariants as reply
 use Rattle.actor_book.specs.Answered.{answer_by, begun_by}
 use Rattle.turn_pool.specs.declared.moves.Move.{Move}
 use Rattle.turn_pool.specs.declared.moves.Move.TheVariants as move

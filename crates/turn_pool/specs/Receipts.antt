@@ -1,12 +1,12 @@
 -- Receipts, held against the journals.
 use Rattle.std.specs.Prelude.{◌≡◌, ℕ, List, Option, None, Some, slice_get}
-use Rattle.link_machine.specs.Kept.{IsKept}
-use Rattle.link_machine.specs.Ledger.{Ledger, ask, event_at, next, rebased}
-use Rattle.link_machine.specs.Step.{Says}
-use Rattle.link_machine.specs.declared.event.Event.{Event}
-use Rattle.link_machine.specs.declared.reply.Refusal.{Refusal}
-use Rattle.link_machine.specs.declared.reply.Reply.{Reply}
-use Rattle.link_machine.specs.declared.reply.Reply.TheVariants as reply
+use Rattle.actor_machine.specs.Kept.{IsKept}
+use Rattle.actor_machine.specs.Ledger.{Ledger, ask, event_at, next, rebased}
+use Rattle.actor_machine.specs.Step.{Says}
+use Rattle.actor_machine.specs.declared.event.Event.{Event}
+use Rattle.actor_machine.specs.declared.reply.Refusal.{Refusal}
+use Rattle.actor_machine.specs.declared.reply.Reply.{Reply}
+use Rattle.actor_machine.specs.declared.reply.Reply.TheVariants as reply
 use Rattle.turn_pool.specs.declared.receipt.PoolRefusal.{PoolRefusal}
 use Rattle.turn_pool.specs.declared.receipt.PoolRefusal.TheVariants.{NoLink, Closing, NoMemory, Refused}
 use Rattle.turn_pool.specs.declared.receipt.Receipt.{Receipt}

@@ -1,13 +1,13 @@
 -- Whose turn it is on a link.
 use Rattle.std.specs.Prelude.{IsSome, ◌≡◌, ◌<◌, ℕ, Option, None, Some, Ok, Err, option_map, slice_get}
 use Rattle.turn_machine.specs.Turn.{Turn}
-use Rattle.link_machine.specs.Core.{names_in}
-use Rattle.link_machine.specs.Ledger.{Ledger, room, state_of, turn_out}
-use Rattle.link_machine.specs.Refusals.{refuses}
-use Rattle.link_machine.specs.actor_names_types.name.ActorName.{ActorName}
-use Rattle.link_machine.specs.declared.event.Event.TheVariants.{Begin}
-use Rattle.link_machine.specs.declared.reply.Refusal.{Refusal}
-use Rattle.link_machine.specs.declared.reply.Refusal.TheVariants.{SkipFirst}
+use Rattle.actor_machine.specs.Core.{names_in}
+use Rattle.actor_machine.specs.Ledger.{Ledger, room, state_of, turn_out}
+use Rattle.actor_machine.specs.Refusals.{refuses}
+use Rattle.actor_machine.specs.declared.name.ActorName.{ActorName}
+use Rattle.actor_machine.specs.declared.event.Event.TheVariants.{Begin}
+use Rattle.actor_machine.specs.declared.reply.Refusal.{Refusal}
+use Rattle.actor_machine.specs.declared.reply.Refusal.TheVariants.{SkipFirst}
 use Rattle.turn_pool.specs.declared.moves.Move.{Move}
 use Rattle.turn_pool.specs.declared.moves.Move.TheVariants as move
 use Rattle.turn_pool.specs.declared.moves.Moved.{Moved}

@@ -1,7 +1,7 @@
 use Rattle.std.proofs.Common.{◌+◌, ◌≤◌, length, drop}
 use Rattle.bit_line.specs.Events.{closings}
-use Rattle.link_heart.specs.declared.heart.Heart.{Heart}
-use Rattle.link_side.specs.Limits.{KEPT_MESSAGES}
+use Rattle.link_processes.specs.declared.heart.Heart.{Heart}
+use Rattle.link_transceiver.specs.Limits.{KEPT_MESSAGES}
 use Rattle.link_term.specs.Hearing.{AreTaken}
 use Rattle.link_term.proofs.reading.take_events.Given as goal
 
