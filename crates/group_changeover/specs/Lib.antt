@@ -2,7 +2,7 @@ pub mod Changeovers
 pub mod Labels
 pub mod Laws
 pub mod Limits
-pub mod Marks
+pub mod Availability
 pub mod Places
 pub mod Printed
 pub mod Saying

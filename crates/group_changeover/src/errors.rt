@@ -51,7 +51,7 @@ pub enum AbandonError {
     NoMemory,
 }
 
-/// Why messages in hand aren't diverted.
+/// Why retrieved messages aren't diverted.
 #[derive(Clone, Copy, Debug, PartialEq, Eq, Error)]
 pub enum DivertFault {
     /// No link may take them: no other one is in service that didn't fail, and their own is out of service.

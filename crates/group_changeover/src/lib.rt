@@ -2,15 +2,16 @@
 //! answers, where each message stands, load sharing, and how a link set's refusals are printed.
 #![tactic(auto)]
 
+mod availability;
 mod changeover;
 mod errors;
 mod labels;
 mod laws;
-mod marks;
 mod saying;
 mod sharing;
 mod table;
 
+pub use availability::{Answer, Availability, Changing, SELECTIONS, T2};
 pub use changeover::{Changeover, Kind, read_changeover};
 pub use errors::{
     AbandonError, CommandError, DivertFault, FailError, LineError, LinkError, RebalanceError,
@@ -18,6 +19,5 @@ pub use errors::{
 };
 pub use labels::{Label, label_of};
 pub use laws::steps_keep_places;
-pub use marks::{Answer, Changing, Marks, PATIENCE, SELECTIONS};
 pub use sharing::{Counts, count_on, counts_of, pick, selection_of};
 pub use table::Table;

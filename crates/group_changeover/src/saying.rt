@@ -3,22 +3,22 @@ ghost use Rattle.std.specs.Prelude.{◌≡◌, ◌<◌, IfSome};
 ghost use Rattle.group_changeover.specs.Changeovers.{IsKind};
 ghost use Rattle.group_changeover.specs.Saying.{is_changing, is_out, is_waiting, number_in, order_after, acknowledgement_after, answer_in, reply_after};
 
+use crate::availability::{Answer, Availability, Changing, T2};
 use crate::changeover::Kind;
-use crate::marks::{Answer, Changing, Marks, PATIENCE};
 
 impl Changing {
     /// Whether its messages are handed out.
     pub fn is_out(self) -> bool
         ensures { result ≡ is_out self }
     {
-        self.hand.is_some()
+        self.retrieval.is_some()
     }
 
-    /// Whether nothing was answered yet, and fewer than `PATIENCE` ticks have passed since it began.
+    /// Whether nothing was answered yet, and fewer than Q.704's T2 ticks have passed since it began.
     pub fn is_waiting(self) -> bool
         ensures { result ≡ is_waiting self }
     {
-        self.answer.is_none() && self.waited < PATIENCE
+        self.answer.is_none() && self.waited < T2
     }
 
     /// The number that the far side told last, where it told one.
@@ -33,7 +33,7 @@ impl Changing {
     }
 }
 
-impl Marks {
+impl Availability {
     /// Whether its changeover goes on.
     pub fn is_changing(self) -> bool
         ensures { result ≡ is_changing self }

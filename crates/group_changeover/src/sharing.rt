@@ -3,8 +3,8 @@ ghost use Rattle.std.specs.Prelude.{◌≡◌, ◌+◌, ◌<◌, ◌≤◌, leng
 ghost use Rattle.group_changeover.specs.Limits.{SELECTIONS};
 ghost use Rattle.group_changeover.specs.Sharing as spec;
 
+use crate::availability::SELECTIONS as WIDTH;
 use crate::labels::label_of;
-use crate::marks::SELECTIONS as WIDTH;
 use resend_store::Msu;
 use std::collections::VecDeque;
 

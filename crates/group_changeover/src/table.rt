@@ -3,7 +3,7 @@ ghost use Rattle.std.specs.Prelude.{◌≡◌, ◌<◌, slice_set, Some};
 ghost use Rattle.group_changeover.specs.Limits.{SELECTIONS};
 ghost use Rattle.group_changeover.specs.Sharing.{link_of};
 
-use crate::marks::SELECTIONS as WIDTH;
+use crate::availability::SELECTIONS as WIDTH;
 
 /// The link of each selection, if it has one.
 #[derive(Clone, Copy, Debug, PartialEq, Eq)]

@@ -13,5 +13,5 @@ there-is (k ∷ ks) (suc l) d h = there-is ks l d (omega (arith, h))
 pub at_link : (did : Link → Link → Type 0) (l : ℕ) (ks : List Link) (d k : Link) → l < length ks → did (get_or ks l d) k → AtLink did l ks (slice_set ks l k)
 at_link did l ks d k h was = record { before = get_or ks l d; there = there-is ks l d h; after = k; links = refl; was = was }
 
-pub low_there : (l : ℕ) (ks : List Link) (d : Link) → l < length ks → is_low (get_or ks l d).terminal.heart ≡ true → low_at (slice_get ks l) ≡ true
+pub low_there : (l : ℕ) (ks : List Link) (d : Link) → l < length ks → is_low (get_or ks l d).terminal.processes ≡ true → low_at (slice_get ks l) ≡ true
 low_there l ks d h low = ap low_at (there-is ks l d h) ∙ low

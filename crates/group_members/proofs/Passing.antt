@@ -7,15 +7,15 @@ use Rattle.std.proofs.lemmas.List.Elements.{All-map}
 use Rattle.std.proofs.lemmas.List.Folds.{list_any_more}
 use Rattle.std.proofs.lemmas.List.Sums.{sum_by-drop_more}
 use Rattle.actor_machine.specs.declared.reply.Refusal.{Refusal}
-use Rattle.link_term.specs.link_processes_types.heart.Heart.{Heart}
+use Rattle.link_term.specs.link_processes_types.processes.Processes.{Processes}
 use Rattle.link_term.specs.Machine.{with_book, tidied, is_low, offered, tick_refusal}
 use Rattle.actor_machine.specs.Ledger.{ask, rebased}
 use Rattle.actor_machine.specs.Step.{Says}
 use Rattle.actor_machine.specs.declared.event.Event.TheVariants.{Advance}
 use Rattle.actor_machine.specs.declared.reply.Reply.TheVariants as reply
-use Rattle.link_term.specs.Term.{Term, with_heart}
-use Rattle.group_changeover.specs.declared.marks.Marks.{Marks}
-use Rattle.group_changeover.specs.Marks.{waits}
+use Rattle.link_term.specs.Term.{Term, with_processes}
+use Rattle.group_changeover.specs.declared.availability.Availability.{Availability}
+use Rattle.group_changeover.specs.Availability.{waits}
 use Rattle.group_members.specs.declared.link.Link.{Link}
 use Rattle.group_members.specs.Doing.{came_first}
 use Rattle.group_members.specs.Ticking.{roomy, HasRoom, LacksRoom, first_some, first_refusal, passed, due_in, due_at, all_due}
@@ -23,31 +23,31 @@ use Rattle.group_members.proofs.ByLinks.{there-is}
 
 -- ---- room
 
-low_by : (t : Heart) (b : Bool) → is_low t ≡ b → is_low (if b then with_book t (rebased t.book) else t) ≡ false
+low_by : (t : Processes) (b : Bool) → is_low t ≡ b → is_low (if b then with_book t (rebased t.book) else t) ≡ false
 unfolding rebased
 low_by t true e = refl
 low_by t false e = e
 
-low_after : (t : Heart) → is_low (tidied t) ≡ false
+low_after : (t : Processes) → is_low (tidied t) ≡ false
 unfolding tidied
 low_after t = low_by t (is_low t) refl
 
 pub all_roomy : (ks : List Link) → All HasRoom (map roomy ks)
-all_roomy ks = All-map HasRoom roomy ks (λ i d lt. low_after (get_or ks i d).terminal.heart)
+all_roomy ks = All-map HasRoom roomy ks (λ i d lt. low_after (get_or ks i d).terminal.processes)
 
 -- what has room stays as it is
-pub tidy_already : (t : Heart) → is_low t ≡ false → tidied t ≡ t
+pub tidy_already : (t : Processes) → is_low t ≡ false → tidied t ≡ t
 unfolding tidied
 tidy_already t e = ap (λ (b : Bool). if b then with_book t (rebased t.book) else t) e
 
-pub due_is : (n : ℕ) (t : Heart) (due : ℕ) → is_low t ≡ false → Says (reply.Passed due) ≡ (ask (tidied t).book (Advance n)).answer → due ≡ due_in (ask t.book (Advance n)).answer
-due_is n t due room is = ap due_in (is ∙ ap (λ (u : Heart). (ask u.book (Advance n)).answer) (tidy_already t room))
+pub due_is : (n : ℕ) (t : Processes) (due : ℕ) → is_low t ≡ false → Says (reply.Passed due) ≡ (ask (tidied t).book (Advance n)).answer → due ≡ due_in (ask t.book (Advance n)).answer
+due_is n t due room is = ap due_in (is ∙ ap (λ (u : Processes). (ask u.book (Advance n)).answer) (tidy_already t room))
 
 -- a terminal that has room makes none
-pub passes : (n : ℕ) (k : Link) (new : Term) (marks : Marks) → is_low k.terminal.heart ≡ false → new ≡ with_heart k.terminal (offered (Advance n) (tidied k.terminal.heart))
-    → marks ≡ waits n k.marks → record { terminal = new; marks = marks } ≡ passed n k
-passes n k new marks room is m =
-    let same : new ≡ with_heart k.terminal (offered (Advance n) k.terminal.heart) = is ∙ ap (λ (u : Heart). with_heart k.terminal (offered (Advance n) u)) (tidy_already k.terminal.heart room) in
+pub passes : (n : ℕ) (k : Link) (new : Term) (availability : Availability) → is_low k.terminal.processes ≡ false → new ≡ with_processes k.terminal (offered (Advance n) (tidied k.terminal.processes))
+    → availability ≡ waits n k.availability → record { terminal = new; availability = availability } ≡ passed n k
+passes n k new availability room is m =
+    let same : new ≡ with_processes k.terminal (offered (Advance n) k.terminal.processes) = is ∙ ap (λ (u : Processes). with_processes k.terminal (offered (Advance n) u)) (tidy_already k.terminal.processes room) in
     rw (same, m) refl
 
 -- ---- one link behind another
@@ -63,7 +63,7 @@ set_same [] n d h = absurd (omega (arith, h))
 set_same (k ∷ ks) zero d h = refl
 set_same (k ∷ ks) (suc n) d h = ap (λ (xs : List Link). k ∷ xs) (set_same ks n d (omega (arith, h)))
 
-pub lacks_room : (old ks : List Link) (n : ℕ) (k new : Link) → n < length old → n < length ks → ks ≡ map roomy (take n old) ++ drop n old → k ≡ get_or ks n k → new ≡ k → is_low k.terminal.heart ≡ true
+pub lacks_room : (old ks : List Link) (n : ℕ) (k new : Link) → n < length old → n < length ks → ks ≡ map roomy (take n old) ++ drop n old → k ≡ get_or ks n k → new ≡ k → is_low k.terminal.processes ≡ true
     → LacksRoom old (slice_set ks n new)
 lacks_room old ks n k new h within is here same low =
     let stood : k ≡ get_or old n k = here ∙ ap (λ (xs : List Link). get_or xs n k) is ∙ get_over roomy old n k h in
@@ -88,27 +88,27 @@ rest_none : (a b : Option Refusal) → first_some a b ≡ None → b ≡ None
 rest_none None b e = e
 rest_none (Some r) b e = absurd (some_none r e)
 
-pub none_at : (n : ℕ) (ks : List Link) (i : ℕ) (d : Link) → i < length ks → first_refusal n ks ≡ None → tick_refusal n (get_or ks i d).terminal.heart ≡ None
+pub none_at : (n : ℕ) (ks : List Link) (i : ℕ) (d : Link) → i < length ks → first_refusal n ks ≡ None → tick_refusal n (get_or ks i d).terminal.processes ≡ None
 unfolding first_refusal
 none_at n [] i d h e = absurd (omega (arith, h))
-none_at n (k ∷ ks) zero d h e = front_none (tick_refusal n k.terminal.heart) (first_refusal n ks) e
-none_at n (k ∷ ks) (suc i) d h e = none_at n ks i d (omega (arith, h)) (rest_none (tick_refusal n k.terminal.heart) (first_refusal n ks) e)
+none_at n (k ∷ ks) zero d h e = front_none (tick_refusal n k.terminal.processes) (first_refusal n ks) e
+none_at n (k ∷ ks) (suc i) d h e = none_at n ks i d (omega (arith, h)) (rest_none (tick_refusal n k.terminal.processes) (first_refusal n ks) e)
 
-one_more : (n : ℕ) (k : Link) (ks : List Link) → first_refusal n (k ∷ ks) ≡ first_some (tick_refusal n k.terminal.heart) (first_refusal n ks)
+one_more : (n : ℕ) (k : Link) (ks : List Link) → first_refusal n (k ∷ ks) ≡ first_some (tick_refusal n k.terminal.processes) (first_refusal n ks)
 unfolding first_refusal
 one_more n k ks = refl
 
-at_place : (n : ℕ) (ks : List Link) (i : ℕ) (k : Link) (r : Option Refusal) → i < length ks → k ≡ get_or ks i k → r ≡ tick_refusal n k.terminal.heart
+at_place : (n : ℕ) (ks : List Link) (i : ℕ) (k : Link) (r : Option Refusal) → i < length ks → k ≡ get_or ks i k → r ≡ tick_refusal n k.terminal.processes
     → first_refusal n (drop i ks) ≡ first_some r (first_refusal n (drop (i + 1) ks))
 at_place n ks i k r h here is =
     ap (first_refusal n) (drop_more ks i k h ∙ ap (λ (x : Link). x ∷ drop (i + 1) ks) (sym here)) ∙ one_more n k (drop (i + 1) ks)
     ∙ ap (λ (x : Option Refusal). first_some x (first_refusal n (drop (i + 1) ks))) (sym is)
 
-pub none_here : (n : ℕ) (ks : List Link) (i : ℕ) (k : Link) (whole : Option Refusal) → i < length ks → k ≡ get_or ks i k → None ≡ tick_refusal n k.terminal.heart
+pub none_here : (n : ℕ) (ks : List Link) (i : ℕ) (k : Link) (whole : Option Refusal) → i < length ks → k ≡ get_or ks i k → None ≡ tick_refusal n k.terminal.processes
     → first_refusal n (drop i ks) ≡ whole → first_refusal n (drop (i + 1) ks) ≡ whole
 none_here n ks i k whole h here is so = sym (at_place n ks i k None h here is) ∙ so
 
-pub found_here : (n : ℕ) (ks : List Link) (i : ℕ) (k : Link) (r : Refusal) (whole : Option Refusal) → i < length ks → k ≡ get_or ks i k → Some r ≡ tick_refusal n k.terminal.heart
+pub found_here : (n : ℕ) (ks : List Link) (i : ℕ) (k : Link) (r : Refusal) (whole : Option Refusal) → i < length ks → k ≡ get_or ks i k → Some r ≡ tick_refusal n k.terminal.processes
     → first_refusal n (drop i ks) ≡ whole → Some r ≡ whole
 found_here n ks i k r whole h here is so = sym (at_place n ks i k (Some r) h here is) ∙ so
 
@@ -144,12 +144,12 @@ pub stands_here : (f : Link → Link) (ks new : List Link) (i : ℕ) (k : Link) 
 stands_here f ks new i k h is here = here ∙ ap (λ (xs : List Link). get_or xs i k) is ∙ get_over f ks i k h
 
 pub room_here : (f : Link → Link) (ks new : List Link) (i : ℕ) (k : Link) → i < length ks → new ≡ map f (take i ks) ++ drop i ks → k ≡ get_or new i k → All HasRoom ks
-    → is_low k.terminal.heart ≡ false
-room_here f ks new i k h is here room = ap (λ (x : Link). is_low x.terminal.heart) (stands_here f ks new i k h is here) ∙ room i k h
+    → is_low k.terminal.processes ≡ false
+room_here f ks new i k h is here room = ap (λ (x : Link). is_low x.terminal.processes) (stands_here f ks new i k h is here) ∙ room i k h
 
 pub may_here : (n : ℕ) (f : Link → Link) (ks new : List Link) (i : ℕ) (k : Link) → i < length ks → new ≡ map f (take i ks) ++ drop i ks → k ≡ get_or new i k
-    → first_refusal n ks ≡ None → tick_refusal n k.terminal.heart ≡ None
-may_here n f ks new i k h is here may = ap (λ (x : Link). tick_refusal n x.terminal.heart) (stands_here f ks new i k h is here) ∙ none_at n ks i k h may
+    → first_refusal n ks ≡ None → tick_refusal n k.terminal.processes ≡ None
+may_here n f ks new i k h is here may = ap (λ (x : Link). tick_refusal n x.terminal.processes) (stands_here f ks new i k h is here) ∙ none_at n ks i k h may
 
 -- ---- whether one came into service for the first time
 

@@ -14,15 +14,15 @@ use Rattle.link_term.specs.Term.{Term}
 use Rattle.group_members.specs.Moving.{term_takes}
 
 abbrev kept : Term → List Msu
-kept t = t.heart.side.sender.kept
+kept t = t.processes.transceiver.sender.kept
 
 pub takes-none : (t : Term) → term_takes [] t ≡ t
 unfolding term_takes
-takes-none t = rw (append-nil t.heart.side.sender.kept) refl
+takes-none t = rw (append-nil t.processes.transceiver.sender.kept) refl
 
 pub takes-takes : (xs ys : List Msu) (t : Term) → term_takes ys (term_takes xs t) ≡ term_takes (xs ++ ys) t
 unfolding term_takes
-takes-takes xs ys t = rw (append_assoc t.heart.side.sender.kept xs ys) refl
+takes-takes xs ys t = rw (append_assoc t.processes.transceiver.sender.kept xs ys) refl
 
 takes-kept : (xs : List Msu) (t : Term) → kept (term_takes xs t) ≡ kept t ++ xs
 unfolding term_takes
@@ -107,7 +107,7 @@ of-turned : (s n : ℕ) (ms items : List Msu) → items ≡ drop n ms ++ off s (
 of-turned s n ms items e = ap (of s) e ∙ of-append s (drop n ms) (off s (take n ms)) ∙ ap (λ (xs : List Msu). of s (drop n ms) ++ xs) (of-off s (take n ms)) ∙ append-nil (of s (drop n ms))
 
 pub room-left : (s n : ℕ) (ms items : List Msu) (t u : Term) → items ≡ drop n ms ++ off s (take n ms) → u ≡ term_takes (of s (take n ms)) t
-    → length (of s ms) + length t.heart.side.sender.kept ≤ MOST_KEPT → length (of s items) + length u.heart.side.sender.kept ≤ MOST_KEPT
+    → length (of s ms) + length t.processes.transceiver.sender.kept ≤ MOST_KEPT → length (of s items) + length u.processes.transceiver.sender.kept ≤ MOST_KEPT
 room-left s n ms items t u e is room =
     sum (length (of s (take n ms))) (length (of s (drop n ms))) (length (kept t)) (length (of s ms)) (length (of s items)) (length (kept u))
     (of-parts s n ms) (ap length (of-turned s n ms items e))
@@ -169,8 +169,8 @@ off-none s ms = sym (append-nil ms)
 pub gives-back : (m : Msu) (old rest : List Msu) (t u : Term) → old ≡ m ∷ rest → u ≡ term_takes (m ∷ []) t → term_takes rest u ≡ term_takes old t
 gives-back m old rest t u e is = ap (term_takes rest) is ∙ takes-takes (m ∷ []) rest t ∙ ap (λ (xs : List Msu). term_takes xs t) (sym e)
 
-pub room-back : (m : Msu) (old rest : List Msu) (t u : Term) → old ≡ m ∷ rest → u ≡ term_takes (m ∷ []) t → length old + length t.heart.side.sender.kept ≤ MOST_KEPT
-    → length rest + length u.heart.side.sender.kept ≤ MOST_KEPT
+pub room-back : (m : Msu) (old rest : List Msu) (t u : Term) → old ≡ m ∷ rest → u ≡ term_takes (m ∷ []) t → length old + length t.processes.transceiver.sender.kept ≤ MOST_KEPT
+    → length rest + length u.processes.transceiver.sender.kept ≤ MOST_KEPT
 room-back m old rest t u e is room =
     let grown : length (kept u) ≡ length (kept t) + 1 = ap (λ (x : Term). length (kept x)) is ∙ ap length (takes-kept (m ∷ []) t) ∙ length-append (kept t) (m ∷ []) in
     let less : length old ≡ length rest + 1 = ap length e ∙ omega arith in

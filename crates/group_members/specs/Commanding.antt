@@ -8,10 +8,10 @@ use Rattle.link_term.specs.Machine.{is_low, tidied, offered}
 use Rattle.link_term.specs.Offering.{command_event}
 use Rattle.link_term.specs.link_processes_types.commands.Command.{Command}
 use Rattle.link_term.specs.link_processes_types.commands.Command.TheVariants as order
-use Rattle.link_term.specs.Term.{with_heart}
+use Rattle.link_term.specs.Term.{with_processes}
 use Rattle.link_term.specs.Kept.{Keeps}
-use Rattle.group_changeover.specs.declared.marks.Marks.{Marks}
-use Rattle.group_changeover.specs.declared.marks.Changing.{Changing}
+use Rattle.group_changeover.specs.declared.availability.Availability.{Availability}
+use Rattle.group_changeover.specs.declared.availability.Changing.{Changing}
 use Rattle.group_changeover.specs.declared.errors.CommandError.{CommandError}
 use Rattle.group_changeover.specs.declared.errors.CommandError.TheVariants as error
 use Rattle.group_members.specs.declared.link.Link.{Link}
@@ -30,33 +30,33 @@ is_start order.Free = false
 
 abbrev pub is_barred_in : Option Changing → Bool
 is_barred_in None = false
-is_barred_in (Some c) = not (is_some c.hand)
+is_barred_in (Some c) = not (is_some c.retrieval)
 
 -- Start is no command in a changeover until its messages are handed out: what the far side tells speaks of the numbers that stand.
 abbrev pub is_barred : Command → Link → Bool
-is_barred command k = is_start command && is_barred_in k.marks.changing
+is_barred command k = is_start command && is_barred_in k.availability.changing
 
 abbrev pub starts_anew : Command → Link → Bool
 starts_anew command k = is_start command && not (is_serving k)
 
 -- A link to which Start is commanded while it is out of service is started anew.
-abbrev pub started : Command → Link → Marks
-started command k = if starts_anew command k then record k.marks { anew = true } else k.marks
+abbrev pub started : Command → Link → Availability
+started command k = if starts_anew command k then record k.availability { anew = true } else k.availability
 
 -- The terminal took it.
 pub record Commanded (command : Command) (old new : Link) : Type 0 where
   pub free : is_barred command old ≡ false
-  pub answer : let t = tidied old.terminal.heart in Says reply.Offered ≡ (ask t.book (command_event t.names command)).answer
-  pub terminal : let t = tidied old.terminal.heart in new.terminal ≡ with_heart old.terminal (offered (command_event t.names command) t)
+  pub answer : let t = tidied old.terminal.processes in Says reply.Offered ≡ (ask t.book (command_event t.names command)).answer
+  pub terminal : let t = tidied old.terminal.processes in new.terminal ≡ with_processes old.terminal (offered (command_event t.names command) t)
   pub keeps : Keeps old.terminal new.terminal
-  pub marks : new.marks ≡ started command old
+  pub availability : new.availability ≡ started command old
 
 -- The terminal refused it: nothing changed, but that there may be room in its journal now.
 pub record Refused (command : Command) (refusal : Refusal) (old new : Link) : Type 0 where
   pub free : is_barred command old ≡ false
-  pub answer : let t = tidied old.terminal.heart in Says (reply.Refused refusal) ≡ (ask t.book (command_event t.names command)).answer
-  pub terminal : new.terminal ≡ with_heart old.terminal (tidied old.terminal.heart)
-  pub marks : new.marks ≡ old.marks
+  pub answer : let t = tidied old.terminal.processes in Says (reply.Refused refusal) ≡ (ask t.book (command_event t.names command)).answer
+  pub terminal : new.terminal ≡ with_processes old.terminal (tidied old.terminal.processes)
+  pub availability : new.availability ≡ old.availability
 
 -- It has to wait.
 pub record Barred (command : Command) (old new : Link) : Type 0 where
@@ -66,7 +66,7 @@ pub record Barred (command : Command) (old new : Link) : Type 0 where
 -- Its journal lacks room, and there was no memory for it.
 pub record Lacks (command : Command) (old new : Link) : Type 0 where
   pub free : is_barred command old ≡ false
-  pub low : is_low old.terminal.heart ≡ true
+  pub low : is_low old.terminal.processes ≡ true
   pub same : new ≡ old
 
 -- what a link makes of a command, by why it isn't done

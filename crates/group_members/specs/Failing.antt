@@ -4,21 +4,21 @@ use Rattle.resend_store.specs.declared.messages.Msu.{Msu}
 use Rattle.resend_store.specs.Window.{unacknowledged, retrieved}
 use Rattle.group_changeover.specs.declared.changeover.Kind.{Kind}
 use Rattle.group_changeover.specs.declared.changeover.Kind.TheVariants as kind
-use Rattle.group_changeover.specs.Marks.{begins, told}
+use Rattle.group_changeover.specs.Availability.{begins, told}
 use Rattle.group_changeover.specs.Saying.{order_after, answer_in, reply_after}
 use Rattle.group_members.specs.declared.link.Link.{Link}
 use Rattle.group_changeover.specs.declared.errors.FailError.{FailError}
 use Rattle.group_changeover.specs.declared.errors.FailError.TheVariants as fail
-use Rattle.group_members.specs.OneLink.{window, accepted_at, is_changing, with_marks, number_of, hands_out}
+use Rattle.group_members.specs.OneLink.{window, accepted_at, is_changing, with_availability, number_of, hands_out}
 
 abbrev pub fail_fault_of : Link → Option FailError
 fail_fault_of k = if is_changing k then Some fail.Waiting else None
 
 abbrev pub begins_at : Link → Link
-begins_at k = with_marks (begins k.marks) k
+begins_at k = with_availability (begins k.availability) k
 
 abbrev pub order_of : Link → Kind
-order_of k = order_after k.marks (accepted_at k)
+order_of k = order_after k.availability (accepted_at k)
 
 abbrev pub is_order : Kind → Bool
 is_order (kind.Order fsn) = true
@@ -28,10 +28,10 @@ is_order kind.EmergencyAcknowledgement = false
 
 -- An order begins the changeover where none goes on. It is an answer, as an acknowledgement is.
 abbrev pub hears : Kind → Link → Link
-hears what k = with_marks (told (answer_in what k.marks) (if is_order what then begins k.marks else k.marks)) k
+hears what k = with_availability (told (answer_in what k.availability) (if is_order what then begins k.availability else k.availability)) k
 
 abbrev pub replies : Kind → Link → Option Kind
-replies what k = reply_after what k.marks (accepted_at k)
+replies what k = reply_after what k.availability (accepted_at k)
 
 -- what a link answers, if it is there
 abbrev pub replies_at : Kind → Option Link → Option Kind

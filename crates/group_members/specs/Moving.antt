@@ -1,30 +1,30 @@
--- How messages in hand go to links (Q.704, diversion).
+-- How retrieved messages go to links (Q.704, diversion).
 use Rattle.std.specs.Prelude.{ℕ, ◌+◌, ◌==◌, ◌&&◌, ◌||◌, zero, suc, nat_lt, Bool, false, not, if◌then◌else◌, List, [], ◌∷◌, ◌++◌, length, Option, Some, None, slice_get, slice_set}
 use Rattle.std.specs.List.{list_any}
 use Rattle.resend_store.specs.declared.messages.Msu.{Msu}
 use Rattle.resend_store.specs.Limits.{MOST_KEPT}
-use Rattle.link_term.specs.Term.{Term, with_half}
-use Rattle.group_changeover.specs.declared.marks.Changing.{Changing}
+use Rattle.link_term.specs.Term.{Term, term_with_transceiver}
+use Rattle.group_changeover.specs.declared.availability.Changing.{Changing}
 use Rattle.group_changeover.specs.Sharing.{is_on, of, off, counts_of, pick}
-use Rattle.group_changeover.specs.Marks.{with_hand, ended}
+use Rattle.group_changeover.specs.Availability.{with_retrieval, ended}
 use Rattle.group_changeover.specs.Limits.{SELECTIONS}
 use Rattle.group_members.specs.declared.link.Link.{Link}
 use Rattle.group_changeover.specs.declared.errors.DivertFault.{DivertFault}
 use Rattle.group_changeover.specs.declared.errors.DivertFault.TheVariants as divert
-use Rattle.group_members.specs.OneLink.{held, is_serving, with_marks}
+use Rattle.group_members.specs.OneLink.{held, is_serving, with_availability}
 use Rattle.group_members.specs.Links.{change}
 
-abbrev pub hand_by : Option Changing → Option (List ℕ)
-hand_by None = None
-hand_by (Some c) = c.hand
+abbrev pub retrieval_by : Option Changing → Option (List ℕ)
+retrieval_by None = None
+retrieval_by (Some c) = c.retrieval
 
-abbrev pub hand_of : Option Link → Option (List ℕ)
-hand_of None = None
-hand_of (Some k) = hand_by k.marks.changing
+abbrev pub retrieval_of : Option Link → Option (List ℕ)
+retrieval_of None = None
+retrieval_of (Some k) = retrieval_by k.availability.changing
 
 -- in service, and none that failed; those that failed too where they are asked for
 abbrev pub is_open : Bool → Link → Bool
-is_open failed k = is_serving k && (failed || not k.marks.failed)
+is_open failed k = is_serving k && (failed || not k.availability.failed)
 
 -- the places of those that may, from a place on
 unfoldable pub places_from : (Link → Bool) → ℕ → List Link → List ℕ
@@ -47,7 +47,7 @@ holds_at s None = false
 holds_at s (Some k) = holds s k
 
 unfoldable pub term_takes : List Msu → Term → Term
-term_takes ms t = with_half t (record t.heart.side { sender = record t.heart.side.sender { kept = t.heart.side.sender.kept ++ ms } })
+term_takes ms t = term_with_transceiver t (record t.processes.transceiver { sender = record t.processes.transceiver.sender { kept = t.processes.transceiver.sender.kept ++ ms } })
 
 -- They stand behind all that it holds.
 unfoldable pub takes_on : List Msu → Link → Link
@@ -60,7 +60,7 @@ has_room n k = not (nat_lt MOST_KEPT (length (held k) + n))
 pub record Diversion : Type 0 where
   pub links : List Link
   pub table : List (Option ℕ)
-  -- what is still in hand
+  -- what is not diverted yet
   pub rest : List Msu
 
 abbrev pub room_fault : ℕ → Link → Option DivertFault
@@ -108,7 +108,7 @@ unfoldable pub moves : List ℕ → ℕ → ℕ → Diversion → Diverted
 moves ls zero s d = record { at = d; fault = None }
 moves ls (suc k) s d = goes_on (moves ls k (s + 1)) d (moved ls s d) (move_fault ls s d)
 
--- the hand goes back to its own link, as a whole and in order
+-- the retrieval goes back to its own link, as a whole and in order
 abbrev pub back_fault_by : Option Link → List Msu → Option DivertFault
 back_fault_by None ms = Some divert.NoLink
 back_fault_by (Some k) ms = if is_serving k then room_fault (length ms) k else Some divert.NoLink
@@ -132,7 +132,7 @@ ends_on ls l k None s = None
 ends_on ls l k (Some j) s = if (j == l) && not (holds_at s k) then pick ls s else Some j
 
 abbrev pub ends_at : Link → Link
-ends_at k = with_marks (ended k.marks) k
+ends_at k = with_availability (ended k.availability) k
 
 abbrev pub keeps_at : List Msu → Link → Link
-keeps_at ms k = with_marks (with_hand (counts_of ms) k.marks) k
+keeps_at ms k = with_availability (with_retrieval (counts_of ms) k.availability) k

@@ -3,12 +3,12 @@ use Rattle.std.specs.Prelude.{ℕ, ◌==◌, nat_le, Bool, if◌then◌else◌, 
 use Rattle.resend_store.specs.declared.messages.Msu.{Msu}
 use Rattle.resend_store.specs.Limits.{MOST_WAITING}
 use Rattle.resend_store.specs.Window.{Window, waiting, with_put, retrieved, emptied, count_by}
-use Rattle.link_term.specs.Term.{with_half}
+use Rattle.link_term.specs.Term.{term_with_transceiver}
 use Rattle.link_term.specs.Kept.{window_of}
-use Rattle.group_changeover.specs.declared.marks.Marks.{Marks}
-use Rattle.group_changeover.specs.declared.marks.Changing.{Changing}
+use Rattle.group_changeover.specs.declared.availability.Availability.{Availability}
+use Rattle.group_changeover.specs.declared.availability.Changing.{Changing}
 use Rattle.group_changeover.specs.Sharing.{counts_of}
-use Rattle.group_changeover.specs.Marks.{with_hand}
+use Rattle.group_changeover.specs.Availability.{with_retrieval}
 use Rattle.group_changeover.specs.Saying.{is_out, is_waiting, number_in}
 use Rattle.group_members.specs.declared.link.Link.{Link}
 use Rattle.group_changeover.specs.declared.errors.SendError.{SendError}
@@ -32,20 +32,20 @@ abbrev pub held : Link → List Msu
 held k = (window k).kept
 
 abbrev pub is_serving : Link → Bool
-is_serving k = k.terminal.heart.side.in_service
+is_serving k = k.terminal.processes.transceiver.in_service
 
 -- the number of the last message that was accepted there
 abbrev pub accepted_at : Link → ℕ
-accepted_at k = k.terminal.heart.side.receiver.last
+accepted_at k = k.terminal.processes.transceiver.receiver.last
 
 abbrev pub is_changing : Link → Bool
-is_changing k = is_some k.marks.changing
+is_changing k = is_some k.availability.changing
 
 abbrev pub with_window : Window → Link → Link
-with_window w k = record k { terminal = with_half k.terminal (record k.terminal.heart.side { sender = w }) }
+with_window w k = record k { terminal = term_with_transceiver k.terminal (record k.terminal.processes.transceiver { sender = w }) }
 
-abbrev pub with_marks : Marks → Link → Link
-with_marks m k = record k { marks = m }
+abbrev pub with_availability : Availability → Link → Link
+with_availability m k = record k { availability = m }
 
 -- ---- a message for it
 
@@ -74,7 +74,7 @@ abbrev pub unsure_by : ℕ → Option ℕ → Option RetrieveError
 unsure_by sent (Some fsn) = None
 unsure_by sent None = if sent == 0 then None else Some (retrieve.Unsure sent)
 
--- K2 while its hand is out, and before an answer for as long as is waited; then K4
+-- K2 while its retrieval is out, and before an answer for as long as is waited; then K4
 unfoldable pub retrieve_fault_in : Link → Changing → Option RetrieveError
 retrieve_fault_in k c =
     if is_out c then Some retrieve.Waiting
@@ -87,7 +87,7 @@ retrieve_fault_by k None = Some retrieve.NoLink
 retrieve_fault_by k (Some c) = retrieve_fault_in k c
 
 unfoldable pub retrieve_fault : Link → Option RetrieveError
-retrieve_fault k = retrieve_fault_by k k.marks.changing
+retrieve_fault k = retrieve_fault_by k k.availability.changing
 
 abbrev pub known_at : Link → Option Changing → Option ℕ
 known_at k None = None
@@ -95,12 +95,12 @@ known_at k (Some c) = known k c
 
 -- the number by which messages are retrieved
 unfoldable pub number_of : Link → Option ℕ
-number_of k = known_at k k.marks.changing
+number_of k = known_at k k.availability.changing
 
 -- Messages are handed out that may be lacking by a number, or by none the unsent; of what is handed out it is kept how many there are of
 -- each selection.
 unfoldable pub hands_out : Option ℕ → Link → Link
-hands_out fsn k = with_marks (with_hand (counts_of (retrieved (window k) fsn)) k.marks) (with_window (emptied (window k) fsn) k)
+hands_out fsn k = with_availability (with_retrieval (counts_of (retrieved (window k) fsn)) k.availability) (with_window (emptied (window k) fsn) k)
 
 -- Without a number that is known K2, unless K4 would be answered. K1 where no changeover goes on.
 abbrev pub abandon_by : Option RetrieveError → Option AbandonError

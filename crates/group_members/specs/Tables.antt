@@ -3,7 +3,7 @@ use Rattle.std.specs.Prelude.{ℕ, ◌==◌, ◌||◌, zero, suc, Bool, false, i
 use Rattle.std.specs.List.{list_any}
 use Rattle.group_changeover.specs.Sharing.{pick, link_of}
 use Rattle.group_members.specs.declared.link.Link.{Link}
-use Rattle.group_members.specs.OneLink.{is_changing, with_marks}
+use Rattle.group_members.specs.OneLink.{is_changing, with_availability}
 use Rattle.group_members.specs.Moving.{holds, holds_at}
 
 abbrev pub changing_by : Option Link → Bool
@@ -36,4 +36,4 @@ any_below f zero = false
 any_below f (suc n) = any_below f n || f n
 
 abbrev pub forgiven : Link → Link
-forgiven k = with_marks (record k.marks { failed = false }) k
+forgiven k = with_availability (record k.availability { failed = false }) k

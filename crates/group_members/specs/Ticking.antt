@@ -7,26 +7,26 @@ use Rattle.actor_machine.specs.declared.reply.Refusal.{Refusal}
 use Rattle.actor_machine.specs.declared.reply.Reply.{Reply}
 use Rattle.actor_machine.specs.declared.reply.Reply.TheVariants as reply
 use Rattle.link_term.specs.Machine.{is_low, tidied, offered, tick_refusal}
-use Rattle.link_term.specs.Term.{with_heart}
-use Rattle.group_changeover.specs.Marks.{waits}
+use Rattle.link_term.specs.Term.{with_processes}
+use Rattle.group_changeover.specs.Availability.{waits}
 use Rattle.group_members.specs.declared.link.Link.{Link}
 
 -- ---- room
 
 -- Room is made in its journal, where it is needed.
 abbrev pub roomy : Link → Link
-roomy k = record k { terminal = with_heart k.terminal (tidied k.terminal.heart) }
+roomy k = record k { terminal = with_processes k.terminal (tidied k.terminal.processes) }
 
 -- its journal has room enough
 abbrev pub HasRoom : Link → Type 0
-HasRoom k = is_low k.terminal.heart ≡ false
+HasRoom k = is_low k.terminal.processes ≡ false
 
 -- There was no memory for a link that needed it: room was made at those before it, and nothing else changed.
 pub record LacksRoom (old new : List Link) : Type 0 where
   pub front : ℕ
   pub lacking : Link
   pub there : slice_get old front ≡ Some lacking
-  pub low : is_low lacking.terminal.heart ≡ true
+  pub low : is_low lacking.terminal.processes ≡ true
   pub links : new ≡ map roomy (take front old) ++ drop front old
 
 -- ---- whether ticks can pass
@@ -38,13 +38,13 @@ first_some (Some refusal) other = Some refusal
 -- the refusal of the first link that has one
 unfoldable pub first_refusal : ℕ → List Link → Option Refusal
 first_refusal n [] = None
-first_refusal n (k ∷ ks) = first_some (tick_refusal n k.terminal.heart) (first_refusal n ks)
+first_refusal n (k ∷ ks) = first_some (tick_refusal n k.terminal.processes) (first_refusal n ks)
 
 -- ---- they pass
 
 -- They pass at its terminal, and a changeover that goes on there has gone on for longer.
 abbrev pub passed : ℕ → Link → Link
-passed n k = record { terminal = with_heart k.terminal (offered (Advance n) k.terminal.heart); marks = waits n k.marks }
+passed n k = record { terminal = with_processes k.terminal (offered (Advance n) k.terminal.processes); availability = waits n k.availability }
 
 abbrev pub due_by : Reply → ℕ
 due_by (reply.Passed due) = due
@@ -56,7 +56,7 @@ due_in (Says r) = due_by r
 
 -- how many timers are due by them
 abbrev pub due_at : ℕ → Link → ℕ
-due_at n k = due_in (ask k.terminal.heart.book (Advance n)).answer
+due_at n k = due_in (ask k.terminal.processes.book (Advance n)).answer
 
 -- on all links, up to the greatest number
 unfoldable pub all_due : ℕ → List Link → ℕ

@@ -32,8 +32,8 @@ impl Link {
         if !is_start(command) {
             return false;
         }
-        match self.marks.changing {
-            Some(changing) => changing.hand.is_none(),
+        match self.availability.changing {
+            Some(changing) => changing.retrieval.is_none(),
             None => false,
         }
     }
@@ -58,7 +58,7 @@ impl Link {
         match self.terminal.command(command) {
             Ok(()) => {
                 if anew {
-                    self.marks.anew = true;
+                    self.availability.anew = true;
                 }
                 Ok(())
             }

@@ -16,11 +16,11 @@ impl Link {
         ensures first { result ≡ came_first self.old }
         ensures link { self.new ≡ asked self.old }
     {
-        let served = self.marks.served;
+        let served = self.availability.served;
         if !self.terminal.came_into_service() {
             return false;
         }
-        self.marks = self.marks.serves();
+        self.availability = self.availability.serves();
         !served
     }
 
@@ -40,7 +40,7 @@ impl Link {
     fn send(&mut self) -> Result<Option<Unit>, AllocError>
         ensures ok { IfOk result (λ unit. Sent unit self.old self.new) }
         ensures err { OnErr result (self.new ≡ self.old) }
-        ensures low { OnErr result (is_low self.old.terminal.heart ≡ true) }
+        ensures low { OnErr result (is_low self.old.terminal.processes ≡ true) }
     {
         self.terminal.unit_out()
     }

@@ -2,7 +2,7 @@
 ghost use Rattle.std.specs.Prelude.{◌≡◌, ◌<◌, slice_get, map, Some, None};
 ghost use Rattle.group_changeover.specs.Sharing.{selections, link_of, pick};
 ghost use Rattle.group_members.specs.Links.{change};
-ghost use Rattle.group_members.specs.Moving.{hand_of, ends_on, ends_at, keeps_at};
+ghost use Rattle.group_members.specs.Moving.{retrieval_of, ends_on, ends_at, keeps_at};
 
 use crate::link::Link;
 use crate::open::holds_at;
@@ -10,13 +10,13 @@ use group_changeover::{Counts, Table, counts_of, pick};
 use link_term::Msu;
 use std::collections::VecDeque;
 
-/// How many messages of each selection are in the hand of the link at a place.
-pub fn hand_of(links: &[Link], at: usize) -> Option<Counts>
-    ensures { result ≡ hand_of (slice_get links.now at) }
+/// How many messages of each selection are in the retrieval of the link at a place.
+pub fn retrieval_of(links: &[Link], at: usize) -> Option<Counts>
+    ensures { result ≡ retrieval_of (slice_get links.now at) }
 {
     match links.get(at) {
-        Some(link) => match link.marks.changing {
-            Some(changing) => changing.hand,
+        Some(link) => match link.availability.changing {
+            Some(changing) => changing.retrieval,
             None => None,
         },
         None => None,
@@ -71,16 +71,16 @@ pub fn end_at(links: &mut [Link], at: usize)
     ensures { links.new ≡ change links.old at ends_at }
 {
     if at < links.len() {
-        links[at].marks = links[at].marks.ended();
+        links[at].availability = links[at].availability.ended();
     }
 }
 
-/// So much is left in the hand of the link at a place.
+/// So much is left in the retrieval of the link at a place.
 #[tactic(auto, unfolding(crate::specs::Links::change))]
 pub fn keep_at(links: &mut [Link], at: usize, messages: &VecDeque<Msu>)
     ensures { links.new ≡ change links.old at (keeps_at messages.now.items) }
 {
     if at < links.len() {
-        links[at].marks = links[at].marks.with_hand(counts_of(messages));
+        links[at].availability = links[at].availability.with_retrieval(counts_of(messages));
     }
 }

@@ -14,7 +14,7 @@ mod ticking;
 
 pub use commanding::command_at;
 pub use doing::{listen_at, see_all, see_at, send_at, speak_at, tell_at};
-pub use ending::{end_at, end_table, hand_of, keep_at};
+pub use ending::{end_at, end_table, keep_at, retrieval_of};
 pub use group_changeover::{
     AbandonError, CommandError, DivertFault, FailError, LineError, LinkError, RebalanceError,
     RetrieveError, SendError,
@@ -22,7 +22,7 @@ pub use group_changeover::{
 pub use link::Link;
 pub use link_term::{CallError, Command, LinkStatus, Mode, Msu, Report, Terminal};
 pub use links::{abandon_at, fail_at, hear_at, put_at, retrieve_at};
-pub use moving::hand_over;
+pub use moving::divert_all;
 pub use new::all_fresh;
 pub use open::open_links;
 pub use tables::{any_changing, any_in_way, forgive_all, table_anew, table_of};

@@ -7,7 +7,7 @@ ghost use Rattle.group_members.specs.Failing.{fail_fault_of, begins_at, order_of
 ghost use Rattle.group_members.specs.OneLink.{fault_of, put_fault, puts, window, known, unsure_by, retrieve_fault, retrieve_refusal, number_of, hands_out, abandon_fault, abandon_refusal};
 
 use group_changeover::{
-    AbandonError, Changing, FailError, Kind, Marks, RetrieveError, SendError, counts_of,
+    AbandonError, Availability, Changing, FailError, Kind, RetrieveError, SendError, counts_of,
 };
 use link_term::{Msu, RetrieveError as StoreError, Terminal};
 use std::alloc::AllocError;
@@ -17,7 +17,7 @@ use std::collections::VecDeque;
 #[derive(Drop)]
 pub struct Link {
     pub terminal: Terminal,
-    pub marks: Marks,
+    pub availability: Availability,
 }
 
 impl Link {
@@ -29,7 +29,7 @@ impl Link {
         ensures ok { OnOk result (self.new ≡ puts msu self.old) }
         ensures err { OnErr result (self.new ≡ self.old) }
     {
-        if self.marks.is_changing() {
+        if self.availability.is_changing() {
             return Err(SendError::Waiting);
         }
         if !self.terminal.in_service() {
@@ -75,7 +75,7 @@ impl Link {
     fn retrieve_fault(&self) -> Option<RetrieveError>
         ensures { result ≡ retrieve_fault self.now }
     {
-        let Some(changing) = self.marks.changing else {
+        let Some(changing) = self.availability.changing else {
             return Some(RetrieveError::NoLink);
         };
         if changing.is_out() {
@@ -93,7 +93,7 @@ impl Link {
         ensures value { result ≡ number_of self.now }
         ensures within { IfSome result (λ fsn. fsn < 128) }
     {
-        match self.marks.changing {
+        match self.availability.changing {
             Some(changing) => self.known(changing),
             None => None,
         }
@@ -110,7 +110,7 @@ impl Link {
     {
         match self.terminal.retrieve(fsn) {
             Ok(messages) => {
-                self.marks = self.marks.with_hand(counts_of(&messages));
+                self.availability = self.availability.with_retrieval(counts_of(&messages));
                 Ok(messages)
             }
             Err(_) => Err(AllocError),
@@ -162,11 +162,11 @@ impl Link {
         ensures ok { OnOk result (self.new ≡ begins_at self.old) }
         ensures err { OnErr result (self.new ≡ self.old) }
     {
-        if self.marks.is_changing() {
+        if self.availability.is_changing() {
             return Err(FailError::Waiting);
         }
-        let kind = self.marks.order(self.terminal.accepted());
-        self.marks = self.marks.begins();
+        let kind = self.availability.order(self.terminal.accepted());
+        self.availability = self.availability.begins();
         Ok(kind)
     }
 
@@ -176,12 +176,12 @@ impl Link {
         ensures whole { IfSome result IsKind }
         ensures heard { self.new ≡ hears kind self.old }
     {
-        let answer = self.marks.answer_in(kind);
-        let reply = self.marks.reply(kind, self.terminal.accepted());
+        let answer = self.availability.answer_in(kind);
+        let reply = self.availability.reply(kind, self.terminal.accepted());
         if reply.is_some() {
-            self.marks = self.marks.begins();
+            self.availability = self.availability.begins();
         }
-        self.marks = self.marks.told(answer);
+        self.availability = self.availability.told(answer);
         reply
     }
 }

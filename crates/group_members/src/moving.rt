@@ -1,4 +1,4 @@
-//! Diversion of messages in hand.
+//! Diversion of retrieved messages.
 ghost use Rattle.std.specs.Prelude.{◌≡◌, ◌+◌, ◌<◌, ◌≤◌, ◌++◌, ◌∷◌, [], All, length, drop, take, OnOk, OnErr, slice_get, Some};
 ghost use Rattle.resend_store.specs.Limits.{MOST_KEPT};
 ghost use Rattle.resend_store.specs.Messages.{IsMessage};
@@ -17,7 +17,7 @@ use std::collections::VecDeque;
 /// A message goes to a terminal that has room for it.
 #[tactic(auto, unfolding(crate::specs::Moving::term_takes))]
 fn give(terminal: &mut Terminal, msu: Msu)
-    requires room { length terminal.old.heart.side.sender.kept < MOST_KEPT }
+    requires room { length terminal.old.processes.transceiver.sender.kept < MOST_KEPT }
     requires whole { IsMessage msu }
     ensures { terminal.new ≡ term_takes (msu ∷ []) terminal.old }
 {
@@ -26,7 +26,7 @@ fn give(terminal: &mut Terminal, msu: Msu)
 
 /// Turns the oldest message: one of a selection goes to the terminal, another one behind all others.
 fn turn_one(terminal: &mut Terminal, selection: u8, messages: &mut VecDeque<Msu>)
-    requires room { length (of selection messages.old.items) + length terminal.old.heart.side.sender.kept ≤ MOST_KEPT }
+    requires room { length (of selection messages.old.items) + length terminal.old.processes.transceiver.sender.kept ≤ MOST_KEPT }
     requires whole { All IsMessage messages.old.items }
     ensures terminal { terminal.new ≡ term_takes (of selection (take 1 messages.old.items)) terminal.old }
     ensures messages { messages.new.items ≡ drop 1 messages.old.items ++ off selection (take 1 messages.old.items) }
@@ -45,8 +45,8 @@ fn turn_one(terminal: &mut Terminal, selection: u8, messages: &mut VecDeque<Msu>
 }
 
 /// Puts the messages of a selection behind those of a terminal, for which there is room. The others stay, in order.
-fn hand_on(terminal: &mut Terminal, selection: u8, messages: &mut VecDeque<Msu>)
-    requires room { length (of selection messages.old.items) + length terminal.old.heart.side.sender.kept ≤ MOST_KEPT }
+fn divert_selection(terminal: &mut Terminal, selection: u8, messages: &mut VecDeque<Msu>)
+    requires room { length (of selection messages.old.items) + length terminal.old.processes.transceiver.sender.kept ≤ MOST_KEPT }
     requires whole { All IsMessage messages.old.items }
     ensures terminal { terminal.new ≡ term_takes (of selection messages.old.items) terminal.old }
     ensures messages { messages.new.items ≡ off selection messages.old.items }
@@ -59,8 +59,8 @@ fn hand_on(terminal: &mut Terminal, selection: u8, messages: &mut VecDeque<Msu>)
 }
 
 /// Puts all messages behind those of a terminal, for which there is room.
-fn hand_back(terminal: &mut Terminal, messages: &mut VecDeque<Msu>)
-    requires room { length messages.old.items + length terminal.old.heart.side.sender.kept ≤ MOST_KEPT }
+fn retrieval_back(terminal: &mut Terminal, messages: &mut VecDeque<Msu>)
+    requires room { length messages.old.items + length terminal.old.processes.transceiver.sender.kept ≤ MOST_KEPT }
     requires whole { All IsMessage messages.old.items }
     ensures terminal { terminal.new ≡ term_takes messages.old.items terminal.old }
     ensures messages { messages.new.items ≡ [] }
@@ -90,7 +90,7 @@ fn take_on(
     if MAX_KEPT - link.terminal.held() < count {
         return Err(DivertFault::Full);
     }
-    hand_on(&mut link.terminal, selection, messages);
+    divert_selection(&mut link.terminal, selection, messages);
     Ok(())
 }
 
@@ -184,11 +184,11 @@ fn take_back(link: &mut Link, messages: &mut VecDeque<Msu>) -> Result<(), Divert
     if MAX_KEPT - link.terminal.held() < messages.len() {
         return Err(DivertFault::Full);
     }
-    hand_back(&mut link.terminal, messages);
+    retrieval_back(&mut link.terminal, messages);
     Ok(())
 }
 
-/// Gives the messages in hand back to their own link, where there are any.
+/// Gives the retrieved messages back to their own link, where there are any.
 #[tactic(auto, unfolding(crate::specs::Moving::back_fault, crate::specs::Moving::back, crate::specs::Links::change))]
 fn give_back(
     links: &mut [Link],
@@ -213,13 +213,13 @@ fn give_back(
     }
 }
 
-/// Diverts a hand to the links that may take it, or gives it back where there are none.
+/// Diverts a retrieval to the links that may take it, or gives it back where there are none.
 ///
 /// # Errors
 ///
 /// `K1 NoLink` where no link may take it, `E1 Full` where the link of a selection would hold more than 1,151: what didn't go stays in `messages`.
 #[tactic(auto, unfolding(crate::specs::Moving::hands_over))]
-pub fn hand_over(
+pub fn divert_all(
     links: &mut [Link],
     table: &mut Table,
     able: &[usize],

@@ -3,7 +3,7 @@ ghost use Rattle.std.specs.Prelude.{◌≡◌, ◌<◌, ◌≤◌, [], map, vec_
 ghost use Rattle.group_members.specs.New.{fresh};
 
 use crate::link::Link;
-use group_changeover::Marks;
+use group_changeover::Availability;
 use link_term::Terminal;
 
 /// A link over a terminal.
@@ -14,7 +14,7 @@ fn fresh(mut terminal: Terminal) -> Link
     let served = terminal.in_service();
     Link {
         terminal,
-        marks: Marks {
+        availability: Availability {
             served,
             anew: false,
             failed: false,

@@ -21,7 +21,7 @@ pub(crate) fn is_open(link: &Link, failed: bool) -> bool
     if failed {
         return true;
     }
-    !link.marks.failed
+    !link.availability.failed
 }
 
 /// Puts the number of a link behind those of others that may, if it may.
@@ -101,7 +101,7 @@ pub(crate) fn changing_at(links: &[Link], at: Option<usize>) -> bool
         return false;
     };
     match links.get(at) {
-        Some(link) => link.marks.changing.is_some(),
+        Some(link) => link.availability.changing.is_some(),
         None => false,
     }
 }

@@ -81,7 +81,7 @@ pub fn any_changing(links: &[Link]) -> bool
     ensures { result ≡ list_any is_changing links.now }
 {
     for link in links {
-        if link.marks.changing.is_some() {
+        if link.availability.changing.is_some() {
             return true;
         }
     }
@@ -122,7 +122,7 @@ pub fn any_in_way(links: &[Link], table: &Table, able: &[usize]) -> bool
 fn forgive(link: &mut Link)
     ensures { link.new ≡ forgiven link.old }
 {
-    link.marks.failed = false;
+    link.availability.failed = false;
 }
 
 /// No link counts as one that failed.

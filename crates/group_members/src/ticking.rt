@@ -11,7 +11,7 @@ use std::alloc::AllocError;
 fn make_room(link: &mut Link) -> Result<(), AllocError>
     ensures ok { OnOk result (link.new ≡ roomy link.old) }
     ensures err { OnErr result (link.new ≡ link.old) }
-    ensures low { OnErr result (is_low link.old.terminal.heart ≡ true) }
+    ensures low { OnErr result (is_low link.old.terminal.processes ≡ true) }
 {
     link.terminal.make_room()
 }
@@ -36,7 +36,7 @@ pub fn make_room_all(links: &mut [Link]) -> Result<(), AllocError>
 
 /// Why so many ticks can't pass at a link, if they can't.
 fn refusal_of(link: &Link, ticks: u64) -> Option<Refusal>
-    ensures { result ≡ tick_refusal ticks link.now.terminal.heart }
+    ensures { result ≡ tick_refusal ticks link.now.terminal.processes }
 {
     link.terminal.advance_refusal(ticks)
 }
@@ -56,12 +56,12 @@ pub fn tick_refusal(links: &[Link], ticks: u64) -> Option<Refusal>
 
 /// Lets ticks pass at a link that has room for them. How many timers were due.
 fn pass(link: &mut Link, ticks: u64) -> usize
-    requires room { is_low link.old.terminal.heart ≡ false }
-    requires may { tick_refusal ticks link.old.terminal.heart ≡ None }
+    requires room { is_low link.old.terminal.processes ≡ false }
+    requires may { tick_refusal ticks link.old.terminal.processes ≡ None }
     ensures due { result ≡ due_at ticks link.old }
     ensures link { link.new ≡ passed ticks link.old }
 {
-    link.marks = link.marks.waits(ticks);
+    link.availability = link.availability.waits(ticks);
     match link.terminal.tick(ticks) {
         Ok(due) => due,
         Err(_) => unreachable!(),

@@ -7,11 +7,11 @@ use Rattle.std.proofs.lemmas.List.Elements.{All-push, All-drop}
 use Rattle.plain_laws.proofs.Options.{some_none, row_passes}
 use Rattle.resend_store.specs.declared.messages.Msu.{Msu}
 use Rattle.resend_store.specs.Window.{Window, retrieved, count_known, unacknowledged}
-use Rattle.group_changeover.specs.declared.marks.Changing.{Changing}
-use Rattle.group_changeover.specs.declared.marks.Marks.{Marks}
+use Rattle.group_changeover.specs.declared.availability.Changing.{Changing}
+use Rattle.group_changeover.specs.declared.availability.Availability.{Availability}
 use Rattle.group_changeover.specs.Laws.{StepsKeepPlaces}
 use Rattle.group_changeover.specs.Limits.{SELECTIONS}
-use Rattle.group_changeover.specs.Marks.{hand_in, with_hand}
+use Rattle.group_changeover.specs.Availability.{retrieval_in, with_retrieval}
 use Rattle.group_changeover.specs.Sharing.{selection_of, is_on, of, link_of, counts_of}
 use Rattle.group_changeover.specs.declared.errors.SendError.TheVariants as send
 use Rattle.group_changeover.specs.declared.errors.RetrieveError.{RetrieveError}
@@ -21,34 +21,34 @@ use Rattle.group_members.specs.declared.link.Link.{Link}
 use Rattle.group_members.specs.OneLink.{window, held, is_changing, put_fault, puts, known_at, unsure_by, retrieve_fault, retrieve_fault_by, retrieve_fault_in, number_of, hands_out, abandon_by, abandon_fault}
 use Rattle.group_members.specs.Links.{change, fault_at}
 use Rattle.group_members.specs.Failing.{handed, given_up, messages_by, none_known}
-use Rattle.group_members.specs.Moving.{hand_by}
+use Rattle.group_members.specs.Moving.{retrieval_by}
 use Rattle.link_group.specs.Set.{LinkSet, send_fault, send_fault_by, change_by, sent}
 use Rattle.link_group.specs.Changing.{retrieve_fault_at, after_retrieve, messages_for, abandon_fault_at, after_abandon, unsent_at}
 use Rattle.link_group.specs.Laws.{held_by, held_at}
-use Rattle.link_group.specs.Reached.{Gone, acknowledged, unsure, messages_gone, with_hand_of, told_front, unacknowledged_at}
+use Rattle.link_group.specs.Reached.{Gone, acknowledged, unsure, messages_gone, with_retrieval_of, told_front, unacknowledged_at}
 use Rattle.link_group.proofs.Getting.{change_here, change_other}
-use Rattle.link_group.proofs.Fitting.{IsSmall, none_small, FitsMarks, FitsLink, fits_there, fits_change, fits_changed}
+use Rattle.link_group.proofs.Fitting.{IsSmall, none_small, FitsAvailability, FitsLink, fits_there, fits_change, fits_changed}
 use Rattle.link_group.proofs.Staying.{Stays, gone_marked, at_one, leaves}
 
--- ---- hands
+-- ---- retrievals
 
-equal_hand : (hands : ℕ → List Msu) (l j : ℕ) (ms : List Msu) → ((j == l) ≡ true) × (j ≡ l) ⊎ ((j == l) ≡ false) × (j ≢ l) → j ≡ l → with_hand_of hands l ms j ≡ ms
-equal_hand hands l j ms (inl x) e = ap (λ (b : Bool). if b then ms else hands j) x.0
-equal_hand hands l j ms (inr x) e = absurd (x.1 e)
+equal_retrieval : (retrievals : ℕ → List Msu) (l j : ℕ) (ms : List Msu) → ((j == l) ≡ true) × (j ≡ l) ⊎ ((j == l) ≡ false) × (j ≢ l) → j ≡ l → with_retrieval_of retrievals l ms j ≡ ms
+equal_retrieval retrievals l j ms (inl x) e = ap (λ (b : Bool). if b then ms else retrievals j) x.0
+equal_retrieval retrievals l j ms (inr x) e = absurd (x.1 e)
 
-pub hand_here : (hands : ℕ → List Msu) (l : ℕ) (ms : List Msu) → with_hand_of hands l ms l ≡ ms
-hand_here hands l ms = equal_hand hands l l ms (eqb_tells l l) refl
+pub retrieval_here : (retrievals : ℕ → List Msu) (l : ℕ) (ms : List Msu) → with_retrieval_of retrievals l ms l ≡ ms
+retrieval_here retrievals l ms = equal_retrieval retrievals l l ms (eqb_tells l l) refl
 
-other_hand : (hands : ℕ → List Msu) (l j : ℕ) (ms : List Msu) → ((j == l) ≡ true) × (j ≡ l) ⊎ ((j == l) ≡ false) × (j ≢ l) → (j ≡ l → ⊥) → with_hand_of hands l ms j ≡ hands j
-other_hand hands l j ms (inl x) h = absurd (h x.1)
-other_hand hands l j ms (inr x) h = ap (λ (b : Bool). if b then ms else hands j) x.0
+other_retrieval : (retrievals : ℕ → List Msu) (l j : ℕ) (ms : List Msu) → ((j == l) ≡ true) × (j ≡ l) ⊎ ((j == l) ≡ false) × (j ≢ l) → (j ≡ l → ⊥) → with_retrieval_of retrievals l ms j ≡ retrievals j
+other_retrieval retrievals l j ms (inl x) h = absurd (h x.1)
+other_retrieval retrievals l j ms (inr x) h = ap (λ (b : Bool). if b then ms else retrievals j) x.0
 
-pub hand_other : (hands : ℕ → List Msu) (l j : ℕ) (ms : List Msu) → (j ≡ l → ⊥) → with_hand_of hands l ms j ≡ hands j
-hand_other hands l j ms h = other_hand hands l j ms (eqb_tells j l) h
+pub retrieval_other : (retrievals : ℕ → List Msu) (l j : ℕ) (ms : List Msu) → (j ≡ l → ⊥) → with_retrieval_of retrievals l ms j ≡ retrievals j
+retrieval_other retrievals l j ms h = other_retrieval retrievals l j ms (eqb_tells j l) h
 
-pub no_hand : (o : Option Changing) → is_some o ≡ false → hand_by o ≡ None
-no_hand None e = refl
-no_hand (Some c) e = let f : true ≡ false = e in cc
+pub no_retrieval : (o : Option Changing) → is_some o ≡ false → retrieval_by o ≡ None
+no_retrieval None e = refl
+no_retrieval (Some c) e = let f : true ≡ false = e in cc
 
 -- ---- a message to send
 
@@ -75,51 +75,51 @@ puts_held m k = refl
 puts_fits : (m : Msu) (k : Link) (ms : List Msu) → selection_of m < SELECTIONS → FitsLink k ms → FitsLink (puts m k) ms
 unfolding puts
 puts_fits m k ms small fits = record {
-  marks = fits.marks;
+  availability = fits.availability;
   small = All-push IsSmall (held k) m fits.small small;
-  small_hand = fits.small_hand;
+  small_retrieval = fits.small_retrieval;
 }
 
-send_at : (laws : StepsKeepPlaces) (c : LinkSet) (hands : ℕ → List Msu) (accepted : List Msu) (gone : List Gone) (m : Msu) (l : ℕ) (k : Link) → Stays c hands accepted gone
+send_at : (laws : StepsKeepPlaces) (c : LinkSet) (retrievals : ℕ → List Msu) (accepted : List Msu) (gone : List Gone) (m : Msu) (l : ℕ) (k : Link) → Stays c retrievals accepted gone
     → link_of c.table (selection_of m) ≡ Some l → slice_get c.links l ≡ Some k → put_fault k ≡ None → selection_of m < SELECTIONS
-    → Stays (record c { links = change c.links l (puts m) }) hands (accepted ++ m ∷ []) gone
-send_at laws c hands accepted gone m l k stays link there free small =
+    → Stays (record c { links = change c.links l (puts m) }) retrievals (accepted ++ m ∷ []) gone
+send_at laws c retrievals accepted gone m l k stays link there free small =
     let d : LinkSet = record c { links = change c.links l (puts m) } in
-    let fits : FitsLink k (hands l) = fits_there c.links hands l k stays.fits there in
-    let none : hands l ≡ [] = fits.marks.idle (no_hand k.marks.changing (free_link k free)) in
+    let fits : FitsLink k (retrievals l) = fits_there c.links retrievals l k stays.fits there in
+    let none : retrievals l ≡ [] = fits.availability.idle (no_retrieval k.availability.changing (free_link k free)) in
     let grows : held_at d l ≡ held_at c l ++ m ∷ [] = ap held_by (change_here (puts m) c.links l (Some k) there) ∙ puts_held m k ∙ ap (λ (o : Option Link). held_by o ++ m ∷ []) (sym there) in
     record {
-      places = at_one laws l c d hands hands accepted (m ∷ []) [] gone gone stays.places (sym (append-nil (messages_gone gone)))
-          (λ s lt. own_by s l m c.table (eqb_tells (selection_of m) s) link) (order_put (held_at c l) (hands l) (held_at d l) (m ∷ []) none grows) (inl none)
+      places = at_one laws l c d retrievals retrievals accepted (m ∷ []) [] gone gone stays.places (sym (append-nil (messages_gone gone)))
+          (λ s lt. own_by s l m c.table (eqb_tells (selection_of m) s) link) (order_put (held_at c l) (retrievals l) (held_at d l) (m ∷ []) none grows) (inl none)
           (λ j h. ap held_by (change_other (puts m) c.links l j h)) (λ j h. refl) refl;
-      fits = fits_change (puts m) c.links hands l stays.fits (λ x e f. puts_fits m x (hands l) small f);
+      fits = fits_change (puts m) c.links retrievals l stays.fits (λ x e f. puts_fits m x (retrievals l) small f);
       table = stays.table;
     }
 
-send_there : (laws : StepsKeepPlaces) (c : LinkSet) (hands : ℕ → List Msu) (accepted : List Msu) (gone : List Gone) (m : Msu) (l : ℕ) (o : Option Link) → Stays c hands accepted gone
+send_there : (laws : StepsKeepPlaces) (c : LinkSet) (retrievals : ℕ → List Msu) (accepted : List Msu) (gone : List Gone) (m : Msu) (l : ℕ) (o : Option Link) → Stays c retrievals accepted gone
     → link_of c.table (selection_of m) ≡ Some l → slice_get c.links l ≡ o → fault_at send.NoLink put_fault o ≡ None → selection_of m < SELECTIONS
-    → Stays (record c { links = change c.links l (puts m) }) hands (accepted ++ m ∷ []) gone
-send_there laws c hands accepted gone m l None stays link there free small = absurd (some_none free)
-send_there laws c hands accepted gone m l (Some k) stays link there free small = send_at laws c hands accepted gone m l k stays link there free small
+    → Stays (record c { links = change c.links l (puts m) }) retrievals (accepted ++ m ∷ []) gone
+send_there laws c retrievals accepted gone m l None stays link there free small = absurd (some_none free)
+send_there laws c retrievals accepted gone m l (Some k) stays link there free small = send_at laws c retrievals accepted gone m l k stays link there free small
 
-send_by : (laws : StepsKeepPlaces) (c : LinkSet) (hands : ℕ → List Msu) (accepted : List Msu) (gone : List Gone) (m : Msu) (o : Option ℕ) → Stays c hands accepted gone
+send_by : (laws : StepsKeepPlaces) (c : LinkSet) (retrievals : ℕ → List Msu) (accepted : List Msu) (gone : List Gone) (m : Msu) (o : Option ℕ) → Stays c retrievals accepted gone
     → link_of c.table (selection_of m) ≡ o → send_fault_by c.links o ≡ None → selection_of m < SELECTIONS
-    → Stays (record c { links = change_by c.links o (puts m) }) hands (accepted ++ m ∷ []) gone
-send_by laws c hands accepted gone m None stays link free small = absurd (some_none free)
-send_by laws c hands accepted gone m (Some l) stays link free small = send_there laws c hands accepted gone m l (slice_get c.links l) stays link refl free small
+    → Stays (record c { links = change_by c.links o (puts m) }) retrievals (accepted ++ m ∷ []) gone
+send_by laws c retrievals accepted gone m None stays link free small = absurd (some_none free)
+send_by laws c retrievals accepted gone m (Some l) stays link free small = send_there laws c retrievals accepted gone m l (slice_get c.links l) stays link refl free small
 
-pub stays_sent : (laws : StepsKeepPlaces) (c : LinkSet) (hands : ℕ → List Msu) (accepted : List Msu) (gone : List Gone) (m : Msu) → Stays c hands accepted gone
-    → send_fault c m ≡ None → selection_of m < SELECTIONS → Stays (sent c m) hands (accepted ++ m ∷ []) gone
+pub stays_sent : (laws : StepsKeepPlaces) (c : LinkSet) (retrievals : ℕ → List Msu) (accepted : List Msu) (gone : List Gone) (m : Msu) → Stays c retrievals accepted gone
+    → send_fault c m ≡ None → selection_of m < SELECTIONS → Stays (sent c m) retrievals (accepted ++ m ∷ []) gone
 unfolding send_fault sent
-stays_sent laws c hands accepted gone m stays free small = send_by laws c hands accepted gone m (link_of c.table (selection_of m)) stays refl free small
+stays_sent laws c retrievals accepted gone m stays free small = send_by laws c retrievals accepted gone m (link_of c.table (selection_of m)) stays refl free small
 
 -- ---- messages handed out
 
-gives_idle : (counts : List ℕ) (o : Option Changing) (ms : List Msu) → is_some o ≡ true → hand_by (hand_in counts o) ≡ None → ms ≡ []
+gives_idle : (counts : List ℕ) (o : Option Changing) (ms : List Msu) → is_some o ≡ true → retrieval_by (retrieval_in counts o) ≡ None → ms ≡ []
 gives_idle counts None ms some e = let f : false ≡ true = some in cc
 gives_idle counts (Some c) ms some e = absurd (some_none e)
 
-pub fits_given : (counts : List ℕ) (m : Marks) (ms new : List Msu) → is_some m.changing ≡ true → FitsMarks m ms → FitsMarks (with_hand counts m) new
+pub fits_given : (counts : List ℕ) (m : Availability) (ms new : List Msu) → is_some m.changing ≡ true → FitsAvailability m ms → FitsAvailability (with_retrieval counts m) new
 fits_given counts m ms new some fits = record {
   idle = λ e. gives_idle counts m.changing new some e;
   failed = λ e. fits.failed some;
@@ -133,12 +133,12 @@ given_held : (fsn : Option ℕ) (k : Link) → held (hands_out fsn k) ≡ []
 unfolding hands_out
 given_held fsn k = refl
 
-given_fits : (fsn : Option ℕ) (k : Link) (ms : List Msu) → is_some k.marks.changing ≡ true → FitsLink k ms → FitsLink (hands_out fsn k) (retrieved (window k) fsn)
+given_fits : (fsn : Option ℕ) (k : Link) (ms : List Msu) → is_some k.availability.changing ≡ true → FitsLink k ms → FitsLink (hands_out fsn k) (retrieved (window k) fsn)
 unfolding hands_out
 given_fits fsn k ms some fits = record {
-  marks = fits_given (counts_of (retrieved (window k) fsn)) k.marks ms (retrieved (window k) fsn) some fits.marks;
+  availability = fits_given (counts_of (retrieved (window k) fsn)) k.availability ms (retrieved (window k) fsn) some fits.availability;
   small = none_small;
-  small_hand = small_given (window k) fsn fits.small;
+  small_retrieval = small_given (window k) fsn fits.small;
 }
 
 order_given : (h x left ms g new : List Msu) → x ≡ [] → left ++ ms ≡ h → g ≡ [] → new ≡ ms → h ++ x ≡ left ++ g ++ new
@@ -147,24 +147,24 @@ order_given h x left ms g new e parts none is = rw (e, none, is) (append-nil h �
 same_link : (a b : Link) → Some a ≡ Some b → a ≡ b
 same_link a b e = cc
 
-give_at : (laws : StepsKeepPlaces) (c : LinkSet) (hands : ℕ → List Msu) (accepted : List Msu) (gone more : List Gone) (l unsure : ℕ) (k : Link) (fsn : Option ℕ) (left : List Msu)
-    (f : Link → Link) → Stays c hands accepted gone → slice_get c.links l ≡ Some k → hand_by k.marks.changing ≡ None → is_some k.marks.changing ≡ true
+give_at : (laws : StepsKeepPlaces) (c : LinkSet) (retrievals : ℕ → List Msu) (accepted : List Msu) (gone more : List Gone) (l unsure : ℕ) (k : Link) (fsn : Option ℕ) (left : List Msu)
+    (f : Link → Link) → Stays c retrievals accepted gone → slice_get c.links l ≡ Some k → retrieval_by k.availability.changing ≡ None → is_some k.availability.changing ≡ true
     → left ++ retrieved (window k) fsn ≡ held k → messages_gone more ≡ messages_gone gone ++ left → f k ≡ hands_out fsn k
-    → Stays (record c { links = change c.links l f; unsure = unsure }) (with_hand_of hands l (retrieved (window k) fsn)) accepted more
-give_at laws c hands accepted gone more l unsure k fsn left f stays there free some parts marked is =
+    → Stays (record c { links = change c.links l f; unsure = unsure }) (with_retrieval_of retrievals l (retrieved (window k) fsn)) accepted more
+give_at laws c retrievals accepted gone more l unsure k fsn left f stays there free some parts marked is =
     let d : LinkSet = record c { links = change c.links l f; unsure = unsure } in
     let ms : List Msu = retrieved (window k) fsn in
-    let fits : FitsLink k (hands l) = fits_there c.links hands l k stays.fits there in
-    let none : hands l ≡ [] = fits.marks.idle free in
+    let fits : FitsLink k (retrievals l) = fits_there c.links retrievals l k stays.fits there in
+    let none : retrievals l ≡ [] = fits.availability.idle free in
     let empty : held_at d l ≡ [] = ap held_by (change_here f c.links l (Some k) there) ∙ ap held is ∙ given_held fsn k in
     let whole : left ++ ms ≡ held_at c l = parts ∙ ap held_by (sym there) in
     record {
-      places = leaves laws l c d hands (with_hand_of hands l ms) accepted left gone more stays.places marked
-          (order_given (held_at c l) (hands l) left ms (held_at d l) (with_hand_of hands l ms l) none whole empty (hand_here hands l ms)) (inr empty)
-          (λ j h. ap held_by (change_other f c.links l j h)) (λ j h. hand_other hands l j ms h) refl;
-      fits = fits_changed f c.links hands (with_hand_of hands l ms) ms l stays.fits (λ j h. hand_other hands l j ms h) (hand_here hands l ms)
+      places = leaves laws l c d retrievals (with_retrieval_of retrievals l ms) accepted left gone more stays.places marked
+          (order_given (held_at c l) (retrievals l) left ms (held_at d l) (with_retrieval_of retrievals l ms l) none whole empty (retrieval_here retrievals l ms)) (inr empty)
+          (λ j h. ap held_by (change_other f c.links l j h)) (λ j h. retrieval_other retrievals l j ms h) refl;
+      fits = fits_changed f c.links retrievals (with_retrieval_of retrievals l ms) ms l stays.fits (λ j h. retrieval_other retrievals l j ms h) (retrieval_here retrievals l ms)
           (λ x e. let same : x ≡ k = same_link x k (sym e ∙ there) in
-          subst (λ (y : Link). FitsLink y ms) (sym (ap f same ∙ is)) (given_fits fsn k (hands l) some fits))
+          subst (λ (y : Link). FitsLink y ms) (sym (ap f same ∙ is)) (given_fits fsn k (retrievals l) some fits))
           (λ e. absurd (some_none (sym there ∙ e)));
       table = stays.table;
     }
@@ -181,81 +181,81 @@ told_parts w (Some fsn) e = take-append-drop (count_known w (Some fsn)) w.kept
 told_parts w None e = ap (λ (i : ℕ). drop i w.kept) (none_by w.sent (w.sent == 0) refl (eqb_tells w.sent 0) e)
 
 abbrev pub Told : Link → Type 0
-Told k = (hand_by k.marks.changing ≡ None) × (is_some k.marks.changing ≡ true) × (unsure_by (window k).sent (number_of k) ≡ None)
+Told k = (retrieval_by k.availability.changing ≡ None) × (is_some k.availability.changing ≡ true) × (unsure_by (window k).sent (number_of k) ≡ None)
 
-told_by : (k : Link) (o : Option Changing) → k.marks.changing ≡ o → retrieve_fault_by k o ≡ None → Told k
+told_by : (k : Link) (o : Option Changing) → k.availability.changing ≡ o → retrieve_fault_by k o ≡ None → Told k
 unfolding retrieve_fault_in number_of
 told_by k None is e = absurd (some_none e)
 told_by k (Some c) is e =
-    let first = row_passes (is_some c.hand) retrieve.Waiting _ e in
+    let first = row_passes (is_some c.retrieval) retrieve.Waiting _ e in
     let second = row_passes _ retrieve.Waiting _ first.1 in
-    (ap hand_by is ∙ hand_none c.hand first.0, ap is_some is, ap (λ (x : Option Changing). unsure_by (window k).sent (known_at k x)) is ∙ second.1)
+    (ap retrieval_by is ∙ retrieval_none c.retrieval first.0, ap is_some is, ap (λ (x : Option Changing). unsure_by (window k).sent (known_at k x)) is ∙ second.1)
   where
-    hand_none : (h : Option (List ℕ)) → is_some h ≡ false → h ≡ None
-    hand_none None x = refl
-    hand_none (Some counts) x = let f : true ≡ false = x in cc
+    retrieval_none : (h : Option (List ℕ)) → is_some h ≡ false → h ≡ None
+    retrieval_none None x = refl
+    retrieval_none (Some counts) x = let f : true ≡ false = x in cc
 
 told_of : (k : Link) → retrieve_fault k ≡ None → Told k
 unfolding retrieve_fault
-told_of k e = told_by k k.marks.changing refl e
+told_of k e = told_by k k.availability.changing refl e
 
-retrieves_by : (laws : StepsKeepPlaces) (c : LinkSet) (hands : ℕ → List Msu) (accepted : List Msu) (gone : List Gone) (l : ℕ) (o : Option Link) → Stays c hands accepted gone
+retrieves_by : (laws : StepsKeepPlaces) (c : LinkSet) (retrievals : ℕ → List Msu) (accepted : List Msu) (gone : List Gone) (l : ℕ) (o : Option Link) → Stays c retrievals accepted gone
     → slice_get c.links l ≡ o → fault_at retrieve.NoLink retrieve_fault o ≡ None
-    → Stays (record c { links = change c.links l handed }) (with_hand_of hands l (messages_by number_of o)) accepted (gone ++ acknowledged (told_front o))
-retrieves_by laws c hands accepted gone l None stays there e = absurd (some_none e)
-retrieves_by laws c hands accepted gone l (Some k) stays there e =
+    → Stays (record c { links = change c.links l handed }) (with_retrieval_of retrievals l (messages_by number_of o)) accepted (gone ++ acknowledged (told_front o))
+retrieves_by laws c retrievals accepted gone l None stays there e = absurd (some_none e)
+retrieves_by laws c retrievals accepted gone l (Some k) stays there e =
     let told : Told k = told_of k e in
     let left : List Msu = take (count_known (window k) (number_of k)) (held k) in
-    give_at laws c hands accepted gone (gone ++ acknowledged left) l c.unsure k (number_of k) left handed stays there told.0 told.1
+    give_at laws c retrievals accepted gone (gone ++ acknowledged left) l c.unsure k (number_of k) left handed stays there told.0 told.1
     (told_parts (window k) (number_of k) told.2) (gone_marked false gone left) refl
 
-pub stays_retrieved : (laws : StepsKeepPlaces) (c : LinkSet) (hands : ℕ → List Msu) (accepted : List Msu) (gone : List Gone) (l : ℕ) → Stays c hands accepted gone
+pub stays_retrieved : (laws : StepsKeepPlaces) (c : LinkSet) (retrievals : ℕ → List Msu) (accepted : List Msu) (gone : List Gone) (l : ℕ) → Stays c retrievals accepted gone
     → retrieve_fault_at c l ≡ None
-    → Stays (after_retrieve c l) (with_hand_of hands l (messages_for c l)) accepted (gone ++ acknowledged (told_front (slice_get c.links l)))
+    → Stays (after_retrieve c l) (with_retrieval_of retrievals l (messages_for c l)) accepted (gone ++ acknowledged (told_front (slice_get c.links l)))
 unfolding retrieve_fault_at after_retrieve messages_for
-stays_retrieved laws c hands accepted gone l stays e = retrieves_by laws c hands accepted gone l (slice_get c.links l) stays refl e
+stays_retrieved laws c retrievals accepted gone l stays e = retrieves_by laws c retrievals accepted gone l (slice_get c.links l) stays refl e
 
 -- ---- given up
 
 abbrev pub Unknown : Link → Type 0
-Unknown k = (hand_by k.marks.changing ≡ None) × (is_some k.marks.changing ≡ true)
+Unknown k = (retrieval_by k.availability.changing ≡ None) × (is_some k.availability.changing ≡ true)
 
 unsure_in : (a : Bool) (n : ℕ) (rest : Option RetrieveError) → (if a then Some retrieve.Waiting else rest) ≡ Some (retrieve.Unsure n) → a ≡ false
 unsure_in true n rest e = cc
 unsure_in false n rest e = refl
 
-unknown_by : (k : Link) (n : ℕ) (o : Option Changing) → k.marks.changing ≡ o → retrieve_fault_by k o ≡ Some (retrieve.Unsure n) → Unknown k
+unknown_by : (k : Link) (n : ℕ) (o : Option Changing) → k.availability.changing ≡ o → retrieve_fault_by k o ≡ Some (retrieve.Unsure n) → Unknown k
 unfolding retrieve_fault_in
 unknown_by k n None is e = cc
-unknown_by k n (Some c) is e = rw is (hand_none c.hand (unsure_in (is_some c.hand) n _ e), refl)
+unknown_by k n (Some c) is e = rw is (retrieval_none c.retrieval (unsure_in (is_some c.retrieval) n _ e), refl)
   where
-    hand_none : (h : Option (List ℕ)) → is_some h ≡ false → h ≡ None
-    hand_none None x = refl
-    hand_none (Some counts) x = let f : true ≡ false = x in cc
+    retrieval_none : (h : Option (List ℕ)) → is_some h ≡ false → h ≡ None
+    retrieval_none None x = refl
+    retrieval_none (Some counts) x = let f : true ≡ false = x in cc
 
 unsure_by_fault : (k : Link) (o : Option RetrieveError) → retrieve_fault k ≡ o → abandon_by o ≡ None → Unknown k
 unfolding retrieve_fault
 unsure_by_fault k None is e = absurd (some_none e)
 unsure_by_fault k (Some retrieve.NoLink) is e = absurd (some_none e)
 unsure_by_fault k (Some retrieve.Waiting) is e = absurd (some_none e)
-unsure_by_fault k (Some (retrieve.Unsure n)) is e = unknown_by k n k.marks.changing refl is
+unsure_by_fault k (Some (retrieve.Unsure n)) is e = unknown_by k n k.availability.changing refl is
 unsure_by_fault k (Some retrieve.NoMemory) is e = absurd (some_none e)
 
 unknown_of : (k : Link) → abandon_fault k ≡ None → Unknown k
 unfolding abandon_fault
 unknown_of k e = unsure_by_fault k (retrieve_fault k) refl e
 
-abandons_by : (laws : StepsKeepPlaces) (c : LinkSet) (hands : ℕ → List Msu) (accepted : List Msu) (gone : List Gone) (l count : ℕ) (o : Option Link) → Stays c hands accepted gone
+abandons_by : (laws : StepsKeepPlaces) (c : LinkSet) (retrievals : ℕ → List Msu) (accepted : List Msu) (gone : List Gone) (l count : ℕ) (o : Option Link) → Stays c retrievals accepted gone
     → slice_get c.links l ≡ o → fault_at abandon.NoLink abandon_fault o ≡ None
-    → Stays (record c { links = change c.links l given_up; unsure = count }) (with_hand_of hands l (messages_by none_known o)) accepted (gone ++ unsure (unacknowledged_at o))
-abandons_by laws c hands accepted gone l count None stays there e = absurd (some_none e)
-abandons_by laws c hands accepted gone l count (Some k) stays there e =
+    → Stays (record c { links = change c.links l given_up; unsure = count }) (with_retrieval_of retrievals l (messages_by none_known o)) accepted (gone ++ unsure (unacknowledged_at o))
+abandons_by laws c retrievals accepted gone l count None stays there e = absurd (some_none e)
+abandons_by laws c retrievals accepted gone l count (Some k) stays there e =
     let free : Unknown k = unknown_of k e in
-    give_at laws c hands accepted gone (gone ++ unsure (unacknowledged (window k))) l count k None (unacknowledged (window k)) given_up stays there free.0 free.1
+    give_at laws c retrievals accepted gone (gone ++ unsure (unacknowledged (window k))) l count k None (unacknowledged (window k)) given_up stays there free.0 free.1
     (take-append-drop (window k).sent (held k)) (gone_marked true gone (unacknowledged (window k))) refl
 
-pub stays_abandoned : (laws : StepsKeepPlaces) (c : LinkSet) (hands : ℕ → List Msu) (accepted : List Msu) (gone : List Gone) (l : ℕ) → Stays c hands accepted gone
+pub stays_abandoned : (laws : StepsKeepPlaces) (c : LinkSet) (retrievals : ℕ → List Msu) (accepted : List Msu) (gone : List Gone) (l : ℕ) → Stays c retrievals accepted gone
     → abandon_fault_at c l ≡ None
-    → Stays (after_abandon c l) (with_hand_of hands l (unsent_at c l)) accepted (gone ++ unsure (unacknowledged_at (slice_get c.links l)))
+    → Stays (after_abandon c l) (with_retrieval_of retrievals l (unsent_at c l)) accepted (gone ++ unsure (unacknowledged_at (slice_get c.links l)))
 unfolding abandon_fault_at after_abandon unsent_at
-stays_abandoned laws c hands accepted gone l stays e = abandons_by laws c hands accepted gone l _ (slice_get c.links l) stays refl e
+stays_abandoned laws c retrievals accepted gone l stays e = abandons_by laws c retrievals accepted gone l _ (slice_get c.links l) stays refl e

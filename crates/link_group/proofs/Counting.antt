@@ -134,26 +134,26 @@ unfolding after_abandon
 given_up c l gone e =
     so_many_more MOST c.unsure (sent_by (slice_get c.links l)) gone (unacknowledged_at (slice_get c.links l)) e (sent_is (slice_get c.links l))
 
-counted : (c : LinkSet) (hands : ℕ → List Msu) (accepted : List Msu) (gone : List Gone) → Reached c hands accepted gone → Counts c gone
+counted : (c : LinkSet) (retrievals : ℕ → List Msu) (accepted : List Msu) (gone : List Gone) → Reached c retrievals accepted gone → Counts c gone
 counted _ _ _ _ (opens own peer ts unused) = new_none own peer ts
-counted _ _ _ _ (sends c hands accepted gone m r free small) = sent_same c m ∙ counted c hands accepted gone r
-counted _ _ _ _ (fails c hands accepted gone l r free) = failed_same c l ∙ counted c hands accepted gone r
-counted _ _ _ _ (hears c hands accepted gone m r) = heard_same c m ∙ counted c hands accepted gone r
-counted _ _ _ _ (retrieves c hands accepted gone l r free) =
-    retrieved_same c l ∙ none_more c.unsure MOST gone (told_front (slice_get c.links l)) (counted c hands accepted gone r)
-counted _ _ _ _ (abandons c hands accepted gone l r free) = given_up c l gone (counted c hands accepted gone r)
-counted _ _ _ _ (diverts c hands accepted gone l r own) = after_same c l (hands l) ∙ counted c hands accepted gone r
-counted _ _ _ _ (rebalances c hands accepted gone r free) = rebalanced_same c ∙ counted c hands accepted gone r
-counted _ _ _ _ (listens c d hands accepted gone l octets taken r did) =
-    link_same _ l c d did ∙ none_more c.unsure MOST gone did.at.was.took.gone (counted c hands accepted gone r)
-counted _ _ _ _ (speaks c d hands accepted gone l units octets r did) = link_same _ l c d did ∙ counted c hands accepted gone r
-counted _ _ _ _ (gives c d hands accepted gone l unit r did) = link_same _ l c d did ∙ counted c hands accepted gone r
-counted _ _ _ _ (reports c d hands accepted gone l report r did) = link_same _ l c d did ∙ counted c hands accepted gone r
-counted _ _ _ _ (commands c d hands accepted gone l command r did) = link_same _ l c d did ∙ counted c hands accepted gone r
-counted _ _ _ _ (refuses c d hands accepted gone l command refusal r did) = alone_same _ l c d did ∙ counted c hands accepted gone r
-counted _ _ _ _ (ticks c hands accepted gone n r) = ticked_same n c ∙ counted c hands accepted gone r
-counted _ _ _ _ (makes_room c hands accepted gone r) = counted c hands accepted gone r
-counted _ _ _ _ (lacks_room c d hands accepted gone r lacks) = ap (λ (x : LinkSet). x.unsure) lacks.set ∙ counted c hands accepted gone r
+counted _ _ _ _ (sends c retrievals accepted gone m r free small) = sent_same c m ∙ counted c retrievals accepted gone r
+counted _ _ _ _ (fails c retrievals accepted gone l r free) = failed_same c l ∙ counted c retrievals accepted gone r
+counted _ _ _ _ (hears c retrievals accepted gone m r) = heard_same c m ∙ counted c retrievals accepted gone r
+counted _ _ _ _ (retrieves c retrievals accepted gone l r free) =
+    retrieved_same c l ∙ none_more c.unsure MOST gone (told_front (slice_get c.links l)) (counted c retrievals accepted gone r)
+counted _ _ _ _ (abandons c retrievals accepted gone l r free) = given_up c l gone (counted c retrievals accepted gone r)
+counted _ _ _ _ (diverts c retrievals accepted gone l r own) = after_same c l (retrievals l) ∙ counted c retrievals accepted gone r
+counted _ _ _ _ (rebalances c retrievals accepted gone r free) = rebalanced_same c ∙ counted c retrievals accepted gone r
+counted _ _ _ _ (listens c d retrievals accepted gone l octets taken r did) =
+    link_same _ l c d did ∙ none_more c.unsure MOST gone did.at.was.took.gone (counted c retrievals accepted gone r)
+counted _ _ _ _ (speaks c d retrievals accepted gone l units octets r did) = link_same _ l c d did ∙ counted c retrievals accepted gone r
+counted _ _ _ _ (gives c d retrievals accepted gone l unit r did) = link_same _ l c d did ∙ counted c retrievals accepted gone r
+counted _ _ _ _ (reports c d retrievals accepted gone l report r did) = link_same _ l c d did ∙ counted c retrievals accepted gone r
+counted _ _ _ _ (commands c d retrievals accepted gone l command r did) = link_same _ l c d did ∙ counted c retrievals accepted gone r
+counted _ _ _ _ (refuses c d retrievals accepted gone l command refusal r did) = alone_same _ l c d did ∙ counted c retrievals accepted gone r
+counted _ _ _ _ (ticks c retrievals accepted gone n r) = ticked_same n c ∙ counted c retrievals accepted gone r
+counted _ _ _ _ (makes_room c retrievals accepted gone r) = counted c retrievals accepted gone r
+counted _ _ _ _ (lacks_room c d retrievals accepted gone r lacks) = ap (λ (x : LinkSet). x.unsure) lacks.set ∙ counted c retrievals accepted gone r
 
 pub unsure_are_counted : UnsureAreCounted
-unsure_are_counted = λ c hands accepted gone r. counted c hands accepted gone r
+unsure_are_counted = λ c retrievals accepted gone r. counted c retrievals accepted gone r

@@ -1,20 +1,20 @@
--- What is marked at each link fits what the caller has in hand.
+-- What is marked at each link fits what the caller has retrieved.
 use Rattle.std.proofs.Common.{◌≡◌, ℕ, ◌<◌, true, List, [], ◌∷◌, ◌++◌, Option, Some, None, refl, sym, ap, ◌∙◌, subst, arith, inl, inr}
 use Rattle.std.specs.Prelude.{All, is_some, map, option_map, slice_get}
 use Rattle.std.proofs.lemmas.List.Elements.{All-tail}
 use Rattle.std.proofs.lemmas.Option.{slice_get-map}
 use Rattle.resend_store.specs.declared.messages.Msu.{Msu}
-use Rattle.group_changeover.specs.declared.marks.Marks.{Marks}
-use Rattle.group_changeover.specs.declared.marks.Changing.{Changing}
-use Rattle.group_changeover.specs.declared.marks.Answer.{Answer}
+use Rattle.group_changeover.specs.declared.availability.Availability.{Availability}
+use Rattle.group_changeover.specs.declared.availability.Changing.{Changing}
+use Rattle.group_changeover.specs.declared.availability.Answer.{Answer}
 use Rattle.group_changeover.specs.Limits.{SELECTIONS}
-use Rattle.group_changeover.specs.Marks.{begun_by, begins, told_by, told_in, told, waited_in, waits}
+use Rattle.group_changeover.specs.Availability.{begun_by, begins, told_by, told_in, told, waited_in, waits}
 use Rattle.group_changeover.specs.Sharing.{selection_of}
 use Rattle.group_changeover.proofs.Equal.{Same, same}
 use Rattle.group_members.specs.declared.link.Link.{Link}
 use Rattle.group_members.specs.OneLink.{held}
 use Rattle.group_members.specs.Links.{change}
-use Rattle.group_members.specs.Moving.{hand_by}
+use Rattle.group_members.specs.Moving.{retrieval_by}
 use Rattle.link_group.proofs.Getting.{change_here, change_other}
 
 abbrev pub IsSmall : Msu → Type 0
@@ -23,25 +23,25 @@ IsSmall m = selection_of m < SELECTIONS
 pub none_small : All IsSmall []
 none_small = λ i d lt. absurd (omega (arith, lt))
 
--- The caller has the hand of a link only where that is marked as out. A link in changeover has failed.
-pub record FitsMarks (m : Marks) (ms : List Msu) : Type 0 where
-  pub idle : hand_by m.changing ≡ None → ms ≡ []
+-- The caller has the retrieval of a link only where that is marked as out. A link in changeover has failed.
+pub record FitsAvailability (m : Availability) (ms : List Msu) : Type 0 where
+  pub idle : retrieval_by m.changing ≡ None → ms ≡ []
   pub failed : is_some m.changing ≡ true → m.failed ≡ true
 
 pub record FitsLink (k : Link) (ms : List Msu) : Type 0 where
-  pub marks : FitsMarks k.marks ms
+  pub availability : FitsAvailability k.availability ms
   pub small : All IsSmall (held k)
-  pub small_hand : All IsSmall ms
+  pub small_retrieval : All IsSmall ms
 
 abbrev pub FitsAt : Option Link → List Msu → Type 0
 FitsAt None ms = ms ≡ []
 FitsAt (Some k) ms = FitsLink k ms
 
 abbrev pub Fits : List Link → (ℕ → List Msu) → Type 0
-Fits ks hands = (l : ℕ) → FitsAt (slice_get ks l) (hands l)
+Fits ks retrievals = (l : ℕ) → FitsAt (slice_get ks l) (retrievals l)
 
-pub fits_there : (ks : List Link) (hands : ℕ → List Msu) (l : ℕ) (k : Link) → Fits ks hands → slice_get ks l ≡ Some k → FitsLink k (hands l)
-fits_there ks hands l k fits e = subst (λ (o : Option Link). FitsAt o (hands l)) e (fits l)
+pub fits_there : (ks : List Link) (retrievals : ℕ → List Msu) (l : ℕ) (k : Link) → Fits ks retrievals → slice_get ks l ≡ Some k → FitsLink k (retrievals l)
+fits_there ks retrievals l k fits e = subst (λ (o : Option Link). FitsAt o (retrievals l)) e (fits l)
 
 -- ---- one link changes, or all do
 
@@ -49,96 +49,96 @@ change_at : (f : Link → Link) (o : Option Link) (ms : List Msu) → ((k : Link
 change_at f None ms some none = none refl
 change_at f (Some k) ms some none = some k refl
 
-change_by : (f : Link → Link) (ks : List Link) (hands : ℕ → List Msu) (ms : List Msu) (l j : ℕ) (new : ℕ → List Msu) → Same j l → Fits ks hands
-    → ((i : ℕ) → (i ≡ l → ⊥) → new i ≡ hands i) → new l ≡ ms
+change_by : (f : Link → Link) (ks : List Link) (retrievals : ℕ → List Msu) (ms : List Msu) (l j : ℕ) (new : ℕ → List Msu) → Same j l → Fits ks retrievals
+    → ((i : ℕ) → (i ≡ l → ⊥) → new i ≡ retrievals i) → new l ≡ ms
     → ((k : Link) → slice_get ks l ≡ Some k → FitsLink (f k) ms) → (slice_get ks l ≡ None → ms ≡ []) → FitsAt (slice_get (change ks l f) j) (new j)
-change_by f ks hands ms l j new (inl e) fits else is some none =
+change_by f ks retrievals ms l j new (inl e) fits else is some none =
     let here : FitsAt (slice_get (change ks l f) l) (new l) =
     rw (change_here f ks l (slice_get ks l) refl, is) (change_at f (slice_get ks l) ms some none) in
     subst (λ (i : ℕ). FitsAt (slice_get (change ks l f) i) (new i)) (sym e) here
-change_by f ks hands ms l j new (inr other) fits else is some none = rw (change_other f ks l j other, else j other) (fits j)
+change_by f ks retrievals ms l j new (inr other) fits else is some none = rw (change_other f ks l j other, else j other) (fits j)
 
--- a link changes, with its hand
-pub fits_changed : (f : Link → Link) (ks : List Link) (hands new : ℕ → List Msu) (ms : List Msu) (l : ℕ) → Fits ks hands
-    → ((i : ℕ) → (i ≡ l → ⊥) → new i ≡ hands i) → new l ≡ ms
+-- a link changes, with its retrieval
+pub fits_changed : (f : Link → Link) (ks : List Link) (retrievals new : ℕ → List Msu) (ms : List Msu) (l : ℕ) → Fits ks retrievals
+    → ((i : ℕ) → (i ≡ l → ⊥) → new i ≡ retrievals i) → new l ≡ ms
     → ((k : Link) → slice_get ks l ≡ Some k → FitsLink (f k) ms) → (slice_get ks l ≡ None → ms ≡ []) → Fits (change ks l f) new
-fits_changed f ks hands new ms l fits else is some none = λ j. change_by f ks hands ms l j new (same j l) fits else is some none
+fits_changed f ks retrievals new ms l fits else is some none = λ j. change_by f ks retrievals ms l j new (same j l) fits else is some none
 
-none_at : (ks : List Link) (hands : ℕ → List Msu) (l : ℕ) → Fits ks hands → slice_get ks l ≡ None → hands l ≡ []
-none_at ks hands l fits e = subst (λ (o : Option Link). FitsAt o (hands l)) e (fits l)
+none_at : (ks : List Link) (retrievals : ℕ → List Msu) (l : ℕ) → Fits ks retrievals → slice_get ks l ≡ None → retrievals l ≡ []
+none_at ks retrievals l fits e = subst (λ (o : Option Link). FitsAt o (retrievals l)) e (fits l)
 
--- a link changes, and its hand stays
-pub fits_change : (f : Link → Link) (ks : List Link) (hands : ℕ → List Msu) (l : ℕ) → Fits ks hands
-    → ((k : Link) → slice_get ks l ≡ Some k → FitsLink k (hands l) → FitsLink (f k) (hands l)) → Fits (change ks l f) hands
-fits_change f ks hands l fits step =
-    fits_changed f ks hands hands (hands l) l fits (λ i h. refl) refl (λ k e. step k e (fits_there ks hands l k fits e)) (none_at ks hands l fits)
+-- a link changes, and its retrieval stays
+pub fits_change : (f : Link → Link) (ks : List Link) (retrievals : ℕ → List Msu) (l : ℕ) → Fits ks retrievals
+    → ((k : Link) → slice_get ks l ≡ Some k → FitsLink k (retrievals l) → FitsLink (f k) (retrievals l)) → Fits (change ks l f) retrievals
+fits_change f ks retrievals l fits step =
+    fits_changed f ks retrievals retrievals (retrievals l) l fits (λ i h. refl) refl (λ k e. step k e (fits_there ks retrievals l k fits e)) (none_at ks retrievals l fits)
 
 map_at : (f : Link → Link) (o : Option Link) (ms : List Msu) → ((k : Link) → o ≡ Some k → FitsLink k ms → FitsLink (f k) ms) → FitsAt o ms → FitsAt (option_map f o) ms
 map_at f None ms step fits = fits
 map_at f (Some k) ms step fits = step k refl fits
 
-pub fits_map : (f : Link → Link) (ks : List Link) (hands : ℕ → List Msu) → Fits ks hands
-    → ((k : Link) (l : ℕ) → slice_get ks l ≡ Some k → FitsLink k (hands l) → FitsLink (f k) (hands l)) → Fits (map f ks) hands
-fits_map f ks hands fits step = λ l. rw (slice_get-map f ks l) (map_at f (slice_get ks l) (hands l) (λ k. step k l) (fits l))
+pub fits_map : (f : Link → Link) (ks : List Link) (retrievals : ℕ → List Msu) → Fits ks retrievals
+    → ((k : Link) (l : ℕ) → slice_get ks l ≡ Some k → FitsLink k (retrievals l) → FitsLink (f k) (retrievals l)) → Fits (map f ks) retrievals
+fits_map f ks retrievals fits step = λ l. rw (slice_get-map f ks l) (map_at f (slice_get ks l) (retrievals l) (λ k. step k l) (fits l))
 
 -- ---- marks
 
--- marks that say the same of hands and changeovers
-pub fits_alike : (m n : Marks) (ms : List Msu) → n.changing ≡ m.changing → n.failed ≡ m.failed → FitsMarks m ms → FitsMarks n ms
+-- marks that say the same of retrievals and changeovers
+pub fits_alike : (m n : Availability) (ms : List Msu) → n.changing ≡ m.changing → n.failed ≡ m.failed → FitsAvailability m ms → FitsAvailability n ms
 fits_alike m n ms c f fits = record {
-  idle = λ e. fits.idle (ap hand_by (sym c) ∙ e);
+  idle = λ e. fits.idle (ap retrieval_by (sym c) ∙ e);
   failed = λ e. f ∙ fits.failed (ap is_some (sym c) ∙ e);
 }
 
-begins_by : (m : Marks) (ms : List Msu) (o : Option Changing) → m.changing ≡ o → FitsMarks m ms → FitsMarks (begun_by o m) ms
+begins_by : (m : Availability) (ms : List Msu) (o : Option Changing) → m.changing ≡ o → FitsAvailability m ms → FitsAvailability (begun_by o m) ms
 begins_by m ms None is fits = record {
-  idle = λ e. fits.idle (ap hand_by is);
+  idle = λ e. fits.idle (ap retrieval_by is);
   failed = λ e. refl;
 }
 begins_by m ms (Some c) is fits = fits
 
-pub fits_begins : (m : Marks) (ms : List Msu) → FitsMarks m ms → FitsMarks (begins m) ms
+pub fits_begins : (m : Availability) (ms : List Msu) → FitsAvailability m ms → FitsAvailability (begins m) ms
 fits_begins m ms fits = begins_by m ms m.changing refl fits
 
-told_hand : (h : Option (List ℕ)) (a : Answer) (c : Changing) → (told_by h a c).hand ≡ c.hand
-told_hand None a c = refl
-told_hand (Some counts) a c = refl
+told_retrieval : (h : Option (List ℕ)) (a : Answer) (c : Changing) → (told_by h a c).retrieval ≡ c.retrieval
+told_retrieval None a c = refl
+told_retrieval (Some counts) a c = refl
 
-told_hand_by : (o : Option Changing) (a : Answer) → hand_by (told_in o a) ≡ hand_by o
-told_hand_by None a = refl
-told_hand_by (Some c) a = told_hand c.hand a c
+told_retrieval_by : (o : Option Changing) (a : Answer) → retrieval_by (told_in o a) ≡ retrieval_by o
+told_retrieval_by None a = refl
+told_retrieval_by (Some c) a = told_retrieval c.retrieval a c
 
 told_some : (o : Option Changing) (a : Answer) → is_some (told_in o a) ≡ is_some o
 told_some None a = refl
 told_some (Some c) a = refl
 
-pub fits_told : (a : Answer) (m : Marks) (ms : List Msu) → FitsMarks m ms → FitsMarks (told a m) ms
+pub fits_told : (a : Answer) (m : Availability) (ms : List Msu) → FitsAvailability m ms → FitsAvailability (told a m) ms
 fits_told a m ms fits = record {
-  idle = λ e. fits.idle (sym (told_hand_by m.changing a) ∙ e);
+  idle = λ e. fits.idle (sym (told_retrieval_by m.changing a) ∙ e);
   failed = λ e. fits.failed (sym (told_some m.changing a) ∙ e);
 }
 
-waited_hand : (n : ℕ) (o : Option Changing) → hand_by (waited_in n o) ≡ hand_by o
-waited_hand n None = refl
-waited_hand n (Some c) = refl
+waited_retrieval : (n : ℕ) (o : Option Changing) → retrieval_by (waited_in n o) ≡ retrieval_by o
+waited_retrieval n None = refl
+waited_retrieval n (Some c) = refl
 
 waited_some : (n : ℕ) (o : Option Changing) → is_some (waited_in n o) ≡ is_some o
 waited_some n None = refl
 waited_some n (Some c) = refl
 
-pub fits_waits : (n : ℕ) (m : Marks) (ms : List Msu) → FitsMarks m ms → FitsMarks (waits n m) ms
+pub fits_waits : (n : ℕ) (m : Availability) (ms : List Msu) → FitsAvailability m ms → FitsAvailability (waits n m) ms
 fits_waits n m ms fits = record {
-  idle = λ e. fits.idle (sym (waited_hand n m.changing) ∙ e);
+  idle = λ e. fits.idle (sym (waited_retrieval n m.changing) ∙ e);
   failed = λ e. fits.failed (sym (waited_some n m.changing) ∙ e);
 }
 
 -- ---- links that hold the same
 
-pub fits_held : (k new : Link) (ms : List Msu) → FitsMarks new.marks ms → held new ≡ held k → FitsLink k ms → FitsLink new ms
-fits_held k new ms marks same fits = record {
-  marks = marks;
+pub fits_held : (k new : Link) (ms : List Msu) → FitsAvailability new.availability ms → held new ≡ held k → FitsLink k ms → FitsLink new ms
+fits_held k new ms availability same fits = record {
+  availability = availability;
   small = subst (λ (xs : List Msu). All IsSmall xs) (sym same) fits.small;
-  small_hand = fits.small_hand;
+  small_retrieval = fits.small_retrieval;
 }
 
 rest_small : (left rest : List Msu) → All IsSmall (left ++ rest) → All IsSmall rest
@@ -146,9 +146,9 @@ rest_small [] rest small = small
 rest_small (m ∷ left) rest small = rest_small left rest (All-tail IsSmall m (left ++ rest) small)
 
 -- a link that holds what is left of what another holds
-pub less_fits : (k new : Link) (ms left : List Msu) → held k ≡ left ++ held new → FitsMarks new.marks ms → FitsLink k ms → FitsLink new ms
-less_fits k new ms left parts marks fits = record {
-  marks = marks;
+pub less_fits : (k new : Link) (ms left : List Msu) → held k ≡ left ++ held new → FitsAvailability new.availability ms → FitsLink k ms → FitsLink new ms
+less_fits k new ms left parts availability fits = record {
+  availability = availability;
   small = rest_small left (held new) (subst (λ (xs : List Msu). All IsSmall xs) parts fits.small);
-  small_hand = fits.small_hand;
+  small_retrieval = fits.small_retrieval;
 }

@@ -23,7 +23,7 @@ use Rattle.link_group.specs.Set.{LinkSet}
 use Rattle.link_group.specs.Placing.{placed_anew, rebalance_fault, rebalanced}
 use Rattle.link_group.specs.Laws.{held_by, held_at, places_of}
 use Rattle.link_group.specs.Reached.{Gone}
-use Rattle.link_group.proofs.Calling.{no_hand}
+use Rattle.link_group.proofs.Calling.{no_retrieval}
 use Rattle.link_group.proofs.Fitting.{FitsAt, FitsLink, Fits, fits_map}
 use Rattle.link_group.proofs.Getting.{held_mapped}
 use Rattle.link_group.proofs.Staying.{Stays, placed}
@@ -69,20 +69,20 @@ unfolding held_by_any
 held_none s ks l None there e = of-nil s
 held_none s ks l (Some k) there e = holds_none s k (any_at (holds s) ks l k e there)
 
-hand_none : (o : Option Link) (ms : List Msu) → changing_by o ≡ false → FitsAt o ms → ms ≡ []
-hand_none None ms e fits = fits
-hand_none (Some k) ms e fits = fits.marks.idle (no_hand k.marks.changing e)
+retrieval_none : (o : Option Link) (ms : List Msu) → changing_by o ≡ false → FitsAt o ms → ms ≡ []
+retrieval_none None ms e fits = fits
+retrieval_none (Some k) ms e fits = fits.availability.idle (no_retrieval k.availability.changing e)
 
 pub nothing : (s : ℕ) (h g : List Msu) → of s h ≡ [] → g ≡ [] → of s h ++ of s g ≡ []
 nothing s h g e f = rw (e, f, of-nil s) refl
 
 -- ---- made anew
 
-stands_none : (c : LinkSet) (hands : ℕ → List Msu) (accepted : List Msu) (gone : List Gone) (s : ℕ) (o : Option ℕ) → Stays c hands accepted gone
-    → changing_at c.links o ≡ false → held_by_any s c.links ≡ false → standing (places_of c hands accepted gone) s o ≡ []
-stands_none c hands accepted gone s None stays still none = refl
-stands_none c hands accepted gone s (Some l) stays still none =
-    nothing s (held_at c l) (hands l) (held_none s c.links l (slice_get c.links l) refl none) (hand_none (slice_get c.links l) (hands l) still (stays.fits l))
+stands_none : (c : LinkSet) (retrievals : ℕ → List Msu) (accepted : List Msu) (gone : List Gone) (s : ℕ) (o : Option ℕ) → Stays c retrievals accepted gone
+    → changing_at c.links o ≡ false → held_by_any s c.links ≡ false → standing (places_of c retrievals accepted gone) s o ≡ []
+stands_none c retrievals accepted gone s None stays still none = refl
+stands_none c retrievals accepted gone s (Some l) stays still none =
+    nothing s (held_at c l) (retrievals l) (held_none s c.links l (slice_get c.links l) refl none) (retrieval_none (slice_get c.links l) (retrievals l) still (stays.fits l))
 
 anew_cases : (a b : Bool) (was new : Option ℕ) (P : Type 0) → (a ≡ false → b ≡ false → P) → ((if a then was else (if b then was else new)) ≡ was) ⊎ P
 anew_cases true b was new P h = inl refl
@@ -93,16 +93,16 @@ pub with_first : (x y z : Option ℕ) (P : Type 0) → x ≡ y → (y ≡ z) ⊎
 with_first x y z P e (inl f) = inl (e ∙ f)
 with_first x y z P e (inr p) = inr p
 
-pub stays_placed : (laws : StepsKeepPlaces) (c : LinkSet) (hands : ℕ → List Msu) (accepted : List Msu) (gone : List Gone) → Stays c hands accepted gone
-    → Stays (placed_anew c) hands accepted gone
+pub stays_placed : (laws : StepsKeepPlaces) (c : LinkSet) (retrievals : ℕ → List Msu) (accepted : List Msu) (gone : List Gone) → Stays c retrievals accepted gone
+    → Stays (placed_anew c) retrievals accepted gone
 unfolding placed_anew
-stays_placed laws c hands accepted gone stays =
+stays_placed laws c retrievals accepted gone stays =
     let ls : List ℕ = open_links false c.links in
     record {
-      places = placed laws c (placed_anew c) hands accepted gone (λ l. refl)
+      places = placed laws c (placed_anew c) retrievals accepted gone (λ l. refl)
           (λ s lt. with_first _ _ (link_of c.table s) _ (link_at (anew_on c.links c.table ls) s lt)
           (anew_cases (changing_at c.links (link_of c.table s)) (held_by_any s c.links) (link_of c.table s) (pick ls s) _
-          (λ still none. stands_none c hands accepted gone s (link_of c.table s) stays still none))) stays.places;
+          (λ still none. stands_none c retrievals accepted gone s (link_of c.table s) stays still none))) stays.places;
       fits = stays.fits;
       table = refl;
     }
@@ -120,49 +120,49 @@ below f (suc n) i e h =
     let first : any_below f n ≡ false = neither_first (any_below f n) (f n) e in
     below_by f n i first (neither_second (any_below f n) (f n) e) h (same i n) (λ less. below f n i first less)
 
-same_links : (c : LinkSet) (hands : ℕ → List Msu) (accepted : List Msu) (gone : List Gone) (s : ℕ) (was new : Option ℕ) → ((l : ℕ) → hands l ≡ [])
-    → stands_in_way c.links s was new ≡ false → (new ≡ was) ⊎ (standing (places_of c hands accepted gone) s was ≡ [])
-same_links c hands accepted gone s None new none e = inr refl
-same_links c hands accepted gone s (Some l) None none e = inr (nothing s (held_at c l) (hands l) (holds_at_none s (slice_get c.links l) e) (none l))
-same_links c hands accepted gone s (Some l) (Some t) none e = by (eqb_tells t l) e
+same_links : (c : LinkSet) (retrievals : ℕ → List Msu) (accepted : List Msu) (gone : List Gone) (s : ℕ) (was new : Option ℕ) → ((l : ℕ) → retrievals l ≡ [])
+    → stands_in_way c.links s was new ≡ false → (new ≡ was) ⊎ (standing (places_of c retrievals accepted gone) s was ≡ [])
+same_links c retrievals accepted gone s None new none e = inr refl
+same_links c retrievals accepted gone s (Some l) None none e = inr (nothing s (held_at c l) (retrievals l) (holds_at_none s (slice_get c.links l) e) (none l))
+same_links c retrievals accepted gone s (Some l) (Some t) none e = by (eqb_tells t l) e
   where
     by : ((t == l) ≡ true) × (t ≡ l) ⊎ ((t == l) ≡ false) × (t ≢ l) → (if t == l then false else holds_at s (slice_get c.links l)) ≡ false
-        → (Some t ≡ Some l) ⊎ (standing (places_of c hands accepted gone) s (Some l) ≡ [])
+        → (Some t ≡ Some l) ⊎ (standing (places_of c retrievals accepted gone) s (Some l) ≡ [])
     by (inl x) e = inl (ap (λ (n : ℕ). Some n) x.1)
     by (inr x) e =
-        inr (nothing s (held_at c l) (hands l) (holds_at_none s (slice_get c.links l) (sym (ap (λ (b : Bool). if b then false else holds_at s (slice_get c.links l)) x.0) ∙ e)) (none l))
+        inr (nothing s (held_at c l) (retrievals l) (holds_at_none s (slice_get c.links l) (sym (ap (λ (b : Bool). if b then false else holds_at s (slice_get c.links l)) x.0) ∙ e)) (none l))
 
 in_way_none : (ks : List Link) (ts : List (Option ℕ)) (ls : List ℕ) (s : ℕ) → in_way ks ts ls s ≡ false → stands_in_way ks s (link_of ts s) (pick ls s) ≡ false
 unfolding in_way
 in_way_none ks ts ls s e = e
 
-all_idle : (ks : List Link) (hands : ℕ → List Msu) → Fits ks hands → list_any is_changing ks ≡ false → (l : ℕ) → hands l ≡ []
-all_idle ks hands fits none l = by (slice_get ks l) refl (fits l)
+all_idle : (ks : List Link) (retrievals : ℕ → List Msu) → Fits ks retrievals → list_any is_changing ks ≡ false → (l : ℕ) → retrievals l ≡ []
+all_idle ks retrievals fits none l = by (slice_get ks l) refl (fits l)
   where
-    by : (o : Option Link) → slice_get ks l ≡ o → FitsAt o (hands l) → hands l ≡ []
+    by : (o : Option Link) → slice_get ks l ≡ o → FitsAt o (retrievals l) → retrievals l ≡ []
     by None there f = f
-    by (Some k) there f = f.marks.idle (no_hand k.marks.changing (any_at is_changing ks l k none there))
+    by (Some k) there f = f.availability.idle (no_retrieval k.availability.changing (any_at is_changing ks l k none there))
 
 fits_forgiven : (k : Link) (ms : List Msu) → is_changing k ≡ false → FitsLink k ms → FitsLink (forgiven k) ms
 fits_forgiven k ms still fits = record {
-  marks = record { idle = fits.marks.idle; failed = λ e. let f : false ≡ true = sym still ∙ e in cc };
+  availability = record { idle = fits.availability.idle; failed = λ e. let f : false ≡ true = sym still ∙ e in cc };
   small = fits.small;
-  small_hand = fits.small_hand;
+  small_retrieval = fits.small_retrieval;
 }
 
-pub stays_rebalanced : (laws : StepsKeepPlaces) (c : LinkSet) (hands : ℕ → List Msu) (accepted : List Msu) (gone : List Gone) → Stays c hands accepted gone
-    → rebalance_fault c ≡ None → Stays (rebalanced c) hands accepted gone
+pub stays_rebalanced : (laws : StepsKeepPlaces) (c : LinkSet) (retrievals : ℕ → List Msu) (accepted : List Msu) (gone : List Gone) → Stays c retrievals accepted gone
+    → rebalance_fault c ≡ None → Stays (rebalanced c) retrievals accepted gone
 unfolding rebalance_fault rebalanced
-stays_rebalanced laws c hands accepted gone stays e =
+stays_rebalanced laws c retrievals accepted gone stays e =
     let ls : List ℕ = open_links true c.links in
     let first = row_passes (list_any is_changing c.links) rebalance.Waiting _ e in
     let second = row_passes (any_below (in_way c.links c.table ls) SELECTIONS) rebalance.NotEmpty None first.1 in
-    let none : (l : ℕ) → hands l ≡ [] = all_idle c.links hands stays.fits first.0 in
+    let none : (l : ℕ) → retrievals l ≡ [] = all_idle c.links retrievals stays.fits first.0 in
     record {
-      places = placed laws c (rebalanced c) hands accepted gone (λ l. held_mapped forgiven c.links l (λ k. refl))
+      places = placed laws c (rebalanced c) retrievals accepted gone (λ l. held_mapped forgiven c.links l (λ k. refl))
           (λ s lt. with_first _ _ (link_of c.table s) _ (link_at (pick ls) s lt)
-          (same_links c hands accepted gone s (link_of c.table s) (pick ls s) none
+          (same_links c retrievals accepted gone s (link_of c.table s) (pick ls s) none
           (in_way_none c.links c.table ls s (below (in_way c.links c.table ls) SELECTIONS s second.0 lt)))) stays.places;
-      fits = fits_map forgiven c.links hands stays.fits (λ k l there f. fits_forgiven k (hands l) (any_at is_changing c.links l k first.0 there) f);
+      fits = fits_map forgiven c.links retrievals stays.fits (λ k l there f. fits_forgiven k (retrievals l) (any_at is_changing c.links l k first.0 there) f);
       table = refl;
     }

@@ -13,9 +13,9 @@ use Rattle.link_group.specs.Laws.{held_at, places_of}
 use Rattle.link_group.specs.Reached.{Gone, acknowledged, messages_gone}
 use Rattle.link_group.proofs.Fitting.{Fits}
 
-pub record Stays (c : LinkSet) (hands : ℕ → List Msu) (accepted : List Msu) (gone : List Gone) : Type 0 where
-  pub places : OnePlace (places_of c hands accepted gone)
-  pub fits : Fits c.links hands
+pub record Stays (c : LinkSet) (retrievals : ℕ → List Msu) (accepted : List Msu) (gone : List Gone) : Type 0 where
+  pub places : OnePlace (places_of c retrievals accepted gone)
+  pub fits : Fits c.links retrievals
   pub table : length c.table ≡ SELECTIONS
 
 -- ---- messages that have left
@@ -33,34 +33,34 @@ gone_none gone = append-nil gone
 
 -- ---- nothing moves
 
-pub quiet : (laws : StepsKeepPlaces) (c d : LinkSet) (hands : ℕ → List Msu) (accepted : List Msu) (gone : List Gone)
-    → ((l : ℕ) → held_at d l ≡ held_at c l) → d.table ≡ c.table → OnePlace (places_of c hands accepted gone) → OnePlace (places_of d hands accepted gone)
-quiet laws c d hands accepted gone held table places =
-    laws.placed_anew (places_of c hands accepted gone) (places_of d hands accepted gone) places
-    (record { accepted = refl; gone = refl; held = held; hand = λ l. refl; link = λ s lt. inl (ap (λ (t : List (Option ℕ)). link_of t s) table) })
+pub quiet : (laws : StepsKeepPlaces) (c d : LinkSet) (retrievals : ℕ → List Msu) (accepted : List Msu) (gone : List Gone)
+    → ((l : ℕ) → held_at d l ≡ held_at c l) → d.table ≡ c.table → OnePlace (places_of c retrievals accepted gone) → OnePlace (places_of d retrievals accepted gone)
+quiet laws c d retrievals accepted gone held table places =
+    laws.placed_anew (places_of c retrievals accepted gone) (places_of d retrievals accepted gone) places
+    (record { accepted = refl; gone = refl; held = held; retrieval = λ l. refl; link = λ s lt. inl (ap (λ (t : List (Option ℕ)). link_of t s) table) })
 
 -- ---- selections of which nothing stands get other links
 
-pub placed : (laws : StepsKeepPlaces) (c d : LinkSet) (hands : ℕ → List Msu) (accepted : List Msu) (gone : List Gone)
+pub placed : (laws : StepsKeepPlaces) (c d : LinkSet) (retrievals : ℕ → List Msu) (accepted : List Msu) (gone : List Gone)
     → ((l : ℕ) → held_at d l ≡ held_at c l)
-    → ((s : ℕ) → s < SELECTIONS → (link_of d.table s ≡ link_of c.table s) ⊎ (standing (places_of c hands accepted gone) s (link_of c.table s) ≡ []))
-    → OnePlace (places_of c hands accepted gone) → OnePlace (places_of d hands accepted gone)
-placed laws c d hands accepted gone held links places =
-    laws.placed_anew (places_of c hands accepted gone) (places_of d hands accepted gone) places
-    (record { accepted = refl; gone = refl; held = held; hand = λ l. refl; link = links })
+    → ((s : ℕ) → s < SELECTIONS → (link_of d.table s ≡ link_of c.table s) ⊎ (standing (places_of c retrievals accepted gone) s (link_of c.table s) ≡ []))
+    → OnePlace (places_of c retrievals accepted gone) → OnePlace (places_of d retrievals accepted gone)
+placed laws c d retrievals accepted gone held links places =
+    laws.placed_anew (places_of c retrievals accepted gone) (places_of d retrievals accepted gone) places
+    (record { accepted = refl; gone = refl; held = held; retrieval = λ l. refl; link = links })
 
--- ---- messages come to one link, leave it, or go into its hand or back
+-- ---- messages come to one link, leave it, or go into its retrieval or back
 
-pub at_one : (laws : StepsKeepPlaces) (l : ℕ) (c d : LinkSet) (hands new : ℕ → List Msu) (accepted came left : List Msu) (gone more : List Gone)
-    → OnePlace (places_of c hands accepted gone)
+pub at_one : (laws : StepsKeepPlaces) (l : ℕ) (c d : LinkSet) (retrievals new : ℕ → List Msu) (accepted came left : List Msu) (gone more : List Gone)
+    → OnePlace (places_of c retrievals accepted gone)
     → messages_gone more ≡ messages_gone gone ++ left
     → ((s : ℕ) → s < SELECTIONS → (of s came ≡ []) ⊎ (link_of c.table s ≡ Some l))
-    → held_at c l ++ hands l ++ came ≡ left ++ held_at d l ++ new l
+    → held_at c l ++ retrievals l ++ came ≡ left ++ held_at d l ++ new l
     → (new l ≡ []) ⊎ (held_at d l ≡ [])
-    → ((j : ℕ) → (j ≡ l → ⊥) → held_at d j ≡ held_at c j) → ((j : ℕ) → (j ≡ l → ⊥) → new j ≡ hands j) → d.table ≡ c.table
+    → ((j : ℕ) → (j ≡ l → ⊥) → held_at d j ≡ held_at c j) → ((j : ℕ) → (j ≡ l → ⊥) → new j ≡ retrievals j) → d.table ≡ c.table
     → OnePlace (places_of d new (accepted ++ came) more)
-at_one laws l c d hands new accepted came left gone more places marked own order apart held hand table =
-    laws.at_one_link l (places_of c hands accepted gone) (places_of d new (accepted ++ came) more) places
+at_one laws l c d retrievals new accepted came left gone more places marked own order apart held retrieval table =
+    laws.at_one_link l (places_of c retrievals accepted gone) (places_of d new (accepted ++ came) more) places
     (record {
       came = came;
       left = left;
@@ -70,22 +70,22 @@ at_one laws l c d hands new accepted came left gone more places marked own order
       order = order;
       apart = apart;
       held_else = held;
-      hand_else = hand;
+      retrieval_else = retrieval;
       link = λ s. ap (λ (t : List (Option ℕ)). link_of t s) table;
     })
 
 -- the same where none comes: what was accepted is what was
-none_came : (accepted : List Msu) (c : LinkSet) (hands : ℕ → List Msu) (gone : List Gone) → OnePlace (places_of c hands (accepted ++ []) gone)
-    → OnePlace (places_of c hands accepted gone)
-none_came accepted c hands gone places = rw (sym (append-nil accepted)) places
+none_came : (accepted : List Msu) (c : LinkSet) (retrievals : ℕ → List Msu) (gone : List Gone) → OnePlace (places_of c retrievals (accepted ++ []) gone)
+    → OnePlace (places_of c retrievals accepted gone)
+none_came accepted c retrievals gone places = rw (sym (append-nil accepted)) places
 
-pub leaves : (laws : StepsKeepPlaces) (l : ℕ) (c d : LinkSet) (hands new : ℕ → List Msu) (accepted left : List Msu) (gone more : List Gone)
-    → OnePlace (places_of c hands accepted gone)
+pub leaves : (laws : StepsKeepPlaces) (l : ℕ) (c d : LinkSet) (retrievals new : ℕ → List Msu) (accepted left : List Msu) (gone more : List Gone)
+    → OnePlace (places_of c retrievals accepted gone)
     → messages_gone more ≡ messages_gone gone ++ left
-    → held_at c l ++ hands l ≡ left ++ held_at d l ++ new l
+    → held_at c l ++ retrievals l ≡ left ++ held_at d l ++ new l
     → (new l ≡ []) ⊎ (held_at d l ≡ [])
-    → ((j : ℕ) → (j ≡ l → ⊥) → held_at d j ≡ held_at c j) → ((j : ℕ) → (j ≡ l → ⊥) → new j ≡ hands j) → d.table ≡ c.table
+    → ((j : ℕ) → (j ≡ l → ⊥) → held_at d j ≡ held_at c j) → ((j : ℕ) → (j ≡ l → ⊥) → new j ≡ retrievals j) → d.table ≡ c.table
     → OnePlace (places_of d new accepted more)
-leaves laws l c d hands new accepted left gone more places marked order apart held hand table =
+leaves laws l c d retrievals new accepted left gone more places marked order apart held retrieval table =
     none_came accepted d new more
-    (at_one laws l c d hands new accepted [] left gone more places marked (λ s lt. inl (of-nil s)) (append-nil (held_at c l ++ hands l) ∙ order) apart held hand table)
+    (at_one laws l c d retrievals new accepted [] left gone more places marked (λ s lt. inl (of-nil s)) (append-nil (held_at c l ++ retrievals l) ∙ order) apart held retrieval table)

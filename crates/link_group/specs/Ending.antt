@@ -1,4 +1,4 @@
--- Why a hand was not wholly diverted.
+-- Why a retrieval was not wholly diverted.
 use Rattle.std.specs.Prelude.{Option, Some, None, Result, Ok, Err}
 use Rattle.group_changeover.specs.declared.errors.DivertFault.{DivertFault}
 use Rattle.link_group.specs.declared.ending.DivertError.{DivertError}

@@ -18,18 +18,18 @@ abbrev pub held_at : LinkSet → ℕ → List Msu
 held_at c l = held_by (slice_get c.links l)
 
 abbrev pub places_of : LinkSet → (ℕ → List Msu) → List Msu → List Gone → Places
-places_of c hands accepted gone = record {
+places_of c retrievals accepted gone = record {
   accepted = accepted;
   gone = messages_gone gone;
   held = held_at c;
-  hand = hands;
+  retrieval = retrievals;
   link = link_of c.table;
 }
 
 -- Each message that was accepted stands in one place, or has left, in order for each selection.
 abbrev pub EachInOnePlace : Type 0
-EachInOnePlace = (c : LinkSet) (hands : ℕ → List Msu) (accepted : List Msu) (gone : List Gone) → Reached c hands accepted gone
-    → OnePlace (places_of c hands accepted gone)
+EachInOnePlace = (c : LinkSet) (retrievals : ℕ → List Msu) (accepted : List Msu) (gone : List Gone) → Reached c retrievals accepted gone
+    → OnePlace (places_of c retrievals accepted gone)
 
 -- of how many of those that have left it was never known whether they arrived
 abbrev pub unsure_in : List Gone → ℕ
@@ -37,5 +37,5 @@ unsure_in gone = count_by (λ g. g.unsure) gone
 
 -- That is what the set's count of unsure messages says, up to its greatest value.
 abbrev pub UnsureAreCounted : Type 0
-UnsureAreCounted = (c : LinkSet) (hands : ℕ → List Msu) (accepted : List Msu) (gone : List Gone) → Reached c hands accepted gone
+UnsureAreCounted = (c : LinkSet) (retrievals : ℕ → List Msu) (accepted : List Msu) (gone : List Gone) → Reached c retrievals accepted gone
     → c.unsure ≡ min (2 ^ 64 - 1) (unsure_in gone)

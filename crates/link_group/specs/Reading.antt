@@ -20,4 +20,4 @@ abbrev pub terminal_of : Link → Term
 terminal_of k = k.terminal
 
 abbrev pub book_of : Link → Ledger
-book_of k = k.terminal.heart.book
+book_of k = k.terminal.processes.book

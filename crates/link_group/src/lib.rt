@@ -4,12 +4,12 @@
 
 mod ending;
 mod group;
-mod hands;
 mod laws;
 mod lines;
 mod new;
 mod placing;
 mod reading;
+mod retrievals;
 mod retrieved;
 mod sending;
 mod ticks;
@@ -21,5 +21,5 @@ pub use group_members::{
     AbandonError, CallError, Command, CommandError, DivertFault, FailError, LineError, LinkError,
     LinkStatus, Mode, Msu, RebalanceError, Report, RetrieveError, SendError, Terminal,
 };
-pub use hands::{Ended, Hands};
+pub use retrievals::{Ended, Retrievals};
 pub use retrieved::Retrieved;

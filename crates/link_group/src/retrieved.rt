@@ -1,4 +1,4 @@
-//! Messages in hand.
+//! Retrieved messages.
 ghost use Rattle.std.specs.Prelude.{◌≡◌, All, length};
 ghost use Rattle.resend_store.specs.Messages.{IsMessage};
 
@@ -28,7 +28,7 @@ impl Retrieved {
     }
 }
 
-/// A hand that is kept.
+/// A retrieval that is kept.
 #[derive(Drop)]
 pub(crate) struct Kept {
     pub(crate) link: usize,

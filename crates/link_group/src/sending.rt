@@ -96,8 +96,8 @@ impl Group {
     #[tactic(auto, unfolding(crate::specs::Changing::retrieve_fault_at, crate::specs::Changing::after_retrieve, crate::specs::Changing::messages_for))]
     pub fn retrieve(&mut self, link: usize) -> Result<Retrieved, RetrieveError>
         ensures fault { retrieve_refusal result ≡ retrieve_fault_at self.old link }
-        ensures link { IfOk result (λ hand. hand.link ≡ link) }
-        ensures messages { IfOk result (λ hand. hand.messages.items ≡ messages_for self.old link) }
+        ensures link { IfOk result (λ retrieval. retrieval.link ≡ link) }
+        ensures messages { IfOk result (λ retrieval. retrieval.messages.items ≡ messages_for self.old link) }
         ensures ok { OnOk result (self.new ≡ after_retrieve self.old link) }
         ensures err { OnErr result (self.new ≡ self.old) }
     {
@@ -115,8 +115,8 @@ impl Group {
     #[tactic(auto, unfolding(crate::specs::Changing::abandon_fault_at, crate::specs::Changing::after_abandon, crate::specs::Changing::unsent_at))]
     pub fn abandon(&mut self, link: usize) -> Result<Retrieved, AbandonError>
         ensures fault { abandon_refusal result ≡ abandon_fault_at self.old link }
-        ensures link { IfOk result (λ hand. hand.link ≡ link) }
-        ensures messages { IfOk result (λ hand. hand.messages.items ≡ unsent_at self.old link) }
+        ensures link { IfOk result (λ retrieval. retrieval.link ≡ link) }
+        ensures messages { IfOk result (λ retrieval. retrieval.messages.items ≡ unsent_at self.old link) }
         ensures ok { OnOk result (self.new ≡ after_abandon self.old link) }
         ensures err { OnErr result (self.new ≡ self.old) }
     {

@@ -3,10 +3,10 @@
 #![tactic(auto)]
 
 mod commands;
-mod heart;
 mod known;
 mod laws;
 mod names;
+mod processes;
 mod resting;
 mod routes;
 mod wanted;
@@ -14,8 +14,8 @@ mod words;
 
 pub use actor_book::{Book, Limits};
 pub use commands::Command;
-pub use heart::{Heart, LOW};
 pub use laws::{accepted_messages_wait_in_order, rests_are_runs, unacknowledged_messages_stay};
 pub use names::{Names, Notices, Orders, Outputs, Parties};
+pub use processes::{LOW, Processes};
 pub use wanted::Wanted;
 pub use words::{ProcessName, SignalName};

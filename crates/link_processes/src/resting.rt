@@ -2,19 +2,19 @@
 ghost use Rattle.std.specs.Prelude.{◌≡◌};
 ghost use Rattle.link_processes.specs.Machine.{heard, one_taken, emptied, moved, rested};
 
-use crate::heart::Heart;
 use crate::names::told_by;
+use crate::processes::Processes;
 use actor_book::{REST, Turn, one_turn};
 use actor_machine::Emitted;
 
-impl Heart {
+impl Processes {
     /// Heeds what an actor told the environment.
     #[tactic(auto, unfolding(crate::specs::Machine::heard))]
     fn heed(&mut self, emitted: &Emitted)
         ensures { self.new ≡ heard emitted.now self.old }
     {
         if let Some(signal) = told_by(&self.names.outputs, emitted) {
-            self.side.on_signal(signal);
+            self.transceiver.on_signal(signal);
         }
     }
 
@@ -22,7 +22,7 @@ impl Heart {
     #[tactic(auto, unfolding(crate::specs::Machine::one_taken))]
     fn take_one(&mut self) -> bool
         ensures goes { result ≡ (one_taken self.old).goes }
-        ensures heart { self.new ≡ (one_taken self.old).heart }
+        ensures processes { self.new ≡ (one_taken self.old).processes }
     {
         match self.book.take_env() {
             Ok(taken) => {
@@ -47,7 +47,7 @@ impl Heart {
     #[tactic(auto, unfolding(crate::specs::Machine::moved))]
     fn step(&mut self) -> bool
         ensures goes { result ≡ (moved self.old).goes }
-        ensures heart { self.new ≡ (moved self.old).heart }
+        ensures processes { self.new ≡ (moved self.old).processes }
     {
         match one_turn(&mut self.book) {
             Turn::Made => {

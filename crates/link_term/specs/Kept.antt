@@ -6,7 +6,7 @@ use Rattle.link_transceiver.specs.Laws.{Loses}
 use Rattle.link_term.specs.Term.{Term}
 
 abbrev pub window_of : Term → Window
-window_of t = t.heart.side.sender
+window_of t = t.processes.transceiver.sender
 
 -- Some left, from the front: they were sent, and the far side acknowledged them. All others stand as they stood, and none of them counts as
 -- sent that didn't.

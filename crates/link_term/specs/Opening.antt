@@ -6,7 +6,7 @@ use Rattle.bit_line.specs.Deframing.{Stands}
 use Rattle.bit_line.specs.Stuffers.{Gave}
 use Rattle.resend_store.specs.declared.messages.Mode.{Mode}
 use Rattle.actor_machine.specs.Kept.{opened_book}
-use Rattle.link_transceiver.specs.Half.{first_half}
+use Rattle.link_transceiver.specs.TransceiverState.{first_transceiver}
 use Rattle.link_processes.specs.Known.{AreNames}
 use Rattle.link_processes.specs.Wanted.{wanted, Has, IsFirstLacking}
 use Rattle.link_term.specs.declared.opening.OpenError.{OpenError}
@@ -26,9 +26,9 @@ JOURNAL = MOST_JOURNAL
 -- The set has all that a terminal wants of it, each by its number. No actor has begun, nothing is kept, nothing came and nothing went.
 pub record IsOver (d : Draft) (mode : Mode) (t : Term) : Type 0 where
   pub has : All (Has d) wanted
-  pub names : AreNames d t.heart.names
-  pub book : t.heart.book ≡ opened_book d PORT ENVIRONMENT JOURNAL
-  pub side : t.heart.side ≡ first_half mode
+  pub names : AreNames d t.processes.names
+  pub book : t.processes.book ≡ opened_book d PORT ENVIRONMENT JOURNAL
+  pub transceiver : t.processes.transceiver ≡ first_transceiver mode
   pub line : Stands [] t.line
   pub sending : Gave [] [] t.sending
 

@@ -35,7 +35,7 @@ impl Terminal {
         requires { vec_len octets.old + LONGEST ≤ vec_capacity octets.old }
         ensures ok { OnOk result (Spoke self.old octets.old.items 1 self.new octets.new.items) }
         ensures err { OnErr result (self.new ≡ self.old) }
-        ensures low { OnErr result (is_low self.old.heart ≡ true) }
+        ensures low { OnErr result (is_low self.old.processes ≡ true) }
         ensures same { OnErr result (octets.new.items ≡ octets.old.items) }
         ensures len { vec_len octets.new ≤ vec_len octets.old + LONGEST }
         ensures capacity { vec_capacity octets.old ≤ vec_capacity octets.new }

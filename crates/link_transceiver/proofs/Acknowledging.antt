@@ -8,7 +8,7 @@ use Rattle.resend_store.specs.Window.{Window, unacknowledged, waiting, count_by,
 use Rattle.su_octets.specs.declared.units.Head.{Head}
 use Rattle.su_octets.specs.declared.units.Unit.{Unit}
 use Rattle.su_octets.specs.declared.units.Unit.TheVariants as unit
-use Rattle.link_transceiver.specs.Half.{Half}
+use Rattle.link_transceiver.specs.TransceiverState.{TransceiverState}
 use Rattle.link_transceiver.specs.Judging.{judged, by_stores, through, left_aside, Stored, stored, refused, taken, acknowledged, is_abnormal}
 use Rattle.link_transceiver.specs.Laws.{Loses, KeepsUnacknowledged, acknowledged_messages, acknowledged_by, acknowledged_of}
 use Rattle.link_transceiver.proofs.Keeping.{same_loses, effect-loses, gone-kept, gone-sent, reported-sender, kept_if}
@@ -89,24 +89,24 @@ number_taken w bsn bib h =
     let sent : v.sent ≡ w.sent - n = asked-sent w.mode bib (without w n) in
     record { loses = without_loses w v n h kept sent; waits = without_waits w v n h kept sent }
 
-stored_by : (h : Half) (head : Head) (msu : Option Msu) (b : Bool) → is_abnormal h.sender head.bsn ≡ b →
-    Takes (if not b then acknowledged_messages h.sender head.bsn else []) h.sender (if◌then◌else◌ {A = Stored} b (refused h) (taken h head msu)).half.sender
+stored_by : (h : TransceiverState) (head : Head) (msu : Option Msu) (b : Bool) → is_abnormal h.sender head.bsn ≡ b →
+    Takes (if not b then acknowledged_messages h.sender head.bsn else []) h.sender (if◌then◌else◌ {A = Stored} b (refused h) (taken h head msu)).transceiver.sender
 stored_by h head msu true e = none_taken h.sender
 stored_by h head msu false e = number_taken h.sender head.bsn head.bib (not_more h.sender.sent (count_by h.sender head.bsn) e)
 
-stored-takes : (h : Half) (head : Head) (msu : Option Msu) →
-    Takes (if not (is_abnormal h.sender head.bsn) then acknowledged_messages h.sender head.bsn else []) h.sender (stored h head msu).half.sender
+stored-takes : (h : TransceiverState) (head : Head) (msu : Option Msu) →
+    Takes (if not (is_abnormal h.sender head.bsn) then acknowledged_messages h.sender head.bsn else []) h.sender (stored h head msu).transceiver.sender
 unfolding stored
 stored-takes h head msu = stored_by h head msu (is_abnormal h.sender head.bsn) refl
 
-by_stores-takes : (h : Half) (head : Head) (msu : Option Msu) → Takes (acknowledged_by h head) h.sender (by_stores h head msu).half.sender
+by_stores-takes : (h : TransceiverState) (head : Head) (msu : Option Msu) → Takes (acknowledged_by h head) h.sender (by_stores h head msu).transceiver.sender
 unfolding by_stores
 by_stores-takes h head msu = elim h.take
     as (λ b. Takes (if b && not (is_abnormal h.sender head.bsn) then acknowledged_messages h.sender head.bsn else []) h.sender
-    (if b then through (stored h head msu) else left_aside h).half.sender)
+    (if b then through (stored h head msu) else left_aside h).transceiver.sender)
     [ true ↦ stored-takes h head msu | false ↦ none_taken h.sender ]
 
-judged-takes : (h : Half) (u : Unit) → Takes (acknowledged_of h u) h.sender (judged h u).half.sender
+judged-takes : (h : TransceiverState) (u : Unit) → Takes (acknowledged_of h u) h.sender (judged h u).transceiver.sender
 unfolding judged
 judged-takes h (unit.Fisu head) = by_stores-takes h head None
 judged-takes h (unit.Msu head sio sif) = by_stores-takes h head (Some (record { sio = sio; sif = sif }))

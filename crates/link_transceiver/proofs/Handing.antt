@@ -9,7 +9,7 @@ use Rattle.su_octets.specs.declared.units.Head.{Head}
 use Rattle.su_octets.specs.declared.units.Unit.{Unit}
 use Rattle.su_octets.specs.declared.units.Unit.TheVariants as unit
 use Rattle.link_transceiver.specs.declared.signals.LinkStatus.{LinkStatus}
-use Rattle.link_transceiver.specs.Half.{Half}
+use Rattle.link_transceiver.specs.TransceiverState.{TransceiverState}
 use Rattle.link_transceiver.specs.Effects.{effect, directed, is_busy_named}
 use Rattle.link_transceiver.specs.Judging.{judged, by_stores, through, left_aside, Stored, stored, refused, taken, delivered, hears, is_abnormal}
 use Rattle.link_transceiver.specs.Going.{gone}
@@ -33,44 +33,44 @@ some-delivered (Ok Discard) m ms = sym (append-nil ms)
 some-delivered (Ok Nack) m ms = sym (append-nil ms)
 some-delivered (Err e) m ms = sym (append-nil ms)
 
-stored-none : (h : Half) (head : Head) → (stored h head None).half.messages ≡ h.messages
+stored-none : (h : TransceiverState) (head : Head) → (stored h head None).transceiver.messages ≡ h.messages
 unfolding stored
 stored-none h head = elim (is_abnormal h.sender head.bsn)
-    as (λ b. (if◌then◌else◌ {A = Stored} b (refused h) (taken h head None)).half.messages ≡ h.messages)
+    as (λ b. (if◌then◌else◌ {A = Stored} b (refused h) (taken h head None)).transceiver.messages ≡ h.messages)
     [ true ↦ refl | false ↦ none-delivered (hears h.receiver head.fsn head.fib false).verdict h.messages ]
 
-stored-some : (h : Half) (head : Head) (m : Msu) → (stored h head (Some m)).half.messages
+stored-some : (h : TransceiverState) (head : Head) (m : Msu) → (stored h head (Some m)).transceiver.messages
     ≡ h.messages ++ (if not (is_abnormal h.sender head.bsn) && is_accept (hears h.receiver head.fsn head.fib true).verdict then m ∷ [] else [])
 unfolding stored
 stored-some h head m = elim (is_abnormal h.sender head.bsn)
-    as (λ b. (if◌then◌else◌ {A = Stored} b (refused h) (taken h head (Some m))).half.messages
+    as (λ b. (if◌then◌else◌ {A = Stored} b (refused h) (taken h head (Some m))).transceiver.messages
     ≡ h.messages ++ (if not b && is_accept (hears h.receiver head.fsn head.fib true).verdict then m ∷ [] else [])) [
       | true ↦ sym (append-nil h.messages)
       | false ↦ some-delivered (hears h.receiver head.fsn head.fib true).verdict m h.messages
     ]
 
-by_stores-none : (h : Half) (head : Head) → (by_stores h head None).half.messages ≡ h.messages
+by_stores-none : (h : TransceiverState) (head : Head) → (by_stores h head None).transceiver.messages ≡ h.messages
 unfolding by_stores
 by_stores-none h head = elim h.take
-    as (λ b. (if b then through (stored h head None) else left_aside h).half.messages ≡ h.messages)
+    as (λ b. (if b then through (stored h head None) else left_aside h).transceiver.messages ≡ h.messages)
     [ true ↦ stored-none h head | false ↦ refl ]
 
-by_stores-some : (h : Half) (head : Head) (m : Msu) → (by_stores h head (Some m)).half.messages
+by_stores-some : (h : TransceiverState) (head : Head) (m : Msu) → (by_stores h head (Some m)).transceiver.messages
     ≡ h.messages ++ (if h.take && not (is_abnormal h.sender head.bsn) && is_accept (hears h.receiver head.fsn head.fib true).verdict then m ∷ [] else [])
 unfolding by_stores
 by_stores-some h head m = elim h.take
-    as (λ b. (if b then through (stored h head (Some m)) else left_aside h).half.messages
+    as (λ b. (if b then through (stored h head (Some m)) else left_aside h).transceiver.messages
     ≡ h.messages ++ (if b && not (is_abnormal h.sender head.bsn) && is_accept (hears h.receiver head.fsn head.fib true).verdict then m ∷ [] else []))
     [ true ↦ stored-some h head m | false ↦ sym (append-nil h.messages) ]
 
-judged-messages : (h : Half) (u : Unit) → (judged h u).half.messages ≡ h.messages ++ accepted_of h u
+judged-messages : (h : TransceiverState) (u : Unit) → (judged h u).transceiver.messages ≡ h.messages ++ accepted_of h u
 unfolding judged
 judged-messages h (unit.Fisu head) = by_stores-none h head ∙ sym (append-nil h.messages)
 judged-messages h (unit.Msu head sio sif) = by_stores-some h head (record { sio = sio; sif = sif })
 judged-messages h (unit.Lssu head status second) = sym (append-nil h.messages)
 
-status-asked : (h : Half) (o : Option LinkStatus) →
-    message_of (status_reported h o).report ++ (status_reported h o).half.messages ≡ h.messages
+status-asked : (h : TransceiverState) (o : Option LinkStatus) →
+    message_of (status_reported h o).report ++ (status_reported h o).transceiver.messages ≡ h.messages
 status-asked h (Some s) = refl
 status-asked h None = refl
 
@@ -78,16 +78,16 @@ front : (ms : List Msu) (m : Msu) → slice_get ms 0 ≡ Some m → m ∷ drop 1
 front [] m e = cc
 front (x ∷ xs) m e = cc
 
-asked_by : (h : Half) (o : Option Msu) → slice_get h.messages 0 ≡ o →
-    message_of (message_reported h o).report ++ (message_reported h o).half.messages ≡ h.messages
+asked_by : (h : TransceiverState) (o : Option Msu) → slice_get h.messages 0 ≡ o →
+    message_of (message_reported h o).report ++ (message_reported h o).transceiver.messages ≡ h.messages
 asked_by h (Some m) e = front h.messages m e
 asked_by h None e = status-asked h (slice_get h.statuses 0)
 
-asked-messages : (h : Half) → message_of (reported h).report ++ (reported h).half.messages ≡ h.messages
+asked-messages : (h : TransceiverState) → message_of (reported h).report ++ (reported h).transceiver.messages ≡ h.messages
 unfolding reported
 asked-messages h = asked_by h (slice_get h.messages 0) refl
 
-one : (h : Half) (c : Call) → h.messages ++ accepted_by h c ≡ handed_by h c ++ (after_call h c).messages
+one : (h : TransceiverState) (c : Call) → h.messages ++ accepted_by h c ≡ handed_by h c ++ (after_call h c).messages
 one h (Told s) = append-nil h.messages ∙ sym (effect-messages s h)
 one h (Came u) = sym (judged-messages h u)
 one h Went = append-nil h.messages ∙ sym (gone-messages h)

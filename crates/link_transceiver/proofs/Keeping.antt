@@ -11,31 +11,31 @@ use Rattle.link_transceiver.specs.declared.signals.LineKind.{LineKind}
 use Rattle.link_transceiver.specs.declared.signals.LineKind.TheVariants as kind
 use Rattle.link_transceiver.specs.declared.signals.LinkStatus.{LinkStatus}
 use Rattle.link_transceiver.specs.Limits.{BUSY_CODE}
-use Rattle.link_transceiver.specs.Half.{Half}
+use Rattle.link_transceiver.specs.TransceiverState.{TransceiverState}
 use Rattle.link_transceiver.specs.Effects.{effect, renewed, directed, told, sends, kind_named, is_busy_named}
 use Rattle.link_transceiver.specs.Going.{gone, gone_by, gives, status_gone}
 use Rattle.link_transceiver.specs.Reporting.{reported, message_reported, status_reported}
 use Rattle.link_transceiver.specs.Laws.{Loses}
 
 -- what a signal leaves alone: what is kept to send, and what waits to be handed out
-sends-sender : (k : Option LineKind) (h : Half) → (sends k h).sender ≡ h.sender
+sends-sender : (k : Option LineKind) (h : TransceiverState) → (sends k h).sender ≡ h.sender
 sends-sender (Some k) h = refl
 sends-sender None h = refl
 
 no_more_sent : (w v : Window) → v.sent ≡ w.sent → length {A = Msu} [] + v.sent ≤ w.sent
 no_more_sent w v h = omega (arith, h)
 
-sends-messages : (k : Option LineKind) (h : Half) → (sends k h).messages ≡ h.messages
+sends-messages : (k : Option LineKind) (h : TransceiverState) → (sends k h).messages ≡ h.messages
 sends-messages (Some k) h = refl
 sends-messages None h = refl
 
-directed-sender : (number : ℤ) (h : Half) → (directed number h).sender ≡ h.sender
+directed-sender : (number : ℤ) (h : TransceiverState) → (directed number h).sender ≡ h.sender
 unfolding directed
 directed-sender number h = elim (is_busy_named number)
     as (λ b. (if b then record h { busy = true } else sends (kind_named number) h).sender ≡ h.sender)
     [ true ↦ refl | false ↦ sends-sender (kind_named number) h ]
 
-directed-messages : (number : ℤ) (h : Half) → (directed number h).messages ≡ h.messages
+directed-messages : (number : ℤ) (h : TransceiverState) → (directed number h).messages ≡ h.messages
 unfolding directed
 directed-messages number h = elim (is_busy_named number)
     as (λ b. (if b then record h { busy = true } else sends (kind_named number) h).messages ≡ h.messages)
@@ -47,7 +47,7 @@ same_loses w v h = record { kept = sym (ap (λ (x : Window). x.kept) h); sent = 
 fresh_loses : (w : Window) → Loses [] w (refreshed w)
 fresh_loses w = record { kept = refl; sent = omega arith }
 
-pub effect-loses : (s : EnvSignal) (h : Half) → Loses [] h.sender (effect s h).sender
+pub effect-loses : (s : EnvSignal) (h : TransceiverState) → Loses [] h.sender (effect s h).sender
 unfolding effect renewed told
 effect-loses signal.Fresh h = fresh_loses h.sender
 effect-loses (signal.Take on) h = same_loses h.sender h.sender refl
@@ -59,7 +59,7 @@ effect-loses (signal.Down reason) h = same_loses h.sender h.sender refl
 effect-loses signal.RemoteOut h = same_loses h.sender h.sender refl
 effect-loses signal.RemoteBack h = same_loses h.sender h.sender refl
 
-pub effect-messages : (s : EnvSignal) (h : Half) → (effect s h).messages ≡ h.messages
+pub effect-messages : (s : EnvSignal) (h : TransceiverState) → (effect s h).messages ≡ h.messages
 unfolding effect renewed told
 effect-messages signal.Fresh h = refl
 effect-messages (signal.Take on) h = refl
@@ -109,16 +109,16 @@ gives-kept : (w : Window) → (gives w).left.kept ≡ w.kept
 unfolding gives
 gives-kept w = next_by-kept w.mode w
 
-gone_by-kept : (h : Half) (line : Option LineKind) → (gone_by h line).half.sender.kept ≡ h.sender.kept
+gone_by-kept : (h : TransceiverState) (line : Option LineKind) → (gone_by h line).transceiver.sender.kept ≡ h.sender.kept
 gone_by-kept h None = refl
 gone_by-kept h (Some (kind.Status code)) = refl
 gone_by-kept h (Some kind.FillIn) = refl
 gone_by-kept h (Some kind.Messages) = gives-kept h.sender
 
-pub gone-kept : (h : Half) → (gone h).half.sender.kept ≡ h.sender.kept
+pub gone-kept : (h : TransceiverState) → (gone h).transceiver.sender.kept ≡ h.sender.kept
 unfolding gone
 gone-kept h = elim h.busy
-    as (λ b. (if b then status_gone (record h { busy = false }) BUSY_CODE else gone_by h h.line).half.sender.kept ≡ h.sender.kept)
+    as (λ b. (if b then status_gone (record h { busy = false }) BUSY_CODE else gone_by h h.line).transceiver.sender.kept ≡ h.sender.kept)
     [ true ↦ refl | false ↦ gone_by-kept h h.line ]
 
 -- ---- how many count as sent
@@ -167,40 +167,40 @@ gives-sent : (w : Window) → (gives w).left.sent ≤ w.sent + 1
 unfolding gives
 gives-sent w = next_by-sent w.mode w
 
-gone_by-sent : (h : Half) (line : Option LineKind) → (gone_by h line).half.sender.sent ≤ h.sender.sent + 1
+gone_by-sent : (h : TransceiverState) (line : Option LineKind) → (gone_by h line).transceiver.sender.sent ≤ h.sender.sent + 1
 gone_by-sent h None = no_more h.sender.sent
 gone_by-sent h (Some (kind.Status code)) = no_more h.sender.sent
 gone_by-sent h (Some kind.FillIn) = no_more h.sender.sent
 gone_by-sent h (Some kind.Messages) = gives-sent h.sender
 
-pub gone-sent : (h : Half) → (gone h).half.sender.sent ≤ h.sender.sent + 1
+pub gone-sent : (h : TransceiverState) → (gone h).transceiver.sender.sent ≤ h.sender.sent + 1
 unfolding gone
 gone-sent h = elim h.busy
-    as (λ b. (if b then status_gone (record h { busy = false }) BUSY_CODE else gone_by h h.line).half.sender.sent ≤ h.sender.sent + 1)
+    as (λ b. (if b then status_gone (record h { busy = false }) BUSY_CODE else gone_by h h.line).transceiver.sender.sent ≤ h.sender.sent + 1)
     [ true ↦ no_more h.sender.sent | false ↦ gone_by-sent h h.line ]
 
 -- ---- what waits to be handed out
 
-gone_by-messages : (h : Half) (line : Option LineKind) → (gone_by h line).half.messages ≡ h.messages
+gone_by-messages : (h : TransceiverState) (line : Option LineKind) → (gone_by h line).transceiver.messages ≡ h.messages
 gone_by-messages h None = refl
 gone_by-messages h (Some (kind.Status code)) = refl
 gone_by-messages h (Some kind.FillIn) = refl
 gone_by-messages h (Some kind.Messages) = refl
 
-pub gone-messages : (h : Half) → (gone h).half.messages ≡ h.messages
+pub gone-messages : (h : TransceiverState) → (gone h).transceiver.messages ≡ h.messages
 unfolding gone
 gone-messages h = elim h.busy
-    as (λ b. (if b then status_gone (record h { busy = false }) BUSY_CODE else gone_by h h.line).half.messages ≡ h.messages)
+    as (λ b. (if b then status_gone (record h { busy = false }) BUSY_CODE else gone_by h h.line).transceiver.messages ≡ h.messages)
     [ true ↦ refl | false ↦ gone_by-messages h h.line ]
 
-status_reported-sender : (h : Half) (o : Option LinkStatus) → (status_reported h o).half.sender ≡ h.sender
+status_reported-sender : (h : TransceiverState) (o : Option LinkStatus) → (status_reported h o).transceiver.sender ≡ h.sender
 status_reported-sender h (Some status) = refl
 status_reported-sender h None = refl
 
-message_reported-sender : (h : Half) (o : Option Msu) → (message_reported h o).half.sender ≡ h.sender
+message_reported-sender : (h : TransceiverState) (o : Option Msu) → (message_reported h o).transceiver.sender ≡ h.sender
 message_reported-sender h (Some msu) = refl
 message_reported-sender h None = status_reported-sender h (slice_get h.statuses 0)
 
-pub reported-sender : (h : Half) → (reported h).half.sender ≡ h.sender
+pub reported-sender : (h : TransceiverState) → (reported h).transceiver.sender ≡ h.sender
 unfolding reported
 reported-sender h = message_reported-sender h (slice_get h.messages 0)

@@ -10,7 +10,7 @@ use Rattle.link_transceiver.specs.declared.signals.Backward.{Backward}
 use Rattle.link_transceiver.specs.declared.signals.LineKind.{LineKind}
 use Rattle.link_transceiver.specs.declared.signals.LineKind.TheVariants as kind
 use Rattle.link_transceiver.specs.Limits.{BUSY_CODE}
-use Rattle.link_transceiver.specs.Half.{Half}
+use Rattle.link_transceiver.specs.TransceiverState.{TransceiverState}
 use Rattle.link_transceiver.specs.Effects.{effect, backward_of}
 use Rattle.link_transceiver.specs.Judging.{judged, by_stores, through, left_aside, Stored, stored, refused, taken, is_abnormal}
 use Rattle.link_transceiver.specs.Going.{gone, gone_by, gives, head_with, idle_head, idle_fsn, filled, status_gone}
@@ -18,19 +18,19 @@ use Rattle.link_transceiver.specs.Laws.{Tells, Withholds}
 
 -- ---- units that come
 
-stored-withheld : (h : Half) (head : Head) (msu : Option Msu) → (stored h head msu).half.withheld ≡ h.withheld
+stored-withheld : (h : TransceiverState) (head : Head) (msu : Option Msu) → (stored h head msu).transceiver.withheld ≡ h.withheld
 unfolding stored
 stored-withheld h head msu = elim (is_abnormal h.sender head.bsn)
-    as (λ b. (if◌then◌else◌ {A = Stored} b (refused h) (taken h head msu)).half.withheld ≡ h.withheld)
+    as (λ b. (if◌then◌else◌ {A = Stored} b (refused h) (taken h head msu)).transceiver.withheld ≡ h.withheld)
     [ true ↦ refl | false ↦ refl ]
 
-by_stores-withheld : (h : Half) (head : Head) (msu : Option Msu) → (by_stores h head msu).half.withheld ≡ h.withheld
+by_stores-withheld : (h : TransceiverState) (head : Head) (msu : Option Msu) → (by_stores h head msu).transceiver.withheld ≡ h.withheld
 unfolding by_stores
 by_stores-withheld h head msu = elim h.take
-    as (λ b. (if b then through (stored h head msu) else left_aside h).half.withheld ≡ h.withheld)
+    as (λ b. (if b then through (stored h head msu) else left_aside h).transceiver.withheld ≡ h.withheld)
     [ true ↦ stored-withheld h head msu | false ↦ refl ]
 
-judged-withheld : (h : Half) (u : Unit) → (judged h u).half.withheld ≡ h.withheld
+judged-withheld : (h : TransceiverState) (u : Unit) → (judged h u).transceiver.withheld ≡ h.withheld
 unfolding judged
 judged-withheld h (unit.Fisu head) = by_stores-withheld h head None
 judged-withheld h (unit.Msu head sio sif) = by_stores-withheld h head (Some (record { sio = sio; sif = sif }))
@@ -38,16 +38,16 @@ judged-withheld h (unit.Lssu head status second) = refl
 
 -- ---- units that go out
 
-gone_by-withheld : (h : Half) (line : Option LineKind) → (gone_by h line).half.withheld ≡ h.withheld
+gone_by-withheld : (h : TransceiverState) (line : Option LineKind) → (gone_by h line).transceiver.withheld ≡ h.withheld
 gone_by-withheld h None = refl
 gone_by-withheld h (Some (kind.Status code)) = refl
 gone_by-withheld h (Some kind.FillIn) = refl
 gone_by-withheld h (Some kind.Messages) = refl
 
-gone-withheld : (h : Half) → (gone h).half.withheld ≡ h.withheld
+gone-withheld : (h : TransceiverState) → (gone h).transceiver.withheld ≡ h.withheld
 unfolding gone
 gone-withheld h = elim h.busy
-    as (λ b. (if b then status_gone (record h { busy = false }) BUSY_CODE else gone_by h h.line).half.withheld ≡ h.withheld)
+    as (λ b. (if b then status_gone (record h { busy = false }) BUSY_CODE else gone_by h h.line).transceiver.withheld ≡ h.withheld)
     [ true ↦ refl | false ↦ gone_by-withheld h h.line ]
 
 -- a head with the number and the bit
@@ -55,13 +55,13 @@ record Heads (b : Backward) (head : Head) : Type 0 where
   number : head.bsn ≡ b.bsn
   indicator : head.bib ≡ b.bib
 
-heads : (h : Half) (b : Backward) (fsn fib : ℕ) → h.withheld ≡ Some b → Heads b (head_with h fsn fib)
+heads : (h : TransceiverState) (b : Backward) (fsn fib : ℕ) → h.withheld ≡ Some b → Heads b (head_with h fsn fib)
 heads h b fsn fib e = record {
   number = ap (λ (o : Option Backward). (unwrap_or o (backward_of h.receiver)).bsn) e;
   indicator = ap (λ (o : Option Backward). (unwrap_or o (backward_of h.receiver)).bib) e;
 }
 
-idle-heads : (h : Half) (b : Backward) → h.withheld ≡ Some b → Heads b (idle_head h)
+idle-heads : (h : TransceiverState) (b : Backward) → h.withheld ≡ Some b → Heads b (idle_head h)
 unfolding idle_head
 idle-heads h b e = heads h b (idle_fsn h.sender) h.sender.fib e
 
@@ -69,10 +69,10 @@ filled-tells : (b : Backward) (head : Head) (msu : Option Msu) → Heads b head 
 filled-tells b head (Some msu) h = (h.number, h.indicator)
 filled-tells b head None h = (h.number, h.indicator)
 
-status-tells : (h : Half) (b : Backward) (code : ℕ) → h.withheld ≡ Some b → Tells b (status_gone h code).out
+status-tells : (h : TransceiverState) (b : Backward) (code : ℕ) → h.withheld ≡ Some b → Tells b (status_gone h code).out
 status-tells h b code e = let k = idle-heads h b e in (k.number, k.indicator)
 
-gone_by-tells : (h : Half) (b : Backward) (line : Option LineKind) → h.withheld ≡ Some b → Tells b (gone_by h line).out
+gone_by-tells : (h : TransceiverState) (b : Backward) (line : Option LineKind) → h.withheld ≡ Some b → Tells b (gone_by h line).out
 gone_by-tells h b None e = tt
 gone_by-tells h b (Some (kind.Status code)) e = status-tells h b code e
 gone_by-tells h b (Some kind.FillIn) e = let k = idle-heads h b e in (k.number, k.indicator)
@@ -80,7 +80,7 @@ gone_by-tells h b (Some kind.Messages) e =
     let s : Sending = gives h.sender in
     filled-tells b (head_with h s.unit.fsn s.unit.fib) s.unit.msu (heads h b s.unit.fsn s.unit.fib e)
 
-gone-tells : (h : Half) (b : Backward) → h.withheld ≡ Some b → Tells b (gone h).out
+gone-tells : (h : TransceiverState) (b : Backward) → h.withheld ≡ Some b → Tells b (gone h).out
 unfolding gone
 gone-tells h b e = elim h.busy
     as (λ c. Tells b (if c then status_gone (record h { busy = false }) BUSY_CODE else gone_by h h.line).out)

@@ -11,7 +11,7 @@ use Rattle.link_transceiver.specs.declared.signals.LinkStatus.{LinkStatus}
 use Rattle.link_transceiver.specs.declared.signals.LinkStatus.TheVariants as status
 use Rattle.link_transceiver.specs.Limits.{KEPT_STATUSES}
 use Rattle.link_transceiver.specs.Faults.{no_faults}
-use Rattle.link_transceiver.specs.Half.{Half}
+use Rattle.link_transceiver.specs.TransceiverState.{TransceiverState}
 
 -- the number of the message that a receiver accepted last, and its bit in force
 abbrev pub backward_of : Intake → Backward
@@ -23,7 +23,7 @@ renewed_backward (Some b) = Some (record { bsn = 127; bib = 1 })
 renewed_backward None = None
 
 -- The link is aligned anew: both stores begin anew, and units before that tell of no fault.
-unfoldable pub renewed : Half → Half
+unfoldable pub renewed : TransceiverState → TransceiverState
 renewed h = record h {
   sender = refreshed h.sender;
   receiver = first_intake h.receiver.mode;
@@ -47,12 +47,12 @@ is_busy_named (pos number) = number == 5
 is_busy_named (negsuc number) = false
 
 -- It goes out from now on, and no busy status that was wanted before.
-abbrev pub sends : Option LineKind → Half → Half
+abbrev pub sends : Option LineKind → TransceiverState → TransceiverState
 sends (Some k) h = record h { line = Some k; busy = false }
 sends None h = h
 
 -- One busy status goes out first; of any other number the last one counts.
-unfoldable pub directed : ℤ → Half → Half
+unfoldable pub directed : ℤ → TransceiverState → TransceiverState
 directed number h = if is_busy_named number then record h { busy = true } else sends (kind_named number) h
 
 -- the latest so many; those before them give way
@@ -60,15 +60,15 @@ unfoldable pub latest : List LinkStatus → List LinkStatus
 latest statuses = drop (length statuses - KEPT_STATUSES) statuses
 
 -- one more is told
-unfoldable pub told : LinkStatus → Half → Half
+unfoldable pub told : LinkStatus → TransceiverState → TransceiverState
 told s h = record h { statuses = latest (h.statuses ++ s ∷ []) }
 
 -- While acknowledgement is withheld, number and bit stay as they are when that is asked for last, whatever unit comes (Q.703, 9).
-abbrev pub withheld_by : Bool → Half → Half
+abbrev pub withheld_by : Bool → TransceiverState → TransceiverState
 withheld_by true h = record h { withheld = Some (backward_of h.receiver) }
 withheld_by false h = record h { withheld = None }
 
-unfoldable pub effect : EnvSignal → Half → Half
+unfoldable pub effect : EnvSignal → TransceiverState → TransceiverState
 effect signal.Fresh h = renewed h
 effect (signal.Take on) h = record h { take = on }
 effect (signal.Line number) h = directed number h

@@ -10,7 +10,7 @@ use Rattle.link_transceiver.specs.declared.signals.Backward.{Backward}
 use Rattle.link_transceiver.specs.declared.signals.LineKind.{LineKind}
 use Rattle.link_transceiver.specs.declared.signals.LineKind.TheVariants as kind
 use Rattle.link_transceiver.specs.Limits.{BUSY_CODE}
-use Rattle.link_transceiver.specs.Half.{Half}
+use Rattle.link_transceiver.specs.TransceiverState.{TransceiverState}
 use Rattle.link_transceiver.specs.Effects.{backward_of}
 use Rattle.link_transceiver.specs.Offers.{message_sent}
 
@@ -24,15 +24,15 @@ idle_fsn w = (fill_in w).unit.fsn
 
 -- The backward number and bit that go out: those of the receiver, or, while acknowledgement is withheld, those that were the receiver's
 -- as that began.
-abbrev pub backward_out : Half → Backward
+abbrev pub backward_out : TransceiverState → Backward
 backward_out h = unwrap_or h.withheld (backward_of h.receiver)
 
 -- the head of a unit around the sender's number and bit
-abbrev pub head_with : Half → ℕ → ℕ → Head
+abbrev pub head_with : TransceiverState → ℕ → ℕ → Head
 head_with h fsn fib = record { bsn = (backward_out h).bsn; bib = (backward_out h).bib; fsn = fsn; fib = fib }
 
 -- that of a unit which the sender has no part in
-unfoldable pub idle_head : Half → Head
+unfoldable pub idle_head : TransceiverState → Head
 idle_head h = head_with h (idle_fsn h.sender) h.sender.fib
 
 -- a unit that nobody is told of
@@ -40,32 +40,32 @@ abbrev pub quiet : Unit → UnitOut
 quiet u = record { unit = u; offer = None }
 
 pub record Gone : Type 0 where
-  pub half : Half
+  pub transceiver : TransceiverState
   pub out : Option UnitOut
 
 -- a link status signal unit with one octet of status
-abbrev pub status_gone : Half → ℕ → Gone
-status_gone h code = record { half = h; out = Some (quiet (unit.Lssu (idle_head h) code None)) }
+abbrev pub status_gone : TransceiverState → ℕ → Gone
+status_gone h code = record { transceiver = h; out = Some (quiet (unit.Lssu (idle_head h) code None)) }
 
-abbrev pub fill_in_gone : Half → Gone
-fill_in_gone h = record { half = h; out = Some (quiet (unit.Fisu (idle_head h))) }
+abbrev pub fill_in_gone : TransceiverState → Gone
+fill_in_gone h = record { transceiver = h; out = Some (quiet (unit.Fisu (idle_head h))) }
 
 -- each message that goes out is told of, a repeated one too
 abbrev pub filled : Head → Option Msu → UnitOut
 filled head (Some msu) = record { unit = unit.Msu head msu.sio msu.sif; offer = Some message_sent }
 filled head None = quiet (unit.Fisu head)
 
-abbrev pub sender_gone : Half → Sending → Gone
+abbrev pub sender_gone : TransceiverState → Sending → Gone
 sender_gone h s = record {
-  half = record h { sender = s.left };
+  transceiver = record h { sender = s.left };
   out = Some (filled (head_with h s.unit.fsn s.unit.fib) s.unit.msu);
 }
 
-abbrev pub gone_by : Half → Option LineKind → Gone
-gone_by h None = record { half = h; out = None }
+abbrev pub gone_by : TransceiverState → Option LineKind → Gone
+gone_by h None = record { transceiver = h; out = None }
 gone_by h (Some (kind.Status code)) = status_gone h code
 gone_by h (Some kind.FillIn) = fill_in_gone h
 gone_by h (Some kind.Messages) = sender_gone h (gives h.sender)
 
-unfoldable pub gone : Half → Gone
+unfoldable pub gone : TransceiverState → Gone
 gone h = if h.busy then status_gone (record h { busy = false }) BUSY_CODE else gone_by h h.line

@@ -1,10 +1,10 @@
--- What the fields of a side stand for, and keep.
+-- What the fields of a transceiver stand for, and keep.
 use Rattle.std.specs.Prelude.{IfSome}
-use Rattle.link_transceiver.specs.declared.side.Side.TheInside.{Inside}
-use Rattle.link_transceiver.specs.Half.{Half, IsBackward}
+use Rattle.link_transceiver.specs.declared.transceiver.Transceiver.TheInside.{Inside}
+use Rattle.link_transceiver.specs.TransceiverState.{TransceiverState, IsBackward}
 
-abbrev pub half_of : Inside → Half
-half_of s = record {
+abbrev pub transceiver_state_of : Inside → TransceiverState
+transceiver_state_of s = record {
   sender = s.sender;
   receiver = s.receiver;
   take = s.take;
@@ -18,5 +18,5 @@ half_of s = record {
   came = s.came;
 }
 
-abbrev pub IsSide : Inside → Type 0
-IsSide s = IfSome s.withheld IsBackward
+abbrev pub IsTransceiver : Inside → Type 0
+IsTransceiver s = IfSome s.withheld IsBackward

@@ -1,4 +1,4 @@
--- What holds of a side over every list of calls.
+-- What holds of a transceiver over every list of calls.
 use Rattle.std.specs.Prelude.{◌≡◌, ℕ, pos, ◌+◌, ◌≤◌, ◌&&◌, not, Bool, true, false, if◌then◌else◌, Option, Some, None, Result, Ok, Err, List, [], ◌∷◌, ◌++◌, length, take}
 use Rattle.resend_store.specs.Window.{Window, unacknowledged, waiting, count_by}
 use Rattle.resend_store.specs.declared.messages.Msu.{Msu}
@@ -15,7 +15,7 @@ use Rattle.link_transceiver.specs.declared.signals.EnvSignal.{EnvSignal}
 use Rattle.link_transceiver.specs.declared.signals.EnvSignal.TheVariants as signal
 use Rattle.link_transceiver.specs.declared.signals.Report.{Report}
 use Rattle.link_transceiver.specs.declared.signals.Report.TheVariants as report
-use Rattle.link_transceiver.specs.Half.{Half}
+use Rattle.link_transceiver.specs.TransceiverState.{TransceiverState}
 use Rattle.link_transceiver.specs.Effects.{effect, backward_of}
 use Rattle.link_transceiver.specs.Judging.{hears, is_abnormal, judged}
 use Rattle.link_transceiver.specs.Going.{gone}
@@ -32,12 +32,12 @@ abbrev pub acknowledged_messages : Window → ℕ → List Msu
 acknowledged_messages w bsn = take (count_by w bsn) (unacknowledged w)
 
 -- Those that a fill-in or message signal unit acknowledges: none where such units aren't taken, or where its number is abnormal.
-abbrev pub acknowledged_by : Half → Head → List Msu
+abbrev pub acknowledged_by : TransceiverState → Head → List Msu
 acknowledged_by h head =
     if h.take && not (is_abnormal h.sender head.bsn) then acknowledged_messages h.sender head.bsn else []
 
 -- those that a unit acknowledges
-abbrev pub acknowledged_of : Half → Unit → List Msu
+abbrev pub acknowledged_of : TransceiverState → Unit → List Msu
 acknowledged_of h (unit.Fisu head) = acknowledged_by h head
 acknowledged_of h (unit.Msu head sio sif) = acknowledged_by h head
 acknowledged_of h (unit.Lssu head status second) = []
@@ -45,12 +45,12 @@ acknowledged_of h (unit.Lssu head status second) = []
 -- Of what is kept to send a unit from the far side takes away the messages that it acknowledges, and those that wait to be sent go on
 -- waiting; a signal, a unit that goes out and a report take nothing. By a unit that goes out one more at most counts as sent.
 pub record KeepsUnacknowledged : Type 0 where
-  pub on_signal : (s : EnvSignal) (h : Half) → Loses [] h.sender (effect s h).sender
-  pub on_unit : (h : Half) (u : Unit) → Loses (acknowledged_of h u) h.sender (judged h u).half.sender
-  pub waits : (h : Half) (u : Unit) → waiting (judged h u).half.sender ≡ waiting h.sender
-  pub unit_out : (h : Half) → (gone h).half.sender.kept ≡ h.sender.kept
-  pub one_sent : (h : Half) → (gone h).half.sender.sent ≤ h.sender.sent + 1
-  pub report : (h : Half) → (reported h).half.sender ≡ h.sender
+  pub on_signal : (s : EnvSignal) (h : TransceiverState) → Loses [] h.sender (effect s h).sender
+  pub on_unit : (h : TransceiverState) (u : Unit) → Loses (acknowledged_of h u) h.sender (judged h u).transceiver.sender
+  pub waits : (h : TransceiverState) (u : Unit) → waiting (judged h u).transceiver.sender ≡ waiting h.sender
+  pub unit_out : (h : TransceiverState) → (gone h).transceiver.sender.kept ≡ h.sender.kept
+  pub one_sent : (h : TransceiverState) → (gone h).transceiver.sender.sent ≤ h.sender.sent + 1
+  pub report : (h : TransceiverState) → (reported h).transceiver.sender ≡ h.sender
 
 unfoldable pub is_accept : Result Verdict UnitError → Bool
 is_accept (Ok Accept) = true
@@ -59,12 +59,12 @@ is_accept (Ok Nack) = false
 is_accept (Err e) = false
 
 -- whether a unit with a message goes to the receiver, and is accepted there
-abbrev pub is_accepted : Half → Head → Bool
+abbrev pub is_accepted : TransceiverState → Head → Bool
 is_accepted h head =
     h.take && not (is_abnormal h.sender head.bsn) && is_accept (hears h.receiver head.fsn head.fib true).verdict
 
 -- the message of a unit, where it is accepted
-abbrev pub accepted_of : Half → Unit → List Msu
+abbrev pub accepted_of : TransceiverState → Unit → List Msu
 accepted_of h (unit.Fisu head) = []
 accepted_of h (unit.Lssu head status second) = []
 accepted_of h (unit.Msu head sio sif) = if is_accepted h head then record { sio = sio; sif = sif } ∷ [] else []
@@ -81,41 +81,41 @@ pub data Call : Type 0 where
   Went : Call
   Asked : Call
 
-abbrev pub after_call : Half → Call → Half
+abbrev pub after_call : TransceiverState → Call → TransceiverState
 after_call h (Told s) = effect s h
-after_call h (Came u) = (judged h u).half
-after_call h Went = (gone h).half
-after_call h Asked = (reported h).half
+after_call h (Came u) = (judged h u).transceiver
+after_call h Went = (gone h).transceiver
+after_call h Asked = (reported h).transceiver
 
-abbrev pub accepted_by : Half → Call → List Msu
+abbrev pub accepted_by : TransceiverState → Call → List Msu
 accepted_by h (Told s) = []
 accepted_by h (Came u) = accepted_of h u
 accepted_by h Went = []
 accepted_by h Asked = []
 
-abbrev pub handed_by : Half → Call → List Msu
+abbrev pub handed_by : TransceiverState → Call → List Msu
 handed_by h (Told s) = []
 handed_by h (Came u) = []
 handed_by h Went = []
 handed_by h Asked = message_of (reported h).report
 
-abbrev pub after : Half → List Call → Half
+abbrev pub after : TransceiverState → List Call → TransceiverState
 after h [] = h
 after h (c ∷ cs) = after (after_call h c) cs
 
 -- the messages that were accepted over a list of calls, in order
-abbrev pub accepted : Half → List Call → List Msu
+abbrev pub accepted : TransceiverState → List Call → List Msu
 accepted h [] = []
 accepted h (c ∷ cs) = accepted_by h c ++ accepted (after_call h c) cs
 
 -- those that were handed out
-abbrev pub handed : Half → List Call → List Msu
+abbrev pub handed : TransceiverState → List Call → List Msu
 handed h [] = []
 handed h (c ∷ cs) = handed_by h c ++ handed (after_call h c) cs
 
 -- What waited and what was accepted is what was handed out, then what waits now: none lost, none twice, all in order.
 abbrev pub HandsOutInOrder : Type 0
-HandsOutInOrder = (h : Half) (cs : List Call) → h.messages ++ accepted h cs ≡ handed h cs ++ (after h cs).messages
+HandsOutInOrder = (h : TransceiverState) (cs : List Call) → h.messages ++ accepted h cs ≡ handed h cs ++ (after h cs).messages
 
 -- a unit that goes out, if one does, has this backward number and bit
 abbrev pub Tells : Backward → Option UnitOut → Type 0
@@ -125,12 +125,12 @@ Tells b (Some out) = ((head_of out.unit).bsn ≡ b.bsn) × ((head_of out.unit).b
 -- While acknowledgement is withheld, each unit that goes out tells of the number and the bit of when that was asked for, whatever was heard
 -- since: units that come don't change what is withheld.
 pub record Withholds : Type 0 where
-  pub begins : (h : Half) → (effect (signal.Withhold true) h).withheld ≡ Some (backward_of h.receiver)
-  pub on_unit : (h : Half) (u : Unit) → (judged h u).half.withheld ≡ h.withheld
-  pub unit_out : (h : Half) → (gone h).half.withheld ≡ h.withheld
-  pub tells : (h : Half) (b : Backward) → h.withheld ≡ Some b → Tells b (gone h).out
-  pub ends : (h : Half) → (effect (signal.Withhold false) h).withheld ≡ None
+  pub begins : (h : TransceiverState) → (effect (signal.Withhold true) h).withheld ≡ Some (backward_of h.receiver)
+  pub on_unit : (h : TransceiverState) (u : Unit) → (judged h u).transceiver.withheld ≡ h.withheld
+  pub unit_out : (h : TransceiverState) → (gone h).transceiver.withheld ≡ h.withheld
+  pub tells : (h : TransceiverState) (b : Backward) → h.withheld ≡ Some b → Tells b (gone h).out
+  pub ends : (h : TransceiverState) → (effect (signal.Withhold false) h).withheld ≡ None
 
 -- Once a busy status was asked for, it goes out, and everything is as before: so it goes out once.
 abbrev pub BusyGoesOutOnce : Type 0
-BusyGoesOutOnce = (h : Half) → h.busy ≡ false → (gone (effect (signal.Line (pos 5)) h)).half ≡ h
+BusyGoesOutOnce = (h : TransceiverState) → h.busy ≡ false → (gone (effect (signal.Line (pos 5)) h)).transceiver ≡ h

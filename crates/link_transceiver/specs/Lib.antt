@@ -1,7 +1,7 @@
 pub mod Effects
 pub mod Faults
 pub mod Going
-pub mod Half
+pub mod TransceiverState
 pub mod Inside
 pub mod Judging
 pub mod Laws

@@ -1,4 +1,4 @@
--- Numbers of a terminal's half.
+-- Numbers of a terminal's transceiver.
 use Rattle.std.specs.Prelude.{ℕ}
 
 -- the code of the status 'busy' (Q.703, 11.1.3)

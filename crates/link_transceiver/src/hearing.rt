@@ -10,7 +10,7 @@ ghost use Rattle.link_transceiver.specs.Offers.{to_monitors, unit_seen};
 
 use crate::faults::Fault;
 use crate::offers::{Notice, Offer, Party, to_monitors};
-use crate::side::Side;
+use crate::transceiver::Transceiver;
 use arrayvec::ArrayVec;
 use resend_store::{AckError, Msu, Receiver, Sender, UnitError, Verdict};
 use su_octets::{Head, Unit};
@@ -21,7 +21,7 @@ const FILL_IN_OR_MESSAGE: u8 = 8;
 /// What is offered because of a unit.
 pub type Offers = ArrayVec<Offer, 5>;
 
-impl Side {
+impl Transceiver {
     /// Takes a unit without errors, and answers what is to be offered because of it, in this order (Q.703, sections 5, 6 and
     /// 10): `Good` to both monitors; `AckSeen` where it acknowledges messages; `Bad` where two of the last three units had an
     /// abnormal backward number, or two an abnormal forward indicator; `Unit` with its kind.
@@ -32,7 +32,7 @@ impl Side {
     pub fn on_unit(&mut self, unit: Unit) -> Offers
         requires whole { IsWhole unit }
         requires room { length self.old.messages < KEPT_MESSAGES }
-        ensures half { self.new ≡ (judged self.old unit).half }
+        ensures transceiver { self.new ≡ (judged self.old unit).transceiver }
         ensures offers { result.items ≡ (judged self.old unit).offers }
     {
         match unit {
@@ -47,7 +47,7 @@ impl Side {
     fn pass(&mut self, head: &Head, msu: Option<Msu>) -> Offers
         requires whole { IsWholeHead head.now }
         requires room { length self.old.messages < KEPT_MESSAGES }
-        ensures half { self.new ≡ (by_stores self.old head.now msu).half }
+        ensures transceiver { self.new ≡ (by_stores self.old head.now msu).transceiver }
         ensures offers { result.items ≡ (of_kind 8 (by_stores self.old head.now msu)).offers }
     {
         if self.take {
@@ -61,7 +61,7 @@ impl Side {
     fn go_through(&mut self, head: &Head, msu: Option<Msu>) -> Offers
         requires whole { IsWholeHead head.now }
         requires room { length self.old.messages < KEPT_MESSAGES }
-        ensures half { self.new ≡ (through (stored self.old head.now msu)).half }
+        ensures transceiver { self.new ≡ (through (stored self.old head.now msu)).transceiver }
         ensures offers { result.items ≡ (of_kind 8 (through (stored self.old head.now msu))).offers }
     {
         let count = self.store(head, msu);
@@ -73,7 +73,7 @@ impl Side {
     fn store(&mut self, head: &Head, msu: Option<Msu>) -> usize
         requires whole { IsWholeHead head.now }
         requires room { length self.old.messages < KEPT_MESSAGES }
-        ensures half { self.new ≡ (stored self.old head.now msu).half }
+        ensures transceiver { self.new ≡ (stored self.old head.now msu).transceiver }
         ensures count { result ≡ (stored self.old head.now msu).count }
     {
         match acknowledge(&mut self.sender, head) {

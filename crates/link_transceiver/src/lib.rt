@@ -8,8 +8,8 @@ mod kept;
 mod laws;
 mod offers;
 mod sending;
-mod side;
 mod signals;
+mod transceiver;
 
 pub use faults::Fault;
 pub use hearing::Offers;
@@ -18,5 +18,5 @@ pub use laws::{
     unacknowledged_messages_are_kept, withheld_acknowledgement_stays,
 };
 pub use offers::{Notice, Offer, Party, UnitOut, error_offers};
-pub use side::Side;
 pub use signals::{BUSY, Backward, EnvSignal, LineKind, LinkStatus, MESSAGES, Report, STATUSES};
+pub use transceiver::Transceiver;

@@ -2,16 +2,16 @@
 ghost use Rattle.std.specs.Prelude.{◌≡◌, ◌<◌, IfSome};
 ghost use Rattle.resend_store.specs.Messages.{IsMessage};
 ghost use Rattle.su_octets.specs.Whole.{IsWhole, IsWholeHead};
-ghost use Rattle.link_transceiver.specs.Half.{IsBackward};
+ghost use Rattle.link_transceiver.specs.TransceiverState.{IsBackward};
 ghost use Rattle.link_transceiver.specs.Going.{gives, backward_out, head_with, idle_head, quiet, filled, status_gone, sender_gone, gone};
 
 use crate::offers::{Notice, Offer, Party, UnitOut};
-use crate::side::Side;
 use crate::signals::{BUSY, Backward, LineKind};
+use crate::transceiver::Transceiver;
 use resend_store::{Msu, Outgoing, Sender};
 use su_octets::{Head, Unit};
 
-impl Side {
+impl Transceiver {
     /// What goes out next, with what is to be offered then; nothing before anything was said of the line.
     ///
     /// One link status signal unit of congestion goes out first where that was asked for; then by the last other
@@ -20,7 +20,7 @@ impl Side {
     #[tactic(auto, unfolding(crate::specs::Going::gone))]
     pub fn unit_out(&mut self) -> Option<UnitOut>
         ensures out { result ≡ (gone self.old).out }
-        ensures half { self.new ≡ (gone self.old).half }
+        ensures transceiver { self.new ≡ (gone self.old).transceiver }
         ensures whole { IfSome result (λ out. IsWhole out.unit) }
     {
         if self.busy {
@@ -77,7 +77,7 @@ impl Side {
     /// What the sender gives.
     fn next_unit(&mut self) -> UnitOut
         ensures out { Some result ≡ (sender_gone self.old (gives self.old.sender)).out }
-        ensures half { self.new ≡ (sender_gone self.old (gives self.old.sender)).half }
+        ensures transceiver { self.new ≡ (sender_gone self.old (gives self.old.sender)).transceiver }
         ensures whole { IsWhole result.unit }
     {
         let Outgoing { fsn, fib, msu } = give(&mut self.sender);

@@ -1,6 +1,6 @@
 mod CallAnswers
 mod GroupRuns
-mod HandAnswers
+mod RetrievalAnswers
 mod Keeping
 mod LineAnswers
 mod Openings

@@ -19,7 +19,7 @@ use Rattle.script_group.specs.GroupAnswers as answers
 
 abbrev reports_by : Option Link → ℕ
 reports_by None = 0
-reports_by (Some k) = reports k.terminal.heart.side
+reports_by (Some k) = reports k.terminal.processes.transceiver
 
 -- how many reports of a link wait
 abbrev pub reports_at : ℕ → LinkSet → ℕ
@@ -53,10 +53,10 @@ pub fewer_left : (l : ℕ) (c d : LinkSet) (r : Report) → ByLink (Reported (So
 fewer_left l c d r by_link =
     let k : Link = by_link.at.before in
     let j : Link = by_link.at.after in
-    let less : reports j.terminal.heart.side < reports k.terminal.heart.side =
+    let less : reports j.terminal.processes.transceiver < reports k.terminal.processes.transceiver =
     fewer_reports k.terminal j.terminal (Some r) refl by_link.at.was.report_is by_link.at.was.terminal in
-    let before : reports_at l c ≡ reports k.terminal.heart.side = ap reports_by by_link.at.there in
-    let after : reports_at l d ≡ reports j.terminal.heart.side = ap reports_by (link_behind (Reported (Some r)) l c d by_link) in
+    let before : reports_at l c ≡ reports k.terminal.processes.transceiver = ap reports_by by_link.at.there in
+    let after : reports_at l d ≡ reports j.terminal.processes.transceiver = ap reports_by (link_behind (Reported (Some r)) l c d by_link) in
     omega (arith, less, before, after)
 
 -- by what was handed out

@@ -4,7 +4,7 @@ use Rattle.std.specs.Prelude.{All}
 use Rattle.std.proofs.lemmas.List.Elements.{All-nil, All-cons, All-append, All-weaker}
 use Rattle.resend_store.specs.declared.messages.Mode.{Mode}
 use Rattle.turn_code.specs.declared.draft.Draft.{Draft}
-use Rattle.link_transceiver.specs.Half.{first_half}
+use Rattle.link_transceiver.specs.TransceiverState.{first_transceiver}
 use Rattle.script_terminal.specs.Term.{Term}
 use Rattle.script_terminal.specs.Opening.{IsOver}
 use Rattle.script_terminal.specs.Kept.{window_of}
@@ -20,8 +20,8 @@ IsEmpty t = (window_of t).kept ≡ []
 
 -- nor does one that is new
 unused : (d : Draft) (mode : Mode) (t : Term) → IsOver d mode t → IsEmpty t
-unfolding first_half
-unused d mode t new = ap (λ s. s.sender.kept) new.side
+unfolding first_transceiver
+unused d mode t new = ap (λ s. s.sender.kept) new.transceiver
 
 pub all_unused : (d : Draft) (head : GroupHead) (ts : List Term) → AreNew d head ts → All IsEmpty ts
 all_unused d head ts new = All-weaker (IsOver d head.mode) IsEmpty (unused d head.mode) ts new.are_new

@@ -1,4 +1,4 @@
--- What each command of a link set's script makes of the set and of the messages in hand, and the lines that it prints.
+-- What each command of a link set's script makes of the set and of the retrieved messages, and the lines that it prints.
 use Rattle.std.specs.Prelude.{◌≡◌, ℕ, ◌<◌, ◌≤◌, zero, suc, ◌==◌, ◌||◌, nat_lt, nat_le, is_some, Bool, true, false, List, [], ◌∷◌, ◌++◌, length, map, drop, Option, None, Some, slice_get, codes}
 use Rattle.std.specs.List.{list_any}
 use Rattle.std.specs.Fmt.{decimal}
@@ -22,13 +22,13 @@ use Rattle.link_group.specs.group_changeover_types.errors.AbandonError.{AbandonE
 use Rattle.link_group.specs.group_changeover_types.errors.AbandonError.TheVariants as abandoning
 use Rattle.link_group.specs.group_changeover_types.errors.DivertFault.{DivertFault}
 use Rattle.link_group.specs.declared.retrieved.Kept.{Kept}
-use Rattle.link_group.specs.declared.hands.Hands.{Hands}
+use Rattle.link_group.specs.declared.retrievals.Retrievals.{Retrievals}
 use Rattle.link_group.specs.Set.{LinkSet, send_fault, sent}
 use Rattle.link_group.specs.Changing.{fail_fault, failed, order_at, IsRead, after_message, reply_to, retrieve_fault_at, after_retrieve, messages_for, abandon_fault_at, after_abandon, unsent_at}
 use Rattle.link_group.specs.Diverting.{diverted, after_divert}
 use Rattle.link_group.specs.Placing.{rebalance_fault, rebalanced}
 use Rattle.link_group.specs.Lines.{ByLink, Alone}
-use Rattle.link_group.specs.Moving.{hand_of}
+use Rattle.link_group.specs.Moving.{retrieval_of}
 use Rattle.link_group.specs.Doing.{Listened, Sent, Reported}
 use Rattle.link_group.specs.Commanding.{Commanded, Refused, is_barred}
 use Rattle.link_group.specs.OneLink.{but_memory}
@@ -45,25 +45,25 @@ use Rattle.script_terminal.specs.Answers.{actor_named, state_line, value_line}
 use Rattle.script_terminal.specs.TermAnswers.{command_of, IsMessageOf}
 use Rattle.script_terminal.specs.UnitLines.{IsLineOf}
 
--- messages that a link handed out and that are still in hand
-pub record Hand : Type 0 where
+-- messages that a link handed out and that are not diverted yet
+pub record Retrieval : Type 0 where
   pub link : ℕ
   pub messages : List Msu
 
--- Of a script that runs: the set, the hands that are out, and the link that lines speak of.
+-- Of a script that runs: the set, the retrievals that are out, and the link that lines speak of.
 pub record Playing : Type 0 where
   pub set : LinkSet
-  pub hands : List Hand
+  pub retrievals : List Retrieval
   pub on : ℕ
 
-abbrev pub plain_hand : Kept → Hand
-plain_hand k = record { link = k.link; messages = k.messages.items }
+abbrev pub plain_retrieval : Kept → Retrieval
+plain_retrieval k = record { link = k.link; messages = k.messages.items }
 
-abbrev pub hands_of : Hands → List Hand
-hands_of h = map plain_hand h.kept.items
+abbrev pub retrievals_of : Retrievals → List Retrieval
+retrievals_of h = map plain_retrieval h.kept.items
 
-abbrev pub at : LinkSet → Hands → ℕ → Playing
-at c h l = record { set = c; hands = hands_of h; on = l }
+abbrev pub at : LinkSet → Retrievals → ℕ → Playing
+at c h l = record { set = c; retrievals = retrievals_of h; on = l }
 
 -- ---- lines
 
@@ -185,16 +185,16 @@ pub record IsHeard (octets : List ℕ) (c : LinkSet) (text : List ℕ) (d : Link
   pub makes : (m : Option Changeover) → IsRead octets m → d ≡ after_message c m
   pub says : (m : Option Changeover) → IsRead octets m → IsReplied (reply_to c m) text
 
--- a link has one hand at most
-abbrev pub MOST_HANDS : ℕ
-MOST_HANDS = 16
+-- a link has one retrieval at most
+abbrev pub MOST_RETRIEVALS : ℕ
+MOST_RETRIEVALS = 16
 
--- Of so many hands that are kept: there is room for one more, or the link gives none, since it isn't there or its messages are in hand.
+-- Of so many retrievals that are kept: there is room for one more, or the link gives none, since it isn't there or its messages are retrieved.
 abbrev pub can_keep : LinkSet → ℕ → ℕ → Bool
-can_keep c kept l = nat_lt kept MOST_HANDS || (nat_le (length c.links) l || is_some (hand_of (slice_get c.links l)))
+can_keep c kept l = nat_lt kept MOST_RETRIEVALS || (nat_le (length c.links) l || is_some (retrieval_of (slice_get c.links l)))
 
-abbrev pub with_hand : List Hand → ℕ → List Msu → List Hand
-with_hand hands l messages = hands ++ record { link = l; messages = messages } ∷ []
+abbrev pub with_retrieval : List Retrieval → ℕ → List Msu → List Retrieval
+with_retrieval retrievals l messages = retrievals ++ record { link = l; messages = messages } ∷ []
 
 -- the lines of refusals; want of memory has none
 abbrev pub IsRetrieveLine : RetrieveError → List ℕ → Type 0
@@ -205,42 +205,42 @@ IsAbandonLine abandoning.NoMemory text = ⊥
 IsAbandonLine abandoning.NoLink text = text ≡ codes "refused " ++ abandon_error_text abandoning.NoLink
 IsAbandonLine abandoning.Waiting text = text ≡ codes "refused " ++ abandon_error_text abandoning.Waiting
 
--- messages are handed out, and kept behind the other hands
-pub data Retrieves (l : ℕ) (c : LinkSet) (hands : List Hand) : List ℕ → LinkSet → List Hand → Type 0 where
-  retrieves_refused : (e : RetrieveError) → retrieve_fault_at c l ≡ Some e → Retrieves l c hands (codes "refused " ++ retrieve_error_text e) c hands
+-- messages are handed out, and kept behind the other retrievals
+pub data Retrieves (l : ℕ) (c : LinkSet) (retrievals : List Retrieval) : List ℕ → LinkSet → List Retrieval → Type 0 where
+  retrieves_refused : (e : RetrieveError) → retrieve_fault_at c l ≡ Some e → Retrieves l c retrievals (codes "refused " ++ retrieve_error_text e) c retrievals
   retrieves_given : retrieve_fault_at c l ≡ None
-      → Retrieves l c hands (count_line (length (messages_for c l))) (after_retrieve c l) (with_hand hands l (messages_for c l))
+      → Retrieves l c retrievals (count_line (length (messages_for c l))) (after_retrieve c l) (with_retrieval retrievals l (messages_for c l))
 
-pub data Abandons (l : ℕ) (c : LinkSet) (hands : List Hand) : List ℕ → LinkSet → List Hand → Type 0 where
-  abandons_refused : (e : AbandonError) → abandon_fault_at c l ≡ Some e → Abandons l c hands (codes "refused " ++ abandon_error_text e) c hands
+pub data Abandons (l : ℕ) (c : LinkSet) (retrievals : List Retrieval) : List ℕ → LinkSet → List Retrieval → Type 0 where
+  abandons_refused : (e : AbandonError) → abandon_fault_at c l ≡ Some e → Abandons l c retrievals (codes "refused " ++ abandon_error_text e) c retrievals
   abandons_given : abandon_fault_at c l ≡ None
-      → Abandons l c hands (count_line (length (unsent_at c l))) (after_abandon c l) (with_hand hands l (unsent_at c l))
+      → Abandons l c retrievals (count_line (length (unsent_at c l))) (after_abandon c l) (with_retrieval retrievals l (unsent_at c l))
 
--- The messages of a hand are diverted. Of one that isn't wholly diverted the rest is kept behind the other hands.
-pub data DivertsHand (l : ℕ) (c : LinkSet) (messages : List Msu) (others : List Hand) : List ℕ → LinkSet → List Hand → Type 0 where
-  diverts_whole : (diverted c l messages).fault ≡ None → DivertsHand l c messages others (codes "ok") (after_divert c l messages) others
+-- The messages of a retrieval are diverted. Of one that isn't wholly diverted the rest is kept behind the other retrievals.
+pub data DivertsRetrieval (l : ℕ) (c : LinkSet) (messages : List Msu) (others : List Retrieval) : List ℕ → LinkSet → List Retrieval → Type 0 where
+  diverts_whole : (diverted c l messages).fault ≡ None → DivertsRetrieval l c messages others (codes "ok") (after_divert c l messages) others
   diverts_part : (e : DivertFault) → (diverted c l messages).fault ≡ Some e
-      → DivertsHand l c messages others
+      → DivertsRetrieval l c messages others
       (codes "refused " ++ divert_fault_text e ++ codes " left " ++ decimal (length (diverted c l messages).at.rest)) (after_divert c l messages)
-      (with_hand others l (diverted c l messages).at.rest)
+      (with_retrieval others l (diverted c l messages).at.rest)
 
-abbrev pub is_of : ℕ → Hand → Bool
+abbrev pub is_of : ℕ → Retrieval → Bool
 is_of l h = h.link == l
 
--- the hand of a link among all, the first if there were several, and the others
-pub record IsFound (l : ℕ) (hands : List Hand) (h : Hand) (others : List Hand) : Type 0 where
-  pub front : List Hand
-  pub back : List Hand
-  pub stood : hands ≡ front ++ h ∷ back
+-- the retrieval of a link among all, the first if there were several, and the others
+pub record IsFound (l : ℕ) (retrievals : List Retrieval) (h : Retrieval) (others : List Retrieval) : Type 0 where
+  pub front : List Retrieval
+  pub back : List Retrieval
+  pub stood : retrievals ≡ front ++ h ∷ back
   pub link : h.link ≡ l
   pub first : list_any (is_of l) front ≡ false
   pub left : others ≡ front ++ back
 
-pub data Diverts (l : ℕ) (c : LinkSet) (hands : List Hand) : List ℕ → LinkSet → List Hand → Type 0 where
-  diverts_nowhere : length c.links ≤ l → Diverts l c hands NO_LINK c hands
-  diverts_none : l < length c.links → list_any (is_of l) hands ≡ false → Diverts l c hands (codes "refused K2 Waiting") c hands
-  diverts_one : (h : Hand) (others next : List Hand) (text : List ℕ) (d : LinkSet) → l < length c.links → IsFound l hands h others
-      → DivertsHand l c h.messages others text d next → Diverts l c hands text d next
+pub data Diverts (l : ℕ) (c : LinkSet) (retrievals : List Retrieval) : List ℕ → LinkSet → List Retrieval → Type 0 where
+  diverts_nowhere : length c.links ≤ l → Diverts l c retrievals NO_LINK c retrievals
+  diverts_none : l < length c.links → list_any (is_of l) retrievals ≡ false → Diverts l c retrievals (codes "refused K2 Waiting") c retrievals
+  diverts_one : (h : Retrieval) (others next : List Retrieval) (text : List ℕ) (d : LinkSet) → l < length c.links → IsFound l retrievals h others
+      → DivertsRetrieval l c h.messages others text d next → Diverts l c retrievals text d next
 
 pub record Rebalances (c : LinkSet) (text : List ℕ) (d : LinkSet) : Type 0 where
   pub says : text ≡ said_by rebalance_error_text (rebalance_fault c)
@@ -270,23 +270,23 @@ held_line (Some k) = decimal (held_count k) ++ codes " sent " ++ decimal (sent_c
 
 abbrev pub state_at : List ℕ → Option Link → List ℕ
 state_at process None = NO_LINK
-state_at process (Some k) = state_line k.terminal.heart.book (actor_named k.terminal.heart.book process)
+state_at process (Some k) = state_line k.terminal.processes.book (actor_named k.terminal.processes.book process)
 
 abbrev pub value_at : List ℕ → List ℕ → Option Link → List ℕ
 value_at process variable None = NO_LINK
-value_at process variable (Some k) = value_line k.terminal.heart.book variable (actor_named k.terminal.heart.book process)
+value_at process variable (Some k) = value_line k.terminal.processes.book variable (actor_named k.terminal.processes.book process)
 
 -- ---- all commands
 
 -- the set alone changes
 pub record OnSet (P : List ℕ → LinkSet → Type 0) (p : Playing) (text : List ℕ) (q : Playing) : Type 0 where
   pub set : P text q.set
-  pub hands : q.hands ≡ p.hands
+  pub retrievals : q.retrievals ≡ p.retrievals
   pub on : q.on ≡ p.on
 
--- the set and the hands
-pub record OnHands (P : List ℕ → LinkSet → List Hand → Type 0) (p : Playing) (text : List ℕ) (q : Playing) : Type 0 where
-  pub both : P text q.set q.hands
+-- the set and the retrievals
+pub record OnRetrievals (P : List ℕ → LinkSet → List Retrieval → Type 0) (p : Playing) (text : List ℕ) (q : Playing) : Type 0 where
+  pub both : P text q.set q.retrievals
   pub on : q.on ≡ p.on
 
 -- nothing changes
@@ -296,9 +296,9 @@ pub record Shows (shown : List ℕ) (p : Playing) (text : List ℕ) (q : Playing
 
 abbrev pub WordAnswers : GroupWord → Playing → List ℕ → Playing → Type 0
 WordAnswers words.Fail p text q = OnSet (Fails p.on p.set) p text q
-WordAnswers words.Retrieve p text q = OnHands (Retrieves p.on p.set p.hands) p text q
-WordAnswers words.Abandon p text q = OnHands (Abandons p.on p.set p.hands) p text q
-WordAnswers words.Divert p text q = OnHands (Diverts p.on p.set p.hands) p text q
+WordAnswers words.Retrieve p text q = OnRetrievals (Retrieves p.on p.set p.retrievals) p text q
+WordAnswers words.Abandon p text q = OnRetrievals (Abandons p.on p.set p.retrievals) p text q
+WordAnswers words.Divert p text q = OnRetrievals (Diverts p.on p.set p.retrievals) p text q
 WordAnswers words.Rebalance p text q = OnSet (Rebalances p.set) p text q
 WordAnswers words.Table p text q = Shows (table_line p.set.table) p text q
 WordAnswers words.Held p text q = Shows (held_line (slice_get p.set.links p.on)) p text q
@@ -327,7 +327,7 @@ pub record AnswersOne (c : PlainGroupCommand) (p : Playing) (lines : List (List 
 -- so many units are asked of the link
 pub record Outputs (n : ℕ) (p : Playing) (lines : List (List ℕ)) (q : Playing) : Type 0 where
   pub goes : GivesOut p.on n p.set lines q.set
-  pub hands : q.hands ≡ p.hands
+  pub retrievals : q.retrievals ≡ p.retrievals
   pub on : q.on ≡ p.on
 
 -- the lines below speak of another link, which may or may not be there; nothing is printed

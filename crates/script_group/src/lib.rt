@@ -1,14 +1,14 @@
-//! A link set's script as it runs: what each command makes of the set and of the messages in hand, and the lines that are printed for it.
+//! A link set's script as it runs: what each command makes of the set and of the retrieved messages, and the lines that are printed for it.
 #![tactic(auto)]
 
 mod answers;
 mod calls;
-mod hands;
 mod lines;
 mod opening;
 mod outputs;
 mod player;
 mod playing;
+mod retrievals;
 mod saying;
 mod shown;
 

@@ -7,7 +7,7 @@ ghost use Rattle.script_group.specs.GroupRuns.{begun, playing_of, last_of, IsGro
 
 use crate::opening::open_set;
 use crate::player::GroupPlayer;
-use link_group::{Group, Hands};
+use link_group::{Group, Retrievals};
 use script_links::{GroupSaid, GroupScript};
 use script_terminal::{FAILED, Printer, refuse_set};
 use std::alloc::Global;
@@ -35,15 +35,15 @@ fn run_all<W: Write>(
     }
 }
 
-/// Runs commands on a set, and ends it, with the hands that are still out. Gives the exit status.
+/// Runs commands on a set, and ends it, with the retrievals that are still out. Gives the exit status.
 fn play_set<W: Write>(
     alloc: Global,
     group: Group,
-    hands: Hands,
+    retrievals: Retrievals,
     commands: &[GroupSaid<'_>],
     writer: &mut W,
 ) -> u8
-    requires { hands.kept.items ≡ [] }
+    requires { retrievals.kept.items ≡ [] }
     ensures held { result ≡ 0 → IsGroupWritten (map plain_group_said commands.now) (W.contents writer.old) (W.contents writer.new) (begun group) }
     ensures missed { result ≡ 1 → IsGroupMissed (map plain_group_said commands.now) (W.contents writer.old) (W.contents writer.new) (begun group) }
     ensures status { (result ≡ 0) ⊎ (result ≡ 1) ⊎ (result ≡ 4) }
@@ -51,36 +51,36 @@ fn play_set<W: Write>(
     let printer = Printer { last: None };
     let mut player = GroupPlayer {
         group,
-        hands,
+        retrievals,
         on: 0,
         printer,
     };
     let status = run_all(alloc, &mut player, commands, writer);
     let GroupPlayer {
         group,
-        hands,
+        retrievals,
         on: _,
         printer: _printer,
     } = player;
-    let _ended = group.end(hands);
+    let _ended = group.end(retrievals);
     status
 }
 
-/// Runs commands on a new set, with no hand out. Gives the exit status.
+/// Runs commands on a new set, with no retrieval out. Gives the exit status.
 fn play_new<W: Write>(alloc: Global, group: Group, commands: &[GroupSaid<'_>], writer: &mut W) -> u8
     ensures held { result ≡ 0 → IsGroupWritten (map plain_group_said commands.now) (W.contents writer.old) (W.contents writer.new) (begun group) }
     ensures missed { result ≡ 1 → IsGroupMissed (map plain_group_said commands.now) (W.contents writer.old) (W.contents writer.new) (begun group) }
     ensures status { (result ≡ 0) ⊎ (result ≡ 1) ⊎ (result ≡ 4) }
 {
-    match Hands::new(alloc) {
-        Ok(hands) => play_set(alloc, group, hands, commands, writer),
+    match Retrievals::new(alloc) {
+        Ok(retrievals) => play_set(alloc, group, retrievals, commands, writer),
         Err(_) => FAILED,
     }
 }
 
 /// Runs a link set's script on links with terminals over a set of processes, and prints what each command but `on` and `expect` gives: one
 /// line, but for `out`, which prints one for each unit. There are as many new terminals as the script's first line says, with its error
-/// correction; this end's point code is 1, the other end's 2. At every end the set ends, with the messages that are still in hand.
+/// correction; this end's point code is 1, the other end's 2. At every end the set ends, with the messages that are not diverted yet.
 ///
 /// Gives the exit status: 0 where each command ran and its lines were written, 1 after `failed line N` where an expectation failed, 2 after
 /// `refused X2 NoName NAME` alone where the set lacks a name that a terminal speaks to or hears, 4 where memory or a write fails. Nothing is

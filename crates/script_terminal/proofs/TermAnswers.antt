@@ -15,7 +15,7 @@ use Rattle.actor_machine.specs.Step.{Says}
 use Rattle.actor_machine.specs.declared.event.Event.{Event}
 use Rattle.actor_machine.specs.declared.reply.Reply.{Reply}
 use Rattle.actor_machine.specs.declared.reply.Reply.TheVariants as reply
-use Rattle.link_transceiver.specs.Half.{Half}
+use Rattle.link_transceiver.specs.TransceiverState.{TransceiverState}
 use Rattle.link_transceiver.specs.Reporting.{Reported, status_reported, message_reported, reported}
 use Rattle.link_transceiver.specs.declared.signals.LinkStatus.{LinkStatus}
 use Rattle.link_transceiver.specs.declared.signals.Report.{Report}
@@ -23,8 +23,8 @@ use Rattle.link_term.specs.Offering.{command_event}
 use Rattle.link_term.specs.link_processes_types.commands.Command.{Command}
 use Rattle.link_term.specs.link_processes_types.names.Names.{Names}
 use Rattle.link_term.specs.Machine.{with_book, offered, tidied, is_low}
-use Rattle.link_term.specs.link_processes_types.heart.Heart.{Heart}
-use Rattle.link_term.specs.Term.{Term, with_heart, with_half, IsAnswer, Leaves}
+use Rattle.link_term.specs.link_processes_types.processes.Processes.{Processes}
+use Rattle.link_term.specs.Term.{Term, with_processes, term_with_transceiver, IsAnswer, Leaves}
 use Rattle.link_term.specs.Hearing.{Heard}
 use Rattle.link_term.specs.declared.answers.CallError.{CallError}
 use Rattle.link_term.specs.declared.answers.CallError.TheVariants.{Refused, NoMemory}
@@ -33,37 +33,37 @@ use Rattle.script_terminal.specs.TermAnswers.{after_answer, IsAsked, IsRefusedLi
 
 -- ---- events
 
-pub asked_ok : (e : Event) (t u : Term) (text : List ℕ) → text ≡ codes "ok" → Says reply.Offered ≡ (ask (tidied t.heart).book e).answer
-    → u ≡ with_heart t (offered e (tidied t.heart)) → IsAsked e t text u
+pub asked_ok : (e : Event) (t u : Term) (text : List ℕ) → text ≡ codes "ok" → Says reply.Offered ≡ (ask (tidied t.processes).book e).answer
+    → u ≡ with_processes t (offered e (tidied t.processes)) → IsAsked e t text u
 asked_ok e t u text is says goes =
     record {
-      says = is ∙ ap (λ a. answer_text t.heart.book.set 0 a) says;
-      makes = goes ∙ ap (λ a. with_heart t (after_answer a e t.heart)) says;
+      says = is ∙ ap (λ a. answer_text t.processes.book.set 0 a) says;
+      makes = goes ∙ ap (λ a. with_processes t (after_answer a e t.processes)) says;
     }
 
 pub asked_due : (e : Event) (t u : Term) (text : List ℕ) (due : ℕ) → text ≡ codes "ok due " ++ decimal due
-    → Says (reply.Passed due) ≡ (ask (tidied t.heart).book e).answer → u ≡ with_heart t (offered e (tidied t.heart)) → IsAsked e t text u
+    → Says (reply.Passed due) ≡ (ask (tidied t.processes).book e).answer → u ≡ with_processes t (offered e (tidied t.processes)) → IsAsked e t text u
 asked_due e t u text due is says goes =
     record {
-      says = is ∙ ap (λ a. answer_text t.heart.book.set 0 a) says;
-      makes = goes ∙ ap (λ a. with_heart t (after_answer a e t.heart)) says;
+      says = is ∙ ap (λ a. answer_text t.processes.book.set 0 a) says;
+      makes = goes ∙ ap (λ a. with_processes t (after_answer a e t.processes)) says;
     }
 
 pub asked_refused : {A : Type 0} (f : A → Reply) (e : Event) (t u : Term) (text : List ℕ) (error : CallError) → IsRefusedLine error text
-    → IsAnswer f (Err error) (ask (tidied t.heart).book e).answer → Leaves t u error → IsAsked e t text u
+    → IsAnswer f (Err error) (ask (tidied t.processes).book e).answer → Leaves t u error → IsAsked e t text u
 asked_refused f e t u text (Refused r) is says leaves =
     record {
-      says = is ∙ ap (λ a. answer_text t.heart.book.set 0 a) says;
-      makes = leaves ∙ ap (λ a. with_heart t (after_answer a e t.heart)) says;
+      says = is ∙ ap (λ a. answer_text t.processes.book.set 0 a) says;
+      makes = leaves ∙ ap (λ a. with_processes t (after_answer a e t.processes)) says;
     }
 asked_refused f e t u text NoMemory is says leaves = absurd is
 
-names_by : (b : Bool) (x y : Heart) → x.names ≡ y.names → (if b then x else y).names ≡ y.names
+names_by : (b : Bool) (x y : Processes) → x.names ≡ y.names → (if b then x else y).names ≡ y.names
 names_by true x y same = same
 names_by false x y same = refl
 
 -- room in the journal changes no numbers of names
-pub names_stay : (h : Heart) → (tidied h).names ≡ h.names
+pub names_stay : (h : Processes) → (tidied h).names ≡ h.names
 unfolding tidied
 names_stay h = names_by (is_low h) (with_book h (rebased h.book)) h refl
 
@@ -89,16 +89,16 @@ put_text octets t u m text said v are says makes puts =
     record { message = m; octets_are = are; puts = subst P (sym says) (subst Q (sym makes) puts) }
 
 pub put_taken : (octets : List ℕ) (t u : Term) (m : Msu) (text : List ℕ) (x : Unit {0}) → IsMessageOf octets m → text ≡ codes "ok"
-    → (◌≡◌ {A = Result (Unit {0}) PutError} (Ok x) (Err Full)) ↔ (MOST_WAITING ≤ length (waiting t.heart.side.sender))
-    → u ≡ with_half t (record t.heart.side { sender = with_put t.heart.side.sender m }) → IsPut octets t text u
+    → (◌≡◌ {A = Result (Unit {0}) PutError} (Ok x) (Err Full)) ↔ (MOST_WAITING ≤ length (waiting t.processes.transceiver.sender))
+    → u ≡ term_with_transceiver t (record t.processes.transceiver { sender = with_put t.processes.transceiver.sender m }) → IsPut octets t text u
 put_taken octets t u m text x are says many makes =
     put_text octets t u m text (codes "ok") _ are says makes
     (taken
-    (below (length (waiting t.heart.side.sender)) MOST_WAITING (cases_lt (length (waiting t.heart.side.sender)) MOST_WAITING)
+    (below (length (waiting t.processes.transceiver.sender)) MOST_WAITING (cases_lt (length (waiting t.processes.transceiver.sender)) MOST_WAITING)
     (λ so. let e : ◌≡◌ {A = Result (Unit {0}) PutError} (Ok x) (Err Full) = many.1 so in cc)))
 
 pub put_full : (octets : List ℕ) (t u : Term) (m : Msu) (text : List ℕ) (e : PutError) → IsMessageOf octets m → text ≡ codes "refused E1 Full"
-    → (◌≡◌ {A = Result (Unit {0}) PutError} (Err e) (Err Full)) ↔ (MOST_WAITING ≤ length (waiting t.heart.side.sender)) → u ≡ t
+    → (◌≡◌ {A = Result (Unit {0}) PutError} (Err e) (Err Full)) ↔ (MOST_WAITING ≤ length (waiting t.processes.transceiver.sender)) → u ≡ t
     → IsPut octets t text u
 put_full octets t u m text Full are says many makes = put_text octets t u m text (codes "refused E1 Full") t are says makes (full (many.0 refl))
 
@@ -113,57 +113,57 @@ one_less [] x some = absurd (cc)
 one_less (y ∷ xs) x some = omega arith
 
 -- how many reports wait
-abbrev pub reports : Half → ℕ
+abbrev pub reports : TransceiverState → ℕ
 reports h = length h.messages + length h.statuses
 
-abbrev cleared : Half → Half
+abbrev cleared : TransceiverState → TransceiverState
 cleared h = record h { messages = []; statuses = [] }
 
 -- what a report leaves
-record Handed (h : Half) (r : Reported) : Type 0 where
-  pub same : cleared r.half ≡ cleared h
-  pub less : (x : Report) → r.report ≡ Some x → reports r.half < reports h
-  pub none : r.report ≡ None → r.half ≡ cleared h
+record Handed (h : TransceiverState) (r : Reported) : Type 0 where
+  pub same : cleared r.transceiver ≡ cleared h
+  pub less : (x : Report) → r.report ≡ Some x → reports r.transceiver < reports h
+  pub none : r.report ≡ None → r.transceiver ≡ cleared h
 
-cleared_same : (h : Half) → h.messages ≡ [] → h.statuses ≡ [] → h ≡ cleared h
+cleared_same : (h : TransceiverState) → h.messages ≡ [] → h.statuses ≡ [] → h ≡ cleared h
 cleared_same h messages statuses =
     ap (λ ms. record h { messages = ms; statuses = h.statuses }) messages ∙ ap (λ ss. record h { messages = []; statuses = ss }) statuses
 
-status_handed : (h : Half) (o : Option LinkStatus) → h.messages ≡ [] → slice_get h.statuses 0 ≡ o → Handed h (status_reported h o)
+status_handed : (h : TransceiverState) (o : Option LinkStatus) → h.messages ≡ [] → slice_get h.statuses 0 ≡ o → Handed h (status_reported h o)
 status_handed h None messages is =
     record { same = refl; less = λ x some. absurd (cc); none = λ n. cleared_same h messages (nothing_first h.statuses is) }
 status_handed h (Some s) messages is =
     let fewer : length (drop 1 h.statuses) < length h.statuses = one_less h.statuses s is in
     record { same = refl; less = λ x some. omega (arith, fewer); none = λ n. absurd (cc) }
 
-message_handed : (h : Half) (o : Option Msu) → slice_get h.messages 0 ≡ o → Handed h (message_reported h o)
+message_handed : (h : TransceiverState) (o : Option Msu) → slice_get h.messages 0 ≡ o → Handed h (message_reported h o)
 message_handed h None is = status_handed h (slice_get h.statuses 0) (nothing_first h.messages is) refl
 message_handed h (Some m) is =
     let fewer : length (drop 1 h.messages) < length h.messages = one_less h.messages m is in
     record { same = refl; less = λ x some. omega (arith, fewer); none = λ n. absurd (cc) }
 
-handed : (h : Half) → Handed h (reported h)
+handed : (h : TransceiverState) → Handed h (reported h)
 unfolding reported
 handed h = message_handed h (slice_get h.messages 0) refl
 
 -- no report is left
 pub none_left : (first t u : Term) (r : Option Report) → without_reports t ≡ without_reports first → is_some r ≡ false
-    → r ≡ (reported t.heart.side).report → u ≡ with_half t (reported t.heart.side).half → u ≡ without_reports first
-none_left first t u None same none is half = half ∙ (ap (with_half t) ((handed t.heart.side).none (sym is)) ∙ same)
-none_left first t u (Some x) same none is half = absurd (let e : true ≡ false = none in cc)
+    → r ≡ (reported t.processes.transceiver).report → u ≡ term_with_transceiver t (reported t.processes.transceiver).transceiver → u ≡ without_reports first
+none_left first t u None same none is transceiver = transceiver ∙ (ap (term_with_transceiver t) ((handed t.processes.transceiver).none (sym is)) ∙ same)
+none_left first t u (Some x) same none is transceiver = absurd (let e : true ≡ false = none in cc)
 
 -- one was taken out
-pub one_handed : (first t u : Term) → without_reports t ≡ without_reports first → u ≡ with_half t (reported t.heart.side).half
+pub one_handed : (first t u : Term) → without_reports t ≡ without_reports first → u ≡ term_with_transceiver t (reported t.processes.transceiver).transceiver
     → without_reports u ≡ without_reports first
-one_handed first t u same half = ap without_reports half ∙ (ap (with_half t) (handed t.heart.side).same ∙ same)
+one_handed first t u same transceiver = ap without_reports transceiver ∙ (ap (term_with_transceiver t) (handed t.processes.transceiver).same ∙ same)
 
-pub fewer_reports : (t u : Term) (r : Option Report) → is_some r ≡ true → r ≡ (reported t.heart.side).report → u ≡ with_half t (reported t.heart.side).half
-    → reports u.heart.side < reports t.heart.side
-fewer_reports t u None some is half = absurd (let e : false ≡ true = some in cc)
-fewer_reports t u (Some x) some is half =
-    let less : reports (reported t.heart.side).half < reports t.heart.side = (handed t.heart.side).less x (sym is) in
-    let P : Term → Type 0 = λ v. reports v.heart.side < reports t.heart.side in
-    subst P (sym half) less
+pub fewer_reports : (t u : Term) (r : Option Report) → is_some r ≡ true → r ≡ (reported t.processes.transceiver).report → u ≡ term_with_transceiver t (reported t.processes.transceiver).transceiver
+    → reports u.processes.transceiver < reports t.processes.transceiver
+fewer_reports t u None some is transceiver = absurd (let e : false ≡ true = some in cc)
+fewer_reports t u (Some x) some is transceiver =
+    let less : reports (reported t.processes.transceiver).transceiver < reports t.processes.transceiver = (handed t.processes.transceiver).less x (sym is) in
+    let P : Term → Type 0 = λ v. reports v.processes.transceiver < reports t.processes.transceiver in
+    subst P (sym transceiver) less
 
 -- ---- octets of the line
 

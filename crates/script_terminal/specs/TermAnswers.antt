@@ -16,8 +16,8 @@ use Rattle.link_term.specs.Machine.{Sent, offered, sent, tidied, is_low}
 use Rattle.link_term.specs.Offering.{command_event}
 use Rattle.link_term.specs.link_processes_types.commands.Command.{Command}
 use Rattle.link_term.specs.link_processes_types.commands.Command.TheVariants as command
-use Rattle.link_term.specs.link_processes_types.heart.Heart.{Heart}
-use Rattle.link_term.specs.Term.{Term, with_heart, with_half}
+use Rattle.link_term.specs.link_processes_types.processes.Processes.{Processes}
+use Rattle.link_term.specs.Term.{Term, with_processes, term_with_transceiver}
 use Rattle.link_term.specs.Hearing.{Heard}
 use Rattle.link_term.specs.declared.answers.CallError.{CallError}
 use Rattle.link_term.specs.declared.answers.CallError.TheVariants.{Refused, NoMemory}
@@ -44,19 +44,19 @@ command_of word.Free = command.Free
 
 -- Behind an event that the book takes the actors come to rest; one that it refuses changes nothing. Room is made in the journal before
 -- either, where fewer than half of its places are free.
-abbrev pub after_reply : Reply → Event → Heart → Heart
+abbrev pub after_reply : Reply → Event → Processes → Processes
 after_reply (reply.Refused r) e h = tidied h
 after_reply _ e h = offered e (tidied h)
 
 -- no turn of a book gets stuck
-abbrev pub after_answer : Answer → Event → Heart → Heart
+abbrev pub after_answer : Answer → Event → Processes → Processes
 after_answer (Stuck x) e h = tidied h
 after_answer (Says r) e h = after_reply r e h
 
 -- the event is asked of the book, and what the book answers is printed as for a book script
 pub record IsAsked (e : Event) (t : Term) (text : List ℕ) (u : Term) : Type 0 where
-  pub says : text ≡ answer_text t.heart.book.set 0 (ask (tidied t.heart).book e).answer
-  pub makes : u ≡ with_heart t (after_answer (ask (tidied t.heart).book e).answer e t.heart)
+  pub says : text ≡ answer_text t.processes.book.set 0 (ask (tidied t.processes).book e).answer
+  pub makes : u ≡ with_processes t (after_answer (ask (tidied t.processes).book e).answer e t.processes)
 
 -- the line of a refused call; want of memory has none
 abbrev pub IsRefusedLine : CallError → List ℕ → Type 0
@@ -67,9 +67,9 @@ IsRefusedLine NoMemory text = ⊥
 
 -- a message waits behind all others, unless there are so many that it is refused
 pub data Puts (m : Msu) (t : Term) : List ℕ → Term → Type 0 where
-  taken : length (waiting t.heart.side.sender) < MOST_WAITING
-      → Puts m t (codes "ok") (with_half t (record t.heart.side { sender = with_put t.heart.side.sender m }))
-  full : MOST_WAITING ≤ length (waiting t.heart.side.sender) → Puts m t (codes "refused E1 Full") t
+  taken : length (waiting t.processes.transceiver.sender) < MOST_WAITING
+      → Puts m t (codes "ok") (term_with_transceiver t (record t.processes.transceiver { sender = with_put t.processes.transceiver.sender m }))
+  full : MOST_WAITING ≤ length (waiting t.processes.transceiver.sender) → Puts m t (codes "refused E1 Full") t
 
 -- octets are a message: its service information octet, and behind it its signalling information field
 abbrev pub IsMessageOf : List ℕ → Msu → Type 0
@@ -88,11 +88,11 @@ pub record IsPut (octets : List ℕ) (t : Term) (text : List ℕ) (u : Term) : T
 
 -- nothing waits to be handed out any more, neither a message nor what was told of the link
 abbrev pub without_reports : Term → Term
-without_reports t = with_half t (record t.heart.side { messages = []; statuses = [] })
+without_reports t = term_with_transceiver t (record t.processes.transceiver { messages = []; statuses = [] })
 
 -- why a terminal takes no further octet: as many messages wait as may, or there is no memory to make room in the journal
 abbrev pub TakesNoMore : Term → Type 0
-TakesNoMore t = (KEPT_MESSAGES ≤ length t.heart.side.messages) ⊎ (is_low t.heart ≡ true)
+TakesNoMore t = (KEPT_MESSAGES ≤ length t.processes.transceiver.messages) ⊎ (is_low t.processes ≡ true)
 
 -- Octets of the line come in, part after part, and behind each part all reports are taken out. A part has all that is left, or ends where
 -- the terminal takes no more.
@@ -111,10 +111,10 @@ pub record Receives (octets : List ℕ) (t u : Term) : Type 0 where
 
 -- the unit that goes out next, if one does, and the terminal behind it
 abbrev pub next_of : Term → Sent
-next_of t = sent (tidied t.heart)
+next_of t = sent (tidied t.processes)
 
 abbrev pub behind_next : Term → Term
-behind_next t = with_heart t (next_of t).heart
+behind_next t = with_processes t (next_of t).processes
 
 abbrev pub unit_line : Option units.Unit → List ℕ
 unit_line None = codes "silent"
@@ -131,14 +131,14 @@ pub data GoOut : ℕ → Term → List (List ℕ) → Term → Type 0 where
 
 -- What a command that prints one line makes of a terminal, and that line. `out` and `expect` are none of these: nothing is done for them here.
 abbrev pub Answers : PlainTermCommand → Term → List ℕ → Term → Type 0
-Answers (order o) t text u = IsAsked (command_event t.heart.names (command_of o)) t text u
+Answers (order o) t text u = IsAsked (command_event t.processes.names (command_of o)) t text u
 Answers (unit octets) t text u = (text ≡ codes "ok") × Receives octets t u
 Answers (line octets) t text u = (text ≡ codes "ok") × Listens t octets u
 Answers (msu octets) t text u = IsPut octets t text u
 Answers (out n) t text u = (text ≡ []) × (u ≡ t)
 Answers (ticks n) t text u = IsAsked (Advance n) t text u
-Answers (state process) t text u = (text ≡ state_line t.heart.book (actor_named t.heart.book process)) × (u ≡ t)
-Answers (shown process variable) t text u = (text ≡ value_line t.heart.book variable (actor_named t.heart.book process)) × (u ≡ t)
+Answers (state process) t text u = (text ≡ state_line t.processes.book (actor_named t.processes.book process)) × (u ≡ t)
+Answers (shown process variable) t text u = (text ≡ value_line t.processes.book variable (actor_named t.processes.book process)) × (u ≡ t)
 Answers (expected text) t said u = (said ≡ []) × (u ≡ t)
 
 pub record AnswersOne (c : PlainTermCommand) (t : Term) (lines : List (List ℕ)) (u : Term) : Type 0 where

@@ -25,7 +25,7 @@ fn refused(alloc: Global, error: CallError) -> Result<Vec<u8>, AllocError>
 
 /// `command W`.
 fn tell(alloc: Global, terminal: &mut Terminal, order: Order) -> Result<Vec<u8>, AllocError>
-    ensures { IfOk result (λ v. IsAsked (command_event terminal.old.heart.names (command_of order)) terminal.old v.items terminal.new) }
+    ensures { IfOk result (λ v. IsAsked (command_event terminal.old.processes.names (command_of order)) terminal.old v.items terminal.new) }
 {
     match terminal.command(command_of(order)) {
         Ok(()) => Vec::from_slice(alloc, b"ok"),

@@ -1,7 +1,6 @@
 pub mod ChainLemmas
 pub mod KindLemmas
 pub mod NameLemmas
-pub mod NameRoom
 pub mod OneLemmas
 pub mod QuoteLemmas
 pub mod SliceLemmas

@@ -30,7 +30,7 @@ impl Model for Name {
     ghost use Rattle.std.specs.Prelude.{◌≡◌, ℕ, ◌-◌, ◌≤◌, List, ◌++◌, length, take, replicate};
     ghost use Rattle.std.proofs.Common.{arith, length-take-le};
     ghost use Rattle.sdl_lex.specs.Spelling.{IsName};
-    ghost use Rattle.sdl_lex.proofs.NameRoom.{refilled};
+    ghost use Rattle.plain_laws.proofs.Refilling.{refilled};
 
     ghost Value = { List ℕ };
 

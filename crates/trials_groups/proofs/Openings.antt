@@ -4,7 +4,7 @@ use Rattle.std.specs.Prelude.{All}
 use Rattle.std.proofs.lemmas.List.Elements.{All-nil, All-cons, All-append, All-weaker}
 use Rattle.resend_store.specs.declared.messages.Mode.{Mode}
 use Rattle.turn_code.specs.declared.draft.Draft.{Draft}
-use Rattle.link_transceiver.specs.Half.{first_half}
+use Rattle.link_transceiver.specs.TransceiverState.{first_transceiver}
 use Rattle.link_term.specs.Term.{Term}
 use Rattle.link_term.specs.Opening.{IsOver}
 use Rattle.link_term.specs.Kept.{window_of}
@@ -15,8 +15,8 @@ abbrev pub IsEmpty : Term → Type 0
 IsEmpty t = (window_of t).kept ≡ []
 
 unused : (d : Draft) (mode : Mode) (t : Term) → IsOver d mode t → IsEmpty t
-unfolding first_half
-unused d mode t new = ap (λ s. s.sender.kept) new.side
+unfolding first_transceiver
+unused d mode t new = ap (λ s. s.sender.kept) new.transceiver
 
 pub all_unused : (d : Draft) (mode : Mode) (links : ℕ) (ts : List Term) → AreNew d mode links ts → All IsEmpty ts
 all_unused d mode links ts new = All-weaker (IsOver d mode) IsEmpty (unused d mode) ts new.are_new

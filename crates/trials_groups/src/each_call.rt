@@ -5,7 +5,7 @@ use crate::far_end::{FarEnd, fill_in, status};
 use crate::keeping::{Given, Went, divert, give_up, hand_out};
 use crate::messages::{Way, message, place_of};
 use group_changeover::label_of;
-use link_group::{Command, Group, Hands, LineError};
+use link_group::{Command, Group, LineError, Retrievals};
 use std::alloc::AllocError;
 use su_octets::Unit;
 
@@ -40,12 +40,12 @@ fn give_all(text: &mut String, group: &mut Group, from: u32, to: u32) -> Result<
     Ok(())
 }
 
-/// Writes what a link holds, whether it is in changeover, and whether messages of it are in hand.
+/// Writes what a link holds, whether it is in changeover, and whether messages of it are retrieved.
 fn write_link(text: &mut String, group: &Group, link: usize) -> Result<(), AllocError> {
     let held = group.held(link).unwrap_or(0);
     let sent = group.sent(link).unwrap_or(0);
     let changing = group.in_changeover(link);
-    let in_hand = group.in_hand(link);
+    let has_retrieval = group.has_retrieval(link);
     writeln!(
         text,
         "link {link}: {held} held, {sent} sent, in changeover {changing}, in hand {in_hand}"
@@ -188,7 +188,7 @@ fn write_given(text: &mut String, given: Given) -> Result<(), AllocError> {
     }
 }
 
-/// Writes whether a hand went on.
+/// Writes whether a retrieval went on.
 fn write_went(text: &mut String, went: Went) -> Result<(), AllocError> {
     match went {
         Went::On => text.push_str("diverted\n"),
@@ -206,19 +206,23 @@ fn write_rebalanced(text: &mut String, group: &mut Group) -> Result<(), AllocErr
 }
 
 /// The first link fails; there message 127 came, the number of which is 127.
-pub fn change_over(text: &mut String, group: &mut Group, hands: &mut Hands) -> Result<(), Stopped> {
+pub fn change_over(
+    text: &mut String,
+    group: &mut Group,
+    retrievals: &mut Retrievals,
+) -> Result<(), Stopped> {
     match group.fail(0) {
         Ok(sif) => write_sif(text, sif.as_slice())?,
         Err(error) => writeln!(text, "fail: {error}")?,
     }
     give(text, group, 0, 132)?;
     write_rebalanced(text, group)?;
-    let given = hand_out(group, hands, 0)?;
+    let given = hand_out(group, retrievals, 0)?;
     write_given(text, given)?;
     write_answer(text, group, &[0x01, 0x80, 0, 0, 0x21, 127])?;
-    let given = hand_out(group, hands, 0)?;
+    let given = hand_out(group, retrievals, 0)?;
     write_given(text, given)?;
-    let went = divert(group, hands, 0);
+    let went = divert(group, retrievals, 0);
     write_went(text, went)?;
     write_link(text, group, 0)?;
     write_link(text, group, 1)?;
@@ -230,18 +234,18 @@ pub fn change_over(text: &mut String, group: &mut Group, hands: &mut Hands) -> R
 pub fn give_them_up(
     text: &mut String,
     group: &mut Group,
-    hands: &mut Hands,
+    retrievals: &mut Retrievals,
 ) -> Result<(), Stopped> {
     let _octets = speak(group, 1, 3)?;
     tell(group, 1, Command::Stop)?;
     write_answer(text, group, &[0x01, 0x80, 0, 0x10, 0x12])?;
-    let given = hand_out(group, hands, 1)?;
+    let given = hand_out(group, retrievals, 1)?;
     write_given(text, given)?;
-    let count = give_up(group, hands, 1)?.unwrap_or(99);
+    let count = give_up(group, retrievals, 1)?.unwrap_or(99);
     let unsure = group.unsure();
-    let kept = hands.len();
+    let kept = retrievals.len();
     writeln!(text, "{count} in hand, {unsure} unsure, {kept} hands")?;
-    let went = divert(group, hands, 1);
+    let went = divert(group, retrievals, 1);
     write_went(text, went)?;
     write_link(text, group, 1)?;
     Ok(())

@@ -1,41 +1,45 @@
-//! Hands that are kept, and diverted.
+//! Retrievals that are kept, and diverted.
 ghost use Rattle.std.specs.Prelude.{◌≡◌, ◌<◌, length};
 ghost use Rattle.link_group.specs.Diverting.{Owns};
 
 use crate::calls::{Stopped, abandon, retrieve};
-use link_group::{AbandonError, DivertError, Group, Hands, RetrieveError, Retrieved};
+use link_group::{AbandonError, DivertError, Group, Retrievals, RetrieveError, Retrieved};
 
-/// How many hands may be kept.
-const MOST_HANDS: usize = 16;
+/// How many retrievals may be kept.
+const MOST_RETRIEVALS: usize = 16;
 
-/// Keeps a hand behind the others.
-fn keep(hands: &mut Hands, hand: Retrieved)
-    requires { length hands.old.kept.items < MOST_HANDS }
+/// Keeps a retrieval behind the others.
+fn keep(retrievals: &mut Retrievals, retrieval: Retrieved)
+    requires { length retrievals.old.kept.items < MOST_RETRIEVALS }
 {
-    match hands.put(hand) {
+    match retrievals.put(retrieval) {
         Ok(()) => {}
-        Err(_hand) => unreachable!(),
+        Err(_retrieval) => unreachable!(),
     }
 }
 
 /// What became of messages that were to be handed out.
 #[derive(Clone, Copy)]
 pub enum Given {
-    /// So many are in hand.
+    /// So many are retrieved.
     Out(usize),
     /// Why they aren't.
     Refused(RetrieveError),
 }
 
 /// Hands out a link's messages, if that isn't refused, and keeps them.
-pub fn hand_out(group: &mut Group, hands: &mut Hands, link: usize) -> Result<Given, Stopped> {
-    if hands.len() >= MOST_HANDS {
+pub fn hand_out(
+    group: &mut Group,
+    retrievals: &mut Retrievals,
+    link: usize,
+) -> Result<Given, Stopped> {
+    if retrievals.len() >= MOST_RETRIEVALS {
         return Ok(Given::Refused(RetrieveError::Waiting));
     }
     match retrieve(group, link) {
-        Ok(hand) => {
-            let count = hand.len();
-            keep(hands, hand);
+        Ok(retrieval) => {
+            let count = retrieval.len();
+            keep(retrievals, retrieval);
             Ok(Given::Out(count))
         }
         Err(RetrieveError::NoMemory) => Err(Stopped::NoMemory),
@@ -46,16 +50,16 @@ pub fn hand_out(group: &mut Group, hands: &mut Hands, link: usize) -> Result<Giv
 /// Gives up what may or may not have arrived, and keeps the rest. How many that is, if it isn't refused.
 pub fn give_up(
     group: &mut Group,
-    hands: &mut Hands,
+    retrievals: &mut Retrievals,
     link: usize,
 ) -> Result<Option<usize>, Stopped> {
-    if hands.len() >= MOST_HANDS {
+    if retrievals.len() >= MOST_RETRIEVALS {
         return Ok(None);
     }
     match abandon(group, link) {
-        Ok(hand) => {
-            let count = hand.len();
-            keep(hands, hand);
+        Ok(retrieval) => {
+            let count = retrieval.len();
+            keep(retrievals, retrieval);
             Ok(Some(count))
         }
         Err(AbandonError::NoMemory) => Err(Stopped::NoMemory),
@@ -64,50 +68,50 @@ pub fn give_up(
     }
 }
 
-/// What became of a hand that was to be diverted.
+/// What became of a retrieval that was to be diverted.
 #[derive(Clone, Copy)]
 pub enum Went {
     /// All of it went.
     On,
-    /// So many messages are still in hand.
+    /// So many messages are not diverted yet.
     Left(usize),
     /// There is none.
     Nowhere,
 }
 
-/// Diverts a hand, and keeps what is left of it.
-fn divert_hand(group: &mut Group, hands: &mut Hands, hand: Retrieved) -> Went
-    requires owned { Owns group.old hand.link hand.messages.items }
-    requires room { length hands.old.kept.items < MOST_HANDS }
+/// Diverts a retrieval, and keeps what is left of it.
+fn divert_retrieval(group: &mut Group, retrievals: &mut Retrievals, retrieval: Retrieved) -> Went
+    requires owned { Owns group.old retrieval.link retrieval.messages.items }
+    requires room { length retrievals.old.kept.items < MOST_RETRIEVALS }
 {
-    match group.divert(hand) {
+    match group.divert(retrieval) {
         Ok(()) => Went::On,
         Err(DivertError { fault: _, rest }) => {
             let left = rest.len();
-            keep(hands, rest);
+            keep(retrievals, rest);
             Went::Left(left)
         }
     }
 }
 
 /// The same of one that was taken out.
-fn divert_taken(group: &mut Group, hands: &mut Hands, hand: Retrieved) -> Went
-    requires { length hands.old.kept.items < MOST_HANDS }
+fn divert_taken_out(group: &mut Group, retrievals: &mut Retrievals, retrieval: Retrieved) -> Went
+    requires { length retrievals.old.kept.items < MOST_RETRIEVALS }
 {
-    if group.owns(&hand) {
-        return divert_hand(group, hands, hand);
+    if group.owns(&retrieval) {
+        return divert_retrieval(group, retrievals, retrieval);
     }
-    keep(hands, hand);
+    keep(retrievals, retrieval);
     Went::Nowhere
 }
 
-/// Diverts the hand of a link, and keeps what is left of it.
-pub fn divert(group: &mut Group, hands: &mut Hands, link: usize) -> Went {
-    if hands.len() > MOST_HANDS {
+/// Diverts the retrieval of a link, and keeps what is left of it.
+pub fn divert(group: &mut Group, retrievals: &mut Retrievals, link: usize) -> Went {
+    if retrievals.len() > MOST_RETRIEVALS {
         return Went::Nowhere;
     }
-    match hands.take(link) {
-        Some(hand) => divert_taken(group, hands, hand),
+    match retrievals.take(link) {
+        Some(retrieval) => divert_taken_out(group, retrievals, retrieval),
         None => Went::Nowhere,
     }
 }

@@ -4,16 +4,16 @@ use crate::calls::{Stopped, pass, serves, speak, take, tell};
 use crate::counts::Counts;
 use crate::messages::{Way, message};
 use group_changeover::label_of;
-use link_group::{Command, Group, Hands, LinkStatus, Report, Sif};
+use link_group::{Command, Group, LinkStatus, Report, Retrievals, Sif};
 use std::collections::VecDeque;
 
 /// How many messages of changeover may be on their way to one end.
 pub const MOST_MAIL: usize = 64;
 
-/// One end of a pair. It can't be dropped: its set ends with what is in hand.
+/// One end of a pair. It can't be dropped: its set ends with what is retrieved.
 pub struct SetEnd {
     pub group: Group,
-    pub hands: Hands,
+    pub retrievals: Retrievals,
     pub counts: Counts,
     /// From this end to the other.
     way: Way,
@@ -29,10 +29,10 @@ pub struct SetEnd {
 
 impl SetEnd {
     /// An end at which nothing has happened.
-    pub fn new(group: Group, hands: Hands, way: Way, mail: VecDeque<Sif>) -> SetEnd {
+    pub fn new(group: Group, retrievals: Retrievals, way: Way, mail: VecDeque<Sif>) -> SetEnd {
         SetEnd {
             group,
-            hands,
+            retrievals,
             counts: Counts::new(),
             way,
             mail,
@@ -168,11 +168,11 @@ impl SetEnd {
         true
     }
 
-    /// Ends the set, with what is in hand.
+    /// Ends the set, with what is retrieved.
     pub fn end(self) {
         let SetEnd {
             group,
-            hands,
+            retrievals,
             counts: _,
             way: _,
             mail: _mail,
@@ -180,6 +180,6 @@ impl SetEnd {
             started: _,
             uneven: _,
         } = self;
-        let _ended = group.end(hands);
+        let _ended = group.end(retrievals);
     }
 }

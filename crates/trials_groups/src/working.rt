@@ -8,7 +8,7 @@ use crate::run::{Run, run_of};
 use crate::schedule::Schedule;
 use crate::set_end::{MOST_MAIL, SetEnd};
 use crate::shown::write_run;
-use link_group::Hands;
+use link_group::Retrievals;
 use std::alloc::Global;
 use std::collections::VecDeque;
 use turn_check::Verified;
@@ -22,8 +22,8 @@ const FAR: u16 = 16_383;
 fn open_end(alloc: Global, set: &Verified, run: Run, way: Way) -> Result<SetEnd, Stopped> {
     let mail = VecDeque::with_capacity(alloc, MOST_MAIL)?;
     let group = open_set(alloc, set, run.mode, run.links, way)?;
-    match Hands::new(alloc) {
-        Ok(hands) => Ok(SetEnd::new(group, hands, way, mail)),
+    match Retrievals::new(alloc) {
+        Ok(retrievals) => Ok(SetEnd::new(group, retrievals, way, mail)),
         Err(_) => Err(Stopped::NoMemory),
     }
 }

@@ -74,49 +74,49 @@ fn offered(seen: Option<bool>, bad: bool) -> Offers {
 }
 
 /// Whether that is offered for a unit, which is whole and for which there is room.
-fn hears(side: &mut Side, unit: Unit, offers: &[Offer]) -> bool {
-    unit.whole() && side.has_room() && side.on_unit(unit).as_slice() == offers
+fn hears(transceiver: &mut Transceiver, unit: Unit, offers: &[Offer]) -> bool {
+    unit.whole() && transceiver.has_room() && transceiver.on_unit(unit).as_slice() == offers
 }
 
 /// The next unit as it is printed, and whether something is offered with it.
-fn given(alloc: Global, side: &mut Side) -> Option<String> {
-    match side.unit_out() {
+fn given(alloc: Global, transceiver: &mut Transceiver) -> Option<String> {
+    match transceiver.unit_out() {
         Some(UnitOut { unit, offer }) => format!(in alloc; "{unit} {}", offer.is_some()).ok(),
         None => format!(in alloc; "silent").ok(),
     }
 }
 
 /// Whether the next unit is printed so.
-fn gives(alloc: Global, side: &mut Side, text: &str) -> bool {
-    match given(alloc, side) {
+fn gives(alloc: Global, transceiver: &mut Transceiver, text: &str) -> bool {
+    match given(alloc, transceiver) {
         Some(printed) => printed.as_str() == text,
         None => false,
     }
 }
 
 /// Whether a side does what a step says.
-fn does(alloc: Global, side: &mut Side, step: Step) -> bool {
+fn does(alloc: Global, transceiver: &mut Transceiver, step: Step) -> bool {
     match step {
         Step::Tell(signal) => {
-            side.on_signal(signal);
+            transceiver.on_signal(signal);
             true
         }
-        Step::Put(sio) => side.put(message(sio)).is_ok(),
+        Step::Put(sio) => transceiver.put(message(sio)).is_ok(),
         Step::Hear(first, second, has_msu, seen, bad) => {
             let unit = unit(first, second, has_msu);
-            hears(side, unit, offered(seen, bad).as_slice())
+            hears(transceiver, unit, offered(seen, bad).as_slice())
         }
-        Step::Out(text) => gives(alloc, side, text),
-        Step::Report(status) => side.report() == Some(Report::Status(status)),
-        Step::Deliver(sio) => side.report() == Some(Report::Message(message(sio))),
-        Step::Rest => side.report().is_none(),
+        Step::Out(text) => gives(alloc, transceiver, text),
+        Step::Report(status) => transceiver.report() == Some(Report::Status(status)),
+        Step::Deliver(sio) => transceiver.report() == Some(Report::Message(message(sio))),
+        Step::Rest => transceiver.report().is_none(),
     }
 }
 
 /// The number of the first step at which a side does something else.
-fn first_other(alloc: Global, side: &mut Side, steps: &[Step]) -> Option<usize> {
+fn first_other(alloc: Global, transceiver: &mut Transceiver, steps: &[Step]) -> Option<usize> {
     for (number, step) in steps.iter().enumerate() {
-        if !does(alloc, side, *step) {
+        if !does(alloc, transceiver, *step) {
             return Some(number);
         }
     }
@@ -198,9 +198,9 @@ const IS_CONGESTED: [Step; 22] = [
 
 /// The numbers of the first steps at which a new side does something else as it comes up, and then; nothing where it can't be made.
 fn first_others(alloc: Global, steps: &[Step]) -> Option<[Option<usize>; 2]> {
-    let mut side = Side::new(alloc, Mode::Basic).ok()?;
-    let coming = first_other(alloc, &mut side, &COMES_UP);
-    Some([coming, first_other(alloc, &mut side, steps)])
+    let mut transceiver = Transceiver::new(alloc, Mode::Basic).ok()?;
+    let coming = first_other(alloc, &mut transceiver, &COMES_UP);
+    Some([coming, first_other(alloc, &mut transceiver, steps)])
 }
 
 #[test]
@@ -212,22 +212,22 @@ fn exchanges_units(rt: HostRuntime) {
 }
 
 /// Whether the next reports are that the link went down for each of these reasons, and then there is none.
-fn reports_down(side: &mut Side, first: i32, end: i32) -> bool {
+fn reports_down(transceiver: &mut Transceiver, first: i32, end: i32) -> bool {
     for reason in first..end {
-        if side.report() != Some(Report::Status(LinkStatus::Down(reason))) {
+        if transceiver.report() != Some(Report::Status(LinkStatus::Down(reason))) {
             return false;
         }
     }
-    side.report().is_none()
+    transceiver.report().is_none()
 }
 
 /// Whether of seventy statuses the latest 64 are kept; nothing where there is no side.
 fn keeps_latest(alloc: Global) -> Option<bool> {
-    let mut side = Side::new(alloc, Mode::Cyclic).ok()?;
+    let mut transceiver = Transceiver::new(alloc, Mode::Cyclic).ok()?;
     for reason in 0..70 {
-        side.on_signal(EnvSignal::Down(reason));
+        transceiver.on_signal(EnvSignal::Down(reason));
     }
-    Some(reports_down(&mut side, 6, 70))
+    Some(reports_down(&mut transceiver, 6, 70))
 }
 
 #[test]
@@ -236,36 +236,36 @@ fn keeps_the_latest_statuses(rt: HostRuntime) {
 }
 
 /// A side; where memory is refused once, one that is asked for again.
-fn made(alloc: Global) -> Option<Side> {
-    match Side::new(alloc, Mode::Basic) {
-        Ok(side) => Some(side),
-        Err(_) => Side::new(alloc, Mode::Basic).ok(),
+fn made(alloc: Global) -> Option<Transceiver> {
+    match Transceiver::new(alloc, Mode::Basic) {
+        Ok(transceiver) => Some(transceiver),
+        Err(_) => Transceiver::new(alloc, Mode::Basic).ok(),
     }
 }
 
 /// How many messages are handed out.
-fn handed(side: &mut Side) -> Result<usize, RetrieveError> {
-    match side.retrieve(Some(127)) {
+fn handed(transceiver: &mut Transceiver) -> Result<usize, RetrieveError> {
+    match transceiver.retrieve(Some(127)) {
         Ok(messages) => Ok(messages.len()),
         Err(error) => Err(error),
     }
 }
 
 /// The same; where memory is refused once and one is kept, when they are asked for again.
-fn handed_at_last(side: &mut Side) -> Option<usize> {
-    match handed(side) {
+fn handed_at_last(transceiver: &mut Transceiver) -> Option<usize> {
+    match handed(transceiver) {
         Ok(count) => Some(count),
-        Err(RetrieveError::NoMemory) if side.held() == 1 => handed(side).ok(),
+        Err(RetrieveError::NoMemory) if transceiver.held() == 1 => handed(transceiver).ok(),
         Err(_) => None,
     }
 }
 
 /// How many messages a side hands out that took one, and how many it keeps then.
 fn hands_out(alloc: Global) -> Option<(usize, usize)> {
-    let mut side = made(alloc)?;
-    side.put_diverted(message(7)).ok()?;
-    let count = handed_at_last(&mut side)?;
-    Some((count, side.held()))
+    let mut transceiver = made(alloc)?;
+    transceiver.put_diverted(message(7)).ok()?;
+    let count = handed_at_last(&mut transceiver)?;
+    Some((count, transceiver.held()))
 }
 
 /// Where memory is refused nothing has changed, and the next call succeeds.

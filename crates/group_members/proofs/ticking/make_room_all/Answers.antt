@@ -14,4 +14,4 @@ loop-at-preserved c =
 pub returns-in-Err-clause-err : goal.returns-in-Err-clause-err
 returns-in-Err-clause-err c =
     lacks_room c.args.links.now c.loop-at.links c.loop-at.at c.index-links-at.result c.make_room.new.link (search rules) (search rules) c.loop-at.invariant c.index-links-at.is
-    (c.in-Err.ensures.err ∙ sym c.index-links-at.is) (ap (λ (x : Link). is_low x.terminal.heart) c.index-links-at.is ∙ c.in-Err.ensures.low)
+    (c.in-Err.ensures.err ∙ sym c.index-links-at.is) (ap (λ (x : Link). is_low x.terminal.processes) c.index-links-at.is ∙ c.in-Err.ensures.low)

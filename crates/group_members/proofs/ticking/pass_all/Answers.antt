@@ -11,12 +11,12 @@ loop-at-init c = ((search rules), due_none c.args.ticks c.args.links.now, omega 
 
 pub pass-requires-clause-room : goal.pass-requires-clause-room
 pass-requires-clause-room c =
-    ap (λ (x : Link). is_low x.terminal.heart) (sym c.index-links-at.is)
+    ap (λ (x : Link). is_low x.terminal.processes) (sym c.index-links-at.is)
     ∙ room_here (passed c.args.ticks) c.args.links.now c.loop-at.links c.loop-at.at c.index-links-at.result (search rules) c.loop-at.invariant.0 c.index-links-at.is c.requires.room
 
 pub pass-requires-clause-may : goal.pass-requires-clause-may
 pass-requires-clause-may c =
-    ap (λ (x : Link). tick_refusal c.args.ticks x.terminal.heart) (sym c.index-links-at.is)
+    ap (λ (x : Link). tick_refusal c.args.ticks x.terminal.processes) (sym c.index-links-at.is)
     ∙ may_here c.args.ticks (passed c.args.ticks) c.args.links.now c.loop-at.links c.loop-at.at c.index-links-at.result (search rules) c.loop-at.invariant.0 c.index-links-at.is c.requires.may
 
 pub loop-at-preserved : goal.loop-at-preserved

@@ -9,10 +9,10 @@ returns-clause-held g c zero = record {
   last = last_of c.run_all-status.new.player;
   run =
       c.run_all-status.ensures.held zero (begun c.args.group) [] (g.W.Write.contents c.args.writer.now)
-      (new_run c.args.group c.args.hands (g.W.Write.contents c.args.writer.now) c.requires);
+      (new_run c.args.group c.args.retrievals (g.W.Write.contents c.args.writer.now) c.requires);
 }
 
 pub returns-clause-missed : goal.returns-clause-missed
 returns-clause-missed g c one =
     c.run_all-status.ensures.missed one (begun c.args.group) [] (g.W.Write.contents c.args.writer.now)
-    (new_run c.args.group c.args.hands (g.W.Write.contents c.args.writer.now) c.requires)
+    (new_run c.args.group c.args.retrievals (g.W.Write.contents c.args.writer.now) c.requires)

@@ -8,4 +8,4 @@ abbrev pub invariant-reports : goal.invariant-reports
 invariant-reports l = without_reports l.terminal ≡ without_reports l.initial.terminal
 
 abbrev pub decreases-reports : goal.decreases-reports
-decreases-reports l = reports l.terminal.heart.side
+decreases-reports l = reports l.terminal.processes.transceiver
