@@ -25,13 +25,14 @@ StaysLaw = (n : ℕ) (b : Ledger) → (tried n b).turn ≢ Made → (tried n b).
 abbrev pub TurnLaw : Type 0
 TurnLaw = (b : Ledger) → IsTurn b (least_turn b)
 
--- Up to so many turns, each of the least actor that can, come one after another; there are less only where none can, or where the
--- journal has no room for the least that could.
+-- Up to so many turns, each of the least actor that can, come one after another; there are less
+-- only where none can, or where the journal has no room for the least that could.
 pub data IsRun : ℕ → Ledger → ℕ → Ledger → Type 0 where
   spent : (b : Ledger) → IsRun zero b 0 b
   none_can : (k : ℕ) (b : Ledger) → NoneCan b → IsRun k b 0 b
   blocked : (k : ℕ) (b : Ledger) (n : ℕ) → IsLeast b n → (tried n b).turn ≡ Blocked → IsRun k b 0 b
-  goes : (k : ℕ) (b : Ledger) (n : ℕ) (turns : ℕ) (c : Ledger) → IsLeast b n → (tried n b).turn ≡ Made
+  goes : (k : ℕ) (b : Ledger) (n : ℕ) (turns : ℕ) (c : Ledger) → IsLeast b n
+      → (tried n b).turn ≡ Made
       → IsRun k (tried n b).book turns c → IsRun (suc k) b (turns + 1) c
 
 abbrev pub RestLaw : Type 0

@@ -7,7 +7,8 @@ abbrev pub value_in : Option (Option Value) → Option Value
 value_in None = None
 value_in (Some v) = v
 
--- the value of variable n of an actor; none where there is no such actor or variable, or where it isn't set
+-- the value of variable n of an actor; none where there is no such actor or variable, or where it
+-- isn't set
 abbrev pub variable_of : Option Actor → ℕ → Option Value
 variable_of None n = None
 variable_of (Some a) n = value_in (slice_get a.variables.items n)

@@ -1,6 +1,7 @@
--- One turn of a link that is left to itself, and a rest of them. An actor can have a turn where the book takes its Begin, or refuses it since an
--- item has to be thrown away first (B11) and takes its Skip. It could if there were room where the journal alone is against that (B8). Else it
--- can do nothing.
+-- One turn of a link that is left to itself, and a rest of them. An actor can have a turn where the
+-- book takes its Begin, or refuses it since an item has to be thrown away first (B11) and takes its
+-- Skip. It could if there were room where the journal alone is against that (B8). Else it can do
+-- nothing.
 use Rattle.std.specs.Prelude.{ℕ, zero, suc, ◌+◌, Option, Some, None, length}
 use Rattle.actor_book.specs.Ledger.{Ledger, state_of, ask}
 use Rattle.actor_book.specs.Step.{Answer, Stuck, Says}
@@ -55,7 +56,8 @@ abbrev pub begins_by : ℕ → Ledger → Ledger → Option Refusal → Tried
 begins_by n b c None = ends n c
 begins_by n b c (Some r) = by_refusal n b r
 
--- actor n has a turn, from its beginning to its end, or throws an item away, if it can; else nothing happens, and why is told
+-- actor n has a turn, from its beginning to its end, or throws an item away, if it can; else
+-- nothing happens, and why is told
 unfoldable pub tried : ℕ → Ledger → Tried
 tried n b = begins_by n b (ask b (Begin n)).book (refusal_in (ask b (Begin n)).answer)
 

@@ -11,7 +11,7 @@ ghost use Rattle.plain_limits.specs.Limits.{PAST_PLACES};
 use crate::limits::Limits;
 use actor_machine::laws::keeps_law;
 use actor_machine::{Event, Refusal};
-use actor_state::{Link, with_room};
+use actor_state::{LinkActors, with_room};
 use std::alloc::{AllocError, Global};
 use std::marker::Model;
 use turn_check::Verified;
@@ -24,11 +24,11 @@ use turn_machine::new_machine;
 #[derive(Drop)]
 pub struct Book {
     pub(crate) set: Verified,
-    pub(crate) base: Link,
+    pub(crate) base: LinkActors,
     pub(crate) first: u64,
     pub(crate) journal: Vec<Event>,
     pub(crate) limit: usize,
-    pub(crate) link: Link,
+    pub(crate) link: LinkActors,
     /// What turns that begin and end at once run on.
     pub(crate) machine: Machine,
 }
@@ -58,8 +58,8 @@ impl Book {
         keeps_law();
         let _valid = set.draft();
         let journal = Vec::with_capacity(alloc, limits.journal())?;
-        let base = Link::open(alloc, set, limits.port(), limits.env())?;
-        let link = Link::open(alloc, set, limits.port(), limits.env())?;
+        let base = LinkActors::open(alloc, set, limits.port(), limits.env())?;
+        let link = LinkActors::open(alloc, set, limits.port(), limits.env())?;
         let kept = set.copy()?;
         Ok(Book {
             set: kept,

@@ -21,7 +21,7 @@ pub use actor_machine::{
     Actor, ActorName, Begun, Cause, Emitted, Event, Lost, Offer, Refusal, Reply, Report, Standing,
     number_of,
 };
-pub use actor_state::Link;
+pub use actor_state::LinkActors;
 pub use book::Book;
 pub use calls::{Passed, Taken};
 pub use event_runs::run_events;

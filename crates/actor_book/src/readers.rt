@@ -10,7 +10,7 @@ ghost use Rattle.actor_book.specs.Shown.{variable_of};
 
 use crate::book::Book;
 use actor_machine::{Actor, ActorName, Emitted, Event, Standing};
-use actor_state::Link;
+use actor_state::LinkActors;
 use turn_check::Verified;
 use turn_code::{Value, VariableNumber};
 
@@ -33,14 +33,14 @@ impl Book {
     }
 
     /// The present state, which is the replay of the journal on the base.
-    pub fn state(&self) -> &Link
+    pub fn state(&self) -> &LinkActors
         ensures { result.now ≡ state_of self.now }
     {
         &self.link
     }
 
     /// The state where the journal begins.
-    pub fn base(&self) -> &Link
+    pub fn base(&self) -> &LinkActors
         ensures { result.now ≡ self.now.base }
     {
         &self.base

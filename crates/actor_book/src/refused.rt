@@ -9,7 +9,7 @@ ghost use Rattle.actor_book.specs.Accepted.{refusal_of};
 
 use crate::book::Book;
 use actor_machine::Refusal;
-use actor_state::{Link, with_room};
+use actor_state::{LinkActors, with_room};
 use turn_code::{SignalNumber, Value};
 
 impl Book {

@@ -1,5 +1,6 @@
 -- The state of a link (Z.100, the behaviour of a set of processes).
-use Rattle.std.specs.Prelude.{ℕ, Bool as Truth, List, map, Option, None, Some, slice_get, slice_set, count_by, is_some}
+use Rattle.std.specs.Prelude.{
+    ℕ, Bool as Truth, List, map, Option, None, Some, slice_get, slice_set, count_by, is_some}
 use Rattle.actor_machine.specs.declared.name.ActorName.{ActorName}
 use Rattle.tick_wheel.specs.Timers.{Timers}
 use Rattle.actor_machine.specs.declared.actor.Actor.{Actor}
@@ -10,8 +11,8 @@ pub record Ring : Type 0 where
   pub capacity : ℕ
   pub items : List Emitted
 
--- the actors by number, the active timers with the clock, what waits for the environment, how many turns have begun,
--- how many of these have ended, and how many instructions they took
+-- the actors by number, the active timers with the clock, what waits for the environment, how many
+-- turns have begun, how many of these have ended, and how many instructions they took
 pub record Core : Type 0 where
   pub actors : List Actor
   pub timers : Timers

@@ -1,5 +1,7 @@
 -- What a turn does to its link as it ends (Z.100, output, set, reset, stop).
-use Rattle.std.specs.Prelude.{ℕ, zero, suc, ◌+◌, ◌==◌, ℤ, pos, negsuc, Bool, List, [], ◌∷◌, ◌++◌, length, max, nat_lt, Option, None, Some, option_to_list, if◌then◌else◌}
+use Rattle.std.specs.Prelude.{
+    ℕ, zero, suc, ◌+◌, ◌==◌, ℤ, pos, negsuc, Bool, List, [], ◌∷◌, ◌++◌, length, max, nat_lt, Option,
+    None, Some, option_to_list, if◌then◌else◌}
 use Rattle.std.specs.FinMap as map
 use Rattle.plain_limits.specs.Limits.{MOST_TIMERS_EACH}
 use Rattle.turn_code.specs.Outcome.{Outcome}
@@ -36,7 +38,8 @@ is_full q = signal_count q.items == q.capacity
 
 -- the signal behind the other items, where there is room
 abbrev pub with_arrival : Queue → Arrival → Queue
-with_arrival q arrival = if is_full q then q else record q { items = q.items ++ Signal arrival ∷ [] }
+with_arrival q arrival =
+    if is_full q then q else record q { items = q.items ++ Signal arrival ∷ [] }
 
 abbrev pub reached : Actor → Arrival → Standing → Actor
 reached a arrival (At s) = record a { port = with_arrival a.port arrival }
@@ -61,7 +64,9 @@ drops timer a = record a { port = record a.port { items = without_timer a.port.i
 
 -- the signal of a timer behind the other items
 abbrev pub hears : ℕ → Actor → Actor
-hears timer a = record a { port = record a.port { items = without_timer a.port.items timer ++ Timer (record { 0 = timer }) ∷ [] } }
+hears timer a =
+    record a { port = record a.port { items = without_timer a.port.items timer
+        ++ Timer (record { 0 = timer }) ∷ [] } }
 
 -- ---- the environment
 
@@ -83,10 +88,13 @@ delay (pos k) = max 1 k
 delay (negsuc k) = 1
 
 abbrev pub until : Timers → ℕ → ℕ → ℕ → Timers
-until ts n timer k = record { clock = ts.clock; deadlines = map.insert ts.deadlines (timer_of n timer) (ts.clock + k) }
+until ts n timer k =
+    record { clock = ts.clock;
+        deadlines = map.insert ts.deadlines (timer_of n timer) (ts.clock + k) }
 
 abbrev pub without : Timers → ℕ → ℕ → Timers
-without ts n timer = record { clock = ts.clock; deadlines = map.remove ts.deadlines (timer_of n timer) }
+without ts n timer =
+    record { clock = ts.clock; deadlines = map.remove ts.deadlines (timer_of n timer) }
 
 -- without the first k timers of actor n
 abbrev pub without_first_timers : Timers → ℕ → ℕ → Timers
@@ -105,20 +113,27 @@ arrival_of me s = record { signal = s.signal; parameters = s.parameters; sender 
 abbrev pub emitted_of : ActorName → Sending → Emitted
 emitted_of me s = record { sender = me; signal = s.signal; parameters = s.parameters }
 
--- a signal comes to the environment, or to an actor of a process: to the instance that is named, where one is
+-- a signal comes to the environment, or to an actor of a process: to the instance that is named,
+-- where one is
 abbrev pub delivered : ActorName → Core → Sending → Party → Option InstanceNumber → Core
 delivered me w s Environment k = record w { ring = with_emitted w.ring (emitted_of me s) }
-delivered me w s (Process p) k = record w { actors = change_found w.actors (number_for (names_in w.actors) me p k) (receives (arrival_of me s)) }
+delivered me w s (Process p) k =
+    record w { actors = change_found w.actors (number_for (names_in w.actors) me p k)
+        (receives (arrival_of me s)) }
 
 abbrev pub undelivered : ActorName → Core → Party → Option InstanceNumber → Option Cause
 undelivered me w Environment k = if has_room w.ring then None else Some cause.EnvFull
-undelivered me w (Process p) k = refusal_in (found_in w.actors (number_for (names_in w.actors) me p k))
+undelivered me w (Process p) k =
+    refusal_in (found_in w.actors (number_for (names_in w.actors) me p k))
 
--- what an effect does: an output comes to its receiver; a SET or RESET takes the signal of the timer away, and a SET sets it anew
+-- what an effect does: an output comes to its receiver; a SET or RESET takes the signal of the
+-- timer away, and a SET sets it anew
 abbrev pub laid : ℕ → ActorName → Core → Effect → Core
 laid n me w (Output s) = delivered me w s s.receiver.party s.receiver.instance
-laid n me w (Set t z) = record w { actors = change w.actors n (drops t.0); timers = until w.timers n t.0 (delay z) }
-laid n me w (Reset t) = record w { actors = change w.actors n (drops t.0); timers = without w.timers n t.0 }
+laid n me w (Set t z) =
+    record w { actors = change w.actors n (drops t.0); timers = until w.timers n t.0 (delay z) }
+laid n me w (Reset t) =
+    record w { actors = change w.actors n (drops t.0); timers = without w.timers n t.0 }
 
 abbrev pub lost_for : ℕ → Option Cause → Option Lost
 lost_for k None = None
@@ -139,7 +154,8 @@ laid_all n me w (e ∷ es) = laid_all n me (laid n me w e) es
 -- the outputs that nobody gets, where the first effect has place k
 abbrev pub losses : ℕ → ActorName → Core → ℕ → List Effect → List Lost
 losses n me w k [] = []
-losses n me w k (e ∷ es) = option_to_list (lost_by me w k e) ++ losses n me (laid n me w e) (k + 1) es
+losses n me w k (e ∷ es) =
+    option_to_list (lost_by me w k e) ++ losses n me (laid n me w e) (k + 1) es
 
 -- ---- the end of a turn
 
@@ -159,9 +175,12 @@ timers_after Stop ts n = without_timers ts n
 abbrev pub ended : ℕ → End → Core → Core
 ended n e w = record w { actors = change w.actors n (moved e); timers = timers_after e w.timers n }
 
--- the variables first, then the effects one after another, then the end; the turn is counted, and its instructions
+-- the variables first, then the effects one after another, then the end; the turn is counted, and
+-- its instructions
 abbrev pub started : ℕ → Outcome → Core → Core
-started n o w = record w { actors = change w.actors n (settled o); finishes = w.finishes + 1; instructions = w.instructions + o.progress.count }
+started n o w =
+    record w { actors = change w.actors n (settled o); finishes = w.finishes + 1;
+        instructions = w.instructions + o.progress.count }
 
 unfoldable pub finished : ℕ → ActorName → Outcome → Core → Core
 finished n me o w = ended n o.end (laid_all n me (started n o w) o.progress.effects)

@@ -1,5 +1,6 @@
--- What holds of every state of a link: each signal that waits came along a route with parameters of its sorts, each timer is its receiver's
--- own, both fit wherever the receiver is, and each turn that is out has an input that fits it.
+-- What holds of every state of a link: each signal that waits came along a route with parameters of
+-- its sorts, each timer is its receiver's own, both fit wherever the receiver is, and each turn
+-- that is out has an input that fits it.
 use Rattle.std.specs.Prelude.{◌≡◌, ℕ, ◌<◌, List, length, map, Any, Option, None, Some, slice_get}
 use Rattle.std.specs.List.{AllByRecursion}
 use Rattle.std.specs.FinMap as finite
@@ -28,7 +29,8 @@ use Rattle.actor_machine.specs.declared.actor.Standing.{Standing}
 use Rattle.actor_machine.specs.declared.actor.Standing.TheVariants.{At, Stopped}
 use Rattle.actor_machine.specs.declared.reply.Emitted.{Emitted}
 
--- the signal is one of the set's, its parameters have that signal's sorts, and a route brought it from its sender to process n
+-- the signal is one of the set's, its parameters have that signal's sorts, and a route brought it
+-- from its sender to process n
 pub record Arrived (d : Draft) (n : ℕ) (a : Arrival) : Type 0 where
   pub there : a.signal.0 < length d.signals
   pub sorts : map sort_of a.parameters.items ≡ parameters_of (slice_get d.signals a.signal.0)
@@ -79,10 +81,11 @@ pub record TimerFits (d : Draft) (t : TimerId) : Type 0 where
   pub number : t.number < length process.timers
 
 abbrev pub TimersFit : Draft → Deadlines → Type 0
-TimersFit d deadlines = (t : TimerId) (until : ℕ) → finite.get deadlines t ≡ Some until → TimerFits d t
+TimersFit d deadlines =
+    (t : TimerId) (until : ℕ) → finite.get deadlines t ≡ Some until → TimerFits d t
 
--- an actor of the set sent it, its signal is one of the set's, its parameters have that signal's sorts, and a route carries it to the
--- environment
+-- an actor of the set sent it, its signal is one of the set's, its parameters have that signal's
+-- sorts, and a route carries it to the environment
 pub record EmittedFits (d : Draft) (x : Emitted) : Type 0 where
   pub number : ℕ
   pub sender : IsCalled d number x.sender

@@ -59,12 +59,21 @@ pub record IsLost (lost : List Lost) (place : ℕ) (c : Cause) : Type 0 where
 abbrev pub behind : ℕ → ActorName → Outcome → Core → ℕ → Core
 behind n me o w place = laid_all n me (started n o w) (take place o.progress.effects)
 
--- A signal from the environment is refused as B1 Full exactly where a route brings it to a full port, of an actor that hasn't stopped, whatever the
--- turns mean. Of the outputs of a turn that ends, the report tells with their places, as Full exactly those to a full port of an actor that hasn't
--- stopped, and as EnvFull exactly those to a full environment.
+-- A signal from the environment is refused as B1 Full exactly where a route brings it to a full
+-- port, of an actor that hasn't stopped, whatever the turns mean. Of the outputs of a turn that
+-- ends, the report tells with their places, as Full exactly those to a full port of an actor that
+-- hasn't stopped, and as EnvFull exactly those to a full environment.
 pub record FullLaw : Type 0 where
-  pub offer : (m : Meaning) (b : Ledger) (o : Offered) → ((ask_by m b (Offer o)).answer ≡ Says (reply.Refused Full)) ↔ MeetsFull b.set (state_by m b).actors o
-  pub port : (w : Core) (n : ℕ) (me : ActorName) (o : Outcome) (place : ℕ) (s : Sending) → slice_get o.progress.effects place ≡ Some (Output s)
-      → IsLost (report_of n me o w).lost.items place cause.Full ↔ FindsFull me (behind n me o w place) s
-  pub environment : (w : Core) (n : ℕ) (me : ActorName) (o : Outcome) (place : ℕ) (s : Sending) → slice_get o.progress.effects place ≡ Some (Output s)
-      → IsLost (report_of n me o w).lost.items place cause.EnvFull ↔ ((s.receiver.party ≡ Environment) × (has_room (behind n me o w place).ring ≡ false))
+  pub offer :
+      (m : Meaning) (b : Ledger) (o : Offered)
+      → ((ask_by m b (Offer o)).answer ≡ Says (reply.Refused Full))
+      ↔ MeetsFull b.set (state_by m b).actors o
+  pub port : (w : Core) (n : ℕ) (me : ActorName) (o : Outcome) (place : ℕ) (s : Sending)
+      → slice_get o.progress.effects place ≡ Some (Output s)
+      → IsLost (report_of n me o w).lost.items place cause.Full
+          ↔ FindsFull me (behind n me o w place) s
+  pub environment :
+      (w : Core) (n : ℕ) (me : ActorName) (o : Outcome) (place : ℕ) (s : Sending)
+      → slice_get o.progress.effects place ≡ Some (Output s)
+      → IsLost (report_of n me o w).lost.items place cause.EnvFull
+          ↔ ((s.receiver.party ≡ Environment) × (has_room (behind n me o w place).ring ≡ false))

@@ -1,8 +1,12 @@
--- What holds of every book: all fits in each state from its base to the present one, its numbers stay within their bounds, each turn that is out has a
--- number of its own, and no timer that has a deadline has a signal waiting.
-use Rattle.std.specs.Prelude.{◌≡◌, ℕ, ◌+◌, ◌*◌, ◌<◌, ◌≤◌, Bool, true, false, suc, List, [], ◌∷◌, ◌++◌, length, map, count_by, None, Some, slice_get}
+-- What holds of every book: all fits in each state from its base to the present one, its numbers
+-- stay within their bounds, each turn that is out has a number of its own, and no timer that has a
+-- deadline has a signal waiting.
+use Rattle.std.specs.Prelude.{
+    ◌≡◌, ℕ, ◌+◌, ◌*◌, ◌<◌, ◌≤◌, Bool, true, false, suc, List, [], ◌∷◌, ◌++◌, length, map, count_by,
+    None, Some, slice_get}
 use Rattle.std.specs.FinMap as finite
-use Rattle.plain_limits.specs.Limits.{LAST_PLACE, LAST_TICK, MOST_INSTRUCTIONS, MOST_JOURNAL, MOST_TURNS_BEGUN}
+use Rattle.plain_limits.specs.Limits.{
+    LAST_PLACE, LAST_TICK, MOST_INSTRUCTIONS, MOST_JOURNAL, MOST_TURNS_BEGUN}
 use Rattle.turn_code.specs.Valid.{IsValid}
 use Rattle.turn_code.specs.Start.{initial_values}
 use Rattle.turn_code.specs.declared.input.Place.TheVariants.{Start}
@@ -21,7 +25,8 @@ use Rattle.actor_machine.specs.declared.actor.Actor.{Actor}
 use Rattle.actor_machine.specs.declared.actor.Given.{Given}
 use Rattle.actor_machine.specs.declared.actor.Standing.TheVariants.{At}
 use Rattle.actor_machine.specs.declared.event.Event.{Event}
-use Rattle.actor_machine.specs.declared.event.Event.TheVariants.{Offer, Begin, Skip, Finish, Advance, TakeEnv}
+use Rattle.actor_machine.specs.declared.event.Event.TheVariants.{
+    Offer, Begin, Skip, Finish, Advance, TakeEnv}
 
 -- all fits in the state, and in each state that the events lead to
 abbrev pub FitsAlong : Draft → Core → List Event → Type 0
@@ -42,7 +47,8 @@ pub record Stands (b : Ledger) : Type 0 where
   pub along : FitsAlong b.set b.base b.journal
   pub finishes : (state_of b).finishes ≡ b.base.finishes + count_by is_finish b.journal
 
--- the journal keeps a place for each turn that is out, each turn that began is out or has ended, and all numbers stay within their bounds
+-- the journal keeps a place for each turn that is out, each turn that began is out or has ended,
+-- and all numbers stay within their bounds
 pub record IsBounded (b : Ledger) (w : Core) : Type 0 where
   pub room : length b.journal + outs w.actors ≤ b.limit
   pub places : b.first + length b.journal + outs w.actors ≤ LAST_PLACE + b.limit
@@ -61,11 +67,14 @@ pub record HasOut (actors : List Actor) (n : ℕ) (g : Given) : Type 0 where
 -- each turn that is out has a number of its own, below that of the next turn
 pub record AreNumbered (w : Core) : Type 0 where
   pub below : (n : ℕ) (g : Given) → HasOut w.actors n g → g.turn < w.turns
-  pub apart : (m n : ℕ) (f g : Given) → HasOut w.actors m f → HasOut w.actors n g → f.turn ≡ g.turn → m ≡ n
+  pub apart :
+      (m n : ℕ) (f g : Given) → HasOut w.actors m f → HasOut w.actors n g → f.turn ≡ g.turn → m ≡ n
 
 -- of actor n: a timer that has a deadline has no signal waiting in the port
 abbrev pub IsSilent : Deadlines → ℕ → Actor → Type 0
-IsSilent deadlines n a = (timer until : ℕ) → finite.get deadlines (timer_of n timer) ≡ Some until → has_timer a.port.items timer ≡ false
+IsSilent deadlines n a =
+    (timer until : ℕ) → finite.get deadlines (timer_of n timer) ≡ Some until
+    → has_timer a.port.items timer ≡ false
 
 -- so of each actor
 pub record AreSilent (w : Core) : Type 0 where
@@ -92,7 +101,8 @@ opened_actor port p name = record {
 -- the actors of processes, of which the first is process n
 abbrev pub opened_from : ℕ → ℕ → List DraftProcess → List Actor
 opened_from port n [] = []
-opened_from port n (p ∷ ps) = map (opened_actor port p) (instances_from n 1 p.instances) ++ opened_from port (suc n) ps
+opened_from port n (p ∷ ps) =
+    map (opened_actor port p) (instances_from n 1 p.instances) ++ opened_from port (suc n) ps
 
 unfoldable pub opened : Draft → ℕ → ℕ → Core
 opened d port env = record {
@@ -105,4 +115,5 @@ opened d port env = record {
 }
 
 unfoldable pub opened_book : Draft → ℕ → ℕ → ℕ → Ledger
-opened_book d port env journal = record { set = d; base = opened d port env; first = 0; journal = []; limit = journal }
+opened_book d port env journal =
+    record { set = d; base = opened d port env; first = 0; journal = []; limit = journal }

@@ -16,12 +16,15 @@ use Rattle.actor_machine.specs.Core.{Core, names_in}
 use Rattle.actor_machine.specs.Looking.{trigger_of, input_for, input_with}
 use Rattle.actor_machine.specs.Fits.{ItemFits, IsReadyAt, CoreFits}
 use Rattle.actor_machine.specs.Step.{Answer, Stuck, Says, step, report_of}
-use Rattle.actor_machine.specs.Ledger.{Ledger, runs, state_by, state_of, next, event_at, refusal_by, ask, rebased, answers_by, after_by, turn_out}
+use Rattle.actor_machine.specs.Ledger.{
+    Ledger, runs, state_by, state_of, next, event_at, refusal_by, ask, rebased, answers_by,
+    after_by, turn_out}
 use Rattle.actor_machine.specs.Kept.{HasOut, AreSilent, IsKept, opened_book}
 use Rattle.actor_machine.specs.declared.actor.Actor.{Actor}
 use Rattle.actor_machine.specs.declared.actor.Given.{Given}
 use Rattle.actor_machine.specs.declared.event.Event.{Event}
-use Rattle.actor_machine.specs.declared.event.Event.TheVariants.{Offer, Begin, Skip, Finish, Advance, TakeEnv}
+use Rattle.actor_machine.specs.declared.event.Event.TheVariants.{
+    Offer, Begin, Skip, Finish, Advance, TakeEnv}
 use Rattle.actor_machine.specs.declared.reply.Refusal.TheVariants.{Stranger}
 use Rattle.actor_machine.specs.declared.reply.Reply.TheVariants as reply
 
@@ -30,7 +33,9 @@ pub record KeepsLaw : Type 0 where
   pub asks : (b : Ledger) (e : Event) → IsKept b → IsKept (ask b e).book
   pub lists : (b : Ledger) (es : List Event) → IsKept b → IsKept (after_by (runs b.set) b es)
   pub rebases : (b : Ledger) → IsKept b → IsKept (rebased b)
-  pub opens : (d : Draft) (port env journal : ℕ) → IsValid d → journal ≤ MOST_JOURNAL → IsKept (opened_book d port env journal)
+  pub opens :
+      (d : Draft) (port env journal : ℕ) → IsValid d → journal ≤ MOST_JOURNAL
+      → IsKept (opened_book d port env journal)
 
 -- no event and no rebase changes the set of processes, or how many events the journal may hold
 pub record SetLaw : Type 0 where
@@ -51,26 +56,31 @@ FitsLaw = (b : Ledger) → IsKept b → CoreFits b.set (state_of b)
 abbrev pub TimerLaw : Type 0
 TimerLaw = (b : Ledger) → IsKept b → AreSilent (state_of b)
 
--- a list of events has the same answers, and leaves the same book in the same state, by the code of the set and by anything that the set means
+-- a list of events has the same answers, and leaves the same book in the same state, by the code of
+-- the set and by anything that the set means
 pub record SameByText (act : Meaning) (b : Ledger) (es : List Event) : Type 0 where
   pub answers : answers_by act b es ≡ answers_by (runs b.set) b es
   pub book : after_by act b es ≡ after_by (runs b.set) b es
   pub state : state_by act (after_by act b es) ≡ state_of (after_by (runs b.set) b es)
 
 abbrev pub TextLaw : Type 0
-TextLaw = (act : Meaning) (b : Ledger) (es : List Event) → IsKept b → Means act b.set → SameByText act b es
+TextLaw = (act : Meaning) (b : Ledger) (es : List Event) → IsKept b → Means act b.set
+    → SameByText act b es
 
--- a turn that is out ends by the run of its own code on its own input, within its certificate's budget, and the answer tells it
+-- a turn that is out ends by the run of its own code on its own input, within its certificate's
+-- budget, and the answer tells it
 pub record FinishesWithin (b : Ledger) (n : ℕ) (t : Turn) : Type 0 where
   pub outcome : Outcome
   pub ran : outcome_of t ≡ Some outcome
   pub name : ActorName
   pub called : slice_get (names_in (state_of b).actors) n ≡ Some name
-  pub answer : (ask b (Finish n)).answer ≡ Says (reply.Finished (report_of n name outcome (state_of b)))
+  pub answer :
+      (ask b (Finish n)).answer ≡ Says (reply.Finished (report_of n name outcome (state_of b)))
   pub within : outcome.progress.count ≤ t.certificate.budget
 
 abbrev pub FinishLaw : Type 0
-FinishLaw = (b : Ledger) (n : ℕ) (t : Turn) → IsKept b → turn_out b n ≡ Some t → FinishesWithin b n t
+FinishLaw =
+    (b : Ledger) (n : ℕ) (t : Turn) → IsKept b → turn_out b n ≡ Some t → FinishesWithin b n t
 
 -- so where the event is the end of a turn
 abbrev pub WithinAt : Ledger → Event → Type 0
@@ -91,8 +101,11 @@ WithinLaw = (b : Ledger) (es : List Event) → IsKept b → AllWithin b es
 
 -- a finish is refused where the actor has no turn out, there alone, and by one name
 pub record OutLaw : Type 0 where
-  pub stranger : (b : Ledger) (n : ℕ) → IsKept b → (turn_out b n ≡ None) ↔ (refusal_by (runs b.set) b (Finish n) ≡ Some Stranger)
-  pub own : (b : Ledger) (n : ℕ) (t : Turn) → IsKept b → turn_out b n ≡ Some t → refusal_by (runs b.set) b (Finish n) ≡ None
+  pub stranger :
+      (b : Ledger) (n : ℕ) → IsKept b
+      → (turn_out b n ≡ None) ↔ (refusal_by (runs b.set) b (Finish n) ≡ Some Stranger)
+  pub own : (b : Ledger) (n : ℕ) (t : Turn) → IsKept b → turn_out b n ≡ Some t
+      → refusal_by (runs b.set) b (Finish n) ≡ None
 
 -- the turn with this number has begun, and no actor has it out
 pub record IsOver (w : Core) (turn : ℕ) : Type 0 where
@@ -101,26 +114,44 @@ pub record IsOver (w : Core) (turn : ℕ) : Type 0 where
 
 -- a turn that has ended is over, and stays so: nobody has a turn with its number out again
 pub record OverLaw : Type 0 where
-  pub ends : (b : Ledger) (n : ℕ) (t : Turn) → IsKept b → turn_out b n ≡ Some t → IsOver (state_of (ask b (Finish n)).book) t.turn
-  pub asks : (b : Ledger) (e : Event) (turn : ℕ) → IsOver (state_of b) turn → IsOver (state_of (ask b e).book) turn
-  pub lists : (b : Ledger) (es : List Event) (turn : ℕ) → IsOver (state_of b) turn → IsOver (state_of (after_by (runs b.set) b es)) turn
-  pub rebases : (b : Ledger) (turn : ℕ) → IsOver (state_of b) turn → IsOver (state_of (rebased b)) turn
+  pub ends : (b : Ledger) (n : ℕ) (t : Turn) → IsKept b → turn_out b n ≡ Some t
+      → IsOver (state_of (ask b (Finish n)).book) t.turn
+  pub asks : (b : Ledger) (e : Event) (turn : ℕ) → IsOver (state_of b) turn
+      → IsOver (state_of (ask b e).book) turn
+  pub lists :
+      (b : Ledger) (es : List Event) (turn : ℕ) → IsOver (state_of b) turn
+      → IsOver (state_of (after_by (runs b.set) b es)) turn
+  pub rebases :
+      (b : Ledger) (turn : ℕ) → IsOver (state_of b) turn → IsOver (state_of (rebased b)) turn
   pub none : (b : Ledger) (n : ℕ) (t : Turn) → IsOver (state_of b) t.turn → turn_out b n ≢ Some t
 
--- what may wait for a process fits each input of each of its states that waits for it, the first one too, with any variables that fit the state
+-- what may wait for a process fits each input of each of its states that waits for it, the first
+-- one too, with any variables that fit the state
 pub record ItemLaw : Type 0 where
-  pub each : (d : Draft) (n : ℕ) (p : DraftProcess) (a : Actor) (x : Item) (q : StateNumber) (i : ℕ) (t : Transition)
-      → slice_get d.processes n ≡ Some p → HaveSorts p.variables a.variables.items → ItemFits d n p x → IsReadyAt p q.0 a.variables.items
-      → transition_at d n (State q) i ≡ Some t → t.trigger ≡ Some (trigger_of x) → FitsTransition d t (input_with a (Some x))
-  pub first : (d : Draft) (n : ℕ) (p : DraftProcess) (a : Actor) (x : Item) (q : StateNumber) (i : ℕ)
-      → slice_get d.processes n ≡ Some p → HaveSorts p.variables a.variables.items → ItemFits d n p x → IsReadyAt p q.0 a.variables.items
+  pub each : (d : Draft) (n : ℕ) (p : DraftProcess) (a : Actor) (x : Item) (q : StateNumber) (i : ℕ)
+      (t : Transition)
+      → slice_get d.processes n ≡ Some p → HaveSorts p.variables a.variables.items
+          → ItemFits d n p x → IsReadyAt p q.0 a.variables.items
+      → transition_at d n (State q) i ≡ Some t → t.trigger ≡ Some (trigger_of x)
+          → FitsTransition d t (input_with a (Some x))
+  pub first :
+      (d : Draft) (n : ℕ) (p : DraftProcess) (a : Actor) (x : Item) (q : StateNumber) (i : ℕ)
+      → slice_get d.processes n ≡ Some p → HaveSorts p.variables a.variables.items
+          → ItemFits d n p x → IsReadyAt p q.0 a.variables.items
       → input_for d n q.0 x ≡ Some i → Fits d n (State q) i (input_with a (Some x))
 
--- an accepted event gets the next place and stays there as others come; a rebase takes all away and leaves the next place
+-- an accepted event gets the next place and stays there as others come; a rebase takes all away and
+-- leaves the next place
 pub record PlaceLaw : Type 0 where
-  pub accepted : (b : Ledger) (e : Event) → refusal_by (runs b.set) b e ≡ None → event_at (ask b e).book (next b) ≡ Some e
-  pub follows : (b : Ledger) (e : Event) → refusal_by (runs b.set) b e ≡ None → next (ask b e).book ≡ next b + 1
-  pub stays : (b : Ledger) (es : List Event) (place : ℕ) (e : Event) → event_at b place ≡ Some e → event_at (after_by (runs b.set) b es) place ≡ Some e
+  pub accepted :
+      (b : Ledger) (e : Event) → refusal_by (runs b.set) b e ≡ None
+      → event_at (ask b e).book (next b) ≡ Some e
+  pub follows :
+      (b : Ledger) (e : Event) → refusal_by (runs b.set) b e ≡ None
+      → next (ask b e).book ≡ next b + 1
+  pub stays :
+      (b : Ledger) (es : List Event) (place : ℕ) (e : Event) → event_at b place ≡ Some e
+      → event_at (after_by (runs b.set) b es) place ≡ Some e
   pub emptied : (b : Ledger) (place : ℕ) → event_at (rebased b) place ≡ None
   pub onward : (b : Ledger) → next (rebased b) ≡ next b
   pub below : (b : Ledger) → IsKept b → next b < PAST_PLACES

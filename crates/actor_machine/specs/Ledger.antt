@@ -1,5 +1,8 @@
--- The history of a link: a base state, and the events since then. The state at any time is the replay of these.
-use Rattle.std.specs.Prelude.{ℕ, ◌+◌, ◌-◌, List, [], ◌∷◌, ◌++◌, length, Option, None, Some, Result, Err, slice_get, nat_lt, nat_le, if◌then◌else◌}
+-- The history of a link: a base state, and the events since then. The state at any time is the
+-- replay of these.
+use Rattle.std.specs.Prelude.{
+    ℕ, ◌+◌, ◌-◌, List, [], ◌∷◌, ◌++◌, length, Option, None, Some, Result, Err, slice_get, nat_lt,
+    nat_le, if◌then◌else◌}
 use Rattle.plain_limits.specs.Limits.{LAST_PLACE}
 use Rattle.turn_code.specs.Outcome.{Outcome, Meaning, result_in}
 use Rattle.turn_code.specs.Run.{run}
@@ -22,7 +25,8 @@ use Rattle.actor_machine.specs.declared.event.Event.{Event}
 use Rattle.actor_machine.specs.declared.reply.Refusal.{Refusal}
 use Rattle.actor_machine.specs.declared.reply.Reply.TheVariants as reply
 
--- the set of processes, the state where the journal begins, the place of its first event, its events in order, and how many it may hold
+-- the set of processes, the state where the journal begins, the place of its first event, its
+-- events in order, and how many it may hold
 pub record Ledger : Type 0 where
   pub set : Draft
   pub base : Core
@@ -108,7 +112,8 @@ after_by m b (e ∷ es) = after_by m (ask_by m b e).book es
 -- of actor n, which is of process p
 abbrev pub turn_with : ℕ → ProcessNumber → Place → Given → Option Transition → Option Turn
 turn_with n p s g None = None
-turn_with n p s g (Some t) = Some (turn_of n g.turn p s g.number t.piece.code t.piece.certificate g.input)
+turn_with n p s g (Some t) =
+    Some (turn_of n g.turn p s g.number t.piece.code t.piece.certificate g.input)
 
 abbrev pub turn_given : Draft → ℕ → ProcessNumber → Standing → Option Given → Option Turn
 turn_given d n p (At s) (Some g) = turn_with n p s g (transition_at d p.0 s g.number)

@@ -31,7 +31,8 @@ is_saved d n q x = list_any (same_trigger (trigger_of x)) (saves_at d n q)
 abbrev pub input_for : Draft → ℕ → ℕ → Item → Option ℕ
 input_for d n q x = input_waiting d n q (trigger_of x)
 
--- the first item that isn't saved where the actor is; there is none at START and behind a STOP, where nothing is taken
+-- the first item that isn't saved where the actor is; there is none at START and behind a STOP,
+-- where nothing is taken
 abbrev pub item_at : Draft → ℕ → Standing → List Item → Option Item
 item_at d n (At (State q)) xs = first_unsaved (is_saved d n q.0) xs
 item_at d n (At Start) xs = None
@@ -60,16 +61,19 @@ found_at d n Stopped xs = found.Nothing
 unfoldable pub looks : Draft → Actor → Found
 looks d a = found_at d a.name.process.0 a.standing a.port.items
 
--- ---- what a turn is given: the variables, the parameters and the sender of the item that is taken; START is given the
--- variables alone, and a timer's signal has neither parameters nor a sender
+-- ---- what a turn is given: the variables, the parameters and the sender of the item that is
+-- taken; START is given the variables alone, and a timer's signal has neither parameters nor a
+-- sender
 
 abbrev pub first_input : Actor → Input
-first_input a = record { variables = a.variables; parameters = record { items = [] }; sender = None }
+first_input a =
+    record { variables = a.variables; parameters = record { items = [] }; sender = None }
 
 abbrev pub input_with : Actor → Option Item → Input
 input_with a None = first_input a
 input_with a (Some (item.Signal arrival)) =
-    record { variables = a.variables; parameters = arrival.parameters; sender = Some arrival.sender }
+    record { variables = a.variables; parameters = arrival.parameters;
+            sender = Some arrival.sender }
 input_with a (Some (item.Timer timer)) = first_input a
 
 -- the number of the input that is found, 0 at START
@@ -86,11 +90,13 @@ taken d a = left_at d a.name.process.0 a.standing a.port.items
 
 unfoldable pub given_now : Draft → ℕ → Actor → Given
 given_now d turn a =
-    record { turn = turn; number = number_in (looks d a); input = input_with a (item_at d a.name.process.0 a.standing a.port.items) }
+    record { turn = turn; number = number_in (looks d a);
+            input = input_with a (item_at d a.name.process.0 a.standing a.port.items) }
 
 -- the item is taken out of the port, and the actor has this turn out
 unfoldable pub begun : Draft → ℕ → Actor → Actor
-begun d turn a = record a { port = record a.port { items = taken d a }; given = Some (given_now d turn a) }
+begun d turn a =
+    record a { port = record a.port { items = taken d a }; given = Some (given_now d turn a) }
 
 -- the item is taken out of the port, and nothing else happens
 unfoldable pub skipped : Draft → Actor → Actor

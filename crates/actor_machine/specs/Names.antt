@@ -1,5 +1,7 @@
 -- The actors of a set, by name and by number (Z.100, instance sets of processes).
-use Rattle.std.specs.Prelude.{ℕ, zero, suc, ◌==◌, Bool, false, List, [], ◌∷◌, ◌++◌, map, Option, None, Some, option_map, if◌then◌else◌}
+use Rattle.std.specs.Prelude.{
+    ℕ, zero, suc, ◌==◌, Bool, false, List, [], ◌∷◌, ◌++◌, map, Option, None, Some, option_map,
+    if◌then◌else◌}
 use Rattle.turn_code.specs.declared.numbers.ProcessNumber.{ProcessNumber}
 use Rattle.turn_code.specs.declared.numbers.InstanceNumber.{InstanceNumber}
 use Rattle.turn_code.specs.declared.input.Address.{Address}
@@ -16,7 +18,8 @@ abbrev pub instances_from : ℕ → ℕ → ℕ → List ActorName
 instances_from p k zero = []
 instances_from p k (suc n) = named p k ∷ instances_from p (suc k) n
 
--- the actors of processes with so many instances each, the first of which is process p: by process, then by instance
+-- the actors of processes with so many instances each, the first of which is process p: by process,
+-- then by instance
 abbrev pub names_from : ℕ → List ℕ → List ActorName
 names_from p [] = []
 names_from p (n ∷ ns) = instances_from p 1 n ++ names_from (suc p) ns
@@ -46,8 +49,12 @@ abbrev pub first_some : Option ℕ → Option ℕ → Option ℕ
 first_some None o = o
 first_some (Some n) o = Some n
 
--- The number of the actor that gets a signal of an actor to a process: where an instance is named, which is so where it goes to a sender, that
--- instance; else the instance with the sender's own number where the process has one, and its first one where it has none.
-abbrev pub number_for : List ActorName → ActorName → ProcessNumber → Option InstanceNumber → Option ℕ
+-- The number of the actor that gets a signal of an actor to a process: where an instance is named,
+-- which is so where it goes to a sender, that instance; else the instance with the sender's own
+-- number where the process has one, and its first one where it has none.
+abbrev pub number_for :
+    List ActorName → ActorName → ProcessNumber → Option InstanceNumber → Option ℕ
 number_for names me p (Some k) = place_of (record { process = p; instance = k }) names
-number_for names me p None = first_some (place_of (record { process = p; instance = me.instance }) names) (place_of (record { process = p; instance = record { 0 = 1 } }) names)
+number_for names me p None =
+    first_some (place_of (record { process = p; instance = me.instance }) names)
+    (place_of (record { process = p; instance = record { 0 = 1 } }) names)

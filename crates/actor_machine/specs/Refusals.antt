@@ -1,5 +1,8 @@
--- When an event is refused, and by which name. The rows of each call stand in the order in which they are tested; the room of the journal comes last.
-use Rattle.std.specs.Prelude.{ℕ, ◌+◌, ◌==◌, Bool, true, false, not, ◌&&◌, List, [], ◌∷◌, length, map, Option, None, Some, slice_get, nat_lt, nat_le, if◌then◌else◌}
+-- When an event is refused, and by which name. The rows of each call stand in the order in which
+-- they are tested; the room of the journal comes last.
+use Rattle.std.specs.Prelude.{
+    ℕ, ◌+◌, ◌==◌, Bool, true, false, not, ◌&&◌, List, [], ◌∷◌, length, map, Option, None, Some,
+    slice_get, nat_lt, nat_le, if◌then◌else◌}
 use Rattle.std.specs.List.{list_any}
 use Rattle.plain_limits.specs.Limits.{LAST_TICK, MOST_TICKS, MOST_TURNS_BEGUN}
 use Rattle.turn_code.specs.Values.{sort_of}
@@ -19,12 +22,15 @@ use Rattle.actor_machine.specs.declared.actor.Actor.{Actor}
 use Rattle.actor_machine.specs.declared.actor.Standing.{Standing}
 use Rattle.actor_machine.specs.declared.actor.Standing.TheVariants.{At, Stopped as HasStopped}
 use Rattle.actor_machine.specs.declared.event.Event.{Event}
-use Rattle.actor_machine.specs.declared.event.Event.TheVariants.{Offer, Begin, Skip, Finish, Advance, TakeEnv}
+use Rattle.actor_machine.specs.declared.event.Event.TheVariants.{
+    Offer, Begin, Skip, Finish, Advance, TakeEnv}
 use Rattle.actor_machine.specs.declared.event.Offer.{Offer as Offered}
 use Rattle.actor_machine.specs.declared.found.Found.{Found}
 use Rattle.actor_machine.specs.declared.found.Found.TheVariants as found
 use Rattle.actor_machine.specs.declared.reply.Refusal.{Refusal}
-use Rattle.actor_machine.specs.declared.reply.Refusal.TheVariants.{Full, Stopped, NoRoute, Busy, Nothing, Stranger, Empty, JournalFull, CountFull, NoActor, SkipFirst, NotIgnored, TooFar, ClockFull}
+use Rattle.actor_machine.specs.declared.reply.Refusal.TheVariants.{
+    Full, Stopped, NoRoute, Busy, Nothing, Stranger, Empty, JournalFull, CountFull, NoActor,
+    SkipFirst, NotIgnored, TooFar, ClockFull}
 
 -- the name of the first row that holds
 abbrev pub first_of : List (Bool × Refusal) → Option Refusal
@@ -47,7 +53,9 @@ is_process n (Process m) = m.0 == n
 
 -- the route brings the signal from the environment to process n
 abbrev pub offers : ℕ → SignalNumber → DraftRoute → Bool
-offers n s r = is_environment r.from && (is_process n r.to && list_any (λ (x : SignalNumber). x.0 == s.0) r.signals)
+offers n s r =
+    is_environment r.from
+    && (is_process n r.to && list_any (λ (x : SignalNumber). x.0 == s.0) r.signals)
 
 abbrev pub same_sort : Sort → Sort → Bool
 same_sort Integer Integer = true
@@ -61,10 +69,12 @@ same_sorts [] (y ∷ ys) = false
 same_sorts (x ∷ xs) [] = false
 same_sorts (x ∷ xs) (y ∷ ys) = same_sort x y && same_sorts xs ys
 
--- a route brings the signal, which is there, from the environment to process n, and the values have the sorts of its parameters
+-- a route brings the signal, which is there, from the environment to process n, and the values have
+-- the sorts of its parameters
 unfoldable pub is_offered : Draft → ℕ → SignalNumber → List Value → Bool
 is_offered d n s vs = list_any (offers n s) d.routes
-    && (nat_lt s.0 (length d.signals) && same_sorts (map sort_of vs) (parameters_of (slice_get d.signals s.0)))
+    && (nat_lt s.0 (length d.signals)
+            && same_sorts (map sort_of vs) (parameters_of (slice_get d.signals s.0)))
 
 unfoldable pub offer_rows : Draft → Offered → Actor → List (Bool × Refusal)
 offer_rows d o a =
@@ -113,7 +123,8 @@ finish_row (Some a) = if is_out a then None else Some Stranger
 -- ---- the clock and the environment
 
 unfoldable pub advance_rows : ℕ → ℕ → List (Bool × Refusal)
-advance_rows clock ticks = (nat_lt MOST_TICKS ticks, TooFar) ∷ (nat_lt LAST_TICK (clock + ticks), ClockFull) ∷ []
+advance_rows clock ticks =
+    (nat_lt MOST_TICKS ticks, TooFar) ∷ (nat_lt LAST_TICK (clock + ticks), ClockFull) ∷ []
 
 abbrev pub empty_row : Ring → Option Refusal
 empty_row r = if length r.items == 0 then Some Empty else None

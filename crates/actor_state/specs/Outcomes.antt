@@ -9,7 +9,8 @@ use Rattle.turn_code.specs.declared.machine.End.{End}
 use Rattle.actor_machine.specs.declared.actor.Actor.{Actor}
 
 abbrev pub outcome_with : End → List (Option Value) → List Effect → ℕ → Outcome
-outcome_with e vs es count = record { end = e; progress = record { variables = vs; effects = es; count = count } }
+outcome_with e vs es count =
+    record { end = e; progress = record { variables = vs; effects = es; count = count } }
 
 -- a timer that an effect names is one of those that a process may have
 abbrev pub HasTimer : Effect → Type 0

@@ -21,7 +21,8 @@ abbrev pub skipped_by : Draft → Option Actor → Option Trigger
 skipped_by d None = None
 skipped_by d (Some a) = option_map trigger_of (item_at d a.name.process.0 a.standing a.port.items)
 
--- the number of the input that this item is to an actor of process n that took it there; 0 at START, and where there is none
+-- the number of the input that this item is to an actor of process n that took it there; 0 at
+-- START, and where there is none
 abbrev pub number_with : Draft → ℕ → Standing → Option Item → ℕ
 number_with d n (At (State q)) o = number_in (found_item d n q.0 o)
 number_with d n (At Start) o = 0

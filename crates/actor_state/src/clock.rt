@@ -7,7 +7,7 @@ ghost use Rattle.actor_machine.specs.Step.{notified, passed, due_in};
 ghost use Rattle.plain_limits.specs.Limits.{LAST_TICK, MOST_TICKS};
 
 use crate::actors::notify;
-use crate::link::Link;
+use crate::link_actors::LinkActors;
 use actor_machine::{Actor, Refusal};
 use tick_wheel::{Due, FARTHEST, LAST_CLOCK, Wheel};
 use turn_code::TimerNumber;
@@ -51,7 +51,7 @@ fn pass(wheel: &mut Wheel, ticks: u64) -> usize
     }
 }
 
-impl Link {
+impl LinkActors {
     /// So many ticks pass: the clock goes on, and the signals of the timers that are due come to the ports. How many are due.
     pub fn advance(&mut self, ticks: u64) -> usize
         requires near { ticks ≤ MOST_TICKS }

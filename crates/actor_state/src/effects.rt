@@ -10,7 +10,7 @@ ghost use Rattle.actor_state.specs.Outcomes.{outcome_with, with_variables, HasTi
 ghost use Rattle.plain_limits.specs.Limits.{MOST_ACTORS, MOST_EFFECTS, MOST_TIMERS_EACH, MOST_TURNS_BEGUN, MOST_VARIABLES};
 
 use crate::actors::{deliver_to, end_turn, forget_timer, number_for, settle_at};
-use crate::link::Link;
+use crate::link_actors::LinkActors;
 use actor_machine::{ActorName, Cause, Emitted, Lost, Report};
 use arrayvec::ArrayVec;
 use input_port::Arrival;
@@ -18,7 +18,7 @@ use tick_wheel::{Timer, Wheel};
 use turn_check::Verified;
 use turn_code::{Address, Effect, End, Party, Sending, TimerNumber, Value, copied_values};
 
-impl Link {
+impl LinkActors {
     /// What one effect of a turn of an actor with this number and this name does. Why nobody got it, if it is an output and nobody did.
     fn lay(&mut self, set: &Verified, actor: u8, name: ActorName, effect: &Effect) -> Option<Cause>
         requires names { names_in self.old.actors ≡ actors_of set.now.processes }

@@ -5,7 +5,7 @@
 mod actors;
 mod clock;
 mod effects;
-mod link;
+mod link_actors;
 mod look;
 mod offer;
 mod open;
@@ -13,5 +13,5 @@ mod refusal;
 mod ring;
 mod turn;
 
-pub use link::Link;
+pub use link_actors::LinkActors;
 pub use refusal::with_room;

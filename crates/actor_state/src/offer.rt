@@ -11,7 +11,7 @@ ghost use Rattle.actor_machine.specs.Step.{offered_arrival};
 ghost use Rattle.turn_code.specs.declared.numbers.SignalNumber.{SignalNumber as PlainSignal};
 
 use crate::actors::deliver;
-use crate::link::Link;
+use crate::link_actors::LinkActors;
 use actor_machine::{Actor, Refusal, Standing};
 use arrayvec::ArrayVec;
 use input_port::Arrival;
@@ -136,7 +136,7 @@ pub(crate) fn offer_refusal(
     None
 }
 
-impl Link {
+impl LinkActors {
     /// A signal of the environment comes to an actor.
     pub fn offer(&mut self, actor: u16, signal: SignalNumber, values: ArrayVec<Value, 4>)
         ensures { self.new ≡ record self.old { actors = change self.old.actors actor (receives (offered_arrival (record { actor = actor; signal = signal; values = values }))) } }

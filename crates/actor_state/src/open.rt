@@ -8,7 +8,7 @@ ghost use Rattle.turn_code.specs.declared.draft.DraftProcess.{DraftProcess as Pl
 ghost use Rattle.actor_state.specs.Opening.{HasFew};
 ghost use Rattle.plain_limits.specs.Limits.{LEAST_PORT, MOST_ACTORS, MOST_PORT, MOST_PROCESSES};
 
-use crate::link::Link;
+use crate::link_actors::LinkActors;
 use crate::ring::Ring;
 use actor_machine::{Actor, ActorName, Given, Standing};
 use input_port::Port;
@@ -144,10 +144,15 @@ fn processes_of(set: &Verified) -> &[DraftProcess]
     set.draft().processes.as_slice()
 }
 
-impl Link {
+impl LinkActors {
     /// The link of a set as it begins: each instance of each process is an actor before its START, with a port for so many signals, and
     /// there is room for so many signals to the environment.
-    pub fn open(alloc: Global, set: &Verified, port: usize, env: usize) -> Result<Link, AllocError>
+    pub fn open(
+        alloc: Global,
+        set: &Verified,
+        port: usize,
+        env: usize,
+    ) -> Result<LinkActors, AllocError>
         requires least { LEAST_PORT ≤ port }
         requires most { port ≤ MOST_PORT }
         ensures { IfOk result (λ link. link ≡ opened set.now port env) }
@@ -155,7 +160,7 @@ impl Link {
         let actors = opened_actors(alloc, processes_of(set), port)?;
         let wheel = Wheel::new(alloc)?;
         let ring = Ring::new(alloc, env)?;
-        Ok(Link {
+        Ok(LinkActors {
             actors,
             wheel,
             ring,
@@ -166,14 +171,14 @@ impl Link {
     }
 
     /// An equal link.
-    pub fn copy(&self) -> Result<Link, AllocError>
+    pub fn copy(&self) -> Result<LinkActors, AllocError>
         ensures { IfOk result (λ link. link ≡ self.now) }
     {
         let alloc = *self.actors.allocator();
         let actors = copied_actors(alloc, &self.actors)?;
         let wheel = self.wheel.copy()?;
         let ring = self.ring.copy()?;
-        Ok(Link {
+        Ok(LinkActors {
             actors,
             wheel,
             ring,

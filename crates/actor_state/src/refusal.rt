@@ -7,7 +7,7 @@ ghost use Rattle.actor_machine.specs.declared.event.Event.TheVariants.{Offer as 
 ghost use Rattle.turn_code.specs.declared.draft.Draft.{Draft as PlainDraft};
 
 use crate::clock::advance_refusal;
-use crate::link::Link;
+use crate::link_actors::LinkActors;
 use crate::offer::offer_refusal;
 use crate::turn::{begin_refusal, skip_refusal};
 use actor_machine::{Actor, Refusal};
@@ -66,7 +66,7 @@ fn skip_refusal_at(set: &Verified, actor: u16, actors: &[Actor]) -> Option<Refus
     }
 }
 
-impl Link {
+impl LinkActors {
     /// Why the link refuses a signal of the environment, its journal aside.
     pub fn offer_refusal(
         &self,

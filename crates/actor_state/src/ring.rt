@@ -92,7 +92,7 @@ pub(crate) fn copied(emitted: &Emitted) -> Emitted
     }
 }
 
-impl crate::link::Link {
+impl crate::link_actors::LinkActors {
     /// Takes the signal that has waited longest for the environment.
     pub fn take(&mut self) -> Option<Emitted>
         ensures link { self.new ≡ record self.old { ring = record self.old.ring { items = tail_of self.old.ring.items } } }

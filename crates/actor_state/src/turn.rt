@@ -8,7 +8,7 @@ ghost use Rattle.actor_machine.specs.declared.actor.Actor.{Actor as PlainActor};
 ghost use Rattle.actor_state.specs.Saving.{skipped_by};
 ghost use Rattle.plain_limits.specs.Limits.{MOST_TURNS_BEGUN};
 
-use crate::link::Link;
+use crate::link_actors::LinkActors;
 use crate::look::{look, number_of, take, trigger_of};
 use actor_machine::{Actor, Found, Given, Refusal};
 use arrayvec::ArrayVec;
@@ -124,7 +124,7 @@ fn skip_at(set: &Verified, number: u8, actors: &mut [Actor]) -> Option<Trigger>
     }
 }
 
-impl Link {
+impl LinkActors {
     /// An actor begins a turn: it takes the item that it finds, and has the turn out.
     pub fn begin(&mut self, set: &Verified, actor: u8)
         requires { self.old.turns < MOST_TURNS_BEGUN }

@@ -18,8 +18,8 @@ begun_by None m = begun m
 begun_by (Some c) m = m
 
 -- where none goes on
-abbrev pub begins : Availability → Availability
-begins m = begun_by m.changing m
+abbrev pub changeover_begins : Availability → Availability
+changeover_begins m = begun_by m.changing m
 
 -- While no retrieval is out the last answer counts.
 abbrev pub told_by : Option (List ℕ) → Answer → Changing → Changing
@@ -42,7 +42,8 @@ waited_in n (Some c) = Some (record c { waited = min T2 (c.waited + n) })
 abbrev pub waits : ℕ → Availability → Availability
 waits n m = record m { changing = waited_in n m.changing }
 
--- A retrieval goes out, or what is left of it comes back to the caller, with so many messages of each selection.
+-- A retrieval goes out, or what is left of it comes back to the caller, with so many messages of
+-- each selection.
 abbrev pub retrieval_in : List ℕ → Option Changing → Option Changing
 retrieval_in counts None = None
 retrieval_in counts (Some c) = Some (record c { retrieval = Some counts })

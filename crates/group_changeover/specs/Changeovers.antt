@@ -2,10 +2,16 @@
 use Rattle.std.specs.Prelude.{◌≡◌, ℕ, ◌<◌, Some, List, [], ◌∷◌, drop}
 use Rattle.group_changeover.specs.declared.changeover.Changeover.{Changeover}
 use Rattle.group_changeover.specs.declared.changeover.Kind.{Kind}
-use Rattle.group_changeover.specs.declared.changeover.Kind.TheVariants.{Order, Acknowledgement, EmergencyOrder, EmergencyAcknowledgement}
+use Rattle.group_changeover.specs.declared.changeover.Kind.TheVariants.{
+  Order,
+  Acknowledgement,
+  EmergencyOrder,
+  EmergencyAcknowledgement,
+}
 use Rattle.group_changeover.specs.Labels.{label_in}
 
--- behind the label: the heading octet (COO 0x11, COA 0x21, ECO 0x12, ECA 0x22), and of COO and COA the number of the last message accepted
+-- behind the label: the heading octet (COO 0x11, COA 0x21, ECO 0x12, ECA 0x22), and of COO and COA
+-- the number of the last message accepted
 abbrev pub behind_label : Kind → List ℕ
 behind_label (Order accepted) = 17 ∷ accepted ∷ []
 behind_label (Acknowledgement accepted) = 33 ∷ accepted ∷ []

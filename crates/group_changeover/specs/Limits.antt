@@ -5,6 +5,7 @@ use Rattle.std.specs.Prelude.{ℕ}
 abbrev pub SELECTIONS : ℕ
 SELECTIONS = 16
 
--- so many ticks after a changeover began it goes on without an answer (Q.704's timer for that, T2; the value is this profile's)
+-- so many ticks after a changeover began it goes on without an answer (Q.704's timer for that, T2;
+-- the value is this profile's)
 abbrev pub T2 : ℕ
 T2 = 1400

@@ -21,12 +21,13 @@ abbrev pub standing : Places → ℕ → Option ℕ → List Msu
 standing p s None = []
 standing p s (Some l) = of s (p.held l) ++ of s (p.retrieval l)
 
--- Of each selection what was accepted is what has left, and then, in order, what stands in the one place that it has. Nothing of it stands
--- elsewhere, and of a link and its retrieval one is empty.
+-- Of each selection what was accepted is what has left, and then, in order, what stands in the one
+-- place that it has. Nothing of it stands elsewhere, and of a link and its retrieval one is empty.
 pub record OnePlace (p : Places) : Type 0 where
   pub whole : (s : ℕ) → s < SELECTIONS → of s p.accepted ≡ of s p.gone ++ standing p s (p.link s)
   pub links_else : (s l : ℕ) → s < SELECTIONS → (p.link s ≡ Some l → ⊥) → of s (p.held l) ≡ []
-  pub retrievals_else : (s l : ℕ) → s < SELECTIONS → (p.link s ≡ Some l → ⊥) → of s (p.retrieval l) ≡ []
+  pub retrievals_else :
+      (s l : ℕ) → s < SELECTIONS → (p.link s ≡ Some l → ⊥) → of s (p.retrieval l) ≡ []
   pub alone : (l : ℕ) → (p.retrieval l ≡ []) ⊎ (p.held l ≡ [])
 
 -- nothing was accepted yet
@@ -49,7 +50,8 @@ pub record AtOneLink (l : ℕ) (p q : Places) : Type 0 where
   pub retrieval_else : (j : ℕ) → (j ≡ l → ⊥) → q.retrieval j ≡ p.retrieval j
   pub link : (s : ℕ) → q.link s ≡ p.link s
 
--- All messages of one selection go from the retrieval of a link to another link, which that selection has from then on.
+-- All messages of one selection go from the retrieval of a link to another link, which that
+-- selection has from then on.
 pub record Diverts (s l t : ℕ) (p q : Places) : Type 0 where
   pub other : l ≡ t → ⊥
   pub some : of s (p.retrieval l) ≡ [] → ⊥

@@ -1,5 +1,16 @@
 -- What the marks of a link say of it in a changeover (Q.704).
-use Rattle.std.specs.Prelude.{ℕ, ◌&&◌, nat_lt, Bool, not, if◌then◌else◌, Option, Some, None, is_some}
+use Rattle.std.specs.Prelude.{
+  ℕ,
+  ◌&&◌,
+  nat_lt,
+  Bool,
+  not,
+  if◌then◌else◌,
+  Option,
+  Some,
+  None,
+  is_some,
+}
 use Rattle.group_changeover.specs.declared.changeover.Kind.{Kind}
 use Rattle.group_changeover.specs.declared.changeover.Kind.TheVariants as kind
 use Rattle.group_changeover.specs.Limits.{T2}
@@ -26,12 +37,14 @@ number_in None = None
 number_in (Some answer.Unknown) = None
 number_in (Some (answer.Accepted fsn)) = if nat_lt fsn 128 then Some fsn else None
 
--- An order for a link that was started anew is an emergency one: the numbers of which it would speak are gone.
+-- An order for a link that was started anew is an emergency one: the numbers of which it would
+-- speak are gone.
 abbrev pub order_after : Availability → ℕ → Kind
 order_after m accepted = if m.anew then kind.EmergencyOrder else kind.Order accepted
 
 abbrev pub acknowledgement_after : Availability → ℕ → Kind
-acknowledgement_after m accepted = if m.anew then kind.EmergencyAcknowledgement else kind.Acknowledgement accepted
+acknowledgement_after m accepted =
+    if m.anew then kind.EmergencyAcknowledgement else kind.Acknowledgement accepted
 
 -- A number is none for a link that was started anew.
 abbrev pub number_told : Availability → ℕ → Answer

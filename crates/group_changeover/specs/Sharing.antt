@@ -1,5 +1,21 @@
 -- Messages by the selection of a link that their label has (Q.704, load sharing).
-use Rattle.std.specs.Prelude.{ℕ, ◌==◌, ◌%◌, Bool, not, List, [], ◌∷◌, Option, Some, None, length, map, filter, slice_get}
+use Rattle.std.specs.Prelude.{
+  ℕ,
+  ◌==◌,
+  ◌%◌,
+  Bool,
+  not,
+  List,
+  [],
+  ◌∷◌,
+  Option,
+  Some,
+  None,
+  length,
+  map,
+  filter,
+  slice_get,
+}
 use Rattle.resend_store.specs.declared.messages.Msu.{Msu}
 use Rattle.group_changeover.specs.declared.labels.Label.{Label}
 use Rattle.group_changeover.specs.Labels.{label_in}
@@ -29,7 +45,8 @@ selections = 0 ∷ 1 ∷ 2 ∷ 3 ∷ 4 ∷ 5 ∷ 6 ∷ 7 ∷ 8 ∷ 9 ∷ 10 ∷ 
 unfoldable pub counts_of : List Msu → List ℕ
 counts_of ms = map (λ s. length (of s ms)) selections
 
--- the link of a selection among those that may take it: of n links the (s mod n)th, and of none none
+-- the link of a selection among those that may take it: of n links the (s mod n)th, and of none
+-- none
 unfoldable pub pick : List ℕ → ℕ → Option ℕ
 pick links s = slice_get links (s % length links)
 

@@ -1,6 +1,6 @@
 //! What is marked at each link.
 ghost use Rattle.std.specs.Prelude.{◌≡◌};
-ghost use Rattle.group_changeover.specs.Availability.{begins, told, waits, with_retrieval, ended, serves};
+ghost use Rattle.group_changeover.specs.Availability.{changeover_begins, told, waits, with_retrieval, ended, serves};
 
 /// How many selections of a link there are.
 pub const SELECTIONS: usize = 16;
@@ -43,8 +43,8 @@ pub struct Availability {
 
 impl Availability {
     /// A changeover begins, unless one goes on.
-    pub fn begins(self) -> Availability
-        ensures { result ≡ begins self }
+    pub fn changeover_begins(self) -> Availability
+        ensures { result ≡ changeover_begins self }
     {
         match self.changing {
             Some(_) => self,

@@ -1,5 +1,17 @@
 -- A command to the terminal of a link.
-use Rattle.std.specs.Prelude.{◌≡◌, ◌&&◌, Bool, true, false, not, if◌then◌else◌, Option, Some, None, is_some}
+use Rattle.std.specs.Prelude.{
+  ◌≡◌,
+  ◌&&◌,
+  Bool,
+  true,
+  false,
+  not,
+  if◌then◌else◌,
+  Option,
+  Some,
+  None,
+  is_some,
+}
 use Rattle.actor_machine.specs.Ledger.{ask}
 use Rattle.actor_machine.specs.Step.{Says}
 use Rattle.actor_machine.specs.declared.reply.Refusal.{Refusal}
@@ -32,7 +44,8 @@ abbrev pub is_barred_in : Option Changing → Bool
 is_barred_in None = false
 is_barred_in (Some c) = not (is_some c.retrieval)
 
--- Start is no command in a changeover until its messages are handed out: what the far side tells speaks of the numbers that stand.
+-- Start is no command in a changeover until its messages are handed out: what the far side tells
+-- speaks of the numbers that stand.
 abbrev pub is_barred : Command → Link → Bool
 is_barred command k = is_start command && is_barred_in k.availability.changing
 
@@ -41,20 +54,27 @@ starts_anew command k = is_start command && not (is_serving k)
 
 -- A link to which Start is commanded while it is out of service is started anew.
 abbrev pub started : Command → Link → Availability
-started command k = if starts_anew command k then record k.availability { anew = true } else k.availability
+started command k =
+    if starts_anew command k then record k.availability { anew = true } else k.availability
 
 -- The terminal took it.
 pub record Commanded (command : Command) (old new : Link) : Type 0 where
   pub free : is_barred command old ≡ false
-  pub answer : let t = tidied old.terminal.processes in Says reply.Offered ≡ (ask t.book (command_event t.names command)).answer
-  pub terminal : let t = tidied old.terminal.processes in new.terminal ≡ with_processes old.terminal (offered (command_event t.names command) t)
+  pub answer :
+      let t = tidied old.terminal.processes
+      in Says reply.Offered ≡ (ask t.book (command_event t.names command)).answer
+  pub terminal :
+      let t = tidied old.terminal.processes
+      in new.terminal ≡ with_processes old.terminal (offered (command_event t.names command) t)
   pub keeps : Keeps old.terminal new.terminal
   pub availability : new.availability ≡ started command old
 
 -- The terminal refused it: nothing changed, but that there may be room in its journal now.
 pub record Refused (command : Command) (refusal : Refusal) (old new : Link) : Type 0 where
   pub free : is_barred command old ≡ false
-  pub answer : let t = tidied old.terminal.processes in Says (reply.Refused refusal) ≡ (ask t.book (command_event t.names command)).answer
+  pub answer :
+      let t = tidied old.terminal.processes
+      in Says (reply.Refused refusal) ≡ (ask t.book (command_event t.names command)).answer
   pub terminal : new.terminal ≡ with_processes old.terminal (tidied old.terminal.processes)
   pub availability : new.availability ≡ old.availability
 

@@ -1,5 +1,25 @@
 -- What a link does by its terminal, and that it comes into service.
-use Rattle.std.specs.Prelude.{◌≡◌, ℕ, ◌<◌, ◌≤◌, ◌&&◌, ◌⊎◌, Bool, true, false, not, if◌then◌else◌, List, length, take, Option, Some, None, slice_get, slice_set}
+use Rattle.std.specs.Prelude.{
+  ◌≡◌,
+  ℕ,
+  ◌<◌,
+  ◌≤◌,
+  ◌&&◌,
+  ◌⊎◌,
+  Bool,
+  true,
+  false,
+  not,
+  if◌then◌else◌,
+  List,
+  length,
+  take,
+  Option,
+  Some,
+  None,
+  slice_get,
+  slice_set,
+}
 use Rattle.link_transceiver.specs.Limits.{KEPT_MESSAGES}
 use Rattle.link_term.specs.Machine.{is_low, sent, tidied}
 use Rattle.link_term.specs.Term.{term_with_transceiver, with_processes}
@@ -23,7 +43,8 @@ came_first k = came k && not k.availability.served
 -- It counts as one that has been in service, and no longer as started anew.
 abbrev pub asked : Link → Link
 asked k = record {
-  terminal = term_with_transceiver k.terminal (record k.terminal.processes.transceiver { came = false });
+  terminal = term_with_transceiver k.terminal
+      (record k.terminal.processes.transceiver { came = false });
   availability = if came k then serves k.availability else k.availability;
 }
 
@@ -48,7 +69,10 @@ pub record AtLink (did : Link → Link → Type 0) (l : ℕ) (old new : List Lin
 pub record Listened (octets : List ℕ) (taken : ℕ) (old new : Link) : Type 0 where
   pub few : taken ≤ length octets
   pub heard : Heard old.terminal (take taken octets) new.terminal
-  pub stops : taken < length octets → (KEPT_MESSAGES ≤ length new.terminal.processes.transceiver.messages) ⊎ (is_low new.terminal.processes ≡ true)
+  pub stops :
+      taken < length octets
+      → (KEPT_MESSAGES ≤ length new.terminal.processes.transceiver.messages)
+      ⊎ (is_low new.terminal.processes ≡ true)
   pub took : Took old.terminal new.terminal
   pub availability : new.availability ≡ old.availability
 
@@ -61,13 +85,16 @@ pub record Spoken (units : ℕ) (octets : List ℕ) (old new : Link) : Type 0 wh
 -- this unit went out
 pub record Sent (unit : Option Unit) (old new : Link) : Type 0 where
   pub unit_is : unit ≡ (sent (tidied old.terminal.processes)).unit
-  pub terminal : new.terminal ≡ with_processes old.terminal (sent (tidied old.terminal.processes)).processes
+  pub terminal :
+      new.terminal ≡ with_processes old.terminal (sent (tidied old.terminal.processes)).processes
   pub sends : Sends 1 old.terminal new.terminal
   pub availability : new.availability ≡ old.availability
 
 -- this was handed out
 pub record Reported (report : Option Report) (old new : Link) : Type 0 where
   pub report_is : report ≡ (reported old.terminal.processes.transceiver).report
-  pub terminal : new.terminal ≡ term_with_transceiver old.terminal (reported old.terminal.processes.transceiver).transceiver
+  pub terminal :
+      new.terminal
+      ≡ term_with_transceiver old.terminal (reported old.terminal.processes.transceiver).transceiver
   pub same : window_of new.terminal ≡ window_of old.terminal
   pub availability : new.availability ≡ old.availability

@@ -1,21 +1,41 @@
--- Changeover at one link (Q.704): how it begins, what is said of it, and which messages are handed out.
-use Rattle.std.specs.Prelude.{ℕ, Bool, true, false, if◌then◌else◌, List, [], length, Option, Some, None}
+-- Changeover at one link (Q.704): how it begins, what is said of it, and which messages are handed
+-- out.
+use Rattle.std.specs.Prelude.{
+  ℕ,
+  Bool,
+  true,
+  false,
+  if◌then◌else◌,
+  List,
+  [],
+  length,
+  Option,
+  Some,
+  None,
+}
 use Rattle.resend_store.specs.declared.messages.Msu.{Msu}
 use Rattle.resend_store.specs.Window.{unacknowledged, retrieved}
 use Rattle.group_changeover.specs.declared.changeover.Kind.{Kind}
 use Rattle.group_changeover.specs.declared.changeover.Kind.TheVariants as kind
-use Rattle.group_changeover.specs.Availability.{begins, told}
+use Rattle.group_changeover.specs.Availability.{changeover_begins, told}
 use Rattle.group_changeover.specs.Saying.{order_after, answer_in, reply_after}
 use Rattle.group_members.specs.declared.link.Link.{Link}
 use Rattle.group_changeover.specs.declared.errors.FailError.{FailError}
 use Rattle.group_changeover.specs.declared.errors.FailError.TheVariants as fail
-use Rattle.group_members.specs.OneLink.{window, accepted_at, is_changing, with_availability, number_of, hands_out}
+use Rattle.group_members.specs.OneLink.{
+  window,
+  accepted_at,
+  is_changing,
+  with_availability,
+  number_of,
+  hands_out,
+}
 
 abbrev pub fail_fault_of : Link → Option FailError
 fail_fault_of k = if is_changing k then Some fail.Waiting else None
 
-abbrev pub begins_at : Link → Link
-begins_at k = with_availability (begins k.availability) k
+abbrev pub changeover_begins_at : Link → Link
+changeover_begins_at k = with_availability (changeover_begins k.availability) k
 
 abbrev pub order_of : Link → Kind
 order_of k = order_after k.availability (accepted_at k)
@@ -28,7 +48,9 @@ is_order kind.EmergencyAcknowledgement = false
 
 -- An order begins the changeover where none goes on. It is an answer, as an acknowledgement is.
 abbrev pub hears : Kind → Link → Link
-hears what k = with_availability (told (answer_in what k.availability) (if is_order what then begins k.availability else k.availability)) k
+hears what k =
+    with_availability (told (answer_in what k.availability) (if is_order what
+    then changeover_begins k.availability else k.availability)) k
 
 abbrev pub replies : Kind → Link → Option Kind
 replies what k = reply_after what k.availability (accepted_at k)

@@ -1,5 +1,28 @@
 -- How retrieved messages go to links (Q.704, diversion).
-use Rattle.std.specs.Prelude.{ℕ, ◌+◌, ◌==◌, ◌&&◌, ◌||◌, zero, suc, nat_lt, Bool, false, not, if◌then◌else◌, List, [], ◌∷◌, ◌++◌, length, Option, Some, None, slice_get, slice_set}
+use Rattle.std.specs.Prelude.{
+  ℕ,
+  ◌+◌,
+  ◌==◌,
+  ◌&&◌,
+  ◌||◌,
+  zero,
+  suc,
+  nat_lt,
+  Bool,
+  false,
+  not,
+  if◌then◌else◌,
+  List,
+  [],
+  ◌∷◌,
+  ◌++◌,
+  length,
+  Option,
+  Some,
+  None,
+  slice_get,
+  slice_set,
+}
 use Rattle.std.specs.List.{list_any}
 use Rattle.resend_store.specs.declared.messages.Msu.{Msu}
 use Rattle.resend_store.specs.Limits.{MOST_KEPT}
@@ -29,7 +52,8 @@ is_open failed k = is_serving k && (failed || not k.availability.failed)
 -- the places of those that may, from a place on
 unfoldable pub places_from : (Link → Bool) → ℕ → List Link → List ℕ
 places_from may n [] = []
-places_from may n (k ∷ ks) = if may k then n ∷ places_from may (n + 1) ks else places_from may (n + 1) ks
+places_from may n (k ∷ ks) =
+    if may k then n ∷ places_from may (n + 1) ks else places_from may (n + 1) ks
 
 unfoldable pub open_links : Bool → List Link → List ℕ
 open_links failed ks = places_from (is_open failed) 0 ks
@@ -47,7 +71,12 @@ holds_at s None = false
 holds_at s (Some k) = holds s k
 
 unfoldable pub term_takes : List Msu → Term → Term
-term_takes ms t = term_with_transceiver t (record t.processes.transceiver { sender = record t.processes.transceiver.sender { kept = t.processes.transceiver.sender.kept ++ ms } })
+term_takes ms t =
+    term_with_transceiver t
+    (record t.processes.transceiver {
+      sender = record
+          t.processes.transceiver.sender { kept = t.processes.transceiver.sender.kept ++ ms };
+    })
 
 -- They stand behind all that it holds.
 unfoldable pub takes_on : List Msu → Link → Link
@@ -77,9 +106,11 @@ abbrev pub move_fault_by : Diversion → ℕ → Option ℕ → Option DivertFau
 move_fault_by d n None = Some divert.NoLink
 move_fault_by d n (Some t) = take_fault n (slice_get d.links t)
 
--- why a selection doesn't go: no link may take it, or the one that does has no room for all of its messages
+-- why a selection doesn't go: no link may take it, or the one that does has no room for all of its
+-- messages
 unfoldable pub move_fault : List ℕ → ℕ → Diversion → Option DivertFault
-move_fault ls s d = if length (of s d.rest) == 0 then None else move_fault_by d (length (of s d.rest)) (pick ls s)
+move_fault ls s d =
+    if length (of s d.rest) == 0 then None else move_fault_by d (length (of s d.rest)) (pick ls s)
 
 abbrev pub moved_by : ℕ → Diversion → Option ℕ → Diversion
 moved_by s d None = d
@@ -89,8 +120,8 @@ moved_by s d (Some t) = record {
   rest = off s d.rest;
 }
 
--- All messages of a selection go to its link among those that may take them, and that link is the selection's from then on. A selection of
--- which there are none stays as it is.
+-- All messages of a selection go to its link among those that may take them, and that link is the
+-- selection's from then on. A selection of which there are none stays as it is.
 unfoldable pub moved : List ℕ → ℕ → Diversion → Diversion
 moved ls s d = if length (of s d.rest) == 0 then d else moved_by s d (pick ls s)
 
@@ -117,16 +148,19 @@ unfoldable pub back_fault : ℕ → Diversion → Option DivertFault
 back_fault l d = if length d.rest == 0 then None else back_fault_by (slice_get d.links l) d.rest
 
 unfoldable pub back : ℕ → Diversion → Diversion
-back l d = if length d.rest == 0 then d else record { links = change d.links l (takes_on d.rest); table = d.table; rest = [] }
+back l d = if length d.rest == 0 then d
+    else record { links = change d.links l (takes_on d.rest); table = d.table; rest = [] }
 
 abbrev pub gives_back : ℕ → Diversion → Option DivertFault → Diverted
 gives_back l d None = record { at = back l d; fault = None }
 gives_back l d (Some fault) = record { at = d; fault = Some fault }
 
 unfoldable pub hands_over : List ℕ → ℕ → Diversion → Diverted
-hands_over ls l d = if length ls == 0 then gives_back l d (back_fault l d) else moves ls SELECTIONS 0 d
+hands_over ls l d =
+    if length ls == 0 then gives_back l d (back_fault l d) else moves ls SELECTIONS 0 d
 
--- As a changeover ends, each selection that is still the link's, and of which it holds nothing, gets its link among those that may take it.
+-- As a changeover ends, each selection that is still the link's, and of which it holds nothing,
+-- gets its link among those that may take it.
 abbrev pub ends_on : List ℕ → ℕ → Option Link → Option ℕ → ℕ → Option ℕ
 ends_on ls l k None s = None
 ends_on ls l k (Some j) s = if (j == l) && not (holds_at s k) then pick ls s else Some j

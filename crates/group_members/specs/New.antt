@@ -10,4 +10,14 @@ IsUnused t = (window_of t).kept ≡ []
 
 -- What came into service before the set was made counts by what stands.
 abbrev pub fresh : Term → Link
-fresh t = record { terminal = term_with_transceiver t (record t.processes.transceiver { came = false }); availability = record { served = t.processes.transceiver.in_service; anew = false; failed = false; changing = None } }
+fresh t =
+    record {
+      terminal = term_with_transceiver t (record t.processes.transceiver { came = false });
+      availability =
+          record {
+            served = t.processes.transceiver.in_service;
+            anew = false;
+            failed = false;
+            changing = None;
+          };
+    }

@@ -1,5 +1,20 @@
 -- One link of a set: its terminal, and what is marked there.
-use Rattle.std.specs.Prelude.{ℕ, ◌==◌, nat_le, Bool, if◌then◌else◌, List, length, Option, Some, None, is_some, Result, Ok, Err}
+use Rattle.std.specs.Prelude.{
+  ℕ,
+  ◌==◌,
+  nat_le,
+  Bool,
+  if◌then◌else◌,
+  List,
+  length,
+  Option,
+  Some,
+  None,
+  is_some,
+  Result,
+  Ok,
+  Err,
+}
 use Rattle.resend_store.specs.declared.messages.Msu.{Msu}
 use Rattle.resend_store.specs.Limits.{MOST_WAITING}
 use Rattle.resend_store.specs.Window.{Window, waiting, with_put, retrieved, emptied, count_by}
@@ -42,7 +57,11 @@ abbrev pub is_changing : Link → Bool
 is_changing k = is_some k.availability.changing
 
 abbrev pub with_window : Window → Link → Link
-with_window w k = record k { terminal = term_with_transceiver k.terminal (record k.terminal.processes.transceiver { sender = w }) }
+with_window w k =
+    record k {
+      terminal = term_with_transceiver k.terminal
+          (record k.terminal.processes.transceiver { sender = w });
+    }
 
 abbrev pub with_availability : Availability → Link → Link
 with_availability m k = record k { availability = m }
@@ -53,7 +72,9 @@ with_availability m k = record k { availability = m }
 unfoldable pub put_fault : Link → Option SendError
 put_fault k =
     if is_changing k then Some send.Waiting
-    else (if is_serving k then (if nat_le MOST_WAITING (length (waiting (window k))) then Some send.Full else None)
+    else (if is_serving k
+    then (if nat_le MOST_WAITING (length (waiting (window k))) then Some send.Full
+    else None)
     else Some send.NoLink)
 
 unfoldable pub puts : Msu → Link → Link
@@ -97,10 +118,12 @@ known_at k (Some c) = known k c
 unfoldable pub number_of : Link → Option ℕ
 number_of k = known_at k k.availability.changing
 
--- Messages are handed out that may be lacking by a number, or by none the unsent; of what is handed out it is kept how many there are of
--- each selection.
+-- Messages are handed out that may be lacking by a number, or by none the unsent; of what is handed
+-- out it is kept how many there are of each selection.
 unfoldable pub hands_out : Option ℕ → Link → Link
-hands_out fsn k = with_availability (with_retrieval (counts_of (retrieved (window k) fsn)) k.availability) (with_window (emptied (window k) fsn) k)
+hands_out fsn k =
+    with_availability (with_retrieval (counts_of (retrieved (window k) fsn)) k.availability)
+    (with_window (emptied (window k) fsn) k)
 
 -- Without a number that is known K2, unless K4 would be answered. K1 where no changeover goes on.
 abbrev pub abandon_by : Option RetrieveError → Option AbandonError

@@ -1,5 +1,19 @@
 -- The link that a selection gets.
-use Rattle.std.specs.Prelude.{ℕ, ◌==◌, ◌||◌, zero, suc, Bool, false, if◌then◌else◌, List, Option, Some, None, slice_get}
+use Rattle.std.specs.Prelude.{
+  ℕ,
+  ◌==◌,
+  ◌||◌,
+  zero,
+  suc,
+  Bool,
+  false,
+  if◌then◌else◌,
+  List,
+  Option,
+  Some,
+  None,
+  slice_get,
+}
 use Rattle.std.specs.List.{list_any}
 use Rattle.group_changeover.specs.Sharing.{pick, link_of}
 use Rattle.group_members.specs.declared.link.Link.{Link}
@@ -17,9 +31,12 @@ changing_at ks (Some l) = changing_by (slice_get ks l)
 unfoldable pub held_by_any : ℕ → List Link → Bool
 held_by_any s ks = list_any (holds s) ks
 
--- a selection keeps its link where that is in changeover, or any link holds messages of it; else it gets the one that it has among these
+-- a selection keeps its link where that is in changeover, or any link holds messages of it; else it
+-- gets the one that it has among these
 abbrev pub anew_on : List Link → List (Option ℕ) → List ℕ → ℕ → Option ℕ
-anew_on ks ts ls s = if changing_at ks (link_of ts s) then link_of ts s else (if held_by_any s ks then link_of ts s else pick ls s)
+anew_on ks ts ls s =
+    if changing_at ks (link_of ts s) then link_of ts s
+    else (if held_by_any s ks then link_of ts s else pick ls s)
 
 -- whether a selection would move of which its link holds messages
 abbrev pub stands_in_way : List Link → ℕ → Option ℕ → Option ℕ → Bool

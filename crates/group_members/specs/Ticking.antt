@@ -1,5 +1,25 @@
 -- Ticks pass at the links of a set.
-use Rattle.std.specs.Prelude.{◌≡◌, ℕ, ◌-◌, ◌^◌, min, true, false, List, [], ◌∷◌, ◌++◌, map, sum_by, take, drop, Option, Some, None, slice_get}
+use Rattle.std.specs.Prelude.{
+  ◌≡◌,
+  ℕ,
+  ◌-◌,
+  ◌^◌,
+  min,
+  true,
+  false,
+  List,
+  [],
+  ◌∷◌,
+  ◌++◌,
+  map,
+  sum_by,
+  take,
+  drop,
+  Option,
+  Some,
+  None,
+  slice_get,
+}
 use Rattle.actor_machine.specs.Ledger.{ask}
 use Rattle.actor_machine.specs.Step.{Answer, Stuck, Says}
 use Rattle.actor_machine.specs.declared.event.Event.TheVariants.{Advance}
@@ -21,7 +41,8 @@ roomy k = record k { terminal = with_processes k.terminal (tidied k.terminal.pro
 abbrev pub HasRoom : Link → Type 0
 HasRoom k = is_low k.terminal.processes ≡ false
 
--- There was no memory for a link that needed it: room was made at those before it, and nothing else changed.
+-- There was no memory for a link that needed it: room was made at those before it, and nothing else
+-- changed.
 pub record LacksRoom (old new : List Link) : Type 0 where
   pub front : ℕ
   pub lacking : Link
@@ -44,7 +65,11 @@ first_refusal n (k ∷ ks) = first_some (tick_refusal n k.terminal.processes) (f
 
 -- They pass at its terminal, and a changeover that goes on there has gone on for longer.
 abbrev pub passed : ℕ → Link → Link
-passed n k = record { terminal = with_processes k.terminal (offered (Advance n) k.terminal.processes); availability = waits n k.availability }
+passed n k =
+    record {
+      terminal = with_processes k.terminal (offered (Advance n) k.terminal.processes);
+      availability = waits n k.availability;
+    }
 
 abbrev pub due_by : Reply → ℕ
 due_by (reply.Passed due) = due

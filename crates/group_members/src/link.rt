@@ -3,7 +3,7 @@ ghost use Rattle.std.specs.Prelude.{◌≡◌, ◌<◌, ◌≤◌, All, length, 
 ghost use Rattle.resend_store.specs.Messages.{IsMessage};
 ghost use Rattle.resend_store.specs.Window.{retrieved};
 ghost use Rattle.group_changeover.specs.Changeovers.{IsKind};
-ghost use Rattle.group_members.specs.Failing.{fail_fault_of, begins_at, order_of, replies, hears};
+ghost use Rattle.group_members.specs.Failing.{fail_fault_of, changeover_begins_at, order_of, replies, hears};
 ghost use Rattle.group_members.specs.OneLink.{fault_of, put_fault, puts, window, known, unsure_by, retrieve_fault, retrieve_refusal, number_of, hands_out, abandon_fault, abandon_refusal};
 
 use group_changeover::{
@@ -159,14 +159,14 @@ impl Link {
         ensures fault { fault_of result ≡ fail_fault_of self.old }
         ensures order { IfOk result (λ kind. kind ≡ order_of self.old) }
         ensures whole { IfOk result IsKind }
-        ensures ok { OnOk result (self.new ≡ begins_at self.old) }
+        ensures ok { OnOk result (self.new ≡ changeover_begins_at self.old) }
         ensures err { OnErr result (self.new ≡ self.old) }
     {
         if self.availability.is_changing() {
             return Err(FailError::Waiting);
         }
         let kind = self.availability.order(self.terminal.accepted());
-        self.availability = self.availability.begins();
+        self.availability = self.availability.changeover_begins();
         Ok(kind)
     }
 
@@ -179,7 +179,7 @@ impl Link {
         let answer = self.availability.answer_in(kind);
         let reply = self.availability.reply(kind, self.terminal.accepted());
         if reply.is_some() {
-            self.availability = self.availability.begins();
+            self.availability = self.availability.changeover_begins();
         }
         self.availability = self.availability.told(answer);
         reply

@@ -4,7 +4,7 @@ ghost use Rattle.resend_store.specs.Messages.{IsMessage};
 ghost use Rattle.group_changeover.specs.Changeovers.{IsKind};
 ghost use Rattle.group_members.specs.OneLink.{fault_of, put_fault, puts, number_of, retrieve_fault, retrieve_refusal, abandon_fault, abandon_refusal};
 ghost use Rattle.group_members.specs.Links.{change, fault_at, read_at};
-ghost use Rattle.group_members.specs.Failing.{begins_at, fail_fault_of, hears, replies_at, order_of, handed, given_up, messages_by, none_known, sent_by};
+ghost use Rattle.group_members.specs.Failing.{changeover_begins_at, fail_fault_of, hears, replies_at, order_of, handed, given_up, messages_by, none_known, sent_by};
 
 use crate::link::Link;
 use group_changeover::{AbandonError, FailError, Kind, RetrieveError, SendError};
@@ -42,7 +42,7 @@ pub fn fail_at(links: &mut [Link], at: usize) -> Result<Kind, FailError>
     ensures order { IfOk result (λ kind. Some kind ≡ read_at order_of (slice_get links.old at)) }
     ensures whole { IfOk result IsKind }
     ensures there { OnOk result (at < length links.old) }
-    ensures ok { OnOk result (links.new ≡ change links.old at begins_at) }
+    ensures ok { OnOk result (links.new ≡ change links.old at changeover_begins_at) }
     ensures err { OnErr result (links.new ≡ links.old) }
 {
     if at < links.len() {

@@ -1,5 +1,6 @@
 -- What a line of a stream of orders says.
-use Rattle.std.specs.Prelude.{ℕ, ◌||◌, Bool, if◌then◌else◌, List, [], ◌∷◌, ◌++◌, Option, None, Some, codes, string_bytes}
+use Rattle.std.specs.Prelude.{
+    ℕ, ◌||◌, Bool, if◌then◌else◌, List, [], ◌∷◌, ◌++◌, Option, None, Some, codes, string_bytes}
 use Rattle.std.specs.List.{flat_map}
 use Rattle.std.specs.Str.{bytes_eq}
 use Rattle.script_lines.specs.Numbers.{number_up_to}
@@ -29,20 +30,27 @@ joined first words = first ++ flat_map (λ (word : List ℕ). 32 ∷ word) words
 
 -- the word that a report has behind its millisecond, if it isn't that of an order that was obeyed
 abbrev pub is_report : List ℕ → Bool
-is_report word = bytes_eq word (codes "in") || (bytes_eq word (codes "down") || (bytes_eq word (codes "far") || (bytes_eq word (codes "message")
-    || (bytes_eq word (codes "state") || (bytes_eq word (codes "value") || (bytes_eq word (codes "refused") || bytes_eq word (codes "lost")))))))
+is_report word =
+    bytes_eq word (codes "in")
+    || (bytes_eq word (codes "down")
+        || (bytes_eq word (codes "far") || (bytes_eq word (codes "message")
+    || (bytes_eq word (codes "state")
+            || (bytes_eq word (codes "value")
+            || (bytes_eq word (codes "refused") || bytes_eq word (codes "lost")))))))
 
 -- such a report says nothing; what is none is an order, which no terminal obeys
 abbrev pub by_other : List ℕ → List (List ℕ) → PlainSays
 by_other first [] = order (joined first [])
-by_other first (word ∷ words) = if is_report word then nothing else order (joined first (word ∷ words))
+by_other first (word ∷ words) =
+    if is_report word then nothing else order (joined first (word ∷ words))
 
 -- behind a millisecond: `ok` and the order that was obeyed then, another report, or none
 abbrev pub by_report : ℕ → List ℕ → List (List ℕ) → PlainSays
 by_report millisecond first [] = by_other first []
 by_report millisecond first (word ∷ []) = by_other first (word ∷ [])
 by_report millisecond first (word ∷ next ∷ words) =
-    if bytes_eq word (codes "ok") then order_at millisecond (joined next words) else by_other first (word ∷ next ∷ words)
+    if bytes_eq word (codes "ok") then order_at millisecond (joined next words)
+        else by_other first (word ∷ next ∷ words)
 
 -- `at`, and a millisecond
 abbrev pub by_time : Option ℕ → List ℕ → List (List ℕ) → PlainSays
@@ -50,14 +58,18 @@ by_time None first words = order (joined first words)
 by_time (Some millisecond) first words = at millisecond
 
 abbrev pub by_at : Bool → List ℕ → List (List ℕ) → PlainSays
-by_at is_at first (word ∷ []) = if is_at then by_time (millisecond_of word) first (word ∷ []) else order (joined first (word ∷ []))
+by_at is_at first (word ∷ []) =
+    if is_at then by_time (millisecond_of word) first (word ∷ [])
+    else order (joined first (word ∷ []))
 by_at is_at first words = order (joined first words)
 
 abbrev pub by_first : Option ℕ → List ℕ → List (List ℕ) → PlainSays
 by_first (Some millisecond) first words = by_report millisecond first words
 by_first None first words = by_at (bytes_eq first (codes "at")) first words
 
--- Blank lines and comments say nothing, and a line that is no order says one that no terminal obeys.
+-- Blank lines and comments say nothing, and a line that is no order says one that no terminal
+-- obeys.
 abbrev pub says_of : List (List ℕ) → PlainSays
 says_of [] = nothing
-says_of (first ∷ words) = if is_silent (first ∷ words) then nothing else by_first (millisecond_of first) first words
+says_of (first ∷ words) =
+    if is_silent (first ∷ words) then nothing else by_first (millisecond_of first) first words

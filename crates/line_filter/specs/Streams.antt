@@ -1,5 +1,7 @@
 -- The orders of a stream, each with the millisecond before which it isn't obeyed.
-use Rattle.std.specs.Prelude.{◌≡◌, ℕ, ◌<◌, ◌==◌, nat_le, max, ◌&&◌, if◌then◌else◌, List, [], ◌∷◌, ◌++◌, length, Option, None, Some, drop, option_map, string_bytes}
+use Rattle.std.specs.Prelude.{
+    ◌≡◌, ℕ, ◌<◌, ◌==◌, nat_le, max, ◌&&◌, if◌then◌else◌, List, [], ◌∷◌, ◌++◌, length, Option, None,
+    Some, drop, option_map, string_bytes}
 use Rattle.std.specs.Str.{is_utf8}
 use Rattle.script_lines.specs.Words.{words_of}
 use Rattle.line_filter.specs.Orders.{Timed}
@@ -10,17 +12,20 @@ use Rattle.line_filter.specs.declared.lines.OrderLines.{OrderLines}
 abbrev pub MOST_OCTETS : ℕ
 MOST_OCTETS = 600
 
--- The lines that have their end, each without it: what stands before each line feed. The first begins with these octets.
+-- The lines that have their end, each without it: what stands before each line feed. The first
+-- begins with these octets.
 abbrev pub whole_lines : List ℕ → List ℕ → List (List ℕ)
 whole_lines line [] = []
-whole_lines line (b ∷ bs) = if b == 10 then line ∷ whole_lines [] bs else whole_lines (line ++ b ∷ []) bs
+whole_lines line (b ∷ bs) =
+    if b == 10 then line ∷ whole_lines [] bs else whole_lines (line ++ b ∷ []) bs
 
 -- what a line says; where it is too long, or no text, an order that no terminal has
 unfoldable pub line_says : List ℕ → PlainSays
-line_says line = if nat_le (length line) MOST_OCTETS && is_utf8 line then says_of (words_of line) else order []
+line_says line =
+    if nat_le (length line) MOST_OCTETS && is_utf8 line then says_of (words_of line) else order []
 
--- the order that a line says, if it says one, where what follows the lines before it waits until this millisecond; its own millisecond counts where it is
--- later
+-- the order that a line says, if it says one, where what follows the lines before it waits until
+-- this millisecond; its own millisecond counts where it is later
 abbrev pub said_at : ℕ → PlainSays → List Timed
 said_at since nothing = []
 said_at since (at millisecond) = []
@@ -36,7 +41,8 @@ wait_behind since (order_at millisecond text) = max since millisecond
 
 abbrev pub timed : ℕ → List (List ℕ) → List Timed
 timed since [] = []
-timed since (line ∷ lines) = said_at since (line_says line) ++ timed (wait_behind since (line_says line)) lines
+timed since (line ∷ lines) =
+    said_at since (line_says line) ++ timed (wait_behind since (line_says line)) lines
 
 -- those of all lines of octets
 abbrev pub orders_of : List ℕ → List Timed
@@ -63,4 +69,5 @@ left_in l more = waiting_of l ++ behind_of l more
 pub record IsHeld (now : ℕ) (l : OrderLines) : Type 0 where
   pub later : now < l.since
   pub text : List ℕ
-  pub left : (more : List ℕ) → left_in l more ≡ record { at = l.since; text = text } ∷ behind_of l more
+  pub left : (more : List ℕ)
+      → left_in l more ≡ record { at = l.since; text = text } ∷ behind_of l more

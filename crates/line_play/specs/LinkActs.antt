@@ -34,7 +34,8 @@ pub record Tells (t : Term) (text : Option (List ℕ)) (u : Term) : Type 0 where
   pub after : u ≡ term_with_transceiver t (reported t.processes.transceiver).transceiver
 
 -- an order is obeyed as a script's command is, of which it would print this line
-pub record ObeysOne (command : PlainTermCommand) (t : Term) (order : List ℕ) (answer : Answer) (u : Term) : Type 0 where
+pub record ObeysOne (command : PlainTermCommand) (t : Term) (order : List ℕ) (answer : Answer)
+    (u : Term) : Type 0 where
   pub line : List ℕ
   pub answers : Answers command t line u
   pub answer_is : IsAnswerOf (is_question command) order line answer

@@ -15,7 +15,7 @@ use Rattle.group_members.specs.Moving.{Diversion}
 use Rattle.group_members.specs.Doing.{asked, came_by, came_first}
 use Rattle.group_members.specs.Ticking.{passed}
 use Rattle.link_group.specs.Set.{LinkSet, sent}
-use Rattle.link_group.specs.Changing.{is_for, failed, after_message, after_retrieve, after_abandon}
+use Rattle.link_group.specs.Changing.{is_for, after_failure, after_message, after_retrieve, after_abandon}
 use Rattle.link_group.specs.Diverting.{diverted, after_by, after_divert}
 use Rattle.link_group.specs.Placing.{placed_anew, rebalanced}
 use Rattle.link_group.specs.Lines.{seen, all_seen, ByLink, Alone}
@@ -105,8 +105,8 @@ sent_same : (c : LinkSet) (m : Msu) → (sent c m).unsure ≡ c.unsure
 unfolding sent
 sent_same c m = refl
 
-failed_same : (c : LinkSet) (l : ℕ) → (failed c l).unsure ≡ c.unsure
-unfolding failed
+failed_same : (c : LinkSet) (l : ℕ) → (after_failure c l).unsure ≡ c.unsure
+unfolding after_failure
 failed_same c l = refl
 
 retrieved_same : (c : LinkSet) (l : ℕ) → (after_retrieve c l).unsure ≡ c.unsure

@@ -8,7 +8,7 @@ use Rattle.group_changeover.specs.declared.availability.Availability.{Availabili
 use Rattle.group_changeover.specs.declared.availability.Changing.{Changing}
 use Rattle.group_changeover.specs.declared.availability.Answer.{Answer}
 use Rattle.group_changeover.specs.Limits.{SELECTIONS}
-use Rattle.group_changeover.specs.Availability.{begun_by, begins, told_by, told_in, told, waited_in, waits}
+use Rattle.group_changeover.specs.Availability.{begun_by, changeover_begins, told_by, told_in, told, waited_in, waits}
 use Rattle.group_changeover.specs.Sharing.{selection_of}
 use Rattle.group_changeover.proofs.Equal.{Same, same}
 use Rattle.group_members.specs.declared.link.Link.{Link}
@@ -97,7 +97,7 @@ begins_by m ms None is fits = record {
 }
 begins_by m ms (Some c) is fits = fits
 
-pub fits_begins : (m : Availability) (ms : List Msu) → FitsAvailability m ms → FitsAvailability (begins m) ms
+pub fits_begins : (m : Availability) (ms : List Msu) → FitsAvailability m ms → FitsAvailability (changeover_begins m) ms
 fits_begins m ms fits = begins_by m ms m.changing refl fits
 
 told_retrieval : (h : Option (List ℕ)) (a : Answer) (c : Changing) → (told_by h a c).retrieval ≡ c.retrieval

@@ -14,17 +14,17 @@ use Rattle.link_processes.specs.Laws.{KeptLaw}
 use Rattle.link_processes.specs.Machine.{with_book, is_low, tidied}
 use Rattle.group_changeover.specs.declared.availability.Availability.{Availability}
 use Rattle.group_changeover.specs.Laws.{StepsKeepPlaces}
-use Rattle.group_changeover.specs.Availability.{begins, serves}
+use Rattle.group_changeover.specs.Availability.{changeover_begins, serves}
 use Rattle.group_changeover.specs.Saying.{answer_in}
 use Rattle.group_changeover.proofs.Equal.{same}
 use Rattle.group_members.specs.declared.link.Link.{Link}
 use Rattle.group_members.specs.OneLink.{held}
 use Rattle.group_members.specs.Links.{set_at, change}
-use Rattle.group_members.specs.Failing.{begins_at, is_order, hears}
+use Rattle.group_members.specs.Failing.{changeover_begins_at, is_order, hears}
 use Rattle.group_members.specs.Doing.{came, came_first, asked, came_by, AtLink}
 use Rattle.group_members.specs.Ticking.{roomy, passed}
 use Rattle.link_group.specs.Set.{LinkSet}
-use Rattle.link_group.specs.Changing.{failed, is_for, after_message}
+use Rattle.link_group.specs.Changing.{after_failure, is_for, after_message}
 use Rattle.link_group.specs.Placing.{placed_anew}
 use Rattle.link_group.specs.Lines.{seen, all_seen, ByLink, Alone}
 use Rattle.link_group.specs.Ticks.{with_room, after_ticks, NoRoom}
@@ -55,14 +55,14 @@ all_change laws c retrievals accepted gone f same availability stays = record {
 
 -- ---- a changeover begins, and is heard of
 
-pub stays_failed : (laws : StepsKeepPlaces) (c : LinkSet) (retrievals : ℕ → List Msu) (accepted : List Msu) (gone : List Gone) (l : ℕ) → Stays c retrievals accepted gone → Stays (failed c l) retrievals accepted gone
-unfolding failed
-stays_failed laws c retrievals accepted gone l stays = one_changes laws c retrievals accepted gone l begins_at (λ k. refl) (λ k ms x. fits_begins k.availability ms x) stays
+pub stays_failed : (laws : StepsKeepPlaces) (c : LinkSet) (retrievals : ℕ → List Msu) (accepted : List Msu) (gone : List Gone) (l : ℕ) → Stays c retrievals accepted gone → Stays (after_failure c l) retrievals accepted gone
+unfolding after_failure
+stays_failed laws c retrievals accepted gone l stays = one_changes laws c retrievals accepted gone l changeover_begins_at (λ k. refl) (λ k ms x. fits_begins k.availability ms x) stays
 
 fits_heard : (what : Kind) (k : Link) (ms : List Msu) → FitsAvailability k.availability ms → FitsAvailability (hears what k).availability ms
 fits_heard what k ms fits =
-    fits_told (answer_in what k.availability) (if is_order what then begins k.availability else k.availability) ms
-    (by_test (λ (m : Availability). FitsAvailability m ms) (is_order what) (begins k.availability) k.availability (λ e. fits_begins k.availability ms fits) (λ e. fits))
+    fits_told (answer_in what k.availability) (if is_order what then changeover_begins k.availability else k.availability) ms
+    (by_test (λ (m : Availability). FitsAvailability m ms) (is_order what) (changeover_begins k.availability) k.availability (λ e. fits_begins k.availability ms fits) (λ e. fits))
 
 pub stays_heard : (laws : StepsKeepPlaces) (c : LinkSet) (retrievals : ℕ → List Msu) (accepted : List Msu) (gone : List Gone) (m : Option Changeover) → Stays c retrievals accepted gone
     → Stays (after_message c m) retrievals accepted gone

@@ -5,7 +5,17 @@ use Rattle.group_changeover.specs.Sharing.{selections, counts_of, link_of}
 use Rattle.group_changeover.specs.declared.errors.DivertFault.{DivertFault}
 use Rattle.link_group.specs.Set.{LinkSet}
 use Rattle.group_members.specs.Links.{change}
-use Rattle.group_members.specs.Moving.{Diversion, Diverted, retrieval_of, open_links, division, hands_over, ends_on, ends_at, keeps_at}
+use Rattle.group_members.specs.Moving.{
+  Diversion,
+  Diverted,
+  retrieval_of,
+  open_links,
+  division,
+  hands_over,
+  ends_on,
+  ends_at,
+  keeps_at,
+}
 
 -- a retrieval of that link is out, with so many messages of each selection
 unfoldable pub Owns : LinkSet → ℕ → List Msu → Type 0
@@ -18,9 +28,12 @@ diverted c l ms = hands_over (open_links false c.links) l (division c.links c.ta
 abbrev pub after_by : LinkSet → ℕ → Diversion → Option DivertFault → LinkSet
 after_by c l d None = record c {
   links = change d.links l ends_at;
-  table = map (λ s. ends_on (open_links false c.links) l (slice_get d.links l) (link_of d.table s) s) selections;
+  table = map
+      (λ s. ends_on (open_links false c.links) l (slice_get d.links l) (link_of d.table s) s)
+      selections;
 }
-after_by c l d (Some fault) = record c { links = change d.links l (keeps_at d.rest); table = d.table }
+after_by c l d (Some fault) =
+    record c { links = change d.links l (keeps_at d.rest); table = d.table }
 
 unfoldable pub after_divert : LinkSet → ℕ → List Msu → LinkSet
 after_divert c l ms = after_by c l (diverted c l ms).at (diverted c l ms).fault

@@ -1,5 +1,24 @@
 -- Retrievals that are kept.
-use Rattle.std.specs.Prelude.{◌≡◌, ℕ, ◌==◌, ◌<◌, length, take, slice_get, option_map, All, Bool, true, false, List, ◌∷◌, ◌++◌, Option, Some, None}
+use Rattle.std.specs.Prelude.{
+  ◌≡◌,
+  ℕ,
+  ◌==◌,
+  ◌<◌,
+  length,
+  take,
+  slice_get,
+  option_map,
+  All,
+  Bool,
+  true,
+  false,
+  List,
+  ◌∷◌,
+  ◌++◌,
+  Option,
+  Some,
+  None,
+}
 use Rattle.std.specs.List.{list_any}
 use Rattle.resend_store.specs.Messages.{IsMessage}
 use Rattle.link_group.specs.declared.retrieved.Kept.{Kept}
@@ -17,10 +36,13 @@ IsWhole k = All IsMessage k.messages.items
 -- the place of the first that a test finds, if there is one
 abbrev pub IsPlace : (Kept → Bool) → List Kept → Option ℕ → Type 0
 IsPlace test ks None = list_any test ks ≡ false
-IsPlace test ks (Some n) = (n < length ks) × (list_any test (take n ks) ≡ false) × (option_map test (slice_get ks n) ≡ Some true)
+IsPlace test ks (Some n) =
+    (n < length ks) × (list_any test (take n ks) ≡ false)
+    × (option_map test (slice_get ks n) ≡ Some true)
 
 -- The first retrieval of a link was taken out, and the others stay in order.
-pub record TakenOut (l : ℕ) (old : List Kept) (retrieval : Retrieved) (new : List Kept) : Type 0 where
+pub record TakenOut (l : ℕ) (old : List Kept) (retrieval : Retrieved) (new : List Kept) :
+    Type 0 where
   pub front : List Kept
   pub back : List Kept
   pub stood : old ≡ front ++ kept retrieval ∷ back

@@ -28,7 +28,9 @@ places_of c retrievals accepted gone = record {
 
 -- Each message that was accepted stands in one place, or has left, in order for each selection.
 abbrev pub EachInOnePlace : Type 0
-EachInOnePlace = (c : LinkSet) (retrievals : ℕ → List Msu) (accepted : List Msu) (gone : List Gone) → Reached c retrievals accepted gone
+EachInOnePlace =
+    (c : LinkSet) (retrievals : ℕ → List Msu) (accepted : List Msu) (gone : List Gone)
+    → Reached c retrievals accepted gone
     → OnePlace (places_of c retrievals accepted gone)
 
 -- of how many of those that have left it was never known whether they arrived
@@ -37,5 +39,7 @@ unsure_in gone = count_by (λ g. g.unsure) gone
 
 -- That is what the set's count of unsure messages says, up to its greatest value.
 abbrev pub UnsureAreCounted : Type 0
-UnsureAreCounted = (c : LinkSet) (retrievals : ℕ → List Msu) (accepted : List Msu) (gone : List Gone) → Reached c retrievals accepted gone
+UnsureAreCounted =
+    (c : LinkSet) (retrievals : ℕ → List Msu) (accepted : List Msu) (gone : List Gone)
+    → Reached c retrievals accepted gone
     → c.unsure ≡ min (2 ^ 64 - 1) (unsure_in gone)

@@ -26,7 +26,8 @@ all_seen c =
 
 -- ---- a call of one terminal
 
--- a call of the terminal of the link at a place, and what is made of a link that comes into service by it
+-- a call of the terminal of the link at a place, and what is made of a link that comes into service
+-- by it
 pub record ByLink (did : Link → Link → Type 0) (l : ℕ) (c d : LinkSet) : Type 0 where
   pub links : List Link
   pub at : AtLink did l c.links links
@@ -40,7 +41,8 @@ pub record Alone (did : Link → Link → Type 0) (l : ℕ) (c d : LinkSet) : Ty
 
 -- ---- commands
 
--- Why a command was refused, and what came of it. Nothing changed, but that the journal of a terminal that refused it may have room now.
+-- Why a command was refused, and what came of it. Nothing changed, but that the journal of a
+-- terminal that refused it may have room now.
 abbrev pub IsCommandError : Command → ℕ → LinkSet → LinkSet → CommandError → Type 0
 IsCommandError command l c d error.NoLink = (length c.links ≤ l) × (d ≡ c)
 IsCommandError command l c d error.Waiting = Alone (Barred command) l c d × (d ≡ c)

@@ -7,7 +7,7 @@ ghost use Rattle.group_changeover.specs.Changeovers.{Says};
 ghost use Rattle.group_changeover.specs.declared.changeover.Changeover.{Changeover as PlainChangeover};
 ghost use Rattle.group_members.specs.OneLink.{fault_of, retrieve_refusal, abandon_refusal};
 ghost use Rattle.link_group.specs.Set.{send_fault, sent};
-ghost use Rattle.link_group.specs.Changing.{fail_fault, failed, order_at, IsReply, IsRead, after_message, reply_to, retrieve_fault_at, after_retrieve, messages_for, abandon_fault_at, after_abandon, unsent_at};
+ghost use Rattle.link_group.specs.Changing.{fail_fault, after_failure, order_at, IsReply, IsRead, after_message, reply_to, retrieve_fault_at, after_retrieve, messages_for, abandon_fault_at, after_abandon, unsent_at};
 
 use crate::group::{Group, Sif, sif_of};
 use crate::retrieved::Retrieved;
@@ -43,11 +43,11 @@ impl Group {
     /// # Errors
     ///
     /// `K1 NoLink` where it isn't there, `K2 Waiting` where its changeover goes on. Nothing changes then.
-    #[tactic(auto, unfolding(crate::specs::Changing::fail_fault, crate::specs::Changing::failed))]
+    #[tactic(auto, unfolding(crate::specs::Changing::fail_fault, crate::specs::Changing::after_failure))]
     pub fn fail(&mut self, link: usize) -> Result<Sif, FailError>
         ensures fault { fault_of result ≡ fail_fault self.old link }
         ensures order { IfOk result (λ sif. Says sif.items (order_at self.old link)) }
-        ensures ok { OnOk result (self.new ≡ failed self.old link) }
+        ensures ok { OnOk result (self.new ≡ after_failure self.old link) }
         ensures err { OnErr result (self.new ≡ self.old) }
     {
         let kind = fail_at(self.links.as_mut_slice(), link)?;

@@ -1,5 +1,8 @@
--- What a terminal does: each call is one of these steps, on the history of its actors and what it keeps beside them.
-use Rattle.std.specs.Prelude.{ℕ, zero, suc, ◌&&◌, Bool, true, false, nat_lt, cond, if◌then◌else◌, Option, Some, None, List, [], ◌∷◌, length}
+-- What a terminal does: each call is one of these steps, on the history of its actors and what it
+-- keeps beside them.
+use Rattle.std.specs.Prelude.{
+    ℕ, zero, suc, ◌&&◌, Bool, true, false, nat_lt, cond, if◌then◌else◌, Option, Some, None, List,
+    [], ◌∷◌, length}
 use Rattle.su_octets.specs.declared.units.Unit.{Unit}
 use Rattle.actor_machine.specs.Ledger.{Ledger, runs, state_of, refusal_by, ask, room, rebased}
 use Rattle.actor_machine.specs.Step.{Answer, Stuck, Says}
@@ -76,13 +79,15 @@ moved_by t Idle = record { processes = t; goes = false }
 unfoldable pub moved : Processes → Step
 moved t = moved_by (with_book t (least_turn t.book).book) (least_turn t.book).turn
 
--- one turn after another, until none can have one, the journal has no room for it, or there were as many as a rest has at most
+-- one turn after another, until none can have one, the journal has no room for it, or there were as
+-- many as a rest has at most
 unfoldable pub rested : Processes → Processes
 rested t = repeated moved MOST_TURNS t
 
 -- ---- offers
 
--- an event of the book, and a rest behind it; a refused one leaves the book, and the rest is made all the same
+-- an event of the book, and a rest behind it; a refused one leaves the book, and the rest is made
+-- all the same
 unfoldable pub offered : Event → Processes → Processes
 offered e t = rested (with_book t (ask t.book e).book)
 
@@ -123,7 +128,8 @@ sent t = sent_by (with_transceiver t (gone t.transceiver).transceiver) (gone t.t
 
 -- ---- the journal
 
--- where fewer places of the journal are free than that, it is emptied before the next unit, command or tick
+-- where fewer places of the journal are free than that, it is emptied before the next unit, command
+-- or tick
 abbrev pub LOW : ℕ
 LOW = 32768
 

@@ -23,7 +23,9 @@ pub record IsSpoken (d : Draft) (name : SignalName) (k : SignalNumber) : Type 0 
 
 -- the route brings the signal from some process to the environment
 abbrev pub tells : SignalNumber → DraftRoute → Bool
-tells s r = not (is_environment r.from) && (is_environment r.to && list_any (λ (x : SignalNumber). x.0 == s.0) r.signals)
+tells s r =
+    not (is_environment r.from)
+    && (is_environment r.to && list_any (λ (x : SignalNumber). x.0 == s.0) r.signals)
 
 -- such a signal, and a route that brings it from the environment to the process of that name
 pub record HasSent (d : Draft) (to : ProcessName) (name : SignalName) : Type 0 where
@@ -47,7 +49,9 @@ Has d (Heard name) = HasHeard d name
 -- of these, in their order, that one is the first that the set lacks
 pub data IsFirstLacking (d : Draft) (name : Wanted) : List Wanted → Type 0 where
   lacks : {left : List Wanted} → (Has d name → ⊥) → IsFirstLacking d name (name ∷ left)
-  has_first : {w : Wanted} {left : List Wanted} → Has d w → IsFirstLacking d name left → IsFirstLacking d name (w ∷ left)
+  has_first :
+      {w : Wanted} {left : List Wanted} → Has d w → IsFirstLacking d name left
+      → IsFirstLacking d name (w ∷ left)
 
 -- ---- what a terminal wants
 

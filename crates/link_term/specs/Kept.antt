@@ -8,8 +8,8 @@ use Rattle.link_term.specs.Term.{Term}
 abbrev pub window_of : Term → Window
 window_of t = t.processes.transceiver.sender
 
--- Some left, from the front: they were sent, and the far side acknowledged them. All others stand as they stood, and none of them counts as
--- sent that didn't.
+-- Some left, from the front: they were sent, and the far side acknowledged them. All others stand
+-- as they stood, and none of them counts as sent that didn't.
 pub record Took (old new : Term) : Type 0 where
   pub gone : List Msu
   pub loses : Loses gone (window_of old) (window_of new)

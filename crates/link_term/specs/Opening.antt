@@ -13,7 +13,8 @@ use Rattle.link_term.specs.declared.opening.OpenError.{OpenError}
 use Rattle.link_term.specs.declared.opening.OpenError.TheVariants.{NoName, NoMemory}
 use Rattle.link_term.specs.Term.{Term}
 
--- how many signals each port of a terminal holds, how many may wait for the environment, and how many events its journal holds: the most
+-- how many signals each port of a terminal holds, how many may wait for the environment, and how
+-- many events its journal holds: the most
 abbrev pub PORT : ℕ
 PORT = MOST_PORT
 
@@ -23,7 +24,8 @@ ENVIRONMENT = MOST_ENVIRONMENT
 abbrev pub JOURNAL : ℕ
 JOURNAL = MOST_JOURNAL
 
--- The set has all that a terminal wants of it, each by its number. No actor has begun, nothing is kept, nothing came and nothing went.
+-- The set has all that a terminal wants of it, each by its number. No actor has begun, nothing is
+-- kept, nothing came and nothing went.
 pub record IsOver (d : Draft) (mode : Mode) (t : Term) : Type 0 where
   pub has : All (Has d) wanted
   pub names : AreNames d t.processes.names
@@ -32,7 +34,8 @@ pub record IsOver (d : Draft) (mode : Mode) (t : Term) : Type 0 where
   pub line : Stands [] t.line
   pub sending : Gave [] [] t.sending
 
--- a name is the first of those wanted that the set lacks; or it has them all, and there is no memory
+-- a name is the first of those wanted that the set lacks; or it has them all, and there is no
+-- memory
 abbrev pub IsRefusedOver : Draft → OpenError → Type 0
 IsRefusedOver d (NoName name) = IsFirstLacking d name wanted
 IsRefusedOver d NoMemory = All (Has d) wanted

@@ -14,15 +14,18 @@ abbrev pub AreFrames : List (List ℕ) → List units.Unit → Type 0
 AreFrames [] [] = Unit {0}
 AreFrames [] (u ∷ us) = ⊥
 AreFrames (octets ∷ frames) [] = ⊥
-AreFrames (octets ∷ frames) (u ∷ us) = (Frame octets u × SpareBitsAreZero octets) × AreFrames frames us
+AreFrames (octets ∷ frames) (u ∷ us) =
+    (Frame octets u × SpareBitsAreZero octets) × AreFrames frames us
 
 -- line octets grew by the stuffing of these units
-pub record Speaks (old : Stuffer) (before : List ℕ) (us : List units.Unit) (new : Stuffer) (after : List ℕ) : Type 0 where
+pub record Speaks (old : Stuffer) (before : List ℕ) (us : List units.Unit) (new : Stuffer)
+    (after : List ℕ) : Type 0 where
   pub frames : List (List ℕ)
   pub are : AreFrames frames us
   pub more : List ℕ
   pub behind : after ≡ before ++ more
-  pub gave : (given : List ℕ) (sent : List (List ℕ)) → Gave given sent old → Gave (given ++ more) (sent ++ frames) new
+  pub gave : (given : List ℕ) (sent : List (List ℕ)) → Gave given sent old
+      → Gave (given ++ more) (sent ++ frames) new
 
 -- the units that a terminal gives, asked so often one after another
 abbrev pub given : ℕ → Processes → List units.Unit
@@ -39,7 +42,8 @@ pub record Spoke (old : Term) (before : List ℕ) (n : ℕ) (new : Term) (after 
   pub line : new.line ≡ old.line
   pub speaks : Speaks old.sending before (given n old.processes) new.sending after
 
--- So many units were asked for, and went out. They may be fewer where the journal lacks room, but the first isn't missing.
+-- So many units were asked for, and went out. They may be fewer where the journal lacks room, but
+-- the first isn't missing.
 pub record IsSpoken (old : Term) (asked : ℕ) (new : Term) (octets : List ℕ) : Type 0 where
   pub count : ℕ
   pub most : count ≤ asked

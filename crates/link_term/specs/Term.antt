@@ -28,12 +28,14 @@ IsAnswer f (Ok x) a = Says (f x) ≡ a
 IsAnswer f (Err (Refused r)) a = Says (reply.Refused r) ≡ a
 IsAnswer f (Err NoMemory) a = Unit {0}
 
--- Why a tick does not happen: the ticks can't pass once room was made in the journal, or there was no memory for that where it was needed.
+-- Why a tick does not happen: the ticks can't pass once room was made in the journal, or there was
+-- no memory for that where it was needed.
 abbrev pub IsTickError : ℕ → Processes → CallError → Type 0
 IsTickError n t (Refused r) = tick_refusal n (tidied t) ≡ Some r
 IsTickError n t NoMemory = is_low t ≡ true
 
--- A call that is refused leaves the state. Room may have been made in the journal, if there was memory for that where it was needed.
+-- A call that is refused leaves the state. Room may have been made in the journal, if there was
+-- memory for that where it was needed.
 abbrev pub Leaves : Term → Term → CallError → Type 0
 Leaves old new (Refused r) = new ≡ with_processes old (tidied old.processes)
 Leaves old new NoMemory = (new ≡ old) × (is_low old.processes ≡ true)

@@ -1,5 +1,7 @@
 -- What the signals that actors send to the environment do.
-use Rattle.std.specs.Prelude.{ℕ, ℤ, pos, negsuc, ◌-◌, ◌==◌, nat_lt, Bool, true, false, if◌then◌else◌, Option, Some, None, List, [], ◌∷◌, ◌++◌, length, drop}
+use Rattle.std.specs.Prelude.{
+    ℕ, ℤ, pos, negsuc, ◌-◌, ◌==◌, nat_lt, Bool, true, false, if◌then◌else◌, Option, Some, None,
+    List, [], ◌∷◌, ◌++◌, length, drop}
 use Rattle.resend_store.specs.Window.{refreshed}
 use Rattle.resend_store.specs.Intake.{Intake, first_intake}
 use Rattle.link_transceiver.specs.declared.signals.Backward.{Backward}
@@ -35,7 +37,8 @@ renewed h = record h {
 abbrev pub kind_by : ℕ → Option LineKind
 kind_by number =
     if nat_lt number 5 then Some (kind.Status number)
-    else (if number == 8 then Some kind.FillIn else (if number == 9 then Some kind.Messages else None))
+    else (if number == 8 then Some kind.FillIn
+            else (if number == 9 then Some kind.Messages else None))
 
 unfoldable pub kind_named : ℤ → Option LineKind
 kind_named (pos number) = kind_by number
@@ -53,7 +56,8 @@ sends None h = h
 
 -- One busy status goes out first; of any other number the last one counts.
 unfoldable pub directed : ℤ → TransceiverState → TransceiverState
-directed number h = if is_busy_named number then record h { busy = true } else sends (kind_named number) h
+directed number h =
+    if is_busy_named number then record h { busy = true } else sends (kind_named number) h
 
 -- the latest so many; those before them give way
 unfoldable pub latest : List LinkStatus → List LinkStatus
@@ -63,7 +67,8 @@ latest statuses = drop (length statuses - KEPT_STATUSES) statuses
 unfoldable pub told : LinkStatus → TransceiverState → TransceiverState
 told s h = record h { statuses = latest (h.statuses ++ s ∷ []) }
 
--- While acknowledgement is withheld, number and bit stay as they are when that is asked for last, whatever unit comes (Q.703, 9).
+-- While acknowledgement is withheld, number and bit stay as they are when that is asked for last,
+-- whatever unit comes (Q.703, 9).
 abbrev pub withheld_by : Bool → TransceiverState → TransceiverState
 withheld_by true h = record h { withheld = Some (backward_of h.receiver) }
 withheld_by false h = record h { withheld = None }

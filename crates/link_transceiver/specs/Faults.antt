@@ -1,6 +1,7 @@
--- The record of the last three units that went through the stores (Q.703, 5.3: abnormal backward sequence numbers and
--- abnormal forward indicator bits).
-use Rattle.std.specs.Prelude.{◌||◌, nat_le, Bool, true, false, Option, Some, None, List, [], ◌∷◌, take, count_by}
+-- The record of the last three units that went through the stores (Q.703, 5.3: abnormal backward
+-- sequence numbers and abnormal forward indicator bits).
+use Rattle.std.specs.Prelude.{
+    ◌||◌, nat_le, Bool, true, false, Option, Some, None, List, [], ◌∷◌, take, count_by}
 use Rattle.link_transceiver.specs.declared.faults.Fault.{Fault}
 use Rattle.link_transceiver.specs.declared.faults.Fault.TheVariants.{AbnormalBsn, AbnormalFib}
 
@@ -24,4 +25,5 @@ with_newest fault faults = take 3 (fault ∷ faults)
 
 -- whether two of the units had the one fault, or two had the other
 unfoldable pub is_failing : List (Option Fault) → Bool
-is_failing faults = nat_le 2 (count_by is_abnormal_bsn faults) || nat_le 2 (count_by is_abnormal_fib faults)
+is_failing faults =
+    nat_le 2 (count_by is_abnormal_bsn faults) || nat_le 2 (count_by is_abnormal_fib faults)

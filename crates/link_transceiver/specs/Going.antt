@@ -22,14 +22,15 @@ gives w = next w
 unfoldable pub idle_fsn : Window → ℕ
 idle_fsn w = (fill_in w).unit.fsn
 
--- The backward number and bit that go out: those of the receiver, or, while acknowledgement is withheld, those that were the receiver's
--- as that began.
+-- The backward number and bit that go out: those of the receiver, or, while acknowledgement is
+-- withheld, those that were the receiver's as that began.
 abbrev pub backward_out : TransceiverState → Backward
 backward_out h = unwrap_or h.withheld (backward_of h.receiver)
 
 -- the head of a unit around the sender's number and bit
 abbrev pub head_with : TransceiverState → ℕ → ℕ → Head
-head_with h fsn fib = record { bsn = (backward_out h).bsn; bib = (backward_out h).bib; fsn = fsn; fib = fib }
+head_with h fsn fib =
+    record { bsn = (backward_out h).bsn; bib = (backward_out h).bib; fsn = fsn; fib = fib }
 
 -- that of a unit which the sender has no part in
 unfoldable pub idle_head : TransceiverState → Head
@@ -45,7 +46,8 @@ pub record Gone : Type 0 where
 
 -- a link status signal unit with one octet of status
 abbrev pub status_gone : TransceiverState → ℕ → Gone
-status_gone h code = record { transceiver = h; out = Some (quiet (unit.Lssu (idle_head h) code None)) }
+status_gone h code =
+    record { transceiver = h; out = Some (quiet (unit.Lssu (idle_head h) code None)) }
 
 abbrev pub fill_in_gone : TransceiverState → Gone
 fill_in_gone h = record { transceiver = h; out = Some (quiet (unit.Fisu (idle_head h))) }

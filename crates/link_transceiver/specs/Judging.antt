@@ -1,5 +1,7 @@
 -- What a signal unit without errors leads to.
-use Rattle.std.specs.Prelude.{ℕ, ◌%◌, nat_lt, Bool, if◌then◌else◌, Option, Some, None, is_some, Result, Ok, Err, List, [], ◌∷◌, ◌++◌}
+use Rattle.std.specs.Prelude.{
+    ℕ, ◌%◌, nat_lt, Bool, if◌then◌else◌, Option, Some, None, is_some, Result, Ok, Err, List, [],
+    ◌∷◌, ◌++◌}
 use Rattle.resend_store.specs.Window.{Window, count_by, after_back}
 use Rattle.resend_store.specs.Intake.{Intake, Hearing, hear}
 use Rattle.resend_store.specs.declared.messages.Msu.{Msu}
@@ -51,8 +53,8 @@ received hearing msu h = remembered (fault_in hearing.verdict) (record h {
   messages = delivered hearing.verdict msu h.messages;
 })
 
--- What the stores make of a unit: how many messages it acknowledges, and what is kept then. The receiver isn't asked where
--- the backward number is abnormal.
+-- What the stores make of a unit: how many messages it acknowledges, and what is kept then. The
+-- receiver isn't asked where the backward number is abnormal.
 pub record Stored : Type 0 where
   pub transceiver : TransceiverState
   pub count : ℕ
@@ -91,17 +93,23 @@ abbrev pub left_aside : TransceiverState → Judged
 left_aside h = record { transceiver = h; offers = [] }
 
 abbrev pub through : Stored → Judged
-through s = record { transceiver = s.transceiver; offers = acknowledgement_offers s.transceiver s.count ++ fault_offers s.transceiver }
+through s =
+    record { transceiver = s.transceiver; offers = acknowledgement_offers s.transceiver s.count
+        ++ fault_offers s.transceiver }
 
--- A fill-in or message signal unit goes through the stores where that was asked for, else it is left aside.
+-- A fill-in or message signal unit goes through the stores where that was asked for, else it is
+-- left aside.
 unfoldable pub by_stores : TransceiverState → Head → Option Msu → Judged
 by_stores h head msu = if h.take then through (stored h head msu) else left_aside h
 
 -- around it: the monitors first, and at last the kind of the unit, the status code or 8
 abbrev pub of_kind : ℕ → Judged → Judged
-of_kind kind j = record { transceiver = j.transceiver; offers = to_monitors notice.Good ++ j.offers ++ unit_seen kind ∷ [] }
+of_kind kind j =
+    record { transceiver = j.transceiver; offers = to_monitors notice.Good ++ j.offers
+        ++ unit_seen kind ∷ [] }
 
 unfoldable pub judged : TransceiverState → Unit → Judged
 judged h (unit.Fisu head) = of_kind 8 (by_stores h head None)
-judged h (unit.Msu head sio sif) = of_kind 8 (by_stores h head (Some (record { sio = sio; sif = sif })))
+judged h (unit.Msu head sio sif) =
+    of_kind 8 (by_stores h head (Some (record { sio = sio; sif = sif })))
 judged h (unit.Lssu head status second) = of_kind (status % 8) (left_aside h)

@@ -1,5 +1,7 @@
 -- What holds of a transceiver over every list of calls.
-use Rattle.std.specs.Prelude.{◌≡◌, ℕ, pos, ◌+◌, ◌≤◌, ◌&&◌, not, Bool, true, false, if◌then◌else◌, Option, Some, None, Result, Ok, Err, List, [], ◌∷◌, ◌++◌, length, take}
+use Rattle.std.specs.Prelude.{
+    ◌≡◌, ℕ, pos, ◌+◌, ◌≤◌, ◌&&◌, not, Bool, true, false, if◌then◌else◌, Option, Some, None, Result,
+    Ok, Err, List, [], ◌∷◌, ◌++◌, length, take}
 use Rattle.resend_store.specs.Window.{Window, unacknowledged, waiting, count_by}
 use Rattle.resend_store.specs.declared.messages.Msu.{Msu}
 use Rattle.resend_store.specs.declared.messages.Verdict.{Verdict}
@@ -21,8 +23,8 @@ use Rattle.link_transceiver.specs.Judging.{hears, is_abnormal, judged}
 use Rattle.link_transceiver.specs.Going.{gone}
 use Rattle.link_transceiver.specs.Reporting.{reported}
 
--- These messages leave what is kept to send, and nothing else does: they are the oldest, and were sent. Of what stays none counts as
--- sent that didn't.
+-- These messages leave what is kept to send, and nothing else does: they are the oldest, and were
+-- sent. Of what stays none counts as sent that didn't.
 pub record Loses (gone : List Msu) (before after : Window) : Type 0 where
   pub kept : before.kept ≡ gone ++ after.kept
   pub sent : length gone + after.sent ≤ before.sent
@@ -31,10 +33,12 @@ pub record Loses (gone : List Msu) (before after : Window) : Type 0 where
 abbrev pub acknowledged_messages : Window → ℕ → List Msu
 acknowledged_messages w bsn = take (count_by w bsn) (unacknowledged w)
 
--- Those that a fill-in or message signal unit acknowledges: none where such units aren't taken, or where its number is abnormal.
+-- Those that a fill-in or message signal unit acknowledges: none where such units aren't taken, or
+-- where its number is abnormal.
 abbrev pub acknowledged_by : TransceiverState → Head → List Msu
 acknowledged_by h head =
-    if h.take && not (is_abnormal h.sender head.bsn) then acknowledged_messages h.sender head.bsn else []
+    if h.take && not (is_abnormal h.sender head.bsn) then acknowledged_messages h.sender head.bsn
+        else []
 
 -- those that a unit acknowledges
 abbrev pub acknowledged_of : TransceiverState → Unit → List Msu
@@ -42,12 +46,16 @@ acknowledged_of h (unit.Fisu head) = acknowledged_by h head
 acknowledged_of h (unit.Msu head sio sif) = acknowledged_by h head
 acknowledged_of h (unit.Lssu head status second) = []
 
--- Of what is kept to send a unit from the far side takes away the messages that it acknowledges, and those that wait to be sent go on
--- waiting; a signal, a unit that goes out and a report take nothing. By a unit that goes out one more at most counts as sent.
+-- Of what is kept to send a unit from the far side takes away the messages that it acknowledges,
+-- and those that wait to be sent go on waiting; a signal, a unit that goes out and a report take
+-- nothing. By a unit that goes out one more at most counts as sent.
 pub record KeepsUnacknowledged : Type 0 where
   pub on_signal : (s : EnvSignal) (h : TransceiverState) → Loses [] h.sender (effect s h).sender
-  pub on_unit : (h : TransceiverState) (u : Unit) → Loses (acknowledged_of h u) h.sender (judged h u).transceiver.sender
-  pub waits : (h : TransceiverState) (u : Unit) → waiting (judged h u).transceiver.sender ≡ waiting h.sender
+  pub on_unit :
+      (h : TransceiverState) (u : Unit)
+      → Loses (acknowledged_of h u) h.sender (judged h u).transceiver.sender
+  pub waits :
+      (h : TransceiverState) (u : Unit) → waiting (judged h u).transceiver.sender ≡ waiting h.sender
   pub unit_out : (h : TransceiverState) → (gone h).transceiver.sender.kept ≡ h.sender.kept
   pub one_sent : (h : TransceiverState) → (gone h).transceiver.sender.sent ≤ h.sender.sent + 1
   pub report : (h : TransceiverState) → (reported h).transceiver.sender ≡ h.sender
@@ -61,13 +69,15 @@ is_accept (Err e) = false
 -- whether a unit with a message goes to the receiver, and is accepted there
 abbrev pub is_accepted : TransceiverState → Head → Bool
 is_accepted h head =
-    h.take && not (is_abnormal h.sender head.bsn) && is_accept (hears h.receiver head.fsn head.fib true).verdict
+    h.take && not (is_abnormal h.sender head.bsn)
+        && is_accept (hears h.receiver head.fsn head.fib true).verdict
 
 -- the message of a unit, where it is accepted
 abbrev pub accepted_of : TransceiverState → Unit → List Msu
 accepted_of h (unit.Fisu head) = []
 accepted_of h (unit.Lssu head status second) = []
-accepted_of h (unit.Msu head sio sif) = if is_accepted h head then record { sio = sio; sif = sif } ∷ [] else []
+accepted_of h (unit.Msu head sio sif) =
+    if is_accepted h head then record { sio = sio; sif = sif } ∷ [] else []
 
 -- what a report hands out of them
 abbrev pub message_of : Option Report → List Msu
@@ -113,19 +123,24 @@ abbrev pub handed : TransceiverState → List Call → List Msu
 handed h [] = []
 handed h (c ∷ cs) = handed_by h c ++ handed (after_call h c) cs
 
--- What waited and what was accepted is what was handed out, then what waits now: none lost, none twice, all in order.
+-- What waited and what was accepted is what was handed out, then what waits now: none lost, none
+-- twice, all in order.
 abbrev pub HandsOutInOrder : Type 0
-HandsOutInOrder = (h : TransceiverState) (cs : List Call) → h.messages ++ accepted h cs ≡ handed h cs ++ (after h cs).messages
+HandsOutInOrder =
+    (h : TransceiverState) (cs : List Call)
+    → h.messages ++ accepted h cs ≡ handed h cs ++ (after h cs).messages
 
 -- a unit that goes out, if one does, has this backward number and bit
 abbrev pub Tells : Backward → Option UnitOut → Type 0
 Tells b None = Prim.Unit {0}
 Tells b (Some out) = ((head_of out.unit).bsn ≡ b.bsn) × ((head_of out.unit).bib ≡ b.bib)
 
--- While acknowledgement is withheld, each unit that goes out tells of the number and the bit of when that was asked for, whatever was heard
--- since: units that come don't change what is withheld.
+-- While acknowledgement is withheld, each unit that goes out tells of the number and the bit of
+-- when that was asked for, whatever was heard since: units that come don't change what is withheld.
 pub record Withholds : Type 0 where
-  pub begins : (h : TransceiverState) → (effect (signal.Withhold true) h).withheld ≡ Some (backward_of h.receiver)
+  pub begins :
+      (h : TransceiverState)
+      → (effect (signal.Withhold true) h).withheld ≡ Some (backward_of h.receiver)
   pub on_unit : (h : TransceiverState) (u : Unit) → (judged h u).transceiver.withheld ≡ h.withheld
   pub unit_out : (h : TransceiverState) → (gone h).transceiver.withheld ≡ h.withheld
   pub tells : (h : TransceiverState) (b : Backward) → h.withheld ≡ Some b → Tells b (gone h).out
@@ -133,4 +148,6 @@ pub record Withholds : Type 0 where
 
 -- Once a busy status was asked for, it goes out, and everything is as before: so it goes out once.
 abbrev pub BusyGoesOutOnce : Type 0
-BusyGoesOutOnce = (h : TransceiverState) → h.busy ≡ false → (gone (effect (signal.Line (pos 5)) h)).transceiver ≡ h
+BusyGoesOutOnce =
+    (h : TransceiverState) → h.busy ≡ false
+    → (gone (effect (signal.Line (pos 5)) h)).transceiver ≡ h

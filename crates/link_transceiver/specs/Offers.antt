@@ -7,7 +7,8 @@ use Rattle.link_transceiver.specs.declared.offers.Party.TheVariants as party
 
 -- both error rate monitors learn of each unit: that of alignment, then that of the link in service
 abbrev pub to_monitors : Notice → List Offer
-to_monitors n = record { to = party.Aerm; notice = n } ∷ record { to = party.Suerm; notice = n } ∷ []
+to_monitors n =
+    record { to = party.Aerm; notice = n } ∷ record { to = party.Suerm; notice = n } ∷ []
 
 -- messages were acknowledged, and whether some are still sent and not acknowledged
 abbrev pub acknowledgement_seen : Bool → Offer

@@ -14,7 +14,8 @@ pub record Spells (word : List ℕ) (unit : Unit) : Type 0 where
   pub digits : decode_of word ≡ Ok octets
   pub frame : Frame octets unit
 
--- a unit that the word spells, and how many bits its octets are on the line, zeros inserted, between the flags
+-- a unit that the word spells, and how many bits its octets are on the line, zeros inserted,
+-- between the flags
 pub record IsReading (word : List ℕ) (unit : Unit) (line_bits : ℕ) : Type 0 where
   pub octets : List ℕ
   pub digits : decode_of word ≡ Ok octets
@@ -24,4 +25,5 @@ pub record IsReading (word : List ℕ) (unit : Unit) (line_bits : ℕ) : Type 0 
 -- why a word spells no unit: it isn't made of pairs of digits, or the octets are refused
 abbrev pub IsRefused : List ℕ → FrameFault → Type 0
 IsRefused word NotHex = (octets : List ℕ) → decode_of word ≡ Ok octets → ⊥
-IsRefused word (NoUnit fault) = (octets : List ℕ) × (decode_of word ≡ Ok octets) × Refuses octets fault
+IsRefused word (NoUnit fault) =
+    (octets : List ℕ) × (decode_of word ≡ Ok octets) × Refuses octets fault

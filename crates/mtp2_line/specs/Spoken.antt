@@ -17,20 +17,24 @@ AreOrdered None left = left ≡ Some []
 AreOrdered (Some path) left = ⊤
 
 -- how a terminal's run begins: nothing went out, and by which orders is known where there are none
-pub record IsFirst {A : Type 0} (orders : Option A) (term : Term) (first : State LinkEnd) : Type 0 where
+pub record IsFirst {A : Type 0} (orders : Option A) (term : Term) (first : State LinkEnd) :
+    Type 0 where
   pub is_term : first.term.terminal ≡ term
   pub silent : IsSilent first.voice
   pub ordered : AreOrdered orders first.left
 
--- a terminal spoke from its first octet to its last: what was written is what it gave for what was read, behind so many octets of silence
-pub record Spoke {A : Type 0} (orders : Option A) (term : Term) (bits : Bits) (ahead : ℕ) (old new : Line) : Type 0 where
+-- a terminal spoke from its first octet to its last: what was written is what it gave for what was
+-- read, behind so many octets of silence
+pub record Spoke {A : Type 0} (orders : Option A) (term : Term) (bits : Bits) (ahead : ℕ)
+    (old new : Line) : Type 0 where
   pub first : State LinkEnd
   pub is_first : IsFirst orders term first
   pub last : State LinkEnd
   pub count : ℕ
   pub told_before : Option (List ℕ)
   pub told : Option (List ℕ)
-  pub over : IsOver end_acts bits ahead 0 first count last (record { read = old.read; written = old.written; told = told_before })
+  pub over : IsOver end_acts bits ahead 0 first count last
+      (record { read = old.read; written = old.written; told = told_before })
       (record { read = new.read; written = new.written; told = told })
 
 -- so did a new terminal over the set of these bytes
@@ -39,8 +43,10 @@ pub record SpokeOver (end : LineEnd) (old new : Line) (bytes : List ℕ) : Type 
   pub is_new : IsNewOver end.mode term bytes
   pub spoke : Spoke end.orders term end.bits (min end.ahead MOST_AHEAD) old new
 
--- A terminal began to speak: what was written is a beginning of what it gives for octets that were read, behind so many octets of silence.
-pub record Begun {A : Type 0} (orders : Option A) (term : Term) (bits : Bits) (ahead : ℕ) (old new : Line) : Type 0 where
+-- A terminal began to speak: what was written is a beginning of what it gives for octets that were
+-- read, behind so many octets of silence.
+pub record Begun {A : Type 0} (orders : Option A) (term : Term) (bits : Bits) (ahead : ℕ)
+    (old new : Line) : Type 0 where
   pub first : State LinkEnd
   pub is_first : IsFirst orders term first
   pub begun : IsBegun end_acts bits ahead 0 first old new

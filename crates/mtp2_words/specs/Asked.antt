@@ -1,5 +1,7 @@
--- What the words of a command line ask for, by the ids under which they stand in its matches, and why they ask for nothing.
-use Rattle.std.specs.Prelude.{◌≡◌, ◌⊎◌, ℕ, List, Option, Some, None, IsSomeAnd, option_map, option_and_then, codes}
+-- What the words of a command line ask for, by the ids under which they stand in its matches, and
+-- why they ask for nothing.
+use Rattle.std.specs.Prelude.{
+    ◌≡◌, ◌⊎◌, ℕ, List, Option, Some, None, IsSomeAnd, option_map, option_and_then, codes}
 use Rattle.clap.specs.Words.{Row, Text, first_of, first_value, found_of}
 use Rattle.clap.specs.declared.parser.matches.ArgMatches.{ArgMatches}
 use Rattle.mtp2_words.specs.Ends.{IsEndOf, IsNoEnd}
@@ -68,10 +70,12 @@ IsAsked given (Soak script workers) = AsksSoak given script workers
 IsAsked given (Line set end) = AsksLine given set end
 IsAsked given (Frame octets) = given (codes "HEX") ≡ Some octets.now
 
--- the command that was entered, and its rows: its name is that of the request, and its words ask for it
+-- the command that was entered, and its rows: its name is that of the request, and its words ask
+-- for it
 abbrev pub IsAskedBy : Option (Text × List Row) → Request → Type 0
 IsAskedBy None request = ⊥
-IsAskedBy (Some entered) request = (command_of request ≡ entered.0) × IsAsked (given_in entered.1) request
+IsAskedBy (Some entered) request =
+    (command_of request ≡ entered.0) × IsAsked (given_in entered.1) request
 
 -- ---- why they ask for nothing
 
@@ -81,11 +85,13 @@ IsNoCheck given = given (codes "SET") ≡ None
 
 -- `play`: no SET or no SCRIPT, or standard input for both
 abbrev pub IsNoPlay : Given → Type 0
-IsNoPlay given = (given (codes "SET") ≡ None) ⊎ ((given (codes "SCRIPT") ≡ None) ⊎ AreBothStdin given)
+IsNoPlay given =
+    (given (codes "SET") ≡ None) ⊎ ((given (codes "SCRIPT") ≡ None) ⊎ AreBothStdin given)
 
 -- `soak`: no SCRIPT, or no --workers that says how many
 abbrev pub IsNoSoak : Given → Type 0
-IsNoSoak given = (given (codes "SCRIPT") ≡ None) ⊎ (option_and_then workers_of (given (codes "workers")) ≡ None)
+IsNoSoak given =
+    (given (codes "SCRIPT") ≡ None) ⊎ (option_and_then workers_of (given (codes "workers")) ≡ None)
 
 -- words are there for an end of a link, and one of them says nothing
 pub record SaysNoEnd (given : Given) : Type 0 where
@@ -95,7 +101,9 @@ pub record SaysNoEnd (given : Given) : Type 0 where
 
 -- `line`: standard input as --text, no MODE, or words that say no end
 abbrev pub IsNoLine : Given → Type 0
-IsNoLine given = (given (codes "text") ≡ Some (codes "stdin")) ⊎ ((given (codes "MODE") ≡ None) ⊎ SaysNoEnd given)
+IsNoLine given =
+    (given (codes "text") ≡ Some (codes "stdin"))
+    ⊎ ((given (codes "MODE") ≡ None) ⊎ SaysNoEnd given)
 
 -- `frame`: no HEX
 abbrev pub IsNoFrame : Given → Type 0

@@ -19,19 +19,29 @@ check_command = with_rule (new_app (codes "check")) (plain_word (codes "SET"))
 
 -- `play SET SCRIPT`
 abbrev pub play_command : App
-play_command = with_rule (with_rule (new_app (codes "play")) (plain_word (codes "SET"))) (plain_word (codes "SCRIPT"))
+play_command =
+    with_rule (with_rule (new_app (codes "play")) (plain_word (codes "SET")))
+    (plain_word (codes "SCRIPT"))
 
 -- `soak SCRIPT --workers N`, which has to be there
 abbrev pub soak_command : App
-soak_command = with_rule (with_rule (new_app (codes "soak")) (plain_word (codes "SCRIPT"))) (record (option_word (codes "workers")) { required = true })
+soak_command =
+    with_rule (with_rule (new_app (codes "soak")) (plain_word (codes "SCRIPT")))
+    (record (option_word (codes "workers")) { required = true })
 
 -- `line MODE`, with --text, without the other options
 abbrev pub line_begun : App
-line_begun = with_rule (with_rule (new_app (codes "line")) (plain_word (codes "MODE"))) (option_word (codes "text"))
+line_begun =
+    with_rule (with_rule (new_app (codes "line")) (plain_word (codes "MODE")))
+    (option_word (codes "text"))
 
 -- a command with the options that say what an end of a link does on its line
 abbrev pub with_line_options : App → App
-with_line_options command = with_rule (with_rule (with_rule (with_rule command (option_word (codes "orders"))) (option_word (codes "reports")))
+with_line_options command =
+    with_rule
+    (with_rule
+        (with_rule (with_rule command (option_word (codes "orders")))
+        (option_word (codes "reports")))
     (option_word (codes "bits"))) (option_word (codes "ahead"))
 
 -- `line MODE`, with all options
@@ -44,11 +54,17 @@ frame_command = with_rule (new_app (codes "frame")) (plain_word (codes "HEX"))
 
 -- the program without its commands, of which one has to be named
 abbrev pub program_begun : App
-program_begun = record (new_app (codes "mtp2_play")) { top = record (new_shape (codes "mtp2_play")) { subcommand_required = true } }
+program_begun =
+    record (new_app (codes "mtp2_play")) { top = record
+        (new_shape (codes "mtp2_play")) { subcommand_required = true } }
 
 -- the program with its commands
 abbrev pub all_commands : App
-all_commands = with_subcommand (with_subcommand (with_subcommand (with_subcommand (with_subcommand program_begun check_command.top) play_command.top)
+all_commands =
+    with_subcommand
+    (with_subcommand
+        (with_subcommand
+        (with_subcommand (with_subcommand program_begun check_command.top) play_command.top)
     soak_command.top) line_command.top) frame_command.top
 
 -- a word of the command is one of its commands' too

@@ -1,5 +1,7 @@
 -- What words say of one end of a link.
-use Rattle.std.specs.Prelude.{◌≡◌, ◌⊎◌, ℕ, nat_le, if◌then◌else◌, List, Option, Some, None, option_map, option_and_then, bytes_eq, codes}
+use Rattle.std.specs.Prelude.{
+    ◌≡◌, ◌⊎◌, ℕ, nat_le, if◌then◌else◌, List, Option, Some, None, option_map, option_and_then,
+    bytes_eq, codes}
 use Rattle.script_lines.specs.Numbers.{count_of}
 use Rattle.script_links.specs.Orders.{mode_named}
 use Rattle.line_filter.specs.Filters.{MOST_AHEAD}
@@ -10,7 +12,9 @@ use Rattle.mtp2_words.specs.declared.ends.LineWords.{LineWords}
 
 -- which bit of an octet is the first on the line
 abbrev pub bits_named : List ℕ → Option Bits
-bits_named word = if bytes_eq word (codes "low") then Some Low else (if bytes_eq word (codes "high") then Some High else None)
+bits_named word =
+    if bytes_eq word (codes "low") then Some Low
+    else (if bytes_eq word (codes "high") then Some High else None)
 
 -- the lowest, where there is no word
 abbrev pub bits_of : Option (List ℕ) → Option Bits
@@ -39,4 +43,6 @@ pub record IsEndOf (words : LineWords) (end : LineEnd) : Type 0 where
 
 -- one of them says nothing
 abbrev pub IsNoEnd : LineWords → Type 0
-IsNoEnd words = (mode_named words.mode.now ≡ None) ⊎ (bits_of (option_map (λ w. w.now) words.bits) ≡ None) ⊎ (ahead_of (option_map (λ w. w.now) words.ahead) ≡ None)
+IsNoEnd words =
+    (mode_named words.mode.now ≡ None) ⊎ (bits_of (option_map (λ w. w.now) words.bits) ≡ None)
+    ⊎ (ahead_of (option_map (λ w. w.now) words.ahead) ≡ None)

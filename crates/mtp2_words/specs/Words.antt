@@ -1,5 +1,6 @@
 -- What a command line asks for.
-use Rattle.std.specs.Prelude.{◌≡◌, ℕ, if◌then◌else◌, List, Option, Some, None, option_and_then, codes}
+use Rattle.std.specs.Prelude.{
+    ◌≡◌, ℕ, if◌then◌else◌, List, Option, Some, None, option_and_then, codes}
 use Rattle.std.specs.Int.{is_in_range}
 use Rattle.plain_limits.specs.Limits.{LEAST_WORKERS, MOST_WORKERS}
 use Rattle.script_lines.specs.Numbers.{count_of}
@@ -57,7 +58,8 @@ workers_of word = option_and_then as_many (count_of word)
 abbrev pub IsSoak : List ℕ → List ℕ → Request → Type 0
 IsSoak script_word workers_word (Check set) = ⊥
 IsSoak script_word workers_word (Play set script) = ⊥
-IsSoak script_word workers_word (Soak script workers) = IsSource script script_word × (workers_of workers_word ≡ Some workers)
+IsSoak script_word workers_word (Soak script workers) =
+    IsSource script script_word × (workers_of workers_word ≡ Some workers)
 IsSoak script_word workers_word (Line set end) = ⊥
 IsSoak script_word workers_word (Frame octets) = ⊥
 

@@ -1,4 +1,5 @@
--- Limits of sets, of links and of pools; each is this profile's choice: Z.100 and Q.703 bound none of them.
+-- Limits of sets, of links and of pools; each is this profile's choice: Z.100 and Q.703 bound none
+-- of them.
 use Rattle.std.specs.Prelude.{ℕ, ◌^◌}
 
 -- ---- a set (S10, V8)
@@ -109,7 +110,8 @@ MOST_TURNS_BEGUN = 2 ^ 40
 abbrev pub LAST_PLACE : ℕ
 LAST_PLACE = 2 ^ 56
 
--- a number that no place in a journal reaches: events that were promised a place before the last one still get theirs
+-- a number that no place in a journal reaches: events that were promised a place before the last
+-- one still get theirs
 abbrev pub PAST_PLACES : ℕ
 PAST_PLACES = 2 ^ 57
 

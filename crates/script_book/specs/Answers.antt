@@ -1,5 +1,6 @@
 -- What each command of a book script makes of a book, and the line that it prints.
-use Rattle.std.specs.Prelude.{ℕ, zero, suc, List, [], ◌++◌, Option, None, Some, Result, Ok, Err, option_map, slice_get, codes}
+use Rattle.std.specs.Prelude.{
+    ℕ, zero, suc, List, [], ◌++◌, Option, None, Some, Result, Ok, Err, option_map, slice_get, codes}
 use Rattle.std.specs.Fmt.{decimal}
 use Rattle.turn_code.specs.declared.value.Value.{Value}
 use Rattle.turn_code.specs.declared.draft.Draft.{Draft}
@@ -18,10 +19,12 @@ use Rattle.actor_machine.specs.declared.reply.Reply.{Reply}
 use Rattle.actor_machine.specs.declared.reply.Reply.TheVariants as reply
 use Rattle.actor_book.specs.Shown.{variable_of}
 use Rattle.actor_book.specs.Turns.{MOST_TURNS, rests, refusal_in}
-use Rattle.script_lines.specs.Commands.{PlainOffer, PlainCommand, offer, flood, call, tick, env, rest, value, expect}
+use Rattle.script_lines.specs.Commands.{
+    PlainOffer, PlainCommand, offer, flood, call, tick, env, rest, value, expect}
 use Rattle.script_lines.specs.declared.verbs.Call.{Call}
 use Rattle.script_lines.specs.declared.verbs.Call.TheVariants.{Begin, Finish, Skip, State}
-use Rattle.script_lines.specs.Replies.{begun_text, finished_text, skipped_text, taken_text, standing_text, value_text}
+use Rattle.script_lines.specs.Replies.{
+    begun_text, finished_text, skipped_text, taken_text, standing_text, value_text}
 use Rattle.script_lines.specs.Refused.{refused_text}
 
 -- ---- names
@@ -123,7 +126,9 @@ abbrev pub offered_by : Ledger → List Value → Option Called → Option ℕ �
 offered_by b values None s = record { book = b; refusal = Some NoActor }
 offered_by b values (Some x) None = record { book = b; refusal = Some NoRoute }
 offered_by b values (Some x) (Some s) =
-    took b (event.Offer (record { actor = x.number; signal = record { 0 = s }; values = record { items = values } }))
+    took b (event.Offer
+            (record { actor = x.number; signal = record { 0 = s };
+            values = record { items = values } }))
 
 -- why a call was refused, if it was
 abbrev pub why : {A : Type 0} → Result A Refusal → Option Refusal
@@ -148,7 +153,9 @@ goes_on first others (Some r) = first
 -- so many offers, with a rest after each, up to the first that is refused
 unfoldable pub floods : ℕ → PlainOffer → Ledger → Took
 floods zero o b = record { book = b; refusal = None }
-floods (suc k) o b = goes_on (offered b o) (floods k o (rests MOST_TURNS (offered b o).book).book) (offered b o).refusal
+floods (suc k) o b =
+    goes_on (offered b o) (floods k o (rests MOST_TURNS (offered b o).book).book)
+    (offered b o).refusal
 
 abbrev pub flooded : ℕ → PlainOffer → Ledger → Option Refusal → Took
 flooded n o b None = floods n o b
@@ -164,14 +171,16 @@ done t = record { book = t.book; line = done_text t.refusal }
 -- ---- rests
 
 abbrev pub rested : Ledger → Answered
-rested b = record { book = (rests MOST_TURNS b).book; line = codes "rest " ++ decimal (rests MOST_TURNS b).turns }
+rested b = record { book = (rests MOST_TURNS b).book; line = codes "rest "
+        ++ decimal (rests MOST_TURNS b).turns }
 
 -- ---- all commands
 
 -- what a command makes of a book, and the line that it prints; `expect` is nothing to a book
 unfoldable pub obeyed : Ledger → PlainCommand → Answered
 obeyed b (offer o) = done (offered b o)
-obeyed b (flood n o) = done (flooded n o b (looked_up (actor_named b o.process) (signal_named b o.signal)))
+obeyed b (flood n o) =
+    done (flooded n o b (looked_up (actor_named b o.process) (signal_named b o.signal)))
 obeyed b (call c name) = calls b c (actor_named b name)
 obeyed b (tick n) = by_event b 0 (event.Advance n)
 obeyed b env = by_event b 0 event.TakeEnv

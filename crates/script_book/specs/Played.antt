@@ -18,15 +18,19 @@ use Rattle.script_book.specs.declared.printer.Printer.{Printer}
 abbrev pub first_book : Draft → Settings → Ledger
 first_book d s = opened_book d s.ports s.env s.journal
 
--- A run from a book on: the commands that were obeyed, the lines that they printed, the book now, and the line printed last. Each command
--- makes of the book, and prints, what `obeyed` says, but `expect`, which prints nothing and holds where the line before is the one that
--- it names.
-pub data Goes (b : Ledger) : List PlainSaid → List (List ℕ) → Ledger → Option (List ℕ) → Type 0 where
+-- A run from a book on: the commands that were obeyed, the lines that they printed, the book now,
+-- and the line printed last. Each command makes of the book, and prints, what `obeyed` says, but
+-- `expect`, which prints nothing and holds where the line before is the one that it names.
+pub data Goes (b : Ledger) :
+    List PlainSaid → List (List ℕ) → Ledger → Option (List ℕ) → Type 0 where
   begins : Goes b [] [] b None
-  prints : {commands : List PlainSaid} {lines : List (List ℕ)} {now : Ledger} {last : Option (List ℕ)} (said : PlainSaid)
+  prints : {commands : List PlainSaid} {lines : List (List ℕ)} {now : Ledger} {last : Option
+          (List ℕ)} (said : PlainSaid)
       → ((text : List ℕ) → said.command ≡ expect text → ⊥) → Goes b commands lines now last
-      → Goes b (commands ++ said ∷ []) (lines ++ (obeyed now said.command).line ∷ []) (obeyed now said.command).book (Some (obeyed now said.command).line)
-  holds : {commands : List PlainSaid} {lines : List (List ℕ)} {now : Ledger} {text : List ℕ} (said : PlainSaid)
+      → Goes b (commands ++ said ∷ []) (lines ++ (obeyed now said.command).line
+              ∷ []) (obeyed now said.command).book (Some (obeyed now said.command).line)
+  holds : {commands : List PlainSaid} {lines : List (List ℕ)} {now : Ledger} {text : List ℕ}
+      (said : PlainSaid)
       → said.command ≡ expect text → Goes b commands lines now (Some text)
       → Goes b (commands ++ said ∷ []) lines now (Some text)
 
@@ -37,14 +41,17 @@ last_in p = option_map (λ line. line.items) p.last
 abbrev pub last_of : Player → Option (List ℕ)
 last_of p = last_in p.printer
 
--- these commands were obeyed, one after another, and what is written grew by their lines, each with its end
-pub record IsRun (b : Ledger) (commands : List PlainSaid) (old new : Option (List ℕ)) (now : Ledger) (last : Option (List ℕ)) : Type 0 where
+-- these commands were obeyed, one after another, and what is written grew by their lines, each with
+-- its end
+pub record IsRun (b : Ledger) (commands : List PlainSaid) (old new : Option (List ℕ)) (now : Ledger)
+    (last : Option (List ℕ)) : Type 0 where
   pub lines : List (List ℕ)
   pub goes : Goes b commands lines now last
   pub written : Appends old new (flat_map line_of lines)
 
 -- the same, whatever the book is now, and was printed last
-pub record IsWritten (b : Ledger) (commands : List PlainSaid) (old new : Option (List ℕ)) : Type 0 where
+pub record IsWritten (b : Ledger) (commands : List PlainSaid) (old new : Option (List ℕ)) :
+    Type 0 where
   pub now : Ledger
   pub last : Option (List ℕ)
   pub run : IsRun b commands old new now last
@@ -53,8 +60,10 @@ pub record IsWritten (b : Ledger) (commands : List PlainSaid) (old new : Option 
 abbrev pub missed_text : ℕ → List ℕ
 missed_text line = codes "failed line " ++ decimal line
 
--- an expectation fails: the line before isn't the one that it names, and what is written grows by the line that says so
-pub record Misses (line : ℕ) (Expects : List ℕ → Type 0) (last old new : Option (List ℕ)) : Type 0 where
+-- an expectation fails: the line before isn't the one that it names, and what is written grows by
+-- the line that says so
+pub record Misses (line : ℕ) (Expects : List ℕ → Type 0) (last old new : Option (List ℕ)) :
+    Type 0 where
   pub text : List ℕ
   pub expects : Expects text
   pub other : last ≡ Some text → ⊥
@@ -64,7 +73,8 @@ abbrev pub IsMissedBy : PlainSaid → Option (List ℕ) → Option (List ℕ) �
 IsMissedBy said last old new = Misses said.line (λ text. said.command ≡ expect text) last old new
 
 -- the commands up to an expectation were obeyed, and that fails; nothing else is written
-pub record IsMissed (b : Ledger) (commands : List PlainSaid) (old new : Option (List ℕ)) : Type 0 where
+pub record IsMissed (b : Ledger) (commands : List PlainSaid) (old new : Option (List ℕ)) :
+    Type 0 where
   pub before : List PlainSaid
   pub said : PlainSaid
   pub after : List PlainSaid

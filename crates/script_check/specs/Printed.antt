@@ -29,11 +29,14 @@ refusal_line fault = line_of (codes "refused " ++ fault_text fault)
 -- ---- what transitions cost
 
 abbrev pub costs_text : Cert → List ℕ
-costs_text cert = codes "budget " ++ decimal cert.budget ++ codes " depth " ++ decimal cert.depth ++ codes " effects " ++ decimal cert.effects
+costs_text cert =
+    codes "budget " ++ decimal cert.budget ++ codes " depth " ++ decimal cert.depth
+    ++ codes " effects " ++ decimal cert.effects
 
 -- the name of the signal, or of the timer of a process, that an input waits for
 abbrev pub trigger_text : List DraftSignal → List (List ℕ) → Trigger → List ℕ
-trigger_text signals timers (Signal n) = unwrap_or (option_map (λ (s : DraftSignal). s.name) (slice_get signals n.0)) []
+trigger_text signals timers (Signal n) =
+    unwrap_or (option_map (λ (s : DraftSignal). s.name) (slice_get signals n.0)) []
 trigger_text signals timers (Timer n) = unwrap_or (slice_get timers n.0) []
 
 -- `PROCESS START budget B depth D effects E`
@@ -42,7 +45,9 @@ start_line p = line_of (p.name ++ codes " START " ++ costs_text p.start.certific
 
 -- `PROCESS STATE/INPUT budget B depth D effects E`
 abbrev pub input_line : List DraftSignal → DraftProcess → DraftState → DraftInput → List ℕ
-input_line signals p q i = line_of (p.name ++ codes " " ++ q.name ++ codes "/" ++ trigger_text signals p.timers i.trigger ++ codes " " ++ costs_text i.piece.certificate)
+input_line signals p q i =
+    line_of (p.name ++ codes " " ++ q.name ++ codes "/" ++ trigger_text signals p.timers i.trigger
+        ++ codes " " ++ costs_text i.piece.certificate)
 
 -- the lines of the inputs of a state, in text order
 abbrev pub state_lines : List DraftSignal → DraftProcess → DraftState → List ℕ

@@ -11,7 +11,7 @@ use Rattle.group_changeover.specs.declared.changeover.Changeover.{Changeover}
 use Rattle.su_octets.specs.Bits.{AreOctets}
 use Rattle.group_changeover.specs.Changeovers.{Says}
 use Rattle.link_group.specs.Set.{LinkSet, send_fault, sent}
-use Rattle.link_group.specs.Changing.{fail_fault, failed, order_at, IsReply}
+use Rattle.link_group.specs.Changing.{fail_fault, after_failure, order_at, IsReply}
 use Rattle.link_group.specs.Commanding.{Commanded}
 use Rattle.link_group.specs.Lines.{ByLink, IsCommandError}
 use Rattle.link_group.specs.Placing.{rebalance_fault, rebalanced}
@@ -121,7 +121,7 @@ fails_at l c d w text said is makes fails =
     subst Q (sym makes) (subst P (sym is) fails)
 
 pub fails_ok : (l : ℕ) (c d : LinkSet) (octets sif text : List ℕ) → octets ≡ sif → AreOctets sif → text ≡ octets_line octets
-    → None ≡ fail_fault c l → Says sif (order_at c l) → d ≡ failed c l → Fails l c text d
+    → None ≡ fail_fault c l → Says sif (order_at c l) → d ≡ after_failure c l → Fails l c text d
 fails_ok l c d octets sif text same fit is fault says makes =
     fails_at l c d _ text _ (is ∙ ap octets_line same) makes (answers.fails_begins sif (sym fault) fit says)
 

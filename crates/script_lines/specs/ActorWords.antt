@@ -1,5 +1,7 @@
 -- Which actor a word of a script names.
-use Rattle.std.specs.Prelude.{ℕ, suc, ◌==◌, nat_lt, Bool, List, [], ◌∷◌, length, map, Option, None, Some, option_map, if◌then◌else◌}
+use Rattle.std.specs.Prelude.{
+    ℕ, suc, ◌==◌, nat_lt, Bool, List, [], ◌∷◌, length, map, Option, None, Some, option_map,
+    if◌then◌else◌}
 use Rattle.std.specs.List.{position_or_len, before_first, after_first}
 use Rattle.std.specs.Char.{to_ascii_lowercase}
 use Rattle.std.specs.Str.{bytes_eq}
@@ -18,7 +20,8 @@ same_name a b = bytes_eq (map to_ascii_lowercase a) (map to_ascii_lowercase b)
 -- the number of the first of these names that is that one but for case, if one is
 unfoldable pub number_of : List (List ℕ) → List ℕ → Option ℕ
 number_of [] name = None
-number_of (x ∷ xs) name = if same_name x name then Some 0 else option_map (λ n. suc n) (number_of xs name)
+number_of (x ∷ xs) name =
+    if same_name x name then Some 0 else option_map (λ n. suc n) (number_of xs name)
 
 -- ---- the two parts of a word
 
@@ -40,7 +43,9 @@ instance_part word = if has_dot word then count_of (after_first is_dot word) els
 
 -- instance k of process p, by its number among the actors
 abbrev pub actor_at : Draft → ℕ → ℕ → Option Called
-actor_at d p k = option_map (λ n. let c : Called = record { name = named p k; number = n } in c) (place_of (named p k) (actors_of d.processes))
+actor_at d p k =
+    option_map (λ n. let c : Called = record { name = named p k; number = n }
+        in c) (place_of (named p k) (actors_of d.processes))
 
 abbrev pub called_by : Draft → Option ℕ → Option ℕ → Option Called
 called_by d None k = None
@@ -49,4 +54,5 @@ called_by d (Some p) (Some k) = actor_at d p k
 
 -- the actor that a word names, if it names one
 unfoldable pub actor_called : Draft → List ℕ → Option Called
-actor_called d word = called_by d (number_of (process_names d) (process_part word)) (instance_part word)
+actor_called d word =
+    called_by d (number_of (process_names d) (process_part word)) (instance_part word)

@@ -1,5 +1,8 @@
--- The lines that are printed for what a link answers, as bytes without their ends: names as they are declared, numbers in decimal.
-use Rattle.std.specs.Prelude.{ℕ, List, [], ◌∷◌, ◌++◌, ◌==◌, nat_lt, if◌then◌else◌, Option, None, Some, codes, slice_get, unwrap_or, length}
+-- The lines that are printed for what a link answers, as bytes without their ends: names as they
+-- are declared, numbers in decimal.
+use Rattle.std.specs.Prelude.{
+    ℕ, List, [], ◌∷◌, ◌++◌, ◌==◌, nat_lt, if◌then◌else◌, Option, None, Some, codes, slice_get,
+    unwrap_or, length}
 use Rattle.std.specs.List.{flat_map}
 use Rattle.std.specs.Fmt.{decimal, signed_decimal}
 use Rattle.turn_code.specs.declared.value.Value.{Value}
@@ -11,7 +14,8 @@ use Rattle.turn_code.specs.declared.input.Place.TheVariants.{Start, State}
 use Rattle.turn_code.specs.declared.draft.Draft.{Draft}
 use Rattle.turn_code.specs.declared.draft.Trigger.{Trigger}
 use Rattle.turn_code.specs.declared.draft.Trigger.TheVariants.{Signal, Timer}
-use Rattle.turn_check.specs.Named.{instances_at, process_names, signal_names, timer_names, state_names, trigger_at}
+use Rattle.turn_check.specs.Named.{
+    instances_at, process_names, signal_names, timer_names, state_names, trigger_at}
 use Rattle.actor_machine.specs.declared.name.ActorName.{ActorName}
 use Rattle.actor_machine.specs.declared.actor.Standing.{Standing}
 use Rattle.actor_machine.specs.declared.actor.Standing.TheVariants.{At, Stopped}
@@ -48,7 +52,8 @@ value_text (Truth b) = if b then codes "true" else codes "false"
 -- `START`, or `STATE/INPUT`
 abbrev pub place_text : Draft → ℕ → Place → ℕ → List ℕ
 place_text d p Start number = codes "START"
-place_text d p (State q) number = state_text d p q.0 ++ codes "/" ++ input_text d p (trigger_at d p q.0 number)
+place_text d p (State q) number =
+    state_text d p q.0 ++ codes "/" ++ input_text d p (trigger_at d p q.0 number)
 
 abbrev pub begun_text : Draft → ℕ → Place → ℕ → List ℕ
 begun_text d p s number = codes "ok " ++ place_text d p s number
@@ -76,10 +81,13 @@ abbrev pub instance_text : ℕ → ℕ → List ℕ
 instance_text n k = if nat_lt 1 n then codes "." ++ decimal k else []
 
 abbrev pub sender_text : Draft → ActorName → List ℕ
-sender_text d x = process_text d x.process.0 ++ instance_text (instances_at d x.process.0) x.instance.0
+sender_text d x =
+    process_text d x.process.0 ++ instance_text (instances_at d x.process.0) x.instance.0
 
 abbrev pub taken_text : Draft → Emitted → List ℕ
-taken_text d x = sender_text d x.sender ++ codes " " ++ signal_text d x.signal.0 ++ flat_map (λ v. 32 ∷ value_text v) x.parameters.items
+taken_text d x =
+    sender_text d x.sender ++ codes " " ++ signal_text d x.signal.0
+    ++ flat_map (λ v. 32 ∷ value_text v) x.parameters.items
 
 -- ---- states
 

@@ -1,5 +1,7 @@
 -- What a line of a link set's script reads as.
-use Rattle.std.specs.Prelude.{ℕ, Bool, nat_le, ◌&&◌, if◌then◌else◌, List, [], ◌∷◌, length, Option, None, Some, option_map, option_and_then, codes}
+use Rattle.std.specs.Prelude.{
+    ℕ, Bool, nat_le, ◌&&◌, if◌then◌else◌, List, [], ◌∷◌, length, Option, None, Some, option_map,
+    option_and_then, codes}
 use Rattle.std.specs.Str.{bytes_eq}
 use Rattle.script_lines.specs.Numbers.{count_of}
 use Rattle.script_links.specs.Octets.{octets_of}
@@ -45,7 +47,8 @@ plain_group_command (code.Own word) = own word
 
 -- ---- those that only a link set has
 
--- a service information octet, and behind it a field that begins with a label of four octets, 272 octets at most
+-- a service information octet, and behind it a field that begins with a label of four octets, 272
+-- octets at most
 abbrev pub is_labelled : List ℕ → Bool
 is_labelled octets = nat_le 5 (length octets) && nat_le (length octets) 273
 
@@ -83,12 +86,14 @@ group_word_text words.Unsure = codes "unsure"
 -- the first of these that has the text
 abbrev pub group_word_among : List ℕ → List GroupWord → Option GroupWord
 group_word_among word [] = None
-group_word_among word (x ∷ more) = if bytes_eq word (group_word_text x) then Some x else group_word_among word more
+group_word_among word (x ∷ more) =
+    if bytes_eq word (group_word_text x) then Some x else group_word_among word more
 
 unfoldable pub group_word_of : List ℕ → Option GroupWord
 group_word_of word =
     group_word_among word
-    (words.Fail ∷ words.Retrieve ∷ words.Abandon ∷ words.Divert ∷ words.Rebalance ∷ words.Table ∷ words.Held ∷ words.Unsure ∷ [])
+    (words.Fail ∷ words.Retrieve ∷ words.Abandon ∷ words.Divert ∷ words.Rebalance ∷ words.Table
+            ∷ words.Held ∷ words.Unsure ∷ [])
 
 abbrev pub group_verb_text : GroupVerb → List ℕ
 group_verb_text verbs.On = codes "on"
@@ -97,7 +102,8 @@ group_verb_text verbs.Message = codes "message"
 
 abbrev pub group_verb_among : List ℕ → List GroupVerb → Option GroupVerb
 group_verb_among word [] = None
-group_verb_among word (verb ∷ more) = if bytes_eq word (group_verb_text verb) then Some verb else group_verb_among word more
+group_verb_among word (verb ∷ more) =
+    if bytes_eq word (group_verb_text verb) then Some verb else group_verb_among word more
 
 unfoldable pub group_verb_of : List ℕ → Option GroupVerb
 group_verb_of word = group_verb_among word (verbs.On ∷ verbs.Send ∷ verbs.Message ∷ [])
@@ -108,12 +114,14 @@ by_group_verb verbs.On word = option_map on (count_of word)
 by_group_verb verbs.Send word = sending_by (octets_of word)
 by_group_verb verbs.Message word = option_map message (octets_of word)
 
-abbrev pub by_group_first : Option GroupVerb → List ℕ → Option PlainGroupCommand → Option PlainGroupCommand
+abbrev pub by_group_first :
+    Option GroupVerb → List ℕ → Option PlainGroupCommand → Option PlainGroupCommand
 by_group_first (Some verb) word as_shared = by_group_verb verb word
 by_group_first None word as_shared = as_shared
 
 abbrev pub group_command_of : List (List ℕ) → Option PlainGroupCommand
 group_command_of (word ∷ []) = option_map own (group_word_of word)
 group_command_of (first ∷ word ∷ []) =
-    by_group_first (group_verb_of first) word (option_and_then shared_of (term_command_of (first ∷ word ∷ [])))
+    by_group_first (group_verb_of first) word
+        (option_and_then shared_of (term_command_of (first ∷ word ∷ [])))
 group_command_of words = option_and_then shared_of (term_command_of words)

@@ -1,13 +1,18 @@
--- What a script reads as: one for a link set where its first line says so, else one of another kind.
-use Rattle.std.specs.Prelude.{ℕ, ◌≡◌, ◌≤◌, Bool, nat_lt, if◌then◌else◌, List, [], ◌∷◌, length, map, Option, None, Some, option_map, is_none, find, Result, Ok, Err}
+-- What a script reads as: one for a link set where its first line says so, else one of another
+-- kind.
+use Rattle.std.specs.Prelude.{
+    ℕ, ◌≡◌, ◌≤◌, Bool, nat_lt, if◌then◌else◌, List, [], ◌∷◌, length, map, Option, None, Some,
+    option_map, is_none, find, Result, Ok, Err}
 use Rattle.std.specs.List.{filter_map}
 use Rattle.plain_text.specs.Reading.{LONGEST}
 use Rattle.script_lines.specs.Lines.{PlainLine, lines_of, line_at}
 use Rattle.script_lines.specs.declared.script.ScriptFault.{ScriptFault}
 use Rattle.script_lines.specs.declared.script.ScriptFault.TheVariants.{BadLine, NoMemory}
-use Rattle.script_links.specs.TermScripts.{PlainAnyScript, plain_any_script, any_script_of, IsInRange}
+use Rattle.script_links.specs.TermScripts.{
+    PlainAnyScript, plain_any_script, any_script_of, IsInRange}
 use Rattle.script_links.specs.Heads.{MOST_LINKS, head_of}
-use Rattle.script_links.specs.GroupCommands.{PlainGroupCommand, plain_group_command, group_command_of}
+use Rattle.script_links.specs.GroupCommands.{
+    PlainGroupCommand, plain_group_command, group_command_of}
 use Rattle.script_links.specs.declared.heads.GroupHead.{GroupHead}
 use Rattle.script_links.specs.declared.group_script.GroupSaid.{GroupSaid}
 use Rattle.script_links.specs.declared.group_script.GroupScript.{GroupScript}
@@ -26,7 +31,9 @@ abbrev pub is_bad_group : PlainLine → Bool
 is_bad_group line = is_none (group_command_of line.words)
 
 abbrev pub group_said_of : PlainLine → Option PlainGroupSaid
-group_said_of line = option_map (λ command. record { line = line.number; command = command }) (group_command_of line.words)
+group_said_of line =
+    option_map (λ command. record { line = line.number; command = command })
+    (group_command_of line.words)
 
 pub record PlainGroupScript : Type 0 where
   pub head : GroupHead
@@ -54,14 +61,16 @@ IsFit (code.Group s) = IsFew s.head.links
 
 -- commands, or the number of the first line that is none
 abbrev pub group_by : GroupHead → List PlainLine → Option PlainLine → Result PlainPlayScript ℕ
-group_by head lines None = Ok (group (record { head = head; commands = filter_map group_said_of lines }))
+group_by head lines None =
+    Ok (group (record { head = head; commands = filter_map group_said_of lines }))
 group_by head lines (Some line) = Err line.number
 
 abbrev pub as_other : Result PlainAnyScript ℕ → Result PlainPlayScript ℕ
 as_other (Ok s) = Ok (other s)
 as_other (Err line) = Err line
 
-abbrev pub play_by : List PlainLine → Result PlainAnyScript ℕ → Option GroupHead → Result PlainPlayScript ℕ
+abbrev pub play_by :
+    List PlainLine → Result PlainAnyScript ℕ → Option GroupHead → Result PlainPlayScript ℕ
 play_by more as_any None = as_other as_any
 play_by more as_any (Some head) = group_by head more (find is_bad_group more)
 
@@ -69,9 +78,12 @@ abbrev pub play_in : List PlainLine → Result PlainAnyScript ℕ → Result Pla
 play_in [] as_any = as_other as_any
 play_in (line ∷ more) as_any = play_by more as_any (head_of line.words)
 
--- what a text reads as, or the number of its first bad line; of a text that is too long that of the first byte too many
+-- what a text reads as, or the number of its first bad line; of a text that is too long that of the
+-- first byte too many
 unfoldable pub play_script_of : List ℕ → Result PlainPlayScript ℕ
-play_script_of text = if nat_lt LONGEST (length text) then Err (line_at text LONGEST) else play_in (lines_of text) (any_script_of text)
+play_script_of text =
+    if nat_lt LONGEST (length text) then Err (line_at text LONGEST)
+    else play_in (lines_of text) (any_script_of text)
 
 -- what a refusal says of a reading; want of memory says nothing
 abbrev pub Tells : Result PlainPlayScript ℕ → ScriptFault → Type 0
@@ -80,5 +92,6 @@ Tells reading NoMemory = Unit {0}
 
 -- the first line that is no command has this number
 abbrev pub IsBadGroupLine : List PlainLine → ScriptFault → Type 0
-IsBadGroupLine lines (BadLine number) = option_map (λ (line : PlainLine). line.number) (find is_bad_group lines) ≡ Some number
+IsBadGroupLine lines (BadLine number) =
+    option_map (λ (line : PlainLine). line.number) (find is_bad_group lines) ≡ Some number
 IsBadGroupLine lines NoMemory = Unit {0}

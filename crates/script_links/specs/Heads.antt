@@ -1,5 +1,6 @@
 -- The first line of a link set's script.
-use Rattle.std.specs.Prelude.{ℕ, nat_le, ◌&&◌, if◌then◌else◌, List, [], ◌∷◌, Option, None, Some, option_and_then, codes}
+use Rattle.std.specs.Prelude.{
+    ℕ, nat_le, ◌&&◌, if◌then◌else◌, List, [], ◌∷◌, Option, None, Some, option_and_then, codes}
 use Rattle.std.specs.Str.{bytes_eq}
 use Rattle.resend_store.specs.declared.messages.Mode.{Mode}
 use Rattle.script_lines.specs.Numbers.{count_of}
@@ -24,7 +25,8 @@ head_with (Some mode) (Some links) = Some (record { mode = mode; links = links }
 
 -- `group`, the kind of error correction, and how many links
 abbrev pub head_by : List ℕ → List ℕ → List ℕ → Option GroupHead
-head_by word mode number = if bytes_eq word (codes "group") then head_with (mode_named mode) (links_of number) else None
+head_by word mode number =
+    if bytes_eq word (codes "group") then head_with (mode_named mode) (links_of number) else None
 
 abbrev pub head_of : List (List ℕ) → Option GroupHead
 head_of (word ∷ mode ∷ number ∷ []) = head_by word mode number

@@ -1,8 +1,10 @@
 -- What a line of a terminal's script reads as.
-use Rattle.std.specs.Prelude.{ℕ, Bool, if◌then◌else◌, List, [], ◌∷◌, Option, None, Some, option_map, option_and_then, codes}
+use Rattle.std.specs.Prelude.{
+    ℕ, Bool, if◌then◌else◌, List, [], ◌∷◌, Option, None, Some, option_map, option_and_then, codes}
 use Rattle.std.specs.Str.{bytes_eq}
 use Rattle.script_lines.specs.Numbers.{count_of}
-use Rattle.script_lines.specs.Commands.{PlainCommand, command_of, call, tick, value, expect, offer, flood, env, rest}
+use Rattle.script_lines.specs.Commands.{
+    PlainCommand, command_of, call, tick, value, expect, offer, flood, env, rest}
 use Rattle.script_lines.specs.declared.verbs.Call.{Call}
 use Rattle.script_lines.specs.declared.verbs.Call.TheVariants.{Begin, Finish, Skip, State}
 use Rattle.script_links.specs.Orders.{order_of}
@@ -40,7 +42,8 @@ plain_term_command (code.Expect text) = expected text.items
 -- ---- those that only a terminal has
 
 -- a choice of octets
-abbrev pub where_so : (List ℕ → Bool) → (List ℕ → PlainTermCommand) → List ℕ → Option PlainTermCommand
+abbrev pub where_so :
+    (List ℕ → Bool) → (List ℕ → PlainTermCommand) → List ℕ → Option PlainTermCommand
 where_so test make octets = if test octets then Some (make octets) else None
 
 abbrev pub unit_by : Option (List ℕ) → Option PlainTermCommand
@@ -79,10 +82,12 @@ term_verb_text verbs.Out = codes "out"
 -- the first of these verbs that has the text
 abbrev pub term_verb_among : List ℕ → List TermVerb → Option TermVerb
 term_verb_among word [] = None
-term_verb_among word (verb ∷ more) = if bytes_eq word (term_verb_text verb) then Some verb else term_verb_among word more
+term_verb_among word (verb ∷ more) =
+    if bytes_eq word (term_verb_text verb) then Some verb else term_verb_among word more
 
 unfoldable pub term_verb_of : List ℕ → Option TermVerb
-term_verb_of word = term_verb_among word (verbs.Order ∷ verbs.Unit ∷ verbs.Line ∷ verbs.Msu ∷ verbs.Out ∷ [])
+term_verb_of word =
+    term_verb_among word (verbs.Order ∷ verbs.Unit ∷ verbs.Line ∷ verbs.Msu ∷ verbs.Out ∷ [])
 
 -- what the word behind it reads as
 abbrev pub by_term_verb : TermVerb → List ℕ → Option PlainTermCommand
@@ -97,5 +102,6 @@ by_first (Some verb) word as_shared = by_term_verb verb word
 by_first None word as_shared = as_shared
 
 abbrev pub term_command_of : List (List ℕ) → Option PlainTermCommand
-term_command_of (first ∷ word ∷ []) = by_first (term_verb_of first) word (option_and_then shared_of (command_of (first ∷ word ∷ [])))
+term_command_of (first ∷ word ∷ []) =
+    by_first (term_verb_of first) word (option_and_then shared_of (command_of (first ∷ word ∷ [])))
 term_command_of words = option_and_then shared_of (command_of words)

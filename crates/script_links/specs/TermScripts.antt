@@ -1,5 +1,7 @@
 -- What a script reads as: one for a terminal where its first line says so, else one for a book.
-use Rattle.std.specs.Prelude.{ℕ, ◌≡◌, Bool, nat_lt, if◌then◌else◌, List, [], ◌∷◌, length, map, Option, None, Some, option_map, is_none, find, Result, Ok, Err}
+use Rattle.std.specs.Prelude.{
+    ℕ, ◌≡◌, Bool, nat_lt, if◌then◌else◌, List, [], ◌∷◌, length, map, Option, None, Some, option_map,
+    is_none, find, Result, Ok, Err}
 use Rattle.std.specs.List.{filter_map}
 use Rattle.plain_text.specs.Reading.{LONGEST}
 use Rattle.resend_store.specs.declared.messages.Mode.{Mode}
@@ -26,7 +28,9 @@ abbrev pub is_bad_term : PlainLine → Bool
 is_bad_term line = is_none (term_command_of line.words)
 
 abbrev pub term_said_of : PlainLine → Option PlainTermSaid
-term_said_of line = option_map (λ command. record { line = line.number; command = command }) (term_command_of line.words)
+term_said_of line =
+    option_map (λ command. record { line = line.number; command = command })
+    (term_command_of line.words)
 
 pub record PlainTermScript : Type 0 where
   pub mode : Mode
@@ -50,7 +54,8 @@ IsInRange (code.Terminal s) = Unit {0}
 
 -- commands, or the number of the first line that is none
 abbrev pub term_by : Mode → List PlainLine → Option PlainLine → Result PlainAnyScript ℕ
-term_by mode lines None = Ok (terminal (record { mode = mode; commands = filter_map term_said_of lines }))
+term_by mode lines None =
+    Ok (terminal (record { mode = mode; commands = filter_map term_said_of lines }))
 term_by mode lines (Some line) = Err line.number
 
 abbrev pub as_book : Result PlainScript ℕ → Result PlainAnyScript ℕ
@@ -65,9 +70,12 @@ abbrev pub any_in : List PlainLine → Result PlainScript ℕ → Result PlainAn
 any_in [] as_other = as_book as_other
 any_in (line ∷ more) as_other = any_by more as_other (mode_of line.words)
 
--- what a text reads as, or the number of its first bad line; of a text that is too long that of the first byte too many
+-- what a text reads as, or the number of its first bad line; of a text that is too long that of the
+-- first byte too many
 unfoldable pub any_script_of : List ℕ → Result PlainAnyScript ℕ
-any_script_of text = if nat_lt LONGEST (length text) then Err (line_at text LONGEST) else any_in (lines_of text) (script_of text)
+any_script_of text =
+    if nat_lt LONGEST (length text) then Err (line_at text LONGEST)
+    else any_in (lines_of text) (script_of text)
 
 -- what a refusal says of a reading; want of memory says nothing
 abbrev pub Tells : Result PlainAnyScript ℕ → ScriptFault → Type 0
@@ -76,5 +84,6 @@ Tells reading NoMemory = Unit {0}
 
 -- the first line that is no command has this number
 abbrev pub IsBadTermLine : List PlainLine → ScriptFault → Type 0
-IsBadTermLine lines (BadLine number) = option_map (λ (line : PlainLine). line.number) (find is_bad_term lines) ≡ Some number
+IsBadTermLine lines (BadLine number) =
+    option_map (λ (line : PlainLine). line.number) (find is_bad_term lines) ≡ Some number
 IsBadTermLine lines NoMemory = Unit {0}

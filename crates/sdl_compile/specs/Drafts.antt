@@ -1,7 +1,9 @@
--- What a draft says of a process: names and numbers in the order of the text, and pieces that do what the transitions mean.
+-- What a draft says of a process: names and numbers in the order of the text, and pieces that do
+-- what the transitions mean.
 use Rattle.std.specs.Prelude.{◌≡◌, ℕ, ◌≤◌, List, [], ◌∷◌, length, map, Option, Some, None, IsSome}
 use Rattle.std.specs.List.{AllZip}
-use Rattle.plain_limits.specs.Limits.{MOST_PARAMETERS, MOST_SIGNALS, MOST_STATES, MOST_TIMERS_EACH, MOST_VARIABLES}
+use Rattle.plain_limits.specs.Limits.{
+    MOST_PARAMETERS, MOST_SIGNALS, MOST_STATES, MOST_TIMERS_EACH, MOST_VARIABLES}
 use Rattle.sdl_ast.specs.declared.expression.Identifier.{Identifier}
 use Rattle.sdl_ast.specs.Plain.{PlainProcess, PlainBlock}
 use Rattle.turn_code.specs.declared.variable_set.VariableSet.{VariableSet}
@@ -12,7 +14,9 @@ use Rattle.turn_code.specs.declared.draft.DraftState.{DraftState}
 use Rattle.turn_code.specs.declared.draft.DraftProcess.{DraftProcess}
 use Rattle.turn_code.specs.Run.{run}
 use Rattle.turn_code.specs.Sets.{initial_set}
-use Rattle.sdl_tables.specs.Names.{Input, number_of, variables_of, timers_of, states_of, inputs_by_state, saves_by_state, signal_names}
+use Rattle.sdl_tables.specs.Names.{
+    Input, number_of, variables_of, timers_of, states_of, inputs_by_state, saves_by_state,
+    signal_names}
 use Rattle.sdl_sound.specs.Longest.{Piece, piece_size, start_piece, input_piece}
 use Rattle.sdl_sound.specs.Settled.{AreSettled}
 use Rattle.sdl_meaning.specs.Act.{Act, scope_of}
@@ -23,9 +27,11 @@ use Rattle.sdl_meaning.specs.Declarations.{drafted_variables, trigger_of, trigge
 
 -- ---- what a draft says
 
--- On every input that comes from who may have sent it (where no route brings it there is none), the run of the piece is the meaning of the transition: its
--- effects, its variables, its end and its count (one that doesn't fit is stuck in the same way). The code stands in its order: of an Integer DECISION the body of ELSE
--- before the answers', and the connections behind all, each once. The certificate names the longest path, and the code has as many instructions as the text says.
+-- On every input that comes from who may have sent it (where no route brings it there is none), the
+-- run of the piece is the meaning of the transition: its effects, its variables, its end and its
+-- count (one that doesn't fit is stuck in the same way). The code stands in its order: of an
+-- Integer DECISION the body of ELSE before the answers', and the connections behind all, each once.
+-- The certificate names the longest path, and the code has as many instructions as the text says.
 pub record Means (c : Scope) (from : Option Identifier) (q : Piece) (d : DraftPiece) : Type 0 where
   pub run_is_act : (x : code_input.Input) → IsSentTo c from x.sender → run d.code x ≡ Act c q x
   pub code : IsCodeOf c q d.code
@@ -47,7 +53,8 @@ IsNamedAs id d = d.name ≡ id.name
 abbrev pub SavesAll : Scope → List Identifier → DraftState → Type 0
 SavesAll c ids d = d.saves ≡ map (trigger_of c) ids
 
--- the draft of a process of a block: as many instances; variables, timers, states, inputs and saves have their names and numbers in the order of the text
+-- the draft of a process of a block: as many instances; variables, timers, states, inputs and saves
+-- have their names and numbers in the order of the text
 pub record MatchesProcess (b : PlainBlock) (p : PlainProcess) (d : DraftProcess) : Type 0 where
   pub name : d.name ≡ p.name.name
   pub instances : d.instances ≡ p.instances
@@ -62,7 +69,9 @@ pub record MatchesProcess (b : PlainBlock) (p : PlainProcess) (d : DraftProcess)
 
 -- a name of a signal, or of a timer of the process
 abbrev pub IsTrigger : Scope → Identifier → Type 0
-IsTrigger c id = number_of (signal_names c.block) id.name ≡ None → IsSome (number_of (timers_of c.process) id.name)
+IsTrigger c id =
+    number_of (signal_names c.block) id.name ≡ None
+    → IsSome (number_of (timers_of c.process) id.name)
 
 -- an input whose names are all there, with places for its parameters, within the limits
 pub record IsReadyInput (c : Scope) (i : Input) : Type 0 where

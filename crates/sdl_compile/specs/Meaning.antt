@@ -34,9 +34,11 @@ pub record IsMeant (b : PlainBlock) (n : ℕ) (s : Place) (i : ℕ) (x : Input) 
   pub piece_there : piece_at process s i ≡ Some piece
   pub act : r ≡ Act (scope_of b process) piece x
 
--- Each transition of the draft, on each input that fits it, runs as the block's transition at the same place means.
+-- Each transition of the draft, on each input that fits it, runs as the block's transition at the
+-- same place means.
 pub record RunsAsMeant (b : PlainBlock) (d : Draft) : Type 0 where
-  pub each : (n : ℕ) (s : Place) (i : ℕ) (t : Transition) (x : Input) → transition_at d n s i ≡ Some t → FitsTransition d t x
+  pub each : (n : ℕ) (s : Place) (i : ℕ) (t : Transition) (x : Input)
+      → transition_at d n s i ≡ Some t → FitsTransition d t x
       → IsMeant b n s i x (run t.piece.code x)
 
 -- what matches a sound block runs as the block means

@@ -18,7 +18,8 @@ use Rattle.sdl_compile.specs.Made.{IsLongestOf}
 use Rattle.sdl_compile.specs.Blocks.{MatchesBlock}
 use Rattle.sdl_compile.specs.Meaning.{piece_at, RunsAsMeant}
 
--- what a transition gives on an input, or how it gets stuck; where there is no such transition, that is outside of the text
+-- what a transition gives on an input, or how it gets stuck; where there is no such transition,
+-- that is outside of the text
 abbrev pub meant_by : Scope → Option Piece → Input → Result Outcome Trouble
 meant_by c None x = Err Outside
 meant_by c (Some q) x = result_in (Act c q x)
@@ -41,10 +42,12 @@ pub record IsCertifiedBy (b : PlainBlock) (n : ℕ) (s : Place) (i : ℕ) (k : C
 
 -- so for each transition of the draft
 pub record IsCertifiedAs (b : PlainBlock) (d : Draft) : Type 0 where
-  pub each : (n : ℕ) (s : Place) (i : ℕ) (t : Transition) → transition_at d n s i ≡ Some t → IsCertifiedBy b n s i t.piece.certificate
+  pub each : (n : ℕ) (s : Place) (i : ℕ) (t : Transition) → transition_at d n s i ≡ Some t
+      → IsCertifiedBy b n s i t.piece.certificate
 
--- The draft is the block's: its names and numbers; on each input that fits, the run of each transition gives what the block's transition at the same
--- place means; and each certificate names the longest path.
+-- The draft is the block's: its names and numbers; on each input that fits, the run of each
+-- transition gives what the block's transition at the same place means; and each certificate names
+-- the longest path.
 pub record IsSetOf (b : PlainBlock) (d : Draft) : Type 0 where
   pub matches : MatchesBlock b d
   pub runs : RunsAsMeant b d

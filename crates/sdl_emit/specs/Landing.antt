@@ -1,6 +1,7 @@
--- Where the bodies of a DECISION begin and where the jumps at their ends stand, and what is put in the places that were kept
--- for what is known only behind them.
-use Rattle.std.specs.Prelude.{ℕ, ◌+◌, Bool, true, false, List, [], ◌∷◌, ◌++◌, length, if◌then◌else◌, slice_set}
+-- Where the bodies of a DECISION begin and where the jumps at their ends stand, and what is put in
+-- the places that were kept for what is known only behind them.
+use Rattle.std.specs.Prelude.{
+    ℕ, ◌+◌, Bool, true, false, List, [], ◌∷◌, ◌++◌, length, if◌then◌else◌, slice_set}
 use Rattle.std.specs.List.{list_any}
 use Rattle.sdl_ast.specs.Plain.{Text, Choice, nothing_else, otherwise, answer}
 use Rattle.turn_code.specs.declared.numbers.CodePlace.{CodePlace}
@@ -17,7 +18,8 @@ code_place n = record { 0 = n }
 abbrev pub starts_from : Scope → ℕ → Choice → List CodePlace
 starts_from c n nothing_else = []
 starts_from c n (otherwise body) = []
-starts_from c n (answer at rs body others) = code_place n ∷ starts_from c (n + body_size c body) others
+starts_from c n (answer at rs body others) =
+    code_place n ∷ starts_from c (n + body_size c body) others
 
 -- the jump that ends a body which goes on, and the place of it
 abbrev pub left_jump : Bool → List Instruction
@@ -33,7 +35,8 @@ leave_place c to n body = if goes_on body then (n + length (text_code c to n bod
 abbrev pub answers_leave : Scope → (ℕ → ℕ) → ℕ → Choice → List ℕ
 answers_leave c to n nothing_else = []
 answers_leave c to n (otherwise body) = []
-answers_leave c to n (answer at rs body others) = leave_place c to n body ++ answers_leave c to (n + body_size c body) others
+answers_leave c to n (answer at rs body others) =
+    leave_place c to n body ++ answers_leave c to (n + body_size c body) others
 
 abbrev pub else_leave : Scope → (ℕ → ℕ) → ℕ → Choice → List ℕ
 else_leave c to n nothing_else = []
@@ -64,14 +67,18 @@ abbrev pub behind_first : List CodePlace → List CodePlace
 behind_first [] = []
 behind_first (q ∷ qs) = qs
 
--- where the body for a truth value stands, if those of the answers begin at these places and that of ELSE at another
+-- where the body for a truth value stands, if those of the answers begin at these places and that
+-- of ELSE at another
 abbrev pub picked_by : CodePlace → List CodePlace → Choice → Bool → CodePlace
 picked_by p starts nothing_else b = p
 picked_by p starts (otherwise body) b = p
-picked_by p starts (answer at rs body others) b = if list_any (names_truth b) rs then first_or p starts else picked_by p (behind_first starts) others b
+picked_by p starts (answer at rs body others) b =
+    if list_any (names_truth b) rs then first_or p starts
+    else picked_by p (behind_first starts) others b
 
 -- the tests of an Integer DECISION, if the bodies of the answers begin at these places
 abbrev pub tests_by : List CodePlace → Choice → List Instruction
 tests_by starts nothing_else = []
 tests_by starts (otherwise body) = i.Drop ∷ []
-tests_by starts (answer at rs body others) = ranges_code (first_or (code_place 0) starts).0 rs ++ tests_by (behind_first starts) others
+tests_by starts (answer at rs body others) =
+    ranges_code (first_or (code_place 0) starts).0 rs ++ tests_by (behind_first starts) others

@@ -1,8 +1,10 @@
--- What is kept of transitions while they are read statement by statement: each DECISION that is open
--- keeps what stands before it and what was read of it.
+-- What is kept of transitions while they are read statement by statement: each DECISION that is
+-- open keeps what stands before it and what was read of it.
 use Rattle.std.specs.Prelude.{[], ◌∷◌, ◌++◌, List, Option}
 use Rattle.sdl_ast.specs.declared.tree.End.{End}
-use Rattle.sdl_ast.specs.Plain.{Text, Choice, nothing_else, otherwise, PlainAction, PlainStatement, act, decide, PlainAnswer, PlainQuestion, PlainHead, all_before, all_answers}
+use Rattle.sdl_ast.specs.Plain.{
+    Text, Choice, nothing_else, otherwise, PlainAction, PlainStatement, act, decide, PlainAnswer,
+    PlainQuestion, PlainHead, all_before, all_answers}
 use Rattle.sdl_ast.specs.Views.{end_text}
 use Rattle.sdl_ast.specs.Heights.{high_in_statement}
 use Rattle.sdl_expressions.specs.Machine.{Build, whole_trees, low_trees}
@@ -34,7 +36,8 @@ whole_texts = record {
   no_statement = [];
   no_answer = [];
   acts = λ ss action. ss ++ act action ∷ [];
-  decides = λ ss asked answers others. ss ++ decide asked.at asked.question (all_answers answers others) ∷ [];
+  decides = λ ss asked answers others. ss
+      ++ decide asked.at asked.question (all_answers answers others) ∷ [];
   answers = λ answers h text. answers ++ plain_answer_of h text ∷ [];
   no_else = nothing_else;
   with_else = λ text. otherwise text;
@@ -42,7 +45,8 @@ whole_texts = record {
 }
 
 -- the same up to what is too high, and from there on its place alone
-abbrev pub marked_texts : Keeping (Marked (List PlainStatement)) (Marked (List PlainAnswer)) (Marked Choice) (Marked Text)
+abbrev pub marked_texts :
+    Keeping (Marked (List PlainStatement)) (Marked (List PlainAnswer)) (Marked Choice) (Marked Text)
 marked_texts = record {
   trees = low_trees;
   no_statement = kept [];
@@ -55,15 +59,18 @@ marked_texts = record {
   ended = λ ss last. map_marked (λ xs. all_before xs (end_text last)) ss;
 }
 
--- a DECISION that is open: the statements before it, its question, and the answers that are read whole
+-- a DECISION that is open: the statements before it, its question, and the answers that are read
+-- whole
 pub record Branching (S A : Type 0) : Type 0 where
   pub before : S
   pub asked : PlainQuestion
   pub answers : A
 
 -- one answer more that is read whole
-abbrev pub with_answer : {S A C T : Type 0} → Keeping S A C T → Branching S A → PlainHead → T → Branching S A
-with_answer k d h text = record { before = d.before; asked = d.asked; answers = k.answers d.answers h text }
+abbrev pub with_answer :
+    {S A C T : Type 0} → Keeping S A C T → Branching S A → PlainHead → T → Branching S A
+with_answer k d h text =
+    record { before = d.before; asked = d.asked; answers = k.answers d.answers h text }
 
 -- what a body is read for: a head of an open DECISION, none for ELSE
 pub record Body (S A : Type 0) : Type 0 where

@@ -10,25 +10,29 @@ abbrev pub Grammar : Type 0 → Type 1
 Grammar A = List Token → A → List Token → Type 0
 
 -- no token: it reads as this value
-pub record Gives {A : Type 0} (value : A) (tokens : List Token) (x : A) (rest : List Token) : Type 0 where
+pub record Gives {A : Type 0} (value : A) (tokens : List Token) (x : A) (rest : List Token) :
+    Type 0 where
   pub same : x ≡ value
   pub none : rest ≡ tokens
 
 -- one token that stands for something
-pub record Takes {A : Type 0} (f : Token → Option A) (tokens : List Token) (x : A) (rest : List Token) : Type 0 where
+pub record Takes {A : Type 0} (f : Token
+        → Option A) (tokens : List Token) (x : A) (rest : List Token) : Type 0 where
   pub one : Token
   pub first : tokens ≡ one ∷ rest
   pub stands : f one ≡ Some x
 
 -- one grammar, and then a second one, which may depend on what was read
-pub record Then {A B : Type 0} (p : Grammar A) (q : A → Grammar B) (tokens : List Token) (y : B) (rest : List Token) : Type 0 where
+pub record Then {A B : Type 0} (p : Grammar A) (q : A
+        → Grammar B) (tokens : List Token) (y : B) (rest : List Token) : Type 0 where
   pub value : A
   pub between : List Token
   pub before : p tokens value between
   pub after : q value between y rest
 
 -- things in a row: there is one more exactly where a token that begins one stands next
-pub data Many {A B : Type 0} (f : Token → Option B) (p : Grammar A) : List Token → List A → List Token → Type 0 where
+pub data Many {A B : Type 0} (f : Token → Option B) (p : Grammar A) :
+    List Token → List A → List Token → Type 0 where
   no_more : (ts : List Token) → begins f ts ≡ false → Many f p ts [] ts
   one_more : (ts us vs : List Token) (x : A) (xs : List A) → begins f ts ≡ true → p ts x us
       → Many f p us xs vs → Many f p ts (x ∷ xs) vs
@@ -56,7 +60,8 @@ optional f p = choice f (p >>= λ x. give (Some x)) (give None)
 
 -- { , p } behind a first thing
 abbrev pub separated_from : {A : Type 0} → A → Grammar A → Grammar (List A)
-separated_from x p = many (a_symbol Comma) (token (a_symbol Comma) >>= λ _. p) >>= λ xs. give (x ∷ xs)
+separated_from x p =
+    many (a_symbol Comma) (token (a_symbol Comma) >>= λ _. p) >>= λ xs. give (x ∷ xs)
 
 -- p { , p }
 abbrev pub separated : {A : Type 0} → Grammar A → Grammar (List A)

@@ -1,6 +1,8 @@
 -- What is read, or the place of the first TASK, OUTPUT, SET or DECISION in it that is too high.
 use Rattle.std.specs.Prelude.{ℕ, min, List, [], ◌∷◌, ◌++◌, Option, Some, None}
-use Rattle.sdl_ast.specs.Plain.{PlainAnswer, Choice, PlainStatement, decide, all_answers, PlainQuestion, PlainStart, PlainDeclaration, PlainState, PlainConnection, PlainProcessHead, PlainProcess}
+use Rattle.sdl_ast.specs.Plain.{
+    PlainAnswer, Choice, PlainStatement, decide, all_answers, PlainQuestion, PlainStart,
+    PlainDeclaration, PlainState, PlainConnection, PlainProcessHead, PlainProcess}
 use Rattle.sdl_ast.specs.Heights.{high_in_statement}
 
 pub data Marked (A : Type 0) : Type 0 where
@@ -34,21 +36,33 @@ gathered [] = kept []
 gathered (m ∷ ms) = in_front m (gathered ms)
 
 -- a DECISION, marked at its own place where what stands in it is marked or where it is too high
-abbrev pub decided : PlainQuestion → Marked (List PlainAnswer) → Marked Choice → Marked PlainStatement
-decided asked (kept answers) (kept others) = marked high_in_statement (decide asked.at asked.question (all_answers answers others))
+abbrev pub decided :
+    PlainQuestion → Marked (List PlainAnswer) → Marked Choice → Marked PlainStatement
+decided asked (kept answers) (kept others) =
+    marked high_in_statement (decide asked.at asked.question (all_answers answers others))
 decided asked (kept answers) (too_high at) = too_high asked.at
 decided asked (too_high at) others = too_high asked.at
 
-abbrev pub process_with : PlainProcessHead → List PlainDeclaration → PlainStart → List PlainState → List PlainConnection → PlainProcess
-process_with head declarations start states connections = record { name = head.name; instances = head.instances; declarations = declarations; start = start; states = states; connections = connections }
+abbrev pub process_with :
+    PlainProcessHead → List PlainDeclaration → PlainStart → List PlainState → List PlainConnection
+    → PlainProcess
+process_with head declarations start states connections =
+    record { name = head.name; instances = head.instances; declarations = declarations;
+        start = start; states = states; connections = connections }
 
 -- STATE parts and CONNECTIONs stand mixed in the text, so the lesser of two marks stays
-abbrev pub body_marked : PlainProcessHead → List PlainDeclaration → PlainStart → Marked (List PlainState) → Marked (List PlainConnection) → Marked PlainProcess
-body_marked head declarations start (kept states) (kept connections) = kept (process_with head declarations start states connections)
+abbrev pub body_marked :
+    PlainProcessHead → List PlainDeclaration → PlainStart → Marked (List PlainState)
+    → Marked (List PlainConnection) → Marked PlainProcess
+body_marked head declarations start (kept states) (kept connections) =
+    kept (process_with head declarations start states connections)
 body_marked head declarations start (kept states) (too_high at) = too_high at
 body_marked head declarations start (too_high at) (kept connections) = too_high at
 body_marked head declarations start (too_high at) (too_high other) = too_high (min at other)
 
-abbrev pub process_marked : PlainProcessHead → List PlainDeclaration → Marked PlainStart → Marked (List PlainState) → Marked (List PlainConnection) → Marked PlainProcess
-process_marked head declarations (kept start) states connections = body_marked head declarations start states connections
+abbrev pub process_marked :
+    PlainProcessHead → List PlainDeclaration → Marked PlainStart → Marked (List PlainState)
+    → Marked (List PlainConnection) → Marked PlainProcess
+process_marked head declarations (kept start) states connections =
+    body_marked head declarations start states connections
 process_marked head declarations (too_high at) states connections = too_high at

@@ -12,7 +12,8 @@ Stops (Unexpected left) r = r ≡ fails left.now
 Stops NoMemory r = Unit {0}
 
 -- the thing that was read and the rest, or where no reading goes on
-abbrev pub Mirrors : {A B : Type 0} → (A → B) → Result (A × Bor (List Token)) Stop → Reading B → Type 0
+abbrev pub Mirrors :
+    {A B : Type 0} → (A → B) → Result (A × Bor (List Token)) Stop → Reading B → Type 0
 Mirrors view (Ok found) r = r ≡ read (view found.0) found.1.now
 Mirrors view (Err stop) r = Stops stop r
 

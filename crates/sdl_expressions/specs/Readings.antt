@@ -1,5 +1,6 @@
 -- Reading with one token of sight: what a list of tokens reads as, and where a reading stops.
-use Rattle.std.specs.Prelude.{◌≡◌, ℕ, Bool, true, false, List, [], ◌∷◌, ◌++◌, Option, Some, None, length, suc, zero, ◌<◌, ◌≤◌}
+use Rattle.std.specs.Prelude.{
+    ◌≡◌, ℕ, Bool, true, false, List, [], ◌∷◌, ◌++◌, Option, Some, None, length, suc, zero, ◌<◌, ◌≤◌}
 use Rattle.sdl_lex.specs.declared.lexemes.Token.{Token}
 use Rattle.sdl_lex.specs.declared.lexemes.Symbol.TheVariants.{Open, Close, Comma}
 use Rattle.sdl_expressions.specs.Tokens.{begins, a_symbol}
@@ -44,7 +45,8 @@ optional f p = choice f (p >>= λ x. give (Some x)) (give None)
 -- things in a row, at most so many
 unfoldable pub many_for : {A B : Type 0} → (Token → Option B) → At A → ℕ → At (List A)
 many_for f p zero = λ ts. fails ts
-many_for f p (suc n) = λ ts. either (begins f ts) (p >>= λ x. many_for f p n >>= λ xs. give (x ∷ xs)) (give []) ts
+many_for f p (suc n) =
+    λ ts. either (begins f ts) (p >>= λ x. many_for f p n >>= λ xs. give (x ∷ xs)) (give []) ts
 
 -- no more things than tokens
 unfoldable pub many : {A B : Type 0} → (Token → Option B) → At A → At (List A)
@@ -73,8 +75,10 @@ prepend xs (fails us) = fails us
 
 -- what is read takes at least one token
 abbrev pub Shortens : {A : Type 0} → At A → Type 0
-Shortens {A} p = (ts : List Token) (x : A) (us : List Token) → p ts ≡ read x us → length us < length ts
+Shortens {A} p =
+    (ts : List Token) (x : A) (us : List Token) → p ts ≡ read x us → length us < length ts
 
 -- what is left is no longer
 abbrev pub NeverLonger : {A : Type 0} → At A → Type 0
-NeverLonger {A} p = (ts : List Token) (x : A) (us : List Token) → p ts ≡ read x us → length us ≤ length ts
+NeverLonger {A} p =
+    (ts : List Token) (x : A) (us : List Token) → p ts ≡ read x us → length us ≤ length ts

@@ -1,5 +1,7 @@
 -- What a token can stand for in a text.
-use Rattle.std.specs.Prelude.{ℕ, Bool, true, false, ◌==◌, nat_le, List, [], ◌∷◌, Option, Some, None, is_some, if◌then◌else◌, bytes_eq, pos}
+use Rattle.std.specs.Prelude.{
+    ℕ, Bool, true, false, ◌==◌, nat_le, List, [], ◌∷◌, Option, Some, None, is_some, if◌then◌else◌,
+    bytes_eq, pos}
 use Rattle.sdl_lex.specs.Spelling.{folded}
 use Rattle.sdl_lex.specs.Limits.{GREATEST_NUMBER}
 use Rattle.sdl_lex.specs.declared.lexemes.Word.{Word}
@@ -160,8 +162,9 @@ relation_value (lexemes.Symbol symbols.Greater) = Some relations.Greater
 relation_value (lexemes.Symbol symbols.GreaterEqual) = Some relations.GreaterEqual
 relation_value _ = None
 
--- the words that begin an entity of a block, a declaration of a process, a part of its body, a part of a state, an action, the end of
--- a transition; and what begins an answer of a DECISION or its ELSE
+-- the words that begin an entity of a block, a declaration of a process, a part of its body, a part
+-- of a state, an action, the end of a transition; and what begins an answer of a DECISION or its
+-- ELSE
 abbrev pub entity_place : ℕ → Lexeme → Option ℕ
 entity_place at (lexemes.Word words.Signal) = Some at
 entity_place at (lexemes.Word words.SignalRoute) = Some at

@@ -1,9 +1,15 @@
 -- How reserved words and symbols are written (Z.100, lexical rules).
 use Rattle.std.specs.Prelude.{ℕ, List, codes}
 use Rattle.sdl_lex.specs.declared.lexemes.Word.{Word}
-use Rattle.sdl_lex.specs.declared.lexemes.Word.TheVariants.{Block, EndBlock, Signal, SignalRoute, From, To, With, Env, Connect, Process, EndProcess, Dcl, Timer, Start, State, EndState, Input, Save, Connection, EndConnection, Task, Output, Sender, Set, Reset, Now, Decision, Else, EndDecision, NextState, Stop, Join, Comment, Not, And, Or, Xor, Mod, Rem, Integer, Boolean, True, False, Procedure, EndProcedure, Call, Fpar, In, Return}
+use Rattle.sdl_lex.specs.declared.lexemes.Word.TheVariants.{
+    Block, EndBlock, Signal, SignalRoute, From, To, With, Env, Connect, Process, EndProcess, Dcl,
+    Timer, Start, State, EndState, Input, Save, Connection, EndConnection, Task, Output, Sender,
+    Set, Reset, Now, Decision, Else, EndDecision, NextState, Stop, Join, Comment, Not, And, Or, Xor,
+    Mod, Rem, Integer, Boolean, True, False, Procedure, EndProcedure, Call, Fpar, In, Return}
 use Rattle.sdl_lex.specs.declared.lexemes.Symbol.{Symbol}
-use Rattle.sdl_lex.specs.declared.lexemes.Symbol.TheVariants.{Semicolon, Comma, Colon, Assign, Open, Close, Plus, Minus, Star, Slash, Equal, NotEqual, Less, LessEqual, Greater, GreaterEqual}
+use Rattle.sdl_lex.specs.declared.lexemes.Symbol.TheVariants.{
+    Semicolon, Comma, Colon, Assign, Open, Close, Plus, Minus, Star, Slash, Equal, NotEqual, Less,
+    LessEqual, Greater, GreaterEqual}
 
 -- a reserved word in upper case
 abbrev pub word_text : Word → List ℕ

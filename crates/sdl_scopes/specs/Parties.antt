@@ -9,8 +9,8 @@ use Rattle.sdl_scopes.specs.declared.sender.Numbered.{Numbered}
 use Rattle.sdl_scopes.specs.declared.sender.Sender.{Sender}
 use Rattle.sdl_scopes.specs.declared.sender.Sender.TheVariants as sent_by
 
--- The number of a party: that of its process, and one past all of these for the environment. A process that isn't there has
--- none.
+-- The number of a party: that of its process, and one past all of these for the environment. A
+-- process that isn't there has none.
 abbrev pub party_number : PlainBlock → Party → Option ℕ
 party_number b Environment = Some (length (process_names b))
 party_number b (Process id) = number_of (process_names b) id.name

@@ -18,5 +18,7 @@ stops_at (fails us) = Some us
 abbrev pub Settled : List Token → Result Block ParseFault → Type 0
 Settled tokens (Ok block) = marked_block tokens ≡ read (kept (block_of block)) []
 Settled tokens (Err (TooDeep at)) = marked_block tokens ≡ read (too_high at) []
-Settled tokens (Err (Unexpected at)) = (us : List Token) × (stops_at (marked_block tokens) ≡ Some us) × (at ≡ length tokens - length us)
+Settled tokens (Err (Unexpected at)) =
+    (us : List Token) × (stops_at (marked_block tokens) ≡ Some us)
+    × (at ≡ length tokens - length us)
 Settled tokens (Err NoMemory) = Unit {0}

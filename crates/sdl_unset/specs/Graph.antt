@@ -1,6 +1,8 @@
--- Paths through the transitions of a process, and what is read on them before it is set. (Z.100: the transitions of a
--- process graph.)
-use Rattle.std.specs.Prelude.{◌≡◌, ℕ, ◌<◌, ◌≤◌, ◌==◌, Bool, true, false, length, ⊤, All, List, [], ◌∷◌, Option, Some, None, Contains, slice_get, option_and_then}
+-- Paths through the transitions of a process, and what is read on them before it is set. (Z.100:
+-- the transitions of a process graph.)
+use Rattle.std.specs.Prelude.{
+    ◌≡◌, ℕ, ◌<◌, ◌≤◌, ◌==◌, Bool, true, false, length, ⊤, All, List, [], ◌∷◌, Option, Some, None,
+    Contains, slice_get, option_and_then}
 use Rattle.std.specs.Int.{bit_at}
 use Rattle.sdl_unset.specs.declared.paths.Passage.{Passage}
 use Rattle.sdl_unset.specs.declared.paths.Summary.{Summary}
@@ -37,13 +39,15 @@ pub record Passes (t : Summary) (x s : ℕ) : Type 0 where
   pub keeps : has passage.keeps x ≡ true
   pub ends : passage.state ≡ s
 
--- From a place on, with x unset, these steps are a path: a way through each but the last ends in the state from which
--- the next one leads, and doesn't set x; and a way through the last one reads x before it sets it.
+-- From a place on, with x unset, these steps are a path: a way through each but the last ends in
+-- the state from which the next one leads, and doesn't set x; and a way through the last one reads
+-- x before it sets it.
 abbrev pub ReadsFrom : Graph → ℕ → Place → List Step → Type 0
 ReadsFrom g x place [] = ⊥
 ReadsFrom g x place (step ∷ []) = (t : Summary) × Leads g place step t × (has t.reads x ≡ true)
 ReadsFrom g x place (step ∷ next ∷ steps) =
-    (t : Summary) × (s : ℕ) × Leads g place step t × Passes t x s × ReadsFrom g x (Some s) (next ∷ steps)
+    (t : Summary) × (s : ℕ) × Leads g place step t × Passes t x s
+        × ReadsFrom g x (Some s) (next ∷ steps)
 
 -- a path from START on, the last transition of which reads x unset
 abbrev pub ReadsUnset : Graph → ℕ → List Step → Type 0
@@ -82,8 +86,8 @@ IsExpanded g x seen s = (step : Step) (t : Summary) → Leads g (Some s) step t 
 abbrev pub IsClosed : Graph → ℕ → List Bool → Type 0
 IsClosed g x seen = (s : ℕ) → IsSeen seen s → IsExpanded g x seen s
 
--- A mark for each state; START's transition is safe, and so are all those of the marked states. So whatever is entered
--- with x unset is marked.
+-- A mark for each state; START's transition is safe, and so are all those of the marked states. So
+-- whatever is entered with x unset is marked.
 pub record IsClosedSet (g : Graph) (x : ℕ) (marks : List Bool) : Type 0 where
   pub count : length marks ≡ length g.states.items
   pub start : IsSafe g.start x marks
@@ -91,7 +95,8 @@ pub record IsClosedSet (g : Graph) (x : ℕ) (marks : List Bool) : Type 0 where
 
 -- A path leads to each marked state, and doesn't set x on the way.
 abbrev pub AreEntered : Graph → ℕ → List Bool → Type 0
-AreEntered g x marks = (s : ℕ) → slice_get marks s ≡ Some true → (path : List Step) × Reached g x None path s
+AreEntered g x marks =
+    (s : ℕ) → slice_get marks s ≡ Some true → (path : List Step) × Reached g x None path s
 
 -- ---- what becomes of a variable
 

@@ -7,7 +7,8 @@ use Rattle.sdl_unset.specs.declared.paths.Step.{Step}
 use Rattle.sdl_unset.specs.declared.paths.Step.TheVariants.{Start, Input}
 use Rattle.sdl_unset.specs.Graph.{input_at, ReadsUnset}
 
--- START's transition stands first, and then those of the states by their numbers, of one state by the numbers of its inputs
+-- START's transition stands first, and then those of the states by their numbers, of one state by
+-- the numbers of its inputs
 abbrev pub Precedes : Step → Step → Type 0
 Precedes Start Start = ⊥
 Precedes Start (Input q j) = ⊤
@@ -22,7 +23,8 @@ Earlier (a ∷ path) (b ∷ other) = Precedes a b ⊎ ((a ≡ b) × Earlier path
 
 -- one path has fewer steps than another, or as many and comes first in the text
 abbrev pub Before : List Step → List Step → Type 0
-Before path other = (length path < length other) ⊎ ((length path ≡ length other) × Earlier path other)
+Before path other =
+    (length path < length other) ⊎ ((length path ≡ length other) × Earlier path other)
 
 abbrev pub NotAfter : List Step → List Step → Type 0
 NotAfter path other = (path ≡ other) ⊎ Before path other
@@ -33,7 +35,9 @@ IsFirst g x path = (other : List Step) → ReadsUnset g x other → NotAfter pat
 
 -- passages in the order of the states, one to a state
 abbrev pub AreSorted : List Passage → Type 0
-AreSorted ps = (i j : ℕ) (p q : Passage) → i < j → slice_get ps i ≡ Some p → slice_get ps j ≡ Some q → p.state < q.state
+AreSorted ps =
+    (i j : ℕ) (p q : Passage) → i < j → slice_get ps i ≡ Some p → slice_get ps j ≡ Some q
+    → p.state < q.state
 
 -- those of each transition are
 pub record IsSorted (g : Graph) : Type 0 where

@@ -1,5 +1,8 @@
--- Lists by links: the node of a slot is the last item's next one, so each list with its slot is a ring.
-use Rattle.std.specs.Prelude.{◌≡◌, ℕ, zero, suc, ◌+◌, ◌<◌, nat_eq, Bool, true, List, [], ◌∷◌, Option, Some, None, length, get_or, set, map, nat_lt, if◌then◌else◌}
+-- Lists by links: the node of a slot is the last item's next one, so each list with its slot is a
+-- ring.
+use Rattle.std.specs.Prelude.{
+    ◌≡◌, ℕ, zero, suc, ◌+◌, ◌<◌, nat_eq, Bool, true, List, [], ◌∷◌, Option, Some, None, length,
+    get_or, set, map, nat_lt, if◌then◌else◌}
 use Rattle.std.specs.List.{IsDistinct, list_any, range_with_len}
 use Rattle.tick_wheel.specs.Sizes.{ITEMS, SLOTS, NODES}
 
@@ -33,7 +36,8 @@ Chain next from (item ∷ items) end = (next from ≡ item) × Chain next item i
 abbrev pub has : ℕ → List ℕ → Bool
 has item items = list_any (nat_eq item) items
 
--- two links, each of which undoes the other, make these lists: an item is in one of them at most, and there once
+-- two links, each of which undoes the other, make these lists: an item is in one of them at most,
+-- and there once
 pub record Linked (next previous : ℕ → ℕ) (lists : ℕ → List ℕ) : Type 0 where
   pub forth : (node : ℕ) → previous (next node) ≡ node
   pub back : (node : ℕ) → next (previous node) ≡ node
@@ -41,14 +45,17 @@ pub record Linked (next previous : ℕ → ℕ) (lists : ℕ → List ℕ) : Typ
   pub chains : (slot : ℕ) → slot < SLOTS → Chain next (ITEMS + slot) (lists slot) (ITEMS + slot)
   pub items : (slot item : ℕ) → slot < SLOTS → has item (lists slot) ≡ true → item < ITEMS
   pub once : (slot : ℕ) → slot < SLOTS → IsDistinct nat_eq (lists slot)
-  pub apart : (slot other item : ℕ) → slot < SLOTS → other < SLOTS → has item (lists slot) ≡ true → has item (lists other) ≡ true → slot ≡ other
+  pub apart :
+      (slot other item : ℕ) → slot < SLOTS → other < SLOTS → has item (lists slot) ≡ true
+      → has item (lists other) ≡ true → slot ≡ other
 
 -- two tables of links make lists
 pub record IsLinked (next previous : List ℕ) : Type 0 where
   pub lengths : (length next ≡ NODES) × (length previous ≡ NODES)
   pub linked : Linked (at next) (at previous) (list_of (at next))
 
--- a table in which what an item stands between is joined: first with links forth and back, then the other way round
+-- a table in which what an item stands between is joined: first with links forth and back, then the
+-- other way round
 abbrev pub out_of : List ℕ → List ℕ → ℕ → List ℕ
 out_of next previous item = set (set next (at previous item) (at next item)) item item
 

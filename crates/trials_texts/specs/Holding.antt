@@ -6,6 +6,9 @@ use Rattle.turn_code.specs.declared.value.Value.{Value}
 use Rattle.turn_code.specs.declared.draft.DraftPiece.{DraftPiece}
 use Rattle.turn_code.specs.declared.draft.PlaceFacts.{PlaceFacts}
 
--- the operands, the topmost first, have the shape of place k, and the variables that are said to be set there are
+-- the operands, the topmost first, have the shape of place k, and the variables that are said to be
+-- set there are
 abbrev pub HoldAt : DraftPiece → ℕ → List Value → List (Option Value) → Type 0
-HoldAt piece k os vs = (f : PlaceFacts) × (slice_get piece.facts k ≡ Some f) × (map sort_of os ≡ f.shape) × AreSet f.set vs
+HoldAt piece k os vs =
+    (f : PlaceFacts) × (slice_get piece.facts k ≡ Some f) × (map sort_of os ≡ f.shape)
+    × AreSet f.set vs

@@ -7,9 +7,12 @@ use Rattle.turn_words.specs.Sorts.{sort_bits, sorts_of, AreBitsOf}
 
 -- at the place of each process stand the bits of its variables
 abbrev pub AreVariableBits : List DraftProcess → List ℕ → Type 0
-AreVariableBits xs bits = (n : ℕ) (p : DraftProcess) → slice_get xs n ≡ Some p → slice_get bits n ≡ Some (sort_bits (sorts_of p.variables))
+AreVariableBits xs bits =
+    (n : ℕ) (p : DraftProcess) → slice_get xs n ≡ Some p
+    → slice_get bits n ≡ Some (sort_bits (sorts_of p.variables))
 
--- the draft is valid, and these are the bits of its signals' parameters and of its processes' variables
+-- the draft is valid, and these are the bits of its signals' parameters and of its processes'
+-- variables
 pub record IsSorted (d : Draft) (ps vs : List ℕ) : Type 0 where
   pub valid : IsValid d
   pub parameters : AreBitsOf d.signals ps

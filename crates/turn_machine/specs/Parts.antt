@@ -1,15 +1,20 @@
 -- An instruction as a row of numbers.
 use Rattle.std.specs.Prelude.{ℕ, ℤ, pos, true, false}
 use Rattle.turn_code.specs.declared.instruction.Relation.{Relation}
-use Rattle.turn_code.specs.declared.instruction.Relation.TheVariants.{Equal, NotEqual, Less, LessEqual, Greater, GreaterEqual}
-use Rattle.turn_code.specs.declared.instruction.Receiver.TheVariants.{Party as ToParty, Sender as ToSender}
+use Rattle.turn_code.specs.declared.instruction.Relation.TheVariants.{
+    Equal, NotEqual, Less, LessEqual, Greater, GreaterEqual}
+use Rattle.turn_code.specs.declared.instruction.Receiver.TheVariants.{
+    Party as ToParty, Sender as ToSender}
 use Rattle.turn_code.specs.declared.input.Party.TheVariants.{Environment, Process}
 use Rattle.turn_code.specs.declared.instruction.Instruction.{Instruction}
-use Rattle.turn_code.specs.declared.instruction.Instruction.TheVariants.{Int as PutInt, Bool as PutBool, Load, Store, Param, Add, Sub, Mul, Div, Mod, Rem, Neg, Not, And, Or, Xor, Same, Compare, Case, CaseWithin, Pick, Drop, Jump, Output, Set, Reset, Next, Stop}
+use Rattle.turn_code.specs.declared.instruction.Instruction.TheVariants.{
+    Int as PutInt, Bool as PutBool, Load, Store, Param, Add, Sub, Mul, Div, Mod, Rem, Neg, Not, And,
+    Or, Xor, Same, Compare, Case, CaseWithin, Pick, Drop, Jump, Output, Set, Reset, Next, Stop}
 use Rattle.turn_machine.specs.declared.parts.Parts.{Parts}
 
 abbrev pub row : ℕ → ℤ → ℤ → ℕ → ℕ → Parts
-row kind least most number other = record { kind = kind; least = least; most = most; number = number; other = other }
+row kind least most number other =
+    record { kind = kind; least = least; most = most; number = number; other = other }
 
 abbrev pub relation_number : Relation → ℕ
 relation_number Equal = 0

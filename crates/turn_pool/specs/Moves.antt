@@ -15,13 +15,15 @@ use Rattle.turn_pool.specs.declared.moves.Moved.{Moved}
 use Rattle.turn_pool.specs.declared.moves.Moved.TheVariants as moved
 
 -- an actor begins a turn, and the job is what it then has out
-pub record Begins (b : Ledger) (actor : ℕ) (answer : Result Turn Refusal) (c : Ledger) : Type 0 where
+pub record Begins (b : Ledger) (actor : ℕ) (answer : Result Turn Refusal) (c : Ledger) :
+    Type 0 where
   pub book : c ≡ (ask b (Begin actor)).book
   pub answers : answer_by begun_by answer ≡ (ask b (Begin actor)).answer
   pub job : IfOk answer (λ job. turn_out c actor ≡ Some job)
 
 -- an actor throws an item away
-pub record Skips (b : Ledger) (actor : ℕ) (answer : Result Trigger Refusal) (c : Ledger) : Type 0 where
+pub record Skips (b : Ledger) (actor : ℕ) (answer : Result Trigger Refusal) (c : Ledger) :
+    Type 0 where
   pub book : c ≡ (ask b (Skip actor)).book
   pub answers : answer_by reply.Skipped answer ≡ (ask b (Skip actor)).answer
 
@@ -34,8 +36,10 @@ abbrev pub EndsBy : Ledger → Turn → Result Report Turn → Ledger → Type 0
 EndsBy b done (Ok report) c = Ends b done.actor report c
 EndsBy b done (Err back) c = (back ≡ done) × (c ≡ b)
 
--- a job that ran is taken where its actor has it out, and there alone; else it comes back, and nothing changes
-pub record Finishes (b : Ledger) (done : Turn) (answer : Result Report Turn) (c : Ledger) : Type 0 where
+-- a job that ran is taken where its actor has it out, and there alone; else it comes back, and
+-- nothing changes
+pub record Finishes (b : Ledger) (done : Turn) (answer : Result Report Turn) (c : Ledger) :
+    Type 0 where
   pub taken : IsOk answer ↔ (turn_out b done.actor ≡ Some done)
   pub ends : EndsBy b done answer c
 

@@ -8,13 +8,18 @@ use Rattle.turn_pool.specs.declared.fault.PoolFault.TheVariants.{NoWorkers, NoMe
 
 -- so many links by so many workers, each in its range
 abbrev pub AreServed : ℕ → ℕ → Type 0
-AreServed links workers = (links ≤ MOST_LINKS) × (LEAST_WORKERS ≤ workers) × (workers ≤ MOST_WORKERS)
+AreServed links workers =
+    (links ≤ MOST_LINKS) × (LEAST_WORKERS ≤ workers) × (workers ≤ MOST_WORKERS)
 
--- no finish stands in the journal that the state doesn't count, and none is counted that doesn't stand there
+-- no finish stands in the journal that the state doesn't count, and none is counted that doesn't
+-- stand there
 abbrev pub CountsFinishes : Ledger → Type 0
 CountsFinishes b = (state_of b).finishes ≡ b.base.finishes + count_by is_finish b.journal
 
--- where nobody is served the books come back: the very ones, or, where no thread could be made, as many
+-- where nobody is served the books come back: the very ones, or, where no thread could be made, as
+-- many
 abbrev pub HandsBack : List Ledger → ℕ → PoolFault → Type 0
 HandsBack links workers (NoMemory books) = (books.items ≡ links) × AreServed (length links) workers
-HandsBack links workers (NoWorkers books) = (length books.items ≡ length links) × ((AreServed (length links) workers → ⊥) → books.items ≡ links)
+HandsBack links workers (NoWorkers books) =
+    (length books.items ≡ length links) × ((AreServed (length links) workers → ⊥)
+        → books.items ≡ links)

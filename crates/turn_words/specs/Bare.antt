@@ -1,5 +1,9 @@
--- What an instruction does on bare words: a Boolean is 0 or 1, and nothing says which sort a word has.
-use Rattle.std.specs.Prelude.{ℕ, ◌+◌, ◌-◌, ◌^◌, ◌<◌, ◌≤◌, ℤ, pos, ◌≤ℤ◌, neg_ℤ, bit_or, ◌+ℤ◌, ◌-ℤ◌, ◌*ℤ◌, int_div, int_rem, Bool as Truth, true, false, not, ◌&&◌, ◌||◌, if◌then◌else◌, List, ◌∷◌, ◌++◌, take, drop, reverse, replicate, Option, Some, None, slice_index_or, slice_set}
+-- What an instruction does on bare words: a Boolean is 0 or 1, and nothing says which sort a word
+-- has.
+use Rattle.std.specs.Prelude.{
+    ℕ, ◌+◌, ◌-◌, ◌^◌, ◌<◌, ◌≤◌, ℤ, pos, ◌≤ℤ◌, neg_ℤ, bit_or, ◌+ℤ◌, ◌-ℤ◌, ◌*ℤ◌, int_div, int_rem,
+    Bool as Truth, true, false, not, ◌&&◌, ◌||◌, if◌then◌else◌, List, ◌∷◌, ◌++◌, take, drop,
+    reverse, replicate, Option, Some, None, slice_index_or, slice_set}
 use Rattle.std.specs.Ordering.{int_eq}
 use Rattle.std.specs.Int.{int_rem_euclid}
 use Rattle.plain_limits.specs.Limits.{MOST_OPERANDS, MOST_PARAMETERS, MOST_VARIABLES}
@@ -10,7 +14,9 @@ use Rattle.turn_code.specs.declared.numbers.VariableNumber.{VariableNumber}
 use Rattle.turn_code.specs.declared.instruction.Receiver.{Receiver}
 use Rattle.turn_code.specs.declared.instruction.Relation.{Relation}
 use Rattle.turn_code.specs.declared.instruction.Instruction.{Instruction}
-use Rattle.turn_code.specs.declared.instruction.Instruction.TheVariants.{Int as PutInt, Bool as PutBool, Load, Store, Param, Add, Sub, Mul, Div, Mod, Rem, Neg, Not, And, Or, Xor, Same, Compare, Case, CaseWithin, Pick, Drop, Jump, Output, Set, Reset, Next, Stop}
+use Rattle.turn_code.specs.declared.instruction.Instruction.TheVariants.{
+    Int as PutInt, Bool as PutBool, Load, Store, Param, Add, Sub, Mul, Div, Mod, Rem, Neg, Not, And,
+    Or, Xor, Same, Compare, Case, CaseWithin, Pick, Drop, Jump, Output, Set, Reset, Next, Stop}
 use Rattle.turn_code.specs.declared.machine.End.{End}
 use Rattle.turn_code.specs.declared.machine.End.TheVariants as end
 use Rattle.turn_words.specs.declared.words.Words.{Words}
@@ -20,7 +26,8 @@ use Rattle.turn_words.specs.declared.after.After.{After}
 use Rattle.turn_words.specs.declared.after.Next.{Next as Onward}
 use Rattle.turn_words.specs.declared.after.Next.TheVariants.{Goes, Ends}
 
--- the words of a run: its operands, the topmost first, and how many they are; its variables, with a number whose bits say which are set; its parameters
+-- the words of a run: its operands, the topmost first, and how many they are; its variables, with a
+-- number whose bits say which are set; its parameters
 pub record Bare : Type 0 where
   pub stack : List ℤ
   pub depth : ℕ
@@ -29,7 +36,9 @@ pub record Bare : Type 0 where
   pub params : List ℤ
 
 abbrev pub bare_of : Words → Bare
-bare_of w = record { stack = reverse (take w.depth w.operands); depth = w.depth; variables = w.variables; set = w.set; params = w.params }
+bare_of w =
+    record { stack = reverse (take w.depth w.operands); depth = w.depth; variables = w.variables;
+        set = w.set; params = w.params }
 
 -- what it did: the code goes on at a place, or is over, with what was given out
 pub data Did : Type 0 where
@@ -54,7 +63,8 @@ abbrev pub is_true : ℤ → Truth
 is_true z = not (int_eq z (pos 0))
 
 abbrev pub with_stack : Bare → List ℤ → ℕ → Bare
-with_stack b zs n = record { stack = zs; depth = n; variables = b.variables; set = b.set; params = b.params }
+with_stack b zs n =
+    record { stack = zs; depth = n; variables = b.variables; set = b.set; params = b.params }
 
 abbrev pub pushed : Bare → ℤ → Bare
 pushed b z = with_stack b (z ∷ b.stack) (b.depth + 1)
@@ -64,14 +74,18 @@ abbrev pub on_word : Bare → (ℤ → Bare → Did) → Did
 on_word b go = go (slice_index_or b.stack 0 (pos 0)) (with_stack b (drop 1 b.stack) (b.depth - 1))
 
 abbrev pub on_words : Bare → (ℤ → ℤ → Bare → Did) → Did
-on_words b go = go (slice_index_or b.stack 1 (pos 0)) (slice_index_or b.stack 0 (pos 0)) (with_stack b (drop 2 b.stack) (b.depth - 2))
+on_words b go =
+    go (slice_index_or b.stack 1 (pos 0)) (slice_index_or b.stack 0 (pos 0))
+    (with_stack b (drop 2 b.stack) (b.depth - 2))
 
 -- so many words from the top, the topmost last, and 0 behind them up to four
 abbrev pub words_taken : ℕ → Bare → List ℤ
 words_taken n b = reverse (take n b.stack) ++ replicate (4 - n) (pos 0)
 
 abbrev pub kept : Bare → ℕ → ℤ → Bare
-kept b v z = record { stack = b.stack; depth = b.depth; variables = slice_set b.variables v z; set = bit_or b.set (2 ^ v); params = b.params }
+kept b v z =
+    record { stack = b.stack; depth = b.depth; variables = slice_set b.variables v z;
+        set = bit_or b.set (2 ^ v); params = b.params }
 
 -- ---- the kinds of instructions, where what stands behind one is at k
 
@@ -115,7 +129,9 @@ abbrev pub dropped : ℕ → Bare → Did
 dropped k b = on_word b (λ x rest. went k None rest)
 
 abbrev pub sent : SignalNumber → Receiver → ℕ → ℕ → Bare → Did
-sent n r c k b = went k (Some (gives.Output n r c (words_taken c b))) (with_stack b (drop c b.stack) (b.depth - c))
+sent n r c k b =
+    went k (Some (gives.Output n r c (words_taken c b)))
+    (with_stack b (drop c b.stack) (b.depth - c))
 
 abbrev pub timed : TimerNumber → ℕ → Bare → Did
 timed t k b = on_word b (λ x rest. went k (Some (gives.Set t x)) rest)

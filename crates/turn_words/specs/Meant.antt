@@ -1,5 +1,7 @@
--- Which words stand for which values. From a value to its word, and never back: a word says nothing of its sort.
-use Rattle.std.specs.Prelude.{◌≡◌, ℕ, ◌≤◌, ℤ, List, ◌∷◌, ◌++◌, [], length, map, take, Option, Some, None, slice_get}
+-- Which words stand for which values. From a value to its word, and never back: a word says nothing
+-- of its sort.
+use Rattle.std.specs.Prelude.{
+    ◌≡◌, ℕ, ◌≤◌, ℤ, List, ◌∷◌, ◌++◌, [], length, map, take, Option, Some, None, slice_get}
 use Rattle.std.specs.Int.{bit_at}
 use Rattle.plain_limits.specs.Limits.{MOST_PARAMETERS}
 use Rattle.turn_code.specs.Run.{address_of}
@@ -22,16 +24,19 @@ IsKept b v None = bit_at b.set v ≡ 0
 IsKept b v (Some x) = (bit_at b.set v ≡ 1) × (slice_get b.variables v ≡ Some (word_of x))
 
 -- the words of these operands, the topmost first, of these variables and of these parameters
-pub record AreWordsOf (b : Bare) (os : List Value) (vs : List (Option Value)) (ps : List Value) : Type 0 where
+pub record AreWordsOf (b : Bare) (os : List Value) (vs : List (Option Value)) (ps : List Value) :
+    Type 0 where
   pub operands : b.stack ≡ map word_of os
   pub depth : b.depth ≡ length os
   pub variables : (v : ℕ) (x : Option Value) → slice_get vs v ≡ Some x → IsKept b v x
-  pub parameters : (j : ℕ) (x : Value) → slice_get ps j ≡ Some x → slice_get b.params j ≡ Some (word_of x)
+  pub parameters :
+      (j : ℕ) (x : Value) → slice_get ps j ≡ Some x → slice_get b.params j ≡ Some (word_of x)
 
 -- the effect that words stand for, where the signal of the transition came from there
 abbrev pub IsEffectOf : Option Address → Given → Effect → Type 0
 IsEffectOf from (Output n r c ws) (effect.Output s) =
-    (s.signal ≡ n) × (c ≤ MOST_PARAMETERS) × (c ≡ length s.parameters.items) × (address_of r from ≡ Some s.receiver) × (take c ws ≡ map word_of s.parameters.items)
+    (s.signal ≡ n) × (c ≤ MOST_PARAMETERS) × (c ≡ length s.parameters.items)
+        × (address_of r from ≡ Some s.receiver) × (take c ws ≡ map word_of s.parameters.items)
 IsEffectOf from (Output n r c ws) (effect.Set t z) = ⊥
 IsEffectOf from (Output n r c ws) (effect.Reset t) = ⊥
 IsEffectOf from (Set n z) (effect.Output s) = ⊥

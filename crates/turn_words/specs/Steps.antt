@@ -19,9 +19,11 @@ use Rattle.turn_words.specs.Bare.{bare_of}
 use Rattle.turn_words.specs.Meant.{AreWordsOf, Grow}
 use Rattle.turn_words.specs.Sorts.{AreSortsOf}
 
--- The code is a valid transition's, with parameters of its sorts, and its signal came from who is known to have sent it. The words at its place k stand for
--- operands, variables and parameters that may be there.
-pub record Stand (d : Draft) (t : Transition) (p : Piece) (k : ℕ) (w : Words) (x : Input) (os : List Value) (s : Progress) : Type 0 where
+-- The code is a valid transition's, with parameters of its sorts, and its signal came from who is
+-- known to have sent it. The words at its place k stand for operands, variables and parameters that
+-- may be there.
+pub record Stand (d : Draft) (t : Transition) (p : Piece) (k : ℕ) (w : Words) (x : Input)
+    (os : List Value) (s : Progress) : Type 0 where
   pub limits : KeepsSetLimits d
   pub variables : length t.process.variables ≤ MOST_VARIABLES
   pub valid : IsValidTransition d t
@@ -42,14 +44,19 @@ pub record StandAt (p : Piece) (k : ℕ) (w : Words) : Type 0 where
   pub progress : Progress
   pub stand : Stand draft transition p k w input operands progress
 
--- what the step on values gave is what the step on words gave: the words at the next place stand for its values
+-- what the step on values gave is what the step on words gave: the words at the next place stand
+-- for its values
 abbrev pub Follows : Draft → Transition → Piece → Input → Progress → After → Words → Tagged → Type 0
-Follows d t p x s a w (goes k os s') = (a.next ≡ Goes k) × Grow x.sender a.effect s.effects s'.effects × Stand d t p k w x os s'
+Follows d t p x s a w (goes k os s') =
+    (a.next ≡ Goes k) × Grow x.sender a.effect s.effects s'.effects × Stand d t p k w x os s'
 Follows d t p x s a w (ends e s') =
-    (a.next ≡ Ends e) × Grow x.sender a.effect s.effects s'.effects × ((os : List Value) × AreWordsOf (bare_of w) os s'.variables x.parameters.items)
+    (a.next ≡ Ends e) × Grow x.sender a.effect s.effects s'.effects
+        × ((os : List Value) × AreWordsOf (bare_of w) os s'.variables x.parameters.items)
 Follows d t p x s a w (stuck trouble) = ⊥
 
 -- whichever values the words stood for
 abbrev pub IsStep : Piece → ℕ → Words → After → Words → Type 0
-IsStep p k old a new = (d : Draft) (t : Transition) (x : Input) (os : List Value) (s : Progress) → Stand d t p k old x os s
+IsStep p k old a new =
+    (d : Draft) (t : Transition) (x : Input) (os : List Value) (s : Progress)
+    → Stand d t p k old x os s
     → Follows d t p x s a new (step t.piece.code x k os s)

@@ -1,7 +1,7 @@
 use Rattle.std.proofs.Common.{arith, rules}
 use Rattle.std.proofs.lemmas.Grind.{common_steps}
 use Rattle.actor_state.proofs.Naming.{laid_kept}
-use Rattle.actor_state.proofs.link.Link.lay_all.Goals as goal
+use Rattle.actor_state.proofs.link_actors.LinkActors.lay_all.Goals as goal
 
 pub loop-place-preserved : goal.loop-place-preserved
 loop-place-preserved c = record {

@@ -2,7 +2,7 @@ use Rattle.std.proofs.Common.{◌≡◌, ◌++◌, take, drop, length, arith, ru
 use Rattle.std.proofs.lemmas.Grind.{common_steps}
 use Rattle.tick_wheel.specs.Turning.{timers_of}
 use Rattle.actor_state.proofs.Passing.{same_passed}
-use Rattle.actor_state.proofs.link.Link.advance.Goals as goal
+use Rattle.actor_state.proofs.link_actors.LinkActors.advance.Goals as goal
 
 pub returns-clause-link : goal.returns-clause-link
 returns-clause-link c =

@@ -2,7 +2,7 @@ use Rattle.std.proofs.Common.{ap, rules}
 use Rattle.actor_machine.specs.Core.{Core}
 use Rattle.actor_machine.specs.Effects.{finished, lost_in}
 use Rattle.actor_state.proofs.Naming.{settled_kept}
-use Rattle.actor_state.proofs.link.Link.finish.Goals as goal
+use Rattle.actor_state.proofs.link_actors.LinkActors.finish.Goals as goal
 
 pub lay_all-lost-requires-clause-names : goal.lay_all-lost-requires-clause-names
 lay_all-lost-requires-clause-names c =

@@ -3,7 +3,7 @@ use Rattle.actor_machine.specs.Names.{actors_of}
 use Rattle.actor_machine.specs.Core.{names_in}
 use Rattle.actor_machine.specs.Effects.{laid_all, losses}
 use Rattle.actor_state.specs.Outcomes.{HaveTimers}
-use Rattle.actor_state.proofs.link.Link.lay_all.Given as goal
+use Rattle.actor_state.proofs.link_actors.LinkActors.lay_all.Given as goal
 
 abbrev pub invariant-loop-place : goal.invariant-loop-place
 invariant-loop-place l = record {

@@ -1,6 +1,6 @@
 use Rattle.std.proofs.Common.{rules}
 use Rattle.actor_machine.specs.Refusals.{refuses}
-use Rattle.actor_state.proofs.link.Link.take_refusal.Goals as goal
+use Rattle.actor_state.proofs.link_actors.LinkActors.take_refusal.Goals as goal
 
 pub returns-then-len-eq0 : goal.returns-then-len-eq0
 unfolding refuses

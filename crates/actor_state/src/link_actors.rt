@@ -16,7 +16,7 @@ use turn_code::{Value, VariableNumber};
 
 /// The state of a link: its actors, its timers with the clock, what waits for the environment, and counts.
 #[derive(Drop)]
-pub struct Link {
+pub struct LinkActors {
     pub(crate) actors: Vec<Actor>,
     pub(crate) wheel: Wheel,
     pub(crate) ring: Ring,
@@ -25,7 +25,7 @@ pub struct Link {
     pub(crate) instructions: u64,
 }
 
-impl Model for Link {
+impl Model for LinkActors {
     ghost use Rattle.std.specs.Prelude.{◌≤◌, length};
     ghost use Rattle.std.specs.Coded.{codes};
     ghost use Rattle.tick_wheel.specs.Timers.{timers_code};
@@ -49,7 +49,7 @@ impl Model for Link {
     ghost invariant = { λ l. length l.actors.items ≤ MOST_ACTORS };
 }
 
-impl Link {
+impl LinkActors {
     /// The actors, by number. There are 128 at most.
     pub fn actors(&self) -> &[Actor]
         ensures value { result.now ≡ self.now.actors }
