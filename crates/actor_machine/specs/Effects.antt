@@ -1,7 +1,27 @@
 -- What a turn does to its link as it ends (Z.100, output, set, reset, stop).
 use Rattle.std.specs.Prelude.{
-    ℕ, zero, suc, ◌+◌, ◌==◌, ℤ, pos, negsuc, Bool, List, [], ◌∷◌, ◌++◌, length, max, nat_lt, Option,
-    None, Some, option_to_list, if◌then◌else◌}
+  ℕ,
+  zero,
+  suc,
+  ◌+◌,
+  ◌==◌,
+  ℤ,
+  pos,
+  negsuc,
+  Bool,
+  List,
+  [],
+  ◌∷◌,
+  ◌++◌,
+  length,
+  max,
+  nat_lt,
+  Option,
+  None,
+  Some,
+  option_to_list,
+  if◌then◌else◌,
+}
 use Rattle.std.specs.FinMap as map
 use Rattle.plain_limits.specs.Limits.{MOST_TIMERS_EACH}
 use Rattle.turn_code.specs.Outcome.{Outcome}
@@ -65,8 +85,12 @@ drops timer a = record a { port = record a.port { items = without_timer a.port.i
 -- the signal of a timer behind the other items
 abbrev pub hears : ℕ → Actor → Actor
 hears timer a =
-    record a { port = record a.port { items = without_timer a.port.items timer
-        ++ Timer (record { 0 = timer }) ∷ [] } }
+    record a {
+      port = record a.port {
+        items = without_timer a.port.items timer
+            ++ Timer (record { 0 = timer }) ∷ [];
+      };
+    }
 
 -- ---- the environment
 
@@ -89,8 +113,10 @@ delay (negsuc k) = 1
 
 abbrev pub until : Timers → ℕ → ℕ → ℕ → Timers
 until ts n timer k =
-    record { clock = ts.clock;
-        deadlines = map.insert ts.deadlines (timer_of n timer) (ts.clock + k) }
+    record {
+      clock = ts.clock;
+      deadlines = map.insert ts.deadlines (timer_of n timer) (ts.clock + k);
+    }
 
 abbrev pub without : Timers → ℕ → ℕ → Timers
 without ts n timer =
@@ -118,8 +144,10 @@ emitted_of me s = record { sender = me; signal = s.signal; parameters = s.parame
 abbrev pub delivered : ActorName → Core → Sending → Party → Option InstanceNumber → Core
 delivered me w s Environment k = record w { ring = with_emitted w.ring (emitted_of me s) }
 delivered me w s (Process p) k =
-    record w { actors = change_found w.actors (number_for (names_in w.actors) me p k)
-        (receives (arrival_of me s)) }
+    record w {
+      actors = change_found w.actors (number_for (names_in w.actors) me p k)
+          (receives (arrival_of me s));
+    }
 
 abbrev pub undelivered : ActorName → Core → Party → Option InstanceNumber → Option Cause
 undelivered me w Environment k = if has_room w.ring then None else Some cause.EnvFull
@@ -179,8 +207,11 @@ ended n e w = record w { actors = change w.actors n (moved e); timers = timers_a
 -- its instructions
 abbrev pub started : ℕ → Outcome → Core → Core
 started n o w =
-    record w { actors = change w.actors n (settled o); finishes = w.finishes + 1;
-        instructions = w.instructions + o.progress.count }
+    record w {
+      actors = change w.actors n (settled o);
+      finishes = w.finishes + 1;
+      instructions = w.instructions + o.progress.count;
+    }
 
 unfoldable pub finished : ℕ → ActorName → Outcome → Core → Core
 finished n me o w = ended n o.end (laid_all n me (started n o w) o.progress.effects)

@@ -71,9 +71,9 @@ pub record FullLaw : Type 0 where
   pub port : (w : Core) (n : ℕ) (me : ActorName) (o : Outcome) (place : ℕ) (s : Sending)
       → slice_get o.progress.effects place ≡ Some (Output s)
       → IsLost (report_of n me o w).lost.items place cause.Full
-          ↔ FindsFull me (behind n me o w place) s
+      ↔ FindsFull me (behind n me o w place) s
   pub environment :
       (w : Core) (n : ℕ) (me : ActorName) (o : Outcome) (place : ℕ) (s : Sending)
       → slice_get o.progress.effects place ≡ Some (Output s)
       → IsLost (report_of n me o w).lost.items place cause.EnvFull
-          ↔ ((s.receiver.party ≡ Environment) × (has_room (behind n me o w place).ring ≡ false))
+      ↔ ((s.receiver.party ≡ Environment) × (has_room (behind n me o w place).ring ≡ false))

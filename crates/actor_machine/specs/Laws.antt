@@ -17,14 +17,31 @@ use Rattle.actor_machine.specs.Looking.{trigger_of, input_for, input_with}
 use Rattle.actor_machine.specs.Fits.{ItemFits, IsReadyAt, CoreFits}
 use Rattle.actor_machine.specs.Step.{Answer, Stuck, Says, step, report_of}
 use Rattle.actor_machine.specs.Ledger.{
-    Ledger, runs, state_by, state_of, next, event_at, refusal_by, ask, rebased, answers_by,
-    after_by, turn_out}
+  Ledger,
+  runs,
+  state_by,
+  state_of,
+  next,
+  event_at,
+  refusal_by,
+  ask,
+  rebased,
+  answers_by,
+  after_by,
+  turn_out,
+}
 use Rattle.actor_machine.specs.Kept.{HasOut, AreSilent, IsKept, opened_book}
 use Rattle.actor_machine.specs.declared.actor.Actor.{Actor}
 use Rattle.actor_machine.specs.declared.actor.Given.{Given}
 use Rattle.actor_machine.specs.declared.event.Event.{Event}
 use Rattle.actor_machine.specs.declared.event.Event.TheVariants.{
-    Offer, Begin, Skip, Finish, Advance, TakeEnv}
+  Offer,
+  Begin,
+  Skip,
+  Finish,
+  Advance,
+  TakeEnv,
+}
 use Rattle.actor_machine.specs.declared.reply.Refusal.TheVariants.{Stranger}
 use Rattle.actor_machine.specs.declared.reply.Reply.TheVariants as reply
 
@@ -131,13 +148,13 @@ pub record ItemLaw : Type 0 where
   pub each : (d : Draft) (n : ℕ) (p : DraftProcess) (a : Actor) (x : Item) (q : StateNumber) (i : ℕ)
       (t : Transition)
       → slice_get d.processes n ≡ Some p → HaveSorts p.variables a.variables.items
-          → ItemFits d n p x → IsReadyAt p q.0 a.variables.items
+      → ItemFits d n p x → IsReadyAt p q.0 a.variables.items
       → transition_at d n (State q) i ≡ Some t → t.trigger ≡ Some (trigger_of x)
-          → FitsTransition d t (input_with a (Some x))
+      → FitsTransition d t (input_with a (Some x))
   pub first :
       (d : Draft) (n : ℕ) (p : DraftProcess) (a : Actor) (x : Item) (q : StateNumber) (i : ℕ)
       → slice_get d.processes n ≡ Some p → HaveSorts p.variables a.variables.items
-          → ItemFits d n p x → IsReadyAt p q.0 a.variables.items
+      → ItemFits d n p x → IsReadyAt p q.0 a.variables.items
       → input_for d n q.0 x ≡ Some i → Fits d n (State q) i (input_with a (Some x))
 
 -- an accepted event gets the next place and stays there as others come; a rebase takes all away and

@@ -72,8 +72,11 @@ first_input a =
 abbrev pub input_with : Actor → Option Item → Input
 input_with a None = first_input a
 input_with a (Some (item.Signal arrival)) =
-    record { variables = a.variables; parameters = arrival.parameters;
-            sender = Some arrival.sender }
+    record {
+      variables = a.variables;
+      parameters = arrival.parameters;
+      sender = Some arrival.sender;
+    }
 input_with a (Some (item.Timer timer)) = first_input a
 
 -- the number of the input that is found, 0 at START
@@ -90,8 +93,11 @@ taken d a = left_at d a.name.process.0 a.standing a.port.items
 
 unfoldable pub given_now : Draft → ℕ → Actor → Given
 given_now d turn a =
-    record { turn = turn; number = number_in (looks d a);
-            input = input_with a (item_at d a.name.process.0 a.standing a.port.items) }
+    record {
+      turn = turn;
+      number = number_in (looks d a);
+      input = input_with a (item_at d a.name.process.0 a.standing a.port.items);
+    }
 
 -- the item is taken out of the port, and the actor has this turn out
 unfoldable pub begun : Draft → ℕ → Actor → Actor

@@ -1,8 +1,27 @@
 -- When an event is refused, and by which name. The rows of each call stand in the order in which
 -- they are tested; the room of the journal comes last.
 use Rattle.std.specs.Prelude.{
-    ℕ, ◌+◌, ◌==◌, Bool, true, false, not, ◌&&◌, List, [], ◌∷◌, length, map, Option, None, Some,
-    slice_get, nat_lt, nat_le, if◌then◌else◌}
+  ℕ,
+  ◌+◌,
+  ◌==◌,
+  Bool,
+  true,
+  false,
+  not,
+  ◌&&◌,
+  List,
+  [],
+  ◌∷◌,
+  length,
+  map,
+  Option,
+  None,
+  Some,
+  slice_get,
+  nat_lt,
+  nat_le,
+  if◌then◌else◌,
+}
 use Rattle.std.specs.List.{list_any}
 use Rattle.plain_limits.specs.Limits.{LAST_TICK, MOST_TICKS, MOST_TURNS_BEGUN}
 use Rattle.turn_code.specs.Values.{sort_of}
@@ -23,14 +42,33 @@ use Rattle.actor_machine.specs.declared.actor.Standing.{Standing}
 use Rattle.actor_machine.specs.declared.actor.Standing.TheVariants.{At, Stopped as HasStopped}
 use Rattle.actor_machine.specs.declared.event.Event.{Event}
 use Rattle.actor_machine.specs.declared.event.Event.TheVariants.{
-    Offer, Begin, Skip, Finish, Advance, TakeEnv}
+  Offer,
+  Begin,
+  Skip,
+  Finish,
+  Advance,
+  TakeEnv,
+}
 use Rattle.actor_machine.specs.declared.event.Offer.{Offer as Offered}
 use Rattle.actor_machine.specs.declared.found.Found.{Found}
 use Rattle.actor_machine.specs.declared.found.Found.TheVariants as found
 use Rattle.actor_machine.specs.declared.reply.Refusal.{Refusal}
 use Rattle.actor_machine.specs.declared.reply.Refusal.TheVariants.{
-    Full, Stopped, NoRoute, Busy, Nothing, Stranger, Empty, JournalFull, CountFull, NoActor,
-    SkipFirst, NotIgnored, TooFar, ClockFull}
+  Full,
+  Stopped,
+  NoRoute,
+  Busy,
+  Nothing,
+  Stranger,
+  Empty,
+  JournalFull,
+  CountFull,
+  NoActor,
+  SkipFirst,
+  NotIgnored,
+  TooFar,
+  ClockFull,
+}
 
 -- the name of the first row that holds
 abbrev pub first_of : List (Bool × Refusal) → Option Refusal
@@ -74,7 +112,7 @@ same_sorts (x ∷ xs) (y ∷ ys) = same_sort x y && same_sorts xs ys
 unfoldable pub is_offered : Draft → ℕ → SignalNumber → List Value → Bool
 is_offered d n s vs = list_any (offers n s) d.routes
     && (nat_lt s.0 (length d.signals)
-            && same_sorts (map sort_of vs) (parameters_of (slice_get d.signals s.0)))
+    && same_sorts (map sort_of vs) (parameters_of (slice_get d.signals s.0)))
 
 unfoldable pub offer_rows : Draft → Offered → Actor → List (Bool × Refusal)
 offer_rows d o a =

@@ -1,7 +1,20 @@
 -- The machine of a link: what an accepted event makes of its state, and what is answered (Z.100,
 -- the behaviour of a set of processes).
 use Rattle.std.specs.Prelude.{
-    ℕ, ◌+◌, List, [], ◌∷◌, length, Option, None, Some, Result, Ok, Err, slice_get}
+  ℕ,
+  ◌+◌,
+  List,
+  [],
+  ◌∷◌,
+  length,
+  Option,
+  None,
+  Some,
+  Result,
+  Ok,
+  Err,
+  slice_get,
+}
 use Rattle.turn_code.specs.Run.{of_party}
 use Rattle.turn_code.specs.Outcome.{Outcome, Meaning}
 use Rattle.turn_code.specs.declared.trouble.Trouble.{Trouble}
@@ -23,12 +36,22 @@ use Rattle.actor_machine.specs.declared.actor.Standing.{Standing}
 use Rattle.actor_machine.specs.declared.actor.Standing.TheVariants.{At, Stopped}
 use Rattle.actor_machine.specs.declared.event.Event.{Event}
 use Rattle.actor_machine.specs.declared.event.Event.TheVariants.{
-    Offer, Begin, Skip, Finish, Advance, TakeEnv}
+  Offer,
+  Begin,
+  Skip,
+  Finish,
+  Advance,
+  TakeEnv,
+}
 use Rattle.actor_machine.specs.declared.event.Offer.{Offer as Offered}
 use Rattle.actor_machine.specs.declared.reply.Begun.{Begun}
 use Rattle.actor_machine.specs.declared.reply.Emitted.{Emitted}
 use Rattle.actor_machine.specs.declared.reply.Refusal.TheVariants.{
-    Empty, NoActor, Nothing, Stranger}
+  Empty,
+  NoActor,
+  Nothing,
+  Stranger,
+}
 use Rattle.actor_machine.specs.declared.reply.Report.{Report}
 use Rattle.actor_machine.specs.declared.reply.Reply.{Reply}
 use Rattle.actor_machine.specs.declared.reply.Reply.TheVariants as reply
@@ -111,8 +134,10 @@ due_in w k = due w.timers.deadlines (w.timers.clock + k)
 unfoldable pub passed : ℕ → Core → Core
 passed k w = record w {
   actors = notified w.actors (due_in w k);
-  timers = record { clock = w.timers.clock + k;
-          deadlines = not_due w.timers.deadlines (w.timers.clock + k) };
+  timers = record {
+    clock = w.timers.clock + k;
+    deadlines = not_due w.timers.deadlines (w.timers.clock + k);
+  };
 }
 
 abbrev pub tail_of : List Emitted → List Emitted
@@ -128,8 +153,10 @@ take_reply (x ∷ xs) = reply.Taken x
 -- an event that isn't refused, by a meaning of turns
 unfoldable pub step : Draft → Meaning → Core → Event → Stepped
 step d m w (Offer o) =
-    record { to = record w { actors = change w.actors o.actor (receives (offered_arrival o)) };
-        answer = Says reply.Offered }
+    record {
+      to = record w { actors = change w.actors o.actor (receives (offered_arrival o)) };
+      answer = Says reply.Offered;
+    }
 step d m w (Begin n) = record {
   to = record w { actors = change w.actors n (begun d w.turns); turns = w.turns + 1 };
   answer = Says (begin_reply d w.turns (slice_get w.actors n));

@@ -1,6 +1,22 @@
 -- Laws over the definitions of this crate, each the contract of a public function.
 use Rattle.std.specs.Prelude.{
-    ◌≡◌, ◌≢◌, ℕ, ◌+◌, ◌*◌, ◌<◌, ◌≤◌, Bool, true, None, List, [], ◌∷◌, ◌++◌, reverse, length}
+  ◌≡◌,
+  ◌≢◌,
+  ℕ,
+  ◌+◌,
+  ◌*◌,
+  ◌<◌,
+  ◌≤◌,
+  Bool,
+  true,
+  None,
+  List,
+  [],
+  ◌∷◌,
+  ◌++◌,
+  reverse,
+  length,
+}
 use Rattle.su_octets.specs.Bits.{bits_of, AreOctets}
 use Rattle.bit_line.specs.Events.{AreEvents, AreUnit, Runs, UnitsDecode, closings}
 use Rattle.bit_line.specs.Flags.{ends_flag}
@@ -62,7 +78,7 @@ PassesThrough =
     (bits : List Bool) (before after : List LineEvent) (given : List ℕ) (rest : List Bool)
     (units : List (List ℕ))
     → Runs (reverse bits) None before → ends_flag (reverse bits) ≡ true → AreUnits units
-        → units ≢ []
+    → units ≢ []
     → bits_of given ++ rest ≡ line_of units → length rest < 8
-        → AreEvents (bits ++ bits_of given) after
+    → AreEvents (bits ++ bits_of given) after
     → after ≡ before ++ unit_events (arrived rest units)

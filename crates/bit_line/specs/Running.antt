@@ -1,7 +1,24 @@
 -- What plain octets change of a deframer.
 use Rattle.std.specs.Prelude.{
-    ◌≡◌, ◌≢◌, ℕ, ◌+◌, ◌*◌, ◌/◌, ◌%◌, ◌^◌, ◌<◌, ◌≤◌, Bool, true, false, None, List, ◌++◌, reverse,
-    length}
+  ◌≡◌,
+  ◌≢◌,
+  ℕ,
+  ◌+◌,
+  ◌*◌,
+  ◌/◌,
+  ◌%◌,
+  ◌^◌,
+  ◌<◌,
+  ◌≤◌,
+  Bool,
+  true,
+  false,
+  None,
+  List,
+  ◌++◌,
+  reverse,
+  length,
+}
 use Rattle.su_octets.specs.Bits.{low_bits}
 use Rattle.bit_line.specs.Parts.{Packed}
 use Rattle.bit_line.specs.Stuffing.{trailing, taken_out}
@@ -20,8 +37,11 @@ with_run base run octets = record {
       ones = run.ones;
       six = base.gate.content.six;
       data_bits =
-          record { octets = record { items = octets }; part = run.part;
-              over = base.gate.content.data_bits.over };
+          record {
+            octets = record { items = octets };
+            part = run.part;
+            over = base.gate.content.data_bits.over;
+          };
     };
     wait_fits = base.gate.wait_fits;
   };

@@ -1,6 +1,17 @@
 -- Zero insertion (Q.703, 3.2). A history is a list of bits with the newest one first.
 use Rattle.std.specs.Prelude.{
-    ℕ, suc, ◌==◌, Bool, true, false, if◌then◌else◌, List, [], ◌∷◌, reverse}
+  ℕ,
+  suc,
+  ◌==◌,
+  Bool,
+  true,
+  false,
+  if◌then◌else◌,
+  List,
+  [],
+  ◌∷◌,
+  reverse,
+}
 
 -- how many 1s in a row the newest bits are
 unfoldable pub trailing : List Bool → ℕ

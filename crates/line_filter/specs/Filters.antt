@@ -1,6 +1,18 @@
 -- What a filter reads, writes and tells.
 use Rattle.std.specs.Prelude.{
-    ◌≡◌, ℕ, ◌+◌, Bool, true, List, [], ◌++◌, length, map, replicate, Option}
+  ◌≡◌,
+  ℕ,
+  ◌+◌,
+  Bool,
+  true,
+  List,
+  [],
+  ◌++◌,
+  length,
+  map,
+  replicate,
+  Option,
+}
 use Rattle.std.specs.Io.KnownBytes.{Appends, Consumes, IsAtEnd}
 use Rattle.std.specs.Int.{w8, reverse_bits}
 use Rattle.line_filter.specs.Acts.{Act}
@@ -24,7 +36,7 @@ MOST_AHEAD = 8000
 
 -- of octets that came in, these went each way; the others are dropped, where an order ended the run
 pub record Goes {T : Type 0} (acts : T → Act → T
-        → Type 0) (count :
+    → Type 0) (count :
     ℕ) (s : State T) (octets out bytes :
     List ℕ) (goes_on : Bool) (next : ℕ) (t : State T) : Type 0 where
   pub come : List ℕ
@@ -36,7 +48,7 @@ pub record Goes {T : Type 0} (acts : T → Act → T
 
 -- the octets as bytes, read and written
 pub record Serves {T : Type 0} (acts : T → Act → T
-        → Type 0) (bits :
+    → Type 0) (bits :
     Bits) (count : ℕ) (s : State T) (read written bytes : List ℕ) (goes_on : Bool) (next : ℕ)
     (t : State T) : Type 0 where
   pub out : List ℕ
@@ -51,7 +63,7 @@ pub record Streams : Type 0 where
 
 -- some bytes were read, and what they lead to was written and told behind octets of silence
 pub record Served {T : Type 0} (acts : T → Act → T
-        → Type 0) (bits :
+    → Type 0) (bits :
     Bits) (ahead count :
     ℕ) (s : State T) (goes_on : Bool) (next : ℕ) (t : State T) (old new : Streams)
     : Type 0 where
@@ -65,7 +77,7 @@ pub record Served {T : Type 0} (acts : T → Act → T
 
 -- The run is over: all octets went each way, or an order ended it.
 pub record IsOver {T : Type 0} (acts : T → Act → T
-        → Type 0) (bits :
+    → Type 0) (bits :
     Bits) (ahead count :
     ℕ) (s : State T) (next : ℕ) (t : State T) (old new : Streams) : Type 0 where
   pub goes_on : Bool
@@ -82,7 +94,7 @@ pub record WritesPart (old new : Option (List ℕ)) (bytes : List ℕ) : Type 0 
 -- of bytes that were read the first went each way, and what goes out for them behind octets of
 -- silence is written, or a beginning of that
 pub record ServesPart {T : Type 0} (acts : T → Act → T
-        → Type 0) (bits :
+    → Type 0) (bits :
     Bits) (ahead count : ℕ) (s : State T) (read : List ℕ) (old new : Option (List ℕ)) : Type 0 where
   pub come : List ℕ
   pub not_come : List ℕ
@@ -102,7 +114,7 @@ pub record Line : Type 0 where
 -- A run is begun: what is written is a beginning of what a run writes for octets that were read.
 -- However it ends, also where something fails.
 pub record IsBegun {T : Type 0} (acts : T → Act → T
-        → Type 0) (bits : Bits) (ahead count : ℕ) (s : State T) (old new : Line) : Type 0 where
+    → Type 0) (bits : Bits) (ahead count : ℕ) (s : State T) (old new : Line) : Type 0 where
   pub read : List ℕ
   pub consumes : Consumes old.read new.read read
   pub serves : ServesPart acts bits ahead count s read old.written new.written

@@ -1,6 +1,20 @@
 -- What follows for all that goes out.
 use Rattle.std.specs.Prelude.{
-    ◌≡◌, ℕ, ◌<◌, ◌≤◌, true, Bool, List, [], ◌∷◌, ◌++◌, replicate, Option, None, Some}
+  ◌≡◌,
+  ℕ,
+  ◌<◌,
+  ◌≤◌,
+  true,
+  Bool,
+  List,
+  [],
+  ◌∷◌,
+  ◌++◌,
+  replicate,
+  Option,
+  None,
+  Some,
+}
 use Rattle.su_octets.specs.Bits.{bits_of}
 use Rattle.bit_line.specs.Sending.{line_of}
 use Rattle.bit_line.specs.Stuffers.{Gave}
@@ -32,7 +46,7 @@ answer_of (silent ready act none fills) = None ∷ []
 -- the terminal's answers along a run, the newest first
 abbrev pub answers_along :
     {T : Type 0} {acts : T → Act → T
-        → Type 0} {count : ℕ} {s t : State T} {come out bytes : List ℕ} {goes_on : Bool}
+    → Type 0} {count : ℕ} {s t : State T} {come out bytes : List ℕ} {goes_on : Bool}
     → Runs acts count s come out bytes goes_on t → List (Option (List ℕ))
 answers_along begins = []
 answers_along (octet comes gives more goes last rest steps) =

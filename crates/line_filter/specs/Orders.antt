@@ -1,6 +1,19 @@
 -- Orders, with the milliseconds before which they aren't obeyed.
 use Rattle.std.specs.Prelude.{
-    ◌≡◌, ℕ, ◌<◌, ◌≤◌, List, [], ◌∷◌, ◌++◌, Option, None, Some, codes, string_bytes}
+  ◌≡◌,
+  ℕ,
+  ◌<◌,
+  ◌≤◌,
+  List,
+  [],
+  ◌∷◌,
+  ◌++◌,
+  Option,
+  None,
+  Some,
+  codes,
+  string_bytes,
+}
 use Rattle.std.specs.Fmt.{decimal}
 use Rattle.line_filter.specs.Acts.{Act, reported, obeyed}
 use Rattle.line_filter.specs.declared.terminal.Answer.{Answer}
@@ -48,14 +61,14 @@ pub data Tells {T : Type 0} (acts : T → Act → T → Type 0) (now : ℕ) (t :
 
 -- all of it
 pub record TellsAll {T : Type 0} (acts : T → Act → T
-        → Type 0) (now : ℕ) (t : T) (bytes : List ℕ) (u : T) : Type 0 where
+    → Type 0) (now : ℕ) (t : T) (bytes : List ℕ) (u : T) : Type 0 where
   pub last : T
   pub tells : Tells acts now t bytes last
   pub none_left : acts last (reported None) u
 
 -- an order is obeyed, and behind it all that the terminal has to tell is told
 pub record Obeys {T : Type 0} (acts : T → Act → T
-        → Type 0) (now : ℕ) (t : T) (order : List ℕ) (bytes : List ℕ) (u : T) : Type 0 where
+    → Type 0) (now : ℕ) (t : T) (order : List ℕ) (bytes : List ℕ) (u : T) : Type 0 where
   pub answer : Answer
   pub middle : T
   pub act : acts t (obeyed order answer) middle

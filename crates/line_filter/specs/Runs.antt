@@ -1,6 +1,21 @@
 -- A run: what goes out and what is told for the octets that come in and the orders.
 use Rattle.std.specs.Prelude.{
-    ◌≡◌, ℕ, ◌+◌, ◌/◌, ◌%◌, Bool, true, false, List, [], ◌∷◌, ◌++◌, length, Option, codes}
+  ◌≡◌,
+  ℕ,
+  ◌+◌,
+  ◌/◌,
+  ◌%◌,
+  Bool,
+  true,
+  false,
+  List,
+  [],
+  ◌∷◌,
+  ◌++◌,
+  length,
+  Option,
+  codes,
+}
 use Rattle.line_filter.specs.Acts.{Act, heard, passed}
 use Rattle.line_filter.specs.Speaking.{Voice, Gives}
 use Rattle.line_filter.specs.Orders.{Timed, NextIs, NoneIsDue, QUIT, told, TellsAll, Obeys}
@@ -17,7 +32,7 @@ pub record State (T : Type 0) : Type 0 where
 -- One octet goes out, one comes in, and what there is to tell is told. That one goes out doesn't
 -- depend on the one that comes in.
 pub record Exchanges {T : Type 0} (acts : T → Act → T
-        → Type 0) (now :
+    → Type 0) (now :
     ℕ) (s : State T) (comes gives : ℕ) (bytes : List ℕ) (t : State T) : Type 0 where
   pub asked : T
   pub heard_it : T
@@ -28,14 +43,14 @@ pub record Exchanges {T : Type 0} (acts : T → Act → T
 
 -- orders that are due are obeyed in their order, up to one that ends the run
 pub data ObeysDue {T : Type 0} (acts : T → Act → T
-        → Type 0) (now : ℕ) (t : T) (left : Option (List Timed)) : List ℕ → T → Option (List Timed)
+    → Type 0) (now : ℕ) (t : T) (left : Option (List Timed)) : List ℕ → T → Option (List Timed)
     → Type 0 where
   no_order : ObeysDue acts now t left [] t left
   one_order :
       {bytes : List ℕ} {u : T} {fewer : Option (List Timed)} (text more : List ℕ) (w : T)
       (last : Option (List Timed))
       → ObeysDue acts now t left bytes u fewer → NextIs now fewer text last → (text ≡ QUIT → ⊥)
-          → Obeys acts now u text more w
+      → Obeys acts now u text more w
       → ObeysDue acts now t left (bytes ++ more) w last
 
 -- either none is left that is due, or one ends the run
@@ -44,7 +59,7 @@ Ends now left bytes true last = (bytes ≡ []) × NoneIsDue now left last
 Ends now left bytes false last = (bytes ≡ told now (codes "ok quit")) × NextIs now left QUIT last
 
 pub record ObeysAll {T : Type 0} (acts : T → Act → T
-        → Type 0) (now :
+    → Type 0) (now :
     ℕ) (s : State T) (bytes : List ℕ) (goes_on : Bool) (t : State T) : Type 0 where
   pub first : List ℕ
   pub fewer : Option (List Timed)
@@ -56,7 +71,7 @@ pub record ObeysAll {T : Type 0} (acts : T → Act → T
 
 -- a millisecond passes: what there is to tell is told, and orders are obeyed
 pub record Minds {T : Type 0} (acts : T → Act → T
-        → Type 0) (now :
+    → Type 0) (now :
     ℕ) (s : State T) (bytes : List ℕ) (goes_on : Bool) (t : State T) : Type 0 where
   pub ticked : T
   pub tick : acts s.term passed ticked
@@ -79,7 +94,7 @@ pub data Behind {T : Type 0} (acts : T → Act → T → Type 0) (count : ℕ) (
 
 -- an octet each way, behind so many
 pub record Steps {T : Type 0} (acts : T → Act → T
-        → Type 0) (count :
+    → Type 0) (count :
     ℕ) (s : State T) (comes gives :
     ℕ) (bytes : List ℕ) (goes_on : Bool) (t : State T) : Type 0 where
   pub middle : State T
@@ -96,5 +111,5 @@ pub data Runs {T : Type 0} (acts : T → Act → T → Type 0) (count : ℕ) (s 
   octet : {come out bytes : List ℕ} {t : State T} (comes gives : ℕ) (more : List ℕ) (goes_on : Bool)
       (u : State T)
       → Runs acts count s come out bytes true t
-          → Steps acts (count + length come) t comes gives more goes_on u
+      → Steps acts (count + length come) t comes gives more goes_on u
       → Runs acts count s (come ++ comes ∷ []) (out ++ gives ∷ []) (bytes ++ more) goes_on u

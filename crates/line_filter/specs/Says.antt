@@ -1,6 +1,19 @@
 -- What a line of a stream of orders says.
 use Rattle.std.specs.Prelude.{
-    ℕ, ◌||◌, Bool, if◌then◌else◌, List, [], ◌∷◌, ◌++◌, Option, None, Some, codes, string_bytes}
+  ℕ,
+  ◌||◌,
+  Bool,
+  if◌then◌else◌,
+  List,
+  [],
+  ◌∷◌,
+  ◌++◌,
+  Option,
+  None,
+  Some,
+  codes,
+  string_bytes,
+}
 use Rattle.std.specs.List.{flat_map}
 use Rattle.std.specs.Str.{bytes_eq}
 use Rattle.script_lines.specs.Numbers.{number_up_to}
@@ -33,10 +46,10 @@ abbrev pub is_report : List ℕ → Bool
 is_report word =
     bytes_eq word (codes "in")
     || (bytes_eq word (codes "down")
-        || (bytes_eq word (codes "far") || (bytes_eq word (codes "message")
+    || (bytes_eq word (codes "far") || (bytes_eq word (codes "message")
     || (bytes_eq word (codes "state")
-            || (bytes_eq word (codes "value")
-            || (bytes_eq word (codes "refused") || bytes_eq word (codes "lost")))))))
+    || (bytes_eq word (codes "value")
+    || (bytes_eq word (codes "refused") || bytes_eq word (codes "lost")))))))
 
 -- such a report says nothing; what is none is an order, which no terminal obeys
 abbrev pub by_other : List ℕ → List (List ℕ) → PlainSays
@@ -50,7 +63,7 @@ by_report millisecond first [] = by_other first []
 by_report millisecond first (word ∷ []) = by_other first (word ∷ [])
 by_report millisecond first (word ∷ next ∷ words) =
     if bytes_eq word (codes "ok") then order_at millisecond (joined next words)
-        else by_other first (word ∷ next ∷ words)
+    else by_other first (word ∷ next ∷ words)
 
 -- `at`, and a millisecond
 abbrev pub by_time : Option ℕ → List ℕ → List (List ℕ) → PlainSays

@@ -40,7 +40,7 @@ pub record Fills (old : Stuffer) (octet : ℕ) (new : Stuffer) : Type 0 where
 -- The octet that goes out next. Only where the one before was the last that is whole of its unit,
 -- the terminal is asked for a further unit.
 pub data Gives {T : Type 0} (acts : T → Act → T
-        → Type 0) (t : T) (v : Voice) (octet : ℕ) (u : T) (w : Voice) : Type 0 where
+    → Type 0) (t : T) (v : Voice) (octet : ℕ) (u : T) (w : Voice) : Type 0 where
   fixed : v.ready ≡ octet ∷ w.ready → w.sending ≡ v.sending → u ≡ t → Gives acts t v octet u w
   fresh : (unit : units.Unit) → v.ready ≡ [] → acts t (asked (Some unit)) u
       → Stuffs v.sending unit (octet ∷ w.ready) w.sending

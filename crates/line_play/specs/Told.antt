@@ -7,7 +7,11 @@ use Rattle.link_transceiver.specs.declared.signals.Report.{Report}
 use Rattle.link_transceiver.specs.declared.signals.Report.TheVariants.{Message, Status}
 use Rattle.link_transceiver.specs.declared.signals.LinkStatus.{LinkStatus}
 use Rattle.link_transceiver.specs.declared.signals.LinkStatus.TheVariants.{
-    InService, Down, RemoteOut, RemoteBack}
+  InService,
+  Down,
+  RemoteOut,
+  RemoteBack,
+}
 use Rattle.line_filter.specs.declared.terminal.Answer.{Answer}
 use Rattle.line_filter.specs.declared.terminal.Answer.TheVariants as answer
 

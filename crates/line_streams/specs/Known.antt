@@ -3,10 +3,16 @@ use Rattle.std.specs.Prelude.{◌≡◌, ⊤, ℕ, List, [], Option, None, Some}
 use Rattle.line_streams.specs.Departing.{TellsLost}
 use Rattle.line_streams.specs.declared.opening.OrderStream.{OrderStream}
 use Rattle.line_streams.specs.declared.opening.OrderStream.TheVariants.{
-    Nothing, File as from_file, Fifo as from_fifo}
+  Nothing,
+  File as from_file,
+  Fifo as from_fifo,
+}
 use Rattle.line_streams.specs.declared.opening.ReportStream.{ReportStream}
 use Rattle.line_streams.specs.declared.opening.ReportStream.TheVariants.{
-    Errors, File as to_file, Fifo as to_fifo}
+  Errors,
+  File as to_file,
+  Fifo as to_fifo,
+}
 
 -- what there is to read: what a file or a FIFO holds isn't known
 abbrev pub known_of : OrderStream → Option (List ℕ)

@@ -8,7 +8,15 @@ use Rattle.link_transceiver.specs.declared.offers.Offer.{Offer}
 use Rattle.link_transceiver.specs.Laws.{Loses, accepted_of, acknowledged_of}
 use Rattle.link_processes.specs.declared.processes.Processes.{Processes}
 use Rattle.link_processes.specs.Machine.{
-    with_book, emptied, rested, offered, all_offered, unit_taken, error_taken, sent}
+  with_book,
+  emptied,
+  rested,
+  offered,
+  all_offered,
+  unit_taken,
+  error_taken,
+  sent,
+}
 use Rattle.actor_machine.specs.declared.event.Event.{Event}
 
 -- Up to so many turns, each of the least actor that can, come one after another, and behind each

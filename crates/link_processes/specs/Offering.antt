@@ -1,7 +1,20 @@
 -- Which event of a link a command or a notice is, and what a signal that comes to the environment
 -- says.
 use Rattle.std.specs.Prelude.{
-    ℕ, ℤ, pos, ◌==◌, Bool as Truth, if◌then◌else◌, Option, Some, None, List, [], ◌∷◌, slice_get}
+  ℕ,
+  ℤ,
+  pos,
+  ◌==◌,
+  Bool as Truth,
+  if◌then◌else◌,
+  Option,
+  Some,
+  None,
+  List,
+  [],
+  ◌∷◌,
+  slice_get,
+}
 use Rattle.turn_code.specs.declared.numbers.SignalNumber.{SignalNumber}
 use Rattle.turn_code.specs.declared.value.Value.{Value}
 use Rattle.turn_code.specs.declared.value.Value.TheVariants.{Int, Bool}
@@ -87,12 +100,12 @@ command_event n c = event_to (command_number n c) (command_signal n c) []
 abbrev pub integer_told : Outputs → SignalNumber → ℤ → Option EnvSignal
 integer_told os s z =
     if s.0 == os.line.0 then Some (signal.Line z)
-        else (if s.0 == os.down.0 then Some (signal.Down z) else None)
+    else (if s.0 == os.down.0 then Some (signal.Down z) else None)
 
 abbrev pub boolean_told : Outputs → SignalNumber → Truth → Option EnvSignal
 boolean_told os s on =
     if s.0 == os.take.0 then Some (signal.Take on)
-        else (if s.0 == os.withhold.0 then Some (signal.Withhold on) else None)
+    else (if s.0 == os.withhold.0 then Some (signal.Withhold on) else None)
 
 abbrev pub plain_told : Outputs → SignalNumber → Option EnvSignal
 plain_told os s =

@@ -49,5 +49,5 @@ pub record Heard (old : Term) (octets : List ℕ) (new : Term) : Type 0 where
   pub stands : (bits : List Bool) → Stands bits old.line → Stands (bits ++ bits_of octets) new.line
   pub hears : (bits : List Bool) (all : List LineEvent) → Stands bits old.line → AreEvents bits all
       → (now : List LineEvent) × AreEvents (bits ++ bits_of octets) now
-          × Hears bits all old.processes octets now new.processes
+      × Hears bits all old.processes octets now new.processes
   pub sending : new.sending ≡ old.sending

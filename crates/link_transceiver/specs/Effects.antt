@@ -1,7 +1,26 @@
 -- What the signals that actors send to the environment do.
 use Rattle.std.specs.Prelude.{
-    ℕ, ℤ, pos, negsuc, ◌-◌, ◌==◌, nat_lt, Bool, true, false, if◌then◌else◌, Option, Some, None,
-    List, [], ◌∷◌, ◌++◌, length, drop}
+  ℕ,
+  ℤ,
+  pos,
+  negsuc,
+  ◌-◌,
+  ◌==◌,
+  nat_lt,
+  Bool,
+  true,
+  false,
+  if◌then◌else◌,
+  Option,
+  Some,
+  None,
+  List,
+  [],
+  ◌∷◌,
+  ◌++◌,
+  length,
+  drop,
+}
 use Rattle.resend_store.specs.Window.{refreshed}
 use Rattle.resend_store.specs.Intake.{Intake, first_intake}
 use Rattle.link_transceiver.specs.declared.signals.Backward.{Backward}
@@ -38,7 +57,7 @@ abbrev pub kind_by : ℕ → Option LineKind
 kind_by number =
     if nat_lt number 5 then Some (kind.Status number)
     else (if number == 8 then Some kind.FillIn
-            else (if number == 9 then Some kind.Messages else None))
+    else (if number == 9 then Some kind.Messages else None))
 
 unfoldable pub kind_named : ℤ → Option LineKind
 kind_named (pos number) = kind_by number

@@ -1,7 +1,22 @@
 -- What a signal unit without errors leads to.
 use Rattle.std.specs.Prelude.{
-    ℕ, ◌%◌, nat_lt, Bool, if◌then◌else◌, Option, Some, None, is_some, Result, Ok, Err, List, [],
-    ◌∷◌, ◌++◌}
+  ℕ,
+  ◌%◌,
+  nat_lt,
+  Bool,
+  if◌then◌else◌,
+  Option,
+  Some,
+  None,
+  is_some,
+  Result,
+  Ok,
+  Err,
+  List,
+  [],
+  ◌∷◌,
+  ◌++◌,
+}
 use Rattle.resend_store.specs.Window.{Window, count_by, after_back}
 use Rattle.resend_store.specs.Intake.{Intake, Hearing, hear}
 use Rattle.resend_store.specs.declared.messages.Msu.{Msu}
@@ -94,8 +109,11 @@ left_aside h = record { transceiver = h; offers = [] }
 
 abbrev pub through : Stored → Judged
 through s =
-    record { transceiver = s.transceiver; offers = acknowledgement_offers s.transceiver s.count
-        ++ fault_offers s.transceiver }
+    record {
+      transceiver = s.transceiver;
+      offers = acknowledgement_offers s.transceiver s.count
+          ++ fault_offers s.transceiver;
+    }
 
 -- A fill-in or message signal unit goes through the stores where that was asked for, else it is
 -- left aside.
@@ -105,8 +123,11 @@ by_stores h head msu = if h.take then through (stored h head msu) else left_asid
 -- around it: the monitors first, and at last the kind of the unit, the status code or 8
 abbrev pub of_kind : ℕ → Judged → Judged
 of_kind kind j =
-    record { transceiver = j.transceiver; offers = to_monitors notice.Good ++ j.offers
-        ++ unit_seen kind ∷ [] }
+    record {
+      transceiver = j.transceiver;
+      offers = to_monitors notice.Good ++ j.offers
+          ++ unit_seen kind ∷ [];
+    }
 
 unfoldable pub judged : TransceiverState → Unit → Judged
 judged h (unit.Fisu head) = of_kind 8 (by_stores h head None)

@@ -1,7 +1,29 @@
 -- What holds of a transceiver over every list of calls.
 use Rattle.std.specs.Prelude.{
-    ◌≡◌, ℕ, pos, ◌+◌, ◌≤◌, ◌&&◌, not, Bool, true, false, if◌then◌else◌, Option, Some, None, Result,
-    Ok, Err, List, [], ◌∷◌, ◌++◌, length, take}
+  ◌≡◌,
+  ℕ,
+  pos,
+  ◌+◌,
+  ◌≤◌,
+  ◌&&◌,
+  not,
+  Bool,
+  true,
+  false,
+  if◌then◌else◌,
+  Option,
+  Some,
+  None,
+  Result,
+  Ok,
+  Err,
+  List,
+  [],
+  ◌∷◌,
+  ◌++◌,
+  length,
+  take,
+}
 use Rattle.resend_store.specs.Window.{Window, unacknowledged, waiting, count_by}
 use Rattle.resend_store.specs.declared.messages.Msu.{Msu}
 use Rattle.resend_store.specs.declared.messages.Verdict.{Verdict}
@@ -38,7 +60,7 @@ acknowledged_messages w bsn = take (count_by w bsn) (unacknowledged w)
 abbrev pub acknowledged_by : TransceiverState → Head → List Msu
 acknowledged_by h head =
     if h.take && not (is_abnormal h.sender head.bsn) then acknowledged_messages h.sender head.bsn
-        else []
+    else []
 
 -- those that a unit acknowledges
 abbrev pub acknowledged_of : TransceiverState → Unit → List Msu
@@ -70,7 +92,7 @@ is_accept (Err e) = false
 abbrev pub is_accepted : TransceiverState → Head → Bool
 is_accepted h head =
     h.take && not (is_abnormal h.sender head.bsn)
-        && is_accept (hears h.receiver head.fsn head.fib true).verdict
+    && is_accept (hears h.receiver head.fsn head.fib true).verdict
 
 -- the message of a unit, where it is accepted
 abbrev pub accepted_of : TransceiverState → Unit → List Msu

@@ -13,14 +13,18 @@ pub record Reported : Type 0 where
 
 abbrev pub status_reported : TransceiverState → Option LinkStatus → Reported
 status_reported h (Some status) =
-    record { transceiver = record h { statuses = drop 1 h.statuses };
-            report = Some (report.Status status) }
+    record {
+      transceiver = record h { statuses = drop 1 h.statuses };
+      report = Some (report.Status status);
+    }
 status_reported h None = record { transceiver = h; report = None }
 
 abbrev pub message_reported : TransceiverState → Option Msu → Reported
 message_reported h (Some msu) =
-    record { transceiver = record h { messages = drop 1 h.messages };
-            report = Some (report.Message msu) }
+    record {
+      transceiver = record h { messages = drop 1 h.messages };
+      report = Some (report.Message msu);
+    }
 message_reported h None = status_reported h (slice_get h.statuses 0)
 
 unfoldable pub reported : TransceiverState → Reported

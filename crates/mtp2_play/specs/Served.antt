@@ -23,5 +23,5 @@ pub data ComesTo (words : List Text) (status : ℕ) : Type 0 where
   is_run : (request : Request) (old new : Octets) → fault_of all_commands words ≡ []
       → IsAskedBy (subcommand_of all_commands words) request
       → IsAnswered request status old new
-          → (status ≡ 0) ⊎ (status ≡ 1) ⊎ (status ≡ 2) ⊎ (status ≡ 4) → ComesTo words status
+      → (status ≡ 0) ⊎ (status ≡ 1) ⊎ (status ≡ 2) ⊎ (status ≡ 4) → ComesTo words status
   is_told : (kind : ErrorKind) → IsTurnedDown words kind → IsTold kind status → ComesTo words status

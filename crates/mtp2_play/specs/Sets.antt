@@ -4,7 +4,9 @@ use Rattle.script_check.specs.mtp2_text_types.standard_text.TheConstants.{STANDA
 use Rattle.script_check.specs.mtp2_text_types.monitors_text.TheConstants.{MONITORS}
 use Rattle.script_check.specs.declared.sets.SetWord.{SetWord}
 use Rattle.script_check.specs.declared.sets.SetWord.TheVariants.{
-    Standard as standard_set, Monitors as monitors_set}
+  Standard as standard_set,
+  Monitors as monitors_set,
+}
 use Rattle.mtp2_words.specs.declared.words.Named.{Named}
 use Rattle.mtp2_words.specs.declared.words.Named.TheVariants.{Standard, Monitors, Stdin, File}
 

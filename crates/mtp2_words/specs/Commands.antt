@@ -40,8 +40,8 @@ abbrev pub with_line_options : App → App
 with_line_options command =
     with_rule
     (with_rule
-        (with_rule (with_rule command (option_word (codes "orders")))
-        (option_word (codes "reports")))
+    (with_rule (with_rule command (option_word (codes "orders")))
+    (option_word (codes "reports")))
     (option_word (codes "bits"))) (option_word (codes "ahead"))
 
 -- `line MODE`, with all options
@@ -55,16 +55,18 @@ frame_command = with_rule (new_app (codes "frame")) (plain_word (codes "HEX"))
 -- the program without its commands, of which one has to be named
 abbrev pub program_begun : App
 program_begun =
-    record (new_app (codes "mtp2_play")) { top = record
-        (new_shape (codes "mtp2_play")) { subcommand_required = true } }
+    record (new_app (codes "mtp2_play")) {
+      top = record
+          (new_shape (codes "mtp2_play")) { subcommand_required = true };
+    }
 
 -- the program with its commands
 abbrev pub all_commands : App
 all_commands =
     with_subcommand
     (with_subcommand
-        (with_subcommand
-        (with_subcommand (with_subcommand program_begun check_command.top) play_command.top)
+    (with_subcommand
+    (with_subcommand (with_subcommand program_begun check_command.top) play_command.top)
     soak_command.top) line_command.top) frame_command.top
 
 -- a word of the command is one of its commands' too

@@ -11,4 +11,4 @@ use Rattle.mtp2_words.specs.Commands.{all_commands}
 abbrev pub IsTurnedDown : List Text → ErrorKind → Type 0
 IsTurnedDown words kind = (kind ≡ OutOfMemory) ⊎ (IsAmong kind (fault_of all_commands words)
     ⊎ ((fault_of all_commands words ≡ []) × (kind ≡ InvalidSubcommand)
-            × SaysNothing (subcommand_of all_commands words)))
+    × SaysNothing (subcommand_of all_commands words)))

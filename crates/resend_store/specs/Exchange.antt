@@ -40,8 +40,14 @@ pub data Event : Type 0 where
 
 abbrev pub exchange_start : Mode → Exchange
 exchange_start mode =
-    record { sender = start mode; receiver = first_intake mode; forth = []; back = []; taken = [];
-        delivered = [] }
+    record {
+      sender = start mode;
+      receiver = first_intake mode;
+      forth = [];
+      back = [];
+      taken = [];
+      delivered = [];
+    }
 
 -- a unit arrives at the receiver
 abbrev pub hears : Exchange → Outgoing → Exchange

@@ -1,6 +1,21 @@
 -- Whole runs of a receiver: which units it accepts over a list of them.
 use Rattle.std.specs.Prelude.{
-    ◌≡◌, ℕ, Bool, true, false, if◌then◌else◌, List, [], ◌∷◌, ◌++◌, length, map, Result, Ok, Err}
+  ◌≡◌,
+  ℕ,
+  Bool,
+  true,
+  false,
+  if◌then◌else◌,
+  List,
+  [],
+  ◌∷◌,
+  ◌++◌,
+  length,
+  map,
+  Result,
+  Ok,
+  Err,
+}
 use Rattle.resend_store.specs.declared.messages.Mode.{Mode}
 use Rattle.resend_store.specs.declared.messages.Verdict.{Verdict}
 use Rattle.resend_store.specs.declared.messages.Verdict.TheVariants.{Accept, Discard, Nack}
@@ -29,7 +44,7 @@ abbrev pub accepted_units : Intake → List Heard → List Heard
 accepted_units r [] = []
 accepted_units r (u ∷ us) =
     (if is_accept (hear_unit r u).verdict then u ∷ []
-            else []) ++ accepted_units (hear_unit r u).known us
+    else []) ++ accepted_units (hear_unit r u).known us
 
 -- Over every list of units, with whatever numbers and bits: those that are accepted carry messages,
 -- and their numbers rise by one modulo 128, from one after the last accepted, which is 0 after

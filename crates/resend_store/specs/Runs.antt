@@ -1,16 +1,46 @@
 -- Whole runs of a sender: which messages go out for the first time over a list of calls, and with
 -- which numbers.
 use Rattle.std.specs.Prelude.{
-    ◌≡◌, ℕ, ◌≤◌, zero, suc, nat_lt, nat_le, Bool, true, false, if◌then◌else◌, List, [], ◌∷◌, ◌++◌,
-    length, map, Option, Some, None}
+  ◌≡◌,
+  ℕ,
+  ◌≤◌,
+  zero,
+  suc,
+  nat_lt,
+  nat_le,
+  Bool,
+  true,
+  false,
+  if◌then◌else◌,
+  List,
+  [],
+  ◌∷◌,
+  ◌++◌,
+  length,
+  map,
+  Option,
+  Some,
+  None,
+}
 use Rattle.resend_store.specs.declared.messages.Msu.{Msu}
 use Rattle.resend_store.specs.declared.messages.Mode.{Mode}
 use Rattle.resend_store.specs.declared.messages.Outgoing.{Outgoing}
 use Rattle.resend_store.specs.Limits.{MOST_WAITING, MOST_KEPT}
 use Rattle.resend_store.specs.Numbers.{plus}
 use Rattle.resend_store.specs.Window.{
-    Window, unacknowledged, waiting, last_acknowledged, start, with_put, next, count_by, after_back,
-    count_known, emptied, refreshed}
+  Window,
+  unacknowledged,
+  waiting,
+  last_acknowledged,
+  start,
+  with_put,
+  next,
+  count_by,
+  after_back,
+  count_known,
+  emptied,
+  refreshed,
+}
 
 -- A call of a sender. One for which there was no memory changes nothing, and isn't among them.
 pub data Call : Type 0 where
@@ -125,8 +155,8 @@ pub record NewInOrder : Type 0 where
   pub since_fresh : (mode : Mode) (before calls : List Call) →
       let w = after (start mode) before in
       NoBeginning (refreshed w) calls
-          → InOrder (unacknowledged w ++ waiting w) 0 (refreshed w) calls
+      → InOrder (unacknowledged w ++ waiting w) 0 (refreshed w) calls
   pub since_retrieve : (mode : Mode) (before : List Call) (fsn : Option ℕ) (calls : List Call) →
       let w = after (start mode) before in
       count_known w fsn ≤ w.sent → NoBeginning (emptied w fsn) calls
-          → InOrder [] (number_after w fsn) (emptied w fsn) calls
+      → InOrder [] (number_after w fsn) (emptied w fsn) calls

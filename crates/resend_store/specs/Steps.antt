@@ -4,13 +4,22 @@ use Rattle.std.specs.Prelude.{◌==◌, ◌&&◌, nat_lt, Bool, true, false, if�
 use Rattle.resend_store.specs.declared.messages.Mode.{Mode}
 use Rattle.resend_store.specs.declared.messages.Mode.TheVariants.{Basic, Cyclic}
 use Rattle.resend_store.specs.Window.{
-    Window, Sending, at_limit, round, may_send, repeats, sends_new, cycles, fill_in}
+  Window,
+  Sending,
+  at_limit,
+  round,
+  may_send,
+  repeats,
+  sends_new,
+  cycles,
+  fill_in,
+}
 
 -- no round is over and still stands
 abbrev pub settled : Window → Window
 settled w =
     if w.forced && (w.again == 0) then (if at_limit w then round w else record w { forced = false })
-        else w
+    else w
 
 abbrev pub is_cyclic : Mode → Bool
 is_cyclic Basic = false

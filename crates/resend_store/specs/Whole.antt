@@ -1,8 +1,33 @@
 -- The window of a sender over all messages that it was ever given, acknowledged ones too, and for
 -- which of them a kept window stands.
 use Rattle.std.specs.Prelude.{
-    ◌≡◌, ℕ, ◌+◌, ◌-◌, ◌%◌, ◌≤◌, ◌==◌, ◌&&◌, nat_lt, nat_le, max, Bool, true, false, if◌then◌else◌,
-    List, [], ◌∷◌, ◌++◌, length, take, drop, Option, Some, None, slice_get}
+  ◌≡◌,
+  ℕ,
+  ◌+◌,
+  ◌-◌,
+  ◌%◌,
+  ◌≤◌,
+  ◌==◌,
+  ◌&&◌,
+  nat_lt,
+  nat_le,
+  max,
+  Bool,
+  true,
+  false,
+  if◌then◌else◌,
+  List,
+  [],
+  ◌∷◌,
+  ◌++◌,
+  length,
+  take,
+  drop,
+  Option,
+  Some,
+  None,
+  slice_get,
+}
 use Rattle.resend_store.specs.declared.messages.Msu.{Msu}
 use Rattle.resend_store.specs.declared.messages.Mode.{Mode}
 use Rattle.resend_store.specs.declared.messages.Mode.TheVariants.{Basic, Cyclic}
@@ -12,7 +37,17 @@ use Rattle.resend_store.specs.Numbers.{minus}
 use Rattle.resend_store.specs.Messages.{reaches_limit}
 use Rattle.resend_store.specs.Window.{Window, start, next, count_by, retrieved}
 use Rattle.resend_store.specs.Runs.{
-    Call, put, put_diverted, next_unit, on_back, retrieve, fresh, is_accepted, step, after}
+  Call,
+  put,
+  put_diverted,
+  next_unit,
+  on_back,
+  retrieve,
+  fresh,
+  is_accepted,
+  step,
+  after,
+}
 
 -- Places are places in the list of all messages, so none of them ever changes its place.
 pub record Whole : Type 0 where
@@ -46,8 +81,17 @@ in_window h = drop h.acknowledged (take h.sent h.messages)
 -- nothing put yet
 abbrev pub whole_start : Mode → Whole
 whole_start mode =
-    record { mode = mode; messages = []; origin = 0; acknowledged = 0; sent = 0; fib = 1;
-        repeat_from = 0; forced = false; turn = 0 }
+    record {
+      mode = mode;
+      messages = [];
+      origin = 0;
+      acknowledged = 0;
+      sent = 0;
+      fib = 1;
+      repeat_from = 0;
+      forced = false;
+      turn = 0;
+    }
 
 -- What a call to send gives, and leaves.
 pub record WholeSending : Type 0 where
@@ -61,8 +105,10 @@ carries h i = record { fsn = number_of h i; fib = h.fib; msu = slice_get h.messa
 -- nothing to send: the number before that of the next new message
 abbrev pub fills_in : Whole → WholeSending
 fills_in h =
-    record { unit = record { fsn = minus (number_of h h.sent) 1; fib = h.fib; msu = None };
-        left = h }
+    record {
+      unit = record { fsn = minus (number_of h h.sent) 1; fib = h.fib; msu = None };
+      left = h;
+    }
 
 -- the next one to repeat
 abbrev pub goes_again : Whole → WholeSending
@@ -110,7 +156,7 @@ abbrev pub whole_next_forced : Whole → WholeSending
 whole_next_forced h =
     if nat_lt h.repeat_from h.sent then goes_again h
     else (if reaches_limit (in_window h) then goes_again (forces h)
-            else whole_next_ordinary (record h { forced = false }))
+    else whole_next_ordinary (record h { forced = false }))
 
 abbrev pub whole_next_by : Mode → Whole → WholeSending
 whole_next_by Basic h = whole_next_basic h
@@ -152,8 +198,14 @@ handed h None = drop h.sent h.messages
 abbrev pub whole_emptied : Whole → ℕ → Whole
 whole_emptied h n =
     let a = h.acknowledged + n in
-    record h { messages = take a h.messages; acknowledged = a; sent = a; repeat_from = a;
-            forced = false; turn = a }
+    record h {
+      messages = take a h.messages;
+      acknowledged = a;
+      sent = a;
+      repeat_from = a;
+      forced = false;
+      turn = a;
+    }
 
 -- numbers begin again at the first message that isn't acknowledged, and it is the first to be sent
 abbrev pub whole_refreshed : Whole → Whole

@@ -1,8 +1,33 @@
 -- What a sender keeps, and what each of its calls makes of it (Q.703: basic error correction, and
 -- error correction by preventive cyclic retransmission).
 use Rattle.std.specs.Prelude.{
-    ◌≡◌, ℕ, ◌+◌, ◌-◌, ◌<◌, ◌≤◌, ◌==◌, ◌&&◌, nat_lt, min, Bool, true, false, if◌then◌else◌, List, [],
-    ◌∷◌, ◌++◌, length, take, drop, All, Option, Some, None, slice_get}
+  ◌≡◌,
+  ℕ,
+  ◌+◌,
+  ◌-◌,
+  ◌<◌,
+  ◌≤◌,
+  ◌==◌,
+  ◌&&◌,
+  nat_lt,
+  min,
+  Bool,
+  true,
+  false,
+  if◌then◌else◌,
+  List,
+  [],
+  ◌∷◌,
+  ◌++◌,
+  length,
+  take,
+  drop,
+  All,
+  Option,
+  Some,
+  None,
+  slice_get,
+}
 use Rattle.resend_store.specs.declared.messages.Msu.{Msu}
 use Rattle.resend_store.specs.declared.messages.Mode.{Mode}
 use Rattle.resend_store.specs.declared.messages.Mode.TheVariants.{Basic, Cyclic}
@@ -67,8 +92,16 @@ pub record IsWindow (w : Window) : Type 0 where
 -- nothing put yet, and the numbers at their start
 abbrev pub start : Mode → Window
 start mode =
-    record { mode = mode; kept = []; sent = 0; first = 0; fib = 1; again = 0; forced = false;
-        turn = 0 }
+    record {
+      mode = mode;
+      kept = [];
+      sent = 0;
+      first = 0;
+      fib = 1;
+      again = 0;
+      forced = false;
+      turn = 0;
+    }
 
 -- one more message waits
 abbrev pub with_put : Window → Msu → Window
@@ -94,8 +127,10 @@ unit_at w i = record { fsn = number_at w i; fib = w.fib; msu = slice_get w.kept 
 -- A fill-in unit has the number before that of the next new message.
 abbrev pub fill_in : Window → Sending
 fill_in w =
-    record { unit = record { fsn = minus (number_at w w.sent) 1; fib = w.fib; msu = None };
-        left = w }
+    record {
+      unit = record { fsn = minus (number_at w w.sent) 1; fib = w.fib; msu = None };
+      left = w;
+    }
 
 -- The next one of the retransmission under way goes again.
 abbrev pub repeats : Window → Sending

@@ -1,6 +1,21 @@
 -- What each command of a book script makes of a book, and the line that it prints.
 use Rattle.std.specs.Prelude.{
-    ℕ, zero, suc, List, [], ◌++◌, Option, None, Some, Result, Ok, Err, option_map, slice_get, codes}
+  ℕ,
+  zero,
+  suc,
+  List,
+  [],
+  ◌++◌,
+  Option,
+  None,
+  Some,
+  Result,
+  Ok,
+  Err,
+  option_map,
+  slice_get,
+  codes,
+}
 use Rattle.std.specs.Fmt.{decimal}
 use Rattle.turn_code.specs.declared.value.Value.{Value}
 use Rattle.turn_code.specs.declared.draft.Draft.{Draft}
@@ -20,11 +35,27 @@ use Rattle.actor_machine.specs.declared.reply.Reply.TheVariants as reply
 use Rattle.actor_book.specs.Shown.{variable_of}
 use Rattle.actor_book.specs.Turns.{MOST_TURNS, rests, refusal_in}
 use Rattle.script_lines.specs.Commands.{
-    PlainOffer, PlainCommand, offer, flood, call, tick, env, rest, value, expect}
+  PlainOffer,
+  PlainCommand,
+  offer,
+  flood,
+  call,
+  tick,
+  env,
+  rest,
+  value,
+  expect,
+}
 use Rattle.script_lines.specs.declared.verbs.Call.{Call}
 use Rattle.script_lines.specs.declared.verbs.Call.TheVariants.{Begin, Finish, Skip, State}
 use Rattle.script_lines.specs.Replies.{
-    begun_text, finished_text, skipped_text, taken_text, standing_text, value_text}
+  begun_text,
+  finished_text,
+  skipped_text,
+  taken_text,
+  standing_text,
+  value_text,
+}
 use Rattle.script_lines.specs.Refused.{refused_text}
 
 -- ---- names
@@ -127,8 +158,11 @@ offered_by b values None s = record { book = b; refusal = Some NoActor }
 offered_by b values (Some x) None = record { book = b; refusal = Some NoRoute }
 offered_by b values (Some x) (Some s) =
     took b (event.Offer
-            (record { actor = x.number; signal = record { 0 = s };
-            values = record { items = values } }))
+    (record {
+      actor = x.number;
+      signal = record { 0 = s };
+      values = record { items = values };
+    }))
 
 -- why a call was refused, if it was
 abbrev pub why : {A : Type 0} → Result A Refusal → Option Refusal
@@ -171,8 +205,11 @@ done t = record { book = t.book; line = done_text t.refusal }
 -- ---- rests
 
 abbrev pub rested : Ledger → Answered
-rested b = record { book = (rests MOST_TURNS b).book; line = codes "rest "
-        ++ decimal (rests MOST_TURNS b).turns }
+rested b = record {
+  book = (rests MOST_TURNS b).book;
+  line = codes "rest "
+      ++ decimal (rests MOST_TURNS b).turns;
+}
 
 -- ---- all commands
 

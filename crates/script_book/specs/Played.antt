@@ -25,10 +25,10 @@ pub data Goes (b : Ledger) :
     List PlainSaid → List (List ℕ) → Ledger → Option (List ℕ) → Type 0 where
   begins : Goes b [] [] b None
   prints : {commands : List PlainSaid} {lines : List (List ℕ)} {now : Ledger} {last : Option
-          (List ℕ)} (said : PlainSaid)
+      (List ℕ)} (said : PlainSaid)
       → ((text : List ℕ) → said.command ≡ expect text → ⊥) → Goes b commands lines now last
       → Goes b (commands ++ said ∷ []) (lines ++ (obeyed now said.command).line
-              ∷ []) (obeyed now said.command).book (Some (obeyed now said.command).line)
+      ∷ []) (obeyed now said.command).book (Some (obeyed now said.command).line)
   holds : {commands : List PlainSaid} {lines : List (List ℕ)} {now : Ledger} {text : List ℕ}
       (said : PlainSaid)
       → said.command ≡ expect text → Goes b commands lines now (Some text)

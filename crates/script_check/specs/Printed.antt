@@ -47,7 +47,7 @@ start_line p = line_of (p.name ++ codes " START " ++ costs_text p.start.certific
 abbrev pub input_line : List DraftSignal → DraftProcess → DraftState → DraftInput → List ℕ
 input_line signals p q i =
     line_of (p.name ++ codes " " ++ q.name ++ codes "/" ++ trigger_text signals p.timers i.trigger
-        ++ codes " " ++ costs_text i.piece.certificate)
+    ++ codes " " ++ costs_text i.piece.certificate)
 
 -- the lines of the inputs of a state, in text order
 abbrev pub state_lines : List DraftSignal → DraftProcess → DraftState → List ℕ

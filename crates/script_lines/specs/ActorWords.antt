@@ -1,7 +1,21 @@
 -- Which actor a word of a script names.
 use Rattle.std.specs.Prelude.{
-    ℕ, suc, ◌==◌, nat_lt, Bool, List, [], ◌∷◌, length, map, Option, None, Some, option_map,
-    if◌then◌else◌}
+  ℕ,
+  suc,
+  ◌==◌,
+  nat_lt,
+  Bool,
+  List,
+  [],
+  ◌∷◌,
+  length,
+  map,
+  Option,
+  None,
+  Some,
+  option_map,
+  if◌then◌else◌,
+}
 use Rattle.std.specs.List.{position_or_len, before_first, after_first}
 use Rattle.std.specs.Char.{to_ascii_lowercase}
 use Rattle.std.specs.Str.{bytes_eq}
@@ -45,7 +59,7 @@ instance_part word = if has_dot word then count_of (after_first is_dot word) els
 abbrev pub actor_at : Draft → ℕ → ℕ → Option Called
 actor_at d p k =
     option_map (λ n. let c : Called = record { name = named p k; number = n }
-        in c) (place_of (named p k) (actors_of d.processes))
+    in c) (place_of (named p k) (actors_of d.processes))
 
 abbrev pub called_by : Draft → Option ℕ → Option ℕ → Option Called
 called_by d None k = None

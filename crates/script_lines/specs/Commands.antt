@@ -1,7 +1,19 @@
 -- What a line of a book script reads as.
 use Rattle.std.specs.Prelude.{
-    ℕ, if◌then◌else◌, List, [], ◌∷◌, ◌++◌, Option, None, Some, option_map, option_and_then, is_some,
-    codes}
+  ℕ,
+  if◌then◌else◌,
+  List,
+  [],
+  ◌∷◌,
+  ◌++◌,
+  Option,
+  None,
+  Some,
+  option_map,
+  option_and_then,
+  is_some,
+  codes,
+}
 use Rattle.std.specs.List.{list_all, filter_map, flat_map}
 use Rattle.std.specs.Str.{bytes_eq}
 use Rattle.turn_code.specs.declared.value.Value.{Value}
@@ -68,7 +80,7 @@ verb_among word (verb ∷ more) =
 unfoldable pub verb_of : List ℕ → Option Verb
 verb_of word = verb_among word
     (verbs.Offer ∷ verbs.Call Begin ∷ verbs.Call Finish ∷ verbs.Call Skip ∷ verbs.Call State
-            ∷ verbs.Tick ∷ verbs.Env ∷ verbs.Rest ∷ verbs.Flood ∷ verbs.Value ∷ verbs.Expect ∷ [])
+    ∷ verbs.Tick ∷ verbs.Env ∷ verbs.Rest ∷ verbs.Flood ∷ verbs.Value ∷ verbs.Expect ∷ [])
 
 -- ---- what follows it
 

@@ -1,7 +1,31 @@
 -- What a word says, where it is a number or a truth value.
 use Rattle.std.specs.Prelude.{
-    ℕ, ◌+◌, ◌-◌, ◌*◌, ◌==◌, nat_lt, nat_le, ℤ, pos, neg_ℤ, Bool as Truth, ◌&&◌, true, false,
-    if◌then◌else◌, List, [], ◌∷◌, length, fold, Option, None, Some, option_map, codes}
+  ℕ,
+  ◌+◌,
+  ◌-◌,
+  ◌*◌,
+  ◌==◌,
+  nat_lt,
+  nat_le,
+  ℤ,
+  pos,
+  neg_ℤ,
+  Bool as Truth,
+  ◌&&◌,
+  true,
+  false,
+  if◌then◌else◌,
+  List,
+  [],
+  ◌∷◌,
+  length,
+  fold,
+  Option,
+  None,
+  Some,
+  option_map,
+  codes,
+}
 use Rattle.std.specs.Char.{is_ascii_digit}
 use Rattle.std.specs.List.{list_all}
 use Rattle.std.specs.Str.{bytes_eq}
@@ -40,4 +64,4 @@ integer_of (b ∷ bs) = if b == 45 then negative bs else positive (b ∷ bs)
 unfoldable pub value_of : List ℕ → Option Value
 value_of word = if bytes_eq word (codes "true") then Some (Bool true)
     else (if bytes_eq word (codes "false") then Some (Bool false)
-            else option_map Int (integer_of word))
+    else option_map Int (integer_of word))

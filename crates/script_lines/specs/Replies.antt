@@ -1,8 +1,22 @@
 -- The lines that are printed for what a link answers, as bytes without their ends: names as they
 -- are declared, numbers in decimal.
 use Rattle.std.specs.Prelude.{
-    ℕ, List, [], ◌∷◌, ◌++◌, ◌==◌, nat_lt, if◌then◌else◌, Option, None, Some, codes, slice_get,
-    unwrap_or, length}
+  ℕ,
+  List,
+  [],
+  ◌∷◌,
+  ◌++◌,
+  ◌==◌,
+  nat_lt,
+  if◌then◌else◌,
+  Option,
+  None,
+  Some,
+  codes,
+  slice_get,
+  unwrap_or,
+  length,
+}
 use Rattle.std.specs.List.{flat_map}
 use Rattle.std.specs.Fmt.{decimal, signed_decimal}
 use Rattle.turn_code.specs.declared.value.Value.{Value}
@@ -15,7 +29,13 @@ use Rattle.turn_code.specs.declared.draft.Draft.{Draft}
 use Rattle.turn_code.specs.declared.draft.Trigger.{Trigger}
 use Rattle.turn_code.specs.declared.draft.Trigger.TheVariants.{Signal, Timer}
 use Rattle.turn_check.specs.Named.{
-    instances_at, process_names, signal_names, timer_names, state_names, trigger_at}
+  instances_at,
+  process_names,
+  signal_names,
+  timer_names,
+  state_names,
+  trigger_at,
+}
 use Rattle.actor_machine.specs.declared.name.ActorName.{ActorName}
 use Rattle.actor_machine.specs.declared.actor.Standing.{Standing}
 use Rattle.actor_machine.specs.declared.actor.Standing.TheVariants.{At, Stopped}

@@ -1,13 +1,43 @@
 -- What a book script reads as: its first lines set numbers, the others are commands.
 use Rattle.std.specs.Prelude.{
-    ℕ, ◌≡◌, ◌≤◌, Bool, nat_lt, ◌&&◌, if◌then◌else◌, List, [], ◌∷◌, length, map, Option, None, Some,
-    option_map, option_and_then, is_none, find, Result, Ok, Err, codes}
+  ℕ,
+  ◌≡◌,
+  ◌≤◌,
+  Bool,
+  nat_lt,
+  ◌&&◌,
+  if◌then◌else◌,
+  List,
+  [],
+  ◌∷◌,
+  length,
+  map,
+  Option,
+  None,
+  Some,
+  option_map,
+  option_and_then,
+  is_none,
+  find,
+  Result,
+  Ok,
+  Err,
+  codes,
+}
 use Rattle.std.specs.Int.{is_in_range}
 use Rattle.std.specs.List.{filter_map}
 use Rattle.std.specs.Str.{bytes_eq}
 use Rattle.plain_limits.specs.Limits.{
-    LEAST_ENVIRONMENT, LEAST_JOURNAL, LEAST_PORT, MOST_ENVIRONMENT, MOST_JOURNAL, MOST_PORT,
-    USUAL_ENVIRONMENT, USUAL_JOURNAL, USUAL_PORT}
+  LEAST_ENVIRONMENT,
+  LEAST_JOURNAL,
+  LEAST_PORT,
+  MOST_ENVIRONMENT,
+  MOST_JOURNAL,
+  MOST_PORT,
+  USUAL_ENVIRONMENT,
+  USUAL_JOURNAL,
+  USUAL_PORT,
+}
 use Rattle.plain_text.specs.Reading.{LONGEST}
 use Rattle.script_lines.specs.Numbers.{count_of}
 use Rattle.script_lines.specs.Lines.{PlainLine, lines_of, line_at}
@@ -26,9 +56,9 @@ abbrev pub setting_at : List ℕ → ℕ → Option Setting
 setting_at word n =
     if bytes_eq word (codes "ports") && is_in_range LEAST_PORT MOST_PORT n then Some (Ports n)
     else (if bytes_eq word (codes "env") && is_in_range LEAST_ENVIRONMENT MOST_ENVIRONMENT n
-            then Some (Env n)
+    then Some (Env n)
     else (if bytes_eq word (codes "journal") && is_in_range LEAST_JOURNAL MOST_JOURNAL n
-            then Some (Journal n) else None))
+    then Some (Journal n) else None))
 
 -- a line that sets a number
 abbrev pub setting_of : List (List ℕ) → Option Setting

@@ -1,7 +1,21 @@
 -- What a line of a link set's script reads as.
 use Rattle.std.specs.Prelude.{
-    ℕ, Bool, nat_le, ◌&&◌, if◌then◌else◌, List, [], ◌∷◌, length, Option, None, Some, option_map,
-    option_and_then, codes}
+  ℕ,
+  Bool,
+  nat_le,
+  ◌&&◌,
+  if◌then◌else◌,
+  List,
+  [],
+  ◌∷◌,
+  length,
+  Option,
+  None,
+  Some,
+  option_map,
+  option_and_then,
+  codes,
+}
 use Rattle.std.specs.Str.{bytes_eq}
 use Rattle.script_lines.specs.Numbers.{count_of}
 use Rattle.script_links.specs.Octets.{octets_of}
@@ -93,7 +107,7 @@ unfoldable pub group_word_of : List ℕ → Option GroupWord
 group_word_of word =
     group_word_among word
     (words.Fail ∷ words.Retrieve ∷ words.Abandon ∷ words.Divert ∷ words.Rebalance ∷ words.Table
-            ∷ words.Held ∷ words.Unsure ∷ [])
+    ∷ words.Held ∷ words.Unsure ∷ [])
 
 abbrev pub group_verb_text : GroupVerb → List ℕ
 group_verb_text verbs.On = codes "on"
@@ -123,5 +137,5 @@ abbrev pub group_command_of : List (List ℕ) → Option PlainGroupCommand
 group_command_of (word ∷ []) = option_map own (group_word_of word)
 group_command_of (first ∷ word ∷ []) =
     by_group_first (group_verb_of first) word
-        (option_and_then shared_of (term_command_of (first ∷ word ∷ [])))
+    (option_and_then shared_of (term_command_of (first ∷ word ∷ [])))
 group_command_of words = option_and_then shared_of (term_command_of words)

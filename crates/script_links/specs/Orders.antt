@@ -5,7 +5,16 @@ use Rattle.resend_store.specs.declared.messages.Mode.{Mode}
 use Rattle.resend_store.specs.declared.messages.Mode.TheVariants.{Basic, Cyclic}
 use Rattle.script_links.specs.declared.orders.Order.{Order}
 use Rattle.script_links.specs.declared.orders.Order.TheVariants.{
-    Power, Start, Stop, Emergency, Calm, Outage, Back, Busy, Free}
+  Power,
+  Start,
+  Stop,
+  Emergency,
+  Calm,
+  Outage,
+  Back,
+  Busy,
+  Free,
+}
 
 abbrev pub order_text : Order → List ℕ
 order_text Power = codes "power"

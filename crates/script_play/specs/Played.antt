@@ -55,7 +55,7 @@ pub data IsNoScript (old new : Option (List ℕ)) (bytes : List ℕ) : Type 0 wh
       → IsNoScript old new bytes
   bad_line : (line : ℕ) → IsUtf8 bytes → play_script_of bytes ≡ Err line
       → Appends old new (line_of (codes "refused X1 BadLine line " ++ decimal line))
-          → IsNoScript old new bytes
+      → IsNoScript old new bytes
 
 -- a set that lacks a name has no terminal, and runs the scripts of books alone
 abbrev pub HasNoOther : Draft → PlainAnyScript → Option (List ℕ) → Option (List ℕ) → Type 0

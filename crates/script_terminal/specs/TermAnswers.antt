@@ -1,6 +1,23 @@
 -- What each command of a terminal's script makes of the terminal, and the lines that it prints.
 use Rattle.std.specs.Prelude.{
-    ◌≡◌, ◌⊎◌, ℕ, ◌<◌, ◌≤◌, zero, suc, true, List, [], ◌∷◌, ◌++◌, length, Option, None, Some, codes}
+  ◌≡◌,
+  ◌⊎◌,
+  ℕ,
+  ◌<◌,
+  ◌≤◌,
+  zero,
+  suc,
+  true,
+  List,
+  [],
+  ◌∷◌,
+  ◌++◌,
+  length,
+  Option,
+  None,
+  Some,
+  codes,
+}
 use Rattle.resend_store.specs.Limits.{MOST_WAITING}
 use Rattle.resend_store.specs.Window.{waiting, with_put}
 use Rattle.resend_store.specs.declared.messages.Msu.{Msu}
@@ -25,7 +42,17 @@ use Rattle.link_term.specs.declared.answers.CallError.TheVariants.{Refused, NoMe
 use Rattle.script_links.specs.declared.orders.Order.{Order}
 use Rattle.script_links.specs.declared.orders.Order.TheVariants as word
 use Rattle.script_links.specs.TermCommands.{
-    PlainTermCommand, order, unit, line, msu, out, ticks, state, shown, expected}
+  PlainTermCommand,
+  order,
+  unit,
+  line,
+  msu,
+  out,
+  ticks,
+  state,
+  shown,
+  expected,
+}
 use Rattle.script_book.specs.Refused.{refused_text}
 use Rattle.script_book.specs.Answers.{answer_text, actor_named, state_line, value_line}
 use Rattle.script_terminal.specs.UnitLines.{IsLineOf}
@@ -72,9 +99,11 @@ IsRefusedLine NoMemory text = ⊥
 pub data Puts (m : Msu) (t : Term) : List ℕ → Term → Type 0 where
   taken : length (waiting t.processes.transceiver.sender) < MOST_WAITING
       → Puts m t (codes "ok")
-          (term_with_transceiver t
-              (record t.processes.transceiver { sender = with_put t.processes.transceiver.sender
-              m }))
+      (term_with_transceiver t
+      (record t.processes.transceiver {
+        sender = with_put t.processes.transceiver.sender
+            m;
+      }))
   full : MOST_WAITING ≤ length (waiting t.processes.transceiver.sender)
       → Puts m t (codes "refused E1 Full") t
 

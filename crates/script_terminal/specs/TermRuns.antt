@@ -30,7 +30,7 @@ pub data Goes (first : Term) :
     List PlainTermSaid → List (List ℕ) → Term → Option (List ℕ) → Type 0 where
   begins : Goes first [] [] first None
   prints : {commands : List PlainTermSaid} {lines : List (List ℕ)} {now : Term} {last : Option
-          (List ℕ)} (said : PlainTermSaid) (more : List (List ℕ))
+      (List ℕ)} (said : PlainTermSaid) (more : List (List ℕ))
       (next : Term) → Obeys said.command now more next → Goes first commands lines now last
       → Goes first (commands ++ said ∷ []) (lines ++ more) next (latest last more)
   holds : {commands : List PlainTermSaid} {lines : List (List ℕ)} {now : Term} {text : List ℕ}

@@ -9,7 +9,13 @@ use Rattle.sdl_expressions.specs.declared.bodies.Reached as the_reached
 use Rattle.sdl_expressions.specs.declared.bodies.Move as the_move
 use Rattle.sdl_expressions.specs.declared.bodies.Move.TheVariants as moves
 use Rattle.sdl_expressions.specs.Bodies.{
-    MarkedBranching, MarkedBody, MarkedReached, MarkedMove, reaches, closes}
+  MarkedBranching,
+  MarkedBody,
+  MarkedReached,
+  MarkedMove,
+  reaches,
+  closes,
+}
 use Rattle.sdl_expressions.specs.Marks.{Marked, kept, too_high}
 use Rattle.sdl_ast.specs.Plain.{PlainQuestion, PlainHead}
 use Rattle.sdl_expressions.specs.declared.bodies.Question.{Question}
@@ -30,9 +36,12 @@ head_of h = record { at = h.at; ranges = h.ranges.items }
 
 abbrev pub branching_view : the_branching.Branching → MarkedBranching
 branching_view b =
-    record { before = marked_view (λ v. map plain_statement v.items) b.before;
-        asked = question_of b.asked; answers =
-    marked_view (λ v. map plain_answer v.items) b.answers }
+    record {
+      before = marked_view (λ v. map plain_statement v.items) b.before;
+      asked = question_of b.asked;
+      answers =
+          marked_view (λ v. map plain_answer v.items) b.answers;
+    }
 
 abbrev pub body_view : the_body.Body → MarkedBody
 body_view b = record { branching = branching_view b.branching; head = option_map head_of b.head }
@@ -43,8 +52,10 @@ bodies_view bodies = reverse (map body_view bodies)
 
 abbrev pub reached_view : the_reached.Reached → MarkedReached
 reached_view r =
-    record { outer = bodies_view r.outer.items;
-        here = marked_view (λ v. map plain_statement v.items) r.here }
+    record {
+      outer = bodies_view r.outer.items;
+      here = marked_view (λ v. map plain_statement v.items) r.here;
+    }
 
 abbrev pub move_view : the_move.Move → MarkedMove
 move_view (moves.Reaches r) = reaches (reached_view r)

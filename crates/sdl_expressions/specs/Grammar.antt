@@ -17,14 +17,14 @@ pub record Gives {A : Type 0} (value : A) (tokens : List Token) (x : A) (rest : 
 
 -- one token that stands for something
 pub record Takes {A : Type 0} (f : Token
-        → Option A) (tokens : List Token) (x : A) (rest : List Token) : Type 0 where
+    → Option A) (tokens : List Token) (x : A) (rest : List Token) : Type 0 where
   pub one : Token
   pub first : tokens ≡ one ∷ rest
   pub stands : f one ≡ Some x
 
 -- one grammar, and then a second one, which may depend on what was read
 pub record Then {A B : Type 0} (p : Grammar A) (q : A
-        → Grammar B) (tokens : List Token) (y : B) (rest : List Token) : Type 0 where
+    → Grammar B) (tokens : List Token) (y : B) (rest : List Token) : Type 0 where
   pub value : A
   pub between : List Token
   pub before : p tokens value between

@@ -1,8 +1,19 @@
 -- What is read, or the place of the first TASK, OUTPUT, SET or DECISION in it that is too high.
 use Rattle.std.specs.Prelude.{ℕ, min, List, [], ◌∷◌, ◌++◌, Option, Some, None}
 use Rattle.sdl_ast.specs.Plain.{
-    PlainAnswer, Choice, PlainStatement, decide, all_answers, PlainQuestion, PlainStart,
-    PlainDeclaration, PlainState, PlainConnection, PlainProcessHead, PlainProcess}
+  PlainAnswer,
+  Choice,
+  PlainStatement,
+  decide,
+  all_answers,
+  PlainQuestion,
+  PlainStart,
+  PlainDeclaration,
+  PlainState,
+  PlainConnection,
+  PlainProcessHead,
+  PlainProcess,
+}
 use Rattle.sdl_ast.specs.Heights.{high_in_statement}
 
 pub data Marked (A : Type 0) : Type 0 where
@@ -47,8 +58,14 @@ abbrev pub process_with :
     PlainProcessHead → List PlainDeclaration → PlainStart → List PlainState → List PlainConnection
     → PlainProcess
 process_with head declarations start states connections =
-    record { name = head.name; instances = head.instances; declarations = declarations;
-        start = start; states = states; connections = connections }
+    record {
+      name = head.name;
+      instances = head.instances;
+      declarations = declarations;
+      start = start;
+      states = states;
+      connections = connections;
+    }
 
 -- STATE parts and CONNECTIONs stand mixed in the text, so the lesser of two marks stays
 abbrev pub body_marked :

@@ -1,6 +1,23 @@
 -- Reading with one token of sight: what a list of tokens reads as, and where a reading stops.
 use Rattle.std.specs.Prelude.{
-    ◌≡◌, ℕ, Bool, true, false, List, [], ◌∷◌, ◌++◌, Option, Some, None, length, suc, zero, ◌<◌, ◌≤◌}
+  ◌≡◌,
+  ℕ,
+  Bool,
+  true,
+  false,
+  List,
+  [],
+  ◌∷◌,
+  ◌++◌,
+  Option,
+  Some,
+  None,
+  length,
+  suc,
+  zero,
+  ◌<◌,
+  ◌≤◌,
+}
 use Rattle.sdl_lex.specs.declared.lexemes.Token.{Token}
 use Rattle.sdl_lex.specs.declared.lexemes.Symbol.TheVariants.{Open, Close, Comma}
 use Rattle.sdl_expressions.specs.Tokens.{begins, a_symbol}

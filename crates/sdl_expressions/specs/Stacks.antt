@@ -1,6 +1,20 @@
 -- What the code's stack of operands stands for.
 use Rattle.std.specs.Prelude.{
-    ◌≡◌, ◌<◌, Option, None, Some, List, [], ◌∷◌, map, reverse, length, Result, Ok, Err}
+  ◌≡◌,
+  ◌<◌,
+  Option,
+  None,
+  Some,
+  List,
+  [],
+  ◌∷◌,
+  map,
+  reverse,
+  length,
+  Result,
+  Ok,
+  Err,
+}
 use Rattle.sdl_lex.specs.declared.lexemes.Token.{Token}
 use Rattle.sdl_expressions.specs.declared.signs.Sign as the_sign
 use Rattle.sdl_expressions.specs.declared.signs.Sign.TheVariants as signs
@@ -13,14 +27,35 @@ use Rattle.sdl_expressions.specs.declared.operands.Turn.TheVariants as turns
 use Rattle.sdl_expressions.specs.declared.part.Part.{Part}
 use Rattle.sdl_ast.specs.Plain.{number, truth, variable}
 use Rattle.sdl_expressions.specs.Expressions.{
-    Sign, leaf, joins, minus, denies, opens, closes, other, sign}
+  Sign,
+  leaf,
+  joins,
+  minus,
+  denies,
+  opens,
+  closes,
+  other,
+  sign,
+}
 use Rattle.sdl_expressions.specs.declared.operands.Step as the_step
 use Rattle.sdl_expressions.specs.declared.operands.Step.TheVariants as steps
 use Rattle.sdl_expressions.specs.declared.stop.Stop.{Stop}
 use Rattle.sdl_expressions.specs.Readings.{read}
 use Rattle.sdl_expressions.specs.Mirrors.{Stops}
 use Rattle.sdl_expressions.specs.Machine.{
-    run, low_trees, Terms, Tests, Frame, State, wants, has, Turn, goes, done, stuck}
+  run,
+  low_trees,
+  Terms,
+  Tests,
+  Frame,
+  State,
+  wants,
+  has,
+  Turn,
+  goes,
+  done,
+  stuck,
+}
 use Rattle.sdl_expressions.specs.Parts.{slot_view}
 use Rattle.sdl_ast.specs.Views.{tree_of}
 
@@ -44,8 +79,11 @@ terms_view t = record { sum = slot_view t.sum; product = slot_view t.product; le
 
 abbrev pub tests_view : the_tests.Tests → Tests
 tests_view k =
-    record { disjunction = slot_view k.disjunction; conjunction = slot_view k.conjunction;
-        relation = slot_view k.relation }
+    record {
+      disjunction = slot_view k.disjunction;
+      conjunction = slot_view k.conjunction;
+      relation = slot_view k.relation;
+    }
 
 abbrev pub frame_view : the_frame.Frame → Frame
 frame_view f = record { opened = f.opened; tests = tests_view f.tests; terms = terms_view f.terms }

@@ -5,7 +5,17 @@ use Rattle.std.specs.Option.{option_map_or}
 use Rattle.sdl_ast.specs.declared.tree.End.{End}
 use Rattle.sdl_ast.specs.declared.tree.End.TheVariants.{NextState, Stop, Join}
 use Rattle.sdl_ast.specs.Plain.{
-    Text, falls, ends, does, decides, Choice, nothing_else, otherwise, answer, PlainConnection}
+  Text,
+  falls,
+  ends,
+  does,
+  decides,
+  Choice,
+  nothing_else,
+  otherwise,
+  answer,
+  PlainConnection,
+}
 use Rattle.turn_code.specs.declared.variable_set.VariableSet.{VariableSet}
 use Rattle.sdl_sound.specs.Longest.{Piece}
 use Rattle.sdl_meaning.specs.Act.{is_truth}
@@ -39,7 +49,7 @@ abbrev mutual
   met c m (decides at q choice rest) es =
       met c (choice_left c m choice) rest
       (if is_truth c q then else_met c m choice (answers_met c m choice es)
-              else answers_met c m choice (else_met c m choice es))
+      else answers_met c m choice (else_met c m choice es))
 
   pub answers_met : Scope → VariableSet → Choice → List VariableSet → List VariableSet
   answers_met c m nothing_else es = es
@@ -76,4 +86,4 @@ abbrev pub piece_entries : Scope → VariableSet → Piece → List ℕ → List
 piece_entries c m q order =
     connections_met c order
     (met c (places_set c m q.places) q.text
-        (map (λ (x : PlainConnection). everything) c.process.connections))
+    (map (λ (x : PlainConnection). everything) c.process.connections))

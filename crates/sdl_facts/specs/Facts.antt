@@ -4,9 +4,29 @@ use Rattle.std.specs.Prelude.{ℕ, if◌then◌else◌, List, [], ◌∷◌, ◌
 use Rattle.sdl_ast.specs.declared.expression.Identifier.{Identifier}
 use Rattle.sdl_ast.specs.declared.tree.Range.{Range}
 use Rattle.sdl_ast.specs.Plain.{
-    Tree, number, truth, variable, unary, binary, PlainAssignment, PlainSending, PlainAction, task,
-    output, set_timer, reset_timer, Text, falls, ends, does, decides, Choice, nothing_else,
-    otherwise, answer}
+  Tree,
+  number,
+  truth,
+  variable,
+  unary,
+  binary,
+  PlainAssignment,
+  PlainSending,
+  PlainAction,
+  task,
+  output,
+  set_timer,
+  reset_timer,
+  Text,
+  falls,
+  ends,
+  does,
+  decides,
+  Choice,
+  nothing_else,
+  otherwise,
+  answer,
+}
 use Rattle.turn_code.specs.Code.{shape_after}
 use Rattle.turn_code.specs.Sets.{with_variable}
 use Rattle.turn_code.specs.declared.value.Sort.{Sort}
@@ -124,5 +144,5 @@ connections_sets c es (n ∷ ns) =
 abbrev pub piece_sets : Scope → VariableSet → Piece → List ℕ → List ℕ → List VariableSet
 piece_sets c m q order ns =
     places_sets c m q.places
-        ++ (text_sets c (places_set c m q.places) q.text
-            ++ connections_sets c (piece_entries c m q order) ns)
+    ++ (text_sets c (places_set c m q.places) q.text
+    ++ connections_sets c (piece_entries c m q order) ns)

@@ -1,7 +1,19 @@
 -- What is counted at each place of code: the instructions, or the effects, of the longest way on
 -- from there.
 use Rattle.std.specs.Prelude.{
-    ◌≡◌, ℕ, ◌+◌, ◌≤◌, if◌then◌else◌, nat_lt, List, length, map, Some, get_or, slice_get}
+  ◌≡◌,
+  ℕ,
+  ◌+◌,
+  ◌≤◌,
+  if◌then◌else◌,
+  nat_lt,
+  List,
+  length,
+  map,
+  Some,
+  get_or,
+  slice_get,
+}
 use Rattle.turn_code.specs.declared.instruction.Instruction.{Instruction}
 use Rattle.turn_code.specs.Code.{successors, effects_of}
 use Rattle.turn_code.specs.Rules.{greatest}
@@ -31,7 +43,7 @@ read_at known counts k j = if nat_lt k j then number_at counts j else number_at 
 -- counts made from the end of the code on, where `known` is what places count to which the code
 -- goes back
 pub record AreCountsFrom (w : Instruction
-        → ℕ) (known : List ℕ) (code : List Instruction) (counts : List ℕ) : Type 0 where
+    → ℕ) (known : List ℕ) (code : List Instruction) (counts : List ℕ) : Type 0 where
   pub length : length counts ≡ length code
   pub each : (k : ℕ) (i : Instruction) → slice_get code k ≡ Some i
       → number_at counts k ≡ w i + greatest (map (read_at known counts k) (successors i k))

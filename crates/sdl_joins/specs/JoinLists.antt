@@ -2,7 +2,16 @@
 use Rattle.std.specs.Prelude.{List, [], ◌++◌}
 use Rattle.sdl_ast.specs.declared.tree.Join.{Join}
 use Rattle.sdl_ast.specs.Plain.{
-    Text, falls, ends, does, decides, Choice, nothing_else, otherwise, answer}
+  Text,
+  falls,
+  ends,
+  does,
+  decides,
+  Choice,
+  nothing_else,
+  otherwise,
+  answer,
+}
 use Rattle.sdl_sound.specs.Statements.{end_joins}
 
 abbrev mutual

@@ -2,7 +2,11 @@
 use Rattle.std.specs.Prelude.{ℕ, List, codes}
 use Rattle.sdl_lex.specs.declared.lexemes.LexFault.{LexFault}
 use Rattle.sdl_lex.specs.declared.lexemes.LexFault.TheVariants.{
-    BadCharacter, OpenComment, TooLong, NoMemory}
+  BadCharacter,
+  OpenComment,
+  TooLong,
+  NoMemory,
+}
 
 -- the code of a fault and its name
 abbrev pub fault_text : LexFault → List ℕ

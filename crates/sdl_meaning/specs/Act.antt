@@ -1,8 +1,36 @@
 -- What a transition does, said on its tree (Z.100, transitions, with the arithmetic of 32 bits that
 -- wraps).
 use Rattle.std.specs.Prelude.{
-    ℕ, zero, suc, ◌+◌, ℤ, pos, ◌+ℤ◌, ◌-ℤ◌, ◌*ℤ◌, neg_ℤ, int_lt, int_div, int_rem, Bool, true, false,
-    not, ◌||◌, ◌&&◌, if◌then◌else◌, List, [], ◌∷◌, length, Option, Some, None, slice_get, slice_set}
+  ℕ,
+  zero,
+  suc,
+  ◌+◌,
+  ℤ,
+  pos,
+  ◌+ℤ◌,
+  ◌-ℤ◌,
+  ◌*ℤ◌,
+  neg_ℤ,
+  int_lt,
+  int_div,
+  int_rem,
+  Bool,
+  true,
+  false,
+  not,
+  ◌||◌,
+  ◌&&◌,
+  if◌then◌else◌,
+  List,
+  [],
+  ◌∷◌,
+  length,
+  Option,
+  Some,
+  None,
+  slice_get,
+  slice_set,
+}
 use Rattle.std.specs.Int.{int_rem_euclid}
 use Rattle.std.specs.Option.{option_map}
 use Rattle.sdl_sound.specs.sdl_ast_types.expression.Identifier.{Identifier}
@@ -10,8 +38,22 @@ use Rattle.sdl_sound.specs.sdl_ast_types.expression.UnaryOperator.{UnaryOperator
 use Rattle.sdl_sound.specs.sdl_ast_types.expression.UnaryOperator.TheVariants.{Negate, Not}
 use Rattle.sdl_sound.specs.sdl_ast_types.expression.BinaryOperator.{BinaryOperator}
 use Rattle.sdl_sound.specs.sdl_ast_types.expression.BinaryOperator.TheVariants.{
-    Or, Xor, And, Equal, NotEqual, Less, LessEqual, Greater, GreaterEqual, Add, Subtract, Multiply,
-    Divide, Modulo, Remainder}
+  Or,
+  Xor,
+  And,
+  Equal,
+  NotEqual,
+  Less,
+  LessEqual,
+  Greater,
+  GreaterEqual,
+  Add,
+  Subtract,
+  Multiply,
+  Divide,
+  Modulo,
+  Remainder,
+}
 use Rattle.sdl_sound.specs.sdl_ast_types.tree.Sort.TheVariants.{Boolean}
 use Rattle.sdl_sound.specs.sdl_ast_types.tree.Party as tree_party
 use Rattle.sdl_sound.specs.sdl_ast_types.tree.Party.TheVariants as tree_parties
@@ -26,9 +68,32 @@ use Rattle.sdl_sound.specs.sdl_ast_types.tree.Relation.TheVariants as signs
 use Rattle.sdl_sound.specs.sdl_ast_types.tree.Range.{Range}
 use Rattle.sdl_sound.specs.sdl_ast_types.tree.Range.TheVariants as ranges
 use Rattle.sdl_sound.specs.Plain.{
-    Tree, number, truth, variable, unary, binary, PlainAssignment, PlainSending, PlainAction, task,
-    output, set_timer, reset_timer, Text, falls, ends, does, decides, Choice, nothing_else,
-    otherwise, answer, PlainConnection, PlainProcess, PlainBlock}
+  Tree,
+  number,
+  truth,
+  variable,
+  unary,
+  binary,
+  PlainAssignment,
+  PlainSending,
+  PlainAction,
+  task,
+  output,
+  set_timer,
+  reset_timer,
+  Text,
+  falls,
+  ends,
+  does,
+  decides,
+  Choice,
+  nothing_else,
+  otherwise,
+  answer,
+  PlainConnection,
+  PlainProcess,
+  PlainBlock,
+}
 use Rattle.turn_code.specs.declared.value.Value.{Value}
 use Rattle.turn_code.specs.declared.value.Value.TheVariants.{Int, Bool as Truth}
 use Rattle.turn_code.specs.declared.input.Input.{Input}
@@ -40,17 +105,44 @@ use Rattle.turn_code.specs.declared.instruction.Relation.{Relation}
 use Rattle.turn_code.specs.declared.instruction.Relation.TheVariants as relations
 use Rattle.turn_code.specs.declared.effect.Effect.TheVariants as effects
 use Rattle.turn_code.specs.declared.trouble.Trouble.TheVariants.{
-    Unset, WrongSort, Underflow, NoState, NoReceiver, NoAnswer, Outside}
+  Unset,
+  WrongSort,
+  Underflow,
+  NoState,
+  NoReceiver,
+  NoAnswer,
+  Outside,
+}
 use Rattle.turn_code.specs.Values.{wrap, holds, is_between, differ}
 use Rattle.turn_code.specs.Run.{
-    Progress, tick, with_variables, with_effect, of_party, sending, begun, Ran, ended, got_stuck}
+  Progress,
+  tick,
+  with_variables,
+  with_effect,
+  of_party,
+  sending,
+  begun,
+  Ran,
+  ended,
+  got_stuck,
+}
 use Rattle.sdl_sound.specs.TableNames.{number_of, variables_of, connection_named, process_names}
 use Rattle.sdl_sound.specs.Longest.{Piece, is_division}
 use Rattle.sdl_sound.specs.Sorts.{has_sort, sort_in}
 use Rattle.sdl_sound.specs.Receivers.{party_of, receivers, carries}
 use Rattle.sdl_meaning.specs.Outcomes.{
-    Scope, at_end, in_trouble, Outcome, goes_on, over, then_do, variable_at, state_at, timer_at,
-    signal_at}
+  Scope,
+  at_end,
+  in_trouble,
+  Outcome,
+  goes_on,
+  over,
+  then_do,
+  variable_at,
+  state_at,
+  timer_at,
+  signal_at,
+}
 
 -- ---- variables
 
@@ -208,7 +300,7 @@ abbrev pub receiver_of : Scope → Option Address → Option Destination → Ide
 receiver_of c sender None n = addressed (the_one c (receivers c.block (party_of c.process) n.name))
 receiver_of c sender (Some (address.Process id)) n =
     addressed (if is_carried c n (tree_parties.Process id) then numbered c (tree_parties.Process id)
-            else None)
+    else None)
 receiver_of c sender (Some (address.Sender at)) n = to_sender c n sender
 
 -- ---- actions
@@ -218,7 +310,7 @@ abbrev pub assign : Scope → List PlainAssignment → Progress → Outcome (Uni
 assign c [] s = goes_on (tt {0}) s
 assign c (a ∷ rest) s =
     then_do (value_of c a.value s)
-        (λ x s. then_do (write (variable_at c a.variable) x s) (λ _ s. assign c rest s))
+    (λ x s. then_do (write (variable_at c a.variable) x s) (λ _ s. assign c rest s))
 
 -- a signal goes out with its parameters, where there is such a signal and somebody gets it
 abbrev pub put_out : Option ℕ → Option Address → List Value → Progress → Outcome (Unit {0})
@@ -230,7 +322,7 @@ abbrev pub send :
     Scope → Option Address → Option Destination → PlainSending → Progress → Outcome (Unit {0})
 send c sender to x s =
     then_do (values_of c x.parameters s)
-        (λ xs s. put_out (signal_at c x.signal) (receiver_of c sender to x.signal) xs (tick s))
+    (λ xs s. put_out (signal_at c x.signal) (receiver_of c sender to x.signal) xs (tick s))
 
 -- the signals of an OUTPUT, one after another
 abbrev pub send_all :
@@ -324,14 +416,14 @@ abbrev pub try_ranges : List Range → ℤ → Progress → Outcome Bool
 try_ranges [] x s = goes_on false s
 try_ranges (r ∷ rs) x s =
     then_do (told (covers_integer r x) (tick s)) (λ b s. if b then goes_on true s
-        else try_ranges rs x s)
+    else try_ranges rs x s)
 
 -- the same for a truth value, which costs nothing
 abbrev pub find_truth : List Range → Bool → Progress → Outcome Bool
 find_truth [] b s = goes_on false s
 find_truth (r ∷ rs) b s =
     then_do (told (covers_truth r b) s) (λ found s. if found then goes_on true s
-        else find_truth rs b s)
+    else find_truth rs b s)
 
 -- a body that goes on does so behind its DECISION
 abbrev pub leave : Outcome (Unit {0}) → Outcome (Unit {0})
@@ -358,7 +450,7 @@ abbrev mutual
   act c join sender (decides at q choice rest) s =
       then_do (value_of c q s) (λ x s.
       then_do (decide (is_truth c q) x s (λ x. choose c join sender choice x s)
-              (λ b. pick c join sender choice b (tick s))) (λ _ s.
+      (λ b. pick c join sender choice b (tick s))) (λ _ s.
       act c join sender rest s))
 
   -- the answers to an Integer question from some answer on: the first range that holds tells the
@@ -370,7 +462,7 @@ abbrev mutual
   choose c join sender (otherwise body) x s = leave (act c join sender body (tick s))
   choose c join sender (answer at rs body others) x s =
       then_do (try_ranges rs x s) (λ found s. if found then leave (act c join sender body s)
-              else choose c join sender others x s)
+      else choose c join sender others x s)
 
   -- the answers to a Boolean question
   pub pick : Scope → (List ℕ → Progress → Outcome (Unit {0})) → Option Address → Choice → Bool
@@ -379,7 +471,7 @@ abbrev mutual
   pick c join sender (otherwise body) b s = leave (act c join sender body s)
   pick c join sender (answer at rs body others) b s =
       then_do (find_truth rs b s) (λ found s. if found then leave (act c join sender body s)
-              else pick c join sender others b s)
+      else pick c join sender others b s)
 
 -- ---- connections
 
@@ -429,7 +521,7 @@ ran (over (in_trouble t) s) = got_stuck t
 abbrev pub Act : Scope → Piece → Input → Ran
 Act c q x =
     ran (then_do (take_places c x.parameters.items 0 q.places (begun x))
-        (λ _ s. act c (join_in c x.sender) x.sender q.text s))
+    (λ _ s. act c (join_in c x.sender) x.sender q.text s))
 
 abbrev pub scope_of : PlainBlock → PlainProcess → Scope
 scope_of b p = record { block = b; process = p }

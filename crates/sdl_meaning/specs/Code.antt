@@ -1,7 +1,29 @@
 -- The instructions of a transition.
 use Rattle.std.specs.Prelude.{
-    ◌≡◌, ℕ, ◌+◌, ◌==◌, ℤ, pos, Bool, true, false, if◌then◌else◌, List, [], ◌∷◌, ◌++◌, length, map,
-    take, Option, Some, None, slice_get, Contains, fold}
+  ◌≡◌,
+  ℕ,
+  ◌+◌,
+  ◌==◌,
+  ℤ,
+  pos,
+  Bool,
+  true,
+  false,
+  if◌then◌else◌,
+  List,
+  [],
+  ◌∷◌,
+  ◌++◌,
+  length,
+  map,
+  take,
+  Option,
+  Some,
+  None,
+  slice_get,
+  Contains,
+  fold,
+}
 use Rattle.std.specs.List.{list_any, flat_map}
 use Rattle.std.specs.Option.{option_map_or}
 use Rattle.sdl_sound.specs.sdl_ast_types.expression.Identifier.{Identifier}
@@ -9,8 +31,22 @@ use Rattle.sdl_sound.specs.sdl_ast_types.expression.UnaryOperator.{UnaryOperator
 use Rattle.sdl_sound.specs.sdl_ast_types.expression.UnaryOperator.TheVariants.{Negate, Not}
 use Rattle.sdl_sound.specs.sdl_ast_types.expression.BinaryOperator.{BinaryOperator}
 use Rattle.sdl_sound.specs.sdl_ast_types.expression.BinaryOperator.TheVariants.{
-    Or, Xor, And, Equal, NotEqual, Less, LessEqual, Greater, GreaterEqual, Add, Subtract, Multiply,
-    Divide, Modulo, Remainder}
+  Or,
+  Xor,
+  And,
+  Equal,
+  NotEqual,
+  Less,
+  LessEqual,
+  Greater,
+  GreaterEqual,
+  Add,
+  Subtract,
+  Multiply,
+  Divide,
+  Modulo,
+  Remainder,
+}
 use Rattle.sdl_sound.specs.sdl_ast_types.tree.Party.TheVariants as tree_parties
 use Rattle.sdl_sound.specs.sdl_ast_types.tree.Destination.{Destination}
 use Rattle.sdl_sound.specs.sdl_ast_types.tree.Destination.TheVariants as address
@@ -22,9 +58,29 @@ use Rattle.sdl_sound.specs.sdl_ast_types.tree.Range.TheVariants as ranges
 use Rattle.sdl_sound.specs.sdl_ast_types.tree.Literal.{Literal}
 use Rattle.sdl_sound.specs.sdl_ast_types.tree.Literal.TheVariants as literals
 use Rattle.sdl_sound.specs.Plain.{
-    Tree, number, truth, variable, unary, binary, PlainAssignment, PlainSending, PlainAction, task,
-    output, set_timer, reset_timer, Text, falls, ends, does, decides, Choice, nothing_else,
-    otherwise, answer}
+  Tree,
+  number,
+  truth,
+  variable,
+  unary,
+  binary,
+  PlainAssignment,
+  PlainSending,
+  PlainAction,
+  task,
+  output,
+  set_timer,
+  reset_timer,
+  Text,
+  falls,
+  ends,
+  does,
+  decides,
+  Choice,
+  nothing_else,
+  otherwise,
+  answer,
+}
 use Rattle.turn_code.specs.declared.input.Party.{Party}
 use Rattle.turn_code.specs.declared.input.Party.TheVariants.{Environment}
 use Rattle.turn_code.specs.declared.instruction.Receiver.{Receiver}
@@ -37,11 +93,26 @@ use Rattle.sdl_sound.specs.TableNames.{variables_of}
 use Rattle.sdl_sound.specs.Going.{goes_on}
 use Rattle.sdl_sound.specs.Statements.{end_joins}
 use Rattle.sdl_sound.specs.Longest.{
-    Piece, is_division, cost_of, action_cost, jump_size, tests_size, size, bodies_size, places_cost}
+  Piece,
+  is_division,
+  cost_of,
+  action_cost,
+  jump_size,
+  tests_size,
+  size,
+  bodies_size,
+  places_cost,
+}
 use Rattle.sdl_sound.specs.Receivers.{party_of, receivers}
 use Rattle.sdl_meaning.specs.Act.{is_truth, divisor_of, relation_of, integer_in, numbered, the_one}
 use Rattle.sdl_meaning.specs.Outcomes.{
-    Scope, variable_at, state_at, timer_at, connector_at, signal_at}
+  Scope,
+  variable_at,
+  state_at,
+  timer_at,
+  connector_at,
+  signal_at,
+}
 
 -- the number of a name; its instructions are made only where it has one
 abbrev pub number_or_zero : Option ℕ → ℕ
@@ -137,7 +208,7 @@ sendings_code c to [] = []
 sendings_code c to (x ∷ rest) =
     trees_code c x.parameters
     ++ put (number_or_zero (signal_at c x.signal)) (receiver_code c to x.signal)
-        (length x.parameters) ∷ sendings_code c to rest
+    (length x.parameters) ∷ sendings_code c to rest
 
 abbrev pub action_code : Scope → PlainAction → List Instruction
 action_code c (task at ts) = tasks_code c ts
@@ -248,12 +319,12 @@ abbrev mutual
       (if is_truth c q
       then pick_code c (bodies_place (n + cost_of q)) choice
       ∷ bodies_code c to (bodies_place (n + cost_of q)) (after_choice c true (n + cost_of q) choice)
-          choice
+      choice
       else tests_code c (answers_place c (n + cost_of q) choice) choice
       ++ (else_code c to (else_place (n + cost_of q) choice)
-              (after_choice c false (n + cost_of q) choice) choice
+      (after_choice c false (n + cost_of q) choice) choice
       ++ answers_code c to (answers_place c (n + cost_of q) choice)
-          (after_choice c false (n + cost_of q) choice) choice))
+      (after_choice c false (n + cost_of q) choice) choice))
       ++ text_code c to (after_choice c (is_truth c q) (n + cost_of q) choice) rest)
 
   -- the body of ELSE at a place; what follows the DECISION stands at the second one
@@ -268,7 +339,7 @@ abbrev mutual
   answers_code c to n after (otherwise body) = []
   answers_code c to n after (answer at rs body others) =
       text_code c to n body
-          ++ (leave_code after body ++ answers_code c to (n + body_size c body) after others)
+      ++ (leave_code after body ++ answers_code c to (n + body_size c body) after others)
 
   -- these and then that of ELSE
   pub bodies_code : Scope → (ℕ → ℕ) → ℕ → ℕ → Choice → List Instruction
@@ -276,7 +347,7 @@ abbrev mutual
   bodies_code c to n after (otherwise body) = text_code c to n body ++ leave_code after body
   bodies_code c to n after (answer at rs body others) =
       text_code c to n body
-          ++ (leave_code after body ++ bodies_code c to (n + body_size c body) after others)
+      ++ (leave_code after body ++ bodies_code c to (n + body_size c body) after others)
 
 abbrev pub places_code : Scope → ℕ → List (Option Identifier) → List Instruction
 places_code c j [] = []
@@ -288,7 +359,7 @@ places_code c j (Some n ∷ rest) =
 abbrev pub truth_code : Scope → (ℕ → ℕ) → ℕ → Choice → List Instruction
 truth_code c to n choice =
     pick_code c (bodies_place n) choice
-        ∷ bodies_code c to (bodies_place n) (after_choice c true n choice) choice
+    ∷ bodies_code c to (bodies_place n) (after_choice c true n choice) choice
 
 abbrev pub integer_code : Scope → (ℕ → ℕ) → ℕ → Choice → List Instruction
 integer_code c to n choice =
@@ -314,7 +385,7 @@ abbrev mutual
   code_joins c (does a rest) = code_joins c rest
   code_joins c (decides at q choice rest) =
       (if is_truth c q then bodies_joins c choice
-              else else_joins c choice ++ answers_joins c choice) ++ code_joins c rest
+      else else_joins c choice ++ answers_joins c choice) ++ code_joins c rest
 
   pub else_joins : Scope → Choice → List tree_join.Join
   else_joins c nothing_else = []

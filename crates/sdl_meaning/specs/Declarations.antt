@@ -17,7 +17,13 @@ use Rattle.turn_code.specs.declared.draft.Trigger.{Trigger}
 use Rattle.turn_code.specs.declared.draft.Trigger.TheVariants.{Signal, Timer}
 use Rattle.turn_code.specs.Transitions.{parameters_of}
 use Rattle.sdl_sound.specs.TableNames.{
-    Variable, number_of, variables_of, timers_of, signals_of, signal_names}
+  Variable,
+  number_of,
+  variables_of,
+  timers_of,
+  signals_of,
+  signal_names,
+}
 use Rattle.sdl_sound.specs.Sorts.{parameter_sorts}
 use Rattle.sdl_meaning.specs.Outcomes.{Scope}
 use Rattle.sdl_meaning.specs.Code.{number_or_zero}
@@ -36,8 +42,11 @@ constant_value k = literal_value k.value
 -- a variable with its sort and its initial value
 abbrev pub drafted : Variable → DraftVariable
 drafted v =
-    record { name = v.name.name; sort = sort_of_tree v.sort;
-        initial = option_map constant_value v.initial }
+    record {
+      name = v.name.name;
+      sort = sort_of_tree v.sort;
+      initial = option_map constant_value v.initial;
+    }
 
 -- a signal with the sorts of its parameters
 abbrev pub drafted_signal : PlainSignal → DraftSignal

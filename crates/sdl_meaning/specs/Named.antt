@@ -1,8 +1,24 @@
 -- Texts all of whose names are declared, whose signals have receivers, and whose questions are
 -- answered.
 use Rattle.std.specs.Prelude.{
-    ◌≡◌, ℕ, ◌<◌, ◌≤◌, true, false, List, [], ◌∷◌, length, All, Contains, Option, None, Some, IsSome,
-    slice_get}
+  ◌≡◌,
+  ℕ,
+  ◌<◌,
+  ◌≤◌,
+  true,
+  false,
+  List,
+  [],
+  ◌∷◌,
+  length,
+  All,
+  Contains,
+  Option,
+  None,
+  Some,
+  IsSome,
+  slice_get,
+}
 use Rattle.sdl_sound.specs.sdl_ast_types.expression.Identifier.{Identifier}
 use Rattle.sdl_sound.specs.sdl_ast_types.tree.Party as tree_party
 use Rattle.sdl_sound.specs.sdl_ast_types.tree.Destination.{Destination}
@@ -12,9 +28,30 @@ use Rattle.sdl_sound.specs.sdl_ast_types.tree.End.TheVariants.{NextState, Stop, 
 use Rattle.sdl_sound.specs.sdl_ast_types.tree.Join as tree_join
 use Rattle.sdl_sound.specs.sdl_ast_types.tree.Range.{Range}
 use Rattle.sdl_sound.specs.Plain.{
-    Tree, number, truth, variable, unary, binary, PlainAssignment, PlainSending, PlainAction, task,
-    output, set_timer, reset_timer, Text, falls, ends, does, decides, Choice, nothing_else,
-    otherwise, answer, PlainConnection}
+  Tree,
+  number,
+  truth,
+  variable,
+  unary,
+  binary,
+  PlainAssignment,
+  PlainSending,
+  PlainAction,
+  task,
+  output,
+  set_timer,
+  reset_timer,
+  Text,
+  falls,
+  ends,
+  does,
+  decides,
+  Choice,
+  nothing_else,
+  otherwise,
+  answer,
+  PlainConnection,
+}
 use Rattle.turn_code.specs.declared.input.Address.{Address}
 use Rattle.std.specs.List.{flat_map}
 use Rattle.plain_limits.specs.Limits.{MOST_PARAMETERS}
@@ -28,7 +65,13 @@ use Rattle.sdl_sound.specs.Longest.{Piece}
 use Rattle.sdl_sound.specs.Receivers.{party_of, carries}
 use Rattle.sdl_meaning.specs.Act.{named, to_sender, receiver_of}
 use Rattle.sdl_meaning.specs.Outcomes.{
-    Scope, variable_at, state_at, timer_at, connector_at, signal_at}
+  Scope,
+  variable_at,
+  state_at,
+  timer_at,
+  connector_at,
+  signal_at,
+}
 
 abbrev pub NamedTree : Scope → Tree → Type 0
 NamedTree c (number at k) = Unit {0}
@@ -164,7 +207,7 @@ abbrev pub AnswerAll : Scope → Option Identifier → List PlainSending → Typ
 AnswerAll c from [] = Unit {0}
 AnswerAll c from (x ∷ rest) =
     ((sender : Option Address) → IsSentTo c from sender
-            → IsSome (to_sender c x.signal sender)) × AnswerAll c from rest
+    → IsSome (to_sender c x.signal sender)) × AnswerAll c from rest
 
 abbrev pub AnswersTo : Scope → Option Identifier → Option Destination → List PlainSending → Type 0
 AnswersTo c from None xs = Unit {0}

@@ -4,8 +4,17 @@ use Rattle.std.specs.Option.{option_map_or}
 use Rattle.sdl_ast.specs.Plain.{Text, Choice, PlainProcess}
 use Rattle.sdl_tables.specs.Names.{number_of, connector_names, Variable, variables_of}
 use Rattle.sdl_sound.specs.Longest.{
-    budget, case_budget, pick_budget, depth, choice_depth, effects, choice_effects, size,
-    bodies_size, tests_size}
+  budget,
+  case_budget,
+  pick_budget,
+  depth,
+  choice_depth,
+  effects,
+  choice_effects,
+  size,
+  bodies_size,
+  tests_size,
+}
 use Rattle.sdl_sound.specs.Going.{goes_on, choice_goes_on}
 use Rattle.sdl_measures.specs.Measures.{capped}
 use Rattle.sdl_measures.specs.declared.measures.Measure.{Measure}

@@ -4,7 +4,13 @@ use Rattle.std.specs.Prelude.{ℕ, suc, zero, List, [], ◌∷◌, length, Optio
 use Rattle.std.specs.List.{filter_map}
 use Rattle.sdl_lex.specs.declared.lexemes.Word.TheVariants as words
 use Rattle.sdl_lex.specs.declared.lexemes.Symbol.TheVariants.{
-    Comma, Assign, Open, Close, Plus, Colon}
+  Comma,
+  Assign,
+  Open,
+  Close,
+  Plus,
+  Colon,
+}
 use Rattle.sdl_ast.specs.declared.expression.Identifier.{Identifier}
 use Rattle.sdl_ast.specs.declared.tree.Constant.{Constant}
 use Rattle.sdl_ast.specs.declared.tree.Destination.{Destination}
@@ -13,21 +19,87 @@ use Rattle.sdl_ast.specs.declared.tree.End.TheVariants.{NextState, Stop, Join}
 use Rattle.sdl_ast.specs.declared.tree.Range.{Range}
 use Rattle.sdl_ast.specs.declared.tree.Range.TheVariants.{Compared}
 use Rattle.sdl_ast.specs.Plain.{
-    Tree, PlainAssignment, PlainSending, PlainAction, task, output, set_timer, reset_timer,
-    PlainQuestion, PlainHead, PlainStimulus, PlainClause, input, save, PlainState, PlainStart,
-    PlainEntity, process, PlainBlock, PlainConnection, PlainSection, in_state, in_connection,
-    PlainProcessHead, process_head, process_from, from_to}
+  Tree,
+  PlainAssignment,
+  PlainSending,
+  PlainAction,
+  task,
+  output,
+  set_timer,
+  reset_timer,
+  PlainQuestion,
+  PlainHead,
+  PlainStimulus,
+  PlainClause,
+  input,
+  save,
+  PlainState,
+  PlainStart,
+  PlainEntity,
+  process,
+  PlainBlock,
+  PlainConnection,
+  PlainSection,
+  in_state,
+  in_connection,
+  PlainProcessHead,
+  process_head,
+  process_from,
+  from_to,
+}
 use Rattle.sdl_expressions.specs.Tokens.{
-    a_word, a_symbol, a_number, a_name, a_count, the_number, a_closing, a_quoted, a_destination,
-    an_entity, a_declaration, a_clause, an_action, an_end, a_choice, a_relation, a_section}
+  a_word,
+  a_symbol,
+  a_number,
+  a_name,
+  a_count,
+  the_number,
+  a_closing,
+  a_quoted,
+  a_destination,
+  an_entity,
+  a_declaration,
+  a_clause,
+  an_action,
+  an_end,
+  a_choice,
+  a_relation,
+  a_section,
+}
 use Rattle.sdl_expressions.specs.Machine.{expression_at}
 use Rattle.sdl_expressions.specs.Bodies.{
-    Keeping, whole_texts, Branching, Body, Reached, Move, reaches, closes, with_answer}
+  Keeping,
+  whole_texts,
+  Branching,
+  Body,
+  Reached,
+  Move,
+  reaches,
+  closes,
+  with_answer,
+}
 use Rattle.sdl_expressions.specs.Readings.{
-    At, fails, give, token, ◌>>=◌, many, choice, optional, separated_from, separated,
-    list_in_parentheses}
+  At,
+  fails,
+  give,
+  token,
+  ◌>>=◌,
+  many,
+  choice,
+  optional,
+  separated_from,
+  separated,
+  list_in_parentheses,
+}
 use Rattle.sdl_productions.specs.DeclarationProductions.{
-    names_at, terminator_at, signals_at, route_at, connect_at, constant_at, declaration_at}
+  names_at,
+  terminator_at,
+  signals_at,
+  route_at,
+  connect_at,
+  constant_at,
+  declaration_at,
+}
 
 unfoldable pub place_at : At (Option Identifier)
 place_at = optional a_name (token a_name)
@@ -209,7 +281,7 @@ unfoldable pub head_step :
 head_step k outer d = do
   head ← head_at
   give (reaches
-          (record { outer = record { branching = d; head = head } ∷ outer; here = k.no_statement }))
+      (record { outer = record { branching = d; head = head } ∷ outer; here = k.no_statement }))
 
 -- ENDDECISION: what stands behind it is read next
 unfoldable pub closing_step :
@@ -383,7 +455,7 @@ unfoldable pub entity_at : At PlainEntity
 entity_at =
     choice (a_word words.Signal) signals_at
     (choice (a_word words.SignalRoute) route_at
-        (choice (a_word words.Connect) connect_at process_at))
+    (choice (a_word words.Connect) connect_at process_at))
 
 unfoldable pub block_at : At PlainBlock
 block_at = do

@@ -5,7 +5,17 @@ use Rattle.sdl_tables.specs.sdl_ast_types.expression.Identifier.{Identifier}
 use Rattle.sdl_tables.specs.sdl_ast_types.tree.End.{End}
 use Rattle.sdl_tables.specs.sdl_ast_types.tree.End.TheVariants.{NextState, Stop, Join}
 use Rattle.sdl_tables.specs.Plain.{
-    Text, falls, ends, does, decides, Choice, nothing_else, otherwise, answer, PlainProcess}
+  Text,
+  falls,
+  ends,
+  does,
+  decides,
+  Choice,
+  nothing_else,
+  otherwise,
+  answer,
+  PlainProcess,
+}
 use Rattle.sdl_tables.specs.Names.{is_state, connection_named, states_of}
 use Rattle.sdl_sound.specs.Paths.{Event, tree_events, action_events, reads_first, sets_in}
 
@@ -39,8 +49,12 @@ behind a b = record {
 -- one thing beside another
 abbrev pub beside : Chances → Chances → Chances
 beside a b =
-    record { reads = a.reads || b.reads; leaves = a.leaves || b.leaves; enters = a.enters
-        || b.enters }
+    record {
+      reads = a.reads || b.reads;
+      leaves = a.leaves || b.leaves;
+      enters = a.enters
+          || b.enters;
+    }
 
 -- nothing stands behind a connection
 abbrev pub last_chances : Chances → Chances
@@ -61,7 +75,7 @@ abbrev mutual
       behind (event_chances (action_events action) x) (chances states join x q rest)
   chances states join x q (decides at t c rest) =
       behind (event_chances (tree_events t) x)
-          (behind (choice_chances states join x q c) (chances states join x q rest))
+      (behind (choice_chances states join x q c) (chances states join x q rest))
 
   pub choice_chances : List Identifier → (List ℕ → Chances) → List ℕ → ℕ → Choice → Chances
   choice_chances states join x q nothing_else = no_chances
@@ -74,7 +88,7 @@ abbrev pub chances_by : PlainProcess → ℕ → List ℕ → ℕ → List ℕ �
 chances_by p zero x q y = no_chances
 chances_by p (suc n) x q y =
     option_map_or (λ c. last_chances (chances (states_of p) (chances_by p n x q) x q c.text))
-        (connection_named p y) no_chances
+    (connection_named p y) no_chances
 
 -- a connection, where no JOIN comes back: each walk follows no more JOINs than there are
 -- connections

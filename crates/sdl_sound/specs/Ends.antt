@@ -6,8 +6,25 @@ use Rattle.sdl_tables.specs.sdl_ast_types.expression.Identifier.{Identifier}
 use Rattle.sdl_tables.specs.sdl_ast_types.tree.End.{End}
 use Rattle.sdl_tables.specs.sdl_ast_types.tree.End.TheVariants.{NextState, Stop, Join}
 use Rattle.sdl_tables.specs.Plain.{
-    PlainAction, task, output, set_timer, reset_timer, Text, falls, ends, does, decides, Choice,
-    nothing_else, otherwise, answer, PlainConnection, PlainInput, PlainProcess, PlainBlock}
+  PlainAction,
+  task,
+  output,
+  set_timer,
+  reset_timer,
+  Text,
+  falls,
+  ends,
+  does,
+  decides,
+  Choice,
+  nothing_else,
+  otherwise,
+  answer,
+  PlainConnection,
+  PlainInput,
+  PlainProcess,
+  PlainBlock,
+}
 use Rattle.sdl_tables.specs.Names.{is_in, processes_of, states_of, input_parts}
 use Rattle.sdl_sound.specs.Going.{choice_goes_on}
 
@@ -44,7 +61,7 @@ abbrev mutual
   strays states off (decides at q c rest) =
       choice_strays states c
       ++ (if choice_goes_on c then strays states off rest
-              else first_place rest ++ strays states [] rest)
+      else first_place rest ++ strays states [] rest)
 
   -- a body that runs off its end goes on behind its DECISION
   pub choice_strays : List Identifier → Choice → List ℕ

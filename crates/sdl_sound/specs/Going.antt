@@ -2,7 +2,16 @@
 -- transitions, decisions.)
 use Rattle.std.specs.Prelude.{Bool, true, false, ◌&&◌, ◌||◌}
 use Rattle.sdl_tables.specs.Plain.{
-    Text, falls, ends, does, decides, Choice, nothing_else, otherwise, answer}
+  Text,
+  falls,
+  ends,
+  does,
+  decides,
+  Choice,
+  nothing_else,
+  otherwise,
+  answer,
+}
 
 abbrev mutual
   -- whether a text may run off its end

@@ -37,9 +37,9 @@ abbrev pub ChancesLaw : Type 0
 ChancesLaw =
     (b : PlainBlock) (p : PlainProcess) (order : List ℕ) (t : Transition) (x : List ℕ) (q : ℕ)
     → Sound b → Contains (processes_of b) p → IsOrder p order → IsTextOf p t.text
-        → sets_in t.first x ≡ false
+    → sets_in t.first x ≡ false
     → ((text_chances p t.text x q).reads ≡ true
-            → Reads p t x) × ((text_chances p t.text x q).enters ≡ true → Keeps p t x q)
+    → Reads p t x) × ((text_chances p t.text x q).enters ≡ true → Keeps p t x q)
 
 -- Where no JOIN comes back to its connection, no walk of a text costs more instructions than the
 -- code of the text has, with that of the connections to which it comes.

@@ -1,22 +1,74 @@
 -- The longest path of a transition: how many instructions, how many operands at once, how many
 -- effects. Each instruction counts 1. (The counts are this profile's own.)
 use Rattle.std.specs.Prelude.{
-    ℕ, zero, suc, ◌+◌, Bool, true, false, List, [], ◌∷◌, Option, None, Some, if◌then◌else◌, length,
-    max, map, sum_by}
+  ℕ,
+  zero,
+  suc,
+  ◌+◌,
+  Bool,
+  true,
+  false,
+  List,
+  [],
+  ◌∷◌,
+  Option,
+  None,
+  Some,
+  if◌then◌else◌,
+  length,
+  max,
+  map,
+  sum_by,
+}
 use Rattle.std.specs.List.{flat_map}
 use Rattle.std.specs.Option.{option_map_or}
 use Rattle.sdl_tables.specs.sdl_ast_types.expression.Identifier.{Identifier}
 use Rattle.sdl_tables.specs.sdl_ast_types.expression.BinaryOperator.{BinaryOperator}
 use Rattle.sdl_tables.specs.sdl_ast_types.expression.BinaryOperator.TheVariants.{
-    Or, Xor, And, Equal, NotEqual, Less, LessEqual, Greater, GreaterEqual, Add, Subtract, Multiply,
-    Divide, Modulo, Remainder}
+  Or,
+  Xor,
+  And,
+  Equal,
+  NotEqual,
+  Less,
+  LessEqual,
+  Greater,
+  GreaterEqual,
+  Add,
+  Subtract,
+  Multiply,
+  Divide,
+  Modulo,
+  Remainder,
+}
 use Rattle.sdl_tables.specs.sdl_ast_types.tree.Range.{Range}
 use Rattle.sdl_tables.specs.sdl_ast_types.tree.End.{End}
 use Rattle.sdl_tables.specs.sdl_ast_types.tree.End.TheVariants.{NextState, Stop, Join}
 use Rattle.sdl_tables.specs.Plain.{
-    Tree, number, truth, variable, unary, binary, PlainAssignment, PlainSending, PlainAction, task,
-    output, set_timer, reset_timer, Text, falls, ends, does, decides, Choice, nothing_else,
-    otherwise, answer, PlainProcess}
+  Tree,
+  number,
+  truth,
+  variable,
+  unary,
+  binary,
+  PlainAssignment,
+  PlainSending,
+  PlainAction,
+  task,
+  output,
+  set_timer,
+  reset_timer,
+  Text,
+  falls,
+  ends,
+  does,
+  decides,
+  Choice,
+  nothing_else,
+  otherwise,
+  answer,
+  PlainProcess,
+}
 use Rattle.sdl_tables.specs.Names.{Variable, variables_of, connection_named, Input, inputs_by_state}
 use Rattle.sdl_sound.specs.Going.{goes_on}
 use Rattle.sdl_sound.specs.Joins.{reached}
@@ -136,7 +188,7 @@ abbrev mutual
   budget vs join (does a rest) k = action_cost a + budget vs join rest k
   budget vs join (decides at q c rest) k =
       cost_of q + (if is_truth vs q then 1 + pick_budget vs join c (budget vs join rest k)
-              else case_budget vs join c (budget vs join rest k))
+      else case_budget vs join c (budget vs join rest k))
 
   -- of an Integer DECISION behind its question: the tests up to a range, its body, and 1 where the
   -- body goes on; for ELSE all tests, and 1 to drop what was asked
@@ -187,7 +239,7 @@ abbrev pub joined_by : (List Variable → (List ℕ → ℕ) → Text → ℕ) �
 joined_by measure p zero x = 0
 joined_by measure p (suc n) x =
     option_map_or (λ c. measure (variables_of p) (joined_by measure p n) c.text)
-        (connection_named p x) 0
+    (connection_named p x) 0
 
 -- As many JOINs as there are connections are enough where no JOIN comes back: a walk then meets no
 -- connection twice.

@@ -11,12 +11,39 @@ use Rattle.sdl_tables.specs.sdl_ast_types.tree.Party.TheVariants.{Environment, P
 use Rattle.sdl_tables.specs.sdl_ast_types.tree.End.{End}
 use Rattle.sdl_tables.specs.sdl_ast_types.tree.End.TheVariants.{NextState, Stop, Join}
 use Rattle.sdl_tables.specs.Plain.{
-    Tree, number, truth, variable, unary, binary, PlainAssignment, PlainSending, PlainAction, task,
-    output, set_timer, reset_timer, PlainStimulus, PlainInput, PlainState, PlainProcess, PlainPath,
-    PlainRoute, PlainBlock}
+  Tree,
+  number,
+  truth,
+  variable,
+  unary,
+  binary,
+  PlainAssignment,
+  PlainSending,
+  PlainAction,
+  task,
+  output,
+  set_timer,
+  reset_timer,
+  PlainStimulus,
+  PlainInput,
+  PlainState,
+  PlainProcess,
+  PlainPath,
+  PlainRoute,
+  PlainBlock,
+}
 use Rattle.sdl_tables.specs.Names.{
-    is_in, routes_of, processes_of, signal_names, process_names, variable_names, timers_of,
-    connector_names, input_parts, part_saves}
+  is_in,
+  routes_of,
+  processes_of,
+  signal_names,
+  process_names,
+  variable_names,
+  timers_of,
+  connector_names,
+  input_parts,
+  part_saves,
+}
 use Rattle.sdl_sound.specs.Statements.{Statement, acts, asks, covers, finishes}
 use Rattle.sdl_sound.specs.Actions.{in_statements}
 
@@ -31,7 +58,7 @@ party_names (Process id) = id ∷ []
 abbrev pub path_unknown : PlainBlock → PlainPath → List ℕ
 path_unknown b path =
     unknown (process_names b) (party_names path.from ++ party_names path.to)
-        ++ unknown (signal_names b) path.signals
+    ++ unknown (signal_names b) path.signals
 
 abbrev pub route_unknown : PlainBlock → PlainRoute → List ℕ
 route_unknown b r = flat_map (path_unknown b) r.paths
@@ -51,7 +78,7 @@ assignment_names a = a.variable ∷ tree_names a.value
 abbrev pub sending_unknown : PlainBlock → PlainProcess → PlainSending → List ℕ
 sending_unknown b p s =
     unknown (signal_names b) (s.signal ∷ [])
-        ++ unknown (variable_names p) (flat_map tree_names s.parameters)
+    ++ unknown (variable_names p) (flat_map tree_names s.parameters)
 
 -- the process to which signals go, if it is named
 abbrev pub destination_names : Option Destination → List Identifier

@@ -14,7 +14,7 @@ StandsAt p Start q i = ⊥
 StandsAt p (Takes state signal) q i =
     (id : Identifier) × (slice_get (states_of p) q ≡ Some id) × (same_name state id.name ≡ true)
     × (inp : Input) × (slice_get (inputs_of p q) i ≡ Some inp)
-        × (same_name signal inp.stimulus.name.name ≡ true)
+    × (same_name signal inp.stimulus.name.name ≡ true)
 
 -- START's transition stands first, and then those of the states in their order, of one state in the
 -- order of its inputs
@@ -24,7 +24,7 @@ Precedes p Start (Takes state signal) = ⊤
 Precedes p (Takes state signal) Start = ⊥
 Precedes p (Takes state signal) (Takes other heard) =
     (q : ℕ) × (i : ℕ) × (r : ℕ) × (j : ℕ) × StandsAt p (Takes state signal) q i
-        × StandsAt p (Takes other heard) r j × ((q < r) ⊎ ((q ≡ r) × (i < j)))
+    × StandsAt p (Takes other heard) r j × ((q < r) ⊎ ((q ≡ r) × (i < j)))
 
 -- one step, however its names are spelled
 abbrev pub IsSame : PlainProcess → Step → Step → Type 0

@@ -1,17 +1,67 @@
 -- Control paths, and what is read on them before it is set. (Z.100: the transitions of a process
 -- graph.)
 use Rattle.std.specs.Prelude.{
-    ◌≡◌, ◌⊎◌, ◌<◌, ◌≤◌, ℕ, zero, suc, Bool, true, false, not, ◌&&◌, ◌||◌, List, [], ◌∷◌, ◌++◌,
-    length, Option, None, Some, if◌then◌else◌, map, All, Contains, is_some}
+  ◌≡◌,
+  ◌⊎◌,
+  ◌<◌,
+  ◌≤◌,
+  ℕ,
+  zero,
+  suc,
+  Bool,
+  true,
+  false,
+  not,
+  ◌&&◌,
+  ◌||◌,
+  List,
+  [],
+  ◌∷◌,
+  ◌++◌,
+  length,
+  Option,
+  None,
+  Some,
+  if◌then◌else◌,
+  map,
+  All,
+  Contains,
+  is_some,
+}
 use Rattle.std.specs.List.{flat_map}
 use Rattle.std.specs.Option.{option_map_or}
 use Rattle.sdl_tables.specs.sdl_ast_types.tree.End.TheVariants.{NextState, Stop, Join}
 use Rattle.sdl_tables.specs.Plain.{
-    Tree, PlainAssignment, PlainSending, PlainAction, task, output, set_timer, reset_timer, Text,
-    falls, ends, does, decides, Choice, nothing_else, otherwise, answer, PlainConnection,
-    PlainProcess}
+  Tree,
+  PlainAssignment,
+  PlainSending,
+  PlainAction,
+  task,
+  output,
+  set_timer,
+  reset_timer,
+  Text,
+  falls,
+  ends,
+  does,
+  decides,
+  Choice,
+  nothing_else,
+  otherwise,
+  answer,
+  PlainConnection,
+  PlainProcess,
+}
 use Rattle.sdl_tables.specs.Names.{
-    same_name, number_of, Variable, variables_of, connection_named, states_of, Input, inputs_of}
+  same_name,
+  number_of,
+  Variable,
+  variables_of,
+  connection_named,
+  states_of,
+  Input,
+  inputs_of,
+}
 use Rattle.sdl_sound.specs.Names.{tree_names, place_names}
 use Rattle.sdl_sound.specs.declared.fault.Step.{Step}
 use Rattle.sdl_sound.specs.declared.fault.Step.TheVariants.{Start, Input as Takes}
@@ -133,7 +183,7 @@ Leads p (Some s) Start t = ⊥
 Leads p (Some s) (Takes state signal) t =
     (same_name s state ≡ true)
     × (i : Input) × Contains (inputs_in p s) i × (same_name signal i.stimulus.name.name ≡ true)
-        × (t ≡ input_transition i)
+    × (t ≡ input_transition i)
 
 -- whether these events read x, and set it nowhere before
 abbrev pub reads_first : List Event → List ℕ → Bool

@@ -8,8 +8,19 @@ use Rattle.sdl_sound.specs.declared.fault.Step.TheVariants.{Start, Input}
 use Rattle.sdl_sound.specs.declared.fault.ControlPath.{ControlPath}
 use Rattle.sdl_sound.specs.declared.fault.RuleFault.{RuleFault}
 use Rattle.sdl_sound.specs.declared.fault.RuleFault.TheVariants.{
-    DoubleName, UnknownName, WrongSort, NoState, NoReceiver, TwoReceivers, JoinCycle, NoAnswer,
-    BadDivisor, Limit as Passed, Unset, NoMemory}
+  DoubleName,
+  UnknownName,
+  WrongSort,
+  NoState,
+  NoReceiver,
+  TwoReceivers,
+  JoinCycle,
+  NoAnswer,
+  BadDivisor,
+  Limit as Passed,
+  Unset,
+  NoMemory,
+}
 
 -- what there is too much of
 abbrev pub limit_text : Limit → List ℕ

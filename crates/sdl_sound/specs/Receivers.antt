@@ -1,17 +1,47 @@
 -- Who gets what is sent: the OUTPUTs that nobody, or more than one, would get. (Z.100: signal
 -- routes, output.)
 use Rattle.std.specs.Prelude.{
-    ℕ, Bool, false, not, ◌&&◌, List, [], ◌∷◌, Option, None, Some, if◌then◌else◌, length, nat_lt}
+  ℕ,
+  Bool,
+  false,
+  not,
+  ◌&&◌,
+  List,
+  [],
+  ◌∷◌,
+  Option,
+  None,
+  Some,
+  if◌then◌else◌,
+  length,
+  nat_lt,
+}
 use Rattle.std.specs.List.{list_all, flat_map}
 use Rattle.sdl_tables.specs.sdl_ast_types.tree.Party.{Party}
 use Rattle.sdl_tables.specs.sdl_ast_types.tree.Party.TheVariants.{Process}
 use Rattle.sdl_tables.specs.sdl_ast_types.tree.Destination.{Destination}
 use Rattle.sdl_tables.specs.sdl_ast_types.tree.Destination.TheVariants as address
 use Rattle.sdl_tables.specs.Plain.{
-    PlainSending, PlainAction, task, output, set_timer, reset_timer, PlainProcess, PlainBlock}
+  PlainSending,
+  PlainAction,
+  task,
+  output,
+  set_timer,
+  reset_timer,
+  PlainProcess,
+  PlainBlock,
+}
 pub use Rattle.sdl_tables.specs.Routes.{
-    same_party, paths_of, brings, carries, path_receivers, path_senders, add_party, receivers,
-    senders}
+  same_party,
+  paths_of,
+  brings,
+  carries,
+  path_receivers,
+  path_senders,
+  add_party,
+  receivers,
+  senders,
+}
 use Rattle.sdl_tables.specs.Names.{is_in, processes_of, timers_of}
 use Rattle.sdl_sound.specs.Statements.{Statement, acts, asks, covers, finishes}
 use Rattle.sdl_sound.specs.Actions.{Origin, begins, takes, in_statements}
@@ -27,7 +57,7 @@ party_of p = Process p.name
 abbrev pub answers : PlainBlock → PlainProcess → List ℕ → List ℕ → Bool
 answers b p s input =
     not (is_in (timers_of p) input)
-        && list_all (λ q. carries b (party_of p) q s) (senders b (party_of p) input)
+    && list_all (λ q. carries b (party_of p) q s) (senders b (party_of p) input)
 
 -- the same for what a transition begins with; START has no sender
 abbrev pub answers_origin : PlainBlock → PlainProcess → List ℕ → Origin → Bool

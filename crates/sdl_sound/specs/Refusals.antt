@@ -16,11 +16,24 @@ use Rattle.sdl_sound.specs.PathOrder.{IsFirst}
 use Rattle.sdl_sound.specs.Spellings.{AreDeclared}
 use Rattle.sdl_sound.specs.declared.fault.RuleFault.{RuleFault}
 use Rattle.sdl_sound.specs.declared.fault.RuleFault.TheVariants.{
-    DoubleName, UnknownName, WrongSort, NoState, NoReceiver, TwoReceivers, JoinCycle, NoAnswer,
-    BadDivisor, Limit, Unset, NoMemory}
+  DoubleName,
+  UnknownName,
+  WrongSort,
+  NoState,
+  NoReceiver,
+  TwoReceivers,
+  JoinCycle,
+  NoAnswer,
+  BadDivisor,
+  Limit,
+  Unset,
+  NoMemory,
+}
 use Rattle.sdl_tables.specs.declared.fault.TableFault.{TableFault}
 use Rattle.sdl_tables.specs.declared.fault.TableFault.TheVariants.{
-    DoubleName as NoTable, NoMemory as NoRoom}
+  DoubleName as NoTable,
+  NoMemory as NoRoom,
+}
 
 -- The rules by number: each of these says that neither its own rule nor one with a lesser number is
 -- broken.
@@ -72,9 +85,9 @@ Refuses b (BadDivisor at) = IsAnswered b × Contains (bad_divisors b) at
 Refuses b (Limit which) = IsDivided b × (first_limit b ≡ Some which)
 Refuses b (Unset x path) =
     IsWithin b × (p : PlainProcess) × Contains (processes_of b) p × ReadsUnset p path.steps.items x
-        × AreDeclared b p x path.steps.items
+    × AreDeclared b p x path.steps.items
     × All (λ q. IsShortest q path.steps.items) (processes_of b)
-        × IsFirstWith (processes_of b) p path.steps.items
+    × IsFirstWith (processes_of b) p path.steps.items
     × IsFirst p path.steps.items
 Refuses b NoMemory = ⊤
 

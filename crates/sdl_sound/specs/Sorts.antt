@@ -2,8 +2,25 @@
 -- INPUT has to have, and the places in the text where it has another one. (Z.100: expressions,
 -- sorts of data.)
 use Rattle.std.specs.Prelude.{
-    ℕ, Bool, true, false, ◌&&◌, List, [], ◌∷◌, ◌++◌, Option, None, Some, if◌then◌else◌, length,
-    nat_eq, nat_lt, find, zip}
+  ℕ,
+  Bool,
+  true,
+  false,
+  ◌&&◌,
+  List,
+  [],
+  ◌∷◌,
+  ◌++◌,
+  Option,
+  None,
+  Some,
+  if◌then◌else◌,
+  length,
+  nat_eq,
+  nat_lt,
+  find,
+  zip,
+}
 use Rattle.std.specs.List.{flat_map}
 use Rattle.std.specs.Option.{option_map, option_map_or}
 use Rattle.sdl_tables.specs.sdl_ast_types.expression.Identifier.{Identifier}
@@ -11,8 +28,22 @@ use Rattle.sdl_tables.specs.sdl_ast_types.expression.UnaryOperator.{UnaryOperato
 use Rattle.sdl_tables.specs.sdl_ast_types.expression.UnaryOperator.TheVariants.{Negate, Not}
 use Rattle.sdl_tables.specs.sdl_ast_types.expression.BinaryOperator.{BinaryOperator}
 use Rattle.sdl_tables.specs.sdl_ast_types.expression.BinaryOperator.TheVariants.{
-    Or, Xor, And, Equal, NotEqual, Less, LessEqual, Greater, GreaterEqual, Add, Subtract, Multiply,
-    Divide, Modulo, Remainder}
+  Or,
+  Xor,
+  And,
+  Equal,
+  NotEqual,
+  Less,
+  LessEqual,
+  Greater,
+  GreaterEqual,
+  Add,
+  Subtract,
+  Multiply,
+  Divide,
+  Modulo,
+  Remainder,
+}
 use Rattle.sdl_tables.specs.sdl_ast_types.tree.Sort.{Sort}
 use Rattle.sdl_tables.specs.sdl_ast_types.tree.Sort.TheVariants.{Integer, Boolean}
 use Rattle.sdl_tables.specs.sdl_ast_types.tree.Constant.{Constant}
@@ -21,11 +52,33 @@ use Rattle.sdl_tables.specs.sdl_ast_types.tree.Range.TheVariants.{Value, Compare
 use Rattle.sdl_tables.specs.sdl_ast_types.tree.Literal.{Literal}
 use Rattle.sdl_tables.specs.sdl_ast_types.tree.Literal.TheVariants as literal
 use Rattle.sdl_tables.specs.Plain.{
-    Tree, number, truth, variable, unary, binary, PlainAssignment, PlainSending, PlainAction, task,
-    output, set_timer, reset_timer, PlainStimulus, PlainInput, PlainProcess, PlainBlock}
+  Tree,
+  number,
+  truth,
+  variable,
+  unary,
+  binary,
+  PlainAssignment,
+  PlainSending,
+  PlainAction,
+  task,
+  output,
+  set_timer,
+  reset_timer,
+  PlainStimulus,
+  PlainInput,
+  PlainProcess,
+  PlainBlock,
+}
 use Rattle.sdl_tables.specs.Places.{place_of}
 use Rattle.sdl_tables.specs.Names.{
-    same_name, processes_of, signal_named, Variable, variables_of, input_parts}
+  same_name,
+  processes_of,
+  signal_named,
+  Variable,
+  variables_of,
+  input_parts,
+}
 use Rattle.sdl_sound.specs.Statements.{Statement, acts, asks, covers, finishes}
 use Rattle.sdl_sound.specs.Actions.{in_statements}
 
@@ -114,7 +167,7 @@ misfit vs want t = if have_one_sort want (sort_in vs t) then [] else place_of t 
 abbrev pub wrong_operands : List Variable → BinaryOperator → Tree → Tree → List ℕ
 wrong_operands vs operator left right =
     misfit vs (operand_sort operator (sort_in vs left)) left
-        ++ misfit vs (operand_sort operator (sort_in vs left)) right
+    ++ misfit vs (operand_sort operator (sort_in vs left)) right
 
 -- every wrong operand in an expression, also one under another
 abbrev pub wrong_in : List Variable → Tree → List ℕ

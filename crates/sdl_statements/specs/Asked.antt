@@ -4,7 +4,14 @@ use Rattle.std.specs.List.{flat_map}
 use Rattle.sdl_ast.specs.declared.tree.Destination.{Destination}
 use Rattle.sdl_ast.specs.declared.tree.Destination.TheVariants.{Sender, Process}
 use Rattle.sdl_ast.specs.Plain.{
-    PlainAction, task, output, set_timer, reset_timer, PlainProcess, PlainBlock}
+  PlainAction,
+  task,
+  output,
+  set_timer,
+  reset_timer,
+  PlainProcess,
+  PlainBlock,
+}
 use Rattle.sdl_tables.specs.Names.{variables_of}
 use Rattle.sdl_sound.specs.Statements.{Statement, acts, asks, covers, finishes}
 use Rattle.sdl_sound.specs.Actions.{Origin}
@@ -15,7 +22,14 @@ use Rattle.sdl_sound.specs.Receivers.{lost_statement, doubtful_statement}
 use Rattle.sdl_sound.specs.Decisions.{statement_unanswered}
 use Rattle.sdl_statements.specs.declared.statements.StatementRule.{StatementRule}
 use Rattle.sdl_statements.specs.declared.statements.StatementRule.TheVariants.{
-    Names, Sorts, Receivers, OneReceiver, Answers, Divisors, NothingBack}
+  Names,
+  Sorts,
+  Receivers,
+  OneReceiver,
+  Answers,
+  Divisors,
+  NothingBack,
+}
 
 -- the place at which an OUTPUT says that it goes TO SENDER
 abbrev pub back_destination : Option Destination → List ℕ

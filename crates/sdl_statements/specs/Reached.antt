@@ -1,6 +1,18 @@
 -- To which connections the transitions come that begin with what a sender may have sent.
 use Rattle.std.specs.Prelude.{
-    ◌≡◌, ℕ, Bool, false, List, [], ◌∷◌, Option, Some, if◌then◌else◌, map, slice_get}
+  ◌≡◌,
+  ℕ,
+  Bool,
+  false,
+  List,
+  [],
+  ◌∷◌,
+  Option,
+  Some,
+  if◌then◌else◌,
+  map,
+  slice_get,
+}
 use Rattle.std.specs.List.{list_any, flat_map}
 use Rattle.std.specs.Option.{option_map_or}
 use Rattle.std.specs.Global.{Vec}
@@ -31,8 +43,10 @@ joining_of j = record { rows = j.rows.items; targets = j.targets.items }
 
 abbrev pub input_joining : List Identifier → PlainProcess → PlainInput → PlainJoining
 input_joining names p i =
-    record { rows = map (λ x. number_of names x.name.name) i.stimuli;
-        targets = targets_of p (joins_of i.text) }
+    record {
+      rows = map (λ x. number_of names x.name.name) i.stimuli;
+      targets = targets_of p (joins_of i.text);
+    }
 
 -- whether one of these rows is marked
 abbrev pub takes_one : List Bool → List (Option ℕ) → Bool
@@ -68,12 +82,14 @@ sent_by p t u = record { sender = u; reached = sent_reach p t u }
 -- nobody for START, and all senders of the INPUTs
 abbrev pub sent_all : PlainProcess → SenderTable → List PlainSent
 sent_all p t =
-    record { sender = Nobody;
-        reached = map (λ c. reaches p p.start.text c.name.name) p.connections }
+    record {
+      sender = Nobody;
+      reached = map (λ c. reaches p p.start.text c.name.name) p.connections;
+    }
     ∷ map (sent_by p t) (distinct t.rows.items)
 
 -- these tell for each connection who may have sent what the transitions begin with that come there
 abbrev pub AreSent : PlainBlock → PlainProcess → List Sent → Type 0
 AreSent b p sent =
     (n : ℕ) (c : PlainConnection) → slice_get p.connections n ≡ Some c
-        → AreSenders b p (senders_in (map sent_of sent) n) (connection_origins p c)
+    → AreSenders b p (senders_in (map sent_of sent) n) (connection_origins p c)

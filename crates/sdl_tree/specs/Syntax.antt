@@ -5,7 +5,13 @@ use Rattle.std.specs.List.{filter_map}
 use Rattle.sdl_lex.specs.declared.lexemes.Token.{Token}
 use Rattle.sdl_lex.specs.declared.lexemes.Word.TheVariants as words
 use Rattle.sdl_lex.specs.declared.lexemes.Symbol.TheVariants.{
-    Comma, Assign, Open, Close, Plus, Colon}
+  Comma,
+  Assign,
+  Open,
+  Close,
+  Plus,
+  Colon,
+}
 use Rattle.sdl_ast.specs.declared.expression.Identifier.{Identifier}
 use Rattle.sdl_ast.specs.declared.tree.Constant.{Constant}
 use Rattle.sdl_ast.specs.declared.tree.Destination.{Destination}
@@ -14,22 +20,85 @@ use Rattle.sdl_ast.specs.declared.tree.End.TheVariants.{NextState, Stop, Join}
 use Rattle.sdl_ast.specs.declared.tree.Range.{Range}
 use Rattle.sdl_ast.specs.declared.tree.Range.TheVariants.{Compared}
 use Rattle.sdl_ast.specs.Plain.{
-    PlainAssignment, PlainSending, PlainAction, task, output, set_timer, reset_timer, Text, falls,
-    ends, does, decides, Choice, nothing_else, otherwise, answer, PlainQuestion, PlainHead, Tree,
-    PlainStimulus, PlainClause, input, save, PlainState, PlainStart, PlainEntity, process,
-    PlainBlock, PlainConnection, PlainSection, in_state, in_connection, PlainProcessHead,
-    process_head, process_from, from_to}
+  PlainAssignment,
+  PlainSending,
+  PlainAction,
+  task,
+  output,
+  set_timer,
+  reset_timer,
+  Text,
+  falls,
+  ends,
+  does,
+  decides,
+  Choice,
+  nothing_else,
+  otherwise,
+  answer,
+  PlainQuestion,
+  PlainHead,
+  Tree,
+  PlainStimulus,
+  PlainClause,
+  input,
+  save,
+  PlainState,
+  PlainStart,
+  PlainEntity,
+  process,
+  PlainBlock,
+  PlainConnection,
+  PlainSection,
+  in_state,
+  in_connection,
+  PlainProcessHead,
+  process_head,
+  process_from,
+  from_to,
+}
 use Rattle.sdl_expressions.specs.Tokens.{
-    begins, a_word, a_symbol, a_number, a_name, a_count, the_number, a_closing, a_quoted,
-    a_destination, an_entity, a_declaration, a_clause, an_action, an_end, a_choice, a_relation,
-    a_section}
+  begins,
+  a_word,
+  a_symbol,
+  a_number,
+  a_name,
+  a_count,
+  the_number,
+  a_closing,
+  a_quoted,
+  a_destination,
+  an_entity,
+  a_declaration,
+  a_clause,
+  an_action,
+  an_end,
+  a_choice,
+  a_relation,
+  a_section,
+}
 use Rattle.sdl_expressions.specs.Grammar.{
-    Grammar, give, token, ◌>>=◌, many, choice, optional, separated_from, separated,
-    list_in_parentheses}
+  Grammar,
+  give,
+  token,
+  ◌>>=◌,
+  many,
+  choice,
+  optional,
+  separated_from,
+  separated,
+  list_in_parentheses,
+}
 use Rattle.sdl_expressions.specs.Expressions.{expression_syntax}
 use Rattle.sdl_tree.specs.DeclarationSyntax.{
-    names_syntax, terminator_syntax, signals_syntax, route_syntax, connect_syntax, constant_syntax,
-    declaration_syntax}
+  names_syntax,
+  terminator_syntax,
+  signals_syntax,
+  route_syntax,
+  connect_syntax,
+  constant_syntax,
+  declaration_syntax,
+}
 
 -- [ name ]
 unfoldable pub place_syntax : Grammar (Option Identifier)
@@ -251,7 +320,7 @@ mutual
     branches : (ts us vs ws zs : List Token) (asked : PlainQuestion) (choice : Choice) (closed : ℕ)
         (rest : Text)
         → begins an_action ts ≡ false → begins (a_word words.Decision) ts ≡ true
-            → question_syntax ts asked us
+        → question_syntax ts asked us
         → begins a_choice us ≡ true → ChoiceReads us choice vs → end_decision_syntax vs closed ws
         → TextReads ws rest zs → TextReads ts (decides asked.at asked.question choice rest) zs
 
@@ -399,7 +468,7 @@ unfoldable pub entity_syntax : Grammar PlainEntity
 entity_syntax =
     choice (a_word words.Signal) signals_syntax
     (choice (a_word words.SignalRoute) route_syntax
-        (choice (a_word words.Connect) connect_syntax process_syntax))
+    (choice (a_word words.Connect) connect_syntax process_syntax))
 
 -- BLOCK name ; { SIGNAL .. | SIGNALROUTE .. | CONNECT .. | PROCESS .. } ENDBLOCK [name] ;
 unfoldable pub block_syntax : Grammar PlainBlock

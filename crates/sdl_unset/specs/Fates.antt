@@ -1,7 +1,21 @@
 -- What becomes of the variables of a process, and how a path by numbers is named.
 use Rattle.std.specs.Prelude.{
-    ◌≡◌, ℕ, ◌<◌, Bool, true, false, not, List, [], Option, Some, length, slice_get, if◌then◌else◌,
-    ⊤}
+  ◌≡◌,
+  ℕ,
+  ◌<◌,
+  Bool,
+  true,
+  false,
+  not,
+  List,
+  [],
+  Option,
+  Some,
+  length,
+  slice_get,
+  if◌then◌else◌,
+  ⊤,
+}
 use Rattle.std.specs.Option.{option_map_or, option_and_then}
 use Rattle.std.specs.Global.{Vec}
 use Rattle.sdl_unset.specs.declared.paths.Graph.{Graph}
@@ -14,7 +28,15 @@ use Rattle.sdl_unset.specs.Order.{NotAfter, IsFirst}
 use Rattle.sdl_ast.specs.Plain.{PlainProcess, PlainBlock}
 use Rattle.sdl_ast.specs.declared.expression.Identifier.{Identifier}
 use Rattle.sdl_tables.specs.Names.{
-    same_name, number_of, variables_of, timers_of, states_of, Input, inputs_of, signal_named}
+  same_name,
+  number_of,
+  variables_of,
+  timers_of,
+  states_of,
+  Input,
+  inputs_of,
+  signal_named,
+}
 use Rattle.sdl_unset.specs.Graphs.{IsGraphOf}
 use Rattle.sdl_sound.specs.declared.fault.Step.{Step}
 use Rattle.sdl_sound.specs.declared.fault.Step.TheVariants.{Start, Input as Takes}
@@ -55,7 +77,7 @@ IsNamed p (By q i) n =
     (id : Identifier) × (slice_get (states_of p) q ≡ Some id)
     × (inp : Input) × (slice_get (inputs_of p q) i ≡ Some inp)
     × (signal : List ℕ) × (same_name signal inp.stimulus.name.name ≡ true)
-        × (n ≡ Takes id.name signal)
+    × (n ≡ Takes id.name signal)
 
 -- the timer with a name
 abbrev pub timer_named : PlainProcess → List ℕ → Option Identifier
@@ -72,7 +94,7 @@ abbrev pub IsSpelled : PlainBlock → PlainProcess → number.Step → Step → 
 IsSpelled b p First n = ⊤
 IsSpelled b p (By q i) n =
     (inp : Input) → slice_get (inputs_of p q) i ≡ Some inp → (state signal : List ℕ)
-        → n ≡ Takes state signal
+    → n ≡ Takes state signal
     → signal ≡ declared_name b p inp.stimulus.name.name
 
 -- a path reads this variable unset

@@ -1,8 +1,27 @@
 -- Paths through the transitions of a process, and what is read on them before it is set. (Z.100:
 -- the transitions of a process graph.)
 use Rattle.std.specs.Prelude.{
-    ◌≡◌, ℕ, ◌<◌, ◌≤◌, ◌==◌, Bool, true, false, length, ⊤, All, List, [], ◌∷◌, Option, Some, None,
-    Contains, slice_get, option_and_then}
+  ◌≡◌,
+  ℕ,
+  ◌<◌,
+  ◌≤◌,
+  ◌==◌,
+  Bool,
+  true,
+  false,
+  length,
+  ⊤,
+  All,
+  List,
+  [],
+  ◌∷◌,
+  Option,
+  Some,
+  None,
+  Contains,
+  slice_get,
+  option_and_then,
+}
 use Rattle.std.specs.Int.{bit_at}
 use Rattle.sdl_unset.specs.declared.paths.Passage.{Passage}
 use Rattle.sdl_unset.specs.declared.paths.Summary.{Summary}
@@ -47,7 +66,7 @@ ReadsFrom g x place [] = ⊥
 ReadsFrom g x place (step ∷ []) = (t : Summary) × Leads g place step t × (has t.reads x ≡ true)
 ReadsFrom g x place (step ∷ next ∷ steps) =
     (t : Summary) × (s : ℕ) × Leads g place step t × Passes t x s
-        × ReadsFrom g x (Some s) (next ∷ steps)
+    × ReadsFrom g x (Some s) (next ∷ steps)
 
 -- a path from START on, the last transition of which reads x unset
 abbrev pub ReadsUnset : Graph → ℕ → List Step → Type 0

@@ -28,5 +28,5 @@ pub record IsGraphOf (p : PlainProcess) (g : Graph) : Type 0 where
   pub start : IsSummaryOf p (start_transition p) g.start
   pub states :
       AllZip (λ (is : List Input) (v : Vec Summary).
-          AllZip (λ i s. IsSummaryOf p (input_transition i) s) is v.items) (inputs_by_state p)
+      AllZip (λ i s. IsSummaryOf p (input_transition i) s) is v.items) (inputs_by_state p)
       g.states.items

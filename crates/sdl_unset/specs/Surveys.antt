@@ -32,5 +32,5 @@ AreSurveys b (Ok sets) =
     AllSettled (processes_of b) sets.items × All NeverReadsUnset (processes_of b)
 AreSurveys b (Err u) =
     (p : PlainProcess) × Contains (processes_of b) p × IsUnset b p u
-        × All (λ q. IsShortest q u.path.steps.items) (processes_of b)
+    × All (λ q. IsShortest q u.path.steps.items) (processes_of b)
     × IsFirstWith (processes_of b) p u.path.steps.items × IsFirst p u.path.steps.items

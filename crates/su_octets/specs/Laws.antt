@@ -15,7 +15,7 @@ RemaindersAdd =
 abbrev pub CheckIsOneRemainder : Type 0
 CheckIsOneRemainder = (content check : List ℕ) → Check content check
     → IsRemainder (reverse (map not (bits_of check)))
-        (plus (raised_ones (length (bits_of content))) (raised (content_polynomial content)))
+    (plus (raised_ones (length (bits_of content))) (raised (content_polynomial content)))
 
 -- a content has one pair of check octets
 abbrev pub OneCheck : Type 0

@@ -9,7 +9,11 @@ use Rattle.su_octets.specs.declared.units.Unit.{Unit}
 use Rattle.su_octets.specs.declared.units.Unit.TheVariants.{Fisu, Lssu, Msu}
 use Rattle.su_octets.specs.declared.units.UnitFault.{UnitFault}
 use Rattle.su_octets.specs.declared.units.UnitFault.TheVariants.{
-    TooShort, TooLong, BadCheck, BadLength}
+  TooShort,
+  TooLong,
+  BadCheck,
+  BadLength,
+}
 
 -- the numbers and indicator bits, backward before forward
 abbrev pub head_text : Head → List ℕ

@@ -1,8 +1,29 @@
 -- Timers in the lists of slots, by their deadlines' remainders; what stands in the lists of the
 -- next clocks' slots.
 use Rattle.std.specs.Prelude.{
-    ◌≡◌, ℕ, zero, suc, ◌+◌, ◌%◌, ◌<◌, ◌≤◌, Bool, false, nat_eq, nat_le, if◌then◌else◌, List, [],
-    ◌∷◌, ◌++◌, length, get_or, Option, None, Some}
+  ◌≡◌,
+  ℕ,
+  zero,
+  suc,
+  ◌+◌,
+  ◌%◌,
+  ◌<◌,
+  ◌≤◌,
+  Bool,
+  false,
+  nat_eq,
+  nat_le,
+  if◌then◌else◌,
+  List,
+  [],
+  ◌∷◌,
+  ◌++◌,
+  length,
+  get_or,
+  Option,
+  None,
+  Some,
+}
 use Rattle.std.specs.List.{list_any, IsDistinct}
 use Rattle.std.specs.FinMap as finite
 use Rattle.plain_limits.specs.Limits.{LAST_TICK}

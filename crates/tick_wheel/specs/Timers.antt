@@ -1,6 +1,20 @@
 -- The timers of a link: a clock, and the deadline of each timer that is active (Z.100, timers).
 use Rattle.std.specs.Prelude.{
-    ◌≡◌, ◌↔◌, ◌≤◌, ℕ, Bool, false, not, List, map, filter, nat_le, Contains, Some, refl}
+  ◌≡◌,
+  ◌↔◌,
+  ◌≤◌,
+  ℕ,
+  Bool,
+  false,
+  not,
+  List,
+  map,
+  filter,
+  nat_le,
+  Contains,
+  Some,
+  refl,
+}
 use Rattle.std.specs.List.Sorted.{IsStrictlySortedBy}
 use Rattle.std.specs.declared.cmp.Ordering.{Ordering}
 use Rattle.std.specs.Coded.{Coded, code_by, coded×, coded_ℕ}
@@ -22,13 +36,13 @@ pub record Timers : Type 0 where
 abbrev pub timer_id_code : Coded TimerId
 timer_id_code =
     code_by (ℕ
-        × ℕ) (coded× coded_ℕ coded_ℕ) (λ t. (t.actor, t.number))
+    × ℕ) (coded× coded_ℕ coded_ℕ) (λ t. (t.actor, t.number))
     (λ p. record { actor = p.0; number = p.1 }) (λ _. refl)
 
 abbrev pub timers_code : Coded Timers
 timers_code =
     code_by (ℕ
-        × Deadlines) (coded× coded_ℕ (finite.code timer_id_code coded_ℕ))
+    × Deadlines) (coded× coded_ℕ (finite.code timer_id_code coded_ℕ))
     (λ t. (t.clock, t.deadlines)) (λ p. record { clock = p.0; deadlines = p.1 }) (λ _. refl)
 
 -- by deadline, then by actor, then by number

@@ -23,15 +23,15 @@ timers_of t = record { clock = t.clock; deadlines = t.deadlines }
 -- a due timer as the pair of its parts
 abbrev pub due_code : Coded Due
 due_code = code_by (ℕ
-        × TimerId) (coded× coded_ℕ timer_id_code) (λ d. (d.deadline, d.timer))
+    × TimerId) (coded× coded_ℕ timer_id_code) (λ d. (d.deadline, d.timer))
     (λ p. record { deadline = p.0; timer = p.1 }) (λ _. refl)
 
 -- as its parts
 abbrev pub turning_code : Coded Turning
 turning_code =
     code_by ((ℕ × Deadlines)
-        × (List Due
-        × ℕ)) (coded× (coded× coded_ℕ (finite.code timer_id_code coded_ℕ))
+    × (List Due
+    × ℕ)) (coded× (coded× coded_ℕ (finite.code timer_id_code coded_ℕ))
     (coded× (coded_list due_code) coded_ℕ)) (λ t. ((t.clock, t.deadlines), (t.due, t.looked)))
     (λ p. record { clock = p.0.0; deadlines = p.0.1; due = p.1.0; looked = p.1.1 }) (λ _. refl)
 

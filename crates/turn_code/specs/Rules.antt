@@ -1,22 +1,67 @@
 -- What a valid draft keeps, rule by rule, at each place of each transition.
 use Rattle.std.specs.Prelude.{
-    ◌≡◌, ℕ, ◌+◌, ◌<◌, ◌≤◌, pos, ◌≤ℤ◌, max, List, [], ◌∷◌, length, map, sum_by, All, Contains,
-    Option, Some, None, IfSome, slice_get}
+  ◌≡◌,
+  ℕ,
+  ◌+◌,
+  ◌<◌,
+  ◌≤◌,
+  pos,
+  ◌≤ℤ◌,
+  max,
+  List,
+  [],
+  ◌∷◌,
+  length,
+  map,
+  sum_by,
+  All,
+  Contains,
+  Option,
+  Some,
+  None,
+  IfSome,
+  slice_get,
+}
 use Rattle.plain_limits.specs.Limits.{
-    MOST_EFFECTS, MOST_INSTANCES, MOST_INSTRUCTIONS, MOST_OPERANDS, MOST_PARAMETERS, MOST_PIECES,
-    MOST_PROCESSES, MOST_SIGNALS, MOST_STATES, MOST_TIMERS_EACH, MOST_VARIABLES}
+  MOST_EFFECTS,
+  MOST_INSTANCES,
+  MOST_INSTRUCTIONS,
+  MOST_OPERANDS,
+  MOST_PARAMETERS,
+  MOST_PIECES,
+  MOST_PROCESSES,
+  MOST_SIGNALS,
+  MOST_STATES,
+  MOST_TIMERS_EACH,
+  MOST_VARIABLES,
+}
 use Rattle.turn_code.specs.Values.{sort_of}
 use Rattle.turn_code.specs.Sets.{Has, IsWithin}
 use Rattle.turn_code.specs.Routes.{IsPartyOf, Reaches, Answers}
 use Rattle.turn_code.specs.Code.{
-    takes, shape_left, shape_after, reads, sets, set_after, parameters_in, timers_in, divisors_in,
-    states_in, jumps, behind, successors, effects_of}
+  takes,
+  shape_left,
+  shape_after,
+  reads,
+  sets,
+  set_after,
+  parameters_in,
+  timers_in,
+  divisors_in,
+  states_in,
+  jumps,
+  behind,
+  successors,
+  effects_of,
+}
 use Rattle.turn_code.specs.Transitions.{Transition, parameters_of}
 use Rattle.turn_code.specs.declared.value.Sort.{Sort}
 use Rattle.turn_code.specs.declared.numbers.SignalNumber.{SignalNumber}
 use Rattle.turn_code.specs.declared.instruction.Receiver.{Receiver}
 use Rattle.turn_code.specs.declared.instruction.Receiver.TheVariants.{
-    Party as ToParty, Sender as ToSender}
+  Party as ToParty,
+  Sender as ToSender,
+}
 use Rattle.turn_code.specs.declared.instruction.Instruction.{Instruction}
 use Rattle.turn_code.specs.declared.instruction.Instruction.TheVariants.{Output}
 use Rattle.turn_code.specs.declared.draft.Draft.{Draft}
@@ -57,7 +102,7 @@ pub record KeepsShapes (ss : List DraftSignal) (t : Transition) (k : ℕ) : Type
   pub entry : k ≡ 0 → AtEach t.piece (0 ∷ []) (λ f. f.shape ≡ [])
   pub each : AtPlace t.piece k
       (λ i f. AtEach t.piece (behind i k) (λ g. g.shape
-              ≡ shape_after ss t.process.variables t.parameters i f.shape))
+      ≡ shape_after ss t.process.variables t.parameters i f.shape))
   pub jumped : AtPlace t.piece k
       (λ i f. AtEach t.piece (jumps i) (λ g. g.shape ≡ shape_left ss t.process.variables i f.shape))
 
@@ -92,7 +137,7 @@ pub record KeepsSets (t : Transition) (k : ℕ) : Type 0 where
       (λ i f. AtEach t.piece (successors i k) (λ g. IsWithin g.set (set_after i f.set)))
   pub states : AtPlace t.piece k
       (λ i f. (q : ℕ) (s : DraftState) → Contains (states_in i) q
-              → slice_get t.process.states q ≡ Some s → IsWithin s.set (set_after i f.set))
+      → slice_get t.process.states q ≡ Some s → IsWithin s.set (set_after i f.set))
 
 -- ---- V6: a state where the code ends is there
 abbrev pub HasStates : Transition → ℕ → Type 0
@@ -217,4 +262,4 @@ pub record KeepsCounts (t : Transition) (k : ℕ) : Type 0 where
       AtPlace t.piece k (λ i f. f.count ≡ 1 + greatest (counts_at t.piece (successors i k)))
   pub effects :
       AtPlace t.piece k (λ i f. f.effects
-          ≡ effects_of i + greatest (effects_at t.piece (successors i k)))
+      ≡ effects_of i + greatest (effects_at t.piece (successors i k)))

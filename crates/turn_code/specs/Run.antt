@@ -1,9 +1,40 @@
 -- What code does: one instruction on a list of values with their sorts, and a run of as many of
 -- them as a turn may take.
 use Rattle.std.specs.Prelude.{
-    ◌≡◌, ℕ, zero, suc, ◌+◌, ℤ, pos, ◌+ℤ◌, ◌-ℤ◌, ◌*ℤ◌, neg_ℤ, int_lt, int_div, int_rem,
-    Bool as Truth, not, ◌&&◌, ◌||◌, if◌then◌else◌, nat_le, List, [], ◌∷◌, ◌++◌, length, take, drop,
-    reverse, Option, Some, None, slice_get, slice_set}
+  ◌≡◌,
+  ℕ,
+  zero,
+  suc,
+  ◌+◌,
+  ℤ,
+  pos,
+  ◌+ℤ◌,
+  ◌-ℤ◌,
+  ◌*ℤ◌,
+  neg_ℤ,
+  int_lt,
+  int_div,
+  int_rem,
+  Bool as Truth,
+  not,
+  ◌&&◌,
+  ◌||◌,
+  if◌then◌else◌,
+  nat_le,
+  List,
+  [],
+  ◌∷◌,
+  ◌++◌,
+  length,
+  take,
+  drop,
+  reverse,
+  Option,
+  Some,
+  None,
+  slice_get,
+  slice_set,
+}
 use Rattle.std.specs.Int.{int_rem_euclid}
 use Rattle.plain_limits.specs.Limits.{MOST_INSTRUCTIONS}
 use Rattle.turn_code.specs.Values.{wrap, holds, is_between, differ}
@@ -12,11 +43,40 @@ use Rattle.turn_code.specs.declared.value.Value.TheVariants.{Int, Bool}
 use Rattle.turn_code.specs.declared.numbers.SignalNumber.{SignalNumber}
 use Rattle.turn_code.specs.declared.instruction.Receiver.{Receiver}
 use Rattle.turn_code.specs.declared.instruction.Receiver.TheVariants.{
-    Party as ToParty, Sender as ToSender}
+  Party as ToParty,
+  Sender as ToSender,
+}
 use Rattle.turn_code.specs.declared.instruction.Instruction.{Instruction}
 use Rattle.turn_code.specs.declared.instruction.Instruction.TheVariants.{
-    Int as PutInt, Bool as PutBool, Load, Store, Param, Add, Sub, Mul, Div, Mod, Rem, Neg, Not, And,
-    Or, Xor, Same, Compare, Case, CaseWithin, Pick, Drop, Jump, Output, Set, Reset, Next, Stop}
+  Int as PutInt,
+  Bool as PutBool,
+  Load,
+  Store,
+  Param,
+  Add,
+  Sub,
+  Mul,
+  Div,
+  Mod,
+  Rem,
+  Neg,
+  Not,
+  And,
+  Or,
+  Xor,
+  Same,
+  Compare,
+  Case,
+  CaseWithin,
+  Pick,
+  Drop,
+  Jump,
+  Output,
+  Set,
+  Reset,
+  Next,
+  Stop,
+}
 use Rattle.turn_code.specs.declared.input.Input.{Input}
 use Rattle.turn_code.specs.declared.input.Party.{Party}
 use Rattle.turn_code.specs.declared.input.Address.{Address}
@@ -26,7 +86,12 @@ use Rattle.turn_code.specs.declared.machine.End.{End}
 use Rattle.turn_code.specs.declared.machine.End.TheVariants as end
 use Rattle.turn_code.specs.declared.trouble.Trouble.{Trouble}
 use Rattle.turn_code.specs.declared.trouble.Trouble.TheVariants.{
-    Unset, WrongSort, Underflow, NoReceiver, Outside}
+  Unset,
+  WrongSort,
+  Underflow,
+  NoReceiver,
+  Outside,
+}
 
 -- what a run has done so far: its variables, none where one isn't set, its effects in order, and
 -- how many instructions it took
@@ -111,7 +176,7 @@ on_two f k os s = on_integers os (λ x y rest. goes k (Int (wrap (f x y)) ∷ re
 abbrev pub divided : (ℤ → ℤ → ℤ) → ℤ → ℕ → List Value → Progress → After
 divided f z k os s =
     on_integer os (λ x rest. if int_lt (pos 0) z then goes k (Int (f x z) ∷ rest) s
-            else stuck WrongSort)
+    else stuck WrongSort)
 
 -- an operation on two Booleans
 abbrev pub joined : (Truth → Truth → Truth) → ℕ → List Value → Progress → After

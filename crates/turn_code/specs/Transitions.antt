@@ -37,8 +37,14 @@ trigger_parameters signals (Timer t) = []
 
 abbrev pub start_of : ℕ → DraftProcess → Transition
 start_of n p =
-    record { number = n; process = p; trigger = None; parameters = [];
-        entry = initial_set p.variables; piece = p.start }
+    record {
+      number = n;
+      process = p;
+      trigger = None;
+      parameters = [];
+      entry = initial_set p.variables;
+      piece = p.start;
+    }
 
 abbrev pub input_of : List DraftSignal → ℕ → DraftProcess → DraftState → DraftInput → Transition
 input_of signals n p q x = record {

@@ -1,6 +1,20 @@
 -- Values, their sorts, the arithmetic of Integers, and how two values are compared.
 use Rattle.std.specs.Prelude.{
-    ◌≡◌, ℤ, pos, neg_ℤ, ◌+ℤ◌, ◌*ℤ◌, ◌≤ℤ◌, Bool as Truth, true, false, not, ◌&&◌, int_lt, int_le}
+  ◌≡◌,
+  ℤ,
+  pos,
+  neg_ℤ,
+  ◌+ℤ◌,
+  ◌*ℤ◌,
+  ◌≤ℤ◌,
+  Bool as Truth,
+  true,
+  false,
+  not,
+  ◌&&◌,
+  int_lt,
+  int_le,
+}
 use Rattle.std.specs.Ordering.{int_eq}
 use Rattle.std.specs.Int.{int_wrap, w32}
 use Rattle.turn_code.specs.declared.value.Sort.{Sort}
@@ -9,7 +23,13 @@ use Rattle.turn_code.specs.declared.value.Value.{Value}
 use Rattle.turn_code.specs.declared.value.Value.TheVariants.{Int, Bool}
 use Rattle.turn_code.specs.declared.instruction.Relation.{Relation}
 use Rattle.turn_code.specs.declared.instruction.Relation.TheVariants.{
-    Equal, NotEqual, Less, LessEqual, Greater, GreaterEqual}
+  Equal,
+  NotEqual,
+  Less,
+  LessEqual,
+  Greater,
+  GreaterEqual,
+}
 
 abbrev pub sort_of : Value → Sort
 sort_of (Int z) = Integer

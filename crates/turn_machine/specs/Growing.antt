@@ -13,7 +13,7 @@ abbrev pub IsGrown : Piece → Option Given → List Effect → List Effect → 
 IsGrown p None old new = new ≡ old
 IsGrown p (Some given) old new =
     (e : Effect) × IsEffectOf p.sender given e × IsOfSorts p.sorts.now e
-        × (length old < MOST_EFFECTS) × (new ≡ old ++ e ∷ [])
+    × (length old < MOST_EFFECTS) × (new ≡ old ++ e ∷ [])
 
 -- there are such effects
 abbrev pub CanGrow : Piece → Option Given → List Effect → Type 0

@@ -2,14 +2,49 @@
 use Rattle.std.specs.Prelude.{ℕ, ℤ, pos, true, false}
 use Rattle.turn_code.specs.declared.instruction.Relation.{Relation}
 use Rattle.turn_code.specs.declared.instruction.Relation.TheVariants.{
-    Equal, NotEqual, Less, LessEqual, Greater, GreaterEqual}
+  Equal,
+  NotEqual,
+  Less,
+  LessEqual,
+  Greater,
+  GreaterEqual,
+}
 use Rattle.turn_code.specs.declared.instruction.Receiver.TheVariants.{
-    Party as ToParty, Sender as ToSender}
+  Party as ToParty,
+  Sender as ToSender,
+}
 use Rattle.turn_code.specs.declared.input.Party.TheVariants.{Environment, Process}
 use Rattle.turn_code.specs.declared.instruction.Instruction.{Instruction}
 use Rattle.turn_code.specs.declared.instruction.Instruction.TheVariants.{
-    Int as PutInt, Bool as PutBool, Load, Store, Param, Add, Sub, Mul, Div, Mod, Rem, Neg, Not, And,
-    Or, Xor, Same, Compare, Case, CaseWithin, Pick, Drop, Jump, Output, Set, Reset, Next, Stop}
+  Int as PutInt,
+  Bool as PutBool,
+  Load,
+  Store,
+  Param,
+  Add,
+  Sub,
+  Mul,
+  Div,
+  Mod,
+  Rem,
+  Neg,
+  Not,
+  And,
+  Or,
+  Xor,
+  Same,
+  Compare,
+  Case,
+  CaseWithin,
+  Pick,
+  Drop,
+  Jump,
+  Output,
+  Set,
+  Reset,
+  Next,
+  Stop,
+}
 use Rattle.turn_machine.specs.declared.parts.Parts.{Parts}
 
 abbrev pub row : ℕ → ℤ → ℤ → ℕ → ℕ → Parts

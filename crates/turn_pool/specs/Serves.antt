@@ -22,4 +22,4 @@ abbrev pub HandsBack : List Ledger → ℕ → PoolFault → Type 0
 HandsBack links workers (NoMemory books) = (books.items ≡ links) × AreServed (length links) workers
 HandsBack links workers (NoWorkers books) =
     (length books.items ≡ length links) × ((AreServed (length links) workers → ⊥)
-        → books.items ≡ links)
+    → books.items ≡ links)

@@ -1,14 +1,53 @@
 -- What each rule wants of an instruction and its facts, and of a transition as it begins.
 use Rattle.std.specs.Prelude.{
-    ◌≡◌, ℕ, ◌+◌, ◌<◌, ◌≤◌, ◌≤ℤ◌, pos, [], List, length, All, Contains, Some, None, slice_get}
+  ◌≡◌,
+  ℕ,
+  ◌+◌,
+  ◌<◌,
+  ◌≤◌,
+  ◌≤ℤ◌,
+  pos,
+  [],
+  List,
+  length,
+  All,
+  Contains,
+  Some,
+  None,
+  slice_get,
+}
 use Rattle.turn_code.specs.Sets.{Has, IsWithin}
 use Rattle.turn_code.specs.Code.{
-    takes, shape_after, shape_left, reads, sets, set_after, parameters_in, timers_in, divisors_in,
-    states_in, jumps, behind, successors, effects_of}
+  takes,
+  shape_after,
+  shape_left,
+  reads,
+  sets,
+  set_after,
+  parameters_in,
+  timers_in,
+  divisors_in,
+  states_in,
+  jumps,
+  behind,
+  successors,
+  effects_of,
+}
 use Rattle.turn_code.specs.Transitions.{Transition}
 use Rattle.turn_code.specs.Rules.{
-    AtEach, Agree, StartsRight, HasTrigger, HasSaves, KeepsOutput, KeepsProcessLimits,
-    KeepsPieceLimits, KeepsCertificate, greatest, counts_at, effects_at}
+  AtEach,
+  Agree,
+  StartsRight,
+  HasTrigger,
+  HasSaves,
+  KeepsOutput,
+  KeepsProcessLimits,
+  KeepsPieceLimits,
+  KeepsCertificate,
+  greatest,
+  counts_at,
+  effects_at,
+}
 use Rattle.turn_code.specs.declared.value.Sort.{Sort as SortOf}
 use Rattle.turn_code.specs.declared.instruction.Instruction.{Instruction}
 use Rattle.turn_code.specs.declared.draft.Draft.{Draft}
@@ -19,7 +58,16 @@ use Rattle.turn_code.specs.declared.draft.PlaceFacts.{PlaceFacts}
 use Rattle.turn_code.specs.declared.variable_set.VariableSet.{VariableSet}
 use Rattle.turn_code.specs.declared.rule.Rule.{Rule}
 use Rattle.turn_code.specs.declared.rule.Rule.TheVariants.{
-    Jump, Shape, Under, Sort, Unset, State, Number, Limit, Budget}
+  Jump,
+  Shape,
+  Under,
+  Sort,
+  Unset,
+  State,
+  Number,
+  Limit,
+  Budget,
+}
 
 pub record SetsPart (t : Transition) (k : ℕ) (i : Instruction) (f : PlaceFacts) : Type 0 where
   pub reads_set : All (Has f.set) (reads i)
@@ -33,7 +81,7 @@ pub record SetsPart (t : Transition) (k : ℕ) (i : Instruction) (f : PlaceFacts
 pub record ShapesPart (ss : List DraftSignal) (t : Transition) (k : ℕ) (i : Instruction)
     (shape : List SortOf) : Type 0 where
   pub each : AtEach t.piece (behind i k) (λ g. g.shape
-          ≡ shape_after ss t.process.variables t.parameters i shape)
+      ≡ shape_after ss t.process.variables t.parameters i shape)
   pub jumped : AtEach t.piece (jumps i) (λ g. g.shape ≡ shape_left ss t.process.variables i shape)
 
 pub record NumbersPart (d : Draft) (t : Transition) (i : Instruction) : Type 0 where

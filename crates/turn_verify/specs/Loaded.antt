@@ -1,7 +1,25 @@
 -- What loading a text gives: the set of its block, or the refusal of the first layer that refuses.
 use Rattle.std.specs.Prelude.{
-    ◌≡◌, ℕ, ◌+◌, ◌-◌, ◌==◌, ◌≤◌, List, length, take, count_by, min, Option, None, Some, option_map,
-    slice_get, Result, Ok, Err}
+  ◌≡◌,
+  ℕ,
+  ◌+◌,
+  ◌-◌,
+  ◌==◌,
+  ◌≤◌,
+  List,
+  length,
+  take,
+  count_by,
+  min,
+  Option,
+  None,
+  Some,
+  option_map,
+  slice_get,
+  Result,
+  Ok,
+  Err,
+}
 use Rattle.std.specs.Option.{option_map_or}
 use Rattle.sdl_lex.specs.Lexed.{Answers, place_of}
 use Rattle.sdl_lex.specs.declared.lexemes.Token.{Token}
@@ -82,7 +100,7 @@ pub record IsUnlexed (text : List ℕ) (fault : LexFault) (line : ℕ) : Type 0 
 abbrev pub IsUnread : List ℕ → List Token → ParseFault → ℕ → Type 0
 IsUnread text tokens (parsing.Unexpected index) line =
     refusals.Refuses tokens (parsing.Unexpected index)
-        × Settled tokens (Err (parsing.Unexpected index)) ×
+    × Settled tokens (Err (parsing.Unexpected index)) ×
     (line ≡ line_at text (token_place tokens index))
 IsUnread text tokens (parsing.TooDeep place) line =
     refusals.Refuses tokens (parsing.TooDeep place) × (line ≡ line_at text place)

@@ -1,9 +1,42 @@
 -- What an instruction does on bare words: a Boolean is 0 or 1, and nothing says which sort a word
 -- has.
 use Rattle.std.specs.Prelude.{
-    ℕ, ◌+◌, ◌-◌, ◌^◌, ◌<◌, ◌≤◌, ℤ, pos, ◌≤ℤ◌, neg_ℤ, bit_or, ◌+ℤ◌, ◌-ℤ◌, ◌*ℤ◌, int_div, int_rem,
-    Bool as Truth, true, false, not, ◌&&◌, ◌||◌, if◌then◌else◌, List, ◌∷◌, ◌++◌, take, drop,
-    reverse, replicate, Option, Some, None, slice_index_or, slice_set}
+  ℕ,
+  ◌+◌,
+  ◌-◌,
+  ◌^◌,
+  ◌<◌,
+  ◌≤◌,
+  ℤ,
+  pos,
+  ◌≤ℤ◌,
+  neg_ℤ,
+  bit_or,
+  ◌+ℤ◌,
+  ◌-ℤ◌,
+  ◌*ℤ◌,
+  int_div,
+  int_rem,
+  Bool as Truth,
+  true,
+  false,
+  not,
+  ◌&&◌,
+  ◌||◌,
+  if◌then◌else◌,
+  List,
+  ◌∷◌,
+  ◌++◌,
+  take,
+  drop,
+  reverse,
+  replicate,
+  Option,
+  Some,
+  None,
+  slice_index_or,
+  slice_set,
+}
 use Rattle.std.specs.Ordering.{int_eq}
 use Rattle.std.specs.Int.{int_rem_euclid}
 use Rattle.plain_limits.specs.Limits.{MOST_OPERANDS, MOST_PARAMETERS, MOST_VARIABLES}
@@ -15,8 +48,35 @@ use Rattle.turn_code.specs.declared.instruction.Receiver.{Receiver}
 use Rattle.turn_code.specs.declared.instruction.Relation.{Relation}
 use Rattle.turn_code.specs.declared.instruction.Instruction.{Instruction}
 use Rattle.turn_code.specs.declared.instruction.Instruction.TheVariants.{
-    Int as PutInt, Bool as PutBool, Load, Store, Param, Add, Sub, Mul, Div, Mod, Rem, Neg, Not, And,
-    Or, Xor, Same, Compare, Case, CaseWithin, Pick, Drop, Jump, Output, Set, Reset, Next, Stop}
+  Int as PutInt,
+  Bool as PutBool,
+  Load,
+  Store,
+  Param,
+  Add,
+  Sub,
+  Mul,
+  Div,
+  Mod,
+  Rem,
+  Neg,
+  Not,
+  And,
+  Or,
+  Xor,
+  Same,
+  Compare,
+  Case,
+  CaseWithin,
+  Pick,
+  Drop,
+  Jump,
+  Output,
+  Set,
+  Reset,
+  Next,
+  Stop,
+}
 use Rattle.turn_code.specs.declared.machine.End.{End}
 use Rattle.turn_code.specs.declared.machine.End.TheVariants as end
 use Rattle.turn_words.specs.declared.words.Words.{Words}
@@ -37,8 +97,13 @@ pub record Bare : Type 0 where
 
 abbrev pub bare_of : Words → Bare
 bare_of w =
-    record { stack = reverse (take w.depth w.operands); depth = w.depth; variables = w.variables;
-        set = w.set; params = w.params }
+    record {
+      stack = reverse (take w.depth w.operands);
+      depth = w.depth;
+      variables = w.variables;
+      set = w.set;
+      params = w.params;
+    }
 
 -- what it did: the code goes on at a place, or is over, with what was given out
 pub data Did : Type 0 where
@@ -84,8 +149,13 @@ words_taken n b = reverse (take n b.stack) ++ replicate (4 - n) (pos 0)
 
 abbrev pub kept : Bare → ℕ → ℤ → Bare
 kept b v z =
-    record { stack = b.stack; depth = b.depth; variables = slice_set b.variables v z;
-        set = bit_or b.set (2 ^ v); params = b.params }
+    record {
+      stack = b.stack;
+      depth = b.depth;
+      variables = slice_set b.variables v z;
+      set = bit_or b.set (2 ^ v);
+      params = b.params;
+    }
 
 -- ---- the kinds of instructions, where what stands behind one is at k
 

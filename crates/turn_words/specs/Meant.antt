@@ -1,7 +1,22 @@
 -- Which words stand for which values. From a value to its word, and never back: a word says nothing
 -- of its sort.
 use Rattle.std.specs.Prelude.{
-    ◌≡◌, ℕ, ◌≤◌, ℤ, List, ◌∷◌, ◌++◌, [], length, map, take, Option, Some, None, slice_get}
+  ◌≡◌,
+  ℕ,
+  ◌≤◌,
+  ℤ,
+  List,
+  ◌∷◌,
+  ◌++◌,
+  [],
+  length,
+  map,
+  take,
+  Option,
+  Some,
+  None,
+  slice_get,
+}
 use Rattle.std.specs.Int.{bit_at}
 use Rattle.plain_limits.specs.Limits.{MOST_PARAMETERS}
 use Rattle.turn_code.specs.Run.{address_of}
@@ -36,7 +51,7 @@ pub record AreWordsOf (b : Bare) (os : List Value) (vs : List (Option Value)) (p
 abbrev pub IsEffectOf : Option Address → Given → Effect → Type 0
 IsEffectOf from (Output n r c ws) (effect.Output s) =
     (s.signal ≡ n) × (c ≤ MOST_PARAMETERS) × (c ≡ length s.parameters.items)
-        × (address_of r from ≡ Some s.receiver) × (take c ws ≡ map word_of s.parameters.items)
+    × (address_of r from ≡ Some s.receiver) × (take c ws ≡ map word_of s.parameters.items)
 IsEffectOf from (Output n r c ws) (effect.Set t z) = ⊥
 IsEffectOf from (Output n r c ws) (effect.Reset t) = ⊥
 IsEffectOf from (Set n z) (effect.Output s) = ⊥

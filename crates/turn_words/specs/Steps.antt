@@ -51,7 +51,7 @@ Follows d t p x s a w (goes k os s') =
     (a.next ≡ Goes k) × Grow x.sender a.effect s.effects s'.effects × Stand d t p k w x os s'
 Follows d t p x s a w (ends e s') =
     (a.next ≡ Ends e) × Grow x.sender a.effect s.effects s'.effects
-        × ((os : List Value) × AreWordsOf (bare_of w) os s'.variables x.parameters.items)
+    × ((os : List Value) × AreWordsOf (bare_of w) os s'.variables x.parameters.items)
 Follows d t p x s a w (stuck trouble) = ⊥
 
 -- whichever values the words stood for
