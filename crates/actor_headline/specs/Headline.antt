@@ -12,27 +12,13 @@ use Rattle.actor_book.specs.Limits.{LimitNumbers}
 use Rattle.actor_machine.specs.Fits.{IsCalled}
 use Rattle.actor_machine.specs.Full.{FullLaw}
 use Rattle.actor_machine.specs.Step.{Says, report_of}
-use Rattle.actor_machine.specs.Ledger.{
-  Ledger,
-  runs as code_runs,
-  ask,
-  answers_by,
-  after_by,
-  state_by,
-  state_of,
-  turn_out,
-}
+use Rattle.actor_machine.specs.Ledger.{Ledger, runs as code_runs, ask, answers_by, after_by}
+use Rattle.actor_machine.specs.Ledger.{state_by, state_of, turn_out}
 use Rattle.actor_machine.specs.Kept.{opened_book}
 use Rattle.actor_machine.specs.declared.name.ActorName.{ActorName}
 use Rattle.actor_machine.specs.declared.event.Event.{Event}
-use Rattle.actor_machine.specs.declared.event.Event.TheVariants.{
-  Offer,
-  Begin,
-  Skip,
-  Finish,
-  Advance,
-  TakeEnv,
-}
+use Rattle.actor_machine.specs.declared.event.Event.TheVariants.{Offer, Begin, Skip, Finish}
+use Rattle.actor_machine.specs.declared.event.Event.TheVariants.{Advance, TakeEnv}
 use Rattle.actor_machine.specs.declared.reply.Reply.{Reply}
 use Rattle.actor_machine.specs.declared.reply.Reply.TheVariants as reply
 use Rattle.actor_book.specs.Turn.{Turn}

@@ -1,17 +1,6 @@
 -- The state of a link (Z.100, the behaviour of a set of processes).
-use Rattle.std.specs.Prelude.{
-  ℕ,
-  Bool as Truth,
-  List,
-  map,
-  Option,
-  None,
-  Some,
-  slice_get,
-  slice_set,
-  count_by,
-  is_some,
-}
+use Rattle.std.specs.Prelude.{ℕ, Bool as Truth, List, map, Option, None, Some, slice_get, slice_set}
+use Rattle.std.specs.Prelude.{count_by, is_some}
 use Rattle.actor_machine.specs.declared.name.ActorName.{ActorName}
 use Rattle.tick_wheel.specs.Timers.{Timers}
 use Rattle.actor_machine.specs.declared.actor.Actor.{Actor}

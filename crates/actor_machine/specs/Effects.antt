@@ -1,27 +1,7 @@
 -- What a turn does to its link as it ends (Z.100, output, set, reset, stop).
-use Rattle.std.specs.Prelude.{
-  ℕ,
-  zero,
-  suc,
-  ◌+◌,
-  ◌==◌,
-  ℤ,
-  pos,
-  negsuc,
-  Bool,
-  List,
-  [],
-  ◌∷◌,
-  ◌++◌,
-  length,
-  max,
-  nat_lt,
-  Option,
-  None,
-  Some,
-  option_to_list,
-  if◌then◌else◌,
-}
+use Rattle.std.specs.Prelude.{ℕ, zero, suc, ◌+◌, ◌==◌, ℤ, pos, negsuc, Bool, List, [], ◌∷◌, ◌++◌}
+use Rattle.std.specs.Prelude.{length, max, nat_lt, Option, None, Some, option_to_list}
+use Rattle.std.specs.Prelude.{if◌then◌else◌}
 use Rattle.std.specs.FinMap as map
 use Rattle.plain_limits.specs.Limits.{MOST_TIMERS_EACH}
 use Rattle.turn_code.specs.Outcome.{Outcome}

@@ -1,36 +1,11 @@
 -- What holds of every book: all fits in each state from its base to the present one, its numbers
 -- stay within their bounds, each turn that is out has a number of its own, and no timer that has a
 -- deadline has a signal waiting.
-use Rattle.std.specs.Prelude.{
-  ◌≡◌,
-  ℕ,
-  ◌+◌,
-  ◌*◌,
-  ◌<◌,
-  ◌≤◌,
-  Bool,
-  true,
-  false,
-  suc,
-  List,
-  [],
-  ◌∷◌,
-  ◌++◌,
-  length,
-  map,
-  count_by,
-  None,
-  Some,
-  slice_get,
-}
+use Rattle.std.specs.Prelude.{◌≡◌, ℕ, ◌+◌, ◌*◌, ◌<◌, ◌≤◌, Bool, true, false, suc, List, [], ◌∷◌}
+use Rattle.std.specs.Prelude.{◌++◌, length, map, count_by, None, Some, slice_get}
 use Rattle.std.specs.FinMap as finite
-use Rattle.plain_limits.specs.Limits.{
-  LAST_PLACE,
-  LAST_TICK,
-  MOST_INSTRUCTIONS,
-  MOST_JOURNAL,
-  MOST_TURNS_BEGUN,
-}
+use Rattle.plain_limits.specs.Limits.{LAST_PLACE, LAST_TICK, MOST_INSTRUCTIONS, MOST_JOURNAL}
+use Rattle.plain_limits.specs.Limits.{MOST_TURNS_BEGUN}
 use Rattle.turn_code.specs.Valid.{IsValid}
 use Rattle.turn_code.specs.Start.{initial_values}
 use Rattle.turn_code.specs.declared.input.Place.TheVariants.{Start}
@@ -49,14 +24,8 @@ use Rattle.actor_machine.specs.declared.actor.Actor.{Actor}
 use Rattle.actor_machine.specs.declared.actor.Given.{Given}
 use Rattle.actor_machine.specs.declared.actor.Standing.TheVariants.{At}
 use Rattle.actor_machine.specs.declared.event.Event.{Event}
-use Rattle.actor_machine.specs.declared.event.Event.TheVariants.{
-  Offer,
-  Begin,
-  Skip,
-  Finish,
-  Advance,
-  TakeEnv,
-}
+use Rattle.actor_machine.specs.declared.event.Event.TheVariants.{Offer, Begin, Skip, Finish}
+use Rattle.actor_machine.specs.declared.event.Event.TheVariants.{Advance, TakeEnv}
 
 -- all fits in the state, and in each state that the events lead to
 abbrev pub FitsAlong : Draft → Core → List Event → Type 0

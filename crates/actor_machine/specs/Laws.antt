@@ -16,32 +16,14 @@ use Rattle.actor_machine.specs.Core.{Core, names_in}
 use Rattle.actor_machine.specs.Looking.{trigger_of, input_for, input_with}
 use Rattle.actor_machine.specs.Fits.{ItemFits, IsReadyAt, CoreFits}
 use Rattle.actor_machine.specs.Step.{Answer, Stuck, Says, step, report_of}
-use Rattle.actor_machine.specs.Ledger.{
-  Ledger,
-  runs,
-  state_by,
-  state_of,
-  next,
-  event_at,
-  refusal_by,
-  ask,
-  rebased,
-  answers_by,
-  after_by,
-  turn_out,
-}
+use Rattle.actor_machine.specs.Ledger.{Ledger, runs, state_by, state_of, next, event_at, refusal_by}
+use Rattle.actor_machine.specs.Ledger.{ask, rebased, answers_by, after_by, turn_out}
 use Rattle.actor_machine.specs.Kept.{HasOut, AreSilent, IsKept, opened_book}
 use Rattle.actor_machine.specs.declared.actor.Actor.{Actor}
 use Rattle.actor_machine.specs.declared.actor.Given.{Given}
 use Rattle.actor_machine.specs.declared.event.Event.{Event}
-use Rattle.actor_machine.specs.declared.event.Event.TheVariants.{
-  Offer,
-  Begin,
-  Skip,
-  Finish,
-  Advance,
-  TakeEnv,
-}
+use Rattle.actor_machine.specs.declared.event.Event.TheVariants.{Offer, Begin, Skip, Finish}
+use Rattle.actor_machine.specs.declared.event.Event.TheVariants.{Advance, TakeEnv}
 use Rattle.actor_machine.specs.declared.reply.Refusal.TheVariants.{Stranger}
 use Rattle.actor_machine.specs.declared.reply.Reply.TheVariants as reply
 

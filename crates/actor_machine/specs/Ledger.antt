@@ -1,24 +1,7 @@
 -- The history of a link: a base state, and the events since then. The state at any time is the
 -- replay of these.
-use Rattle.std.specs.Prelude.{
-  ℕ,
-  ◌+◌,
-  ◌-◌,
-  List,
-  [],
-  ◌∷◌,
-  ◌++◌,
-  length,
-  Option,
-  None,
-  Some,
-  Result,
-  Err,
-  slice_get,
-  nat_lt,
-  nat_le,
-  if◌then◌else◌,
-}
+use Rattle.std.specs.Prelude.{ℕ, ◌+◌, ◌-◌, List, [], ◌∷◌, ◌++◌, length, Option, None, Some, Result}
+use Rattle.std.specs.Prelude.{Err, slice_get, nat_lt, nat_le, if◌then◌else◌}
 use Rattle.plain_limits.specs.Limits.{LAST_PLACE}
 use Rattle.turn_code.specs.Outcome.{Outcome, Meaning, result_in}
 use Rattle.turn_code.specs.Run.{run}

@@ -1,19 +1,6 @@
 -- What follows for the actors of a set.
-use Rattle.std.specs.Prelude.{
-  ◌≡◌,
-  ◌↔◌,
-  ℕ,
-  ◌+◌,
-  ◌<◌,
-  ◌≤◌,
-  List,
-  length,
-  sum_by,
-  take,
-  All,
-  Some,
-  slice_get,
-}
+use Rattle.std.specs.Prelude.{◌≡◌, ◌↔◌, ℕ, ◌+◌, ◌<◌, ◌≤◌, List, length, sum_by, take, All, Some}
+use Rattle.std.specs.Prelude.{slice_get}
 use Rattle.turn_code.specs.declared.draft.DraftProcess.{DraftProcess}
 use Rattle.actor_machine.specs.Names.{named, actors_of, place_of}
 use Rattle.actor_machine.specs.declared.name.ActorName.{ActorName}

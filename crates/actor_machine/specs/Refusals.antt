@@ -1,27 +1,7 @@
 -- When an event is refused, and by which name. The rows of each call stand in the order in which
 -- they are tested; the room of the journal comes last.
-use Rattle.std.specs.Prelude.{
-  ℕ,
-  ◌+◌,
-  ◌==◌,
-  Bool,
-  true,
-  false,
-  not,
-  ◌&&◌,
-  List,
-  [],
-  ◌∷◌,
-  length,
-  map,
-  Option,
-  None,
-  Some,
-  slice_get,
-  nat_lt,
-  nat_le,
-  if◌then◌else◌,
-}
+use Rattle.std.specs.Prelude.{ℕ, ◌+◌, ◌==◌, Bool, true, false, not, ◌&&◌, List, [], ◌∷◌, length}
+use Rattle.std.specs.Prelude.{map, Option, None, Some, slice_get, nat_lt, nat_le, if◌then◌else◌}
 use Rattle.std.specs.List.{list_any}
 use Rattle.plain_limits.specs.Limits.{LAST_TICK, MOST_TICKS, MOST_TURNS_BEGUN}
 use Rattle.turn_code.specs.Values.{sort_of}
@@ -41,34 +21,17 @@ use Rattle.actor_machine.specs.declared.actor.Actor.{Actor}
 use Rattle.actor_machine.specs.declared.actor.Standing.{Standing}
 use Rattle.actor_machine.specs.declared.actor.Standing.TheVariants.{At, Stopped as HasStopped}
 use Rattle.actor_machine.specs.declared.event.Event.{Event}
-use Rattle.actor_machine.specs.declared.event.Event.TheVariants.{
-  Offer,
-  Begin,
-  Skip,
-  Finish,
-  Advance,
-  TakeEnv,
-}
+use Rattle.actor_machine.specs.declared.event.Event.TheVariants.{Offer, Begin, Skip, Finish}
+use Rattle.actor_machine.specs.declared.event.Event.TheVariants.{Advance, TakeEnv}
 use Rattle.actor_machine.specs.declared.event.Offer.{Offer as Offered}
 use Rattle.actor_machine.specs.declared.found.Found.{Found}
 use Rattle.actor_machine.specs.declared.found.Found.TheVariants as found
 use Rattle.actor_machine.specs.declared.reply.Refusal.{Refusal}
-use Rattle.actor_machine.specs.declared.reply.Refusal.TheVariants.{
-  Full,
-  Stopped,
-  NoRoute,
-  Busy,
-  Nothing,
-  Stranger,
-  Empty,
-  JournalFull,
-  CountFull,
-  NoActor,
-  SkipFirst,
-  NotIgnored,
-  TooFar,
-  ClockFull,
-}
+use Rattle.actor_machine.specs.declared.reply.Refusal.TheVariants.{Full, Stopped, NoRoute, Busy}
+use Rattle.actor_machine.specs.declared.reply.Refusal.TheVariants.{Nothing, Stranger, Empty}
+use Rattle.actor_machine.specs.declared.reply.Refusal.TheVariants.{JournalFull, CountFull, NoActor}
+use Rattle.actor_machine.specs.declared.reply.Refusal.TheVariants.{SkipFirst, NotIgnored, TooFar}
+use Rattle.actor_machine.specs.declared.reply.Refusal.TheVariants.{ClockFull}
 
 -- the name of the first row that holds
 abbrev pub first_of : List (Bool × Refusal) → Option Refusal

@@ -1,20 +1,7 @@
 -- The machine of a link: what an accepted event makes of its state, and what is answered (Z.100,
 -- the behaviour of a set of processes).
-use Rattle.std.specs.Prelude.{
-  ℕ,
-  ◌+◌,
-  List,
-  [],
-  ◌∷◌,
-  length,
-  Option,
-  None,
-  Some,
-  Result,
-  Ok,
-  Err,
-  slice_get,
-}
+use Rattle.std.specs.Prelude.{ℕ, ◌+◌, List, [], ◌∷◌, length, Option, None, Some, Result, Ok, Err}
+use Rattle.std.specs.Prelude.{slice_get}
 use Rattle.turn_code.specs.Run.{of_party}
 use Rattle.turn_code.specs.Outcome.{Outcome, Meaning}
 use Rattle.turn_code.specs.declared.trouble.Trouble.{Trouble}
@@ -35,23 +22,13 @@ use Rattle.actor_machine.specs.declared.actor.Given.{Given}
 use Rattle.actor_machine.specs.declared.actor.Standing.{Standing}
 use Rattle.actor_machine.specs.declared.actor.Standing.TheVariants.{At, Stopped}
 use Rattle.actor_machine.specs.declared.event.Event.{Event}
-use Rattle.actor_machine.specs.declared.event.Event.TheVariants.{
-  Offer,
-  Begin,
-  Skip,
-  Finish,
-  Advance,
-  TakeEnv,
-}
+use Rattle.actor_machine.specs.declared.event.Event.TheVariants.{Offer, Begin, Skip, Finish}
+use Rattle.actor_machine.specs.declared.event.Event.TheVariants.{Advance, TakeEnv}
 use Rattle.actor_machine.specs.declared.event.Offer.{Offer as Offered}
 use Rattle.actor_machine.specs.declared.reply.Begun.{Begun}
 use Rattle.actor_machine.specs.declared.reply.Emitted.{Emitted}
-use Rattle.actor_machine.specs.declared.reply.Refusal.TheVariants.{
-  Empty,
-  NoActor,
-  Nothing,
-  Stranger,
-}
+use Rattle.actor_machine.specs.declared.reply.Refusal.TheVariants.{Empty, NoActor, Nothing}
+use Rattle.actor_machine.specs.declared.reply.Refusal.TheVariants.{Stranger}
 use Rattle.actor_machine.specs.declared.reply.Report.{Report}
 use Rattle.actor_machine.specs.declared.reply.Reply.{Reply}
 use Rattle.actor_machine.specs.declared.reply.Reply.TheVariants as reply

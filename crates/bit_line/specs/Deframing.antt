@@ -1,27 +1,6 @@
 -- What the fields of a deframer say of the line bits so far.
-use Rattle.std.specs.Prelude.{
-  ◌≡◌,
-  ℕ,
-  ◌-◌,
-  zero,
-  suc,
-  min,
-  nat_lt,
-  nat_le,
-  Bool,
-  true,
-  false,
-  ◌||◌,
-  Option,
-  unwrap_or,
-  is_some,
-  List,
-  [],
-  ◌∷◌,
-  ◌++◌,
-  length,
-  reverse,
-}
+use Rattle.std.specs.Prelude.{◌≡◌, ℕ, ◌-◌, zero, suc, min, nat_lt, nat_le, Bool, true, false, ◌||◌}
+use Rattle.std.specs.Prelude.{Option, unwrap_or, is_some, List, [], ◌∷◌, ◌++◌, length, reverse}
 use Rattle.su_octets.specs.Bits.{low_bits}
 use Rattle.bit_line.specs.Parts.{Packed}
 use Rattle.bit_line.specs.Counting.{Counts}

@@ -1,24 +1,6 @@
 -- Flags on a line (Q.703, 3.1). A place on the line is the history of the bits up to it.
-use Rattle.std.specs.Prelude.{
-  ℕ,
-  Bool,
-  true,
-  false,
-  not,
-  ◌&&◌,
-  ◌||◌,
-  if◌then◌else◌,
-  nat_lt,
-  Option,
-  Some,
-  None,
-  unwrap_or,
-  List,
-  [],
-  ◌∷◌,
-  length,
-  drop,
-}
+use Rattle.std.specs.Prelude.{ℕ, Bool, true, false, not, ◌&&◌, ◌||◌, if◌then◌else◌, nat_lt, Option}
+use Rattle.std.specs.Prelude.{Some, None, unwrap_or, List, [], ◌∷◌, length, drop}
 use Rattle.std.specs.Option.{option_map}
 use Rattle.bit_line.specs.Stuffing.{taken_out}
 

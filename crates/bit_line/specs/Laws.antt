@@ -1,22 +1,6 @@
 -- Laws over the definitions of this crate, each the contract of a public function.
-use Rattle.std.specs.Prelude.{
-  ◌≡◌,
-  ◌≢◌,
-  ℕ,
-  ◌+◌,
-  ◌*◌,
-  ◌<◌,
-  ◌≤◌,
-  Bool,
-  true,
-  None,
-  List,
-  [],
-  ◌∷◌,
-  ◌++◌,
-  reverse,
-  length,
-}
+use Rattle.std.specs.Prelude.{◌≡◌, ◌≢◌, ℕ, ◌+◌, ◌*◌, ◌<◌, ◌≤◌, Bool, true, None, List, [], ◌∷◌}
+use Rattle.std.specs.Prelude.{◌++◌, reverse, length}
 use Rattle.su_octets.specs.Bits.{bits_of, AreOctets}
 use Rattle.bit_line.specs.Events.{AreEvents, AreUnit, Runs, UnitsDecode, closings}
 use Rattle.bit_line.specs.Flags.{ends_flag}

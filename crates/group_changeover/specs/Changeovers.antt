@@ -2,12 +2,9 @@
 use Rattle.std.specs.Prelude.{◌≡◌, ℕ, ◌<◌, Some, List, [], ◌∷◌, drop}
 use Rattle.group_changeover.specs.declared.changeover.Changeover.{Changeover}
 use Rattle.group_changeover.specs.declared.changeover.Kind.{Kind}
-use Rattle.group_changeover.specs.declared.changeover.Kind.TheVariants.{
-  Order,
-  Acknowledgement,
-  EmergencyOrder,
-  EmergencyAcknowledgement,
-}
+use Rattle.group_changeover.specs.declared.changeover.Kind.TheVariants.{Order, Acknowledgement}
+use Rattle.group_changeover.specs.declared.changeover.Kind.TheVariants.{EmergencyOrder}
+use Rattle.group_changeover.specs.declared.changeover.Kind.TheVariants.{EmergencyAcknowledgement}
 use Rattle.group_changeover.specs.Labels.{label_in}
 
 -- behind the label: the heading octet (COO 0x11, COA 0x21, ECO 0x12, ECA 0x22), and of COO and COA

@@ -1,16 +1,6 @@
 -- What the marks of a link say of it in a changeover (Q.704).
-use Rattle.std.specs.Prelude.{
-  ℕ,
-  ◌&&◌,
-  nat_lt,
-  Bool,
-  not,
-  if◌then◌else◌,
-  Option,
-  Some,
-  None,
-  is_some,
-}
+use Rattle.std.specs.Prelude.{ℕ, ◌&&◌, nat_lt, Bool, not, if◌then◌else◌, Option, Some, None}
+use Rattle.std.specs.Prelude.{is_some}
 use Rattle.group_changeover.specs.declared.changeover.Kind.{Kind}
 use Rattle.group_changeover.specs.declared.changeover.Kind.TheVariants as kind
 use Rattle.group_changeover.specs.Limits.{T2}

@@ -1,21 +1,6 @@
 -- Messages by the selection of a link that their label has (Q.704, load sharing).
-use Rattle.std.specs.Prelude.{
-  ℕ,
-  ◌==◌,
-  ◌%◌,
-  Bool,
-  not,
-  List,
-  [],
-  ◌∷◌,
-  Option,
-  Some,
-  None,
-  length,
-  map,
-  filter,
-  slice_get,
-}
+use Rattle.std.specs.Prelude.{ℕ, ◌==◌, ◌%◌, Bool, not, List, [], ◌∷◌, Option, Some, None, length}
+use Rattle.std.specs.Prelude.{map, filter, slice_get}
 use Rattle.resend_store.specs.declared.messages.Msu.{Msu}
 use Rattle.group_changeover.specs.declared.labels.Label.{Label}
 use Rattle.group_changeover.specs.Labels.{label_in}

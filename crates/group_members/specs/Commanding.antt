@@ -1,17 +1,6 @@
 -- A command to the terminal of a link.
-use Rattle.std.specs.Prelude.{
-  ◌≡◌,
-  ◌&&◌,
-  Bool,
-  true,
-  false,
-  not,
-  if◌then◌else◌,
-  Option,
-  Some,
-  None,
-  is_some,
-}
+use Rattle.std.specs.Prelude.{◌≡◌, ◌&&◌, Bool, true, false, not, if◌then◌else◌, Option, Some, None}
+use Rattle.std.specs.Prelude.{is_some}
 use Rattle.actor_machine.specs.Ledger.{ask}
 use Rattle.actor_machine.specs.Step.{Says}
 use Rattle.actor_machine.specs.declared.reply.Refusal.{Refusal}

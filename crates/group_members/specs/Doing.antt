@@ -1,25 +1,6 @@
 -- What a link does by its terminal, and that it comes into service.
-use Rattle.std.specs.Prelude.{
-  ◌≡◌,
-  ℕ,
-  ◌<◌,
-  ◌≤◌,
-  ◌&&◌,
-  ◌⊎◌,
-  Bool,
-  true,
-  false,
-  not,
-  if◌then◌else◌,
-  List,
-  length,
-  take,
-  Option,
-  Some,
-  None,
-  slice_get,
-  slice_set,
-}
+use Rattle.std.specs.Prelude.{◌≡◌, ℕ, ◌<◌, ◌≤◌, ◌&&◌, ◌⊎◌, Bool, true, false, not, if◌then◌else◌}
+use Rattle.std.specs.Prelude.{List, length, take, Option, Some, None, slice_get, slice_set}
 use Rattle.link_transceiver.specs.Limits.{KEPT_MESSAGES}
 use Rattle.link_term.specs.Machine.{is_low, sent, tidied}
 use Rattle.link_term.specs.Term.{term_with_transceiver, with_processes}

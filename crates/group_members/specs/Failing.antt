@@ -1,18 +1,7 @@
 -- Changeover at one link (Q.704): how it begins, what is said of it, and which messages are handed
 -- out.
-use Rattle.std.specs.Prelude.{
-  ℕ,
-  Bool,
-  true,
-  false,
-  if◌then◌else◌,
-  List,
-  [],
-  length,
-  Option,
-  Some,
-  None,
-}
+use Rattle.std.specs.Prelude.{ℕ, Bool, true, false, if◌then◌else◌, List, [], length, Option, Some}
+use Rattle.std.specs.Prelude.{None}
 use Rattle.resend_store.specs.declared.messages.Msu.{Msu}
 use Rattle.resend_store.specs.Window.{unacknowledged, retrieved}
 use Rattle.group_changeover.specs.declared.changeover.Kind.{Kind}
@@ -22,14 +11,8 @@ use Rattle.group_changeover.specs.Saying.{order_after, answer_in, reply_after}
 use Rattle.group_members.specs.declared.link.Link.{Link}
 use Rattle.group_changeover.specs.declared.errors.FailError.{FailError}
 use Rattle.group_changeover.specs.declared.errors.FailError.TheVariants as fail
-use Rattle.group_members.specs.OneLink.{
-  window,
-  accepted_at,
-  is_changing,
-  with_availability,
-  number_of,
-  hands_out,
-}
+use Rattle.group_members.specs.OneLink.{window, accepted_at, is_changing, with_availability}
+use Rattle.group_members.specs.OneLink.{number_of, hands_out}
 
 abbrev pub fail_fault_of : Link → Option FailError
 fail_fault_of k = if is_changing k then Some fail.Waiting else None

@@ -1,20 +1,6 @@
 -- One link of a set: its terminal, and what is marked there.
-use Rattle.std.specs.Prelude.{
-  ℕ,
-  ◌==◌,
-  nat_le,
-  Bool,
-  if◌then◌else◌,
-  List,
-  length,
-  Option,
-  Some,
-  None,
-  is_some,
-  Result,
-  Ok,
-  Err,
-}
+use Rattle.std.specs.Prelude.{ℕ, ◌==◌, nat_le, Bool, if◌then◌else◌, List, length, Option, Some}
+use Rattle.std.specs.Prelude.{None, is_some, Result, Ok, Err}
 use Rattle.resend_store.specs.declared.messages.Msu.{Msu}
 use Rattle.resend_store.specs.Limits.{MOST_WAITING}
 use Rattle.resend_store.specs.Window.{Window, waiting, with_put, retrieved, emptied, count_by}

@@ -1,19 +1,6 @@
 -- The link that a selection gets.
-use Rattle.std.specs.Prelude.{
-  ℕ,
-  ◌==◌,
-  ◌||◌,
-  zero,
-  suc,
-  Bool,
-  false,
-  if◌then◌else◌,
-  List,
-  Option,
-  Some,
-  None,
-  slice_get,
-}
+use Rattle.std.specs.Prelude.{ℕ, ◌==◌, ◌||◌, zero, suc, Bool, false, if◌then◌else◌, List, Option}
+use Rattle.std.specs.Prelude.{Some, None, slice_get}
 use Rattle.std.specs.List.{list_any}
 use Rattle.group_changeover.specs.Sharing.{pick, link_of}
 use Rattle.group_members.specs.declared.link.Link.{Link}

@@ -1,25 +1,6 @@
 -- Ticks pass at the links of a set.
-use Rattle.std.specs.Prelude.{
-  ◌≡◌,
-  ℕ,
-  ◌-◌,
-  ◌^◌,
-  min,
-  true,
-  false,
-  List,
-  [],
-  ◌∷◌,
-  ◌++◌,
-  map,
-  sum_by,
-  take,
-  drop,
-  Option,
-  Some,
-  None,
-  slice_get,
-}
+use Rattle.std.specs.Prelude.{◌≡◌, ℕ, ◌-◌, ◌^◌, min, true, false, List, [], ◌∷◌, ◌++◌, map, sum_by}
+use Rattle.std.specs.Prelude.{take, drop, Option, Some, None, slice_get}
 use Rattle.actor_machine.specs.Ledger.{ask}
 use Rattle.actor_machine.specs.Step.{Answer, Stuck, Says}
 use Rattle.actor_machine.specs.declared.event.Event.TheVariants.{Advance}

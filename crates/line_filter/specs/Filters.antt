@@ -1,18 +1,6 @@
 -- What a filter reads, writes and tells.
-use Rattle.std.specs.Prelude.{
-  ◌≡◌,
-  ℕ,
-  ◌+◌,
-  Bool,
-  true,
-  List,
-  [],
-  ◌++◌,
-  length,
-  map,
-  replicate,
-  Option,
-}
+use Rattle.std.specs.Prelude.{◌≡◌, ℕ, ◌+◌, Bool, true, List, [], ◌++◌, length, map, replicate}
+use Rattle.std.specs.Prelude.{Option}
 use Rattle.std.specs.Io.KnownBytes.{Appends, Consumes, IsAtEnd}
 use Rattle.std.specs.Int.{w8, reverse_bits}
 use Rattle.line_filter.specs.Acts.{Act}

@@ -1,20 +1,6 @@
 -- What follows for all that goes out.
-use Rattle.std.specs.Prelude.{
-  ◌≡◌,
-  ℕ,
-  ◌<◌,
-  ◌≤◌,
-  true,
-  Bool,
-  List,
-  [],
-  ◌∷◌,
-  ◌++◌,
-  replicate,
-  Option,
-  None,
-  Some,
-}
+use Rattle.std.specs.Prelude.{◌≡◌, ℕ, ◌<◌, ◌≤◌, true, Bool, List, [], ◌∷◌, ◌++◌, replicate, Option}
+use Rattle.std.specs.Prelude.{None, Some}
 use Rattle.su_octets.specs.Bits.{bits_of}
 use Rattle.bit_line.specs.Sending.{line_of}
 use Rattle.bit_line.specs.Stuffers.{Gave}

@@ -1,19 +1,6 @@
 -- Orders, with the milliseconds before which they aren't obeyed.
-use Rattle.std.specs.Prelude.{
-  ◌≡◌,
-  ℕ,
-  ◌<◌,
-  ◌≤◌,
-  List,
-  [],
-  ◌∷◌,
-  ◌++◌,
-  Option,
-  None,
-  Some,
-  codes,
-  string_bytes,
-}
+use Rattle.std.specs.Prelude.{◌≡◌, ℕ, ◌<◌, ◌≤◌, List, [], ◌∷◌, ◌++◌, Option, None, Some, codes}
+use Rattle.std.specs.Prelude.{string_bytes}
 use Rattle.std.specs.Fmt.{decimal}
 use Rattle.line_filter.specs.Acts.{Act, reported, obeyed}
 use Rattle.line_filter.specs.declared.terminal.Answer.{Answer}

@@ -1,21 +1,6 @@
 -- A run: what goes out and what is told for the octets that come in and the orders.
-use Rattle.std.specs.Prelude.{
-  ◌≡◌,
-  ℕ,
-  ◌+◌,
-  ◌/◌,
-  ◌%◌,
-  Bool,
-  true,
-  false,
-  List,
-  [],
-  ◌∷◌,
-  ◌++◌,
-  length,
-  Option,
-  codes,
-}
+use Rattle.std.specs.Prelude.{◌≡◌, ℕ, ◌+◌, ◌/◌, ◌%◌, Bool, true, false, List, [], ◌∷◌, ◌++◌, length}
+use Rattle.std.specs.Prelude.{Option, codes}
 use Rattle.line_filter.specs.Acts.{Act, heard, passed}
 use Rattle.line_filter.specs.Speaking.{Voice, Gives}
 use Rattle.line_filter.specs.Orders.{Timed, NextIs, NoneIsDue, QUIT, told, TellsAll, Obeys}

@@ -1,33 +1,9 @@
 -- What an order on a line says.
-use Rattle.std.specs.Prelude.{
-  ℕ,
-  Bool,
-  true,
-  false,
-  if◌then◌else◌,
-  List,
-  [],
-  ◌∷◌,
-  Option,
-  None,
-  Some,
-  option_map,
-  option_and_then,
-}
+use Rattle.std.specs.Prelude.{ℕ, Bool, true, false, if◌then◌else◌, List, [], ◌∷◌, Option, None}
+use Rattle.std.specs.Prelude.{Some, option_map, option_and_then}
 use Rattle.script_links.specs.Orders.{order_of}
-use Rattle.script_links.specs.TermCommands.{
-  PlainTermCommand,
-  order,
-  unit,
-  line,
-  msu,
-  out,
-  ticks,
-  state,
-  shown,
-  expected,
-  term_command_of,
-}
+use Rattle.script_links.specs.TermCommands.{PlainTermCommand, order, unit, line, msu, out, ticks}
+use Rattle.script_links.specs.TermCommands.{state, shown, expected, term_command_of}
 
 -- of a script's commands those that leave the line and its time alone
 abbrev pub is_on_line : PlainTermCommand → Bool

@@ -6,12 +6,8 @@ use Rattle.resend_store.specs.declared.messages.Msu.{Msu}
 use Rattle.link_transceiver.specs.declared.signals.Report.{Report}
 use Rattle.link_transceiver.specs.declared.signals.Report.TheVariants.{Message, Status}
 use Rattle.link_transceiver.specs.declared.signals.LinkStatus.{LinkStatus}
-use Rattle.link_transceiver.specs.declared.signals.LinkStatus.TheVariants.{
-  InService,
-  Down,
-  RemoteOut,
-  RemoteBack,
-}
+use Rattle.link_transceiver.specs.declared.signals.LinkStatus.TheVariants.{InService, Down}
+use Rattle.link_transceiver.specs.declared.signals.LinkStatus.TheVariants.{RemoteOut, RemoteBack}
 use Rattle.line_filter.specs.declared.terminal.Answer.{Answer}
 use Rattle.line_filter.specs.declared.terminal.Answer.TheVariants as answer
 

@@ -2,17 +2,11 @@
 use Rattle.std.specs.Prelude.{◌≡◌, ⊤, ℕ, List, [], Option, None, Some}
 use Rattle.line_streams.specs.Departing.{TellsLost}
 use Rattle.line_streams.specs.declared.opening.OrderStream.{OrderStream}
-use Rattle.line_streams.specs.declared.opening.OrderStream.TheVariants.{
-  Nothing,
-  File as from_file,
-  Fifo as from_fifo,
-}
+use Rattle.line_streams.specs.declared.opening.OrderStream.TheVariants.{Nothing, File as from_file}
+use Rattle.line_streams.specs.declared.opening.OrderStream.TheVariants.{Fifo as from_fifo}
 use Rattle.line_streams.specs.declared.opening.ReportStream.{ReportStream}
-use Rattle.line_streams.specs.declared.opening.ReportStream.TheVariants.{
-  Errors,
-  File as to_file,
-  Fifo as to_fifo,
-}
+use Rattle.line_streams.specs.declared.opening.ReportStream.TheVariants.{Errors, File as to_file}
+use Rattle.line_streams.specs.declared.opening.ReportStream.TheVariants.{Fifo as to_fifo}
 
 -- what there is to read: what a file or a FIFO holds isn't known
 abbrev pub known_of : OrderStream → Option (List ℕ)

@@ -1,21 +1,7 @@
 -- Changeover of a link that failed (Q.704): how it begins, what is said of it, and which messages
 -- are handed out.
-use Rattle.std.specs.Prelude.{
-  ℕ,
-  ◌+◌,
-  ◌^◌,
-  ◌-◌,
-  ◌==◌,
-  ◌&&◌,
-  min,
-  Bool,
-  if◌then◌else◌,
-  List,
-  Option,
-  Some,
-  None,
-  slice_get,
-}
+use Rattle.std.specs.Prelude.{ℕ, ◌+◌, ◌^◌, ◌-◌, ◌==◌, ◌&&◌, min, Bool, if◌then◌else◌, List, Option}
+use Rattle.std.specs.Prelude.{Some, None, slice_get}
 use Rattle.arrayvec.specs.ArrayVec.{ArrayVec}
 use Rattle.resend_store.specs.declared.messages.Msu.{Msu}
 use Rattle.group_changeover.specs.declared.changeover.Changeover.{Changeover}
@@ -32,18 +18,9 @@ use Rattle.group_changeover.specs.declared.errors.AbandonError.TheVariants as ab
 use Rattle.group_members.specs.OneLink.{retrieve_fault, number_of, abandon_fault}
 use Rattle.link_group.specs.Set.{LinkSet}
 use Rattle.group_members.specs.Links.{change, fault_at}
-use Rattle.group_members.specs.Failing.{
-  fail_fault_of,
-  changeover_begins_at,
-  order_of,
-  hears,
-  replies_at,
-  handed,
-  messages_by,
-  given_up,
-  sent_by,
-  none_known,
-}
+use Rattle.group_members.specs.Failing.{fail_fault_of, changeover_begins_at, order_of, hears}
+use Rattle.group_members.specs.Failing.{replies_at, handed, messages_by, given_up, sent_by}
+use Rattle.group_members.specs.Failing.{none_known}
 
 -- ---- a link fails
 

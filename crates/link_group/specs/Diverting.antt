@@ -5,17 +5,8 @@ use Rattle.group_changeover.specs.Sharing.{selections, counts_of, link_of}
 use Rattle.group_changeover.specs.declared.errors.DivertFault.{DivertFault}
 use Rattle.link_group.specs.Set.{LinkSet}
 use Rattle.group_members.specs.Links.{change}
-use Rattle.group_members.specs.Moving.{
-  Diversion,
-  Diverted,
-  retrieval_of,
-  open_links,
-  division,
-  hands_over,
-  ends_on,
-  ends_at,
-  keeps_at,
-}
+use Rattle.group_members.specs.Moving.{Diversion, Diverted, retrieval_of, open_links, division}
+use Rattle.group_members.specs.Moving.{hands_over, ends_on, ends_at, keeps_at}
 
 -- a retrieval of that link is out, with so many messages of each selection
 unfoldable pub Owns : LinkSet → ℕ → List Msu → Type 0

@@ -1,24 +1,6 @@
 -- Retrievals that are kept.
-use Rattle.std.specs.Prelude.{
-  ◌≡◌,
-  ℕ,
-  ◌==◌,
-  ◌<◌,
-  length,
-  take,
-  slice_get,
-  option_map,
-  All,
-  Bool,
-  true,
-  false,
-  List,
-  ◌∷◌,
-  ◌++◌,
-  Option,
-  Some,
-  None,
-}
+use Rattle.std.specs.Prelude.{◌≡◌, ℕ, ◌==◌, ◌<◌, length, take, slice_get, option_map, All, Bool}
+use Rattle.std.specs.Prelude.{true, false, List, ◌∷◌, ◌++◌, Option, Some, None}
 use Rattle.std.specs.List.{list_any}
 use Rattle.resend_store.specs.Messages.{IsMessage}
 use Rattle.link_group.specs.declared.retrieved.Kept.{Kept}

@@ -1,26 +1,7 @@
 -- What a set comes to over a list of calls, with the retrievals that the caller holds, the messages
 -- that were accepted, and those that have left.
-use Rattle.std.specs.Prelude.{
-  ◌≡◌,
-  ℕ,
-  ◌<◌,
-  ◌==◌,
-  if◌then◌else◌,
-  Bool,
-  true,
-  false,
-  List,
-  [],
-  ◌∷◌,
-  ◌++◌,
-  All,
-  map,
-  take,
-  Option,
-  Some,
-  None,
-  slice_get,
-}
+use Rattle.std.specs.Prelude.{◌≡◌, ℕ, ◌<◌, ◌==◌, if◌then◌else◌, Bool, true, false, List, [], ◌∷◌}
+use Rattle.std.specs.Prelude.{◌++◌, All, map, take, Option, Some, None, slice_get}
 use Rattle.resend_store.specs.declared.messages.Msu.{Msu}
 use Rattle.resend_store.specs.Window.{count_known, unacknowledged}
 use Rattle.su_octets.specs.declared.units.Unit.{Unit}
@@ -39,17 +20,9 @@ use Rattle.group_members.specs.Moving.{Diverted}
 use Rattle.group_members.specs.Doing.{Listened, Spoken, Sent, Reported}
 use Rattle.group_members.specs.Commanding.{Commanded, Refused}
 use Rattle.link_group.specs.Set.{LinkSet, send_fault, sent}
-use Rattle.link_group.specs.Changing.{
-  fail_fault,
-  after_failure,
-  after_message,
-  retrieve_fault_at,
-  after_retrieve,
-  messages_for,
-  abandon_fault_at,
-  after_abandon,
-  unsent_at,
-}
+use Rattle.link_group.specs.Changing.{fail_fault, after_failure, after_message, retrieve_fault_at}
+use Rattle.link_group.specs.Changing.{after_retrieve, messages_for, abandon_fault_at, after_abandon}
+use Rattle.link_group.specs.Changing.{unsent_at}
 use Rattle.link_group.specs.Diverting.{Owns, diverted, after_divert}
 use Rattle.link_group.specs.Placing.{rebalance_fault, rebalanced}
 use Rattle.link_group.specs.Lines.{ByLink, Alone}

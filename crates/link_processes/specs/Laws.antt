@@ -7,16 +7,8 @@ use Rattle.actor_book.specs.Laws.{IsLeast, NoneCan}
 use Rattle.link_transceiver.specs.declared.offers.Offer.{Offer}
 use Rattle.link_transceiver.specs.Laws.{Loses, accepted_of, acknowledged_of}
 use Rattle.link_processes.specs.declared.processes.Processes.{Processes}
-use Rattle.link_processes.specs.Machine.{
-  with_book,
-  emptied,
-  rested,
-  offered,
-  all_offered,
-  unit_taken,
-  error_taken,
-  sent,
-}
+use Rattle.link_processes.specs.Machine.{with_book, emptied, rested, offered, all_offered}
+use Rattle.link_processes.specs.Machine.{unit_taken, error_taken, sent}
 use Rattle.actor_machine.specs.declared.event.Event.{Event}
 
 -- Up to so many turns, each of the least actor that can, come one after another, and behind each

@@ -1,24 +1,7 @@
 -- What a terminal does: each call is one of these steps, on the history of its actors and what it
 -- keeps beside them.
-use Rattle.std.specs.Prelude.{
-  ℕ,
-  zero,
-  suc,
-  ◌&&◌,
-  Bool,
-  true,
-  false,
-  nat_lt,
-  cond,
-  if◌then◌else◌,
-  Option,
-  Some,
-  None,
-  List,
-  [],
-  ◌∷◌,
-  length,
-}
+use Rattle.std.specs.Prelude.{ℕ, zero, suc, ◌&&◌, Bool, true, false, nat_lt, cond, if◌then◌else◌}
+use Rattle.std.specs.Prelude.{Option, Some, None, List, [], ◌∷◌, length}
 use Rattle.su_octets.specs.declared.units.Unit.{Unit}
 use Rattle.actor_machine.specs.Ledger.{Ledger, runs, state_of, refusal_by, ask, room, rebased}
 use Rattle.actor_machine.specs.Step.{Answer, Stuck, Says}

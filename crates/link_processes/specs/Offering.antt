@@ -1,20 +1,7 @@
 -- Which event of a link a command or a notice is, and what a signal that comes to the environment
 -- says.
-use Rattle.std.specs.Prelude.{
-  ℕ,
-  ℤ,
-  pos,
-  ◌==◌,
-  Bool as Truth,
-  if◌then◌else◌,
-  Option,
-  Some,
-  None,
-  List,
-  [],
-  ◌∷◌,
-  slice_get,
-}
+use Rattle.std.specs.Prelude.{ℕ, ℤ, pos, ◌==◌, Bool as Truth, if◌then◌else◌, Option, Some, None}
+use Rattle.std.specs.Prelude.{List, [], ◌∷◌, slice_get}
 use Rattle.turn_code.specs.declared.numbers.SignalNumber.{SignalNumber}
 use Rattle.turn_code.specs.declared.value.Value.{Value}
 use Rattle.turn_code.specs.declared.value.Value.TheVariants.{Int, Bool}

@@ -5,20 +5,8 @@ use Rattle.bit_line.specs.declared.events.LineEvent.{LineEvent}
 use Rattle.link_processes.specs.declared.processes.Processes.{Processes}
 use Rattle.link_transceiver.specs.Laws.{Loses, accepted_of, acknowledged_of}
 use Rattle.link_term.specs.Term.{Term}
-use Rattle.link_term.specs.Hearing.{
-  Reads,
-  as_unit,
-  as_error,
-  AreTaken,
-  nothing,
-  unit,
-  errored,
-  sixteen,
-  Hears,
-  silent,
-  octet,
-  Heard,
-}
+use Rattle.link_term.specs.Hearing.{Reads, as_unit, as_error, AreTaken, nothing, unit, errored}
+use Rattle.link_term.specs.Hearing.{sixteen, Hears, silent, octet, Heard}
 
 abbrev pub CuttingsAgree : Type 0
 CuttingsAgree = (t m u : Term) (xs ys : List ℕ) → Heard t xs m → Heard m ys u → Heard t (xs ++ ys) u

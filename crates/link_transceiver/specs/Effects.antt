@@ -1,26 +1,6 @@
 -- What the signals that actors send to the environment do.
-use Rattle.std.specs.Prelude.{
-  ℕ,
-  ℤ,
-  pos,
-  negsuc,
-  ◌-◌,
-  ◌==◌,
-  nat_lt,
-  Bool,
-  true,
-  false,
-  if◌then◌else◌,
-  Option,
-  Some,
-  None,
-  List,
-  [],
-  ◌∷◌,
-  ◌++◌,
-  length,
-  drop,
-}
+use Rattle.std.specs.Prelude.{ℕ, ℤ, pos, negsuc, ◌-◌, ◌==◌, nat_lt, Bool, true, false}
+use Rattle.std.specs.Prelude.{if◌then◌else◌, Option, Some, None, List, [], ◌∷◌, ◌++◌, length, drop}
 use Rattle.resend_store.specs.Window.{refreshed}
 use Rattle.resend_store.specs.Intake.{Intake, first_intake}
 use Rattle.link_transceiver.specs.declared.signals.Backward.{Backward}

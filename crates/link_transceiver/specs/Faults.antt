@@ -1,20 +1,7 @@
 -- The record of the last three units that went through the stores (Q.703, 5.3: abnormal backward
 -- sequence numbers and abnormal forward indicator bits).
-use Rattle.std.specs.Prelude.{
-  ◌||◌,
-  nat_le,
-  Bool,
-  true,
-  false,
-  Option,
-  Some,
-  None,
-  List,
-  [],
-  ◌∷◌,
-  take,
-  count_by,
-}
+use Rattle.std.specs.Prelude.{◌||◌, nat_le, Bool, true, false, Option, Some, None, List, [], ◌∷◌}
+use Rattle.std.specs.Prelude.{take, count_by}
 use Rattle.link_transceiver.specs.declared.faults.Fault.{Fault}
 use Rattle.link_transceiver.specs.declared.faults.Fault.TheVariants.{AbnormalBsn, AbnormalFib}
 

@@ -1,22 +1,6 @@
 -- What a signal unit without errors leads to.
-use Rattle.std.specs.Prelude.{
-  ℕ,
-  ◌%◌,
-  nat_lt,
-  Bool,
-  if◌then◌else◌,
-  Option,
-  Some,
-  None,
-  is_some,
-  Result,
-  Ok,
-  Err,
-  List,
-  [],
-  ◌∷◌,
-  ◌++◌,
-}
+use Rattle.std.specs.Prelude.{ℕ, ◌%◌, nat_lt, Bool, if◌then◌else◌, Option, Some, None, is_some}
+use Rattle.std.specs.Prelude.{Result, Ok, Err, List, [], ◌∷◌, ◌++◌}
 use Rattle.resend_store.specs.Window.{Window, count_by, after_back}
 use Rattle.resend_store.specs.Intake.{Intake, Hearing, hear}
 use Rattle.resend_store.specs.declared.messages.Msu.{Msu}

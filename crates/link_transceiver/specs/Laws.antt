@@ -1,29 +1,7 @@
 -- What holds of a transceiver over every list of calls.
-use Rattle.std.specs.Prelude.{
-  ◌≡◌,
-  ℕ,
-  pos,
-  ◌+◌,
-  ◌≤◌,
-  ◌&&◌,
-  not,
-  Bool,
-  true,
-  false,
-  if◌then◌else◌,
-  Option,
-  Some,
-  None,
-  Result,
-  Ok,
-  Err,
-  List,
-  [],
-  ◌∷◌,
-  ◌++◌,
-  length,
-  take,
-}
+use Rattle.std.specs.Prelude.{◌≡◌, ℕ, pos, ◌+◌, ◌≤◌, ◌&&◌, not, Bool, true, false, if◌then◌else◌}
+use Rattle.std.specs.Prelude.{Option, Some, None, Result, Ok, Err, List, [], ◌∷◌, ◌++◌, length}
+use Rattle.std.specs.Prelude.{take}
 use Rattle.resend_store.specs.Window.{Window, unacknowledged, waiting, count_by}
 use Rattle.resend_store.specs.declared.messages.Msu.{Msu}
 use Rattle.resend_store.specs.declared.messages.Verdict.{Verdict}

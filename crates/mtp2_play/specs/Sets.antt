@@ -3,10 +3,8 @@ use Rattle.std.specs.Prelude.{ℕ, List, Option, Some, None}
 use Rattle.script_check.specs.mtp2_text_types.standard_text.TheConstants.{STANDARD}
 use Rattle.script_check.specs.mtp2_text_types.monitors_text.TheConstants.{MONITORS}
 use Rattle.script_check.specs.declared.sets.SetWord.{SetWord}
-use Rattle.script_check.specs.declared.sets.SetWord.TheVariants.{
-  Standard as standard_set,
-  Monitors as monitors_set,
-}
+use Rattle.script_check.specs.declared.sets.SetWord.TheVariants.{Standard as standard_set}
+use Rattle.script_check.specs.declared.sets.SetWord.TheVariants.{Monitors as monitors_set}
 use Rattle.mtp2_words.specs.declared.words.Named.{Named}
 use Rattle.mtp2_words.specs.declared.words.Named.TheVariants.{Standard, Monitors, Stdin, File}
 

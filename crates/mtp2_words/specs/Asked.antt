@@ -1,18 +1,7 @@
 -- What the words of a command line ask for, by the ids under which they stand in its matches, and
 -- why they ask for nothing.
-use Rattle.std.specs.Prelude.{
-  ◌≡◌,
-  ◌⊎◌,
-  ℕ,
-  List,
-  Option,
-  Some,
-  None,
-  IsSomeAnd,
-  option_map,
-  option_and_then,
-  codes,
-}
+use Rattle.std.specs.Prelude.{◌≡◌, ◌⊎◌, ℕ, List, Option, Some, None, IsSomeAnd, option_map}
+use Rattle.std.specs.Prelude.{option_and_then, codes}
 use Rattle.clap.specs.Words.{Row, Text, first_of, first_value, found_of}
 use Rattle.clap.specs.declared.parser.matches.ArgMatches.{ArgMatches}
 use Rattle.mtp2_words.specs.Ends.{IsEndOf, IsNoEnd}

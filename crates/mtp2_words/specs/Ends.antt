@@ -1,19 +1,6 @@
 -- What words say of one end of a link.
-use Rattle.std.specs.Prelude.{
-  ◌≡◌,
-  ◌⊎◌,
-  ℕ,
-  nat_le,
-  if◌then◌else◌,
-  List,
-  Option,
-  Some,
-  None,
-  option_map,
-  option_and_then,
-  bytes_eq,
-  codes,
-}
+use Rattle.std.specs.Prelude.{◌≡◌, ◌⊎◌, ℕ, nat_le, if◌then◌else◌, List, Option, Some, None}
+use Rattle.std.specs.Prelude.{option_map, option_and_then, bytes_eq, codes}
 use Rattle.script_lines.specs.Numbers.{count_of}
 use Rattle.script_links.specs.Orders.{mode_named}
 use Rattle.line_filter.specs.Filters.{MOST_AHEAD}

@@ -1,15 +1,6 @@
 -- What a command line asks for.
-use Rattle.std.specs.Prelude.{
-  ◌≡◌,
-  ℕ,
-  if◌then◌else◌,
-  List,
-  Option,
-  Some,
-  None,
-  option_and_then,
-  codes,
-}
+use Rattle.std.specs.Prelude.{◌≡◌, ℕ, if◌then◌else◌, List, Option, Some, None, option_and_then}
+use Rattle.std.specs.Prelude.{codes}
 use Rattle.std.specs.Int.{is_in_range}
 use Rattle.plain_limits.specs.Limits.{LEAST_WORKERS, MOST_WORKERS}
 use Rattle.script_lines.specs.Numbers.{count_of}

@@ -1,12 +1,8 @@
 -- What `soak` prints at its end.
 use Rattle.std.specs.Prelude.{ℕ, Bool, true, false, List, codes}
 use Rattle.pool_soak.specs.declared.finding_lines.Finding.{Finding}
-use Rattle.pool_soak.specs.declared.finding_lines.Finding.TheVariants.{
-  SeatsAgree,
-  SeatsDiffer,
-  AuditYes,
-  AuditNo,
-}
+use Rattle.pool_soak.specs.declared.finding_lines.Finding.TheVariants.{SeatsAgree, SeatsDiffer}
+use Rattle.pool_soak.specs.declared.finding_lines.Finding.TheVariants.{AuditYes, AuditNo}
 
 abbrev pub finding_text : Finding → List ℕ
 finding_text SeatsAgree = codes "seats agree"

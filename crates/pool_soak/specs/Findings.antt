@@ -1,19 +1,6 @@
 -- What `soak` prints.
-use Rattle.std.specs.Prelude.{
-  ◌≡◌,
-  ◌⊎◌,
-  ℕ,
-  Bool,
-  true,
-  false,
-  List,
-  ◌++◌,
-  Option,
-  Ok,
-  Err,
-  IsUtf8,
-  codes,
-}
+use Rattle.std.specs.Prelude.{◌≡◌, ◌⊎◌, ℕ, Bool, true, false, List, ◌++◌, Option, Ok, Err, IsUtf8}
+use Rattle.std.specs.Prelude.{codes}
 use Rattle.std.specs.Io.KnownBytes.{Appends}
 use Rattle.script_lines.specs.Printed.{script_fault_text}
 use Rattle.script_lines.specs.declared.script.ScriptFault.{ScriptFault}

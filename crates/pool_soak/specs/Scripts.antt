@@ -1,25 +1,6 @@
 -- What a script of `soak` reads as: how many links there are, and then what happens to them.
-use Rattle.std.specs.Prelude.{
-  ℕ,
-  ◌≡◌,
-  nat_lt,
-  ◌&&◌,
-  if◌then◌else◌,
-  List,
-  [],
-  ◌∷◌,
-  ◌++◌,
-  length,
-  map,
-  Option,
-  None,
-  Some,
-  option_and_then,
-  Result,
-  Ok,
-  Err,
-  codes,
-}
+use Rattle.std.specs.Prelude.{ℕ, ◌≡◌, nat_lt, ◌&&◌, if◌then◌else◌, List, [], ◌∷◌, ◌++◌, length, map}
+use Rattle.std.specs.Prelude.{Option, None, Some, option_and_then, Result, Ok, Err, codes}
 use Rattle.std.specs.Int.{is_in_range}
 use Rattle.std.specs.Str.{bytes_eq}
 use Rattle.plain_limits.specs.Limits.{MOST_LINKS}

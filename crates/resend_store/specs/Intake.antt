@@ -1,19 +1,7 @@
 -- What a receiver knows of the far side's messages, and what a further unit makes of it (Q.703:
 -- acceptance of message signal units, positive and negative acknowledgement).
-use Rattle.std.specs.Prelude.{
-  ℕ,
-  ◌-◌,
-  ◌<◌,
-  ◌==◌,
-  ◌&&◌,
-  Bool,
-  true,
-  false,
-  if◌then◌else◌,
-  Result,
-  Ok,
-  Err,
-}
+use Rattle.std.specs.Prelude.{ℕ, ◌-◌, ◌<◌, ◌==◌, ◌&&◌, Bool, true, false, if◌then◌else◌, Result, Ok}
+use Rattle.std.specs.Prelude.{Err}
 use Rattle.resend_store.specs.declared.messages.Mode.{Mode}
 use Rattle.resend_store.specs.declared.messages.Mode.TheVariants.{Basic, Cyclic}
 use Rattle.resend_store.specs.declared.messages.Verdict.{Verdict}

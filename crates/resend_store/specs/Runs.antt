@@ -1,46 +1,15 @@
 -- Whole runs of a sender: which messages go out for the first time over a list of calls, and with
 -- which numbers.
-use Rattle.std.specs.Prelude.{
-  ◌≡◌,
-  ℕ,
-  ◌≤◌,
-  zero,
-  suc,
-  nat_lt,
-  nat_le,
-  Bool,
-  true,
-  false,
-  if◌then◌else◌,
-  List,
-  [],
-  ◌∷◌,
-  ◌++◌,
-  length,
-  map,
-  Option,
-  Some,
-  None,
-}
+use Rattle.std.specs.Prelude.{◌≡◌, ℕ, ◌≤◌, zero, suc, nat_lt, nat_le, Bool, true, false}
+use Rattle.std.specs.Prelude.{if◌then◌else◌, List, [], ◌∷◌, ◌++◌, length, map, Option, Some, None}
 use Rattle.resend_store.specs.declared.messages.Msu.{Msu}
 use Rattle.resend_store.specs.declared.messages.Mode.{Mode}
 use Rattle.resend_store.specs.declared.messages.Outgoing.{Outgoing}
 use Rattle.resend_store.specs.Limits.{MOST_WAITING, MOST_KEPT}
 use Rattle.resend_store.specs.Numbers.{plus}
-use Rattle.resend_store.specs.Window.{
-  Window,
-  unacknowledged,
-  waiting,
-  last_acknowledged,
-  start,
-  with_put,
-  next,
-  count_by,
-  after_back,
-  count_known,
-  emptied,
-  refreshed,
-}
+use Rattle.resend_store.specs.Window.{Window, unacknowledged, waiting, last_acknowledged, start}
+use Rattle.resend_store.specs.Window.{with_put, next, count_by, after_back, count_known, emptied}
+use Rattle.resend_store.specs.Window.{refreshed}
 
 -- A call of a sender. One for which there was no memory changes nothing, and isn't among them.
 pub data Call : Type 0 where

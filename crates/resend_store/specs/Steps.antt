@@ -3,17 +3,8 @@
 use Rattle.std.specs.Prelude.{◌==◌, ◌&&◌, nat_lt, Bool, true, false, if◌then◌else◌}
 use Rattle.resend_store.specs.declared.messages.Mode.{Mode}
 use Rattle.resend_store.specs.declared.messages.Mode.TheVariants.{Basic, Cyclic}
-use Rattle.resend_store.specs.Window.{
-  Window,
-  Sending,
-  at_limit,
-  round,
-  may_send,
-  repeats,
-  sends_new,
-  cycles,
-  fill_in,
-}
+use Rattle.resend_store.specs.Window.{Window, Sending, at_limit, round, may_send, repeats}
+use Rattle.resend_store.specs.Window.{sends_new, cycles, fill_in}
 
 -- no round is over and still stands
 abbrev pub settled : Window → Window

@@ -1,33 +1,8 @@
 -- The window of a sender over all messages that it was ever given, acknowledged ones too, and for
 -- which of them a kept window stands.
-use Rattle.std.specs.Prelude.{
-  ◌≡◌,
-  ℕ,
-  ◌+◌,
-  ◌-◌,
-  ◌%◌,
-  ◌≤◌,
-  ◌==◌,
-  ◌&&◌,
-  nat_lt,
-  nat_le,
-  max,
-  Bool,
-  true,
-  false,
-  if◌then◌else◌,
-  List,
-  [],
-  ◌∷◌,
-  ◌++◌,
-  length,
-  take,
-  drop,
-  Option,
-  Some,
-  None,
-  slice_get,
-}
+use Rattle.std.specs.Prelude.{◌≡◌, ℕ, ◌+◌, ◌-◌, ◌%◌, ◌≤◌, ◌==◌, ◌&&◌, nat_lt, nat_le, max, Bool}
+use Rattle.std.specs.Prelude.{true, false, if◌then◌else◌, List, [], ◌∷◌, ◌++◌, length, take, drop}
+use Rattle.std.specs.Prelude.{Option, Some, None, slice_get}
 use Rattle.resend_store.specs.declared.messages.Msu.{Msu}
 use Rattle.resend_store.specs.declared.messages.Mode.{Mode}
 use Rattle.resend_store.specs.declared.messages.Mode.TheVariants.{Basic, Cyclic}
@@ -36,18 +11,8 @@ use Rattle.resend_store.specs.Limits.{MOST_UNACKNOWLEDGED, MOST_WAITING, MOST_KE
 use Rattle.resend_store.specs.Numbers.{minus}
 use Rattle.resend_store.specs.Messages.{reaches_limit}
 use Rattle.resend_store.specs.Window.{Window, start, next, count_by, retrieved}
-use Rattle.resend_store.specs.Runs.{
-  Call,
-  put,
-  put_diverted,
-  next_unit,
-  on_back,
-  retrieve,
-  fresh,
-  is_accepted,
-  step,
-  after,
-}
+use Rattle.resend_store.specs.Runs.{Call, put, put_diverted, next_unit, on_back, retrieve, fresh}
+use Rattle.resend_store.specs.Runs.{is_accepted, step, after}
 
 -- Places are places in the list of all messages, so none of them ever changes its place.
 pub record Whole : Type 0 where

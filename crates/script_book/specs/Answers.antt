@@ -1,21 +1,6 @@
 -- What each command of a book script makes of a book, and the line that it prints.
-use Rattle.std.specs.Prelude.{
-  ℕ,
-  zero,
-  suc,
-  List,
-  [],
-  ◌++◌,
-  Option,
-  None,
-  Some,
-  Result,
-  Ok,
-  Err,
-  option_map,
-  slice_get,
-  codes,
-}
+use Rattle.std.specs.Prelude.{ℕ, zero, suc, List, [], ◌++◌, Option, None, Some, Result, Ok, Err}
+use Rattle.std.specs.Prelude.{option_map, slice_get, codes}
 use Rattle.std.specs.Fmt.{decimal}
 use Rattle.turn_code.specs.declared.value.Value.{Value}
 use Rattle.turn_code.specs.declared.draft.Draft.{Draft}
@@ -34,28 +19,12 @@ use Rattle.actor_machine.specs.declared.reply.Reply.{Reply}
 use Rattle.actor_machine.specs.declared.reply.Reply.TheVariants as reply
 use Rattle.actor_book.specs.Shown.{variable_of}
 use Rattle.actor_book.specs.Turns.{MOST_TURNS, rests, refusal_in}
-use Rattle.script_lines.specs.Commands.{
-  PlainOffer,
-  PlainCommand,
-  offer,
-  flood,
-  call,
-  tick,
-  env,
-  rest,
-  value,
-  expect,
-}
+use Rattle.script_lines.specs.Commands.{PlainOffer, PlainCommand, offer, flood, call, tick, env}
+use Rattle.script_lines.specs.Commands.{rest, value, expect}
 use Rattle.script_lines.specs.declared.verbs.Call.{Call}
 use Rattle.script_lines.specs.declared.verbs.Call.TheVariants.{Begin, Finish, Skip, State}
-use Rattle.script_lines.specs.Replies.{
-  begun_text,
-  finished_text,
-  skipped_text,
-  taken_text,
-  standing_text,
-  value_text,
-}
+use Rattle.script_lines.specs.Replies.{begun_text, finished_text, skipped_text, taken_text}
+use Rattle.script_lines.specs.Replies.{standing_text, value_text}
 use Rattle.script_lines.specs.Refused.{refused_text}
 
 -- ---- names

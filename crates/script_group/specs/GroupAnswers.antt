@@ -1,33 +1,8 @@
 -- What each command of a link set's script makes of the set and of the retrieved messages, and the
 -- lines that it prints.
-use Rattle.std.specs.Prelude.{
-  ◌≡◌,
-  ℕ,
-  ◌<◌,
-  ◌≤◌,
-  zero,
-  suc,
-  ◌==◌,
-  ◌||◌,
-  nat_lt,
-  nat_le,
-  is_some,
-  Bool,
-  true,
-  false,
-  List,
-  [],
-  ◌∷◌,
-  ◌++◌,
-  length,
-  map,
-  drop,
-  Option,
-  None,
-  Some,
-  slice_get,
-  codes,
-}
+use Rattle.std.specs.Prelude.{◌≡◌, ℕ, ◌<◌, ◌≤◌, zero, suc, ◌==◌, ◌||◌, nat_lt, nat_le, is_some}
+use Rattle.std.specs.Prelude.{Bool, true, false, List, [], ◌∷◌, ◌++◌, length, map, drop, Option}
+use Rattle.std.specs.Prelude.{None, Some, slice_get, codes}
 use Rattle.std.specs.List.{list_any}
 use Rattle.std.specs.Fmt.{decimal}
 use Rattle.hex.specs.Hex.{encode_upper}
@@ -52,20 +27,9 @@ use Rattle.link_group.specs.group_changeover_types.errors.DivertFault.{DivertFau
 use Rattle.link_group.specs.declared.retrieved.Kept.{Kept}
 use Rattle.link_group.specs.declared.retrievals.Retrievals.{Retrievals}
 use Rattle.link_group.specs.Set.{LinkSet, send_fault, sent}
-use Rattle.link_group.specs.Changing.{
-  fail_fault,
-  after_failure,
-  order_at,
-  IsRead,
-  after_message,
-  reply_to,
-  retrieve_fault_at,
-  after_retrieve,
-  messages_for,
-  abandon_fault_at,
-  after_abandon,
-  unsent_at,
-}
+use Rattle.link_group.specs.Changing.{fail_fault, after_failure, order_at, IsRead, after_message}
+use Rattle.link_group.specs.Changing.{reply_to, retrieve_fault_at, after_retrieve, messages_for}
+use Rattle.link_group.specs.Changing.{abandon_fault_at, after_abandon, unsent_at}
 use Rattle.link_group.specs.Diverting.{diverted, after_divert}
 use Rattle.link_group.specs.Placing.{rebalance_fault, rebalanced}
 use Rattle.link_group.specs.Lines.{ByLink, Alone}
@@ -76,14 +40,8 @@ use Rattle.link_group.specs.OneLink.{but_memory}
 use Rattle.link_group.specs.Ticking.{all_due}
 use Rattle.link_group.specs.Ticks.{with_room, tick_fault, after_ticks}
 use Rattle.link_group.specs.Reading.{held_count, sent_count}
-use Rattle.link_group.specs.Printed.{
-  send_error_text,
-  fail_error_text,
-  retrieve_error_text,
-  abandon_error_text,
-  divert_fault_text,
-  rebalance_error_text,
-}
+use Rattle.link_group.specs.Printed.{send_error_text, fail_error_text, retrieve_error_text}
+use Rattle.link_group.specs.Printed.{abandon_error_text, divert_fault_text, rebalance_error_text}
 use Rattle.script_links.specs.declared.words.GroupWord.{GroupWord}
 use Rattle.script_links.specs.declared.words.GroupWord.TheVariants as words
 use Rattle.script_links.specs.GroupCommands.{PlainGroupCommand}

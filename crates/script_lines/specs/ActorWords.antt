@@ -1,21 +1,6 @@
 -- Which actor a word of a script names.
-use Rattle.std.specs.Prelude.{
-  ℕ,
-  suc,
-  ◌==◌,
-  nat_lt,
-  Bool,
-  List,
-  [],
-  ◌∷◌,
-  length,
-  map,
-  Option,
-  None,
-  Some,
-  option_map,
-  if◌then◌else◌,
-}
+use Rattle.std.specs.Prelude.{ℕ, suc, ◌==◌, nat_lt, Bool, List, [], ◌∷◌, length, map, Option, None}
+use Rattle.std.specs.Prelude.{Some, option_map, if◌then◌else◌}
 use Rattle.std.specs.List.{position_or_len, before_first, after_first}
 use Rattle.std.specs.Char.{to_ascii_lowercase}
 use Rattle.std.specs.Str.{bytes_eq}

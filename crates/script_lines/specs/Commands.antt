@@ -1,19 +1,6 @@
 -- What a line of a book script reads as.
-use Rattle.std.specs.Prelude.{
-  ℕ,
-  if◌then◌else◌,
-  List,
-  [],
-  ◌∷◌,
-  ◌++◌,
-  Option,
-  None,
-  Some,
-  option_map,
-  option_and_then,
-  is_some,
-  codes,
-}
+use Rattle.std.specs.Prelude.{ℕ, if◌then◌else◌, List, [], ◌∷◌, ◌++◌, Option, None, Some, option_map}
+use Rattle.std.specs.Prelude.{option_and_then, is_some, codes}
 use Rattle.std.specs.List.{list_all, filter_map, flat_map}
 use Rattle.std.specs.Str.{bytes_eq}
 use Rattle.turn_code.specs.declared.value.Value.{Value}

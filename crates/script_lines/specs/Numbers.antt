@@ -1,31 +1,7 @@
 -- What a word says, where it is a number or a truth value.
-use Rattle.std.specs.Prelude.{
-  ℕ,
-  ◌+◌,
-  ◌-◌,
-  ◌*◌,
-  ◌==◌,
-  nat_lt,
-  nat_le,
-  ℤ,
-  pos,
-  neg_ℤ,
-  Bool as Truth,
-  ◌&&◌,
-  true,
-  false,
-  if◌then◌else◌,
-  List,
-  [],
-  ◌∷◌,
-  length,
-  fold,
-  Option,
-  None,
-  Some,
-  option_map,
-  codes,
-}
+use Rattle.std.specs.Prelude.{ℕ, ◌+◌, ◌-◌, ◌*◌, ◌==◌, nat_lt, nat_le, ℤ, pos, neg_ℤ, Bool as Truth}
+use Rattle.std.specs.Prelude.{◌&&◌, true, false, if◌then◌else◌, List, [], ◌∷◌, length, fold, Option}
+use Rattle.std.specs.Prelude.{None, Some, option_map, codes}
 use Rattle.std.specs.Char.{is_ascii_digit}
 use Rattle.std.specs.List.{list_all}
 use Rattle.std.specs.Str.{bytes_eq}

@@ -1,22 +1,7 @@
 -- The lines that are printed for what a link answers, as bytes without their ends: names as they
 -- are declared, numbers in decimal.
-use Rattle.std.specs.Prelude.{
-  ℕ,
-  List,
-  [],
-  ◌∷◌,
-  ◌++◌,
-  ◌==◌,
-  nat_lt,
-  if◌then◌else◌,
-  Option,
-  None,
-  Some,
-  codes,
-  slice_get,
-  unwrap_or,
-  length,
-}
+use Rattle.std.specs.Prelude.{ℕ, List, [], ◌∷◌, ◌++◌, ◌==◌, nat_lt, if◌then◌else◌, Option, None}
+use Rattle.std.specs.Prelude.{Some, codes, slice_get, unwrap_or, length}
 use Rattle.std.specs.List.{flat_map}
 use Rattle.std.specs.Fmt.{decimal, signed_decimal}
 use Rattle.turn_code.specs.declared.value.Value.{Value}
@@ -28,14 +13,8 @@ use Rattle.turn_code.specs.declared.input.Place.TheVariants.{Start, State}
 use Rattle.turn_code.specs.declared.draft.Draft.{Draft}
 use Rattle.turn_code.specs.declared.draft.Trigger.{Trigger}
 use Rattle.turn_code.specs.declared.draft.Trigger.TheVariants.{Signal, Timer}
-use Rattle.turn_check.specs.Named.{
-  instances_at,
-  process_names,
-  signal_names,
-  timer_names,
-  state_names,
-  trigger_at,
-}
+use Rattle.turn_check.specs.Named.{instances_at, process_names, signal_names, timer_names}
+use Rattle.turn_check.specs.Named.{state_names, trigger_at}
 use Rattle.actor_machine.specs.declared.name.ActorName.{ActorName}
 use Rattle.actor_machine.specs.declared.actor.Standing.{Standing}
 use Rattle.actor_machine.specs.declared.actor.Standing.TheVariants.{At, Stopped}

@@ -1,43 +1,13 @@
 -- What a book script reads as: its first lines set numbers, the others are commands.
-use Rattle.std.specs.Prelude.{
-  ℕ,
-  ◌≡◌,
-  ◌≤◌,
-  Bool,
-  nat_lt,
-  ◌&&◌,
-  if◌then◌else◌,
-  List,
-  [],
-  ◌∷◌,
-  length,
-  map,
-  Option,
-  None,
-  Some,
-  option_map,
-  option_and_then,
-  is_none,
-  find,
-  Result,
-  Ok,
-  Err,
-  codes,
-}
+use Rattle.std.specs.Prelude.{ℕ, ◌≡◌, ◌≤◌, Bool, nat_lt, ◌&&◌, if◌then◌else◌, List, [], ◌∷◌, length}
+use Rattle.std.specs.Prelude.{map, Option, None, Some, option_map, option_and_then, is_none, find}
+use Rattle.std.specs.Prelude.{Result, Ok, Err, codes}
 use Rattle.std.specs.Int.{is_in_range}
 use Rattle.std.specs.List.{filter_map}
 use Rattle.std.specs.Str.{bytes_eq}
-use Rattle.plain_limits.specs.Limits.{
-  LEAST_ENVIRONMENT,
-  LEAST_JOURNAL,
-  LEAST_PORT,
-  MOST_ENVIRONMENT,
-  MOST_JOURNAL,
-  MOST_PORT,
-  USUAL_ENVIRONMENT,
-  USUAL_JOURNAL,
-  USUAL_PORT,
-}
+use Rattle.plain_limits.specs.Limits.{LEAST_ENVIRONMENT, LEAST_JOURNAL, LEAST_PORT}
+use Rattle.plain_limits.specs.Limits.{MOST_ENVIRONMENT, MOST_JOURNAL, MOST_PORT, USUAL_ENVIRONMENT}
+use Rattle.plain_limits.specs.Limits.{USUAL_JOURNAL, USUAL_PORT}
 use Rattle.plain_text.specs.Reading.{LONGEST}
 use Rattle.script_lines.specs.Numbers.{count_of}
 use Rattle.script_lines.specs.Lines.{PlainLine, lines_of, line_at}

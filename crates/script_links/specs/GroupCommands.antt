@@ -1,21 +1,6 @@
 -- What a line of a link set's script reads as.
-use Rattle.std.specs.Prelude.{
-  ℕ,
-  Bool,
-  nat_le,
-  ◌&&◌,
-  if◌then◌else◌,
-  List,
-  [],
-  ◌∷◌,
-  length,
-  Option,
-  None,
-  Some,
-  option_map,
-  option_and_then,
-  codes,
-}
+use Rattle.std.specs.Prelude.{ℕ, Bool, nat_le, ◌&&◌, if◌then◌else◌, List, [], ◌∷◌, length, Option}
+use Rattle.std.specs.Prelude.{None, Some, option_map, option_and_then, codes}
 use Rattle.std.specs.Str.{bytes_eq}
 use Rattle.script_lines.specs.Numbers.{count_of}
 use Rattle.script_links.specs.Octets.{octets_of}

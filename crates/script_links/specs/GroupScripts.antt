@@ -1,44 +1,17 @@
 -- What a script reads as: one for a link set where its first line says so, else one of another
 -- kind.
-use Rattle.std.specs.Prelude.{
-  ℕ,
-  ◌≡◌,
-  ◌≤◌,
-  Bool,
-  nat_lt,
-  if◌then◌else◌,
-  List,
-  [],
-  ◌∷◌,
-  length,
-  map,
-  Option,
-  None,
-  Some,
-  option_map,
-  is_none,
-  find,
-  Result,
-  Ok,
-  Err,
-}
+use Rattle.std.specs.Prelude.{ℕ, ◌≡◌, ◌≤◌, Bool, nat_lt, if◌then◌else◌, List, [], ◌∷◌, length, map}
+use Rattle.std.specs.Prelude.{Option, None, Some, option_map, is_none, find, Result, Ok, Err}
 use Rattle.std.specs.List.{filter_map}
 use Rattle.plain_text.specs.Reading.{LONGEST}
 use Rattle.script_lines.specs.Lines.{PlainLine, lines_of, line_at}
 use Rattle.script_lines.specs.declared.script.ScriptFault.{ScriptFault}
 use Rattle.script_lines.specs.declared.script.ScriptFault.TheVariants.{BadLine, NoMemory}
-use Rattle.script_links.specs.TermScripts.{
-  PlainAnyScript,
-  plain_any_script,
-  any_script_of,
-  IsInRange,
-}
+use Rattle.script_links.specs.TermScripts.{PlainAnyScript, plain_any_script, any_script_of}
+use Rattle.script_links.specs.TermScripts.{IsInRange}
 use Rattle.script_links.specs.Heads.{MOST_LINKS, head_of}
-use Rattle.script_links.specs.GroupCommands.{
-  PlainGroupCommand,
-  plain_group_command,
-  group_command_of,
-}
+use Rattle.script_links.specs.GroupCommands.{PlainGroupCommand, plain_group_command}
+use Rattle.script_links.specs.GroupCommands.{group_command_of}
 use Rattle.script_links.specs.declared.heads.GroupHead.{GroupHead}
 use Rattle.script_links.specs.declared.group_script.GroupSaid.{GroupSaid}
 use Rattle.script_links.specs.declared.group_script.GroupScript.{GroupScript}

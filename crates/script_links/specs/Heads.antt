@@ -1,18 +1,6 @@
 -- The first line of a link set's script.
-use Rattle.std.specs.Prelude.{
-  ℕ,
-  nat_le,
-  ◌&&◌,
-  if◌then◌else◌,
-  List,
-  [],
-  ◌∷◌,
-  Option,
-  None,
-  Some,
-  option_and_then,
-  codes,
-}
+use Rattle.std.specs.Prelude.{ℕ, nat_le, ◌&&◌, if◌then◌else◌, List, [], ◌∷◌, Option, None, Some}
+use Rattle.std.specs.Prelude.{option_and_then, codes}
 use Rattle.std.specs.Str.{bytes_eq}
 use Rattle.resend_store.specs.declared.messages.Mode.{Mode}
 use Rattle.script_lines.specs.Numbers.{count_of}

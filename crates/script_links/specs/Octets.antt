@@ -1,22 +1,6 @@
 -- Octets in hexadecimal digits, and which of them are a signal unit or a message.
-use Rattle.std.specs.Prelude.{
-  ℕ,
-  ◌-◌,
-  ◌%◌,
-  ◌==◌,
-  nat_le,
-  Bool,
-  ◌&&◌,
-  List,
-  length,
-  slice_index,
-  Option,
-  None,
-  Some,
-  Result,
-  Ok,
-  Err,
-}
+use Rattle.std.specs.Prelude.{ℕ, ◌-◌, ◌%◌, ◌==◌, nat_le, Bool, ◌&&◌, List, length, slice_index}
+use Rattle.std.specs.Prelude.{Option, None, Some, Result, Ok, Err}
 use Rattle.hex.specs.Hex.{decode_of}
 use Rattle.hex.specs.declared.error.FromHexError.{FromHexError}
 use Rattle.su_octets.specs.Frame.{length_indicator}

@@ -4,17 +4,8 @@ use Rattle.std.specs.Str.{bytes_eq}
 use Rattle.resend_store.specs.declared.messages.Mode.{Mode}
 use Rattle.resend_store.specs.declared.messages.Mode.TheVariants.{Basic, Cyclic}
 use Rattle.script_links.specs.declared.orders.Order.{Order}
-use Rattle.script_links.specs.declared.orders.Order.TheVariants.{
-  Power,
-  Start,
-  Stop,
-  Emergency,
-  Calm,
-  Outage,
-  Back,
-  Busy,
-  Free,
-}
+use Rattle.script_links.specs.declared.orders.Order.TheVariants.{Power, Start, Stop, Emergency}
+use Rattle.script_links.specs.declared.orders.Order.TheVariants.{Calm, Outage, Back, Busy, Free}
 
 abbrev pub order_text : Order → List ℕ
 order_text Power = codes "power"

@@ -1,32 +1,10 @@
 -- What a line of a terminal's script reads as.
-use Rattle.std.specs.Prelude.{
-  ℕ,
-  Bool,
-  if◌then◌else◌,
-  List,
-  [],
-  ◌∷◌,
-  Option,
-  None,
-  Some,
-  option_map,
-  option_and_then,
-  codes,
-}
+use Rattle.std.specs.Prelude.{ℕ, Bool, if◌then◌else◌, List, [], ◌∷◌, Option, None, Some, option_map}
+use Rattle.std.specs.Prelude.{option_and_then, codes}
 use Rattle.std.specs.Str.{bytes_eq}
 use Rattle.script_lines.specs.Numbers.{count_of}
-use Rattle.script_lines.specs.Commands.{
-  PlainCommand,
-  command_of,
-  call,
-  tick,
-  value,
-  expect,
-  offer,
-  flood,
-  env,
-  rest,
-}
+use Rattle.script_lines.specs.Commands.{PlainCommand, command_of, call, tick, value, expect, offer}
+use Rattle.script_lines.specs.Commands.{flood, env, rest}
 use Rattle.script_lines.specs.declared.verbs.Call.{Call}
 use Rattle.script_lines.specs.declared.verbs.Call.TheVariants.{Begin, Finish, Skip, State}
 use Rattle.script_links.specs.Orders.{order_of}

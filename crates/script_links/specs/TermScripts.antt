@@ -1,25 +1,6 @@
 -- What a script reads as: one for a terminal where its first line says so, else one for a book.
-use Rattle.std.specs.Prelude.{
-  ℕ,
-  ◌≡◌,
-  Bool,
-  nat_lt,
-  if◌then◌else◌,
-  List,
-  [],
-  ◌∷◌,
-  length,
-  map,
-  Option,
-  None,
-  Some,
-  option_map,
-  is_none,
-  find,
-  Result,
-  Ok,
-  Err,
-}
+use Rattle.std.specs.Prelude.{ℕ, ◌≡◌, Bool, nat_lt, if◌then◌else◌, List, [], ◌∷◌, length, map}
+use Rattle.std.specs.Prelude.{Option, None, Some, option_map, is_none, find, Result, Ok, Err}
 use Rattle.std.specs.List.{filter_map}
 use Rattle.plain_text.specs.Reading.{LONGEST}
 use Rattle.resend_store.specs.declared.messages.Mode.{Mode}

@@ -1,23 +1,6 @@
 -- What each command of a terminal's script makes of the terminal, and the lines that it prints.
-use Rattle.std.specs.Prelude.{
-  ◌≡◌,
-  ◌⊎◌,
-  ℕ,
-  ◌<◌,
-  ◌≤◌,
-  zero,
-  suc,
-  true,
-  List,
-  [],
-  ◌∷◌,
-  ◌++◌,
-  length,
-  Option,
-  None,
-  Some,
-  codes,
-}
+use Rattle.std.specs.Prelude.{◌≡◌, ◌⊎◌, ℕ, ◌<◌, ◌≤◌, zero, suc, true, List, [], ◌∷◌, ◌++◌, length}
+use Rattle.std.specs.Prelude.{Option, None, Some, codes}
 use Rattle.resend_store.specs.Limits.{MOST_WAITING}
 use Rattle.resend_store.specs.Window.{waiting, with_put}
 use Rattle.resend_store.specs.declared.messages.Msu.{Msu}
@@ -41,18 +24,8 @@ use Rattle.link_term.specs.declared.answers.CallError.{CallError}
 use Rattle.link_term.specs.declared.answers.CallError.TheVariants.{Refused, NoMemory}
 use Rattle.script_links.specs.declared.orders.Order.{Order}
 use Rattle.script_links.specs.declared.orders.Order.TheVariants as word
-use Rattle.script_links.specs.TermCommands.{
-  PlainTermCommand,
-  order,
-  unit,
-  line,
-  msu,
-  out,
-  ticks,
-  state,
-  shown,
-  expected,
-}
+use Rattle.script_links.specs.TermCommands.{PlainTermCommand, order, unit, line, msu, out, ticks}
+use Rattle.script_links.specs.TermCommands.{state, shown, expected}
 use Rattle.script_book.specs.Refused.{refused_text}
 use Rattle.script_book.specs.Answers.{answer_text, actor_named, state_line, value_line}
 use Rattle.script_terminal.specs.UnitLines.{IsLineOf}

@@ -1,59 +1,13 @@
 -- How high a tree is, and what in it is too high.
-use Rattle.std.specs.Prelude.{
-  ℕ,
-  ◌+◌,
-  max,
-  nat_lt,
-  List,
-  [],
-  ◌∷◌,
-  Option,
-  Some,
-  None,
-  if◌then◌else◌,
-  min,
-}
+use Rattle.std.specs.Prelude.{ℕ, ◌+◌, max, nat_lt, List, [], ◌∷◌, Option, Some, None, if◌then◌else◌}
+use Rattle.std.specs.Prelude.{min}
 use Rattle.sdl_ast.specs.Limits.{GREATEST_HEIGHT}
-use Rattle.sdl_ast.specs.Plain.{
-  Tree,
-  number,
-  truth,
-  variable,
-  unary,
-  binary,
-  PlainAssignment,
-  PlainSending,
-  PlainAction,
-  task,
-  output,
-  set_timer,
-  reset_timer,
-  Text,
-  falls,
-  ends,
-  does,
-  decides,
-  Choice,
-  nothing_else,
-  otherwise,
-  answer,
-  PlainStatement,
-  act,
-  decide,
-  PlainAnswer,
-  PlainClause,
-  input,
-  save,
-  PlainState,
-  PlainConnection,
-  PlainProcess,
-  PlainEntity,
-  signals,
-  route,
-  connect,
-  process,
-  PlainBlock,
-}
+use Rattle.sdl_ast.specs.Plain.{Tree, number, truth, variable, unary, binary, PlainAssignment}
+use Rattle.sdl_ast.specs.Plain.{PlainSending, PlainAction, task, output, set_timer, reset_timer}
+use Rattle.sdl_ast.specs.Plain.{Text, falls, ends, does, decides, Choice, nothing_else, otherwise}
+use Rattle.sdl_ast.specs.Plain.{answer, PlainStatement, act, decide, PlainAnswer, PlainClause}
+use Rattle.sdl_ast.specs.Plain.{input, save, PlainState, PlainConnection, PlainProcess, PlainEntity}
+use Rattle.sdl_ast.specs.Plain.{signals, route, connect, process, PlainBlock}
 
 -- 1 for an operand, one more than its highest operand for an operator
 abbrev pub tree_height : Tree → ℕ

@@ -1,63 +1,15 @@
 -- From the tree that the code holds to the plain tree.
 use Rattle.std.specs.Prelude.{List, [], ◌∷◌, map, Option, None, Some}
-use Rattle.sdl_ast.specs.Plain.{
-  Tree,
-  number,
-  truth,
-  variable,
-  unary,
-  binary,
-  PlainAssignment,
-  PlainSending,
-  PlainAction,
-  task,
-  output,
-  set_timer,
-  reset_timer,
-  Text,
-  falls,
-  ends,
-  Choice,
-  nothing_else,
-  otherwise,
-  PlainStatement,
-  act,
-  decide,
-  PlainAnswer,
-  before,
-  all_before,
-  all_answers,
-  PlainConnection,
-  PlainStimulus,
-  PlainInput,
-  PlainClause,
-  input,
-  save,
-  PlainState,
-  PlainStart,
-  PlainGroup,
-  PlainDeclaration,
-  variables,
-  timers,
-  PlainProcess,
-  PlainPath,
-  PlainRoute,
-  PlainSignal,
-  PlainEntity,
-  signals,
-  route,
-  connect,
-  process,
-  PlainBlock,
-}
-use Rattle.sdl_ast.specs.declared.expression.Expression.{
-  Expression,
-  Number,
-  Truth,
-  Variable,
-  Unary',
-  Binary',
-}
+use Rattle.sdl_ast.specs.Plain.{Tree, number, truth, variable, unary, binary, PlainAssignment}
+use Rattle.sdl_ast.specs.Plain.{PlainSending, PlainAction, task, output, set_timer, reset_timer}
+use Rattle.sdl_ast.specs.Plain.{Text, falls, ends, Choice, nothing_else, otherwise, PlainStatement}
+use Rattle.sdl_ast.specs.Plain.{act, decide, PlainAnswer, before, all_before, all_answers}
+use Rattle.sdl_ast.specs.Plain.{PlainConnection, PlainStimulus, PlainInput, PlainClause, input}
+use Rattle.sdl_ast.specs.Plain.{save, PlainState, PlainStart, PlainGroup, PlainDeclaration}
+use Rattle.sdl_ast.specs.Plain.{variables, timers, PlainProcess, PlainPath, PlainRoute, PlainSignal}
+use Rattle.sdl_ast.specs.Plain.{PlainEntity, signals, route, connect, process, PlainBlock}
+use Rattle.sdl_ast.specs.declared.expression.Expression.{Expression, Number, Truth, Variable}
+use Rattle.sdl_ast.specs.declared.expression.Expression.{Unary', Binary'}
 use Rattle.sdl_ast.specs.declared.tree.Assignment.{Assignment}
 use Rattle.sdl_ast.specs.declared.tree.Action.{Action}
 use Rattle.sdl_ast.specs.declared.tree.Action.TheVariants.{Task, Output, Set, Reset}
@@ -68,18 +20,10 @@ use Rattle.sdl_ast.specs.declared.tree.Statement.{Statement}
 use Rattle.sdl_ast.specs.declared.tree.Decision.{Decision, out-Decision}
 use Rattle.sdl_ast.specs.declared.tree.Answer.{Answer}
 use Rattle.sdl_ast.specs.declared.tree.Connection.{Connection}
-use Rattle.sdl_ast.specs.declared.tree.Statement.TheOpen.{
-  Answer-F,
-  Decision-F,
-  Statement-F,
-  Transition-F,
-}
-use Rattle.sdl_ast.specs.declared.tree.Statement.TheFolds.{
-  fold-Transition,
-  fold-Statement,
-  fold-Decision,
-  fold-Answer,
-}
+use Rattle.sdl_ast.specs.declared.tree.Statement.TheOpen.{Answer-F, Decision-F, Statement-F}
+use Rattle.sdl_ast.specs.declared.tree.Statement.TheOpen.{Transition-F}
+use Rattle.sdl_ast.specs.declared.tree.Statement.TheFolds.{fold-Transition, fold-Statement}
+use Rattle.sdl_ast.specs.declared.tree.Statement.TheFolds.{fold-Decision, fold-Answer}
 use Rattle.sdl_ast.specs.declared.tree.Stimulus.{Stimulus}
 use Rattle.sdl_ast.specs.declared.tree.InputPart.{InputPart}
 use Rattle.sdl_ast.specs.declared.tree.StateClause.{StateClause}

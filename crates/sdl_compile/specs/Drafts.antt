@@ -2,13 +2,8 @@
 -- what the transitions mean.
 use Rattle.std.specs.Prelude.{◌≡◌, ℕ, ◌≤◌, List, [], ◌∷◌, length, map, Option, Some, None, IsSome}
 use Rattle.std.specs.List.{AllZip}
-use Rattle.plain_limits.specs.Limits.{
-  MOST_PARAMETERS,
-  MOST_SIGNALS,
-  MOST_STATES,
-  MOST_TIMERS_EACH,
-  MOST_VARIABLES,
-}
+use Rattle.plain_limits.specs.Limits.{MOST_PARAMETERS, MOST_SIGNALS, MOST_STATES, MOST_TIMERS_EACH}
+use Rattle.plain_limits.specs.Limits.{MOST_VARIABLES}
 use Rattle.sdl_ast.specs.declared.expression.Identifier.{Identifier}
 use Rattle.sdl_ast.specs.Plain.{PlainProcess, PlainBlock}
 use Rattle.turn_code.specs.declared.variable_set.VariableSet.{VariableSet}
@@ -19,16 +14,8 @@ use Rattle.turn_code.specs.declared.draft.DraftState.{DraftState}
 use Rattle.turn_code.specs.declared.draft.DraftProcess.{DraftProcess}
 use Rattle.turn_code.specs.Run.{run}
 use Rattle.turn_code.specs.Sets.{initial_set}
-use Rattle.sdl_tables.specs.Names.{
-  Input,
-  number_of,
-  variables_of,
-  timers_of,
-  states_of,
-  inputs_by_state,
-  saves_by_state,
-  signal_names,
-}
+use Rattle.sdl_tables.specs.Names.{Input, number_of, variables_of, timers_of, states_of}
+use Rattle.sdl_tables.specs.Names.{inputs_by_state, saves_by_state, signal_names}
 use Rattle.sdl_sound.specs.Longest.{Piece, piece_size, start_piece, input_piece}
 use Rattle.sdl_sound.specs.Settled.{AreSettled}
 use Rattle.sdl_meaning.specs.Act.{Act, scope_of}

@@ -1,19 +1,7 @@
 -- Where the bodies of a DECISION begin and where the jumps at their ends stand, and what is put in
 -- the places that were kept for what is known only behind them.
-use Rattle.std.specs.Prelude.{
-  ℕ,
-  ◌+◌,
-  Bool,
-  true,
-  false,
-  List,
-  [],
-  ◌∷◌,
-  ◌++◌,
-  length,
-  if◌then◌else◌,
-  slice_set,
-}
+use Rattle.std.specs.Prelude.{ℕ, ◌+◌, Bool, true, false, List, [], ◌∷◌, ◌++◌, length, if◌then◌else◌}
+use Rattle.std.specs.Prelude.{slice_set}
 use Rattle.std.specs.List.{list_any}
 use Rattle.sdl_ast.specs.Plain.{Text, Choice, nothing_else, otherwise, answer}
 use Rattle.turn_code.specs.declared.numbers.CodePlace.{CodePlace}

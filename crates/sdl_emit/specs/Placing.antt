@@ -1,20 +1,7 @@
 -- The JOINs of a text in the order of its code, and the numbers of the connections to which they
 -- lead.
-use Rattle.std.specs.Prelude.{
-  ◌≡◌,
-  ◌<◌,
-  ℕ,
-  ◌++◌,
-  Bool,
-  List,
-  length,
-  map,
-  if◌then◌else◌,
-  All,
-  IsSome,
-  Some,
-  slice_get,
-}
+use Rattle.std.specs.Prelude.{◌≡◌, ◌<◌, ℕ, ◌++◌, Bool, List, length, map, if◌then◌else◌, All}
+use Rattle.std.specs.Prelude.{IsSome, Some, slice_get}
 use Rattle.sdl_ast.specs.declared.tree.Join.{Join}
 use Rattle.sdl_ast.specs.declared.tree.Decision.{Decision, out-Decision}
 use Rattle.sdl_ast.specs.Views.{choice_of, else_choice}

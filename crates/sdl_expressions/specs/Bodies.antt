@@ -2,21 +2,9 @@
 -- open keeps what stands before it and what was read of it.
 use Rattle.std.specs.Prelude.{[], ◌∷◌, ◌++◌, List, Option}
 use Rattle.sdl_ast.specs.declared.tree.End.{End}
-use Rattle.sdl_ast.specs.Plain.{
-  Text,
-  Choice,
-  nothing_else,
-  otherwise,
-  PlainAction,
-  PlainStatement,
-  act,
-  decide,
-  PlainAnswer,
-  PlainQuestion,
-  PlainHead,
-  all_before,
-  all_answers,
-}
+use Rattle.sdl_ast.specs.Plain.{Text, Choice, nothing_else, otherwise, PlainAction, PlainStatement}
+use Rattle.sdl_ast.specs.Plain.{act, decide, PlainAnswer, PlainQuestion, PlainHead, all_before}
+use Rattle.sdl_ast.specs.Plain.{all_answers}
 use Rattle.sdl_ast.specs.Views.{end_text}
 use Rattle.sdl_ast.specs.Heights.{high_in_statement}
 use Rattle.sdl_expressions.specs.Machine.{Build, whole_trees, low_trees}

@@ -8,14 +8,8 @@ use Rattle.sdl_expressions.specs.declared.bodies.Body as the_body
 use Rattle.sdl_expressions.specs.declared.bodies.Reached as the_reached
 use Rattle.sdl_expressions.specs.declared.bodies.Move as the_move
 use Rattle.sdl_expressions.specs.declared.bodies.Move.TheVariants as moves
-use Rattle.sdl_expressions.specs.Bodies.{
-  MarkedBranching,
-  MarkedBody,
-  MarkedReached,
-  MarkedMove,
-  reaches,
-  closes,
-}
+use Rattle.sdl_expressions.specs.Bodies.{MarkedBranching, MarkedBody, MarkedReached, MarkedMove}
+use Rattle.sdl_expressions.specs.Bodies.{reaches, closes}
 use Rattle.sdl_expressions.specs.Marks.{Marked, kept, too_high}
 use Rattle.sdl_ast.specs.Plain.{PlainQuestion, PlainHead}
 use Rattle.sdl_expressions.specs.declared.bodies.Question.{Question}

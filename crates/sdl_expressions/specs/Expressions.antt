@@ -1,20 +1,6 @@
 -- Expressions (Z.100, expressions): which tokens read as which tree.
-use Rattle.std.specs.Prelude.{
-  ◌≡◌,
-  ℕ,
-  Bool,
-  true,
-  false,
-  List,
-  [],
-  ◌∷◌,
-  Option,
-  Some,
-  None,
-  is_some,
-  nat_le,
-  if◌then◌else◌,
-}
+use Rattle.std.specs.Prelude.{◌≡◌, ℕ, Bool, true, false, List, [], ◌∷◌, Option, Some, None, is_some}
+use Rattle.std.specs.Prelude.{nat_le, if◌then◌else◌}
 use Rattle.sdl_lex.specs.Limits.{GREATEST_NUMBER}
 use Rattle.sdl_lex.specs.declared.lexemes.Token.{Token}
 use Rattle.sdl_lex.specs.declared.lexemes.Lexeme.{Lexeme}
@@ -26,31 +12,14 @@ use Rattle.sdl_lex.specs.declared.lexemes.Word.TheVariants as words
 use Rattle.sdl_ast.specs.declared.expression.UnaryOperator.{UnaryOperator}
 use Rattle.sdl_ast.specs.declared.expression.UnaryOperator.TheVariants.{Negate, Not}
 use Rattle.sdl_ast.specs.declared.expression.BinaryOperator.{BinaryOperator}
-use Rattle.sdl_ast.specs.declared.expression.BinaryOperator.TheVariants.{
-  Or,
-  Xor,
-  And,
-  Equal,
-  NotEqual,
-  Less,
-  LessEqual,
-  Greater,
-  GreaterEqual,
-  Add,
-  Subtract,
-  Multiply,
-  Divide,
-  Modulo,
-  Remainder,
-}
+use Rattle.sdl_ast.specs.declared.expression.BinaryOperator.TheVariants.{Or, Xor, And, Equal}
+use Rattle.sdl_ast.specs.declared.expression.BinaryOperator.TheVariants.{NotEqual, Less, LessEqual}
+use Rattle.sdl_ast.specs.declared.expression.BinaryOperator.TheVariants.{Greater, GreaterEqual, Add}
+use Rattle.sdl_ast.specs.declared.expression.BinaryOperator.TheVariants.{Subtract, Multiply, Divide}
+use Rattle.sdl_ast.specs.declared.expression.BinaryOperator.TheVariants.{Modulo, Remainder}
 use Rattle.sdl_expressions.specs.declared.level.Level.{Level}
-use Rattle.sdl_expressions.specs.declared.level.Level.TheVariants.{
-  Disjunctions,
-  Conjunctions,
-  Relations,
-  Sums,
-  Products,
-}
+use Rattle.sdl_expressions.specs.declared.level.Level.TheVariants.{Disjunctions, Conjunctions}
+use Rattle.sdl_expressions.specs.declared.level.Level.TheVariants.{Relations, Sums, Products}
 use Rattle.sdl_ast.specs.Plain.{Tree, number, truth, variable, unary, binary}
 use Rattle.sdl_expressions.specs.Grammar.{Grammar}
 use Rattle.sdl_ast.specs.Places.{place_of, placed}

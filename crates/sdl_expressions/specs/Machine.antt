@@ -1,46 +1,19 @@
 -- Expressions token by token, on a stack: each open parenthesis keeps what stands before it, with a
 -- place for each level of precedence.
-use Rattle.std.specs.Prelude.{
-  ℕ,
-  Bool,
-  true,
-  false,
-  List,
-  [],
-  ◌∷◌,
-  Option,
-  Some,
-  None,
-  is_some,
-  nat_lt,
-  if◌then◌else◌,
-}
+use Rattle.std.specs.Prelude.{ℕ, Bool, true, false, List, [], ◌∷◌, Option, Some, None, is_some}
+use Rattle.std.specs.Prelude.{nat_lt, if◌then◌else◌}
 use Rattle.sdl_lex.specs.declared.lexemes.Token.{Token}
 use Rattle.sdl_ast.specs.declared.expression.UnaryOperator.{UnaryOperator}
 use Rattle.sdl_ast.specs.declared.expression.UnaryOperator.TheVariants.{Negate, Not}
 use Rattle.sdl_ast.specs.declared.expression.BinaryOperator.{BinaryOperator}
 use Rattle.sdl_ast.specs.declared.expression.BinaryOperator.TheVariants.{Subtract}
 use Rattle.sdl_expressions.specs.declared.level.Level.{Level}
-use Rattle.sdl_expressions.specs.declared.level.Level.TheVariants.{
-  Disjunctions,
-  Conjunctions,
-  Relations,
-  Sums,
-  Products,
-}
+use Rattle.sdl_expressions.specs.declared.level.Level.TheVariants.{Disjunctions, Conjunctions}
+use Rattle.sdl_expressions.specs.declared.level.Level.TheVariants.{Relations, Sums, Products}
 use Rattle.sdl_ast.specs.Limits.{GREATEST_HEIGHT}
 use Rattle.sdl_ast.specs.Plain.{Tree, number, truth, variable, unary, binary}
-use Rattle.sdl_expressions.specs.Expressions.{
-  Sign,
-  leaf,
-  joins,
-  minus,
-  denies,
-  opens,
-  closes,
-  other,
-  sign,
-}
+use Rattle.sdl_expressions.specs.Expressions.{Sign, leaf, joins, minus, denies, opens, closes}
+use Rattle.sdl_expressions.specs.Expressions.{other, sign}
 use Rattle.sdl_ast.specs.Places.{place_of, placed}
 use Rattle.sdl_ast.specs.Heights.{tree_height}
 use Rattle.sdl_expressions.specs.Readings.{Reading, read, fails, At}

@@ -1,19 +1,8 @@
 -- What is read, or the place of the first TASK, OUTPUT, SET or DECISION in it that is too high.
 use Rattle.std.specs.Prelude.{ℕ, min, List, [], ◌∷◌, ◌++◌, Option, Some, None}
-use Rattle.sdl_ast.specs.Plain.{
-  PlainAnswer,
-  Choice,
-  PlainStatement,
-  decide,
-  all_answers,
-  PlainQuestion,
-  PlainStart,
-  PlainDeclaration,
-  PlainState,
-  PlainConnection,
-  PlainProcessHead,
-  PlainProcess,
-}
+use Rattle.sdl_ast.specs.Plain.{PlainAnswer, Choice, PlainStatement, decide, all_answers}
+use Rattle.sdl_ast.specs.Plain.{PlainQuestion, PlainStart, PlainDeclaration, PlainState}
+use Rattle.sdl_ast.specs.Plain.{PlainConnection, PlainProcessHead, PlainProcess}
 use Rattle.sdl_ast.specs.Heights.{high_in_statement}
 
 pub data Marked (A : Type 0) : Type 0 where

@@ -1,23 +1,6 @@
 -- Reading with one token of sight: what a list of tokens reads as, and where a reading stops.
-use Rattle.std.specs.Prelude.{
-  ◌≡◌,
-  ℕ,
-  Bool,
-  true,
-  false,
-  List,
-  [],
-  ◌∷◌,
-  ◌++◌,
-  Option,
-  Some,
-  None,
-  length,
-  suc,
-  zero,
-  ◌<◌,
-  ◌≤◌,
-}
+use Rattle.std.specs.Prelude.{◌≡◌, ℕ, Bool, true, false, List, [], ◌∷◌, ◌++◌, Option, Some, None}
+use Rattle.std.specs.Prelude.{length, suc, zero, ◌<◌, ◌≤◌}
 use Rattle.sdl_lex.specs.declared.lexemes.Token.{Token}
 use Rattle.sdl_lex.specs.declared.lexemes.Symbol.TheVariants.{Open, Close, Comma}
 use Rattle.sdl_expressions.specs.Tokens.{begins, a_symbol}

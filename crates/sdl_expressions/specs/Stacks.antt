@@ -1,20 +1,6 @@
 -- What the code's stack of operands stands for.
-use Rattle.std.specs.Prelude.{
-  ◌≡◌,
-  ◌<◌,
-  Option,
-  None,
-  Some,
-  List,
-  [],
-  ◌∷◌,
-  map,
-  reverse,
-  length,
-  Result,
-  Ok,
-  Err,
-}
+use Rattle.std.specs.Prelude.{◌≡◌, ◌<◌, Option, None, Some, List, [], ◌∷◌, map, reverse, length}
+use Rattle.std.specs.Prelude.{Result, Ok, Err}
 use Rattle.sdl_lex.specs.declared.lexemes.Token.{Token}
 use Rattle.sdl_expressions.specs.declared.signs.Sign as the_sign
 use Rattle.sdl_expressions.specs.declared.signs.Sign.TheVariants as signs
@@ -26,36 +12,15 @@ use Rattle.sdl_expressions.specs.declared.operands.Turn as the_turn
 use Rattle.sdl_expressions.specs.declared.operands.Turn.TheVariants as turns
 use Rattle.sdl_expressions.specs.declared.part.Part.{Part}
 use Rattle.sdl_ast.specs.Plain.{number, truth, variable}
-use Rattle.sdl_expressions.specs.Expressions.{
-  Sign,
-  leaf,
-  joins,
-  minus,
-  denies,
-  opens,
-  closes,
-  other,
-  sign,
-}
+use Rattle.sdl_expressions.specs.Expressions.{Sign, leaf, joins, minus, denies, opens, closes}
+use Rattle.sdl_expressions.specs.Expressions.{other, sign}
 use Rattle.sdl_expressions.specs.declared.operands.Step as the_step
 use Rattle.sdl_expressions.specs.declared.operands.Step.TheVariants as steps
 use Rattle.sdl_expressions.specs.declared.stop.Stop.{Stop}
 use Rattle.sdl_expressions.specs.Readings.{read}
 use Rattle.sdl_expressions.specs.Mirrors.{Stops}
-use Rattle.sdl_expressions.specs.Machine.{
-  run,
-  low_trees,
-  Terms,
-  Tests,
-  Frame,
-  State,
-  wants,
-  has,
-  Turn,
-  goes,
-  done,
-  stuck,
-}
+use Rattle.sdl_expressions.specs.Machine.{run, low_trees, Terms, Tests, Frame, State, wants, has}
+use Rattle.sdl_expressions.specs.Machine.{Turn, goes, done, stuck}
 use Rattle.sdl_expressions.specs.Parts.{slot_view}
 use Rattle.sdl_ast.specs.Views.{tree_of}
 

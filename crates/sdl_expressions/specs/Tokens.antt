@@ -1,22 +1,6 @@
 -- What a token can stand for in a text.
-use Rattle.std.specs.Prelude.{
-  ℕ,
-  Bool,
-  true,
-  false,
-  ◌==◌,
-  nat_le,
-  List,
-  [],
-  ◌∷◌,
-  Option,
-  Some,
-  None,
-  is_some,
-  if◌then◌else◌,
-  bytes_eq,
-  pos,
-}
+use Rattle.std.specs.Prelude.{ℕ, Bool, true, false, ◌==◌, nat_le, List, [], ◌∷◌, Option, Some, None}
+use Rattle.std.specs.Prelude.{is_some, if◌then◌else◌, bytes_eq, pos}
 use Rattle.sdl_lex.specs.Spelling.{folded}
 use Rattle.sdl_lex.specs.Limits.{GREATEST_NUMBER}
 use Rattle.sdl_lex.specs.declared.lexemes.Word.{Word}

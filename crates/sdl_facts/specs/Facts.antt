@@ -3,30 +3,10 @@
 use Rattle.std.specs.Prelude.{ℕ, if◌then◌else◌, List, [], ◌∷◌, ◌++◌, Option, None, Some}
 use Rattle.sdl_ast.specs.declared.expression.Identifier.{Identifier}
 use Rattle.sdl_ast.specs.declared.tree.Range.{Range}
-use Rattle.sdl_ast.specs.Plain.{
-  Tree,
-  number,
-  truth,
-  variable,
-  unary,
-  binary,
-  PlainAssignment,
-  PlainSending,
-  PlainAction,
-  task,
-  output,
-  set_timer,
-  reset_timer,
-  Text,
-  falls,
-  ends,
-  does,
-  decides,
-  Choice,
-  nothing_else,
-  otherwise,
-  answer,
-}
+use Rattle.sdl_ast.specs.Plain.{Tree, number, truth, variable, unary, binary, PlainAssignment}
+use Rattle.sdl_ast.specs.Plain.{PlainSending, PlainAction, task, output, set_timer, reset_timer}
+use Rattle.sdl_ast.specs.Plain.{Text, falls, ends, does, decides, Choice, nothing_else, otherwise}
+use Rattle.sdl_ast.specs.Plain.{answer}
 use Rattle.turn_code.specs.Code.{shape_after}
 use Rattle.turn_code.specs.Sets.{with_variable}
 use Rattle.turn_code.specs.declared.value.Sort.{Sort}

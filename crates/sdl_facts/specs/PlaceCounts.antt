@@ -1,19 +1,7 @@
 -- What is counted at each place of code: the instructions, or the effects, of the longest way on
 -- from there.
-use Rattle.std.specs.Prelude.{
-  ◌≡◌,
-  ℕ,
-  ◌+◌,
-  ◌≤◌,
-  if◌then◌else◌,
-  nat_lt,
-  List,
-  length,
-  map,
-  Some,
-  get_or,
-  slice_get,
-}
+use Rattle.std.specs.Prelude.{◌≡◌, ℕ, ◌+◌, ◌≤◌, if◌then◌else◌, nat_lt, List, length, map, Some}
+use Rattle.std.specs.Prelude.{get_or, slice_get}
 use Rattle.turn_code.specs.declared.instruction.Instruction.{Instruction}
 use Rattle.turn_code.specs.Code.{successors, effects_of}
 use Rattle.turn_code.specs.Rules.{greatest}

@@ -3,30 +3,10 @@ use Rattle.std.specs.Prelude.{◌≡◌, List, [], ◌∷◌, Option, Some, None
 use Rattle.sdl_ast.specs.declared.expression.Identifier.{Identifier}
 use Rattle.sdl_ast.specs.declared.tree.End.{End}
 use Rattle.sdl_ast.specs.declared.tree.End.TheVariants.{NextState, Stop, Join}
-use Rattle.sdl_ast.specs.Plain.{
-  Tree,
-  number,
-  truth,
-  variable,
-  unary,
-  binary,
-  PlainAssignment,
-  PlainSending,
-  PlainAction,
-  task,
-  output,
-  set_timer,
-  reset_timer,
-  Text,
-  falls,
-  ends,
-  does,
-  decides,
-  Choice,
-  nothing_else,
-  otherwise,
-  answer,
-}
+use Rattle.sdl_ast.specs.Plain.{Tree, number, truth, variable, unary, binary, PlainAssignment}
+use Rattle.sdl_ast.specs.Plain.{PlainSending, PlainAction, task, output, set_timer, reset_timer}
+use Rattle.sdl_ast.specs.Plain.{Text, falls, ends, does, decides, Choice, nothing_else, otherwise}
+use Rattle.sdl_ast.specs.Plain.{answer}
 use Rattle.turn_code.specs.declared.variable_set.VariableSet.{VariableSet}
 use Rattle.turn_code.specs.declared.draft.DraftState.{DraftState}
 use Rattle.turn_code.specs.Sets.{Has, IsWithin, with_variable}

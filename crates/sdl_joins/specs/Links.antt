@@ -1,23 +1,6 @@
 -- Graphs by numbers: for each node, the nodes to which it leads.
-use Rattle.std.specs.Prelude.{
-  ◌≡◌,
-  ◌<◌,
-  ℕ,
-  zero,
-  suc,
-  Bool,
-  true,
-  ◌||◌,
-  List,
-  [],
-  Some,
-  nat_eq,
-  length,
-  map,
-  slice_get,
-  All,
-  Contains,
-}
+use Rattle.std.specs.Prelude.{◌≡◌, ◌<◌, ℕ, zero, suc, Bool, true, ◌||◌, List, [], Some, nat_eq}
+use Rattle.std.specs.Prelude.{length, map, slice_get, All, Contains}
 use Rattle.std.specs.List.{list_any}
 use Rattle.std.specs.Option.{option_map_or}
 use Rattle.std.specs.Global.{Vec}

@@ -1,55 +1,20 @@
 -- What the tokens of a text are, and what keeps a text from having them.
-use Rattle.std.specs.Prelude.{
-  Vec,
-  ◌≡◌,
-  ℕ,
-  ◌+◌,
-  ◌-◌,
-  ◌*◌,
-  ◌<◌,
-  ◌≤◌,
-  ◌==◌,
-  ◌⊎◌,
-  Bool,
-  true,
-  false,
-  IsTrue,
-  ◌||◌,
-  if◌then◌else◌,
-  List,
-  [],
-  ◌∷◌,
-  ◌++◌,
-  length,
-  fold,
-  slice_index,
-  slice_range,
-  EachIndex,
-  Result,
-  Ok,
-  Err,
-}
+use Rattle.std.specs.Prelude.{Vec, ◌≡◌, ℕ, ◌+◌, ◌-◌, ◌*◌, ◌<◌, ◌≤◌, ◌==◌, ◌⊎◌, Bool, true, false}
+use Rattle.std.specs.Prelude.{IsTrue, ◌||◌, if◌then◌else◌, List, [], ◌∷◌, ◌++◌, length, fold}
+use Rattle.std.specs.Prelude.{slice_index, slice_range, EachIndex, Result, Ok, Err}
 use Rattle.std.specs.Char.{is_ascii_alphabetic, is_ascii_digit}
 use Rattle.sdl_lex.specs.Limits.{LONGEST_NAME, GREATEST_NUMBER, LONGEST_TEXT}
 use Rattle.sdl_lex.specs.declared.lexemes.Word.{Word}
 use Rattle.sdl_lex.specs.declared.lexemes.Symbol.{Symbol}
 use Rattle.sdl_lex.specs.declared.lexemes.Symbol.TheVariants.{Colon, Slash, Less, Greater}
 use Rattle.sdl_lex.specs.declared.lexemes.Lexeme.{Lexeme}
-use Rattle.sdl_lex.specs.declared.lexemes.Lexeme.TheVariants.{
-  Name as a_name,
-  Number as a_number,
-  Word as a_word,
-  Symbol as a_symbol,
-  Quoted as a_quoted,
-}
+use Rattle.sdl_lex.specs.declared.lexemes.Lexeme.TheVariants.{Name as a_name, Number as a_number}
+use Rattle.sdl_lex.specs.declared.lexemes.Lexeme.TheVariants.{Word as a_word, Symbol as a_symbol}
+use Rattle.sdl_lex.specs.declared.lexemes.Lexeme.TheVariants.{Quoted as a_quoted}
 use Rattle.sdl_lex.specs.declared.lexemes.Token.{Token}
 use Rattle.sdl_lex.specs.declared.lexemes.LexFault.{LexFault}
-use Rattle.sdl_lex.specs.declared.lexemes.LexFault.TheVariants.{
-  BadCharacter,
-  OpenComment,
-  TooLong,
-  NoMemory,
-}
+use Rattle.sdl_lex.specs.declared.lexemes.LexFault.TheVariants.{BadCharacter, OpenComment, TooLong}
+use Rattle.sdl_lex.specs.declared.lexemes.LexFault.TheVariants.{NoMemory}
 use Rattle.sdl_lex.specs.Spelling.{IsName, SameName, is_name_byte, is_spelled_as_name}
 use Rattle.sdl_lex.specs.Texts.{word_text, symbol_text}
 

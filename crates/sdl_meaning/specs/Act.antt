@@ -1,59 +1,21 @@
 -- What a transition does, said on its tree (Z.100, transitions, with the arithmetic of 32 bits that
 -- wraps).
-use Rattle.std.specs.Prelude.{
-  ℕ,
-  zero,
-  suc,
-  ◌+◌,
-  ℤ,
-  pos,
-  ◌+ℤ◌,
-  ◌-ℤ◌,
-  ◌*ℤ◌,
-  neg_ℤ,
-  int_lt,
-  int_div,
-  int_rem,
-  Bool,
-  true,
-  false,
-  not,
-  ◌||◌,
-  ◌&&◌,
-  if◌then◌else◌,
-  List,
-  [],
-  ◌∷◌,
-  length,
-  Option,
-  Some,
-  None,
-  slice_get,
-  slice_set,
-}
+use Rattle.std.specs.Prelude.{ℕ, zero, suc, ◌+◌, ℤ, pos, ◌+ℤ◌, ◌-ℤ◌, ◌*ℤ◌, neg_ℤ, int_lt, int_div}
+use Rattle.std.specs.Prelude.{int_rem, Bool, true, false, not, ◌||◌, ◌&&◌, if◌then◌else◌, List, []}
+use Rattle.std.specs.Prelude.{◌∷◌, length, Option, Some, None, slice_get, slice_set}
 use Rattle.std.specs.Int.{int_rem_euclid}
 use Rattle.std.specs.Option.{option_map}
 use Rattle.sdl_sound.specs.sdl_ast_types.expression.Identifier.{Identifier}
 use Rattle.sdl_sound.specs.sdl_ast_types.expression.UnaryOperator.{UnaryOperator}
 use Rattle.sdl_sound.specs.sdl_ast_types.expression.UnaryOperator.TheVariants.{Negate, Not}
 use Rattle.sdl_sound.specs.sdl_ast_types.expression.BinaryOperator.{BinaryOperator}
-use Rattle.sdl_sound.specs.sdl_ast_types.expression.BinaryOperator.TheVariants.{
-  Or,
-  Xor,
-  And,
-  Equal,
-  NotEqual,
-  Less,
-  LessEqual,
-  Greater,
-  GreaterEqual,
-  Add,
-  Subtract,
-  Multiply,
-  Divide,
-  Modulo,
-  Remainder,
-}
+use Rattle.sdl_sound.specs.sdl_ast_types.expression.BinaryOperator.TheVariants.{Or, Xor, And, Equal}
+use Rattle.sdl_sound.specs.sdl_ast_types.expression.BinaryOperator.TheVariants.{NotEqual, Less}
+use Rattle.sdl_sound.specs.sdl_ast_types.expression.BinaryOperator.TheVariants.{LessEqual, Greater}
+use Rattle.sdl_sound.specs.sdl_ast_types.expression.BinaryOperator.TheVariants.{GreaterEqual, Add}
+use Rattle.sdl_sound.specs.sdl_ast_types.expression.BinaryOperator.TheVariants.{Subtract, Multiply}
+use Rattle.sdl_sound.specs.sdl_ast_types.expression.BinaryOperator.TheVariants.{Divide, Modulo}
+use Rattle.sdl_sound.specs.sdl_ast_types.expression.BinaryOperator.TheVariants.{Remainder}
 use Rattle.sdl_sound.specs.sdl_ast_types.tree.Sort.TheVariants.{Boolean}
 use Rattle.sdl_sound.specs.sdl_ast_types.tree.Party as tree_party
 use Rattle.sdl_sound.specs.sdl_ast_types.tree.Party.TheVariants as tree_parties
@@ -67,33 +29,10 @@ use Rattle.sdl_sound.specs.sdl_ast_types.tree.Relation as tree_relation
 use Rattle.sdl_sound.specs.sdl_ast_types.tree.Relation.TheVariants as signs
 use Rattle.sdl_sound.specs.sdl_ast_types.tree.Range.{Range}
 use Rattle.sdl_sound.specs.sdl_ast_types.tree.Range.TheVariants as ranges
-use Rattle.sdl_sound.specs.Plain.{
-  Tree,
-  number,
-  truth,
-  variable,
-  unary,
-  binary,
-  PlainAssignment,
-  PlainSending,
-  PlainAction,
-  task,
-  output,
-  set_timer,
-  reset_timer,
-  Text,
-  falls,
-  ends,
-  does,
-  decides,
-  Choice,
-  nothing_else,
-  otherwise,
-  answer,
-  PlainConnection,
-  PlainProcess,
-  PlainBlock,
-}
+use Rattle.sdl_sound.specs.Plain.{Tree, number, truth, variable, unary, binary, PlainAssignment}
+use Rattle.sdl_sound.specs.Plain.{PlainSending, PlainAction, task, output, set_timer, reset_timer}
+use Rattle.sdl_sound.specs.Plain.{Text, falls, ends, does, decides, Choice, nothing_else, otherwise}
+use Rattle.sdl_sound.specs.Plain.{answer, PlainConnection, PlainProcess, PlainBlock}
 use Rattle.turn_code.specs.declared.value.Value.{Value}
 use Rattle.turn_code.specs.declared.value.Value.TheVariants.{Int, Bool as Truth}
 use Rattle.turn_code.specs.declared.input.Input.{Input}
@@ -104,45 +43,18 @@ use Rattle.turn_code.specs.declared.machine.End.TheVariants as code_ends
 use Rattle.turn_code.specs.declared.instruction.Relation.{Relation}
 use Rattle.turn_code.specs.declared.instruction.Relation.TheVariants as relations
 use Rattle.turn_code.specs.declared.effect.Effect.TheVariants as effects
-use Rattle.turn_code.specs.declared.trouble.Trouble.TheVariants.{
-  Unset,
-  WrongSort,
-  Underflow,
-  NoState,
-  NoReceiver,
-  NoAnswer,
-  Outside,
-}
+use Rattle.turn_code.specs.declared.trouble.Trouble.TheVariants.{Unset, WrongSort, Underflow}
+use Rattle.turn_code.specs.declared.trouble.Trouble.TheVariants.{NoState, NoReceiver, NoAnswer}
+use Rattle.turn_code.specs.declared.trouble.Trouble.TheVariants.{Outside}
 use Rattle.turn_code.specs.Values.{wrap, holds, is_between, differ}
-use Rattle.turn_code.specs.Run.{
-  Progress,
-  tick,
-  with_variables,
-  with_effect,
-  of_party,
-  sending,
-  begun,
-  Ran,
-  ended,
-  got_stuck,
-}
+use Rattle.turn_code.specs.Run.{Progress, tick, with_variables, with_effect, of_party, sending}
+use Rattle.turn_code.specs.Run.{begun, Ran, ended, got_stuck}
 use Rattle.sdl_sound.specs.TableNames.{number_of, variables_of, connection_named, process_names}
 use Rattle.sdl_sound.specs.Longest.{Piece, is_division}
 use Rattle.sdl_sound.specs.Sorts.{has_sort, sort_in}
 use Rattle.sdl_sound.specs.Receivers.{party_of, receivers, carries}
-use Rattle.sdl_meaning.specs.Outcomes.{
-  Scope,
-  at_end,
-  in_trouble,
-  Outcome,
-  goes_on,
-  over,
-  then_do,
-  variable_at,
-  state_at,
-  timer_at,
-  signal_at,
-}
+use Rattle.sdl_meaning.specs.Outcomes.{Scope, at_end, in_trouble, Outcome, goes_on, over, then_do}
+use Rattle.sdl_meaning.specs.Outcomes.{variable_at, state_at, timer_at, signal_at}
 
 -- ---- variables
 

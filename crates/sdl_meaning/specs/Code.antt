@@ -1,52 +1,20 @@
 -- The instructions of a transition.
-use Rattle.std.specs.Prelude.{
-  ◌≡◌,
-  ℕ,
-  ◌+◌,
-  ◌==◌,
-  ℤ,
-  pos,
-  Bool,
-  true,
-  false,
-  if◌then◌else◌,
-  List,
-  [],
-  ◌∷◌,
-  ◌++◌,
-  length,
-  map,
-  take,
-  Option,
-  Some,
-  None,
-  slice_get,
-  Contains,
-  fold,
-}
+use Rattle.std.specs.Prelude.{◌≡◌, ℕ, ◌+◌, ◌==◌, ℤ, pos, Bool, true, false, if◌then◌else◌, List, []}
+use Rattle.std.specs.Prelude.{◌∷◌, ◌++◌, length, map, take, Option, Some, None, slice_get, Contains}
+use Rattle.std.specs.Prelude.{fold}
 use Rattle.std.specs.List.{list_any, flat_map}
 use Rattle.std.specs.Option.{option_map_or}
 use Rattle.sdl_sound.specs.sdl_ast_types.expression.Identifier.{Identifier}
 use Rattle.sdl_sound.specs.sdl_ast_types.expression.UnaryOperator.{UnaryOperator}
 use Rattle.sdl_sound.specs.sdl_ast_types.expression.UnaryOperator.TheVariants.{Negate, Not}
 use Rattle.sdl_sound.specs.sdl_ast_types.expression.BinaryOperator.{BinaryOperator}
-use Rattle.sdl_sound.specs.sdl_ast_types.expression.BinaryOperator.TheVariants.{
-  Or,
-  Xor,
-  And,
-  Equal,
-  NotEqual,
-  Less,
-  LessEqual,
-  Greater,
-  GreaterEqual,
-  Add,
-  Subtract,
-  Multiply,
-  Divide,
-  Modulo,
-  Remainder,
-}
+use Rattle.sdl_sound.specs.sdl_ast_types.expression.BinaryOperator.TheVariants.{Or, Xor, And, Equal}
+use Rattle.sdl_sound.specs.sdl_ast_types.expression.BinaryOperator.TheVariants.{NotEqual, Less}
+use Rattle.sdl_sound.specs.sdl_ast_types.expression.BinaryOperator.TheVariants.{LessEqual, Greater}
+use Rattle.sdl_sound.specs.sdl_ast_types.expression.BinaryOperator.TheVariants.{GreaterEqual, Add}
+use Rattle.sdl_sound.specs.sdl_ast_types.expression.BinaryOperator.TheVariants.{Subtract, Multiply}
+use Rattle.sdl_sound.specs.sdl_ast_types.expression.BinaryOperator.TheVariants.{Divide, Modulo}
+use Rattle.sdl_sound.specs.sdl_ast_types.expression.BinaryOperator.TheVariants.{Remainder}
 use Rattle.sdl_sound.specs.sdl_ast_types.tree.Party.TheVariants as tree_parties
 use Rattle.sdl_sound.specs.sdl_ast_types.tree.Destination.{Destination}
 use Rattle.sdl_sound.specs.sdl_ast_types.tree.Destination.TheVariants as address
@@ -57,30 +25,10 @@ use Rattle.sdl_sound.specs.sdl_ast_types.tree.Range.{Range}
 use Rattle.sdl_sound.specs.sdl_ast_types.tree.Range.TheVariants as ranges
 use Rattle.sdl_sound.specs.sdl_ast_types.tree.Literal.{Literal}
 use Rattle.sdl_sound.specs.sdl_ast_types.tree.Literal.TheVariants as literals
-use Rattle.sdl_sound.specs.Plain.{
-  Tree,
-  number,
-  truth,
-  variable,
-  unary,
-  binary,
-  PlainAssignment,
-  PlainSending,
-  PlainAction,
-  task,
-  output,
-  set_timer,
-  reset_timer,
-  Text,
-  falls,
-  ends,
-  does,
-  decides,
-  Choice,
-  nothing_else,
-  otherwise,
-  answer,
-}
+use Rattle.sdl_sound.specs.Plain.{Tree, number, truth, variable, unary, binary, PlainAssignment}
+use Rattle.sdl_sound.specs.Plain.{PlainSending, PlainAction, task, output, set_timer, reset_timer}
+use Rattle.sdl_sound.specs.Plain.{Text, falls, ends, does, decides, Choice, nothing_else, otherwise}
+use Rattle.sdl_sound.specs.Plain.{answer}
 use Rattle.turn_code.specs.declared.input.Party.{Party}
 use Rattle.turn_code.specs.declared.input.Party.TheVariants.{Environment}
 use Rattle.turn_code.specs.declared.instruction.Receiver.{Receiver}
@@ -92,27 +40,12 @@ use Rattle.turn_code.specs.Values.{wrap}
 use Rattle.sdl_sound.specs.TableNames.{variables_of}
 use Rattle.sdl_sound.specs.Going.{goes_on}
 use Rattle.sdl_sound.specs.Statements.{end_joins}
-use Rattle.sdl_sound.specs.Longest.{
-  Piece,
-  is_division,
-  cost_of,
-  action_cost,
-  jump_size,
-  tests_size,
-  size,
-  bodies_size,
-  places_cost,
-}
+use Rattle.sdl_sound.specs.Longest.{Piece, is_division, cost_of, action_cost, jump_size, tests_size}
+use Rattle.sdl_sound.specs.Longest.{size, bodies_size, places_cost}
 use Rattle.sdl_sound.specs.Receivers.{party_of, receivers}
 use Rattle.sdl_meaning.specs.Act.{is_truth, divisor_of, relation_of, integer_in, numbered, the_one}
-use Rattle.sdl_meaning.specs.Outcomes.{
-  Scope,
-  variable_at,
-  state_at,
-  timer_at,
-  connector_at,
-  signal_at,
-}
+use Rattle.sdl_meaning.specs.Outcomes.{Scope, variable_at, state_at, timer_at, connector_at}
+use Rattle.sdl_meaning.specs.Outcomes.{signal_at}
 
 -- the number of a name; its instructions are made only where it has one
 abbrev pub number_or_zero : Option ℕ → ℕ

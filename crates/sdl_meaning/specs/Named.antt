@@ -1,24 +1,7 @@
 -- Texts all of whose names are declared, whose signals have receivers, and whose questions are
 -- answered.
-use Rattle.std.specs.Prelude.{
-  ◌≡◌,
-  ℕ,
-  ◌<◌,
-  ◌≤◌,
-  true,
-  false,
-  List,
-  [],
-  ◌∷◌,
-  length,
-  All,
-  Contains,
-  Option,
-  None,
-  Some,
-  IsSome,
-  slice_get,
-}
+use Rattle.std.specs.Prelude.{◌≡◌, ℕ, ◌<◌, ◌≤◌, true, false, List, [], ◌∷◌, length, All, Contains}
+use Rattle.std.specs.Prelude.{Option, None, Some, IsSome, slice_get}
 use Rattle.sdl_sound.specs.sdl_ast_types.expression.Identifier.{Identifier}
 use Rattle.sdl_sound.specs.sdl_ast_types.tree.Party as tree_party
 use Rattle.sdl_sound.specs.sdl_ast_types.tree.Destination.{Destination}
@@ -27,31 +10,10 @@ use Rattle.sdl_sound.specs.sdl_ast_types.tree.End.{End}
 use Rattle.sdl_sound.specs.sdl_ast_types.tree.End.TheVariants.{NextState, Stop, Join}
 use Rattle.sdl_sound.specs.sdl_ast_types.tree.Join as tree_join
 use Rattle.sdl_sound.specs.sdl_ast_types.tree.Range.{Range}
-use Rattle.sdl_sound.specs.Plain.{
-  Tree,
-  number,
-  truth,
-  variable,
-  unary,
-  binary,
-  PlainAssignment,
-  PlainSending,
-  PlainAction,
-  task,
-  output,
-  set_timer,
-  reset_timer,
-  Text,
-  falls,
-  ends,
-  does,
-  decides,
-  Choice,
-  nothing_else,
-  otherwise,
-  answer,
-  PlainConnection,
-}
+use Rattle.sdl_sound.specs.Plain.{Tree, number, truth, variable, unary, binary, PlainAssignment}
+use Rattle.sdl_sound.specs.Plain.{PlainSending, PlainAction, task, output, set_timer, reset_timer}
+use Rattle.sdl_sound.specs.Plain.{Text, falls, ends, does, decides, Choice, nothing_else, otherwise}
+use Rattle.sdl_sound.specs.Plain.{answer, PlainConnection}
 use Rattle.turn_code.specs.declared.input.Address.{Address}
 use Rattle.std.specs.List.{flat_map}
 use Rattle.plain_limits.specs.Limits.{MOST_PARAMETERS}
@@ -64,14 +26,8 @@ use Rattle.sdl_sound.specs.Joins.{reached}
 use Rattle.sdl_sound.specs.Longest.{Piece}
 use Rattle.sdl_sound.specs.Receivers.{party_of, carries}
 use Rattle.sdl_meaning.specs.Act.{named, to_sender, receiver_of}
-use Rattle.sdl_meaning.specs.Outcomes.{
-  Scope,
-  variable_at,
-  state_at,
-  timer_at,
-  connector_at,
-  signal_at,
-}
+use Rattle.sdl_meaning.specs.Outcomes.{Scope, variable_at, state_at, timer_at, connector_at}
+use Rattle.sdl_meaning.specs.Outcomes.{signal_at}
 
 abbrev pub NamedTree : Scope → Tree → Type 0
 NamedTree c (number at k) = Unit {0}

@@ -3,18 +3,8 @@ use Rattle.std.specs.Prelude.{◌≡◌, ℕ, ◌+◌, Bool, true, false, List, 
 use Rattle.std.specs.Option.{option_map_or}
 use Rattle.sdl_ast.specs.Plain.{Text, Choice, PlainProcess}
 use Rattle.sdl_tables.specs.Names.{number_of, connector_names, Variable, variables_of}
-use Rattle.sdl_sound.specs.Longest.{
-  budget,
-  case_budget,
-  pick_budget,
-  depth,
-  choice_depth,
-  effects,
-  choice_effects,
-  size,
-  bodies_size,
-  tests_size,
-}
+use Rattle.sdl_sound.specs.Longest.{budget, case_budget, pick_budget, depth, choice_depth, effects}
+use Rattle.sdl_sound.specs.Longest.{choice_effects, size, bodies_size, tests_size}
 use Rattle.sdl_sound.specs.Going.{goes_on, choice_goes_on}
 use Rattle.sdl_measures.specs.Measures.{capped}
 use Rattle.sdl_measures.specs.declared.measures.Measure.{Measure}

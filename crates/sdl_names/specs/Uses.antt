@@ -1,13 +1,8 @@
 -- What the names in transitions stand for, as it is kept.
 use Rattle.std.specs.Prelude.{◌≡◌, ℕ, List, Option, None, Some, IfSome, slice_get}
 use Rattle.turn_code.specs.declared.input.Party.{Party}
-use Rattle.sdl_tables.specs.Names.{
-  number_of,
-  connector_names,
-  variable_names,
-  signal_names,
-  process_names,
-}
+use Rattle.sdl_tables.specs.Names.{number_of, connector_names, variable_names, signal_names}
+use Rattle.sdl_tables.specs.Names.{process_names}
 use Rattle.sdl_sound.specs.Receivers.{party_of, receivers}
 use Rattle.sdl_meaning.specs.Act.{the_one}
 use Rattle.sdl_meaning.specs.Outcomes.{Scope}

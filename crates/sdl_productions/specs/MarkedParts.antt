@@ -4,54 +4,18 @@ use Rattle.std.specs.Prelude.{Option, Some, None}
 use Rattle.std.specs.List.{filter_map}
 use Rattle.sdl_lex.specs.declared.lexemes.Word.TheVariants as words
 use Rattle.sdl_lex.specs.declared.lexemes.Symbol.TheVariants.{Colon}
-use Rattle.sdl_ast.specs.Plain.{
-  PlainClause,
-  input,
-  PlainState,
-  PlainConnection,
-  PlainStart,
-  PlainEntity,
-  process,
-  PlainBlock,
-}
-use Rattle.sdl_expressions.specs.Tokens.{
-  a_word,
-  a_symbol,
-  a_name,
-  an_entity,
-  a_declaration,
-  a_clause,
-  a_section,
-}
-use Rattle.sdl_expressions.specs.Readings.{
-  At,
-  give,
-  token,
-  ◌>>=◌,
-  many,
-  choice,
-  optional,
-  separated_from,
-  separated,
-}
+use Rattle.sdl_ast.specs.Plain.{PlainClause, input, PlainState, PlainConnection, PlainStart}
+use Rattle.sdl_ast.specs.Plain.{PlainEntity, process, PlainBlock}
+use Rattle.sdl_expressions.specs.Tokens.{a_word, a_symbol, a_name, an_entity, a_declaration}
+use Rattle.sdl_expressions.specs.Tokens.{a_clause, a_section}
+use Rattle.sdl_expressions.specs.Readings.{At, give, token, ◌>>=◌, many, choice, optional}
+use Rattle.sdl_expressions.specs.Readings.{separated_from, separated}
 use Rattle.sdl_expressions.specs.Bodies.{marked_texts}
 use Rattle.sdl_expressions.specs.Marks.{Marked, kept, map_marked, gathered, process_marked}
-use Rattle.sdl_productions.specs.Productions.{
-  stimulus_at,
-  text_at,
-  save_at,
-  closing_at,
-  end_state_at,
-  end_connection_at,
-  process_head_at,
-}
-use Rattle.sdl_productions.specs.DeclarationProductions.{
-  terminator_at,
-  signals_at,
-  route_at,
-  connect_at,
-  declaration_at,
-}
+use Rattle.sdl_productions.specs.Productions.{stimulus_at, text_at, save_at, closing_at}
+use Rattle.sdl_productions.specs.Productions.{end_state_at, end_connection_at, process_head_at}
+use Rattle.sdl_productions.specs.DeclarationProductions.{terminator_at, signals_at, route_at}
+use Rattle.sdl_productions.specs.DeclarationProductions.{connect_at, declaration_at}
 
 -- what has no transition in it is never marked
 abbrev pub kept_at : {A : Type 0} → At A → At (Marked A)

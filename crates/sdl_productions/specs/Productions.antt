@@ -3,14 +3,8 @@
 use Rattle.std.specs.Prelude.{ℕ, suc, zero, List, [], ◌∷◌, length, Option, Some, None}
 use Rattle.std.specs.List.{filter_map}
 use Rattle.sdl_lex.specs.declared.lexemes.Word.TheVariants as words
-use Rattle.sdl_lex.specs.declared.lexemes.Symbol.TheVariants.{
-  Comma,
-  Assign,
-  Open,
-  Close,
-  Plus,
-  Colon,
-}
+use Rattle.sdl_lex.specs.declared.lexemes.Symbol.TheVariants.{Comma, Assign, Open, Close, Plus}
+use Rattle.sdl_lex.specs.declared.lexemes.Symbol.TheVariants.{Colon}
 use Rattle.sdl_ast.specs.declared.expression.Identifier.{Identifier}
 use Rattle.sdl_ast.specs.declared.tree.Constant.{Constant}
 use Rattle.sdl_ast.specs.declared.tree.Destination.{Destination}
@@ -18,88 +12,24 @@ use Rattle.sdl_ast.specs.declared.tree.End.{End}
 use Rattle.sdl_ast.specs.declared.tree.End.TheVariants.{NextState, Stop, Join}
 use Rattle.sdl_ast.specs.declared.tree.Range.{Range}
 use Rattle.sdl_ast.specs.declared.tree.Range.TheVariants.{Compared}
-use Rattle.sdl_ast.specs.Plain.{
-  Tree,
-  PlainAssignment,
-  PlainSending,
-  PlainAction,
-  task,
-  output,
-  set_timer,
-  reset_timer,
-  PlainQuestion,
-  PlainHead,
-  PlainStimulus,
-  PlainClause,
-  input,
-  save,
-  PlainState,
-  PlainStart,
-  PlainEntity,
-  process,
-  PlainBlock,
-  PlainConnection,
-  PlainSection,
-  in_state,
-  in_connection,
-  PlainProcessHead,
-  process_head,
-  process_from,
-  from_to,
-}
-use Rattle.sdl_expressions.specs.Tokens.{
-  a_word,
-  a_symbol,
-  a_number,
-  a_name,
-  a_count,
-  the_number,
-  a_closing,
-  a_quoted,
-  a_destination,
-  an_entity,
-  a_declaration,
-  a_clause,
-  an_action,
-  an_end,
-  a_choice,
-  a_relation,
-  a_section,
-}
+use Rattle.sdl_ast.specs.Plain.{Tree, PlainAssignment, PlainSending, PlainAction, task, output}
+use Rattle.sdl_ast.specs.Plain.{set_timer, reset_timer, PlainQuestion, PlainHead, PlainStimulus}
+use Rattle.sdl_ast.specs.Plain.{PlainClause, input, save, PlainState, PlainStart, PlainEntity}
+use Rattle.sdl_ast.specs.Plain.{process, PlainBlock, PlainConnection, PlainSection, in_state}
+use Rattle.sdl_ast.specs.Plain.{in_connection, PlainProcessHead, process_head, process_from}
+use Rattle.sdl_ast.specs.Plain.{from_to}
+use Rattle.sdl_expressions.specs.Tokens.{a_word, a_symbol, a_number, a_name, a_count, the_number}
+use Rattle.sdl_expressions.specs.Tokens.{a_closing, a_quoted, a_destination, an_entity}
+use Rattle.sdl_expressions.specs.Tokens.{a_declaration, a_clause, an_action, an_end, a_choice}
+use Rattle.sdl_expressions.specs.Tokens.{a_relation, a_section}
 use Rattle.sdl_expressions.specs.Machine.{expression_at}
-use Rattle.sdl_expressions.specs.Bodies.{
-  Keeping,
-  whole_texts,
-  Branching,
-  Body,
-  Reached,
-  Move,
-  reaches,
-  closes,
-  with_answer,
-}
-use Rattle.sdl_expressions.specs.Readings.{
-  At,
-  fails,
-  give,
-  token,
-  ◌>>=◌,
-  many,
-  choice,
-  optional,
-  separated_from,
-  separated,
-  list_in_parentheses,
-}
-use Rattle.sdl_productions.specs.DeclarationProductions.{
-  names_at,
-  terminator_at,
-  signals_at,
-  route_at,
-  connect_at,
-  constant_at,
-  declaration_at,
-}
+use Rattle.sdl_expressions.specs.Bodies.{Keeping, whole_texts, Branching, Body, Reached, Move}
+use Rattle.sdl_expressions.specs.Bodies.{reaches, closes, with_answer}
+use Rattle.sdl_expressions.specs.Readings.{At, fails, give, token, ◌>>=◌, many, choice, optional}
+use Rattle.sdl_expressions.specs.Readings.{separated_from, separated, list_in_parentheses}
+use Rattle.sdl_productions.specs.DeclarationProductions.{names_at, terminator_at, signals_at}
+use Rattle.sdl_productions.specs.DeclarationProductions.{route_at, connect_at, constant_at}
+use Rattle.sdl_productions.specs.DeclarationProductions.{declaration_at}
 
 unfoldable pub place_at : At (Option Identifier)
 place_at = optional a_name (token a_name)

@@ -2,22 +2,8 @@
 -- or FALSE isn't answered exactly once, where ELSE answers what no answer names, and one of the two
 -- has to be left for it; and those with an answer for no value, which no text can have. (Z.100:
 -- decisions; that ELSE is wanted is this profile's own.)
-use Rattle.std.specs.Prelude.{
-  ℕ,
-  ◌+◌,
-  Bool,
-  true,
-  false,
-  ◌&&◌,
-  List,
-  [],
-  ◌∷◌,
-  if◌then◌else◌,
-  length,
-  nat_eq,
-  nat_lt,
-  sum_by,
-}
+use Rattle.std.specs.Prelude.{ℕ, ◌+◌, Bool, true, false, ◌&&◌, List, [], ◌∷◌, if◌then◌else◌, length}
+use Rattle.std.specs.Prelude.{nat_eq, nat_lt, sum_by}
 use Rattle.std.specs.List.{flat_map}
 use Rattle.sdl_tables.specs.sdl_ast_types.tree.Literal.{Literal}
 use Rattle.sdl_tables.specs.sdl_ast_types.tree.Literal.TheVariants.{Integer, Boolean}

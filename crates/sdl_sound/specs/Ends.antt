@@ -5,26 +5,9 @@ use Rattle.std.specs.List.{flat_map}
 use Rattle.sdl_tables.specs.sdl_ast_types.expression.Identifier.{Identifier}
 use Rattle.sdl_tables.specs.sdl_ast_types.tree.End.{End}
 use Rattle.sdl_tables.specs.sdl_ast_types.tree.End.TheVariants.{NextState, Stop, Join}
-use Rattle.sdl_tables.specs.Plain.{
-  PlainAction,
-  task,
-  output,
-  set_timer,
-  reset_timer,
-  Text,
-  falls,
-  ends,
-  does,
-  decides,
-  Choice,
-  nothing_else,
-  otherwise,
-  answer,
-  PlainConnection,
-  PlainInput,
-  PlainProcess,
-  PlainBlock,
-}
+use Rattle.sdl_tables.specs.Plain.{PlainAction, task, output, set_timer, reset_timer, Text, falls}
+use Rattle.sdl_tables.specs.Plain.{ends, does, decides, Choice, nothing_else, otherwise, answer}
+use Rattle.sdl_tables.specs.Plain.{PlainConnection, PlainInput, PlainProcess, PlainBlock}
 use Rattle.sdl_tables.specs.Names.{is_in, processes_of, states_of, input_parts}
 use Rattle.sdl_sound.specs.Going.{choice_goes_on}
 

@@ -1,18 +1,7 @@
 -- Where JOINs lead: which connections a transition goes on with, and which come back to themselves.
 -- (Z.100: joins, in-connectors.)
-use Rattle.std.specs.Prelude.{
-  ℕ,
-  zero,
-  suc,
-  Bool,
-  ◌||◌,
-  List,
-  [],
-  ◌∷◌,
-  if◌then◌else◌,
-  length,
-  filter,
-}
+use Rattle.std.specs.Prelude.{ℕ, zero, suc, Bool, ◌||◌, List, [], ◌∷◌, if◌then◌else◌, length}
+use Rattle.std.specs.Prelude.{filter}
 use Rattle.std.specs.List.{list_any, flat_map}
 use Rattle.std.specs.Option.{option_map_or}
 use Rattle.sdl_tables.specs.sdl_ast_types.tree.Join.{Join}

@@ -1,49 +1,18 @@
 -- S10: the limits of this profile, in this order.
-use Rattle.std.specs.Prelude.{
-  ℕ,
-  Bool,
-  ◌||◌,
-  List,
-  [],
-  ◌∷◌,
-  ◌++◌,
-  Option,
-  length,
-  nat_lt,
-  find,
-  sum_by,
-}
+use Rattle.std.specs.Prelude.{ℕ, Bool, ◌||◌, List, [], ◌∷◌, ◌++◌, Option, length, nat_lt, find}
+use Rattle.std.specs.Prelude.{sum_by}
 use Rattle.std.specs.List.{list_any}
-use Rattle.plain_limits.specs.Limits.{
-  MOST_EFFECTS,
-  MOST_INSTANCES,
-  MOST_INSTRUCTIONS,
-  MOST_OPERANDS,
-  MOST_PARAMETERS,
-  MOST_PIECES,
-  MOST_PROCESSES,
-  MOST_SIGNALS,
-  MOST_STATES,
-  MOST_TIMERS_EACH,
-  MOST_VARIABLES,
-}
+use Rattle.plain_limits.specs.Limits.{MOST_EFFECTS, MOST_INSTANCES, MOST_INSTRUCTIONS}
+use Rattle.plain_limits.specs.Limits.{MOST_OPERANDS, MOST_PARAMETERS, MOST_PIECES, MOST_PROCESSES}
+use Rattle.plain_limits.specs.Limits.{MOST_SIGNALS, MOST_STATES, MOST_TIMERS_EACH, MOST_VARIABLES}
 use Rattle.sdl_tables.specs.Plain.{PlainBlock}
 use Rattle.sdl_tables.specs.Names.{signals_of, processes_of, variables_of, timers_of, states_of}
 use Rattle.sdl_sound.specs.Longest.{pieces_of, piece_size, piece_depth, piece_effects}
 use Rattle.sdl_sound.specs.declared.fault.Limit.{Limit}
-use Rattle.sdl_sound.specs.declared.fault.Limit.TheVariants.{
-  Processes,
-  States,
-  Variables,
-  Timers,
-  Signals,
-  Params,
-  Pieces,
-  Piece as PieceSize,
-  Depth,
-  Effects,
-  Instances,
-}
+use Rattle.sdl_sound.specs.declared.fault.Limit.TheVariants.{Processes, States, Variables, Timers}
+use Rattle.sdl_sound.specs.declared.fault.Limit.TheVariants.{Signals, Params, Pieces}
+use Rattle.sdl_sound.specs.declared.fault.Limit.TheVariants.{Piece as PieceSize, Depth, Effects}
+use Rattle.sdl_sound.specs.declared.fault.Limit.TheVariants.{Instances}
 
 -- fewer than 1, which no text can have, or more than there may be
 abbrev pub wrong_instances : ℕ → Bool

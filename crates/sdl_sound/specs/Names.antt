@@ -10,40 +10,13 @@ use Rattle.sdl_tables.specs.sdl_ast_types.tree.Party.{Party}
 use Rattle.sdl_tables.specs.sdl_ast_types.tree.Party.TheVariants.{Environment, Process}
 use Rattle.sdl_tables.specs.sdl_ast_types.tree.End.{End}
 use Rattle.sdl_tables.specs.sdl_ast_types.tree.End.TheVariants.{NextState, Stop, Join}
-use Rattle.sdl_tables.specs.Plain.{
-  Tree,
-  number,
-  truth,
-  variable,
-  unary,
-  binary,
-  PlainAssignment,
-  PlainSending,
-  PlainAction,
-  task,
-  output,
-  set_timer,
-  reset_timer,
-  PlainStimulus,
-  PlainInput,
-  PlainState,
-  PlainProcess,
-  PlainPath,
-  PlainRoute,
-  PlainBlock,
-}
-use Rattle.sdl_tables.specs.Names.{
-  is_in,
-  routes_of,
-  processes_of,
-  signal_names,
-  process_names,
-  variable_names,
-  timers_of,
-  connector_names,
-  input_parts,
-  part_saves,
-}
+use Rattle.sdl_tables.specs.Plain.{Tree, number, truth, variable, unary, binary, PlainAssignment}
+use Rattle.sdl_tables.specs.Plain.{PlainSending, PlainAction, task, output, set_timer, reset_timer}
+use Rattle.sdl_tables.specs.Plain.{PlainStimulus, PlainInput, PlainState, PlainProcess, PlainPath}
+use Rattle.sdl_tables.specs.Plain.{PlainRoute, PlainBlock}
+use Rattle.sdl_tables.specs.Names.{is_in, routes_of, processes_of, signal_names, process_names}
+use Rattle.sdl_tables.specs.Names.{variable_names, timers_of, connector_names, input_parts}
+use Rattle.sdl_tables.specs.Names.{part_saves}
 use Rattle.sdl_sound.specs.Statements.{Statement, acts, asks, covers, finishes}
 use Rattle.sdl_sound.specs.Actions.{in_statements}
 

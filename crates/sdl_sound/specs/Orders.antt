@@ -1,21 +1,6 @@
 -- Orders of the connections of a process in which each stands behind all that its JOINs lead to.
-use Rattle.std.specs.Prelude.{
-  ◌≡◌,
-  ◌<◌,
-  ℕ,
-  List,
-  [],
-  Option,
-  Some,
-  Result,
-  Ok,
-  Err,
-  length,
-  map,
-  slice_get,
-  Contains,
-  option_to_list,
-}
+use Rattle.std.specs.Prelude.{◌≡◌, ◌<◌, ℕ, List, [], Option, Some, Result, Ok, Err, length, map}
+use Rattle.std.specs.Prelude.{slice_get, Contains, option_to_list}
 use Rattle.std.specs.List.{AllZip, flat_map}
 use Rattle.std.specs.Global.{Vec}
 use Rattle.sdl_tables.specs.sdl_ast_types.expression.Identifier.{Identifier}

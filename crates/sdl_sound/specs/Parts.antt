@@ -6,14 +6,8 @@ use Rattle.sdl_tables.specs.sdl_ast_types.tree.Decision.{Decision, out-Decision}
 use Rattle.sdl_tables.specs.sdl_ast_types.tree.Answer.{Answer}
 use Rattle.sdl_tables.specs.Plain.{Tree, falls}
 use Rattle.sdl_tables.specs.Views.{tree_of, text_of, statement_of, choice_of}
-use Rattle.sdl_sound.specs.Statements.{
-  Statement,
-  asks,
-  covers,
-  finishes,
-  statements_of,
-  choice_statements,
-}
+use Rattle.sdl_sound.specs.Statements.{Statement, asks, covers, finishes, statements_of}
+use Rattle.sdl_sound.specs.Statements.{choice_statements}
 
 abbrev pub statement_parts : the_statement.Statement → List Statement
 statement_parts s = statements_of (statement_of s falls)

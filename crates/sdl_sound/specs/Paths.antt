@@ -1,67 +1,16 @@
 -- Control paths, and what is read on them before it is set. (Z.100: the transitions of a process
 -- graph.)
-use Rattle.std.specs.Prelude.{
-  ◌≡◌,
-  ◌⊎◌,
-  ◌<◌,
-  ◌≤◌,
-  ℕ,
-  zero,
-  suc,
-  Bool,
-  true,
-  false,
-  not,
-  ◌&&◌,
-  ◌||◌,
-  List,
-  [],
-  ◌∷◌,
-  ◌++◌,
-  length,
-  Option,
-  None,
-  Some,
-  if◌then◌else◌,
-  map,
-  All,
-  Contains,
-  is_some,
-}
+use Rattle.std.specs.Prelude.{◌≡◌, ◌⊎◌, ◌<◌, ◌≤◌, ℕ, zero, suc, Bool, true, false, not, ◌&&◌, ◌||◌}
+use Rattle.std.specs.Prelude.{List, [], ◌∷◌, ◌++◌, length, Option, None, Some, if◌then◌else◌, map}
+use Rattle.std.specs.Prelude.{All, Contains, is_some}
 use Rattle.std.specs.List.{flat_map}
 use Rattle.std.specs.Option.{option_map_or}
 use Rattle.sdl_tables.specs.sdl_ast_types.tree.End.TheVariants.{NextState, Stop, Join}
-use Rattle.sdl_tables.specs.Plain.{
-  Tree,
-  PlainAssignment,
-  PlainSending,
-  PlainAction,
-  task,
-  output,
-  set_timer,
-  reset_timer,
-  Text,
-  falls,
-  ends,
-  does,
-  decides,
-  Choice,
-  nothing_else,
-  otherwise,
-  answer,
-  PlainConnection,
-  PlainProcess,
-}
-use Rattle.sdl_tables.specs.Names.{
-  same_name,
-  number_of,
-  Variable,
-  variables_of,
-  connection_named,
-  states_of,
-  Input,
-  inputs_of,
-}
+use Rattle.sdl_tables.specs.Plain.{Tree, PlainAssignment, PlainSending, PlainAction, task, output}
+use Rattle.sdl_tables.specs.Plain.{set_timer, reset_timer, Text, falls, ends, does, decides, Choice}
+use Rattle.sdl_tables.specs.Plain.{nothing_else, otherwise, answer, PlainConnection, PlainProcess}
+use Rattle.sdl_tables.specs.Names.{same_name, number_of, Variable, variables_of, connection_named}
+use Rattle.sdl_tables.specs.Names.{states_of, Input, inputs_of}
 use Rattle.sdl_sound.specs.Names.{tree_names, place_names}
 use Rattle.sdl_sound.specs.declared.fault.Step.{Step}
 use Rattle.sdl_sound.specs.declared.fault.Step.TheVariants.{Start, Input as Takes}

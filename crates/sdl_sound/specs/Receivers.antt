@@ -1,47 +1,16 @@
 -- Who gets what is sent: the OUTPUTs that nobody, or more than one, would get. (Z.100: signal
 -- routes, output.)
-use Rattle.std.specs.Prelude.{
-  ℕ,
-  Bool,
-  false,
-  not,
-  ◌&&◌,
-  List,
-  [],
-  ◌∷◌,
-  Option,
-  None,
-  Some,
-  if◌then◌else◌,
-  length,
-  nat_lt,
-}
+use Rattle.std.specs.Prelude.{ℕ, Bool, false, not, ◌&&◌, List, [], ◌∷◌, Option, None, Some}
+use Rattle.std.specs.Prelude.{if◌then◌else◌, length, nat_lt}
 use Rattle.std.specs.List.{list_all, flat_map}
 use Rattle.sdl_tables.specs.sdl_ast_types.tree.Party.{Party}
 use Rattle.sdl_tables.specs.sdl_ast_types.tree.Party.TheVariants.{Process}
 use Rattle.sdl_tables.specs.sdl_ast_types.tree.Destination.{Destination}
 use Rattle.sdl_tables.specs.sdl_ast_types.tree.Destination.TheVariants as address
-use Rattle.sdl_tables.specs.Plain.{
-  PlainSending,
-  PlainAction,
-  task,
-  output,
-  set_timer,
-  reset_timer,
-  PlainProcess,
-  PlainBlock,
-}
-pub use Rattle.sdl_tables.specs.Routes.{
-  same_party,
-  paths_of,
-  brings,
-  carries,
-  path_receivers,
-  path_senders,
-  add_party,
-  receivers,
-  senders,
-}
+use Rattle.sdl_tables.specs.Plain.{PlainSending, PlainAction, task, output, set_timer, reset_timer}
+use Rattle.sdl_tables.specs.Plain.{PlainProcess, PlainBlock}
+pub use Rattle.sdl_tables.specs.Routes.{same_party, paths_of, brings, carries, path_receivers}
+pub use Rattle.sdl_tables.specs.Routes.{path_senders, add_party, receivers, senders}
 use Rattle.sdl_tables.specs.Names.{is_in, processes_of, timers_of}
 use Rattle.sdl_sound.specs.Statements.{Statement, acts, asks, covers, finishes}
 use Rattle.sdl_sound.specs.Actions.{Origin, begins, takes, in_statements}

@@ -15,25 +15,13 @@ use Rattle.sdl_sound.specs.Paths.{ReadsUnset, IsShortest, IsFirstWith}
 use Rattle.sdl_sound.specs.PathOrder.{IsFirst}
 use Rattle.sdl_sound.specs.Spellings.{AreDeclared}
 use Rattle.sdl_sound.specs.declared.fault.RuleFault.{RuleFault}
-use Rattle.sdl_sound.specs.declared.fault.RuleFault.TheVariants.{
-  DoubleName,
-  UnknownName,
-  WrongSort,
-  NoState,
-  NoReceiver,
-  TwoReceivers,
-  JoinCycle,
-  NoAnswer,
-  BadDivisor,
-  Limit,
-  Unset,
-  NoMemory,
-}
+use Rattle.sdl_sound.specs.declared.fault.RuleFault.TheVariants.{DoubleName, UnknownName, WrongSort}
+use Rattle.sdl_sound.specs.declared.fault.RuleFault.TheVariants.{NoState, NoReceiver, TwoReceivers}
+use Rattle.sdl_sound.specs.declared.fault.RuleFault.TheVariants.{JoinCycle, NoAnswer, BadDivisor}
+use Rattle.sdl_sound.specs.declared.fault.RuleFault.TheVariants.{Limit, Unset, NoMemory}
 use Rattle.sdl_tables.specs.declared.fault.TableFault.{TableFault}
-use Rattle.sdl_tables.specs.declared.fault.TableFault.TheVariants.{
-  DoubleName as NoTable,
-  NoMemory as NoRoom,
-}
+use Rattle.sdl_tables.specs.declared.fault.TableFault.TheVariants.{DoubleName as NoTable}
+use Rattle.sdl_tables.specs.declared.fault.TableFault.TheVariants.{NoMemory as NoRoom}
 
 -- The rules by number: each of these says that neither its own rule nor one with a lesser number is
 -- broken.

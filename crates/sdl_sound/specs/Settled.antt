@@ -1,40 +1,15 @@
 -- Which variables are set whenever a process is in a state. A set of variables is kept as the bits
 -- of a number: bit v is variable v.
-use Rattle.std.specs.Prelude.{
-  ◌≡◌,
-  ℕ,
-  ◌<◌,
-  true,
-  false,
-  List,
-  ◌++◌,
-  Option,
-  Some,
-  length,
-  All,
-  slice_get,
-}
+use Rattle.std.specs.Prelude.{◌≡◌, ℕ, ◌<◌, true, false, List, ◌++◌, Option, Some, length, All}
+use Rattle.std.specs.Prelude.{slice_get}
 use Rattle.std.specs.List.{AllZip}
 use Rattle.std.specs.Int.{bit_at}
 use Rattle.sdl_tables.specs.Plain.{PlainProcess}
 use Rattle.sdl_tables.specs.sdl_ast_types.expression.Identifier.{Identifier}
-use Rattle.sdl_tables.specs.Names.{
-  number_of,
-  variable_names,
-  variables_of,
-  states_of,
-  Input,
-  inputs_by_state,
-}
-use Rattle.sdl_sound.specs.Paths.{
-  Event,
-  IsWalk,
-  Transition,
-  start_transition,
-  input_transition,
-  reads_first,
-  sets_in,
-}
+use Rattle.sdl_tables.specs.Names.{number_of, variable_names, variables_of, states_of, Input}
+use Rattle.sdl_tables.specs.Names.{inputs_by_state}
+use Rattle.sdl_sound.specs.Paths.{Event, IsWalk, Transition, start_transition, input_transition}
+use Rattle.sdl_sound.specs.Paths.{reads_first, sets_in}
 
 -- Where a transition begins with the variables `before` set, and `sets` are those of the states:
 -- what a walk reads before it sets it is set before, and what is set in the state where a walk ends

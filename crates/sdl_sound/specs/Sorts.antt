@@ -1,49 +1,22 @@
 -- Sorts: which one each operand, assigned value, initial value, parameter, answer and place of an
 -- INPUT has to have, and the places in the text where it has another one. (Z.100: expressions,
 -- sorts of data.)
-use Rattle.std.specs.Prelude.{
-  ℕ,
-  Bool,
-  true,
-  false,
-  ◌&&◌,
-  List,
-  [],
-  ◌∷◌,
-  ◌++◌,
-  Option,
-  None,
-  Some,
-  if◌then◌else◌,
-  length,
-  nat_eq,
-  nat_lt,
-  find,
-  zip,
-}
+use Rattle.std.specs.Prelude.{ℕ, Bool, true, false, ◌&&◌, List, [], ◌∷◌, ◌++◌, Option, None, Some}
+use Rattle.std.specs.Prelude.{if◌then◌else◌, length, nat_eq, nat_lt, find, zip}
 use Rattle.std.specs.List.{flat_map}
 use Rattle.std.specs.Option.{option_map, option_map_or}
 use Rattle.sdl_tables.specs.sdl_ast_types.expression.Identifier.{Identifier}
 use Rattle.sdl_tables.specs.sdl_ast_types.expression.UnaryOperator.{UnaryOperator}
 use Rattle.sdl_tables.specs.sdl_ast_types.expression.UnaryOperator.TheVariants.{Negate, Not}
 use Rattle.sdl_tables.specs.sdl_ast_types.expression.BinaryOperator.{BinaryOperator}
-use Rattle.sdl_tables.specs.sdl_ast_types.expression.BinaryOperator.TheVariants.{
-  Or,
-  Xor,
-  And,
-  Equal,
-  NotEqual,
-  Less,
-  LessEqual,
-  Greater,
-  GreaterEqual,
-  Add,
-  Subtract,
-  Multiply,
-  Divide,
-  Modulo,
-  Remainder,
-}
+use Rattle.sdl_tables.specs.sdl_ast_types.expression.BinaryOperator.TheVariants.{Or, Xor, And}
+use Rattle.sdl_tables.specs.sdl_ast_types.expression.BinaryOperator.TheVariants.{Equal, NotEqual}
+use Rattle.sdl_tables.specs.sdl_ast_types.expression.BinaryOperator.TheVariants.{Less, LessEqual}
+use Rattle.sdl_tables.specs.sdl_ast_types.expression.BinaryOperator.TheVariants.{Greater}
+use Rattle.sdl_tables.specs.sdl_ast_types.expression.BinaryOperator.TheVariants.{GreaterEqual, Add}
+use Rattle.sdl_tables.specs.sdl_ast_types.expression.BinaryOperator.TheVariants.{Subtract, Multiply}
+use Rattle.sdl_tables.specs.sdl_ast_types.expression.BinaryOperator.TheVariants.{Divide, Modulo}
+use Rattle.sdl_tables.specs.sdl_ast_types.expression.BinaryOperator.TheVariants.{Remainder}
 use Rattle.sdl_tables.specs.sdl_ast_types.tree.Sort.{Sort}
 use Rattle.sdl_tables.specs.sdl_ast_types.tree.Sort.TheVariants.{Integer, Boolean}
 use Rattle.sdl_tables.specs.sdl_ast_types.tree.Constant.{Constant}
@@ -51,34 +24,12 @@ use Rattle.sdl_tables.specs.sdl_ast_types.tree.Range.{Range}
 use Rattle.sdl_tables.specs.sdl_ast_types.tree.Range.TheVariants.{Value, Compared, Between}
 use Rattle.sdl_tables.specs.sdl_ast_types.tree.Literal.{Literal}
 use Rattle.sdl_tables.specs.sdl_ast_types.tree.Literal.TheVariants as literal
-use Rattle.sdl_tables.specs.Plain.{
-  Tree,
-  number,
-  truth,
-  variable,
-  unary,
-  binary,
-  PlainAssignment,
-  PlainSending,
-  PlainAction,
-  task,
-  output,
-  set_timer,
-  reset_timer,
-  PlainStimulus,
-  PlainInput,
-  PlainProcess,
-  PlainBlock,
-}
+use Rattle.sdl_tables.specs.Plain.{Tree, number, truth, variable, unary, binary, PlainAssignment}
+use Rattle.sdl_tables.specs.Plain.{PlainSending, PlainAction, task, output, set_timer, reset_timer}
+use Rattle.sdl_tables.specs.Plain.{PlainStimulus, PlainInput, PlainProcess, PlainBlock}
 use Rattle.sdl_tables.specs.Places.{place_of}
-use Rattle.sdl_tables.specs.Names.{
-  same_name,
-  processes_of,
-  signal_named,
-  Variable,
-  variables_of,
-  input_parts,
-}
+use Rattle.sdl_tables.specs.Names.{same_name, processes_of, signal_named, Variable, variables_of}
+use Rattle.sdl_tables.specs.Names.{input_parts}
 use Rattle.sdl_sound.specs.Statements.{Statement, acts, asks, covers, finishes}
 use Rattle.sdl_sound.specs.Actions.{in_statements}
 

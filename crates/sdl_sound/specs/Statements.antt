@@ -6,19 +6,8 @@ use Rattle.sdl_tables.specs.sdl_ast_types.tree.Range.{Range}
 use Rattle.sdl_tables.specs.sdl_ast_types.tree.Join.{Join}
 use Rattle.sdl_tables.specs.sdl_ast_types.tree.End.{End}
 use Rattle.sdl_tables.specs.sdl_ast_types.tree.End.TheVariants as how
-use Rattle.sdl_tables.specs.Plain.{
-  Tree,
-  PlainAction,
-  Text,
-  falls,
-  ends,
-  does,
-  decides,
-  Choice,
-  nothing_else,
-  otherwise,
-  answer,
-}
+use Rattle.sdl_tables.specs.Plain.{Tree, PlainAction, Text, falls, ends, does, decides, Choice}
+use Rattle.sdl_tables.specs.Plain.{nothing_else, otherwise, answer}
 
 pub data Statement : Type 0 where
   acts : PlainAction → Statement

@@ -1,18 +1,6 @@
 -- To which connections the transitions come that begin with what a sender may have sent.
-use Rattle.std.specs.Prelude.{
-  ◌≡◌,
-  ℕ,
-  Bool,
-  false,
-  List,
-  [],
-  ◌∷◌,
-  Option,
-  Some,
-  if◌then◌else◌,
-  map,
-  slice_get,
-}
+use Rattle.std.specs.Prelude.{◌≡◌, ℕ, Bool, false, List, [], ◌∷◌, Option, Some, if◌then◌else◌, map}
+use Rattle.std.specs.Prelude.{slice_get}
 use Rattle.std.specs.List.{list_any, flat_map}
 use Rattle.std.specs.Option.{option_map_or}
 use Rattle.std.specs.Global.{Vec}

@@ -1,18 +1,6 @@
 -- Who may have sent each signal that a process takes, with numbers for the parties.
-use Rattle.std.specs.Prelude.{
-  ◌≡◌,
-  ℕ,
-  List,
-  [],
-  Option,
-  None,
-  Some,
-  length,
-  map,
-  fold,
-  slice_get,
-  All,
-}
+use Rattle.std.specs.Prelude.{◌≡◌, ℕ, List, [], Option, None, Some, length, map, fold, slice_get}
+use Rattle.std.specs.Prelude.{All}
 use Rattle.std.specs.List.{list_all}
 use Rattle.std.specs.Global.{Vec}
 use Rattle.sdl_ast.specs.declared.expression.Identifier.{Identifier}

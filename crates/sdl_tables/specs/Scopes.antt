@@ -1,33 +1,12 @@
 -- Names that have to differ, and the places of those that are there twice. (Z.100: entity classes
 -- and scope units.)
-use Rattle.std.specs.Prelude.{
-  ◌≡◌,
-  ℕ,
-  List,
-  [],
-  ◌∷◌,
-  ◌++◌,
-  Option,
-  None,
-  Some,
-  if◌then◌else◌,
-  Contains,
-  ⊤,
-}
+use Rattle.std.specs.Prelude.{◌≡◌, ℕ, List, [], ◌∷◌, ◌++◌, Option, None, Some, if◌then◌else◌}
+use Rattle.std.specs.Prelude.{Contains, ⊤}
 use Rattle.std.specs.List.{flat_map}
 use Rattle.sdl_ast.specs.declared.expression.Identifier.{Identifier}
 use Rattle.sdl_ast.specs.Plain.{PlainProcess, PlainBlock}
-use Rattle.sdl_tables.specs.Names.{
-  is_in,
-  processes_of,
-  signal_names,
-  route_names,
-  process_names,
-  variable_names,
-  timers_of,
-  connector_names,
-  triggers_by_state,
-}
+use Rattle.sdl_tables.specs.Names.{is_in, processes_of, signal_names, route_names, process_names}
+use Rattle.sdl_tables.specs.Names.{variable_names, timers_of, connector_names, triggers_by_state}
 use Rattle.sdl_tables.specs.declared.fault.TableFault.{TableFault}
 use Rattle.sdl_tables.specs.declared.fault.TableFault.TheVariants.{DoubleName, NoMemory}
 

@@ -2,16 +2,8 @@
 use Rattle.std.specs.Prelude.{◌≡◌, ◌++◌, [], map}
 use Rattle.std.specs.List.{flat_map}
 use Rattle.sdl_ast.specs.Views.{process_of, input_of}
-use Rattle.sdl_tables.specs.Names.{
-  variable_names,
-  variables_of,
-  timers_of,
-  connector_names,
-  states_of,
-  input_parts,
-  names_once,
-  triggers_by_state,
-}
+use Rattle.sdl_tables.specs.Names.{variable_names, variables_of, timers_of, connector_names}
+use Rattle.sdl_tables.specs.Names.{states_of, input_parts, names_once, triggers_by_state}
 use Rattle.sdl_ast.specs.Plain.{PlainProcess}
 use Rattle.sdl_tables.specs.Scopes.{Marks, repeats, process_scopes}
 use Rattle.sdl_tables.specs.Rows.{variable_of}

@@ -4,14 +4,8 @@ use Rattle.std.specs.Prelude.{◌≡◌, ℕ, true, false, List, [], Option, Som
 use Rattle.std.specs.List.{filter_map}
 use Rattle.sdl_lex.specs.declared.lexemes.Token.{Token}
 use Rattle.sdl_lex.specs.declared.lexemes.Word.TheVariants as words
-use Rattle.sdl_lex.specs.declared.lexemes.Symbol.TheVariants.{
-  Comma,
-  Assign,
-  Open,
-  Close,
-  Plus,
-  Colon,
-}
+use Rattle.sdl_lex.specs.declared.lexemes.Symbol.TheVariants.{Comma, Assign, Open, Close, Plus}
+use Rattle.sdl_lex.specs.declared.lexemes.Symbol.TheVariants.{Colon}
 use Rattle.sdl_ast.specs.declared.expression.Identifier.{Identifier}
 use Rattle.sdl_ast.specs.declared.tree.Constant.{Constant}
 use Rattle.sdl_ast.specs.declared.tree.Destination.{Destination}
@@ -19,86 +13,23 @@ use Rattle.sdl_ast.specs.declared.tree.End.{End}
 use Rattle.sdl_ast.specs.declared.tree.End.TheVariants.{NextState, Stop, Join}
 use Rattle.sdl_ast.specs.declared.tree.Range.{Range}
 use Rattle.sdl_ast.specs.declared.tree.Range.TheVariants.{Compared}
-use Rattle.sdl_ast.specs.Plain.{
-  PlainAssignment,
-  PlainSending,
-  PlainAction,
-  task,
-  output,
-  set_timer,
-  reset_timer,
-  Text,
-  falls,
-  ends,
-  does,
-  decides,
-  Choice,
-  nothing_else,
-  otherwise,
-  answer,
-  PlainQuestion,
-  PlainHead,
-  Tree,
-  PlainStimulus,
-  PlainClause,
-  input,
-  save,
-  PlainState,
-  PlainStart,
-  PlainEntity,
-  process,
-  PlainBlock,
-  PlainConnection,
-  PlainSection,
-  in_state,
-  in_connection,
-  PlainProcessHead,
-  process_head,
-  process_from,
-  from_to,
-}
-use Rattle.sdl_expressions.specs.Tokens.{
-  begins,
-  a_word,
-  a_symbol,
-  a_number,
-  a_name,
-  a_count,
-  the_number,
-  a_closing,
-  a_quoted,
-  a_destination,
-  an_entity,
-  a_declaration,
-  a_clause,
-  an_action,
-  an_end,
-  a_choice,
-  a_relation,
-  a_section,
-}
-use Rattle.sdl_expressions.specs.Grammar.{
-  Grammar,
-  give,
-  token,
-  ◌>>=◌,
-  many,
-  choice,
-  optional,
-  separated_from,
-  separated,
-  list_in_parentheses,
-}
+use Rattle.sdl_ast.specs.Plain.{PlainAssignment, PlainSending, PlainAction, task, output, set_timer}
+use Rattle.sdl_ast.specs.Plain.{reset_timer, Text, falls, ends, does, decides, Choice, nothing_else}
+use Rattle.sdl_ast.specs.Plain.{otherwise, answer, PlainQuestion, PlainHead, Tree, PlainStimulus}
+use Rattle.sdl_ast.specs.Plain.{PlainClause, input, save, PlainState, PlainStart, PlainEntity}
+use Rattle.sdl_ast.specs.Plain.{process, PlainBlock, PlainConnection, PlainSection, in_state}
+use Rattle.sdl_ast.specs.Plain.{in_connection, PlainProcessHead, process_head, process_from}
+use Rattle.sdl_ast.specs.Plain.{from_to}
+use Rattle.sdl_expressions.specs.Tokens.{begins, a_word, a_symbol, a_number, a_name, a_count}
+use Rattle.sdl_expressions.specs.Tokens.{the_number, a_closing, a_quoted, a_destination, an_entity}
+use Rattle.sdl_expressions.specs.Tokens.{a_declaration, a_clause, an_action, an_end, a_choice}
+use Rattle.sdl_expressions.specs.Tokens.{a_relation, a_section}
+use Rattle.sdl_expressions.specs.Grammar.{Grammar, give, token, ◌>>=◌, many, choice, optional}
+use Rattle.sdl_expressions.specs.Grammar.{separated_from, separated, list_in_parentheses}
 use Rattle.sdl_expressions.specs.Expressions.{expression_syntax}
-use Rattle.sdl_tree.specs.DeclarationSyntax.{
-  names_syntax,
-  terminator_syntax,
-  signals_syntax,
-  route_syntax,
-  connect_syntax,
-  constant_syntax,
-  declaration_syntax,
-}
+use Rattle.sdl_tree.specs.DeclarationSyntax.{names_syntax, terminator_syntax, signals_syntax}
+use Rattle.sdl_tree.specs.DeclarationSyntax.{route_syntax, connect_syntax, constant_syntax}
+use Rattle.sdl_tree.specs.DeclarationSyntax.{declaration_syntax}
 
 -- [ name ]
 unfoldable pub place_syntax : Grammar (Option Identifier)

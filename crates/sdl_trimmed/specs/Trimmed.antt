@@ -1,39 +1,9 @@
 -- A text without what has neither an effect nor an instruction: TASKs in which all is quoted.
-use Rattle.std.specs.Prelude.{
-  ◌≡◌,
-  map,
-  Option,
-  None,
-  Some,
-  Bool,
-  true,
-  false,
-  List,
-  [],
-  ◌∷◌,
-  if◌then◌else◌,
-}
-use Rattle.sdl_ast.specs.Plain.{
-  PlainAction,
-  task,
-  output,
-  set_timer,
-  reset_timer,
-  Text,
-  falls,
-  ends,
-  does,
-  decides,
-  Choice,
-  nothing_else,
-  otherwise,
-  answer,
-  PlainStatement,
-  act,
-  decide,
-  PlainAnswer,
-  PlainConnection,
-}
+use Rattle.std.specs.Prelude.{◌≡◌, map, Option, None, Some, Bool, true, false, List, [], ◌∷◌}
+use Rattle.std.specs.Prelude.{if◌then◌else◌}
+use Rattle.sdl_ast.specs.Plain.{PlainAction, task, output, set_timer, reset_timer, Text, falls}
+use Rattle.sdl_ast.specs.Plain.{ends, does, decides, Choice, nothing_else, otherwise, answer}
+use Rattle.sdl_ast.specs.Plain.{PlainStatement, act, decide, PlainAnswer, PlainConnection}
 use Rattle.sdl_ast.specs.declared.tree.Transition.{Transition}
 use Rattle.sdl_ast.specs.declared.tree.Statement.{Statement}
 use Rattle.sdl_ast.specs.Views.{text_of, plain_statement}

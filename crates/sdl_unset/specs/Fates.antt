@@ -1,21 +1,6 @@
 -- What becomes of the variables of a process, and how a path by numbers is named.
-use Rattle.std.specs.Prelude.{
-  ◌≡◌,
-  ℕ,
-  ◌<◌,
-  Bool,
-  true,
-  false,
-  not,
-  List,
-  [],
-  Option,
-  Some,
-  length,
-  slice_get,
-  if◌then◌else◌,
-  ⊤,
-}
+use Rattle.std.specs.Prelude.{◌≡◌, ℕ, ◌<◌, Bool, true, false, not, List, [], Option, Some, length}
+use Rattle.std.specs.Prelude.{slice_get, if◌then◌else◌, ⊤}
 use Rattle.std.specs.Option.{option_map_or, option_and_then}
 use Rattle.std.specs.Global.{Vec}
 use Rattle.sdl_unset.specs.declared.paths.Graph.{Graph}
@@ -27,16 +12,8 @@ use Rattle.sdl_unset.specs.Graph.{IsClosedSet, ReadsUnset, IsShortest}
 use Rattle.sdl_unset.specs.Order.{NotAfter, IsFirst}
 use Rattle.sdl_ast.specs.Plain.{PlainProcess, PlainBlock}
 use Rattle.sdl_ast.specs.declared.expression.Identifier.{Identifier}
-use Rattle.sdl_tables.specs.Names.{
-  same_name,
-  number_of,
-  variables_of,
-  timers_of,
-  states_of,
-  Input,
-  inputs_of,
-  signal_named,
-}
+use Rattle.sdl_tables.specs.Names.{same_name, number_of, variables_of, timers_of, states_of, Input}
+use Rattle.sdl_tables.specs.Names.{inputs_of, signal_named}
 use Rattle.sdl_unset.specs.Graphs.{IsGraphOf}
 use Rattle.sdl_sound.specs.declared.fault.Step.{Step}
 use Rattle.sdl_sound.specs.declared.fault.Step.TheVariants.{Start, Input as Takes}

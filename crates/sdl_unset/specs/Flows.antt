@@ -1,25 +1,6 @@
 -- What a part of a transition does with the variables, as bits by their numbers.
-use Rattle.std.specs.Prelude.{
-  ◌≡◌,
-  ◌↔◌,
-  ℕ,
-  ◌<◌,
-  Bool,
-  true,
-  false,
-  not,
-  List,
-  [],
-  ◌∷◌,
-  map,
-  length,
-  Option,
-  None,
-  Some,
-  slice_get,
-  option_and_then,
-  Contains,
-}
+use Rattle.std.specs.Prelude.{◌≡◌, ◌↔◌, ℕ, ◌<◌, Bool, true, false, not, List, [], ◌∷◌, map, length}
+use Rattle.std.specs.Prelude.{Option, None, Some, slice_get, option_and_then, Contains}
 use Rattle.std.specs.List.{AllZip}
 use Rattle.std.specs.Option.{option_map_or}
 use Rattle.std.specs.Global.{Vec}
@@ -30,30 +11,13 @@ use Rattle.sdl_unset.specs.declared.paths.Passage.{Passage}
 use Rattle.sdl_unset.specs.declared.paths.Summary.{Summary}
 use Rattle.sdl_ast.specs.declared.expression.Identifier.{Identifier}
 use Rattle.sdl_ast.specs.declared.tree.End.{End}
-use Rattle.sdl_ast.specs.Plain.{
-  PlainAction,
-  task,
-  output,
-  set_timer,
-  reset_timer,
-  Text,
-  Choice,
-  PlainProcess,
-}
+use Rattle.sdl_ast.specs.Plain.{PlainAction, task, output, set_timer, reset_timer, Text, Choice}
+use Rattle.sdl_ast.specs.Plain.{PlainProcess}
 use Rattle.sdl_tables.specs.Names.{number_of, variable_names, connector_names, states_of, Input}
 use Rattle.sdl_sound.specs.Names.{place_names}
 use Rattle.sdl_sound.specs.Paths.{Event, sets, Transition, input_transition, reads_first, sets_in}
-use Rattle.sdl_sound.specs.Chances.{
-  Chances,
-  no_chances,
-  event_chances,
-  behind,
-  end_chances,
-  chances,
-  choice_chances,
-  joined_chances,
-  text_chances,
-}
+use Rattle.sdl_sound.specs.Chances.{Chances, no_chances, event_chances, behind, end_chances}
+use Rattle.sdl_sound.specs.Chances.{chances, choice_chances, joined_chances, text_chances}
 use Rattle.sdl_unset.specs.declared.flow.Flow.{Flow}
 use Rattle.sdl_unset.specs.declared.walker.Walker.{Walker}
 

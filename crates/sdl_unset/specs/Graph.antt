@@ -1,27 +1,7 @@
 -- Paths through the transitions of a process, and what is read on them before it is set. (Z.100:
 -- the transitions of a process graph.)
-use Rattle.std.specs.Prelude.{
-  ◌≡◌,
-  ℕ,
-  ◌<◌,
-  ◌≤◌,
-  ◌==◌,
-  Bool,
-  true,
-  false,
-  length,
-  ⊤,
-  All,
-  List,
-  [],
-  ◌∷◌,
-  Option,
-  Some,
-  None,
-  Contains,
-  slice_get,
-  option_and_then,
-}
+use Rattle.std.specs.Prelude.{◌≡◌, ℕ, ◌<◌, ◌≤◌, ◌==◌, Bool, true, false, length, ⊤, All, List, []}
+use Rattle.std.specs.Prelude.{◌∷◌, Option, Some, None, Contains, slice_get, option_and_then}
 use Rattle.std.specs.Int.{bit_at}
 use Rattle.sdl_unset.specs.declared.paths.Passage.{Passage}
 use Rattle.sdl_unset.specs.declared.paths.Summary.{Summary}

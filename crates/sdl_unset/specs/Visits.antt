@@ -1,26 +1,6 @@
 -- What a search keeps: the states that it saw, and a visit of each with a path to it.
-use Rattle.std.specs.Prelude.{
-  ◌≡◌,
-  ℕ,
-  suc,
-  ◌+◌,
-  ◌<◌,
-  ◌≤◌,
-  Bool,
-  true,
-  false,
-  List,
-  [],
-  ◌∷◌,
-  ◌++◌,
-  length,
-  Some,
-  None,
-  Contains,
-  All,
-  slice_get,
-  ◌⊎◌,
-}
+use Rattle.std.specs.Prelude.{◌≡◌, ℕ, suc, ◌+◌, ◌<◌, ◌≤◌, Bool, true, false, List, [], ◌∷◌, ◌++◌}
+use Rattle.std.specs.Prelude.{length, Some, None, Contains, All, slice_get, ◌⊎◌}
 use Rattle.sdl_unset.specs.declared.paths.Passage.{Passage}
 use Rattle.sdl_unset.specs.declared.paths.Summary.{Summary}
 use Rattle.sdl_unset.specs.declared.paths.Graph.{Graph}

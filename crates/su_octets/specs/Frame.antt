@@ -1,38 +1,14 @@
 -- The format of signal units between the flags (Q.703, 2.2 and 2.3).
-use Rattle.std.specs.Prelude.{
-  ◌≡◌,
-  ℕ,
-  ◌+◌,
-  ◌-◌,
-  ◌*◌,
-  ◌%◌,
-  ◌<◌,
-  ◌≤◌,
-  min,
-  Option,
-  Some,
-  None,
-  List,
-  [],
-  ◌∷◌,
-  ◌++◌,
-  length,
-  take,
-  drop,
-  slice_index,
-}
+use Rattle.std.specs.Prelude.{◌≡◌, ℕ, ◌+◌, ◌-◌, ◌*◌, ◌%◌, ◌<◌, ◌≤◌, min, Option, Some, None, List}
+use Rattle.std.specs.Prelude.{[], ◌∷◌, ◌++◌, length, take, drop, slice_index}
 use Rattle.su_octets.specs.Check.{Check}
 use Rattle.su_octets.specs.Whole.{IsWhole}
 use Rattle.su_octets.specs.declared.units.Head.{Head}
 use Rattle.su_octets.specs.declared.units.Unit.{Unit}
 use Rattle.su_octets.specs.declared.units.Unit.TheVariants.{Fisu, Lssu, Msu}
 use Rattle.su_octets.specs.declared.units.UnitFault.{UnitFault}
-use Rattle.su_octets.specs.declared.units.UnitFault.TheVariants.{
-  TooShort,
-  TooLong,
-  BadCheck,
-  BadLength,
-}
+use Rattle.su_octets.specs.declared.units.UnitFault.TheVariants.{TooShort, TooLong, BadCheck}
+use Rattle.su_octets.specs.declared.units.UnitFault.TheVariants.{BadLength}
 
 abbrev pub head_of : Unit → Head
 head_of (Fisu head) = head

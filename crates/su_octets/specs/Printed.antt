@@ -8,12 +8,8 @@ use Rattle.su_octets.specs.declared.units.Head.{Head}
 use Rattle.su_octets.specs.declared.units.Unit.{Unit}
 use Rattle.su_octets.specs.declared.units.Unit.TheVariants.{Fisu, Lssu, Msu}
 use Rattle.su_octets.specs.declared.units.UnitFault.{UnitFault}
-use Rattle.su_octets.specs.declared.units.UnitFault.TheVariants.{
-  TooShort,
-  TooLong,
-  BadCheck,
-  BadLength,
-}
+use Rattle.su_octets.specs.declared.units.UnitFault.TheVariants.{TooShort, TooLong, BadCheck}
+use Rattle.su_octets.specs.declared.units.UnitFault.TheVariants.{BadLength}
 
 -- the numbers and indicator bits, backward before forward
 abbrev pub head_text : Head → List ℕ

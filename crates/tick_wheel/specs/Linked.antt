@@ -1,28 +1,7 @@
 -- Lists by links: the node of a slot is the last item's next one, so each list with its slot is a
 -- ring.
-use Rattle.std.specs.Prelude.{
-  ◌≡◌,
-  ℕ,
-  zero,
-  suc,
-  ◌+◌,
-  ◌<◌,
-  nat_eq,
-  Bool,
-  true,
-  List,
-  [],
-  ◌∷◌,
-  Option,
-  Some,
-  None,
-  length,
-  get_or,
-  set,
-  map,
-  nat_lt,
-  if◌then◌else◌,
-}
+use Rattle.std.specs.Prelude.{◌≡◌, ℕ, zero, suc, ◌+◌, ◌<◌, nat_eq, Bool, true, List, [], ◌∷◌}
+use Rattle.std.specs.Prelude.{Option, Some, None, length, get_or, set, map, nat_lt, if◌then◌else◌}
 use Rattle.std.specs.List.{IsDistinct, list_any, range_with_len}
 use Rattle.tick_wheel.specs.Sizes.{ITEMS, SLOTS, NODES}
 

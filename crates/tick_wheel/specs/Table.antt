@@ -1,21 +1,6 @@
 -- A table with a place for each timer: eight places for actor 0, then eight for actor 1, and so on.
-use Rattle.std.specs.Prelude.{
-  ◌≡◌,
-  ℕ,
-  ◌+◌,
-  ◌*◌,
-  ◌/◌,
-  ◌%◌,
-  List,
-  [],
-  ◌∷◌,
-  map,
-  Option,
-  Some,
-  None,
-  nat_le,
-  if◌then◌else◌,
-}
+use Rattle.std.specs.Prelude.{◌≡◌, ℕ, ◌+◌, ◌*◌, ◌/◌, ◌%◌, List, [], ◌∷◌, map, Option, Some, None}
+use Rattle.std.specs.Prelude.{nat_le, if◌then◌else◌}
 use Rattle.std.specs.FinMap as finite
 use Rattle.plain_limits.specs.Limits.{MOST_ACTORS, MOST_TIMERS_EACH}
 use Rattle.tick_wheel.specs.TimerId.{TimerId}

@@ -1,20 +1,6 @@
 -- The timers of a link: a clock, and the deadline of each timer that is active (Z.100, timers).
-use Rattle.std.specs.Prelude.{
-  ◌≡◌,
-  ◌↔◌,
-  ◌≤◌,
-  ℕ,
-  Bool,
-  false,
-  not,
-  List,
-  map,
-  filter,
-  nat_le,
-  Contains,
-  Some,
-  refl,
-}
+use Rattle.std.specs.Prelude.{◌≡◌, ◌↔◌, ◌≤◌, ℕ, Bool, false, not, List, map, filter, nat_le}
+use Rattle.std.specs.Prelude.{Contains, Some, refl}
 use Rattle.std.specs.List.Sorted.{IsStrictlySortedBy}
 use Rattle.std.specs.declared.cmp.Ordering.{Ordering}
 use Rattle.std.specs.Coded.{Coded, code_by, coded×, coded_ℕ}

@@ -5,17 +5,8 @@ use Rattle.std.specs.Fmt.{decimal}
 use Rattle.turn_code.specs.declared.input.Place.{Place}
 use Rattle.turn_code.specs.declared.input.Place.TheVariants.{Start, State as InState}
 use Rattle.turn_code.specs.declared.rule.Rule.{Rule}
-use Rattle.turn_code.specs.declared.rule.Rule.TheVariants.{
-  Jump,
-  Shape,
-  Under,
-  Sort,
-  Unset,
-  State,
-  Number,
-  Limit,
-  Budget,
-}
+use Rattle.turn_code.specs.declared.rule.Rule.TheVariants.{Jump, Shape, Under, Sort, Unset, State}
+use Rattle.turn_code.specs.declared.rule.Rule.TheVariants.{Number, Limit, Budget}
 use Rattle.turn_check.specs.declared.fault.Spot.{Spot}
 use Rattle.turn_check.specs.declared.fault.VerifyFault.{VerifyFault}
 use Rattle.turn_check.specs.Faults.{rule_of, spot_of}

@@ -1,54 +1,18 @@
 -- What each instruction needs, leaves and names.
-use Rattle.std.specs.Prelude.{
-  ℕ,
-  ◌+◌,
-  ℤ,
-  List,
-  [],
-  ◌∷◌,
-  ◌++◌,
-  length,
-  drop,
-  reverse,
-  slice_get,
-  option_map,
-  option_to_list,
-}
+use Rattle.std.specs.Prelude.{ℕ, ◌+◌, ℤ, List, [], ◌∷◌, ◌++◌, length, drop, reverse, slice_get}
+use Rattle.std.specs.Prelude.{option_map, option_to_list}
 use Rattle.turn_code.specs.Sets.{with_variable}
 use Rattle.turn_code.specs.Transitions.{parameters_of}
 use Rattle.turn_code.specs.declared.value.Sort.{Sort}
 use Rattle.turn_code.specs.declared.value.Sort.TheVariants.{Integer, Boolean}
 use Rattle.turn_code.specs.declared.instruction.Instruction.{Instruction}
-use Rattle.turn_code.specs.declared.instruction.Instruction.TheVariants.{
-  Int,
-  Bool,
-  Load,
-  Store,
-  Param,
-  Add,
-  Sub,
-  Mul,
-  Div,
-  Mod,
-  Rem,
-  Neg,
-  Not,
-  And,
-  Or,
-  Xor,
-  Same,
-  Compare,
-  Case,
-  CaseWithin,
-  Pick,
-  Drop,
-  Jump,
-  Output,
-  Set,
-  Reset,
-  Next,
-  Stop,
-}
+use Rattle.turn_code.specs.declared.instruction.Instruction.TheVariants.{Int, Bool, Load, Store}
+use Rattle.turn_code.specs.declared.instruction.Instruction.TheVariants.{Param, Add, Sub, Mul, Div}
+use Rattle.turn_code.specs.declared.instruction.Instruction.TheVariants.{Mod, Rem, Neg, Not, And}
+use Rattle.turn_code.specs.declared.instruction.Instruction.TheVariants.{Or, Xor, Same, Compare}
+use Rattle.turn_code.specs.declared.instruction.Instruction.TheVariants.{Case, CaseWithin, Pick}
+use Rattle.turn_code.specs.declared.instruction.Instruction.TheVariants.{Drop, Jump, Output, Set}
+use Rattle.turn_code.specs.declared.instruction.Instruction.TheVariants.{Reset, Next, Stop}
 use Rattle.turn_code.specs.declared.variable_set.VariableSet.{VariableSet}
 use Rattle.turn_code.specs.declared.draft.DraftSignal.{DraftSignal}
 use Rattle.turn_code.specs.declared.draft.DraftVariable.{DraftVariable}

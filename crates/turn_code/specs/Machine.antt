@@ -1,30 +1,15 @@
 -- What a machine stands for, and what its next instruction makes of it.
-use Rattle.std.specs.Prelude.{
-  ◌≡◌,
-  ℕ,
-  ◌<◌,
-  ◌≤◌,
-  List,
-  length,
-  Bool,
-  true,
-  false,
-  IsTrue,
-  Some,
-  slice_get,
-}
+use Rattle.std.specs.Prelude.{◌≡◌, ℕ, ◌<◌, ◌≤◌, List, length, Bool, true, false, IsTrue, Some}
+use Rattle.std.specs.Prelude.{slice_get}
 use Rattle.plain_limits.specs.Limits.{MOST_EFFECTS, MOST_OPERANDS, MOST_PARAMETERS}
 use Rattle.turn_code.specs.Code.{effects_of, sends}
 use Rattle.turn_code.specs.Run.{Progress, After, goes, ends, stuck}
 use Rattle.turn_code.specs.declared.value.Value.{Value}
 use Rattle.turn_code.specs.declared.effect.Effect.{Effect}
 use Rattle.turn_code.specs.declared.instruction.Instruction.{Instruction}
-use Rattle.turn_code.specs.declared.instruction.Instruction.TheVariants.{
-  Int as PutInt,
-  Bool as PutBool,
-  Load,
-  Param,
-}
+use Rattle.turn_code.specs.declared.instruction.Instruction.TheVariants.{Int as PutInt}
+use Rattle.turn_code.specs.declared.instruction.Instruction.TheVariants.{Bool as PutBool, Load}
+use Rattle.turn_code.specs.declared.instruction.Instruction.TheVariants.{Param}
 use Rattle.turn_code.specs.declared.machine.Machine.{Machine}
 use Rattle.turn_code.specs.declared.machine.After.{After as Next}
 use Rattle.turn_code.specs.declared.machine.After.TheVariants.{Goes, Ends, Stuck}

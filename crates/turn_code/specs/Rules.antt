@@ -1,67 +1,21 @@
 -- What a valid draft keeps, rule by rule, at each place of each transition.
-use Rattle.std.specs.Prelude.{
-  ◌≡◌,
-  ℕ,
-  ◌+◌,
-  ◌<◌,
-  ◌≤◌,
-  pos,
-  ◌≤ℤ◌,
-  max,
-  List,
-  [],
-  ◌∷◌,
-  length,
-  map,
-  sum_by,
-  All,
-  Contains,
-  Option,
-  Some,
-  None,
-  IfSome,
-  slice_get,
-}
-use Rattle.plain_limits.specs.Limits.{
-  MOST_EFFECTS,
-  MOST_INSTANCES,
-  MOST_INSTRUCTIONS,
-  MOST_OPERANDS,
-  MOST_PARAMETERS,
-  MOST_PIECES,
-  MOST_PROCESSES,
-  MOST_SIGNALS,
-  MOST_STATES,
-  MOST_TIMERS_EACH,
-  MOST_VARIABLES,
-}
+use Rattle.std.specs.Prelude.{◌≡◌, ℕ, ◌+◌, ◌<◌, ◌≤◌, pos, ◌≤ℤ◌, max, List, [], ◌∷◌, length, map}
+use Rattle.std.specs.Prelude.{sum_by, All, Contains, Option, Some, None, IfSome, slice_get}
+use Rattle.plain_limits.specs.Limits.{MOST_EFFECTS, MOST_INSTANCES, MOST_INSTRUCTIONS}
+use Rattle.plain_limits.specs.Limits.{MOST_OPERANDS, MOST_PARAMETERS, MOST_PIECES, MOST_PROCESSES}
+use Rattle.plain_limits.specs.Limits.{MOST_SIGNALS, MOST_STATES, MOST_TIMERS_EACH, MOST_VARIABLES}
 use Rattle.turn_code.specs.Values.{sort_of}
 use Rattle.turn_code.specs.Sets.{Has, IsWithin}
 use Rattle.turn_code.specs.Routes.{IsPartyOf, Reaches, Answers}
-use Rattle.turn_code.specs.Code.{
-  takes,
-  shape_left,
-  shape_after,
-  reads,
-  sets,
-  set_after,
-  parameters_in,
-  timers_in,
-  divisors_in,
-  states_in,
-  jumps,
-  behind,
-  successors,
-  effects_of,
-}
+use Rattle.turn_code.specs.Code.{takes, shape_left, shape_after, reads, sets, set_after}
+use Rattle.turn_code.specs.Code.{parameters_in, timers_in, divisors_in, states_in, jumps, behind}
+use Rattle.turn_code.specs.Code.{successors, effects_of}
 use Rattle.turn_code.specs.Transitions.{Transition, parameters_of}
 use Rattle.turn_code.specs.declared.value.Sort.{Sort}
 use Rattle.turn_code.specs.declared.numbers.SignalNumber.{SignalNumber}
 use Rattle.turn_code.specs.declared.instruction.Receiver.{Receiver}
-use Rattle.turn_code.specs.declared.instruction.Receiver.TheVariants.{
-  Party as ToParty,
-  Sender as ToSender,
-}
+use Rattle.turn_code.specs.declared.instruction.Receiver.TheVariants.{Party as ToParty}
+use Rattle.turn_code.specs.declared.instruction.Receiver.TheVariants.{Sender as ToSender}
 use Rattle.turn_code.specs.declared.instruction.Instruction.{Instruction}
 use Rattle.turn_code.specs.declared.instruction.Instruction.TheVariants.{Output}
 use Rattle.turn_code.specs.declared.draft.Draft.{Draft}

@@ -1,40 +1,9 @@
 -- What code does: one instruction on a list of values with their sorts, and a run of as many of
 -- them as a turn may take.
-use Rattle.std.specs.Prelude.{
-  ◌≡◌,
-  ℕ,
-  zero,
-  suc,
-  ◌+◌,
-  ℤ,
-  pos,
-  ◌+ℤ◌,
-  ◌-ℤ◌,
-  ◌*ℤ◌,
-  neg_ℤ,
-  int_lt,
-  int_div,
-  int_rem,
-  Bool as Truth,
-  not,
-  ◌&&◌,
-  ◌||◌,
-  if◌then◌else◌,
-  nat_le,
-  List,
-  [],
-  ◌∷◌,
-  ◌++◌,
-  length,
-  take,
-  drop,
-  reverse,
-  Option,
-  Some,
-  None,
-  slice_get,
-  slice_set,
-}
+use Rattle.std.specs.Prelude.{◌≡◌, ℕ, zero, suc, ◌+◌, ℤ, pos, ◌+ℤ◌, ◌-ℤ◌, ◌*ℤ◌, neg_ℤ, int_lt}
+use Rattle.std.specs.Prelude.{int_div, int_rem, Bool as Truth, not, ◌&&◌, ◌||◌, if◌then◌else◌}
+use Rattle.std.specs.Prelude.{nat_le, List, [], ◌∷◌, ◌++◌, length, take, drop, reverse, Option}
+use Rattle.std.specs.Prelude.{Some, None, slice_get, slice_set}
 use Rattle.std.specs.Int.{int_rem_euclid}
 use Rattle.plain_limits.specs.Limits.{MOST_INSTRUCTIONS}
 use Rattle.turn_code.specs.Values.{wrap, holds, is_between, differ}
@@ -42,41 +11,17 @@ use Rattle.turn_code.specs.declared.value.Value.{Value}
 use Rattle.turn_code.specs.declared.value.Value.TheVariants.{Int, Bool}
 use Rattle.turn_code.specs.declared.numbers.SignalNumber.{SignalNumber}
 use Rattle.turn_code.specs.declared.instruction.Receiver.{Receiver}
-use Rattle.turn_code.specs.declared.instruction.Receiver.TheVariants.{
-  Party as ToParty,
-  Sender as ToSender,
-}
+use Rattle.turn_code.specs.declared.instruction.Receiver.TheVariants.{Party as ToParty}
+use Rattle.turn_code.specs.declared.instruction.Receiver.TheVariants.{Sender as ToSender}
 use Rattle.turn_code.specs.declared.instruction.Instruction.{Instruction}
-use Rattle.turn_code.specs.declared.instruction.Instruction.TheVariants.{
-  Int as PutInt,
-  Bool as PutBool,
-  Load,
-  Store,
-  Param,
-  Add,
-  Sub,
-  Mul,
-  Div,
-  Mod,
-  Rem,
-  Neg,
-  Not,
-  And,
-  Or,
-  Xor,
-  Same,
-  Compare,
-  Case,
-  CaseWithin,
-  Pick,
-  Drop,
-  Jump,
-  Output,
-  Set,
-  Reset,
-  Next,
-  Stop,
-}
+use Rattle.turn_code.specs.declared.instruction.Instruction.TheVariants.{Int as PutInt}
+use Rattle.turn_code.specs.declared.instruction.Instruction.TheVariants.{Bool as PutBool, Load}
+use Rattle.turn_code.specs.declared.instruction.Instruction.TheVariants.{Store, Param, Add, Sub}
+use Rattle.turn_code.specs.declared.instruction.Instruction.TheVariants.{Mul, Div, Mod, Rem, Neg}
+use Rattle.turn_code.specs.declared.instruction.Instruction.TheVariants.{Not, And, Or, Xor, Same}
+use Rattle.turn_code.specs.declared.instruction.Instruction.TheVariants.{Compare, Case, CaseWithin}
+use Rattle.turn_code.specs.declared.instruction.Instruction.TheVariants.{Pick, Drop, Jump, Output}
+use Rattle.turn_code.specs.declared.instruction.Instruction.TheVariants.{Set, Reset, Next, Stop}
 use Rattle.turn_code.specs.declared.input.Input.{Input}
 use Rattle.turn_code.specs.declared.input.Party.{Party}
 use Rattle.turn_code.specs.declared.input.Address.{Address}
@@ -85,13 +30,8 @@ use Rattle.turn_code.specs.declared.effect.Effect.TheVariants as effect
 use Rattle.turn_code.specs.declared.machine.End.{End}
 use Rattle.turn_code.specs.declared.machine.End.TheVariants as end
 use Rattle.turn_code.specs.declared.trouble.Trouble.{Trouble}
-use Rattle.turn_code.specs.declared.trouble.Trouble.TheVariants.{
-  Unset,
-  WrongSort,
-  Underflow,
-  NoReceiver,
-  Outside,
-}
+use Rattle.turn_code.specs.declared.trouble.Trouble.TheVariants.{Unset, WrongSort, Underflow}
+use Rattle.turn_code.specs.declared.trouble.Trouble.TheVariants.{NoReceiver, Outside}
 
 -- what a run has done so far: its variables, none where one isn't set, its effects in order, and
 -- how many instructions it took

@@ -1,33 +1,14 @@
 -- A valid draft, and where one is broken.
 use Rattle.std.specs.Prelude.{◌≡◌, ℕ, Some}
 use Rattle.turn_code.specs.Transitions.{Transition, transition_at}
-use Rattle.turn_code.specs.Rules.{
-  JumpsInside,
-  KeepsShapes,
-  HasOperands,
-  KeepsSorts,
-  KeepsSets,
-  HasStates,
-  HasNumbers,
-  KeepsSetLimits,
-  KeepsLimits,
-  KeepsCounts,
-}
+use Rattle.turn_code.specs.Rules.{JumpsInside, KeepsShapes, HasOperands, KeepsSorts, KeepsSets}
+use Rattle.turn_code.specs.Rules.{HasStates, HasNumbers, KeepsSetLimits, KeepsLimits, KeepsCounts}
 use Rattle.turn_code.specs.declared.input.Place.{Place}
 use Rattle.turn_code.specs.declared.input.Place.TheVariants.{Start}
 use Rattle.turn_code.specs.declared.draft.Draft.{Draft}
 use Rattle.turn_code.specs.declared.rule.Rule.{Rule}
-use Rattle.turn_code.specs.declared.rule.Rule.TheVariants.{
-  Jump,
-  Shape,
-  Under,
-  Sort,
-  Unset,
-  State,
-  Number,
-  Limit,
-  Budget,
-}
+use Rattle.turn_code.specs.declared.rule.Rule.TheVariants.{Jump, Shape, Under, Sort, Unset, State}
+use Rattle.turn_code.specs.declared.rule.Rule.TheVariants.{Number, Limit, Budget}
 
 -- a transition keeps a rule at place k of its piece
 abbrev pub Keeps : Rule → Draft → Transition → ℕ → Type 0

@@ -1,50 +1,21 @@
 -- An instruction as a row of numbers.
 use Rattle.std.specs.Prelude.{ℕ, ℤ, pos, true, false}
 use Rattle.turn_code.specs.declared.instruction.Relation.{Relation}
-use Rattle.turn_code.specs.declared.instruction.Relation.TheVariants.{
-  Equal,
-  NotEqual,
-  Less,
-  LessEqual,
-  Greater,
-  GreaterEqual,
-}
-use Rattle.turn_code.specs.declared.instruction.Receiver.TheVariants.{
-  Party as ToParty,
-  Sender as ToSender,
-}
+use Rattle.turn_code.specs.declared.instruction.Relation.TheVariants.{Equal, NotEqual, Less}
+use Rattle.turn_code.specs.declared.instruction.Relation.TheVariants.{LessEqual, Greater}
+use Rattle.turn_code.specs.declared.instruction.Relation.TheVariants.{GreaterEqual}
+use Rattle.turn_code.specs.declared.instruction.Receiver.TheVariants.{Party as ToParty}
+use Rattle.turn_code.specs.declared.instruction.Receiver.TheVariants.{Sender as ToSender}
 use Rattle.turn_code.specs.declared.input.Party.TheVariants.{Environment, Process}
 use Rattle.turn_code.specs.declared.instruction.Instruction.{Instruction}
-use Rattle.turn_code.specs.declared.instruction.Instruction.TheVariants.{
-  Int as PutInt,
-  Bool as PutBool,
-  Load,
-  Store,
-  Param,
-  Add,
-  Sub,
-  Mul,
-  Div,
-  Mod,
-  Rem,
-  Neg,
-  Not,
-  And,
-  Or,
-  Xor,
-  Same,
-  Compare,
-  Case,
-  CaseWithin,
-  Pick,
-  Drop,
-  Jump,
-  Output,
-  Set,
-  Reset,
-  Next,
-  Stop,
-}
+use Rattle.turn_code.specs.declared.instruction.Instruction.TheVariants.{Int as PutInt}
+use Rattle.turn_code.specs.declared.instruction.Instruction.TheVariants.{Bool as PutBool, Load}
+use Rattle.turn_code.specs.declared.instruction.Instruction.TheVariants.{Store, Param, Add, Sub}
+use Rattle.turn_code.specs.declared.instruction.Instruction.TheVariants.{Mul, Div, Mod, Rem, Neg}
+use Rattle.turn_code.specs.declared.instruction.Instruction.TheVariants.{Not, And, Or, Xor, Same}
+use Rattle.turn_code.specs.declared.instruction.Instruction.TheVariants.{Compare, Case, CaseWithin}
+use Rattle.turn_code.specs.declared.instruction.Instruction.TheVariants.{Pick, Drop, Jump, Output}
+use Rattle.turn_code.specs.declared.instruction.Instruction.TheVariants.{Set, Reset, Next, Stop}
 use Rattle.turn_machine.specs.declared.parts.Parts.{Parts}
 
 abbrev pub row : ℕ → ℤ → ℤ → ℕ → ℕ → Parts

@@ -1,17 +1,6 @@
 -- Values in words, and words as values.
-use Rattle.std.specs.Prelude.{
-  ◌≡◌,
-  ℕ,
-  ◌<◌,
-  ◌≤◌,
-  if◌then◌else◌,
-  List,
-  length,
-  Option,
-  Some,
-  None,
-  slice_get,
-}
+use Rattle.std.specs.Prelude.{◌≡◌, ℕ, ◌<◌, ◌≤◌, if◌then◌else◌, List, length, Option, Some, None}
+use Rattle.std.specs.Prelude.{slice_get}
 use Rattle.std.specs.Int.{bit_at}
 use Rattle.turn_check.specs.Limits.{MOST_VARIABLES}
 use Rattle.turn_code.specs.Values.{sort_of}

@@ -8,12 +8,8 @@ use Rattle.actor_machine.specs.declared.reply.Refusal.{Refusal}
 use Rattle.actor_machine.specs.declared.reply.Reply.{Reply}
 use Rattle.actor_machine.specs.declared.reply.Reply.TheVariants as reply
 use Rattle.turn_pool.specs.declared.receipt.PoolRefusal.{PoolRefusal}
-use Rattle.turn_pool.specs.declared.receipt.PoolRefusal.TheVariants.{
-  NoLink,
-  Closing,
-  NoMemory,
-  Refused,
-}
+use Rattle.turn_pool.specs.declared.receipt.PoolRefusal.TheVariants.{NoLink, Closing, NoMemory}
+use Rattle.turn_pool.specs.declared.receipt.PoolRefusal.TheVariants.{Refused}
 use Rattle.turn_pool.specs.declared.receipt.Receipt.{Receipt}
 
 -- the event at a place of a link's journal

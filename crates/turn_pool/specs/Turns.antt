@@ -1,17 +1,6 @@
 -- Whose turn it is on a link.
-use Rattle.std.specs.Prelude.{
-  IsSome,
-  ◌≡◌,
-  ◌<◌,
-  ℕ,
-  Option,
-  None,
-  Some,
-  Ok,
-  Err,
-  option_map,
-  slice_get,
-}
+use Rattle.std.specs.Prelude.{IsSome, ◌≡◌, ◌<◌, ℕ, Option, None, Some, Ok, Err, option_map}
+use Rattle.std.specs.Prelude.{slice_get}
 use Rattle.turn_machine.specs.Turn.{Turn}
 use Rattle.actor_machine.specs.Core.{names_in}
 use Rattle.actor_machine.specs.Ledger.{Ledger, room, state_of, turn_out}

@@ -1,53 +1,14 @@
 -- What each rule wants of an instruction and its facts, and of a transition as it begins.
-use Rattle.std.specs.Prelude.{
-  ◌≡◌,
-  ℕ,
-  ◌+◌,
-  ◌<◌,
-  ◌≤◌,
-  ◌≤ℤ◌,
-  pos,
-  [],
-  List,
-  length,
-  All,
-  Contains,
-  Some,
-  None,
-  slice_get,
-}
+use Rattle.std.specs.Prelude.{◌≡◌, ℕ, ◌+◌, ◌<◌, ◌≤◌, ◌≤ℤ◌, pos, [], List, length, All, Contains}
+use Rattle.std.specs.Prelude.{Some, None, slice_get}
 use Rattle.turn_code.specs.Sets.{Has, IsWithin}
-use Rattle.turn_code.specs.Code.{
-  takes,
-  shape_after,
-  shape_left,
-  reads,
-  sets,
-  set_after,
-  parameters_in,
-  timers_in,
-  divisors_in,
-  states_in,
-  jumps,
-  behind,
-  successors,
-  effects_of,
-}
+use Rattle.turn_code.specs.Code.{takes, shape_after, shape_left, reads, sets, set_after}
+use Rattle.turn_code.specs.Code.{parameters_in, timers_in, divisors_in, states_in, jumps, behind}
+use Rattle.turn_code.specs.Code.{successors, effects_of}
 use Rattle.turn_code.specs.Transitions.{Transition}
-use Rattle.turn_code.specs.Rules.{
-  AtEach,
-  Agree,
-  StartsRight,
-  HasTrigger,
-  HasSaves,
-  KeepsOutput,
-  KeepsProcessLimits,
-  KeepsPieceLimits,
-  KeepsCertificate,
-  greatest,
-  counts_at,
-  effects_at,
-}
+use Rattle.turn_code.specs.Rules.{AtEach, Agree, StartsRight, HasTrigger, HasSaves, KeepsOutput}
+use Rattle.turn_code.specs.Rules.{KeepsProcessLimits, KeepsPieceLimits, KeepsCertificate, greatest}
+use Rattle.turn_code.specs.Rules.{counts_at, effects_at}
 use Rattle.turn_code.specs.declared.value.Sort.{Sort as SortOf}
 use Rattle.turn_code.specs.declared.instruction.Instruction.{Instruction}
 use Rattle.turn_code.specs.declared.draft.Draft.{Draft}
@@ -57,17 +18,8 @@ use Rattle.turn_code.specs.declared.draft.DraftPiece.{DraftPiece}
 use Rattle.turn_code.specs.declared.draft.PlaceFacts.{PlaceFacts}
 use Rattle.turn_code.specs.declared.variable_set.VariableSet.{VariableSet}
 use Rattle.turn_code.specs.declared.rule.Rule.{Rule}
-use Rattle.turn_code.specs.declared.rule.Rule.TheVariants.{
-  Jump,
-  Shape,
-  Under,
-  Sort,
-  Unset,
-  State,
-  Number,
-  Limit,
-  Budget,
-}
+use Rattle.turn_code.specs.declared.rule.Rule.TheVariants.{Jump, Shape, Under, Sort, Unset, State}
+use Rattle.turn_code.specs.declared.rule.Rule.TheVariants.{Number, Limit, Budget}
 
 pub record SetsPart (t : Transition) (k : ℕ) (i : Instruction) (f : PlaceFacts) : Type 0 where
   pub reads_set : All (Has f.set) (reads i)

@@ -1,18 +1,6 @@
 -- What the table of the routes of a draft keeps.
-use Rattle.std.specs.Prelude.{
-  ◌≡◌,
-  ℕ,
-  ◌<◌,
-  Bool,
-  false,
-  eqb,
-  ◌&&◌,
-  List,
-  [],
-  map,
-  Contains,
-  slice_index_or,
-}
+use Rattle.std.specs.Prelude.{◌≡◌, ℕ, ◌<◌, Bool, false, eqb, ◌&&◌, List, [], map, Contains}
+use Rattle.std.specs.Prelude.{slice_index_or}
 use Rattle.std.specs.List.{list_any}
 use Rattle.plain_limits.specs.Limits.{MOST_PROCESSES}
 use Rattle.turn_code.specs.declared.input.Party.{Party}

@@ -1,25 +1,6 @@
 -- What loading a text gives: the set of its block, or the refusal of the first layer that refuses.
-use Rattle.std.specs.Prelude.{
-  ◌≡◌,
-  ℕ,
-  ◌+◌,
-  ◌-◌,
-  ◌==◌,
-  ◌≤◌,
-  List,
-  length,
-  take,
-  count_by,
-  min,
-  Option,
-  None,
-  Some,
-  option_map,
-  slice_get,
-  Result,
-  Ok,
-  Err,
-}
+use Rattle.std.specs.Prelude.{◌≡◌, ℕ, ◌+◌, ◌-◌, ◌==◌, ◌≤◌, List, length, take, count_by, min}
+use Rattle.std.specs.Prelude.{Option, None, Some, option_map, slice_get, Result, Ok, Err}
 use Rattle.std.specs.Option.{option_map_or}
 use Rattle.sdl_lex.specs.Lexed.{Answers, place_of}
 use Rattle.sdl_lex.specs.declared.lexemes.Token.{Token}

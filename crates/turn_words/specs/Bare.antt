@@ -1,42 +1,9 @@
 -- What an instruction does on bare words: a Boolean is 0 or 1, and nothing says which sort a word
 -- has.
-use Rattle.std.specs.Prelude.{
-  ℕ,
-  ◌+◌,
-  ◌-◌,
-  ◌^◌,
-  ◌<◌,
-  ◌≤◌,
-  ℤ,
-  pos,
-  ◌≤ℤ◌,
-  neg_ℤ,
-  bit_or,
-  ◌+ℤ◌,
-  ◌-ℤ◌,
-  ◌*ℤ◌,
-  int_div,
-  int_rem,
-  Bool as Truth,
-  true,
-  false,
-  not,
-  ◌&&◌,
-  ◌||◌,
-  if◌then◌else◌,
-  List,
-  ◌∷◌,
-  ◌++◌,
-  take,
-  drop,
-  reverse,
-  replicate,
-  Option,
-  Some,
-  None,
-  slice_index_or,
-  slice_set,
-}
+use Rattle.std.specs.Prelude.{ℕ, ◌+◌, ◌-◌, ◌^◌, ◌<◌, ◌≤◌, ℤ, pos, ◌≤ℤ◌, neg_ℤ, bit_or, ◌+ℤ◌, ◌-ℤ◌}
+use Rattle.std.specs.Prelude.{◌*ℤ◌, int_div, int_rem, Bool as Truth, true, false, not, ◌&&◌, ◌||◌}
+use Rattle.std.specs.Prelude.{if◌then◌else◌, List, ◌∷◌, ◌++◌, take, drop, reverse, replicate}
+use Rattle.std.specs.Prelude.{Option, Some, None, slice_index_or, slice_set}
 use Rattle.std.specs.Ordering.{int_eq}
 use Rattle.std.specs.Int.{int_rem_euclid}
 use Rattle.plain_limits.specs.Limits.{MOST_OPERANDS, MOST_PARAMETERS, MOST_VARIABLES}
@@ -47,36 +14,14 @@ use Rattle.turn_code.specs.declared.numbers.VariableNumber.{VariableNumber}
 use Rattle.turn_code.specs.declared.instruction.Receiver.{Receiver}
 use Rattle.turn_code.specs.declared.instruction.Relation.{Relation}
 use Rattle.turn_code.specs.declared.instruction.Instruction.{Instruction}
-use Rattle.turn_code.specs.declared.instruction.Instruction.TheVariants.{
-  Int as PutInt,
-  Bool as PutBool,
-  Load,
-  Store,
-  Param,
-  Add,
-  Sub,
-  Mul,
-  Div,
-  Mod,
-  Rem,
-  Neg,
-  Not,
-  And,
-  Or,
-  Xor,
-  Same,
-  Compare,
-  Case,
-  CaseWithin,
-  Pick,
-  Drop,
-  Jump,
-  Output,
-  Set,
-  Reset,
-  Next,
-  Stop,
-}
+use Rattle.turn_code.specs.declared.instruction.Instruction.TheVariants.{Int as PutInt}
+use Rattle.turn_code.specs.declared.instruction.Instruction.TheVariants.{Bool as PutBool, Load}
+use Rattle.turn_code.specs.declared.instruction.Instruction.TheVariants.{Store, Param, Add, Sub}
+use Rattle.turn_code.specs.declared.instruction.Instruction.TheVariants.{Mul, Div, Mod, Rem, Neg}
+use Rattle.turn_code.specs.declared.instruction.Instruction.TheVariants.{Not, And, Or, Xor, Same}
+use Rattle.turn_code.specs.declared.instruction.Instruction.TheVariants.{Compare, Case, CaseWithin}
+use Rattle.turn_code.specs.declared.instruction.Instruction.TheVariants.{Pick, Drop, Jump, Output}
+use Rattle.turn_code.specs.declared.instruction.Instruction.TheVariants.{Set, Reset, Next, Stop}
 use Rattle.turn_code.specs.declared.machine.End.{End}
 use Rattle.turn_code.specs.declared.machine.End.TheVariants as end
 use Rattle.turn_words.specs.declared.words.Words.{Words}

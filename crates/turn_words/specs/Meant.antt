@@ -1,22 +1,7 @@
 -- Which words stand for which values. From a value to its word, and never back: a word says nothing
 -- of its sort.
-use Rattle.std.specs.Prelude.{
-  ◌≡◌,
-  ℕ,
-  ◌≤◌,
-  ℤ,
-  List,
-  ◌∷◌,
-  ◌++◌,
-  [],
-  length,
-  map,
-  take,
-  Option,
-  Some,
-  None,
-  slice_get,
-}
+use Rattle.std.specs.Prelude.{◌≡◌, ℕ, ◌≤◌, ℤ, List, ◌∷◌, ◌++◌, [], length, map, take, Option, Some}
+use Rattle.std.specs.Prelude.{None, slice_get}
 use Rattle.std.specs.Int.{bit_at}
 use Rattle.plain_limits.specs.Limits.{MOST_PARAMETERS}
 use Rattle.turn_code.specs.Run.{address_of}
