@@ -6,7 +6,7 @@ ghost use Rattle.script_links.specs.Octets.{octets_of};
 ghost use Rattle.script_links.specs.TermCommands.{term_command_of};
 ghost use Rattle.script_links.specs.GroupCommands.{plain_group_command, on, message, own, sending_by, by_group_verb, shared_of, group_word_of, group_command_of};
 
-use crate::group_commands::{TermCommand, term_command_in};
+use crate::commands::{TermCommand, term_command_in};
 use crate::octets::octets_in;
 use crate::orders::Order;
 use crate::words::{GroupVerb, GroupWord, group_verb_in, group_word_in};

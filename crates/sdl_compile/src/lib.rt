@@ -10,4 +10,5 @@ mod state;
 mod variables;
 
 pub use compiling::compile;
+pub use laws::set_law;
 pub use sdl_rules::{ControlPath, Limit, Resolved, RuleFault, Step, resolve};
