@@ -193,7 +193,7 @@ fn script_in<'a>(alloc: Global, text: &'a str) -> Result<Soak<'a>, ScriptFault>
 ///
 /// [`ScriptFault::BadLine`] (X1) with the number of the first line that may not stand where it does, or 1 where no line says
 /// something; of a text of more than 262,144 bytes with that of the first byte too many, before any line is looked at.
-/// [`ScriptFault::NoMemory`] may stand in place of any answer.
+/// Any call may answer [`ScriptFault::NoMemory`] instead.
 pub fn soak_script<'a>(alloc: Global, text: &'a str) -> Result<Soak<'a>, ScriptFault>
     ensures script { IfOk result (λ s. soak_of text.now ≡ Ok (plain_soak s)) }
     ensures fault { IfErr result (IsFaultOf text.now) }

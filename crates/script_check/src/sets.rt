@@ -141,7 +141,7 @@ fn monitors_set(alloc: Global) -> Result<Verified, SetFault>
 /// # Errors
 ///
 /// [`SetFault::NotText`] (F1) where the bytes aren't UTF-8, [`SetFault::Load`] with what `load` says of the text, or
-/// [`SetFault::NotRead`] where a read of the text failed, so never of the program's own sets. Want of memory may stand in place of any answer.
+/// [`SetFault::NotRead`] where a read of the text failed, so never of the program's own sets. Any call may answer [`LoadFault::NoMemory`] instead.
 pub fn load_set<R: Read + Drop>(alloc: Global, set: SetWord<R>) -> Result<Verified, SetFault>
     ensures set { IfOk result (λ v. IsGiven (given R.remaining set) (λ bytes. IsSetOf bytes v)) }
     ensures fault { IfErr result (λ e. IsRefusal e → IsGiven (given R.remaining set) (λ bytes. IsRefusalOf bytes e)) }

@@ -48,7 +48,7 @@ fn write_link(text: &mut String, group: &Group, link: usize) -> Result<(), Alloc
     let has_retrieval = group.has_retrieval(link);
     writeln!(
         text,
-        "link {link}: {held} held, {sent} sent, in changeover {changing}, in hand {in_hand}"
+        "link {link}: {held} held, {sent} sent, in changeover {changing}, in hand {has_retrieval}"
     )
 }
 
